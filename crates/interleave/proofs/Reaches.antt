@@ -1,0 +1,233 @@
+-- Machines stay reached.
+use Rattle.std.proofs.Common.{◌≡◌, ◌≢◌, ℕ, zero, suc, ◌<◌, ◌≤◌, Bool, true, false, ◌&&◌, List, [], ◌∷◌, ◌++◌, length, take, Result, Ok, Err, Option, Some, None, ◌-◌, refl, sym, ap, ◌∙◌, subst, arith, slice_index_or, slice_set}
+use Rattle.std.specs.Prelude.{if◌then◌else◌, slice_index, map, nat_lt, nat_le, replicate}
+use Rattle.std.specs.List.{range_with_len}
+use mathlib.Core.Path.{fun_ext}
+use Rattle.std.proofs.lemmas.Grind.{common_steps}
+use Rattle.std.proofs.lemmas.Bool.Decides.{nat_tests}
+use Rattle.std.proofs.lemmas.List.FromFn.{get_or-map-range_with_len, length-map-range_with_len}
+use Rattle.std.proofs.lemmas.List.{length-replicate, length-set}
+use Rattle.lockword.specs.declared.reply.Reply.{Reply}
+use Rattle.keys.specs.declared.object.Object.{Object}
+use Rattle.keys.specs.Layouts.{Layout', IsLayout, words_of, cell_place, counter_place}
+use Rattle.keys.specs.Histories.{held_by}
+use Rattle.mutex.specs.declared.call.Call.{Call}
+use Rattle.mutex.specs.Standings.{Standing}
+use Rattle.mutex.specs.Programs.{started}
+use Rattle.protocol.specs.declared.event.Event.{Event}
+use Rattle.protocol.specs.declared.event.Event.TheVariants.{Begin, Step}
+use Rattle.protocol.specs.declared.thread.Thread.{Thread}
+use Rattle.protocol.specs.declared.thread.Stage.{Stage}
+use Rattle.protocol.specs.declared.thread.Stage.TheVariants.{Idle, Calling}
+use Rattle.protocol.specs.declared.note.Note.{Note}
+use Rattle.protocol.specs.Machine.{State, put, idle, start, first_word, head_word, is_thread, may_begin, begun, nothing, stepped, happens, run, notes}
+use Rattle.protocol.specs.Headline.{IsHistory, seen}
+use Rattle.protocol.proofs.Puts.{by_put, put-same, put-other}
+use Rattle.protocol.proofs.Kept.{Kept, Sits}
+use Rattle.protocol.proofs.Runs.{start_kept, run_kept, legal}
+use Rattle.interleave.specs.Shown.{Shown, thread_at, state_at, state_of}
+use Rattle.interleave.specs.Notes.{is_nothing}
+use Rattle.interleave.specs.Steps.{IsOnItsWay, MayStep}
+use Rattle.interleave.specs.Reached.{IsReached, AtEachMoment}
+use Rattle.interleave.proofs.Views.{words-set}
+use Rattle.protocol.proofs.Steps.{seen-inside}
+use Rattle.std.specs.Option.{SomeIff}
+use Rattle.keys.specs.Objects.{owner_of}
+use Rattle.lockword.specs.Cells.{fields_of}
+
+-- one event more
+pub run-more : (s : State) (es : List Event) (e : Event) → run s (es ++ e ∷ []) ≡ (happens (run s es) e).state
+run-more s [] e = refl
+run-more s (x ∷ es) e = run-more (happens s x).state es e
+
+-- a machine that was reached keeps the law's invariant
+pub reached_kept : (m : Shown) → IsReached m → Kept (state_of m)
+reached_kept m r = subst Kept (sym r.is) (run_kept (start m.layout r.counters) r.events (start_kept m.layout r.counters r.layout))
+
+-- nobody holds more mutexes than there are
+few : (t n : ℕ) (f : ℕ → Object) → held_by t f n ≤ n
+few t zero f = omega arith
+few t (suc n) f = let before = few t n f in grind (arith, nat_tests)
+
+-- so each thread may step
+pub may_step : (m : Shown) → IsReached m → (t : ℕ) → 1 ≤ t → t ≤ m.layout.threads → MayStep (thread_at m.threads t)
+may_step m r t pos known =
+    let inv = reached_kept m r in
+    let held = inv.held t pos known in
+    let bound = few t m.layout.mutexes (seen (state_of m)) in
+    let most = r.layout.mutexes.1 in
+    (on_its_way (thread_at m.threads t).stage (inv.sits t pos known), omega arith)
+  where
+    on_its_way : (g : Stage) → Sits (state_of m) t (thread_at m.threads t).held g → IsOnItsWay g
+    on_its_way Idle f = tt
+    on_its_way (Calling c p) f = f.going
+
+-- a begin that applies is noted
+begun_noted : (s : State) (t : ℕ) (c : Call) (r : Result Standing Reply) → is_nothing (begun s t c r).note ≡ true → (begun s t c r).state ≡ s
+begun_noted s t c (Ok p) h = absurd cc
+begun_noted s t c (Err x) h = refl
+
+-- an event that is noted as nothing changes nothing
+stays : (s : State) (e : Event) → is_nothing (happens s e).note ≡ true → (happens s e).state ≡ s
+stays s (Begin t c) = go (may_begin s t c)
+  where
+    go : (b : Bool) → is_nothing (if b then begun s t c (started s.layout t (s.threads t).held c) else nothing s).note ≡ true → (if b then begun s t c (started s.layout t (s.threads t).held c) else nothing s).state ≡ s
+    go true h = begun_noted s t c (started s.layout t (s.threads t).held c) h
+    go false h = refl
+stays s (Step t) = go (is_thread s t) (s.threads t).stage
+  where
+    go : (b : Bool) (g : Stage) → is_nothing (if b then stepped s t (s.threads t).held g else nothing s).note ≡ true → (if b then stepped s t (s.threads t).held g else nothing s).state ≡ s
+    go true Idle h = refl
+    go true (Calling c p) h = absurd cc
+    go false g h = refl
+
+-- both hold where both together hold
+both : (a b : Bool) → (a && b) ≡ true → (a ≡ true) × (b ≡ true)
+both true b e = (refl, e)
+both false b e = absurd cc
+
+-- an event leads from a machine that is reached to one
+pub reached_step : (m : Shown) (ws : List ℕ) (ts : List Thread) (e : Event) → IsReached m → state_at m.layout ws ts ≡ (happens (state_of m) e).state → length ws ≡ length m.words → length ts ≡ length m.threads
+    → (b : Bool) → b ≡ (m.fresh && is_nothing (happens (state_of m) e).note) → IsReached (record { layout = m.layout; words = ws; threads = ts; fresh = b })
+reached_step m ws ts e r is words threads b fresh = record {
+  layout = r.layout;
+  counters = r.counters;
+  events = r.events ++ e ∷ [];
+  is = is ∙ ap (λ (s : State). (happens s e).state) r.is ∙ sym (run-more (start m.layout r.counters) r.events e);
+  fresh = λ on.
+      let parts = both m.fresh (is_nothing (happens (state_of m) e).note) (sym fresh ∙ on) in
+      let before = r.fresh parts.0 in
+      record { layout = before.layout; counters = before.counters; is = is ∙ stays (state_of m) e parts.1 ∙ before.is };
+  words = words ∙ r.words;
+  threads = threads ∙ r.threads;
+}
+
+-- ---- the beginning
+
+-- behind its end a list reads as 0
+get_or-beyond : (xs : List ℕ) (i : ℕ) → length xs ≤ i → slice_index xs i ≡ 0
+get_or-beyond xs i h = grind (arith, common_steps)
+
+-- among idle threads each is idle
+replicated : (n i : ℕ) → slice_index_or (replicate n idle) i idle ≡ idle
+replicated n i = grind (arith, common_steps)
+
+-- the words that a new machine has are the first ones
+first_words-is : (l : Layout') (ws : List ℕ) → ws ≡ map (first_word l (λ c. 0)) (range_with_len 0 (words_of l)) → (p : ℕ) → slice_index ws p ≡ first_word l (λ c. 0) p
+first_words-is l ws e p = ap (λ (v : List ℕ). slice_index v p) e ∙ go (nat_lt p (words_of l)) refl
+  where
+    go : (b : Bool) → nat_lt p (words_of l) ≡ b → slice_index (map (first_word l (λ c. 0)) (range_with_len 0 (words_of l))) p ≡ first_word l (λ c. 0) p
+    go true h = get_or-map-range_with_len (first_word l (λ c. 0)) 0 (words_of l) p p 0 (grind (arith, nat_tests)) (omega arith)
+    go false h =
+        let beyond : words_of l ≤ p = grind (arith, nat_tests) in
+        let len = length-map-range_with_len (first_word l (λ c. 0)) 0 (words_of l) in
+        let zero_word : first_word l (λ c. 0) p ≡ 0 = grind (arith, nat_tests) in
+        get_or-beyond (map (first_word l (λ c. 0)) (range_with_len 0 (words_of l))) p (omega arith) ∙ sym zero_word
+
+-- and its threads are idle
+first_threads-is : (n : ℕ) (ts : List Thread) → ts ≡ replicate n idle → (t : ℕ) → thread_at ts t ≡ idle
+first_threads-is n ts e zero = refl
+first_threads-is n ts e (suc i) = ap (λ (v : List Thread). slice_index_or v i idle) e ∙ replicated n i
+
+-- so a new machine is at the start
+pub state-first : (l : Layout') (ws : List ℕ) (ts : List Thread) → ws ≡ map (first_word l (λ c. 0)) (range_with_len 0 (words_of l)) → ts ≡ replicate l.threads idle → state_at l ws ts ≡ start l (λ c. 0)
+state-first l ws ts w t = λ i. record { layout = l; words = fun_ext (first_words-is l ws w) i; threads = fun_ext (first_threads-is l.threads ts t) i }
+
+-- and is reached by no event
+pub reached_first : (l : Layout') (ws : List ℕ) (ts : List Thread) → IsLayout l → ws ≡ map (first_word l (λ c. 0)) (range_with_len 0 (words_of l)) → ts ≡ replicate l.threads idle → IsReached (record { layout = l; words = ws; threads = ts; fresh = true })
+reached_first l ws ts is w t = record {
+  layout = is;
+  counters = λ c. 0;
+  events = [];
+  is = state-first l ws ts w t;
+  fresh = λ on. record { layout = is; counters = λ c. 0; is = state-first l ws ts w t };
+  words = ap length w ∙ length-map-range_with_len (first_word l (λ c. 0)) 0 (words_of l);
+  threads = ap length t ∙ length-replicate l.threads idle;
+}
+
+-- a counter set at the beginning is a counter that begins so
+first_word-set : (l : Layout') (counters : ℕ → ℕ) (c v : ℕ) → c < length l.conditions → (p : ℕ) → put (first_word l counters) (counter_place l c) v p ≡ first_word l (put counters c v) p
+first_word-set l counters c v inside p =
+    by_put (λ x. x ≡ first_word l (put counters c v) p) (first_word l counters) (counter_place l c) v p
+    (λ is.
+    let heads : (nat_lt 0 p && nat_lt p (cell_place l 0)) ≡ false = grind (arith, nat_tests) in
+    let counts : (nat_le (counter_place l 0) p && nat_lt p (words_of l)) ≡ true = grind (arith, nat_tests) in
+    let here : p - counter_place l 0 ≡ c = omega arith in
+    sym (ap (λ (b : Bool). if b then head_word p else if nat_le (counter_place l 0) p && nat_lt p (words_of l) then put counters c v (p - counter_place l 0) else 0) heads
+    ∙ ap (λ (b : Bool). if b then put counters c v (p - counter_place l 0) else 0) counts
+    ∙ ap (put counters c v) here ∙ put-same counters c v))
+    (λ apart. go (nat_lt 0 p && nat_lt p (cell_place l 0)) (nat_le (counter_place l 0) p && nat_lt p (words_of l)) refl apart)
+  where
+    go : (a b : Bool) → (nat_le (counter_place l 0) p && nat_lt p (words_of l)) ≡ b → p ≢ counter_place l c
+        → (if a then head_word p else if b then counters (p - counter_place l 0) else 0) ≡ (if a then head_word p else if b then put counters c v (p - counter_place l 0) else 0)
+    go true b e apart = refl
+    go false false e apart = refl
+    go false true e apart =
+        let from : counter_place l 0 ≤ p = grind (arith, nat_tests) in
+        sym (put-other counters c v (p - counter_place l 0) (λ (same : p - counter_place l 0 ≡ c). apart (omega (arith, same, from))))
+
+-- a counter that is set on a fresh machine leaves it reached
+reached_counter : (m : Shown) (c v : ℕ) → IsReached m → m.fresh ≡ true → c < length m.layout.conditions → IsReached (record m { words = slice_set m.words (counter_place m.layout c) v })
+reached_counter m c v r on inside =
+    let before = r.fresh on in
+    let room : counter_place m.layout c < length m.words = let n = r.words in omega arith in
+    let words : (λ p. slice_index (slice_set m.words (counter_place m.layout c) v) p) ≡ first_word m.layout (put before.counters c v) =
+    words-set m.words (counter_place m.layout c) v room ∙ ap (λ (s : State). put s.words (counter_place m.layout c) v) before.is ∙ fun_ext (first_word-set m.layout before.counters c v inside) in
+    let now : state_at m.layout (slice_set m.words (counter_place m.layout c) v) m.threads ≡ start m.layout (put before.counters c v) =
+    (λ i. record { layout = m.layout; words = words i; threads = (before.is i).threads }) in
+    record {
+      layout = r.layout;
+      counters = put before.counters c v;
+      events = [];
+      is = now;
+      fresh = λ z. record { layout = r.layout; counters = put before.counters c v; is = now };
+      words = length-set m.words (counter_place m.layout c) v ∙ r.words;
+      threads = r.threads;
+    }
+
+-- the same, by the place that the code computes
+pub reached_preset : (m : Shown) (c v q x : ℕ) → IsReached m → m.fresh ≡ true → c < length m.layout.conditions → q ≡ counter_place m.layout c → x ≡ v → IsReached (record m { words = slice_set m.words q x })
+reached_preset m c v q x r on inside at is = subst (λ (z : ℕ). IsReached (record m { words = slice_set m.words z x })) (sym at) (subst (λ (z : ℕ). IsReached (record m { words = slice_set m.words (counter_place m.layout c) z })) (sym is) (reached_counter m c v r on inside))
+
+-- ---- owners
+
+-- a mutex's owner is 0 or a thread
+pub owner_small : (m : Shown) (k o : ℕ) → IsReached m → k < m.layout.mutexes → o ≡ (fields_of (slice_index m.words (cell_place m.layout k))).owner → o ≤ 64
+owner_small m k zero r inside e = omega arith
+owner_small m k (suc n) r inside e =
+    let inv = reached_kept m r in
+    let own : (seen (state_of m) k).owner ≡ Some (suc n) = ap (λ (o : Object). o.owner) (seen-inside (state_of m) k inside) ∙ ap owner_of (sym e) in
+    let known = inv.owners k (suc n) own in
+    let most = r.layout.threads.1 in omega arith
+
+-- an id that is none or a thread is the owner that it names
+pub owner_is : (r : Option ℕ) (o : ℕ) → SomeIff r ((1 ≤ o) × (o ≤ 64)) o → o ≤ 64 → r ≡ owner_of o
+owner_is None zero h most = refl
+owner_is None (suc n) h most = absurd (h (omega arith, most))
+owner_is (Some x) zero h most = let first = h.0.0 in absurd (omega arith)
+owner_is (Some x) (suc n) h most = ap Some h.1
+
+-- ---- runs
+
+-- the first notes are those of the first events
+notes-take : (s : State) (es : List Event) (n : ℕ) → take n (notes s es) ≡ notes s (take n es)
+notes-take s es zero = refl
+notes-take s [] (suc n) = refl
+notes-take s (e ∷ es) (suc n) = ap (λ (ns : List Note). (happens s e).note ∷ ns) (notes-take (happens s e).state es n)
+
+-- from the start, the law holds at each moment
+pub each_moment : (s : State) (l : Layout') (counters : ℕ → ℕ) (es : List Event) → IsLayout l → s ≡ start l counters → AtEachMoment s es (notes s es)
+each_moment s l counters es is e n =
+    subst (IsHistory (run s (take n es))) (sym (notes-take s es n)) (subst (λ (z : State). IsHistory (run z (take n es)) (notes z (take n es))) (sym e) (legal l counters (take n es) is))
+
+-- one note more
+pub notes-more : (s : State) (es : List Event) (e : Event) → notes s (es ++ e ∷ []) ≡ notes s es ++ (happens (run s es) e).note ∷ []
+notes-more s [] e = refl
+notes-more s (x ∷ es) e = ap (λ (ns : List Note). (happens s x).note ∷ ns) (notes-more (happens s x).state es e)
+
+-- a word read at a place
+pub read_word : (ws : List ℕ) (w i k : ℕ) → w ≡ slice_index_or ws i w → i ≡ k → k < length ws → w ≡ slice_index ws k
+read_word ws w i k read same lt = subst (λ (j : ℕ). w ≡ slice_index_or ws j w) same read ∙ any ws w k lt
+  where
+    any : (ws : List ℕ) (d k : ℕ) → k < length ws → slice_index_or ws k d ≡ slice_index ws k
+    any ws d k lt = grind (arith, common_steps)

@@ -1,0 +1,159 @@
+-- The machine's lists and the state that they show: a write into a list is a write into the state.
+use Rattle.std.proofs.Common.{◌≡◌, ◌≢◌, ℕ, zero, suc, ◌+◌, ◌<◌, ◌≤◌, Bool, true, false, List, length, Option, Some, None, Ok, refl, sym, ap, ◌∙◌, arith, slice_index_or, slice_set}
+use Rattle.std.specs.Prelude.{if◌then◌else◌, slice_index}
+use mathlib.Core.Path.{fun_ext}
+use Rattle.std.proofs.lemmas.Grind.{common_steps}
+use Rattle.std.proofs.lemmas.Bool.Decides.{nat_tests}
+use Rattle.lockword.specs.declared.reply.Reply.{Reply}
+use Rattle.keys.specs.declared.access.Access.{Access}
+use Rattle.keys.specs.declared.point.Point.{Point}
+use Rattle.keys.specs.declared.point.Operation.{Operation}
+use Rattle.keys.specs.declared.point.Operation.TheVariants as operation
+use Rattle.keys.specs.declared.point.Progress.{Progress}
+use Rattle.keys.specs.Layouts.{Layout', words_of}
+use Rattle.keys.specs.Accesses.{address_of, changed}
+use Rattle.mutex.specs.declared.call.Call.{Call}
+use Rattle.mutex.specs.declared.row.Row.{Row}
+use Rattle.mutex.specs.declared.row.Row.TheVariants.{TryLock, Unlock, Ended}
+use Rattle.mutex.specs.declared.row.Led.{Led}
+use Rattle.mutex.specs.Calls.{mutex_of}
+use Rattle.mutex.specs.Standings.{Standing}
+use Rattle.mutex.specs.Progresses.{progress_at}
+use Rattle.mutex.specs.Programs.{started, access_of, led, moved, progress_of, point_of, row_operation}
+use Rattle.protocol.specs.declared.event.Event.TheVariants.{Begin, Step}
+use Rattle.protocol.specs.declared.thread.Thread.{Thread}
+use Rattle.protocol.specs.declared.thread.Stage.TheVariants.{Calling}
+use Rattle.protocol.specs.declared.note.Note.TheVariants.{Stepped}
+use Rattle.protocol.specs.Machine.{State, After, put, idle, is_valid, words_after, is_thread, is_idle, may_begin, begun, nothing, went, stepped, stage_after, returned, held_after, decision, happens}
+use Rattle.protocol.proofs.Puts.{by_put}
+use Rattle.interleave.specs.Shown.{thread_at, state_at}
+use Rattle.interleave.specs.Perform.{list_answer, list_words, point_in, reply_in, stage_in, held_in, decision_in}
+
+-- a word that is set in the list is put in the state
+pub words-set : (ws : List ℕ) (k v : ℕ) → k < length ws → (λ p. slice_index (slice_set ws k v) p) ≡ put (λ p. slice_index ws p) k v
+words-set ws k v lt =
+    fun_ext (λ p. by_put (λ x. slice_index (slice_set ws k v) p ≡ x) (λ p. slice_index ws p) k v p
+    (λ is. grind (arith, common_steps))
+    (λ apart. grind (arith, common_steps)))
+
+-- thread t stands at t - 1
+pub thread_at-index : (ts : List Thread) (k t : ℕ) → k + 1 ≡ t → thread_at ts t ≡ slice_index_or ts k idle
+thread_at-index ts k zero e = absurd (omega arith)
+thread_at-index ts k (suc i) e = let same : i ≡ k = omega arith in ap (λ j. slice_index_or ts j idle) same
+
+-- a thread that is set in the list is put in the state
+thread_at-set : (ts : List Thread) (k t : ℕ) (x : Thread) → k + 1 ≡ t → k < length ts → (u : ℕ) → thread_at (slice_set ts k x) u ≡ put (thread_at ts) t x u
+thread_at-set ts k t x e lt zero = by_put (λ z. thread_at ts zero ≡ z) (thread_at ts) t x zero (λ is. absurd (omega arith)) (λ apart. refl)
+thread_at-set ts k t x e lt (suc i) =
+    by_put (λ z. slice_index_or (slice_set ts k x) i idle ≡ z) (thread_at ts) t x (suc i)
+    (λ is. let here : i ≡ k = omega arith in grind (arith, common_steps))
+    (λ apart. let there : i ≢ k = λ (same : i ≡ k). apart (omega (arith, same)) in grind (arith, common_steps))
+
+-- the same of all threads at once
+pub threads-set : (ts : List Thread) (k t : ℕ) (x : Thread) → k + 1 ≡ t → k < length ts → thread_at (slice_set ts k x) ≡ put (thread_at ts) t x
+threads-set ts k t x e lt = fun_ext (thread_at-set ts k t x e lt)
+
+-- ---- a call begins
+
+-- the state after a begin
+pub begin_state : (l : Layout') (ws : List ℕ) (ts : List Thread) (k t : ℕ) (c : Call) (p : Standing) (th : Thread) → 1 ≤ t → t ≤ l.threads → k + 1 ≡ t → length ts ≡ l.threads → mutex_of c < l.mutexes
+    → thread_at ts t ≡ th → is_idle th.stage ≡ true → started l t th.held c ≡ Ok p
+    → state_at l ws (slice_set ts k (record { stage = Calling c p; held = th.held })) ≡ (happens (state_at l ws ts) (Begin t c)).state
+begin_state l ws ts k t c p th pos known at len inside e rests starts =
+    let s : State = state_at l ws ts in
+    let resting : is_idle (thread_at ts t).stage ≡ true = ap (λ (z : Thread). is_idle z.stage) e ∙ rests in
+    let may : may_begin s t c ≡ true = grind (arith, nat_tests, resting) in
+    let ran : happens s (Begin t c) ≡ begun s t c (started l t (thread_at ts t).held c) = ap (λ (b : Bool). if b then begun s t c (started l t (thread_at ts t).held c) else nothing s) may in
+    let begins : started l t (thread_at ts t).held c ≡ Ok p = ap (λ (z : Thread). started l t z.held c) e ∙ starts in
+    let gave : begun s t c (started l t (thread_at ts t).held c) ≡ begun s t c (Ok p) = ap (begun s t c) begins in
+    let same : thread_at (slice_set ts k (record { stage = Calling c p; held = th.held })) ≡ put (thread_at ts) t (record { stage = Calling c p; held = (thread_at ts t).held }) =
+    threads-set ts k t (record { stage = Calling c p; held = th.held }) at (omega arith) ∙ ap (λ (z : Thread). put (thread_at ts) t (record { stage = Calling c p; held = z.held })) (sym e) in
+    (λ i. record { layout = l; words = λ q. slice_index ws q; threads = same i }) ∙ sym (ap (λ (a : After). a.state) (ran ∙ gave))
+
+-- ---- an access
+
+-- the words after an access
+list_words-is : (l : Layout') (ws : List ℕ) (ts : List Thread) (a : Access) → length ws ≡ words_of l → (λ q. slice_index (list_words l ws a) q) ≡ words_after (state_at l ws ts) a
+list_words-is l ws ts a len = go (is_valid l (address_of a)) refl
+  where
+    go : (b : Bool) → is_valid l (address_of a) ≡ b
+        → (λ q. slice_index (if b then slice_set ws (address_of a) (changed a (slice_index ws (address_of a))) else ws) q) ≡ (if b then put (λ q. slice_index ws q) (address_of a) (changed a (slice_index ws (address_of a))) else (λ q. slice_index ws q))
+    go true e = words-set ws (address_of a) (changed a (slice_index ws (address_of a))) (grind (arith, nat_tests))
+    go false e = refl
+
+-- where the thread stands after a step, as the definition says
+stage-is : (c : Call) (p : Standing) (pt : Option Point) (r : Row) → stage_in c (record p { row = r }) (progress_at pt r) ≡ stage_after c p r
+stage-is c p pt (TryLock r) = refl
+stage-is c p pt (Unlock r) = refl
+stage-is c p pt (Ended x) = refl
+
+-- the point that a step tells, as the definition says
+point-is : (pt : Option Point) (r : Row) → point_in (progress_at pt r) ≡ pt
+point-is pt (TryLock r) = refl
+point-is pt (Unlock r) = refl
+point-is pt (Ended x) = refl
+
+-- the reply that a step returns, as the definition says
+reply-is : (pt : Option Point) (r : Row) → reply_in (progress_at pt r) ≡ returned r
+reply-is pt (TryLock r) = refl
+reply-is pt (Unlock r) = refl
+reply-is pt (Ended x) = refl
+
+-- without a point a thread holds as many mutexes
+unmoved : (held : ℕ) (op : Operation) → held ≡ held_after held op None
+unmoved held operation.Lock = refl
+unmoved held operation.TryLock = refl
+unmoved held operation.Unlock = refl
+unmoved held operation.Consistent = refl
+unmoved held operation.Wait = refl
+unmoved held operation.Signal = refl
+unmoved held operation.Broadcast = refl
+unmoved held operation.Death = refl
+
+-- how many mutexes it holds after a step, as the definition says
+held-is : (held t cell : ℕ) (op : Operation) (x : Option Reply) → held_in held (point_of t cell op x) ≡ held_after held op x
+held-is held t cell op None = unmoved held op
+held-is held t cell op (Some x) = refl
+
+-- the decision that a step notes, as the definition says
+decision-is : (t u cell : ℕ) (c : Call) (op : Operation) (x : Option Reply) → decision_in t c (point_of u cell op x) ≡ decision t c op x
+decision-is t u cell c op None = refl
+decision-is t u cell c op (Some x) = refl
+
+module _ (l : Layout') (ws ws' : List ℕ) (ts : List Thread) (k t : ℕ) (c : Call) (p p' : Standing) (th : Thread) (pr : Progress) (known : t ≤ l.threads) (at : k + 1 ≡ t) (len : length ts ≡ l.threads) (room : length ws ≡ words_of l)
+    (e : thread_at ts t ≡ th) (calls : th.stage ≡ Calling c p) (wrote : ws' ≡ list_words l ws (access_of p))
+    (went_on : p' ≡ moved p (led p (list_answer l ws (access_of p)))) (progress : pr ≡ progress_of p (led p (list_answer l ws (access_of p)))) where
+  abbrev s : State
+  s = state_at l ws ts
+
+  abbrev to : Led
+  to = led p (list_answer l ws (access_of p))
+
+  ran : happens s (Step t) ≡ went s t th.held c p to
+  ran =
+      let is : is_thread s t ≡ true = grind (arith, nat_tests) in
+      ap (λ (b : Bool). if b then stepped s t (thread_at ts t).held (thread_at ts t).stage else nothing s) is ∙ ap (λ (z : Thread). stepped s t z.held z.stage) e ∙ ap (stepped s t th.held) calls
+
+  words : (λ q. slice_index ws' q) ≡ words_after s (access_of p)
+  words = ap (λ (v : List ℕ). λ (q : ℕ). slice_index v q) wrote ∙ list_words-is l ws ts (access_of p) room
+
+  stage : stage_in c p' pr ≡ stage_after c p to.row
+  stage = ap (λ (q : Standing). stage_in c q pr) went_on ∙ ap (stage_in c (moved p to)) progress ∙ stage-is c p (point_of p.thread p.cell (row_operation p.row) to.point) to.row
+
+  point : point_in pr ≡ point_of p.thread p.cell (row_operation p.row) to.point
+  point = ap point_in progress ∙ point-is (point_of p.thread p.cell (row_operation p.row) to.point) to.row
+
+  held : held_in th.held (point_in pr) ≡ held_after th.held (row_operation p.row) to.point
+  held = ap (held_in th.held) point ∙ held-is th.held p.thread p.cell (row_operation p.row) to.point
+
+  pub step_state : state_at l ws' (slice_set ts k (record { stage = stage_in c p' pr; held = held_in th.held (point_in pr) })) ≡ (happens s (Step t)).state
+  step_state =
+      let threads : thread_at (slice_set ts k (record { stage = stage_in c p' pr; held = held_in th.held (point_in pr) })) ≡ put (thread_at ts) t (record { stage = stage_after c p to.row; held = held_after th.held (row_operation p.row) to.point }) =
+      threads-set ts k t (record { stage = stage_in c p' pr; held = held_in th.held (point_in pr) }) at (omega arith) ∙ (λ i. put (thread_at ts) t (record { stage = stage i; held = held i })) in
+      (λ i. record { layout = l; words = words i; threads = threads i }) ∙ sym (ap (λ (a : After). a.state) ran)
+
+  pub step_note : Stepped t (decision_in t c (point_in pr)) (reply_in pr) ≡ (happens s (Step t)).note
+  step_note =
+      let decides : decision_in t c (point_in pr) ≡ decision t c (row_operation p.row) to.point = ap (decision_in t c) point ∙ decision-is t p.thread p.cell c (row_operation p.row) to.point in
+      let returns : reply_in pr ≡ returned to.row = ap reply_in progress ∙ reply-is (point_of p.thread p.cell (row_operation p.row) to.point) to.row in
+      (λ i. Stepped t (decides i) (returns i)) ∙ sym (ap (λ (a : After). a.note) ran)

@@ -1,0 +1,31 @@
+use Rattle.std.proofs.Common.{◌≡◌, ◌+◌, ◌++◌, [], ◌∷◌, List, arith, sym, ap, ◌∙◌, subst, take}
+use Rattle.std.proofs.lemmas.List.{take_more, take_all}
+use Rattle.protocol.specs.declared.event.Event.{Event}
+use Rattle.protocol.specs.declared.note.Note.{Note}
+use Rattle.protocol.specs.Machine.{State, happens, run, notes}
+use Rattle.interleave.specs.Shown.{state_of}
+use Rattle.interleave.specs.Reached.{AtEachMoment}
+use Rattle.interleave.proofs.Reaches.{run-more, notes-more, each_moment}
+use Rattle.interleave.proofs.machine.Machine.run.Goals as goal
+
+pub loop-event-preserved : goal.loop-event-preserved
+loop-event-preserved c =
+    let s = state_of c.args.self.now in
+    let es = c.args.events.now in
+    let i = c.loop-event.event-index in
+    let e = c.event-item.result in
+    let inv = c.loop-event.invariant in
+    let more : take (i + 1) es ≡ take i es ++ e ∷ [] = take_more es i e c.loop-event-test.true ∙ ap (λ (x : Event). take i es ++ x ∷ []) (sym c.event-item.is) in (
+      omega (arith, inv.0, c.push_in_room.ensures.len),
+      omega (arith, inv.1, c.push_in_room.ensures.room),
+      c.step-note.ensures.state ∙ ap (λ (z : State). (happens z e).state) inv.2 ∙ sym (run-more s (take i es) e) ∙ ap (run s) (sym more),
+      c.push_in_room.ensures.items ∙ (λ j. inv.3 j ++ (c.step-note.ensures.note ∙ ap (λ (z : State). (happens z e).note) inv.2) j ∷ []) ∙ sym (notes-more s (take i es) e) ∙ ap (notes s) (sym more),
+    )
+
+pub returns-clause-history : goal.returns-clause-history
+returns-clause-history c = λ on.
+    let s = state_of c.args.self.now in
+    let es = c.args.events.now in
+    let start = c.fresh-fresh.ensures.start on in
+    let all : take c.loop-event.event-index es ≡ es = take_all c.loop-event.event-index es (omega arith) in
+    subst (λ (ns : List Note). AtEachMoment s es ns) (sym (c.loop-event.invariant.3 ∙ ap (notes s) all)) (each_moment s c.args.self.now.layout start.counters es start.layout start.is)

@@ -1,0 +1,6 @@
+pub mod Shown
+pub mod Notes
+pub mod Perform
+pub mod Steps
+pub mod Reached
+pub mod Traces

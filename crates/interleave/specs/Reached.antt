@@ -1,0 +1,28 @@
+-- What a machine is made by.
+use Rattle.std.specs.Prelude.{ℕ, ◌≡◌, true, List, length, take}
+use Rattle.keys.specs.Layouts.{IsLayout, words_of}
+use Rattle.protocol.specs.declared.event.Event.{Event}
+use Rattle.protocol.specs.declared.note.Note.{Note}
+use Rattle.protocol.specs.Machine.{State, start, run}
+use Rattle.protocol.specs.Headline.{IsHistory}
+use Rattle.interleave.specs.Shown.{Shown, state_of}
+
+-- nothing has happened but that counters were set
+pub record IsStart (m : Shown) : Type 0 where
+  pub layout : IsLayout m.layout
+  pub counters : ℕ → ℕ
+  pub is : state_of m ≡ start m.layout counters
+
+-- some events lead there from the beginning
+pub record IsReached (m : Shown) : Type 0 where
+  pub layout : IsLayout m.layout
+  pub counters : ℕ → ℕ
+  pub events : List Event
+  pub is : state_of m ≡ run (start m.layout counters) events
+  pub fresh : m.fresh ≡ true → IsStart m
+  pub words : length m.words ≡ words_of m.layout
+  pub threads : length m.threads ≡ m.layout.threads
+
+-- after each event the points so far are a legal history, which says of every mutex what its cell says
+abbrev pub AtEachMoment : State → List Event → List Note → Type 0
+AtEachMoment s events told = (n : ℕ) → IsHistory (run s (take n events)) (take n told)

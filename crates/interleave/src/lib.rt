@@ -1,0 +1,16 @@
+//! The machine of robust mutexes: a schedule of events run over shared words.
+//!
+//! [`Machine::step`] does what the protocol's definition says that an event does, for every event. What holds of every run is the contract of
+//! [`Machine::run`]: its points are one legal history of POSIX robust mutexes.
+#![tactic(auto)]
+
+mod accesses;
+mod machine;
+mod threads;
+mod trace;
+
+pub use machine::Machine;
+pub use trace::Trace;
+
+#[cfg(test)]
+mod tests;

@@ -1,0 +1,216 @@
+//! The machine.
+ghost use Rattle.std.specs.Prelude.{◌≡◌, ◌<◌, ◌^◌, ◌&&◌, true, [], ◌∷◌, ◌++◌, length, map, replicate, vec_len, vec_capacity, Some, None, IfOk, OnOk, OnErr, if◌then◌else◌};
+ghost use Rattle.std.specs.List.{range_with_len};
+ghost use Rattle.keys.specs.Layouts.{IsLayout, counter_place, words_of};
+ghost use Rattle.protocol.specs.Machine.{start, first_word, idle, happens, put, run, notes, is_valid, is_busy, is_asleep};
+ghost use Rattle.protocol.specs.Headline.{seen};
+ghost use Rattle.interleave.specs.Notes.{is_nothing};
+
+use crate::threads::{apply, is_idle};
+use crate::trace::{Trace, push_in_room};
+use keys::{Layout, NoMem};
+use lockword::{Cell, Tid};
+use protocol::{Event, Note, Stage, Thread};
+use std::alloc::{AllocError, Global};
+use std::marker::Model;
+
+/// Threads whose calls step over the words of a layout, one event at a time.
+#[derive(Drop)]
+pub struct Machine {
+    layout: Layout,
+    words: Vec<u64>,
+    threads: Vec<Thread>,
+    fresh: bool,
+}
+
+impl Model for Machine {
+    ghost use Rattle.interleave.specs.Shown.{Shown};
+
+    ghost Value = { Shown };
+
+    ghost view = { λ m. record { layout = m.layout; words = m.words.items; threads = m.threads.items; fresh = m.fresh } };
+
+    ghost use Rattle.interleave.specs.Reached.{IsReached};
+
+    ghost invariant = { λ m. IsReached (record { layout = m.layout; words = m.words.items; threads = m.threads.items; fresh = m.fresh }) };
+}
+
+/// The word at a place of a new machine: each head's first entry is the head itself, and its offset is -1 (get_robust_list(2)).
+fn first_word(layout: &Layout, place: u64) -> u64
+    requires { place < 2 ^ 16 }
+    ensures { result ≡ first_word layout.now (λ c. 0) place }
+{
+    let heads = 3 * u64::from(layout.threads());
+    if place < 1 || heads < place {
+        return 0;
+    }
+    match place % 3 {
+        1 => place,
+        2 => u64::MAX,
+        _ => 0,
+    }
+}
+
+fn first_words(alloc: Global, layout: &Layout) -> Result<Vec<u64>, AllocError>
+    ensures words { IfOk result (λ v. v.items ≡ map (first_word layout.now (λ c. 0)) (range_with_len 0 (words_of layout.now))) }
+    ensures layout { IsLayout layout.now }
+{
+    let count = layout.words() as u64;
+    let mut words = Vec::with_capacity(alloc, layout.words())?;
+    for place in 0..count {
+        words.push(first_word(layout, place))?;
+    }
+    Ok(words)
+}
+
+fn first_threads(alloc: Global, layout: &Layout) -> Result<Vec<Thread>, AllocError>
+    ensures { IfOk result (λ v. v.items ≡ replicate layout.now.threads idle) }
+{
+    let thread = Thread {
+        stage: Stage::Idle,
+        held: 0,
+    };
+    vec![in alloc; thread; usize::from(layout.threads())]
+}
+
+impl Machine {
+    ghost use Rattle.interleave.specs.Shown.{state_of};
+    ghost use Rattle.interleave.specs.Reached.{IsStart, AtEachMoment};
+    ghost use Rattle.interleave.specs.Traces.{IsOf};
+
+    /// A machine at its beginning: nobody owns a mutex, every robust list is empty, and every counter is 0.
+    pub fn new(alloc: Global, layout: Layout) -> Result<Machine, NoMem>
+        ensures layout { IfOk result (λ m. m.layout ≡ layout) }
+        ensures start { IfOk result (λ m. state_of m ≡ start layout (λ c. 0)) }
+        ensures fresh { IfOk result (λ m. m.fresh ≡ true) }
+    {
+        let Ok(words) = first_words(alloc, &layout) else {
+            return Err(NoMem);
+        };
+        let Ok(threads) = first_threads(alloc, &layout) else {
+            return Err(NoMem);
+        };
+        Ok(Machine {
+            layout,
+            words,
+            threads,
+            fresh: true,
+        })
+    }
+
+    /// Its layout.
+    pub fn layout(&self) -> &Layout
+        ensures value { result.now ≡ self.now.layout }
+        ensures layout { IsLayout self.now.layout }
+    {
+        &self.layout
+    }
+
+    /// Whether nothing has happened yet: every event so far, if any, was one that couldn't apply.
+    pub fn fresh(&self) -> bool
+        ensures value { result ≡ self.now.fresh }
+        ensures start { self.now.fresh ≡ true → IsStart self.now }
+    {
+        self.fresh
+    }
+
+    /// Sets the counter of a condition variable, of a machine to which nothing has happened.
+    pub fn preset(&mut self, condition: u16, value: u32)
+        requires condition { condition < length self.old.layout.conditions }
+        requires fresh { self.old.fresh ≡ true }
+        ensures state { state_of self.new ≡ record (state_of self.old) { words = put (state_of self.old).words (counter_place self.old.layout condition) value } }
+        ensures fresh { self.new.fresh ≡ true }
+    {
+        let place = self.layout.counter(condition) as usize;
+        self.words[place] = u64::from(value);
+    }
+
+    /// What an event does. One that can't apply is noted as nothing, and changes nothing.
+    pub fn step(&mut self, event: Event) -> Note
+        ensures state { state_of self.new ≡ (happens (state_of self.old) event).state }
+        ensures note { result ≡ (happens (state_of self.old) event).note }
+        ensures fresh { self.new.fresh ≡ (self.old.fresh && is_nothing result) }
+    {
+        let note = apply(&self.layout, &mut self.words, &mut self.threads, event);
+        self.fresh = stays_fresh(self.fresh, &note);
+        note
+    }
+
+    /// What the events do, one after the other, and a note of each. Where memory is refused, nothing has happened.
+    ///
+    /// Of a machine to which nothing has happened, the notes tell a legal history: after each event, the points so far take every mutex, as POSIX sees
+    /// it, from free to what its cell says of its owner, OWNER_DIED and UNUSABLE.
+    pub fn run(&mut self, alloc: Global, events: &[Event]) -> Result<Trace, NoMem>
+        ensures state { OnOk result (state_of self.new ≡ run (state_of self.old) events.now) }
+        ensures notes { IfOk result (λ t. t.notes.items ≡ notes (state_of self.old) events.now) }
+        ensures numbers { IfOk result (λ t. IsOf self.old.layout t) }
+        ensures history { IfOk result (λ t. self.old.fresh ≡ true → AtEachMoment (state_of self.old) events.now t.notes.items) }
+        ensures err { OnErr result (self.new ≡ self.old) }
+    {
+        let Ok(mut notes) = Vec::with_capacity(alloc, events.len()) else {
+            return Err(NoMem);
+        };
+        let _fresh = self.fresh();
+        let layout = self.layout();
+        let (threads, mutexes, conditions) = (
+            layout.threads(),
+            layout.mutexes(),
+            layout.conditions(),
+        );
+        for event in events {
+            let note = self.step(*event);
+            push_in_room(&mut notes, &note);
+        }
+        Ok(Trace {
+            threads,
+            mutexes,
+            conditions,
+            notes,
+        })
+    }
+
+    /// The thread that owns a mutex.
+    pub fn owner(&self, mutex: u16) -> Option<Tid>
+        requires { mutex < self.now.layout.mutexes }
+        ensures { result ≡ (seen (state_of self.now) mutex).owner }
+    {
+        let place = self.layout.cell(mutex) as usize;
+        let owner = Cell::new(self.words[place]).owner();
+        Tid::new(owner as u8)
+    }
+
+    /// The word at a place; None where the place isn't valid.
+    pub fn word(&self, place: u64) -> Option<u64>
+        ensures { result ≡ (if is_valid self.now.layout place then Some ((state_of self.now).words place) else None) }
+    {
+        if place < 1 || self.words.len() as u64 <= place {
+            return None;
+        }
+        Some(self.words[place as usize])
+    }
+
+    /// Whether a thread is in a call.
+    pub fn busy(&self, thread: Tid) -> bool
+        ensures { result ≡ is_busy (state_of self.now) thread }
+    {
+        let index = usize::from(thread.get()) - 1;
+        index < self.threads.len() && !is_idle(&self.threads[index].stage)
+    }
+
+    /// Whether a thread stands in a queue of sleepers. No call waits yet, so none does.
+    pub fn asleep(&self, thread: Tid) -> bool
+        ensures { result ≡ is_asleep (state_of self.now) thread }
+    {
+        let _ = thread;
+        false
+    }
+}
+
+fn stays_fresh(fresh: bool, note: &Note) -> bool
+    ensures { result ≡ (fresh && is_nothing note.now) }
+{
+    match *note {
+        Note::Nothing => fresh,
+        _ => false,
+    }
+}

@@ -1,0 +1,167 @@
+//! The machine's threads.
+ghost use Rattle.std.specs.Prelude.{◌≡◌, ◌<◌, ◌≤◌, ℕ, List, length};
+ghost use Rattle.keys.specs.Layouts.{words_of};
+ghost use Rattle.protocol.specs.declared.event.Event.TheVariants.{Begin, Step};
+ghost use Rattle.protocol.specs.Machine.{happens, is_idle};
+ghost use Rattle.interleave.specs.Perform.{point_in, reply_in, stage_in, held_in, decision_in};
+ghost use Rattle.interleave.specs.Shown.{state_at, thread_at};
+ghost use Rattle.interleave.specs.Steps.{MayStep};
+
+use crate::accesses::perform;
+use keys::{Decision, Layout, Operation, Point, Progress};
+use lockword::{Reply, Tid};
+use mutex::{Call, Program};
+use protocol::{Event, Note, Stage, Thread};
+
+fn point(progress: &Progress) -> Option<Point>
+    ensures { result ≡ point_in progress.now }
+{
+    match *progress {
+        Progress::Goes { point } | Progress::Returns { point, .. } => point,
+    }
+}
+
+fn returned(progress: &Progress) -> Option<Reply>
+    ensures { result ≡ reply_in progress.now }
+{
+    match *progress {
+        Progress::Goes { .. } => None,
+        Progress::Returns { reply, .. } => Some(reply),
+    }
+}
+
+fn stage_after(call: Call, program: &Program, progress: &Progress) -> Stage
+    ensures { result ≡ stage_in call program.now progress.now }
+{
+    match *progress {
+        Progress::Goes { .. } => Stage::Calling(call, *program),
+        Progress::Returns { .. } => Stage::Idle,
+    }
+}
+
+/// How many mutexes a thread owns after a point.
+fn held_after(held: u16, point: &Option<Point>) -> u16
+    requires { held < 65535 }
+    ensures { result ≡ held_in held point.now }
+{
+    let Some(point) = point else {
+        return held;
+    };
+    match (point.operation, point.reply) {
+        (Operation::TryLock, Reply::OK | Reply::EOWNERDEAD) => held + 1,
+        (Operation::Unlock, Reply::OK) => held.saturating_sub(1),
+        _ => held,
+    }
+}
+
+fn decision(thread: Tid, call: Call, point: &Option<Point>) -> Option<Decision>
+    ensures { result ≡ decision_in thread call point.now }
+{
+    match point {
+        None => None,
+        Some(point) => Some(Decision {
+            thread,
+            mutex: call.mutex(),
+            operation: point.operation,
+            reply: point.reply,
+        }),
+    }
+}
+
+/// Whether a thread that is there is in no call.
+pub(crate) fn is_idle(stage: &Stage) -> bool
+    ensures { result ≡ is_idle stage.now }
+{
+    match *stage {
+        Stage::Idle => true,
+        Stage::Calling(_, _) => false,
+    }
+}
+
+/// The thread begins a call, if it can.
+fn begin(layout: &Layout, threads: &mut Vec<Thread>, thread: Tid, call: Call) -> Note
+    requires { length threads.old.items ≡ layout.now.threads }
+    ensures state { (ws : List ℕ) → state_at layout.now ws threads.new.items ≡ (happens (state_at layout.now ws threads.old.items) (Begin thread call)).state }
+    ensures note { (ws : List ℕ) → result ≡ (happens (state_at layout.now ws threads.old.items) (Begin thread call)).note }
+    ensures threads { length threads.new.items ≡ length threads.old.items }
+{
+    if layout.threads() < thread.get() || layout.mutexes() <= call.mutex() {
+        return Note::Nothing;
+    }
+    let index = usize::from(thread.get()) - 1;
+    let Thread { stage, held } = threads[index];
+    if !is_idle(&stage) {
+        return Note::Nothing;
+    }
+    match Program::short(layout, thread, held, call) {
+        Ok(program) => {
+            threads[index] = Thread {
+                stage: Stage::Calling(call, program),
+                held,
+            };
+            Note::Began {
+                thread,
+                call,
+                refused: None,
+            }
+        }
+        Err(reply) => Note::Began {
+            thread,
+            call,
+            refused: Some(reply),
+        },
+    }
+}
+
+/// The thread makes the next access of its call, if it is in one.
+fn step(layout: &Layout, words: &mut Vec<u64>, threads: &mut Vec<Thread>, thread: Tid) -> Note
+    requires words { length words.old.items ≡ words_of layout.now }
+    requires threads { length threads.old.items ≡ layout.now.threads }
+    requires goes { thread ≤ layout.now.threads → MayStep (thread_at threads.old.items thread) }
+    ensures state { state_at layout.now words.new.items threads.new.items ≡ (happens (state_at layout.now words.old.items threads.old.items) (Step thread)).state }
+    ensures note { result ≡ (happens (state_at layout.now words.old.items threads.old.items) (Step thread)).note }
+    ensures words { length words.new.items ≡ length words.old.items }
+    ensures threads { length threads.new.items ≡ length threads.old.items }
+{
+    if layout.threads() < thread.get() {
+        return Note::Nothing;
+    }
+    let index = usize::from(thread.get()) - 1;
+    let Thread { stage, held } = threads[index];
+    let Stage::Calling(call, mut program) = stage else {
+        return Note::Nothing;
+    };
+    let answer = perform(layout, words, &program.next());
+    let progress = program.resume(answer);
+    let point = point(&progress);
+    threads[index] = Thread {
+        stage: stage_after(call, &program, &progress),
+        held: held_after(held, &point),
+    };
+    Note::Stepped {
+        thread,
+        point: decision(thread, call, &point),
+        returned: returned(&progress),
+    }
+}
+
+/// What an event does to the words and the threads.
+pub(crate) fn apply(
+    layout: &Layout,
+    words: &mut Vec<u64>,
+    threads: &mut Vec<Thread>,
+    event: Event,
+) -> Note
+    requires words { length words.old.items ≡ words_of layout.now }
+    requires threads { length threads.old.items ≡ layout.now.threads }
+    requires goes { (t : ℕ) → 1 ≤ t → t ≤ layout.now.threads → MayStep (thread_at threads.old.items t) }
+    ensures state { state_at layout.now words.new.items threads.new.items ≡ (happens (state_at layout.now words.old.items threads.old.items) event).state }
+    ensures note { result ≡ (happens (state_at layout.now words.old.items threads.old.items) event).note }
+    ensures words { length words.new.items ≡ length words.old.items }
+    ensures threads { length threads.new.items ≡ length threads.old.items }
+{
+    match event {
+        Event::Begin(thread, call) => begin(layout, threads, thread, call),
+        Event::Step(thread) => step(layout, words, threads, thread),
+    }
+}

@@ -1,0 +1,76 @@
+-- A robust mutex as POSIX sees it (pthread_mutex_lock, pthread_mutex_trylock, pthread_mutex_unlock, pthread_mutex_consistent), with no bits.
+use Rattle.std.specs.Prelude.{ℕ, zero, suc, ◌≡◌, ◌≢◌, Bool, true, false, ◌&&◌, ◌||◌, nat_le, MatchBool, Option, Some, None, List, [], ◌∷◌}
+use Rattle.lockword.specs.Cells.{Fields}
+use Rattle.lockword.specs.declared.reply.Reply.{Reply}
+use Rattle.lockword.specs.declared.reply.Reply.TheVariants.{OK, EPERM, EBUSY, EINVAL, EDEADLK, EOWNERDEAD, ENOTRECOVERABLE, XRACED, XHELD, XFULL, XSTATE}
+use Rattle.keys.specs.declared.point.Operation.{Operation}
+use Rattle.keys.specs.declared.point.Operation.TheVariants.{Lock, TryLock, Unlock, Consistent, Wait, Signal, Broadcast, Death}
+use Rattle.keys.specs.declared.point.Point.{Point}
+use Rattle.keys.specs.declared.object.Object.{Object}
+
+abbrev pub fresh : Object
+fresh = record { owner = None; inconsistent = false; unusable = false }
+
+abbrev pub owned_by : Object → ℕ → Object
+owned_by o t = record { owner = Some t; inconsistent = o.inconsistent; unusable = o.unusable }
+
+-- an owner that releases an inconsistent mutex makes it unusable for good
+abbrev pub freed : Object → Object
+freed o = record { owner = None; inconsistent = false; unusable = o.inconsistent || o.unusable }
+
+abbrev pub declared_consistent : Object → Object
+declared_consistent o = record { owner = o.owner; inconsistent = false; unusable = o.unusable }
+
+abbrev pub bereaved : Object → Object
+bereaved o = record { owner = None; inconsistent = true; unusable = o.unusable }
+
+-- from the old object, thread t's operation may reply so and leave the new one: one clause for each operation and reply
+abbrev pub Permits : Object → ℕ → Operation → Reply → Object → Type 0
+Permits o t Lock OK n = (o.unusable ≡ false) × (o.owner ≡ None) × (o.inconsistent ≡ false) × (n ≡ owned_by o t)
+Permits o t Lock EOWNERDEAD n = (o.unusable ≡ false) × (o.owner ≡ None) × (o.inconsistent ≡ true) × (n ≡ owned_by o t)
+Permits o t Lock ENOTRECOVERABLE n = (o.unusable ≡ true) × (n ≡ o)
+Permits o t Lock EDEADLK n = (o.owner ≡ Some t) × (n ≡ o)
+Permits o t TryLock OK n = (o.unusable ≡ false) × (o.owner ≡ None) × (o.inconsistent ≡ false) × (n ≡ owned_by o t)
+Permits o t TryLock EOWNERDEAD n = (o.unusable ≡ false) × (o.owner ≡ None) × (o.inconsistent ≡ true) × (n ≡ owned_by o t)
+Permits o t TryLock ENOTRECOVERABLE n = (o.unusable ≡ true) × (n ≡ o)
+Permits o t TryLock EBUSY n = (o.owner ≢ None) × (n ≡ o)
+Permits o t TryLock XRACED n = (o.unusable ≡ false) × (o.owner ≡ None) × (n ≡ o)
+Permits o t Unlock OK n = (o.owner ≡ Some t) × (n ≡ freed o)
+Permits o t Unlock EPERM n = (o.owner ≢ Some t) × (n ≡ o)
+Permits o t Consistent OK n = (o.owner ≡ Some t) × (o.inconsistent ≡ true) × (n ≡ declared_consistent o)
+Permits o t Consistent EINVAL n = (o.owner ≡ Some t) × (o.inconsistent ≡ false) × (n ≡ o)
+Permits o t Consistent EPERM n = (o.owner ≢ Some t) × (n ≡ o)
+Permits o t Wait XSTATE n = (o.owner ≡ Some t) × (o.inconsistent ≡ true) × (n ≡ o)
+Permits o t Wait EPERM n = (o.owner ≢ Some t) × (n ≡ o)
+Permits o t Signal OK n = (o.owner ≡ Some t) × (n ≡ o)
+Permits o t Signal XFULL n = (o.owner ≡ Some t) × (n ≡ o)
+Permits o t Signal EPERM n = (o.owner ≢ Some t) × (n ≡ o)
+Permits o t Broadcast OK n = (o.owner ≡ Some t) × (n ≡ o)
+Permits o t Broadcast XFULL n = (o.owner ≡ Some t) × (n ≡ o)
+Permits o t Broadcast EPERM n = (o.owner ≢ Some t) × (n ≡ o)
+Permits o t Death OK n = (o.owner ≡ Some t) × (n ≡ bereaved o)
+Permits o t op r n = ⊥
+
+-- the operations that take a mutex
+abbrev pub acquires : Operation → Bool
+acquires Lock = true
+acquires TryLock = true
+acquires op = false
+
+-- the step of an object: where the thread holds 2,048 mutexes, a lock or trylock of any has the one reply XHELD and changes nothing
+abbrev pub Does : ℕ → Object → ℕ → Operation → Reply → Object → Type 0
+Does held o t op r n = MatchBool (acquires op && nat_le 2048 held) ((r ≡ XHELD) × (n ≡ o)) (Permits o t op r n)
+
+-- points on one mutex, one after the other, from object to object
+abbrev pub Run : Object → List Point → Object → Type 0
+Run o [] n = n ≡ o
+Run o (p ∷ ps) n = (m : Object) × Permits o p.thread p.operation p.reply m × Run m ps n
+
+-- the owner that an id names, 0 being none
+abbrev pub owner_of : ℕ → Option ℕ
+owner_of zero = None
+owner_of (suc t) = Some (suc t)
+
+-- what a cell says of its mutex
+abbrev pub object_of : Fields → Object
+object_of c = record { owner = owner_of c.owner; inconsistent = c.died; unusable = c.unusable }

@@ -1,0 +1,22 @@
+//! Where the shared words lie, and what is done with them.
+//!
+//! [`Layout`] gives each word its place: robust-list heads, the cells and links of mutexes, the counters of condition variables. Valid places are pairwise
+//! different (`places_differ`). [`Access`] and [`Answer`] are the steps that programs take on words; [`Point`] is the step at which an
+//! operation takes effect. [`Object`] is the mutex with no bits: what POSIX says that each operation answers and leaves.
+#![tactic(auto)]
+
+mod access;
+mod key;
+mod layout;
+mod memory;
+mod object;
+mod point;
+#[cfg(test)]
+mod tests;
+
+pub use access::{Access, Answer};
+pub use key::{Key, bucket_of, key_of};
+pub use layout::{Layout, LayoutFault, places_differ};
+pub use memory::NoMem;
+pub use object::{HELD_LIMIT, Object};
+pub use point::{Decision, Operation, Point, Progress};

@@ -1,0 +1,38 @@
+-- The numbers and the printed names of replies (errno(3); those with an X are this project's own).
+use Rattle.std.specs.Prelude.{ℕ, List, codes}
+use Rattle.lockword.specs.declared.reply.Reply.{Reply}
+use Rattle.lockword.specs.declared.reply.Reply.TheVariants.{OK, EPERM, ESRCH, EAGAIN, EFAULT, EBUSY, EINVAL, EDEADLK, EOWNERDEAD, ENOTRECOVERABLE, XNOMEM, XRACED, XHELD, XFULL, XSTATE}
+
+abbrev pub number_of : Reply → ℕ
+number_of OK = 0
+number_of EPERM = 1
+number_of ESRCH = 3
+number_of EAGAIN = 11
+number_of EFAULT = 14
+number_of EBUSY = 16
+number_of EINVAL = 22
+number_of EDEADLK = 35
+number_of EOWNERDEAD = 130
+number_of ENOTRECOVERABLE = 131
+number_of XNOMEM = 1000
+number_of XRACED = 1001
+number_of XHELD = 1002
+number_of XFULL = 1003
+number_of XSTATE = 1004
+
+abbrev pub reply_word : Reply → List ℕ
+reply_word OK = codes "OK"
+reply_word EPERM = codes "EPERM"
+reply_word ESRCH = codes "ESRCH"
+reply_word EAGAIN = codes "EAGAIN"
+reply_word EFAULT = codes "EFAULT"
+reply_word EBUSY = codes "EBUSY"
+reply_word EINVAL = codes "EINVAL"
+reply_word EDEADLK = codes "EDEADLK"
+reply_word EOWNERDEAD = codes "EOWNERDEAD"
+reply_word ENOTRECOVERABLE = codes "ENOTRECOVERABLE"
+reply_word XNOMEM = codes "X_NOMEM"
+reply_word XRACED = codes "X_RACED"
+reply_word XHELD = codes "X_HELD"
+reply_word XFULL = codes "X_FULL"
+reply_word XSTATE = codes "X_STATE"

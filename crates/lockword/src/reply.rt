@@ -1,0 +1,76 @@
+//! Replies of calls.
+ghost use Rattle.std.specs.Prelude.{◌≡◌};
+ghost use Rattle.lockword.specs.Replies.{number_of, reply_word};
+
+/// How a call answers. The names and numbers are Linux's (errno(3)); those with an X are this project's own.
+#[derive(Clone, Copy, Debug, PartialEq, Eq)]
+pub enum Reply {
+    OK,
+    EPERM,
+    ESRCH,
+    EAGAIN,
+    EFAULT,
+    EBUSY,
+    EINVAL,
+    EDEADLK,
+    EOWNERDEAD,
+    ENOTRECOVERABLE,
+    /// No memory was left.
+    XNOMEM,
+    /// A trylock gave up: the cell changed under each of its exchanges.
+    XRACED,
+    /// The thread holds as many mutexes as it may.
+    XHELD,
+    /// The condition's counter is at its largest value.
+    XFULL,
+    /// The mutex has to be declared consistent first.
+    XSTATE,
+}
+
+impl Reply {
+    /// Its number, as errno(3) gives it on Linux.
+    pub fn number(self) -> u16
+        ensures { result ≡ number_of self }
+    {
+        match self {
+            Reply::OK => 0,
+            Reply::EPERM => 1,
+            Reply::ESRCH => 3,
+            Reply::EAGAIN => 11,
+            Reply::EFAULT => 14,
+            Reply::EBUSY => 16,
+            Reply::EINVAL => 22,
+            Reply::EDEADLK => 35,
+            Reply::EOWNERDEAD => 130,
+            Reply::ENOTRECOVERABLE => 131,
+            Reply::XNOMEM => 1000,
+            Reply::XRACED => 1001,
+            Reply::XHELD => 1002,
+            Reply::XFULL => 1003,
+            Reply::XSTATE => 1004,
+        }
+    }
+
+    /// The name that it is printed by.
+    pub fn name(self) -> &'static str
+        ensures { result.now ≡ reply_word self }
+    {
+        match self {
+            Reply::OK => "OK",
+            Reply::EPERM => "EPERM",
+            Reply::ESRCH => "ESRCH",
+            Reply::EAGAIN => "EAGAIN",
+            Reply::EFAULT => "EFAULT",
+            Reply::EBUSY => "EBUSY",
+            Reply::EINVAL => "EINVAL",
+            Reply::EDEADLK => "EDEADLK",
+            Reply::EOWNERDEAD => "EOWNERDEAD",
+            Reply::ENOTRECOVERABLE => "ENOTRECOVERABLE",
+            Reply::XNOMEM => "X_NOMEM",
+            Reply::XRACED => "X_RACED",
+            Reply::XHELD => "X_HELD",
+            Reply::XFULL => "X_FULL",
+            Reply::XSTATE => "X_STATE",
+        }
+    }
+}

@@ -1,0 +1,3 @@
+pub mod Rights
+mod Races
+mod Replies

@@ -1,0 +1,186 @@
+-- One access of a call is a step of the mutex as an object, and leaves what the next row needs.
+use Rattle.std.proofs.Common.{◌≡◌, ◌≢◌, ℕ, ◌+◌, ◌≤◌, ◌==◌, Bool, true, false, not, Option, Some, None, refl, sym, ap, ◌∙◌, subst, arith, eqb-true, bit_xor}
+use Rattle.std.specs.Prelude.{if◌then◌else◌}
+use Rattle.std.proofs.lemmas.Bool.{eqb-false}
+use Rattle.lockword.specs.Cells.{Fields, fields_of, word_of, taken}
+use Rattle.lockword.specs.Coding.{fields_of-word_of}
+use Rattle.lockword.proofs.Bits.{xor_released, xor_spoiled}
+use Rattle.lockword.specs.declared.reply.Reply.{Reply}
+use Rattle.lockword.specs.declared.reply.Reply.TheVariants.{OK, EPERM, EBUSY, EOWNERDEAD, ENOTRECOVERABLE, XRACED}
+use Rattle.keys.specs.declared.access.Answer.TheVariants.{Exchanged, Changed}
+use Rattle.keys.specs.declared.point.Operation.{Operation}
+use Rattle.keys.specs.declared.point.Operation.TheVariants as operation
+use Rattle.keys.specs.declared.object.Object.{Object}
+use Rattle.keys.specs.Objects.{Permits, Run, object_of, owner_of, owned_by, freed}
+use Rattle.keys.proofs.Owners.{owner_of-some, owner_of-is, owner_of-none}
+use Rattle.mutex.specs.declared.try_lock.TryLockRow.TheVariants as try
+use Rattle.mutex.specs.declared.unlock.UnlockRow.TheVariants as unlock
+use Rattle.mutex.specs.declared.row.Row.{Row}
+use Rattle.mutex.specs.declared.row.Row.TheVariants.{TryLock, Unlock, Ended}
+use Rattle.mutex.specs.declared.row.Led.{Led}
+use Rattle.mutex.specs.Rows.{Knows, goes, ends}
+use Rattle.mutex.specs.TryLock.{acquired, try_sees}
+use Rattle.mutex.specs.Unlock.{released_bits, after_release, unlock_sees}
+use Rattle.mutex.specs.Programs.{row_operation, point_of, resume_of}
+use Rattle.mutex.specs.Laws.{Expects, Sound, points, decided, Joins, IsOf, Right, ProgramsAreRight}
+
+-- what a call does with a cell that it only looks at
+pub record Looks (t cell : ℕ) (op : Operation) (l : Led) (c : Fields) : Type 0 where
+  pub runs : Run (object_of c) (points (point_of t cell op l.point)) (object_of c)
+  pub knows : Knows l.row
+  pub expects : Expects t l.row (object_of c)
+  pub tells : Joins None l.point (decided l.row)
+  pub stays : IsOf op l.row
+
+-- an owner field that is not 0 names somebody
+owned : (c : Fields) → c.owner ≢ 0 → owner_of c.owner ≢ None
+owned c some none = some (owner_of-none c.owner none)
+
+-- an owner field of 0 names nobody
+free : (c : Fields) → c.owner ≡ 0 → owner_of c.owner ≡ None
+free c e = ap owner_of e
+
+-- what is not false is true
+not_false : (b : Bool) → not b ≡ false → b ≡ true
+not_false true e = refl
+not_false false e = absurd cc
+
+-- what is not true is false
+not_true : (b : Bool) → not b ≡ true → b ≡ false
+not_true true e = absurd cc
+not_true false e = refl
+
+-- trylock decides rightly on any cell
+pub try_looks : (t cell k : ℕ) (c : Fields) → k ≤ 4 → Looks t cell operation.TryLock (try_sees k c) c
+try_looks t cell k c few = go c.unusable refl (not (c.owner == 0)) refl (k == 4) refl
+  where
+    go : (u : Bool) → c.unusable ≡ u → (o : Bool) → not (c.owner == 0) ≡ o → (f : Bool) → (k == 4) ≡ f
+        → Looks t cell operation.TryLock (if u then ends ENOTRECOVERABLE else if o then ends EBUSY else if f then ends XRACED else goes (TryLock (try.Take c k))) c
+    go true eu o eo f ef = record { runs = (object_of c, (eu, refl), refl); knows = tt; expects = tt; tells = refl; stays = tt }
+    go false eu true eo f ef = record { runs = (object_of c, (owned c (eqb-false c.owner 0 (not_true (c.owner == 0) eo)), refl), refl); knows = tt; expects = tt; tells = refl; stays = tt }
+    go false eu false eo true ef = record { runs = (object_of c, (eu, free c (eqb-true c.owner 0 (not_false (c.owner == 0) eo)), refl), refl); knows = tt; expects = tt; tells = refl; stays = tt }
+    go false eu false eo false ef =
+        let less = eqb-false k 4 ef in
+        record { runs = refl; knows = (eqb-true c.owner 0 (not_false (c.owner == 0) eo), eu, omega arith); expects = tt; tells = refl; stays = refl }
+
+-- unlock decides rightly on any cell
+pub unlock_looks : (t cell : ℕ) (c : Fields) → 1 ≤ t → Looks t cell operation.Unlock (unlock_sees t c) c
+unlock_looks t cell c pos = go (c.owner == t) refl
+  where
+    go : (b : Bool) → (c.owner == t) ≡ b → Looks t cell operation.Unlock (if b then goes (Unlock (unlock.Release c.died)) else ends EPERM) c
+    go true e = record { runs = refl; knows = tt; expects = (ap owner_of (eqb-true c.owner t e) ∙ owner_of-some t pos, refl); tells = refl; stays = refl }
+    go false e = record { runs = (object_of c, (λ is. eqb-false c.owner t e (owner_of-is c.owner t is), refl), refl); knows = tt; expects = tt; tells = refl; stays = tt }
+
+-- an access that changes nothing and decides rightly is right
+looked : (t cell w : ℕ) (r : Row) (l : Led) → decided r ≡ None → Sound (object_of (fields_of w)) → Looks t cell (row_operation r) l (fields_of w) → Right t cell r l w w
+looked t cell w r l none sound s = record {
+  runs = s.runs;
+  knows = s.knows;
+  expects = s.expects;
+  sound = sound;
+  tells = subst (λ (d : Option Reply). Joins d l.point (decided l.row)) (sym none) s.tells;
+  stays = s.stays;
+}
+
+-- whoever takes a free and usable cell is told whether its owner died
+pub takes : (t : ℕ) (c : Fields) → 1 ≤ t → c.owner ≡ 0 → c.unusable ≡ false → Permits (object_of c) t operation.TryLock (acquired c) (object_of (taken c t))
+takes t c pos none usable = go c.died refl
+  where
+    same : object_of (taken c t) ≡ owned_by (object_of c) t
+    same = λ i. record { owner = owner_of-some t pos i; inconsistent = c.died; unusable = c.unusable }
+
+    go : (d : Bool) → c.died ≡ d → Permits (object_of c) t operation.TryLock (if d then EOWNERDEAD else OK) (object_of (taken c t))
+    go true e = (usable, free c none, e, same)
+    go false e = (usable, free c none, e, same)
+
+-- a cell that was taken is that of a usable mutex
+after_take : (t : ℕ) (c : Fields) → c.unusable ≡ false → Sound (object_of (taken c t))
+after_take t c usable = λ u. absurd (cc (usable, u))
+
+-- trylock's exchange is right, whether it met the cell that it saw or another
+try_take : (t cell w : ℕ) (v : Fields) (k : ℕ) → 1 ≤ t → t ≤ 64 → Knows (TryLock (try.Take v k)) → Sound (object_of (fields_of w)) → (b : Bool) → (w == word_of v) ≡ b
+    → Right t cell (TryLock (try.Take v k)) (resume_of t (TryLock (try.Take v k)) (if b then Exchanged else Changed w)) w (if b then word_of (taken v t) else w)
+try_take t cell w v k pos last known sound false miss =
+    let few = known.2 in
+    looked t cell w (TryLock (try.Take v k)) _ refl sound (try_looks t cell (k + 1) (fields_of w) (omega arith))
+try_take t cell w v k pos last known sound true hit =
+    let before : fields_of w ≡ v = ap fields_of (eqb-true w (word_of v) hit) ∙ fields_of-word_of v (let none = known.0 in omega arith) in
+    let after : fields_of (word_of (taken v t)) ≡ taken v t = fields_of-word_of (taken v t) (omega arith) in
+    record {
+      runs = (
+        object_of (taken v t),
+        subst (λ (c : Fields). Permits (object_of c) t operation.TryLock (acquired v) (object_of (taken v t))) (sym before) (takes t v pos known.0 known.1),
+        ap object_of after,
+      );
+      knows = tt;
+      expects = tt;
+      sound = subst (λ (c : Fields). Sound (object_of c)) (sym after) (after_take t v known.1);
+      tells = refl;
+      stays = tt;
+    }
+
+-- a mutex with an owner is usable
+usable_owned : (o : Object) (t : ℕ) → Sound o → o.owner ≡ Some t → (b : Bool) → o.unusable ≡ b → o.unusable ≡ false
+usable_owned o t sound own true u = absurd (cc (sound u, own))
+usable_owned o t sound own false u = u
+
+-- what a release leaves
+release_leaves : (t w : ℕ) (d : Bool) → 1 ≤ t → Sound (object_of (fields_of w)) → (object_of (fields_of w)).owner ≡ Some t → (fields_of w).died ≡ d
+    → object_of (fields_of (bit_xor w (released_bits t d))) ≡ freed (object_of (fields_of w))
+release_leaves t w true pos sound own dead =
+    let c = fields_of w in
+    let mine : c.owner ≡ t = owner_of-is c.owner t own in
+    let usable : c.unusable ≡ false = usable_owned (object_of c) t sound own c.unusable refl in
+    ap object_of (xor_spoiled w t mine dead) ∙ grind (arith, dead, usable)
+release_leaves t w false pos sound own alive =
+    let c = fields_of w in
+    let mine : c.owner ≡ t = owner_of-is c.owner t own in
+    ap object_of (xor_released w t mine) ∙ grind (arith, alive)
+
+-- a release has the point, and what follows has none
+release_tells : (t w : ℕ) (d : Bool) → Joins None (Some OK) (decided (after_release d (fields_of w)))
+release_tells t w d = go (fields_of w).waiters
+  where
+    go : (b : Bool) → Joins None (Some OK) (decided (if b then Unlock (unlock.Wake d) else Ended OK))
+    go true = refl
+    go false = refl
+
+-- what follows a release needs to know nothing
+release_knows : (d b : Bool) → Knows (if b then Unlock (unlock.Wake d) else Ended OK)
+release_knows d true = tt
+release_knows d false = tt
+
+-- what follows a release needs nothing of the mutex
+release_expects : (t : ℕ) (d b : Bool) (o : Object) → Expects t (if b then Unlock (unlock.Wake d) else Ended OK) o
+release_expects t d true o = tt
+release_expects t d false o = tt
+
+-- what follows a release is an unlock
+release_stays : (d b : Bool) → IsOf operation.Unlock (if b then Unlock (unlock.Wake d) else Ended OK)
+release_stays d true = refl
+release_stays d false = tt
+
+-- each row in turn
+pub right : ProgramsAreRight
+right t cell w (TryLock try.Load) pos last going known sound expected = looked t cell w (TryLock try.Load) _ refl sound (try_looks t cell 0 (fields_of w) (omega arith))
+right t cell w (TryLock (try.Take v k)) pos last going known sound expected = try_take t cell w v k pos last known sound (w == word_of v) refl
+right t cell w (Unlock unlock.Load) pos last going known sound expected = looked t cell w (Unlock unlock.Load) _ refl sound (unlock_looks t cell (fields_of w) pos)
+right t cell w (Unlock (unlock.Release d)) pos last going known sound expected =
+    let leaves = release_leaves t w d pos sound expected.0 expected.1 in
+    record {
+      runs = (freed (object_of (fields_of w)), (expected.0, refl), leaves);
+      knows = release_knows d (fields_of w).waiters;
+      expects = release_expects t d (fields_of w).waiters _;
+      sound = subst Sound (sym leaves) (λ u. refl);
+      tells = release_tells t w d;
+      stays = release_stays d (fields_of w).waiters;
+    }
+right t cell w (Unlock (unlock.Wake all)) pos last going known sound expected = record {
+  runs = refl;
+  knows = tt;
+  expects = tt;
+  sound = sound;
+  tells = (refl, refl);
+  stays = tt;
+}
+right t cell w (Ended x) pos last going known sound expected = absurd going

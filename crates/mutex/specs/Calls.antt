@@ -1,0 +1,14 @@
+-- Calls on mutexes.
+use Rattle.std.specs.Prelude.{ℕ}
+use Rattle.keys.specs.declared.point.Operation.{Operation}
+use Rattle.keys.specs.declared.point.Operation.TheVariants as operation
+use Rattle.mutex.specs.declared.call.Call.{Call}
+use Rattle.mutex.specs.declared.call.Call.TheVariants.{TryLock, Unlock}
+
+abbrev pub mutex_of : Call → ℕ
+mutex_of (TryLock m) = m
+mutex_of (Unlock m) = m
+
+abbrev pub operation_of : Call → Operation
+operation_of (TryLock m) = operation.TryLock
+operation_of (Unlock m) = operation.Unlock

@@ -1,0 +1,67 @@
+-- Step programs: the access of each row, where each answer leads, and the point.
+use Rattle.std.specs.Prelude.{ℕ, ◌&&◌, nat_le, Option, Some, None, Result, Ok, Err, if◌then◌else◌}
+use Rattle.lockword.specs.declared.reply.Reply.{Reply}
+use Rattle.lockword.specs.declared.reply.Reply.TheVariants.{XHELD}
+use Rattle.keys.specs.declared.access.Access.{Access}
+use Rattle.keys.specs.declared.access.Access.TheVariants as access
+use Rattle.keys.specs.declared.access.Answer.{Answer}
+use Rattle.keys.specs.declared.point.Operation.{Operation}
+use Rattle.keys.specs.declared.point.Operation.TheVariants as operation
+use Rattle.keys.specs.declared.point.Point.{Point}
+use Rattle.keys.specs.declared.point.Progress.{Progress}
+use Rattle.keys.specs.Layouts.{Layout', cell_place}
+use Rattle.keys.specs.Objects.{acquires}
+use Rattle.mutex.specs.declared.call.Call.{Call}
+use Rattle.mutex.specs.declared.call.Call.TheVariants as call
+use Rattle.mutex.specs.declared.try_lock.TryLockRow.TheVariants as try
+use Rattle.mutex.specs.declared.unlock.UnlockRow.TheVariants as unlock
+use Rattle.mutex.specs.declared.row.Row.{Row}
+use Rattle.mutex.specs.declared.row.Row.TheVariants.{TryLock, Unlock, Ended}
+use Rattle.mutex.specs.declared.row.Led.{Led}
+use Rattle.mutex.specs.Calls.{mutex_of, operation_of}
+use Rattle.mutex.specs.Progresses.{progress_at}
+use Rattle.mutex.specs.Rows.{goes}
+use Rattle.mutex.specs.Standings.{Standing}
+use Rattle.mutex.specs.TryLock.{try_access, try_resume}
+use Rattle.mutex.specs.Unlock.{unlock_access, unlock_resume}
+
+abbrev pub first_row : Call → Row
+first_row (call.TryLock m) = TryLock try.Load
+first_row (call.Unlock m) = Unlock unlock.Load
+
+-- a call's begin: whoever holds 2,048 mutexes may not take another
+abbrev pub started : Layout' → ℕ → ℕ → Call → Result Standing Reply
+started l t held c =
+    if acquires (operation_of c) && nat_le 2048 held then Err XHELD
+    else Ok (record { thread = t; cell = cell_place l (mutex_of c); row = first_row c })
+
+abbrev pub row_access : ℕ → ℕ → Row → Access
+row_access t cell (TryLock r) = try_access t cell r
+row_access t cell (Unlock r) = unlock_access t cell r
+row_access t cell (Ended x) = access.Load cell
+
+abbrev pub resume_of : ℕ → Row → Answer → Led
+resume_of t (TryLock r) a = try_resume r a
+resume_of t (Unlock r) a = unlock_resume t r a
+resume_of t (Ended x) a = goes (Ended x)
+
+-- what a call that stands there does to the mutex
+abbrev pub row_operation : Row → Operation
+row_operation (Unlock r) = operation.Unlock
+row_operation r = operation.TryLock
+
+abbrev pub access_of : Standing → Access
+access_of p = row_access p.thread p.cell p.row
+
+abbrev pub led : Standing → Answer → Led
+led p a = resume_of p.thread p.row a
+
+abbrev pub moved : Standing → Led → Standing
+moved p l = record p { row = l.row }
+
+abbrev pub point_of : ℕ → ℕ → Operation → Option Reply → Option Point
+point_of t cell op None = None
+point_of t cell op (Some x) = Some (record { thread = t; at = cell; operation = op; reply = x })
+
+abbrev pub progress_of : Standing → Led → Progress
+progress_of p l = progress_at (point_of p.thread p.cell (row_operation p.row) l.point) l.row

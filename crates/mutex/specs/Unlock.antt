@@ -1,0 +1,42 @@
+-- Unlock, access by access (pthread_mutex_unlock; Futexes Are Tricky).
+--
+-- | stands at | access                                      | then
+-- | Load      | load the cell                               | another's: EPERM. Own: Release, noting OWNER_DIED
+-- | Release   | flip the owner's id away; where OWNER_DIED  | OK; where WAITERS was set, Wake
+-- |           | was noted, flip it and UNUSABLE too         |
+-- | Wake      | wake one sleeper, or all of an unusable one | returns OK
+use Rattle.std.specs.Prelude.{ℕ, ◌+◌, ◌==◌, Bool, if◌then◌else◌}
+use Rattle.lockword.specs.Cells.{Fields, fields_of}
+use Rattle.lockword.specs.declared.reply.Reply.TheVariants.{OK, EPERM}
+use Rattle.keys.specs.declared.access.Access.{Access}
+use Rattle.keys.specs.declared.access.Access.TheVariants as access
+use Rattle.keys.specs.declared.access.Answer.{Answer}
+use Rattle.keys.specs.declared.access.Answer.TheVariants.{Value, Count}
+use Rattle.mutex.specs.declared.unlock.UnlockRow.{UnlockRow}
+use Rattle.mutex.specs.declared.unlock.UnlockRow.TheVariants.{Load, Release, Wake}
+use Rattle.mutex.specs.declared.row.Row.{Row}
+use Rattle.mutex.specs.declared.row.Row.TheVariants.{Unlock, Ended}
+use Rattle.mutex.specs.declared.row.Led.{Led}
+use Rattle.mutex.specs.Rows.{goes, decides, ends, faults}
+
+-- what a release flips: the owner's id, and of an inconsistent mutex OWNER_DIED and UNUSABLE too
+abbrev pub released_bits : ℕ → Bool → ℕ
+released_bits t died = if died then t + 0x1_4000_0000 else t
+
+abbrev pub unlock_access : ℕ → ℕ → UnlockRow → Access
+unlock_access t cell Load = access.Load cell
+unlock_access t cell (Release died) = access.FetchXor cell (released_bits t died)
+unlock_access t cell (Wake all) = access.Wake cell (if all then 64 else 1)
+
+abbrev pub unlock_sees : ℕ → Fields → Led
+unlock_sees t c = if c.owner == t then goes (Unlock (Release c.died)) else ends EPERM
+
+-- where a release leads that found this cell
+abbrev pub after_release : Bool → Fields → Row
+after_release died c = if c.waiters then Unlock (Wake died) else Ended OK
+
+abbrev pub unlock_resume : ℕ → UnlockRow → Answer → Led
+unlock_resume t Load (Value w) = unlock_sees t (fields_of w)
+unlock_resume t (Release died) (Value w) = decides (after_release died (fields_of w)) OK
+unlock_resume t (Wake all) (Count k) = goes (Ended OK)
+unlock_resume t r a = faults

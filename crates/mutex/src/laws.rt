@@ -1,0 +1,17 @@
+//! What holds of every call.
+ghost use Rattle.mutex.specs.Laws.{ProgramsAreRight, RacedAfterFour, PointsArePermitted};
+
+/// Whatever word an access of a call meets, it is a step of the mutex as POSIX sees it, and leaves what the call's next access needs.
+pub fn programs_are_right()
+    ensures { ProgramsAreRight }
+{}
+
+/// Whatever it is answered, a trylock gives up only after four exchanges that each found a changed cell.
+pub fn raced_after_four()
+    ensures { RacedAfterFour }
+{}
+
+/// Whatever a call is answered, its reply is one that POSIX permits for the cell that it met.
+pub fn points_are_permitted()
+    ensures { PointsArePermitted }
+{}

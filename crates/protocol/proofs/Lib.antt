@@ -1,0 +1,6 @@
+pub mod Puts
+mod Objects
+mod Counts
+pub mod Kept
+pub mod Steps
+pub mod Runs

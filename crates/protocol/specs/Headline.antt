@@ -1,0 +1,36 @@
+-- What holds of every run.
+use Rattle.std.specs.Prelude.{ℕ, nat_lt, List, [], ◌∷◌, ◌++◌, if◌then◌else◌}
+use Rattle.lockword.specs.Cells.{fields_of}
+use Rattle.keys.specs.declared.object.Object.{Object}
+use Rattle.keys.specs.declared.point.Decision.{Decision}
+use Rattle.keys.specs.Layouts.{Layout', IsLayout, cell_place}
+use Rattle.keys.specs.Objects.{object_of, fresh}
+use Rattle.keys.specs.Histories.{Legal, opening}
+use Rattle.protocol.specs.declared.event.Event.{Event}
+use Rattle.protocol.specs.declared.note.Note.{Note}
+use Rattle.protocol.specs.declared.note.Fact.{Fact}
+use Rattle.protocol.specs.declared.note.Fact.TheVariants.{Point}
+use Rattle.protocol.specs.Notes.{facts_of}
+use Rattle.protocol.specs.Machine.{State, start, run, notes}
+
+-- the decisions among the facts, in their order
+abbrev pub points_of : List Fact → List Decision
+points_of [] = []
+points_of (Point d ∷ fs) = d ∷ points_of fs
+points_of (f ∷ fs) = points_of fs
+
+abbrev pub points_among : List Note → List Decision
+points_among [] = []
+points_among (n ∷ ns) = points_of (facts_of n) ++ points_among ns
+
+-- what the cell of mutex m says of it
+abbrev pub seen : State → ℕ → Object
+seen s m = if nat_lt m s.layout.mutexes then object_of (fields_of (s.words (cell_place s.layout m))) else fresh
+
+-- the points among the notes are a legal history, after which every mutex is as its cell says: owner, inconsistent and unusable
+abbrev pub IsHistory : State → List Note → Type 0
+IsHistory s ns = Legal s.layout.mutexes opening (points_among ns) (seen s)
+
+-- whatever happens, with any values of the counters at the beginning; so it holds after each event
+abbrev pub HistoryIsLegal : Type 0
+HistoryIsLegal = (l : Layout') (counters : ℕ → ℕ) (events : List Event) → IsLayout l → IsHistory (run (start l counters) events) (notes (start l counters) events)

@@ -1,0 +1,3 @@
+pub mod Notes
+pub mod Machine
+pub mod Headline

@@ -1,0 +1,145 @@
+-- The machine: threads whose calls step over shared words.
+use Rattle.std.specs.Prelude.{ℕ, ◌==◌, ◌+◌, ◌-◌, ◌%◌, Bool, true, false, not, ◌&&◌, nat_le, nat_lt, Option, Some, None, Result, Ok, Err, List, [], ◌∷◌, if◌then◌else◌}
+use Rattle.lockword.specs.declared.reply.Reply.{Reply}
+use Rattle.lockword.specs.declared.reply.Reply.TheVariants.{OK, EOWNERDEAD}
+use Rattle.keys.specs.declared.access.Access.{Access}
+use Rattle.keys.specs.declared.access.Answer.{Answer}
+use Rattle.keys.specs.declared.access.Answer.TheVariants.{Fault}
+use Rattle.keys.specs.declared.point.Operation.{Operation}
+use Rattle.keys.specs.declared.point.Operation.TheVariants as operation
+use Rattle.keys.specs.declared.point.Decision.{Decision}
+use Rattle.keys.specs.Layouts.{Layout', cell_place, counter_place, words_of}
+use Rattle.keys.specs.Accesses.{address_of, changed, answer_at}
+use Rattle.mutex.specs.declared.call.Call.{Call}
+use Rattle.mutex.specs.declared.row.Row.{Row}
+use Rattle.mutex.specs.declared.row.Row.TheVariants.{Ended}
+use Rattle.mutex.specs.declared.row.Led.{Led}
+use Rattle.mutex.specs.Calls.{mutex_of}
+use Rattle.mutex.specs.Standings.{Standing}
+use Rattle.mutex.specs.Programs.{started, access_of, led, row_operation}
+use Rattle.protocol.specs.declared.event.Event.{Event}
+use Rattle.protocol.specs.declared.event.Event.TheVariants.{Begin, Step}
+use Rattle.protocol.specs.declared.thread.Thread.{Thread}
+use Rattle.protocol.specs.declared.thread.Stage.{Stage}
+use Rattle.protocol.specs.declared.thread.Stage.TheVariants.{Idle, Calling}
+use Rattle.protocol.specs.declared.note.Note.{Note}
+use Rattle.protocol.specs.declared.note.Note.TheVariants.{Nothing, Began, Stepped}
+
+-- the words by place, and the threads by id
+pub record State : Type 0 where
+  pub layout : Layout'
+  pub words : ℕ → ℕ
+  pub threads : ℕ → Thread
+
+-- a function with one new value
+abbrev pub put : {A : Type 0} → (ℕ → A) → ℕ → A → ℕ → A
+put f k x j = if j == k then x else f j
+
+-- ---- the beginning
+
+-- a head at first: its own address as the first entry, the offset -1, and no pending entry
+abbrev pub head_word : ℕ → ℕ
+head_word p = if p % 3 == 1 then p else if p % 3 == 2 then 18446744073709551615 else 0
+
+-- the words at first: heads, mutexes that nobody owns, and counters that begin at these values
+abbrev pub first_word : Layout' → (ℕ → ℕ) → ℕ → ℕ
+first_word l counters p =
+    if nat_lt 0 p && nat_lt p (cell_place l 0) then head_word p
+    else if nat_le (counter_place l 0) p && nat_lt p (words_of l) then counters (p - counter_place l 0) else 0
+
+abbrev pub idle : Thread
+idle = record { stage = Idle; held = 0 }
+
+abbrev pub start : Layout' → (ℕ → ℕ) → State
+start l counters = record { layout = l; words = first_word l counters; threads = λ t. idle }
+
+-- ---- one access
+
+abbrev pub is_valid : Layout' → ℕ → Bool
+is_valid l at = nat_le 1 at && nat_lt at (words_of l)
+
+abbrev pub answer_of : State → Access → Answer
+answer_of s a = if is_valid s.layout (address_of a) then answer_at a (s.words (address_of a)) else Fault
+
+abbrev pub words_after : State → Access → ℕ → ℕ
+words_after s a = if is_valid s.layout (address_of a) then put s.words (address_of a) (changed a (s.words (address_of a))) else s.words
+
+-- ---- one event
+
+-- what an event leaves and notes
+pub record After : Type 0 where
+  pub state : State
+  pub note : Note
+
+-- an event that can't apply
+abbrev pub nothing : State → After
+nothing s = record { state = s; note = Nothing }
+
+abbrev pub is_thread : State → ℕ → Bool
+is_thread s t = nat_le 1 t && nat_le t s.layout.threads
+
+abbrev pub is_idle : Stage → Bool
+is_idle Idle = true
+is_idle (Calling c p) = false
+
+-- in a call
+abbrev pub is_busy : State → ℕ → Bool
+is_busy s t = is_thread s t && not (is_idle (s.threads t).stage)
+
+-- in a queue of sleepers: no call of the machine waits yet
+abbrev pub is_asleep : State → ℕ → Bool
+is_asleep s t = false
+
+abbrev pub may_begin : State → ℕ → Call → Bool
+may_begin s t c = is_thread s t && is_idle (s.threads t).stage && nat_lt (mutex_of c) s.layout.mutexes
+
+abbrev pub begun : State → ℕ → Call → Result Standing Reply → After
+begun s t c (Ok p) = record { state = record s { threads = put s.threads t (record (s.threads t) { stage = Calling c p }) }; note = Began t c None }
+begun s t c (Err x) = record { state = s; note = Began t c (Some x) }
+
+abbrev pub stage_after : Call → Standing → Row → Stage
+stage_after c p (Ended x) = Idle
+stage_after c p r = Calling c (record p { row = r })
+
+abbrev pub returned : Row → Option Reply
+returned (Ended x) = Some x
+returned r = None
+
+-- a thread owns one mutex more after it took one, and one less after it released one
+abbrev pub held_after : ℕ → Operation → Option Reply → ℕ
+held_after held operation.TryLock (Some OK) = held + 1
+held_after held operation.TryLock (Some EOWNERDEAD) = held + 1
+held_after held operation.Unlock (Some OK) = held - 1
+held_after held op point = held
+
+abbrev pub decision : ℕ → Call → Operation → Option Reply → Option Decision
+decision t c op None = None
+decision t c op (Some x) = Some (record { thread = t; mutex = mutex_of c; operation = op; reply = x })
+
+-- the call's next access, and where its answer leads
+abbrev pub went : State → ℕ → ℕ → Call → Standing → Led → After
+went s t held c p l =
+    record {
+      state = record s { words = words_after s (access_of p); threads = put s.threads t (record { stage = stage_after c p l.row; held = held_after held (row_operation p.row) l.point }) };
+      note = Stepped t (decision t c (row_operation p.row) l.point) (returned l.row);
+    }
+
+abbrev pub stepped : State → ℕ → ℕ → Stage → After
+stepped s t held Idle = nothing s
+stepped s t held (Calling c p) = went s t held c p (led p (answer_of s (access_of p)))
+
+-- a begin of a busy or unknown thread or of a mutex outside the layout, and a step of an idle or unknown thread, do nothing
+abbrev pub happens : State → Event → After
+happens s (Begin t c) = if may_begin s t c then begun s t c (started s.layout t (s.threads t).held c) else nothing s
+happens s (Step t) = if is_thread s t then stepped s t (s.threads t).held (s.threads t).stage else nothing s
+
+-- ---- runs
+
+abbrev pub run : State → List Event → State
+run s [] = s
+run s (e ∷ es) = run (happens s e).state es
+
+-- one note an event
+abbrev pub notes : State → List Event → List Note
+notes s [] = []
+notes s (e ∷ es) = (happens s e).note ∷ notes (happens s e).state es

@@ -1,0 +1,38 @@
+-- The lines that notes stand for, in their order.
+use Rattle.std.specs.Prelude.{ℕ, ◌+◌, Option, Some, None, List, [], ◌∷◌, ◌++◌, map}
+use Rattle.lockword.specs.declared.reply.Reply.{Reply}
+use Rattle.keys.specs.declared.point.Decision.{Decision}
+use Rattle.mutex.specs.declared.call.Call.{Call}
+use Rattle.mutex.specs.Calls.{mutex_of, operation_of}
+use Rattle.protocol.specs.declared.note.Note.{Note}
+use Rattle.protocol.specs.declared.note.Note.TheVariants.{Nothing, Began, Stepped}
+use Rattle.protocol.specs.declared.note.Fact.{Fact}
+use Rattle.protocol.specs.declared.note.Fact.TheVariants.{Begin, Point, Return}
+use Rattle.protocol.specs.declared.note.Line.{Line}
+
+abbrev pub return_facts : ℕ → Option Reply → List Fact
+return_facts t None = []
+return_facts t (Some x) = Return t x ∷ []
+
+abbrev pub point_facts : Option Decision → List Fact
+point_facts None = []
+point_facts (Some d) = Point d ∷ []
+
+-- a call that is refused at once is decided and returns
+abbrev pub refusal_facts : ℕ → Call → Option Reply → List Fact
+refusal_facts t c None = []
+refusal_facts t c (Some x) = Point (record { thread = t; mutex = mutex_of c; operation = operation_of c; reply = x }) ∷ Return t x ∷ []
+
+-- what an event did, one thing after the other
+abbrev pub facts_of : Note → List Fact
+facts_of Nothing = []
+facts_of (Began t c refused) = Begin t c ∷ refusal_facts t c refused
+facts_of (Stepped t point returned) = point_facts point ++ return_facts t returned
+
+abbrev pub line_of : ℕ → Fact → Line
+line_of i f = record { event = i; fact = f }
+
+-- the lines of events of which the first has number i
+abbrev pub lines_from : ℕ → List Note → List Line
+lines_from i [] = []
+lines_from i (n ∷ ns) = map (line_of i) (facts_of n) ++ lines_from (i + 1) ns

@@ -1,0 +1,15 @@
+//! The protocol of robust mutexes as a pure machine, and what holds of every run of it.
+//!
+//! A state is the words and, for each thread, the call that it is in. An event begins a call or makes its next access; `specs/` says what each
+//! event does and notes, and a trace is what the notes tell. `history_is_legal` is the theorem about every run.
+#![tactic(auto)]
+
+mod event;
+mod laws;
+mod note;
+mod thread;
+
+pub use event::Event;
+pub use laws::history_is_legal;
+pub use note::{Fact, Line, Note};
+pub use thread::{Stage, Thread};

@@ -1,0 +1,40 @@
+//! What events did, and the lines of a trace.
+ghost use Rattle.std.specs.Prelude.{◌≡◌};
+
+use keys::Decision;
+use lockword::{Reply, Tid};
+use mutex::Call;
+
+/// What one event did.
+#[derive(Clone, Copy, Debug, PartialEq, Eq)]
+pub enum Note {
+    /// The event couldn't apply, and nothing changed.
+    Nothing,
+    /// A call began. One that is refused at once has its point and its return in the same event.
+    Began {
+        thread: Tid,
+        call: Call,
+        refused: Option<Reply>,
+    },
+    /// A thread made an access: whether that decided its call, and whether the call returned.
+    Stepped {
+        thread: Tid,
+        point: Option<Decision>,
+        returned: Option<Reply>,
+    },
+}
+
+/// One thing that an event did: what one line of a trace tells.
+#[derive(Clone, Copy, Debug, PartialEq, Eq)]
+pub enum Fact {
+    Begin(Tid, Call),
+    Point(Decision),
+    Return(Tid, Reply),
+}
+
+/// A fact and the number of its event, from 1.
+#[derive(Clone, Copy, Debug, PartialEq, Eq)]
+pub struct Line {
+    pub event: u32,
+    pub fact: Fact,
+}

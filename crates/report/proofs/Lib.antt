@@ -1,0 +1,5 @@
+pub mod Writers
+pub mod Readers
+mod Events
+mod Taken
+mod Servings

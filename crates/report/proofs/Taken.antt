@@ -1,0 +1,37 @@
+-- Which command lines clap takes.
+use Rattle.std.proofs.Common.{ℕ, ◌≡◌, Bool, true, false, not, eqb, List, [], ◌∷◌, codes, refl, sym, subst, inl, inr, ◌⊎◌}
+use Rattle.std.specs.Str.{bytes_eq}
+use Rattle.clap.specs.Words.{takes}
+use Rattle.clap.proofs.OnLiterals.{clap_on_literals}
+use Rattle.std.proofs.lemmas.Slice.Eq.{bytes_eq-Decides}
+use Rattle.report.specs.Forms.{usage, asked_of, asked_of_file, is_file_word, rfx}
+
+no_hyphen : (t : Bool) → not t ≡ true → t ≡ false
+no_hyphen true h = absurd cc
+no_hyphen false h = refl
+
+-- clap takes run with a file
+run_passes : (p f : List ℕ) → is_file_word f ≡ true → takes rfx (p ∷ codes "run" ∷ f ∷ []) ≡ true
+unfolding clap_on_literals
+run_passes p [] h = refl
+run_passes p (b ∷ bs) h = let e : eqb b 45 ≡ false = no_hyphen (eqb b 45) h in rw e (rw e refl)
+
+-- two texts that are tested equal are equal
+same_text : (a b : List ℕ) → bytes_eq a b ≡ true → a ≡ b
+same_text a b e = (bytes_eq-Decides a b).0 e
+
+-- a subcommand with one word ask for usage, or clap takes them
+file_passes : (p w f : List ℕ) → (asked_of_file w f ≡ usage) ⊎ (takes rfx (p ∷ w ∷ f ∷ []) ≡ true)
+file_passes p w f = go (bytes_eq w (codes "run")) (is_file_word f) refl refl where
+  go : (r b : Bool) → bytes_eq w (codes "run") ≡ r → is_file_word f ≡ b → (asked_of_file w f ≡ usage) ⊎ (takes rfx (p ∷ w ∷ f ∷ []) ≡ true)
+  go true true same is = inr (subst (λ (v : List ℕ). takes rfx (p ∷ v ∷ f ∷ []) ≡ true) (sym (same_text w (codes "run") same)) (run_passes p f is))
+  go true false same is = inl (rw (same, is) refl)
+  go false b same is = inl (rw same refl)
+
+-- words that are spelled in a form are taken by clap
+pub forms_pass : (words : List (List ℕ)) → (asked_of words ≡ usage) ⊎ (takes rfx words ≡ true)
+forms_pass [] = inl refl
+forms_pass (p ∷ []) = inl refl
+forms_pass (p ∷ w ∷ []) = inl refl
+forms_pass (p ∷ w ∷ f ∷ []) = file_passes p w f
+forms_pass (p ∷ w ∷ f ∷ x ∷ more) = inl refl

@@ -1,0 +1,31 @@
+use Rattle.protocol.specs.declared.note.Fact.TheVariants.{Begin}
+use Rattle.protocol.specs.Notes.{point_facts, refusal_facts, return_facts}
+use Rattle.report.specs.Text.{fact_text, facts_text}
+use Rattle.report.proofs.Events.{facts_text-append}
+use Rattle.report.proofs.Writers.{ends_at_first, then_leaves}
+use Rattle.report.proofs.text.write_note.Goals as goal
+
+pub returns-in_err-write_fact-in-Began : goal.returns-in_err-write_fact-in-Began
+returns-in_err-write_fact-in-Began g c =
+    rw c.in-Began.is (ends_at_first _ _ c.from_residual.result (fact_text c.args.event (Begin c.in-Began.thread c.in-Began.call))
+    (facts_text c.args.event (refusal_facts c.in-Began.thread c.in-Began.call c.in-Began.refused)) c.from_residual.ensures.0 c.in_err-write_fact-in-Began.ensures)
+
+pub returns-in_ok-write_fact-in-Began : goal.returns-in_ok-write_fact-in-Began
+returns-in_ok-write_fact-in-Began g c =
+    rw c.in-Began.is (then_leaves _ _ _ c.write_refused.result (fact_text c.args.event (Begin c.in-Began.thread c.in-Began.call))
+    (facts_text c.args.event (refusal_facts c.in-Began.thread c.in-Began.call c.in-Began.refused)) c.in_ok-write_fact-in-Began.ensures c.write_refused.ensures)
+
+pub returns-in_err-write_decided-in-Stepped : goal.returns-in_err-write_decided-in-Stepped
+returns-in_err-write_decided-in-Stepped g c =
+    let point = point_facts c.in-Stepped.point in
+    let return = return_facts c.in-Stepped.thread c.in-Stepped.returned in
+    rw (c.in-Stepped.is, facts_text-append c.args.event point return)
+    (ends_at_first _ _ c.from_residual-in_err-write_decided-in-Stepped.result (facts_text c.args.event point) (facts_text c.args.event return) c.from_residual-in_err-write_decided-in-Stepped.ensures.0
+    c.in_err-write_decided-in-Stepped.ensures)
+
+pub returns-in_ok-write_decided-in-Stepped : goal.returns-in_ok-write_decided-in-Stepped
+returns-in_ok-write_decided-in-Stepped g c =
+    let point = point_facts c.in-Stepped.point in
+    let return = return_facts c.in-Stepped.thread c.in-Stepped.returned in
+    rw (c.in-Stepped.is, facts_text-append c.args.event point return)
+    (then_leaves _ _ _ c.write_returned.result (facts_text c.args.event point) (facts_text c.args.event return) c.in_ok-write_decided-in-Stepped.ensures c.write_returned.ensures)

@@ -1,0 +1,4 @@
+pub mod Leaves
+pub mod Text
+pub mod Forms
+pub mod Served

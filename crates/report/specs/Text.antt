@@ -1,0 +1,64 @@
+-- The text of a trace, line by line.
+use Rattle.std.specs.Prelude.{ℕ, List, [], ◌∷◌, ◌++◌, length, map, codes, decimal}
+use Rattle.std.specs.List.{concat}
+use Rattle.lockword.specs.declared.reply.Reply.{Reply}
+use Rattle.lockword.specs.Replies.{reply_word}
+use Rattle.keys.specs.declared.point.Decision.{Decision}
+use Rattle.keys.specs.Words.{operation_word}
+use Rattle.mutex.specs.declared.call.Call.{Call}
+use Rattle.mutex.specs.Calls.{mutex_of, operation_of}
+use Rattle.protocol.specs.declared.note.Note.{Note}
+use Rattle.protocol.specs.declared.note.Fact.{Fact}
+use Rattle.protocol.specs.declared.note.Fact.TheVariants.{Begin, Point, Return}
+use Rattle.protocol.specs.declared.note.Line.{Line}
+use Rattle.protocol.specs.Notes.{line_of, lines_from}
+use Rattle.interleave.specs.declared.trace.Trace.{Trace}
+
+-- ---- a line of each kind
+
+-- trace T M C: how many threads, mutexes and condition variables there are
+abbrev pub head_line : ℕ → ℕ → ℕ → List ℕ
+head_line threads mutexes conditions = concat (codes "trace " ∷ decimal threads ∷ codes " " ∷ decimal mutexes ∷ codes " " ∷ decimal conditions ∷ codes "\n" ∷ [])
+
+-- i begin tT OP mM: the thread began a call
+abbrev pub begin_line : ℕ → ℕ → Call → List ℕ
+begin_line i t c = concat (decimal i ∷ codes " begin t" ∷ decimal t ∷ codes " " ∷ operation_word (operation_of c) ∷ codes " m" ∷ decimal (mutex_of c) ∷ codes "\n" ∷ [])
+
+-- i point tT mM OP REPLY: the thread's operation on the mutex was decided
+abbrev pub point_line : ℕ → Decision → List ℕ
+point_line i d = concat (decimal i ∷ codes " point t" ∷ decimal d.thread ∷ codes " m" ∷ decimal d.mutex ∷ codes " " ∷ operation_word d.operation ∷ codes " " ∷ reply_word d.reply ∷ codes "\n" ∷ [])
+
+-- i return tT REPLY: the thread's call returned
+abbrev pub return_line : ℕ → ℕ → Reply → List ℕ
+return_line i t r = concat (decimal i ∷ codes " return t" ∷ decimal t ∷ codes " " ∷ reply_word r ∷ codes "\n" ∷ [])
+
+-- end N: how many events there were
+abbrev pub end_line : ℕ → List ℕ
+end_line n = concat (codes "end " ∷ decimal n ∷ codes "\n" ∷ [])
+
+-- ---- facts, events and traces
+
+-- what event i's line tells of a fact
+abbrev pub fact_text : ℕ → Fact → List ℕ
+fact_text i (Begin t c) = begin_line i t c
+fact_text i (Point d) = point_line i d
+fact_text i (Return t r) = return_line i t r
+
+abbrev pub line_text : Line → List ℕ
+line_text l = fact_text l.event l.fact
+
+-- one line after the other
+abbrev pub lines_text : List Line → List ℕ
+lines_text lines = concat (map line_text lines)
+
+-- the lines that event i's facts make
+abbrev pub facts_text : ℕ → List Fact → List ℕ
+facts_text i facts = lines_text (map (line_of i) facts)
+
+-- the lines of events of which the first has number i
+abbrev pub notes_text : ℕ → List Note → List ℕ
+notes_text i notes = lines_text (lines_from i notes)
+
+-- the numbers of all things, then each event's lines, then the number of events
+abbrev pub trace_text : Trace → List ℕ
+trace_text t = head_line t.threads t.mutexes t.conditions ++ (concat (map line_text (lines_from 1 t.notes.items)) ++ end_line (length t.notes.items))

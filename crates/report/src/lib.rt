@@ -1,0 +1,18 @@
+//! What the program reads and writes: the text of a trace, the forms of the command line, and its messages.
+#![tactic(auto)]
+
+mod form;
+mod lines;
+mod messages;
+mod pieces;
+mod reading;
+mod serving;
+mod text;
+
+pub use form::{Form, form_of_words};
+pub use messages::{CANNOT_READ, CANNOT_WRITE, OUT_OF_MEMORY, USAGE};
+pub use serving::serve;
+pub use text::write_trace;
+
+#[cfg(test)]
+mod tests;

@@ -1,0 +1,100 @@
+//! The lines of a trace, one function each kind.
+
+ghost use Rattle.report.specs.Leaves.{Leaves};
+ghost use Rattle.report.specs.Text.{head_line, begin_line, point_line, return_line, end_line, fact_text};
+
+use crate::pieces::put;
+use itoa::Buffer;
+use keys::Decision;
+use lockword::{Reply, Tid};
+use mutex::Call;
+use protocol::Fact;
+use std::io::{self, Write};
+
+/// `trace T M C`: how many threads, mutexes and condition variables there are.
+pub fn write_head<W: Write>(
+    out: &mut W,
+    threads: u8,
+    mutexes: u16,
+    conditions: u16,
+) -> io::Result<()>
+    ensures { Leaves (W.contents out.old) (W.contents out.new) result (head_line threads mutexes conditions) }
+{
+    let mut thread_digits = Buffer::new();
+    let mut mutex_digits = Buffer::new();
+    let mut condition_digits = Buffer::new();
+    let threads = thread_digits.format(threads);
+    let mutexes = mutex_digits.format(mutexes);
+    let conditions = condition_digits.format(conditions);
+    put(
+        out,
+        &["trace ", threads, " ", mutexes, " ", conditions, "\n"],
+    )
+}
+
+/// `i begin tT OP mM`: the thread began a call.
+fn write_begin<W: Write>(out: &mut W, event: usize, thread: Tid, call: Call) -> io::Result<()>
+    ensures { Leaves (W.contents out.old) (W.contents out.new) result (begin_line event thread call) }
+{
+    let mut event_digits = Buffer::new();
+    let mut thread_digits = Buffer::new();
+    let mut mutex_digits = Buffer::new();
+    let event = event_digits.format(event);
+    let thread = thread_digits.format(thread.get());
+    let word = call.operation().word();
+    let mutex = mutex_digits.format(call.mutex());
+    put(
+        out,
+        &[event, " begin t", thread, " ", word, " m", mutex, "\n"],
+    )
+}
+
+/// `i point tT mM OP REPLY`: the thread's operation on the mutex was decided.
+fn write_point<W: Write>(out: &mut W, event: usize, decision: Decision) -> io::Result<()>
+    ensures { Leaves (W.contents out.old) (W.contents out.new) result (point_line event decision) }
+{
+    let mut event_digits = Buffer::new();
+    let mut thread_digits = Buffer::new();
+    let mut mutex_digits = Buffer::new();
+    let event = event_digits.format(event);
+    let thread = thread_digits.format(decision.thread.get());
+    let mutex = mutex_digits.format(decision.mutex);
+    let word = decision.operation.word();
+    let reply = decision.reply.name();
+    put(
+        out,
+        &[
+            event, " point t", thread, " m", mutex, " ", word, " ", reply, "\n",
+        ],
+    )
+}
+
+/// `i return tT REPLY`: the thread's call returned.
+fn write_return<W: Write>(out: &mut W, event: usize, thread: Tid, reply: Reply) -> io::Result<()>
+    ensures { Leaves (W.contents out.old) (W.contents out.new) result (return_line event thread reply) }
+{
+    let mut event_digits = Buffer::new();
+    let mut thread_digits = Buffer::new();
+    let event = event_digits.format(event);
+    let thread = thread_digits.format(thread.get());
+    put(out, &[event, " return t", thread, " ", reply.name(), "\n"])
+}
+
+/// `end N`: how many events there were.
+pub fn write_end<W: Write>(out: &mut W, events: usize) -> io::Result<()>
+    ensures { Leaves (W.contents out.old) (W.contents out.new) result (end_line events) }
+{
+    let mut digits = Buffer::new();
+    put(out, &["end ", digits.format(events), "\n"])
+}
+
+/// The line of one thing that the event did.
+pub fn write_fact<W: Write>(out: &mut W, event: usize, fact: Fact) -> io::Result<()>
+    ensures { Leaves (W.contents out.old) (W.contents out.new) result (fact_text event fact) }
+{
+    match fact {
+        Fact::Begin(thread, call) => write_begin(out, event, thread, call),
+        Fact::Point(decision) => write_point(out, event, decision),
+        Fact::Return(thread, reply) => write_return(out, event, thread, reply),
+    }
+}

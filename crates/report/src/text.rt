@@ -1,0 +1,107 @@
+//! The text of a trace.
+
+ghost use Rattle.std.specs.Prelude.{[], ◌∷◌};
+ghost use Rattle.protocol.specs.Notes.{facts_of, point_facts, refusal_facts, return_facts};
+ghost use Rattle.report.specs.Leaves.{Leaves};
+ghost use Rattle.report.specs.Text.{facts_text, notes_text, trace_text};
+
+use crate::lines::{write_end, write_fact, write_head};
+use interleave::Trace;
+use keys::Decision;
+use lockword::{Reply, Tid};
+use mutex::Call;
+use protocol::{Fact, Note};
+use std::io::{self, Write};
+
+/// The line of the access that decided a call, if one did.
+fn write_decided<W: Write>(out: &mut W, event: usize, point: Option<Decision>) -> io::Result<()>
+    ensures { Leaves (W.contents out.old) (W.contents out.new) result (facts_text event (point_facts point)) }
+{
+    match point {
+        Some(decision) => write_fact(out, event, Fact::Point(decision)),
+        None => Ok(()),
+    }
+}
+
+/// The line of the thread's return, if it returned.
+fn write_returned<W: Write>(
+    out: &mut W,
+    event: usize,
+    thread: Tid,
+    returned: Option<Reply>,
+) -> io::Result<()>
+    ensures { Leaves (W.contents out.old) (W.contents out.new) result (facts_text event (return_facts thread returned)) }
+{
+    match returned {
+        Some(reply) => write_fact(out, event, Fact::Return(thread, reply)),
+        None => Ok(()),
+    }
+}
+
+/// The lines of a call that was refused as it began, if it was: it is decided and returns at once.
+fn write_refused<W: Write>(
+    out: &mut W,
+    event: usize,
+    thread: Tid,
+    call: Call,
+    refused: Option<Reply>,
+) -> io::Result<()>
+    ensures { Leaves (W.contents out.old) (W.contents out.new) result (facts_text event (refusal_facts thread call refused)) }
+{
+    let Some(reply) = refused else {
+        return Ok(());
+    };
+    let decision = Decision {
+        thread,
+        mutex: call.mutex(),
+        operation: call.operation(),
+        reply,
+    };
+    write_fact(out, event, Fact::Point(decision))?;
+    write_fact(out, event, Fact::Return(thread, reply))
+}
+
+/// The lines of what the event did.
+fn write_note<W: Write>(out: &mut W, event: usize, note: Note) -> io::Result<()>
+    ensures { Leaves (W.contents out.old) (W.contents out.new) result (facts_text event (facts_of note)) }
+{
+    match note {
+        Note::Nothing => Ok(()),
+        Note::Began {
+            thread,
+            call,
+            refused,
+        } => {
+            write_fact(out, event, Fact::Begin(thread, call))?;
+            write_refused(out, event, thread, call, refused)
+        }
+        Note::Stepped {
+            thread,
+            point,
+            returned,
+        } => {
+            write_decided(out, event, point)?;
+            write_returned(out, event, thread, returned)
+        }
+    }
+}
+
+/// The lines of all events, which are numbered from 1.
+fn write_notes<W: Write>(out: &mut W, notes: &[Note]) -> io::Result<()>
+    ensures { Leaves (W.contents out.old) (W.contents out.new) result (notes_text 1 notes.now) }
+{
+    for (i, note) in notes.iter().enumerate() {
+        write_note(out, i + 1, *note)?;
+    }
+    Ok(())
+}
+
+/// Writes the trace's text: `trace T M C`, a line for each thing that an event did, and `end N`. It takes no memory.
+/// At an error a beginning of the text is written.
+pub fn write_trace<W: Write>(trace: &Trace, out: &mut W) -> io::Result<()>
+    ensures { Leaves (W.contents out.old) (W.contents out.new) result (trace_text trace.now) }
+{
+    write_head(out, trace.threads, trace.mutexes, trace.conditions)?;
+    write_notes(out, &trace.notes)?;
+    write_end(out, trace.notes.len())
+}

@@ -1,0 +1,100 @@
+-- Reading line after line, as a loop does.
+use Rattle.std.proofs.Common.{◌≡◌, ℕ, ◌+◌, ◌<◌, ◌≤◌, ◌==◌, false, List, [], ◌∷◌, length, Result, Ok, Err, IfErr, refl, sym, subst, ◌∙◌, arith}
+use Rattle.std.specs.List.{slice_split}
+use Rattle.std.specs.Str.{is_utf8, IsUtf8}
+use Rattle.std.proofs.lemmas.Str.{IsUtf8-from_is_utf8}
+use Rattle.std.proofs.lemmas.Bool.{false_from_ne_true}
+use Rattle.script.specs.Reading.{◌>>=◌, met_at, fault_at, line_read, finished, lines_read}
+use Rattle.script.specs.Outcome.{Tells, TellsAt}
+use Rattle.script.specs.Scope.{Scope}
+use Rattle.script.specs.declared.command.Mode.{Mode}
+use Rattle.script.specs.declared.fault.Fault.{Fault}
+use Rattle.script.specs.declared.fault.Fault.TheVariants.{NotUtf8, UnknownWord, OutOfRange, NoSuchName, TooLong, OutOfMemory}
+use Rattle.script.specs.declared.fault.ScriptFault.{ScriptFault}
+use Rattle.script.proofs.Cutting.{one_or_more}
+
+-- the lines of a text, and the first of them before the others
+abbrev split : List ℕ → List (List ℕ)
+split bs = slice_split (λ b. b == 10) bs
+
+abbrev then_lines : Mode → ℕ → List (List ℕ) → Scope → Result Scope ScriptFault
+then_lines k n ls t = lines_read k (n + 1) t ls
+
+unrolled : (k : Mode) (n : ℕ) (s : Scope) (text : List ℕ) (ls : List (List ℕ)) → 1 ≤ length ls → lines_read k n s (text ∷ ls) ≡ (met_at n (line_read k n s text) >>= then_lines k n ls)
+unfolding lines_read
+unrolled k n s text [] h = absurd (omega (arith, h))
+unrolled k n s text (l ∷ ls) h = refl
+
+-- a fault of what follows a line stands below it
+weaker : (n : ℕ) (r : Result Scope ScriptFault) → IfErr r (λ e. n + 1 ≤ e.line) → IfErr r (λ e. n ≤ e.line)
+weaker n (Ok t) h = tt
+weaker n (Err e) h = omega (arith, h)
+
+at_or_below : (n : ℕ) (r : Result Scope Fault) (f : Scope → Result Scope ScriptFault) → ((t : Scope) → IfErr (f t) (λ e. n + 1 ≤ e.line)) → IfErr (met_at n r >>= f) (λ e. n ≤ e.line)
+at_or_below n (Ok t) f h = weaker n (f t) (h t)
+at_or_below n (Err e) f h = omega arith
+
+at_last : (n : ℕ) (r : Result Scope Fault) → IfErr (met_at n r) (λ e. n ≤ e.line)
+at_last n (Ok t) = tt
+at_last n (Err e) = omega arith
+
+faults_from : (k : Mode) (n : ℕ) (s : Scope) (ls : List (List ℕ)) → IfErr (lines_read k n s ls) (λ e. n ≤ e.line)
+unfolding lines_read
+faults_from k n s [] = tt
+faults_from k n s (text ∷ []) = at_last n (finished n s text)
+faults_from k n s (text ∷ next ∷ more) = at_or_below n (line_read k n s text) (λ t. lines_read k (n + 1) t (next ∷ more)) (λ t. faults_from k (n + 1) t (next ∷ more))
+
+below : (n : ℕ) (r : Result Scope ScriptFault) → IfErr r (λ e. n + 1 ≤ e.line) → IfErr r (λ e. n < e.line)
+below n (Ok t) h = tt
+below n (Err e) h = omega (arith, h)
+
+-- a line's fault is the whole text's
+met : (n : ℕ) (f : Fault) (r : Result Scope Fault) (then : Scope → Result Scope ScriptFault) → ((t : Scope) → IfErr (then t) (λ e. n + 1 ≤ e.line)) → Tells f r → TellsAt (fault_at n f) f (met_at n r >>= then)
+met n NotUtf8 r then later h = rw h refl
+met n UnknownWord r then later h = rw h refl
+met n OutOfRange r then later h = rw h refl
+met n NoSuchName r then later h = rw h refl
+met n TooLong r then later h = rw h refl
+met n OutOfMemory (Ok t) then later h = below n (then t) (later t)
+met n OutOfMemory (Err e) then later h = absurd cc
+
+met_last : (n : ℕ) (f : Fault) (r : Result Scope Fault) → Tells f r → TellsAt (fault_at n f) f (met_at n r)
+met_last n NotUtf8 r h = rw h refl
+met_last n UnknownWord r h = rw h refl
+met_last n OutOfRange r h = rw h refl
+met_last n NoSuchName r h = rw h refl
+met_last n TooLong r h = rw h refl
+met_last n OutOfMemory (Ok t) h = tt
+met_last n OutOfMemory (Err e) h = absurd cc
+
+-- a line was read: the lines behind it say what all said
+pub goes_on : (k : Mode) (n : ℕ) (s t : Scope) (text rest after : List ℕ) (total : Result Scope ScriptFault) → slice_split (λ b. b == 10) rest ≡ text ∷ slice_split (λ b. b == 10) after → line_read k n s text ≡ Ok t
+    → lines_read k n s (slice_split (λ b. b == 10) rest) ≡ total → lines_read k (n + 1) t (slice_split (λ b. b == 10) after) ≡ total
+goes_on k n s t text rest after total parts read so_far =
+    let one : lines_read k n s (split rest) ≡ lines_read k (n + 1) t (split after) = rw (parts, unrolled k n s text (split after) (one_or_more (λ b. b == 10) after), read) refl in
+    sym one ∙ so_far
+
+-- a line was refused
+pub stops : (k : Mode) (n : ℕ) (s : Scope) (f : Fault) (text rest after : List ℕ) (total : Result Scope ScriptFault) → slice_split (λ b. b == 10) rest ≡ text ∷ slice_split (λ b. b == 10) after → Tells f (line_read k n s text)
+    → lines_read k n s (slice_split (λ b. b == 10) rest) ≡ total → TellsAt (fault_at n f) f total
+stops k n s f text rest after total parts told so_far =
+    let one : lines_read k n s (split rest) ≡ (met_at n (line_read k n s text) >>= then_lines k n (split after)) = rw (parts, unrolled k n s text (split after) (one_or_more (λ b. b == 10) after)) refl in
+    subst (λ (r : Result Scope ScriptFault). TellsAt (fault_at n f) f r) (sym one ∙ so_far) (met n f (line_read k n s text) (then_lines k n (split after)) (λ t. faults_from k (n + 1) t (split after)) told)
+
+-- the last line feed was reached, and nothing is wrong
+pub ends : (k : Mode) (n : ℕ) (s t : Scope) (rest : List ℕ) (total : Result Scope ScriptFault) → slice_split (λ b. b == 10) rest ≡ rest ∷ [] → finished n s rest ≡ Ok t → lines_read k n s (slice_split (λ b. b == 10) rest) ≡ total → total ≡ Ok t
+unfolding lines_read
+ends k n s t rest total parts done so_far =
+    let one : lines_read k n s (split rest) ≡ Ok t = rw (parts, done) refl in
+    sym so_far ∙ one
+
+-- the last line feed was reached, and the end is wrong
+pub ends_ill : (k : Mode) (n : ℕ) (s : Scope) (f : Fault) (rest : List ℕ) (total : Result Scope ScriptFault) → slice_split (λ b. b == 10) rest ≡ rest ∷ [] → Tells f (finished n s rest) → lines_read k n s (slice_split (λ b. b == 10) rest) ≡ total → TellsAt (fault_at n f) f total
+unfolding lines_read
+ends_ill k n s f rest total parts told so_far =
+    let one : lines_read k n s (split rest) ≡ met_at n (finished n s rest) = rw parts refl in
+    subst (λ (r : Result Scope ScriptFault). TellsAt (fault_at n f) f r) (sym one ∙ so_far) (met_last n f (finished n s rest) told)
+
+-- what is not UTF-8 fails the test for it
+pub not_text : (bytes : List ℕ) → ¬ (IsUtf8 bytes) → is_utf8 bytes ≡ false
+not_text bytes never = false_from_ne_true (is_utf8 bytes) (λ yes. never (IsUtf8-from_is_utf8 bytes yes))

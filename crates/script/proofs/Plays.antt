@@ -1,0 +1,185 @@
+-- Events played one after the other.
+use Rattle.std.proofs.Common.{◌≡◌, ◌≢◌, ℕ, zero, suc, ◌+◌, ◌-◌, ◌<◌, ◌≤◌, Bool, true, false, List, [], ◌∷◌, ◌++◌, length, drop, Option, Some, None, Result, Ok, Err, refl, sym, ap, ◌∙◌, subst, arith, append_assoc, append-nil, length-append, add-one, get_or}
+use Rattle.std.specs.Prelude.{replicate, nat_lt, if◌then◌else◌}
+use Rattle.std.proofs.lemmas.Bool.Decides.{nat_tests}
+use Rattle.std.proofs.Math.Seq.{drop-cons}
+use Rattle.std.proofs.lemmas.List.{replicate_more, replicate-append-replicate}
+use Rattle.protocol.specs.declared.event.Event.{Event}
+use Rattle.protocol.specs.declared.event.Event.TheVariants as event
+use Rattle.protocol.specs.declared.note.Note.{Note}
+use Rattle.protocol.specs.Machine.{State, happens, run, notes, is_busy}
+use Rattle.script.specs.declared.command.Command.{Command}
+use Rattle.script.specs.declared.fault.Fault.{Fault}
+use Rattle.script.specs.declared.fault.Fault.TheVariants.{NotUtf8, UnknownWord, OutOfRange, NoSuchName, TooLong, OutOfMemory}
+use Rattle.script.specs.declared.limits.TheConstants.{MAX_EVENTS, REST_STEPS}
+use Rattle.script.specs.Scope.{Scope}
+use Rattle.script.specs.Playing.{Adds, steps_to_rest, first_state, events_of, events_from, overlong_from}
+use Rattle.script.specs.Played.{Refuses}
+
+run-append : (s : State) (xs ys : List Event) → run s (xs ++ ys) ≡ run (run s xs) ys
+run-append s [] ys = refl
+run-append s (x ∷ xs) ys = run-append (happens s x).state xs ys
+
+notes-append : (s : State) (xs ys : List Event) → notes s (xs ++ ys) ≡ notes s xs ++ notes (run s xs) ys
+notes-append s [] ys = refl
+notes-append s (x ∷ xs) ys = ap (λ (ns : List Note). (happens s x).note ∷ ns) (notes-append (happens s x).state xs ys)
+
+pub length-notes : (s : State) (es : List Event) → length (notes s es) ≡ length es
+length-notes s [] = refl
+length-notes s (e ∷ es) = let more = length-notes (happens s e).state es in omega arith
+
+-- first these events, and then those
+pub then_adds : (s s' s'' : State) (ns ns' ns'' : List Note) (es es' : List Event) (r : Result (Unit {0}) Fault) → Adds s s' ns ns' es (Ok tt) → Adds s' s'' ns' ns'' es' r → Adds s s'' ns ns'' (es ++ es') r
+then_adds s s' s'' ns ns' ns'' es es' (Ok u) a b = (
+  b.0 ∙ ap (λ (z : State). run z es') a.0 ∙ sym (run-append s es es'),
+  b.1 ∙ (λ i. a.1 i ++ notes (a.0 i) es') ∙ append_assoc ns (notes s es) (notes (run s es) es') ∙ ap (λ (l : List Note). ns ++ l) (sym (notes-append s es es')),
+  (let len : length ns' ≡ length ns + length es = ap length a.1 ∙ length-append ns (notes s es) ∙ ap (λ (k : ℕ). length ns + k) (length-notes s es) in let fits = b.2 in omega (arith, length-append es es')),
+)
+then_adds s s' s'' ns ns' ns'' es es' (Err TooLong) a b = let len : length ns' ≡ length ns + length es = ap length a.1 ∙ length-append ns (notes s es) ∙ ap (λ (k : ℕ). length ns + k) (length-notes s es) in omega (arith, length-append es es')
+then_adds s s' s'' ns ns' ns'' es es' (Err OutOfMemory) a b = tt
+then_adds s s' s'' ns ns' ns'' es es' (Err NotUtf8) a b = absurd b
+then_adds s s' s'' ns ns' ns'' es es' (Err UnknownWord) a b = absurd b
+then_adds s s' s'' ns ns' ns'' es es' (Err OutOfRange) a b = absurd b
+then_adds s s' s'' ns ns' ns'' es es' (Err NoSuchName) a b = absurd b
+
+-- events that fail fail with more behind them
+pub adds_fewer : (s s' s'' : State) (ns ns' ns'' : List Note) (es es' : List Event) (f : Fault) → Adds s s' ns ns' es (Err f) → Adds s s'' ns ns'' (es ++ es') (Err f)
+adds_fewer s s' s'' ns ns' ns'' es es' TooLong a = omega (arith, length-append es es')
+adds_fewer s s' s'' ns ns' ns'' es es' OutOfMemory a = tt
+adds_fewer s s' s'' ns ns' ns'' es es' NotUtf8 a = absurd a
+adds_fewer s s' s'' ns ns' ns'' es es' UnknownWord a = absurd a
+adds_fewer s s' s'' ns ns' ns'' es es' OutOfRange a = absurd a
+adds_fewer s s' s'' ns ns' ns'' es es' NoSuchName a = absurd a
+
+-- so many of one event, one more, and the rest
+pub replicate-split : (n k : ℕ) (e : Event) → k < n → (replicate k e ++ e ∷ []) ++ replicate (n - (k + 1)) e ≡ replicate n e
+replicate-split n k e lt =
+    let all : (k + 1) + (n - (k + 1)) ≡ n = omega arith in
+    ap (λ (l : List Event). l ++ replicate (n - (k + 1)) e) (replicate_more k e) ∙ replicate-append-replicate (k + 1) (n - (k + 1)) e ∙ ap (λ (j : ℕ). replicate j e) all
+
+-- ---- steps of one thread
+
+-- one step more
+pub steps_more : (s s' s'' : State) (ns ns' ns'' : List Note) (k : ℕ) (e : Event) → Adds s s' ns ns' (replicate k e) (Ok tt) → Adds s' s'' ns' ns'' (e ∷ []) (Ok tt) → Adds s s'' ns ns'' (replicate (k + 1) e) (Ok tt)
+steps_more s s' s'' ns ns' ns'' k e a b = subst (λ (es : List Event). Adds s s'' ns ns'' es (Ok tt)) (replicate_more k e) (then_adds s s' s'' ns ns' ns'' (replicate k e) (e ∷ []) (Ok tt) a b)
+
+-- a step that fails, with more to come
+pub steps_fail : (s s' s'' : State) (ns ns' ns'' : List Note) (n k : ℕ) (e : Event) (f : Fault) → k < n → Adds s s' ns ns' (replicate k e) (Ok tt) → Adds s' s'' ns' ns'' (e ∷ []) (Err f) → Adds s s'' ns ns'' (replicate n e) (Err f)
+steps_fail s s' s'' ns ns' ns'' n k e f lt a b =
+    subst (λ (es : List Event). Adds s s'' ns ns'' es (Err f)) (replicate-split n k e lt)
+    (adds_fewer s s'' s'' ns ns'' ns'' (replicate k e ++ e ∷ []) (replicate (n - (k + 1)) e) f (then_adds s s' s'' ns ns' ns'' (replicate k e) (e ∷ []) (Err f) a b))
+
+rest_now : (most : ℕ) (s : State) (t : ℕ) → is_busy s t ≡ false → steps_to_rest most s t ≡ 0
+unfolding steps_to_rest
+rest_now zero s t rests = refl
+rest_now (suc most) s t rests = ap (λ (b : Bool). if b then suc (steps_to_rest most (happens s (event.Step t)).state t) else 0) rests
+
+rest_later : (most : ℕ) (s : State) (t : ℕ) → 0 < most → is_busy s t ≡ true → steps_to_rest most s t ≡ suc (steps_to_rest (most - 1) (happens s (event.Step t)).state t)
+unfolding steps_to_rest
+rest_later zero s t some busy = absurd (omega arith)
+rest_later (suc most) s t some busy =
+    let one : suc most - 1 ≡ most = omega arith in
+    ap (λ (b : Bool). if b then suc (steps_to_rest most (happens s (event.Step t)).state t) else 0) busy ∙ ap (λ (k : ℕ). suc (steps_to_rest k (happens s (event.Step t)).state t)) (sym one)
+
+rest_at_once : (s : State) (t : ℕ) → steps_to_rest 0 s t ≡ 0
+unfolding steps_to_rest
+rest_at_once s t = refl
+
+-- where the loop to rest is after k steps
+pub record IsOnTheWay (s s' : State) (ns ns' : List Note) (t k : ℕ) : Type 0 where
+  pub so_far : Adds s s' ns ns' (replicate k (event.Step t)) (Ok tt)
+  pub left : steps_to_rest REST_STEPS s t ≡ k + steps_to_rest (REST_STEPS - k) s' t
+
+pub rests : (s s' : State) (ns ns' : List Note) (t k : ℕ) → IsOnTheWay s s' ns ns' t k → is_busy s' t ≡ false → Adds s s' ns ns' (replicate (steps_to_rest REST_STEPS s t) (event.Step t)) (Ok tt)
+rests s s' ns ns' t k h resting =
+    let none = rest_now (REST_STEPS - k) s' t resting in
+    let all : k ≡ steps_to_rest REST_STEPS s t = let left = h.left in omega arith in
+    subst (λ (j : ℕ). Adds s s' ns ns' (replicate j (event.Step t)) (Ok tt)) all h.so_far
+
+pub rests_late : (s s' : State) (ns ns' : List Note) (t k : ℕ) → IsOnTheWay s s' ns ns' t k → REST_STEPS ≤ k → Adds s s' ns ns' (replicate (steps_to_rest REST_STEPS s t) (event.Step t)) (Ok tt)
+rests_late s s' ns ns' t k h late =
+    let over : REST_STEPS - k ≡ 0 = omega arith in
+    let none : steps_to_rest (REST_STEPS - k) s' t ≡ 0 = ap (λ (j : ℕ). steps_to_rest j s' t) over ∙ rest_at_once s' t in
+    let all : k ≡ steps_to_rest REST_STEPS s t = let left = h.left in omega arith in
+    subst (λ (j : ℕ). Adds s s' ns ns' (replicate j (event.Step t)) (Ok tt)) all h.so_far
+
+left_after : (s s' s'' : State) (ns ns' ns'' : List Note) (t k : ℕ) → IsOnTheWay s s' ns ns' t k → k < REST_STEPS → is_busy s' t ≡ true → steps_to_rest REST_STEPS s t ≡ (k + 1) + steps_to_rest (REST_STEPS - (k + 1)) (happens s' (event.Step t)).state t
+left_after s s' s'' ns ns' ns'' t k h lt busy =
+    let later = rest_later (REST_STEPS - k) s' t (omega arith) busy in
+    let less : REST_STEPS - k - 1 ≡ REST_STEPS - (k + 1) = omega arith in
+    let same : steps_to_rest (REST_STEPS - k - 1) (happens s' (event.Step t)).state t ≡ steps_to_rest (REST_STEPS - (k + 1)) (happens s' (event.Step t)).state t = ap (λ (j : ℕ). steps_to_rest j (happens s' (event.Step t)).state t) less in
+    let left = h.left in omega arith
+
+pub rest_more : (s s' s'' : State) (ns ns' ns'' : List Note) (t k : ℕ) → IsOnTheWay s s' ns ns' t k → k < REST_STEPS → is_busy s' t ≡ true → Adds s' s'' ns' ns'' (event.Step t ∷ []) (Ok tt) → IsOnTheWay s s'' ns ns'' t (k + 1)
+rest_more s s' s'' ns ns' ns'' t k h lt busy b = record {
+  so_far = steps_more s s' s'' ns ns' ns'' k (event.Step t) h.so_far b;
+  left = left_after s s' s'' ns ns' ns'' t k h lt busy ∙ ap (λ (z : State). (k + 1) + steps_to_rest (REST_STEPS - (k + 1)) z t) (sym b.0);
+}
+
+pub rest_fails : (s s' s'' : State) (ns ns' ns'' : List Note) (t k : ℕ) (f : Fault) → IsOnTheWay s s' ns ns' t k → k < REST_STEPS → is_busy s' t ≡ true → Adds s' s'' ns' ns'' (event.Step t ∷ []) (Err f) → Adds s s'' ns ns'' (replicate (steps_to_rest REST_STEPS s t) (event.Step t)) (Err f)
+rest_fails s s' s'' ns ns' ns'' t k f h lt busy b =
+    let left = left_after s s' s'' ns ns' ns'' t k h lt busy in
+    steps_fail s s' s'' ns ns' ns'' (steps_to_rest REST_STEPS s t) k (event.Step t) f (omega arith) h.so_far b
+
+pub begins_way : (s : State) (ns : List Note) (t : ℕ) → length ns ≤ MAX_EVENTS → IsOnTheWay s s ns ns t 0
+begins_way s ns t fits = record { so_far = (refl, sym (append-nil ns), omega arith); left = omega arith }
+
+-- ---- commands
+
+-- where the loop over the commands is after k of them
+pub record IsAmid (s : State) (cs : List Command) (now : State) (ns : List Note) (k : ℕ) : Type 0 where
+  pub events : List Event
+  pub so_far : Adds s now [] ns events (Ok tt)
+  pub rest : events_from s cs ≡ events ++ events_from now (drop k cs)
+  pub too_long : overlong_from 0 s cs ≡ overlong_from (length events) now (drop k cs)
+
+pub amid_first : (s : State) (cs : List Command) → IsAmid s cs s [] 0
+amid_first s cs = record { events = []; so_far = (refl, refl, omega arith); rest = refl; too_long = refl }
+
+over-false : (n : ℕ) → n ≤ MAX_EVENTS → nat_lt MAX_EVENTS n ≡ false
+over-false n h = grind (arith, nat_tests)
+
+over-true : (n : ℕ) → MAX_EVENTS < n → nat_lt MAX_EVENTS n ≡ true
+over-true n h = grind (arith, nat_tests)
+
+pub amid_next : (s : State) (cs : List Command) (now now' : State) (ns ns' : List Note) (k : ℕ) (c : Command) → IsAmid s cs now ns k → drop k cs ≡ c ∷ drop (k + 1) cs → Adds now now' ns ns' (events_of now c.action) (Ok tt) → IsAmid s cs now' ns' (k + 1)
+amid_next s cs now now' ns ns' k c h split a =
+    let es = events_of now c.action in
+    let len : length ns ≡ length h.events = ap length h.so_far.1 ∙ length-notes s h.events in
+    let fits : length h.events + length es ≤ MAX_EVENTS = let bound = a.2 in omega arith in
+    let total = length-append h.events es in
+    record {
+      events = h.events ++ es;
+      so_far = then_adds s now now' [] ns ns' h.events es (Ok tt) h.so_far a;
+      rest = h.rest ∙ ap (λ (l : List Command). h.events ++ events_from now l) split ∙ sym (append_assoc h.events es (events_from (run now es) (drop (k + 1) cs))) ∙ ap (λ (z : State). (h.events ++ es) ++ events_from z (drop (k + 1) cs)) (sym a.0);
+      too_long =
+          h.too_long ∙ ap (overlong_from (length h.events) now) split
+          ∙ ap (λ (b : Bool). if b then Some c.line else overlong_from (length h.events + length es) (run now es) (drop (k + 1) cs)) (over-false (length h.events + length es) fits)
+          ∙ (λ i. overlong_from (sym total i) (sym a.0 i) (drop (k + 1) cs));
+    }
+
+pub amid_fails : (s : State) (cs : List Command) (now now' : State) (ns ns' : List Note) (k : ℕ) (c : Command) → IsAmid s cs now ns k → drop k cs ≡ c ∷ drop (k + 1) cs → Adds now now' ns ns' (events_of now c.action) (Err TooLong) → overlong_from 0 s cs ≡ Some c.line
+amid_fails s cs now now' ns ns' k c h split a =
+    let es = events_of now c.action in
+    let len : length ns ≡ length h.events = ap length h.so_far.1 ∙ length-notes s h.events in
+    h.too_long ∙ ap (overlong_from (length h.events) now) split ∙ ap (λ (b : Bool). if b then Some c.line else overlong_from (length h.events + length es) (run now es) (drop (k + 1) cs)) (over-true (length h.events + length es) (omega arith))
+
+pub amid_last : (s : State) (cs : List Command) (now : State) (ns : List Note) (k : ℕ) → IsAmid s cs now ns k → drop k cs ≡ [] → (overlong_from 0 s cs ≡ None) × (ns ≡ notes s (events_from s cs)) × (now ≡ run s (events_from s cs))
+amid_last s cs now ns k h none =
+    let all : events_from s cs ≡ h.events = h.rest ∙ ap (λ (l : List Command). h.events ++ events_from now l) none ∙ append-nil h.events in
+    (h.too_long ∙ ap (overlong_from (length h.events) now) none, h.so_far.1 ∙ ap (notes s) (sym all), h.so_far.0 ∙ ap (run s) (sym all))
+
+-- the fault of a command is the script's
+pub refuses : (s : Scope) (now now' : State) (ns ns' : List Note) (k : ℕ) (c : Command) (f : Fault) → IsAmid (first_state s) s.commands now ns k → drop k s.commands ≡ c ∷ drop (k + 1) s.commands → Adds now now' ns ns' (events_of now c.action) (Err f) → Refuses s c.line f
+refuses s now now' ns ns' k c TooLong h split a = amid_fails (first_state s) s.commands now now' ns ns' k c h split a
+refuses s now now' ns ns' k c OutOfMemory h split a = tt
+refuses s now now' ns ns' k c NotUtf8 h split a = absurd a
+refuses s now now' ns ns' k c UnknownWord h split a = absurd a
+refuses s now now' ns ns' k c OutOfRange h split a = absurd a
+refuses s now now' ns ns' k c NoSuchName h split a = absurd a
+
+pub split_at : (cs : List Command) (k : ℕ) (c : Command) → k < length cs → c ≡ get_or cs k c → drop k cs ≡ c ∷ drop (k + 1) cs
+split_at cs k c lt is = rw add-one (drop-cons cs k c lt ∙ ap (λ (x : Command). x ∷ drop (suc k) cs) (sym is))
+
+pub amid_room : (s : State) (cs : List Command) (now : State) (ns : List Note) (k : ℕ) → IsAmid s cs now ns k → length ns ≤ MAX_EVENTS
+amid_room s cs now ns k h = let len : length ns ≡ length h.events = ap length h.so_far.1 ∙ length-notes s h.events in let fits = h.so_far.2 in omega arith

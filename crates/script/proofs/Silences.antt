@@ -1,0 +1,129 @@
+-- Lines read at other numbers say the same, and silent lines say nothing.
+use Rattle.std.proofs.Common.{◌≡◌, ℕ, ◌+◌, ◌<◌, ◌≤◌, ◌==◌, ◌||◌, Bool, false, true, not, nat_lt, List, [], ◌∷◌, ◌++◌, length, map, Result, Ok, Err, refl, sym, ap, ◌∙◌, arith, length-append}
+use Rattle.std.specs.Option.{ok_or}
+use Rattle.std.proofs.lemmas.Bool.{le-ltb}
+use Rattle.script.specs.Forms.{CallForm, trylock, unlock, Form, silent, thread, mutex, begins, steps, calls, form_of, is_silent}
+use Rattle.script.specs.Scope.{Scope}
+use Rattle.script.specs.Reading.{◌>>=◌, refuse, added, declares, thread_of, call_of, with_action, enter, met_at, line_read, finished, lines_read, nothing}
+use Rattle.script.specs.Silence.{unplaced, without_lines, outcome, SilentLinesSayNothing}
+use Rattle.script.specs.declared.command.Action.{Action}
+use Rattle.script.specs.declared.command.Action.TheVariants as action
+use Rattle.script.specs.declared.command.Command.{Command}
+use Rattle.script.specs.declared.command.Mode.{Mode}
+use Rattle.script.specs.declared.fault.Fault.{Fault}
+use Rattle.script.specs.declared.fault.Fault.TheVariants.{UnknownWord, OutOfRange}
+use Rattle.script.specs.declared.fault.ScriptFault.{ScriptFault}
+use Rattle.script.specs.declared.limits.TheConstants.{MAX_LINES, MAX_THREADS, MAX_MUTEXES}
+
+-- one line's outcome
+abbrev meant : Result Scope Fault → Result Scope Fault
+meant (Ok s) = Ok (without_lines s)
+meant (Err f) = Err f
+
+twice : (cs : List Command) → map unplaced (map unplaced cs) ≡ map unplaced cs
+twice [] = refl
+twice (c ∷ cs) = rw (twice cs) refl
+
+same_length : (cs : List Command) → length (map unplaced cs) ≡ length cs
+same_length [] = refl
+same_length (c ∷ cs) = rw (same_length cs) refl
+
+pushed : (n : ℕ) (a : Action) (cs : List Command) → map unplaced (cs ++ record { line = n; action = a } ∷ []) ≡ map unplaced (map unplaced cs ++ record { line = 0; action = a } ∷ [])
+pushed n a [] = refl
+pushed n a (c ∷ cs) = rw (pushed n a cs) refl
+
+-- two chains from one thing
+alike : {A : Type 0} (r : Result A Fault) (f g : A → Result Scope Fault) → ((x : A) → meant (f x) ≡ meant (g x)) → meant (r >>= f) ≡ meant (r >>= g)
+alike (Ok x) f g h = h x
+alike (Err e) f g h = refl
+
+same_call : (s : Scope) (c : CallForm) → call_of (without_lines s) c ≡ call_of s c
+same_call s (trylock m) = refl
+same_call s (unlock m) = refl
+
+same_declares : (s : Scope) → declares (without_lines s) ≡ declares s
+same_declares s = rw (same_length s.commands) refl
+
+acted : (n : ℕ) (s : Scope) (a : Action) → meant (Ok (with_action n s a)) ≡ meant (Ok (with_action 0 (without_lines s) a))
+acted n s a = rw (pushed n a s.commands) refl
+
+called : (n : ℕ) (s : Scope) (t : List ℕ) (c : CallForm) (make : ℕ → _ → Action)
+    → meant (thread_of s t >>= λ i. call_of s c >>= λ k. Ok (with_action n s (make i k))) ≡ meant (thread_of s t >>= λ i. call_of (without_lines s) c >>= λ k. Ok (with_action 0 (without_lines s) (make i k)))
+called n s t c make = rw (same_call s c) (alike (thread_of s t) _ _ (λ i. alike (call_of s c) _ _ (λ k. acted n s (make i k))))
+
+-- what a line adds does not depend on lines
+same_enter : (n : ℕ) (s : Scope) (f : Form) → meant (enter n s f) ≡ meant (enter 0 (without_lines s) f)
+same_enter n s silent = rw (twice s.commands) refl
+same_enter n s (thread w) = rw (same_declares s) (alike (declares s) _ _ (λ _. alike (added MAX_THREADS s.threads w) _ _ (λ names. rw (twice s.commands) refl)))
+same_enter n s (mutex w) = rw (same_declares s) (alike (declares s) _ _ (λ _. alike (added MAX_MUTEXES s.mutexes w) _ _ (λ names. rw (twice s.commands) refl)))
+same_enter n s (begins t c) = called n s t c (λ i k. action.Begin i k)
+same_enter n s (steps t count) = alike (ok_or count OutOfRange) _ _ (λ k. alike (thread_of s t) _ _ (λ i. acted n s (action.Step i k)))
+same_enter n s (calls t c) = called n s t c (λ i k. action.Call i k)
+
+same_line : (k : Mode) (n : ℕ) (s : Scope) (text : List ℕ) → n ≤ MAX_LINES → meant (line_read k n s text) ≡ meant (line_read k 0 (without_lines s) text)
+same_line k n s text few =
+    let in_time : nat_lt MAX_LINES n ≡ false = le-ltb _ _ few in
+    rw in_time (alike (ok_or (form_of k text) UnknownWord) (λ f. enter n s f) (λ f. enter 0 (without_lines s) f) (λ f. same_enter n s f))
+
+-- two states that differ in lines alone read a line alike
+line_alike : (k : Mode) (n m : ℕ) (s t : Scope) (text : List ℕ) → without_lines s ≡ without_lines t → n ≤ MAX_LINES → m ≤ MAX_LINES → meant (line_read k n s text) ≡ meant (line_read k m t text)
+line_alike k n m s t text same low high = same_line k n s text low ∙ ap (λ (u : Scope). meant (line_read k 0 u text)) same ∙ sym (same_line k m t text high)
+
+ended : (behind too_few : Bool) (s : Scope) → meant (refuse behind UnknownWord (refuse too_few OutOfRange (Ok s))) ≡ meant (refuse behind UnknownWord (refuse too_few OutOfRange (Ok (without_lines s))))
+ended true b s = refl
+ended false true s = refl
+ended false false s = rw (twice s.commands) refl
+
+end_of : (n : ℕ) (s : Scope) (text : List ℕ) → n ≤ MAX_LINES → meant (finished n s text) ≡ meant (finished 0 (without_lines s) text)
+end_of n s text few =
+    let in_time : nat_lt MAX_LINES n ≡ false = le-ltb _ _ few in
+    rw in_time (ended (not (length text == 0)) (length s.threads == 0 || length s.mutexes == 0) s)
+
+at_line : (n : ℕ) (r : Result Scope Fault) → outcome (met_at n r) ≡ meant r
+at_line n (Ok s) = refl
+at_line n (Err f) = refl
+
+-- lines read alike lead on alike
+leads : (n m : ℕ) (r q : Result Scope Fault) (f g : Scope → Result Scope ScriptFault) → meant r ≡ meant q → ((s t : Scope) → without_lines s ≡ without_lines t → outcome (f s) ≡ outcome (g t)) → outcome (met_at n r >>= f) ≡ outcome (met_at m q >>= g)
+leads n m (Ok s) (Ok t) f g same next = next s t (cc)
+leads n m (Ok s) (Err e) f g same next = absurd cc
+leads n m (Err d) (Ok t) f g same next = absurd cc
+leads n m (Err d) (Err e) f g same next = cc
+
+lines_alike : (k : Mode) (n m : ℕ) (s t : Scope) (ls : List (List ℕ)) → without_lines s ≡ without_lines t → n + length ls ≤ MAX_LINES + 1 → m + length ls ≤ MAX_LINES + 1 → outcome (lines_read k n s ls) ≡ outcome (lines_read k m t ls)
+unfolding lines_read
+lines_alike k n m s t [] same low high = ap Ok same
+lines_alike k n m s t (text ∷ []) same low high = at_line n (finished n s text) ∙ end_of n s text (omega arith) ∙ ap (λ (u : Scope). meant (finished 0 u text)) same ∙ sym (end_of m t text (omega arith)) ∙ sym (at_line m (finished m t text))
+lines_alike k n m s t (text ∷ next ∷ more) same low high =
+    leads n m (line_read k n s text) (line_read k m t text) (λ u. lines_read k (n + 1) u (next ∷ more)) (λ u. lines_read k (m + 1) u (next ∷ more))
+    (line_alike k n m s t text same (omega arith) (omega arith)) (λ u v alike_so_far. lines_alike k (n + 1) (m + 1) u v (next ∷ more) alike_so_far (omega arith) (omega arith))
+
+silent_line : (k : Mode) (n : ℕ) (s : Scope) (line : List ℕ) → is_silent line ≡ true → n ≤ MAX_LINES → line_read k n s line ≡ Ok s
+silent_line k n s line is few =
+    let in_time : nat_lt MAX_LINES n ≡ false = le-ltb _ _ few in
+    rw (in_time, is) refl
+
+-- a silent line in front of others
+dropped : (k : Mode) (n : ℕ) (s : Scope) (line : List ℕ) (after : List (List ℕ)) → is_silent line ≡ true → 0 < length after → n + length after ≤ MAX_LINES → outcome (lines_read k n s (line ∷ after)) ≡ outcome (lines_read k n s after)
+unfolding lines_read
+dropped k n s line [] is some few = absurd (omega (arith, some))
+dropped k n s line (a ∷ after) is some few = rw (silent_line k n s line is (omega arith)) (lines_alike k (n + 1) n s s (a ∷ after) refl (omega arith) (omega arith))
+
+follows : (n : ℕ) (r : Result Scope Fault) (f g : Scope → Result Scope ScriptFault) → ((s : Scope) → outcome (f s) ≡ outcome (g s)) → outcome (met_at n r >>= f) ≡ outcome (met_at n r >>= g)
+follows n (Ok s) f g h = h s
+follows n (Err e) f g h = refl
+
+unrolled : (k : Mode) (n : ℕ) (s : Scope) (text : List ℕ) (ls : List (List ℕ)) → 0 < length ls → lines_read k n s (text ∷ ls) ≡ (met_at n (line_read k n s text) >>= λ t. lines_read k (n + 1) t ls)
+unfolding lines_read
+unrolled k n s text [] some = absurd (omega (arith, some))
+unrolled k n s text (l ∷ ls) some = refl
+
+silent_anywhere : (k : Mode) (n : ℕ) (s : Scope) (before after : List (List ℕ)) (line : List ℕ) → is_silent line ≡ true → 0 < length after → n + length before + length after ≤ MAX_LINES
+    → outcome (lines_read k n s (before ++ line ∷ after)) ≡ outcome (lines_read k n s (before ++ after))
+silent_anywhere k n s [] after line is some few = dropped k n s line after is some (omega arith)
+silent_anywhere k n s (b ∷ before) after line is some few =
+    rw (unrolled k n s b (before ++ line ∷ after) (simp length-append (omega arith)), unrolled k n s b (before ++ after) (simp length-append (omega arith)))
+    (follows n (line_read k n s b) _ _ (λ t. silent_anywhere k (n + 1) t before after line is some (omega arith)))
+
+pub silence : SilentLinesSayNothing
+silence k before after line is some few = silent_anywhere k 1 nothing before after line is some (omega arith)

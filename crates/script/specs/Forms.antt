@@ -1,0 +1,98 @@
+-- Lines, words, names and numbers, and the kinds of line.
+use Rattle.std.specs.Prelude.{ℕ, Bool, true, false, not, ◌&&◌, ◌||◌, ◌==◌, nat_le, nat_lt, List, [], ◌∷◌, length, Option, Some, None, option_and_then, if◌then◌else◌, codes}
+use Rattle.std.specs.List.{slice_split, list_all}
+use Rattle.std.specs.Str.{bytes_eq}
+use Rattle.std.specs.Char.{is_ascii_digit}
+use Rattle.std.specs.Str.Parse.{digits_value}
+use Rattle.script.specs.declared.command.Mode.{Mode}
+use Rattle.script.specs.declared.command.Mode.TheVariants as mode
+use Rattle.script.specs.declared.limits.TheConstants.{MAX_NAME, MAX_STEPS}
+
+-- the parts between line feeds: the lines, and what stands behind the last line feed
+abbrev pub lines_of : List ℕ → List (List ℕ)
+lines_of bytes = slice_split (λ b. b == 10) bytes
+
+-- the words of a line, which are the parts between spaces
+abbrev pub words_of : List ℕ → List (List ℕ)
+words_of text = slice_split (λ b. b == 32) text
+
+-- a to z
+abbrev pub is_letter : ℕ → Bool
+is_letter b = nat_le 97 b && nat_le b 122
+
+-- a to z, 0 to 9 and _
+abbrev pub is_name_byte : ℕ → Bool
+is_name_byte b = is_letter b || is_ascii_digit b || b == 95
+
+-- the spelling of a name: few enough of these bytes, the first a letter
+abbrev pub is_name : List ℕ → Bool
+is_name [] = false
+is_name (b ∷ bs) = is_letter b && nat_lt (length bs) MAX_NAME && list_all is_name_byte bs
+
+-- the spelling of a number: decimal, without sign and without leading zeros
+abbrev pub is_number : List ℕ → Bool
+is_number [] = false
+is_number (b ∷ []) = is_ascii_digit b
+is_number (b ∷ c ∷ bs) = not (b == 48) && list_all is_ascii_digit (b ∷ c ∷ bs)
+
+-- the number where it is in the range
+abbrev pub within : ℕ → ℕ → ℕ → Option ℕ
+within low high n = if nat_le low n && nat_le n high then Some n else None
+
+-- a call as a line spells it, with the name of its mutex
+pub data CallForm : Type 0 where
+  trylock : List ℕ → CallForm
+  unlock : List ℕ → CallForm
+
+-- the form of a line: its words are of the right kinds; a count out of its range is None
+pub data Form : Type 0 where
+  silent : Form
+  thread : List ℕ → Form
+  mutex : List ℕ → Form
+  begins : List ℕ → CallForm → Form
+  steps : List ℕ → Option ℕ → Form
+  calls : List ℕ → CallForm → Form
+
+-- an empty line or a comment
+abbrev pub is_silent : List ℕ → Bool
+is_silent [] = true
+is_silent (b ∷ bs) = b == 35
+
+-- `thread NAME` and `mutex NAME`
+abbrev pub declaration_form : List ℕ → List ℕ → Option Form
+declaration_form w a = if not (is_name a) then None
+    else (if bytes_eq w (codes "thread") then Some (thread a)
+    else (if bytes_eq w (codes "mutex") then Some (mutex a) else None))
+
+-- `step T N`
+abbrev pub step_form : List ℕ → List ℕ → List ℕ → Option Form
+step_form w t n = if bytes_eq w (codes "step") && is_name t && is_number n
+    then Some (steps t (within 1 MAX_STEPS (digits_value 10 n)))
+    else None
+
+-- CALL: `trylock M` and `unlock M`
+abbrev pub call_form : List ℕ → List ℕ → Option CallForm
+call_form w m = if not (is_name m) then None
+    else (if bytes_eq w (codes "trylock") then Some (trylock m)
+    else (if bytes_eq w (codes "unlock") then Some (unlock m) else None))
+
+-- `begin T CALL` and `call T CALL`
+abbrev pub calling_form : List ℕ → List ℕ → CallForm → Option Form
+calling_form w t c = if not (is_name t) then None
+    else (if bytes_eq w (codes "begin") then Some (begins t c)
+    else (if bytes_eq w (codes "call") then Some (calls t c) else None))
+
+-- the commands of each mode
+abbrev pub command_form : Mode → List (List ℕ) → Option Form
+command_form mode.Run (w ∷ t ∷ n ∷ []) = step_form w t n
+command_form mode.Run (w ∷ t ∷ c ∷ m ∷ []) = option_and_then (calling_form w t) (call_form c m)
+command_form mode.Run _ = None
+
+-- a declaration, which each mode has, or a command
+abbrev pub words_form : Mode → List (List ℕ) → Option Form
+words_form k (w ∷ a ∷ []) = declaration_form w a
+words_form k ws = command_form k ws
+
+-- what a line says, and None where it is no line of a script
+abbrev pub form_of : Mode → List ℕ → Option Form
+form_of k text = if is_silent text then Some silent else words_form k (words_of text)

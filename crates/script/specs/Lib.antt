@@ -1,0 +1,10 @@
+pub mod Faults
+pub mod Forms
+pub mod Scope
+pub mod Reading
+pub mod Outcome
+pub mod Script
+pub mod Seen
+pub mod Silence
+pub mod Playing
+pub mod Played

@@ -1,0 +1,25 @@
+-- What a call gave of what the definitions say: the same, unless memory ran out.
+use Rattle.std.specs.Prelude.{◌≡◌, ◌<◌, Result, Ok, Err, IsOk, IfErr}
+use Rattle.script.specs.declared.fault.Fault.{Fault}
+use Rattle.script.specs.declared.fault.Fault.TheVariants.{OutOfMemory}
+use Rattle.script.specs.declared.fault.ScriptFault.{ScriptFault}
+
+-- a fault is the one that the definition names; want of memory comes only where it names none
+abbrev pub Tells : {A : Type 0} → Fault → Result A Fault → Type 0
+Tells OutOfMemory said = IsOk said
+Tells f said = said ≡ Err f
+
+-- the same for a fault at a line; want of memory comes only where no line up to there has a fault
+abbrev pub TellsAt : {A : Type 0} → ScriptFault → Fault → Result A ScriptFault → Type 0
+TellsAt e OutOfMemory said = IfErr said (λ first. e.line < first.line)
+TellsAt e _ said = said ≡ Err e
+
+-- a call gave what the definition says, memory aside; view is how the definition sees a value
+abbrev pub Gives : {X A : Type 0} → (X → A) → Result X Fault → Result A Fault → Type 0
+Gives view (Ok x) said = said ≡ Ok (view x)
+Gives view (Err f) said = Tells f said
+
+-- the same for a whole script
+abbrev pub Reads : {A : Type 0} → Result A ScriptFault → Result A ScriptFault → Type 0
+Reads (Ok x) said = said ≡ Ok x
+Reads (Err e) said = TellsAt e e.fault said

@@ -1,0 +1,55 @@
+-- The events that a script stands for, and what it means to play them.
+use Rattle.std.specs.Prelude.{ℕ, zero, suc, ◌≡◌, ◌+◌, ◌<◌, ◌≤◌, ◌⊎◌, Bool, nat_lt, List, [], ◌∷◌, ◌++◌, length, replicate, Option, Some, None, Result, Ok, Err, if◌then◌else◌}
+use Rattle.keys.specs.Layouts.{Layout'}
+use Rattle.protocol.specs.declared.event.Event.{Event}
+use Rattle.protocol.specs.declared.event.Event.TheVariants as event
+use Rattle.protocol.specs.declared.note.Note.{Note}
+use Rattle.protocol.specs.Machine.{State, start, happens, run, notes, is_busy}
+use Rattle.script.specs.declared.command.Action.{Action}
+use Rattle.script.specs.declared.command.Action.TheVariants.{Begin, Step, Call}
+use Rattle.script.specs.declared.command.Command.{Command}
+use Rattle.script.specs.declared.fault.Fault.{Fault}
+use Rattle.script.specs.declared.fault.Fault.TheVariants.{TooLong, OutOfMemory}
+use Rattle.script.specs.declared.limits.TheConstants.{MAX_EVENTS, REST_STEPS}
+use Rattle.script.specs.Scope.{Scope}
+
+-- the machine of a script: its threads and mutexes, and no condition variable
+abbrev pub layout_of : Scope → Layout'
+layout_of s = record { threads = length s.threads; mutexes = length s.mutexes; conditions = [] }
+
+abbrev pub first_state : Scope → State
+first_state s = start (layout_of s) (λ c. 0)
+
+-- the least number of its own steps after which thread t is in no call, looked for among at most so many
+unfoldable pub steps_to_rest : ℕ → State → ℕ → ℕ
+steps_to_rest zero s t = 0
+steps_to_rest (suc most) s t = if is_busy s t then suc (steps_to_rest most (happens s (event.Step t)).state t) else 0
+
+-- the events of an action at a state of the machine: a call is begun and then stepped until its thread rests
+abbrev pub events_of : State → Action → List Event
+events_of s (Begin t c) = event.Begin t c ∷ []
+events_of s (Step t n) = replicate n (event.Step t)
+events_of s (Call t c) = event.Begin t c ∷ replicate (steps_to_rest REST_STEPS (happens s (event.Begin t c)).state t) (event.Step t)
+
+-- the events of commands, each at the state that those before it leave
+abbrev pub events_from : State → List Command → List Event
+events_from s [] = []
+events_from s (c ∷ cs) = events_of s c.action ++ events_from (run s (events_of s c.action)) cs
+
+abbrev pub events_in : Scope → List Event
+events_in s = events_from (first_state s) s.commands
+
+-- the line of the first command that would run one event too many, where n events ran before
+abbrev pub overlong_from : ℕ → State → List Command → Option ℕ
+overlong_from n s [] = None
+overlong_from n s (c ∷ cs) = if nat_lt MAX_EVENTS (n + length (events_of s c.action)) then Some c.line else overlong_from (n + length (events_of s c.action)) (run s (events_of s c.action)) cs
+
+abbrev pub overlong : Scope → Option ℕ
+overlong s = overlong_from 0 (first_state s) s.commands
+
+-- these events ran and were noted; or there are too many of them, or memory ran out
+abbrev pub Adds : State → State → List Note → List Note → List Event → Result (Unit {0}) Fault → Type 0
+Adds s s' ns ns' es (Ok u) = (s' ≡ run s es) × (ns' ≡ ns ++ notes s es) × (length ns + length es ≤ MAX_EVENTS)
+Adds s s' ns ns' es (Err TooLong) = MAX_EVENTS < length ns + length es
+Adds s s' ns ns' es (Err OutOfMemory) = Unit {0}
+Adds s s' ns ns' es (Err f) = ⊥

@@ -1,0 +1,108 @@
+-- What a script says, and its first fault: each line in turn, after those before it.
+use Rattle.std.specs.Prelude.{ℕ, ◌+◌, Bool, not, ◌||◌, ◌==◌, nat_le, nat_lt, List, [], ◌∷◌, ◌++◌, length, take, position, Result, Ok, Err, if◌then◌else◌, count_by}
+use Rattle.std.specs.Option.{ok_or}
+use Rattle.std.specs.List.{list_any}
+use Rattle.std.specs.Str.{bytes_eq, is_utf8}
+use Rattle.std.specs.Str.Lossy.{utf8_valid_len}
+use Rattle.mutex.specs.declared.call.Call.{Call}
+use Rattle.mutex.specs.declared.call.Call.TheVariants as call
+use Rattle.script.specs.Forms.{CallForm, trylock, unlock, Form, silent, thread, mutex, begins, steps, calls, form_of, lines_of}
+use Rattle.script.specs.Scope.{Scope}
+use Rattle.script.specs.declared.command.Mode.{Mode}
+use Rattle.script.specs.declared.command.Action.{Action}
+use Rattle.script.specs.declared.command.Action.TheVariants as action
+use Rattle.script.specs.declared.fault.Fault.{Fault}
+use Rattle.script.specs.declared.fault.Fault.TheVariants.{NotUtf8, UnknownWord, OutOfRange, NoSuchName, TooLong}
+use Rattle.script.specs.declared.fault.ScriptFault.{ScriptFault}
+use Rattle.script.specs.declared.limits.TheConstants.{MAX_BYTES, MAX_LINES, MAX_THREADS, MAX_MUTEXES}
+
+-- first one thing and then another, as `?` does: a fault of the first is the fault
+infixl 10 ◌>>=◌
+abbrev pub ◌>>=◌ : {A B E : Type 0} → Result A E → (A → Result B E) → Result B E
+(Ok x) >>= f = f x
+(Err e) >>= f = Err e
+
+-- before the first line
+abbrev pub nothing : Scope
+nothing = record { threads = []; mutexes = []; commands = [] }
+
+-- the fault where the test holds, and else what follows
+abbrev pub refuse : {A : Type 0} → Bool → Fault → Result A Fault → Result A Fault
+refuse b f r = if b then Err f else r
+
+-- the place of a name among the declared ones, from 0
+abbrev pub place_of : List ℕ → List (List ℕ) → Result ℕ Fault
+place_of w names = ok_or (position (λ n. bytes_eq w n) names) NoSuchName
+
+-- whether a name is among the declared ones
+abbrev pub is_declared : List ℕ → List (List ℕ) → Bool
+is_declared w names = list_any (λ n. bytes_eq w n) names
+
+-- the names with one more, unless there are as many as may be, or it is among them
+abbrev pub added : ℕ → List (List ℕ) → List ℕ → Result (List (List ℕ)) Fault
+added limit names w = refuse (nat_le limit (length names)) OutOfRange
+    (refuse (is_declared w names) NoSuchName (Ok (names ++ w ∷ [])))
+
+-- no declaration stands after a command
+abbrev pub declares : Scope → Result (Unit {0}) Fault
+declares s = refuse (not (length s.commands == 0)) UnknownWord (Ok tt)
+
+-- the number of a thread, from 1
+abbrev pub thread_of : Scope → List ℕ → Result ℕ Fault
+thread_of s t = place_of t s.threads >>= λ i. Ok (i + 1)
+
+-- a call by the number of its mutex, from 0
+abbrev pub call_of : Scope → CallForm → Result Call Fault
+call_of s (trylock m) = place_of m s.mutexes >>= λ j. Ok (call.TryLock j)
+call_of s (unlock m) = place_of m s.mutexes >>= λ j. Ok (call.Unlock j)
+
+-- one more command, which stands at line n
+abbrev pub with_action : ℕ → Scope → Action → Scope
+with_action n s a = record s { commands = s.commands ++ record { line = n; action = a } ∷ [] }
+
+-- what line n adds
+abbrev pub enter : ℕ → Scope → Form → Result Scope Fault
+enter n s silent = Ok s
+enter n s (thread w) = declares s >>= λ _. added MAX_THREADS s.threads w >>= λ names. Ok (record s { threads = names })
+enter n s (mutex w) = declares s >>= λ _. added MAX_MUTEXES s.mutexes w >>= λ names. Ok (record s { mutexes = names })
+enter n s (begins t c) = thread_of s t >>= λ i. call_of s c >>= λ k. Ok (with_action n s (action.Begin i k))
+enter n s (steps t count) = ok_or count OutOfRange >>= λ k. thread_of s t >>= λ i.
+    Ok (with_action n s (action.Step i k))
+enter n s (calls t c) = thread_of s t >>= λ i. call_of s c >>= λ k. Ok (with_action n s (action.Call i k))
+
+-- a fault at line n
+abbrev pub fault_at : ℕ → Fault → ScriptFault
+fault_at n f = record { line = n; fault = f }
+
+-- what line n gave, with the line of its fault
+abbrev pub met_at : {A : Type 0} → ℕ → Result A Fault → Result A ScriptFault
+met_at n (Ok x) = Ok x
+met_at n (Err f) = Err (fault_at n f)
+
+-- line n, which a line feed ends
+abbrev pub line_read : Mode → ℕ → Scope → List ℕ → Result Scope Fault
+line_read k n s text = refuse (nat_lt MAX_LINES n) TooLong (ok_or (form_of k text) UnknownWord >>= λ f. enter n s f)
+
+-- what stands behind the last line feed: nothing, and what was declared is enough
+abbrev pub finished : ℕ → Scope → List ℕ → Result Scope Fault
+finished n s text = refuse (not (length text == 0)) (if nat_lt MAX_LINES n then TooLong else UnknownWord)
+    (refuse (length s.threads == 0 || length s.mutexes == 0) OutOfRange (Ok s))
+
+-- these lines, the first of which is line n, after what the lines before it made
+unfoldable pub lines_read : Mode → ℕ → Scope → List (List ℕ) → Result Scope ScriptFault
+lines_read k n s [] = Ok s
+lines_read k n s (text ∷ []) = met_at n (finished n s text)
+lines_read k n s (text ∷ next ∷ more) = met_at n (line_read k n s text) >>= λ t. lines_read k (n + 1) t (next ∷ more)
+
+-- the line of the first byte that is no part of a character
+abbrev pub bad_line : List ℕ → ℕ
+bad_line bytes = count_by (λ b. b == 10) (take (utf8_valid_len bytes) bytes) + 1
+
+-- a text from its first line to its last
+abbrev pub text_read : Mode → List ℕ → Result Scope ScriptFault
+text_read k text = lines_read k 1 nothing (lines_of text)
+
+-- the script that the bytes are, or their first fault
+abbrev pub script_read : Mode → List ℕ → Result Scope ScriptFault
+script_read k bytes = if nat_lt MAX_BYTES (length bytes) then Err (fault_at 1 TooLong)
+    else (if is_utf8 bytes then text_read k bytes else Err (fault_at (bad_line bytes) NotUtf8))

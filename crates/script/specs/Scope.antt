@@ -1,0 +1,32 @@
+-- A script as callers see it: its names and its commands.
+use Rattle.std.specs.Prelude.{ℕ, ◌≤◌, ◌<◌, List, length, All}
+use Rattle.mutex.specs.Calls.{mutex_of}
+use Rattle.script.specs.declared.command.Action.{Action}
+use Rattle.script.specs.declared.command.Action.TheVariants.{Begin, Step, Call}
+use Rattle.script.specs.declared.command.Command.{Command}
+use Rattle.script.specs.declared.limits.TheConstants.{MAX_THREADS, MAX_MUTEXES, MAX_STEPS}
+
+-- the names in the order of declaration, each as its bytes, and the commands in the order of their lines
+pub record Scope : Type 0 where
+  pub threads : List (List ℕ)
+  pub mutexes : List (List ℕ)
+  pub commands : List Command
+
+-- an action of a script with this many threads and mutexes: its numbers are of the script's, and it takes
+-- from one step to as many as may be
+abbrev pub IsPossible : ℕ → ℕ → Action → Type 0
+IsPossible threads mutexes (Begin t c) = (1 ≤ t) × (t ≤ threads) × (mutex_of c < mutexes)
+IsPossible threads mutexes (Step t n) = (1 ≤ t) × (t ≤ threads) × (1 ≤ n) × (n ≤ MAX_STEPS)
+IsPossible threads mutexes (Call t c) = (1 ≤ t) × (t ≤ threads) × (mutex_of c < mutexes)
+
+-- what the lines so far can have made: no more names than may be, and possible commands
+pub record IsWithinLimits (s : Scope) : Type 0 where
+  pub threads_at_most : length s.threads ≤ MAX_THREADS
+  pub mutexes_at_most : length s.mutexes ≤ MAX_MUTEXES
+  pub commands_possible : All (λ c. IsPossible (length s.threads) (length s.mutexes) c.action) s.commands
+
+-- what a whole script is: it has a thread and a mutex too
+pub record IsWellFormed (s : Scope) : Type 0 where
+  pub some_thread : 1 ≤ length s.threads
+  pub some_mutex : 1 ≤ length s.mutexes
+  pub within : IsWithinLimits s

@@ -1,0 +1,15 @@
+-- A script that was read, as callers see it.
+use Rattle.std.specs.Prelude.{map, string_bytes}
+use Rattle.script.specs.Scope.{Scope, IsWellFormed}
+use Rattle.script.specs.declared.parsed.Script.TheInside.{Inside}
+
+-- its names as bytes, and its commands
+abbrev pub contents : Inside → Scope
+contents s = record {
+  threads = map string_bytes s.threads.keys;
+  mutexes = map string_bytes s.mutexes.keys;
+  commands = s.commands.items;
+}
+
+abbrev pub IsWhole : Inside → Type 0
+IsWhole s = IsWellFormed (contents s)

@@ -1,0 +1,40 @@
+-- Values of the code as the definitions see them.
+use Rattle.std.specs.Prelude.{ℕ, ◌≡◌, ◌<◌, ◌⊎◌, List, [], ◌∷◌, length, map, string_bytes}
+use Rattle.script.specs.Forms.{CallForm, trylock, unlock, Form, silent, thread, mutex, begins, steps, calls}
+use Rattle.script.specs.Scope.{Scope}
+use Rattle.script.specs.declared.draft.Draft.{Draft}
+use Rattle.script.specs.declared.words.Words.{Words}
+use Rattle.script.specs.declared.words.Words.TheVariants.{Two, Three, Four, Other}
+use Rattle.script.specs.declared.line.NamedCall.{NamedCall}
+use Rattle.script.specs.declared.line.NamedCall.TheVariants as named
+use Rattle.script.specs.declared.line.Line.{Line}
+use Rattle.script.specs.declared.line.Line.TheVariants as line
+
+-- these are the words, where there are as many as a form can have
+abbrev pub AreWords : List (List ℕ) → Words → Type 0
+AreWords ws (Two a b) = ws ≡ a.now ∷ b.now ∷ []
+AreWords ws (Three a b c) = ws ≡ a.now ∷ b.now ∷ c.now ∷ []
+AreWords ws (Four a b c d) = ws ≡ a.now ∷ b.now ∷ c.now ∷ d.now ∷ []
+AreWords ws Other = (length ws < 2) ⊎ (4 < length ws)
+
+-- a call by names
+abbrev pub call_seen : NamedCall → CallForm
+call_seen (named.TryLock m) = trylock m.now
+call_seen (named.Unlock m) = unlock m.now
+
+-- the form that a line was read to
+abbrev pub form_seen : Line → Form
+form_seen line.Silent = silent
+form_seen (line.Thread a) = thread a.now
+form_seen (line.Mutex a) = mutex a.now
+form_seen (line.Begin a c) = begins a.now (call_seen c)
+form_seen (line.Step a n) = steps a.now n
+form_seen (line.Call a c) = calls a.now (call_seen c)
+
+-- what the lines so far declared and asked for
+abbrev pub scope_of : Draft → Scope
+scope_of d = record {
+  threads = map string_bytes d.threads.keys;
+  mutexes = map string_bytes d.mutexes.keys;
+  commands = d.commands.items;
+}

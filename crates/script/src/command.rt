@@ -1,0 +1,32 @@
+//! What a script asks for.
+
+use lockword::Tid;
+use mutex::Call;
+
+/// What a script is written for, which says which commands it may have.
+#[derive(Clone, Copy, Debug, PartialEq, Eq)]
+pub enum Mode {
+    /// The machine runs it, event by event.
+    Run,
+}
+
+/// What a command asks for. Threads are numbered from 1 and mutexes from 0, in the order of their
+/// declarations.
+#[derive(Clone, Copy, Debug, PartialEq, Eq)]
+pub enum Action {
+    /// One begin event.
+    Begin(Tid, Call),
+    /// As many step events as `count`, from 1 to [`MAX_STEPS`](crate::MAX_STEPS).
+    Step { thread: Tid, count: u32 },
+    /// A begin event, and then step events until the thread rests.
+    Call(Tid, Call),
+}
+
+/// A command of a script.
+#[derive(Clone, Copy, Debug, PartialEq, Eq)]
+pub struct Command {
+    /// The line at which it stands, from 1.
+    pub line: usize,
+    /// What it asks for.
+    pub action: Action,
+}

@@ -1,0 +1,26 @@
+//! Scripts: what a list of bytes asks for, and the first fault of one that asks for nothing.
+#![tactic(auto)]
+
+mod command;
+mod draft;
+mod fault;
+mod laws;
+mod limits;
+mod line;
+mod parsed;
+mod player;
+mod reading;
+mod words;
+
+pub use command::{Action, Command, Mode};
+pub use fault::{Fault, ScriptFault};
+pub use laws::silent_lines_say_nothing;
+pub use limits::{
+    MAX_BYTES, MAX_EVENTS, MAX_LINES, MAX_MUTEXES, MAX_NAME, MAX_STEPS, MAX_THREADS, REST_STEPS,
+};
+pub use parsed::Script;
+pub use player::play;
+pub use reading::parse;
+
+#[cfg(test)]
+mod tests;

@@ -1,0 +1,25 @@
+//! How much a script may have of each thing.
+
+/// The bytes of a script.
+pub const MAX_BYTES: usize = 65_536;
+
+/// The lines of a script, silent ones too.
+pub const MAX_LINES: usize = 10_000;
+
+/// The threads that a script may declare.
+pub const MAX_THREADS: usize = 64;
+
+/// The mutexes that a script may declare.
+pub const MAX_MUTEXES: usize = 1;
+
+/// The characters of a name.
+pub const MAX_NAME: usize = 16;
+
+/// The steps of one `step` line.
+pub const MAX_STEPS: u32 = 100_000;
+
+/// The events of a script that is played.
+pub const MAX_EVENTS: usize = 100_000;
+
+/// The steps after which a thread that was given its steps is looked at no more: each call returns long before.
+pub const REST_STEPS: u32 = 9_000;

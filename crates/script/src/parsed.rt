@@ -1,0 +1,91 @@
+//! A script that was read.
+
+ghost use Rattle.std.specs.Prelude.{◌≡◌, ◌-◌, ◌≤◌, ◌<◌, Some, length, slice_get};
+
+use crate::command::Command;
+use crate::draft::Draft;
+use indexmap::IndexSet;
+use lockword::Tid;
+use std::marker::Model;
+
+/// A script without fault: the names that it declares, each at its number, and its commands.
+/// It has at least one thread and one mutex, and its commands name only what it declares.
+#[derive(Drop)]
+pub struct Script {
+    threads: IndexSet<String>,
+    mutexes: IndexSet<String>,
+    commands: Vec<Command>,
+}
+
+impl Model for Script {
+    ghost use Rattle.script.specs.Scope.{Scope};
+
+    ghost Value = { Scope };
+
+    ghost use Rattle.script.specs.Script.{contents, IsWhole};
+
+    ghost view = { contents };
+
+    ghost invariant = { IsWhole };
+}
+
+impl Script {
+    ghost use Rattle.script.specs.Scope.{IsWellFormed};
+    ghost use Rattle.script.specs.Seen.{scope_of};
+
+    pub(crate) fn of(draft: Draft) -> Script
+        requires { IsWellFormed (scope_of draft) }
+        ensures { result ≡ scope_of draft }
+    {
+        Script {
+            threads: draft.threads,
+            mutexes: draft.mutexes,
+            commands: draft.commands,
+        }
+    }
+
+    /// How many threads it declares, from 1 to [`MAX_THREADS`](crate::MAX_THREADS). They have the
+    /// ids from 1 to this.
+    pub fn threads(&self) -> u8
+        ensures count { result ≡ length self.now.threads }
+        ensures well_formed { IsWellFormed self.now }
+    {
+        self.threads.len() as u8
+    }
+
+    /// How many mutexes it declares, from 1 to [`MAX_MUTEXES`](crate::MAX_MUTEXES). They have the
+    /// numbers below this.
+    pub fn mutexes(&self) -> u16
+        ensures count { result ≡ length self.now.mutexes }
+        ensures well_formed { IsWellFormed self.now }
+    {
+        self.mutexes.len() as u16
+    }
+
+    /// Its commands, in the order of their lines.
+    pub fn commands(&self) -> &[Command]
+        ensures value { result.now ≡ self.now.commands }
+        ensures well_formed { IsWellFormed self.now }
+    {
+        self.commands.as_slice()
+    }
+
+    /// The name of a thread that it declares.
+    pub fn thread_name(&self, thread: Tid) -> &str
+        requires { thread ≤ length self.now.threads }
+        ensures { slice_get self.now.threads (thread - 1) ≡ Some result.now }
+    {
+        self.threads
+            .get_index(usize::from(thread.get()) - 1)
+            .unwrap()
+            .as_str()
+    }
+
+    /// The name of a mutex that it declares.
+    pub fn mutex_name(&self, mutex: u16) -> &str
+        requires { mutex < length self.now.mutexes }
+        ensures { slice_get self.now.mutexes mutex ≡ Some result.now }
+    {
+        self.mutexes.get_index(usize::from(mutex)).unwrap().as_str()
+    }
+}

@@ -1,0 +1,113 @@
+//! Playing a script's commands on the machine.
+ghost use Rattle.std.specs.Prelude.{◌≡◌, ◌≤◌, [], ◌∷◌, ◌++◌, length, replicate, OnOk, IfErr};
+ghost use Rattle.protocol.specs.declared.event.Event.TheVariants.{Step};
+ghost use Rattle.interleave.specs.Shown.{state_of};
+ghost use Rattle.script.specs.Playing.{Adds, events_of, steps_to_rest};
+ghost use Rattle.script.specs.Played.{PlaysTo};
+
+use crate::command::Action;
+use crate::fault::{Fault, ScriptFault};
+use crate::limits::{MAX_EVENTS, REST_STEPS};
+use crate::parsed::Script;
+use interleave::{Machine, Trace};
+use keys::Layout;
+use lockword::Tid;
+use protocol::{Event, Note};
+use std::alloc::Global;
+
+/// Adds a copy to a list.
+fn add<T: Copy>(list: &mut Vec<T>, item: &T) -> Result<(), Fault>
+    ensures ok { OnOk result (list.new.items ≡ list.old.items ++ item.now ∷ []) }
+    ensures err { IfErr result (λ f. f ≡ Fault.OutOfMemory) }
+{
+    list.push(*item)?;
+    Ok(())
+}
+
+/// One event on the machine, noted behind the others.
+fn play_event(machine: &mut Machine, notes: &mut Vec<Note>, event: Event) -> Result<(), Fault>
+    ensures { Adds (state_of machine.old) (state_of machine.new) notes.old.items notes.new.items (event ∷ []) result }
+{
+    if notes.len() >= MAX_EVENTS {
+        return Err(Fault::TooLong);
+    }
+    let note = machine.step(event);
+    add(notes, &note)
+}
+
+/// So many steps of a thread.
+fn play_steps(
+    machine: &mut Machine,
+    notes: &mut Vec<Note>,
+    thread: Tid,
+    count: u32,
+) -> Result<(), Fault>
+    requires { length notes.old.items ≤ MAX_EVENTS }
+    ensures { Adds (state_of machine.old) (state_of machine.new) notes.old.items notes.new.items (replicate count (Step thread)) result }
+{
+    for _done in 0..count {
+        play_event(machine, notes, Event::Step(thread))?;
+    }
+    Ok(())
+}
+
+/// Steps of a thread until it is in no call.
+fn play_to_rest(machine: &mut Machine, notes: &mut Vec<Note>, thread: Tid) -> Result<(), Fault>
+    requires { length notes.old.items ≤ MAX_EVENTS }
+    ensures { Adds (state_of machine.old) (state_of machine.new) notes.old.items notes.new.items (replicate (steps_to_rest REST_STEPS (state_of machine.old) thread) (Step thread)) result }
+{
+    for _done in 0..REST_STEPS {
+        if !machine.busy(thread) {
+            return Ok(());
+        }
+        play_event(machine, notes, Event::Step(thread))?;
+    }
+    Ok(())
+}
+
+/// The events of an action.
+fn play_action(machine: &mut Machine, notes: &mut Vec<Note>, action: Action) -> Result<(), Fault>
+    requires { length notes.old.items ≤ MAX_EVENTS }
+    ensures { Adds (state_of machine.old) (state_of machine.new) notes.old.items notes.new.items (events_of (state_of machine.old) action) result }
+{
+    match action {
+        Action::Begin(thread, call) => play_event(machine, notes, Event::Begin(thread, call)),
+        Action::Step { thread, count } => play_steps(machine, notes, thread, count),
+        Action::Call(thread, call) => {
+            play_event(machine, notes, Event::Begin(thread, call))?;
+            play_to_rest(machine, notes, thread)
+        }
+    }
+}
+
+/// What a script's commands do on a new machine: the trace, and the machine afterwards.
+///
+/// Refused at the line of the first command that would run event 100,001, as [`Fault::TooLong`]; or, where no memory is left, at the line being played,
+/// or at line 1 before the first.
+pub fn play(alloc: Global, script: &Script) -> Result<(Trace, Machine), ScriptFault>
+    ensures { PlaysTo script.now result }
+{
+    let layout = Layout::new(script.threads(), script.mutexes(), &[]).unwrap();
+    let Ok(mut machine) = Machine::new(alloc, layout) else {
+        return Err(ScriptFault {
+            line: 1,
+            fault: Fault::OutOfMemory,
+        });
+    };
+    let mut notes = Vec::new(alloc);
+    for command in script.commands() {
+        if let Err(fault) = play_action(&mut machine, &mut notes, command.action) {
+            return Err(ScriptFault {
+                line: command.line,
+                fault,
+            });
+        }
+    }
+    let trace = Trace {
+        threads: script.threads(),
+        mutexes: script.mutexes(),
+        conditions: 0,
+        notes,
+    };
+    Ok((trace, machine))
+}

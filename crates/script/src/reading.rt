@@ -1,0 +1,81 @@
+//! Reading a script from its first byte to its last.
+
+ghost use Rattle.std.specs.Prelude.{◌≡◌, ◌+◌, ◌≤◌, ◌==◌, length, take, count_by, IfOk};
+ghost use Rattle.script.specs.Outcome.{Gives, Reads};
+ghost use Rattle.script.specs.Reading.{finished, script_read, text_read};
+ghost use Rattle.script.specs.Scope.{IsWellFormed, IsWithinLimits};
+ghost use Rattle.script.specs.Seen.{scope_of};
+
+use crate::command::Mode;
+use crate::draft::Draft;
+use crate::fault::{Fault, ScriptFault};
+use crate::limits::{MAX_BYTES, MAX_LINES};
+use crate::parsed::Script;
+use crate::words::cut;
+use std::alloc::Global;
+
+/// The script, where nothing stands behind its last line feed, and it declares enough.
+fn finish(draft: Draft, number: usize, text: &str) -> Result<Script, Fault>
+    requires { IsWithinLimits (scope_of draft) }
+    ensures { Gives (λ script. script) result (finished number (scope_of draft) text.now) }
+{
+    if !text.is_empty() {
+        return Err(if number > MAX_LINES {
+            Fault::TooLong
+        } else {
+            Fault::UnknownWord
+        });
+    }
+    if draft.threads.is_empty() || draft.mutexes.is_empty() {
+        return Err(Fault::OutOfRange);
+    }
+    Ok(Script::of(draft))
+}
+
+fn read_text(alloc: Global, text: &str, mode: Mode) -> Result<Script, ScriptFault>
+    ensures { Reads result (text_read mode text.now) }
+{
+    let mut draft = Draft::new(alloc);
+    let mut line = 1;
+    let mut rest = text;
+    while let Some((first, after)) = cut(rest, '\n') {
+        if let Err(fault) = draft.read_line(alloc, mode, line, first) {
+            return Err(ScriptFault { line, fault });
+        }
+        line += 1;
+        rest = after;
+    }
+    match finish(draft, line, rest) {
+        Ok(script) => Ok(script),
+        Err(fault) => Err(ScriptFault { line, fault }),
+    }
+}
+
+/// The line of the byte at `len`.
+fn line_at(bytes: &[u8], len: usize) -> usize
+    requires at { len ≤ length bytes.now }
+    requires small { length bytes.now ≤ MAX_BYTES }
+    ensures { result ≡ count_by (λ b. b == 10) (take len bytes.now) + 1 }
+{
+    bytes[..len].iter().filter(|b| **b == b'\n').count() + 1
+}
+
+/// The script that the bytes are, or their first fault. Only want of memory may come in its place.
+pub fn parse(alloc: Global, bytes: &[u8], mode: Mode) -> Result<Script, ScriptFault>
+    ensures reads { Reads result (script_read mode bytes.now) }
+    ensures well_formed { IfOk result IsWellFormed }
+{
+    if bytes.len() > MAX_BYTES {
+        return Err(ScriptFault {
+            line: 1,
+            fault: Fault::TooLong,
+        });
+    }
+    match str::from_utf8(bytes) {
+        Ok(text) => read_text(alloc, text, mode),
+        Err(e) => Err(ScriptFault {
+            line: line_at(bytes, e.valid_up_to()),
+            fault: Fault::NotUtf8,
+        }),
+    }
+}
