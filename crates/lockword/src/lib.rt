@@ -12,3 +12,6 @@ mod tid;
 pub use cell::Cell;
 pub use reply::Reply;
 pub use tid::Tid;
+
+#[cfg(test)]
+mod tests;
