@@ -1,5 +1,5 @@
 -- What the program did with the bytes of its reader.
-use Rattle.std.specs.Prelude.{ℕ, ◌≡◌, ◌⊎◌, List, ◌++◌, length, map, Option, None, MatchResult}
+use Rattle.std.specs.Prelude.{ℕ, ◌≡◌, ◌≤◌, ◌⊎◌, List, ◌++◌, length, map, Option, None, MatchResult}
 use Rattle.std.specs.List.{concat}
 use Rattle.std.specs.Io.KnownBytes.{Appends, Consumes, IsAtEnd}
 use Rattle.protocol.specs.declared.note.Note.{Note}
@@ -39,3 +39,7 @@ Served had left old new = (bytes : List ℕ) × Consumes had left bytes × IsAtE
 -- nothing was written; or a beginning of the meaning of all that the reader had
 abbrev pub ServedFront : Option (List ℕ) → Option (List ℕ) → Option (List ℕ) → Option (List ℕ) → Type 0
 ServedFront had left old new = (new ≡ old) ⊎ ((bytes : List ℕ) × Consumes had left bytes × IsAtEnd left × WrittenFront old new bytes)
+
+-- at most so many bytes were taken from the reader
+abbrev pub TakesAtMost : ℕ → Option (List ℕ) → Option (List ℕ) → Type 0
+TakesAtMost limit had left = (bytes : List ℕ) × Consumes had left bytes × (length bytes ≤ limit)

@@ -2,6 +2,7 @@
 
 ghost use Rattle.std.specs.Prelude.{◌≡◌, ◌≤◌, ◌<◌, length, take, vec_len, IfOk, IsErrOf};
 ghost use Rattle.std.specs.Io.KnownBytes.{Consumes, IsAtEnd};
+ghost use Rattle.report.specs.Served.{TakesAtMost};
 
 use std::alloc::{AllocError, Global};
 use std::io::{self, ErrorKind, Read};
@@ -12,6 +13,7 @@ fn fill<R: Read>(input: &mut R, buf: &mut [u8]) -> io::Result<usize>
     ensures within { IfOk result (λ n. n ≤ length buf.new) }
     ensures taken { IfOk result (λ n. Consumes (R.remaining input.old) (R.remaining input.new) (take n buf.new)) }
     ensures end { IfOk result (λ n. n < length buf.new → IsAtEnd (R.remaining input.new)) }
+    ensures room { TakesAtMost (length buf.old) (R.remaining input.old) (R.remaining input.new) }
 {
     let mut at = 0;
     for _ in 0..u64::MAX {
@@ -54,6 +56,7 @@ pub fn read_below<R: Read>(alloc: Global, input: &mut R, limit: usize) -> Result
     ensures taken { IfOk result (λ v. Consumes (R.remaining input.old) (R.remaining input.new) v.items) }
     ensures end { IfOk result (λ v. vec_len v < limit → IsAtEnd (R.remaining input.new)) }
     ensures memory { IsErrOf result ReadFault.Memory → input.new ≡ input.old }
+    ensures limit { TakesAtMost limit (R.remaining input.old) (R.remaining input.new) }
 {
     let Ok(mut bytes) = zeros(alloc, limit) else {
         return Err(ReadFault::Memory);

@@ -1,8 +1,8 @@
 //! The program, but for opening its file.
-ghost use Rattle.std.specs.Prelude.{◌≡◌, ◌≤◌, ◌⊎◌, ◌↔◌, length};
+ghost use Rattle.std.specs.Prelude.{◌≡◌, ◌≤◌, ◌+◌, ◌⊎◌, ◌↔◌, length};
 ghost use Rattle.report.specs.Leaves.{Leaves};
 ghost use Rattle.report.specs.Text.{trace_text};
-ghost use Rattle.report.specs.Served.{Written, WritesFront, Served, ServedFront};
+ghost use Rattle.report.specs.Served.{Written, WritesFront, Served, ServedFront, TakesAtMost};
 ghost use Rattle.report.specs.declared.form.Form.TheVariants.{Usage};
 
 use crate::form::Form;
@@ -63,7 +63,7 @@ fn run_bytes<W: Write, E: Write>(alloc: Global, bytes: &[u8], out: &mut W, err: 
 
 /// What `rfx` does for a form of its command line, the file being open as `input`. It answers the exit status: 0 where all of the reader was a script and
 /// the text of its trace is written; 1 for a fault, told on `err`; 2 where the command line has no form. Where a fault is met before the output
-/// begins, nothing is written.
+/// begins, nothing is written. It reads at most one byte more than a script may have.
 pub fn serve<R: Read, W: Write, E: Write>(
     alloc: Global,
     form: &Form<'_>,
@@ -75,6 +75,7 @@ pub fn serve<R: Read, W: Write, E: Write>(
     ensures front { ServedFront (R.remaining input.old) (R.remaining input.new) (W.contents out.old) (W.contents out.new) }
     ensures usage { (result ≡ 2) ↔ (form.now ≡ Usage) }
     ensures last { result ≤ 2 }
+    ensures limit { TakesAtMost (MAX_BYTES + 1) (R.remaining input.old) (R.remaining input.new) }
 {
     match form {
         Form::Run(file) => match read_below(alloc, input, MAX_BYTES + 1) {

@@ -1,4 +1,4 @@
-use Rattle.std.proofs.Common.{◌≡◌, ◌≤◌, ℕ, List, length, sym, subst, arith}
+use Rattle.std.proofs.Common.{◌≤◌, length, sym, subst, arith}
 use Rattle.std.specs.Io.KnownBytes.{Consumes, IsAtEnd}
 use Rattle.script.specs.declared.limits.TheConstants.{MAX_BYTES}
 use Rattle.report.proofs.Servings.{served, served_front}
@@ -15,4 +15,5 @@ returns-in-Ok g c =
       front = served_front _ _ _ _ bytes c.run_bytes.result taken end c.run_bytes.ensures.short c.run_bytes.ensures.front;
       usage = (λ two. absurd (omega arith), λ is. absurd (cc (is, c.in-Run.is)));
       last = omega arith;
+      limit = c.read_below.ensures.limit;
     }
