@@ -1,5 +1,5 @@
 -- What a writer holds, text after text.
-use Rattle.std.proofs.Common.{◌≡◌, ℕ, ◌+◌, ◌<◌, min, List, [], ◌∷◌, ◌++◌, length, take, drop, Option, Some, None, Result, Ok, Err, refl, sym, ap, subst, ◌∙◌, append_assoc, append-nil, arith, inl, inr, map, get_or, Bor, IsErr}
+use Rattle.std.proofs.Common.{◌≡◌, ℕ, ◌+◌, ◌<◌, min, List, [], ◌∷◌, ◌++◌, length, take, drop, Option, Some, None, Result, Ok, Err, refl, sym, ap, subst, ◌∙◌, append_assoc, append-nil, arith, inl, inr, map, get_or, IsErr}
 use Rattle.std.specs.Io.KnownBytes.{Appends, Keeps}
 use Rattle.std.specs.List.{concat}
 use Rattle.std.proofs.lemmas.List.Folds.{concat-append}
@@ -67,24 +67,32 @@ ends_at_first a b r bs cs h q = leaves_front a b r (bs ++ cs) h (front_of a b bs
 pub ends_at_second : {X E : Type 0} (a b c : Option (List ℕ)) (r : Result X E) (bs cs ds : List ℕ) → IsErr r → Appends a b bs → AppendsFront b c cs → Leaves a c r (bs ++ (cs ++ ds))
 ends_at_second a b c r bs cs ds h p q = leaves_front a c r (bs ++ (cs ++ ds)) h (front_after a b c bs (cs ++ ds) p (front_of b c cs ds q))
 
--- ---- pieces
+-- ---- texts of many things
 
--- the pieces, joined
-abbrev pub joined : List (Bor (List ℕ)) → List ℕ
-joined ps = concat (map (λ p. p.now) ps)
+-- the text of each of them, joined
+abbrev pub texts : {A : Type 0} → (A → List ℕ) → List A → List ℕ
+texts f xs = concat (map f xs)
 
-joined-append : (xs ys : List (Bor (List ℕ))) → joined (xs ++ ys) ≡ joined xs ++ joined ys
-joined-append xs ys = rw (map-append (λ (p : Bor (List ℕ)). p.now) xs ys) (concat-append (map (λ p. p.now) xs) (map (λ p. p.now) ys))
+texts-append : {A : Type 0} (f : A → List ℕ) (xs ys : List A) → texts f (xs ++ ys) ≡ texts f xs ++ texts f ys
+texts-append f xs ys = rw (map-append f xs ys) (concat-append (map f xs) (map f ys))
 
--- one piece more
-pub one_more : (ps : List (Bor (List ℕ))) (i : ℕ) (d : Bor (List ℕ)) → i < length ps → joined (take (i + 1) ps) ≡ joined (take i ps) ++ (get_or ps i d).now
-one_more ps i d lt = rw (take_more ps i d lt, joined-append (take i ps) (get_or ps i d ∷ []), append-nil (get_or ps i d).now) refl
+-- one thing more
+pub one_more : {A : Type 0} (f : A → List ℕ) (xs : List A) (i : ℕ) (d : A) → i < length xs → texts f (take (i + 1) xs) ≡ texts f (take i xs) ++ f (get_or xs i d)
+one_more f xs i d lt = rw (take_more xs i d lt, texts-append f (take i xs) (get_or xs i d ∷ []), append-nil (f (get_or xs i d))) refl
 
--- the pieces before one, that one, and those after it
-pub as_far : (ps : List (Bor (List ℕ))) (i : ℕ) (d : Bor (List ℕ)) → i < length ps → joined ps ≡ joined (take i ps) ++ ((get_or ps i d).now ++ joined (drop (i + 1) ps))
-as_far ps i d lt =
-    let whole : joined ps ≡ joined (take (i + 1) ps) ++ joined (drop (i + 1) ps) = ap joined (sym (take-append-drop (i + 1) ps)) ∙ joined-append (take (i + 1) ps) (drop (i + 1) ps) in
-    whole ∙ rw (one_more ps i d lt) (append_assoc (joined (take i ps)) (get_or ps i d).now (joined (drop (i + 1) ps)))
+-- the things before one, that one, and those after it
+pub as_far : {A : Type 0} (f : A → List ℕ) (xs : List A) (i : ℕ) (d : A) → i < length xs → texts f xs ≡ texts f (take i xs) ++ (f (get_or xs i d) ++ texts f (drop (i + 1) xs))
+as_far f xs i d lt =
+    let whole : texts f xs ≡ texts f (take (i + 1) xs) ++ texts f (drop (i + 1) xs) = ap (texts f) (sym (take-append-drop (i + 1) xs)) ∙ texts-append f (take (i + 1) xs) (drop (i + 1) xs) in
+    whole ∙ rw (one_more f xs i d lt) (append_assoc (texts f (take i xs)) (f (get_or xs i d)) (texts f (drop (i + 1) xs)))
+
+-- where one of them was written after those before it, so many are written
+pub goes_on : {A : Type 0} (f : A → List ℕ) (xs : List A) (i : ℕ) (d : A) (a b c : Option (List ℕ)) → i < length xs → Appends a b (texts f (take i xs)) → Appends b c (f (get_or xs i d)) → Appends a c (texts f (take (i + 1) xs))
+goes_on f xs i d a b c lt before one = subst (Appends a c) (sym (one_more f xs i d lt)) (Appends-trans a b c _ _ before one)
+
+-- an error in one of them ends all
+pub stops_at : {A X E : Type 0} (f : A → List ℕ) (xs : List A) (i : ℕ) (d : A) (a b c : Option (List ℕ)) (r : Result X E) → i < length xs → IsErr r → Appends a b (texts f (take i xs)) → AppendsFront b c (f (get_or xs i d)) → Leaves a c r (texts f xs)
+stops_at f xs i d a b c r lt err before one = subst (Leaves a c r) (sym (as_far f xs i d lt)) (ends_at_second a b c r _ _ _ err before one)
 
 -- a text that was written stays, whatever came of what was done then, if that kept it
 pub kept_leaves : {X E : Type 0} (a b c : Option (List ℕ)) (r : Result X E) (text : List ℕ) → Appends a b text → Keeps b c → Leaves a c r text

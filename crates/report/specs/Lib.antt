@@ -2,3 +2,4 @@ pub mod Leaves
 pub mod Text
 pub mod Forms
 pub mod Served
+pub mod Replies

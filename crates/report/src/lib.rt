@@ -1,4 +1,4 @@
-//! What the program reads and writes: the text of a trace, the forms of the command line, and its messages.
+//! What the program reads and writes: the texts of traces and of threads' replies, the forms of the command line, and its messages.
 #![tactic(auto)]
 
 mod form;
@@ -6,11 +6,13 @@ mod lines;
 mod messages;
 mod pieces;
 mod reading;
+mod replies;
 mod serving;
 mod text;
 
 pub use form::{Form, form_of_words};
 pub use messages::{CANNOT_READ, CANNOT_WRITE, OUT_OF_MEMORY, USAGE};
+pub use replies::{MutexWord, ThreadReplies, write_replies};
 pub use serving::serve;
 pub use text::write_trace;
 

@@ -8,7 +8,7 @@ use std::io::{self, ErrorKind, Write};
 
 /// Writes the text. A write that was interrupted is tried again. At an error, one of 0 bytes among them, a beginning
 /// of the text is written.
-fn put_text<W: Write>(out: &mut W, text: &[u8]) -> io::Result<()>
+pub fn put_text<W: Write>(out: &mut W, text: &[u8]) -> io::Result<()>
     ensures { Leaves (W.contents out.old) (W.contents out.new) result text.now }
 {
     let mut at = 0;
