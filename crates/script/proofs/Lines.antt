@@ -1,16 +1,18 @@
 -- Reading line after line, as a loop does.
-use Rattle.std.proofs.Common.{◌≡◌, ℕ, ◌+◌, ◌<◌, ◌≤◌, ◌==◌, false, List, [], ◌∷◌, length, Result, Ok, Err, IfErr, refl, sym, subst, ◌∙◌, arith}
+use Rattle.std.proofs.Common.{◌≡◌, ℕ, ◌+◌, ◌<◌, ◌≤◌, ◌==◌, ◌||◌, Bool, true, false, not, nat_lt, if◌then◌else◌, List, [], ◌∷◌, ◌++◌, length, Result, Ok, Err, IfErr, refl, sym, ap, subst, ◌∙◌, append_assoc, length-append, arith}
 use Rattle.std.specs.List.{slice_split}
 use Rattle.std.specs.Str.{is_utf8, IsUtf8}
 use Rattle.std.proofs.lemmas.Str.{IsUtf8-from_is_utf8}
 use Rattle.std.proofs.lemmas.Bool.{false_from_ne_true}
-use Rattle.script.specs.Reading.{◌>>=◌, met_at, fault_at, line_read, finished, lines_read}
-use Rattle.script.specs.Outcome.{Tells, TellsAt}
+use Rattle.script.specs.Forms.{lines_of, is_silent}
+use Rattle.script.specs.Reading.{◌>>=◌, refuse, met_at, fault_at, line_read, finished, lines_read}
+use Rattle.script.specs.Outcome.{Tells, TellsAt, SpeaksAt}
 use Rattle.script.specs.Scope.{Scope}
 use Rattle.script.specs.declared.command.Mode.{Mode}
 use Rattle.script.specs.declared.fault.Fault.{Fault}
 use Rattle.script.specs.declared.fault.Fault.TheVariants.{NotUtf8, UnknownWord, OutOfRange, NoSuchName, TooLong, OutOfMemory}
 use Rattle.script.specs.declared.fault.ScriptFault.{ScriptFault}
+use Rattle.script.specs.declared.limits.TheConstants.{MAX_LINES}
 use Rattle.script.proofs.Cutting.{one_or_more}
 
 -- the lines of a text, and the first of them before the others
@@ -49,23 +51,31 @@ below n (Ok t) h = tt
 below n (Err e) h = omega (arith, h)
 
 -- a line's fault is the whole text's
-met : (n : ℕ) (f : Fault) (r : Result Scope Fault) (then : Scope → Result Scope ScriptFault) → ((t : Scope) → IfErr (then t) (λ e. n + 1 ≤ e.line)) → Tells f r → TellsAt (fault_at n f) f (met_at n r >>= then)
-met n NotUtf8 r then later h = rw h refl
-met n UnknownWord r then later h = rw h refl
-met n OutOfRange r then later h = rw h refl
-met n NoSuchName r then later h = rw h refl
-met n TooLong r then later h = rw h refl
-met n OutOfMemory (Ok t) then later h = below n (then t) (later t)
-met n OutOfMemory (Err e) then later h = absurd cc
+met : (n : ℕ) (f : Fault) (r : Result Scope Fault) (follow : Scope → Result Scope ScriptFault) → ((t : Scope) → IfErr (follow t) (λ e. n + 1 ≤ e.line)) → Tells f r → TellsAt (fault_at n f) f (met_at n r >>= follow)
+met n NotUtf8 r follow later h = rw h refl
+met n UnknownWord r follow later h = rw h refl
+met n OutOfRange r follow later h = rw h refl
+met n NoSuchName r follow later h = rw h refl
+met n TooLong r follow later h = rw h refl
+met n OutOfMemory (Ok t) follow later h = below n (follow t) (later t)
+met n OutOfMemory (Err e) follow later h = absurd cc
 
-met_last : (n : ℕ) (f : Fault) (r : Result Scope Fault) → Tells f r → TellsAt (fault_at n f) f (met_at n r)
-met_last n NotUtf8 r h = rw h refl
-met_last n UnknownWord r h = rw h refl
-met_last n OutOfRange r h = rw h refl
-met_last n NoSuchName r h = rw h refl
-met_last n TooLong r h = rw h refl
-met_last n OutOfMemory (Ok t) h = tt
-met_last n OutOfMemory (Err e) h = absurd cc
+-- the end of a script wants no memory
+pub ends_remembered : (n : ℕ) (s : Scope) (text : List ℕ) → ¬ (finished n s text ≡ Err OutOfMemory)
+ends_remembered n s text = by_cases (not (length text == 0)) (nat_lt MAX_LINES n) (length s.threads == 0 || length s.mutexes == 0) where
+  by_cases : (behind late few : Bool) → ¬ (refuse behind (if late then TooLong else UnknownWord) (refuse few OutOfRange (Ok s)) ≡ Err OutOfMemory)
+  by_cases true true few e = absurd cc
+  by_cases true false few e = absurd cc
+  by_cases false late true e = absurd cc
+  by_cases false late false e = absurd cc
+
+met_last : (n : ℕ) (f : Fault) (r : Result Scope Fault) → ¬ (r ≡ Err OutOfMemory) → r ≡ Err f → TellsAt (fault_at n f) f (met_at n r)
+met_last n NotUtf8 r never h = rw h refl
+met_last n UnknownWord r never h = rw h refl
+met_last n OutOfRange r never h = rw h refl
+met_last n NoSuchName r never h = rw h refl
+met_last n TooLong r never h = rw h refl
+met_last n OutOfMemory r never h = absurd (never h)
 
 -- a line was read: the lines behind it say what all said
 pub goes_on : (k : Mode) (n : ℕ) (s t : Scope) (text rest after : List ℕ) (total : Result Scope ScriptFault) → slice_split (λ b. b == 10) rest ≡ text ∷ slice_split (λ b. b == 10) after → line_read k n s text ≡ Ok t
@@ -89,11 +99,39 @@ ends k n s t rest total parts done so_far =
     sym so_far ∙ one
 
 -- the last line feed was reached, and the end is wrong
-pub ends_ill : (k : Mode) (n : ℕ) (s : Scope) (f : Fault) (rest : List ℕ) (total : Result Scope ScriptFault) → slice_split (λ b. b == 10) rest ≡ rest ∷ [] → Tells f (finished n s rest) → lines_read k n s (slice_split (λ b. b == 10) rest) ≡ total → TellsAt (fault_at n f) f total
+pub ends_ill : (k : Mode) (n : ℕ) (s : Scope) (f : Fault) (rest : List ℕ) (total : Result Scope ScriptFault) → slice_split (λ b. b == 10) rest ≡ rest ∷ [] → finished n s rest ≡ Err f → lines_read k n s (slice_split (λ b. b == 10) rest) ≡ total → TellsAt (fault_at n f) f total
 unfolding lines_read
 ends_ill k n s f rest total parts told so_far =
     let one : lines_read k n s (split rest) ≡ met_at n (finished n s rest) = rw parts refl in
-    subst (λ (r : Result Scope ScriptFault). TellsAt (fault_at n f) f r) (sym one ∙ so_far) (met_last n f (finished n s rest) told)
+    subst (λ (r : Result Scope ScriptFault). TellsAt (fault_at n f) f r) (sym one ∙ so_far) (met_last n f (finished n s rest) (ends_remembered n s rest) told)
+
+-- ---- where memory was wanted
+
+-- the lines of the rest are those of the text from line n on
+pub record IsBehind (text rest : List ℕ) (n : ℕ) : Type 0 where
+  pub before : List (List ℕ)
+  pub stands : lines_of text ≡ before ++ lines_of rest
+  pub here : n ≡ length before + 1
+
+pub behind_all : (text : List ℕ) → IsBehind text text 1
+behind_all text = record { before = []; stands = refl; here = refl }
+
+pub behind_next : (text rest line after : List ℕ) (n : ℕ) → IsBehind text rest n → lines_of rest ≡ line ∷ lines_of after → IsBehind text after (n + 1)
+behind_next text rest line after n h parts = let here = h.here in record {
+  before = h.before ++ line ∷ [];
+  stands = h.stands ∙ ap (λ (ls : List (List ℕ)). h.before ++ ls) parts ∙ sym (append_assoc h.before (line ∷ []) (lines_of after));
+  here = omega (arith, length-append h.before (line ∷ []));
+}
+
+pub speaks : (text rest line after : List ℕ) (n : ℕ) → IsBehind text rest n → lines_of rest ≡ line ∷ lines_of after → is_silent line ≡ false → SpeaksAt text n
+speaks text rest line after n h parts says = record {
+  before = h.before;
+  text = line;
+  after = lines_of after;
+  stands = h.stands ∙ ap (λ (ls : List (List ℕ)). h.before ++ ls) parts;
+  here = h.here;
+  says = says;
+}
 
 -- what is not UTF-8 fails the test for it
 pub not_text : (bytes : List ℕ) → ¬ (IsUtf8 bytes) → is_utf8 bytes ≡ false

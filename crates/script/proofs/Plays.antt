@@ -1,9 +1,9 @@
 -- Events played one after the other.
-use Rattle.std.proofs.Common.{◌≡◌, ◌≢◌, ℕ, zero, suc, ◌+◌, ◌-◌, ◌<◌, ◌≤◌, Bool, true, false, List, [], ◌∷◌, ◌++◌, length, drop, Option, Some, None, Result, Ok, Err, refl, sym, ap, ◌∙◌, subst, arith, append_assoc, append-nil, length-append, add-one, get_or}
+use Rattle.std.proofs.Common.{◌≡◌, ℕ, zero, suc, ◌+◌, ◌-◌, ◌<◌, ◌≤◌, Bool, true, false, List, [], ◌∷◌, ◌++◌, length, take, drop, Some, None, Result, Ok, Err, refl, sym, ap, ◌∙◌, subst, arith, append_assoc, append-nil, length-append, length-drop, add-one, get_or, inr}
 use Rattle.std.specs.Prelude.{replicate, nat_lt, if◌then◌else◌}
 use Rattle.std.proofs.lemmas.Bool.Decides.{nat_tests}
-use Rattle.std.proofs.Math.Seq.{drop-cons}
-use Rattle.std.proofs.lemmas.List.{replicate_more, replicate-append-replicate}
+use Rattle.std.proofs.Math.Seq.{drop-cons, take-suc}
+use Rattle.std.proofs.lemmas.List.{replicate_more, replicate-append-replicate, take-append-drop, get_or-drop}
 use Rattle.protocol.specs.declared.event.Event.{Event}
 use Rattle.protocol.specs.declared.event.Event.TheVariants as event
 use Rattle.protocol.specs.declared.note.Note.{Note}
@@ -14,7 +14,7 @@ use Rattle.script.specs.declared.fault.Fault.TheVariants.{NotUtf8, UnknownWord, 
 use Rattle.script.specs.declared.limits.TheConstants.{MAX_EVENTS, REST_STEPS}
 use Rattle.script.specs.Scope.{Scope}
 use Rattle.script.specs.Playing.{Adds, steps_to_rest, first_state, events_of, events_from, overlong_from}
-use Rattle.script.specs.Played.{Refuses}
+use Rattle.script.specs.Played.{RunsAt, Refuses}
 
 run-append : (s : State) (xs ys : List Event) → run s (xs ++ ys) ≡ run (run s xs) ys
 run-append s [] ys = refl
@@ -36,7 +36,7 @@ then_adds s s' s'' ns ns' ns'' es es' (Ok u) a b = (
   (let len : length ns' ≡ length ns + length es = ap length a.1 ∙ length-append ns (notes s es) ∙ ap (λ (k : ℕ). length ns + k) (length-notes s es) in let fits = b.2 in omega (arith, length-append es es')),
 )
 then_adds s s' s'' ns ns' ns'' es es' (Err TooLong) a b = let len : length ns' ≡ length ns + length es = ap length a.1 ∙ length-append ns (notes s es) ∙ ap (λ (k : ℕ). length ns + k) (length-notes s es) in omega (arith, length-append es es')
-then_adds s s' s'' ns ns' ns'' es es' (Err OutOfMemory) a b = tt
+then_adds s s' s'' ns ns' ns'' es es' (Err OutOfMemory) a b = let len : length ns' ≡ length ns + length es = ap length a.1 ∙ length-append ns (notes s es) ∙ ap (λ (k : ℕ). length ns + k) (length-notes s es) in let some = b.0 in let room = b.1 in (omega (arith, length-append es es'), omega arith)
 then_adds s s' s'' ns ns' ns'' es es' (Err NotUtf8) a b = absurd b
 then_adds s s' s'' ns ns' ns'' es es' (Err UnknownWord) a b = absurd b
 then_adds s s' s'' ns ns' ns'' es es' (Err OutOfRange) a b = absurd b
@@ -45,7 +45,7 @@ then_adds s s' s'' ns ns' ns'' es es' (Err NoSuchName) a b = absurd b
 -- events that fail fail with more behind them
 pub adds_fewer : (s s' s'' : State) (ns ns' ns'' : List Note) (es es' : List Event) (f : Fault) → Adds s s' ns ns' es (Err f) → Adds s s'' ns ns'' (es ++ es') (Err f)
 adds_fewer s s' s'' ns ns' ns'' es es' TooLong a = omega (arith, length-append es es')
-adds_fewer s s' s'' ns ns' ns'' es es' OutOfMemory a = tt
+adds_fewer s s' s'' ns ns' ns'' es es' OutOfMemory a = let some = a.0 in (omega (arith, length-append es es'), a.1)
 adds_fewer s s' s'' ns ns' ns'' es es' NotUtf8 a = absurd a
 adds_fewer s s' s'' ns ns' ns'' es es' UnknownWord a = absurd a
 adds_fewer s s' s'' ns ns' ns'' es es' OutOfRange a = absurd a
@@ -126,21 +126,43 @@ begins_way s ns t fits = record { so_far = (refl, sym (append-nil ns), omega ari
 
 -- ---- commands
 
+events-append : (s : State) (cs ds : List Command) → events_from s (cs ++ ds) ≡ events_from s cs ++ events_from (run s (events_from s cs)) ds
+events-append s [] ds = refl
+events-append s (c ∷ cs) ds =
+    let es = events_of s c.action in
+    ap (λ (l : List Event). es ++ l) (events-append (run s es) cs ds) ∙ sym (append_assoc es (events_from (run s es) cs) (events_from (run (run s es) (events_from (run s es) cs)) ds))
+    ∙ ap (λ (z : State). (es ++ events_from (run s es) cs) ++ events_from z ds) (sym (run-append s es (events_from (run s es) cs)))
+
+one_more : (cs : List Command) (k : ℕ) (c : Command) → drop k cs ≡ c ∷ drop (k + 1) cs → take (k + 1) cs ≡ take k cs ++ c ∷ []
+one_more cs k c split = rw add-one (take-suc cs k c (shorter cs k c split) ∙ ap (λ (x : Command). take k cs ++ x ∷ []) (here cs k c split)) where
+  shorter : (cs : List Command) (k : ℕ) (c : Command) → drop k cs ≡ c ∷ drop (k + 1) cs → k < length cs
+  shorter cs k c split = let left = ap length split in omega (arith, length-drop k cs)
+
+  here : (cs : List Command) (k : ℕ) (c : Command) → drop k cs ≡ c ∷ drop (k + 1) cs → get_or cs k c ≡ c
+  here cs k c split = let place : k + 0 ≡ k = omega arith in ap (λ (j : ℕ). get_or cs j c) (sym place) ∙ sym (get_or-drop k cs 0 c) ∙ ap (λ (l : List Command). get_or l 0 c) split
+
 -- where the loop over the commands is after k of them
 pub record IsAmid (s : State) (cs : List Command) (now : State) (ns : List Note) (k : ℕ) : Type 0 where
   pub events : List Event
   pub so_far : Adds s now [] ns events (Ok tt)
+  pub before : events_from s (take k cs) ≡ events
   pub rest : events_from s cs ≡ events ++ events_from now (drop k cs)
   pub too_long : overlong_from 0 s cs ≡ overlong_from (length events) now (drop k cs)
 
 pub amid_first : (s : State) (cs : List Command) → IsAmid s cs s [] 0
-amid_first s cs = record { events = []; so_far = (refl, refl, omega arith); rest = refl; too_long = refl }
+amid_first s cs = record { events = []; so_far = (refl, refl, omega arith); before = refl; rest = refl; too_long = refl }
 
 over-false : (n : ℕ) → n ≤ MAX_EVENTS → nat_lt MAX_EVENTS n ≡ false
 over-false n h = grind (arith, nat_tests)
 
 over-true : (n : ℕ) → MAX_EVENTS < n → nat_lt MAX_EVENTS n ≡ true
 over-true n h = grind (arith, nat_tests)
+
+before_next : (s : State) (cs : List Command) (now : State) (ns : List Note) (k : ℕ) (c : Command) → (h : IsAmid s cs now ns k) → drop k cs ≡ c ∷ drop (k + 1) cs → events_from s (take (k + 1) cs) ≡ h.events ++ events_of now c.action
+before_next s cs now ns k c h split =
+    ap (events_from s) (one_more cs k c split) ∙ events-append s (take k cs) (c ∷ [])
+    ∙ (λ i. h.before i ++ events_from (run s (h.before i)) (c ∷ []))
+    ∙ ap (λ (z : State). h.events ++ events_from z (c ∷ [])) (sym h.so_far.0) ∙ ap (λ (l : List Event). h.events ++ l) (append-nil (events_of now c.action))
 
 pub amid_next : (s : State) (cs : List Command) (now now' : State) (ns ns' : List Note) (k : ℕ) (c : Command) → IsAmid s cs now ns k → drop k cs ≡ c ∷ drop (k + 1) cs → Adds now now' ns ns' (events_of now c.action) (Ok tt) → IsAmid s cs now' ns' (k + 1)
 amid_next s cs now now' ns ns' k c h split a =
@@ -151,6 +173,7 @@ amid_next s cs now now' ns ns' k c h split a =
     record {
       events = h.events ++ es;
       so_far = then_adds s now now' [] ns ns' h.events es (Ok tt) h.so_far a;
+      before = before_next s cs now ns k c h split;
       rest = h.rest ∙ ap (λ (l : List Command). h.events ++ events_from now l) split ∙ sym (append_assoc h.events es (events_from (run now es) (drop (k + 1) cs))) ∙ ap (λ (z : State). (h.events ++ es) ++ events_from z (drop (k + 1) cs)) (sym a.0);
       too_long =
           h.too_long ∙ ap (overlong_from (length h.events) now) split
@@ -169,10 +192,27 @@ amid_last s cs now ns k h none =
     let all : events_from s cs ≡ h.events = h.rest ∙ ap (λ (l : List Command). h.events ++ events_from now l) none ∙ append-nil h.events in
     (h.too_long ∙ ap (overlong_from (length h.events) now) none, h.so_far.1 ∙ ap (notes s) (sym all), h.so_far.0 ∙ ap (run s) (sym all))
 
+-- a command that found no memory runs an event that may run
+unremembered : (s : Scope) (now now' : State) (ns ns' : List Note) (k : ℕ) (c : Command) → IsAmid (first_state s) s.commands now ns k → drop k s.commands ≡ c ∷ drop (k + 1) s.commands → Adds now now' ns ns' (events_of now c.action) (Err OutOfMemory) → RunsAt s c.line
+unremembered s now now' ns ns' k c h split a =
+    let len : length ns ≡ length h.events = ap length h.so_far.1 ∙ length-notes (first_state s) h.events in
+    let before : length (events_from (first_state s) (take k s.commands)) ≡ length h.events = ap length h.before in
+    let state : now ≡ run (first_state s) (events_from (first_state s) (take k s.commands)) = h.so_far.0 ∙ ap (run (first_state s)) (sym h.before) in
+    let room = a.1 in
+    record {
+      before = take k s.commands;
+      command = c;
+      after = drop (k + 1) s.commands;
+      stands = sym (take-append-drop k s.commands) ∙ ap (λ (l : List Command). take k s.commands ++ l) split;
+      here = refl;
+      some = subst (λ (z : State). 0 < length (events_of z c.action)) state a.0;
+      room = omega arith;
+    }
+
 -- the fault of a command is the script's
 pub refuses : (s : Scope) (now now' : State) (ns ns' : List Note) (k : ℕ) (c : Command) (f : Fault) → IsAmid (first_state s) s.commands now ns k → drop k s.commands ≡ c ∷ drop (k + 1) s.commands → Adds now now' ns ns' (events_of now c.action) (Err f) → Refuses s c.line f
 refuses s now now' ns ns' k c TooLong h split a = amid_fails (first_state s) s.commands now now' ns ns' k c h split a
-refuses s now now' ns ns' k c OutOfMemory h split a = tt
+refuses s now now' ns ns' k c OutOfMemory h split a = inr (unremembered s now now' ns ns' k c h split a)
 refuses s now now' ns ns' k c NotUtf8 h split a = absurd a
 refuses s now now' ns ns' k c UnknownWord h split a = absurd a
 refuses s now now' ns ns' k c OutOfRange h split a = absurd a

@@ -1,5 +1,6 @@
 -- What a call gave of what the definitions say: the same, unless memory ran out.
-use Rattle.std.specs.Prelude.{◌≡◌, ◌<◌, Result, Ok, Err, IsOk, IfErr}
+use Rattle.std.specs.Prelude.{ℕ, ◌≡◌, ◌+◌, ◌<◌, false, List, ◌∷◌, ◌++◌, length, Result, Ok, Err, IsOk, IfErr}
+use Rattle.script.specs.Forms.{lines_of, is_silent}
 use Rattle.script.specs.declared.fault.Fault.{Fault}
 use Rattle.script.specs.declared.fault.Fault.TheVariants.{OutOfMemory}
 use Rattle.script.specs.declared.fault.ScriptFault.{ScriptFault}
@@ -23,3 +24,12 @@ Gives view (Err f) said = Tells f said
 abbrev pub Reads : {A : Type 0} → Result A ScriptFault → Result A ScriptFault → Type 0
 Reads (Ok x) said = said ≡ Ok x
 Reads (Err e) said = TellsAt e e.fault said
+
+-- line n is one of these bytes, and it says something: it is no empty line and no comment
+pub record SpeaksAt (bytes : List ℕ) (n : ℕ) : Type 0 where
+  pub before : List (List ℕ)
+  pub text : List ℕ
+  pub after : List (List ℕ)
+  pub stands : lines_of bytes ≡ before ++ text ∷ after
+  pub here : n ≡ length before + 1
+  pub says : is_silent text ≡ false

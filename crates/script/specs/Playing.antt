@@ -1,5 +1,5 @@
 -- The events that a script stands for, and what it means to play them.
-use Rattle.std.specs.Prelude.{ℕ, zero, suc, ◌≡◌, ◌+◌, ◌<◌, ◌≤◌, ◌⊎◌, Bool, nat_lt, List, [], ◌∷◌, ◌++◌, length, replicate, Option, Some, None, Result, Ok, Err, if◌then◌else◌}
+use Rattle.std.specs.Prelude.{ℕ, zero, suc, ◌≡◌, ◌+◌, ◌<◌, ◌≤◌, nat_lt, List, [], ◌∷◌, ◌++◌, length, replicate, Option, Some, None, Result, Ok, Err, if◌then◌else◌}
 use Rattle.keys.specs.Layouts.{Layout'}
 use Rattle.protocol.specs.declared.event.Event.{Event}
 use Rattle.protocol.specs.declared.event.Event.TheVariants as event
@@ -47,9 +47,9 @@ overlong_from n s (c ∷ cs) = if nat_lt MAX_EVENTS (n + length (events_of s c.a
 abbrev pub overlong : Scope → Option ℕ
 overlong s = overlong_from 0 (first_state s) s.commands
 
--- these events ran and were noted; or there are too many of them, or memory ran out
+-- these events ran and were noted; or there are too many of them; or one of them, of those that may run, found no memory
 abbrev pub Adds : State → State → List Note → List Note → List Event → Result (Unit {0}) Fault → Type 0
 Adds s s' ns ns' es (Ok u) = (s' ≡ run s es) × (ns' ≡ ns ++ notes s es) × (length ns + length es ≤ MAX_EVENTS)
 Adds s s' ns ns' es (Err TooLong) = MAX_EVENTS < length ns + length es
-Adds s s' ns ns' es (Err OutOfMemory) = Unit {0}
+Adds s s' ns ns' es (Err OutOfMemory) = (0 < length es) × (length ns < MAX_EVENTS)
 Adds s s' ns ns' es (Err f) = ⊥

@@ -1,6 +1,6 @@
 -- Values of the code as the definitions see them.
 use Rattle.std.specs.Prelude.{ℕ, ◌≡◌, ◌<◌, ◌⊎◌, List, [], ◌∷◌, length, map, string_bytes}
-use Rattle.script.specs.Forms.{CallForm, trylock, unlock, Form, silent, thread, mutex, begins, steps, calls}
+use Rattle.script.specs.Forms.{CallForm, trylock, unlock, Form, thread, mutex, begins, steps, calls}
 use Rattle.script.specs.Scope.{Scope}
 use Rattle.script.specs.declared.draft.Draft.{Draft}
 use Rattle.script.specs.declared.words.Words.{Words}
@@ -22,9 +22,8 @@ abbrev pub call_seen : NamedCall → CallForm
 call_seen (named.TryLock m) = trylock m.now
 call_seen (named.Unlock m) = unlock m.now
 
--- the form that a line was read to
+-- the form that a line that isn't silent was read to
 abbrev pub form_seen : Line → Form
-form_seen line.Silent = silent
 form_seen (line.Thread a) = thread a.now
 form_seen (line.Mutex a) = mutex a.now
 form_seen (line.Begin a c) = begins a.now (call_seen c)

@@ -1,6 +1,7 @@
 //! What the lines of a script say, one after another.
 
-ghost use Rattle.std.specs.Prelude.{◌≡◌, ◌^◌, ◌<◌, ◌≤◌, length, map, OnOk, IfOk, string_bytes};
+ghost use Rattle.std.specs.Prelude.{◌≡◌, ◌^◌, ◌<◌, ◌≤◌, false, length, map, OnOk, IfOk, IfErr, string_bytes};
+ghost use Rattle.script.specs.Forms.{is_silent};
 ghost use Rattle.script.specs.Outcome.{Gives};
 ghost use Rattle.script.specs.Reading.{added, call_of, declares, enter, line_read, nothing, place_of, thread_of};
 ghost use Rattle.script.specs.Scope.{IsWithinLimits};
@@ -8,7 +9,7 @@ ghost use Rattle.script.specs.Scope.{IsWithinLimits};
 use crate::command::{Action, Command, Mode};
 use crate::fault::Fault;
 use crate::limits::{MAX_LINES, MAX_MUTEXES, MAX_THREADS};
-use crate::line::{Line, NamedCall, line_of};
+use crate::line::{Line, NamedCall, is_silent_line, line_of};
 use indexmap::IndexSet;
 use lockword::Tid;
 use mutex::Call;
@@ -97,7 +98,6 @@ impl Draft {
             (enter number (scope_of self.old) (form_seen line.entry)) }
     {
         let action = match line {
-            Line::Silent => return Ok(()),
             Line::Thread(word) => {
                 self.declares()?;
                 return declare(alloc, &mut self.threads, MAX_THREADS, word);
@@ -135,9 +135,13 @@ impl Draft {
         ensures gives { Gives (λ _. scope_of self.new) result
             (line_read mode number (scope_of self.old) text.now) }
         ensures few { OnOk result (number ≤ MAX_LINES) }
+        ensures memory { IfErr result (λ f. f ≡ Fault.OutOfMemory → is_silent text.now ≡ false) }
     {
         if number > MAX_LINES {
             return Err(Fault::TooLong);
+        }
+        if is_silent_line(text) {
+            return Ok(());
         }
         let line = line_of(text, mode).ok_or(Fault::UnknownWord)?;
         self.enter(alloc, number, line)

@@ -1,6 +1,6 @@
 //! The kinds of line of a script.
 
-ghost use Rattle.std.specs.Prelude.{◌≡◌, true, option_map};
+ghost use Rattle.std.specs.Prelude.{◌≡◌, true, false, option_map};
 ghost use Rattle.std.specs.Str.Parse.{digits_value};
 ghost use Rattle.script.specs.Forms.{call_form, calling_form, command_form, declaration_form, form_of, is_number, is_silent, step_form, within};
 ghost use Rattle.script.specs.Seen.{call_seen, form_seen};
@@ -16,11 +16,9 @@ pub enum NamedCall<'a> {
     Unlock(&'a str),
 }
 
-/// What a line says, by names.
+/// What a line that isn't silent says, by names.
 #[derive(Clone, Copy)]
 pub enum Line<'a> {
-    /// An empty line or a comment.
-    Silent,
     Thread(&'a str),
     Mutex(&'a str),
     Begin(&'a str, NamedCall<'a>),
@@ -29,7 +27,8 @@ pub enum Line<'a> {
     Call(&'a str, NamedCall<'a>),
 }
 
-fn is_silent_line(text: &str) -> bool
+/// Whether the line is empty or a comment.
+pub fn is_silent_line(text: &str) -> bool
     ensures { result ≡ is_silent text.now }
 {
     match text.as_bytes() {
@@ -98,13 +97,11 @@ fn calling<'a>(keyword: &'a str, thread: &'a str, call: NamedCall<'a>) -> Option
     }
 }
 
-/// What a line says, and None where it is no line of a script of this mode.
+/// What a line says that isn't silent, and None where it is no line of a script of this mode.
 pub fn line_of(text: &str, mode: Mode) -> Option<Line<'_>>
+    requires { is_silent text.now ≡ false }
     ensures { option_map form_seen result ≡ form_of mode text.now }
 {
-    if is_silent_line(text) {
-        return Some(Line::Silent);
-    }
     match (mode, words_in(text)) {
         (_, Words::Two(keyword, name)) => declaration(keyword, name),
         (Mode::Run, Words::Three(keyword, thread, number)) => step(keyword, thread, number),

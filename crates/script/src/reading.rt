@@ -1,7 +1,7 @@
 //! Reading a script from its first byte to its last.
 
-ghost use Rattle.std.specs.Prelude.{◌≡◌, ◌+◌, ◌≤◌, ◌==◌, length, take, count_by, IfOk};
-ghost use Rattle.script.specs.Outcome.{Gives, Reads};
+ghost use Rattle.std.specs.Prelude.{◌≡◌, ◌+◌, ◌≤◌, ◌==◌, length, take, count_by, IfOk, IfErr};
+ghost use Rattle.script.specs.Outcome.{Reads, SpeaksAt};
 ghost use Rattle.script.specs.Reading.{finished, script_read, text_read};
 ghost use Rattle.script.specs.Scope.{IsWellFormed, IsWithinLimits};
 ghost use Rattle.script.specs.Seen.{scope_of};
@@ -17,7 +17,7 @@ use std::alloc::Global;
 /// The script, where nothing stands behind its last line feed, and it declares enough.
 fn finish(draft: Draft, number: usize, text: &str) -> Result<Script, Fault>
     requires { IsWithinLimits (scope_of draft) }
-    ensures { Gives (λ script. script) result (finished number (scope_of draft) text.now) }
+    ensures { result ≡ finished number (scope_of draft) text.now }
 {
     if !text.is_empty() {
         return Err(if number > MAX_LINES {
@@ -33,7 +33,8 @@ fn finish(draft: Draft, number: usize, text: &str) -> Result<Script, Fault>
 }
 
 fn read_text(alloc: Global, text: &str, mode: Mode) -> Result<Script, ScriptFault>
-    ensures { Reads result (text_read mode text.now) }
+    ensures reads { Reads result (text_read mode text.now) }
+    ensures memory { IfErr result (λ e. e.fault ≡ Fault.OutOfMemory → SpeaksAt text.now e.line) }
 {
     let mut draft = Draft::new(alloc);
     let mut line = 1;
@@ -60,10 +61,12 @@ fn line_at(bytes: &[u8], len: usize) -> usize
     bytes[..len].iter().filter(|b| **b == b'\n').count() + 1
 }
 
-/// The script that the bytes are, or their first fault. Only want of memory may come in its place.
+/// The script that the bytes are, or their first fault. Only want of memory may come in its place, at a line before it that
+/// says something.
 pub fn parse(alloc: Global, bytes: &[u8], mode: Mode) -> Result<Script, ScriptFault>
     ensures reads { Reads result (script_read mode bytes.now) }
     ensures well_formed { IfOk result IsWellFormed }
+    ensures memory { IfErr result (λ e. e.fault ≡ Fault.OutOfMemory → SpeaksAt bytes.now e.line) }
 {
     if bytes.len() > MAX_BYTES {
         return Err(ScriptFault {

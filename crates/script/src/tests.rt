@@ -79,6 +79,9 @@ fn declarations(rt: HostRuntime) {
         ("thread a\nmutex m\n# end", Some((2, 3))),
         ("thread a\nmutex m\nmutex n", Some((2, 3))),
         ("thread a\nmutex m\nstep b 1", Some((2, 3))),
+        ("thread a\nmutex m\ncall a lo", Some((2, 3))),
+        ("thread a\nmutex m\nstep b 1\nstep a 0\n", Some((4, 3))),
+        ("thread a\nthread a\n", Some((4, 2))),
     ];
     for (text, want) in cases {
         assert_eq!(rt; refusal(rt.alloc(), text.as_bytes()), want, "{text}");
@@ -210,9 +213,10 @@ fn many_threads(rt: HostRuntime) -> Result<(), Fail> {
     Ok(())
 }
 
-/// Where a script is cut, it ends without line feed, or with too few declarations, or well.
+/// Where a script is cut, it ends without line feed, or with too few declarations, or well. A call that runs alone has three
+/// events: its begin and two accesses.
 #[test]
-fn cut(rt: HostRuntime) {
+fn cut(rt: HostRuntime) -> Result<(), Fail> {
     let text = b"thread a\nmutex m\ncall a trylock m\ncall a unlock m\n".as_slice();
     let cases = [
         (0..1, Some((3, 1))),
@@ -233,6 +237,13 @@ fn cut(rt: HostRuntime) {
         }
     }
     assert_eq!(rt; text.len(), 50);
+    for (length, events) in [(17, 0), (34, 3), (50, 6)] {
+        let start = text.get(..length).ok_or("a length")?;
+        let script = parse(rt.alloc(), start, Mode::Run)?;
+        let (trace, _machine) = play(rt.alloc(), &script)?;
+        assert_eq!(rt; trace.notes.len(), events);
+    }
+    Ok(())
 }
 
 #[test]
@@ -362,4 +373,20 @@ fn too_many_events(rt: HostRuntime) -> Result<(), Fail> {
         assert_eq!(rt; playing(rt.alloc(), text.as_str())?, want, "{commands}");
     }
     Ok(())
+}
+
+/// Passes too where any one allocation fails: memory for the machine is wanted at line 1, and for notes at a command.
+#[test]
+fn memory_in_play(rt: HostRuntime) {
+    let text = "thread a\nmutex m\n# played\ncall a trylock m\nstep a 40\n";
+    let told = match playing(rt.alloc(), text) {
+        Ok(Ok(events)) => {
+            assert_eq!(rt; events, 43);
+            return;
+        }
+        Ok(Err(told)) => told,
+        Err(refused) => (refused.fault.number(), refused.line),
+    };
+    assert_eq!(rt; told.0, 6);
+    assert!(rt; [1, 2, 4, 5].contains(&told.1));
 }

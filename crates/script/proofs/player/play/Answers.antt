@@ -1,7 +1,5 @@
-use Rattle.std.proofs.Common.{◌≡◌, ◌∙◌, refl, sym, ap, subst, arith, length, drop, [], ◌∷◌, ◌+◌, List, ℕ, Result, Ok}
+use Rattle.std.proofs.Common.{◌≡◌, ◌∙◌, refl, sym, ap, subst, arith, drop, [], ◌∷◌, ◌+◌, List, Ok}
 use Rattle.std.proofs.lemmas.List.{drop_all}
-use Rattle.keys.specs.declared.layout.Layout.{Layout}
-use Rattle.keys.specs.declared.layout.LayoutFault.{LayoutFault}
 use Rattle.keys.specs.Layouts.{Layout'}
 use Rattle.keys.specs.Refusals.{Lays}
 use Rattle.protocol.specs.declared.note.Note.{Note}

@@ -10,7 +10,7 @@ pub returns-in-Ok-clause-reads : goal.returns-in-Ok-clause-reads
 returns-in-Ok-clause-reads c =
     let small : nat_lt MAX_BYTES (length c.args.bytes.now) ≡ false = le-ltb _ _ (omega arith) in
     let text : is_utf8 c.args.bytes.now ≡ true = is_utf8-from_IsUtf8 c.args.bytes.now c.in-Ok.ensures.cases.1 in
-    rw (small, text, ← c.in-Ok.ensures.cases.0) c.read_text.ensures
+    rw (small, text, ← c.in-Ok.ensures.cases.0) c.read_text.ensures.reads
 
 pub returns-in-Err-clause-reads : goal.returns-in-Err-clause-reads
 returns-in-Err-clause-reads c =

@@ -6,6 +6,7 @@ use Rattle.script.specs.Reading.{lines_read, text_read}
 use Rattle.script.specs.Scope.{IsWithinLimits}
 use Rattle.script.specs.Seen.{scope_of}
 use Rattle.script.specs.declared.limits.TheConstants.{MAX_LINES}
+use Rattle.script.proofs.Lines.{IsBehind}
 use Rattle.script.proofs.reading.read_text.Given as goal
 
 abbrev pub invariant-loop-first : goal.invariant-loop-first
@@ -13,6 +14,7 @@ invariant-loop-first l = record {
   is_text : shadow (Utf8 l.rest);
   few_lines : l.line ≤ MAX_LINES + 1;
   within : IsWithinLimits (scope_of l.draft);
+  earlier : IsBehind l.text l.rest l.line;
   so_far : lines_read l.mode l.line (scope_of l.draft) (lines_of l.rest) ≡ text_read l.mode l.text;
 }
 
