@@ -4,6 +4,7 @@ ghost use Rattle.std.specs.List.{range_with_len};
 ghost use Rattle.keys.specs.Layouts.{IsLayout, counter_place, words_of};
 ghost use Rattle.protocol.specs.Machine.{start, first_word, idle, happens, put, run, notes, is_valid, is_busy, is_asleep};
 ghost use Rattle.protocol.specs.Headline.{seen};
+ghost use Rattle.protocol.specs.Explained.{IsExplained};
 ghost use Rattle.interleave.specs.Notes.{is_nothing};
 
 use crate::threads::{apply, is_idle};
@@ -139,12 +140,14 @@ impl Machine {
     /// What the events do, one after the other, and a note of each. Where memory is refused, nothing has happened.
     ///
     /// Of a machine to which nothing has happened, the notes tell a legal history: after each event, the points so far take every mutex, as POSIX sees
-    /// it, from free to what its cell says of its owner, OWNER_DIED and UNUSABLE.
+    /// it, from free to what its cell says of its owner, OWNER_DIED and UNUSABLE. And they explain what each thread was told: a call that returned had one point, whose reply it
+    /// returned, between its begin and its return, at events of its own thread; one that hasn't returned had one at most; and no point belongs to any other call.
     pub fn run(&mut self, alloc: Global, events: &[Event]) -> Result<Trace, NoMem>
         ensures state { OnOk result (state_of self.new ≡ run (state_of self.old) events.now) }
         ensures notes { IfOk result (λ t. t.notes.items ≡ notes (state_of self.old) events.now) }
         ensures numbers { IfOk result (λ t. IsOf self.old.layout t) }
         ensures history { IfOk result (λ t. self.old.fresh ≡ true → AtEachMoment (state_of self.old) events.now t.notes.items) }
+        ensures explained { IfOk result (λ t. self.old.fresh ≡ true → IsExplained events.now t.notes.items) }
         ensures err { OnErr result (self.new ≡ self.old) }
     {
         let Ok(mut notes) = Vec::with_capacity(alloc, events.len()) else {

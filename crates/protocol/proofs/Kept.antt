@@ -4,7 +4,7 @@ use Rattle.keys.specs.Layouts.{IsLayout, cell_place}
 use Rattle.keys.specs.Objects.{acquires}
 use Rattle.keys.specs.Histories.{held_by}
 use Rattle.mutex.specs.declared.call.Call.{Call}
-use Rattle.mutex.specs.Calls.{mutex_of}
+use Rattle.mutex.specs.Calls.{mutex_of, operation_of}
 use Rattle.mutex.specs.Rows.{Knows, IsGoing}
 use Rattle.mutex.specs.Standings.{Standing}
 use Rattle.mutex.specs.Programs.{row_operation}
@@ -23,6 +23,7 @@ pub record Fits (s : State) (t held : ℕ) (c : Call) (p : Standing) : Type 0 wh
   pub knows : Knows p.row
   pub expects : Expects t p.row (seen s (mutex_of c))
   pub room : acquires (row_operation p.row) ≡ true → held < 2048
+  pub of : row_operation p.row ≡ operation_of c
 
 abbrev pub Sits : State → ℕ → ℕ → Stage → Type 0
 Sits s t held Idle = Unit {0}

@@ -4,3 +4,4 @@ mod Counts
 pub mod Kept
 pub mod Steps
 pub mod Runs
+pub mod Lives

@@ -55,8 +55,8 @@ first_is (call.Unlock m) = refl
 
 -- a call that begins fits its thread
 first_fits : (s : State) (t held : ℕ) (c : Call) → mutex_of c < s.layout.mutexes → (acquires (operation_of c) ≡ true → held < 2048) → Fits s t held c (record { thread = t; cell = cell_place s.layout (mutex_of c); row = first_row c })
-first_fits s t held (call.TryLock m) inside room = record { mine = refl; inside = inside; place = refl; going = tt; knows = tt; expects = tt; room = room }
-first_fits s t held (call.Unlock m) inside room = record { mine = refl; inside = inside; place = refl; going = tt; knows = tt; expects = tt; room = room }
+first_fits s t held (call.TryLock m) inside room = record { mine = refl; inside = inside; place = refl; going = tt; knows = tt; expects = tt; room = room; of = refl }
+first_fits s t held (call.Unlock m) inside room = record { mine = refl; inside = inside; place = refl; going = tt; knows = tt; expects = tt; room = room; of = refl }
 
 -- the machine with another call in progress
 abbrev with_call : State → ℕ → Call → Standing → State
@@ -72,7 +72,7 @@ module _ (s : State) (t : ℕ) (c : Call) (inv : Kept s) (pos : 1 ≤ t) (known 
   -- whoever sits there sits there still
   still : (u h : ℕ) (g : Stage) → Sits s u h g → Sits (with_call s t c p) u h g
   still u h Idle f = tt
-  still u h (Calling d q) f = record { mine = f.mine; inside = f.inside; place = f.place; going = f.going; knows = f.knows; expects = f.expects; room = f.room }
+  still u h (Calling d q) f = record { mine = f.mine; inside = f.inside; place = f.place; going = f.going; knows = f.knows; expects = f.expects; room = f.room; of = f.of }
 
   begun_kept : (acquires (operation_of c) ≡ true → held < 2048) → Kept (with_call s t c p)
   begun_kept room = record {

@@ -125,7 +125,7 @@ module _ (s : State) (t : ℕ) (c : Call) (p : Standing) (inv : Kept s) (pos : 1
   abbrev w' : ℕ
   w' = changed (access_of p) w
 
-  abbrev l : Led
+  abbrev pub l : Led
   l = led p (answer_at (access_of p) w)
 
   abbrev op : Operation
@@ -167,7 +167,7 @@ module _ (s : State) (t : ℕ) (c : Call) (p : Standing) (inv : Kept s) (pos : 1
   last : t ≤ 64
   last = let most = inv.layout.threads.1 in omega arith
 
-  r : Right p.thread p.cell p.row l w w'
+  pub r : Right p.thread p.cell p.row l w w'
   r = right p.thread p.cell w p.row (let is = fits.mine in omega arith) (let is = fits.mine in let most = last in omega arith) fits.going fits.knows (subst Sound before (inv.sound m))
       (subst (λ (o : Object). Expects p.thread p.row o) before (subst (λ (u : ℕ). Expects u p.row (seen s m)) (sym fits.mine) fits.expects))
 
@@ -210,6 +210,7 @@ module _ (s : State) (t : ℕ) (c : Call) (p : Standing) (inv : Kept s) (pos : 1
             let point : l.point ≡ None = no_point l.row l.point on (ap acquires (ap row_operation is) ∙ takes) join in
             let as_before : th.held ≡ (s.threads t).held = ap (held_after (s.threads t).held op) point ∙ unmoved op (s.threads t).held in
             let below = fits.room took in omega arith;
+        of = same ∙ fits.of;
       }
 
   mine' : (q : Row) → l.row ≡ q → Sits after t th.held (stage_after c p q)
@@ -228,6 +229,7 @@ module _ (s : State) (t : ℕ) (c : Call) (p : Standing) (inv : Kept s) (pos : 1
     knows = f.knows;
     expects = go (mutex_of d == m) refl;
     room = f.room;
+    of = f.of;
   }
     where
       go : (b : Bool) → (mutex_of d == m) ≡ b → Expects u q.row (seen after (mutex_of d))

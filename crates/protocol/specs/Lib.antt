@@ -1,3 +1,4 @@
 pub mod Notes
 pub mod Machine
 pub mod Headline
+pub mod Explained

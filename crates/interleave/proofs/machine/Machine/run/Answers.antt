@@ -4,6 +4,8 @@ use Rattle.protocol.specs.declared.event.Event.{Event}
 use Rattle.protocol.specs.declared.note.Note.{Note}
 use Rattle.protocol.specs.Machine.{State, happens, run, notes}
 use Rattle.interleave.specs.Shown.{state_of}
+use Rattle.protocol.specs.Explained.{IsExplained}
+use Rattle.protocol.proofs.Lives.{explained}
 use Rattle.interleave.specs.Reached.{AtEachMoment}
 use Rattle.interleave.proofs.Reaches.{run-more, notes-more, each_moment}
 use Rattle.interleave.proofs.machine.Machine.run.Goals as goal
@@ -29,3 +31,12 @@ returns-clause-history c = λ on.
     let start = c.fresh-fresh.ensures.start on in
     let all : take c.loop-event.event-index es ≡ es = take_all c.loop-event.event-index es (omega arith) in
     subst (λ (ns : List Note). AtEachMoment s es ns) (sym (c.loop-event.invariant.3 ∙ ap (notes s) all)) (each_moment s c.args.self.now.layout start.counters es start.layout start.is)
+
+pub returns-clause-explained : goal.returns-clause-explained
+returns-clause-explained c = λ on.
+    let s = state_of c.args.self.now in
+    let es = c.args.events.now in
+    let start = c.fresh-fresh.ensures.start on in
+    let all : take c.loop-event.event-index es ≡ es = take_all c.loop-event.event-index es (omega arith) in
+    let begun : IsExplained es (notes s es) = subst (λ (z : State). IsExplained es (notes z es)) (sym start.is) (explained c.args.self.now.layout start.counters es start.layout) in
+    subst (λ (ns : List Note). IsExplained es ns) (sym (c.loop-event.invariant.3 ∙ ap (notes s) all)) begun

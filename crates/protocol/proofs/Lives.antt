@@ -1,0 +1,323 @@
+-- What each event adds to its thread's life, and to the order of lines.
+use Rattle.std.proofs.Common.{◌≡◌, ◌≢◌, ℕ, ◌+◌, ◌≤◌, ◌==◌, Bool, true, false, ◌&&◌, Option, Some, None, Ok, Err, List, [], ◌∷◌, ◌++◌, map, refl, sym, ap, ◌∙◌, subst, arith, eqb-true}
+use Rattle.std.specs.Prelude.{if◌then◌else◌, nat_le}
+use Rattle.std.proofs.lemmas.Bool.{eqb-false}
+use Rattle.std.proofs.lemmas.Bool.Decides.{nat_tests}
+use Rattle.lockword.specs.declared.reply.Reply.{Reply}
+use Rattle.lockword.specs.declared.reply.Reply.TheVariants.{XHELD}
+use Rattle.keys.specs.declared.point.Operation.{Operation}
+use Rattle.keys.specs.Layouts.{cell_place}
+use Rattle.keys.specs.Objects.{acquires}
+use Rattle.mutex.specs.declared.call.Call.{Call}
+use Rattle.mutex.specs.declared.call.Call.TheVariants as call
+use Rattle.mutex.specs.declared.row.Row.{Row}
+use Rattle.mutex.specs.declared.row.Row.TheVariants.{TryLock, Unlock, Ended}
+use Rattle.mutex.specs.Calls.{mutex_of, operation_of}
+use Rattle.mutex.specs.Standings.{Standing}
+use Rattle.mutex.specs.Programs.{started, first_row, row_operation}
+use Rattle.mutex.specs.Laws.{decided, Joins}
+use Rattle.protocol.specs.declared.event.Event.{Event}
+use Rattle.protocol.specs.declared.event.Event.TheVariants as event
+use Rattle.protocol.specs.declared.thread.Thread.{Thread}
+use Rattle.protocol.specs.declared.thread.Stage.{Stage}
+use Rattle.protocol.specs.declared.thread.Stage.TheVariants.{Idle, Calling}
+use Rattle.protocol.specs.declared.note.Fact.{Fact}
+use Rattle.protocol.specs.declared.note.Fact.TheVariants.{Begin, Return}
+use Rattle.protocol.specs.declared.note.Line.{Line}
+use Rattle.protocol.specs.Notes.{line_of, facts_of, point_facts, return_facts, lines_from}
+use Rattle.protocol.specs.Machine.{State, After, start, nothing, is_thread, is_idle, may_begin, begun, stage_after, returned, decision, stepped, happens, notes}
+use Rattle.protocol.specs.Explained.{thread_of, point_by, own, Life, Rests, Returns, Stays, Decides, is_point, Later, Each, Orderly, caller, caller_of, IsExplained, TraceIsExplained}
+use Rattle.protocol.proofs.Puts.{put-same, put-other}
+use Rattle.protocol.proofs.Kept.{Fits, Sits, Kept}
+use Rattle.protocol.proofs.Steps.{after, went-is, r, l}
+use Rattle.protocol.proofs.Runs.{sound, start_kept}
+
+-- ---- what may come next in a thread's life
+
+-- what a thread does from now on that is in a call, undecided or decided: with what the call did before, a life
+abbrev Doing : ℕ → Call → Option Reply → List Fact → Type 0
+Doing t c None fs = Life t (Begin t c ∷ fs)
+Doing t c (Some x) fs = Life t (Begin t c ∷ (point_by t c x ∷ fs))
+
+-- what a thread does from now on
+abbrev Goes : ℕ → Stage → List Fact → Type 0
+Goes t Idle fs = Life t fs
+Goes t (Calling c p) fs = Doing t c (decided p.row) fs
+
+-- it may do nothing more
+ends : (t : ℕ) (g : Stage) → Goes t g []
+ends t Idle = Rests
+ends t (Calling c p) = go (decided p.row)
+  where
+    go : (d : Option Reply) → Doing t c d []
+    go None = Stays c
+    go (Some x) = Decides c x
+
+-- ---- a thread's lines
+
+own-mine : (t i : ℕ) (f : Fact) (ls : List Line) → thread_of f ≡ t → own t (line_of i f ∷ ls) ≡ f ∷ own t ls
+own-mine t i f ls is = go (thread_of f == t) refl
+  where
+    go : (b : Bool) → (thread_of f == t) ≡ b → (if b then f ∷ own t ls else own t ls) ≡ f ∷ own t ls
+    go true e = refl
+    go false e = absurd (eqb-false (thread_of f) t e is)
+
+own-other : (t i : ℕ) (f : Fact) (ls : List Line) → thread_of f ≢ t → own t (line_of i f ∷ ls) ≡ own t ls
+own-other t i f ls apart = go (thread_of f == t) refl
+  where
+    go : (b : Bool) → (thread_of f == t) ≡ b → (if b then f ∷ own t ls else own t ls) ≡ own t ls
+    go true e = absurd (apart (eqb-true (thread_of f) t e))
+    go false e = refl
+
+-- what one event tells: nothing; that its thread began a call, or was refused at once; or that it decided its call, or returned, or both
+data Says (t : ℕ) : List Fact → Type 0 where
+  nothing_new : Says t []
+  begins : (c : Call) → Says t (Begin t c ∷ [])
+  refused : (c : Call) (x : Reply) → Says t (Begin t c ∷ (point_by t c x ∷ (Return t x ∷ [])))
+  decides : (c : Call) (x : Reply) → Says t (point_by t c x ∷ [])
+  returns : (x : Reply) → Says t (Return t x ∷ [])
+  ends_with : (c : Call) (x y : Reply) → Says t (point_by t c x ∷ (Return t y ∷ []))
+
+-- another thread's event adds nothing to this thread's lines
+own-apart : (t u i : ℕ) (fs : List Fact) (ls : List Line) → Says u fs → u ≢ t → own t (map (line_of i) fs ++ ls) ≡ own t ls
+own-apart t u i fs ls nothing_new apart = refl
+own-apart t u i fs ls (begins c) apart = own-other t i (Begin u c) ls apart
+own-apart t u i fs ls (refused c x) apart = own-other t i (Begin u c) (line_of i (point_by u c x) ∷ (line_of i (Return u x) ∷ ls)) apart ∙ own-other t i (point_by u c x) (line_of i (Return u x) ∷ ls) apart ∙ own-other t i (Return u x) ls apart
+own-apart t u i fs ls (decides c x) apart = own-other t i (point_by u c x) ls apart
+own-apart t u i fs ls (returns x) apart = own-other t i (Return u x) ls apart
+own-apart t u i fs ls (ends_with c x y) apart = own-other t i (point_by u c x) (line_of i (Return u y) ∷ ls) apart ∙ own-other t i (Return u y) ls apart
+
+-- ---- one event
+
+-- a call's first row is undecided
+first_undecided : (c : Call) → decided (first_row c) ≡ None
+first_undecided (call.TryLock m) = refl
+first_undecided (call.Unlock m) = refl
+
+-- whoever is idle is at rest
+at_rest : (g : Stage) → is_idle g ≡ true → g ≡ Idle
+at_rest Idle e = refl
+at_rest (Calling c p) e = absurd cc
+
+-- the facts of an access
+abbrev facts_at : ℕ → Call → Operation → Option Reply → Row → List Fact
+facts_at t c op x q = point_facts (decision t c op x) ++ return_facts t (returned q)
+
+-- an access tells what may come next in its thread's life
+module _ (t i : ℕ) (c : Call) (p : Standing) (ls : List Line) where
+  abbrev told : Option Reply → Row → List Fact
+  told x q = own t (map (line_of i) (facts_at t c (operation_of c) x q) ++ ls)
+
+  -- a row that goes on, with the decision that it had or that this access made
+  on : (q : Row) (d : Option Reply) → decided q ≡ d → Goes t (Calling c (record p { row = q })) (own t ls) → Doing t c d (own t ls)
+  on q d is later = subst (λ (z : Option Reply). Doing t c z (own t ls)) is later
+
+  point_first : (x : Reply) → own t (line_of i (point_by t c x) ∷ ls) ≡ point_by t c x ∷ own t ls
+  point_first x = own-mine t i (point_by t c x) ls refl
+
+  both_first : (x y : Reply) → own t (line_of i (point_by t c x) ∷ (line_of i (Return t y) ∷ ls)) ≡ point_by t c x ∷ (Return t y ∷ own t ls)
+  both_first x y = own-mine t i (point_by t c x) (line_of i (Return t y) ∷ ls) refl ∙ ap (λ fs. point_by t c x ∷ fs) (own-mine t i (Return t y) ls refl)
+
+  access : (d x : Option Reply) (q : Row) → Joins d x (decided q) → Goes t (stage_after c p q) (own t ls) → Doing t c d (told x q)
+  access None None (TryLock z) joins later = on (TryLock z) None joins later
+  access None None (Unlock z) joins later = on (Unlock z) None joins later
+  access None None (Ended y) joins later = absurd cc
+  access None (Some x) (TryLock z) joins later = subst (λ fs. Life t (Begin t c ∷ fs)) (sym (point_first x)) (on (TryLock z) (Some x) joins later)
+  access None (Some x) (Unlock z) joins later = subst (λ fs. Life t (Begin t c ∷ fs)) (sym (point_first x)) (on (Unlock z) (Some x) joins later)
+  access None (Some x) (Ended y) joins later =
+      let same : y ≡ x = cc in
+      subst (λ fs. Life t (Begin t c ∷ fs)) (sym (both_first x y)) (subst (λ (z : Reply). Life t (Begin t c ∷ (point_by t c x ∷ (Return t z ∷ own t ls)))) (sym same) (Returns c x (own t ls) later))
+  access (Some x) None (TryLock z) joins later = on (TryLock z) (Some x) joins.1 later
+  access (Some x) None (Unlock z) joins later = on (Unlock z) (Some x) joins.1 later
+  access (Some x) None (Ended y) joins later =
+      let same : y ≡ x = cc in
+      subst (λ fs. Life t (Begin t c ∷ (point_by t c x ∷ fs))) (sym (own-mine t i (Return t y) ls refl)) (subst (λ (z : Reply). Life t (Begin t c ∷ (point_by t c x ∷ (Return t z ∷ own t ls)))) (sym same) (Returns c x (own t ls) later))
+  access (Some x) (Some y) q joins later = absurd cc
+
+-- what an access tells is its thread's
+access_says : (t : ℕ) (c : Call) (x : Option Reply) (q : Row) → Says t (facts_at t c (operation_of c) x q)
+access_says t c None (TryLock z) = nothing_new
+access_says t c None (Unlock z) = nothing_new
+access_says t c None (Ended y) = returns y
+access_says t c (Some x) (TryLock z) = decides c x
+access_says t c (Some x) (Unlock z) = decides c x
+access_says t c (Some x) (Ended y) = ends_with c x y
+
+-- what an event leaves and notes: of its own thread what may come next, and of others nothing
+record Adds (s : State) (u : ℕ) (a : After) : Type 0 where
+  says : Says u (facts_of a.note)
+  mine : (i : ℕ) (ls : List Line) → Goes u (a.state.threads u).stage (own u ls) → Goes u (s.threads u).stage (own u (map (line_of i) (facts_of a.note) ++ ls))
+  others : (t : ℕ) → u ≢ t → (a.state.threads t).stage ≡ (s.threads t).stage
+
+-- an event that can't apply adds nothing
+idles : (s : State) (u : ℕ) → Adds s u (nothing s)
+idles s u = record { says = nothing_new; mine = λ i ls later. later; others = λ t apart. refl }
+
+module _ (s : State) (u : ℕ) (c : Call) (idle : (s.threads u).stage ≡ Idle) where
+  abbrev p : Standing
+  p = record { thread = u; cell = cell_place s.layout (mutex_of c); row = first_row c }
+
+  -- a call begins, or is refused
+  begins_call : (b : Bool) → Adds s u (begun s u c (if b then Err XHELD else Ok p))
+  begins_call true = record {
+    says = refused c XHELD;
+    mine = λ i ls later.
+        let first = own-mine u i (Begin u c) (line_of i (point_by u c XHELD) ∷ (line_of i (Return u XHELD) ∷ ls)) refl in
+        let second = own-mine u i (point_by u c XHELD) (line_of i (Return u XHELD) ∷ ls) refl in
+        let third = own-mine u i (Return u XHELD) ls refl in
+        subst (λ g. Goes u g (own u (line_of i (Begin u c) ∷ (line_of i (point_by u c XHELD) ∷ (line_of i (Return u XHELD) ∷ ls))))) (sym idle)
+        (subst (Life u) (sym (first ∙ ap (λ fs. Begin u c ∷ fs) (second ∙ ap (λ fs. point_by u c XHELD ∷ fs) third))) (Returns c XHELD (own u ls) (subst (λ g. Goes u g (own u ls)) idle later)));
+    others = λ t apart. refl;
+  }
+  begins_call false = record {
+    says = begins c;
+    mine = λ i ls later.
+        let begun_there : Goes u (Calling c p) (own u ls) = subst (λ (z : Thread). Goes u z.stage (own u ls)) (put-same s.threads u (record (s.threads u) { stage = Calling c p })) later in
+        let undecided : Life u (Begin u c ∷ own u ls) = subst (λ (d : Option Reply). Doing u c d (own u ls)) (first_undecided c) begun_there in
+        subst (λ g. Goes u g (own u (line_of i (Begin u c) ∷ ls))) (sym idle) (subst (Life u) (sym (own-mine u i (Begin u c) ls refl)) undecided);
+    others = λ t apart. ap (λ (z : Thread). z.stage) (put-other s.threads u (record (s.threads u) { stage = Calling c p }) t (λ is. apart (sym is)));
+  }
+
+-- a call goes on
+goes_on : (s : State) (u : ℕ) → Kept s → 1 ≤ u → u ≤ s.layout.threads → (g : Stage) → (s.threads u).stage ≡ g → Adds s u (stepped s u (s.threads u).held g)
+goes_on s u inv pos known Idle is = idles s u
+goes_on s u inv pos known (Calling c p) is =
+    let fits : Fits s u (s.threads u).held c p = subst (λ (g : Stage). Sits s u (s.threads u).held g) is (inv.sits u pos known) in
+    let led = l s u c p inv pos known fits in
+    let th : Thread = (after s u c p inv pos known fits).threads u in
+    let stage : th.stage ≡ stage_after c p led.row = ap (λ (z : Thread). z.stage) (put-same s.threads u _) in
+    subst (Adds s u) (sym (went-is s u c p inv pos known fits)) record {
+      says = subst (λ (op : Operation). Says u (facts_at u c op led.point led.row)) (sym fits.of) (access_says u c led.point led.row);
+      mine = λ i ls later.
+          subst (λ g. Goes u g (own u (map (line_of i) (facts_at u c (row_operation p.row) led.point led.row) ++ ls))) (sym is)
+          (subst (λ (op : Operation). Doing u c (decided p.row) (own u (map (line_of i) (facts_at u c op led.point led.row) ++ ls))) (sym fits.of)
+          (access u i c p ls (decided p.row) led.point led.row (r s u c p inv pos known fits).tells (subst (λ g. Goes u g (own u ls)) stage later)));
+      others = λ t apart. ap (λ (z : Thread). z.stage) (put-other s.threads u _ t (λ same. apart (sym same)));
+    }
+
+-- each event
+adds : (s : State) (e : Event) → Kept s → Adds s (caller e) (happens s e)
+adds s (event.Begin u c) inv = go (may_begin s u c) refl
+  where
+    go : (b : Bool) → may_begin s u c ≡ b → Adds s u (if b then begun s u c (started s.layout u (s.threads u).held c) else nothing s)
+    go true e = begins_call s u c (at_rest (s.threads u).stage (grind (arith, nat_tests))) (acquires (operation_of c) && nat_le 2048 (s.threads u).held)
+    go false e = idles s u
+adds s (event.Step u) inv = go (is_thread s u) refl
+  where
+    go : (b : Bool) → is_thread s u ≡ b → Adds s u (if b then stepped s u (s.threads u).held (s.threads u).stage else nothing s)
+    go true e =
+        let pos : 1 ≤ u = grind (arith, nat_tests) in
+        let known : u ≤ s.layout.threads = grind (arith, nat_tests) in
+        goes_on s u inv pos known (s.threads u).stage refl
+    go false e = idles s u
+
+-- ---- whole runs
+
+-- one event, and then what may come next
+lives_on : (s : State) (e : Event) (i : ℕ) (rest : List Line) → Kept s → (t : ℕ) → Goes t ((happens s e).state.threads t).stage (own t rest) → Goes t (s.threads t).stage (own t (map (line_of i) (facts_of (happens s e).note) ++ rest))
+lives_on s e i rest inv t later = go (caller e == t) refl
+  where
+    go : (b : Bool) → (caller e == t) ≡ b → Goes t (s.threads t).stage (own t (map (line_of i) (facts_of (happens s e).note) ++ rest))
+    go true e' =
+        let is : caller e ≡ t = eqb-true (caller e) t e' in
+        subst (λ (v : ℕ). Goes v ((happens s e).state.threads v).stage (own v rest) → Goes v (s.threads v).stage (own v (map (line_of i) (facts_of (happens s e).note) ++ rest))) is ((adds s e inv).mine i rest) later
+    go false e' =
+        let apart : caller e ≢ t = eqb-false (caller e) t e' in
+        subst (Goes t (s.threads t).stage) (sym (own-apart t (caller e) i (facts_of (happens s e).note) rest (adds s e inv).says apart))
+        (subst (λ g. Goes t g (own t rest)) ((adds s e inv).others t apart) later)
+
+-- each thread lives rightly, from any state that keeps the invariant
+lives : (s : State) (es : List Event) (i : ℕ) → Kept s → (t : ℕ) → Goes t (s.threads t).stage (own t (lines_from i (notes s es)))
+lives s [] i inv t = ends t (s.threads t).stage
+lives s (e ∷ es) i inv t = lives_on s e i (lines_from (i + 1) (notes (happens s e).state es)) inv t (lives (happens s e).state es (i + 1) (sound s e inv).kept t)
+
+-- ---- the order of lines
+
+-- the line's event is one of these, of which the first has number i, and it is its thread's
+abbrev Called : ℕ → List Event → Line → Type 0
+Called i es l = (i ≤ l.event) × (thread_of l.fact ≡ caller_of i es l.event)
+
+-- what holds of each line gives another thing of each
+each : (P Q : Line → Type 0) → ((l : Line) → P l → Q l) → (ls : List Line) → Each P ls → Each Q ls
+each P Q go [] all = tt
+each P Q go (l ∷ ls) all = (go l all.0, each P Q go ls all.1)
+
+-- the first of the events is its caller's
+caller_of-first : (i : ℕ) (e : Event) (es : List Event) → caller_of i (e ∷ es) i ≡ caller e
+caller_of-first i e es = go (i == i) refl
+  where
+    go : (b : Bool) → (i == i) ≡ b → (if b then caller e else caller_of (i + 1) es i) ≡ caller e
+    go true is = refl
+    go false is = absurd (eqb-false i i is refl)
+
+-- a line of a later event is called among all of them too
+called_later : (i : ℕ) (e : Event) (es : List Event) (l : Line) → Called (i + 1) es l → Called i (e ∷ es) l
+called_later i e es l c = (let at = c.0 in omega arith, c.1 ∙ go (l.event == i) refl)
+  where
+    go : (b : Bool) → (l.event == i) ≡ b → caller_of (i + 1) es l.event ≡ (if b then caller e else caller_of (i + 1) es l.event)
+    go true is = absurd (let same : l.event ≡ i = eqb-true l.event i is in let at = c.0 in omega arith)
+    go false is = refl
+
+-- lines that are in order, and of events from i on
+abbrev InOrder : ℕ → List Event → List Line → Type 0
+InOrder i es ls = Orderly ls × Each (Called i es) ls
+
+-- a line of event i stands rightly before lines of later events
+before_all : (i : ℕ) (es : List Event) (f : Fact) (ls : List Line) → Each (Called (i + 1) es) ls → Each (Later (line_of i f)) ls
+before_all i es f ls =
+    each (Called (i + 1) es) (Later (line_of i f)) (λ l c. record {
+      never_falls = let at = c.0 in omega arith;
+      points_rise = λ a b. let at = c.0 in omega arith;
+      one_thread = λ same. absurd (let at = c.0 in omega arith);
+    }) ls
+
+-- two lines of one event of one thread, of which one is no point
+beside : (i : ℕ) (f g : Fact) → thread_of f ≡ thread_of g → (is_point f ≡ true → is_point g ≡ true → ⊥) → Later (line_of i f) (line_of i g)
+beside i f g same apart = record { never_falls = omega arith; points_rise = λ a b. absurd (apart a b); one_thread = λ e. same }
+
+-- what one event tells stands rightly before what later ones tell
+placed : (i : ℕ) (e : Event) (es : List Event) (fs : List Fact) (ls : List Line) → Says (caller e) fs → InOrder (i + 1) es ls → InOrder i (e ∷ es) (map (line_of i) fs ++ ls)
+placed i e es fs ls says (order, called) = go fs says
+  where
+    here : (f : Fact) → thread_of f ≡ caller e → Called i (e ∷ es) (line_of i f)
+    here f is = (omega arith, is ∙ sym (caller_of-first i e es))
+
+    later : Each (Called i (e ∷ es)) ls
+    later = each (Called (i + 1) es) (Called i (e ∷ es)) (called_later i e es) ls called
+
+    first : (f : Fact) → Each (Later (line_of i f)) ls
+    first f = before_all i es f ls called
+
+    go : (fs : List Fact) → Says (caller e) fs → InOrder i (e ∷ es) (map (line_of i) fs ++ ls)
+    go fs nothing_new = (order, later)
+    go fs (begins c) = ((first (Begin (caller e) c), order), (here (Begin (caller e) c) refl, later))
+    go fs (refused c x) = (
+      (
+        (beside i (Begin (caller e) c) (point_by (caller e) c x) refl (λ a b. absurd cc), (beside i (Begin (caller e) c) (Return (caller e) x) refl (λ a b. absurd cc), first (Begin (caller e) c))),
+        ((beside i (point_by (caller e) c x) (Return (caller e) x) refl (λ a b. absurd cc), first (point_by (caller e) c x)), (first (Return (caller e) x), order)),
+      ),
+      (here (Begin (caller e) c) refl, (here (point_by (caller e) c x) refl, (here (Return (caller e) x) refl, later))),
+    )
+    go fs (decides c x) = ((first (point_by (caller e) c x), order), (here (point_by (caller e) c x) refl, later))
+    go fs (returns x) = ((first (Return (caller e) x), order), (here (Return (caller e) x) refl, later))
+    go fs (ends_with c x y) = (
+      ((beside i (point_by (caller e) c x) (Return (caller e) y) refl (λ a b. absurd cc), first (point_by (caller e) c x)), (first (Return (caller e) y), order)),
+      (here (point_by (caller e) c x) refl, (here (Return (caller e) y) refl, later)),
+    )
+
+ordered : (s : State) (es : List Event) (i : ℕ) → Kept s → InOrder i es (lines_from i (notes s es))
+ordered s [] i inv = (tt, tt)
+ordered s (e ∷ es) i inv = placed i e es (facts_of (happens s e).note) (lines_from (i + 1) (notes (happens s e).state es)) (adds s e inv).says (ordered (happens s e).state es (i + 1) (sound s e inv).kept)
+
+-- so it is from the start
+pub explained_from : (s : State) (events : List Event) → Kept s → ((t : ℕ) → (s.threads t).stage ≡ Idle) → IsExplained events (notes s events)
+explained_from s events inv resting =
+    let order = ordered s events 1 inv in
+    record {
+      orderly = order.0;
+      callers = each (Called 1 events) (λ l. thread_of l.fact ≡ caller_of 1 events l.event) (λ l c. c.1) (lines_from 1 (notes s events)) order.1;
+      lives = λ t. subst (λ g. Goes t g (own t (lines_from 1 (notes s events)))) (resting t) (lives s events 1 inv t);
+    }
+
+pub explained : TraceIsExplained
+explained l counters events is = explained_from (start l counters) events (start_kept l counters is) (λ t. refl)

@@ -1,0 +1,80 @@
+-- What a trace tells of each thread, and how its lines follow each other.
+use Rattle.std.specs.Prelude.{ℕ, ◌≡◌, ◌<◌, ◌≤◌, ◌+◌, ◌==◌, Bool, true, false, List, [], ◌∷◌, if◌then◌else◌}
+use Rattle.lockword.specs.declared.reply.Reply.{Reply}
+use Rattle.keys.specs.Layouts.{Layout', IsLayout}
+use Rattle.mutex.specs.declared.call.Call.{Call}
+use Rattle.mutex.specs.Calls.{mutex_of, operation_of}
+use Rattle.protocol.specs.declared.event.Event.{Event}
+use Rattle.protocol.specs.declared.event.Event.TheVariants as event
+use Rattle.protocol.specs.declared.note.Note.{Note}
+use Rattle.protocol.specs.declared.note.Fact.{Fact}
+use Rattle.protocol.specs.declared.note.Fact.TheVariants.{Begin, Point, Return}
+use Rattle.protocol.specs.declared.note.Line.{Line}
+use Rattle.protocol.specs.Notes.{lines_from}
+use Rattle.protocol.specs.Machine.{start, notes}
+
+-- ---- one thread
+
+-- whose fact it is
+abbrev pub thread_of : Fact → ℕ
+thread_of (Begin t c) = t
+thread_of (Point d) = d.thread
+thread_of (Return t x) = t
+
+-- the point of thread t's call, with this reply: it is of the call's operation and mutex
+abbrev pub point_by : ℕ → Call → Reply → Fact
+point_by t c x = Point (record { thread = t; mutex = mutex_of c; operation = operation_of c; reply = x })
+
+-- the facts of thread t among lines, in their order
+abbrev pub own : ℕ → List Line → List Fact
+own t [] = []
+own t (l ∷ ls) = if thread_of l.fact == t then l.fact ∷ own t ls else own t ls
+
+-- all that thread t does: calls that returned, each with exactly one point, whose reply it returned; and perhaps one that hasn't returned, with one point at most. No point belongs to any other call
+pub data Life (t : ℕ) : List Fact → Type 0 where
+  Rests : Life t []
+  Returns : (c : Call) (x : Reply) (later : List Fact) → Life t later → Life t (Begin t c ∷ (point_by t c x ∷ (Return t x ∷ later)))
+  Stays : (c : Call) → Life t (Begin t c ∷ [])
+  Decides : (c : Call) (x : Reply) → Life t (Begin t c ∷ (point_by t c x ∷ []))
+
+-- ---- the order of lines
+
+abbrev pub is_point : Fact → Bool
+is_point (Point d) = true
+is_point f = false
+
+-- how line b may stand behind line a, near or far: the numbers of events never fall, those of points rise, and an event is one thread's
+pub record Later (a b : Line) : Type 0 where
+  pub never_falls : a.event ≤ b.event
+  pub points_rise : is_point a.fact ≡ true → is_point b.fact ≡ true → a.event < b.event
+  pub one_thread : a.event ≡ b.event → thread_of a.fact ≡ thread_of b.fact
+
+abbrev pub Each : (Line → Type 0) → List Line → Type 0
+Each P [] = Unit {0}
+Each P (l ∷ ls) = P l × Each P ls
+
+abbrev pub Orderly : List Line → Type 0
+Orderly [] = Unit {0}
+Orderly (l ∷ ls) = Each (Later l) ls × Orderly ls
+
+-- ---- the trace of a schedule
+
+-- the thread that an event gives a turn
+abbrev pub caller : Event → ℕ
+caller (event.Begin t c) = t
+caller (event.Step t) = t
+
+-- the thread of event n, the first of the events having number i; 0 where there is no such event
+abbrev pub caller_of : ℕ → List Event → ℕ → ℕ
+caller_of i [] n = 0
+caller_of i (e ∷ es) n = if n == i then caller e else caller_of (i + 1) es n
+
+-- what the notes tell is in order, each line is of an event of its own thread, and each thread's begins, points and returns belong together
+pub record IsExplained (events : List Event) (told : List Note) : Type 0 where
+  pub orderly : Orderly (lines_from 1 told)
+  pub callers : Each (λ l. thread_of l.fact ≡ caller_of 1 events l.event) (lines_from 1 told)
+  pub lives : (t : ℕ) → Life t (own t (lines_from 1 told))
+
+-- whatever happens, with any values of the counters at the beginning
+abbrev pub TraceIsExplained : Type 0
+TraceIsExplained = (l : Layout') (counters : ℕ → ℕ) (events : List Event) → IsLayout l → IsExplained events (notes (start l counters) events)
