@@ -10,11 +10,10 @@ use Rattle.std.proofs.lemmas.List.Quantifiers.{position-Some}
 use Rattle.mutex.specs.Calls.{mutex_of}
 use Rattle.mutex.specs.declared.call.Call.{Call}
 use Rattle.mutex.specs.declared.call.Call.TheVariants as call
-use Rattle.script.specs.Forms.{CallForm, trylock, unlock, Form, silent, thread, mutex, begins, steps, calls, form_of, words_form, call_form, calling_form, is_silent, is_name, is_number, within, words_of}
+use Rattle.script.specs.Forms.{CallForm, trylock, unlock, Form, silent, thread, mutex, begins, steps, calls, phase, form_of, of_mode, has, words_form, call_form, calling_form, is_silent, is_name, is_number, within, words_of}
 use Rattle.script.specs.Scope.{Scope, IsPossible, IsWithinLimits}
 use Rattle.script.specs.Reading.{◌>>=◌, refuse, place_of, is_declared, added, declares, thread_of, call_of, with_action, enter, line_read}
 use Rattle.script.specs.declared.command.Mode.{Mode}
-use Rattle.script.specs.declared.command.Mode.TheVariants as mode
 use Rattle.script.specs.declared.command.Action.{Action}
 use Rattle.script.specs.declared.command.Action.TheVariants as action
 use Rattle.script.specs.declared.fault.Fault.{Fault}
@@ -70,6 +69,7 @@ IsCounted (mutex w) = Unit {0}
 IsCounted (begins t c) = Unit {0}
 IsCounted (steps t count) = IfSome count (λ n. (1 ≤ n) × (n ≤ MAX_STEPS))
 IsCounted (calls t c) = Unit {0}
+IsCounted phase = Unit {0}
 
 -- a command more: its parts were looked up among what the script has
 calling : (n : ℕ) (s : Scope) (t : List ℕ) (c : CallForm) (make : ℕ → Call → Action) → IsWithinLimits s
@@ -120,6 +120,7 @@ entered n s (mutex w) h k = declaring_mutex s w h
 entered n s (begins t c) h k = calling n s t c (λ i x. action.Begin i x) h (λ i x low high few. (low, high, few))
 entered n s (steps t count) h k = stepping n s t count h k
 entered n s (calls t c) h k = calling n s t c (λ i x. action.Call i x) h (λ i x low high few. (low, high, few))
+entered n s phase h k = appended n s action.Phase h tt
 
 -- each form's count is in its range
 either : (b : Bool) (x y : Option Form) → IfSome x IsCounted → IfSome y IsCounted → IfSome (if b then x else y) IsCounted
@@ -137,16 +138,20 @@ counted_call : (w t : List ℕ) (c : Option CallForm) → IfSome (option_and_the
 counted_call w t None = tt
 counted_call w t (Some c) = either (not (is_name t)) None _ tt (either (bytes_eq w _) (Some (begins t c)) _ tt (either (bytes_eq w _) (Some (calls t c)) None tt tt))
 
-counted_words : (k : Mode) (ws : List (List ℕ)) → IfSome (words_form k ws) IsCounted
-counted_words mode.Run [] = tt
-counted_words mode.Run (w ∷ []) = tt
-counted_words mode.Run (w ∷ a ∷ []) = either (not (is_name a)) None _ tt (either (bytes_eq w _) (Some (thread a)) _ tt (either (bytes_eq w _) (Some (mutex a)) None tt tt))
-counted_words mode.Run (w ∷ t ∷ n ∷ []) = either (bytes_eq w _ && is_name t && is_number n) (Some (steps t (within 1 MAX_STEPS (digits_value 10 n)))) None (in_range (digits_value 10 n)) tt
-counted_words mode.Run (w ∷ t ∷ c ∷ m ∷ []) = counted_call w t (call_form c m)
-counted_words mode.Run (w ∷ t ∷ c ∷ m ∷ x ∷ more) = tt
+counted_words : (ws : List (List ℕ)) → IfSome (words_form ws) IsCounted
+counted_words [] = tt
+counted_words (w ∷ []) = either (bytes_eq w _) (Some phase) None tt tt
+counted_words (w ∷ a ∷ []) = either (not (is_name a)) None _ tt (either (bytes_eq w _) (Some (thread a)) _ tt (either (bytes_eq w _) (Some (mutex a)) None tt tt))
+counted_words (w ∷ t ∷ n ∷ []) = either (bytes_eq w _ && is_name t && is_number n) (Some (steps t (within 1 MAX_STEPS (digits_value 10 n)))) None (in_range (digits_value 10 n)) tt
+counted_words (w ∷ t ∷ c ∷ m ∷ []) = counted_call w t (call_form c m)
+counted_words (w ∷ t ∷ c ∷ m ∷ x ∷ more) = tt
+
+kept : (k : Mode) (o : Option Form) → IfSome o IsCounted → IfSome (option_and_then (of_mode k) o) IsCounted
+kept k None h = tt
+kept k (Some f) h = either (has k f) (Some f) None h tt
 
 counted : (k : Mode) (text : List ℕ) → IfSome (form_of k text) IsCounted
-counted k text = either (is_silent text) (Some silent) (words_form k (words_of text)) tt (counted_words k (words_of text))
+counted k text = either (is_silent text) (Some silent) (option_and_then (of_mode k) (words_form (words_of text))) tt (kept k (words_form (words_of text)) (counted_words (words_of text)))
 
 -- a line that is read keeps the limits
 pub line_within : (k : Mode) (n : ℕ) (s : Scope) (text : List ℕ) → IsWithinLimits s → IfOk (line_read k n s text) IsWithinLimits

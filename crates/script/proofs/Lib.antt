@@ -5,3 +5,4 @@ pub mod Lines
 pub mod Bounds
 pub mod Silences
 mod Plays
+pub mod Phases

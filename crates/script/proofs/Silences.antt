@@ -2,7 +2,7 @@
 use Rattle.std.proofs.Common.{◌≡◌, ℕ, ◌+◌, ◌<◌, ◌≤◌, ◌==◌, ◌||◌, Bool, false, true, not, nat_lt, List, [], ◌∷◌, ◌++◌, length, map, Result, Ok, Err, refl, sym, ap, ◌∙◌, arith, length-append}
 use Rattle.std.specs.Option.{ok_or}
 use Rattle.std.proofs.lemmas.Bool.{le-ltb}
-use Rattle.script.specs.Forms.{CallForm, trylock, unlock, Form, silent, thread, mutex, begins, steps, calls, form_of, is_silent}
+use Rattle.script.specs.Forms.{CallForm, trylock, unlock, Form, silent, thread, mutex, begins, steps, calls, phase, form_of, is_silent}
 use Rattle.script.specs.Scope.{Scope}
 use Rattle.script.specs.Reading.{◌>>=◌, refuse, added, declares, thread_of, call_of, with_action, enter, met_at, line_read, finished, lines_read, nothing}
 use Rattle.script.specs.Silence.{unplaced, without_lines, outcome, SilentLinesSayNothing}
@@ -59,6 +59,7 @@ same_enter n s (mutex w) = rw (same_declares s) (alike (declares s) _ _ (λ _. a
 same_enter n s (begins t c) = called n s t c (λ i k. action.Begin i k)
 same_enter n s (steps t count) = alike (ok_or count OutOfRange) _ _ (λ k. alike (thread_of s t) _ _ (λ i. acted n s (action.Step i k)))
 same_enter n s (calls t c) = called n s t c (λ i k. action.Call i k)
+same_enter n s phase = acted n s action.Phase
 
 same_line : (k : Mode) (n : ℕ) (s : Scope) (text : List ℕ) → n ≤ MAX_LINES → meant (line_read k n s text) ≡ meant (line_read k 0 (without_lines s) text)
 same_line k n s text few =

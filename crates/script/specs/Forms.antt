@@ -52,6 +52,7 @@ pub data Form : Type 0 where
   begins : List ℕ → CallForm → Form
   steps : List ℕ → Option ℕ → Form
   calls : List ℕ → CallForm → Form
+  phase : Form
 
 -- an empty line or a comment
 abbrev pub is_silent : List ℕ → Bool
@@ -82,17 +83,29 @@ calling_form w t c = if not (is_name t) then None
     else (if bytes_eq w (codes "begin") then Some (begins t c)
     else (if bytes_eq w (codes "call") then Some (calls t c) else None))
 
--- the commands of each mode
-abbrev pub command_form : Mode → List (List ℕ) → Option Form
-command_form mode.Run (w ∷ t ∷ n ∷ []) = step_form w t n
-command_form mode.Run (w ∷ t ∷ c ∷ m ∷ []) = option_and_then (calling_form w t) (call_form c m)
-command_form mode.Run _ = None
+-- `phase`
+abbrev pub phase_form : List ℕ → Option Form
+phase_form w = if bytes_eq w (codes "phase") then Some phase else None
 
--- a declaration, which each mode has, or a command
-abbrev pub words_form : Mode → List (List ℕ) → Option Form
-words_form k (w ∷ a ∷ []) = declaration_form w a
-words_form k ws = command_form k ws
+-- a declaration or a command, of whichever mode
+abbrev pub words_form : List (List ℕ) → Option Form
+words_form (w ∷ []) = phase_form w
+words_form (w ∷ a ∷ []) = declaration_form w a
+words_form (w ∷ t ∷ n ∷ []) = step_form w t n
+words_form (w ∷ t ∷ c ∷ m ∷ []) = option_and_then (calling_form w t) (call_form c m)
+words_form _ = None
+
+-- whether scripts of a mode have lines of this form: begins and steps are the machine's, and phases real threads'
+abbrev pub has : Mode → Form → Bool
+has mode.Run phase = false
+has mode.Threads (begins t c) = false
+has mode.Threads (steps t n) = false
+has _ _ = true
+
+-- the form, where scripts of the mode have it
+abbrev pub of_mode : Mode → Form → Option Form
+of_mode k f = if has k f then Some f else None
 
 -- what a line says, and None where it is no line of a script
 abbrev pub form_of : Mode → List ℕ → Option Form
-form_of k text = if is_silent text then Some silent else words_form k (words_of text)
+form_of k text = if is_silent text then Some silent else option_and_then (of_mode k) (words_form (words_of text))

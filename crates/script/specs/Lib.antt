@@ -8,3 +8,4 @@ pub mod Seen
 pub mod Silence
 pub mod Playing
 pub mod Played
+pub mod Jobs

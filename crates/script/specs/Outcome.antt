@@ -25,7 +25,7 @@ abbrev pub Reads : {A : Type 0} → Result A ScriptFault → Result A ScriptFaul
 Reads (Ok x) said = said ≡ Ok x
 Reads (Err e) said = TellsAt e e.fault said
 
--- line n is one of these bytes, and it says something: it is no empty line and no comment
+-- these bytes have a line n, and it says something: it is no empty line and no comment
 pub record SpeaksAt (bytes : List ℕ) (n : ℕ) : Type 0 where
   pub before : List (List ℕ)
   pub text : List ℕ

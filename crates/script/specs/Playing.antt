@@ -6,7 +6,7 @@ use Rattle.protocol.specs.declared.event.Event.TheVariants as event
 use Rattle.protocol.specs.declared.note.Note.{Note}
 use Rattle.protocol.specs.Machine.{State, start, happens, run, notes, is_busy}
 use Rattle.script.specs.declared.command.Action.{Action}
-use Rattle.script.specs.declared.command.Action.TheVariants.{Begin, Step, Call}
+use Rattle.script.specs.declared.command.Action.TheVariants.{Begin, Step, Call, Phase}
 use Rattle.script.specs.declared.command.Command.{Command}
 use Rattle.script.specs.declared.fault.Fault.{Fault}
 use Rattle.script.specs.declared.fault.Fault.TheVariants.{TooLong, OutOfMemory}
@@ -25,11 +25,13 @@ unfoldable pub steps_to_rest : ℕ → State → ℕ → ℕ
 steps_to_rest zero s t = 0
 steps_to_rest (suc most) s t = if is_busy s t then suc (steps_to_rest most (happens s (event.Step t)).state t) else 0
 
--- the events of an action at a state of the machine: a call is begun and then stepped until its thread rests
+-- the events of an action at a state of the machine: a call is begun and then stepped until its thread rests;
+-- the end of a phase of real threads is no event
 abbrev pub events_of : State → Action → List Event
 events_of s (Begin t c) = event.Begin t c ∷ []
 events_of s (Step t n) = replicate n (event.Step t)
 events_of s (Call t c) = event.Begin t c ∷ replicate (steps_to_rest REST_STEPS (happens s (event.Begin t c)).state t) (event.Step t)
+events_of s Phase = []
 
 -- the events of commands, each at the state that those before it leave
 abbrev pub events_from : State → List Command → List Event

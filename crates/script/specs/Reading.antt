@@ -6,7 +6,7 @@ use Rattle.std.specs.Str.{bytes_eq, is_utf8}
 use Rattle.std.specs.Str.Lossy.{utf8_valid_len}
 use Rattle.mutex.specs.declared.call.Call.{Call}
 use Rattle.mutex.specs.declared.call.Call.TheVariants as call
-use Rattle.script.specs.Forms.{CallForm, trylock, unlock, Form, silent, thread, mutex, begins, steps, calls, form_of, lines_of}
+use Rattle.script.specs.Forms.{CallForm, trylock, unlock, Form, silent, thread, mutex, begins, steps, calls, phase, form_of, lines_of}
 use Rattle.script.specs.Scope.{Scope}
 use Rattle.script.specs.declared.command.Mode.{Mode}
 use Rattle.script.specs.declared.command.Action.{Action}
@@ -69,6 +69,7 @@ enter n s (begins t c) = thread_of s t >>= λ i. call_of s c >>= λ k. Ok (with_
 enter n s (steps t count) = ok_or count OutOfRange >>= λ k. thread_of s t >>= λ i.
     Ok (with_action n s (action.Step i k))
 enter n s (calls t c) = thread_of s t >>= λ i. call_of s c >>= λ k. Ok (with_action n s (action.Call i k))
+enter n s phase = Ok (with_action n s action.Phase)
 
 -- a fault at line n
 abbrev pub fault_at : ℕ → Fault → ScriptFault

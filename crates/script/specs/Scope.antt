@@ -2,7 +2,7 @@
 use Rattle.std.specs.Prelude.{ℕ, ◌≤◌, ◌<◌, List, length, All}
 use Rattle.mutex.specs.Calls.{mutex_of}
 use Rattle.script.specs.declared.command.Action.{Action}
-use Rattle.script.specs.declared.command.Action.TheVariants.{Begin, Step, Call}
+use Rattle.script.specs.declared.command.Action.TheVariants.{Begin, Step, Call, Phase}
 use Rattle.script.specs.declared.command.Command.{Command}
 use Rattle.script.specs.declared.limits.TheConstants.{MAX_THREADS, MAX_MUTEXES, MAX_STEPS}
 
@@ -18,6 +18,7 @@ abbrev pub IsPossible : ℕ → ℕ → Action → Type 0
 IsPossible threads mutexes (Begin t c) = (1 ≤ t) × (t ≤ threads) × (mutex_of c < mutexes)
 IsPossible threads mutexes (Step t n) = (1 ≤ t) × (t ≤ threads) × (1 ≤ n) × (n ≤ MAX_STEPS)
 IsPossible threads mutexes (Call t c) = (1 ≤ t) × (t ≤ threads) × (mutex_of c < mutexes)
+IsPossible threads mutexes Phase = Unit {0}
 
 -- what the lines so far can have made: no more names than may be, and possible commands
 pub record IsWithinLimits (s : Scope) : Type 0 where

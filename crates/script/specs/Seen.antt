@@ -1,10 +1,10 @@
 -- Values of the code as the definitions see them.
-use Rattle.std.specs.Prelude.{ℕ, ◌≡◌, ◌<◌, ◌⊎◌, List, [], ◌∷◌, length, map, string_bytes}
-use Rattle.script.specs.Forms.{CallForm, trylock, unlock, Form, thread, mutex, begins, steps, calls}
+use Rattle.std.specs.Prelude.{ℕ, ◌≡◌, ◌<◌, List, [], ◌∷◌, length, map, string_bytes}
+use Rattle.script.specs.Forms.{CallForm, trylock, unlock, Form, thread, mutex, begins, steps, calls, phase}
 use Rattle.script.specs.Scope.{Scope}
 use Rattle.script.specs.declared.draft.Draft.{Draft}
 use Rattle.script.specs.declared.words.Words.{Words}
-use Rattle.script.specs.declared.words.Words.TheVariants.{Two, Three, Four, Other}
+use Rattle.script.specs.declared.words.Words.TheVariants.{One, Two, Three, Four, Other}
 use Rattle.script.specs.declared.line.NamedCall.{NamedCall}
 use Rattle.script.specs.declared.line.NamedCall.TheVariants as named
 use Rattle.script.specs.declared.line.Line.{Line}
@@ -12,10 +12,11 @@ use Rattle.script.specs.declared.line.Line.TheVariants as line
 
 -- these are the words, where there are as many as a form can have
 abbrev pub AreWords : List (List ℕ) → Words → Type 0
+AreWords ws (One a) = ws ≡ a.now ∷ []
 AreWords ws (Two a b) = ws ≡ a.now ∷ b.now ∷ []
 AreWords ws (Three a b c) = ws ≡ a.now ∷ b.now ∷ c.now ∷ []
 AreWords ws (Four a b c d) = ws ≡ a.now ∷ b.now ∷ c.now ∷ d.now ∷ []
-AreWords ws Other = (length ws < 2) ⊎ (4 < length ws)
+AreWords ws Other = 4 < length ws
 
 -- a call by names
 abbrev pub call_seen : NamedCall → CallForm
@@ -29,6 +30,7 @@ form_seen (line.Mutex a) = mutex a.now
 form_seen (line.Begin a c) = begins a.now (call_seen c)
 form_seen (line.Step a n) = steps a.now n
 form_seen (line.Call a c) = calls a.now (call_seen c)
+form_seen line.Phase = phase
 
 -- what the lines so far declared and asked for
 abbrev pub scope_of : Draft → Scope

@@ -8,6 +8,8 @@ use mutex::Call;
 pub enum Mode {
     /// The machine runs it, event by event.
     Run,
+    /// Real threads run its calls, phase by phase.
+    Threads,
 }
 
 /// What a command asks for. Threads are numbered from 1 and mutexes from 0, in the order of their
@@ -18,8 +20,10 @@ pub enum Action {
     Begin(Tid, Call),
     /// As many step events as `count`, from 1 to [`MAX_STEPS`](crate::MAX_STEPS).
     Step { thread: Tid, count: u32 },
-    /// A begin event, and then step events until the thread rests.
+    /// A begin event, and then step events until the thread rests; for real threads one call.
     Call(Tid, Call),
+    /// The end of a phase of real threads; for the machine nothing.
+    Phase,
 }
 
 /// A command of a script.

@@ -115,6 +115,7 @@ impl Draft {
                 }
             }
             Line::Call(thread, call) => Action::Call(self.thread(thread)?, self.call(call)?),
+            Line::Phase => Action::Phase,
         };
         self.commands.push(Command {
             line: number,

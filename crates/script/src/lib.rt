@@ -4,6 +4,7 @@
 mod command;
 mod draft;
 mod fault;
+mod gathering;
 mod laws;
 mod limits;
 mod line;
@@ -11,9 +12,11 @@ mod parsed;
 mod player;
 mod reading;
 mod words;
+mod workload;
 
 pub use command::{Action, Command, Mode};
 pub use fault::{Fault, ScriptFault};
+pub use gathering::jobs;
 pub use laws::silent_lines_say_nothing;
 pub use limits::{
     MAX_BYTES, MAX_EVENTS, MAX_LINES, MAX_MUTEXES, MAX_NAME, MAX_STEPS, MAX_THREADS, REST_STEPS,
@@ -21,6 +24,9 @@ pub use limits::{
 pub use parsed::Script;
 pub use player::play;
 pub use reading::parse;
+pub use workload::{Job, Jobs, Phase};
 
 #[cfg(test)]
 mod tests;
+#[cfg(test)]
+mod thread_tests;

@@ -2,7 +2,7 @@
 
 ghost use Rattle.std.specs.Prelude.{◌≡◌, true, false, option_map};
 ghost use Rattle.std.specs.Str.Parse.{digits_value};
-ghost use Rattle.script.specs.Forms.{call_form, calling_form, command_form, declaration_form, form_of, is_number, is_silent, step_form, within};
+ghost use Rattle.script.specs.Forms.{call_form, calling_form, declaration_form, form_of, has, is_number, is_silent, phase_form, step_form, within};
 ghost use Rattle.script.specs.Seen.{call_seen, form_seen};
 
 use crate::command::Mode;
@@ -25,6 +25,7 @@ pub enum Line<'a> {
     /// None: the number is out of its range.
     Step(&'a str, Option<u32>),
     Call(&'a str, NamedCall<'a>),
+    Phase,
 }
 
 /// Whether the line is empty or a comment.
@@ -97,17 +98,39 @@ fn calling<'a>(keyword: &'a str, thread: &'a str, call: NamedCall<'a>) -> Option
     }
 }
 
+fn phase(keyword: &str) -> Option<Line<'_>>
+    ensures { option_map form_seen result ≡ phase_form keyword.now }
+{
+    if keyword == "phase" {
+        return Some(Line::Phase);
+    }
+    None
+}
+
+/// Whether scripts of the mode have such lines.
+fn is_of(mode: Mode, line: &Line<'_>) -> bool
+    ensures { result ≡ has mode (form_seen line.now) }
+{
+    match line {
+        Line::Begin(..) | Line::Step(..) => mode == Mode::Run,
+        Line::Phase => mode == Mode::Threads,
+        Line::Thread(_) | Line::Mutex(_) | Line::Call(..) => true,
+    }
+}
+
 /// What a line says that isn't silent, and None where it is no line of a script of this mode.
 pub fn line_of(text: &str, mode: Mode) -> Option<Line<'_>>
     requires { is_silent text.now ≡ false }
     ensures { option_map form_seen result ≡ form_of mode text.now }
 {
-    match (mode, words_in(text)) {
-        (_, Words::Two(keyword, name)) => declaration(keyword, name),
-        (Mode::Run, Words::Three(keyword, thread, number)) => step(keyword, thread, number),
-        (Mode::Run, Words::Four(keyword, thread, call, mutex)) => {
+    let line = match words_in(text) {
+        Words::One(keyword) => phase(keyword),
+        Words::Two(keyword, name) => declaration(keyword, name),
+        Words::Three(keyword, thread, number) => step(keyword, thread, number),
+        Words::Four(keyword, thread, call, mutex) => {
             calling(keyword, thread, named_call(call, mutex)?)
         }
-        (Mode::Run, Words::Other) => None,
-    }
+        Words::Other => None,
+    }?;
+    if is_of(mode, &line) { Some(line) } else { None }
 }

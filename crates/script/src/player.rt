@@ -77,6 +77,7 @@ fn play_action(machine: &mut Machine, notes: &mut Vec<Note>, action: Action) -> 
             play_event(machine, notes, Event::Begin(thread, call))?;
             play_to_rest(machine, notes, thread)
         }
+        Action::Phase => Ok(()),
     }
 }
 

@@ -11,6 +11,7 @@ use crate::limits::MAX_NAME;
 /// The words of a line, for the numbers of words that a form can have.
 #[derive(Clone, Copy)]
 pub enum Words<'a> {
+    One(&'a str),
     Two(&'a str, &'a str),
     Three(&'a str, &'a str, &'a str),
     Four(&'a str, &'a str, &'a str, &'a str),
@@ -33,7 +34,7 @@ pub fn words_in(text: &str) -> Words<'_>
     ensures { AreWords (words_of text.now) result }
 {
     let Some((first, rest)) = cut(text, ' ') else {
-        return Words::Other;
+        return Words::One(text);
     };
     let Some((second, rest)) = cut(rest, ' ') else {
         return Words::Two(first, rest);

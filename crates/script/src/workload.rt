@@ -1,0 +1,28 @@
+//! What real threads have to do.
+
+use lockword::Tid;
+use mutex::Call;
+
+/// The calls of one thread in one phase, in the order of their lines. There is at least one.
+#[derive(Drop)]
+pub struct Job {
+    /// The thread.
+    pub thread: Tid,
+    /// Its calls.
+    pub calls: Vec<Call>,
+}
+
+/// What real threads do at once: a job for each thread that has a call in this phase, in the order of the threads' ids.
+#[derive(Drop)]
+pub struct Phase {
+    /// The jobs.
+    pub jobs: Vec<Job>,
+}
+
+/// What a script asks of real threads, phase after phase. `phase` lines part the phases, so there is one phase more than
+/// there are such lines; a phase may be empty.
+#[derive(Drop)]
+pub struct Jobs {
+    /// The phases.
+    pub phases: Vec<Phase>,
+}
