@@ -1,0 +1,3 @@
+pub mod Changes
+pub mod Counting
+pub mod Places

@@ -1,0 +1,46 @@
+use Rattle.std.proofs.Common.{◌≡◌, ℕ, ◌≤◌, [], ◌∷◌, length, ap, subst, arith, rules}
+use Rattle.buckets.specs.Queues.{Sleepers, standing, IsOrderly, Takes}
+use Rattle.std.proofs.lemmas.List.{length-append}
+use Rattle.buckets.proofs.Changes.{orderly, takes_none, takes_of_nobody, takes_more, takes_all}
+use Rattle.buckets.proofs.bucket.Bucket.take.Goals as goal
+
+pub returns-then-is_empty-clause-changes : goal.returns-then-is_empty-clause-changes
+returns-then-is_empty-clause-changes c =
+    let none : length c.self.inside.sleepers.items ≡ 0 = search rules in
+    rw c.new-batch.ensures (subst (λ (b : Sleepers). Takes b b c.args.key.0 c.args.n []) c.self.view_is (takes_of_nobody c.self.inside.capacity c.args.key.0 c.args.n c.self.inside.sleepers.items none))
+
+pub returns-then-is_empty-clause-orderly : goal.returns-then-is_empty-clause-orderly
+returns-then-is_empty-clause-orderly c = subst IsOrderly c.self.view_is (orderly c.self.inside.capacity c.self.inside.sleepers.items c.self.invariant.0 c.self.invariant.1)
+
+pub loop-init : goal.loop-init
+loop-init c = record {
+  taken = rw c.new-batch.ensures (takes_none c.args.self.now c.args.key.0);
+  orderly = subst IsOrderly c.self.view_is (orderly c.self.inside.capacity c.self.inside.sleepers.items c.self.invariant.0 c.self.invariant.1);
+  as_many = ap length c.new-batch.ensures;
+}
+
+pub returns-in_default-clause-changes : goal.returns-in_default-clause-changes
+returns-in_default-clause-changes c =
+    takes_all _ _ _ c.args.key.0 c.loop.counter c.args.n c.loop.batch c.loop.auto.counter-end c.loop.invariant.taken c.in_default.ensures.changes
+
+pub push-requires : goal.push-requires
+push-requires c =
+    let few : standing c.args.self.now ≤ 64 = subst (λ (b : Sleepers). standing b ≤ 64) c.self.view_is (omega (arith, c.self.invariant.0.enough, c.self.invariant.0.last)) in
+    let before = c.loop.invariant.taken.fewer in
+    let now = c.in-Some.ensures.changes.fewer in
+    omega arith
+
+pub loop-preserved : goal.loop-preserved
+loop-preserved c = record {
+  taken = rw c.push.ensures (takes_more _ _ _ c.args.key.0 c.loop.counter c.in-Some.thread c.loop.batch c.loop.invariant.taken c.in-Some.ensures.changes);
+  orderly = c.take_first.ensures.orderly;
+  as_many = let longer = length-append c.loop.batch (c.in-Some.thread ∷ []) in let is = ap length c.push.ensures in let before = c.loop.invariant.as_many in omega arith;
+}
+
+pub returns-clause-changes : goal.returns-clause-changes
+returns-clause-changes c =
+    let all : c.loop.counter ≡ c.args.n = omega (arith, c.loop.auto.counter-end, c.loop-test.false) in
+    subst (λ (i : ℕ). Takes c.args.self.now c.loop.self c.args.key.0 i c.loop.batch) all c.loop.invariant.taken
+
+pub returns-clause-orderly : goal.returns-clause-orderly
+returns-clause-orderly c = c.loop.invariant.orderly

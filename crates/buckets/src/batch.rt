@@ -1,0 +1,74 @@
+//! Those that one wake takes.
+ghost use Rattle.std.specs.Prelude.{◌≡◌, ◌==◌, ◌<◌, ◌≤◌, [], ◌∷◌, ◌++◌, length, slice_get};
+
+use lockword::Tid;
+use std::marker::Model;
+
+/// At most 64 threads, in the order in which they slept. It takes no memory.
+#[derive(Clone, Copy, Debug)]
+pub struct Batch {
+    ids: [u8; 64],
+    taken: usize,
+}
+
+impl Model for Batch {
+    ghost use Rattle.std.specs.Prelude.{ℕ, List, length, take};
+    ghost use Rattle.buckets.specs.Batches.{in_array, IsBatch};
+
+    ghost Value = { List ℕ };
+
+    ghost view = { λ b. take b.taken b.ids };
+
+    ghost invariant = { λ b. IsBatch b.ids b.taken };
+
+    ghost inverse = { λ l. record { ids = in_array l; taken = length l } };
+
+    ghost inverse_ok = { λ a h. λ i. record { ids = h.zeros i; taken = h.long i } };
+}
+
+impl Batch {
+    /// A batch of nobody.
+    pub fn new() -> Batch
+        ensures { result ≡ [] }
+    {
+        Batch {
+            ids: [0; 64],
+            taken: 0,
+        }
+    }
+
+    /// How many there are: at most 64.
+    pub fn len(&self) -> usize
+        ensures value { result ≡ length self.now }
+        ensures most { result ≤ 64 }
+    {
+        self.taken
+    }
+
+    /// There is nobody in it.
+    pub fn is_empty(&self) -> bool
+        ensures { result ≡ (length self.now == 0) }
+    {
+        self.taken == 0
+    }
+
+    /// The thread at a place, from 0 on; None where the batch is no longer than that.
+    pub fn get(&self, place: usize) -> Option<Tid>
+        ensures { result ≡ slice_get self.now place }
+    {
+        if place < self.taken {
+            Tid::new(self.ids[place])
+        } else {
+            None
+        }
+    }
+
+    /// Adds a thread at the end.
+    pub(crate) fn push(&mut self, thread: Tid)
+        requires { length self.old < 64 }
+        ensures { self.new ≡ self.old ++ thread ∷ [] }
+    {
+        self.ids[self.taken] = thread.get();
+        self.taken += 1;
+    }
+}

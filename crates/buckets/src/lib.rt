@@ -1,0 +1,15 @@
+//! The sleepers of a futex hash bucket.
+//!
+//! A [`Bucket`] keeps who sleeps on which key (futex(2)). Each key has a queue: a wait appends to the queue of its key, a wake takes
+//! the first ones, and a removal takes one thread out of the queue it stands in. A thread stands in one queue at most, once.
+//! A [`Batch`] is threads in order, as one wake takes them. All the room is made by `Bucket::new` and by a clone; no other call takes memory.
+#![tactic(auto)]
+
+mod batch;
+mod bucket;
+mod sleeper;
+#[cfg(test)]
+mod tests;
+
+pub use batch::Batch;
+pub use bucket::Bucket;

@@ -1,0 +1,22 @@
+-- When a futex call is refused, and how.
+use Rattle.std.specs.Prelude.{ℕ, ◌≡◌, ◌≢◌, ◌%◌, ◌^◌, List, slice_index, Result, Ok, Err, IsTrue, IsFalse}
+use Rattle.lockword.specs.declared.reply.Reply.{Reply}
+use Rattle.lockword.specs.declared.reply.Reply.TheVariants.{EAGAIN, EFAULT}
+use Rattle.syscalls.specs.Memories.{is_valid}
+
+-- the futex word in the word at an address: its low half
+abbrev pub futex_word : List ℕ → ℕ → ℕ
+futex_word words at = slice_index words at % 2 ^ 32
+
+-- a wait sleeps exactly where the futex word is the expected one. EFAULT tells that the address is invalid, and else EAGAIN that the word differs
+abbrev pub WaitAnswers : List ℕ → ℕ → ℕ → Result (Unit {0}) Reply → Type 0
+WaitAnswers words at expected (Ok x) = IsTrue (is_valid words at) × (futex_word words at ≡ expected)
+WaitAnswers words at expected (Err EAGAIN) = IsTrue (is_valid words at) × (futex_word words at ≢ expected)
+WaitAnswers words at expected (Err EFAULT) = IsFalse (is_valid words at)
+WaitAnswers words at expected (Err r) = ⊥
+
+-- a wake is refused exactly where the address is invalid
+abbrev pub WakeAnswers : {X : Type 0} → List ℕ → ℕ → Result X Reply → Type 0
+WakeAnswers words at (Ok x) = IsTrue (is_valid words at)
+WakeAnswers words at (Err EFAULT) = IsFalse (is_valid words at)
+WakeAnswers words at (Err r) = ⊥

@@ -1,0 +1,3 @@
+pub mod Memories
+pub mod Kernels
+pub mod Answers

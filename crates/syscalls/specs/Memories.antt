@@ -1,0 +1,16 @@
+-- The words of a memory, and what an access does to them.
+use Rattle.std.specs.Prelude.{ℕ, ◌&&◌, Bool, nat_le, nat_lt, List, length, slice_index, slice_set, Option, Some, None, if◌then◌else◌}
+use Rattle.keys.specs.declared.access.Access.{Access}
+use Rattle.keys.specs.Accesses.{address_of, changed}
+
+-- an address is valid if it is at least 1, word 0 being null, and less than the number of words
+abbrev pub is_valid : List ℕ → ℕ → Bool
+is_valid words at = nat_le 1 at && nat_lt at (length words)
+
+-- the word at an address; none where the address is invalid
+abbrev pub word_at : List ℕ → ℕ → Option ℕ
+word_at words at = if is_valid words at then Some (slice_index words at) else None
+
+-- the words after an access: the one at its address is changed, where that is valid, and all others stay
+abbrev pub words_after : Access → List ℕ → List ℕ
+words_after a words = if is_valid words (address_of a) then slice_set words (address_of a) (changed a (slice_index words (address_of a))) else words

@@ -1,0 +1,16 @@
+//! The kernel's half of futexes.
+//!
+//! A [`Kernel`] keeps who sleeps on which word (futex(2)): a wait sleeps exactly where the low half of its word is the expected value, and a wake takes
+//! the first sleepers of its word, in order; a call that is refused changes nothing. It stands over any [`Memory`], and [`PlainMemory`] is one.
+//! All the room is made by `Kernel::new` and by a clone; no other call of a kernel takes memory.
+#![tactic(auto)]
+
+mod kernel;
+mod memory;
+mod plain;
+#[cfg(test)]
+mod tests;
+
+pub use kernel::Kernel;
+pub use memory::Memory;
+pub use plain::PlainMemory;
