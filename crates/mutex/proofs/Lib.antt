@@ -1,3 +1,4 @@
 pub mod Rights
-mod Races
+pub mod Races
 mod Replies
+pub mod Steps

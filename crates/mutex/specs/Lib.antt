@@ -6,3 +6,4 @@ pub mod TryLock
 pub mod Unlock
 pub mod Programs
 pub mod Laws
+pub mod Steps

@@ -1,0 +1,65 @@
+-- What one access of a call tells beyond the object.
+use Rattle.std.specs.Prelude.{ℕ, ◌≡◌, ◌-◌, ◌<◌, true, false}
+use Rattle.std.proofs.Props.{props}
+use Rattle.lockword.specs.Cells.{Fields, fields_of}
+use Rattle.lockword.specs.declared.reply.Reply.TheVariants.{OK, EPERM}
+use Rattle.keys.specs.declared.access.Access.{Access}
+use Rattle.keys.specs.declared.access.Access.TheVariants.{Load, Exchange, FetchXor, FetchOr, FetchAnd}
+use Rattle.keys.specs.declared.object.Object.{Object}
+use Rattle.keys.specs.declared.point.Operation.{Operation}
+use Rattle.keys.specs.declared.point.Operation.TheVariants as operation
+use Rattle.mutex.specs.declared.try_lock.TryLockRow.TheVariants as try
+use Rattle.mutex.specs.declared.unlock.UnlockRow.TheVariants as unlock
+use Rattle.mutex.specs.declared.row.Row.{Row}
+use Rattle.mutex.specs.declared.row.Row.TheVariants.{TryLock, Unlock, Ended}
+use Rattle.mutex.specs.declared.row.Led.{Led}
+use Rattle.mutex.specs.Rows.{Knows}
+use Rattle.mutex.specs.Programs.{row_operation}
+use Rattle.mutex.specs.Laws.{Expects}
+
+-- the access is one step on one word, and no section
+abbrev pub IsStep : Access → Type 0
+IsStep (Load at) = Unit {0}
+IsStep (Exchange at old new) = Unit {0}
+IsStep (FetchXor at v) = Unit {0}
+IsStep (FetchOr at v) = Unit {0}
+IsStep (FetchAnd at v) = Unit {0}
+IsStep a = ⊥
+
+-- so many steps a call that stands there still makes, at most
+abbrev pub rank : Row → ℕ
+rank (TryLock try.Load) = 6
+rank (TryLock (try.Take seen k)) = 5 - k
+rank (Unlock unlock.Load) = 2
+rank (Unlock (unlock.Release d)) = 1
+rank r = 0
+
+-- what the row after an access says of the cell that it met: a release that has somebody to wake found WAITERS there and OWNER_DIED as its row tells; one that has nobody found no WAITERS; and an
+-- unlock that isn't refused has no other end
+abbrev pub Tells : Operation → Row → Fields → Type 0
+Tells op (Unlock (unlock.Wake all)) c = (c.waiters ≡ true) × (c.died ≡ all)
+Tells operation.Unlock (Ended OK) c = c.waiters ≡ false
+Tells operation.Unlock (Ended EPERM) c = Unit {0}
+Tells operation.Unlock (Ended x) c = ⊥
+Tells op r c = Unit {0}
+
+-- one step of a call at row r, which meets the word w, leaves the word w' and leads to l: what its next row says of the cell met is so, WAITERS stays, the bits above the flags too, and fewer steps are left
+pub record Minds (r : Row) (l : Led) (w w' : ℕ) : Type 0 where
+  pub tells : Tells (row_operation r) l.row (fields_of w)
+  pub waiters : (fields_of w).waiters ≡ true → (fields_of w').waiters ≡ true
+  pub rest : (fields_of w').rest ≡ (fields_of w).rest
+  pub falls : rank l.row < rank r
+
+-- what a row knows and needs has one proof at most
+pub Knows-prop : (r : Row) → IsProp (Knows r)
+Knows-prop (Ended x) = Prim.hlevel props
+Knows-prop (TryLock try.Load) = Prim.hlevel props
+Knows-prop (TryLock (try.Take seen k)) = Prim.hlevel props
+Knows-prop (Unlock u) = Prim.hlevel props
+
+pub Expects-prop : (t : ℕ) (r : Row) (o : Object) → IsProp (Expects t r o)
+Expects-prop t (Ended x) o = Prim.hlevel props
+Expects-prop t (TryLock r) o = Prim.hlevel props
+Expects-prop t (Unlock unlock.Load) o = Prim.hlevel props
+Expects-prop t (Unlock (unlock.Release d)) o = Prim.hlevel props
+Expects-prop t (Unlock (unlock.Wake a)) o = Prim.hlevel props

@@ -1,0 +1,5 @@
+use Rattle.ruledwords.specs.Passes.{IsPassOf}
+use Rattle.roundtime.proofs.rounds.Given as goal
+
+abbrev pub invariant-loop : goal.invariant-loop
+invariant-loop l = IsPassOf l.words l.pass

@@ -1,0 +1,276 @@
+-- Cards that are dealt and gathered, and the first and the last words.
+use Rattle.std.proofs.Common.{Bool, true, false, ◌≡◌, ◌≢◌, ⊎_elim, ℕ, zero, suc, ◌+◌, ◌-◌, ◌<◌, ◌≤◌, ◌==◌, Option, Some, List, [], ◌∷◌, ◌++◌, length, get_or, set, refl, sym, ap, ◌∙◌, subst, arith, eq-eqb, ne_eqb}
+use Rattle.std.specs.Prelude.{if◌then◌else◌, slice_index}
+use Rattle.std.proofs.lemmas.Bool.Decides.{nat_tests}
+use mathlib.Core.Logic.{dite}
+use mathlib.Core.Option.{some, none, some-ne-none, some-injective}
+use native.Mathlib.Decide.{ℕ_discrete}
+use lib.ListN.{get_elem?}
+use lib.Seq.{set-get_or}
+use Rattle.atomic_table.specs.Table.{step, keeps, Allows, Splits, Joins, Final, Seen, opening}
+use Rattle.atomic_table.proofs.Lists.{at_set, at_snoc}
+use Rattle.lockword.specs.Cells.{fields_of}
+use Rattle.keys.specs.declared.object.Object.{Object}
+use Rattle.keys.specs.declared.point.Point.{Point}
+use Rattle.keys.specs.Layouts.{Layout', IsLayout, head_place, cell_place, counter_place, words_of}
+use Rattle.keys.specs.Objects.{fresh, object_of}
+use Rattle.ruledwords.specs.declared.card.Card.{Card}
+use Rattle.ruledwords.specs.Cards.{at, value_at, put_value}
+use Rattle.ruledwords.specs.Seen.{Leaves, Joined, AreExclusive, holds, held, held_after}
+use Rattle.ruledwords.specs.Rules.{head_word, first_word, first_values, first_card, hand, Fits, AllFit, cards_of, Kept, first_of, rest_of, met, Ends}
+use Rattle.ruledwords.proofs.Lists.{prefix_self, value_put, value_put_else, all_one, all_set, all_append, cards_append, one_or_none}
+use Rattle.ruledwords.proofs.Held.{count_same, owner_held, owns, owns_one}
+use Rattle.ruledwords.proofs.Keepers.{head_keeper}
+use Rattle.ruledwords.proofs.Moves.{Sat}
+
+fit_append : (k : Layout') (ws : List ℕ) (js : List (List Point)) (cs ds : List Card) → AllFit k ws js cs → AllFit k ws js ds → AllFit k ws js (cs ++ ds)
+fit_append k ws js [] ds f g = g
+fit_append k ws js (c ∷ cs) ds f g = (f.0, fit_append k ws js cs ds f.1 g)
+
+fit_first : (k : Layout') (ws : List ℕ) (js : List (List Point)) (cs : List Card) → AllFit k ws js cs → AllFit k ws js (first_of cs)
+fit_first k ws js [] f = tt
+fit_first k ws js (c ∷ cs) f = (f.0, tt)
+
+fit_rest : (k : Layout') (ws : List ℕ) (js : List (List Point)) (cs : List Card) → AllFit k ws js cs → AllFit k ws js (rest_of cs)
+fit_rest k ws js [] f = tt
+fit_rest k ws js (c ∷ cs) f = f.1
+
+cut_cards : (t : ℕ) (cs : List Card) → cards_of t (rest_of cs) + cards_of t (first_of cs) ≡ cards_of t cs
+cut_cards t [] = omega arith
+cut_cards t (c ∷ cs) = omega arith
+
+-- the first card is dealt
+pub deals : (k : Layout') (id : ℕ) (v : List Card) → Splits (Kept k) id v (rest_of v) (first_of v)
+deals k id v s h is = record {
+  layout = h.layout;
+  wide = h.wide;
+  histories = h.histories;
+  leaves = h.leaves;
+  legal = h.legal;
+  narrow = h.narrow;
+  counters = h.counters;
+  fits = λ j w e. ⊎_elim
+      (λ (was : get_elem? (set s.views id (rest_of v)) j ≡ some w). ⊎_elim
+      (λ (t : (j ≡ id) × (rest_of v ≡ w)). subst (AllFit k s.words h.histories) t.1 (fit_rest k s.words h.histories v (h.fits id v is)))
+      (λ (t : (j ≢ id) × (get_elem? s.views j ≡ some w)). h.fits j w t.1)
+      (at_set s.views id j (rest_of v) w was))
+      (λ (same : first_of v ≡ w). subst (AllFit k s.words h.histories) same (fit_first k s.words h.histories v (h.fits id v is)))
+      (at_snoc (set s.views id (rest_of v)) (first_of v) w j e);
+  once = λ t. let a = all_append t (set s.views id (rest_of v)) (first_of v ∷ []) in let b = all_set t s.views id v (rest_of v) is in let c = cut_cards t v in let d = h.once t in omega arith;
+}
+
+-- two seats' cards come to one
+pub gathers : (k : Layout') (id : ℕ) (v : List Card) (other : ℕ) (w : List Card) → Joins (Kept k) id v other w (v ++ w) []
+gathers k id v other w s h is apart there =
+    let theirs : get_elem? s.views other ≡ some w = ⊎_elim (λ (t : (other ≡ id) × ((v ++ w) ≡ w)). absurd (apart t.0)) (λ (t : (other ≢ id) × (get_elem? s.views other ≡ some w)). t.1) (at_set s.views id other (v ++ w) w there) in
+    record {
+      layout = h.layout;
+      wide = h.wide;
+      histories = h.histories;
+      leaves = h.leaves;
+      legal = h.legal;
+      narrow = h.narrow;
+      counters = h.counters;
+      fits = λ j u e. ⊎_elim
+          (λ (t : (j ≡ other) × ([] ≡ u)). subst (AllFit k s.words h.histories) t.1 tt)
+          (λ (t : (j ≢ other) × (get_elem? (set s.views id (v ++ w)) j ≡ some u)). ⊎_elim
+          (λ (x : (j ≡ id) × ((v ++ w) ≡ u)). subst (AllFit k s.words h.histories) x.1 (fit_append k s.words h.histories v w (h.fits id v is) (h.fits other w theirs)))
+          (λ (x : (j ≢ id) × (get_elem? s.views j ≡ some u)). h.fits j u x.1)
+          (at_set s.views id j (v ++ w) u t.1))
+          (at_set (set s.views id (v ++ w)) other j [] u e);
+      once = λ t. let a = all_set t s.views id v (v ++ w) is in let b = all_set t (set s.views id (v ++ w)) other w [] there in let c = cards_append t v w in let d = h.once t in omega arith;
+    }
+
+abbrev seeing : Card → List (List Point) → Card
+seeing c js = record c { seen = js }
+
+fits_all : (k : Layout') (ws : List ℕ) (js : List (List Point)) (c : Card) → Fits k ws js c → Fits k ws js (seeing c js)
+fits_all k ws js c f = record { thread = f.thread; threads = f.threads; begins = λ p. prefix_self (at js p); own = λ p. refl; values = f.values; marks = f.marks }
+
+abbrev card_first : Card → Sat → Card
+card_first d (x ∷ xs, ys) = x
+card_first d ([], ys) = d
+
+abbrev card_second : Card → Sat → Card
+card_second d (x ∷ y ∷ xs, ys) = y
+card_second d (x ∷ [], ys) = d
+card_second d ([], ys) = d
+
+-- cards of one thread are two
+two_cards : (c d : Card) → c.thread ≡ d.thread → 2 ≤ cards_of c.thread (c ∷ d ∷ [])
+two_cards c d same =
+    let one : if◌then◌else◌ {A = ℕ} (c.thread == c.thread) 1 0 ≡ 1 = ap (λ (b : Bool). if◌then◌else◌ {A = ℕ} b 1 0) (eq-eqb c.thread c.thread refl) in
+    let two : if◌then◌else◌ {A = ℕ} (d.thread == c.thread) 1 0 ≡ 1 = ap (λ (b : Bool). if◌then◌else◌ {A = ℕ} b 1 0) (eq-eqb d.thread c.thread (sym same)) in
+    omega arith
+
+-- two cards that look see all that has happened
+pub meets : (k : Layout') (slots id i : ℕ) (c d : Card) → Allows (Kept k) slots id (c ∷ d ∷ [], []) i (λ n. n) (met (step slots i 0 0 none) (c ∷ d ∷ [], []))
+meets k slots id i c d s h deep is small =
+    let js = h.histories in
+    let f = h.fits id (c ∷ d ∷ []) is in
+    let c' = seeing c js in
+    let d' = seeing d js in
+    let words = set-get_or s.words i 0 in (
+      c' ∷ d' ∷ [],
+      keeps,
+      tt,
+      subst (λ (ws : List ℕ). Kept k record { words = ws; homes = s.homes; views = set s.views id (c' ∷ d' ∷ []) }) (sym words) record {
+        layout = h.layout;
+        wide = h.wide;
+        histories = js;
+        leaves = h.leaves;
+        legal = h.legal;
+        narrow = h.narrow;
+        counters = h.counters;
+        fits = λ j w e. ⊎_elim
+            (λ (t : (j ≡ id) × (c' ∷ d' ∷ [] ≡ w)). subst (AllFit k s.words js) t.1 (fits_all k s.words js c f.0, (fits_all k s.words js d f.1.0, tt)))
+            (λ (t : (j ≢ id) × (get_elem? s.views j ≡ some w)). h.fits j w t.1)
+            (at_set s.views id j (c' ∷ d' ∷ []) w e);
+        once = λ t. let a = all_set t s.views id (c ∷ d ∷ []) (c' ∷ d' ∷ []) is in let b = h.once t in omega arith;
+      },
+      λ x y e. (
+        c',
+        d',
+        refl,
+        subst (λ (z : Card × Card). Joined z.0 z.1 c' d') (λ i. (card_first c (e i), card_second d (e i))) record {
+          seen = js;
+          apart = λ same. let both = two_cards c d same in let all = all_one c.thread s.views id (c ∷ d ∷ []) is in let once = h.once c.thread in absurd (omega arith);
+          first = refl;
+          second = refl;
+          legal = λ p. let l = h.legal p in (l.0, subst (λ (n : ℕ). Leaves n p (at js p) l.0) (sym f.0.threads) l.1);
+          begins = λ p. (f.0.begins p, f.1.0.begins p);
+          own = λ p. (sym (f.0.own p), sym (f.1.0.own p));
+        },
+      ),
+    )
+
+-- the last words
+pub ends : (k : Layout') (id : ℕ) (c : Card) (words : List ℕ) (xs : List (Unit {0})) → Final (Seen (Kept k) id (c ∷ [])) words xs → Ends k c words
+ends k id c words xs (s, seen, same, deep, homes) = let h = seen.0 in let f = (h.fits id (c ∷ []) seen.1).0 in record {
+  histories = h.histories;
+  leaves = λ m low. subst (λ (ws : List ℕ). Leaves k.threads (cell_place k m) (at h.histories (cell_place k m)) (object_of (fields_of (get_or ws (cell_place k m) 0)))) same (h.leaves m low);
+  narrow = λ m low. subst (λ (ws : List ℕ). (fields_of (get_or ws (cell_place k m) 0)).rest ≡ 0) same (h.narrow m low);
+  begins = f.begins;
+  own = λ p. sym (f.own p);
+}
+
+-- ---- the beginning
+
+none_below : (a u t n : ℕ) → u < t → cards_of u (hand a t n) ≡ 0
+none_below a u t zero low = refl
+none_below a u t (suc n) low = let r = none_below a u (t + 1) n (omega arith) in one_or_none u t (hand a (t + 1) n) a (omega arith) r
+
+hand_once : (a u t n : ℕ) → cards_of u (hand a t n) ≤ 1
+hand_once a u t zero = omega arith
+hand_once a u t (suc n) = elim (ℕ_discrete t u) [
+  | yes e ↦ (let r = none_below a u (t + 1) n (omega arith) in let b : if◌then◌else◌ {A = ℕ} (t == u) 1 0 ≤ 1 = bit_le (t == u) in omega arith)
+  | no ne ↦ (let r = hand_once a u (t + 1) n in let b : if◌then◌else◌ {A = ℕ} (t == u) 1 0 ≡ 0 = ap (λ (b : Bool). if◌then◌else◌ {A = ℕ} b 1 0) (ne_eqb t u ne) in omega arith)
+]
+  where
+    bit_le : (b : Bool) → if◌then◌else◌ {A = ℕ} b 1 0 ≤ 1
+    bit_le true = omega arith
+    bit_le false = omega arith
+
+-- the words before the first step
+abbrev pub Opens : Layout' → List ℕ → List ℕ → Type 0
+Opens k counters ws = (length ws ≡ words_of k) × ((p : ℕ) → p < words_of k → slice_index ws p ≡ first_word k counters p)
+
+head_first : (k : Layout') (counters : List ℕ) (p : ℕ) → p < cell_place k 0 → first_word k counters p ≡ head_word p
+head_first k counters p low = grind (arith, nat_tests)
+
+cell_first : (k : Layout') (counters : List ℕ) (m : ℕ) → m < k.mutexes → first_word k counters (cell_place k m) ≡ 0
+cell_first k counters m low = grind (arith, nat_tests)
+
+counter_first : (k : Layout') (counters : List ℕ) (q : ℕ) → first_word k counters (counter_place k q) ≡ slice_index counters q
+counter_first k counters q = grind (arith, nat_tests)
+
+first_entry : (t : ℕ) → 1 ≤ t → head_word (head_place t) ≡ head_place t
+first_entry t pos = grind (arith, nat_tests)
+
+first_offset : (t : ℕ) → 1 ≤ t → head_word (head_place t + 1) ≡ 18446744073709551615
+first_offset t pos = grind (arith, nat_tests)
+
+first_pending : (t : ℕ) → 1 ≤ t → head_word (head_place t + 2) ≡ 0
+first_pending t pos = grind (arith, nat_tests)
+
+value_none : (p x : ℕ) → value_at [] p ≡ Some x → ⊥
+value_none p x e = cc
+
+-- what a thread knows of its head is so
+first_known : (t p x : ℕ) → 1 ≤ t → value_at (first_values t) p ≡ Some x → (head_place t ≤ p) × (p < head_place t + 3) × (head_word p ≡ x)
+first_known t p x pos e =
+    let h : ℕ = head_place t in
+    let one : List (Option ℕ) = put_value [] h (Some h) in
+    let two : List (Option ℕ) = put_value one (h + 1) (Some 18446744073709551615) in
+    dite (ℕ_discrete p (h + 2))
+    (λ here. let is : Some 0 ≡ Some x = sym (value_put two (h + 2) (Some 0)) ∙ subst (λ (z : ℕ). value_at (put_value two (h + 2) (Some 0)) z ≡ Some x) here e in let x0 : 0 ≡ x = cc in
+    (omega arith, omega arith, ap head_word here ∙ first_pending t pos ∙ x0))
+    (λ not2. let e2 : value_at two p ≡ Some x = sym (value_put_else two (h + 2) p (Some 0) not2) ∙ e in
+    dite (ℕ_discrete p (h + 1))
+    (λ here. let is : Some 18446744073709551615 ≡ Some x = sym (value_put one (h + 1) (Some 18446744073709551615)) ∙ subst (λ (z : ℕ). value_at two z ≡ Some x) here e2 in let x1 : 18446744073709551615 ≡ x = cc in
+    (omega arith, omega arith, ap head_word here ∙ first_offset t pos ∙ x1))
+    (λ not1. let e1 : value_at one p ≡ Some x = sym (value_put_else one (h + 1) p (Some 18446744073709551615) not1) ∙ e2 in
+    dite (ℕ_discrete p h)
+    (λ here. let is : Some h ≡ Some x = sym (value_put [] h (Some h)) ∙ subst (λ (z : ℕ). value_at one z ≡ Some x) here e1 in let xh : h ≡ x = cc in
+    (omega arith, omega arith, ap head_word here ∙ first_entry t pos ∙ xh))
+    (λ not0. absurd (value_none p x (sym (value_put_else [] h p (Some h) not0) ∙ e1)))))
+
+first_fits : (k : Layout') (counters ws : List ℕ) (t : ℕ) → Opens k counters ws → 1 ≤ t → t ≤ k.threads → Fits k ws [] (first_card k.threads t)
+first_fits k counters ws t opens pos low = record {
+  thread = (pos, low);
+  threads = refl;
+  begins = λ p. prefix_self [];
+  own = λ p. refl;
+  values = λ p x e.
+      let known = first_known t p x pos e in
+      let from = known.0 in
+      let to = known.1 in
+      let before : p < cell_place k 0 = omega arith in
+      (opens.1 p (omega arith) ∙ head_first k counters p before ∙ known.2, head_keeper k ws t p pos low from to);
+  marks = λ m lower e own. absurd (cc e);
+}
+
+hand_fits : (k : Layout') (counters ws : List ℕ) (n t : ℕ) → Opens k counters ws → 1 ≤ t → t + n ≤ k.threads + 1 → AllFit k ws [] (hand k.threads t n)
+hand_fits k counters ws zero t opens pos most = tt
+hand_fits k counters ws (suc n) t opens pos most = (first_fits k counters ws t opens pos (omega arith), hand_fits k counters ws n (t + 1) opens (omega arith) (omega arith))
+
+pub opens_kept : (k : Layout') (counters ws : List ℕ) → IsLayout k → ((q : ℕ) → slice_index counters q < 4294967296) → Opens k counters ws → Kept k (opening ws [] (hand k.threads 1 k.threads))
+opens_kept k counters ws layout small opens = record {
+  layout = layout;
+  wide = opens.0;
+  histories = [];
+  leaves = λ m low. let zero_word : slice_index ws (cell_place k m) ≡ 0 = opens.1 (cell_place k m) (omega arith) ∙ cell_first k counters m low in (ap (λ (v : ℕ). object_of (fields_of v)) zero_word, tt);
+  legal = λ p. (fresh, (refl, tt));
+  narrow = λ m low. let zero_word : slice_index ws (cell_place k m) ≡ 0 = opens.1 (cell_place k m) (omega arith) ∙ cell_first k counters m low in ap (λ (v : ℕ). (fields_of v).rest) zero_word;
+  counters = λ q low. let is : slice_index ws (counter_place k q) ≡ slice_index counters q = opens.1 (counter_place k q) (omega arith) ∙ counter_first k counters q in subst (λ (z : ℕ). z < 4294967296) (sym is) (small q);
+  fits = λ j v e. only j v e;
+  once = λ t. let a = hand_once k.threads t 1 k.threads in omega arith;
+}
+  where
+    only : (j : ℕ) (v : List Card) → get_elem? (hand k.threads 1 k.threads ∷ []) j ≡ some v → AllFit k ws [] v
+    only zero v e = subst (AllFit k ws []) (some-injective _ _ e) (hand_fits k counters ws k.threads 1 opens (omega arith) (omega arith))
+    only (suc j) v e = absurd (some-ne-none v (sym e))
+
+pub dealt_first : (a t n : ℕ) → 0 < n → first_of (hand a t n) ≡ first_card a t ∷ []
+dealt_first a t zero pos = absurd (omega arith)
+dealt_first a t (suc n) pos = refl
+
+pub dealt_rest : (a t n : ℕ) → 0 < n → rest_of (hand a t n) ≡ hand a (t + 1) (n - 1)
+dealt_rest a t zero pos = absurd (omega arith)
+dealt_rest a t (suc n) pos = ap (λ (z : ℕ). hand a (t + 1) z) (let e : n ≡ suc n - 1 = omega arith in e)
+
+-- passes that meet hold what they held
+pub held_first : (c d c' d' : Card) → Joined c d c' d' → held c' ≡ held c
+held_first c d c' d' j = ap held j.first ∙ count_same c.thread j.seen c.seen (λ p. ap (held_after false) (j.own p).0)
+
+pub held_second : (c d c' d' : Card) → Joined c d c' d' → held d' ≡ held d
+held_second c d c' d' j = ap held j.second ∙ count_same d.thread j.seen d.seen (λ p. ap (held_after false) (j.own p).1)
+
+-- and no mutex is held by both
+pub exclusive : (c d c' d' : Card) → Joined c d c' d' → AreExclusive c' d'
+exclusive c d c' d' j p mine =
+    let o : Object = (j.legal p).0 in
+    let run = (j.legal p).1.0 in
+    let first : holds c.thread (at j.seen p) ≡ true = subst (λ (z : Card). holds z.thread (at z.seen p) ≡ true) j.first mine in
+    let owner : owns c.thread o ≡ true = sym (owner_held c.thread fresh (at j.seen p) o run) ∙ first in
+    subst (λ (z : Card). holds z.thread (at z.seen p) ≡ false) (sym j.second) (owner_held d.thread fresh (at j.seen p) o run ∙ owns_one c.thread d.thread o j.apart owner)

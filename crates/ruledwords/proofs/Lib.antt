@@ -1,0 +1,11 @@
+mod Lists
+mod Held
+mod Keepers
+mod Moves
+mod Hands
+mod Steps
+mod Turned
+mod Making
+mod Standing
+mod Accesses
+mod Beginnings

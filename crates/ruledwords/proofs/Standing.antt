@@ -1,0 +1,200 @@
+-- A call, access by access.
+use Rattle.std.proofs.Common.{Bool, true, false, ◌≡◌, ℕ, ◌+◌, ◌<◌, ◌≤◌, ◌==◌, Option, Some, None, List, [], ◌∷◌, ◌++◌, refl, sym, ap, ◌∙◌, subst, arith, append-nil, append_assoc}
+use Rattle.std.specs.Prelude.{if◌then◌else◌}
+use Rattle.lockword.specs.Cells.{fields_of}
+use Rattle.lockword.specs.declared.reply.Reply.{Reply}
+use Rattle.lockword.specs.declared.reply.Reply.TheVariants.{OK, EOWNERDEAD, XRACED}
+use Rattle.keys.specs.declared.access.Answer.{Answer}
+use Rattle.keys.specs.declared.point.Operation.{Operation}
+use Rattle.keys.specs.declared.point.Operation.TheVariants.{Lock, TryLock, Unlock, Death}
+use Rattle.keys.specs.declared.point.Point.{Point}
+use Rattle.keys.specs.declared.object.Object.{Object}
+use Rattle.keys.specs.Accesses.{changed, answer_at}
+use Rattle.keys.specs.Objects.{fresh, object_of, acquires}
+use Rattle.keys.proofs.Objects.{run_same}
+use Rattle.mutex.specs.declared.row.Row.{Row}
+use Rattle.mutex.specs.declared.row.Row.TheVariants as row
+use Rattle.mutex.specs.declared.try_lock.TryLockRow.TheVariants as try
+use Rattle.mutex.specs.Laws.{Expects, Right, Joins, points, decided, IsOf, reached, changes, tells_change}
+use Rattle.mutex.specs.Programs.{access_of, row_operation, resume_of, point_of, moved}
+use Rattle.mutex.specs.Rows.{IsGoing}
+use Rattle.mutex.specs.Standings.{Standing}
+use Rattle.mutex.specs.Steps.{IsStep, Minds, Tells, rank}
+use Rattle.mutex.proofs.Rights.{right}
+use Rattle.mutex.proofs.Races.{raced}
+use Rattle.mutex.proofs.Steps.{minds, undecided, of_going, undecided_going}
+use Rattle.ruledwords.specs.declared.card.Card.{Card}
+use Rattle.ruledwords.specs.declared.outcome.Wakes.TheVariants.{Nobody, One, All}
+use Rattle.ruledwords.specs.Cards.{at}
+use Rattle.ruledwords.specs.Seen.{by, held, Leaves, Sees, Called}
+use Rattle.ruledwords.specs.Calls.{Ready, Made, Stands, led_at, count_by, count_after, most, most_of}
+use Rattle.ruledwords.specs.Outcomes.{wakes_of}
+use Rattle.ruledwords.proofs.Lists.{told}
+use Rattle.ruledwords.proofs.Held.{held_sees}
+
+-- a call that begins
+pub begins : (op : Operation) (c : Card) (p : Standing) → IsOf op p.row → decided p.row ≡ None → Stands op p.row c p c
+begins op c p of none = record {
+  of = of;
+  thread = refl;
+  threads = refl;
+  elsewhere = λ q other. refl;
+  between = [];
+  grows = sym (append-nil _) ∙ ap (λ l. l ++ []) (sym (append-nil _)) ∙ ap (λ (z : Option Reply). (at c.seen p.cell ++ []) ++ points (point_of c.thread p.cell op z)) (sym none);
+  own = sym (append-nil _) ∙ ap (λ (z : Option Reply). by c.thread (at c.seen p.cell) ++ points (point_of c.thread p.cell op z)) (sym none);
+  left = λ some_point. absurd (some_point none);
+  answers = [];
+  reaches = refl;
+  misses = (let e : c.misses ≡ c.misses + 0 = omega arith in e);
+}
+
+-- the laws of programs, of an access that was made
+made_right : (p : Standing) (c d : Card) (n : ℕ) → IsGoing p.row → Ready p c → Made p c n d → Right c.thread p.cell p.row (led_at p n) n (changed (access_of p) n)
+made_right p c d n going ready m = subst (λ (t : ℕ). Right t p.cell p.row (led_at p n) n (changed (access_of p) n)) ready.0
+    (right p.thread p.cell n p.row (subst (λ (z : ℕ). 1 ≤ z) (sym ready.0) m.thread.0) (subst (λ (z : ℕ). z ≤ 64) (sym ready.0) m.thread.1) going ready.1 m.sound (subst (λ (z : ℕ). Expects z p.row (object_of (fields_of n))) (sym ready.0) m.met))
+
+made_minds : (p : Standing) (c d : Card) (n : ℕ) → IsGoing p.row → IsStep (access_of p) → Ready p c → Made p c n d → Minds p.row (led_at p n) n (changed (access_of p) n)
+made_minds p c d n going step ready m = minds p.thread p.cell n p.row (subst (λ (z : ℕ). z ≤ 64) (sym ready.0) m.thread.1) going step ready.1 (subst (λ (z : ℕ). Expects z p.row (object_of (fields_of n))) (sym ready.0) m.met)
+
+-- the point that is made is the one that the next row tells
+made_point : (p : Standing) (c d : Card) (n : ℕ) → IsGoing p.row → IsStep (access_of p) → Ready p c → Made p c n d → decided (led_at p n).row ≡ (led_at p n).point
+made_point p c d n going step ready m = subst (λ (z : Option Reply). Joins z (led_at p n).point (decided (led_at p n).row)) (undecided p.thread p.cell p.row going step) (made_right p c d n going ready m).tells
+
+pub ready_after : (p : Standing) (c d : Card) (n : ℕ) → IsGoing p.row → Ready p c → Made p c n d → Ready (moved p (led_at p n)) d
+ready_after p c d n going ready m =
+    let r = made_right p c d n going ready m in
+    let u : Object = object_of (fields_of (changed (access_of p) n)) in (
+      ready.0 ∙ sym m.sees.thread,
+      r.knows,
+      λ o run. subst (λ (z : ℕ × Object). Expects z.0 (led_at p n).row z.1) (λ i. (sym m.sees.thread i, run_same fresh u o (at d.seen p.cell) m.sees.leaves.0 run i)) r.expects,
+    )
+
+reached_more : (t : ℕ) (r : Row) (xs : List Answer) (a : Answer) → reached t r (xs ++ a ∷ []) ≡ (resume_of t (reached t r xs) a).row
+reached_more t r [] a = refl
+reached_more t r (x ∷ xs) a = reached_more t (resume_of t r x).row xs a
+
+changes_more : (xs : List Answer) (a : Answer) → changes (xs ++ a ∷ []) ≡ changes xs + tells_change a
+changes_more [] a = omega arith
+changes_more (x ∷ xs) a = let r = changes_more xs a in omega arith
+
+pub stands_after : (op : Operation) (first : Row) (c : Card) (p : Standing) (d e : Card) (n : ℕ) → IsGoing p.row → IsStep (access_of p) → Ready p d → Stands op first c p d → Made p d n e → Stands op first c (moved p (led_at p n)) e
+stands_after op first c p d e n going step ready s m =
+    let r = made_right p d e n going ready m in
+    let none = undecided p.thread p.cell p.row going step in
+    let point = made_point p d e n going step ready m in
+    let is = of_going op p.row going s.of in
+    let u : Object = object_of (fields_of (changed (access_of p) n)) in
+    let a : Answer = answer_at (access_of p) n in
+    let next : Option Reply = decided (led_at p n).row in
+    -- what the step added, told of the thread and the operation of the call
+    let added : Sees d p.cell (told c.thread p.cell op next) u e =
+    subst (λ (z : ℕ × Operation × Option Reply). Sees d p.cell (told z.0 p.cell z.1 z.2) u e) (λ i. (s.thread i, is i, sym point i)) m.sees in
+    let new : List Point = told c.thread p.cell op next in
+    let before : at d.seen p.cell ≡ at c.seen p.cell ++ s.between = s.grows ∙ ap (λ (z : Option Reply). (at c.seen p.cell ++ s.between) ++ told c.thread p.cell op z) none ∙ append-nil _ in
+    let mine : by c.thread (at d.seen p.cell) ≡ by c.thread (at c.seen p.cell) = s.own ∙ ap (λ (z : Option Reply). by c.thread (at c.seen p.cell) ++ told c.thread p.cell op z) none ∙ append-nil _ in
+    let had = s.misses in
+    let more = m.misses in
+    let sum = changes_more s.answers a in
+    record {
+      of = subst (λ (z : Operation). IsOf z (led_at p n).row) is r.stays;
+      thread = added.thread ∙ s.thread;
+      threads = added.threads ∙ s.threads;
+      elsewhere = λ q other. added.elsewhere q other ∙ s.elsewhere q other;
+      between = s.between ++ added.between;
+      grows = added.grows ∙ ap (λ l. (l ++ added.between) ++ new) before ∙ ap (λ l. l ++ new) (append_assoc (at c.seen p.cell) s.between added.between);
+      own = subst (λ (t : ℕ). by t (at e.seen p.cell) ≡ by t (at d.seen p.cell) ++ new) s.thread added.own ∙ ap (λ l. l ++ new) mine;
+      left = λ some_point. (u, subst (λ (z : ℕ). Leaves z p.cell (at e.seen p.cell) u) s.threads added.leaves);
+      answers = s.answers ++ a ∷ [];
+      reaches = reached_more c.thread first s.answers a ∙ ap (λ (z : Row). (resume_of c.thread z a).row) s.reaches ∙ ap (λ (t : ℕ). (resume_of t p.row a).row) (sym (ready.0 ∙ s.thread));
+      misses = omega arith;
+    }
+
+-- what is told of the word that a release found
+pub tells_after : (op : Operation) (p : Standing) (c d : Card) (n : ℕ) → IsGoing p.row → IsStep (access_of p) → Ready p c → IsOf op p.row → Made p c n d → Tells op (led_at p n).row (fields_of d.last)
+tells_after op p c d n going step ready of m =
+    subst (λ (z : Operation × ℕ). Tells z.0 (led_at p n).row (fields_of z.1)) (λ i. (of_going op p.row going of i, sym m.last i)) (made_minds p c d n going step ready m).tells
+
+-- fewer steps are left
+pub less_left : (p : Standing) (c d : Card) (n : ℕ) → IsGoing p.row → IsStep (access_of p) → Ready p c → Made p c n d → rank (led_at p n).row < rank p.row
+less_left p c d n going step ready m = (made_minds p c d n going step ready m).falls
+
+-- ---- how many mutexes are held
+
+pub held_made : (p : Standing) (c d : Card) (n : ℕ) → IsGoing p.row → Ready p c → Made p c n d → held d ≡ count_after (held c) (point_of p.thread p.cell (row_operation p.row) (led_at p n).point)
+held_made p c d n going ready m =
+    held_sees c p.cell (row_operation p.row) (led_at p n).point (object_of (fields_of n)) (object_of (fields_of (changed (access_of p) n))) d m.sees (made_right p c d n going ready m).runs m.holder
+    ∙ ap (λ (t : ℕ). count_after (held c) (point_of t p.cell (row_operation p.row) (led_at p n).point)) (sym ready.0)
+
+most_le : (r : Option Reply) (b : Bool) → most_of r b ≤ 2048
+most_le None true = omega arith
+most_le None false = omega arith
+most_le (Some x) b = omega arith
+
+count_le : (op : Operation) (x : Reply) (h : ℕ) → h ≤ most_of None (acquires op) → count_by h op x ≤ 2048
+count_le Lock OK h le = omega arith
+count_le Lock EOWNERDEAD h le = omega arith
+count_le Lock x h le = omega arith
+count_le TryLock OK h le = omega arith
+count_le TryLock EOWNERDEAD h le = omega arith
+count_le TryLock x h le = omega arith
+count_le Unlock OK h le = omega arith
+count_le Unlock x h le = omega arith
+count_le Death OK h le = omega arith
+count_le Death x h le = omega arith
+count_le op x h le = omega arith
+
+-- who may still take a mutex has room for it
+pub room_after : (p : Standing) (c d : Card) (n h : ℕ) → IsGoing p.row → IsStep (access_of p) → Ready p c → Made p c n d → h ≤ most p.row → count_after h (point_of p.thread p.cell (row_operation p.row) (led_at p n).point) ≤ most (led_at p n).row
+room_after p c d n h going step ready m le =
+    go (led_at p n).point refl
+  where
+    none : decided p.row ≡ None
+    none = undecided p.thread p.cell p.row going step
+
+    before : h ≤ most_of None (acquires (row_operation p.row))
+    before = subst (λ (z : Option Reply). h ≤ most_of z (acquires (row_operation p.row))) none le
+
+    go : (r : Option Reply) → (led_at p n).point ≡ r → count_after h (point_of p.thread p.cell (row_operation p.row) r) ≤ most (led_at p n).row
+    go None is =
+        let still = made_point p c d n going step ready m ∙ is in
+        let same = of_going (row_operation p.row) (led_at p n).row (undecided_going (led_at p n).row still) (made_right p c d n going ready m).stays in
+        subst (λ (z : Option Reply × Operation). h ≤ most_of z.0 (acquires z.1)) (λ i. (sym still i, sym same i)) before
+    go (Some x) is =
+        let now = made_point p c d n going step ready m ∙ is in
+        subst (λ (z : Option Reply). count_by h (row_operation p.row) x ≤ most_of z (acquires (row_operation (led_at p n).row))) (sym now) (count_le (row_operation p.row) x h before)
+
+pub few_after : (h : ℕ) (r : Row) → h ≤ most r → h ≤ 2048
+few_after h r le = let m = most_le (decided r) (acquires (row_operation r)) in omega arith
+
+-- ---- the end
+
+-- a call that is decided
+pub called : (op : Operation) (first : Row) (c : Card) (p : Standing) (d : Card) (r : Reply) → Stands op first c p d → decided p.row ≡ Some r → Called c p.cell op r d
+called op first c p d r s is =
+    let l = s.left (λ none. let bad : Some r ≡ None = sym is ∙ none in cc) in (
+      l.0,
+      record {
+        thread = s.thread;
+        threads = s.threads;
+        elsewhere = s.elsewhere;
+        between = s.between;
+        grows = s.grows ∙ ap (λ (z : Option Reply). (at c.seen p.cell ++ s.between) ++ told c.thread p.cell op z) is;
+        own = s.own ∙ ap (λ (z : Option Reply). by c.thread (at c.seen p.cell) ++ told c.thread p.cell op z) is;
+        leaves = l.1;
+      },
+    )
+
+pub raced_four : (op : Operation) (c : Card) (p : Standing) (d : Card) → Stands op (row.TryLock try.Load) c p d → p.row ≡ row.Ended XRACED → c.misses + 4 ≤ d.misses
+raced_four op c p d s is = let four = raced c.thread s.answers (s.reaches ∙ is) in let m = s.misses in omega arith
+
+pub wakes_nobody : (v : ℕ) → (fields_of v).waiters ≡ false → Nobody ≡ wakes_of v
+wakes_nobody v off = sym (ap (λ (b : Bool). if b then (if (fields_of v).died then All else One) else Nobody) off)
+
+pub wakes_some : (v : ℕ) (n : ℕ) → (fields_of v).waiters ≡ true → n ≡ (if (fields_of v).died then 64 else 1) → (b : Bool) → (n == 64) ≡ b → (if b then All else One) ≡ wakes_of v
+wakes_some v n on is b test = sym (ap (λ (b : Bool). if b then (if (fields_of v).died then All else One) else Nobody) on ∙ go (fields_of v).died is b test)
+  where
+    go : (died : Bool) → n ≡ (if died then 64 else 1) → (b : Bool) → (n == 64) ≡ b → (if died then All else One) ≡ (if b then All else One)
+    go true is true test = refl
+    go false is false test = refl
+    go true is false test = let bad : true ≡ false = sym (ap (λ (z : ℕ). z == 64) is) ∙ test in absurd (cc bad)
+    go false is true test = let bad : false ≡ true = sym (ap (λ (z : ℕ). z == 64) is) ∙ test in absurd (cc bad)

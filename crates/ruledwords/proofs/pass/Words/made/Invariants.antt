@@ -1,0 +1,11 @@
+use Rattle.std.proofs.Common.{◌≡◌, ℕ, ◌+◌, ◌-◌, [], length, slice_get, Some}
+use Rattle.ruledwords.specs.Rules.{card_of, hand, first_card}
+use Rattle.ruledwords.proofs.pass.Words.made.Given as goal
+
+abbrev pub invariant-loop-before : goal.invariant-loop-before
+invariant-loop-before l = record {
+  table : l.seat.table_id ≡ l.table.shared.table_id;
+  left : l.seat.me ≡ (hand l.layout.threads (l.before + 1) (l.layout.threads - l.before), []);
+  count : length l.passes.items ≡ l.before;
+  dealt : (j : ℕ) (p : _) → slice_get l.passes.items j ≡ Some p → (p.seat.table_id ≡ l.table.shared.table_id) × (card_of p.seat.me.0 ≡ first_card l.layout.threads (j + 1));
+}

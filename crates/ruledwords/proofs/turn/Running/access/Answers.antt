@@ -1,0 +1,64 @@
+use Rattle.std.proofs.Common.{◌≤◌, sym, ◌∙◌, subst}
+use Rattle.mutex.specs.Standings.{Standing}
+use Rattle.mutex.specs.Rows.{IsGoing}
+use Rattle.ruledwords.specs.declared.card.Card.{Card}
+use Rattle.ruledwords.specs.Rules.{card_of}
+use Rattle.ruledwords.specs.Calls.{Ready, most}
+use Rattle.ruledwords.proofs.Standing.{ready_after}
+use Rattle.ruledwords.proofs.Accesses.{answered, moved_to, going_point, returned_point, counted_after, room_made, few_made}
+use Rattle.ruledwords.proofs.turn.Running.access.Goals as goal
+
+pub invariant_of-result : goal.invariant_of-result
+invariant_of-result c =
+    let p : Standing = c.args.self.program in
+    let was : Card = card_of c.args.self.pass.seat.me.0 in
+    let now : Card = card_of c.make-found.new.seat.me.0 in
+    let at = answered p c.next-access.result c.make-found.result c.answer.result c.next-access.ensures c.answer.ensures in
+    let told = (going_point p c.make-found.result c.answer.result c.resume.result c.in-Goes.point at c.in-Goes.is c.resume.ensures.progress).1 in
+    record {
+      one = c.make-found.ensures.one;
+      own = c.make-found.ensures.made.sees.thread ∙ c.args.self.pass.own;
+      count = counted_after p was now c.make-found.result c.args.self.pass.held c.count.result c.in-Goes.point c.requires.going c.args.self.ready c.make-found.ensures.made c.args.self.pass.count c.count.ensures told;
+      few = few_made p was now c.make-found.result c.args.self.pass.held c.count.result c.in-Goes.point c.requires.going c.requires.step c.args.self.ready c.make-found.ensures.made c.args.self.room c.count.ensures told;
+    }
+
+pub invariant_of-result-in-Goes : goal.invariant_of-result-in-Goes
+invariant_of-result-in-Goes c =
+    let p : Standing = c.args.self.program in
+    let was : Card = card_of c.args.self.pass.seat.me.0 in
+    let now : Card = card_of c.make-found.new.seat.me.0 in
+    let at = answered p c.next-access.result c.make-found.result c.answer.result c.next-access.ensures c.answer.ensures in
+    let told = (going_point p c.make-found.result c.answer.result c.resume.result c.in-Goes.point at c.in-Goes.is c.resume.ensures.progress).1 in
+    let to = moved_to p c.resume.new.self c.make-found.result c.answer.result c.resume.ensures.row at in
+    record {
+      ready = subst (λ (q : Standing). Ready q now) (sym to) (ready_after p was now c.make-found.result c.requires.going c.args.self.ready c.make-found.ensures.made);
+      room = subst (λ (q : Standing). c.count.result ≤ most q.row) (sym to)
+          (room_made p was now c.make-found.result c.args.self.pass.held c.count.result c.in-Goes.point c.requires.going c.requires.step c.args.self.ready c.make-found.ensures.made c.args.self.room c.count.ensures told);
+    }
+
+pub invariant_of-result-in-Returns : goal.invariant_of-result-in-Returns
+invariant_of-result-in-Returns c =
+    let p : Standing = c.args.self.program in
+    let was : Card = card_of c.args.self.pass.seat.me.0 in
+    let now : Card = card_of c.make-found.new.seat.me.0 in
+    let at = answered p c.next-access.result c.make-found.result c.answer.result c.next-access.ensures c.answer.ensures in
+    let told = (returned_point p c.make-found.result c.answer.result c.resume.result c.in-Returns.reply c.in-Returns.point at c.in-Returns.is c.resume.ensures.progress).1 in
+    record {
+      one = c.make-found.ensures.one;
+      own = c.make-found.ensures.made.sees.thread ∙ c.args.self.pass.own;
+      count = counted_after p was now c.make-found.result c.args.self.pass.held c.count-in-Returns.result c.in-Returns.point c.requires.going c.args.self.ready c.make-found.ensures.made c.args.self.pass.count c.count-in-Returns.ensures told;
+      few = few_made p was now c.make-found.result c.args.self.pass.held c.count-in-Returns.result c.in-Returns.point c.requires.going c.requires.step c.args.self.ready c.make-found.ensures.made c.args.self.room c.count-in-Returns.ensures told;
+    }
+
+pub returns-in-Returns-clause-turned : goal.returns-in-Returns-clause-turned
+returns-in-Returns-clause-turned c =
+    let p : Standing = c.args.self.program in
+    let at = answered p c.next-access.result c.make-found.result c.answer.result c.next-access.ensures c.answer.ensures in
+    (c.make-found.result, c.make-found.ensures.made, (returned_point p c.make-found.result c.answer.result c.resume.result c.in-Returns.reply c.in-Returns.point at c.in-Returns.is c.resume.ensures.progress).0)
+
+pub returns-in-Goes-clause-turned : goal.returns-in-Goes-clause-turned
+returns-in-Goes-clause-turned c =
+    let p : Standing = c.args.self.program in
+    let at = answered p c.next-access.result c.make-found.result c.answer.result c.next-access.ensures c.answer.ensures in
+    let to = moved_to p c.resume.new.self c.make-found.result c.answer.result c.resume.ensures.row at in
+    (c.make-found.result, c.make-found.ensures.made, to, subst (λ (q : Standing). IsGoing q.row) (sym to) (going_point p c.make-found.result c.answer.result c.resume.result c.in-Goes.point at c.in-Goes.is c.resume.ensures.progress).0)

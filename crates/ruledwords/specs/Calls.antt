@@ -1,0 +1,95 @@
+-- The accesses of a call, on what its pass knows.
+use Rattle.std.specs.Prelude.{◌≡◌, ◌≢◌, ℕ, ◌+◌, ◌-◌, ◌<◌, ◌≤◌, Bool, true, Option, Some, None, List, ◌++◌}
+use Rattle.lockword.specs.Cells.{fields_of}
+use Rattle.lockword.specs.declared.reply.Reply.{Reply}
+use Rattle.lockword.specs.declared.reply.Reply.TheVariants.{OK, EOWNERDEAD}
+use Rattle.keys.specs.declared.access.Access.{Access}
+use Rattle.keys.specs.declared.access.Answer.{Answer}
+use Rattle.keys.specs.declared.point.Operation.{Operation}
+use Rattle.keys.specs.declared.point.Operation.TheVariants.{Lock, TryLock, Unlock, Death}
+use Rattle.keys.specs.declared.point.Point.{Point}
+use Rattle.keys.specs.declared.object.Object.{Object}
+use Rattle.keys.specs.Accesses.{changed, answer_at}
+use Rattle.keys.specs.Histories.{is_thread}
+use Rattle.keys.specs.Layouts.{Layout', cell_place}
+use Rattle.keys.specs.Objects.{fresh, Run, object_of, acquires}
+use Rattle.mutex.specs.declared.row.Row.{Row}
+use Rattle.mutex.specs.declared.row.Led.{Led}
+use Rattle.mutex.specs.Laws.{Expects, Sound, points, decided, IsOf, reached, changes, tells_change}
+use Rattle.mutex.specs.Programs.{access_of, led, point_of, row_operation}
+use Rattle.mutex.specs.Rows.{Knows}
+use Rattle.mutex.specs.Standings.{Standing}
+use Rattle.mutex.specs.Steps.{Expects-prop, Knows-prop}
+use Rattle.ruledwords.specs.declared.card.Card.{Card}
+use Rattle.ruledwords.specs.Cards.{at}
+use Rattle.ruledwords.specs.Seen.{by, holds, Leaves, Sees}
+use Rattle.ruledwords.specs.Rules.{Sat, At, Turns}
+use Rattle.std.proofs.Props.{props}
+
+-- where a call goes whose access meets this word
+abbrev pub led_at : Standing → ℕ → Led
+led_at p n = led p (answer_at (access_of p) n)
+
+-- the access is an exchange that found another word
+abbrev pub fails : Access → ℕ → ℕ
+fails a n = tells_change (answer_at a n)
+
+-- the call's cell is that of a mutex of the layout
+abbrev pub IsInLayout : Layout' → Standing → Type 0
+IsInLayout k p = (m : ℕ) × (m < k.mutexes) × (p.cell ≡ cell_place k m)
+
+-- it is a call of the card's thread, and what its row needs of the mutex is so, as far as that thread has seen it
+abbrev pub Ready : Standing → Card → Type 0
+Ready p c = (p.thread ≡ c.thread) × Knows p.row × ((o : Object) → Run fresh (at c.seen p.cell) o → Expects c.thread p.row o)
+
+-- an access of a call, at a word that was n: its point, if it is one, is what the thread sees anew
+pub record Made (p : Standing) (c : Card) (n : ℕ) (d : Card) : Type 0 where
+  pub sees : Sees c p.cell (points (point_of c.thread p.cell (row_operation p.row) (led_at p n).point)) (object_of (fields_of (changed (access_of p) n))) d
+  pub misses : d.misses ≡ c.misses + fails (access_of p) n
+  pub last : d.last ≡ n
+  pub sound : Sound (object_of (fields_of n))
+  pub met : Expects c.thread p.row (object_of (fields_of n))
+  pub holder : holds c.thread (at c.seen p.cell) ≡ is_thread c.thread (object_of (fields_of n)).owner
+  pub thread : (1 ≤ c.thread) × (c.thread ≤ 64)
+
+abbrev pub made : Standing → At → Sat → ℕ → Sat → Type 0
+made p st me r me' = Turns me me' (λ c d. Made p c r d)
+
+abbrev pub count_by : ℕ → Operation → Reply → ℕ
+count_by n Lock OK = n + 1
+count_by n Lock EOWNERDEAD = n + 1
+count_by n TryLock OK = n + 1
+count_by n TryLock EOWNERDEAD = n + 1
+count_by n Unlock OK = n - 1
+count_by n Death OK = n - 1
+count_by n op r = n
+
+-- how many mutexes a thread holds that held so many before its point
+abbrev pub count_after : ℕ → Option Point → ℕ
+count_after n None = n
+count_after n (Some x) = count_by n x.operation x.reply
+
+abbrev pub most_of : Option Reply → Bool → ℕ
+most_of None true = 2047
+most_of x b = 2048
+
+-- so many a thread holds at most that stands there: one less where it may still take one
+abbrev pub most : Row → ℕ
+most r = most_of (decided r) (acquires (row_operation r))
+
+-- a call that began at the card c stands at the program p, and its pass has the card d: of its points it has seen those that its row tells, and of its exchanges those failed that its answers tell
+pub record Stands (op : Operation) (first : Row) (c : Card) (p : Standing) (d : Card) : Type 0 where
+  pub of : IsOf op p.row
+  pub thread : d.thread ≡ c.thread
+  pub threads : d.threads ≡ c.threads
+  pub elsewhere : (q : ℕ) → q ≢ p.cell → at d.seen q ≡ at c.seen q
+  pub between : List Point
+  pub grows : at d.seen p.cell ≡ (at c.seen p.cell ++ between) ++ points (point_of c.thread p.cell op (decided p.row))
+  pub own : by c.thread (at d.seen p.cell) ≡ by c.thread (at c.seen p.cell) ++ points (point_of c.thread p.cell op (decided p.row))
+  pub left : decided p.row ≢ None → (o : Object) × Leaves c.threads p.cell (at d.seen p.cell) o
+  pub answers : List Answer
+  pub reaches : reached c.thread first answers ≡ p.row
+  pub misses : d.misses ≡ c.misses + changes answers
+
+pub ready_prop : (p : Standing) (c : Card) → IsProp (Ready p c)
+ready_prop p c = Prim.hlevel (props, Expects-prop, Knows-prop)

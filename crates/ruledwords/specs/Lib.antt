@@ -1,0 +1,7 @@
+pub mod Cards
+pub mod Seen
+pub mod Rules
+pub mod Passes
+pub mod Calls
+pub mod Outcomes
+pub mod Turns

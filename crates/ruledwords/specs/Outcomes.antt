@@ -1,0 +1,55 @@
+-- What the calls of a pass answer.
+use Rattle.std.specs.Prelude.{◌≡◌, ℕ, ◌+◌, ◌≤◌, nat_le, MatchBool, Result, Ok, Err, if◌then◌else◌}
+use Rattle.lockword.specs.Cells.{fields_of}
+use Rattle.lockword.specs.declared.reply.Reply.TheVariants.{OK, EPERM, XRACED, XHELD}
+use Rattle.keys.specs.declared.point.Operation.TheVariants.{TryLock, Unlock}
+use Rattle.keys.specs.Layouts.{cell_place}
+use Rattle.ruledwords.specs.declared.pass.Words.{Words}
+use Rattle.ruledwords.specs.declared.pass.Pass.{Pass}
+use Rattle.ruledwords.specs.declared.pass.Live.{Live}
+use Rattle.ruledwords.specs.declared.outcome.Outcome.{Outcome}
+use Rattle.ruledwords.specs.declared.outcome.Outcome.TheVariants as outcome
+use Rattle.ruledwords.specs.declared.outcome.Released.{Released}
+use Rattle.ruledwords.specs.declared.outcome.Released.TheVariants as released
+use Rattle.ruledwords.specs.declared.outcome.Owed.{Owed}
+use Rattle.ruledwords.specs.declared.outcome.Wakes.{Wakes}
+use Rattle.ruledwords.specs.declared.outcome.Wakes.TheVariants.{Nobody, One, All}
+use Rattle.ruledwords.specs.Seen.{Called, held}
+use Rattle.ruledwords.specs.Passes.{card, layout_of, IsPassOf}
+
+-- a trylock of mutex m: by a thread that holds 2,048 mutexes it is refused, with nothing seen anew. Otherwise the reply is that of its point, and it gives up only
+-- after four exchanges that each found a changed cell, as the pass counts them
+abbrev pub Tried : Words → ℕ → Pass Live → Outcome → Type 0
+Tried w m a (outcome.Lives b r) =
+    IsPassOf w b
+    × MatchBool (nat_le 2048 (held (card a))) ((r ≡ XHELD) × (card b ≡ card a))
+    (Called (card a) (cell_place (layout_of w) m) TryLock r (card b) × (r ≡ XRACED → (card a).misses + 4 ≤ (card b).misses))
+Tried w m a (outcome.Dead b) = ⊥
+
+-- whom a release has to wake that found this word: nobody where nobody waits, else all of a mutex that became unusable, else one
+abbrev pub wakes_of : ℕ → Wakes
+wakes_of w = if (fields_of w).waiters then (if (fields_of w).died then All else One) else Nobody
+
+abbrev pub owed_pass : Owed → Pass Live
+owed_pass w = w.pass
+
+abbrev pub owed_wakes : Owed → Wakes
+owed_wakes w = w.wakes
+
+-- the place of the cell that was released
+abbrev pub owed_cell : Owed → ℕ
+owed_cell w = w.cell
+
+-- a release of mutex m: its point is an unlock with OK where the mutex is freed, and with EPERM where it is refused. Whom it has to wake is told by the word that it found,
+-- the last that the pass met
+abbrev pub Frees : Words → ℕ → Pass Live → Released → Type 0
+Frees w m a (released.Owes o) =
+    IsPassOf w (owed_pass o) × Called (card a) (cell_place (layout_of w) m) Unlock OK (card (owed_pass o))
+    × (owed_wakes o ≡ wakes_of (card (owed_pass o)).last) × (owed_cell o ≡ cell_place (layout_of w) m)
+Frees w m a (released.Refused b r) = IsPassOf w b × (r ≡ EPERM) × Called (card a) (cell_place (layout_of w) m) Unlock EPERM (card b)
+Frees w m a (released.Dead b) = ⊥
+
+-- an unlock ends exactly where nobody is to be woken. Nothing is seen anew
+abbrev pub Settles : Owed → Result (Pass Live) Owed → Type 0
+Settles w (Ok b) = (owed_wakes w ≡ Nobody) × (b ≡ owed_pass w)
+Settles w (Err v) = ¬ (owed_wakes w ≡ Nobody) × (v ≡ w)

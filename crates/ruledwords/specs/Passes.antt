@@ -1,0 +1,28 @@
+-- What clauses say of words and passes.
+use Rattle.std.specs.Prelude.{◌≡◌, ◌≤◌, ℕ, List}
+use Rattle.std.specs.Mem.Slots.{slots_items}
+use Rattle.keys.specs.Layouts.{Layout'}
+use Rattle.ruledwords.specs.declared.card.Card.{Card}
+use Rattle.ruledwords.specs.declared.pass.Words.{Words}
+use Rattle.ruledwords.specs.declared.pass.Pass.{Pass}
+use Rattle.ruledwords.specs.declared.pass.Last.{Last}
+use Rattle.ruledwords.specs.Rules.{card_of}
+
+abbrev pub layout_of : Words → Layout'
+layout_of w = w.layout
+
+abbrev pub last_layout : Last → Layout'
+last_layout l = l.layout
+
+-- the words after the last step
+abbrev pub last_words : Last → List ℕ
+last_words l = slots_items l.closed.words
+
+module _ {A : Type 0} where
+  -- what the pass knows
+  abbrev pub card : Pass A → Card
+  card p = card_of p.seat.me.0
+
+  -- it is a pass of these words, for one of their layout's threads
+  abbrev pub IsPassOf : Words → Pass A → Type 0
+  IsPassOf w p = (p.seat.table_id ≡ w.table.shared.table_id) × ((card p).threads ≡ w.layout.threads) × ((card p).thread ≤ w.layout.threads)

@@ -1,0 +1,133 @@
+-- The rule of the shared words: what holds between any two steps, of the words and of what all passes know.
+--
+-- Histories: some legal list of points of each mutex leaves the mutex as its cell says. What a pass has seen begins it, and has all points of the pass's thread.
+-- Own words: a thread alone writes its head, the links of the mutexes that it owns and the counters of their condition variables. Its pass may know
+-- their values. While it owns a mutex in which it saw WAITERS, that stays set.
+use Rattle.std.specs.Prelude.{◌≡◌, ℕ, zero, suc, ◌+◌, ◌-◌, ◌/◌, ◌%◌, ◌<◌, ◌≤◌, ◌==◌, ◌&&◌, nat_lt, true, Option, Some, List, [], ◌∷◌, length, slice_index, if◌then◌else◌}
+use mathlib.Core.Option.{some}
+use mathlib.Core.List.{IsPrefix}
+use lib.ListN.{get_elem?}
+use Rattle.atomic_table.specs.Table.{State, Me, Step}
+use Rattle.lockword.specs.Cells.{fields_of}
+use Rattle.keys.specs.declared.point.Point.{Point}
+use Rattle.keys.specs.declared.object.Object.{Object}
+use Rattle.keys.specs.Layouts.{Layout', IsLayout, head_place, cell_place, counter_place, words_of}
+use Rattle.keys.specs.Objects.{object_of}
+use Rattle.ruledwords.specs.declared.card.Card.{Card}
+use Rattle.ruledwords.specs.Cards.{at, value_at, put_value, mark_at}
+use Rattle.ruledwords.specs.Seen.{by, Leaves, Joined}
+
+-- ---- the beginning
+
+-- a head at first: its own address as the first entry, the offset -1, and no pending entry
+abbrev pub head_word : ℕ → ℕ
+head_word p = if p % 3 == 1 then p else if p % 3 == 2 then 18446744073709551615 else 0
+
+-- the words at first: heads, mutexes that nobody owns, and counters that begin at these values
+abbrev pub first_word : Layout' → List ℕ → ℕ → ℕ
+first_word k counters p = if nat_lt p (cell_place k 0) then head_word p else if nat_lt p (counter_place k 0) then 0 else slice_index counters (p - counter_place k 0)
+
+-- a thread knows its head
+abbrev pub first_values : ℕ → List (Option ℕ)
+first_values t = put_value (put_value (put_value [] (head_place t) (Some (head_place t))) (head_place t + 1) (Some 18446744073709551615)) (head_place t + 2) (Some 0)
+
+-- what thread t of so many knows at first: its own head, and nothing of any mutex
+abbrev pub first_card : ℕ → ℕ → Card
+first_card n t = record { threads = n; thread = t; seen = []; misses = 0; last = 0; values = first_values t; marks = [] }
+
+-- the cards of so many threads from t on
+abbrev pub hand : ℕ → ℕ → ℕ → List Card
+hand n t zero = []
+hand n t (suc more) = first_card n t ∷ hand n (t + 1) more
+
+-- ---- whose the words are
+
+-- the mutex whose owner alone writes at p, the place of a link or a counter
+abbrev pub guard : Layout' → ℕ → ℕ
+guard k p = if nat_lt p (counter_place k 0) then (p - cell_place k 0) / 3 else slice_index k.conditions (p - counter_place k 0)
+
+abbrev pub owner_at : Layout' → List ℕ → ℕ → ℕ
+owner_at k ws m = (fields_of (slice_index ws (cell_place k m))).owner
+
+-- the thread that alone writes at p, 0 for none: anybody may change a cell
+abbrev pub keeper : Layout' → List ℕ → ℕ → ℕ
+keeper k ws p =
+    if nat_lt p (cell_place k 0) then (p + 2) / 3
+    else if nat_lt p (counter_place k 0) && ((p - cell_place k 0) % 3 == 0) then 0 else owner_at k ws (guard k p)
+
+-- ---- what holds
+
+-- what a card says is so: its history begins that of each mutex and has all points of its thread, and the values and marks that it knows are those of the words
+pub record Fits (k : Layout') (ws : List ℕ) (js : List (List Point)) (c : Card) : Type 0 where
+  pub thread : (1 ≤ c.thread) × (c.thread ≤ k.threads)
+  pub threads : c.threads ≡ k.threads
+  pub begins : (p : ℕ) → IsPrefix (at c.seen p) (at js p)
+  pub own : (p : ℕ) → by c.thread (at c.seen p) ≡ by c.thread (at js p)
+  pub values : (p x : ℕ) → value_at c.values p ≡ Some x → (slice_index ws p ≡ x) × (keeper k ws p ≡ c.thread)
+  pub marks : (m : ℕ) → m < k.mutexes → mark_at c.marks (cell_place k m) ≡ true → owner_at k ws m ≡ c.thread → (fields_of (slice_index ws (cell_place k m))).waiters ≡ true
+
+abbrev pub AllFit : Layout' → List ℕ → List (List Point) → List Card → Type 0
+AllFit k ws js [] = Unit {0}
+AllFit k ws js (c ∷ cs) = Fits k ws js c × AllFit k ws js cs
+
+-- how many cards are of the thread t
+abbrev pub cards_of : ℕ → List Card → ℕ
+cards_of t [] = 0
+cards_of t (c ∷ cs) = (if c.thread == t then 1 else 0) + cards_of t cs
+
+abbrev pub all_cards_of : ℕ → List (List Card) → ℕ
+all_cards_of t [] = 0
+all_cards_of t (v ∷ vs) = cards_of t v + all_cards_of t vs
+
+-- the rule; the bits of a cell above its flags are 0, and a counter has 32 bits
+pub record Kept (k : Layout') (s : State (Unit {0}) (List Card)) : Type 0 where
+  pub layout : IsLayout k
+  pub wide : length s.words ≡ words_of k
+  pub histories : List (List Point)
+  pub leaves : (m : ℕ) → m < k.mutexes → Leaves k.threads (cell_place k m) (at histories (cell_place k m)) (object_of (fields_of (slice_index s.words (cell_place k m))))
+  pub legal : (p : ℕ) → (o : Object) × Leaves k.threads p (at histories p) o
+  pub narrow : (m : ℕ) → m < k.mutexes → (fields_of (slice_index s.words (cell_place k m))).rest ≡ 0
+  pub counters : (q : ℕ) → q < length k.conditions → slice_index s.words (counter_place k q) < 4294967296
+  pub fits : (id : ℕ) (v : List Card) → get_elem? s.views id ≡ some v → AllFit k s.words histories v
+  pub once : (t : ℕ) → all_cards_of t s.views ≤ 1
+
+-- ---- what steps tell
+
+abbrev pub Sat : Type 0
+Sat = Me (Unit {0}) (List Card)
+
+abbrev pub At : Type 0
+At = Step (Unit {0})
+
+-- the one card of a pass
+abbrev pub card_of : List Card → Card
+card_of [] = record { threads = 0; thread = 0; seen = []; misses = 0; last = 0; values = []; marks = [] }
+card_of (c ∷ cs) = c
+
+abbrev pub IsOne : Sat → Type 0
+IsOne me = me ≡ (card_of me.0 ∷ [], [])
+
+-- one card becomes another, of which this is told
+abbrev pub Turns : Sat → Sat → (Card → Card → Type 0) → Type 0
+Turns me me' tells = (c : Card) → me ≡ (c ∷ [], []) → (d : Card) × (me' ≡ (d ∷ [], [])) × tells c d
+
+-- how the cards of one seat are dealt: the first, and the rest
+abbrev pub first_of : List Card → List Card
+first_of [] = []
+first_of (c ∷ cs) = c ∷ []
+
+abbrev pub rest_of : List Card → List Card
+rest_of [] = []
+rest_of (c ∷ cs) = cs
+
+-- a load by a seat that has two cards
+abbrev pub met : At → Sat → ℕ → Sat → Type 0
+met st me r me' = (c d : Card) → me ≡ (c ∷ d ∷ [], []) → (c' : Card) × (d' : Card) × (me' ≡ (c' ∷ d' ∷ [], [])) × Joined c d c' d'
+
+-- the last words are those after legal lists, which begin with what the pass saw and have just its thread's points of its own. A cell has no bits above its flags
+pub record Ends (k : Layout') (c : Card) (words : List ℕ) : Type 0 where
+  pub histories : List (List Point)
+  pub leaves : (m : ℕ) → m < k.mutexes → Leaves k.threads (cell_place k m) (at histories (cell_place k m)) (object_of (fields_of (slice_index words (cell_place k m))))
+  pub narrow : (m : ℕ) → m < k.mutexes → (fields_of (slice_index words (cell_place k m))).rest ≡ 0
+  pub begins : (p : ℕ) → IsPrefix (at c.seen p) (at histories p)
+  pub own : (p : ℕ) → by c.thread (at histories p) ≡ by c.thread (at c.seen p)

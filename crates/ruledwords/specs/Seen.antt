@@ -1,0 +1,83 @@
+-- What a pass has seen of each mutex, and what its thread holds by that.
+--
+-- What is seen of a mutex is a legal list of its points: from a mutex that nobody has locked yet, each is a step of the mutex as POSIX has it. Between
+-- passes that never met, no order is claimed.
+use Rattle.std.specs.Prelude.{◌≡◌, ◌≢◌, ℕ, ◌+◌, ◌≤◌, ◌==◌, Bool, true, false, List, [], ◌∷◌, ◌++◌, filter, if◌then◌else◌}
+use mathlib.Core.List.{IsPrefix}
+use Rattle.lockword.specs.declared.reply.Reply.{Reply}
+use Rattle.lockword.specs.declared.reply.Reply.TheVariants.{OK, EOWNERDEAD}
+use Rattle.keys.specs.declared.point.Operation.{Operation}
+use Rattle.keys.specs.declared.point.Operation.TheVariants.{Lock, TryLock, Unlock, Death}
+use Rattle.keys.specs.declared.point.Point.{Point}
+use Rattle.keys.specs.declared.object.Object.{Object}
+use Rattle.keys.specs.Objects.{fresh, Run}
+use Rattle.ruledwords.specs.declared.card.Card.{Card}
+use Rattle.ruledwords.specs.Cards.{at}
+
+-- the points that thread t made
+abbrev pub by : ℕ → List Point → List Point
+by t xs = filter (λ (x : Point). x.thread == t) xs
+
+-- they are points of the mutex whose cell is at p, by threads 1 to n
+abbrev pub AllOf : ℕ → ℕ → List Point → Type 0
+AllOf n p [] = Unit {0}
+AllOf n p (x ∷ xs) = ((x.at ≡ p) × (1 ≤ x.thread) × (x.thread ≤ n)) × AllOf n p xs
+
+-- a legal list of such points leaves the mutex as o
+abbrev pub Leaves : ℕ → ℕ → List Point → Object → Type 0
+Leaves n p xs o = Run fresh xs o × AllOf n p xs
+
+-- whether its thread holds the mutex after a point
+abbrev pub holds_after : Bool → Operation → Reply → Bool
+holds_after b Lock OK = true
+holds_after b Lock EOWNERDEAD = true
+holds_after b TryLock OK = true
+holds_after b TryLock EOWNERDEAD = true
+holds_after b Unlock OK = false
+holds_after b Death OK = false
+holds_after b op r = b
+
+abbrev pub held_after : Bool → List Point → Bool
+held_after b [] = b
+held_after b (x ∷ xs) = held_after (holds_after b x.operation x.reply) xs
+
+-- by its own points among these, thread t holds the mutex
+abbrev pub holds : ℕ → List Point → Bool
+holds t xs = held_after false (by t xs)
+
+abbrev pub count_held : ℕ → List (List Point) → ℕ
+count_held t [] = 0
+count_held t (xs ∷ xss) = (if holds t xs then 1 else 0) + count_held t xss
+
+-- how many mutexes the card's thread holds by its own points
+abbrev pub held : Card → ℕ
+held c = count_held c.thread c.seen
+
+-- a pass saw more at p: after what it had seen stand other threads' points, then its thread's new ones, and all of that is legal and leaves o. What it saw elsewhere stays
+pub record Sees (c : Card) (p : ℕ) (new : List Point) (o : Object) (d : Card) : Type 0 where
+  pub thread : d.thread ≡ c.thread
+  pub threads : d.threads ≡ c.threads
+  pub elsewhere : (q : ℕ) → q ≢ p → at d.seen q ≡ at c.seen q
+  pub between : List Point
+  pub grows : at d.seen p ≡ (at c.seen p ++ between) ++ new
+  pub own : by c.thread (at d.seen p) ≡ by c.thread (at c.seen p) ++ new
+  pub leaves : Leaves c.threads p (at d.seen p) o
+
+-- a call on the mutex whose cell is at p, decided by a point with this reply, of which the pass has seen the mutex's history up to that point
+abbrev pub Called : Card → ℕ → Operation → Reply → Card → Type 0
+Called c p op r d = (o : Object) × Sees c p (record { thread = c.thread; at = p; operation = op; reply = r } ∷ []) o d
+
+-- passes of two threads that met see one legal list of each mutex. It begins with what either had seen, so it has all those points, each once and in the same order; and of each of the two threads it
+-- has just the points that this thread made. Nothing else of them changes
+pub record Joined (c d c' d' : Card) : Type 0 where
+  pub seen : List (List Point)
+  pub apart : c.thread ≢ d.thread
+  pub first : c' ≡ record c { seen = seen }
+  pub second : d' ≡ record d { seen = seen }
+  pub legal : (p : ℕ) → (o : Object) × Leaves c.threads p (at seen p) o
+  pub begins : (p : ℕ) → IsPrefix (at c.seen p) (at seen p) × IsPrefix (at d.seen p) (at seen p)
+  pub own : (p : ℕ) → (by c.thread (at seen p) ≡ by c.thread (at c.seen p)) × (by d.thread (at seen p) ≡ by d.thread (at d.seen p))
+
+-- no mutex is held by both threads
+abbrev pub AreExclusive : Card → Card → Type 0
+AreExclusive c d = (p : ℕ) → holds c.thread (at c.seen p) ≡ true → holds d.thread (at d.seen p) ≡ false

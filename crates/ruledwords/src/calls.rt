@@ -1,0 +1,74 @@
+//! The calls on mutexes, which wait for nobody.
+ghost use Rattle.std.specs.Prelude.{◌≡◌, ◌<◌};
+ghost use Rattle.ruledwords.specs.Outcomes.{Tried, Frees};
+ghost use Rattle.ruledwords.specs.Passes.{layout_of, IsPassOf};
+
+use crate::fate::Fate;
+use crate::outcome::{Outcome, Owed, Released, Wakes};
+use crate::pass::{Live, Pass, Words};
+use crate::turn::{Running, Turn};
+use keys::Access;
+use lockword::Reply;
+use mutex::Call;
+
+/// All sleepers of a word: there are at most as many as threads.
+const ALL: u32 = 64;
+
+impl Words {
+    /// Takes a mutex if it is free (pthread_mutex_trylock). The reply is OK; EOWNERDEAD where its last owner died and nobody declared it consistent; EBUSY where it is owned;
+    /// ENOTRECOVERABLE where it can't be used any more; XRACED after four exchanges that each found a changed cell; XHELD, with no access, where the thread holds 2,048
+    /// mutexes. The fate isn't asked yet, and is left as it was.
+    pub fn try_lock<F: Fate>(&self, pass: Pass<Live>, mutex: u16, fate: &mut F) -> Outcome
+        requires pass { IsPassOf self.now pass }
+        requires mutex { mutex < (layout_of self.now).mutexes }
+        ensures tried { Tried self.now mutex pass result }
+        ensures fate { fate.new ≡ fate.old }
+    {
+        let mut running = match Running::call(self, pass, Call::TryLock(mutex)) {
+            Ok(running) => running,
+            Err((pass, reply)) => return Outcome::Lives(pass, reply),
+        };
+        loop {
+            match running.access(self) {
+                Turn::Goes(next) => running = next,
+                Turn::Lives(pass, reply) => return Outcome::Lives(pass, reply),
+            }
+        }
+    }
+
+    /// Frees a mutex that the thread owns (pthread_mutex_unlock), up to the waking of sleepers. One that is inconsistent becomes unusable. Another's mutex is refused with EPERM.
+    /// The fate isn't asked yet, and is left as it was.
+    pub fn release<F: Fate>(&self, pass: Pass<Live>, mutex: u16, fate: &mut F) -> Released
+        requires pass { IsPassOf self.now pass }
+        requires mutex { mutex < (layout_of self.now).mutexes }
+        ensures frees { Frees self.now mutex pass result }
+        ensures fate { fate.new ≡ fate.old }
+    {
+        let cell = self.layout.cell(mutex);
+        let mut running = match Running::call(self, pass, Call::Unlock(mutex)) {
+            Ok(running) => running,
+            Err((pass, reply)) => return Released::Refused(pass, reply),
+        };
+        loop {
+            if let Access::Wake { most, .. } = running.next() {
+                let wakes = if most == ALL { Wakes::All } else { Wakes::One };
+                return Released::Owes(Owed {
+                    pass: running.pass,
+                    cell,
+                    wakes,
+                });
+            }
+            match running.access(self) {
+                Turn::Goes(next) => running = next,
+                Turn::Lives(pass, Reply::OK) => {
+                    return Released::Owes(Owed {
+                        pass,
+                        cell,
+                        wakes: Wakes::Nobody,
+                    });
+                }
+                Turn::Lives(pass, reply) => return Released::Refused(pass, reply),
+            }
+        }
+    }
+}

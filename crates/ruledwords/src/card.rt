@@ -1,0 +1,24 @@
+//! What passes know.
+use keys::Point;
+use std::collections::LinkedList;
+
+/// What one thread knows of the shared words. It stands in contracts and proofs alone: no value of it is made.
+pub struct Card {
+    /// How many threads there are.
+    pub threads: u64,
+    /// Whose card it is.
+    pub thread: u64,
+    /// What it has seen of each mutex, by the place of its cell.
+    pub seen: LinkedList<LinkedList<Point>>,
+    /// How many of its exchanges found a changed cell.
+    pub misses: u64,
+    /// The cell's word that its last access to one found.
+    pub last: u64,
+    /// The words that only this thread writes, by place, where they are known.
+    pub values: LinkedList<Option<u64>>,
+    /// The cells in which it saw WAITERS, by place.
+    pub marks: LinkedList<bool>,
+}
+
+/// A pass has one card. While passes are dealt, or meet, one seat has several.
+pub type View = LinkedList<Card>;

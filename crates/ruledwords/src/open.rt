@@ -1,0 +1,113 @@
+//! The beginning of the words.
+ghost use Rattle.std.specs.Prelude.{◌≡◌, ℕ, ◌+◌, ◌<◌, Some, IfOk, All, length, slice_get, slice_index};
+ghost use Rattle.keys.specs.Layouts.{words_of, IsLayout};
+ghost use Rattle.ruledwords.specs.Rules.{first_card, first_word as opening_word};
+ghost use Rattle.ruledwords.specs.Passes.{layout_of, card, IsPassOf};
+
+use crate::pass::{Live, Pass, Words};
+use crate::rule::Deal;
+use atomic_table::Table;
+use keys::{Layout, NoMem};
+use lockword::Tid;
+use std::alloc::{AllocError, Global};
+use std::marker::PhantomData;
+
+/// An offset of -1: an entry's cell stands before it.
+const OFFSET: u64 = 0xffff_ffff_ffff_ffff;
+
+impl Words {
+    /// Makes the words, with a value for each condition variable's counter in the order of their numbers, and a pass for each thread in the order of their ids. Each
+    /// list is empty, and nobody owns a mutex.
+    pub fn new(
+        alloc: Global,
+        layout: Layout,
+        presets: &[u32],
+    ) -> Result<(Words, Vec<Pass<Live>>), NoMem>
+        requires { length presets.now ≡ length layout.conditions }
+        ensures layout { IfOk result (λ r. layout_of r.0 ≡ layout) }
+        ensures passes { IfOk result (λ r. length r.1.items ≡ layout.threads) }
+        ensures each { IfOk result (λ r. All (λ p. IsPassOf r.0 p) r.1.items) }
+        ensures cards { IfOk result (λ r. (i : ℕ) (p : _) → slice_get r.1.items i ≡ Some p → card p ≡ first_card layout.threads (i + 1)) }
+    {
+        match Words::made(alloc, layout, presets) {
+            Ok(made) => Ok(made),
+            Err(_) => Err(NoMem),
+        }
+    }
+
+    fn made(
+        alloc: Global,
+        layout: Layout,
+        presets: &[u32],
+    ) -> Result<(Words, Vec<Pass<Live>>), AllocError>
+        requires { length presets.now ≡ length layout.conditions }
+        ensures layout { IfOk result (λ r. layout_of r.0 ≡ layout) }
+        ensures passes { IfOk result (λ r. length r.1.items ≡ layout.threads) }
+        ensures each { IfOk result (λ r. All (λ p. IsPassOf r.0 p) r.1.items) }
+        ensures cards { IfOk result (λ r. (i : ℕ) (p : _) → slice_get r.1.items i ≡ Some p → card p ≡ first_card layout.threads (i + 1)) }
+    {
+        let words = first_words(alloc, &layout, presets)?;
+        let threads = layout.threads();
+        let mut passes = Vec::with_capacity(alloc, threads as usize)?;
+        let (table, mut seat) = Table::of_words(alloc, words.as_slice(), &layout)?;
+        for before in 0..threads {
+            let mine = table.shared.split_seat::<Deal>(&mut seat);
+            let pass = Pass {
+                seat: mine,
+                thread: thread_after(before),
+                held: 0,
+                state: PhantomData,
+            };
+            passes.push(pass)?;
+        }
+        Ok((Words { table, layout }, passes))
+    }
+}
+
+/// The thread that comes after so many.
+fn thread_after(before: u8) -> Tid
+    requires { before < 64 }
+    ensures { result ≡ before + 1 }
+{
+    match Tid::new(before + 1) {
+        Some(thread) => thread,
+        None => unreachable!(),
+    }
+}
+
+/// The words before the first step.
+fn first_words(alloc: Global, layout: &Layout, presets: &[u32]) -> Result<Vec<u64>, AllocError>
+    requires { length presets.now ≡ length layout.now.conditions }
+    ensures count { IfOk result (λ words. length words.items ≡ words_of layout.now) }
+    ensures each { IfOk result (λ words. (p : ℕ) → p < words_of layout.now → slice_index words.items p ≡ opening_word layout.now presets.now p) }
+    ensures layout { IsLayout layout.now }
+{
+    let count = layout.words();
+    let mut words = Vec::with_capacity(alloc, count)?;
+    for place in 0..count {
+        words.push(first_word(layout, presets, place))?;
+    }
+    Ok(words)
+}
+
+/// The word at a place before the first step.
+fn first_word(layout: &Layout, presets: &[u32], place: usize) -> u64
+    requires counters { length presets.now ≡ length layout.now.conditions }
+    requires place { place < words_of layout.now }
+    ensures { result ≡ opening_word layout.now presets.now place }
+{
+    let cells = 1 + 3 * layout.threads() as usize;
+    let counters = cells + 3 * layout.mutexes() as usize;
+    if place < cells {
+        return match place % 3 {
+            1 => place as u64,
+            2 => OFFSET,
+            _ => 0,
+        };
+    }
+    if place < counters {
+        0
+    } else {
+        u64::from(presets[place - counters])
+    }
+}

@@ -1,0 +1,46 @@
+//! The rule of the words, and what each kind of step tells its pass.
+use crate::card::View;
+use atomic_table::{Join, Play, Split, TableRule};
+use keys::Layout;
+
+/// Each mutex has one legal history.
+pub struct History;
+
+impl TableRule<(), View, Layout> for History {
+    ghost use Rattle.ruledwords.specs.Rules.{Kept, hand};
+
+    ghost holds = { Kept };
+
+    ghost first = { λ k. hand k.threads 1 k.threads };
+}
+
+/// A load by a seat that has the cards of two threads.
+pub(crate) struct Meet;
+
+impl Play<(), View> for Meet {
+    ghost use Rattle.ruledwords.specs.Rules.{met};
+
+    ghost then = { met };
+}
+
+/// The first card goes to a seat of its own.
+pub(crate) struct Deal;
+
+impl Split<View> for Deal {
+    ghost use Rattle.ruledwords.specs.Rules.{first_of, rest_of};
+
+    ghost left = { rest_of };
+
+    ghost right = { first_of };
+}
+
+/// Two seats' cards come to one.
+pub(crate) struct Gather;
+
+impl Join<View> for Gather {
+    ghost use Rattle.std.specs.Prelude.{[], ◌++◌};
+
+    ghost both = { λ v w. v ++ w };
+
+    ghost spent = { [] };
+}

@@ -1,0 +1,146 @@
+//! Two threads at one mutex.
+ghost use Rattle.std.specs.Prelude.{◌≡◌, ◌<◌};
+ghost use Rattle.ruledwords.specs.Passes.{layout_of, IsPassOf};
+
+use crate::{Live, Never, Outcome, Pass, Released, Wakes, Words};
+use keys::Layout;
+use lockword::Reply;
+use std::test::Fail;
+use std::thread;
+
+const ROUNDS: u32 = 100_000;
+
+fn try_lock(words: &Words, pass: Pass<Live>, mutex: u16) -> (Pass<Live>, Reply)
+    requires pass { IsPassOf words.now pass }
+    requires mutex { mutex < (layout_of words.now).mutexes }
+    ensures { IsPassOf words.now result.0 }
+{
+    match words.try_lock(pass, mutex, &mut Never) {
+        Outcome::Lives(pass, reply) => (pass, reply),
+        Outcome::Dead(_) => unreachable!(),
+    }
+}
+
+fn unlock(words: &Words, pass: Pass<Live>, mutex: u16) -> (Pass<Live>, Reply)
+    requires pass { IsPassOf words.now pass }
+    requires mutex { mutex < (layout_of words.now).mutexes }
+    ensures { IsPassOf words.now result.0 }
+{
+    match words.release(pass, mutex, &mut Never) {
+        Released::Owes(owed) => match owed.settle(words) {
+            Ok(pass) => (pass, Reply::OK),
+            Err(owed) => (owed.woken(), Reply::EAGAIN),
+        },
+        Released::Refused(pass, reply) => (pass, reply),
+        Released::Dead(_) => unreachable!(),
+    }
+}
+
+/// The rounds that were won, and the pass.
+fn rounds(words: &Words, first: Pass<Live>) -> (u32, Pass<Live>)
+    requires pass { IsPassOf words.now first }
+    requires mutex { 0 < (layout_of words.now).mutexes }
+    ensures { IsPassOf words.entry.now result.1 }
+{
+    let mut pass = first;
+    let mut won: u32 = 0;
+    for _ in 0..ROUNDS {
+        let (after, reply) = try_lock(words, pass, 0);
+        pass = after;
+        if reply == Reply::OK || reply == Reply::EOWNERDEAD {
+            let (after, _reply) = unlock(words, pass, 0);
+            pass = after;
+            won = won.wrapping_add(1);
+        }
+    }
+    (won, pass)
+}
+
+#[test]
+fn two_threads_try_one_mutex(rt: HostRuntime) -> Result<(), Fail> {
+    let layout = Layout::new(2, 1, &[])?;
+    let (words, mut passes) = Words::new(rt.alloc(), layout, &[])?;
+    let second = passes.pop().unwrap();
+    let first = passes.pop().unwrap();
+    let shared = &words;
+    let (a, b) = thread::join(
+        &rt,
+        || -> (u32, Pass<Live>)
+            requires { IsPassOf shared.now first × (0 < (layout_of shared.now).mutexes) }
+            ensures { IsPassOf shared.entry.now result.1 }
+        { rounds(shared, first) },
+        || -> (u32, Pass<Live>)
+            requires { IsPassOf shared.now second × (0 < (layout_of shared.now).mutexes) }
+            ensures { IsPassOf shared.entry.now result.1 }
+        { rounds(shared, second) },
+    );
+    assert!(rt; a.0 <= ROUNDS && b.0 <= ROUNDS);
+    let (first, _second) = words.meet(a.1, b.1);
+    let last = words.close(first);
+    assert!(rt; last.cell(0) == 0);
+    Ok(())
+}
+
+#[test]
+fn replies_to_two_passes(rt: HostRuntime) -> Result<(), Fail> {
+    let layout = Layout::new(2, 2, &[1, 0])?;
+    let (words, mut passes) = Words::new(rt.alloc(), layout, &[7, 4_294_967_295])?;
+    let second = passes.pop().unwrap();
+    let first = passes.pop().unwrap();
+    let (first, none) = unlock(&words, first, 1);
+    let (first, taken) = try_lock(&words, first, 1);
+    let (second, busy) = try_lock(&words, second, 1);
+    let (second, another) = unlock(&words, second, 1);
+    let (first, mine) = try_lock(&words, first, 1);
+    let (first, freed) = unlock(&words, first, 1);
+    let (second, now) = try_lock(&words, second, 1);
+    assert!(rt; none == Reply::EPERM && taken == Reply::OK && busy == Reply::EBUSY);
+    assert!(rt; another == Reply::EPERM && mine == Reply::EBUSY && freed == Reply::OK);
+    assert!(rt; now == Reply::OK);
+    let (_first, second) = words.meet(first, second);
+    let last = words.close(second);
+    assert!(rt; last.cell(0) == 0 && last.cell(1) == 2);
+    assert!(rt; last.counter(0) == 7 && last.counter(1) == 4_294_967_295);
+    Ok(())
+}
+
+#[test]
+fn release_owes_nobody(rt: HostRuntime) -> Result<(), Fail> {
+    let layout = Layout::new(1, 1, &[])?;
+    let (words, mut passes) = Words::new(rt.alloc(), layout, &[])?;
+    let pass = passes.pop().unwrap();
+    let (pass, taken) = try_lock(&words, pass, 0);
+    assert!(rt; taken == Reply::OK);
+    match words.release(pass, 0, &mut Never) {
+        Released::Owes(owed) => {
+            assert!(rt; owed.wakes() == Wakes::Nobody);
+            let _pass = owed.woken();
+        }
+        Released::Refused(_, _) | Released::Dead(_) => assert!(rt; false),
+    }
+    Ok(())
+}
+
+#[test]
+fn the_2049th_mutex_is_refused(rt: HostRuntime) -> Result<(), Fail> {
+    let layout = Layout::new(1, 2049, &[])?;
+    let (words, mut passes) = Words::new(rt.alloc(), layout, &[])?;
+    let mut pass = passes.pop().unwrap();
+    let mut taken: u32 = 0;
+    for mutex in 0..2048_u16 {
+        let (after, reply) = try_lock(&words, pass, mutex);
+        pass = after;
+        if reply == Reply::OK {
+            taken = taken.wrapping_add(1);
+        }
+    }
+    let (pass, refused) = try_lock(&words, pass, 2048);
+    let (pass, freed) = unlock(&words, pass, 7);
+    let (pass, last) = try_lock(&words, pass, 2048);
+    assert!(rt;
+        taken == 2048 && refused == Reply::XHELD && freed == Reply::OK && last == Reply::OK
+    );
+    let end = words.close(pass);
+    assert!(rt; end.cell(7) == 0 && end.cell(2048) == 1);
+    Ok(())
+}
