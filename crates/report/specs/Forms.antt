@@ -1,5 +1,5 @@
 -- The forms of a command line.
-use Rattle.std.specs.Prelude.{ℕ, Bool, true, not, ◌&&◌, ◌==◌, List, [], ◌∷◌, codes, Some, if◌then◌else◌}
+use Rattle.std.specs.Prelude.{ℕ, Bool, true, not, ◌==◌, List, [], ◌∷◌, codes, Some, if◌then◌else◌}
 use Rattle.std.specs.Str.{bytes_eq}
 use Rattle.clap.specs.Words.{App, Rule, new_app, new_rule, with_rule, with_subcommand}
 use Rattle.clap.specs.declared.builder.ArgAction.TheVariants.{Set}
@@ -9,6 +9,7 @@ use Rattle.report.specs.declared.form.Form.TheVariants as form
 -- what a command line asks for, with the texts of its words
 pub data Asked : Type 0 where
   run : List ℕ → Asked
+  threads : List ℕ → Asked
   usage : Asked
 
 -- a word that names a file: it doesn't begin with a hyphen
@@ -18,7 +19,9 @@ is_file_word (b ∷ bs) = not (b == 45)
 
 -- what a subcommand and a word after it ask for
 abbrev pub asked_of_file : List ℕ → List ℕ → Asked
-asked_of_file word file = if bytes_eq word (codes "run") && is_file_word file then run file else usage
+asked_of_file word file = if not (is_file_word file) then usage
+    else (if bytes_eq word (codes "run") then run file
+    else (if bytes_eq word (codes "threads") then threads file else usage))
 
 -- what the words of a command line ask for, of which the first is the program's name
 abbrev pub asked_of : List (List ℕ) → Asked
@@ -28,6 +31,7 @@ asked_of _ = usage
 -- what a form says
 abbrev pub asked_by : Form → Asked
 asked_by (form.Run file) = run file.now
+asked_by (form.Threads file) = threads file.now
 asked_by form.Usage = usage
 
 -- ---- the command that clap is given
@@ -35,8 +39,9 @@ asked_by form.Usage = usage
 abbrev pub file_rule : Rule
 file_rule = record (new_rule (codes "FILE")) { required = true; action = Some Set }
 
-abbrev pub run_app : App
-run_app = with_rule (new_app (codes "run")) file_rule
+-- a subcommand with a file
+abbrev pub file_app : List ℕ → App
+file_app name = with_rule (new_app name) file_rule
 
 abbrev pub rfx : App
-rfx = with_subcommand (new_app (codes "rfx")) run_app.top
+rfx = with_subcommand (with_subcommand (new_app (codes "rfx")) (file_app (codes "run")).top) (file_app (codes "threads")).top

@@ -3,3 +3,4 @@ pub mod Text
 pub mod Forms
 pub mod Served
 pub mod Replies
+pub mod Threads

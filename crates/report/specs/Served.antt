@@ -5,10 +5,16 @@ use Rattle.std.specs.Io.KnownBytes.{Appends, Consumes, IsAtEnd}
 use Rattle.protocol.specs.declared.note.Note.{Note}
 use Rattle.protocol.specs.Notes.{lines_from}
 use Rattle.protocol.specs.Machine.{notes}
-use Rattle.script.specs.declared.command.Mode.TheVariants.{Run}
+use Rattle.script.specs.declared.command.Mode.{Mode}
+use Rattle.script.specs.declared.command.Mode.TheVariants.{Run, Threads}
 use Rattle.script.specs.Scope.{Scope}
 use Rattle.script.specs.Reading.{script_read}
 use Rattle.script.specs.Playing.{first_state, events_in, overlong}
+use Rattle.report.specs.declared.form.Form.{Form}
+use Rattle.report.specs.declared.form.Form.TheVariants as form
+use Rattle.report.specs.declared.replies.ThreadReplies.{ThreadReplies}
+use Rattle.report.specs.declared.replies.MutexWord.{MutexWord}
+use Rattle.report.specs.Replies.{replies_text}
 use Rattle.report.specs.Leaves.{AppendsFront}
 use Rattle.report.specs.Text.{head_line, line_text, end_line}
 
@@ -20,25 +26,50 @@ run_text threads mutexes ns = head_line threads mutexes 0 ++ (concat (map line_t
 abbrev pub meaning : Scope → List ℕ
 meaning s = run_text (length s.threads) (length s.mutexes) (notes (first_state s) (events_in s))
 
--- these bytes are a script that isn't too long to play, and all of its meaning was written
-abbrev pub Written : Option (List ℕ) → Option (List ℕ) → List ℕ → Type 0
-Written old new bytes = MatchResult (script_read Run bytes) (λ s. (overlong s ≡ None) × Appends old new (meaning s)) (λ e. ⊥)
+-- what may be written of a script: of a run, if it isn't too long to play, its meaning; of real threads, some replies of each of its threads and some word of each of its mutexes,
+-- by their names. What real threads are told isn't determined by the script
+abbrev pub Means : Mode → Scope → List ℕ → Type 0
+Means Run s text = (overlong s ≡ None) × (text ≡ meaning s)
+Means Threads s text =
+    (threads : List ThreadReplies) × (mutexes : List MutexWord) × (map (λ t. t.name.now) threads ≡ s.threads) × (map (λ m. m.name.now) mutexes ≡ s.mutexes) × (text ≡ replies_text threads mutexes)
+
+-- of a script for real threads, what it means was written, or a beginning of that
+abbrev pub Tells : Option (List ℕ) → Option (List ℕ) → Scope → Type 0
+Tells old new s = (text : List ℕ) × Means Threads s text × Appends old new text
+
+abbrev pub TellsFront : Option (List ℕ) → Option (List ℕ) → Scope → Type 0
+TellsFront old new s = (text : List ℕ) × Means Threads s text × AppendsFront old new text
+
+-- these bytes are a script of this mode, and all of what it means was written
+abbrev pub Written : Mode → Option (List ℕ) → Option (List ℕ) → List ℕ → Type 0
+Written k old new bytes = MatchResult (script_read k bytes) (λ s. (text : List ℕ) × Means k s text × Appends old new text) (λ e. ⊥)
 
 -- the same, but that writing stopped somewhere
-abbrev pub WrittenFront : Option (List ℕ) → Option (List ℕ) → List ℕ → Type 0
-WrittenFront old new bytes = MatchResult (script_read Run bytes) (λ s. (overlong s ≡ None) × AppendsFront old new (meaning s)) (λ e. ⊥)
+abbrev pub WrittenFront : Mode → Option (List ℕ) → Option (List ℕ) → List ℕ → Type 0
+WrittenFront k old new bytes = MatchResult (script_read k bytes) (λ s. (text : List ℕ) × Means k s text × AppendsFront old new text) (λ e. ⊥)
 
--- nothing was written; or a beginning of the meaning of these bytes
-abbrev pub WritesFront : Option (List ℕ) → Option (List ℕ) → List ℕ → Type 0
-WritesFront old new bytes = (new ≡ old) ⊎ WrittenFront old new bytes
+-- nothing was written; or a beginning of what these bytes mean
+abbrev pub WritesFront : Mode → Option (List ℕ) → Option (List ℕ) → List ℕ → Type 0
+WritesFront k old new bytes = (new ≡ old) ⊎ WrittenFront k old new bytes
 
--- all that the reader had, up to its end, is a script whose meaning was written
-abbrev pub Served : Option (List ℕ) → Option (List ℕ) → Option (List ℕ) → Option (List ℕ) → Type 0
-Served had left old new = (bytes : List ℕ) × Consumes had left bytes × IsAtEnd left × Written old new bytes
+-- all that the reader had, up to its end, is a script of this mode, and what it means was written
+abbrev pub Served : Mode → Option (List ℕ) → Option (List ℕ) → Option (List ℕ) → Option (List ℕ) → Type 0
+Served k had left old new = (bytes : List ℕ) × Consumes had left bytes × IsAtEnd left × Written k old new bytes
 
--- nothing was written; or a beginning of the meaning of all that the reader had
-abbrev pub ServedFront : Option (List ℕ) → Option (List ℕ) → Option (List ℕ) → Option (List ℕ) → Type 0
-ServedFront had left old new = (new ≡ old) ⊎ ((bytes : List ℕ) × Consumes had left bytes × IsAtEnd left × WrittenFront old new bytes)
+-- nothing was written; or a beginning of what all that the reader had means
+abbrev pub ServedFront : Mode → Option (List ℕ) → Option (List ℕ) → Option (List ℕ) → Option (List ℕ) → Type 0
+ServedFront k had left old new = (new ≡ old) ⊎ ((bytes : List ℕ) × Consumes had left bytes × IsAtEnd left × WrittenFront k old new bytes)
+
+-- the same for each form of a command line; the usage is no success, and writes nothing
+abbrev pub ServedAs : Form → Option (List ℕ) → Option (List ℕ) → Option (List ℕ) → Option (List ℕ) → Type 0
+ServedAs (form.Run file) had left old new = Served Run had left old new
+ServedAs (form.Threads file) had left old new = Served Threads had left old new
+ServedAs form.Usage had left old new = ⊥
+
+abbrev pub ServedFrontAs : Form → Option (List ℕ) → Option (List ℕ) → Option (List ℕ) → Option (List ℕ) → Type 0
+ServedFrontAs (form.Run file) had left old new = ServedFront Run had left old new
+ServedFrontAs (form.Threads file) had left old new = ServedFront Threads had left old new
+ServedFrontAs form.Usage had left old new = new ≡ old
 
 -- at most so many bytes were taken from the reader
 abbrev pub TakesAtMost : ℕ → Option (List ℕ) → Option (List ℕ) → Type 0

@@ -3,7 +3,7 @@
 ghost use Rattle.std.specs.Prelude.{◌≡◌, ◌≢◌, true, false, IfOk, map};
 ghost use Rattle.clap.specs.Words.{app_of, rule_of, takes};
 ghost use Rattle.clap.specs.declared.builder.command.Command.TheViews.{out-Command};
-ghost use Rattle.report.specs.Forms.{is_file_word, asked_of_file, asked_of, asked_by, rfx, run_app, file_rule};
+ghost use Rattle.report.specs.Forms.{is_file_word, asked_of_file, asked_of, asked_by, rfx, file_app, file_rule};
 
 use clap::error::ErrorKind;
 use clap::{Arg, ArgAction, Command};
@@ -15,6 +15,8 @@ use std::alloc::{AllocError, Global};
 pub enum Form<'a> {
     /// `rfx run FILE`: the script in this file is run. The name doesn't begin with a hyphen.
     Run(&'a str),
+    /// `rfx threads FILE`: the calls of the script in this file are made by real threads. The name doesn't begin with a hyphen.
+    Threads(&'a str),
     /// Every other command line, those that ask for help or the version among them.
     Usage,
 }
@@ -29,19 +31,21 @@ fn file<'a>(alloc: Global) -> Arg<'a>
         .action(ArgAction::Set)
 }
 
-/// The subcommand `run FILE`.
-fn run<'a>(alloc: Global) -> Result<Command<'a>, AllocError>
-    ensures app { IfOk result (λ r. app_of r ≡ run_app) }
+/// The subcommand of this name, with its FILE.
+fn subcommand<'a>(alloc: Global, name: &'a str) -> Result<Command<'a>, AllocError>
+    ensures app { IfOk result (λ r. app_of r ≡ file_app name.now) }
     ensures local { IfOk result (λ r. (out-Command r).has_globals ≡ false) }
 {
-    Command::new(alloc, "run").arg(file(alloc))
+    Command::new(alloc, name).arg(file(alloc))
 }
 
 /// The command that clap is given.
 fn command<'a>(alloc: Global) -> Result<Command<'a>, AllocError>
     ensures { IfOk result (λ r. app_of r ≡ rfx) }
 {
-    Command::new(alloc, "rfx").subcommand(run(alloc)?)
+    Command::new(alloc, "rfx")
+        .subcommand(subcommand(alloc, "run")?)?
+        .subcommand(subcommand(alloc, "threads")?)
 }
 
 /// Whether clap takes the words.
@@ -75,10 +79,13 @@ fn is_file(word: &str) -> bool
 fn form_of_file<'a>(word: &str, file: &'a str) -> Form<'a>
     ensures { asked_by result ≡ asked_of_file word.now file.now }
 {
-    if word == "run" && is_file(file) {
-        Form::Run(file)
-    } else {
-        Form::Usage
+    if !is_file(file) {
+        return Form::Usage;
+    }
+    match word {
+        "run" => Form::Run(file),
+        "threads" => Form::Threads(file),
+        _ => Form::Usage,
     }
 }
 

@@ -1,6 +1,7 @@
 //! What the program reads and writes: the texts of traces and of threads' replies, the forms of the command line, and its messages.
 #![tactic(auto)]
 
+mod answers;
 mod form;
 mod lines;
 mod messages;
@@ -9,6 +10,7 @@ mod reading;
 mod replies;
 mod serving;
 mod text;
+mod threads;
 
 pub use form::{Form, form_of_words};
 pub use messages::{CANNOT_READ, CANNOT_WRITE, OUT_OF_MEMORY, USAGE};

@@ -2,6 +2,7 @@
 
 mod program;
 mod texts;
+mod threads;
 
 use std::io::{self, ErrorKind, Write};
 
@@ -28,6 +29,43 @@ impl Write for Narrow {
         self.held.extend_from_slice(&buf[..count])?;
         self.room -= count;
         Ok(count)
+    }
+
+    fn flush(&mut self) -> io::Result<()> {
+        Ok(())
+    }
+}
+
+/// Holds up to 512 bytes, of which it takes one at a call, and needs no memory.
+#[derive(Drop)]
+pub struct Fixed {
+    held: [u8; 512],
+    len: usize,
+}
+
+impl Fixed {
+    pub fn new() -> Fixed {
+        Fixed {
+            held: [0; 512],
+            len: 0,
+        }
+    }
+
+    pub fn bytes(&self) -> &[u8] {
+        self.held.get(..self.len).unwrap_or(&[])
+    }
+}
+
+impl Write for Fixed {
+    fn write(&mut self, buf: &[u8]) -> io::Result<usize> {
+        match (buf.first(), self.held.get_mut(self.len)) {
+            (Some(byte), Some(place)) => {
+                *place = *byte;
+                self.len += 1;
+                Ok(1)
+            }
+            _ => Ok(0),
+        }
     }
 
     fn flush(&mut self) -> io::Result<()> {

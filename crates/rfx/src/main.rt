@@ -1,4 +1,4 @@
-//! `rfx`: runs a script event by event and prints its trace.
+//! `rfx`: runs a script event by event and prints its trace, or lets real threads make its calls and prints their replies.
 //!
 //! All but opening files stands in `report`, whose contracts say what is written.
 #![tactic(auto)]
@@ -7,6 +7,7 @@ use report::{CANNOT_READ, Form, OUT_OF_MEMORY, form_of_words, serve};
 use std::alloc::{AllocError, Global};
 use std::io::{self, BufWriter, Read, Write};
 use std::process::ExitCode;
+use std::thread::Threads;
 use std::{env, fs};
 
 /// The standard input's name among files. It is read as it stands, since opening it anew is refused where it is a socket, or another user's pipe.
@@ -30,27 +31,44 @@ fn lent<'a>(alloc: Global, words: &'a [String]) -> Result<Vec<&'a str>, AllocErr
     Ok(lent)
 }
 
-fn served(rt: &HostRuntime, form: &Form<'_>, input: &mut impl Read) -> io::Result<u8> {
+/// Serves a form, by threads of `workers` where it needs some.
+fn served<T: Threads + Sync>(
+    rt: &HostRuntime,
+    workers: &T,
+    form: &Form<'_>,
+    input: &mut impl Read,
+) -> io::Result<u8> {
     let mut out = BufWriter::new(rt.alloc(), rt.stdout())?;
-    Ok(serve(rt.alloc(), form, input, &mut out, &mut rt.stderr()))
+    Ok(serve(workers, rt.alloc(), form, input, &mut out, &mut rt.stderr()))
 }
 
-fn run(rt: &HostRuntime) -> io::Result<u8> {
+fn run<T: Threads + Sync>(rt: &HostRuntime, workers: &T) -> io::Result<u8> {
     let words = words(rt)?;
     let words = lent(rt.alloc(), &words)?;
     let Ok(form) = form_of_words(rt.alloc(), &words) else {
         return tell(rt, OUT_OF_MEMORY);
     };
     match form {
-        Form::Run(file) if file == STANDARD_INPUT => served(rt, &form, &mut rt.stdin()),
-        Form::Run(file) => match fs::open(rt, file) {
-            Ok(mut input) => served(rt, &form, &mut input),
-            Err(_) => {
-                let _ = rt.eprint(format_args!("{CANNOT_READ}{file}\n"));
-                Ok(1)
-            }
-        },
-        Form::Usage => served(rt, &form, &mut io::empty()),
+        Form::Run(file) | Form::Threads(file) => served_file(rt, workers, &form, file),
+        Form::Usage => served(rt, workers, &form, &mut io::empty()),
+    }
+}
+
+fn served_file<T: Threads + Sync>(
+    rt: &HostRuntime,
+    workers: &T,
+    form: &Form<'_>,
+    file: &str,
+) -> io::Result<u8> {
+    if file == STANDARD_INPUT {
+        return served(rt, workers, form, &mut rt.stdin());
+    }
+    match fs::open(rt, file) {
+        Ok(mut input) => served(rt, workers, form, &mut input),
+        Err(_) => {
+            let _ = rt.eprint(format_args!("{CANNOT_READ}{file}\n"));
+            Ok(1)
+        }
     }
 }
 
@@ -61,7 +79,7 @@ fn tell(rt: &HostRuntime, message: &str) -> io::Result<u8> {
 }
 
 fn main(rt: HostRuntime) -> ExitCode {
-    match run(&rt) {
+    match run(&rt, &rt) {
         Ok(status) => ExitCode::from(status),
         Err(_) => {
             let _ = rt.eprint(OUT_OF_MEMORY);

@@ -2,7 +2,7 @@
 
 ghost use Rattle.std.specs.Prelude.{◌≤◌};
 
-use super::Narrow;
+use super::{Fixed, Narrow};
 use crate::messages::{CANNOT_READ, CANNOT_WRITE, OUT_OF_MEMORY, USAGE};
 use crate::reading::{ReadFault, read_below};
 use crate::{Form, form_of_words, serve};
@@ -10,6 +10,7 @@ use keys::NoMem;
 use std::alloc::{AllocError, Global};
 use std::io::{self, ErrorKind, Read, Write};
 use std::process::Abort;
+use std::thread::Threads;
 
 /// Gives one byte at a call, and each other call is interrupted. It fails at its end if it is told to.
 #[derive(Drop)]
@@ -79,6 +80,7 @@ fn forms_are_told(rt: HostRuntime) -> Result<(), NoMem> {
     asked(&rt, &["rfx", "run", "f"], Form::Run("f"))?;
     asked(&rt, &["rfx", "run", ""], Form::Run(""))?;
     asked(&rt, &["rfx", "run", "help"], Form::Run("help"))?;
+    asked(&rt, &["rfx", "threads", "f"], Form::Threads("f"))?;
     asked(&rt, &["rfx", "run", "-f"], Form::Usage)?;
     asked(&rt, &["rfx", "run", "-"], Form::Usage)?;
     asked(&rt, &["rfx", "run", "--", "f"], Form::Usage)?;
@@ -87,7 +89,9 @@ fn forms_are_told(rt: HostRuntime) -> Result<(), NoMem> {
     asked(&rt, &["rfx", "run"], Form::Usage)?;
     asked(&rt, &["rfx", "run", "a", "b"], Form::Usage)?;
     asked(&rt, &["rfx", "run", "--table", "f"], Form::Usage)?;
-    asked(&rt, &["rfx", "threads", "f"], Form::Usage)?;
+    asked(&rt, &["rfx", "threads", "-f"], Form::Usage)?;
+    asked(&rt, &["rfx", "threads"], Form::Usage)?;
+    asked(&rt, &["rfx", "threads", "a", "b"], Form::Usage)?;
     asked(&rt, &["rfx", "check", "f"], Form::Usage)?;
     asked(&rt, &["rfx", "--help"], Form::Usage)?;
     asked(&rt, &["rfx", "--version"], Form::Usage)?;
@@ -125,7 +129,7 @@ const ROW_TEXT: &str = "trace 1 1 0\n\
 
 /// What `rfx run f` answers, prints and tells, where `f` is the reader.
 fn run_is(
-    rt: &(impl AllocGlobal + Abort),
+    rt: &(impl AllocGlobal + Abort + Threads + Sync),
     mut input: Slow<'_>,
     status: u8,
     printed: &str,
@@ -133,7 +137,14 @@ fn run_is(
 ) {
     let mut out = Vec::new(rt.alloc());
     let mut err = Vec::new(rt.alloc());
-    let answer = serve(rt.alloc(), &Form::Run("f"), &mut input, &mut out, &mut err);
+    let answer = serve(
+        rt,
+        rt.alloc(),
+        &Form::Run("f"),
+        &mut input,
+        &mut out,
+        &mut err,
+    );
     assert!(rt; answer == status, "{told}");
     assert!(rt; out.as_slice() == printed.as_bytes(), "{told}");
     assert!(rt; err.as_slice() == told.as_bytes(), "{told}");
@@ -174,7 +185,14 @@ fn bytes_are_told_before_their_words(rt: HostRuntime) {
         fails: false,
         interrupts: false,
     };
-    let status = serve(rt.alloc(), &Form::Run("f"), &mut input, &mut out, &mut err);
+    let status = serve(
+        &rt,
+        rt.alloc(),
+        &Form::Run("f"),
+        &mut input,
+        &mut out,
+        &mut err,
+    );
     assert!(rt; status == 1);
     assert!(rt; out.is_empty());
     assert!(rt; err.as_slice() == b"rfx: line 2: fault 1: not UTF-8\n".as_slice());
@@ -196,7 +214,14 @@ fn the_longest_script_is_run(rt: HostRuntime) -> Result<(), AllocError> {
         let mut input = script.as_slice();
         let mut out = Vec::new(rt.alloc());
         let mut err = Vec::new(rt.alloc());
-        let answer = serve(rt.alloc(), &Form::Run("f"), &mut input, &mut out, &mut err);
+        let answer = serve(
+            &rt,
+            rt.alloc(),
+            &Form::Run("f"),
+            &mut input,
+            &mut out,
+            &mut err,
+        );
         assert!(rt; answer == status, "{told}");
         assert!(rt; err.as_slice() == told.as_bytes(), "{told}");
     }
@@ -215,7 +240,14 @@ fn a_trace_that_cannot_be_written_is_told(rt: HostRuntime) {
         };
         let mut input = slow_reader(ROW, false);
         let mut err = Vec::new(rt.alloc());
-        let status = serve(rt.alloc(), &Form::Run("f"), &mut input, &mut out, &mut err);
+        let status = serve(
+            &rt,
+            rt.alloc(),
+            &Form::Run("f"),
+            &mut input,
+            &mut out,
+            &mut err,
+        );
         assert!(rt; status == 1, "room for {room}");
         assert!(rt; out.held.as_slice() == &text[..room], "room for {room}");
         assert!(rt;
@@ -230,47 +262,17 @@ fn usage_is_told(rt: HostRuntime) {
     let mut input = slow_reader(ROW, false);
     let mut out = Vec::new(rt.alloc());
     let mut err = Vec::new(rt.alloc());
-    let status = serve(rt.alloc(), &Form::Usage, &mut input, &mut out, &mut err);
+    let status = serve(
+        &rt,
+        rt.alloc(),
+        &Form::Usage,
+        &mut input,
+        &mut out,
+        &mut err,
+    );
     assert!(rt; status == 2);
     assert!(rt; out.is_empty());
     assert!(rt; err.as_slice() == USAGE.as_bytes());
-}
-
-/// Holds up to 512 bytes, of which it takes one at a call, and needs no memory.
-#[derive(Drop)]
-struct Fixed {
-    held: [u8; 512],
-    len: usize,
-}
-
-impl Fixed {
-    fn new() -> Fixed {
-        Fixed {
-            held: [0; 512],
-            len: 0,
-        }
-    }
-
-    fn bytes(&self) -> &[u8] {
-        self.held.get(..self.len).unwrap_or(&[])
-    }
-}
-
-impl Write for Fixed {
-    fn write(&mut self, buf: &[u8]) -> io::Result<usize> {
-        match (buf.first(), self.held.get_mut(self.len)) {
-            (Some(byte), Some(place)) => {
-                *place = *byte;
-                self.len += 1;
-                Ok(1)
-            }
-            _ => Ok(0),
-        }
-    }
-
-    fn flush(&mut self) -> io::Result<()> {
-        Ok(())
-    }
 }
 
 /// Passes too where any one allocation fails: nothing is printed then, and want of memory is told.
@@ -279,7 +281,14 @@ fn memory(rt: HostRuntime) {
     let mut input = slow_reader(ROW, false);
     let mut out = Fixed::new();
     let mut err = Fixed::new();
-    let status = serve(rt.alloc(), &Form::Run("f"), &mut input, &mut out, &mut err);
+    let status = serve(
+        &rt,
+        rt.alloc(),
+        &Form::Run("f"),
+        &mut input,
+        &mut out,
+        &mut err,
+    );
     if status == 0 {
         assert!(rt; out.bytes() == ROW_TEXT.as_bytes());
         assert!(rt; err.bytes().is_empty());
@@ -315,7 +324,14 @@ fn bytes_that_are_kept_back_are_told(rt: HostRuntime) {
         held: Vec::new(rt.alloc()),
     };
     let mut err = Vec::new(rt.alloc());
-    let status = serve(rt.alloc(), &Form::Run("f"), &mut input, &mut out, &mut err);
+    let status = serve(
+        &rt,
+        rt.alloc(),
+        &Form::Run("f"),
+        &mut input,
+        &mut out,
+        &mut err,
+    );
     assert!(rt; status == 1);
     assert!(rt; err.as_slice() == CANNOT_WRITE.as_bytes());
 }

@@ -1,0 +1,15 @@
+use Rattle.std.proofs.Common.{◌∙◌, sym}
+use Rattle.report.proofs.Phases.{jobs_right, worked, as_long}
+use Rattle.threadbench.specs.Jobs.{IsDone}
+use Rattle.report.proofs.threads.run_phase.Goals as goal
+
+pub work-requires-after_bounds : goal.work-requires-after_bounds
+work-requires-after_bounds g c κs within = jobs_right c.args.bench.now c.args.phase.now c.args.passes.items c.in-Ok.jobs.items c.in-Ok.ensures c.requires.right c.requires.possible
+
+pub gather-requires : goal.gather-requires
+gather-requires g c =
+    c.requires.as_many ∙ sym c.in-Ok.ensures.as_many ∙ sym (as_long (IsDone c.args.bench.now) c.in-Ok.jobs.items c.in_ok-records.records.items c.in_ok-records.ensures)
+
+pub returns-in-Ok-gather : goal.returns-in-Ok-gather
+returns-in-Ok-gather g c =
+    worked c.args.bench.now c.args.phase.now c.args.passes.items c.in-Ok-gather.passes.items c.in-Ok.jobs.items c.in_ok-records.records.items c.args.replies.now.items c.gather.new.replies.items c.in-Ok.ensures c.in_ok-records.ensures c.in-Ok-gather.ensures c.requires.as_many

@@ -1,0 +1,50 @@
+//! What a script's threads were answered, by the names of the script.
+ghost use Rattle.std.specs.Prelude.{◌≡◌, length, map, IfOk};
+
+use crate::replies::{MutexWord, ThreadReplies};
+use crate::threads::Answers;
+use lockword::Tid;
+use script::Script;
+use std::alloc::{AllocError, Global};
+
+/// Each thread's name and replies, in the order of the threads' ids.
+pub fn thread_replies<'a>(
+    alloc: Global,
+    script: &'a Script,
+    answers: &'a Answers,
+) -> Result<Vec<ThreadReplies<'a>>, AllocError>
+    requires { length answers.now.replies.items ≡ length script.now.threads }
+    ensures { IfOk result (λ v. map (λ t. t.name.now) v.items ≡ script.now.threads) }
+{
+    let mut lines = Vec::new(alloc);
+    let threads = script.threads();
+    for index in 0..threads {
+        let thread = Tid::new(index + 1).unwrap();
+        lines.push(ThreadReplies {
+            name: script.thread_name(thread),
+            replies: answers.replies[usize::from(index)].as_slice(),
+            died: false,
+        })?;
+    }
+    Ok(lines)
+}
+
+/// Each mutex's name and the word of its cell, in the order of the mutexes' numbers.
+pub fn mutex_words<'a>(
+    alloc: Global,
+    script: &'a Script,
+    answers: &'a Answers,
+) -> Result<Vec<MutexWord<'a>>, AllocError>
+    requires { length answers.now.cells.items ≡ length script.now.mutexes }
+    ensures { IfOk result (λ v. map (λ m. m.name.now) v.items ≡ script.now.mutexes) }
+{
+    let mut lines = Vec::new(alloc);
+    let mutexes = script.mutexes();
+    for mutex in 0..mutexes {
+        lines.push(MutexWord {
+            name: script.mutex_name(mutex),
+            cell: answers.cells[usize::from(mutex)],
+        })?;
+    }
+    Ok(lines)
+}

@@ -1,0 +1,127 @@
+//! Scripts on real threads. What the threads are told is fixed here by phases and by what one thread does alone.
+
+use super::{Fixed, Narrow};
+use crate::{Form, serve};
+use std::process::Abort;
+use std::thread::Threads;
+
+/// One thread is refused, takes, fails to take again and releases one mutex.
+const ALONE: &str =
+    "thread a\nmutex m\ncall a unlock m\ncall a trylock m\ncall a trylock m\ncall a unlock m\n";
+
+const ALONE_TEXT: &str = "replies a EPERM OK EBUSY OK\nmutex m 0000000000000000 - -\n";
+
+/// A thread holds the mutex, another finds it owned; it is released, and the other takes it.
+const PHASES: &str = "thread a\nthread b\nmutex m\ncall a trylock m\nphase\n\
+    call b trylock m\nphase\ncall a unlock m\nphase\ncall b trylock m\n";
+
+const PHASES_TEXT: &str = "replies a OK OK\nreplies b EBUSY OK\nmutex m 0000000000000002 b -\n";
+
+/// What `rfx threads f` answers, prints and tells of this script.
+fn threads_are(
+    rt: &(impl AllocGlobal + Abort + Threads + Sync),
+    script: &str,
+    status: u8,
+    printed: &str,
+    told: &str,
+) {
+    let mut input = script.as_bytes();
+    let mut out = Vec::new(rt.alloc());
+    let mut err = Vec::new(rt.alloc());
+    let answer = serve(
+        rt,
+        rt.alloc(),
+        &Form::Threads("f"),
+        &mut input,
+        &mut out,
+        &mut err,
+    );
+    assert!(rt; answer == status, "{told}");
+    assert!(rt; out.as_slice() == printed.as_bytes(), "{told}");
+    assert!(rt; err.as_slice() == told.as_bytes(), "{told}");
+}
+
+#[test]
+fn scripts_are_told(rt: HostRuntime) {
+    threads_are(&rt, ALONE, 0, ALONE_TEXT, "");
+    threads_are(&rt, PHASES, 0, PHASES_TEXT, "");
+    let idle = "thread a\nthread b\nmutex m\nphase\nphase\n";
+    threads_are(
+        &rt,
+        idle,
+        0,
+        "replies a\nreplies b\nmutex m 0000000000000000 - -\n",
+        "",
+    );
+}
+
+#[test]
+fn faults_are_told(rt: HostRuntime) {
+    for (script, told) in [
+        (
+            "thread a\nmutex m\nstep a 1\n",
+            "rfx: line 3: fault 2: unknown word\n",
+        ),
+        (
+            "thread a\nmutex m\ncall b unlock m\n",
+            "rfx: line 3: fault 4: no such name\n",
+        ),
+        (
+            "thread a\nmutex m\nmutex n\n",
+            "rfx: line 3: fault 3: number out of range\n",
+        ),
+    ] {
+        threads_are(&rt, script, 1, "", told);
+    }
+}
+
+#[test]
+fn a_writer_without_room_is_told(rt: HostRuntime) {
+    let text = PHASES_TEXT.as_bytes();
+    for room in 0..text.len() {
+        let mut input = PHASES.as_bytes();
+        let mut out = Narrow {
+            held: Vec::new(rt.alloc()),
+            room,
+            takes_none: false,
+            interrupts: false,
+        };
+        let mut err = Vec::new(rt.alloc());
+        let answer = serve(
+            &rt,
+            rt.alloc(),
+            &Form::Threads("f"),
+            &mut input,
+            &mut out,
+            &mut err,
+        );
+        assert!(rt; answer == 1, "room for {room}");
+        assert!(rt; out.held.as_slice() == &text[..room], "room for {room}");
+        assert!(rt; err.as_slice() == b"rfx: cannot write\n".as_slice());
+    }
+}
+
+/// Passes too where any one allocation fails: nothing is printed then, and want of memory is told.
+#[test]
+fn memory(rt: HostRuntime) {
+    let mut input = PHASES.as_bytes();
+    let mut out = Fixed::new();
+    let mut err = Fixed::new();
+    let status = serve(
+        &rt,
+        rt.alloc(),
+        &Form::Threads("f"),
+        &mut input,
+        &mut out,
+        &mut err,
+    );
+    if status == 0 {
+        assert!(rt; out.bytes() == PHASES_TEXT.as_bytes());
+        assert!(rt; err.bytes().is_empty());
+    } else {
+        assert!(rt; status == 1);
+        assert!(rt; out.bytes().is_empty());
+        assert!(rt; err.bytes().ends_with(b"out of memory\n"));
+        assert!(rt; err.bytes().starts_with(b"rfx: "));
+    }
+}

@@ -1,0 +1,3 @@
+mod Each
+mod Answers
+mod Workers

@@ -1,0 +1,4 @@
+pub mod Each
+pub mod Answered
+pub mod Jobs
+pub mod Workers

@@ -1,0 +1,80 @@
+//! The bench.
+ghost use Rattle.std.specs.Prelude.{◌≡◌, ◌<◌, ◌≤◌, ◌+◌, ℕ, All, length, slice_get, Some, IfOk};
+ghost use Rattle.ruledwords.specs.Passes.{card, layout_of, last_layout, last_words, IsPassOf};
+ghost use Rattle.ruledwords.specs.Rules.{first_card, Ends};
+ghost use Rattle.threadbench.specs.Jobs.{IsJobOf, AreDone};
+
+use crate::job::{Job, Record};
+use crate::worker::{hire, records_of, run_all};
+use keys::{Layout, NoMem};
+use ruledwords::{Last, Live, Pass, Words};
+use std::alloc::Global;
+use std::marker::Model;
+use std::thread::Threads;
+
+/// The words of a layout's threads, and what their calls need beside.
+#[derive(Drop)]
+pub struct Bench {
+    words: Words,
+}
+
+impl Model for Bench {
+    ghost use Rattle.ruledwords.specs.declared.pass.Words.{Words};
+
+    ghost Value = { Words };
+
+    ghost view = { λ b. b.words };
+}
+
+impl Bench {
+    /// A bench, and a pass for each thread in the order of their ids. Nobody owns a mutex, and the counters of the condition variables are those given, in the order of their numbers.
+    pub fn new(
+        alloc: Global,
+        layout: Layout,
+        presets: &[u32],
+    ) -> Result<(Bench, Vec<Pass<Live>>), NoMem>
+        requires { length presets.now ≡ length layout.conditions }
+        ensures layout { IfOk result (λ r. layout_of r.0 ≡ layout) }
+        ensures passes { IfOk result (λ r. length r.1.items ≡ layout.threads) }
+        ensures each { IfOk result (λ r. All (λ p. IsPassOf r.0 p) r.1.items) }
+        ensures cards { IfOk result (λ r. (i : ℕ) (p : _) → slice_get r.1.items i ≡ Some p → card p ≡ first_card layout.threads (i + 1)) }
+    {
+        let (words, passes) = Words::new(alloc, layout, presets)?;
+        Ok((Bench { words }, passes))
+    }
+
+    /// Its words, which callers' own threads may use too.
+    pub fn words(&self) -> &Words
+        ensures { result.now ≡ self.now }
+    {
+        &self.words
+    }
+
+    /// Runs one worker for each job, all at once, each in a thread of its own where one can be made, and joins them: each makes its job's calls in their order. A record has the replies,
+    /// and the pass after them; records are in the order of their jobs. Where memory is refused no call was made, and the jobs are dropped.
+    pub fn work<R: Threads + Sync>(
+        &self,
+        rt: &R,
+        alloc: Global,
+        jobs: Vec<Job>,
+    ) -> Result<Vec<Record>, NoMem>
+        requires { All (λ j. IsJobOf self.now j) jobs.items }
+        ensures { IfOk result (λ rs. AreDone self.now jobs.items rs.items) }
+    {
+        let mut workers = hire(alloc, jobs)?;
+        let Ok(room) = Vec::with_capacity(alloc, workers.len()) else {
+            return Err(NoMem);
+        };
+        run_all(rt, self.words(), &mut workers);
+        Ok(records_of(workers, room))
+    }
+
+    /// Ends the bench. What is left of the words begins with what the pass has seen.
+    pub fn close<A>(self, pass: Pass<A>) -> Last
+        requires { IsPassOf self pass }
+        ensures layout { last_layout result ≡ layout_of self }
+        ensures ends { Ends (layout_of self) (card pass) (last_words result) }
+    {
+        self.words.close(pass)
+    }
+}

@@ -1,0 +1,154 @@
+//! Threads at the mutexes of one bench, phase by phase.
+ghost use Rattle.std.specs.Prelude.{◌≡◌, ◌<◌, [], All, IfOk};
+ghost use Rattle.mutex.specs.Calls.{mutex_of};
+ghost use Rattle.ruledwords.specs.Passes.{layout_of, IsPassOf};
+ghost use Rattle.threadbench.specs.Jobs.{IsJobOf, IsDone};
+
+use crate::{Bench, Job, Record};
+use keys::{Layout, NoMem};
+use lockword::Reply;
+use mutex::Call;
+use ruledwords::{Live, Never, Outcome, Pass, Words};
+use std::alloc::Global;
+use std::test::Fail;
+use std::thread::Threads;
+
+fn job(alloc: Global, bench: &Bench, pass: Pass<Live>, calls: &[Call]) -> Result<Job, NoMem>
+    requires pass { IsPassOf bench.now pass }
+    requires calls { All (λ c. mutex_of c < (layout_of bench.now).mutexes) calls.now }
+    ensures { IfOk result (λ j. IsJobOf bench.now j) }
+{
+    match calls.to_vec(alloc) {
+        Ok(calls) => Ok(Job { pass, calls }),
+        Err(_) => Err(NoMem),
+    }
+}
+
+/// A phase of two threads.
+fn phase<R: Threads + Sync>(
+    rt: &R,
+    alloc: Global,
+    bench: &Bench,
+    first: Job,
+    second: Job,
+) -> Result<(Record, Record), NoMem>
+    requires first { IsJobOf bench.now first }
+    requires second { IsJobOf bench.now second }
+    ensures { IfOk result (λ r. IsDone bench.now first r.0 × IsDone bench.now second r.1) }
+{
+    let Ok(jobs) = Vec::from_array(alloc, [first, second]) else {
+        return Err(NoMem);
+    };
+    let mut records = bench.work(rt, alloc, jobs)?;
+    let second = records.pop().unwrap();
+    let first = records.pop().unwrap();
+    Ok((first, second))
+}
+
+fn try_lock(words: &Words, pass: Pass<Live>, mutex: u16) -> (Pass<Live>, Reply)
+    requires pass { IsPassOf words.now pass }
+    requires mutex { mutex < (layout_of words.now).mutexes }
+    ensures { IsPassOf words.now result.0 }
+{
+    match words.try_lock(pass, mutex, &mut Never) {
+        Outcome::Lives(pass, reply) => (pass, reply),
+        Outcome::Dead(_) => unreachable!(),
+    }
+}
+
+/// Thread 1 owns mutex 0 and thread 2 mutex 1; then thread 1 gives back its own, and thread 2 takes that too.
+#[test]
+fn phases_follow_each_other(rt: HostRuntime) -> Result<(), Fail> {
+    let alloc = rt.alloc();
+    let (bench, mut passes) = Bench::new(alloc, Layout::new(2, 2, &[])?, &[])?;
+    let second = passes.pop().unwrap();
+    let first = passes.pop().unwrap();
+
+    let first = job(alloc, &bench, first, &[Call::TryLock(0), Call::TryLock(0)])?;
+    let second = job(alloc, &bench, second, &[Call::Unlock(0), Call::TryLock(1)])?;
+    let (first, second) = phase(&rt, alloc, &bench, first, second)?;
+    assert!(rt; first.replies.as_slice() == [Reply::OK, Reply::EBUSY].as_slice());
+    assert!(rt; second.replies.as_slice() == [Reply::EPERM, Reply::OK].as_slice());
+
+    let first = job(
+        alloc,
+        &bench,
+        first.pass,
+        &[Call::TryLock(1), Call::Unlock(1), Call::Unlock(0)],
+    )?;
+    let second = job(alloc, &bench, second.pass, &[])?;
+    let (first, second) = phase(&rt, alloc, &bench, first, second)?;
+    assert!(rt; first.replies.as_slice() == [Reply::EBUSY, Reply::EPERM, Reply::OK].as_slice());
+    assert!(rt; second.replies.is_empty());
+
+    let (_second, taken) = try_lock(bench.words(), second.pass, 0);
+    assert_eq!(rt; taken, Reply::OK);
+    let (first, busy) = try_lock(bench.words(), first.pass, 0);
+    assert_eq!(rt; busy, Reply::EBUSY);
+    let last = bench.close(first);
+    assert_eq!(rt; last.cell(0), 2);
+    assert_eq!(rt; last.cell(1), 2);
+    Ok(())
+}
+
+fn has_replied(record: &Record, reply: Reply) -> bool {
+    record.replies.as_slice() == [reply].as_slice()
+}
+
+/// Two threads try one mutex at once: one of them takes it.
+#[test]
+fn one_of_two_takes(rt: HostRuntime) -> Result<(), Fail> {
+    let alloc = rt.alloc();
+    let (bench, mut passes) = Bench::new(alloc, Layout::new(2, 1, &[0])?, &[7])?;
+    let second = passes.pop().unwrap();
+    let first = passes.pop().unwrap();
+    let first = job(alloc, &bench, first, &[Call::TryLock(0)])?;
+    let second = job(alloc, &bench, second, &[Call::TryLock(0)])?;
+    let (first, second) = phase(&rt, alloc, &bench, first, second)?;
+    let first_wins = has_replied(&first, Reply::OK) && has_replied(&second, Reply::EBUSY);
+    let second_wins = has_replied(&first, Reply::EBUSY) && has_replied(&second, Reply::OK);
+    assert!(rt; first_wins || second_wins);
+    let last = bench.close(second.pass);
+    assert_eq!(rt; last.cell(0), if first_wins { 1 } else { 2 });
+    assert_eq!(rt; last.counter(0), 7);
+    Ok(())
+}
+
+/// A bench of three threads, jobs for the first two, and the third one's pass.
+fn prepared(alloc: Global, layout: Layout) -> Result<(Bench, Vec<Job>, Pass<Live>), NoMem>
+    requires threads { layout.threads ≡ 3 }
+    requires conditions { layout.conditions ≡ [] }
+    ensures { IfOk result (λ r. (layout_of r.0 ≡ layout) × All (λ j. IsJobOf r.0 j) r.1.items × IsPassOf r.0 r.2) }
+{
+    let (bench, mut passes) = Bench::new(alloc, layout, &[])?;
+    let third = passes.pop().unwrap();
+    let second = passes.pop().unwrap();
+    let first = passes.pop().unwrap();
+    let first = job(alloc, &bench, first, &[Call::TryLock(0)])?;
+    let second = job(alloc, &bench, second, &[Call::Unlock(0)])?;
+    match Vec::from_array(alloc, [first, second]) {
+        Ok(jobs) => Ok((bench, jobs, third)),
+        Err(_) => Err(NoMem),
+    }
+}
+
+/// Passes too where any one allocation fails: then no call of the phase was made, and nobody owns the mutex.
+#[test]
+fn memory(rt: HostRuntime) -> Result<(), Fail> {
+    let layout = Layout::new(3, 1, &[])?;
+    let Ok((bench, jobs, third)) = prepared(rt.alloc(), layout) else {
+        return Ok(());
+    };
+    let want = match bench.work(&rt, rt.alloc(), jobs) {
+        Ok(records) => {
+            assert_eq!(rt; records.len(), 2);
+            Reply::EBUSY
+        }
+        Err(NoMem) => Reply::OK,
+    };
+    let (third, reply) = try_lock(bench.words(), third, 0);
+    assert_eq!(rt; reply, want);
+    let last = bench.close(third);
+    assert_eq!(rt; last.cell(0), if want == Reply::OK { 3 } else { 1 });
+    Ok(())
+}
