@@ -1,25 +1,28 @@
 -- Names, one after the other.
-use Rattle.std.proofs.Common.{◌≡◌, ℕ, zero, suc, ◌+◌, List, [], ◌∷◌, ◌++◌, map, take, Some, ap, arith, ◌∙◌, sym, subst}
+use Rattle.std.proofs.Common.{◌≡◌, ℕ, zero, suc, ◌+◌, ◌<◌, length, slice_index_or, List, [], ◌∷◌, ◌++◌, map, take, Some, ap, arith, ◌∙◌, sym}
 use Rattle.std.specs.Prelude.{slice_get}
-use Rattle.report.specs.declared.replies.ThreadReplies.{ThreadReplies}
-use Rattle.report.specs.declared.replies.MutexWord.{MutexWord}
 use Rattle.std.proofs.lemmas.List.{map-append}
 
--- so many names, and the next
-take_next : (names : List (List ℕ)) (i : ℕ) (name : List ℕ) → slice_get names i ≡ Some name → take (suc i) names ≡ take i names ++ name ∷ []
-take_next [] i name is = absurd cc
-take_next (n ∷ names) zero name is = let same : n ≡ name = cc in ap (λ x. x ∷ []) same
-take_next (n ∷ names) (suc i) name is = ap (λ l. n ∷ l) (take_next names i name is)
+-- so many items, and the next
+take_next : {B : Type 0} (xs : List B) (i : ℕ) (x : B) → slice_get xs i ≡ Some x → take (suc i) xs ≡ take i xs ++ x ∷ []
+take_next [] i x is = absurd cc
+take_next (n ∷ xs) zero x is = let same : n ≡ x = cc in ap (λ z. z ∷ []) same
+take_next (n ∷ xs) (suc i) x is = ap (λ l. n ∷ l) (take_next xs i x is)
 
--- one line more has one name more
-pub named_next : {A : Type 0} (name_of : A → List ℕ) (names : List (List ℕ)) (i : ℕ) (lines lines' : List A) (line : A) → slice_get names i ≡ Some (name_of line) → map name_of lines ≡ take i names → lines' ≡ lines ++ line ∷ [] → map name_of lines' ≡ take (i + 1) names
-named_next name_of names i lines lines' line there so_far more =
+-- one line more says one item more
+pub said_next : {A B : Type 0} (says : A → B) (xs : List B) (i : ℕ) (lines lines' : List A) (line : A) → slice_get xs i ≡ Some (says line) → map says lines ≡ take i xs → lines' ≡ lines ++ line ∷ [] → map says lines' ≡ take (i + 1) xs
+said_next says xs i lines lines' line there so_far more =
     let one_more : i + 1 ≡ suc i = omega arith in
-    ap (map name_of) more ∙ map-append name_of lines (line ∷ []) ∙ ap (λ l. l ++ name_of line ∷ []) so_far ∙ sym (take_next names i (name_of line) there) ∙ ap (λ k. take k names) (sym one_more)
+    ap (map says) more ∙ map-append says lines (line ∷ []) ∙ ap (λ l. l ++ says line ∷ []) so_far ∙ sym (take_next xs i (says line) there) ∙ ap (λ k. take k xs) (sym one_more)
 
--- the names of lists that are the same
-pub same_threads : (xs ys : List ThreadReplies) (names : List (List ℕ)) → xs ≡ ys → map (λ t. t.name.now) ys ≡ names → map (λ t. t.name.now) xs ≡ names
-same_threads xs ys names same are = subst (λ (zs : List ThreadReplies). map (λ t. t.name.now) zs ≡ names) (sym same) are
+-- an item of a list, seen otherwise
+pub mapped_at : {A B : Type 0} (f : A → B) (xs : List A) (i : ℕ) (x : A) → slice_get xs i ≡ Some x → slice_get (map f xs) i ≡ Some (f x)
+mapped_at f [] i x is = absurd cc
+mapped_at f (y ∷ xs) zero x is = let same : y ≡ x = cc in ap (λ z. Some (f z)) same
+mapped_at f (y ∷ xs) (suc i) x is = mapped_at f xs i x is
 
-pub same_mutexes : (xs ys : List MutexWord) (names : List (List ℕ)) → xs ≡ ys → map (λ m. m.name.now) ys ≡ names → map (λ m. m.name.now) xs ≡ names
-same_mutexes xs ys names same are = subst (λ (zs : List MutexWord). map (λ m. m.name.now) zs ≡ names) (sym same) are
+-- what stands at a place
+pub at_place : {A : Type 0} (xs : List A) (i : ℕ) (x : A) → i < length xs → x ≡ slice_index_or xs i x → slice_get xs i ≡ Some x
+at_place [] i x lt is = absurd (omega (arith, lt))
+at_place (y ∷ xs) zero x lt is = ap Some (sym is)
+at_place (y ∷ xs) (suc i) x lt is = at_place xs i x (omega (arith, lt)) is

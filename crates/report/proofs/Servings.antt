@@ -1,5 +1,5 @@
 -- What was written of a script that was read and played.
-use Rattle.std.proofs.Common.{◌≡◌, ◌≤◌, ◌⊎◌, ℕ, List, ◌++◌, length, map, Option, Result, Ok, sym, subst, inl, inr, MatchResult, arith}
+use Rattle.std.proofs.Common.{◌≡◌, ◌≤◌, ◌⊎◌, ℕ, List, ◌++◌, length, map, Option, Result, Ok, refl, sym, subst, inl, inr, MatchResult, arith}
 use Rattle.std.specs.List.{concat}
 use Rattle.std.specs.Io.KnownBytes.{Appends, Consumes, IsAtEnd}
 use Rattle.protocol.specs.Notes.{lines_from}
@@ -12,9 +12,11 @@ use Rattle.script.specs.declared.limits.TheConstants.{MAX_BYTES}
 use Rattle.script.specs.Scope.{Scope}
 use Rattle.script.specs.Reading.{script_read}
 use Rattle.script.specs.Played.{IsPlayed}
+use Rattle.report.specs.declared.threads.Answers.{Answers}
+use Rattle.report.specs.Replies.{replies_text}
 use Rattle.report.specs.Leaves.{AppendsFront}
 use Rattle.report.specs.Text.{head_line, line_text, end_line, trace_text}
-use Rattle.report.specs.Served.{meaning, Means, Tells, TellsFront, Written, WritesFront, Served, ServedFront}
+use Rattle.report.specs.Served.{meaning, Means, Answer, Tells, TellsFront, Written, WritesFront, Served, ServedFront}
 
 -- the text of the trace is the script's meaning
 meaning-is : (s : Scope) (t : Trace) (m : Shown) → IsPlayed s t m → trace_text t ≡ meaning s
@@ -30,12 +32,16 @@ written_front old new bytes s t m reads p a =
     inr (subst (λ (r : Result Scope ScriptFault). MatchResult r (λ z. (text : List ℕ) × Means Run z text × AppendsFront old new text) (λ e. ⊥)) (sym reads) (trace_text t, (p.fits, meaning-is s t m p), a))
 
 -- what was told of a script's threads is what it means
-pub told : (old new : Option (List ℕ)) (bytes : List ℕ) (s : Scope) → script_read Threads bytes ≡ Ok s → Tells old new s → Written Threads old new bytes
-told old new bytes s reads tells = subst (λ (r : Result Scope ScriptFault). MatchResult r (Tells old new) (λ e. ⊥)) (sym reads) tells
+pub told : (old new : Option (List ℕ)) (bytes : List ℕ) (s : Scope) (a : Answers) → script_read Threads bytes ≡ Ok s → Answer s a → Tells old new s a → Written Threads old new bytes
+told old new bytes s a reads answer tells =
+    subst (λ (r : Result Scope ScriptFault). MatchResult r (λ z. (text : List ℕ) × Means Threads z text × Appends old new text) (λ e. ⊥)) (sym reads)
+    (replies_text tells.0 tells.1, (a, answer, tells.0, tells.1, tells.2, refl), tells.3)
 
-pub told_front : (old new : Option (List ℕ)) (bytes : List ℕ) (s : Scope) → script_read Threads bytes ≡ Ok s → (new ≡ old) ⊎ TellsFront old new s → WritesFront Threads old new bytes
-told_front old new bytes s reads (inl same) = inl same
-told_front old new bytes s reads (inr front) = inr (subst (λ (r : Result Scope ScriptFault). MatchResult r (TellsFront old new) (λ e. ⊥)) (sym reads) front)
+pub told_front : (old new : Option (List ℕ)) (bytes : List ℕ) (s : Scope) (a : Answers) → script_read Threads bytes ≡ Ok s → Answer s a → (new ≡ old) ⊎ TellsFront old new s a → WritesFront Threads old new bytes
+told_front old new bytes s a reads answer (inl same) = inl same
+told_front old new bytes s a reads answer (inr front) =
+    inr (subst (λ (r : Result Scope ScriptFault). MatchResult r (λ z. (text : List ℕ) × Means Threads z text × AppendsFront old new text) (λ e. ⊥)) (sym reads)
+    (replies_text front.0 front.1, (a, answer, front.0, front.1, front.2, refl), front.3))
 
 -- where a script was served, all that the reader had was read
 pub served : (k : Mode) (had left old new : Option (List ℕ)) (bytes : List ℕ) (status : ℕ) → Consumes had left bytes → (length bytes ≤ MAX_BYTES → IsAtEnd left) → (length bytes ≤ MAX_BYTES) ⊎ ((new ≡ old) × (status ≡ 1)) → (status ≡ 0 → Written k old new bytes) → status ≡ 0 → Served k had left old new

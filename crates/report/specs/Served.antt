@@ -1,5 +1,5 @@
 -- What the program did with the bytes of its reader.
-use Rattle.std.specs.Prelude.{ℕ, ◌≡◌, ◌≤◌, ◌⊎◌, List, ◌++◌, length, map, Option, None, MatchResult}
+use Rattle.std.specs.Prelude.{ℕ, ◌≡◌, ◌≤◌, ◌⊎◌, false, All, List, ◌++◌, length, map, Option, None, MatchResult}
 use Rattle.std.specs.List.{concat}
 use Rattle.std.specs.Io.KnownBytes.{Appends, Consumes, IsAtEnd}
 use Rattle.protocol.specs.declared.note.Note.{Note}
@@ -14,6 +14,10 @@ use Rattle.report.specs.declared.form.Form.{Form}
 use Rattle.report.specs.declared.form.Form.TheVariants as form
 use Rattle.report.specs.declared.replies.ThreadReplies.{ThreadReplies}
 use Rattle.report.specs.declared.replies.MutexWord.{MutexWord}
+use Rattle.script.specs.declared.workload.Phase.{Phase}
+use Rattle.script.specs.Jobs.{jobs_seen, jobs_of}
+use Rattle.report.specs.declared.threads.Answers.{Answers}
+use Rattle.report.specs.Threads.{HaveAnswered}
 use Rattle.report.specs.Replies.{replies_text}
 use Rattle.report.specs.Leaves.{AppendsFront}
 use Rattle.report.specs.Text.{head_line, line_text, end_line}
@@ -26,19 +30,32 @@ run_text threads mutexes ns = head_line threads mutexes 0 ++ (concat (map line_t
 abbrev pub meaning : Scope → List ℕ
 meaning s = run_text (length s.threads) (length s.mutexes) (notes (first_state s) (events_in s))
 
--- what may be written of a script: of a run, if it isn't too long to play, its meaning; of real threads, some replies of each of its threads and some word of each of its mutexes,
--- by their names. What real threads are told isn't determined by the script
+-- the lines tell of the script's threads and mutexes, by their names, what they were answered and what is left. Nobody dies yet
+pub record AreLines (s : Scope) (a : Answers) (threads : List ThreadReplies) (mutexes : List MutexWord) : Type 0 where
+  pub thread_names : map (λ t. t.name.now) threads ≡ s.threads
+  pub replies : map (λ t. t.replies.now) threads ≡ map (λ r. r.items) a.replies.items
+  pub alive : All (λ t. t.died ≡ false) threads
+  pub mutex_names : map (λ m. m.name.now) mutexes ≡ s.mutexes
+  pub cells : map (λ m. m.cell) mutexes ≡ a.cells.items
+
+-- real threads made the script's calls, phase after phase, and were answered so
+pub record Answer (s : Scope) (a : Answers) : Type 0 where
+  pub phases : List Phase
+  pub asked : map jobs_seen phases ≡ jobs_of s
+  pub answered : HaveAnswered (length s.threads) (length s.mutexes) phases a.replies.items a.cells.items
+
+-- what may be written of a script: of a run, if it isn't too long to play, its meaning; of real threads, what some that made its calls were answered. A script doesn't
+-- determine what real threads are told
 abbrev pub Means : Mode → Scope → List ℕ → Type 0
 Means Run s text = (overlong s ≡ None) × (text ≡ meaning s)
-Means Threads s text =
-    (threads : List ThreadReplies) × (mutexes : List MutexWord) × (map (λ t. t.name.now) threads ≡ s.threads) × (map (λ m. m.name.now) mutexes ≡ s.mutexes) × (text ≡ replies_text threads mutexes)
+Means Threads s text = (a : Answers) × Answer s a × (threads : List ThreadReplies) × (mutexes : List MutexWord) × AreLines s a threads mutexes × (text ≡ replies_text threads mutexes)
 
--- of a script for real threads, what it means was written, or a beginning of that
-abbrev pub Tells : Option (List ℕ) → Option (List ℕ) → Scope → Type 0
-Tells old new s = (text : List ℕ) × Means Threads s text × Appends old new text
+-- these lines were written, or a beginning of them
+abbrev pub Tells : Option (List ℕ) → Option (List ℕ) → Scope → Answers → Type 0
+Tells old new s a = (threads : List ThreadReplies) × (mutexes : List MutexWord) × AreLines s a threads mutexes × Appends old new (replies_text threads mutexes)
 
-abbrev pub TellsFront : Option (List ℕ) → Option (List ℕ) → Scope → Type 0
-TellsFront old new s = (text : List ℕ) × Means Threads s text × AppendsFront old new text
+abbrev pub TellsFront : Option (List ℕ) → Option (List ℕ) → Scope → Answers → Type 0
+TellsFront old new s a = (threads : List ThreadReplies) × (mutexes : List MutexWord) × AreLines s a threads mutexes × AppendsFront old new (replies_text threads mutexes)
 
 -- these bytes are a script of this mode, and all of what it means was written
 abbrev pub Written : Mode → Option (List ℕ) → Option (List ℕ) → List ℕ → Type 0

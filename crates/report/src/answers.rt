@@ -1,5 +1,5 @@
 //! What a script's threads were answered, by the names of the script.
-ghost use Rattle.std.specs.Prelude.{◌≡◌, length, map, IfOk};
+ghost use Rattle.std.specs.Prelude.{◌≡◌, false, All, length, map, IfOk};
 
 use crate::replies::{MutexWord, ThreadReplies};
 use crate::threads::Answers;
@@ -14,7 +14,9 @@ pub fn thread_replies<'a>(
     answers: &'a Answers,
 ) -> Result<Vec<ThreadReplies<'a>>, AllocError>
     requires { length answers.now.replies.items ≡ length script.now.threads }
-    ensures { IfOk result (λ v. map (λ t. t.name.now) v.items ≡ script.now.threads) }
+    ensures names { IfOk result (λ v. map (λ t. t.name.now) v.items ≡ script.now.threads) }
+    ensures replies { IfOk result (λ v. map (λ t. t.replies.now) v.items ≡ map (λ r. r.items) answers.now.replies.items) }
+    ensures alive { IfOk result (λ v. All (λ t. t.died ≡ false) v.items) }
 {
     let mut lines = Vec::new(alloc);
     let threads = script.threads();
@@ -36,7 +38,8 @@ pub fn mutex_words<'a>(
     answers: &'a Answers,
 ) -> Result<Vec<MutexWord<'a>>, AllocError>
     requires { length answers.now.cells.items ≡ length script.now.mutexes }
-    ensures { IfOk result (λ v. map (λ m. m.name.now) v.items ≡ script.now.mutexes) }
+    ensures names { IfOk result (λ v. map (λ m. m.name.now) v.items ≡ script.now.mutexes) }
+    ensures cells { IfOk result (λ v. map (λ m. m.cell) v.items ≡ answers.now.cells.items) }
 {
     let mut lines = Vec::new(alloc);
     let mutexes = script.mutexes();

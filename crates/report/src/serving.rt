@@ -109,8 +109,8 @@ fn tell_answers<W: Write, E: Write>(
 ) -> u8
     requires replies { length answers.now.replies.items ≡ length script.now.threads }
     requires cells { length answers.now.cells.items ≡ length script.now.mutexes }
-    ensures done { result ≡ 0 → Tells (W.contents out.old) (W.contents out.new) script.now }
-    ensures front { (W.contents out.new ≡ W.contents out.old) ⊎ TellsFront (W.contents out.old) (W.contents out.new) script.now }
+    ensures done { result ≡ 0 → Tells (W.contents out.old) (W.contents out.new) script.now answers.now }
+    ensures front { (W.contents out.new ≡ W.contents out.old) ⊎ TellsFront (W.contents out.old) (W.contents out.new) script.now answers.now }
     ensures last { result ≤ 1 }
 {
     let Ok(threads) = thread_replies(alloc, script, answers) else {
