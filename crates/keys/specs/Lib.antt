@@ -4,3 +4,4 @@ pub mod Objects
 pub mod Histories
 pub mod Words
 pub mod Refusals
+pub mod Chains

@@ -1,0 +1,6 @@
+pub mod Treatments
+pub mod Alone
+pub mod Ends
+mod Asks
+mod Steps
+mod Lists

@@ -1,0 +1,10 @@
+pub mod Words
+pub mod Standings
+pub mod Walks
+pub mod Meanings
+pub mod Runs
+pub mod Ranks
+pub mod Laws
+pub mod AnyAnswers
+pub mod Steps
+pub mod Lists

@@ -1,0 +1,8 @@
+pub mod Places
+pub mod Chains
+pub mod Agreement
+pub mod Links
+pub mod Unlinks
+pub mod LinkRuns
+pub mod UnlinkRuns
+pub mod Lists

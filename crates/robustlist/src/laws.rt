@@ -1,0 +1,36 @@
+//! What holds of lists, and of every link and unlink.
+ghost use Rattle.robustlist.specs.Lists.{ChainsAreUnique, HeadsBeginEmpty};
+ghost use Rattle.robustlist.specs.LinkLaws.{LinksAreRight, LinksAlone};
+ghost use Rattle.robustlist.specs.UnlinkLaws.{UnlinksAreRight, UnlinksAlone};
+
+/// A head leads over one list at most.
+pub fn chains_are_unique()
+    ensures { ChainsAreUnique }
+{}
+
+/// A head whose first word is its own address has an empty list.
+pub fn heads_begin_empty()
+    ensures { HeadsBeginEmpty }
+{}
+
+/// From a chain both ways a link goes to one with its entry in front. Wherever it stops, the words are a chain of the old list or of the new one; what others
+/// write elsewhere doesn't matter.
+pub fn links_are_right()
+    ensures { LinksAreRight }
+{}
+
+/// Where nobody else writes, a link makes 4 accesses into an empty list and 5 into another, and writes no word but the list's and the entry's.
+pub fn links_alone()
+    ensures { LinksAlone }
+{}
+
+/// From a chain both ways an unlink goes to one without its entry. Wherever it stops, the words are a chain of the old list or of the new one; what others
+/// write elsewhere doesn't matter.
+pub fn unlinks_are_right()
+    ensures { UnlinksAreRight }
+{}
+
+/// Where nobody else writes, an unlink makes 3 accesses for the last entry and 4 for another, and leaves the entry's own words.
+pub fn unlinks_alone()
+    ensures { UnlinksAlone }
+{}
