@@ -5,7 +5,7 @@ use lockword::Tid;
 use std::marker::Model;
 
 /// At most 64 threads, in the order in which they slept. It takes no memory.
-#[derive(Clone, Copy, Debug)]
+#[derive(Clone, Copy, Debug, PartialEq, Eq)]
 pub struct Batch {
     ids: [u8; 64],
     taken: usize,

@@ -1,2 +1,4 @@
 mod Views
 mod Reaches
+mod Sleeping
+mod Layouts

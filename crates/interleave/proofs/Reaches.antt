@@ -20,17 +20,25 @@ use Rattle.protocol.specs.declared.thread.Thread.{Thread}
 use Rattle.protocol.specs.declared.thread.Stage.{Stage}
 use Rattle.protocol.specs.declared.thread.Stage.TheVariants.{Idle, Calling}
 use Rattle.protocol.specs.declared.note.Note.{Note}
-use Rattle.protocol.specs.Machine.{State, put, idle, start, first_word, head_word, is_thread, may_begin, begun, nothing, stepped, happens, run, notes}
+use Rattle.protocol.specs.Machine.{State, After, put, idle, start, first_word, head_word, is_valid, is_thread, may_begin, begun, nothing, stands_in, sleeps, went, stepped, answer_of, happens, run, notes}
+use Rattle.protocol.specs.Sleepers.{alone, GoesOn}
+use Rattle.protocol.proofs.Queues.{Queued, run_queued}
+use Rattle.protocol.proofs.Undivided.{going}
+use Rattle.keys.specs.declared.access.Access.TheVariants.{Store}
+use Rattle.syscalls.specs.Kernels.{Kernel', IsIdle}
+use Rattle.syscalls.specs.Memories as memories
+use Rattle.syscalls.specs.Memories.{word_at, words_after}
+use Rattle.mutex.specs.Programs.{access_of, led}
 use Rattle.protocol.specs.Headline.{IsHistory, seen}
 use Rattle.protocol.proofs.Puts.{by_put, put-same, put-other}
 use Rattle.protocol.proofs.Kept.{Kept, Sits}
-use Rattle.protocol.proofs.Runs.{start_kept, run_kept, legal}
+use Rattle.protocol.proofs.Runs.{start_kept, run_kept, run_layout, legal}
 use Rattle.interleave.specs.Shown.{Shown, thread_at, state_at, state_of}
 use Rattle.interleave.specs.Notes.{is_nothing}
-use Rattle.interleave.specs.Steps.{IsOnItsWay, MayStep}
+use Rattle.interleave.specs.Steps.{IsOnItsWay, MayStep, SleepsInItsCall}
 use Rattle.interleave.specs.Reached.{IsReached, AtEachMoment}
 use Rattle.interleave.proofs.Views.{words-set}
-use Rattle.protocol.proofs.Steps.{seen-inside}
+use Rattle.protocol.proofs.Steps.{seen-inside, is_valid-cell}
 use Rattle.std.specs.Option.{SomeIff}
 use Rattle.keys.specs.Objects.{owner_of}
 use Rattle.lockword.specs.Cells.{fields_of}
@@ -76,9 +84,14 @@ stays s (Begin t c) = go (may_begin s t c)
     go false h = refl
 stays s (Step t) = go (is_thread s t) (s.threads t).stage
   where
+    access : (c : Call) (p : Standing) (a : Bool) → is_nothing (if a then nothing s else went s t (s.threads t).held c p (led p (answer_of s (access_of p)))).note ≡ true
+        → (if a then nothing s else went s t (s.threads t).held c p (led p (answer_of s (access_of p)))).state ≡ s
+    access c p true h = refl
+    access c p false h = absurd cc
+
     go : (b : Bool) (g : Stage) → is_nothing (if b then stepped s t (s.threads t).held g else nothing s).note ≡ true → (if b then stepped s t (s.threads t).held g else nothing s).state ≡ s
     go true Idle h = refl
-    go true (Calling c p) h = absurd cc
+    go true (Calling c p) h = access c p (sleeps s t (Calling c p)) h
     go false g h = refl
 
 -- both hold where both together hold
@@ -87,9 +100,9 @@ both true b e = (refl, e)
 both false b e = absurd cc
 
 -- an event leads from a machine that is reached to one
-pub reached_step : (m : Shown) (ws : List ℕ) (ts : List Thread) (e : Event) → IsReached m → state_at m.layout ws ts ≡ (happens (state_of m) e).state → length ws ≡ length m.words → length ts ≡ length m.threads
-    → (b : Bool) → b ≡ (m.fresh && is_nothing (happens (state_of m) e).note) → IsReached (record { layout = m.layout; words = ws; threads = ts; fresh = b })
-reached_step m ws ts e r is words threads b fresh = record {
+pub reached_step : (m : Shown) (ws : List ℕ) (k : Kernel') (ts : List Thread) (e : Event) → IsReached m → state_at m.layout ws k ts ≡ (happens (state_of m) e).state → length ws ≡ length m.words → k.threads ≡ m.kernel.threads → length ts ≡ length m.threads
+    → (b : Bool) → b ≡ (m.fresh && is_nothing (happens (state_of m) e).note) → IsReached (record { layout = m.layout; words = ws; kernel = k; threads = ts; fresh = b })
+reached_step m ws k ts e r is words kernel threads b fresh = record {
   layout = r.layout;
   counters = r.counters;
   events = r.events ++ e ∷ [];
@@ -99,6 +112,7 @@ reached_step m ws ts e r is words threads b fresh = record {
       let before = r.fresh parts.0 in
       record { layout = before.layout; counters = before.counters; is = is ∙ stays (state_of m) e parts.1 ∙ before.is };
   words = words ∙ r.words;
+  kernel = kernel ∙ r.kernel;
   threads = threads ∙ r.threads;
 }
 
@@ -130,18 +144,19 @@ first_threads-is n ts e zero = refl
 first_threads-is n ts e (suc i) = ap (λ (v : List Thread). slice_index_or v i idle) e ∙ replicated n i
 
 -- so a new machine is at the start
-pub state-first : (l : Layout') (ws : List ℕ) (ts : List Thread) → ws ≡ map (first_word l (λ c. 0)) (range_with_len 0 (words_of l)) → ts ≡ replicate l.threads idle → state_at l ws ts ≡ start l (λ c. 0)
-state-first l ws ts w t = λ i. record { layout = l; words = fun_ext (first_words-is l ws w) i; threads = fun_ext (first_threads-is l.threads ts t) i }
+pub state-first : (l : Layout') (ws : List ℕ) (k : Kernel') (ts : List Thread) → ws ≡ map (first_word l (λ c. 0)) (range_with_len 0 (words_of l)) → IsIdle k l.threads → ts ≡ replicate l.threads idle → state_at l ws k ts ≡ start l (λ c. 0)
+state-first l ws k ts w idles t = λ i. record { layout = l; words = fun_ext (first_words-is l ws w) i; queues = fun_ext idles.queues i; threads = fun_ext (first_threads-is l.threads ts t) i }
 
 -- and is reached by no event
-pub reached_first : (l : Layout') (ws : List ℕ) (ts : List Thread) → IsLayout l → ws ≡ map (first_word l (λ c. 0)) (range_with_len 0 (words_of l)) → ts ≡ replicate l.threads idle → IsReached (record { layout = l; words = ws; threads = ts; fresh = true })
-reached_first l ws ts is w t = record {
+pub reached_first : (l : Layout') (ws : List ℕ) (k : Kernel') (ts : List Thread) → IsLayout l → ws ≡ map (first_word l (λ c. 0)) (range_with_len 0 (words_of l)) → IsIdle k l.threads → ts ≡ replicate l.threads idle → IsReached (record { layout = l; words = ws; kernel = k; threads = ts; fresh = true })
+reached_first l ws k ts is w idles t = record {
   layout = is;
   counters = λ c. 0;
   events = [];
-  is = state-first l ws ts w t;
-  fresh = λ on. record { layout = is; counters = λ c. 0; is = state-first l ws ts w t };
+  is = state-first l ws k ts w idles t;
+  fresh = λ on. record { layout = is; counters = λ c. 0; is = state-first l ws k ts w idles t };
   words = ap length w ∙ length-map-range_with_len (first_word l (λ c. 0)) 0 (words_of l);
+  kernel = idles.threads;
   threads = ap length t ∙ length-replicate l.threads idle;
 }
 
@@ -173,8 +188,8 @@ reached_counter m c v r on inside =
     let room : counter_place m.layout c < length m.words = let n = r.words in omega arith in
     let words : (λ p. slice_index (slice_set m.words (counter_place m.layout c) v) p) ≡ first_word m.layout (put before.counters c v) =
     words-set m.words (counter_place m.layout c) v room ∙ ap (λ (s : State). put s.words (counter_place m.layout c) v) before.is ∙ fun_ext (first_word-set m.layout before.counters c v inside) in
-    let now : state_at m.layout (slice_set m.words (counter_place m.layout c) v) m.threads ≡ start m.layout (put before.counters c v) =
-    (λ i. record { layout = m.layout; words = words i; threads = (before.is i).threads }) in
+    let now : state_at m.layout (slice_set m.words (counter_place m.layout c) v) m.kernel m.threads ≡ start m.layout (put before.counters c v) =
+    (λ i. record { layout = m.layout; words = words i; queues = (before.is i).queues; threads = (before.is i).threads }) in
     record {
       layout = r.layout;
       counters = put before.counters c v;
@@ -182,12 +197,33 @@ reached_counter m c v r on inside =
       is = now;
       fresh = λ z. record { layout = r.layout; counters = put before.counters c v; is = now };
       words = length-set m.words (counter_place m.layout c) v ∙ r.words;
+      kernel = r.kernel;
       threads = r.threads;
     }
 
+-- a write at a valid place is a write into the list
+stored : (ws : List ℕ) (at v : ℕ) → 1 ≤ at → at < length ws → words_after (Store at v) ws ≡ slice_set ws at v
+stored ws at v first last = let valid : memories.is_valid ws at ≡ true = grind (arith, nat_tests) in ap (λ (b : Bool). if b then slice_set ws at v else ws) valid
+
+-- what a store of the counter leaves
+pub stored_counter : (m : Shown) (ws : List ℕ) (c v q x : ℕ) → IsReached m → c < length m.layout.conditions → q ≡ counter_place m.layout c → x ≡ v → ws ≡ words_after (Store q x) m.words → ws ≡ slice_set m.words (counter_place m.layout c) v
+stored_counter m ws c v q x r inside at is wrote =
+    let n = r.words in
+    wrote ∙ (λ i. words_after (Store (at i) (is i)) m.words) ∙ stored m.words (counter_place m.layout c) v (omega arith) (omega arith)
+
 -- the same, by the place that the code computes
-pub reached_preset : (m : Shown) (c v q x : ℕ) → IsReached m → m.fresh ≡ true → c < length m.layout.conditions → q ≡ counter_place m.layout c → x ≡ v → IsReached (record m { words = slice_set m.words q x })
-reached_preset m c v q x r on inside at is = subst (λ (z : ℕ). IsReached (record m { words = slice_set m.words z x })) (sym at) (subst (λ (z : ℕ). IsReached (record m { words = slice_set m.words (counter_place m.layout c) z })) (sym is) (reached_counter m c v r on inside))
+pub reached_preset : (m : Shown) (ws : List ℕ) (c v q x : ℕ) → IsReached m → m.fresh ≡ true → c < length m.layout.conditions → q ≡ counter_place m.layout c → x ≡ v → ws ≡ words_after (Store q x) m.words → IsReached (record m { words = ws })
+reached_preset m ws c v q x r on inside at is wrote =
+    subst (λ (z : List ℕ). IsReached (record m { words = z })) (sym (stored_counter m ws c v q x r inside at is wrote)) (reached_counter m c v r on inside)
+
+-- and the state
+pub state_preset : (m : Shown) (ws : List ℕ) (c v q x : ℕ) → IsReached m → c < length m.layout.conditions → q ≡ counter_place m.layout c → x ≡ v → ws ≡ words_after (Store q x) m.words
+    → state_at m.layout ws m.kernel m.threads ≡ record (state_of m) { words = put (state_of m).words (counter_place m.layout c) v }
+state_preset m ws c v q x r inside at is wrote =
+    let n = r.words in
+    let words : (λ p. slice_index ws p) ≡ put (λ p. slice_index m.words p) (counter_place m.layout c) v =
+    ap (λ (z : List ℕ). λ (p : ℕ). slice_index z p) (stored_counter m ws c v q x r inside at is wrote) ∙ words-set m.words (counter_place m.layout c) v (omega arith) in
+    λ i. record (state_of m) { words = words i }
 
 -- ---- owners
 
@@ -225,9 +261,70 @@ pub notes-more : (s : State) (es : List Event) (e : Event) → notes s (es ++ e 
 notes-more s [] e = refl
 notes-more s (x ∷ es) e = ap (λ (ns : List Note). (happens s x).note ∷ ns) (notes-more (happens s x).state es e)
 
--- a word read at a place
-pub read_word : (ws : List ℕ) (w i k : ℕ) → w ≡ slice_index_or ws i w → i ≡ k → k < length ws → w ≡ slice_index ws k
-read_word ws w i k read same lt = subst (λ (j : ℕ). w ≡ slice_index_or ws j w) same read ∙ any ws w k lt
+-- what is read at an address of the machine's memory
+pub read_at : (m : Shown) (at : ℕ) → IsReached m → word_at m.words at ≡ (if is_valid m.layout at then Some ((state_of m).words at) else None)
+read_at m at r = ap (λ (n : ℕ). if nat_le 1 at && nat_lt at n then Some (slice_index m.words at) else None) r.words
+
+-- so the cell of a mutex is read
+pub read_cell : (m : Shown) (k at : ℕ) (x : Option ℕ) → IsReached m → k < m.layout.mutexes → at ≡ cell_place m.layout k → x ≡ word_at m.words at → x ≡ Some (slice_index m.words (cell_place m.layout k))
+read_cell m k at x r inside is read =
+    read ∙ ap (word_at m.words) is ∙ read_at m (cell_place m.layout k) r
+    ∙ ap (λ (b : Bool). if b then Some (slice_index m.words (cell_place m.layout k)) else None) (is_valid-cell m.layout k inside)
+
+-- ---- sleepers
+
+-- in a machine that was reached, each queue is as the law says
+reached_queued : (m : Shown) → IsReached m → Queued (state_of m)
+reached_queued m r = subst Queued (sym r.is) (run_queued m.layout r.counters r.events r.layout)
+
+-- so whoever stands in a queue sleeps in its call
+pub sleeps_in_call : (m : Shown) → IsReached m → (t : ℕ) → SleepsInItsCall (state_of m) t
+sleeps_in_call m r t key stands =
+    let slept = (reached_queued m r).sleeps key t stands in
+    let call = slept.2 in
+    let in_call : sleeps (state_of m) t ((state_of m).threads t).stage ≡ sleeps (state_of m) t (Calling call.0 call.1) = ap (sleeps (state_of m) t) call.2 in
+    in_call ∙ subst (λ (x : ℕ). stands_in t ((state_of m).queues x) ≡ true) call.4 stands
+
+-- one list of events after another
+run-append : (s : State) (es fs : List Event) → run s (es ++ fs) ≡ run (run s es) fs
+run-append s [] fs = refl
+run-append s (e ∷ es) fs = run-append (happens s e).state es fs
+
+-- whatever happens to a machine that was reached, it goes on
+pub reached_goes_on : (m : Shown) (es : List Event) → IsReached m → GoesOn (run (state_of m) es)
+reached_goes_on m es r =
+    subst GoesOn (run-append (start m.layout r.counters) r.events es ∙ ap (λ (s : State). run s es) (sym r.is)) (going m.layout r.counters (r.events ++ es) r.layout)
+
+-- ---- a thread alone
+
+-- one step more
+pub alone-more : (s : State) (t n : ℕ) → alone s t (suc n) ≡ (happens (alone s t n) (Step t)).state
+alone-more s t zero = refl
+alone-more s t (suc n) = alone-more (happens s (Step t)).state t n
+
+-- at the beginning a step does nothing
+start_rests : (l : Layout') (counters : ℕ → ℕ) (t : ℕ) → happens (start l counters) (Step t) ≡ nothing (start l counters)
+start_rests l counters t = go (is_thread (start l counters) t)
   where
-    any : (ws : List ℕ) (d k : ℕ) → k < length ws → slice_index_or ws k d ≡ slice_index ws k
-    any ws d k lt = grind (arith, common_steps)
+    go : (b : Bool) → (if b then nothing (start l counters) else nothing (start l counters)) ≡ nothing (start l counters)
+    go true = refl
+    go false = refl
+
+alone_rests : (l : Layout') (counters : ℕ → ℕ) (t n : ℕ) → alone (start l counters) t n ≡ start l counters
+alone_rests l counters t zero = refl
+alone_rests l counters t (suc n) = ap (λ (a : After). alone a.state t n) (start_rests l counters t) ∙ alone_rests l counters t n
+
+-- so a machine to which nothing has happened stays so
+pub stays_fresh : (m : Shown) (t n : ℕ) → IsReached m → (m.fresh && is_nothing (happens (alone (state_of m) t n) (Step t)).note) ≡ m.fresh
+stays_fresh m t n r = go m.fresh refl
+  where
+    go : (b : Bool) → m.fresh ≡ b → (b && is_nothing (happens (alone (state_of m) t n) (Step t)).note) ≡ b
+    go true e =
+        let begun = r.fresh e in
+        ap (λ (s : State). is_nothing (happens (alone s t n) (Step t)).note) begun.is ∙ ap (λ (s : State). is_nothing (happens s (Step t)).note) (alone_rests m.layout begun.counters t n)
+        ∙ ap (λ (a : After). is_nothing a.note) (start_rests m.layout begun.counters t)
+    go false e = refl
+
+-- its layout stays
+pub alone_layout : (m n : Shown) (t k : ℕ) → IsReached m → state_of n ≡ alone (state_of m) t k → n.layout ≡ m.layout
+alone_layout m n t k r is = ap (λ (s : State). s.layout) is ∙ run_layout (state_of m) (replicate k (Step t)) (reached_kept m r)

@@ -1,33 +1,37 @@
 -- The machine's lists and the state that they show: a write into a list is a write into the state.
-use Rattle.std.proofs.Common.{◌≡◌, ◌≢◌, ℕ, zero, suc, ◌+◌, ◌<◌, ◌≤◌, Bool, true, false, List, length, Option, Some, None, Ok, refl, sym, ap, ◌∙◌, arith, slice_index_or, slice_set}
-use Rattle.std.specs.Prelude.{if◌then◌else◌, slice_index}
+use Rattle.std.proofs.Common.{◌≡◌, ◌≢◌, ℕ, zero, suc, ◌+◌, ◌<◌, ◌≤◌, Bool, true, false, ◌&&◌, List, [], length, Option, Some, None, Ok, refl, sym, ap, ◌∙◌, arith, slice_index_or, slice_set}
+use Rattle.std.specs.Prelude.{if◌then◌else◌, slice_index, nat_le, nat_lt}
 use mathlib.Core.Path.{fun_ext}
 use Rattle.std.proofs.lemmas.Grind.{common_steps}
 use Rattle.std.proofs.lemmas.Bool.Decides.{nat_tests}
 use Rattle.lockword.specs.declared.reply.Reply.{Reply}
 use Rattle.keys.specs.declared.access.Access.{Access}
+use Rattle.keys.specs.declared.access.Answer.TheVariants.{Fault}
 use Rattle.keys.specs.declared.point.Point.{Point}
 use Rattle.keys.specs.declared.point.Operation.{Operation}
 use Rattle.keys.specs.declared.point.Operation.TheVariants as operation
 use Rattle.keys.specs.declared.point.Progress.{Progress}
-use Rattle.keys.specs.Layouts.{Layout', words_of}
-use Rattle.keys.specs.Accesses.{address_of, changed}
+use Rattle.keys.specs.Layouts.{Layout', words_of, cell_place}
+use Rattle.keys.specs.Accesses.{address_of, changed, sleeps_at}
 use Rattle.mutex.specs.declared.call.Call.{Call}
 use Rattle.mutex.specs.declared.row.Row.{Row}
-use Rattle.mutex.specs.declared.row.Row.TheVariants.{TryLock, Unlock, Ended}
+use Rattle.mutex.specs.declared.row.Row.TheVariants.{Lock, TryLock, Unlock, Consistent, Ended}
 use Rattle.mutex.specs.declared.row.Led.{Led}
 use Rattle.mutex.specs.Calls.{mutex_of}
 use Rattle.mutex.specs.Standings.{Standing}
 use Rattle.mutex.specs.Progresses.{progress_at}
 use Rattle.mutex.specs.Programs.{started, access_of, led, moved, progress_of, point_of, row_operation}
+use Rattle.syscalls.specs.Kernels.{Kernel', queue_of}
+use Rattle.syscalls.specs.Memories as memories
 use Rattle.protocol.specs.declared.event.Event.TheVariants.{Begin, Step}
 use Rattle.protocol.specs.declared.thread.Thread.{Thread}
 use Rattle.protocol.specs.declared.thread.Stage.TheVariants.{Calling}
 use Rattle.protocol.specs.declared.note.Note.TheVariants.{Stepped}
-use Rattle.protocol.specs.Machine.{State, After, put, idle, is_valid, words_after, is_thread, is_idle, may_begin, begun, nothing, went, stepped, stage_after, returned, held_after, decision, happens}
+use Rattle.protocol.specs.Machine.{State, After, put, idle, is_valid, answer_among, queue_after, woken_by, answer_of, words_after, queues_after, slept_on, woken, is_thread, is_idle, stands_in, may_begin, begun, nothing, went, stepped, stage_after, returned, held_after, decision, happens}
 use Rattle.protocol.proofs.Puts.{by_put}
+use Rattle.interleave.specs.declared.accesses.Performed.{Performed}
 use Rattle.interleave.specs.Shown.{thread_at, state_at}
-use Rattle.interleave.specs.Perform.{list_answer, list_words, point_in, reply_in, stage_in, held_in, decision_in}
+use Rattle.interleave.specs.Perform.{Performs, point_in, reply_in, stage_in, held_in, decision_in}
 
 -- a word that is set in the list is put in the state
 pub words-set : (ws : List ℕ) (k v : ℕ) → k < length ws → (λ p. slice_index (slice_set ws k v) p) ≡ put (λ p. slice_index ws p) k v
@@ -56,11 +60,11 @@ threads-set ts k t x e lt = fun_ext (thread_at-set ts k t x e lt)
 -- ---- a call begins
 
 -- the state after a begin
-pub begin_state : (l : Layout') (ws : List ℕ) (ts : List Thread) (k t : ℕ) (c : Call) (p : Standing) (th : Thread) → 1 ≤ t → t ≤ l.threads → k + 1 ≡ t → length ts ≡ l.threads → mutex_of c < l.mutexes
+pub begin_state : (l : Layout') (ws : List ℕ) (kernel : Kernel') (ts : List Thread) (k t : ℕ) (c : Call) (p : Standing) (th : Thread) → 1 ≤ t → t ≤ l.threads → k + 1 ≡ t → length ts ≡ l.threads → mutex_of c < l.mutexes
     → thread_at ts t ≡ th → is_idle th.stage ≡ true → started l t th.held c ≡ Ok p
-    → state_at l ws (slice_set ts k (record { stage = Calling c p; held = th.held })) ≡ (happens (state_at l ws ts) (Begin t c)).state
-begin_state l ws ts k t c p th pos known at len inside e rests starts =
-    let s : State = state_at l ws ts in
+    → state_at l ws kernel (slice_set ts k (record { stage = Calling c p; held = th.held })) ≡ (happens (state_at l ws kernel ts) (Begin t c)).state
+begin_state l ws kernel ts k t c p th pos known at len inside e rests starts =
+    let s : State = state_at l ws kernel ts in
     let resting : is_idle (thread_at ts t).stage ≡ true = ap (λ (z : Thread). is_idle z.stage) e ∙ rests in
     let may : may_begin s t c ≡ true = grind (arith, nat_tests, resting) in
     let ran : happens s (Begin t c) ≡ begun s t c (started l t (thread_at ts t).held c) = ap (λ (b : Bool). if b then begun s t c (started l t (thread_at ts t).held c) else nothing s) may in
@@ -68,35 +72,63 @@ begin_state l ws ts k t c p th pos known at len inside e rests starts =
     let gave : begun s t c (started l t (thread_at ts t).held c) ≡ begun s t c (Ok p) = ap (begun s t c) begins in
     let same : thread_at (slice_set ts k (record { stage = Calling c p; held = th.held })) ≡ put (thread_at ts) t (record { stage = Calling c p; held = (thread_at ts t).held }) =
     threads-set ts k t (record { stage = Calling c p; held = th.held }) at (omega arith) ∙ ap (λ (z : Thread). put (thread_at ts) t (record { stage = Calling c p; held = z.held })) (sym e) in
-    (λ i. record { layout = l; words = λ q. slice_index ws q; threads = same i }) ∙ sym (ap (λ (a : After). a.state) (ran ∙ gave))
+    (λ i. record { layout = l; words = λ q. slice_index ws q; queues = λ q. queue_of kernel q; threads = same i }) ∙ sym (ap (λ (a : After). a.state) (ran ∙ gave))
 
 -- ---- an access
 
--- the words after an access
-list_words-is : (l : Layout') (ws : List ℕ) (ts : List Thread) (a : Access) → length ws ≡ words_of l → (λ q. slice_index (list_words l ws a) q) ≡ words_after (state_at l ws ts) a
-list_words-is l ws ts a len = go (is_valid l (address_of a)) refl
-  where
-    go : (b : Bool) → is_valid l (address_of a) ≡ b
-        → (λ q. slice_index (if b then slice_set ws (address_of a) (changed a (slice_index ws (address_of a))) else ws) q) ≡ (if b then put (λ q. slice_index ws q) (address_of a) (changed a (slice_index ws (address_of a))) else (λ q. slice_index ws q))
-    go true e = words-set ws (address_of a) (changed a (slice_index ws (address_of a))) (grind (arith, nat_tests))
-    go false e = refl
+module _ (l : Layout') (ws : List ℕ) (kernel : Kernel') (ts : List Thread) (a : Access) (room : length ws ≡ words_of l) where
+  -- an address is valid in the list as it is in the layout
+  valid-is : memories.is_valid ws (address_of a) ≡ is_valid l (address_of a)
+  valid-is = ap (λ (n : ℕ). nat_le 1 (address_of a) && nat_lt (address_of a) n) room
+
+  -- the words after an access
+  words-is : (λ q. slice_index (memories.words_after a ws) q) ≡ words_after (state_at l ws kernel ts) a
+  words-is = ap (λ (b : Bool). λ (q : ℕ). slice_index (if b then slice_set ws (address_of a) (changed a (slice_index ws (address_of a))) else ws) q) valid-is ∙ go (is_valid l (address_of a)) refl
+    where
+      go : (b : Bool) → is_valid l (address_of a) ≡ b
+          → (λ q. slice_index (if b then slice_set ws (address_of a) (changed a (slice_index ws (address_of a))) else ws) q) ≡ (if b then put (λ q. slice_index ws q) (address_of a) (changed a (slice_index ws (address_of a))) else (λ q. slice_index ws q))
+      go true e = words-set ws (address_of a) (changed a (slice_index ws (address_of a))) (grind (arith, nat_tests))
+      go false e = refl
+
+  module _ (t : ℕ) (after : Kernel') (done : Performed) (performs : Performs ws kernel after t a done) where
+    answer-is : done.answer ≡ answer_of (state_at l ws kernel ts) a
+    answer-is = performs.answer ∙ ap (λ (b : Bool). if b then answer_among a (slice_index ws (address_of a)) (queue_of kernel (address_of a)) else Fault) valid-is
+
+    queues-is : (λ q. queue_of after q) ≡ queues_after (state_at l ws kernel ts) t a
+    queues-is =
+        fun_ext performs.queues
+        ∙ ap (λ (b : Bool). if b then put (queue_of kernel) (address_of a) (queue_after t a (slice_index ws (address_of a)) (queue_of kernel (address_of a))) else queue_of kernel) valid-is
+
+    slept-is : (c : Call) → (if done.slept then Some (mutex_of c) else None) ≡ slept_on (state_at l ws kernel ts) c a
+    slept-is c =
+        ap (λ (b : Bool). if b then Some (mutex_of c) else None) performs.slept
+        ∙ ap (λ (b : Bool). if b && sleeps_at a (slice_index ws (address_of a)) then Some (mutex_of c) else None) valid-is
+
+    woken-is : done.woken ≡ woken (state_at l ws kernel ts) a
+    woken-is = performs.woken ∙ ap (λ (b : Bool). if b then woken_by a (queue_of kernel (address_of a)) else []) valid-is
 
 -- where the thread stands after a step, as the definition says
 stage-is : (c : Call) (p : Standing) (pt : Option Point) (r : Row) → stage_in c (record p { row = r }) (progress_at pt r) ≡ stage_after c p r
+stage-is c p pt (Lock r) = refl
 stage-is c p pt (TryLock r) = refl
 stage-is c p pt (Unlock r) = refl
+stage-is c p pt (Consistent r) = refl
 stage-is c p pt (Ended x) = refl
 
 -- the point that a step tells, as the definition says
 point-is : (pt : Option Point) (r : Row) → point_in (progress_at pt r) ≡ pt
+point-is pt (Lock r) = refl
 point-is pt (TryLock r) = refl
 point-is pt (Unlock r) = refl
+point-is pt (Consistent r) = refl
 point-is pt (Ended x) = refl
 
 -- the reply that a step returns, as the definition says
 reply-is : (pt : Option Point) (r : Row) → reply_in (progress_at pt r) ≡ returned r
+reply-is pt (Lock r) = refl
 reply-is pt (TryLock r) = refl
 reply-is pt (Unlock r) = refl
+reply-is pt (Consistent r) = refl
 reply-is pt (Ended x) = refl
 
 -- without a point a thread holds as many mutexes
@@ -120,40 +152,55 @@ decision-is : (t u cell : ℕ) (c : Call) (op : Operation) (x : Option Reply) �
 decision-is t u cell c op None = refl
 decision-is t u cell c op (Some x) = refl
 
-module _ (l : Layout') (ws ws' : List ℕ) (ts : List Thread) (k t : ℕ) (c : Call) (p p' : Standing) (th : Thread) (pr : Progress) (known : t ≤ l.threads) (at : k + 1 ≡ t) (len : length ts ≡ l.threads) (room : length ws ≡ words_of l)
-    (e : thread_at ts t ≡ th) (calls : th.stage ≡ Calling c p) (wrote : ws' ≡ list_words l ws (access_of p))
-    (went_on : p' ≡ moved p (led p (list_answer l ws (access_of p)))) (progress : pr ≡ progress_of p (led p (list_answer l ws (access_of p)))) where
+module _ (l : Layout') (ws ws' : List ℕ) (kernel after : Kernel') (ts : List Thread) (k t : ℕ) (c : Call) (p p' : Standing) (th : Thread) (done : Performed) (pr : Progress)
+    (known : t ≤ l.threads) (at : k + 1 ≡ t) (len : length ts ≡ l.threads) (room : length ws ≡ words_of l) (awake : (key : ℕ) → stands_in t (queue_of kernel key) ≡ false)
+    (e : thread_at ts t ≡ th) (calls : th.stage ≡ Calling c p) (performs : Performs ws kernel after t (access_of p) done) (wrote : ws' ≡ memories.words_after (access_of p) ws)
+    (went_on : p' ≡ moved p (led p done.answer)) (progress : pr ≡ progress_of p (led p done.answer)) where
   abbrev s : State
-  s = state_at l ws ts
+  s = state_at l ws kernel ts
 
   abbrev to : Led
-  to = led p (list_answer l ws (access_of p))
+  to = led p (answer_of s (access_of p))
+
+  leads : led p done.answer ≡ to
+  leads = ap (led p) (answer-is l ws kernel ts (access_of p) room t after done performs)
 
   ran : happens s (Step t) ≡ went s t th.held c p to
   ran =
       let is : is_thread s t ≡ true = grind (arith, nat_tests) in
       ap (λ (b : Bool). if b then stepped s t (thread_at ts t).held (thread_at ts t).stage else nothing s) is ∙ ap (λ (z : Thread). stepped s t z.held z.stage) e ∙ ap (stepped s t th.held) calls
+      ∙ ap (λ (b : Bool). if b then nothing s else went s t th.held c p to) (awake (cell_place l (mutex_of c)))
 
   words : (λ q. slice_index ws' q) ≡ words_after s (access_of p)
-  words = ap (λ (v : List ℕ). λ (q : ℕ). slice_index v q) wrote ∙ list_words-is l ws ts (access_of p) room
+  words = ap (λ (v : List ℕ). λ (q : ℕ). slice_index v q) wrote ∙ words-is l ws kernel ts (access_of p) room
+
+  queues : (λ q. queue_of after q) ≡ queues_after s t (access_of p)
+  queues = queues-is l ws kernel ts (access_of p) room t after done performs
 
   stage : stage_in c p' pr ≡ stage_after c p to.row
-  stage = ap (λ (q : Standing). stage_in c q pr) went_on ∙ ap (stage_in c (moved p to)) progress ∙ stage-is c p (point_of p.thread p.cell (row_operation p.row) to.point) to.row
+  stage =
+      ap (λ (q : Standing). stage_in c q pr) went_on ∙ ap (stage_in c (moved p (led p done.answer))) progress
+      ∙ stage-is c p (point_of p.thread p.cell (row_operation p.row) (led p done.answer).point) (led p done.answer).row ∙ ap (λ (x : Led). stage_after c p x.row) leads
 
   point : point_in pr ≡ point_of p.thread p.cell (row_operation p.row) to.point
-  point = ap point_in progress ∙ point-is (point_of p.thread p.cell (row_operation p.row) to.point) to.row
+  point =
+      ap point_in progress ∙ point-is (point_of p.thread p.cell (row_operation p.row) (led p done.answer).point) (led p done.answer).row
+      ∙ ap (λ (x : Led). point_of p.thread p.cell (row_operation p.row) x.point) leads
 
   held : held_in th.held (point_in pr) ≡ held_after th.held (row_operation p.row) to.point
   held = ap (held_in th.held) point ∙ held-is th.held p.thread p.cell (row_operation p.row) to.point
 
-  pub step_state : state_at l ws' (slice_set ts k (record { stage = stage_in c p' pr; held = held_in th.held (point_in pr) })) ≡ (happens s (Step t)).state
+  pub step_state : state_at l ws' after (slice_set ts k (record { stage = stage_in c p' pr; held = held_in th.held (point_in pr) })) ≡ (happens s (Step t)).state
   step_state =
       let threads : thread_at (slice_set ts k (record { stage = stage_in c p' pr; held = held_in th.held (point_in pr) })) ≡ put (thread_at ts) t (record { stage = stage_after c p to.row; held = held_after th.held (row_operation p.row) to.point }) =
       threads-set ts k t (record { stage = stage_in c p' pr; held = held_in th.held (point_in pr) }) at (omega arith) ∙ (λ i. put (thread_at ts) t (record { stage = stage i; held = held i })) in
-      (λ i. record { layout = l; words = words i; threads = threads i }) ∙ sym (ap (λ (a : After). a.state) ran)
+      (λ i. record { layout = l; words = words i; queues = queues i; threads = threads i }) ∙ sym (ap (λ (a : After). a.state) ran)
 
-  pub step_note : Stepped t (decision_in t c (point_in pr)) (reply_in pr) ≡ (happens s (Step t)).note
+  pub step_note : Stepped t (decision_in t c (point_in pr)) (if done.slept then Some (mutex_of c) else None) done.woken (reply_in pr) ≡ (happens s (Step t)).note
   step_note =
       let decides : decision_in t c (point_in pr) ≡ decision t c (row_operation p.row) to.point = ap (decision_in t c) point ∙ decision-is t p.thread p.cell c (row_operation p.row) to.point in
-      let returns : reply_in pr ≡ returned to.row = ap reply_in progress ∙ reply-is (point_of p.thread p.cell (row_operation p.row) to.point) to.row in
-      (λ i. Stepped t (decides i) (returns i)) ∙ sym (ap (λ (a : After). a.note) ran)
+      let sleeps : (if done.slept then Some (mutex_of c) else None) ≡ slept_on s c (access_of p) = slept-is l ws kernel ts (access_of p) room t after done performs c in
+      let wakes : done.woken ≡ woken s (access_of p) = woken-is l ws kernel ts (access_of p) room t after done performs in
+      let returns : reply_in pr ≡ returned to.row =
+      ap reply_in progress ∙ reply-is (point_of p.thread p.cell (row_operation p.row) (led p done.answer).point) (led p done.answer).row ∙ ap (λ (x : Led). returned x.row) leads in
+      (λ i. Stepped t (decides i) (sleeps i) (wakes i) (returns i)) ∙ sym (ap (λ (a : After). a.note) ran)

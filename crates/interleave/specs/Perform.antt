@@ -1,27 +1,52 @@
--- What an access does to the list of words, and what a thread does with its answer.
-use Rattle.std.specs.Prelude.{ℕ, List, slice_index, slice_set, Option, Some, None, if◌then◌else◌}
+-- What an access does over a list of words and a kernel's queues, and what a thread does with its answer.
+use Rattle.std.specs.Prelude.{ℕ, ◌≡◌, ◌==◌, ◌&&◌, Bool, List, [], slice_index, Option, Some, None, if◌then◌else◌}
 use Rattle.lockword.specs.declared.reply.Reply.{Reply}
 use Rattle.keys.specs.declared.access.Access.{Access}
 use Rattle.keys.specs.declared.access.Answer.{Answer}
-use Rattle.keys.specs.declared.access.Answer.TheVariants.{Fault}
+use Rattle.keys.specs.declared.access.Answer.TheVariants.{Exchanged, Changed, Fault}
 use Rattle.keys.specs.declared.point.Point.{Point}
 use Rattle.keys.specs.declared.point.Decision.{Decision}
 use Rattle.keys.specs.declared.point.Progress.{Progress}
 use Rattle.keys.specs.declared.point.Progress.TheVariants.{Goes, Returns}
-use Rattle.keys.specs.Layouts.{Layout'}
-use Rattle.keys.specs.Accesses.{address_of, changed, answer_at}
+use Rattle.keys.specs.Accesses.{address_of, sleeps_at}
 use Rattle.mutex.specs.declared.call.Call.{Call}
 use Rattle.mutex.specs.Calls.{mutex_of}
 use Rattle.mutex.specs.Standings.{Standing}
 use Rattle.protocol.specs.declared.thread.Stage.{Stage}
 use Rattle.protocol.specs.declared.thread.Stage.TheVariants.{Idle, Calling}
-use Rattle.protocol.specs.Machine.{is_valid, held_after}
+use Rattle.protocol.specs.Machine.{put, answer_among, queue_after, woken_by, held_after}
+use Rattle.syscalls.specs.Kernels.{Kernel', queue_of}
+use Rattle.syscalls.specs.Memories.{is_valid}
+use Rattle.interleave.specs.declared.accesses.Performed.{Performed}
 
-abbrev pub list_answer : Layout' → List ℕ → Access → Answer
-list_answer l ws a = if is_valid l (address_of a) then answer_at a (slice_index ws (address_of a)) else Fault
+-- the answer of an access to the word at an address, where there may be none
+abbrev pub or_fault : {A : Type 0} → (A → Answer) → Option A → Answer
+or_fault f None = Fault
+or_fault f (Some x) = f x
 
-abbrev pub list_words : Layout' → List ℕ → Access → List ℕ
-list_words l ws a = if is_valid l (address_of a) then slice_set ws (address_of a) (changed a (slice_index ws (address_of a))) else ws
+-- the answer of an exchange that met the word w
+abbrev pub exchange_answer : ℕ → ℕ → Answer
+exchange_answer old w = if w == old then Exchanged else Changed w
+
+abbrev pub list_answer : List ℕ → Kernel' → Access → Answer
+list_answer ws k a = if is_valid ws (address_of a) then answer_among a (slice_index ws (address_of a)) (queue_of k (address_of a)) else Fault
+
+abbrev pub list_slept : List ℕ → Access → Bool
+list_slept ws a = is_valid ws (address_of a) && sleeps_at a (slice_index ws (address_of a))
+
+abbrev pub list_woken : List ℕ → Kernel' → Access → List ℕ
+list_woken ws k a = if is_valid ws (address_of a) then woken_by a (queue_of k (address_of a)) else []
+
+abbrev pub list_queues : List ℕ → Kernel' → ℕ → Access → ℕ → List ℕ
+list_queues ws k t a = if is_valid ws (address_of a) then put (queue_of k) (address_of a) (queue_after t a (slice_index ws (address_of a)) (queue_of k (address_of a))) else queue_of k
+
+-- what thread t's access over these words does to the queues, and tells
+pub record Performs (ws : List ℕ) (old new : Kernel') (t : ℕ) (a : Access) (done : Performed) : Type 0 where
+  pub answer : done.answer ≡ list_answer ws old a
+  pub slept : done.slept ≡ list_slept ws a
+  pub woken : done.woken ≡ list_woken ws old a
+  pub queues : (p : ℕ) → queue_of new p ≡ list_queues ws old t a p
+  pub threads : new.threads ≡ old.threads
 
 abbrev pub point_in : Progress → Option Point
 point_in (Goes point) = point

@@ -21,6 +21,7 @@ pub record IsReached (m : Shown) : Type 0 where
   pub is : state_of m ≡ run (start m.layout counters) events
   pub fresh : m.fresh ≡ true → IsStart m
   pub words : length m.words ≡ words_of m.layout
+  pub kernel : m.kernel.threads ≡ m.layout.threads
   pub threads : length m.threads ≡ m.layout.threads
 
 -- after each event the points so far are a legal history, which says of every mutex what its cell says

@@ -1,9 +1,10 @@
 -- What a thread's next step needs.
-use Rattle.std.specs.Prelude.{◌<◌}
+use Rattle.std.specs.Prelude.{ℕ, ◌≡◌, ◌<◌, true}
 use Rattle.mutex.specs.Rows.{IsGoing}
 use Rattle.protocol.specs.declared.thread.Thread.{Thread}
 use Rattle.protocol.specs.declared.thread.Stage.{Stage}
 use Rattle.protocol.specs.declared.thread.Stage.TheVariants.{Idle, Calling}
+use Rattle.protocol.specs.Machine.{State, stands_in, is_asleep}
 
 abbrev pub IsOnItsWay : Stage → Type 0
 IsOnItsWay Idle = Unit {0}
@@ -12,3 +13,7 @@ IsOnItsWay (Calling c p) = IsGoing p.row
 -- its call, if it is in one, hasn't returned, and one mutex more can be counted
 abbrev pub MayStep : Thread → Type 0
 MayStep th = IsOnItsWay th.stage × (th.held < 65535)
+
+-- whichever queue it stands in is that of its call's mutex
+abbrev pub SleepsInItsCall : State → ℕ → Type 0
+SleepsInItsCall s t = (key : ℕ) → stands_in t (s.queues key) ≡ true → is_asleep s t ≡ true

@@ -1,80 +1,140 @@
-//! Accesses to the machine's words.
-ghost use Rattle.std.specs.Prelude.{◌≡◌, length};
-ghost use Rattle.keys.specs.Layouts.{words_of};
-ghost use Rattle.keys.specs.Accesses.{address_of, changed, answer_at};
-ghost use Rattle.interleave.specs.Perform.{list_answer, list_words};
+//! Accesses of the machine's threads: to its words, and to the kernel's queues.
+ghost use Rattle.std.specs.Prelude.{◌≡◌, ◌≤◌, ℕ, [], true, false};
+ghost use Rattle.keys.specs.declared.access.Access.TheVariants.{Wait, Wake};
+ghost use Rattle.keys.specs.declared.access.Answer.TheVariants.{Value, Stored, Exchanged, Changed, Counts};
+ghost use Rattle.syscalls.specs.Kernels.{IsAwake};
+ghost use Rattle.syscalls.specs.Memories.{words_after};
+ghost use Rattle.interleave.specs.Perform.{or_fault, exchange_answer, Performs};
 
-use keys::{Access, Answer, Layout};
+use buckets::Batch;
+use keys::{Access, Answer};
+use lockword::{Reply, Tid};
+use syscalls::{Kernel, Memory};
 
-/// The address of the word that an access reads or changes.
-fn address(access: &Access) -> u64
-    ensures { result ≡ address_of access.now }
+/// What an access answered, whether its thread fell asleep by it, and whom it woke, in their order.
+#[derive(Clone, Copy)]
+pub(crate) struct Performed {
+    pub answer: Answer,
+    pub slept: bool,
+    pub woken: Batch,
+}
+
+/// Of an access by which nobody falls asleep, and nobody is woken.
+fn quiet(answer: Answer) -> Performed
+    ensures { result ≡ record { answer = answer; slept = false; woken = [] } }
 {
-    match *access {
-        Access::Load { at }
-        | Access::Store { at, .. }
-        | Access::Exchange { at, .. }
-        | Access::FetchXor { at, .. }
-        | Access::FetchOr { at, .. }
-        | Access::FetchAnd { at, .. }
-        | Access::FetchAdd { at, .. }
-        | Access::Wait { at, .. }
-        | Access::Wake { at, .. } => at,
-        Access::Requeue { from, .. } | Access::CmpRequeue { from, .. } => from,
+    Performed {
+        answer,
+        slept: false,
+        woken: Batch::new(),
     }
 }
 
-/// The word after an access that met this one.
-fn word_after(access: &Access, word: u64) -> u64
-    ensures { result ≡ changed access.now word }
+fn value(word: Option<u64>) -> Answer
+    ensures { result ≡ or_fault (λ w. Value w) word }
 {
-    match *access {
-        Access::Store { value, .. } => value,
-        Access::Exchange { expected, new, .. } => { if word == expected { new } else { word } }
-        Access::FetchXor { operand, .. } => word ^ operand,
-        Access::FetchOr { operand, .. } => word | operand,
-        Access::FetchAnd { operand, .. } => word & operand,
-        Access::FetchAdd { operand, .. } => word.wrapping_add(operand),
-        _ => word,
+    match word {
+        Some(word) => Answer::Value(word),
+        None => Answer::Fault,
     }
 }
 
-/// What an access that met this word answers. Nobody sleeps, since no call of the machine waits yet.
-fn answer(access: &Access, word: u64) -> Answer
-    ensures { result ≡ answer_at access.now word }
+fn stored(done: Option<()>) -> Answer
+    ensures { result ≡ or_fault (λ u. Stored) done }
 {
-    match *access {
-        Access::Load { .. }
-        | Access::FetchXor { .. }
-        | Access::FetchOr { .. }
-        | Access::FetchAnd { .. }
-        | Access::FetchAdd { .. } => Answer::Value(word),
-        Access::Store { .. } => Answer::Stored,
-        Access::Exchange { expected, .. } => {
+    match done {
+        Some(()) => Answer::Stored,
+        None => Answer::Fault,
+    }
+}
+
+fn exchanged(word: Option<u64>, expected: u64) -> Answer
+    ensures { result ≡ or_fault (exchange_answer expected) word }
+{
+    match word {
+        Some(word) => {
             if word == expected {
                 Answer::Exchanged
             } else {
                 Answer::Changed(word)
             }
         }
-        Access::Wait { .. } => Answer::Again,
-        Access::Wake { .. } => Answer::Count(0),
-        Access::Requeue { .. } | Access::CmpRequeue { .. } => Answer::Counts(0, 0),
+        None => Answer::Fault,
     }
 }
 
-/// Makes an access.
-pub(crate) fn perform(layout: &Layout, words: &mut Vec<u64>, access: &Access) -> Answer
-    requires { length words.old.items ≡ words_of layout.now }
-    ensures answer { result ≡ list_answer layout.now words.old.items access.now }
-    ensures words { words.new.items ≡ list_words layout.now words.old.items access.now }
+/// Of a requeue. No call makes one yet, so it moves nobody.
+fn unmoved(word: Option<u64>) -> Answer
+    ensures { result ≡ or_fault (λ w. Counts 0 0) word }
 {
-    let at = address(access);
-    if at < 1 || layout.words() as u64 <= at {
-        return Answer::Fault;
+    match word {
+        Some(_) => Answer::Counts(0, 0),
+        None => Answer::Fault,
     }
-    let place = at as usize;
-    let word = words[place];
-    words[place] = word_after(access, word);
-    answer(access, word)
+}
+
+/// A thread that falls asleep goes on, when it is woken, with the answer that this gives.
+fn wait<M: Memory>(
+    memory: &M,
+    kernel: &mut Kernel,
+    thread: Tid,
+    at: u64,
+    expected: u32,
+) -> Performed
+    requires known { thread ≤ kernel.old.threads }
+    requires awake { IsAwake kernel.old thread }
+    ensures { Performs (M.words memory.now) kernel.old kernel.new thread (Wait at expected) result }
+{
+    match kernel.wait(memory, thread, at, expected) {
+        Ok(()) => Performed {
+            answer: Answer::Woken,
+            slept: true,
+            woken: Batch::new(),
+        },
+        Err(Reply::EAGAIN) => quiet(Answer::Again),
+        Err(_) => quiet(Answer::Fault),
+    }
+}
+
+fn wake<M: Memory>(memory: &M, kernel: &mut Kernel, at: u64, most: u32) -> Performed
+    ensures { (thread : ℕ) → Performs (M.words memory.now) kernel.old kernel.new thread (Wake at most) result }
+{
+    match kernel.wake(memory, at, most) {
+        Ok(woken) => Performed {
+            answer: Answer::Count(woken.len() as u32),
+            slept: false,
+            woken,
+        },
+        Err(_) => quiet(Answer::Fault),
+    }
+}
+
+/// Makes an access of a thread that doesn't sleep.
+pub(crate) fn perform<M: Memory>(
+    memory: &mut M,
+    kernel: &mut Kernel,
+    thread: Tid,
+    access: &Access,
+) -> Performed
+    requires known { thread ≤ kernel.old.threads }
+    requires awake { IsAwake kernel.old thread }
+    ensures performs { Performs (M.words memory.old) kernel.old kernel.new thread access.now result }
+    ensures words { M.words memory.new ≡ words_after access.now (M.words memory.old) }
+{
+    match *access {
+        Access::Load { at } => quiet(value(memory.load(at))),
+        Access::Store { at, value } => quiet(stored(memory.store(at, value))),
+        Access::Exchange { at, expected, new } => {
+            quiet(exchanged(memory.exchange(at, expected, new), expected))
+        }
+        Access::FetchXor { at, operand } => quiet(value(memory.fetch_xor(at, operand))),
+        Access::FetchOr { at, operand } => quiet(value(memory.fetch_or(at, operand))),
+        Access::FetchAnd { at, operand } => quiet(value(memory.fetch_and(at, operand))),
+        Access::FetchAdd { at, operand } => quiet(value(memory.fetch_add(at, operand))),
+        Access::Wait { at, expected } => wait(memory, kernel, thread, at, expected),
+        Access::Wake { at, most } => wake(memory, kernel, at, most),
+        Access::Requeue { from, .. } | Access::CmpRequeue { from, .. } => {
+            quiet(unmoved(memory.load(from)))
+        }
+    }
 }

@@ -1,10 +1,12 @@
 //! The machine of robust mutexes: a schedule of events run over shared words.
 //!
-//! [`Machine::step`] does what the protocol's definition says that an event does, for every event. What holds of every run is the contract of
-//! [`Machine::run`]: its points are one legal history of POSIX robust mutexes.
+//! [`Machine::step`] does what the protocol's definition says that an event does, for every event. Its words are a plain memory, and its threads sleep in
+//! a kernel's queues. What holds of every run is the contract of [`Machine::run`]: its points are one legal history of POSIX robust mutexes.
+//! [`Machine::alone`] is what one thread would do if no other stepped.
 #![tactic(auto)]
 
 mod accesses;
+mod copies;
 mod machine;
 mod threads;
 mod trace;

@@ -1,12 +1,14 @@
 //! The machine.
-ghost use Rattle.std.specs.Prelude.{◌≡◌, ◌<◌, ◌^◌, ◌&&◌, true, [], ◌∷◌, ◌++◌, length, map, replicate, vec_len, vec_capacity, Some, None, IfOk, OnOk, OnErr, if◌then◌else◌};
+ghost use Rattle.std.specs.Prelude.{◌≡◌, ◌<◌, ◌^◌, ◌&&◌, ℕ, true, false, [], ◌∷◌, ◌++◌, length, map, take, replicate, vec_len, vec_capacity, Some, None, IfOk, OnOk, OnErr, MatchBool, if◌then◌else◌};
 ghost use Rattle.std.specs.List.{range_with_len};
 ghost use Rattle.keys.specs.Layouts.{IsLayout, counter_place, words_of};
-ghost use Rattle.protocol.specs.Machine.{start, first_word, idle, happens, put, run, notes, is_valid, is_busy, is_asleep};
+ghost use Rattle.protocol.specs.Machine.{start, first_word, idle, happens, put, run, notes, is_valid, is_busy, is_asleep, stands_in};
+ghost use Rattle.protocol.specs.Sleepers.{alone, GoesOn};
 ghost use Rattle.protocol.specs.Headline.{seen};
 ghost use Rattle.protocol.specs.Explained.{IsExplained};
 ghost use Rattle.interleave.specs.Notes.{is_nothing};
 
+use crate::copies::{same_layout, same_threads};
 use crate::threads::{apply, is_idle};
 use crate::trace::{Trace, push_in_room};
 use keys::{Layout, NoMem};
@@ -14,12 +16,14 @@ use lockword::{Cell, Tid};
 use protocol::{Event, Note, Stage, Thread};
 use std::alloc::{AllocError, Global};
 use std::marker::Model;
+use syscalls::{Kernel, Memory, PlainMemory};
 
-/// Threads whose calls step over the words of a layout, one event at a time.
+/// Threads whose calls step over the words of a layout, and sleep on them, one event at a time.
 #[derive(Drop)]
 pub struct Machine {
     layout: Layout,
-    words: Vec<u64>,
+    memory: PlainMemory,
+    kernel: Kernel,
     threads: Vec<Thread>,
     fresh: bool,
 }
@@ -29,11 +33,11 @@ impl Model for Machine {
 
     ghost Value = { Shown };
 
-    ghost view = { λ m. record { layout = m.layout; words = m.words.items; threads = m.threads.items; fresh = m.fresh } };
+    ghost view = { λ m. record { layout = m.layout; words = m.memory; kernel = m.kernel; threads = m.threads.items; fresh = m.fresh } };
 
     ghost use Rattle.interleave.specs.Reached.{IsReached};
 
-    ghost invariant = { λ m. IsReached (record { layout = m.layout; words = m.words.items; threads = m.threads.items; fresh = m.fresh }) };
+    ghost invariant = { λ m. IsReached (record { layout = m.layout; words = m.memory; kernel = m.kernel; threads = m.threads.items; fresh = m.fresh }) };
 }
 
 /// The word at a place of a new machine: each head's first entry is the head itself, and its offset is -1 (get_robust_list(2)).
@@ -76,7 +80,7 @@ fn first_threads(alloc: Global, layout: &Layout) -> Result<Vec<Thread>, AllocErr
 
 impl Machine {
     ghost use Rattle.interleave.specs.Shown.{state_of};
-    ghost use Rattle.interleave.specs.Reached.{IsStart, AtEachMoment};
+    ghost use Rattle.interleave.specs.Reached.{IsStart, IsReached, AtEachMoment};
     ghost use Rattle.interleave.specs.Traces.{IsOf};
 
     /// A machine at its beginning: nobody owns a mutex, every robust list is empty, and every counter is 0.
@@ -84,6 +88,7 @@ impl Machine {
         ensures layout { IfOk result (λ m. m.layout ≡ layout) }
         ensures start { IfOk result (λ m. state_of m ≡ start layout (λ c. 0)) }
         ensures fresh { IfOk result (λ m. m.fresh ≡ true) }
+        ensures goes_on { IfOk result (λ m. GoesOn (state_of m)) }
     {
         let Ok(words) = first_words(alloc, &layout) else {
             return Err(NoMem);
@@ -91,9 +96,11 @@ impl Machine {
         let Ok(threads) = first_threads(alloc, &layout) else {
             return Err(NoMem);
         };
+        let kernel = Kernel::new(alloc, layout.threads())?;
         Ok(Machine {
             layout,
-            words,
+            memory: PlainMemory::from(words),
+            kernel,
             threads,
             fresh: true,
         })
@@ -122,17 +129,24 @@ impl Machine {
         ensures state { state_of self.new ≡ record (state_of self.old) { words = put (state_of self.old).words (counter_place self.old.layout condition) value } }
         ensures fresh { self.new.fresh ≡ true }
     {
-        let place = self.layout.counter(condition) as usize;
-        self.words[place] = u64::from(value);
+        let place = self.layout.counter(condition);
+        let _ = self.memory.store(place, u64::from(value));
     }
 
-    /// What an event does. One that can't apply is noted as nothing, and changes nothing.
+    /// What an event does. One that can't apply, as a step of a thread that sleeps, is noted as nothing, and changes nothing.
     pub fn step(&mut self, event: Event) -> Note
         ensures state { state_of self.new ≡ (happens (state_of self.old) event).state }
         ensures note { result ≡ (happens (state_of self.old) event).note }
         ensures fresh { self.new.fresh ≡ (self.old.fresh && is_nothing result) }
+        ensures goes_on { GoesOn (state_of self.new) }
     {
-        let note = apply(&self.layout, &mut self.words, &mut self.threads, event);
+        let note = apply(
+            &self.layout,
+            &mut self.memory,
+            &mut self.kernel,
+            &mut self.threads,
+            event,
+        );
         self.fresh = stays_fresh(self.fresh, &note);
         note
     }
@@ -142,17 +156,22 @@ impl Machine {
     /// Of a machine to which nothing has happened, the notes tell a legal history: after each event, the points so far take every mutex, as POSIX sees
     /// it, from free to what its cell says of its owner, OWNER_DIED and UNUSABLE. And they explain what each thread was told: a call that returned had one point, whose reply it
     /// returned, between its begin and its return, at events of its own thread; one that hasn't returned had one at most; and no point belongs to any other call.
+    ///
+    /// After each event the machine goes on: whenever a mutex that nobody owns has sleepers, some awake thread, run alone, takes it or wakes one of them within 9,000 steps;
+    /// whoever is awake and runs alone ends its call or falls asleep within as many; and a call that no other event divides replies as the object does.
     pub fn run(&mut self, alloc: Global, events: &[Event]) -> Result<Trace, NoMem>
         ensures state { OnOk result (state_of self.new ≡ run (state_of self.old) events.now) }
         ensures notes { IfOk result (λ t. t.notes.items ≡ notes (state_of self.old) events.now) }
         ensures numbers { IfOk result (λ t. IsOf self.old.layout t) }
         ensures history { IfOk result (λ t. self.old.fresh ≡ true → AtEachMoment (state_of self.old) events.now t.notes.items) }
         ensures explained { IfOk result (λ t. self.old.fresh ≡ true → IsExplained events.now t.notes.items) }
+        ensures goes_on { IfOk result (λ t. (n : ℕ) → GoesOn (run (state_of self.old) (take n events.now))) }
         ensures err { OnErr result (self.new ≡ self.old) }
     {
         let Ok(mut notes) = Vec::with_capacity(alloc, events.len()) else {
             return Err(NoMem);
         };
+        self.reached();
         let _fresh = self.fresh();
         let layout = self.layout();
         let (threads, mutexes, conditions) = (
@@ -172,24 +191,60 @@ impl Machine {
         })
     }
 
+    /// What one thread would do if no other stepped: a copy of this machine after `n` steps of the thread. This machine stays as it is.
+    pub fn alone(&self, alloc: Global, thread: Tid, n: u32) -> Result<Machine, NoMem>
+        ensures layout { IfOk result (λ m. m.layout ≡ self.now.layout) }
+        ensures state { IfOk result (λ m. state_of m ≡ alone (state_of self.now) thread n) }
+        ensures fresh { IfOk result (λ m. m.fresh ≡ self.now.fresh) }
+        ensures goes_on { GoesOn (state_of self.now) }
+    {
+        self.reached();
+        let mut machine = self.copied(alloc)?;
+        for _ in 0..n {
+            let _ = machine.step(Event::Step(thread));
+        }
+        Ok(machine)
+    }
+
+    /// It does nothing: its contract says what the type always keeps.
+    fn reached(&self)
+        ensures { IsReached self.now }
+    {
+        let _ = &self.fresh;
+    }
+
+    fn copied(&self, alloc: Global) -> Result<Machine, NoMem>
+        ensures { IfOk result (λ m. m ≡ self.now) }
+    {
+        let Ok(memory) = self.memory.clone() else {
+            return Err(NoMem);
+        };
+        let Ok(kernel) = self.kernel.clone() else {
+            return Err(NoMem);
+        };
+        Ok(Machine {
+            layout: same_layout(&self.layout),
+            memory,
+            kernel,
+            threads: same_threads(alloc, &self.threads)?,
+            fresh: self.fresh,
+        })
+    }
+
     /// The thread that owns a mutex.
     pub fn owner(&self, mutex: u16) -> Option<Tid>
         requires { mutex < self.now.layout.mutexes }
         ensures { result ≡ (seen (state_of self.now) mutex).owner }
     {
-        let place = self.layout.cell(mutex) as usize;
-        let owner = Cell::new(self.words[place]).owner();
-        Tid::new(owner as u8)
+        let word = self.memory.load(self.layout.cell(mutex))?;
+        Tid::new(Cell::new(word).owner() as u8)
     }
 
     /// The word at a place; None where the place isn't valid.
     pub fn word(&self, place: u64) -> Option<u64>
         ensures { result ≡ (if is_valid self.now.layout place then Some ((state_of self.now).words place) else None) }
     {
-        if place < 1 || self.words.len() as u64 <= place {
-            return None;
-        }
-        Some(self.words[place as usize])
+        self.memory.load(place)
     }
 
     /// Whether a thread is in a call.
@@ -200,12 +255,12 @@ impl Machine {
         index < self.threads.len() && !is_idle(&self.threads[index].stage)
     }
 
-    /// Whether a thread stands in a queue of sleepers. No call waits yet, so none does.
+    /// Whether a thread sleeps in its call. False where there is no such thread.
     pub fn asleep(&self, thread: Tid) -> bool
-        ensures { result ≡ is_asleep (state_of self.now) thread }
+        ensures value { result ≡ is_asleep (state_of self.now) thread }
+        ensures stands { MatchBool result ((key : ℕ) × (stands_in thread ((state_of self.now).queues key) ≡ true)) ((key : ℕ) → stands_in thread ((state_of self.now).queues key) ≡ false) }
     {
-        let _ = thread;
-        false
+        self.kernel.asleep(thread)
     }
 }
 

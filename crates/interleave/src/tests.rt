@@ -1,6 +1,9 @@
 //! Small machines, with their words and notes worked out by hand.
 
+mod sleeping;
+
 use crate::Machine;
+use buckets::Batch;
 use keys::{Decision, Layout, Operation};
 use lockword::{Reply, Tid};
 use mutex::Call;
@@ -39,6 +42,24 @@ fn goes(thread: Tid) -> Note {
     Note::Stepped {
         thread,
         point: None,
+        slept: None,
+        woken: Batch::new(),
+        returned: None,
+    }
+}
+
+/// An access that decides a call on mutex 0, which goes on.
+fn decides(thread: Tid, operation: Operation, reply: Reply) -> Note {
+    Note::Stepped {
+        thread,
+        point: Some(Decision {
+            thread,
+            mutex: 0,
+            operation,
+            reply,
+        }),
+        slept: None,
+        woken: Batch::new(),
         returned: None,
     }
 }
@@ -53,6 +74,8 @@ fn ends(thread: Tid, operation: Operation, reply: Reply) -> Note {
             operation,
             reply,
         }),
+        slept: None,
+        woken: Batch::new(),
         returned: Some(reply),
     }
 }
@@ -242,12 +265,23 @@ fn a_thread_holds_at_most_2048_mutexes(rt: HostRuntime) -> Result<(), Fail> {
     };
     let mut machine = machine(rt.alloc(), 1, 2049, &[])?;
     for mutex in 0..2048 {
-        let call = Call::TryLock(mutex);
+        let call = if mutex % 2 == 0 {
+            Call::TryLock(mutex)
+        } else {
+            Call::Lock(mutex)
+        };
         assert_eq!(rt; machine.step(Event::Begin(one, call)), began(one, call));
         let _ = machine.step(Event::Step(one));
         let _ = machine.step(Event::Step(one));
     }
     assert_eq!(rt; machine.step(Event::Begin(one, last)), refused);
+    let lock = Call::Lock(2048);
+    let also_refused = Note::Began {
+        thread: one,
+        call: lock,
+        refused: Some(Reply::XHELD),
+    };
+    assert_eq!(rt; machine.step(Event::Begin(one, lock)), also_refused);
     assert!(rt; !machine.busy(one));
     for event in [
         Event::Begin(one, Call::Unlock(7)),

@@ -1,17 +1,20 @@
 //! The machine's threads.
-ghost use Rattle.std.specs.Prelude.{◌≡◌, ◌<◌, ◌≤◌, ℕ, List, length};
+ghost use Rattle.std.specs.Prelude.{◌≡◌, ◌<◌, ◌≤◌, ℕ, List, Some, None, length, if◌then◌else◌};
 ghost use Rattle.keys.specs.Layouts.{words_of};
 ghost use Rattle.protocol.specs.declared.event.Event.TheVariants.{Begin, Step};
 ghost use Rattle.protocol.specs.Machine.{happens, is_idle};
+ghost use Rattle.mutex.specs.Calls.{mutex_of};
+ghost use Rattle.syscalls.specs.Kernels.{Kernel'};
 ghost use Rattle.interleave.specs.Perform.{point_in, reply_in, stage_in, held_in, decision_in};
 ghost use Rattle.interleave.specs.Shown.{state_at, thread_at};
-ghost use Rattle.interleave.specs.Steps.{MayStep};
+ghost use Rattle.interleave.specs.Steps.{MayStep, SleepsInItsCall};
 
 use crate::accesses::perform;
 use keys::{Decision, Layout, Operation, Point, Progress};
 use lockword::{Reply, Tid};
 use mutex::{Call, Program};
 use protocol::{Event, Note, Stage, Thread};
+use syscalls::{Kernel, PlainMemory};
 
 fn point(progress: &Progress) -> Option<Point>
     ensures { result ≡ point_in progress.now }
@@ -48,7 +51,7 @@ fn held_after(held: u16, point: &Option<Point>) -> u16
         return held;
     };
     match (point.operation, point.reply) {
-        (Operation::TryLock, Reply::OK | Reply::EOWNERDEAD) => held + 1,
+        (Operation::Lock | Operation::TryLock, Reply::OK | Reply::EOWNERDEAD) => held + 1,
         (Operation::Unlock, Reply::OK) => held.saturating_sub(1),
         _ => held,
     }
@@ -68,6 +71,13 @@ fn decision(thread: Tid, call: Call, point: &Option<Point>) -> Option<Decision>
     }
 }
 
+/// The mutex that a thread in such a call fell asleep on, if it did.
+fn slept_on(call: Call, slept: bool) -> Option<u16>
+    ensures { result ≡ (if slept then Some (mutex_of call) else None) }
+{
+    if slept { Some(call.mutex()) } else { None }
+}
+
 /// Whether a thread that is there is in no call.
 pub(crate) fn is_idle(stage: &Stage) -> bool
     ensures { result ≡ is_idle stage.now }
@@ -81,8 +91,8 @@ pub(crate) fn is_idle(stage: &Stage) -> bool
 /// The thread begins a call, if it can.
 fn begin(layout: &Layout, threads: &mut Vec<Thread>, thread: Tid, call: Call) -> Note
     requires { length threads.old.items ≡ layout.now.threads }
-    ensures state { (ws : List ℕ) → state_at layout.now ws threads.new.items ≡ (happens (state_at layout.now ws threads.old.items) (Begin thread call)).state }
-    ensures note { (ws : List ℕ) → result ≡ (happens (state_at layout.now ws threads.old.items) (Begin thread call)).note }
+    ensures state { (ws : List ℕ) (k : Kernel') → state_at layout.now ws k threads.new.items ≡ (happens (state_at layout.now ws k threads.old.items) (Begin thread call)).state }
+    ensures note { (ws : List ℕ) (k : Kernel') → result ≡ (happens (state_at layout.now ws k threads.old.items) (Begin thread call)).note }
     ensures threads { length threads.new.items ≡ length threads.old.items }
 {
     if layout.threads() < thread.get() || layout.mutexes() <= call.mutex() {
@@ -113,17 +123,29 @@ fn begin(layout: &Layout, threads: &mut Vec<Thread>, thread: Tid, call: Call) ->
     }
 }
 
-/// The thread makes the next access of its call, if it is in one.
-fn step(layout: &Layout, words: &mut Vec<u64>, threads: &mut Vec<Thread>, thread: Tid) -> Note
-    requires words { length words.old.items ≡ words_of layout.now }
+/// The thread makes the next access of its call, if it is in one and doesn't sleep.
+fn step(
+    layout: &Layout,
+    memory: &mut PlainMemory,
+    kernel: &mut Kernel,
+    threads: &mut Vec<Thread>,
+    thread: Tid,
+) -> Note
+    requires words { length memory.old ≡ words_of layout.now }
+    requires kernel { kernel.old.threads ≡ layout.now.threads }
     requires threads { length threads.old.items ≡ layout.now.threads }
     requires goes { thread ≤ layout.now.threads → MayStep (thread_at threads.old.items thread) }
-    ensures state { state_at layout.now words.new.items threads.new.items ≡ (happens (state_at layout.now words.old.items threads.old.items) (Step thread)).state }
-    ensures note { result ≡ (happens (state_at layout.now words.old.items threads.old.items) (Step thread)).note }
-    ensures words { length words.new.items ≡ length words.old.items }
+    requires sleeps { SleepsInItsCall (state_at layout.now memory.old kernel.old threads.old.items) thread }
+    ensures state { state_at layout.now memory.new kernel.new threads.new.items ≡ (happens (state_at layout.now memory.old kernel.old threads.old.items) (Step thread)).state }
+    ensures note { result ≡ (happens (state_at layout.now memory.old kernel.old threads.old.items) (Step thread)).note }
+    ensures words { length memory.new ≡ length memory.old }
+    ensures kernel { kernel.new.threads ≡ kernel.old.threads }
     ensures threads { length threads.new.items ≡ length threads.old.items }
 {
     if layout.threads() < thread.get() {
+        return Note::Nothing;
+    }
+    if kernel.asleep(thread) {
         return Note::Nothing;
     }
     let index = usize::from(thread.get()) - 1;
@@ -131,8 +153,8 @@ fn step(layout: &Layout, words: &mut Vec<u64>, threads: &mut Vec<Thread>, thread
     let Stage::Calling(call, mut program) = stage else {
         return Note::Nothing;
     };
-    let answer = perform(layout, words, &program.next());
-    let progress = program.resume(answer);
+    let done = perform(memory, kernel, thread, &program.next());
+    let progress = program.resume(done.answer);
     let point = point(&progress);
     threads[index] = Thread {
         stage: stage_after(call, &program, &progress),
@@ -141,27 +163,33 @@ fn step(layout: &Layout, words: &mut Vec<u64>, threads: &mut Vec<Thread>, thread
     Note::Stepped {
         thread,
         point: decision(thread, call, &point),
+        slept: slept_on(call, done.slept),
+        woken: done.woken,
         returned: returned(&progress),
     }
 }
 
-/// What an event does to the words and the threads.
+/// What an event does to the words, the sleepers and the threads.
 pub(crate) fn apply(
     layout: &Layout,
-    words: &mut Vec<u64>,
+    memory: &mut PlainMemory,
+    kernel: &mut Kernel,
     threads: &mut Vec<Thread>,
     event: Event,
 ) -> Note
-    requires words { length words.old.items ≡ words_of layout.now }
+    requires words { length memory.old ≡ words_of layout.now }
+    requires kernel { kernel.old.threads ≡ layout.now.threads }
     requires threads { length threads.old.items ≡ layout.now.threads }
     requires goes { (t : ℕ) → 1 ≤ t → t ≤ layout.now.threads → MayStep (thread_at threads.old.items t) }
-    ensures state { state_at layout.now words.new.items threads.new.items ≡ (happens (state_at layout.now words.old.items threads.old.items) event).state }
-    ensures note { result ≡ (happens (state_at layout.now words.old.items threads.old.items) event).note }
-    ensures words { length words.new.items ≡ length words.old.items }
+    requires sleeps { (t : ℕ) → SleepsInItsCall (state_at layout.now memory.old kernel.old threads.old.items) t }
+    ensures state { state_at layout.now memory.new kernel.new threads.new.items ≡ (happens (state_at layout.now memory.old kernel.old threads.old.items) event).state }
+    ensures note { result ≡ (happens (state_at layout.now memory.old kernel.old threads.old.items) event).note }
+    ensures words { length memory.new ≡ length memory.old }
+    ensures kernel { kernel.new.threads ≡ kernel.old.threads }
     ensures threads { length threads.new.items ≡ length threads.old.items }
 {
     match event {
         Event::Begin(thread, call) => begin(layout, threads, thread, call),
-        Event::Step(thread) => step(layout, words, threads, thread),
+        Event::Step(thread) => step(layout, memory, kernel, threads, thread),
     }
 }

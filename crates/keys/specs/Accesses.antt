@@ -1,5 +1,5 @@
 -- What an access does to the word that it meets, and what it answers. The futex sections change no word.
-use Rattle.std.specs.Prelude.{ℕ, ◌==◌, ◌+◌, ◌%◌, bit_or, bit_and, bit_xor, if◌then◌else◌}
+use Rattle.std.specs.Prelude.{ℕ, ◌==◌, ◌+◌, ◌%◌, ◌^◌, Bool, false, bit_or, bit_and, bit_xor, if◌then◌else◌}
 use Rattle.keys.specs.declared.access.Access.{Access}
 use Rattle.keys.specs.declared.access.Access.TheVariants.{Load, Store, Exchange, FetchXor, FetchOr, FetchAnd, FetchAdd, Wait, Wake, Requeue, CmpRequeue}
 use Rattle.keys.specs.declared.access.Answer.{Answer}
@@ -42,3 +42,8 @@ answer_at (Wait at e) w = Again
 answer_at (Wake at n) w = Count 0
 answer_at (Requeue from n to k) w = Counts 0 0
 answer_at (CmpRequeue from e n to k) w = Counts 0 0
+
+-- a thread falls asleep at a wait whose word has the expected low half (FUTEX_WAIT)
+abbrev pub sleeps_at : Access → ℕ → Bool
+sleeps_at (Wait at e) w = w % 2 ^ 32 == e
+sleeps_at a w = false

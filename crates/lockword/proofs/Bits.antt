@@ -1,11 +1,11 @@
 -- What a word says after each change of its bits.
-use Rattle.std.proofs.Common.{◌≡◌, ◌≢◌, ◌↔◌, ℕ, zero, suc, ◌+◌, ◌-◌, ◌*◌, ◌/◌, ◌%◌, ◌^◌, ◌<◌, ◌==◌, Bool, true, refl, sym, ap, ◌∙◌, arith, lit<, eq-eqb, eqb-true, bit_and, bit_or, bit_xor}
+use Rattle.std.proofs.Common.{◌≡◌, ◌≢◌, ◌↔◌, ℕ, zero, suc, ◌+◌, ◌-◌, ◌*◌, ◌/◌, ◌%◌, ◌^◌, ◌<◌, ◌==◌, Bool, true, false, refl, sym, ap, ◌∙◌, arith, lit<, eq-eqb, eqb-true, bit_and, bit_or, bit_xor}
 use Rattle.std.specs.Prelude.{not}
 use Rattle.std.proofs.lemmas.Bool.{ne_eqb}
 use Rattle.std.proofs.lemmas.Bool.Decides.{nat_tests}
-use Rattle.std.proofs.lemmas.Nat.{or_block, or_shifted, or_comm, xor_block}
+use Rattle.std.proofs.lemmas.Nat.{or_block, or_shifted, or_comm, xor_block, and_block, and_mask}
 use Rattle.std.proofs.lemmas.Nat.Bits.{and_pow, and_high_mask}
-use Rattle.std.specs.Int.Bits.{xor_self, xor_zero_r, or_zero_r}
+use Rattle.std.specs.Int.Bits.{xor_self, xor_zero_r, or_zero_r, and_zero_r}
 use Rattle.lockword.specs.Cells.{fields_of, waiting, taken, marked, released, spoiled}
 
 -- a bit's weight is not 0 where the bit is 1
@@ -180,3 +180,39 @@ or_flips t small =
     let low : bit_or t 0x4000_0000 ≡ 1 * 0x4000_0000 + t = or_comm t 0x4000_0000 ∙ or_shifted 1 30 t small in
     ap (λ x. bit_or x 0x1_0000_0000) low ∙ or_comm (1 * 0x4000_0000 + t) 0x1_0000_0000 ∙ or_shifted 1 32 (1 * 0x4000_0000 + t) (omega arith)
     ∙ (let e : 1 * 0x1_0000_0000 + (1 * 0x4000_0000 + t) ≡ t + 0x1_4000_0000 = omega arith in e)
+
+-- every bit but OWNER_DIED, of a word of 64 bits
+and_sum : (w : ℕ) → bit_and w 0xffff_ffff_bfff_ffff ≡ w / 0x8000_0000 % 2 ^ 33 * 0x8000_0000 + w % 0x4000_0000
+and_sum w =
+    let q : ℕ = w / 0x4000_0000 in
+    let r : ℕ = w % 0x4000_0000 in
+    let is : w ≡ q * 0x4000_0000 + r = omega arith in
+    let low : bit_and r 0x3fff_ffff ≡ r = and_mask r 30 ∙ (let e : r % 0x4000_0000 ≡ r = omega arith in e) in
+    let half : q ≡ q / 2 * 2 + q % 2 = omega arith in
+    let high : bit_and q 0x3_ffff_fffe ≡ q / 2 % 2 ^ 33 * 2 + 0 =
+    ap (λ x. bit_and x 0x3_ffff_fffe) half ∙ and_block 1 (q / 2) 0x1_ffff_ffff (q % 2) 0 (omega arith) (lit< tt) ∙ (λ i. and_mask (q / 2) 33 i * 2 + and_zero_r (q % 2) i) in
+    ap (λ x. bit_and x 0xffff_ffff_bfff_ffff) is ∙ and_block 30 q 0x3_ffff_fffe r 0x3fff_ffff (omega arith) (lit< tt) ∙ (λ i. high i * 0x4000_0000 + low i)
+    ∙ (let e : (q / 2 % 2 ^ 33 * 2 + 0) * 0x4000_0000 + r ≡ w / 0x8000_0000 % 2 ^ 33 * 0x8000_0000 + w % 0x4000_0000 = omega arith in e)
+
+-- a word declared consistent: OWNER_DIED is cleared, the other bits below the 33rd stay, and those above stay clear
+pub record Declares (w v : ℕ) : Type 0 where
+  pub owner : (fields_of v).owner ≡ (fields_of w).owner
+  pub died : (fields_of v).died ≡ false
+  pub waiters : (fields_of v).waiters ≡ (fields_of w).waiters
+  pub unusable : (fields_of v).unusable ≡ (fields_of w).unusable
+  pub rest : (fields_of w).rest ≡ 0 → (fields_of v).rest ≡ 0
+
+pub and_declared : (w : ℕ) → Declares w (bit_and w 0xffff_ffff_bfff_ffff)
+and_declared w =
+    let v : ℕ = bit_and w 0xffff_ffff_bfff_ffff in
+    let sum : v ≡ w / 0x8000_0000 % 2 ^ 33 * 0x8000_0000 + w % 0x4000_0000 = and_sum w in
+    let died : v / 0x4000_0000 % 2 ≡ 0 = omega arith in
+    let waiters : v / 0x8000_0000 % 2 ≡ w / 0x8000_0000 % 2 = omega arith in
+    let unusable : v / 0x1_0000_0000 % 2 ≡ w / 0x1_0000_0000 % 2 = omega arith in
+    record { owner = omega arith; died = ap (λ x. x == 1) died; waiters = ap (λ x. x == 1) waiters; unusable = ap (λ x. x == 1) unusable; rest = λ none. omega arith }
+
+-- two words with one futex word have one owner, and WAITERS alike
+pub low_alike : (w v : ℕ) → w % 2 ^ 32 ≡ v % 2 ^ 32 → ((fields_of w).owner ≡ (fields_of v).owner) × ((fields_of w).waiters ≡ (fields_of v).waiters)
+low_alike w v same =
+    let bits : w / 0x8000_0000 % 2 ≡ v / 0x8000_0000 % 2 = omega arith in
+    (omega arith, ap (λ x. x == 1) bits)

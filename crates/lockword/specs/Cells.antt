@@ -1,5 +1,5 @@
 -- The word of a robust mutex, by its bits (futex(2); the kernel's robust-futex-ABI; UNUSABLE is this project's own).
-use Rattle.std.specs.Prelude.{ℕ, ◌==◌, ◌+◌, ◌*◌, ◌/◌, ◌%◌, Bool, true, false, not}
+use Rattle.std.specs.Prelude.{ℕ, ◌==◌, ◌+◌, ◌*◌, ◌/◌, ◌%◌, ◌^◌, Bool, true, false, not}
 
 -- What the word of a cell says: bits 0 to 29 are the owner's id, 0 for none; bit 30 is OWNER_DIED, bit 31 WAITERS and bit 32 UNUSABLE.
 -- `rest` is what stands above them, 0 in the cell of a mutex.
@@ -45,3 +45,7 @@ released c = record c { owner = 0 }
 -- released by an owner who never declared it consistent
 abbrev pub spoiled : Fields → Fields
 spoiled c = record c { owner = 0; died = false; unusable = not c.unusable }
+
+-- the futex word: the low half
+abbrev pub low_of : Fields → ℕ
+low_of c = word_of c % 2 ^ 32

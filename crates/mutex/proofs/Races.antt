@@ -9,7 +9,7 @@ use Rattle.keys.specs.declared.access.Answer.{Answer}
 use Rattle.keys.specs.declared.access.Answer.TheVariants.{Value, Exchanged, Changed}
 use Rattle.mutex.specs.declared.try_lock.TryLockRow.TheVariants as try
 use Rattle.mutex.specs.declared.row.Row.{Row}
-use Rattle.mutex.specs.declared.row.Row.TheVariants.{TryLock, Unlock, Ended}
+use Rattle.mutex.specs.declared.row.Row.TheVariants.{Lock, TryLock, Unlock, Consistent, Ended}
 use Rattle.mutex.specs.Rows.{goes, ends}
 use Rattle.mutex.specs.TryLock.{try_sees}
 use Rattle.mutex.specs.Programs.{resume_of}
@@ -21,7 +21,9 @@ Met (TryLock try.Load) n = Unit {0}
 Met (TryLock (try.Take v k)) n = (k < 4) × (k ≤ n)
 Met (Ended XRACED) n = 4 ≤ n
 Met (Ended x) n = Unit {0}
+Met (Lock r) n = ⊥
 Met (Unlock r) n = ⊥
+Met (Consistent r) n = ⊥
 
 -- a call that has returned saw the changes that it had to
 ended_met : (x : Reply) (n m : ℕ) → Met (Ended x) n → Met (Ended x) (n + m)
@@ -50,7 +52,9 @@ answered t (TryLock try.Load) a n h = tt
 answered t (TryLock (try.Take v k)) Exchanged n h = acquired_met v.died (n + 0)
 answered t (TryLock (try.Take v k)) (Changed w) n h = let few = h.0 in let so_far = h.1 in sees_met (k + 1) (n + 1) (fields_of w) (omega arith) (omega arith)
 answered t (TryLock (try.Take v k)) a n h = tt
+answered t (Lock r) a n h = absurd h
 answered t (Unlock r) a n h = absurd h
+answered t (Consistent r) a n h = absurd h
 answered t (Ended x) a n h = ended_met x n (tells_change a) h
 
 -- all answers

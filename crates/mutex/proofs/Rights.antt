@@ -1,26 +1,30 @@
 -- One access of a call is a step of the mutex as an object, and leaves what the next row needs.
-use Rattle.std.proofs.Common.{◌≡◌, ◌≢◌, ℕ, ◌+◌, ◌≤◌, ◌==◌, Bool, true, false, not, Option, Some, None, refl, sym, ap, ◌∙◌, subst, arith, eqb-true, bit_xor}
+use Rattle.std.proofs.Common.{◌≡◌, ◌≢◌, ℕ, ◌+◌, ◌<◌, ◌≤◌, ◌==◌, Bool, true, false, not, Option, Some, None, refl, sym, ap, ◌∙◌, subst, arith, eqb-true, bit_xor, bit_and}
 use Rattle.std.specs.Prelude.{if◌then◌else◌}
 use Rattle.std.proofs.lemmas.Bool.{eqb-false}
-use Rattle.lockword.specs.Cells.{Fields, fields_of, word_of, taken}
+use Rattle.lockword.specs.Cells.{Fields, fields_of, word_of, taken, waiting}
 use Rattle.lockword.specs.Coding.{fields_of-word_of}
-use Rattle.lockword.proofs.Bits.{xor_released, xor_spoiled}
+use Rattle.lockword.proofs.Bits.{xor_released, xor_spoiled, and_declared}
 use Rattle.lockword.specs.declared.reply.Reply.{Reply}
-use Rattle.lockword.specs.declared.reply.Reply.TheVariants.{OK, EPERM, EBUSY, EOWNERDEAD, ENOTRECOVERABLE, XRACED}
+use Rattle.lockword.specs.declared.reply.Reply.TheVariants.{OK, EPERM, EBUSY, EINVAL, EDEADLK, EOWNERDEAD, ENOTRECOVERABLE, XRACED}
 use Rattle.keys.specs.declared.access.Answer.TheVariants.{Exchanged, Changed}
 use Rattle.keys.specs.declared.point.Operation.{Operation}
 use Rattle.keys.specs.declared.point.Operation.TheVariants as operation
 use Rattle.keys.specs.declared.object.Object.{Object}
-use Rattle.keys.specs.Objects.{Permits, Run, object_of, owner_of, owned_by, freed}
+use Rattle.keys.specs.Objects.{Permits, Run, object_of, owner_of, owned_by, freed, declared_consistent}
 use Rattle.keys.proofs.Owners.{owner_of-some, owner_of-is, owner_of-none}
+use Rattle.mutex.specs.declared.lock.LockRow.TheVariants as lock
 use Rattle.mutex.specs.declared.try_lock.TryLockRow.TheVariants as try
 use Rattle.mutex.specs.declared.unlock.UnlockRow.TheVariants as unlock
+use Rattle.mutex.specs.declared.consistent.ConsistentRow.TheVariants as consistent
 use Rattle.mutex.specs.declared.row.Row.{Row}
-use Rattle.mutex.specs.declared.row.Row.TheVariants.{TryLock, Unlock, Ended}
+use Rattle.mutex.specs.declared.row.Row.TheVariants.{Lock, TryLock, Unlock, Consistent, Ended}
 use Rattle.mutex.specs.declared.row.Led.{Led}
-use Rattle.mutex.specs.Rows.{Knows, goes, ends}
-use Rattle.mutex.specs.TryLock.{acquired, try_sees}
+use Rattle.mutex.specs.Rows.{Knows, goes, decides, ends, acquired}
+use Rattle.mutex.specs.Lock.{after_loss, lock_sees}
+use Rattle.mutex.specs.TryLock.{try_sees}
 use Rattle.mutex.specs.Unlock.{released_bits, after_release, unlock_sees}
+use Rattle.mutex.specs.Consistent.{all_but_owner_died, consistent_sees}
 use Rattle.mutex.specs.Programs.{row_operation, point_of, resume_of}
 use Rattle.mutex.specs.Laws.{Expects, Sound, points, decided, Joins, IsOf, Right, ProgramsAreRight}
 
@@ -63,6 +67,44 @@ try_looks t cell k c few = go c.unusable refl (not (c.owner == 0)) refl (k == 4)
         let less = eqb-false k 4 ef in
         record { runs = refl; knows = (eqb-true c.owner 0 (not_false (c.owner == 0) eo), eu, omega arith); expects = tt; tells = refl; stays = refl }
 
+-- where a lock of an unusable mutex goes on
+loss_knows : (b : Bool) → Knows (if b then Lock lock.WakeAll else Ended ENOTRECOVERABLE)
+loss_knows true = tt
+loss_knows false = tt
+
+loss_expects : (t : ℕ) (b : Bool) (o : Object) → Expects t (if b then Lock lock.WakeAll else Ended ENOTRECOVERABLE) o
+loss_expects t true o = tt
+loss_expects t false o = tt
+
+loss_tells : (b : Bool) → Joins None (Some ENOTRECOVERABLE) (decided (if b then Lock lock.WakeAll else Ended ENOTRECOVERABLE))
+loss_tells true = refl
+loss_tells false = refl
+
+loss_stays : (b : Bool) → IsOf operation.Lock (if b then Lock lock.WakeAll else Ended ENOTRECOVERABLE)
+loss_stays true = refl
+loss_stays false = tt
+
+-- lock decides rightly on any cell
+pub lock_looks : (t cell : ℕ) (c : Fields) → 1 ≤ t → c.owner < 0x4000_0000 → Looks t cell operation.Lock (lock_sees t c) c
+lock_looks t cell c pos small = go c.unusable refl (c.owner == t) refl (c.owner == 0) refl c.waiters refl
+  where
+    go : (u : Bool) → c.unusable ≡ u → (m : Bool) → (c.owner == t) ≡ m → (f : Bool) → (c.owner == 0) ≡ f → (w : Bool) → c.waiters ≡ w
+        → Looks t cell operation.Lock (if u then decides (after_loss c) ENOTRECOVERABLE else if m then ends EDEADLK else if f then goes (Lock (lock.Take c)) else if w then goes (Lock (lock.Sleep c)) else goes (Lock (lock.SetWaiters c))) c
+    go true eu m em f ef w ew = record { runs = (object_of c, (eu, refl), refl); knows = loss_knows c.waiters; expects = loss_expects t c.waiters (object_of c); tells = loss_tells c.waiters; stays = loss_stays c.waiters }
+    go false eu true em f ef w ew = record { runs = (object_of c, (ap owner_of (eqb-true c.owner t em) ∙ owner_of-some t pos, refl), refl); knows = tt; expects = tt; tells = refl; stays = tt }
+    go false eu false em true ef w ew = record { runs = refl; knows = (eqb-true c.owner 0 ef, eu); expects = tt; tells = refl; stays = refl }
+    go false eu false em false ef true ew = let apart = eqb-false c.owner 0 ef in record { runs = refl; knows = ((omega arith, small), ew); expects = tt; tells = refl; stays = refl }
+    go false eu false em false ef false ew = let apart = eqb-false c.owner 0 ef in record { runs = refl; knows = (omega arith, small); expects = tt; tells = refl; stays = refl }
+
+-- a declaration is decided rightly on any cell
+pub consistent_looks : (t cell : ℕ) (c : Fields) → 1 ≤ t → Looks t cell operation.Consistent (consistent_sees t c) c
+consistent_looks t cell c pos = go (c.owner == t) refl c.died refl
+  where
+    go : (b : Bool) → (c.owner == t) ≡ b → (d : Bool) → c.died ≡ d → Looks t cell operation.Consistent (if not b then ends EPERM else if d then goes (Consistent consistent.Declare) else ends EINVAL) c
+    go false e d ed = record { runs = (object_of c, (λ is. eqb-false c.owner t e (owner_of-is c.owner t is), refl), refl); knows = tt; expects = tt; tells = refl; stays = tt }
+    go true e true ed = record { runs = refl; knows = tt; expects = (ap owner_of (eqb-true c.owner t e) ∙ owner_of-some t pos, ed); tells = refl; stays = refl }
+    go true e false ed = record { runs = (object_of c, (ap owner_of (eqb-true c.owner t e) ∙ owner_of-some t pos, ed, refl), refl); knows = tt; expects = tt; tells = refl; stays = tt }
+
 -- unlock decides rightly on any cell
 pub unlock_looks : (t cell : ℕ) (c : Fields) → 1 ≤ t → Looks t cell operation.Unlock (unlock_sees t c) c
 unlock_looks t cell c pos = go (c.owner == t) refl
@@ -82,16 +124,24 @@ looked t cell w r l none sound s = record {
   stays = s.stays;
 }
 
+-- a cell that was taken, as an object
+taken_object : (t : ℕ) (c : Fields) → 1 ≤ t → object_of (taken c t) ≡ owned_by (object_of c) t
+taken_object t c pos = λ i. record { owner = owner_of-some t pos i; inconsistent = c.died; unusable = c.unusable }
+
 -- whoever takes a free and usable cell is told whether its owner died
 pub takes : (t : ℕ) (c : Fields) → 1 ≤ t → c.owner ≡ 0 → c.unusable ≡ false → Permits (object_of c) t operation.TryLock (acquired c) (object_of (taken c t))
 takes t c pos none usable = go c.died refl
   where
-    same : object_of (taken c t) ≡ owned_by (object_of c) t
-    same = λ i. record { owner = owner_of-some t pos i; inconsistent = c.died; unusable = c.unusable }
-
     go : (d : Bool) → c.died ≡ d → Permits (object_of c) t operation.TryLock (if d then EOWNERDEAD else OK) (object_of (taken c t))
-    go true e = (usable, free c none, e, same)
-    go false e = (usable, free c none, e, same)
+    go true e = (usable, free c none, e, taken_object t c pos)
+    go false e = (usable, free c none, e, taken_object t c pos)
+
+pub locks : (t : ℕ) (c : Fields) → 1 ≤ t → c.owner ≡ 0 → c.unusable ≡ false → Permits (object_of c) t operation.Lock (acquired c) (object_of (taken c t))
+locks t c pos none usable = go c.died refl
+  where
+    go : (d : Bool) → c.died ≡ d → Permits (object_of c) t operation.Lock (if d then EOWNERDEAD else OK) (object_of (taken c t))
+    go true e = (usable, free c none, e, taken_object t c pos)
+    go false e = (usable, free c none, e, taken_object t c pos)
 
 -- a cell that was taken is that of a usable mutex
 after_take : (t : ℕ) (c : Fields) → c.unusable ≡ false → Sound (object_of (taken c t))
@@ -117,6 +167,47 @@ try_take t cell w v k pos last known sound true hit =
       sound = subst (λ (c : Fields). Sound (object_of c)) (sym after) (after_take t v known.1);
       tells = refl;
       stays = tt;
+    }
+
+-- a word's owner field has 30 bits
+small_owner : (w : ℕ) → (fields_of w).owner < 0x4000_0000
+small_owner w = omega arith
+
+-- lock's exchange is right, whether it met the cell that it saw or another
+lock_take : (t cell w : ℕ) (v : Fields) → 1 ≤ t → t ≤ 64 → Knows (Lock (lock.Take v)) → Sound (object_of (fields_of w)) → (b : Bool) → (w == word_of v) ≡ b
+    → Right t cell (Lock (lock.Take v)) (resume_of t (Lock (lock.Take v)) (if b then Exchanged else Changed w)) w (if b then word_of (taken v t) else w)
+lock_take t cell w v pos last known sound false miss = looked t cell w (Lock (lock.Take v)) _ refl sound (lock_looks t cell (fields_of w) pos (small_owner w))
+lock_take t cell w v pos last known sound true hit =
+    let before : fields_of w ≡ v = ap fields_of (eqb-true w (word_of v) hit) ∙ fields_of-word_of v (let none = known.0 in omega arith) in
+    let after : fields_of (word_of (taken v t)) ≡ taken v t = fields_of-word_of (taken v t) (omega arith) in
+    record {
+      runs = (
+        object_of (taken v t),
+        subst (λ (c : Fields). Permits (object_of c) t operation.Lock (acquired v) (object_of (taken v t))) (sym before) (locks t v pos known.0 known.1),
+        ap object_of after,
+      );
+      knows = tt;
+      expects = tt;
+      sound = subst (λ (c : Fields). Sound (object_of c)) (sym after) (after_take t v known.1);
+      tells = refl;
+      stays = tt;
+    }
+
+-- setting WAITERS changes nothing of the object
+lock_wait : (t cell w : ℕ) (v : Fields) → 1 ≤ t → Knows (Lock (lock.SetWaiters v)) → Sound (object_of (fields_of w)) → (b : Bool) → (w == word_of v) ≡ b
+    → Right t cell (Lock (lock.SetWaiters v)) (resume_of t (Lock (lock.SetWaiters v)) (if b then Exchanged else Changed w)) w (if b then word_of (waiting v) else w)
+lock_wait t cell w v pos known sound false miss = looked t cell w (Lock (lock.SetWaiters v)) _ refl sound (lock_looks t cell (fields_of w) pos (small_owner w))
+lock_wait t cell w v pos known sound true hit =
+    let before : fields_of w ≡ v = ap fields_of (eqb-true w (word_of v) hit) ∙ fields_of-word_of v known.1 in
+    let after : fields_of (word_of (waiting v)) ≡ waiting v = fields_of-word_of (waiting v) known.1 in
+    let same : object_of (fields_of (word_of (waiting v))) ≡ object_of (fields_of w) = ap object_of after ∙ ap object_of (sym before) in
+    record {
+      runs = same;
+      knows = (known, refl);
+      expects = tt;
+      sound = subst Sound (sym same) sound;
+      tells = refl;
+      stays = refl;
     }
 
 -- a mutex with an owner is usable
@@ -160,8 +251,17 @@ release_stays : (d b : Bool) → IsOf operation.Unlock (if b then Unlock (unlock
 release_stays d true = refl
 release_stays d false = tt
 
+-- declaring an owned mutex consistent
+declares : (t w : ℕ) → object_of (fields_of (bit_and w all_but_owner_died)) ≡ declared_consistent (object_of (fields_of w))
+declares t w = let d = and_declared w in λ i. record { owner = owner_of (d.owner i); inconsistent = d.died i; unusable = d.unusable i }
+
 -- each row in turn
 pub right : ProgramsAreRight
+right t cell w (Lock lock.Load) pos last going known sound expected = looked t cell w (Lock lock.Load) _ refl sound (lock_looks t cell (fields_of w) pos (small_owner w))
+right t cell w (Lock (lock.Take v)) pos last going known sound expected = lock_take t cell w v pos last known sound (w == word_of v) refl
+right t cell w (Lock (lock.SetWaiters v)) pos last going known sound expected = lock_wait t cell w v pos known sound (w == word_of v) refl
+right t cell w (Lock (lock.Sleep v)) pos last going known sound expected = looked t cell w (Lock (lock.Sleep v)) _ refl sound (record { runs = refl; knows = tt; expects = tt; tells = refl; stays = refl })
+right t cell w (Lock lock.WakeAll) pos last going known sound expected = record { runs = refl; knows = tt; expects = tt; sound = sound; tells = (refl, refl); stays = tt }
 right t cell w (TryLock try.Load) pos last going known sound expected = looked t cell w (TryLock try.Load) _ refl sound (try_looks t cell 0 (fields_of w) (omega arith))
 right t cell w (TryLock (try.Take v k)) pos last going known sound expected = try_take t cell w v k pos last known sound (w == word_of v) refl
 right t cell w (Unlock unlock.Load) pos last going known sound expected = looked t cell w (Unlock unlock.Load) _ refl sound (unlock_looks t cell (fields_of w) pos)
@@ -183,4 +283,15 @@ right t cell w (Unlock (unlock.Wake all)) pos last going known sound expected = 
   tells = (refl, refl);
   stays = tt;
 }
+right t cell w (Consistent consistent.Load) pos last going known sound expected = looked t cell w (Consistent consistent.Load) _ refl sound (consistent_looks t cell (fields_of w) pos)
+right t cell w (Consistent consistent.Declare) pos last going known sound expected =
+    let leaves = declares t w in
+    record {
+      runs = (declared_consistent (object_of (fields_of w)), (expected.0, expected.1, refl), leaves);
+      knows = tt;
+      expects = tt;
+      sound = subst Sound (sym leaves) sound;
+      tells = refl;
+      stays = tt;
+    }
 right t cell w (Ended x) pos last going known sound expected = absurd going

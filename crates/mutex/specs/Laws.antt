@@ -2,7 +2,7 @@
 use Rattle.std.specs.Prelude.{ℕ, ◌≡◌, ◌+◌, ◌≤◌, Bool, true, Option, Some, None, List, [], ◌∷◌}
 use Rattle.lockword.specs.Cells.{Fields, fields_of}
 use Rattle.lockword.specs.declared.reply.Reply.{Reply}
-use Rattle.lockword.specs.declared.reply.Reply.TheVariants.{OK, XRACED}
+use Rattle.lockword.specs.declared.reply.Reply.TheVariants.{OK, ENOTRECOVERABLE, XRACED}
 use Rattle.keys.specs.declared.access.Answer.{Answer}
 use Rattle.keys.specs.declared.access.Answer.TheVariants.{Value, Exchanged, Changed}
 use Rattle.keys.specs.declared.point.Operation.{Operation}
@@ -11,17 +11,20 @@ use Rattle.keys.specs.declared.point.Point.{Point}
 use Rattle.keys.specs.declared.object.Object.{Object}
 use Rattle.keys.specs.Accesses.{changed, answer_at}
 use Rattle.keys.specs.Objects.{Permits, Run, object_of}
+use Rattle.mutex.specs.declared.lock.LockRow.TheVariants as lock
 use Rattle.mutex.specs.declared.try_lock.TryLockRow.TheVariants as try
 use Rattle.mutex.specs.declared.unlock.UnlockRow.TheVariants as unlock
+use Rattle.mutex.specs.declared.consistent.ConsistentRow.TheVariants as consistent
 use Rattle.mutex.specs.declared.row.Row.{Row}
-use Rattle.mutex.specs.declared.row.Row.TheVariants.{TryLock, Unlock, Ended}
+use Rattle.mutex.specs.declared.row.Row.TheVariants.{Lock, TryLock, Unlock, Consistent, Ended}
 use Rattle.mutex.specs.declared.row.Led.{Led}
 use Rattle.mutex.specs.Rows.{Knows, IsGoing}
 use Rattle.mutex.specs.Programs.{row_access, resume_of, row_operation, point_of}
 
--- what a call that stands at a row needs of the mutex: a release needs that its thread still owns it
+-- what a call that stands at a row needs of the mutex: a release and a declaration need that its thread still owns it
 abbrev pub Expects : ℕ → Row → Object → Type 0
 Expects t (Unlock (unlock.Release died)) o = (o.owner ≡ Some t) × (o.inconsistent ≡ died)
+Expects t (Consistent consistent.Declare) o = (o.owner ≡ Some t) × (o.inconsistent ≡ true)
 Expects t r o = Unit {0}
 
 -- an unusable mutex has no owner
@@ -34,6 +37,7 @@ points (Some p) = p ∷ []
 
 -- the reply of a call's point, once that is made
 abbrev pub decided : Row → Option Reply
+decided (Lock lock.WakeAll) = Some ENOTRECOVERABLE
 decided (Unlock (unlock.Wake all)) = Some OK
 decided (Ended x) = Some x
 decided r = None
@@ -79,12 +83,17 @@ changes (a ∷ answers) = tells_change a + changes answers
 abbrev pub RacedAfterFour : Type 0
 RacedAfterFour = (t : ℕ) (answers : List Answer) → reached t (TryLock try.Load) answers ≡ Ended XRACED → 4 ≤ changes answers
 
--- the cell that an access met, as its answer tells: that of a release is told by the call's first load
+-- the cell that an access met, as its answer tells: that of a release and of a declaration is told by the call's first load
 abbrev pub met : Row → Answer → Option Fields
+met (Lock lock.Load) (Value w) = Some (fields_of w)
+met (Lock (lock.Take seen)) Exchanged = Some seen
+met (Lock (lock.Take seen)) (Changed w) = Some (fields_of w)
+met (Lock (lock.SetWaiters seen)) (Changed w) = Some (fields_of w)
 met (TryLock try.Load) (Value w) = Some (fields_of w)
 met (TryLock (try.Take seen k)) Exchanged = Some seen
 met (TryLock (try.Take seen k)) (Changed w) = Some (fields_of w)
 met (Unlock unlock.Load) (Value w) = Some (fields_of w)
+met (Consistent consistent.Load) (Value w) = Some (fields_of w)
 met r a = None
 
 -- the object permits the reply
@@ -95,7 +104,8 @@ abbrev pub PermitsAt : Option Fields → ℕ → Operation → Reply → Type 0
 PermitsAt None t op x = Unit {0}
 PermitsAt (Some c) t op x = IsPermitted c t op x
 
--- for any answers: a point has a reply that the object permits for the cell met there; and a call stands before a release only where it loaded a cell for which the release is permitted
+-- for any answers: a point has a reply that the object permits for the cell met there; and a call stands before a release or a declaration only where it loaded a cell for which that is permitted
 pub record PointsArePermitted : Type 0 where
   pub at : (t : ℕ) (r : Row) (a : Answer) (x : Reply) → 1 ≤ t → Knows r → (resume_of t r a).point ≡ Some x → PermitsAt (met r a) t (row_operation r) x
   pub release : (t : ℕ) (r : Row) (a : Answer) (d : Bool) → 1 ≤ t → (resume_of t r a).row ≡ Unlock (unlock.Release d) → (c : Fields) × (met r a ≡ Some c) × IsPermitted c t operation.Unlock OK × (c.died ≡ d)
+  pub declaration : (t : ℕ) (r : Row) (a : Answer) → 1 ≤ t → (resume_of t r a).row ≡ Consistent consistent.Declare → (c : Fields) × (met r a ≡ Some c) × IsPermitted c t operation.Consistent OK

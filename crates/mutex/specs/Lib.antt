@@ -2,8 +2,11 @@ pub mod Calls
 pub mod Rows
 pub mod Standings
 pub mod Progresses
+pub mod Lock
 pub mod TryLock
 pub mod Unlock
+pub mod Consistent
 pub mod Programs
 pub mod Laws
 pub mod Steps
+pub mod Alone

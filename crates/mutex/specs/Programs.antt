@@ -13,21 +13,27 @@ use Rattle.keys.specs.Layouts.{Layout', cell_place}
 use Rattle.keys.specs.Objects.{acquires}
 use Rattle.mutex.specs.declared.call.Call.{Call}
 use Rattle.mutex.specs.declared.call.Call.TheVariants as call
+use Rattle.mutex.specs.declared.lock.LockRow.TheVariants as lock
 use Rattle.mutex.specs.declared.try_lock.TryLockRow.TheVariants as try
 use Rattle.mutex.specs.declared.unlock.UnlockRow.TheVariants as unlock
+use Rattle.mutex.specs.declared.consistent.ConsistentRow.TheVariants as consistent
 use Rattle.mutex.specs.declared.row.Row.{Row}
-use Rattle.mutex.specs.declared.row.Row.TheVariants.{TryLock, Unlock, Ended}
+use Rattle.mutex.specs.declared.row.Row.TheVariants.{Lock, TryLock, Unlock, Consistent, Ended}
 use Rattle.mutex.specs.declared.row.Led.{Led}
 use Rattle.mutex.specs.Calls.{mutex_of, operation_of}
 use Rattle.mutex.specs.Progresses.{progress_at}
 use Rattle.mutex.specs.Rows.{goes}
 use Rattle.mutex.specs.Standings.{Standing}
+use Rattle.mutex.specs.Lock.{lock_access, lock_resume}
 use Rattle.mutex.specs.TryLock.{try_access, try_resume}
 use Rattle.mutex.specs.Unlock.{unlock_access, unlock_resume}
+use Rattle.mutex.specs.Consistent.{consistent_access, consistent_resume}
 
 abbrev pub first_row : Call → Row
+first_row (call.Lock m) = Lock lock.Load
 first_row (call.TryLock m) = TryLock try.Load
 first_row (call.Unlock m) = Unlock unlock.Load
+first_row (call.Consistent m) = Consistent consistent.Load
 
 -- a call's begin: whoever holds 2,048 mutexes may not take another
 abbrev pub started : Layout' → ℕ → ℕ → Call → Result Standing Reply
@@ -36,18 +42,24 @@ started l t held c =
     else Ok (record { thread = t; cell = cell_place l (mutex_of c); row = first_row c })
 
 abbrev pub row_access : ℕ → ℕ → Row → Access
+row_access t cell (Lock r) = lock_access t cell r
 row_access t cell (TryLock r) = try_access t cell r
 row_access t cell (Unlock r) = unlock_access t cell r
+row_access t cell (Consistent r) = consistent_access cell r
 row_access t cell (Ended x) = access.Load cell
 
 abbrev pub resume_of : ℕ → Row → Answer → Led
+resume_of t (Lock r) a = lock_resume t r a
 resume_of t (TryLock r) a = try_resume r a
 resume_of t (Unlock r) a = unlock_resume t r a
+resume_of t (Consistent r) a = consistent_resume t r a
 resume_of t (Ended x) a = goes (Ended x)
 
 -- what a call that stands there does to the mutex
 abbrev pub row_operation : Row → Operation
+row_operation (Lock r) = operation.Lock
 row_operation (Unlock r) = operation.Unlock
+row_operation (Consistent r) = operation.Consistent
 row_operation r = operation.TryLock
 
 abbrev pub access_of : Standing → Access

@@ -7,8 +7,7 @@
 -- Decide: unusable is ENOTRECOVERABLE, owned is EBUSY, and else Take; but after four failed exchanges X_RACED.
 use Rattle.std.specs.Prelude.{ℕ, ◌+◌, ◌==◌, not, if◌then◌else◌}
 use Rattle.lockword.specs.Cells.{Fields, word_of, fields_of, taken}
-use Rattle.lockword.specs.declared.reply.Reply.{Reply}
-use Rattle.lockword.specs.declared.reply.Reply.TheVariants.{OK, EBUSY, EOWNERDEAD, ENOTRECOVERABLE, XRACED}
+use Rattle.lockword.specs.declared.reply.Reply.TheVariants.{EBUSY, ENOTRECOVERABLE, XRACED}
 use Rattle.keys.specs.declared.access.Access.{Access}
 use Rattle.keys.specs.declared.access.Access.TheVariants as access
 use Rattle.keys.specs.declared.access.Answer.{Answer}
@@ -17,11 +16,7 @@ use Rattle.mutex.specs.declared.try_lock.TryLockRow.{TryLockRow}
 use Rattle.mutex.specs.declared.try_lock.TryLockRow.TheVariants.{Load, Take}
 use Rattle.mutex.specs.declared.row.Row.TheVariants.{TryLock}
 use Rattle.mutex.specs.declared.row.Led.{Led}
-use Rattle.mutex.specs.Rows.{goes, ends, faults}
-
--- the reply of whoever takes such a cell
-abbrev pub acquired : Fields → Reply
-acquired c = if c.died then EOWNERDEAD else OK
+use Rattle.mutex.specs.Rows.{goes, ends, faults, acquired}
 
 abbrev pub try_access : ℕ → ℕ → TryLockRow → Access
 try_access t cell Load = access.Load cell

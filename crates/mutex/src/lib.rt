@@ -6,14 +6,18 @@
 #![tactic(auto)]
 
 mod call;
+mod consistent;
 mod laws;
+mod lock;
 mod program;
 mod row;
 mod try_lock;
 mod unlock;
 
 pub use call::Call;
+pub use consistent::ConsistentRow;
 pub use laws::{points_are_permitted, programs_are_right, raced_after_four};
+pub use lock::LockRow;
 pub use program::Program;
 pub use row::{Led, Row};
 pub use try_lock::TryLockRow;

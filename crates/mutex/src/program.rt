@@ -5,7 +5,7 @@ ghost use Rattle.mutex.specs.Progresses.{progress_at};
 
 use crate::call::Call;
 use crate::row::{Led, Row};
-use crate::{try_lock, unlock};
+use crate::{consistent, lock, try_lock, unlock};
 use keys::{Access, Answer, HELD_LIMIT, Layout, Operation, Point, Progress};
 use lockword::{Reply, Tid};
 use std::marker::Model;
@@ -36,21 +36,22 @@ impl Program {
     ghost use Rattle.mutex.specs.Programs.{started, access_of, led, moved, point_of, progress_of, row_operation};
     ghost use Rattle.mutex.specs.Rows.{IsGoing, Knows};
 
-    /// A call of a thread that holds so many mutexes, without the accesses to robust lists. A trylock by a thread that holds 2,048 is refused with
-    /// `XHELD` before any access.
+    /// A call of a thread that holds so many mutexes, without the accesses to robust lists. A lock or trylock by a thread that holds 2,048 is refused
+    /// with `XHELD` before any access.
     pub fn short(layout: &Layout, thread: Tid, held: u16, call: Call) -> Result<Program, Reply>
         requires thread { thread ≤ layout.now.threads }
         requires mutex { mutex_of call < layout.now.mutexes }
         ensures { result ≡ started layout.now thread held call }
     {
+        let takes = matches!(call, Call::Lock(_) | Call::TryLock(_));
+        if takes && HELD_LIMIT <= held {
+            return Err(Reply::XHELD);
+        }
         let row = match call {
-            Call::TryLock(_) => {
-                if HELD_LIMIT <= held {
-                    return Err(Reply::XHELD);
-                }
-                Row::TryLock(try_lock::TryLockRow::Load)
-            }
+            Call::Lock(_) => Row::Lock(lock::LockRow::Load),
+            Call::TryLock(_) => Row::TryLock(try_lock::TryLockRow::Load),
             Call::Unlock(_) => Row::Unlock(unlock::UnlockRow::Load),
+            Call::Consistent(_) => Row::Consistent(consistent::ConsistentRow::Load),
         };
         Ok(Program {
             thread,
@@ -65,8 +66,10 @@ impl Program {
         ensures { result ≡ access_of self.now }
     {
         match &self.row {
+            Row::Lock(row) => lock::next(self.thread, self.cell, row),
             Row::TryLock(row) => try_lock::next(self.thread, self.cell, row),
             Row::Unlock(row) => unlock::next(self.thread, self.cell, row),
+            Row::Consistent(row) => consistent::next(self.cell, row),
             Row::Ended(_) => unreachable!(),
         }
     }
@@ -105,7 +108,9 @@ impl Program {
         ensures { result ≡ row_operation self.now.row }
     {
         match self.row {
+            Row::Lock(_) => Operation::Lock,
             Row::Unlock(_) => Operation::Unlock,
+            Row::Consistent(_) => Operation::Consistent,
             _ => Operation::TryLock,
         }
     }
@@ -115,8 +120,10 @@ impl Program {
         ensures knows { Knows result.row }
     {
         match &self.row {
+            Row::Lock(row) => lock::resume(self.thread, row, answer),
             Row::TryLock(row) => try_lock::resume(row, answer),
             Row::Unlock(row) => unlock::resume(self.thread, row, answer),
+            Row::Consistent(row) => consistent::resume(self.thread, row, answer),
             Row::Ended(reply) => Led::goes(Row::Ended(*reply)),
         }
     }

@@ -1,10 +1,10 @@
 //! Trylock.
 ghost use Rattle.std.specs.Prelude.{◌≡◌, ◌≤◌};
 ghost use Rattle.mutex.specs.Rows.{Knows};
-ghost use Rattle.mutex.specs.TryLock.{try_access, try_resume, try_sees, acquired};
+ghost use Rattle.mutex.specs.TryLock.{try_access, try_resume, try_sees};
 ghost use Rattle.mutex.specs.declared.row.Row.TheVariants.{TryLock};
 
-use crate::row::{Led, Row};
+use crate::row::{Led, Row, acquired};
 use keys::{Access, Answer};
 use lockword::{Cell, Reply, Tid};
 
@@ -66,16 +66,5 @@ fn sees(cell: Cell, failed: u8) -> Led
         Led::ends(Reply::XRACED)
     } else {
         Led::goes(Row::TryLock(TryLockRow::Take { seen: cell, failed }))
-    }
-}
-
-/// The reply of whoever takes such a cell.
-fn acquired(cell: Cell) -> Reply
-    ensures { result ≡ acquired cell }
-{
-    if cell.owner_died() {
-        Reply::EOWNERDEAD
-    } else {
-        Reply::OK
     }
 }

@@ -5,3 +5,6 @@ pub mod Kept
 pub mod Steps
 pub mod Runs
 pub mod Lives
+pub mod Queues
+pub mod Owed
+pub mod Undivided

@@ -11,10 +11,10 @@ use Rattle.keys.specs.Objects.{acquires}
 use Rattle.mutex.specs.declared.call.Call.{Call}
 use Rattle.mutex.specs.declared.call.Call.TheVariants as call
 use Rattle.mutex.specs.declared.row.Row.{Row}
-use Rattle.mutex.specs.declared.row.Row.TheVariants.{TryLock, Unlock, Ended}
+use Rattle.mutex.specs.declared.row.Row.TheVariants.{Lock, TryLock, Unlock, Consistent, Ended}
 use Rattle.mutex.specs.Calls.{mutex_of, operation_of}
 use Rattle.mutex.specs.Standings.{Standing}
-use Rattle.mutex.specs.Programs.{started, first_row, row_operation}
+use Rattle.mutex.specs.Programs.{started, first_row, row_operation, access_of, led}
 use Rattle.mutex.specs.Laws.{decided, Joins}
 use Rattle.protocol.specs.declared.event.Event.{Event}
 use Rattle.protocol.specs.declared.event.Event.TheVariants as event
@@ -22,11 +22,13 @@ use Rattle.protocol.specs.declared.thread.Thread.{Thread}
 use Rattle.protocol.specs.declared.thread.Stage.{Stage}
 use Rattle.protocol.specs.declared.thread.Stage.TheVariants.{Idle, Calling}
 use Rattle.protocol.specs.declared.note.Fact.{Fact}
-use Rattle.protocol.specs.declared.note.Fact.TheVariants.{Begin, Return}
+use Rattle.protocol.specs.declared.note.Fact.TheVariants.{Begin, Point, Wake, Return}
+use Rattle.protocol.specs.declared.note.Note.{Note}
+use Rattle.protocol.specs.declared.note.Note.TheVariants.{Nothing, Began, Stepped}
 use Rattle.protocol.specs.declared.note.Line.{Line}
-use Rattle.protocol.specs.Notes.{line_of, facts_of, point_facts, return_facts, lines_from}
-use Rattle.protocol.specs.Machine.{State, After, start, nothing, is_thread, is_idle, may_begin, begun, stage_after, returned, decision, stepped, happens, notes}
-use Rattle.protocol.specs.Explained.{thread_of, point_by, own, Life, Rests, Returns, Stays, Decides, is_point, Later, Each, Orderly, caller, caller_of, IsExplained, TraceIsExplained}
+use Rattle.protocol.specs.Notes.{line_of, facts_of, point_facts, sleep_facts, return_facts, lines_from}
+use Rattle.protocol.specs.Machine.{State, After, start, nothing, is_thread, is_idle, may_begin, begun, stage_after, returned, decision, answer_of, went, sleeps, stepped, happens, notes}
+use Rattle.protocol.specs.Explained.{thread_of, is_of_call, is_wake, point_by, own, Life, Rests, Returns, Stays, Decides, is_point, Later, Each, Orderly, caller, caller_of, IsExplained, TraceIsExplained}
 use Rattle.protocol.proofs.Puts.{put-same, put-other}
 use Rattle.protocol.proofs.Kept.{Fits, Sits, Kept}
 use Rattle.protocol.proofs.Steps.{after, went-is, r, l}
@@ -55,19 +57,41 @@ ends t (Calling c p) = go (decided p.row)
 
 -- ---- a thread's lines
 
-own-mine : (t i : ℕ) (f : Fact) (ls : List Line) → thread_of f ≡ t → own t (line_of i f ∷ ls) ≡ f ∷ own t ls
-own-mine t i f ls is = go (thread_of f == t) refl
+own-mine : (t i : ℕ) (f : Fact) (ls : List Line) → is_of_call f ≡ true → thread_of f ≡ t → own t (line_of i f ∷ ls) ≡ f ∷ own t ls
+own-mine t i f ls call is = go (is_of_call f) refl (thread_of f == t) refl
   where
-    go : (b : Bool) → (thread_of f == t) ≡ b → (if b then f ∷ own t ls else own t ls) ≡ f ∷ own t ls
-    go true e = refl
-    go false e = absurd (eqb-false (thread_of f) t e is)
+    go : (c : Bool) → is_of_call f ≡ c → (b : Bool) → (thread_of f == t) ≡ b → (if c && b then f ∷ own t ls else own t ls) ≡ f ∷ own t ls
+    go false ec b e = absurd (cc (ec, call))
+    go true ec true e = refl
+    go true ec false e = absurd (eqb-false (thread_of f) t e is)
 
 own-other : (t i : ℕ) (f : Fact) (ls : List Line) → thread_of f ≢ t → own t (line_of i f ∷ ls) ≡ own t ls
-own-other t i f ls apart = go (thread_of f == t) refl
+own-other t i f ls apart = go (is_of_call f) (thread_of f == t) refl
   where
-    go : (b : Bool) → (thread_of f == t) ≡ b → (if b then f ∷ own t ls else own t ls) ≡ own t ls
-    go true e = absurd (apart (eqb-true (thread_of f) t e))
-    go false e = refl
+    go : (c b : Bool) → (thread_of f == t) ≡ b → (if c && b then f ∷ own t ls else own t ls) ≡ own t ls
+    go false b e = refl
+    go true true e = absurd (apart (eqb-true (thread_of f) t e))
+    go true false e = refl
+
+-- what a note tells of calls, and not of who sleeps
+abbrev calls_of : Note → List Fact
+calls_of (Stepped t point slept woken returned) = point_facts point ++ return_facts t returned
+calls_of n = facts_of n
+
+-- who sleeps and who is woken is told of no call
+woken_own : (t i u : ℕ) (ws : List ℕ) (y : Option Reply) (ls : List Line) → own t (map (line_of i) (map Wake ws ++ return_facts u y) ++ ls) ≡ own t (map (line_of i) (return_facts u y) ++ ls)
+woken_own t i u [] y ls = refl
+woken_own t i u (w ∷ ws) y ls = woken_own t i u ws y ls
+
+slept_own : (t i u : ℕ) (z : Option ℕ) (ws : List ℕ) (y : Option Reply) (ls : List Line) → own t (map (line_of i) (sleep_facts u z ++ (map Wake ws ++ return_facts u y)) ++ ls) ≡ own t (map (line_of i) (return_facts u y) ++ ls)
+slept_own t i u None ws y ls = woken_own t i u ws y ls
+slept_own t i u (Some m) ws y ls = woken_own t i u ws y ls
+
+own-calls : (t i : ℕ) (n : Note) (ls : List Line) → own t (map (line_of i) (facts_of n) ++ ls) ≡ own t (map (line_of i) (calls_of n) ++ ls)
+own-calls t i Nothing ls = refl
+own-calls t i (Began u c x) ls = refl
+own-calls t i (Stepped u None z ws y) ls = slept_own t i u z ws y ls
+own-calls t i (Stepped u (Some d) z ws y) ls = ap (λ (v : List Fact). if d.thread == t then Point d ∷ v else v) (slept_own t i u z ws y ls)
 
 -- what one event tells: nothing; that its thread began a call, or was refused at once; or that it decided its call, or returned, or both
 data Says (t : ℕ) : List Fact → Type 0 where
@@ -91,8 +115,10 @@ own-apart t u i fs ls (ends_with c x y) apart = own-other t i (point_by u c x) (
 
 -- a call's first row is undecided
 first_undecided : (c : Call) → decided (first_row c) ≡ None
+first_undecided (call.Lock m) = refl
 first_undecided (call.TryLock m) = refl
 first_undecided (call.Unlock m) = refl
+first_undecided (call.Consistent m) = refl
 
 -- whoever is idle is at rest
 at_rest : (g : Stage) → is_idle g ≡ true → g ≡ Idle
@@ -113,45 +139,93 @@ module _ (t i : ℕ) (c : Call) (p : Standing) (ls : List Line) where
   on q d is later = subst (λ (z : Option Reply). Doing t c z (own t ls)) is later
 
   point_first : (x : Reply) → own t (line_of i (point_by t c x) ∷ ls) ≡ point_by t c x ∷ own t ls
-  point_first x = own-mine t i (point_by t c x) ls refl
+  point_first x = own-mine t i (point_by t c x) ls refl refl
 
   both_first : (x y : Reply) → own t (line_of i (point_by t c x) ∷ (line_of i (Return t y) ∷ ls)) ≡ point_by t c x ∷ (Return t y ∷ own t ls)
-  both_first x y = own-mine t i (point_by t c x) (line_of i (Return t y) ∷ ls) refl ∙ ap (λ fs. point_by t c x ∷ fs) (own-mine t i (Return t y) ls refl)
+  both_first x y = own-mine t i (point_by t c x) (line_of i (Return t y) ∷ ls) refl refl ∙ ap (λ fs. point_by t c x ∷ fs) (own-mine t i (Return t y) ls refl refl)
 
   access : (d x : Option Reply) (q : Row) → Joins d x (decided q) → Goes t (stage_after c p q) (own t ls) → Doing t c d (told x q)
+  access None None (Lock z) joins later = on (Lock z) None joins later
   access None None (TryLock z) joins later = on (TryLock z) None joins later
   access None None (Unlock z) joins later = on (Unlock z) None joins later
+  access None None (Consistent z) joins later = on (Consistent z) None joins later
   access None None (Ended y) joins later = absurd cc
+  access None (Some x) (Lock z) joins later = subst (λ fs. Life t (Begin t c ∷ fs)) (sym (point_first x)) (on (Lock z) (Some x) joins later)
   access None (Some x) (TryLock z) joins later = subst (λ fs. Life t (Begin t c ∷ fs)) (sym (point_first x)) (on (TryLock z) (Some x) joins later)
   access None (Some x) (Unlock z) joins later = subst (λ fs. Life t (Begin t c ∷ fs)) (sym (point_first x)) (on (Unlock z) (Some x) joins later)
+  access None (Some x) (Consistent z) joins later = subst (λ fs. Life t (Begin t c ∷ fs)) (sym (point_first x)) (on (Consistent z) (Some x) joins later)
   access None (Some x) (Ended y) joins later =
       let same : y ≡ x = cc in
       subst (λ fs. Life t (Begin t c ∷ fs)) (sym (both_first x y)) (subst (λ (z : Reply). Life t (Begin t c ∷ (point_by t c x ∷ (Return t z ∷ own t ls)))) (sym same) (Returns c x (own t ls) later))
+  access (Some x) None (Lock z) joins later = on (Lock z) (Some x) joins.1 later
   access (Some x) None (TryLock z) joins later = on (TryLock z) (Some x) joins.1 later
   access (Some x) None (Unlock z) joins later = on (Unlock z) (Some x) joins.1 later
+  access (Some x) None (Consistent z) joins later = on (Consistent z) (Some x) joins.1 later
   access (Some x) None (Ended y) joins later =
       let same : y ≡ x = cc in
-      subst (λ fs. Life t (Begin t c ∷ (point_by t c x ∷ fs))) (sym (own-mine t i (Return t y) ls refl)) (subst (λ (z : Reply). Life t (Begin t c ∷ (point_by t c x ∷ (Return t z ∷ own t ls)))) (sym same) (Returns c x (own t ls) later))
+      subst (λ fs. Life t (Begin t c ∷ (point_by t c x ∷ fs))) (sym (own-mine t i (Return t y) ls refl refl)) (subst (λ (z : Reply). Life t (Begin t c ∷ (point_by t c x ∷ (Return t z ∷ own t ls)))) (sym same) (Returns c x (own t ls) later))
   access (Some x) (Some y) q joins later = absurd cc
 
 -- what an access tells is its thread's
 access_says : (t : ℕ) (c : Call) (x : Option Reply) (q : Row) → Says t (facts_at t c (operation_of c) x q)
+access_says t c None (Lock z) = nothing_new
 access_says t c None (TryLock z) = nothing_new
 access_says t c None (Unlock z) = nothing_new
+access_says t c None (Consistent z) = nothing_new
 access_says t c None (Ended y) = returns y
+access_says t c (Some x) (Lock z) = decides c x
 access_says t c (Some x) (TryLock z) = decides c x
 access_says t c (Some x) (Unlock z) = decides c x
+access_says t c (Some x) (Consistent z) = decides c x
 access_says t c (Some x) (Ended y) = ends_with c x y
+
+-- ---- which facts one event may tell, of thread u: no two points, and but for wakes nothing of others
+abbrev NoPoint : List Fact → Type 0
+NoPoint [] = Unit {0}
+NoPoint (f ∷ fs) = (is_point f ≡ false) × NoPoint fs
+
+abbrev Fine : ℕ → List Fact → Type 0
+Fine u [] = Unit {0}
+Fine u (f ∷ fs) = (is_wake f ≡ false → thread_of f ≡ u) × (is_point f ≡ true → NoPoint fs) × Fine u fs
+
+returned_pointless : (u : ℕ) (y : Option Reply) → NoPoint (return_facts u y)
+returned_pointless u None = tt
+returned_pointless u (Some x) = (refl, tt)
+
+woken_pointless : (u : ℕ) (ws : List ℕ) (y : Option Reply) → NoPoint (map Wake ws ++ return_facts u y)
+woken_pointless u [] y = returned_pointless u y
+woken_pointless u (w ∷ ws) y = (refl, woken_pointless u ws y)
+
+slept_pointless : (u : ℕ) (z : Option ℕ) (ws : List ℕ) (y : Option Reply) → NoPoint (sleep_facts u z ++ (map Wake ws ++ return_facts u y))
+slept_pointless u None ws y = woken_pointless u ws y
+slept_pointless u (Some m) ws y = (refl, woken_pointless u ws y)
+
+returned_fine : (u : ℕ) (y : Option Reply) → Fine u (return_facts u y)
+returned_fine u None = tt
+returned_fine u (Some x) = ((λ e. refl), (λ e. tt), tt)
+
+woken_fine : (u : ℕ) (ws : List ℕ) (y : Option Reply) → Fine u (map Wake ws ++ return_facts u y)
+woken_fine u [] y = returned_fine u y
+woken_fine u (w ∷ ws) y = ((λ e. absurd cc), (λ e. absurd cc), woken_fine u ws y)
+
+slept_fine : (u : ℕ) (z : Option ℕ) (ws : List ℕ) (y : Option Reply) → Fine u (sleep_facts u z ++ (map Wake ws ++ return_facts u y))
+slept_fine u None ws y = woken_fine u ws y
+slept_fine u (Some m) ws y = ((λ e. refl), (λ e. absurd cc), woken_fine u ws y)
+
+access_fine : (u : ℕ) (c : Call) (op : Operation) (x : Option Reply) (z : Option ℕ) (ws : List ℕ) (y : Option Reply) → Fine u (point_facts (decision u c op x) ++ (sleep_facts u z ++ (map Wake ws ++ return_facts u y)))
+access_fine u c op None z ws y = slept_fine u z ws y
+access_fine u c op (Some x) z ws y = ((λ e. refl), (λ e. slept_pointless u z ws y), slept_fine u z ws y)
 
 -- what an event leaves and notes: of its own thread what may come next, and of others nothing
 record Adds (s : State) (u : ℕ) (a : After) : Type 0 where
-  says : Says u (facts_of a.note)
-  mine : (i : ℕ) (ls : List Line) → Goes u (a.state.threads u).stage (own u ls) → Goes u (s.threads u).stage (own u (map (line_of i) (facts_of a.note) ++ ls))
+  fine : Fine u (facts_of a.note)
+  says : Says u (calls_of a.note)
+  mine : (i : ℕ) (ls : List Line) → Goes u (a.state.threads u).stage (own u ls) → Goes u (s.threads u).stage (own u (map (line_of i) (calls_of a.note) ++ ls))
   others : (t : ℕ) → u ≢ t → (a.state.threads t).stage ≡ (s.threads t).stage
 
 -- an event that can't apply adds nothing
 idles : (s : State) (u : ℕ) → Adds s u (nothing s)
-idles s u = record { says = nothing_new; mine = λ i ls later. later; others = λ t apart. refl }
+idles s u = record { fine = tt; says = nothing_new; mine = λ i ls later. later; others = λ t apart. refl }
 
 module _ (s : State) (u : ℕ) (c : Call) (idle : (s.threads u).stage ≡ Idle) where
   abbrev p : Standing
@@ -160,40 +234,51 @@ module _ (s : State) (u : ℕ) (c : Call) (idle : (s.threads u).stage ≡ Idle) 
   -- a call begins, or is refused
   begins_call : (b : Bool) → Adds s u (begun s u c (if b then Err XHELD else Ok p))
   begins_call true = record {
+    fine = ((λ e. refl), (λ e. absurd cc), ((λ e. refl), (λ e. (refl, tt)), ((λ e. refl), (λ e. tt), tt)));
     says = refused c XHELD;
     mine = λ i ls later.
-        let first = own-mine u i (Begin u c) (line_of i (point_by u c XHELD) ∷ (line_of i (Return u XHELD) ∷ ls)) refl in
-        let second = own-mine u i (point_by u c XHELD) (line_of i (Return u XHELD) ∷ ls) refl in
-        let third = own-mine u i (Return u XHELD) ls refl in
+        let first = own-mine u i (Begin u c) (line_of i (point_by u c XHELD) ∷ (line_of i (Return u XHELD) ∷ ls)) refl refl in
+        let second = own-mine u i (point_by u c XHELD) (line_of i (Return u XHELD) ∷ ls) refl refl in
+        let third = own-mine u i (Return u XHELD) ls refl refl in
         subst (λ g. Goes u g (own u (line_of i (Begin u c) ∷ (line_of i (point_by u c XHELD) ∷ (line_of i (Return u XHELD) ∷ ls))))) (sym idle)
         (subst (Life u) (sym (first ∙ ap (λ fs. Begin u c ∷ fs) (second ∙ ap (λ fs. point_by u c XHELD ∷ fs) third))) (Returns c XHELD (own u ls) (subst (λ g. Goes u g (own u ls)) idle later)));
     others = λ t apart. refl;
   }
   begins_call false = record {
+    fine = ((λ e. refl), (λ e. tt), tt);
     says = begins c;
     mine = λ i ls later.
         let begun_there : Goes u (Calling c p) (own u ls) = subst (λ (z : Thread). Goes u z.stage (own u ls)) (put-same s.threads u (record (s.threads u) { stage = Calling c p })) later in
         let undecided : Life u (Begin u c ∷ own u ls) = subst (λ (d : Option Reply). Doing u c d (own u ls)) (first_undecided c) begun_there in
-        subst (λ g. Goes u g (own u (line_of i (Begin u c) ∷ ls))) (sym idle) (subst (Life u) (sym (own-mine u i (Begin u c) ls refl)) undecided);
+        subst (λ g. Goes u g (own u (line_of i (Begin u c) ∷ ls))) (sym idle) (subst (Life u) (sym (own-mine u i (Begin u c) ls refl refl)) undecided);
     others = λ t apart. ap (λ (z : Thread). z.stage) (put-other s.threads u (record (s.threads u) { stage = Calling c p }) t (λ is. apart (sym is)));
   }
 
--- a call goes on
-goes_on : (s : State) (u : ℕ) → Kept s → 1 ≤ u → u ≤ s.layout.threads → (g : Stage) → (s.threads u).stage ≡ g → Adds s u (stepped s u (s.threads u).held g)
-goes_on s u inv pos known Idle is = idles s u
-goes_on s u inv pos known (Calling c p) is =
+-- a call makes its access
+goes : (s : State) (u : ℕ) → Kept s → 1 ≤ u → u ≤ s.layout.threads → (c : Call) (p : Standing) → (s.threads u).stage ≡ Calling c p → Adds s u (went s u (s.threads u).held c p (led p (answer_of s (access_of p))))
+goes s u inv pos known c p is =
     let fits : Fits s u (s.threads u).held c p = subst (λ (g : Stage). Sits s u (s.threads u).held g) is (inv.sits u pos known) in
-    let led = l s u c p inv pos known fits in
+    let next = l s u c p inv pos known fits in
     let th : Thread = (after s u c p inv pos known fits).threads u in
-    let stage : th.stage ≡ stage_after c p led.row = ap (λ (z : Thread). z.stage) (put-same s.threads u _) in
+    let stage : th.stage ≡ stage_after c p next.row = ap (λ (z : Thread). z.stage) (put-same s.threads u _) in
     subst (Adds s u) (sym (went-is s u c p inv pos known fits)) record {
-      says = subst (λ (op : Operation). Says u (facts_at u c op led.point led.row)) (sym fits.of) (access_says u c led.point led.row);
+      fine = access_fine u c (row_operation p.row) next.point _ _ (returned next.row);
+      says = subst (λ (op : Operation). Says u (facts_at u c op next.point next.row)) (sym fits.of) (access_says u c next.point next.row);
       mine = λ i ls later.
-          subst (λ g. Goes u g (own u (map (line_of i) (facts_at u c (row_operation p.row) led.point led.row) ++ ls))) (sym is)
-          (subst (λ (op : Operation). Doing u c (decided p.row) (own u (map (line_of i) (facts_at u c op led.point led.row) ++ ls))) (sym fits.of)
-          (access u i c p ls (decided p.row) led.point led.row (r s u c p inv pos known fits).tells (subst (λ g. Goes u g (own u ls)) stage later)));
+          subst (λ g. Goes u g (own u (map (line_of i) (facts_at u c (row_operation p.row) next.point next.row) ++ ls))) (sym is)
+          (subst (λ (op : Operation). Doing u c (decided p.row) (own u (map (line_of i) (facts_at u c op next.point next.row) ++ ls))) (sym fits.of)
+          (access u i c p ls (decided p.row) next.point next.row (r s u c p inv pos known fits).tells (subst (λ g. Goes u g (own u ls)) stage later)));
       others = λ t apart. ap (λ (z : Thread). z.stage) (put-other s.threads u _ t (λ same. apart (sym same)));
     }
+
+-- a call goes on, unless it sleeps
+goes_on : (s : State) (u : ℕ) → Kept s → 1 ≤ u → u ≤ s.layout.threads → (g : Stage) → (s.threads u).stage ≡ g → Adds s u (stepped s u (s.threads u).held g)
+goes_on s u inv pos known Idle is = idles s u
+goes_on s u inv pos known (Calling c p) is = go (sleeps s u (Calling c p))
+  where
+    go : (b : Bool) → Adds s u (if b then nothing s else went s u (s.threads u).held c p (led p (answer_of s (access_of p))))
+    go true = idles s u
+    go false = goes s u inv pos known c p is
 
 -- each event
 adds : (s : State) (e : Event) → Kept s → Adds s (caller e) (happens s e)
@@ -215,15 +300,15 @@ adds s (event.Step u) inv = go (is_thread s u) refl
 
 -- one event, and then what may come next
 lives_on : (s : State) (e : Event) (i : ℕ) (rest : List Line) → Kept s → (t : ℕ) → Goes t ((happens s e).state.threads t).stage (own t rest) → Goes t (s.threads t).stage (own t (map (line_of i) (facts_of (happens s e).note) ++ rest))
-lives_on s e i rest inv t later = go (caller e == t) refl
+lives_on s e i rest inv t later = subst (Goes t (s.threads t).stage) (sym (own-calls t i (happens s e).note rest)) (go (caller e == t) refl)
   where
-    go : (b : Bool) → (caller e == t) ≡ b → Goes t (s.threads t).stage (own t (map (line_of i) (facts_of (happens s e).note) ++ rest))
+    go : (b : Bool) → (caller e == t) ≡ b → Goes t (s.threads t).stage (own t (map (line_of i) (calls_of (happens s e).note) ++ rest))
     go true e' =
         let is : caller e ≡ t = eqb-true (caller e) t e' in
-        subst (λ (v : ℕ). Goes v ((happens s e).state.threads v).stage (own v rest) → Goes v (s.threads v).stage (own v (map (line_of i) (facts_of (happens s e).note) ++ rest))) is ((adds s e inv).mine i rest) later
+        subst (λ (v : ℕ). Goes v ((happens s e).state.threads v).stage (own v rest) → Goes v (s.threads v).stage (own v (map (line_of i) (calls_of (happens s e).note) ++ rest))) is ((adds s e inv).mine i rest) later
     go false e' =
         let apart : caller e ≢ t = eqb-false (caller e) t e' in
-        subst (Goes t (s.threads t).stage) (sym (own-apart t (caller e) i (facts_of (happens s e).note) rest (adds s e inv).says apart))
+        subst (Goes t (s.threads t).stage) (sym (own-apart t (caller e) i (calls_of (happens s e).note) rest (adds s e inv).says apart))
         (subst (λ g. Goes t g (own t rest)) ((adds s e inv).others t apart) later)
 
 -- each thread lives rightly, from any state that keeps the invariant
@@ -233,9 +318,9 @@ lives s (e ∷ es) i inv t = lives_on s e i (lines_from (i + 1) (notes (happens 
 
 -- ---- the order of lines
 
--- the line's event is one of these, of which the first has number i, and it is its thread's
+-- the line's event is one of these, of which the first has number i, and but for a wake it is its thread's
 abbrev Called : ℕ → List Event → Line → Type 0
-Called i es l = (i ≤ l.event) × (thread_of l.fact ≡ caller_of i es l.event)
+Called i es l = (i ≤ l.event) × (is_wake l.fact ≡ false → thread_of l.fact ≡ caller_of i es l.event)
 
 -- what holds of each line gives another thing of each
 each : (P Q : Line → Type 0) → ((l : Line) → P l → Q l) → (ls : List Line) → Each P ls → Each Q ls
@@ -252,7 +337,7 @@ caller_of-first i e es = go (i == i) refl
 
 -- a line of a later event is called among all of them too
 called_later : (i : ℕ) (e : Event) (es : List Event) (l : Line) → Called (i + 1) es l → Called i (e ∷ es) l
-called_later i e es l c = (let at = c.0 in omega arith, c.1 ∙ go (l.event == i) refl)
+called_later i e es l c = (let at = c.0 in omega arith, λ own. c.1 own ∙ go (l.event == i) refl)
   where
     go : (b : Bool) → (l.event == i) ≡ b → caller_of (i + 1) es l.event ≡ (if b then caller e else caller_of (i + 1) es l.event)
     go true is = absurd (let same : l.event ≡ i = eqb-true l.event i is in let at = c.0 in omega arith)
@@ -268,46 +353,33 @@ before_all i es f ls =
     each (Called (i + 1) es) (Later (line_of i f)) (λ l c. record {
       never_falls = let at = c.0 in omega arith;
       points_rise = λ a b. let at = c.0 in omega arith;
-      one_thread = λ same. absurd (let at = c.0 in omega arith);
+      one_thread = λ a b same. absurd (let at = c.0 in omega arith);
     }) ls
 
--- two lines of one event of one thread, of which one is no point
-beside : (i : ℕ) (f g : Fact) → thread_of f ≡ thread_of g → (is_point f ≡ true → is_point g ≡ true → ⊥) → Later (line_of i f) (line_of i g)
-beside i f g same apart = record { never_falls = omega arith; points_rise = λ a b. absurd (apart a b); one_thread = λ e. same }
+-- a line of event i stands rightly before the others of that event, and before those of later ones
+beside_all : (u i : ℕ) (f : Fact) (fs : List Fact) (ls : List Line) → (is_wake f ≡ false → thread_of f ≡ u) → (is_point f ≡ true → NoPoint fs) → Fine u fs → Each (Later (line_of i f)) ls → Each (Later (line_of i f)) (map (line_of i) fs ++ ls)
+beside_all u i f [] ls mine alone fine later = later
+beside_all u i f (g ∷ fs) ls mine alone fine later = (
+  record {
+    never_falls = omega arith;
+    points_rise = λ a b. absurd (cc ((alone a).0, b));
+    one_thread = λ a b same. mine a ∙ sym (fine.0 b);
+  },
+  beside_all u i f fs ls mine (λ a. (alone a).1) fine.2 later,
+)
 
 -- what one event tells stands rightly before what later ones tell
-placed : (i : ℕ) (e : Event) (es : List Event) (fs : List Fact) (ls : List Line) → Says (caller e) fs → InOrder (i + 1) es ls → InOrder i (e ∷ es) (map (line_of i) fs ++ ls)
-placed i e es fs ls says (order, called) = go fs says
-  where
-    here : (f : Fact) → thread_of f ≡ caller e → Called i (e ∷ es) (line_of i f)
-    here f is = (omega arith, is ∙ sym (caller_of-first i e es))
-
-    later : Each (Called i (e ∷ es)) ls
-    later = each (Called (i + 1) es) (Called i (e ∷ es)) (called_later i e es) ls called
-
-    first : (f : Fact) → Each (Later (line_of i f)) ls
-    first f = before_all i es f ls called
-
-    go : (fs : List Fact) → Says (caller e) fs → InOrder i (e ∷ es) (map (line_of i) fs ++ ls)
-    go fs nothing_new = (order, later)
-    go fs (begins c) = ((first (Begin (caller e) c), order), (here (Begin (caller e) c) refl, later))
-    go fs (refused c x) = (
-      (
-        (beside i (Begin (caller e) c) (point_by (caller e) c x) refl (λ a b. absurd cc), (beside i (Begin (caller e) c) (Return (caller e) x) refl (λ a b. absurd cc), first (Begin (caller e) c))),
-        ((beside i (point_by (caller e) c x) (Return (caller e) x) refl (λ a b. absurd cc), first (point_by (caller e) c x)), (first (Return (caller e) x), order)),
-      ),
-      (here (Begin (caller e) c) refl, (here (point_by (caller e) c x) refl, (here (Return (caller e) x) refl, later))),
-    )
-    go fs (decides c x) = ((first (point_by (caller e) c x), order), (here (point_by (caller e) c x) refl, later))
-    go fs (returns x) = ((first (Return (caller e) x), order), (here (Return (caller e) x) refl, later))
-    go fs (ends_with c x y) = (
-      ((beside i (point_by (caller e) c x) (Return (caller e) y) refl (λ a b. absurd cc), first (point_by (caller e) c x)), (first (Return (caller e) y), order)),
-      (here (point_by (caller e) c x) refl, (here (Return (caller e) y) refl, later)),
+placed : (i : ℕ) (e : Event) (es : List Event) (fs : List Fact) (ls : List Line) → Fine (caller e) fs → InOrder (i + 1) es ls → InOrder i (e ∷ es) (map (line_of i) fs ++ ls)
+placed i e es [] ls fine (order, called) = (order, each (Called (i + 1) es) (Called i (e ∷ es)) (called_later i e es) ls called)
+placed i e es (f ∷ fs) ls fine (order, called) =
+    let others = placed i e es fs ls fine.2 (order, called) in (
+      (beside_all (caller e) i f fs ls fine.0 fine.1 fine.2 (before_all i es f ls called), others.0),
+      ((omega arith, λ own. fine.0 own ∙ sym (caller_of-first i e es)), others.1),
     )
 
 ordered : (s : State) (es : List Event) (i : ℕ) → Kept s → InOrder i es (lines_from i (notes s es))
 ordered s [] i inv = (tt, tt)
-ordered s (e ∷ es) i inv = placed i e es (facts_of (happens s e).note) (lines_from (i + 1) (notes (happens s e).state es)) (adds s e inv).says (ordered (happens s e).state es (i + 1) (sound s e inv).kept)
+ordered s (e ∷ es) i inv = placed i e es (facts_of (happens s e).note) (lines_from (i + 1) (notes (happens s e).state es)) (adds s e inv).fine (ordered (happens s e).state es (i + 1) (sound s e inv).kept)
 
 -- so it is from the start
 pub explained_from : (s : State) (events : List Event) → Kept s → ((t : ℕ) → (s.threads t).stage ≡ Idle) → IsExplained events (notes s events)
@@ -315,7 +387,7 @@ explained_from s events inv resting =
     let order = ordered s events 1 inv in
     record {
       orderly = order.0;
-      callers = each (Called 1 events) (λ l. thread_of l.fact ≡ caller_of 1 events l.event) (λ l c. c.1) (lines_from 1 (notes s events)) order.1;
+      callers = each (Called 1 events) (λ l. is_wake l.fact ≡ false → thread_of l.fact ≡ caller_of 1 events l.event) (λ l c. c.1) (lines_from 1 (notes s events)) order.1;
       lives = λ t. subst (λ g. Goes t g (own t (lines_from 1 (notes s events)))) (resting t) (lives s events 1 inv t);
     }
 

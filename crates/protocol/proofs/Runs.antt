@@ -1,5 +1,5 @@
 -- Whole runs.
-use Rattle.std.proofs.Common.{◌≡◌, ◌≢◌, ℕ, zero, suc, ◌<◌, ◌≤◌, ◌==◌, Bool, true, false, ◌&&◌, Option, Some, None, Ok, Err, List, [], ◌∷◌, ◌++◌, refl, sym, ap, ◌∙◌, subst, arith, eqb-true}
+use Rattle.std.proofs.Common.{◌≡◌, ◌≢◌, ℕ, zero, suc, ◌<◌, ◌≤◌, ◌==◌, Bool, true, false, ◌&&◌, Option, Some, None, Ok, Err, List, [], ◌∷◌, ◌++◌, map, refl, sym, ap, ◌∙◌, subst, arith, eqb-true}
 use Rattle.std.specs.Prelude.{if◌then◌else◌, nat_lt, nat_le, MatchBool}
 use Rattle.std.proofs.lemmas.Bool.{eqb-false}
 use Rattle.std.proofs.lemmas.Bool.Decides.{nat_tests}
@@ -15,15 +15,16 @@ use Rattle.mutex.specs.declared.call.Call.{Call}
 use Rattle.mutex.specs.declared.call.Call.TheVariants as call
 use Rattle.mutex.specs.Calls.{mutex_of, operation_of}
 use Rattle.mutex.specs.Standings.{Standing}
-use Rattle.mutex.specs.Programs.{started, first_row, row_operation}
+use Rattle.mutex.specs.Programs.{started, first_row, row_operation, access_of, led}
 use Rattle.protocol.specs.declared.event.Event.{Event}
 use Rattle.protocol.specs.declared.event.Event.TheVariants.{Begin, Step}
 use Rattle.protocol.specs.declared.thread.Thread.{Thread}
 use Rattle.protocol.specs.declared.thread.Stage.{Stage}
 use Rattle.protocol.specs.declared.thread.Stage.TheVariants.{Idle, Calling}
 use Rattle.protocol.specs.declared.note.Note.TheVariants.{Stepped}
-use Rattle.protocol.specs.Notes.{facts_of}
-use Rattle.protocol.specs.Machine.{State, After, put, start, first_word, nothing, is_thread, may_begin, begun, stepped, happens, run, notes, decision}
+use Rattle.protocol.specs.declared.note.Fact.TheVariants.{Wake}
+use Rattle.protocol.specs.Notes.{facts_of, sleep_facts, return_facts}
+use Rattle.protocol.specs.Machine.{State, After, put, start, first_word, nothing, is_thread, may_begin, begun, stepped, went, sleeps, answer_of, happens, run, notes, decision}
 use Rattle.protocol.specs.Headline.{seen, points_of, points_among, HistoryIsLegal}
 use Rattle.lockword.specs.Cells.{fields_of}
 use Rattle.protocol.proofs.Puts.{by_put}
@@ -50,13 +51,17 @@ idles s inv = record { kept = inv; same = refl; told = λ k. refl }
 
 -- a call's first row has its operation
 first_is : (c : Call) → row_operation (first_row c) ≡ operation_of c
+first_is (call.Lock m) = refl
 first_is (call.TryLock m) = refl
 first_is (call.Unlock m) = refl
+first_is (call.Consistent m) = refl
 
 -- a call that begins fits its thread
 first_fits : (s : State) (t held : ℕ) (c : Call) → mutex_of c < s.layout.mutexes → (acquires (operation_of c) ≡ true → held < 2048) → Fits s t held c (record { thread = t; cell = cell_place s.layout (mutex_of c); row = first_row c })
+first_fits s t held (call.Lock m) inside room = record { mine = refl; inside = inside; place = refl; going = tt; knows = tt; expects = tt; room = room; of = refl }
 first_fits s t held (call.TryLock m) inside room = record { mine = refl; inside = inside; place = refl; going = tt; knows = tt; expects = tt; room = room; of = refl }
 first_fits s t held (call.Unlock m) inside room = record { mine = refl; inside = inside; place = refl; going = tt; knows = tt; expects = tt; room = room; of = refl }
+first_fits s t held (call.Consistent m) inside room = record { mine = refl; inside = inside; place = refl; going = tt; knows = tt; expects = tt; room = room; of = refl }
 
 -- the machine with another call in progress
 abbrev with_call : State → ℕ → Call → Standing → State
@@ -99,12 +104,25 @@ module _ (s : State) (t : ℕ) (c : Call) (inv : Kept s) (pos : 1 ≤ t) (known 
 -- ---- a call goes on
 
 -- what the table permits is a step, where the thread may take another mutex
-does : (held t : ℕ) (o n : Object) (op : Operation) (x : Reply) → (acquires op ≡ true → held < 2048) → Permits o t op x n → Does held o t op x n
+pub does : (held t : ℕ) (o n : Object) (op : Operation) (x : Reply) → (acquires op ≡ true → held < 2048) → Permits o t op x n → Does held o t op x n
 does held t o n op x room permits = go (acquires op && nat_le 2048 held) refl
   where
     go : (b : Bool) → (acquires op && nat_le 2048 held) ≡ b → MatchBool b ((x ≡ XHELD) × (n ≡ o)) (Permits o t op x n)
     go false e = permits
     go true e = absurd (let takes : acquires op ≡ true = grind (arith, nat_tests) in let less = room takes in let most : 2048 ≤ held = grind (arith, nat_tests) in omega arith)
+
+-- who sleeps, who is woken and what is returned is no point
+returned_points : (t : ℕ) (y : Option Reply) → points_of (return_facts t y) ≡ []
+returned_points t None = refl
+returned_points t (Some x) = refl
+
+woken_points : (t : ℕ) (ws : List ℕ) (y : Option Reply) → points_of (map Wake ws ++ return_facts t y) ≡ []
+woken_points t [] y = returned_points t y
+woken_points t (w ∷ ws) y = woken_points t ws y
+
+no_points : (t : ℕ) (z : Option ℕ) (ws : List ℕ) (y : Option Reply) → points_of (sleep_facts t z ++ (map Wake ws ++ return_facts t y)) ≡ []
+no_points t None ws y = woken_points t ws y
+no_points t (Some m) ws y = woken_points t ws y
 
 module _ (s s' : State) (t : ℕ) (c : Call) (op : Operation) (inside : mutex_of c < s.layout.mutexes) (room : acquires op ≡ true → held_by t (seen s) s.layout.mutexes < 2048) (far : (k : ℕ) → k ≢ mutex_of c → seen s' k ≡ seen s k) where
   unchanged : seen s' (mutex_of c) ≡ seen s (mutex_of c) → (k : ℕ) → seen s' k ≡ seen s k
@@ -114,23 +132,30 @@ module _ (s s' : State) (t : ℕ) (c : Call) (op : Operation) (inside : mutex_of
       go true e = subst (λ (j : ℕ). seen s' j ≡ seen s j) (sym (eqb-true k (mutex_of c) e)) same
       go false e = far k (eqb-false k (mutex_of c) e)
 
-  told : (x y : Option Reply) → Tells t (seen s (mutex_of c)) op x (seen s' (mutex_of c)) → Told s (points_of (facts_of (Stepped t (decision t c op x) y))) s'
-  told None None tells = unchanged tells
-  told None (Some z) tells = unchanged tells
-  told (Some x) None tells = (inside, does _ t _ _ op x room tells, far, refl)
-  told (Some x) (Some z) tells = (inside, does _ t _ _ op x room tells, far, refl)
+  told : (x : Option Reply) (z : Option ℕ) (ws : List ℕ) (y : Option Reply) → Tells t (seen s (mutex_of c)) op x (seen s' (mutex_of c)) → Told s (points_of (facts_of (Stepped t (decision t c op x) z ws y))) s'
+  told None z ws y changes = subst (λ ds. Told s ds s') (sym (no_points t z ws y)) (unchanged changes)
+  told (Some x) z ws y changes = (inside, does _ t _ _ op x room changes, far, no_points t z ws y)
 
--- a step is sound, wherever its thread stands
-step_sound : (s : State) (t : ℕ) → Kept s → 1 ≤ t → t ≤ s.layout.threads → (g : Stage) → (s.threads t).stage ≡ g → Sound' s (stepped s t (s.threads t).held g)
-step_sound s t inv pos known Idle e = idles s inv
-step_sound s t inv pos known (Calling c p) e =
+-- an access is sound
+step_went : (s : State) (t : ℕ) → Kept s → 1 ≤ t → t ≤ s.layout.threads → (c : Call) (p : Standing) → (s.threads t).stage ≡ Calling c p → Sound' s (went s t (s.threads t).held c p (led p (answer_of s (access_of p))))
+step_went s t inv pos known c p e =
     let fits : Fits s t (s.threads t).held c p = subst (λ (g : Stage). Sits s t (s.threads t).held g) e (inv.sits t pos known) in
     let few : acquires (row_operation p.row) ≡ true → held_by t (seen s) s.layout.mutexes < 2048 = λ takes. subst (λ (h : ℕ). h < 2048) (inv.held t pos known) (fits.room takes) in
     subst (Sound' s) (sym (went-is s t c p inv pos known fits)) record {
       kept = kept s t c p inv pos known fits;
       same = refl;
-      told = told s (after s t c p inv pos known fits) t c (row_operation p.row) fits.inside few (far s t c p inv pos known fits) _ _ (tells s t c p inv pos known fits);
+      told = told s (after s t c p inv pos known fits) t c (row_operation p.row) fits.inside few (far s t c p inv pos known fits) _ _ _ _ (tells s t c p inv pos known fits);
     }
+
+-- a step is sound, wherever its thread stands
+step_sound : (s : State) (t : ℕ) → Kept s → 1 ≤ t → t ≤ s.layout.threads → (g : Stage) → (s.threads t).stage ≡ g → Sound' s (stepped s t (s.threads t).held g)
+step_sound s t inv pos known Idle e = idles s inv
+step_sound s t inv pos known (Calling c p) e =
+    go (sleeps s t (Calling c p))
+  where
+    go : (b : Bool) → Sound' s (if b then nothing s else went s t (s.threads t).held c p (led p (answer_of s (access_of p))))
+    go true = idles s inv
+    go false = step_went s t inv pos known c p e
 
 -- each event is sound
 pub sound : (s : State) (e : Event) → Kept s → Sound' s (happens s e)

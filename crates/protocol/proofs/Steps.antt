@@ -1,49 +1,67 @@
 -- One access of a call, on the words and the threads of the machine.
-use Rattle.std.proofs.Common.{◌≡◌, ◌≢◌, ◌⊎◌, inl, inr, ℕ, ◌+◌, ◌<◌, ◌≤◌, ◌==◌, Bool, true, false, Option, Some, None, refl, sym, ap, ◌∙◌, subst, arith, eqb-true}
+use Rattle.std.proofs.Common.{◌≡◌, ◌≢◌, ◌⊎◌, inl, inr, ℕ, ◌+◌, ◌%◌, ◌^◌, ◌<◌, ◌≤◌, ◌==◌, Bool, true, false, ◌&&◌, Option, Some, None, List, [], refl, sym, ap, ◌∙◌, subst, arith, eqb-true}
 use Rattle.std.specs.Prelude.{if◌then◌else◌, nat_lt}
 use Rattle.std.proofs.lemmas.Bool.{eqb-false}
 use Rattle.std.proofs.lemmas.Bool.Decides.{nat_tests}
-use Rattle.lockword.specs.Cells.{fields_of}
+use Rattle.lockword.specs.Cells.{fields_of, low_of}
 use Rattle.lockword.specs.declared.reply.Reply.{Reply}
-use Rattle.keys.specs.declared.access.Answer.TheVariants.{Fault}
+use Rattle.lockword.specs.declared.reply.Reply.TheVariants.{OK, EOWNERDEAD, ENOTRECOVERABLE}
+use Rattle.keys.specs.declared.access.Answer.TheVariants.{Again, Woken, Fault}
 use Rattle.keys.specs.declared.point.Operation.{Operation}
 use Rattle.keys.specs.declared.point.Operation.TheVariants as operation
 use Rattle.keys.specs.declared.object.Object.{Object}
 use Rattle.keys.specs.Layouts.{Layout', cell_place}
-use Rattle.keys.specs.Accesses.{address_of, changed, answer_at}
+use Rattle.keys.specs.Accesses.{address_of, changed, answer_at, sleeps_at}
 use Rattle.keys.specs.Objects.{Permits, Run, object_of, fresh, acquires}
 use Rattle.keys.specs.Histories.{held_by}
 use Rattle.mutex.specs.declared.call.Call.{Call}
+use Rattle.mutex.specs.declared.lock.LockRow.TheVariants as lock
 use Rattle.mutex.specs.declared.try_lock.TryLockRow.TheVariants as try
 use Rattle.mutex.specs.declared.unlock.UnlockRow.TheVariants as unlock
+use Rattle.mutex.specs.declared.consistent.ConsistentRow.TheVariants as consistent
 use Rattle.mutex.specs.declared.row.Row.{Row}
-use Rattle.mutex.specs.declared.row.Row.TheVariants.{TryLock, Unlock, Ended}
+use Rattle.mutex.specs.declared.row.Row.TheVariants.{Lock, TryLock, Unlock, Consistent, Ended}
 use Rattle.mutex.specs.declared.row.Led.{Led}
 use Rattle.mutex.specs.Calls.{mutex_of}
 use Rattle.mutex.specs.Standings.{Standing}
 use Rattle.mutex.specs.Rows.{Knows, IsGoing}
-use Rattle.mutex.specs.Programs.{row_access, row_operation, access_of, led, point_of}
+use Rattle.mutex.specs.Programs.{row_access, row_operation, access_of, led, point_of, resume_of}
 use Rattle.mutex.specs.Laws.{Expects, Sound, points, decided, Joins, IsOf, Right}
 use Rattle.mutex.proofs.Rights.{right}
+use Rattle.mutex.proofs.Steps.{at_cell, carries}
+use Rattle.mutex.specs.Alone.{Alone}
+use Rattle.mutex.proofs.Alone.{alone}
 use Rattle.protocol.specs.declared.thread.Thread.{Thread}
 use Rattle.protocol.specs.declared.thread.Stage.{Stage}
 use Rattle.protocol.specs.declared.thread.Stage.TheVariants.{Idle, Calling}
 use Rattle.protocol.specs.declared.note.Note.TheVariants.{Stepped}
-use Rattle.protocol.specs.Machine.{State, put, is_valid, answer_of, words_after, went, stage_after, returned, held_after, decision}
+use Rattle.protocol.specs.Machine.{State, put, is_valid, answer_among, queue_after, woken_by, answer_of, words_after, queues_after, slept_on, woken, went, stage_after, returned, held_after, decision}
 use Rattle.protocol.specs.Headline.{seen}
 use Rattle.protocol.proofs.Puts.{by_put, put-same, put-other}
-use Rattle.protocol.proofs.Objects.{others_keep, one, IsCalled, mine, others, owners}
+use Rattle.keys.proofs.Objects.{others_keep}
+use Rattle.protocol.proofs.Objects.{one, IsCalled, mine, others, owners}
 use Rattle.protocol.proofs.Counts.{held_by-changed, held_by-owns}
 use Rattle.protocol.proofs.Kept.{Fits, Sits, Kept}
 
--- an access of a call is to its cell
-address : (t cell : ℕ) (r : Row) → address_of (row_access t cell r) ≡ cell
-address t cell (TryLock try.Load) = refl
-address t cell (TryLock (try.Take v k)) = refl
-address t cell (Unlock unlock.Load) = refl
-address t cell (Unlock (unlock.Release d)) = refl
-address t cell (Unlock (unlock.Wake a)) = refl
-address t cell (Ended x) = refl
+-- a call goes on alike, whoever sleeps
+alike : (t cell : ℕ) (r : Row) (w : ℕ) (q : List ℕ) → resume_of t r (answer_among (row_access t cell r) w q) ≡ resume_of t r (answer_at (row_access t cell r) w)
+alike t cell (Lock lock.Load) w q = refl
+alike t cell (Lock (lock.Take v)) w q = refl
+alike t cell (Lock (lock.SetWaiters v)) w q = refl
+alike t cell (Lock (lock.Sleep v)) w q = go (w % 2 ^ 32 == low_of v)
+  where
+    go : (b : Bool) → resume_of t (Lock (lock.Sleep v)) (if b then Woken else Again) ≡ resume_of t (Lock (lock.Sleep v)) Again
+    go true = refl
+    go false = refl
+alike t cell (Lock lock.WakeAll) w q = refl
+alike t cell (TryLock try.Load) w q = refl
+alike t cell (TryLock (try.Take v k)) w q = refl
+alike t cell (Unlock unlock.Load) w q = refl
+alike t cell (Unlock (unlock.Release d)) w q = refl
+alike t cell (Unlock (unlock.Wake a)) w q = refl
+alike t cell (Consistent consistent.Load) w q = refl
+alike t cell (Consistent consistent.Declare) w q = refl
+alike t cell (Ended x) w q = refl
 
 -- each cell is inside
 pub is_valid-cell : (l : Layout') (m : ℕ) → m < l.mutexes → is_valid l (cell_place l m) ≡ true
@@ -67,38 +85,53 @@ run_tells t cell o n op (Some x) r = subst (Permits o t op x) (sym r.2) r.1
 
 -- what a call needs of its mutex isn't changed by another thread
 spared : (u t : ℕ) (r : Row) (o n : Object) (op : Operation) (x : Option Reply) → t ≢ u → Tells t o op x n → Expects u r o → Expects u r n
-spared u t (Unlock (unlock.Release d)) o n op None apart tells e = (ap (λ (z : Object). z.owner) tells ∙ e.0, ap (λ (z : Object). z.inconsistent) tells ∙ e.1)
-spared u t (Unlock (unlock.Release d)) o n op (Some x) apart tells e = let same = others_keep o n t u op x e.0 apart tells in (ap (λ (z : Object). z.owner) same ∙ e.0, ap (λ (z : Object). z.inconsistent) same ∙ e.1)
-spared u t (TryLock r) o n op x apart tells e = tt
-spared u t (Unlock unlock.Load) o n op x apart tells e = tt
-spared u t (Unlock (unlock.Wake a)) o n op x apart tells e = tt
-spared u t (Ended y) o n op x apart tells e = tt
+spared u t r o n op None apart tells e = carries u r o n (λ own. tells) e
+spared u t r o n op (Some x) apart tells e = carries u r o n (λ own. others_keep o n t u op x own apart tells) e
 
 -- each row is of a call
-called : (r : Row) → IsCalled (row_operation r)
+pub called : (r : Row) → IsCalled (row_operation r)
+called (Lock r) = tt
 called (TryLock r) = tt
 called (Unlock r) = tt
+called (Consistent r) = tt
 called (Ended x) = tt
-
--- a trylock that goes on is undecided
-no_point : (r : Row) (x : Option Reply) → IsGoing r → acquires (row_operation r) ≡ true → decided r ≡ x → x ≡ None
-no_point (TryLock try.Load) x going takes e = sym e
-no_point (TryLock (try.Take v k)) x going takes e = sym e
-no_point (Unlock r) x going takes e = absurd cc
-no_point (Ended y) x going takes e = absurd going
 
 -- a call stays of its operation
 same_operation : (r q : Row) → IsGoing q → IsOf (row_operation r) q → row_operation q ≡ row_operation r
+same_operation r (Lock q) going same = same
 same_operation r (TryLock q) going same = same
 same_operation r (Unlock q) going same = same
+same_operation r (Consistent q) going same = same
 same_operation r (Ended x) going same = absurd going
 
--- whoever is about to take a mutex has not had its point
-undecided : (r : Row) → IsGoing r → acquires (row_operation r) ≡ true → decided r ≡ None
-undecided (TryLock try.Load) going takes = refl
-undecided (TryLock (try.Take v k)) going takes = refl
-undecided (Unlock r) going takes = absurd cc
-undecided (Ended x) going takes = absurd going
+-- a reply that leaves a thread with one mutex more
+abbrev Takes : Reply → Type 0
+Takes OK = Unit {0}
+Takes EOWNERDEAD = Unit {0}
+Takes x = ⊥
+
+-- a lock or trylock that goes on has taken nothing: it is undecided, or lost
+not_taken : (r : Row) (x : Reply) → IsGoing r → acquires (row_operation r) ≡ true → decided r ≡ Some x → Takes x → ⊥
+not_taken (Lock lock.Load) x going takes e took = cc
+not_taken (Lock (lock.Take v)) x going takes e took = cc
+not_taken (Lock (lock.SetWaiters v)) x going takes e took = cc
+not_taken (Lock (lock.Sleep v)) x going takes e took = cc
+not_taken (Lock lock.WakeAll) x going takes e took = let lost : x ≡ ENOTRECOVERABLE = sym (cc e) in subst Takes lost took
+not_taken (TryLock try.Load) x going takes e took = cc
+not_taken (TryLock (try.Take v k)) x going takes e took = cc
+not_taken (Unlock r) x going takes e took = cc
+not_taken (Consistent r) x going takes e took = cc
+not_taken (Ended y) x going takes e took = going
+
+-- a point by which nothing was taken leaves a lock or trylock with as many mutexes
+held_lost : (op : Operation) (held : ℕ) (x : Reply) → acquires op ≡ true → (Takes x → ⊥) → held_after held op (Some x) ≡ held
+held_lost operation.Lock held OK takes lost = absurd (lost tt)
+held_lost operation.Lock held EOWNERDEAD takes lost = absurd (lost tt)
+held_lost operation.Lock held x takes lost = refl
+held_lost operation.TryLock held OK takes lost = absurd (lost tt)
+held_lost operation.TryLock held EOWNERDEAD takes lost = absurd (lost tt)
+held_lost operation.TryLock held x takes lost = refl
+held_lost op held x takes lost = absurd cc
 
 -- without a point a thread holds as many mutexes
 unmoved : (op : Operation) (held : ℕ) → held_after held op None ≡ held
@@ -110,6 +143,12 @@ unmoved operation.Wait held = refl
 unmoved operation.Signal held = refl
 unmoved operation.Broadcast held = refl
 unmoved operation.Death held = refl
+
+-- an access after which a lock or trylock goes on leaves its thread with as many mutexes
+same_held : (d x y : Option Reply) (op : Operation) (held : ℕ) → Joins d x y → acquires op ≡ true → ((z : Reply) → y ≡ Some z → Takes z → ⊥) → held_after held op x ≡ held
+same_held d None y op held joins takes lost = unmoved op held
+same_held None (Some z) y op held joins takes lost = held_lost op held z takes (lost z joins)
+same_held (Some r) (Some z) y op held joins takes lost = absurd (cc joins.0)
 
 -- one access of a call of thread t
 module _ (s : State) (t : ℕ) (c : Call) (p : Standing) (inv : Kept s) (pos : 1 ≤ t) (known : t ≤ s.layout.threads) (fits : Fits s t (s.threads t).held c p) where
@@ -134,44 +173,78 @@ module _ (s : State) (t : ℕ) (c : Call) (p : Standing) (inv : Kept s) (pos : 1
   abbrev th : Thread
   th = record { stage = stage_after c p l.row; held = held_after (s.threads t).held op l.point }
 
+  abbrev pub queue : List ℕ
+  queue = s.queues place
+
   abbrev pub after : State
-  after = record { layout = s.layout; words = put s.words place w'; threads = put s.threads t th }
+  after = record { layout = s.layout; words = put s.words place w'; queues = put s.queues place (queue_after t (access_of p) w queue); threads = put s.threads t th }
 
   at : address_of (access_of p) ≡ place
-  at = address p.thread p.cell p.row ∙ fits.place
+  at = at_cell p.thread p.cell p.row ∙ fits.place
 
-  answers : answer_of s (access_of p) ≡ answer_at (access_of p) w
+  valid : is_valid s.layout place ≡ true
+  valid = is_valid-cell s.layout m fits.inside
+
+  answers : answer_of s (access_of p) ≡ answer_among (access_of p) w queue
   answers =
-      ap (λ (x : ℕ). if is_valid s.layout x then answer_at (access_of p) (s.words x) else Fault) at
-      ∙ ap (λ (b : Bool). if b then answer_at (access_of p) w else Fault) (is_valid-cell s.layout m fits.inside)
+      ap (λ (x : ℕ). if is_valid s.layout x then answer_among (access_of p) (s.words x) (s.queues x) else Fault) at
+      ∙ ap (λ (b : Bool). if b then answer_among (access_of p) w queue else Fault) valid
+
+  leads : led p (answer_of s (access_of p)) ≡ l
+  leads = ap (led p) answers ∙ alike p.thread p.cell p.row w queue
 
   words : words_after s (access_of p) ≡ put s.words place w'
   words =
       ap (λ (x : ℕ). if is_valid s.layout x then put s.words x (changed (access_of p) (s.words x)) else s.words) at
-      ∙ ap (λ (b : Bool). if b then put s.words place w' else s.words) (is_valid-cell s.layout m fits.inside)
+      ∙ ap (λ (b : Bool). if b then put s.words place w' else s.words) valid
+
+  queues : queues_after s t (access_of p) ≡ put s.queues place (queue_after t (access_of p) w queue)
+  queues =
+      ap (λ (x : ℕ). if is_valid s.layout x then put s.queues x (queue_after t (access_of p) (s.words x) (s.queues x)) else s.queues) at
+      ∙ ap (λ (b : Bool). if b then put s.queues place (queue_after t (access_of p) w queue) else s.queues) valid
+
+  abbrev pub slept : Option ℕ
+  slept = if sleeps_at (access_of p) w then Some m else None
+
+  sleeping : slept_on s c (access_of p) ≡ slept
+  sleeping =
+      ap (λ (x : ℕ). if is_valid s.layout x && sleeps_at (access_of p) (s.words x) then Some m else None) at
+      ∙ ap (λ (b : Bool). if b && sleeps_at (access_of p) w then Some m else None) valid
+
+  waking : woken s (access_of p) ≡ woken_by (access_of p) queue
+  waking =
+      ap (λ (x : ℕ). if is_valid s.layout x then woken_by (access_of p) (s.queues x) else []) at
+      ∙ ap (λ (b : Bool). if b then woken_by (access_of p) queue else []) valid
 
   -- what the event leaves and notes, with nothing left to ask
-  pub went-is : went s t (s.threads t).held c p (led p (answer_of s (access_of p))) ≡ record { state = after; note = Stepped t (decision t c op l.point) (returned l.row) }
+  pub went-is : went s t (s.threads t).held c p (led p (answer_of s (access_of p))) ≡ record { state = after; note = Stepped t (decision t c op l.point) slept (woken_by (access_of p) queue) (returned l.row) }
   went-is = λ i. record {
     state = record {
       layout = s.layout;
       words = words i;
-      threads = put s.threads t (record { stage = stage_after c p (led p (answers i)).row; held = held_after (s.threads t).held op (led p (answers i)).point });
+      queues = queues i;
+      threads = put s.threads t (record { stage = stage_after c p (leads i).row; held = held_after (s.threads t).held op (leads i).point });
     };
-    note = Stepped t (decision t c op (led p (answers i)).point) (returned (led p (answers i)).row);
+    note = Stepped t (decision t c op (leads i).point) (sleeping i) (waking i) (returned (leads i).row);
   }
 
-  before : seen s m ≡ object_of (fields_of w)
+  pub before : seen s m ≡ object_of (fields_of w)
   before = seen-inside s m fits.inside
 
   last : t ≤ 64
   last = let most = inv.layout.threads.1 in omega arith
 
+  -- what it does where nobody else steps
+  pub al : Alone t p.row (access_of p) l w w'
+  al = subst (λ (u : ℕ). Alone u p.row (access_of p) l w w') fits.mine
+      (alone p.thread p.cell w p.row (let is = fits.mine in omega arith) (let is = fits.mine in let most = last in omega arith) fits.going fits.knows
+      (subst (λ (o : Object). Expects p.thread p.row o) before (subst (λ (u : ℕ). Expects u p.row (seen s m)) (sym fits.mine) fits.expects)))
+
   pub r : Right p.thread p.cell p.row l w w'
   r = right p.thread p.cell w p.row (let is = fits.mine in omega arith) (let is = fits.mine in let most = last in omega arith) fits.going fits.knows (subst Sound before (inv.sound m))
       (subst (λ (o : Object). Expects p.thread p.row o) before (subst (λ (u : ℕ). Expects u p.row (seen s m)) (sym fits.mine) fits.expects))
 
-  here : seen after m ≡ object_of (fields_of w')
+  pub here : seen after m ≡ object_of (fields_of w')
   here = seen-inside after m fits.inside ∙ ap (λ (v : ℕ). object_of (fields_of v)) (put-same s.words place w')
 
   pub far : (k : ℕ) → k ≢ m → seen after k ≡ seen s k
@@ -205,18 +278,17 @@ module _ (s : State) (t : ℕ) (c : Call) (p : Standing) (inv : Kept s) (pos : 1
         expects = subst (λ (o : Object). Expects t q o) (sym here) (subst (λ (u : ℕ). Expects u q (object_of (fields_of w'))) fits.mine (subst (λ (z : Row). Expects p.thread z (object_of (fields_of w'))) is r.expects));
         room = λ takes.
             let took : acquires op ≡ true = sym (ap acquires same) ∙ takes in
-            let none : decided p.row ≡ None = undecided p.row fits.going took in
-            let join : Joins None l.point (decided l.row) = subst (λ (d : Option Reply). Joins d l.point (decided l.row)) none r.tells in
-            let point : l.point ≡ None = no_point l.row l.point on (ap acquires (ap row_operation is) ∙ takes) join in
-            let as_before : th.held ≡ (s.threads t).held = ap (held_after (s.threads t).held op) point ∙ unmoved op (s.threads t).held in
+            let as_before : th.held ≡ (s.threads t).held = same_held (decided p.row) l.point (decided l.row) op (s.threads t).held r.tells took (λ z e. not_taken l.row z on (ap acquires (ap row_operation is) ∙ takes) e) in
             let below = fits.room took in omega arith;
         of = same ∙ fits.of;
       }
 
   mine' : (q : Row) → l.row ≡ q → Sits after t th.held (stage_after c p q)
   mine' (Ended x) is = tt
+  mine' (Lock q) is = goes_on (Lock q) is tt
   mine' (TryLock q) is = goes_on (TryLock q) is tt
   mine' (Unlock q) is = goes_on (Unlock q) is tt
+  mine' (Consistent q) is = goes_on (Consistent q) is tt
 
   -- the calls of others
   theirs : (u : ℕ) → u ≢ t → (held : ℕ) (g : Stage) → Sits s u held g → Sits after u held g

@@ -1,5 +1,5 @@
 -- What a trace tells of each thread, and how its lines follow each other.
-use Rattle.std.specs.Prelude.{ℕ, ◌≡◌, ◌<◌, ◌≤◌, ◌+◌, ◌==◌, Bool, true, false, List, [], ◌∷◌, if◌then◌else◌}
+use Rattle.std.specs.Prelude.{ℕ, ◌≡◌, ◌<◌, ◌≤◌, ◌+◌, ◌==◌, Bool, true, false, ◌&&◌, List, [], ◌∷◌, if◌then◌else◌}
 use Rattle.lockword.specs.declared.reply.Reply.{Reply}
 use Rattle.keys.specs.Layouts.{Layout', IsLayout}
 use Rattle.mutex.specs.declared.call.Call.{Call}
@@ -8,7 +8,7 @@ use Rattle.protocol.specs.declared.event.Event.{Event}
 use Rattle.protocol.specs.declared.event.Event.TheVariants as event
 use Rattle.protocol.specs.declared.note.Note.{Note}
 use Rattle.protocol.specs.declared.note.Fact.{Fact}
-use Rattle.protocol.specs.declared.note.Fact.TheVariants.{Begin, Point, Return}
+use Rattle.protocol.specs.declared.note.Fact.TheVariants.{Begin, Point, Sleep, Wake, Return}
 use Rattle.protocol.specs.declared.note.Line.{Line}
 use Rattle.protocol.specs.Notes.{lines_from}
 use Rattle.protocol.specs.Machine.{start, notes}
@@ -19,16 +19,24 @@ use Rattle.protocol.specs.Machine.{start, notes}
 abbrev pub thread_of : Fact → ℕ
 thread_of (Begin t c) = t
 thread_of (Point d) = d.thread
+thread_of (Sleep t m) = t
+thread_of (Wake t) = t
 thread_of (Return t x) = t
+
+-- it tells what a call was told or answered, and not who sleeps
+abbrev pub is_of_call : Fact → Bool
+is_of_call (Sleep t m) = false
+is_of_call (Wake t) = false
+is_of_call f = true
 
 -- the point of thread t's call, with this reply: it is of the call's operation and mutex
 abbrev pub point_by : ℕ → Call → Reply → Fact
 point_by t c x = Point (record { thread = t; mutex = mutex_of c; operation = operation_of c; reply = x })
 
--- the facts of thread t among lines, in their order
+-- what lines tell of the calls of thread t, in their order
 abbrev pub own : ℕ → List Line → List Fact
 own t [] = []
-own t (l ∷ ls) = if thread_of l.fact == t then l.fact ∷ own t ls else own t ls
+own t (l ∷ ls) = if is_of_call l.fact && (thread_of l.fact == t) then l.fact ∷ own t ls else own t ls
 
 -- all that thread t does: calls that returned, each with exactly one point, whose reply it returned; and perhaps one that hasn't returned, with one point at most. No point belongs to any other call
 pub data Life (t : ℕ) : List Fact → Type 0 where
@@ -43,11 +51,16 @@ abbrev pub is_point : Fact → Bool
 is_point (Point d) = true
 is_point f = false
 
--- how line b may stand behind line a, near or far: the numbers of events never fall, those of points rise, and an event is one thread's
+-- somebody else's event woke the thread
+abbrev pub is_wake : Fact → Bool
+is_wake (Wake t) = true
+is_wake f = false
+
+-- how line b may stand behind line a, near or far: the numbers of events never fall, those of points rise, and an event is one thread's, whomever it wakes
 pub record Later (a b : Line) : Type 0 where
   pub never_falls : a.event ≤ b.event
   pub points_rise : is_point a.fact ≡ true → is_point b.fact ≡ true → a.event < b.event
-  pub one_thread : a.event ≡ b.event → thread_of a.fact ≡ thread_of b.fact
+  pub one_thread : is_wake a.fact ≡ false → is_wake b.fact ≡ false → a.event ≡ b.event → thread_of a.fact ≡ thread_of b.fact
 
 abbrev pub Each : (Line → Type 0) → List Line → Type 0
 Each P [] = Unit {0}
@@ -69,10 +82,10 @@ abbrev pub caller_of : ℕ → List Event → ℕ → ℕ
 caller_of i [] n = 0
 caller_of i (e ∷ es) n = if n == i then caller e else caller_of (i + 1) es n
 
--- what the notes tell is in order, each line is of an event of its own thread, and each thread's begins, points and returns belong together
+-- what the notes tell is in order, each line but a wake is of an event of its own thread, and each thread's begins, points and returns belong together
 pub record IsExplained (events : List Event) (told : List Note) : Type 0 where
   pub orderly : Orderly (lines_from 1 told)
-  pub callers : Each (λ l. thread_of l.fact ≡ caller_of 1 events l.event) (lines_from 1 told)
+  pub callers : Each (λ l. is_wake l.fact ≡ false → thread_of l.fact ≡ caller_of 1 events l.event) (lines_from 1 told)
   pub lives : (t : ℕ) → Life t (own t (lines_from 1 told))
 
 -- whatever happens, with any values of the counters at the beginning

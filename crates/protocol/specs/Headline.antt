@@ -23,6 +23,11 @@ abbrev pub points_among : List Note → List Decision
 points_among [] = []
 points_among (n ∷ ns) = points_of (facts_of n) ++ points_among ns
 
+-- all that the notes tell
+abbrev pub facts_among : List Note → List Fact
+facts_among [] = []
+facts_among (n ∷ ns) = facts_of n ++ facts_among ns
+
 -- what the cell of mutex m says of it
 abbrev pub seen : State → ℕ → Object
 seen s m = if nat_lt m s.layout.mutexes then object_of (fields_of (s.words (cell_place s.layout m))) else fresh

@@ -2,3 +2,4 @@ pub mod Notes
 pub mod Machine
 pub mod Headline
 pub mod Explained
+pub mod Sleepers

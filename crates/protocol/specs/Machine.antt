@@ -1,15 +1,16 @@
--- The machine: threads whose calls step over shared words.
-use Rattle.std.specs.Prelude.{ℕ, ◌==◌, ◌+◌, ◌-◌, ◌%◌, Bool, true, false, not, ◌&&◌, nat_le, nat_lt, Option, Some, None, Result, Ok, Err, List, [], ◌∷◌, if◌then◌else◌}
+-- The machine: threads whose calls step over shared words, and sleep on them.
+use Rattle.std.specs.Prelude.{ℕ, ◌==◌, ◌+◌, ◌-◌, ◌%◌, ◌^◌, Bool, true, false, not, ◌&&◌, nat_le, nat_lt, Option, Some, None, Result, Ok, Err, List, [], ◌∷◌, ◌++◌, length, take, drop, if◌then◌else◌}
 use Rattle.lockword.specs.declared.reply.Reply.{Reply}
 use Rattle.lockword.specs.declared.reply.Reply.TheVariants.{OK, EOWNERDEAD}
 use Rattle.keys.specs.declared.access.Access.{Access}
 use Rattle.keys.specs.declared.access.Answer.{Answer}
-use Rattle.keys.specs.declared.access.Answer.TheVariants.{Fault}
+use Rattle.keys.specs.declared.access.Access.TheVariants as access
+use Rattle.keys.specs.declared.access.Answer.TheVariants.{Again, Woken, Count, Fault}
 use Rattle.keys.specs.declared.point.Operation.{Operation}
 use Rattle.keys.specs.declared.point.Operation.TheVariants as operation
 use Rattle.keys.specs.declared.point.Decision.{Decision}
 use Rattle.keys.specs.Layouts.{Layout', cell_place, counter_place, words_of}
-use Rattle.keys.specs.Accesses.{address_of, changed, answer_at}
+use Rattle.keys.specs.Accesses.{address_of, changed, answer_at, sleeps_at}
 use Rattle.mutex.specs.declared.call.Call.{Call}
 use Rattle.mutex.specs.declared.row.Row.{Row}
 use Rattle.mutex.specs.declared.row.Row.TheVariants.{Ended}
@@ -25,10 +26,11 @@ use Rattle.protocol.specs.declared.thread.Stage.TheVariants.{Idle, Calling}
 use Rattle.protocol.specs.declared.note.Note.{Note}
 use Rattle.protocol.specs.declared.note.Note.TheVariants.{Nothing, Began, Stepped}
 
--- the words by place, and the threads by id
+-- the words by place, who sleeps on each, in the order in which they are to be woken, and the threads by id
 pub record State : Type 0 where
   pub layout : Layout'
   pub words : ℕ → ℕ
+  pub queues : ℕ → List ℕ
   pub threads : ℕ → Thread
 
 -- a function with one new value
@@ -51,18 +53,45 @@ abbrev pub idle : Thread
 idle = record { stage = Idle; held = 0 }
 
 abbrev pub start : Layout' → (ℕ → ℕ) → State
-start l counters = record { layout = l; words = first_word l counters; threads = λ t. idle }
+start l counters = record { layout = l; words = first_word l counters; queues = λ p. []; threads = λ t. idle }
 
 -- ---- one access
 
 abbrev pub is_valid : Layout' → ℕ → Bool
 is_valid l at = nat_le 1 at && nat_lt at (words_of l)
 
+-- what an access answers that meets the word w, on which those of q sleep: a thread whose wait sleeps goes on with this answer when it is woken (futex(2))
+abbrev pub answer_among : Access → ℕ → List ℕ → Answer
+answer_among (access.Wait at e) w q = if w % 2 ^ 32 == e then Woken else Again
+answer_among (access.Wake at n) w q = Count (length (take n q))
+answer_among a w q = answer_at a w
+
+-- who sleeps on the word after thread t's access: a wait puts t at the end, a wake takes the first n
+abbrev pub queue_after : ℕ → Access → ℕ → List ℕ → List ℕ
+queue_after t (access.Wait at e) w q = if w % 2 ^ 32 == e then q ++ t ∷ [] else q
+queue_after t (access.Wake at n) w q = drop n q
+queue_after t a w q = q
+
+-- whom it wakes, in their order
+abbrev pub woken_by : Access → List ℕ → List ℕ
+woken_by (access.Wake at n) q = take n q
+woken_by a q = []
+
 abbrev pub answer_of : State → Access → Answer
-answer_of s a = if is_valid s.layout (address_of a) then answer_at a (s.words (address_of a)) else Fault
+answer_of s a = if is_valid s.layout (address_of a) then answer_among a (s.words (address_of a)) (s.queues (address_of a)) else Fault
 
 abbrev pub words_after : State → Access → ℕ → ℕ
 words_after s a = if is_valid s.layout (address_of a) then put s.words (address_of a) (changed a (s.words (address_of a))) else s.words
+
+abbrev pub queues_after : State → ℕ → Access → ℕ → List ℕ
+queues_after s t a = if is_valid s.layout (address_of a) then put s.queues (address_of a) (queue_after t a (s.words (address_of a)) (s.queues (address_of a))) else s.queues
+
+-- the mutex that a thread in such a call falls asleep on
+abbrev pub slept_on : State → Call → Access → Option ℕ
+slept_on s c a = if is_valid s.layout (address_of a) && sleeps_at a (s.words (address_of a)) then Some (mutex_of c) else None
+
+abbrev pub woken : State → Access → List ℕ
+woken s a = if is_valid s.layout (address_of a) then woken_by a (s.queues (address_of a)) else []
 
 -- ---- one event
 
@@ -86,9 +115,22 @@ is_idle (Calling c p) = false
 abbrev pub is_busy : State → ℕ → Bool
 is_busy s t = is_thread s t && not (is_idle (s.threads t).stage)
 
--- in a queue of sleepers: no call of the machine waits yet
+-- thread t is one of the queue
+abbrev pub stands_in : ℕ → List ℕ → Bool
+stands_in t [] = false
+stands_in t (u ∷ us) = if u == t then true else stands_in t us
+
+-- the queue of mutex m
+abbrev pub sleepers : State → ℕ → List ℕ
+sleepers s m = s.queues (cell_place s.layout m)
+
+-- in a call that sleeps on its mutex
+abbrev pub sleeps : State → ℕ → Stage → Bool
+sleeps s t Idle = false
+sleeps s t (Calling c p) = stands_in t (sleepers s (mutex_of c))
+
 abbrev pub is_asleep : State → ℕ → Bool
-is_asleep s t = false
+is_asleep s t = sleeps s t (s.threads t).stage
 
 abbrev pub may_begin : State → ℕ → Call → Bool
 may_begin s t c = is_thread s t && is_idle (s.threads t).stage && nat_lt (mutex_of c) s.layout.mutexes
@@ -107,6 +149,8 @@ returned r = None
 
 -- a thread owns one mutex more after it took one, and one less after it released one
 abbrev pub held_after : ℕ → Operation → Option Reply → ℕ
+held_after held operation.Lock (Some OK) = held + 1
+held_after held operation.Lock (Some EOWNERDEAD) = held + 1
 held_after held operation.TryLock (Some OK) = held + 1
 held_after held operation.TryLock (Some EOWNERDEAD) = held + 1
 held_after held operation.Unlock (Some OK) = held - 1
@@ -116,19 +160,23 @@ abbrev pub decision : ℕ → Call → Operation → Option Reply → Option Dec
 decision t c op None = None
 decision t c op (Some x) = Some (record { thread = t; mutex = mutex_of c; operation = op; reply = x })
 
--- the call's next access, and where its answer leads
+-- the call's next access, and where its answer leads. A thread that falls asleep stands where it goes on when it is woken
 abbrev pub went : State → ℕ → ℕ → Call → Standing → Led → After
 went s t held c p l =
     record {
-      state = record s { words = words_after s (access_of p); threads = put s.threads t (record { stage = stage_after c p l.row; held = held_after held (row_operation p.row) l.point }) };
-      note = Stepped t (decision t c (row_operation p.row) l.point) (returned l.row);
+      state = record s {
+        words = words_after s (access_of p);
+        queues = queues_after s t (access_of p);
+        threads = put s.threads t (record { stage = stage_after c p l.row; held = held_after held (row_operation p.row) l.point });
+      };
+      note = Stepped t (decision t c (row_operation p.row) l.point) (slept_on s c (access_of p)) (woken s (access_of p)) (returned l.row);
     }
 
 abbrev pub stepped : State → ℕ → ℕ → Stage → After
 stepped s t held Idle = nothing s
-stepped s t held (Calling c p) = went s t held c p (led p (answer_of s (access_of p)))
+stepped s t held (Calling c p) = if sleeps s t (Calling c p) then nothing s else went s t held c p (led p (answer_of s (access_of p)))
 
--- a begin of a busy or unknown thread or of a mutex outside the layout, and a step of an idle or unknown thread, do nothing
+-- a begin of a busy or unknown thread or of a mutex outside the layout, and a step of an idle, sleeping or unknown thread, do nothing
 abbrev pub happens : State → Event → After
 happens s (Begin t c) = if may_begin s t c then begun s t c (started s.layout t (s.threads t).held c) else nothing s
 happens s (Step t) = if is_thread s t then stepped s t (s.threads t).held (s.threads t).stage else nothing s

@@ -7,7 +7,7 @@ use Rattle.mutex.specs.Calls.{mutex_of, operation_of}
 use Rattle.protocol.specs.declared.note.Note.{Note}
 use Rattle.protocol.specs.declared.note.Note.TheVariants.{Nothing, Began, Stepped}
 use Rattle.protocol.specs.declared.note.Fact.{Fact}
-use Rattle.protocol.specs.declared.note.Fact.TheVariants.{Begin, Point, Return}
+use Rattle.protocol.specs.declared.note.Fact.TheVariants.{Begin, Point, Sleep, Wake, Return}
 use Rattle.protocol.specs.declared.note.Line.{Line}
 
 abbrev pub return_facts : ℕ → Option Reply → List Fact
@@ -23,11 +23,15 @@ abbrev pub refusal_facts : ℕ → Call → Option Reply → List Fact
 refusal_facts t c None = []
 refusal_facts t c (Some x) = Point (record { thread = t; mutex = mutex_of c; operation = operation_of c; reply = x }) ∷ Return t x ∷ []
 
+abbrev pub sleep_facts : ℕ → Option ℕ → List Fact
+sleep_facts t None = []
+sleep_facts t (Some m) = Sleep t m ∷ []
+
 -- what an event did, one thing after the other
 abbrev pub facts_of : Note → List Fact
 facts_of Nothing = []
 facts_of (Began t c refused) = Begin t c ∷ refusal_facts t c refused
-facts_of (Stepped t point returned) = point_facts point ++ return_facts t returned
+facts_of (Stepped t point slept woken returned) = point_facts point ++ (sleep_facts t slept ++ (map Wake woken ++ return_facts t returned))
 
 abbrev pub line_of : ℕ → Fact → Line
 line_of i f = record { event = i; fact = f }

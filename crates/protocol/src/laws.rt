@@ -1,6 +1,7 @@
 //! What holds of every run.
 ghost use Rattle.protocol.specs.Headline.{HistoryIsLegal};
 ghost use Rattle.protocol.specs.Explained.{TraceIsExplained};
+ghost use Rattle.protocol.specs.Sleepers.{MachineGoesOn};
 
 /// Whatever happens, the points are one legal history of POSIX robust mutexes, which says at each moment what every cell says.
 pub fn history_is_legal()
@@ -11,4 +12,11 @@ pub fn history_is_legal()
 /// other call.
 pub fn trace_is_explained()
     ensures { TraceIsExplained }
+{}
+
+/// Whatever happens: whenever a mutex that nobody owns has sleepers, some awake thread, run alone, takes it or wakes one of them within 9,000 steps. Whoever is awake and runs
+/// alone ends its call or falls asleep within 9,000 steps. And a call that no other event divides replies as the object does, never with `XRACED`, and sleeps only where it locks
+/// a mutex that another owns.
+pub fn machine_goes_on()
+    ensures { MachineGoesOn }
 {}

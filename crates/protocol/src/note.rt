@@ -1,6 +1,7 @@
 //! What events did, and the lines of a trace.
 ghost use Rattle.std.specs.Prelude.{◌≡◌};
 
+use buckets::Batch;
 use keys::Decision;
 use lockword::{Reply, Tid};
 use mutex::Call;
@@ -16,10 +17,12 @@ pub enum Note {
         call: Call,
         refused: Option<Reply>,
     },
-    /// A thread made an access: whether that decided its call, and whether the call returned.
+    /// A thread made an access: whether that decided its call, on which mutex it fell asleep, whom it woke, and whether the call returned.
     Stepped {
         thread: Tid,
         point: Option<Decision>,
+        slept: Option<u16>,
+        woken: Batch,
         returned: Option<Reply>,
     },
 }
@@ -29,6 +32,10 @@ pub enum Note {
 pub enum Fact {
     Begin(Tid, Call),
     Point(Decision),
+    /// The thread fell asleep on the mutex with this number.
+    Sleep(Tid, u16),
+    /// The thread was woken.
+    Wake(Tid),
     Return(Tid, Reply),
 }
 

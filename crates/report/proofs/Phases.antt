@@ -6,7 +6,7 @@ use Rattle.std.proofs.lemmas.List.Elements.{All-append, All-head, All-tail}
 use Rattle.std.proofs.lemmas.Option.{get_or_from_slice_get, slice_get_within, slice_get-get_or, same_Some}
 use Rattle.std.specs.List.{flat_map}
 use Rattle.mutex.specs.declared.call.Call.{Call}
-use Rattle.mutex.specs.Calls.{mutex_of}
+use Rattle.mutex.specs.Calls.{mutex_of, NeverWaits}
 use Rattle.ruledwords.specs.declared.pass.Words.{Words}
 use Rattle.ruledwords.specs.Passes.{layout_of, IsPassOf}
 use Rattle.script.specs.declared.workload.Job.{Job as Ordered}
@@ -110,16 +110,16 @@ as_long P (x ∷ xs) [] p = absurd p
 as_long P (x ∷ xs) (y ∷ ys) p = ap suc (as_long P xs ys p.1)
 
 -- its calls in a phase are on mutexes that there are
-right_calls : (m t : ℕ) (j : Ordered) → ArePossible m j.calls → All (λ c. mutex_of c < m) (calls_at t j)
+right_calls : (m t : ℕ) (j : Ordered) → ArePossible m j.calls → All (λ c. (mutex_of c < m) × NeverWaits c) (calls_at t j)
 right_calls m t j all = go (j.thread == t) where
-  go : (b : Bool) → All (λ c. mutex_of c < m) (if b then j.calls.items else [])
+  go : (b : Bool) → All (λ c. (mutex_of c < m) × NeverWaits c) (if b then j.calls.items else [])
   go true = all
   go false = λ k d lt. absurd (omega (arith, lt))
 
-rights : (m t : ℕ) (jobs : List Ordered) → All (λ j. ArePossible m j.calls) jobs → All (λ c. mutex_of c < m) (flat_map (calls_at t) jobs)
+rights : (m t : ℕ) (jobs : List Ordered) → All (λ j. ArePossible m j.calls) jobs → All (λ c. (mutex_of c < m) × NeverWaits c) (flat_map (calls_at t) jobs)
 rights m t [] all = λ k d lt. absurd (omega (arith, lt))
 rights m t (j ∷ jobs) all =
-    All-append (λ c. mutex_of c < m) (calls_at t j) (flat_map (calls_at t) jobs) (right_calls m t j (All-head (λ x. ArePossible m x.calls) j jobs all)) (rights m t jobs (All-tail (λ x. ArePossible m x.calls) j jobs all))
+    All-append (λ c. (mutex_of c < m) × NeverWaits c) (calls_at t j) (flat_map (calls_at t) jobs) (right_calls m t j (All-head (λ x. ArePossible m x.calls) j jobs all)) (rights m t jobs (All-tail (λ x. ArePossible m x.calls) j jobs all))
 
 -- the jobs that bench and phase allow
 pub jobs_right : (w : Words) (p : Phase) (bs : List (Pass Live)) (js : List Job) → AreHired p bs js → All (λ b. IsPassOf w b) bs → IsRightPhase (layout_of w).mutexes p → (k : ℕ) (d : Job) → k < length js → IsJobOf w (get_or js k d)
@@ -128,7 +128,7 @@ jobs_right w p bs js hired right possible k d lt =
     let mine = some_at bs k (omega arith) in
     let both = hired.each k mine.0 (get_or js k d) mine.1 (slice_get-get_or js k d lt) in (
       subst (λ (b : Pass Live). IsPassOf w b) (sym both.0) (all_at (λ b. IsPassOf w b) bs k mine.0 right mine.1),
-      subst (λ (cs : List Call). All (λ c. mutex_of c < (layout_of w).mutexes) cs) (sym both.1) (rights (layout_of w).mutexes (k + 1) p.jobs.items possible),
+      subst (λ (cs : List Call). All (λ c. (mutex_of c < (layout_of w).mutexes) × NeverWaits c) cs) (sym both.1) (rights (layout_of w).mutexes (k + 1) p.jobs.items possible),
     )
 
 -- a thread in a phase

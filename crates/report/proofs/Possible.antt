@@ -3,7 +3,7 @@ use Rattle.std.proofs.Common.{◌≡◌, ℕ, zero, suc, ◌<◌, ◌==◌, Bool
 use Rattle.std.specs.Prelude.{if◌then◌else◌}
 use Rattle.std.specs.List.{slice_split, onto_first}
 use Rattle.mutex.specs.declared.call.Call.{Call}
-use Rattle.mutex.specs.Calls.{mutex_of}
+use Rattle.mutex.specs.Calls.{mutex_of, NeverWaits}
 use Rattle.script.specs.declared.command.Action.{Action}
 use Rattle.script.specs.declared.command.Action.TheVariants as action
 use Rattle.script.specs.declared.command.Command.{Command}
@@ -33,9 +33,9 @@ unfolding Each
 each-append P [] ys a b = b
 each-append P (x ∷ xs) ys a b = (a.0, each-append P xs ys a.1 b)
 
--- a call on the first m mutexes
+-- a call on the first m mutexes, which waits for nobody
 abbrev IsOn : ℕ → Call → Type 0
-IsOn m c = mutex_of c < m
+IsOn m c = (mutex_of c < m) × NeverWaits c
 
 abbrev IsFine : ℕ → ℕ → Command → Type 0
 IsFine n m c = IsPossible n m c.action
@@ -48,7 +48,7 @@ by_action n m t action.Phase fine = tt
 by_action n m t (action.Call u k) fine = go (u == t)
   where
     go : (b : Bool) → Each (IsOn m) (if b then k ∷ [] else [])
-    go true = (fine.2, tt)
+    go true = ((fine.2, fine.3), tt)
     go false = tt
 
 by_thread : (n m t : ℕ) (cs : List Command) → Each (IsFine n m) cs → Each (IsOn m) (calls_by t cs)

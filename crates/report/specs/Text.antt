@@ -9,7 +9,7 @@ use Rattle.mutex.specs.declared.call.Call.{Call}
 use Rattle.mutex.specs.Calls.{mutex_of, operation_of}
 use Rattle.protocol.specs.declared.note.Note.{Note}
 use Rattle.protocol.specs.declared.note.Fact.{Fact}
-use Rattle.protocol.specs.declared.note.Fact.TheVariants.{Begin, Point, Return}
+use Rattle.protocol.specs.declared.note.Fact.TheVariants.{Begin, Point, Sleep, Wake, Return}
 use Rattle.protocol.specs.declared.note.Line.{Line}
 use Rattle.protocol.specs.Notes.{line_of, lines_from}
 use Rattle.interleave.specs.declared.trace.Trace.{Trace}
@@ -28,6 +28,14 @@ begin_line i t c = concat (decimal i ∷ codes " begin t" ∷ decimal t ∷ code
 abbrev pub point_line : ℕ → Decision → List ℕ
 point_line i d = concat (decimal i ∷ codes " point t" ∷ decimal d.thread ∷ codes " m" ∷ decimal d.mutex ∷ codes " " ∷ operation_word d.operation ∷ codes " " ∷ reply_word d.reply ∷ codes "\n" ∷ [])
 
+-- i sleep tT mM: the thread fell asleep on the mutex
+abbrev pub sleep_line : ℕ → ℕ → ℕ → List ℕ
+sleep_line i t m = concat (decimal i ∷ codes " sleep t" ∷ decimal t ∷ codes " m" ∷ decimal m ∷ codes "\n" ∷ [])
+
+-- i wake tT: the thread was woken
+abbrev pub wake_line : ℕ → ℕ → List ℕ
+wake_line i t = concat (decimal i ∷ codes " wake t" ∷ decimal t ∷ codes "\n" ∷ [])
+
 -- i return tT REPLY: the thread's call returned
 abbrev pub return_line : ℕ → ℕ → Reply → List ℕ
 return_line i t r = concat (decimal i ∷ codes " return t" ∷ decimal t ∷ codes " " ∷ reply_word r ∷ codes "\n" ∷ [])
@@ -42,6 +50,8 @@ end_line n = concat (codes "end " ∷ decimal n ∷ codes "\n" ∷ [])
 abbrev pub fact_text : ℕ → Fact → List ℕ
 fact_text i (Begin t c) = begin_line i t c
 fact_text i (Point d) = point_line i d
+fact_text i (Sleep t m) = sleep_line i t m
+fact_text i (Wake t) = wake_line i t
 fact_text i (Return t r) = return_line i t r
 
 abbrev pub line_text : Line → List ℕ

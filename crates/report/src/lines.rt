@@ -1,7 +1,7 @@
 //! The lines of a trace, one function each kind.
 
 ghost use Rattle.report.specs.Leaves.{Leaves};
-ghost use Rattle.report.specs.Text.{head_line, begin_line, point_line, return_line, end_line, fact_text};
+ghost use Rattle.report.specs.Text.{head_line, begin_line, point_line, sleep_line, wake_line, return_line, end_line, fact_text};
 
 use crate::pieces::put;
 use itoa::Buffer;
@@ -69,6 +69,30 @@ fn write_point<W: Write>(out: &mut W, event: usize, decision: Decision) -> io::R
     )
 }
 
+/// `i sleep tT mM`: the thread fell asleep on the mutex.
+fn write_sleep<W: Write>(out: &mut W, event: usize, thread: Tid, mutex: u16) -> io::Result<()>
+    ensures { Leaves (W.contents out.old) (W.contents out.new) result (sleep_line event thread mutex) }
+{
+    let mut event_digits = Buffer::new();
+    let mut thread_digits = Buffer::new();
+    let mut mutex_digits = Buffer::new();
+    let event = event_digits.format(event);
+    let thread = thread_digits.format(thread.get());
+    let mutex = mutex_digits.format(mutex);
+    put(out, &[event, " sleep t", thread, " m", mutex, "\n"])
+}
+
+/// `i wake tT`: the thread was woken.
+fn write_wake<W: Write>(out: &mut W, event: usize, thread: Tid) -> io::Result<()>
+    ensures { Leaves (W.contents out.old) (W.contents out.new) result (wake_line event thread) }
+{
+    let mut event_digits = Buffer::new();
+    let mut thread_digits = Buffer::new();
+    let event = event_digits.format(event);
+    let thread = thread_digits.format(thread.get());
+    put(out, &[event, " wake t", thread, "\n"])
+}
+
 /// `i return tT REPLY`: the thread's call returned.
 fn write_return<W: Write>(out: &mut W, event: usize, thread: Tid, reply: Reply) -> io::Result<()>
     ensures { Leaves (W.contents out.old) (W.contents out.new) result (return_line event thread reply) }
@@ -95,6 +119,8 @@ pub fn write_fact<W: Write>(out: &mut W, event: usize, fact: Fact) -> io::Result
     match fact {
         Fact::Begin(thread, call) => write_begin(out, event, thread, call),
         Fact::Point(decision) => write_point(out, event, decision),
+        Fact::Sleep(thread, mutex) => write_sleep(out, event, thread, mutex),
+        Fact::Wake(thread) => write_wake(out, event, thread),
         Fact::Return(thread, reply) => write_return(out, event, thread, reply),
     }
 }

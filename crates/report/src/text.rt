@@ -1,11 +1,13 @@
 //! The text of a trace.
 
-ghost use Rattle.std.specs.Prelude.{[], ◌∷◌};
-ghost use Rattle.protocol.specs.Notes.{facts_of, point_facts, refusal_facts, return_facts};
+ghost use Rattle.std.specs.Prelude.{[], ◌∷◌, ◌++◌, map};
+ghost use Rattle.protocol.specs.Notes.{facts_of, point_facts, sleep_facts, refusal_facts, return_facts};
+ghost use Rattle.protocol.specs.declared.note.Fact.TheVariants.{Wake};
 ghost use Rattle.report.specs.Leaves.{Leaves};
 ghost use Rattle.report.specs.Text.{facts_text, notes_text, trace_text};
 
 use crate::lines::{write_end, write_fact, write_head};
+use buckets::Batch;
 use interleave::Trace;
 use keys::Decision;
 use lockword::{Reply, Tid};
@@ -21,6 +23,34 @@ fn write_decided<W: Write>(out: &mut W, event: usize, point: Option<Decision>) -
         Some(decision) => write_fact(out, event, Fact::Point(decision)),
         None => Ok(()),
     }
+}
+
+/// The line of the thread that fell asleep, if it did.
+fn write_slept<W: Write>(
+    out: &mut W,
+    event: usize,
+    thread: Tid,
+    slept: Option<u16>,
+) -> io::Result<()>
+    ensures { Leaves (W.contents out.old) (W.contents out.new) result (facts_text event (sleep_facts thread slept)) }
+{
+    match slept {
+        Some(mutex) => write_fact(out, event, Fact::Sleep(thread, mutex)),
+        None => Ok(()),
+    }
+}
+
+/// The lines of those that were woken, in their order.
+fn write_woken<W: Write>(out: &mut W, event: usize, woken: &Batch) -> io::Result<()>
+    ensures { Leaves (W.contents out.old) (W.contents out.new) result (facts_text event (map Wake woken.now)) }
+{
+    for place in 0..woken.len() {
+        let Some(thread) = woken.get(place) else {
+            unreachable!()
+        };
+        write_fact(out, event, Fact::Wake(thread))?;
+    }
+    Ok(())
 }
 
 /// The line of the thread's return, if it returned.
@@ -61,6 +91,35 @@ fn write_refused<W: Write>(
     write_fact(out, event, Fact::Return(thread, reply))
 }
 
+/// The lines of those that an access woke, and of its thread's return.
+fn write_end_of_step<W: Write>(
+    out: &mut W,
+    event: usize,
+    thread: Tid,
+    woken: &Batch,
+    returned: Option<Reply>,
+) -> io::Result<()>
+    ensures { Leaves (W.contents out.old) (W.contents out.new) result (facts_text event (map Wake woken.now ++ return_facts thread returned)) }
+{
+    write_woken(out, event, woken)?;
+    write_returned(out, event, thread, returned)
+}
+
+/// The lines of what an access did, behind its point.
+fn write_step<W: Write>(
+    out: &mut W,
+    event: usize,
+    thread: Tid,
+    slept: Option<u16>,
+    woken: &Batch,
+    returned: Option<Reply>,
+) -> io::Result<()>
+    ensures { Leaves (W.contents out.old) (W.contents out.new) result (facts_text event (sleep_facts thread slept ++ (map Wake woken.now ++ return_facts thread returned))) }
+{
+    write_slept(out, event, thread, slept)?;
+    write_end_of_step(out, event, thread, woken, returned)
+}
+
 /// The lines of what the event did.
 fn write_note<W: Write>(out: &mut W, event: usize, note: Note) -> io::Result<()>
     ensures { Leaves (W.contents out.old) (W.contents out.new) result (facts_text event (facts_of note)) }
@@ -78,10 +137,12 @@ fn write_note<W: Write>(out: &mut W, event: usize, note: Note) -> io::Result<()>
         Note::Stepped {
             thread,
             point,
+            slept,
+            woken,
             returned,
         } => {
             write_decided(out, event, point)?;
-            write_returned(out, event, thread, returned)
+            write_step(out, event, thread, slept, &woken, returned)
         }
     }
 }

@@ -3,12 +3,18 @@ use Rattle.std.proofs.Common.{Bool, true, false, ◌≡◌, ℕ, Result, Ok, Err
 use Rattle.std.specs.Prelude.{nat_le, MatchBool, if◌then◌else◌}
 use Rattle.lockword.specs.declared.reply.Reply.{Reply}
 use Rattle.lockword.specs.declared.reply.Reply.TheVariants.{XHELD}
+use Rattle.keys.specs.declared.point.Operation.TheVariants as operation
 use Rattle.keys.specs.Layouts.{Layout', cell_place}
 use Rattle.mutex.specs.declared.call.Call.TheVariants as call
-use Rattle.mutex.specs.declared.row.Row.TheVariants.{TryLock, Unlock}
+use Rattle.mutex.specs.declared.row.Row.{Row}
+use Rattle.mutex.specs.declared.row.Row.TheVariants.{Lock, TryLock, Unlock, Consistent, Ended}
 use Rattle.mutex.specs.declared.try_lock.TryLockRow.TheVariants as try
 use Rattle.mutex.specs.declared.unlock.UnlockRow.TheVariants as unlock
-use Rattle.mutex.specs.Programs.{started}
+use Rattle.mutex.specs.declared.consistent.ConsistentRow.TheVariants as consistent
+use Rattle.mutex.specs.Laws.{IsOf}
+use Rattle.mutex.specs.Programs.{started, row_access}
+use Rattle.mutex.specs.Rows.{IsGoing}
+use Rattle.mutex.specs.Steps.{IsStep}
 use Rattle.mutex.specs.Standings.{Standing}
 
 by_test : (b : Bool) (s p : Standing) → (if◌then◌else◌ {A = Result Standing Reply} b (Err XHELD) (Ok s)) ≡ Ok p → (b ≡ false) × (p ≡ s)
@@ -32,6 +38,22 @@ unlock_begins k t h m p e = sym cc
 
 pub unlock_begun : (k : Layout') (t h m : ℕ) (x : Reply) → started k t h (call.Unlock m) ≡ Err x → ⊥
 unlock_begun k t h m x e = cc
+
+-- a declaration
+pub consistent_begins : (k : Layout') (t h m : ℕ) (p : Standing) → started k t h (call.Consistent m) ≡ Ok p → p ≡ record { thread = t; cell = cell_place k m; row = Consistent consistent.Load }
+consistent_begins k t h m p e = sym cc
+
+pub consistent_begun : (k : Layout') (t h m : ℕ) (x : Reply) → started k t h (call.Consistent m) ≡ Err x → ⊥
+consistent_begun k t h m x e = cc
+
+-- each access of a declaration is a step
+pub consistent_steps : (t cell : ℕ) (r : Row) → IsGoing r → IsOf operation.Consistent r → IsStep (row_access t cell r)
+consistent_steps t cell (Lock r) going of = absurd (cc of)
+consistent_steps t cell (TryLock r) going of = absurd (cc of)
+consistent_steps t cell (Unlock r) going of = absurd (cc of)
+consistent_steps t cell (Consistent consistent.Load) going of = tt
+consistent_steps t cell (Consistent consistent.Declare) going of = tt
+consistent_steps t cell (Ended x) going of = absurd going
 
 pub picks_true : (b : Bool) (P Q : Type 0) → b ≡ true → P → MatchBool b P Q
 picks_true true P Q e p = p

@@ -67,9 +67,9 @@ Marked k ws t bs = (m : ℕ) → m < k.mutexes → mark_at bs (cell_place k m) �
 abbrev pub MayKeep : Layout' → ℕ → Card → ℕ → ℕ → List (Option ℕ) → Type 0
 MayKeep k m c v n vs = (p x : ℕ) → value_at vs p ≡ Some x → (value_at c.values p ≡ Some x) × (cell_place k 0 ≤ p → guard k p ≡ m → (fields_of v).owner ≡ c.thread → (fields_of n).owner ≡ c.thread)
 
--- WAITERS stays while the mutex is owned, and so do the bits above the flags
+-- WAITERS stays while the mutex is owned, and the bits above the flags stay clear
 abbrev pub Steady : ℕ → ℕ → Type 0
-Steady v n = ((fields_of v).owner ≢ 0 → (fields_of v).waiters ≡ true → (fields_of n).waiters ≡ true) × ((fields_of n).rest ≡ (fields_of v).rest)
+Steady v n = ((fields_of v).owner ≢ 0 → (fields_of v).waiters ≡ true → (fields_of n).waiters ≡ true) × ((fields_of v).rest ≡ 0 → (fields_of n).rest ≡ 0)
 
 no_cell : (k : Layout') (ws : List ℕ) (m t p : ℕ) → m < k.mutexes → 1 ≤ t → keeper k ws p ≡ t → p ≢ cell_place k m
 no_cell k ws m t p low pos own e = let none = cell_keeper k ws m low in let same = ap (keeper k ws) e in absurd (omega arith)
@@ -172,7 +172,7 @@ kept_step k s h id c m op r n misses last vs is low keep steady run =
           (λ e. (object_of (fields_of n), subst (λ (z : ℕ). Leaves k.threads z (at (put js p xs) z) (object_of (fields_of n))) (sym e) (subst (λ l. Leaves k.threads p l (object_of (fields_of n))) (sym (at_put js p xs)) now)))
           (λ other. let was = h.legal q in (was.0, subst (λ l. Leaves k.threads q l was.0) (sym (at_put_else js p q xs other)) was.1));
       narrow = λ l lower. dite (ℕ_discrete l m)
-          (λ e. ap (λ (z : ℕ). (fields_of (get_or ws' (cell_place k z) 0)).rest) e ∙ ap (λ (v : ℕ). (fields_of v).rest) (get_or-set_same s.words p n 0 within) ∙ steady.1 ∙ h.narrow m low)
+          (λ e. ap (λ (z : ℕ). (fields_of (get_or ws' (cell_place k z) 0)).rest) e ∙ ap (λ (v : ℕ). (fields_of v).rest) (get_or-set_same s.words p n 0 within) ∙ steady.1 (h.narrow m low))
           (λ other. ap (λ (v : ℕ). (fields_of v).rest) (get_or-set_other s.words p (cell_place k l) n 0 (other_cell k m l other)) ∙ h.narrow l lower);
       counters = λ q lower. subst (λ (z : ℕ). z < 4294967296) (sym (get_or-set_other s.words p (counter_place k q) n 0 (counter_no_cell k q m low))) (h.counters q lower);
       fits = λ j v e. ⊎_elim

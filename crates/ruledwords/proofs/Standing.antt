@@ -1,5 +1,5 @@
 -- A call, access by access.
-use Rattle.std.proofs.Common.{Bool, true, false, ◌≡◌, ℕ, ◌+◌, ◌<◌, ◌≤◌, ◌==◌, Option, Some, None, List, [], ◌∷◌, ◌++◌, refl, sym, ap, ◌∙◌, subst, arith, append-nil, append_assoc}
+use Rattle.std.proofs.Common.{Bool, true, false, ◌≡◌, ◌≢◌, ℕ, ◌+◌, ◌<◌, ◌≤◌, ◌==◌, Option, Some, None, List, [], ◌∷◌, ◌++◌, refl, sym, ap, ◌∙◌, subst, arith, append-nil, append_assoc}
 use Rattle.std.specs.Prelude.{if◌then◌else◌}
 use Rattle.lockword.specs.Cells.{fields_of}
 use Rattle.lockword.specs.declared.reply.Reply.{Reply}
@@ -114,9 +114,9 @@ pub tells_after : (op : Operation) (p : Standing) (c d : Card) (n : ℕ) → IsG
 tells_after op p c d n going step ready of m =
     subst (λ (z : Operation × ℕ). Tells z.0 (led_at p n).row (fields_of z.1)) (λ i. (of_going op p.row going of i, sym m.last i)) (made_minds p c d n going step ready m).tells
 
--- fewer steps are left
-pub less_left : (p : Standing) (c d : Card) (n : ℕ) → IsGoing p.row → IsStep (access_of p) → Ready p c → Made p c n d → rank (led_at p n).row < rank p.row
-less_left p c d n going step ready m = (made_minds p c d n going step ready m).falls
+-- of a call that is no lock, fewer steps are left
+pub less_left : (op : Operation) (p : Standing) (c d : Card) (n : ℕ) → op ≢ Lock → IsGoing p.row → IsStep (access_of p) → Ready p c → IsOf op p.row → Made p c n d → rank (led_at p n).row < rank p.row
+less_left op p c d n other going step ready of m = (made_minds p c d n going step ready m).falls (λ lock. other (sym (of_going op p.row going of) ∙ lock))
 
 -- ---- how many mutexes are held
 

@@ -71,7 +71,7 @@ pub makes : (k : Layout') (slots id : ℕ) (c : Card) (m : ℕ) → m < k.mutexe
 makes k slots id c m low p a is there going step ready st =
     allows k slots id c m (row_operation p.row) (changed a) (λ n. (led_at p n).point) (λ n. c.misses + fails (access_of p) n) (λ n. n) (λ n. values_after k m c (changed a n)) (made p st (c ∷ [], [])) low
     (λ n known. may_keep k m c n (changed a n) _ refl)
-    (λ n known. (λ owned on. subst (λ (z : Access). (fields_of (changed z n)).waiters ≡ true) is ((mind n known).waiters on), subst (λ (z : Access). (fields_of (changed z n)).rest ≡ (fields_of n).rest) is (mind n known).rest))
+    (λ n known. (λ owned on. subst (λ (z : Access). (fields_of (changed z n)).waiters ≡ true) is ((mind n known).waiters on), λ none. subst (λ (z : Access). (fields_of (changed z n)).rest ≡ 0) is ((mind n known).rest none)))
     (λ n known. subst (λ (z : ℕ × Access). Run (object_of (fields_of n)) (told c.thread z.0 (row_operation p.row) (led_at p n).point) (object_of (fields_of (changed z.1 n)))) (λ i. (there i, is i)) (rights n known).runs)
     (λ n d known sees misses last mark. turns c d (λ c d. Made p c n d) record {
       sees = subst (λ (z : ℕ × Access). Sees c z.0 (told c.thread z.0 (row_operation p.row) (led_at p n).point) (object_of (fields_of (changed z.1 n))) d) (λ i. (sym there i, sym is i)) sees;

@@ -2,7 +2,7 @@
 use Rattle.std.specs.Prelude.{◌≡◌, ℕ, ◌+◌, ◌≤◌, nat_le, MatchBool, Result, Ok, Err, if◌then◌else◌}
 use Rattle.lockword.specs.Cells.{fields_of}
 use Rattle.lockword.specs.declared.reply.Reply.TheVariants.{OK, EPERM, XRACED, XHELD}
-use Rattle.keys.specs.declared.point.Operation.TheVariants.{TryLock, Unlock}
+use Rattle.keys.specs.declared.point.Operation.TheVariants.{TryLock, Unlock, Consistent}
 use Rattle.keys.specs.Layouts.{cell_place}
 use Rattle.ruledwords.specs.declared.pass.Words.{Words}
 use Rattle.ruledwords.specs.declared.pass.Pass.{Pass}
@@ -25,6 +25,11 @@ Tried w m a (outcome.Lives b r) =
     × MatchBool (nat_le 2048 (held (card a))) ((r ≡ XHELD) × (card b ≡ card a))
     (Called (card a) (cell_place (layout_of w) m) TryLock r (card b) × (r ≡ XRACED → (card a).misses + 4 ≤ (card b).misses))
 Tried w m a (outcome.Dead b) = ⊥
+
+-- a declaration that mutex m is consistent: the reply is that of its point. So it is OK, EINVAL or EPERM, as the thread owned the mutex and found it inconsistent, owned it, or didn't own it
+abbrev pub Declared : Words → ℕ → Pass Live → Outcome → Type 0
+Declared w m a (outcome.Lives b r) = IsPassOf w b × Called (card a) (cell_place (layout_of w) m) Consistent r (card b)
+Declared w m a (outcome.Dead b) = ⊥
 
 -- whom a release has to wake that found this word: nobody where nobody waits, else all of a mutex that became unusable, else one
 abbrev pub wakes_of : ℕ → Wakes

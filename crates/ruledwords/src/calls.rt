@@ -1,6 +1,6 @@
 //! The calls on mutexes, which wait for nobody.
 ghost use Rattle.std.specs.Prelude.{◌≡◌, ◌<◌};
-ghost use Rattle.ruledwords.specs.Outcomes.{Tried, Frees};
+ghost use Rattle.ruledwords.specs.Outcomes.{Tried, Frees, Declared};
 ghost use Rattle.ruledwords.specs.Passes.{layout_of, IsPassOf};
 
 use crate::fate::Fate;
@@ -32,6 +32,27 @@ impl Words {
             match running.access(self) {
                 Turn::Goes(next) => running = next,
                 Turn::Lives(pass, reply) => return Outcome::Lives(pass, reply),
+            }
+        }
+    }
+
+    /// Declares that what a mutex guards is consistent again (pthread_mutex_consistent). The reply is OK to the owner of an inconsistent mutex, one that it took with
+    /// EOWNERDEAD and hasn't declared consistent since; EINVAL to the owner of any other; EPERM where the thread doesn't own the mutex. Where it isn't OK, the mutex stays as
+    /// it is. The fate isn't asked yet, and is left as it was.
+    pub fn consistent<F: Fate>(&self, pass: Pass<Live>, mutex: u16, fate: &mut F) -> Outcome
+        requires pass { IsPassOf self.now pass }
+        requires mutex { mutex < (layout_of self.now).mutexes }
+        ensures declared { Declared self.now mutex pass result }
+        ensures fate { fate.new ≡ fate.old }
+    {
+        let mut running = match Running::call(self, pass, Call::Consistent(mutex)) {
+            Ok(running) => running,
+            Err((pass, reply)) => return Outcome::Lives(pass, reply),
+        };
+        loop {
+            match running.access(self) {
+                Turn::Goes(next) => running = next,
+                Turn::Lives(after, reply) => return Outcome::Lives(after, reply),
             }
         }
     }

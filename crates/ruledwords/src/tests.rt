@@ -36,6 +36,17 @@ fn unlock(words: &Words, pass: Pass<Live>, mutex: u16) -> (Pass<Live>, Reply)
     }
 }
 
+fn consistent(words: &Words, pass: Pass<Live>, mutex: u16) -> (Pass<Live>, Reply)
+    requires pass { IsPassOf words.now pass }
+    requires mutex { mutex < (layout_of words.now).mutexes }
+    ensures { IsPassOf words.now result.0 }
+{
+    match words.consistent(pass, mutex, &mut Never) {
+        Outcome::Lives(pass, reply) => (pass, reply),
+        Outcome::Dead(_) => unreachable!(),
+    }
+}
+
 /// The rounds that were won, and the pass.
 fn rounds(words: &Words, first: Pass<Live>) -> (u32, Pass<Live>)
     requires pass { IsPassOf words.now first }
@@ -101,6 +112,26 @@ fn replies_to_two_passes(rt: HostRuntime) -> Result<(), Fail> {
     let last = words.close(second);
     assert!(rt; last.cell(0) == 0 && last.cell(1) == 2);
     assert!(rt; last.counter(0) == 7 && last.counter(1) == 4_294_967_295);
+    Ok(())
+}
+
+/// An owner's death, which would make a mutex inconsistent, isn't among what threads do yet.
+#[test]
+fn consistent_of_consistent_mutexes(rt: HostRuntime) -> Result<(), Fail> {
+    let layout = Layout::new(2, 2, &[])?;
+    let (words, mut passes) = Words::new(rt.alloc(), layout, &[])?;
+    let second = passes.pop().unwrap();
+    let first = passes.pop().unwrap();
+    let (first, nobodys) = consistent(&words, first, 1);
+    let (first, _taken) = try_lock(&words, first, 1);
+    let (first, own) = consistent(&words, first, 1);
+    let (second, anothers) = consistent(&words, second, 1);
+    let (first, freed) = unlock(&words, first, 1);
+    assert!(rt; nobodys == Reply::EPERM && own == Reply::EINVAL && anothers == Reply::EPERM);
+    assert!(rt; freed == Reply::OK);
+    let (_first, second) = words.meet(first, second);
+    let last = words.close(second);
+    assert!(rt; last.cell(1) == 0);
     Ok(())
 }
 

@@ -7,7 +7,7 @@ use Rattle.std.proofs.lemmas.Bool.{leb-true}
 use Rattle.std.proofs.lemmas.Bool.Decides.{nat_tests}
 use Rattle.std.proofs.lemmas.List.Elements.{All-nil, All-push}
 use Rattle.std.proofs.lemmas.List.Quantifiers.{position-Some}
-use Rattle.mutex.specs.Calls.{mutex_of}
+use Rattle.mutex.specs.Calls.{mutex_of, NeverWaits}
 use Rattle.mutex.specs.declared.call.Call.{Call}
 use Rattle.mutex.specs.declared.call.Call.TheVariants as call
 use Rattle.script.specs.Forms.{CallForm, trylock, unlock, Form, silent, thread, mutex, begins, steps, calls, phase, form_of, of_mode, has, words_form, call_form, calling_form, is_silent, is_name, is_number, within, words_of}
@@ -49,9 +49,9 @@ unused P (x ∷ xs) h = absurd (grind (arith, nat_tests))
 threaded : (s : Scope) (t : List ℕ) → IfOk (thread_of s t) (λ i. (1 ≤ i) × (i ≤ length s.threads))
 threaded s t = chain (place_of t s.threads) (λ i. Ok (i + 1)) (λ i. i < length s.threads) (λ i. (1 ≤ i) × (i ≤ length s.threads)) (placed t s.threads) (λ i h. (omega arith, omega arith))
 
-called : (s : Scope) (c : CallForm) → IfOk (call_of s c) (λ k. mutex_of k < length s.mutexes)
-called s (trylock m) = chain (place_of m s.mutexes) (λ j. Ok (call.TryLock j)) (λ j. j < length s.mutexes) (λ k. mutex_of k < length s.mutexes) (placed m s.mutexes) (λ j h. h)
-called s (unlock m) = chain (place_of m s.mutexes) (λ j. Ok (call.Unlock j)) (λ j. j < length s.mutexes) (λ k. mutex_of k < length s.mutexes) (placed m s.mutexes) (λ j h. h)
+called : (s : Scope) (c : CallForm) → IfOk (call_of s c) (λ k. (mutex_of k < length s.mutexes) × NeverWaits k)
+called s (trylock m) = chain (place_of m s.mutexes) (λ j. Ok (call.TryLock j)) (λ j. j < length s.mutexes) (λ k. (mutex_of k < length s.mutexes) × NeverWaits k) (placed m s.mutexes) (λ j h. (h, tt))
+called s (unlock m) = chain (place_of m s.mutexes) (λ j. Ok (call.Unlock j)) (λ j. j < length s.mutexes) (λ k. (mutex_of k < length s.mutexes) × NeverWaits k) (placed m s.mutexes) (λ j h. (h, tt))
 
 -- a possible action more
 appended : (n : ℕ) (s : Scope) (a : Action) → IsWithinLimits s → IsPossible (length s.threads) (length s.mutexes) a → IsWithinLimits (with_action n s a)
@@ -73,10 +73,10 @@ IsCounted phase = Unit {0}
 
 -- a command more: its parts were looked up among what the script has
 calling : (n : ℕ) (s : Scope) (t : List ℕ) (c : CallForm) (make : ℕ → Call → Action) → IsWithinLimits s
-    → ((i : ℕ) (k : Call) → 1 ≤ i → i ≤ length s.threads → mutex_of k < length s.mutexes → IsPossible (length s.threads) (length s.mutexes) (make i k))
+    → ((i : ℕ) (k : Call) → 1 ≤ i → i ≤ length s.threads → (mutex_of k < length s.mutexes) × NeverWaits k → IsPossible (length s.threads) (length s.mutexes) (make i k))
     → IfOk (thread_of s t >>= λ i. call_of s c >>= λ k. Ok (with_action n s (make i k))) IsWithinLimits
 calling n s t c make h possible = chain (thread_of s t) (λ i. call_of s c >>= λ k. Ok (with_action n s (make i k))) (λ i. (1 ≤ i) × (i ≤ length s.threads)) IsWithinLimits (threaded s t)
-    (λ i low. chain (call_of s c) (λ k. Ok (with_action n s (make i k))) (λ k. mutex_of k < length s.mutexes) IsWithinLimits (called s c)
+    (λ i low. chain (call_of s c) (λ k. Ok (with_action n s (make i k))) (λ k. (mutex_of k < length s.mutexes) × NeverWaits k) IsWithinLimits (called s c)
     (λ k few. appended n s (make i k) h (possible i k low.0 low.1 few)))
 
 stepping : (n : ℕ) (s : Scope) (t : List ℕ) (count : Option ℕ) → IsWithinLimits s → IfSome count (λ k. (1 ≤ k) × (k ≤ MAX_STEPS))
@@ -117,9 +117,9 @@ entered : (n : ℕ) (s : Scope) (f : Form) → IsWithinLimits s → IsCounted f 
 entered n s silent h k = h
 entered n s (thread w) h k = declaring_thread s w h
 entered n s (mutex w) h k = declaring_mutex s w h
-entered n s (begins t c) h k = calling n s t c (λ i x. action.Begin i x) h (λ i x low high few. (low, high, few))
+entered n s (begins t c) h k = calling n s t c (λ i x. action.Begin i x) h (λ i x low high few. (low, high, few.0, few.1))
 entered n s (steps t count) h k = stepping n s t count h k
-entered n s (calls t c) h k = calling n s t c (λ i x. action.Call i x) h (λ i x low high few. (low, high, few))
+entered n s (calls t c) h k = calling n s t c (λ i x. action.Call i x) h (λ i x low high few. (low, high, few.0, few.1))
 entered n s phase h k = appended n s action.Phase h tt
 
 -- each form's count is in its range

@@ -7,13 +7,13 @@ use Rattle.std.proofs.lemmas.List.{replicate_more, replicate-append-replicate, t
 use Rattle.protocol.specs.declared.event.Event.{Event}
 use Rattle.protocol.specs.declared.event.Event.TheVariants as event
 use Rattle.protocol.specs.declared.note.Note.{Note}
-use Rattle.protocol.specs.Machine.{State, happens, run, notes, is_busy}
+use Rattle.protocol.specs.Machine.{State, happens, run, notes}
 use Rattle.script.specs.declared.command.Command.{Command}
 use Rattle.script.specs.declared.fault.Fault.{Fault}
 use Rattle.script.specs.declared.fault.Fault.TheVariants.{NotUtf8, UnknownWord, OutOfRange, NoSuchName, TooLong, OutOfMemory}
 use Rattle.script.specs.declared.limits.TheConstants.{MAX_EVENTS, REST_STEPS}
 use Rattle.script.specs.Scope.{Scope}
-use Rattle.script.specs.Playing.{Adds, steps_to_rest, first_state, events_of, events_from, overlong_from}
+use Rattle.script.specs.Playing.{Adds, is_going, steps_to_rest, first_state, events_of, events_from, overlong_from}
 use Rattle.script.specs.Played.{RunsAt, Refuses}
 
 run-append : (s : State) (xs ys : List Event) → run s (xs ++ ys) ≡ run (run s xs) ys
@@ -69,12 +69,12 @@ steps_fail s s' s'' ns ns' ns'' n k e f lt a b =
     subst (λ (es : List Event). Adds s s'' ns ns'' es (Err f)) (replicate-split n k e lt)
     (adds_fewer s s'' s'' ns ns'' ns'' (replicate k e ++ e ∷ []) (replicate (n - (k + 1)) e) f (then_adds s s' s'' ns ns' ns'' (replicate k e) (e ∷ []) (Err f) a b))
 
-rest_now : (most : ℕ) (s : State) (t : ℕ) → is_busy s t ≡ false → steps_to_rest most s t ≡ 0
+rest_now : (most : ℕ) (s : State) (t : ℕ) → is_going s t ≡ false → steps_to_rest most s t ≡ 0
 unfolding steps_to_rest
 rest_now zero s t rests = refl
 rest_now (suc most) s t rests = ap (λ (b : Bool). if b then suc (steps_to_rest most (happens s (event.Step t)).state t) else 0) rests
 
-rest_later : (most : ℕ) (s : State) (t : ℕ) → 0 < most → is_busy s t ≡ true → steps_to_rest most s t ≡ suc (steps_to_rest (most - 1) (happens s (event.Step t)).state t)
+rest_later : (most : ℕ) (s : State) (t : ℕ) → 0 < most → is_going s t ≡ true → steps_to_rest most s t ≡ suc (steps_to_rest (most - 1) (happens s (event.Step t)).state t)
 unfolding steps_to_rest
 rest_later zero s t some busy = absurd (omega arith)
 rest_later (suc most) s t some busy =
@@ -90,7 +90,7 @@ pub record IsOnTheWay (s s' : State) (ns ns' : List Note) (t k : ℕ) : Type 0 w
   pub so_far : Adds s s' ns ns' (replicate k (event.Step t)) (Ok tt)
   pub left : steps_to_rest REST_STEPS s t ≡ k + steps_to_rest (REST_STEPS - k) s' t
 
-pub rests : (s s' : State) (ns ns' : List Note) (t k : ℕ) → IsOnTheWay s s' ns ns' t k → is_busy s' t ≡ false → Adds s s' ns ns' (replicate (steps_to_rest REST_STEPS s t) (event.Step t)) (Ok tt)
+pub rests : (s s' : State) (ns ns' : List Note) (t k : ℕ) → IsOnTheWay s s' ns ns' t k → is_going s' t ≡ false → Adds s s' ns ns' (replicate (steps_to_rest REST_STEPS s t) (event.Step t)) (Ok tt)
 rests s s' ns ns' t k h resting =
     let none = rest_now (REST_STEPS - k) s' t resting in
     let all : k ≡ steps_to_rest REST_STEPS s t = let left = h.left in omega arith in
@@ -103,20 +103,20 @@ rests_late s s' ns ns' t k h late =
     let all : k ≡ steps_to_rest REST_STEPS s t = let left = h.left in omega arith in
     subst (λ (j : ℕ). Adds s s' ns ns' (replicate j (event.Step t)) (Ok tt)) all h.so_far
 
-left_after : (s s' s'' : State) (ns ns' ns'' : List Note) (t k : ℕ) → IsOnTheWay s s' ns ns' t k → k < REST_STEPS → is_busy s' t ≡ true → steps_to_rest REST_STEPS s t ≡ (k + 1) + steps_to_rest (REST_STEPS - (k + 1)) (happens s' (event.Step t)).state t
+left_after : (s s' s'' : State) (ns ns' ns'' : List Note) (t k : ℕ) → IsOnTheWay s s' ns ns' t k → k < REST_STEPS → is_going s' t ≡ true → steps_to_rest REST_STEPS s t ≡ (k + 1) + steps_to_rest (REST_STEPS - (k + 1)) (happens s' (event.Step t)).state t
 left_after s s' s'' ns ns' ns'' t k h lt busy =
     let later = rest_later (REST_STEPS - k) s' t (omega arith) busy in
     let less : REST_STEPS - k - 1 ≡ REST_STEPS - (k + 1) = omega arith in
     let same : steps_to_rest (REST_STEPS - k - 1) (happens s' (event.Step t)).state t ≡ steps_to_rest (REST_STEPS - (k + 1)) (happens s' (event.Step t)).state t = ap (λ (j : ℕ). steps_to_rest j (happens s' (event.Step t)).state t) less in
     let left = h.left in omega arith
 
-pub rest_more : (s s' s'' : State) (ns ns' ns'' : List Note) (t k : ℕ) → IsOnTheWay s s' ns ns' t k → k < REST_STEPS → is_busy s' t ≡ true → Adds s' s'' ns' ns'' (event.Step t ∷ []) (Ok tt) → IsOnTheWay s s'' ns ns'' t (k + 1)
+pub rest_more : (s s' s'' : State) (ns ns' ns'' : List Note) (t k : ℕ) → IsOnTheWay s s' ns ns' t k → k < REST_STEPS → is_going s' t ≡ true → Adds s' s'' ns' ns'' (event.Step t ∷ []) (Ok tt) → IsOnTheWay s s'' ns ns'' t (k + 1)
 rest_more s s' s'' ns ns' ns'' t k h lt busy b = record {
   so_far = steps_more s s' s'' ns ns' ns'' k (event.Step t) h.so_far b;
   left = left_after s s' s'' ns ns' ns'' t k h lt busy ∙ ap (λ (z : State). (k + 1) + steps_to_rest (REST_STEPS - (k + 1)) z t) (sym b.0);
 }
 
-pub rest_fails : (s s' s'' : State) (ns ns' ns'' : List Note) (t k : ℕ) (f : Fault) → IsOnTheWay s s' ns ns' t k → k < REST_STEPS → is_busy s' t ≡ true → Adds s' s'' ns' ns'' (event.Step t ∷ []) (Err f) → Adds s s'' ns ns'' (replicate (steps_to_rest REST_STEPS s t) (event.Step t)) (Err f)
+pub rest_fails : (s s' s'' : State) (ns ns' ns'' : List Note) (t k : ℕ) (f : Fault) → IsOnTheWay s s' ns ns' t k → k < REST_STEPS → is_going s' t ≡ true → Adds s' s'' ns' ns'' (event.Step t ∷ []) (Err f) → Adds s s'' ns ns'' (replicate (steps_to_rest REST_STEPS s t) (event.Step t)) (Err f)
 rest_fails s s' s'' ns ns' ns'' t k f h lt busy b =
     let left = left_after s s' s'' ns ns' ns'' t k h lt busy in
     steps_fail s s' s'' ns ns' ns'' (steps_to_rest REST_STEPS s t) k (event.Step t) f (omega arith) h.so_far b

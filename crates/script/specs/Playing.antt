@@ -1,10 +1,10 @@
 -- The events that a script stands for, and what it means to play them.
-use Rattle.std.specs.Prelude.{ℕ, zero, suc, ◌≡◌, ◌+◌, ◌<◌, ◌≤◌, nat_lt, List, [], ◌∷◌, ◌++◌, length, replicate, Option, Some, None, Result, Ok, Err, if◌then◌else◌}
+use Rattle.std.specs.Prelude.{ℕ, zero, suc, Bool, not, ◌&&◌, ◌≡◌, ◌+◌, ◌<◌, ◌≤◌, nat_lt, List, [], ◌∷◌, ◌++◌, length, replicate, Option, Some, None, Result, Ok, Err, if◌then◌else◌}
 use Rattle.keys.specs.Layouts.{Layout'}
 use Rattle.protocol.specs.declared.event.Event.{Event}
 use Rattle.protocol.specs.declared.event.Event.TheVariants as event
 use Rattle.protocol.specs.declared.note.Note.{Note}
-use Rattle.protocol.specs.Machine.{State, start, happens, run, notes, is_busy}
+use Rattle.protocol.specs.Machine.{State, start, happens, run, notes, is_busy, is_asleep}
 use Rattle.script.specs.declared.command.Action.{Action}
 use Rattle.script.specs.declared.command.Action.TheVariants.{Begin, Step, Call, Phase}
 use Rattle.script.specs.declared.command.Command.{Command}
@@ -20,10 +20,14 @@ layout_of s = record { threads = length s.threads; mutexes = length s.mutexes; c
 abbrev pub first_state : Scope → State
 first_state s = start (layout_of s) (λ c. 0)
 
--- the least number of its own steps after which thread t is in no call, looked for among at most so many
+-- thread t is in a call and doesn't sleep
+abbrev pub is_going : State → ℕ → Bool
+is_going s t = is_busy s t && not (is_asleep s t)
+
+-- the least number of its own steps after which thread t is in no call or sleeps, looked for among at most so many
 unfoldable pub steps_to_rest : ℕ → State → ℕ → ℕ
 steps_to_rest zero s t = 0
-steps_to_rest (suc most) s t = if is_busy s t then suc (steps_to_rest most (happens s (event.Step t)).state t) else 0
+steps_to_rest (suc most) s t = if is_going s t then suc (steps_to_rest most (happens s (event.Step t)).state t) else 0
 
 -- the events of an action at a state of the machine: a call is begun and then stepped until its thread rests;
 -- the end of a phase of real threads is no event

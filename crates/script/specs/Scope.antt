@@ -1,6 +1,6 @@
 -- A script as callers see it: its names and its commands.
 use Rattle.std.specs.Prelude.{ℕ, ◌≤◌, ◌<◌, List, length, All}
-use Rattle.mutex.specs.Calls.{mutex_of}
+use Rattle.mutex.specs.Calls.{mutex_of, NeverWaits}
 use Rattle.script.specs.declared.command.Action.{Action}
 use Rattle.script.specs.declared.command.Action.TheVariants.{Begin, Step, Call, Phase}
 use Rattle.script.specs.declared.command.Command.{Command}
@@ -12,12 +12,12 @@ pub record Scope : Type 0 where
   pub mutexes : List (List ℕ)
   pub commands : List Command
 
--- an action of a script with this many threads and mutexes: its numbers are of the script's, and it takes
--- from one step to as many as may be
+-- an action of a script with this many threads and mutexes: its numbers are of the script's, its call waits for
+-- nobody, and it takes from one step to as many as may be
 abbrev pub IsPossible : ℕ → ℕ → Action → Type 0
-IsPossible threads mutexes (Begin t c) = (1 ≤ t) × (t ≤ threads) × (mutex_of c < mutexes)
+IsPossible threads mutexes (Begin t c) = (1 ≤ t) × (t ≤ threads) × (mutex_of c < mutexes) × NeverWaits c
 IsPossible threads mutexes (Step t n) = (1 ≤ t) × (t ≤ threads) × (1 ≤ n) × (n ≤ MAX_STEPS)
-IsPossible threads mutexes (Call t c) = (1 ≤ t) × (t ≤ threads) × (mutex_of c < mutexes)
+IsPossible threads mutexes (Call t c) = (1 ≤ t) × (t ≤ threads) × (mutex_of c < mutexes) × NeverWaits c
 IsPossible threads mutexes Phase = Unit {0}
 
 -- what the lines so far can have made: no more names than may be, and possible commands

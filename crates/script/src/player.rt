@@ -2,7 +2,7 @@
 ghost use Rattle.std.specs.Prelude.{◌≡◌, ◌≤◌, [], ◌∷◌, ◌++◌, length, replicate, OnOk, IfErr};
 ghost use Rattle.protocol.specs.declared.event.Event.TheVariants.{Step};
 ghost use Rattle.interleave.specs.Shown.{state_of};
-ghost use Rattle.script.specs.Playing.{Adds, events_of, steps_to_rest};
+ghost use Rattle.script.specs.Playing.{Adds, events_of, is_going, steps_to_rest};
 ghost use Rattle.script.specs.Played.{PlaysTo};
 
 use crate::command::Action;
@@ -51,13 +51,20 @@ fn play_steps(
     Ok(())
 }
 
-/// Steps of a thread until it is in no call.
+/// Whether the thread is in a call and doesn't sleep.
+fn is_going(machine: &Machine, thread: Tid) -> bool
+    ensures { result ≡ is_going (state_of machine.now) thread }
+{
+    machine.busy(thread) && !machine.asleep(thread)
+}
+
+/// Steps of a thread until it is in no call, or sleeps.
 fn play_to_rest(machine: &mut Machine, notes: &mut Vec<Note>, thread: Tid) -> Result<(), Fault>
     requires { length notes.old.items ≤ MAX_EVENTS }
     ensures { Adds (state_of machine.old) (state_of machine.new) notes.old.items notes.new.items (replicate (steps_to_rest REST_STEPS (state_of machine.old) thread) (Step thread)) result }
 {
     for _done in 0..REST_STEPS {
-        if !machine.busy(thread) {
+        if !is_going(machine, thread) {
             return Ok(());
         }
         play_event(machine, notes, Event::Step(thread))?;

@@ -51,7 +51,8 @@ impl Bench {
     }
 
     /// Runs one worker for each job, all at once, each in a thread of its own where one can be made, and joins them: each makes its job's calls in their order. A record has the replies,
-    /// and the pass after them; records are in the order of their jobs. Where memory is refused no call was made, and the jobs are dropped.
+    /// and the pass after them; records are in the order of their jobs. Where memory is refused no call was made, and the jobs are dropped. A job has the calls that wait for nobody:
+    /// trylocks, unlocks and declarations that a mutex is consistent. A lock would need a sleep, which a bench doesn't have yet.
     pub fn work<R: Threads + Sync>(
         &self,
         rt: &R,

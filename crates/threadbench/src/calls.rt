@@ -1,7 +1,7 @@
 //! The calls of a job, one after the other.
 ghost use Rattle.std.specs.Prelude.{◌≡◌, ◌<◌, ◌≤◌, [], All, length, vec_capacity};
 ghost use Rattle.keys.specs.Layouts.{cell_place};
-ghost use Rattle.mutex.specs.Calls.{mutex_of};
+ghost use Rattle.mutex.specs.Calls.{mutex_of, NeverWaits};
 ghost use Rattle.keys.specs.declared.point.Operation.TheVariants as operation;
 ghost use Rattle.ruledwords.specs.Outcomes.{owed_pass};
 ghost use Rattle.ruledwords.specs.Passes.{card, layout_of, IsPassOf};
@@ -39,18 +39,33 @@ fn unlock(words: &Words, pass: Pass<Live>, mutex: u16) -> (Pass<Live>, Reply)
     }
 }
 
+fn consistent(words: &Words, pass: Pass<Live>, mutex: u16) -> (Pass<Live>, Reply)
+    requires pass { IsPassOf words.now pass }
+    requires mutex { mutex < (layout_of words.now).mutexes }
+    ensures pass { IsPassOf words.now result.0 }
+    ensures called { Called (card pass) (cell_place (layout_of words.now) mutex) operation.Consistent result.1 (card result.0) }
+{
+    match words.consistent(pass, mutex, &mut Never) {
+        Outcome::Lives(after, reply) => (after, reply),
+        Outcome::Dead(_) => unreachable!(),
+    }
+}
+
 fn answer(words: &Words, pass: Pass<Live>, call: Call) -> (Pass<Live>, Reply)
     requires pass { IsPassOf words.now pass }
     requires mutex { mutex_of call < (layout_of words.now).mutexes }
+    requires waits { NeverWaits call }
     ensures pass { IsPassOf words.now result.0 }
     ensures replied { Replied words.now pass call result.1 result.0 }
 {
     match call {
+        Call::Lock(_) => unreachable!(),
         Call::TryLock(mutex) => match words.try_lock(pass, mutex, &mut Never) {
             Outcome::Lives(pass, reply) => (pass, reply),
             Outcome::Dead(_) => unreachable!(),
         },
         Call::Unlock(mutex) => unlock(words, pass, mutex),
+        Call::Consistent(mutex) => consistent(words, pass, mutex),
     }
 }
 

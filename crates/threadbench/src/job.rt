@@ -9,7 +9,7 @@ use ruledwords::{Live, Pass};
 pub struct Job {
     /// A pass of the bench's words.
     pub pass: Pass<Live>,
-    /// On mutexes of the bench's layout.
+    /// On mutexes of the bench's layout. None of them may wait for another thread, so none is a lock: a bench has no sleep yet.
     pub calls: Vec<Call>,
 }
 

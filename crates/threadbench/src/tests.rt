@@ -1,6 +1,6 @@
 //! Threads at the mutexes of one bench, phase by phase.
 ghost use Rattle.std.specs.Prelude.{◌≡◌, ◌<◌, [], All, IfOk};
-ghost use Rattle.mutex.specs.Calls.{mutex_of};
+ghost use Rattle.mutex.specs.Calls.{mutex_of, NeverWaits};
 ghost use Rattle.ruledwords.specs.Passes.{layout_of, IsPassOf};
 ghost use Rattle.threadbench.specs.Jobs.{IsJobOf, IsDone};
 
@@ -15,7 +15,7 @@ use std::thread::Threads;
 
 fn job(alloc: Global, bench: &Bench, pass: Pass<Live>, calls: &[Call]) -> Result<Job, NoMem>
     requires pass { IsPassOf bench.now pass }
-    requires calls { All (λ c. mutex_of c < (layout_of bench.now).mutexes) calls.now }
+    requires calls { All (λ c. (mutex_of c < (layout_of bench.now).mutexes) × NeverWaits c) calls.now }
     ensures { IfOk result (λ j. IsJobOf bench.now j) }
 {
     match calls.to_vec(alloc) {
@@ -88,6 +88,23 @@ fn phases_follow_each_other(rt: HostRuntime) -> Result<(), Fail> {
     let last = bench.close(first);
     assert_eq!(rt; last.cell(0), 2);
     assert_eq!(rt; last.cell(1), 2);
+    Ok(())
+}
+
+/// Nobody's mutex was inherited from a dead owner, so neither thread has one to declare consistent.
+#[test]
+fn nothing_is_to_be_declared_consistent(rt: HostRuntime) -> Result<(), Fail> {
+    let alloc = rt.alloc();
+    let (bench, mut passes) = Bench::new(alloc, Layout::new(2, 2, &[])?, &[])?;
+    let second = passes.pop().unwrap();
+    let first = passes.pop().unwrap();
+    let own = [Call::TryLock(0), Call::Consistent(0), Call::Unlock(0)];
+    let first = job(alloc, &bench, first, &own)?;
+    let second = job(alloc, &bench, second, &[Call::Consistent(0)])?;
+    let (first, second) = phase(&rt, alloc, &bench, first, second)?;
+    assert!(rt; first.replies.as_slice() == [Reply::OK, Reply::EINVAL, Reply::OK].as_slice());
+    assert!(rt; has_replied(&second, Reply::EPERM));
+    assert_eq!(rt; bench.close(first.pass).cell(0), 0);
     Ok(())
 }
 

@@ -5,7 +5,7 @@ use Rattle.interleave.specs.Shown.{state_at}
 use Rattle.interleave.proofs.threads.apply.Goals as goal
 
 pub returns-in-Begin-clause-state : goal.returns-in-Begin-clause-state
-returns-in-Begin-clause-state c = c.begin.ensures.state c.args.words.now.items ∙ ap (λ (e : Event). (happens (state_at c.args.layout.now c.args.words.now.items c.args.threads.now.items) e).state) (sym c.in-Begin.is)
+returns-in-Begin-clause-state c = c.begin.ensures.state c.args.memory.now c.args.kernel.now ∙ ap (λ (e : Event). (happens (state_at c.args.layout.now c.args.memory.now c.args.kernel.now c.args.threads.now.items) e).state) (sym c.in-Begin.is)
 
 pub returns-in-Begin-clause-note : goal.returns-in-Begin-clause-note
-returns-in-Begin-clause-note c = c.begin.ensures.note c.args.words.now.items ∙ ap (λ (e : Event). (happens (state_at c.args.layout.now c.args.words.now.items c.args.threads.now.items) e).note) (sym c.in-Begin.is)
+returns-in-Begin-clause-note c = c.begin.ensures.note c.args.memory.now c.args.kernel.now ∙ ap (λ (e : Event). (happens (state_at c.args.layout.now c.args.memory.now c.args.kernel.now c.args.threads.now.items) e).note) (sym c.in-Begin.is)

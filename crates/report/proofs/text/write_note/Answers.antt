@@ -1,5 +1,6 @@
-use Rattle.protocol.specs.declared.note.Fact.TheVariants.{Begin}
-use Rattle.protocol.specs.Notes.{point_facts, refusal_facts, return_facts}
+use Rattle.std.proofs.Common.{◌++◌, map}
+use Rattle.protocol.specs.declared.note.Fact.TheVariants.{Begin, Wake}
+use Rattle.protocol.specs.Notes.{point_facts, sleep_facts, refusal_facts, return_facts}
 use Rattle.report.specs.Text.{fact_text, facts_text}
 use Rattle.report.proofs.Events.{facts_text-append}
 use Rattle.report.proofs.Writers.{ends_at_first, then_leaves}
@@ -18,14 +19,14 @@ returns-in_ok-write_fact-in-Began g c =
 pub returns-in_err-write_decided-in-Stepped : goal.returns-in_err-write_decided-in-Stepped
 returns-in_err-write_decided-in-Stepped g c =
     let point = point_facts c.in-Stepped.point in
-    let return = return_facts c.in-Stepped.thread c.in-Stepped.returned in
-    rw (c.in-Stepped.is, facts_text-append c.args.event point return)
-    (ends_at_first _ _ c.from_residual-in_err-write_decided-in-Stepped.result (facts_text c.args.event point) (facts_text c.args.event return) c.from_residual-in_err-write_decided-in-Stepped.ensures.0
+    let later = sleep_facts c.in-Stepped.thread c.in-Stepped.slept ++ (map Wake c.in-Stepped.woken ++ return_facts c.in-Stepped.thread c.in-Stepped.returned) in
+    rw (c.in-Stepped.is, facts_text-append c.args.event point later)
+    (ends_at_first _ _ c.from_residual-in_err-write_decided-in-Stepped.result (facts_text c.args.event point) (facts_text c.args.event later) c.from_residual-in_err-write_decided-in-Stepped.ensures.0
     c.in_err-write_decided-in-Stepped.ensures)
 
 pub returns-in_ok-write_decided-in-Stepped : goal.returns-in_ok-write_decided-in-Stepped
 returns-in_ok-write_decided-in-Stepped g c =
     let point = point_facts c.in-Stepped.point in
-    let return = return_facts c.in-Stepped.thread c.in-Stepped.returned in
-    rw (c.in-Stepped.is, facts_text-append c.args.event point return)
-    (then_leaves _ _ _ c.write_returned.result (facts_text c.args.event point) (facts_text c.args.event return) c.in_ok-write_decided-in-Stepped.ensures c.write_returned.ensures)
+    let later = sleep_facts c.in-Stepped.thread c.in-Stepped.slept ++ (map Wake c.in-Stepped.woken ++ return_facts c.in-Stepped.thread c.in-Stepped.returned) in
+    rw (c.in-Stepped.is, facts_text-append c.args.event point later)
+    (then_leaves _ _ _ c.write_step.result (facts_text c.args.event point) (facts_text c.args.event later) c.in_ok-write_decided-in-Stepped.ensures c.write_step.ensures)

@@ -7,7 +7,7 @@ use Rattle.interleave.specs.Shown.{state_of}
 use Rattle.protocol.specs.Explained.{IsExplained}
 use Rattle.protocol.proofs.Lives.{explained}
 use Rattle.interleave.specs.Reached.{AtEachMoment}
-use Rattle.interleave.proofs.Reaches.{run-more, notes-more, each_moment}
+use Rattle.interleave.proofs.Reaches.{run-more, notes-more, each_moment, reached_goes_on}
 use Rattle.interleave.proofs.machine.Machine.run.Goals as goal
 
 pub loop-event-preserved : goal.loop-event-preserved
@@ -40,3 +40,6 @@ returns-clause-explained c = λ on.
     let all : take c.loop-event.event-index es ≡ es = take_all c.loop-event.event-index es (omega arith) in
     let begun : IsExplained es (notes s es) = subst (λ (z : State). IsExplained es (notes z es)) (sym start.is) (explained c.args.self.now.layout start.counters es start.layout) in
     subst (λ (ns : List Note). IsExplained es ns) (sym (c.loop-event.invariant.3 ∙ ap (notes s) all)) begun
+
+pub returns-clause-goes_on : goal.returns-clause-goes_on
+returns-clause-goes_on c = λ n. reached_goes_on c.args.self.now (take n c.args.events.now) c.reached.ensures

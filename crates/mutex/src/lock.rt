@@ -1,0 +1,118 @@
+//! Lock.
+ghost use Rattle.std.specs.Prelude.{◌≡◌};
+ghost use Rattle.mutex.specs.Rows.{Knows};
+ghost use Rattle.mutex.specs.Lock.{lock_access, lock_resume, lock_sees, after_loss};
+ghost use Rattle.mutex.specs.declared.row.Row.TheVariants.{Lock};
+
+use crate::row::{Led, Row, acquired};
+use keys::{Access, Answer};
+use lockword::{Cell, Reply, Tid};
+
+/// All sleepers of a word: there are at most as many as threads.
+const ALL: u32 = 64;
+
+/// Where a lock stands.
+#[derive(Clone, Copy, Debug, PartialEq, Eq)]
+pub enum LockRow {
+    /// It loads the cell.
+    Load,
+    /// It takes the cell, which was unowned and usable when it saw it.
+    Take { seen: Cell },
+    /// It sets WAITERS in the cell, which another thread owned when it saw it.
+    SetWaiters { seen: Cell },
+    /// It sleeps where the futex word is as it saw it: another's, with WAITERS.
+    Sleep { seen: Cell },
+    /// It wakes all sleepers of an unusable mutex.
+    WakeAll,
+}
+
+pub(crate) fn next(thread: Tid, cell: u64, row: &LockRow) -> Access
+    requires { Knows (Lock row.now) }
+    ensures { result ≡ lock_access thread cell row.now }
+{
+    match *row {
+        LockRow::Load => Access::Load { at: cell },
+        LockRow::Take { seen } => Access::Exchange {
+            at: cell,
+            expected: seen.word(),
+            new: seen.taken(thread).word(),
+        },
+        LockRow::SetWaiters { seen } => Access::Exchange {
+            at: cell,
+            expected: seen.word(),
+            new: seen.waiting().word(),
+        },
+        LockRow::Sleep { seen } => Access::Wait {
+            at: cell,
+            expected: seen.low(),
+        },
+        LockRow::WakeAll => Access::Wake {
+            at: cell,
+            most: ALL,
+        },
+    }
+}
+
+pub(crate) fn resume(thread: Tid, row: &LockRow, answer: Answer) -> Led
+    requires { Knows (Lock row.now) }
+    ensures value { result ≡ lock_resume thread row.now answer }
+    ensures knows { Knows result.row }
+{
+    match *row {
+        LockRow::Load => match answer {
+            Answer::Value(word) => sees(thread, Cell::new(word)),
+            _ => Led::faults(),
+        },
+        LockRow::Take { seen } => match answer {
+            Answer::Exchanged => Led::ends(acquired(seen)),
+            Answer::Changed(word) => sees(thread, Cell::new(word)),
+            _ => Led::faults(),
+        },
+        LockRow::SetWaiters { seen } => match answer {
+            Answer::Exchanged => Led::goes(Row::Lock(LockRow::Sleep {
+                seen: seen.waiting(),
+            })),
+            Answer::Changed(word) => sees(thread, Cell::new(word)),
+            _ => Led::faults(),
+        },
+        LockRow::Sleep { .. } => match answer {
+            Answer::Again | Answer::Woken => Led::goes(Row::Lock(LockRow::Load)),
+            _ => Led::faults(),
+        },
+        LockRow::WakeAll => match answer {
+            Answer::Count(_) => Led::goes(Row::Ended(Reply::ENOTRECOVERABLE)),
+            _ => Led::faults(),
+        },
+    }
+}
+
+/// Decides on a cell.
+fn sees(thread: Tid, cell: Cell) -> Led
+    ensures value { result ≡ lock_sees thread cell }
+    ensures knows { Knows result.row }
+{
+    let owner = cell.owner();
+    if cell.unusable() {
+        Led::decides(after_loss(cell), Reply::ENOTRECOVERABLE)
+    } else if owner == u32::from(thread.get()) {
+        Led::ends(Reply::EDEADLK)
+    } else if owner == 0 {
+        Led::goes(Row::Lock(LockRow::Take { seen: cell }))
+    } else if cell.waiters() {
+        Led::goes(Row::Lock(LockRow::Sleep { seen: cell }))
+    } else {
+        Led::goes(Row::Lock(LockRow::SetWaiters { seen: cell }))
+    }
+}
+
+/// Where a lock goes on that found the mutex unusable: whoever sleeps there is to be told too.
+fn after_loss(cell: Cell) -> Row
+    ensures value { result ≡ after_loss cell }
+    ensures knows { Knows result }
+{
+    if cell.waiters() {
+        Row::Lock(LockRow::WakeAll)
+    } else {
+        Row::Ended(Reply::ENOTRECOVERABLE)
+    }
+}

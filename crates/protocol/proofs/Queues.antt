@@ -1,0 +1,468 @@
+-- Who sleeps where, and who answers for a mutex that nobody owns.
+use Rattle.std.proofs.Common.{◌≡◌, ◌≢◌, ◌⊎◌, ⊎_elim, inl, inr, ℕ, zero, suc, ◌%◌, ◌^◌, ◌<◌, ◌≤◌, ◌==◌, Bool, true, false, ◌&&◌, None, Ok, Err, List, [], ◌∷◌, ◌++◌, drop, refl, sym, ap, ◌∙◌, subst, arith, eqb-true}
+use Rattle.std.specs.Prelude.{if◌then◌else◌, nat_le}
+use Rattle.std.proofs.lemmas.Bool.{eqb-false}
+use Rattle.std.proofs.lemmas.Bool.Decides.{nat_tests}
+use Rattle.lockword.specs.Cells.{fields_of}
+use Rattle.lockword.specs.declared.reply.Reply.TheVariants.{XHELD}
+use Rattle.keys.specs.declared.access.Access.{Access}
+use Rattle.keys.specs.declared.object.Object.{Object}
+use Rattle.keys.specs.Layouts.{Layout', IsLayout, cell_place}
+use Rattle.keys.specs.Accesses.{changed, sleeps_at}
+use Rattle.keys.specs.Objects.{object_of, owner_of, acquires}
+use Rattle.keys.proofs.Owners.{owner_of-none}
+use Rattle.mutex.specs.declared.call.Call.{Call}
+use Rattle.mutex.specs.declared.lock.LockRow.TheVariants as lock
+use Rattle.mutex.specs.declared.try_lock.TryLockRow.TheVariants as try
+use Rattle.mutex.specs.declared.unlock.UnlockRow.TheVariants as unlock
+use Rattle.mutex.specs.declared.consistent.ConsistentRow.TheVariants as consistent
+use Rattle.mutex.specs.declared.row.Row.{Row}
+use Rattle.mutex.specs.declared.row.Row.TheVariants.{Lock, TryLock, Unlock, Consistent, Ended}
+use Rattle.mutex.specs.declared.row.Led.{Led}
+use Rattle.mutex.specs.Alone.{Alone, answers_for, is_wake}
+use Rattle.mutex.specs.Calls.{mutex_of, operation_of}
+use Rattle.mutex.specs.Standings.{Standing}
+use Rattle.mutex.specs.Programs.{started, first_row, row_access, access_of, led}
+use Rattle.protocol.specs.declared.event.Event.{Event}
+use Rattle.protocol.specs.declared.event.Event.TheVariants.{Begin, Step}
+use Rattle.protocol.specs.declared.thread.Thread.{Thread}
+use Rattle.protocol.specs.declared.thread.Stage.{Stage}
+use Rattle.protocol.specs.declared.thread.Stage.TheVariants.{Idle, Calling}
+use Rattle.protocol.specs.Machine.{State, put, start, queue_after, answer_of, stands_in, sleepers, sleeps, is_thread, is_idle, may_begin, begun, nothing, went, stepped, stage_after, happens, run}
+use Rattle.protocol.specs.Sleepers.{Sleeps, IsUnowned}
+use Rattle.protocol.proofs.Puts.{by_put, put-same, put-other}
+use Rattle.protocol.proofs.Kept.{Fits, Sits, Kept}
+use Rattle.protocol.proofs.Steps.{after, went-is, l, al, here, before, far}
+use Rattle.protocol.proofs.Runs.{sound, start_kept}
+
+-- ---- queues
+
+-- nobody stands in it twice
+abbrev pub Once : List ℕ → Type 0
+Once [] = Unit {0}
+Once (u ∷ us) = (stands_in u us ≡ false) × Once us
+
+pub stands_last : (t : ℕ) (q : List ℕ) → stands_in t (q ++ t ∷ []) ≡ true
+stands_last t [] = go (t == t) refl
+  where
+    go : (b : Bool) → (t == t) ≡ b → (if b then true else false) ≡ true
+    go true e = refl
+    go false e = absurd (eqb-false t t e refl)
+stands_last t (u ∷ us) = go (u == t) (stands_last t us)
+  where
+    go : (b : Bool) → stands_in t (us ++ t ∷ []) ≡ true → (if b then true else stands_in t (us ++ t ∷ [])) ≡ true
+    go true h = refl
+    go false h = h
+
+-- whoever stands in a queue that t came to is t, or stood there
+stands_before : (u t : ℕ) (q : List ℕ) → stands_in u (q ++ t ∷ []) ≡ true → (stands_in u q ≡ true) ⊎ (u ≡ t)
+stands_before u t [] = go (t == u) refl
+  where
+    go : (b : Bool) → (t == u) ≡ b → (if b then true else false) ≡ true → (false ≡ true) ⊎ (u ≡ t)
+    go true e h = inr (sym (eqb-true t u e))
+    go false e h = absurd cc
+stands_before u t (v ∷ vs) = go (v == u) (stands_before u t vs)
+  where
+    go : (b : Bool) → (stands_in u (vs ++ t ∷ []) ≡ true → (stands_in u vs ≡ true) ⊎ (u ≡ t)) → (if b then true else stands_in u (vs ++ t ∷ [])) ≡ true → ((if b then true else stands_in u vs) ≡ true) ⊎ (u ≡ t)
+    go true rest h = inl refl
+    go false rest h = rest h
+
+-- whoever stands in the rest of a queue stands in it
+pub stands_rest : (u n : ℕ) (q : List ℕ) → stands_in u (drop n q) ≡ true → stands_in u q ≡ true
+stands_rest u zero q h = h
+stands_rest u (suc n) [] h = h
+stands_rest u (suc n) (v ∷ vs) h = go (v == u) (stands_rest u n vs h)
+  where
+    go : (b : Bool) → stands_in u vs ≡ true → (if b then true else stands_in u vs) ≡ true
+    go true rest = refl
+    go false rest = rest
+
+-- what isn't true is false
+pub not_true : (b : Bool) → (b ≡ true → ⊥) → b ≡ false
+not_true true h = absurd (h refl)
+not_true false h = refl
+
+once_last : (t : ℕ) (q : List ℕ) → Once q → stands_in t q ≡ false → Once (q ++ t ∷ [])
+once_last t [] once out = (refl, tt)
+once_last t (u ∷ us) once out = go (u == t) refl (once_last t us once.1) out
+  where
+    go : (b : Bool) → (u == t) ≡ b → (stands_in t us ≡ false → Once (us ++ t ∷ [])) → (if b then true else stands_in t us) ≡ false → Once ((u ∷ us) ++ t ∷ [])
+    go true e rest h = absurd cc
+    go false e rest h = (not_true (stands_in u (us ++ t ∷ [])) (λ is. ⊎_elim (λ stood. cc (stood, once.0)) (λ same. eqb-false u t e same) (stands_before u t us is)), rest h)
+
+once_rest : (n : ℕ) (q : List ℕ) → Once q → Once (drop n q)
+once_rest zero q once = once
+once_rest (suc n) [] once = once
+once_rest (suc n) (u ∷ us) once = once_rest n us once.1
+
+-- the first of a queue, once taken, stands there no more
+pub first_gone : (u n : ℕ) (us : List ℕ) → Once (u ∷ us) → 1 ≤ n → stands_in u (drop n (u ∷ us)) ≡ false
+first_gone u zero us once some = absurd (omega arith)
+first_gone u (suc n) us once some = not_true (stands_in u (drop n us)) (λ is. cc (stands_rest u n us is, once.0))
+
+pub first_stands : (u : ℕ) (us : List ℕ) → stands_in u (u ∷ us) ≡ true
+first_stands u us = go (u == u) refl
+  where
+    go : (b : Bool) → (u == u) ≡ b → (if b then true else stands_in u us) ≡ true
+    go true e = refl
+    go false e = absurd (eqb-false u u e refl)
+
+-- ---- what holds of every state
+
+-- thread t, which stands in the queue of this key, is in a call on that mutex, and loads its cell when it is woken
+abbrev pub Slept : State → ℕ → ℕ → Type 0
+Slept s t key = (1 ≤ t) × (t ≤ s.layout.threads) × ((c : Call) × (p : Standing) × ((s.threads t).stage ≡ Calling c p) × (p.row ≡ Lock lock.Load) × (key ≡ cell_place s.layout (mutex_of c)))
+
+-- thread t, awake in a call on mutex m, answers for it
+pub record Answers (s : State) (m t : ℕ) (c : Call) (p : Standing) : Type 0 where
+  pub first : 1 ≤ t
+  pub last : t ≤ s.layout.threads
+  pub stage : (s.threads t).stage ≡ Calling c p
+  pub mutex : mutex_of c ≡ m
+  pub answers : answers_for p.row ≡ true
+  pub awake : stands_in t (sleepers s m) ≡ false
+
+pub record Queued (s : State) : Type 0 where
+  pub sleeps : (key t : ℕ) → stands_in t (s.queues key) ≡ true → Slept s t key
+  pub once : (key : ℕ) → Once (s.queues key)
+  pub bits : (m u : ℕ) → m < s.layout.mutexes → Sleeps s u m → (fields_of (s.words (cell_place s.layout m))).waiters ≡ true
+  pub answered : (m u : ℕ) → m < s.layout.mutexes → IsUnowned s m → Sleeps s u m → (t : ℕ) × (c : Call) × (p : Standing) × Answers s m t c p
+
+-- whoever is in no queue of its call's mutex is in none
+pub in_none : (s : State) (t : ℕ) (c : Call) (p : Standing) → Queued s → (s.threads t).stage ≡ Calling c p → stands_in t (sleepers s (mutex_of c)) ≡ false → (key : ℕ) → stands_in t (s.queues key) ≡ false
+in_none s t c p inv is out key = not_true (stands_in t (s.queues key)) (λ stands.
+    let slept = inv.sleeps key t stands in
+    let same : slept.2.0 ≡ c = calls_same _ _ _ _ (sym slept.2.2 ∙ is) in
+    cc (sym (ap (λ (k : ℕ). stands_in t (s.queues k)) (slept.2.4 ∙ ap (λ (d : Call). cell_place s.layout (mutex_of d)) same)) ∙ stands, out))
+  where
+    calls_same : (c d : Call) (p q : Standing) → Calling c p ≡ Calling d q → c ≡ d
+    calls_same c d p q e = cc
+
+-- whoever is idle is in no queue
+pub idle_in_none : (s : State) (t : ℕ) → Queued s → (s.threads t).stage ≡ Idle → (key : ℕ) → stands_in t (s.queues key) ≡ false
+idle_in_none s t inv is key = not_true (stands_in t (s.queues key)) (λ stands. let slept = inv.sleeps key t stands in cc (sym slept.2.2 ∙ is))
+
+-- ---- one access
+
+-- what an access does to the queue of its mutex: nothing; it puts its thread at the end; or it takes the first out of it, one or more
+pub data Change (t : ℕ) (a : Access) (w : ℕ) (q : List ℕ) : Type 0 where
+  Stays : sleeps_at a w ≡ false → is_wake a ≡ false → queue_after t a w q ≡ q → Change t a w q
+  Joins : sleeps_at a w ≡ true → changed a w ≡ w → queue_after t a w q ≡ q ++ t ∷ [] → Change t a w q
+  Wakes : (n : ℕ) → 1 ≤ n → sleeps_at a w ≡ false → changed a w ≡ w → queue_after t a w q ≡ drop n q → Change t a w q
+
+pub change : (u t cell : ℕ) (r : Row) (w : ℕ) (q : List ℕ) → Change u (row_access t cell r) w q
+change u t cell (Lock lock.Load) w q = Stays refl refl refl
+change u t cell (Lock (lock.Take v)) w q = Stays refl refl refl
+change u t cell (Lock (lock.SetWaiters v)) w q = Stays refl refl refl
+change u t cell (Lock (lock.Sleep v)) w q = go (w % 2 ^ 32 == Rattle.lockword.specs.Cells.low_of v) refl
+  where
+    go : (b : Bool) → (w % 2 ^ 32 == Rattle.lockword.specs.Cells.low_of v) ≡ b → Change u (row_access t cell (Lock (lock.Sleep v))) w q
+    go true e = Joins e refl (ap (λ (b : Bool). if b then q ++ u ∷ [] else q) e)
+    go false e = Stays e refl (ap (λ (b : Bool). if b then q ++ u ∷ [] else q) e)
+change u t cell (Lock lock.WakeAll) w q = Wakes 64 (omega arith) refl refl refl
+change u t cell (TryLock try.Load) w q = Stays refl refl refl
+change u t cell (TryLock (try.Take v k)) w q = Stays refl refl refl
+change u t cell (Unlock unlock.Load) w q = Stays refl refl refl
+change u t cell (Unlock (unlock.Release d)) w q = Stays refl refl refl
+change u t cell (Unlock (unlock.Wake a)) w q = Wakes (if a then 64 else 1) (some a) refl refl refl
+  where
+    some : (b : Bool) → 1 ≤ (if b then 64 else 1)
+    some true = omega arith
+    some false = omega arith
+change u t cell (Consistent consistent.Load) w q = Stays refl refl refl
+change u t cell (Consistent consistent.Declare) w q = Stays refl refl refl
+change u t cell (Ended x) w q = Stays refl refl refl
+
+-- who falls asleep is in a lock that saw the word
+pub sleeper : (t cell : ℕ) (r : Row) (w : ℕ) → sleeps_at (row_access t cell r) w ≡ true → (v : Rattle.lockword.specs.Cells.Fields) × (r ≡ Lock (lock.Sleep v))
+sleeper t cell (Lock lock.Load) w e = absurd cc
+sleeper t cell (Lock (lock.Take v)) w e = absurd cc
+sleeper t cell (Lock (lock.SetWaiters v)) w e = absurd cc
+sleeper t cell (Lock (lock.Sleep v)) w e = (v, refl)
+sleeper t cell (Lock lock.WakeAll) w e = absurd cc
+sleeper t cell (TryLock try.Load) w e = absurd cc
+sleeper t cell (TryLock (try.Take v k)) w e = absurd cc
+sleeper t cell (Unlock unlock.Load) w e = absurd cc
+sleeper t cell (Unlock (unlock.Release d)) w e = absurd cc
+sleeper t cell (Unlock (unlock.Wake a)) w e = absurd cc
+sleeper t cell (Consistent consistent.Load) w e = absurd cc
+sleeper t cell (Consistent consistent.Declare) w e = absurd cc
+sleeper t cell (Ended x) w e = absurd cc
+
+-- a call that answers for its mutex goes on
+pub stays_calling : (c : Call) (p : Standing) (r : Row) → answers_for r ≡ true → stage_after c p r ≡ Calling c (record p { row = r })
+stays_calling c p (Lock r) e = refl
+stays_calling c p (TryLock r) e = refl
+stays_calling c p (Unlock r) e = refl
+stays_calling c p (Consistent r) e = refl
+stays_calling c p (Ended x) e = absurd cc
+
+-- an owner field of nobody is 0
+pub free_field : (w : ℕ) → (object_of (fields_of w)).owner ≡ None → (fields_of w).owner ≡ 0
+free_field w none = owner_of-none (fields_of w).owner none
+
+pub calls_alike : (c d : Call) (p q : Standing) → Calling c p ≡ Calling d q → (c ≡ d) × (p ≡ q)
+calls_alike c d p q e = (cc, cc)
+
+-- one access of a call of thread t, which is awake
+module _ (s : State) (t : ℕ) (c : Call) (p : Standing) (inv : Kept s) (pos : 1 ≤ t) (known : t ≤ s.layout.threads) (fits : Fits s t (s.threads t).held c p) (is : (s.threads t).stage ≡ Calling c p) (queued : Queued s) (out : stands_in t (sleepers s (mutex_of c)) ≡ false) where
+  abbrev m : ℕ
+  m = mutex_of c
+
+  abbrev place : ℕ
+  place = cell_place s.layout m
+
+  abbrev w : ℕ
+  w = s.words place
+
+  abbrev w' : ℕ
+  w' = changed (access_of p) w
+
+  abbrev q : List ℕ
+  q = s.queues place
+
+  abbrev q' : List ℕ
+  q' = queue_after t (access_of p) w q
+
+  abbrev next : Led
+  next = l s t c p inv pos known fits
+
+  abbrev th : Thread
+  th = (after s t c p inv pos known fits).threads t
+
+  abbrev s' : State
+  s' = after s t c p inv pos known fits
+
+  alone_is : Alone t p.row (access_of p) next w w'
+  alone_is = al s t c p inv pos known fits
+
+  awake : (key : ℕ) → stands_in t (s.queues key) ≡ false
+  awake = in_none s t c p queued is out
+
+  -- other threads, and this one
+  theirs : (u : ℕ) → u ≢ t → s'.threads u ≡ s.threads u
+  theirs u apart = put-other s.threads t _ u apart
+
+  pub mine : (s'.threads t).stage ≡ stage_after c p next.row
+  mine = ap (λ (z : Thread). z.stage) (put-same s.threads t _)
+
+  pub queue_here : s'.queues place ≡ q'
+  queue_here = put-same s.queues place q'
+
+  queue_there : (key : ℕ) → key ≢ place → s'.queues key ≡ s.queues key
+  queue_there key apart = put-other s.queues place q' key apart
+
+  word_here : s'.words place ≡ w'
+  word_here = put-same s.words place w'
+
+  -- whoever slept in a queue sleeps there, or was woken
+  kept_asleep : (key u : ℕ) → stands_in u (s.queues key) ≡ true → Slept s' u key
+  kept_asleep key u stands =
+      let slept = queued.sleeps key u stands in
+      let other : u ≢ t = λ same. cc (sym (ap (λ (v : ℕ). stands_in v (s.queues key)) same) ∙ stands, awake key) in
+      (slept.0, slept.1, (slept.2.0, slept.2.1, ap (λ (z : Thread). z.stage) (theirs u other) ∙ slept.2.2, slept.2.3, slept.2.4))
+
+  falls_asleep : sleeps_at (access_of p) w ≡ true → Slept s' t place
+  falls_asleep e =
+      let row = sleeper p.thread p.cell p.row w e in
+      let led_to : next.row ≡ Lock lock.Load = woke p.row row.0 row.1 in
+      (pos, known, (c, record p { row = Lock lock.Load }, mine ∙ ap (stage_after c p) led_to, refl, refl))
+    where
+      woke : (r : Row) (v : Rattle.lockword.specs.Cells.Fields) → r ≡ Lock (lock.Sleep v) → (led (record p { row = r }) (Rattle.keys.specs.Accesses.answer_at (row_access p.thread p.cell r) w)).row ≡ Lock lock.Load
+      woke r v e = ap (λ (z : Row). (led (record p { row = z }) (Rattle.keys.specs.Accesses.answer_at (row_access p.thread p.cell z) w)).row) e
+
+  here_asleep : (u : ℕ) → stands_in u q' ≡ true → Change t (access_of p) w q → (stands_in u q ≡ true) ⊎ ((u ≡ t) × (sleeps_at (access_of p) w ≡ true))
+  here_asleep u stands (Stays e f g) = inl (sym (ap (stands_in u) g) ∙ stands)
+  here_asleep u stands (Joins e f g) = ⊎_elim inl (λ same. inr (same, e)) (stands_before u t q (sym (ap (stands_in u) g) ∙ stands))
+  here_asleep u stands (Wakes n some e f g) = inl (stands_rest u n q (sym (ap (stands_in u) g) ∙ stands))
+
+  abbrev how : Change t (access_of p) w q
+  how = change t p.thread p.cell p.row w q
+
+  sleeps' : (key u : ℕ) → stands_in u (s'.queues key) ≡ true → Slept s' u key
+  sleeps' key u stands = go (key == place) refl
+    where
+      go : (b : Bool) → (key == place) ≡ b → Slept s' u key
+      go true e =
+          let at : key ≡ place = eqb-true key place e in
+          subst (λ (k : ℕ). Slept s' u k) (sym at)
+          (⊎_elim (kept_asleep place u) (λ came. subst (λ (v : ℕ). Slept s' v place) (sym came.0) (falls_asleep came.1))
+          (here_asleep u (sym (ap (stands_in u) (ap s'.queues at ∙ queue_here)) ∙ stands) how))
+      go false e = kept_asleep key u (sym (ap (stands_in u) (queue_there key (eqb-false key place e))) ∙ stands)
+
+  once_here : Change t (access_of p) w q → Once q'
+  once_here (Stays e f g) = subst Once (sym g) (queued.once place)
+  once_here (Joins e f g) = subst Once (sym g) (once_last t q (queued.once place) (awake place))
+  once_here (Wakes n some e f g) = subst Once (sym g) (once_rest n q (queued.once place))
+
+  once' : (key : ℕ) → Once (s'.queues key)
+  once' key = by_put Once s.queues place q' key (λ at. once_here how) (λ apart. queued.once key)
+
+  -- where somebody sleeps on the mutex, WAITERS is set
+  pub bits_here : (u : ℕ) → stands_in u q' ≡ true → (fields_of w').waiters ≡ true
+  bits_here u stands = alone_is.waiters (⊎_elim (queued.bits m u fits.inside) (λ came. (alone_is.sleeps came.1).1) (here_asleep u stands how))
+
+  elsewhere : (k : ℕ) → k ≢ m → cell_place s.layout k ≢ place
+  elsewhere k apart e = apart (omega (arith, e))
+
+  bits' : (k u : ℕ) → k < s.layout.mutexes → Sleeps s' u k → (fields_of (s'.words (cell_place s.layout k))).waiters ≡ true
+  bits' k u inside stands = go (k == m) refl
+    where
+      go : (b : Bool) → (k == m) ≡ b → (fields_of (s'.words (cell_place s.layout k))).waiters ≡ true
+      go true e =
+          let at : cell_place s.layout k ≡ place = ap (cell_place s.layout) (eqb-true k m e) in
+          ap (λ (v : ℕ). (fields_of v).waiters) (ap s'.words at ∙ word_here) ∙ bits_here u (sym (ap (stands_in u) (ap s'.queues at ∙ queue_here)) ∙ stands)
+      go false e =
+          let apart = elsewhere k (eqb-false k m e) in
+          ap (λ (v : ℕ). (fields_of v).waiters) (put-other s.words place w' (cell_place s.layout k) apart) ∙ queued.bits k u inside (sym (ap (stands_in u) (queue_there (cell_place s.layout k) apart)) ∙ stands)
+
+  -- the mutex's owner, as its cell has it
+  pub free_after : IsUnowned s' m → (fields_of w').owner ≡ 0
+  free_after none = free_field w' (sym (ap (λ (o : Object). o.owner) (here s t c p inv pos known fits)) ∙ none)
+
+  unowned_before : (fields_of w).owner ≡ 0 → IsUnowned s m
+  unowned_before none = ap (λ (o : Object). o.owner) (before s t c p inv pos known fits) ∙ ap owner_of none
+
+  -- whoever answered for the mutex, and isn't this thread, does so still, where the queue stays
+  still_answers : (k u : ℕ) (d : Call) (r : Standing) → Answers s k u d r → u ≢ t → stands_in u (sleepers s' k) ≡ false → Answers s' k u d r
+  still_answers k u d r a apart awake' = record { first = a.first; last = a.last; stage = ap (λ (z : Thread). z.stage) (theirs u apart) ∙ a.stage; mutex = a.mutex; answers = a.answers; awake = awake' }
+
+  pub this_answers : answers_for next.row ≡ true → queue_after t (access_of p) w q ≡ q → Answers s' m t c (record p { row = next.row })
+  this_answers e same = record {
+    first = pos;
+    last = known;
+    stage = mine ∙ stays_calling c p next.row e;
+    mutex = refl;
+    answers = e;
+    awake = ap (stands_in t) (queue_here ∙ same) ∙ out;
+  }
+
+  abbrev Answered : State → ℕ → Type 0
+  Answered z k = (u : ℕ) × (d : Call) × (r : Standing) × Answers z k u d r
+
+  answered_here : (u : ℕ) → IsUnowned s' m → stands_in u q' ≡ true → Change t (access_of p) w q → Answered s' m
+  answered_here u none stands (Joins e f g) = absurd (let owned = (alone_is.sleeps e).0 in let free = free_after none in let same : (fields_of w').owner ≡ (fields_of w).owner = ap (λ (v : ℕ). (fields_of v).owner) f in omega arith)
+  answered_here u none stands (Wakes n some e f g) = wakes q refl
+    where
+      wakes : (z : List ℕ) → q ≡ z → Answered s' m
+      wakes [] eq = absurd (cc (stands_rest u n [] (sym (ap (stands_in u) (g ∙ ap (drop n) eq)) ∙ stands)))
+      wakes (v ∷ vs) eq =
+          let slept = queued.sleeps place v (ap (stands_in v) eq ∙ first_stands v vs) in
+          let other : v ≢ t = λ same. cc (sym (ap (λ (x : ℕ). stands_in x q) same) ∙ ap (stands_in v) eq ∙ first_stands v vs, awake place) in
+          let at : mutex_of slept.2.0 ≡ m = (let e' = slept.2.4 in omega (arith, e')) in (
+            v,
+            slept.2.0,
+            slept.2.1,
+            record {
+              first = slept.0;
+              last = slept.1;
+              stage = ap (λ (z : Thread). z.stage) (theirs v other) ∙ slept.2.2;
+              mutex = at;
+              answers = ap answers_for slept.2.3;
+              awake = ap (stands_in v) (queue_here ∙ g ∙ ap (drop n) eq) ∙ first_gone v n vs (subst Once eq (queued.once place)) some;
+            },
+          )
+  answered_here u none stands (Stays e f g) = ⊎_elim (λ on. (t, c, record p { row = next.row }, this_answers on g)) still (alone_is.answers f (free_after none) (bits_here u stands))
+    where
+      still : (answers_for p.row ≡ false) × (w' ≡ w) → Answered s' m
+      still looks =
+          let free : (fields_of w).owner ≡ 0 = sym (ap (λ (v : ℕ). (fields_of v).owner) looks.1) ∙ free_after none in
+          let old = queued.answered m u fits.inside (unowned_before free) (sym (ap (stands_in u) g) ∙ stands) in
+          let other : old.0 ≢ t = λ same. cc (sym old.3.answers ∙ ap (λ (z : Standing). answers_for z.row) (calls_alike _ _ _ _ (sym old.3.stage ∙ ap (λ (v : ℕ). (s.threads v).stage) same ∙ is)).1 ∙ looks.0) in
+          (old.0, old.1, old.2, still_answers m old.0 old.1 old.2 old.3 other (ap (stands_in old.0) (queue_here ∙ g) ∙ old.3.awake))
+
+  answered' : (k u : ℕ) → k < s.layout.mutexes → IsUnowned s' k → Sleeps s' u k → Answered s' k
+  answered' k u inside none stands = go (k == m) refl
+    where
+      go : (b : Bool) → (k == m) ≡ b → Answered s' k
+      go true e =
+          let at : k ≡ m = eqb-true k m e in
+          subst (Answered s') (sym at) (answered_here u (subst (IsUnowned s') at none) (sym (ap (stands_in u) (ap (sleepers s') at ∙ queue_here)) ∙ stands) how)
+      go false e =
+          let apart = eqb-false k m e in
+          let same : sleepers s' k ≡ sleepers s k = queue_there (cell_place s.layout k) (elsewhere k apart) in
+          let old = queued.answered k u inside (sym (ap (λ (o : Object). o.owner) (far s t c p inv pos known fits k apart)) ∙ none) (sym (ap (stands_in u) same) ∙ stands) in
+          let other : old.0 ≢ t = λ this. apart (sym old.3.mutex ∙ ap mutex_of (calls_alike _ _ _ _ (sym old.3.stage ∙ ap (λ (v : ℕ). (s.threads v).stage) this ∙ is)).0) in
+          (old.0, old.1, old.2, still_answers k old.0 old.1 old.2 old.3 other (ap (stands_in old.0) same ∙ old.3.awake))
+
+  pub went_queued : Queued s'
+  went_queued = record { sleeps = sleeps'; once = once'; bits = bits'; answered = answered' }
+
+-- ---- events
+
+-- an access of a thread that isn't asleep
+pub went_is_queued : (s : State) (t : ℕ) (c : Call) (p : Standing) → Kept s → Queued s → 1 ≤ t → t ≤ s.layout.threads → (s.threads t).stage ≡ Calling c p → stands_in t (sleepers s (mutex_of c)) ≡ false → Queued (went s t (s.threads t).held c p (led p (answer_of s (access_of p)))).state
+went_is_queued s t c p inv queued pos known is out =
+    let fits : Fits s t (s.threads t).held c p = subst (λ (g : Stage). Sits s t (s.threads t).held g) is (inv.sits t pos known) in
+    subst (λ (z : Rattle.protocol.specs.Machine.After). Queued z.state) (sym (went-is s t c p inv pos known fits)) (went_queued s t c p inv pos known fits is queued out)
+
+-- a call that begins
+module _ (s : State) (t : ℕ) (c : Call) (queued : Queued s) (idle : (s.threads t).stage ≡ Idle) where
+  abbrev first_standing : Standing
+  first_standing = record { thread = t; cell = cell_place s.layout (mutex_of c); row = first_row c }
+
+  abbrev busy : Thread
+  busy = record (s.threads t) { stage = Calling c first_standing }
+
+  abbrev begun_state : State
+  begun_state = record s { threads = put s.threads t busy }
+
+  same_stage : (u : ℕ) (d : Call) (r : Standing) → (s.threads u).stage ≡ Calling d r → (begun_state.threads u).stage ≡ Calling d r
+  same_stage u d r is = by_put (λ (z : Thread). z.stage ≡ Calling d r) s.threads t busy u (λ at. absurd (cc (sym (ap (λ (v : ℕ). (s.threads v).stage) at) ∙ is, idle))) (λ apart. is)
+
+  begun_queued : Queued begun_state
+  begun_queued = record {
+    sleeps = λ key u stands. let slept = queued.sleeps key u stands in (slept.0, slept.1, (slept.2.0, slept.2.1, same_stage u slept.2.0 slept.2.1 slept.2.2, slept.2.3, slept.2.4));
+    once = queued.once;
+    bits = queued.bits;
+    answered = λ m u inside none stands.
+        let old = queued.answered m u inside none stands in
+        (old.0, old.1, old.2, record { first = old.3.first; last = old.3.last; stage = same_stage old.0 old.1 old.2 old.3.stage; mutex = old.3.mutex; answers = old.3.answers; awake = old.3.awake });
+  }
+
+  begins_queued : (b : Bool) → Queued (begun s t c (if b then Err XHELD else Ok first_standing)).state
+  begins_queued true = queued
+  begins_queued false = begun_queued
+
+-- whoever may begin is idle
+pub may_idle : (g : Stage) → is_idle g ≡ true → g ≡ Idle
+may_idle Idle e = refl
+may_idle (Calling c p) e = absurd cc
+
+step_queued : (s : State) (t : ℕ) → Kept s → Queued s → 1 ≤ t → t ≤ s.layout.threads → (g : Stage) → (s.threads t).stage ≡ g → Queued (stepped s t (s.threads t).held g).state
+step_queued s t inv queued pos known Idle is = queued
+step_queued s t inv queued pos known (Calling c p) is = go (sleeps s t (Calling c p)) refl
+  where
+    go : (b : Bool) → sleeps s t (Calling c p) ≡ b → Queued (if b then nothing s else went s t (s.threads t).held c p (led p (answer_of s (access_of p)))).state
+    go true e = queued
+    go false e = went_is_queued s t c p inv queued pos known is e
+
+pub queued_on : (s : State) (e : Event) → Kept s → Queued s → Queued (happens s e).state
+queued_on s (Begin t c) inv queued = go (may_begin s t c) refl
+  where
+    go : (b : Bool) → may_begin s t c ≡ b → Queued (if b then begun s t c (started s.layout t (s.threads t).held c) else nothing s).state
+    go true e = begins_queued s t c queued (may_idle (s.threads t).stage (grind (arith, nat_tests))) (acquires (operation_of c) && nat_le 2048 (s.threads t).held)
+    go false e = queued
+queued_on s (Step t) inv queued = go (is_thread s t) refl
+  where
+    go : (b : Bool) → is_thread s t ≡ b → Queued (if b then stepped s t (s.threads t).held (s.threads t).stage else nothing s).state
+    go true e =
+        let pos : 1 ≤ t = grind (arith, nat_tests) in
+        let known : t ≤ s.layout.threads = grind (arith, nat_tests) in
+        step_queued s t inv queued pos known (s.threads t).stage refl
+    go false e = queued
+
+pub start_queued : (l : Layout') (counters : ℕ → ℕ) → Queued (start l counters)
+start_queued l counters = record {
+  sleeps = λ key t stands. absurd cc;
+  once = λ key. tt;
+  bits = λ m u inside stands. absurd cc;
+  answered = λ m u inside none stands. absurd cc;
+}
+
+pub queued_after : (s : State) (es : List Event) → Kept s → Queued s → Queued (run s es)
+queued_after s [] inv queued = queued
+queued_after s (e ∷ es) inv queued = queued_after (happens s e).state es (sound s e inv).kept (queued_on s e inv queued)
+
+pub run_queued : (l : Layout') (counters : ℕ → ℕ) (events : List Event) → IsLayout l → Queued (run (start l counters) events)
+run_queued l counters events is = queued_after (start l counters) events (start_kept l counters is) (start_queued l counters)

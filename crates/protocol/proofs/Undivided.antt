@@ -1,0 +1,333 @@
+-- Calls that no other event divides.
+use Rattle.std.proofs.Common.{◌≡◌, ◌≢◌, ◌⊎◌, ⊎_elim, inl, inr, ℕ, zero, suc, ◌<◌, ◌≤◌, Bool, true, false, ◌&&◌, Option, Some, None, Ok, Err, List, [], ◌∷◌, ◌++◌, map, refl, sym, ap, ◌∙◌, subst, arith}
+use Rattle.std.specs.Prelude.{if◌then◌else◌, nat_le, replicate, MatchBool}
+use Rattle.std.proofs.lemmas.Bool.Decides.{nat_tests}
+use Rattle.lockword.specs.Cells.{Fields, fields_of, word_of}
+use Rattle.lockword.specs.Coding.{fields_of-word_of}
+use Rattle.lockword.specs.declared.reply.Reply.{Reply}
+use Rattle.lockword.specs.declared.reply.Reply.TheVariants.{XRACED, XHELD}
+use Rattle.keys.specs.declared.object.Object.{Object}
+use Rattle.keys.specs.declared.point.Operation.{Operation}
+use Rattle.keys.specs.declared.point.Operation.TheVariants as operation
+use Rattle.keys.specs.declared.point.Decision.{Decision}
+use Rattle.keys.specs.Layouts.{cell_place}
+use Rattle.keys.specs.Accesses.{changed, sleeps_at}
+use Rattle.keys.specs.Histories.{held_by}
+use Rattle.keys.specs.Objects.{Does, Permits, acquires, owner_of}
+use Rattle.keys.proofs.Owners.{owner_of-some}
+use Rattle.mutex.specs.declared.call.Call.{Call}
+use Rattle.mutex.specs.declared.call.Call.TheVariants as call
+use Rattle.mutex.specs.declared.lock.LockRow.TheVariants as lock
+use Rattle.mutex.specs.declared.row.Row.{Row}
+use Rattle.mutex.specs.declared.row.Row.TheVariants.{Lock, TryLock, Unlock, Consistent, Ended}
+use Rattle.mutex.specs.declared.row.Led.{Led}
+use Rattle.mutex.specs.Alone.{Steady}
+use Rattle.mutex.specs.Calls.{mutex_of, operation_of}
+use Rattle.mutex.specs.Laws.{decided, Joins}
+use Rattle.mutex.specs.Rows.{Knows}
+use Rattle.mutex.specs.Standings.{Standing}
+use Rattle.mutex.specs.Programs.{started, first_row, access_of, led, row_operation}
+use Rattle.protocol.specs.declared.event.Event.TheVariants.{Begin, Step}
+use Rattle.protocol.specs.declared.note.Fact.{Fact}
+use Rattle.protocol.specs.declared.note.Fact.TheVariants.{Wake, Return}
+use Rattle.protocol.specs.declared.note.Note.TheVariants.{Stepped}
+use Rattle.protocol.specs.declared.thread.Thread.{Thread}
+use Rattle.protocol.specs.declared.thread.Stage.{Stage}
+use Rattle.protocol.specs.declared.thread.Stage.TheVariants.{Idle, Calling}
+use Rattle.protocol.specs.Machine.{State, After, put, start, stands_in, sleepers, sleeps, is_thread, is_idle, is_asleep, may_begin, begun, nothing, stage_after, returned, decision, woken_by, stepped, happens, run, notes}
+use Rattle.protocol.specs.Headline.{seen, facts_among}
+use Rattle.protocol.specs.Notes.{facts_of, sleep_facts, return_facts}
+use Rattle.protocol.specs.Sleepers.{IsAmong, IsUndivided, GoesOn, MachineGoesOn}
+use Rattle.protocol.proofs.Puts.{put-same}
+use Rattle.protocol.proofs.Kept.{Fits, Kept}
+use Rattle.protocol.proofs.Steps.{Tells, went-is, r, before, tells}
+use Rattle.protocol.proofs.Runs.{sound, start_kept, run_kept, does}
+use Rattle.protocol.proofs.Queues.{Queued, run_queued, queued_on, idle_in_none, may_idle, change, sleeper}
+use Rattle.protocol.proofs.Owed.{step_is, fits, next, s', steps_to, kept', queued', alone_is, stage', word-is, now_asleep, still_awake, now_idle, ended_or_not, somebody_owes, ends_alone}
+
+-- ---- what a step tells of returns
+
+among_wakes : (t y : ℕ) (z : Reply) (ws : List ℕ) (x : Option Reply) (rest : List Fact) → IsAmong (Return y z) ((map Wake ws ++ return_facts t x) ++ rest) → (x ≡ Some z) ⊎ IsAmong (Return y z) rest
+among_wakes t y z [] None rest h = inr h
+among_wakes t y z [] (Some x) rest h = ⊎_elim (λ e. inl (same e)) inr h
+  where
+    same : Return t x ≡ Return y z → Some x ≡ Some z
+    same e = cc
+among_wakes t y z (w ∷ ws) x rest h = ⊎_elim (λ e. absurd (cc e)) (among_wakes t y z ws x rest) h
+
+among_sleep : (t y : ℕ) (z : Reply) (m : Option ℕ) (ws : List ℕ) (x : Option Reply) (rest : List Fact) → IsAmong (Return y z) ((sleep_facts t m ++ (map Wake ws ++ return_facts t x)) ++ rest) → (x ≡ Some z) ⊎ IsAmong (Return y z) rest
+among_sleep t y z None ws x rest h = among_wakes t y z ws x rest h
+among_sleep t y z (Some m) ws x rest h = ⊎_elim (λ e. absurd (cc e)) (among_wakes t y z ws x rest) h
+
+among_step : (t y : ℕ) (z : Reply) (d : Option Decision) (m : Option ℕ) (ws : List ℕ) (x : Option Reply) (rest : List Fact) → IsAmong (Return y z) (facts_of (Stepped t d m ws x) ++ rest) → (x ≡ Some z) ⊎ IsAmong (Return y z) rest
+among_step t y z None m ws x rest h = among_sleep t y z m ws x rest h
+among_step t y z (Some d) m ws x rest h = ⊎_elim (λ e. absurd (cc e)) (among_sleep t y z m ws x rest) h
+
+-- ---- a thread that is idle or asleep steps no more
+
+abbrev IsStill : State → ℕ → Type 0
+IsStill s t = happens s (Step t) ≡ nothing s
+
+still_run : (s : State) (t n : ℕ) → IsStill s t → run s (replicate n (Step t)) ≡ s
+still_run s t zero still = refl
+still_run s t (suc n) still = ap (λ (a : After). run a.state (replicate n (Step t))) still ∙ still_run s t n still
+
+still_tells : (s : State) (t n : ℕ) → IsStill s t → facts_among (notes s (replicate n (Step t))) ≡ []
+still_tells s t zero still = refl
+still_tells s t (suc n) still = ap (λ (a : After). facts_of a.note ++ facts_among (notes a.state (replicate n (Step t)))) still ∙ still_tells s t n still
+
+either_way : (b : Bool) (s : State) (a : After) → a ≡ nothing s → (if b then a else nothing s) ≡ nothing s
+either_way true s a e = e
+either_way false s a e = refl
+
+idle_still : (s : State) (t : ℕ) → (s.threads t).stage ≡ Idle → IsStill s t
+idle_still s t is = either_way (is_thread s t) s (stepped s t (s.threads t).held (s.threads t).stage) (ap (stepped s t (s.threads t).held) is)
+
+asleep_still : (s : State) (t : ℕ) → is_asleep s t ≡ true → IsStill s t
+asleep_still s t e = either_way (is_thread s t) s (stepped s t (s.threads t).held (s.threads t).stage) (go (s.threads t).stage e)
+  where
+    go : (g : Stage) → sleeps s t g ≡ true → stepped s t (s.threads t).held g ≡ nothing s
+    go Idle h = refl
+    go (Calling c p) h = ap (λ (b : Bool). if b then nothing s else Rattle.protocol.specs.Machine.went s t (s.threads t).held c p (led p (Rattle.protocol.specs.Machine.answer_of s (access_of p)))) h
+
+-- a row that goes on returns nothing
+goes_on : (q : Row) → ((c : Call) (p : Standing) → stage_after c p q ≡ Calling c (record p { row = q })) → (c : Call) (p : Standing) (x : Reply) → returned q ≡ Some x → ⊥
+goes_on (Lock q) on c p x e = cc
+goes_on (TryLock q) on c p x e = cc
+goes_on (Unlock q) on c p x e = cc
+goes_on (Consistent q) on c p x e = cc
+goes_on (Ended y) on c p x e = cc (on c p)
+
+-- ---- the call of thread t, which held so many mutexes when its mutex was this object
+module _ (t held : ℕ) (c : Call) (o : Object) (room : acquires (operation_of c) ≡ true → held < 2048) where
+  abbrev m : ℕ
+  m = mutex_of c
+
+  abbrev op : Operation
+  op = operation_of c
+
+  -- what it comes to after n steps
+  record Comes (s : State) (n : ℕ) : Type 0 where
+    returns : (x : Reply) → IsAmong (Return t x) (facts_among (notes s (replicate n (Step t)))) → (x ≢ XRACED) × Does held o t op x (seen (run s (replicate n (Step t))) m)
+    sleeps : is_asleep (run s (replicate n (Step t))) t ≡ true → (op ≡ operation.Lock) × ((u : ℕ) × (o.owner ≡ Some u) × (u ≢ t))
+
+  -- undecided, the object is as it was; decided, it is as the reply tells
+  abbrev Decided : Option Reply → Object → Type 0
+  Decided None now = now ≡ o
+  Decided (Some x) now = Does held o t op x now
+
+  decides : (d x y : Option Reply) (old new : Object) → Joins d x y → Tells t old op x new → Decided d old → Decided y new
+  decides None None y old new joins same was = subst (λ (z : Option Reply). Decided z new) (sym joins) (same ∙ was)
+  decides None (Some x) y old new joins permits was = subst (λ (z : Option Reply). Decided z new) (sym joins) (does held t o new op x room (subst (λ (z : Object). Permits z t op x new) was permits))
+  decides (Some z) None y old new joins same was = subst (λ (v : Option Reply). Decided v new) (sym joins.1) (subst (λ (v : Object). Does held o t op z v) (sym same) was)
+  decides (Some z) (Some x) y old new joins permits was = absurd (cc joins.0)
+
+  -- it comes to nothing more once it is at rest
+  rests : (s : State) (n : ℕ) → IsStill s t → (is_asleep s t ≡ true → (op ≡ operation.Lock) × ((u : ℕ) × (o.owner ≡ Some u) × (u ≢ t))) → Comes s n
+  rests s n still asleep = record {
+    returns = λ x among. absurd (subst (IsAmong (Return t x)) (still_tells s t n still) among);
+    sleeps = λ e. asleep (ap (λ (z : State). is_asleep z t) (sym (still_run s t n still)) ∙ e);
+  }
+
+  -- one step of it, while it is awake
+  module _ (s : State) (p : Standing) (inv : Kept s) (queued : Queued s) (pos : 1 ≤ t) (known : t ≤ s.layout.threads) (is : (s.threads t).stage ≡ Calling c p) (out : stands_in t (sleepers s (mutex_of c)) ≡ false) (steady : Steady t p.row (s.words (cell_place s.layout (mutex_of c)))) (was : Decided (decided p.row) (seen s (mutex_of c))) where
+    abbrev w : ℕ
+    w = s.words (cell_place s.layout (mutex_of c))
+
+    abbrev fit : Fits s t (s.threads t).held c p
+    fit = fits s t c p inv queued pos known is out
+
+    abbrev to : Led
+    to = next s t c p inv queued pos known is out
+
+    abbrev z : State
+    z = s' s t c p inv queued pos known is out
+
+    -- what it tells
+    told : (x : Reply) (rest : List Fact) → IsAmong (Return t x) (facts_of (happens s (Step t)).note ++ rest) → (returned to.row ≡ Some x) ⊎ IsAmong (Return t x) rest
+    told x rest h =
+        among_step t t x _ _ _ (returned to.row) rest
+        (subst (λ (a : After). IsAmong (Return t x) (facts_of a.note ++ rest)) (step_is s t c p pos known is out ∙ went-is s t c p inv pos known fit) h)
+
+    changed_to : Decided (decided to.row) (seen z (mutex_of c))
+    changed_to =
+        decides (decided p.row) to.point (decided to.row) (seen s (mutex_of c)) (seen z (mutex_of c)) (r s t c p inv pos known fit).tells
+        (subst (λ (u : Operation). Tells t (seen s (mutex_of c)) u to.point (seen z (mutex_of c))) fit.of (tells s t c p inv pos known fit)) was
+
+    steady_at : sleeps_at (access_of p) w ≡ false → Steady t to.row (changed (access_of p) w)
+    steady_at awake = (alone_is s t c p inv queued pos known is out).steady awake steady
+
+    -- it slept on a mutex that another owns
+    slept : sleeps_at (access_of p) w ≡ true → (op ≡ operation.Lock) × ((u : ℕ) × (o.owner ≡ Some u) × (u ≢ t))
+    slept on =
+        let row = sleeper p.thread p.cell p.row w on in
+        let facts : (w ≡ word_of row.0) × (row.0.owner ≢ t) = subst (λ (x : Row). Steady t x w) row.1 steady in
+        let sees : Knows (Lock (lock.Sleep row.0)) = subst Knows row.1 fit.knows in
+        let same : seen s (mutex_of c) ≡ o = subst (λ (x : Row). Decided (decided x) (seen s (mutex_of c))) row.1 was in
+        let cell : fields_of w ≡ row.0 = ap fields_of facts.0 ∙ fields_of-word_of row.0 sees.0.1 in
+        let some : 1 ≤ row.0.owner = (let e = sees.0.0 in omega arith) in (
+          sym fit.of ∙ ap row_operation row.1,
+          (
+            row.0.owner,
+            sym (ap (λ (x : Object). x.owner) same) ∙ ap (λ (x : Object). x.owner) (before s t c p inv pos known fit) ∙ ap (λ (x : Fields). owner_of x.owner) cell ∙ owner_of-some row.0.owner some,
+            facts.1,
+          ),
+        )
+
+    -- one step, and then n
+    after_step : (n : ℕ) → Comes z n → ((x : Reply) → returned to.row ≡ Some x → (x ≢ XRACED) × Does held o t op x (seen (run z (replicate n (Step t))) (mutex_of c))) → Comes s (suc n)
+    after_step n comes at_return =
+        let goes = steps_to s t c p inv queued pos known is out in
+        record {
+          returns = λ x among.
+              subst (λ (y : State). (x ≢ XRACED) × Does held o t op x (seen (run y (replicate n (Step t))) (mutex_of c))) (sym goes)
+              (⊎_elim (at_return x) (comes.returns x)
+              (subst (λ (y : State). (returned to.row ≡ Some x) ⊎ IsAmong (Return t x) (facts_among (notes y (replicate n (Step t))))) goes (told x (facts_among (notes (happens s (Step t)).state (replicate n (Step t)))) among)));
+          sleeps = λ e. comes.sleeps (ap (λ (y : State). is_asleep (run y (replicate n (Step t))) t) (sym goes) ∙ e);
+        }
+
+    -- it fell asleep
+    to_sleep : (n : ℕ) → sleeps_at (access_of p) w ≡ true → Comes s (suc n)
+    to_sleep n on =
+        let asleep = now_asleep s t c p inv queued pos known is out on (change t p.thread p.cell p.row w (s.queues (cell_place s.layout (mutex_of c)))) in
+        let row = sleeper p.thread p.cell p.row w on in
+        after_step n (rests z n (asleep_still z t asleep) (λ e. slept on)) (λ x e. absurd (none_returned row.0 row.1 x e))
+      where
+        none_returned : (v : Fields) → p.row ≡ Lock (lock.Sleep v) → (x : Reply) → returned to.row ≡ Some x → ⊥
+        none_returned v row x e = cc (sym (ap (λ (y : Row). returned (led (record p { row = y }) (Rattle.keys.specs.Accesses.answer_at (access_of (record p { row = y })) w)).row) row) ∙ e)
+
+    -- it returned
+    to_return : (n : ℕ) (y : Reply) → sleeps_at (access_of p) w ≡ false → to.row ≡ Ended y → Comes s (suc n)
+    to_return n y awake e =
+        let idle = now_idle s t c p inv queued pos known is out y e in
+        let still = idle_still z t idle in
+        after_step n (rests z n still (λ asleep. absurd (cc (sym (ap (sleeps z t) idle) ∙ asleep)))) (λ x back.
+        let same : y ≡ x = replied y x (sym (ap returned e) ∙ back) in
+        subst (λ (v : Reply). (v ≢ XRACED) × Does held o t op v (seen (run z (replicate n (Step t))) (mutex_of c))) same (
+          subst (λ (v : Row). Steady t v (changed (access_of p) w)) e (steady_at awake),
+          subst (λ (v : State). Does held o t op y (seen v (mutex_of c))) (sym (still_run z t n still)) (subst (λ (v : Row). Decided (decided v) (seen z (mutex_of c))) e changed_to),
+        ))
+      where
+        replied : (a b : Reply) → Some a ≡ Some b → a ≡ b
+        replied a b eq = cc
+
+  -- a call that is awake, whatever steps it has made
+  comes : (n : ℕ) (s : State) (p : Standing) → Kept s → Queued s → 1 ≤ t → t ≤ s.layout.threads → (s.threads t).stage ≡ Calling c p → stands_in t (sleepers s (mutex_of c)) ≡ false → Steady t p.row (s.words (cell_place s.layout (mutex_of c))) → Decided (decided p.row) (seen s (mutex_of c)) → Comes s n
+  comes zero s p inv queued pos known is out steady was = record {
+    returns = λ x among. absurd among;
+    sleeps = λ e. absurd (cc (sym (ap (sleeps s t) is ∙ out) ∙ e));
+  }
+  comes (suc n) s p inv queued pos known is out steady was = go (sleeps_at (access_of p) (s.words (cell_place s.layout (mutex_of c)))) refl (comes n)
+    where
+      go : (b : Bool) → sleeps_at (access_of p) (s.words (cell_place s.layout (mutex_of c))) ≡ b
+          → ((y : State) (q : Standing) → Kept y → Queued y → 1 ≤ t → t ≤ y.layout.threads → (y.threads t).stage ≡ Calling c q → stands_in t (sleepers y (mutex_of c)) ≡ false → Steady t q.row (y.words (cell_place y.layout (mutex_of c))) → Decided (decided q.row) (seen y (mutex_of c)) → Comes y n)
+          → Comes s (suc n)
+      go true e further = to_sleep s p inv queued pos known is out steady was n e
+      go false e further =
+          ⊎_elim
+          (λ ended. to_return s p inv queued pos known is out steady was n ended.0 e ended.1)
+          (λ on. after_step s p inv queued pos known is out steady was n
+          (further (s' s t c p inv queued pos known is out) (record p { row = (next s t c p inv queued pos known is out).row }) (kept' s t c p inv queued pos known is out) (queued' s t c p inv queued pos known is out) pos known
+          (stage' s t c p inv queued pos known is out ∙ on c p)
+          (still_awake s t c p inv queued pos known is out e (change t p.thread p.cell p.row (s.words (cell_place s.layout (mutex_of c))) (s.queues (cell_place s.layout (mutex_of c)))))
+          (subst (Steady t (next s t c p inv queued pos known is out).row) (sym (word-is s t c p inv queued pos known is out)) (steady_at s p inv queued pos known is out steady was e))
+          (changed_to s p inv queued pos known is out steady was))
+          (λ x back. absurd (goes_on (next s t c p inv queued pos known is out).row on c p x back)))
+          (ended_or_not (next s t c p inv queued pos known is out).row)
+
+-- ---- a call from its begin on
+
+-- a call's first row is undecided, and knows nothing of the cell
+first_decided : (c : Call) → decided (first_row c) ≡ None
+first_decided (call.Lock k) = refl
+first_decided (call.TryLock k) = refl
+first_decided (call.Unlock k) = refl
+first_decided (call.Consistent k) = refl
+
+first_steady : (t : ℕ) (c : Call) (w : ℕ) → Steady t (first_row c) w
+first_steady t (call.Lock k) w = tt
+first_steady t (call.TryLock k) w = tt
+first_steady t (call.Unlock k) w = tt
+first_steady t (call.Consistent k) w = tt
+
+module _ (s : State) (t : ℕ) (c : Call) (n : ℕ) (inv : Kept s) (queued : Queued s) (pos : 1 ≤ t) (known : t ≤ s.layout.threads) (may : may_begin s t c ≡ true) (idle : (s.threads t).stage ≡ Idle) where
+  abbrev begins_at : Standing
+  begins_at = record { thread = t; cell = cell_place s.layout (mutex_of c); row = first_row c }
+
+  abbrev owned : ℕ
+  owned = held_by t (seen s) s.layout.mutexes
+
+  abbrev full : Bool
+  full = acquires (operation_of c) && nat_le 2048 (s.threads t).held
+
+  abbrev begun_to : Bool → After
+  begun_to b = begun s t c (if b then Err XHELD else Ok begins_at)
+
+  begins_so : happens s (Begin t c) ≡ begun_to full
+  begins_so = ap (λ (b : Bool). if b then begun s t c (started s.layout t (s.threads t).held c) else nothing s) may
+
+  -- refused at once
+  refused : full ≡ true → IsUndivided s t c n
+  refused e =
+      let to : happens s (Begin t c) ≡ begun_to true = begins_so ∙ ap begun_to e in
+      let still = idle_still s t idle in
+      let back : run s (Begin t c ∷ replicate n (Step t)) ≡ s = ap (λ (a : After). run a.state (replicate n (Step t))) to ∙ still_run s t n still in
+      let holds : (acquires (operation_of c) && nat_le 2048 owned) ≡ true = subst (λ (h : ℕ). (acquires (operation_of c) && nat_le 2048 h) ≡ true) (inv.held t pos known) e in
+      record {
+        returns = λ x among.
+            let said = subst (λ (a : After). IsAmong (Return t x) (facts_of a.note ++ facts_among (notes a.state (replicate n (Step t))))) to among in
+            let is : x ≡ XHELD = only x (subst (λ fs. IsAmong (Return t x) (facts_of (begun_to true).note ++ fs)) (still_tells s t n still) said) in (
+              (λ raced. cc (sym is ∙ raced)),
+              subst (λ (z : Reply × State). Does owned (seen s (mutex_of c)) t (operation_of c) z.0 (seen z.1 (mutex_of c))) (λ i. (sym is i, sym back i))
+                  (subst (λ (b : Bool). MatchBool b ((XHELD ≡ XHELD) × (seen s (mutex_of c) ≡ seen s (mutex_of c))) (Permits (seen s (mutex_of c)) t (operation_of c) XHELD (seen s (mutex_of c)))) (sym holds) (refl, refl)),
+            );
+        sleeps = λ asleep. absurd (cc (sym (ap (λ (z : State). is_asleep z t) back ∙ ap (sleeps s t) idle) ∙ asleep));
+      }
+    where
+      only : (x : Reply) → IsAmong (Return t x) (facts_of (begun_to true).note ++ []) → x ≡ XHELD
+      only x among = ⊎_elim (λ b. absurd (cc b)) (λ rest. ⊎_elim (λ b. absurd (cc b)) (λ last. ⊎_elim (λ same. sym (replied same)) (λ none. absurd none) last) rest) among
+        where
+          replied : Return t XHELD ≡ Return t x → XHELD ≡ x
+          replied same = cc
+
+  -- begun
+  goes : full ≡ false → IsUndivided s t c n
+  goes e =
+      let to : happens s (Begin t c) ≡ begun_to false = begins_so ∙ ap begun_to e in
+      let s1 : State = (begun_to false).state in
+      let kept1 : Kept s1 = subst (λ (a : After). Kept a.state) to (sound s (Begin t c) inv).kept in
+      let queued1 : Queued s1 = subst (λ (a : After). Queued a.state) to (queued_on s (Begin t c) inv queued) in
+      let comes1 = comes t owned c (seen s (mutex_of c)) room n s1 begins_at kept1 queued1 pos known
+      (ap (λ (z : Thread). z.stage) (put-same s.threads t (record (s.threads t) { stage = Calling c begins_at })))
+      (idle_in_none s t queued idle (cell_place s.layout (mutex_of c)))
+      (first_steady t c (s.words (cell_place s.layout (mutex_of c))))
+      (subst (λ (d : Option Reply). Decided t owned c (seen s (mutex_of c)) room d (seen s (mutex_of c))) (sym (first_decided c)) refl) in
+      record {
+        returns = λ x among.
+            let said = subst (λ (a : After). IsAmong (Return t x) (facts_of a.note ++ facts_among (notes a.state (replicate n (Step t))))) to among in
+            subst (λ (a : After). (x ≢ XRACED) × Does owned (seen s (mutex_of c)) t (operation_of c) x (seen (run a.state (replicate n (Step t))) (mutex_of c))) (sym to)
+            (comes1.returns x (⊎_elim (λ b. absurd (cc b)) (λ rest. rest) said));
+        sleeps = λ asleep. comes1.sleeps (ap (λ (a : After). is_asleep (run a.state (replicate n (Step t))) t) (sym to) ∙ asleep);
+      }
+    where
+      room : acquires (operation_of c) ≡ true → owned < 2048
+      room takes = let h = inv.held t pos known in let few : (s.threads t).held < 2048 = grind (arith, nat_tests) in omega arith
+
+undivided : (s : State) → Kept s → Queued s → (t : ℕ) (c : Call) (n : ℕ) → may_begin s t c ≡ true → IsUndivided s t c n
+undivided s inv queued t c n may =
+    let pos : 1 ≤ t = grind (arith, nat_tests) in
+    let known : t ≤ s.layout.threads = grind (arith, nat_tests) in
+    let idle : (s.threads t).stage ≡ Idle = may_idle (s.threads t).stage (grind (arith, nat_tests)) in
+    go pos known idle (acquires (operation_of c) && nat_le 2048 (s.threads t).held) refl
+  where
+    go : 1 ≤ t → t ≤ s.layout.threads → (s.threads t).stage ≡ Idle → (b : Bool) → (acquires (operation_of c) && nat_le 2048 (s.threads t).held) ≡ b → IsUndivided s t c n
+    go pos known idle true e = refused s t c n inv queued pos known may idle e
+    go pos known idle false e = goes s t c n inv queued pos known may idle e
+
+-- each state that events lead to goes on
+pub goes_on_from : (s : State) → Kept s → Queued s → GoesOn s
+goes_on_from s inv queued = record { owed = somebody_owes s inv queued; ends = ends_alone s inv queued; undivided = undivided s inv queued }
+
+pub going : MachineGoesOn
+going l counters events is =
+    goes_on_from (run (start l counters) events) (run_kept (start l counters) events (start_kept l counters is)) (run_queued l counters events is)

@@ -1,0 +1,65 @@
+-- Threads that sleep, and who owes them.
+use Rattle.std.specs.Prelude.{ℕ, ◌≡◌, ◌≢◌, ◌<◌, ◌≤◌, ◌⊎◌, true, false, Some, None, List, [], ◌∷◌, replicate}
+use Rattle.lockword.specs.declared.reply.Reply.{Reply}
+use Rattle.lockword.specs.declared.reply.Reply.TheVariants.{XRACED}
+use Rattle.keys.specs.declared.point.Operation.TheVariants.{Lock}
+use Rattle.keys.specs.Layouts.{Layout', IsLayout}
+use Rattle.keys.specs.Histories.{held_by}
+use Rattle.keys.specs.Objects.{Does}
+use Rattle.mutex.specs.declared.call.Call.{Call}
+use Rattle.mutex.specs.Calls.{mutex_of, operation_of}
+use Rattle.protocol.specs.declared.event.Event.{Event}
+use Rattle.protocol.specs.declared.event.Event.TheVariants.{Begin, Step}
+use Rattle.protocol.specs.declared.note.Fact.{Fact}
+use Rattle.protocol.specs.declared.note.Fact.TheVariants.{Return}
+use Rattle.protocol.specs.Machine.{State, start, run, notes, stands_in, sleepers, is_busy, is_asleep, may_begin}
+use Rattle.protocol.specs.Headline.{seen, facts_among}
+
+-- thread t sleeps on mutex m
+abbrev pub Sleeps : State → ℕ → ℕ → Type 0
+Sleeps s t m = stands_in t (sleepers s m) ≡ true
+
+-- nobody owns mutex m
+abbrev pub IsUnowned : State → ℕ → Type 0
+IsUnowned s m = (seen s m).owner ≡ None
+
+-- thread t is in a call, and stands in no queue
+abbrev pub IsAwake : State → ℕ → Type 0
+IsAwake s t = (is_busy s t ≡ true) × ((key : ℕ) → stands_in t (s.queues key) ≡ false)
+
+-- after n steps of thread t, and of nobody else
+abbrev pub alone : State → ℕ → ℕ → State
+alone s t n = run s (replicate n (Step t))
+
+-- thread t, run alone, takes mutex m or wakes one that sleeps on it, within n steps
+abbrev pub Owes : State → ℕ → ℕ → ℕ → Type 0
+Owes s t m n = (k : ℕ) × (k ≤ n) × (((seen (alone s t k) m).owner ≡ Some t) ⊎ ((u : ℕ) × Sleeps s u m × (stands_in u (sleepers (alone s t k) m) ≡ false)))
+
+-- whenever a mutex that nobody owns has sleepers, some awake thread owes them
+abbrev pub SomebodyOwes : State → Type 0
+SomebodyOwes s = (m u : ℕ) → m < s.layout.mutexes → IsUnowned s m → Sleeps s u m → (t : ℕ) × IsAwake s t × Owes s t m 9000
+
+-- whoever is awake and runs alone ends its call or falls asleep within 9,000 steps
+abbrev pub EndsAlone : State → ℕ → Type 0
+EndsAlone s t = IsAwake s t → (n : ℕ) × (n ≤ 9000) × ((is_busy (alone s t n) t ≡ false) ⊎ (is_asleep (alone s t n) t ≡ true))
+
+-- a fact is one of those told
+abbrev pub IsAmong : Fact → List Fact → Type 0
+IsAmong f [] = ⊥
+IsAmong f (g ∷ gs) = (g ≡ f) ⊎ IsAmong f gs
+
+-- a call and n steps of its thread, which no other event divides: whatever it returns is a reply of its mutex's object as it was, never X_RACED, and leaves that object as it is then; and it
+-- sleeps only where it is a lock of a mutex that another owns
+pub record IsUndivided (s : State) (t : ℕ) (c : Call) (n : ℕ) : Type 0 where
+  pub returns : (x : Reply) → IsAmong (Return t x) (facts_among (notes s (Begin t c ∷ replicate n (Step t)))) → (x ≢ XRACED) × Does (held_by t (seen s) s.layout.mutexes) (seen s (mutex_of c)) t (operation_of c) x (seen (run s (Begin t c ∷ replicate n (Step t))) (mutex_of c))
+  pub sleeps : is_asleep (run s (Begin t c ∷ replicate n (Step t))) t ≡ true → (operation_of c ≡ Lock) × ((u : ℕ) × ((seen s (mutex_of c)).owner ≡ Some u) × (u ≢ t))
+
+-- what every state keeps that events lead to
+pub record GoesOn (s : State) : Type 0 where
+  pub owed : SomebodyOwes s
+  pub ends : (t : ℕ) → EndsAlone s t
+  pub undivided : (t : ℕ) (c : Call) (n : ℕ) → may_begin s t c ≡ true → IsUndivided s t c n
+
+-- whatever happens, with any values of the counters at the beginning
+abbrev pub MachineGoesOn : Type 0
+MachineGoesOn = (l : Layout') (counters : ℕ → ℕ) (events : List Event) → IsLayout l → GoesOn (run (start l counters) events)
