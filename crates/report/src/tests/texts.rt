@@ -4,13 +4,15 @@ ghost use Rattle.std.specs.Prelude.{◌≤◌};
 
 use super::Narrow;
 use crate::{MutexWord, ThreadReplies, write_replies, write_trace};
-use interleave::Trace;
-use keys::{Decision, Operation};
+use buckets::Batch;
+use interleave::{Machine, Trace};
+use keys::{Decision, Layout, Operation};
 use lockword::{Reply, Tid};
 use mutex::Call;
-use protocol::Note;
+use protocol::{Event, Note};
 use std::alloc::{AllocError, Global};
 use std::io;
+use std::test::Fail;
 
 fn tid(id: u8) -> Tid
     requires { (1 ≤ id) × (id ≤ 64) }
@@ -45,6 +47,8 @@ fn stepped(id: u8, point: Option<(u16, Operation, Reply)>, returned: Option<Repl
     Note::Stepped {
         thread,
         point,
+        slept: None,
+        woken: Batch::new(),
         returned,
     }
 }
@@ -92,6 +96,47 @@ fn each_kind_of_note_has_its_lines(rt: HostRuntime) -> Result<(), AllocError> {
     let mut out = Vec::new(rt.alloc());
     assert!(rt; write_trace(&sample(rt.alloc())?, &mut out).is_ok());
     assert!(rt; out.as_slice() == TEXT.as_bytes());
+    Ok(())
+}
+
+const SLEEPER: &str = "trace 2 1 0\n\
+    1 begin t1 lock m0\n\
+    3 point t1 m0 lock OK\n\
+    3 return t1 OK\n\
+    4 begin t2 lock m0\n\
+    7 sleep t2 m0\n\
+    8 begin t1 unlock m0\n\
+    10 point t1 m0 unlock OK\n\
+    11 wake t2\n\
+    11 return t1 OK\n\
+    13 point t2 m0 lock OK\n\
+    13 return t2 OK\n\
+    end 13\n";
+
+#[test]
+fn who_sleeps_and_who_is_woken_have_their_lines(rt: HostRuntime) -> Result<(), Fail> {
+    let one = Tid::new(1).ok_or("no thread 1")?;
+    let two = Tid::new(2).ok_or("no thread 2")?;
+    let events = [
+        Event::Begin(one, Call::Lock(0)),
+        Event::Step(one),
+        Event::Step(one),
+        Event::Begin(two, Call::Lock(0)),
+        Event::Step(two),
+        Event::Step(two),
+        Event::Step(two),
+        Event::Begin(one, Call::Unlock(0)),
+        Event::Step(one),
+        Event::Step(one),
+        Event::Step(one),
+        Event::Step(two),
+        Event::Step(two),
+    ];
+    let mut machine = Machine::new(rt.alloc(), Layout::new(2, 1, &[])?)?;
+    let trace = machine.run(rt.alloc(), &events)?;
+    let mut out = Vec::new(rt.alloc());
+    assert!(rt; write_trace(&trace, &mut out).is_ok());
+    assert!(rt; out.as_slice() == SLEEPER.as_bytes());
     Ok(())
 }
 
