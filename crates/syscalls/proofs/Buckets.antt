@@ -10,8 +10,8 @@ use Rattle.std.proofs.lemmas.List.FromFn.{get_or-range_with_len, length-range_wi
 use Rattle.buckets.specs.Queues.{Sleepers, queue, standing, StandsNowhere}
 use Rattle.syscalls.specs.Kernels.{Kernel', nobody, bucket_at, queue_in, IsAwake, IsKernel, HasBuckets}
 
-abbrev pub kernel : ℕ → List Sleepers → Kernel'
-kernel n bs = record { threads = n; buckets = bs }
+abbrev pub kernel : ℕ → List ℕ → List Sleepers → Kernel'
+kernel n hs bs = record { threads = n; buckets = bs; heads = hs }
 
 pub at_same : (bs : List Sleepers) (i : ℕ) (b : Sleepers) → i < length bs → bucket_at (set bs i b) i ≡ b
 at_same bs i b lt = get_or-set_same bs i b nobody lt
@@ -41,20 +41,20 @@ queues_set bs i b f lt here there k = go (cases_eq (k % length bs) i)
     go (inr ne) = queue_there bs i b k ne ∙ sym (there k ne)
 
 -- who stands in a bucket stands in the queue of a key of that bucket
-pub stands_home : (n : ℕ) (bs : List Sleepers) (i k t : ℕ) → HasBuckets (kernel n bs) → i < length bs → Contains (queue (bucket_at bs i) k) t → (k % length bs ≡ i) × Contains (queue_in bs k) t
-stands_home n bs i k t has lt c = go (cases_eq (k % length bs) i)
+pub stands_home : (n : ℕ) (hs : List ℕ) (bs : List Sleepers) (i k t : ℕ) → HasBuckets (kernel n hs bs) → i < length bs → Contains (queue (bucket_at bs i) k) t → (k % length bs ≡ i) × Contains (queue_in bs k) t
+stands_home n hs bs i k t has lt c = go (cases_eq (k % length bs) i)
   where
     go : (k % length bs ≡ i) ⊎ (k % length bs ≡ i → ⊥) → (k % length bs ≡ i) × Contains (queue_in bs k) t
     go (inl e) = (e, subst (λ (j : ℕ). Contains (queue (bucket_at bs j) k) t) (sym e) c)
     go (inr ne) = let none = ap length (has.home i k lt ne) in absurd (omega (arith, none, c.1))
 
 -- the bucket of a key is one of them
-pub inside : (n : ℕ) (bs : List Sleepers) (k : ℕ) → HasBuckets (kernel n bs) → k % length bs < length bs
-inside n bs k has = let some = has.some in mod-lt k (omega arith)
+pub inside : (n : ℕ) (hs : List ℕ) (bs : List Sleepers) (k : ℕ) → HasBuckets (kernel n hs bs) → k % length bs < length bs
+inside n hs bs k has = let some = has.some in mod-lt k (omega arith)
 
 -- who sleeps nowhere stands in no bucket
-pub awake_nowhere : (n : ℕ) (bs : List Sleepers) (i t : ℕ) → HasBuckets (kernel n bs) → i < length bs → IsAwake (kernel n bs) t → StandsNowhere (bucket_at bs i) t
-awake_nowhere n bs i t has lt awake k c = awake k (stands_home n bs i k t has lt c).1
+pub awake_nowhere : (n : ℕ) (hs : List ℕ) (bs : List Sleepers) (i t : ℕ) → HasBuckets (kernel n hs bs) → i < length bs → IsAwake (kernel n hs bs) t → StandsNowhere (bucket_at bs i) t
+awake_nowhere n hs bs i t has lt awake k c = awake k (stands_home n hs bs i k t has lt c).1
 
 -- the ids from 1 to n without one of them
 others : ℕ → ℕ → List ℕ
@@ -86,9 +86,9 @@ contains_others n t u low high from to ne = go (cases_lt u t)
         (u - 2, omega arith, get_or-remove_above (range_with_len 1 n) (t - 1) u (u - 2) (omega arith) (omega arith) ∙ get_or-range_with_len 1 n ((u - 2) + 1) u (omega arith) ∙ is)
 
 -- there is room for a thread that sleeps nowhere
-pub room_left : (n : ℕ) (bs : List Sleepers) (i t : ℕ) → IsKernel (kernel n bs) → HasBuckets (kernel n bs) → i < length bs → 1 ≤ t → t ≤ n → IsAwake (kernel n bs) t
+pub room_left : (n : ℕ) (hs : List ℕ) (bs : List Sleepers) (i t : ℕ) → IsKernel (kernel n hs bs) → HasBuckets (kernel n hs bs) → i < length bs → 1 ≤ t → t ≤ n → IsAwake (kernel n hs bs) t
     → standing (bucket_at bs i) < (bucket_at bs i).capacity
-room_left n bs i t is has lt low high awake =
+room_left n hs bs i t is has lt low high awake =
     let few = (has.orderly i lt).few (others n t) all in
     let len = length-others n t low high in
     let cap = has.room i lt in
@@ -96,6 +96,6 @@ room_left n bs i t is has lt low high awake =
   where
     all : (k u : ℕ) → Contains (queue (bucket_at bs i) k) u → Contains (others n t) u
     all k u c =
-        let at = (stands_home n bs i k u has lt c).1 in
+        let at = (stands_home n hs bs i k u has lt c).1 in
         let id = is.known k u at in
         contains_others n t u low high id.0 id.1 (λ same. awake k (subst (Contains (queue_in bs k)) same at))

@@ -1,7 +1,8 @@
--- When a futex call is refused, and how.
-use Rattle.std.specs.Prelude.{ℕ, ◌≡◌, ◌≢◌, ◌%◌, ◌^◌, List, slice_index, Result, Ok, Err, IsTrue, IsFalse}
+-- When a call is refused, and how.
+use Rattle.std.specs.Prelude.{ℕ, ◌≡◌, ◌≢◌, ◌≤◌, ◌%◌, ◌^◌, List, slice_index, Result, Ok, Err, IsTrue, IsFalse}
 use Rattle.lockword.specs.declared.reply.Reply.{Reply}
-use Rattle.lockword.specs.declared.reply.Reply.TheVariants.{EAGAIN, EFAULT}
+use Rattle.lockword.specs.declared.reply.Reply.TheVariants.{ESRCH, EAGAIN, EFAULT, EINVAL}
+use Rattle.syscalls.specs.Kernels.{Kernel', head_of, head_size}
 use Rattle.syscalls.specs.Memories.{is_valid}
 
 -- the futex word in the word at an address: its low half
@@ -20,3 +21,19 @@ abbrev pub WakeAnswers : {X : Type 0} → List ℕ → ℕ → Result X Reply �
 WakeAnswers words at (Ok x) = IsTrue (is_valid words at)
 WakeAnswers words at (Err EFAULT) = IsFalse (is_valid words at)
 WakeAnswers words at (Err r) = ⊥
+
+-- a head is set exactly where the length told is its size, and EINVAL tells that it isn't
+abbrev pub SetHeadAnswers : ℕ → Result (Unit {0}) Reply → Type 0
+SetHeadAnswers len (Ok x) = len ≡ head_size
+SetHeadAnswers len (Err EINVAL) = len ≢ head_size
+SetHeadAnswers len (Err r) = ⊥
+
+-- this id is a thread's
+abbrev pub IsThread : Kernel' → ℕ → Type 0
+IsThread k id = (1 ≤ id) × (id ≤ k.threads)
+
+-- a thread's head is told with its size, and ESRCH tells that no thread has the id
+abbrev pub GetHeadAnswers : Kernel' → ℕ → Result (ℕ × ℕ) Reply → Type 0
+GetHeadAnswers k id (Ok (head, len)) = IsThread k id × (head ≡ head_of k id) × (len ≡ head_size)
+GetHeadAnswers k id (Err ESRCH) = ¬ IsThread k id
+GetHeadAnswers k id (Err r) = ⊥

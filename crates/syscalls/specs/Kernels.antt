@@ -1,11 +1,12 @@
--- The sleepers of every key, as a kernel keeps them (futex(2)).
-use Rattle.std.specs.Prelude.{ℕ, ◌≡◌, ◌≢◌, ◌<◌, ◌≤◌, ◌%◌, ◌==◌, Bool, List, [], ◌∷◌, ◌++◌, length, take, drop, slice_index_or, if◌then◌else◌, AllPairs, Contains, MatchBool}
+-- The sleepers of every key and the robust list's head of every thread, as a kernel keeps them (futex(2), get_robust_list(2)).
+use Rattle.std.specs.Prelude.{ℕ, ◌≡◌, ◌≢◌, ◌<◌, ◌≤◌, ◌%◌, ◌-◌, ◌==◌, Bool, List, [], ◌∷◌, ◌++◌, length, take, drop, slice_index, slice_index_or, if◌then◌else◌, AllPairs, Contains, MatchBool}
 use Rattle.buckets.specs.Queues.{Sleepers, queue, without, IsOrderly}
 
--- hash buckets for so many threads. What calls speak of is each key's queue, `queue_of`
+-- hash buckets and heads for so many threads. What calls speak of is each key's queue, `queue_of`, and each thread's head, `head_of`
 pub record Kernel' : Type 0 where
   pub threads : ℕ
   pub buckets : List Sleepers
+  pub heads : List ℕ
 
 abbrev pub nobody : Sleepers
 nobody = record { capacity = 0; sleeping = [] }
@@ -21,6 +22,14 @@ queue_in buckets key = queue (bucket_at buckets (key % length buckets)) key
 abbrev pub queue_of : Kernel' → ℕ → List ℕ
 queue_of k key = queue_in k.buckets key
 
+-- the address of thread t's robust list head, as it was last set; 0 before any. Ids begin at 1
+abbrev pub head_of : Kernel' → ℕ → ℕ
+head_of k t = slice_index k.heads (t - 1)
+
+-- the size of a robust list's head, in bytes
+abbrev pub head_size : ℕ
+head_size = 24
+
 -- thread t stands in a queue, or in none
 abbrev pub IsAsleep : Kernel' → ℕ → Type 0
 IsAsleep k t = (key : ℕ) × Contains (queue_of k key) t
@@ -35,6 +44,7 @@ pub record IsKernel (k : Kernel') : Type 0 where
   pub known : (key t : ℕ) → Contains (queue_of k key) t → (1 ≤ t) × (t ≤ k.threads)
   pub one_place : (key : ℕ) → AllPairs (λ t u. t ≢ u) (queue_of k key)
   pub one_queue : (t key other : ℕ) → Contains (queue_of k key) t → Contains (queue_of k other) t → key ≡ other
+  pub heads : length k.heads ≡ k.threads
 
 -- what its buckets always are: each has room for every thread, and sleepers on its own keys alone
 pub record HasBuckets (k : Kernel') : Type 0 where
@@ -43,24 +53,34 @@ pub record HasBuckets (k : Kernel') : Type 0 where
   pub room : (i : ℕ) → i < length k.buckets → (bucket_at k.buckets i).capacity ≡ k.threads
   pub home : (i key : ℕ) → i < length k.buckets → key % length k.buckets ≢ i → queue (bucket_at k.buckets i) key ≡ []
 
--- nobody sleeps, of so many threads
+-- nobody sleeps and each head is 0, of so many threads
 pub record IsIdle (k : Kernel') (count : ℕ) : Type 0 where
   pub threads : k.threads ≡ count
   pub queues : (key : ℕ) → queue_of k key ≡ []
+  pub heads : (t : ℕ) → head_of k t ≡ 0
 
--- the thread fell asleep: it was put at the end of the key's queue, and every other queue stays
+-- the thread fell asleep: it was put at the end of the key's queue, and every other queue and each head stays
 pub record FallsAsleep (old new : Kernel') (thread key : ℕ) : Type 0 where
   pub queues : (k : ℕ) → queue_of new k ≡ (if k == key then queue_of old key ++ thread ∷ [] else queue_of old k)
   pub threads : new.threads ≡ old.threads
+  pub heads : new.heads ≡ old.heads
 
--- the first n of the key's queue, or all where there are fewer, were woken: they were taken out of it, and every other queue stays
+-- the first n of the key's queue, or all where there are fewer, were woken: they were taken out of it, and every other queue and each head stays
 pub record Wakes (old new : Kernel') (key n : ℕ) (woken : List ℕ) : Type 0 where
   pub firsts : woken ≡ take n (queue_of old key)
   pub queues : (k : ℕ) → queue_of new k ≡ (if k == key then drop n (queue_of old key) else queue_of old k)
   pub threads : new.threads ≡ old.threads
+  pub heads : new.heads ≡ old.heads
 
--- the thread was taken out of the queue it stood in, if it stood, and everybody else stays
+-- the thread was taken out of the queue it stood in, if it stood, and everybody else and each head stays
 pub record Leaves (old new : Kernel') (thread : ℕ) (slept : Bool) : Type 0 where
   pub answer : MatchBool slept (IsAsleep old thread) (IsAwake old thread)
   pub queues : (k : ℕ) → queue_of new k ≡ without thread (queue_of old k)
+  pub threads : new.threads ≡ old.threads
+  pub heads : new.heads ≡ old.heads
+
+-- the thread's head was set, and every other head and each queue stays
+pub record SetsHead (old new : Kernel') (thread head : ℕ) : Type 0 where
+  pub heads : (t : ℕ) → 1 ≤ t → head_of new t ≡ (if t == thread then head else head_of old t)
+  pub queues : (k : ℕ) → queue_of new k ≡ queue_of old k
   pub threads : new.threads ≡ old.threads

@@ -1,9 +1,9 @@
-//! The sleepers of every word.
+//! The sleepers of every word, and the robust list's head of every thread.
 ghost use Rattle.std.specs.Prelude.{◌≡◌, ◌<◌, ◌≤◌, ◌%◌, ℕ, length, MatchOption, MatchResult, MatchBool, IfOk};
 ghost use Rattle.std.specs.List.{All};
 ghost use Rattle.buckets.specs.Queues.{Stands, StandsNowhere, IsOrderly, IsEmptied};
-ghost use Rattle.syscalls.specs.Kernels.{bucket_at, queue_of, IsAsleep, IsAwake, IsKernel, IsIdle, FallsAsleep, Wakes, Leaves};
-ghost use Rattle.syscalls.specs.Answers.{WaitAnswers, WakeAnswers};
+ghost use Rattle.syscalls.specs.Kernels.{bucket_at, queue_of, IsAsleep, IsAwake, IsKernel, IsIdle, FallsAsleep, Wakes, Leaves, SetsHead};
+ghost use Rattle.syscalls.specs.Answers.{WaitAnswers, WakeAnswers, SetHeadAnswers, GetHeadAnswers};
 
 use crate::memory::Memory;
 use buckets::{Batch, Bucket};
@@ -15,11 +15,15 @@ use std::marker::Model;
 /// How many hash buckets a kernel has.
 const BUCKETS: usize = 1;
 
-/// Who sleeps on which word, of threads whose ids go from 1 to a number (futex(2), shared futexes).
+/// The size of a `struct robust_list_head`, in bytes.
+const HEAD_SIZE: u64 = 24;
+
+/// Who sleeps on which word, of threads whose ids go from 1 to a number (futex(2), shared futexes), and where each one's robust list begins (get_robust_list(2)).
 #[derive(Drop)]
 pub struct Kernel {
     threads: u8,
     buckets: Vec<Bucket>,
+    heads: Vec<u64>,
 }
 
 impl Model for Kernel {
@@ -27,19 +31,20 @@ impl Model for Kernel {
 
     ghost Value = { Kernel' };
 
-    ghost view = { λ k. record { threads = k.threads; buckets = k.buckets.items } };
+    ghost view = { λ k. record { threads = k.threads; buckets = k.buckets.items; heads = k.heads.items } };
 
-    ghost invariant = { λ k. IsKernel (record { threads = k.threads; buckets = k.buckets.items }) × HasBuckets (record { threads = k.threads; buckets = k.buckets.items }) };
+    ghost invariant = { λ k. IsKernel (record { threads = k.threads; buckets = k.buckets.items; heads = k.heads.items }) × HasBuckets (record { threads = k.threads; buckets = k.buckets.items; heads = k.heads.items }) };
 }
 
 impl Clone for Kernel {
     ghost is_clone = { λ old new. new ≡ old };
 
-    /// A kernel with the same sleepers.
+    /// A kernel with the same sleepers and heads.
     fn clone(&self) -> Result<Kernel, AllocError> {
         Ok(Kernel {
             threads: self.threads,
             buckets: self.buckets.clone()?,
+            heads: self.heads.clone()?,
         })
     }
 }
@@ -75,7 +80,7 @@ fn bucket_with(buckets: &[Bucket], thread: Tid) -> Option<usize>
 }
 
 impl Kernel {
-    /// A kernel of threads 1 to `threads`, at most 64, none of which sleeps. It makes all the room that later calls fill.
+    /// A kernel of threads 1 to `threads`, at most 64, none of which sleeps or has set a head. It makes all the room that later calls fill.
     pub fn new(alloc: Global, threads: u8) -> Result<Kernel, NoMem>
         requires first { 1 ≤ threads }
         requires last { threads ≤ 64 }
@@ -83,7 +88,14 @@ impl Kernel {
         ensures sound { IfOk result IsKernel }
     {
         let buckets = empty_buckets(alloc, usize::from(threads))?;
-        Ok(Kernel { threads, buckets })
+        let Ok(heads) = vec![in alloc; 0; usize::from(threads)] else {
+            return Err(NoMem);
+        };
+        Ok(Kernel {
+            threads,
+            buckets,
+            heads,
+        })
     }
 
     /// How many threads it is for: 1 to 64. Their ids go from 1 to this.
@@ -163,5 +175,34 @@ impl Kernel {
     {
         let key = key_of(at);
         self.buckets[bucket_of(key, self.buckets.len())].sleepers(key)
+    }
+
+    /// Sets the address of the thread's robust list head, as the thread itself asks (set_robust_list(2)). It stays until it is set again.
+    /// Refused with EINVAL where the length isn't 24, the size of a head in bytes; then nothing changes.
+    pub fn set_robust_list(&mut self, thread: Tid, head: u64, len: u64) -> Result<(), Reply>
+        requires known { thread ≤ self.old.threads }
+        ensures answer { SetHeadAnswers len result }
+        ensures changes { MatchResult result (λ _. SetsHead self.old self.new thread head) (λ _. self.new ≡ self.old) }
+        ensures sound { IsKernel self.new }
+    {
+        // What a kernel always keeps is known once a field of it is read.
+        let _threads = self.threads;
+        if len != HEAD_SIZE {
+            return Err(Reply::EINVAL);
+        }
+        self.heads[usize::from(thread.get() - 1)] = head;
+        Ok(())
+    }
+
+    /// The address of a thread's robust list head, 0 before it set one, and 24, the size of a head in bytes (get_robust_list(2)).
+    /// Refused with ESRCH where no thread has the id. Id 0 doesn't stand for the caller here: it is no thread and answers ESRCH.
+    pub fn get_robust_list(&self, id: u8) -> Result<(u64, u64), Reply>
+        ensures answer { GetHeadAnswers self.now id result }
+        ensures sound { IsKernel self.now }
+    {
+        if id < 1 || self.threads < id {
+            return Err(Reply::ESRCH);
+        }
+        Ok((self.heads[usize::from(id - 1)], HEAD_SIZE))
     }
 }

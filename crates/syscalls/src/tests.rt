@@ -96,6 +96,35 @@ fn a_removal_takes_one_thread(rt: HostRuntime) -> Result<(), Fail> {
     Ok(())
 }
 
+/// A set of the head of one of the kernel's threads.
+fn set(
+    rt: &impl Abort,
+    kernel: &mut Kernel,
+    id: u8,
+    head: u64,
+    len: u64,
+) -> Result<Result<(), Reply>, Fail> {
+    let thread = thread(id)?;
+    assert!(rt; thread.get() <= kernel.threads());
+    Ok(kernel.set_robust_list(thread, head, len))
+}
+
+/// A head is told as its thread set it, and a set with another length is refused.
+#[test]
+fn heads_of_two_threads(rt: HostRuntime) -> Result<(), Fail> {
+    let mut kernel = Kernel::new(rt.alloc(), 2)?;
+    assert_eq!(rt; kernel.get_robust_list(1), Ok((0, 24)));
+    assert_eq!(rt; set(&rt, &mut kernel, 1, 4, 16)?, Err(Reply::EINVAL));
+    assert_eq!(rt; kernel.get_robust_list(1), Ok((0, 24)));
+    assert_eq!(rt; set(&rt, &mut kernel, 1, 4, 24)?, Ok(()));
+    assert_eq!(rt; kernel.get_robust_list(1), Ok((4, 24)));
+    assert_eq!(rt; kernel.get_robust_list(3), Err(Reply::ESRCH));
+    assert_eq!(rt; kernel.get_robust_list(0), Err(Reply::ESRCH));
+    assert_eq!(rt; kernel.get_robust_list(2), Ok((0, 24)));
+    assert_eq!(rt; kernel.clone()?.get_robust_list(1), Ok((4, 24)));
+    Ok(())
+}
+
 /// Each access to one word of any memory that has words 1 and 2 and no word 3, of which word 2 is 0.
 fn accesses<M: Memory>(rt: &impl Abort, memory: &mut M) {
     assert_eq!(rt; memory.store(2, 12), Some(()));

@@ -11,4 +11,4 @@ returns-clause-value c =
     c.deref.ensures.value c.bucket_with.ensures in
     subst (λ (b : Bool). MatchBool b (IsAsleep c.args.self.now c.args.thread) (IsAwake c.args.self.now c.args.thread)) (sym c.is_some.ensures)
     (subst (λ (k : Kernel'). MatchBool (is_some c.bucket_with.result) (IsAsleep k c.args.thread) (IsAwake k c.args.thread)) c.self.view_is
-    (sought c.self.inside.threads c.self.inside.buckets.items c.args.thread c.bucket_with.result c.self.invariant found))
+    (sought c.self.inside.threads c.self.inside.heads.items c.self.inside.buckets.items c.args.thread c.bucket_with.result c.self.invariant found))

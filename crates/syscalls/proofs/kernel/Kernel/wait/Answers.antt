@@ -9,13 +9,13 @@ wait_section-requires-clause-room g c =
     let taken : Taken c.self.inside.buckets.items c.bucket_of-number.result c.index_mut.result.now = record { below = omega arith; is = c.index_mut.ensures.value } in
     let awake = subst (λ (k : Kernel'). IsAwake k c.args.thread) (sym c.self.view_is) c.requires.awake in
     let high = ap (λ (k : Kernel'). k.threads) c.self.view_is in
-    room_in c.self.inside.threads c.self.inside.buckets.items c.bucket_of-number.result c.index_mut.result.now c.args.thread c.self.invariant taken (omega arith) (omega arith) awake
+    room_in c.self.inside.threads c.self.inside.heads.items c.self.inside.buckets.items c.bucket_of-number.result c.index_mut.result.now c.args.thread c.self.invariant taken (omega arith) (omega arith) awake
 
 pub wait_section-requires-clause-awake : goal.wait_section-requires-clause-awake
 wait_section-requires-clause-awake g c =
     let taken : Taken c.self.inside.buckets.items c.bucket_of-number.result c.index_mut.result.now = record { below = omega arith; is = c.index_mut.ensures.value } in
     let awake = subst (λ (k : Kernel'). IsAwake k c.args.thread) (sym c.self.view_is) c.requires.awake in
-    nowhere_in c.self.inside.threads c.self.inside.buckets.items c.bucket_of-number.result c.index_mut.result.now c.args.thread c.self.invariant taken awake
+    nowhere_in c.self.inside.threads c.self.inside.heads.items c.self.inside.buckets.items c.bucket_of-number.result c.index_mut.result.now c.args.thread c.self.invariant taken awake
 
 pub invariant_of-self-2 : goal.invariant_of-self-2
 invariant_of-self-2 g c =
@@ -25,7 +25,7 @@ invariant_of-self-2 g c =
     let at : c.bucket_of-number.result ≡ c.args.at % length c.self.inside.buckets.items =
     c.bucket_of-number.ensures.value ∙ ap (λ (k : ℕ). k % c.len.result) c.key_of-key.ensures ∙ ap (λ (m : ℕ). c.args.at % m) (c.len.ensures ∙ c.self.inside.buckets.ok.0) in
     let enqueues = subst (λ (k : ℕ). Enqueues c.index_mut.result.now c.wait_section.new.self c.args.thread k) c.key_of-key.ensures c.if-not-wait_section.ensures.changes in
-    sound_wait c.self.inside.threads c.self.inside.buckets.items c.bucket_of-number.result c.index_mut.result.now c.wait_section.new.self c.args.thread c.args.at c.self.invariant taken at (omega arith) (omega arith) awake
+    sound_wait c.self.inside.threads c.self.inside.heads.items c.self.inside.buckets.items c.bucket_of-number.result c.index_mut.result.now c.wait_section.new.self c.args.thread c.args.at c.self.invariant taken at (omega arith) (omega arith) awake
     c.if-not-wait_section.ensures.orderly enqueues
 
 pub returns-clause-changes : goal.returns-clause-changes
@@ -35,7 +35,7 @@ returns-clause-changes g c =
     c.bucket_of-number.ensures.value ∙ ap (λ (k : ℕ). k % c.len.result) c.key_of-key.ensures ∙ ap (λ (m : ℕ). c.args.at % m) (c.len.ensures ∙ c.self.inside.buckets.ok.0) in
     let enqueues = subst (λ (k : ℕ). Enqueues c.index_mut.result.now c.wait_section.new.self c.args.thread k) c.key_of-key.ensures c.if-not-wait_section.ensures.changes in
     rw (← c.self.view_is)
-    (waits c.self.inside.threads c.self.inside.buckets.items c.bucket_of-number.result c.index_mut.result.now c.wait_section.new.self c.args.thread c.args.at c.self.invariant taken at enqueues)
+    (waits c.self.inside.threads c.self.inside.heads.items c.self.inside.buckets.items c.bucket_of-number.result c.index_mut.result.now c.wait_section.new.self c.args.thread c.args.at c.self.invariant taken at enqueues)
 
 pub returns-clause-sound : goal.returns-clause-sound
 returns-clause-sound g c =
@@ -45,5 +45,5 @@ returns-clause-sound g c =
     let at : c.bucket_of-number.result ≡ c.args.at % length c.self.inside.buckets.items =
     c.bucket_of-number.ensures.value ∙ ap (λ (k : ℕ). k % c.len.result) c.key_of-key.ensures ∙ ap (λ (m : ℕ). c.args.at % m) (c.len.ensures ∙ c.self.inside.buckets.ok.0) in
     let enqueues = subst (λ (k : ℕ). Enqueues c.index_mut.result.now c.wait_section.new.self c.args.thread k) c.key_of-key.ensures c.if-not-wait_section.ensures.changes in
-    (sound_wait c.self.inside.threads c.self.inside.buckets.items c.bucket_of-number.result c.index_mut.result.now c.wait_section.new.self c.args.thread c.args.at c.self.invariant taken at (omega arith) (omega arith) awake
+    (sound_wait c.self.inside.threads c.self.inside.heads.items c.self.inside.buckets.items c.bucket_of-number.result c.index_mut.result.now c.wait_section.new.self c.args.thread c.args.at c.self.invariant taken at (omega arith) (omega arith) awake
     c.if-not-wait_section.ensures.orderly enqueues).0

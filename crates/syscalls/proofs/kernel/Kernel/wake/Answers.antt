@@ -9,7 +9,7 @@ invariant_of-self g c =
     let at : c.bucket_of-number.result ≡ c.args.at % length c.self.inside.buckets.items =
     c.bucket_of-number.ensures.value ∙ ap (λ (k : ℕ). k % c.len.result) c.key_of-key.ensures ∙ ap (λ (m : ℕ). c.args.at % m) (c.len.ensures ∙ c.self.inside.buckets.ok.0) in
     let takes = subst (λ (k : ℕ). Takes c.index_mut.result.now c.take.new.self k c.args.n c.take.result) c.key_of-key.ensures c.take.ensures.changes in
-    sound_wake c.self.inside.threads c.self.inside.buckets.items c.bucket_of-number.result c.index_mut.result.now c.take.new.self c.args.at c.args.n c.take.result c.self.invariant taken at c.take.ensures.orderly takes
+    sound_wake c.self.inside.threads c.self.inside.heads.items c.self.inside.buckets.items c.bucket_of-number.result c.index_mut.result.now c.take.new.self c.args.at c.args.n c.take.result c.self.invariant taken at c.take.ensures.orderly takes
 
 pub returns-clause-changes : goal.returns-clause-changes
 returns-clause-changes g c =
@@ -18,7 +18,7 @@ returns-clause-changes g c =
     c.bucket_of-number.ensures.value ∙ ap (λ (k : ℕ). k % c.len.result) c.key_of-key.ensures ∙ ap (λ (m : ℕ). c.args.at % m) (c.len.ensures ∙ c.self.inside.buckets.ok.0) in
     let takes = subst (λ (k : ℕ). Takes c.index_mut.result.now c.take.new.self k c.args.n c.take.result) c.key_of-key.ensures c.take.ensures.changes in
     rw (← c.self.view_is)
-    (wakes_in c.self.inside.threads c.self.inside.buckets.items c.bucket_of-number.result c.index_mut.result.now c.take.new.self c.args.at c.args.n c.take.result c.self.invariant taken at takes)
+    (wakes_in c.self.inside.threads c.self.inside.heads.items c.self.inside.buckets.items c.bucket_of-number.result c.index_mut.result.now c.take.new.self c.args.at c.args.n c.take.result c.self.invariant taken at takes)
 
 pub returns-clause-sound : goal.returns-clause-sound
 returns-clause-sound g c =
@@ -26,4 +26,4 @@ returns-clause-sound g c =
     let at : c.bucket_of-number.result ≡ c.args.at % length c.self.inside.buckets.items =
     c.bucket_of-number.ensures.value ∙ ap (λ (k : ℕ). k % c.len.result) c.key_of-key.ensures ∙ ap (λ (m : ℕ). c.args.at % m) (c.len.ensures ∙ c.self.inside.buckets.ok.0) in
     let takes = subst (λ (k : ℕ). Takes c.index_mut.result.now c.take.new.self k c.args.n c.take.result) c.key_of-key.ensures c.take.ensures.changes in
-    (sound_wake c.self.inside.threads c.self.inside.buckets.items c.bucket_of-number.result c.index_mut.result.now c.take.new.self c.args.at c.args.n c.take.result c.self.invariant taken at c.take.ensures.orderly takes).0
+    (sound_wake c.self.inside.threads c.self.inside.heads.items c.self.inside.buckets.items c.bucket_of-number.result c.index_mut.result.now c.take.new.self c.args.at c.args.n c.take.result c.self.invariant taken at c.take.ensures.orderly takes).0
