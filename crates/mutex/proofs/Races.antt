@@ -16,7 +16,7 @@ use Rattle.mutex.specs.Programs.{resume_of}
 use Rattle.mutex.specs.Laws.{reached, tells_change, changes, RacedAfterFour}
 
 -- a trylock that stands there has met so many changed cells, or more
-abbrev Met : Row → ℕ → Type 0
+abbrev pub Met : Row → ℕ → Type 0
 Met (TryLock try.Load) n = Unit {0}
 Met (TryLock (try.Take v k)) n = (k < 4) × (k ≤ n)
 Met (Ended XRACED) n = 4 ≤ n
@@ -26,7 +26,7 @@ Met (Unlock r) n = ⊥
 Met (Consistent r) n = ⊥
 
 -- a call that has returned saw the changes that it had to
-ended_met : (x : Reply) (n m : ℕ) → Met (Ended x) n → Met (Ended x) (n + m)
+pub ended_met : (x : Reply) (n m : ℕ) → Met (Ended x) n → Met (Ended x) (n + m)
 ended_met XRACED n m h = omega arith
 ended_met x n m h = tt
 
@@ -46,7 +46,7 @@ acquired_met true n = tt
 acquired_met false n = tt
 
 -- one answer more
-answered : (t : ℕ) (r : Row) (a : Answer) (n : ℕ) → Met r n → Met (resume_of t r a).row (n + tells_change a)
+pub answered : (t : ℕ) (r : Row) (a : Answer) (n : ℕ) → Met r n → Met (resume_of t r a).row (n + tells_change a)
 answered t (TryLock try.Load) (Value w) n h = sees_met 0 (n + 0) (fields_of w) (omega arith) (omega arith)
 answered t (TryLock try.Load) a n h = tt
 answered t (TryLock (try.Take v k)) Exchanged n h = acquired_met v.died (n + 0)

@@ -7,6 +7,8 @@ pub mod TryLock
 pub mod Unlock
 pub mod Consistent
 pub mod Programs
+pub mod Whole
 pub mod Laws
+pub mod WholeLaws
 pub mod Steps
 pub mod Alone

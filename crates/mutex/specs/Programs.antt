@@ -35,11 +35,13 @@ first_row (call.TryLock m) = TryLock try.Load
 first_row (call.Unlock m) = Unlock unlock.Load
 first_row (call.Consistent m) = Consistent consistent.Load
 
--- a call's begin: whoever holds 2,048 mutexes may not take another
+-- a call's begin, at its mutex's cell
+abbrev pub at_cell : Layout' → ℕ → Call → Standing
+at_cell l t c = record { thread = t; cell = cell_place l (mutex_of c); row = first_row c }
+
+-- whoever holds 2,048 mutexes may not take another
 abbrev pub started : Layout' → ℕ → ℕ → Call → Result Standing Reply
-started l t held c =
-    if acquires (operation_of c) && nat_le 2048 held then Err XHELD
-    else Ok (record { thread = t; cell = cell_place l (mutex_of c); row = first_row c })
+started l t held c = if acquires (operation_of c) && nat_le 2048 held then Err XHELD else Ok (at_cell l t c)
 
 abbrev pub row_access : ℕ → ℕ → Row → Access
 row_access t cell (Lock r) = lock_access t cell r

@@ -1,24 +1,23 @@
-//! Calls in progress.
+//! What calls do at their mutex's cell.
 ghost use Rattle.std.specs.Prelude.{◌≡◌, ◌<◌, ◌≤◌};
 ghost use Rattle.mutex.specs.Calls.{mutex_of};
 ghost use Rattle.mutex.specs.Progresses.{progress_at};
 
 use crate::call::Call;
 use crate::row::{Led, Row};
-use crate::{consistent, lock, try_lock, unlock};
-use keys::{Access, Answer, HELD_LIMIT, Layout, Operation, Point, Progress};
+use keys::{Access, Answer, Layout, Operation, Point, Progress};
 use lockword::{Reply, Tid};
 use std::marker::Model;
 
-/// A call of a thread on the mutex whose cell is at an address.
+/// What a call of a thread does at its mutex's cell, which is at an address, and to those who sleep on it.
 #[derive(Clone, Copy, Debug, PartialEq, Eq)]
-pub struct Program {
+pub struct CellProgram {
     thread: Tid,
     cell: u64,
     row: Row,
 }
 
-impl Model for Program {
+impl Model for CellProgram {
     ghost use Rattle.mutex.specs.Standings.{Standing};
 
     ghost Value = { Standing };
@@ -32,32 +31,20 @@ impl Model for Program {
     ghost inverse = { λ s. record { thread = s.thread; cell = s.cell; row = s.row } };
 }
 
-impl Program {
-    ghost use Rattle.mutex.specs.Programs.{started, access_of, led, moved, point_of, progress_of, row_operation};
+impl CellProgram {
+    ghost use Rattle.mutex.specs.Programs.{at_cell, access_of, led, moved, point_of, progress_of, row_operation};
     ghost use Rattle.mutex.specs.Rows.{IsGoing, Knows};
 
-    /// A call of a thread that holds so many mutexes, without the accesses to robust lists. A lock or trylock by a thread that holds 2,048 is refused
-    /// with `XHELD` before any access.
-    pub fn short(layout: &Layout, thread: Tid, held: u16, call: Call) -> Result<Program, Reply>
+    pub(crate) fn new(layout: &Layout, thread: Tid, call: Call) -> CellProgram
         requires thread { thread ≤ layout.now.threads }
         requires mutex { mutex_of call < layout.now.mutexes }
-        ensures { result ≡ started layout.now thread held call }
+        ensures { result ≡ at_cell layout.now thread call }
     {
-        let takes = matches!(call, Call::Lock(_) | Call::TryLock(_));
-        if takes && HELD_LIMIT <= held {
-            return Err(Reply::XHELD);
-        }
-        let row = match call {
-            Call::Lock(_) => Row::Lock(lock::LockRow::Load),
-            Call::TryLock(_) => Row::TryLock(try_lock::TryLockRow::Load),
-            Call::Unlock(_) => Row::Unlock(unlock::UnlockRow::Load),
-            Call::Consistent(_) => Row::Consistent(consistent::ConsistentRow::Load),
-        };
-        Ok(Program {
+        CellProgram {
             thread,
             cell: layout.cell(call.mutex()),
-            row,
-        })
+            row: Row::first(call),
+        }
     }
 
     /// The access that comes next, of a call that hasn't returned.
@@ -65,13 +52,7 @@ impl Program {
         requires { IsGoing self.now.row }
         ensures { result ≡ access_of self.now }
     {
-        match &self.row {
-            Row::Lock(row) => lock::next(self.thread, self.cell, row),
-            Row::TryLock(row) => try_lock::next(self.thread, self.cell, row),
-            Row::Unlock(row) => unlock::next(self.thread, self.cell, row),
-            Row::Consistent(row) => consistent::next(self.cell, row),
-            Row::Ended(_) => unreachable!(),
-        }
+        self.row.next(self.thread, self.cell)
     }
 
     /// Goes on with an answer. One that no such access has counts as `Fault`, after which the call returns `EFAULT`, undecided.
@@ -80,9 +61,9 @@ impl Program {
         ensures row { self.new ≡ moved self.old (led self.old answer) }
         ensures progress { result ≡ progress_of self.old (led self.old answer) }
     {
-        let led = self.led(answer);
+        let led = self.row.resume(self.thread, answer);
         let progress = progress(&led.row, self.point(led.point));
-        *self = Program {
+        *self = CellProgram {
             thread: self.thread,
             cell: self.cell,
             row: led.row,
@@ -97,34 +78,10 @@ impl Program {
             Some(reply) => Some(Point {
                 thread: self.thread,
                 at: self.cell,
-                operation: self.operation(),
+                operation: self.row.operation(),
                 reply,
             }),
             None => None,
-        }
-    }
-
-    fn operation(&self) -> Operation
-        ensures { result ≡ row_operation self.now.row }
-    {
-        match self.row {
-            Row::Lock(_) => Operation::Lock,
-            Row::Unlock(_) => Operation::Unlock,
-            Row::Consistent(_) => Operation::Consistent,
-            _ => Operation::TryLock,
-        }
-    }
-
-    fn led(&self, answer: Answer) -> Led
-        ensures value { result ≡ led self.now answer }
-        ensures knows { Knows result.row }
-    {
-        match &self.row {
-            Row::Lock(row) => lock::resume(self.thread, row, answer),
-            Row::TryLock(row) => try_lock::resume(row, answer),
-            Row::Unlock(row) => unlock::resume(self.thread, row, answer),
-            Row::Consistent(row) => consistent::resume(self.thread, row, answer),
-            Row::Ended(reply) => Led::goes(Row::Ended(*reply)),
         }
     }
 }

@@ -1,5 +1,6 @@
 //! What holds of every call.
 ghost use Rattle.mutex.specs.Laws.{ProgramsAreRight, RacedAfterFour, PointsArePermitted};
+ghost use Rattle.mutex.specs.WholeLaws.{WholeCallsAreRight};
 
 /// Whatever word an access of a call meets, it is a step of the mutex as POSIX sees it, and leaves what the call's next access needs.
 pub fn programs_are_right()
@@ -14,4 +15,10 @@ pub fn raced_after_four()
 /// Whatever a call is answered, its reply is one that POSIX permits for the cell that it met.
 pub fn points_are_permitted()
     ensures { PointsArePermitted }
+{}
+
+/// Whatever a whole call is answered, it stands at rows of its operation; its points are made at the cell with replies that POSIX permits there; it goes to
+/// release a mutex only from a cell that it owns; and a trylock gives up only after four exchanges that each found a changed cell.
+pub fn whole_calls_are_right()
+    ensures { WholeCallsAreRight }
 {}

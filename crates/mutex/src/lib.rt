@@ -1,23 +1,28 @@
 //! The calls on a mutex as step programs.
 //!
 //! A [`Program`] is a call in progress: a value that says which access comes next ([`Program::next`]) and goes on with its answer
-//! ([`Program::resume`]). Whoever runs it makes the accesses: the machine, or a running thread. So one text of the protocol serves both. Whatever word
-//! an access meets, it is a step of the mutex as POSIX sees it (`programs_are_right`).
+//! ([`Program::resume`]). Whoever runs it makes the accesses. What it does at its mutex's cell is a [`CellProgram`], which running threads make alone
+//! ([`Program::short`]); around that it keeps its thread's robust list. Whatever word an access meets, it is a step of the mutex as POSIX sees it
+//! (`programs_are_right`).
 #![tactic(auto)]
 
 mod call;
+mod cell_program;
 mod consistent;
 mod laws;
 mod lock;
+mod phase;
 mod program;
 mod row;
 mod try_lock;
 mod unlock;
 
 pub use call::Call;
+pub use cell_program::CellProgram;
 pub use consistent::ConsistentRow;
-pub use laws::{points_are_permitted, programs_are_right, raced_after_four};
+pub use laws::{points_are_permitted, programs_are_right, raced_after_four, whole_calls_are_right};
 pub use lock::LockRow;
+pub use phase::{Onward, Phase};
 pub use program::Program;
 pub use row::{Led, Row};
 pub use try_lock::TryLockRow;

@@ -1,14 +1,16 @@
-//! Where a call stands.
+//! Where a call stands at its mutex's cell.
 ghost use Rattle.std.specs.Prelude.{◌≡◌};
 ghost use Rattle.mutex.specs.Rows.{goes, decides, ends, faults, acquired};
 
-use crate::consistent::ConsistentRow;
-use crate::lock::LockRow;
-use crate::try_lock::TryLockRow;
-use crate::unlock::UnlockRow;
-use lockword::{Cell, Reply};
+use crate::call::Call;
+use crate::consistent::{self, ConsistentRow};
+use crate::lock::{self, LockRow};
+use crate::try_lock::{self, TryLockRow};
+use crate::unlock::{self, UnlockRow};
+use keys::{Access, Answer, Operation};
+use lockword::{Cell, Reply, Tid};
 
-/// The access that a call makes next, and what the call knows.
+/// The access that a call makes next of those at its mutex's cell, and what the call knows.
 #[derive(Clone, Copy, Debug, PartialEq, Eq)]
 pub enum Row {
     /// In a lock.
@@ -19,8 +21,70 @@ pub enum Row {
     Unlock(UnlockRow),
     /// In a declaration that the mutex is consistent.
     Consistent(ConsistentRow),
-    /// The call has returned.
+    /// The call is through with the cell, and this is its reply.
     Ended(Reply),
+}
+
+impl Row {
+    ghost use Rattle.mutex.specs.Calls.{operation_of};
+    ghost use Rattle.mutex.specs.Programs.{first_row, row_access, resume_of, row_operation};
+    ghost use Rattle.mutex.specs.Rows.{IsGoing, Knows};
+
+    /// Where a call begins.
+    pub(crate) fn first(call: Call) -> Row
+        ensures value { result ≡ first_row call }
+        ensures knows { Knows result }
+        ensures going { IsGoing result }
+        ensures operation { row_operation result ≡ operation_of call }
+    {
+        match call {
+            Call::Lock(_) => Row::Lock(LockRow::Load),
+            Call::TryLock(_) => Row::TryLock(TryLockRow::Load),
+            Call::Unlock(_) => Row::Unlock(UnlockRow::Load),
+            Call::Consistent(_) => Row::Consistent(ConsistentRow::Load),
+        }
+    }
+
+    pub(crate) fn operation(&self) -> Operation
+        ensures { result ≡ row_operation self.now }
+    {
+        match *self {
+            Row::Lock(_) => Operation::Lock,
+            Row::Unlock(_) => Operation::Unlock,
+            Row::Consistent(_) => Operation::Consistent,
+            _ => Operation::TryLock,
+        }
+    }
+
+    /// The access of a call of the thread on the cell at this address.
+    pub(crate) fn next(&self, thread: Tid, cell: u64) -> Access
+        requires going { IsGoing self.now }
+        requires knows { Knows self.now }
+        ensures { result ≡ row_access thread cell self.now }
+    {
+        match self {
+            Row::Lock(row) => lock::next(thread, cell, row),
+            Row::TryLock(row) => try_lock::next(thread, cell, row),
+            Row::Unlock(row) => unlock::next(thread, cell, row),
+            Row::Consistent(row) => consistent::next(cell, row),
+            Row::Ended(_) => unreachable!(),
+        }
+    }
+
+    /// Where an answer leads.
+    pub(crate) fn resume(&self, thread: Tid, answer: Answer) -> Led
+        requires { Knows self.now }
+        ensures value { result ≡ resume_of thread self.now answer }
+        ensures knows { Knows result.row }
+    {
+        match self {
+            Row::Lock(row) => lock::resume(thread, row, answer),
+            Row::TryLock(row) => try_lock::resume(row, answer),
+            Row::Unlock(row) => unlock::resume(thread, row, answer),
+            Row::Consistent(row) => consistent::resume(thread, row, answer),
+            Row::Ended(reply) => Led::goes(Row::Ended(*reply)),
+        }
+    }
 }
 
 /// Where an answer leads, and the reply of the call's point where that access was it.

@@ -1,12 +1,17 @@
-//! Calls of thread 2 on mutex 1 of a small layout, access by access.
+//! Calls of thread 2 on mutex 1 of a small layout, access by access: what they do at its cell, which is at 10.
 ghost use Rattle.std.specs.Prelude.{◌≡◌};
 ghost use Rattle.mutex.specs.Calls.{mutex_of};
 
-use crate::{Call, Program, points_are_permitted, programs_are_right, raced_after_four};
+use crate::{
+    Call, Program, points_are_permitted, programs_are_right, raced_after_four,
+    whole_calls_are_right,
+};
 use keys::{Access, Answer, Layout, Operation, Point, Progress};
 use lockword::{Reply, Tid};
 use std::process::Abort;
 use std::test::Fail;
+
+mod whole;
 
 const LOAD: Access = Access::Load { at: 10 };
 
@@ -95,7 +100,7 @@ fn progress(thread: Tid, operation: Operation, then: Then) -> Progress {
     }
 }
 
-/// The call makes these accesses and then the rest, and has returned after them.
+/// At the cell, the call makes these accesses and then the rest, and has returned after them.
 fn takes(
     rt: &impl Abort,
     call: Call,
@@ -382,4 +387,5 @@ fn calls_name_their_mutex_and_operation(rt: HostRuntime) {
     programs_are_right();
     raced_after_four();
     points_are_permitted();
+    whole_calls_are_right();
 }

@@ -10,7 +10,7 @@ use crate::card::View;
 use crate::pass::Words;
 use atomic_table::{Play, Seat};
 use keys::Access;
-use mutex::Program;
+use mutex::CellProgram;
 use std::marker::{Brand, PhantomData};
 
 /// The call whose access is made, for the proofs.
@@ -39,7 +39,7 @@ impl<M: Making> Play<(), View> for Make<M> {
 
 impl Words {
     /// Makes the call's next access, which is one step on its cell, and gives the word that it found.
-    pub(crate) fn make<M: Making>(&self, seat: &mut Seat<(), View>, program: &Program) -> u64
+    pub(crate) fn make<M: Making>(&self, seat: &mut Seat<(), View>, program: &CellProgram) -> u64
         requires table { seat.old.table_id ≡ self.now.table.shared.table_id }
         requires one { IsOne seat.old.me }
         requires place { IsInLayout self.now.layout program.now }

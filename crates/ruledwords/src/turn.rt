@@ -5,13 +5,13 @@ ghost use Rattle.ruledwords.specs.Rules.{card_of};
 
 use crate::pass::{Live, Pass};
 use lockword::Reply;
-use mutex::Program;
+use mutex::CellProgram;
 
 /// A pass, and the call that it makes.
 #[derive(Drop)]
 pub(crate) struct Running {
     pub(crate) pass: Pass<Live>,
-    pub(crate) program: Program,
+    pub(crate) program: CellProgram,
     pub ghost ready: { Ready program (card_of pass.seat.me.0) } by { ready_prop program (card_of pass.seat.me.0) },
     pub ghost room: { pass.held ≤ most program.row },
 }

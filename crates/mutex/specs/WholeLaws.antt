@@ -1,0 +1,53 @@
+-- What every whole call keeps, whatever it is answered.
+use Rattle.std.specs.Prelude.{ℕ, ◌≡◌, ◌≤◌, ◌⊎◌, Bool, Option, Some, None, List, [], ◌∷◌}
+use Rattle.lockword.specs.Cells.{Fields}
+use Rattle.lockword.specs.declared.reply.Reply.{Reply}
+use Rattle.lockword.specs.declared.reply.Reply.TheVariants.{OK, XRACED}
+use Rattle.keys.specs.declared.access.Answer.{Answer}
+use Rattle.keys.specs.declared.point.Operation.TheVariants as operation
+use Rattle.keys.specs.Layouts.{Layout'}
+use Rattle.mutex.specs.declared.call.Call.{Call}
+use Rattle.mutex.specs.declared.row.Row.{Row}
+use Rattle.mutex.specs.declared.row.Row.TheVariants as row
+use Rattle.mutex.specs.declared.unlock.UnlockRow.TheVariants.{Release}
+use Rattle.mutex.specs.declared.phase.Phase.{Phase}
+use Rattle.mutex.specs.declared.phase.Phase.TheVariants.{Announcing, AtCell, Unlinking, Ended}
+use Rattle.mutex.specs.Rows.{Knows}
+use Rattle.mutex.specs.Standings.{Whole}
+use Rattle.mutex.specs.Programs.{row_operation}
+use Rattle.mutex.specs.Whole.{begins, whole_led, whole_moved}
+use Rattle.mutex.specs.Laws.{met, changes, IsPermitted, PermitsAt}
+
+-- a call whose row is of its operation; only an unlock takes its entry out of the list
+abbrev pub IsAt : Whole → Phase → Type 0
+IsAt p (Announcing r) = Knows r × (row_operation r ≡ p.operation)
+IsAt p (AtCell r) = Knows r × (row_operation r ≡ p.operation)
+IsAt p (Unlinking u d) = p.operation ≡ operation.Unlock
+IsAt p f = Unit {0}
+
+abbrev pub IsWhole : Whole → Type 0
+IsWhole p = (1 ≤ p.thread) × IsAt p p.phase
+
+-- where some answers lead it, whatever they are
+abbrev pub whole_reached : Whole → List Answer → Whole
+whole_reached p [] = p
+whole_reached p (a ∷ answers) = whole_reached (whole_moved p (whole_led p a)) answers
+
+-- it is on its way to release the mutex, in which OWNER_DIED is as noted
+abbrev pub about_to_release : Phase → Option Bool
+about_to_release (Announcing (row.Unlock (Release d))) = Some d
+about_to_release (Unlinking u d) = Some d
+about_to_release (AtCell (row.Unlock (Release d))) = Some d
+about_to_release f = None
+
+-- whatever a call is answered
+pub record WholeCallsAreRight : Type 0 where
+  pub begins_so : (l : Layout') (t : ℕ) (c : Call) → 1 ≤ t → IsWhole (begins l t c)
+  pub keeps : (p : Whole) (a : Answer) → IsWhole p → IsWhole (whole_moved p (whole_led p a))
+  -- its point is made at the cell, and has a reply that the object permits for the cell met there
+  pub points : (p : Whole) (a : Answer) (x : Reply) → IsWhole p → (whole_led p a).point ≡ Some x → (r : Row) × (p.phase ≡ AtCell r) × PermitsAt (met r a) p.thread p.operation x
+  -- it goes to release the mutex only once it loaded a cell for which that is permitted
+  pub releases : (p : Whole) (a : Answer) (d : Bool) → IsWhole p → about_to_release (whole_led p a).phase ≡ Some d →
+      (about_to_release p.phase ≡ Some d) ⊎ (r : Row) × (c : Fields) × (p.phase ≡ AtCell r) × (met r a ≡ Some c) × IsPermitted c p.thread operation.Unlock OK × (c.died ≡ d)
+  -- a trylock gives up only after four exchanges that each found a changed cell
+  pub raced : (l : Layout') (t : ℕ) (c : Call) (answers : List Answer) → 1 ≤ t → (whole_reached (begins l t c) answers).phase ≡ Ended XRACED → 4 ≤ changes answers

@@ -1,0 +1,49 @@
+//! Where a whole call stands.
+ghost use Rattle.std.specs.Prelude.{◌≡◌};
+ghost use Rattle.mutex.specs.Whole.{onward, faulted};
+
+use crate::row::Row;
+use lockword::Reply;
+use robustlist::{Link, Unlink};
+
+/// Where a call stands: at its mutex's cell, or at its thread's robust list.
+#[derive(Clone, Copy, Debug, PartialEq, Eq)]
+pub enum Phase {
+    /// It stores its entry as the thread's pending one, and goes on at the cell.
+    Announcing { next: Row },
+    /// It is at the cell.
+    AtCell(Row),
+    /// It has taken the mutex, with this reply, and puts its entry in front of the thread's list.
+    Linking { link: Link, reply: Reply },
+    /// It takes its entry out of the list, to release the mutex then, in which OWNER_DIED is as noted.
+    Unlinking { unlink: Unlink, died: bool },
+    /// It clears the thread's pending entry, and returns this reply.
+    Clearing { reply: Reply },
+    /// It has returned.
+    Ended(Reply),
+}
+
+/// Where an answer leads, and the reply of the call's point where that access was it.
+#[derive(Clone, Copy, Debug, PartialEq, Eq)]
+pub struct Onward {
+    /// Where the call stands then.
+    pub phase: Phase,
+    /// The reply that this access decided.
+    pub point: Option<Reply>,
+}
+
+impl Onward {
+    /// To a phase, without a point.
+    pub(crate) fn to(phase: Phase) -> Onward
+        ensures { result ≡ onward phase }
+    {
+        Onward { phase, point: None }
+    }
+
+    /// The call returns, since it was answered a fault.
+    pub(crate) fn faults() -> Onward
+        ensures { result ≡ faulted }
+    {
+        Onward::to(Phase::Ended(Reply::EFAULT))
+    }
+}

@@ -1,0 +1,252 @@
+//! Calls in progress.
+ghost use Rattle.std.specs.Prelude.{◌≡◌, ◌<◌, ◌≤◌, ◌&&◌, nat_le};
+ghost use Rattle.keys.specs.Objects.{acquires};
+ghost use Rattle.mutex.specs.Calls.{mutex_of, operation_of};
+ghost use Rattle.mutex.specs.Programs.{started};
+ghost use Rattle.mutex.specs.Whole.{first_phase, progress_in, PhaseKnows};
+
+use crate::call::Call;
+use crate::cell_program::CellProgram;
+use crate::phase::{Onward, Phase};
+use crate::row::{Led, Row};
+use crate::unlock::UnlockRow;
+use keys::{Access, Answer, HELD_LIMIT, Layout, Operation, Point, Progress};
+use lockword::{Reply, Tid};
+use robustlist::{Link, Unlink};
+use std::marker::Model;
+
+/// A call of a thread on a mutex.
+#[derive(Clone, Copy, Debug, PartialEq, Eq)]
+pub struct Program {
+    thread: Tid,
+    operation: Operation,
+    head: u64,
+    entry: u64,
+    cell: u64,
+    phase: Phase,
+}
+
+impl Model for Program {
+    ghost use Rattle.mutex.specs.Standings.{Whole};
+
+    ghost Value = { Whole };
+
+    ghost view = { λ p. record { thread = p.thread; operation = p.operation; head = p.head; entry = p.entry; cell = p.cell; phase = p.phase } };
+
+    ghost use Rattle.mutex.specs.Whole.{PhaseKnows};
+
+    ghost invariant = { λ p. PhaseKnows p.phase };
+
+    ghost inverse = { λ s. record { thread = s.thread; operation = s.operation; head = s.head; entry = s.entry; cell = s.cell; phase = s.phase } };
+}
+
+impl Program {
+    ghost use Rattle.mutex.specs.Rows.{Knows};
+    ghost use Rattle.mutex.specs.declared.phase.Phase.TheVariants.{AtCell};
+    ghost use Rattle.mutex.specs.Whole.{whole_started, whole_access, whole_led, whole_moved, whole_point, whole_progress, announced, from_cell, after_cell, leaving, linked, unlinked, IsUnderWay, PhaseKnows};
+
+    /// A call of a thread that holds so many mutexes. A lock or trylock by a thread that holds 2,048 is refused with `XHELD` before any access.
+    pub fn new(layout: &Layout, thread: Tid, held: u16, call: Call) -> Result<Program, Reply>
+        requires thread { thread ≤ layout.now.threads }
+        requires mutex { mutex_of call < layout.now.mutexes }
+        ensures { result ≡ whole_started layout.now thread held call }
+    {
+        if is_refused(held, call) {
+            return Err(Reply::XHELD);
+        }
+        Ok(Program {
+            thread,
+            operation: call.operation(),
+            head: layout.head(thread),
+            entry: layout.entry(call.mutex()),
+            cell: layout.cell(call.mutex()),
+            phase: first_phase(call),
+        })
+    }
+
+    /// Such a call without its accesses to the thread's robust list.
+    pub fn short(layout: &Layout, thread: Tid, held: u16, call: Call) -> Result<CellProgram, Reply>
+        requires thread { thread ≤ layout.now.threads }
+        requires mutex { mutex_of call < layout.now.mutexes }
+        ensures { result ≡ started layout.now thread held call }
+    {
+        if is_refused(held, call) {
+            return Err(Reply::XHELD);
+        }
+        Ok(CellProgram::new(layout, thread, call))
+    }
+
+    /// The access that comes next, of a call that hasn't returned.
+    pub fn next(&self) -> Access
+        requires { IsUnderWay self.now.phase }
+        ensures { result ≡ whole_access self.now }
+    {
+        match &self.phase {
+            Phase::Announcing { .. } => Access::Store {
+                at: self.head.wrapping_add(2),
+                value: self.entry,
+            },
+            Phase::AtCell(row) => row.next(self.thread, self.cell),
+            Phase::Linking { link, .. } => link.next(),
+            Phase::Unlinking { unlink, .. } => unlink.next(),
+            Phase::Clearing { .. } => Access::Store {
+                at: self.head.wrapping_add(2),
+                value: 0,
+            },
+            Phase::Ended(_) => unreachable!(),
+        }
+    }
+
+    /// Goes on with an answer. One that no such access has counts as `Fault`, after which the call returns `EFAULT`, and has left what its earlier
+    /// accesses did.
+    pub fn resume(&mut self, answer: Answer) -> Progress
+        requires { IsUnderWay self.old.phase }
+        ensures phase { self.new ≡ whole_moved self.old (whole_led self.old answer) }
+        ensures progress { result ≡ whole_progress self.old (whole_led self.old answer) }
+    {
+        let onward = self.led(answer);
+        let progress = progress(&onward.phase, self.point(onward.point));
+        *self = Program {
+            thread: self.thread,
+            operation: self.operation,
+            head: self.head,
+            entry: self.entry,
+            cell: self.cell,
+            phase: onward.phase,
+        };
+        progress
+    }
+
+    fn point(&self, decided: Option<Reply>) -> Option<Point>
+        ensures { result ≡ whole_point self.now decided }
+    {
+        match decided {
+            Some(reply) => Some(Point {
+                thread: self.thread,
+                at: self.cell,
+                operation: self.operation,
+                reply,
+            }),
+            None => None,
+        }
+    }
+
+    /// Where an answer leads.
+    fn led(&self, answer: Answer) -> Onward
+        requires { IsUnderWay self.now.phase }
+        ensures value { result ≡ whole_led self.now answer }
+        ensures knows { PhaseKnows result.phase }
+    {
+        match self.phase {
+            Phase::Announcing { next } => match answer {
+                Answer::Stored => Onward::to(self.announced(next)),
+                _ => Onward::faults(),
+            },
+            Phase::AtCell(row) => self.from_cell(row.resume(self.thread, answer)),
+            Phase::Linking { mut link, reply } => match link.resume(answer) {
+                Progress::Goes { .. } => Onward::to(Phase::Linking { link, reply }),
+                Progress::Returns {
+                    reply: Reply::OK,
+                    ..
+                } => Onward::to(Phase::Clearing { reply }),
+                Progress::Returns { .. } => Onward::faults(),
+            },
+            Phase::Unlinking { mut unlink, died } => match unlink.resume(answer) {
+                Progress::Goes { .. } => Onward::to(Phase::Unlinking { unlink, died }),
+                Progress::Returns {
+                    reply: Reply::OK,
+                    ..
+                } => { Onward::to(Phase::AtCell(Row::Unlock(UnlockRow::Release { died }))) }
+                Progress::Returns { .. } => Onward::faults(),
+            },
+            Phase::Clearing { reply } => match answer {
+                Answer::Stored => Onward::to(Phase::Ended(reply)),
+                _ => Onward::faults(),
+            },
+            Phase::Ended(reply) => Onward::to(Phase::Ended(reply)),
+        }
+    }
+
+    /// Where a call goes once its entry is pending: one that is to release the mutex first takes the entry out of the list.
+    fn announced(&self, next: Row) -> Phase
+        requires { PhaseKnows (AtCell next) }
+        ensures value { result ≡ announced self.now next }
+        ensures knows { PhaseKnows result }
+    {
+        match next {
+            Row::Unlock(UnlockRow::Release { died }) => Phase::Unlinking {
+                unlink: Unlink::new(self.head, self.entry),
+                died,
+            },
+            row => Phase::AtCell(row),
+        }
+    }
+
+    /// Where a call goes from its mutex's cell.
+    fn from_cell(&self, led: Led) -> Onward
+        requires { Knows led.row }
+        ensures value { result ≡ from_cell self.now led }
+        ensures knows { PhaseKnows result.phase }
+    {
+        let phase = match led.row {
+            Row::Ended(reply) => self.leaving(reply),
+            Row::Unlock(UnlockRow::Release { died }) => Phase::Announcing {
+                next: Row::Unlock(UnlockRow::Release { died }),
+            },
+            row => Phase::AtCell(row),
+        };
+        Onward {
+            phase,
+            point: led.point,
+        }
+    }
+
+    /// Where a call goes that is through with the cell: a mutex that was taken is put on the list, and an entry that is pending is cleared.
+    fn leaving(&self, reply: Reply) -> Phase
+        ensures value { result ≡ leaving self.now self.now.operation reply }
+        ensures knows { PhaseKnows result }
+    {
+        match (self.operation, reply) {
+            (_, Reply::EFAULT) => Phase::Ended(reply),
+            (Operation::Lock | Operation::TryLock, Reply::OK | Reply::EOWNERDEAD) => {
+                Phase::Linking {
+                    link: Link::new(self.head, self.entry),
+                    reply,
+                }
+            }
+            (Operation::Lock | Operation::TryLock, _) => Phase::Clearing { reply },
+            (Operation::Unlock, Reply::OK) => Phase::Clearing { reply },
+            _ => Phase::Ended(reply),
+        }
+    }
+}
+
+/// Whether a thread that holds so many mutexes may not make the call.
+fn is_refused(held: u16, call: Call) -> bool
+    ensures { result ≡ (acquires (operation_of call) && nat_le 2048 held) }
+{
+    matches!(call, Call::Lock(_) | Call::TryLock(_)) && HELD_LIMIT <= held
+}
+
+/// Where a call begins: a lock or trylock makes its entry pending first.
+fn first_phase(call: Call) -> Phase
+    ensures value { result ≡ first_phase call }
+    ensures knows { PhaseKnows result }
+{
+    match call {
+        Call::Lock(_) | Call::TryLock(_) => Phase::Announcing {
+            next: Row::first(call),
+        },
+        Call::Unlock(_) | Call::Consistent(_) => Phase::AtCell(Row::first(call)),
+    }
+}
+
+/// How far the call is in a phase, with the point where the access before it was one.
+fn progress(phase: &Phase, point: Option<Point>) -> Progress
+    ensures { result ≡ progress_in point phase.now }
+{
+    match *phase {
+        Phase::Ended(reply) => Progress::Returns { reply, point },
+        _ => Progress::Goes { point },
+    }
+}
