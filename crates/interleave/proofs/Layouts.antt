@@ -1,6 +1,6 @@
 -- Layouts that are copied.
-use Rattle.std.proofs.Common.{◌≡◌, ◌≢◌, ℕ, zero, suc, ◌+◌, ◌<◌, ◌≤◌, ◌==◌, Bool, true, false, List, [], ◌∷◌, length, take, refl, sym, ap, ◌∙◌, arith, eqb-true, slice_set}
-use Rattle.std.specs.Prelude.{slice_index, Ok, Err}
+use Rattle.std.proofs.Common.{◌≡◌, ◌≢◌, ℕ, suc, ◌+◌, ◌<◌, ◌≤◌, ◌==◌, Bool, true, false, List, [], ◌∷◌, length, take, refl, arith, eqb-true, slice_set}
+use Rattle.std.specs.Prelude.{slice_index, Err}
 use Rattle.std.proofs.lemmas.Grind.{common_steps}
 use Rattle.std.proofs.lemmas.Bool.{eqb-false}
 use Rattle.keys.specs.declared.layout.LayoutFault.{LayoutFault}

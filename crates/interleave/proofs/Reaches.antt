@@ -12,8 +12,11 @@ use Rattle.keys.specs.declared.object.Object.{Object}
 use Rattle.keys.specs.Layouts.{Layout', IsLayout, words_of, cell_place, counter_place}
 use Rattle.keys.specs.Histories.{held_by}
 use Rattle.mutex.specs.declared.call.Call.{Call}
-use Rattle.mutex.specs.Standings.{Standing}
-use Rattle.mutex.specs.Programs.{started}
+use Rattle.mutex.specs.Calls.{mutex_of}
+use Rattle.mutex.specs.declared.phase.Phase.{Phase}
+use Rattle.mutex.specs.declared.phase.Phase.TheVariants.{Announcing, AtCell, Linking, Unlinking, Clearing, Ended}
+use Rattle.mutex.specs.Standings.{Whole}
+use Rattle.mutex.specs.Whole.{whole_started, whole_access, whole_led, IsUnderWay, PhaseKnows}
 use Rattle.protocol.specs.declared.event.Event.{Event}
 use Rattle.protocol.specs.declared.event.Event.TheVariants.{Begin, Step}
 use Rattle.protocol.specs.declared.thread.Thread.{Thread}
@@ -28,10 +31,9 @@ use Rattle.keys.specs.declared.access.Access.TheVariants.{Store}
 use Rattle.syscalls.specs.Kernels.{Kernel', IsIdle}
 use Rattle.syscalls.specs.Memories as memories
 use Rattle.syscalls.specs.Memories.{word_at, words_after}
-use Rattle.mutex.specs.Programs.{access_of, led}
 use Rattle.protocol.specs.Headline.{IsHistory, seen}
 use Rattle.protocol.proofs.Puts.{by_put, put-same, put-other}
-use Rattle.protocol.proofs.Kept.{Kept, Sits}
+use Rattle.protocol.proofs.Kept.{Kept, InPhase, Sits}
 use Rattle.protocol.proofs.Runs.{start_kept, run_kept, run_layout, legal}
 use Rattle.interleave.specs.Shown.{Shown, thread_at, state_at, state_of}
 use Rattle.interleave.specs.Notes.{is_nothing}
@@ -57,6 +59,15 @@ few : (t n : ℕ) (f : ℕ → Object) → held_by t f n ≤ n
 few t zero f = omega arith
 few t (suc n) f = let before = few t n f in grind (arith, nat_tests)
 
+-- a call that stands in a phase is under way, and knows what the phase needs
+on_the_way : (t held : ℕ) (p : Whole) (f : Phase) (o : Object) → InPhase t held p f o → IsUnderWay f × PhaseKnows f
+on_the_way t held p (Announcing r) o h = (tt, (h.going, h.knows))
+on_the_way t held p (AtCell r) o h = (tt, (h.going, h.knows))
+on_the_way t held p (Linking l x) o h = (tt, h.2)
+on_the_way t held p (Unlinking u d) o h = (tt, h.2)
+on_the_way t held p (Clearing x) o h = (tt, tt)
+on_the_way t held p (Ended x) o h = absurd h
+
 -- so each thread may step
 pub may_step : (m : Shown) → IsReached m → (t : ℕ) → 1 ≤ t → t ≤ m.layout.threads → MayStep (thread_at m.threads t)
 may_step m r t pos known =
@@ -68,10 +79,10 @@ may_step m r t pos known =
   where
     on_its_way : (g : Stage) → Sits (state_of m) t (thread_at m.threads t).held g → IsOnItsWay g
     on_its_way Idle f = tt
-    on_its_way (Calling c p) f = f.going
+    on_its_way (Calling c p) f = on_the_way t (thread_at m.threads t).held p p.phase (seen (state_of m) (mutex_of c)) f.stands
 
 -- a begin that applies is noted
-begun_noted : (s : State) (t : ℕ) (c : Call) (r : Result Standing Reply) → is_nothing (begun s t c r).note ≡ true → (begun s t c r).state ≡ s
+begun_noted : (s : State) (t : ℕ) (c : Call) (r : Result Whole Reply) → is_nothing (begun s t c r).note ≡ true → (begun s t c r).state ≡ s
 begun_noted s t c (Ok p) h = absurd cc
 begun_noted s t c (Err x) h = refl
 
@@ -79,13 +90,13 @@ begun_noted s t c (Err x) h = refl
 stays : (s : State) (e : Event) → is_nothing (happens s e).note ≡ true → (happens s e).state ≡ s
 stays s (Begin t c) = go (may_begin s t c)
   where
-    go : (b : Bool) → is_nothing (if b then begun s t c (started s.layout t (s.threads t).held c) else nothing s).note ≡ true → (if b then begun s t c (started s.layout t (s.threads t).held c) else nothing s).state ≡ s
-    go true h = begun_noted s t c (started s.layout t (s.threads t).held c) h
+    go : (b : Bool) → is_nothing (if b then begun s t c (whole_started s.layout t (s.threads t).held c) else nothing s).note ≡ true → (if b then begun s t c (whole_started s.layout t (s.threads t).held c) else nothing s).state ≡ s
+    go true h = begun_noted s t c (whole_started s.layout t (s.threads t).held c) h
     go false h = refl
 stays s (Step t) = go (is_thread s t) (s.threads t).stage
   where
-    access : (c : Call) (p : Standing) (a : Bool) → is_nothing (if a then nothing s else went s t (s.threads t).held c p (led p (answer_of s (access_of p)))).note ≡ true
-        → (if a then nothing s else went s t (s.threads t).held c p (led p (answer_of s (access_of p)))).state ≡ s
+    access : (c : Call) (p : Whole) (a : Bool) → is_nothing (if a then nothing s else went s t (s.threads t).held c p (whole_led p (answer_of s (whole_access p)))).note ≡ true
+        → (if a then nothing s else went s t (s.threads t).held c p (whole_led p (answer_of s (whole_access p)))).state ≡ s
     access c p true h = refl
     access c p false h = absurd cc
 

@@ -1,12 +1,12 @@
 -- Threads that stand in a queue, as kernels say it and as the machine does.
-use Rattle.std.proofs.Common.{◌≡◌, ℕ, zero, suc, ◌<◌, ◌+◌, ◌==◌, Bool, true, false, List, [], ◌∷◌, length, refl, sym, ap, ◌∙◌, subst, arith, slice_index_or, eq-eqb, eqb-true}
+use Rattle.std.proofs.Common.{◌≡◌, ℕ, zero, suc, ◌<◌, ◌==◌, Bool, true, false, List, [], ◌∷◌, length, refl, sym, ap, ◌∙◌, arith, slice_index_or, eq-eqb, eqb-true}
 use Rattle.std.specs.Prelude.{if◌then◌else◌, Contains, MatchBool}
-use Rattle.mutex.specs.Programs.{access_of, led}
+use Rattle.mutex.specs.Whole.{whole_access, whole_led}
 use Rattle.syscalls.specs.Kernels.{Kernel', queue_of, IsAsleep, IsAwake}
 use Rattle.protocol.specs.declared.event.Event.TheVariants.{Step}
 use Rattle.protocol.specs.declared.thread.Stage.{Stage}
 use Rattle.protocol.specs.declared.thread.Stage.TheVariants.{Idle, Calling}
-use Rattle.protocol.specs.Machine.{State, After, nothing, is_thread, answer_of, went, stepped, stands_in, sleeps, is_asleep, happens}
+use Rattle.protocol.specs.Machine.{State, nothing, is_thread, answer_of, went, stepped, stands_in, sleeps, is_asleep, happens}
 use Rattle.interleave.specs.Steps.{SleepsInItsCall}
 
 -- whoever stands at some place of a queue stands in it
@@ -47,7 +47,7 @@ awake_stage s t (Calling c p) none = none _
 -- a thread that sleeps makes no step
 rests : (s : State) (t held : ℕ) (g : Stage) → sleeps s t g ≡ true → stepped s t held g ≡ nothing s
 rests s t held Idle e = refl
-rests s t held (Calling c p) e = ap (λ (b : Bool). if b then nothing s else went s t held c p (led p (answer_of s (access_of p)))) e
+rests s t held (Calling c p) e = ap (λ (b : Bool). if b then nothing s else went s t held c p (whole_led p (answer_of s (whole_access p)))) e
 
 pub asleep_step : (s : State) (t : ℕ) → is_asleep s t ≡ true → happens s (Step t) ≡ nothing s
 asleep_step s t e = go (is_thread s t)

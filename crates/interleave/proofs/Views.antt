@@ -8,19 +8,16 @@ use Rattle.lockword.specs.declared.reply.Reply.{Reply}
 use Rattle.keys.specs.declared.access.Access.{Access}
 use Rattle.keys.specs.declared.access.Answer.TheVariants.{Fault}
 use Rattle.keys.specs.declared.point.Point.{Point}
-use Rattle.keys.specs.declared.point.Operation.{Operation}
-use Rattle.keys.specs.declared.point.Operation.TheVariants as operation
 use Rattle.keys.specs.declared.point.Progress.{Progress}
 use Rattle.keys.specs.Layouts.{Layout', words_of, cell_place}
 use Rattle.keys.specs.Accesses.{address_of, changed, sleeps_at}
 use Rattle.mutex.specs.declared.call.Call.{Call}
-use Rattle.mutex.specs.declared.row.Row.{Row}
-use Rattle.mutex.specs.declared.row.Row.TheVariants.{Lock, TryLock, Unlock, Consistent, Ended}
-use Rattle.mutex.specs.declared.row.Led.{Led}
-use Rattle.mutex.specs.Calls.{mutex_of}
-use Rattle.mutex.specs.Standings.{Standing}
-use Rattle.mutex.specs.Progresses.{progress_at}
-use Rattle.mutex.specs.Programs.{started, access_of, led, moved, progress_of, point_of, row_operation}
+use Rattle.mutex.specs.declared.phase.Phase.{Phase}
+use Rattle.mutex.specs.declared.phase.Phase.TheVariants.{Announcing, AtCell, Linking, Unlinking, Clearing, Ended}
+use Rattle.mutex.specs.declared.phase.Onward.{Onward}
+use Rattle.mutex.specs.Calls.{mutex_of, operation_of}
+use Rattle.mutex.specs.Standings.{Whole}
+use Rattle.mutex.specs.Whole.{whole_started, whole_access, whole_led, whole_moved, whole_progress, whole_point, progress_in}
 use Rattle.syscalls.specs.Kernels.{Kernel', queue_of}
 use Rattle.syscalls.specs.Memories as memories
 use Rattle.protocol.specs.declared.event.Event.TheVariants.{Begin, Step}
@@ -31,7 +28,7 @@ use Rattle.protocol.specs.Machine.{State, After, put, idle, is_valid, answer_amo
 use Rattle.protocol.proofs.Puts.{by_put}
 use Rattle.interleave.specs.declared.accesses.Performed.{Performed}
 use Rattle.interleave.specs.Shown.{thread_at, state_at}
-use Rattle.interleave.specs.Perform.{Performs, point_in, reply_in, stage_in, held_in, decision_in}
+use Rattle.interleave.specs.Perform.{Performs, decided_in, reply_in, stage_in}
 
 -- a word that is set in the list is put in the state
 pub words-set : (ws : List ℕ) (k v : ℕ) → k < length ws → (λ p. slice_index (slice_set ws k v) p) ≡ put (λ p. slice_index ws p) k v
@@ -60,16 +57,16 @@ threads-set ts k t x e lt = fun_ext (thread_at-set ts k t x e lt)
 -- ---- a call begins
 
 -- the state after a begin
-pub begin_state : (l : Layout') (ws : List ℕ) (kernel : Kernel') (ts : List Thread) (k t : ℕ) (c : Call) (p : Standing) (th : Thread) → 1 ≤ t → t ≤ l.threads → k + 1 ≡ t → length ts ≡ l.threads → mutex_of c < l.mutexes
-    → thread_at ts t ≡ th → is_idle th.stage ≡ true → started l t th.held c ≡ Ok p
+pub begin_state : (l : Layout') (ws : List ℕ) (kernel : Kernel') (ts : List Thread) (k t : ℕ) (c : Call) (p : Whole) (th : Thread) → 1 ≤ t → t ≤ l.threads → k + 1 ≡ t → length ts ≡ l.threads → mutex_of c < l.mutexes
+    → thread_at ts t ≡ th → is_idle th.stage ≡ true → whole_started l t th.held c ≡ Ok p
     → state_at l ws kernel (slice_set ts k (record { stage = Calling c p; held = th.held })) ≡ (happens (state_at l ws kernel ts) (Begin t c)).state
 begin_state l ws kernel ts k t c p th pos known at len inside e rests starts =
     let s : State = state_at l ws kernel ts in
     let resting : is_idle (thread_at ts t).stage ≡ true = ap (λ (z : Thread). is_idle z.stage) e ∙ rests in
     let may : may_begin s t c ≡ true = grind (arith, nat_tests, resting) in
-    let ran : happens s (Begin t c) ≡ begun s t c (started l t (thread_at ts t).held c) = ap (λ (b : Bool). if b then begun s t c (started l t (thread_at ts t).held c) else nothing s) may in
-    let begins : started l t (thread_at ts t).held c ≡ Ok p = ap (λ (z : Thread). started l t z.held c) e ∙ starts in
-    let gave : begun s t c (started l t (thread_at ts t).held c) ≡ begun s t c (Ok p) = ap (begun s t c) begins in
+    let ran : happens s (Begin t c) ≡ begun s t c (whole_started l t (thread_at ts t).held c) = ap (λ (b : Bool). if b then begun s t c (whole_started l t (thread_at ts t).held c) else nothing s) may in
+    let begins : whole_started l t (thread_at ts t).held c ≡ Ok p = ap (λ (z : Thread). whole_started l t z.held c) e ∙ starts in
+    let gave : begun s t c (whole_started l t (thread_at ts t).held c) ≡ begun s t c (Ok p) = ap (begun s t c) begins in
     let same : thread_at (slice_set ts k (record { stage = Calling c p; held = th.held })) ≡ put (thread_at ts) t (record { stage = Calling c p; held = (thread_at ts t).held }) =
     threads-set ts k t (record { stage = Calling c p; held = th.held }) at (omega arith) ∙ ap (λ (z : Thread). put (thread_at ts) t (record { stage = Calling c p; held = z.held })) (sym e) in
     (λ i. record { layout = l; words = λ q. slice_index ws q; queues = λ q. queue_of kernel q; threads = same i }) ∙ sym (ap (λ (a : After). a.state) (ran ∙ gave))
@@ -108,62 +105,50 @@ module _ (l : Layout') (ws : List ℕ) (kernel : Kernel') (ts : List Thread) (a 
     woken-is = performs.woken ∙ ap (λ (b : Bool). if b then woken_by a (queue_of kernel (address_of a)) else []) valid-is
 
 -- where the thread stands after a step, as the definition says
-stage-is : (c : Call) (p : Standing) (pt : Option Point) (r : Row) → stage_in c (record p { row = r }) (progress_at pt r) ≡ stage_after c p r
-stage-is c p pt (Lock r) = refl
-stage-is c p pt (TryLock r) = refl
-stage-is c p pt (Unlock r) = refl
-stage-is c p pt (Consistent r) = refl
+stage-is : (c : Call) (p : Whole) (pt : Option Point) (f : Phase) → stage_in c (record p { phase = f }) (progress_in pt f) ≡ stage_after c p f
+stage-is c p pt (Announcing r) = refl
+stage-is c p pt (AtCell r) = refl
+stage-is c p pt (Linking l x) = refl
+stage-is c p pt (Unlinking u d) = refl
+stage-is c p pt (Clearing x) = refl
 stage-is c p pt (Ended x) = refl
 
--- the point that a step tells, as the definition says
-point-is : (pt : Option Point) (r : Row) → point_in (progress_at pt r) ≡ pt
-point-is pt (Lock r) = refl
-point-is pt (TryLock r) = refl
-point-is pt (Unlock r) = refl
-point-is pt (Consistent r) = refl
-point-is pt (Ended x) = refl
-
 -- the reply that a step returns, as the definition says
-reply-is : (pt : Option Point) (r : Row) → reply_in (progress_at pt r) ≡ returned r
-reply-is pt (Lock r) = refl
-reply-is pt (TryLock r) = refl
-reply-is pt (Unlock r) = refl
-reply-is pt (Consistent r) = refl
+reply-is : (pt : Option Point) (f : Phase) → reply_in (progress_in pt f) ≡ returned f
+reply-is pt (Announcing r) = refl
+reply-is pt (AtCell r) = refl
+reply-is pt (Linking l x) = refl
+reply-is pt (Unlinking u d) = refl
+reply-is pt (Clearing x) = refl
 reply-is pt (Ended x) = refl
 
--- without a point a thread holds as many mutexes
-unmoved : (held : ℕ) (op : Operation) → held ≡ held_after held op None
-unmoved held operation.Lock = refl
-unmoved held operation.TryLock = refl
-unmoved held operation.Unlock = refl
-unmoved held operation.Consistent = refl
-unmoved held operation.Wait = refl
-unmoved held operation.Signal = refl
-unmoved held operation.Broadcast = refl
-unmoved held operation.Death = refl
+-- the reply of the point that a step tells, as the definition says
+decided-is : (p : Whole) (x : Option Reply) (f : Phase) → decided_in (progress_in (whole_point p x) f) ≡ x
+decided-is p None (Announcing r) = refl
+decided-is p None (AtCell r) = refl
+decided-is p None (Linking l y) = refl
+decided-is p None (Unlinking u d) = refl
+decided-is p None (Clearing y) = refl
+decided-is p None (Ended y) = refl
+decided-is p (Some x) (Announcing r) = refl
+decided-is p (Some x) (AtCell r) = refl
+decided-is p (Some x) (Linking l y) = refl
+decided-is p (Some x) (Unlinking u d) = refl
+decided-is p (Some x) (Clearing y) = refl
+decided-is p (Some x) (Ended y) = refl
 
--- how many mutexes it holds after a step, as the definition says
-held-is : (held t cell : ℕ) (op : Operation) (x : Option Reply) → held_in held (point_of t cell op x) ≡ held_after held op x
-held-is held t cell op None = unmoved held op
-held-is held t cell op (Some x) = refl
-
--- the decision that a step notes, as the definition says
-decision-is : (t u cell : ℕ) (c : Call) (op : Operation) (x : Option Reply) → decision_in t c (point_of u cell op x) ≡ decision t c op x
-decision-is t u cell c op None = refl
-decision-is t u cell c op (Some x) = refl
-
-module _ (l : Layout') (ws ws' : List ℕ) (kernel after : Kernel') (ts : List Thread) (k t : ℕ) (c : Call) (p p' : Standing) (th : Thread) (done : Performed) (pr : Progress)
+module _ (l : Layout') (ws ws' : List ℕ) (kernel after : Kernel') (ts : List Thread) (k t : ℕ) (c : Call) (p p' : Whole) (th : Thread) (done : Performed) (pr : Progress)
     (known : t ≤ l.threads) (at : k + 1 ≡ t) (len : length ts ≡ l.threads) (room : length ws ≡ words_of l) (awake : (key : ℕ) → stands_in t (queue_of kernel key) ≡ false)
-    (e : thread_at ts t ≡ th) (calls : th.stage ≡ Calling c p) (performs : Performs ws kernel after t (access_of p) done) (wrote : ws' ≡ memories.words_after (access_of p) ws)
-    (went_on : p' ≡ moved p (led p done.answer)) (progress : pr ≡ progress_of p (led p done.answer)) where
+    (e : thread_at ts t ≡ th) (calls : th.stage ≡ Calling c p) (performs : Performs ws kernel after t (whole_access p) done) (wrote : ws' ≡ memories.words_after (whole_access p) ws)
+    (went_on : p' ≡ whole_moved p (whole_led p done.answer)) (progress : pr ≡ whole_progress p (whole_led p done.answer)) where
   abbrev s : State
   s = state_at l ws kernel ts
 
-  abbrev to : Led
-  to = led p (answer_of s (access_of p))
+  abbrev to : Onward
+  to = whole_led p (answer_of s (whole_access p))
 
-  leads : led p done.answer ≡ to
-  leads = ap (led p) (answer-is l ws kernel ts (access_of p) room t after done performs)
+  leads : whole_led p done.answer ≡ to
+  leads = ap (whole_led p) (answer-is l ws kernel ts (whole_access p) room t after done performs)
 
   ran : happens s (Step t) ≡ went s t th.held c p to
   ran =
@@ -171,36 +156,33 @@ module _ (l : Layout') (ws ws' : List ℕ) (kernel after : Kernel') (ts : List T
       ap (λ (b : Bool). if b then stepped s t (thread_at ts t).held (thread_at ts t).stage else nothing s) is ∙ ap (λ (z : Thread). stepped s t z.held z.stage) e ∙ ap (stepped s t th.held) calls
       ∙ ap (λ (b : Bool). if b then nothing s else went s t th.held c p to) (awake (cell_place l (mutex_of c)))
 
-  words : (λ q. slice_index ws' q) ≡ words_after s (access_of p)
-  words = ap (λ (v : List ℕ). λ (q : ℕ). slice_index v q) wrote ∙ words-is l ws kernel ts (access_of p) room
+  words : (λ q. slice_index ws' q) ≡ words_after s (whole_access p)
+  words = ap (λ (v : List ℕ). λ (q : ℕ). slice_index v q) wrote ∙ words-is l ws kernel ts (whole_access p) room
 
-  queues : (λ q. queue_of after q) ≡ queues_after s t (access_of p)
-  queues = queues-is l ws kernel ts (access_of p) room t after done performs
+  queues : (λ q. queue_of after q) ≡ queues_after s t (whole_access p)
+  queues = queues-is l ws kernel ts (whole_access p) room t after done performs
 
-  stage : stage_in c p' pr ≡ stage_after c p to.row
+  stage : stage_in c p' pr ≡ stage_after c p to.phase
   stage =
-      ap (λ (q : Standing). stage_in c q pr) went_on ∙ ap (stage_in c (moved p (led p done.answer))) progress
-      ∙ stage-is c p (point_of p.thread p.cell (row_operation p.row) (led p done.answer).point) (led p done.answer).row ∙ ap (λ (x : Led). stage_after c p x.row) leads
+      ap (λ (q : Whole). stage_in c q pr) went_on ∙ ap (stage_in c (whole_moved p (whole_led p done.answer))) progress
+      ∙ stage-is c p (whole_point p (whole_led p done.answer).point) (whole_led p done.answer).phase ∙ ap (λ (x : Onward). stage_after c p x.phase) leads
 
-  point : point_in pr ≡ point_of p.thread p.cell (row_operation p.row) to.point
-  point =
-      ap point_in progress ∙ point-is (point_of p.thread p.cell (row_operation p.row) (led p done.answer).point) (led p done.answer).row
-      ∙ ap (λ (x : Led). point_of p.thread p.cell (row_operation p.row) x.point) leads
+  decides : decided_in pr ≡ to.point
+  decides = ap decided_in progress ∙ decided-is p (whole_led p done.answer).point (whole_led p done.answer).phase ∙ ap (λ (x : Onward). x.point) leads
 
-  held : held_in th.held (point_in pr) ≡ held_after th.held (row_operation p.row) to.point
-  held = ap (held_in th.held) point ∙ held-is th.held p.thread p.cell (row_operation p.row) to.point
+  held : held_after th.held (operation_of c) (decided_in pr) ≡ held_after th.held (operation_of c) to.point
+  held = ap (held_after th.held (operation_of c)) decides
 
-  pub step_state : state_at l ws' after (slice_set ts k (record { stage = stage_in c p' pr; held = held_in th.held (point_in pr) })) ≡ (happens s (Step t)).state
+  pub step_state : state_at l ws' after (slice_set ts k (record { stage = stage_in c p' pr; held = held_after th.held (operation_of c) (decided_in pr) })) ≡ (happens s (Step t)).state
   step_state =
-      let threads : thread_at (slice_set ts k (record { stage = stage_in c p' pr; held = held_in th.held (point_in pr) })) ≡ put (thread_at ts) t (record { stage = stage_after c p to.row; held = held_after th.held (row_operation p.row) to.point }) =
-      threads-set ts k t (record { stage = stage_in c p' pr; held = held_in th.held (point_in pr) }) at (omega arith) ∙ (λ i. put (thread_at ts) t (record { stage = stage i; held = held i })) in
+      let threads : thread_at (slice_set ts k (record { stage = stage_in c p' pr; held = held_after th.held (operation_of c) (decided_in pr) })) ≡ put (thread_at ts) t (record { stage = stage_after c p to.phase; held = held_after th.held (operation_of c) to.point }) =
+      threads-set ts k t (record { stage = stage_in c p' pr; held = held_after th.held (operation_of c) (decided_in pr) }) at (omega arith) ∙ (λ i. put (thread_at ts) t (record { stage = stage i; held = held i })) in
       (λ i. record { layout = l; words = words i; queues = queues i; threads = threads i }) ∙ sym (ap (λ (a : After). a.state) ran)
 
-  pub step_note : Stepped t (decision_in t c (point_in pr)) (if done.slept then Some (mutex_of c) else None) done.woken (reply_in pr) ≡ (happens s (Step t)).note
+  pub step_note : Stepped t (decision t c (decided_in pr)) (if done.slept then Some (mutex_of c) else None) done.woken (reply_in pr) ≡ (happens s (Step t)).note
   step_note =
-      let decides : decision_in t c (point_in pr) ≡ decision t c (row_operation p.row) to.point = ap (decision_in t c) point ∙ decision-is t p.thread p.cell c (row_operation p.row) to.point in
-      let sleeps : (if done.slept then Some (mutex_of c) else None) ≡ slept_on s c (access_of p) = slept-is l ws kernel ts (access_of p) room t after done performs c in
-      let wakes : done.woken ≡ woken s (access_of p) = woken-is l ws kernel ts (access_of p) room t after done performs in
-      let returns : reply_in pr ≡ returned to.row =
-      ap reply_in progress ∙ reply-is (point_of p.thread p.cell (row_operation p.row) (led p done.answer).point) (led p done.answer).row ∙ ap (λ (x : Led). returned x.row) leads in
-      (λ i. Stepped t (decides i) (sleeps i) (wakes i) (returns i)) ∙ sym (ap (λ (a : After). a.note) ran)
+      let sleeps : (if done.slept then Some (mutex_of c) else None) ≡ slept_on s c (whole_access p) = slept-is l ws kernel ts (whole_access p) room t after done performs c in
+      let wakes : done.woken ≡ woken s (whole_access p) = woken-is l ws kernel ts (whole_access p) room t after done performs in
+      let returns : reply_in pr ≡ returned to.phase =
+      ap reply_in progress ∙ reply-is (whole_point p (whole_led p done.answer).point) (whole_led p done.answer).phase ∙ ap (λ (x : Onward). returned x.phase) leads in
+      (λ i. Stepped t (decision t c (decides i)) (sleeps i) (wakes i) (returns i)) ∙ sym (ap (λ (a : After). a.note) ran)

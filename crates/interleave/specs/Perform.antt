@@ -5,16 +5,14 @@ use Rattle.keys.specs.declared.access.Access.{Access}
 use Rattle.keys.specs.declared.access.Answer.{Answer}
 use Rattle.keys.specs.declared.access.Answer.TheVariants.{Exchanged, Changed, Fault}
 use Rattle.keys.specs.declared.point.Point.{Point}
-use Rattle.keys.specs.declared.point.Decision.{Decision}
 use Rattle.keys.specs.declared.point.Progress.{Progress}
 use Rattle.keys.specs.declared.point.Progress.TheVariants.{Goes, Returns}
 use Rattle.keys.specs.Accesses.{address_of, sleeps_at}
 use Rattle.mutex.specs.declared.call.Call.{Call}
-use Rattle.mutex.specs.Calls.{mutex_of}
-use Rattle.mutex.specs.Standings.{Standing}
+use Rattle.mutex.specs.Standings.{Whole}
 use Rattle.protocol.specs.declared.thread.Stage.{Stage}
 use Rattle.protocol.specs.declared.thread.Stage.TheVariants.{Idle, Calling}
-use Rattle.protocol.specs.Machine.{put, answer_among, queue_after, woken_by, held_after}
+use Rattle.protocol.specs.Machine.{put, answer_among, queue_after, woken_by}
 use Rattle.syscalls.specs.Kernels.{Kernel', queue_of}
 use Rattle.syscalls.specs.Memories.{is_valid}
 use Rattle.interleave.specs.declared.accesses.Performed.{Performed}
@@ -48,22 +46,19 @@ pub record Performs (ws : List ℕ) (old new : Kernel') (t : ℕ) (a : Access) (
   pub queues : (p : ℕ) → queue_of new p ≡ list_queues ws old t a p
   pub threads : new.threads ≡ old.threads
 
-abbrev pub point_in : Progress → Option Point
-point_in (Goes point) = point
-point_in (Returns x point) = point
+abbrev pub reply_at : Option Point → Option Reply
+reply_at None = None
+reply_at (Some p) = Some p.reply
+
+-- the reply of the point that a step made
+abbrev pub decided_in : Progress → Option Reply
+decided_in (Goes point) = reply_at point
+decided_in (Returns x point) = reply_at point
 
 abbrev pub reply_in : Progress → Option Reply
 reply_in (Goes point) = None
 reply_in (Returns x point) = Some x
 
-abbrev pub stage_in : Call → Standing → Progress → Stage
+abbrev pub stage_in : Call → Whole → Progress → Stage
 stage_in c p (Goes point) = Calling c p
 stage_in c p (Returns x point) = Idle
-
-abbrev pub held_in : ℕ → Option Point → ℕ
-held_in held None = held
-held_in held (Some p) = held_after held p.operation (Some p.reply)
-
-abbrev pub decision_in : ℕ → Call → Option Point → Option Decision
-decision_in t c None = None
-decision_in t c (Some p) = Some (record { thread = t; mutex = mutex_of c; operation = p.operation; reply = p.reply })

@@ -2,7 +2,7 @@
 
 mod sleeping;
 
-use crate::Machine;
+use crate::{Machine, Trace};
 use buckets::Batch;
 use keys::{Decision, Layout, Operation};
 use lockword::{Reply, Tid};
@@ -80,10 +80,38 @@ fn ends(thread: Tid, operation: Operation, reply: Reply) -> Note {
     }
 }
 
+/// The last access of a call that was decided before.
+fn returns(thread: Tid, reply: Reply) -> Note {
+    Note::Stepped {
+        thread,
+        point: None,
+        slept: None,
+        woken: Batch::new(),
+        returned: Some(reply),
+    }
+}
+
 /// Who owns mutex 0, which every layout has.
 fn first_owner(machine: &Machine) -> Option<Tid> {
     let _mutexes = machine.layout().mutexes();
     machine.owner(0)
+}
+
+/// The thread begins a call, and makes so many accesses of it.
+fn play(machine: &mut Machine, thread: Tid, call: Call, accesses: u32) {
+    let _ = machine.step(Event::Begin(thread, call));
+    for _ in 0..accesses {
+        let _ = machine.step(Event::Step(thread));
+    }
+}
+
+/// The note of an event, of which the first has number 1.
+fn is_noted(rt: &impl Abort, trace: &Trace, event: usize, note: Note) {
+    assert_eq!(rt;
+        trace.notes.get(event.wrapping_sub(1)),
+        Some(&note),
+        "{event}"
+    );
 }
 
 /// Each of the machine's words from 1 on.
@@ -119,54 +147,99 @@ fn a_new_machine_has_empty_lists_and_free_mutexes(rt: HostRuntime) -> Result<(),
 #[test]
 fn a_run_notes_every_event(rt: HostRuntime) -> Result<(), Fail> {
     let one = thread(1)?;
-    let events = [
-        unlock(one),
-        Event::Step(one),
-        lock(one),
-        Event::Step(one),
-        Event::Step(one),
-        lock(one),
-        Event::Step(one),
-        unlock(one),
-        Event::Step(one),
-        Event::Step(one),
-    ];
-    let notes = [
-        began(one, Call::Unlock(0)),
-        ends(one, Operation::Unlock, Reply::EPERM),
-        began(one, Call::TryLock(0)),
-        goes(one),
-        ends(one, Operation::TryLock, Reply::OK),
-        began(one, Call::TryLock(0)),
-        ends(one, Operation::TryLock, Reply::EBUSY),
-        began(one, Call::Unlock(0)),
-        goes(one),
-        ends(one, Operation::Unlock, Reply::OK),
-    ];
+    let mut events = [Event::Step(one); 23];
+    events[0] = unlock(one);
+    events[2] = lock(one);
+    events[11] = lock(one);
+    events[15] = unlock(one);
     let mut machine = machine(rt.alloc(), 1, 1, &[])?;
     let trace = machine.run(rt.alloc(), &events)?;
     assert_eq!(rt; (trace.threads, trace.mutexes, trace.conditions), (1, 1, 0));
-    assert_eq!(rt; trace.notes.as_slice(), notes.as_slice());
+    assert_eq!(rt; trace.notes.len(), 23);
+    is_noted(&rt, &trace, 1, began(one, Call::Unlock(0)));
+    is_noted(&rt, &trace, 2, ends(one, Operation::Unlock, Reply::EPERM));
+    is_noted(&rt, &trace, 6, decides(one, Operation::TryLock, Reply::OK));
+    is_noted(&rt, &trace, 11, returns(one, Reply::OK));
+    is_noted(
+        &rt,
+        &trace,
+        14,
+        decides(one, Operation::TryLock, Reply::EBUSY),
+    );
+    is_noted(&rt, &trace, 15, returns(one, Reply::EBUSY));
+    is_noted(&rt, &trace, 22, decides(one, Operation::Unlock, Reply::OK));
+    is_noted(&rt, &trace, 23, returns(one, Reply::OK));
     assert_eq!(rt; first_owner(&machine), None);
-    has_words(&rt, &machine, &[1, u64::MAX, 0, 0, 0, 0]);
+    has_words(&rt, &machine, &[1, u64::MAX, 0, 0, 1, 1]);
     Ok(())
 }
 
+/// The entry is pending from the call's first access on, is put in front of the list once the mutex is taken, and is no longer pending when the call returns.
 #[test]
-fn the_cell_of_a_taken_mutex_names_its_owner(rt: HostRuntime) -> Result<(), Fail> {
+fn a_trylock_links_the_mutex_that_it_took(rt: HostRuntime) -> Result<(), Fail> {
     let one = thread(1)?;
     let mut machine = machine(rt.alloc(), 1, 1, &[])?;
-    for event in [
-        unlock(one),
-        Event::Step(one),
-        lock(one),
-        Event::Step(one),
-        Event::Step(one),
+    let _ = machine.step(lock(one));
+    for words in [
+        [1, u64::MAX, 5, 0, 0, 0],
+        [1, u64::MAX, 5, 0, 0, 0],
+        [1, u64::MAX, 5, 1, 0, 0],
+        [1, u64::MAX, 5, 1, 0, 0],
+        [1, u64::MAX, 5, 1, 1, 0],
+        [1, u64::MAX, 5, 1, 1, 1],
+        [5, u64::MAX, 5, 1, 1, 1],
+        [5, u64::MAX, 0, 1, 1, 1],
     ] {
-        let _ = machine.step(event);
+        assert!(rt; machine.busy(one));
+        let _ = machine.step(Event::Step(one));
+        has_words(&rt, &machine, &words);
     }
+    assert!(rt; !machine.busy(one));
     assert_eq!(rt; first_owner(&machine), Some(one));
-    has_words(&rt, &machine, &[1, u64::MAX, 0, 1, 0, 0]);
+    Ok(())
+}
+
+/// An unlock that sees that the mutex is its thread's makes the entry pending, takes it out of the list, and then releases the mutex.
+#[test]
+fn an_unlock_unlinks_the_mutex_before_its_release(rt: HostRuntime) -> Result<(), Fail> {
+    let one = thread(1)?;
+    let mut machine = machine(rt.alloc(), 1, 1, &[])?;
+    play(&mut machine, one, Call::TryLock(0), 8);
+    let _ = machine.step(unlock(one));
+    for words in [
+        [5, u64::MAX, 0, 1, 1, 1],
+        [5, u64::MAX, 5, 1, 1, 1],
+        [5, u64::MAX, 5, 1, 1, 1],
+        [5, u64::MAX, 5, 1, 1, 1],
+        [1, u64::MAX, 5, 1, 1, 1],
+        [1, u64::MAX, 5, 0, 1, 1],
+        [1, u64::MAX, 0, 0, 1, 1],
+    ] {
+        assert!(rt; machine.busy(one));
+        let _ = machine.step(Event::Step(one));
+        has_words(&rt, &machine, &words);
+    }
+    assert!(rt; !machine.busy(one));
+    Ok(())
+}
+
+/// The newest mutex stands in front. One that is released keeps its links, and those beside it point past it.
+#[test]
+fn a_thread_has_its_mutexes_on_one_list(rt: HostRuntime) -> Result<(), Fail> {
+    let one = thread(1)?;
+    let mut machine = machine(rt.alloc(), 1, 2, &[])?;
+    play(&mut machine, one, Call::Lock(0), 8);
+    assert!(rt; !machine.busy(one));
+    has_words(&rt, &machine, &[5, u64::MAX, 0, 1, 1, 1, 0, 0, 0]);
+    play(&mut machine, one, Call::Lock(1), 9);
+    assert!(rt; !machine.busy(one));
+    has_words(&rt, &machine, &[8, u64::MAX, 0, 1, 1, 8, 1, 5, 1]);
+    play(&mut machine, one, Call::Unlock(0), 7);
+    assert!(rt; !machine.busy(one));
+    has_words(&rt, &machine, &[8, u64::MAX, 0, 0, 1, 8, 1, 1, 1]);
+    play(&mut machine, one, Call::Unlock(1), 7);
+    assert!(rt; !machine.busy(one));
+    has_words(&rt, &machine, &[1, u64::MAX, 0, 0, 1, 8, 0, 1, 1]);
     Ok(())
 }
 
@@ -194,9 +267,10 @@ fn an_event_that_cannot_apply_does_nothing(rt: HostRuntime) -> Result<(), Fail> 
     );
     assert_eq!(rt; machine.step(Event::Step(one)), goes(one));
     assert_eq!(rt; machine.step(Event::Begin(one, lock)), Note::Nothing);
+    assert_eq!(rt; machine.step(Event::Step(one)), goes(one));
     assert_eq!(rt;
         machine.step(Event::Step(one)),
-        ends(one, Operation::TryLock, Reply::OK)
+        decides(one, Operation::TryLock, Reply::OK)
     );
     assert!(rt; !machine.fresh());
     Ok(())
@@ -212,11 +286,17 @@ fn two_threads_race_for_a_mutex(rt: HostRuntime) -> Result<(), Fail> {
         (Event::Begin(two, lock), began(two, lock)),
         (Event::Step(one), goes(one)),
         (Event::Step(two), goes(two)),
-        (Event::Step(one), ends(one, Operation::TryLock, Reply::OK)),
+        (Event::Step(one), goes(one)),
+        (Event::Step(two), goes(two)),
+        (
+            Event::Step(one),
+            decides(one, Operation::TryLock, Reply::OK),
+        ),
         (
             Event::Step(two),
-            ends(two, Operation::TryLock, Reply::EBUSY),
+            decides(two, Operation::TryLock, Reply::EBUSY),
         ),
+        (Event::Step(two), returns(two, Reply::EBUSY)),
     ] {
         assert_eq!(rt; machine.step(event), note);
     }
@@ -241,9 +321,10 @@ fn a_thread_is_busy_in_its_call(rt: HostRuntime) -> Result<(), Fail> {
     let mut machine = machine(rt.alloc(), 2, 1, &[])?;
     for (event, busy) in [
         (Event::Step(one), false),
+        (Event::Begin(one, Call::Unlock(0)), true),
+        (Event::Step(one), false),
         (Event::Begin(one, Call::TryLock(0)), true),
         (Event::Step(one), true),
-        (Event::Step(one), false),
     ] {
         let _ = machine.step(event);
         assert_eq!(rt; machine.busy(one), busy, "{event:?}");
@@ -254,42 +335,37 @@ fn a_thread_is_busy_in_its_call(rt: HostRuntime) -> Result<(), Fail> {
     Ok(())
 }
 
+/// The first lock has 8 accesses, and each other one has 9, since it stores into the entry before it too.
 #[test]
 fn a_thread_holds_at_most_2048_mutexes(rt: HostRuntime) -> Result<(), Fail> {
     let one = thread(1)?;
-    let last = Call::TryLock(2048);
-    let refused = Note::Began {
-        thread: one,
-        call: last,
-        refused: Some(Reply::XHELD),
-    };
+    let last = Call::Lock(2048);
     let mut machine = machine(rt.alloc(), 1, 2049, &[])?;
-    for mutex in 0..2048 {
+    play(&mut machine, one, Call::Lock(0), 8);
+    for mutex in 1..2048 {
+        assert!(rt; !machine.busy(one), "{mutex}");
         let call = if mutex % 2 == 0 {
-            Call::TryLock(mutex)
-        } else {
             Call::Lock(mutex)
+        } else {
+            Call::TryLock(mutex)
         };
-        assert_eq!(rt; machine.step(Event::Begin(one, call)), began(one, call));
-        let _ = machine.step(Event::Step(one));
+        play(&mut machine, one, call, 8);
+        assert!(rt; machine.busy(one), "{mutex}");
         let _ = machine.step(Event::Step(one));
     }
-    assert_eq!(rt; machine.step(Event::Begin(one, last)), refused);
-    let lock = Call::Lock(2048);
-    let also_refused = Note::Began {
-        thread: one,
-        call: lock,
-        refused: Some(Reply::XHELD),
-    };
-    assert_eq!(rt; machine.step(Event::Begin(one, lock)), also_refused);
     assert!(rt; !machine.busy(one));
-    for event in [
-        Event::Begin(one, Call::Unlock(7)),
-        Event::Step(one),
-        Event::Step(one),
-    ] {
-        assert_ne!(rt; machine.step(event), Note::Nothing, "{event:?}");
+    assert_eq!(rt; machine.word(1), Some(3 * 2048 + 2));
+    for call in [last, Call::TryLock(2048)] {
+        let refused = Note::Began {
+            thread: one,
+            call,
+            refused: Some(Reply::XHELD),
+        };
+        assert_eq!(rt; machine.step(Event::Begin(one, call)), refused);
+        assert!(rt; !machine.busy(one));
     }
+    play(&mut machine, one, Call::Unlock(7), 8);
+    assert!(rt; !machine.busy(one));
     assert_eq!(rt; machine.step(Event::Begin(one, last)), began(one, last));
     assert!(rt; machine.busy(one));
     Ok(())

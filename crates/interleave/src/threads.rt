@@ -2,25 +2,26 @@
 ghost use Rattle.std.specs.Prelude.{◌≡◌, ◌<◌, ◌≤◌, ℕ, List, Some, None, length, if◌then◌else◌};
 ghost use Rattle.keys.specs.Layouts.{words_of};
 ghost use Rattle.protocol.specs.declared.event.Event.TheVariants.{Begin, Step};
-ghost use Rattle.protocol.specs.Machine.{happens, is_idle};
-ghost use Rattle.mutex.specs.Calls.{mutex_of};
+ghost use Rattle.protocol.specs.Machine.{happens, is_idle, held_after, decision};
+ghost use Rattle.mutex.specs.Calls.{mutex_of, operation_of};
 ghost use Rattle.syscalls.specs.Kernels.{Kernel'};
-ghost use Rattle.interleave.specs.Perform.{point_in, reply_in, stage_in, held_in, decision_in};
+ghost use Rattle.interleave.specs.Perform.{decided_in, reply_in, stage_in};
 ghost use Rattle.interleave.specs.Shown.{state_at, thread_at};
 ghost use Rattle.interleave.specs.Steps.{MayStep, SleepsInItsCall};
 
 use crate::accesses::perform;
-use keys::{Decision, Layout, Operation, Point, Progress};
+use keys::{Decision, Layout, Operation, Progress};
 use lockword::{Reply, Tid};
 use mutex::{Call, Program};
 use protocol::{Event, Note, Stage, Thread};
 use syscalls::{Kernel, PlainMemory};
 
-fn point(progress: &Progress) -> Option<Point>
-    ensures { result ≡ point_in progress.now }
+/// The reply of the call's point, where the access was it.
+fn decided(progress: &Progress) -> Option<Reply>
+    ensures { result ≡ decided_in progress.now }
 {
     match *progress {
-        Progress::Goes { point } | Progress::Returns { point, .. } => point,
+        Progress::Goes { point } | Progress::Returns { point, .. } => Some(point?.reply),
     }
 }
 
@@ -42,33 +43,30 @@ fn stage_after(call: Call, program: &Program, progress: &Progress) -> Stage
     }
 }
 
-/// How many mutexes a thread owns after a point.
-fn held_after(held: u16, point: &Option<Point>) -> u16
+/// How many mutexes a thread owns after an access of its call, which may have decided it.
+fn held_after(held: u16, call: Call, decided: Option<Reply>) -> u16
     requires { held < 65535 }
-    ensures { result ≡ held_in held point.now }
+    ensures { result ≡ held_after held (operation_of call) decided }
 {
-    let Some(point) = point else {
+    let Some(reply) = decided else {
         return held;
     };
-    match (point.operation, point.reply) {
+    match (call.operation(), reply) {
         (Operation::Lock | Operation::TryLock, Reply::OK | Reply::EOWNERDEAD) => held + 1,
         (Operation::Unlock, Reply::OK) => held.saturating_sub(1),
         _ => held,
     }
 }
 
-fn decision(thread: Tid, call: Call, point: &Option<Point>) -> Option<Decision>
-    ensures { result ≡ decision_in thread call point.now }
+fn decision(thread: Tid, call: Call, decided: Option<Reply>) -> Option<Decision>
+    ensures { result ≡ decision thread call decided }
 {
-    match point {
-        None => None,
-        Some(point) => Some(Decision {
-            thread,
-            mutex: call.mutex(),
-            operation: point.operation,
-            reply: point.reply,
-        }),
-    }
+    Some(Decision {
+        thread,
+        mutex: call.mutex(),
+        operation: call.operation(),
+        reply: decided?,
+    })
 }
 
 /// The mutex that a thread in such a call fell asleep on, if it did.
@@ -103,7 +101,7 @@ fn begin(layout: &Layout, threads: &mut Vec<Thread>, thread: Tid, call: Call) ->
     if !is_idle(&stage) {
         return Note::Nothing;
     }
-    match Program::short(layout, thread, held, call) {
+    match Program::new(layout, thread, held, call) {
         Ok(program) => {
             threads[index] = Thread {
                 stage: Stage::Calling(call, program),
@@ -155,14 +153,14 @@ fn step(
     };
     let done = perform(memory, kernel, thread, &program.next());
     let progress = program.resume(done.answer);
-    let point = point(&progress);
+    let decided = decided(&progress);
     threads[index] = Thread {
         stage: stage_after(call, &program, &progress),
-        held: held_after(held, &point),
+        held: held_after(held, call, decided),
     };
     Note::Stepped {
         thread,
-        point: decision(thread, call, &point),
+        point: decision(thread, call, decided),
         slept: slept_on(call, done.slept),
         woken: done.woken,
         returned: returned(&progress),

@@ -5,17 +5,15 @@ use Rattle.std.proofs.lemmas.Bool.{eqb-false}
 use Rattle.std.proofs.lemmas.Bool.Decides.{nat_tests}
 use Rattle.lockword.specs.declared.reply.Reply.{Reply}
 use Rattle.lockword.specs.declared.reply.Reply.TheVariants.{XHELD}
-use Rattle.keys.specs.declared.point.Operation.{Operation}
-use Rattle.keys.specs.Layouts.{cell_place}
 use Rattle.keys.specs.Objects.{acquires}
 use Rattle.mutex.specs.declared.call.Call.{Call}
 use Rattle.mutex.specs.declared.call.Call.TheVariants as call
-use Rattle.mutex.specs.declared.row.Row.{Row}
-use Rattle.mutex.specs.declared.row.Row.TheVariants.{Lock, TryLock, Unlock, Consistent, Ended}
-use Rattle.mutex.specs.Calls.{mutex_of, operation_of}
-use Rattle.mutex.specs.Standings.{Standing}
-use Rattle.mutex.specs.Programs.{started, first_row, row_operation, access_of, led}
-use Rattle.mutex.specs.Laws.{decided, Joins}
+use Rattle.mutex.specs.declared.phase.Phase.{Phase}
+use Rattle.mutex.specs.declared.phase.Phase.TheVariants.{Announcing, AtCell, Linking, Unlinking, Clearing, Ended}
+use Rattle.mutex.specs.Calls.{operation_of}
+use Rattle.mutex.specs.Standings.{Whole}
+use Rattle.mutex.specs.Whole.{begins, first_phase, whole_started, whole_access, whole_led}
+use Rattle.mutex.specs.Laws.{Joins}
 use Rattle.protocol.specs.declared.event.Event.{Event}
 use Rattle.protocol.specs.declared.event.Event.TheVariants as event
 use Rattle.protocol.specs.declared.thread.Thread.{Thread}
@@ -27,12 +25,15 @@ use Rattle.protocol.specs.declared.note.Note.{Note}
 use Rattle.protocol.specs.declared.note.Note.TheVariants.{Nothing, Began, Stepped}
 use Rattle.protocol.specs.declared.note.Line.{Line}
 use Rattle.protocol.specs.Notes.{line_of, facts_of, point_facts, sleep_facts, return_facts, lines_from}
-use Rattle.protocol.specs.Machine.{State, After, start, nothing, is_thread, is_idle, may_begin, begun, stage_after, returned, decision, answer_of, went, sleeps, stepped, happens, notes}
+use Rattle.protocol.specs.Machine.{State, After, start, nothing, is_thread, may_begin, begun, stage_after, returned, decision, answer_of, went, sleeps, stepped, happens, notes}
 use Rattle.protocol.specs.Explained.{thread_of, is_of_call, is_wake, point_by, own, Life, Rests, Returns, Stays, Decides, is_point, Later, Each, Orderly, caller, caller_of, IsExplained, TraceIsExplained}
 use Rattle.protocol.proofs.Puts.{put-same, put-other}
-use Rattle.protocol.proofs.Kept.{Fits, Sits, Kept}
-use Rattle.protocol.proofs.Steps.{after, went-is, r, l}
-use Rattle.protocol.proofs.Runs.{sound, start_kept}
+use Rattle.protocol.proofs.Phases.{decided_at}
+use Rattle.protocol.proofs.Kept.{Kept}
+use Rattle.protocol.proofs.Steps.{after, went-is, onto}
+use Rattle.protocol.proofs.Stepping.{Stepping}
+use Rattle.protocol.proofs.Accesses as accesses
+use Rattle.protocol.proofs.Runs.{sound, start_kept, at_rest}
 
 -- ---- what may come next in a thread's life
 
@@ -44,12 +45,12 @@ Doing t c (Some x) fs = Life t (Begin t c ∷ (point_by t c x ∷ fs))
 -- what a thread does from now on
 abbrev Goes : ℕ → Stage → List Fact → Type 0
 Goes t Idle fs = Life t fs
-Goes t (Calling c p) fs = Doing t c (decided p.row) fs
+Goes t (Calling c p) fs = Doing t c (decided_at p.phase) fs
 
 -- it may do nothing more
 ends : (t : ℕ) (g : Stage) → Goes t g []
 ends t Idle = Rests
-ends t (Calling c p) = go (decided p.row)
+ends t (Calling c p) = go (decided_at p.phase)
   where
     go : (d : Option Reply) → Doing t c d []
     go None = Stays c
@@ -96,7 +97,7 @@ own-calls t i (Stepped u (Some d) z ws y) ls = ap (λ (v : List Fact). if d.thre
 -- what one event tells: nothing; that its thread began a call, or was refused at once; or that it decided its call, or returned, or both
 data Says (t : ℕ) : List Fact → Type 0 where
   nothing_new : Says t []
-  begins : (c : Call) → Says t (Begin t c ∷ [])
+  begins_one : (c : Call) → Says t (Begin t c ∷ [])
   refused : (c : Call) (x : Reply) → Says t (Begin t c ∷ (point_by t c x ∷ (Return t x ∷ [])))
   decides : (c : Call) (x : Reply) → Says t (point_by t c x ∷ [])
   returns : (x : Reply) → Says t (Return t x ∷ [])
@@ -105,7 +106,7 @@ data Says (t : ℕ) : List Fact → Type 0 where
 -- another thread's event adds nothing to this thread's lines
 own-apart : (t u i : ℕ) (fs : List Fact) (ls : List Line) → Says u fs → u ≢ t → own t (map (line_of i) fs ++ ls) ≡ own t ls
 own-apart t u i fs ls nothing_new apart = refl
-own-apart t u i fs ls (begins c) apart = own-other t i (Begin u c) ls apart
+own-apart t u i fs ls (begins_one c) apart = own-other t i (Begin u c) ls apart
 own-apart t u i fs ls (refused c x) apart = own-other t i (Begin u c) (line_of i (point_by u c x) ∷ (line_of i (Return u x) ∷ ls)) apart ∙ own-other t i (point_by u c x) (line_of i (Return u x) ∷ ls) apart ∙ own-other t i (Return u x) ls apart
 own-apart t u i fs ls (decides c x) apart = own-other t i (point_by u c x) ls apart
 own-apart t u i fs ls (returns x) apart = own-other t i (Return u x) ls apart
@@ -113,30 +114,21 @@ own-apart t u i fs ls (ends_with c x y) apart = own-other t i (point_by u c x) (
 
 -- ---- one event
 
--- a call's first row is undecided
-first_undecided : (c : Call) → decided (first_row c) ≡ None
+-- a call begins undecided
+first_undecided : (c : Call) → decided_at (first_phase c) ≡ None
 first_undecided (call.Lock m) = refl
 first_undecided (call.TryLock m) = refl
 first_undecided (call.Unlock m) = refl
 first_undecided (call.Consistent m) = refl
 
--- whoever is idle is at rest
-at_rest : (g : Stage) → is_idle g ≡ true → g ≡ Idle
-at_rest Idle e = refl
-at_rest (Calling c p) e = absurd cc
-
 -- the facts of an access
-abbrev facts_at : ℕ → Call → Operation → Option Reply → Row → List Fact
-facts_at t c op x q = point_facts (decision t c op x) ++ return_facts t (returned q)
+abbrev facts_at : ℕ → Call → Option Reply → Phase → List Fact
+facts_at t c x f = point_facts (decision t c x) ++ return_facts t (returned f)
 
 -- an access tells what may come next in its thread's life
-module _ (t i : ℕ) (c : Call) (p : Standing) (ls : List Line) where
-  abbrev told : Option Reply → Row → List Fact
-  told x q = own t (map (line_of i) (facts_at t c (operation_of c) x q) ++ ls)
-
-  -- a row that goes on, with the decision that it had or that this access made
-  on : (q : Row) (d : Option Reply) → decided q ≡ d → Goes t (Calling c (record p { row = q })) (own t ls) → Doing t c d (own t ls)
-  on q d is later = subst (λ (z : Option Reply). Doing t c z (own t ls)) is later
+module _ (t i : ℕ) (c : Call) (p : Whole) (ls : List Line) where
+  abbrev told : Option Reply → Phase → List Fact
+  told x f = own t (map (line_of i) (facts_at t c x f) ++ ls)
 
   point_first : (x : Reply) → own t (line_of i (point_by t c x) ∷ ls) ≡ point_by t c x ∷ own t ls
   point_first x = own-mine t i (point_by t c x) ls refl refl
@@ -144,40 +136,48 @@ module _ (t i : ℕ) (c : Call) (p : Standing) (ls : List Line) where
   both_first : (x y : Reply) → own t (line_of i (point_by t c x) ∷ (line_of i (Return t y) ∷ ls)) ≡ point_by t c x ∷ (Return t y ∷ own t ls)
   both_first x y = own-mine t i (point_by t c x) (line_of i (Return t y) ∷ ls) refl refl ∙ ap (λ fs. point_by t c x ∷ fs) (own-mine t i (Return t y) ls refl refl)
 
-  access : (d x : Option Reply) (q : Row) → Joins d x (decided q) → Goes t (stage_after c p q) (own t ls) → Doing t c d (told x q)
-  access None None (Lock z) joins later = on (Lock z) None joins later
-  access None None (TryLock z) joins later = on (TryLock z) None joins later
-  access None None (Unlock z) joins later = on (Unlock z) None joins later
-  access None None (Consistent z) joins later = on (Consistent z) None joins later
-  access None None (Ended y) joins later = absurd cc
-  access None (Some x) (Lock z) joins later = subst (λ fs. Life t (Begin t c ∷ fs)) (sym (point_first x)) (on (Lock z) (Some x) joins later)
-  access None (Some x) (TryLock z) joins later = subst (λ fs. Life t (Begin t c ∷ fs)) (sym (point_first x)) (on (TryLock z) (Some x) joins later)
-  access None (Some x) (Unlock z) joins later = subst (λ fs. Life t (Begin t c ∷ fs)) (sym (point_first x)) (on (Unlock z) (Some x) joins later)
-  access None (Some x) (Consistent z) joins later = subst (λ fs. Life t (Begin t c ∷ fs)) (sym (point_first x)) (on (Consistent z) (Some x) joins later)
-  access None (Some x) (Ended y) joins later =
+  -- a call that goes on, with the decision that it had or that this access made
+  goes_on_so : (d x y : Option Reply) → Joins d x y → Doing t c y (own t ls) → Doing t c d (own t (map (line_of i) (point_facts (decision t c x)) ++ ls))
+  goes_on_so None None y joins later = subst (λ (z : Option Reply). Doing t c z (own t ls)) joins later
+  goes_on_so None (Some x) y joins later = subst (λ fs. Life t (Begin t c ∷ fs)) (sym (point_first x)) (subst (λ (z : Option Reply). Doing t c z (own t ls)) joins later)
+  goes_on_so (Some x) None y joins later = subst (λ (z : Option Reply). Doing t c z (own t ls)) joins.1 later
+  goes_on_so (Some x) (Some z) y joins later = absurd (cc joins.0)
+
+  -- one that returns
+  returns_so : (d x : Option Reply) (y : Reply) → Joins d x (Some y) → Life t (own t ls) → Doing t c d (told x (Ended y))
+  returns_so None None y joins later = absurd cc
+  returns_so None (Some x) y joins later =
       let same : y ≡ x = cc in
       subst (λ fs. Life t (Begin t c ∷ fs)) (sym (both_first x y)) (subst (λ (z : Reply). Life t (Begin t c ∷ (point_by t c x ∷ (Return t z ∷ own t ls)))) (sym same) (Returns c x (own t ls) later))
-  access (Some x) None (Lock z) joins later = on (Lock z) (Some x) joins.1 later
-  access (Some x) None (TryLock z) joins later = on (TryLock z) (Some x) joins.1 later
-  access (Some x) None (Unlock z) joins later = on (Unlock z) (Some x) joins.1 later
-  access (Some x) None (Consistent z) joins later = on (Consistent z) (Some x) joins.1 later
-  access (Some x) None (Ended y) joins later =
+  returns_so (Some x) None y joins later =
       let same : y ≡ x = cc in
       subst (λ fs. Life t (Begin t c ∷ (point_by t c x ∷ fs))) (sym (own-mine t i (Return t y) ls refl refl)) (subst (λ (z : Reply). Life t (Begin t c ∷ (point_by t c x ∷ (Return t z ∷ own t ls)))) (sym same) (Returns c x (own t ls) later))
-  access (Some x) (Some y) q joins later = absurd cc
+  returns_so (Some x) (Some z) y joins later = absurd (cc joins.0)
+
+  -- a point alone
+  alone_told : (x : Option Reply) → map (line_of i) (point_facts (decision t c x) ++ []) ≡ map (line_of i) (point_facts (decision t c x))
+  alone_told None = refl
+  alone_told (Some x) = refl
+
+  on : (d x : Option Reply) (f : Phase) → returned f ≡ None → Joins d x (decided_at f) → Doing t c (decided_at f) (own t ls) → Doing t c d (told x f)
+  on d x f none joins later =
+      subst (λ (z : Option Reply). Doing t c d (own t (map (line_of i) (point_facts (decision t c x) ++ return_facts t z) ++ ls))) (sym none)
+      (subst (λ z. Doing t c d (own t (z ++ ls))) (sym (alone_told x)) (goes_on_so d x (decided_at f) joins later))
+
+  access : (d x : Option Reply) (f : Phase) → Joins d x (decided_at f) → Goes t (stage_after c p f) (own t ls) → Doing t c d (told x f)
+  access d x (Ended y) joins later = returns_so d x y joins later
+  access d x (Announcing r) joins later = on d x (Announcing r) refl joins later
+  access d x (AtCell r) joins later = on d x (AtCell r) refl joins later
+  access d x (Linking l y) joins later = on d x (Linking l y) refl joins later
+  access d x (Unlinking u b) joins later = on d x (Unlinking u b) refl joins later
+  access d x (Clearing y) joins later = on d x (Clearing y) refl joins later
 
 -- what an access tells is its thread's
-access_says : (t : ℕ) (c : Call) (x : Option Reply) (q : Row) → Says t (facts_at t c (operation_of c) x q)
-access_says t c None (Lock z) = nothing_new
-access_says t c None (TryLock z) = nothing_new
-access_says t c None (Unlock z) = nothing_new
-access_says t c None (Consistent z) = nothing_new
-access_says t c None (Ended y) = returns y
-access_says t c (Some x) (Lock z) = decides c x
-access_says t c (Some x) (TryLock z) = decides c x
-access_says t c (Some x) (Unlock z) = decides c x
-access_says t c (Some x) (Consistent z) = decides c x
-access_says t c (Some x) (Ended y) = ends_with c x y
+says_of : (t : ℕ) (c : Call) (x y : Option Reply) → Says t (point_facts (decision t c x) ++ return_facts t y)
+says_of t c None None = nothing_new
+says_of t c None (Some y) = returns y
+says_of t c (Some x) None = decides c x
+says_of t c (Some x) (Some y) = ends_with c x y
 
 -- ---- which facts one event may tell, of thread u: no two points, and but for wakes nothing of others
 abbrev NoPoint : List Fact → Type 0
@@ -212,9 +212,9 @@ slept_fine : (u : ℕ) (z : Option ℕ) (ws : List ℕ) (y : Option Reply) → F
 slept_fine u None ws y = woken_fine u ws y
 slept_fine u (Some m) ws y = ((λ e. refl), (λ e. absurd cc), woken_fine u ws y)
 
-access_fine : (u : ℕ) (c : Call) (op : Operation) (x : Option Reply) (z : Option ℕ) (ws : List ℕ) (y : Option Reply) → Fine u (point_facts (decision u c op x) ++ (sleep_facts u z ++ (map Wake ws ++ return_facts u y)))
-access_fine u c op None z ws y = slept_fine u z ws y
-access_fine u c op (Some x) z ws y = ((λ e. refl), (λ e. slept_pointless u z ws y), slept_fine u z ws y)
+access_fine : (u : ℕ) (c : Call) (x : Option Reply) (z : Option ℕ) (ws : List ℕ) (y : Option Reply) → Fine u (point_facts (decision u c x) ++ (sleep_facts u z ++ (map Wake ws ++ return_facts u y)))
+access_fine u c None z ws y = slept_fine u z ws y
+access_fine u c (Some x) z ws y = ((λ e. refl), (λ e. slept_pointless u z ws y), slept_fine u z ws y)
 
 -- what an event leaves and notes: of its own thread what may come next, and of others nothing
 record Adds (s : State) (u : ℕ) (a : After) : Type 0 where
@@ -228,8 +228,8 @@ idles : (s : State) (u : ℕ) → Adds s u (nothing s)
 idles s u = record { fine = tt; says = nothing_new; mine = λ i ls later. later; others = λ t apart. refl }
 
 module _ (s : State) (u : ℕ) (c : Call) (idle : (s.threads u).stage ≡ Idle) where
-  abbrev p : Standing
-  p = record { thread = u; cell = cell_place s.layout (mutex_of c); row = first_row c }
+  abbrev p : Whole
+  p = begins s.layout u c
 
   -- a call begins, or is refused
   begins_call : (b : Bool) → Adds s u (begun s u c (if b then Err XHELD else Ok p))
@@ -246,7 +246,7 @@ module _ (s : State) (u : ℕ) (c : Call) (idle : (s.threads u).stage ≡ Idle) 
   }
   begins_call false = record {
     fine = ((λ e. refl), (λ e. tt), tt);
-    says = begins c;
+    says = begins_one c;
     mine = λ i ls later.
         let begun_there : Goes u (Calling c p) (own u ls) = subst (λ (z : Thread). Goes u z.stage (own u ls)) (put-same s.threads u (record (s.threads u) { stage = Calling c p })) later in
         let undecided : Life u (Begin u c ∷ own u ls) = subst (λ (d : Option Reply). Doing u c d (own u ls)) (first_undecided c) begun_there in
@@ -255,19 +255,18 @@ module _ (s : State) (u : ℕ) (c : Call) (idle : (s.threads u).stage ≡ Idle) 
   }
 
 -- a call makes its access
-goes : (s : State) (u : ℕ) → Kept s → 1 ≤ u → u ≤ s.layout.threads → (c : Call) (p : Standing) → (s.threads u).stage ≡ Calling c p → Adds s u (went s u (s.threads u).held c p (led p (answer_of s (access_of p))))
+goes : (s : State) (u : ℕ) → Kept s → 1 ≤ u → u ≤ s.layout.threads → (c : Call) (p : Whole) → (s.threads u).stage ≡ Calling c p → Adds s u (went s u (s.threads u).held c p (whole_led p (answer_of s (whole_access p))))
 goes s u inv pos known c p is =
-    let fits : Fits s u (s.threads u).held c p = subst (λ (g : Stage). Sits s u (s.threads u).held g) is (inv.sits u pos known) in
-    let next = l s u c p inv pos known fits in
-    let th : Thread = (after s u c p inv pos known fits).threads u in
-    let stage : th.stage ≡ stage_after c p next.row = ap (λ (z : Thread). z.stage) (put-same s.threads u _) in
-    subst (Adds s u) (sym (went-is s u c p inv pos known fits)) record {
-      fine = access_fine u c (row_operation p.row) next.point _ _ (returned next.row);
-      says = subst (λ (op : Operation). Says u (facts_at u c op next.point next.row)) (sym fits.of) (access_says u c next.point next.row);
+    let g : Stepping s u c p = accesses.goes s u c p inv pos known is in
+    let f : Phase = (onto s u c p).phase in
+    let x : Option Reply = (onto s u c p).point in
+    let stage : ((after s u c p).threads u).stage ≡ stage_after c p f = ap (λ (z : Thread). z.stage) (put-same s.threads u _) in
+    subst (Adds s u) (sym (went-is s u c p g.valid)) record {
+      fine = access_fine u c x _ _ (returned f);
+      says = says_of u c x (returned f);
       mine = λ i ls later.
-          subst (λ g. Goes u g (own u (map (line_of i) (facts_at u c (row_operation p.row) next.point next.row) ++ ls))) (sym is)
-          (subst (λ (op : Operation). Doing u c (decided p.row) (own u (map (line_of i) (facts_at u c op next.point next.row) ++ ls))) (sym fits.of)
-          (access u i c p ls (decided p.row) next.point next.row (r s u c p inv pos known fits).tells (subst (λ g. Goes u g (own u ls)) stage later)));
+          subst (λ g. Goes u g (own u (map (line_of i) (facts_at u c x f) ++ ls))) (sym is)
+          (access u i c p ls (decided_at p.phase) x f g.moves.joins (subst (λ g. Goes u g (own u ls)) stage later));
       others = λ t apart. ap (λ (z : Thread). z.stage) (put-other s.threads u _ t (λ same. apart (sym same)));
     }
 
@@ -276,7 +275,7 @@ goes_on : (s : State) (u : ℕ) → Kept s → 1 ≤ u → u ≤ s.layout.thread
 goes_on s u inv pos known Idle is = idles s u
 goes_on s u inv pos known (Calling c p) is = go (sleeps s u (Calling c p))
   where
-    go : (b : Bool) → Adds s u (if b then nothing s else went s u (s.threads u).held c p (led p (answer_of s (access_of p))))
+    go : (b : Bool) → Adds s u (if b then nothing s else went s u (s.threads u).held c p (whole_led p (answer_of s (whole_access p))))
     go true = idles s u
     go false = goes s u inv pos known c p is
 
@@ -284,7 +283,7 @@ goes_on s u inv pos known (Calling c p) is = go (sleeps s u (Calling c p))
 adds : (s : State) (e : Event) → Kept s → Adds s (caller e) (happens s e)
 adds s (event.Begin u c) inv = go (may_begin s u c) refl
   where
-    go : (b : Bool) → may_begin s u c ≡ b → Adds s u (if b then begun s u c (started s.layout u (s.threads u).held c) else nothing s)
+    go : (b : Bool) → may_begin s u c ≡ b → Adds s u (if b then begun s u c (whole_started s.layout u (s.threads u).held c) else nothing s)
     go true e = begins_call s u c (at_rest (s.threads u).stage (grind (arith, nat_tests))) (acquires (operation_of c) && nat_le 2048 (s.threads u).held)
     go false e = idles s u
 adds s (event.Step u) inv = go (is_thread s u) refl

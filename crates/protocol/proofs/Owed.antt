@@ -1,12 +1,12 @@
 -- Threads that run alone.
-use Rattle.std.proofs.Common.{◌≡◌, ◌⊎◌, ⊎_elim, inl, inr, ℕ, zero, suc, ◌-◌, ◌%◌, ◌^◌, ◌<◌, ◌≤◌, ◌==◌, Bool, true, false, ◌&&◌, Option, Some, None, List, [], ◌∷◌, drop, refl, sym, ap, ◌∙◌, subst, arith}
+use Rattle.std.proofs.Common.{◌≡◌, ◌⊎◌, ⊎_elim, inl, inr, ℕ, zero, suc, ◌%◌, ◌^◌, ◌<◌, ◌≤◌, ◌==◌, Bool, true, false, ◌&&◌, Option, Some, None, List, [], ◌∷◌, drop, refl, sym, ap, ◌∙◌, subst, arith}
 use Rattle.std.specs.Prelude.{if◌then◌else◌, not}
 use Rattle.std.proofs.lemmas.Bool.Decides.{nat_tests}
 use Rattle.lockword.specs.Cells.{fields_of, word_of, low_of}
 use Rattle.lockword.specs.declared.reply.Reply.{Reply}
 use Rattle.keys.specs.declared.object.Object.{Object}
 use Rattle.keys.specs.Layouts.{cell_place}
-use Rattle.keys.specs.Accesses.{changed, sleeps_at}
+use Rattle.keys.specs.Accesses.{sleeps_at}
 use Rattle.mutex.specs.declared.call.Call.{Call}
 use Rattle.mutex.specs.declared.lock.LockRow.TheVariants as lock
 use Rattle.mutex.specs.declared.try_lock.TryLockRow.TheVariants as try
@@ -14,34 +14,37 @@ use Rattle.mutex.specs.declared.unlock.UnlockRow.TheVariants as unlock
 use Rattle.mutex.specs.declared.consistent.ConsistentRow.TheVariants as consistent
 use Rattle.mutex.specs.declared.row.Row.{Row}
 use Rattle.mutex.specs.declared.row.Row.TheVariants.{Lock, TryLock, Unlock, Consistent, Ended}
-use Rattle.mutex.specs.declared.row.Led.{Led}
-use Rattle.mutex.specs.Rows.{Knows, IsGoing}
-use Rattle.mutex.specs.Alone.{Alone, answers_for, left}
-use Rattle.mutex.specs.Calls.{mutex_of}
-use Rattle.mutex.specs.Standings.{Standing}
-use Rattle.mutex.specs.Programs.{access_of, led, row_operation}
+use Rattle.mutex.specs.declared.phase.Phase.{Phase}
+use Rattle.mutex.specs.declared.phase.Phase.TheVariants as phase
+use Rattle.mutex.specs.declared.phase.Onward.{Onward}
+use Rattle.mutex.specs.Alone.{left}
+use Rattle.mutex.specs.Calls.{mutex_of, operation_of}
+use Rattle.mutex.specs.Standings.{Whole}
+use Rattle.mutex.specs.Whole.{whole_access, whole_led}
 use Rattle.protocol.specs.declared.event.Event.TheVariants.{Step}
 use Rattle.protocol.specs.declared.thread.Stage.{Stage}
 use Rattle.protocol.specs.declared.thread.Stage.TheVariants.{Idle, Calling}
-use Rattle.protocol.specs.Machine.{State, After, queue_after, answer_of, stands_in, sleepers, sleeps, is_thread, is_idle, is_busy, is_asleep, nothing, went, stepped, stage_after, happens}
+use Rattle.protocol.specs.Machine.{State, After, answer_of, stands_in, sleepers, sleeps, is_thread, is_idle, is_busy, is_asleep, nothing, went, stepped, stage_after, happens}
 use Rattle.protocol.specs.Headline.{seen}
 use Rattle.protocol.specs.Sleepers.{Sleeps, IsUnowned, alone, Owes, SomebodyOwes, EndsAlone}
-use Rattle.protocol.proofs.Puts.{put-same}
 use Rattle.protocol.proofs.Objects.{owners}
-use Rattle.protocol.proofs.Kept.{Fits, Sits, Kept}
-use Rattle.protocol.proofs.Steps.{Tells, after, went-is, l, al, before, tells, kept, called}
-use Rattle.protocol.proofs.Queues.{Once, not_true, stands_last, stands_rest, first_stands, first_gone, Answers, Queued, in_none, Change, Stays, Joins, Wakes, change, mine, queue_here, bits_here, free_field, free_after, this_answers, went_queued}
+use Rattle.protocol.proofs.Phases.{answers_at, left_at, Change, Stays, Joins_it, Wakes, few_of_link, few_of_unlink}
+use Rattle.protocol.proofs.Kept.{Fits, InPhase, Kept}
+use Rattle.protocol.proofs.Steps.{Tells, after, went-is, onto, seen-inside}
+use Rattle.protocol.proofs.Stepping.{Stepping}
+use Rattle.protocol.proofs.Accesses.{goes, fits_in}
+use Rattle.protocol.proofs.Queues.{Once, not_true, stands_last, stands_rest, first_stands, first_gone, Answers, Queued, in_none, mine, bits_here, free_field, free_after, this_answers, went_queued}
 
 -- a thread that is known
 pub is_known : (s : State) (t : ℕ) → 1 ≤ t → t ≤ s.layout.threads → is_thread s t ≡ true
 is_known s t pos known = grind (arith, nat_tests)
 
 -- what a step of a thread is that is awake in a call
-pub step_is : (s : State) (t : ℕ) (c : Call) (p : Standing) → 1 ≤ t → t ≤ s.layout.threads → (s.threads t).stage ≡ Calling c p → stands_in t (sleepers s (mutex_of c)) ≡ false → happens s (Step t) ≡ went s t (s.threads t).held c p (led p (answer_of s (access_of p)))
+pub step_is : (s : State) (t : ℕ) (c : Call) (p : Whole) → 1 ≤ t → t ≤ s.layout.threads → (s.threads t).stage ≡ Calling c p → stands_in t (sleepers s (mutex_of c)) ≡ false → happens s (Step t) ≡ went s t (s.threads t).held c p (whole_led p (answer_of s (whole_access p)))
 step_is s t c p pos known is out =
     ap (λ (b : Bool). if b then stepped s t (s.threads t).held (s.threads t).stage else nothing s) (is_known s t pos known)
     ∙ ap (stepped s t (s.threads t).held) is
-    ∙ ap (λ (b : Bool). if b then nothing s else went s t (s.threads t).held c p (led p (answer_of s (access_of p)))) out
+    ∙ ap (λ (b : Bool). if b then nothing s else went s t (s.threads t).held c p (whole_led p (answer_of s (whole_access p)))) out
 
 -- few accesses are left, wherever a call stands
 pub few_left : (r : Row) (w : ℕ) → left r w ≤ 6
@@ -71,113 +74,95 @@ few_left (Consistent consistent.Load) w = omega arith
 few_left (Consistent consistent.Declare) w = omega arith
 few_left (Ended x) w = omega arith
 
--- who has something left to do
-some_left : (r : Row) (w : ℕ) → answers_for r ≡ true → 0 < left r w
-some_left (Lock lock.Load) w e = omega arith
-some_left (Lock (lock.Take v)) w e = go (w == word_of v)
-  where
-    go : (b : Bool) → 0 < (if b then 1 else 3)
-    go true = omega arith
-    go false = omega arith
-some_left (Lock (lock.SetWaiters v)) w e = go (w == word_of v)
-  where
-    go : (b : Bool) → 0 < (if b then 2 else 3)
-    go true = omega arith
-    go false = omega arith
-some_left (Lock (lock.Sleep v)) w e = go (w % 2 ^ 32 == low_of v)
-  where
-    go : (b : Bool) → 0 < (if b then 1 else 4)
-    go true = omega arith
-    go false = omega arith
-some_left (Lock lock.WakeAll) w e = omega arith
-some_left (Unlock (unlock.Wake a)) w e = omega arith
-some_left (TryLock r) w e = absurd cc
-some_left (Unlock unlock.Load) w e = absurd cc
-some_left (Unlock (unlock.Release d)) w e = absurd cc
-some_left (Consistent r) w e = absurd cc
-some_left (Ended x) w e = absurd cc
+pub few_at : (f : Phase) (w : ℕ) → left_at f w ≤ 62
+few_at (phase.Announcing r) w = let few = few_left r w in omega arith
+few_at (phase.AtCell r) w = let few = few_left r w in omega arith
+few_at (phase.Linking l x) w = let few = few_of_link l.row in omega arith
+few_at (phase.Unlinking u d) w = let few = few_of_unlink u.row in omega arith
+few_at (phase.Clearing x) w = omega arith
+few_at (phase.Ended x) w = omega arith
+
+-- something is left of a call that hasn't returned
+some_at : (t held : ℕ) (p : Whole) (f : Phase) (w : ℕ) (o : Object) → InPhase t held p f o → 0 < left_at f w
+some_at t held p (phase.Announcing r) w o stands = omega arith
+some_at t held p (phase.AtCell r) w o stands = omega arith
+some_at t held p (phase.Linking l x) w o stands = omega arith
+some_at t held p (phase.Unlinking u d) w o stands = omega arith
+some_at t held p (phase.Clearing x) w o stands = omega arith
+some_at t held p (phase.Ended x) w o stands = absurd stands
 
 -- ---- the step of a thread that is awake in a call
-module _ (s : State) (t : ℕ) (c : Call) (p : Standing) (inv : Kept s) (queued : Queued s) (pos : 1 ≤ t) (known : t ≤ s.layout.threads) (is : (s.threads t).stage ≡ Calling c p) (out : stands_in t (sleepers s (mutex_of c)) ≡ false) where
+module _ (s : State) (t : ℕ) (c : Call) (p : Whole) (inv : Kept s) (queued : Queued s) (pos : 1 ≤ t) (known : t ≤ s.layout.threads) (is : (s.threads t).stage ≡ Calling c p) (out : stands_in t (sleepers s (mutex_of c)) ≡ false) where
   pub fits : Fits s t (s.threads t).held c p
-  fits = subst (λ (g : Stage). Sits s t (s.threads t).held g) is (inv.sits t pos known)
+  fits = fits_in s t c p inv pos known is
+
+  pub steps : Stepping s t c p
+  steps = goes s t c p inv pos known is
 
   abbrev pub m : ℕ
   m = mutex_of c
+
+  abbrev pub s' : State
+  s' = after s t c p
 
   abbrev pub word : ℕ
   word = s.words (cell_place s.layout m)
 
   abbrev pub word' : ℕ
-  word' = changed (access_of p) word
+  word' = s'.words (cell_place s.layout m)
 
   abbrev pub queue : List ℕ
   queue = s.queues (cell_place s.layout m)
 
-  abbrev pub next : Led
-  next = l s t c p inv pos known fits
-
-  abbrev pub s' : State
-  s' = after s t c p inv pos known fits
+  abbrev pub next : Onward
+  next = onto s t c p
 
   pub steps_to : (happens s (Step t)).state ≡ s'
-  steps_to = ap (λ (z : After). z.state) (step_is s t c p pos known is out ∙ went-is s t c p inv pos known fits)
-
-  pub kept' : Kept s'
-  kept' = kept s t c p inv pos known fits
+  steps_to = ap (λ (z : After). z.state) (step_is s t c p pos known is out ∙ went-is s t c p steps.valid)
 
   pub queued' : Queued s'
-  queued' = went_queued s t c p inv pos known fits is queued out
+  queued' = went_queued s t c p steps pos known fits.inside is queued out
 
-  pub alone_is : Alone t p.row (access_of p) next word word'
-  alone_is = al s t c p inv pos known fits
-
-  pub stage' : (s'.threads t).stage ≡ stage_after c p next.row
-  stage' = mine s t c p inv pos known fits is queued out
-
-  pub queue' : sleepers s' m ≡ queue_after t (access_of p) word queue
-  queue' = queue_here s t c p inv pos known fits is queued out
-
-  pub word-is : s'.words (cell_place s.layout m) ≡ word'
-  word-is = put-same s.words (cell_place s.layout m) word'
+  pub stage' : (s'.threads t).stage ≡ stage_after c p next.phase
+  stage' = mine s t c p steps pos known fits.inside is queued out
 
   -- an owner that the step gives is this thread
   pub owner_is : IsUnowned s m → (o : Option ℕ) → (seen s' m).owner ≡ o → (o ≡ None) ⊎ (o ≡ Some t)
   owner_is none None own = inl refl
-  owner_is none (Some u) own = inr (ap Some (who next.point (tells s t c p inv pos known fits)))
+  owner_is none (Some u) own = inr (ap Some (who next.point steps.tells))
     where
-      who : (x : Option Reply) → Tells t (seen s m) (row_operation p.row) x (seen s' m) → u ≡ t
+      who : (x : Option Reply) → Tells t (seen s m) (operation_of c) x (seen s' m) → u ≡ t
       who None same = absurd (cc (sym none ∙ (sym (ap (λ (z : Object). z.owner) same) ∙ own)))
-      who (Some x) permits = ⊎_elim (λ before. absurd (cc (sym none ∙ before))) (λ this. this) (owners (seen s m) (seen s' m) t u (row_operation p.row) x (called p.row) permits own)
+      who (Some x) permits = ⊎_elim (λ before. absurd (cc (sym none ∙ before))) (λ this. this) (owners (seen s m) (seen s' m) t u (operation_of c) x steps.called permits own)
 
   -- whoever answers for a free mutex takes it now, or wakes one, or goes on to do so with fewer steps left
   abbrev pub Settles : Type 0
   Settles = ((seen s' m).owner ≡ Some t) ⊎ ((u : ℕ) × Sleeps s u m × (stands_in u (sleepers s' m) ≡ false))
 
   abbrev pub Continues : Type 0
-  Continues = Answers s' m t c (record p { row = next.row }) × IsUnowned s' m × (sleepers s' m ≡ queue) × (left next.row word' < left p.row word)
+  Continues = Answers s' m t c (record p { phase = next.phase }) × IsUnowned s' m × (sleepers s' m ≡ queue) × (left_at next.phase word' < left_at p.phase word)
 
   free_now : IsUnowned s m → (fields_of word).owner ≡ 0
-  free_now none = free_field word (sym (ap (λ (o : Object). o.owner) (before s t c p inv pos known fits)) ∙ none)
+  free_now none = free_field word (sym (ap (λ (o : Object). o.owner) (seen-inside s m fits.inside)) ∙ none)
 
-  pub one_step : (u : ℕ) → answers_for p.row ≡ true → IsUnowned s m → Sleeps s u m → Change t (access_of p) word queue → Settles ⊎ Continues
-  one_step u on none stands (Joins e f g) = absurd (let owned = (alone_is.sleeps e).0 in let free = free_now none in omega arith)
+  pub one_step : (u : ℕ) → answers_at p.phase ≡ true → IsUnowned s m → Sleeps s u m → Change t (whole_access p) word word' queue (sleepers s' m) → Settles ⊎ Continues
+  one_step u on none stands (Joins_it e f g) = absurd (let owned = (steps.moves.sleeps e).0 in let free = free_now none in omega arith)
   one_step u on none stands (Wakes k some e f g) = wakes queue refl
     where
       wakes : (z : List ℕ) → queue ≡ z → Settles ⊎ Continues
       wakes [] eq = absurd (cc (sym (ap (stands_in u) eq) ∙ stands))
-      wakes (v ∷ vs) eq = inl (inr (v, ap (stands_in v) eq ∙ first_stands v vs, ap (stands_in v) (queue' ∙ g ∙ ap (drop k) eq) ∙ first_gone v k vs (subst Once eq (queued.once (cell_place s.layout m))) some))
+      wakes (v ∷ vs) eq = inl (inr (v, ap (stands_in v) eq ∙ first_stands v vs, ap (stands_in v) (g ∙ ap (drop k) eq) ∙ first_gone v k vs (subst Once eq (queued.once (cell_place s.layout m))) some))
   one_step u on none stands (Stays e f g) = ⊎_elim free (λ own. inl (inl own)) (owner_is none (seen s' m).owner refl)
     where
       free : IsUnowned s' m → Settles ⊎ Continues
       free none' =
-          let waits : stands_in u (queue_after t (access_of p) word queue) ≡ true = ap (stands_in u) g ∙ stands in
+          let waits : stands_in u (sleepers s' m) ≡ true = ap (stands_in u) g ∙ stands in
           inr (
-            ⊎_elim (λ goes. this_answers s t c p inv pos known fits is queued out goes g) (λ looks. absurd (cc (on, looks.0)))
-                (alone_is.answers f (free_after s t c p inv pos known fits is queued out none') (bits_here s t c p inv pos known fits is queued out u waits)),
+            ⊎_elim (λ goes. this_answers s t c p steps pos known fits.inside is queued out goes g) (λ looks. absurd (cc (on, looks.0)))
+                (steps.moves.answers f (free_after s t c p steps pos known fits.inside is queued out none') (bits_here s t c p steps pos known fits.inside is queued out u waits)),
             none',
-            queue' ∙ g,
-            alone_is.fewer e,
+            g,
+            steps.moves.fewer e,
           )
 
 -- ---- whoever answers for a free mutex takes it, or wakes one
@@ -204,23 +189,26 @@ at_once s s' t m n to done = (
       done,
 )
 
-pub owes : (n : ℕ) (s : State) (t u : ℕ) (c : Call) (p : Standing) → Kept s → Queued s → Answers s (mutex_of c) t c p → IsUnowned s (mutex_of c) → Sleeps s u (mutex_of c) → left p.row (s.words (cell_place s.layout (mutex_of c))) ≤ n → Owes s t (mutex_of c) n
-owes zero s t u c p inv queued a none stands few = absurd (let some = some_left p.row (s.words (cell_place s.layout (mutex_of c))) a.answers in omega arith)
+pub owes : (n : ℕ) (s : State) (t u : ℕ) (c : Call) (p : Whole) → Kept s → Queued s → Answers s (mutex_of c) t c p → IsUnowned s (mutex_of c) → Sleeps s u (mutex_of c) → left_at p.phase (s.words (cell_place s.layout (mutex_of c))) ≤ n → Owes s t (mutex_of c) n
+owes zero s t u c p inv queued a none stands few =
+    let fit = fits_in s t c p inv a.first a.last a.stage in
+    absurd (let some = some_at t (s.threads t).held p p.phase (s.words (cell_place s.layout (mutex_of c))) (seen s (mutex_of c)) fit.stands in omega arith)
 owes (suc n) s t u c p inv queued a none stands few =
     let to = steps_to s t c p inv queued a.first a.last a.stage a.awake in
     let z = s' s t c p inv queued a.first a.last a.stage a.awake in
-    let r = (next s t c p inv queued a.first a.last a.stage a.awake).row in
+    let f = (next s t c p inv queued a.first a.last a.stage a.awake).phase in
+    let g = steps s t c p inv queued a.first a.last a.stage a.awake in
     ⊎_elim
     (λ done. at_once s z t (mutex_of c) n to done)
     (λ on.
     let same : sleepers z (mutex_of c) ≡ sleepers s (mutex_of c) = on.2 in
-    let fewer : left r (z.words (cell_place s.layout (mutex_of c))) < left p.row (s.words (cell_place s.layout (mutex_of c))) = subst (λ (v : ℕ). left r v < left p.row (s.words (cell_place s.layout (mutex_of c)))) (sym (word-is s t c p inv queued a.first a.last a.stage a.awake)) on.3 in
+    let fewer : left_at f (z.words (cell_place s.layout (mutex_of c))) < left_at p.phase (s.words (cell_place s.layout (mutex_of c))) = on.3 in
     later s z t (mutex_of c) n to (λ v h. sym (ap (stands_in v) same) ∙ h)
-    (owes n z t u c (record p { row = r }) (kept' s t c p inv queued a.first a.last a.stage a.awake) (queued' s t c p inv queued a.first a.last a.stage a.awake) on.0 on.1 (ap (stands_in u) same ∙ stands) (omega arith)))
-    (one_step s t c p inv queued a.first a.last a.stage a.awake u a.answers none stands (change t p.thread p.cell p.row (s.words (cell_place s.layout (mutex_of c))) (s.queues (cell_place s.layout (mutex_of c)))))
+    (owes n z t u c (record p { phase = f }) g.kept (queued' s t c p inv queued a.first a.last a.stage a.awake) on.0 on.1 (ap (stands_in u) same ∙ stands) (omega arith)))
+    (one_step s t c p inv queued a.first a.last a.stage a.awake u a.answers none stands g.change)
 
 -- a thread in a call is busy
-busy : (s : State) (t : ℕ) (c : Call) (p : Standing) → 1 ≤ t → t ≤ s.layout.threads → (s.threads t).stage ≡ Calling c p → is_busy s t ≡ true
+busy : (s : State) (t : ℕ) (c : Call) (p : Whole) → 1 ≤ t → t ≤ s.layout.threads → (s.threads t).stage ≡ Calling c p → is_busy s t ≡ true
 busy s t c p pos known is = (λ i. is_known s t pos known i && not (is_idle (is i)))
 
 pub somebody_owes : (s : State) → Kept s → Queued s → SomebodyOwes s
@@ -234,7 +222,7 @@ somebody_owes s inv queued m u inside none stands =
       t,
       (busy s t c p a.3.first a.3.last a.3.stage, in_none s t c p queued a.3.stage a'.awake),
       subst (λ (k : ℕ). Owes s t k 9000) at
-          (owes 9000 s t u c p inv queued a' (subst (IsUnowned s) (sym at) none) (subst (Sleeps s u) (sym at) stands) (let few = few_left p.row (s.words (cell_place s.layout (mutex_of c))) in omega arith)),
+          (owes 9000 s t u c p inv queued a' (subst (IsUnowned s) (sym at) none) (subst (Sleeps s u) (sym at) stands) (let few = few_at p.phase (s.words (cell_place s.layout (mutex_of c))) in omega arith)),
     )
 
 -- ---- whoever is awake ends its call, or falls asleep
@@ -248,90 +236,82 @@ rests_later s s' t n to rests = (suc rests.0, (let k = rests.1 in omega arith), 
 rests_now : (s : State) (t n : ℕ) → (is_busy s t ≡ false) ⊎ (is_asleep s t ≡ true) → Rests s t n
 rests_now s t n h = (0, omega arith, h)
 
--- a row, ended or not
-pub ended_or_not : (r : Row) → ((x : Reply) × (r ≡ Ended x)) ⊎ ((c : Call) (p : Standing) → stage_after c p r ≡ Calling c (record p { row = r }))
-ended_or_not (Lock r) = inr (λ c p. refl)
-ended_or_not (TryLock r) = inr (λ c p. refl)
-ended_or_not (Unlock r) = inr (λ c p. refl)
-ended_or_not (Consistent r) = inr (λ c p. refl)
-ended_or_not (Ended x) = inl (x, refl)
-
--- something is left of a call that hasn't returned
-some_go : (r : Row) (w : ℕ) → IsGoing r → Knows r → 0 < left r w
-some_go (Lock r) w going known = some_left (Lock r) w refl
-some_go (TryLock try.Load) w going known = omega arith
-some_go (TryLock (try.Take v k)) w going known = let few = known.2 in let e : 0 < 5 - k = omega arith in e
-some_go (Unlock unlock.Load) w going known = omega arith
-some_go (Unlock (unlock.Release d)) w going known = omega arith
-some_go (Unlock (unlock.Wake a)) w going known = omega arith
-some_go (Consistent consistent.Load) w going known = omega arith
-some_go (Consistent consistent.Declare) w going known = omega arith
-some_go (Ended x) w going known = absurd going
+-- a phase, ended or not
+pub ended_or_not : (f : Phase) → ((x : Reply) × (f ≡ phase.Ended x)) ⊎ ((c : Call) (p : Whole) → stage_after c p f ≡ Calling c (record p { phase = f }))
+ended_or_not (phase.Announcing r) = inr (λ c p. refl)
+ended_or_not (phase.AtCell r) = inr (λ c p. refl)
+ended_or_not (phase.Linking l x) = inr (λ c p. refl)
+ended_or_not (phase.Unlinking u d) = inr (λ c p. refl)
+ended_or_not (phase.Clearing x) = inr (λ c p. refl)
+ended_or_not (phase.Ended x) = inl (x, refl)
 
 -- a step on the mutex of c, by which its thread fell asleep
-module _ (s : State) (t : ℕ) (c : Call) (p : Standing) (inv : Kept s) (queued : Queued s) (pos : 1 ≤ t) (known : t ≤ s.layout.threads) (is : (s.threads t).stage ≡ Calling c p) (out : stands_in t (sleepers s (mutex_of c)) ≡ false) where
+module _ (s : State) (t : ℕ) (c : Call) (p : Whole) (inv : Kept s) (queued : Queued s) (pos : 1 ≤ t) (known : t ≤ s.layout.threads) (is : (s.threads t).stage ≡ Calling c p) (out : stands_in t (sleepers s (mutex_of c)) ≡ false) where
   abbrev z : State
   z = s' s t c p inv queued pos known is out
 
-  abbrev row : Row
-  row = (next s t c p inv queued pos known is out).row
+  abbrev to : Phase
+  to = (next s t c p inv queued pos known is out).phase
 
-  pub now_asleep : sleeps_at (access_of p) (s.words (cell_place s.layout (mutex_of c))) ≡ true → Change t (access_of p) (s.words (cell_place s.layout (mutex_of c))) (s.queues (cell_place s.layout (mutex_of c))) → is_asleep z t ≡ true
+  abbrev change_here : Type 0
+  change_here = Change t (whole_access p) (s.words (cell_place s.layout (mutex_of c))) (z.words (cell_place s.layout (mutex_of c))) (s.queues (cell_place s.layout (mutex_of c))) (z.queues (cell_place s.layout (mutex_of c)))
+
+  pub now_asleep : sleeps_at (whole_access p) (s.words (cell_place s.layout (mutex_of c))) ≡ true → change_here → is_asleep z t ≡ true
   now_asleep on (Stays e f g) = absurd (cc (on, e))
   now_asleep on (Wakes k some e f g) = absurd (cc (on, e))
-  now_asleep on (Joins e f g) =
-      let stands : stands_in t (z.queues (cell_place s.layout (mutex_of c))) ≡ true = ap (stands_in t) (queue' s t c p inv queued pos known is out ∙ g) ∙ stands_last t (s.queues (cell_place s.layout (mutex_of c))) in
+  now_asleep on (Joins_it e f g) =
+      let stands : stands_in t (z.queues (cell_place s.layout (mutex_of c))) ≡ true = ap (stands_in t) g ∙ stands_last t (s.queues (cell_place s.layout (mutex_of c))) in
       let slept = (queued' s t c p inv queued pos known is out).sleeps (cell_place s.layout (mutex_of c)) t stands in
       ap (sleeps z t) slept.2.2 ∙ ap (λ (k : ℕ). stands_in t (z.queues k)) (sym slept.2.4) ∙ stands
 
-  pub still_awake : sleeps_at (access_of p) (s.words (cell_place s.layout (mutex_of c))) ≡ false → Change t (access_of p) (s.words (cell_place s.layout (mutex_of c))) (s.queues (cell_place s.layout (mutex_of c))) → stands_in t (sleepers z (mutex_of c)) ≡ false
-  still_awake no_sleep (Stays e f g) = ap (stands_in t) (queue' s t c p inv queued pos known is out ∙ g) ∙ out
-  still_awake no_sleep (Joins e f g) = absurd (cc (no_sleep, e))
-  still_awake no_sleep (Wakes k some e f g) = ap (stands_in t) (queue' s t c p inv queued pos known is out ∙ g) ∙ not_true (stands_in t (drop k (s.queues (cell_place s.layout (mutex_of c))))) (λ stands. cc (stands_rest t k (s.queues (cell_place s.layout (mutex_of c))) stands, out))
+  pub still_awake : sleeps_at (whole_access p) (s.words (cell_place s.layout (mutex_of c))) ≡ false → change_here → stands_in t (sleepers z (mutex_of c)) ≡ false
+  still_awake no_sleep (Stays e f g) = ap (stands_in t) g ∙ out
+  still_awake no_sleep (Joins_it e f g) = absurd (cc (no_sleep, e))
+  still_awake no_sleep (Wakes k some e f g) = ap (stands_in t) g ∙ not_true (stands_in t (drop k (s.queues (cell_place s.layout (mutex_of c))))) (λ stands. cc (stands_rest t k (s.queues (cell_place s.layout (mutex_of c))) stands, out))
 
-  pub now_idle : (x : Reply) → row ≡ Ended x → (z.threads t).stage ≡ Idle
+  pub now_idle : (x : Reply) → to ≡ phase.Ended x → (z.threads t).stage ≡ Idle
   now_idle x e = stage' s t c p inv queued pos known is out ∙ ap (stage_after c p) e
 
-  not_busy : (x : Reply) → row ≡ Ended x → is_busy z t ≡ false
+  not_busy : (x : Reply) → to ≡ phase.Ended x → is_busy z t ≡ false
   not_busy x e = ap (λ (g : Stage). is_thread z t && not (is_idle g)) (now_idle x e) ∙ and_false (is_thread z t)
     where
       and_false : (b : Bool) → (b && false) ≡ false
       and_false true = refl
       and_false false = refl
 
-ends : (n : ℕ) (s : State) (t : ℕ) (c : Call) (p : Standing) → Kept s → Queued s → 1 ≤ t → t ≤ s.layout.threads → (s.threads t).stage ≡ Calling c p → left p.row (s.words (cell_place s.layout (mutex_of c))) ≤ n → Rests s t n
+ends : (n : ℕ) (s : State) (t : ℕ) (c : Call) (p : Whole) → Kept s → Queued s → 1 ≤ t → t ≤ s.layout.threads → (s.threads t).stage ≡ Calling c p → left_at p.phase (s.words (cell_place s.layout (mutex_of c))) ≤ n → Rests s t n
 ends zero s t c p inv queued pos known is few =
-    let fits : Fits s t (s.threads t).held c p = subst (λ (g : Stage). Sits s t (s.threads t).held g) is (inv.sits t pos known) in
-    absurd (let some = some_go p.row (s.words (cell_place s.layout (mutex_of c))) fits.going fits.knows in omega arith)
+    let fit = fits_in s t c p inv pos known is in
+    absurd (let some = some_at t (s.threads t).held p p.phase (s.words (cell_place s.layout (mutex_of c))) (seen s (mutex_of c)) fit.stands in omega arith)
 ends (suc n) s t c p inv queued pos known is few = go (stands_in t (sleepers s (mutex_of c))) refl (λ z q i k g h e. ends n z t c q i k pos g h e)
   where
     w : ℕ
     w = s.words (cell_place s.layout (mutex_of c))
 
     go : (b : Bool) → stands_in t (sleepers s (mutex_of c)) ≡ b
-        → ((z : State) (q : Standing) → Kept z → Queued z → t ≤ z.layout.threads → (z.threads t).stage ≡ Calling c q → left q.row (z.words (cell_place z.layout (mutex_of c))) ≤ n → Rests z t n)
+        → ((z : State) (q : Whole) → Kept z → Queued z → t ≤ z.layout.threads → (z.threads t).stage ≡ Calling c q → left_at q.phase (z.words (cell_place z.layout (mutex_of c))) ≤ n → Rests z t n)
         → Rests s t (suc n)
     go true e further = rests_now s t (suc n) (inr (ap (sleeps s t) is ∙ e))
     go false out further =
         let to = steps_to s t c p inv queued pos known is out in
         let after_it = s' s t c p inv queued pos known is out in
-        rests_later s after_it t n to (steps (sleeps_at (access_of p) w) refl out further)
+        rests_later s after_it t n to (further_on (sleeps_at (whole_access p) w) refl out further)
       where
-        steps : (b : Bool) → sleeps_at (access_of p) w ≡ b → (out : stands_in t (sleepers s (mutex_of c)) ≡ false)
-            → ((z : State) (q : Standing) → Kept z → Queued z → t ≤ z.layout.threads → (z.threads t).stage ≡ Calling c q → left q.row (z.words (cell_place z.layout (mutex_of c))) ≤ n → Rests z t n)
+        further_on : (b : Bool) → sleeps_at (whole_access p) w ≡ b → (out : stands_in t (sleepers s (mutex_of c)) ≡ false)
+            → ((z : State) (q : Whole) → Kept z → Queued z → t ≤ z.layout.threads → (z.threads t).stage ≡ Calling c q → left_at q.phase (z.words (cell_place z.layout (mutex_of c))) ≤ n → Rests z t n)
             → Rests (s' s t c p inv queued pos known is out) t n
-        steps true e out further = rests_now _ t n (inr (now_asleep s t c p inv queued pos known is out e (change t p.thread p.cell p.row w (s.queues (cell_place s.layout (mutex_of c))))))
-        steps false e out further =
+        further_on true e out further = rests_now _ t n (inr (now_asleep s t c p inv queued pos known is out e (steps s t c p inv queued pos known is out).change))
+        further_on false e out further =
             ⊎_elim
             (λ ended. rests_now _ t n (inl (not_busy s t c p inv queued pos known is out ended.0 ended.1)))
             (λ on.
-            let r = (next s t c p inv queued pos known is out).row in
-            let fewer : left r (changed (access_of p) w) < left p.row w = (alone_is s t c p inv queued pos known is out).fewer e in
-            let here : (s' s t c p inv queued pos known is out).words (cell_place s.layout (mutex_of c)) ≡ changed (access_of p) w = word-is s t c p inv queued pos known is out in
-            further (s' s t c p inv queued pos known is out) (record p { row = r }) (kept' s t c p inv queued pos known is out) (queued' s t c p inv queued pos known is out) known
+            let f = (next s t c p inv queued pos known is out).phase in
+            let g = steps s t c p inv queued pos known is out in
+            let fewer : left_at f ((s' s t c p inv queued pos known is out).words (cell_place s.layout (mutex_of c))) < left_at p.phase w = g.moves.fewer e in
+            further (s' s t c p inv queued pos known is out) (record p { phase = f }) g.kept (queued' s t c p inv queued pos known is out) known
             (stage' s t c p inv queued pos known is out ∙ on c p)
-            (let same : left r ((s' s t c p inv queued pos known is out).words (cell_place s.layout (mutex_of c))) ≡ left r (changed (access_of p) w) = ap (left r) here in omega arith))
-            (ended_or_not (next s t c p inv queued pos known is out).row)
+            (omega arith))
+            (ended_or_not (next s t c p inv queued pos known is out).phase)
 
 pub ends_alone : (s : State) → Kept s → Queued s → (t : ℕ) → EndsAlone s t
 ends_alone s inv queued t awake = go (s.threads t).stage refl
@@ -346,7 +326,7 @@ ends_alone s inv queued t awake = go (s.threads t).stage refl
         let there : is_thread s t ≡ true = (let busy_now : (is_thread s t && not (is_idle (s.threads t).stage)) ≡ true = awake.0 in first_true (is_thread s t) (not (is_idle (s.threads t).stage)) busy_now) in
         let pos : 1 ≤ t = grind (arith, nat_tests) in
         let known : t ≤ s.layout.threads = grind (arith, nat_tests) in
-        ends 9000 s t c p inv queued pos known is (let few = few_left p.row (s.words (cell_place s.layout (mutex_of c))) in omega arith)
+        ends 9000 s t c p inv queued pos known is (let few = few_at p.phase (s.words (cell_place s.layout (mutex_of c))) in omega arith)
       where
         first_true : (a b : Bool) → (a && b) ≡ true → a ≡ true
         first_true true b e = refl

@@ -1,39 +1,38 @@
 -- Who sleeps where, and who answers for a mutex that nobody owns.
-use Rattle.std.proofs.Common.{◌≡◌, ◌≢◌, ◌⊎◌, ⊎_elim, inl, inr, ℕ, zero, suc, ◌%◌, ◌^◌, ◌<◌, ◌≤◌, ◌==◌, Bool, true, false, ◌&&◌, None, Ok, Err, List, [], ◌∷◌, ◌++◌, drop, refl, sym, ap, ◌∙◌, subst, arith, eqb-true}
+use Rattle.std.proofs.Common.{◌≡◌, ◌≢◌, ◌⊎◌, ⊎_elim, inl, inr, ℕ, zero, suc, ◌<◌, ◌≤◌, ◌==◌, Bool, true, false, ◌&&◌, None, Ok, Err, List, [], ◌∷◌, ◌++◌, drop, refl, sym, ap, ◌∙◌, subst, arith, eqb-true}
 use Rattle.std.specs.Prelude.{if◌then◌else◌, nat_le}
 use Rattle.std.proofs.lemmas.Bool.{eqb-false}
 use Rattle.std.proofs.lemmas.Bool.Decides.{nat_tests}
 use Rattle.lockword.specs.Cells.{fields_of}
 use Rattle.lockword.specs.declared.reply.Reply.TheVariants.{XHELD}
-use Rattle.keys.specs.declared.access.Access.{Access}
 use Rattle.keys.specs.declared.object.Object.{Object}
 use Rattle.keys.specs.Layouts.{Layout', IsLayout, cell_place}
-use Rattle.keys.specs.Accesses.{changed, sleeps_at}
+use Rattle.keys.specs.Accesses.{sleeps_at}
 use Rattle.keys.specs.Objects.{object_of, owner_of, acquires}
 use Rattle.keys.proofs.Owners.{owner_of-none}
 use Rattle.mutex.specs.declared.call.Call.{Call}
 use Rattle.mutex.specs.declared.lock.LockRow.TheVariants as lock
-use Rattle.mutex.specs.declared.try_lock.TryLockRow.TheVariants as try
-use Rattle.mutex.specs.declared.unlock.UnlockRow.TheVariants as unlock
-use Rattle.mutex.specs.declared.consistent.ConsistentRow.TheVariants as consistent
-use Rattle.mutex.specs.declared.row.Row.{Row}
-use Rattle.mutex.specs.declared.row.Row.TheVariants.{Lock, TryLock, Unlock, Consistent, Ended}
-use Rattle.mutex.specs.declared.row.Led.{Led}
-use Rattle.mutex.specs.Alone.{Alone, answers_for, is_wake}
+use Rattle.mutex.specs.declared.row.Row.TheVariants.{Lock}
+use Rattle.mutex.specs.declared.phase.Phase.{Phase}
+use Rattle.mutex.specs.declared.phase.Phase.TheVariants.{Announcing, AtCell, Linking, Unlinking, Clearing, Ended}
+use Rattle.mutex.specs.declared.phase.Onward.{Onward}
 use Rattle.mutex.specs.Calls.{mutex_of, operation_of}
-use Rattle.mutex.specs.Standings.{Standing}
-use Rattle.mutex.specs.Programs.{started, first_row, row_access, access_of, led}
+use Rattle.mutex.specs.Standings.{Whole}
+use Rattle.mutex.specs.Whole.{begins, whole_started, whole_access, whole_led}
 use Rattle.protocol.specs.declared.event.Event.{Event}
 use Rattle.protocol.specs.declared.event.Event.TheVariants.{Begin, Step}
 use Rattle.protocol.specs.declared.thread.Thread.{Thread}
 use Rattle.protocol.specs.declared.thread.Stage.{Stage}
 use Rattle.protocol.specs.declared.thread.Stage.TheVariants.{Idle, Calling}
-use Rattle.protocol.specs.Machine.{State, put, start, queue_after, answer_of, stands_in, sleepers, sleeps, is_thread, is_idle, may_begin, begun, nothing, went, stepped, stage_after, happens, run}
+use Rattle.protocol.specs.Machine.{State, After, put, start, answer_of, stands_in, sleepers, sleeps, is_thread, may_begin, begun, nothing, went, stepped, stage_after, happens, run}
 use Rattle.protocol.specs.Sleepers.{Sleeps, IsUnowned}
 use Rattle.protocol.proofs.Puts.{by_put, put-same, put-other}
-use Rattle.protocol.proofs.Kept.{Fits, Sits, Kept}
-use Rattle.protocol.proofs.Steps.{after, went-is, l, al, here, before, far}
-use Rattle.protocol.proofs.Runs.{sound, start_kept}
+use Rattle.protocol.proofs.Phases.{answers_at, Change, Stays, Joins_it, Wakes}
+use Rattle.protocol.proofs.Kept.{Kept}
+use Rattle.protocol.proofs.Steps.{seen-inside, after, went-is, onto}
+use Rattle.protocol.proofs.Stepping.{Stepping}
+use Rattle.protocol.proofs.Accesses.{goes, fits_in}
+use Rattle.protocol.proofs.Runs.{sound, start_kept, at_rest}
 
 -- ---- queues
 
@@ -111,31 +110,31 @@ first_stands u us = go (u == u) refl
 
 -- thread t, which stands in the queue of this key, is in a call on that mutex, and loads its cell when it is woken
 abbrev pub Slept : State → ℕ → ℕ → Type 0
-Slept s t key = (1 ≤ t) × (t ≤ s.layout.threads) × ((c : Call) × (p : Standing) × ((s.threads t).stage ≡ Calling c p) × (p.row ≡ Lock lock.Load) × (key ≡ cell_place s.layout (mutex_of c)))
+Slept s t key = (1 ≤ t) × (t ≤ s.layout.threads) × ((c : Call) × (p : Whole) × ((s.threads t).stage ≡ Calling c p) × (p.phase ≡ AtCell (Lock lock.Load)) × (key ≡ cell_place s.layout (mutex_of c)))
 
 -- thread t, awake in a call on mutex m, answers for it
-pub record Answers (s : State) (m t : ℕ) (c : Call) (p : Standing) : Type 0 where
+pub record Answers (s : State) (m t : ℕ) (c : Call) (p : Whole) : Type 0 where
   pub first : 1 ≤ t
   pub last : t ≤ s.layout.threads
   pub stage : (s.threads t).stage ≡ Calling c p
   pub mutex : mutex_of c ≡ m
-  pub answers : answers_for p.row ≡ true
+  pub answers : answers_at p.phase ≡ true
   pub awake : stands_in t (sleepers s m) ≡ false
 
 pub record Queued (s : State) : Type 0 where
   pub sleeps : (key t : ℕ) → stands_in t (s.queues key) ≡ true → Slept s t key
   pub once : (key : ℕ) → Once (s.queues key)
   pub bits : (m u : ℕ) → m < s.layout.mutexes → Sleeps s u m → (fields_of (s.words (cell_place s.layout m))).waiters ≡ true
-  pub answered : (m u : ℕ) → m < s.layout.mutexes → IsUnowned s m → Sleeps s u m → (t : ℕ) × (c : Call) × (p : Standing) × Answers s m t c p
+  pub answered : (m u : ℕ) → m < s.layout.mutexes → IsUnowned s m → Sleeps s u m → (t : ℕ) × (c : Call) × (p : Whole) × Answers s m t c p
 
 -- whoever is in no queue of its call's mutex is in none
-pub in_none : (s : State) (t : ℕ) (c : Call) (p : Standing) → Queued s → (s.threads t).stage ≡ Calling c p → stands_in t (sleepers s (mutex_of c)) ≡ false → (key : ℕ) → stands_in t (s.queues key) ≡ false
+pub in_none : (s : State) (t : ℕ) (c : Call) (p : Whole) → Queued s → (s.threads t).stage ≡ Calling c p → stands_in t (sleepers s (mutex_of c)) ≡ false → (key : ℕ) → stands_in t (s.queues key) ≡ false
 in_none s t c p inv is out key = not_true (stands_in t (s.queues key)) (λ stands.
     let slept = inv.sleeps key t stands in
     let same : slept.2.0 ≡ c = calls_same _ _ _ _ (sym slept.2.2 ∙ is) in
     cc (sym (ap (λ (k : ℕ). stands_in t (s.queues k)) (slept.2.4 ∙ ap (λ (d : Call). cell_place s.layout (mutex_of d)) same)) ∙ stands, out))
   where
-    calls_same : (c d : Call) (p q : Standing) → Calling c p ≡ Calling d q → c ≡ d
+    calls_same : (c d : Call) (p q : Whole) → Calling c p ≡ Calling d q → c ≡ d
     calls_same c d p q e = cc
 
 -- whoever is idle is in no queue
@@ -144,97 +143,47 @@ idle_in_none s t inv is key = not_true (stands_in t (s.queues key)) (λ stands. 
 
 -- ---- one access
 
--- what an access does to the queue of its mutex: nothing; it puts its thread at the end; or it takes the first out of it, one or more
-pub data Change (t : ℕ) (a : Access) (w : ℕ) (q : List ℕ) : Type 0 where
-  Stays : sleeps_at a w ≡ false → is_wake a ≡ false → queue_after t a w q ≡ q → Change t a w q
-  Joins : sleeps_at a w ≡ true → changed a w ≡ w → queue_after t a w q ≡ q ++ t ∷ [] → Change t a w q
-  Wakes : (n : ℕ) → 1 ≤ n → sleeps_at a w ≡ false → changed a w ≡ w → queue_after t a w q ≡ drop n q → Change t a w q
-
-pub change : (u t cell : ℕ) (r : Row) (w : ℕ) (q : List ℕ) → Change u (row_access t cell r) w q
-change u t cell (Lock lock.Load) w q = Stays refl refl refl
-change u t cell (Lock (lock.Take v)) w q = Stays refl refl refl
-change u t cell (Lock (lock.SetWaiters v)) w q = Stays refl refl refl
-change u t cell (Lock (lock.Sleep v)) w q = go (w % 2 ^ 32 == Rattle.lockword.specs.Cells.low_of v) refl
-  where
-    go : (b : Bool) → (w % 2 ^ 32 == Rattle.lockword.specs.Cells.low_of v) ≡ b → Change u (row_access t cell (Lock (lock.Sleep v))) w q
-    go true e = Joins e refl (ap (λ (b : Bool). if b then q ++ u ∷ [] else q) e)
-    go false e = Stays e refl (ap (λ (b : Bool). if b then q ++ u ∷ [] else q) e)
-change u t cell (Lock lock.WakeAll) w q = Wakes 64 (omega arith) refl refl refl
-change u t cell (TryLock try.Load) w q = Stays refl refl refl
-change u t cell (TryLock (try.Take v k)) w q = Stays refl refl refl
-change u t cell (Unlock unlock.Load) w q = Stays refl refl refl
-change u t cell (Unlock (unlock.Release d)) w q = Stays refl refl refl
-change u t cell (Unlock (unlock.Wake a)) w q = Wakes (if a then 64 else 1) (some a) refl refl refl
-  where
-    some : (b : Bool) → 1 ≤ (if b then 64 else 1)
-    some true = omega arith
-    some false = omega arith
-change u t cell (Consistent consistent.Load) w q = Stays refl refl refl
-change u t cell (Consistent consistent.Declare) w q = Stays refl refl refl
-change u t cell (Ended x) w q = Stays refl refl refl
-
--- who falls asleep is in a lock that saw the word
-pub sleeper : (t cell : ℕ) (r : Row) (w : ℕ) → sleeps_at (row_access t cell r) w ≡ true → (v : Rattle.lockword.specs.Cells.Fields) × (r ≡ Lock (lock.Sleep v))
-sleeper t cell (Lock lock.Load) w e = absurd cc
-sleeper t cell (Lock (lock.Take v)) w e = absurd cc
-sleeper t cell (Lock (lock.SetWaiters v)) w e = absurd cc
-sleeper t cell (Lock (lock.Sleep v)) w e = (v, refl)
-sleeper t cell (Lock lock.WakeAll) w e = absurd cc
-sleeper t cell (TryLock try.Load) w e = absurd cc
-sleeper t cell (TryLock (try.Take v k)) w e = absurd cc
-sleeper t cell (Unlock unlock.Load) w e = absurd cc
-sleeper t cell (Unlock (unlock.Release d)) w e = absurd cc
-sleeper t cell (Unlock (unlock.Wake a)) w e = absurd cc
-sleeper t cell (Consistent consistent.Load) w e = absurd cc
-sleeper t cell (Consistent consistent.Declare) w e = absurd cc
-sleeper t cell (Ended x) w e = absurd cc
-
 -- a call that answers for its mutex goes on
-pub stays_calling : (c : Call) (p : Standing) (r : Row) → answers_for r ≡ true → stage_after c p r ≡ Calling c (record p { row = r })
-stays_calling c p (Lock r) e = refl
-stays_calling c p (TryLock r) e = refl
-stays_calling c p (Unlock r) e = refl
-stays_calling c p (Consistent r) e = refl
+pub stays_calling : (c : Call) (p : Whole) (f : Phase) → answers_at f ≡ true → stage_after c p f ≡ Calling c (record p { phase = f })
+stays_calling c p (AtCell r) e = refl
+stays_calling c p (Announcing r) e = absurd cc
+stays_calling c p (Linking l x) e = absurd cc
+stays_calling c p (Unlinking u d) e = absurd cc
+stays_calling c p (Clearing x) e = absurd cc
 stays_calling c p (Ended x) e = absurd cc
 
 -- an owner field of nobody is 0
 pub free_field : (w : ℕ) → (object_of (fields_of w)).owner ≡ None → (fields_of w).owner ≡ 0
 free_field w none = owner_of-none (fields_of w).owner none
 
-pub calls_alike : (c d : Call) (p q : Standing) → Calling c p ≡ Calling d q → (c ≡ d) × (p ≡ q)
+pub calls_alike : (c d : Call) (p q : Whole) → Calling c p ≡ Calling d q → (c ≡ d) × (p ≡ q)
 calls_alike c d p q e = (cc, cc)
 
 -- one access of a call of thread t, which is awake
-module _ (s : State) (t : ℕ) (c : Call) (p : Standing) (inv : Kept s) (pos : 1 ≤ t) (known : t ≤ s.layout.threads) (fits : Fits s t (s.threads t).held c p) (is : (s.threads t).stage ≡ Calling c p) (queued : Queued s) (out : stands_in t (sleepers s (mutex_of c)) ≡ false) where
+module _ (s : State) (t : ℕ) (c : Call) (p : Whole) (g : Stepping s t c p) (pos : 1 ≤ t) (known : t ≤ s.layout.threads) (inside : mutex_of c < s.layout.mutexes) (is : (s.threads t).stage ≡ Calling c p) (queued : Queued s) (out : stands_in t (sleepers s (mutex_of c)) ≡ false) where
   abbrev m : ℕ
   m = mutex_of c
 
   abbrev place : ℕ
   place = cell_place s.layout m
 
+  abbrev s' : State
+  s' = after s t c p
+
+  abbrev o : Onward
+  o = onto s t c p
+
   abbrev w : ℕ
   w = s.words place
 
   abbrev w' : ℕ
-  w' = changed (access_of p) w
+  w' = s'.words place
 
   abbrev q : List ℕ
   q = s.queues place
 
   abbrev q' : List ℕ
-  q' = queue_after t (access_of p) w q
-
-  abbrev next : Led
-  next = l s t c p inv pos known fits
-
-  abbrev th : Thread
-  th = (after s t c p inv pos known fits).threads t
-
-  abbrev s' : State
-  s' = after s t c p inv pos known fits
-
-  alone_is : Alone t p.row (access_of p) next w w'
-  alone_is = al s t c p inv pos known fits
+  q' = s'.queues place
 
   awake : (key : ℕ) → stands_in t (s.queues key) ≡ false
   awake = in_none s t c p queued is out
@@ -243,17 +192,8 @@ module _ (s : State) (t : ℕ) (c : Call) (p : Standing) (inv : Kept s) (pos : 1
   theirs : (u : ℕ) → u ≢ t → s'.threads u ≡ s.threads u
   theirs u apart = put-other s.threads t _ u apart
 
-  pub mine : (s'.threads t).stage ≡ stage_after c p next.row
+  pub mine : (s'.threads t).stage ≡ stage_after c p o.phase
   mine = ap (λ (z : Thread). z.stage) (put-same s.threads t _)
-
-  pub queue_here : s'.queues place ≡ q'
-  queue_here = put-same s.queues place q'
-
-  queue_there : (key : ℕ) → key ≢ place → s'.queues key ≡ s.queues key
-  queue_there key apart = put-other s.queues place q' key apart
-
-  word_here : s'.words place ≡ w'
-  word_here = put-same s.words place w'
 
   -- whoever slept in a queue sleeps there, or was woken
   kept_asleep : (key u : ℕ) → stands_in u (s.queues key) ≡ true → Slept s' u key
@@ -262,22 +202,18 @@ module _ (s : State) (t : ℕ) (c : Call) (p : Standing) (inv : Kept s) (pos : 1
       let other : u ≢ t = λ same. cc (sym (ap (λ (v : ℕ). stands_in v (s.queues key)) same) ∙ stands, awake key) in
       (slept.0, slept.1, (slept.2.0, slept.2.1, ap (λ (z : Thread). z.stage) (theirs u other) ∙ slept.2.2, slept.2.3, slept.2.4))
 
-  falls_asleep : sleeps_at (access_of p) w ≡ true → Slept s' t place
+  falls_asleep : sleeps_at (whole_access p) w ≡ true → Slept s' t place
   falls_asleep e =
-      let row = sleeper p.thread p.cell p.row w e in
-      let led_to : next.row ≡ Lock lock.Load = woke p.row row.0 row.1 in
-      (pos, known, (c, record p { row = Lock lock.Load }, mine ∙ ap (stage_after c p) led_to, refl, refl))
-    where
-      woke : (r : Row) (v : Rattle.lockword.specs.Cells.Fields) → r ≡ Lock (lock.Sleep v) → (led (record p { row = r }) (Rattle.keys.specs.Accesses.answer_at (row_access p.thread p.cell r) w)).row ≡ Lock lock.Load
-      woke r v e = ap (λ (z : Row). (led (record p { row = z }) (Rattle.keys.specs.Accesses.answer_at (row_access p.thread p.cell z) w)).row) e
+      let row = g.sleeper e in
+      (pos, known, (c, record p { phase = AtCell (Lock lock.Load) }, mine ∙ ap (stage_after c p) row.2, refl, refl))
 
-  here_asleep : (u : ℕ) → stands_in u q' ≡ true → Change t (access_of p) w q → (stands_in u q ≡ true) ⊎ ((u ≡ t) × (sleeps_at (access_of p) w ≡ true))
-  here_asleep u stands (Stays e f g) = inl (sym (ap (stands_in u) g) ∙ stands)
-  here_asleep u stands (Joins e f g) = ⊎_elim inl (λ same. inr (same, e)) (stands_before u t q (sym (ap (stands_in u) g) ∙ stands))
-  here_asleep u stands (Wakes n some e f g) = inl (stands_rest u n q (sym (ap (stands_in u) g) ∙ stands))
+  here_asleep : (u : ℕ) → stands_in u q' ≡ true → Change t (whole_access p) w w' q q' → (stands_in u q ≡ true) ⊎ ((u ≡ t) × (sleeps_at (whole_access p) w ≡ true))
+  here_asleep u stands (Stays e f h) = inl (sym (ap (stands_in u) h) ∙ stands)
+  here_asleep u stands (Joins_it e f h) = ⊎_elim inl (λ same. inr (same, e)) (stands_before u t q (sym (ap (stands_in u) h) ∙ stands))
+  here_asleep u stands (Wakes n some e f h) = inl (stands_rest u n q (sym (ap (stands_in u) h) ∙ stands))
 
-  abbrev how : Change t (access_of p) w q
-  how = change t p.thread p.cell p.row w q
+  abbrev how : Change t (whole_access p) w w' q q'
+  how = g.change
 
   sleeps' : (key u : ℕ) → stands_in u (s'.queues key) ≡ true → Slept s' u key
   sleeps' key u stands = go (key == place) refl
@@ -287,65 +223,69 @@ module _ (s : State) (t : ℕ) (c : Call) (p : Standing) (inv : Kept s) (pos : 1
           let at : key ≡ place = eqb-true key place e in
           subst (λ (k : ℕ). Slept s' u k) (sym at)
           (⊎_elim (kept_asleep place u) (λ came. subst (λ (v : ℕ). Slept s' v place) (sym came.0) (falls_asleep came.1))
-          (here_asleep u (sym (ap (stands_in u) (ap s'.queues at ∙ queue_here)) ∙ stands) how))
-      go false e = kept_asleep key u (sym (ap (stands_in u) (queue_there key (eqb-false key place e))) ∙ stands)
+          (here_asleep u (sym (ap (stands_in u) (ap s'.queues at)) ∙ stands) how))
+      go false e = kept_asleep key u (sym (ap (stands_in u) (g.queues key (eqb-false key place e))) ∙ stands)
 
-  once_here : Change t (access_of p) w q → Once q'
-  once_here (Stays e f g) = subst Once (sym g) (queued.once place)
-  once_here (Joins e f g) = subst Once (sym g) (once_last t q (queued.once place) (awake place))
-  once_here (Wakes n some e f g) = subst Once (sym g) (once_rest n q (queued.once place))
+  once_here : Change t (whole_access p) w w' q q' → Once q'
+  once_here (Stays e f h) = subst Once (sym h) (queued.once place)
+  once_here (Joins_it e f h) = subst Once (sym h) (once_last t q (queued.once place) (awake place))
+  once_here (Wakes n some e f h) = subst Once (sym h) (once_rest n q (queued.once place))
 
   once' : (key : ℕ) → Once (s'.queues key)
-  once' key = by_put Once s.queues place q' key (λ at. once_here how) (λ apart. queued.once key)
+  once' key = go (key == place) refl
+    where
+      go : (b : Bool) → (key == place) ≡ b → Once (s'.queues key)
+      go true e = subst (λ (k : ℕ). Once (s'.queues k)) (sym (eqb-true key place e)) (once_here how)
+      go false e = subst Once (sym (g.queues key (eqb-false key place e))) (queued.once key)
 
   -- where somebody sleeps on the mutex, WAITERS is set
   pub bits_here : (u : ℕ) → stands_in u q' ≡ true → (fields_of w').waiters ≡ true
-  bits_here u stands = alone_is.waiters (⊎_elim (queued.bits m u fits.inside) (λ came. (alone_is.sleeps came.1).1) (here_asleep u stands how))
+  bits_here u stands = g.moves.waiters (⊎_elim (queued.bits m u inside) (λ came. (g.moves.sleeps came.1).1) (here_asleep u stands how))
 
   elsewhere : (k : ℕ) → k ≢ m → cell_place s.layout k ≢ place
   elsewhere k apart e = apart (omega (arith, e))
 
   bits' : (k u : ℕ) → k < s.layout.mutexes → Sleeps s' u k → (fields_of (s'.words (cell_place s.layout k))).waiters ≡ true
-  bits' k u inside stands = go (k == m) refl
+  bits' k u inside_k stands = go (k == m) refl
     where
       go : (b : Bool) → (k == m) ≡ b → (fields_of (s'.words (cell_place s.layout k))).waiters ≡ true
       go true e =
           let at : cell_place s.layout k ≡ place = ap (cell_place s.layout) (eqb-true k m e) in
-          ap (λ (v : ℕ). (fields_of v).waiters) (ap s'.words at ∙ word_here) ∙ bits_here u (sym (ap (stands_in u) (ap s'.queues at ∙ queue_here)) ∙ stands)
+          ap (λ (v : ℕ). (fields_of v).waiters) (ap s'.words at) ∙ bits_here u (sym (ap (stands_in u) (ap s'.queues at)) ∙ stands)
       go false e =
           let apart = elsewhere k (eqb-false k m e) in
-          ap (λ (v : ℕ). (fields_of v).waiters) (put-other s.words place w' (cell_place s.layout k) apart) ∙ queued.bits k u inside (sym (ap (stands_in u) (queue_there (cell_place s.layout k) apart)) ∙ stands)
+          ap (λ (v : ℕ). (fields_of v).waiters) (g.cells k inside_k (eqb-false k m e)) ∙ queued.bits k u inside_k (sym (ap (stands_in u) (g.queues (cell_place s.layout k) apart)) ∙ stands)
 
   -- the mutex's owner, as its cell has it
   pub free_after : IsUnowned s' m → (fields_of w').owner ≡ 0
-  free_after none = free_field w' (sym (ap (λ (o : Object). o.owner) (here s t c p inv pos known fits)) ∙ none)
+  free_after none = free_field w' (sym (ap (λ (o : Object). o.owner) (seen-inside s' m inside)) ∙ none)
 
   unowned_before : (fields_of w).owner ≡ 0 → IsUnowned s m
-  unowned_before none = ap (λ (o : Object). o.owner) (before s t c p inv pos known fits) ∙ ap owner_of none
+  unowned_before none = ap (λ (o : Object). o.owner) (seen-inside s m inside) ∙ ap owner_of none
 
   -- whoever answered for the mutex, and isn't this thread, does so still, where the queue stays
-  still_answers : (k u : ℕ) (d : Call) (r : Standing) → Answers s k u d r → u ≢ t → stands_in u (sleepers s' k) ≡ false → Answers s' k u d r
+  still_answers : (k u : ℕ) (d : Call) (r : Whole) → Answers s k u d r → u ≢ t → stands_in u (sleepers s' k) ≡ false → Answers s' k u d r
   still_answers k u d r a apart awake' = record { first = a.first; last = a.last; stage = ap (λ (z : Thread). z.stage) (theirs u apart) ∙ a.stage; mutex = a.mutex; answers = a.answers; awake = awake' }
 
-  pub this_answers : answers_for next.row ≡ true → queue_after t (access_of p) w q ≡ q → Answers s' m t c (record p { row = next.row })
+  pub this_answers : answers_at o.phase ≡ true → q' ≡ q → Answers s' m t c (record p { phase = o.phase })
   this_answers e same = record {
     first = pos;
     last = known;
-    stage = mine ∙ stays_calling c p next.row e;
+    stage = mine ∙ stays_calling c p o.phase e;
     mutex = refl;
     answers = e;
-    awake = ap (stands_in t) (queue_here ∙ same) ∙ out;
+    awake = ap (stands_in t) same ∙ out;
   }
 
   abbrev Answered : State → ℕ → Type 0
-  Answered z k = (u : ℕ) × (d : Call) × (r : Standing) × Answers z k u d r
+  Answered z k = (u : ℕ) × (d : Call) × (r : Whole) × Answers z k u d r
 
-  answered_here : (u : ℕ) → IsUnowned s' m → stands_in u q' ≡ true → Change t (access_of p) w q → Answered s' m
-  answered_here u none stands (Joins e f g) = absurd (let owned = (alone_is.sleeps e).0 in let free = free_after none in let same : (fields_of w').owner ≡ (fields_of w).owner = ap (λ (v : ℕ). (fields_of v).owner) f in omega arith)
-  answered_here u none stands (Wakes n some e f g) = wakes q refl
+  answered_here : (u : ℕ) → IsUnowned s' m → stands_in u q' ≡ true → Change t (whole_access p) w w' q q' → Answered s' m
+  answered_here u none stands (Joins_it e f h) = absurd (let owned = (g.moves.sleeps e).0 in let free = free_after none in let same : (fields_of w').owner ≡ (fields_of w).owner = ap (λ (v : ℕ). (fields_of v).owner) f in omega arith)
+  answered_here u none stands (Wakes n some e f h) = wakes q refl
     where
       wakes : (z : List ℕ) → q ≡ z → Answered s' m
-      wakes [] eq = absurd (cc (stands_rest u n [] (sym (ap (stands_in u) (g ∙ ap (drop n) eq)) ∙ stands)))
+      wakes [] eq = absurd (cc (stands_rest u n [] (sym (ap (stands_in u) (h ∙ ap (drop n) eq)) ∙ stands)))
       wakes (v ∷ vs) eq =
           let slept = queued.sleeps place v (ap (stands_in v) eq ∙ first_stands v vs) in
           let other : v ≢ t = λ same. cc (sym (ap (λ (x : ℕ). stands_in x q) same) ∙ ap (stands_in v) eq ∙ first_stands v vs, awake place) in
@@ -358,30 +298,30 @@ module _ (s : State) (t : ℕ) (c : Call) (p : Standing) (inv : Kept s) (pos : 1
               last = slept.1;
               stage = ap (λ (z : Thread). z.stage) (theirs v other) ∙ slept.2.2;
               mutex = at;
-              answers = ap answers_for slept.2.3;
-              awake = ap (stands_in v) (queue_here ∙ g ∙ ap (drop n) eq) ∙ first_gone v n vs (subst Once eq (queued.once place)) some;
+              answers = ap answers_at slept.2.3;
+              awake = ap (stands_in v) (h ∙ ap (drop n) eq) ∙ first_gone v n vs (subst Once eq (queued.once place)) some;
             },
           )
-  answered_here u none stands (Stays e f g) = ⊎_elim (λ on. (t, c, record p { row = next.row }, this_answers on g)) still (alone_is.answers f (free_after none) (bits_here u stands))
+  answered_here u none stands (Stays e f h) = ⊎_elim (λ on. (t, c, record p { phase = o.phase }, this_answers on h)) still (g.moves.answers f (free_after none) (bits_here u stands))
     where
-      still : (answers_for p.row ≡ false) × (w' ≡ w) → Answered s' m
+      still : (answers_at p.phase ≡ false) × (w' ≡ w) → Answered s' m
       still looks =
           let free : (fields_of w).owner ≡ 0 = sym (ap (λ (v : ℕ). (fields_of v).owner) looks.1) ∙ free_after none in
-          let old = queued.answered m u fits.inside (unowned_before free) (sym (ap (stands_in u) g) ∙ stands) in
-          let other : old.0 ≢ t = λ same. cc (sym old.3.answers ∙ ap (λ (z : Standing). answers_for z.row) (calls_alike _ _ _ _ (sym old.3.stage ∙ ap (λ (v : ℕ). (s.threads v).stage) same ∙ is)).1 ∙ looks.0) in
-          (old.0, old.1, old.2, still_answers m old.0 old.1 old.2 old.3 other (ap (stands_in old.0) (queue_here ∙ g) ∙ old.3.awake))
+          let old = queued.answered m u inside (unowned_before free) (sym (ap (stands_in u) h) ∙ stands) in
+          let other : old.0 ≢ t = λ same. cc (sym old.3.answers ∙ ap (λ (z : Whole). answers_at z.phase) (calls_alike _ _ _ _ (sym old.3.stage ∙ ap (λ (v : ℕ). (s.threads v).stage) same ∙ is)).1 ∙ looks.0) in
+          (old.0, old.1, old.2, still_answers m old.0 old.1 old.2 old.3 other (ap (stands_in old.0) h ∙ old.3.awake))
 
   answered' : (k u : ℕ) → k < s.layout.mutexes → IsUnowned s' k → Sleeps s' u k → Answered s' k
-  answered' k u inside none stands = go (k == m) refl
+  answered' k u inside_k none stands = go (k == m) refl
     where
       go : (b : Bool) → (k == m) ≡ b → Answered s' k
       go true e =
           let at : k ≡ m = eqb-true k m e in
-          subst (Answered s') (sym at) (answered_here u (subst (IsUnowned s') at none) (sym (ap (stands_in u) (ap (sleepers s') at ∙ queue_here)) ∙ stands) how)
+          subst (Answered s') (sym at) (answered_here u (subst (IsUnowned s') at none) (sym (ap (stands_in u) (ap (sleepers s') at)) ∙ stands) how)
       go false e =
           let apart = eqb-false k m e in
-          let same : sleepers s' k ≡ sleepers s k = queue_there (cell_place s.layout k) (elsewhere k apart) in
-          let old = queued.answered k u inside (sym (ap (λ (o : Object). o.owner) (far s t c p inv pos known fits k apart)) ∙ none) (sym (ap (stands_in u) same) ∙ stands) in
+          let same : sleepers s' k ≡ sleepers s k = g.queues (cell_place s.layout k) (elsewhere k apart) in
+          let old = queued.answered k u inside_k (sym (ap (λ (o : Object). o.owner) (g.far k apart)) ∙ none) (sym (ap (stands_in u) same) ∙ stands) in
           let other : old.0 ≢ t = λ this. apart (sym old.3.mutex ∙ ap mutex_of (calls_alike _ _ _ _ (sym old.3.stage ∙ ap (λ (v : ℕ). (s.threads v).stage) this ∙ is)).0) in
           (old.0, old.1, old.2, still_answers k old.0 old.1 old.2 old.3 other (ap (stands_in old.0) same ∙ old.3.awake))
 
@@ -391,15 +331,15 @@ module _ (s : State) (t : ℕ) (c : Call) (p : Standing) (inv : Kept s) (pos : 1
 -- ---- events
 
 -- an access of a thread that isn't asleep
-pub went_is_queued : (s : State) (t : ℕ) (c : Call) (p : Standing) → Kept s → Queued s → 1 ≤ t → t ≤ s.layout.threads → (s.threads t).stage ≡ Calling c p → stands_in t (sleepers s (mutex_of c)) ≡ false → Queued (went s t (s.threads t).held c p (led p (answer_of s (access_of p)))).state
+pub went_is_queued : (s : State) (t : ℕ) (c : Call) (p : Whole) → Kept s → Queued s → 1 ≤ t → t ≤ s.layout.threads → (s.threads t).stage ≡ Calling c p → stands_in t (sleepers s (mutex_of c)) ≡ false → Queued (went s t (s.threads t).held c p (whole_led p (answer_of s (whole_access p)))).state
 went_is_queued s t c p inv queued pos known is out =
-    let fits : Fits s t (s.threads t).held c p = subst (λ (g : Stage). Sits s t (s.threads t).held g) is (inv.sits t pos known) in
-    subst (λ (z : Rattle.protocol.specs.Machine.After). Queued z.state) (sym (went-is s t c p inv pos known fits)) (went_queued s t c p inv pos known fits is queued out)
+    let g : Stepping s t c p = goes s t c p inv pos known is in
+    subst (λ (z : After). Queued z.state) (sym (went-is s t c p g.valid)) (went_queued s t c p g pos known (fits_in s t c p inv pos known is).inside is queued out)
 
 -- a call that begins
 module _ (s : State) (t : ℕ) (c : Call) (queued : Queued s) (idle : (s.threads t).stage ≡ Idle) where
-  abbrev first_standing : Standing
-  first_standing = record { thread = t; cell = cell_place s.layout (mutex_of c); row = first_row c }
+  abbrev first_standing : Whole
+  first_standing = begins s.layout t c
 
   abbrev busy : Thread
   busy = record (s.threads t) { stage = Calling c first_standing }
@@ -407,7 +347,7 @@ module _ (s : State) (t : ℕ) (c : Call) (queued : Queued s) (idle : (s.threads
   abbrev begun_state : State
   begun_state = record s { threads = put s.threads t busy }
 
-  same_stage : (u : ℕ) (d : Call) (r : Standing) → (s.threads u).stage ≡ Calling d r → (begun_state.threads u).stage ≡ Calling d r
+  same_stage : (u : ℕ) (d : Call) (r : Whole) → (s.threads u).stage ≡ Calling d r → (begun_state.threads u).stage ≡ Calling d r
   same_stage u d r is = by_put (λ (z : Thread). z.stage ≡ Calling d r) s.threads t busy u (λ at. absurd (cc (sym (ap (λ (v : ℕ). (s.threads v).stage) at) ∙ is, idle))) (λ apart. is)
 
   begun_queued : Queued begun_state
@@ -424,24 +364,19 @@ module _ (s : State) (t : ℕ) (c : Call) (queued : Queued s) (idle : (s.threads
   begins_queued true = queued
   begins_queued false = begun_queued
 
--- whoever may begin is idle
-pub may_idle : (g : Stage) → is_idle g ≡ true → g ≡ Idle
-may_idle Idle e = refl
-may_idle (Calling c p) e = absurd cc
-
 step_queued : (s : State) (t : ℕ) → Kept s → Queued s → 1 ≤ t → t ≤ s.layout.threads → (g : Stage) → (s.threads t).stage ≡ g → Queued (stepped s t (s.threads t).held g).state
 step_queued s t inv queued pos known Idle is = queued
 step_queued s t inv queued pos known (Calling c p) is = go (sleeps s t (Calling c p)) refl
   where
-    go : (b : Bool) → sleeps s t (Calling c p) ≡ b → Queued (if b then nothing s else went s t (s.threads t).held c p (led p (answer_of s (access_of p)))).state
+    go : (b : Bool) → sleeps s t (Calling c p) ≡ b → Queued (if b then nothing s else went s t (s.threads t).held c p (whole_led p (answer_of s (whole_access p)))).state
     go true e = queued
     go false e = went_is_queued s t c p inv queued pos known is e
 
 pub queued_on : (s : State) (e : Event) → Kept s → Queued s → Queued (happens s e).state
 queued_on s (Begin t c) inv queued = go (may_begin s t c) refl
   where
-    go : (b : Bool) → may_begin s t c ≡ b → Queued (if b then begun s t c (started s.layout t (s.threads t).held c) else nothing s).state
-    go true e = begins_queued s t c queued (may_idle (s.threads t).stage (grind (arith, nat_tests))) (acquires (operation_of c) && nat_le 2048 (s.threads t).held)
+    go : (b : Bool) → may_begin s t c ≡ b → Queued (if b then begun s t c (whole_started s.layout t (s.threads t).held c) else nothing s).state
+    go true e = begins_queued s t c queued (at_rest (s.threads t).stage (grind (arith, nat_tests))) (acquires (operation_of c) && nat_le 2048 (s.threads t).held)
     go false e = queued
 queued_on s (Step t) inv queued = go (is_thread s t) refl
   where

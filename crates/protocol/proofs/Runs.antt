@@ -1,5 +1,5 @@
 -- Whole runs.
-use Rattle.std.proofs.Common.{◌≡◌, ◌≢◌, ℕ, zero, suc, ◌<◌, ◌≤◌, ◌==◌, Bool, true, false, ◌&&◌, Option, Some, None, Ok, Err, List, [], ◌∷◌, ◌++◌, map, refl, sym, ap, ◌∙◌, subst, arith, eqb-true}
+use Rattle.std.proofs.Common.{◌≡◌, ◌≢◌, ℕ, zero, suc, ◌+◌, ◌-◌, ◌%◌, ◌<◌, ◌≤◌, ◌==◌, Bool, true, false, ◌&&◌, Option, Some, None, Ok, Err, List, [], ◌∷◌, ◌++◌, map, refl, sym, ap, ◌∙◌, subst, arith, eqb-true}
 use Rattle.std.specs.Prelude.{if◌then◌else◌, nat_lt, nat_le, MatchBool}
 use Rattle.std.proofs.lemmas.Bool.{eqb-false}
 use Rattle.std.proofs.lemmas.Bool.Decides.{nat_tests}
@@ -8,14 +8,15 @@ use Rattle.lockword.specs.declared.reply.Reply.TheVariants.{XHELD}
 use Rattle.keys.specs.declared.object.Object.{Object}
 use Rattle.keys.specs.declared.point.Operation.{Operation}
 use Rattle.keys.specs.declared.point.Decision.{Decision}
-use Rattle.keys.specs.Layouts.{Layout', IsLayout, cell_place}
+use Rattle.keys.specs.Layouts.{Layout', IsLayout, head_place, cell_place, counter_place, words_of}
 use Rattle.keys.specs.Objects.{Does, Permits, acquires, fresh, object_of}
 use Rattle.keys.specs.Histories.{Legal, opening, held_by}
+use Rattle.robustlist.proofs.Lists.{begins_empty}
 use Rattle.mutex.specs.declared.call.Call.{Call}
 use Rattle.mutex.specs.declared.call.Call.TheVariants as call
 use Rattle.mutex.specs.Calls.{mutex_of, operation_of}
-use Rattle.mutex.specs.Standings.{Standing}
-use Rattle.mutex.specs.Programs.{started, first_row, row_operation, access_of, led}
+use Rattle.mutex.specs.Standings.{Whole}
+use Rattle.mutex.specs.Whole.{begins, whole_started, whole_access, whole_led}
 use Rattle.protocol.specs.declared.event.Event.{Event}
 use Rattle.protocol.specs.declared.event.Event.TheVariants.{Begin, Step}
 use Rattle.protocol.specs.declared.thread.Thread.{Thread}
@@ -24,14 +25,16 @@ use Rattle.protocol.specs.declared.thread.Stage.TheVariants.{Idle, Calling}
 use Rattle.protocol.specs.declared.note.Note.TheVariants.{Stepped}
 use Rattle.protocol.specs.declared.note.Fact.TheVariants.{Wake}
 use Rattle.protocol.specs.Notes.{facts_of, sleep_facts, return_facts}
-use Rattle.protocol.specs.Machine.{State, After, put, start, first_word, nothing, is_thread, may_begin, begun, stepped, went, sleeps, answer_of, happens, run, notes, decision}
+use Rattle.protocol.specs.Machine.{State, After, put, start, head_word, first_word, nothing, is_thread, is_idle, may_begin, begun, stepped, went, sleeps, answer_of, happens, run, notes, decision}
 use Rattle.protocol.specs.Headline.{seen, points_of, points_among, HistoryIsLegal}
 use Rattle.lockword.specs.Cells.{fields_of}
 use Rattle.protocol.proofs.Puts.{by_put}
 use Rattle.protocol.proofs.Objects.{one}
 use Rattle.protocol.proofs.Counts.{held_by-same}
-use Rattle.protocol.proofs.Kept.{Fits, Sits, Kept}
-use Rattle.protocol.proofs.Steps.{Tells, after, went-is, far, tells, kept}
+use Rattle.protocol.proofs.Kept.{Fits, Sits, Owned, left_out, Listed, pending_of, Kept}
+use Rattle.protocol.proofs.Steps.{Tells, after, went-is}
+use Rattle.protocol.proofs.Stepping.{Stepping}
+use Rattle.protocol.proofs.Accesses.{goes, fits_in}
 
 -- the decisions take the mutexes from what the one state's cells say to what the other's do
 abbrev pub Told : State → List Decision → State → Type 0
@@ -49,35 +52,48 @@ idles s inv = record { kept = inv; same = refl; told = λ k. refl }
 
 -- ---- a call begins
 
--- a call's first row has its operation
-first_is : (c : Call) → row_operation (first_row c) ≡ operation_of c
-first_is (call.Lock m) = refl
-first_is (call.TryLock m) = refl
-first_is (call.Unlock m) = refl
-first_is (call.Consistent m) = refl
-
 -- a call that begins fits its thread
-first_fits : (s : State) (t held : ℕ) (c : Call) → mutex_of c < s.layout.mutexes → (acquires (operation_of c) ≡ true → held < 2048) → Fits s t held c (record { thread = t; cell = cell_place s.layout (mutex_of c); row = first_row c })
-first_fits s t held (call.Lock m) inside room = record { mine = refl; inside = inside; place = refl; going = tt; knows = tt; expects = tt; room = room; of = refl }
-first_fits s t held (call.TryLock m) inside room = record { mine = refl; inside = inside; place = refl; going = tt; knows = tt; expects = tt; room = room; of = refl }
-first_fits s t held (call.Unlock m) inside room = record { mine = refl; inside = inside; place = refl; going = tt; knows = tt; expects = tt; room = room; of = refl }
-first_fits s t held (call.Consistent m) inside room = record { mine = refl; inside = inside; place = refl; going = tt; knows = tt; expects = tt; room = room; of = refl }
+first_fits : (s : State) (t held : ℕ) (c : Call) → mutex_of c < s.layout.mutexes → (acquires (operation_of c) ≡ true → held < 2048) → Fits s t held c (begins s.layout t c)
+first_fits s t held (call.Lock m) inside room = record { mine = refl; of = refl; inside = inside; head = refl; entry = refl; cell = refl; stands = (record { going = tt; knows = tt; expects = tt; of = refl; room = room }, tt) }
+first_fits s t held (call.TryLock m) inside room = record { mine = refl; of = refl; inside = inside; head = refl; entry = refl; cell = refl; stands = (record { going = tt; knows = tt; expects = tt; of = refl; room = room }, tt) }
+first_fits s t held (call.Unlock m) inside room = record { mine = refl; of = refl; inside = inside; head = refl; entry = refl; cell = refl; stands = record { going = tt; knows = tt; expects = tt; of = refl; room = room } }
+first_fits s t held (call.Consistent m) inside room = record { mine = refl; of = refl; inside = inside; head = refl; entry = refl; cell = refl; stands = record { going = tt; knows = tt; expects = tt; of = refl; room = room } }
+
+-- its list is as it was
+first_listed : (s : State) (t : ℕ) (c : Call) → Listed s t Idle → Listed s t (Calling c (begins s.layout t c))
+first_listed s t (call.Lock m) (es, owned, ch) = (es, owned, ch)
+first_listed s t (call.TryLock m) (es, owned, ch) = (es, owned, ch)
+first_listed s t (call.Unlock m) (es, owned, ch) = (es, owned, ch)
+first_listed s t (call.Consistent m) (es, owned, ch) = (es, owned, ch)
+
+-- nothing is pending yet
+first_pends : (l : Layout') (t : ℕ) (c : Call) → pending_of (Calling c (begins l t c)) ≡ 0
+first_pends l t (call.Lock m) = refl
+first_pends l t (call.TryLock m) = refl
+first_pends l t (call.Unlock m) = refl
+first_pends l t (call.Consistent m) = refl
 
 -- the machine with another call in progress
-abbrev with_call : State → ℕ → Call → Standing → State
+abbrev with_call : State → ℕ → Call → Whole → State
 with_call s t c p = record s { threads = put s.threads t (record (s.threads t) { stage = Calling c p }) }
 
-module _ (s : State) (t : ℕ) (c : Call) (inv : Kept s) (pos : 1 ≤ t) (known : t ≤ s.layout.threads) (inside : mutex_of c < s.layout.mutexes) where
+module _ (s : State) (t : ℕ) (c : Call) (inv : Kept s) (pos : 1 ≤ t) (known : t ≤ s.layout.threads) (inside : mutex_of c < s.layout.mutexes) (resting : (s.threads t).stage ≡ Idle) where
   abbrev held : ℕ
   held = (s.threads t).held
 
-  abbrev p : Standing
-  p = record { thread = t; cell = cell_place s.layout (mutex_of c); row = first_row c }
+  abbrev p : Whole
+  p = begins s.layout t c
 
   -- whoever sits there sits there still
   still : (u h : ℕ) (g : Stage) → Sits s u h g → Sits (with_call s t c p) u h g
   still u h Idle f = tt
-  still u h (Calling d q) f = record { mine = f.mine; inside = f.inside; place = f.place; going = f.going; knows = f.knows; expects = f.expects; room = f.room; of = f.of }
+  still u h (Calling d q) f = record { mine = f.mine; of = f.of; inside = f.inside; head = f.head; entry = f.entry; cell = f.cell; stands = f.stands }
+
+  owned_still : (u : ℕ) (out : Option ℕ) (es : List ℕ) → Owned s u out es → Owned (with_call s t c p) u out es
+  owned_still u out es owned = record { entries = owned.entries; all = owned.all }
+
+  listed_still : (u : ℕ) (g : Stage) → Listed s u g → Listed (with_call s t c p) u g
+  listed_still u g (es, owned, ch) = (es, owned_still u (left_out g) es owned, ch)
 
   begun_kept : (acquires (operation_of c) ≡ true → held < 2048) → Kept (with_call s t c p)
   begun_kept room = record {
@@ -85,6 +101,16 @@ module _ (s : State) (t : ℕ) (c : Call) (inv : Kept s) (pos : 1 ≤ t) (known 
     sits = λ u first most. by_put (λ (z : Thread). Sits (with_call s t c p) u z.held z.stage) s.threads t (record (s.threads t) { stage = Calling c p }) u
         (λ is. subst (λ (v : ℕ). Sits (with_call s t c p) v held (Calling c p)) (sym is) (first_fits (with_call s t c p) t held c inside room))
         (λ apart. still u (s.threads u).held (s.threads u).stage (inv.sits u first most));
+    listed = λ u first most. by_put (λ (z : Thread). Listed (with_call s t c p) u z.stage) s.threads t (record (s.threads t) { stage = Calling c p }) u
+        (λ is. subst (λ (v : ℕ). Listed (with_call s t c p) v (Calling c p)) (sym is) (listed_still t (Calling c p) (first_listed s t c (subst (Listed s t) resting (inv.listed t pos known)))))
+        (λ apart. listed_still u (s.threads u).stage (inv.listed u first most));
+    heads = λ u first most. record {
+      offset = (inv.heads u first most).offset;
+      pending = by_put (λ (z : Thread). s.words (head_place u + 2) ≡ pending_of z.stage) s.threads t (record (s.threads t) { stage = Calling c p }) u
+          (λ is. ap (λ (v : ℕ). s.words (head_place v + 2)) is ∙ (inv.heads t pos known).pending ∙ ap pending_of resting ∙ sym (first_pends s.layout t c))
+          (λ apart. (inv.heads u first most).pending);
+      few = by_put (λ (z : Thread). z.held ≤ 2048) s.threads t (record (s.threads t) { stage = Calling c p }) u (λ is. (inv.heads t pos known).few) (λ apart. (inv.heads u first most).few);
+    };
     sound = inv.sound;
     owners = inv.owners;
     held = λ u first most. by_put (λ (z : Thread). z.held ≡ held_by u (seen s) s.layout.mutexes) s.threads t (record (s.threads t) { stage = Calling c p }) u
@@ -97,9 +123,9 @@ module _ (s : State) (t : ℕ) (c : Call) (inv : Kept s) (pos : 1 ≤ t) (known 
       let now : (acquires (operation_of c) && nat_le 2048 (held_by t (seen s) s.layout.mutexes)) ≡ true = subst (λ (h : ℕ). (acquires (operation_of c) && nat_le 2048 h) ≡ true) (inv.held t pos known) (e ∙ is) in
       subst (λ (x : Bool). MatchBool x ((XHELD ≡ XHELD) × (seen s (mutex_of c) ≡ seen s (mutex_of c))) (Permits (seen s (mutex_of c)) t (operation_of c) XHELD (seen s (mutex_of c)))) (sym now) (refl, refl)
 
-  begins : (b : Bool) → (acquires (operation_of c) && nat_le 2048 held) ≡ b → Sound' s (begun s t c (if b then Err XHELD else Ok p))
-  begins true e = record { kept = inv; same = refl; told = (inside, refused true e refl, (λ k apart. refl), refl) }
-  begins false e = record { kept = begun_kept (λ takes. grind (arith, nat_tests)); same = refl; told = λ k. refl }
+  begins_call : (b : Bool) → (acquires (operation_of c) && nat_le 2048 held) ≡ b → Sound' s (begun s t c (if b then Err XHELD else Ok p))
+  begins_call true e = record { kept = inv; same = refl; told = (inside, refused true e refl, (λ k apart. refl), refl) }
+  begins_call false e = record { kept = begun_kept (λ takes. grind (arith, nat_tests)); same = refl; told = λ k. refl }
 
 -- ---- a call goes on
 
@@ -124,7 +150,7 @@ no_points : (t : ℕ) (z : Option ℕ) (ws : List ℕ) (y : Option Reply) → po
 no_points t None ws y = woken_points t ws y
 no_points t (Some m) ws y = woken_points t ws y
 
-module _ (s s' : State) (t : ℕ) (c : Call) (op : Operation) (inside : mutex_of c < s.layout.mutexes) (room : acquires op ≡ true → held_by t (seen s) s.layout.mutexes < 2048) (far : (k : ℕ) → k ≢ mutex_of c → seen s' k ≡ seen s k) where
+module _ (s s' : State) (t : ℕ) (c : Call) (inside : mutex_of c < s.layout.mutexes) (far : (k : ℕ) → k ≢ mutex_of c → seen s' k ≡ seen s k) where
   unchanged : seen s' (mutex_of c) ≡ seen s (mutex_of c) → (k : ℕ) → seen s' k ≡ seen s k
   unchanged same k = go (k == mutex_of c) refl
     where
@@ -132,19 +158,19 @@ module _ (s s' : State) (t : ℕ) (c : Call) (op : Operation) (inside : mutex_of
       go true e = subst (λ (j : ℕ). seen s' j ≡ seen s j) (sym (eqb-true k (mutex_of c) e)) same
       go false e = far k (eqb-false k (mutex_of c) e)
 
-  told : (x : Option Reply) (z : Option ℕ) (ws : List ℕ) (y : Option Reply) → Tells t (seen s (mutex_of c)) op x (seen s' (mutex_of c)) → Told s (points_of (facts_of (Stepped t (decision t c op x) z ws y))) s'
-  told None z ws y changes = subst (λ ds. Told s ds s') (sym (no_points t z ws y)) (unchanged changes)
-  told (Some x) z ws y changes = (inside, does _ t _ _ op x room changes, far, no_points t z ws y)
+  told : (x : Option Reply) (z : Option ℕ) (ws : List ℕ) (y : Option Reply) → ((v : Reply) → x ≡ Some v → acquires (operation_of c) ≡ true → held_by t (seen s) s.layout.mutexes < 2048) → Tells t (seen s (mutex_of c)) (operation_of c) x (seen s' (mutex_of c)) → Told s (points_of (facts_of (Stepped t (decision t c x) z ws y))) s'
+  told None z ws y room changes = subst (λ ds. Told s ds s') (sym (no_points t z ws y)) (unchanged changes)
+  told (Some x) z ws y room changes = (inside, does _ t _ _ (operation_of c) x (room x refl) changes, far, no_points t z ws y)
 
 -- an access is sound
-step_went : (s : State) (t : ℕ) → Kept s → 1 ≤ t → t ≤ s.layout.threads → (c : Call) (p : Standing) → (s.threads t).stage ≡ Calling c p → Sound' s (went s t (s.threads t).held c p (led p (answer_of s (access_of p))))
-step_went s t inv pos known c p e =
-    let fits : Fits s t (s.threads t).held c p = subst (λ (g : Stage). Sits s t (s.threads t).held g) e (inv.sits t pos known) in
-    let few : acquires (row_operation p.row) ≡ true → held_by t (seen s) s.layout.mutexes < 2048 = λ takes. subst (λ (h : ℕ). h < 2048) (inv.held t pos known) (fits.room takes) in
-    subst (Sound' s) (sym (went-is s t c p inv pos known fits)) record {
-      kept = kept s t c p inv pos known fits;
+step_went : (s : State) (t : ℕ) → Kept s → 1 ≤ t → t ≤ s.layout.threads → (c : Call) (p : Whole) → (s.threads t).stage ≡ Calling c p → Sound' s (went s t (s.threads t).held c p (whole_led p (answer_of s (whole_access p))))
+step_went s t inv pos known c p is =
+    let g : Stepping s t c p = goes s t c p inv pos known is in
+    let fits : Fits s t (s.threads t).held c p = fits_in s t c p inv pos known is in
+    subst (Sound' s) (sym (went-is s t c p g.valid)) record {
+      kept = g.kept;
       same = refl;
-      told = told s (after s t c p inv pos known fits) t c (row_operation p.row) fits.inside few (far s t c p inv pos known fits) _ _ _ _ (tells s t c p inv pos known fits);
+      told = told s (after s t c p) t c fits.inside g.far _ _ _ _ (λ v e takes. subst (λ (h : ℕ). h < 2048) (inv.held t pos known) (g.room v e takes)) g.tells;
     }
 
 -- a step is sound, wherever its thread stands
@@ -153,20 +179,25 @@ step_sound s t inv pos known Idle e = idles s inv
 step_sound s t inv pos known (Calling c p) e =
     go (sleeps s t (Calling c p))
   where
-    go : (b : Bool) → Sound' s (if b then nothing s else went s t (s.threads t).held c p (led p (answer_of s (access_of p))))
+    go : (b : Bool) → Sound' s (if b then nothing s else went s t (s.threads t).held c p (whole_led p (answer_of s (whole_access p))))
     go true = idles s inv
     go false = step_went s t inv pos known c p e
+
+-- whoever may begin is idle
+pub at_rest : (g : Stage) → is_idle g ≡ true → g ≡ Idle
+at_rest Idle e = refl
+at_rest (Calling c p) e = absurd cc
 
 -- each event is sound
 pub sound : (s : State) (e : Event) → Kept s → Sound' s (happens s e)
 sound s (Begin t c) inv = go (may_begin s t c) refl
   where
-    go : (b : Bool) → may_begin s t c ≡ b → Sound' s (if b then begun s t c (started s.layout t (s.threads t).held c) else nothing s)
+    go : (b : Bool) → may_begin s t c ≡ b → Sound' s (if b then begun s t c (whole_started s.layout t (s.threads t).held c) else nothing s)
     go true e =
         let pos : 1 ≤ t = grind (arith, nat_tests) in
         let known : t ≤ s.layout.threads = grind (arith, nat_tests) in
         let inside : mutex_of c < s.layout.mutexes = grind (arith, nat_tests) in
-        begins s t c inv pos known inside _ refl
+        begins_call s t c inv pos known inside (at_rest (s.threads t).stage (grind (arith, nat_tests))) _ refl
     go false e = idles s inv
 sound s (Step t) inv = go (is_thread s t) refl
   where
@@ -196,11 +227,53 @@ nobody_owns : (t n : ℕ) (f : ℕ → Object) → ((m : ℕ) → f m ≡ fresh)
 nobody_owns t zero f all = refl
 nobody_owns t (suc n) f all = let first : one t (f n) ≡ 0 = ap (one t) (all n) in let others = nobody_owns t n f all in omega arith
 
+-- at the start each head is its own first entry, so its list is empty; it has the offset, and nothing is pending
+head_at_first : (l : Layout') (counters : ℕ → ℕ) (t i : ℕ) → 1 ≤ t → t ≤ l.threads → i < 3 → first_word l counters (head_place t + i) ≡ head_word (head_place t + i)
+head_at_first l counters t i first most few = heads (nat_lt 0 (head_place t + i)) refl (nat_lt (head_place t + i) (cell_place l 0)) refl
+  where
+    heads : (a : Bool) → nat_lt 0 (head_place t + i) ≡ a → (b : Bool) → nat_lt (head_place t + i) (cell_place l 0) ≡ b
+        → (if a && b then head_word (head_place t + i) else if nat_le (counter_place l 0) (head_place t + i) && nat_lt (head_place t + i) (words_of l) then counters (head_place t + i - counter_place l 0) else 0) ≡ head_word (head_place t + i)
+    heads true x true y = refl
+    heads true x false y = absurd (let no : nat_lt (head_place t + i) (cell_place l 0) ≡ true = grind (arith, nat_tests) in cc (y, no))
+    heads false x b y = absurd (let no : nat_lt 0 (head_place t + i) ≡ true = grind (arith, nat_tests) in cc (x, no))
+
+head_first : (l : Layout') (counters : ℕ → ℕ) (t : ℕ) → 1 ≤ t → t ≤ l.threads → first_word l counters (head_place t) ≡ head_place t
+head_first l counters t first most = ap (first_word l counters) (omega arith) ∙ head_at_first l counters t 0 first most (omega arith) ∙ go (((head_place t + 0) % 3) == 1) refl
+  where
+    go : (a : Bool) → ((head_place t + 0) % 3 == 1) ≡ a → (if a then head_place t + 0 else if (head_place t + 0) % 3 == 2 then 18446744073709551615 else 0) ≡ head_place t
+    go true x = omega arith
+    go false x = absurd (eqb-false ((head_place t + 0) % 3) 1 x (omega arith))
+
+head_second : (l : Layout') (counters : ℕ → ℕ) (t : ℕ) → 1 ≤ t → t ≤ l.threads → first_word l counters (head_place t + 1) ≡ 18446744073709551615
+head_second l counters t first most = head_at_first l counters t 1 first most (omega arith) ∙ go ((head_place t + 1) % 3 == 1) refl ((head_place t + 1) % 3 == 2) refl
+  where
+    go : (a : Bool) → ((head_place t + 1) % 3 == 1) ≡ a → (b : Bool) → ((head_place t + 1) % 3 == 2) ≡ b → (if a then head_place t + 1 else if b then 18446744073709551615 else 0) ≡ 18446744073709551615
+    go true x b y = absurd (let e = eqb-true ((head_place t + 1) % 3) 1 x in omega (arith, e))
+    go false x true y = refl
+    go false x false y = absurd (eqb-false ((head_place t + 1) % 3) 2 y (omega arith))
+
+head_third : (l : Layout') (counters : ℕ → ℕ) (t : ℕ) → 1 ≤ t → t ≤ l.threads → first_word l counters (head_place t + 2) ≡ 0
+head_third l counters t first most = head_at_first l counters t 2 first most (omega arith) ∙ go ((head_place t + 2) % 3 == 1) refl ((head_place t + 2) % 3 == 2) refl
+  where
+    go : (a : Bool) → ((head_place t + 2) % 3 == 1) ≡ a → (b : Bool) → ((head_place t + 2) % 3 == 2) ≡ b → (if a then head_place t + 2 else if b then 18446744073709551615 else 0) ≡ 0
+    go true x b y = absurd (let e = eqb-true ((head_place t + 2) % 3) 1 x in omega (arith, e))
+    go false x true y = absurd (let e = eqb-true ((head_place t + 2) % 3) 2 y in omega (arith, e))
+    go false x false y = refl
+
+start_listed : (l : Layout') (counters : ℕ → ℕ) (t : ℕ) → IsLayout l → 1 ≤ t → t ≤ l.threads → Listed (start l counters) t Idle
+start_listed l counters t is first most = (
+  [],
+  record { entries = λ x among. absurd among; all = λ k below own outside. absurd (cc (ap (λ (o : Object). o.owner) (seen-start l counters k), own)) },
+  begins_empty (first_word l counters) (head_place t) (head_first l counters t first most),
+)
+
 -- the start keeps the invariant
 pub start_kept : (l : Layout') (counters : ℕ → ℕ) → IsLayout l → Kept (start l counters)
 start_kept l counters is = record {
   layout = is;
   sits = λ t first most. tt;
+  listed = λ t first most. start_listed l counters t is first most;
+  heads = λ t first most. record { offset = head_second l counters t first most; pending = head_third l counters t first most; few = omega arith };
   sound = λ m u. absurd (cc (ap (λ (o : Object). o.unusable) (seen-start l counters m), u));
   owners = λ m u own. absurd (cc (ap (λ (o : Object). o.owner) (seen-start l counters m), own));
   held = λ t first most. sym (nobody_owns t l.mutexes (seen (start l counters)) (seen-start l counters));

@@ -11,22 +11,21 @@ use Rattle.keys.specs.declared.point.Operation.{Operation}
 use Rattle.keys.specs.declared.point.Operation.TheVariants as operation
 use Rattle.keys.specs.declared.point.Decision.{Decision}
 use Rattle.keys.specs.Layouts.{cell_place}
-use Rattle.keys.specs.Accesses.{changed, sleeps_at}
+use Rattle.keys.specs.Accesses.{sleeps_at}
 use Rattle.keys.specs.Histories.{held_by}
 use Rattle.keys.specs.Objects.{Does, Permits, acquires, owner_of}
 use Rattle.keys.proofs.Owners.{owner_of-some}
 use Rattle.mutex.specs.declared.call.Call.{Call}
 use Rattle.mutex.specs.declared.call.Call.TheVariants as call
 use Rattle.mutex.specs.declared.lock.LockRow.TheVariants as lock
-use Rattle.mutex.specs.declared.row.Row.{Row}
-use Rattle.mutex.specs.declared.row.Row.TheVariants.{Lock, TryLock, Unlock, Consistent, Ended}
-use Rattle.mutex.specs.declared.row.Led.{Led}
-use Rattle.mutex.specs.Alone.{Steady}
+use Rattle.mutex.specs.declared.row.Row.TheVariants.{Lock}
+use Rattle.mutex.specs.declared.phase.Phase.{Phase}
+use Rattle.mutex.specs.declared.phase.Phase.TheVariants.{Announcing, AtCell, Linking, Unlinking, Clearing, Ended}
+use Rattle.mutex.specs.declared.phase.Onward.{Onward}
 use Rattle.mutex.specs.Calls.{mutex_of, operation_of}
-use Rattle.mutex.specs.Laws.{decided, Joins}
-use Rattle.mutex.specs.Rows.{Knows}
-use Rattle.mutex.specs.Standings.{Standing}
-use Rattle.mutex.specs.Programs.{started, first_row, access_of, led, row_operation}
+use Rattle.mutex.specs.Laws.{Joins}
+use Rattle.mutex.specs.Standings.{Whole}
+use Rattle.mutex.specs.Whole.{begins, first_phase, whole_started, whole_access, whole_led}
 use Rattle.protocol.specs.declared.event.Event.TheVariants.{Begin, Step}
 use Rattle.protocol.specs.declared.note.Fact.{Fact}
 use Rattle.protocol.specs.declared.note.Fact.TheVariants.{Wake, Return}
@@ -39,11 +38,13 @@ use Rattle.protocol.specs.Headline.{seen, facts_among}
 use Rattle.protocol.specs.Notes.{facts_of, sleep_facts, return_facts}
 use Rattle.protocol.specs.Sleepers.{IsAmong, IsUndivided, GoesOn, MachineGoesOn}
 use Rattle.protocol.proofs.Puts.{put-same}
-use Rattle.protocol.proofs.Kept.{Fits, Kept}
-use Rattle.protocol.proofs.Steps.{Tells, went-is, r, before, tells}
-use Rattle.protocol.proofs.Runs.{sound, start_kept, run_kept, does}
-use Rattle.protocol.proofs.Queues.{Queued, run_queued, queued_on, idle_in_none, may_idle, change, sleeper}
-use Rattle.protocol.proofs.Owed.{step_is, fits, next, s', steps_to, kept', queued', alone_is, stage', word-is, now_asleep, still_awake, now_idle, ended_or_not, somebody_owes, ends_alone}
+use Rattle.protocol.proofs.Phases.{decided_at, SteadyAt}
+use Rattle.protocol.proofs.Kept.{AtRow, InPhase, Fits, Kept}
+use Rattle.protocol.proofs.Steps.{Tells, went-is, seen-inside}
+use Rattle.protocol.proofs.Stepping.{Stepping}
+use Rattle.protocol.proofs.Runs.{sound, start_kept, run_kept, does, at_rest}
+use Rattle.protocol.proofs.Queues.{Queued, run_queued, queued_on, idle_in_none}
+use Rattle.protocol.proofs.Owed.{step_is, fits, steps, next, s', steps_to, queued', stage', now_asleep, still_awake, now_idle, ended_or_not, somebody_owes, ends_alone}
 
 -- ---- what a step tells of returns
 
@@ -88,14 +89,15 @@ asleep_still s t e = either_way (is_thread s t) s (stepped s t (s.threads t).hel
   where
     go : (g : Stage) → sleeps s t g ≡ true → stepped s t (s.threads t).held g ≡ nothing s
     go Idle h = refl
-    go (Calling c p) h = ap (λ (b : Bool). if b then nothing s else Rattle.protocol.specs.Machine.went s t (s.threads t).held c p (led p (Rattle.protocol.specs.Machine.answer_of s (access_of p)))) h
+    go (Calling c p) h = ap (λ (b : Bool). if b then nothing s else Rattle.protocol.specs.Machine.went s t (s.threads t).held c p (whole_led p (Rattle.protocol.specs.Machine.answer_of s (whole_access p)))) h
 
--- a row that goes on returns nothing
-goes_on : (q : Row) → ((c : Call) (p : Standing) → stage_after c p q ≡ Calling c (record p { row = q })) → (c : Call) (p : Standing) (x : Reply) → returned q ≡ Some x → ⊥
-goes_on (Lock q) on c p x e = cc
-goes_on (TryLock q) on c p x e = cc
-goes_on (Unlock q) on c p x e = cc
-goes_on (Consistent q) on c p x e = cc
+-- a phase that goes on returns nothing
+goes_on : (f : Phase) → ((c : Call) (p : Whole) → stage_after c p f ≡ Calling c (record p { phase = f })) → (c : Call) (p : Whole) (x : Reply) → returned f ≡ Some x → ⊥
+goes_on (Announcing r) on c p x e = cc
+goes_on (AtCell r) on c p x e = cc
+goes_on (Linking l y) on c p x e = cc
+goes_on (Unlinking u d) on c p x e = cc
+goes_on (Clearing y) on c p x e = cc
 goes_on (Ended y) on c p x e = cc (on c p)
 
 -- ---- the call of thread t, which held so many mutexes when its mutex was this object
@@ -130,129 +132,127 @@ module _ (t held : ℕ) (c : Call) (o : Object) (room : acquires (operation_of c
   }
 
   -- one step of it, while it is awake
-  module _ (s : State) (p : Standing) (inv : Kept s) (queued : Queued s) (pos : 1 ≤ t) (known : t ≤ s.layout.threads) (is : (s.threads t).stage ≡ Calling c p) (out : stands_in t (sleepers s (mutex_of c)) ≡ false) (steady : Steady t p.row (s.words (cell_place s.layout (mutex_of c)))) (was : Decided (decided p.row) (seen s (mutex_of c))) where
+  module _ (s : State) (p : Whole) (inv : Kept s) (queued : Queued s) (pos : 1 ≤ t) (known : t ≤ s.layout.threads) (is : (s.threads t).stage ≡ Calling c p) (out : stands_in t (sleepers s (mutex_of c)) ≡ false) (steady : SteadyAt t p.phase (s.words (cell_place s.layout (mutex_of c)))) (was : Decided (decided_at p.phase) (seen s (mutex_of c))) where
     abbrev w : ℕ
     w = s.words (cell_place s.layout (mutex_of c))
 
     abbrev fit : Fits s t (s.threads t).held c p
     fit = fits s t c p inv queued pos known is out
 
-    abbrev to : Led
+    abbrev to : Onward
     to = next s t c p inv queued pos known is out
+
+    abbrev went : Stepping s t c p
+    went = steps s t c p inv queued pos known is out
 
     abbrev z : State
     z = s' s t c p inv queued pos known is out
 
     -- what it tells
-    told : (x : Reply) (rest : List Fact) → IsAmong (Return t x) (facts_of (happens s (Step t)).note ++ rest) → (returned to.row ≡ Some x) ⊎ IsAmong (Return t x) rest
+    told : (x : Reply) (rest : List Fact) → IsAmong (Return t x) (facts_of (happens s (Step t)).note ++ rest) → (returned to.phase ≡ Some x) ⊎ IsAmong (Return t x) rest
     told x rest h =
-        among_step t t x _ _ _ (returned to.row) rest
-        (subst (λ (a : After). IsAmong (Return t x) (facts_of a.note ++ rest)) (step_is s t c p pos known is out ∙ went-is s t c p inv pos known fit) h)
+        among_step t t x _ _ _ (returned to.phase) rest
+        (subst (λ (a : After). IsAmong (Return t x) (facts_of a.note ++ rest)) (step_is s t c p pos known is out ∙ went-is s t c p went.valid) h)
 
-    changed_to : Decided (decided to.row) (seen z (mutex_of c))
-    changed_to =
-        decides (decided p.row) to.point (decided to.row) (seen s (mutex_of c)) (seen z (mutex_of c)) (r s t c p inv pos known fit).tells
-        (subst (λ (u : Operation). Tells t (seen s (mutex_of c)) u to.point (seen z (mutex_of c))) fit.of (tells s t c p inv pos known fit)) was
+    changed_to : Decided (decided_at to.phase) (seen z (mutex_of c))
+    changed_to = decides (decided_at p.phase) to.point (decided_at to.phase) (seen s (mutex_of c)) (seen z (mutex_of c)) went.moves.joins went.tells was
 
-    steady_at : sleeps_at (access_of p) w ≡ false → Steady t to.row (changed (access_of p) w)
-    steady_at awake = (alone_is s t c p inv queued pos known is out).steady awake steady
+    steady_then : sleeps_at (whole_access p) w ≡ false → SteadyAt t to.phase (z.words (cell_place s.layout (mutex_of c)))
+    steady_then awake = went.moves.steady awake steady
 
     -- it slept on a mutex that another owns
-    slept : sleeps_at (access_of p) w ≡ true → (op ≡ operation.Lock) × ((u : ℕ) × (o.owner ≡ Some u) × (u ≢ t))
+    slept : sleeps_at (whole_access p) w ≡ true → (op ≡ operation.Lock) × ((u : ℕ) × (o.owner ≡ Some u) × (u ≢ t))
     slept on =
-        let row = sleeper p.thread p.cell p.row w on in
-        let facts : (w ≡ word_of row.0) × (row.0.owner ≢ t) = subst (λ (x : Row). Steady t x w) row.1 steady in
-        let sees : Knows (Lock (lock.Sleep row.0)) = subst Knows row.1 fit.knows in
-        let same : seen s (mutex_of c) ≡ o = subst (λ (x : Row). Decided (decided x) (seen s (mutex_of c))) row.1 was in
-        let cell : fields_of w ≡ row.0 = ap fields_of facts.0 ∙ fields_of-word_of row.0 sees.0.1 in
-        let some : 1 ≤ row.0.owner = (let e = sees.0.0 in omega arith) in (
-          sym fit.of ∙ ap row_operation row.1,
+        let row = went.sleeper on in
+        let facts : (w ≡ word_of row.0) × (row.0.owner ≢ t) = subst (λ (x : Phase). SteadyAt t x w) row.1 steady in
+        let sees : AtRow t (s.threads t).held p.operation (Lock (lock.Sleep row.0)) (seen s (mutex_of c)) = subst (λ (x : Phase). InPhase t (s.threads t).held p x (seen s (mutex_of c))) row.1 fit.stands in
+        let same : seen s (mutex_of c) ≡ o = subst (λ (x : Phase). Decided (decided_at x) (seen s (mutex_of c))) row.1 was in
+        let cell : fields_of w ≡ row.0 = ap fields_of facts.0 ∙ fields_of-word_of row.0 sees.knows.0.1 in
+        let some : 1 ≤ row.0.owner = (let e = sees.knows.0.0 in omega arith) in (
+          sym fit.of ∙ sym sees.of,
           (
             row.0.owner,
-            sym (ap (λ (x : Object). x.owner) same) ∙ ap (λ (x : Object). x.owner) (before s t c p inv pos known fit) ∙ ap (λ (x : Fields). owner_of x.owner) cell ∙ owner_of-some row.0.owner some,
+            sym (ap (λ (x : Object). x.owner) same) ∙ ap (λ (x : Object). x.owner) (seen-inside s (mutex_of c) fit.inside) ∙ ap (λ (x : Fields). owner_of x.owner) cell ∙ owner_of-some row.0.owner some,
             facts.1,
           ),
         )
 
     -- one step, and then n
-    after_step : (n : ℕ) → Comes z n → ((x : Reply) → returned to.row ≡ Some x → (x ≢ XRACED) × Does held o t op x (seen (run z (replicate n (Step t))) (mutex_of c))) → Comes s (suc n)
+    after_step : (n : ℕ) → Comes z n → ((x : Reply) → returned to.phase ≡ Some x → (x ≢ XRACED) × Does held o t op x (seen (run z (replicate n (Step t))) (mutex_of c))) → Comes s (suc n)
     after_step n comes at_return =
         let goes = steps_to s t c p inv queued pos known is out in
         record {
           returns = λ x among.
               subst (λ (y : State). (x ≢ XRACED) × Does held o t op x (seen (run y (replicate n (Step t))) (mutex_of c))) (sym goes)
               (⊎_elim (at_return x) (comes.returns x)
-              (subst (λ (y : State). (returned to.row ≡ Some x) ⊎ IsAmong (Return t x) (facts_among (notes y (replicate n (Step t))))) goes (told x (facts_among (notes (happens s (Step t)).state (replicate n (Step t)))) among)));
+              (subst (λ (y : State). (returned to.phase ≡ Some x) ⊎ IsAmong (Return t x) (facts_among (notes y (replicate n (Step t))))) goes (told x (facts_among (notes (happens s (Step t)).state (replicate n (Step t)))) among)));
           sleeps = λ e. comes.sleeps (ap (λ (y : State). is_asleep (run y (replicate n (Step t))) t) (sym goes) ∙ e);
         }
 
     -- it fell asleep
-    to_sleep : (n : ℕ) → sleeps_at (access_of p) w ≡ true → Comes s (suc n)
+    to_sleep : (n : ℕ) → sleeps_at (whole_access p) w ≡ true → Comes s (suc n)
     to_sleep n on =
-        let asleep = now_asleep s t c p inv queued pos known is out on (change t p.thread p.cell p.row w (s.queues (cell_place s.layout (mutex_of c)))) in
-        let row = sleeper p.thread p.cell p.row w on in
-        after_step n (rests z n (asleep_still z t asleep) (λ e. slept on)) (λ x e. absurd (none_returned row.0 row.1 x e))
-      where
-        none_returned : (v : Fields) → p.row ≡ Lock (lock.Sleep v) → (x : Reply) → returned to.row ≡ Some x → ⊥
-        none_returned v row x e = cc (sym (ap (λ (y : Row). returned (led (record p { row = y }) (Rattle.keys.specs.Accesses.answer_at (access_of (record p { row = y })) w)).row) row) ∙ e)
+        let asleep = now_asleep s t c p inv queued pos known is out on went.change in
+        let row = went.sleeper on in
+        after_step n (rests z n (asleep_still z t asleep) (λ e. slept on)) (λ x e. absurd (cc (sym (ap returned row.2) ∙ e)))
 
     -- it returned
-    to_return : (n : ℕ) (y : Reply) → sleeps_at (access_of p) w ≡ false → to.row ≡ Ended y → Comes s (suc n)
+    to_return : (n : ℕ) (y : Reply) → sleeps_at (whole_access p) w ≡ false → to.phase ≡ Ended y → Comes s (suc n)
     to_return n y awake e =
         let idle = now_idle s t c p inv queued pos known is out y e in
         let still = idle_still z t idle in
         after_step n (rests z n still (λ asleep. absurd (cc (sym (ap (sleeps z t) idle) ∙ asleep)))) (λ x back.
         let same : y ≡ x = replied y x (sym (ap returned e) ∙ back) in
         subst (λ (v : Reply). (v ≢ XRACED) × Does held o t op v (seen (run z (replicate n (Step t))) (mutex_of c))) same (
-          subst (λ (v : Row). Steady t v (changed (access_of p) w)) e (steady_at awake),
-          subst (λ (v : State). Does held o t op y (seen v (mutex_of c))) (sym (still_run z t n still)) (subst (λ (v : Row). Decided (decided v) (seen z (mutex_of c))) e changed_to),
+          subst (λ (v : Phase). SteadyAt t v (z.words (cell_place s.layout (mutex_of c)))) e (steady_then awake),
+          subst (λ (v : State). Does held o t op y (seen v (mutex_of c))) (sym (still_run z t n still)) (subst (λ (v : Phase). Decided (decided_at v) (seen z (mutex_of c))) e changed_to),
         ))
       where
         replied : (a b : Reply) → Some a ≡ Some b → a ≡ b
         replied a b eq = cc
 
   -- a call that is awake, whatever steps it has made
-  comes : (n : ℕ) (s : State) (p : Standing) → Kept s → Queued s → 1 ≤ t → t ≤ s.layout.threads → (s.threads t).stage ≡ Calling c p → stands_in t (sleepers s (mutex_of c)) ≡ false → Steady t p.row (s.words (cell_place s.layout (mutex_of c))) → Decided (decided p.row) (seen s (mutex_of c)) → Comes s n
+  comes : (n : ℕ) (s : State) (p : Whole) → Kept s → Queued s → 1 ≤ t → t ≤ s.layout.threads → (s.threads t).stage ≡ Calling c p → stands_in t (sleepers s (mutex_of c)) ≡ false → SteadyAt t p.phase (s.words (cell_place s.layout (mutex_of c))) → Decided (decided_at p.phase) (seen s (mutex_of c)) → Comes s n
   comes zero s p inv queued pos known is out steady was = record {
     returns = λ x among. absurd among;
     sleeps = λ e. absurd (cc (sym (ap (sleeps s t) is ∙ out) ∙ e));
   }
-  comes (suc n) s p inv queued pos known is out steady was = go (sleeps_at (access_of p) (s.words (cell_place s.layout (mutex_of c)))) refl (comes n)
+  comes (suc n) s p inv queued pos known is out steady was = go (sleeps_at (whole_access p) (s.words (cell_place s.layout (mutex_of c)))) refl (comes n)
     where
-      go : (b : Bool) → sleeps_at (access_of p) (s.words (cell_place s.layout (mutex_of c))) ≡ b
-          → ((y : State) (q : Standing) → Kept y → Queued y → 1 ≤ t → t ≤ y.layout.threads → (y.threads t).stage ≡ Calling c q → stands_in t (sleepers y (mutex_of c)) ≡ false → Steady t q.row (y.words (cell_place y.layout (mutex_of c))) → Decided (decided q.row) (seen y (mutex_of c)) → Comes y n)
+      go : (b : Bool) → sleeps_at (whole_access p) (s.words (cell_place s.layout (mutex_of c))) ≡ b
+          → ((y : State) (q : Whole) → Kept y → Queued y → 1 ≤ t → t ≤ y.layout.threads → (y.threads t).stage ≡ Calling c q → stands_in t (sleepers y (mutex_of c)) ≡ false → SteadyAt t q.phase (y.words (cell_place y.layout (mutex_of c))) → Decided (decided_at q.phase) (seen y (mutex_of c)) → Comes y n)
           → Comes s (suc n)
       go true e further = to_sleep s p inv queued pos known is out steady was n e
       go false e further =
           ⊎_elim
           (λ ended. to_return s p inv queued pos known is out steady was n ended.0 e ended.1)
           (λ on. after_step s p inv queued pos known is out steady was n
-          (further (s' s t c p inv queued pos known is out) (record p { row = (next s t c p inv queued pos known is out).row }) (kept' s t c p inv queued pos known is out) (queued' s t c p inv queued pos known is out) pos known
+          (further (s' s t c p inv queued pos known is out) (record p { phase = (next s t c p inv queued pos known is out).phase }) (steps s t c p inv queued pos known is out).kept (queued' s t c p inv queued pos known is out) pos known
           (stage' s t c p inv queued pos known is out ∙ on c p)
-          (still_awake s t c p inv queued pos known is out e (change t p.thread p.cell p.row (s.words (cell_place s.layout (mutex_of c))) (s.queues (cell_place s.layout (mutex_of c)))))
-          (subst (Steady t (next s t c p inv queued pos known is out).row) (sym (word-is s t c p inv queued pos known is out)) (steady_at s p inv queued pos known is out steady was e))
+          (still_awake s t c p inv queued pos known is out e (steps s t c p inv queued pos known is out).change)
+          (steady_then s p inv queued pos known is out steady was e)
           (changed_to s p inv queued pos known is out steady was))
-          (λ x back. absurd (goes_on (next s t c p inv queued pos known is out).row on c p x back)))
-          (ended_or_not (next s t c p inv queued pos known is out).row)
+          (λ x back. absurd (goes_on (next s t c p inv queued pos known is out).phase on c p x back)))
+          (ended_or_not (next s t c p inv queued pos known is out).phase)
 
 -- ---- a call from its begin on
 
--- a call's first row is undecided, and knows nothing of the cell
-first_decided : (c : Call) → decided (first_row c) ≡ None
+-- a call begins undecided, and knows nothing of the cell
+first_decided : (c : Call) → decided_at (first_phase c) ≡ None
 first_decided (call.Lock k) = refl
 first_decided (call.TryLock k) = refl
 first_decided (call.Unlock k) = refl
 first_decided (call.Consistent k) = refl
 
-first_steady : (t : ℕ) (c : Call) (w : ℕ) → Steady t (first_row c) w
+first_steady : (t : ℕ) (c : Call) (w : ℕ) → SteadyAt t (first_phase c) w
 first_steady t (call.Lock k) w = tt
 first_steady t (call.TryLock k) w = tt
 first_steady t (call.Unlock k) w = tt
 first_steady t (call.Consistent k) w = tt
 
 module _ (s : State) (t : ℕ) (c : Call) (n : ℕ) (inv : Kept s) (queued : Queued s) (pos : 1 ≤ t) (known : t ≤ s.layout.threads) (may : may_begin s t c ≡ true) (idle : (s.threads t).stage ≡ Idle) where
-  abbrev begins_at : Standing
-  begins_at = record { thread = t; cell = cell_place s.layout (mutex_of c); row = first_row c }
+  abbrev begins_at : Whole
+  begins_at = begins s.layout t c
 
   abbrev owned : ℕ
   owned = held_by t (seen s) s.layout.mutexes
@@ -264,7 +264,7 @@ module _ (s : State) (t : ℕ) (c : Call) (n : ℕ) (inv : Kept s) (queued : Que
   begun_to b = begun s t c (if b then Err XHELD else Ok begins_at)
 
   begins_so : happens s (Begin t c) ≡ begun_to full
-  begins_so = ap (λ (b : Bool). if b then begun s t c (started s.layout t (s.threads t).held c) else nothing s) may
+  begins_so = ap (λ (b : Bool). if b then begun s t c (whole_started s.layout t (s.threads t).held c) else nothing s) may
 
   -- refused at once
   refused : full ≡ true → IsUndivided s t c n
@@ -317,7 +317,7 @@ undivided : (s : State) → Kept s → Queued s → (t : ℕ) (c : Call) (n : �
 undivided s inv queued t c n may =
     let pos : 1 ≤ t = grind (arith, nat_tests) in
     let known : t ≤ s.layout.threads = grind (arith, nat_tests) in
-    let idle : (s.threads t).stage ≡ Idle = may_idle (s.threads t).stage (grind (arith, nat_tests)) in
+    let idle : (s.threads t).stage ≡ Idle = at_rest (s.threads t).stage (grind (arith, nat_tests)) in
     go pos known idle (acquires (operation_of c) && nat_le 2048 (s.threads t).held) refl
   where
     go : 1 ≤ t → t ≤ s.layout.threads → (s.threads t).stage ≡ Idle → (b : Bool) → (acquires (operation_of c) && nat_le 2048 (s.threads t).held) ≡ b → IsUndivided s t c n

@@ -3,3 +3,4 @@ pub mod Machine
 pub mod Headline
 pub mod Explained
 pub mod Sleepers
+pub mod Lists

@@ -12,12 +12,12 @@ use Rattle.keys.specs.declared.point.Decision.{Decision}
 use Rattle.keys.specs.Layouts.{Layout', cell_place, counter_place, words_of}
 use Rattle.keys.specs.Accesses.{address_of, changed, answer_at, sleeps_at}
 use Rattle.mutex.specs.declared.call.Call.{Call}
-use Rattle.mutex.specs.declared.row.Row.{Row}
-use Rattle.mutex.specs.declared.row.Row.TheVariants.{Ended}
-use Rattle.mutex.specs.declared.row.Led.{Led}
-use Rattle.mutex.specs.Calls.{mutex_of}
-use Rattle.mutex.specs.Standings.{Standing}
-use Rattle.mutex.specs.Programs.{started, access_of, led, row_operation}
+use Rattle.mutex.specs.declared.phase.Phase.{Phase}
+use Rattle.mutex.specs.declared.phase.Phase.TheVariants.{Ended}
+use Rattle.mutex.specs.declared.phase.Onward.{Onward}
+use Rattle.mutex.specs.Calls.{mutex_of, operation_of}
+use Rattle.mutex.specs.Standings.{Whole}
+use Rattle.mutex.specs.Whole.{whole_started, whole_access, whole_led}
 use Rattle.protocol.specs.declared.event.Event.{Event}
 use Rattle.protocol.specs.declared.event.Event.TheVariants.{Begin, Step}
 use Rattle.protocol.specs.declared.thread.Thread.{Thread}
@@ -135,17 +135,17 @@ is_asleep s t = sleeps s t (s.threads t).stage
 abbrev pub may_begin : State → ℕ → Call → Bool
 may_begin s t c = is_thread s t && is_idle (s.threads t).stage && nat_lt (mutex_of c) s.layout.mutexes
 
-abbrev pub begun : State → ℕ → Call → Result Standing Reply → After
+abbrev pub begun : State → ℕ → Call → Result Whole Reply → After
 begun s t c (Ok p) = record { state = record s { threads = put s.threads t (record (s.threads t) { stage = Calling c p }) }; note = Began t c None }
 begun s t c (Err x) = record { state = s; note = Began t c (Some x) }
 
-abbrev pub stage_after : Call → Standing → Row → Stage
+abbrev pub stage_after : Call → Whole → Phase → Stage
 stage_after c p (Ended x) = Idle
-stage_after c p r = Calling c (record p { row = r })
+stage_after c p f = Calling c (record p { phase = f })
 
-abbrev pub returned : Row → Option Reply
+abbrev pub returned : Phase → Option Reply
 returned (Ended x) = Some x
-returned r = None
+returned f = None
 
 -- a thread owns one mutex more after it took one, and one less after it released one
 abbrev pub held_after : ℕ → Operation → Option Reply → ℕ
@@ -156,29 +156,30 @@ held_after held operation.TryLock (Some EOWNERDEAD) = held + 1
 held_after held operation.Unlock (Some OK) = held - 1
 held_after held op point = held
 
-abbrev pub decision : ℕ → Call → Operation → Option Reply → Option Decision
-decision t c op None = None
-decision t c op (Some x) = Some (record { thread = t; mutex = mutex_of c; operation = op; reply = x })
+-- the point of a call, once an access decided it
+abbrev pub decision : ℕ → Call → Option Reply → Option Decision
+decision t c None = None
+decision t c (Some x) = Some (record { thread = t; mutex = mutex_of c; operation = operation_of c; reply = x })
 
 -- the call's next access, and where its answer leads. A thread that falls asleep stands where it goes on when it is woken
-abbrev pub went : State → ℕ → ℕ → Call → Standing → Led → After
-went s t held c p l =
+abbrev pub went : State → ℕ → ℕ → Call → Whole → Onward → After
+went s t held c p o =
     record {
       state = record s {
-        words = words_after s (access_of p);
-        queues = queues_after s t (access_of p);
-        threads = put s.threads t (record { stage = stage_after c p l.row; held = held_after held (row_operation p.row) l.point });
+        words = words_after s (whole_access p);
+        queues = queues_after s t (whole_access p);
+        threads = put s.threads t (record { stage = stage_after c p o.phase; held = held_after held (operation_of c) o.point });
       };
-      note = Stepped t (decision t c (row_operation p.row) l.point) (slept_on s c (access_of p)) (woken s (access_of p)) (returned l.row);
+      note = Stepped t (decision t c o.point) (slept_on s c (whole_access p)) (woken s (whole_access p)) (returned o.phase);
     }
 
 abbrev pub stepped : State → ℕ → ℕ → Stage → After
 stepped s t held Idle = nothing s
-stepped s t held (Calling c p) = if sleeps s t (Calling c p) then nothing s else went s t held c p (led p (answer_of s (access_of p)))
+stepped s t held (Calling c p) = if sleeps s t (Calling c p) then nothing s else went s t held c p (whole_led p (answer_of s (whole_access p)))
 
 -- a begin of a busy or unknown thread or of a mutex outside the layout, and a step of an idle, sleeping or unknown thread, do nothing
 abbrev pub happens : State → Event → After
-happens s (Begin t c) = if may_begin s t c then begun s t c (started s.layout t (s.threads t).held c) else nothing s
+happens s (Begin t c) = if may_begin s t c then begun s t c (whole_started s.layout t (s.threads t).held c) else nothing s
 happens s (Step t) = if is_thread s t then stepped s t (s.threads t).held (s.threads t).stage else nothing s
 
 -- ---- runs

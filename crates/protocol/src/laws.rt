@@ -2,6 +2,7 @@
 ghost use Rattle.protocol.specs.Headline.{HistoryIsLegal};
 ghost use Rattle.protocol.specs.Explained.{TraceIsExplained};
 ghost use Rattle.protocol.specs.Sleepers.{MachineGoesOn};
+ghost use Rattle.protocol.specs.Lists.{ListsAreKept};
 
 /// Whatever happens, the points are one legal history of POSIX robust mutexes, which says at each moment what every cell says.
 pub fn history_is_legal()
@@ -19,4 +20,10 @@ pub fn trace_is_explained()
 /// a mutex that another owns.
 pub fn machine_goes_on()
     ensures { MachineGoesOn }
+{}
+
+/// Whatever happens, the words from each thread's head are a list of mutexes that it owns, 2,048 at most: of all of them, but for the one whose entry is pending. So the
+/// kernel would find at any moment what the thread owns.
+pub fn lists_are_kept()
+    ensures { ListsAreKept }
 {}

@@ -213,8 +213,8 @@ fn many_threads(rt: HostRuntime) -> Result<(), Fail> {
     Ok(())
 }
 
-/// Where a script is cut, it ends without line feed, or with too few declarations, or well. A call that runs alone has three
-/// events: its begin and two accesses.
+/// Where a script is cut, it ends without line feed, or with too few declarations, or well. A trylock that takes its thread's first mutex has nine events:
+/// its begin, three accesses to the pending entry and the cell, four that link the entry, and one that clears it. An unlock has eight.
 #[test]
 fn cut(rt: HostRuntime) -> Result<(), Fail> {
     let text = b"thread a\nmutex m\ncall a trylock m\ncall a unlock m\n".as_slice();
@@ -237,7 +237,7 @@ fn cut(rt: HostRuntime) -> Result<(), Fail> {
         }
     }
     assert_eq!(rt; text.len(), 50);
-    for (length, events) in [(17, 0), (34, 3), (50, 6)] {
+    for (length, events) in [(17, 0), (34, 9), (50, 17)] {
         let start = text.get(..length).ok_or("a length")?;
         let script = parse(rt.alloc(), start, Mode::Run)?;
         let (trace, _machine) = play(rt.alloc(), &script)?;
@@ -330,17 +330,17 @@ fn texts(rt: HostRuntime) -> Result<(), Fail> {
     Ok(())
 }
 
-/// One mutex is refused, taken, refused and released by one thread; the last step finds it idle.
+/// One mutex is refused, taken, refused and released by one thread, in 23 events; the last step finds it idle.
 #[test]
 fn played(rt: HostRuntime) -> Result<(), Fail> {
     let text =
-        b"thread a\nmutex m\ncall a unlock m\ncall a trylock m\ncall a trylock m\nbegin a unlock m\nstep a 3\n";
+        b"thread a\nmutex m\ncall a unlock m\ncall a trylock m\ncall a trylock m\nbegin a unlock m\nstep a 8\n";
     let script = parse(rt.alloc(), text, Mode::Run)?;
     let (trace, machine) = play(rt.alloc(), &script)?;
     assert_eq!(rt; trace.threads, 1);
     assert_eq!(rt; trace.mutexes, 1);
     assert_eq!(rt; trace.conditions, 0);
-    assert_eq!(rt; trace.notes.len(), 11);
+    assert_eq!(rt; trace.notes.len(), 24);
     assert!(rt; machine.owner(0).is_none());
     Ok(())
 }
@@ -381,7 +381,7 @@ fn memory_in_play(rt: HostRuntime) {
     let text = "thread a\nmutex m\n# played\ncall a trylock m\nstep a 40\n";
     let told = match playing(rt.alloc(), text) {
         Ok(Ok(events)) => {
-            assert_eq!(rt; events, 43);
+            assert_eq!(rt; events, 49);
             return;
         }
         Ok(Err(told)) => told,

@@ -158,7 +158,7 @@ fn other_modes(rt: HostRuntime) -> Result<(), Fail> {
     let threads = b"thread a\nmutex m\ncall a trylock m\nphase\nphase\ncall a unlock m\n";
     let script = parse(rt.alloc(), threads, Mode::Threads)?;
     let (trace, _machine) = play(rt.alloc(), &script)?;
-    assert_eq!(rt; trace.notes.len(), 6);
+    assert_eq!(rt; trace.notes.len(), 17);
     Ok(())
 }
 

@@ -1,7 +1,6 @@
 //! Threads that sleep, and machines where one thread runs alone.
 
-use super::{ends, has_words, machine, thread};
-use crate::Machine;
+use super::{decides, ends, has_words, machine, play, returns, thread};
 use buckets::Batch;
 use keys::Operation;
 use lockword::{Reply, Tid};
@@ -24,28 +23,28 @@ fn sleeps(thread: Tid) -> Note {
     }
 }
 
-/// The thread begins a call, and makes so many accesses of it.
-fn play(machine: &mut Machine, thread: Tid, call: Call, steps: u32) {
-    let _ = machine.step(Event::Begin(thread, call));
-    for _ in 0..steps {
-        let _ = machine.step(Event::Step(thread));
-    }
-}
-
 #[test]
 fn a_sleeper_is_woken_by_the_unlock(rt: HostRuntime) -> Result<(), Fail> {
     let (one, two) = (thread(1)?, thread(2)?);
     let mut machine = machine(rt.alloc(), 2, 1, &[])?;
-    play(&mut machine, one, LOCK, 2);
-    play(&mut machine, two, LOCK, 3);
+    play(&mut machine, one, LOCK, 8);
+    play(&mut machine, two, LOCK, 4);
     assert_eq!(rt; machine.word(7), Some(0x8000_0001));
     assert!(rt; machine.asleep(two));
-    play(&mut machine, one, UNLOCK, 3);
+    play(&mut machine, one, UNLOCK, 8);
     assert_eq!(rt; machine.word(7), Some(0x8000_0000));
+    assert!(rt; !machine.busy(one));
     assert!(rt; machine.busy(two) && !machine.asleep(two));
-    let alone = machine.alone(rt.alloc(), two, 2)?;
-    assert_eq!(rt; alone.word(7), Some(0x8000_0002));
-    assert!(rt; !alone.busy(two) && !alone.fresh());
+    let taken = machine.alone(rt.alloc(), two, 2)?;
+    assert_eq!(rt; taken.word(7), Some(0x8000_0002));
+    assert!(rt; taken.busy(two) && !taken.fresh());
+    let linked = machine.alone(rt.alloc(), two, 7)?;
+    assert!(rt; !linked.busy(two));
+    has_words(
+        &rt,
+        &linked,
+        &[1, u64::MAX, 0, 8, u64::MAX, 0, 0x8000_0002, 4, 4],
+    );
     assert_eq!(rt; machine.word(7), Some(0x8000_0000));
     Ok(())
 }
@@ -54,11 +53,10 @@ fn a_sleeper_is_woken_by_the_unlock(rt: HostRuntime) -> Result<(), Fail> {
 fn a_sleeper_does_nothing_until_it_is_woken(rt: HostRuntime) -> Result<(), Fail> {
     let (one, two) = (thread(1)?, thread(2)?);
     let mut machine = machine(rt.alloc(), 2, 1, &[])?;
+    play(&mut machine, one, LOCK, 8);
     for event in [
-        Event::Begin(one, LOCK),
-        Event::Step(one),
-        Event::Step(one),
         Event::Begin(two, LOCK),
+        Event::Step(two),
         Event::Step(two),
         Event::Step(two),
     ] {
@@ -76,7 +74,7 @@ fn a_sleeper_does_nothing_until_it_is_woken(rt: HostRuntime) -> Result<(), Fail>
     has_words(
         &rt,
         &alone,
-        &[1, u64::MAX, 0, 4, u64::MAX, 0, 0x8000_0001, 0, 0],
+        &[8, u64::MAX, 0, 4, u64::MAX, 8, 0x8000_0001, 1, 1],
     );
     Ok(())
 }
@@ -85,16 +83,20 @@ fn a_sleeper_does_nothing_until_it_is_woken(rt: HostRuntime) -> Result<(), Fail>
 fn sleepers_are_woken_one_by_one_in_their_order(rt: HostRuntime) -> Result<(), Fail> {
     let (one, two, three) = (thread(1)?, thread(2)?, thread(3)?);
     let mut machine = machine(rt.alloc(), 3, 1, &[])?;
-    play(&mut machine, one, LOCK, 2);
-    play(&mut machine, two, LOCK, 3);
-    play(&mut machine, three, LOCK, 2);
+    play(&mut machine, one, LOCK, 8);
+    play(&mut machine, two, LOCK, 4);
+    play(&mut machine, three, LOCK, 3);
     assert!(rt; machine.asleep(two) && machine.asleep(three));
-    play(&mut machine, one, UNLOCK, 3);
+    play(&mut machine, one, UNLOCK, 8);
     assert!(rt; !machine.asleep(two) && machine.asleep(three));
     let _ = machine.step(Event::Step(two));
     let _ = machine.step(Event::Step(two));
     assert_eq!(rt; machine.word(10), Some(0x8000_0002));
-    play(&mut machine, two, UNLOCK, 3);
+    for _ in 0..5 {
+        assert!(rt; machine.busy(two));
+        let _ = machine.step(Event::Step(two));
+    }
+    play(&mut machine, two, UNLOCK, 8);
     assert!(rt; !machine.asleep(three) && machine.busy(three));
     Ok(())
 }
@@ -103,11 +105,15 @@ fn sleepers_are_woken_one_by_one_in_their_order(rt: HostRuntime) -> Result<(), F
 fn an_owner_is_told_of_its_own_lock(rt: HostRuntime) -> Result<(), Fail> {
     let one = thread(1)?;
     let mut machine = machine(rt.alloc(), 2, 1, &[])?;
-    play(&mut machine, one, LOCK, 2);
-    play(&mut machine, one, LOCK, 0);
+    play(&mut machine, one, LOCK, 8);
+    play(&mut machine, one, LOCK, 1);
     assert_eq!(rt;
         machine.step(Event::Step(one)),
-        ends(one, Operation::Lock, Reply::EDEADLK)
+        decides(one, Operation::Lock, Reply::EDEADLK)
+    );
+    assert_eq!(rt;
+        machine.step(Event::Step(one)),
+        returns(one, Reply::EDEADLK)
     );
     Ok(())
 }
@@ -116,7 +122,7 @@ fn an_owner_is_told_of_its_own_lock(rt: HostRuntime) -> Result<(), Fail> {
 fn a_consistent_mutex_is_declared_by_nobody(rt: HostRuntime) -> Result<(), Fail> {
     let (one, two) = (thread(1)?, thread(2)?);
     let mut machine = machine(rt.alloc(), 2, 1, &[])?;
-    play(&mut machine, one, LOCK, 2);
+    play(&mut machine, one, LOCK, 8);
     play(&mut machine, one, Call::Consistent(0), 0);
     assert_eq!(rt;
         machine.step(Event::Step(one)),

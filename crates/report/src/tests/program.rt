@@ -117,15 +117,15 @@ const ROW_TEXT: &str = "trace 1 1 0\n\
     2 point t1 m0 unlock EPERM\n\
     2 return t1 EPERM\n\
     3 begin t1 trylock m0\n\
-    5 point t1 m0 trylock OK\n\
-    5 return t1 OK\n\
-    6 begin t1 trylock m0\n\
-    7 point t1 m0 trylock EBUSY\n\
-    7 return t1 EBUSY\n\
-    8 begin t1 unlock m0\n\
-    10 point t1 m0 unlock OK\n\
-    10 return t1 OK\n\
-    end 10\n";
+    6 point t1 m0 trylock OK\n\
+    11 return t1 OK\n\
+    12 begin t1 trylock m0\n\
+    14 point t1 m0 trylock EBUSY\n\
+    15 return t1 EBUSY\n\
+    16 begin t1 unlock m0\n\
+    22 point t1 m0 unlock OK\n\
+    23 return t1 OK\n\
+    end 23\n";
 
 /// What `rfx run f` answers, prints and tells, where `f` is the reader.
 fn run_is(

@@ -12,6 +12,7 @@ use mutex::Call;
 use protocol::{Event, Note};
 use std::alloc::{AllocError, Global};
 use std::io;
+use std::process::Abort;
 use std::test::Fail;
 
 fn tid(id: u8) -> Tid
@@ -99,45 +100,132 @@ fn each_kind_of_note_has_its_lines(rt: HostRuntime) -> Result<(), AllocError> {
     Ok(())
 }
 
-const SLEEPER: &str = "trace 2 1 0\n\
-    1 begin t1 lock m0\n\
-    3 point t1 m0 lock OK\n\
-    3 return t1 OK\n\
-    4 begin t2 lock m0\n\
-    7 sleep t2 m0\n\
-    8 begin t1 unlock m0\n\
-    10 point t1 m0 unlock OK\n\
-    11 wake t2\n\
-    11 return t1 OK\n\
-    13 point t2 m0 lock OK\n\
-    13 return t2 OK\n\
-    end 13\n";
+/// Somebody's turn: the thread, the call that it begins, if it begins one, and how many accesses it makes then.
+type Turn = (u8, Option<Call>, u32);
 
-#[test]
-fn who_sleeps_and_who_is_woken_have_their_lines(rt: HostRuntime) -> Result<(), Fail> {
-    let one = Tid::new(1).ok_or("no thread 1")?;
-    let two = Tid::new(2).ok_or("no thread 2")?;
-    let events = [
-        Event::Begin(one, Call::Lock(0)),
-        Event::Step(one),
-        Event::Step(one),
-        Event::Begin(two, Call::Lock(0)),
-        Event::Step(two),
-        Event::Step(two),
-        Event::Step(two),
-        Event::Begin(one, Call::Unlock(0)),
-        Event::Step(one),
-        Event::Step(one),
-        Event::Step(one),
-        Event::Step(two),
-        Event::Step(two),
-    ];
-    let mut machine = Machine::new(rt.alloc(), Layout::new(2, 1, &[])?)?;
+/// What is written of such turns, on one mutex.
+fn is_told(
+    rt: &(impl AllocGlobal + Abort),
+    threads: u8,
+    turns: &[Turn],
+    text: &str,
+) -> Result<(), Fail> {
+    let mut events = Vec::new(rt.alloc());
+    for (id, call, accesses) in turns {
+        let thread = Tid::new(*id).ok_or("no such thread")?;
+        if let Some(call) = call {
+            events.push(Event::Begin(thread, *call))?;
+        }
+        for _ in 0..*accesses {
+            events.push(Event::Step(thread))?;
+        }
+    }
+    let mut machine = Machine::new(rt.alloc(), Layout::new(threads, 1, &[])?)?;
     let trace = machine.run(rt.alloc(), &events)?;
     let mut out = Vec::new(rt.alloc());
     assert!(rt; write_trace(&trace, &mut out).is_ok());
-    assert!(rt; out.as_slice() == SLEEPER.as_bytes());
+    assert!(rt; out.as_slice() == text.as_bytes(), "{text}");
     Ok(())
+}
+
+const TAKEN_AND_RELEASED: &str = "trace 1 1 0\n\
+    1 begin t1 lock m0\n\
+    4 point t1 m0 lock OK\n\
+    9 return t1 OK\n\
+    10 begin t1 unlock m0\n\
+    16 point t1 m0 unlock OK\n\
+    17 return t1 OK\n\
+    end 17\n";
+
+#[test]
+fn a_lock_and_its_unlock_have_their_lines(rt: HostRuntime) -> Result<(), Fail> {
+    is_told(
+        &rt,
+        1,
+        &[(1, Some(Call::Lock(0)), 8), (1, Some(Call::Unlock(0)), 7)],
+        TAKEN_AND_RELEASED,
+    )
+}
+
+const TAKEN_AGAIN: &str = "trace 1 1 0\n\
+    1 begin t1 lock m0\n\
+    4 point t1 m0 lock OK\n\
+    9 return t1 OK\n\
+    10 begin t1 lock m0\n\
+    12 point t1 m0 lock EDEADLK\n\
+    13 return t1 EDEADLK\n\
+    14 begin t1 trylock m0\n\
+    16 point t1 m0 trylock EBUSY\n\
+    17 return t1 EBUSY\n\
+    end 17\n";
+
+#[test]
+fn an_owner_that_locks_again_has_its_lines(rt: HostRuntime) -> Result<(), Fail> {
+    is_told(
+        &rt,
+        1,
+        &[
+            (1, Some(Call::Lock(0)), 8),
+            (1, Some(Call::Lock(0)), 3),
+            (1, Some(Call::TryLock(0)), 3),
+        ],
+        TAKEN_AGAIN,
+    )
+}
+
+const NOT_ITS_OWN: &str = "trace 2 1 0\n\
+    1 begin t1 lock m0\n\
+    4 point t1 m0 lock OK\n\
+    9 return t1 OK\n\
+    10 begin t2 unlock m0\n\
+    11 point t2 m0 unlock EPERM\n\
+    11 return t2 EPERM\n\
+    12 begin t2 consistent m0\n\
+    13 point t2 m0 consistent EPERM\n\
+    13 return t2 EPERM\n\
+    end 13\n";
+
+#[test]
+fn calls_on_the_mutex_of_another_have_their_lines(rt: HostRuntime) -> Result<(), Fail> {
+    is_told(
+        &rt,
+        2,
+        &[
+            (1, Some(Call::Lock(0)), 8),
+            (2, Some(Call::Unlock(0)), 1),
+            (2, Some(Call::Consistent(0)), 1),
+        ],
+        NOT_ITS_OWN,
+    )
+}
+
+const SLEEPER: &str = "trace 2 1 0\n\
+    1 begin t1 lock m0\n\
+    4 point t1 m0 lock OK\n\
+    9 return t1 OK\n\
+    10 begin t2 lock m0\n\
+    14 sleep t2 m0\n\
+    15 begin t1 unlock m0\n\
+    21 point t1 m0 unlock OK\n\
+    22 wake t2\n\
+    23 return t1 OK\n\
+    25 point t2 m0 lock OK\n\
+    30 return t2 OK\n\
+    end 30\n";
+
+#[test]
+fn who_sleeps_and_who_is_woken_have_their_lines(rt: HostRuntime) -> Result<(), Fail> {
+    is_told(
+        &rt,
+        2,
+        &[
+            (1, Some(Call::Lock(0)), 8),
+            (2, Some(Call::Lock(0)), 4),
+            (1, Some(Call::Unlock(0)), 8),
+            (2, None, 7),
+        ],
+        SLEEPER,
+    )
 }
 
 #[test]

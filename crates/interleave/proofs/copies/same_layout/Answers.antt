@@ -1,6 +1,6 @@
-use Rattle.std.proofs.Common.{◌≡◌, ℕ, ◌≤◌, List, length, take, sym, ap, ◌∙◌, subst, arith}
+use Rattle.std.proofs.Common.{◌≡◌, ℕ, ◌≤◌, length, take, sym, ap, ◌∙◌, subst, arith}
 use Rattle.std.proofs.lemmas.List.{length-set}
-use Rattle.keys.specs.Layouts.{Layout', HasConditions, HasMutexes, HasThreads}
+use Rattle.keys.specs.Layouts.{HasConditions, HasMutexes, HasThreads}
 use Rattle.interleave.proofs.Layouts.{laid, agree, agree_more}
 use Rattle.interleave.proofs.copies.same_layout.Goals as goal
 

@@ -1,16 +1,16 @@
-use Rattle.std.proofs.Common.{◌≡◌, ◌+◌, ◌-◌, Bool, true, false, ℕ, arith, sym, ap, ◌∙◌, subst, slice_index_or, slice_set}
-use Rattle.std.specs.Prelude.{if◌then◌else◌, Some, None, refl}
+use Rattle.std.proofs.Common.{◌≡◌, ◌+◌, ◌-◌, true, false, ℕ, arith, sym, ap, ◌∙◌, subst, slice_index_or, slice_set}
+use Rattle.std.specs.Prelude.{refl}
 use Rattle.std.proofs.lemmas.Grind.{common_steps}
 use Rattle.keys.specs.declared.access.Access.{Access}
-use Rattle.mutex.specs.Calls.{mutex_of}
-use Rattle.mutex.specs.Programs.{access_of}
-use Rattle.syscalls.specs.Kernels.{Kernel', queue_of}
+use Rattle.mutex.specs.Calls.{operation_of}
+use Rattle.mutex.specs.Whole.{whole_access}
+use Rattle.syscalls.specs.Kernels.{queue_of}
 use Rattle.syscalls.specs.Memories.{words_after}
 use Rattle.protocol.specs.declared.thread.Thread.{Thread}
 use Rattle.protocol.specs.declared.note.Note.TheVariants.{Stepped}
-use Rattle.protocol.specs.Machine.{State, After, idle, is_asleep, stands_in, happens}
+use Rattle.protocol.specs.Machine.{State, After, idle, is_asleep, stands_in, held_after, decision}
 use Rattle.interleave.specs.Shown.{state_at}
-use Rattle.interleave.specs.Perform.{Performs, held_in, decision_in}
+use Rattle.interleave.specs.Perform.{Performs}
 use Rattle.interleave.proofs.Views.{step_state, step_note, thread_at-index}
 use Rattle.interleave.proofs.Sleeping.{outside, asleep_step, told_asleep}
 use Rattle.interleave.proofs.threads.step.Goals as goal
@@ -48,14 +48,14 @@ returns-clause-state c =
     let read : c.index.result.now ≡ slice_index_or ts k idle = grind (arith, common_steps) in
     let p = c.in-Calling.program in
     let awake : (key : ℕ) → stands_in c.args.thread (queue_of kernel key) ≡ false = λ key. outside c.args.thread (queue_of kernel key) (c.if-asleep.ensures.value key) in
-    let performs : Performs ws kernel c.perform-done.new.kernel c.args.thread (access_of p) c.perform-done.result =
+    let performs : Performs ws kernel c.perform-done.new.kernel c.args.thread (whole_access p) c.perform-done.result =
     subst (λ (a : Access). Performs ws kernel c.perform-done.new.kernel c.args.thread a c.perform-done.result) c.next.ensures c.perform-done.ensures.performs in
-    let wrote : c.perform-done.new.memory ≡ words_after (access_of p) ws = c.perform-done.ensures.words ∙ ap (λ (a : Access). words_after a ws) c.next.ensures in
-    let held : c.held_after.result ≡ held_in c.index.result.now.held _ = c.held_after.ensures ∙ ap (held_in c.index.result.now.held) c.point-point.ensures in
+    let wrote : c.perform-done.new.memory ≡ words_after (whole_access p) ws = c.perform-done.ensures.words ∙ ap (λ (a : Access). words_after a ws) c.next.ensures in
+    let held : c.held_after.result ≡ held_after c.index.result.now.held (operation_of c.in-Calling.call) _ = c.held_after.ensures ∙ ap (held_after c.index.result.now.held (operation_of c.in-Calling.call)) c.decided-decided.ensures in
     (λ i. state_at l c.perform-done.new.memory c.perform-done.new.kernel (slice_set ts k (record { stage = c.stage_after.ensures i; held = held i })))
     ∙ step_state l ws c.perform-done.new.memory kernel c.perform-done.new.kernel ts k c.args.thread c.in-Calling.call p c.resume-progress.new.self c.index.result.now c.perform-done.result c.resume-progress.result
     (omega arith) at c.requires.threads c.requires.words awake
-    (thread_at-index ts k c.args.thread at ∙ sym read) c.in-Calling.is performs wrote c.resume-progress.ensures.row c.resume-progress.ensures.progress
+    (thread_at-index ts k c.args.thread at ∙ sym read) c.in-Calling.is performs wrote c.resume-progress.ensures.phase c.resume-progress.ensures.progress
 
 pub returns-clause-note : goal.returns-clause-note
 returns-clause-note c =
@@ -68,11 +68,11 @@ returns-clause-note c =
     let read : c.index.result.now ≡ slice_index_or ts k idle = grind (arith, common_steps) in
     let p = c.in-Calling.program in
     let awake : (key : ℕ) → stands_in c.args.thread (queue_of kernel key) ≡ false = λ key. outside c.args.thread (queue_of kernel key) (c.if-asleep.ensures.value key) in
-    let performs : Performs ws kernel c.perform-done.new.kernel c.args.thread (access_of p) c.perform-done.result =
+    let performs : Performs ws kernel c.perform-done.new.kernel c.args.thread (whole_access p) c.perform-done.result =
     subst (λ (a : Access). Performs ws kernel c.perform-done.new.kernel c.args.thread a c.perform-done.result) c.next.ensures c.perform-done.ensures.performs in
-    let wrote : c.perform-done.new.memory ≡ words_after (access_of p) ws = c.perform-done.ensures.words ∙ ap (λ (a : Access). words_after a ws) c.next.ensures in
-    let decision : c.decision.result ≡ decision_in c.args.thread c.in-Calling.call _ = c.decision.ensures ∙ ap (decision_in c.args.thread c.in-Calling.call) c.point-point.ensures in
-    (λ i. Stepped c.args.thread (decision i) (c.slept_on.ensures i) c.perform-done.result.woken (c.returned.ensures i))
+    let wrote : c.perform-done.new.memory ≡ words_after (whole_access p) ws = c.perform-done.ensures.words ∙ ap (λ (a : Access). words_after a ws) c.next.ensures in
+    let told : c.decision.result ≡ decision c.args.thread c.in-Calling.call _ = c.decision.ensures ∙ ap (decision c.args.thread c.in-Calling.call) c.decided-decided.ensures in
+    (λ i. Stepped c.args.thread (told i) (c.slept_on.ensures i) c.perform-done.result.woken (c.returned.ensures i))
     ∙ step_note l ws c.perform-done.new.memory kernel c.perform-done.new.kernel ts k c.args.thread c.in-Calling.call p c.resume-progress.new.self c.index.result.now c.perform-done.result c.resume-progress.result
     (omega arith) at c.requires.threads c.requires.words awake
-    (thread_at-index ts k c.args.thread at ∙ sym read) c.in-Calling.is performs wrote c.resume-progress.ensures.row c.resume-progress.ensures.progress
+    (thread_at-index ts k c.args.thread at ∙ sym read) c.in-Calling.is performs wrote c.resume-progress.ensures.phase c.resume-progress.ensures.progress

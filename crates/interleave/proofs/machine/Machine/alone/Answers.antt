@@ -1,6 +1,5 @@
 use Rattle.std.proofs.Common.{◌≡◌, ◌&&◌, ◌+◌, suc, [], ◌∙◌, ap, sym, arith}
 use Rattle.protocol.specs.declared.event.Event.TheVariants.{Step}
-use Rattle.protocol.specs.declared.note.Note.{Note}
 use Rattle.protocol.specs.Machine.{State, happens}
 use Rattle.protocol.specs.Sleepers.{alone}
 use Rattle.interleave.specs.Shown.{state_of}

@@ -1,6 +1,5 @@
-use Rattle.std.proofs.Common.{◌≡◌, ℕ, true, false, refl, ◌∙◌, ap, subst}
+use Rattle.std.proofs.Common.{◌≡◌, ℕ, true, false, refl, subst}
 use Rattle.std.specs.Prelude.{MatchBool}
-use Rattle.syscalls.specs.Kernels.{Kernel', IsAsleep, IsAwake}
 use Rattle.protocol.specs.Machine.{is_asleep, stands_in}
 use Rattle.interleave.specs.Shown.{Shown, state_of}
 use Rattle.interleave.proofs.Reaches.{sleeps_in_call}

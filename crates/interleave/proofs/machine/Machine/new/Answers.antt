@@ -1,6 +1,5 @@
-use Rattle.std.proofs.Common.{◌≡◌, ℕ, ◌∙◌, [], subst}
+use Rattle.std.proofs.Common.{◌∙◌, [], subst}
 use Rattle.syscalls.specs.Kernels.{IsIdle}
-use Rattle.interleave.specs.Shown.{Shown}
 use Rattle.interleave.proofs.Reaches.{state-first, reached_first, reached_goes_on}
 use Rattle.interleave.proofs.machine.Machine.new.Goals as goal
 

@@ -1,6 +1,6 @@
 use Rattle.std.proofs.Common.{◌<◌, ◌∙◌, ap, sym, subst, length}
 use Rattle.interleave.specs.Shown.{Shown}
-use Rattle.interleave.proofs.Reaches.{reached_preset, state_preset}
+use Rattle.interleave.proofs.Reaches.{reached_preset}
 use Rattle.interleave.proofs.machine.Machine.preset.Goals as goal
 
 pub invariant_of-self : goal.invariant_of-self

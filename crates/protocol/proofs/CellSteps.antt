@@ -1,0 +1,360 @@
+-- One access of a call at its mutex's cell.
+use Rattle.std.proofs.Common.{◌≡◌, ◌≢◌, inl, inr, ⊎_elim, ℕ, ◌+◌, ◌*◌, ◌%◌, ◌^◌, ◌<◌, ◌≤◌, ◌==◌, Bool, true, false, Option, Some, None, List, ◌∷◌, [], ◌++◌, refl, sym, ap, ◌∙◌, subst, arith, eqb-true}
+use Rattle.std.specs.Prelude.{if◌then◌else◌, nat_lt}
+use Rattle.std.proofs.lemmas.Bool.{eqb-false}
+use Rattle.lockword.specs.Cells.{Fields, fields_of, low_of}
+use Rattle.lockword.specs.declared.reply.Reply.{Reply}
+use Rattle.lockword.specs.declared.reply.Reply.TheVariants.{OK, EFAULT, EOWNERDEAD}
+use Rattle.keys.specs.declared.access.Access.{Access}
+use Rattle.keys.specs.declared.object.Object.{Object}
+use Rattle.keys.specs.declared.point.Operation.{Operation}
+use Rattle.keys.specs.declared.point.Operation.TheVariants as operation
+use Rattle.keys.specs.Accesses.{address_of, changed, answer_at, sleeps_at}
+use Rattle.keys.specs.Chains.{IsAmong, IsChainBothWays}
+use Rattle.keys.specs.Layouts.{head_place, entry_place, cell_place}
+use Rattle.keys.specs.Objects.{Run, object_of, fresh, acquires}
+use Rattle.robustlist.specs.Words.{Agree}
+use Rattle.robustlist.specs.declared.link.LinkRow.TheVariants as link
+use Rattle.robustlist.specs.LinkLaws as link_laws
+use Rattle.robustlist.proofs.Links as links
+use Rattle.mutex.specs.declared.call.Call.{Call}
+use Rattle.mutex.specs.declared.lock.LockRow.TheVariants as lock
+use Rattle.mutex.specs.declared.try_lock.TryLockRow.TheVariants as try
+use Rattle.mutex.specs.declared.unlock.UnlockRow.TheVariants as unlock
+use Rattle.mutex.specs.declared.consistent.ConsistentRow.TheVariants as consistent
+use Rattle.mutex.specs.declared.row.Row.{Row}
+use Rattle.mutex.specs.declared.row.Row.TheVariants.{Lock, TryLock, Unlock, Consistent}
+use Rattle.mutex.specs.declared.row.Row.TheVariants as row
+use Rattle.mutex.specs.declared.row.Led.{Led}
+use Rattle.mutex.specs.declared.phase.Phase.{Phase}
+use Rattle.mutex.specs.declared.phase.Phase.TheVariants.{AtCell}
+use Rattle.mutex.specs.declared.phase.Onward.{Onward}
+use Rattle.mutex.specs.Alone.{Alone, left}
+use Rattle.mutex.specs.Calls.{mutex_of, operation_of}
+use Rattle.mutex.specs.Laws.{Expects, Sound, points, decided, Joins, Right}
+use Rattle.mutex.specs.Rows.{Knows, IsGoing}
+use Rattle.mutex.specs.Standings.{Whole}
+use Rattle.mutex.specs.Programs.{row_access, row_operation, point_of, resume_of}
+use Rattle.mutex.specs.Whole.{after_cell, leaving, from_cell}
+use Rattle.mutex.proofs.Rights.{right}
+use Rattle.mutex.proofs.Alone.{alone}
+use Rattle.mutex.proofs.Steps.{at_cell}
+use Rattle.protocol.specs.declared.thread.Stage.TheVariants.{Calling}
+use Rattle.protocol.specs.Machine.{State, put, is_valid, answer_among, queue_after, stage_after, held_after}
+use Rattle.protocol.specs.Headline.{seen}
+use Rattle.protocol.proofs.Puts.{put-same, put-other}
+use Rattle.protocol.proofs.Objects.{IsCalled}
+use Rattle.protocol.proofs.Phases.{left_at, Moves, Change, Stays, Joins_it, Wakes, after_decided, after_answers, after_left, after_steady}
+use Rattle.protocol.proofs.Kept.{AtRow, Fits, Sits, left_out_in, Owned, ChainedIn, Listed, pending_in, pending_of, Kept}
+use Rattle.protocol.proofs.Places.{mine_is_no_cell, head_is_no_cell, list_is_mine, both_same, lies_apart}
+use Rattle.protocol.proofs.Steps.{alike, is_valid-cell, seen-inside, Tells, run_tells, called, same_operation, not_taken, same_held, onto, after}
+use Rattle.protocol.proofs.Owning.{Owning, owning, pends, takes, frees, keeps}
+use Rattle.protocol.proofs.Frames.{kept_where}
+use Rattle.protocol.proofs.Arrivals.{Arrives, sits_after, listed_after, pending_then}
+
+-- what an access does to the queue of its mutex
+change_row : (u t cell : ℕ) (r : Row) (w : ℕ) (q : List ℕ) → Change u (row_access t cell r) w (changed (row_access t cell r) w) q (queue_after u (row_access t cell r) w q)
+change_row u t cell (Lock lock.Load) w q = Stays refl refl refl
+change_row u t cell (Lock (lock.Take v)) w q = Stays refl refl refl
+change_row u t cell (Lock (lock.SetWaiters v)) w q = Stays refl refl refl
+change_row u t cell (Lock (lock.Sleep v)) w q = go (w % 2 ^ 32 == low_of v) refl
+  where
+    go : (b : Bool) → (w % 2 ^ 32 == low_of v) ≡ b → Change u (row_access t cell (Lock (lock.Sleep v))) w w q (queue_after u (row_access t cell (Lock (lock.Sleep v))) w q)
+    go true e = Joins_it e refl (ap (λ (b : Bool). if b then q ++ u ∷ [] else q) e)
+    go false e = Stays e refl (ap (λ (b : Bool). if b then q ++ u ∷ [] else q) e)
+change_row u t cell (Lock lock.WakeAll) w q = Wakes 64 (omega arith) refl refl refl
+change_row u t cell (TryLock try.Load) w q = Stays refl refl refl
+change_row u t cell (TryLock (try.Take v k)) w q = Stays refl refl refl
+change_row u t cell (Unlock unlock.Load) w q = Stays refl refl refl
+change_row u t cell (Unlock (unlock.Release d)) w q = Stays refl refl refl
+change_row u t cell (Unlock (unlock.Wake a)) w q = Wakes (if a then 64 else 1) (some a) refl refl refl
+  where
+    some : (b : Bool) → 1 ≤ (if b then 64 else 1)
+    some true = omega arith
+    some false = omega arith
+change_row u t cell (Consistent consistent.Load) w q = Stays refl refl refl
+change_row u t cell (Consistent consistent.Declare) w q = Stays refl refl refl
+change_row u t cell (row.Ended x) w q = Stays refl refl refl
+
+-- who falls asleep is in a lock that saw the word
+sleeper : (t cell : ℕ) (r : Row) (w : ℕ) → sleeps_at (row_access t cell r) w ≡ true → (v : Fields) × (r ≡ Lock (lock.Sleep v))
+sleeper t cell (Lock lock.Load) w e = absurd cc
+sleeper t cell (Lock (lock.Take v)) w e = absurd cc
+sleeper t cell (Lock (lock.SetWaiters v)) w e = absurd cc
+sleeper t cell (Lock (lock.Sleep v)) w e = (v, refl)
+sleeper t cell (Lock lock.WakeAll) w e = absurd cc
+sleeper t cell (TryLock try.Load) w e = absurd cc
+sleeper t cell (TryLock (try.Take v k)) w e = absurd cc
+sleeper t cell (Unlock unlock.Load) w e = absurd cc
+sleeper t cell (Unlock (unlock.Release d)) w e = absurd cc
+sleeper t cell (Unlock (unlock.Wake a)) w e = absurd cc
+sleeper t cell (Consistent consistent.Load) w e = absurd cc
+sleeper t cell (Consistent consistent.Declare) w e = absurd cc
+sleeper t cell (row.Ended x) w e = absurd cc
+
+-- an access of thread t's call at row r
+module _ (s : State) (t : ℕ) (c : Call) (p : Whole) (r : Row) (inv : Kept s) (pos : 1 ≤ t) (known : t ≤ s.layout.threads) (fits : Fits s t (s.threads t).held c (record p { phase = AtCell r })) where
+  abbrev whole : Whole
+  whole = record p { phase = AtCell r }
+
+  abbrev m : ℕ
+  m = mutex_of c
+
+  abbrev place : ℕ
+  place = cell_place s.layout m
+
+  abbrev a : Access
+  a = row_access p.thread p.cell r
+
+  abbrev w : ℕ
+  w = s.words place
+
+  abbrev w' : ℕ
+  w' = changed a w
+
+  abbrev q : List ℕ
+  q = s.queues place
+
+  abbrev l : Led
+  l = resume_of p.thread r (answer_at a w)
+
+  abbrev o : Onward
+  o = onto s t c whole
+
+  abbrev s' : State
+  s' = after s t c whole
+
+  abbrev at : AtRow t (s.threads t).held p.operation r (seen s m)
+  at = fits.stands
+
+  address : address_of a ≡ place
+  address = at_cell p.thread p.cell r ∙ fits.cell
+
+  pub valid : is_valid s.layout (address_of a) ≡ true
+  valid = ap (is_valid s.layout) address ∙ is_valid-cell s.layout m fits.inside
+
+  word_at : (x : ℕ) → s'.words x ≡ put s.words place w' x
+  word_at x = ap (λ (y : ℕ). put s.words y (changed a (s.words y)) x) address
+
+  word_here : s'.words place ≡ w'
+  word_here = word_at place ∙ put-same s.words place w'
+
+  pub word_there : (x : ℕ) → x ≢ place → s'.words x ≡ s.words x
+  word_there x apart = word_at x ∙ put-other s.words place w' x apart
+
+  queue_at : (key : ℕ) → s'.queues key ≡ put s.queues place (queue_after t a w q) key
+  queue_at key = ap (λ (y : ℕ). put s.queues y (queue_after t a (s.words y) (s.queues y)) key) address
+
+  queue_here : s'.queues place ≡ queue_after t a w q
+  queue_here = queue_at place ∙ put-same s.queues place (queue_after t a w q)
+
+  pub queue_there : (key : ℕ) → key ≢ place → s'.queues key ≡ s.queues key
+  queue_there key apart = queue_at key ∙ put-other s.queues place (queue_after t a w q) key apart
+
+  leads : o ≡ from_cell whole l
+  leads = ap (λ (y : ℕ). from_cell whole (resume_of p.thread r (answer_among a (s.words y) (s.queues y)))) address ∙ ap (from_cell whole) (alike p.thread p.cell r w q)
+
+  before : seen s m ≡ object_of (fields_of w)
+  before = seen-inside s m fits.inside
+
+  here : seen s' m ≡ object_of (fields_of w')
+  here = seen-inside s' m fits.inside ∙ ap (λ (v : ℕ). object_of (fields_of v)) word_here
+
+  pub cells_there : (k : ℕ) → k ≢ m → s'.words (cell_place s.layout k) ≡ s.words (cell_place s.layout k)
+  cells_there k apart = word_there (cell_place s.layout k) (λ e. apart (omega (arith, e)))
+
+  pub far : (k : ℕ) → k ≢ m → seen s' k ≡ seen s k
+  far k apart = ap (λ (v : ℕ). if nat_lt k s.layout.mutexes then object_of (fields_of v) else fresh) (cells_there k apart)
+
+  last : t ≤ 64
+  last = let most = inv.layout.threads.1 in omega arith
+
+  needs : Expects p.thread r (object_of (fields_of w))
+  needs = subst (λ (z : Object). Expects p.thread r z) before (subst (λ (u : ℕ). Expects u r (seen s m)) (sym fits.mine) at.expects)
+
+  al : Alone t r a l w w'
+  al = subst (λ (u : ℕ). Alone u r a l w w') fits.mine (alone p.thread p.cell w r (let is = fits.mine in omega arith) (let is = fits.mine in let most = last in omega arith) at.going at.knows needs)
+
+  rt : Right p.thread p.cell r l w w'
+  rt = right p.thread p.cell w r (let is = fits.mine in omega arith) (let is = fits.mine in let most = last in omega arith) at.going at.knows (subst Sound before (inv.sound m)) needs
+
+  tells_row : Tells t (seen s m) (row_operation r) l.point (seen s' m)
+  tells_row =
+      let run : Run (object_of (fields_of w)) (points (point_of t p.cell (row_operation r) l.point)) (object_of (fields_of w')) = subst (λ (u : ℕ). Run (object_of (fields_of w)) (points (point_of u p.cell (row_operation r) l.point)) (object_of (fields_of w'))) fits.mine rt.runs in
+      run_tells t p.cell (seen s m) (seen s' m) (row_operation r) l.point
+      (subst (λ (z : Object). Run z (points (point_of t p.cell (row_operation r) l.point)) (seen s' m)) (sym before) (subst (λ (n : Object). Run (object_of (fields_of w)) (points (point_of t p.cell (row_operation r) l.point)) n) (sym here) run))
+
+  same_op : row_operation r ≡ operation_of c
+  same_op = at.of ∙ fits.of
+
+  pub is_called : IsCalled (operation_of c)
+  is_called = subst IsCalled same_op (called r)
+
+  pub tells : Tells t (seen s m) (operation_of c) o.point (seen s' m)
+  tells = subst (λ (z : Operation × Option Reply). Tells t (seen s m) z.0 z.1 (seen s' m)) (λ i. (same_op i, (sym leads i).point)) tells_row
+
+  pub may_take : acquires (operation_of c) ≡ true → (s.threads t).held < 2048
+  may_take takes_one = at.room (ap acquires fits.of ∙ takes_one)
+
+  -- ---- beyond the object
+  moves_so : Moves t whole (from_cell whole l) w w'
+  moves_so = record {
+    joins = subst (Joins (decided r) l.point) (sym (after_decided whole l.row)) rt.tells;
+    waiters = al.waiters;
+    sleeps = al.sleeps;
+    fewer = λ e. let few = al.fewer e in let most = after_left whole l.row w' in let here : left_at (after_cell whole l.row) w' < 8 + 8 * left r w = omega arith in here;
+    answers = λ e free on. ⊎_elim (λ yes. inl (after_answers whole l.row yes)) inr (al.answers e free on);
+    steady = λ e was. after_steady t whole l.row w' (al.steady e was);
+  }
+
+  pub moves : Moves t whole o w (s'.words place)
+  moves = subst (λ (z : Onward × ℕ). Moves t whole z.0 w z.1) (λ i. (sym leads i, sym word_here i)) moves_so
+
+  -- ---- its thread, and its list
+  room : acquires p.operation ≡ true → (q : Row) → l.row ≡ q → IsGoing q → held_after (s.threads t).held (operation_of c) l.point < 2048
+  room took_one z is going =
+      let took : acquires (row_operation r) ≡ true = ap acquires at.of ∙ took_one in
+      let on : IsGoing l.row = subst IsGoing (sym is) going in
+      let same : row_operation l.row ≡ row_operation r = same_operation r l.row on rt.stays in
+      let as_before : held_after (s.threads t).held (row_operation r) l.point ≡ (s.threads t).held = same_held (decided r) l.point (decided l.row) (row_operation r) (s.threads t).held rt.tells took (λ z e. not_taken l.row z on (ap acquires same ∙ took) e) in
+      let now : held_after (s.threads t).held (operation_of c) l.point ≡ (s.threads t).held = ap (λ (op : Operation). held_after (s.threads t).held op l.point) (sym same_op) ∙ as_before in
+      let below = at.room took_one in omega arith
+
+  at_row : (q : Row) → l.row ≡ q → IsGoing q → AtRow t (held_after (s.threads t).held (operation_of c) l.point) p.operation q (seen s' m)
+  at_row z is going =
+      let on : IsGoing l.row = subst IsGoing (sym is) going in record {
+        going = going;
+        knows = subst Knows is rt.knows;
+        expects = subst (λ (v : Object). Expects t z v) (sym here) (subst (λ (u : ℕ). Expects u z (object_of (fields_of w'))) fits.mine (subst (λ (v : Row). Expects p.thread v (object_of (fields_of w'))) is rt.expects));
+        of = sym (ap row_operation is) ∙ same_operation r l.row on rt.stays ∙ at.of;
+        room = λ acq. room acq z is going;
+      }
+
+  owning_so : Owning m t r (after_cell whole l.row) (seen s m) (seen s' m)
+  owning_so = owning m t whole (seen s m) (seen s' m) p.thread p.cell w r at.going at.of rt.stays rt.tells tells_row
+
+  abbrev held' : ℕ
+  held' = held_after (s.threads t).held (operation_of c) l.point
+
+  linking : (op : Operation) (x : Reply) → Owning m t r (leaving whole op x) (seen s m) (seen s' m) → Arrives t held' whole (leaving whole op x) (seen s' m)
+  linking op EFAULT own = tt
+  linking operation.Lock OK (takes a b x y) = (refl, refl, tt, y)
+  linking operation.Lock OK (frees a b x) = absurd cc
+  linking operation.Lock OK (keeps a b x) = absurd cc
+  linking operation.Lock EOWNERDEAD (takes a b x y) = (refl, refl, tt, y)
+  linking operation.Lock EOWNERDEAD (frees a b x) = absurd cc
+  linking operation.Lock EOWNERDEAD (keeps a b x) = absurd cc
+  linking operation.Lock x own = tt
+  linking operation.TryLock OK (takes a b x y) = (refl, refl, tt, y)
+  linking operation.TryLock OK (frees a b x) = absurd cc
+  linking operation.TryLock OK (keeps a b x) = absurd cc
+  linking operation.TryLock EOWNERDEAD (takes a b x y) = (refl, refl, tt, y)
+  linking operation.TryLock EOWNERDEAD (frees a b x) = absurd cc
+  linking operation.TryLock EOWNERDEAD (keeps a b x) = absurd cc
+  linking operation.TryLock x own = tt
+  linking operation.Unlock OK own = tt
+  linking op x own = tt
+
+  arrives : (q : Row) → l.row ≡ q → Owning m t r (after_cell whole q) (seen s m) (seen s' m) → Arrives t held' whole (after_cell whole q) (seen s' m)
+  arrives (row.Ended x) is own = linking p.operation x own
+  arrives (Lock z) is own = at_row (Lock z) is tt
+  arrives (TryLock z) is own = at_row (TryLock z) is tt
+  arrives (Consistent z) is own = at_row (Consistent z) is tt
+  arrives (Unlock unlock.Load) is own = at_row (Unlock unlock.Load) is tt
+  arrives (Unlock (unlock.Release d)) is own = (at_row (Unlock (unlock.Release d)) is tt, tt)
+  arrives (Unlock (unlock.Wake d)) is own = at_row (Unlock (unlock.Wake d)) is tt
+
+  -- the entries are those of the mutexes that the thread owns now
+  module _ (es : List ℕ) (owned : Owned s t (left_out_in m (AtCell r)) es) where
+    entry_here : (f : Phase) → Owning m t r f (seen s m) (seen s' m) → (k : ℕ) → (seen s k).owner ≡ Some t → left_out_in m (AtCell r) ≢ Some k → ((seen s' k).owner ≡ Some t) × (left_out_in m f ≢ Some k)
+    entry_here f own k mine outside = go own (k == m) refl
+      where
+        go : Owning m t r f (seen s m) (seen s' m) → (b : Bool) → (k == m) ≡ b → ((seen s' k).owner ≡ Some t) × (left_out_in m f ≢ Some k)
+        go (takes x y free now) true e = absurd (cc (ap (λ (j : ℕ). (seen s j).owner) (eqb-true k m e), mine, free))
+        go (takes x y free now) false e = (ap (λ (z : Object). z.owner) (far k (eqb-false k m e)) ∙ mine, λ same. eqb-false k m e (sym (some_same m k (sym y ∙ same))))
+          where
+            some_same : (i j : ℕ) → Some i ≡ Some j → i ≡ j
+            some_same i j e = cc
+        go (frees x y now) true e = absurd (outside (x ∙ ap Some (sym (eqb-true k m e))))
+        go (frees x y now) false e = (ap (λ (z : Object). z.owner) (far k (eqb-false k m e)) ∙ mine, λ same. cc (y, same))
+        go (keeps x y now) true e = (ap (λ (j : ℕ). (seen s' j).owner) (eqb-true k m e) ∙ now ∙ sym (ap (λ (j : ℕ). (seen s j).owner) (eqb-true k m e)) ∙ mine, λ same. cc (y, same))
+        go (keeps x y now) false e = (ap (λ (z : Object). z.owner) (far k (eqb-false k m e)) ∙ mine, λ same. cc (y, same))
+
+    entry_before : (f : Phase) → Owning m t r f (seen s m) (seen s' m) → (k : ℕ) → (seen s' k).owner ≡ Some t → left_out_in m f ≢ Some k → ((seen s k).owner ≡ Some t) × (left_out_in m (AtCell r) ≢ Some k)
+    entry_before f own k mine outside = go own (k == m) refl
+      where
+        go : Owning m t r f (seen s m) (seen s' m) → (b : Bool) → (k == m) ≡ b → ((seen s k).owner ≡ Some t) × (left_out_in m (AtCell r) ≢ Some k)
+        go (takes x y free now) true e = absurd (outside (y ∙ ap Some (sym (eqb-true k m e))))
+        go (takes x y free now) false e = (sym (ap (λ (z : Object). z.owner) (far k (eqb-false k m e))) ∙ mine, λ same. cc (x, same))
+        go (frees x y now) true e = absurd (cc (ap (λ (j : ℕ). (seen s' j).owner) (eqb-true k m e), mine, now))
+        go (frees x y now) false e = (sym (ap (λ (z : Object). z.owner) (far k (eqb-false k m e))) ∙ mine, λ same. eqb-false k m e (sym (some_same m k (sym x ∙ same))))
+          where
+            some_same : (i j : ℕ) → Some i ≡ Some j → i ≡ j
+            some_same i j e = cc
+        go (keeps x y now) true e = (ap (λ (j : ℕ). (seen s j).owner) (eqb-true k m e) ∙ sym now ∙ sym (ap (λ (j : ℕ). (seen s' j).owner) (eqb-true k m e)) ∙ mine, λ same. cc (x, same))
+        go (keeps x y now) false e = (sym (ap (λ (z : Object). z.owner) (far k (eqb-false k m e))) ∙ mine, λ same. cc (x, same))
+
+    owned_after : (f : Phase) → Owning m t r f (seen s m) (seen s' m) → Owned s' t (left_out_in m f) es
+    owned_after f own = record {
+      entries = λ x among. let e = owned.entries x among in let now = entry_here f own e.0 e.3 e.4 in (e.0, e.1, e.2, now.0, now.1);
+      all = λ k below mine outside. let was = entry_before f own k mine outside in owned.all k below was.0 was.1;
+    }
+
+    agree : Agree (head_place t) es s.words s'.words
+    agree x on = word_there x (mine_is_no_cell s t x m pos known fits.inside (list_is_mine s t (left_out_in m (AtCell r)) es x inv.layout owned on))
+
+    module _ (ch : IsChainBothWays s.words (head_place t) es) where
+      still : IsChainBothWays s'.words (head_place t) es
+      still = both_same s.words s'.words (head_place t) es agree ch
+
+      -- a mutex that was free isn't on the list
+      apart_from_list : (seen s m).owner ≡ None → (x : ℕ) → IsAmong x es → (k : ℕ) × (k < s.layout.mutexes) × (x ≡ entry_place s.layout k) × (k ≢ m)
+      apart_from_list free x among = let e = owned.entries x among in (e.0, e.1, e.2, λ is. cc (sym e.3 ∙ ap (λ (j : ℕ). (seen s j).owner) is ∙ free))
+
+      begins_link : (f : Phase) → left_out_in m f ≡ Some m → Owning m t r f (seen s m) (seen s' m) → link_laws.Linking (head_place t) p.entry es link.LoadFirst s'.words
+      begins_link f out (takes x y free now) = links.right.begins (head_place t) p.entry es s'.words still (subst (λ (e : ℕ). link_laws.LiesApart (head_place t) e es) (sym fits.entry) (lies_apart s.layout t m es inv.layout pos known fits.inside (apart_from_list free)))
+      begins_link f out (frees x y now) = absurd (cc (out, y))
+      begins_link f out (keeps x y now) = absurd (cc (out, y))
+
+      chain_left : (op : Operation) (x : Reply) → Owning m t r (leaving whole op x) (seen s m) (seen s' m) → ChainedIn s'.words (head_place t) p.entry es (leaving whole op x)
+      chain_left op EFAULT own = still
+      chain_left operation.Lock OK own = begins_link _ refl own
+      chain_left operation.Lock EOWNERDEAD own = begins_link _ refl own
+      chain_left operation.Lock x own = still
+      chain_left operation.TryLock OK own = begins_link _ refl own
+      chain_left operation.TryLock EOWNERDEAD own = begins_link _ refl own
+      chain_left operation.TryLock x own = still
+      chain_left operation.Unlock OK own = still
+      chain_left op x own = still
+
+      chain_after : (q : Row) → Owning m t r (after_cell whole q) (seen s m) (seen s' m) → ChainedIn s'.words (head_place t) p.entry es (after_cell whole q)
+      chain_after (row.Ended x) own = chain_left p.operation x own
+      chain_after (Lock z) own = still
+      chain_after (TryLock z) own = still
+      chain_after (Consistent z) own = still
+      chain_after (Unlock unlock.Load) own = still
+      chain_after (Unlock (unlock.Release d)) own = still
+      chain_after (Unlock (unlock.Wake d)) own = still
+
+  pends_so : pending_in p.entry (after_cell whole l.row) ≡ pending_in p.entry (AtCell r)
+  pends_so = pends m t whole (seen s m) (seen s' m) p.thread p.cell w r at.going at.of rt.stays rt.tells tells_row
+
+  -- what holds of every state holds then
+  pub kept : (s.threads t).stage ≡ Calling c whole → Listed s t (Calling c whole) → Kept s'
+  kept is (es, owned, ch) =
+      kept_where s t c whole inv pos known fits.inside is_called far tells
+      (λ x e. may_take)
+      (λ u first most. word_there (head_place u + 1) (head_is_no_cell s.layout u m 1 first most (omega arith)))
+      (λ u x first most apart mine. word_there x (mine_is_no_cell s u x m first most fits.inside mine))
+      (subst (λ (z : Onward). Sits s' t (held_after (s.threads t).held (operation_of c) z.point) (stage_after c whole z.phase)) (sym leads) (sits_after s t c whole (s.threads t).held fits held' (after_cell whole l.row) (arrives l.row refl owning_so)))
+      (subst (λ (z : Onward). Listed s' t (stage_after c whole z.phase)) (sym leads) (listed_after s t c whole (s.threads t).held fits es (after_cell whole l.row) (owned_after es owned (after_cell whole l.row) owning_so) (chain_after es owned ch l.row owning_so)))
+      (subst (λ (z : Onward). s'.words (head_place t + 2) ≡ pending_of (stage_after c whole z.phase)) (sym leads) (word_there (head_place t + 2) (head_is_no_cell s.layout t m 2 pos known (omega arith)) ∙ (inv.heads t pos known).pending ∙ ap pending_of is ∙ sym pends_so ∙ pending_then c whole (after_cell whole l.row)))
+      (subst Sound (sym here) rt.sound)
+
+  pub change : Change t a w (s'.words place) q (s'.queues place)
+  change = subst (λ (z : ℕ × List ℕ). Change t a w z.0 q z.1) (λ i. (sym word_here i, sym queue_here i)) (change_row t p.thread p.cell r w q)
+
+  pub falls_asleep : sleeps_at a w ≡ true → (v : Fields) × (AtCell r ≡ AtCell (Lock (lock.Sleep v))) × (o.phase ≡ AtCell (Lock lock.Load))
+  falls_asleep e =
+      let row_is = sleeper p.thread p.cell r w e in
+      (row_is.0, ap AtCell row_is.1, ap (λ (z : Onward). z.phase) leads ∙ ap (λ (z : Row). after_cell whole (resume_of p.thread z (answer_at (row_access p.thread p.cell z) w)).row) row_is.1)

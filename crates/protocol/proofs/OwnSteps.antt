@@ -1,0 +1,496 @@
+-- One access of a call to its thread's own words: its head's, and the links of its mutexes.
+use Rattle.std.proofs.Common.{◌≡◌, ◌≢◌, ◌⊎◌, inl, inr, ℕ, ◌+◌, ◌*◌, ◌<◌, ◌≤◌, ◌==◌, Bool, true, false, Option, Some, None, List, ◌∷◌, refl, sym, ap, ◌∙◌, subst, arith, eqb-true}
+use Rattle.std.specs.Prelude.{if◌then◌else◌, nat_lt}
+use Rattle.std.proofs.lemmas.Bool.{eqb-false}
+use Rattle.std.proofs.lemmas.Bool.Decides.{nat_tests}
+use Rattle.lockword.specs.Cells.{fields_of}
+use Rattle.lockword.specs.declared.reply.Reply.{Reply}
+use Rattle.lockword.specs.declared.reply.Reply.TheVariants.{XRACED}
+use Rattle.keys.specs.declared.access.Access.{Access}
+use Rattle.keys.specs.declared.object.Object.{Object}
+use Rattle.keys.specs.Accesses.{address_of, changed, answer_at}
+use Rattle.keys.specs.Chains.{IsAmong, IsChainBothWays, AreDifferent, without, address_sum}
+use Rattle.keys.specs.Layouts.{head_place, entry_place, cell_place}
+use Rattle.keys.specs.Objects.{object_of, fresh}
+use Rattle.robustlist.specs.declared.link.LinkRow.{LinkRow}
+use Rattle.robustlist.specs.declared.link.LinkRow.TheVariants as link
+use Rattle.robustlist.specs.declared.unlink.UnlinkRow.{UnlinkRow}
+use Rattle.robustlist.specs.declared.unlink.UnlinkRow.TheVariants as unlink
+use Rattle.robustlist.specs.Standings.{LinkStanding, UnlinkStanding}
+use Rattle.robustlist.specs.Words.{Makes, answer_on}
+use Rattle.robustlist.specs.Link.{link_access, link_access_of, link_resume, link_moved, LinkGoes}
+use Rattle.robustlist.specs.Unlink.{unlink_access, unlink_access_of, unlink_resume, unlink_moved, UnlinkGoes}
+use Rattle.robustlist.specs.LinkLaws as link_laws
+use Rattle.robustlist.specs.UnlinkLaws as unlink_laws
+use Rattle.robustlist.proofs.Links as links
+use Rattle.robustlist.proofs.Unlinks as unlinks
+use Rattle.robustlist.proofs.Places.{entries-different, without-among}
+use Rattle.mutex.specs.declared.call.Call.{Call}
+use Rattle.mutex.specs.declared.unlock.UnlockRow.TheVariants.{Load, Release, Wake}
+use Rattle.mutex.specs.declared.row.Row.{Row}
+use Rattle.mutex.specs.declared.row.Row.TheVariants as row
+use Rattle.mutex.specs.declared.phase.Phase.{Phase}
+use Rattle.mutex.specs.declared.phase.Phase.TheVariants.{Announcing, Linking, Unlinking, Clearing}
+use Rattle.mutex.specs.declared.phase.Onward.{Onward}
+use Rattle.mutex.specs.Alone.{left}
+use Rattle.mutex.specs.Calls.{mutex_of, operation_of}
+use Rattle.mutex.specs.Laws.{Sound, decided, Joins}
+use Rattle.mutex.specs.Standings.{Whole}
+use Rattle.mutex.specs.Whole.{whole_access, phase_led, announced, linked_at, unlinked_at}
+use Rattle.protocol.specs.declared.thread.Stage.TheVariants.{Calling}
+use Rattle.protocol.specs.Machine.{State, put, is_valid, queue_after, held_after}
+use Rattle.protocol.specs.Headline.{seen}
+use Rattle.protocol.proofs.Puts.{by_put, put-same, put-other}
+use Rattle.protocol.proofs.Objects.{IsCalled}
+use Rattle.protocol.proofs.Phases.{decided_at, left_at, SteadyAt, Moves, Change, Stays, IsPlain, IsOwn, plain_answer, plain_queue, plain_awake, own_pointless, own_silent, joins_same, link_plain, unlink_plain}
+use Rattle.protocol.proofs.Kept.{AtRow, Fits, left_out_in, Owned, ChainedIn, Listed, IsAnnounced, pending_in, pending_of, Kept}
+use Rattle.protocol.proofs.Places.{IsMine, offset_is_nobodys, more_not_pending, mine_is_valid, mine_is_no_cell, mine_is_not_theirs, list_is_mine, list_not_pending, more_is_mine, both_same, among_without, without_is_apart, pending_is}
+use Rattle.protocol.proofs.Steps.{Tells, unmoved, onto, thread_after, after}
+use Rattle.protocol.proofs.Frames.{kept_where}
+use Rattle.protocol.proofs.Arrivals.{Arrives, sits_after, listed_after, pending_then}
+use Rattle.protocol.proofs.Stepping.{Stepping}
+
+-- an access of thread t's call to one of its own words
+module _ (s : State) (t : ℕ) (c : Call) (p : Whole) (inv : Kept s) (pos : 1 ≤ t) (known : t ≤ s.layout.threads) (fits : Fits s t (s.threads t).held c p) (called : IsCalled (operation_of c)) (own : IsOwn p.phase) (plain : IsPlain (whole_access p)) (mine : IsMine s t (address_of (whole_access p))) where
+  abbrev m : ℕ
+  m = mutex_of c
+
+  abbrev place : ℕ
+  place = cell_place s.layout m
+
+  abbrev a : Access
+  a = whole_access p
+
+  abbrev at : ℕ
+  at = address_of a
+
+  abbrev o : Onward
+  o = onto s t c p
+
+  abbrev s' : State
+  s' = after s t c p
+
+  pub own_valid : is_valid s.layout at ≡ true
+  own_valid = mine_is_valid s t at pos known mine
+
+  -- where it leads, by the word there
+  pub own_leads : o ≡ phase_led p p.phase (answer_at a (s.words at))
+  own_leads = ap (phase_led p p.phase) (plain_answer a (s.words at) (s.queues at) plain)
+
+  pub own_words : (x : ℕ) → x ≢ at → s'.words x ≡ s.words x
+  own_words x apart = put-other s.words at (changed a (s.words at)) x apart
+
+  pub own_queues : (key : ℕ) → s'.queues key ≡ s.queues key
+  own_queues key = by_put (λ z. z ≡ s.queues key) s.queues at (queue_after t a (s.words at) (s.queues at)) key (λ is. plain_queue t a (s.words at) (s.queues at) plain ∙ ap s.queues (sym is)) (λ apart. refl)
+
+  pub own_cells : (k : ℕ) → k < s.layout.mutexes → s'.words (cell_place s.layout k) ≡ s.words (cell_place s.layout k)
+  own_cells k inside = own_words (cell_place s.layout k) (λ e. mine_is_no_cell s t at k pos known inside mine (sym e))
+
+  pub own_seen : (k : ℕ) → seen s' k ≡ seen s k
+  own_seen k = go (nat_lt k s.layout.mutexes) refl
+    where
+      go : (b : Bool) → nat_lt k s.layout.mutexes ≡ b → (if b then object_of (fields_of (s'.words (cell_place s.layout k))) else fresh) ≡ (if b then object_of (fields_of (s.words (cell_place s.layout k))) else fresh)
+      go true e = ap (λ (v : ℕ). object_of (fields_of v)) (own_cells k (grind (arith, nat_tests)))
+      go false e = refl
+
+  pub own_no_point : o.point ≡ None
+  own_no_point = ap (λ (z : Onward). z.point) own_leads ∙ own_pointless p p.phase (answer_at a (s.words at)) own
+
+  pub own_tells : Tells t (seen s m) (operation_of c) o.point (seen s' m)
+  own_tells = subst (λ (x : Option Reply). Tells t (seen s m) (operation_of c) x (seen s' m)) (sym own_no_point) (own_seen m)
+
+  pub own_change : Change t a (s.words place) (s'.words place) (s.queues place) (s'.queues place)
+  own_change = Stays (plain_awake a (s.words place) plain).0 (plain_awake a (s.words place) plain).1 (own_queues place)
+
+  -- it knows the same of its mutex as before
+  pub own_moves : Joins (decided_at p.phase) None (decided_at o.phase) → left_at o.phase (s.words place) < left_at p.phase (s.words place) → (SteadyAt t p.phase (s.words place) → SteadyAt t o.phase (s.words place)) → Moves t p o (s.words place) (s'.words place)
+  own_moves joins fewer steady =
+      let same : s'.words place ≡ s.words place = own_cells m fits.inside in
+      subst (Moves t p o (s.words place)) (sym same) record {
+        joins = subst (λ (x : Option Reply). Joins (decided_at p.phase) x (decided_at o.phase)) (sym own_no_point) joins;
+        waiters = λ e. e;
+        sleeps = λ e. absurd (cc (e, (plain_awake a (s.words place) plain).0));
+        fewer = λ e. fewer;
+        answers = λ e free on. inr (own_silent p.phase own, refl);
+        steady = λ e was. steady was;
+      }
+
+  held_same : held_after (s.threads t).held (operation_of c) o.point ≡ (s.threads t).held
+  held_same = ap (held_after (s.threads t).held (operation_of c)) own_no_point ∙ unmoved (operation_of c) (s.threads t).held
+
+  -- what holds of every state holds then, where its thread arrives rightly
+  pub own_kept : (es : List ℕ) → Arrives t (s.threads t).held p o.phase (seen s m) → s'.words (head_place t + 2) ≡ pending_in p.entry o.phase → Owned s t (left_out_in m o.phase) es → ChainedIn s'.words (head_place t) p.entry es o.phase → Kept s'
+  own_kept es arrives pending owned ch =
+      kept_where s t c p inv pos known fits.inside called (λ k apart. own_seen k) own_tells
+      (λ x e takes. absurd (cc (e, own_no_point)))
+      (λ u first most. own_words (head_place u + 1) (offset_is_nobodys s t u at pos known first most mine))
+      (λ u x first most apart theirs. own_words x (mine_is_not_theirs s u t x at first most pos known (λ e. apart (sym e)) theirs mine))
+      (sits_after s t c p (s.threads t).held fits (thread_after s t c p).held o.phase (subst (λ (z : ℕ × Object). Arrives t z.0 p o.phase z.1) (λ i. (sym held_same i, sym (own_seen m) i)) arrives))
+      (listed_after s t c p (s.threads t).held fits es o.phase owned_then ch)
+      (pending ∙ pending_then c p o.phase)
+      (subst Sound (sym (own_seen m)) (inv.sound m))
+    where
+      owned_then : Owned s' t (left_out_in m o.phase) es
+      owned_then = record {
+        entries = λ x among. let e = owned.entries x among in (e.0, e.1, e.2, ap (λ (z : Object). z.owner) (own_seen e.0) ∙ e.3, e.4);
+        all = λ k below have outside. owned.all k below (sym (ap (λ (z : Object). z.owner) (own_seen k)) ∙ have) outside;
+      }
+
+-- ---- phase by phase
+
+-- what is left to show of an access of its own words
+record Lands (s : State) (t : ℕ) (c : Call) (p : Whole) : Type 0 where
+  joins : Joins (decided_at p.phase) None (decided_at (onto s t c p).phase)
+  fewer : left_at (onto s t c p).phase (s.words (cell_place s.layout (mutex_of c))) < left_at p.phase (s.words (cell_place s.layout (mutex_of c)))
+  steady : SteadyAt t p.phase (s.words (cell_place s.layout (mutex_of c))) → SteadyAt t (onto s t c p).phase (s.words (cell_place s.layout (mutex_of c)))
+  arrives : Arrives t (s.threads t).held p (onto s t c p).phase (seen s (mutex_of c))
+  pending : (after s t c p).words (head_place t + 2) ≡ pending_in p.entry (onto s t c p).phase
+  list : (es : List ℕ) × Owned s t (left_out_in (mutex_of c) (onto s t c p).phase) es × ChainedIn (after s t c p).words (head_place t) p.entry es (onto s t c p).phase
+
+goes_own : (s : State) (t : ℕ) (c : Call) (p : Whole) → Kept s → 1 ≤ t → t ≤ s.layout.threads → Fits s t (s.threads t).held c p → IsCalled (operation_of c) → IsOwn p.phase → IsPlain (whole_access p) → IsMine s t (address_of (whole_access p)) → Lands s t c p → Stepping s t c p
+goes_own s t c p inv pos known fits called own plain mine lands = record {
+  valid = own_valid s t c p inv pos known fits called own plain mine;
+  called = called;
+  kept = own_kept s t c p inv pos known fits called own plain mine lands.list.0 lands.arrives lands.pending lands.list.1 lands.list.2;
+  moves = own_moves s t c p inv pos known fits called own plain mine lands.joins lands.fewer lands.steady;
+  change = own_change s t c p inv pos known fits called own plain mine;
+  sleeper = λ e. absurd (cc (e, (plain_awake (whole_access p) (s.words (cell_place s.layout (mutex_of c))) plain).0));
+  tells = own_tells s t c p inv pos known fits called own plain mine;
+  room = λ x e takes. absurd (cc (e, own_no_point s t c p inv pos known fits called own plain mine));
+  far = λ k apart. own_seen s t c p inv pos known fits called own plain mine k;
+  cells = λ k inside apart. own_cells s t c p inv pos known fits called own plain mine k inside;
+  queues = λ key apart. own_queues s t c p inv pos known fits called own plain mine key;
+}
+
+-- a call whose phase has its object as it is
+module _ (s : State) (t : ℕ) (c : Call) (p : Whole) (inv : Kept s) (pos : 1 ≤ t) (known : t ≤ s.layout.threads) (called : IsCalled (operation_of c)) where
+  abbrev held : ℕ
+  held = (s.threads t).held
+
+  last : t ≤ 64
+  last = let most = inv.layout.threads.1 in omega arith
+
+  -- the pending word
+  pending_at : p.head ≡ head_place t → address_sum p.head 2 ≡ head_place t + 2
+  pending_at head = ap (λ (h : ℕ). address_sum h 2) head ∙ pending_is t last pos
+
+  -- a store to it
+  stored : (x : ℕ) → p.head ≡ head_place t → put s.words (address_sum p.head 2) x (head_place t + 2) ≡ x
+  stored x head = ap (λ (y : ℕ). put s.words (address_sum p.head 2) x y) (sym (pending_at head)) ∙ put-same s.words (address_sum p.head 2) x
+
+  -- leaves the list
+  pending_keeps : (out : Option ℕ) (es : List ℕ) (x : ℕ) → p.head ≡ head_place t → Owned s t out es → IsChainBothWays s.words (head_place t) es → IsChainBothWays (put s.words (address_sum p.head 2) x) (head_place t) es
+  pending_keeps out es x head owned ch = both_same s.words (put s.words (address_sum p.head 2) x) (head_place t) es (λ y on. put-other s.words (address_sum p.head 2) x y (λ e. list_not_pending s t out es y inv.layout pos known owned on (e ∙ pending_at head))) ch
+
+  -- ---- the entry is made pending
+  module _ (r : Row) (fits : Fits s t held c (record p { phase = Announcing r })) where
+    abbrev before : Whole
+    before = record p { phase = Announcing r }
+
+    announced_decided : (z : Row) → decided_at (announced before z) ≡ decided z
+    announced_decided (row.Unlock (Release d)) = refl
+    announced_decided (row.Unlock Load) = refl
+    announced_decided (row.Unlock (Wake a)) = refl
+    announced_decided (row.Lock z) = refl
+    announced_decided (row.TryLock z) = refl
+    announced_decided (row.Consistent z) = refl
+    announced_decided (row.Ended x) = refl
+
+    announced_left : (z : Row) (w : ℕ) → left_at (announced before z) w < 14 + 8 * left z w
+    announced_left (row.Unlock (Release d)) w = omega arith
+    announced_left (row.Unlock Load) w = omega arith
+    announced_left (row.Unlock (Wake a)) w = omega arith
+    announced_left (row.Lock z) w = let few : 8 + 8 * left (row.Lock z) w < 14 + 8 * left (row.Lock z) w = omega arith in few
+    announced_left (row.TryLock z) w = let few : 8 + 8 * left (row.TryLock z) w < 14 + 8 * left (row.TryLock z) w = omega arith in few
+    announced_left (row.Consistent z) w = let few : 8 + 8 * left (row.Consistent z) w < 14 + 8 * left (row.Consistent z) w = omega arith in few
+    announced_left (row.Ended x) w = omega arith
+
+    announced_steady : (z : Row) (w : ℕ) → SteadyAt t (Announcing z) w → SteadyAt t (announced before z) w
+    announced_steady (row.Unlock (Release d)) w was = tt
+    announced_steady (row.Unlock Load) w was = was
+    announced_steady (row.Unlock (Wake a)) w was = was
+    announced_steady (row.Lock z) w was = was
+    announced_steady (row.TryLock z) w was = was
+    announced_steady (row.Consistent z) w was = was
+    announced_steady (row.Ended x) w was = was
+
+    announced_pends : (z : Row) → IsAnnounced z → p.entry ≡ pending_in p.entry (announced before z)
+    announced_pends (row.Unlock (Release d)) is = refl
+    announced_pends (row.Unlock Load) is = absurd is
+    announced_pends (row.Unlock (Wake a)) is = absurd is
+    announced_pends (row.Lock z) is = refl
+    announced_pends (row.TryLock z) is = refl
+    announced_pends (row.Consistent z) is = absurd is
+    announced_pends (row.Ended x) is = absurd is
+
+    announced_arrives : (z : Row) → AtRow t held p.operation z (seen s (mutex_of c)) → Arrives t held before (announced before z) (seen s (mutex_of c))
+    announced_arrives (row.Unlock (Release d)) at = (refl, refl, tt, sym at.of, at.expects)
+    announced_arrives (row.Unlock Load) at = at
+    announced_arrives (row.Unlock (Wake a)) at = at
+    announced_arrives (row.Lock z) at = at
+    announced_arrives (row.TryLock z) at = at
+    announced_arrives (row.Consistent z) at = at
+    announced_arrives (row.Ended x) at = absurd at.going
+
+    abbrev new_words : ℕ → ℕ
+    new_words = (after s t c before).words
+
+    announced_list : (z : Row) (es : List ℕ) → AtRow t held p.operation z (seen s (mutex_of c)) → Owned s t None es → IsChainBothWays new_words (head_place t) es → Owned s t (left_out_in (mutex_of c) (announced before z)) es × ChainedIn new_words (head_place t) p.entry es (announced before z)
+    announced_list (row.Unlock (Release d)) es at owned ch =
+        let among : IsAmong (entry_place s.layout (mutex_of c)) es = owned.all (mutex_of c) fits.inside at.expects.0 (λ e. cc e) in
+        (owned, unlinks.right.begins (head_place t) p.entry es new_words ch (subst (λ e. IsAmong e es) (sym fits.entry) among))
+    announced_list (row.Unlock Load) es at owned ch = (owned, ch)
+    announced_list (row.Unlock (Wake a)) es at owned ch = (owned, ch)
+    announced_list (row.Lock z) es at owned ch = (owned, ch)
+    announced_list (row.TryLock z) es at owned ch = (owned, ch)
+    announced_list (row.Consistent z) es at owned ch = (owned, ch)
+    announced_list (row.Ended x) es at owned ch = absurd at.going
+
+    pub announcing : (s.threads t).stage ≡ Calling c before → Listed s t (Calling c before) → Stepping s t c before
+    announcing is (es, owned, ch) =
+        let list = announced_list r es fits.stands.0 owned (pending_keeps None es p.entry fits.head owned ch) in
+        goes_own s t c before inv pos known fits called tt tt (inr (inl (pending_at fits.head))) record {
+          joins = subst (Joins (decided r) None) (sym (announced_decided r)) (joins_same (decided r));
+          fewer = announced_left r (s.words (cell_place s.layout (mutex_of c)));
+          steady = announced_steady r (s.words (cell_place s.layout (mutex_of c)));
+          arrives = announced_arrives r fits.stands.0;
+          pending = stored p.entry fits.head ∙ announced_pends r fits.stands.1;
+          list = (es, list.0, list.1);
+        }
+
+  -- ---- the pending entry is cleared
+  pub clearing : (x : Reply) → Fits s t held c (record p { phase = Clearing x }) → (s.threads t).stage ≡ Calling c (record p { phase = Clearing x }) → Listed s t (Calling c (record p { phase = Clearing x })) → Stepping s t c (record p { phase = Clearing x })
+  clearing x fits is (es, owned, ch) =
+      goes_own s t c (record p { phase = Clearing x }) inv pos known fits called tt tt (inr (inl (pending_at fits.head))) record {
+        joins = (refl, refl);
+        fewer = omega arith;
+        steady = λ was. was;
+        arrives = tt;
+        pending = stored 0 fits.head;
+        list = (es, owned, pending_keeps None es 0 fits.head owned ch);
+      }
+
+  -- ---- the entry is put in front of the list
+  module _ (l : LinkStanding) (x : Reply) (fits : Fits s t held c (record p { phase = Linking l x })) (is_in : (s.threads t).stage ≡ Calling c (record p { phase = Linking l x })) where
+    abbrev linking_call : Whole
+    linking_call = record p { phase = Linking l x }
+
+    abbrev k : ℕ
+    k = mutex_of c
+
+    abbrev linked_words : ℕ → ℕ
+    linked_words = (after s t c linking_call).words
+
+    at_head : l.head ≡ head_place t
+    at_head = fits.stands.0 ∙ fits.head
+
+    at_entry : l.entry ≡ p.entry
+    at_entry = fits.stands.1
+
+    access_is : link_access_of l ≡ link_access (head_place t) p.entry l.row
+    access_is = λ i. link_access (at_head i) (at_entry i) l.row
+
+    abbrev found : ℕ
+    found = s.words (address_of (link_access_of l))
+
+    abbrev led_to : LinkRow
+    led_to = link_resume l.head l.row (answer_at (link_access_of l) found)
+
+    led_is : link_resume (head_place t) l.row (answer_on (link_access (head_place t) p.entry l.row) s.words) ≡ led_to
+    led_is = λ i. link_resume (sym at_head i) l.row (answer_on (sym access_is i) s.words)
+
+    module _ (es : List ℕ) (owned : Owned s t (Some k) es) (ch : link_laws.Linking (head_place t) p.entry es l.row s.words) where
+      link_mine : IsMine s t (address_of (link_access_of l))
+      link_mine = subst (λ a. IsMine s t (address_of a)) (sym access_is) (more_is_mine s t k (Some k) p.entry es _ inv.layout owned fits.inside fits.entry fits.stands.3 (links.near (head_place t) p.entry es l.row s.words ch))
+
+      link_pends : linked_words (head_place t + 2) ≡ p.entry
+      link_pends =
+          let on = links.near (head_place t) p.entry es l.row s.words ch in
+          let elsewhere : address_of (link_access (head_place t) p.entry l.row) ≢ head_place t + 2 = more_not_pending s t k (Some k) p.entry es _ inv.layout pos known owned fits.inside fits.entry on in
+          put-other s.words (address_of (link_access_of l)) (changed (link_access_of l) found) (head_place t + 2) (λ e. elsewhere (sym (ap address_of access_is) ∙ sym e)) ∙ (inv.heads t pos known).pending ∙ ap pending_of is_in
+
+      makes : Makes (link_access (head_place t) p.entry l.row) (head_place t) (p.entry ∷ es) s.words linked_words
+      makes = subst (λ a. Makes a (head_place t) (p.entry ∷ es) s.words linked_words) access_is record {
+        changes = put-same s.words (address_of (link_access_of l)) (changed (link_access_of l) found);
+        keeps = λ y on apart. put-other s.words (address_of (link_access_of l)) (changed (link_access_of l) found) y apart;
+      }
+
+      chain_then : link_laws.Linking (head_place t) p.entry es led_to linked_words
+      chain_then = subst (λ r. link_laws.Linking (head_place t) p.entry es r linked_words) led_is (links.right.steps (head_place t) p.entry es l.row s.words linked_words fits.stands.2 ch makes)
+
+      falls : link_laws.link_left led_to < link_laws.link_left l.row
+      falls = links.right.falls l.head l.row (answer_at (link_access_of l) found) fits.stands.2
+
+      abbrev moved : LinkStanding
+      moved = link_moved l (answer_at (link_access_of l) found)
+
+      owned_more : Owned s t None (p.entry ∷ es)
+      owned_more = record {
+        entries = λ y among. more y among;
+        all = λ j below own outside. with_it j below own;
+      }
+        where
+          more : (y : ℕ) → (y ≡ p.entry) ⊎ IsAmong y es → (j : ℕ) × (j < s.layout.mutexes) × (y ≡ entry_place s.layout j) × ((seen s j).owner ≡ Some t) × (None ≢ Some j)
+          more y (inl is) = (k, fits.inside, is ∙ fits.entry, fits.stands.3, λ e. cc e)
+          more y (inr among) = let e = owned.entries y among in (e.0, e.1, e.2, e.3, λ e. cc e)
+
+          with_it : (j : ℕ) → j < s.layout.mutexes → (seen s j).owner ≡ Some t → (entry_place s.layout j ≡ p.entry) ⊎ IsAmong (entry_place s.layout j) es
+          with_it j below own = go (j == k) refl
+            where
+              go : (b : Bool) → (j == k) ≡ b → (entry_place s.layout j ≡ p.entry) ⊎ IsAmong (entry_place s.layout j) es
+              go true e = inl (ap (entry_place s.layout) (eqb-true j k e) ∙ sym fits.entry)
+              go false e = inr (owned.all j below own (λ same. eqb-false j k e (some_same k j same)))
+                where
+                  some_same : (i j : ℕ) → Some i ≡ Some j → j ≡ i
+                  some_same i j e = cc
+
+      -- where it stands then
+      record Linked (f : Phase) : Type 0 where
+        joins : Joins (Some x) None (decided_at f)
+        fewer : left_at f (s.words (cell_place s.layout k)) < 2 + link_laws.link_left l.row
+        steady : x ≢ XRACED → SteadyAt t f (s.words (cell_place s.layout k))
+        arrives : Arrives t held linking_call f (seen s k)
+        pends : p.entry ≡ pending_in p.entry f
+        list : (ds : List ℕ) × Owned s t (left_out_in k f) ds × ChainedIn linked_words (head_place t) p.entry ds f
+
+      goes_on : (r : LinkRow) → led_to ≡ r → LinkGoes r → Linked (Linking moved x)
+      goes_on r is going = record {
+        joins = (refl, refl);
+        fewer = let few = falls in omega arith;
+        steady = λ was. was;
+        arrives = (fits.stands.0, fits.stands.1, subst LinkGoes (sym is) going, fits.stands.3);
+        pends = refl;
+        list = (es, owned, chain_then);
+      }
+
+      is_linked : (r : LinkRow) → led_to ≡ r → Linked (linked_at x moved r)
+      is_linked link.LoadFirst is = goes_on link.LoadFirst is tt
+      is_linked (link.StoreNext f) is = goes_on (link.StoreNext f) is tt
+      is_linked (link.StorePrevious f) is = goes_on (link.StorePrevious f) is tt
+      is_linked (link.StoreBehind f) is = goes_on (link.StoreBehind f) is tt
+      is_linked link.StoreFirst is = goes_on link.StoreFirst is tt
+      is_linked (link.Ended y) is =
+          let ends = links.right.ends (head_place t) p.entry es y linked_words (subst (λ r. link_laws.Linking (head_place t) p.entry es r linked_words) is chain_then) in
+          subst (λ (z : Reply). Linked (linked_at x moved (link.Ended z))) (sym ends.0) record {
+            joins = (refl, refl);
+            fewer = omega arith;
+            steady = λ was. was;
+            arrives = tt;
+            pends = refl;
+            list = (p.entry ∷ es, owned_more, ends.1);
+          }
+
+      pub linking_goes : Stepping s t c linking_call
+      linking_goes =
+          let plain : IsPlain (link_access_of l) = link_plain l.head l.entry l.row in
+          let leads : (onto s t c linking_call).phase ≡ linked_at x moved led_to = ap (λ (o : Onward). o.phase) (own_leads s t c linking_call inv pos known fits called tt plain link_mine) in
+          let there : Linked (onto s t c linking_call).phase = subst Linked (sym leads) (is_linked led_to refl) in
+          goes_own s t c linking_call inv pos known fits called tt plain link_mine record { joins = there.joins; fewer = there.fewer; steady = there.steady; arrives = there.arrives; pending = link_pends ∙ there.pends; list = there.list }
+
+  -- ---- the entry is taken out of the list
+  module _ (u : UnlinkStanding) (d : Bool) (fits : Fits s t held c (record p { phase = Unlinking u d })) (is_in : (s.threads t).stage ≡ Calling c (record p { phase = Unlinking u d })) where
+    abbrev unlinking_call : Whole
+    unlinking_call = record p { phase = Unlinking u d }
+
+    abbrev j : ℕ
+    j = mutex_of c
+
+    abbrev unlinked_words : ℕ → ℕ
+    unlinked_words = (after s t c unlinking_call).words
+
+    head_at : u.head ≡ head_place t
+    head_at = fits.stands.0 ∙ fits.head
+
+    entry_at : u.entry ≡ p.entry
+    entry_at = fits.stands.1
+
+    unlink_is : unlink_access_of u ≡ unlink_access (head_place t) p.entry u.row
+    unlink_is = λ i. unlink_access (head_at i) (entry_at i) u.row
+
+    abbrev met : ℕ
+    met = s.words (address_of (unlink_access_of u))
+
+    abbrev to_row : UnlinkRow
+    to_row = unlink_resume u.head u.row (answer_at (unlink_access_of u) met)
+
+    to_is : unlink_resume (head_place t) u.row (answer_on (unlink_access (head_place t) p.entry u.row) s.words) ≡ to_row
+    to_is = λ i. unlink_resume (sym head_at i) u.row (answer_on (sym unlink_is i) s.words)
+
+    module _ (es : List ℕ) (owned : Owned s t None es) (ch : unlink_laws.Unlinking (head_place t) p.entry es u.row s.words) where
+      unlink_mine : IsMine s t (address_of (unlink_access_of u))
+      unlink_mine = subst (λ a. IsMine s t (address_of a)) (sym unlink_is) (list_is_mine s t None es _ inv.layout owned (unlinks.near (head_place t) p.entry es u.row s.words ch))
+
+      unlink_pends : unlinked_words (head_place t + 2) ≡ p.entry
+      unlink_pends =
+          let on = unlinks.near (head_place t) p.entry es u.row s.words ch in
+          let elsewhere : address_of (unlink_access (head_place t) p.entry u.row) ≢ head_place t + 2 = list_not_pending s t None es _ inv.layout pos known owned on in
+          put-other s.words (address_of (unlink_access_of u)) (changed (unlink_access_of u) met) (head_place t + 2) (λ e. elsewhere (sym (ap address_of unlink_is) ∙ sym e)) ∙ (inv.heads t pos known).pending ∙ ap pending_of is_in
+
+      unlink_makes : Makes (unlink_access (head_place t) p.entry u.row) (head_place t) es s.words unlinked_words
+      unlink_makes = subst (λ a. Makes a (head_place t) es s.words unlinked_words) unlink_is record {
+        changes = put-same s.words (address_of (unlink_access_of u)) (changed (unlink_access_of u) met);
+        keeps = λ y on apart. put-other s.words (address_of (unlink_access_of u)) (changed (unlink_access_of u) met) y apart;
+      }
+
+      unlink_chain : unlink_laws.Unlinking (head_place t) p.entry es to_row unlinked_words
+      unlink_chain = subst (λ r. unlink_laws.Unlinking (head_place t) p.entry es r unlinked_words) to_is (unlinks.right.steps (head_place t) p.entry es u.row s.words unlinked_words fits.stands.2 ch unlink_makes)
+
+      unlink_falls : unlink_laws.unlink_left to_row < unlink_laws.unlink_left u.row
+      unlink_falls = unlinks.right.falls u.head u.row (answer_at (unlink_access_of u) met) fits.stands.2
+
+      abbrev unlink_to : UnlinkStanding
+      unlink_to = unlink_moved u (answer_at (unlink_access_of u) met)
+
+      different : AreDifferent es
+      different = (entries-different (head_place t) es ch.places).1
+
+      owned_less : Owned s t (Some j) (without p.entry es)
+      owned_less = record {
+        entries = λ y among. let e = owned.entries y (without-among p.entry y es among) in
+            (e.0, e.1, e.2, e.3, λ same. without_is_apart p.entry y es different among (e.2 ∙ ap (entry_place s.layout) (some_same j e.0 same) ∙ sym fits.entry));
+        all = λ i below own outside. among_without p.entry (entry_place s.layout i) es (owned.all i below own (λ e. cc e)) (λ same. outside (let place = same ∙ fits.entry in ap Some (omega (arith, place))));
+      }
+        where
+          some_same : (i k : ℕ) → Some i ≡ Some k → k ≡ i
+          some_same i k e = cc
+
+      record Unlinked (f : Phase) : Type 0 where
+        joins : Joins None None (decided_at f)
+        fewer : left_at f (s.words (cell_place s.layout j)) < 25 + unlink_laws.unlink_left u.row
+        steady : SteadyAt t f (s.words (cell_place s.layout j))
+        arrives : Arrives t held unlinking_call f (seen s j)
+        pends : p.entry ≡ pending_in p.entry f
+        list : (ds : List ℕ) × Owned s t (left_out_in j f) ds × ChainedIn unlinked_words (head_place t) p.entry ds f
+
+      unlink_on : (r : UnlinkRow) → to_row ≡ r → UnlinkGoes r → Unlinked (Unlinking unlink_to d)
+      unlink_on r is going = record {
+        joins = refl;
+        fewer = let few = unlink_falls in omega arith;
+        steady = tt;
+        arrives = (fits.stands.0, fits.stands.1, subst UnlinkGoes (sym is) going, fits.stands.3, fits.stands.4);
+        pends = refl;
+        list = (es, owned, unlink_chain);
+      }
+
+      is_unlinked : (r : UnlinkRow) → to_row ≡ r → Unlinked (unlinked_at unlink_to r d)
+      is_unlinked unlink.LoadNext is = unlink_on unlink.LoadNext is tt
+      is_unlinked (unlink.LoadPrevious n) is = unlink_on (unlink.LoadPrevious n) is tt
+      is_unlinked (unlink.StoreNext n q) is = unlink_on (unlink.StoreNext n q) is tt
+      is_unlinked (unlink.StorePrevious n q) is = unlink_on (unlink.StorePrevious n q) is tt
+      is_unlinked (unlink.Ended y) is =
+          let ends = unlinks.right.ends (head_place t) p.entry es y unlinked_words (subst (λ r. unlink_laws.Unlinking (head_place t) p.entry es r unlinked_words) is unlink_chain) in
+          subst (λ (z : Reply). Unlinked (unlinked_at unlink_to (unlink.Ended z) d)) (sym ends.0) record {
+            joins = refl;
+            fewer = omega arith;
+            steady = tt;
+            arrives = record { going = tt; knows = tt; expects = fits.stands.4; of = sym fits.stands.3; room = λ takes. absurd (cc (takes, fits.stands.3)) };
+            pends = refl;
+            list = (without p.entry es, owned_less, ends.1);
+          }
+
+      pub unlinking_goes : Stepping s t c unlinking_call
+      unlinking_goes =
+          let plain : IsPlain (unlink_access_of u) = unlink_plain u.head u.entry u.row in
+          let leads : (onto s t c unlinking_call).phase ≡ unlinked_at unlink_to to_row d = ap (λ (o : Onward). o.phase) (own_leads s t c unlinking_call inv pos known fits called tt plain unlink_mine) in
+          let there : Unlinked (onto s t c unlinking_call).phase = subst Unlinked (sym leads) (is_unlinked to_row refl) in
+          goes_own s t c unlinking_call inv pos known fits called tt plain unlink_mine record { joins = there.joins; fewer = there.fewer; steady = λ was. there.steady; arrives = there.arrives; pending = unlink_pends ∙ there.pends; list = there.list }

@@ -1,0 +1,21 @@
+-- What the kernel would find of each thread, were it to die now (get_robust_list(2); robust-futexes, its ABI document).
+use Rattle.std.specs.Prelude.{ℕ, ◌≡◌, ◌+◌, ◌<◌, ◌≤◌, ◌⊎◌, Some, List, length}
+use Rattle.keys.specs.Chains.{IsAmong, IsChain}
+use Rattle.keys.specs.Layouts.{Layout', IsLayout, head_place, entry_place}
+use Rattle.protocol.specs.declared.event.Event.{Event}
+use Rattle.protocol.specs.Machine.{State, start, run}
+use Rattle.protocol.specs.Headline.{seen}
+
+-- from thread t's head next words lead over some entries, all different, and back: each is that of a mutex that t owns; and each mutex that t owns is one of them, or the pending one. They are 2,048
+-- at most, and cells are where the offset says
+pub record HasList (s : State) (t : ℕ) : Type 0 where
+  pub entries : List ℕ
+  pub chain : IsChain s.words (head_place t) entries
+  pub few : length entries ≤ 2048
+  pub owned : (e : ℕ) → IsAmong e entries → (m : ℕ) × (m < s.layout.mutexes) × (e ≡ entry_place s.layout m) × ((seen s m).owner ≡ Some t)
+  pub all : (m : ℕ) → m < s.layout.mutexes → (seen s m).owner ≡ Some t → IsAmong (entry_place s.layout m) entries ⊎ (s.words (head_place t + 2) ≡ entry_place s.layout m)
+  pub offset : s.words (head_place t + 1) ≡ 18446744073709551615
+
+-- whatever happens, with any values of the counters at the beginning
+abbrev pub ListsAreKept : Type 0
+ListsAreKept = (l : Layout') (counters : ℕ → ℕ) (events : List Event) → IsLayout l → (t : ℕ) → 1 ≤ t → t ≤ l.threads → HasList (run (start l counters) events) t
