@@ -61,7 +61,7 @@ few t (suc n) f = let before = few t n f in grind (arith, nat_tests)
 
 -- a call that stands in a phase is under way, and knows what the phase needs
 on_the_way : (t held : ℕ) (p : Whole) (f : Phase) (o : Object) → InPhase t held p f o → IsUnderWay f × PhaseKnows f
-on_the_way t held p (Announcing r) o h = (tt, (h.going, h.knows))
+on_the_way t held p (Announcing r) o h = (tt, (h.0.going, h.0.knows))
 on_the_way t held p (AtCell r) o h = (tt, (h.going, h.knows))
 on_the_way t held p (Linking l x) o h = (tt, h.2)
 on_the_way t held p (Unlinking u d) o h = (tt, h.2)
