@@ -2,5 +2,5 @@ pub mod Treatments
 pub mod Alone
 pub mod Ends
 mod Asks
-mod Steps
+pub mod Steps
 mod Lists

@@ -1,16 +1,18 @@
 -- One access of a call, in whatever phase it is.
-use Rattle.std.proofs.Common.{◌≡◌, ℕ, ◌≤◌, subst}
+use Rattle.std.proofs.Common.{◌≡◌, ℕ, ◌+◌, ◌≤◌, subst, arith}
+use Rattle.keys.specs.Layouts.{head_place}
 use Rattle.mutex.specs.declared.call.Call.{Call}
 use Rattle.mutex.specs.declared.call.Call.TheVariants as call
 use Rattle.mutex.specs.declared.phase.Phase.{Phase}
 use Rattle.mutex.specs.declared.phase.Phase.TheVariants.{Announcing, AtCell, Linking, Unlinking, Clearing, Ended}
-use Rattle.mutex.specs.Calls.{operation_of}
+use Rattle.mutex.specs.Calls.{mutex_of, operation_of}
 use Rattle.mutex.specs.Standings.{Whole}
 use Rattle.protocol.specs.declared.thread.Stage.{Stage}
 use Rattle.protocol.specs.declared.thread.Stage.TheVariants.{Calling}
 use Rattle.protocol.specs.Machine.{State}
 use Rattle.protocol.proofs.Objects.{IsCalled}
 use Rattle.protocol.proofs.Kept.{Fits, Sits, Listed, Kept}
+use Rattle.protocol.proofs.Places.{head_is_no_cell}
 use Rattle.protocol.proofs.Stepping.{Stepping}
 use Rattle.protocol.proofs.CellSteps as cell
 use Rattle.protocol.proofs.OwnSteps.{announcing, clearing, linking_goes, unlinking_goes}
@@ -35,6 +37,7 @@ by_phase s t c p (AtCell r) inv pos known is fits listed = record {
   room = λ x e. cell.may_take s t c p r inv pos known fits;
   far = cell.far s t c p r inv pos known fits;
   cells = λ k inside apart. cell.cells_there s t c p r inv pos known fits k apart;
+  pendings = λ u first most apart. cell.word_there s t c p r inv pos known fits (head_place u + 2) (head_is_no_cell s.layout u (mutex_of c) 2 first most (omega arith));
   queues = cell.queue_there s t c p r inv pos known fits;
 }
 by_phase s t c p (Linking l x) inv pos known is fits (es, owned, ch) = linking_goes s t c p inv pos known (call_is_called c) l x fits is es owned ch

@@ -1,5 +1,5 @@
 -- Where a step leads its own thread: to a phase in which it stands rightly, with its list as that phase has it.
-use Rattle.std.proofs.Common.{◌≡◌, ℕ, List, refl}
+use Rattle.std.proofs.Common.{◌≡◌, ℕ, List}
 use Rattle.keys.specs.declared.object.Object.{Object}
 use Rattle.keys.specs.Layouts.{head_place}
 use Rattle.mutex.specs.declared.call.Call.{Call}
@@ -9,7 +9,7 @@ use Rattle.mutex.specs.Calls.{mutex_of}
 use Rattle.mutex.specs.Standings.{Whole}
 use Rattle.protocol.specs.Machine.{State, stage_after}
 use Rattle.protocol.specs.Headline.{seen}
-use Rattle.protocol.proofs.Kept.{InPhase, Fits, Sits, left_out_in, Owned, ChainedIn, Listed, pending_in, pending_of}
+use Rattle.protocol.proofs.Kept.{InPhase, Fits, Sits, left_out_in, Owned, ChainedIn, Listed, pending_in, PendsAs}
 use Rattle.protocol.proofs.Steps.{after}
 
 -- the call has returned, or stands there rightly
@@ -47,10 +47,10 @@ module _ (s : State) (t : ℕ) (c : Call) (p : Whole) (h : ℕ) (fits : Fits s t
   listed_after es (Clearing x) owned ch = (es, owned, ch)
 
 -- its pending entry is that of its phase
-pub pending_then : (c : Call) (p : Whole) (f : Phase) → pending_in p.entry f ≡ pending_of (stage_after c p f)
-pending_then c p (Ended x) = refl
-pending_then c p (Announcing r) = refl
-pending_then c p (AtCell r) = refl
-pending_then c p (Linking l x) = refl
-pending_then c p (Unlinking u d) = refl
-pending_then c p (Clearing x) = refl
+pub pending_then : (c : Call) (p : Whole) (f : Phase) (w : ℕ) → w ≡ pending_in p.entry f → PendsAs w (stage_after c p f)
+pending_then c p (Ended x) w is = is
+pending_then c p (Announcing r) w is = is
+pending_then c p (AtCell r) w is = is
+pending_then c p (Linking l x) w is = is
+pending_then c p (Unlinking u d) w is = is
+pending_then c p (Clearing x) w is = is

@@ -1,8 +1,8 @@
 -- One access of a call at its mutex's cell.
-use Rattle.std.proofs.Common.{◌≡◌, ◌≢◌, inl, inr, ⊎_elim, ℕ, ◌+◌, ◌*◌, ◌%◌, ◌^◌, ◌<◌, ◌≤◌, ◌==◌, Bool, true, false, Option, Some, None, List, ◌∷◌, [], ◌++◌, refl, sym, ap, ◌∙◌, subst, arith, eqb-true}
+use Rattle.std.proofs.Common.{◌≡◌, ◌≢◌, inl, inr, ⊎_elim, ℕ, zero, suc, ◌+◌, ◌*◌, ◌%◌, ◌^◌, ◌<◌, ◌≤◌, ◌==◌, Bool, true, false, Option, Some, None, List, ◌∷◌, [], ◌++◌, refl, sym, ap, ◌∙◌, subst, arith, eqb-true}
 use Rattle.std.specs.Prelude.{if◌then◌else◌, nat_lt}
 use Rattle.std.proofs.lemmas.Bool.{eqb-false}
-use Rattle.lockword.specs.Cells.{Fields, fields_of, low_of}
+use Rattle.lockword.specs.Cells.{Fields, fields_of, word_of, low_of, taken, waiting}
 use Rattle.lockword.specs.declared.reply.Reply.{Reply}
 use Rattle.lockword.specs.declared.reply.Reply.TheVariants.{OK, EFAULT, EOWNERDEAD}
 use Rattle.keys.specs.declared.access.Access.{Access}
@@ -12,7 +12,9 @@ use Rattle.keys.specs.declared.point.Operation.TheVariants as operation
 use Rattle.keys.specs.Accesses.{address_of, changed, answer_at, sleeps_at}
 use Rattle.keys.specs.Chains.{IsAmong, IsChainBothWays}
 use Rattle.keys.specs.Layouts.{head_place, entry_place, cell_place}
-use Rattle.keys.specs.Objects.{Run, object_of, fresh, acquires}
+use Rattle.keys.specs.Objects.{Run, object_of, owner_of, fresh, acquires}
+use Rattle.keys.proofs.Owners.{owner_of-some}
+use Rattle.lockword.specs.Coding.{fields_of-word_of}
 use Rattle.robustlist.specs.Words.{Agree}
 use Rattle.robustlist.specs.declared.link.LinkRow.TheVariants as link
 use Rattle.robustlist.specs.LinkLaws as link_laws
@@ -45,11 +47,11 @@ use Rattle.protocol.specs.Headline.{seen}
 use Rattle.protocol.proofs.Puts.{put-same, put-other}
 use Rattle.protocol.proofs.Objects.{IsCalled}
 use Rattle.protocol.proofs.Phases.{left_at, Moves, Change, Stays, Joins_it, Wakes, after_decided, after_answers, after_left, after_steady}
-use Rattle.protocol.proofs.Kept.{AtRow, Fits, Sits, left_out_in, Owned, ChainedIn, Listed, pending_in, pending_of, Kept}
+use Rattle.protocol.proofs.Kept.{AtRow, Fits, Sits, left_out_in, Owned, ChainedIn, Listed, pending_in, PendsAs, Kept}
 use Rattle.protocol.proofs.Places.{mine_is_no_cell, head_is_no_cell, list_is_mine, both_same, lies_apart}
-use Rattle.protocol.proofs.Steps.{alike, is_valid-cell, seen-inside, Tells, run_tells, called, same_operation, not_taken, same_held, onto, after}
+use Rattle.protocol.proofs.Steps.{alike, is_valid-cell, seen-inside, Tells, run_tells, called, same_operation, not_taken, same_held, onto, thread_after, after}
 use Rattle.protocol.proofs.Owning.{Owning, owning, pends, takes, frees, keeps}
-use Rattle.protocol.proofs.Frames.{kept_where}
+use Rattle.protocol.proofs.Frames.{OnlyWaitsFrom, kept_where}
 use Rattle.protocol.proofs.Arrivals.{Arrives, sits_after, listed_after, pending_then}
 
 -- what an access does to the queue of its mutex
@@ -91,6 +93,43 @@ sleeper t cell (Unlock (unlock.Wake a)) w e = absurd cc
 sleeper t cell (Consistent consistent.Load) w e = absurd cc
 sleeper t cell (Consistent consistent.Declare) w e = absurd cc
 sleeper t cell (row.Ended x) w e = absurd cc
+
+-- an owner is one
+owned_by_one : (u t : ℕ) → Some u ≡ Some t → u ≡ t
+owned_by_one u t e = cc
+
+-- an owner field of an id
+owner_is : (n u : ℕ) → owner_of n ≡ Some u → n ≡ u
+owner_is zero u e = absurd cc
+owner_is (suc n) u e = owned_by_one (suc n) u e
+
+-- a mutex that another owns has WAITERS set in its cell, at most
+waits_row : (t cell u w : ℕ) (r : Row) → 1 ≤ u → u ≢ t → Knows r → Expects t r (object_of (fields_of w)) → (fields_of w).owner ≡ u → OnlyWaitsFrom w (changed (row_access t cell r) w)
+waits_row t cell u w (Lock lock.Load) first apart knows expects owner = inl refl
+waits_row t cell u w (Lock (lock.Take v)) first apart knows expects owner = go (w == word_of v) refl
+  where
+    go : (b : Bool) → (w == word_of v) ≡ b → OnlyWaitsFrom w (if b then word_of (taken v t) else w)
+    go true e = absurd (let same : (fields_of w).owner ≡ v.owner = ap (λ (c : Fields). c.owner) (ap fields_of (eqb-true w (word_of v) e) ∙ fields_of-word_of v (let free = knows.0 in omega arith)) in let free = knows.0 in omega arith)
+    go false e = inl refl
+waits_row t cell u w (Lock (lock.SetWaiters v)) first apart knows expects owner = go (w == word_of v) refl
+  where
+    go : (b : Bool) → (w == word_of v) ≡ b → OnlyWaitsFrom w (if b then word_of (waiting v) else w)
+    go true e = inr (ap (λ (c : Fields). word_of (waiting c)) (sym (ap fields_of (eqb-true w (word_of v) e) ∙ fields_of-word_of v knows.1)))
+    go false e = inl refl
+waits_row t cell u w (Lock (lock.Sleep v)) first apart knows expects owner = inl refl
+waits_row t cell u w (Lock lock.WakeAll) first apart knows expects owner = inl refl
+waits_row t cell u w (TryLock try.Load) first apart knows expects owner = inl refl
+waits_row t cell u w (TryLock (try.Take v n)) first apart knows expects owner = go (w == word_of v) refl
+  where
+    go : (b : Bool) → (w == word_of v) ≡ b → OnlyWaitsFrom w (if b then word_of (taken v t) else w)
+    go true e = absurd (let same : (fields_of w).owner ≡ v.owner = ap (λ (c : Fields). c.owner) (ap fields_of (eqb-true w (word_of v) e) ∙ fields_of-word_of v (let free = knows.0 in omega arith)) in let free = knows.0 in omega arith)
+    go false e = inl refl
+waits_row t cell u w (Unlock unlock.Load) first apart knows expects owner = inl refl
+waits_row t cell u w (Unlock (unlock.Release d)) first apart knows expects owner = absurd (apart (owned_by_one u t (sym (ap owner_of owner ∙ owner_of-some u first) ∙ expects.0)))
+waits_row t cell u w (Unlock (unlock.Wake a)) first apart knows expects owner = inl refl
+waits_row t cell u w (Consistent consistent.Load) first apart knows expects owner = inl refl
+waits_row t cell u w (Consistent consistent.Declare) first apart knows expects owner = absurd (apart (owned_by_one u t (sym (ap owner_of owner ∙ owner_of-some u first) ∙ expects.0)))
+waits_row t cell u w (row.Ended x) first apart knows expects owner = inl refl
 
 -- an access of thread t's call at row r
 module _ (s : State) (t : ℕ) (c : Call) (p : Whole) (r : Row) (inv : Kept s) (pos : 1 ≤ t) (known : t ≤ s.layout.threads) (fits : Fits s t (s.threads t).held c (record p { phase = AtCell r })) where
@@ -339,16 +378,28 @@ module _ (s : State) (t : ℕ) (c : Call) (p : Whole) (r : Row) (inv : Kept s) (
   pends_so : pending_in p.entry (after_cell whole l.row) ≡ pending_in p.entry (AtCell r)
   pends_so = pends m t whole (seen s m) (seen s' m) p.thread p.cell w r at.going at.of rt.stays rt.tells tells_row
 
+  waits_so : (u k : ℕ) → 1 ≤ u → u ≤ s.layout.threads → t ≢ u → k < s.layout.mutexes → (seen s k).owner ≡ Some u → OnlyWaitsFrom (s.words (cell_place s.layout k)) (s'.words (cell_place s.layout k))
+  waits_so u k first most apart inside own = go (k == m) refl
+    where
+      go : (b : Bool) → (k == m) ≡ b → OnlyWaitsFrom (s.words (cell_place s.layout k)) (s'.words (cell_place s.layout k))
+      go true e =
+          let is : k ≡ m = eqb-true k m e in
+          let mine : (fields_of w).owner ≡ u = owner_is (fields_of w).owner u (sym (ap (λ (z : Object). z.owner) before) ∙ sym (ap (λ (j : ℕ). (seen s j).owner) is) ∙ own) in
+          subst (λ (j : ℕ). OnlyWaitsFrom (s.words (cell_place s.layout j)) (s'.words (cell_place s.layout j))) (sym is)
+          (subst (OnlyWaitsFrom w) (sym word_here) (waits_row p.thread p.cell u w r first (λ same. apart (sym (same ∙ fits.mine))) at.knows needs mine))
+      go false e = inl (cells_there k (eqb-false k m e))
+
   -- what holds of every state holds then
   pub kept : (s.threads t).stage ≡ Calling c whole → Listed s t (Calling c whole) → Kept s'
   kept is (es, owned, ch) =
-      kept_where s t c whole inv pos known fits.inside is_called far tells
+      kept_where s t m a (thread_after s t c whole) (operation_of c) o.point inv pos known fits.inside is_called far tells refl
       (λ x e. may_take)
       (λ u first most. word_there (head_place u + 1) (head_is_no_cell s.layout u m 1 first most (omega arith)))
       (λ u x first most apart mine. word_there x (mine_is_no_cell s u x m first most fits.inside mine))
+      waits_so
       (subst (λ (z : Onward). Sits s' t (held_after (s.threads t).held (operation_of c) z.point) (stage_after c whole z.phase)) (sym leads) (sits_after s t c whole (s.threads t).held fits held' (after_cell whole l.row) (arrives l.row refl owning_so)))
       (subst (λ (z : Onward). Listed s' t (stage_after c whole z.phase)) (sym leads) (listed_after s t c whole (s.threads t).held fits es (after_cell whole l.row) (owned_after es owned (after_cell whole l.row) owning_so) (chain_after es owned ch l.row owning_so)))
-      (subst (λ (z : Onward). s'.words (head_place t + 2) ≡ pending_of (stage_after c whole z.phase)) (sym leads) (word_there (head_place t + 2) (head_is_no_cell s.layout t m 2 pos known (omega arith)) ∙ (inv.heads t pos known).pending ∙ ap pending_of is ∙ sym pends_so ∙ pending_then c whole (after_cell whole l.row)))
+      (subst (λ (z : Onward). PendsAs (s'.words (head_place t + 2)) (stage_after c whole z.phase)) (sym leads) (pending_then c whole (after_cell whole l.row) (s'.words (head_place t + 2)) (word_there (head_place t + 2) (head_is_no_cell s.layout t m 2 pos known (omega arith)) ∙ subst (PendsAs (s.words (head_place t + 2))) is (inv.heads t pos known).pending ∙ sym pends_so)))
       (subst Sound (sym here) rt.sound)
 
   pub change : Change t a w (s'.words place) q (s'.queues place)

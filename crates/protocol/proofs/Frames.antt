@@ -1,6 +1,20 @@
 -- What one access of a thread leaves of the others, and of the mutexes' owners.
-use Rattle.std.proofs.Common.{◌≡◌, ◌≢◌, inl, inr, ⊎_elim, ℕ, ◌+◌, ◌<◌, ◌≤◌, ◌==◌, Bool, true, false, Option, Some, None, List, ◌∷◌, refl, sym, ap, ◌∙◌, subst, arith, eqb-true}
+use Rattle.std.proofs.Common.{◌≡◌, ◌≢◌, ◌⊎◌, inl, inr, ⊎_elim, ℕ, ◌+◌, ◌<◌, ◌≤◌, ◌==◌, Bool, true, false, Option, Some, None, List, ◌∷◌, refl, sym, ap, ◌∙◌, subst, arith, eqb-true}
 use Rattle.std.proofs.lemmas.Bool.{eqb-false}
+use Rattle.lockword.specs.Cells.{Fields, fields_of, word_of, waiting}
+use Rattle.lockword.specs.Coding.{fields_of-word_of}
+use Rattle.keys.specs.Objects.{owner_of}
+use Rattle.keys.proofs.Owners.{owner_of-some}
+use Rattle.keys.specs.declared.access.Access.{Access}
+use Rattle.exitwalk.specs.declared.row.Row as walk_row
+use Rattle.exitwalk.specs.declared.row.Rest as walk_rest
+use Rattle.exitwalk.specs.declared.row.Part as walk_part
+use Rattle.exitwalk.specs.declared.row.Row.TheVariants as walk
+use Rattle.exitwalk.specs.declared.row.Part.TheVariants as part
+use Rattle.exitwalk.specs.Standings as walks
+use Rattle.exitwalk.specs.Walks as exit
+use Rattle.exitwalk.specs.Steps.{OnlyWaits, waiting_word}
+use Rattle.robustlist.proofs.Chains.{leads-same}
 use Rattle.lockword.specs.declared.reply.Reply.{Reply}
 use Rattle.lockword.specs.declared.reply.Reply.TheVariants.{OK, EOWNERDEAD}
 use Rattle.keys.specs.Objects.{acquires}
@@ -8,32 +22,31 @@ use Rattle.keys.specs.declared.object.Object.{Object}
 use Rattle.keys.specs.declared.point.Operation.{Operation}
 use Rattle.keys.specs.declared.point.Operation.TheVariants as operation
 use Rattle.keys.specs.Chains.{previous_place}
-use Rattle.keys.specs.Layouts.{head_place, entry_place}
+use Rattle.keys.specs.Layouts.{IsLayout, head_place, entry_place, cell_place}
 use Rattle.keys.specs.Histories.{held_by}
 use Rattle.robustlist.specs.Words.{IsOn, Agree}
 use Rattle.robustlist.proofs.Links as links
 use Rattle.robustlist.proofs.Unlinks.{right}
-use Rattle.mutex.specs.declared.call.Call.{Call}
 use Rattle.mutex.specs.declared.row.Row.TheVariants as row
 use Rattle.mutex.specs.declared.unlock.UnlockRow.TheVariants.{Release}
 use Rattle.mutex.specs.declared.phase.Phase.{Phase}
 use Rattle.mutex.specs.declared.phase.Phase.TheVariants.{Announcing, AtCell, Linking, Unlinking, Clearing, Ended}
-use Rattle.mutex.specs.Calls.{mutex_of, operation_of}
+use Rattle.mutex.specs.Calls.{mutex_of}
 use Rattle.mutex.specs.Standings.{Whole}
 use Rattle.mutex.specs.Laws.{Sound}
 use Rattle.mutex.proofs.Steps.{carries}
 use Rattle.protocol.specs.declared.thread.Thread.{Thread}
 use Rattle.protocol.specs.declared.thread.Stage.{Stage}
-use Rattle.protocol.specs.declared.thread.Stage.TheVariants.{Idle, Calling}
+use Rattle.protocol.specs.declared.thread.Stage.TheVariants.{Idle, Calling, Dying, Reaped}
 use Rattle.protocol.specs.Machine.{State, held_after}
 use Rattle.protocol.specs.Headline.{seen}
 use Rattle.keys.proofs.Objects.{others_keep}
 use Rattle.protocol.proofs.Puts.{by_put}
 use Rattle.protocol.proofs.Objects.{one, IsCalled, mine, others, owners}
 use Rattle.protocol.proofs.Counts.{held_by-changed, held_by-owns}
-use Rattle.protocol.proofs.Kept.{InPhase, Sits, Owned, ChainedIn, Chained, left_out, Listed, pending_of, HasHead, Kept}
+use Rattle.protocol.proofs.Kept.{InPhase, Sits, Owned, ChainedIn, Chained, left_out, Walks, Left, LeftOf, LeftIn, LeftFrom, Treats, Mourns, Listed, PendsAs, HasHead, Kept}
 use Rattle.protocol.proofs.Places.{IsMine, list_is_mine, both_same, behind}
-use Rattle.protocol.proofs.Steps.{Tells, unmoved, onto, thread_after, after}
+use Rattle.protocol.proofs.Steps.{Tells, unmoved, seen-inside, done}
 
 -- what a call needs of its mutex stays, where that stays as long as the call's thread owns it
 in_phase_carries : (u held : ℕ) (q : Whole) (f : Phase) (o n : Object) → (o.owner ≡ Some u → n ≡ o) → InPhase u held q f o → InPhase u held q f n
@@ -53,27 +66,53 @@ held_few held operation.TryLock OK few may = let less = may refl in omega arith
 held_few held operation.TryLock EOWNERDEAD few may = let less = may refl in omega arith
 held_few held operation.TryLock x few may = few
 held_few held operation.Unlock OK few may = omega arith
+held_few held operation.Death OK few may = omega arith
 held_few held op x few may = few
 
--- one access of thread t's call p: what it tells of its mutex; and it leaves the words that others own
-module _ (s : State) (t : ℕ) (c : Call) (p : Whole) (inv : Kept s) (pos : 1 ≤ t) (known : t ≤ s.layout.threads) (inside : mutex_of c < s.layout.mutexes)
-    (called : IsCalled (operation_of c))
-    (far : (k : ℕ) → k ≢ mutex_of c → seen (after s t c p) k ≡ seen s k)
-    (tells : Tells t (seen s (mutex_of c)) (operation_of c) (onto s t c p).point (seen (after s t c p) (mutex_of c)))
-    (room : (x : Reply) → (onto s t c p).point ≡ Some x → acquires (operation_of c) ≡ true → (s.threads t).held < 2048)
-    (offsets : (u : ℕ) → 1 ≤ u → u ≤ s.layout.threads → (after s t c p).words (head_place u + 1) ≡ s.words (head_place u + 1))
-    (spares : (u x : ℕ) → 1 ≤ u → u ≤ s.layout.threads → t ≢ u → IsMine s u x → (after s t c p).words x ≡ s.words x) where
-  abbrev m : ℕ
-  m = mutex_of c
+-- a word that is as it was, or has WAITERS too
+abbrev pub OnlyWaitsFrom : ℕ → ℕ → Type 0
+OnlyWaitsFrom w w' = (w' ≡ w) ⊎ (w' ≡ waiting_word w)
 
-  abbrev op : Operation
-  op = operation_of c
+pub fields_of-waiting : (v : ℕ) → fields_of (waiting_word v) ≡ waiting (fields_of v)
+fields_of-waiting v = fields_of-word_of (waiting (fields_of v)) (omega arith)
 
+waiting_twice : (v : ℕ) → waiting_word (waiting_word v) ≡ waiting_word v
+waiting_twice v = ap (λ (c : Fields). word_of (waiting c)) (fields_of-waiting v)
+
+only_waits_on : (v : ℕ) (again : Bool) (w w' : ℕ) → OnlyWaits v again w → OnlyWaitsFrom w w' → OnlyWaits v again w'
+only_waits_on v again w w' only (inl same) = subst (OnlyWaits v again) (sym same) only
+only_waits_on v again w w' only (inr set) = record { stays = inr (go only.stays); set = only.set }
+  where
+    go : (w ≡ v) ⊎ (w ≡ waiting_word v) → w' ≡ waiting_word v
+    go (inl is) = set ∙ ap waiting_word is
+    go (inr is) = set ∙ ap waiting_word is ∙ waiting_twice v
+
+-- a walk marks only what its thread still owns
+pub marks_own : (s : State) (u k at v : ℕ) (again : Bool) → IsLayout s.layout → Treats s at k → 1 ≤ u → u ≤ s.layout.threads → (fields_of v).owner ≡ u → OnlyWaits v again (s.words at) → (seen s k).owner ≡ Some u
+marks_own s u k at v again is treats first most owner only =
+    let cell : (fields_of (s.words (cell_place s.layout k))).owner ≡ u = subst (λ (x : ℕ). (fields_of (s.words x)).owner ≡ u) treats.1 (go only.stays) in
+    ap (λ (o : Object). o.owner) (seen-inside s k treats.0) ∙ ap owner_of cell ∙ owner_of-some u first
+  where
+    go : (s.words at ≡ v) ⊎ (s.words at ≡ waiting_word v) → (fields_of (s.words at)).owner ≡ u
+    go (inl same) = ap (λ (x : ℕ). (fields_of x).owner) same ∙ owner
+    go (inr set) = ap (λ (x : ℕ). (fields_of x).owner) set ∙ ap (λ (c : Fields). c.owner) (fields_of-waiting v) ∙ owner
+
+-- what a walk's row knows
+pub knows_at : (u : ℕ) (w : walks.Standing) → Walks u w → exit.Knows u (head_place u) w.row
+knows_at u w f = subst (λ (z : ℕ × ℕ). exit.Knows z.0 z.1 w.row) (λ i. (f.mine i, f.head i)) f.knows
+
+-- one access of thread t, to a mutex m or to its own words: what it tells of m; it leaves the words that others own, and sets WAITERS at most in their cells
+module _ (s : State) (t m : ℕ) (a : Access) (th : Thread) (op : Operation) (point : Option Reply) (inv : Kept s) (pos : 1 ≤ t) (known : t ≤ s.layout.threads) (inside : m < s.layout.mutexes)
+    (called : IsCalled op)
+    (far : (k : ℕ) → k ≢ m → seen (done s t a th) k ≡ seen s k)
+    (tells : Tells t (seen s m) op point (seen (done s t a th) m))
+    (counts : th.held ≡ held_after (s.threads t).held op point)
+    (room : (x : Reply) → point ≡ Some x → acquires op ≡ true → (s.threads t).held < 2048)
+    (offsets : (u : ℕ) → 1 ≤ u → u ≤ s.layout.threads → (done s t a th).words (head_place u + 1) ≡ s.words (head_place u + 1))
+    (spares : (u x : ℕ) → 1 ≤ u → u ≤ s.layout.threads → t ≢ u → IsMine s u x → (done s t a th).words x ≡ s.words x)
+    (waits : (u k : ℕ) → 1 ≤ u → u ≤ s.layout.threads → t ≢ u → k < s.layout.mutexes → (seen s k).owner ≡ Some u → OnlyWaitsFrom (s.words (cell_place s.layout k)) ((done s t a th).words (cell_place s.layout k))) where
   abbrev s' : State
-  s' = after s t c p
-
-  abbrev point : Option Reply
-  point = (onto s t c p).point
+  s' = done s t a th
 
   -- a mutex that another owns is as it was
   keeps_theirs : (u k : ℕ) → t ≢ u → (seen s k).owner ≡ Some u → seen s' k ≡ seen s k
@@ -102,6 +141,8 @@ module _ (s : State) (t : ℕ) (c : Call) (p : Whole) (inv : Kept s) (pos : 1 �
   -- ---- the calls of others, and their lists
   theirs : (u : ℕ) → t ≢ u → (held : ℕ) (g : Stage) → Sits s u held g → Sits s' u held g
   theirs u apart held Idle f = tt
+  theirs u apart held (Dying w) f = f
+  theirs u apart held Reaped f = tt
   theirs u apart held (Calling d q) f = record {
     mine = f.mine;
     of = f.of;
@@ -131,6 +172,8 @@ module _ (s : State) (t : ℕ) (c : Call) (p : Whole) (inv : Kept s) (pos : 1 �
 
     their_chain : (held : ℕ) (g : Stage) → Sits s u held g → Chained s.words u es g → Chained s'.words u es g
     their_chain held Idle f ch = both_same s.words s'.words (head_place u) es agree ch
+    their_chain held (Dying w) f ch = both_same s.words s'.words (head_place u) es agree ch
+    their_chain held Reaped f ch = both_same s.words s'.words (head_place u) es agree ch
     their_chain held (Calling d q) f ch = by_phase q.phase f.stands ch
       where
         by_phase : (h : Phase) → InPhase u held q h (seen s (mutex_of d)) → ChainedIn s.words (head_place u) q.entry es h → ChainedIn s'.words (head_place u) q.entry es h
@@ -141,8 +184,49 @@ module _ (s : State) (t : ℕ) (c : Call) (p : Whole) (inv : Kept s) (pos : 1 �
         by_phase (Clearing x) a ch = both_same s.words s'.words (head_place u) es agree ch
         by_phase (Ended x) a ch = absurd a
 
+  -- ---- the lists of threads that died
+
+  module _ (u : ℕ) (first : 1 ≤ u) (most : u ≤ s.layout.threads) (apart : t ≢ u) where
+    their_left : (e p : ℕ) (es : List ℕ) (treated : Option ℕ) → Left s u e p es treated → Left s' u e p es treated
+    their_left e p es treated l = record {
+      leads = leads-same s.words s'.words (head_place u) e e es refl (λ x among. let k = l.entries x among in spares u x first most apart (inr (inr (k.0, k.1, inl k.2, k.3)))) l.leads;
+      different = l.different;
+      entries = λ x among. let k = l.entries x among in (k.0, k.1, k.2, ap (λ (z : Object). z.owner) (keeps_theirs u k.0 apart k.3) ∙ k.3, k.4);
+      all = λ k below own. l.all k below (owned_before u k apart own);
+      pending = l.pending;
+    }
+
+    their_rest : (r : walk_rest.Rest) (treated : Option ℕ) → LeftOf s u r treated → LeftOf s' u r treated
+    their_rest r treated (es, l, offset, few) = (es, their_left r.entry r.pending es treated l, offset, few)
+
+    their_part : (rest : walk_part.Part) (treated : Option ℕ) → LeftIn s u rest treated → LeftIn s' u rest treated
+    their_part (part.List r) treated l = their_rest r treated l
+    their_part part.Pending treated l = λ k below own. l k below (owned_before u k apart own)
+
+    their_from : (e : ℕ) → LeftFrom s u e → LeftFrom s' u e
+    their_from e (es, l, few) = (es, subst (λ (p : ℕ). Left s' u e p es None) (sym (spares u (head_place u + 2) first most apart (inr (inl refl)))) (their_left e (s.words (head_place u + 2)) es None l), few)
+
+    -- the word that is being treated is still as it was seen, but that WAITERS may be set
+    still_waits : (v at k : ℕ) (again : Bool) → Treats s at k → (seen s k).owner ≡ Some u → OnlyWaits v again (s.words at) → OnlyWaits v again (s'.words at)
+    still_waits v at k again treats own only =
+        subst (λ (x : ℕ). OnlyWaits v again (s'.words x)) (sym treats.1)
+        (only_waits_on v again (s.words (cell_place s.layout k)) (s'.words (cell_place s.layout k)) (subst (λ (x : ℕ). OnlyWaits v again (s.words x)) treats.1 only) (waits u k first most apart treats.0 own))
+
+    their_walk : (r : walk_row.Row) → exit.Knows u (head_place u) r → Mourns s u r → Mourns s' u r
+    their_walk walk.LoadFirst knows l = subst (LeftFrom s' u) (sym (spares u (head_place u) first most apart (inl refl))) (their_from (s.words (head_place u)) l)
+    their_walk (walk.LoadOffset f) knows l = their_from f l
+    their_walk (walk.LoadPending f o) knows (l, offset) = (their_from f l, offset)
+    their_walk (walk.LoadNext r) knows l = their_rest r None l
+    their_walk (walk.LoadWord at rest) knows (k, treats, l) = (k, treats, their_part rest (Some k) l)
+    their_walk (walk.Mark at v again rest) knows (k, treats, l, only) = (k, treats, their_part rest (Some k) l, still_waits v at k again treats (marks_own s u k at v again inv.layout treats first most knows.0 only) only)
+    their_walk (walk.WakeOne at rest) knows (k, treats, l) = (k, treats, their_part rest None l)
+    their_walk walk.Ended knows l = absurd l
+
   their_list : (u : ℕ) → 1 ≤ u → u ≤ s.layout.threads → t ≢ u → (held : ℕ) (g : Stage) → Sits s u held g → Listed s u g → Listed s' u g
-  their_list u first most apart held g f (es, owned, ch) = (es, their_entries u (left_out g) es apart owned, their_chain u first most apart (left_out g) es owned held g f ch)
+  their_list u first most apart held Idle f (es, owned, ch) = (es, their_entries u None es apart owned, their_chain u first most apart None es owned held Idle f ch)
+  their_list u first most apart held (Calling c p) f (es, owned, ch) = (es, their_entries u (left_out (Calling c p)) es apart owned, their_chain u first most apart (left_out (Calling c p)) es owned held (Calling c p) f ch)
+  their_list u first most apart held (Dying w) f l = their_walk u first most apart w.row (knows_at u w f) l
+  their_list u first most apart held Reaped f none = λ k own. none k (owned_before u k apart own)
 
   -- ---- how many mutexes each thread owns
   count : (u : ℕ) → held_by u (seen s') s.layout.mutexes + one u (seen s m) ≡ held_by u (seen s) s.layout.mutexes + one u (seen s' m)
@@ -168,8 +252,8 @@ module _ (s : State) (t : ℕ) (c : Call) (p : Whole) (inv : Kept s) (pos : 1 �
 
   held' : (u : ℕ) → 1 ≤ u → u ≤ s.layout.threads → (s'.threads u).held ≡ held_by u (seen s') s.layout.mutexes
   held' u first most =
-      by_put (λ (z : Thread). z.held ≡ held_by u (seen s') s.layout.mutexes) s.threads t (thread_after s t c p) u
-      (λ is. subst (λ (v : ℕ). (thread_after s t c p).held ≡ held_by v (seen s') s.layout.mutexes) (sym is) (owns_mine point tells))
+      by_put (λ (z : Thread). z.held ≡ held_by u (seen s') s.layout.mutexes) s.threads t th u
+      (λ is. subst (λ (v : ℕ). th.held ≡ held_by v (seen s') s.layout.mutexes) (sym is) (counts ∙ owns_mine point tells))
       (λ apart. inv.held u first most ∙ sym (owns_theirs u (λ e. apart (sym e)) point tells))
 
   -- it owns 2,048 at most
@@ -177,13 +261,13 @@ module _ (s : State) (t : ℕ) (c : Call) (p : Whole) (inv : Kept s) (pos : 1 �
   few_after None may = let was = (inv.heads t pos known).few in let same = unmoved op (s.threads t).held in omega arith
   few_after (Some y) may = held_few (s.threads t).held op y (inv.heads t pos known).few (may y refl)
 
-  head_after : s'.words (head_place t + 2) ≡ pending_of (thread_after s t c p).stage → (u : ℕ) → 1 ≤ u → u ≤ s.layout.threads → HasHead s' u
+  head_after : PendsAs (s'.words (head_place t + 2)) th.stage → (u : ℕ) → 1 ≤ u → u ≤ s.layout.threads → HasHead s' u
   head_after pending u first most = record {
     offset = offsets u first most ∙ (inv.heads u first most).offset;
-    pending = by_put (λ (z : Thread). s'.words (head_place u + 2) ≡ pending_of z.stage) s.threads t (thread_after s t c p) u
-        (λ is. ap (λ (v : ℕ). s'.words (head_place v + 2)) is ∙ pending)
-        (λ apart. spares u (head_place u + 2) first most (λ e. apart (sym e)) (inr (inl refl)) ∙ (inv.heads u first most).pending);
-    few = by_put (λ (z : Thread). z.held ≤ 2048) s.threads t (thread_after s t c p) u (λ is. few_after point room) (λ apart. (inv.heads u first most).few);
+    pending = by_put (λ (z : Thread). PendsAs (s'.words (head_place u + 2)) z.stage) s.threads t th u
+        (λ is. subst (λ (v : ℕ). PendsAs (s'.words (head_place v + 2)) th.stage) (sym is) pending)
+        (λ apart. subst (λ (w : ℕ). PendsAs w (s.threads u).stage) (sym (spares u (head_place u + 2) first most (λ e. apart (sym e)) (inr (inl refl)))) (inv.heads u first most).pending);
+    few = by_put (λ (z : Thread). z.held ≤ 2048) s.threads t th u (λ is. subst (λ (n : ℕ). n ≤ 2048) (sym counts) (few_after point room)) (λ apart. (inv.heads u first most).few);
   }
 
   owners' : (k u : ℕ) → (seen s' k).owner ≡ Some u → (1 ≤ u) × (u ≤ s.layout.threads)
@@ -194,16 +278,16 @@ module _ (s : State) (t : ℕ) (c : Call) (p : Whole) (inv : Kept s) (pos : 1 �
       go false e = inv.owners k u (owned_before u k (eqb-false t u e) own)
 
   -- what holds of every state holds then, where it holds of the thread itself and of its mutex
-  pub kept_where : Sits s' t (thread_after s t c p).held (thread_after s t c p).stage → Listed s' t (thread_after s t c p).stage → s'.words (head_place t + 2) ≡ pending_of (thread_after s t c p).stage → Sound (seen s' m) → Kept s'
+  pub kept_where : Sits s' t th.held th.stage → Listed s' t th.stage → PendsAs (s'.words (head_place t + 2)) th.stage → Sound (seen s' m) → Kept s'
   kept_where sits listed pending sound_here = record {
     layout = inv.layout;
     sits = λ u first most.
-        by_put (λ (z : Thread). Sits s' u z.held z.stage) s.threads t (thread_after s t c p) u
-        (λ is. subst (λ (v : ℕ). Sits s' v (thread_after s t c p).held (thread_after s t c p).stage) (sym is) sits)
+        by_put (λ (z : Thread). Sits s' u z.held z.stage) s.threads t th u
+        (λ is. subst (λ (v : ℕ). Sits s' v th.held th.stage) (sym is) sits)
         (λ apart. theirs u (λ e. apart (sym e)) (s.threads u).held (s.threads u).stage (inv.sits u first most));
     listed = λ u first most.
-        by_put (λ (z : Thread). Listed s' u z.stage) s.threads t (thread_after s t c p) u
-        (λ is. subst (λ (v : ℕ). Listed s' v (thread_after s t c p).stage) (sym is) listed)
+        by_put (λ (z : Thread). Listed s' u z.stage) s.threads t th u
+        (λ is. subst (λ (v : ℕ). Listed s' v th.stage) (sym is) listed)
         (λ apart. their_list u first most (λ e. apart (sym e)) (s.threads u).held (s.threads u).stage (inv.sits u first most) (inv.listed u first most));
     heads = head_after pending;
     sound = sound';

@@ -1,9 +1,17 @@
 -- What holds of every state of the machine.
-use Rattle.std.proofs.Common.{◌≡◌, ◌≢◌, ℕ, ◌+◌, ◌<◌, ◌≤◌, true, Option, Some, None, List}
+use Rattle.std.proofs.Common.{◌≡◌, ◌≢◌, ◌⊎◌, ℕ, ◌+◌, ◌<◌, ◌≤◌, true, Option, Some, None, List, ◌∷◌, length}
 use Rattle.keys.specs.declared.object.Object.{Object}
 use Rattle.keys.specs.declared.point.Operation.{Operation}
 use Rattle.keys.specs.declared.point.Operation.TheVariants.{Unlock}
-use Rattle.keys.specs.Chains.{IsAmong, IsChainBothWays}
+use Rattle.exitwalk.specs.declared.row.Row as walk_row
+use Rattle.exitwalk.specs.declared.row.Rest as walk_rest
+use Rattle.exitwalk.specs.declared.row.Part as walk_part
+use Rattle.exitwalk.specs.declared.row.Row.TheVariants as walk
+use Rattle.exitwalk.specs.declared.row.Part.TheVariants as part
+use Rattle.exitwalk.specs.Standings as walks
+use Rattle.exitwalk.specs.Walks as exit
+use Rattle.exitwalk.specs.Steps.{OnlyWaits}
+use Rattle.keys.specs.Chains.{IsAmong, AreDifferent, Leads, IsChainBothWays}
 use Rattle.keys.specs.Layouts.{IsLayout, head_place, entry_place, cell_place}
 use Rattle.keys.specs.Objects.{acquires}
 use Rattle.keys.specs.Histories.{held_by}
@@ -23,7 +31,7 @@ use Rattle.mutex.specs.Standings.{Whole}
 use Rattle.mutex.specs.Programs.{row_operation}
 use Rattle.mutex.specs.Laws.{Expects, Sound}
 use Rattle.protocol.specs.declared.thread.Stage.{Stage}
-use Rattle.protocol.specs.declared.thread.Stage.TheVariants.{Idle, Calling}
+use Rattle.protocol.specs.declared.thread.Stage.TheVariants.{Idle, Calling, Dying, Reaped}
 use Rattle.protocol.specs.Machine.{State}
 use Rattle.protocol.specs.Headline.{seen}
 
@@ -63,9 +71,18 @@ pub record Fits (s : State) (t held : ℕ) (c : Call) (p : Whole) : Type 0 where
   pub cell : p.cell ≡ cell_place s.layout (mutex_of c)
   pub stands : InPhase t held p p.phase (seen s (mutex_of c))
 
+-- a walk over thread t's list
+pub record Walks (t : ℕ) (w : walks.Standing) : Type 0 where
+  pub mine : w.thread ≡ t
+  pub head : w.head ≡ head_place t
+  pub going : exit.IsGoing w.row
+  pub knows : exit.Knows w.thread w.head w.row
+
 abbrev pub Sits : State → ℕ → ℕ → Stage → Type 0
 Sits s t held Idle = Unit {0}
 Sits s t held (Calling c p) = Fits s t held c p
+Sits s t held (Dying w) = Walks t w
+Sits s t held Reaped = Unit {0}
 
 -- ---- robust lists
 
@@ -76,8 +93,8 @@ left_out_in m (Linking l x) = Some m
 left_out_in m f = None
 
 abbrev pub left_out : Stage → Option ℕ
-left_out Idle = None
 left_out (Calling c p) = left_out_in (mutex_of c) p.phase
+left_out g = None
 
 -- the entries are those of the mutexes that thread t owns, but for this one
 pub record Owned (s : State) (t : ℕ) (out : Option ℕ) (es : List ℕ) : Type 0 where
@@ -91,11 +108,53 @@ ChainedIn w h e es (Unlinking u d) = unlink_laws.Unlinking h e es u.row w
 ChainedIn w h e es f = IsChainBothWays w h es
 
 abbrev pub Chained : (ℕ → ℕ) → ℕ → List ℕ → Stage → Type 0
-Chained w t es Idle = IsChainBothWays w (head_place t) es
 Chained w t es (Calling c p) = ChainedIn w (head_place t) p.entry es p.phase
+Chained w t es g = IsChainBothWays w (head_place t) es
 
+-- ---- the lists of threads that died
+
+-- what is left to walk: from e next words lead over these entries, of mutexes that thread t owns still, and back to its head; each mutex that it owns is one of them, or the pending one p, or is
+-- being treated
+pub record Left (s : State) (t e p : ℕ) (es : List ℕ) (treated : Option ℕ) : Type 0 where
+  pub leads : Leads s.words (head_place t) e es
+  pub different : AreDifferent (head_place t ∷ es)
+  pub entries : (x : ℕ) → IsAmong x es → (k : ℕ) × (k < s.layout.mutexes) × (x ≡ entry_place s.layout k) × ((seen s k).owner ≡ Some t) × (treated ≢ Some k)
+  pub all : (k : ℕ) → k < s.layout.mutexes → (seen s k).owner ≡ Some t → IsAmong (entry_place s.layout k) es ⊎ ((p ≡ entry_place s.layout k) ⊎ (treated ≡ Some k))
+  pub pending : (p ≡ 0) ⊎ (k : ℕ) × (k < s.layout.mutexes) × (p ≡ entry_place s.layout k)
+
+-- the rest of a walk, after so many entries
+abbrev pub LeftOf : State → ℕ → walk_rest.Rest → Option ℕ → Type 0
+LeftOf s t r treated = (es : List ℕ) × Left s t r.entry r.pending es treated × (r.offset ≡ 18446744073709551615) × (length es + r.loaded ≤ 2048)
+
+-- behind the list only the pending mutex is left
+abbrev pub LeftIn : State → ℕ → walk_part.Part → Option ℕ → Type 0
+LeftIn s t (part.List r) treated = LeftOf s t r treated
+LeftIn s t part.Pending treated = (k : ℕ) → k < s.layout.mutexes → (seen s k).owner ≡ Some t → treated ≡ Some k
+
+-- the head's words, as the walk will find them
+abbrev pub LeftFrom : State → ℕ → ℕ → Type 0
+LeftFrom s t first = (es : List ℕ) × Left s t first (s.words (head_place t + 2)) es None × (length es ≤ 2048)
+
+-- a mutex that is treated, by its cell's place
+abbrev pub Treats : State → ℕ → ℕ → Type 0
+Treats s at k = (k < s.layout.mutexes) × (at ≡ cell_place s.layout k)
+
+abbrev pub Mourns : State → ℕ → walk_row.Row → Type 0
+Mourns s t walk.LoadFirst = LeftFrom s t (s.words (head_place t))
+Mourns s t (walk.LoadOffset first) = LeftFrom s t first
+Mourns s t (walk.LoadPending first offset) = LeftFrom s t first × (offset ≡ 18446744073709551615)
+Mourns s t (walk.LoadNext r) = LeftOf s t r None
+Mourns s t (walk.LoadWord at rest) = (k : ℕ) × Treats s at k × LeftIn s t rest (Some k)
+Mourns s t (walk.Mark at v again rest) = (k : ℕ) × Treats s at k × LeftIn s t rest (Some k) × OnlyWaits v again (s.words at)
+Mourns s t (walk.WakeOne at rest) = (k : ℕ) × Treats s at k × LeftIn s t rest None
+Mourns s t walk.Ended = ⊥
+
+-- a thread's list: as it has it, or as the walk will find it; a thread that was reaped owns nothing
 abbrev pub Listed : State → ℕ → Stage → Type 0
-Listed s t g = (es : List ℕ) × Owned s t (left_out g) es × Chained s.words t es g
+Listed s t (Dying w) = Mourns s t w.row
+Listed s t Reaped = (k : ℕ) → (seen s k).owner ≢ Some t
+Listed s t Idle = (es : List ℕ) × Owned s t None es × Chained s.words t es Idle
+Listed s t (Calling c p) = (es : List ℕ) × Owned s t (left_out (Calling c p)) es × Chained s.words t es (Calling c p)
 
 -- ---- pending entries
 
@@ -114,13 +173,19 @@ pending_in e (Ended x) = 0
 pending_in e f = e
 
 abbrev pub pending_of : Stage → ℕ
-pending_of Idle = 0
 pending_of (Calling c p) = pending_in p.entry p.phase
+pending_of g = 0
+
+-- of a thread that lives
+abbrev pub PendsAs : ℕ → Stage → Type 0
+PendsAs w Idle = w ≡ 0
+PendsAs w (Calling c p) = w ≡ pending_in p.entry p.phase
+PendsAs w g = Unit {0}
 
 -- a thread's head has the offset from an entry to its cell, and its pending entry; and it owns so many mutexes at most
 pub record HasHead (s : State) (t : ℕ) : Type 0 where
   pub offset : s.words (head_place t + 1) ≡ 18446744073709551615
-  pub pending : s.words (head_place t + 2) ≡ pending_of (s.threads t).stage
+  pub pending : PendsAs (s.words (head_place t + 2)) (s.threads t).stage
   pub few : (s.threads t).held ≤ 2048
 
 pub record Kept (s : State) : Type 0 where

@@ -14,7 +14,14 @@ pub mod OwnSteps
 pub mod Frames
 pub mod Runs
 pub mod Lists
+pub mod Walking
+pub mod WalkSteps
+pub mod Reaped
+pub mod Deaths
 pub mod Lives
 pub mod Queues
+pub mod WalkQueues
+pub mod QueueRuns
 pub mod Owed
+pub mod WalksOwe
 pub mod Undivided

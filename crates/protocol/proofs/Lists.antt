@@ -3,7 +3,7 @@ use Rattle.std.proofs.Common.{◌≡◌, ◌≢◌, ◌⊎◌, inl, inr, ⊎_eli
 use Rattle.std.specs.Prelude.{if◌then◌else◌}
 use Rattle.std.proofs.lemmas.Bool.{eqb-false}
 use Rattle.keys.specs.declared.object.Object.{Object}
-use Rattle.keys.specs.Chains.{IsAmong, IsApart, AreDifferent, IsChain, IsChainBothWays, without}
+use Rattle.keys.specs.Chains.{IsAmong, IsApart, AreDifferent, IsChain, without}
 use Rattle.keys.specs.Layouts.{Layout', head_place, entry_place}
 use Rattle.keys.specs.Histories.{held_by}
 use Rattle.robustlist.specs.declared.link.LinkRow.TheVariants as link
@@ -22,14 +22,13 @@ use Rattle.mutex.specs.declared.phase.Phase.TheVariants.{Announcing, AtCell, Lin
 use Rattle.mutex.specs.Calls.{mutex_of}
 use Rattle.mutex.specs.Standings.{Whole}
 use Rattle.protocol.specs.declared.thread.Stage.{Stage}
-use Rattle.protocol.specs.declared.thread.Stage.TheVariants.{Idle, Calling}
-use Rattle.protocol.specs.Machine.{State, start, run}
+use Rattle.protocol.specs.declared.thread.Stage.TheVariants.{Idle, Calling, Dying, Reaped}
+use Rattle.protocol.specs.Machine.{State, is_alive}
 use Rattle.protocol.specs.Headline.{seen}
-use Rattle.protocol.specs.Lists.{HasList, ListsAreKept}
+use Rattle.protocol.specs.Lists.{HasList}
 use Rattle.protocol.proofs.Objects.{one, one-own}
-use Rattle.protocol.proofs.Kept.{InPhase, left_out_in, left_out, Owned, ChainedIn, Chained, pending_in, pending_of, Kept}
+use Rattle.protocol.proofs.Kept.{InPhase, Fits, left_out_in, Owned, ChainedIn, Listed, pending_in, PendsAs, LeftFrom, Kept}
 use Rattle.protocol.proofs.Places.{among_without, without_is_apart}
-use Rattle.protocol.proofs.Runs.{start_kept, run_kept, run_layout}
 use Rattle.protocol.proofs.Accesses.{fits_in}
 
 -- ---- a list is no longer than its thread owns mutexes
@@ -172,18 +171,56 @@ module _ (s : State) (t : ℕ) (inv : Kept s) (first : 1 ≤ t) (most : t ≤ s.
   in_call c p (Clearing x) stands entry pends es owned ch = none_left es ch.chain owned
   in_call c p (Ended x) stands entry pends es owned ch = absurd stands
 
-  pub has_list : HasList s t
-  has_list = go (s.threads t).stage refl (inv.listed t first most)
+  -- of a thread that lives
+  pub has_list : is_alive (s.threads t).stage ≡ true → HasList s t
+  has_list alive = go (s.threads t).stage refl alive (inv.listed t first most)
     where
-      go : (g : Stage) → (s.threads t).stage ≡ g → (es : List ℕ) × Owned s t (left_out (s.threads t).stage) es × Chained s.words t es (s.threads t).stage → HasList s t
-      go Idle is listed = let there : (es : List ℕ) × Owned s t None es × IsChainBothWays s.words (head_place t) es = subst (λ (z : Stage). (es : List ℕ) × Owned s t (left_out z) es × Chained s.words t es z) is listed in none_left there.0 there.2.chain there.1
-      go (Calling c p) is listed =
-          let there : (es : List ℕ) × Owned s t (left_out_in (mutex_of c) p.phase) es × ChainedIn s.words (head_place t) p.entry es p.phase = subst (λ (z : Stage). (es : List ℕ) × Owned s t (left_out z) es × Chained s.words t es z) is listed in
+      go : (g : Stage) → (s.threads t).stage ≡ g → is_alive g ≡ true → Listed s t (s.threads t).stage → HasList s t
+      go Idle is alive listed = let there : Listed s t Idle = subst (Listed s t) is listed in none_left there.0 there.2.chain there.1
+      go (Calling c p) is alive listed =
+          let there : Listed s t (Calling c p) = subst (Listed s t) is listed in
           let fits = fits_in s t c p inv first most is in
-          in_call c p p.phase fits.stands fits.entry ((inv.heads t first most).pending ∙ ap pending_of is) there.0 there.1 there.2
+          in_call c p p.phase fits.stands fits.entry (subst (PendsAs (s.words (head_place t + 2))) is (inv.heads t first most).pending) there.0 there.1 there.2
+      go (Dying w) is alive listed = absurd cc
+      go Reaped is alive listed = absurd cc
 
--- so it is of every state that events lead to
-pub kept_lists : ListsAreKept
-kept_lists l counters events is t first most =
-    let inv = start_kept l counters is in
-    has_list (run (start l counters) events) t (run_kept (start l counters) events inv) first (let same = ap (λ (z : Layout'). z.threads) (run_layout (start l counters) events inv) in omega arith)
+  -- its pending entry is none, or a mutex's
+  pends_none_or : (c : Call) (p : Whole) (f : Phase) → Fits s t (s.threads t).held c p → (pending_in p.entry f ≡ 0) ⊎ ((k : ℕ) × (k < s.layout.mutexes) × (pending_in p.entry f ≡ entry_place s.layout k))
+  pends_none_or c p (Announcing r) fits = inl refl
+  pends_none_or c p (AtCell (row.Lock r)) fits = inr (mutex_of c, fits.inside, fits.entry)
+  pends_none_or c p (AtCell (row.TryLock r)) fits = inr (mutex_of c, fits.inside, fits.entry)
+  pends_none_or c p (AtCell (row.Unlock Load)) fits = inl refl
+  pends_none_or c p (AtCell (row.Unlock (Release d))) fits = inr (mutex_of c, fits.inside, fits.entry)
+  pends_none_or c p (AtCell (row.Unlock (Wake a))) fits = inr (mutex_of c, fits.inside, fits.entry)
+  pends_none_or c p (AtCell (row.Consistent r)) fits = inl refl
+  pends_none_or c p (AtCell (row.Ended x)) fits = inl refl
+  pends_none_or c p (Linking l x) fits = inr (mutex_of c, fits.inside, fits.entry)
+  pends_none_or c p (Unlinking u d) fits = inr (mutex_of c, fits.inside, fits.entry)
+  pends_none_or c p (Clearing x) fits = inr (mutex_of c, fits.inside, fits.entry)
+  pends_none_or c p (Ended x) fits = inl refl
+
+  pending_word : is_alive (s.threads t).stage ≡ true → (s.words (head_place t + 2) ≡ 0) ⊎ ((k : ℕ) × (k < s.layout.mutexes) × (s.words (head_place t + 2) ≡ entry_place s.layout k))
+  pending_word alive = go (s.threads t).stage refl alive (inv.heads t first most).pending
+    where
+      go : (g : Stage) → (s.threads t).stage ≡ g → is_alive g ≡ true → PendsAs (s.words (head_place t + 2)) (s.threads t).stage → (s.words (head_place t + 2) ≡ 0) ⊎ ((k : ℕ) × (k < s.layout.mutexes) × (s.words (head_place t + 2) ≡ entry_place s.layout k))
+      go Idle is alive pends = inl (subst (PendsAs (s.words (head_place t + 2))) is pends)
+      go (Calling c p) is alive pends =
+          let word : s.words (head_place t + 2) ≡ pending_in p.entry p.phase = subst (PendsAs (s.words (head_place t + 2))) is pends in
+          ⊎_elim (λ none. inl (word ∙ none)) (λ some. inr (some.0, some.1, word ∙ some.2)) (pends_none_or c p p.phase (fits_in s t c p inv first most is))
+      go (Dying w) is alive pends = absurd cc
+      go Reaped is alive pends = absurd cc
+
+  -- what the walk will find, were it to die now
+  pub left_from : is_alive (s.threads t).stage ≡ true → LeftFrom s t (s.words (head_place t))
+  left_from alive =
+      let found = has_list alive in (
+        found.entries,
+        record {
+          leads = found.chain.leads;
+          different = found.chain.different;
+          entries = λ x among. let k = found.owned x among in (k.0, k.1, k.2, k.3, λ e. cc e);
+          all = λ k below own. ⊎_elim inl (λ pends. inr (inl pends)) (found.all k below own);
+          pending = pending_word alive;
+        },
+        found.few,
+      )

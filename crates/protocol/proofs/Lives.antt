@@ -1,6 +1,6 @@
 -- What each event adds to its thread's life, and to the order of lines.
 use Rattle.std.proofs.Common.{◌≡◌, ◌≢◌, ℕ, ◌+◌, ◌≤◌, ◌==◌, Bool, true, false, ◌&&◌, Option, Some, None, Ok, Err, List, [], ◌∷◌, ◌++◌, map, refl, sym, ap, ◌∙◌, subst, arith, eqb-true}
-use Rattle.std.specs.Prelude.{if◌then◌else◌, nat_le}
+use Rattle.std.specs.Prelude.{if◌then◌else◌, nat_le, MatchBool}
 use Rattle.std.proofs.lemmas.Bool.{eqb-false}
 use Rattle.std.proofs.lemmas.Bool.Decides.{nat_tests}
 use Rattle.lockword.specs.declared.reply.Reply.{Reply}
@@ -18,22 +18,25 @@ use Rattle.protocol.specs.declared.event.Event.{Event}
 use Rattle.protocol.specs.declared.event.Event.TheVariants as event
 use Rattle.protocol.specs.declared.thread.Thread.{Thread}
 use Rattle.protocol.specs.declared.thread.Stage.{Stage}
-use Rattle.protocol.specs.declared.thread.Stage.TheVariants.{Idle, Calling}
+use Rattle.protocol.specs.declared.thread.Stage.TheVariants.{Idle, Calling, Dying, Reaped}
 use Rattle.protocol.specs.declared.note.Fact.{Fact}
-use Rattle.protocol.specs.declared.note.Fact.TheVariants.{Begin, Point, Wake, Return}
+use Rattle.protocol.specs.declared.note.Fact.TheVariants.{Begin, Point, Wake, Return, Kill, Death, Reap}
 use Rattle.protocol.specs.declared.note.Note.{Note}
-use Rattle.protocol.specs.declared.note.Note.TheVariants.{Nothing, Began, Stepped}
+use Rattle.protocol.specs.declared.note.Note.TheVariants.{Nothing, Began, Stepped, Killed, Walked}
 use Rattle.protocol.specs.declared.note.Line.{Line}
-use Rattle.protocol.specs.Notes.{line_of, facts_of, point_facts, sleep_facts, return_facts, lines_from}
-use Rattle.protocol.specs.Machine.{State, After, start, nothing, is_thread, may_begin, begun, stage_after, returned, decision, answer_of, went, sleeps, stepped, happens, notes}
-use Rattle.protocol.specs.Explained.{thread_of, is_of_call, is_wake, point_by, own, Life, Rests, Returns, Stays, Decides, is_point, Later, Each, Orderly, caller, caller_of, IsExplained, TraceIsExplained}
+use Rattle.protocol.specs.Notes.{line_of, facts_of, point_facts, sleep_facts, return_facts, death_facts, reap_facts, lines_from}
+use Rattle.protocol.specs.Machine.{State, After, start, nothing, is_thread, is_alive, has_ended, stage_walked, killed, walked, may_begin, begun, stage_after, returned, decision, answer_of, went, sleeps, stepped, happens, notes}
+use Rattle.protocol.specs.Explained.{thread_of, is_of_call, is_wake, point_by, own, Mourned, Unburied, Tells_of, Buried, Lives, Dies, Life, Rests, Returns, Stays, Decides, is_point, Later, Each, Orderly, caller, caller_of, IsExplained, TraceIsExplained}
 use Rattle.protocol.proofs.Puts.{put-same, put-other}
 use Rattle.protocol.proofs.Phases.{decided_at}
 use Rattle.protocol.proofs.Kept.{Kept}
 use Rattle.protocol.proofs.Steps.{after, went-is, onto}
 use Rattle.protocol.proofs.Stepping.{Stepping}
 use Rattle.protocol.proofs.Accesses as accesses
-use Rattle.protocol.proofs.Runs.{sound, start_kept, at_rest}
+use Rattle.protocol.proofs.Runs.{sound, start_kept, at_rest, second_true}
+use Rattle.exitwalk.specs.declared.row.Row as walk_row
+use Rattle.exitwalk.specs.declared.row.Row.TheVariants as walk
+use Rattle.exitwalk.specs.Standings as walks
 
 -- ---- what may come next in a thread's life
 
@@ -46,15 +49,19 @@ Doing t c (Some x) fs = Life t (Begin t c ∷ (point_by t c x ∷ fs))
 abbrev Goes : ℕ → Stage → List Fact → Type 0
 Goes t Idle fs = Life t fs
 Goes t (Calling c p) fs = Doing t c (decided_at p.phase) fs
+Goes t (Dying w) fs = Mourned t fs
+Goes t Reaped fs = fs ≡ []
 
 -- it may do nothing more
 ends : (t : ℕ) (g : Stage) → Goes t g []
-ends t Idle = Rests
+ends t Idle = Rests [] Lives
 ends t (Calling c p) = go (decided_at p.phase)
   where
     go : (d : Option Reply) → Doing t c d []
-    go None = Stays c
-    go (Some x) = Decides c x
+    go None = Stays c [] Lives
+    go (Some x) = Decides c x [] Lives
+ends t (Dying w) = Unburied
+ends t Reaped = refl
 
 -- ---- a thread's lines
 
@@ -74,15 +81,20 @@ own-other t i f ls apart = go (is_of_call f) (thread_of f == t) refl
     go true true e = absurd (apart (eqb-true (thread_of f) t e))
     go true false e = refl
 
--- what a note tells of calls, and not of who sleeps
+-- what a note tells of calls and deaths, and not of who sleeps
 abbrev calls_of : Note → List Fact
 calls_of (Stepped t point slept woken returned) = point_facts point ++ return_facts t returned
+calls_of (Walked t death woken reaped) = death_facts t death ++ reap_facts t reaped
 calls_of n = facts_of n
 
 -- who sleeps and who is woken is told of no call
 woken_own : (t i u : ℕ) (ws : List ℕ) (y : Option Reply) (ls : List Line) → own t (map (line_of i) (map Wake ws ++ return_facts u y) ++ ls) ≡ own t (map (line_of i) (return_facts u y) ++ ls)
 woken_own t i u [] y ls = refl
 woken_own t i u (w ∷ ws) y ls = woken_own t i u ws y ls
+
+reaped_own : (t i u : ℕ) (ws : List ℕ) (y : Bool) (ls : List Line) → own t (map (line_of i) (map Wake ws ++ reap_facts u y) ++ ls) ≡ own t (map (line_of i) (reap_facts u y) ++ ls)
+reaped_own t i u [] y ls = refl
+reaped_own t i u (w ∷ ws) y ls = reaped_own t i u ws y ls
 
 slept_own : (t i u : ℕ) (z : Option ℕ) (ws : List ℕ) (y : Option Reply) (ls : List Line) → own t (map (line_of i) (sleep_facts u z ++ (map Wake ws ++ return_facts u y)) ++ ls) ≡ own t (map (line_of i) (return_facts u y) ++ ls)
 slept_own t i u None ws y ls = woken_own t i u ws y ls
@@ -91,10 +103,13 @@ slept_own t i u (Some m) ws y ls = woken_own t i u ws y ls
 own-calls : (t i : ℕ) (n : Note) (ls : List Line) → own t (map (line_of i) (facts_of n) ++ ls) ≡ own t (map (line_of i) (calls_of n) ++ ls)
 own-calls t i Nothing ls = refl
 own-calls t i (Began u c x) ls = refl
+own-calls t i (Killed u) ls = refl
+own-calls t i (Walked u None ws y) ls = reaped_own t i u ws y ls
+own-calls t i (Walked u (Some m) ws y) ls = ap (λ (v : List Fact). if u == t then Death u m ∷ v else v) (reaped_own t i u ws y ls)
 own-calls t i (Stepped u None z ws y) ls = slept_own t i u z ws y ls
 own-calls t i (Stepped u (Some d) z ws y) ls = ap (λ (v : List Fact). if d.thread == t then Point d ∷ v else v) (slept_own t i u z ws y ls)
 
--- what one event tells: nothing; that its thread began a call, or was refused at once; or that it decided its call, or returned, or both
+-- what one event tells: nothing; that its thread began a call, or was refused at once; that it decided its call, or returned, or both; that it died; or of its death
 data Says (t : ℕ) : List Fact → Type 0 where
   nothing_new : Says t []
   begins_one : (c : Call) → Says t (Begin t c ∷ [])
@@ -102,6 +117,8 @@ data Says (t : ℕ) : List Fact → Type 0 where
   decides : (c : Call) (x : Reply) → Says t (point_by t c x ∷ [])
   returns : (x : Reply) → Says t (Return t x ∷ [])
   ends_with : (c : Call) (x y : Reply) → Says t (point_by t c x ∷ (Return t y ∷ []))
+  dies : Says t (Kill t ∷ [])
+  mourned : (d : Option ℕ) (y : Bool) → Says t (death_facts t d ++ reap_facts t y)
 
 -- another thread's event adds nothing to this thread's lines
 own-apart : (t u i : ℕ) (fs : List Fact) (ls : List Line) → Says u fs → u ≢ t → own t (map (line_of i) fs ++ ls) ≡ own t ls
@@ -110,6 +127,11 @@ own-apart t u i fs ls (begins_one c) apart = own-other t i (Begin u c) ls apart
 own-apart t u i fs ls (refused c x) apart = own-other t i (Begin u c) (line_of i (point_by u c x) ∷ (line_of i (Return u x) ∷ ls)) apart ∙ own-other t i (point_by u c x) (line_of i (Return u x) ∷ ls) apart ∙ own-other t i (Return u x) ls apart
 own-apart t u i fs ls (decides c x) apart = own-other t i (point_by u c x) ls apart
 own-apart t u i fs ls (returns x) apart = own-other t i (Return u x) ls apart
+own-apart t u i fs ls dies apart = own-other t i (Kill u) ls apart
+own-apart t u i fs ls (mourned None false) apart = refl
+own-apart t u i fs ls (mourned None true) apart = own-other t i (Reap u) ls apart
+own-apart t u i fs ls (mourned (Some m) false) apart = own-other t i (Death u m) ls apart
+own-apart t u i fs ls (mourned (Some m) true) apart = own-other t i (Death u m) (line_of i (Reap u) ∷ ls) apart ∙ own-other t i (Reap u) ls apart
 own-apart t u i fs ls (ends_with c x y) apart = own-other t i (point_by u c x) (line_of i (Return u y) ∷ ls) apart ∙ own-other t i (Return u y) ls apart
 
 -- ---- one event
@@ -216,6 +238,20 @@ access_fine : (u : ℕ) (c : Call) (x : Option Reply) (z : Option ℕ) (ws : Lis
 access_fine u c None z ws y = slept_fine u z ws y
 access_fine u c (Some x) z ws y = ((λ e. refl), (λ e. slept_pointless u z ws y), slept_fine u z ws y)
 
+reaped_pointless : (u : ℕ) (ws : List ℕ) (y : Bool) → NoPoint (map Wake ws ++ reap_facts u y)
+reaped_pointless u [] false = tt
+reaped_pointless u [] true = (refl, tt)
+reaped_pointless u (w ∷ ws) y = (refl, reaped_pointless u ws y)
+
+reaped_fine : (u : ℕ) (ws : List ℕ) (y : Bool) → Fine u (map Wake ws ++ reap_facts u y)
+reaped_fine u [] false = tt
+reaped_fine u [] true = ((λ e. refl), (λ e. tt), tt)
+reaped_fine u (w ∷ ws) y = ((λ e. absurd cc), (λ e. absurd cc), reaped_fine u ws y)
+
+walked_fine : (u : ℕ) (d : Option ℕ) (ws : List ℕ) (y : Bool) → Fine u (death_facts u d ++ (map Wake ws ++ reap_facts u y))
+walked_fine u None ws y = reaped_fine u ws y
+walked_fine u (Some m) ws y = ((λ e. refl), (λ e. reaped_pointless u ws y), reaped_fine u ws y)
+
 -- what an event leaves and notes: of its own thread what may come next, and of others nothing
 record Adds (s : State) (u : ℕ) (a : After) : Type 0 where
   fine : Fine u (facts_of a.note)
@@ -270,9 +306,62 @@ goes s u inv pos known c p is =
       others = λ t apart. ap (λ (z : Thread). z.stage) (put-other s.threads u _ t (λ same. apart (sym same)));
     }
 
+-- a thread dies
+dies_so : (s : State) (u : ℕ) → is_alive (s.threads u).stage ≡ true → Adds s u (killed s u)
+dies_so s u alive = record {
+  fine = ((λ e. refl), (λ e. tt), tt);
+  says = dies;
+  mine = λ i ls later.
+      let mourns : Mourned u (own u ls) = subst (λ (z : Thread). Goes u z.stage (own u ls)) (put-same s.threads u _) later in
+      subst (Goes u (s.threads u).stage) (sym (own-mine u i (Kill u) ls refl refl)) (cut (s.threads u).stage alive (own u ls) mourns);
+  others = λ t apart. ap (λ (z : Thread). z.stage) (put-other s.threads u _ t (λ same. apart (sym same)));
+}
+  where
+    cut : (g : Stage) → is_alive g ≡ true → (fs : List Fact) → Mourned u fs → Goes u g (Kill u ∷ fs)
+    cut Idle e fs mourns = Rests (Kill u ∷ fs) (Dies fs mourns)
+    cut (Calling c p) e fs mourns = go (decided_at p.phase)
+      where
+        go : (d : Option Reply) → Doing u c d (Kill u ∷ fs)
+        go None = Stays c (Kill u ∷ fs) (Dies fs mourns)
+        go (Some x) = Decides c x (Kill u ∷ fs) (Dies fs mourns)
+    cut (Dying w) e fs mourns = absurd cc
+    cut Reaped e fs mourns = absurd cc
+
+-- its death is told of, and it is reaped
+mourned_on : (u i : ℕ) (w : walks.Standing) (d : Option ℕ) (r : walk_row.Row) (ls : List Line) → Goes u (stage_walked w r) (own u ls) → Mourned u (own u (map (line_of i) (death_facts u d ++ reap_facts u (has_ended r)) ++ ls))
+mourned_on u i w d r ls later = go d (has_ended r) (at_end r later)
+  where
+    at_end : (r : walk_row.Row) → Goes u (stage_walked w r) (own u ls) → MatchBool (has_ended r) (own u ls ≡ []) (Mourned u (own u ls))
+    at_end walk.Ended e = e
+    at_end walk.LoadFirst m = m
+    at_end (walk.LoadOffset f) m = m
+    at_end (walk.LoadPending f o) m = m
+    at_end (walk.LoadNext x) m = m
+    at_end (walk.LoadWord x y) m = m
+    at_end (walk.Mark x y z a) m = m
+    at_end (walk.WakeOne x y) m = m
+
+    go : (d : Option ℕ) (b : Bool) → MatchBool b (own u ls ≡ []) (Mourned u (own u ls)) → Mourned u (own u (map (line_of i) (death_facts u d ++ reap_facts u b) ++ ls))
+    go None false m = m
+    go None true e = subst (Mourned u) (sym (own-mine u i (Reap u) ls refl refl ∙ ap (λ fs. Reap u ∷ fs) e)) Buried
+    go (Some k) false m = subst (Mourned u) (sym (own-mine u i (Death u k) ls refl refl)) (Tells_of k (own u ls) m)
+    go (Some k) true e =
+        subst (Mourned u) (sym (own-mine u i (Death u k) (line_of i (Reap u) ∷ ls) refl refl ∙ ap (λ fs. Death u k ∷ fs) (own-mine u i (Reap u) ls refl refl ∙ ap (λ fs. Reap u ∷ fs) e))) (Tells_of k (Reap u ∷ []) Buried)
+
+walks_on : (s : State) (u : ℕ) → Kept s → 1 ≤ u → u ≤ s.layout.threads → (w : walks.Standing) → (s.threads u).stage ≡ Dying w → Adds s u (walked s u (s.threads u).held w)
+walks_on s u inv pos known w is = record {
+  fine = walked_fine u _ _ _;
+  says = mourned _ _;
+  mine = λ i ls later. subst (λ g. Goes u g (own u (map (line_of i) (calls_of (walked s u (s.threads u).held w).note) ++ ls))) (sym is)
+      (mourned_on u i w _ _ ls (subst (λ (z : Thread). Goes u z.stage (own u ls)) (put-same s.threads u _) later));
+  others = λ t apart. ap (λ (z : Thread). z.stage) (put-other s.threads u _ t (λ same. apart (sym same)));
+}
+
 -- a call goes on, unless it sleeps
 goes_on : (s : State) (u : ℕ) → Kept s → 1 ≤ u → u ≤ s.layout.threads → (g : Stage) → (s.threads u).stage ≡ g → Adds s u (stepped s u (s.threads u).held g)
 goes_on s u inv pos known Idle is = idles s u
+goes_on s u inv pos known Reaped is = idles s u
+goes_on s u inv pos known (Dying w) is = walks_on s u inv pos known w is
 goes_on s u inv pos known (Calling c p) is = go (sleeps s u (Calling c p))
   where
     go : (b : Bool) → Adds s u (if b then nothing s else went s u (s.threads u).held c p (whole_led p (answer_of s (whole_access p))))
@@ -293,6 +382,11 @@ adds s (event.Step u) inv = go (is_thread s u) refl
         let pos : 1 ≤ u = grind (arith, nat_tests) in
         let known : u ≤ s.layout.threads = grind (arith, nat_tests) in
         goes_on s u inv pos known (s.threads u).stage refl
+    go false e = idles s u
+adds s (event.Kill u) inv = go (is_thread s u && is_alive (s.threads u).stage) refl
+  where
+    go : (b : Bool) → (is_thread s u && is_alive (s.threads u).stage) ≡ b → Adds s u (if b then killed s u else nothing s)
+    go true e = dies_so s u (second_true (is_thread s u) (is_alive (s.threads u).stage) e)
     go false e = idles s u
 
 -- ---- whole runs

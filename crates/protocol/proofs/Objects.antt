@@ -4,7 +4,7 @@ use Rattle.std.specs.Prelude.{if◌then◌else◌}
 use Rattle.lockword.specs.declared.reply.Reply.{Reply}
 use Rattle.lockword.specs.declared.reply.Reply.TheVariants.{OK, EPERM, EBUSY, EINVAL, EDEADLK, EOWNERDEAD, ENOTRECOVERABLE, XRACED}
 use Rattle.keys.specs.declared.point.Operation.{Operation}
-use Rattle.keys.specs.declared.point.Operation.TheVariants.{Lock, TryLock, Unlock, Consistent}
+use Rattle.keys.specs.declared.point.Operation.TheVariants.{Lock, TryLock, Unlock, Consistent, Death}
 use Rattle.keys.specs.declared.object.Object.{Object}
 use Rattle.keys.specs.Objects.{Permits}
 use Rattle.keys.specs.Histories.{is_thread}
@@ -30,12 +30,13 @@ one-other t u o e apart = ap (λ (w : Option ℕ). if is_thread t w then 1 else 
     differs true is = absurd (apart (eqb-true u t is))
     differs false is = is
 
--- the calls of the machine so far
+-- what happens to mutexes in the machine so far
 abbrev pub IsCalled : Operation → Type 0
 IsCalled Lock = Unit {0}
 IsCalled TryLock = Unit {0}
 IsCalled Unlock = Unit {0}
 IsCalled Consistent = Unit {0}
+IsCalled Death = Unit {0}
 IsCalled op = ⊥
 
 -- how a point of thread t changes how many mutexes t owns, which were h
@@ -54,6 +55,8 @@ mine o n t h Unlock EPERM c le p = let a : one t n ≡ one t o = ap (one t) p.1 
 mine o n t h Consistent OK c le p = let a : one t n ≡ one t o = ap (λ (z : Object). one t z) p.2 in omega arith
 mine o n t h Consistent EINVAL c le p = let a : one t n ≡ one t o = ap (one t) p.2 in omega arith
 mine o n t h Consistent EPERM c le p = let a : one t n ≡ one t o = ap (one t) p.1 in omega arith
+mine o n t h Death OK c le p = let a = one-own t o p.0 in let b = one-none t n (ap (λ (z : Object). z.owner) p.1) in omega arith
+mine o n t h Death x c le p = absurd p
 mine o n t h Lock x c le p = absurd p
 mine o n t h TryLock x c le p = absurd p
 mine o n t h Unlock x c le p = absurd p
@@ -76,6 +79,8 @@ others o n t u Unlock EPERM c apart p = ap (one u) p.1
 others o n t u Consistent OK c apart p = ap (one u) p.2
 others o n t u Consistent EINVAL c apart p = ap (one u) p.2
 others o n t u Consistent EPERM c apart p = ap (one u) p.1
+others o n t u Death OK c apart p = let a = one-other u t o p.0 apart in let b = one-none u n (ap (λ (z : Object). z.owner) p.1) in b ∙ sym a
+others o n t u Death x c apart p = absurd p
 others o n t u Lock x c apart p = absurd p
 others o n t u TryLock x c apart p = absurd p
 others o n t u Unlock x c apart p = absurd p
@@ -98,6 +103,8 @@ owners o n t u Unlock EPERM c p e = inl (sym (ap (λ (z : Object). z.owner) p.1)
 owners o n t u Consistent OK c p e = inl (sym (ap (λ (z : Object). z.owner) p.2) ∙ e)
 owners o n t u Consistent EINVAL c p e = inl (sym (ap (λ (z : Object). z.owner) p.2) ∙ e)
 owners o n t u Consistent EPERM c p e = inl (sym (ap (λ (z : Object). z.owner) p.1) ∙ e)
+owners o n t u Death OK c p e = absurd (cc (ap (λ (z : Object). z.owner) p.1, e))
+owners o n t u Death x c p e = absurd p
 owners o n t u Lock x c p e = absurd p
 owners o n t u TryLock x c p e = absurd p
 owners o n t u Unlock x c p e = absurd p

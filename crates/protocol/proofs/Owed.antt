@@ -1,6 +1,6 @@
 -- Threads that run alone.
 use Rattle.std.proofs.Common.{◌≡◌, ◌⊎◌, ⊎_elim, inl, inr, ℕ, zero, suc, ◌%◌, ◌^◌, ◌<◌, ◌≤◌, ◌==◌, Bool, true, false, ◌&&◌, Option, Some, None, List, [], ◌∷◌, drop, refl, sym, ap, ◌∙◌, subst, arith}
-use Rattle.std.specs.Prelude.{if◌then◌else◌, not}
+use Rattle.std.specs.Prelude.{if◌then◌else◌}
 use Rattle.std.proofs.lemmas.Bool.Decides.{nat_tests}
 use Rattle.lockword.specs.Cells.{fields_of, word_of, low_of}
 use Rattle.lockword.specs.declared.reply.Reply.{Reply}
@@ -24,9 +24,9 @@ use Rattle.mutex.specs.Whole.{whole_access, whole_led}
 use Rattle.protocol.specs.declared.event.Event.TheVariants.{Step}
 use Rattle.protocol.specs.declared.thread.Stage.{Stage}
 use Rattle.protocol.specs.declared.thread.Stage.TheVariants.{Idle, Calling}
-use Rattle.protocol.specs.Machine.{State, After, answer_of, stands_in, sleepers, sleeps, is_thread, is_idle, is_busy, is_asleep, nothing, went, stepped, stage_after, happens}
+use Rattle.protocol.specs.Machine.{State, After, answer_of, stands_in, sleepers, sleeps, is_thread, is_calling, is_walked, is_busy, is_dying, is_asleep, nothing, went, stepped, stage_after, happens}
 use Rattle.protocol.specs.Headline.{seen}
-use Rattle.protocol.specs.Sleepers.{Sleeps, IsUnowned, alone, Owes, SomebodyOwes, EndsAlone}
+use Rattle.protocol.specs.Sleepers.{Sleeps, IsUnowned, IsAwake, alone, Owes, IsAtRest}
 use Rattle.protocol.proofs.Objects.{owners}
 use Rattle.protocol.proofs.Phases.{answers_at, left_at, Change, Stays, Joins_it, Wakes, few_of_link, few_of_unlink}
 use Rattle.protocol.proofs.Kept.{Fits, InPhase, Kept}
@@ -34,6 +34,10 @@ use Rattle.protocol.proofs.Steps.{Tells, after, went-is, onto, seen-inside}
 use Rattle.protocol.proofs.Stepping.{Stepping}
 use Rattle.protocol.proofs.Accesses.{goes, fits_in}
 use Rattle.protocol.proofs.Queues.{Once, not_true, stands_last, stands_rest, first_stands, first_gone, Answers, Queued, in_none, mine, bits_here, free_field, free_after, this_answers, went_queued}
+
+pub and_false : (b : Bool) → (b && false) ≡ false
+and_false true = refl
+and_false false = refl
 
 -- a thread that is known
 pub is_known : (s : State) (t : ℕ) → 1 ≤ t → t ≤ s.layout.threads → is_thread s t ≡ true
@@ -168,7 +172,7 @@ module _ (s : State) (t : ℕ) (c : Call) (p : Whole) (inv : Kept s) (queued : Q
 -- ---- whoever answers for a free mutex takes it, or wakes one
 
 -- what holds k steps later holds one more step later
-later : (s s' : State) (t m n : ℕ) → (happens s (Step t)).state ≡ s' → ((u : ℕ) → Sleeps s' u m → Sleeps s u m) → Owes s' t m n → Owes s t m (suc n)
+pub later : (s s' : State) (t m n : ℕ) → (happens s (Step t)).state ≡ s' → ((u : ℕ) → Sleeps s' u m → Sleeps s u m) → Owes s' t m n → Owes s t m (suc n)
 later s s' t m n to stood owes = (
   suc owes.0,
   (let k = owes.1 in omega arith),
@@ -179,7 +183,7 @@ later s s' t m n to stood owes = (
 )
 
 -- one step is enough
-at_once : (s s' : State) (t m n : ℕ) → (happens s (Step t)).state ≡ s' → ((seen s' m).owner ≡ Some t) ⊎ ((u : ℕ) × Sleeps s u m × (stands_in u (sleepers s' m) ≡ false)) → Owes s t m (suc n)
+pub at_once : (s s' : State) (t m n : ℕ) → (happens s (Step t)).state ≡ s' → ((seen s' m).owner ≡ Some t) ⊎ ((u : ℕ) × Sleeps s u m × (stands_in u (sleepers s' m) ≡ false)) → Owes s t m (suc n)
 at_once s s' t m n to done = (
   1,
   omega arith,
@@ -209,31 +213,27 @@ owes (suc n) s t u c p inv queued a none stands few =
 
 -- a thread in a call is busy
 busy : (s : State) (t : ℕ) (c : Call) (p : Whole) → 1 ≤ t → t ≤ s.layout.threads → (s.threads t).stage ≡ Calling c p → is_busy s t ≡ true
-busy s t c p pos known is = (λ i. is_known s t pos known i && not (is_idle (is i)))
+busy s t c p pos known is = (λ i. is_known s t pos known i && is_calling (is i))
 
-pub somebody_owes : (s : State) → Kept s → Queued s → SomebodyOwes s
-somebody_owes s inv queued m u inside none stands =
-    let a = queued.answered m u inside none stands in
-    let t = a.0 in
-    let c = a.1 in
-    let p = a.2 in
-    let at = a.3.mutex in
-    let a' : Answers s (mutex_of c) t c p = subst (λ (k : ℕ). Answers s k t c p) (sym at) a.3 in (
-      t,
-      (busy s t c p a.3.first a.3.last a.3.stage, in_none s t c p queued a.3.stage a'.awake),
+-- whoever answers in a call owes
+pub call_owes : (s : State) (m u t : ℕ) (c : Call) (p : Whole) → Kept s → Queued s → Answers s m t c p → IsUnowned s m → Sleeps s u m → IsAwake s t × Owes s t m 9000
+call_owes s m u t c p inv queued a none stands =
+    let at = a.mutex in
+    let a' : Answers s (mutex_of c) t c p = subst (λ (k : ℕ). Answers s k t c p) (sym at) a in (
+      (inl (busy s t c p a.first a.last a.stage), in_none s t c p queued a.stage a'.awake),
       subst (λ (k : ℕ). Owes s t k 9000) at
           (owes 9000 s t u c p inv queued a' (subst (IsUnowned s) (sym at) none) (subst (Sleeps s u) (sym at) stands) (let few = few_at p.phase (s.words (cell_place s.layout (mutex_of c))) in omega arith)),
     )
 
 -- ---- whoever is awake ends its call, or falls asleep
 
-abbrev Rests : State → ℕ → ℕ → Type 0
-Rests s t n = (k : ℕ) × (k ≤ n) × ((is_busy (alone s t k) t ≡ false) ⊎ (is_asleep (alone s t k) t ≡ true))
+abbrev pub Rests : State → ℕ → ℕ → Type 0
+Rests s t n = (k : ℕ) × (k ≤ n) × IsAtRest (alone s t k) t
 
-rests_later : (s s' : State) (t n : ℕ) → (happens s (Step t)).state ≡ s' → Rests s' t n → Rests s t (suc n)
-rests_later s s' t n to rests = (suc rests.0, (let k = rests.1 in omega arith), subst (λ (z : State). (is_busy (alone z t rests.0) t ≡ false) ⊎ (is_asleep (alone z t rests.0) t ≡ true)) (sym to) rests.2)
+pub rests_later : (s s' : State) (t n : ℕ) → (happens s (Step t)).state ≡ s' → Rests s' t n → Rests s t (suc n)
+rests_later s s' t n to rests = (suc rests.0, (let k = rests.1 in omega arith), subst (λ (z : State). IsAtRest (alone z t rests.0) t) (sym to) rests.2)
 
-rests_now : (s : State) (t n : ℕ) → (is_busy s t ≡ false) ⊎ (is_asleep s t ≡ true) → Rests s t n
+pub rests_now : (s : State) (t n : ℕ) → IsAtRest s t → Rests s t n
 rests_now s t n h = (0, omega arith, h)
 
 -- a phase, ended or not
@@ -272,12 +272,11 @@ module _ (s : State) (t : ℕ) (c : Call) (p : Whole) (inv : Kept s) (queued : Q
   pub now_idle : (x : Reply) → to ≡ phase.Ended x → (z.threads t).stage ≡ Idle
   now_idle x e = stage' s t c p inv queued pos known is out ∙ ap (stage_after c p) e
 
-  not_busy : (x : Reply) → to ≡ phase.Ended x → is_busy z t ≡ false
-  not_busy x e = ap (λ (g : Stage). is_thread z t && not (is_idle g)) (now_idle x e) ∙ and_false (is_thread z t)
-    where
-      and_false : (b : Bool) → (b && false) ≡ false
-      and_false true = refl
-      and_false false = refl
+  at_rest_then : (x : Reply) → to ≡ phase.Ended x → (is_busy z t ≡ false) × (is_dying z t ≡ false)
+  at_rest_then x e = (
+    ap (λ (g : Stage). is_thread z t && is_calling g) (now_idle x e) ∙ and_false (is_thread z t),
+    ap (λ (g : Stage). is_thread z t && is_walked g) (now_idle x e) ∙ and_false (is_thread z t),
+  )
 
 ends : (n : ℕ) (s : State) (t : ℕ) (c : Call) (p : Whole) → Kept s → Queued s → 1 ≤ t → t ≤ s.layout.threads → (s.threads t).stage ≡ Calling c p → left_at p.phase (s.words (cell_place s.layout (mutex_of c))) ≤ n → Rests s t n
 ends zero s t c p inv queued pos known is few =
@@ -303,7 +302,7 @@ ends (suc n) s t c p inv queued pos known is few = go (stands_in t (sleepers s (
         further_on true e out further = rests_now _ t n (inr (now_asleep s t c p inv queued pos known is out e (steps s t c p inv queued pos known is out).change))
         further_on false e out further =
             ⊎_elim
-            (λ ended. rests_now _ t n (inl (not_busy s t c p inv queued pos known is out ended.0 ended.1)))
+            (λ ended. rests_now _ t n (inl (at_rest_then s t c p inv queued pos known is out ended.0 ended.1)))
             (λ on.
             let f = (next s t c p inv queued pos known is out).phase in
             let g = steps s t c p inv queued pos known is out in
@@ -313,21 +312,6 @@ ends (suc n) s t c p inv queued pos known is few = go (stands_in t (sleepers s (
             (omega arith))
             (ended_or_not (next s t c p inv queued pos known is out).phase)
 
-pub ends_alone : (s : State) → Kept s → Queued s → (t : ℕ) → EndsAlone s t
-ends_alone s inv queued t awake = go (s.threads t).stage refl
-  where
-    go : (g : Stage) → (s.threads t).stage ≡ g → Rests s t 9000
-    go Idle is = absurd (let busy_now : (is_thread s t && not (is_idle (s.threads t).stage)) ≡ true = awake.0 in cc (sym busy_now ∙ ap (λ (g : Stage). is_thread s t && not (is_idle g)) is ∙ and_false (is_thread s t)))
-      where
-        and_false : (b : Bool) → (b && false) ≡ false
-        and_false true = refl
-        and_false false = refl
-    go (Calling c p) is =
-        let there : is_thread s t ≡ true = (let busy_now : (is_thread s t && not (is_idle (s.threads t).stage)) ≡ true = awake.0 in first_true (is_thread s t) (not (is_idle (s.threads t).stage)) busy_now) in
-        let pos : 1 ≤ t = grind (arith, nat_tests) in
-        let known : t ≤ s.layout.threads = grind (arith, nat_tests) in
-        ends 9000 s t c p inv queued pos known is (let few = few_at p.phase (s.words (cell_place s.layout (mutex_of c))) in omega arith)
-      where
-        first_true : (a b : Bool) → (a && b) ≡ true → a ≡ true
-        first_true true b e = refl
-        first_true false b e = e
+-- whoever is in a call comes to rest
+pub call_ends : (s : State) (t : ℕ) (c : Call) (p : Whole) → Kept s → Queued s → 1 ≤ t → t ≤ s.layout.threads → (s.threads t).stage ≡ Calling c p → Rests s t 9000
+call_ends s t c p inv queued pos known is = ends 9000 s t c p inv queued pos known is (let few = few_at p.phase (s.words (cell_place s.layout (mutex_of c))) in omega arith)

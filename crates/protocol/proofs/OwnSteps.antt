@@ -43,7 +43,7 @@ use Rattle.protocol.specs.Headline.{seen}
 use Rattle.protocol.proofs.Puts.{by_put, put-same, put-other}
 use Rattle.protocol.proofs.Objects.{IsCalled}
 use Rattle.protocol.proofs.Phases.{decided_at, left_at, SteadyAt, Moves, Change, Stays, IsPlain, IsOwn, plain_answer, plain_queue, plain_awake, own_pointless, own_silent, joins_same, link_plain, unlink_plain}
-use Rattle.protocol.proofs.Kept.{AtRow, Fits, left_out_in, Owned, ChainedIn, Listed, IsAnnounced, pending_in, pending_of, Kept}
+use Rattle.protocol.proofs.Kept.{AtRow, Fits, left_out_in, Owned, ChainedIn, Listed, IsAnnounced, pending_in, PendsAs, Kept}
 use Rattle.protocol.proofs.Places.{IsMine, offset_is_nobodys, more_not_pending, mine_is_valid, mine_is_no_cell, mine_is_not_theirs, list_is_mine, list_not_pending, more_is_mine, both_same, among_without, without_is_apart, pending_is}
 use Rattle.protocol.proofs.Steps.{Tells, unmoved, onto, thread_after, after}
 use Rattle.protocol.proofs.Frames.{kept_where}
@@ -121,13 +121,14 @@ module _ (s : State) (t : ℕ) (c : Call) (p : Whole) (inv : Kept s) (pos : 1 �
   -- what holds of every state holds then, where its thread arrives rightly
   pub own_kept : (es : List ℕ) → Arrives t (s.threads t).held p o.phase (seen s m) → s'.words (head_place t + 2) ≡ pending_in p.entry o.phase → Owned s t (left_out_in m o.phase) es → ChainedIn s'.words (head_place t) p.entry es o.phase → Kept s'
   own_kept es arrives pending owned ch =
-      kept_where s t c p inv pos known fits.inside called (λ k apart. own_seen k) own_tells
+      kept_where s t m a (thread_after s t c p) (operation_of c) o.point inv pos known fits.inside called (λ k apart. own_seen k) own_tells refl
       (λ x e takes. absurd (cc (e, own_no_point)))
       (λ u first most. own_words (head_place u + 1) (offset_is_nobodys s t u at pos known first most mine))
       (λ u x first most apart theirs. own_words x (mine_is_not_theirs s u t x at first most pos known (λ e. apart (sym e)) theirs mine))
+      (λ u k first most apart inside own. inl (own_cells k inside))
       (sits_after s t c p (s.threads t).held fits (thread_after s t c p).held o.phase (subst (λ (z : ℕ × Object). Arrives t z.0 p o.phase z.1) (λ i. (sym held_same i, sym (own_seen m) i)) arrives))
       (listed_after s t c p (s.threads t).held fits es o.phase owned_then ch)
-      (pending ∙ pending_then c p o.phase)
+      (pending_then c p o.phase (s'.words (head_place t + 2)) pending)
       (subst Sound (sym (own_seen m)) (inv.sound m))
     where
       owned_then : Owned s' t (left_out_in m o.phase) es
@@ -159,6 +160,7 @@ goes_own s t c p inv pos known fits called own plain mine lands = record {
   room = λ x e takes. absurd (cc (e, own_no_point s t c p inv pos known fits called own plain mine));
   far = λ k apart. own_seen s t c p inv pos known fits called own plain mine k;
   cells = λ k inside apart. own_cells s t c p inv pos known fits called own plain mine k inside;
+  pendings = λ u first most apart. own_words s t c p inv pos known fits called own plain mine (head_place u + 2) (mine_is_not_theirs s u t (head_place u + 2) _ first most pos known (λ e. apart (sym e)) (inr (inl refl)) mine);
   queues = λ key apart. own_queues s t c p inv pos known fits called own plain mine key;
 }
 
@@ -307,7 +309,7 @@ module _ (s : State) (t : ℕ) (c : Call) (p : Whole) (inv : Kept s) (pos : 1 �
       link_pends =
           let on = links.near (head_place t) p.entry es l.row s.words ch in
           let elsewhere : address_of (link_access (head_place t) p.entry l.row) ≢ head_place t + 2 = more_not_pending s t k (Some k) p.entry es _ inv.layout pos known owned fits.inside fits.entry on in
-          put-other s.words (address_of (link_access_of l)) (changed (link_access_of l) found) (head_place t + 2) (λ e. elsewhere (sym (ap address_of access_is) ∙ sym e)) ∙ (inv.heads t pos known).pending ∙ ap pending_of is_in
+          put-other s.words (address_of (link_access_of l)) (changed (link_access_of l) found) (head_place t + 2) (λ e. elsewhere (sym (ap address_of access_is) ∙ sym e)) ∙ subst (PendsAs (s.words (head_place t + 2))) is_in (inv.heads t pos known).pending
 
       makes : Makes (link_access (head_place t) p.entry l.row) (head_place t) (p.entry ∷ es) s.words linked_words
       makes = subst (λ a. Makes a (head_place t) (p.entry ∷ es) s.words linked_words) access_is record {
@@ -424,7 +426,7 @@ module _ (s : State) (t : ℕ) (c : Call) (p : Whole) (inv : Kept s) (pos : 1 �
       unlink_pends =
           let on = unlinks.near (head_place t) p.entry es u.row s.words ch in
           let elsewhere : address_of (unlink_access (head_place t) p.entry u.row) ≢ head_place t + 2 = list_not_pending s t None es _ inv.layout pos known owned on in
-          put-other s.words (address_of (unlink_access_of u)) (changed (unlink_access_of u) met) (head_place t + 2) (λ e. elsewhere (sym (ap address_of unlink_is) ∙ sym e)) ∙ (inv.heads t pos known).pending ∙ ap pending_of is_in
+          put-other s.words (address_of (unlink_access_of u)) (changed (unlink_access_of u) met) (head_place t + 2) (λ e. elsewhere (sym (ap address_of unlink_is) ∙ sym e)) ∙ subst (PendsAs (s.words (head_place t + 2))) is_in (inv.heads t pos known).pending
 
       unlink_makes : Makes (unlink_access (head_place t) p.entry u.row) (head_place t) es s.words unlinked_words
       unlink_makes = subst (λ a. Makes a (head_place t) es s.words unlinked_words) unlink_is record {

@@ -39,6 +39,7 @@ abbrev Harmless : Operation → Reply → Type 0
 Harmless operation.Lock x = Takes x → ⊥
 Harmless operation.TryLock x = Takes x → ⊥
 Harmless operation.Unlock OK = ⊥
+Harmless operation.Death x = ⊥
 Harmless op x = Unit {0}
 
 permits_keeps : (o n : Object) (t : ℕ) (op : Operation) (x : Reply) → IsCalled op → Harmless op x → Permits o t op x n → n.owner ≡ o.owner
@@ -56,6 +57,7 @@ permits_keeps o n t operation.Consistent OK c h p = ap (λ (z : Object). z.owner
 permits_keeps o n t operation.Consistent EINVAL c h p = ap (λ (z : Object). z.owner) p.2
 permits_keeps o n t operation.Consistent EPERM c h p = ap (λ (z : Object). z.owner) p.1
 permits_keeps o n t operation.Unlock OK c h p = absurd h
+permits_keeps o n t operation.Death x c h p = absurd h
 permits_keeps o n t operation.Lock x c h p = absurd p
 permits_keeps o n t operation.TryLock x c h p = absurd p
 permits_keeps o n t operation.Unlock x c h p = absurd p

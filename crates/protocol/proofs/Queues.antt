@@ -1,14 +1,12 @@
 -- Who sleeps where, and who answers for a mutex that nobody owns.
-use Rattle.std.proofs.Common.{◌≡◌, ◌≢◌, ◌⊎◌, ⊎_elim, inl, inr, ℕ, zero, suc, ◌<◌, ◌≤◌, ◌==◌, Bool, true, false, ◌&&◌, None, Ok, Err, List, [], ◌∷◌, ◌++◌, drop, refl, sym, ap, ◌∙◌, subst, arith, eqb-true}
-use Rattle.std.specs.Prelude.{if◌then◌else◌, nat_le}
+use Rattle.std.proofs.Common.{◌≡◌, ◌≢◌, ◌⊎◌, ⊎_elim, inl, inr, ℕ, zero, suc, ◌+◌, ◌<◌, ◌≤◌, ◌==◌, Bool, true, false, None, List, [], ◌∷◌, ◌++◌, drop, refl, sym, ap, ◌∙◌, subst, arith, eqb-true}
+use Rattle.std.specs.Prelude.{if◌then◌else◌}
 use Rattle.std.proofs.lemmas.Bool.{eqb-false}
-use Rattle.std.proofs.lemmas.Bool.Decides.{nat_tests}
 use Rattle.lockword.specs.Cells.{fields_of}
-use Rattle.lockword.specs.declared.reply.Reply.TheVariants.{XHELD}
 use Rattle.keys.specs.declared.object.Object.{Object}
-use Rattle.keys.specs.Layouts.{Layout', IsLayout, cell_place}
+use Rattle.keys.specs.Layouts.{head_place, entry_place, cell_place}
 use Rattle.keys.specs.Accesses.{sleeps_at}
-use Rattle.keys.specs.Objects.{object_of, owner_of, acquires}
+use Rattle.keys.specs.Objects.{object_of, owner_of}
 use Rattle.keys.proofs.Owners.{owner_of-none}
 use Rattle.mutex.specs.declared.call.Call.{Call}
 use Rattle.mutex.specs.declared.lock.LockRow.TheVariants as lock
@@ -16,23 +14,21 @@ use Rattle.mutex.specs.declared.row.Row.TheVariants.{Lock}
 use Rattle.mutex.specs.declared.phase.Phase.{Phase}
 use Rattle.mutex.specs.declared.phase.Phase.TheVariants.{Announcing, AtCell, Linking, Unlinking, Clearing, Ended}
 use Rattle.mutex.specs.declared.phase.Onward.{Onward}
-use Rattle.mutex.specs.Calls.{mutex_of, operation_of}
+use Rattle.mutex.specs.Calls.{mutex_of}
 use Rattle.mutex.specs.Standings.{Whole}
-use Rattle.mutex.specs.Whole.{begins, whole_started, whole_access, whole_led}
-use Rattle.protocol.specs.declared.event.Event.{Event}
-use Rattle.protocol.specs.declared.event.Event.TheVariants.{Begin, Step}
+use Rattle.mutex.specs.Whole.{whole_access}
 use Rattle.protocol.specs.declared.thread.Thread.{Thread}
-use Rattle.protocol.specs.declared.thread.Stage.{Stage}
-use Rattle.protocol.specs.declared.thread.Stage.TheVariants.{Idle, Calling}
-use Rattle.protocol.specs.Machine.{State, After, put, start, answer_of, stands_in, sleepers, sleeps, is_thread, may_begin, begun, nothing, went, stepped, stage_after, happens, run}
+use Rattle.protocol.specs.declared.thread.Stage.TheVariants.{Idle, Calling, Dying}
+use Rattle.protocol.specs.Machine.{State, stands_in, sleepers, stage_after}
 use Rattle.protocol.specs.Sleepers.{Sleeps, IsUnowned}
-use Rattle.protocol.proofs.Puts.{by_put, put-same, put-other}
+use Rattle.protocol.proofs.Puts.{put-same, put-other}
 use Rattle.protocol.proofs.Phases.{answers_at, Change, Stays, Joins_it, Wakes}
-use Rattle.protocol.proofs.Kept.{Kept}
-use Rattle.protocol.proofs.Steps.{seen-inside, after, went-is, onto}
+use Rattle.protocol.proofs.Steps.{seen-inside, after, onto}
+use Rattle.exitwalk.specs.declared.row.Row as walk_row
+use Rattle.exitwalk.specs.declared.row.Row.TheVariants as walk
+use Rattle.exitwalk.specs.declared.row.Part.TheVariants as part
+use Rattle.protocol.proofs.WalkSteps.{walk_of}
 use Rattle.protocol.proofs.Stepping.{Stepping}
-use Rattle.protocol.proofs.Accesses.{goes, fits_in}
-use Rattle.protocol.proofs.Runs.{sound, start_kept, at_rest}
 
 -- ---- queues
 
@@ -89,7 +85,7 @@ once_last t (u ∷ us) once out = go (u == t) refl (once_last t us once.1) out
     go true e rest h = absurd cc
     go false e rest h = (not_true (stands_in u (us ++ t ∷ [])) (λ is. ⊎_elim (λ stood. cc (stood, once.0)) (λ same. eqb-false u t e same) (stands_before u t us is)), rest h)
 
-once_rest : (n : ℕ) (q : List ℕ) → Once q → Once (drop n q)
+pub once_rest : (n : ℕ) (q : List ℕ) → Once q → Once (drop n q)
 once_rest zero q once = once
 once_rest (suc n) [] once = once
 once_rest (suc n) (u ∷ us) once = once_rest n us once.1
@@ -121,11 +117,36 @@ pub record Answers (s : State) (m t : ℕ) (c : Call) (p : Whole) : Type 0 where
   pub answers : answers_at p.phase ≡ true
   pub awake : stands_in t (sleepers s m) ≡ false
 
+-- a walk that is at a row, and has not come to its pending entry yet, answers for the mutex that is pending; and at a wake, for the one whose sleeper it is going to wake
+abbrev pub Minds : State → ℕ → ℕ → walk_row.Row → Type 0
+Minds s m t walk.LoadFirst = s.words (head_place t + 2) ≡ entry_place s.layout m
+Minds s m t (walk.LoadOffset f) = s.words (head_place t + 2) ≡ entry_place s.layout m
+Minds s m t (walk.LoadPending f o) = s.words (head_place t + 2) ≡ entry_place s.layout m
+Minds s m t (walk.LoadNext r) = r.pending ≡ entry_place s.layout m
+Minds s m t (walk.LoadWord at (part.List r)) = r.pending ≡ entry_place s.layout m
+Minds s m t (walk.LoadWord at part.Pending) = at ≡ cell_place s.layout m
+Minds s m t (walk.Mark at v again (part.List r)) = r.pending ≡ entry_place s.layout m
+Minds s m t (walk.WakeOne at (part.List r)) = (at ≡ cell_place s.layout m) ⊎ (r.pending ≡ entry_place s.layout m)
+Minds s m t (walk.WakeOne at part.Pending) = at ≡ cell_place s.layout m
+Minds s m t r = ⊥
+
+-- thread t died, and its walk answers for mutex m
+pub record Mourns_for (s : State) (m t : ℕ) (r : walk_row.Row) : Type 0 where
+  pub first : 1 ≤ t
+  pub last : t ≤ s.layout.threads
+  pub stage : (s.threads t).stage ≡ Dying (walk_of t r)
+  pub minds : Minds s m t r
+
+-- somebody answers for it, in a call or in a walk
+pub data Answering (s : State) (m t : ℕ) : Type 0 where
+  in_call : (c : Call) (p : Whole) → Answers s m t c p → Answering s m t
+  in_walk : (r : walk_row.Row) → Mourns_for s m t r → Answering s m t
+
 pub record Queued (s : State) : Type 0 where
   pub sleeps : (key t : ℕ) → stands_in t (s.queues key) ≡ true → Slept s t key
   pub once : (key : ℕ) → Once (s.queues key)
   pub bits : (m u : ℕ) → m < s.layout.mutexes → Sleeps s u m → (fields_of (s.words (cell_place s.layout m))).waiters ≡ true
-  pub answered : (m u : ℕ) → m < s.layout.mutexes → IsUnowned s m → Sleeps s u m → (t : ℕ) × (c : Call) × (p : Whole) × Answers s m t c p
+  pub answered : (m u : ℕ) → m < s.layout.mutexes → IsUnowned s m → Sleeps s u m → (t : ℕ) × Answering s m t
 
 -- whoever is in no queue of its call's mutex is in none
 pub in_none : (s : State) (t : ℕ) (c : Call) (p : Whole) → Queued s → (s.threads t).stage ≡ Calling c p → stands_in t (sleepers s (mutex_of c)) ≡ false → (key : ℕ) → stands_in t (s.queues key) ≡ false
@@ -267,6 +288,24 @@ module _ (s : State) (t : ℕ) (c : Call) (p : Whole) (g : Stepping s t c p) (po
   still_answers : (k u : ℕ) (d : Call) (r : Whole) → Answers s k u d r → u ≢ t → stands_in u (sleepers s' k) ≡ false → Answers s' k u d r
   still_answers k u d r a apart awake' = record { first = a.first; last = a.last; stage = ap (λ (z : Thread). z.stage) (theirs u apart) ∙ a.stage; mutex = a.mutex; answers = a.answers; awake = awake' }
 
+  still_minds : (k u : ℕ) (r : walk_row.Row) → s'.words (head_place u + 2) ≡ s.words (head_place u + 2) → Minds s k u r → Minds s' k u r
+  still_minds k u walk.LoadFirst same l = same ∙ l
+  still_minds k u (walk.LoadOffset f) same l = same ∙ l
+  still_minds k u (walk.LoadPending f o) same l = same ∙ l
+  still_minds k u (walk.LoadNext r) same l = l
+  still_minds k u (walk.LoadWord at (part.List r)) same l = l
+  still_minds k u (walk.LoadWord at part.Pending) same l = l
+  still_minds k u (walk.Mark at v again (part.List r)) same l = l
+  still_minds k u (walk.Mark at v again part.Pending) same l = l
+  still_minds k u (walk.WakeOne at (part.List r)) same l = l
+  still_minds k u (walk.WakeOne at part.Pending) same l = l
+  still_minds k u walk.Ended same l = l
+
+  still_mourns : (k u : ℕ) (r : walk_row.Row) → Mourns_for s k u r → Mourns_for s' k u r
+  still_mourns k u r a =
+      let apart : u ≢ t = λ same. cc (sym a.stage ∙ ap (λ (v : ℕ). (s.threads v).stage) same ∙ is) in
+      record { first = a.first; last = a.last; stage = ap (λ (z : Thread). z.stage) (theirs u apart) ∙ a.stage; minds = still_minds k u r (g.pendings u a.first a.last (λ e. apart (sym e))) a.minds }
+
   pub this_answers : answers_at o.phase ≡ true → q' ≡ q → Answers s' m t c (record p { phase = o.phase })
   this_answers e same = record {
     first = pos;
@@ -278,7 +317,7 @@ module _ (s : State) (t : ℕ) (c : Call) (p : Whole) (g : Stepping s t c p) (po
   }
 
   abbrev Answered : State → ℕ → Type 0
-  Answered z k = (u : ℕ) × (d : Call) × (r : Whole) × Answers z k u d r
+  Answered z k = (u : ℕ) × Answering z k u
 
   answered_here : (u : ℕ) → IsUnowned s' m → stands_in u q' ≡ true → Change t (whole_access p) w w' q q' → Answered s' m
   answered_here u none stands (Joins_it e f h) = absurd (let owned = (g.moves.sleeps e).0 in let free = free_after none in let same : (fields_of w').owner ≡ (fields_of w).owner = ap (λ (v : ℕ). (fields_of v).owner) f in omega arith)
@@ -291,9 +330,7 @@ module _ (s : State) (t : ℕ) (c : Call) (p : Whole) (g : Stepping s t c p) (po
           let other : v ≢ t = λ same. cc (sym (ap (λ (x : ℕ). stands_in x q) same) ∙ ap (stands_in v) eq ∙ first_stands v vs, awake place) in
           let at : mutex_of slept.2.0 ≡ m = (let e' = slept.2.4 in omega (arith, e')) in (
             v,
-            slept.2.0,
-            slept.2.1,
-            record {
+            in_call slept.2.0 slept.2.1 record {
               first = slept.0;
               last = slept.1;
               stage = ap (λ (z : Thread). z.stage) (theirs v other) ∙ slept.2.2;
@@ -302,14 +339,19 @@ module _ (s : State) (t : ℕ) (c : Call) (p : Whole) (g : Stepping s t c p) (po
               awake = ap (stands_in v) (h ∙ ap (drop n) eq) ∙ first_gone v n vs (subst Once eq (queued.once place)) some;
             },
           )
-  answered_here u none stands (Stays e f h) = ⊎_elim (λ on. (t, c, record p { phase = o.phase }, this_answers on h)) still (g.moves.answers f (free_after none) (bits_here u stands))
+  answered_here u none stands (Stays e f h) = ⊎_elim (λ on. (t, in_call c (record p { phase = o.phase }) (this_answers on h))) still (g.moves.answers f (free_after none) (bits_here u stands))
     where
       still : (answers_at p.phase ≡ false) × (w' ≡ w) → Answered s' m
       still looks =
           let free : (fields_of w).owner ≡ 0 = sym (ap (λ (v : ℕ). (fields_of v).owner) looks.1) ∙ free_after none in
           let old = queued.answered m u inside (unowned_before free) (sym (ap (stands_in u) h) ∙ stands) in
-          let other : old.0 ≢ t = λ same. cc (sym old.3.answers ∙ ap (λ (z : Whole). answers_at z.phase) (calls_alike _ _ _ _ (sym old.3.stage ∙ ap (λ (v : ℕ). (s.threads v).stage) same ∙ is)).1 ∙ looks.0) in
-          (old.0, old.1, old.2, still_answers m old.0 old.1 old.2 old.3 other (ap (stands_in old.0) h ∙ old.3.awake))
+          (old.0, goes_on_answering old.0 old.1)
+        where
+          goes_on_answering : (x : ℕ) → Answering s m x → Answering s' m x
+          goes_on_answering x (in_call d r a) =
+              let other : x ≢ t = λ same. cc (sym a.answers ∙ ap (λ (z : Whole). answers_at z.phase) (calls_alike _ _ _ _ (sym a.stage ∙ ap (λ (v : ℕ). (s.threads v).stage) same ∙ is)).1 ∙ looks.0) in
+              in_call d r (still_answers m x d r a other (ap (stands_in x) h ∙ a.awake))
+          goes_on_answering x (in_walk r a) = in_walk r (still_mourns m x r a)
 
   answered' : (k u : ℕ) → k < s.layout.mutexes → IsUnowned s' k → Sleeps s' u k → Answered s' k
   answered' k u inside_k none stands = go (k == m) refl
@@ -322,82 +364,13 @@ module _ (s : State) (t : ℕ) (c : Call) (p : Whole) (g : Stepping s t c p) (po
           let apart = eqb-false k m e in
           let same : sleepers s' k ≡ sleepers s k = g.queues (cell_place s.layout k) (elsewhere k apart) in
           let old = queued.answered k u inside_k (sym (ap (λ (o : Object). o.owner) (g.far k apart)) ∙ none) (sym (ap (stands_in u) same) ∙ stands) in
-          let other : old.0 ≢ t = λ this. apart (sym old.3.mutex ∙ ap mutex_of (calls_alike _ _ _ _ (sym old.3.stage ∙ ap (λ (v : ℕ). (s.threads v).stage) this ∙ is)).0) in
-          (old.0, old.1, old.2, still_answers k old.0 old.1 old.2 old.3 other (ap (stands_in old.0) same ∙ old.3.awake))
+          (old.0, goes_on_answering apart same old.0 old.1)
+        where
+          goes_on_answering : k ≢ m → sleepers s' k ≡ sleepers s k → (x : ℕ) → Answering s k x → Answering s' k x
+          goes_on_answering apart same x (in_call d r a) =
+              let other : x ≢ t = λ this. apart (sym a.mutex ∙ ap mutex_of (calls_alike _ _ _ _ (sym a.stage ∙ ap (λ (v : ℕ). (s.threads v).stage) this ∙ is)).0) in
+              in_call d r (still_answers k x d r a other (ap (stands_in x) same ∙ a.awake))
+          goes_on_answering apart same x (in_walk r a) = in_walk r (still_mourns k x r a)
 
   pub went_queued : Queued s'
   went_queued = record { sleeps = sleeps'; once = once'; bits = bits'; answered = answered' }
-
--- ---- events
-
--- an access of a thread that isn't asleep
-pub went_is_queued : (s : State) (t : ℕ) (c : Call) (p : Whole) → Kept s → Queued s → 1 ≤ t → t ≤ s.layout.threads → (s.threads t).stage ≡ Calling c p → stands_in t (sleepers s (mutex_of c)) ≡ false → Queued (went s t (s.threads t).held c p (whole_led p (answer_of s (whole_access p)))).state
-went_is_queued s t c p inv queued pos known is out =
-    let g : Stepping s t c p = goes s t c p inv pos known is in
-    subst (λ (z : After). Queued z.state) (sym (went-is s t c p g.valid)) (went_queued s t c p g pos known (fits_in s t c p inv pos known is).inside is queued out)
-
--- a call that begins
-module _ (s : State) (t : ℕ) (c : Call) (queued : Queued s) (idle : (s.threads t).stage ≡ Idle) where
-  abbrev first_standing : Whole
-  first_standing = begins s.layout t c
-
-  abbrev busy : Thread
-  busy = record (s.threads t) { stage = Calling c first_standing }
-
-  abbrev begun_state : State
-  begun_state = record s { threads = put s.threads t busy }
-
-  same_stage : (u : ℕ) (d : Call) (r : Whole) → (s.threads u).stage ≡ Calling d r → (begun_state.threads u).stage ≡ Calling d r
-  same_stage u d r is = by_put (λ (z : Thread). z.stage ≡ Calling d r) s.threads t busy u (λ at. absurd (cc (sym (ap (λ (v : ℕ). (s.threads v).stage) at) ∙ is, idle))) (λ apart. is)
-
-  begun_queued : Queued begun_state
-  begun_queued = record {
-    sleeps = λ key u stands. let slept = queued.sleeps key u stands in (slept.0, slept.1, (slept.2.0, slept.2.1, same_stage u slept.2.0 slept.2.1 slept.2.2, slept.2.3, slept.2.4));
-    once = queued.once;
-    bits = queued.bits;
-    answered = λ m u inside none stands.
-        let old = queued.answered m u inside none stands in
-        (old.0, old.1, old.2, record { first = old.3.first; last = old.3.last; stage = same_stage old.0 old.1 old.2 old.3.stage; mutex = old.3.mutex; answers = old.3.answers; awake = old.3.awake });
-  }
-
-  begins_queued : (b : Bool) → Queued (begun s t c (if b then Err XHELD else Ok first_standing)).state
-  begins_queued true = queued
-  begins_queued false = begun_queued
-
-step_queued : (s : State) (t : ℕ) → Kept s → Queued s → 1 ≤ t → t ≤ s.layout.threads → (g : Stage) → (s.threads t).stage ≡ g → Queued (stepped s t (s.threads t).held g).state
-step_queued s t inv queued pos known Idle is = queued
-step_queued s t inv queued pos known (Calling c p) is = go (sleeps s t (Calling c p)) refl
-  where
-    go : (b : Bool) → sleeps s t (Calling c p) ≡ b → Queued (if b then nothing s else went s t (s.threads t).held c p (whole_led p (answer_of s (whole_access p)))).state
-    go true e = queued
-    go false e = went_is_queued s t c p inv queued pos known is e
-
-pub queued_on : (s : State) (e : Event) → Kept s → Queued s → Queued (happens s e).state
-queued_on s (Begin t c) inv queued = go (may_begin s t c) refl
-  where
-    go : (b : Bool) → may_begin s t c ≡ b → Queued (if b then begun s t c (whole_started s.layout t (s.threads t).held c) else nothing s).state
-    go true e = begins_queued s t c queued (at_rest (s.threads t).stage (grind (arith, nat_tests))) (acquires (operation_of c) && nat_le 2048 (s.threads t).held)
-    go false e = queued
-queued_on s (Step t) inv queued = go (is_thread s t) refl
-  where
-    go : (b : Bool) → is_thread s t ≡ b → Queued (if b then stepped s t (s.threads t).held (s.threads t).stage else nothing s).state
-    go true e =
-        let pos : 1 ≤ t = grind (arith, nat_tests) in
-        let known : t ≤ s.layout.threads = grind (arith, nat_tests) in
-        step_queued s t inv queued pos known (s.threads t).stage refl
-    go false e = queued
-
-pub start_queued : (l : Layout') (counters : ℕ → ℕ) → Queued (start l counters)
-start_queued l counters = record {
-  sleeps = λ key t stands. absurd cc;
-  once = λ key. tt;
-  bits = λ m u inside stands. absurd cc;
-  answered = λ m u inside none stands. absurd cc;
-}
-
-pub queued_after : (s : State) (es : List Event) → Kept s → Queued s → Queued (run s es)
-queued_after s [] inv queued = queued
-queued_after s (e ∷ es) inv queued = queued_after (happens s e).state es (sound s e inv).kept (queued_on s e inv queued)
-
-pub run_queued : (l : Layout') (counters : ℕ → ℕ) (events : List Event) → IsLayout l → Queued (run (start l counters) events)
-run_queued l counters events is = queued_after (start l counters) events (start_kept l counters is) (start_queued l counters)

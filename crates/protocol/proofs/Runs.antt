@@ -18,23 +18,31 @@ use Rattle.mutex.specs.Calls.{mutex_of, operation_of}
 use Rattle.mutex.specs.Standings.{Whole}
 use Rattle.mutex.specs.Whole.{begins, whole_started, whole_access, whole_led}
 use Rattle.protocol.specs.declared.event.Event.{Event}
-use Rattle.protocol.specs.declared.event.Event.TheVariants.{Begin, Step}
+use Rattle.protocol.specs.declared.event.Event.TheVariants.{Begin, Step, Kill}
 use Rattle.protocol.specs.declared.thread.Thread.{Thread}
 use Rattle.protocol.specs.declared.thread.Stage.{Stage}
-use Rattle.protocol.specs.declared.thread.Stage.TheVariants.{Idle, Calling}
-use Rattle.protocol.specs.declared.note.Note.TheVariants.{Stepped}
+use Rattle.protocol.specs.declared.thread.Stage.TheVariants.{Idle, Calling, Dying, Reaped}
+use Rattle.protocol.specs.declared.note.Note.TheVariants.{Stepped, Walked}
 use Rattle.protocol.specs.declared.note.Fact.TheVariants.{Wake}
-use Rattle.protocol.specs.Notes.{facts_of, sleep_facts, return_facts}
-use Rattle.protocol.specs.Machine.{State, After, put, start, head_word, first_word, nothing, is_thread, is_idle, may_begin, begun, stepped, went, sleeps, answer_of, happens, run, notes, decision}
+use Rattle.protocol.specs.Notes.{facts_of, sleep_facts, return_facts, reap_facts}
+use Rattle.protocol.specs.Machine.{State, After, put, start, head_word, first_word, nothing, is_thread, is_idle, is_alive, has_ended, woken_by, walked, killed, may_begin, begun, stepped, went, sleeps, answer_of, happens, run, notes, decision}
 use Rattle.protocol.specs.Headline.{seen, points_of, points_among, HistoryIsLegal}
 use Rattle.lockword.specs.Cells.{fields_of}
 use Rattle.protocol.proofs.Puts.{by_put}
 use Rattle.protocol.proofs.Objects.{one}
 use Rattle.protocol.proofs.Counts.{held_by-same}
-use Rattle.protocol.proofs.Kept.{Fits, Sits, Owned, left_out, Listed, pending_of, Kept}
+use Rattle.protocol.proofs.Kept.{Fits, Sits, Owned, left_out, Listed, Walks, Mourns, pending_in, PendsAs, Kept}
 use Rattle.protocol.proofs.Steps.{Tells, after, went-is}
 use Rattle.protocol.proofs.Stepping.{Stepping}
 use Rattle.protocol.proofs.Accesses.{goes, fits_in}
+use Rattle.exitwalk.specs.declared.row.Row as walk_row
+use Rattle.exitwalk.specs.declared.row.Row.TheVariants.{LoadFirst}
+use Rattle.exitwalk.specs.Standings as walks
+use Rattle.exitwalk.specs.Walks as exit
+use Rattle.keys.specs.Accesses.{address_of}
+use Rattle.protocol.proofs.Lists.{left_from}
+use Rattle.protocol.proofs.Frames.{knows_at}
+use Rattle.protocol.proofs.WalkSteps.{walk_of, walk_access, row_then, death_then, walk_after, walked-is, DeathTells, walk_step, mourns_same}
 
 -- the decisions take the mutexes from what the one state's cells say to what the other's do
 abbrev pub Told : State → List Decision → State → Type 0
@@ -67,7 +75,7 @@ first_listed s t (call.Unlock m) (es, owned, ch) = (es, owned, ch)
 first_listed s t (call.Consistent m) (es, owned, ch) = (es, owned, ch)
 
 -- nothing is pending yet
-first_pends : (l : Layout') (t : ℕ) (c : Call) → pending_of (Calling c (begins l t c)) ≡ 0
+first_pends : (l : Layout') (t : ℕ) (c : Call) → pending_in (begins l t c).entry (begins l t c).phase ≡ 0
 first_pends l t (call.Lock m) = refl
 first_pends l t (call.TryLock m) = refl
 first_pends l t (call.Unlock m) = refl
@@ -87,13 +95,18 @@ module _ (s : State) (t : ℕ) (c : Call) (inv : Kept s) (pos : 1 ≤ t) (known 
   -- whoever sits there sits there still
   still : (u h : ℕ) (g : Stage) → Sits s u h g → Sits (with_call s t c p) u h g
   still u h Idle f = tt
+  still u h (Dying w) f = f
+  still u h Reaped f = tt
   still u h (Calling d q) f = record { mine = f.mine; of = f.of; inside = f.inside; head = f.head; entry = f.entry; cell = f.cell; stands = f.stands }
 
   owned_still : (u : ℕ) (out : Option ℕ) (es : List ℕ) → Owned s u out es → Owned (with_call s t c p) u out es
   owned_still u out es owned = record { entries = owned.entries; all = owned.all }
 
   listed_still : (u : ℕ) (g : Stage) → Listed s u g → Listed (with_call s t c p) u g
-  listed_still u g (es, owned, ch) = (es, owned_still u (left_out g) es owned, ch)
+  listed_still u Idle (es, owned, ch) = (es, owned_still u None es owned, ch)
+  listed_still u (Calling d q) (es, owned, ch) = (es, owned_still u (left_out (Calling d q)) es owned, ch)
+  listed_still u (Dying w) l = mourns_same s (with_call s t c p) u refl (λ x. refl) (λ k. refl) w.row l
+  listed_still u Reaped l = l
 
   begun_kept : (acquires (operation_of c) ≡ true → held < 2048) → Kept (with_call s t c p)
   begun_kept room = record {
@@ -106,8 +119,8 @@ module _ (s : State) (t : ℕ) (c : Call) (inv : Kept s) (pos : 1 ≤ t) (known 
         (λ apart. listed_still u (s.threads u).stage (inv.listed u first most));
     heads = λ u first most. record {
       offset = (inv.heads u first most).offset;
-      pending = by_put (λ (z : Thread). s.words (head_place u + 2) ≡ pending_of z.stage) s.threads t (record (s.threads t) { stage = Calling c p }) u
-          (λ is. ap (λ (v : ℕ). s.words (head_place v + 2)) is ∙ (inv.heads t pos known).pending ∙ ap pending_of resting ∙ sym (first_pends s.layout t c))
+      pending = by_put (λ (z : Thread). PendsAs (s.words (head_place u + 2)) z.stage) s.threads t (record (s.threads t) { stage = Calling c p }) u
+          (λ is. ap (λ (v : ℕ). s.words (head_place v + 2)) is ∙ subst (PendsAs (s.words (head_place t + 2))) resting (inv.heads t pos known).pending ∙ sym (first_pends s.layout t c))
           (λ apart. (inv.heads u first most).pending);
       few = by_put (λ (z : Thread). z.held ≤ 2048) s.threads t (record (s.threads t) { stage = Calling c p }) u (λ is. (inv.heads t pos known).few) (λ apart. (inv.heads u first most).few);
     };
@@ -173,9 +186,87 @@ step_went s t inv pos known c p is =
       told = told s (after s t c p) t c fits.inside g.far _ _ _ _ (λ v e takes. subst (λ (h : ℕ). h < 2048) (inv.held t pos known) (g.room v e takes)) g.tells;
     }
 
+pub second_true : (a b : Bool) → (a && b) ≡ true → b ≡ true
+second_true true b e = e
+second_true false b e = absurd cc
+
+-- who is reaped and who is woken is no point
+reaped_points : (t : ℕ) (ws : List ℕ) (y : Bool) → points_of (map Wake ws ++ reap_facts t y) ≡ []
+reaped_points t [] true = refl
+reaped_points t [] false = refl
+reaped_points t (w ∷ ws) y = reaped_points t ws y
+
+-- a walk's access tells of a death, or of nothing
+walk_is_sound : (s : State) (t : ℕ) → Kept s → 1 ≤ t → t ≤ s.layout.threads → (r : walk_row.Row) → exit.IsGoing r → exit.Knows t (head_place t) r → Mourns s t r → Sound' s (walked s t (s.threads t).held (walk_of t r))
+walk_is_sound s t inv pos known r going knows l =
+    let g = walk_step s t inv pos known r going knows l in
+    subst (Sound' s) (sym (walked-is s t r g.valid)) record { kept = g.kept; same = refl; told = tell (death_then s t r) g.tells }
+  where
+    tell : (d : Option ℕ) → DeathTells s t d (walk_after s t r) → Told s (points_of (facts_of (Walked t d (woken_by (walk_access s t r) (s.queues (address_of (walk_access s t r)))) (has_ended (row_then s t r))))) (walk_after s t r)
+    tell None same = subst (λ ds. Told s ds (walk_after s t r)) (sym (reaped_points t (woken_by (walk_access s t r) (s.queues (address_of (walk_access s t r)))) (has_ended (row_then s t r)))) same
+    tell (Some m) dies = (dies.0, dies.1, dies.2, reaped_points t (woken_by (walk_access s t r) (s.queues (address_of (walk_access s t r)))) (has_ended (row_then s t r)))
+
+-- the state after a death
+module _ (s : State) (t : ℕ) (inv : Kept s) (pos : 1 ≤ t) (known : t ≤ s.layout.threads) (alive : is_alive (s.threads t).stage ≡ true) where
+  abbrev dead : Thread
+  dead = record (s.threads t) { stage = Dying (walk_of t LoadFirst) }
+
+  abbrev s1 : State
+  s1 = (killed s t).state
+
+  dead_sits : (u h : ℕ) (g : Stage) → Sits s u h g → Sits s1 u h g
+  dead_sits u h Idle f = tt
+  dead_sits u h (Calling d q) f = record { mine = f.mine; of = f.of; inside = f.inside; head = f.head; entry = f.entry; cell = f.cell; stands = f.stands }
+  dead_sits u h (Dying w) f = f
+  dead_sits u h Reaped f = tt
+
+  dead_owned : (u : ℕ) (out : Option ℕ) (es : List ℕ) → Owned s u out es → Owned s1 u out es
+  dead_owned u out es owned = record { entries = owned.entries; all = owned.all }
+
+  dead_listed : (u : ℕ) (g : Stage) → Listed s u g → Listed s1 u g
+  dead_listed u Idle (es, owned, ch) = (es, dead_owned u None es owned, ch)
+  dead_listed u (Calling d q) (es, owned, ch) = (es, dead_owned u (left_out (Calling d q)) es owned, ch)
+  dead_listed u (Dying w) l = mourns_same s s1 u refl (λ x. refl) (λ k. refl) w.row l
+  dead_listed u Reaped l = l
+
+  pub kill_kept : Kept s1
+  kill_kept = record {
+    layout = inv.layout;
+    sits = λ u first most. by_put (λ (z : Thread). Sits s1 u z.held z.stage) s.threads t dead u
+        (λ is. subst (λ (v : ℕ). Walks v (walk_of t LoadFirst)) (sym is) (record { mine = refl; head = refl; going = tt; knows = tt }))
+        (λ apart. dead_sits u (s.threads u).held (s.threads u).stage (inv.sits u first most));
+    listed = λ u first most. by_put (λ (z : Thread). Listed s1 u z.stage) s.threads t dead u
+        (λ is. subst (λ (v : ℕ). Mourns s1 v LoadFirst) (sym is) (mourns_same s s1 t refl (λ x. refl) (λ k. refl) LoadFirst (left_from s t inv pos known alive)))
+        (λ apart. dead_listed u (s.threads u).stage (inv.listed u first most));
+    heads = λ u first most. record {
+      offset = (inv.heads u first most).offset;
+      pending = by_put (λ (z : Thread). PendsAs (s.words (head_place u + 2)) z.stage) s.threads t dead u (λ is. tt) (λ apart. (inv.heads u first most).pending);
+      few = by_put (λ (z : Thread). z.held ≤ 2048) s.threads t dead u (λ is. (inv.heads t pos known).few) (λ apart. (inv.heads u first most).few);
+    };
+    sound = inv.sound;
+    owners = inv.owners;
+    held = λ u first most. by_put (λ (z : Thread). z.held ≡ held_by u (seen s) s.layout.mutexes) s.threads t dead u
+        (λ is. subst (λ (v : ℕ). (s.threads t).held ≡ held_by v (seen s) s.layout.mutexes) (sym is) (inv.held t pos known))
+        (λ apart. inv.held u first most);
+  }
+
+-- an access of a walk is sound
+walk_sound : (s : State) (t : ℕ) → Kept s → 1 ≤ t → t ≤ s.layout.threads → (w : walks.Standing) → (s.threads t).stage ≡ Dying w → Sound' s (walked s t (s.threads t).held w)
+walk_sound s t inv pos known w e =
+    let f : Walks t w = subst (λ (g : Stage). Sits s t (s.threads t).held g) e (inv.sits t pos known) in
+    let whose : walk_of t w.row ≡ w = λ i. record { thread = sym f.mine i; head = sym f.head i; row = w.row } in
+    subst (λ (z : walks.Standing). Sound' s (walked s t (s.threads t).held z)) whose
+    (walk_is_sound s t inv pos known w.row f.going (knows_at t w f) (subst (Listed s t) e (inv.listed t pos known)))
+
+-- a death is sound: the walk will find what the thread owned
+kill_sound : (s : State) (t : ℕ) → Kept s → 1 ≤ t → t ≤ s.layout.threads → is_alive (s.threads t).stage ≡ true → Sound' s (killed s t)
+kill_sound s t inv pos known alive = record { kept = kill_kept s t inv pos known alive; same = refl; told = λ k. refl }
+
 -- a step is sound, wherever its thread stands
 step_sound : (s : State) (t : ℕ) → Kept s → 1 ≤ t → t ≤ s.layout.threads → (g : Stage) → (s.threads t).stage ≡ g → Sound' s (stepped s t (s.threads t).held g)
 step_sound s t inv pos known Idle e = idles s inv
+step_sound s t inv pos known Reaped e = idles s inv
+step_sound s t inv pos known (Dying w) e = walk_sound s t inv pos known w e
 step_sound s t inv pos known (Calling c p) e =
     go (sleeps s t (Calling c p))
   where
@@ -187,6 +278,8 @@ step_sound s t inv pos known (Calling c p) e =
 pub at_rest : (g : Stage) → is_idle g ≡ true → g ≡ Idle
 at_rest Idle e = refl
 at_rest (Calling c p) e = absurd cc
+at_rest (Dying w) e = absurd cc
+at_rest Reaped e = absurd cc
 
 -- each event is sound
 pub sound : (s : State) (e : Event) → Kept s → Sound' s (happens s e)
@@ -206,6 +299,14 @@ sound s (Step t) inv = go (is_thread s t) refl
         let pos : 1 ≤ t = grind (arith, nat_tests) in
         let known : t ≤ s.layout.threads = grind (arith, nat_tests) in
         step_sound s t inv pos known (s.threads t).stage refl
+    go false e = idles s inv
+sound s (Kill t) inv = go (is_thread s t && is_alive (s.threads t).stage) refl
+  where
+    go : (b : Bool) → (is_thread s t && is_alive (s.threads t).stage) ≡ b → Sound' s (if b then killed s t else nothing s)
+    go true e =
+        let pos : 1 ≤ t = grind (arith, nat_tests) in
+        let known : t ≤ s.layout.threads = grind (arith, nat_tests) in
+        kill_sound s t inv pos known (second_true (is_thread s t) (is_alive (s.threads t).stage) e)
     go false e = idles s inv
 
 -- ---- the beginning

@@ -1,10 +1,10 @@
 -- One access of a call, whatever phase it is in.
-use Rattle.std.proofs.Common.{◌≡◌, ◌≢◌, ℕ, ◌<◌, true, Some}
+use Rattle.std.proofs.Common.{◌≡◌, ◌≢◌, ℕ, ◌+◌, ◌<◌, ◌≤◌, true, Some}
 use Rattle.lockword.specs.Cells.{Fields}
 use Rattle.lockword.specs.declared.reply.Reply.{Reply}
 use Rattle.keys.specs.Objects.{acquires}
 use Rattle.keys.specs.Accesses.{address_of, sleeps_at}
-use Rattle.keys.specs.Layouts.{cell_place}
+use Rattle.keys.specs.Layouts.{head_place, cell_place}
 use Rattle.mutex.specs.declared.call.Call.{Call}
 use Rattle.mutex.specs.declared.lock.LockRow.TheVariants as lock
 use Rattle.mutex.specs.declared.row.Row.TheVariants.{Lock}
@@ -33,4 +33,5 @@ pub record Stepping (s : State) (t : ℕ) (c : Call) (p : Whole) : Type 0 where
   pub room : (x : Reply) → (onto s t c p).point ≡ Some x → acquires (operation_of c) ≡ true → (s.threads t).held < 2048
   pub far : (k : ℕ) → k ≢ mutex_of c → seen (after s t c p) k ≡ seen s k
   pub cells : (k : ℕ) → k < s.layout.mutexes → k ≢ mutex_of c → (after s t c p).words (cell_place s.layout k) ≡ s.words (cell_place s.layout k)
+  pub pendings : (u : ℕ) → 1 ≤ u → u ≤ s.layout.threads → t ≢ u → (after s t c p).words (head_place u + 2) ≡ s.words (head_place u + 2)
   pub queues : (key : ℕ) → key ≢ cell_place s.layout (mutex_of c) → (after s t c p).queues key ≡ s.queues key

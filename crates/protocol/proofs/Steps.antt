@@ -142,6 +142,16 @@ same_held d None y op held joins takes lost = unmoved op held
 same_held None (Some z) y op held joins takes lost = held_lost op held z takes (lost z joins)
 same_held (Some r) (Some z) y op held joins takes lost = absurd (cc joins.0)
 
+-- ---- one access of a thread, after which the thread is th
+
+abbrev pub done : State → ℕ → Access → Thread → State
+done s t a th = record {
+  layout = s.layout;
+  words = put s.words (address_of a) (changed a (s.words (address_of a)));
+  queues = put s.queues (address_of a) (queue_after t a (s.words (address_of a)) (s.queues (address_of a)));
+  threads = put s.threads t th;
+}
+
 -- ---- one access of thread t's call
 
 module _ (s : State) (t : ℕ) (c : Call) (p : Whole) where
@@ -156,12 +166,7 @@ module _ (s : State) (t : ℕ) (c : Call) (p : Whole) where
   thread_after = record { stage = stage_after c p onto.phase; held = held_after (s.threads t).held (operation_of c) onto.point }
 
   abbrev pub after : State
-  after = record {
-    layout = s.layout;
-    words = put s.words (address_of access) (changed access (s.words (address_of access)));
-    queues = put s.queues (address_of access) (queue_after t access (s.words (address_of access)) (s.queues (address_of access)));
-    threads = put s.threads t thread_after;
-  }
+  after = done s t access thread_after
 
   -- what it leaves and notes, where its address is valid
   abbrev pub leaves : After

@@ -32,7 +32,7 @@ use Rattle.protocol.specs.declared.note.Fact.TheVariants.{Wake, Return}
 use Rattle.protocol.specs.declared.note.Note.TheVariants.{Stepped}
 use Rattle.protocol.specs.declared.thread.Thread.{Thread}
 use Rattle.protocol.specs.declared.thread.Stage.{Stage}
-use Rattle.protocol.specs.declared.thread.Stage.TheVariants.{Idle, Calling}
+use Rattle.protocol.specs.declared.thread.Stage.TheVariants.{Idle, Calling, Dying, Reaped}
 use Rattle.protocol.specs.Machine.{State, After, put, start, stands_in, sleepers, sleeps, is_thread, is_idle, is_asleep, may_begin, begun, nothing, stage_after, returned, decision, woken_by, stepped, happens, run, notes}
 use Rattle.protocol.specs.Headline.{seen, facts_among}
 use Rattle.protocol.specs.Notes.{facts_of, sleep_facts, return_facts}
@@ -43,8 +43,10 @@ use Rattle.protocol.proofs.Kept.{AtRow, InPhase, Fits, Kept}
 use Rattle.protocol.proofs.Steps.{Tells, went-is, seen-inside}
 use Rattle.protocol.proofs.Stepping.{Stepping}
 use Rattle.protocol.proofs.Runs.{sound, start_kept, run_kept, does, at_rest}
-use Rattle.protocol.proofs.Queues.{Queued, run_queued, queued_on, idle_in_none}
-use Rattle.protocol.proofs.Owed.{step_is, fits, steps, next, s', steps_to, queued', stage', now_asleep, still_awake, now_idle, ended_or_not, somebody_owes, ends_alone}
+use Rattle.protocol.proofs.Queues.{Queued, idle_in_none}
+use Rattle.protocol.proofs.QueueRuns.{run_queued, queued_on}
+use Rattle.protocol.proofs.Owed.{step_is, fits, steps, next, s', steps_to, queued', stage', now_asleep, still_awake, now_idle, ended_or_not}
+use Rattle.protocol.proofs.WalksOwe.{somebody_owes, ends_alone}
 
 -- ---- what a step tells of returns
 
@@ -89,6 +91,8 @@ asleep_still s t e = either_way (is_thread s t) s (stepped s t (s.threads t).hel
   where
     go : (g : Stage) → sleeps s t g ≡ true → stepped s t (s.threads t).held g ≡ nothing s
     go Idle h = refl
+    go (Dying w) h = absurd cc
+    go Reaped h = refl
     go (Calling c p) h = ap (λ (b : Bool). if b then nothing s else Rattle.protocol.specs.Machine.went s t (s.threads t).held c p (whole_led p (Rattle.protocol.specs.Machine.answer_of s (whole_access p)))) h
 
 -- a phase that goes on returns nothing

@@ -8,7 +8,7 @@ use Rattle.protocol.specs.declared.event.Event.{Event}
 use Rattle.protocol.specs.declared.event.Event.TheVariants as event
 use Rattle.protocol.specs.declared.note.Note.{Note}
 use Rattle.protocol.specs.declared.note.Fact.{Fact}
-use Rattle.protocol.specs.declared.note.Fact.TheVariants.{Begin, Point, Sleep, Wake, Return}
+use Rattle.protocol.specs.declared.note.Fact.TheVariants.{Begin, Point, Sleep, Wake, Return, Kill, Death, Reap}
 use Rattle.protocol.specs.declared.note.Line.{Line}
 use Rattle.protocol.specs.Notes.{lines_from}
 use Rattle.protocol.specs.Machine.{start, notes}
@@ -22,8 +22,11 @@ thread_of (Point d) = d.thread
 thread_of (Sleep t m) = t
 thread_of (Wake t) = t
 thread_of (Return t x) = t
+thread_of (Kill t) = t
+thread_of (Death t m) = t
+thread_of (Reap t) = t
 
--- it tells what a call was told or answered, and not who sleeps
+-- it tells what a call was told or answered, or of a death, and not who sleeps
 abbrev pub is_of_call : Fact → Bool
 is_of_call (Sleep t m) = false
 is_of_call (Wake t) = false
@@ -33,22 +36,35 @@ is_of_call f = true
 abbrev pub point_by : ℕ → Call → Reply → Fact
 point_by t c x = Point (record { thread = t; mutex = mutex_of c; operation = operation_of c; reply = x })
 
--- what lines tell of the calls of thread t, in their order
+-- what lines tell of the calls and the death of thread t, in their order
 abbrev pub own : ℕ → List Line → List Fact
 own t [] = []
 own t (l ∷ ls) = if is_of_call l.fact && (thread_of l.fact == t) then l.fact ∷ own t ls else own t ls
 
--- all that thread t does: calls that returned, each with exactly one point, whose reply it returned; and perhaps one that hasn't returned, with one point at most. No point belongs to any other call
+-- what is told of thread t after it died: its death, of mutexes; and perhaps that it was reaped, after which nothing is told
+pub data Mourned (t : ℕ) : List Fact → Type 0 where
+  Unburied : Mourned t []
+  Tells_of : (m : ℕ) (later : List Fact) → Mourned t later → Mourned t (Death t m ∷ later)
+  Buried : Mourned t (Reap t ∷ [])
+
+-- it lives on, or it dies
+pub data Cut (t : ℕ) : List Fact → Type 0 where
+  Lives : Cut t []
+  Dies : (later : List Fact) → Mourned t later → Cut t (Kill t ∷ later)
+
+-- all that thread t does: calls that returned, each with exactly one point, whose reply it returned; perhaps one that hasn't returned, with one point at most; and perhaps it dies, which ends that
+-- call. No point belongs to any other call, and no death comes before it died
 pub data Life (t : ℕ) : List Fact → Type 0 where
-  Rests : Life t []
+  Rests : (later : List Fact) → Cut t later → Life t later
   Returns : (c : Call) (x : Reply) (later : List Fact) → Life t later → Life t (Begin t c ∷ (point_by t c x ∷ (Return t x ∷ later)))
-  Stays : (c : Call) → Life t (Begin t c ∷ [])
-  Decides : (c : Call) (x : Reply) → Life t (Begin t c ∷ (point_by t c x ∷ []))
+  Stays : (c : Call) (later : List Fact) → Cut t later → Life t (Begin t c ∷ later)
+  Decides : (c : Call) (x : Reply) (later : List Fact) → Cut t later → Life t (Begin t c ∷ (point_by t c x ∷ later))
 
 -- ---- the order of lines
 
 abbrev pub is_point : Fact → Bool
 is_point (Point d) = true
+is_point (Death t m) = true
 is_point f = false
 
 -- somebody else's event woke the thread
@@ -76,6 +92,7 @@ Orderly (l ∷ ls) = Each (Later l) ls × Orderly ls
 abbrev pub caller : Event → ℕ
 caller (event.Begin t c) = t
 caller (event.Step t) = t
+caller (event.Kill t) = t
 
 -- the thread of event n, the first of the events having number i; 0 where there is no such event
 abbrev pub caller_of : ℕ → List Event → ℕ → ℕ

@@ -1,5 +1,7 @@
 -- What holds of every run.
-use Rattle.std.specs.Prelude.{ℕ, nat_lt, List, [], ◌∷◌, ◌++◌, if◌then◌else◌}
+use Rattle.std.specs.Prelude.{ℕ, ◌≡◌, ◌≢◌, Some, nat_lt, List, [], ◌∷◌, ◌++◌, if◌then◌else◌}
+use Rattle.lockword.specs.declared.reply.Reply.TheVariants.{OK}
+use Rattle.keys.specs.declared.point.Operation.TheVariants as operation
 use Rattle.lockword.specs.Cells.{fields_of}
 use Rattle.keys.specs.declared.object.Object.{Object}
 use Rattle.keys.specs.declared.point.Decision.{Decision}
@@ -9,14 +11,16 @@ use Rattle.keys.specs.Histories.{Legal, opening}
 use Rattle.protocol.specs.declared.event.Event.{Event}
 use Rattle.protocol.specs.declared.note.Note.{Note}
 use Rattle.protocol.specs.declared.note.Fact.{Fact}
-use Rattle.protocol.specs.declared.note.Fact.TheVariants.{Point}
+use Rattle.protocol.specs.declared.note.Fact.TheVariants.{Point, Death}
+use Rattle.protocol.specs.declared.thread.Stage.TheVariants.{Reaped}
 use Rattle.protocol.specs.Notes.{facts_of}
 use Rattle.protocol.specs.Machine.{State, start, run, notes}
 
--- the decisions among the facts, in their order
+-- the decisions among the facts, owners' deaths too, in their order
 abbrev pub points_of : List Fact → List Decision
 points_of [] = []
 points_of (Point d ∷ fs) = d ∷ points_of fs
+points_of (Death t m ∷ fs) = record { thread = t; mutex = m; operation = operation.Death; reply = OK } ∷ points_of fs
 points_of (f ∷ fs) = points_of fs
 
 abbrev pub points_among : List Note → List Decision
@@ -39,3 +43,11 @@ IsHistory s ns = Legal s.layout.mutexes opening (points_among ns) (seen s)
 -- whatever happens, with any values of the counters at the beginning; so it holds after each event
 abbrev pub HistoryIsLegal : Type 0
 HistoryIsLegal = (l : Layout') (counters : ℕ → ℕ) (events : List Event) → IsLayout l → IsHistory (run (start l counters) events) (notes (start l counters) events)
+
+-- a thread that was reaped owns no mutex
+abbrev pub NoReapedOwns : State → Type 0
+NoReapedOwns s = (m t : ℕ) → (s.threads t).stage ≡ Reaped → (seen s m).owner ≢ Some t
+
+-- whatever happens, kills at any moment included
+abbrev pub NoReapedOwner : Type 0
+NoReapedOwner = (l : Layout') (counters : ℕ → ℕ) (events : List Event) → IsLayout l → NoReapedOwns (run (start l counters) events)

@@ -4,3 +4,4 @@ pub mod Headline
 pub mod Explained
 pub mod Sleepers
 pub mod Lists
+pub mod Deaths

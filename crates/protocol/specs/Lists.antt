@@ -1,9 +1,9 @@
 -- What the kernel would find of each thread, were it to die now (get_robust_list(2); robust-futexes, its ABI document).
-use Rattle.std.specs.Prelude.{ℕ, ◌≡◌, ◌+◌, ◌<◌, ◌≤◌, ◌⊎◌, Some, List, length}
+use Rattle.std.specs.Prelude.{ℕ, ◌≡◌, ◌+◌, ◌<◌, ◌≤◌, ◌⊎◌, true, Some, List, length}
 use Rattle.keys.specs.Chains.{IsAmong, IsChain}
 use Rattle.keys.specs.Layouts.{Layout', IsLayout, head_place, entry_place}
 use Rattle.protocol.specs.declared.event.Event.{Event}
-use Rattle.protocol.specs.Machine.{State, start, run}
+use Rattle.protocol.specs.Machine.{State, start, run, is_alive}
 use Rattle.protocol.specs.Headline.{seen}
 
 -- from thread t's head next words lead over some entries, all different, and back: each is that of a mutex that t owns; and each mutex that t owns is one of them, or the pending one. They are 2,048
@@ -16,6 +16,6 @@ pub record HasList (s : State) (t : ℕ) : Type 0 where
   pub all : (m : ℕ) → m < s.layout.mutexes → (seen s m).owner ≡ Some t → IsAmong (entry_place s.layout m) entries ⊎ (s.words (head_place t + 2) ≡ entry_place s.layout m)
   pub offset : s.words (head_place t + 1) ≡ 18446744073709551615
 
--- whatever happens, with any values of the counters at the beginning
+-- whatever happens, with any values of the counters at the beginning, of each thread that lives
 abbrev pub ListsAreKept : Type 0
-ListsAreKept = (l : Layout') (counters : ℕ → ℕ) (events : List Event) → IsLayout l → (t : ℕ) → 1 ≤ t → t ≤ l.threads → HasList (run (start l counters) events) t
+ListsAreKept = (l : Layout') (counters : ℕ → ℕ) (events : List Event) → IsLayout l → (t : ℕ) → 1 ≤ t → t ≤ l.threads → is_alive ((run (start l counters) events).threads t).stage ≡ true → HasList (run (start l counters) events) t

@@ -1,5 +1,5 @@
 -- The machine: threads whose calls step over shared words, and sleep on them.
-use Rattle.std.specs.Prelude.{ℕ, ◌==◌, ◌+◌, ◌-◌, ◌%◌, ◌^◌, Bool, true, false, not, ◌&&◌, nat_le, nat_lt, Option, Some, None, Result, Ok, Err, List, [], ◌∷◌, ◌++◌, length, take, drop, if◌then◌else◌}
+use Rattle.std.specs.Prelude.{ℕ, ◌==◌, ◌+◌, ◌-◌, ◌/◌, ◌%◌, ◌^◌, Bool, true, false, ◌&&◌, nat_le, nat_lt, Option, Some, None, Result, Ok, Err, List, [], ◌∷◌, ◌++◌, length, take, drop, if◌then◌else◌}
 use Rattle.lockword.specs.declared.reply.Reply.{Reply}
 use Rattle.lockword.specs.declared.reply.Reply.TheVariants.{OK, EOWNERDEAD}
 use Rattle.keys.specs.declared.access.Access.{Access}
@@ -9,7 +9,8 @@ use Rattle.keys.specs.declared.access.Answer.TheVariants.{Again, Woken, Count, F
 use Rattle.keys.specs.declared.point.Operation.{Operation}
 use Rattle.keys.specs.declared.point.Operation.TheVariants as operation
 use Rattle.keys.specs.declared.point.Decision.{Decision}
-use Rattle.keys.specs.Layouts.{Layout', cell_place, counter_place, words_of}
+use Rattle.keys.specs.Layouts.{Layout', head_place, cell_place, counter_place, words_of}
+use Rattle.buckets.specs.Queues.{without}
 use Rattle.keys.specs.Accesses.{address_of, changed, answer_at, sleeps_at}
 use Rattle.mutex.specs.declared.call.Call.{Call}
 use Rattle.mutex.specs.declared.phase.Phase.{Phase}
@@ -18,13 +19,18 @@ use Rattle.mutex.specs.declared.phase.Onward.{Onward}
 use Rattle.mutex.specs.Calls.{mutex_of, operation_of}
 use Rattle.mutex.specs.Standings.{Whole}
 use Rattle.mutex.specs.Whole.{whole_started, whole_access, whole_led}
+use Rattle.exitwalk.specs.declared.row.Row as walk_row
+use Rattle.exitwalk.specs.declared.row.Row.TheVariants as walk
+use Rattle.exitwalk.specs.Standings as walks
+use Rattle.exitwalk.specs.Walks as exit
+use Rattle.keys.specs.declared.point.Point.{Point}
 use Rattle.protocol.specs.declared.event.Event.{Event}
-use Rattle.protocol.specs.declared.event.Event.TheVariants.{Begin, Step}
+use Rattle.protocol.specs.declared.event.Event.TheVariants.{Begin, Step, Kill}
 use Rattle.protocol.specs.declared.thread.Thread.{Thread}
 use Rattle.protocol.specs.declared.thread.Stage.{Stage}
-use Rattle.protocol.specs.declared.thread.Stage.TheVariants.{Idle, Calling}
+use Rattle.protocol.specs.declared.thread.Stage.TheVariants.{Idle, Calling, Dying, Reaped}
 use Rattle.protocol.specs.declared.note.Note.{Note}
-use Rattle.protocol.specs.declared.note.Note.TheVariants.{Nothing, Began, Stepped}
+use Rattle.protocol.specs.declared.note.Note.TheVariants.{Nothing, Began, Stepped, Killed, Walked}
 
 -- the words by place, who sleeps on each, in the order in which they are to be woken, and the threads by id
 pub record State : Type 0 where
@@ -109,11 +115,28 @@ is_thread s t = nat_le 1 t && nat_le t s.layout.threads
 
 abbrev pub is_idle : Stage → Bool
 is_idle Idle = true
-is_idle (Calling c p) = false
+is_idle g = false
+
+abbrev pub is_calling : Stage → Bool
+is_calling (Calling c p) = true
+is_calling g = false
+
+abbrev pub is_alive : Stage → Bool
+is_alive Idle = true
+is_alive (Calling c p) = true
+is_alive g = false
+
+abbrev pub is_walked : Stage → Bool
+is_walked (Dying w) = true
+is_walked g = false
 
 -- in a call
 abbrev pub is_busy : State → ℕ → Bool
-is_busy s t = is_thread s t && not (is_idle (s.threads t).stage)
+is_busy s t = is_thread s t && is_calling (s.threads t).stage
+
+-- killed, and not reaped
+abbrev pub is_dying : State → ℕ → Bool
+is_dying s t = is_thread s t && is_walked (s.threads t).stage
 
 -- thread t is one of the queue
 abbrev pub stands_in : ℕ → List ℕ → Bool
@@ -126,8 +149,8 @@ sleepers s m = s.queues (cell_place s.layout m)
 
 -- in a call that sleeps on its mutex
 abbrev pub sleeps : State → ℕ → Stage → Bool
-sleeps s t Idle = false
 sleeps s t (Calling c p) = stands_in t (sleepers s (mutex_of c))
+sleeps s t g = false
 
 abbrev pub is_asleep : State → ℕ → Bool
 is_asleep s t = sleeps s t (s.threads t).stage
@@ -147,13 +170,14 @@ abbrev pub returned : Phase → Option Reply
 returned (Ended x) = Some x
 returned f = None
 
--- a thread owns one mutex more after it took one, and one less after it released one
+-- a thread owns one mutex more after it took one, and one less after it released one, or after its death was told of one
 abbrev pub held_after : ℕ → Operation → Option Reply → ℕ
 held_after held operation.Lock (Some OK) = held + 1
 held_after held operation.Lock (Some EOWNERDEAD) = held + 1
 held_after held operation.TryLock (Some OK) = held + 1
 held_after held operation.TryLock (Some EOWNERDEAD) = held + 1
 held_after held operation.Unlock (Some OK) = held - 1
+held_after held operation.Death (Some OK) = held - 1
 held_after held op point = held
 
 -- the point of a call, once an access decided it
@@ -173,14 +197,67 @@ went s t held c p o =
       note = Stepped t (decision t c o.point) (slept_on s c (whole_access p)) (woken s (whole_access p)) (returned o.phase);
     }
 
-abbrev pub stepped : State → ℕ → ℕ → Stage → After
-stepped s t held Idle = nothing s
-stepped s t held (Calling c p) = if sleeps s t (Calling c p) then nothing s else went s t held c p (whole_led p (answer_of s (whole_access p)))
+-- ---- deaths
 
--- a begin of a busy or unknown thread or of a mutex outside the layout, and a step of an idle, sleeping or unknown thread, do nothing
+-- the thread dies: it leaves its queue, its call ends there, and the kernel begins to walk its list (get_robust_list(2))
+abbrev pub killed : State → ℕ → After
+killed s t =
+    record {
+      state = record s { queues = λ key. without t (s.queues key); threads = put s.threads t (record (s.threads t) { stage = Dying (exit.begun t (head_place t)) }) };
+      note = Killed t;
+    }
+
+-- the mutex whose cell is at a place
+abbrev pub mutex_at : Layout' → ℕ → Option ℕ
+mutex_at l p =
+    if nat_le (cell_place l 0) p && ((p - cell_place l 0) % 3 == 0) && nat_lt ((p - cell_place l 0) / 3) l.mutexes then Some ((p - cell_place l 0) / 3) else None
+
+-- the mutex of which a walk told the owner's death
+abbrev pub death_at : Layout' → Option Point → Option ℕ
+death_at l None = None
+death_at l (Some p) = mutex_at l p.at
+
+-- an owner's death is told with OK
+abbrev pub told_of : Option ℕ → Option Reply
+told_of None = None
+told_of (Some m) = Some OK
+
+abbrev pub has_ended : walk_row.Row → Bool
+has_ended walk.Ended = true
+has_ended r = false
+
+abbrev pub stage_walked : walks.Standing → walk_row.Row → Stage
+stage_walked w walk.Ended = Reaped
+stage_walked w r = Dying (record w { row = r })
+
+-- the next access of the walk, and where its answer leads
+abbrev pub walked : State → ℕ → ℕ → walks.Standing → After
+walked s t held w =
+    let a = exit.access_of w in
+    let answer = answer_of s a in
+    let death = death_at s.layout (exit.point_of w.thread w.row answer) in
+    let row = exit.row_after w.thread w.head w.row answer in
+    record {
+      state = record s {
+        words = words_after s a;
+        queues = queues_after s t a;
+        threads = put s.threads t (record { stage = stage_walked w row; held = held_after held operation.Death (told_of death) });
+      };
+      note = Walked t death (woken s a) (has_ended row);
+    }
+
+-- ---- events
+
+abbrev pub stepped : State → ℕ → ℕ → Stage → After
+stepped s t held (Calling c p) = if sleeps s t (Calling c p) then nothing s else went s t held c p (whole_led p (answer_of s (whole_access p)))
+stepped s t held (Dying w) = walked s t held w
+stepped s t held g = nothing s
+
+-- a begin of a busy, killed or unknown thread or of a mutex outside the layout, a step of an idle, sleeping, reaped or unknown thread, and a kill of a killed or unknown thread do nothing
 abbrev pub happens : State → Event → After
 happens s (Begin t c) = if may_begin s t c then begun s t c (whole_started s.layout t (s.threads t).held c) else nothing s
 happens s (Step t) = if is_thread s t then stepped s t (s.threads t).held (s.threads t).stage else nothing s
+happens s (Kill t) = if is_thread s t && is_alive (s.threads t).stage then killed s t else nothing s
 
 -- ---- runs
 

@@ -1,13 +1,13 @@
 -- The lines that notes stand for, in their order.
-use Rattle.std.specs.Prelude.{ℕ, ◌+◌, Option, Some, None, List, [], ◌∷◌, ◌++◌, map}
+use Rattle.std.specs.Prelude.{ℕ, ◌+◌, Bool, true, false, Option, Some, None, List, [], ◌∷◌, ◌++◌, map}
 use Rattle.lockword.specs.declared.reply.Reply.{Reply}
 use Rattle.keys.specs.declared.point.Decision.{Decision}
 use Rattle.mutex.specs.declared.call.Call.{Call}
 use Rattle.mutex.specs.Calls.{mutex_of, operation_of}
 use Rattle.protocol.specs.declared.note.Note.{Note}
-use Rattle.protocol.specs.declared.note.Note.TheVariants.{Nothing, Began, Stepped}
+use Rattle.protocol.specs.declared.note.Note.TheVariants.{Nothing, Began, Stepped, Killed, Walked}
 use Rattle.protocol.specs.declared.note.Fact.{Fact}
-use Rattle.protocol.specs.declared.note.Fact.TheVariants.{Begin, Point, Sleep, Wake, Return}
+use Rattle.protocol.specs.declared.note.Fact.TheVariants.{Begin, Point, Sleep, Wake, Return, Kill, Death, Reap}
 use Rattle.protocol.specs.declared.note.Line.{Line}
 
 abbrev pub return_facts : ℕ → Option Reply → List Fact
@@ -27,11 +27,21 @@ abbrev pub sleep_facts : ℕ → Option ℕ → List Fact
 sleep_facts t None = []
 sleep_facts t (Some m) = Sleep t m ∷ []
 
+abbrev pub death_facts : ℕ → Option ℕ → List Fact
+death_facts t None = []
+death_facts t (Some m) = Death t m ∷ []
+
+abbrev pub reap_facts : ℕ → Bool → List Fact
+reap_facts t false = []
+reap_facts t true = Reap t ∷ []
+
 -- what an event did, one thing after the other
 abbrev pub facts_of : Note → List Fact
 facts_of Nothing = []
 facts_of (Began t c refused) = Begin t c ∷ refusal_facts t c refused
 facts_of (Stepped t point slept woken returned) = point_facts point ++ (sleep_facts t slept ++ (map Wake woken ++ return_facts t returned))
+facts_of (Killed t) = Kill t ∷ []
+facts_of (Walked t death woken reaped) = death_facts t death ++ (map Wake woken ++ reap_facts t reaped)
 
 abbrev pub line_of : ℕ → Fact → Line
 line_of i f = record { event = i; fact = f }

@@ -12,7 +12,7 @@ use Rattle.protocol.specs.declared.event.Event.{Event}
 use Rattle.protocol.specs.declared.event.Event.TheVariants.{Begin, Step}
 use Rattle.protocol.specs.declared.note.Fact.{Fact}
 use Rattle.protocol.specs.declared.note.Fact.TheVariants.{Return}
-use Rattle.protocol.specs.Machine.{State, start, run, notes, stands_in, sleepers, is_busy, is_asleep, may_begin}
+use Rattle.protocol.specs.Machine.{State, start, run, notes, stands_in, sleepers, is_busy, is_dying, is_asleep, may_begin}
 use Rattle.protocol.specs.Headline.{seen, facts_among}
 
 -- thread t sleeps on mutex m
@@ -23,9 +23,9 @@ Sleeps s t m = stands_in t (sleepers s m) ≡ true
 abbrev pub IsUnowned : State → ℕ → Type 0
 IsUnowned s m = (seen s m).owner ≡ None
 
--- thread t is in a call, and stands in no queue
+-- thread t is in a call, or killed and not reaped, and stands in no queue
 abbrev pub IsAwake : State → ℕ → Type 0
-IsAwake s t = (is_busy s t ≡ true) × ((key : ℕ) → stands_in t (s.queues key) ≡ false)
+IsAwake s t = ((is_busy s t ≡ true) ⊎ (is_dying s t ≡ true)) × ((key : ℕ) → stands_in t (s.queues key) ≡ false)
 
 -- after n steps of thread t, and of nobody else
 abbrev pub alone : State → ℕ → ℕ → State
@@ -39,9 +39,13 @@ Owes s t m n = (k : ℕ) × (k ≤ n) × (((seen (alone s t k) m).owner ≡ Some
 abbrev pub SomebodyOwes : State → Type 0
 SomebodyOwes s = (m u : ℕ) → m < s.layout.mutexes → IsUnowned s m → Sleeps s u m → (t : ℕ) × IsAwake s t × Owes s t m 9000
 
--- whoever is awake and runs alone ends its call or falls asleep within 9,000 steps
+-- thread t has ended its call, and its walk if it died; or it sleeps
+abbrev pub IsAtRest : State → ℕ → Type 0
+IsAtRest s t = ((is_busy s t ≡ false) × (is_dying s t ≡ false)) ⊎ (is_asleep s t ≡ true)
+
+-- whoever is awake and runs alone ends its call, falls asleep or is reaped within 9,000 steps
 abbrev pub EndsAlone : State → ℕ → Type 0
-EndsAlone s t = IsAwake s t → (n : ℕ) × (n ≤ 9000) × ((is_busy (alone s t n) t ≡ false) ⊎ (is_asleep (alone s t n) t ≡ true))
+EndsAlone s t = IsAwake s t → (n : ℕ) × (n ≤ 9000) × IsAtRest (alone s t n) t
 
 -- a fact is one of those told
 abbrev pub IsAmong : Fact → List Fact → Type 0

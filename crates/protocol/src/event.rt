@@ -8,6 +8,8 @@ use mutex::Call;
 pub enum Event {
     /// The thread begins a call.
     Begin(Tid, Call),
-    /// The thread makes the next access of its call.
+    /// The thread makes the next access of its call; or the kernel makes the next one of its walk, where the thread was killed.
     Step(Tid),
+    /// The thread dies.
+    Kill(Tid),
 }

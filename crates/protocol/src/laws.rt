@@ -1,12 +1,24 @@
 //! What holds of every run.
-ghost use Rattle.protocol.specs.Headline.{HistoryIsLegal};
+ghost use Rattle.protocol.specs.Headline.{HistoryIsLegal, NoReapedOwner};
 ghost use Rattle.protocol.specs.Explained.{TraceIsExplained};
 ghost use Rattle.protocol.specs.Sleepers.{MachineGoesOn};
 ghost use Rattle.protocol.specs.Lists.{ListsAreKept};
+ghost use Rattle.protocol.specs.Deaths.{DeathsAreTold};
 
 /// Whatever happens, the points are one legal history of POSIX robust mutexes, which says at each moment what every cell says.
 pub fn history_is_legal()
     ensures { HistoryIsLegal }
+{}
+
+/// Whatever happens, wherever threads are killed: a thread whose walk has ended owns no mutex.
+pub fn no_reaped_owner()
+    ensures { NoReapedOwner }
+{}
+
+/// Whatever happens, wherever a thread is killed: its death is told, once, of each mutex that it owned and has lost since, and of no other; once it is reaped, of each that
+/// it owned.
+pub fn deaths_are_told()
+    ensures { DeathsAreTold }
 {}
 
 /// Whatever happens, the trace explains itself: each thread's calls begin, have their one point and return its reply, each at an event of that thread, and no point belongs to any

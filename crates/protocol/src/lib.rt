@@ -11,6 +11,9 @@ mod note;
 mod thread;
 
 pub use event::Event;
-pub use laws::{history_is_legal, lists_are_kept, machine_goes_on, trace_is_explained};
+pub use laws::{
+    deaths_are_told, history_is_legal, lists_are_kept, machine_goes_on, no_reaped_owner,
+    trace_is_explained,
+};
 pub use note::{Fact, Line, Note};
 pub use thread::{Stage, Thread};

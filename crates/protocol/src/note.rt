@@ -25,6 +25,17 @@ pub enum Note {
         woken: Batch,
         returned: Option<Reply>,
     },
+    /// A thread died: it left its queue, if it slept, and its call ended there.
+    Killed {
+        thread: Tid,
+    },
+    /// The kernel made an access for a thread that died: of which mutex it told the owner's death, whom it woke, and whether it has reaped the thread.
+    Walked {
+        thread: Tid,
+        death: Option<u16>,
+        woken: Batch,
+        reaped: bool,
+    },
 }
 
 /// One thing that an event did: what one line of a trace tells.
@@ -37,6 +48,11 @@ pub enum Fact {
     /// The thread was woken.
     Wake(Tid),
     Return(Tid, Reply),
+    Kill(Tid),
+    /// The thread's death was told of the mutex with this number, which it owned.
+    Death(Tid, u16),
+    /// The walk of the thread's list has ended.
+    Reap(Tid),
 }
 
 /// A fact and the number of its event, from 1.

@@ -1,4 +1,4 @@
-use Rattle.protocol.proofs.Lists.{kept_lists}
+use Rattle.protocol.proofs.Reaped.{kept_lists}
 use Rattle.protocol.proofs.laws.lists_are_kept.Goals as goal
 
 pub returns : goal.returns

@@ -1,0 +1,437 @@
+-- One access of the kernel's walk for a thread that died.
+use Rattle.std.proofs.Common.{◌≡◌, ◌≢◌, ◌⊎◌, inl, inr, ⊎_elim, ℕ, ◌+◌, ◌-◌, ◌/◌, ◌%◌, ◌<◌, ◌≤◌, ◌==◌, Bool, true, false, ◌&&◌, Option, Some, None, List, [], ◌∷◌, refl, sym, ap, ◌∙◌, subst, arith, eqb-true}
+use Rattle.std.specs.Prelude.{if◌then◌else◌, nat_lt, nat_le}
+use Rattle.std.proofs.lemmas.Bool.{eqb-false}
+use Rattle.std.proofs.lemmas.Bool.Decides.{nat_tests}
+use Rattle.lockword.specs.Cells.{fields_of}
+use Rattle.lockword.specs.declared.reply.Reply.TheVariants.{OK}
+use Rattle.keys.specs.declared.access.Access.{Access}
+use Rattle.keys.specs.declared.access.Answer.{Answer}
+use Rattle.keys.specs.declared.access.Answer.TheVariants.{Exchanged, Changed}
+use Rattle.keys.specs.declared.object.Object.{Object}
+use Rattle.keys.specs.declared.point.Operation.TheVariants as operation
+use Rattle.keys.specs.declared.point.Point.{Point}
+use Rattle.keys.specs.Accesses.{address_of, changed, answer_at}
+use Rattle.keys.specs.Chains.{IsAmong, Leads}
+use Rattle.keys.specs.Layouts.{Layout', IsLayout, head_place, entry_place, cell_place}
+use Rattle.keys.specs.Objects.{Permits, Run, object_of, fresh, bereaved}
+use Rattle.robustlist.proofs.Chains.{leads-same}
+use Rattle.mutex.specs.Laws.{Sound}
+use Rattle.exitwalk.specs.declared.row.Rest.{Rest}
+use Rattle.exitwalk.specs.declared.row.Part.{Part}
+use Rattle.exitwalk.specs.declared.row.Part.TheVariants as part
+use Rattle.exitwalk.specs.declared.row.Row.{Row}
+use Rattle.exitwalk.specs.declared.row.Row.TheVariants.{LoadFirst, LoadOffset, LoadPending, LoadNext, LoadWord, Mark, WakeOne, Ended}
+use Rattle.exitwalk.specs.Standings.{Standing}
+use Rattle.exitwalk.specs.Words.{sum_of}
+use Rattle.exitwalk.specs.Steps.{points, Right, OnlyWaits}
+use Rattle.exitwalk.specs.Walks.{Knows, IsGoing, row_access, row_after, point_of, marked_word, goes_on}
+use Rattle.exitwalk.proofs.Steps.{steps}
+use Rattle.protocol.specs.declared.thread.Thread.{Thread}
+use Rattle.protocol.specs.declared.note.Note.TheVariants.{Walked}
+use Rattle.keys.specs.declared.access.Answer.TheVariants.{Fault}
+use Rattle.protocol.specs.Machine.{State, put, is_valid, answer_among, woken_by, answer_of, words_after, queues_after, woken, walked, has_ended, stage_walked, told_of, death_at, mutex_at, held_after}
+use Rattle.protocol.specs.Headline.{seen}
+use Rattle.protocol.proofs.Puts.{put-same, put-other, by_put}
+use Rattle.protocol.proofs.Kept.{Sits, Left, LeftOf, LeftIn, LeftFrom, Treats, Mourns, Listed, PendsAs, Kept}
+use Rattle.protocol.proofs.Places.{mine_is_no_cell, head_is_no_cell}
+use Rattle.protocol.proofs.Steps.{seen-inside, is_valid-cell, done}
+use Rattle.protocol.proofs.Frames.{kept_where, marks_own}
+use Rattle.protocol.proofs.Walking.{Arrived, OwnsNothing, forward_arrives, next_arrives, goes_on_arrives, looks_arrives}
+
+-- thread t's walk at a row
+abbrev pub walk_of : ℕ → Row → Standing
+walk_of t r = record { thread = t; head = head_place t; row = r }
+
+-- a thread that owns no mutex of the layout owns none
+owns_none : (s : State) (t : ℕ) → OwnsNothing s t → (k : ℕ) → (seen s k).owner ≢ Some t
+owns_none s t none k own = go (nat_lt k s.layout.mutexes) refl
+  where
+    go : (b : Bool) → nat_lt k s.layout.mutexes ≡ b → ⊥
+    go true e = none k (grind (arith, nat_tests)) own
+    go false e = cc (sym (ap (λ (b : Bool). (if b then object_of (fields_of (s.words (cell_place s.layout k))) else fresh).owner) e) ∙ own)
+
+-- where a walk has come, its thread has what is left
+pub listed_walk : (s : State) (t : ℕ) (w : Standing) (r : Row) → Arrived s t r → Listed s t (stage_walked w r)
+listed_walk s t w Ended l = owns_none s t l
+listed_walk s t w LoadFirst l = l
+listed_walk s t w (LoadOffset f) l = l
+listed_walk s t w (LoadPending f o) l = l
+listed_walk s t w (LoadNext r) l = l
+listed_walk s t w (LoadWord at rest) l = l
+listed_walk s t w (Mark at v again rest) l = l
+listed_walk s t w (WakeOne at rest) l = l
+
+-- and sits rightly
+pub sits_walk : (s : State) (t held : ℕ) (r q : Row) → Knows t (head_place t) q → Sits s t held (stage_walked (walk_of t r) q)
+sits_walk s t held r Ended knows = tt
+sits_walk s t held r LoadFirst knows = record { mine = refl; head = refl; going = tt; knows = knows }
+sits_walk s t held r (LoadOffset f) knows = record { mine = refl; head = refl; going = tt; knows = knows }
+sits_walk s t held r (LoadPending f o) knows = record { mine = refl; head = refl; going = tt; knows = knows }
+sits_walk s t held r (LoadNext z) knows = record { mine = refl; head = refl; going = tt; knows = knows }
+sits_walk s t held r (LoadWord at rest) knows = record { mine = refl; head = refl; going = tt; knows = knows }
+sits_walk s t held r (Mark at v again rest) knows = record { mine = refl; head = refl; going = tt; knows = knows }
+sits_walk s t held r (WakeOne at rest) knows = record { mine = refl; head = refl; going = tt; knows = knows }
+
+-- nothing pends for a thread that died
+pub pends_walk : (x : ℕ) (w : Standing) (r : Row) → PendsAs x (stage_walked w r)
+pends_walk x w Ended = tt
+pends_walk x w LoadFirst = tt
+pends_walk x w (LoadOffset f) = tt
+pends_walk x w (LoadPending f o) = tt
+pends_walk x w (LoadNext r) = tt
+pends_walk x w (LoadWord at rest) = tt
+pends_walk x w (Mark at v again rest) = tt
+pends_walk x w (WakeOne at rest) = tt
+
+-- ---- states that differ in what a walk doesn't look at
+
+module _ (s s' : State) (t : ℕ) (layout : s'.layout ≡ s.layout) (words : (x : ℕ) → s'.words x ≡ s.words x) (seen_same : (k : ℕ) → seen s' k ≡ seen s k) where
+  left_same : (e p : ℕ) (es : List ℕ) (treated : Option ℕ) → Left s t e p es treated → Left s' t e p es treated
+  left_same e p es treated l = record {
+    leads = leads-same s.words s'.words (head_place t) e e es refl (λ x among. words x) l.leads;
+    different = l.different;
+    entries = λ x among. let k = l.entries x among in (k.0, subst (λ (z : Layout'). k.0 < z.mutexes) (sym layout) k.1, subst (λ (z : Layout'). x ≡ entry_place z k.0) (sym layout) k.2, ap (λ (o : Object). o.owner) (seen_same k.0) ∙ k.3, k.4);
+    all = λ k below own. subst (λ (z : Layout'). IsAmong (entry_place z k) es ⊎ ((p ≡ entry_place z k) ⊎ (treated ≡ Some k))) (sym layout) (l.all k (subst (λ (z : Layout'). k < z.mutexes) layout below) (sym (ap (λ (o : Object). o.owner) (seen_same k)) ∙ own));
+    pending = subst (λ (z : Layout'). (p ≡ 0) ⊎ (k : ℕ) × (k < z.mutexes) × (p ≡ entry_place z k)) (sym layout) l.pending;
+  }
+
+  rest_same : (r : Rest) (treated : Option ℕ) → LeftOf s t r treated → LeftOf s' t r treated
+  rest_same r treated (es, l, offset, few) = (es, left_same r.entry r.pending es treated l, offset, few)
+
+  part_same : (rest : Part) (treated : Option ℕ) → LeftIn s t rest treated → LeftIn s' t rest treated
+  part_same (part.List r) treated l = rest_same r treated l
+  part_same part.Pending treated l = λ k below own. l k (subst (λ (z : Layout'). k < z.mutexes) layout below) (sym (ap (λ (o : Object). o.owner) (seen_same k)) ∙ own)
+
+  from_same : (e : ℕ) → LeftFrom s t e → LeftFrom s' t e
+  from_same e (es, l, few) = (es, subst (λ (p : ℕ). Left s' t e p es None) (sym (words (head_place t + 2))) (left_same e (s.words (head_place t + 2)) es None l), few)
+
+  treats_same : (at k : ℕ) → Treats s at k → Treats s' at k
+  treats_same at k x = subst (λ (z : Layout'). (k < z.mutexes) × (at ≡ cell_place z k)) (sym layout) x
+
+  pub mourns_same : (r : Row) → Mourns s t r → Mourns s' t r
+  mourns_same LoadFirst l = subst (LeftFrom s' t) (sym (words (head_place t))) (from_same (s.words (head_place t)) l)
+  mourns_same (LoadOffset f) l = from_same f l
+  mourns_same (LoadPending f o) (l, offset) = (from_same f l, offset)
+  mourns_same (LoadNext r) l = rest_same r None l
+  mourns_same (LoadWord at rest) (k, x, l) = (k, treats_same at k x, part_same rest (Some k) l)
+  mourns_same (Mark at v again rest) (k, x, l, only) = (k, treats_same at k x, part_same rest (Some k) l, subst (OnlyWaits v again) (sym (words at)) only)
+  mourns_same (WakeOne at rest) (k, x, l) = (k, treats_same at k x, part_same rest None l)
+  mourns_same Ended l = l
+
+  pub arrived_same : (r : Row) → Arrived s t r → Arrived s' t r
+  arrived_same Ended none = λ k below own. none k (subst (λ (z : Layout'). k < z.mutexes) layout below) (sym (ap (λ (o : Object). o.owner) (seen_same k)) ∙ own)
+  arrived_same LoadFirst l = mourns_same LoadFirst l
+  arrived_same (LoadOffset f) l = mourns_same (LoadOffset f) l
+  arrived_same (LoadPending f o) l = mourns_same (LoadPending f o) l
+  arrived_same (LoadNext r) l = mourns_same (LoadNext r) l
+  arrived_same (LoadWord at rest) l = mourns_same (LoadWord at rest) l
+  arrived_same (Mark at v again rest) l = mourns_same (Mark at v again rest) l
+  arrived_same (WakeOne at rest) l = mourns_same (WakeOne at rest) l
+
+-- the mutex at a cell is found
+pub mutex_at-cell : (l : Layout') (k : ℕ) → k < l.mutexes → mutex_at l (cell_place l k) ≡ Some k
+mutex_at-cell l k inside = go (nat_le (cell_place l 0) (cell_place l k)) refl ((cell_place l k - cell_place l 0) % 3 == 0) refl (nat_lt ((cell_place l k - cell_place l 0) / 3) l.mutexes) refl
+  where
+    third : (cell_place l k - cell_place l 0) / 3 ≡ k
+    third = omega arith
+
+    go : (a : Bool) → nat_le (cell_place l 0) (cell_place l k) ≡ a → (b : Bool) → ((cell_place l k - cell_place l 0) % 3 == 0) ≡ b → (d : Bool) → nat_lt ((cell_place l k - cell_place l 0) / 3) l.mutexes ≡ d
+        → (if a && b && d then Some ((cell_place l k - cell_place l 0) / 3) else None) ≡ Some k
+    go true x true y true z = ap Some third
+    go true x true y false z = absurd (let yes : nat_lt ((cell_place l k - cell_place l 0) / 3) l.mutexes ≡ true = grind (arith, nat_tests) in cc (z, yes))
+    go true x false y d z = absurd (eqb-false ((cell_place l k - cell_place l 0) % 3) 0 y (omega arith))
+    go false x b y d z = absurd (let yes : nat_le (cell_place l 0) (cell_place l k) ≡ true = grind (arith, nat_tests) in cc (x, yes))
+
+-- ---- one access
+
+module _ (s : State) (t : ℕ) (r : Row) (inv : Kept s) (pos : 1 ≤ t) (known : t ≤ s.layout.threads) where
+  abbrev a : Access
+  a = row_access (head_place t) r
+
+  abbrev at : ℕ
+  at = address_of a
+
+  -- an access that writes nothing and is answered so, after which the walk is at row q
+  module _ (q : Row) (death : Option ℕ) (th : Thread) (th_is : th ≡ record { stage = stage_walked (walk_of t r) q; held = held_after (s.threads t).held operation.Death (told_of death) }) where
+    abbrev s' : State
+    s' = done s t a th
+
+    -- no word changes
+    pub read_words : (changed a (s.words at) ≡ s.words at) → (x : ℕ) → s'.words x ≡ s.words x
+    read_words reads x = by_put (λ v. v ≡ s.words x) s.words at (changed a (s.words at)) x (λ is. reads ∙ ap s.words (sym is)) (λ apart. refl)
+
+    pub reads_seen : (changed a (s.words at) ≡ s.words at) → (k : ℕ) → seen s' k ≡ seen s k
+    reads_seen reads k = ap (λ (v : ℕ). if nat_lt k s.layout.mutexes then object_of (fields_of v) else fresh) (read_words reads (cell_place s.layout k))
+
+    pub reads_kept : death ≡ None → (changed a (s.words at) ≡ s.words at) → Knows t (head_place t) q → Arrived s t q → Kept s'
+    reads_kept none reads knows arrived =
+        kept_where s t 0 a th operation.Death None inv pos known (let some = inv.layout.mutexes.0 in omega arith) tt
+        (λ k apart. reads_seen reads k) (reads_seen reads 0)
+        (ap (λ (z : Thread). z.held) th_is ∙ ap (λ (d : Option ℕ). held_after (s.threads t).held operation.Death (told_of d)) none)
+        (λ x e takes. absurd (cc takes))
+        (λ u first most. read_words reads (head_place u + 1))
+        (λ u x first most apart mine. read_words reads x)
+        (λ u k first most apart inside own. inl (read_words reads (cell_place s.layout k)))
+        (subst (λ (z : Thread). Sits s' t z.held z.stage) (sym th_is) (sits_walk s' t _ r q knows))
+        (subst (λ (z : Thread). Listed s' t z.stage) (sym th_is) (listed_walk s' t (walk_of t r) q (arrived_same s s' t refl (read_words reads) (reads_seen reads) q arrived)))
+        (subst (λ (z : Thread). PendsAs (s'.words (head_place t + 2)) z.stage) (sym th_is) (pends_walk _ (walk_of t r) q))
+        (subst Sound (sym (reads_seen reads 0)) (inv.sound 0))
+
+  -- the exchange that marks a word that is as it was seen: the owner's death
+  module _ (place k v : ℕ) (again : Bool) (rest : Part) (is : r ≡ Mark place v again rest) (treats : Treats s place k) (l : LeftIn s t rest (Some k)) (only : OnlyWaits v again (s.words place)) (met : s.words place ≡ v) (knows : Knows t (head_place t) r)
+      (q : Row) (th : Thread) (th_is : th ≡ record { stage = stage_walked (walk_of t r) q; held = held_after (s.threads t).held operation.Death (Some OK) }) where
+    abbrev after_mark : State
+    after_mark = done s t a th
+
+    at_is : at ≡ place
+    at_is = ap (λ (z : Row). address_of (row_access (head_place t) z)) is
+
+    at_cell : at ≡ cell_place s.layout k
+    at_cell = at_is ∙ treats.1
+
+    knows_mark : Knows t (head_place t) (Mark place v again rest)
+    knows_mark = subst (Knows t (head_place t)) is knows
+
+    own : (seen s k).owner ≡ Some t
+    own = marks_own s t k place v again inv.layout treats pos known knows_mark.0 only
+
+    elsewhere : (x : ℕ) → x ≢ cell_place s.layout k → after_mark.words x ≡ s.words x
+    elsewhere x apart = put-other s.words at (changed a (s.words at)) x (λ e. apart (e ∙ at_cell))
+
+    law : Right t r (answer_at a (s.words at)) (s.words at) (changed a (s.words at))
+    law = steps.right t (head_place t) (s.words at) r pos (subst IsGoing (sym is) tt) knows
+
+    answered : answer_at a (s.words at) ≡ Exchanged
+    answered = ap (λ (z : Row). answer_at (row_access (head_place t) z) (s.words at)) is ∙ go (s.words at == v) refl
+      where
+        go : (b : Bool) → (s.words at == v) ≡ b → (if b then Exchanged else Changed (s.words at)) ≡ Exchanged
+        go true e = refl
+        go false e = absurd (eqb-false (s.words at) v e (ap s.words at_is ∙ met))
+
+    pub told : point_of t r (answer_at a (s.words at)) ≡ Some (record { thread = t; at = place; operation = operation.Death; reply = OK })
+    told = ap (point_of t r) answered ∙ ap (λ (z : Row). point_of t z Exchanged) is
+
+    here : seen after_mark k ≡ object_of (fields_of (changed a (s.words at)))
+    here = seen-inside after_mark k treats.0 ∙ ap (λ (x : ℕ). object_of (fields_of (after_mark.words x))) (sym at_cell) ∙ ap (λ (x : ℕ). object_of (fields_of x)) (put-same s.words at (changed a (s.words at)))
+
+    before : seen s k ≡ object_of (fields_of (s.words at))
+    before = seen-inside s k treats.0 ∙ ap (λ (x : ℕ). object_of (fields_of (s.words x))) (sym at_cell)
+
+    pub dies : Permits (seen s k) t operation.Death OK (seen after_mark k)
+    dies =
+        let run : Run (object_of (fields_of (s.words at))) (record { thread = t; at = place; operation = operation.Death; reply = OK } ∷ []) (object_of (fields_of (changed a (s.words at)))) =
+        subst (λ (p : Option Point). Run (object_of (fields_of (s.words at))) (points p) (object_of (fields_of (changed a (s.words at))))) told law.runs in
+        subst (λ (o : Object). Permits o t operation.Death OK (seen after_mark k)) (sym before) (subst (λ (n : Object). Permits (object_of (fields_of (s.words at))) t operation.Death OK n) (sym (here ∙ run.2)) run.1)
+
+    pub far : (j : ℕ) → j ≢ k → seen after_mark j ≡ seen s j
+    far j apart = ap (λ (x : ℕ). if nat_lt j s.layout.mutexes then object_of (fields_of x) else fresh) (elsewhere (cell_place s.layout j) (λ e. apart (omega (arith, e))))
+
+    freed : (seen after_mark k).owner ≡ None
+    freed = ap (λ (o : Object). o.owner) dies.1
+
+    -- nothing but that mutex has changed, and it is treated now
+    left_then : (e p : ℕ) (es : List ℕ) → Left s t e p es (Some k) → Left after_mark t e p es None
+    left_then e p es x = record {
+      leads = leads-same s.words after_mark.words (head_place t) e e es refl (λ y among. let j = x.entries y among in elsewhere y (mine_is_no_cell s t y k pos known treats.0 (inr (inr (j.0, j.1, inl j.2, j.3))))) x.leads;
+      different = x.different;
+      entries = λ y among. let j = x.entries y among in (j.0, j.1, j.2, ap (λ (o : Object). o.owner) (far j.0 (λ same. j.4 (ap Some (sym same)))) ∙ j.3, λ e. cc e);
+      all = λ j below has.
+          let other : j ≢ k = λ same. cc (sym has ∙ ap (λ (i : ℕ). (seen after_mark i).owner) same ∙ freed) in
+          ⊎_elim inl (λ more. inr (⊎_elim inl (λ same. absurd (other (some_is j same))) more)) (x.all j below (sym (ap (λ (o : Object). o.owner) (far j other)) ∙ has));
+      pending = x.pending;
+    }
+      where
+        some_is : (j : ℕ) → Some k ≡ Some j → j ≡ k
+        some_is j e = cc
+
+    part_then : (z : Part) → LeftIn s t z (Some k) → LeftIn after_mark t z None
+    part_then (part.List z) (es, x, offset, few) = (es, left_then z.entry z.pending es x, offset, few)
+    part_then part.Pending x = λ j below has.
+        let other : j ≢ k = λ same. cc (sym has ∙ ap (λ (i : ℕ). (seen after_mark i).owner) same ∙ freed) in
+        absurd (other (some_is j (x j below (sym (ap (λ (o : Object). o.owner) (far j other)) ∙ has))))
+      where
+        some_is : (j : ℕ) → Some k ≡ Some j → j ≡ k
+        some_is j e = cc
+
+    mark_arrives : Arrived after_mark t (if (fields_of v).waiters then WakeOne place rest else goes_on (head_place t) rest)
+    mark_arrives = go (fields_of v).waiters
+      where
+        go : (b : Bool) → Arrived after_mark t (if b then WakeOne place rest else goes_on (head_place t) rest)
+        go true = (k, treats, part_then rest l)
+        go false = goes_on_arrives after_mark t inv.layout pos rest (part_then rest l)
+
+    pub marks_kept : q ≡ (if (fields_of v).waiters then WakeOne place rest else goes_on (head_place t) rest) → Knows t (head_place t) q → Kept after_mark
+    marks_kept q_is knows_q =
+        kept_where s t k a th operation.Death (Some OK) inv pos known treats.0 tt
+        far dies
+        (ap (λ (z : Thread). z.held) th_is)
+        (λ x e takes. absurd (cc takes))
+        (λ u first most. elsewhere (head_place u + 1) (head_is_no_cell s.layout u k 1 first most (omega arith)))
+        (λ u x first most apart mine. elsewhere x (mine_is_no_cell s u x k first most treats.0 mine))
+        (λ u j first most apart inside has. inl (elsewhere (cell_place s.layout j) (λ e. apart (owners_same u (sym own ∙ ap (λ (i : ℕ). (seen s i).owner) (place_same j e) ∙ has)))))
+        (subst (λ (z : Thread). Sits after_mark t z.held z.stage) (sym th_is) (sits_walk after_mark t _ r q knows_q))
+        (subst (λ (z : Thread). Listed after_mark t z.stage) (sym th_is) (listed_walk after_mark t (walk_of t r) q (subst (Arrived after_mark t) (sym q_is) mark_arrives)))
+        (subst (λ (z : Thread). PendsAs (after_mark.words (head_place t + 2)) z.stage) (sym th_is) (pends_walk _ (walk_of t r) q))
+        (sound_then (seen after_mark k) freed dies.1)
+      where
+        owners_same : (u : ℕ) → Some t ≡ Some u → t ≡ u
+        owners_same u e = cc
+
+        place_same : (j : ℕ) → cell_place s.layout j ≡ cell_place s.layout k → k ≡ j
+        place_same j e = omega (arith, e)
+
+        sound_then : (n : Object) → n.owner ≡ None → n ≡ bereaved (seen s k) → Sound n
+        sound_then n none same = λ unusable. none
+
+-- ---- the walk's access at a row, whatever that is
+
+module _ (s : State) (t : ℕ) (r : Row) where
+  abbrev pub walk_access : Access
+  walk_access = row_access (head_place t) r
+
+  abbrev pub walk_answer : Answer
+  walk_answer = answer_among walk_access (s.words (address_of walk_access)) (s.queues (address_of walk_access))
+
+  abbrev pub row_then : Row
+  row_then = row_after t (head_place t) r walk_answer
+
+  abbrev pub death_then : Option ℕ
+  death_then = death_at s.layout (point_of t r walk_answer)
+
+  abbrev pub thread_then : Thread
+  thread_then = record { stage = stage_walked (walk_of t r) row_then; held = held_after (s.threads t).held operation.Death (told_of death_then) }
+
+  abbrev pub walk_after : State
+  walk_after = done s t walk_access thread_then
+
+  pub walked-is : is_valid s.layout (address_of walk_access) ≡ true → walked s t (s.threads t).held (walk_of t r) ≡ record { state = walk_after; note = Walked t death_then (woken_by walk_access (s.queues (address_of walk_access))) (has_ended row_then) }
+  walked-is valid = λ i. record {
+    state = record {
+      layout = s.layout;
+      words = words i;
+      queues = queues i;
+      threads = put s.threads t (record { stage = stage_walked (walk_of t r) (row_after t (head_place t) r (answers i)); held = held_after (s.threads t).held operation.Death (told_of (death_at s.layout (point_of t r (answers i)))) });
+    };
+    note = Walked t (death_at s.layout (point_of t r (answers i))) (waking i) (has_ended (row_after t (head_place t) r (answers i)));
+  }
+    where
+      answers : answer_of s walk_access ≡ walk_answer
+      answers = ap (λ (b : Bool). if b then walk_answer else Fault) valid
+
+      words : words_after s walk_access ≡ walk_after.words
+      words = ap (λ (b : Bool). if b then walk_after.words else s.words) valid
+
+      queues : queues_after s t walk_access ≡ walk_after.queues
+      queues = ap (λ (b : Bool). if b then walk_after.queues else s.queues) valid
+
+      waking : woken s walk_access ≡ woken_by walk_access (s.queues (address_of walk_access))
+      waking = ap (λ (b : Bool). if b then woken_by walk_access (s.queues (address_of walk_access)) else []) valid
+
+-- what a walk's access tells of mutexes: nothing, or an owner's death
+abbrev pub DeathTells : State → ℕ → Option ℕ → State → Type 0
+DeathTells s t None s' = (k : ℕ) → seen s' k ≡ seen s k
+DeathTells s t (Some m) s' = (m < s.layout.mutexes) × Permits (seen s m) t operation.Death OK (seen s' m) × ((k : ℕ) → k ≢ m → seen s' k ≡ seen s k)
+
+-- one access of a walk: what holds of every state holds then, and what it tells
+pub record WalkStep (s : State) (t : ℕ) (r : Row) : Type 0 where
+  pub valid : is_valid s.layout (address_of (walk_access s t r)) ≡ true
+  pub kept : Kept (walk_after s t r)
+  pub tells : DeathTells s t (death_then s t r) (walk_after s t r)
+  pub place : (k : ℕ) → death_then s t r ≡ Some k → address_of (walk_access s t r) ≡ cell_place s.layout k
+  -- a walk that told a death where somebody may sleep wakes one next
+  pub wakes : (k : ℕ) → death_then s t r ≡ Some k → (fields_of (s.words (cell_place s.layout k))).waiters ≡ true → (rest : Part) × (row_then s t r ≡ WakeOne (cell_place s.layout k) rest)
+  -- and else no word has changed
+  pub reads : death_then s t r ≡ None → (x : ℕ) → (walk_after s t r).words x ≡ s.words x
+
+-- its address is valid
+head_is_valid : (l : Layout') (t i : ℕ) → IsLayout l → 1 ≤ t → t ≤ l.threads → i < 3 → is_valid l (sum_of (head_place t) i) ≡ true
+head_is_valid l t i is pos known few = let same : sum_of (head_place t) i ≡ head_place t + i = (let most = is.threads.1 in omega arith) in ap (is_valid l) same ∙ inside
+  where
+    inside : is_valid l (head_place t + i) ≡ true
+    inside = grind (arith, nat_tests)
+
+head_sum : (l : Layout') (t i : ℕ) → IsLayout l → 1 ≤ t → t ≤ l.threads → i < 3 → sum_of (head_place t) i ≡ head_place t + i
+head_sum l t i is pos known few = let most = is.threads.1 in omega arith
+
+entry_is_valid : (l : Layout') (k : ℕ) → k < l.mutexes → is_valid l (entry_place l k) ≡ true
+entry_is_valid l k inside = grind (arith, nat_tests)
+
+module _ (s : State) (t : ℕ) (inv : Kept s) (pos : 1 ≤ t) (known : t ≤ s.layout.threads) where
+  pub walk_valid : (r : Row) → IsGoing r → Knows t (head_place t) r → Mourns s t r → is_valid s.layout (address_of (row_access (head_place t) r)) ≡ true
+  walk_valid LoadFirst going knows l = grind (arith, nat_tests)
+  walk_valid (LoadOffset f) going knows l = head_is_valid s.layout t 1 inv.layout pos known (omega arith)
+  walk_valid (LoadPending f o) going knows l = head_is_valid s.layout t 2 inv.layout pos known (omega arith)
+  walk_valid (LoadNext r) going knows (es, l, offset, few) = go es refl
+    where
+      go : (ds : List ℕ) → es ≡ ds → is_valid s.layout r.entry ≡ true
+      go [] same = absurd (eqb-false r.entry (head_place t) knows.0 (subst (Leads s.words (head_place t) r.entry) same l.leads))
+      go (x ∷ xs) same = let k = l.entries x (subst (IsAmong x) (sym same) (inl refl)) in let leads : Leads s.words (head_place t) r.entry (x ∷ xs) = subst (Leads s.words (head_place t) r.entry) same l.leads in ap (is_valid s.layout) (leads.0 ∙ k.2) ∙ entry_is_valid s.layout k.0 k.1
+  walk_valid (LoadWord place rest) going knows (k, treats, l) = ap (is_valid s.layout) treats.1 ∙ is_valid-cell s.layout k treats.0
+  walk_valid (Mark place v again rest) going knows (k, treats, l, only) = ap (is_valid s.layout) treats.1 ∙ is_valid-cell s.layout k treats.0
+  walk_valid (WakeOne place rest) going knows (k, treats, l) = ap (is_valid s.layout) treats.1 ∙ is_valid-cell s.layout k treats.0
+  walk_valid Ended going knows l = absurd going
+
+  knows_then : (r : Row) → Knows t (head_place t) r → Knows t (head_place t) (row_then s t r)
+  knows_then r knows = steps.knows t (head_place t) r (walk_answer s t r) knows
+
+  -- a row that reads, by which no death is told
+  reads_so : (r : Row) → IsGoing r → Knows t (head_place t) r → Mourns s t r → death_then s t r ≡ None → changed (walk_access s t r) (s.words (address_of (walk_access s t r))) ≡ s.words (address_of (walk_access s t r)) → Arrived s t (row_then s t r) → WalkStep s t r
+  reads_so r going knows l none reads arrived = record {
+    valid = walk_valid r going knows l;
+    kept = reads_kept s t r inv pos known (row_then s t r) (death_then s t r) (thread_then s t r) refl none reads (knows_then r knows) arrived;
+    tells = subst (λ (d : Option ℕ). DeathTells s t d (walk_after s t r)) (sym none) (reads_seen s t r inv pos known (row_then s t r) (death_then s t r) (thread_then s t r) refl reads);
+    place = λ k e. absurd (cc (none, e));
+    wakes = λ k e. absurd (cc (none, e));
+    reads = λ e. read_words s t r inv pos known (row_then s t r) (death_then s t r) (thread_then s t r) refl reads;
+  }
+
+  pub walk_step : (r : Row) → IsGoing r → Knows t (head_place t) r → Mourns s t r → WalkStep s t r
+  walk_step LoadFirst going knows l = reads_so LoadFirst going knows l refl refl l
+  walk_step (LoadOffset f) going knows l = reads_so (LoadOffset f) going knows l refl refl (l, ap s.words (head_sum s.layout t 1 inv.layout pos known (omega arith)) ∙ (inv.heads t pos known).offset)
+  walk_step (LoadPending f o) going knows ((es, l, few), offset) =
+      reads_so (LoadPending f o) going knows ((es, l, few), offset) refl refl
+      (forward_arrives s t inv.layout pos (record { entry = f; offset = o; pending = s.words (sum_of (head_place t) 2); loaded = 0 }) (es, subst (λ (x : ℕ). Left s t f (s.words x) es None) (sym (head_sum s.layout t 2 inv.layout pos known (omega arith))) l, offset, omega arith))
+  walk_step (LoadNext r) going knows l = reads_so (LoadNext r) going knows l refl refl (next_arrives s t inv.layout pos r knows l)
+  walk_step (LoadWord place rest) going knows (k, treats, l) = reads_so (LoadWord place rest) going knows (k, treats, l) refl refl (looks_arrives s t inv.layout pos place k false rest treats l (λ e. absurd cc))
+  walk_step (Mark place v again rest) going knows (k, treats, l, only) = go (s.words place == v) refl
+    where
+      one_death : (i j : ℕ) → Some i ≡ Some j → j ≡ i
+      one_death i j e = cc
+
+      -- the answer by whether the word is as it was seen
+      answered : (b : Bool) → (s.words place == v) ≡ b → walk_answer s t (Mark place v again rest) ≡ (if b then Exchanged else Changed (s.words place))
+      answered b e = ap (λ (x : Bool). if x then Exchanged else Changed (s.words place)) e
+
+      go : (b : Bool) → (s.words place == v) ≡ b → WalkStep s t (Mark place v again rest)
+      go true e =
+          let met : s.words place ≡ v = eqb-true (s.words place) v e in
+          let told_so : death_then s t (Mark place v again rest) ≡ Some k = ap (λ (x : Answer). death_at s.layout (point_of t (Mark place v again rest) x)) (answered true e) ∙ ap (mutex_at s.layout) treats.1 ∙ mutex_at-cell s.layout k treats.0 in
+          let th_is : thread_then s t (Mark place v again rest) ≡ record { stage = stage_walked (walk_of t (Mark place v again rest)) (row_then s t (Mark place v again rest)); held = held_after (s.threads t).held operation.Death (Some OK) } =
+          ap (λ (d : Option ℕ). record { stage = stage_walked (walk_of t (Mark place v again rest)) (row_then s t (Mark place v again rest)); held = held_after (s.threads t).held operation.Death (told_of d) }) told_so in
+          record {
+            valid = walk_valid (Mark place v again rest) going knows (k, treats, l, only);
+            kept = marks_kept s t (Mark place v again rest) inv pos known place k v again rest refl treats l only met knows (row_then s t (Mark place v again rest)) (thread_then s t (Mark place v again rest)) th_is
+                (ap (row_after t (head_place t) (Mark place v again rest)) (answered true e)) (knows_then (Mark place v again rest) knows);
+            tells = subst (λ (d : Option ℕ). DeathTells s t d (walk_after s t (Mark place v again rest))) (sym told_so) (
+              treats.0,
+              dies s t (Mark place v again rest) inv pos known place k v again rest refl treats l only met knows (row_then s t (Mark place v again rest)) (thread_then s t (Mark place v again rest)) th_is,
+              far s t (Mark place v again rest) inv pos known place k v again rest refl treats l only met knows (row_then s t (Mark place v again rest)) (thread_then s t (Mark place v again rest)) th_is,
+            );
+            place = λ j is_j. treats.1 ∙ ap (cell_place s.layout) (sym (one_death k j (sym told_so ∙ is_j)));
+            wakes = λ j is_j set.
+                let same : j ≡ k = one_death k j (sym told_so ∙ is_j) in
+                let there : place ≡ cell_place s.layout j = treats.1 ∙ ap (cell_place s.layout) (sym same) in
+                let waits : (fields_of v).waiters ≡ true = ap (λ (x : ℕ). (fields_of x).waiters) (sym met ∙ ap s.words there) ∙ set in
+                (rest, ap (row_after t (head_place t) (Mark place v again rest)) (answered true e) ∙ ap (λ (b : Bool). if b then WakeOne place rest else goes_on (head_place t) rest) waits ∙ ap (λ (x : ℕ). WakeOne x rest) there);
+            reads = λ none. absurd (cc (told_so, none));
+          }
+      go false e =
+          let miss = steps.second t (head_place t) place v (s.words place) again rest pos knows only (eqb-false (s.words place) v e) in
+          let row_is : row_then s t (Mark place v again rest) ≡ Mark place (s.words place) true rest = ap (row_after t (head_place t) (Mark place v again rest)) (answered false e) ∙ miss.1 in
+          reads_so (Mark place v again rest) going knows (k, treats, l, only)
+          (ap (λ (x : Answer). death_at s.layout (point_of t (Mark place v again rest) x)) (answered false e))
+          (ap (λ (b : Bool). if b then marked_word v else s.words place) e)
+          (subst (Arrived s t) (sym row_is) (k, treats, l, miss.2))
+  walk_step (WakeOne place rest) going knows (k, treats, l) = reads_so (WakeOne place rest) going knows (k, treats, l) refl refl (goes_on_arrives s t inv.layout pos rest l)
+  walk_step Ended going knows l = absurd going

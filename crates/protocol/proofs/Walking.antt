@@ -1,0 +1,219 @@
+-- Where each access of a walk leads, and what is left to walk then.
+use Rattle.std.proofs.Common.{◌≡◌, ◌≢◌, ◌⊎◌, inl, inr, ⊎_elim, ℕ, zero, suc, ◌+◌, ◌<◌, ◌≤◌, ◌==◌, Bool, true, false, ◌&&◌, Some, None, List, [], ◌∷◌, length, refl, sym, ap, ◌∙◌, subst, arith, eqb-true}
+use Rattle.std.specs.Prelude.{if◌then◌else◌, ◌||◌}
+use Rattle.std.proofs.lemmas.Bool.{eqb-false}
+use Rattle.lockword.specs.Cells.{fields_of}
+use Rattle.keys.specs.declared.object.Object.{Object}
+use Rattle.keys.specs.Chains.{IsAmong, AreDifferent, Leads}
+use Rattle.keys.specs.Layouts.{Layout', IsLayout, head_place, entry_place, cell_place}
+use Rattle.keys.specs.Objects.{owner_of}
+use Rattle.robustlist.proofs.Places.{apart-among}
+use Rattle.exitwalk.specs.declared.row.Rest.{Rest}
+use Rattle.exitwalk.specs.declared.row.Part.{Part}
+use Rattle.exitwalk.specs.declared.row.Part.TheVariants as part
+use Rattle.exitwalk.specs.declared.row.Row.{Row}
+use Rattle.exitwalk.specs.declared.row.Row.TheVariants.{LoadFirst, LoadOffset, LoadPending, LoadNext, LoadWord, Mark, WakeOne, Ended}
+use Rattle.exitwalk.specs.Words.{sum_of, has_waiters}
+use Rattle.exitwalk.specs.Walks.{Knows, is_pending, to_pending, forward, goes_on, further, after_next, looks}
+use Rattle.protocol.specs.Machine.{State}
+use Rattle.protocol.specs.Headline.{seen}
+use Rattle.protocol.proofs.Kept.{LeftOf, LeftIn, Treats, Mourns}
+use Rattle.protocol.proofs.Steps.{seen-inside}
+
+-- it owns nothing
+abbrev pub OwnsNothing : State → ℕ → Type 0
+OwnsNothing s t = (k : ℕ) → k < s.layout.mutexes → (seen s k).owner ≢ Some t
+
+-- the walk has ended, and nothing is owned; or it is where it should be
+abbrev pub Arrived : State → ℕ → Row → Type 0
+Arrived s t Ended = OwnsNothing s t
+Arrived s t LoadFirst = Mourns s t LoadFirst
+Arrived s t (LoadOffset f) = Mourns s t (LoadOffset f)
+Arrived s t (LoadPending f o) = Mourns s t (LoadPending f o)
+Arrived s t (LoadNext r) = Mourns s t (LoadNext r)
+Arrived s t (LoadWord at rest) = Mourns s t (LoadWord at rest)
+Arrived s t (Mark at v again rest) = Mourns s t (Mark at v again rest)
+Arrived s t (WakeOne at rest) = Mourns s t (WakeOne at rest)
+
+some_same : (i j : ℕ) → Some i ≡ Some j → j ≡ i
+some_same i j e = cc
+
+-- an entry's cell
+pub cell_of : (l : Layout') (k : ℕ) → IsLayout l → k < l.mutexes → sum_of (entry_place l k) 18446744073709551615 ≡ cell_place l k
+cell_of l k is inside = let threads = is.threads.1 in let mutexes = is.mutexes.1 in omega arith
+
+module _ (s : State) (t : ℕ) (layout : IsLayout s.layout) (pos : 1 ≤ t) where
+  abbrev h : ℕ
+  h = head_place t
+
+  -- no entry is the head
+  no_head : (x : ℕ) (xs : List ℕ) → AreDifferent (h ∷ (x ∷ xs)) → h ≢ x
+  no_head x xs different = different.0.0
+
+  -- behind the list
+  to_pending_arrives : (p : ℕ) → ((p ≡ 0) ⊎ (k : ℕ) × (k < s.layout.mutexes) × (p ≡ entry_place s.layout k)) → ((k : ℕ) → k < s.layout.mutexes → (seen s k).owner ≡ Some t → p ≡ entry_place s.layout k) → Arrived s t (to_pending 18446744073709551615 p)
+  to_pending_arrives p pending owned = go (p == 0) refl
+    where
+      go : (b : Bool) → (p == 0) ≡ b → Arrived s t (if b then Ended else LoadWord (sum_of p 18446744073709551615) part.Pending)
+      go true e = λ k below own. (let none = eqb-true p 0 e in let there = owned k below own in omega (arith, none, there))
+      go false e = ⊎_elim (λ none. absurd (eqb-false p 0 e none)) (λ some. (
+        some.0,
+        (some.1, ap (λ (x : ℕ). sum_of x 18446744073709551615) some.2 ∙ cell_of s.layout some.0 layout some.1),
+        (λ k below own. ap Some (let there = owned k below own in let place = some.2 in omega (arith, there, place))),
+      )) pending
+
+  -- the next entry, or behind the list
+  pub forward_arrives : (r : Rest) → LeftOf s t r None → Arrived s t (forward h r)
+  forward_arrives r (es, l, offset, few) = go (r.entry == h) refl (r.loaded == 2048) refl
+    where
+      owned_then : es ≡ [] → (k : ℕ) → k < s.layout.mutexes → (seen s k).owner ≡ Some t → r.pending ≡ entry_place s.layout k
+      owned_then none k below own = ⊎_elim (λ among. absurd (subst (IsAmong (entry_place s.layout k)) none among)) (λ rest. ⊎_elim (λ is. is) (λ no_one. absurd (cc no_one)) rest) (l.all k below own)
+
+      behind : es ≡ [] → Arrived s t (to_pending r.offset r.pending)
+      behind none = subst (λ (o : ℕ). Arrived s t (to_pending o r.pending)) (sym offset) (to_pending_arrives r.pending l.pending (owned_then none))
+
+      at_head : r.entry ≡ h → (ds : List ℕ) → es ≡ ds → es ≡ []
+      at_head is [] same = same
+      at_head is (x ∷ xs) same =
+          let leads : Leads s.words h r.entry (x ∷ xs) = subst (Leads s.words h r.entry) same l.leads in
+          let different : AreDifferent (h ∷ (x ∷ xs)) = subst (λ (ds : List ℕ). AreDifferent (h ∷ ds)) same l.different in
+          absurd (different.0.0 (sym is ∙ leads.0))
+
+      full : r.loaded ≡ 2048 → (ds : List ℕ) → es ≡ ds → es ≡ []
+      full is [] same = same
+      full is (x ∷ xs) same = absurd (let size : length es ≡ suc (length xs) = ap length same in omega arith)
+
+      go : (a : Bool) → (r.entry == h) ≡ a → (b : Bool) → (r.loaded == 2048) ≡ b → Arrived s t (if a || b then to_pending r.offset r.pending else LoadNext r)
+      go true e b x = behind (at_head (eqb-true r.entry h e) es refl)
+      go false e true x = behind (full (eqb-true r.loaded 2048 x) es refl)
+      go false e false x = (es, l, offset, few)
+
+  -- from an entry: it is skipped where it is pending, and else its cell comes next
+  pub next_arrives : (r : Rest) → Knows t h (LoadNext r) → LeftOf s t r None → Arrived s t (after_next h r (s.words r.entry))
+  next_arrives r knows (es, l, offset, few) = at es refl
+    where
+      at : (ds : List ℕ) → es ≡ ds → Arrived s t (after_next h r (s.words r.entry))
+      at [] same = absurd (eqb-false r.entry h knows.0 (subst (Leads s.words h r.entry) same l.leads))
+      at (x ∷ xs) same = go (r.entry == r.pending) refl
+        where
+          leads : Leads s.words h r.entry (x ∷ xs)
+          leads = subst (Leads s.words h r.entry) same l.leads
+
+          different : AreDifferent (h ∷ (x ∷ xs))
+          different = subst (λ (ds : List ℕ). AreDifferent (h ∷ ds)) same l.different
+
+          size : length xs + (r.loaded + 1) ≤ 2048
+          size = let long : length es ≡ suc (length xs) = ap length same in omega arith
+
+          first : (k : ℕ) × (k < s.layout.mutexes) × (x ≡ entry_place s.layout k) × ((seen s k).owner ≡ Some t) × (None ≢ Some k)
+          first = l.entries x (subst (IsAmong x) (sym same) (inl refl))
+
+          later : (y : ℕ) → IsAmong y xs → (k : ℕ) × (k < s.layout.mutexes) × (y ≡ entry_place s.layout k) × ((seen s k).owner ≡ Some t) × (None ≢ Some k)
+          later y among = l.entries y (subst (IsAmong y) (sym same) (inr among))
+
+          next_leads : Leads s.words h (s.words r.entry) xs
+          next_leads = subst (λ (e : ℕ). Leads s.words h (s.words e) xs) (sym leads.0) leads.1
+
+          rest_different : AreDifferent (h ∷ xs)
+          rest_different = (different.0.1, different.1.1)
+
+          skipped : r.entry ≡ r.pending → LeftOf s t (further r (s.words r.entry)) None
+          skipped is = (
+            xs,
+            record {
+              leads = next_leads;
+              different = rest_different;
+              entries = λ y among. let k = later y among in (k.0, k.1, k.2, k.3, k.4);
+              all = λ k below own. ⊎_elim
+                  (λ among. listed k (subst (IsAmong (entry_place s.layout k)) same among))
+                  inr
+                  (l.all k below own);
+              pending = l.pending;
+            },
+            offset,
+            size,
+          )
+            where
+              listed : (k : ℕ) → (entry_place s.layout k ≡ x) ⊎ IsAmong (entry_place s.layout k) xs → IsAmong (entry_place s.layout k) xs ⊎ ((r.pending ≡ entry_place s.layout k) ⊎ (None ≡ Some k))
+              listed k (inl here) = inr (inl (sym is ∙ leads.0 ∙ sym here))
+              listed k (inr among) = inl among
+
+          treated : LeftOf s t (further r (s.words r.entry)) (Some first.0)
+          treated = (
+            xs,
+            record {
+              leads = next_leads;
+              different = rest_different;
+              entries = λ y among. let k = later y among in (k.0, k.1, k.2, k.3, λ e. apart-among x y xs different.1.0 among (first.2 ∙ ap (entry_place s.layout) (sym (some_same first.0 k.0 e)) ∙ sym k.2));
+              all = λ k below own. ⊎_elim
+                  (λ among. listed k (subst (IsAmong (entry_place s.layout k)) same among))
+                  (λ rest. inr (⊎_elim inl (λ no_one. absurd (cc no_one)) rest))
+                  (l.all k below own);
+              pending = l.pending;
+            },
+            offset,
+            size,
+          )
+            where
+              listed : (k : ℕ) → (entry_place s.layout k ≡ x) ⊎ IsAmong (entry_place s.layout k) xs → IsAmong (entry_place s.layout k) xs ⊎ ((r.pending ≡ entry_place s.layout k) ⊎ (Some first.0 ≡ Some k))
+              listed k (inl here) = inr (inr (ap Some (let a = here in let b = first.2 in omega (arith, a, b))))
+              listed k (inr among) = inl among
+
+          go : (b : Bool) → (r.entry == r.pending) ≡ b → Arrived s t (if b then forward h (further r (s.words r.entry)) else LoadWord (sum_of r.entry r.offset) (part.List (further r (s.words r.entry))))
+          go true e = forward_arrives (further r (s.words r.entry)) (skipped (eqb-true r.entry r.pending e))
+          go false e = (
+            first.0,
+            (first.1, ap (λ (o : ℕ). sum_of r.entry o) offset ∙ ap (λ (x : ℕ). sum_of x 18446744073709551615) (leads.0 ∙ first.2) ∙ cell_of s.layout first.0 layout first.1),
+            treated,
+          )
+
+  -- a mutex that isn't t's (any more) needs no treatment
+  untreated : (r : Rest) (k : ℕ) → (seen s k).owner ≢ Some t → LeftOf s t r (Some k) → LeftOf s t r None
+  untreated r k not_own (es, l, offset, few) = (
+    es,
+    record {
+      leads = l.leads;
+      different = l.different;
+      entries = λ y among. let j = l.entries y among in (j.0, j.1, j.2, j.3, λ e. cc e);
+      all = λ j below own. ⊎_elim inl (λ rest. inr (⊎_elim inl (λ is. absurd (not_own (ap (λ (i : ℕ). (seen s i).owner) (sym (some_same k j is)) ∙ own))) rest)) (l.all j below own);
+      pending = l.pending;
+    },
+    offset,
+    few,
+  )
+
+  -- then the walk goes on
+  pub goes_on_arrives : (rest : Part) → LeftIn s t rest None → Arrived s t (goes_on h rest)
+  goes_on_arrives (part.List r) l = forward_arrives r l
+  goes_on_arrives part.Pending l = λ k below own. cc (l k below own)
+
+  pub passes : (rest : Part) (k : ℕ) → (seen s k).owner ≢ Some t → LeftIn s t rest (Some k) → LeftIn s t rest None
+  passes (part.List r) k not_own l = untreated r k not_own l
+  passes part.Pending k not_own l = λ j below own. absurd (not_own (ap (λ (i : ℕ). (seen s i).owner) (sym (some_same k j (l j below own))) ∙ own))
+
+  -- a word is looked at
+  pub looks_arrives : (at k : ℕ) (again : Bool) (rest : Part) → Treats s at k → LeftIn s t rest (Some k) → (again ≡ true → has_waiters (s.words at) ≡ true) → Arrived s t (looks t h at (s.words at) again rest)
+  looks_arrives at k again rest treats l waits = go (is_pending rest && ((fields_of (s.words at)).owner == 0)) refl ((fields_of (s.words at)).owner == t) refl
+    where
+      owner_is : (seen s k).owner ≡ owner_of (fields_of (s.words at)).owner
+      owner_is = ap (λ (o : Object). o.owner) (seen-inside s k treats.0) ∙ ap (λ (x : ℕ). owner_of (fields_of (s.words x)).owner) (sym treats.1)
+
+      not_owned : (fields_of (s.words at)).owner ≢ t → (seen s k).owner ≢ Some t
+      not_owned apart own = apart (same (fields_of (s.words at)).owner (sym owner_is ∙ own))
+        where
+          same : (n : ℕ) → owner_of n ≡ Some t → n ≡ t
+          same zero e = absurd cc
+          same (suc n) e = some_same t (suc n) (sym e)
+
+      free_then : (a : Bool) → (is_pending rest && ((fields_of (s.words at)).owner == 0)) ≡ true → (fields_of (s.words at)).owner ≡ 0
+      free_then a e = both (is_pending rest) ((fields_of (s.words at)).owner == 0) refl e
+        where
+          both : (x y : Bool) → ((fields_of (s.words at)).owner == 0) ≡ y → (x && y) ≡ true → (fields_of (s.words at)).owner ≡ 0
+          both true true z e = eqb-true (fields_of (s.words at)).owner 0 z
+          both true false z e = absurd cc
+          both false y z e = absurd cc
+
+      go : (a : Bool) → (is_pending rest && ((fields_of (s.words at)).owner == 0)) ≡ a → (b : Bool) → ((fields_of (s.words at)).owner == t) ≡ b → Arrived s t (if a then WakeOne at rest else if b then Mark at (s.words at) again rest else goes_on h rest)
+      go true e b x = (k, treats, passes rest k (not_owned (λ is. let free = free_then true e in omega (arith, is, free))) l)
+      go false e true x = (k, treats, l, record { stays = inl refl; set = waits })
+      go false e false x = goes_on_arrives rest (passes rest k (not_owned (eqb-false (fields_of (s.words at)).owner t x)) l)
