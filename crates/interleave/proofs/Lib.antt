@@ -1,4 +1,5 @@
 mod Views
+mod Dying
 mod Reaches
 mod Sleeping
 mod Layouts

@@ -18,27 +18,31 @@ use Rattle.mutex.specs.declared.phase.Phase.TheVariants.{Announcing, AtCell, Lin
 use Rattle.mutex.specs.Standings.{Whole}
 use Rattle.mutex.specs.Whole.{whole_started, whole_access, whole_led, IsUnderWay, PhaseKnows}
 use Rattle.protocol.specs.declared.event.Event.{Event}
-use Rattle.protocol.specs.declared.event.Event.TheVariants.{Begin, Step}
+use Rattle.protocol.specs.declared.event.Event.TheVariants.{Begin, Step, Kill}
 use Rattle.protocol.specs.declared.thread.Thread.{Thread}
 use Rattle.protocol.specs.declared.thread.Stage.{Stage}
-use Rattle.protocol.specs.declared.thread.Stage.TheVariants.{Idle, Calling}
+use Rattle.protocol.specs.declared.thread.Stage.TheVariants.{Idle, Calling, Dying, Reaped}
 use Rattle.protocol.specs.declared.note.Note.{Note}
-use Rattle.protocol.specs.Machine.{State, After, put, idle, start, first_word, head_word, is_valid, is_thread, may_begin, begun, nothing, stands_in, sleeps, went, stepped, answer_of, happens, run, notes}
+use Rattle.protocol.specs.Machine.{State, After, put, idle, start, first_word, head_word, is_valid, is_thread, may_begin, begun, nothing, is_alive, killed, stands_in, sleeps, went, stepped, answer_of, happens, run, notes}
 use Rattle.protocol.specs.Sleepers.{alone, GoesOn}
-use Rattle.protocol.proofs.Queues.{Queued, run_queued}
+use Rattle.protocol.proofs.Queues.{Queued}
+use Rattle.protocol.proofs.QueueRuns.{run_queued}
 use Rattle.protocol.proofs.Undivided.{going}
 use Rattle.keys.specs.declared.access.Access.TheVariants.{Store}
-use Rattle.syscalls.specs.Kernels.{Kernel', IsIdle}
+use Rattle.syscalls.specs.Kernels.{Kernel'}
 use Rattle.syscalls.specs.Memories as memories
 use Rattle.syscalls.specs.Memories.{word_at, words_after}
-use Rattle.protocol.specs.Headline.{IsHistory, seen}
+use Rattle.protocol.specs.Deaths.{AreMourned}
+use Rattle.protocol.specs.Headline.{IsHistory, NoReapedOwns, seen}
 use Rattle.protocol.proofs.Puts.{by_put, put-same, put-other}
 use Rattle.protocol.proofs.Kept.{Kept, InPhase, Sits}
+use Rattle.protocol.proofs.Deaths.{are_mourned}
+use Rattle.protocol.proofs.Reaped.{no_reaped_owns}
 use Rattle.protocol.proofs.Runs.{start_kept, run_kept, run_layout, legal}
 use Rattle.interleave.specs.Shown.{Shown, thread_at, state_at, state_of}
 use Rattle.interleave.specs.Notes.{is_nothing}
 use Rattle.interleave.specs.Steps.{IsOnItsWay, MayStep, SleepsInItsCall}
-use Rattle.interleave.specs.Reached.{IsReached, AtEachMoment}
+use Rattle.interleave.specs.Reached.{IsReached, IsFirst, AtEachMoment}
 use Rattle.interleave.proofs.Views.{words-set}
 use Rattle.protocol.proofs.Steps.{seen-inside, is_valid-cell}
 use Rattle.std.specs.Option.{SomeIff}
@@ -80,6 +84,8 @@ may_step m r t pos known =
     on_its_way : (g : Stage) → Sits (state_of m) t (thread_at m.threads t).held g → IsOnItsWay g
     on_its_way Idle f = tt
     on_its_way (Calling c p) f = on_the_way t (thread_at m.threads t).held p p.phase (seen (state_of m) (mutex_of c)) f.stands
+    on_its_way (Dying w) f = f.going
+    on_its_way Reaped f = tt
 
 -- a begin that applies is noted
 begun_noted : (s : State) (t : ℕ) (c : Call) (r : Result Whole Reply) → is_nothing (begun s t c r).note ≡ true → (begun s t c r).state ≡ s
@@ -103,7 +109,14 @@ stays s (Step t) = go (is_thread s t) (s.threads t).stage
     go : (b : Bool) (g : Stage) → is_nothing (if b then stepped s t (s.threads t).held g else nothing s).note ≡ true → (if b then stepped s t (s.threads t).held g else nothing s).state ≡ s
     go true Idle h = refl
     go true (Calling c p) h = access c p (sleeps s t (Calling c p)) h
+    go true (Dying w) h = absurd cc
+    go true Reaped h = refl
     go false g h = refl
+stays s (Kill t) = go (is_thread s t && is_alive (s.threads t).stage)
+  where
+    go : (b : Bool) → is_nothing (if b then killed s t else nothing s).note ≡ true → (if b then killed s t else nothing s).state ≡ s
+    go true h = absurd cc
+    go false h = refl
 
 -- both hold where both together hold
 both : (a b : Bool) → (a && b) ≡ true → (a ≡ true) × (b ≡ true)
@@ -111,9 +124,9 @@ both true b e = (refl, e)
 both false b e = absurd cc
 
 -- an event leads from a machine that is reached to one
-pub reached_step : (m : Shown) (ws : List ℕ) (k : Kernel') (ts : List Thread) (e : Event) → IsReached m → state_at m.layout ws k ts ≡ (happens (state_of m) e).state → length ws ≡ length m.words → k.threads ≡ m.kernel.threads → length ts ≡ length m.threads
+pub reached_step : (m : Shown) (ws : List ℕ) (k : Kernel') (ts : List Thread) (e : Event) → IsReached m → state_at m.layout ws k ts ≡ (happens (state_of m) e).state → length ws ≡ length m.words → k.threads ≡ m.kernel.threads → k.heads ≡ m.kernel.heads → length ts ≡ length m.threads
     → (b : Bool) → b ≡ (m.fresh && is_nothing (happens (state_of m) e).note) → IsReached (record { layout = m.layout; words = ws; kernel = k; threads = ts; fresh = b })
-reached_step m ws k ts e r is words kernel threads b fresh = record {
+reached_step m ws k ts e r is words kernel heads threads b fresh = record {
   layout = r.layout;
   counters = r.counters;
   events = r.events ++ e ∷ [];
@@ -125,6 +138,7 @@ reached_step m ws k ts e r is words kernel threads b fresh = record {
   words = words ∙ r.words;
   kernel = kernel ∙ r.kernel;
   threads = threads ∙ r.threads;
+  heads = λ t first last. ap (λ (hs : List ℕ). slice_index hs (t - 1)) heads ∙ r.heads t first last;
 }
 
 -- ---- the beginning
@@ -155,11 +169,11 @@ first_threads-is n ts e zero = refl
 first_threads-is n ts e (suc i) = ap (λ (v : List Thread). slice_index_or v i idle) e ∙ replicated n i
 
 -- so a new machine is at the start
-pub state-first : (l : Layout') (ws : List ℕ) (k : Kernel') (ts : List Thread) → ws ≡ map (first_word l (λ c. 0)) (range_with_len 0 (words_of l)) → IsIdle k l.threads → ts ≡ replicate l.threads idle → state_at l ws k ts ≡ start l (λ c. 0)
+pub state-first : (l : Layout') (ws : List ℕ) (k : Kernel') (ts : List Thread) → ws ≡ map (first_word l (λ c. 0)) (range_with_len 0 (words_of l)) → IsFirst l k → ts ≡ replicate l.threads idle → state_at l ws k ts ≡ start l (λ c. 0)
 state-first l ws k ts w idles t = λ i. record { layout = l; words = fun_ext (first_words-is l ws w) i; queues = fun_ext idles.queues i; threads = fun_ext (first_threads-is l.threads ts t) i }
 
 -- and is reached by no event
-pub reached_first : (l : Layout') (ws : List ℕ) (k : Kernel') (ts : List Thread) → IsLayout l → ws ≡ map (first_word l (λ c. 0)) (range_with_len 0 (words_of l)) → IsIdle k l.threads → ts ≡ replicate l.threads idle → IsReached (record { layout = l; words = ws; kernel = k; threads = ts; fresh = true })
+pub reached_first : (l : Layout') (ws : List ℕ) (k : Kernel') (ts : List Thread) → IsLayout l → ws ≡ map (first_word l (λ c. 0)) (range_with_len 0 (words_of l)) → IsFirst l k → ts ≡ replicate l.threads idle → IsReached (record { layout = l; words = ws; kernel = k; threads = ts; fresh = true })
 reached_first l ws k ts is w idles t = record {
   layout = is;
   counters = λ c. 0;
@@ -169,6 +183,7 @@ reached_first l ws k ts is w idles t = record {
   words = ap length w ∙ length-map-range_with_len (first_word l (λ c. 0)) 0 (words_of l);
   kernel = idles.threads;
   threads = ap length t ∙ length-replicate l.threads idle;
+  heads = idles.heads;
 }
 
 -- a counter set at the beginning is a counter that begins so
@@ -210,6 +225,7 @@ reached_counter m c v r on inside =
       words = length-set m.words (counter_place m.layout c) v ∙ r.words;
       kernel = r.kernel;
       threads = r.threads;
+      heads = r.heads;
     }
 
 -- a write at a valid place is a write into the list
@@ -305,6 +321,14 @@ run-append s (e ∷ es) fs = run-append (happens s e).state es fs
 pub reached_goes_on : (m : Shown) (es : List Event) → IsReached m → GoesOn (run (state_of m) es)
 reached_goes_on m es r =
     subst GoesOn (run-append (start m.layout r.counters) r.events es ∙ ap (λ (s : State). run s es) (sym r.is)) (going m.layout r.counters (r.events ++ es) r.layout)
+
+-- and nobody who was reaped owns a mutex
+pub reached_reaped : (m : Shown) (es : List Event) → IsReached m → NoReapedOwns (run (state_of m) es)
+reached_reaped m es r = no_reaped_owns (run (state_of m) es) (run_kept (state_of m) es (reached_kept m r))
+
+-- and whoever is killed is mourned
+pub reached_mourned : (m : Shown) (es : List Event) → IsReached m → AreMourned (state_of m) es
+reached_mourned m es r = are_mourned (state_of m) es (reached_kept m r)
 
 -- ---- a thread alone
 

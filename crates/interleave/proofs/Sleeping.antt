@@ -5,7 +5,7 @@ use Rattle.mutex.specs.Whole.{whole_access, whole_led}
 use Rattle.syscalls.specs.Kernels.{Kernel', queue_of, IsAsleep, IsAwake}
 use Rattle.protocol.specs.declared.event.Event.TheVariants.{Step}
 use Rattle.protocol.specs.declared.thread.Stage.{Stage}
-use Rattle.protocol.specs.declared.thread.Stage.TheVariants.{Idle, Calling}
+use Rattle.protocol.specs.declared.thread.Stage.TheVariants.{Idle, Calling, Dying, Reaped}
 use Rattle.protocol.specs.Machine.{State, nothing, is_thread, answer_of, went, stepped, stands_in, sleeps, is_asleep, happens}
 use Rattle.interleave.specs.Steps.{SleepsInItsCall}
 
@@ -43,10 +43,14 @@ outside t q none = go (stands_in t q) refl
 pub awake_stage : (s : State) (t : ℕ) (g : Stage) → ((key : ℕ) → stands_in t (s.queues key) ≡ false) → sleeps s t g ≡ false
 awake_stage s t Idle none = refl
 awake_stage s t (Calling c p) none = none _
+awake_stage s t (Dying w) none = refl
+awake_stage s t Reaped none = refl
 
 -- a thread that sleeps makes no step
 rests : (s : State) (t held : ℕ) (g : Stage) → sleeps s t g ≡ true → stepped s t held g ≡ nothing s
 rests s t held Idle e = refl
+rests s t held (Dying w) e = absurd cc
+rests s t held Reaped e = refl
 rests s t held (Calling c p) e = ap (λ (b : Bool). if b then nothing s else went s t held c p (whole_led p (answer_of s (whole_access p)))) e
 
 pub asleep_step : (s : State) (t : ℕ) → is_asleep s t ≡ true → happens s (Step t) ≡ nothing s

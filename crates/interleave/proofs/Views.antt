@@ -79,7 +79,7 @@ module _ (l : Layout') (ws : List ℕ) (kernel : Kernel') (ts : List Thread) (a 
   valid-is = ap (λ (n : ℕ). nat_le 1 (address_of a) && nat_lt (address_of a) n) room
 
   -- the words after an access
-  words-is : (λ q. slice_index (memories.words_after a ws) q) ≡ words_after (state_at l ws kernel ts) a
+  pub words-is : (λ q. slice_index (memories.words_after a ws) q) ≡ words_after (state_at l ws kernel ts) a
   words-is = ap (λ (b : Bool). λ (q : ℕ). slice_index (if b then slice_set ws (address_of a) (changed a (slice_index ws (address_of a))) else ws) q) valid-is ∙ go (is_valid l (address_of a)) refl
     where
       go : (b : Bool) → is_valid l (address_of a) ≡ b
@@ -88,10 +88,10 @@ module _ (l : Layout') (ws : List ℕ) (kernel : Kernel') (ts : List Thread) (a 
       go false e = refl
 
   module _ (t : ℕ) (after : Kernel') (done : Performed) (performs : Performs ws kernel after t a done) where
-    answer-is : done.answer ≡ answer_of (state_at l ws kernel ts) a
+    pub answer-is : done.answer ≡ answer_of (state_at l ws kernel ts) a
     answer-is = performs.answer ∙ ap (λ (b : Bool). if b then answer_among a (slice_index ws (address_of a)) (queue_of kernel (address_of a)) else Fault) valid-is
 
-    queues-is : (λ q. queue_of after q) ≡ queues_after (state_at l ws kernel ts) t a
+    pub queues-is : (λ q. queue_of after q) ≡ queues_after (state_at l ws kernel ts) t a
     queues-is =
         fun_ext performs.queues
         ∙ ap (λ (b : Bool). if b then put (queue_of kernel) (address_of a) (queue_after t a (slice_index ws (address_of a)) (queue_of kernel (address_of a))) else queue_of kernel) valid-is
@@ -101,7 +101,7 @@ module _ (l : Layout') (ws : List ℕ) (kernel : Kernel') (ts : List Thread) (a 
         ap (λ (b : Bool). if b then Some (mutex_of c) else None) performs.slept
         ∙ ap (λ (b : Bool). if b && sleeps_at a (slice_index ws (address_of a)) then Some (mutex_of c) else None) valid-is
 
-    woken-is : done.woken ≡ woken (state_at l ws kernel ts) a
+    pub woken-is : done.woken ≡ woken (state_at l ws kernel ts) a
     woken-is = performs.woken ∙ ap (λ (b : Bool). if b then woken_by a (queue_of kernel (address_of a)) else []) valid-is
 
 -- where the thread stands after a step, as the definition says

@@ -4,3 +4,4 @@ pub mod Perform
 pub mod Steps
 pub mod Reached
 pub mod Traces
+pub mod Reapings

@@ -1,5 +1,5 @@
 -- What an access does over a list of words and a kernel's queues, and what a thread does with its answer.
-use Rattle.std.specs.Prelude.{ℕ, ◌≡◌, ◌==◌, ◌&&◌, Bool, List, [], slice_index, Option, Some, None, if◌then◌else◌}
+use Rattle.std.specs.Prelude.{ℕ, ◌≡◌, ◌==◌, ◌&&◌, Bool, true, false, List, [], slice_index, Option, Some, None, if◌then◌else◌}
 use Rattle.lockword.specs.declared.reply.Reply.{Reply}
 use Rattle.keys.specs.declared.access.Access.{Access}
 use Rattle.keys.specs.declared.access.Answer.{Answer}
@@ -8,10 +8,11 @@ use Rattle.keys.specs.declared.point.Point.{Point}
 use Rattle.keys.specs.declared.point.Progress.{Progress}
 use Rattle.keys.specs.declared.point.Progress.TheVariants.{Goes, Returns}
 use Rattle.keys.specs.Accesses.{address_of, sleeps_at}
+use Rattle.exitwalk.specs.Standings as walks
 use Rattle.mutex.specs.declared.call.Call.{Call}
 use Rattle.mutex.specs.Standings.{Whole}
 use Rattle.protocol.specs.declared.thread.Stage.{Stage}
-use Rattle.protocol.specs.declared.thread.Stage.TheVariants.{Idle, Calling}
+use Rattle.protocol.specs.declared.thread.Stage.TheVariants.{Idle, Calling, Dying, Reaped}
 use Rattle.protocol.specs.Machine.{put, answer_among, queue_after, woken_by}
 use Rattle.syscalls.specs.Kernels.{Kernel', queue_of}
 use Rattle.syscalls.specs.Memories.{is_valid}
@@ -45,6 +46,7 @@ pub record Performs (ws : List ℕ) (old new : Kernel') (t : ℕ) (a : Access) (
   pub woken : done.woken ≡ list_woken ws old a
   pub queues : (p : ℕ) → queue_of new p ≡ list_queues ws old t a p
   pub threads : new.threads ≡ old.threads
+  pub heads : new.heads ≡ old.heads
 
 abbrev pub reply_at : Option Point → Option Reply
 reply_at None = None
@@ -62,3 +64,17 @@ reply_in (Returns x point) = Some x
 abbrev pub stage_in : Call → Whole → Progress → Stage
 stage_in c p (Goes point) = Calling c p
 stage_in c p (Returns x point) = Idle
+
+-- ---- a walk
+
+abbrev pub point_in : Progress → Option Point
+point_in (Goes point) = point
+point_in (Returns x point) = point
+
+abbrev pub has_returned : Progress → Bool
+has_returned (Goes point) = false
+has_returned (Returns x point) = true
+
+abbrev pub stage_walked_in : walks.Standing → Progress → Stage
+stage_walked_in w (Goes point) = Dying w
+stage_walked_in w (Returns x point) = Reaped

@@ -1,11 +1,22 @@
 -- What a machine is made by.
-use Rattle.std.specs.Prelude.{ℕ, ◌≡◌, true, List, length, take}
-use Rattle.keys.specs.Layouts.{IsLayout, words_of}
+use Rattle.std.specs.Prelude.{ℕ, ◌≡◌, ◌≤◌, true, List, [], length, take}
+use Rattle.keys.specs.Layouts.{Layout', IsLayout, words_of, head_place}
+use Rattle.syscalls.specs.Kernels.{Kernel', queue_of, head_of}
 use Rattle.protocol.specs.declared.event.Event.{Event}
 use Rattle.protocol.specs.declared.note.Note.{Note}
 use Rattle.protocol.specs.Machine.{State, start, run}
 use Rattle.protocol.specs.Headline.{IsHistory}
 use Rattle.interleave.specs.Shown.{Shown, state_of}
+
+-- each thread's robust list begins at its head
+abbrev pub HasHeads : Layout' → Kernel' → Type 0
+HasHeads l k = (t : ℕ) → 1 ≤ t → t ≤ l.threads → head_of k t ≡ head_place t
+
+-- a kernel for the threads of a layout, none of which sleeps
+pub record IsFirst (l : Layout') (k : Kernel') : Type 0 where
+  pub threads : k.threads ≡ l.threads
+  pub queues : (key : ℕ) → queue_of k key ≡ []
+  pub heads : HasHeads l k
 
 -- nothing has happened but that counters were set
 pub record IsStart (m : Shown) : Type 0 where
@@ -23,6 +34,7 @@ pub record IsReached (m : Shown) : Type 0 where
   pub words : length m.words ≡ words_of m.layout
   pub kernel : m.kernel.threads ≡ m.layout.threads
   pub threads : length m.threads ≡ m.layout.threads
+  pub heads : HasHeads m.layout m.kernel
 
 -- after each event the points so far are a legal history, which says of every mutex what its cell says
 abbrev pub AtEachMoment : State → List Event → List Note → Type 0

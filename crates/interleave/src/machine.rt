@@ -1,16 +1,20 @@
 //! The machine.
-ghost use Rattle.std.specs.Prelude.{◌≡◌, ◌<◌, ◌^◌, ◌&&◌, ℕ, true, false, [], ◌∷◌, ◌++◌, length, map, take, replicate, vec_len, vec_capacity, Some, None, IfOk, OnOk, OnErr, MatchBool, if◌then◌else◌};
-ghost use Rattle.std.specs.List.{range_with_len};
+ghost use Rattle.std.specs.Prelude.{◌≡◌, ◌<◌, ◌≤◌, ◌^◌, ◌&&◌, ℕ, true, false, [], ◌∷◌, ◌++◌, length, map, take, replicate, vec_len, vec_capacity, Some, None, IfOk, OnOk, OnErr, MatchBool, if◌then◌else◌};
+ghost use Rattle.std.specs.List.{All, range_with_len};
 ghost use Rattle.keys.specs.Layouts.{IsLayout, counter_place, words_of};
-ghost use Rattle.protocol.specs.Machine.{start, first_word, idle, happens, put, run, notes, is_valid, is_busy, is_asleep, stands_in};
+ghost use Rattle.protocol.specs.Machine.{start, first_word, idle, happens, put, run, notes, is_valid, is_busy, is_dying, is_asleep, stands_in};
 ghost use Rattle.protocol.specs.Sleepers.{alone, GoesOn};
-ghost use Rattle.protocol.specs.Headline.{seen};
+ghost use Rattle.protocol.specs.Deaths.{AreMourned};
+ghost use Rattle.protocol.specs.Headline.{seen, NoReapedOwns};
 ghost use Rattle.protocol.specs.Explained.{IsExplained};
 ghost use Rattle.interleave.specs.Notes.{is_nothing};
+ghost use Rattle.interleave.specs.Reached.{IsFirst};
+ghost use Rattle.interleave.specs.Reapings.{is_reaped};
 
 use crate::copies::{same_layout, same_threads};
-use crate::threads::{apply, is_idle};
+use crate::threads::{apply, is_calling, is_dying, is_reaped};
 use crate::trace::{Trace, push_in_room};
+use buckets::Batch;
 use keys::{Layout, NoMem};
 use lockword::{Cell, Tid};
 use protocol::{Event, Note, Stage, Thread};
@@ -18,7 +22,11 @@ use std::alloc::{AllocError, Global};
 use std::marker::Model;
 use syscalls::{Kernel, Memory, PlainMemory};
 
-/// Threads whose calls step over the words of a layout, and sleep on them, one event at a time.
+/// The size of a head in bytes, which the kernel asks for where one is set (get_robust_list(2)).
+const HEAD_SIZE: u64 = 24;
+
+/// Threads whose calls step over the words of a layout, and sleep on them, one event at a time. A thread may be killed at any event: it leaves its queue,
+/// its call ends where it stands, and its later steps are the accesses of the kernel's walk over its robust list, the last of which reaps it.
 #[derive(Drop)]
 pub struct Machine {
     layout: Layout,
@@ -78,6 +86,20 @@ fn first_threads(alloc: Global, layout: &Layout) -> Result<Vec<Thread>, AllocErr
     vec![in alloc; thread; usize::from(layout.threads())]
 }
 
+/// A kernel where nobody sleeps, and each thread has set the head at its place.
+fn first_kernel(alloc: Global, layout: &Layout) -> Result<Kernel, NoMem>
+    ensures { IfOk result (IsFirst layout.now) }
+{
+    let mut kernel = Kernel::new(alloc, layout.threads())?;
+    for before in 0..layout.threads() {
+        let Some(thread) = Tid::new(before + 1) else {
+            unreachable!()
+        };
+        let _ = kernel.set_robust_list(thread, layout.head(thread), HEAD_SIZE);
+    }
+    Ok(kernel)
+}
+
 impl Machine {
     ghost use Rattle.interleave.specs.Shown.{state_of};
     ghost use Rattle.interleave.specs.Reached.{IsStart, IsReached, AtEachMoment};
@@ -89,6 +111,7 @@ impl Machine {
         ensures start { IfOk result (λ m. state_of m ≡ start layout (λ c. 0)) }
         ensures fresh { IfOk result (λ m. m.fresh ≡ true) }
         ensures goes_on { IfOk result (λ m. GoesOn (state_of m)) }
+        ensures reaped { IfOk result (λ m. NoReapedOwns (state_of m)) }
     {
         let Ok(words) = first_words(alloc, &layout) else {
             return Err(NoMem);
@@ -96,7 +119,7 @@ impl Machine {
         let Ok(threads) = first_threads(alloc, &layout) else {
             return Err(NoMem);
         };
-        let kernel = Kernel::new(alloc, layout.threads())?;
+        let kernel = first_kernel(alloc, &layout)?;
         Ok(Machine {
             layout,
             memory: PlainMemory::from(words),
@@ -133,12 +156,16 @@ impl Machine {
         let _ = self.memory.store(place, u64::from(value));
     }
 
-    /// What an event does. One that can't apply, as a step of a thread that sleeps, is noted as nothing, and changes nothing.
+    /// What an event does. One that can't apply, as a step of a thread that sleeps or was reaped, or the kill of one that was killed, is noted as nothing, and changes nothing.
+    ///
+    /// A kill takes the thread out of its queue and ends its call, in one event. Each later step of it is the next access of the kernel's walk; with the last one it is reaped, and
+    /// from then on it owns no mutex.
     pub fn step(&mut self, event: Event) -> Note
         ensures state { state_of self.new ≡ (happens (state_of self.old) event).state }
         ensures note { result ≡ (happens (state_of self.old) event).note }
         ensures fresh { self.new.fresh ≡ (self.old.fresh && is_nothing result) }
         ensures goes_on { GoesOn (state_of self.new) }
+        ensures reaped { NoReapedOwns (state_of self.new) }
     {
         let note = apply(
             &self.layout,
@@ -158,7 +185,10 @@ impl Machine {
     /// returned, between its begin and its return, at events of its own thread; one that hasn't returned had one at most; and no point belongs to any other call.
     ///
     /// After each event the machine goes on: whenever a mutex that nobody owns has sleepers, some awake thread, run alone, takes it or wakes one of them within 9,000 steps;
-    /// whoever is awake and runs alone ends its call or falls asleep within as many; and a call that no other event divides replies as the object does.
+    /// whoever is awake and runs alone ends its call, falls asleep or is reaped within as many; and a call that no other event divides replies as the object does.
+    ///
+    /// Threads may be killed at any event. A killed thread's call has no later point. Its death is told, once, of each mutex that it owned when it was killed and has lost since, and of
+    /// no other. After each event a thread that was reaped owns no mutex.
     pub fn run(&mut self, alloc: Global, events: &[Event]) -> Result<Trace, NoMem>
         ensures state { OnOk result (state_of self.new ≡ run (state_of self.old) events.now) }
         ensures notes { IfOk result (λ t. t.notes.items ≡ notes (state_of self.old) events.now) }
@@ -166,6 +196,8 @@ impl Machine {
         ensures history { IfOk result (λ t. self.old.fresh ≡ true → AtEachMoment (state_of self.old) events.now t.notes.items) }
         ensures explained { IfOk result (λ t. self.old.fresh ≡ true → IsExplained events.now t.notes.items) }
         ensures goes_on { IfOk result (λ t. (n : ℕ) → GoesOn (run (state_of self.old) (take n events.now))) }
+        ensures reaped { IfOk result (λ t. (n : ℕ) → NoReapedOwns (run (state_of self.old) (take n events.now))) }
+        ensures deaths { IfOk result (λ t. AreMourned (state_of self.old) events.now) }
         ensures err { OnErr result (self.new ≡ self.old) }
     {
         let Ok(mut notes) = Vec::with_capacity(alloc, events.len()) else {
@@ -191,12 +223,13 @@ impl Machine {
         })
     }
 
-    /// What one thread would do if no other stepped: a copy of this machine after `n` steps of the thread. This machine stays as it is.
+    /// What one thread would do if no other stepped: a copy of this machine after `n` steps of the thread, which are those of its walk where it was killed. This machine stays as it is.
     pub fn alone(&self, alloc: Global, thread: Tid, n: u32) -> Result<Machine, NoMem>
         ensures layout { IfOk result (λ m. m.layout ≡ self.now.layout) }
         ensures state { IfOk result (λ m. state_of m ≡ alone (state_of self.now) thread n) }
         ensures fresh { IfOk result (λ m. m.fresh ≡ self.now.fresh) }
         ensures goes_on { GoesOn (state_of self.now) }
+        ensures reaped { IfOk result (λ m. NoReapedOwns (state_of m)) }
     {
         self.reached();
         let mut machine = self.copied(alloc)?;
@@ -247,12 +280,28 @@ impl Machine {
         self.memory.load(place)
     }
 
-    /// Whether a thread is in a call.
+    /// Whether a thread is in a call. False where it was killed, and where there is no such thread.
     pub fn busy(&self, thread: Tid) -> bool
         ensures { result ≡ is_busy (state_of self.now) thread }
     {
         let index = usize::from(thread.get()) - 1;
-        index < self.threads.len() && !is_idle(&self.threads[index].stage)
+        index < self.threads.len() && is_calling(&self.threads[index].stage)
+    }
+
+    /// Whether a thread was killed, and hasn't been reaped. False where there is no such thread.
+    pub fn dying(&self, thread: Tid) -> bool
+        ensures { result ≡ is_dying (state_of self.now) thread }
+    {
+        let index = usize::from(thread.get()) - 1;
+        index < self.threads.len() && is_dying(&self.threads[index].stage)
+    }
+
+    /// Whether a thread was killed, and has been reaped: the walk of its list has ended. False where there is no such thread.
+    pub fn reaped(&self, thread: Tid) -> bool
+        ensures { result ≡ is_reaped (state_of self.now) thread }
+    {
+        let index = usize::from(thread.get()) - 1;
+        index < self.threads.len() && is_reaped(&self.threads[index].stage)
     }
 
     /// Whether a thread sleeps in its call. False where there is no such thread.
@@ -261,6 +310,14 @@ impl Machine {
         ensures stands { MatchBool result ((key : ℕ) × (stands_in thread ((state_of self.now).queues key) ≡ true)) ((key : ℕ) → stands_in thread ((state_of self.now).queues key) ≡ false) }
     {
         self.kernel.asleep(thread)
+    }
+
+    /// Who sleeps on the word at a place, in the order in which they are to be woken. They are threads of the machine.
+    pub fn sleepers(&self, place: u64) -> Batch
+        ensures value { result ≡ (state_of self.now).queues place }
+        ensures known { All (λ t. (1 ≤ t) × (t ≤ self.now.layout.threads)) result }
+    {
+        self.kernel.sleepers(place)
     }
 }
 

@@ -1,5 +1,6 @@
 //! Small machines, with their words and notes worked out by hand.
 
+mod dying;
 mod sleeping;
 
 use crate::{Machine, Trace};
@@ -277,34 +278,6 @@ fn an_event_that_cannot_apply_does_nothing(rt: HostRuntime) -> Result<(), Fail> 
 }
 
 #[test]
-fn two_threads_race_for_a_mutex(rt: HostRuntime) -> Result<(), Fail> {
-    let (one, two) = (thread(1)?, thread(2)?);
-    let lock = Call::TryLock(0);
-    let mut machine = machine(rt.alloc(), 2, 1, &[])?;
-    for (event, note) in [
-        (Event::Begin(one, lock), began(one, lock)),
-        (Event::Begin(two, lock), began(two, lock)),
-        (Event::Step(one), goes(one)),
-        (Event::Step(two), goes(two)),
-        (Event::Step(one), goes(one)),
-        (Event::Step(two), goes(two)),
-        (
-            Event::Step(one),
-            decides(one, Operation::TryLock, Reply::OK),
-        ),
-        (
-            Event::Step(two),
-            decides(two, Operation::TryLock, Reply::EBUSY),
-        ),
-        (Event::Step(two), returns(two, Reply::EBUSY)),
-    ] {
-        assert_eq!(rt; machine.step(event), note);
-    }
-    assert_eq!(rt; first_owner(&machine), Some(one));
-    Ok(())
-}
-
-#[test]
 fn a_counter_is_preset(rt: HostRuntime) -> Result<(), Fail> {
     let mut machine = machine(rt.alloc(), 1, 1, &[0])?;
     assert_eq!(rt; machine.layout().conditions(), 1);
@@ -332,41 +305,5 @@ fn a_thread_is_busy_in_its_call(rt: HostRuntime) -> Result<(), Fail> {
         assert!(rt; !machine.asleep(one) && !machine.asleep(two), "{event:?}");
     }
     assert!(rt; !machine.busy(thread(64)?));
-    Ok(())
-}
-
-/// The first lock has 8 accesses, and each other one has 9, since it stores into the entry before it too.
-#[test]
-fn a_thread_holds_at_most_2048_mutexes(rt: HostRuntime) -> Result<(), Fail> {
-    let one = thread(1)?;
-    let last = Call::Lock(2048);
-    let mut machine = machine(rt.alloc(), 1, 2049, &[])?;
-    play(&mut machine, one, Call::Lock(0), 8);
-    for mutex in 1..2048 {
-        assert!(rt; !machine.busy(one), "{mutex}");
-        let call = if mutex % 2 == 0 {
-            Call::Lock(mutex)
-        } else {
-            Call::TryLock(mutex)
-        };
-        play(&mut machine, one, call, 8);
-        assert!(rt; machine.busy(one), "{mutex}");
-        let _ = machine.step(Event::Step(one));
-    }
-    assert!(rt; !machine.busy(one));
-    assert_eq!(rt; machine.word(1), Some(3 * 2048 + 2));
-    for call in [last, Call::TryLock(2048)] {
-        let refused = Note::Began {
-            thread: one,
-            call,
-            refused: Some(Reply::XHELD),
-        };
-        assert_eq!(rt; machine.step(Event::Begin(one, call)), refused);
-        assert!(rt; !machine.busy(one));
-    }
-    play(&mut machine, one, Call::Unlock(7), 8);
-    assert!(rt; !machine.busy(one));
-    assert_eq!(rt; machine.step(Event::Begin(one, last)), began(one, last));
-    assert!(rt; machine.busy(one));
     Ok(())
 }

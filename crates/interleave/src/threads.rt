@@ -1,15 +1,17 @@
 //! The machine's threads.
 ghost use Rattle.std.specs.Prelude.{◌≡◌, ◌<◌, ◌≤◌, ℕ, List, Some, None, length, if◌then◌else◌};
-ghost use Rattle.keys.specs.Layouts.{words_of};
+ghost use Rattle.keys.specs.Layouts.{words_of, head_place};
 ghost use Rattle.protocol.specs.declared.event.Event.TheVariants.{Begin, Step};
-ghost use Rattle.protocol.specs.Machine.{happens, is_idle, held_after, decision};
+ghost use Rattle.protocol.specs.Machine.{happens, is_idle, is_calling, is_walked, held_after, decision};
 ghost use Rattle.mutex.specs.Calls.{mutex_of, operation_of};
-ghost use Rattle.syscalls.specs.Kernels.{Kernel'};
+ghost use Rattle.syscalls.specs.Kernels.{Kernel', head_of};
 ghost use Rattle.interleave.specs.Perform.{decided_in, reply_in, stage_in};
+ghost use Rattle.interleave.specs.Reapings.{has_ended};
 ghost use Rattle.interleave.specs.Shown.{state_at, thread_at};
 ghost use Rattle.interleave.specs.Steps.{MayStep, SleepsInItsCall};
 
 use crate::accesses::perform;
+use crate::deaths::{kill, walk_on};
 use keys::{Decision, Layout, Operation, Progress};
 use lockword::{Reply, Tid};
 use mutex::{Call, Program};
@@ -76,13 +78,43 @@ fn slept_on(call: Call, slept: bool) -> Option<u16>
     if slept { Some(call.mutex()) } else { None }
 }
 
-/// Whether a thread that is there is in no call.
-pub(crate) fn is_idle(stage: &Stage) -> bool
+/// Whether a thread that is there lives and is in no call.
+fn is_idle(stage: &Stage) -> bool
     ensures { result ≡ is_idle stage.now }
 {
     match *stage {
         Stage::Idle => true,
-        Stage::Calling(_, _) => false,
+        Stage::Calling(_, _) | Stage::Dying(_) | Stage::Reaped => false,
+    }
+}
+
+/// Whether a thread that is there is in a call.
+pub(crate) fn is_calling(stage: &Stage) -> bool
+    ensures { result ≡ is_calling stage.now }
+{
+    match *stage {
+        Stage::Calling(_, _) => true,
+        Stage::Idle | Stage::Dying(_) | Stage::Reaped => false,
+    }
+}
+
+/// Whether a thread that is there was killed, and hasn't been reaped.
+pub(crate) fn is_dying(stage: &Stage) -> bool
+    ensures { result ≡ is_walked stage.now }
+{
+    match *stage {
+        Stage::Dying(_) => true,
+        Stage::Idle | Stage::Calling(_, _) | Stage::Reaped => false,
+    }
+}
+
+/// Whether a thread that is there was killed, and has been reaped.
+pub(crate) fn is_reaped(stage: &Stage) -> bool
+    ensures { result ≡ has_ended stage.now }
+{
+    match *stage {
+        Stage::Reaped => true,
+        Stage::Idle | Stage::Calling(_, _) | Stage::Dying(_) => false,
     }
 }
 
@@ -121,7 +153,7 @@ fn begin(layout: &Layout, threads: &mut Vec<Thread>, thread: Tid, call: Call) ->
     }
 }
 
-/// The thread makes the next access of its call, if it is in one and doesn't sleep.
+/// The thread makes the next access of its call, if it is in one and doesn't sleep; or the kernel makes the next one of its walk, if the thread died.
 fn step(
     layout: &Layout,
     memory: &mut PlainMemory,
@@ -138,6 +170,7 @@ fn step(
     ensures note { result ≡ (happens (state_at layout.now memory.old kernel.old threads.old.items) (Step thread)).note }
     ensures words { length memory.new ≡ length memory.old }
     ensures kernel { kernel.new.threads ≡ kernel.old.threads }
+    ensures heads { kernel.new.heads ≡ kernel.old.heads }
     ensures threads { length threads.new.items ≡ length threads.old.items }
 {
     if layout.threads() < thread.get() {
@@ -148,6 +181,9 @@ fn step(
     }
     let index = usize::from(thread.get()) - 1;
     let Thread { stage, held } = threads[index];
+    if let Stage::Dying(walk) = stage {
+        return walk_on(layout, memory, kernel, threads, thread, walk);
+    }
     let Stage::Calling(call, mut program) = stage else {
         return Note::Nothing;
     };
@@ -178,16 +214,19 @@ pub(crate) fn apply(
     requires words { length memory.old ≡ words_of layout.now }
     requires kernel { kernel.old.threads ≡ layout.now.threads }
     requires threads { length threads.old.items ≡ layout.now.threads }
+    requires heads { (t : ℕ) → 1 ≤ t → t ≤ layout.now.threads → head_of kernel.old t ≡ head_place t }
     requires goes { (t : ℕ) → 1 ≤ t → t ≤ layout.now.threads → MayStep (thread_at threads.old.items t) }
     requires sleeps { (t : ℕ) → SleepsInItsCall (state_at layout.now memory.old kernel.old threads.old.items) t }
     ensures state { state_at layout.now memory.new kernel.new threads.new.items ≡ (happens (state_at layout.now memory.old kernel.old threads.old.items) event).state }
     ensures note { result ≡ (happens (state_at layout.now memory.old kernel.old threads.old.items) event).note }
     ensures words { length memory.new ≡ length memory.old }
     ensures kernel { kernel.new.threads ≡ kernel.old.threads }
+    ensures heads { kernel.new.heads ≡ kernel.old.heads }
     ensures threads { length threads.new.items ≡ length threads.old.items }
 {
     match event {
         Event::Begin(thread, call) => begin(layout, threads, thread, call),
         Event::Step(thread) => step(layout, memory, kernel, threads, thread),
+        Event::Kill(thread) => kill(layout, kernel, threads, thread),
     }
 }

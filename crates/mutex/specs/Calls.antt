@@ -16,8 +16,3 @@ operation_of (Lock m) = operation.Lock
 operation_of (TryLock m) = operation.TryLock
 operation_of (Unlock m) = operation.Unlock
 operation_of (Consistent m) = operation.Consistent
-
--- a call that waits for nobody
-abbrev pub NeverWaits : Call → Type 0
-NeverWaits (Lock m) = ⊥
-NeverWaits c = Unit {0}

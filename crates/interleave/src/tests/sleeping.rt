@@ -1,11 +1,12 @@
 //! Threads that sleep, and machines where one thread runs alone.
 
-use super::{decides, ends, has_words, machine, play, returns, thread};
+use super::{has_words, machine, play, thread};
+use crate::Machine;
 use buckets::Batch;
-use keys::Operation;
-use lockword::{Reply, Tid};
+use lockword::Tid;
 use mutex::Call;
 use protocol::{Event, Note};
+use std::process::Abort;
 use std::test::Fail;
 
 const LOCK: Call = Call::Lock(0);
@@ -79,60 +80,29 @@ fn a_sleeper_does_nothing_until_it_is_woken(rt: HostRuntime) -> Result<(), Fail>
     Ok(())
 }
 
+/// Those that sleep on a place are the threads with these ids, in order.
+fn have_ids(rt: &impl Abort, machine: &Machine, place: u64, ids: &[u8]) {
+    let sleepers = machine.sleepers(place);
+    assert_eq!(rt; sleepers.len(), ids.len(), "on {place}");
+    for (index, id) in ids.iter().enumerate() {
+        assert_eq!(rt; sleepers.get(index).map(Tid::get), Some(*id), "on {place}");
+    }
+}
+
 #[test]
-fn sleepers_are_woken_one_by_one_in_their_order(rt: HostRuntime) -> Result<(), Fail> {
+fn sleepers_are_told_in_their_order(rt: HostRuntime) -> Result<(), Fail> {
     let (one, two, three) = (thread(1)?, thread(2)?, thread(3)?);
     let mut machine = machine(rt.alloc(), 3, 1, &[])?;
     play(&mut machine, one, LOCK, 8);
-    play(&mut machine, two, LOCK, 4);
-    play(&mut machine, three, LOCK, 3);
-    assert!(rt; machine.asleep(two) && machine.asleep(three));
-    play(&mut machine, one, UNLOCK, 8);
-    assert!(rt; !machine.asleep(two) && machine.asleep(three));
-    let _ = machine.step(Event::Step(two));
-    let _ = machine.step(Event::Step(two));
-    assert_eq!(rt; machine.word(10), Some(0x8000_0002));
-    for _ in 0..5 {
-        assert!(rt; machine.busy(two));
-        let _ = machine.step(Event::Step(two));
+    have_ids(&rt, &machine, 10, &[]);
+    play(&mut machine, three, LOCK, 4);
+    play(&mut machine, two, LOCK, 3);
+    have_ids(&rt, &machine, 10, &[3, 2]);
+    for place in [0, 1, 9, 11, 13, u64::MAX] {
+        have_ids(&rt, &machine, place, &[]);
     }
-    play(&mut machine, two, UNLOCK, 8);
-    assert!(rt; !machine.asleep(three) && machine.busy(three));
-    Ok(())
-}
-
-#[test]
-fn an_owner_is_told_of_its_own_lock(rt: HostRuntime) -> Result<(), Fail> {
-    let one = thread(1)?;
-    let mut machine = machine(rt.alloc(), 2, 1, &[])?;
-    play(&mut machine, one, LOCK, 8);
-    play(&mut machine, one, LOCK, 1);
-    assert_eq!(rt;
-        machine.step(Event::Step(one)),
-        decides(one, Operation::Lock, Reply::EDEADLK)
-    );
-    assert_eq!(rt;
-        machine.step(Event::Step(one)),
-        returns(one, Reply::EDEADLK)
-    );
-    Ok(())
-}
-
-#[test]
-fn a_consistent_mutex_is_declared_by_nobody(rt: HostRuntime) -> Result<(), Fail> {
-    let (one, two) = (thread(1)?, thread(2)?);
-    let mut machine = machine(rt.alloc(), 2, 1, &[])?;
-    play(&mut machine, one, LOCK, 8);
-    play(&mut machine, one, Call::Consistent(0), 0);
-    assert_eq!(rt;
-        machine.step(Event::Step(one)),
-        ends(one, Operation::Consistent, Reply::EINVAL)
-    );
-    play(&mut machine, two, Call::Consistent(0), 0);
-    assert_eq!(rt;
-        machine.step(Event::Step(two)),
-        ends(two, Operation::Consistent, Reply::EPERM)
-    );
+    play(&mut machine, one, UNLOCK, 8);
+    have_ids(&rt, &machine, 10, &[2]);
     Ok(())
 }
 

@@ -9,3 +9,9 @@ returns-in-Begin-clause-state c = c.begin.ensures.state c.args.memory.now c.args
 
 pub returns-in-Begin-clause-note : goal.returns-in-Begin-clause-note
 returns-in-Begin-clause-note c = c.begin.ensures.note c.args.memory.now c.args.kernel.now ∙ ap (λ (e : Event). (happens (state_at c.args.layout.now c.args.memory.now c.args.kernel.now c.args.threads.now.items) e).note) (sym c.in-Begin.is)
+
+pub returns-in-Kill-clause-state : goal.returns-in-Kill-clause-state
+returns-in-Kill-clause-state c = c.kill.ensures.state c.args.memory.now ∙ ap (λ (e : Event). (happens (state_at c.args.layout.now c.args.memory.now c.args.kernel.now c.args.threads.now.items) e).state) (sym c.in-Kill.is)
+
+pub returns-in-Kill-clause-note : goal.returns-in-Kill-clause-note
+returns-in-Kill-clause-note c = c.kill.ensures.note c.args.memory.now ∙ ap (λ (e : Event). (happens (state_at c.args.layout.now c.args.memory.now c.args.kernel.now c.args.threads.now.items) e).note) (sym c.in-Kill.is)

@@ -1,10 +1,12 @@
-use Rattle.std.proofs.Common.{◌≡◌, ◌&&◌, ◌+◌, suc, [], ◌∙◌, ap, sym, arith}
+use Rattle.std.specs.Prelude.{replicate}
+use Rattle.std.proofs.Common.{◌≡◌, ◌&&◌, ◌+◌, suc, [], ◌∙◌, ap, sym, subst, arith}
 use Rattle.protocol.specs.declared.event.Event.TheVariants.{Step}
 use Rattle.protocol.specs.Machine.{State, happens}
 use Rattle.protocol.specs.Sleepers.{alone}
+use Rattle.protocol.specs.Headline.{NoReapedOwns}
 use Rattle.interleave.specs.Shown.{state_of}
 use Rattle.interleave.specs.Notes.{is_nothing}
-use Rattle.interleave.proofs.Reaches.{reached_goes_on, alone-more, alone_layout, stays_fresh}
+use Rattle.interleave.proofs.Reaches.{reached_goes_on, reached_reaped, alone-more, alone_layout, stays_fresh}
 use Rattle.interleave.proofs.machine.Machine.alone.Goals as goal
 
 pub returns-clause-goes_on : goal.returns-clause-goes_on
@@ -31,3 +33,6 @@ pub returns-clause-state : goal.returns-clause-state
 returns-clause-state c =
     let all : c.loop.counter ≡ c.args.n = omega arith in
     c.loop.invariant.state ∙ ap (alone (state_of c.args.self.now) c.args.thread) all
+
+pub returns-clause-reaped : goal.returns-clause-reaped
+returns-clause-reaped c = subst NoReapedOwns (sym c.loop.invariant.state) (reached_reaped c.args.self.now (replicate c.loop.counter (Step c.args.thread)) c.reached.ensures)

@@ -7,7 +7,7 @@ use Rattle.interleave.specs.Shown.{state_of}
 use Rattle.protocol.specs.Explained.{IsExplained}
 use Rattle.protocol.proofs.Lives.{explained}
 use Rattle.interleave.specs.Reached.{AtEachMoment}
-use Rattle.interleave.proofs.Reaches.{run-more, notes-more, each_moment, reached_goes_on}
+use Rattle.interleave.proofs.Reaches.{run-more, notes-more, each_moment, reached_goes_on, reached_reaped, reached_mourned}
 use Rattle.interleave.proofs.machine.Machine.run.Goals as goal
 
 pub loop-event-preserved : goal.loop-event-preserved
@@ -43,3 +43,9 @@ returns-clause-explained c = λ on.
 
 pub returns-clause-goes_on : goal.returns-clause-goes_on
 returns-clause-goes_on c = λ n. reached_goes_on c.args.self.now (take n c.args.events.now) c.reached.ensures
+
+pub returns-clause-reaped : goal.returns-clause-reaped
+returns-clause-reaped c = λ n. reached_reaped c.args.self.now (take n c.args.events.now) c.reached.ensures
+
+pub returns-clause-deaths : goal.returns-clause-deaths
+returns-clause-deaths c = reached_mourned c.args.self.now c.args.events.now c.reached.ensures

@@ -3,7 +3,7 @@ use Rattle.protocol.specs.declared.note.Note.{Note}
 use Rattle.protocol.specs.Machine.{happens}
 use Rattle.interleave.specs.Shown.{Shown, state_at, state_of}
 use Rattle.interleave.specs.Notes.{is_nothing}
-use Rattle.interleave.proofs.Reaches.{reached_step, may_step, sleeps_in_call, reached_goes_on}
+use Rattle.interleave.proofs.Reaches.{reached_step, may_step, sleeps_in_call, reached_goes_on, reached_reaped}
 use Rattle.interleave.proofs.machine.Machine.step.Goals as goal
 
 pub apply-note-requires-clause-goes : goal.apply-note-requires-clause-goes
@@ -16,10 +16,13 @@ apply-note-requires-clause-sleeps c =
     let m : Shown = record { layout = c.self.inside.layout; words = c.self.inside.memory; kernel = c.self.inside.kernel; threads = c.self.inside.threads.items; fresh = c.self.inside.fresh } in
     sleeps_in_call m c.self.invariant
 
+pub apply-note-requires-clause-heads : goal.apply-note-requires-clause-heads
+apply-note-requires-clause-heads c = c.self.invariant.heads
+
 pub invariant_of-self : goal.invariant_of-self
 invariant_of-self c =
     let m : Shown = record { layout = c.self.inside.layout; words = c.self.inside.memory; kernel = c.self.inside.kernel; threads = c.self.inside.threads.items; fresh = c.self.inside.fresh } in
-    reached_step m c.apply-note.new.memory c.apply-note.new.kernel c.apply-note.new.threads.items c.args.event c.self.invariant c.apply-note.ensures.state c.apply-note.ensures.words c.apply-note.ensures.kernel c.apply-note.ensures.threads
+    reached_step m c.apply-note.new.memory c.apply-note.new.kernel c.apply-note.new.threads.items c.args.event c.self.invariant c.apply-note.ensures.state c.apply-note.ensures.words c.apply-note.ensures.kernel c.apply-note.ensures.heads c.apply-note.ensures.threads
     c.stays_fresh-self-inside.result (c.stays_fresh-self-inside.ensures ∙ ap (λ (n : Note). m.fresh && is_nothing n) c.apply-note.ensures.note)
 
 pub returns-clause-state : goal.returns-clause-state
@@ -32,5 +35,12 @@ pub returns-clause-goes_on : goal.returns-clause-goes_on
 returns-clause-goes_on c =
     let m : Shown = record { layout = c.self.inside.layout; words = c.self.inside.memory; kernel = c.self.inside.kernel; threads = c.self.inside.threads.items; fresh = c.self.inside.fresh } in
     reached_goes_on _ []
-    (reached_step m c.apply-note.new.memory c.apply-note.new.kernel c.apply-note.new.threads.items c.args.event c.self.invariant c.apply-note.ensures.state c.apply-note.ensures.words c.apply-note.ensures.kernel c.apply-note.ensures.threads
+    (reached_step m c.apply-note.new.memory c.apply-note.new.kernel c.apply-note.new.threads.items c.args.event c.self.invariant c.apply-note.ensures.state c.apply-note.ensures.words c.apply-note.ensures.kernel c.apply-note.ensures.heads c.apply-note.ensures.threads
+    c.stays_fresh-self-inside.result (c.stays_fresh-self-inside.ensures ∙ ap (λ (n : Note). m.fresh && is_nothing n) c.apply-note.ensures.note))
+
+pub returns-clause-reaped : goal.returns-clause-reaped
+returns-clause-reaped c =
+    let m : Shown = record { layout = c.self.inside.layout; words = c.self.inside.memory; kernel = c.self.inside.kernel; threads = c.self.inside.threads.items; fresh = c.self.inside.fresh } in
+    reached_reaped _ []
+    (reached_step m c.apply-note.new.memory c.apply-note.new.kernel c.apply-note.new.threads.items c.args.event c.self.invariant c.apply-note.ensures.state c.apply-note.ensures.words c.apply-note.ensures.kernel c.apply-note.ensures.heads c.apply-note.ensures.threads
     c.stays_fresh-self-inside.result (c.stays_fresh-self-inside.ensures ∙ ap (λ (n : Note). m.fresh && is_nothing n) c.apply-note.ensures.note))

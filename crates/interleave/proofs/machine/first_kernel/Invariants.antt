@@ -1,0 +1,12 @@
+use Rattle.std.proofs.Common.{◌≡◌, ℕ, ◌≤◌, []}
+use Rattle.keys.specs.Layouts.{head_place}
+use Rattle.syscalls.specs.Kernels.{queue_of, head_of}
+use Rattle.interleave.proofs.machine.first_kernel.Given as goal
+
+-- so many heads are set, and nobody sleeps
+abbrev pub invariant-loop-before : goal.invariant-loop-before
+invariant-loop-before l = record {
+  threads : l.kernel.threads ≡ l.layout.threads;
+  queues : (key : ℕ) → queue_of l.kernel key ≡ [];
+  heads : (t : ℕ) → 1 ≤ t → t ≤ l.before → head_of l.kernel t ≡ head_place t;
+}
