@@ -5,11 +5,13 @@
 #![tactic(auto)]
 
 ghost use Rattle.std.specs.Prelude.{◌≡◌, ◌<◌};
+ghost use Rattle.ruledwords.specs.declared.outcome.Wakes.TheVariants.{Nobody};
+ghost use Rattle.ruledwords.specs.Outcomes.{owed_pass, owed_wakes};
 ghost use Rattle.ruledwords.specs.Passes.{layout_of, IsPassOf};
 
-use keys::Layout;
+use keys::{Answer, Layout};
 use lockword::Reply;
-use ruledwords::{Live, Never, Outcome, Pass, Released, Words};
+use ruledwords::{Live, Never, Outcome, Owed, Pass, Released, Running, Turn, Words};
 use std::sync::atomic::{AtomicU64, Ordering};
 use std::time::{Duration, Instant};
 use std::{env, io};
@@ -19,6 +21,17 @@ fn plain_round(word: &AtomicU64) -> bool {
     let taken = word.compare_exchange(0, 1, Ordering::SeqCst, Ordering::SeqCst);
     let freed = word.swap(0, Ordering::SeqCst);
     taken.is_ok() && freed == 1
+}
+
+/// Ends an unlock whose sleepers nobody wakes: one thread alone never sleeps.
+fn wake_nobody(owed: Owed) -> Pass<Live>
+    requires { ¬ (owed_wakes owed ≡ Nobody) }
+    ensures { result ≡ owed_pass owed }
+{
+    match Running::owed(owed).answer(Answer::Count(0)) {
+        Turn::Lives(pass, _) => pass,
+        Turn::Goes(_) => unreachable!(),
+    }
 }
 
 /// A trylock and an unlock, and whether both were answered OK.
@@ -34,7 +47,7 @@ fn round(words: &Words, pass: Pass<Live>) -> (Pass<Live>, bool)
     match words.release(pass, 0, &mut Never) {
         Released::Owes(owed) => match owed.settle(words) {
             Ok(pass) => (pass, taken),
-            Err(owed) => (owed.woken(), false),
+            Err(owed) => (wake_nobody(owed), false),
         },
         Released::Refused(pass, _) => (pass, false),
         Released::Dead(_) => unreachable!(),

@@ -17,7 +17,7 @@ use Rattle.mutex.specs.Rows.{IsGoing}
 use Rattle.mutex.specs.Steps.{IsStep}
 use Rattle.mutex.specs.Standings.{Standing}
 
-by_test : (b : Bool) (s p : Standing) → (if◌then◌else◌ {A = Result Standing Reply} b (Err XHELD) (Ok s)) ≡ Ok p → (b ≡ false) × (p ≡ s)
+pub by_test : (b : Bool) (s p : Standing) → (if◌then◌else◌ {A = Result Standing Reply} b (Err XHELD) (Ok s)) ≡ Ok p → (b ≡ false) × (p ≡ s)
 by_test true s p e = absurd (cc e)
 by_test false s p e = (refl, sym cc)
 

@@ -9,3 +9,6 @@ mod Making
 mod Standing
 mod Accesses
 mod Beginnings
+mod Looks
+mod Sections
+mod Turning

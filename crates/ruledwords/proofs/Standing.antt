@@ -69,11 +69,11 @@ ready_after p c d n going ready m =
       λ o run. subst (λ (z : ℕ × Object). Expects z.0 (led_at p n).row z.1) (λ i. (sym m.sees.thread i, run_same fresh u o (at d.seen p.cell) m.sees.leaves.0 run i)) r.expects,
     )
 
-reached_more : (t : ℕ) (r : Row) (xs : List Answer) (a : Answer) → reached t r (xs ++ a ∷ []) ≡ (resume_of t (reached t r xs) a).row
+pub reached_more : (t : ℕ) (r : Row) (xs : List Answer) (a : Answer) → reached t r (xs ++ a ∷ []) ≡ (resume_of t (reached t r xs) a).row
 reached_more t r [] a = refl
 reached_more t r (x ∷ xs) a = reached_more t (resume_of t r x).row xs a
 
-changes_more : (xs : List Answer) (a : Answer) → changes (xs ++ a ∷ []) ≡ changes xs + tells_change a
+pub changes_more : (xs : List Answer) (a : Answer) → changes (xs ++ a ∷ []) ≡ changes xs + tells_change a
 changes_more [] a = omega arith
 changes_more (x ∷ xs) a = let r = changes_more xs a in omega arith
 

@@ -14,10 +14,11 @@ use Rattle.keys.specs.Histories.{is_thread}
 use Rattle.keys.specs.Layouts.{Layout', cell_place}
 use Rattle.keys.specs.Objects.{fresh, Run, object_of, acquires}
 use Rattle.mutex.specs.declared.row.Row.{Row}
+use Rattle.mutex.specs.declared.row.Row.TheVariants as row
 use Rattle.mutex.specs.declared.row.Led.{Led}
 use Rattle.mutex.specs.Laws.{Expects, Sound, points, decided, IsOf, reached, changes, tells_change}
 use Rattle.mutex.specs.Programs.{access_of, led, point_of, row_operation}
-use Rattle.mutex.specs.Rows.{Knows}
+use Rattle.mutex.specs.Rows.{Knows, IsGoing}
 use Rattle.mutex.specs.Standings.{Standing}
 use Rattle.mutex.specs.Steps.{Expects-prop, Knows-prop}
 use Rattle.ruledwords.specs.declared.card.Card.{Card}
@@ -93,3 +94,10 @@ pub record Stands (op : Operation) (first : Row) (c : Card) (p : Standing) (d : 
 
 pub ready_prop : (p : Standing) (c : Card) → IsProp (Ready p c)
 ready_prop p c = Prim.hlevel (props, Expects-prop, Knows-prop)
+
+pub going_prop : (r : Row) → IsProp (IsGoing r)
+going_prop (row.Lock r) = Prim.hlevel props
+going_prop (row.TryLock r) = Prim.hlevel props
+going_prop (row.Unlock r) = Prim.hlevel props
+going_prop (row.Consistent r) = Prim.hlevel props
+going_prop (row.Ended x) = Prim.hlevel props

@@ -1,5 +1,5 @@
 -- What the calls of a pass answer.
-use Rattle.std.specs.Prelude.{◌≡◌, ℕ, ◌+◌, ◌≤◌, nat_le, MatchBool, Result, Ok, Err, if◌then◌else◌}
+use Rattle.std.specs.Prelude.{◌≡◌, ℕ, ◌+◌, ◌<◌, ◌≤◌, nat_le, MatchBool, Result, Ok, Err, if◌then◌else◌}
 use Rattle.lockword.specs.Cells.{fields_of}
 use Rattle.lockword.specs.declared.reply.Reply.TheVariants.{OK, EPERM, XRACED, XHELD}
 use Rattle.keys.specs.declared.point.Operation.TheVariants.{TryLock, Unlock, Consistent}
@@ -7,11 +7,14 @@ use Rattle.keys.specs.Layouts.{cell_place}
 use Rattle.ruledwords.specs.declared.pass.Words.{Words}
 use Rattle.ruledwords.specs.declared.pass.Pass.{Pass}
 use Rattle.ruledwords.specs.declared.pass.Live.{Live}
+use Rattle.ruledwords.specs.declared.pass.Dead.{Dead}
 use Rattle.ruledwords.specs.declared.outcome.Outcome.{Outcome}
 use Rattle.ruledwords.specs.declared.outcome.Outcome.TheVariants as outcome
 use Rattle.ruledwords.specs.declared.outcome.Released.{Released}
 use Rattle.ruledwords.specs.declared.outcome.Released.TheVariants as released
 use Rattle.ruledwords.specs.declared.outcome.Owed.{Owed}
+use Rattle.ruledwords.specs.declared.outcome.Owing.{Owing}
+use Rattle.ruledwords.specs.declared.outcome.Owing.TheVariants as owing
 use Rattle.ruledwords.specs.declared.outcome.Wakes.{Wakes}
 use Rattle.ruledwords.specs.declared.outcome.Wakes.TheVariants.{Nobody, One, All}
 use Rattle.ruledwords.specs.Seen.{Called, held}
@@ -35,22 +38,38 @@ Declared w m a (outcome.Dead b) = ⊥
 abbrev pub wakes_of : ℕ → Wakes
 wakes_of w = if (fields_of w).waiters then (if (fields_of w).died then All else One) else Nobody
 
+abbrev pub pass_in : Owing → Pass Live
+pass_in (owing.Nobody b) = b
+pass_in (owing.Somebody v) = v.running.pass
+
+abbrev pub wakes_in : Owing → Wakes
+wakes_in (owing.Nobody b) = Nobody
+wakes_in (owing.Somebody v) = if v.all then All else One
+
+abbrev pub WakesAt : Owing → ℕ → Type 0
+WakesAt (owing.Nobody b) p = Unit {0}
+WakesAt (owing.Somebody v) p = v.running.program.cell ≡ p
+
 abbrev pub owed_pass : Owed → Pass Live
-owed_pass w = w.pass
+owed_pass o = pass_in o.owing
 
 abbrev pub owed_wakes : Owed → Wakes
-owed_wakes w = w.wakes
+owed_wakes o = wakes_in o.owing
 
--- the place of the cell that was released
-abbrev pub owed_cell : Owed → ℕ
-owed_cell w = w.cell
+-- whom it has to wake sleeps on the cell at p
+abbrev pub OwesAt : Owed → ℕ → Type 0
+OwesAt o p = WakesAt o.owing p
+
+-- its pass is one of these words, and whom it has to wake sleeps on a mutex of theirs
+abbrev pub IsOwedOf : Words → Owed → Type 0
+IsOwedOf w o = IsPassOf w (owed_pass o) × ((m : ℕ) × (m < (layout_of w).mutexes) × OwesAt o (cell_place (layout_of w) m))
 
 -- a release of mutex m: its point is an unlock with OK where the mutex is freed, and with EPERM where it is refused. Whom it has to wake is told by the word that it found,
 -- the last that the pass met
 abbrev pub Frees : Words → ℕ → Pass Live → Released → Type 0
 Frees w m a (released.Owes o) =
     IsPassOf w (owed_pass o) × Called (card a) (cell_place (layout_of w) m) Unlock OK (card (owed_pass o))
-    × (owed_wakes o ≡ wakes_of (card (owed_pass o)).last) × (owed_cell o ≡ cell_place (layout_of w) m)
+    × (owed_wakes o ≡ wakes_of (card (owed_pass o)).last) × OwesAt o (cell_place (layout_of w) m)
 Frees w m a (released.Refused b r) = IsPassOf w b × (r ≡ EPERM) × Called (card a) (cell_place (layout_of w) m) Unlock EPERM (card b)
 Frees w m a (released.Dead b) = ⊥
 
@@ -58,3 +77,7 @@ Frees w m a (released.Dead b) = ⊥
 abbrev pub Settles : Owed → Result (Pass Live) Owed → Type 0
 Settles w (Ok b) = (owed_wakes w ≡ Nobody) × (b ≡ owed_pass w)
 Settles w (Err v) = ¬ (owed_wakes w ≡ Nobody) × (v ≡ w)
+
+-- a thread that dies before the end of its unlock makes no point. What it has seen stays
+abbrev pub Abandons : Owed → Pass Dead → Type 0
+Abandons o d = (card d ≡ card (owed_pass o)) × ((w : Words) → IsPassOf w (owed_pass o) → IsPassOf w d)

@@ -1,32 +1,94 @@
--- What the turns of a running call tell.
-use Rattle.std.specs.Prelude.{◌≡◌, ℕ, Result, Ok, Err}
+-- Running calls, and what their turns tell.
+use Rattle.std.specs.Prelude.{◌≡◌, ℕ, Bool, true, false, Result, Ok, Err}
 use Rattle.lockword.specs.declared.reply.Reply.{Reply}
-use Rattle.keys.specs.Layouts.{Layout'}
+use Rattle.keys.specs.declared.access.Access.{Access}
+use Rattle.keys.specs.declared.access.Access.TheVariants.{Wait, Wake}
+use Rattle.keys.specs.declared.access.Answer.{Answer}
+use Rattle.keys.specs.declared.access.Answer.TheVariants.{Again, Woken, Count}
+use Rattle.keys.specs.Layouts.{cell_place}
 use Rattle.mutex.specs.declared.call.Call.{Call}
-use Rattle.mutex.specs.declared.row.Row.TheVariants.{Ended}
-use Rattle.mutex.specs.Programs.{started, moved}
+use Rattle.mutex.specs.declared.row.Row.TheVariants.{Unlock, Ended}
+use Rattle.mutex.specs.declared.unlock.UnlockRow.TheVariants as unlock
+use Rattle.mutex.specs.Calls.{mutex_of, operation_of}
+use Rattle.mutex.specs.Programs.{started, first_row, led, moved}
 use Rattle.mutex.specs.Rows.{IsGoing}
 use Rattle.mutex.specs.Standings.{Standing}
 use Rattle.ruledwords.specs.declared.pass.Words.{Words}
 use Rattle.ruledwords.specs.declared.pass.Pass.{Pass}
 use Rattle.ruledwords.specs.declared.pass.Live.{Live}
+use Rattle.ruledwords.specs.declared.outcome.Owed.{Owed}
+use Rattle.ruledwords.specs.declared.outcome.Wakes.{Wakes}
+use Rattle.ruledwords.specs.declared.outcome.Wakes.TheVariants.{All}
 use Rattle.ruledwords.specs.declared.turn.Running.{Running}
 use Rattle.ruledwords.specs.declared.turn.Turn.{Turn}
 use Rattle.ruledwords.specs.declared.turn.Turn.TheVariants.{Goes, Lives}
-use Rattle.ruledwords.specs.Seen.{held}
-use Rattle.ruledwords.specs.Passes.{card, IsPassOf}
-use Rattle.ruledwords.specs.Calls.{led_at, Made}
+use Rattle.ruledwords.specs.Seen.{held, Called}
+use Rattle.ruledwords.specs.Passes.{card, layout_of, IsPassOf}
+use Rattle.ruledwords.specs.Calls.{led_at, IsInLayout, Made, Stands}
+use Rattle.ruledwords.specs.Outcomes.{owed_pass, owed_wakes, OwesAt}
+
+abbrev pub running_pass : Running → Pass Live
+running_pass r = r.pass
+
+-- where the call stands
+abbrev pub running_program : Running → Standing
+running_program r = r.program
+
+-- it is a call on these words: its pass is theirs, and its mutex one of their layout
+abbrev pub IsRunningOf : Words → Running → Type 0
+IsRunningOf w r = IsPassOf w (running_pass r) × IsInLayout (layout_of w) (running_program r)
+
+-- a call that began at the pass a is under way: it is on its own mutex, of which its pass has seen since what other threads did, and the call's own point once that is made
+abbrev pub IsUnderWay : Words → Pass Live → Call → Running → Type 0
+IsUnderWay w a call r =
+    IsRunningOf w r × ((running_program r).cell ≡ cell_place (layout_of w) (mutex_of call))
+    × Stands (operation_of call) (first_row call) (card a) (running_program r) (card (running_pass r))
 
 -- a call begins, or is refused with no access
-abbrev pub Begun : Layout' → Pass Live → Call → Result Running (Pass Live × Reply) → Type 0
-Begun k a call (Ok r) = (started k (card a).thread (held (card a)) call ≡ Ok r.program) × (r.pass ≡ a)
-Begun k a call (Err e) = (started k (card a).thread (held (card a)) call ≡ Err e.1) × (e.0 ≡ a)
+abbrev pub Begun : Words → Pass Live → Call → Result Running (Pass Live × Reply) → Type 0
+Begun w a call (Ok r) = (started (layout_of w) (card a).thread (held (card a)) call ≡ Ok (running_program r)) × (running_pass r ≡ a) × IsUnderWay w a call r
+Begun w a call (Err e) = (started (layout_of w) (card a).thread (held (card a)) call ≡ Err e.1) × (e.0 ≡ a)
 
 abbrev pub IsTurnOf : Words → Turn → Type 0
-IsTurnOf w (Goes r) = IsPassOf w r.pass
-IsTurnOf w (Lives b reply) = IsPassOf w b
+IsTurnOf w (Goes r) = IsRunningOf w r
+IsTurnOf w (Lives b x) = IsPassOf w b
 
 -- the access was made, at a word that was n
 abbrev pub Turned : Standing → Pass Live → Turn → Type 0
-Turned p a (Goes r) = (n : ℕ) × Made p (card a) n (card r.pass) × (r.program ≡ moved p (led_at p n)) × IsGoing r.program.row
-Turned p a (Lives b reply) = (n : ℕ) × Made p (card a) n (card b) × ((led_at p n).row ≡ Ended reply)
+Turned p a (Goes r) = (n : ℕ) × Made p (card a) n (card (running_pass r)) × (running_program r ≡ moved p (led_at p n)) × IsGoing (running_program r).row
+Turned p a (Lives b x) = (n : ℕ) × Made p (card a) n (card b) × ((led_at p n).row ≡ Ended x)
+
+-- what a section answers: a wait that the word differed, or that it slept and was woken; a wake, how many it woke
+abbrev pub IsAnswerOf : Access → Answer → Type 0
+IsAnswerOf (Wait at e) Again = Unit {0}
+IsAnswerOf (Wait at e) Woken = Unit {0}
+IsAnswerOf (Wake at n) (Count k) = Unit {0}
+IsAnswerOf a x = ⊥
+
+-- the call went on with this answer, its pass as it was
+abbrev pub Onward : Standing → Answer → Pass Live → Turn → Type 0
+Onward p x a (Goes r) = (running_pass r ≡ a) × (running_program r ≡ moved p (led p x)) × IsGoing (running_program r).row
+Onward p x a (Lives b y) = (b ≡ a) × ((led p x).row ≡ Ended y)
+
+-- the call is where it was, and its pass knows what it knew
+abbrev pub Unmoved : Words → Running → Running → Type 0
+Unmoved w r r' = IsRunningOf w r' × (running_program r' ≡ running_program r) × (card (running_pass r') ≡ card (running_pass r))
+
+-- a call that began at the pass a is under way still, or has ended: then its pass has seen its mutex's history up to its one point, which has the reply, and others' points before
+abbrev pub GoesOn : Words → Pass Live → Call → Turn → Type 0
+GoesOn w a call (Goes r) = IsUnderWay w a call r
+GoesOn w a call (Lives b x) = IsPassOf w b × Called (card a) (cell_place (layout_of w) (mutex_of call)) (operation_of call) x (card b)
+
+-- wherever the call began, it goes on
+abbrev pub Keeps : Words → Running → Turn → Type 0
+Keeps w r turn = (a : Pass Live) (call : Call) → IsUnderWay w a call r → GoesOn w a call turn
+
+abbrev pub are_all : Wakes → Bool
+are_all All = true
+are_all v = false
+
+-- an unlock that has somebody to wake stands before its wake
+abbrev pub StandsAtWake : Owed → Running → Type 0
+StandsAtWake o r =
+    (running_pass r ≡ owed_pass o) × ((running_program r).row ≡ Unlock (unlock.Wake (are_all (owed_wakes o))))
+    × ((p : ℕ) → OwesAt o p → (running_program r).cell ≡ p)

@@ -4,7 +4,7 @@ ghost use Rattle.ruledwords.specs.Outcomes.{Tried, Frees, Declared};
 ghost use Rattle.ruledwords.specs.Passes.{layout_of, IsPassOf};
 
 use crate::fate::Fate;
-use crate::outcome::{Outcome, Owed, Released, Wakes};
+use crate::outcome::{Outcome, Owed, Owing, Released, Waking};
 use crate::pass::{Live, Pass, Words};
 use crate::turn::{Running, Turn};
 use keys::Access;
@@ -65,28 +65,21 @@ impl Words {
         ensures frees { Frees self.now mutex pass result }
         ensures fate { fate.new ≡ fate.old }
     {
-        let cell = self.layout.cell(mutex);
         let mut running = match Running::call(self, pass, Call::Unlock(mutex)) {
             Ok(running) => running,
             Err((pass, reply)) => return Released::Refused(pass, reply),
         };
         loop {
             if let Access::Wake { most, .. } = running.next() {
-                let wakes = if most == ALL { Wakes::All } else { Wakes::One };
-                return Released::Owes(Owed {
-                    pass: running.pass,
-                    cell,
-                    wakes,
-                });
+                let all = most == ALL;
+                let owing = Owing::Somebody(Waking { running, all });
+                return Released::Owes(Owed { owing });
             }
             match running.access(self) {
                 Turn::Goes(next) => running = next,
                 Turn::Lives(pass, Reply::OK) => {
-                    return Released::Owes(Owed {
-                        pass,
-                        cell,
-                        wakes: Wakes::Nobody,
-                    });
+                    let owing = Owing::Nobody(pass);
+                    return Released::Owes(Owed { owing });
                 }
                 Turn::Lives(pass, reply) => return Released::Refused(pass, reply),
             }

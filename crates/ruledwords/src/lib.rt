@@ -3,6 +3,7 @@
 //! Callers' own threads call these mutexes at the same time. [`Words`] are the shared words, and each thread steps on them with its one [`Pass`]. Contracts say
 //! what a pass has *seen*: of each mutex a legal history, which grows with each call by the call's own point, and by other threads' points before it. Two passes that
 //! meet have *joined* what they saw. The calls run the same step programs ([`mutex`]) as the machine does.
+//! Whoever lets threads sleep runs a call itself, turn by turn ([`Running`]).
 //!
 //! Nothing is claimed of the order between passes that never met, nor that a trylock is ever won.
 #![tactic(auto)]
@@ -11,14 +12,17 @@ mod calls;
 mod card;
 mod close;
 mod fate;
+mod look;
 mod make;
 mod meet;
 mod open;
 mod outcome;
 mod owed;
+mod owner;
 mod pass;
 mod rule;
 mod running;
+mod section;
 #[cfg(test)]
 mod tests;
 mod turn;
@@ -27,3 +31,4 @@ pub use card::Card;
 pub use fate::{Fate, Never};
 pub use outcome::{Outcome, Owed, Released, Wakes};
 pub use pass::{Dead, Last, Live, Pass, Words};
+pub use turn::{Running, Turn};

@@ -1,5 +1,10 @@
 //! What calls answer.
+ghost use Rattle.std.specs.Prelude.{◌≡◌};
+ghost use Rattle.mutex.specs.declared.row.Row.TheVariants.{Unlock};
+ghost use Rattle.mutex.specs.declared.unlock.UnlockRow.TheVariants.{Wake};
+
 use crate::pass::{Dead, Live, Pass};
+use crate::turn::Running;
 use lockword::Reply;
 
 /// What a call ends in.
@@ -20,12 +25,25 @@ pub enum Wakes {
     All,
 }
 
-/// A pass whose thread has freed a mutex, and has to wake so many of its sleepers before the unlock ends.
+/// A pass whose thread has freed a mutex, and has to wake so many of its sleepers before the unlock ends. It must be spent: [`Owed::settle`] where nobody is to be
+/// woken, else [`Running::owed`], or [`Owed::abandon`].
 pub struct Owed {
-    pub(crate) pass: Pass<Live>,
-    /// The address of the mutex's cell, on which they sleep.
-    pub(crate) cell: u64,
-    pub(crate) wakes: Wakes,
+    pub(crate) owing: Owing,
+}
+
+/// Whom an unlock has to wake still.
+pub(crate) enum Owing {
+    /// Nobody: it has ended.
+    Nobody(Pass<Live>),
+    Somebody(Waking),
+}
+
+/// An unlock that stands before its wake.
+pub(crate) struct Waking {
+    pub(crate) running: Running,
+    /// Whether it wakes all sleepers, or one.
+    pub(crate) all: bool,
+    pub ghost at: { running.program.row ≡ Unlock (Wake all) },
 }
 
 /// What a release ends in.

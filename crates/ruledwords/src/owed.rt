@@ -1,29 +1,22 @@
 //! The end of an unlock.
 ghost use Rattle.std.specs.Prelude.{◌≡◌};
 ghost use Rattle.ruledwords.specs.Passes.{IsPassOf};
-ghost use Rattle.ruledwords.specs.Outcomes.{owed_pass, owed_wakes, Settles};
+ghost use Rattle.ruledwords.specs.Outcomes.{owed_pass, owed_wakes, Settles, Abandons};
 
-use crate::outcome::{Owed, Wakes};
-use crate::pass::{Live, Pass, Words};
+use crate::outcome::{Owed, Owing, Wakes, Waking};
+use crate::pass::{Dead, Live, Pass, Words};
+use crate::turn::Running;
+use std::marker::PhantomData;
 
 impl Owed {
     /// How many sleepers are to be woken.
     pub fn wakes(&self) -> Wakes
         ensures { result ≡ owed_wakes self.now }
     {
-        self.wakes
-    }
-
-    /// Ends an unlock whose sleepers the caller has woken.
-    pub fn woken(self) -> Pass<Live>
-        ensures { result ≡ owed_pass self }
-    {
-        let Owed {
-            pass: awake,
-            cell: _,
-            wakes: _,
-        } = self;
-        awake
+        match &self.owing {
+            Owing::Nobody(_) => Wakes::Nobody,
+            Owing::Somebody(waking) => { if waking.all { Wakes::All } else { Wakes::One } }
+        }
     }
 
     /// Ends the unlock where nobody is to be woken; else it is given back.
@@ -31,16 +24,39 @@ impl Owed {
         requires { IsPassOf words.now (owed_pass self) }
         ensures { Settles self result }
     {
-        match self.wakes {
-            Wakes::Nobody => {
-                let Owed {
-                    pass,
-                    cell: _,
-                    wakes: _,
-                } = self;
-                Ok(pass)
+        let Owed { owing } = self;
+        match owing {
+            Owing::Nobody(pass) => Ok(pass),
+            Owing::Somebody(waking) => Err(Owed {
+                owing: Owing::Somebody(waking),
+            }),
+        }
+    }
+
+    /// The thread dies before the unlock's end, and wakes nobody. What it has seen stays.
+    pub fn abandon(self) -> Pass<Dead>
+        ensures { Abandons self result }
+    {
+        let Owed { owing } = self;
+        let pass = match owing {
+            Owing::Nobody(pass) => pass,
+            Owing::Somebody(waking) => {
+                let Waking { running, all: _ } = waking;
+                let Running { pass, program: _ } = running;
+                pass
             }
-            Wakes::One | Wakes::All => Err(self),
+        };
+        let Pass {
+            seat,
+            thread,
+            held,
+            state: _,
+        } = pass;
+        Pass {
+            seat,
+            thread,
+            held,
+            state: PhantomData,
         }
     }
 }

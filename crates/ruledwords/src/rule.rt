@@ -23,6 +23,15 @@ impl Play<(), View> for Meet {
     ghost then = { met };
 }
 
+/// A load of a cell by which nothing is seen anew.
+pub(crate) struct Look;
+
+impl Play<(), View> for Look {
+    ghost use Rattle.ruledwords.specs.Looks.{looked};
+
+    ghost then = { looked };
+}
+
 /// The first card goes to a seat of its own.
 pub(crate) struct Deal;
 

@@ -3,11 +3,10 @@ ghost use Rattle.std.specs.Prelude.{◌≡◌, ◌<◌, ◌≤◌, Some};
 ghost use Rattle.keys.specs.Accesses.{answer_at};
 ghost use Rattle.mutex.specs.Calls.{mutex_of};
 ghost use Rattle.mutex.specs.Programs.{access_of};
-ghost use Rattle.mutex.specs.Rows.{IsGoing};
 ghost use Rattle.mutex.specs.Steps.{IsStep};
-ghost use Rattle.ruledwords.specs.Calls.{IsInLayout, count_after, count_by as count_after_by};
+ghost use Rattle.ruledwords.specs.Calls.{count_after, count_by as count_after_by};
 ghost use Rattle.ruledwords.specs.Passes.{layout_of, IsPassOf};
-ghost use Rattle.ruledwords.specs.Turns.{Begun, IsTurnOf, Turned};
+ghost use Rattle.ruledwords.specs.Turns.{running_pass, running_program, Begun, IsRunningOf, IsTurnOf, Turned, Keeps};
 
 use crate::pass::{Live, Pass, Words};
 use crate::turn::{Running, Turn};
@@ -18,14 +17,10 @@ use std::marker::Brand;
 
 impl Running {
     /// Begins a call. Without an access it is refused where it would take a mutex and the thread holds 2,048.
-    pub(crate) fn call(
-        words: &Words,
-        pass: Pass<Live>,
-        call: Call,
-    ) -> Result<Running, (Pass<Live>, Reply)>
+    pub fn call(words: &Words, pass: Pass<Live>, call: Call) -> Result<Running, (Pass<Live>, Reply)>
         requires pass { IsPassOf words.now pass }
         requires mutex { mutex_of call < (layout_of words.now).mutexes }
-        ensures { Begun (layout_of words.now) pass call result }
+        ensures { Begun words.now pass call result }
     {
         match Program::short(&words.layout, pass.thread, pass.held, call) {
             Ok(program) => Ok(Running { pass, program }),
@@ -34,21 +29,19 @@ impl Running {
     }
 
     /// The access that comes next.
-    pub(crate) fn next(&self) -> Access
-        requires { IsGoing self.now.program.row }
-        ensures { result ≡ access_of self.now.program }
+    pub fn next(&self) -> Access
+        ensures { result ≡ access_of (running_program self.now) }
     {
         self.program.next()
     }
 
-    /// Makes the access that comes next, which is one step on the call's cell.
-    pub(crate) fn access(self, words: &Words) -> Turn
-        requires table { IsPassOf words.now self.pass }
-        requires place { IsInLayout (layout_of words.now) self.program }
-        requires step { IsStep (access_of self.program) }
-        requires going { IsGoing self.program.row }
-        ensures pass { IsTurnOf words.now result }
-        ensures turned { Turned self.program self.pass result }
+    /// Makes the access that comes next, which is one step on the call's cell. Its point, if it is one, is seen.
+    pub fn access(self, words: &Words) -> Turn
+        requires words { IsRunningOf words.now self }
+        requires step { IsStep (access_of (running_program self)) }
+        ensures words { IsTurnOf words.now result }
+        ensures turned { Turned (running_program self) (running_pass self) result }
+        ensures keeps { Keeps words.now self result }
     {
         let Running { pass, mut program } = self;
         let Pass {

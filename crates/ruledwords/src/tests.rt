@@ -1,9 +1,11 @@
 //! Two threads at one mutex.
 ghost use Rattle.std.specs.Prelude.{◌≡◌, ◌<◌};
+ghost use Rattle.ruledwords.specs.declared.outcome.Wakes.TheVariants.{Nobody};
+ghost use Rattle.ruledwords.specs.Outcomes.{owed_pass, owed_wakes};
 ghost use Rattle.ruledwords.specs.Passes.{layout_of, IsPassOf};
 
-use crate::{Live, Never, Outcome, Pass, Released, Wakes, Words};
-use keys::Layout;
+use crate::{Live, Never, Outcome, Owed, Pass, Released, Running, Turn, Wakes, Words};
+use keys::{Answer, Layout};
 use lockword::Reply;
 use std::test::Fail;
 use std::thread;
@@ -21,6 +23,17 @@ fn try_lock(words: &Words, pass: Pass<Live>, mutex: u16) -> (Pass<Live>, Reply)
     }
 }
 
+/// Ends an unlock that has somebody to wake, and tells that it had.
+fn wake_nobody(owed: Owed) -> (Pass<Live>, Reply)
+    requires { ¬ (owed_wakes owed ≡ Nobody) }
+    ensures { result.0 ≡ owed_pass owed }
+{
+    match Running::owed(owed).answer(Answer::Count(0)) {
+        Turn::Lives(pass, _) => (pass, Reply::EAGAIN),
+        Turn::Goes(_) => unreachable!(),
+    }
+}
+
 fn unlock(words: &Words, pass: Pass<Live>, mutex: u16) -> (Pass<Live>, Reply)
     requires pass { IsPassOf words.now pass }
     requires mutex { mutex < (layout_of words.now).mutexes }
@@ -29,7 +42,7 @@ fn unlock(words: &Words, pass: Pass<Live>, mutex: u16) -> (Pass<Live>, Reply)
     match words.release(pass, mutex, &mut Never) {
         Released::Owes(owed) => match owed.settle(words) {
             Ok(pass) => (pass, Reply::OK),
-            Err(owed) => (owed.woken(), Reply::EAGAIN),
+            Err(owed) => wake_nobody(owed),
         },
         Released::Refused(pass, reply) => (pass, reply),
         Released::Dead(_) => unreachable!(),
@@ -145,7 +158,7 @@ fn release_owes_nobody(rt: HostRuntime) -> Result<(), Fail> {
     match words.release(pass, 0, &mut Never) {
         Released::Owes(owed) => {
             assert!(rt; owed.wakes() == Wakes::Nobody);
-            let _pass = owed.woken();
+            let _pass = owed.abandon();
         }
         Released::Refused(_, _) | Released::Dead(_) => assert!(rt; false),
     }

@@ -1,5 +1,5 @@
 -- A call more.
-use Rattle.std.proofs.Common.{◌≡◌, ℕ, ◌+◌, ◌<◌, List, [], ◌∷◌, ◌++◌, length, take, get_or, refl, sym, subst}
+use Rattle.std.proofs.Common.{◌≡◌, ◌≢◌, ◌∙◌, ℕ, ◌+◌, ◌<◌, Bool, true, false, Option, Some, List, [], ◌∷◌, ◌++◌, length, take, get_or, refl, sym, subst}
 use Rattle.std.proofs.lemmas.List.{take_more}
 use Rattle.lockword.specs.declared.reply.Reply.{Reply}
 use Rattle.ruledwords.specs.declared.pass.Words.{Words}
@@ -20,3 +20,10 @@ pub answered_next : (w : Words) (a : Pass Live) (calls : List Call) (i : ℕ) (d
     → Answered w a (take (i + 1) calls) rs' b
 answered_next w a calls i d rs rs' p r b lt so_far one told =
     subst (λ (cs : List Call). Answered w a cs rs' b) (sym (take_more calls i d lt)) (subst (λ (z : List Reply). Answered w a (take i calls ++ get_or calls i d ∷ []) z b) (sym told) (answered_more w a (take i calls) rs p (get_or calls i d) r b so_far one))
+
+-- a gate that let a call through doesn't surely refuse it
+pub let_through : (says : ℕ → ℕ → Option Bool) (t u n k : ℕ) (answer : Bool) → ((b : Bool) → says t n ≡ Some b → answer ≡ b) → t ≡ u → n ≡ k → answer ≡ true → says u k ≢ Some false
+let_through says t u n k answer tells same at lets refuses =
+    let said : answer ≡ false = tells false (subst (λ (z : ℕ × ℕ). says z.0 z.1 ≡ Some false) (λ i. (sym same i, sym at i)) refuses) in
+    let bad : true ≡ false = sym lets ∙ said in
+    absurd (cc bad)

@@ -1,3 +1,5 @@
 mod Each
 mod Answers
 mod Workers
+mod Turning
+mod Beginnings

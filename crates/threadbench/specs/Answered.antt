@@ -12,10 +12,11 @@ use Rattle.ruledwords.specs.Outcomes.{Tried, Declared}
 use Rattle.ruledwords.specs.Passes.{card, layout_of, IsPassOf}
 use Rattle.ruledwords.specs.declared.pass.Words.{Words}
 use Rattle.ruledwords.specs.Seen.{Called}
+use Rattle.threadbench.specs.Calls.{Locked}
 
--- a call of the thread whose pass is a replied so, and left the pass b: its point, if it has one, is the last that the pass has seen of the mutex. No lock is made
+-- a call of the thread whose pass is a replied so, and left the pass b: its point, if it has one, is the last that the pass has seen of the mutex
 abbrev pub Replied : Words → Pass Live → Call → Reply → Pass Live → Type 0
-Replied w a (Lock m) r b = ⊥
+Replied w a (Lock m) r b = Locked w m a (Lives b r)
 Replied w a (TryLock m) r b = Tried w m a (Lives b r)
 Replied w a (Unlock m) r b = IsPassOf w b × Called (card a) (cell_place (layout_of w) m) operation.Unlock r (card b)
 Replied w a (Consistent m) r b = Declared w m a (Lives b r)

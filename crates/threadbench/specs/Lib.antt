@@ -1,3 +1,5 @@
+pub mod Sections
+pub mod Calls
 pub mod Each
 pub mod Answered
 pub mod Jobs

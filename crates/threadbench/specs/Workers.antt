@@ -1,5 +1,5 @@
 -- Workers, before and after.
-use Rattle.std.specs.Prelude.{◌≡◌, ◌≤◌, [], length, vec_capacity}
+use Rattle.std.specs.Prelude.{ℕ, Bool, Option, ◌≡◌, ◌≤◌, [], length, vec_capacity}
 use Rattle.ruledwords.specs.declared.pass.Words.{Words}
 use Rattle.threadbench.specs.declared.job.Job.{Job}
 use Rattle.threadbench.specs.declared.job.Record.{Record}
@@ -18,9 +18,9 @@ MayWork w (Waits job room) = IsJobOf w job × (room.items ≡ []) × (length job
 MayWork w v = ⊥
 
 -- it waited, and its job is done
-abbrev pub HasDone : Words → Worker → Worker → Type 0
-HasDone w (Waits job room) (Done r) = IsDone w job r
-HasDone w v v' = ⊥
+abbrev pub HasDone : Words → (ℕ → ℕ → Option Bool) → Worker → Worker → Type 0
+HasDone w says (Waits job room) (Done r) = IsDone w says job r
+HasDone w says v v' = ⊥
 
 -- it has a record
 abbrev pub IsReady : Worker → Type 0

@@ -4,18 +4,31 @@ ghost use Rattle.ruledwords.specs.Passes.{card, layout_of, last_layout, last_wor
 ghost use Rattle.ruledwords.specs.Rules.{first_card, Ends};
 ghost use Rattle.threadbench.specs.Jobs.{IsJobOf, AreDone};
 
+use crate::gate::Gate;
 use crate::job::{Job, Record};
+use crate::parker::Parker;
+use crate::room::push_in_room;
 use crate::worker::{hire, records_of, run_all};
+use buckets::Bucket;
+use crossbeam_utils::CachePadded;
 use keys::{Layout, NoMem};
 use ruledwords::{Last, Live, Pass, Words};
 use std::alloc::Global;
 use std::marker::Model;
+use std::sync::{Mutex, Wait};
 use std::thread::Threads;
 
-/// The words of a layout's threads, and what their calls need beside.
+/// As many threads as a bench has at most.
+const THREADS: usize = 64;
+
+/// The words of a layout's threads, and what their calls need to sleep and to wake.
 #[derive(Drop)]
 pub struct Bench {
-    words: Words,
+    pub(crate) words: Words,
+    /// Who sleeps.
+    pub(crate) bucket: CachePadded<Mutex<Bucket>>,
+    /// Where each thread sleeps, in the order of their ids.
+    pub(crate) parkers: Vec<Parker>,
 }
 
 impl Model for Bench {
@@ -27,7 +40,8 @@ impl Model for Bench {
 }
 
 impl Bench {
-    /// A bench, and a pass for each thread in the order of their ids. Nobody owns a mutex, and the counters of the condition variables are those given, in the order of their numbers.
+    /// A bench, and a pass for each thread in the order of their ids. Nobody owns a mutex, nobody sleeps, and the counters of the condition variables are those given, in
+    /// the order of their numbers. It takes all the memory that its calls need, but for [`Bench::work`].
     pub fn new(
         alloc: Global,
         layout: Layout,
@@ -39,8 +53,17 @@ impl Bench {
         ensures each { IfOk result (λ r. All (λ p. IsPassOf r.0 p) r.1.items) }
         ensures cards { IfOk result (λ r. (i : ℕ) (p : _) → slice_get r.1.items i ≡ Some p → card p ≡ first_card layout.threads (i + 1)) }
     {
+        let parkers = parkers(alloc, layout.threads())?;
+        let bucket = CachePadded::new(Mutex::new(Bucket::new(alloc, THREADS)?));
         let (words, passes) = Words::new(alloc, layout, presets)?;
-        Ok((Bench { words }, passes))
+        Ok((
+            Bench {
+                words,
+                bucket,
+                parkers,
+            },
+            passes,
+        ))
     }
 
     /// Its words, which callers' own threads may use too.
@@ -50,23 +73,24 @@ impl Bench {
         &self.words
     }
 
-    /// Runs one worker for each job, all at once, each in a thread of its own where one can be made, and joins them: each makes its job's calls in their order. A record has the replies,
-    /// and the pass after them; records are in the order of their jobs. Where memory is refused no call was made, and the jobs are dropped. A job has the calls that wait for nobody:
-    /// trylocks, unlocks and declarations that a mutex is consistent. A lock would need a sleep, which a bench doesn't have yet.
-    pub fn work<R: Threads + Sync>(
+    /// Runs one worker for each job, all at once, each in a thread of its own where one can be made, and joins them: each makes its job's calls in their order, and stops where
+    /// the gate tells it to. A record has the replies, and the pass after them; records are in the order of their jobs. Where memory is refused no call was made, and the
+    /// jobs are dropped.
+    pub fn work<R: Threads + Wait + Sync, G: Gate + Sync>(
         &self,
         rt: &R,
         alloc: Global,
         jobs: Vec<Job>,
+        gate: &G,
     ) -> Result<Vec<Record>, NoMem>
         requires { All (λ j. IsJobOf self.now j) jobs.items }
-        ensures { IfOk result (λ rs. AreDone self.now jobs.items rs.items) }
+        ensures { IfOk result (λ rs. AreDone self.now (G.says gate.now) jobs.items rs.items) }
     {
         let mut workers = hire(alloc, jobs)?;
         let Ok(room) = Vec::with_capacity(alloc, workers.len()) else {
             return Err(NoMem);
         };
-        run_all(rt, self.words(), &mut workers);
+        run_all(rt, self, gate, &mut workers);
         Ok(records_of(workers, room))
     }
 
@@ -76,6 +100,22 @@ impl Bench {
         ensures layout { last_layout result ≡ layout_of self }
         ensures ends { Ends (layout_of self) (card pass) (last_words result) }
     {
-        self.words.close(pass)
+        let Bench {
+            words,
+            bucket: _,
+            parkers: _,
+        } = self;
+        words.close(pass)
     }
+}
+
+/// A parker for each of so many threads.
+fn parkers(alloc: Global, threads: u8) -> Result<Vec<Parker>, NoMem> {
+    let Ok(mut parkers) = Vec::with_capacity(alloc, usize::from(threads)) else {
+        return Err(NoMem);
+    };
+    for _ in 0..threads {
+        push_in_room(&mut parkers, Parker::new());
+    }
+    Ok(parkers)
 }

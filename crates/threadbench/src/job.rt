@@ -9,11 +9,11 @@ use ruledwords::{Live, Pass};
 pub struct Job {
     /// A pass of the bench's words.
     pub pass: Pass<Live>,
-    /// On mutexes of the bench's layout. None of them may wait for another thread, so none is a lock: a bench has no sleep yet.
+    /// On mutexes of the bench's layout.
     pub calls: Vec<Call>,
 }
 
-/// The pass after the calls of a job, and a reply for each of them.
+/// The pass after the calls of a job, and a reply for each that was made: all of them, or those before the one that the gate refused.
 #[derive(Drop)]
 pub struct Record {
     /// As the last call left it.

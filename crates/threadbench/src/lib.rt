@@ -1,16 +1,26 @@
 //! Real threads at work on shared words.
 //!
-//! A [`Bench`] has the words of a layout. [`Bench::work`] runs one worker for each [`Job`], all of them at once, and joins them: each makes its job's calls in
-//! their order, and its [`Record`] has their replies. So a caller works a phase at a time.
+//! A [`Bench`] has the words of a layout, a futex hash bucket behind a lock, and a place to sleep for each thread. [`Bench::lock`] sleeps while another thread owns the mutex, and
+//! [`Bench::pay`] wakes those that a release has to wake. What they do under the bucket's lock is what the machine's kernel does there.
+//!
+//! [`Bench::work`] runs one worker for each [`Job`], all of them at once, and joins them: each makes its job's calls in
+//! their order, as far as a [`Gate`] lets it, and its [`Record`] has their replies. So a caller works a phase at a time.
+//!
+//! A call that may wait promises only what holds if it returns: nothing is claimed of when a sleeper is woken, nor that a mutex is ever had.
 #![tactic(auto)]
 
 mod bench;
 mod calls;
+mod gate;
 mod job;
+mod parker;
 mod room;
+mod section;
+mod sleep;
 mod worker;
 
 pub use bench::Bench;
+pub use gate::{Gate, Open};
 pub use job::{Job, Record};
 
 #[cfg(test)]

@@ -1,21 +1,25 @@
 //! Threads at the mutexes of one bench, phase by phase.
-ghost use Rattle.std.specs.Prelude.{◌≡◌, ◌<◌, [], All, IfOk};
-ghost use Rattle.mutex.specs.Calls.{mutex_of, NeverWaits};
+ghost use Rattle.std.specs.Prelude.{◌≡◌, ◌<◌, [], All, IfOk, true, Some};
+ghost use Rattle.mutex.specs.Calls.{mutex_of};
 ghost use Rattle.ruledwords.specs.Passes.{layout_of, IsPassOf};
 ghost use Rattle.threadbench.specs.Jobs.{IsJobOf, IsDone};
 
-use crate::{Bench, Job, Record};
+use crate::{Bench, Job, Open, Record};
 use keys::{Layout, NoMem};
 use lockword::Reply;
 use mutex::Call;
 use ruledwords::{Live, Never, Outcome, Pass, Words};
 use std::alloc::Global;
+use std::sync::Wait;
 use std::test::Fail;
 use std::thread::Threads;
 
+mod gates;
+mod sleepers;
+
 fn job(alloc: Global, bench: &Bench, pass: Pass<Live>, calls: &[Call]) -> Result<Job, NoMem>
     requires pass { IsPassOf bench.now pass }
-    requires calls { All (λ c. (mutex_of c < (layout_of bench.now).mutexes) × NeverWaits c) calls.now }
+    requires calls { All (λ c. mutex_of c < (layout_of bench.now).mutexes) calls.now }
     ensures { IfOk result (λ j. IsJobOf bench.now j) }
 {
     match calls.to_vec(alloc) {
@@ -24,8 +28,30 @@ fn job(alloc: Global, bench: &Bench, pass: Pass<Live>, calls: &[Call]) -> Result
     }
 }
 
+/// A job with these calls for each pass.
+fn jobs_of(
+    alloc: Global,
+    bench: &Bench,
+    passes: Vec<Pass<Live>>,
+    calls: &[Call],
+) -> Result<Vec<Job>, NoMem>
+    requires passes { All (λ p. IsPassOf bench.now p) passes.items }
+    requires calls { All (λ c. mutex_of c < (layout_of bench.now).mutexes) calls.now }
+    ensures { IfOk result (λ jobs. All (λ j. IsJobOf bench.now j) jobs.items) }
+{
+    let mut jobs = Vec::new(alloc);
+    for pass in passes {
+        let one = job(alloc, bench, pass, calls)?;
+        match jobs.push(one) {
+            Ok(()) => {}
+            Err(_) => return Err(NoMem),
+        }
+    }
+    Ok(jobs)
+}
+
 /// A phase of two threads.
-fn phase<R: Threads + Sync>(
+fn phase<R: Threads + Wait + Sync>(
     rt: &R,
     alloc: Global,
     bench: &Bench,
@@ -34,12 +60,12 @@ fn phase<R: Threads + Sync>(
 ) -> Result<(Record, Record), NoMem>
     requires first { IsJobOf bench.now first }
     requires second { IsJobOf bench.now second }
-    ensures { IfOk result (λ r. IsDone bench.now first r.0 × IsDone bench.now second r.1) }
+    ensures { IfOk result (λ r. IsDone bench.now (λ t i. Some true) first r.0 × IsDone bench.now (λ t i. Some true) second r.1) }
 {
     let Ok(jobs) = Vec::from_array(alloc, [first, second]) else {
         return Err(NoMem);
     };
-    let mut records = bench.work(rt, alloc, jobs)?;
+    let mut records = bench.work(rt, alloc, jobs, &Open)?;
     let second = records.pop().unwrap();
     let first = records.pop().unwrap();
     Ok((first, second))
@@ -112,6 +138,26 @@ fn has_replied(record: &Record, reply: Reply) -> bool {
     record.replies.as_slice() == [reply].as_slice()
 }
 
+/// Locks and their refusals; thread 1 holds mutex 0 from one phase to the next.
+#[test]
+fn locks_follow_each_other(rt: HostRuntime) -> Result<(), Fail> {
+    let alloc = rt.alloc();
+    let (bench, mut passes) = Bench::new(alloc, Layout::new(2, 1, &[])?, &[])?;
+    let second = passes.pop().unwrap();
+    let first = passes.pop().unwrap();
+    let first = job(alloc, &bench, first, &[Call::Lock(0), Call::Lock(0)])?;
+    let second = job(alloc, &bench, second, &[])?;
+    let (first, second) = phase(&rt, alloc, &bench, first, second)?;
+    assert!(rt; first.replies.as_slice() == [Reply::OK, Reply::EDEADLK].as_slice());
+    let first = job(alloc, &bench, first.pass, &[Call::Unlock(0)])?;
+    let second = job(alloc, &bench, second.pass, &[Call::Lock(0)])?;
+    let (first, second) = phase(&rt, alloc, &bench, first, second)?;
+    assert!(rt; has_replied(&first, Reply::OK) && has_replied(&second, Reply::OK));
+    let end = bench.close(second.pass).cell(0);
+    assert!(rt; end == 2 || end == 0x8000_0002);
+    Ok(())
+}
+
 /// Two threads try one mutex at once: one of them takes it.
 #[test]
 fn one_of_two_takes(rt: HostRuntime) -> Result<(), Fail> {
@@ -135,18 +181,14 @@ fn one_of_two_takes(rt: HostRuntime) -> Result<(), Fail> {
 fn prepared(alloc: Global, layout: Layout) -> Result<(Bench, Vec<Job>, Pass<Live>), NoMem>
     requires threads { layout.threads ≡ 3 }
     requires conditions { layout.conditions ≡ [] }
-    ensures { IfOk result (λ r. (layout_of r.0 ≡ layout) × All (λ j. IsJobOf r.0 j) r.1.items × IsPassOf r.0 r.2) }
+    ensures layout { IfOk result (λ r. layout_of r.0 ≡ layout) }
+    ensures jobs { IfOk result (λ r. All (λ j. IsJobOf r.0 j) r.1.items) }
+    ensures third { IfOk result (λ r. IsPassOf r.0 r.2) }
 {
     let (bench, mut passes) = Bench::new(alloc, layout, &[])?;
     let third = passes.pop().unwrap();
-    let second = passes.pop().unwrap();
-    let first = passes.pop().unwrap();
-    let first = job(alloc, &bench, first, &[Call::TryLock(0)])?;
-    let second = job(alloc, &bench, second, &[Call::Unlock(0)])?;
-    match Vec::from_array(alloc, [first, second]) {
-        Ok(jobs) => Ok((bench, jobs, third)),
-        Err(_) => Err(NoMem),
-    }
+    let jobs = jobs_of(alloc, &bench, passes, &[Call::TryLock(0)])?;
+    Ok((bench, jobs, third))
 }
 
 /// Passes too where any one allocation fails: then no call of the phase was made, and nobody owns the mutex.
@@ -156,7 +198,7 @@ fn memory(rt: HostRuntime) -> Result<(), Fail> {
     let Ok((bench, jobs, third)) = prepared(rt.alloc(), layout) else {
         return Ok(());
     };
-    let want = match bench.work(&rt, rt.alloc(), jobs) {
+    let want = match bench.work(&rt, rt.alloc(), jobs, &Open) {
         Ok(records) => {
             assert_eq!(rt; records.len(), 2);
             Reply::EBUSY
@@ -166,6 +208,6 @@ fn memory(rt: HostRuntime) -> Result<(), Fail> {
     let (third, reply) = try_lock(bench.words(), third, 0);
     assert_eq!(rt; reply, want);
     let last = bench.close(third);
-    assert_eq!(rt; last.cell(0), if want == Reply::OK { 3 } else { 1 });
+    assert!(rt; (last.cell(0) == 3) == (want == Reply::OK));
     Ok(())
 }

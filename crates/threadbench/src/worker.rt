@@ -4,14 +4,16 @@ ghost use Rattle.threadbench.specs.Jobs.{IsJobOf, IsDone};
 ghost use Rattle.threadbench.specs.Workers.{IsFor, HasDone, MayWork, IsReady, Has};
 ghost use Rattle.threadbench.specs.Each.{EachWith};
 
+use crate::bench::Bench;
 use crate::calls::make;
+use crate::gate::Gate;
 use crate::job::{Job, Record};
 use crate::room::push_in_room;
 use keys::NoMem;
 use lockword::Reply;
-use ruledwords::Words;
 use std::alloc::Global;
 use std::mem;
+use std::sync::Wait;
 use std::thread::{Threads, for_each_mut};
 
 /// One worker of a phase.
@@ -36,12 +38,12 @@ impl Worker {
     }
 
     /// Does its job.
-    pub(crate) fn run(&mut self, words: &Words)
-        requires { MayWork words.now self.old }
-        ensures { HasDone words.now self.old self.new }
+    pub(crate) fn run<R: Wait, G: Gate>(&mut self, rt: &R, bench: &Bench, gate: &G)
+        requires { MayWork bench.now self.old }
+        ensures { HasDone bench.now (G.says gate.now) self.old self.new }
     {
         if let Worker::Waits(job, room) = mem::replace(self, Worker::Gone) {
-            *self = Worker::Done(make(words, job, room));
+            *self = Worker::Done(make(rt, bench, gate, job, room));
         }
     }
 }
@@ -61,17 +63,22 @@ pub(crate) fn hire(alloc: Global, jobs: Vec<Job>) -> Result<Vec<Worker>, NoMem>
 }
 
 /// Lets all workers do their jobs at once.
-pub(crate) fn run_all<R: Threads + Sync>(rt: &R, words: &Words, workers: &mut Vec<Worker>)
-    requires { All (MayWork words.now) workers.old.items }
+pub(crate) fn run_all<R: Threads + Wait + Sync, G: Gate + Sync>(
+    rt: &R,
+    bench: &Bench,
+    gate: &G,
+    workers: &mut Vec<Worker>,
+)
+    requires { All (MayWork bench.now) workers.old.items }
     ensures len { length workers.new.items ≡ length workers.old.items }
-    ensures each { (i : ℕ) (d : _) → i < length workers.old.items → HasDone words.now (slice_index_or workers.old.items i d) (slice_index_or workers.new.items i d) }
+    ensures each { (i : ℕ) (d : _) → i < length workers.old.items → HasDone bench.now (G.says gate.now) (slice_index_or workers.old.items i d) (slice_index_or workers.new.items i d) }
 {
     let most = workers.len().max(1);
     for_each_mut(
         rt,
         workers,
         most,
-        &|_, worker: &mut Worker| worker.run(words),
+        &|_, worker: &mut Worker| worker.run(rt, bench, gate),
     );
 }
 

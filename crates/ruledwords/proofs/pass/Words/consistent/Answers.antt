@@ -40,7 +40,7 @@ loop-next-preserved g c =
     let step = consistent_steps p.thread p.cell p.row i.going i.stands.of in
     let t = c.in-Goes.ensures.turned in
     record {
-      pass = c.in-Goes.ensures.pass;
+      pass = c.in-Goes.ensures.words.0;
       cell = ap (λ (q : Standing). q.cell) t.2 ∙ i.cell;
       stands = subst (λ (q : Standing). Stands operation.Consistent (Consistent consistent.Load) (card c.args.pass) q now) (sym t.2)
           (stands_after operation.Consistent (Consistent consistent.Load) (card c.args.pass) p was now t.0 i.going step c.loop-next.running.ready i.stands t.1);
@@ -58,6 +58,6 @@ returns-in-Lives-clause-declared g c =
     let t = c.in-Lives.ensures.turned in
     let s = stands_after operation.Consistent (Consistent consistent.Load) (card a) p was now t.0 i.going step c.loop-next.running.ready i.stands t.1 in
     let end : Standing = moved p (led_at p t.0) in (
-      c.in-Lives.ensures.pass,
+      c.in-Lives.ensures.words,
       subst (λ (z : ℕ). Called (card a) z operation.Consistent c.in-Lives.reply now) i.cell (called operation.Consistent (Consistent consistent.Load) (card a) end now c.in-Lives.reply s (ap decided t.2)),
     )

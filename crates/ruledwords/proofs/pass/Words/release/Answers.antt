@@ -47,7 +47,7 @@ loop-most-preserved g c =
     let step = unlock_steps p.thread p.cell p.row i.going i.stands.of (λ at n e. c.in_default.not-Wake at n (c.next.ensures ∙ e)) in
     let t = c.in-Goes.ensures.turned in
     record {
-      pass = c.in-Goes.ensures.pass;
+      pass = c.in-Goes.ensures.words.0;
       cell = ap (λ (q : Standing). q.cell) t.2 ∙ i.cell;
       stands = subst (λ (q : Standing). Stands operation.Unlock (Unlock unlock.Load) (card c.args.pass) q now) (sym t.2)
           (stands_after operation.Unlock (Unlock unlock.Load) (card c.args.pass) p was now t.0 i.going step c.loop-most.running.ready i.stands t.1);
@@ -70,10 +70,10 @@ returns-in-Lives-default-OK g c =
     let told = subst (λ (r : Row). Tells operation.Unlock r (fields_of now.last)) ended (tells_after operation.Unlock p was now t.0 i.going step c.loop-most.running.ready i.stands.of t.1) in
     record {
       frees = (
-        c.in-Lives-default-OK.ensures.pass,
+        c.in-Lives-default-OK.ensures.words,
         subst (λ (z : ℕ). Called (card a) z operation.Unlock OK now) i.cell (called operation.Unlock (Unlock unlock.Load) (card a) end now OK s (ap decided ended)),
         wakes_nobody now.last told,
-        c.cell-cell.ensures.value,
+        tt,
       );
       fate = refl;
     }
@@ -94,7 +94,7 @@ returns-in-Lives g c =
     let refused : c.in-Lives.reply ≡ EPERM = unlock_refused c.in-Lives.reply (fields_of now.last) told other in
     record {
       frees = (
-        c.in-Lives.ensures.pass,
+        c.in-Lives.ensures.words,
         refused,
         subst (λ (z : ℕ × Reply). Called (card a) z.0 operation.Unlock z.1 now) (λ j. (i.cell j, refused j)) (called operation.Unlock (Unlock unlock.Load) (card a) end now c.in-Lives.reply s (ap decided t.2)),
       );

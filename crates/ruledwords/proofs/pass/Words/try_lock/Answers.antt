@@ -42,7 +42,7 @@ loop-next-preserved g c =
     let step = try_steps p.thread p.cell p.row i.going i.stands.of in
     let t = c.in-Goes.ensures.turned in
     record {
-      pass = c.in-Goes.ensures.pass;
+      pass = c.in-Goes.ensures.words.0;
       cell = ap (λ (q : Standing). q.cell) t.2 ∙ i.cell;
       stands = subst (λ (q : Standing). Stands operation.TryLock (TryLock try.Load) (card c.args.pass) q now) (sym t.2)
           (stands_after operation.TryLock (TryLock try.Load) (card c.args.pass) p was now t.0 i.going step c.loop-next.running.ready i.stands t.1);
@@ -61,7 +61,7 @@ returns-in-Lives-clause-tried g c =
     let s = stands_after operation.TryLock (TryLock try.Load) (card a) p was now t.0 i.going step c.loop-next.running.ready i.stands t.1 in
     let end : Standing = moved p (led_at p t.0) in
     let few = (try_begins (layout_of c.args.self.now) (card a).thread (held (card a)) c.args.mutex c.in-Ok.running.program c.in-Ok.ensures.0).0 in (
-      c.in-Lives.ensures.pass,
+      c.in-Lives.ensures.words,
       picks_false (nat_le 2048 (held (card a))) _ _ few (
         subst (λ (z : ℕ). Called (card a) z operation.TryLock c.in-Lives.reply now) i.cell (called operation.TryLock (TryLock try.Load) (card a) end now c.in-Lives.reply s (ap decided t.2)),
         λ raced. raced_four operation.TryLock (card a) end now s (t.2 ∙ ap Ended raced),

@@ -1,4 +1,4 @@
-use Rattle.std.proofs.Common.{◌≤◌, sym, ◌∙◌, subst}
+use Rattle.std.proofs.Common.{ℕ, ◌≤◌, sym, ap, ◌∙◌, subst}
 use Rattle.mutex.specs.Standings.{Standing}
 use Rattle.mutex.specs.Rows.{IsGoing}
 use Rattle.ruledwords.specs.declared.card.Card.{Card}
@@ -6,6 +6,7 @@ use Rattle.ruledwords.specs.Rules.{card_of}
 use Rattle.ruledwords.specs.Calls.{Ready, most}
 use Rattle.ruledwords.proofs.Standing.{ready_after}
 use Rattle.ruledwords.proofs.Accesses.{answered, moved_to, going_point, returned_point, counted_after, room_made, few_made}
+use Rattle.ruledwords.proofs.Turning.{goes_on_made, ends_made}
 use Rattle.ruledwords.proofs.turn.Running.access.Goals as goal
 
 pub invariant_of-result : goal.invariant_of-result
@@ -18,8 +19,8 @@ invariant_of-result c =
     record {
       one = c.make-found.ensures.one;
       own = c.make-found.ensures.made.sees.thread ∙ c.args.self.pass.own;
-      count = counted_after p was now c.make-found.result c.args.self.pass.held c.count.result c.in-Goes.point c.requires.going c.args.self.ready c.make-found.ensures.made c.args.self.pass.count c.count.ensures told;
-      few = few_made p was now c.make-found.result c.args.self.pass.held c.count.result c.in-Goes.point c.requires.going c.requires.step c.args.self.ready c.make-found.ensures.made c.args.self.room c.count.ensures told;
+      count = counted_after p was now c.make-found.result c.args.self.pass.held c.count.result c.in-Goes.point c.args.self.going c.args.self.ready c.make-found.ensures.made c.args.self.pass.count c.count.ensures told;
+      few = few_made p was now c.make-found.result c.args.self.pass.held c.count.result c.in-Goes.point c.args.self.going c.requires.step c.args.self.ready c.make-found.ensures.made c.args.self.room c.count.ensures told;
     }
 
 pub invariant_of-result-in-Goes : goal.invariant_of-result-in-Goes
@@ -31,9 +32,10 @@ invariant_of-result-in-Goes c =
     let told = (going_point p c.make-found.result c.answer.result c.resume.result c.in-Goes.point at c.in-Goes.is c.resume.ensures.progress).1 in
     let to = moved_to p c.resume.new.self c.make-found.result c.answer.result c.resume.ensures.row at in
     record {
-      ready = subst (λ (q : Standing). Ready q now) (sym to) (ready_after p was now c.make-found.result c.requires.going c.args.self.ready c.make-found.ensures.made);
+      ready = subst (λ (q : Standing). Ready q now) (sym to) (ready_after p was now c.make-found.result c.args.self.going c.args.self.ready c.make-found.ensures.made);
       room = subst (λ (q : Standing). c.count.result ≤ most q.row) (sym to)
-          (room_made p was now c.make-found.result c.args.self.pass.held c.count.result c.in-Goes.point c.requires.going c.requires.step c.args.self.ready c.make-found.ensures.made c.args.self.room c.count.ensures told);
+          (room_made p was now c.make-found.result c.args.self.pass.held c.count.result c.in-Goes.point c.args.self.going c.requires.step c.args.self.ready c.make-found.ensures.made c.args.self.room c.count.ensures told);
+      going = subst (λ (q : Standing). IsGoing q.row) (sym to) (going_point p c.make-found.result c.answer.result c.resume.result c.in-Goes.point at c.in-Goes.is c.resume.ensures.progress).0;
     }
 
 pub invariant_of-result-in-Returns : goal.invariant_of-result-in-Returns
@@ -46,8 +48,8 @@ invariant_of-result-in-Returns c =
     record {
       one = c.make-found.ensures.one;
       own = c.make-found.ensures.made.sees.thread ∙ c.args.self.pass.own;
-      count = counted_after p was now c.make-found.result c.args.self.pass.held c.count-in-Returns.result c.in-Returns.point c.requires.going c.args.self.ready c.make-found.ensures.made c.args.self.pass.count c.count-in-Returns.ensures told;
-      few = few_made p was now c.make-found.result c.args.self.pass.held c.count-in-Returns.result c.in-Returns.point c.requires.going c.requires.step c.args.self.ready c.make-found.ensures.made c.args.self.room c.count-in-Returns.ensures told;
+      count = counted_after p was now c.make-found.result c.args.self.pass.held c.count-in-Returns.result c.in-Returns.point c.args.self.going c.args.self.ready c.make-found.ensures.made c.args.self.pass.count c.count-in-Returns.ensures told;
+      few = few_made p was now c.make-found.result c.args.self.pass.held c.count-in-Returns.result c.in-Returns.point c.args.self.going c.requires.step c.args.self.ready c.make-found.ensures.made c.args.self.room c.count-in-Returns.ensures told;
     }
 
 pub returns-in-Returns-clause-turned : goal.returns-in-Returns-clause-turned
@@ -62,3 +64,30 @@ returns-in-Goes-clause-turned c =
     let at = answered p c.next-access.result c.make-found.result c.answer.result c.next-access.ensures c.answer.ensures in
     let to = moved_to p c.resume.new.self c.make-found.result c.answer.result c.resume.ensures.row at in
     (c.make-found.result, c.make-found.ensures.made, to, subst (λ (q : Standing). IsGoing q.row) (sym to) (going_point p c.make-found.result c.answer.result c.resume.result c.in-Goes.point at c.in-Goes.is c.resume.ensures.progress).0)
+
+pub returns-in-Goes-clause-keeps : goal.returns-in-Goes-clause-keeps
+returns-in-Goes-clause-keeps c = λ a call u.
+    let p : Standing = c.args.self.program in
+    let m = c.make-found.ensures.made in
+    let at = answered p c.next-access.result c.make-found.result c.answer.result c.next-access.ensures c.answer.ensures in
+    let to = moved_to p c.resume.new.self c.make-found.result c.answer.result c.resume.ensures.row at in
+    let on = goes_on_made c.args.words.now a call c.args.self u c.make-found.result c.resume.new.self (card_of c.make-found.new.seat.me.0) c.requires.step m to in
+    let of = u.0 in (
+      (
+        (c.make-found.ensures.table ∙ of.0.0, m.sees.threads ∙ of.0.1, subst (λ (z : ℕ). z ≤ c.args.words.now.layout.threads) (sym m.sees.thread) of.0.2),
+        (of.1.0, of.1.1, ap (λ (q : Standing). q.cell) to ∙ of.1.2),
+      ),
+      on.0,
+      on.1,
+    )
+
+pub returns-in-Returns-clause-keeps : goal.returns-in-Returns-clause-keeps
+returns-in-Returns-clause-keeps c = λ a call u.
+    let p : Standing = c.args.self.program in
+    let m = c.make-found.ensures.made in
+    let at = answered p c.next-access.result c.make-found.result c.answer.result c.next-access.ensures c.answer.ensures in
+    let end = (returned_point p c.make-found.result c.answer.result c.resume.result c.in-Returns.reply c.in-Returns.point at c.in-Returns.is c.resume.ensures.progress).0 in
+    let of = u.0 in (
+      (c.make-found.ensures.table ∙ of.0.0, m.sees.threads ∙ of.0.1, subst (λ (z : ℕ). z ≤ c.args.words.now.layout.threads) (sym m.sees.thread) of.0.2),
+      ends_made c.args.words.now a call c.args.self u c.make-found.result c.in-Returns.reply (card_of c.make-found.new.seat.me.0) c.requires.step m end,
+    )

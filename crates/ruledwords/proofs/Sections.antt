@@ -1,0 +1,88 @@
+-- A section that a call's caller made.
+use Rattle.std.proofs.Common.{◌≡◌, ℕ, ◌≤◌, Option, [], ◌∷◌, ◌++◌, refl, sym, ap, ◌∙◌, subst, arith}
+use Rattle.lockword.specs.declared.reply.Reply.{Reply}
+use Rattle.keys.specs.declared.access.Answer.{Answer}
+use Rattle.keys.specs.declared.access.Answer.TheVariants.{Again, Woken, Count}
+use Rattle.keys.specs.declared.point.Operation.{Operation}
+use Rattle.keys.specs.declared.point.Point.{Point}
+use Rattle.keys.specs.declared.point.Progress.{Progress}
+use Rattle.keys.specs.declared.point.Progress.TheVariants.{Goes, Returns}
+use Rattle.keys.specs.declared.object.Object.{Object}
+use Rattle.mutex.specs.declared.row.Row.{Row}
+use Rattle.mutex.specs.declared.row.Row.TheVariants.{Lock, TryLock, Unlock, Consistent, Ended}
+use Rattle.mutex.specs.declared.lock.LockRow.TheVariants as lock
+use Rattle.mutex.specs.declared.try_lock.TryLockRow.TheVariants as try
+use Rattle.mutex.specs.declared.unlock.UnlockRow.TheVariants as unlock
+use Rattle.mutex.specs.declared.consistent.ConsistentRow.TheVariants as consistent
+use Rattle.mutex.specs.Laws.{Expects, points, decided, IsOf, tells_change}
+use Rattle.mutex.specs.Programs.{access_of, row_access, resume_of, row_operation, point_of, progress_of, led, moved}
+use Rattle.mutex.specs.Rows.{Knows, IsGoing}
+use Rattle.mutex.specs.Standings.{Standing}
+use Rattle.mutex.proofs.Steps.{goes_on, returned}
+use Rattle.ruledwords.specs.declared.card.Card.{Card}
+use Rattle.ruledwords.specs.Cards.{at}
+use Rattle.ruledwords.specs.Seen.{by}
+use Rattle.ruledwords.specs.Calls.{Ready, Stands, most}
+use Rattle.ruledwords.specs.Turns.{IsAnswerOf}
+use Rattle.ruledwords.proofs.Standing.{reached_more, changes_more}
+
+-- what a section's answer leaves as it is
+pub record Passes (t : ℕ) (r : Row) (x : Answer) : Type 0 where
+  pub same : decided (resume_of t r x).row ≡ decided r
+  pub knows : Knows (resume_of t r x).row
+  pub expects : (o : Object) → Expects t (resume_of t r x).row o
+  pub of : (op : Operation) → IsOf op r → IsOf op (resume_of t r x).row
+  pub change : tells_change x ≡ 0
+  pub room : most r ≤ most (resume_of t r x).row
+
+pub passes : (t cell : ℕ) (r : Row) (x : Answer) → IsAnswerOf (row_access t cell r) x → Passes t r x
+passes t cell (Lock lock.Load) x fits = absurd fits
+passes t cell (Lock (lock.Take v)) x fits = absurd fits
+passes t cell (Lock (lock.SetWaiters v)) x fits = absurd fits
+passes t cell (Lock (lock.Sleep v)) Again fits = record { same = refl; knows = tt; expects = λ o. tt; of = λ op e. e; change = refl; room = omega arith }
+passes t cell (Lock (lock.Sleep v)) Woken fits = record { same = refl; knows = tt; expects = λ o. tt; of = λ op e. e; change = refl; room = omega arith }
+passes t cell (Lock (lock.Sleep v)) x fits = absurd fits
+passes t cell (Lock lock.WakeAll) (Count k) fits = record { same = refl; knows = tt; expects = λ o. tt; of = λ op e. tt; change = refl; room = omega arith }
+passes t cell (Lock lock.WakeAll) x fits = absurd fits
+passes t cell (TryLock try.Load) x fits = absurd fits
+passes t cell (TryLock (try.Take v k)) x fits = absurd fits
+passes t cell (Unlock unlock.Load) x fits = absurd fits
+passes t cell (Unlock (unlock.Release d)) x fits = absurd fits
+passes t cell (Unlock (unlock.Wake a)) (Count k) fits = record { same = refl; knows = tt; expects = λ o. tt; of = λ op e. tt; change = refl; room = omega arith }
+passes t cell (Unlock (unlock.Wake a)) x fits = absurd fits
+passes t cell (Consistent consistent.Load) x fits = absurd fits
+passes t cell (Consistent consistent.Declare) x fits = absurd fits
+passes t cell (Ended y) x fits = absurd fits
+
+pub ready_answered : (p : Standing) (c : Card) (x : Answer) → IsAnswerOf (access_of p) x → Ready p c → Ready (moved p (led p x)) c
+ready_answered p c x fits ready =
+    let k = passes p.thread p.cell p.row x fits in
+    (ready.0, k.knows, λ o run. subst (λ (t : ℕ). Expects t (led p x).row o) ready.0 (k.expects o))
+
+pub stands_answered : (op : Operation) (first : Row) (c : Card) (p : Standing) (d : Card) (x : Answer) → IsAnswerOf (access_of p) x → Ready p d → Stands op first c p d → Stands op first c (moved p (led p x)) d
+stands_answered op first c p d x fits ready s =
+    let k = passes p.thread p.cell p.row x fits in
+    let same = sym k.same in
+    let none = k.change in
+    let had = s.misses in
+    let sum = changes_more s.answers x in
+    record {
+      of = k.of op s.of;
+      thread = s.thread;
+      threads = s.threads;
+      elsewhere = s.elsewhere;
+      between = s.between;
+      grows = subst (λ (z : Option Reply). at d.seen p.cell ≡ (at c.seen p.cell ++ s.between) ++ points (point_of c.thread p.cell op z)) same s.grows;
+      own = subst (λ (z : Option Reply). by c.thread (at d.seen p.cell) ≡ by c.thread (at c.seen p.cell) ++ points (point_of c.thread p.cell op z)) same s.own;
+      left = λ some_point. s.left (λ e. some_point (k.same ∙ e));
+      answers = s.answers ++ x ∷ [];
+      reaches = reached_more c.thread first s.answers x ∙ ap (λ (z : Row). (resume_of c.thread z x).row) s.reaches ∙ ap (λ (t : ℕ). (resume_of t p.row x).row) (sym (ready.0 ∙ s.thread));
+      misses = omega arith;
+    }
+
+-- an answer after which the call goes on, and one after which it returns
+pub answer_goes : (p : Standing) (x : Answer) (result : Progress) (point : Option Point) → result ≡ Goes point → result ≡ progress_of p (led p x) → IsGoing (led p x).row
+answer_goes p x result point is progress = (goes_on (point_of p.thread p.cell (row_operation p.row) (led p x).point) point (led p x).row (sym progress ∙ is)).0
+
+pub answer_returns : (p : Standing) (x : Answer) (result : Progress) (y : Reply) (point : Option Point) → result ≡ Returns y point → result ≡ progress_of p (led p x) → (led p x).row ≡ Ended y
+answer_returns p x result y point is progress = (returned (point_of p.thread p.cell (row_operation p.row) (led p x).point) point (led p x).row y (sym progress ∙ is)).0

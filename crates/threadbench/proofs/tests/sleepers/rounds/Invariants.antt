@@ -1,0 +1,5 @@
+use Rattle.ruledwords.specs.Passes.{IsPassOf}
+use Rattle.threadbench.proofs.tests.sleepers.rounds.Given as goal
+
+abbrev pub invariant-loop : goal.invariant-loop
+invariant-loop g l = IsPassOf l.bench l.pass
