@@ -1,8 +1,10 @@
 pub mod Cutting
 pub mod Numbers
 pub mod Names
+pub mod Numbered
 pub mod Lines
 pub mod Bounds
 pub mod Silences
 mod Plays
+mod Rests
 pub mod Phases

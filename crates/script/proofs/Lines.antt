@@ -8,7 +8,6 @@ use Rattle.script.specs.Forms.{lines_of, is_silent}
 use Rattle.script.specs.Reading.{◌>>=◌, refuse, met_at, fault_at, line_read, finished, lines_read}
 use Rattle.script.specs.Outcome.{Tells, TellsAt, SpeaksAt}
 use Rattle.script.specs.Scope.{Scope}
-use Rattle.script.specs.declared.command.Mode.{Mode}
 use Rattle.script.specs.declared.fault.Fault.{Fault}
 use Rattle.script.specs.declared.fault.Fault.TheVariants.{NotUtf8, UnknownWord, OutOfRange, NoSuchName, TooLong, OutOfMemory}
 use Rattle.script.specs.declared.fault.ScriptFault.{ScriptFault}
@@ -19,13 +18,13 @@ use Rattle.script.proofs.Cutting.{one_or_more}
 abbrev split : List ℕ → List (List ℕ)
 split bs = slice_split (λ b. b == 10) bs
 
-abbrev then_lines : Mode → ℕ → List (List ℕ) → Scope → Result Scope ScriptFault
-then_lines k n ls t = lines_read k (n + 1) t ls
+abbrev then_lines : ℕ → List (List ℕ) → Scope → Result Scope ScriptFault
+then_lines n ls t = lines_read (n + 1) t ls
 
-unrolled : (k : Mode) (n : ℕ) (s : Scope) (text : List ℕ) (ls : List (List ℕ)) → 1 ≤ length ls → lines_read k n s (text ∷ ls) ≡ (met_at n (line_read k n s text) >>= then_lines k n ls)
+unrolled : (n : ℕ) (s : Scope) (text : List ℕ) (ls : List (List ℕ)) → 1 ≤ length ls → lines_read n s (text ∷ ls) ≡ (met_at n (line_read n s text) >>= then_lines n ls)
 unfolding lines_read
-unrolled k n s text [] h = absurd (omega (arith, h))
-unrolled k n s text (l ∷ ls) h = refl
+unrolled n s text [] h = absurd (omega (arith, h))
+unrolled n s text (l ∷ ls) h = refl
 
 -- a fault of what follows a line stands below it
 weaker : (n : ℕ) (r : Result Scope ScriptFault) → IfErr r (λ e. n + 1 ≤ e.line) → IfErr r (λ e. n ≤ e.line)
@@ -40,11 +39,11 @@ at_last : (n : ℕ) (r : Result Scope Fault) → IfErr (met_at n r) (λ e. n ≤
 at_last n (Ok t) = tt
 at_last n (Err e) = omega arith
 
-faults_from : (k : Mode) (n : ℕ) (s : Scope) (ls : List (List ℕ)) → IfErr (lines_read k n s ls) (λ e. n ≤ e.line)
+faults_from : (n : ℕ) (s : Scope) (ls : List (List ℕ)) → IfErr (lines_read n s ls) (λ e. n ≤ e.line)
 unfolding lines_read
-faults_from k n s [] = tt
-faults_from k n s (text ∷ []) = at_last n (finished n s text)
-faults_from k n s (text ∷ next ∷ more) = at_or_below n (line_read k n s text) (λ t. lines_read k (n + 1) t (next ∷ more)) (λ t. faults_from k (n + 1) t (next ∷ more))
+faults_from n s [] = tt
+faults_from n s (text ∷ []) = at_last n (finished n s text)
+faults_from n s (text ∷ next ∷ more) = at_or_below n (line_read n s text) (λ t. lines_read (n + 1) t (next ∷ more)) (λ t. faults_from (n + 1) t (next ∷ more))
 
 below : (n : ℕ) (r : Result Scope ScriptFault) → IfErr r (λ e. n + 1 ≤ e.line) → IfErr r (λ e. n < e.line)
 below n (Ok t) h = tt
@@ -78,31 +77,31 @@ met_last n TooLong r never h = rw h refl
 met_last n OutOfMemory r never h = absurd (never h)
 
 -- a line was read: the lines behind it say what all said
-pub goes_on : (k : Mode) (n : ℕ) (s t : Scope) (text rest after : List ℕ) (total : Result Scope ScriptFault) → slice_split (λ b. b == 10) rest ≡ text ∷ slice_split (λ b. b == 10) after → line_read k n s text ≡ Ok t
-    → lines_read k n s (slice_split (λ b. b == 10) rest) ≡ total → lines_read k (n + 1) t (slice_split (λ b. b == 10) after) ≡ total
-goes_on k n s t text rest after total parts read so_far =
-    let one : lines_read k n s (split rest) ≡ lines_read k (n + 1) t (split after) = rw (parts, unrolled k n s text (split after) (one_or_more (λ b. b == 10) after), read) refl in
+pub goes_on : (n : ℕ) (s t : Scope) (text rest after : List ℕ) (total : Result Scope ScriptFault) → slice_split (λ b. b == 10) rest ≡ text ∷ slice_split (λ b. b == 10) after → line_read n s text ≡ Ok t
+    → lines_read n s (slice_split (λ b. b == 10) rest) ≡ total → lines_read (n + 1) t (slice_split (λ b. b == 10) after) ≡ total
+goes_on n s t text rest after total parts read so_far =
+    let one : lines_read n s (split rest) ≡ lines_read (n + 1) t (split after) = rw (parts, unrolled n s text (split after) (one_or_more (λ b. b == 10) after), read) refl in
     sym one ∙ so_far
 
 -- a line was refused
-pub stops : (k : Mode) (n : ℕ) (s : Scope) (f : Fault) (text rest after : List ℕ) (total : Result Scope ScriptFault) → slice_split (λ b. b == 10) rest ≡ text ∷ slice_split (λ b. b == 10) after → Tells f (line_read k n s text)
-    → lines_read k n s (slice_split (λ b. b == 10) rest) ≡ total → TellsAt (fault_at n f) f total
-stops k n s f text rest after total parts told so_far =
-    let one : lines_read k n s (split rest) ≡ (met_at n (line_read k n s text) >>= then_lines k n (split after)) = rw (parts, unrolled k n s text (split after) (one_or_more (λ b. b == 10) after)) refl in
-    subst (λ (r : Result Scope ScriptFault). TellsAt (fault_at n f) f r) (sym one ∙ so_far) (met n f (line_read k n s text) (then_lines k n (split after)) (λ t. faults_from k (n + 1) t (split after)) told)
+pub stops : (n : ℕ) (s : Scope) (f : Fault) (text rest after : List ℕ) (total : Result Scope ScriptFault) → slice_split (λ b. b == 10) rest ≡ text ∷ slice_split (λ b. b == 10) after → Tells f (line_read n s text)
+    → lines_read n s (slice_split (λ b. b == 10) rest) ≡ total → TellsAt (fault_at n f) f total
+stops n s f text rest after total parts told so_far =
+    let one : lines_read n s (split rest) ≡ (met_at n (line_read n s text) >>= then_lines n (split after)) = rw (parts, unrolled n s text (split after) (one_or_more (λ b. b == 10) after)) refl in
+    subst (λ (r : Result Scope ScriptFault). TellsAt (fault_at n f) f r) (sym one ∙ so_far) (met n f (line_read n s text) (then_lines n (split after)) (λ t. faults_from (n + 1) t (split after)) told)
 
 -- the last line feed was reached, and nothing is wrong
-pub ends : (k : Mode) (n : ℕ) (s t : Scope) (rest : List ℕ) (total : Result Scope ScriptFault) → slice_split (λ b. b == 10) rest ≡ rest ∷ [] → finished n s rest ≡ Ok t → lines_read k n s (slice_split (λ b. b == 10) rest) ≡ total → total ≡ Ok t
+pub ends : (n : ℕ) (s t : Scope) (rest : List ℕ) (total : Result Scope ScriptFault) → slice_split (λ b. b == 10) rest ≡ rest ∷ [] → finished n s rest ≡ Ok t → lines_read n s (slice_split (λ b. b == 10) rest) ≡ total → total ≡ Ok t
 unfolding lines_read
-ends k n s t rest total parts done so_far =
-    let one : lines_read k n s (split rest) ≡ Ok t = rw (parts, done) refl in
+ends n s t rest total parts done so_far =
+    let one : lines_read n s (split rest) ≡ Ok t = rw (parts, done) refl in
     sym so_far ∙ one
 
 -- the last line feed was reached, and the end is wrong
-pub ends_ill : (k : Mode) (n : ℕ) (s : Scope) (f : Fault) (rest : List ℕ) (total : Result Scope ScriptFault) → slice_split (λ b. b == 10) rest ≡ rest ∷ [] → finished n s rest ≡ Err f → lines_read k n s (slice_split (λ b. b == 10) rest) ≡ total → TellsAt (fault_at n f) f total
+pub ends_ill : (n : ℕ) (s : Scope) (f : Fault) (rest : List ℕ) (total : Result Scope ScriptFault) → slice_split (λ b. b == 10) rest ≡ rest ∷ [] → finished n s rest ≡ Err f → lines_read n s (slice_split (λ b. b == 10) rest) ≡ total → TellsAt (fault_at n f) f total
 unfolding lines_read
-ends_ill k n s f rest total parts told so_far =
-    let one : lines_read k n s (split rest) ≡ met_at n (finished n s rest) = rw parts refl in
+ends_ill n s f rest total parts told so_far =
+    let one : lines_read n s (split rest) ≡ met_at n (finished n s rest) = rw parts refl in
     subst (λ (r : Result Scope ScriptFault). TellsAt (fault_at n f) f r) (sym one ∙ so_far) (met_last n f (finished n s rest) (ends_remembered n s rest) told)
 
 -- ---- where memory was wanted

@@ -8,12 +8,16 @@ use Rattle.protocol.specs.declared.event.Event.{Event}
 use Rattle.protocol.specs.declared.event.Event.TheVariants as event
 use Rattle.protocol.specs.declared.note.Note.{Note}
 use Rattle.protocol.specs.Machine.{State, happens, run, notes}
+use Rattle.mutex.specs.declared.call.Call.TheVariants.{Lock}
+use Rattle.script.specs.declared.command.Action.{Action}
+use Rattle.script.specs.declared.command.Action.TheVariants as action
+use Rattle.script.specs.declared.command.Mode.{Mode}
 use Rattle.script.specs.declared.command.Command.{Command}
 use Rattle.script.specs.declared.fault.Fault.{Fault}
 use Rattle.script.specs.declared.fault.Fault.TheVariants.{NotUtf8, UnknownWord, OutOfRange, NoSuchName, TooLong, OutOfMemory}
-use Rattle.script.specs.declared.limits.TheConstants.{MAX_EVENTS, REST_STEPS}
-use Rattle.script.specs.Scope.{Scope}
-use Rattle.script.specs.Playing.{Adds, is_going, steps_to_rest, first_state, events_of, events_from, overlong_from}
+use Rattle.script.specs.declared.limits.TheConstants.{MAX_EVENTS, MAX_MUTEXES, REST_STEPS}
+use Rattle.script.specs.Scope.{Scope, IsPossible, IsWellFormed}
+use Rattle.script.specs.Playing.{Adds, HasMutexes, is_going, steps_to_rest, calling, locking, first_state, events_of, events_from, overlong_from}
 use Rattle.script.specs.Played.{RunsAt, Refuses}
 
 run-append : (s : State) (xs ys : List Event) → run s (xs ++ ys) ≡ run (run s xs) ys
@@ -124,7 +128,76 @@ rest_fails s s' s'' ns ns' ns'' t k f h lt busy b =
 pub begins_way : (s : State) (ns : List Note) (t : ℕ) → length ns ≤ MAX_EVENTS → IsOnTheWay s s ns ns t 0
 begins_way s ns t fits = record { so_far = (refl, sym (append-nil ns), omega arith); left = omega arith }
 
+-- ---- locks of one thread
+
+locking_now : (s : State) (t m n : ℕ) → 0 < n → locking s t m n ≡ calling s t (Lock m) ++ locking (run s (calling s t (Lock m))) t (m + 1) (n - 1)
+locking_now s t m zero some = absurd (omega arith)
+locking_now s t m (suc n) some = let one : suc n - 1 ≡ n = omega arith in λ i. calling s t (Lock m) ++ locking (run s (calling s t (Lock m))) t (sym (add-one m) i) (sym one i)
+
+-- where the loop over the mutexes is after k of them
+pub record IsLocking (s s' : State) (ns ns' : List Note) (t m n k : ℕ) : Type 0 where
+  pub events : List Event
+  pub so_far : Adds s s' ns ns' events (Ok tt)
+  pub left : locking s t m n ≡ events ++ locking s' t (m + k) (n - k)
+
+pub locks_first : (s : State) (ns : List Note) (t m n : ℕ) → length ns ≤ MAX_EVENTS → IsLocking s s ns ns t m n 0
+locks_first s ns t m n fits =
+    let at : m + 0 ≡ m = omega arith in
+    let all : n - 0 ≡ n = omega arith in
+    record { events = []; so_far = (refl, sym (append-nil ns), omega arith); left = λ i. locking s t (sym at i) (sym all i) }
+
+pub locks_room : (s s' : State) (ns ns' : List Note) (t m n k : ℕ) → IsLocking s s' ns ns' t m n k → length ns' ≤ MAX_EVENTS
+locks_room s s' ns ns' t m n k h =
+    let len : length ns' ≡ length ns + length h.events = ap length h.so_far.1 ∙ length-append ns (notes s h.events) ∙ ap (λ (j : ℕ). length ns + j) (length-notes s h.events) in
+    let fits = h.so_far.2 in omega arith
+
+locks_left : (s s' : State) (ns ns' : List Note) (t m n k : ℕ) → (h : IsLocking s s' ns ns' t m n k) → k < n
+    → locking s t m n ≡ (h.events ++ calling s' t (Lock (m + k))) ++ locking (run s' (calling s' t (Lock (m + k)))) t (m + (k + 1)) (n - (k + 1))
+locks_left s s' ns ns' t m n k h lt =
+    let es = calling s' t (Lock (m + k)) in
+    let next : m + k + 1 ≡ m + (k + 1) = omega arith in
+    let fewer : n - k - 1 ≡ n - (k + 1) = omega arith in
+    h.left ∙ ap (λ (l : List Event). h.events ++ l) (locking_now s' t (m + k) (n - k) (omega arith))
+    ∙ sym (append_assoc h.events es (locking (run s' es) t (m + k + 1) (n - k - 1)))
+    ∙ (λ i. (h.events ++ es) ++ locking (run s' es) t (next i) (fewer i))
+
+pub locks_next : (s s' s'' : State) (ns ns' ns'' : List Note) (t m n k : ℕ) → IsLocking s s' ns ns' t m n k → k < n → Adds s' s'' ns' ns'' (calling s' t (Lock (m + k))) (Ok tt) → IsLocking s s'' ns ns'' t m n (k + 1)
+locks_next s s' s'' ns ns' ns'' t m n k h lt a =
+    let es = calling s' t (Lock (m + k)) in
+    record {
+      events = h.events ++ es;
+      so_far = then_adds s s' s'' ns ns' ns'' h.events es (Ok tt) h.so_far a;
+      left = locks_left s s' ns ns' t m n k h lt ∙ ap (λ (z : State). (h.events ++ es) ++ locking z t (m + (k + 1)) (n - (k + 1))) (sym a.0);
+    }
+
+pub locks_fail : (s s' s'' : State) (ns ns' ns'' : List Note) (t m n k : ℕ) (f : Fault) → IsLocking s s' ns ns' t m n k → k < n → Adds s' s'' ns' ns'' (calling s' t (Lock (m + k))) (Err f) → Adds s s'' ns ns'' (locking s t m n) (Err f)
+locks_fail s s' s'' ns ns' ns'' t m n k f h lt a =
+    let es = calling s' t (Lock (m + k)) in
+    subst (λ (l : List Event). Adds s s'' ns ns'' l (Err f)) (sym (locks_left s s' ns ns' t m n k h lt))
+    (adds_fewer s s'' s'' ns ns'' ns'' (h.events ++ es) (locking (run s' es) t (m + (k + 1)) (n - (k + 1))) f (then_adds s s' s'' ns ns' ns'' h.events es (Err f) h.so_far a))
+
+pub locks_last : (s s' : State) (ns ns' : List Note) (t m n k : ℕ) → IsLocking s s' ns ns' t m n k → n ≤ k → Adds s s' ns ns' (locking s t m n) (Ok tt)
+locks_last s s' ns ns' t m n k h done =
+    let none : n - k ≡ 0 = omega arith in
+    let all : h.events ≡ locking s t m n = sym (h.left ∙ ap (λ (j : ℕ). h.events ++ locking s' t (m + k) j) none ∙ append-nil h.events) in
+    subst (λ (l : List Event). Adds s s' ns ns' l (Ok tt)) all h.so_far
+
 -- ---- commands
+
+-- the mutexes of a possible action are among those that there may be
+has_mutexes : (k : Mode) (n m : ℕ) (a : Action) → m ≤ MAX_MUTEXES → IsPossible k n m a → HasMutexes a
+has_mutexes k n m (action.Begin t c) few h = tt
+has_mutexes k n m (action.Step t j) few h = tt
+has_mutexes k n m (action.Kill t) few h = tt
+has_mutexes k n m (action.Go t) few h = tt
+has_mutexes k n m (action.Call t c) few h = tt
+has_mutexes k n m (action.Locks t j i) few h = let last = h.3 in omega arith
+has_mutexes k n m action.Phase few h = tt
+
+pub locks_have : (s : Scope) (i : ℕ) (c : Command) → IsWellFormed s → i < length s.commands → c ≡ get_or s.commands i c → HasMutexes c.action
+locks_have s i c whole lt is =
+    has_mutexes s.mode (length s.threads) (length s.mutexes) c.action whole.within.mutexes_at_most
+    (subst (λ (x : Command). IsPossible s.mode (length s.threads) (length s.mutexes) x.action) (sym is) (whole.within.commands_possible i c lt))
 
 events-append : (s : State) (cs ds : List Command) → events_from s (cs ++ ds) ≡ events_from s cs ++ events_from (run s (events_from s cs)) ds
 events-append s [] ds = refl

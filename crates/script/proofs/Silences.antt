@@ -2,18 +2,17 @@
 use Rattle.std.proofs.Common.{◌≡◌, ℕ, ◌+◌, ◌<◌, ◌≤◌, ◌==◌, ◌||◌, Bool, false, true, not, nat_lt, List, [], ◌∷◌, ◌++◌, length, map, Result, Ok, Err, refl, sym, ap, ◌∙◌, arith, length-append}
 use Rattle.std.specs.Option.{ok_or}
 use Rattle.std.proofs.lemmas.Bool.{le-ltb}
-use Rattle.script.specs.Forms.{CallForm, trylock, unlock, Form, silent, thread, mutex, begins, steps, calls, phase, form_of, is_silent}
-use Rattle.script.specs.Scope.{Scope}
-use Rattle.script.specs.Reading.{◌>>=◌, refuse, added, declares, thread_of, call_of, with_action, enter, met_at, line_read, finished, lines_read, nothing}
+use Rattle.script.specs.Forms.{CallForm, lock, trylock, unlock, consistent, Form, silent, thread, mutex, mutexes, begins, steps, kills, goes, calls, locks, phase, form_of, is_silent}
+use Rattle.script.specs.Scope.{Scope, most_mutexes}
+use Rattle.script.specs.Reading.{◌>>=◌, refuse, added, several, declares, thread_of, call_of, first_of, with_action, enter, met_at, line_read, finished, lines_read, nothing}
 use Rattle.script.specs.Silence.{unplaced, without_lines, outcome, SilentLinesSayNothing}
 use Rattle.script.specs.declared.command.Action.{Action}
 use Rattle.script.specs.declared.command.Action.TheVariants as action
 use Rattle.script.specs.declared.command.Command.{Command}
-use Rattle.script.specs.declared.command.Mode.{Mode}
 use Rattle.script.specs.declared.fault.Fault.{Fault}
 use Rattle.script.specs.declared.fault.Fault.TheVariants.{UnknownWord, OutOfRange}
 use Rattle.script.specs.declared.fault.ScriptFault.{ScriptFault}
-use Rattle.script.specs.declared.limits.TheConstants.{MAX_LINES, MAX_THREADS, MAX_MUTEXES}
+use Rattle.script.specs.declared.limits.TheConstants.{MAX_LINES, MAX_THREADS}
 
 -- one line's outcome
 abbrev meant : Result Scope Fault → Result Scope Fault
@@ -38,8 +37,10 @@ alike (Ok x) f g h = h x
 alike (Err e) f g h = refl
 
 same_call : (s : Scope) (c : CallForm) → call_of (without_lines s) c ≡ call_of s c
+same_call s (lock m) = refl
 same_call s (trylock m) = refl
 same_call s (unlock m) = refl
+same_call s (consistent m) = refl
 
 same_declares : (s : Scope) → declares (without_lines s) ≡ declares s
 same_declares s = rw (same_length s.commands) refl
@@ -55,20 +56,26 @@ called n s t c make = rw (same_call s c) (alike (thread_of s t) _ _ (λ i. alike
 same_enter : (n : ℕ) (s : Scope) (f : Form) → meant (enter n s f) ≡ meant (enter 0 (without_lines s) f)
 same_enter n s silent = rw (twice s.commands) refl
 same_enter n s (thread w) = rw (same_declares s) (alike (declares s) _ _ (λ _. alike (added MAX_THREADS s.threads w) _ _ (λ names. rw (twice s.commands) refl)))
-same_enter n s (mutex w) = rw (same_declares s) (alike (declares s) _ _ (λ _. alike (added MAX_MUTEXES s.mutexes w) _ _ (λ names. rw (twice s.commands) refl)))
+same_enter n s (mutex w) = rw (same_declares s) (alike (declares s) _ _ (λ _. alike (added (most_mutexes s.mode) s.mutexes w) _ _ (λ names. rw (twice s.commands) refl)))
+same_enter n s (mutexes w count) =
+    rw (same_declares s) (alike (declares s) _ _ (λ _. alike (ok_or count OutOfRange) _ _ (λ k. alike (several (most_mutexes s.mode) s.mutexes w k) _ _ (λ names. rw (twice s.commands) refl))))
 same_enter n s (begins t c) = called n s t c (λ i k. action.Begin i k)
 same_enter n s (steps t count) = alike (ok_or count OutOfRange) _ _ (λ k. alike (thread_of s t) _ _ (λ i. acted n s (action.Step i k)))
+same_enter n s (kills t) = alike (thread_of s t) _ _ (λ i. acted n s (action.Kill i))
+same_enter n s (goes t) = alike (thread_of s t) _ _ (λ i. acted n s (action.Go i))
 same_enter n s (calls t c) = called n s t c (λ i k. action.Call i k)
+same_enter n s (locks t m count) =
+    alike (ok_or count OutOfRange) _ _ (λ k. alike (first_of s m k) _ _ (λ j. alike (thread_of s t) _ _ (λ i. acted n s (action.Locks i j k))))
 same_enter n s phase = acted n s action.Phase
 
-same_line : (k : Mode) (n : ℕ) (s : Scope) (text : List ℕ) → n ≤ MAX_LINES → meant (line_read k n s text) ≡ meant (line_read k 0 (without_lines s) text)
-same_line k n s text few =
+same_line : (n : ℕ) (s : Scope) (text : List ℕ) → n ≤ MAX_LINES → meant (line_read n s text) ≡ meant (line_read 0 (without_lines s) text)
+same_line n s text few =
     let in_time : nat_lt MAX_LINES n ≡ false = le-ltb _ _ few in
-    rw in_time (alike (ok_or (form_of k text) UnknownWord) (λ f. enter n s f) (λ f. enter 0 (without_lines s) f) (λ f. same_enter n s f))
+    rw in_time (alike (ok_or (form_of s.mode text) UnknownWord) (λ f. enter n s f) (λ f. enter 0 (without_lines s) f) (λ f. same_enter n s f))
 
 -- two states that differ in lines alone read a line alike
-line_alike : (k : Mode) (n m : ℕ) (s t : Scope) (text : List ℕ) → without_lines s ≡ without_lines t → n ≤ MAX_LINES → m ≤ MAX_LINES → meant (line_read k n s text) ≡ meant (line_read k m t text)
-line_alike k n m s t text same low high = same_line k n s text low ∙ ap (λ (u : Scope). meant (line_read k 0 u text)) same ∙ sym (same_line k m t text high)
+line_alike : (n m : ℕ) (s t : Scope) (text : List ℕ) → without_lines s ≡ without_lines t → n ≤ MAX_LINES → m ≤ MAX_LINES → meant (line_read n s text) ≡ meant (line_read m t text)
+line_alike n m s t text same low high = same_line n s text low ∙ ap (λ (u : Scope). meant (line_read 0 u text)) same ∙ sym (same_line m t text high)
 
 ended : (behind too_few : Bool) (s : Scope) → meant (refuse behind UnknownWord (refuse too_few OutOfRange (Ok s))) ≡ meant (refuse behind UnknownWord (refuse too_few OutOfRange (Ok (without_lines s))))
 ended true b s = refl
@@ -91,40 +98,40 @@ leads n m (Ok s) (Err e) f g same next = absurd cc
 leads n m (Err d) (Ok t) f g same next = absurd cc
 leads n m (Err d) (Err e) f g same next = cc
 
-lines_alike : (k : Mode) (n m : ℕ) (s t : Scope) (ls : List (List ℕ)) → without_lines s ≡ without_lines t → n + length ls ≤ MAX_LINES + 1 → m + length ls ≤ MAX_LINES + 1 → outcome (lines_read k n s ls) ≡ outcome (lines_read k m t ls)
+lines_alike : (n m : ℕ) (s t : Scope) (ls : List (List ℕ)) → without_lines s ≡ without_lines t → n + length ls ≤ MAX_LINES + 1 → m + length ls ≤ MAX_LINES + 1 → outcome (lines_read n s ls) ≡ outcome (lines_read m t ls)
 unfolding lines_read
-lines_alike k n m s t [] same low high = ap Ok same
-lines_alike k n m s t (text ∷ []) same low high = at_line n (finished n s text) ∙ end_of n s text (omega arith) ∙ ap (λ (u : Scope). meant (finished 0 u text)) same ∙ sym (end_of m t text (omega arith)) ∙ sym (at_line m (finished m t text))
-lines_alike k n m s t (text ∷ next ∷ more) same low high =
-    leads n m (line_read k n s text) (line_read k m t text) (λ u. lines_read k (n + 1) u (next ∷ more)) (λ u. lines_read k (m + 1) u (next ∷ more))
-    (line_alike k n m s t text same (omega arith) (omega arith)) (λ u v alike_so_far. lines_alike k (n + 1) (m + 1) u v (next ∷ more) alike_so_far (omega arith) (omega arith))
+lines_alike n m s t [] same low high = ap Ok same
+lines_alike n m s t (text ∷ []) same low high = at_line n (finished n s text) ∙ end_of n s text (omega arith) ∙ ap (λ (u : Scope). meant (finished 0 u text)) same ∙ sym (end_of m t text (omega arith)) ∙ sym (at_line m (finished m t text))
+lines_alike n m s t (text ∷ next ∷ more) same low high =
+    leads n m (line_read n s text) (line_read m t text) (λ u. lines_read (n + 1) u (next ∷ more)) (λ u. lines_read (m + 1) u (next ∷ more))
+    (line_alike n m s t text same (omega arith) (omega arith)) (λ u v alike_so_far. lines_alike (n + 1) (m + 1) u v (next ∷ more) alike_so_far (omega arith) (omega arith))
 
-silent_line : (k : Mode) (n : ℕ) (s : Scope) (line : List ℕ) → is_silent line ≡ true → n ≤ MAX_LINES → line_read k n s line ≡ Ok s
-silent_line k n s line is few =
+silent_line : (n : ℕ) (s : Scope) (line : List ℕ) → is_silent line ≡ true → n ≤ MAX_LINES → line_read n s line ≡ Ok s
+silent_line n s line is few =
     let in_time : nat_lt MAX_LINES n ≡ false = le-ltb _ _ few in
     rw (in_time, is) refl
 
 -- a silent line in front of others
-dropped : (k : Mode) (n : ℕ) (s : Scope) (line : List ℕ) (after : List (List ℕ)) → is_silent line ≡ true → 0 < length after → n + length after ≤ MAX_LINES → outcome (lines_read k n s (line ∷ after)) ≡ outcome (lines_read k n s after)
+dropped : (n : ℕ) (s : Scope) (line : List ℕ) (after : List (List ℕ)) → is_silent line ≡ true → 0 < length after → n + length after ≤ MAX_LINES → outcome (lines_read n s (line ∷ after)) ≡ outcome (lines_read n s after)
 unfolding lines_read
-dropped k n s line [] is some few = absurd (omega (arith, some))
-dropped k n s line (a ∷ after) is some few = rw (silent_line k n s line is (omega arith)) (lines_alike k (n + 1) n s s (a ∷ after) refl (omega arith) (omega arith))
+dropped n s line [] is some few = absurd (omega (arith, some))
+dropped n s line (a ∷ after) is some few = rw (silent_line n s line is (omega arith)) (lines_alike (n + 1) n s s (a ∷ after) refl (omega arith) (omega arith))
 
 follows : (n : ℕ) (r : Result Scope Fault) (f g : Scope → Result Scope ScriptFault) → ((s : Scope) → outcome (f s) ≡ outcome (g s)) → outcome (met_at n r >>= f) ≡ outcome (met_at n r >>= g)
 follows n (Ok s) f g h = h s
 follows n (Err e) f g h = refl
 
-unrolled : (k : Mode) (n : ℕ) (s : Scope) (text : List ℕ) (ls : List (List ℕ)) → 0 < length ls → lines_read k n s (text ∷ ls) ≡ (met_at n (line_read k n s text) >>= λ t. lines_read k (n + 1) t ls)
+unrolled : (n : ℕ) (s : Scope) (text : List ℕ) (ls : List (List ℕ)) → 0 < length ls → lines_read n s (text ∷ ls) ≡ (met_at n (line_read n s text) >>= λ t. lines_read (n + 1) t ls)
 unfolding lines_read
-unrolled k n s text [] some = absurd (omega (arith, some))
-unrolled k n s text (l ∷ ls) some = refl
+unrolled n s text [] some = absurd (omega (arith, some))
+unrolled n s text (l ∷ ls) some = refl
 
-silent_anywhere : (k : Mode) (n : ℕ) (s : Scope) (before after : List (List ℕ)) (line : List ℕ) → is_silent line ≡ true → 0 < length after → n + length before + length after ≤ MAX_LINES
-    → outcome (lines_read k n s (before ++ line ∷ after)) ≡ outcome (lines_read k n s (before ++ after))
-silent_anywhere k n s [] after line is some few = dropped k n s line after is some (omega arith)
-silent_anywhere k n s (b ∷ before) after line is some few =
-    rw (unrolled k n s b (before ++ line ∷ after) (simp length-append (omega arith)), unrolled k n s b (before ++ after) (simp length-append (omega arith)))
-    (follows n (line_read k n s b) _ _ (λ t. silent_anywhere k (n + 1) t before after line is some (omega arith)))
+silent_anywhere : (n : ℕ) (s : Scope) (before after : List (List ℕ)) (line : List ℕ) → is_silent line ≡ true → 0 < length after → n + length before + length after ≤ MAX_LINES
+    → outcome (lines_read n s (before ++ line ∷ after)) ≡ outcome (lines_read n s (before ++ after))
+silent_anywhere n s [] after line is some few = dropped n s line after is some (omega arith)
+silent_anywhere n s (b ∷ before) after line is some few =
+    rw (unrolled n s b (before ++ line ∷ after) (simp length-append (omega arith)), unrolled n s b (before ++ after) (simp length-append (omega arith)))
+    (follows n (line_read n s b) _ _ (λ t. silent_anywhere (n + 1) t before after line is some (omega arith)))
 
 pub silence : SilentLinesSayNothing
-silence k before after line is some few = silent_anywhere k 1 nothing before after line is some (omega arith)
+silence k before after line is some few = silent_anywhere 1 (nothing k) before after line is some (omega arith)

@@ -6,7 +6,7 @@ use Rattle.std.specs.Char.{is_ascii_digit}
 use Rattle.std.specs.Str.Parse.{digits_value}
 use Rattle.script.specs.declared.command.Mode.{Mode}
 use Rattle.script.specs.declared.command.Mode.TheVariants as mode
-use Rattle.script.specs.declared.limits.TheConstants.{MAX_NAME, MAX_STEPS}
+use Rattle.script.specs.declared.limits.TheConstants.{MAX_NAME, MAX_STEM, MAX_STEPS, MAX_MUTEXES}
 
 -- the parts between line feeds: the lines, and what stands behind the last line feed
 abbrev pub lines_of : List ℕ → List (List ℕ)
@@ -41,17 +41,23 @@ within low high n = if nat_le low n && nat_le n high then Some n else None
 
 -- a call as a line spells it, with the name of its mutex
 pub data CallForm : Type 0 where
+  lock : List ℕ → CallForm
   trylock : List ℕ → CallForm
   unlock : List ℕ → CallForm
+  consistent : List ℕ → CallForm
 
 -- the form of a line: its words are of the right kinds; a count out of its range is None
 pub data Form : Type 0 where
   silent : Form
   thread : List ℕ → Form
   mutex : List ℕ → Form
+  mutexes : List ℕ → Option ℕ → Form
   begins : List ℕ → CallForm → Form
   steps : List ℕ → Option ℕ → Form
+  kills : List ℕ → Form
+  goes : List ℕ → Form
   calls : List ℕ → CallForm → Form
+  locks : List ℕ → List ℕ → Option ℕ → Form
   phase : Form
 
 -- an empty line or a comment
@@ -59,11 +65,13 @@ abbrev pub is_silent : List ℕ → Bool
 is_silent [] = true
 is_silent (b ∷ bs) = b == 35
 
--- `thread NAME` and `mutex NAME`
-abbrev pub declaration_form : List ℕ → List ℕ → Option Form
-declaration_form w a = if not (is_name a) then None
+-- `thread NAME` and `mutex NAME`, `kill T` and `go T`
+abbrev pub name_form : List ℕ → List ℕ → Option Form
+name_form w a = if not (is_name a) then None
     else (if bytes_eq w (codes "thread") then Some (thread a)
-    else (if bytes_eq w (codes "mutex") then Some (mutex a) else None))
+    else (if bytes_eq w (codes "mutex") then Some (mutex a)
+    else (if bytes_eq w (codes "kill") then Some (kills a)
+    else (if bytes_eq w (codes "go") then Some (goes a) else None))))
 
 -- `step T N`
 abbrev pub step_form : List ℕ → List ℕ → List ℕ → Option Form
@@ -71,17 +79,40 @@ step_form w t n = if bytes_eq w (codes "step") && is_name t && is_number n
     then Some (steps t (within 1 MAX_STEPS (digits_value 10 n)))
     else None
 
--- CALL: `trylock M` and `unlock M`
+-- a name to which a number is added, which leaves it the spelling of a name
+abbrev pub is_stem : List ℕ → Bool
+is_stem a = is_name a && nat_le (length a) MAX_STEM
+
+-- `mutexes NAME N`
+abbrev pub mutexes_form : List ℕ → List ℕ → List ℕ → Option Form
+mutexes_form w a n = if bytes_eq w (codes "mutexes") && is_stem a && is_number n
+    then Some (mutexes a (within 1 MAX_MUTEXES (digits_value 10 n)))
+    else None
+
+-- the first that there is
+abbrev pub or_else : Option Form → Option Form → Option Form
+or_else (Some f) o = Some f
+or_else None o = o
+
+-- CALL: `lock M`, `trylock M`, `unlock M` and `consistent M`
 abbrev pub call_form : List ℕ → List ℕ → Option CallForm
 call_form w m = if not (is_name m) then None
+    else (if bytes_eq w (codes "lock") then Some (lock m)
     else (if bytes_eq w (codes "trylock") then Some (trylock m)
-    else (if bytes_eq w (codes "unlock") then Some (unlock m) else None))
+    else (if bytes_eq w (codes "unlock") then Some (unlock m)
+    else (if bytes_eq w (codes "consistent") then Some (consistent m) else None))))
 
 -- `begin T CALL` and `call T CALL`
 abbrev pub calling_form : List ℕ → List ℕ → CallForm → Option Form
 calling_form w t c = if not (is_name t) then None
     else (if bytes_eq w (codes "begin") then Some (begins t c)
     else (if bytes_eq w (codes "call") then Some (calls t c) else None))
+
+-- `locks T M N`
+abbrev pub locks_form : List ℕ → List ℕ → List ℕ → List ℕ → Option Form
+locks_form w t m n = if bytes_eq w (codes "locks") && is_name t && is_name m && is_number n
+    then Some (locks t m (within 1 MAX_MUTEXES (digits_value 10 n)))
+    else None
 
 -- `phase`
 abbrev pub phase_form : List ℕ → Option Form
@@ -90,17 +121,41 @@ phase_form w = if bytes_eq w (codes "phase") then Some phase else None
 -- a declaration or a command, of whichever mode
 abbrev pub words_form : List (List ℕ) → Option Form
 words_form (w ∷ []) = phase_form w
-words_form (w ∷ a ∷ []) = declaration_form w a
-words_form (w ∷ t ∷ n ∷ []) = step_form w t n
-words_form (w ∷ t ∷ c ∷ m ∷ []) = option_and_then (calling_form w t) (call_form c m)
+words_form (w ∷ a ∷ []) = name_form w a
+words_form (w ∷ a ∷ n ∷ []) = or_else (step_form w a n) (mutexes_form w a n)
+words_form (w ∷ t ∷ c ∷ m ∷ []) = or_else (locks_form w t c m) (option_and_then (calling_form w t) (call_form c m))
 words_form _ = None
 
--- whether scripts of a mode have lines of this form: begins and steps are the machine's, and phases real threads'
+-- real threads have no call yet that may wait, and no deaths that a call would tell of
+abbrev pub threads_call : CallForm → Bool
+threads_call (lock m) = false
+threads_call (trylock m) = true
+threads_call (unlock m) = true
+threads_call (consistent m) = false
+
+-- whether scripts of real threads have lines of this form: events are the machine's alone
+abbrev pub threads_have : Form → Bool
+threads_have silent = true
+threads_have (thread a) = true
+threads_have (mutex a) = true
+threads_have (mutexes a n) = false
+threads_have (begins t c) = false
+threads_have (steps t n) = false
+threads_have (kills t) = false
+threads_have (goes t) = false
+threads_have (calls t c) = threads_call c
+threads_have (locks t m n) = false
+threads_have phase = true
+
+-- and those of a run: phases are real threads' alone
+abbrev pub run_has : Form → Bool
+run_has phase = false
+run_has f = true
+
+-- whether scripts of a mode have lines of this form
 abbrev pub has : Mode → Form → Bool
-has mode.Run phase = false
-has mode.Threads (begins t c) = false
-has mode.Threads (steps t n) = false
-has _ _ = true
+has mode.Run f = run_has f
+has mode.Threads f = threads_have f
 
 -- the form, where scripts of the mode have it
 abbrev pub of_mode : Mode → Form → Option Form

@@ -20,7 +20,10 @@ abbrev pub is_end : Action → Bool
 is_end action.Phase = true
 is_end (action.Begin t c) = false
 is_end (action.Step t n) = false
+is_end (action.Kill t) = false
+is_end (action.Go t) = false
 is_end (action.Call t c) = false
+is_end (action.Locks t m n) = false
 
 abbrev pub ends_phase : Command → Bool
 ends_phase c = is_end c.action
@@ -31,6 +34,9 @@ call_by t (action.Call u k) = if u == t then k ∷ [] else []
 call_by t action.Phase = []
 call_by t (action.Begin u k) = []
 call_by t (action.Step u n) = []
+call_by t (action.Kill u) = []
+call_by t (action.Go u) = []
+call_by t (action.Locks u m n) = []
 
 -- the calls of thread t among commands, in their order
 abbrev pub calls_by : ℕ → List Command → List Call

@@ -7,5 +7,6 @@ pub mod Script
 pub mod Seen
 pub mod Silence
 pub mod Playing
+pub mod Resting
 pub mod Played
 pub mod Jobs

@@ -1,16 +1,18 @@
 -- The events that a script stands for, and what it means to play them.
-use Rattle.std.specs.Prelude.{ℕ, zero, suc, Bool, not, ◌&&◌, ◌≡◌, ◌+◌, ◌<◌, ◌≤◌, nat_lt, List, [], ◌∷◌, ◌++◌, length, replicate, Option, Some, None, Result, Ok, Err, if◌then◌else◌}
+use Rattle.std.specs.Prelude.{ℕ, zero, suc, Bool, not, ◌&&◌, ◌||◌, ◌≡◌, ◌+◌, ◌<◌, ◌≤◌, nat_lt, List, [], ◌∷◌, ◌++◌, length, replicate, Option, Some, None, Result, Ok, Err, if◌then◌else◌}
 use Rattle.keys.specs.Layouts.{Layout'}
+use Rattle.mutex.specs.declared.call.Call.{Call as MutexCall}
+use Rattle.mutex.specs.declared.call.Call.TheVariants.{Lock}
 use Rattle.protocol.specs.declared.event.Event.{Event}
 use Rattle.protocol.specs.declared.event.Event.TheVariants as event
 use Rattle.protocol.specs.declared.note.Note.{Note}
-use Rattle.protocol.specs.Machine.{State, start, happens, run, notes, is_busy, is_asleep}
+use Rattle.protocol.specs.Machine.{State, start, happens, run, notes, is_busy, is_dying, is_asleep}
 use Rattle.script.specs.declared.command.Action.{Action}
-use Rattle.script.specs.declared.command.Action.TheVariants.{Begin, Step, Call, Phase}
+use Rattle.script.specs.declared.command.Action.TheVariants.{Begin, Step, Kill, Go, Call, Locks, Phase}
 use Rattle.script.specs.declared.command.Command.{Command}
 use Rattle.script.specs.declared.fault.Fault.{Fault}
 use Rattle.script.specs.declared.fault.Fault.TheVariants.{TooLong, OutOfMemory}
-use Rattle.script.specs.declared.limits.TheConstants.{MAX_EVENTS, REST_STEPS}
+use Rattle.script.specs.declared.limits.TheConstants.{MAX_EVENTS, MAX_MUTEXES, REST_STEPS}
 use Rattle.script.specs.Scope.{Scope}
 
 -- the machine of a script: its threads and mutexes, and no condition variable
@@ -20,22 +22,42 @@ layout_of s = record { threads = length s.threads; mutexes = length s.mutexes; c
 abbrev pub first_state : Scope → State
 first_state s = start (layout_of s) (λ c. 0)
 
--- thread t is in a call and doesn't sleep
+-- thread t is in a call or dying, and doesn't sleep
 abbrev pub is_going : State → ℕ → Bool
-is_going s t = is_busy s t && not (is_asleep s t)
+is_going s t = (is_busy s t || is_dying s t) && not (is_asleep s t)
 
--- the least number of its own steps after which thread t is in no call or sleeps, looked for among at most so many
+-- the least number of its own steps after which thread t isn't going any more, looked for among at most so many
 unfoldable pub steps_to_rest : ℕ → State → ℕ → ℕ
 steps_to_rest zero s t = 0
 steps_to_rest (suc most) s t = if is_going s t then suc (steps_to_rest most (happens s (event.Step t)).state t) else 0
 
--- the events of an action at a state of the machine: a call is begun and then stepped until its thread rests;
--- the end of a phase of real threads is no event
+-- the steps of thread t until it rests
+abbrev pub going_on : State → ℕ → List Event
+going_on s t = replicate (steps_to_rest REST_STEPS s t) (event.Step t)
+
+-- a call is begun, and then stepped until its thread rests
+abbrev pub calling : State → ℕ → MutexCall → List Event
+calling s t c = event.Begin t c ∷ going_on (happens s (event.Begin t c)).state t
+
+-- a lock of each of n mutexes from mutex m on, one after the other
+abbrev pub locking : State → ℕ → ℕ → ℕ → List Event
+locking s t m zero = []
+locking s t m (suc n) = calling s t (Lock m) ++ locking (run s (calling s t (Lock m))) t (suc m) n
+
+-- the events of an action at a state of the machine; the end of a phase of real threads is no event
 abbrev pub events_of : State → Action → List Event
 events_of s (Begin t c) = event.Begin t c ∷ []
 events_of s (Step t n) = replicate n (event.Step t)
-events_of s (Call t c) = event.Begin t c ∷ replicate (steps_to_rest REST_STEPS (happens s (event.Begin t c)).state t) (event.Step t)
+events_of s (Kill t) = event.Kill t ∷ []
+events_of s (Go t) = going_on s t
+events_of s (Call t c) = calling s t c
+events_of s (Locks t m n) = locking s t m n
 events_of s Phase = []
+
+-- the mutexes of a `locks` are among those that there may be
+abbrev pub HasMutexes : Action → Type 0
+HasMutexes (Locks t m n) = m + n ≤ MAX_MUTEXES
+HasMutexes a = Unit {0}
 
 -- the events of commands, each at the state that those before it leave
 abbrev pub events_from : State → List Command → List Event

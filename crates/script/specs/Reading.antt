@@ -1,20 +1,21 @@
 -- What a script says, and its first fault: each line in turn, after those before it.
-use Rattle.std.specs.Prelude.{ℕ, ◌+◌, Bool, not, ◌||◌, ◌==◌, nat_le, nat_lt, List, [], ◌∷◌, ◌++◌, length, take, position, Result, Ok, Err, if◌then◌else◌, count_by}
+use Rattle.std.specs.Prelude.{ℕ, zero, suc, ◌+◌, Bool, not, ◌&&◌, ◌||◌, ◌==◌, nat_le, nat_lt, List, [], ◌∷◌, ◌++◌, length, take, drop, position, Result, Ok, Err, if◌then◌else◌, count_by, decimal}
 use Rattle.std.specs.Option.{ok_or}
 use Rattle.std.specs.List.{list_any}
 use Rattle.std.specs.Str.{bytes_eq, is_utf8}
+use Rattle.std.specs.Str.Parse.{digits_value}
 use Rattle.std.specs.Str.Lossy.{utf8_valid_len}
 use Rattle.mutex.specs.declared.call.Call.{Call}
 use Rattle.mutex.specs.declared.call.Call.TheVariants as call
-use Rattle.script.specs.Forms.{CallForm, trylock, unlock, Form, silent, thread, mutex, begins, steps, calls, phase, form_of, lines_of}
-use Rattle.script.specs.Scope.{Scope}
+use Rattle.script.specs.Forms.{CallForm, lock, trylock, unlock, consistent, Form, silent, thread, mutex, mutexes, begins, steps, kills, goes, calls, locks, phase, is_number, form_of, lines_of}
+use Rattle.script.specs.Scope.{Scope, most_mutexes}
 use Rattle.script.specs.declared.command.Mode.{Mode}
 use Rattle.script.specs.declared.command.Action.{Action}
 use Rattle.script.specs.declared.command.Action.TheVariants as action
 use Rattle.script.specs.declared.fault.Fault.{Fault}
 use Rattle.script.specs.declared.fault.Fault.TheVariants.{NotUtf8, UnknownWord, OutOfRange, NoSuchName, TooLong}
 use Rattle.script.specs.declared.fault.ScriptFault.{ScriptFault}
-use Rattle.script.specs.declared.limits.TheConstants.{MAX_BYTES, MAX_LINES, MAX_THREADS, MAX_MUTEXES}
+use Rattle.script.specs.declared.limits.TheConstants.{MAX_BYTES, MAX_LINES, MAX_THREADS}
 
 -- first one thing and then another, as `?` does: a fault of the first is the fault
 infixl 10 ◌>>=◌
@@ -23,8 +24,8 @@ abbrev pub ◌>>=◌ : {A B E : Type 0} → Result A E → (A → Result B E) �
 (Err e) >>= f = Err e
 
 -- before the first line
-abbrev pub nothing : Scope
-nothing = record { threads = []; mutexes = []; commands = [] }
+abbrev pub nothing : Mode → Scope
+nothing k = record { mode = k; threads = []; mutexes = []; commands = [] }
 
 -- the fault where the test holds, and else what follows
 abbrev pub refuse : {A : Type 0} → Bool → Fault → Result A Fault → Result A Fault
@@ -43,6 +44,21 @@ abbrev pub added : ℕ → List (List ℕ) → List ℕ → Result (List (List �
 added limit names w = refuse (nat_le limit (length names)) OutOfRange
     (refuse (is_declared w names) NoSuchName (Ok (names ++ w ∷ [])))
 
+-- a name with a number behind it, for each number below n
+abbrev pub numbered : List ℕ → ℕ → List (List ℕ)
+numbered w zero = []
+numbered w (suc n) = numbered w n ++ (w ++ decimal n) ∷ []
+
+-- whether a name is w with a number below n behind it
+abbrev pub is_numbered : List ℕ → ℕ → List ℕ → Bool
+is_numbered w n name = bytes_eq (take (length w) name) w && is_number (drop (length w) name)
+    && nat_lt (digits_value 10 (drop (length w) name)) n
+
+-- the names with n numbered ones more, unless they would be more than may be, or one is among them
+abbrev pub several : ℕ → List (List ℕ) → List ℕ → ℕ → Result (List (List ℕ)) Fault
+several limit names w n = refuse (nat_lt limit (length names + n)) OutOfRange
+    (refuse (list_any (λ name. is_numbered w n name) names) NoSuchName (Ok (names ++ numbered w n)))
+
 -- no declaration stands after a command
 abbrev pub declares : Scope → Result (Unit {0}) Fault
 declares s = refuse (not (length s.commands == 0)) UnknownWord (Ok tt)
@@ -53,8 +69,14 @@ thread_of s t = place_of t s.threads >>= λ i. Ok (i + 1)
 
 -- a call by the number of its mutex, from 0
 abbrev pub call_of : Scope → CallForm → Result Call Fault
+call_of s (lock m) = place_of m s.mutexes >>= λ j. Ok (call.Lock j)
 call_of s (trylock m) = place_of m s.mutexes >>= λ j. Ok (call.TryLock j)
 call_of s (unlock m) = place_of m s.mutexes >>= λ j. Ok (call.Unlock j)
+call_of s (consistent m) = place_of m s.mutexes >>= λ j. Ok (call.Consistent j)
+
+-- the first of n mutexes from the named one on; the last mutex may not stand before the last of them
+abbrev pub first_of : Scope → List ℕ → ℕ → Result ℕ Fault
+first_of s m n = place_of m s.mutexes >>= λ j. refuse (nat_lt (length s.mutexes) (j + n)) OutOfRange (Ok j)
 
 -- one more command, which stands at line n
 abbrev pub with_action : ℕ → Scope → Action → Scope
@@ -64,11 +86,17 @@ with_action n s a = record s { commands = s.commands ++ record { line = n; actio
 abbrev pub enter : ℕ → Scope → Form → Result Scope Fault
 enter n s silent = Ok s
 enter n s (thread w) = declares s >>= λ _. added MAX_THREADS s.threads w >>= λ names. Ok (record s { threads = names })
-enter n s (mutex w) = declares s >>= λ _. added MAX_MUTEXES s.mutexes w >>= λ names. Ok (record s { mutexes = names })
+enter n s (mutex w) = declares s >>= λ _. added (most_mutexes s.mode) s.mutexes w >>= λ names. Ok (record s { mutexes = names })
+enter n s (mutexes w count) = declares s >>= λ _. ok_or count OutOfRange >>= λ k. several (most_mutexes s.mode) s.mutexes w k >>= λ names.
+    Ok (record s { mutexes = names })
 enter n s (begins t c) = thread_of s t >>= λ i. call_of s c >>= λ k. Ok (with_action n s (action.Begin i k))
 enter n s (steps t count) = ok_or count OutOfRange >>= λ k. thread_of s t >>= λ i.
     Ok (with_action n s (action.Step i k))
+enter n s (kills t) = thread_of s t >>= λ i. Ok (with_action n s (action.Kill i))
+enter n s (goes t) = thread_of s t >>= λ i. Ok (with_action n s (action.Go i))
 enter n s (calls t c) = thread_of s t >>= λ i. call_of s c >>= λ k. Ok (with_action n s (action.Call i k))
+enter n s (locks t m count) = ok_or count OutOfRange >>= λ k. first_of s m k >>= λ j. thread_of s t >>= λ i.
+    Ok (with_action n s (action.Locks i j k))
 enter n s phase = Ok (with_action n s action.Phase)
 
 -- a fault at line n
@@ -81,8 +109,8 @@ met_at n (Ok x) = Ok x
 met_at n (Err f) = Err (fault_at n f)
 
 -- line n, which a line feed ends
-abbrev pub line_read : Mode → ℕ → Scope → List ℕ → Result Scope Fault
-line_read k n s text = refuse (nat_lt MAX_LINES n) TooLong (ok_or (form_of k text) UnknownWord >>= λ f. enter n s f)
+abbrev pub line_read : ℕ → Scope → List ℕ → Result Scope Fault
+line_read n s text = refuse (nat_lt MAX_LINES n) TooLong (ok_or (form_of s.mode text) UnknownWord >>= λ f. enter n s f)
 
 -- what stands behind the last line feed: nothing, and what was declared is enough
 abbrev pub finished : ℕ → Scope → List ℕ → Result Scope Fault
@@ -90,10 +118,10 @@ finished n s text = refuse (not (length text == 0)) (if nat_lt MAX_LINES n then 
     (refuse (length s.threads == 0 || length s.mutexes == 0) OutOfRange (Ok s))
 
 -- these lines, the first of which is line n, after what the lines before it made
-unfoldable pub lines_read : Mode → ℕ → Scope → List (List ℕ) → Result Scope ScriptFault
-lines_read k n s [] = Ok s
-lines_read k n s (text ∷ []) = met_at n (finished n s text)
-lines_read k n s (text ∷ next ∷ more) = met_at n (line_read k n s text) >>= λ t. lines_read k (n + 1) t (next ∷ more)
+unfoldable pub lines_read : ℕ → Scope → List (List ℕ) → Result Scope ScriptFault
+lines_read n s [] = Ok s
+lines_read n s (text ∷ []) = met_at n (finished n s text)
+lines_read n s (text ∷ next ∷ more) = met_at n (line_read n s text) >>= λ t. lines_read (n + 1) t (next ∷ more)
 
 -- the line of the first byte that is no part of a character
 abbrev pub bad_line : List ℕ → ℕ
@@ -101,7 +129,7 @@ bad_line bytes = count_by (λ b. b == 10) (take (utf8_valid_len bytes) bytes) + 
 
 -- a text from its first line to its last
 abbrev pub text_read : Mode → List ℕ → Result Scope ScriptFault
-text_read k text = lines_read k 1 nothing (lines_of text)
+text_read k text = lines_read 1 (nothing k) (lines_of text)
 
 -- the script that the bytes are, or their first fault
 abbrev pub script_read : Mode → List ℕ → Result Scope ScriptFault

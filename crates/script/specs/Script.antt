@@ -3,9 +3,10 @@ use Rattle.std.specs.Prelude.{map, string_bytes}
 use Rattle.script.specs.Scope.{Scope, IsWellFormed}
 use Rattle.script.specs.declared.parsed.Script.TheInside.{Inside}
 
--- its names as bytes, and its commands
+-- what it is written for, its names as bytes, and its commands
 abbrev pub contents : Inside → Scope
 contents s = record {
+  mode = s.mode;
   threads = map string_bytes s.threads.keys;
   mutexes = map string_bytes s.mutexes.keys;
   commands = s.commands.items;

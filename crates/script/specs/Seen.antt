@@ -1,6 +1,6 @@
 -- Values of the code as the definitions see them.
 use Rattle.std.specs.Prelude.{ℕ, ◌≡◌, ◌<◌, List, [], ◌∷◌, length, map, string_bytes}
-use Rattle.script.specs.Forms.{CallForm, trylock, unlock, Form, thread, mutex, begins, steps, calls, phase}
+use Rattle.script.specs.Forms.{CallForm, lock, trylock, unlock, consistent, Form, thread, mutex, mutexes, begins, steps, kills, goes, calls, locks, phase}
 use Rattle.script.specs.Scope.{Scope}
 use Rattle.script.specs.declared.draft.Draft.{Draft}
 use Rattle.script.specs.declared.words.Words.{Words}
@@ -20,21 +20,28 @@ AreWords ws Other = 4 < length ws
 
 -- a call by names
 abbrev pub call_seen : NamedCall → CallForm
+call_seen (named.Lock m) = lock m.now
 call_seen (named.TryLock m) = trylock m.now
 call_seen (named.Unlock m) = unlock m.now
+call_seen (named.Consistent m) = consistent m.now
 
 -- the form that a line that isn't silent was read to
 abbrev pub form_seen : Line → Form
 form_seen (line.Thread a) = thread a.now
 form_seen (line.Mutex a) = mutex a.now
+form_seen (line.Mutexes a n) = mutexes a.now n
 form_seen (line.Begin a c) = begins a.now (call_seen c)
 form_seen (line.Step a n) = steps a.now n
+form_seen (line.Kill a) = kills a.now
+form_seen (line.Go a) = goes a.now
 form_seen (line.Call a c) = calls a.now (call_seen c)
+form_seen (line.Locks a m n) = locks a.now m.now n
 form_seen line.Phase = phase
 
 -- what the lines so far declared and asked for
 abbrev pub scope_of : Draft → Scope
 scope_of d = record {
+  mode = d.mode;
   threads = map string_bytes d.threads.keys;
   mutexes = map string_bytes d.mutexes.keys;
   commands = d.commands.items;

@@ -27,4 +27,4 @@ outcome (Err e) = Err e.fault
 abbrev pub SilentLinesSayNothing : Type 0
 SilentLinesSayNothing = (k : Mode) (before after : List (List ℕ)) (line : List ℕ) →
     is_silent line ≡ true → 0 < length after → length before + length after < MAX_LINES
-    → outcome (lines_read k 1 nothing (before ++ line ∷ after)) ≡ outcome (lines_read k 1 nothing (before ++ after))
+    → outcome (lines_read 1 (nothing k) (before ++ line ∷ after)) ≡ outcome (lines_read 1 (nothing k) (before ++ after))

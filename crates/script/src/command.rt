@@ -20,8 +20,15 @@ pub enum Action {
     Begin(Tid, Call),
     /// As many step events as `count`, from 1 to [`MAX_STEPS`](crate::MAX_STEPS).
     Step { thread: Tid, count: u32 },
+    /// One kill event.
+    Kill(Tid),
+    /// Step events until the thread rests: until it is in no call and not dying, or sleeps.
+    Go(Tid),
     /// A begin event, and then step events until the thread rests; for real threads one call.
     Call(Tid, Call),
+    /// The call that locks a mutex, for each of `count` mutexes from `mutex` on, one after the other. There are from 1 to
+    /// [`MAX_MUTEXES`](crate::MAX_MUTEXES).
+    Locks { thread: Tid, mutex: u16, count: u16 },
     /// The end of a phase of real threads; for the machine nothing.
     Phase,
 }

@@ -1,15 +1,17 @@
 //! What the lines of a script say, one after another.
 
 ghost use Rattle.std.specs.Prelude.{◌≡◌, ◌^◌, ◌<◌, ◌≤◌, false, length, map, OnOk, IfOk, IfErr, string_bytes};
+ghost use Rattle.std.specs.List.{list_any};
 ghost use Rattle.script.specs.Forms.{is_silent};
 ghost use Rattle.script.specs.Outcome.{Gives};
-ghost use Rattle.script.specs.Reading.{added, call_of, declares, enter, line_read, nothing, place_of, thread_of};
-ghost use Rattle.script.specs.Scope.{IsWithinLimits};
+ghost use Rattle.script.specs.Reading.{added, call_of, declares, enter, first_of, is_numbered, line_read, nothing, place_of, several, thread_of};
+ghost use Rattle.script.specs.Scope.{IsWithinLimits, most_mutexes};
 
 use crate::command::{Action, Command, Mode};
 use crate::fault::Fault;
-use crate::limits::{MAX_LINES, MAX_MUTEXES, MAX_THREADS};
+use crate::limits::{MAX_LINES, MAX_MUTEXES, MAX_MUTEXES_OF_THREADS, MAX_THREADS};
 use crate::line::{Line, NamedCall, is_silent_line, line_of};
+use crate::words::{is_below, is_word_number};
 use indexmap::IndexSet;
 use lockword::Tid;
 use mutex::Call;
@@ -18,6 +20,7 @@ use std::alloc::Global;
 /// What the lines so far declared and asked for.
 #[derive(Drop)]
 pub struct Draft {
+    pub mode: Mode,
     pub threads: IndexSet<String>,
     pub mutexes: IndexSet<String>,
     pub commands: Vec<Command>,
@@ -51,14 +54,58 @@ fn declare(
     Ok(())
 }
 
+/// Whether a name is a word with a number below `count` behind it.
+fn is_numbered(name: &str, word: &str, count: u32) -> bool
+    ensures { result ≡ is_numbered word.now count name.now }
+{
+    match name.strip_prefix(word) {
+        Some(digits) => is_word_number(digits) && is_below(digits, count),
+        None => false,
+    }
+}
+
+/// Whether one of the names is a word with a number below `count` behind it.
+fn clashes(names: &IndexSet<String>, word: &str, count: u32) -> bool
+    ensures { result ≡ list_any (λ name. is_numbered word.now count name) (map string_bytes names.now.keys) }
+{
+    names
+        .iter()
+        .any(|name| is_numbered(name.as_str(), word, count))
+}
+
+/// Adds `count` names, a word with each number from 0 on behind it, unless there would be more than may be, or one is there.
+fn declare_numbered(
+    alloc: Global,
+    names: &mut IndexSet<String>,
+    limit: usize,
+    word: &str,
+    count: u32,
+) -> Result<(), Fault>
+    requires { length names.old.keys ≤ limit }
+    ensures { Gives (λ _. map string_bytes names.new.keys) result
+        (several limit (map string_bytes names.old.keys) word.now count) }
+{
+    if count as usize > limit - names.len() {
+        return Err(Fault::OutOfRange);
+    }
+    if clashes(names, word, count) {
+        return Err(Fault::NoSuchName);
+    }
+    for number in 0..count {
+        names.insert(format!(in alloc; "{word}{number}")?)?;
+    }
+    Ok(())
+}
+
 impl Draft {
     ghost use Rattle.script.specs.Seen.{call_seen, form_seen, scope_of};
 
     /// Before the first line.
-    pub fn new(alloc: Global) -> Draft
-        ensures { scope_of result ≡ nothing }
+    pub fn new(alloc: Global, mode: Mode) -> Draft
+        ensures { scope_of result ≡ nothing mode }
     {
         Draft {
+            mode,
             threads: IndexSet::new(alloc),
             mutexes: IndexSet::new(alloc),
             commands: Vec::new(alloc),
@@ -73,13 +120,26 @@ impl Draft {
         Ok(Tid::new(place as u8 + 1).unwrap())
     }
 
+    /// The first of `count` mutexes from the named one on.
+    fn first_mutex(&self, name: &str, count: u32) -> Result<usize, Fault>
+        ensures { result ≡ first_of (scope_of self.now) name.now count }
+    {
+        let place = place(&self.mutexes, name)?;
+        if count as usize > self.mutexes.len() - place {
+            return Err(Fault::OutOfRange);
+        }
+        Ok(place)
+    }
+
     fn call(&self, call: NamedCall<'_>) -> Result<Call, Fault>
         requires { length (scope_of self.now).mutexes ≤ MAX_MUTEXES }
         ensures { result ≡ call_of (scope_of self.now) (call_seen call.entry) }
     {
         Ok(match call {
+            NamedCall::Lock(name) => Call::Lock(place(&self.mutexes, name)? as u16),
             NamedCall::TryLock(name) => Call::TryLock(place(&self.mutexes, name)? as u16),
             NamedCall::Unlock(name) => Call::Unlock(place(&self.mutexes, name)? as u16),
+            NamedCall::Consistent(name) => Call::Consistent(place(&self.mutexes, name)? as u16),
         })
     }
 
@@ -92,10 +152,22 @@ impl Draft {
         Ok(())
     }
 
+    /// How many mutexes may be declared.
+    fn most_mutexes(&self) -> usize
+        ensures value { result ≡ most_mutexes self.now.mode }
+        ensures few { result ≤ MAX_MUTEXES }
+    {
+        match self.mode {
+            Mode::Run => MAX_MUTEXES,
+            Mode::Threads => MAX_MUTEXES_OF_THREADS,
+        }
+    }
+
     fn enter(&mut self, alloc: Global, number: usize, line: Line<'_>) -> Result<(), Fault>
         requires { IsWithinLimits (scope_of self.old) }
-        ensures { Gives (λ _. scope_of self.new) result
+        ensures gives { Gives (λ _. scope_of self.new) result
             (enter number (scope_of self.old) (form_seen line.entry)) }
+        ensures mode { self.new.mode ≡ self.old.mode }
     {
         let action = match line {
             Line::Thread(word) => {
@@ -104,7 +176,14 @@ impl Draft {
             }
             Line::Mutex(word) => {
                 self.declares()?;
-                return declare(alloc, &mut self.mutexes, MAX_MUTEXES, word);
+                let limit = self.most_mutexes();
+                return declare(alloc, &mut self.mutexes, limit, word);
+            }
+            Line::Mutexes(word, count) => {
+                self.declares()?;
+                let count = count.ok_or(Fault::OutOfRange)?;
+                let limit = self.most_mutexes();
+                return declare_numbered(alloc, &mut self.mutexes, limit, word, count);
             }
             Line::Begin(thread, call) => Action::Begin(self.thread(thread)?, self.call(call)?),
             Line::Step(thread, count) => {
@@ -114,7 +193,18 @@ impl Draft {
                     count,
                 }
             }
+            Line::Kill(thread) => Action::Kill(self.thread(thread)?),
+            Line::Go(thread) => Action::Go(self.thread(thread)?),
             Line::Call(thread, call) => Action::Call(self.thread(thread)?, self.call(call)?),
+            Line::Locks(thread, mutex, count) => {
+                let count = count.ok_or(Fault::OutOfRange)?;
+                let mutex = self.first_mutex(mutex, count)?;
+                Action::Locks {
+                    thread: self.thread(thread)?,
+                    mutex: mutex as u16,
+                    count: count as u16,
+                }
+            }
             Line::Phase => Action::Phase,
         };
         self.commands.push(Command {
@@ -125,16 +215,11 @@ impl Draft {
     }
 
     /// Reads line `number`, which a line feed ends.
-    pub fn read_line(
-        &mut self,
-        alloc: Global,
-        mode: Mode,
-        number: usize,
-        text: &str,
-    ) -> Result<(), Fault>
+    pub fn read_line(&mut self, alloc: Global, number: usize, text: &str) -> Result<(), Fault>
         requires { IsWithinLimits (scope_of self.old) }
         ensures gives { Gives (λ _. scope_of self.new) result
-            (line_read mode number (scope_of self.old) text.now) }
+            (line_read number (scope_of self.old) text.now) }
+        ensures mode { self.new.mode ≡ self.old.mode }
         ensures few { OnOk result (number ≤ MAX_LINES) }
         ensures memory { IfErr result (λ f. f ≡ Fault.OutOfMemory → is_silent text.now ≡ false) }
     {
@@ -144,7 +229,7 @@ impl Draft {
         if is_silent_line(text) {
             return Ok(());
         }
-        let line = line_of(text, mode).ok_or(Fault::UnknownWord)?;
+        let line = line_of(text, self.mode).ok_or(Fault::UnknownWord)?;
         self.enter(alloc, number, line)
     }
 }

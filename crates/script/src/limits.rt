@@ -9,11 +9,17 @@ pub const MAX_LINES: usize = 10_000;
 /// The threads that a script may declare.
 pub const MAX_THREADS: usize = 64;
 
-/// The mutexes that a script may declare.
-pub const MAX_MUTEXES: usize = 1;
+/// The mutexes that a script for the machine may declare, and those of one `mutexes` or `locks` line.
+pub const MAX_MUTEXES: usize = 4_096;
+
+/// The mutexes that a script for real threads may declare.
+pub const MAX_MUTEXES_OF_THREADS: usize = 1;
 
 /// The characters of a name.
 pub const MAX_NAME: usize = 16;
+
+/// The characters of the name in a `mutexes` line, behind which numbers of up to four digits are added.
+pub const MAX_STEM: usize = 12;
 
 /// The steps of one `step` line.
 pub const MAX_STEPS: u32 = 100_000;

@@ -1,19 +1,21 @@
 //! The kinds of line of a script.
 
-ghost use Rattle.std.specs.Prelude.{◌≡◌, true, false, option_map};
+ghost use Rattle.std.specs.Prelude.{◌≡◌, true, false, option_map, option_and_then};
 ghost use Rattle.std.specs.Str.Parse.{digits_value};
-ghost use Rattle.script.specs.Forms.{call_form, calling_form, declaration_form, form_of, has, is_number, is_silent, phase_form, step_form, within};
+ghost use Rattle.script.specs.Forms.{call_form, calling_form, form_of, has, is_number, is_silent, is_stem, locks_form, mutexes_form, name_form, or_else, phase_form, run_has, step_form, threads_call, threads_have, within};
 ghost use Rattle.script.specs.Seen.{call_seen, form_seen};
 
 use crate::command::Mode;
-use crate::limits::MAX_STEPS;
+use crate::limits::{MAX_MUTEXES, MAX_STEM, MAX_STEPS};
 use crate::words::{Words, is_word_name, is_word_number, words_in};
 
 /// A call, with the name of its mutex.
 #[derive(Clone, Copy)]
 pub enum NamedCall<'a> {
+    Lock(&'a str),
     TryLock(&'a str),
     Unlock(&'a str),
+    Consistent(&'a str),
 }
 
 /// What a line that isn't silent says, by names.
@@ -21,10 +23,14 @@ pub enum NamedCall<'a> {
 pub enum Line<'a> {
     Thread(&'a str),
     Mutex(&'a str),
+    /// None here and below: the number is out of its range.
+    Mutexes(&'a str, Option<u32>),
     Begin(&'a str, NamedCall<'a>),
-    /// None: the number is out of its range.
     Step(&'a str, Option<u32>),
+    Kill(&'a str),
+    Go(&'a str),
     Call(&'a str, NamedCall<'a>),
+    Locks(&'a str, &'a str, Option<u32>),
     Phase,
 }
 
@@ -38,19 +44,19 @@ pub fn is_silent_line(text: &str) -> bool
     }
 }
 
-/// The number of steps, where it is in its range.
-fn count(word: &str) -> Option<u32>
+/// How many, where that is from 1 to `most`.
+fn count(word: &str, most: u32) -> Option<u32>
     requires { is_number word.now ≡ true }
-    ensures { result ≡ within 1 MAX_STEPS (digits_value 10 word.now) }
+    ensures { result ≡ within 1 most (digits_value 10 word.now) }
 {
     match word.parse::<u32>() {
-        Ok(n) if 1 <= n && n <= MAX_STEPS => Some(n),
+        Ok(n) if 1 <= n && n <= most => Some(n),
         _ => None,
     }
 }
 
-fn declaration<'a>(keyword: &'a str, name: &'a str) -> Option<Line<'a>>
-    ensures { option_map form_seen result ≡ declaration_form keyword.now name.now }
+fn of_a_name<'a>(keyword: &'a str, name: &'a str) -> Option<Line<'a>>
+    ensures { option_map form_seen result ≡ name_form keyword.now name.now }
 {
     if !is_word_name(name) {
         return None;
@@ -58,6 +64,8 @@ fn declaration<'a>(keyword: &'a str, name: &'a str) -> Option<Line<'a>>
     match keyword {
         "thread" => Some(Line::Thread(name)),
         "mutex" => Some(Line::Mutex(name)),
+        "kill" => Some(Line::Kill(name)),
+        "go" => Some(Line::Go(name)),
         _ => None,
     }
 }
@@ -66,7 +74,33 @@ fn step<'a>(keyword: &'a str, thread: &'a str, number: &'a str) -> Option<Line<'
     ensures { option_map form_seen result ≡ step_form keyword.now thread.now number.now }
 {
     if keyword == "step" && is_word_name(thread) && is_word_number(number) {
-        return Some(Line::Step(thread, count(number)));
+        return Some(Line::Step(thread, count(number, MAX_STEPS)));
+    }
+    None
+}
+
+/// Whether the word is spelled as a name that stays one with a number behind it.
+fn is_word_stem(word: &str) -> bool
+    ensures { result ≡ is_stem word.now }
+{
+    is_word_name(word) && word.len() <= MAX_STEM
+}
+
+fn mutexes<'a>(keyword: &'a str, name: &'a str, number: &'a str) -> Option<Line<'a>>
+    ensures { option_map form_seen result ≡ mutexes_form keyword.now name.now number.now }
+{
+    if keyword == "mutexes" && is_word_stem(name) && is_word_number(number) {
+        return Some(Line::Mutexes(name, count(number, MAX_MUTEXES as u32)));
+    }
+    None
+}
+
+fn locks<'a>(keyword: &'a str, thread: &'a str, mutex: &'a str, number: &'a str) -> Option<Line<'a>>
+    ensures { option_map form_seen result
+        ≡ locks_form keyword.now thread.now mutex.now number.now }
+{
+    if keyword == "locks" && is_word_name(thread) && is_word_name(mutex) && is_word_number(number) {
+        return Some(Line::Locks(thread, mutex, count(number, MAX_MUTEXES as u32)));
     }
     None
 }
@@ -78,8 +112,10 @@ fn named_call<'a>(word: &'a str, mutex: &'a str) -> Option<NamedCall<'a>>
         return None;
     }
     match word {
+        "lock" => Some(NamedCall::Lock(mutex)),
         "trylock" => Some(NamedCall::TryLock(mutex)),
         "unlock" => Some(NamedCall::Unlock(mutex)),
+        "consistent" => Some(NamedCall::Consistent(mutex)),
         _ => None,
     }
 }
@@ -107,14 +143,62 @@ fn phase(keyword: &str) -> Option<Line<'_>>
     None
 }
 
+/// A line of three words.
+fn of_three<'a>(keyword: &'a str, name: &'a str, number: &'a str) -> Option<Line<'a>>
+    ensures { option_map form_seen result ≡ or_else (step_form keyword.now name.now number.now)
+        (mutexes_form keyword.now name.now number.now) }
+{
+    match step(keyword, name, number) {
+        Some(line) => Some(line),
+        None => mutexes(keyword, name, number),
+    }
+}
+
+/// A line of four words.
+fn of_four<'a>(
+    keyword: &'a str,
+    thread: &'a str,
+    third: &'a str,
+    fourth: &'a str,
+) -> Option<Line<'a>>
+    ensures { option_map form_seen result ≡ or_else (locks_form keyword.now thread.now third.now fourth.now)
+        (option_and_then (calling_form keyword.now thread.now) (call_form third.now fourth.now)) }
+{
+    match locks(keyword, thread, third, fourth) {
+        Some(line) => Some(line),
+        None => calling(keyword, thread, named_call(third, fourth)?),
+    }
+}
+
+/// Whether scripts for real threads have such calls.
+fn is_call_of_threads(call: &NamedCall<'_>) -> bool
+    ensures { result ≡ threads_call (call_seen call.now) }
+{
+    match call {
+        NamedCall::TryLock(_) | NamedCall::Unlock(_) => true,
+        NamedCall::Lock(_) | NamedCall::Consistent(_) => false,
+    }
+}
+
+/// Whether scripts for real threads have such lines.
+fn is_of_threads(line: &Line<'_>) -> bool
+    ensures { result ≡ threads_have (form_seen line.now) }
+{
+    match line {
+        Line::Thread(_) | Line::Mutex(_) | Line::Phase => true,
+        Line::Call(_, call) => is_call_of_threads(call),
+        Line::Mutexes(..) | Line::Begin(..) | Line::Step(..) => false,
+        Line::Kill(_) | Line::Go(_) | Line::Locks(..) => false,
+    }
+}
+
 /// Whether scripts of the mode have such lines.
 fn is_of(mode: Mode, line: &Line<'_>) -> bool
     ensures { result ≡ has mode (form_seen line.now) }
 {
-    match line {
-        Line::Begin(..) | Line::Step(..) => mode == Mode::Run,
-        Line::Phase => mode == Mode::Threads,
-        Line::Thread(_) | Line::Mutex(_) | Line::Call(..) => true,
+    match mode {
+        Mode::Run => !matches!(line, Line::Phase),
+        Mode::Threads => is_of_threads(line),
     }
 }
 
@@ -125,11 +209,9 @@ pub fn line_of(text: &str, mode: Mode) -> Option<Line<'_>>
 {
     let line = match words_in(text) {
         Words::One(keyword) => phase(keyword),
-        Words::Two(keyword, name) => declaration(keyword, name),
-        Words::Three(keyword, thread, number) => step(keyword, thread, number),
-        Words::Four(keyword, thread, call, mutex) => {
-            calling(keyword, thread, named_call(call, mutex)?)
-        }
+        Words::Two(keyword, name) => of_a_name(keyword, name),
+        Words::Three(keyword, name, number) => of_three(keyword, name, number),
+        Words::Four(keyword, thread, third, fourth) => of_four(keyword, thread, third, fourth),
         Words::Other => None,
     }?;
     if is_of(mode, &line) { Some(line) } else { None }

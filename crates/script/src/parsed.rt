@@ -2,7 +2,7 @@
 
 ghost use Rattle.std.specs.Prelude.{◌≡◌, ◌-◌, ◌≤◌, ◌<◌, Some, length, slice_get};
 
-use crate::command::Command;
+use crate::command::{Command, Mode};
 use crate::draft::Draft;
 use indexmap::IndexSet;
 use lockword::Tid;
@@ -12,6 +12,7 @@ use std::marker::Model;
 /// It has at least one thread and one mutex, and its commands name only what it declares.
 #[derive(Drop)]
 pub struct Script {
+    mode: Mode,
     threads: IndexSet<String>,
     mutexes: IndexSet<String>,
     commands: Vec<Command>,
@@ -38,10 +39,19 @@ impl Script {
         ensures { result ≡ scope_of draft }
     {
         Script {
+            mode: draft.mode,
             threads: draft.threads,
             mutexes: draft.mutexes,
             commands: draft.commands,
         }
+    }
+
+    /// What it is written for.
+    pub fn mode(&self) -> Mode
+        ensures mode { result ≡ self.now.mode }
+        ensures well_formed { IsWellFormed self.now }
+    {
+        self.mode
     }
 
     /// How many threads it declares, from 1 to [`MAX_THREADS`](crate::MAX_THREADS). They have the
@@ -53,8 +63,8 @@ impl Script {
         self.threads.len() as u8
     }
 
-    /// How many mutexes it declares, from 1 to [`MAX_MUTEXES`](crate::MAX_MUTEXES). They have the
-    /// numbers below this.
+    /// How many mutexes it declares, from 1 to [`MAX_MUTEXES`](crate::MAX_MUTEXES), or to
+    /// [`MAX_MUTEXES_OF_THREADS`](crate::MAX_MUTEXES_OF_THREADS) where it is for real threads. They have the numbers below this.
     pub fn mutexes(&self) -> u16
         ensures count { result ≡ length self.now.mutexes }
         ensures well_formed { IsWellFormed self.now }

@@ -1,17 +1,18 @@
 //! Playing a script's commands on the machine.
-ghost use Rattle.std.specs.Prelude.{◌≡◌, ◌≤◌, [], ◌∷◌, ◌++◌, length, replicate, OnOk, IfErr};
+ghost use Rattle.std.specs.Prelude.{◌≡◌, ◌≤◌, [], ◌∷◌, ◌++◌, length, replicate, ◌+◌, OnOk, IfErr};
 ghost use Rattle.protocol.specs.declared.event.Event.TheVariants.{Step};
 ghost use Rattle.interleave.specs.Shown.{state_of};
-ghost use Rattle.script.specs.Playing.{Adds, events_of, is_going, steps_to_rest};
+ghost use Rattle.script.specs.Playing.{Adds, HasMutexes, calling, events_of, going_on, is_going, locking};
 ghost use Rattle.script.specs.Played.{PlaysTo};
 
 use crate::command::Action;
 use crate::fault::{Fault, ScriptFault};
-use crate::limits::{MAX_EVENTS, REST_STEPS};
+use crate::limits::{MAX_EVENTS, MAX_MUTEXES, REST_STEPS};
 use crate::parsed::Script;
 use interleave::{Machine, Trace};
 use keys::Layout;
 use lockword::Tid;
+use mutex::Call;
 use protocol::{Event, Note};
 use std::alloc::Global;
 
@@ -51,17 +52,17 @@ fn play_steps(
     Ok(())
 }
 
-/// Whether the thread is in a call and doesn't sleep.
+/// Whether the thread is in a call or dying, and doesn't sleep.
 fn is_going(machine: &Machine, thread: Tid) -> bool
     ensures { result ≡ is_going (state_of machine.now) thread }
 {
-    machine.busy(thread) && !machine.asleep(thread)
+    (machine.busy(thread) || machine.dying(thread)) && !machine.asleep(thread)
 }
 
-/// Steps of a thread until it is in no call, or sleeps.
+/// Steps of a thread until it is in no call and not dying, or sleeps.
 fn play_to_rest(machine: &mut Machine, notes: &mut Vec<Note>, thread: Tid) -> Result<(), Fault>
     requires { length notes.old.items ≤ MAX_EVENTS }
-    ensures { Adds (state_of machine.old) (state_of machine.new) notes.old.items notes.new.items (replicate (steps_to_rest REST_STEPS (state_of machine.old) thread) (Step thread)) result }
+    ensures { Adds (state_of machine.old) (state_of machine.new) notes.old.items notes.new.items (going_on (state_of machine.old) thread) result }
 {
     for _done in 0..REST_STEPS {
         if !is_going(machine, thread) {
@@ -72,18 +73,55 @@ fn play_to_rest(machine: &mut Machine, notes: &mut Vec<Note>, thread: Tid) -> Re
     Ok(())
 }
 
+/// A call, until its thread rests.
+fn play_call(
+    machine: &mut Machine,
+    notes: &mut Vec<Note>,
+    thread: Tid,
+    call: Call,
+) -> Result<(), Fault>
+    requires { length notes.old.items ≤ MAX_EVENTS }
+    ensures { Adds (state_of machine.old) (state_of machine.new) notes.old.items notes.new.items (calling (state_of machine.old) thread call) result }
+{
+    play_event(machine, notes, Event::Begin(thread, call))?;
+    play_to_rest(machine, notes, thread)
+}
+
+/// A lock of each of `count` mutexes from `mutex` on.
+fn play_locks(
+    machine: &mut Machine,
+    notes: &mut Vec<Note>,
+    thread: Tid,
+    mutex: u16,
+    count: u16,
+) -> Result<(), Fault>
+    requires few { length notes.old.items ≤ MAX_EVENTS }
+    requires small { mutex + count ≤ MAX_MUTEXES }
+    ensures { Adds (state_of machine.old) (state_of machine.new) notes.old.items notes.new.items (locking (state_of machine.old) thread mutex count) result }
+{
+    for next in 0..count {
+        play_call(machine, notes, thread, Call::Lock(mutex + next))?;
+    }
+    Ok(())
+}
+
 /// The events of an action.
 fn play_action(machine: &mut Machine, notes: &mut Vec<Note>, action: Action) -> Result<(), Fault>
-    requires { length notes.old.items ≤ MAX_EVENTS }
+    requires few { length notes.old.items ≤ MAX_EVENTS }
+    requires locks { HasMutexes action }
     ensures { Adds (state_of machine.old) (state_of machine.new) notes.old.items notes.new.items (events_of (state_of machine.old) action) result }
 {
     match action {
         Action::Begin(thread, call) => play_event(machine, notes, Event::Begin(thread, call)),
         Action::Step { thread, count } => play_steps(machine, notes, thread, count),
-        Action::Call(thread, call) => {
-            play_event(machine, notes, Event::Begin(thread, call))?;
-            play_to_rest(machine, notes, thread)
-        }
+        Action::Kill(thread) => play_event(machine, notes, Event::Kill(thread)),
+        Action::Go(thread) => play_to_rest(machine, notes, thread),
+        Action::Call(thread, call) => play_call(machine, notes, thread, call),
+        Action::Locks {
+            thread,
+            mutex,
+            count,
+        } => play_locks(machine, notes, thread, mutex, count),
         Action::Phase => Ok(()),
     }
 }

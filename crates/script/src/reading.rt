@@ -34,13 +34,14 @@ fn finish(draft: Draft, number: usize, text: &str) -> Result<Script, Fault>
 
 fn read_text(alloc: Global, text: &str, mode: Mode) -> Result<Script, ScriptFault>
     ensures reads { Reads result (text_read mode text.now) }
+    ensures mode { IfOk result (λ s. s.mode ≡ mode) }
     ensures memory { IfErr result (λ e. e.fault ≡ Fault.OutOfMemory → SpeaksAt text.now e.line) }
 {
-    let mut draft = Draft::new(alloc);
+    let mut draft = Draft::new(alloc, mode);
     let mut line = 1;
     let mut rest = text;
     while let Some((first, after)) = cut(rest, '\n') {
-        if let Err(fault) = draft.read_line(alloc, mode, line, first) {
+        if let Err(fault) = draft.read_line(alloc, line, first) {
             return Err(ScriptFault { line, fault });
         }
         line += 1;
@@ -65,6 +66,7 @@ fn line_at(bytes: &[u8], len: usize) -> usize
 /// says something.
 pub fn parse(alloc: Global, bytes: &[u8], mode: Mode) -> Result<Script, ScriptFault>
     ensures reads { Reads result (script_read mode bytes.now) }
+    ensures mode { IfOk result (λ s. s.mode ≡ mode) }
     ensures well_formed { IfOk result IsWellFormed }
     ensures memory { IfErr result (λ e. e.fault ≡ Fault.OutOfMemory → SpeaksAt bytes.now e.line) }
 {

@@ -8,7 +8,7 @@ use std::process::Abort;
 use std::test::Fail;
 
 /// The number of the fault and its line; None where there is none.
-fn refusal(alloc: Global, bytes: &[u8]) -> Option<(u8, usize)> {
+pub(crate) fn refusal(alloc: Global, bytes: &[u8]) -> Option<(u8, usize)> {
     match parse(alloc, bytes, Mode::Run) {
         Ok(_) => None,
         Err(refused) => Some((refused.fault.number(), refused.line)),
@@ -25,7 +25,7 @@ fn repeated(alloc: Global, piece: &str, times: usize) -> Result<String, AllocErr
 }
 
 /// Each line stands third in a script of its own, behind a thread `a` and a mutex `m`.
-fn third_lines(
+pub(crate) fn third_lines(
     rt: &impl Abort,
     alloc: Global,
     cases: &[(&str, Option<(u8, usize)>)],
@@ -69,8 +69,8 @@ fn declarations(rt: HostRuntime) {
         ("thread a-b\nmutex m\n", Some((2, 1))),
         ("thread \u{e9}\nmutex m\n", Some((2, 1))),
         ("thread a\nthread a\nmutex m\n", Some((4, 2))),
-        ("thread a\nmutex m\nmutex n\n", Some((3, 3))),
-        ("thread a\nmutex m\nmutex m\n", Some((3, 3))),
+        ("thread a\nmutex m\nmutex n\n", None),
+        ("thread a\nmutex m\nmutex m\n", Some((4, 3))),
         ("thread a\nmutex M\nmutex m n\n", Some((2, 2))),
         ("thread a\nmutex m\nstep a 1\nthread b\n", Some((2, 4))),
         ("thread a\nmutex m\nstep a 1\nthread a\n", Some((2, 4))),
@@ -113,7 +113,8 @@ fn steps(rt: HostRuntime) -> Result<(), Fail> {
             ("steps a 1", Some((2, 3))),
             ("step b 1", Some((4, 3))),
             ("step m 1", Some((4, 3))),
-            ("step b 0", Some((3, 3))),
+            ("step zz 0", Some((3, 3))),
+            ("step zz 1", Some((4, 3))),
             ("step B 0", Some((2, 3))),
             ("step b 01", Some((2, 3))),
         ],
@@ -136,7 +137,12 @@ fn calls(rt: HostRuntime) -> Result<(), Fail> {
             ("begin a trylock n", Some((4, 3))),
             ("call a unlock n", Some((4, 3))),
             ("call a unlock a", Some((4, 3))),
-            ("begin a lock m", Some((2, 3))),
+            ("begin a lock m", None),
+            ("call a consistent m", None),
+            ("call b lock n", Some((4, 3))),
+            ("begin a consistent n", Some((4, 3))),
+            ("call a locks m", Some((2, 3))),
+            ("call a wait m", Some((2, 3))),
             ("begin a TryLock m", Some((2, 3))),
             ("begin a death m", Some((2, 3))),
             ("begin a trylock", Some((2, 3))),
@@ -147,7 +153,26 @@ fn calls(rt: HostRuntime) -> Result<(), Fail> {
             ("begin A trylock m", Some((2, 3))),
             ("begin b trylock M", Some((2, 3))),
             ("calls a trylock m", Some((2, 3))),
-            ("go a", Some((2, 3))),
+            ("go a m", Some((2, 3))),
+        ],
+    )
+}
+
+#[test]
+fn kill_and_go(rt: HostRuntime) -> Result<(), Fail> {
+    third_lines(
+        &rt,
+        rt.alloc(),
+        &[
+            ("kill a", None),
+            ("go a", None),
+            ("kill b", Some((4, 3))),
+            ("go m", Some((4, 3))),
+            ("go A", Some((2, 3))),
+            ("kill", Some((2, 3))),
+            ("kill a 1", Some((2, 3))),
+            ("die a 4", Some((2, 3))),
+            ("cond c m 0", Some((2, 3))),
         ],
     )
 }
@@ -213,37 +238,41 @@ fn many_threads(rt: HostRuntime) -> Result<(), Fail> {
     Ok(())
 }
 
-/// Where a script is cut, it ends without line feed, or with too few declarations, or well. A trylock that takes its thread's first mutex has nine events:
-/// its begin, three accesses to the pending entry and the cell, four that link the entry, and one that clears it. An unlock has eight.
-#[test]
-fn cut(rt: HostRuntime) -> Result<(), Fail> {
-    let text = b"thread a\nmutex m\ncall a trylock m\ncall a unlock m\n".as_slice();
-    let cases = [
-        (0..1, Some((3, 1))),
-        (1..9, Some((2, 1))),
-        (9..10, Some((3, 2))),
-        (10..17, Some((2, 2))),
-        (17..18, None),
-        (18..34, Some((2, 3))),
-        (34..35, None),
-        (35..50, Some((2, 4))),
-        (50..51, None),
-    ];
-    for (lengths, want) in cases {
-        for length in lengths {
-            if let Some(start) = text.get(..length) {
-                assert_eq!(rt; refusal(rt.alloc(), start), want, "{length}");
-            }
+/// Each beginning of the text whose length is in the range is refused so.
+fn beginnings(
+    rt: &impl Abort,
+    alloc: Global,
+    text: &[u8],
+    from: usize,
+    to: usize,
+    want: Option<(u8, usize)>,
+) {
+    for length in from..to {
+        if let Some(start) = text.get(..length) {
+            assert_eq!(rt; refusal(alloc, start), want, "{length}");
         }
     }
+}
+
+/// Where a script is cut, it ends without line feed, or with too few declarations, or well.
+#[test]
+fn cut(rt: HostRuntime) {
+    let text = b"thread a\nmutex m\ncall a trylock m\ncall a unlock m\n".as_slice();
     assert_eq!(rt; text.len(), 50);
-    for (length, events) in [(17, 0), (34, 9), (50, 17)] {
-        let start = text.get(..length).ok_or("a length")?;
-        let script = parse(rt.alloc(), start, Mode::Run)?;
-        let (trace, _machine) = play(rt.alloc(), &script)?;
-        assert_eq!(rt; trace.notes.len(), events);
+    let cases = [
+        (0, 1, Some((3, 1))),
+        (1, 9, Some((2, 1))),
+        (9, 10, Some((3, 2))),
+        (10, 17, Some((2, 2))),
+        (17, 18, None),
+        (18, 34, Some((2, 3))),
+        (34, 35, None),
+        (35, 50, Some((2, 4))),
+        (50, 51, None),
+    ];
+    for (from, to, want) in cases {
+        beginnings(&rt, rt.alloc(), text, from, to, want);
     }
-    Ok(())
 }
 
 #[test]
@@ -283,10 +312,37 @@ fn a_script(rt: HostRuntime) -> Result<(), Fail> {
     Ok(())
 }
 
+#[test]
+fn a_script_with_a_death(rt: HostRuntime) -> Result<(), Fail> {
+    let first = Tid::new(1).ok_or("an id")?;
+    let second = Tid::new(2).ok_or("an id")?;
+    let text =
+        b"thread a\nthread b\nmutexes m 3\nlocks b m1 2\nkill b\ngo b\ncall a lock m2\nbegin a consistent m2\n";
+    let script = parse(rt.alloc(), text, Mode::Run)?;
+    assert_eq!(rt; script.mode(), Mode::Run);
+    let commands = [
+        (
+            4,
+            Action::Locks {
+                thread: second,
+                mutex: 1,
+                count: 2,
+            },
+        ),
+        (5, Action::Kill(second)),
+        (6, Action::Go(second)),
+        (7, Action::Call(first, Call::Lock(2))),
+        (8, Action::Begin(first, Call::Consistent(2))),
+    ]
+    .map(|(line, action)| Command { line, action });
+    assert_eq!(rt; script.commands(), commands.as_slice());
+    Ok(())
+}
+
 /// Passes too where any one allocation fails: the answer is then fault 6 at a line that adds something.
 #[test]
 fn memory(rt: HostRuntime) {
-    let text = b"thread a\n# between\nmutex m\n\ncall a trylock m\nstep a 1\n";
+    let text = b"thread a\n# between\nmutexes m 2\n\nlocks a m0 2\nkill a\n";
     match parse(rt.alloc(), text, Mode::Run) {
         Ok(script) => assert_eq!(rt; script.commands().len(), 2),
         Err(refused) => {
@@ -328,65 +384,4 @@ fn texts(rt: HostRuntime) -> Result<(), Fail> {
         assert!(rt; format!(in rt.alloc(); "{refused}")?.as_str() == long);
     }
     Ok(())
-}
-
-/// One mutex is refused, taken, refused and released by one thread, in 23 events; the last step finds it idle.
-#[test]
-fn played(rt: HostRuntime) -> Result<(), Fail> {
-    let text =
-        b"thread a\nmutex m\ncall a unlock m\ncall a trylock m\ncall a trylock m\nbegin a unlock m\nstep a 8\n";
-    let script = parse(rt.alloc(), text, Mode::Run)?;
-    let (trace, machine) = play(rt.alloc(), &script)?;
-    assert_eq!(rt; trace.threads, 1);
-    assert_eq!(rt; trace.mutexes, 1);
-    assert_eq!(rt; trace.conditions, 0);
-    assert_eq!(rt; trace.notes.len(), 24);
-    assert!(rt; machine.owner(0).is_none());
-    Ok(())
-}
-
-/// The number of the fault of a script that is played, and its line; how many events it ran where there is none.
-fn playing(alloc: Global, text: &str) -> Result<Result<usize, (u8, usize)>, ScriptFault> {
-    let script = parse(alloc, text.as_bytes(), Mode::Run)?;
-    Ok(match play(alloc, &script) {
-        Ok((trace, _machine)) => Ok(trace.notes.len()),
-        Err(refused) => Err((refused.fault.number(), refused.line)),
-    })
-}
-
-#[test]
-fn too_many_events(rt: HostRuntime) -> Result<(), Fail> {
-    let cases = [
-        ("", Ok(0)),
-        ("step a 100000\n", Ok(100_000)),
-        ("step a 100000\n\nstep a 1\n", Err((5, 5))),
-        ("step a 99998\ncall a unlock m\n", Ok(100_000)),
-        ("step a 99999\nbegin a unlock m\n", Ok(100_000)),
-        ("step a 99999\ncall a unlock m\n", Err((5, 4))),
-        (
-            "step a 100000\nbegin a unlock m\n# no more\nstep a 1\n",
-            Err((5, 4)),
-        ),
-    ];
-    for (commands, want) in cases {
-        let text = format!(in rt.alloc(); "thread a\nmutex m\n{commands}")?;
-        assert_eq!(rt; playing(rt.alloc(), text.as_str())?, want, "{commands}");
-    }
-    Ok(())
-}
-
-/// Passes too where any one allocation fails: memory for the machine is wanted at line 1, and for notes at a command.
-#[test]
-fn memory_in_play(rt: HostRuntime) {
-    let text = "thread a\nmutex m\n# played\ncall a trylock m\nstep a 40\n";
-    let told = match playing(rt.alloc(), text) {
-        Ok(Ok(events)) => {
-            assert_eq!(rt; events, 49);
-            return;
-        }
-        Ok(Err(told)) => told,
-        Err(refused) => (refused.fault.number(), refused.line),
-    };
-    assert_eq!(rt; told.0, 6);
-    assert!(rt; [1, 2, 4, 5].contains(&told.1));
 }

@@ -1,7 +1,8 @@
 //! The words of a line.
 
-ghost use Rattle.std.specs.Prelude.{◌≡◌, ◌<◌, ◌==◌, [], ◌∷◌, length, IfSome, MatchOption};
+ghost use Rattle.std.specs.Prelude.{◌≡◌, true, nat_lt, ◌<◌, ◌==◌, [], ◌∷◌, length, IfSome, MatchOption};
 ghost use Rattle.std.specs.List.{slice_split, list_all};
+ghost use Rattle.std.specs.Str.Parse.{digits_value};
 ghost use Rattle.std.specs.Char.{is_ascii_digit};
 ghost use Rattle.script.specs.Forms.{words_of, is_name, is_name_byte, is_number};
 ghost use Rattle.script.specs.Seen.{AreWords};
@@ -70,6 +71,17 @@ pub fn is_word_name(word: &str) -> bool
             first.is_ascii_lowercase() && rest.len() < MAX_NAME && are_name_bytes(rest)
         }
         [] => false,
+    }
+}
+
+/// Whether the digits write a number below `limit`.
+pub fn is_below(digits: &str, limit: u32) -> bool
+    requires { is_number digits.now ≡ true }
+    ensures { result ≡ nat_lt (digits_value 10 digits.now) limit }
+{
+    match digits.parse::<u32>() {
+        Ok(number) => number < limit,
+        Err(_) => false,
     }
 }
 

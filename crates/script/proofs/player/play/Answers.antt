@@ -1,4 +1,4 @@
-use Rattle.std.proofs.Common.{◌≡◌, ◌∙◌, refl, sym, ap, subst, arith, drop, [], ◌∷◌, ◌+◌, List, Ok}
+use Rattle.std.proofs.Common.{◌≡◌, ◌∙◌, refl, sym, ap, subst, arith, drop, [], ◌∷◌, ◌+◌, ◌<◌, List, Ok, length, get_or}
 use Rattle.std.proofs.lemmas.List.{drop_all}
 use Rattle.keys.specs.Layouts.{Layout'}
 use Rattle.keys.specs.Refusals.{Lays}
@@ -6,8 +6,8 @@ use Rattle.protocol.specs.declared.note.Note.{Note}
 use Rattle.protocol.specs.Machine.{State, start}
 use Rattle.interleave.specs.Shown.{state_of}
 use Rattle.script.specs.declared.command.Command.{Command}
-use Rattle.script.specs.Playing.{layout_of, first_state}
-use Rattle.script.proofs.Plays.{IsAmid, amid_first, amid_next, amid_last, amid_room, refuses, split_at}
+use Rattle.script.specs.Playing.{HasMutexes, layout_of, first_state}
+use Rattle.script.proofs.Plays.{IsAmid, amid_first, amid_next, amid_last, amid_room, refuses, split_at, locks_have}
 use Rattle.script.proofs.player.play.Goals as goal
 
 pub loop-command-init : goal.loop-command-init
@@ -20,7 +20,12 @@ loop-command-init c =
     (subst (λ (z : State). IsAmid (first_state s) s.commands z [] 0) (sym state) (amid_first (first_state s) s.commands))
 
 pub play_action-requires : goal.play_action-requires
-play_action-requires c = amid_room (first_state c.args.script.now) c.args.script.now.commands (state_of c.loop-command.machine) c.loop-command.notes.items c.loop-command.command-index c.loop-command.invariant
+play_action-requires c = record {
+  few = amid_room (first_state c.args.script.now) c.args.script.now.commands (state_of c.loop-command.machine) c.loop-command.notes.items c.loop-command.command-index c.loop-command.invariant;
+  locks =
+      let has = locks_have c.args.script.now c.loop-command.command-index c.command-item.result c.commands-command-items.ensures.well_formed in
+      subst (λ (l : List Command). c.loop-command.command-index < length l → c.command-item.result ≡ get_or l c.loop-command.command-index c.command-item.result → HasMutexes c.command-item.result.action) (sym c.commands-command-items.ensures.value) has c.loop-command-test.true c.command-item.is;
+}
 
 pub returns-in-Err : goal.returns-in-Err
 returns-in-Err c =

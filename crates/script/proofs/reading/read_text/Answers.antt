@@ -6,22 +6,23 @@ use Rattle.script.proofs.Lines.{goes_on, stops, ends, ends_ill, behind_next, spe
 use Rattle.script.proofs.reading.read_text.Goals as goal
 
 pub returns-in-Err-clause-reads : goal.returns-in-Err-clause-reads
-returns-in-Err-clause-reads c = stops c.args.mode c.loop-first.line (scope_of c.loop-first.draft) c.in-Err.fault c.in-Some.first.now c.loop-first.rest.now c.in-Some.after.now (text_read c.args.mode c.args.text.now) c.in-Some.ensures.parts c.in-Err.ensures.gives c.loop-first.invariant.so_far
+returns-in-Err-clause-reads c = stops c.loop-first.line (scope_of c.loop-first.draft) c.in-Err.fault c.in-Some.first.now c.loop-first.rest.now c.in-Some.after.now (text_read c.args.mode c.args.text.now) c.in-Some.ensures.parts c.in-Err.ensures.gives c.loop-first.invariant.so_far
 
 pub loop-first-preserved : goal.loop-first-preserved
 loop-first-preserved c = record {
   is_text = search rules;
   few_lines = omega (arith, c.in_default-read_line.ensures.few);
-  within = line_keeps c.args.mode c.loop-first.line (scope_of c.loop-first.draft) (scope_of c.read_line.new.self) c.in-Some.first.now c.loop-first.invariant.within c.in_default-read_line.ensures.gives;
+  mode = search rules;
+  within = line_keeps c.loop-first.line (scope_of c.loop-first.draft) (scope_of c.read_line.new.self) c.in-Some.first.now c.loop-first.invariant.within c.in_default-read_line.ensures.gives;
   earlier = behind_next c.args.text.now c.loop-first.rest.now c.in-Some.first.now c.in-Some.after.now c.loop-first.line c.loop-first.invariant.earlier c.in-Some.ensures.parts;
-  so_far = goes_on c.args.mode c.loop-first.line (scope_of c.loop-first.draft) (scope_of c.read_line.new.self) c.in-Some.first.now c.loop-first.rest.now c.in-Some.after.now (text_read c.args.mode c.args.text.now) c.in-Some.ensures.parts c.in_default-read_line.ensures.gives c.loop-first.invariant.so_far;
+  so_far = goes_on c.loop-first.line (scope_of c.loop-first.draft) (scope_of c.read_line.new.self) c.in-Some.first.now c.loop-first.rest.now c.in-Some.after.now (text_read c.args.mode c.args.text.now) c.in-Some.ensures.parts c.in_default-read_line.ensures.gives c.loop-first.invariant.so_far;
 }
 
 pub returns-in-Ok-clause-reads : goal.returns-in-Ok-clause-reads
-returns-in-Ok-clause-reads c = ends c.args.mode c.loop-first.line (scope_of c.loop-first.draft) c.in-Ok.script c.loop-first.rest.now (text_read c.args.mode c.args.text.now) c.in_default.ensures.parts (sym c.in-Ok.ensures) c.loop-first.invariant.so_far
+returns-in-Ok-clause-reads c = ends c.loop-first.line (scope_of c.loop-first.draft) c.in-Ok.script c.loop-first.rest.now (text_read c.args.mode c.args.text.now) c.in_default.ensures.parts (sym c.in-Ok.ensures) c.loop-first.invariant.so_far
 
 pub returns-in-Err-finish-clause-reads : goal.returns-in-Err-finish-clause-reads
-returns-in-Err-finish-clause-reads c = ends_ill c.args.mode c.loop-first.line (scope_of c.loop-first.draft) c.in-Err-finish.fault c.loop-first.rest.now (text_read c.args.mode c.args.text.now) c.in_default.ensures.parts (sym c.in-Err-finish.ensures) c.loop-first.invariant.so_far
+returns-in-Err-finish-clause-reads c = ends_ill c.loop-first.line (scope_of c.loop-first.draft) c.in-Err-finish.fault c.loop-first.rest.now (text_read c.args.mode c.args.text.now) c.in_default.ensures.parts (sym c.in-Err-finish.ensures) c.loop-first.invariant.so_far
 
 pub returns-in-Err-clause-memory : goal.returns-in-Err-clause-memory
 returns-in-Err-clause-memory c = λ wants. speaks c.args.text.now c.loop-first.rest.now c.in-Some.first.now c.in-Some.after.now c.loop-first.line c.loop-first.invariant.earlier c.in-Some.ensures.parts (c.in-Err.ensures.memory wants)

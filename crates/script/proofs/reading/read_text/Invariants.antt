@@ -13,9 +13,10 @@ abbrev pub invariant-loop-first : goal.invariant-loop-first
 invariant-loop-first l = record {
   is_text : shadow (Utf8 l.rest);
   few_lines : l.line ≤ MAX_LINES + 1;
+  mode : l.draft.mode ≡ l.fn.mode;
   within : IsWithinLimits (scope_of l.draft);
   earlier : IsBehind l.text l.rest l.line;
-  so_far : lines_read l.mode l.line (scope_of l.draft) (lines_of l.rest) ≡ text_read l.mode l.text;
+  so_far : lines_read l.line (scope_of l.draft) (lines_of l.rest) ≡ text_read l.fn.mode l.text;
 }
 
 abbrev pub decreases-loop-first : goal.decreases-loop-first

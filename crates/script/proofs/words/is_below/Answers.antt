@@ -1,0 +1,6 @@
+use Rattle.std.proofs.Common.{arith}
+use Rattle.script.proofs.Numbers.{not_below}
+use Rattle.script.proofs.words.is_below.Goals as goal
+
+pub returns-in-Err : goal.returns-in-Err
+returns-in-Err c = not_below c.args.digits.now c.args.limit c.in-Err.field-0 c.requires (omega arith) c.in-Err.ensures.value.0
