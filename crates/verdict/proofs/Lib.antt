@@ -1,0 +1,9 @@
+pub mod Spelling
+pub mod Owners
+pub mod Stages
+pub mod Places
+pub mod Lines
+pub mod Passing
+pub mod Whole
+pub mod Lives
+pub mod Burials

@@ -1,0 +1,152 @@
+-- What fits line by line makes a life of each thread.
+use Rattle.std.proofs.Common.{◌≡◌, ℕ, ◌==◌, ◌&&◌, Bool, true, false, List, [], ◌∷◌, ◌++◌, refl, sym, ap, subst, ◌∙◌, arith, append_assoc}
+use Rattle.std.specs.Prelude.{if◌then◌else◌, reverse}
+use Rattle.std.proofs.lemmas.List.{reverse-append}
+use Rattle.std.proofs.lemmas.Bool.Decides.{nat_tests}
+use Rattle.verdict.specs.declared.entry.Call.{Call}
+use Rattle.verdict.specs.declared.entry.Fact.{Fact}
+use Rattle.verdict.specs.declared.entry.Fact.TheVariants.{Begin, Kill, Point, Death, Sleep, Wake, Move, Return, Reap}
+use Rattle.verdict.specs.declared.entry.Entry.{Entry}
+use Rattle.verdict.specs.declared.stage.Made.{Made}
+use Rattle.verdict.specs.declared.stage.Stage.{Stage}
+use Rattle.verdict.specs.declared.stage.Stage.TheVariants.{Resting, Calling, Dying, Reaped}
+use Rattle.verdict.specs.Calls.{Act}
+use Rattle.verdict.specs.Facts.{thread_of}
+use Rattle.verdict.specs.Earlier.{told_of}
+use Rattle.verdict.specs.Fits.{FitsThread}
+use Rattle.verdict.specs.Stages.{May, next}
+use Rattle.verdict.specs.Verdicts.{AllFit}
+use Rattle.verdict.specs.Explained.{is_of_call, own, made, Mourned, Unburied, Tells_of, Buried, Life, Rests, Returns, Stays, Cut, Dies}
+use Rattle.verdict.proofs.Stages.{Of, Kept, beginning, onward, fits_may, next_kept}
+
+append_nil : {A : Type 0} (xs : List A) → xs ++ [] ≡ xs
+append_nil [] = refl
+append_nil (x ∷ xs) = ap (λ ys. x ∷ ys) (append_nil xs)
+
+-- ---- a life so far, and how it may go on
+
+-- the facts end in a call with these points, before which there is a life
+pub record InCall (t : ℕ) (c : Call) (m : Made) (fs : List Fact) : Type 0 where
+  pub before : List Fact
+  pub points : List Act
+  pub all : fs ≡ before ++ Begin t c ∷ made t c points
+  pub of : Of c.action points m
+  pub goes_on : (later : List Fact) → Life t later → Life t (before ++ later)
+
+abbrev pub Past : ℕ → Stage → List Fact → Type 0
+Past t Resting fs = (later : List Fact) → Life t later → Life t (fs ++ later)
+Past t (Calling c m z) fs = InCall t c m fs
+Past t Dying fs = (later : List Fact) → Mourned t later → Life t (fs ++ later)
+Past t Reaped fs = Life t fs
+
+pub whole : (t : ℕ) (s : Stage) (fs : List Fact) → Past t s fs → Life t fs
+whole t Resting fs p = subst (Life t) (append_nil fs) (p [] Rests)
+whole t (Calling c m z) fs p = subst (Life t) (sym p.all) (p.goes_on (Begin t c ∷ made t c p.points) (Stays c p.points (beginning c.action p.points m p.of)))
+whole t Dying fs p = subst (Life t) (append_nil fs) (p [] Unburied)
+whole t Reaped fs p = p
+
+made_more : (t : ℕ) (c : Call) (ps : List Act) (p : Act) → made t c ps ++ Point t (record { action = p.0; mutex = c.mutex }) p.1 ∷ [] ≡ made t c (ps ++ p ∷ [])
+made_more t c [] p = refl
+made_more t c (q ∷ ps) p = ap (λ fs. Point t (record { action = q.0; mutex = c.mutex }) q.1 ∷ fs) (made_more t c ps p)
+
+-- a fact behind a call's points
+behind : (t : ℕ) (c : Call) (fs before : List Fact) (ps : List Act) (f : Fact) (later : List Fact) → fs ≡ before ++ Begin t c ∷ made t c ps → (fs ++ f ∷ []) ++ later ≡ before ++ Begin t c ∷ (made t c ps ++ f ∷ later)
+behind t c fs before ps f later all = append_assoc fs (f ∷ []) later ∙ ap (λ gs. gs ++ f ∷ later) all ∙ append_assoc before (Begin t c ∷ made t c ps) (f ∷ later)
+
+-- the thread's own fact
+own_fact : (t : ℕ) (s : Stage) (f : Fact) (fs : List Fact) → thread_of f ≡ t → is_of_call f ≡ true → May s f → Past t s fs → Past t (next s f) (fs ++ f ∷ [])
+own_fact t Resting (Begin u c) fs is life m p = record {
+  before = fs;
+  points = [];
+  all = ap (λ v. fs ++ Begin v c ∷ []) is;
+  of = refl;
+  goes_on = p;
+}
+own_fact t Resting (Kill u) fs is life m p = λ later h. subst (Life t) (sym (append_assoc fs (Kill u ∷ []) later)) (subst (λ v. Life t (fs ++ Kill v ∷ later)) (sym is) (p (Kill t ∷ later) (Dies later h)))
+own_fact t (Calling c made_so z) (Kill u) fs is life m p = λ later h.
+    subst (Life t) (sym (behind t c fs p.before p.points (Kill u) later p.all))
+    (subst (λ v. Life t (p.before ++ Begin t c ∷ (made t c p.points ++ Kill v ∷ later))) (sym is) (p.goes_on (Begin t c ∷ (made t c p.points ++ Kill t ∷ later)) (Cut c p.points later (beginning c.action p.points made_so p.of) h)))
+own_fact t (Calling c made_so z) (Point u d x) fs is life m p = record {
+  before = p.before;
+  points = p.points ++ (d.action, x) ∷ [];
+  all =
+      let same : d ≡ record { action = d.action; mutex = c.mutex } = λ i. record { action = d.action; mutex = m.1 i } in
+      ap (λ gs. gs ++ Point u d x ∷ []) p.all ∙ append_assoc p.before (Begin t c ∷ made t c p.points) (Point u d x ∷ [])
+      ∙ ap (λ v. p.before ++ Begin t c ∷ (made t c p.points ++ Point v d x ∷ [])) is ∙ ap (λ k. p.before ++ Begin t c ∷ (made t c p.points ++ Point t k x ∷ [])) same
+      ∙ ap (λ gs. p.before ++ Begin t c ∷ gs) (made_more t c p.points (d.action, x));
+  of = onward c.action p.points made_so d.action x p.of m.2;
+  goes_on = p.goes_on;
+}
+own_fact t (Calling c made_so z) (Return u x) fs is life m p = λ later h.
+    subst (Life t) (sym (behind t c fs p.before p.points (Return u x) later p.all))
+    (subst (λ v. Life t (p.before ++ Begin t c ∷ (made t c p.points ++ Return v x ∷ later))) (sym is) (p.goes_on (Begin t c ∷ (made t c p.points ++ Return t x ∷ later)) (Returns c p.points x later (subst (Of c.action p.points) m.1 p.of) h)))
+own_fact t Dying (Death u k) fs is life m p = λ later h. subst (Life t) (sym (append_assoc fs (Death u k ∷ []) later)) (subst (λ v. Life t (fs ++ Death v k ∷ later)) (sym is) (p (Death t k ∷ later) (Tells_of k later h)))
+own_fact t Dying (Reap u) fs is life m p = subst (λ v. Life t (fs ++ Reap v ∷ [])) (sym is) (p (Reap t ∷ []) Buried)
+own_fact t (Calling c made_so z) (Sleep u) fs is life m p = absurd cc
+own_fact t (Calling c made_so z) (Wake u) fs is life m p = absurd cc
+own_fact t (Calling c made_so z) (Move u) fs is life m p = absurd cc
+own_fact t s f fs is life m p = absurd m
+
+-- who sleeps is no part of a life
+quiet_fact : (t : ℕ) (s : Stage) (f : Fact) (fs : List Fact) → is_of_call f ≡ false → May s f → Past t s fs → Past t (next s f) fs
+quiet_fact t (Calling c made_so z) (Sleep u) fs q m p = p
+quiet_fact t (Calling c made_so z) (Wake u) fs q m p = p
+quiet_fact t (Calling c made_so z) (Move u) fs q m p = p
+quiet_fact t (Calling c made_so z) (Kill u) fs q m p = absurd cc
+quiet_fact t (Calling c made_so z) (Point u d x) fs q m p = absurd cc
+quiet_fact t (Calling c made_so z) (Return u x) fs q m p = absurd cc
+quiet_fact t Resting (Begin u c) fs q m p = absurd cc
+quiet_fact t Resting (Kill u) fs q m p = absurd cc
+quiet_fact t Dying (Death u k) fs q m p = absurd cc
+quiet_fact t Dying (Reap u) fs q m p = absurd cc
+quiet_fact t s f fs q m p = absurd m
+
+-- ---- line by line
+
+own-append : (t : ℕ) (xs ys : List Entry) → own t (xs ++ ys) ≡ own t xs ++ own t ys
+own-append t [] ys = refl
+own-append t (x ∷ xs) ys = go (is_of_call x.fact && (thread_of x.fact == t)) (own-append t xs ys) where
+  go : (b : Bool) → own t (xs ++ ys) ≡ own t xs ++ own t ys → (if b then x.fact ∷ own t (xs ++ ys) else own t (xs ++ ys)) ≡ (if b then x.fact ∷ own t xs else own t xs) ++ own t ys
+  go true e = ap (λ fs. x.fact ∷ fs) e
+  go false e = e
+
+own-newest : (t : ℕ) (e : Entry) (es : List Entry) → own t (reverse (e ∷ es)) ≡ own t (reverse es) ++ own t (e ∷ [])
+own-newest t e es = ap (own t) (reverse-append (e ∷ []) es) ∙ own-append t (reverse es) (e ∷ [])
+
+-- how far thread t has come after these lines
+pub record Lived (t : ℕ) (told : List Entry) : Type 0 where
+  pub stage : Stage
+  pub kept : Kept stage (told_of t told)
+  pub past : Past t stage (own t (reverse told))
+
+step : (t : ℕ) (e : Entry) (es : List Entry) (fits : FitsThread (told_of (thread_of e.fact) es) e.fact) → Lived t es → Lived t (e ∷ es)
+step t e es fits l = by_thread (thread_of e.fact == t) refl where
+  by_call : (u : thread_of e.fact ≡ t) (w : Bool) → is_of_call e.fact ≡ w → May l.stage e.fact → Past t (next l.stage e.fact) (own t (reverse es) ++ (if w && true then e.fact ∷ [] else []))
+  by_call u true is may = own_fact t l.stage e.fact (own t (reverse es)) u is may l.past
+  by_call u false is may = subst (Past t (next l.stage e.fact)) (sym (append_nil (own t (reverse es)))) (quiet_fact t l.stage e.fact (own t (reverse es)) is may l.past)
+
+  by_thread : (b : Bool) → (thread_of e.fact == t) ≡ b → Lived t (e ∷ es)
+  by_thread true is =
+      let u : thread_of e.fact ≡ t = grind (arith, nat_tests) in
+      let may = fits_may l.stage e.fact (told_of t es) l.kept (subst (λ v. FitsThread (told_of v es) e.fact) u fits) in
+      record {
+        stage = next l.stage e.fact;
+        kept = subst (λ b. Kept (next l.stage e.fact) (if b then e.fact ∷ told_of t es else told_of t es)) (sym is) (next_kept l.stage e.fact (told_of t es) l.kept may);
+        past = subst (Past t (next l.stage e.fact)) (sym (own-newest t e es)) (subst (λ b. Past t (next l.stage e.fact) (own t (reverse es) ++ (if is_of_call e.fact && b then e.fact ∷ [] else []))) (sym is) (by_call u (is_of_call e.fact) refl may));
+      }
+  by_thread false is = record {
+    stage = l.stage;
+    kept = subst (λ b. Kept l.stage (if b then e.fact ∷ told_of t es else told_of t es)) (sym is) l.kept;
+    past = subst (Past t l.stage) (sym (own-newest t e es)) (subst (λ b. Past t l.stage (own t (reverse es) ++ (if is_of_call e.fact && b then e.fact ∷ [] else []))) (sym is) (silent (is_of_call e.fact)));
+  }
+    where
+      silent : (w : Bool) → Past t l.stage (own t (reverse es) ++ (if w && false then e.fact ∷ [] else []))
+      silent true = subst (Past t l.stage) (sym (append_nil (own t (reverse es)))) l.past
+      silent false = subst (Past t l.stage) (sym (append_nil (own t (reverse es)))) l.past
+
+pub lived : (n t : ℕ) (told : List Entry) → AllFit n told → Lived t told
+lived n t [] fit = record { stage = Resting; kept = (refl, refl, refl, refl); past = λ later h. h }
+lived n t (e ∷ es) fit = step t e es fit.0.of_thread (lived n t es fit.1)
+
+pub lives : (n : ℕ) (told : List Entry) → AllFit n told → (t : ℕ) → Life t (own t (reverse told))
+lives n told fit t = let l = lived n t told fit in whole t l.stage (own t (reverse told)) l.past

@@ -1,0 +1,43 @@
+-- A text from its first line on.
+use Rattle.std.proofs.Common.{◌≡◌, inl, inr, ℕ, ◌<◌, ◌≤◌, ◌==◌, List, [], ◌∷◌, length, Result, Ok, Err, IfErr, refl, sym, ap, subst, ◌∙◌, arith}
+use Rattle.std.specs.Result.{IsOk}
+use Rattle.script.specs.Forms.{lines_of}
+use Rattle.script.specs.Reading.{◌>>=◌}
+use Rattle.script.proofs.Cutting.{one_or_more}
+use Rattle.verdict.specs.declared.entry.Head.{Head}
+use Rattle.verdict.specs.declared.fault.Fault.{Fault}
+use Rattle.verdict.specs.declared.fault.TraceFault.{TraceFault}
+use Rattle.verdict.specs.declared.checking.Pass.{Pass}
+use Rattle.verdict.specs.declared.checking.Verdict.{Verdict}
+use Rattle.verdict.specs.Reading.{Trace, met_at, fault_at, head_read, lines_read, text_read}
+use Rattle.verdict.specs.Verdicts.{Answers}
+use Rattle.verdict.specs.Passes.{AnswersLines, MakesPass}
+use Rattle.verdict.proofs.Lines.{faults_from}
+
+unrolled : (text : List ℕ) (ls : List (List ℕ)) → 1 ≤ length ls → text_read (text ∷ ls) ≡ (met_at 1 (head_read text) >>= λ h. lines_read 2 h [] ls)
+unrolled text [] long = absurd (omega (arith, long))
+unrolled text (l ∷ ls) long = refl
+
+whole : (text first rest : List ℕ) → lines_of text ≡ first ∷ lines_of rest → text_read (lines_of text) ≡ (met_at 1 (head_read first) >>= λ h. lines_read 2 h [] (lines_of rest))
+whole text first rest parts = ap text_read parts ∙ unrolled first (lines_of rest) (one_or_more (λ b. b == 10) rest)
+
+lift : (said : Result Trace TraceFault) (r : Result Verdict TraceFault) → AnswersLines said r → Answers said r
+lift said (Ok v) a = a
+lift said (Err e) a = inl a
+
+pub answered : (text first rest : List ℕ) (p : Pass) (r : Result Verdict TraceFault) → lines_of text ≡ first ∷ lines_of rest → head_read first ≡ Ok p.judge.head → AnswersLines (lines_read 2 p.judge.head [] (lines_of rest)) r → Answers (text_read (lines_of text)) r
+answered text first rest p r parts head a =
+    let same : text_read (lines_of text) ≡ lines_read 2 p.judge.head [] (lines_of rest) = whole text first rest parts ∙ ap (λ x. met_at 1 x >>= λ h. lines_read 2 h [] (lines_of rest)) head in
+    subst (λ said. Answers said r) (sym same) (lift (lines_read 2 p.judge.head [] (lines_of rest)) r a)
+
+later : (r : Result Trace TraceFault) → IfErr r (λ e. 2 ≤ e.line) → IfErr r (λ e. 1 < e.line)
+later (Ok t) h = tt
+later (Err e) h = omega (arith, h)
+
+pub refused : (text first rest : List ℕ) (f : Fault) → lines_of text ≡ first ∷ lines_of rest → MakesPass (head_read first) (Err f) → Answers (text_read (lines_of text)) (Err (fault_at 1 f))
+refused text first rest f parts (inl e) = inl (whole text first rest parts ∙ ap (λ x. met_at 1 x >>= λ h. lines_read 2 h [] (lines_of rest)) e)
+refused text first rest f parts (inr e) = inr (ap (fault_at 1) e.0, subst (λ said. IfErr said (λ x. 1 < x.line)) (sym (whole text first rest parts)) (go (head_read first) e.1))
+  where
+    go : (r : Result Head Fault) → IsOk r → IfErr (met_at 1 r >>= λ h. lines_read 2 h [] (lines_of rest)) (λ x. 1 < x.line)
+    go (Ok h) ok = later (lines_read 2 h [] (lines_of rest)) (faults_from 2 h [] (lines_of rest))
+    go (Err g) ok = absurd cc

@@ -1,0 +1,84 @@
+-- What the lines before a line tell. They stand newest first.
+use Rattle.std.specs.Prelude.{ℕ, Bool, true, false, ◌==◌, Option, Some, None, List, [], ◌∷◌, ◌++◌, if◌then◌else◌}
+use Rattle.lockword.specs.declared.reply.Reply.{Reply}
+use Rattle.lockword.specs.declared.reply.Reply.TheVariants.{OK, EOWNERDEAD}
+use Rattle.keys.specs.declared.object.Object.{Object}
+use Rattle.keys.specs.declared.point.Operation.{Operation}
+use Rattle.keys.specs.declared.point.Operation.TheVariants as operation
+use Rattle.keys.specs.declared.point.Decision.{Decision}
+use Rattle.keys.specs.Objects.{owned_by, freed, declared_consistent, bereaved}
+use Rattle.keys.specs.Histories.{opening}
+use Rattle.verdict.specs.declared.entry.Call.{Call}
+use Rattle.verdict.specs.declared.entry.Fact.{Fact}
+use Rattle.verdict.specs.declared.entry.Fact.TheVariants.{Begin, Kill, Point, Sleep, Wake, Return, Reap}
+use Rattle.verdict.specs.declared.entry.Entry.{Entry}
+use Rattle.verdict.specs.Facts.{thread_of, decision_of}
+use Rattle.verdict.specs.Calls.{Act}
+
+-- ---- one thread
+
+-- what is told of thread t
+abbrev pub told_of : ℕ → List Entry → List Fact
+told_of t [] = []
+told_of t (e ∷ es) = if thread_of e.fact == t then e.fact ∷ told_of t es else told_of t es
+
+-- the call in which a thread is, of which these facts are told: it began, and has neither returned nor been cut by a kill
+abbrev pub call_in : List Fact → Option Call
+call_in [] = None
+call_in (Begin t c ∷ fs) = Some c
+call_in (Return t x ∷ fs) = None
+call_in (Kill t ∷ fs) = None
+call_in (f ∷ fs) = call_in fs
+
+-- the points since its call began, the oldest first
+abbrev pub points_in : List Fact → List Act
+points_in [] = []
+points_in (Begin t c ∷ fs) = []
+points_in (Point t c x ∷ fs) = points_in fs ++ (c.action, x) ∷ []
+points_in (f ∷ fs) = points_in fs
+
+-- it fell asleep, and nobody has woken it; a kill ends sleep
+abbrev pub is_asleep : List Fact → Bool
+is_asleep [] = false
+is_asleep (Sleep t ∷ fs) = true
+is_asleep (Wake t ∷ fs) = false
+is_asleep (Kill t ∷ fs) = false
+is_asleep (f ∷ fs) = is_asleep fs
+
+abbrev pub is_killed : List Fact → Bool
+is_killed [] = false
+is_killed (Kill t ∷ fs) = true
+is_killed (f ∷ fs) = is_killed fs
+
+abbrev pub is_reaped : List Fact → Bool
+is_reaped [] = false
+is_reaped (Reap t ∷ fs) = true
+is_reaped (f ∷ fs) = is_reaped fs
+
+-- ---- the mutexes
+
+-- what an object becomes by a step that thread t's operation makes with this reply
+abbrev pub changed : Object → ℕ → Operation → Reply → Object
+changed o t operation.Lock OK = owned_by o t
+changed o t operation.Lock EOWNERDEAD = owned_by o t
+changed o t operation.TryLock OK = owned_by o t
+changed o t operation.TryLock EOWNERDEAD = owned_by o t
+changed o t operation.Unlock OK = freed o
+changed o t operation.Consistent OK = declared_consistent o
+changed o t operation.Death OK = bereaved o
+changed o t op x = o
+
+-- a step changes its own mutex
+abbrev pub moved : (ℕ → Object) → Option Decision → ℕ → Object
+moved os None m = os m
+moved os (Some d) m = if m == d.mutex then changed (os m) d.thread d.operation d.reply else os m
+
+-- the objects as points and deaths left them
+abbrev pub objects_after : List Entry → ℕ → Object
+objects_after [] = opening
+objects_after (e ∷ es) = moved (objects_after es) (decision_of e.fact)
+
+-- the number of the newest event
+abbrev pub latest : List Entry → ℕ
+latest [] = 0
+latest (e ∷ es) = e.event

@@ -1,0 +1,77 @@
+-- What the checker keeps of the lines so far.
+use Rattle.std.specs.Prelude.{ℕ, ◌≡◌, ◌+◌, ◌<◌, ◌≤◌, Bool, true, false, List, length, slice_index_or, slice_index, slice_set}
+use Rattle.keys.specs.declared.object.Object.{Object}
+use Rattle.keys.specs.Objects.{fresh}
+use Rattle.keys.specs.Histories.{held_by}
+use Rattle.verdict.specs.declared.entry.Head.{Head}
+use Rattle.verdict.specs.declared.entry.Fact.{Fact}
+use Rattle.verdict.specs.declared.entry.Fact.TheVariants.{Point, Death}
+use Rattle.verdict.specs.declared.entry.Entry.{Entry}
+use Rattle.verdict.specs.declared.stage.Stage.{Stage}
+use Rattle.verdict.specs.declared.stage.Stage.TheVariants.{Resting}
+use Rattle.verdict.specs.declared.judge.Judge.{Judge}
+use Rattle.verdict.specs.declared.reading.Line.{Line}
+use Rattle.verdict.specs.declared.reading.Line.TheVariants.{Told, End}
+use Rattle.verdict.specs.Facts.{thread_of, decision_of}
+use Rattle.verdict.specs.Earlier.{moved}
+use Rattle.verdict.specs.Fits.{Allows, OwnsNothing}
+use Rattle.verdict.specs.Stages.{May, next}
+use Rattle.verdict.specs.Places.{Stands, placed, nowhere}
+
+abbrev pub one : Bool → ℕ
+one true = 1
+one false = 0
+
+abbrev pub object_at : List Object → ℕ → Object
+object_at os m = slice_index_or os m fresh
+
+abbrev pub stage_at : List Stage → ℕ → Stage
+stage_at ss t = slice_index_or ss t Resting
+
+-- each thread's count is that of the mutexes that it owns
+abbrev pub AreCounted : List ℕ → List Object → Type 0
+AreCounted held os = (t : ℕ) → t < length held → slice_index held t ≡ held_by t (object_at os) (length os)
+
+-- the mutex that a fact's point or death is of is one of these
+abbrev pub IsMutex : ℕ → Fact → Type 0
+IsMutex n (Point t c x) = c.mutex < n
+IsMutex n (Death t m) = m < n
+IsMutex n f = Unit {0}
+
+-- the fact is of a thread below `threads`, and of one of these mutexes
+abbrev pub IsInside : ℕ → ℕ → Fact → Type 0
+IsInside threads n f = (thread_of f < threads) × IsMutex n f
+
+-- what a line behind the head can tell
+abbrev pub IsLine : Head → Line → Type 0
+IsLine h (Told e) = (1 ≤ e.event) × IsInside (h.threads + 1) h.mutexes e.fact
+IsLine h (End n) = Unit {0}
+
+-- there is room for each thread and mutex, and counts are right
+pub record IsSound (j : Judge) : Type 0 where
+  pub few : length j.objects.items ≤ 4096
+  pub each_held : length j.held.items ≡ length j.stages.items
+  pub counted : AreCounted j.held.items j.objects.items
+
+-- an entry goes with what is kept
+pub record Accepts (j : Judge) (e : Entry) : Type 0 where
+  pub stands : Stands j.place e
+  pub may : May (stage_at j.stages.items (thread_of e.fact)) e.fact
+  pub allowed : Allows (length j.objects.items) (object_at j.objects.items) (decision_of e.fact)
+  pub reaped : OwnsNothing (length j.objects.items) (object_at j.objects.items) e.fact
+
+-- and is kept
+pub record Moves (j : Judge) (e : Entry) (k : Judge) : Type 0 where
+  pub place : k.place ≡ placed j.place e
+  pub stages : k.stages.items ≡ slice_set j.stages.items (thread_of e.fact) (next (stage_at j.stages.items (thread_of e.fact)) e.fact)
+  pub objects : object_at k.objects.items ≡ moved (object_at j.objects.items) (decision_of e.fact)
+
+-- before the first line behind the head
+pub record IsNew (h : Head) (j : Judge) : Type 0 where
+  pub head : j.head ≡ h
+  pub place : j.place ≡ nowhere
+  pub stages : (t : ℕ) → stage_at j.stages.items t ≡ Resting
+  pub objects : (m : ℕ) → object_at j.objects.items m ≡ fresh
+  pub each_stage : length j.stages.items ≡ h.threads + 1
+  pub each_object : length j.objects.items ≡ h.mutexes
+  pub sound : IsSound j

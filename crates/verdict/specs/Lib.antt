@@ -1,0 +1,14 @@
+pub mod Faults
+pub mod Facts
+pub mod Forms
+pub mod Words
+pub mod Reading
+pub mod Calls
+pub mod Earlier
+pub mod Fits
+pub mod Stages
+pub mod Places
+pub mod Judges
+pub mod Verdicts
+pub mod Passes
+pub mod Explained

@@ -1,0 +1,128 @@
+-- What a trace says, and its first fault: each line in turn.
+use Rattle.std.specs.Prelude.{ℕ, ◌+◌, ◌≤◌, nat_lt, List, [], ◌∷◌, length, Option, Some, None, Result, Ok, Err, if◌then◌else◌}
+use Rattle.std.specs.Option.{ok_or}
+use Rattle.std.specs.Str.{is_utf8}
+use Rattle.script.specs.Forms.{within, lines_of, words_of}
+use Rattle.script.specs.Reading.{◌>>=◌, bad_line}
+use Rattle.verdict.specs.Forms.{head_form, form_of}
+use Rattle.verdict.specs.Forms.{◌>>=◌ as ◌>>?◌}
+use Rattle.verdict.specs.declared.entry.Head.{Head}
+use Rattle.verdict.specs.declared.entry.Action.{Action}
+use Rattle.verdict.specs.declared.entry.Call.{Call}
+use Rattle.verdict.specs.declared.entry.Fact.{Fact}
+use Rattle.verdict.specs.declared.entry.Fact.TheVariants as fact
+use Rattle.verdict.specs.declared.entry.Entry.{Entry}
+use Rattle.verdict.specs.declared.form.Said.{Said}
+use Rattle.verdict.specs.declared.form.Said.TheVariants as said
+use Rattle.verdict.specs.declared.form.Form.{Form}
+use Rattle.verdict.specs.declared.form.Form.TheVariants as form
+use Rattle.verdict.specs.declared.form.HeadForm.{HeadForm}
+use Rattle.verdict.specs.declared.reading.Line.{Line}
+use Rattle.verdict.specs.declared.reading.Line.TheVariants as line
+use Rattle.verdict.specs.declared.fault.Fault.{Fault}
+use Rattle.verdict.specs.declared.fault.Fault.TheVariants.{NotUtf8, UnknownWord, OutOfRange, TooLong, Cut}
+use Rattle.verdict.specs.declared.fault.TraceFault.{TraceFault}
+use Rattle.verdict.specs.declared.limits.TheConstants.{MAX_BYTES, MAX_THREADS, MAX_MUTEXES, MAX_CONDITIONS, MAX_EVENTS}
+
+-- a trace that was read: its first line, what its lines tell, the newest first, and the number on its last line
+pub record Trace : Type 0 where
+  pub head : Head
+  pub told : List Entry
+  pub last : ℕ
+
+-- its numbers are in their ranges
+pub record IsHead (h : Head) : Type 0 where
+  pub some_thread : 1 ≤ h.threads
+  pub few_threads : h.threads ≤ MAX_THREADS
+  pub some_mutex : 1 ≤ h.mutexes
+  pub few_mutexes : h.mutexes ≤ MAX_MUTEXES
+
+-- ---- numbers in their ranges
+
+-- the number, where it is in the range; None where the line spells none that is
+abbrev pub number_in : ℕ → ℕ → Option ℕ → Option ℕ
+number_in low high n = n >>? within low high
+
+abbrev pub below : ℕ → ℕ → Option ℕ
+below count n = if nat_lt n count then Some n else None
+
+abbrev pub below_in : ℕ → Option ℕ → Option ℕ
+below_in count n = n >>? below count
+
+abbrev pub head_in : HeadForm → Option Head
+head_in f = number_in 1 MAX_THREADS f.threads >>? λ t. number_in 1 MAX_MUTEXES f.mutexes >>? λ m. number_in 0 MAX_CONDITIONS f.conditions >>? λ c. Some (record { threads = t; mutexes = m; conditions = c })
+
+-- threads are numbered from 1
+abbrev pub thread_in : Head → Option ℕ → Option ℕ
+thread_in h n = number_in 1 h.threads n
+
+-- mutexes and condition variables are numbered from 0
+abbrev pub call_in : Head → Action → Option ℕ → Option Call
+call_in h a n = below_in h.mutexes n >>? λ m. Some (record { action = a; mutex = m })
+
+abbrev pub fact_in : Head → Said → Option Fact
+fact_in h (said.Begin t a m) = thread_in h t >>? λ u. call_in h a m >>? λ c. Some (fact.Begin u c)
+fact_in h (said.BeginOn t a k m) = thread_in h t >>? λ u. below_in h.conditions k >>? λ _. call_in h a m >>? λ c. Some (fact.Begin u c)
+fact_in h (said.Kill t) = thread_in h t >>? λ u. Some (fact.Kill u)
+fact_in h (said.Point t m a x) = thread_in h t >>? λ u. call_in h a m >>? λ c. Some (fact.Point u c x)
+fact_in h (said.Death t m) = thread_in h t >>? λ u. below_in h.mutexes m >>? λ k. Some (fact.Death u k)
+fact_in h (said.Sleep t m) = thread_in h t >>? λ u. below_in h.mutexes m >>? λ _. Some (fact.Sleep u)
+fact_in h (said.SleepOn t k) = thread_in h t >>? λ u. below_in h.conditions k >>? λ _. Some (fact.Sleep u)
+fact_in h (said.Wake t) = thread_in h t >>? λ u. Some (fact.Wake u)
+fact_in h (said.Move t m) = thread_in h t >>? λ u. below_in h.mutexes m >>? λ _. Some (fact.Move u)
+fact_in h (said.Return t x) = thread_in h t >>? λ u. Some (fact.Return u x)
+fact_in h (said.Reap t) = thread_in h t >>? λ u. Some (fact.Reap u)
+
+abbrev pub line_in : Head → Form → Option Line
+line_in h (form.Told n s) = number_in 1 MAX_EVENTS n >>? λ i. fact_in h s >>? λ f. Some (line.Told (record { event = i; fact = f }))
+line_in h (form.End n) = n >>? λ i. Some (line.End i)
+
+-- ---- line after line
+
+-- the first line, which a line feed ends
+abbrev pub head_read : List ℕ → Result Head Fault
+head_read text = ok_or (head_form (words_of text)) UnknownWord >>= λ f. ok_or (head_in f) OutOfRange
+
+-- a line behind the first, which a line feed ends
+abbrev pub line_read : Head → List ℕ → Result Line Fault
+line_read h text = ok_or (form_of text) UnknownWord >>= λ f. ok_or (line_in h f) OutOfRange
+
+-- a fault at line n
+abbrev pub fault_at : ℕ → Fault → TraceFault
+fault_at n f = record { line = n; fault = f }
+
+abbrev pub met_at : {A : Type 0} → ℕ → Result A Fault → Result A TraceFault
+met_at n (Ok x) = Ok x
+met_at n (Err f) = Err (fault_at n f)
+
+-- nothing stands behind a line feed, though there was no `end` line; or something stands there, which no line feed ends
+abbrev pub unended : List ℕ → Fault
+unended [] = Cut
+unended (b ∷ bs) = UnknownWord
+
+-- nothing stands behind the `end` line; where something does, it is at line n
+abbrev pub ended : ℕ → Head → List Entry → ℕ → List (List ℕ) → Result Trace TraceFault
+ended n h told i ([] ∷ []) = Ok (record { head = h; told = told; last = i })
+ended n h told i _ = Err (fault_at n Cut)
+
+-- what follows a line: the lines behind it, the first of which is line n
+abbrev pub goes_on : ℕ → Head → List Entry → List (List ℕ) → (Entry → Result Trace TraceFault) → Line → Result Trace TraceFault
+goes_on n h told ls more (line.Told e) = more e
+goes_on n h told ls more (line.End i) = ended n h told i ls
+
+-- these lines, the first of which is line n, behind a first line and what the lines behind that one told; what stands behind the last line feed is the last of them
+unfoldable pub lines_read : ℕ → Head → List Entry → List (List ℕ) → Result Trace TraceFault
+lines_read n h told [] = Err (fault_at n Cut)
+lines_read n h told (text ∷ []) = Err (fault_at n (unended text))
+lines_read n h told (text ∷ next ∷ more) = met_at n (line_read h text) >>= goes_on (n + 1) h told (next ∷ more) (λ e. lines_read (n + 1) h (e ∷ told) (next ∷ more))
+
+-- a text from its first line to its last
+abbrev pub text_read : List (List ℕ) → Result Trace TraceFault
+text_read [] = Err (fault_at 1 Cut)
+text_read (text ∷ []) = Err (fault_at 1 (unended text))
+text_read (text ∷ next ∷ more) = met_at 1 (head_read text) >>= λ h. lines_read 2 h [] (next ∷ more)
+
+-- the trace that the bytes are, or their first fault
+abbrev pub trace_read : List ℕ → Result Trace TraceFault
+trace_read bytes = if nat_lt MAX_BYTES (length bytes) then Err (fault_at 1 TooLong)
+    else (if is_utf8 bytes then text_read (lines_of bytes) else Err (fault_at (bad_line bytes) NotUtf8))

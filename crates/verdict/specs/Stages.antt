@@ -1,0 +1,50 @@
+-- What the checker keeps of a thread.
+use Rattle.std.specs.Prelude.{◌≡◌, true, false}
+use Rattle.lockword.specs.declared.reply.Reply.{Reply}
+use Rattle.lockword.specs.declared.reply.Reply.TheVariants.{OK}
+use Rattle.verdict.specs.declared.entry.Action.{Action}
+use Rattle.verdict.specs.declared.entry.Action.TheVariants.{Lock, Unlock, Wait}
+use Rattle.verdict.specs.declared.entry.Fact.{Fact}
+use Rattle.verdict.specs.declared.entry.Fact.TheVariants.{Begin, Kill, Point, Death, Sleep, Wake, Move, Return, Reap}
+use Rattle.verdict.specs.declared.stage.Made.{Made}
+use Rattle.verdict.specs.declared.stage.Made.TheVariants.{Nothing, Released, Decided}
+use Rattle.verdict.specs.declared.stage.Stage.{Stage}
+use Rattle.verdict.specs.declared.stage.Stage.TheVariants.{Resting, Calling, Dying, Reaped}
+
+-- the next point of a call of which these are made
+abbrev pub MayPoint : Action → Made → Action → Reply → Type 0
+MayPoint Wait Nothing Wait x = Unit {0}
+MayPoint Wait Nothing Unlock x = x ≡ OK
+MayPoint Wait Released b x = b ≡ Lock
+MayPoint a Nothing b x = b ≡ a
+MayPoint a made b x = ⊥
+
+-- how far a point brings a call
+abbrev pub pointed : Action → Action → Reply → Made
+pointed Wait Unlock x = Released
+pointed a b x = Decided x
+
+-- what may be told of a thread at a stage
+abbrev pub May : Stage → Fact → Type 0
+May Resting (Begin t c) = Unit {0}
+May Resting (Kill t) = Unit {0}
+May (Calling c made asleep) (Kill t) = Unit {0}
+May (Calling c made asleep) (Point t k x) = (asleep ≡ false) × (k.mutex ≡ c.mutex) × MayPoint c.action made k.action x
+May (Calling c made asleep) (Sleep t) = asleep ≡ false
+May (Calling c made asleep) (Wake t) = asleep ≡ true
+May (Calling c made asleep) (Move t) = asleep ≡ true
+May (Calling c made asleep) (Return t x) = (asleep ≡ false) × (made ≡ Decided x)
+May Dying (Death t m) = Unit {0}
+May Dying (Reap t) = Unit {0}
+May stage f = ⊥
+
+-- and where it leaves the thread
+abbrev pub next : Stage → Fact → Stage
+next stage (Begin t c) = Calling c Nothing false
+next stage (Kill t) = Dying
+next stage (Return t x) = Resting
+next stage (Reap t) = Reaped
+next (Calling c made asleep) (Point t k x) = Calling c (pointed c.action k.action x) asleep
+next (Calling c made asleep) (Sleep t) = Calling c made true
+next (Calling c made asleep) (Wake t) = Calling c made false
+next stage f = stage

@@ -1,0 +1,53 @@
+-- When a trace is legal, and which line is the first that isn't.
+use Rattle.std.specs.Prelude.{ℕ, ◌≡◌, ◌+◌, ◌<◌, ◌≤◌, ◌⊎◌, List, [], ◌∷◌, ◌++◌, length, Result, Ok, Err, IfErr, if◌then◌else◌}
+use Rattle.verdict.specs.declared.entry.Entry.{Entry}
+use Rattle.verdict.specs.declared.checking.Verdict.{Verdict}
+use Rattle.verdict.specs.declared.checking.Verdict.TheVariants.{Legal, Illegal}
+use Rattle.verdict.specs.declared.fault.Fault.TheVariants.{OutOfMemory}
+use Rattle.verdict.specs.declared.fault.TraceFault.{TraceFault}
+use Rattle.verdict.specs.Reading.{Trace, fault_at}
+use Rattle.verdict.specs.Facts.{is_point}
+use Rattle.verdict.specs.Earlier.{latest}
+use Rattle.verdict.specs.Fits.{Fits}
+use Rattle.verdict.specs.Explained.{Explains}
+
+-- each line fits those before it; n is the number of mutexes
+abbrev pub AllFit : ℕ → List Entry → Type 0
+AllFit n [] = Unit {0}
+AllFit n (e ∷ es) = Fits n es e × AllFit n es
+
+-- how many of the lines tell of a point
+abbrev pub point_lines : List Entry → ℕ
+point_lines [] = 0
+point_lines (e ∷ es) = if is_point e.fact then 1 + point_lines es else point_lines es
+
+-- every line fits, and the number on the last line isn't below the last event's; so the trace explains itself
+pub record IsLegal (t : Trace) : Type 0 where
+  pub fits : AllFit t.head.mutexes t.told
+  pub ends : latest t.told ≤ t.last
+  pub explained : Explains t.head.mutexes t.told
+
+-- of these lines, which stand newest first, this is the first that doesn't fit those before it; line 2 is the first behind the head
+pub record IsFirstMisfit (n : ℕ) (told : List Entry) (line : ℕ) : Type 0 where
+  pub newer : List Entry
+  pub misfit : Entry
+  pub earlier : List Entry
+  pub all : told ≡ newer ++ misfit ∷ earlier
+  pub fit : AllFit n earlier
+  pub fails : Fits n earlier misfit → ⊥
+  pub here : line ≡ length earlier + 2
+
+-- all fit, and the number on the last line, which is this line, is below the last event's
+pub record IsShort (t : Trace) (line : ℕ) : Type 0 where
+  pub fit : AllFit t.head.mutexes t.told
+  pub below : t.last < latest t.told
+  pub here : line ≡ length t.told + 2
+
+abbrev pub IsJudged : Trace → Verdict → Type 0
+IsJudged t (Legal points) = IsLegal t × (points ≡ point_lines t.told)
+IsJudged t (Illegal line) = IsFirstMisfit t.head.mutexes t.told line ⊎ IsShort t line
+
+-- what is answered where the bytes say this: the verdict on the trace that they are; their first fault; or want of memory at line 1, where that line has no fault
+abbrev pub Answers : Result Trace TraceFault → Result Verdict TraceFault → Type 0
+Answers said (Ok v) = (t : Trace) × (said ≡ Ok t) × IsJudged t v
+Answers said (Err e) = (said ≡ Err e) ⊎ ((e ≡ fault_at 1 OutOfMemory) × IfErr said (λ first. 1 < first.line))

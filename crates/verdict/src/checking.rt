@@ -1,0 +1,192 @@
+//! Reading and judging a trace from its first byte to its last.
+
+ghost use Rattle.std.specs.Prelude.{◌≡◌, ◌+◌, ◌<◌, ◌≤◌, ◌==◌, nat_lt, [], length, take, count_by, IfOk};
+ghost use Rattle.script.specs.Forms.{lines_of};
+ghost use Rattle.verdict.specs.Judges.{IsInside, IsSound};
+ghost use Rattle.verdict.specs.Passes.{AnswersLines, IsFresh, MakesPass, Takes, verdict_of};
+ghost use Rattle.verdict.specs.Reading.{IsHead, head_read, lines_read, text_read, trace_read, unended};
+ghost use Rattle.verdict.specs.Verdicts.{Answers};
+
+use crate::entry::{Entry, Head};
+use crate::fault::{Fault, TraceFault};
+use crate::judge::Judge;
+use crate::limits::MAX_BYTES;
+use crate::reading::{Line, head_of, line_of};
+use crate::words::cut;
+use std::alloc::{AllocError, Global};
+
+/// What a trace without fault is found to be.
+#[derive(Clone, Copy, Debug, PartialEq, Eq)]
+pub enum Verdict {
+    /// Each line fits those before it.
+    Legal {
+        /// How many of its lines tell of a point.
+        points: usize,
+    },
+    /// A line doesn't fit.
+    Illegal {
+        /// The first such line, from 1.
+        line: usize,
+    },
+}
+
+/// A pass over the lines of a trace.
+#[derive(Drop)]
+pub struct Pass {
+    /// What the lines told that fit.
+    pub judge: Judge,
+    pub points: usize,
+    /// The first line that doesn't fit.
+    pub illegal: Option<usize>,
+}
+
+impl Pass {
+    /// Before the first line behind the head.
+    fn new(alloc: Global, head: Head) -> Result<Pass, AllocError>
+        requires { IsHead head }
+        ensures { IfOk result (λ p. IsFresh p × (p.judge.head ≡ head)) }
+    {
+        Ok(Pass {
+            judge: Judge::new(alloc, head)?,
+            points: 0,
+            illegal: None,
+        })
+    }
+
+    /// Judges the entry at this line, unless a line before it didn't fit.
+    fn take(&mut self, line: usize, entry: &Entry)
+        requires sound { IsSound self.old.judge }
+        requires inside { IsInside (length self.old.judge.stages.items) (length self.old.judge.objects.items) entry.now.fact }
+        requires room { self.old.points < MAX_BYTES }
+        ensures takes { Takes self.old line entry.now self.new }
+        ensures sound { IsSound self.new.judge }
+        ensures head { self.new.judge.head ≡ self.old.judge.head }
+        ensures stages { length self.new.judge.stages.items ≡ length self.old.judge.stages.items }
+        ensures objects { length self.new.judge.objects.items ≡ length self.old.judge.objects.items }
+        ensures points { self.new.points ≤ self.old.points + 1 }
+    {
+        if self.illegal.is_some() {
+            return;
+        }
+        if !self.judge.accept(entry) {
+            self.illegal = Some(line);
+            return;
+        }
+        if entry.fact.is_point() {
+            self.points += 1;
+        }
+    }
+
+    /// The verdict at the last line, which has this number of events.
+    fn verdict(&self, line: usize, last: u32) -> Verdict
+        ensures { result ≡ verdict_of self.now.illegal self.now.points line (nat_lt last self.now.judge.place.event) }
+    {
+        match self.illegal {
+            Some(line) => Verdict::Illegal { line },
+            None => {
+                if last < self.judge.place.event {
+                    Verdict::Illegal { line }
+                } else {
+                    Verdict::Legal {
+                        points: self.points,
+                    }
+                }
+            }
+        }
+    }
+}
+
+/// What is wrong with what stands behind the last line feed, where there was no `end` line.
+fn unended_by(rest: &str) -> Fault
+    ensures { result ≡ unended rest.now }
+{
+    match rest.as_bytes() {
+        [] => Fault::Cut,
+        [_, ..] => Fault::UnknownWord,
+    }
+}
+
+fn judge_lines(mut pass: Pass, text: &str) -> Result<Verdict, TraceFault>
+    requires fresh { IsFresh pass }
+    requires small { length text.now ≤ MAX_BYTES }
+    ensures { AnswersLines (lines_read 2 pass.judge.head [] (lines_of text.now)) result }
+{
+    let mut line = 2;
+    let mut rest = text;
+    while let Some((first, after)) = cut(rest, '\n') {
+        let read = match line_of(&pass.judge.head, first) {
+            Ok(read) => read,
+            Err(fault) => return Err(TraceFault { line, fault }),
+        };
+        match read {
+            Line::Told(entry) => pass.take(line, &entry),
+            Line::End(last) => {
+                if after.is_empty() {
+                    return Ok(pass.verdict(line, last));
+                }
+                return Err(TraceFault {
+                    line: line + 1,
+                    fault: Fault::Cut,
+                });
+            }
+        }
+        line += 1;
+        rest = after;
+    }
+    Err(TraceFault {
+        line,
+        fault: unended_by(rest),
+    })
+}
+
+fn pass_of(alloc: Global, text: &str) -> Result<Pass, Fault>
+    ensures { MakesPass (head_read text.now) result }
+{
+    let head = head_of(text)?;
+    Ok(Pass::new(alloc, head)?)
+}
+
+fn check_text(alloc: Global, text: &str) -> Result<Verdict, TraceFault>
+    requires { length text.now ≤ MAX_BYTES }
+    ensures { Answers (text_read (lines_of text.now)) result }
+{
+    let Some((first, rest)) = cut(text, '\n') else {
+        return Err(TraceFault {
+            line: 1,
+            fault: unended_by(text),
+        });
+    };
+    match pass_of(alloc, first) {
+        Ok(pass) => judge_lines(pass, rest),
+        Err(fault) => Err(TraceFault { line: 1, fault }),
+    }
+}
+
+/// The line of the byte at `len`.
+fn line_at(bytes: &[u8], len: usize) -> usize
+    requires at { len ≤ length bytes.now }
+    requires small { length bytes.now ≤ MAX_BYTES }
+    ensures { result ≡ count_by (λ b. b == 10) (take len bytes.now) + 1 }
+{
+    bytes[..len].iter().filter(|b| **b == b'\n').count() + 1
+}
+
+/// Whether the bytes are a legal trace, or the first line that doesn't fit those before it; where they are no trace, their first fault,
+/// wherever a line doesn't fit. Only want of memory, at line 1, may come in the place of a verdict or of a later line's fault.
+pub fn check(alloc: Global, bytes: &[u8]) -> Result<Verdict, TraceFault>
+    ensures { Answers (trace_read bytes.now) result }
+{
+    if bytes.len() > MAX_BYTES {
+        return Err(TraceFault {
+            line: 1,
+            fault: Fault::TooLong,
+        });
+    }
+    match str::from_utf8(bytes) {
+        Ok(text) => check_text(alloc, text),
+        Err(e) => Err(TraceFault {
+            line: line_at(bytes, e.valid_up_to()),
+            fault: Fault::NotUtf8,
+        }),
+    }
+}

@@ -1,0 +1,65 @@
+//! Why a trace was refused.
+ghost use Rattle.std.specs.Prelude.{◌≡◌};
+ghost use Rattle.verdict.specs.Faults.{number_of};
+
+use std::alloc::AllocError;
+use thiserror::Error;
+
+/// What is wrong with the text of a trace.
+#[derive(Clone, Copy, Debug, PartialEq, Eq, Error)]
+pub enum Fault {
+    /// The bytes are no text.
+    #[error("not UTF-8")]
+    NotUtf8,
+    /// The line has no form of a trace's lines, or no line feed ends it.
+    #[error("unknown word")]
+    UnknownWord,
+    /// A number is out of its range.
+    #[error("number out of range")]
+    OutOfRange,
+    /// There are too many bytes.
+    #[error("too long")]
+    TooLong,
+    /// There is no `end` line, or something stands behind it.
+    #[error("cut")]
+    Cut,
+    /// No memory was left.
+    #[error("out of memory")]
+    OutOfMemory,
+}
+
+impl Fault {
+    /// Its number, from 1 to 6.
+    pub fn number(self) -> u8
+        ensures { result ≡ number_of self }
+    {
+        match self {
+            Fault::NotUtf8 => 1,
+            Fault::UnknownWord => 2,
+            Fault::OutOfRange => 3,
+            Fault::TooLong => 4,
+            Fault::Cut => 5,
+            Fault::OutOfMemory => 6,
+        }
+    }
+}
+
+/// A fault and where it was met.
+#[derive(Clone, Copy, Debug, PartialEq, Eq, Error)]
+#[error("line {line}: fault {}: {fault}", .fault.number())]
+pub struct TraceFault {
+    /// The line, from 1.
+    pub line: usize,
+    /// What is wrong there.
+    pub fault: Fault,
+}
+
+impl From<AllocError> for Fault {
+    ghost use Rattle.verdict.specs.declared.fault.Fault.TheVariants.{OutOfMemory};
+
+    ghost from_gives = { λ _ e. e ≡ OutOfMemory };
+
+    fn from(_e: AllocError) -> Fault {
+        Fault::OutOfMemory
+    }
+}

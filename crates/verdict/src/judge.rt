@@ -1,0 +1,146 @@
+//! What is kept of the lines so far, and whether a line fits them.
+ghost use Rattle.std.specs.Prelude.{◌≡◌, ◌+◌, ◌≤◌, ◌<◌, Some, true, false, length, IfOk};
+ghost use Rattle.keys.specs.Histories.{is_thread};
+ghost use Rattle.verdict.specs.Earlier.{moved};
+ghost use Rattle.verdict.specs.Facts.{decision_of};
+ghost use Rattle.verdict.specs.Fits.{Allows, OwnsNothing};
+ghost use Rattle.verdict.specs.Judges.{Accepts, AreCounted, IsInside, IsSound, Moves, IsNew, object_at, one};
+ghost use Rattle.verdict.specs.Reading.{IsHead};
+
+use crate::entry::{Entry, Fact, Head};
+use crate::place::Place;
+use crate::stage::Stage;
+use keys::{Decision, Object};
+use lockword::Tid;
+use std::alloc::{AllocError, Global};
+
+/// What the lines so far told, each of which fits those before it.
+#[derive(Drop)]
+pub struct Judge {
+    pub head: Head,
+    pub place: Place,
+    /// By the threads' ids, from 0, which is no thread's.
+    pub stages: Vec<Stage>,
+    /// How many mutexes each thread owns, by the threads' ids.
+    pub held: Vec<u16>,
+    /// By the mutexes' numbers.
+    pub objects: Vec<Object>,
+}
+
+/// How many mutexes a thread owns after a step.
+fn recount(held: u16, owned: bool, owns: bool) -> u16
+    requires some { owned ≡ true → 1 ≤ held }
+    requires few { held ≤ 4096 }
+    ensures { result + one owned ≡ held + one owns }
+{
+    if owned && !owns {
+        held - 1
+    } else if owns && !owned {
+        held + 1
+    } else {
+        held
+    }
+}
+
+fn is_owner(thread: Tid, object: &Object) -> bool
+    ensures { result ≡ is_thread thread object.now.owner }
+{
+    match object.owner {
+        None => false,
+        Some(owner) => owner == thread,
+    }
+}
+
+/// Makes a step of its mutex's object, if the object allows it.
+fn decide(objects: &mut Vec<Object>, held: &mut Vec<u16>, decision: &Decision) -> bool
+    requires mutex { decision.now.mutex < length objects.old.items }
+    requires thread { decision.now.thread < length held.old.items }
+    requires few { length objects.old.items ≤ 4096 }
+    requires counted { AreCounted held.old.items objects.old.items }
+    ensures allowed { result ≡ true → Allows (length objects.old.items) (object_at objects.old.items) (Some decision.now) }
+    ensures refused { result ≡ false → Allows (length objects.old.items) (object_at objects.old.items) (Some decision.now) → ⊥ }
+    ensures moved { result ≡ true → object_at objects.new.items ≡ moved (object_at objects.old.items) (Some decision.now) }
+    ensures counted { AreCounted held.new.items objects.new.items }
+    ensures objects { length objects.new.items ≡ length objects.old.items }
+    ensures held { length held.new.items ≡ length held.old.items }
+{
+    let thread = decision.thread;
+    let at = usize::from(decision.mutex);
+    let by = usize::from(thread.get());
+    let old = objects[at];
+    let owned = held[by];
+    match old.step(owned, thread, decision.operation, decision.reply) {
+        None => false,
+        Some(new) => {
+            objects[at] = new;
+            held[by] = recount(owned, is_owner(thread, &old), is_owner(thread, &new));
+            true
+        }
+    }
+}
+
+/// Makes what a fact tells of the mutexes, if they allow it.
+fn change(objects: &mut Vec<Object>, held: &mut Vec<u16>, fact: &Fact) -> bool
+    requires inside { IsInside (length held.old.items) (length objects.old.items) fact.now }
+    requires few { length objects.old.items ≤ 4096 }
+    requires counted { AreCounted held.old.items objects.old.items }
+    ensures allowed { result ≡ true → Allows (length objects.old.items) (object_at objects.old.items) (decision_of fact.now) × OwnsNothing (length objects.old.items) (object_at objects.old.items) fact.now }
+    ensures refused { result ≡ false → Allows (length objects.old.items) (object_at objects.old.items) (decision_of fact.now) → OwnsNothing (length objects.old.items) (object_at objects.old.items) fact.now → ⊥ }
+    ensures moved { result ≡ true → object_at objects.new.items ≡ moved (object_at objects.old.items) (decision_of fact.now) }
+    ensures counted { AreCounted held.new.items objects.new.items }
+    ensures objects { length objects.new.items ≡ length objects.old.items }
+    ensures held { length held.new.items ≡ length held.old.items }
+{
+    match fact.decision() {
+        Some(decision) => decide(objects, held, &decision),
+        None => match *fact {
+            Fact::Reap(thread) => held[usize::from(thread.get())] == 0,
+            _ => true,
+        },
+    }
+}
+
+impl Judge {
+    /// Before the first line behind the head, with room for all that is kept.
+    pub fn new(alloc: Global, head: Head) -> Result<Judge, AllocError>
+        requires { IsHead head }
+        ensures { IfOk result (λ j. IsNew head j) }
+    {
+        let threads = usize::from(head.threads) + 1;
+        let mutexes = usize::from(head.mutexes);
+        Ok(Judge {
+            head,
+            place: Place::new(),
+            stages: vec![in alloc; Stage::Resting; threads]?,
+            held: vec![in alloc; 0; threads]?,
+            objects: vec![in alloc; Object::new(); mutexes]?,
+        })
+    }
+
+    /// Takes an entry, if it fits the lines so far.
+    pub fn accept(&mut self, entry: &Entry) -> bool
+        requires sound { IsSound self.old }
+        requires inside { IsInside (length self.old.stages.items) (length self.old.objects.items) entry.now.fact }
+        ensures accepts { result ≡ true → Accepts self.old entry.now }
+        ensures refuses { result ≡ false → Accepts self.old entry.now → ⊥ }
+        ensures moves { result ≡ true → Moves self.old entry.now self.new }
+        ensures sound { IsSound self.new }
+        ensures head { self.new.head ≡ self.old.head }
+        ensures stages { length self.new.stages.items ≡ length self.old.stages.items }
+        ensures objects { length self.new.objects.items ≡ length self.old.objects.items }
+    {
+        if !self.place.stands(entry) {
+            return false;
+        }
+        let by = usize::from(entry.fact.thread().get());
+        let Some(stage) = self.stages[by].after(&entry.fact) else {
+            return false;
+        };
+        if !change(&mut self.objects, &mut self.held, &entry.fact) {
+            return false;
+        }
+        self.stages[by] = stage;
+        self.place = self.place.behind(entry);
+        true
+    }
+}

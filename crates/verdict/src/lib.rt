@@ -1,0 +1,27 @@
+//! Judging traces: whether what a trace tells could have happened to robust mutexes.
+//!
+//! [`check`] reads a trace from its bytes in one pass. It answers the first fault of the format, wherever that is; where there is
+//! none, the first line that doesn't fit the lines before it; and where all fit, how many points there are. It asks for memory once,
+//! behind the first line. A trace that is found legal explains itself: its points and deaths, in their order, are a legal history of
+//! robust mutexes, each call that returned has exactly its points and the last one's reply, a call that was cut has a beginning of
+//! them, and a killed thread's death is told of what it owned and of nothing else (pthread_mutex_lock, pthread_cond_wait,
+//! robust-futexes).
+#![tactic(auto)]
+
+mod checking;
+mod entry;
+mod fault;
+mod form;
+mod judge;
+mod limits;
+mod place;
+mod reading;
+mod stage;
+mod words;
+
+pub use checking::{Verdict, check};
+pub use fault::{Fault, TraceFault};
+pub use limits::{MAX_BYTES, MAX_CONDITIONS, MAX_EVENTS, MAX_MUTEXES, MAX_THREADS};
+
+#[cfg(test)]
+mod tests;
