@@ -6,3 +6,7 @@ mod Phases
 mod Possible
 mod Taken
 mod Servings
+mod Told
+mod Tables
+mod Layouts
+mod Judged

@@ -1,12 +1,12 @@
 -- Phases of real threads, thread by thread.
-use Rattle.std.proofs.Common.{◌≡◌, ◌≢◌, ◌⊎◌, inl, inr, ⊎_elim, ℕ, zero, suc, ◌+◌, ◌<◌, ◌≤◌, Some, List, [], ◌∷◌, ◌++◌, length, set, get_or, slice_get, Vec, refl, sym, ap, ◌∙◌, subst, arith, length-append, length-set, All, take, append-nil, Bool, true, false, ◌==◌, if◌then◌else◌, Result, Ok, Err, IfOk, ◌-◌}
+use Rattle.std.proofs.Common.{◌≡◌, ◌≢◌, ◌⊎◌, inl, inr, ⊎_elim, ℕ, zero, suc, ◌+◌, ◌<◌, ◌≤◌, Some, List, [], ◌∷◌, ◌++◌, length, set, get_or, slice_get, Vec, refl, sym, ap, ◌∙◌, subst, arith, length-append, length-set, All, take, append-nil, Option, Bool, true, false, ◌==◌, if◌then◌else◌, Result, Ok, Err, IfOk, ◌-◌}
 use Rattle.std.proofs.lemmas.List.{take_more}
 use Rattle.std.proofs.lemmas.List.Concat.{flat_map-append}
 use Rattle.std.proofs.lemmas.List.Elements.{All-append, All-head, All-tail}
 use Rattle.std.proofs.lemmas.Option.{get_or_from_slice_get, slice_get_within, slice_get-get_or, same_Some}
 use Rattle.std.specs.List.{flat_map}
 use Rattle.mutex.specs.declared.call.Call.{Call}
-use Rattle.mutex.specs.Calls.{mutex_of, NeverWaits}
+use Rattle.mutex.specs.Calls.{mutex_of}
 use Rattle.ruledwords.specs.declared.pass.Words.{Words}
 use Rattle.ruledwords.specs.Passes.{layout_of, IsPassOf}
 use Rattle.script.specs.declared.workload.Job.{Job as Ordered}
@@ -110,16 +110,16 @@ as_long P (x ∷ xs) [] p = absurd p
 as_long P (x ∷ xs) (y ∷ ys) p = ap suc (as_long P xs ys p.1)
 
 -- its calls in a phase are on mutexes that there are
-right_calls : (m t : ℕ) (j : Ordered) → ArePossible m j.calls → All (λ c. (mutex_of c < m) × NeverWaits c) (calls_at t j)
+right_calls : (m t : ℕ) (j : Ordered) → ArePossible m j.calls → All (λ c. mutex_of c < m) (calls_at t j)
 right_calls m t j all = go (j.thread == t) where
-  go : (b : Bool) → All (λ c. (mutex_of c < m) × NeverWaits c) (if b then j.calls.items else [])
+  go : (b : Bool) → All (λ c. mutex_of c < m) (if b then j.calls.items else [])
   go true = all
   go false = λ k d lt. absurd (omega (arith, lt))
 
-rights : (m t : ℕ) (jobs : List Ordered) → All (λ j. ArePossible m j.calls) jobs → All (λ c. (mutex_of c < m) × NeverWaits c) (flat_map (calls_at t) jobs)
+rights : (m t : ℕ) (jobs : List Ordered) → All (λ j. ArePossible m j.calls) jobs → All (λ c. mutex_of c < m) (flat_map (calls_at t) jobs)
 rights m t [] all = λ k d lt. absurd (omega (arith, lt))
 rights m t (j ∷ jobs) all =
-    All-append (λ c. (mutex_of c < m) × NeverWaits c) (calls_at t j) (flat_map (calls_at t) jobs) (right_calls m t j (All-head (λ x. ArePossible m x.calls) j jobs all)) (rights m t jobs (All-tail (λ x. ArePossible m x.calls) j jobs all))
+    All-append (λ c. mutex_of c < m) (calls_at t j) (flat_map (calls_at t) jobs) (right_calls m t j (All-head (λ x. ArePossible m x.calls) j jobs all)) (rights m t jobs (All-tail (λ x. ArePossible m x.calls) j jobs all))
 
 -- the jobs that bench and phase allow
 pub jobs_right : (w : Words) (p : Phase) (bs : List (Pass Live)) (js : List Job) → AreHired p bs js → All (λ b. IsPassOf w b) bs → IsRightPhase (layout_of w).mutexes p → (k : ℕ) (d : Job) → k < length js → IsJobOf w (get_or js k d)
@@ -128,32 +128,48 @@ jobs_right w p bs js hired right possible k d lt =
     let mine = some_at bs k (omega arith) in
     let both = hired.each k mine.0 (get_or js k d) mine.1 (slice_get-get_or js k d lt) in (
       subst (λ (b : Pass Live). IsPassOf w b) (sym both.0) (all_at (λ b. IsPassOf w b) bs k mine.0 right mine.1),
-      subst (λ (cs : List Call). All (λ c. (mutex_of c < (layout_of w).mutexes) × NeverWaits c) cs) (sym both.1) (rights (layout_of w).mutexes (k + 1) p.jobs.items possible),
+      subst (λ (cs : List Call). All (λ c. mutex_of c < (layout_of w).mutexes) cs) (sym both.1) (rights (layout_of w).mutexes (k + 1) p.jobs.items possible),
     )
 
+-- the gate that lets every call through
+abbrev pub open_gate : ℕ → ℕ → Option Bool
+open_gate t i = Some true
+
+all_taken : {A : Type 0} (xs : List A) → take (length xs) xs ≡ xs
+all_taken [] = refl
+all_taken (x ∷ xs) = ap (λ ys. x ∷ ys) (all_taken xs)
+
+-- behind it each call of a job is answered
+all_answered : (w : Words) (j : Job) (k : Record) → IsDone w open_gate j k → Answered w j.pass j.calls.items k.replies.items k.pass
+all_answered w j k done = ⊎_elim
+    (λ (same : length k.replies.items ≡ length j.calls.items).
+    subst (λ (cs : List Call). Answered w j.pass cs k.replies.items k.pass) (ap (λ (n : ℕ). take n j.calls.items) same ∙ all_taken j.calls.items) done.answered)
+    (λ (stopped : open_gate 0 0 ≢ Some true). absurd (stopped refl))
+    done.stopped
+
 -- a thread in a phase
-worked_at : (w : Words) (p : Phase) (bs bs' : List (Pass Live)) (js : List Job) (ks : List Record) (rs rs' : List (Vec Reply Global)) → AreHired p bs js → AreDone w js ks → AreGathered ks bs' rs rs' → (i : ℕ) (a b : Pass Live) (r r' : Vec Reply Global) → slice_get bs i ≡ Some a → slice_get bs' i ≡ Some b → slice_get rs i ≡ Some r → slice_get rs' i ≡ Some r'
+worked_at : (w : Words) (p : Phase) (bs bs' : List (Pass Live)) (js : List Job) (ks : List Record) (rs rs' : List (Vec Reply Global)) → AreHired p bs js → AreDone w open_gate js ks → AreGathered ks bs' rs rs' → (i : ℕ) (a b : Pass Live) (r r' : Vec Reply Global) → slice_get bs i ≡ Some a → slice_get bs' i ≡ Some b → slice_get rs i ≡ Some r → slice_get rs' i ≡ Some r'
     → IsPassOf w b × ((more : List Reply) × (r'.items ≡ r.items ++ more) × Answered w a (calls_in (i + 1) p) more b)
 worked_at w p bs bs' js ks rs rs' hired done gathered i a b r r' is_a is_b is_r is_r' =
     let low : i < length bs = slice_get_within bs i a is_a in
     let many = hired.as_many in
     let j : (j : Job) × (slice_get js i ≡ Some j) = some_at js i (omega arith) in
-    let long = as_long (IsDone w) js ks done in
+    let long = as_long (IsDone w open_gate) js ks done in
     let k : (k : Record) × (slice_get ks i ≡ Some k) = some_at ks i (omega arith) in
     let its = hired.each i a j.0 is_a j.1 in
-    let did = each_at (IsDone w) js ks i j.0 k.0 done j.1 k.1 in
+    let did = each_at (IsDone w open_gate) js ks i j.0 k.0 done j.1 k.1 in
     let left = gathered.each i k.0 b r r' k.1 is_b is_r is_r' in (
-      subst (λ (z : Pass Live). IsPassOf w z) (sym left.0) did.0,
+      subst (λ (z : Pass Live). IsPassOf w z) (sym left.0) did.pass,
       (
         k.0.replies.items,
         left.1,
         subst (λ (z : Pass Live). Answered w a (calls_in (i + 1) p) k.0.replies.items z) (sym left.0)
-            (subst (λ (cs : List Call). Answered w a cs k.0.replies.items k.0.pass) its.1 (subst (λ (z : Pass Live). Answered w z j.0.calls.items k.0.replies.items k.0.pass) its.0 did.1)),
+            (subst (λ (cs : List Call). Answered w a cs k.0.replies.items k.0.pass) its.1 (subst (λ (z : Pass Live). Answered w z j.0.calls.items k.0.replies.items k.0.pass) its.0 (all_answered w j.0 k.0 did))),
       ),
     )
 
 -- and all of them
-pub worked : (w : Words) (p : Phase) (bs bs' : List (Pass Live)) (js : List Job) (ks : List Record) (rs rs' : List (Vec Reply Global)) → AreHired p bs js → AreDone w js ks → AreGathered ks bs' rs rs' → length rs ≡ length bs → HaveWorked w p bs bs' rs rs'
+pub worked : (w : Words) (p : Phase) (bs bs' : List (Pass Live)) (js : List Job) (ks : List Record) (rs rs' : List (Vec Reply Global)) → AreHired p bs js → AreDone w open_gate js ks → AreGathered ks bs' rs rs' → length rs ≡ length bs → HaveWorked w p bs bs' rs rs'
 worked w p bs bs' js ks rs rs' hired done gathered same = record {
   as_many = many;
   as_long = gathered.as_long;
@@ -161,7 +177,7 @@ worked w p bs bs' js ks rs rs' hired done gathered same = record {
   each = λ i a b r r' is_a is_b is_r is_r'. (worked_at w p bs bs' js ks rs rs' hired done gathered i a b r r' is_a is_b is_r is_r').1;
 } where
   many : length bs' ≡ length bs
-  many = gathered.as_many ∙ as_long (IsDone w) js ks done ∙ hired.as_many
+  many = gathered.as_many ∙ as_long (IsDone w open_gate) js ks done ∙ hired.as_many
 
   right : (i : ℕ) (d : Pass Live) → i < length bs' → IsPassOf w (get_or bs' i d)
   right i d lt =

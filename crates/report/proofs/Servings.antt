@@ -1,54 +1,72 @@
 -- What was written of a script that was read and played.
-use Rattle.std.proofs.Common.{◌≡◌, ◌≤◌, ◌⊎◌, ℕ, List, ◌++◌, length, map, Option, Result, Ok, refl, sym, subst, inl, inr, MatchResult, arith}
+use Rattle.std.proofs.Common.{◌≡◌, ◌≤◌, ◌⊎◌, ℕ, List, ◌++◌, length, map, Option, Result, Ok, refl, sym, ap, ◌∙◌, subst, inl, inr, MatchResult, arith}
 use Rattle.std.specs.List.{concat}
 use Rattle.std.specs.Io.KnownBytes.{Appends, Consumes, IsAtEnd}
+use Rattle.keys.specs.Layouts.{Layout'}
+use Rattle.protocol.specs.Machine.{State}
 use Rattle.protocol.specs.Notes.{lines_from}
 use Rattle.interleave.specs.declared.trace.Trace.{Trace}
-use Rattle.interleave.specs.Shown.{Shown}
-use Rattle.script.specs.declared.command.Mode.{Mode}
+use Rattle.interleave.specs.Shown.{Shown, state_of}
 use Rattle.script.specs.declared.command.Mode.TheVariants.{Run, Threads}
 use Rattle.script.specs.declared.fault.ScriptFault.{ScriptFault}
 use Rattle.script.specs.declared.limits.TheConstants.{MAX_BYTES}
 use Rattle.script.specs.Scope.{Scope}
 use Rattle.script.specs.Reading.{script_read}
+use Rattle.script.specs.Playing.{layout_of, first_state, events_in}
 use Rattle.script.specs.Played.{IsPlayed}
+use Rattle.report.proofs.Layouts.{run_layout}
 use Rattle.report.specs.declared.threads.Answers.{Answers}
 use Rattle.report.specs.Replies.{replies_text}
 use Rattle.report.specs.Leaves.{AppendsFront}
 use Rattle.report.specs.Text.{head_line, line_text, end_line, trace_text}
-use Rattle.report.specs.Served.{meaning, Means, Answer, Tells, TellsFront, Written, WritesFront, Served, ServedFront}
+use Rattle.report.specs.Tables.{table_text}
+use Rattle.report.specs.Served.{Report, trace, table, replies, mode_of, meaning, meant_table, Means, Answer, Tells, TellsFront, Written, WritesFront, Served, ServedFront}
 
 -- the text of the trace is the script's meaning
 meaning-is : (s : Scope) (t : Trace) (m : Shown) → IsPlayed s t m → trace_text t ≡ meaning s
 meaning-is s t m p = λ i. head_line (p.numbers.threads i) (p.numbers.mutexes i) (p.numbers.conditions i) ++ (concat (map line_text (lines_from 1 (p.notes i))) ++ end_line (length (p.notes i)))
 
--- the trace of a script that was played is what it means
-pub written : (old new : Option (List ℕ)) (bytes : List ℕ) (s : Scope) (t : Trace) (m : Shown) → script_read Run bytes ≡ Ok s → IsPlayed s t m → Appends old new (trace_text t) → Written Run old new bytes
-written old new bytes s t m reads p a =
-    subst (λ (r : Result Scope ScriptFault). MatchResult r (λ z. (text : List ℕ) × Means Run z text × Appends old new text) (λ e. ⊥)) (sym reads) (trace_text t, (p.fits, meaning-is s t m p), a)
+-- the table of what was played is the script's
+table-is : (s : Scope) (t : Trace) (m : Shown) → IsPlayed s t m → table_text s (state_of m) t.notes.items ≡ meant_table s
+table-is s t m p = λ i. table_text s (p.machine i) (p.notes i)
 
-pub written_front : (old new : Option (List ℕ)) (bytes : List ℕ) (s : Scope) (t : Trace) (m : Shown) → script_read Run bytes ≡ Ok s → IsPlayed s t m → AppendsFront old new (trace_text t) → WritesFront Run old new bytes
-written_front old new bytes s t m reads p a =
-    inr (subst (λ (r : Result Scope ScriptFault). MatchResult r (λ z. (text : List ℕ) × Means Run z text × AppendsFront old new text) (λ e. ⊥)) (sym reads) (trace_text t, (p.fits, meaning-is s t m p), a))
+-- the machine of a script that was played has the script's threads and mutexes
+machine_layout : (s : Scope) (t : Trace) (m : Shown) → IsPlayed s t m → m.layout ≡ layout_of s
+machine_layout s t m p = ap (λ (z : State). z.layout) p.machine ∙ run_layout (first_state s) (events_in s)
+
+pub machine_threads : (s : Scope) (t : Trace) (m : Shown) → IsPlayed s t m → m.layout.threads ≡ length s.threads
+machine_threads s t m p = ap (λ (l : Layout'). l.threads) (machine_layout s t m p)
+
+pub machine_mutexes : (s : Scope) (t : Trace) (m : Shown) → IsPlayed s t m → m.layout.mutexes ≡ length s.mutexes
+machine_mutexes s t m p = ap (λ (l : Layout'). l.mutexes) (machine_layout s t m p)
+
+-- what may be told of a script that was read was written, or a beginning of it
+pub wrote : (k : Report) (old new : Option (List ℕ)) (bytes : List ℕ) (s : Scope) (text : List ℕ) → script_read (mode_of k) bytes ≡ Ok s → Means k s text → Appends old new text → Written k old new bytes
+wrote k old new bytes s text reads means a =
+    subst (λ (r : Result Scope ScriptFault). MatchResult r (λ z. (text : List ℕ) × Means k z text × Appends old new text) (λ e. ⊥)) (sym reads) (text, means, a)
+
+pub wrote_front : (k : Report) (old new : Option (List ℕ)) (bytes : List ℕ) (s : Scope) (text : List ℕ) → script_read (mode_of k) bytes ≡ Ok s → Means k s text → AppendsFront old new text → WritesFront k old new bytes
+wrote_front k old new bytes s text reads means a =
+    inr (subst (λ (r : Result Scope ScriptFault). MatchResult r (λ z. (text : List ℕ) × Means k z text × AppendsFront old new text) (λ e. ⊥)) (sym reads) (text, means, a))
+
+-- the trace of a script that was played is what it means
+pub written : (old new : Option (List ℕ)) (bytes : List ℕ) (s : Scope) (t : Trace) (m : Shown) → script_read Run bytes ≡ Ok s → IsPlayed s t m → Appends old new (trace_text t) → Written trace old new bytes
+written old new bytes s t m reads p a = wrote trace old new bytes s (trace_text t) reads (p.fits, meaning-is s t m p) a
+
+pub written_front : (old new : Option (List ℕ)) (bytes : List ℕ) (s : Scope) (t : Trace) (m : Shown) → script_read Run bytes ≡ Ok s → IsPlayed s t m → AppendsFront old new (trace_text t) → WritesFront trace old new bytes
+written_front old new bytes s t m reads p a = wrote_front trace old new bytes s (trace_text t) reads (p.fits, meaning-is s t m p) a
+
+-- and so is its table
+pub tabled : (old new : Option (List ℕ)) (bytes : List ℕ) (s : Scope) (t : Trace) (m : Shown) → script_read Run bytes ≡ Ok s → IsPlayed s t m → Appends old new (table_text s (state_of m) t.notes.items) → Written table old new bytes
+tabled old new bytes s t m reads p a = wrote table old new bytes s (table_text s (state_of m) t.notes.items) reads (p.fits, table-is s t m p) a
+
+pub tabled_front : (old new : Option (List ℕ)) (bytes : List ℕ) (s : Scope) (t : Trace) (m : Shown) → script_read Run bytes ≡ Ok s → IsPlayed s t m → AppendsFront old new (table_text s (state_of m) t.notes.items) → WritesFront table old new bytes
+tabled_front old new bytes s t m reads p a = wrote_front table old new bytes s (table_text s (state_of m) t.notes.items) reads (p.fits, table-is s t m p) a
 
 -- what was told of a script's threads is what it means
-pub told : (old new : Option (List ℕ)) (bytes : List ℕ) (s : Scope) (a : Answers) → script_read Threads bytes ≡ Ok s → Answer s a → Tells old new s a → Written Threads old new bytes
-told old new bytes s a reads answer tells =
-    subst (λ (r : Result Scope ScriptFault). MatchResult r (λ z. (text : List ℕ) × Means Threads z text × Appends old new text) (λ e. ⊥)) (sym reads)
-    (replies_text tells.0 tells.1, (a, answer, tells.0, tells.1, tells.2, refl), tells.3)
+pub told : (old new : Option (List ℕ)) (bytes : List ℕ) (s : Scope) (a : Answers) → script_read Threads bytes ≡ Ok s → Answer s a → Tells old new s a → Written replies old new bytes
+told old new bytes s a reads answer tells = wrote replies old new bytes s (replies_text tells.0 tells.1) reads (a, answer, tells.0, tells.1, tells.2, refl) tells.3
 
-pub told_front : (old new : Option (List ℕ)) (bytes : List ℕ) (s : Scope) (a : Answers) → script_read Threads bytes ≡ Ok s → Answer s a → (new ≡ old) ⊎ TellsFront old new s a → WritesFront Threads old new bytes
+pub told_front : (old new : Option (List ℕ)) (bytes : List ℕ) (s : Scope) (a : Answers) → script_read Threads bytes ≡ Ok s → Answer s a → (new ≡ old) ⊎ TellsFront old new s a → WritesFront replies old new bytes
 told_front old new bytes s a reads answer (inl same) = inl same
-told_front old new bytes s a reads answer (inr front) =
-    inr (subst (λ (r : Result Scope ScriptFault). MatchResult r (λ z. (text : List ℕ) × Means Threads z text × AppendsFront old new text) (λ e. ⊥)) (sym reads)
-    (replies_text front.0 front.1, (a, answer, front.0, front.1, front.2, refl), front.3))
-
--- where a script was served, all that the reader had was read
-pub served : (k : Mode) (had left old new : Option (List ℕ)) (bytes : List ℕ) (status : ℕ) → Consumes had left bytes → (length bytes ≤ MAX_BYTES → IsAtEnd left) → (length bytes ≤ MAX_BYTES) ⊎ ((new ≡ old) × (status ≡ 1)) → (status ≡ 0 → Written k old new bytes) → status ≡ 0 → Served k had left old new
-served k had left old new bytes status taken end (inl fits) writes done = (bytes, taken, end fits, writes done)
-served k had left old new bytes status taken end (inr none) writes done = let fault = none.1 in absurd (omega arith)
-
-pub served_front : (k : Mode) (had left old new : Option (List ℕ)) (bytes : List ℕ) (status : ℕ) → Consumes had left bytes → (length bytes ≤ MAX_BYTES → IsAtEnd left) → (length bytes ≤ MAX_BYTES) ⊎ ((new ≡ old) × (status ≡ 1)) → WritesFront k old new bytes → ServedFront k had left old new
-served_front k had left old new bytes status taken end fits (inl same) = inl same
-served_front k had left old new bytes status taken end (inl fits) (inr front) = inr (bytes, taken, end fits, front)
-served_front k had left old new bytes status taken end (inr none) (inr front) = inl none.0
+told_front old new bytes s a reads answer (inr front) = wrote_front replies old new bytes s (replies_text front.0 front.1) reads (a, answer, front.0, front.1, front.2, refl) front.3

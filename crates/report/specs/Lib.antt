@@ -4,3 +4,6 @@ pub mod Forms
 pub mod Served
 pub mod Replies
 pub mod Threads
+pub mod MutexLines
+pub mod Tables
+pub mod Verdicts

@@ -1,11 +1,10 @@
 -- The text that tells of real threads: the replies of each, and then each mutex.
 use Rattle.std.specs.Prelude.{ℕ, zero, suc, Bool, List, [], ◌∷◌, ◌++◌, map, codes, slice_get, Option, Some, None, if◌then◌else◌}
 use Rattle.std.specs.List.{concat}
-use Rattle.std.specs.Int.{w64, to_be_bytes}
-use Rattle.hex.specs.Hex.{encode_lower}
 use Rattle.lockword.specs.declared.reply.Reply.{Reply}
 use Rattle.lockword.specs.Replies.{reply_word}
 use Rattle.lockword.specs.Cells.{fields_of}
+use Rattle.report.specs.MutexLines.{mutex_start}
 use Rattle.report.specs.declared.replies.ThreadReplies.{ThreadReplies}
 use Rattle.report.specs.declared.replies.MutexWord.{MutexWord}
 
@@ -32,13 +31,9 @@ abbrev pub owner_name : List ThreadReplies → ℕ → List ℕ
 owner_name threads zero = codes "-"
 owner_name threads (suc i) = name_in (slice_get threads i)
 
--- a word in 16 hexadecimal digits, the highest first
-abbrev pub word_digits : ℕ → List ℕ
-word_digits w = encode_lower (to_be_bytes w64 w)
-
 -- mutex NAME CELL OWNER SLEEPERS: when all threads have ended nobody sleeps
 abbrev pub mutex_line : List ThreadReplies → MutexWord → List ℕ
-mutex_line threads m = concat (codes "mutex " ∷ m.name.now ∷ codes " " ∷ []) ++ (word_digits m.cell ++ concat (codes " " ∷ owner_name threads (fields_of m.cell).owner ∷ codes " -\n" ∷ []))
+mutex_line threads m = mutex_start m.name.now m.cell (owner_name threads (fields_of m.cell).owner) ++ concat (codes "-\n" ∷ [])
 
 -- the lines of the threads and those of the mutexes
 abbrev pub threads_text : List ThreadReplies → List ℕ

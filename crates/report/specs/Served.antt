@@ -1,12 +1,13 @@
 -- What the program did with the bytes of its reader.
-use Rattle.std.specs.Prelude.{ℕ, ◌≡◌, ◌≤◌, ◌⊎◌, false, All, List, ◌++◌, length, map, Option, None, MatchResult}
+use Rattle.std.specs.Prelude.{ℕ, ◌≡◌, ◌≤◌, ◌+◌, ◌⊎◌, false, All, List, ◌++◌, length, map, Option, None, MatchResult}
 use Rattle.std.specs.List.{concat}
 use Rattle.std.specs.Io.KnownBytes.{Appends, Consumes, IsAtEnd}
 use Rattle.protocol.specs.declared.note.Note.{Note}
 use Rattle.protocol.specs.Notes.{lines_from}
-use Rattle.protocol.specs.Machine.{notes}
+use Rattle.protocol.specs.Machine.{run, notes}
 use Rattle.script.specs.declared.command.Mode.{Mode}
 use Rattle.script.specs.declared.command.Mode.TheVariants.{Run, Threads}
+use Rattle.script.specs.declared.limits.TheConstants.{MAX_BYTES}
 use Rattle.script.specs.Scope.{Scope}
 use Rattle.script.specs.Reading.{script_read}
 use Rattle.script.specs.Playing.{first_state, events_in, overlong}
@@ -21,6 +22,9 @@ use Rattle.report.specs.Threads.{HaveAnswered}
 use Rattle.report.specs.Replies.{replies_text}
 use Rattle.report.specs.Leaves.{AppendsFront}
 use Rattle.report.specs.Text.{head_line, line_text, end_line}
+use Rattle.report.specs.Tables.{table_text}
+use Rattle.report.specs.Verdicts.{Checked, CheckedFront}
+use Rattle.verdict.specs.declared.limits.TheConstants as traces
 
 -- the text of a run with these notes
 abbrev pub run_text : ℕ → ℕ → List Note → List ℕ
@@ -44,11 +48,28 @@ pub record Answer (s : Scope) (a : Answers) : Type 0 where
   pub asked : map jobs_seen phases ≡ jobs_of s
   pub answered : HaveAnswered (length s.threads) (length s.mutexes) phases a.replies.items a.cells.items
 
--- what may be written of a script: of a run, if it isn't too long to play, its meaning; of real threads, what some that made its calls were answered. A script doesn't
+-- how a script's events leave its threads and mutexes
+abbrev pub meant_table : Scope → List ℕ
+meant_table s = table_text s (run (first_state s) (events_in s)) (notes (first_state s) (events_in s))
+
+-- what the program tells of a script: what its events did, how they left it, or what real threads were answered
+pub data Report : Type 0 where
+  trace : Report
+  table : Report
+  replies : Report
+
+-- how a script is read for it
+abbrev pub mode_of : Report → Mode
+mode_of trace = Run
+mode_of table = Run
+mode_of replies = Threads
+
+-- what may be written of a script: of a run, if it isn't too long to play, its trace or its table; of real threads, what some that made its calls were answered. A script doesn't
 -- determine what real threads are told
-abbrev pub Means : Mode → Scope → List ℕ → Type 0
-Means Run s text = (overlong s ≡ None) × (text ≡ meaning s)
-Means Threads s text = (a : Answers) × Answer s a × (threads : List ThreadReplies) × (mutexes : List MutexWord) × AreLines s a threads mutexes × (text ≡ replies_text threads mutexes)
+abbrev pub Means : Report → Scope → List ℕ → Type 0
+Means trace s text = (overlong s ≡ None) × (text ≡ meaning s)
+Means table s text = (overlong s ≡ None) × (text ≡ meant_table s)
+Means replies s text = (a : Answers) × Answer s a × (threads : List ThreadReplies) × (mutexes : List MutexWord) × AreLines s a threads mutexes × (text ≡ replies_text threads mutexes)
 
 -- these lines were written, or a beginning of them
 abbrev pub Tells : Option (List ℕ) → Option (List ℕ) → Scope → Answers → Type 0
@@ -57,37 +78,49 @@ Tells old new s a = (threads : List ThreadReplies) × (mutexes : List MutexWord)
 abbrev pub TellsFront : Option (List ℕ) → Option (List ℕ) → Scope → Answers → Type 0
 TellsFront old new s a = (threads : List ThreadReplies) × (mutexes : List MutexWord) × AreLines s a threads mutexes × AppendsFront old new (replies_text threads mutexes)
 
--- these bytes are a script of this mode, and all of what it means was written
-abbrev pub Written : Mode → Option (List ℕ) → Option (List ℕ) → List ℕ → Type 0
-Written k old new bytes = MatchResult (script_read k bytes) (λ s. (text : List ℕ) × Means k s text × Appends old new text) (λ e. ⊥)
+-- these bytes are a script, and all of what is told of it was written
+abbrev pub Written : Report → Option (List ℕ) → Option (List ℕ) → List ℕ → Type 0
+Written k old new bytes = MatchResult (script_read (mode_of k) bytes) (λ s. (text : List ℕ) × Means k s text × Appends old new text) (λ e. ⊥)
 
 -- the same, but that writing stopped somewhere
-abbrev pub WrittenFront : Mode → Option (List ℕ) → Option (List ℕ) → List ℕ → Type 0
-WrittenFront k old new bytes = MatchResult (script_read k bytes) (λ s. (text : List ℕ) × Means k s text × AppendsFront old new text) (λ e. ⊥)
+abbrev pub WrittenFront : Report → Option (List ℕ) → Option (List ℕ) → List ℕ → Type 0
+WrittenFront k old new bytes = MatchResult (script_read (mode_of k) bytes) (λ s. (text : List ℕ) × Means k s text × AppendsFront old new text) (λ e. ⊥)
 
 -- nothing was written; or a beginning of what these bytes mean
-abbrev pub WritesFront : Mode → Option (List ℕ) → Option (List ℕ) → List ℕ → Type 0
+abbrev pub WritesFront : Report → Option (List ℕ) → Option (List ℕ) → List ℕ → Type 0
 WritesFront k old new bytes = (new ≡ old) ⊎ WrittenFront k old new bytes
 
--- all that the reader had, up to its end, is a script of this mode, and what it means was written
-abbrev pub Served : Mode → Option (List ℕ) → Option (List ℕ) → Option (List ℕ) → Option (List ℕ) → Type 0
+-- all that the reader had, up to its end, is a script, and what is told of it was written
+abbrev pub Served : Report → Option (List ℕ) → Option (List ℕ) → Option (List ℕ) → Option (List ℕ) → Type 0
 Served k had left old new = (bytes : List ℕ) × Consumes had left bytes × IsAtEnd left × Written k old new bytes
 
 -- nothing was written; or a beginning of what all that the reader had means
-abbrev pub ServedFront : Mode → Option (List ℕ) → Option (List ℕ) → Option (List ℕ) → Option (List ℕ) → Type 0
+abbrev pub ServedFront : Report → Option (List ℕ) → Option (List ℕ) → Option (List ℕ) → Option (List ℕ) → Type 0
 ServedFront k had left old new = (new ≡ old) ⊎ ((bytes : List ℕ) × Consumes had left bytes × IsAtEnd left × WrittenFront k old new bytes)
 
 -- the same for each form of a command line; the usage is no success, and writes nothing
 abbrev pub ServedAs : Form → Option (List ℕ) → Option (List ℕ) → Option (List ℕ) → Option (List ℕ) → Type 0
-ServedAs (form.Run file) had left old new = Served Run had left old new
-ServedAs (form.Threads file) had left old new = Served Threads had left old new
+ServedAs (form.Run file) had left old new = Served trace had left old new
+ServedAs (form.Table file) had left old new = Served table had left old new
+ServedAs (form.Threads file) had left old new = Served replies had left old new
+ServedAs (form.Check file) had left old new = Checked had left old new
 ServedAs form.Usage had left old new = ⊥
 
 abbrev pub ServedFrontAs : Form → Option (List ℕ) → Option (List ℕ) → Option (List ℕ) → Option (List ℕ) → Type 0
-ServedFrontAs (form.Run file) had left old new = ServedFront Run had left old new
-ServedFrontAs (form.Threads file) had left old new = ServedFront Threads had left old new
+ServedFrontAs (form.Run file) had left old new = ServedFront trace had left old new
+ServedFrontAs (form.Table file) had left old new = ServedFront table had left old new
+ServedFrontAs (form.Threads file) had left old new = ServedFront replies had left old new
+ServedFrontAs (form.Check file) had left old new = CheckedFront had left old new
 ServedFrontAs form.Usage had left old new = new ≡ old
 
 -- at most so many bytes were taken from the reader
 abbrev pub TakesAtMost : ℕ → Option (List ℕ) → Option (List ℕ) → Type 0
 TakesAtMost limit had left = (bytes : List ℕ) × Consumes had left bytes × (length bytes ≤ limit)
+
+-- how many bytes a form takes at most: of a script or a trace one more than it may have, which tells that it is too long
+abbrev pub bytes_at_most : Form → ℕ
+bytes_at_most (form.Run file) = MAX_BYTES + 1
+bytes_at_most (form.Table file) = MAX_BYTES + 1
+bytes_at_most (form.Threads file) = MAX_BYTES + 1
+bytes_at_most (form.Check file) = traces.MAX_BYTES + 1
+bytes_at_most form.Usage = 0

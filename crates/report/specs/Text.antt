@@ -9,7 +9,7 @@ use Rattle.mutex.specs.declared.call.Call.{Call}
 use Rattle.mutex.specs.Calls.{mutex_of, operation_of}
 use Rattle.protocol.specs.declared.note.Note.{Note}
 use Rattle.protocol.specs.declared.note.Fact.{Fact}
-use Rattle.protocol.specs.declared.note.Fact.TheVariants.{Begin, Point, Sleep, Wake, Return}
+use Rattle.protocol.specs.declared.note.Fact.TheVariants.{Begin, Point, Sleep, Wake, Return, Kill, Death, Reap}
 use Rattle.protocol.specs.declared.note.Line.{Line}
 use Rattle.protocol.specs.Notes.{line_of, lines_from}
 use Rattle.interleave.specs.declared.trace.Trace.{Trace}
@@ -40,6 +40,18 @@ wake_line i t = concat (decimal i ∷ codes " wake t" ∷ decimal t ∷ codes "\
 abbrev pub return_line : ℕ → ℕ → Reply → List ℕ
 return_line i t r = concat (decimal i ∷ codes " return t" ∷ decimal t ∷ codes " " ∷ reply_word r ∷ codes "\n" ∷ [])
 
+-- i kill tT: the thread died
+abbrev pub kill_line : ℕ → ℕ → List ℕ
+kill_line i t = concat (decimal i ∷ codes " kill t" ∷ decimal t ∷ codes "\n" ∷ [])
+
+-- i death tT mM: the thread's death was told of the mutex
+abbrev pub death_line : ℕ → ℕ → ℕ → List ℕ
+death_line i t m = concat (decimal i ∷ codes " death t" ∷ decimal t ∷ codes " m" ∷ decimal m ∷ codes "\n" ∷ [])
+
+-- i reaped tT: the walk of the thread's list has ended
+abbrev pub reaped_line : ℕ → ℕ → List ℕ
+reaped_line i t = concat (decimal i ∷ codes " reaped t" ∷ decimal t ∷ codes "\n" ∷ [])
+
 -- end N: how many events there were
 abbrev pub end_line : ℕ → List ℕ
 end_line n = concat (codes "end " ∷ decimal n ∷ codes "\n" ∷ [])
@@ -53,6 +65,9 @@ fact_text i (Point d) = point_line i d
 fact_text i (Sleep t m) = sleep_line i t m
 fact_text i (Wake t) = wake_line i t
 fact_text i (Return t r) = return_line i t r
+fact_text i (Kill t) = kill_line i t
+fact_text i (Death t m) = death_line i t m
+fact_text i (Reap t) = reaped_line i t
 
 abbrev pub line_text : Line → List ℕ
 line_text l = fact_text l.event l.fact

@@ -5,7 +5,7 @@ use Rattle.std.specs.List.{flat_map}
 use Rattle.keys.specs.Layouts.{cell_place}
 use Rattle.lockword.specs.declared.reply.Reply.{Reply}
 use Rattle.mutex.specs.declared.call.Call.{Call}
-use Rattle.mutex.specs.Calls.{mutex_of, NeverWaits}
+use Rattle.mutex.specs.Calls.{mutex_of}
 use Rattle.ruledwords.specs.declared.pass.Last.{Last}
 use Rattle.ruledwords.specs.declared.pass.Live.{Live}
 use Rattle.ruledwords.specs.declared.pass.Pass.{Pass}
@@ -18,9 +18,9 @@ use Rattle.threadbench.specs.declared.job.Job.{Job}
 use Rattle.threadbench.specs.declared.job.Record.{Record}
 use Rattle.threadbench.specs.Answered.{Answered}
 
--- calls on the first m mutexes, which wait for nobody
+-- calls on the first m mutexes
 abbrev pub ArePossible : ℕ → Vec Call Global → Type 0
-ArePossible m calls = All (λ c. (mutex_of c < m) × NeverWaits c) calls.items
+ArePossible m calls = All (λ c. mutex_of c < m) calls.items
 
 abbrev pub IsRightPhase : ℕ → Phase → Type 0
 IsRightPhase m p = All (λ j. ArePossible m j.calls) p.jobs.items

@@ -1,7 +1,7 @@
 //! The lines of a trace, one function each kind.
 
 ghost use Rattle.report.specs.Leaves.{Leaves};
-ghost use Rattle.report.specs.Text.{head_line, begin_line, point_line, sleep_line, wake_line, return_line, end_line, fact_text};
+ghost use Rattle.report.specs.Text.{head_line, begin_line, point_line, sleep_line, wake_line, return_line, kill_line, death_line, reaped_line, end_line, fact_text};
 
 use crate::pieces::put;
 use itoa::Buffer;
@@ -104,6 +104,41 @@ fn write_return<W: Write>(out: &mut W, event: usize, thread: Tid, reply: Reply) 
     put(out, &[event, " return t", thread, " ", reply.name(), "\n"])
 }
 
+/// `i kill tT`: the thread died.
+fn write_kill<W: Write>(out: &mut W, event: usize, thread: Tid) -> io::Result<()>
+    ensures { Leaves (W.contents out.old) (W.contents out.new) result (kill_line event thread) }
+{
+    let mut event_digits = Buffer::new();
+    let mut thread_digits = Buffer::new();
+    let event = event_digits.format(event);
+    let thread = thread_digits.format(thread.get());
+    put(out, &[event, " kill t", thread, "\n"])
+}
+
+/// `i death tT mM`: the thread's death was told of the mutex.
+fn write_death<W: Write>(out: &mut W, event: usize, thread: Tid, mutex: u16) -> io::Result<()>
+    ensures { Leaves (W.contents out.old) (W.contents out.new) result (death_line event thread mutex) }
+{
+    let mut event_digits = Buffer::new();
+    let mut thread_digits = Buffer::new();
+    let mut mutex_digits = Buffer::new();
+    let event = event_digits.format(event);
+    let thread = thread_digits.format(thread.get());
+    let mutex = mutex_digits.format(mutex);
+    put(out, &[event, " death t", thread, " m", mutex, "\n"])
+}
+
+/// `i reaped tT`: the walk of the thread's list has ended.
+fn write_reaped<W: Write>(out: &mut W, event: usize, thread: Tid) -> io::Result<()>
+    ensures { Leaves (W.contents out.old) (W.contents out.new) result (reaped_line event thread) }
+{
+    let mut event_digits = Buffer::new();
+    let mut thread_digits = Buffer::new();
+    let event = event_digits.format(event);
+    let thread = thread_digits.format(thread.get());
+    put(out, &[event, " reaped t", thread, "\n"])
+}
+
 /// `end N`: how many events there were.
 pub fn write_end<W: Write>(out: &mut W, events: usize) -> io::Result<()>
     ensures { Leaves (W.contents out.old) (W.contents out.new) result (end_line events) }
@@ -122,5 +157,8 @@ pub fn write_fact<W: Write>(out: &mut W, event: usize, fact: Fact) -> io::Result
         Fact::Sleep(thread, mutex) => write_sleep(out, event, thread, mutex),
         Fact::Wake(thread) => write_wake(out, event, thread),
         Fact::Return(thread, reply) => write_return(out, event, thread, reply),
+        Fact::Kill(thread) => write_kill(out, event, thread),
+        Fact::Death(thread, mutex) => write_death(out, event, thread, mutex),
+        Fact::Reap(thread) => write_reaped(out, event, thread),
     }
 }

@@ -2,9 +2,10 @@
 
 ghost use Rattle.std.specs.Prelude.{◌≡◌};
 ghost use Rattle.report.specs.Leaves.{Leaves};
-ghost use Rattle.report.specs.Replies.{reply_texts, ending, replies_line, owner_name, word_digits, mutex_line, threads_text, mutexes_text, replies_text};
+ghost use Rattle.report.specs.Replies.{reply_texts, ending, replies_line, owner_name, mutex_line, threads_text, mutexes_text, replies_text};
 
-use crate::pieces::{put, put_text};
+use crate::mutex_start::write_mutex_start;
+use crate::pieces::put;
 use lockword::{Cell, Reply};
 use std::io::{self, Write};
 
@@ -63,15 +64,6 @@ fn owner<'a>(threads: &[ThreadReplies<'a>], id: u32) -> &'a str
     }
 }
 
-/// The word in 16 hexadecimal digits, the highest first.
-fn digits(word: u64) -> [u8; 16]
-    ensures { result ≡ word_digits word }
-{
-    let mut digits = [0; 16];
-    let _ = hex::encode_to_slice(word.to_be_bytes(), &mut digits);
-    digits
-}
-
 /// `mutex NAME CELL OWNER SLEEPERS`: CELL in 16 hexadecimal digits, OWNER a thread's name or a hyphen. Nobody sleeps any more.
 fn write_mutex<W: Write>(
     out: &mut W,
@@ -80,12 +72,9 @@ fn write_mutex<W: Write>(
 ) -> io::Result<()>
     ensures { Leaves (W.contents out.old) (W.contents out.new) result (mutex_line threads.now mutex.now) }
 {
-    put(out, &["mutex ", mutex.name, " "])?;
-    put_text(out, &digits(mutex.cell))?;
-    put(
-        out,
-        &[" ", owner(threads, Cell::new(mutex.cell).owner()), " -\n"],
-    )
+    let owner = owner(threads, Cell::new(mutex.cell).owner());
+    write_mutex_start(out, mutex.name, mutex.cell, owner)?;
+    put(out, &["-\n"])
 }
 
 fn write_threads<W: Write>(out: &mut W, threads: &[ThreadReplies<'_>]) -> io::Result<()>

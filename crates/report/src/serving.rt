@@ -1,29 +1,39 @@
 //! The program, but for opening its file.
-ghost use Rattle.std.specs.Prelude.{◌≡◌, ◌≤◌, ◌+◌, ◌⊎◌, ◌↔◌, length, vec_len, IfOk, IfErr};
+ghost use Rattle.std.specs.Prelude.{◌≡◌, ◌≤◌, ◌<◌, ◌^◌, ◌+◌, ◌⊎◌, ◌↔◌, length, vec_len, Ok, IfOk, IfErr};
 ghost use Rattle.std.specs.Io.KnownBytes.{Consumes, IsAtEnd};
-ghost use Rattle.script.specs.declared.command.Mode.TheVariants.{Run, Threads};
+ghost use Rattle.script.specs.declared.command.Mode.TheVariants.{Run};
+ghost use Rattle.script.specs.Reading.{script_read};
+ghost use Rattle.script.specs.Played.{IsPlayed};
+ghost use Rattle.interleave.specs.Shown.{state_of};
 ghost use Rattle.report.specs.Leaves.{Leaves};
 ghost use Rattle.report.specs.Text.{trace_text};
+ghost use Rattle.report.specs.Tables.{table_text};
 ghost use Rattle.report.specs.Replies.{replies_text};
-ghost use Rattle.report.specs.Served.{Written, WritesFront, Tells, TellsFront, Served, ServedFront, ServedAs, ServedFrontAs, TakesAtMost};
+ghost use Rattle.report.specs.Served.{trace, table, replies, bytes_at_most, Written, WritesFront, Tells, TellsFront, Served, ServedFront, ServedAs, ServedFrontAs, TakesAtMost};
+ghost use Rattle.report.specs.Verdicts.{Checked, CheckedFront};
+ghost use Rattle.verdict.specs.declared.limits.TheConstants as traces;
 ghost use Rattle.report.specs.declared.form.Form.TheVariants.{Usage};
 
 use crate::answers::{mutex_words, thread_replies};
 use crate::form::Form;
+use crate::judging::judge_bytes;
 use crate::messages::{CANNOT_READ, CANNOT_WRITE, OUT_OF_MEMORY, USAGE};
 use crate::pieces::put;
 use crate::reading::{ReadFault, read_below};
 use crate::replies::{MutexWord, ThreadReplies, write_replies};
+use crate::table::write_table;
 use crate::text::write_trace;
 use crate::threads::{Answers, answers_of};
-use interleave::Trace;
-use script::{MAX_BYTES, Mode, Script, ScriptFault, jobs, parse, play};
+use interleave::{Machine, Trace};
+use script::{MAX_BYTES, Mode, Script, jobs, parse, play};
 use std::alloc::Global;
+use std::fmt::Display;
 use std::io::{self, Read, Write};
+use std::sync::Wait;
 use std::thread::Threads;
 
 /// Tells why nothing, or not all, was written. A message that can't be written is lost.
-fn tell<E: Write>(err: &mut E, message: &[&str]) -> u8
+pub(crate) fn tell<E: Write>(err: &mut E, message: &[&str]) -> u8
     ensures { result ≡ 1 }
 {
     let _ = put(err, message);
@@ -31,7 +41,7 @@ fn tell<E: Write>(err: &mut E, message: &[&str]) -> u8
     1
 }
 
-fn tell_fault<E: Write>(err: &mut E, fault: &ScriptFault) -> u8
+pub(crate) fn tell_fault<E: Write, F: Display>(err: &mut E, fault: &F) -> u8
     ensures { result ≡ 1 }
 {
     let _ = writeln!(err, "rfx: {fault}");
@@ -47,43 +57,106 @@ fn write_out<W: Write>(trace: &Trace, out: &mut W) -> io::Result<()>
     out.flush()
 }
 
-/// Reads the file's bytes, one more than a script may have at most, or tells why it can't.
-fn read_script<R: Read, E: Write>(
+/// Reads the file's bytes, at most one more than it may have, or tells why it can't.
+fn read_file<R: Read, E: Write>(
     alloc: Global,
     file: &str,
+    most: usize,
     input: &mut R,
     err: &mut E,
 ) -> Result<Vec<u8>, u8>
+    requires { most < 2 ^ 32 }
     ensures taken { IfOk result (λ v. Consumes (R.remaining input.old) (R.remaining input.new) v.items) }
-    ensures end { IfOk result (λ v. vec_len v ≤ MAX_BYTES → IsAtEnd (R.remaining input.new)) }
+    ensures end { IfOk result (λ v. vec_len v ≤ most → IsAtEnd (R.remaining input.new)) }
     ensures status { IfErr result (λ status. status ≡ 1) }
-    ensures limit { TakesAtMost (MAX_BYTES + 1) (R.remaining input.old) (R.remaining input.new) }
+    ensures limit { TakesAtMost (most + 1) (R.remaining input.old) (R.remaining input.new) }
 {
-    match read_below(alloc, input, MAX_BYTES + 1) {
+    match read_below(alloc, input, most + 1) {
         Ok(bytes) => Ok(bytes),
         Err(ReadFault::Memory) => Err(tell(err, &[OUT_OF_MEMORY])),
         Err(ReadFault::Failed) => Err(tell(err, &[CANNOT_READ, file, "\n"])),
     }
 }
 
-/// Reads a script's bytes, plays them, and writes their trace.
-fn run_bytes<W: Write, E: Write>(alloc: Global, bytes: &[u8], out: &mut W, err: &mut E) -> u8
-    ensures done { result ≡ 0 → Written Run (W.contents out.old) (W.contents out.new) bytes.now }
-    ensures front { WritesFront Run (W.contents out.old) (W.contents out.new) bytes.now }
-    ensures short { (length bytes.now ≤ MAX_BYTES) ⊎ ((W.contents out.new ≡ W.contents out.old) × (result ≡ 1)) }
-    ensures last { result ≤ 1 }
+/// A script that was read and played: its trace, and the machine as it was left.
+#[derive(Drop)]
+struct Played {
+    script: Script,
+    trace: Trace,
+    machine: Machine,
+}
+
+/// Reads a script's bytes and plays them, or tells why it can't.
+fn play_bytes<E: Write>(alloc: Global, bytes: &[u8], err: &mut E) -> Result<Played, u8>
+    ensures reads { IfOk result (λ p. script_read Run bytes.now ≡ Ok p.script) }
+    ensures plays { IfOk result (λ p. IsPlayed p.script p.trace p.machine) }
+    ensures short { IfOk result (λ _. length bytes.now ≤ MAX_BYTES) }
+    ensures status { IfErr result (λ status. status ≡ 1) }
 {
     let script = match parse(alloc, bytes, Mode::Run) {
         Ok(script) => script,
-        Err(fault) => return tell_fault(err, &fault),
+        Err(fault) => return Err(tell_fault(err, &fault)),
     };
-    let trace = match play(alloc, &script) {
-        Ok((trace, _machine)) => trace,
-        Err(fault) => return tell_fault(err, &fault),
+    match play(alloc, &script) {
+        Ok((trace, machine)) => Ok(Played {
+            script,
+            trace,
+            machine,
+        }),
+        Err(fault) => Err(tell_fault(err, &fault)),
+    }
+}
+
+/// Reads a script's bytes, plays them, and writes their trace.
+fn trace_bytes<W: Write, E: Write>(alloc: Global, bytes: &[u8], out: &mut W, err: &mut E) -> u8
+    ensures done { result ≡ 0 → Written trace (W.contents out.old) (W.contents out.new) bytes.now }
+    ensures front { WritesFront trace (W.contents out.old) (W.contents out.new) bytes.now }
+    ensures short { (length bytes.now ≤ MAX_BYTES) ⊎ ((W.contents out.new ≡ W.contents out.old) × (result ≡ 1)) }
+    ensures last { result ≤ 1 }
+{
+    let played = match play_bytes(alloc, bytes, err) {
+        Ok(played) => played,
+        Err(status) => return status,
     };
-    match write_out(&trace, out) {
+    match write_out(&played.trace, out) {
         Ok(()) => 0,
         Err(_) => tell(err, &[CANNOT_WRITE]),
+    }
+}
+
+/// Writes a table, and lets go of what the writer kept back.
+fn write_table_out<W: Write>(
+    script: &Script,
+    trace: &Trace,
+    machine: &Machine,
+    out: &mut W,
+) -> io::Result<()>
+    requires threads { machine.now.layout.threads ≡ length script.now.threads }
+    requires mutexes { machine.now.layout.mutexes ≡ length script.now.mutexes }
+    ensures { Leaves (W.contents out.old) (W.contents out.new) result (table_text script.now (state_of machine.now) trace.now.notes.items) }
+{
+    write_table(script, trace, machine, out)?;
+    out.flush()
+}
+
+/// Reads a script's bytes, plays them, and writes how they left its threads and mutexes.
+fn table_bytes<W: Write, E: Write>(alloc: Global, bytes: &[u8], out: &mut W, err: &mut E) -> u8
+    ensures done { result ≡ 0 → Written table (W.contents out.old) (W.contents out.new) bytes.now }
+    ensures front { WritesFront table (W.contents out.old) (W.contents out.new) bytes.now }
+    ensures short { (length bytes.now ≤ MAX_BYTES) ⊎ ((W.contents out.new ≡ W.contents out.old) × (result ≡ 1)) }
+    ensures last { result ≤ 1 }
+{
+    let Played {
+        script,
+        trace,
+        machine,
+    } = match play_bytes(alloc, bytes, err) {
+        Ok(played) => played,
+        Err(status) => return status,
+    };
+    match write_table_out(&script, &trace, &machine, out) {
+        Ok(()) => 0,
+        Err(_unwritten) => tell(err, &[CANNOT_WRITE]),
     }
 }
 
@@ -126,15 +199,15 @@ fn tell_answers<W: Write, E: Write>(
 }
 
 /// Reads a script's bytes, lets real threads make its calls, and writes what they were answered.
-fn thread_bytes<T: Threads + Sync, W: Write, E: Write>(
+fn thread_bytes<T: Threads + Wait + Sync, W: Write, E: Write>(
     rt: &T,
     alloc: Global,
     bytes: &[u8],
     out: &mut W,
     err: &mut E,
 ) -> u8
-    ensures done { result ≡ 0 → Written Threads (W.contents out.old) (W.contents out.new) bytes.now }
-    ensures front { WritesFront Threads (W.contents out.old) (W.contents out.new) bytes.now }
+    ensures done { result ≡ 0 → Written replies (W.contents out.old) (W.contents out.new) bytes.now }
+    ensures front { WritesFront replies (W.contents out.old) (W.contents out.new) bytes.now }
     ensures short { (length bytes.now ≤ MAX_BYTES) ⊎ ((W.contents out.new ≡ W.contents out.old) × (result ≡ 1)) }
     ensures last { result ≤ 1 }
 {
@@ -153,26 +226,45 @@ fn thread_bytes<T: Threads + Sync, W: Write, E: Write>(
 }
 
 /// `rfx run FILE`.
-fn serve_run<R: Read, W: Write, E: Write>(
+fn serve_trace<R: Read, W: Write, E: Write>(
     alloc: Global,
     file: &str,
     input: &mut R,
     out: &mut W,
     err: &mut E,
 ) -> u8
-    ensures done { result ≡ 0 → Served Run (R.remaining input.old) (R.remaining input.new) (W.contents out.old) (W.contents out.new) }
-    ensures front { ServedFront Run (R.remaining input.old) (R.remaining input.new) (W.contents out.old) (W.contents out.new) }
+    ensures done { result ≡ 0 → Served trace (R.remaining input.old) (R.remaining input.new) (W.contents out.old) (W.contents out.new) }
+    ensures front { ServedFront trace (R.remaining input.old) (R.remaining input.new) (W.contents out.old) (W.contents out.new) }
     ensures last { result ≤ 1 }
     ensures limit { TakesAtMost (MAX_BYTES + 1) (R.remaining input.old) (R.remaining input.new) }
 {
-    match read_script(alloc, file, input, err) {
-        Ok(bytes) => run_bytes(alloc, &bytes, out, err),
+    match read_file(alloc, file, MAX_BYTES, input, err) {
+        Ok(bytes) => trace_bytes(alloc, &bytes, out, err),
+        Err(status) => status,
+    }
+}
+
+/// `rfx run --table FILE`.
+fn serve_table<R: Read, W: Write, E: Write>(
+    alloc: Global,
+    file: &str,
+    input: &mut R,
+    out: &mut W,
+    err: &mut E,
+) -> u8
+    ensures done { result ≡ 0 → Served table (R.remaining input.old) (R.remaining input.new) (W.contents out.old) (W.contents out.new) }
+    ensures front { ServedFront table (R.remaining input.old) (R.remaining input.new) (W.contents out.old) (W.contents out.new) }
+    ensures last { result ≤ 1 }
+    ensures limit { TakesAtMost (MAX_BYTES + 1) (R.remaining input.old) (R.remaining input.new) }
+{
+    match read_file(alloc, file, MAX_BYTES, input, err) {
+        Ok(bytes) => table_bytes(alloc, &bytes, out, err),
         Err(status) => status,
     }
 }
 
 /// `rfx threads FILE`.
-fn serve_threads<T: Threads + Sync, R: Read, W: Write, E: Write>(
+fn serve_threads<T: Threads + Wait + Sync, R: Read, W: Write, E: Write>(
     rt: &T,
     alloc: Global,
     file: &str,
@@ -180,21 +272,40 @@ fn serve_threads<T: Threads + Sync, R: Read, W: Write, E: Write>(
     out: &mut W,
     err: &mut E,
 ) -> u8
-    ensures done { result ≡ 0 → Served Threads (R.remaining input.old) (R.remaining input.new) (W.contents out.old) (W.contents out.new) }
-    ensures front { ServedFront Threads (R.remaining input.old) (R.remaining input.new) (W.contents out.old) (W.contents out.new) }
+    ensures done { result ≡ 0 → Served replies (R.remaining input.old) (R.remaining input.new) (W.contents out.old) (W.contents out.new) }
+    ensures front { ServedFront replies (R.remaining input.old) (R.remaining input.new) (W.contents out.old) (W.contents out.new) }
     ensures last { result ≤ 1 }
     ensures limit { TakesAtMost (MAX_BYTES + 1) (R.remaining input.old) (R.remaining input.new) }
 {
-    match read_script(alloc, file, input, err) {
+    match read_file(alloc, file, MAX_BYTES, input, err) {
         Ok(bytes) => thread_bytes(rt, alloc, &bytes, out, err),
         Err(status) => status,
     }
 }
 
+/// `rfx check FILE`.
+fn serve_check<R: Read, W: Write, E: Write>(
+    alloc: Global,
+    file: &str,
+    input: &mut R,
+    out: &mut W,
+    err: &mut E,
+) -> u8
+    ensures done { result ≡ 0 → Checked (R.remaining input.old) (R.remaining input.new) (W.contents out.old) (W.contents out.new) }
+    ensures front { CheckedFront (R.remaining input.old) (R.remaining input.new) (W.contents out.old) (W.contents out.new) }
+    ensures last { result ≤ 1 }
+    ensures limit { TakesAtMost (traces.MAX_BYTES + 1) (R.remaining input.old) (R.remaining input.new) }
+{
+    match read_file(alloc, file, verdict::MAX_BYTES, input, err) {
+        Ok(bytes) => judge_bytes(alloc, &bytes, out, err),
+        Err(status) => status,
+    }
+}
+
 /// What `rfx` does for a form of its command line, the file being open as `input`. It answers the exit status: 0 where all of the reader was a script and what it means is written, the
-/// trace of a run or the replies of real threads; 1 for a fault, told on `err`; 2 where the command line has no form. Where a fault is met before the output begins, nothing is
-/// written. It reads at most one byte more than a script may have.
-pub fn serve<T: Threads + Sync, R: Read, W: Write, E: Write>(
+/// trace or the table of a run, or the replies of real threads, or where it was a legal trace and that is written; 1 for an illegal trace, and for a fault, told on `err`; 2 where the command
+/// line has no form. Where a fault is met before the output begins, nothing is written. It reads at most one byte more than a script or a trace may have.
+pub fn serve<T: Threads + Wait + Sync, R: Read, W: Write, E: Write>(
     rt: &T,
     alloc: Global,
     form: &Form<'_>,
@@ -206,11 +317,13 @@ pub fn serve<T: Threads + Sync, R: Read, W: Write, E: Write>(
     ensures front { ServedFrontAs form.now (R.remaining input.old) (R.remaining input.new) (W.contents out.old) (W.contents out.new) }
     ensures usage { (result ≡ 2) ↔ (form.now ≡ Usage) }
     ensures last { result ≤ 2 }
-    ensures limit { TakesAtMost (MAX_BYTES + 1) (R.remaining input.old) (R.remaining input.new) }
+    ensures limit { TakesAtMost (bytes_at_most form.now) (R.remaining input.old) (R.remaining input.new) }
 {
     match form {
-        Form::Run(file) => serve_run(alloc, file, input, out, err),
+        Form::Run(file) => serve_trace(alloc, file, input, out, err),
+        Form::Table(file) => serve_table(alloc, file, input, out, err),
         Form::Threads(file) => serve_threads(rt, alloc, file, input, out, err),
+        Form::Check(file) => serve_check(alloc, file, input, out, err),
         Form::Usage => {
             tell(err, &[USAGE]);
             2

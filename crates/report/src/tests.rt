@@ -1,8 +1,11 @@
 //! Texts, readers and writers worked out by hand.
 
 mod program;
+mod rows;
+mod tables;
 mod texts;
 mod threads;
+mod verdicts;
 
 use std::io::{self, ErrorKind, Write};
 

@@ -1,7 +1,7 @@
 //! The text of a trace.
 
 ghost use Rattle.std.specs.Prelude.{[], ◌∷◌, ◌++◌, map};
-ghost use Rattle.protocol.specs.Notes.{facts_of, point_facts, sleep_facts, refusal_facts, return_facts};
+ghost use Rattle.protocol.specs.Notes.{facts_of, point_facts, sleep_facts, refusal_facts, return_facts, death_facts, reap_facts};
 ghost use Rattle.protocol.specs.declared.note.Fact.TheVariants.{Wake};
 ghost use Rattle.report.specs.Leaves.{Leaves};
 ghost use Rattle.report.specs.Text.{facts_text, notes_text, trace_text};
@@ -120,6 +120,46 @@ fn write_step<W: Write>(
     write_end_of_step(out, event, thread, woken, returned)
 }
 
+/// The line of the mutex of which the thread's death was told, if it was.
+fn write_mourned<W: Write>(
+    out: &mut W,
+    event: usize,
+    thread: Tid,
+    death: Option<u16>,
+) -> io::Result<()>
+    ensures { Leaves (W.contents out.old) (W.contents out.new) result (facts_text event (death_facts thread death)) }
+{
+    match death {
+        Some(mutex) => write_fact(out, event, Fact::Death(thread, mutex)),
+        None => Ok(()),
+    }
+}
+
+/// The line of the thread's end, if its walk has ended.
+fn write_end_if<W: Write>(out: &mut W, event: usize, thread: Tid, reaped: bool) -> io::Result<()>
+    ensures { Leaves (W.contents out.old) (W.contents out.new) result (facts_text event (reap_facts thread reaped)) }
+{
+    if reaped {
+        write_fact(out, event, Fact::Reap(thread))
+    } else {
+        Ok(())
+    }
+}
+
+/// The lines of those that a walk woke, and of its thread's end.
+fn write_end_of_walk<W: Write>(
+    out: &mut W,
+    event: usize,
+    thread: Tid,
+    woken: &Batch,
+    reaped: bool,
+) -> io::Result<()>
+    ensures { Leaves (W.contents out.old) (W.contents out.new) result (facts_text event (map Wake woken.now ++ reap_facts thread reaped)) }
+{
+    write_woken(out, event, woken)?;
+    write_end_if(out, event, thread, reaped)
+}
+
 /// The lines of what the event did.
 fn write_note<W: Write>(out: &mut W, event: usize, note: Note) -> io::Result<()>
     ensures { Leaves (W.contents out.old) (W.contents out.new) result (facts_text event (facts_of note)) }
@@ -143,6 +183,16 @@ fn write_note<W: Write>(out: &mut W, event: usize, note: Note) -> io::Result<()>
         } => {
             write_decided(out, event, point)?;
             write_step(out, event, thread, slept, &woken, returned)
+        }
+        Note::Killed { thread } => write_fact(out, event, Fact::Kill(thread)),
+        Note::Walked {
+            thread,
+            death,
+            woken,
+            reaped,
+        } => {
+            write_mourned(out, event, thread, death)?;
+            write_end_of_walk(out, event, thread, &woken, reaped)
         }
     }
 }

@@ -9,8 +9,9 @@ use mutex::Call;
 use ruledwords::{Last, Live, Pass};
 use script::{Jobs, Phase, Script};
 use std::alloc::{AllocError, Global};
+use std::sync::Wait;
 use std::thread::Threads;
-use threadbench::{Bench, Job, Record};
+use threadbench::{Bench, Job, Open, Record};
 
 /// What each thread's calls were answered, in the order of their ids, and the word of each mutex's cell when all have ended.
 #[derive(Drop)]
@@ -63,7 +64,7 @@ fn gather(
 }
 
 /// Works a phase.
-fn run_phase<R: Threads + Sync>(
+fn run_phase<R: Threads + Wait + Sync>(
     rt: &R,
     alloc: Global,
     bench: &Bench,
@@ -79,7 +80,7 @@ fn run_phase<R: Threads + Sync>(
     let Ok(jobs) = hire(alloc, passes, phase) else {
         return Err(NoMem);
     };
-    let records = bench.work(rt, alloc, jobs)?;
+    let records = bench.work(rt, alloc, jobs, &Open)?;
     match gather(alloc, records, replies) {
         Ok(passes) => Ok(passes),
         Err(_) => Err(NoMem),
@@ -87,7 +88,7 @@ fn run_phase<R: Threads + Sync>(
 }
 
 /// Works all phases. One without jobs is passed over.
-fn run_phases<R: Threads + Sync>(
+fn run_phases<R: Threads + Wait + Sync>(
     rt: &R,
     alloc: Global,
     bench: &Bench,
@@ -154,7 +155,7 @@ fn finish(
 
 /// Lets real threads make the calls of a script, phase after phase, and tells what they were answered and what is left in the cells. A phase begins when
 /// all calls of the one before have been answered. Refused where no memory is left.
-pub(crate) fn answers_of<R: Threads + Sync>(
+pub(crate) fn answers_of<R: Threads + Wait + Sync>(
     rt: &R,
     alloc: Global,
     script: &Script,

@@ -1,4 +1,4 @@
-//! `rfx`: runs a script event by event and prints its trace, or lets real threads make its calls and prints their replies.
+//! `rfx`: runs a script event by event and prints its trace or its table, or lets real threads make its calls and prints their replies.
 //!
 //! All but opening files stands in `report`, whose contracts say what is written.
 #![tactic(auto)]
@@ -7,6 +7,7 @@ use report::{CANNOT_READ, Form, OUT_OF_MEMORY, form_of_words, serve};
 use std::alloc::{AllocError, Global};
 use std::io::{self, BufWriter, Read, Write};
 use std::process::ExitCode;
+use std::sync::Wait;
 use std::thread::Threads;
 use std::{env, fs};
 
@@ -32,7 +33,7 @@ fn lent<'a>(alloc: Global, words: &'a [String]) -> Result<Vec<&'a str>, AllocErr
 }
 
 /// Serves a form, by threads of `workers` where it needs some.
-fn served<T: Threads + Sync>(
+fn served<T: Threads + Wait + Sync>(
     rt: &HostRuntime,
     workers: &T,
     form: &Form<'_>,
@@ -42,19 +43,21 @@ fn served<T: Threads + Sync>(
     Ok(serve(workers, rt.alloc(), form, input, &mut out, &mut rt.stderr()))
 }
 
-fn run<T: Threads + Sync>(rt: &HostRuntime, workers: &T) -> io::Result<u8> {
+fn run<T: Threads + Wait + Sync>(rt: &HostRuntime, workers: &T) -> io::Result<u8> {
     let words = words(rt)?;
     let words = lent(rt.alloc(), &words)?;
     let Ok(form) = form_of_words(rt.alloc(), &words) else {
         return tell(rt, OUT_OF_MEMORY);
     };
     match form {
-        Form::Run(file) | Form::Threads(file) => served_file(rt, workers, &form, file),
+        Form::Run(file) | Form::Table(file) | Form::Threads(file) | Form::Check(file) => {
+            served_file(rt, workers, &form, file)
+        }
         Form::Usage => served(rt, workers, &form, &mut io::empty()),
     }
 }
 
-fn served_file<T: Threads + Sync>(
+fn served_file<T: Threads + Wait + Sync>(
     rt: &HostRuntime,
     workers: &T,
     form: &Form<'_>,

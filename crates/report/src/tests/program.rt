@@ -7,9 +7,10 @@ use crate::messages::{CANNOT_READ, CANNOT_WRITE, OUT_OF_MEMORY, USAGE};
 use crate::reading::{ReadFault, read_below};
 use crate::{Form, form_of_words, serve};
 use keys::NoMem;
-use std::alloc::{AllocError, Global};
+use std::alloc::AllocError;
 use std::io::{self, ErrorKind, Read, Write};
 use std::process::Abort;
+use std::sync::Wait;
 use std::thread::Threads;
 
 /// Gives one byte at a call, and each other call is interrupted. It fails at its end if it is told to.
@@ -88,11 +89,20 @@ fn forms_are_told(rt: HostRuntime) -> Result<(), NoMem> {
     asked(&rt, &[], Form::Usage)?;
     asked(&rt, &["rfx", "run"], Form::Usage)?;
     asked(&rt, &["rfx", "run", "a", "b"], Form::Usage)?;
-    asked(&rt, &["rfx", "run", "--table", "f"], Form::Usage)?;
+    asked(&rt, &["rfx", "run", "--table", "f"], Form::Table("f"))?;
+    asked(&rt, &["rfx", "run", "f", "--table"], Form::Usage)?;
+    asked(&rt, &["rfx", "--table", "run", "f"], Form::Usage)?;
+    asked(&rt, &["rfx", "run", "--table"], Form::Usage)?;
+    asked(&rt, &["rfx", "run", "--table", "-x"], Form::Usage)?;
+    asked(&rt, &["rfx", "threads", "--table", "f"], Form::Usage)?;
     asked(&rt, &["rfx", "threads", "-f"], Form::Usage)?;
     asked(&rt, &["rfx", "threads"], Form::Usage)?;
     asked(&rt, &["rfx", "threads", "a", "b"], Form::Usage)?;
-    asked(&rt, &["rfx", "check", "f"], Form::Usage)?;
+    asked(&rt, &["rfx", "check", "f"], Form::Check("f"))?;
+    asked(&rt, &["rfx", "check", "-f"], Form::Usage)?;
+    asked(&rt, &["rfx", "check"], Form::Usage)?;
+    asked(&rt, &["rfx", "check", "a", "b"], Form::Usage)?;
+    asked(&rt, &["rfx", "check", "--table", "f"], Form::Usage)?;
     asked(&rt, &["rfx", "--help"], Form::Usage)?;
     asked(&rt, &["rfx", "--version"], Form::Usage)?;
     asked(&rt, &["rfx", "run", "--help"], Form::Usage)?;
@@ -129,7 +139,7 @@ const ROW_TEXT: &str = "trace 1 1 0\n\
 
 /// What `rfx run f` answers, prints and tells, where `f` is the reader.
 fn run_is(
-    rt: &(impl AllocGlobal + Abort + Threads + Sync),
+    rt: &(impl AllocGlobal + Abort + Threads + Wait + Sync),
     mut input: Slow<'_>,
     status: u8,
     printed: &str,

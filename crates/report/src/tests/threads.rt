@@ -3,6 +3,7 @@
 use super::{Fixed, Narrow};
 use crate::{Form, serve};
 use std::process::Abort;
+use std::sync::Wait;
 use std::thread::Threads;
 
 /// One thread is refused, takes, fails to take again and releases one mutex.
@@ -19,7 +20,7 @@ const PHASES_TEXT: &str = "replies a OK OK\nreplies b EBUSY OK\nmutex m 00000000
 
 /// What `rfx threads f` answers, prints and tells of this script.
 fn threads_are(
-    rt: &(impl AllocGlobal + Abort + Threads + Sync),
+    rt: &(impl AllocGlobal + Abort + Threads + Wait + Sync),
     script: &str,
     status: u8,
     printed: &str,

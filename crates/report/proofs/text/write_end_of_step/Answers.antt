@@ -1,6 +1,6 @@
-use Rattle.std.proofs.Common.{◌++◌, map}
+use Rattle.std.proofs.Common.{map}
 use Rattle.protocol.specs.declared.note.Fact.TheVariants.{Wake}
-use Rattle.protocol.specs.Notes.{sleep_facts, return_facts}
+use Rattle.protocol.specs.Notes.{return_facts}
 use Rattle.report.specs.Text.{facts_text}
 use Rattle.report.proofs.Events.{facts_text-append}
 use Rattle.report.proofs.Writers.{ends_at_first, then_leaves}

@@ -1,6 +1,6 @@
 use Rattle.std.proofs.Common.{◌++◌, map}
 use Rattle.protocol.specs.declared.note.Fact.TheVariants.{Begin, Wake}
-use Rattle.protocol.specs.Notes.{point_facts, sleep_facts, refusal_facts, return_facts}
+use Rattle.protocol.specs.Notes.{point_facts, sleep_facts, refusal_facts, return_facts, death_facts, reap_facts}
 use Rattle.report.specs.Text.{fact_text, facts_text}
 use Rattle.report.proofs.Events.{facts_text-append}
 use Rattle.report.proofs.Writers.{ends_at_first, then_leaves}
@@ -30,3 +30,18 @@ returns-in_ok-write_decided-in-Stepped g c =
     let later = sleep_facts c.in-Stepped.thread c.in-Stepped.slept ++ (map Wake c.in-Stepped.woken ++ return_facts c.in-Stepped.thread c.in-Stepped.returned) in
     rw (c.in-Stepped.is, facts_text-append c.args.event point later)
     (then_leaves _ _ _ c.write_step.result (facts_text c.args.event point) (facts_text c.args.event later) c.in_ok-write_decided-in-Stepped.ensures c.write_step.ensures)
+
+pub returns-in_err-write_mourned-in-Walked : goal.returns-in_err-write_mourned-in-Walked
+returns-in_err-write_mourned-in-Walked g c =
+    let death = death_facts c.in-Walked.thread c.in-Walked.death in
+    let later = map Wake c.in-Walked.woken ++ reap_facts c.in-Walked.thread c.in-Walked.reaped in
+    rw (c.in-Walked.is, facts_text-append c.args.event death later)
+    (ends_at_first _ _ c.from_residual-in_err-write_mourned-in-Walked.result (facts_text c.args.event death) (facts_text c.args.event later) c.from_residual-in_err-write_mourned-in-Walked.ensures.0
+    c.in_err-write_mourned-in-Walked.ensures)
+
+pub returns-in_ok-write_mourned-in-Walked : goal.returns-in_ok-write_mourned-in-Walked
+returns-in_ok-write_mourned-in-Walked g c =
+    let death = death_facts c.in-Walked.thread c.in-Walked.death in
+    let later = map Wake c.in-Walked.woken ++ reap_facts c.in-Walked.thread c.in-Walked.reaped in
+    rw (c.in-Walked.is, facts_text-append c.args.event death later)
+    (then_leaves _ _ _ c.write_end_of_walk.result (facts_text c.args.event death) (facts_text c.args.event later) c.in_ok-write_mourned-in-Walked.ensures c.write_end_of_walk.ensures)

@@ -1,5 +1,5 @@
 use Rattle.std.proofs.Common.{◌∙◌, sym}
-use Rattle.report.proofs.Phases.{jobs_right, worked, as_long}
+use Rattle.report.proofs.Phases.{jobs_right, worked, as_long, open_gate}
 use Rattle.threadbench.specs.Jobs.{IsDone}
 use Rattle.report.proofs.threads.run_phase.Goals as goal
 
@@ -8,7 +8,7 @@ work-requires-after_bounds g c κs within = jobs_right c.args.bench.now c.args.p
 
 pub gather-requires : goal.gather-requires
 gather-requires g c =
-    c.requires.as_many ∙ sym c.in-Ok.ensures.as_many ∙ sym (as_long (IsDone c.args.bench.now) c.in-Ok.jobs.items c.in_ok-records.records.items c.in_ok-records.ensures)
+    c.requires.as_many ∙ sym c.in-Ok.ensures.as_many ∙ sym (as_long (IsDone c.args.bench.now open_gate) c.in-Ok.jobs.items c.in_ok-records.records.items c.in_ok-records.ensures)
 
 pub returns-in-Ok-gather : goal.returns-in-Ok-gather
 returns-in-Ok-gather g c =

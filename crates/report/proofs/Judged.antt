@@ -1,0 +1,31 @@
+-- What was written of a trace that was judged.
+use Rattle.std.proofs.Common.{◌≡◌, ◌≤◌, ◌⊎◌, ℕ, Bool, true, false, List, length, Option, Result, Ok, Err, inl, inr, refl, sym, ◌∙◌, arith}
+use Rattle.std.specs.Prelude.{nat_lt, if◌then◌else◌}
+use Rattle.std.specs.Str.{is_utf8}
+use Rattle.std.specs.Io.KnownBytes.{Appends, Consumes, IsAtEnd}
+use Rattle.std.proofs.lemmas.Bool.Decides.{nat_tests}
+use Rattle.script.specs.Forms.{lines_of}
+use Rattle.script.specs.Reading.{bad_line}
+use Rattle.verdict.specs.declared.checking.Verdict.{Verdict}
+use Rattle.verdict.specs.declared.checking.Verdict.TheVariants.{Legal, Illegal}
+use Rattle.verdict.specs.declared.fault.Fault.TheVariants.{NotUtf8, TooLong}
+use Rattle.verdict.specs.declared.fault.TraceFault.{TraceFault}
+use Rattle.verdict.specs.declared.limits.TheConstants.{MAX_BYTES}
+use Rattle.verdict.specs.Reading.{Trace, fault_at, text_read, trace_read}
+use Rattle.report.specs.Leaves.{AppendsFront}
+use Rattle.report.specs.Verdicts.{verdict_text, verdict_status, IsVerdictOn, FoundLegal, JudgedFront, Checked, CheckedFront}
+
+-- the verdict whose status is 0 is that the trace is legal
+pub found : (old new : Option (List ℕ)) (bytes : List ℕ) (v : Verdict) → IsVerdictOn bytes v → Appends old new (verdict_text v) → verdict_status v ≡ 0 → FoundLegal old new bytes
+found old new bytes (Legal points) on a is = (points, on, a)
+found old new bytes (Illegal line) on a is = absurd cc
+
+-- a trace isn't too long
+pub read_is_short : (bytes : List ℕ) (t : Trace) → trace_read bytes ≡ Ok t → length bytes ≤ MAX_BYTES
+read_is_short bytes t is = go (nat_lt MAX_BYTES (length bytes)) refl
+  where
+    go : (b : Bool) → nat_lt MAX_BYTES (length bytes) ≡ b → length bytes ≤ MAX_BYTES
+    go true long =
+        let fault : trace_read bytes ≡ Err (fault_at 1 TooLong) = rw long refl in
+        let both : Ok t ≡ Err (fault_at 1 TooLong) = sym is ∙ fault in absurd cc
+    go false short = grind (arith, nat_tests)

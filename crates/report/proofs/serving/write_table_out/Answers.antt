@@ -1,0 +1,7 @@
+use Rattle.interleave.specs.Shown.{state_of}
+use Rattle.report.specs.Tables.{table_text}
+use Rattle.report.proofs.Writers.{kept_leaves}
+use Rattle.report.proofs.serving.write_table_out.Goals as goal
+
+pub returns : goal.returns
+returns g c = kept_leaves _ _ _ c.flush.result (table_text c.args.script.now (state_of c.args.machine.now) c.args.trace.now.notes.items) c.in_ok-write_table.ensures c.flush.ensures.bytes
