@@ -10,7 +10,7 @@ use Rattle.buckets.specs.Queues.{threads_on, StandOnce}
 use Rattle.buckets.proofs.Places.{threads_on-append, sleeper_of, stands_there}
 
 -- what is in a list is still there once another one is removed
-Contains-remove : (ids : List ℕ) (i t : ℕ) → i < length ids → get_or ids i t ≢ t → Contains ids t → Contains (remove ids i) t
+pub Contains-remove : (ids : List ℕ) (i t : ℕ) → i < length ids → get_or ids i t ≢ t → Contains ids t → Contains (remove ids i) t
 Contains-remove ids i t lt other at = go (cases_lt at.0 i)
   where
     len : length (remove ids i) + 1 ≡ length ids

@@ -1,3 +1,4 @@
 pub mod Changes
 pub mod Counting
+pub mod Moves
 pub mod Places

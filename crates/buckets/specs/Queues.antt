@@ -1,5 +1,5 @@
 -- The sleepers of a hash bucket, and the queue of each key (futex(2)).
-use Rattle.std.specs.Prelude.{ℕ, ◌≡◌, ◌≢◌, ◌≤◌, ◌+◌, ◌==◌, Bool, not, List, [], ◌∷◌, ◌++◌, length, map, filter, take, drop, if◌then◌else◌, AllPairs, Contains, MatchBool}
+use Rattle.std.specs.Prelude.{ℕ, ◌≡◌, ◌≢◌, ◌≤◌, ◌+◌, ◌==◌, Bool, not, List, [], ◌∷◌, ◌++◌, length, map, filter, take, drop, if◌then◌else◌, All, AllPairs, Contains, MatchBool}
 use Rattle.buckets.specs.declared.sleeper.Sleeper.{Sleeper}
 
 -- who sleeps in a bucket with room for so many. Of those on one key, who came earlier stands first; the order between keys says nothing
@@ -70,6 +70,32 @@ pub record Takes (old new : Sleepers) (key n : ℕ) (taken : List ℕ) : Type 0 
   pub queues : (k : ℕ) → queue new k ≡ (if k == key then drop n (queue old k) else queue old k)
   pub fewer : standing new + length taken ≡ standing old
   pub capacity : new.capacity ≡ old.capacity
+
+-- the threads were put at the end of the key's queue, in order, and every other queue stays
+pub record Joins (old new : Sleepers) (threads : List ℕ) (key : ℕ) : Type 0 where
+  pub queues : (k : ℕ) → queue new k ≡ (if k == key then queue old k ++ threads else queue old k)
+  pub more : standing new ≡ standing old + length threads
+  pub capacity : new.capacity ≡ old.capacity
+
+-- the first n of the key's queue, or all where there are fewer, were taken out of it and put at the end of another queue of the bucket, in order,
+-- and every other queue stays
+pub record MovesWithin (old new : Sleepers) (key n to : ℕ) (moved : List ℕ) : Type 0 where
+  pub firsts : moved ≡ take n (queue old key)
+  pub left : queue new key ≡ drop n (queue old key)
+  pub joined : queue new to ≡ queue old to ++ moved
+  pub others : (k : ℕ) → k ≢ key → k ≢ to → queue new k ≡ queue old k
+  pub as_many : standing new ≡ standing old
+  pub capacity : new.capacity ≡ old.capacity
+
+-- the same into a queue of another bucket, `other`: each bucket's other queues stay
+pub record MovesTo (old new other_old other_new : Sleepers) (key n to : ℕ) (moved : List ℕ) : Type 0 where
+  pub leave : Takes old new key n moved
+  pub join : Joins other_old other_new moved to
+
+-- the first n of the key's queue, or all where there are fewer, can be put into another bucket: it has room for them, and none of them stands in it
+pub record Fits (b other : Sleepers) (key n : ℕ) : Type 0 where
+  pub room : standing other + length (take n (queue b key)) ≤ other.capacity
+  pub awake : All (StandsNowhere other) (take n (queue b key))
 
 -- the thread was taken out of the queue it stood in, if it stood, and everybody else stays
 pub record Removes (old new : Sleepers) (thread : ℕ) (stood : Bool) : Type 0 where

@@ -1,4 +1,4 @@
-//! Those that one wake takes.
+//! Those that one wake or one requeue takes.
 ghost use Rattle.std.specs.Prelude.{◌≡◌, ◌==◌, ◌<◌, ◌≤◌, [], ◌∷◌, ◌++◌, length, slice_get};
 
 use lockword::Tid;

@@ -1,7 +1,7 @@
 //! The bucket.
-ghost use Rattle.std.specs.Prelude.{◌≡◌, ◌==◌, ◌<◌, ◌≤◌, ◌%◌, ◌^◌, length, option_to_list, IfOk, MatchBool};
+ghost use Rattle.std.specs.Prelude.{◌≡◌, ◌≢◌, ◌==◌, ◌<◌, ◌≤◌, ◌+◌, ◌%◌, ◌^◌, length, option_to_list, All, AllPairs, IfOk, MatchBool};
 ghost use Rattle.std.specs.Bool.{OnTrue};
-ghost use Rattle.buckets.specs.Queues.{queue, standing, Stands, StandsNowhere, IsOrderly, IsEmptied, Enqueues, Takes, Removes};
+ghost use Rattle.buckets.specs.Queues.{queue, standing, Stands, StandsNowhere, IsOrderly, IsEmptied, Enqueues, Takes, Joins, MovesWithin, MovesTo, Fits, Removes};
 
 use crate::batch::Batch;
 use crate::sleeper::{Sleeper, batch_on, count_on, first_on, place_of};
@@ -91,6 +91,70 @@ impl Bucket {
     {
         let place = first_on(&self.sleepers, key)?;
         Some(self.sleepers.remove(place).thread)
+    }
+
+    /// Puts the threads at the end of the key's queue, in order.
+    fn enqueue_all(&mut self, threads: &Batch, key: Key)
+        requires room { standing self.old + length threads.now ≤ self.old.capacity }
+        requires awake { All (StandsNowhere self.old) threads.now }
+        requires once { AllPairs (λ t u. t ≢ u) threads.now }
+        ensures changes { Joins self.old self.new threads.now key.0 }
+        ensures orderly { IsOrderly self.new }
+    {
+        // What a bucket always keeps is known once a field of it is read.
+        let _capacity = self.capacity;
+        for place in 0..threads.len() {
+            if let Some(next) = threads.get(place) {
+                self.enqueue(next, key);
+            }
+        }
+    }
+
+    /// Moves the first `n` of the key's queue, or all where there are fewer, to the end of another key's queue; answers them, in order (futex(2), FUTEX_REQUEUE).
+    pub fn move_within(&mut self, key: Key, n: u32, to: Key) -> Batch
+        requires apart { key.0 ≢ to.0 }
+        ensures changes { MovesWithin self.old self.new key.0 n to.0 result }
+        ensures orderly { IsOrderly self.new }
+    {
+        // As in `enqueue_all`, for what the bucket keeps.
+        let _capacity = self.capacity;
+        let moved = self.take(key, n);
+        self.enqueue_all(&moved, to);
+        moved
+    }
+
+    /// Moves the first `n` of the key's queue, or all where there are fewer, to the end of a queue of another bucket; answers them, in order (futex(2), FUTEX_REQUEUE).
+    /// The other bucket has to have room for those moved, and none of them may stand in it: [`Bucket::fits`] tells.
+    pub fn move_to(&mut self, other: &mut Bucket, key: Key, n: u32, to: Key) -> Batch
+        requires fits { Fits self.old other.old key.0 n }
+        ensures changes { MovesTo self.old self.new other.old other.new key.0 n to.0 result }
+        ensures orderly { IsOrderly self.new }
+        ensures other { IsOrderly other.new }
+    {
+        // As in `enqueue_all`, for what the bucket keeps.
+        let _capacity = self.capacity;
+        let moved = self.take(key, n);
+        other.enqueue_all(&moved, to);
+        moved
+    }
+
+    /// The first `n` of the key's queue, or all where there are fewer, can be moved into another bucket by [`Bucket::move_to`]: it has room for them, and none of them stands in it.
+    pub fn fits(&self, other: &Bucket, key: Key, n: u32) -> bool
+        ensures { MatchBool result (Fits self.now other.now key.0 n) (¬ Fits self.now other.now key.0 n) }
+    {
+        let queue = self.sleepers(key);
+        let moved = (n as usize).min(queue.len());
+        if other.capacity - other.sleepers.len() < moved {
+            return false;
+        }
+        for place in 0..moved {
+            if let Some(thread) = queue.get(place) {
+                if other.stands(thread) {
+                    return false;
+                }
+            }
+        }
+        true
     }
 
     /// Takes the thread out of the queue it stands in. False where it stood in none.

@@ -4,6 +4,7 @@ ghost use Rattle.std.specs.Prelude.{◌≡◌, ◌<◌, ◌≤◌};
 use crate::{Batch, Bucket};
 use keys::Key;
 use lockword::Tid;
+use std::alloc::Global;
 use std::process::Abort;
 use std::test::Fail;
 
@@ -11,6 +12,9 @@ const CAPACITY: usize = 8;
 
 /// Ids from 1 to here take part, more than a bucket has room for.
 const LAST: u64 = 12;
+
+/// Keys from 0 to below here take part.
+const KEYS: u64 = 4;
 
 fn thread(id: u8) -> Result<Tid, Fail> {
     Ok(Tid::new(id).ok_or("no thread has this id")?)
@@ -82,6 +86,57 @@ fn a_removal_takes_one_thread(rt: HostRuntime) -> Result<(), Fail> {
     Ok(())
 }
 
+/// A requeue within the bucket, of keys that differ.
+fn move_within(rt: &impl Abort, bucket: &mut Bucket, key: Key, n: u32, to: Key) -> Batch {
+    assert!(rt; key.0 != to.0);
+    bucket.move_within(key, n, to)
+}
+
+#[test]
+fn a_requeue_moves_the_first_of_one_key(rt: HostRuntime) -> Result<(), Fail> {
+    let mut bucket = Bucket::new(rt.alloc(), 5)?;
+    for (id, key) in [(1, 7), (5, 9), (2, 7), (6, 8), (3, 7)] {
+        enqueue(&rt, &mut bucket, thread(id)?, Key(key));
+    }
+    has_ids(&rt, &move_within(&rt, &mut bucket, Key(7), 0, Key(9)), &[]);
+    has_ids(
+        &rt,
+        &move_within(&rt, &mut bucket, Key(7), 2, Key(9)),
+        &[1, 2],
+    );
+    has_ids(&rt, &bucket.sleepers(Key(7)), &[3]);
+    has_ids(&rt, &bucket.sleepers(Key(8)), &[6]);
+    has_ids(&rt, &bucket.sleepers(Key(9)), &[5, 1, 2]);
+    has_ids(
+        &rt,
+        &move_within(&rt, &mut bucket, Key(9), u32::MAX, Key(7)),
+        &[5, 1, 2],
+    );
+    has_ids(&rt, &bucket.sleepers(Key(7)), &[3, 5, 1, 2]);
+    Ok(())
+}
+
+#[test]
+fn a_requeue_moves_into_another_bucket(rt: HostRuntime) -> Result<(), Fail> {
+    let mut bucket = Bucket::new(rt.alloc(), 4)?;
+    let mut other = Bucket::new(rt.alloc(), 3)?;
+    for id in [1, 2, 3, 4] {
+        enqueue(&rt, &mut bucket, thread(id)?, Key(7));
+    }
+    enqueue(&rt, &mut other, thread(5)?, Key(9));
+    assert!(rt; bucket.fits(&other, Key(8), u32::MAX));
+    assert!(rt; !bucket.fits(&other, Key(7), 3));
+    assert!(rt; bucket.fits(&other, Key(7), 2));
+    has_ids(&rt, &bucket.move_to(&mut other, Key(7), 2, Key(9)), &[1, 2]);
+    has_ids(&rt, &bucket.sleepers(Key(7)), &[3, 4]);
+    has_ids(&rt, &other.sleepers(Key(9)), &[5, 1, 2]);
+    has_ids(&rt, &other.take(Key(9), 3), &[5, 1, 2]);
+    enqueue(&rt, &mut other, thread(4)?, Key(9));
+    assert!(rt; bucket.fits(&other, Key(7), 1));
+    assert!(rt; !bucket.fits(&other, Key(7), 2));
+    Ok(())
+}
+
 #[test]
 fn a_wait_compares_the_low_half(rt: HostRuntime) -> Result<(), Fail> {
     let mut bucket = Bucket::new(rt.alloc(), 2)?;
@@ -109,10 +164,42 @@ fn next(state: &mut u64, limit: u64) -> u64
 /// Plain lists of ids, one for each key.
 type Lists = Vec<Vec<u8>>;
 
+/// A bucket, and the plain lists that it is to agree with.
+#[derive(Drop)]
+struct Side {
+    bucket: Bucket,
+    lists: Lists,
+}
+
+impl Side {
+    fn new(alloc: Global) -> Result<Side, Fail> {
+        let mut lists = Vec::new(alloc);
+        for _ in 0..KEYS {
+            lists.push(Vec::new(alloc))?;
+        }
+        Ok(Side {
+            bucket: Bucket::new(alloc, CAPACITY)?,
+            lists,
+        })
+    }
+
+    fn list(&mut self, key: u64) -> Result<&mut Vec<u8>, Fail> {
+        Ok(self.lists.get_mut(key as usize).ok_or("no list")?)
+    }
+}
+
 fn stands(lists: &Lists, id: u8) -> bool {
     lists
         .iter()
         .any(|list| list.iter().any(|other| *other == id))
+}
+
+fn standing(lists: &Lists) -> usize {
+    let mut standing = 0_usize;
+    for list in lists {
+        standing = standing.wrapping_add(list.len());
+    }
+    standing
 }
 
 fn remove(lists: &mut Lists, id: u8) -> bool {
@@ -124,6 +211,26 @@ fn remove(lists: &mut Lists, id: u8) -> bool {
         }
     }
     false
+}
+
+/// The first of a list, `n` at most.
+fn firsts(alloc: Global, list: &[u8], n: u32) -> Result<Vec<u8>, Fail> {
+    let mut ids = Vec::new(alloc);
+    for id in list.iter().take(n as usize) {
+        ids.push(*id)?;
+    }
+    Ok(ids)
+}
+
+/// Moves the first of one plain list, `n` at most, to the end of another one.
+fn shift(list: &mut Vec<u8>, n: u32, to: &mut Vec<u8>) -> Result<(), Fail> {
+    for _ in 0..n {
+        if list.is_empty() {
+            return Ok(());
+        }
+        to.push(list.remove(0))?;
+    }
+    Ok(())
 }
 
 /// A wake of the bucket and of a plain list tell the same.
@@ -144,40 +251,94 @@ fn take(rt: &impl Abort, bucket: &mut Bucket, list: &mut Vec<u8>, key: Key, n: u
     assert_eq!(rt; batch.len(), n as usize);
 }
 
-/// The bucket and the plain lists have the same queues.
-fn agree(rt: &impl Abort, bucket: &Bucket, lists: &Lists) {
-    let mut standing = 0_u64;
-    for (key, list) in lists.iter().enumerate() {
-        assert_eq!(rt; bucket.count(Key(key as u64)), list.len(), "on {key}");
-        has_ids(rt, &bucket.sleepers(Key(key as u64)), list);
-        standing = standing.wrapping_add(list.len() as u64);
+/// A requeue within the bucket and one between plain lists tell the same.
+fn requeue_within(
+    rt: &impl Abort,
+    alloc: Global,
+    side: &mut Side,
+    key: u64,
+    n: u32,
+    to: u64,
+) -> Result<(), Fail> {
+    if key == to {
+        return Ok(());
     }
-    assert_eq!(rt; bucket.full(), standing == CAPACITY as u64);
+    let moved = firsts(alloc, side.list(key)?, n)?;
+    let mut list = Vec::new(alloc);
+    list.append(side.list(key)?)?;
+    shift(&mut list, n, side.list(to)?)?;
+    side.list(key)?.append(&mut list)?;
+    has_ids(rt, &side.bucket.move_within(Key(key), n, Key(to)), &moved);
+    Ok(())
+}
+
+/// A requeue into another bucket and one between plain lists tell the same, and it fits exactly where there is room for those moved, and none of them stands there.
+fn requeue_to(
+    rt: &impl Abort,
+    alloc: Global,
+    side: &mut Side,
+    other: &mut Side,
+    state: &mut u64,
+) -> Result<(), Fail> {
+    let (key, n, to) = (next(state, KEYS), next(state, 5) as u32, next(state, KEYS));
+    let moved = firsts(alloc, side.list(key)?, n)?;
+    let room = standing(&other.lists).wrapping_add(moved.len()) <= CAPACITY;
+    let awake = moved.iter().all(|id| !stands(&other.lists, *id));
+    let fits = side.bucket.fits(&other.bucket, Key(key), n);
+    assert_eq!(rt; fits, room && awake);
+    if fits {
+        let batch = side.bucket.move_to(&mut other.bucket, Key(key), n, Key(to));
+        has_ids(rt, &batch, &moved);
+        shift(side.list(key)?, n, other.list(to)?)?;
+    }
+    Ok(())
+}
+
+/// The bucket and the plain lists have the same queues.
+fn agree(rt: &impl Abort, side: &Side) -> Result<(), Fail> {
+    for (key, list) in side.lists.iter().enumerate() {
+        assert_eq!(rt; side.bucket.count(Key(key as u64)), list.len(), "on {key}");
+        has_ids(rt, &side.bucket.sleepers(Key(key as u64)), list);
+    }
+    assert_eq!(rt; side.bucket.full(), standing(&side.lists) == CAPACITY);
+    for id in 1..=LAST as u8 {
+        assert_eq!(rt;
+            side.bucket.stands(thread(id)?),
+            stands(&side.lists, id),
+            "{id}"
+        );
+    }
+    Ok(())
 }
 
 /// One call of the bucket, and the same of the plain lists.
-fn step(
-    rt: &impl Abort,
-    bucket: &mut Bucket,
-    lists: &mut Lists,
-    state: &mut u64,
-) -> Result<(), Fail> {
+fn step(rt: &impl Abort, alloc: Global, side: &mut Side, state: &mut u64) -> Result<(), Fail> {
     let id = 1 + next(state, LAST) as u8;
     let thread = thread(id)?;
-    let key = next(state, 4);
-    let list = lists.get_mut(key as usize).ok_or("no list")?;
-    let stood = bucket.stands(thread);
-    match next(state, 8) {
-        0 => take(rt, bucket, list, Key(key), next(state, 4) as u32),
-        1 => assert_eq!(rt; bucket.remove(thread), remove(lists, id)),
-        call if !stood && !bucket.full() => {
+    let key = next(state, KEYS);
+    let stood = side.bucket.stands(thread);
+    match next(state, 9) {
+        0 => {
+            let list = side.lists.get_mut(key as usize).ok_or("no list")?;
+            take(rt, &mut side.bucket, list, Key(key), next(state, 4) as u32);
+        }
+        1 => assert_eq!(rt; side.bucket.remove(thread), remove(&mut side.lists, id)),
+        2 => requeue_within(
+            rt,
+            alloc,
+            side,
+            key,
+            next(state, 5) as u32,
+            next(state, KEYS),
+        )?,
+        call if !stood && !side.bucket.full() => {
             let seen = next(state, 2) << 32 | next(state, 3);
-            if call < 4 {
-                bucket.enqueue(thread, Key(key));
-                list.push(id)?;
-            } else if bucket.wait_section(thread, Key(key), seen, 1) {
+            if call < 5 {
+                side.bucket.enqueue(thread, Key(key));
+                side.list(key)?.push(id)?;
+            } else if side.bucket.wait_section(thread, Key(key), seen, 1) {
                 assert_eq!(rt; seen % 0x1_0000_0000, 1);
-                list.push(id)?;
+                side.list(key)?.push(id)?;
             } else {
                 assert!(rt; seen % 0x1_0000_0000 != 1);
             }
@@ -189,22 +350,21 @@ fn step(
 
 #[test]
 fn many_calls_agree_with_plain_lists(rt: HostRuntime) -> Result<(), Fail> {
-    let mut bucket = Bucket::new(rt.alloc(), CAPACITY)?;
-    let mut lists = Vec::new(rt.alloc());
-    for _ in 0..4 {
-        lists.push(Vec::new(rt.alloc()))?;
-    }
+    let mut side = Side::new(rt.alloc())?;
+    let mut other = Side::new(rt.alloc())?;
     let mut state = 2024;
-    for _ in 0..4000 {
-        step(&rt, &mut bucket, &mut lists, &mut state)?;
-        agree(&rt, &bucket, &lists);
-        for id in 1..=LAST as u8 {
-            assert_eq!(rt; bucket.stands(thread(id)?), stands(&lists, id), "{id}");
+    for _ in 0..2000 {
+        step(&rt, rt.alloc(), &mut side, &mut state)?;
+        step(&rt, rt.alloc(), &mut other, &mut state)?;
+        if next(&mut state, 4) == 0 {
+            requeue_to(&rt, rt.alloc(), &mut side, &mut other, &mut state)?;
         }
+        agree(&rt, &side)?;
+        agree(&rt, &other)?;
     }
-    for (key, list) in lists.iter_mut().enumerate() {
-        take(&rt, &mut bucket, list, Key(key as u64), u32::MAX);
+    for (key, list) in side.lists.iter_mut().enumerate() {
+        take(&rt, &mut side.bucket, list, Key(key as u64), u32::MAX);
     }
-    assert!(rt; (0..4).all(|key| bucket.count(Key(key)) == 0));
+    assert!(rt; (0..KEYS).all(|key| side.bucket.count(Key(key)) == 0));
     Ok(())
 }

@@ -12,7 +12,7 @@ pub record Taken (bs : List Sleepers) (i : ℕ) (b : Sleepers) : Type 0 where
   pub below : i < length bs
   pub is : b ≡ get_or bs i b
 
-here : (bs : List Sleepers) (i : ℕ) (b : Sleepers) → Taken bs i b → bucket_at bs i ≡ b
+pub here : (bs : List Sleepers) (i : ℕ) (b : Sleepers) → Taken bs i b → bucket_at bs i ≡ b
 here bs i b taken = get_or_default bs i nobody b taken.below ∙ sym taken.is
 
 pub same_buckets : (n : ℕ) (hs : List ℕ) (bs : List Sleepers) (i : ℕ) (b : Sleepers) → Taken bs i b → kernel n hs (set bs i b) ≡ kernel n hs bs

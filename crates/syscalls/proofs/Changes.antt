@@ -162,7 +162,7 @@ falls_asleep n hs bs b t key s e = record {
 
 -- ---- the first are woken
 
-contains_drop : (m : ℕ) (ids : List ℕ) (u : ℕ) → Contains (drop m ids) u → Contains ids u
+pub contains_drop : (m : ℕ) (ids : List ℕ) (u : ℕ) → Contains (drop m ids) u → Contains ids u
 contains_drop m ids u c = All-contains (Contains ids) (drop m ids) u (All-drop (Contains ids) m ids (All-contains_itself ids)) c
 
 pub sound_awoken : (n : ℕ) (hs : List ℕ) (bs : List Sleepers) (b : Sleepers) (key m : ℕ) (woken : List ℕ) → Sound n hs bs → IsOrderly b → Takes (bucket_at bs (key % length bs)) b key m woken → Sound n hs (set bs (key % length bs) b)

@@ -1,3 +1,4 @@
 pub mod Buckets
 pub mod Changes
 pub mod Calls
+pub mod Moves

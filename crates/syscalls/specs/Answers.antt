@@ -22,6 +22,25 @@ WakeAnswers words at (Ok x) = IsTrue (is_valid words at)
 WakeAnswers words at (Err EFAULT) = IsFalse (is_valid words at)
 WakeAnswers words at (Err r) = ⊥
 
+-- both addresses are valid
+abbrev pub BothValid : List ℕ → ℕ → ℕ → Type 0
+BothValid words from to = IsTrue (is_valid words from) × IsTrue (is_valid words to)
+
+-- a requeue is refused exactly where the addresses are equal, which EINVAL tells, and else where one of them is invalid, which EFAULT tells
+abbrev pub RequeueAnswers : {X : Type 0} → List ℕ → ℕ → ℕ → Result X Reply → Type 0
+RequeueAnswers words from to (Ok x) = (from ≢ to) × BothValid words from to
+RequeueAnswers words from to (Err EINVAL) = from ≡ to
+RequeueAnswers words from to (Err EFAULT) = (from ≢ to) × ¬ BothValid words from to
+RequeueAnswers words from to (Err r) = ⊥
+
+-- the same, and else it is refused where the futex word at the first address isn't the expected one, which EAGAIN tells
+abbrev pub CmpRequeueAnswers : {X : Type 0} → List ℕ → ℕ → ℕ → ℕ → Result X Reply → Type 0
+CmpRequeueAnswers words from expected to (Ok x) = (from ≢ to) × BothValid words from to × (futex_word words from ≡ expected)
+CmpRequeueAnswers words from expected to (Err EAGAIN) = (from ≢ to) × BothValid words from to × (futex_word words from ≢ expected)
+CmpRequeueAnswers words from expected to (Err EINVAL) = from ≡ to
+CmpRequeueAnswers words from expected to (Err EFAULT) = (from ≢ to) × ¬ BothValid words from to
+CmpRequeueAnswers words from expected to (Err r) = ⊥
+
 -- a head is set exactly where the length told is its size, and EINVAL tells that it isn't
 abbrev pub SetHeadAnswers : ℕ → Result (Unit {0}) Reply → Type 0
 SetHeadAnswers len (Ok x) = len ≡ head_size

@@ -72,6 +72,26 @@ pub record Wakes (old new : Kernel') (key n : ℕ) (woken : List ℕ) : Type 0 w
   pub threads : new.threads ≡ old.threads
   pub heads : new.heads ≡ old.heads
 
+-- the first n of the one key's queue, or all where there are fewer, were moved to the end of the other key's queue, in order; every other queue and each head stays
+pub record Moves (old new : Kernel') (from n to : ℕ) (moved : List ℕ) : Type 0 where
+  pub firsts : moved ≡ take n (queue_of old from)
+  pub left : queue_of new from ≡ drop n (queue_of old from)
+  pub joined : queue_of new to ≡ queue_of old to ++ moved
+  pub others : (k : ℕ) → k ≢ from → k ≢ to → queue_of new k ≡ queue_of old k
+  pub threads : new.threads ≡ old.threads
+  pub heads : new.heads ≡ old.heads
+
+-- the first of the one key's queue, `wake` at most, were woken: they were taken out of it; and then the first of the rest, `moves` at most,
+-- were moved to the end of the other key's queue, in order; every other queue and each head stays
+pub record Requeues (old new : Kernel') (from wake to moves : ℕ) (woken moved : List ℕ) : Type 0 where
+  pub firsts : woken ≡ take wake (queue_of old from)
+  pub next : moved ≡ take moves (drop wake (queue_of old from))
+  pub left : queue_of new from ≡ drop moves (drop wake (queue_of old from))
+  pub joined : queue_of new to ≡ queue_of old to ++ moved
+  pub others : (k : ℕ) → k ≢ from → k ≢ to → queue_of new k ≡ queue_of old k
+  pub threads : new.threads ≡ old.threads
+  pub heads : new.heads ≡ old.heads
+
 -- the thread was taken out of the queue it stood in, if it stood, and everybody else and each head stays
 pub record Leaves (old new : Kernel') (thread : ℕ) (slept : Bool) : Type 0 where
   pub answer : MatchBool slept (IsAsleep old thread) (IsAwake old thread)

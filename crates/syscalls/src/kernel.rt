@@ -1,13 +1,13 @@
 //! The sleepers of every word, and the robust list's head of every thread.
-ghost use Rattle.std.specs.Prelude.{◌≡◌, ◌<◌, ◌≤◌, ◌%◌, ℕ, length, MatchOption, MatchResult, MatchBool, IfOk};
+ghost use Rattle.std.specs.Prelude.{◌≡◌, ◌≢◌, ◌<◌, ◌≤◌, ◌%◌, ℕ, length, slice_index, MatchOption, MatchResult, MatchBool, IfOk};
 ghost use Rattle.std.specs.List.{All};
-ghost use Rattle.buckets.specs.Queues.{Stands, StandsNowhere, IsOrderly, IsEmptied};
-ghost use Rattle.syscalls.specs.Kernels.{bucket_at, queue_of, IsAsleep, IsAwake, IsKernel, IsIdle, FallsAsleep, Wakes, Leaves, SetsHead};
-ghost use Rattle.syscalls.specs.Answers.{WaitAnswers, WakeAnswers, SetHeadAnswers, GetHeadAnswers};
+ghost use Rattle.buckets.specs.Queues.{Stands, StandsNowhere, IsOrderly, IsEmptied, Fits, MovesTo};
+ghost use Rattle.syscalls.specs.Kernels.{bucket_at, queue_of, IsAsleep, IsAwake, IsKernel, IsIdle, FallsAsleep, Wakes, Moves, Requeues, Leaves, SetsHead};
+ghost use Rattle.syscalls.specs.Answers.{WaitAnswers, WakeAnswers, RequeueAnswers, CmpRequeueAnswers, SetHeadAnswers, GetHeadAnswers};
 
 use crate::memory::Memory;
 use buckets::{Batch, Bucket};
-use keys::{NoMem, bucket_of, key_of};
+use keys::{Key, NoMem, bucket_of, key_of};
 use lockword::{Reply, Tid};
 use std::alloc::{AllocError, Global};
 use std::marker::Model;
@@ -79,6 +79,48 @@ fn bucket_with(buckets: &[Bucket], thread: Tid) -> Option<usize>
     None
 }
 
+/// The word at the first of two addresses. Refused with EINVAL where they are equal, and else with EFAULT where either is invalid.
+fn first_of_two<M: Memory>(memory: &M, first: u64, second: u64) -> Result<u64, Reply>
+    ensures answer { RequeueAnswers (M.words memory.now) first second result }
+    ensures word { IfOk result (λ w. w ≡ slice_index (M.words memory.now) first) }
+{
+    if first == second {
+        Err(Reply::EINVAL)
+    } else if let (Some(word), Some(_)) = (memory.load(first), memory.load(second)) {
+        Ok(word)
+    } else {
+        Err(Reply::EFAULT)
+    }
+}
+
+/// Moves the first `n` of the key's queue in the one bucket, or all where there are fewer, to the end of another key's queue in another bucket.
+fn move_between(
+    buckets: &mut [Bucket],
+    from: usize,
+    into: usize,
+    key: Key,
+    n: u32,
+    to: Key,
+) -> Batch
+    requires first { from < length buckets.old }
+    requires second { into < length buckets.old }
+    requires apart { from ≢ into }
+    requires fits { Fits (bucket_at buckets.old from) (bucket_at buckets.old into) key.0 n }
+    ensures changes { MovesTo (bucket_at buckets.old from) (bucket_at buckets.new from) (bucket_at buckets.old into) (bucket_at buckets.new into) key.0 n to.0 result }
+    ensures others { (i : ℕ) → i ≢ from → i ≢ into → bucket_at buckets.new i ≡ bucket_at buckets.old i }
+    ensures long { length buckets.new ≡ length buckets.old }
+    ensures left { IsOrderly (bucket_at buckets.new from) }
+    ensures joined { IsOrderly (bucket_at buckets.new into) }
+{
+    if from < into {
+        let (front, back) = buckets.split_at_mut(into);
+        front[from].move_to(&mut back[0], key, n, to)
+    } else {
+        let (front, back) = buckets.split_at_mut(from);
+        back[0].move_to(&mut front[into], key, n, to)
+    }
+}
+
 impl Kernel {
     /// A kernel of threads 1 to `threads`, at most 64, none of which sleeps or has set a head. It makes all the room that later calls fill.
     pub fn new(alloc: Global, threads: u8) -> Result<Kernel, NoMem>
@@ -147,6 +189,71 @@ impl Kernel {
             return Err(Reply::EFAULT);
         }
         Ok(self.buckets[number].take(key, n))
+    }
+
+    /// FUTEX_REQUEUE: wakes the first `wake` that sleep on the word at `from`, or all where there are fewer, and moves the first of the rest, `moves` at most,
+    /// to the end of the queue of the word at `to`, as if they had fallen asleep on it. Answers who was woken and who was moved, in order.
+    /// Refused with EINVAL where the addresses are equal, and else with EFAULT where either is invalid; then nothing changes.
+    pub fn requeue<M: Memory>(
+        &mut self,
+        memory: &M,
+        from: u64,
+        wake: u32,
+        to: u64,
+        moves: u32,
+    ) -> Result<(Batch, Batch), Reply>
+        ensures answer { RequeueAnswers (M.words memory.now) from to result }
+        ensures changes { MatchResult result (λ r. Requeues self.old self.new from wake to moves r.0 r.1) (λ _. self.new ≡ self.old) }
+        ensures sound { IsKernel self.new }
+    {
+        // What a kernel always keeps is known once a field of it is read.
+        let _threads = self.threads;
+        first_of_two(memory, from, to)?;
+        let woken = self.wake(memory, from, wake)?;
+        let moved = self.move_sleepers(from, moves, to);
+        Ok((woken, moved))
+    }
+
+    /// FUTEX_CMP_REQUEUE: a requeue where the low half of the word at `from` is the expected value; comparing and moving are one step.
+    /// Refused with EINVAL where the addresses are equal, else with EFAULT where either is invalid, and else with EAGAIN where the word differs; then nothing changes.
+    pub fn cmp_requeue<M: Memory>(
+        &mut self,
+        memory: &M,
+        from: u64,
+        expected: u32,
+        wake: u32,
+        to: u64,
+        moves: u32,
+    ) -> Result<(Batch, Batch), Reply>
+        ensures answer { CmpRequeueAnswers (M.words memory.now) from expected to result }
+        ensures changes { MatchResult result (λ r. Requeues self.old self.new from wake to moves r.0 r.1) (λ _. self.new ≡ self.old) }
+        ensures sound { IsKernel self.new }
+    {
+        // The same, for where it is refused.
+        let _threads = self.threads;
+        let word = first_of_two(memory, from, to)?;
+        let low = (word & 0xffff_ffff) as u32;
+        if low != expected {
+            return Err(Reply::EAGAIN);
+        }
+        self.requeue(memory, from, wake, to, moves)
+    }
+
+    /// Moves the first `n` that sleep on the one word, or all where there are fewer, to the end of the other word's queue, in order. Their buckets may be one or two.
+    fn move_sleepers(&mut self, from: u64, n: u32, to: u64) -> Batch
+        requires apart { from ≢ to }
+        ensures changes { Moves self.old self.new from n to result }
+        ensures sound { IsKernel self.new }
+    {
+        let key = key_of(from);
+        let other = key_of(to);
+        let number = bucket_of(key, self.buckets.len());
+        let into = bucket_of(other, self.buckets.len());
+        if number == into {
+            self.buckets[number].move_within(key, n, other)
+        } else {
+            move_between(&mut self.buckets, number, into, key, n, other)
+        }
     }
 
     /// Takes a thread out of the queue that it stands in, as its death does. False where it stood in none.

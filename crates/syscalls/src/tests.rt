@@ -96,6 +96,84 @@ fn a_removal_takes_one_thread(rt: HostRuntime) -> Result<(), Fail> {
     Ok(())
 }
 
+/// The ids in the answer of a requeue: who was woken, and who was moved.
+fn has_both(rt: &impl Abort, answer: &Result<(Batch, Batch), Reply>, woken: &[u8], moved: &[u8]) {
+    match answer {
+        Ok((first, second)) => {
+            has_ids(rt, &Ok(*first), woken);
+            has_ids(rt, &Ok(*second), moved);
+        }
+        Err(reply) => assert_eq!(rt; Reply::OK, *reply),
+    }
+}
+
+/// Those who are moved stand behind those who slept on the other word, and a requeue that is refused changes nothing.
+#[test]
+fn requeues_of_five_threads(rt: HostRuntime) -> Result<(), Fail> {
+    let memory = words(&rt, rt.alloc())?;
+    let mut kernel = Kernel::new(rt.alloc(), 5)?;
+    for (id, at, expected) in [(1, 4, 7), (2, 4, 7), (3, 4, 7), (4, 4, 7), (5, 5, 0)] {
+        assert_eq!(rt; wait(&rt, &mut kernel, &memory, id, at, expected)?, Ok(()));
+    }
+    has_both(
+        &rt,
+        &kernel.cmp_requeue(&memory, 4, 7, 1, 5, 2),
+        &[1],
+        &[2, 3],
+    );
+    let refused = [
+        (4, 8, 5, Reply::EAGAIN),
+        (4, 8, 4, Reply::EINVAL),
+        (0, 8, 5, Reply::EFAULT),
+        (4, 8, 16, Reply::EFAULT),
+        (16, 8, 16, Reply::EINVAL),
+    ];
+    for (from, expected, to, reply) in refused {
+        let answer = kernel.cmp_requeue(&memory, from, expected, 1, to, 1);
+        assert_eq!(rt; answer.err(), Some(reply), "from {from} to {to}");
+    }
+    assert_eq!(rt;
+        kernel.requeue(&memory, 0, 1, 0, 1).err(),
+        Some(Reply::EINVAL)
+    );
+    assert_eq!(rt;
+        kernel.requeue(&memory, 4, 1, 16, 1).err(),
+        Some(Reply::EFAULT)
+    );
+    assert_eq!(rt;
+        kernel.requeue(&memory, 0, 1, 5, 1).err(),
+        Some(Reply::EFAULT)
+    );
+    has_ids(&rt, &Ok(kernel.sleepers(4)), &[4]);
+    has_ids(&rt, &Ok(kernel.sleepers(5)), &[5, 2, 3]);
+    assert!(rt; !kernel.asleep(thread(1)?));
+    has_both(&rt, &kernel.requeue(&memory, 4, 0, 5, 64), &[], &[4]);
+    has_ids(&rt, &kernel.wake(&memory, 5, 64), &[5, 2, 3, 4]);
+    has_both(&rt, &kernel.requeue(&memory, 5, 64, 4, 64), &[], &[]);
+    Ok(())
+}
+
+/// A requeue wakes before it moves, and compares the low half alone.
+#[test]
+fn a_requeue_wakes_and_moves(rt: HostRuntime) -> Result<(), Fail> {
+    let memory = words(&rt, rt.alloc())?;
+    let mut kernel = Kernel::new(rt.alloc(), 4)?;
+    for id in [4, 1, 3, 2] {
+        assert_eq!(rt; wait(&rt, &mut kernel, &memory, id, 6, 7)?, Ok(()));
+    }
+    has_both(
+        &rt,
+        &kernel.cmp_requeue(&memory, 6, 7, 2, 15, 1),
+        &[4, 1],
+        &[3],
+    );
+    has_ids(&rt, &Ok(kernel.sleepers(6)), &[2]);
+    has_ids(&rt, &Ok(kernel.sleepers(15)), &[3]);
+    has_both(&rt, &kernel.requeue(&memory, 15, u32::MAX, 6, 1), &[3], &[]);
+    has_ids(&rt, &Ok(kernel.sleepers(6)), &[2]);
+    Ok(())
+}
+
 /// A set of the head of one of the kernel's threads.
 fn set(
     rt: &impl Abort,
