@@ -39,6 +39,10 @@ first_row (call.Consistent m) = Consistent consistent.Load
 abbrev pub at_cell : Layout' → ℕ → Call → Standing
 at_cell l t c = record { thread = t; cell = cell_place l (mutex_of c); row = first_row c }
 
+-- a lock that takes its mutex again
+abbrev pub retaking_at : ℕ → ℕ → Standing
+retaking_at t cell = record { thread = t; cell = cell; row = Lock lock.Load }
+
 -- whoever holds 2,048 mutexes may not take another
 abbrev pub started : Layout' → ℕ → ℕ → Call → Result Standing Reply
 started l t held c = if acquires (operation_of c) && nat_le 2048 held then Err XHELD else Ok (at_cell l t c)

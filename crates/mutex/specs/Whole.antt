@@ -36,6 +36,7 @@ use Rattle.mutex.specs.declared.call.Call.TheVariants as call
 use Rattle.mutex.specs.declared.row.Row.{Row}
 use Rattle.mutex.specs.declared.row.Row.TheVariants as row
 use Rattle.mutex.specs.declared.row.Led.{Led}
+use Rattle.mutex.specs.declared.lock.LockRow.TheVariants as lock
 use Rattle.mutex.specs.declared.unlock.UnlockRow.TheVariants.{Release}
 use Rattle.mutex.specs.declared.phase.Phase.{Phase}
 use Rattle.mutex.specs.declared.phase.Phase.TheVariants.{Announcing, AtCell, Linking, Unlinking, Clearing, Ended}
@@ -80,6 +81,10 @@ begins l t c = record { thread = t; operation = operation_of c; head = head_plac
 -- whoever holds 2,048 mutexes may not take another
 abbrev pub whole_started : Layout' → ℕ → ℕ → Call → Result Whole Reply
 whole_started l t held c = if acquires (operation_of c) && nat_le 2048 held then Err XHELD else Ok (begins l t c)
+
+-- a lock that takes its mutex again: its entry is pending
+abbrev pub retaking : ℕ → ℕ → ℕ → ℕ → Whole
+retaking t h e cell = record { thread = t; operation = operation.Lock; head = h; entry = e; cell = cell; phase = AtCell (row.Lock lock.Load) }
 
 -- ---- the access of each phase
 

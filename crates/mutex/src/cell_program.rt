@@ -4,6 +4,7 @@ ghost use Rattle.mutex.specs.Calls.{mutex_of};
 ghost use Rattle.mutex.specs.Progresses.{progress_at};
 
 use crate::call::Call;
+use crate::lock::LockRow;
 use crate::row::{Led, Row};
 use keys::{Access, Answer, Layout, Operation, Point, Progress};
 use lockword::{Reply, Tid};
@@ -32,7 +33,7 @@ impl Model for CellProgram {
 }
 
 impl CellProgram {
-    ghost use Rattle.mutex.specs.Programs.{at_cell, access_of, led, moved, point_of, progress_of, row_operation};
+    ghost use Rattle.mutex.specs.Programs.{at_cell, retaking_at, access_of, led, moved, point_of, progress_of, row_operation};
     ghost use Rattle.mutex.specs.Rows.{IsGoing, Knows};
 
     pub(crate) fn new(layout: &Layout, thread: Tid, call: Call) -> CellProgram
@@ -44,6 +45,17 @@ impl CellProgram {
             thread,
             cell: layout.cell(call.mutex()),
             row: Row::first(call),
+        }
+    }
+
+    /// A lock that takes its mutex again, as a wait on a condition variable does once it is awake, by the address of the mutex's cell.
+    pub fn retaking(thread: Tid, cell: u64) -> CellProgram
+        ensures { result ≡ retaking_at thread cell }
+    {
+        CellProgram {
+            thread,
+            cell,
+            row: Row::Lock(LockRow::Load),
         }
     }
 

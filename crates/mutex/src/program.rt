@@ -7,6 +7,7 @@ ghost use Rattle.mutex.specs.Whole.{first_phase, progress_in, PhaseKnows};
 
 use crate::call::Call;
 use crate::cell_program::CellProgram;
+use crate::lock::LockRow;
 use crate::phase::{Onward, Phase};
 use crate::row::{Led, Row};
 use crate::unlock::UnlockRow;
@@ -43,7 +44,7 @@ impl Model for Program {
 impl Program {
     ghost use Rattle.mutex.specs.Rows.{Knows};
     ghost use Rattle.mutex.specs.declared.phase.Phase.TheVariants.{AtCell};
-    ghost use Rattle.mutex.specs.Whole.{whole_started, whole_access, whole_led, whole_moved, whole_point, whole_progress, announced, from_cell, after_cell, leaving, linked, unlinked, IsUnderWay, PhaseKnows};
+    ghost use Rattle.mutex.specs.Whole.{whole_started, retaking, whole_access, whole_led, whole_moved, whole_point, whole_progress, announced, from_cell, after_cell, leaving, linked, unlinked, IsUnderWay, PhaseKnows};
 
     /// A call of a thread that holds so many mutexes. A lock or trylock by a thread that holds 2,048 is refused with `XHELD` before any access.
     pub fn new(layout: &Layout, thread: Tid, held: u16, call: Call) -> Result<Program, Reply>
@@ -74,6 +75,21 @@ impl Program {
             return Err(Reply::XHELD);
         }
         Ok(CellProgram::new(layout, thread, call))
+    }
+
+    /// A lock that takes its mutex again, as a wait on a condition variable does once it is awake: from the load of the cell on, the mutex's entry being pending. It is given the
+    /// addresses of the thread's head and of the mutex's entry and cell, and is never refused with `XHELD`: its thread held the mutex before.
+    pub fn retaking(thread: Tid, head: u64, entry: u64, cell: u64) -> Program
+        ensures { result ≡ retaking thread head entry cell }
+    {
+        Program {
+            thread,
+            operation: Operation::Lock,
+            head,
+            entry,
+            cell,
+            phase: Phase::AtCell(Row::Lock(LockRow::Load)),
+        }
     }
 
     /// The access that comes next, of a call that hasn't returned.

@@ -1,0 +1,4 @@
+pub mod Rights
+mod Replies
+mod Firsts
+mod Wholes

@@ -1,0 +1,10 @@
+pub mod Calls
+pub mod Rows
+pub mod Standings
+pub mod Wait
+pub mod Signal
+pub mod Broadcast
+pub mod Programs
+pub mod Whole
+pub mod Laws
+pub mod WholeLaws

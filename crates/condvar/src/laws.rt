@@ -1,0 +1,37 @@
+//! What holds of every call.
+ghost use Rattle.condvar.specs.Laws.{CallsAreRight, AccessesAreThere, MovesAreRight, NeedsAreOwned, PointsArePermitted};
+ghost use Rattle.condvar.specs.WholeLaws.{WholeCallsAreRight};
+
+/// Whatever words an access of a call meets, it is a step of the mutex as POSIX sees it; the counter goes up by one exactly where a signal or a broadcast
+/// is OK; and the words are as the call's next access needs them.
+pub fn calls_are_right()
+    ensures { CallsAreRight }
+{}
+
+/// What a call does but to its thread's robust list, it does at its mutex's cell and at its condition variable's counter.
+pub fn accesses_are_there()
+    ensures { AccessesAreThere }
+{}
+
+/// A broadcast moves sleepers only to a cell that its thread owns and that has WAITERS, and finds the counter as it left it.
+pub fn moves_are_right()
+    ensures { MovesAreRight }
+{}
+
+/// What a call needs of the words stays while its thread owns the mutex, whatever other threads do that leave an owned mutex alone.
+pub fn needs_are_owned()
+    ensures { NeedsAreOwned }
+{}
+
+/// Whatever a call is answered, a reply that its first load decides is one that POSIX permits for the cell met there, and it goes on from there only as the
+/// mutex's owner.
+pub fn points_are_permitted()
+    ensures { PointsArePermitted }
+{}
+
+/// Whatever a whole call is answered: one that returned, and not for a fault, has exactly its points, the last with the reply that it returned: a wait was
+/// refused, or it unlocked its mutex and later locked it again. Each point but that of a lock has a reply that POSIX permits for the cell that the call's
+/// first load met; and where a wait takes its mutex again it is a call of lock, of which all holds that `mutex` says of whole calls.
+pub fn whole_calls_are_right()
+    ensures { WholeCallsAreRight }
+{}

@@ -1,0 +1,178 @@
+//! Calls in progress.
+ghost use Rattle.std.specs.Prelude.{◌≡◌, ◌<◌, ◌≤◌, length};
+ghost use Rattle.condvar.specs.Calls.{condition_of};
+ghost use Rattle.condvar.specs.Programs.{short_started};
+ghost use Rattle.condvar.specs.Whole.{progress_in, PhaseKnows};
+
+use crate::call::CondCall;
+use crate::cell_program::{CondCellProgram, point};
+use crate::phase::{CondOnward, CondPhase};
+use crate::row::{CondLed, CondRow};
+use crate::wait::WaitRow;
+use keys::{Access, Answer, Layout, Point, Progress};
+use lockword::{Reply, Tid};
+use mutex::Program;
+use robustlist::Unlink;
+use std::marker::Model;
+
+/// A call of a thread on a condition variable.
+#[derive(Clone, Copy, Debug, PartialEq, Eq)]
+pub struct CondProgram {
+    thread: Tid,
+    head: u64,
+    entry: u64,
+    cell: u64,
+    counter: u64,
+    phase: CondPhase,
+}
+
+impl Model for CondProgram {
+    ghost use Rattle.condvar.specs.Standings.{CondWhole};
+
+    ghost Value = { CondWhole };
+
+    ghost view = { λ p. record { thread = p.thread; head = p.head; entry = p.entry; cell = p.cell; counter = p.counter; phase = p.phase } };
+
+    ghost use Rattle.condvar.specs.Whole.{PhaseKnows};
+
+    ghost invariant = { λ p. PhaseKnows p.phase };
+
+    ghost inverse = { λ s. record { thread = s.thread; head = s.head; entry = s.entry; cell = s.cell; counter = s.counter; phase = s.phase } };
+}
+
+impl CondProgram {
+    ghost use Rattle.condvar.specs.Whole.{begins, cond_access, cond_led, cond_moved, cond_progress, from_words, IsUnderWay};
+
+    /// A call of a thread. What it may be refused for is seen in the mutex's cell and in the counter.
+    pub fn new(layout: &Layout, thread: Tid, call: CondCall) -> CondProgram
+        requires thread { thread ≤ layout.now.threads }
+        requires condition { condition_of call < length layout.now.conditions }
+        ensures { result ≡ begins layout.now thread call }
+    {
+        let mutex = layout.mutex_of_condition(call.condition());
+        CondProgram {
+            thread,
+            head: layout.head(thread),
+            entry: layout.entry(mutex),
+            cell: layout.cell(mutex),
+            counter: layout.counter(call.condition()),
+            phase: CondPhase::AtWords(CondRow::first(call)),
+        }
+    }
+
+    /// Such a call without its accesses to the thread's robust list.
+    pub fn short(layout: &Layout, thread: Tid, call: CondCall) -> CondCellProgram
+        requires thread { thread ≤ layout.now.threads }
+        requires condition { condition_of call < length layout.now.conditions }
+        ensures { result ≡ short_started layout.now thread call }
+    {
+        CondCellProgram::new(layout, thread, call)
+    }
+
+    /// The access that comes next, of a call that hasn't returned.
+    pub fn next(&self) -> Access
+        requires { IsUnderWay self.now.phase }
+        ensures { result ≡ cond_access self.now }
+    {
+        match &self.phase {
+            CondPhase::AtWords(row) => row.next(self.thread, self.cell, self.counter),
+            CondPhase::Announcing { .. } => Access::Store {
+                at: self.head.wrapping_add(2),
+                value: self.entry,
+            },
+            CondPhase::Unlinking { unlink, .. } => unlink.next(),
+            CondPhase::Locking(lock) => lock.next(),
+            CondPhase::Ended(_) => unreachable!(),
+        }
+    }
+
+    /// Goes on with an answer. One that no such access has counts as `Fault`, after which the call returns `EFAULT`, and has left what its earlier
+    /// accesses did.
+    pub fn resume(&mut self, answer: Answer) -> Progress
+        requires { IsUnderWay self.old.phase }
+        ensures phase { self.new ≡ cond_moved self.old (cond_led self.old answer) }
+        ensures progress { result ≡ cond_progress (cond_led self.old answer) }
+    {
+        let onward = self.led(answer);
+        *self = CondProgram {
+            thread: self.thread,
+            head: self.head,
+            entry: self.entry,
+            cell: self.cell,
+            counter: self.counter,
+            phase: onward.phase,
+        };
+        progress(&onward.phase, onward.point)
+    }
+
+    /// Where an answer leads.
+    fn led(&self, answer: Answer) -> CondOnward
+        requires { IsUnderWay self.now.phase }
+        ensures value { result ≡ cond_led self.now answer }
+        ensures knows { PhaseKnows result.phase }
+    {
+        match self.phase {
+            CondPhase::AtWords(row) => self.from_words(row.resume(self.thread, answer)),
+            CondPhase::Announcing { seen } => match answer {
+                Answer::Stored => CondOnward::to(CondPhase::Unlinking {
+                    unlink: Unlink::new(self.head, self.entry),
+                    seen,
+                }),
+                _ => CondOnward::faults(),
+            },
+            CondPhase::Unlinking { mut unlink, seen } => match unlink.resume(answer) {
+                Progress::Goes { .. } => CondOnward::to(CondPhase::Unlinking { unlink, seen }),
+                Progress::Returns {
+                    reply: Reply::OK,
+                    ..
+                } => {
+                    CondOnward::to(CondPhase::AtWords(CondRow::Wait(WaitRow::Release { seen })))
+                }
+                Progress::Returns { .. } => CondOnward::faults(),
+            },
+            CondPhase::Locking(mut lock) => match lock.resume(answer) {
+                Progress::Goes { point } => CondOnward {
+                    phase: CondPhase::Locking(lock),
+                    point,
+                },
+                Progress::Returns { reply, point } => CondOnward {
+                    phase: CondPhase::Ended(reply),
+                    point,
+                },
+            },
+            CondPhase::Ended(reply) => CondOnward::to(CondPhase::Ended(reply)),
+        }
+    }
+
+    /// Where a call goes from its cell or its counter: a wait that is to release the mutex announces it first, and one that is awake takes the mutex again.
+    fn from_words(&self, led: CondLed) -> CondOnward
+        ensures value { result ≡ from_words self.now led }
+        ensures knows { PhaseKnows result.phase }
+    {
+        let phase = match led.row {
+            CondRow::Wait(WaitRow::Release { seen }) => CondPhase::Announcing { seen },
+            CondRow::Awake => CondPhase::Locking(Program::retaking(
+                self.thread,
+                self.head,
+                self.entry,
+                self.cell,
+            )),
+            CondRow::Ended(reply) => CondPhase::Ended(reply),
+            row => CondPhase::AtWords(row),
+        };
+        CondOnward {
+            phase,
+            point: point(self.thread, self.cell, led.decided),
+        }
+    }
+}
+
+/// How far the call is in a phase, with the point where the access before it was one.
+fn progress(phase: &CondPhase, point: Option<Point>) -> Progress
+    ensures { result ≡ progress_in point phase.now }
+{
+    match *phase {
+        CondPhase::Ended(reply) => Progress::Returns { reply, point },
+        _ => Progress::Goes { point },
+    }
+}
