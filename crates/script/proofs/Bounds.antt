@@ -12,11 +12,10 @@ use Rattle.std.proofs.lemmas.List.Quantifiers.{position-Some}
 use Rattle.mutex.specs.Calls.{mutex_of}
 use Rattle.mutex.specs.declared.call.Call.{Call}
 use Rattle.mutex.specs.declared.call.Call.TheVariants as call
-use Rattle.script.specs.Forms.{CallForm, lock, trylock, unlock, consistent, Form, silent, thread, mutex, mutexes, begins, steps, kills, goes, calls, locks, phase, form_of, of_mode, run_has, threads_have, threads_call, words_form, or_else, name_form, step_form, mutexes_form, locks_form, call_form, calling_form, is_silent, is_name, is_stem, is_number, within, words_of}
-use Rattle.script.specs.Scope.{Scope, IsCallOf, IsPossible, IsWithinLimits, most_mutexes}
+use Rattle.script.specs.Forms.{CallForm, lock, trylock, unlock, consistent, Form, silent, thread, mutex, mutexes, begins, steps, kills, goes, calls, locks, phase, form_of, of_mode, has, words_form, or_else, name_form, step_form, mutexes_form, locks_form, call_form, calling_form, is_silent, is_name, is_stem, is_number, within, words_of}
+use Rattle.script.specs.Scope.{Scope, IsPossible, IsWithinLimits}
 use Rattle.script.specs.Reading.{◌>>=◌, refuse, place_of, is_declared, added, numbered, is_numbered, several, declares, thread_of, call_of, first_of, with_action, enter, line_read}
 use Rattle.script.specs.declared.command.Mode.{Mode}
-use Rattle.script.specs.declared.command.Mode.TheVariants.{Run, Threads}
 use Rattle.script.specs.declared.command.Action.{Action}
 use Rattle.script.specs.declared.command.Action.TheVariants as action
 use Rattle.script.specs.declared.fault.Fault.{Fault}
@@ -62,22 +61,11 @@ unused P (x ∷ xs) h = absurd (grind (arith, nat_tests))
 threaded : (s : Scope) (t : List ℕ) → IfOk (thread_of s t) (λ i. (1 ≤ i) × (i ≤ length s.threads))
 threaded s t = chain (place_of t s.threads) (λ i. Ok (i + 1)) (λ i. i < length s.threads) (λ i. (1 ≤ i) × (i ≤ length s.threads)) (placed t s.threads) (λ i h. (omega arith, omega arith))
 
--- calls that scripts of a mode may spell are of the mode
-abbrev IsSpelled : Mode → CallForm → Type 0
-IsSpelled Run c = Unit {0}
-IsSpelled Threads c = threads_call c ≡ true
-
-called : (s : Scope) (c : CallForm) → IsSpelled s.mode c → IfOk (call_of s c) (λ k. (mutex_of k < length s.mutexes) × IsCallOf s.mode k)
-called s c spelled = on s c s.mode spelled where
-  on : (s : Scope) (c : CallForm) (k : Mode) → IsSpelled k c → IfOk (call_of s c) (λ x. (mutex_of x < length s.mutexes) × IsCallOf k x)
-  on s (lock m) Run is = chain (place_of m s.mutexes) (λ j. Ok (call.Lock j)) (λ j. j < length s.mutexes) (λ x. (mutex_of x < length s.mutexes) × IsCallOf Run x) (placed m s.mutexes) (λ j h. (h, tt))
-  on s (trylock m) Run is = chain (place_of m s.mutexes) (λ j. Ok (call.TryLock j)) (λ j. j < length s.mutexes) (λ x. (mutex_of x < length s.mutexes) × IsCallOf Run x) (placed m s.mutexes) (λ j h. (h, tt))
-  on s (unlock m) Run is = chain (place_of m s.mutexes) (λ j. Ok (call.Unlock j)) (λ j. j < length s.mutexes) (λ x. (mutex_of x < length s.mutexes) × IsCallOf Run x) (placed m s.mutexes) (λ j h. (h, tt))
-  on s (consistent m) Run is = chain (place_of m s.mutexes) (λ j. Ok (call.Consistent j)) (λ j. j < length s.mutexes) (λ x. (mutex_of x < length s.mutexes) × IsCallOf Run x) (placed m s.mutexes) (λ j h. (h, tt))
-  on s (lock m) Threads is = absurd cc
-  on s (trylock m) Threads is = chain (place_of m s.mutexes) (λ j. Ok (call.TryLock j)) (λ j. j < length s.mutexes) (λ x. (mutex_of x < length s.mutexes) × IsCallOf Threads x) (placed m s.mutexes) (λ j h. (h, tt))
-  on s (unlock m) Threads is = chain (place_of m s.mutexes) (λ j. Ok (call.Unlock j)) (λ j. j < length s.mutexes) (λ x. (mutex_of x < length s.mutexes) × IsCallOf Threads x) (placed m s.mutexes) (λ j h. (h, tt))
-  on s (consistent m) Threads is = absurd cc
+called : (s : Scope) (c : CallForm) → IfOk (call_of s c) (λ k. mutex_of k < length s.mutexes)
+called s (lock m) = chain (place_of m s.mutexes) (λ j. Ok (call.Lock j)) (λ j. j < length s.mutexes) (λ k. mutex_of k < length s.mutexes) (placed m s.mutexes) (λ j h. h)
+called s (trylock m) = chain (place_of m s.mutexes) (λ j. Ok (call.TryLock j)) (λ j. j < length s.mutexes) (λ k. mutex_of k < length s.mutexes) (placed m s.mutexes) (λ j h. h)
+called s (unlock m) = chain (place_of m s.mutexes) (λ j. Ok (call.Unlock j)) (λ j. j < length s.mutexes) (λ k. mutex_of k < length s.mutexes) (placed m s.mutexes) (λ j h. h)
+called s (consistent m) = chain (place_of m s.mutexes) (λ j. Ok (call.Consistent j)) (λ j. j < length s.mutexes) (λ k. mutex_of k < length s.mutexes) (placed m s.mutexes) (λ j h. h)
 
 -- the mutexes of a `locks` are declared
 reached : (s : Scope) (m : List ℕ) (n : ℕ) → IfOk (first_of s m n) (λ j. j + n ≤ length s.mutexes)
@@ -85,37 +73,28 @@ reached s m n = chain (place_of m s.mutexes) (λ j. refuse (nat_lt (length s.mut
     (λ j h. refused (nat_lt (length s.mutexes) (j + n)) OutOfRange (Ok j) (λ i. i + n ≤ length s.mutexes) (λ room. grind (arith, nat_tests)))
 
 -- a possible action more
-appended : (n : ℕ) (s : Scope) (a : Action) → IsWithinLimits s → IsPossible s.mode (length s.threads) (length s.mutexes) a → IsWithinLimits (with_action n s a)
+appended : (n : ℕ) (s : Scope) (a : Action) → IsWithinLimits s → IsPossible (length s.threads) (length s.mutexes) a → IsWithinLimits (with_action n s a)
 appended n s a h p = record {
   threads_at_most = h.threads_at_most;
   mutexes_at_most = h.mutexes_at_most;
-  mutexes_of_mode = h.mutexes_of_mode;
-  commands_possible = All-push (λ c. IsPossible s.mode (length s.threads) (length s.mutexes) c.action) s.commands (record { line = n; action = a }) h.commands_possible p;
+  commands_possible = All-push (λ c. IsPossible (length s.threads) (length s.mutexes) c.action) s.commands (record { line = n; action = a }) h.commands_possible p;
 }
 
--- a count that a line gives is in its range, and its call is of the mode
-abbrev IsFit : Mode → Form → Type 0
-IsFit k silent = Unit {0}
-IsFit k (thread w) = Unit {0}
-IsFit k (mutex w) = Unit {0}
-IsFit k (mutexes w count) = Unit {0}
-IsFit k (begins t c) = IsSpelled k c
-IsFit k (steps t count) = IfSome count (λ n. (1 ≤ n) × (n ≤ MAX_STEPS))
-IsFit k (kills t) = Unit {0}
-IsFit k (goes t) = Unit {0}
-IsFit k (calls t c) = IsSpelled k c
-IsFit k (locks t m count) = IfSome count (λ n. (1 ≤ n) × (n ≤ MAX_MUTEXES))
-IsFit k phase = Unit {0}
+-- a count that a line gives is in its range
+abbrev IsFit : Form → Type 0
+IsFit (steps t count) = IfSome count (λ n. (1 ≤ n) × (n ≤ MAX_STEPS))
+IsFit (locks t m count) = IfSome count (λ n. (1 ≤ n) × (n ≤ MAX_MUTEXES))
+IsFit f = Unit {0}
 
 -- a command more: its parts were looked up among what the script has
-calling : (n : ℕ) (s : Scope) (t : List ℕ) (c : CallForm) (make : ℕ → Call → Action) → IsWithinLimits s → IsSpelled s.mode c
-    → ((i : ℕ) (k : Call) → 1 ≤ i → i ≤ length s.threads → (mutex_of k < length s.mutexes) × IsCallOf s.mode k → IsPossible s.mode (length s.threads) (length s.mutexes) (make i k))
+calling : (n : ℕ) (s : Scope) (t : List ℕ) (c : CallForm) (make : ℕ → Call → Action) → IsWithinLimits s
+    → ((i : ℕ) (k : Call) → 1 ≤ i → i ≤ length s.threads → mutex_of k < length s.mutexes → IsPossible (length s.threads) (length s.mutexes) (make i k))
     → IfOk (thread_of s t >>= λ i. call_of s c >>= λ k. Ok (with_action n s (make i k))) IsWithinLimits
-calling n s t c make h spelled possible = chain (thread_of s t) (λ i. call_of s c >>= λ k. Ok (with_action n s (make i k))) (λ i. (1 ≤ i) × (i ≤ length s.threads)) IsWithinLimits (threaded s t)
-    (λ i low. chain (call_of s c) (λ k. Ok (with_action n s (make i k))) (λ k. (mutex_of k < length s.mutexes) × IsCallOf s.mode k) IsWithinLimits (called s c spelled)
+calling n s t c make h possible = chain (thread_of s t) (λ i. call_of s c >>= λ k. Ok (with_action n s (make i k))) (λ i. (1 ≤ i) × (i ≤ length s.threads)) IsWithinLimits (threaded s t)
+    (λ i low. chain (call_of s c) (λ k. Ok (with_action n s (make i k))) (λ k. mutex_of k < length s.mutexes) IsWithinLimits (called s c)
     (λ k few. appended n s (make i k) h (possible i k low.0 low.1 few)))
 
-of_thread : (n : ℕ) (s : Scope) (t : List ℕ) (make : ℕ → Action) → IsWithinLimits s → ((i : ℕ) → 1 ≤ i → i ≤ length s.threads → IsPossible s.mode (length s.threads) (length s.mutexes) (make i))
+of_thread : (n : ℕ) (s : Scope) (t : List ℕ) (make : ℕ → Action) → IsWithinLimits s → ((i : ℕ) → 1 ≤ i → i ≤ length s.threads → IsPossible (length s.threads) (length s.mutexes) (make i))
     → IfOk (thread_of s t >>= λ i. Ok (with_action n s (make i))) IsWithinLimits
 of_thread n s t make h possible = chain (thread_of s t) (λ i. Ok (with_action n s (make i))) (λ i. (1 ≤ i) × (i ≤ length s.threads)) IsWithinLimits (threaded s t)
     (λ i low. appended n s (make i) h (possible i low.0 low.1))
@@ -136,20 +115,14 @@ with_threads : (s : Scope) (names : List (List ℕ)) → IsWithinLimits s → no
 with_threads s names h unused_yet few = record {
   threads_at_most = few;
   mutexes_at_most = h.mutexes_at_most;
-  mutexes_of_mode = h.mutexes_of_mode;
-  commands_possible = unused (λ c. IsPossible s.mode (length names) (length s.mutexes) c.action) s.commands unused_yet;
+  commands_possible = unused (λ c. IsPossible (length names) (length s.mutexes) c.action) s.commands unused_yet;
 }
 
-few_of : (k : Mode) (n : ℕ) → n ≤ most_mutexes k → n ≤ MAX_MUTEXES
-few_of Run n h = h
-few_of Threads n h = omega (arith, h)
-
-with_mutexes : (s : Scope) (names : List (List ℕ)) → IsWithinLimits s → not (length s.commands == 0) ≡ false → length names ≤ most_mutexes s.mode → IsWithinLimits (record s { mutexes = names })
+with_mutexes : (s : Scope) (names : List (List ℕ)) → IsWithinLimits s → not (length s.commands == 0) ≡ false → length names ≤ MAX_MUTEXES → IsWithinLimits (record s { mutexes = names })
 with_mutexes s names h unused_yet few = record {
   threads_at_most = h.threads_at_most;
-  mutexes_at_most = few_of s.mode (length names) few;
-  mutexes_of_mode = few;
-  commands_possible = unused (λ c. IsPossible s.mode (length s.threads) (length names) c.action) s.commands unused_yet;
+  mutexes_at_most = few;
+  commands_possible = unused (λ c. IsPossible (length s.threads) (length names) c.action) s.commands unused_yet;
 }
 
 declared : (s : Scope) → IfOk (declares s) (λ _. not (length s.commands == 0) ≡ false)
@@ -160,39 +133,39 @@ declaring_thread s w h = chain (declares s) (λ _. added MAX_THREADS s.threads w
     (λ _ unused_yet. chain (added MAX_THREADS s.threads w) (λ names. Ok (record s { threads = names })) (λ names. length names ≤ MAX_THREADS) IsWithinLimits (grown MAX_THREADS s.threads w)
     (λ names few. with_threads s names h unused_yet few))
 
-declaring_mutex : (s : Scope) (w : List ℕ) → IsWithinLimits s → IfOk (declares s >>= λ _. added (most_mutexes s.mode) s.mutexes w >>= λ names. Ok (record s { mutexes = names })) IsWithinLimits
-declaring_mutex s w h = chain (declares s) (λ _. added (most_mutexes s.mode) s.mutexes w >>= λ names. Ok (record s { mutexes = names })) (λ _. not (length s.commands == 0) ≡ false) IsWithinLimits (declared s)
-    (λ _ unused_yet. chain (added (most_mutexes s.mode) s.mutexes w) (λ names. Ok (record s { mutexes = names })) (λ names. length names ≤ most_mutexes s.mode) IsWithinLimits (grown (most_mutexes s.mode) s.mutexes w)
+declaring_mutex : (s : Scope) (w : List ℕ) → IsWithinLimits s → IfOk (declares s >>= λ _. added MAX_MUTEXES s.mutexes w >>= λ names. Ok (record s { mutexes = names })) IsWithinLimits
+declaring_mutex s w h = chain (declares s) (λ _. added MAX_MUTEXES s.mutexes w >>= λ names. Ok (record s { mutexes = names })) (λ _. not (length s.commands == 0) ≡ false) IsWithinLimits (declared s)
+    (λ _ unused_yet. chain (added MAX_MUTEXES s.mutexes w) (λ names. Ok (record s { mutexes = names })) (λ names. length names ≤ MAX_MUTEXES) IsWithinLimits (grown MAX_MUTEXES s.mutexes w)
     (λ names few. with_mutexes s names h unused_yet few))
 
 declaring_mutexes : (s : Scope) (w : List ℕ) (count : Option ℕ) → IsWithinLimits s
-    → IfOk (declares s >>= λ _. ok_or count OutOfRange >>= λ k. several (most_mutexes s.mode) s.mutexes w k >>= λ names. Ok (record s { mutexes = names })) IsWithinLimits
-declaring_mutexes s w count h = chain (declares s) (λ _. ok_or count OutOfRange >>= λ k. several (most_mutexes s.mode) s.mutexes w k >>= λ names. Ok (record s { mutexes = names })) (λ _. not (length s.commands == 0) ≡ false) IsWithinLimits (declared s)
+    → IfOk (declares s >>= λ _. ok_or count OutOfRange >>= λ k. several MAX_MUTEXES s.mutexes w k >>= λ names. Ok (record s { mutexes = names })) IsWithinLimits
+declaring_mutexes s w count h = chain (declares s) (λ _. ok_or count OutOfRange >>= λ k. several MAX_MUTEXES s.mutexes w k >>= λ names. Ok (record s { mutexes = names })) (λ _. not (length s.commands == 0) ≡ false) IsWithinLimits (declared s)
     (λ _ unused_yet. by_cases count unused_yet) where
-      by_cases : (o : Option ℕ) → not (length s.commands == 0) ≡ false → IfOk (ok_or o OutOfRange >>= λ k. several (most_mutexes s.mode) s.mutexes w k >>= λ names. Ok (record s { mutexes = names })) IsWithinLimits
+      by_cases : (o : Option ℕ) → not (length s.commands == 0) ≡ false → IfOk (ok_or o OutOfRange >>= λ k. several MAX_MUTEXES s.mutexes w k >>= λ names. Ok (record s { mutexes = names })) IsWithinLimits
       by_cases None unused_yet = tt
-      by_cases (Some k) unused_yet = chain (several (most_mutexes s.mode) s.mutexes w k) (λ names. Ok (record s { mutexes = names })) (λ names. length names ≤ most_mutexes s.mode) IsWithinLimits (grown_by (most_mutexes s.mode) s.mutexes w k)
+      by_cases (Some k) unused_yet = chain (several MAX_MUTEXES s.mutexes w k) (λ names. Ok (record s { mutexes = names })) (λ names. length names ≤ MAX_MUTEXES) IsWithinLimits (grown_by MAX_MUTEXES s.mutexes w k)
           (λ names few. with_mutexes s names h unused_yet few)
 
-entered : (n : ℕ) (s : Scope) (f : Form) → IsWithinLimits s → IsFit s.mode f → IfOk (enter n s f) IsWithinLimits
+entered : (n : ℕ) (s : Scope) (f : Form) → IsWithinLimits s → IsFit f → IfOk (enter n s f) IsWithinLimits
 entered n s silent h k = h
 entered n s (thread w) h k = declaring_thread s w h
 entered n s (mutex w) h k = declaring_mutex s w h
 entered n s (mutexes w count) h k = declaring_mutexes s w count h
-entered n s (begins t c) h k = calling n s t c (λ i x. action.Begin i x) h k (λ i x low high few. (low, high, few.0, few.1))
+entered n s (begins t c) h k = calling n s t c (λ i x. action.Begin i x) h (λ i x low high few. (low, high, few))
 entered n s (steps t count) h k = stepping n s t count h k
 entered n s (kills t) h k = of_thread n s t (λ i. action.Kill i) h (λ i low high. (low, high))
 entered n s (goes t) h k = of_thread n s t (λ i. action.Go i) h (λ i low high. (low, high))
-entered n s (calls t c) h k = calling n s t c (λ i x. action.Call i x) h k (λ i x low high few. (low, high, few.0, few.1))
+entered n s (calls t c) h k = calling n s t c (λ i x. action.Call i x) h (λ i x low high few. (low, high, few))
 entered n s (locks t m count) h k = locking n s t m count h k
 entered n s phase h k = appended n s action.Phase h tt
 
 -- each form's count is in its range
-either : (k : Mode) (b : Bool) (x y : Option Form) → IfSome x (IsFit k) → IfSome y (IsFit k) → IfSome (if b then x else y) (IsFit k)
-either k true x y p q = p
-either k false x y p q = q
+either : (b : Bool) (x y : Option Form) → IfSome x IsFit → IfSome y IsFit → IfSome (if b then x else y) IsFit
+either true x y p q = p
+either false x y p q = q
 
-first : (x y : Option Form) → IfSome x (IsFit Run) → IfSome y (IsFit Run) → IfSome (or_else x y) (IsFit Run)
+first : (x y : Option Form) → IfSome x IsFit → IfSome y IsFit → IfSome (or_else x y) IsFit
 first (Some f) y p q = p
 first None y p q = q
 
@@ -203,60 +176,43 @@ in_range most n = by_cases (nat_le 1 n) (nat_le n most) (λ e. leb-true _ _ e) (
   by_cases true false p q = tt
   by_cases false high p q = tt
 
-fit_name : (w a : List ℕ) → IfSome (name_form w a) (IsFit Run)
-fit_name w a = either Run (not (is_name a)) None _ tt (either Run (bytes_eq w _) (Some (thread a)) _ tt (either Run (bytes_eq w _) (Some (mutex a)) _ tt
-    (either Run (bytes_eq w _) (Some (kills a)) _ tt (either Run (bytes_eq w _) (Some (goes a)) None tt tt))))
+fit_name : (w a : List ℕ) → IfSome (name_form w a) IsFit
+fit_name w a = either (not (is_name a)) None _ tt (either (bytes_eq w _) (Some (thread a)) _ tt (either (bytes_eq w _) (Some (mutex a)) _ tt
+    (either (bytes_eq w _) (Some (kills a)) _ tt (either (bytes_eq w _) (Some (goes a)) None tt tt))))
 
-fit_step : (w t n : List ℕ) → IfSome (step_form w t n) (IsFit Run)
-fit_step w t n = either Run (bytes_eq w _ && is_name t && is_number n) (Some (steps t (within 1 MAX_STEPS (digits_value 10 n)))) None (in_range MAX_STEPS (digits_value 10 n)) tt
+fit_step : (w t n : List ℕ) → IfSome (step_form w t n) IsFit
+fit_step w t n = either (bytes_eq w _ && is_name t && is_number n) (Some (steps t (within 1 MAX_STEPS (digits_value 10 n)))) None (in_range MAX_STEPS (digits_value 10 n)) tt
 
-fit_mutexes : (w a n : List ℕ) → IfSome (mutexes_form w a n) (IsFit Run)
-fit_mutexes w a n = either Run (bytes_eq w _ && is_stem a && is_number n) (Some (mutexes a (within 1 MAX_MUTEXES (digits_value 10 n)))) None tt tt
+fit_mutexes : (w a n : List ℕ) → IfSome (mutexes_form w a n) IsFit
+fit_mutexes w a n = either (bytes_eq w _ && is_stem a && is_number n) (Some (mutexes a (within 1 MAX_MUTEXES (digits_value 10 n)))) None tt tt
 
-fit_locks : (w t m n : List ℕ) → IfSome (locks_form w t m n) (IsFit Run)
-fit_locks w t m n = either Run (bytes_eq w _ && is_name t && is_name m && is_number n) (Some (locks t m (within 1 MAX_MUTEXES (digits_value 10 n)))) None (in_range MAX_MUTEXES (digits_value 10 n)) tt
+fit_locks : (w t m n : List ℕ) → IfSome (locks_form w t m n) IsFit
+fit_locks w t m n = either (bytes_eq w _ && is_name t && is_name m && is_number n) (Some (locks t m (within 1 MAX_MUTEXES (digits_value 10 n)))) None (in_range MAX_MUTEXES (digits_value 10 n)) tt
 
-fit_call : (w t : List ℕ) (c : Option CallForm) → IfSome (option_and_then (calling_form w t) c) (IsFit Run)
+fit_call : (w t : List ℕ) (c : Option CallForm) → IfSome (option_and_then (calling_form w t) c) IsFit
 fit_call w t None = tt
-fit_call w t (Some c) = either Run (not (is_name t)) None _ tt (either Run (bytes_eq w _) (Some (begins t c)) _ tt (either Run (bytes_eq w _) (Some (calls t c)) None tt tt))
+fit_call w t (Some c) = either (not (is_name t)) None _ tt (either (bytes_eq w _) (Some (begins t c)) _ tt (either (bytes_eq w _) (Some (calls t c)) None tt tt))
 
-fit_words : (ws : List (List ℕ)) → IfSome (words_form ws) (IsFit Run)
+fit_words : (ws : List (List ℕ)) → IfSome (words_form ws) IsFit
 fit_words [] = tt
-fit_words (w ∷ []) = either Run (bytes_eq w _) (Some phase) None tt tt
+fit_words (w ∷ []) = either (bytes_eq w _) (Some phase) None tt tt
 fit_words (w ∷ a ∷ []) = fit_name w a
 fit_words (w ∷ a ∷ n ∷ []) = first (step_form w a n) (mutexes_form w a n) (fit_step w a n) (fit_mutexes w a n)
 fit_words (w ∷ t ∷ c ∷ m ∷ []) = first (locks_form w t c m) (option_and_then (calling_form w t) (call_form c m)) (fit_locks w t c m) (fit_call w t (call_form c m))
 fit_words (w ∷ t ∷ c ∷ m ∷ x ∷ more) = tt
 
--- scripts of real threads have fewer
-fit_threads : (f : Form) → threads_have f ≡ true → IsFit Threads f
-fit_threads silent h = tt
-fit_threads (thread w) h = tt
-fit_threads (mutex w) h = tt
-fit_threads (mutexes w n) h = tt
-fit_threads (begins t c) h = absurd cc
-fit_threads (steps t n) h = absurd cc
-fit_threads (kills t) h = tt
-fit_threads (goes t) h = tt
-fit_threads (calls t c) h = h
-fit_threads (locks t m n) h = absurd cc
-fit_threads phase h = tt
-
-kept : (k : Mode) (o : Option Form) → IfSome o (IsFit Run) → IfSome (option_and_then (of_mode k) o) (IsFit k)
+-- a mode has fewer forms
+kept : (k : Mode) (o : Option Form) → IfSome o IsFit → IfSome (option_and_then (of_mode k) o) IsFit
 kept k None h = tt
-kept Run (Some f) h = either Run (run_has f) (Some f) None h tt
-kept Threads (Some f) h = by_cases (threads_have f) refl where
-  by_cases : (b : Bool) → threads_have f ≡ b → IfSome (if b then Some f else None) (IsFit Threads)
-  by_cases true is = fit_threads f is
-  by_cases false is = tt
+kept k (Some f) h = either (has k f) (Some f) None h tt
 
-fit : (k : Mode) (text : List ℕ) → IfSome (form_of k text) (IsFit k)
-fit k text = either k (is_silent text) (Some silent) (option_and_then (of_mode k) (words_form (words_of text))) tt (kept k (words_form (words_of text)) (fit_words (words_of text)))
+fit : (k : Mode) (text : List ℕ) → IfSome (form_of k text) IsFit
+fit k text = either (is_silent text) (Some silent) (option_and_then (of_mode k) (words_form (words_of text))) tt (kept k (words_form (words_of text)) (fit_words (words_of text)))
 
 -- a line that is read keeps the limits
 pub line_within : (n : ℕ) (s : Scope) (text : List ℕ) → IsWithinLimits s → IfOk (line_read n s text) IsWithinLimits
 line_within n s text h = refused (nat_lt MAX_LINES n) TooLong (ok_or (form_of s.mode text) UnknownWord >>= λ f. enter n s f) IsWithinLimits (λ _. by_cases (form_of s.mode text) (fit s.mode text)) where
-  by_cases : (o : Option Form) → IfSome o (IsFit s.mode) → IfOk (ok_or o UnknownWord >>= λ f. enter n s f) IsWithinLimits
+  by_cases : (o : Option Form) → IfSome o IsFit → IfOk (ok_or o UnknownWord >>= λ f. enter n s f) IsWithinLimits
   by_cases None c = tt
   by_cases (Some f) c = entered n s f h c
 

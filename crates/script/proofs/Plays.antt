@@ -185,19 +185,19 @@ locks_last s s' ns ns' t m n k h done =
 -- ---- commands
 
 -- the mutexes of a possible action are among those that there may be
-has_mutexes : (k : Mode) (n m : ℕ) (a : Action) → m ≤ MAX_MUTEXES → IsPossible k n m a → HasMutexes a
-has_mutexes k n m (action.Begin t c) few h = tt
-has_mutexes k n m (action.Step t j) few h = tt
-has_mutexes k n m (action.Kill t) few h = tt
-has_mutexes k n m (action.Go t) few h = tt
-has_mutexes k n m (action.Call t c) few h = tt
-has_mutexes k n m (action.Locks t j i) few h = let last = h.3 in omega arith
-has_mutexes k n m action.Phase few h = tt
+has_mutexes : (n m : ℕ) (a : Action) → m ≤ MAX_MUTEXES → IsPossible n m a → HasMutexes a
+has_mutexes n m (action.Begin t c) few h = tt
+has_mutexes n m (action.Step t j) few h = tt
+has_mutexes n m (action.Kill t) few h = tt
+has_mutexes n m (action.Go t) few h = tt
+has_mutexes n m (action.Call t c) few h = tt
+has_mutexes n m (action.Locks t j i) few h = let last = h.3 in omega arith
+has_mutexes n m action.Phase few h = tt
 
 pub locks_have : (s : Scope) (i : ℕ) (c : Command) → IsWellFormed s → i < length s.commands → c ≡ get_or s.commands i c → HasMutexes c.action
 locks_have s i c whole lt is =
-    has_mutexes s.mode (length s.threads) (length s.mutexes) c.action whole.within.mutexes_at_most
-    (subst (λ (x : Command). IsPossible s.mode (length s.threads) (length s.mutexes) x.action) (sym is) (whole.within.commands_possible i c lt))
+    has_mutexes (length s.threads) (length s.mutexes) c.action whole.within.mutexes_at_most
+    (subst (λ (x : Command). IsPossible (length s.threads) (length s.mutexes) x.action) (sym is) (whole.within.commands_possible i c lt))
 
 events-append : (s : State) (cs ds : List Command) → events_from s (cs ++ ds) ≡ events_from s cs ++ events_from (run s (events_from s cs)) ds
 events-append s [] ds = refl

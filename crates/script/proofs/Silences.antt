@@ -3,7 +3,7 @@ use Rattle.std.proofs.Common.{◌≡◌, ℕ, ◌+◌, ◌<◌, ◌≤◌, ◌==
 use Rattle.std.specs.Option.{ok_or}
 use Rattle.std.proofs.lemmas.Bool.{le-ltb}
 use Rattle.script.specs.Forms.{CallForm, lock, trylock, unlock, consistent, Form, silent, thread, mutex, mutexes, begins, steps, kills, goes, calls, locks, phase, form_of, is_silent}
-use Rattle.script.specs.Scope.{Scope, most_mutexes}
+use Rattle.script.specs.Scope.{Scope}
 use Rattle.script.specs.Reading.{◌>>=◌, refuse, added, several, declares, thread_of, call_of, first_of, with_action, enter, met_at, line_read, finished, lines_read, nothing}
 use Rattle.script.specs.Silence.{unplaced, without_lines, outcome, SilentLinesSayNothing}
 use Rattle.script.specs.declared.command.Action.{Action}
@@ -12,7 +12,7 @@ use Rattle.script.specs.declared.command.Command.{Command}
 use Rattle.script.specs.declared.fault.Fault.{Fault}
 use Rattle.script.specs.declared.fault.Fault.TheVariants.{UnknownWord, OutOfRange}
 use Rattle.script.specs.declared.fault.ScriptFault.{ScriptFault}
-use Rattle.script.specs.declared.limits.TheConstants.{MAX_LINES, MAX_THREADS}
+use Rattle.script.specs.declared.limits.TheConstants.{MAX_LINES, MAX_THREADS, MAX_MUTEXES}
 
 -- one line's outcome
 abbrev meant : Result Scope Fault → Result Scope Fault
@@ -56,9 +56,9 @@ called n s t c make = rw (same_call s c) (alike (thread_of s t) _ _ (λ i. alike
 same_enter : (n : ℕ) (s : Scope) (f : Form) → meant (enter n s f) ≡ meant (enter 0 (without_lines s) f)
 same_enter n s silent = rw (twice s.commands) refl
 same_enter n s (thread w) = rw (same_declares s) (alike (declares s) _ _ (λ _. alike (added MAX_THREADS s.threads w) _ _ (λ names. rw (twice s.commands) refl)))
-same_enter n s (mutex w) = rw (same_declares s) (alike (declares s) _ _ (λ _. alike (added (most_mutexes s.mode) s.mutexes w) _ _ (λ names. rw (twice s.commands) refl)))
+same_enter n s (mutex w) = rw (same_declares s) (alike (declares s) _ _ (λ _. alike (added MAX_MUTEXES s.mutexes w) _ _ (λ names. rw (twice s.commands) refl)))
 same_enter n s (mutexes w count) =
-    rw (same_declares s) (alike (declares s) _ _ (λ _. alike (ok_or count OutOfRange) _ _ (λ k. alike (several (most_mutexes s.mode) s.mutexes w k) _ _ (λ names. rw (twice s.commands) refl))))
+    rw (same_declares s) (alike (declares s) _ _ (λ _. alike (ok_or count OutOfRange) _ _ (λ k. alike (several MAX_MUTEXES s.mutexes w k) _ _ (λ names. rw (twice s.commands) refl))))
 same_enter n s (begins t c) = called n s t c (λ i k. action.Begin i k)
 same_enter n s (steps t count) = alike (ok_or count OutOfRange) _ _ (λ k. alike (thread_of s t) _ _ (λ i. acted n s (action.Step i k)))
 same_enter n s (kills t) = alike (thread_of s t) _ _ (λ i. acted n s (action.Kill i))

@@ -126,24 +126,17 @@ words_form (w ∷ a ∷ n ∷ []) = or_else (step_form w a n) (mutexes_form w a 
 words_form (w ∷ t ∷ c ∷ m ∷ []) = or_else (locks_form w t c m) (option_and_then (calling_form w t) (call_form c m))
 words_form _ = None
 
--- real threads have no call yet that may wait, and no deaths that a call would tell of
-abbrev pub threads_call : CallForm → Bool
-threads_call (lock m) = false
-threads_call (trylock m) = true
-threads_call (unlock m) = true
-threads_call (consistent m) = false
-
 -- whether scripts of real threads have lines of this form: events are the machine's alone
 abbrev pub threads_have : Form → Bool
 threads_have silent = true
 threads_have (thread a) = true
 threads_have (mutex a) = true
-threads_have (mutexes a n) = false
+threads_have (mutexes a n) = true
 threads_have (begins t c) = false
 threads_have (steps t n) = false
 threads_have (kills t) = false
 threads_have (goes t) = false
-threads_have (calls t c) = threads_call c
+threads_have (calls t c) = true
 threads_have (locks t m n) = false
 threads_have phase = true
 

@@ -8,14 +8,14 @@ use Rattle.std.specs.Str.Lossy.{utf8_valid_len}
 use Rattle.mutex.specs.declared.call.Call.{Call}
 use Rattle.mutex.specs.declared.call.Call.TheVariants as call
 use Rattle.script.specs.Forms.{CallForm, lock, trylock, unlock, consistent, Form, silent, thread, mutex, mutexes, begins, steps, kills, goes, calls, locks, phase, is_number, form_of, lines_of}
-use Rattle.script.specs.Scope.{Scope, most_mutexes}
+use Rattle.script.specs.Scope.{Scope}
 use Rattle.script.specs.declared.command.Mode.{Mode}
 use Rattle.script.specs.declared.command.Action.{Action}
 use Rattle.script.specs.declared.command.Action.TheVariants as action
 use Rattle.script.specs.declared.fault.Fault.{Fault}
 use Rattle.script.specs.declared.fault.Fault.TheVariants.{NotUtf8, UnknownWord, OutOfRange, NoSuchName, TooLong}
 use Rattle.script.specs.declared.fault.ScriptFault.{ScriptFault}
-use Rattle.script.specs.declared.limits.TheConstants.{MAX_BYTES, MAX_LINES, MAX_THREADS}
+use Rattle.script.specs.declared.limits.TheConstants.{MAX_BYTES, MAX_LINES, MAX_THREADS, MAX_MUTEXES}
 
 -- first one thing and then another, as `?` does: a fault of the first is the fault
 infixl 10 ◌>>=◌
@@ -86,8 +86,8 @@ with_action n s a = record s { commands = s.commands ++ record { line = n; actio
 abbrev pub enter : ℕ → Scope → Form → Result Scope Fault
 enter n s silent = Ok s
 enter n s (thread w) = declares s >>= λ _. added MAX_THREADS s.threads w >>= λ names. Ok (record s { threads = names })
-enter n s (mutex w) = declares s >>= λ _. added (most_mutexes s.mode) s.mutexes w >>= λ names. Ok (record s { mutexes = names })
-enter n s (mutexes w count) = declares s >>= λ _. ok_or count OutOfRange >>= λ k. several (most_mutexes s.mode) s.mutexes w k >>= λ names.
+enter n s (mutex w) = declares s >>= λ _. added MAX_MUTEXES s.mutexes w >>= λ names. Ok (record s { mutexes = names })
+enter n s (mutexes w count) = declares s >>= λ _. ok_or count OutOfRange >>= λ k. several MAX_MUTEXES s.mutexes w k >>= λ names.
     Ok (record s { mutexes = names })
 enter n s (begins t c) = thread_of s t >>= λ i. call_of s c >>= λ k. Ok (with_action n s (action.Begin i k))
 enter n s (steps t count) = ok_or count OutOfRange >>= λ k. thread_of s t >>= λ i.

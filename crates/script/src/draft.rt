@@ -5,11 +5,11 @@ ghost use Rattle.std.specs.List.{list_any};
 ghost use Rattle.script.specs.Forms.{is_silent};
 ghost use Rattle.script.specs.Outcome.{Gives};
 ghost use Rattle.script.specs.Reading.{added, call_of, declares, enter, first_of, is_numbered, line_read, nothing, place_of, several, thread_of};
-ghost use Rattle.script.specs.Scope.{IsWithinLimits, most_mutexes};
+ghost use Rattle.script.specs.Scope.{IsWithinLimits};
 
 use crate::command::{Action, Command, Mode};
 use crate::fault::Fault;
-use crate::limits::{MAX_LINES, MAX_MUTEXES, MAX_MUTEXES_OF_THREADS, MAX_THREADS};
+use crate::limits::{MAX_LINES, MAX_MUTEXES, MAX_THREADS};
 use crate::line::{Line, NamedCall, is_silent_line, line_of};
 use crate::words::{is_below, is_word_number};
 use indexmap::IndexSet;
@@ -152,17 +152,6 @@ impl Draft {
         Ok(())
     }
 
-    /// How many mutexes may be declared.
-    fn most_mutexes(&self) -> usize
-        ensures value { result ≡ most_mutexes self.now.mode }
-        ensures few { result ≤ MAX_MUTEXES }
-    {
-        match self.mode {
-            Mode::Run => MAX_MUTEXES,
-            Mode::Threads => MAX_MUTEXES_OF_THREADS,
-        }
-    }
-
     fn enter(&mut self, alloc: Global, number: usize, line: Line<'_>) -> Result<(), Fault>
         requires { IsWithinLimits (scope_of self.old) }
         ensures gives { Gives (λ _. scope_of self.new) result
@@ -176,14 +165,12 @@ impl Draft {
             }
             Line::Mutex(word) => {
                 self.declares()?;
-                let limit = self.most_mutexes();
-                return declare(alloc, &mut self.mutexes, limit, word);
+                return declare(alloc, &mut self.mutexes, MAX_MUTEXES, word);
             }
             Line::Mutexes(word, count) => {
                 self.declares()?;
                 let count = count.ok_or(Fault::OutOfRange)?;
-                let limit = self.most_mutexes();
-                return declare_numbered(alloc, &mut self.mutexes, limit, word, count);
+                return declare_numbered(alloc, &mut self.mutexes, MAX_MUTEXES, word, count);
             }
             Line::Begin(thread, call) => Action::Begin(self.thread(thread)?, self.call(call)?),
             Line::Step(thread, count) => {

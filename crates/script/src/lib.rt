@@ -19,8 +19,8 @@ pub use fault::{Fault, ScriptFault};
 pub use gathering::jobs;
 pub use laws::{silent_lines_say_nothing, threads_come_to_rest};
 pub use limits::{
-    MAX_BYTES, MAX_EVENTS, MAX_LINES, MAX_MUTEXES, MAX_MUTEXES_OF_THREADS, MAX_NAME, MAX_STEM,
-    MAX_STEPS, MAX_THREADS, REST_STEPS,
+    MAX_BYTES, MAX_EVENTS, MAX_LINES, MAX_MUTEXES, MAX_NAME, MAX_STEM, MAX_STEPS, MAX_THREADS,
+    REST_STEPS,
 };
 pub use parsed::Script;
 pub use player::play;

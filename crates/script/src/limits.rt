@@ -9,11 +9,8 @@ pub const MAX_LINES: usize = 10_000;
 /// The threads that a script may declare.
 pub const MAX_THREADS: usize = 64;
 
-/// The mutexes that a script for the machine may declare, and those of one `mutexes` or `locks` line.
+/// The mutexes that a script may declare, and those of one `mutexes` or `locks` line.
 pub const MAX_MUTEXES: usize = 4_096;
-
-/// The mutexes that a script for real threads may declare.
-pub const MAX_MUTEXES_OF_THREADS: usize = 1;
 
 /// The characters of a name.
 pub const MAX_NAME: usize = 16;

@@ -2,7 +2,7 @@
 
 ghost use Rattle.std.specs.Prelude.{◌≡◌, true, false, option_map, option_and_then};
 ghost use Rattle.std.specs.Str.Parse.{digits_value};
-ghost use Rattle.script.specs.Forms.{call_form, calling_form, form_of, has, is_number, is_silent, is_stem, locks_form, mutexes_form, name_form, or_else, phase_form, run_has, step_form, threads_call, threads_have, within};
+ghost use Rattle.script.specs.Forms.{call_form, calling_form, form_of, has, is_number, is_silent, is_stem, locks_form, mutexes_form, name_form, or_else, phase_form, run_has, step_form, threads_have, within};
 ghost use Rattle.script.specs.Seen.{call_seen, form_seen};
 
 use crate::command::Mode;
@@ -170,25 +170,15 @@ fn of_four<'a>(
     }
 }
 
-/// Whether scripts for real threads have such calls.
-fn is_call_of_threads(call: &NamedCall<'_>) -> bool
-    ensures { result ≡ threads_call (call_seen call.now) }
-{
-    match call {
-        NamedCall::TryLock(_) | NamedCall::Unlock(_) => true,
-        NamedCall::Lock(_) | NamedCall::Consistent(_) => false,
-    }
-}
-
 /// Whether scripts for real threads have such lines.
 fn is_of_threads(line: &Line<'_>) -> bool
     ensures { result ≡ threads_have (form_seen line.now) }
 {
     match line {
-        Line::Thread(_) | Line::Mutex(_) | Line::Phase => true,
-        Line::Call(_, call) => is_call_of_threads(call),
-        Line::Mutexes(..) | Line::Begin(..) | Line::Step(..) => false,
-        Line::Kill(_) | Line::Go(_) | Line::Locks(..) => false,
+        Line::Thread(_) | Line::Mutex(_) | Line::Mutexes(..) => true,
+        Line::Call(..) | Line::Phase => true,
+        Line::Begin(..) | Line::Step(..) | Line::Kill(_) => false,
+        Line::Go(_) | Line::Locks(..) => false,
     }
 }
 

@@ -63,8 +63,7 @@ impl Script {
         self.threads.len() as u8
     }
 
-    /// How many mutexes it declares, from 1 to [`MAX_MUTEXES`](crate::MAX_MUTEXES), or to
-    /// [`MAX_MUTEXES_OF_THREADS`](crate::MAX_MUTEXES_OF_THREADS) where it is for real threads. They have the numbers below this.
+    /// How many mutexes it declares, from 1 to [`MAX_MUTEXES`](crate::MAX_MUTEXES). They have the numbers below this.
     pub fn mutexes(&self) -> u16
         ensures count { result ≡ length self.now.mutexes }
         ensures well_formed { IsWellFormed self.now }

@@ -46,8 +46,10 @@ fn lines(rt: HostRuntime) -> Result<(), Fail> {
             ("call b trylock m", Some((4, 3))),
             ("call a unlock n", Some((4, 3))),
             ("call B trylock m", Some((2, 3))),
-            ("call a lock m", Some((2, 3))),
-            ("call b consistent m", Some((2, 3))),
+            ("call a lock m", None),
+            ("call a consistent m", None),
+            ("call b consistent m", Some((4, 3))),
+            ("call a lock m0", Some((4, 3))),
             ("call a trylock", Some((2, 3))),
             ("begin a trylock m", Some((2, 3))),
             ("begin b trylock m", Some((2, 3))),
@@ -58,9 +60,11 @@ fn lines(rt: HostRuntime) -> Result<(), Fail> {
             ("locks a m 1", Some((2, 3))),
             ("die a 4", Some((2, 3))),
             ("thread a", Some((4, 3))),
-            ("mutex n", Some((3, 3))),
-            ("mutex m", Some((3, 3))),
-            ("mutexes n 0", Some((2, 3))),
+            ("mutex n", None),
+            ("mutex m", Some((4, 3))),
+            ("mutexes m 4095", None),
+            ("mutexes m 4096", Some((3, 3))),
+            ("mutexes n 0", Some((3, 3))),
         ],
     )
 }
@@ -118,8 +122,10 @@ fn write_job(text: &mut String, job: &Job) -> Result<(), Fault> {
     text.push(char::from(b'0' + job.thread.get() % 10))?;
     for call in &job.calls {
         text.push(match call {
+            mutex::Call::Lock(_) => 'l',
             mutex::Call::TryLock(_) => 't',
-            _ => 'u',
+            mutex::Call::Unlock(_) => 'u',
+            mutex::Call::Consistent(_) => 'c',
         })?;
     }
     Ok(())
@@ -141,6 +147,10 @@ fn phases(rt: HostRuntime) -> Result<(), Fail> {
         (
             "call b unlock m\ncall a trylock m\ncall b trylock m\ncall b trylock m\n",
             "1t2utt|",
+        ),
+        (
+            "call b lock m\ncall b consistent m\nphase\ncall a lock m\n",
+            "2lc|1l|",
         ),
     ];
     for (commands, want) in cases {
