@@ -12,7 +12,7 @@ use Rattle.verdict.specs.declared.fault.Fault.TheVariants.{NotUtf8, TooLong}
 use Rattle.verdict.specs.declared.fault.TraceFault.{TraceFault}
 use Rattle.verdict.specs.declared.limits.TheConstants.{MAX_BYTES}
 use Rattle.verdict.specs.Reading.{Trace, fault_at, text_read, trace_read}
-use Rattle.report.specs.Leaves.{AppendsFront}
+use Rattle.texts.specs.Leaves.{AppendsFront}
 use Rattle.report.specs.Verdicts.{verdict_text, verdict_status, IsVerdictOn, FoundLegal, JudgedFront, Checked, CheckedFront}
 
 -- the verdict whose status is 0 is that the trace is legal

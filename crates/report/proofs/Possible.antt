@@ -4,7 +4,6 @@ use Rattle.std.specs.Prelude.{if◌then◌else◌}
 use Rattle.std.specs.List.{slice_split, onto_first}
 use Rattle.mutex.specs.declared.call.Call.{Call}
 use Rattle.mutex.specs.Calls.{mutex_of}
-use Rattle.script.specs.declared.command.Mode.TheVariants.{Threads}
 use Rattle.script.specs.declared.command.Action.{Action}
 use Rattle.script.specs.declared.command.Action.TheVariants as action
 use Rattle.script.specs.declared.command.Command.{Command}
@@ -39,9 +38,9 @@ abbrev IsOn : ℕ → Call → Type 0
 IsOn m c = mutex_of c < m
 
 abbrev IsFine : ℕ → ℕ → Command → Type 0
-IsFine n m c = IsPossible Threads n m c.action
+IsFine n m c = IsPossible n m c.action
 
-by_action : (n m t : ℕ) (a : Action) → IsPossible Threads n m a → Each (IsOn m) (call_by t a)
+by_action : (n m t : ℕ) (a : Action) → IsPossible n m a → Each (IsOn m) (call_by t a)
 unfolding Each
 by_action n m t (action.Begin u k) fine = tt
 by_action n m t (action.Step u k) fine = tt
@@ -99,11 +98,11 @@ unfolding Each
 each-unmap P Q f go [] each = tt
 each-unmap P Q f go (x ∷ xs) each = (go x each.0, each-unmap P Q f go xs each.1)
 
-pub right_phases : (s : Scope) (phases : List Phase) → s.mode ≡ Threads → IsWellFormed s → map jobs_seen phases ≡ jobs_of s → AreRightPhases (length s.mutexes) phases
-right_phases s phases mode whole is =
+pub right_phases : (s : Scope) (phases : List Phase) → IsWellFormed s → map jobs_seen phases ≡ jobs_of s → AreRightPhases (length s.mutexes) phases
+right_phases s phases whole is =
     let n = length s.threads in
     let m = length s.mutexes in
-    let fine : Each (IsFine n m) s.commands = to_each (IsFine n m) s.commands (subst (λ k. All (λ c. IsPossible k n m c.action) s.commands) mode whole.within.commands_possible) in
+    let fine : Each (IsFine n m) s.commands = to_each (IsFine n m) s.commands whole.within.commands_possible in
     let asked : Each (Each (IsJobOn m)) (jobs_of s) = each-map (Each (IsFine n m)) (Each (IsJobOn m)) (jobs_up_to n) (λ cs. phase_jobs n m n cs) (slice_split ends_phase s.commands) (parts_too (IsFine n m) ends_phase s.commands fine) in
     let seen : Each (Each (IsJobOn m)) (map jobs_seen phases) = subst (Each (Each (IsJobOn m))) (sym is) asked in
     from_each (λ p. All (λ j. ArePossible m j.calls) p.jobs.items) phases

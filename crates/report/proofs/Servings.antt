@@ -16,10 +16,10 @@ use Rattle.script.specs.Playing.{layout_of, first_state, events_in}
 use Rattle.script.specs.Played.{IsPlayed}
 use Rattle.report.proofs.Layouts.{run_layout}
 use Rattle.report.specs.declared.threads.Answers.{Answers}
-use Rattle.report.specs.Replies.{replies_text}
-use Rattle.report.specs.Leaves.{AppendsFront}
-use Rattle.report.specs.Text.{head_line, line_text, end_line, trace_text}
-use Rattle.report.specs.Tables.{table_text}
+use Rattle.texts.specs.Replies.{replies_text}
+use Rattle.texts.specs.Leaves.{AppendsFront}
+use Rattle.texts.specs.Text.{head_line, line_text, end_line, trace_text}
+use Rattle.texts.specs.Tables.{table_text}
 use Rattle.report.specs.Served.{Report, trace, table, replies, mode_of, meaning, meant_table, Means, Answer, Tells, TellsFront, Written, WritesFront, Served, ServedFront}
 
 -- the text of the trace is the script's meaning

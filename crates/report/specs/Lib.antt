@@ -1,9 +1,4 @@
-pub mod Leaves
-pub mod Text
 pub mod Forms
 pub mod Served
-pub mod Replies
 pub mod Threads
-pub mod MutexLines
-pub mod Tables
 pub mod Verdicts

@@ -13,16 +13,16 @@ use Rattle.script.specs.Reading.{script_read}
 use Rattle.script.specs.Playing.{first_state, events_in, overlong}
 use Rattle.report.specs.declared.form.Form.{Form}
 use Rattle.report.specs.declared.form.Form.TheVariants as form
-use Rattle.report.specs.declared.replies.ThreadReplies.{ThreadReplies}
-use Rattle.report.specs.declared.replies.MutexWord.{MutexWord}
+use Rattle.texts.specs.declared.replies.ThreadReplies.{ThreadReplies}
+use Rattle.texts.specs.declared.replies.MutexWord.{MutexWord}
 use Rattle.script.specs.declared.workload.Phase.{Phase}
 use Rattle.script.specs.Jobs.{jobs_seen, jobs_of}
 use Rattle.report.specs.declared.threads.Answers.{Answers}
 use Rattle.report.specs.Threads.{HaveAnswered}
-use Rattle.report.specs.Replies.{replies_text}
-use Rattle.report.specs.Leaves.{AppendsFront}
-use Rattle.report.specs.Text.{head_line, line_text, end_line}
-use Rattle.report.specs.Tables.{table_text}
+use Rattle.texts.specs.Replies.{replies_text}
+use Rattle.texts.specs.Leaves.{AppendsFront}
+use Rattle.texts.specs.Text.{head_line, line_text, end_line}
+use Rattle.texts.specs.Tables.{table_text}
 use Rattle.report.specs.Verdicts.{Checked, CheckedFront}
 use Rattle.verdict.specs.declared.limits.TheConstants as traces
 

@@ -1,11 +1,11 @@
 //! What a script's threads were answered, by the names of the script.
 ghost use Rattle.std.specs.Prelude.{◌≡◌, false, All, length, map, IfOk};
 
-use crate::replies::{MutexWord, ThreadReplies};
 use crate::threads::Answers;
 use lockword::Tid;
 use script::Script;
 use std::alloc::{AllocError, Global};
+use texts::{MutexWord, ThreadReplies};
 
 /// Each thread's name and replies, in the order of the threads' ids.
 pub fn thread_replies<'a>(

@@ -2,15 +2,14 @@
 
 ghost use Rattle.std.specs.Prelude.{◌≡◌, ◌≤◌, ◌⊎◌, length};
 ghost use Rattle.verdict.specs.declared.limits.TheConstants.{MAX_BYTES};
-ghost use Rattle.report.specs.Leaves.{Leaves};
+ghost use Rattle.texts.specs.Leaves.{Leaves};
 ghost use Rattle.report.specs.Verdicts.{verdict_status, verdict_text, FoundLegal, JudgedFront};
 
-use crate::messages::CANNOT_WRITE;
-use crate::pieces::put;
-use crate::serving::{tell, tell_fault};
+use crate::messages::{CANNOT_WRITE, tell, tell_fault};
 use itoa::Buffer;
 use std::alloc::Global;
 use std::io::{self, Write};
+use texts::put;
 use verdict::{Verdict, check};
 
 /// `legal N points`, or `illegal at line L`.

@@ -5,10 +5,10 @@ ghost use Rattle.script.specs.declared.command.Mode.TheVariants.{Run};
 ghost use Rattle.script.specs.Reading.{script_read};
 ghost use Rattle.script.specs.Played.{IsPlayed};
 ghost use Rattle.interleave.specs.Shown.{state_of};
-ghost use Rattle.report.specs.Leaves.{Leaves};
-ghost use Rattle.report.specs.Text.{trace_text};
-ghost use Rattle.report.specs.Tables.{table_text};
-ghost use Rattle.report.specs.Replies.{replies_text};
+ghost use Rattle.texts.specs.Leaves.{Leaves};
+ghost use Rattle.texts.specs.Text.{trace_text};
+ghost use Rattle.texts.specs.Tables.{table_text};
+ghost use Rattle.texts.specs.Replies.{replies_text};
 ghost use Rattle.report.specs.Served.{trace, table, replies, bytes_at_most, Written, WritesFront, Tells, TellsFront, Served, ServedFront, ServedAs, ServedFrontAs, TakesAtMost};
 ghost use Rattle.report.specs.Verdicts.{Checked, CheckedFront};
 ghost use Rattle.verdict.specs.declared.limits.TheConstants as traces;
@@ -17,37 +17,16 @@ ghost use Rattle.report.specs.declared.form.Form.TheVariants.{Usage};
 use crate::answers::{mutex_words, thread_replies};
 use crate::form::Form;
 use crate::judging::judge_bytes;
-use crate::messages::{CANNOT_READ, CANNOT_WRITE, OUT_OF_MEMORY, USAGE};
-use crate::pieces::put;
+use crate::messages::{CANNOT_READ, CANNOT_WRITE, OUT_OF_MEMORY, USAGE, tell, tell_fault};
 use crate::reading::{ReadFault, read_below};
-use crate::replies::{MutexWord, ThreadReplies, write_replies};
-use crate::table::write_table;
-use crate::text::write_trace;
 use crate::threads::{Answers, answers_of};
 use interleave::{Machine, Trace};
 use script::{MAX_BYTES, Mode, Script, jobs, parse, play};
 use std::alloc::Global;
-use std::fmt::Display;
 use std::io::{self, Read, Write};
 use std::sync::Wait;
 use std::thread::Threads;
-
-/// Tells why nothing, or not all, was written. A message that can't be written is lost.
-pub(crate) fn tell<E: Write>(err: &mut E, message: &[&str]) -> u8
-    ensures { result ≡ 1 }
-{
-    let _ = put(err, message);
-    let _ = err.flush();
-    1
-}
-
-pub(crate) fn tell_fault<E: Write, F: Display>(err: &mut E, fault: &F) -> u8
-    ensures { result ≡ 1 }
-{
-    let _ = writeln!(err, "rfx: {fault}");
-    let _ = err.flush();
-    1
-}
+use texts::{MutexWord, ThreadReplies, write_replies, write_table, write_trace};
 
 /// Writes a trace, and lets go of what the writer kept back.
 fn write_out<W: Write>(trace: &Trace, out: &mut W) -> io::Result<()>

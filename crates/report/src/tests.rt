@@ -3,7 +3,6 @@
 mod program;
 mod rows;
 mod tables;
-mod texts;
 mod threads;
 mod verdicts;
 

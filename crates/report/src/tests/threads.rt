@@ -4,6 +4,7 @@ use super::{Fixed, Narrow};
 use crate::{Form, serve};
 use std::process::Abort;
 use std::sync::Wait;
+use std::test::Fail;
 use std::thread::Threads;
 
 /// One thread is refused, takes, fails to take again and releases one mutex.
@@ -56,6 +57,50 @@ fn scripts_are_told(rt: HostRuntime) {
     );
 }
 
+/// A lock of a mutex that the thread owns, one of a mutex that another had, and calls on an owned mutex that nobody left inconsistent.
+#[test]
+fn locks_are_told(rt: HostRuntime) {
+    let script = "thread a\nthread b\nmutex m\ncall a lock m\nphase\ncall b trylock m\nphase\n\
+        call a unlock m\nphase\ncall b lock m\ncall b lock m\ncall b trylock m\n\
+        call b consistent m\ncall b unlock m\n";
+    let text = "replies a OK OK\nreplies b EBUSY OK EDEADLK EBUSY EINVAL OK\n\
+        mutex m 0000000000000000 - -\n";
+    threads_are(&rt, script, 0, text, "");
+}
+
+/// The threads of one phase lock, and sleep where they have to; WAITERS may stay behind.
+#[test]
+fn threads_lock_at_once(rt: HostRuntime) -> Result<(), Fail> {
+    let script = "thread a\nthread b\nmutex m\n\
+        call a lock m\ncall a unlock m\ncall b lock m\ncall b unlock m\n";
+    let mut out = Vec::new(rt.alloc());
+    let mut err = Vec::new(rt.alloc());
+    let status = serve(
+        &rt,
+        rt.alloc(),
+        &Form::Threads("f"),
+        &mut script.as_bytes(),
+        &mut out,
+        &mut err,
+    );
+    assert_eq!(rt; status, 0);
+    let replies = "replies a OK OK\nreplies b OK OK\nmutex m ";
+    let quiet = format!(in rt.alloc(); "{replies}0000000000000000 - -\n")?;
+    let waited = format!(in rt.alloc(); "{replies}0000000080000000 - -\n")?;
+    assert!(rt; out.as_slice() == quiet.as_bytes() || out.as_slice() == waited.as_bytes());
+    assert!(rt; err.is_empty());
+    Ok(())
+}
+
+#[test]
+fn many_mutexes_are_told(rt: HostRuntime) {
+    let script = "thread a\nthread b\nmutexes m 2\nmutex n\n\
+        call a lock m1\ncall b lock n\nphase\ncall b trylock m1\ncall a lock m0\n";
+    let text = "replies a OK OK\nreplies b OK EBUSY\nmutex m0 0000000000000001 a -\n\
+        mutex m1 0000000000000001 a -\nmutex n 0000000000000002 b -\n";
+    threads_are(&rt, script, 0, text, "");
+}
+
 #[test]
 fn faults_are_told(rt: HostRuntime) {
     for (script, told) in [
@@ -68,7 +113,7 @@ fn faults_are_told(rt: HostRuntime) {
             "rfx: line 3: fault 4: no such name\n",
         ),
         (
-            "thread a\nmutex m\nmutex n\n",
+            "thread a\nmutexes m 4096\nmutex n\n",
             "rfx: line 3: fault 3: number out of range\n",
         ),
     ] {

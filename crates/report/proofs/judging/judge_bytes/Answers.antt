@@ -1,6 +1,6 @@
 use Rattle.std.proofs.Common.{inr, sym, ◌∙◌}
 use Rattle.report.specs.Verdicts.{verdict_text}
-use Rattle.report.proofs.Writers.{whole_is_front}
+use Rattle.texts.proofs.Writers.{whole_is_front}
 use Rattle.report.proofs.Judged.{found}
 use Rattle.report.proofs.judging.judge_bytes.Goals as goal
 

@@ -1,6 +1,6 @@
 use Rattle.interleave.specs.Shown.{state_of}
-use Rattle.report.specs.Tables.{table_text}
-use Rattle.report.proofs.Writers.{whole_is_front}
+use Rattle.texts.specs.Tables.{table_text}
+use Rattle.texts.proofs.Writers.{whole_is_front}
 use Rattle.report.proofs.Servings.{tabled_front, machine_threads, machine_mutexes}
 use Rattle.report.proofs.serving.table_bytes.Goals as goal
 

@@ -1,7 +1,7 @@
 use Rattle.std.proofs.Common.{inr, sym, subst}
-use Rattle.report.specs.Replies.{replies_text}
+use Rattle.texts.specs.Replies.{replies_text}
 use Rattle.report.specs.Served.{AreLines}
-use Rattle.report.proofs.Writers.{whole_is_front}
+use Rattle.texts.proofs.Writers.{whole_is_front}
 use Rattle.report.proofs.serving.tell_answers.Goals as goal
 
 pub returns-in-Ok-write_told-clause-front : goal.returns-in-Ok-write_told-clause-front

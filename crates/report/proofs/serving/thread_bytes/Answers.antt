@@ -4,7 +4,7 @@ use Rattle.report.proofs.Servings.{told, told_front}
 use Rattle.report.proofs.serving.thread_bytes.Goals as goal
 
 pub answers_of-requires-clause-possible : goal.answers_of-requires-clause-possible
-answers_of-requires-clause-possible g c κs within = right_phases c.in-Ok.script c.in-Ok-jobs.jobs.phases.items c.in-Ok.ensures.mode c.in-Ok.ensures.well_formed c.in-Ok-jobs.ensures.ok
+answers_of-requires-clause-possible g c κs within = right_phases c.in-Ok.script c.in-Ok-jobs.jobs.phases.items c.in-Ok.ensures.well_formed c.in-Ok-jobs.ensures.ok
 
 pub returns-in-Ok-answers_of-clause-done : goal.returns-in-Ok-answers_of-clause-done
 returns-in-Ok-answers_of-clause-done g c = λ zero.

@@ -1,5 +1,5 @@
-use Rattle.report.specs.Text.{trace_text}
-use Rattle.report.proofs.Writers.{whole_is_front}
+use Rattle.texts.specs.Text.{trace_text}
+use Rattle.texts.proofs.Writers.{whole_is_front}
 use Rattle.report.proofs.Servings.{written_front}
 use Rattle.report.proofs.serving.trace_bytes.Goals as goal
 

@@ -1,6 +1,6 @@
 use Rattle.interleave.specs.Shown.{state_of}
-use Rattle.report.specs.Tables.{table_text}
-use Rattle.report.proofs.Writers.{kept_leaves}
+use Rattle.texts.specs.Tables.{table_text}
+use Rattle.texts.proofs.Writers.{kept_leaves}
 use Rattle.report.proofs.serving.write_table_out.Goals as goal
 
 pub returns : goal.returns

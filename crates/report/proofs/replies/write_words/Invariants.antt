@@ -1,7 +1,0 @@
-use Rattle.std.proofs.Common.{take}
-use Rattle.std.specs.Io.KnownBytes.{Appends}
-use Rattle.report.specs.Replies.{reply_texts}
-use Rattle.report.proofs.replies.write_words.Given as goal
-
-abbrev pub invariant-loop-reply : goal.invariant-loop-reply
-invariant-loop-reply g l = Appends (g.W.Write.contents l.initial.out) (g.W.Write.contents l.out) (reply_texts (take l.reply-index l.replies))

@@ -1,6 +1,0 @@
-use Rattle.std.proofs.Common.{◌≡◌, take}
-use Rattle.report.specs.Tables.{last_reply}
-use Rattle.report.proofs.table.last_reply.Given as goal
-
-abbrev pub invariant-loop-note : goal.invariant-loop-note
-invariant-loop-note l = l.last ≡ last_reply l.thread (take l.note-index l.notes)

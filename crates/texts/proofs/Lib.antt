@@ -1,0 +1,4 @@
+pub mod Writers
+mod Events
+mod Told
+mod Tables

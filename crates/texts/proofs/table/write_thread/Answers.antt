@@ -1,0 +1,32 @@
+use Rattle.std.proofs.Common.{rules, ◌≡◌, ◌∷◌, [], codes, decimal, subst, ap, ◌∙◌}
+use Rattle.std.specs.List.{concat}
+use Rattle.std.specs.Io.KnownBytes.{Appends}
+use Rattle.texts.specs.Leaves.{AppendsFront, Leaves}
+use Rattle.interleave.specs.Shown.{state_of}
+use Rattle.texts.specs.Tables.{name_of, deed, held_by, last_reply, reply_or_hyphen}
+use Rattle.texts.proofs.Writers.{ends_at_first, then_leaves}
+use Rattle.texts.proofs.table.write_thread.Goals as goal
+
+pub returns-in_err-put : goal.returns-in_err-put
+returns-in_err-put g c =
+    let s = state_of c.args.machine.now in
+    let t = c.args.thread in
+    let before = g.W.Write.contents c.args.out.now in
+    let after = g.W.Write.contents c.put.new.out in
+    ends_at_first before after c.from_residual.result (concat (codes "thread " ∷ name_of c.args.script.now.threads t ∷ codes " " ∷ []))
+    (concat (deed s t (s.threads t).stage ∷ codes " " ∷ decimal (held_by s t) ∷ codes " " ∷ reply_or_hyphen (last_reply t c.args.notes.now) ∷ codes "\n" ∷ [])) c.from_residual.ensures.0
+    (subst (λ w. AppendsFront before after (concat (codes "thread " ∷ w ∷ codes " " ∷ []))) c.name.ensures c.in_err-put.ensures)
+
+pub returns : goal.returns
+returns g c =
+    let s = state_of c.args.machine.now in
+    let t = c.args.thread in
+    let before = g.W.Write.contents c.args.out.now in
+    let mid = g.W.Write.contents c.put.new.out in
+    let after = g.W.Write.contents c.put-2.new.out in
+    let held : c.format-held.result.now ≡ decimal (held_by s t) = search rules in
+    let last : c.reply_or_hyphen-last.result.now ≡ reply_or_hyphen (last_reply t c.args.notes.now) = c.reply_or_hyphen-last.ensures ∙ ap reply_or_hyphen c.last_reply.ensures in
+    let told : Leaves mid after c.put-2.result (concat (deed s t (s.threads t).stage ∷ codes " " ∷ decimal (held_by s t) ∷ codes " " ∷ reply_or_hyphen (last_reply t c.args.notes.now) ∷ codes "\n" ∷ [])) =
+    subst (Leaves mid after c.put-2.result) (λ i. concat (c.deed-deed.ensures i ∷ codes " " ∷ held i ∷ codes " " ∷ last i ∷ codes "\n" ∷ [])) c.put-2.ensures in
+    then_leaves before mid after c.put-2.result (concat (codes "thread " ∷ name_of c.args.script.now.threads t ∷ codes " " ∷ [])) _
+    (subst (λ w. Appends before mid (concat (codes "thread " ∷ w ∷ codes " " ∷ []))) c.name.ensures c.in_ok-put.ensures) told

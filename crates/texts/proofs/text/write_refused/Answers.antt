@@ -1,0 +1,16 @@
+use Rattle.std.proofs.Common.{[], ◌∷◌}
+use Rattle.protocol.specs.declared.note.Fact.TheVariants.{Return}
+use Rattle.texts.specs.Text.{facts_text}
+use Rattle.texts.proofs.Events.{leaves_fact}
+use Rattle.texts.proofs.Writers.{ends_at_first, then_leaves}
+use Rattle.texts.proofs.text.write_refused.Goals as goal
+
+pub returns-in_err-write_fact : goal.returns-in_err-write_fact
+returns-in_err-write_fact g c =
+    let point = rw (c.mutex.ensures, c.operation.ensures) at c.in_err-write_fact.ensures in
+    rw c.in-Some.is (ends_at_first _ _ c.from_residual.result _ (facts_text c.args.event (Return c.args.thread c.in-Some.reply ∷ [])) c.from_residual.ensures.0 point)
+
+pub returns : goal.returns
+returns g c =
+    let point = rw (c.mutex.ensures, c.operation.ensures) at c.in_ok-write_fact.ensures in
+    rw c.in-Some.is (then_leaves _ _ _ c.write_fact-2.result _ (facts_text c.args.event (Return c.args.thread c.in-Some.reply ∷ [])) point (leaves_fact _ _ c.write_fact-2.result c.args.event (Return c.args.thread c.in-Some.reply) c.write_fact-2.ensures))

@@ -1,0 +1,5 @@
+pub mod Leaves
+pub mod Text
+pub mod Replies
+pub mod MutexLines
+pub mod Tables
