@@ -11,9 +11,6 @@ mod layout;
 mod memory;
 mod object;
 mod point;
-#[cfg(test)]
-mod tests;
-
 pub use access::{Access, Answer};
 pub use key::{Key, bucket_of, key_of};
 pub use layout::{Layout, LayoutFault, places_differ};

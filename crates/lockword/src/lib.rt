@@ -12,6 +12,3 @@ mod tid;
 pub use cell::Cell;
 pub use reply::Reply;
 pub use tid::Tid;
-
-#[cfg(test)]
-mod tests;

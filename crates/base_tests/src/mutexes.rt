@@ -1,6 +1,6 @@
 //! The table of the object, the places of a small layout and each printed text.
 
-use crate::{
+use keys::{
     HELD_LIMIT, Key, Layout, LayoutFault, NoMem, Object, Operation, bucket_of, key_of,
     places_differ,
 };

@@ -1,6 +1,6 @@
 //! Each call once, with words written out by hand from the ABI's bits (robust-futex-ABI).
 
-use crate::{Cell, Reply, Tid};
+use lockword::{Cell, Reply, Tid};
 use std::test::Fail;
 
 const WAITERS: u64 = 0x8000_0000;
@@ -12,7 +12,7 @@ const UNUSABLE: u64 = 0x1_0000_0000;
 #[test]
 fn a_thread_has_an_id_from_1_to_64(rt: HostRuntime) {
     for (id, there) in [(0, false), (1, true), (64, true), (65, false), (255, false)] {
-        assert_eq!(rt; Tid::new(id).is_some(), there, "{id}");
+        assert_eq!(rt; Tid::new(id).is_some(), there);
     }
     assert_eq!(rt; Tid::new(64).map(|thread| thread.get()), Some(64));
 }
