@@ -14,7 +14,7 @@ use Rattle.mutex.specs.declared.call.Call.{Call}
 use Rattle.mutex.specs.declared.call.Call.TheVariants as call
 use Rattle.script.specs.Forms.{CallForm, lock, trylock, unlock, consistent, Form, silent, thread, mutex, mutexes, begins, steps, kills, goes, calls, locks, phase, form_of, of_mode, has, words_form, or_else, name_form, step_form, mutexes_form, locks_form, call_form, calling_form, is_silent, is_name, is_stem, is_number, within, words_of}
 use Rattle.script.specs.Scope.{Scope, IsPossible, IsWithinLimits}
-use Rattle.script.specs.Reading.{◌>>=◌, refuse, place_of, is_declared, added, numbered, is_numbered, several, declares, thread_of, call_of, first_of, with_action, enter, line_read}
+use Rattle.script.specs.Reading.{◌>>=◌, refuse, place_of, is_declared, added, numbered, is_numbered, several, declares, thread_of, call_of, first_of, begun, stepped, killed, gone, made, locked, with_action, enter, line_read}
 use Rattle.script.specs.declared.command.Mode.{Mode}
 use Rattle.script.specs.declared.command.Action.{Action}
 use Rattle.script.specs.declared.command.Action.TheVariants as action
@@ -86,29 +86,32 @@ IsFit (steps t count) = IfSome count (λ n. (1 ≤ n) × (n ≤ MAX_STEPS))
 IsFit (locks t m count) = IfSome count (λ n. (1 ≤ n) × (n ≤ MAX_MUTEXES))
 IsFit f = Unit {0}
 
--- a command more: its parts were looked up among what the script has
-calling : (n : ℕ) (s : Scope) (t : List ℕ) (c : CallForm) (make : ℕ → Call → Action) → IsWithinLimits s
-    → ((i : ℕ) (k : Call) → 1 ≤ i → i ≤ length s.threads → mutex_of k < length s.mutexes → IsPossible (length s.threads) (length s.mutexes) (make i k))
-    → IfOk (thread_of s t >>= λ i. call_of s c >>= λ k. Ok (with_action n s (make i k))) IsWithinLimits
-calling n s t c make h possible = chain (thread_of s t) (λ i. call_of s c >>= λ k. Ok (with_action n s (make i k))) (λ i. (1 ≤ i) × (i ≤ length s.threads)) IsWithinLimits (threaded s t)
-    (λ i low. chain (call_of s c) (λ k. Ok (with_action n s (make i k))) (λ k. mutex_of k < length s.mutexes) IsWithinLimits (called s c)
-    (λ k few. appended n s (make i k) h (possible i k low.0 low.1 few)))
+-- an action that the script may have
+abbrev May : Scope → Action → Type 0
+May s a = IsPossible (length s.threads) (length s.mutexes) a
 
-of_thread : (n : ℕ) (s : Scope) (t : List ℕ) (make : ℕ → Action) → IsWithinLimits s → ((i : ℕ) → 1 ≤ i → i ≤ length s.threads → IsPossible (length s.threads) (length s.mutexes) (make i))
-    → IfOk (thread_of s t >>= λ i. Ok (with_action n s (make i))) IsWithinLimits
-of_thread n s t make h possible = chain (thread_of s t) (λ i. Ok (with_action n s (make i))) (λ i. (1 ≤ i) × (i ≤ length s.threads)) IsWithinLimits (threaded s t)
-    (λ i low. appended n s (make i) h (possible i low.0 low.1))
+-- what a command asks for: its parts were looked up among what the script has
+calling : (s : Scope) (t : List ℕ) (c : CallForm) (make : ℕ → Call → Action) → ((i : ℕ) (k : Call) → 1 ≤ i → i ≤ length s.threads → mutex_of k < length s.mutexes → May s (make i k))
+    → IfOk (thread_of s t >>= λ i. call_of s c >>= λ k. Ok (make i k)) (May s)
+calling s t c make possible = chain (thread_of s t) (λ i. call_of s c >>= λ k. Ok (make i k)) (λ i. (1 ≤ i) × (i ≤ length s.threads)) (May s) (threaded s t)
+    (λ i low. chain (call_of s c) (λ k. Ok (make i k)) (λ k. mutex_of k < length s.mutexes) (May s) (called s c) (λ k few. possible i k low.0 low.1 few))
 
-stepping : (n : ℕ) (s : Scope) (t : List ℕ) (count : Option ℕ) → IsWithinLimits s → IfSome count (λ k. (1 ≤ k) × (k ≤ MAX_STEPS))
-    → IfOk (ok_or count OutOfRange >>= λ k. thread_of s t >>= λ i. Ok (with_action n s (action.Step i k))) IsWithinLimits
-stepping n s t None h range = tt
-stepping n s t (Some k) h range = of_thread n s t (λ i. action.Step i k) h (λ i low high. (low, high, range.0, range.1))
+of_thread : (s : Scope) (t : List ℕ) (make : ℕ → Action) → ((i : ℕ) → 1 ≤ i → i ≤ length s.threads → May s (make i))
+    → IfOk (thread_of s t >>= λ i. Ok (make i)) (May s)
+of_thread s t make possible = chain (thread_of s t) (λ i. Ok (make i)) (λ i. (1 ≤ i) × (i ≤ length s.threads)) (May s) (threaded s t) (λ i low. possible i low.0 low.1)
 
-locking : (n : ℕ) (s : Scope) (t m : List ℕ) (count : Option ℕ) → IsWithinLimits s → IfSome count (λ k. (1 ≤ k) × (k ≤ MAX_MUTEXES))
-    → IfOk (ok_or count OutOfRange >>= λ k. first_of s m k >>= λ j. thread_of s t >>= λ i. Ok (with_action n s (action.Locks i j k))) IsWithinLimits
-locking n s t m None h range = tt
-locking n s t m (Some k) h range = chain (first_of s m k) (λ j. thread_of s t >>= λ i. Ok (with_action n s (action.Locks i j k))) (λ j. j + k ≤ length s.mutexes) IsWithinLimits (reached s m k)
-    (λ j few. of_thread n s t (λ i. action.Locks i j k) h (λ i low high. (low, high, range.0, few)))
+stepping : (s : Scope) (t : List ℕ) (count : Option ℕ) → IfSome count (λ k. (1 ≤ k) × (k ≤ MAX_STEPS)) → IfOk (stepped s t count) (May s)
+stepping s t None range = tt
+stepping s t (Some k) range = of_thread s t (λ i. action.Step i k) (λ i low high. (low, high, range.0, range.1))
+
+locking : (s : Scope) (t m : List ℕ) (count : Option ℕ) → IfSome count (λ k. (1 ≤ k) × (k ≤ MAX_MUTEXES)) → IfOk (locked s t m count) (May s)
+locking s t m None range = tt
+locking s t m (Some k) range = chain (first_of s m k) (λ j. thread_of s t >>= λ i. Ok (action.Locks i j k)) (λ j. j + k ≤ length s.mutexes) (May s) (reached s m k)
+    (λ j few. of_thread s t (λ i. action.Locks i j k) (λ i low high. (low, high, range.0, few)))
+
+-- a command more
+may_ask : (n : ℕ) (s : Scope) (r : Result Action Fault) → IsWithinLimits s → IfOk r (May s) → IfOk (r >>= λ a. Ok (with_action n s a)) IsWithinLimits
+may_ask n s r h may = chain r (λ a. Ok (with_action n s a)) (May s) IsWithinLimits may (λ a p. appended n s a h p)
 
 -- the names of a script without a command are as many as may be
 with_threads : (s : Scope) (names : List (List ℕ)) → IsWithinLimits s → not (length s.commands == 0) ≡ false → length names ≤ MAX_THREADS → IsWithinLimits (record s { threads = names })
@@ -152,12 +155,12 @@ entered n s silent h k = h
 entered n s (thread w) h k = declaring_thread s w h
 entered n s (mutex w) h k = declaring_mutex s w h
 entered n s (mutexes w count) h k = declaring_mutexes s w count h
-entered n s (begins t c) h k = calling n s t c (λ i x. action.Begin i x) h (λ i x low high few. (low, high, few))
-entered n s (steps t count) h k = stepping n s t count h k
-entered n s (kills t) h k = of_thread n s t (λ i. action.Kill i) h (λ i low high. (low, high))
-entered n s (goes t) h k = of_thread n s t (λ i. action.Go i) h (λ i low high. (low, high))
-entered n s (calls t c) h k = calling n s t c (λ i x. action.Call i x) h (λ i x low high few. (low, high, few))
-entered n s (locks t m count) h k = locking n s t m count h k
+entered n s (begins t c) h k = may_ask n s (begun s t c) h (calling s t c (λ i x. action.Begin i x) (λ i x low high few. (low, high, few)))
+entered n s (steps t count) h k = may_ask n s (stepped s t count) h (stepping s t count k)
+entered n s (kills t) h k = may_ask n s (killed s t) h (of_thread s t (λ i. action.Kill i) (λ i low high. (low, high)))
+entered n s (goes t) h k = may_ask n s (gone s t) h (of_thread s t (λ i. action.Go i) (λ i low high. (low, high)))
+entered n s (calls t c) h k = may_ask n s (made s t c) h (calling s t c (λ i x. action.Call i x) (λ i x low high few. (low, high, few)))
+entered n s (locks t m count) h k = may_ask n s (locked s t m count) h (locking s t m count k)
 entered n s phase h k = appended n s action.Phase h tt
 
 -- each form's count is in its range

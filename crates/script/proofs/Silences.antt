@@ -4,7 +4,7 @@ use Rattle.std.specs.Option.{ok_or}
 use Rattle.std.proofs.lemmas.Bool.{le-ltb}
 use Rattle.script.specs.Forms.{CallForm, lock, trylock, unlock, consistent, Form, silent, thread, mutex, mutexes, begins, steps, kills, goes, calls, locks, phase, form_of, is_silent}
 use Rattle.script.specs.Scope.{Scope}
-use Rattle.script.specs.Reading.{◌>>=◌, refuse, added, several, declares, thread_of, call_of, first_of, with_action, enter, met_at, line_read, finished, lines_read, nothing}
+use Rattle.script.specs.Reading.{◌>>=◌, refuse, added, several, declares, thread_of, call_of, first_of, begun, stepped, killed, gone, made, locked, with_action, enter, met_at, line_read, finished, lines_read, nothing}
 use Rattle.script.specs.Silence.{unplaced, without_lines, outcome, SilentLinesSayNothing}
 use Rattle.script.specs.declared.command.Action.{Action}
 use Rattle.script.specs.declared.command.Action.TheVariants as action
@@ -48,9 +48,11 @@ same_declares s = rw (same_length s.commands) refl
 acted : (n : ℕ) (s : Scope) (a : Action) → meant (Ok (with_action n s a)) ≡ meant (Ok (with_action 0 (without_lines s) a))
 acted n s a = rw (pushed n a s.commands) refl
 
-called : (n : ℕ) (s : Scope) (t : List ℕ) (c : CallForm) (make : ℕ → _ → Action)
-    → meant (thread_of s t >>= λ i. call_of s c >>= λ k. Ok (with_action n s (make i k))) ≡ meant (thread_of s t >>= λ i. call_of (without_lines s) c >>= λ k. Ok (with_action 0 (without_lines s) (make i k)))
-called n s t c make = rw (same_call s c) (alike (thread_of s t) _ _ (λ i. alike (call_of s c) _ _ (λ k. acted n s (make i k))))
+same_begin : (s : Scope) (t : List ℕ) (c : CallForm) → begun (without_lines s) t c ≡ begun s t c
+same_begin s t c = rw (same_call s c) refl
+
+same_make : (s : Scope) (t : List ℕ) (c : CallForm) → made (without_lines s) t c ≡ made s t c
+same_make s t c = rw (same_call s c) refl
 
 -- what a line adds does not depend on lines
 same_enter : (n : ℕ) (s : Scope) (f : Form) → meant (enter n s f) ≡ meant (enter 0 (without_lines s) f)
@@ -59,13 +61,12 @@ same_enter n s (thread w) = rw (same_declares s) (alike (declares s) _ _ (λ _. 
 same_enter n s (mutex w) = rw (same_declares s) (alike (declares s) _ _ (λ _. alike (added MAX_MUTEXES s.mutexes w) _ _ (λ names. rw (twice s.commands) refl)))
 same_enter n s (mutexes w count) =
     rw (same_declares s) (alike (declares s) _ _ (λ _. alike (ok_or count OutOfRange) _ _ (λ k. alike (several MAX_MUTEXES s.mutexes w k) _ _ (λ names. rw (twice s.commands) refl))))
-same_enter n s (begins t c) = called n s t c (λ i k. action.Begin i k)
-same_enter n s (steps t count) = alike (ok_or count OutOfRange) _ _ (λ k. alike (thread_of s t) _ _ (λ i. acted n s (action.Step i k)))
-same_enter n s (kills t) = alike (thread_of s t) _ _ (λ i. acted n s (action.Kill i))
-same_enter n s (goes t) = alike (thread_of s t) _ _ (λ i. acted n s (action.Go i))
-same_enter n s (calls t c) = called n s t c (λ i k. action.Call i k)
-same_enter n s (locks t m count) =
-    alike (ok_or count OutOfRange) _ _ (λ k. alike (first_of s m k) _ _ (λ j. alike (thread_of s t) _ _ (λ i. acted n s (action.Locks i j k))))
+same_enter n s (begins t c) = rw (same_begin s t c) (alike (begun s t c) _ _ (λ a. acted n s a))
+same_enter n s (steps t count) = alike (stepped s t count) _ _ (λ a. acted n s a)
+same_enter n s (kills t) = alike (killed s t) _ _ (λ a. acted n s a)
+same_enter n s (goes t) = alike (gone s t) _ _ (λ a. acted n s a)
+same_enter n s (calls t c) = rw (same_make s t c) (alike (made s t c) _ _ (λ a. acted n s a))
+same_enter n s (locks t m count) = alike (locked s t m count) _ _ (λ a. acted n s a)
 same_enter n s phase = acted n s action.Phase
 
 same_line : (n : ℕ) (s : Scope) (text : List ℕ) → n ≤ MAX_LINES → meant (line_read n s text) ≡ meant (line_read 0 (without_lines s) text)

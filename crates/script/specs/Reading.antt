@@ -1,5 +1,5 @@
 -- What a script says, and its first fault: each line in turn, after those before it.
-use Rattle.std.specs.Prelude.{ℕ, zero, suc, ◌+◌, Bool, not, ◌&&◌, ◌||◌, ◌==◌, nat_le, nat_lt, List, [], ◌∷◌, ◌++◌, length, take, drop, position, Result, Ok, Err, if◌then◌else◌, count_by, decimal}
+use Rattle.std.specs.Prelude.{ℕ, zero, suc, ◌+◌, Bool, not, ◌&&◌, ◌||◌, ◌==◌, nat_le, nat_lt, List, [], ◌∷◌, ◌++◌, length, take, drop, position, Option, Result, Ok, Err, if◌then◌else◌, count_by, decimal}
 use Rattle.std.specs.Option.{ok_or}
 use Rattle.std.specs.List.{list_any}
 use Rattle.std.specs.Str.{bytes_eq, is_utf8}
@@ -78,25 +78,58 @@ call_of s (consistent m) = place_of m s.mutexes >>= λ j. Ok (call.Consistent j)
 abbrev pub first_of : Scope → List ℕ → ℕ → Result ℕ Fault
 first_of s m n = place_of m s.mutexes >>= λ j. refuse (nat_lt (length s.mutexes) (j + n)) OutOfRange (Ok j)
 
+-- ---- declarations
+
+abbrev pub thread_declared : Scope → List ℕ → Result Scope Fault
+thread_declared s w = declares s >>= λ _. added MAX_THREADS s.threads w >>= λ names. Ok (record s { threads = names })
+
+abbrev pub mutex_declared : Scope → List ℕ → Result Scope Fault
+mutex_declared s w = declares s >>= λ _. added MAX_MUTEXES s.mutexes w >>= λ names. Ok (record s { mutexes = names })
+
+abbrev pub mutexes_declared : Scope → List ℕ → Option ℕ → Result Scope Fault
+mutexes_declared s w count = declares s >>= λ _. ok_or count OutOfRange >>= λ k. several MAX_MUTEXES s.mutexes w k >>= λ names.
+    Ok (record s { mutexes = names })
+
+-- ---- what commands ask for
+
+abbrev pub begun : Scope → List ℕ → CallForm → Result Action Fault
+begun s t c = thread_of s t >>= λ i. call_of s c >>= λ k. Ok (action.Begin i k)
+
+abbrev pub stepped : Scope → List ℕ → Option ℕ → Result Action Fault
+stepped s t count = ok_or count OutOfRange >>= λ k. thread_of s t >>= λ i. Ok (action.Step i k)
+
+abbrev pub killed : Scope → List ℕ → Result Action Fault
+killed s t = thread_of s t >>= λ i. Ok (action.Kill i)
+
+abbrev pub gone : Scope → List ℕ → Result Action Fault
+gone s t = thread_of s t >>= λ i. Ok (action.Go i)
+
+abbrev pub made : Scope → List ℕ → CallForm → Result Action Fault
+made s t c = thread_of s t >>= λ i. call_of s c >>= λ k. Ok (action.Call i k)
+
+abbrev pub locked : Scope → List ℕ → List ℕ → Option ℕ → Result Action Fault
+locked s t m count = ok_or count OutOfRange >>= λ k. first_of s m k >>= λ j. thread_of s t >>= λ i. Ok (action.Locks i j k)
+
 -- one more command, which stands at line n
 abbrev pub with_action : ℕ → Scope → Action → Scope
 with_action n s a = record s { commands = s.commands ++ record { line = n; action = a } ∷ [] }
 
+-- the command of line n, where no fault is met in what it asks for
+abbrev pub asked : ℕ → Scope → Result Action Fault → Result Scope Fault
+asked n s r = r >>= λ a. Ok (with_action n s a)
+
 -- what line n adds
 abbrev pub enter : ℕ → Scope → Form → Result Scope Fault
 enter n s silent = Ok s
-enter n s (thread w) = declares s >>= λ _. added MAX_THREADS s.threads w >>= λ names. Ok (record s { threads = names })
-enter n s (mutex w) = declares s >>= λ _. added MAX_MUTEXES s.mutexes w >>= λ names. Ok (record s { mutexes = names })
-enter n s (mutexes w count) = declares s >>= λ _. ok_or count OutOfRange >>= λ k. several MAX_MUTEXES s.mutexes w k >>= λ names.
-    Ok (record s { mutexes = names })
-enter n s (begins t c) = thread_of s t >>= λ i. call_of s c >>= λ k. Ok (with_action n s (action.Begin i k))
-enter n s (steps t count) = ok_or count OutOfRange >>= λ k. thread_of s t >>= λ i.
-    Ok (with_action n s (action.Step i k))
-enter n s (kills t) = thread_of s t >>= λ i. Ok (with_action n s (action.Kill i))
-enter n s (goes t) = thread_of s t >>= λ i. Ok (with_action n s (action.Go i))
-enter n s (calls t c) = thread_of s t >>= λ i. call_of s c >>= λ k. Ok (with_action n s (action.Call i k))
-enter n s (locks t m count) = ok_or count OutOfRange >>= λ k. first_of s m k >>= λ j. thread_of s t >>= λ i.
-    Ok (with_action n s (action.Locks i j k))
+enter n s (thread w) = thread_declared s w
+enter n s (mutex w) = mutex_declared s w
+enter n s (mutexes w count) = mutexes_declared s w count
+enter n s (begins t c) = asked n s (begun s t c)
+enter n s (steps t count) = asked n s (stepped s t count)
+enter n s (kills t) = asked n s (killed s t)
+enter n s (goes t) = asked n s (gone s t)
+enter n s (calls t c) = asked n s (made s t c)
+enter n s (locks t m count) = asked n s (locked s t m count)
 enter n s phase = Ok (with_action n s action.Phase)
 
 -- a fault at line n

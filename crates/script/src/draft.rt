@@ -4,7 +4,7 @@ ghost use Rattle.std.specs.Prelude.{◌≡◌, ◌^◌, ◌<◌, ◌≤◌, fals
 ghost use Rattle.std.specs.List.{list_any};
 ghost use Rattle.script.specs.Forms.{is_silent};
 ghost use Rattle.script.specs.Outcome.{Gives};
-ghost use Rattle.script.specs.Reading.{added, call_of, declares, enter, first_of, is_numbered, line_read, nothing, place_of, several, thread_of};
+ghost use Rattle.script.specs.Reading.{added, asked, begun, call_of, declares, enter, first_of, gone, is_numbered, killed, line_read, locked, made, mutex_declared, mutexes_declared, nothing, place_of, several, stepped, thread_declared, thread_of, with_action};
 ghost use Rattle.script.specs.Scope.{IsWithinLimits};
 
 use crate::command::{Action, Command, Mode};
@@ -152,53 +152,138 @@ impl Draft {
         Ok(())
     }
 
+    fn declare_thread(&mut self, alloc: Global, word: &str) -> Result<(), Fault>
+        ensures gives { Gives (λ _. scope_of self.new) result (thread_declared (scope_of self.old) word.now) }
+        ensures mode { self.new.mode ≡ self.old.mode }
+    {
+        self.declares()?;
+        declare(alloc, &mut self.threads, MAX_THREADS, word)
+    }
+
+    fn declare_mutex(&mut self, alloc: Global, word: &str) -> Result<(), Fault>
+        ensures gives { Gives (λ _. scope_of self.new) result (mutex_declared (scope_of self.old) word.now) }
+        ensures mode { self.new.mode ≡ self.old.mode }
+    {
+        self.declares()?;
+        declare(alloc, &mut self.mutexes, MAX_MUTEXES, word)
+    }
+
+    fn declare_mutexes(
+        &mut self,
+        alloc: Global,
+        word: &str,
+        count: Option<u32>,
+    ) -> Result<(), Fault>
+        requires { length (scope_of self.old).mutexes ≤ MAX_MUTEXES }
+        ensures gives { Gives (λ _. scope_of self.new) result (mutexes_declared (scope_of self.old) word.now count) }
+        ensures mode { self.new.mode ≡ self.old.mode }
+    {
+        self.declares()?;
+        let count = count.ok_or(Fault::OutOfRange)?;
+        declare_numbered(alloc, &mut self.mutexes, MAX_MUTEXES, word, count)
+    }
+
+    /// Adds the command of line `number`.
+    fn ask(&mut self, number: usize, action: Action) -> Result<(), Fault>
+        ensures gives { Gives (λ _. scope_of self.new) result (Ok (with_action number (scope_of self.old) action)) }
+        ensures mode { self.new.mode ≡ self.old.mode }
+    {
+        self.commands.push(Command {
+            line: number,
+            action,
+        })?;
+        Ok(())
+    }
+
+    fn begin(&mut self, number: usize, thread: &str, call: NamedCall<'_>) -> Result<(), Fault>
+        requires { IsWithinLimits (scope_of self.old) }
+        ensures gives { Gives (λ _. scope_of self.new) result (asked number (scope_of self.old) (begun (scope_of self.old) thread.now (call_seen call.entry))) }
+        ensures mode { self.new.mode ≡ self.old.mode }
+    {
+        let action = Action::Begin(self.thread(thread)?, self.call(call)?);
+        self.ask(number, action)
+    }
+
+    fn step(&mut self, number: usize, thread: &str, count: Option<u32>) -> Result<(), Fault>
+        requires { IsWithinLimits (scope_of self.old) }
+        ensures gives { Gives (λ _. scope_of self.new) result (asked number (scope_of self.old) (stepped (scope_of self.old) thread.now count)) }
+        ensures mode { self.new.mode ≡ self.old.mode }
+    {
+        let count = count.ok_or(Fault::OutOfRange)?;
+        let thread = self.thread(thread)?;
+        self.ask(number, Action::Step { thread, count })
+    }
+
+    fn kill(&mut self, number: usize, thread: &str) -> Result<(), Fault>
+        requires { IsWithinLimits (scope_of self.old) }
+        ensures gives { Gives (λ _. scope_of self.new) result (asked number (scope_of self.old) (killed (scope_of self.old) thread.now)) }
+        ensures mode { self.new.mode ≡ self.old.mode }
+    {
+        let thread = self.thread(thread)?;
+        self.ask(number, Action::Kill(thread))
+    }
+
+    fn go(&mut self, number: usize, thread: &str) -> Result<(), Fault>
+        requires { IsWithinLimits (scope_of self.old) }
+        ensures gives { Gives (λ _. scope_of self.new) result (asked number (scope_of self.old) (gone (scope_of self.old) thread.now)) }
+        ensures mode { self.new.mode ≡ self.old.mode }
+    {
+        let thread = self.thread(thread)?;
+        self.ask(number, Action::Go(thread))
+    }
+
+    fn make(&mut self, number: usize, thread: &str, call: NamedCall<'_>) -> Result<(), Fault>
+        requires { IsWithinLimits (scope_of self.old) }
+        ensures gives { Gives (λ _. scope_of self.new) result (asked number (scope_of self.old) (made (scope_of self.old) thread.now (call_seen call.entry))) }
+        ensures mode { self.new.mode ≡ self.old.mode }
+    {
+        let action = Action::Call(self.thread(thread)?, self.call(call)?);
+        self.ask(number, action)
+    }
+
+    fn lock_several(
+        &mut self,
+        number: usize,
+        thread: &str,
+        mutex: &str,
+        count: Option<u32>,
+    ) -> Result<(), Fault>
+        requires { IsWithinLimits (scope_of self.old) }
+        ensures gives { Gives (λ _. scope_of self.new) result (asked number (scope_of self.old) (locked (scope_of self.old) thread.now mutex.now count)) }
+        ensures mode { self.new.mode ≡ self.old.mode }
+    {
+        let count = count.ok_or(Fault::OutOfRange)?;
+        let mutex = self.first_mutex(mutex, count)? as u16;
+        let thread = self.thread(thread)?;
+        let count = count as u16;
+        self.ask(
+            number,
+            Action::Locks {
+                thread,
+                mutex,
+                count,
+            },
+        )
+    }
+
     fn enter(&mut self, alloc: Global, number: usize, line: Line<'_>) -> Result<(), Fault>
         requires { IsWithinLimits (scope_of self.old) }
         ensures gives { Gives (λ _. scope_of self.new) result
             (enter number (scope_of self.old) (form_seen line.entry)) }
         ensures mode { self.new.mode ≡ self.old.mode }
     {
-        let action = match line {
-            Line::Thread(word) => {
-                self.declares()?;
-                return declare(alloc, &mut self.threads, MAX_THREADS, word);
-            }
-            Line::Mutex(word) => {
-                self.declares()?;
-                return declare(alloc, &mut self.mutexes, MAX_MUTEXES, word);
-            }
-            Line::Mutexes(word, count) => {
-                self.declares()?;
-                let count = count.ok_or(Fault::OutOfRange)?;
-                return declare_numbered(alloc, &mut self.mutexes, MAX_MUTEXES, word, count);
-            }
-            Line::Begin(thread, call) => Action::Begin(self.thread(thread)?, self.call(call)?),
-            Line::Step(thread, count) => {
-                let count = count.ok_or(Fault::OutOfRange)?;
-                Action::Step {
-                    thread: self.thread(thread)?,
-                    count,
-                }
-            }
-            Line::Kill(thread) => Action::Kill(self.thread(thread)?),
-            Line::Go(thread) => Action::Go(self.thread(thread)?),
-            Line::Call(thread, call) => Action::Call(self.thread(thread)?, self.call(call)?),
-            Line::Locks(thread, mutex, count) => {
-                let count = count.ok_or(Fault::OutOfRange)?;
-                let mutex = self.first_mutex(mutex, count)?;
-                Action::Locks {
-                    thread: self.thread(thread)?,
-                    mutex: mutex as u16,
-                    count: count as u16,
-                }
-            }
-            Line::Phase => Action::Phase,
-        };
-        self.commands.push(Command {
-            line: number,
-            action,
-        })?;
-        Ok(())
+        match line {
+            Line::Thread(word) => self.declare_thread(alloc, word),
+            Line::Mutex(word) => self.declare_mutex(alloc, word),
+            Line::Mutexes(word, count) => self.declare_mutexes(alloc, word, count),
+            Line::Begin(thread, call) => self.begin(number, thread, call),
+            Line::Step(thread, count) => self.step(number, thread, count),
+            Line::Kill(thread) => self.kill(number, thread),
+            Line::Go(thread) => self.go(number, thread),
+            Line::Call(thread, call) => self.make(number, thread, call),
+            Line::Locks(thread, mutex, count) => self.lock_several(number, thread, mutex, count),
+            Line::Phase => self.ask(number, Action::Phase),
+        }
     }
 
     /// Reads line `number`, which a line feed ends.
