@@ -6,6 +6,7 @@ use Rattle.script.specs.Forms.{within, lines_of, words_of}
 use Rattle.script.specs.Reading.{◌>>=◌, bad_line}
 use Rattle.verdict.specs.Forms.{head_form, form_of}
 use Rattle.verdict.specs.Forms.{◌>>=◌ as ◌>>?◌}
+use Rattle.lockword.specs.declared.reply.Reply.{Reply}
 use Rattle.verdict.specs.declared.entry.Head.{Head}
 use Rattle.verdict.specs.declared.entry.Action.{Action}
 use Rattle.verdict.specs.declared.entry.Call.{Call}
@@ -60,16 +61,34 @@ thread_in h n = number_in 1 h.threads n
 abbrev pub call_in : Head → Action → Option ℕ → Option Call
 call_in h a n = below_in h.mutexes n >>? λ m. Some (record { action = a; mutex = m })
 
+-- ---- what a line tells
+
+abbrev pub begin_in : Head → Option ℕ → Action → Option ℕ → Option Fact
+begin_in h t a m = thread_in h t >>? λ u. call_in h a m >>? λ c. Some (fact.Begin u c)
+
+abbrev pub begin_on_in : Head → Option ℕ → Action → Option ℕ → Option ℕ → Option Fact
+begin_on_in h t a k m = thread_in h t >>? λ u. below_in h.conditions k >>? λ _. call_in h a m >>? λ c. Some (fact.Begin u c)
+
+abbrev pub point_in : Head → Option ℕ → Option ℕ → Action → Reply → Option Fact
+point_in h t m a x = thread_in h t >>? λ u. call_in h a m >>? λ c. Some (fact.Point u c x)
+
+abbrev pub death_in : Head → Option ℕ → Option ℕ → Option Fact
+death_in h t m = thread_in h t >>? λ u. below_in h.mutexes m >>? λ k. Some (fact.Death u k)
+
+-- the thread of a line that names one of so many places too, which isn't kept
+abbrev pub thread_at : Head → Option ℕ → ℕ → Option ℕ → Option ℕ
+thread_at h t count n = thread_in h t >>? λ u. below_in count n >>? λ _. Some u
+
 abbrev pub fact_in : Head → Said → Option Fact
-fact_in h (said.Begin t a m) = thread_in h t >>? λ u. call_in h a m >>? λ c. Some (fact.Begin u c)
-fact_in h (said.BeginOn t a k m) = thread_in h t >>? λ u. below_in h.conditions k >>? λ _. call_in h a m >>? λ c. Some (fact.Begin u c)
+fact_in h (said.Begin t a m) = begin_in h t a m
+fact_in h (said.BeginOn t a k m) = begin_on_in h t a k m
 fact_in h (said.Kill t) = thread_in h t >>? λ u. Some (fact.Kill u)
-fact_in h (said.Point t m a x) = thread_in h t >>? λ u. call_in h a m >>? λ c. Some (fact.Point u c x)
-fact_in h (said.Death t m) = thread_in h t >>? λ u. below_in h.mutexes m >>? λ k. Some (fact.Death u k)
-fact_in h (said.Sleep t m) = thread_in h t >>? λ u. below_in h.mutexes m >>? λ _. Some (fact.Sleep u)
-fact_in h (said.SleepOn t k) = thread_in h t >>? λ u. below_in h.conditions k >>? λ _. Some (fact.Sleep u)
+fact_in h (said.Point t m a x) = point_in h t m a x
+fact_in h (said.Death t m) = death_in h t m
+fact_in h (said.Sleep t m) = thread_at h t h.mutexes m >>? λ u. Some (fact.Sleep u)
+fact_in h (said.SleepOn t k) = thread_at h t h.conditions k >>? λ u. Some (fact.Sleep u)
 fact_in h (said.Wake t) = thread_in h t >>? λ u. Some (fact.Wake u)
-fact_in h (said.Move t m) = thread_in h t >>? λ u. below_in h.mutexes m >>? λ _. Some (fact.Move u)
+fact_in h (said.Move t m) = thread_at h t h.mutexes m >>? λ u. Some (fact.Move u)
 fact_in h (said.Return t x) = thread_in h t >>? λ u. Some (fact.Return u x)
 fact_in h (said.Reap t) = thread_in h t >>? λ u. Some (fact.Reap u)
 

@@ -2,13 +2,13 @@
 
 ghost use Rattle.std.specs.Prelude.{◌≡◌, ◌+◌, ◌<◌, ◌≤◌, IfOk, IfSome};
 ghost use Rattle.verdict.specs.Judges.{IsInside, IsLine};
-ghost use Rattle.verdict.specs.Reading.{IsHead, fact_in, head_in, head_read, below_in, call_in, number_in, line_in, line_read, thread_in};
+ghost use Rattle.verdict.specs.Reading.{IsHead, begin_in, begin_on_in, below_in, call_in, death_in, fact_in, head_in, head_read, line_in, line_read, number_in, point_in, thread_at, thread_in};
 
 use crate::entry::{Action, Call, Entry, Fact, Head};
 use crate::fault::Fault;
 use crate::form::{Form, HeadForm, Said, Spelled, read_form, read_head};
 use crate::limits::{MAX_CONDITIONS, MAX_EVENTS, MAX_MUTEXES, MAX_THREADS};
-use lockword::Tid;
+use lockword::{Reply, Tid};
 
 /// A line behind the first.
 #[derive(Clone, Copy)]
@@ -70,50 +70,91 @@ fn call_in(head: &Head, action: Action, mutex: Spelled) -> Option<Call>
     })
 }
 
+fn begin_in(head: &Head, thread: Spelled, action: Action, mutex: Spelled) -> Option<Fact>
+    requires { head.now.threads ≤ MAX_THREADS }
+    ensures value { result ≡ begin_in head.now thread action mutex }
+    ensures range { IfSome result (IsInside (head.now.threads + 1) head.now.mutexes) }
+{
+    let thread = thread_in(head, thread)?;
+    Some(Fact::Begin(thread, call_in(head, action, mutex)?))
+}
+
+fn begin_on_in(
+    head: &Head,
+    thread: Spelled,
+    action: Action,
+    condition: Spelled,
+    mutex: Spelled,
+) -> Option<Fact>
+    requires { head.now.threads ≤ MAX_THREADS }
+    ensures value { result ≡ begin_on_in head.now thread action condition mutex }
+    ensures range { IfSome result (IsInside (head.now.threads + 1) head.now.mutexes) }
+{
+    let thread = thread_in(head, thread)?;
+    below(head.conditions, condition)?;
+    Some(Fact::Begin(thread, call_in(head, action, mutex)?))
+}
+
+fn point_in(
+    head: &Head,
+    thread: Spelled,
+    mutex: Spelled,
+    action: Action,
+    reply: Reply,
+) -> Option<Fact>
+    requires { head.now.threads ≤ MAX_THREADS }
+    ensures value { result ≡ point_in head.now thread mutex action reply }
+    ensures range { IfSome result (IsInside (head.now.threads + 1) head.now.mutexes) }
+{
+    let thread = thread_in(head, thread)?;
+    Some(Fact::Point(thread, call_in(head, action, mutex)?, reply))
+}
+
+fn death_in(head: &Head, thread: Spelled, mutex: Spelled) -> Option<Fact>
+    requires { head.now.threads ≤ MAX_THREADS }
+    ensures value { result ≡ death_in head.now thread mutex }
+    ensures range { IfSome result (IsInside (head.now.threads + 1) head.now.mutexes) }
+{
+    let thread = thread_in(head, thread)?;
+    Some(Fact::Death(thread, below(head.mutexes, mutex)?))
+}
+
+/// The thread of a line that names one of `count` places too, which isn't kept.
+fn thread_at(head: &Head, thread: Spelled, count: u16, place: Spelled) -> Option<Tid>
+    requires { head.now.threads ≤ MAX_THREADS }
+    ensures value { result ≡ thread_at head.now thread count place }
+    ensures range { IfSome result (λ t. t < head.now.threads + 1) }
+{
+    let thread = thread_in(head, thread)?;
+    below(count, place)?;
+    Some(thread)
+}
+
 fn fact_in(head: &Head, said: &Said) -> Option<Fact>
     requires { head.now.threads ≤ MAX_THREADS }
     ensures value { result ≡ fact_in head.now said.now }
     ensures range { IfSome result (IsInside (head.now.threads + 1) head.now.mutexes) }
 {
-    Some(match *said {
-        Said::Begin(thread, action, mutex) => {
-            Fact::Begin(thread_in(head, thread)?, call_in(head, action, mutex)?)
-        }
+    match *said {
+        Said::Begin(thread, action, mutex) => begin_in(head, thread, action, mutex),
         Said::BeginOn(thread, action, condition, mutex) => {
-            let thread = thread_in(head, thread)?;
-            below(head.conditions, condition)?;
-            Fact::Begin(thread, call_in(head, action, mutex)?)
+            begin_on_in(head, thread, action, condition, mutex)
         }
-        Said::Kill(thread) => Fact::Kill(thread_in(head, thread)?),
-        Said::Point(thread, mutex, action, reply) => {
-            Fact::Point(
-                thread_in(head, thread)?,
-                call_in(head, action, mutex)?,
-                reply,
-            )
-        }
-        Said::Death(thread, mutex) => {
-            Fact::Death(thread_in(head, thread)?, below(head.mutexes, mutex)?)
-        }
-        Said::Sleep(thread, mutex) => {
-            let thread = thread_in(head, thread)?;
-            below(head.mutexes, mutex)?;
-            Fact::Sleep(thread)
-        }
+        Said::Kill(thread) => thread_in(head, thread).map(Fact::Kill),
+        Said::Point(thread, mutex, action, reply) => point_in(head, thread, mutex, action, reply),
+        Said::Death(thread, mutex) => death_in(head, thread, mutex),
+        Said::Sleep(thread, mutex) => thread_at(head, thread, head.mutexes, mutex).map(Fact::Sleep),
         Said::SleepOn(thread, condition) => {
-            let thread = thread_in(head, thread)?;
-            below(head.conditions, condition)?;
-            Fact::Sleep(thread)
+            thread_at(head, thread, head.conditions, condition).map(Fact::Sleep)
         }
-        Said::Wake(thread) => Fact::Wake(thread_in(head, thread)?),
-        Said::Move(thread, mutex) => {
+        Said::Wake(thread) => thread_in(head, thread).map(Fact::Wake),
+        Said::Move(thread, mutex) => thread_at(head, thread, head.mutexes, mutex).map(Fact::Move),
+        Said::Return(thread, reply) => {
             let thread = thread_in(head, thread)?;
-            below(head.mutexes, mutex)?;
-            Fact::Move(thread)
+            Some(Fact::Return(thread, reply))
         }
-        Said::Return(thread, reply) => Fact::Return(thread_in(head, thread)?, reply),
-        Said::Reap(thread) => Fact::Reap(thread_in(head, thread)?),
-    })
+        Said::Reap(thread) => thread_in(head, thread).map(Fact::Reap),
+    }
 }
 
 fn line_in(head: &Head, form: &Form) -> Option<Line>
