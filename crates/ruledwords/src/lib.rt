@@ -23,8 +23,6 @@ mod pass;
 mod rule;
 mod running;
 mod section;
-#[cfg(test)]
-mod tests;
 mod turn;
 
 pub use card::Card;

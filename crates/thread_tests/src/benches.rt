@@ -4,7 +4,6 @@ ghost use Rattle.mutex.specs.Calls.{mutex_of};
 ghost use Rattle.ruledwords.specs.Passes.{layout_of, IsPassOf};
 ghost use Rattle.threadbench.specs.Jobs.{IsJobOf, IsDone};
 
-use crate::{Bench, Job, Open, Record};
 use keys::{Layout, NoMem};
 use lockword::Reply;
 use mutex::Call;
@@ -13,6 +12,7 @@ use std::alloc::Global;
 use std::sync::Wait;
 use std::test::Fail;
 use std::thread::Threads;
+use threadbench::{Bench, Job, Open, Record};
 
 mod gates;
 mod sleepers;

@@ -4,9 +4,9 @@ ghost use Rattle.ruledwords.specs.declared.outcome.Wakes.TheVariants.{Nobody};
 ghost use Rattle.ruledwords.specs.Outcomes.{owed_pass, owed_wakes};
 ghost use Rattle.ruledwords.specs.Passes.{layout_of, IsPassOf};
 
-use crate::{Live, Never, Outcome, Owed, Pass, Released, Running, Turn, Wakes, Words};
 use keys::{Answer, Layout};
 use lockword::Reply;
+use ruledwords::{Live, Never, Outcome, Owed, Pass, Released, Running, Turn, Wakes, Words};
 use std::test::Fail;
 use std::thread;
 

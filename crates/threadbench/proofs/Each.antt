@@ -39,8 +39,3 @@ as_long P [] [] p = refl
 as_long P [] (y ∷ ys) p = absurd p
 as_long P (x ∷ xs) [] p = absurd p
 as_long P (x ∷ xs) (y ∷ ys) p = ap suc (as_long P xs ys p.1)
-
--- of a list of one item
-pub all_one : {A : Type 0} (P : A → Type 0) (x : A) → P x → (k : ℕ) (d : A) → k < length (x ∷ []) → P (slice_index_or (x ∷ []) k d)
-all_one P x one zero d lt = one
-all_one P x one (suc k) d lt = absurd (omega (arith, lt))

@@ -22,6 +22,3 @@ mod worker;
 pub use bench::Bench;
 pub use gate::{Gate, Open};
 pub use job::{Job, Record};
-
-#[cfg(test)]
-mod tests;

@@ -2,7 +2,6 @@
 ghost use Rattle.std.specs.Prelude.{None};
 
 use super::{has_replied, job, jobs_of};
-use crate::{Bench, Gate};
 use keys::Layout;
 use lockword::{Reply, Tid};
 use mutex::Call;
@@ -11,6 +10,7 @@ use std::sync::Wait;
 use std::sync::atomic::{AtomicBool, AtomicU64, Ordering};
 use std::test::Fail;
 use std::thread::{self, Threads};
+use threadbench::{Bench, Gate};
 
 /// The call of one thread waits until that of another was answered.
 #[derive(Drop)]

@@ -3,13 +3,13 @@ ghost use Rattle.std.specs.Prelude.{◌≡◌, ◌<◌};
 ghost use Rattle.ruledwords.specs.Outcomes.{IsOwedOf};
 ghost use Rattle.ruledwords.specs.Passes.{layout_of, IsPassOf};
 
-use crate::Bench;
 use keys::Layout;
 use lockword::Reply;
 use ruledwords::{Live, Never, Outcome, Owed, Pass, Released};
 use std::sync::Wait;
 use std::test::Fail;
 use std::thread;
+use threadbench::Bench;
 
 const ROUNDS: u32 = 5_000;
 

@@ -2,8 +2,8 @@ use Rattle.std.proofs.Common.{suc, ◌∷◌, [], All, sym, subst, arith}
 use Rattle.std.proofs.lemmas.List.Elements.{All-append}
 use Rattle.ruledwords.specs.Passes.{IsPassOf}
 use Rattle.threadbench.specs.Jobs.{IsJobOf}
-use Rattle.threadbench.proofs.Each.{all_one}
-use Rattle.threadbench.proofs.tests.jobs_of.Goals as goal
+use Rattle.thread_tests.proofs.Each.{all_one}
+use Rattle.thread_tests.proofs.benches.jobs_of.Goals as goal
 
 pub loop-pass-preserved : goal.loop-pass-preserved
 loop-pass-preserved c =

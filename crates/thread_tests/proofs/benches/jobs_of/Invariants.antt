@@ -2,7 +2,7 @@ use Rattle.std.proofs.Common.{All}
 use Rattle.std.specs.Vec.Iter.{into_iter_items}
 use Rattle.ruledwords.specs.Passes.{IsPassOf}
 use Rattle.threadbench.specs.Jobs.{IsJobOf}
-use Rattle.threadbench.proofs.tests.jobs_of.Given as goal
+use Rattle.thread_tests.proofs.benches.jobs_of.Given as goal
 
 abbrev pub invariant-loop-pass : goal.invariant-loop-pass
 invariant-loop-pass l =

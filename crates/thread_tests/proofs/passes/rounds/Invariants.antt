@@ -1,5 +1,5 @@
 use Rattle.ruledwords.specs.Passes.{IsPassOf}
-use Rattle.ruledwords.proofs.tests.rounds.Given as goal
+use Rattle.thread_tests.proofs.passes.rounds.Given as goal
 
 abbrev pub invariant-loop : goal.invariant-loop
 invariant-loop l = IsPassOf l.words l.pass
