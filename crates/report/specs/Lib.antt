@@ -1,4 +1,3 @@
-pub mod Forms
 pub mod Served
 pub mod Threads
 pub mod Verdicts

@@ -11,8 +11,8 @@ use Rattle.script.specs.declared.limits.TheConstants.{MAX_BYTES}
 use Rattle.script.specs.Scope.{Scope}
 use Rattle.script.specs.Reading.{script_read}
 use Rattle.script.specs.Playing.{first_state, events_in, overlong}
-use Rattle.report.specs.declared.form.Form.{Form}
-use Rattle.report.specs.declared.form.Form.TheVariants as form
+use Rattle.cmdline.specs.declared.form.Form.{Form}
+use Rattle.cmdline.specs.declared.form.Form.TheVariants as form
 use Rattle.texts.specs.declared.replies.ThreadReplies.{ThreadReplies}
 use Rattle.texts.specs.declared.replies.MutexWord.{MutexWord}
 use Rattle.script.specs.declared.workload.Phase.{Phase}

@@ -1,15 +1,14 @@
-//! The program but for opening its file: the forms of the command line, reading, a script's calls on real threads, judging a trace, and the messages.
+//! The program but for opening its file: reading, a script's calls on real threads, judging a trace, and the messages.
 #![tactic(auto)]
 
 mod answers;
-mod form;
 mod judging;
 mod messages;
 mod reading;
 mod serving;
 mod threads;
 
-pub use form::{Form, form_of_words};
+pub use cmdline::{Form, form_of_words};
 pub use messages::{CANNOT_READ, CANNOT_WRITE, OUT_OF_MEMORY, USAGE};
 pub use serving::serve;
 

@@ -12,14 +12,14 @@ ghost use Rattle.texts.specs.Replies.{replies_text};
 ghost use Rattle.report.specs.Served.{trace, table, replies, bytes_at_most, Written, WritesFront, Tells, TellsFront, Served, ServedFront, ServedAs, ServedFrontAs, TakesAtMost};
 ghost use Rattle.report.specs.Verdicts.{Checked, CheckedFront};
 ghost use Rattle.verdict.specs.declared.limits.TheConstants as traces;
-ghost use Rattle.report.specs.declared.form.Form.TheVariants.{Usage};
+ghost use Rattle.cmdline.specs.declared.form.Form.TheVariants.{Usage};
 
 use crate::answers::{mutex_words, thread_replies};
-use crate::form::Form;
 use crate::judging::judge_bytes;
 use crate::messages::{CANNOT_READ, CANNOT_WRITE, OUT_OF_MEMORY, USAGE, tell, tell_fault};
 use crate::reading::{ReadFault, read_below};
 use crate::threads::{Answers, answers_of};
+use cmdline::Form;
 use interleave::{Machine, Trace};
 use script::{MAX_BYTES, Mode, Script, jobs, parse, play};
 use std::alloc::Global;

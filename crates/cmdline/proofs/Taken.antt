@@ -4,7 +4,7 @@ use Rattle.std.specs.Str.{bytes_eq}
 use Rattle.clap.specs.Words.{takes}
 use Rattle.clap.proofs.OnLiterals.{clap_on_literals}
 use Rattle.std.proofs.lemmas.Slice.Eq.{bytes_eq-Decides}
-use Rattle.report.specs.Forms.{usage, asked_of, asked_of_file, asked_of_table, is_file_word, rfx}
+use Rattle.cmdline.specs.Forms.{usage, asked_of, asked_of_file, asked_of_table, is_file_word, rfx}
 
 no_hyphen : (t : Bool) → not t ≡ true → t ≡ false
 no_hyphen true h = absurd cc

@@ -1,6 +1,6 @@
 use Rattle.std.proofs.Common.{sym, inl, inr, map}
-use Rattle.report.proofs.Taken.{forms_pass}
-use Rattle.report.proofs.form.form_of_words.Goals as goal
+use Rattle.cmdline.proofs.Taken.{forms_pass}
+use Rattle.cmdline.proofs.form.form_of_words.Goals as goal
 
 pub returns-else-branch : goal.returns-else-branch
 returns-else-branch c = elim (forms_pass (map (λ w. w.now) c.args.words.now)) [

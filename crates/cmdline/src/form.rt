@@ -3,7 +3,7 @@
 ghost use Rattle.std.specs.Prelude.{◌≡◌, ◌≢◌, true, false, IfOk, map};
 ghost use Rattle.clap.specs.Words.{app_of, rule_of, takes};
 ghost use Rattle.clap.specs.declared.builder.command.Command.TheViews.{out-Command};
-ghost use Rattle.report.specs.Forms.{is_file_word, asked_of_file, asked_of_table, asked_of, asked_by, rfx, run_app, file_app, table_rule, file_rule};
+ghost use Rattle.cmdline.specs.Forms.{is_file_word, asked_of_file, asked_of_table, asked_of, asked_by, rfx, run_app, file_app, table_rule, file_rule};
 
 use clap::error::ErrorKind;
 use clap::{Arg, ArgAction, Command};

@@ -3,8 +3,8 @@ use Rattle.std.specs.Prelude.{ℕ, Bool, true, not, ◌&&◌, ◌==◌, List, []
 use Rattle.std.specs.Str.{bytes_eq}
 use Rattle.clap.specs.Words.{App, Rule, new_app, new_rule, with_rule, with_subcommand}
 use Rattle.clap.specs.declared.builder.ArgAction.TheVariants.{Set, SetTrue}
-use Rattle.report.specs.declared.form.Form.{Form}
-use Rattle.report.specs.declared.form.Form.TheVariants as form
+use Rattle.cmdline.specs.declared.form.Form.{Form}
+use Rattle.cmdline.specs.declared.form.Form.TheVariants as form
 
 -- what a command line asks for, with the texts of its words
 pub data Asked : Type 0 where
