@@ -1,15 +1,15 @@
 -- What each call does to the queues.
-use Rattle.std.proofs.Common.{◌≡◌, ◌≢◌, ℕ, suc, ◌+◌, ◌<◌, ◌≤◌, Bool, true, false, cond, List, [], ◌∷◌, ◌++◌, length, get_or, take, drop, Option, Some, None, refl, sym, ap, ◌∙◌, subst, arith, append-nil, eqb-true}
-use Rattle.std.specs.Prelude.{◌==◌, not, filter, All, Contains, position, remove, MatchBool, is_some, if◌then◌else◌}
+use Rattle.std.proofs.Common.{◌≡◌, ◌≢◌, ℕ, suc, ◌+◌, ◌<◌, ◌≤◌, Bool, true, false, cond, List, [], ◌∷◌, ◌++◌, length, get_or, take, drop, Some, None, refl, sym, ap, ◌∙◌, subst, arith, append-nil, eqb-true}
+use Rattle.std.specs.Prelude.{slice_get, AllPairs, ◌==◌, not, All, Contains, remove, MatchBool, if◌then◌else◌}
+use Rattle.std.proofs.lemmas.Bool.{eqb-false}
 use Rattle.std.proofs.lemmas.Bool.Decides.{nat_tests}
-use Rattle.std.proofs.lemmas.List.{length-append, length-map, length-drop, get_or_default, take_all, drop_all, drop-drop}
-use Rattle.std.proofs.lemmas.List.Elements.{filter-append, All-contains, All-weaker, All-contains_itself}
+use Rattle.std.proofs.lemmas.List.{take_at, drop_at, get_or_at, length-append, length-drop, take_all, drop_all, drop-drop}
+use Rattle.std.proofs.lemmas.List.Elements.{filter-append, All-contains, All-weaker, All-contains_itself, All-from_get_or}
 use Rattle.std.proofs.lemmas.List.Edits.{length-remove}
-use Rattle.std.proofs.lemmas.List.Quantifiers.{position-Some, all_pairs_push, all_pairs_remove}
 use Rattle.std.proofs.Math.Seq.{take-nil, drop-nil, take-add}
 use Rattle.buckets.specs.declared.sleeper.Sleeper.{Sleeper}
-use Rattle.buckets.specs.Queues.{Sleepers, threads_on, queue, Stands, StandsNowhere, HasRoom, StandOnce, without, IsOrderly, IsEmptied, Enqueues, Takes, Removes}
-use Rattle.buckets.proofs.Places.{threads_on-append, threads_on-one, threads_on-nobody, All-threads_on, threads_on-long, sleeper_of, one_key, once_on, position-None, threads_on-around, threads_on-remove, none_before, without-none, others_before, others_after, stands_there}
+use Rattle.buckets.specs.Queues.{Sleepers, threads_on, queue, standing, Stands, StandsNowhere, HasRoom, StandOnce, without, IsOrderly, IsEmptied, Enqueues, Takes, Removes}
+use Rattle.buckets.proofs.Places.{threads_on-append, threads_on-one, All-threads_on, threads_on-long, sleeper_of, one_key, once_on, threads_on-around, threads_on-remove, without-none, others_before, others_after, stands_there}
 use Rattle.buckets.proofs.Counting.{no_more}
 
 -- a bucket with these fields
@@ -38,26 +38,6 @@ emptied n = record { capacity = refl; nobody = refl; queues = λ k. refl }
 pub nowhere : (n t : ℕ) (xs : List Sleeper) → All (λ s. s.thread ≢ t) xs → StandsNowhere (bucket n xs) t
 nowhere n t xs h k c = All-contains (λ u. u ≢ t) (threads_on k xs) t (All-threads_on (λ u. u ≢ t) k xs h) c refl
 
--- the search for a thread
-pub found : (n t : ℕ) (xs : List Sleeper) (i : ℕ) (d : Sleeper) → position (λ s. s.thread == t) xs ≡ Some i → Stands (bucket n xs) t
-found n t xs i d e =
-    let at = position-Some (λ s. s.thread == t) xs i d e in
-    let same : (get_or xs i d).thread ≡ t = eqb-true _ _ at.1 in
-    ((get_or xs i d).key.0, subst (λ (u : ℕ). Contains (threads_on (get_or xs i d).key.0 xs) u) same (stands_there xs i (get_or xs i d) at.0 (get_or_default xs i d (get_or xs i d) at.0)))
-
-pub not_found : (n t : ℕ) (xs : List Sleeper) → position (λ s. s.thread == t) xs ≡ None → StandsNowhere (bucket n xs) t
-not_found n t xs e = nowhere n t xs (All-weaker (λ s. (s.thread == t) ≡ false) (λ s. s.thread ≢ t) (λ s h same. differ s.thread t h same) xs (position-None (λ s. s.thread == t) xs e))
-  where
-    differ : (a b : ℕ) → (a == b) ≡ false → a ≢ b
-    differ a b h same = grind (arith, nat_tests)
-
--- the search for a thread says whether it stands
-pub sought : (n t : ℕ) (xs : List Sleeper) (r : Option ℕ) → r ≡ position (λ s. s.thread == t) xs → MatchBool (is_some r) (Stands (bucket n xs) t) (StandsNowhere (bucket n xs) t)
-sought n t [] None e = not_found n t [] (sym e)
-sought n t [] (Some i) e = absurd cc
-sought n t (x ∷ xs) None e = not_found n t (x ∷ xs) (sym e)
-sought n t (x ∷ xs) (Some i) e = found n t (x ∷ xs) i x (sym e)
-
 -- ---- putting a thread at the end
 
 pub threads_on-push : (k : ℕ) (xs : List Sleeper) (x : Sleeper) → threads_on k (xs ++ x ∷ []) ≡ (if k == x.key.0 then threads_on k xs ++ x.thread ∷ [] else threads_on k xs)
@@ -75,76 +55,20 @@ threads_on-push k xs x = threads_on-append k xs (x ∷ []) ∙ ap (λ (q : List 
 pub enqueues : (n : ℕ) (xs : List Sleeper) (x : Sleeper) → Enqueues (bucket n xs) (bucket n (xs ++ x ∷ [])) x.thread x.key.0
 enqueues n xs x = record { queues = λ k. threads_on-push k xs x; one_more = length-append xs (x ∷ []); capacity = refl }
 
--- a thread that stands nowhere is none of the sleepers
-pub no_sleeper : (n t : ℕ) (xs : List Sleeper) → StandsNowhere (bucket n xs) t → (i : ℕ) (d : Sleeper) → i < length xs → (get_or xs i d).thread ≢ t
-no_sleeper n t xs h i d lt same =
-    let x = get_or xs i d in
-    h (get_or xs i d).key.0 (subst (λ (u : ℕ). Contains (threads_on (get_or xs i d).key.0 xs) u) same (stands_there xs i (get_or xs i d) lt (get_or_default xs i d (get_or xs i d) lt)))
-
-pub once_push : (n : ℕ) (xs : List Sleeper) (x : Sleeper) → StandOnce xs → StandsNowhere (bucket n xs) x.thread → StandOnce (xs ++ x ∷ [])
-once_push n xs x once h = all_pairs_push (λ s r. s.thread ≢ r.thread) xs x once (no_sleeper n x.thread xs h)
-
--- ---- taking the first
-
--- nobody sleeps on the key
-pub takes_nobody : (n key : ℕ) (xs : List Sleeper) → position (λ s. s.key.0 == key) xs ≡ None → Takes (bucket n xs) (bucket n xs) key 1 []
-takes_nobody n key xs e = record {
-  firsts = sym (ap (λ (q : List ℕ). take 1 q) none);
-  queues = λ k. go k (k == key) refl;
-  fewer = omega arith;
-  capacity = refl;
-}
-  where
-    none : threads_on key xs ≡ []
-    none = threads_on-nobody key xs (position-None (λ s. s.key.0 == key) xs e)
-
-    go : (k : ℕ) (b : Bool) → (k == key) ≡ b → threads_on k xs ≡ (if b then drop 1 (threads_on k xs) else threads_on k xs)
-    go k false h = refl
-    go k true h =
-        let same : k ≡ key = eqb-true _ _ h in
-        let empty : threads_on k xs ≡ [] = ap (λ (j : ℕ). threads_on j xs) same ∙ none in
-        empty ∙ sym (ap (λ (q : List ℕ). drop 1 q) empty)
-
--- the first sleeper on the key leaves
-pub takes_first : (n key : ℕ) (xs : List Sleeper) (i : ℕ) (x : Sleeper) → position (λ s. s.key.0 == key) xs ≡ Some i → x ≡ get_or xs i x → Takes (bucket n xs) (bucket n (remove xs i)) key 1 (x.thread ∷ [])
-takes_first n key xs i x e is =
-    let at = position-Some (λ s. s.key.0 == key) xs i x e in
-    let its : x.key.0 ≡ key = ap (λ (q : Sleeper). q.key.0) is ∙ eqb-true _ _ at.1 in
-    let before : threads_on key (take i xs) ≡ [] = threads_on-nobody key (take i xs) (none_before (λ s. s.key.0 == key) xs i x (omega (arith, at.0)) at.2) in
-    record {
-      firsts = sym (ap (λ (q : List ℕ). take 1 q) (first at.0 its before));
-      queues = λ k. go at.0 its before k (k == key) refl;
-      fewer = length-remove xs i at.0;
-      capacity = refl;
-    }
-  where
-    here : (k : ℕ) (b : Bool) → (x.key.0 == k) ≡ b → i < length xs → threads_on k xs ≡ threads_on k (take i xs) ++ ((if b then x.thread ∷ [] else []) ++ threads_on k (drop (suc i) xs))
-    here k b h lt = subst (λ (c : Bool). threads_on k xs ≡ threads_on k (take i xs) ++ ((if c then x.thread ∷ [] else []) ++ threads_on k (drop (suc i) xs))) h (threads_on-around k xs i x lt is)
-
-    first : i < length xs → x.key.0 ≡ key → threads_on key (take i xs) ≡ [] → threads_on key xs ≡ x.thread ∷ threads_on key (remove xs i)
-    first lt its before =
-        here key true (grind (arith, nat_tests)) lt
-        ∙ ap (λ (q : List ℕ). q ++ (x.thread ∷ threads_on key (drop (suc i) xs))) before
-        ∙ sym (ap (λ (q : List ℕ). x.thread ∷ q) (threads_on-remove key xs i ∙ ap (λ (q : List ℕ). q ++ threads_on key (drop (suc i) xs)) before))
-
-    go : i < length xs → x.key.0 ≡ key → threads_on key (take i xs) ≡ [] → (k : ℕ) (b : Bool) → (k == key) ≡ b → threads_on k (remove xs i) ≡ (if b then drop 1 (threads_on k xs) else threads_on k xs)
-    go lt its before k false h = threads_on-remove k xs i ∙ sym (here k false (grind (arith, nat_tests)) lt)
-    go lt its before k true h =
-        let same : key ≡ k = sym (eqb-true _ _ h) in
-        subst (λ (j : ℕ). threads_on j (remove xs i) ≡ drop 1 (threads_on j xs)) same (sym (ap (λ (q : List ℕ). drop 1 q) (first lt its before)))
-
 -- ---- taking a thread out
 
-pub removes_nobody : (n t : ℕ) (xs : List Sleeper) → position (λ s. s.thread == t) xs ≡ None → Removes (bucket n xs) (bucket n xs) t false
-removes_nobody n t xs e = record {
-  answer = not_found n t xs e;
-  queues = λ k. sym (without-none t (threads_on k xs) (All-from_contains t k xs (not_found n t xs e k)));
+-- a list without a thread that doesn't stand in it
+pub without_absent : (t : ℕ) (ids : List ℕ) → ¬ Contains ids t → without t ids ≡ ids
+without_absent t ids h =
+    without-none t ids (All-weaker (Contains ids) (λ u. u ≢ t) (λ u m same. h (subst (λ (v : ℕ). Contains ids v) same m)) ids (All-contains_itself ids))
+
+pub removes_nobody : (n t : ℕ) (xs : List Sleeper) → StandsNowhere (bucket n xs) t → Removes (bucket n xs) (bucket n xs) t false
+removes_nobody n t xs h = record {
+  answer = h;
+  queues = λ k. sym (without_absent t (threads_on k xs) (h k));
   fewer = omega arith;
   capacity = refl;
 }
-  where
-    All-from_contains : (t k : ℕ) (xs : List Sleeper) → ¬ Contains (threads_on k xs) t → All (λ u. u ≢ t) (threads_on k xs)
-    All-from_contains t k xs h = All-weaker (Contains (threads_on k xs)) (λ u. u ≢ t) (λ u m same. h (subst (λ (v : ℕ). Contains (threads_on k xs) v) same m)) (threads_on k xs) (All-contains_itself (threads_on k xs))
 
 without-same : (t : ℕ) → without t (t ∷ []) ≡ []
 without-same t = go (t == t) (grind (arith, nat_tests))
@@ -153,14 +77,12 @@ without-same t = go (t == t) (grind (arith, nat_tests))
     go true e = refl
     go false e = absurd cc
 
-pub removes : (n t : ℕ) (xs : List Sleeper) (i : ℕ) (x : Sleeper) → StandOnce xs → position (λ s. s.thread == t) xs ≡ Some i → x ≡ get_or xs i x → Removes (bucket n xs) (bucket n (remove xs i)) t true
-removes n t xs i x once e is =
-    let at = position-Some (λ s. s.thread == t) xs i x e in
-    let same : x.thread ≡ t = ap (λ (q : Sleeper). q.thread) is ∙ eqb-true _ _ at.1 in
+pub removes : (n t : ℕ) (xs : List Sleeper) (i : ℕ) (x : Sleeper) → StandOnce xs → i < length xs → x.thread ≡ t → x ≡ get_or xs i x → Removes (bucket n xs) (bucket n (remove xs i)) t true
+removes n t xs i x once lt same is =
     record {
-      answer = found n t xs i x e;
-      queues = λ k. subst (λ (u : ℕ). threads_on k (remove xs i) ≡ without u (threads_on k xs)) same (gone at.0 k);
-      fewer = length-remove xs i at.0;
+      answer = (x.key.0, subst (λ (u : ℕ). Contains (threads_on x.key.0 xs) u) same (stands_there xs i x lt is));
+      queues = λ k. subst (λ (u : ℕ). threads_on k (remove xs i) ≡ without u (threads_on k xs)) same (gone lt k);
+      fewer = length-remove xs i lt;
       capacity = refl;
     }
   where
@@ -180,6 +102,82 @@ removes n t xs i x once e is =
         ∙ ap (λ (q : List ℕ). without x.thread front ++ (q ++ without x.thread back)) (mine k (x.key.0 == k))
         ∙ ap (λ (q : List ℕ). q ++ without x.thread back) (without-none x.thread front (All-threads_on (λ u. u ≢ x.thread) k (take i xs) (others_before xs i x once lt is)))
         ∙ ap (λ (q : List ℕ). front ++ q) (without-none x.thread back (All-threads_on (λ u. u ≢ x.thread) k (drop (suc i) xs) (others_after xs i x once lt is))))
+
+-- a thread that stands between others leaves
+pub removes_between : (n : ℕ) (xs : List Sleeper) (x : Sleeper) (ys : List Sleeper) → StandOnce (xs ++ x ∷ ys) → Removes (bucket n (xs ++ x ∷ ys)) (bucket n (xs ++ ys)) x.thread true
+removes_between n xs x ys once =
+    subst (λ (zs : List Sleeper). Removes (bucket n (xs ++ x ∷ ys)) (bucket n zs) x.thread true) rest
+    (removes n x.thread (xs ++ x ∷ ys) (length xs) x once (let long = length-append xs (x ∷ ys) in omega arith) refl (sym (get_or_at xs x ys x (length xs) refl)))
+  where
+    rest : remove (xs ++ x ∷ ys) (length xs) ≡ xs ++ ys
+    rest = ap (λ (q : List Sleeper). q ++ drop (suc (length xs)) (xs ++ x ∷ ys)) (take_at xs (x ∷ ys) (length xs) refl)
+        ∙ ap (λ (q : List Sleeper). xs ++ q) (ap (λ (m : ℕ). drop m (xs ++ x ∷ ys)) (next (length xs)) ∙ sym (drop-drop 1 (length xs) (xs ++ x ∷ ys)) ∙ ap (λ (q : List Sleeper). drop 1 q) (drop_at xs (x ∷ ys) (length xs) refl))
+      where
+        next : (m : ℕ) → suc m ≡ m + 1
+        next m = omega arith
+
+-- ---- taking the first
+
+-- nobody can be the first of nobody
+pub takes_nobody : (b : Sleepers) (key : ℕ) → None ≡ slice_get (queue b key) 0 → Takes b b key 1 []
+takes_nobody b key e = record {
+  firsts = sym (ap (λ (q : List ℕ). take 1 q) empty);
+  queues = λ k. go k (k == key) refl;
+  fewer = omega arith;
+  capacity = refl;
+}
+  where
+    none : (q : List ℕ) → None ≡ slice_get q 0 → q ≡ []
+    none [] e = refl
+    none (t ∷ q) e = absurd cc
+
+    empty : queue b key ≡ []
+    empty = none (queue b key) e
+
+    go : (k : ℕ) (d : Bool) → (k == key) ≡ d → queue b k ≡ (if d then drop 1 (queue b k) else queue b k)
+    go k false h = refl
+    go k true h = let it : queue b k ≡ [] = ap (λ (j : ℕ). queue b j) (eqb-true k key h) ∙ empty in it ∙ sym (ap (λ (q : List ℕ). drop 1 q) it)
+
+-- the first of a queue leaves
+pub takes_first : (a b : Sleepers) (key t : ℕ) (stood : Bool) → IsOrderly a → Some t ≡ slice_get (queue a key) 0 → Removes a b t stood → Takes a b key 1 (t ∷ [])
+takes_first a b key t stood o e r = made (rest (queue a key) e).0 (rest (queue a key) e).1
+  where
+    rest : (q : List ℕ) → Some t ≡ slice_get q 0 → (ts : List ℕ) × (q ≡ t ∷ ts)
+    rest [] e = absurd cc
+    rest (u ∷ us) e = (us, ap (λ (v : ℕ). v ∷ us) (the e))
+      where
+        the : Some t ≡ Some u → u ≡ t
+        the s = cc
+
+    made : (ts : List ℕ) → queue a key ≡ t ∷ ts → Takes a b key 1 (t ∷ [])
+    made ts is = record {
+      firsts = sym (ap (λ (q : List ℕ). take 1 q) is);
+      queues = λ k. r.queues k ∙ go k (k == key) refl;
+      fewer = stands stood r.answer r.fewer;
+      capacity = r.capacity;
+    }
+      where
+        here : Contains (queue a key) t
+        here = subst (λ (q : List ℕ). Contains q t) (sym is) (0, omega arith, refl)
+
+        stands : (s : Bool) → MatchBool s (Stands a t) (StandsNowhere a t) → standing b + (if s then 1 else 0) ≡ standing a → standing b + 1 ≡ standing a
+        stands true h f = f
+        stands false h f = absurd (h key here)
+
+        once : AllPairs (λ u v. u ≢ v) (t ∷ ts)
+        once = subst (λ (q : List ℕ). AllPairs (λ u v. u ≢ v) q) is (o.one_place key)
+
+        others : All (λ u. u ≢ t) ts
+        others = All-from_get_or (λ u. u ≢ t) ts t (λ i lt same. once 0 (suc i) t (omega arith) (omega (arith, lt)) (sym same))
+
+        own : without t (t ∷ ts) ≡ ts
+        own = filter-append (λ u. not (u == t)) (t ∷ []) ts ∙ ap (λ (q : List ℕ). q ++ without t ts) (without-same t) ∙ without-none t ts others
+
+        go : (k : ℕ) (d : Bool) → (k == key) ≡ d → without t (queue a k) ≡ (if d then drop 1 (queue a k) else queue a k)
+        go k true h =
+            let it : queue a k ≡ t ∷ ts = ap (λ (j : ℕ). queue a j) (eqb-true k key h) ∙ is in
+            ap (without t) it ∙ own ∙ sym (ap (λ (q : List ℕ). drop 1 q) it)
+        go k false h = without_absent t (queue a k) (λ m. eqb-false k key h (o.one_queue t k key m here))
 
 -- ---- taking one after another
 
@@ -261,19 +259,3 @@ takes_all a b c key i n ids le before now = record {
     go k false h e = e
 
 -- ---- what stays
-
-pub room_push : (n : ℕ) (xs : List Sleeper) (x : Sleeper) → HasRoom n xs → length xs < n → HasRoom n (xs ++ x ∷ [])
-room_push n xs x r lt = record { first = r.first; last = r.last; enough = let len = length-append xs (x ∷ []) in omega arith }
-
-pub room_remove : (n : ℕ) (xs : List Sleeper) (i : ℕ) → HasRoom n xs → i < length xs → HasRoom n (remove xs i)
-room_remove n xs i r lt = record { first = r.first; last = r.last; enough = let len = length-remove xs i lt in let e = r.enough in omega arith }
-
-pub orderly_push : (n : ℕ) (xs : List Sleeper) (x : Sleeper) → HasRoom n xs → StandOnce xs → length xs < n → StandsNowhere (bucket n xs) x.thread → IsOrderly (bucket n (xs ++ x ∷ []))
-orderly_push n xs x r once lt h = orderly n (xs ++ x ∷ []) (room_push n xs x r lt) (once_push n xs x once h)
-
-pub orderly_remove : (n : ℕ) (xs : List Sleeper) (i : ℕ) → HasRoom n xs → StandOnce xs → i < length xs → IsOrderly (bucket n (remove xs i))
-orderly_remove n xs i r once lt = orderly n (remove xs i) (room_remove n xs i r lt) (all_pairs_remove (λ s r. s.thread ≢ r.thread) xs i lt once)
-
-pub counted : (k : ℕ) (xs : List Sleeper) → length (filter (λ s. s.key.0 == k) xs) ≡ length (threads_on k xs)
-unfolding threads_on
-counted k xs = sym (length-map (filter (λ s. s.key.0 == k) xs) (λ (s : Sleeper). s.thread))

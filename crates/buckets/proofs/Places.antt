@@ -1,10 +1,9 @@
 -- Sleepers on a key, and where they stand.
-use Rattle.std.proofs.Common.{◌≡◌, ◌≢◌, ℕ, zero, suc, ◌+◌, ◌<◌, ◌≤◌, Bool, true, false, cond, List, [], ◌∷◌, ◌++◌, length, get_or, take, drop, Some, None, refl, sym, ap, ◌∙◌, subst, ◌⊎◌, inl, inr, arith, append-nil}
-use Rattle.std.specs.Prelude.{◌==◌, map, filter, not, All, AllPairs, Contains, nat_lt, position, remove, if◌then◌else◌}
-use Rattle.std.specs.List.{position_or_len}
+use Rattle.std.proofs.Common.{◌≡◌, ◌≢◌, ℕ, suc, ◌+◌, ◌<◌, ◌≤◌, Bool, true, false, cond, List, [], ◌∷◌, ◌++◌, length, get_or, take, drop, refl, sym, ap, ◌∙◌, subst, ◌⊎◌, inl, inr, arith}
+use Rattle.std.specs.Prelude.{◌==◌, map, filter, not, All, AllPairs, Contains, remove, if◌then◌else◌}
 use Rattle.std.proofs.lemmas.Bool.Decides.{nat_tests}
-use Rattle.std.proofs.lemmas.List.{map-append, length-map, get_or-map, get_or_default, get_or-take, get_or-drop, length-take, length-drop, take_more}
-use Rattle.std.proofs.lemmas.List.Elements.{filter-append, Contains-append_cases, Contains-append_left, Contains-append_right, Contains-push, Contains-push_cases, All-nil, All-cons, All-head, All-tail, All-map, All-filter, All-from_get_or}
+use Rattle.std.proofs.lemmas.List.{map-append, length-map, get_or-map, get_or_default, get_or-take, get_or-drop, length-take, length-drop}
+use Rattle.std.proofs.lemmas.List.Elements.{filter-append, Contains-append_cases, Contains-append_left, Contains-append_right, Contains-push, Contains-push_cases, All-head, All-tail, All-map, All-filter, All-from_get_or}
 use Rattle.std.proofs.lemmas.List.Kept.{AllPairs-filter}
 use Rattle.std.proofs.lemmas.Bool.{cases_lt}
 use Rattle.std.proofs.Math.Seq.{split_at}
@@ -26,13 +25,6 @@ threads_on-one k s = go (s.key.0 == k)
     go : (b : Bool) → map (λ (r : Sleeper). r.thread) (cond b (s ∷ []) []) ≡ (if b then s.thread ∷ [] else [])
     go true = refl
     go false = refl
-
--- nobody on the key, nobody in its queue
-pub threads_on-nobody : (k : ℕ) (xs : List Sleeper) → All (λ s. (s.key.0 == k) ≡ false) xs → threads_on k xs ≡ []
-unfolding threads_on
-threads_on-nobody k [] h = refl
-threads_on-nobody k (x ∷ xs) h =
-    rw (All-head (λ (s : Sleeper). (s.key.0 == k) ≡ false) x xs h) (threads_on-nobody k xs (All-tail (λ (s : Sleeper). (s.key.0 == k) ≡ false) x xs h))
 
 -- what holds of each sleeper's thread holds of each in a queue
 pub All-threads_on : (P : ℕ → Type 0) (k : ℕ) (xs : List Sleeper) → All (λ s. P s.thread) xs → All P (threads_on k xs)
@@ -102,22 +94,6 @@ pub once_on : (k : ℕ) (xs : List Sleeper) → StandOnce xs → AllPairs (λ t 
 unfolding threads_on
 once_on k xs once = AllPairs-map (filter (λ s. s.key.0 == k) xs) (AllPairs-filter (λ s r. s.thread ≢ r.thread) (λ s. s.key.0 == k) xs once)
 
-none_till : (p : Sleeper → Bool) (ys : List Sleeper) → length ys ≤ position_or_len p ys → All (λ s. p s ≡ false) ys
-none_till p [] h = All-nil (λ s. p s ≡ false)
-none_till p (y ∷ ys) h = go (none_till p ys) (p y) refl h
-  where
-    go : (length ys ≤ position_or_len p ys → All (λ s. p s ≡ false) ys) → (b : Bool) → p y ≡ b → suc (length ys) ≤ cond (not b) (1 + position_or_len p ys) 0 → All (λ s. p s ≡ false) (y ∷ ys)
-    go next true t m = absurd (omega (arith, m))
-    go next false t m = All-cons (λ s. p s ≡ false) y ys t (next (omega (arith, m)))
-
--- where the test finds nobody, it fails at each
-pub position-None : (p : Sleeper → Bool) (xs : List Sleeper) → position p xs ≡ None → All (λ s. p s ≡ false) xs
-position-None p xs e = none_till p xs (past (nat_lt (position_or_len p xs) (length xs)) refl e)
-  where
-    past : (b : Bool) → nat_lt (position_or_len p xs) (length xs) ≡ b → cond b (Some (position_or_len p xs)) None ≡ None → length xs ≤ position_or_len p xs
-    past true t m = absurd cc
-    past false t m = grind (arith, nat_tests)
-
 -- the list around a place
 pub around : (xs : List Sleeper) (i : ℕ) (x : Sleeper) → i < length xs → x ≡ get_or xs i x → xs ≡ take i xs ++ x ∷ drop (suc i) xs
 around xs i x h is = split_at xs i x h ∙ ap (λ (q : Sleeper). take i xs ++ q ∷ drop (suc i) xs) (sym is)
@@ -132,14 +108,6 @@ threads_on-around k xs i x h is =
 -- the queue of a key after a removal
 pub threads_on-remove : (k : ℕ) (xs : List Sleeper) (i : ℕ) → threads_on k (remove xs i) ≡ threads_on k (take i xs) ++ threads_on k (drop (suc i) xs)
 threads_on-remove k xs i = threads_on-append k (take i xs) (drop (suc i) xs)
-
--- nobody before the first
-pub none_before : (p : Sleeper → Bool) (xs : List Sleeper) (i : ℕ) (d : Sleeper) → i ≤ length xs → ((j : ℕ) → j < i → p (get_or xs j d) ≡ false) → All (λ s. p s ≡ false) (take i xs)
-none_before p [] zero d h before = All-nil (λ s. p s ≡ false)
-none_before p [] (suc i) d h before = All-nil (λ s. p s ≡ false)
-none_before p (x ∷ xs) zero d h before = All-nil (λ s. p s ≡ false)
-none_before p (x ∷ xs) (suc i) d h before =
-    All-cons (λ s. p s ≡ false) x (take i xs) (before 0 (omega arith)) (none_before p xs i d (omega arith) (λ j lt. before (suc j) (omega arith)))
 
 -- a list without a thread that isn't in it
 pub without-none : (t : ℕ) (ids : List ℕ) → All (λ u. u ≢ t) ids → without t ids ≡ ids
@@ -178,14 +146,3 @@ stands_there xs i x h is =
     go : (b : Bool) → b ≡ true → Contains (if b then x.thread ∷ [] else []) x.thread
     go true e = Contains-push [] x.thread
     go false e = absurd cc
-
--- the queue of the sleepers up to a place, and of one more
-pub threads_on-more : (k : ℕ) (xs : List Sleeper) (i : ℕ) (x : Sleeper) → i < length xs → x ≡ get_or xs i x → (b : Bool) → (x.key.0 == k) ≡ b
-    → threads_on k (take (i + 1) xs) ≡ (if b then threads_on k (take i xs) ++ x.thread ∷ [] else threads_on k (take i xs))
-threads_on-more k xs i x lt is b e =
-    ap (threads_on k) (take_more xs i x lt ∙ ap (λ (q : Sleeper). take i xs ++ q ∷ []) (sym is)) ∙ threads_on-append k (take i xs) (x ∷ [])
-    ∙ ap (λ (q : List ℕ). threads_on k (take i xs) ++ q) (threads_on-one k x ∙ ap (λ (c : Bool). if c then x.thread ∷ [] else []) e) ∙ go b
-  where
-    go : (c : Bool) → threads_on k (take i xs) ++ (if c then x.thread ∷ [] else []) ≡ (if c then threads_on k (take i xs) ++ x.thread ∷ [] else threads_on k (take i xs))
-    go true = refl
-    go false = append-nil (threads_on k (take i xs))

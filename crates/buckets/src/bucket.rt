@@ -1,31 +1,39 @@
 //! The bucket.
-ghost use Rattle.std.specs.Prelude.{◌≡◌, ◌≢◌, ◌==◌, ◌<◌, ◌≤◌, ◌+◌, ◌%◌, ◌^◌, length, option_to_list, All, AllPairs, IfOk, MatchBool};
+ghost use Rattle.std.specs.Prelude.{◌≡◌, ◌≢◌, ◌==◌, ◌<◌, ◌≤◌, ◌+◌, ◌%◌, ◌^◌, length, option_to_list, slice_get, All, AllPairs, IfOk, MatchBool};
 ghost use Rattle.std.specs.Bool.{OnTrue};
 ghost use Rattle.buckets.specs.Queues.{queue, standing, Stands, StandsNowhere, IsOrderly, IsEmptied, Enqueues, Takes, Joins, MovesWithin, MovesTo, Fits, Removes};
+ghost use Rattle.buckets.specs.Rings.{AreRows};
 
 use crate::batch::Batch;
-use crate::sleeper::{Sleeper, batch_on, count_on, first_on, place_of};
+use crate::ring::{Ring, leave, ring_on};
+use crate::row::{Row, Rows, all, append, batch_from, copy, join, no_rows, read, write};
+use crate::sleeper::Sleeper;
 use keys::{Key, NoMem};
 use lockword::Tid;
 use std::alloc::{AllocError, Global};
 use std::marker::Model;
 
-/// Who sleeps, with room for so many: each key's queue, in order.
+/// Who sleeps, with room for so many: each key's queue, as a ring through the rows of its threads.
 #[derive(Drop)]
 pub struct Bucket {
     capacity: usize,
-    sleepers: Vec<Sleeper>,
+    /// How many stand, in all rings together.
+    standing: usize,
+    rows: Rows,
+    /// Where each queue begins, one for each key that has sleepers.
+    rings: Vec<Ring>,
 }
 
 impl Model for Bucket {
     ghost use Rattle.std.specs.Prelude.{◌≤◌, vec_capacity};
-    ghost use Rattle.buckets.specs.Queues.{Sleepers, HasRoom, StandOnce};
+    ghost use Rattle.buckets.specs.Queues.{Sleepers};
+    ghost use Rattle.buckets.specs.Rings.{row_of, sleeping_of, AreRings};
 
     ghost Value = { Sleepers };
 
-    ghost view = { λ b. record { capacity = b.capacity; sleeping = b.sleepers.items } };
+    ghost view = { λ b. record { capacity = b.capacity; sleeping = sleeping_of (row_of b.rows) b.rings.items } };
 
-    ghost invariant = { λ b. HasRoom b.capacity b.sleepers.items × StandOnce b.sleepers.items × (b.capacity ≤ vec_capacity b.sleepers) };
+    ghost invariant = { λ b. AreRings b.capacity b.standing (row_of b.rows) b.rings.items × (b.capacity ≤ vec_capacity b.rings) };
 }
 
 impl Clone for Bucket {
@@ -33,11 +41,13 @@ impl Clone for Bucket {
 
     /// A bucket with the same queues, and as much room.
     fn clone(&self) -> Result<Bucket, AllocError> {
-        let mut sleepers = Vec::with_capacity(*self.sleepers.allocator(), self.capacity)?;
-        sleepers.extend_from_slice(&self.sleepers)?;
+        let mut rings = Vec::with_capacity(*self.rings.allocator(), self.capacity)?;
+        rings.extend_from_slice(&self.rings)?;
         Ok(Bucket {
             capacity: self.capacity,
-            sleepers,
+            standing: self.standing,
+            rows: copy(&self.rows),
+            rings,
         })
     }
 }
@@ -51,7 +61,12 @@ impl Bucket {
         ensures orderly { IfOk result IsOrderly }
     {
         match Vec::with_capacity(alloc, capacity) {
-            Ok(sleepers) => Ok(Bucket { capacity, sleepers }),
+            Ok(rings) => Ok(Bucket {
+                capacity,
+                standing: 0,
+                rows: no_rows(),
+                rings,
+            }),
             Err(_) => Err(NoMem),
         }
     }
@@ -63,7 +78,25 @@ impl Bucket {
         ensures changes { Enqueues self.old self.new thread key.0 }
         ensures orderly { IsOrderly self.new }
     {
-        self.sleepers.push_reserved(Sleeper { thread, key });
+        let alone = Row {
+            key,
+            before: thread,
+            after: thread,
+        };
+        write(&mut self.rows, thread, Some(alone));
+        self.standing += 1;
+        match ring_on(&self.rings, key) {
+            Some(place) => {
+                let Ring { first, count } = self.rings[place];
+                append(&mut self.rows, thread, first.thread);
+                let count = count + 1;
+                self.rings[place] = Ring { first, count };
+            }
+            None => {
+                let first = Sleeper { thread, key };
+                self.rings.push_reserved(Ring { first, count: 1 });
+            }
+        }
     }
 
     /// Takes the first `n` of the key's queue out of it, in order, or all where there are fewer.
@@ -72,7 +105,7 @@ impl Bucket {
         ensures orderly { IsOrderly self.new }
     {
         let mut batch = Batch::new();
-        if self.sleepers.is_empty() {
+        if self.standing == 0 {
             return batch;
         }
         for _ in 0..n {
@@ -89,8 +122,18 @@ impl Bucket {
         ensures changes { Takes self.old self.new key.0 1 (option_to_list result) }
         ensures orderly { IsOrderly self.new }
     {
-        let place = first_on(&self.sleepers, key)?;
-        Some(self.sleepers.remove(place).thread)
+        let thread = self.first(key)?;
+        self.remove(thread);
+        Some(thread)
+    }
+
+    /// The first of the key's queue; None where nobody sleeps on the key.
+    fn first(&self, key: Key) -> Option<Tid>
+        ensures value { result ≡ slice_get (queue self.now key.0) 0 }
+        ensures orderly { IsOrderly self.now }
+    {
+        let place = ring_on(&self.rings, key)?;
+        Some(self.rings[place].first.thread)
     }
 
     /// Puts the threads at the end of the key's queue, in order.
@@ -144,7 +187,7 @@ impl Bucket {
     {
         let queue = self.sleepers(key);
         let moved = (n as usize).min(queue.len());
-        if other.capacity - other.sleepers.len() < moved {
+        if other.capacity - other.standing < moved {
             return false;
         }
         for place in 0..moved {
@@ -162,13 +205,16 @@ impl Bucket {
         ensures changes { Removes self.old self.new thread result }
         ensures orderly { IsOrderly self.new }
     {
-        match place_of(&self.sleepers, thread) {
-            Some(place) => {
-                self.sleepers.remove(place);
-                true
-            }
-            None => false,
+        let Some(row) = read(&self.rows, thread) else {
+            return false;
+        };
+        if let Some(place) = ring_on(&self.rings, row.key) {
+            join(&mut self.rows, row.before, row.after);
+            write(&mut self.rows, thread, None);
+            leave(&mut self.rings, place, thread, row.after);
+            self.standing -= 1;
         }
+        true
     }
 
     /// The thread stands in a queue.
@@ -176,7 +222,7 @@ impl Bucket {
         ensures value { MatchBool result (Stands self.now thread) (StandsNowhere self.now thread) }
         ensures orderly { IsOrderly self.now }
     {
-        place_of(&self.sleepers, thread).is_some()
+        read(&self.rows, thread).is_some()
     }
 
     /// As many stand as there is room for.
@@ -184,21 +230,38 @@ impl Bucket {
         ensures value { result ≡ (standing self.now == self.now.capacity) }
         ensures room { standing self.now ≤ self.now.capacity }
     {
-        self.sleepers.len() == self.capacity
+        self.standing == self.capacity
     }
 
     /// How many stand in the key's queue.
     pub fn count(&self, key: Key) -> usize
         ensures { result ≡ length (queue self.now key.0) }
     {
-        count_on(&self.sleepers, key)
+        match ring_on(&self.rings, key) {
+            Some(place) => self.rings[place].count,
+            None => 0,
+        }
     }
 
     /// Who stands in the key's queue, in order.
     pub fn sleepers(&self, key: Key) -> Batch
         ensures { result ≡ queue self.now key.0 }
     {
-        batch_on(&self.sleepers, key)
+        match ring_on(&self.rings, key) {
+            Some(place) => {
+                let ring = self.rings[place];
+                batch_from(&self.rows, ring.first.thread, ring.count)
+            }
+            None => Batch::new(),
+        }
+    }
+
+    /// The rows of all threads, 64: that of the thread with id t at index t - 1. It has the thread's key, and the ids of those before and after it
+    /// in the key's queue, the last being before the first; None where the thread stands in no queue.
+    pub fn rows(&self) -> &[Option<Row>]
+        ensures { AreRows result.now self.now }
+    {
+        all(&self.rows)
     }
 
     /// What a futex wait does under the bucket's lock: where the low half of the word it saw is the expected one, it puts the thread

@@ -1,7 +1,8 @@
 //! Each call once, and many calls against plain lists.
 ghost use Rattle.std.specs.Prelude.{◌≡◌, ◌<◌, ◌≤◌};
 
-use crate::{Batch, Bucket};
+use crate::slow::Slow;
+use crate::{Batch, Bucket, Row};
 use keys::Key;
 use lockword::Tid;
 use std::alloc::Global;
@@ -366,5 +367,157 @@ fn many_calls_agree_with_plain_lists(rt: HostRuntime) -> Result<(), Fail> {
         take(&rt, &mut side.bucket, list, Key(key as u64), u32::MAX);
     }
     assert!(rt; (0..KEYS).all(|key| side.bucket.count(Key(key)) == 0));
+    Ok(())
+}
+
+/// A bucket, and the slow form that it is to agree with.
+#[derive(Drop)]
+struct Forms {
+    fast: Bucket,
+    slow: Slow,
+}
+
+/// Ids from 1 to here take part in the calls of both forms, and keys from 0 to below [`KEYS`].
+const THREADS: u64 = 20;
+
+/// Those in a batch are these threads.
+fn same(rt: &impl Abort, batch: &Batch, threads: &[Tid]) {
+    assert_eq!(rt; batch.len(), threads.len());
+    for (place, thread) in threads.iter().enumerate() {
+        assert_eq!(rt; batch.get(place), Some(*thread), "at {place}");
+    }
+}
+
+/// The rows have this queue as a ring; answers how many stand in it.
+fn ring(rt: &impl Abort, rows: &[Option<Row>], key: Key, queue: &[Tid]) -> Result<usize, Fail> {
+    let Some(last) = queue.last() else {
+        return Ok(0);
+    };
+    let mut before = *last;
+    for (place, thread) in queue.iter().enumerate() {
+        let after = match queue.get(place.wrapping_add(1)) {
+            Some(next) => *next,
+            None => *queue.get(0).ok_or("no first thread")?,
+        };
+        let index = usize::from(thread.get()).wrapping_sub(1);
+        let row = Row { key, before, after };
+        assert_eq!(rt; rows.get(index), Some(&Some(row)), "at {place}");
+        before = *thread;
+    }
+    Ok(queue.len())
+}
+
+/// Both forms have the same queues, and the rows are their rings.
+fn same_queues(rt: &impl Abort, forms: &Forms) -> Result<(), Fail> {
+    let rows = forms.fast.rows();
+    let mut standing = 0_usize;
+    for key in 0..KEYS {
+        let queue = forms.slow.sleepers(Key(key))?;
+        same(rt, &forms.fast.sleepers(Key(key)), &queue);
+        assert_eq!(rt; forms.fast.count(Key(key)), forms.slow.count(Key(key)));
+        standing = standing.wrapping_add(ring(rt, rows, Key(key), &queue)?);
+    }
+    assert_eq!(rt; rows.len(), 64);
+    assert_eq!(rt; rows.iter().filter(|row| row.is_some()).count(), standing);
+    for id in 1..=THREADS as u8 {
+        let thread = thread(id)?;
+        assert_eq!(rt; forms.fast.stands(thread), forms.slow.stands(thread));
+    }
+    assert_eq!(rt; forms.fast.full(), forms.slow.full());
+    Ok(())
+}
+
+/// A move into the other bucket, where it fits.
+fn move_both(
+    rt: &impl Abort,
+    forms: &mut Forms,
+    other: &mut Forms,
+    key: Key,
+    n: u32,
+    to: Key,
+) -> Result<(), Fail> {
+    let fits = forms.fast.fits(&other.fast, key, n);
+    assert_eq!(rt; fits, forms.slow.fits(&other.slow, key, n)?);
+    if fits {
+        let moved = forms.slow.move_to(&mut other.slow, key, n, to)?;
+        same(rt, &forms.fast.move_to(&mut other.fast, key, n, to), &moved);
+    }
+    Ok(())
+}
+
+/// A thread that stands nowhere falls asleep where there is room: by a wait, or without a word.
+fn sleep_both(
+    rt: &impl Abort,
+    forms: &mut Forms,
+    thread: Tid,
+    key: Key,
+    state: &mut u64,
+) -> Result<(), Fail> {
+    if forms.fast.full() || forms.fast.stands(thread) {
+        return Ok(());
+    }
+    if next(state, 2) == 0 {
+        forms.fast.enqueue(thread, key);
+        return forms.slow.enqueue(thread, key);
+    }
+    let seen = next(state, 2) << 32 | next(state, 2);
+    let slept = forms.slow.wait_section(thread, key, seen, 1)?;
+    assert_eq!(rt; forms.fast.wait_section(thread, key, seen, 1), slept);
+    Ok(())
+}
+
+/// One call of both forms.
+fn step_both(
+    rt: &impl Abort,
+    forms: &mut Forms,
+    other: &mut Forms,
+    state: &mut u64,
+) -> Result<(), Fail> {
+    let thread = thread(1 + next(state, THREADS) as u8)?;
+    let (key, to) = (Key(next(state, KEYS)), Key(next(state, KEYS)));
+    let n = next(state, 4) as u32;
+    match next(state, 12) {
+        0 => {
+            let taken = forms.slow.take(key, n)?;
+            same(rt, &forms.fast.take(key, n), &taken);
+        }
+        1 | 2 => assert_eq!(rt; forms.fast.remove(thread), forms.slow.remove(thread)),
+        3 | 4 => {
+            if key.0 != to.0 {
+                let moved = forms.slow.move_within(key, n, to)?;
+                same(rt, &forms.fast.move_within(key, n, to), &moved);
+            }
+        }
+        5 | 6 => move_both(rt, forms, other, key, n, to)?,
+        _ => sleep_both(rt, forms, thread, key, state)?,
+    }
+    Ok(())
+}
+
+#[test]
+fn ten_thousand_calls_leave_both_forms_the_same_queues(rt: HostRuntime) -> Result<(), Fail> {
+    let mut small = Forms {
+        fast: Bucket::new(rt.alloc(), 8)?,
+        slow: Slow::new(rt.alloc(), 8),
+    };
+    let mut large = Forms {
+        fast: Bucket::new(rt.alloc(), 64)?,
+        slow: Slow::new(rt.alloc(), 64),
+    };
+    let mut state = 41;
+    for _ in 0..10_000 {
+        step_both(&rt, &mut small, &mut large, &mut state)?;
+        step_both(&rt, &mut large, &mut small, &mut state)?;
+        same_queues(&rt, &small)?;
+        same_queues(&rt, &large)?;
+    }
+    let copy = large.fast.clone()?;
+    for key in 0..KEYS {
+        same(
+            &rt,
+            &copy.sleepers(Key(key)),
+            &large.slow.sleepers(Key(key))?,
+        );
+    }
     Ok(())
 }

@@ -1,6 +1,6 @@
 use Rattle.std.proofs.Common.{◌∙◌, ◌+◌, take, sym, subst, arith}
 use Rattle.buckets.specs.Queues.{Sleepers, IsOrderly, Joins}
-use Rattle.buckets.proofs.Changes.{orderly}
+use Rattle.buckets.proofs.Kept.{orderly_rings}
 use Rattle.buckets.proofs.Moves.{somebody, joins_none, joins_more, next_nowhere}
 use Rattle.buckets.proofs.bucket.Bucket.enqueue_all.Goals as goal
 use Rattle.buckets.proofs.bucket.Bucket.enqueue_all.Goals.{in-Some, in_default}
@@ -8,7 +8,7 @@ use Rattle.buckets.proofs.bucket.Bucket.enqueue_all.Goals.{in-Some, in_default}
 pub loop-place-init : goal.loop-place-init
 loop-place-init c = record {
   joined = joins_none c.args.self.now c.args.key.0;
-  orderly = subst IsOrderly c.self.view_is (orderly c.self.inside.capacity c.self.inside.sleepers.items c.self.invariant.0 c.self.invariant.1);
+  orderly = subst IsOrderly c.self.view_is (orderly_rings _ _ _ _ c.self.invariant.0);
 }
 
 pub enqueue-requires-clause-awake : goal.enqueue-requires-clause-awake

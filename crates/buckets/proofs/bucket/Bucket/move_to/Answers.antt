@@ -1,6 +1,6 @@
 use Rattle.std.proofs.Common.{subst}
 use Rattle.buckets.specs.Queues.{IsOrderly}
-use Rattle.buckets.proofs.Changes.{orderly}
+use Rattle.buckets.proofs.Kept.{orderly_rings}
 use Rattle.buckets.proofs.Moves.{taken_once, fitting_nowhere}
 use Rattle.buckets.proofs.bucket.Bucket.move_to.Goals as goal
 
@@ -9,5 +9,5 @@ enqueue_all-requires-clause-awake c = fitting_nowhere _ _ c.args.other.now c.arg
 
 pub enqueue_all-requires-clause-once : goal.enqueue_all-requires-clause-once
 enqueue_all-requires-clause-once c =
-    let before = subst IsOrderly c.self.view_is (orderly c.self.inside.capacity c.self.inside.sleepers.items c.self.invariant.0 c.self.invariant.1) in
+    let before = subst IsOrderly c.self.view_is (orderly_rings _ _ _ _ c.self.invariant.0) in
     taken_once _ _ c.args.key.0 c.args.n c.take-moved.result before c.take-moved.ensures.changes

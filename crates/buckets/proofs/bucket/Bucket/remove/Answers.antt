@@ -1,30 +1,57 @@
-use Rattle.std.proofs.Common.{◌≡◌, ◌∙◌, ◌==◌, false, List, Some, None, sym, ap, subst}
+use Rattle.std.proofs.Common.{arith, ◌≡◌, ◌∙◌, ◌==◌, ◌-◌, ℕ, true, false, List, Option, Some, None, sym, ap, subst}
 use Rattle.std.specs.Prelude.{position}
-use Rattle.std.proofs.lemmas.List.Quantifiers.{position-Some}
-use Rattle.buckets.specs.declared.sleeper.Sleeper.{Sleeper}
+use Rattle.buckets.specs.declared.row.Row.{Row}
+use Rattle.buckets.specs.declared.ring.Ring.{Ring}
 use Rattle.buckets.specs.Queues.{Sleepers, IsOrderly, Removes}
-use Rattle.buckets.proofs.Changes.{orderly, orderly_remove, removes, removes_nobody}
+use Rattle.buckets.specs.Rings.{row_of, put, joined, sleeping_of, AreRings}
+use Rattle.buckets.proofs.Changes.{bucket, removes_nobody}
+use Rattle.buckets.proofs.Rows.{ext}
+use Rattle.buckets.proofs.Kept.{orderly_rings, stands_nowhere, leaves_at, has_ring}
 use Rattle.buckets.proofs.bucket.Bucket.remove.Goals as goal
+use Rattle.buckets.proofs.bucket.Bucket.remove.Goals.{After-leave}
 
-pub returns-in-Some-clause-changes : goal.returns-in-Some-clause-changes
-returns-in-Some-clause-changes c =
-    let at : position (λ s. s.thread == c.args.thread) c.self.inside.sleepers.items ≡ Some c.in-Some.place =
-    ap (λ (xs : List Sleeper). position (λ s. s.thread == c.args.thread) xs) (sym c.deref.ensures.value) ∙ sym c.in-Some.ensures in
-    rw (← c.self.view_is, c.remove.ensures.items)
-    (removes c.self.inside.capacity c.args.thread c.self.inside.sleepers.items c.in-Some.place c.remove.result c.self.invariant.1 at c.remove.ensures.value)
+pub returns-in_default-clause-changes : goal.returns-in_default-clause-changes
+returns-in_default-clause-changes c =
+    let b = c.self.inside in
+    let w = row_of b.rows in
+    let none : w c.args.thread ≡ None = sym c.read.ensures ∙ c.in_default.is in
+    subst (λ (s : Sleepers). Removes s s c.args.thread false) c.self.view_is
+    (removes_nobody b.capacity c.args.thread (sleeping_of w b.rings.items) (stands_nowhere b.capacity b.standing w b.rings.items c.args.thread c.self.invariant.0 none))
 
-pub returns-in-Some-clause-orderly : goal.returns-in-Some-clause-orderly
-returns-in-Some-clause-orderly c =
-    let at : position (λ s. s.thread == c.args.thread) c.self.inside.sleepers.items ≡ Some c.in-Some.place =
-    ap (λ (xs : List Sleeper). position (λ s. s.thread == c.args.thread) xs) (sym c.deref.ensures.value) ∙ sym c.in-Some.ensures in
-    let found = position-Some (λ (s : Sleeper). s.thread == c.args.thread) c.self.inside.sleepers.items c.in-Some.place c.remove.result at in
-    rw c.remove.ensures.items (orderly_remove c.self.inside.capacity c.self.inside.sleepers.items c.in-Some.place c.self.invariant.0 c.self.invariant.1 found.0)
+pub returns-in_default-clause-orderly : goal.returns-in_default-clause-orderly
+returns-in_default-clause-orderly c = subst IsOrderly c.self.view_is (orderly_rings _ _ _ _ c.self.invariant.0)
 
-pub returns-in-None-clause-changes : goal.returns-in-None-clause-changes
-returns-in-None-clause-changes c =
-    let none : position (λ s. s.thread == c.args.thread) c.self.inside.sleepers.items ≡ None =
-    ap (λ (xs : List Sleeper). position (λ s. s.thread == c.args.thread) xs) (sym c.deref.ensures.value) ∙ sym c.in-None.ensures in
-    subst (λ (b : Sleepers). Removes b b c.args.thread false) c.self.view_is (removes_nobody c.self.inside.capacity c.args.thread c.self.inside.sleepers.items none)
+-- what is known of the fields afterwards
+left : (c : After-leave)
+    → AreRings c.self.inside.capacity (c.self.inside.standing - 1) (row_of c.write.new.rows) c.leave.new.rings.items
+    × Removes (bucket c.self.inside.capacity (sleeping_of (row_of c.self.inside.rows) c.self.inside.rings.items)) (bucket c.self.inside.capacity (sleeping_of (row_of c.write.new.rows) c.leave.new.rings.items)) c.args.thread true
+left c =
+    let b = c.self.inside in
+    let w = row_of b.rows in
+    let x = c.in-Some.row in
+    let at : position (λ r. r.first.key.0 == x.key.0) b.rings.items ≡ Some c.in-Some-ring_on.place =
+    ap (λ (rs : List Ring). position (λ r. r.first.key.0 == x.key.0) rs) (sym c.deref.ensures.value) ∙ sym c.in-Some-ring_on.ensures in
+    let rows : row_of c.write.new.rows ≡ put (joined w x.before x.after) c.args.thread None =
+    ext (row_of c.write.new.rows) (put (row_of c.join.new.rows) c.args.thread None) c.write.ensures
+    ∙ ap (λ (f : ℕ → Option Row). put f c.args.thread None) (ext (row_of c.join.new.rows) (joined w x.before x.after) c.join.ensures) in
+    leaves_at b.capacity b.standing w (row_of c.write.new.rows) b.rings.items c.in-Some-ring_on.place c.args.thread x c.self.invariant.0 (sym c.in-Some.ensures) at rows c.leave.new.rings.items c.leave.ensures.left
 
-pub returns-in-None-clause-orderly : goal.returns-in-None-clause-orderly
-returns-in-None-clause-orderly c = subst IsOrderly c.self.view_is (orderly c.self.inside.capacity c.self.inside.sleepers.items c.self.invariant.0 c.self.invariant.1)
+pub invariant_of-self : goal.invariant_of-self
+invariant_of-self c = ((left (goal.at.invariant_of-self c).After-leave).0, let room = c.leave.ensures.room in let before = c.self.invariant.1 in omega arith)
+
+pub returns-in-Some-ring_on-clause-changes : goal.returns-in-Some-ring_on-clause-changes
+returns-in-Some-ring_on-clause-changes c = subst (λ (s : Sleepers). Removes s (bucket c.self.inside.capacity (sleeping_of (row_of c.write.new.rows) c.leave.new.rings.items)) c.args.thread true) c.self.view_is (left (goal.at.returns-in-Some-ring_on-clause-changes c).After-leave).1
+
+pub returns-in-Some-ring_on-clause-orderly : goal.returns-in-Some-ring_on-clause-orderly
+returns-in-Some-ring_on-clause-orderly c = orderly_rings _ _ _ _ (left (goal.at.returns-in-Some-ring_on-clause-orderly c).After-leave).0
+
+pub returns-in_default-ring_on-clause-changes : goal.returns-in_default-ring_on-clause-changes
+returns-in_default-ring_on-clause-changes c =
+    let b = c.self.inside in
+    let x = c.in-Some.row in
+    let none : position (λ r. r.first.key.0 == x.key.0) b.rings.items ≡ None =
+    ap (λ (rs : List Ring). position (λ r. r.first.key.0 == x.key.0) rs) (sym c.deref.ensures.value) ∙ sym c.ring_on.ensures ∙ c.in_default-ring_on.is in
+    absurd (has_ring b.capacity b.standing (row_of b.rows) b.rings.items c.args.thread x c.self.invariant.0 (sym c.in-Some.ensures) none)
+
+pub returns-in_default-ring_on-clause-orderly : goal.returns-in_default-ring_on-clause-orderly
+returns-in_default-ring_on-clause-orderly c = subst IsOrderly c.self.view_is (orderly_rings _ _ _ _ c.self.invariant.0)

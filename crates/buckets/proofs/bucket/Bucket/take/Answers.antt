@@ -1,21 +1,25 @@
-use Rattle.std.proofs.Common.{◌≡◌, ℕ, ◌≤◌, [], ◌∷◌, length, ap, subst, arith, rules}
+use Rattle.std.proofs.Common.{◌∙◌, ◌≡◌, ℕ, ◌≤◌, [], ◌∷◌, length, ap, subst, arith}
 use Rattle.buckets.specs.Queues.{Sleepers, standing, IsOrderly, Takes}
 use Rattle.std.proofs.lemmas.List.{length-append}
-use Rattle.buckets.proofs.Changes.{orderly, takes_none, takes_of_nobody, takes_more, takes_all}
+use Rattle.buckets.specs.Rings.{row_of, sleeping_of}
+use Rattle.buckets.proofs.Kept.{orderly_rings, all_counted, few_asleep}
+use Rattle.buckets.proofs.Changes.{takes_none, takes_of_nobody, takes_more, takes_all}
 use Rattle.buckets.proofs.bucket.Bucket.take.Goals as goal
 
-pub returns-then-is_empty-clause-changes : goal.returns-then-is_empty-clause-changes
-returns-then-is_empty-clause-changes c =
-    let none : length c.self.inside.sleepers.items ≡ 0 = search rules in
-    rw c.new-batch.ensures (subst (λ (b : Sleepers). Takes b b c.args.key.0 c.args.n []) c.self.view_is (takes_of_nobody c.self.inside.capacity c.args.key.0 c.args.n c.self.inside.sleepers.items none))
+pub returns-then-self-eq0-clause-changes : goal.returns-then-self-eq0-clause-changes
+returns-then-self-eq0-clause-changes c =
+    let b = c.self.inside in
+    let xs = sleeping_of (row_of b.rows) b.rings.items in
+    let none : length xs ≡ 0 = all_counted b.capacity b.standing (row_of b.rows) b.rings.items c.self.invariant.0 ∙ c.if-self-eq0.true in
+    rw c.new-batch.ensures (subst (λ (s : Sleepers). Takes s s c.args.key.0 c.args.n []) c.self.view_is (takes_of_nobody b.capacity c.args.key.0 c.args.n xs none))
 
-pub returns-then-is_empty-clause-orderly : goal.returns-then-is_empty-clause-orderly
-returns-then-is_empty-clause-orderly c = subst IsOrderly c.self.view_is (orderly c.self.inside.capacity c.self.inside.sleepers.items c.self.invariant.0 c.self.invariant.1)
+pub returns-then-self-eq0-clause-orderly : goal.returns-then-self-eq0-clause-orderly
+returns-then-self-eq0-clause-orderly c = subst IsOrderly c.self.view_is (orderly_rings _ _ _ _ c.self.invariant.0)
 
 pub loop-init : goal.loop-init
 loop-init c = record {
   taken = rw c.new-batch.ensures (takes_none c.args.self.now c.args.key.0);
-  orderly = subst IsOrderly c.self.view_is (orderly c.self.inside.capacity c.self.inside.sleepers.items c.self.invariant.0 c.self.invariant.1);
+  orderly = subst IsOrderly c.self.view_is (orderly_rings _ _ _ _ c.self.invariant.0);
   as_many = ap length c.new-batch.ensures;
 }
 
@@ -25,7 +29,7 @@ returns-in_default-clause-changes c =
 
 pub push-requires : goal.push-requires
 push-requires c =
-    let few : standing c.args.self.now ≤ 64 = subst (λ (b : Sleepers). standing b ≤ 64) c.self.view_is (omega (arith, c.self.invariant.0.enough, c.self.invariant.0.last)) in
+    let few : standing c.args.self.now ≤ 64 = subst (λ (b : Sleepers). standing b ≤ 64) c.self.view_is (few_asleep _ _ _ _ c.self.invariant.0) in
     let before = c.loop.invariant.taken.fewer in
     let now = c.in-Some.ensures.changes.fewer in
     omega arith
