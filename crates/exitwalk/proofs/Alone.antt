@@ -189,6 +189,17 @@ module _ (valid : ℕ → Bool) (t h : ℕ) where
 pub reads : (valid : ℕ → Bool) (a : ℕ) (s : Effect) (go : ℕ → Effect) (b : Bool) → valid a ≡ b → reading valid a s go ≡ (if b then go (s.words a) else s)
 reads valid a s go b is = ap (λ (b : Bool). if b then go (s.words a) else s) is
 
+-- a fault is the end, wherever it is met
+faulted : (t h : ℕ) (r : Row) → row_after t h r Fault ≡ Ended
+faulted t h LoadFirst = refl
+faulted t h (LoadOffset first) = refl
+faulted t h (LoadPending first offset) = refl
+faulted t h (LoadNext r) = refl
+faulted t h (LoadWord at part) = refl
+faulted t h (Mark at seen again part) = refl
+faulted t h (WakeOne at part) = refl
+faulted t h Ended = refl
+
 module _ (valid : ℕ → Bool) (sleepers : List ℕ → ℕ) (t h : ℕ) where
   -- a load: the end at an invalid address, and else what the word leads to
   loads : (r : Row) (a : ℕ) (s : Effect) (go : ℕ → Effect) (limit : ℕ) → 0 < limit
@@ -199,7 +210,7 @@ module _ (valid : ℕ → Bool) (sleepers : List ℕ → ℕ) (t h : ℕ) where
       by : (b : Bool) → valid a ≡ b → Fine valid t h (row_after t h r (if b then Value (s.words a) else Fault)) (if b then record { words = put s.words a (s.words a); wakes = s.wakes } else s) (reading valid a s go) limit
       by true ok = subst (λ (z : Effect). Fine valid t h (row_after t h r (Value (s.words a))) z (reading valid a s go) limit) (sym (looked s a))
           (retotal valid t h (row_after t h r (Value (s.words a))) s _ _ limit (sym (reads valid a s go true ok)) (found ok))
-      by false none = record { means = sym (reads valid a s go false none); alone = tt; knows = tt; falls = some }
+      by false none = subst (λ (q : Row). Fine valid t h q s (reading valid a s go) limit) (sym (faulted t h r)) (record { means = sym (reads valid a s go false none); alone = tt; knows = tt; falls = some })
 
   abbrev After : Row → Effect → Type 0
   After r s = Fine valid t h (row_after t h r (answer_of valid sleepers s (row_access h r))) (effect_of valid s (row_access h r)) (row_means valid t h r s) (left_alone s.words r)

@@ -76,32 +76,24 @@ looks t h at v again part =
     else if (fields_of v).owner == t then Mark at v again part
     else goes_on h part
 
-abbrev pub after_load : ℕ → ℕ → Row → ℕ → Row
-after_load t h LoadFirst v = LoadOffset v
-after_load t h (LoadOffset first) v = LoadPending first v
-after_load t h (LoadPending first offset) v = forward h (record { entry = first; offset = offset; pending = v; loaded = 0 })
-after_load t h (LoadNext r) v = after_next h r v
-after_load t h (LoadWord at part) v = looks t h at v false part
-after_load t h r v = Ended
+-- after a mark: somebody who may sleep is woken
+abbrev pub after_mark : ℕ → ℕ → ℕ → Part → Row
+after_mark h at seen part = if (fields_of seen).waiters then WakeOne at part else goes_on h part
 
-abbrev pub after_mark : ℕ → Row → Row
-after_mark h (Mark at seen again part) = if (fields_of seen).waiters then WakeOne at part else goes_on h part
-after_mark h r = Ended
+-- after an exchange that found another word: that is looked at, once
+abbrev pub after_miss : ℕ → ℕ → ℕ → Bool → Part → ℕ → Row
+after_miss t h at again part found = if again then goes_on h part else looks t h at found true part
 
-abbrev pub after_miss : ℕ → ℕ → Row → ℕ → Row
-after_miss t h (Mark at seen again part) found = if again then goes_on h part else looks t h at found true part
-after_miss t h r found = Ended
-
-abbrev pub after_wake : ℕ → Row → Row
-after_wake h (WakeOne at part) = goes_on h part
-after_wake h r = Ended
-
--- where an answer leads
+-- where an answer leads, row by row
 abbrev pub row_after : ℕ → ℕ → Row → Answer → Row
-row_after t h r (Value v) = after_load t h r v
-row_after t h r Exchanged = after_mark h r
-row_after t h r (Changed found) = after_miss t h r found
-row_after t h r (Count n) = after_wake h r
+row_after t h LoadFirst (Value v) = LoadOffset v
+row_after t h (LoadOffset first) (Value v) = LoadPending first v
+row_after t h (LoadPending first offset) (Value v) = forward h (record { entry = first; offset = offset; pending = v; loaded = 0 })
+row_after t h (LoadNext r) (Value v) = after_next h r v
+row_after t h (LoadWord at part) (Value v) = looks t h at v false part
+row_after t h (Mark at seen again part) Exchanged = after_mark h at seen part
+row_after t h (Mark at seen again part) (Changed found) = after_miss t h at again part found
+row_after t h (WakeOne at part) (Count n) = goes_on h part
 row_after t h r a = Ended
 
 -- the exchange that marks a word is the owner's death at that address

@@ -34,7 +34,7 @@ impl Model for Walk {
 
 impl Walk {
     ghost use Rattle.exitwalk.specs.Walks.{begun, access_of, row_after, point_of, moved, progress_of, IsGoing, IsCounted, Knows};
-    ghost use Rattle.exitwalk.specs.Walks.{forward, goes_on, looks, after_load, after_next, after_mark, after_miss, after_wake};
+    ghost use Rattle.exitwalk.specs.Walks.{forward, goes_on, looks, after_next, after_mark, after_miss};
 
     /// The walk of a dead thread's list whose head is at an address. That may be any number, and so may the words there.
     pub fn new(thread: Tid, head: u64) -> Walk
@@ -108,42 +108,47 @@ impl Walk {
         }
     }
 
+    /// Where each row leads. A fault, and an answer that the row's access doesn't have, is the end: what the list goes on with isn't known then.
     fn row_after(&self, answer: Answer) -> Row
         ensures value { result ≡ row_after self.now.thread self.now.head self.now.row answer }
         ensures knows { Knows self.now.thread self.now.head result }
     {
-        match answer {
-            Answer::Value(word) => self.after_load(word),
-            Answer::Exchanged => self.after_mark(),
-            Answer::Changed(found) => self.after_miss(found),
-            Answer::Count(_) => self.after_wake(),
-            _ => Row::Ended,
-        }
-    }
-
-    fn after_load(&self, word: u64) -> Row
-        ensures value { result ≡ after_load self.now.thread self.now.head self.now.row word }
-        ensures knows { Knows self.now.thread self.now.head result }
-    {
-        match self.row {
-            Row::LoadFirst => Row::LoadOffset { first: word },
-            Row::LoadOffset { first } => Row::LoadPending {
+        match (self.row, answer) {
+            // The head comes first: no entry can be treated before its mutex's offset is known, nor before it is known which one is pending.
+            (Row::LoadFirst, Answer::Value(first)) => Row::LoadOffset { first },
+            (Row::LoadOffset { first }, Answer::Value(offset)) => Row::LoadPending {
                 first,
-                offset: word,
+                offset,
             },
-            Row::LoadPending { first, offset } => self.forward(Rest {
+            (Row::LoadPending { first, offset }, Answer::Value(pending)) => self.forward(Rest {
                 entry: first,
                 offset,
-                pending: word,
+                pending,
                 loaded: 0,
             }),
-            Row::LoadNext(rest) => self.after_next(rest, word),
-            Row::LoadWord { at, part } => self.looks(at, word, false, part),
+            // The next entry is loaded before this one is treated: once its word is marked, another thread may take the mutex, and link its entry into another list.
+            (Row::LoadNext(rest), Answer::Value(next)) => self.after_next(rest, next),
+            (Row::LoadWord { at, part }, Answer::Value(word)) => self.looks(at, word, false, part),
+            (Row::Mark { at, seen, part, .. }, Answer::Exchanged) => self.after_mark(
+                at, seen, part,
+            ),
+            (
+                Row::Mark {
+                    at,
+                    again,
+                    part,
+                    ..
+                },
+                Answer::Changed(found),
+            ) => self.after_miss(at, found, again, part),
+            // However many were woken: one that slept was, or nobody slept any more.
+            (Row::WakeOne { part, .. }, Answer::Count(_)) => self.goes_on(part),
             _ => Row::Ended,
         }
     }
 
-    /// Treats the word of an entry whose next one is known now; that of the pending entry is left for later.
+    /// Treats the word of an entry whose next one is known now. The pending entry is skipped here and treated once, at the end: its thread may have died before it
+    /// was linked or after.
     fn after_next(&self, rest: Rest, next: u64) -> Row
         requires { rest.loaded < 2048 }
         ensures value { result ≡ after_next self.now.head rest next }
@@ -164,54 +169,35 @@ impl Walk {
         }
     }
 
-    fn after_mark(&self) -> Row
-        ensures value { result ≡ after_mark self.now.head self.now.row }
+    /// After a mark: who set WAITERS sleeps, or is about to find the word changed, and nobody else will wake it.
+    fn after_mark(&self, at: u64, seen: u64, part: Part) -> Row
+        requires { IsCounted part }
+        ensures value { result ≡ after_mark self.now.head at seen part }
         ensures knows { Knows self.now.thread self.now.head result }
     {
-        match self.row {
-            Row::Mark { at, seen, part, .. } => {
-                if Cell::new(seen).waiters() {
-                    Row::WakeOne { at, part }
-                } else {
-                    self.goes_on(part)
-                }
-            }
-            _ => Row::Ended,
+        if Cell::new(seen).waiters() {
+            Row::WakeOne { at, part }
+        } else {
+            self.goes_on(part)
         }
     }
 
-    fn after_miss(&self, found: u64) -> Row
-        ensures value { result ≡ after_miss self.now.thread self.now.head self.now.row found }
+    /// After an exchange that failed: the word that it found is looked at, once. While the dead thread owns a word, the library's own programs do nothing to it but set
+    /// WAITERS, which is set once; so a second exchange can't fail in a run of theirs. Where it does, the word is another program's, and the walk has to end.
+    fn after_miss(&self, at: u64, found: u64, again: bool, part: Part) -> Row
+        requires { IsCounted part }
+        ensures value { result ≡ after_miss self.now.thread self.now.head at again part found }
         ensures knows { Knows self.now.thread self.now.head result }
     {
-        match self.row {
-            Row::Mark {
-                at,
-                again,
-                part,
-                ..
-            } => {
-                if again {
-                    self.goes_on(part)
-                } else {
-                    self.looks(at, found, true, part)
-                }
-            }
-            _ => Row::Ended,
+        if again {
+            self.goes_on(part)
+        } else {
+            self.looks(at, found, true, part)
         }
     }
 
-    fn after_wake(&self) -> Row
-        ensures value { result ≡ after_wake self.now.head self.now.row }
-        ensures knows { Knows self.now.thread self.now.head result }
-    {
-        match self.row {
-            Row::WakeOne { part, .. } => self.goes_on(part),
-            _ => Row::Ended,
-        }
-    }
-
-    /// What is done with a word that was seen, after an exchange that failed or before the first.
+    /// What is done with a word that was seen, after an exchange that failed or before the first. It is marked where it is the dead thread's, and else left alone. But where
+    /// nobody owns the pending entry's, one sleeper is woken: the dead thread may have released it and died before the wake that it owed, which nobody else makes.
     fn looks(&self, at: u64, word: u64, again: bool, part: Part) -> Row
         requires { IsCounted part }
         ensures value { result ≡ looks self.now.thread self.now.head at word again part }
