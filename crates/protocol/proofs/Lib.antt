@@ -25,3 +25,4 @@ pub mod QueueRuns
 pub mod Owed
 pub mod WalksOwe
 pub mod Undivided
+pub mod Applying

@@ -5,3 +5,4 @@ pub mod Explained
 pub mod Sleepers
 pub mod Lists
 pub mod Deaths
+pub mod Applies

@@ -4,6 +4,7 @@ ghost use Rattle.protocol.specs.Explained.{TraceIsExplained};
 ghost use Rattle.protocol.specs.Sleepers.{MachineGoesOn};
 ghost use Rattle.protocol.specs.Lists.{ListsAreKept};
 ghost use Rattle.protocol.specs.Deaths.{DeathsAreTold};
+ghost use Rattle.protocol.specs.Applies.{EventsApply};
 
 /// Whatever happens, the points are one legal history of POSIX robust mutexes, which says at each moment what every cell says.
 pub fn history_is_legal()
@@ -38,4 +39,11 @@ pub fn machine_goes_on()
 /// kernel would find at any moment what the thread owns.
 pub fn lists_are_kept()
     ensures { ListsAreKept }
+{}
+
+/// Whatever happens, by what the trace has told so far: a begin by a thread in no call, on a mutex of the layout, is noted as a begin, which is refused only where the thread owns 2,048; a
+/// kill of a thread that lives is noted; a step is an access of its thread where that is in a call, or was killed and not reaped, and sleeps on nothing. Every other event is noted as
+/// nothing, and changes nothing.
+pub fn events_apply()
+    ensures { EventsApply }
 {}

@@ -1,7 +1,7 @@
 //! The protocol of robust mutexes as a pure machine, and what holds of every run of it.
 //!
 //! A state is the words, who sleeps on each, and for each thread the call that it is in. An event begins a call or makes its next access; `specs/`
-//! says what each event does and notes, and a trace is what the notes tell. `history_is_legal`, `trace_is_explained`, `machine_goes_on`
+//! says what each event does and notes, and a trace is what the notes tell. `history_is_legal`, `events_apply`, `trace_is_explained`, `machine_goes_on`
 //! and `lists_are_kept` are the theorems about every run.
 #![tactic(auto)]
 
@@ -12,8 +12,8 @@ mod thread;
 
 pub use event::Event;
 pub use laws::{
-    deaths_are_told, history_is_legal, lists_are_kept, machine_goes_on, no_reaped_owner,
-    trace_is_explained,
+    deaths_are_told, events_apply, history_is_legal, lists_are_kept, machine_goes_on,
+    no_reaped_owner, trace_is_explained,
 };
 pub use note::{Fact, Line, Note};
 pub use thread::{Stage, Thread};

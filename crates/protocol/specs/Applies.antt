@@ -1,0 +1,94 @@
+-- Which events apply, by what the trace has told so far.
+use Rattle.std.specs.Prelude.{ℕ, ◌≡◌, ◌<◌, ◌≤◌, ◌==◌, ◌&&◌, nat_le, false, Option, Some, None, List, [], ◌∷◌, if◌then◌else◌}
+use Rattle.lockword.specs.declared.reply.Reply.{Reply}
+use Rattle.lockword.specs.declared.reply.Reply.TheVariants.{XHELD}
+use Rattle.keys.specs.Layouts.{Layout', IsLayout}
+use Rattle.keys.specs.Histories.{held_by}
+use Rattle.keys.specs.Objects.{acquires}
+use Rattle.mutex.specs.declared.call.Call.{Call}
+use Rattle.mutex.specs.Calls.{mutex_of, operation_of}
+use Rattle.protocol.specs.declared.event.Event.{Event}
+use Rattle.protocol.specs.declared.event.Event.TheVariants as event
+use Rattle.protocol.specs.declared.note.Note.{Note}
+use Rattle.protocol.specs.declared.note.Note.TheVariants.{Nothing, Began, Stepped, Killed, Walked}
+use Rattle.protocol.specs.declared.note.Fact.{Fact}
+use Rattle.protocol.specs.declared.note.Fact.TheVariants.{Begin, Return, Kill, Reap}
+use Rattle.protocol.specs.Machine.{State, start, happens, run, notes, stands_in}
+use Rattle.protocol.specs.Headline.{seen, facts_among}
+
+-- ---- what a trace told of a thread
+
+-- it is in no call; it began one that hasn't returned; it was killed; it was reaped
+pub data Told : Type 0 where
+  AtRest : Told
+  InCall : Told
+  Dead : Told
+  Gone : Told
+
+-- with one fact more
+abbrev pub told_next : ℕ → Told → Fact → Told
+told_next t w (Begin u c) = if u == t then InCall else w
+told_next t w (Return u x) = if u == t then AtRest else w
+told_next t w (Kill u) = if u == t then Dead else w
+told_next t w (Reap u) = if u == t then Gone else w
+told_next t w f = w
+
+abbrev pub told_after : ℕ → Told → List Fact → Told
+told_after t w [] = w
+told_after t w (f ∷ fs) = told_after t (told_next t w f) fs
+
+-- of a thread of which nothing is told it is at rest
+abbrev pub last_told : ℕ → List Note → Told
+last_told t ns = told_after t AtRest (facts_among ns)
+
+-- no kill of it was told
+abbrev pub IsLiving : Told → Type 0
+IsLiving AtRest = Unit {0}
+IsLiving InCall = Unit {0}
+IsLiving w = ⊥
+
+-- it has a next access: its call's, or its walk's
+abbrev pub HasAccess : Told → Type 0
+HasAccess InCall = Unit {0}
+HasAccess Dead = Unit {0}
+HasAccess w = ⊥
+
+-- ---- events
+
+abbrev pub IsThread : Layout' → ℕ → Type 0
+IsThread l t = (1 ≤ t) × (t ≤ l.threads)
+
+abbrev pub IsInNoQueue : State → ℕ → Type 0
+IsInNoQueue s t = (key : ℕ) → stands_in t (s.queues key) ≡ false
+
+-- a begin applies where its thread lives, is in no call, and its mutex is one of the layout; a step where its thread is in a call, or was killed and not reaped, and sleeps on nothing; a kill where its
+-- thread lives
+abbrev pub Applies : Layout' → State → List Note → Event → Type 0
+Applies l s ns (event.Begin t c) = IsThread l t × (mutex_of c < l.mutexes) × (last_told t ns ≡ AtRest)
+Applies l s ns (event.Step t) = IsThread l t × HasAccess (last_told t ns) × IsInNoQueue s t
+Applies l s ns (event.Kill t) = IsThread l t × IsLiving (last_told t ns)
+
+-- a call that takes a mutex is refused at once where its thread owns 2,048
+abbrev pub refusal : Layout' → State → ℕ → Call → Option Reply
+refusal l s t c = if acquires (operation_of c) && nat_le 2048 (held_by t (seen s) l.mutexes) then Some XHELD else None
+
+-- an access of thread t, of its call or of its walk
+abbrev pub IsAccessOf : ℕ → Note → Type 0
+IsAccessOf t (Stepped u point slept woken returned) = u ≡ t
+IsAccessOf t (Walked u death woken reaped) = u ≡ t
+IsAccessOf t n = ⊥
+
+-- an event that applies is noted as what it is
+abbrev pub IsNotedAs : Layout' → State → Event → Note → Type 0
+IsNotedAs l s (event.Begin t c) n = n ≡ Began t c (refusal l s t c)
+IsNotedAs l s (event.Step t) n = IsAccessOf t n
+IsNotedAs l s (event.Kill t) n = n ≡ Killed t
+
+-- of a state that events lead to that were noted so: whatever event comes next, it happens where it applies, and else it does nothing
+pub record NextApplies (l : Layout') (s : State) (ns : List Note) : Type 0 where
+  pub happens_so : (e : Event) → Applies l s ns e → IsNotedAs l s e (happens s e).note
+  pub else_nothing : (e : Event) → ¬ Applies l s ns e → ((happens s e).note ≡ Nothing) × ((happens s e).state ≡ s)
+
+-- whatever happens, with any values of the counters at the beginning
+abbrev pub EventsApply : Type 0
+EventsApply = (l : Layout') (counters : ℕ → ℕ) (events : List Event) → IsLayout l → NextApplies l (run (start l counters) events) (notes (start l counters) events)
