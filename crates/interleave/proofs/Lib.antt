@@ -1,3 +1,4 @@
+mod Freshness
 mod Views
 mod Dying
 mod Reaches

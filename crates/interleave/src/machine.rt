@@ -7,7 +7,7 @@ ghost use Rattle.protocol.specs.Sleepers.{alone, GoesOn};
 ghost use Rattle.protocol.specs.Deaths.{AreMourned};
 ghost use Rattle.protocol.specs.Headline.{seen, NoReapedOwns};
 ghost use Rattle.protocol.specs.Explained.{IsExplained};
-ghost use Rattle.interleave.specs.Notes.{is_nothing};
+ghost use Rattle.interleave.specs.Notes.{is_nothing, are_nothing};
 ghost use Rattle.interleave.specs.Reached.{IsFirst};
 ghost use Rattle.interleave.specs.Reapings.{is_reaped};
 
@@ -189,10 +189,13 @@ impl Machine {
     ///
     /// Threads may be killed at any event. A killed thread's call has no later point. Its death is told, once, of each mutex that it owned when it was killed and has lost since, and of
     /// no other. After each event a thread that was reaped owns no mutex.
+    ///
+    /// The machine is fresh afterwards exactly where it was before, and every event was one that couldn't apply.
     pub fn run(&mut self, alloc: Global, events: &[Event]) -> Result<Trace, NoMem>
         ensures state { OnOk result (state_of self.new ≡ run (state_of self.old) events.now) }
         ensures notes { IfOk result (λ t. t.notes.items ≡ notes (state_of self.old) events.now) }
         ensures numbers { IfOk result (λ t. IsOf self.old.layout t) }
+        ensures fresh { IfOk result (λ t. self.new.fresh ≡ (self.old.fresh && are_nothing t.notes.items)) }
         ensures history { IfOk result (λ t. self.old.fresh ≡ true → AtEachMoment (state_of self.old) events.now t.notes.items) }
         ensures explained { IfOk result (λ t. self.old.fresh ≡ true → IsExplained events.now t.notes.items) }
         ensures goes_on { IfOk result (λ t. (n : ℕ) → GoesOn (run (state_of self.old) (take n events.now))) }

@@ -1,9 +1,11 @@
-use Rattle.std.proofs.Common.{◌≡◌, ◌+◌, ◌++◌, [], ◌∷◌, List, arith, sym, ap, ◌∙◌, subst, take}
+use Rattle.std.proofs.Common.{◌≡◌, ◌+◌, ◌++◌, ◌&&◌, [], ◌∷◌, List, arith, sym, ap, ◌∙◌, subst, take}
 use Rattle.std.proofs.lemmas.List.{take_more, take_all}
 use Rattle.protocol.specs.declared.event.Event.{Event}
 use Rattle.protocol.specs.declared.note.Note.{Note}
 use Rattle.protocol.specs.Machine.{State, happens, run, notes}
+use Rattle.interleave.specs.Notes.{are_nothing}
 use Rattle.interleave.specs.Shown.{state_of}
+use Rattle.interleave.proofs.Freshness.{stays_fresh}
 use Rattle.protocol.specs.Explained.{IsExplained}
 use Rattle.protocol.proofs.Lives.{explained}
 use Rattle.interleave.specs.Reached.{AtEachMoment}
@@ -22,6 +24,7 @@ loop-event-preserved c =
       omega (arith, inv.1, c.push_in_room.ensures.room),
       c.step-note.ensures.state ∙ ap (λ (z : State). (happens z e).state) inv.2 ∙ sym (run-more s (take i es) e) ∙ ap (run s) (sym more),
       c.push_in_room.ensures.items ∙ (λ j. inv.3 j ++ (c.step-note.ensures.note ∙ ap (λ (z : State). (happens z e).note) inv.2) j ∷ []) ∙ sym (notes-more s (take i es) e) ∙ ap (notes s) (sym more),
+      stays_fresh c.args.self.now.fresh c.loop-event.notes.items c.step-note.result _ _ inv.4 c.step-note.ensures.fresh ∙ ap (λ (ns : List Note). c.args.self.now.fresh && are_nothing ns) (sym c.push_in_room.ensures.items),
     )
 
 pub returns-clause-history : goal.returns-clause-history
