@@ -68,6 +68,7 @@ impl CellProgram {
     }
 
     /// Goes on with an answer. One that no such access has counts as `Fault`, after which the call returns `EFAULT`, undecided.
+    #[inline(always)]
     pub fn resume(&mut self, answer: Answer) -> Progress
         requires { IsGoing self.old.row }
         ensures row { self.new ≡ moved self.old (led self.old answer) }

@@ -31,6 +31,7 @@ pub(crate) fn next(cell: u64, row: &ConsistentRow) -> Access
     }
 }
 
+#[inline(always)]
 pub(crate) fn resume(thread: Tid, row: &ConsistentRow, answer: Answer) -> Led
     ensures value { result ≡ consistent_resume thread row.now answer }
     ensures knows { Knows result.row }

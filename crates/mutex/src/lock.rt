@@ -53,6 +53,7 @@ pub(crate) fn next(thread: Tid, cell: u64, row: &LockRow) -> Access
     }
 }
 
+#[inline(always)]
 pub(crate) fn resume(thread: Tid, row: &LockRow, answer: Answer) -> Led
     requires { Knows (Lock row.now) }
     ensures value { result ≡ lock_resume thread row.now answer }

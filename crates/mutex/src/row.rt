@@ -72,6 +72,7 @@ impl Row {
     }
 
     /// Where an answer leads.
+    #[inline(always)]
     pub(crate) fn resume(&self, thread: Tid, answer: Answer) -> Led
         requires { Knows self.now }
         ensures value { result ≡ resume_of thread self.now answer }

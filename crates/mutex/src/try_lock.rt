@@ -9,15 +9,16 @@ use keys::{Access, Answer};
 use lockword::{Cell, Reply, Tid};
 
 /// How many exchanges of one call may meet a changed cell.
-const TRIES: u8 = 4;
+const TRIES: u64 = 4;
 
 /// Where a trylock stands.
 #[derive(Clone, Copy, Debug, PartialEq, Eq)]
 pub enum TryLockRow {
     /// It loads the cell.
     Load,
-    /// It takes the cell, which was unowned and usable when it saw it. So many of its exchanges have failed.
-    Take { seen: Cell, failed: u8 },
+    /// It takes the cell, which was unowned and usable when it saw it. So many of its exchanges have failed: a count as wide as the cell, since a row is moved by value at
+    /// each access, and padding beside a narrower one goes through memory.
+    Take { seen: Cell, failed: u64 },
 }
 
 pub(crate) fn next(thread: Tid, cell: u64, row: &TryLockRow) -> Access
@@ -34,6 +35,7 @@ pub(crate) fn next(thread: Tid, cell: u64, row: &TryLockRow) -> Access
     }
 }
 
+#[inline(always)]
 pub(crate) fn resume(row: &TryLockRow, answer: Answer) -> Led
     requires { Knows (TryLock row.now) }
     ensures value { result ≡ try_resume row.now answer }
@@ -53,7 +55,7 @@ pub(crate) fn resume(row: &TryLockRow, answer: Answer) -> Led
 }
 
 /// Decides on a cell, after so many failed exchanges.
-fn sees(cell: Cell, failed: u8) -> Led
+fn sees(cell: Cell, failed: u64) -> Led
     requires { failed ≤ 4 }
     ensures value { result ≡ try_sees failed cell }
     ensures knows { Knows result.row }

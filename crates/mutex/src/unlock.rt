@@ -38,6 +38,7 @@ pub(crate) fn next(thread: Tid, cell: u64, row: &UnlockRow) -> Access
     }
 }
 
+#[inline(always)]
 pub(crate) fn resume(thread: Tid, row: &UnlockRow, answer: Answer) -> Led
     ensures value { result ≡ unlock_resume thread row.now answer }
     ensures knows { Knows result.row }

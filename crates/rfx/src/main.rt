@@ -5,7 +5,7 @@
 
 use report::{CANNOT_READ, Form, OUT_OF_MEMORY, form_of_words, serve};
 use std::alloc::{AllocError, Global};
-use std::io::{self, BufWriter, Read, Write};
+use std::io::{self, BufWriter, ErrorKind, Read, Write};
 use std::process::ExitCode;
 use std::sync::Wait;
 use std::thread::Threads;
@@ -44,7 +44,14 @@ fn served<T: Threads + Wait + Sync>(
 }
 
 fn run<T: Threads + Wait + Sync>(rt: &HostRuntime, workers: &T) -> io::Result<u8> {
-    let words = words(rt)?;
+    let words = match words(rt) {
+        Ok(words) => words,
+        // a word that isn't UTF-8: no form has one
+        Err(error) if error.kind() == ErrorKind::InvalidData => {
+            return served(rt, workers, &Form::Usage, &mut io::empty());
+        }
+        Err(error) => return Err(error),
+    };
     let words = lent(rt.alloc(), &words)?;
     let Ok(form) = form_of_words(rt.alloc(), &words) else {
         return tell(rt, OUT_OF_MEMORY);
@@ -68,6 +75,7 @@ fn served_file<T: Threads + Wait + Sync>(
     }
     match fs::open(rt, file) {
         Ok(mut input) => served(rt, workers, form, &mut input),
+        Err(error) if error.kind() == ErrorKind::OutOfMemory => Err(error),
         Err(_) => {
             let _ = rt.eprint(format_args!("{CANNOT_READ}{file}\n"));
             Ok(1)

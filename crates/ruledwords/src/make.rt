@@ -39,6 +39,7 @@ impl<M: Making> Play<(), View> for Make<M> {
 
 impl Words {
     /// Makes the call's next access, which is one step on its cell, and gives the word that it found.
+    #[inline(always)]
     pub(crate) fn make<M: Making>(&self, seat: &mut Seat<(), View>, program: &CellProgram) -> u64
         requires table { seat.old.table_id ≡ self.now.table.shared.table_id }
         requires one { IsOne seat.old.me }

@@ -36,6 +36,7 @@ impl Running {
     }
 
     /// Makes the access that comes next, which is one step on the call's cell. Its point, if it is one, is seen.
+    #[inline(always)]
     pub fn access(self, words: &Words) -> Turn
         requires words { IsRunningOf words.now self }
         requires step { IsStep (access_of (running_program self)) }
