@@ -12,10 +12,6 @@ mod bucket;
 mod ring;
 mod row;
 mod sleeper;
-#[cfg(test)]
-mod slow;
-#[cfg(test)]
-mod tests;
 
 pub use batch::Batch;
 pub use bucket::Bucket;

@@ -15,6 +15,3 @@ mod walk;
 pub use laws::{any_answers_end, steps_are_right, walks_are_right, whole_lists_are_treated};
 pub use row::{Part, Rest, Row};
 pub use walk::Walk;
-
-#[cfg(test)]
-mod tests;

@@ -16,6 +16,3 @@ pub use laws::{
 };
 pub use link::{Link, LinkRow};
 pub use unlink::{Unlink, UnlinkRow};
-
-#[cfg(test)]
-mod tests;

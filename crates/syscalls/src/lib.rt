@@ -9,8 +9,6 @@
 mod kernel;
 mod memory;
 mod plain;
-#[cfg(test)]
-mod tests;
 
 pub use kernel::Kernel;
 pub use memory::Memory;

@@ -1,6 +1,6 @@
--- It hasn't returned yet.
+-- It hasn't ended yet.
 use Rattle.robustlist.specs.Link.{LinkGoes}
-use Rattle.robustlist.proofs.tests.a_link_takes_any_other_answer_for_a_fault.Given as goal
+use Rattle.kernel_tests.proofs.links.a_link_takes_any_other_answer_for_a_fault.Given as goal
 
 abbrev pub invariant-loop-answer : goal.invariant-loop-answer
 invariant-loop-answer g l = LinkGoes l.link.row

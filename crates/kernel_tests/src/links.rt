@@ -1,0 +1,197 @@
+//! Links and unlinks over the words of one thread and two mutexes: its head at 1, the mutexes' entries at 5 and 8.
+
+use keys::{Access, Answer, Progress};
+use lockword::Reply;
+use robustlist::{
+    Link, Unlink, chains_are_unique, heads_begin_empty, links_alone, links_are_right,
+    unlinks_alone, unlinks_are_right,
+};
+use std::process::Abort;
+
+const GOES: Progress = Progress::Goes { point: None };
+
+const LINKED: Progress = Progress::Returns {
+    reply: Reply::OK,
+    point: None,
+};
+
+const FAULTED: Progress = Progress::Returns {
+    reply: Reply::EFAULT,
+    point: None,
+};
+
+/// What neither a load nor a store is answered, but for a fault.
+const STRANGE: [Answer; 7] = [
+    Answer::Fault,
+    Answer::Exchanged,
+    Answer::Changed(8),
+    Answer::Again,
+    Answer::Woken,
+    Answer::Count(0),
+    Answer::Counts(0, 0),
+];
+
+/// The right answers of a link that finds the entry at 8 first.
+const LINK: [Answer; 5] = [
+    Answer::Value(8),
+    Answer::Stored,
+    Answer::Stored,
+    Answer::Stored,
+    Answer::Stored,
+];
+
+/// The right answers of an unlink that finds the entry at 8 next.
+const UNLINK: [Answer; 4] = [
+    Answer::Value(8),
+    Answer::Value(1),
+    Answer::Stored,
+    Answer::Stored,
+];
+
+fn load(words: &[u64], at: u64) -> Answer {
+    match words.get(at as usize) {
+        Some(word) => Answer::Value(*word),
+        None => Answer::Fault,
+    }
+}
+
+fn store(words: &mut [u64], at: u64, value: u64) -> Answer {
+    match words.get_mut(at as usize) {
+        Some(word) => {
+            *word = value;
+            Answer::Stored
+        }
+        None => Answer::Fault,
+    }
+}
+
+/// Makes a load or a store on words of which word 0 is none.
+fn make(words: &mut [u64], access: Access) -> Answer {
+    match access {
+        Access::Load { at } if at != 0 => load(words, at),
+        Access::Store { at, value } if at != 0 => store(words, at, value),
+        _ => Answer::Fault,
+    }
+}
+
+/// The link of an entry makes so many accesses, and has this reply.
+fn links(rt: &impl Abort, words: &mut [u64], entry: u64, accesses: u64, reply: Reply) {
+    let mut link = Link::new(1, entry);
+    for made in 1..6_u64 {
+        let answer = make(words, link.next());
+        if let Progress::Returns { reply: told, .. } = link.resume(answer) {
+            assert!(rt; made == accesses);
+            assert!(rt; told == reply);
+            return;
+        }
+    }
+    assert!(rt; false);
+}
+
+/// The unlink of an entry makes so many accesses, and has this reply.
+fn unlinks(rt: &impl Abort, words: &mut [u64], entry: u64, accesses: u64, reply: Reply) {
+    let mut unlink = Unlink::new(1, entry);
+    for made in 1..5_u64 {
+        let answer = make(words, unlink.next());
+        if let Progress::Returns { reply: told, .. } = unlink.resume(answer) {
+            assert!(rt; made == accesses);
+            assert!(rt; told == reply);
+            return;
+        }
+    }
+    assert!(rt; false);
+}
+
+#[test]
+fn two_entries_are_linked_and_the_first_of_them_unlinked(rt: HostRuntime) {
+    let mut words = [0, 1, u64::MAX, 0, 0, 0, 0, 0, 0, 0];
+    links(&rt, &mut words, 5, 4, Reply::OK);
+    assert!(rt; words == [0, 5, u64::MAX, 0, 0, 1, 1, 0, 0, 0]);
+    links(&rt, &mut words, 8, 5, Reply::OK);
+    assert!(rt; words == [0, 8, u64::MAX, 0, 0, 1, 8, 0, 5, 1]);
+    unlinks(&rt, &mut words, 5, 3, Reply::OK);
+    assert!(rt; words == [0, 8, u64::MAX, 0, 0, 1, 8, 0, 1, 1]);
+}
+
+#[test]
+fn the_entry_in_front_is_unlinked(rt: HostRuntime) {
+    let mut words = [0, 8, u64::MAX, 0, 0, 1, 8, 0, 5, 1];
+    unlinks(&rt, &mut words, 8, 4, Reply::OK);
+    assert!(rt; words == [0, 5, u64::MAX, 0, 0, 1, 1, 0, 5, 1]);
+}
+
+#[test]
+fn an_invalid_address_is_told(rt: HostRuntime) {
+    let mut words = [0, 1, u64::MAX, 0];
+    links(&rt, &mut words, u64::MAX, 2, Reply::EFAULT);
+    links(&rt, &mut words, 3, 3, Reply::EFAULT);
+    assert!(rt; words == [0, 1, u64::MAX, 1]);
+    unlinks(&rt, &mut words, 4, 1, Reply::EFAULT);
+    assert!(rt; words == [0, 1, u64::MAX, 1]);
+}
+
+#[test]
+fn addresses_are_summed_in_64_bits(rt: HostRuntime) {
+    let mut link = Link::new(8, u64::MAX);
+    link.resume(Answer::Value(8));
+    link.resume(Answer::Stored);
+    assert!(rt; link.next() == Access::Store { at: 0, value: 8 });
+}
+
+/// What is no answer of the access that this is the right answer of.
+fn crossed(right: Answer) -> Answer {
+    match right {
+        Answer::Value(_) => Answer::Stored,
+        _ => Answer::Value(8),
+    }
+}
+
+#[test]
+fn a_link_takes_any_other_answer_for_a_fault(rt: HostRuntime) {
+    let mut link = Link::new(1, 5);
+    for right in LINK {
+        for answer in STRANGE {
+            let mut other = link;
+            assert!(rt; other.resume(answer) == FAULTED);
+        }
+        let mut other = link;
+        assert!(rt; other.resume(crossed(right)) == FAULTED);
+        let made = link.resume(right);
+        if let Progress::Returns { .. } = made {
+            assert!(rt; made == LINKED);
+            return;
+        }
+        assert!(rt; made == GOES);
+    }
+    assert!(rt; false);
+}
+
+#[test]
+fn an_unlink_takes_any_other_answer_for_a_fault(rt: HostRuntime) {
+    let mut unlink = Unlink::new(1, 5);
+    for right in UNLINK {
+        for answer in STRANGE {
+            let mut other = unlink;
+            assert!(rt; other.resume(answer) == FAULTED);
+        }
+        let mut other = unlink;
+        assert!(rt; other.resume(crossed(right)) == FAULTED);
+        let made = unlink.resume(right);
+        if let Progress::Returns { .. } = made {
+            assert!(rt; made == LINKED);
+            return;
+        }
+        assert!(rt; made == GOES);
+    }
+    assert!(rt; false);
+}
+
+#[test]
+fn laws_can_be_called(_rt: HostRuntime) {
+    chains_are_unique();
+    heads_begin_empty();
+    links_are_right();
+    links_alone();
+    unlinks_are_right();
+    unlinks_alone();
+}

@@ -1,0 +1,525 @@
+//! Walks of thread 1 over small memories, and access by access.
+ghost use Rattle.exitwalk.specs.Walks.{IsGoing};
+
+use crate::batches::thread;
+use exitwalk::{Walk, any_answers_end, steps_are_right, walks_are_right, whole_lists_are_treated};
+use keys::{Access, Answer, Operation, Point, Progress};
+use lockword::{Reply, Tid};
+use std::alloc::Global;
+use std::process::Abort;
+use std::test::Fail;
+
+/// From an entry back to the word before it.
+const BACK: u64 = u64::MAX;
+
+const WAITERS: u64 = 0x8000_0000;
+
+const OWNER_DIED: u64 = 0x4000_0000;
+
+/// What a walk did with words that nobody else changed.
+#[derive(Clone, Copy)]
+struct Done {
+    accesses: u64,
+    /// How many words it marked.
+    marked: u64,
+    /// The address of the last of them; 0 for none.
+    last: u64,
+}
+
+fn load(words: &[u64], at: u64) -> Answer {
+    match words.get(at as usize) {
+        Some(word) => Answer::Value(*word),
+        None => Answer::Fault,
+    }
+}
+
+fn exchange(words: &mut [u64], at: u64, expected: u64, new: u64) -> Answer {
+    match words.get_mut(at as usize) {
+        Some(word) => {
+            let met = *word;
+            if met != expected {
+                return Answer::Changed(met);
+            }
+            *word = new;
+            Answer::Exchanged
+        }
+        None => Answer::Fault,
+    }
+}
+
+/// What a memory answers whose first word is null.
+fn answer(words: &mut [u64], access: Access) -> Answer {
+    match access {
+        Access::Load { at } if at != 0 => load(words, at),
+        Access::Exchange { at, expected, new } if at != 0 => exchange(words, at, expected, new),
+        _ => Answer::Fault,
+    }
+}
+
+fn death(thread: Tid, at: u64) -> Point {
+    Point {
+        thread,
+        at,
+        operation: Operation::Death,
+        reply: Reply::OK,
+    }
+}
+
+/// What was done, and one access more, which was the death of thread 1 where it was anything.
+fn after(rt: &impl Abort, done: Done, point: Option<Point>) -> Done {
+    let accesses = done.accesses.wrapping_add(1);
+    match point {
+        Some(point) => {
+            assert!(rt; point == death(thread(rt, 1), point.at));
+            Done {
+                accesses,
+                marked: done.marked.wrapping_add(1),
+                last: point.at,
+            }
+        }
+        None => Done { accesses, ..done },
+    }
+}
+
+/// Runs a walk to its end.
+fn walked(rt: &impl Abort, words: &mut [u64], head: u64) -> Done {
+    let mut walk = Walk::new(thread(rt, 1), head);
+    let mut done = Done {
+        accesses: 0,
+        marked: 0,
+        last: 0,
+    };
+    for _ in 1..10_248_u64 {
+        let answer = answer(words, walk.next());
+        match walk.resume(answer) {
+            Progress::Goes { point } => done = after(rt, done, point),
+            Progress::Returns { reply, point } => {
+                assert!(rt; reply == Reply::OK);
+                return after(rt, done, point);
+            }
+        }
+    }
+    assert!(rt; false);
+    done
+}
+
+/// The first entry, the offset, how many accesses there are, and what the mutex's word is in the end.
+const SELVES: [(u64, u64, u64, u64); 3] = [
+    (5, BACK, 4_100, OWNER_DIED),
+    (5, 100, 5, 1),
+    (99, BACK, 4, 1),
+];
+
+#[test]
+fn an_entry_may_link_to_itself(rt: HostRuntime) {
+    for (first, offset, accesses, cell) in SELVES {
+        let mut words = [0, first, offset, 0, 1, 5, 0, 0, 0, 0, 0, 0, 0, 0, 0, 0];
+        assert!(rt; walked(&rt, &mut words, 1).accesses == accesses);
+        assert!(rt; words == [0, first, offset, 0, cell, 5, 0, 0, 0, 0, 0, 0, 0, 0, 0, 0]);
+    }
+}
+
+/// A head, and how many accesses there are.
+const HEADS: [(u64, u64); 4] = [(0, 1), (15, 2), (16, 1), (u64::MAX, 1)];
+
+#[test]
+fn a_head_may_be_anywhere(rt: HostRuntime) {
+    for (head, accesses) in HEADS {
+        let mut words = [1_u64; 16];
+        assert!(rt; walked(&rt, &mut words, head).accesses == accesses);
+        assert!(rt; words == [1; 16]);
+    }
+}
+
+/// A list of 2,049 entries, entry i at 2i + 3 and its mutex's word before it, owned by thread 1; and what a walk does with it.
+#[derive(Clone, Copy)]
+struct Long {
+    pending: u64,
+    /// The word of mutex 7, at 16.
+    seventh: u64,
+    accesses: u64,
+    marked: u64,
+    last: u64,
+    /// What the word of the last mutex is in the end.
+    last_word: u64,
+}
+
+const LONG: [Long; 4] = [
+    Long {
+        pending: 0,
+        seventh: 1,
+        accesses: 6_147,
+        marked: 2_048,
+        last: 4_098,
+        last_word: 1,
+    },
+    Long {
+        pending: 4_101,
+        seventh: 1,
+        accesses: 6_149,
+        marked: 2_049,
+        last: 4_100,
+        last_word: OWNER_DIED,
+    },
+    Long {
+        pending: 5,
+        seventh: 1,
+        accesses: 6_147,
+        marked: 2_048,
+        last: 4,
+        last_word: 1,
+    },
+    Long {
+        pending: 0,
+        seventh: 2,
+        accesses: 6_146,
+        marked: 2_047,
+        last: 4_098,
+        last_word: 1,
+    },
+];
+
+/// A word of the list before the walk.
+fn word_before(long: Long, at: u64) -> u64 {
+    match at {
+        0 => 0,
+        1 => 5,
+        2 => BACK,
+        3 => long.pending,
+        16 => long.seventh,
+        4_101 => 1,
+        _ if at % 2 == 0 => 1,
+        _ => at.wrapping_add(2),
+    }
+}
+
+/// The same word after the walk.
+fn word_after(long: Long, at: u64) -> u64 {
+    match at {
+        16 if long.seventh == 2 => 2,
+        4_100 => long.last_word,
+        _ if 4 <= at && at % 2 == 0 => OWNER_DIED,
+        _ => word_before(long, at),
+    }
+}
+
+fn words_before(alloc: Global, long: Long) -> Result<Vec<u64>, Fail> {
+    let mut words = Vec::new(alloc);
+    for at in 0..4_102 {
+        words.push(word_before(long, at))?;
+    }
+    Ok(words)
+}
+
+#[test]
+fn a_list_may_be_too_long(rt: HostRuntime) -> Result<(), Fail> {
+    for long in LONG {
+        let mut words = words_before(rt.alloc(), long)?;
+        let done = walked(&rt, &mut words, 1);
+        assert!(rt; done.accesses == long.accesses);
+        assert!(rt; done.marked == long.marked);
+        assert!(rt; done.last == long.last);
+        for place in 0..words.len() {
+            assert!(rt; words[place] == word_after(long, place as u64));
+        }
+    }
+    Ok(())
+}
+
+/// How far an answer brings a walk.
+#[derive(Clone, Copy)]
+enum Then {
+    /// On.
+    Goes,
+    /// On, by the death of the owner of the word at 7.
+    Dies,
+    /// To its end.
+    Ends,
+    /// To its end, by such a death.
+    DiesAndEnds,
+}
+
+/// An access, the answer that it is given, and where that leads.
+#[derive(Clone, Copy)]
+enum Step {
+    /// The load at an address, of a word.
+    Load(u64, u64, Then),
+    /// The exchange of the word at 7 that was seen as this, for that.
+    Mark(u64, u64, Answer, Then),
+    /// The wake of a sleeper on that word.
+    Wake(Then),
+}
+
+impl Step {
+    fn access(self) -> Access {
+        match self {
+            Step::Load(at, _, _) => Access::Load { at },
+            Step::Mark(expected, new, _, _) => Access::Exchange {
+                at: 7,
+                expected,
+                new,
+            },
+            Step::Wake(_) => Access::Wake { at: 7, most: 1 },
+        }
+    }
+
+    fn answer(self) -> Answer {
+        match self {
+            Step::Load(_, word, _) => Answer::Value(word),
+            Step::Mark(_, _, answer, _) => answer,
+            Step::Wake(_) => Answer::Count(1),
+        }
+    }
+
+    fn then(self) -> Then {
+        match self {
+            Step::Load(_, _, then) | Step::Mark(_, _, _, then) | Step::Wake(then) => then,
+        }
+    }
+}
+
+/// The walk has ended, for no death.
+const END: Progress = Progress::Returns {
+    reply: Reply::OK,
+    point: None,
+};
+
+fn progress(thread: Tid, then: Then) -> Progress {
+    match then {
+        Then::Goes => Progress::Goes { point: None },
+        Then::Dies => Progress::Goes {
+            point: Some(death(thread, 7)),
+        },
+        Then::Ends => END,
+        Then::DiesAndEnds => Progress::Returns {
+            reply: Reply::OK,
+            point: Some(death(thread, 7)),
+        },
+    }
+}
+
+/// The list of one entry at 8, whose mutex's word is at 7, up to the load of that word.
+const TO_THE_LISTED_WORD: [Step; 4] = [
+    Step::Load(1, 8, Then::Goes),
+    Step::Load(2, BACK, Then::Goes),
+    Step::Load(3, 0, Then::Goes),
+    Step::Load(8, 1, Then::Goes),
+];
+
+/// No list, and the pending entry at 8.
+const TO_THE_PENDING_WORD: [Step; 3] = [
+    Step::Load(1, 1, Then::Goes),
+    Step::Load(2, BACK, Then::Goes),
+    Step::Load(3, 8, Then::Goes),
+];
+
+/// The walk of the list whose head is at 1 makes first these accesses and then those, and ends with the last.
+fn takes(rt: &impl Abort, first: &[Step], rest: &[Step]) {
+    let thread = thread(rt, 1);
+    let mut walk = Walk::new(thread, 1);
+    let count = first.len().wrapping_add(rest.len());
+    for index in 0..count {
+        let step = if index < first.len() {
+            first[index]
+        } else {
+            let index = index.wrapping_sub(first.len());
+            assert!(rt; index < rest.len());
+            rest[index]
+        };
+        assert!(rt; walk.next() == step.access());
+        let made = walk.resume(step.answer());
+        assert!(rt; made == progress(thread, step.then()));
+        if let Progress::Returns { .. } = made {
+            assert!(rt; index.wrapping_add(1) == count);
+            return;
+        }
+    }
+    assert!(rt; false);
+}
+
+/// Where the word is that is treated.
+#[derive(Clone, Copy)]
+enum Whose {
+    Listed,
+    Pending,
+    /// First the one and then the other.
+    Either,
+}
+
+/// The walk up to such a word makes these accesses then.
+fn follows(rt: &impl Abort, whose: Whose, steps: &[Step]) {
+    match whose {
+        Whose::Listed => takes(rt, &TO_THE_LISTED_WORD, steps),
+        Whose::Pending => takes(rt, &TO_THE_PENDING_WORD, steps),
+        Whose::Either => {
+            takes(rt, &TO_THE_LISTED_WORD, steps);
+            takes(rt, &TO_THE_PENDING_WORD, steps);
+        }
+    }
+}
+
+/// Bits above the low half.
+const ABOVE: u64 = 5 << 32;
+
+/// A word of thread 1 with no bit of WAITERS, and the same marked.
+const MARKS: [(u64, u64); 3] = [
+    (1, OWNER_DIED),
+    (ABOVE + 1, ABOVE + OWNER_DIED),
+    (OWNER_DIED + 1, OWNER_DIED),
+];
+
+#[test]
+fn a_word_is_marked_and_a_sleeper_is_woken(rt: HostRuntime) {
+    for (word, new) in MARKS {
+        let marked = Step::Mark(word, new, Answer::Exchanged, Then::DiesAndEnds);
+        follows(
+            &rt,
+            Whose::Either,
+            &[Step::Load(7, word, Then::Goes), marked],
+        );
+        let (word, new) = (word | WAITERS, new | WAITERS);
+        let marked = Step::Mark(word, new, Answer::Exchanged, Then::Dies);
+        let woken = Step::Wake(Then::Ends);
+        follows(
+            &rt,
+            Whose::Either,
+            &[Step::Load(7, word, Then::Goes), marked, woken],
+        );
+    }
+}
+
+const OF_OTHERS: [u64; 3] = [2, WAITERS + 2, OWNER_DIED + 3];
+
+const UNOWNED: [u64; 3] = [0, WAITERS, OWNER_DIED];
+
+#[test]
+fn a_word_of_another_owner_is_left_alone(rt: HostRuntime) {
+    for word in OF_OTHERS {
+        follows(&rt, Whose::Either, &[Step::Load(7, word, Then::Ends)]);
+    }
+    for word in UNOWNED {
+        follows(&rt, Whose::Listed, &[Step::Load(7, word, Then::Ends)]);
+        let seen = Step::Load(7, word, Then::Goes);
+        follows(&rt, Whose::Pending, &[seen, Step::Wake(Then::Ends)]);
+    }
+}
+
+/// The load of a word of thread 1.
+const SEEN: Step = Step::Load(7, 1, Then::Goes);
+
+const WAITS: u64 = WAITERS + 1;
+
+/// The first exchange of that word, which found one with WAITERS.
+const WAITERS_CAME: Step = Step::Mark(1, OWNER_DIED, Answer::Changed(WAITS), Then::Goes);
+
+const WAITING_MARKED: u64 = WAITERS + OWNER_DIED;
+
+/// A second exchange, and the wake.
+const MARKED_LATER: [Step; 4] = [
+    SEEN,
+    WAITERS_CAME,
+    Step::Mark(WAITS, WAITING_MARKED, Answer::Exchanged, Then::Dies),
+    Step::Wake(Then::Ends),
+];
+
+/// A second exchange that failed too.
+const MISSED: [Step; 3] = [
+    SEEN,
+    WAITERS_CAME,
+    Step::Mark(WAITS, WAITING_MARKED, Answer::Changed(1), Then::Ends),
+];
+
+/// A first exchange that found another owner.
+const TAKEN: [Step; 2] = [
+    SEEN,
+    Step::Mark(1, OWNER_DIED, Answer::Changed(2), Then::Ends),
+];
+
+/// One that found no owner, at an entry of the list.
+const FREED: [Step; 2] = [
+    SEEN,
+    Step::Mark(1, OWNER_DIED, Answer::Changed(WAITERS), Then::Ends),
+];
+
+/// The same at the pending entry.
+const FREED_PENDING: [Step; 3] = [
+    SEEN,
+    Step::Mark(1, OWNER_DIED, Answer::Changed(WAITERS), Then::Goes),
+    Step::Wake(Then::Ends),
+];
+
+#[test]
+fn a_changed_word_is_looked_at_once(rt: HostRuntime) {
+    follows(&rt, Whose::Either, &MARKED_LATER);
+    follows(&rt, Whose::Either, &MISSED);
+    follows(&rt, Whose::Either, &TAKEN);
+    follows(&rt, Whose::Listed, &FREED);
+    follows(&rt, Whose::Pending, &FREED_PENDING);
+}
+
+/// A walk with an access of each kind.
+const EACH_ACCESS: [Step; 7] = [
+    Step::Load(1, 8, Then::Goes),
+    Step::Load(2, BACK, Then::Goes),
+    Step::Load(3, 0, Then::Goes),
+    Step::Load(8, 1, Then::Goes),
+    Step::Load(7, WAITS, Then::Goes),
+    Step::Mark(WAITS, WAITING_MARKED, Answer::Exchanged, Then::Dies),
+    Step::Wake(Then::Ends),
+];
+
+const ANSWERS: [Answer; 9] = [
+    Answer::Value(1),
+    Answer::Stored,
+    Answer::Exchanged,
+    Answer::Changed(1),
+    Answer::Again,
+    Answer::Woken,
+    Answer::Count(1),
+    Answer::Counts(0, 0),
+    Answer::Fault,
+];
+
+/// The answer is one of such an access.
+fn is_answer_of(step: Step, answer: Answer) -> bool {
+    match answer {
+        Answer::Value(_) => matches!(step, Step::Load(_, _, _)),
+        Answer::Exchanged | Answer::Changed(_) => matches!(step, Step::Mark(_, _, _, _)),
+        Answer::Count(_) => matches!(step, Step::Wake(_)),
+        _ => false,
+    }
+}
+
+/// Any other answer ends the walk.
+fn others_end(rt: &impl Abort, walk: Walk, step: Step)
+    requires { IsGoing walk.row }
+{
+    for answer in ANSWERS {
+        if !is_answer_of(step, answer) {
+            let mut cut = walk;
+            assert!(rt; cut.resume(answer) == END);
+        }
+    }
+}
+
+#[test]
+fn an_answer_of_another_access_ends_the_walk(rt: HostRuntime) {
+    let mut walk = Walk::new(thread(&rt, 1), 1);
+    for step in EACH_ACCESS {
+        assert!(rt; walk.next() == step.access());
+        others_end(&rt, walk, step);
+        if let Progress::Returns { .. } = walk.resume(step.answer()) {
+            assert!(rt; matches!(step, Step::Wake(_)));
+            return;
+        }
+    }
+    assert!(rt; false);
+}
+
+#[test]
+fn laws_can_be_called(_rt: HostRuntime) {
+    walks_are_right();
+    any_answers_end();
+    steps_are_right();
+    whole_lists_are_treated();
+}
