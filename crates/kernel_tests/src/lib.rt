@@ -20,3 +20,5 @@ mod rings;
 mod slow;
 #[cfg(test)]
 mod walks;
+#[cfg(test)]
+mod words;

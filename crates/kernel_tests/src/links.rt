@@ -1,5 +1,6 @@
 //! Links and unlinks over the words of one thread and two mutexes: its head at 1, the mutexes' entries at 5 and 8.
 
+use crate::words::{load, store};
 use keys::{Access, Answer, Progress};
 use lockword::Reply;
 use robustlist::{
@@ -31,39 +32,22 @@ const STRANGE: [Answer; 7] = [
     Answer::Counts(0, 0),
 ];
 
-/// The right answers of a link that finds the entry at 8 first.
-const LINK: [Answer; 5] = [
-    Answer::Value(8),
-    Answer::Stored,
-    Answer::Stored,
-    Answer::Stored,
-    Answer::Stored,
+/// The right answers of a link that finds the entry at 8 first, and beside each one that belongs to the other kind of access.
+const LINK: [(Answer, Answer); 5] = [
+    (Answer::Value(8), Answer::Stored),
+    (Answer::Stored, Answer::Value(8)),
+    (Answer::Stored, Answer::Value(8)),
+    (Answer::Stored, Answer::Value(8)),
+    (Answer::Stored, Answer::Value(8)),
 ];
 
-/// The right answers of an unlink that finds the entry at 8 next.
-const UNLINK: [Answer; 4] = [
-    Answer::Value(8),
-    Answer::Value(1),
-    Answer::Stored,
-    Answer::Stored,
+/// The same of an unlink that finds the entry at 8 next.
+const UNLINK: [(Answer, Answer); 4] = [
+    (Answer::Value(8), Answer::Stored),
+    (Answer::Value(1), Answer::Stored),
+    (Answer::Stored, Answer::Value(8)),
+    (Answer::Stored, Answer::Value(8)),
 ];
-
-fn load(words: &[u64], at: u64) -> Answer {
-    match words.get(at as usize) {
-        Some(word) => Answer::Value(*word),
-        None => Answer::Fault,
-    }
-}
-
-fn store(words: &mut [u64], at: u64, value: u64) -> Answer {
-    match words.get_mut(at as usize) {
-        Some(word) => {
-            *word = value;
-            Answer::Stored
-        }
-        None => Answer::Fault,
-    }
-}
 
 /// Makes a load or a store on words of which word 0 is none.
 fn make(words: &mut [u64], access: Access) -> Answer {
@@ -138,24 +122,16 @@ fn addresses_are_summed_in_64_bits(rt: HostRuntime) {
     assert!(rt; link.next() == Access::Store { at: 0, value: 8 });
 }
 
-/// What is no answer of the access that this is the right answer of.
-fn crossed(right: Answer) -> Answer {
-    match right {
-        Answer::Value(_) => Answer::Stored,
-        _ => Answer::Value(8),
-    }
-}
-
 #[test]
 fn a_link_takes_any_other_answer_for_a_fault(rt: HostRuntime) {
     let mut link = Link::new(1, 5);
-    for right in LINK {
+    for (right, crossed) in LINK {
         for answer in STRANGE {
             let mut other = link;
             assert!(rt; other.resume(answer) == FAULTED);
         }
         let mut other = link;
-        assert!(rt; other.resume(crossed(right)) == FAULTED);
+        assert!(rt; other.resume(crossed) == FAULTED);
         let made = link.resume(right);
         if let Progress::Returns { .. } = made {
             assert!(rt; made == LINKED);
@@ -169,13 +145,13 @@ fn a_link_takes_any_other_answer_for_a_fault(rt: HostRuntime) {
 #[test]
 fn an_unlink_takes_any_other_answer_for_a_fault(rt: HostRuntime) {
     let mut unlink = Unlink::new(1, 5);
-    for right in UNLINK {
+    for (right, crossed) in UNLINK {
         for answer in STRANGE {
             let mut other = unlink;
             assert!(rt; other.resume(answer) == FAULTED);
         }
         let mut other = unlink;
-        assert!(rt; other.resume(crossed(right)) == FAULTED);
+        assert!(rt; other.resume(crossed) == FAULTED);
         let made = unlink.resume(right);
         if let Progress::Returns { .. } = made {
             assert!(rt; made == LINKED);

@@ -2,6 +2,7 @@
 ghost use Rattle.exitwalk.specs.Walks.{IsGoing};
 
 use crate::batches::thread;
+use crate::words::{exchange, load};
 use exitwalk::{Walk, any_answers_end, steps_are_right, walks_are_right, whole_lists_are_treated};
 use keys::{Access, Answer, Operation, Point, Progress};
 use lockword::{Reply, Tid};
@@ -24,27 +25,6 @@ struct Done {
     marked: u64,
     /// The address of the last of them; 0 for none.
     last: u64,
-}
-
-fn load(words: &[u64], at: u64) -> Answer {
-    match words.get(at as usize) {
-        Some(word) => Answer::Value(*word),
-        None => Answer::Fault,
-    }
-}
-
-fn exchange(words: &mut [u64], at: u64, expected: u64, new: u64) -> Answer {
-    match words.get_mut(at as usize) {
-        Some(word) => {
-            let met = *word;
-            if met != expected {
-                return Answer::Changed(met);
-            }
-            *word = new;
-            Answer::Exchanged
-        }
-        None => Answer::Fault,
-    }
 }
 
 /// What a memory answers whose first word is null.
@@ -468,8 +448,8 @@ const EACH_ACCESS: [Step; 7] = [
     Step::Wake(Then::Ends),
 ];
 
-const ANSWERS: [Answer; 9] = [
-    Answer::Value(1),
+/// What is no answer of a load.
+const OTHERS_OF_LOADS: [Answer; 8] = [
     Answer::Stored,
     Answer::Exchanged,
     Answer::Changed(1),
@@ -480,25 +460,47 @@ const ANSWERS: [Answer; 9] = [
     Answer::Fault,
 ];
 
-/// The answer is one of such an access.
-fn is_answer_of(step: Step, answer: Answer) -> bool {
-    match answer {
-        Answer::Value(_) => matches!(step, Step::Load(_, _, _)),
-        Answer::Exchanged | Answer::Changed(_) => matches!(step, Step::Mark(_, _, _, _)),
-        Answer::Count(_) => matches!(step, Step::Wake(_)),
-        _ => false,
+/// What is no answer of an exchange.
+const OTHERS_OF_MARKS: [Answer; 7] = [
+    Answer::Value(1),
+    Answer::Stored,
+    Answer::Again,
+    Answer::Woken,
+    Answer::Count(1),
+    Answer::Counts(0, 0),
+    Answer::Fault,
+];
+
+/// What is no answer of a wake.
+const OTHERS_OF_WAKES: [Answer; 8] = [
+    Answer::Value(1),
+    Answer::Stored,
+    Answer::Exchanged,
+    Answer::Changed(1),
+    Answer::Again,
+    Answer::Woken,
+    Answer::Counts(0, 0),
+    Answer::Fault,
+];
+
+/// Each of these answers ends the walk.
+fn end(rt: &impl Abort, walk: Walk, answers: &[Answer])
+    requires { IsGoing walk.row }
+{
+    for answer in answers {
+        let mut cut = walk;
+        assert!(rt; cut.resume(*answer) == END);
     }
 }
 
-/// Any other answer ends the walk.
+/// Any answer of another access ends the walk.
 fn others_end(rt: &impl Abort, walk: Walk, step: Step)
     requires { IsGoing walk.row }
 {
-    for answer in ANSWERS {
-        if !is_answer_of(step, answer) {
-            let mut cut = walk;
-            assert!(rt; cut.resume(answer) == END);
-        }
+    match step {
+        Step::Load(_, _, _) => end(rt, walk, &OTHERS_OF_LOADS),
+        Step::Mark(_, _, _, _) => end(rt, walk, &OTHERS_OF_MARKS),
+        Step::Wake(_) => end(rt, walk, &OTHERS_OF_WAKES),
     }
 }
 
