@@ -29,6 +29,3 @@ pub use program::CondProgram;
 pub use row::{CondLed, CondRow, Decided};
 pub use signal::SignalRow;
 pub use wait::WaitRow;
-
-#[cfg(test)]
-mod tests;

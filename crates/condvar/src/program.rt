@@ -2,7 +2,9 @@
 ghost use Rattle.std.specs.Prelude.{◌≡◌, ◌<◌, ◌≤◌, length};
 ghost use Rattle.condvar.specs.Calls.{condition_of};
 ghost use Rattle.condvar.specs.Programs.{short_started};
-ghost use Rattle.condvar.specs.Whole.{progress_in, PhaseKnows};
+ghost use Rattle.condvar.specs.Whole.{progress_in, onward, unlinked, from_lock, PhaseKnows};
+ghost use Rattle.mutex.specs.Whole as mutex;
+ghost use Rattle.robustlist.specs.Unlink.{unlink_moved, UnlinkGoes};
 
 use crate::call::CondCall;
 use crate::cell_program::{CondCellProgram, point};
@@ -41,7 +43,7 @@ impl Model for CondProgram {
 }
 
 impl CondProgram {
-    ghost use Rattle.condvar.specs.Whole.{begins, cond_access, cond_led, cond_moved, cond_progress, from_words, IsUnderWay};
+    ghost use Rattle.condvar.specs.Whole.{begins, cond_access, cond_led, cond_moved, cond_progress, from_words, phase_led, IsUnderWay};
 
     /// A call of a thread. What it may be refused for is seen in the mutex's cell and in the counter.
     pub fn new(layout: &Layout, thread: Tid, call: CondCall) -> CondProgram
@@ -113,34 +115,24 @@ impl CondProgram {
     {
         match self.phase {
             CondPhase::AtWords(row) => self.from_words(row.resume(self.thread, answer)),
-            CondPhase::Announcing { seen } => match answer {
-                Answer::Stored => CondOnward::to(CondPhase::Unlinking {
-                    unlink: Unlink::new(self.head, self.entry),
-                    seen,
-                }),
-                _ => CondOnward::faults(),
-            },
-            CondPhase::Unlinking { mut unlink, seen } => match unlink.resume(answer) {
-                Progress::Goes { .. } => CondOnward::to(CondPhase::Unlinking { unlink, seen }),
-                Progress::Returns {
-                    reply: Reply::OK,
-                    ..
-                } => {
-                    CondOnward::to(CondPhase::AtWords(CondRow::Wait(WaitRow::Release { seen })))
-                }
-                Progress::Returns { .. } => CondOnward::faults(),
-            },
-            CondPhase::Locking(mut lock) => match lock.resume(answer) {
-                Progress::Goes { point } => CondOnward {
-                    phase: CondPhase::Locking(lock),
-                    point,
-                },
-                Progress::Returns { reply, point } => CondOnward {
-                    phase: CondPhase::Ended(reply),
-                    point,
-                },
-            },
+            CondPhase::Announcing { seen } => self.from_announcing(seen, answer),
+            CondPhase::Unlinking { unlink, seen } => from_unlink(unlink, seen, answer),
+            CondPhase::Locking(lock) => from_lock(lock, answer),
             CondPhase::Ended(reply) => CondOnward::to(CondPhase::Ended(reply)),
+        }
+    }
+
+    /// Where a wait goes once its entry is pending: it takes the entry out of the list.
+    fn from_announcing(&self, seen: u32, answer: Answer) -> CondOnward
+        ensures value { result ≡ phase_led self.now (CondPhase.Announcing seen) answer }
+        ensures knows { PhaseKnows result.phase }
+    {
+        match answer {
+            Answer::Stored => CondOnward::to(CondPhase::Unlinking {
+                unlink: Unlink::new(self.head, self.entry),
+                seen,
+            }),
+            _ => CondOnward::faults(),
         }
     }
 
@@ -164,6 +156,40 @@ impl CondProgram {
             phase,
             point: point(self.thread, self.cell, led.decided),
         }
+    }
+}
+
+/// Where an answer leads an unlink: the wait is to release its mutex once the unlink has returned.
+fn from_unlink(mut unlink: Unlink, seen: u32, answer: Answer) -> CondOnward
+    requires { UnlinkGoes unlink.row }
+    ensures value { result ≡ onward (unlinked (unlink_moved unlink answer) seen) }
+    ensures knows { PhaseKnows result.phase }
+{
+    match unlink.resume(answer) {
+        Progress::Goes { .. } => CondOnward::to(CondPhase::Unlinking { unlink, seen }),
+        Progress::Returns {
+            reply: Reply::OK,
+            ..
+        } => CondOnward::to(CondPhase::AtWords(CondRow::Wait(WaitRow::Release { seen }))),
+        Progress::Returns { .. } => CondOnward::faults(),
+    }
+}
+
+/// Where an answer leads the lock that ends a wait: the wait returns when it does, and its points are the lock's.
+fn from_lock(mut lock: Program, answer: Answer) -> CondOnward
+    requires { mutex.IsUnderWay lock.phase }
+    ensures value { result ≡ from_lock (mutex.whole_moved lock (mutex.whole_led lock answer)) (mutex.whole_progress lock (mutex.whole_led lock answer)) }
+    ensures knows { PhaseKnows result.phase }
+{
+    match lock.resume(answer) {
+        Progress::Goes { point } => CondOnward {
+            phase: CondPhase::Locking(lock),
+            point,
+        },
+        Progress::Returns { reply, point } => CondOnward {
+            phase: CondPhase::Ended(reply),
+            point,
+        },
     }
 }
 

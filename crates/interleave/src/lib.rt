@@ -15,6 +15,3 @@ mod trace;
 
 pub use machine::Machine;
 pub use trace::Trace;
-
-#[cfg(test)]
-mod tests;

@@ -148,14 +148,18 @@ unlinked_at u r d = Unlinking u d
 abbrev pub unlinked : UnlinkStanding → Bool → Phase
 unlinked u d = unlinked_at u u.row d
 
+-- from a store
+abbrev pub once_stored : Phase → Answer → Onward
+once_stored f Stored = onward f
+once_stored f a = faulted
+
 abbrev pub phase_led : Whole → Phase → Answer → Onward
-phase_led p (Announcing r) Stored = onward (announced p r)
+phase_led p (Announcing r) a = once_stored (announced p r) a
 phase_led p (AtCell r) a = from_cell p (resume_of p.thread r a)
 phase_led p (Linking l x) a = onward (linked x (link_moved l a))
 phase_led p (Unlinking u d) a = onward (unlinked (unlink_moved u a) d)
-phase_led p (Clearing x) Stored = onward (Ended x)
+phase_led p (Clearing x) a = once_stored (Ended x) a
 phase_led p (Ended x) a = onward (Ended x)
-phase_led p f a = faulted
 
 abbrev pub whole_led : Whole → Answer → Onward
 whole_led p a = phase_led p p.phase a

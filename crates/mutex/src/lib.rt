@@ -27,6 +27,3 @@ pub use program::Program;
 pub use row::{Led, Row};
 pub use try_lock::TryLockRow;
 pub use unlock::UnlockRow;
-
-#[cfg(test)]
-mod tests;

@@ -60,22 +60,9 @@ pub(crate) fn resume(thread: Tid, row: &LockRow, answer: Answer) -> Led
     ensures knows { Knows result.row }
 {
     match *row {
-        LockRow::Load => match answer {
-            Answer::Value(word) => sees(thread, Cell::new(word)),
-            _ => Led::faults(),
-        },
-        LockRow::Take { seen } => match answer {
-            Answer::Exchanged => Led::ends(acquired(seen)),
-            Answer::Changed(word) => sees(thread, Cell::new(word)),
-            _ => Led::faults(),
-        },
-        LockRow::SetWaiters { seen } => match answer {
-            Answer::Exchanged => Led::goes(Row::Lock(LockRow::Sleep {
-                seen: seen.waiting(),
-            })),
-            Answer::Changed(word) => sees(thread, Cell::new(word)),
-            _ => Led::faults(),
-        },
+        LockRow::Load => from_load(thread, answer),
+        LockRow::Take { seen } => from_take(thread, seen, answer),
+        LockRow::SetWaiters { seen } => from_set_waiters(thread, seen, answer),
         LockRow::Sleep { .. } => match answer {
             Answer::Again | Answer::Woken => Led::goes(Row::Lock(LockRow::Load)),
             _ => Led::faults(),
@@ -84,6 +71,43 @@ pub(crate) fn resume(thread: Tid, row: &LockRow, answer: Answer) -> Led
             Answer::Count(_) => Led::goes(Row::Ended(Reply::ENOTRECOVERABLE)),
             _ => Led::faults(),
         },
+    }
+}
+
+fn from_load(thread: Tid, answer: Answer) -> Led
+    ensures value { result ≡ lock_resume thread LockRow.Load answer }
+    ensures knows { Knows result.row }
+{
+    match answer {
+        Answer::Value(word) => sees(thread, Cell::new(word)),
+        _ => Led::faults(),
+    }
+}
+
+/// Where the exchange leads that takes the cell that was seen.
+fn from_take(thread: Tid, seen: Cell, answer: Answer) -> Led
+    ensures value { result ≡ lock_resume thread (LockRow.Take seen) answer }
+    ensures knows { Knows result.row }
+{
+    match answer {
+        Answer::Exchanged => Led::ends(acquired(seen)),
+        Answer::Changed(word) => sees(thread, Cell::new(word)),
+        _ => Led::faults(),
+    }
+}
+
+/// Where the exchange leads that sets WAITERS in the cell that was seen.
+fn from_set_waiters(thread: Tid, seen: Cell, answer: Answer) -> Led
+    requires { Knows (Lock (LockRow.SetWaiters seen)) }
+    ensures value { result ≡ lock_resume thread (LockRow.SetWaiters seen) answer }
+    ensures knows { Knows result.row }
+{
+    match answer {
+        Answer::Exchanged => Led::goes(Row::Lock(LockRow::Sleep {
+            seen: seen.waiting(),
+        })),
+        Answer::Changed(word) => sees(thread, Cell::new(word)),
+        _ => Led::faults(),
     }
 }
 

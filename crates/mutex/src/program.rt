@@ -3,7 +3,9 @@ ghost use Rattle.std.specs.Prelude.{◌≡◌, ◌<◌, ◌≤◌, ◌&&◌, nat
 ghost use Rattle.keys.specs.Objects.{acquires};
 ghost use Rattle.mutex.specs.Calls.{mutex_of, operation_of};
 ghost use Rattle.mutex.specs.Programs.{started};
-ghost use Rattle.mutex.specs.Whole.{first_phase, progress_in, PhaseKnows};
+ghost use Rattle.mutex.specs.Whole.{first_phase, progress_in, onward, once_stored, linked, unlinked, PhaseKnows};
+ghost use Rattle.robustlist.specs.Link.{link_moved, LinkGoes};
+ghost use Rattle.robustlist.specs.Unlink.{unlink_moved, UnlinkGoes};
 
 use crate::call::Call;
 use crate::cell_program::CellProgram;
@@ -44,7 +46,7 @@ impl Model for Program {
 impl Program {
     ghost use Rattle.mutex.specs.Rows.{Knows};
     ghost use Rattle.mutex.specs.declared.phase.Phase.TheVariants.{AtCell};
-    ghost use Rattle.mutex.specs.Whole.{whole_started, retaking, whole_access, whole_led, whole_moved, whole_point, whole_progress, announced, from_cell, after_cell, leaving, linked, unlinked, IsUnderWay, PhaseKnows};
+    ghost use Rattle.mutex.specs.Whole.{whole_started, retaking, whole_access, whole_led, whole_moved, whole_point, whole_progress, announced, from_cell, after_cell, leaving, IsUnderWay, PhaseKnows};
 
     /// A call of a thread that holds so many mutexes. A lock or trylock by a thread that holds 2,048 is refused with `XHELD` before any access.
     pub fn new(layout: &Layout, thread: Tid, held: u16, call: Call) -> Result<Program, Reply>
@@ -154,31 +156,11 @@ impl Program {
         ensures knows { PhaseKnows result.phase }
     {
         match self.phase {
-            Phase::Announcing { next } => match answer {
-                Answer::Stored => Onward::to(self.announced(next)),
-                _ => Onward::faults(),
-            },
+            Phase::Announcing { next } => stored(self.announced(next), answer),
             Phase::AtCell(row) => self.from_cell(row.resume(self.thread, answer)),
-            Phase::Linking { mut link, reply } => match link.resume(answer) {
-                Progress::Goes { .. } => Onward::to(Phase::Linking { link, reply }),
-                Progress::Returns {
-                    reply: Reply::OK,
-                    ..
-                } => Onward::to(Phase::Clearing { reply }),
-                Progress::Returns { .. } => Onward::faults(),
-            },
-            Phase::Unlinking { mut unlink, died } => match unlink.resume(answer) {
-                Progress::Goes { .. } => Onward::to(Phase::Unlinking { unlink, died }),
-                Progress::Returns {
-                    reply: Reply::OK,
-                    ..
-                } => { Onward::to(Phase::AtCell(Row::Unlock(UnlockRow::Release { died }))) }
-                Progress::Returns { .. } => Onward::faults(),
-            },
-            Phase::Clearing { reply } => match answer {
-                Answer::Stored => Onward::to(Phase::Ended(reply)),
-                _ => Onward::faults(),
-            },
+            Phase::Linking { link, reply } => from_link(link, reply, answer),
+            Phase::Unlinking { unlink, died } => from_unlink(unlink, died, answer),
+            Phase::Clearing { reply } => stored(Phase::Ended(reply), answer),
             Phase::Ended(reply) => Onward::to(Phase::Ended(reply)),
         }
     }
@@ -234,6 +216,50 @@ impl Program {
             (Operation::Unlock, Reply::OK) => Phase::Clearing { reply },
             _ => Phase::Ended(reply),
         }
+    }
+}
+
+/// Where the answer of a store leads: on to a phase, once it is stored.
+fn stored(phase: Phase, answer: Answer) -> Onward
+    requires { PhaseKnows phase }
+    ensures value { result ≡ once_stored phase answer }
+    ensures knows { PhaseKnows result.phase }
+{
+    match answer {
+        Answer::Stored => Onward::to(phase),
+        _ => Onward::faults(),
+    }
+}
+
+/// Where an answer leads a link: the mutex is on the list, with the reply of its taking, once the link has returned.
+fn from_link(mut link: Link, reply: Reply, answer: Answer) -> Onward
+    requires { LinkGoes link.row }
+    ensures value { result ≡ onward (linked reply (link_moved link answer)) }
+    ensures knows { PhaseKnows result.phase }
+{
+    match link.resume(answer) {
+        Progress::Goes { .. } => Onward::to(Phase::Linking { link, reply }),
+        Progress::Returns {
+            reply: Reply::OK,
+            ..
+        } => Onward::to(Phase::Clearing { reply }),
+        Progress::Returns { .. } => Onward::faults(),
+    }
+}
+
+/// Where an answer leads an unlink: the mutex is to be released, in which OWNER_DIED is as noted, once the unlink has returned.
+fn from_unlink(mut unlink: Unlink, died: bool, answer: Answer) -> Onward
+    requires { UnlinkGoes unlink.row }
+    ensures value { result ≡ onward (unlinked (unlink_moved unlink answer) died) }
+    ensures knows { PhaseKnows result.phase }
+{
+    match unlink.resume(answer) {
+        Progress::Goes { .. } => Onward::to(Phase::Unlinking { unlink, died }),
+        Progress::Returns {
+            reply: Reply::OK,
+            ..
+        } => Onward::to(Phase::AtCell(Row::Unlock(UnlockRow::Release { died }))),
+        Progress::Returns { .. } => Onward::faults(),
     }
 }
 

@@ -1,0 +1,139 @@
+//! Calls on a condition variable over a plain list of words: thread 2 alone, that owns mutex 1.
+
+use crate::condition_calls::call;
+use condvar::CondProgram;
+use keys::Operation::{Broadcast, Signal, Wait};
+use keys::{Access, Answer, Layout, Operation, Progress};
+use lockword::Reply::{self, EPERM, OK, XFULL, XSTATE};
+use lockword::Tid;
+use std::test::Fail;
+
+/// The words where the mutex's cell and the counter are so: each head leads to itself, but thread 2's to its mutex's entry.
+fn held(cell: u64, counter: u64) -> [u64; 15] {
+    [0, 1, 0, 0, 11, 0, 0, 0, 0, 0, cell, 4, 4, 0, counter]
+}
+
+/// An access to a word that is so: what it is answered, and the word afterwards. Nobody sleeps; whoever falls asleep is woken at once.
+fn access_to(word: u64, access: Access) -> (Answer, u64) {
+    match access {
+        Access::Load { .. } => (Answer::Value(word), word),
+        Access::Store { value, .. } => (Answer::Stored, value),
+        Access::Exchange { expected, new, .. } => {
+            if word == expected {
+                (Answer::Exchanged, new)
+            } else {
+                (Answer::Changed(word), word)
+            }
+        }
+        Access::FetchXor { operand, .. } => (Answer::Value(word), word ^ operand),
+        Access::FetchOr { operand, .. } => (Answer::Value(word), word | operand),
+        Access::FetchAdd { operand, .. } => (Answer::Value(word), word.wrapping_add(operand)),
+        Access::Wait { expected, .. } => (slept(word, expected, Answer::Woken), word),
+        Access::Wake { .. } => (Answer::Count(0), word),
+        Access::CmpRequeue { expected, .. } => (slept(word, expected, Answer::Counts(0, 0)), word),
+        Access::FetchAnd { .. } | Access::Requeue { .. } => (Answer::Fault, word),
+    }
+}
+
+/// The answer where the word is the expected one; else that it differs.
+fn slept(word: u64, expected: u32, answer: Answer) -> Answer {
+    if word == u64::from(expected) {
+        answer
+    } else {
+        Answer::Again
+    }
+}
+
+fn address_of(access: Access) -> u64 {
+    match access {
+        Access::Load { at }
+        | Access::Store { at, .. }
+        | Access::Exchange { at, .. }
+        | Access::FetchXor { at, .. }
+        | Access::FetchOr { at, .. }
+        | Access::FetchAnd { at, .. }
+        | Access::FetchAdd { at, .. }
+        | Access::Wait { at, .. }
+        | Access::Wake { at, .. } => at,
+        Access::Requeue { from, .. } | Access::CmpRequeue { from, .. } => from,
+    }
+}
+
+/// Makes an access on words of which word 0 is none.
+fn make(words: &mut [u64], access: Access) -> Answer {
+    let at = address_of(access) as usize;
+    if at == 0 || words.len() <= at {
+        return Answer::Fault;
+    }
+    let (answer, word) = access_to(words[at], access);
+    words[at] = word;
+    answer
+}
+
+/// Runs a call of thread 2 to its return, or to where it is about to sleep where that is wanted, and tells the accesses before that and the reply.
+fn runs(
+    words: &mut [u64],
+    operation: Operation,
+    asleep: bool,
+) -> Result<(u64, Option<Reply>), Fail> {
+    let thread = Tid::new(2).ok_or("no thread 2")?;
+    let layout = Layout::new(2, 2, &[0, 1])?;
+    let mut program = CondProgram::new(&layout, thread, call(operation));
+    for accesses in 0..32_u64 {
+        let access = program.next();
+        if asleep && matches!(access, Access::Wait { .. }) {
+            return Ok((accesses, None));
+        }
+        if let Progress::Returns { reply, .. } = program.resume(make(words, access)) {
+            return Ok((accesses + 1, Some(reply)));
+        }
+    }
+    Err("the call didn't return")?
+}
+
+/// The words, of which the cell and the counter are so, lead the call to its return with this reply after so many accesses, and leave the cell and the counter so, and all others
+/// as they were.
+fn leaves(
+    (cell, counter): (u64, u64),
+    operation: Operation,
+    accesses: u64,
+    reply: Reply,
+    (new_cell, new_counter): (u64, u64),
+) -> Result<bool, Fail> {
+    let mut words = held(cell, counter);
+    let ran = runs(&mut words, operation, false)?;
+    Ok(ran == (accesses, Some(reply)) && words == held(new_cell, new_counter))
+}
+
+#[test]
+fn the_entry_is_pending_while_a_wait_sleeps(rt: HostRuntime) -> Result<(), Fail> {
+    let mut words = held(2, 5);
+    assert!(rt; runs(&mut words, Wait, true)? == (7, None));
+    assert!(rt; words == [0, 1, 0, 0, 4, 0, 11, 0, 0, 0, 0, 4, 4, 0, 5]);
+    Ok(())
+}
+
+#[test]
+fn a_wait_that_was_woken_has_its_mutex_again(rt: HostRuntime) -> Result<(), Fail> {
+    assert!(rt; leaves((2, 5), Wait, 15, OK, (2, 5))?);
+    let inconsistent = (0x4000_0002, 5);
+    assert!(rt; leaves(inconsistent, Wait, 1, XSTATE, inconsistent)?);
+    Ok(())
+}
+
+#[test]
+fn a_signal_leaves_the_cell_and_a_broadcast_sets_waiters(rt: HostRuntime) -> Result<(), Fail> {
+    assert!(rt; leaves((2, 5), Signal, 4, OK, (2, 6))?);
+    assert!(rt; leaves((2, 6), Broadcast, 5, OK, (0x8000_0002, 7))?);
+    Ok(())
+}
+
+#[test]
+fn a_refused_call_changes_nothing(rt: HostRuntime) -> Result<(), Fail> {
+    for operation in [Signal, Broadcast] {
+        let full = (2, 0xffff_ffff);
+        assert!(rt; leaves(full, operation, 2, XFULL, full)?);
+        assert!(rt; leaves((1, 5), operation, 1, EPERM, (1, 5))?);
+    }
+    Ok(())
+}

@@ -1,0 +1,238 @@
+//! Small machines, with their words and notes worked out by hand.
+
+use crate::machine_rows::Does::{Begins, Steps};
+use crate::machine_rows::Noted::{Any, Began, Decides, Ends, Goes, Nothing, Returns};
+use crate::machine_rows::Standing::{Awake, Resting};
+use crate::machine_rows::{
+    Noted, Row, TRY_LOCK, UNLOCK, first_owner, goes_through, gone_through, has_words, is_noted,
+    machine, play, standing_of, thread,
+};
+use interleave::{Machine, Trace};
+use keys::Operation::{TryLock, Unlock};
+use lockword::Reply::{EBUSY, EPERM, OK};
+use lockword::Tid;
+use mutex::Call;
+use protocol::Event;
+use std::test::Fail;
+
+#[test]
+fn a_new_machine_has_empty_lists_and_free_mutexes(rt: HostRuntime) -> Result<(), Fail> {
+    let one = machine(rt.alloc(), 1, 1, &[])?;
+    assert!(rt; has_words(&one, &[1, u64::MAX, 0, 0, 0, 0]));
+    assert!(rt; one.word(u64::MAX).is_none() && first_owner(&one).is_none());
+    Ok(())
+}
+
+#[test]
+fn a_new_machine_has_each_thread_head(rt: HostRuntime) -> Result<(), Fail> {
+    let two = machine(rt.alloc(), 2, 1, &[0])?;
+    assert!(rt; has_words(&two, &[1, u64::MAX, 0, 4, u64::MAX, 0, 0, 0, 0, 0]));
+    assert!(rt; two.layout().threads() == 2);
+    Ok(())
+}
+
+/// An event, of which the first has number 1, where a call begins, is decided, or returns.
+const NOTES: [(usize, Noted); 8] = [
+    (1, Began(UNLOCK)),
+    (2, Ends(Unlock, EPERM)),
+    (6, Decides(TryLock, OK)),
+    (11, Returns(OK)),
+    (14, Decides(TryLock, EBUSY)),
+    (15, Returns(EBUSY)),
+    (22, Decides(Unlock, OK)),
+    (23, Returns(OK)),
+];
+
+fn notes_are(trace: &Trace, thread: Tid) -> bool {
+    for (event, noted) in NOTES {
+        let is_so = match trace.notes.get(event.wrapping_sub(1)) {
+            Some(note) => is_noted(thread, noted, note),
+            None => false,
+        };
+        if !is_so {
+            return false;
+        }
+    }
+    (trace.threads, trace.mutexes, trace.conditions) == (1, 1, 0) && trace.notes.len() == 23
+}
+
+/// Thread 1 unlocks a mutex that it doesn't own, takes it, tries to take it again, and releases it.
+fn four_calls(one: Tid) -> [Event; 23] {
+    let mut events = [Event::Step(one); 23];
+    events[0] = Event::Begin(one, UNLOCK);
+    events[2] = Event::Begin(one, TRY_LOCK);
+    events[11] = Event::Begin(one, TRY_LOCK);
+    events[15] = Event::Begin(one, UNLOCK);
+    events
+}
+
+#[test]
+fn a_run_notes_every_event(rt: HostRuntime) -> Result<(), Fail> {
+    let one = thread(1)?;
+    let mut machine = machine(rt.alloc(), 1, 1, &[])?;
+    let trace = machine.run(rt.alloc(), &four_calls(one))?;
+    assert!(rt; notes_are(&trace, one));
+    assert!(rt; first_owner(&machine).is_none());
+    assert!(rt; has_words(&machine, &[1, u64::MAX, 0, 0, 1, 1]));
+    Ok(())
+}
+
+/// The machine's words after each access of a trylock.
+const TAKING: [[u64; 6]; 8] = [
+    [1, u64::MAX, 5, 0, 0, 0],
+    [1, u64::MAX, 5, 0, 0, 0],
+    [1, u64::MAX, 5, 1, 0, 0],
+    [1, u64::MAX, 5, 1, 0, 0],
+    [1, u64::MAX, 5, 1, 1, 0],
+    [1, u64::MAX, 5, 1, 1, 1],
+    [5, u64::MAX, 5, 1, 1, 1],
+    [5, u64::MAX, 0, 1, 1, 1],
+];
+
+/// The same of an unlock.
+const RELEASING: [[u64; 6]; 7] = [
+    [5, u64::MAX, 0, 1, 1, 1],
+    [5, u64::MAX, 5, 1, 1, 1],
+    [5, u64::MAX, 5, 1, 1, 1],
+    [5, u64::MAX, 5, 1, 1, 1],
+    [1, u64::MAX, 5, 1, 1, 1],
+    [1, u64::MAX, 5, 0, 1, 1],
+    [1, u64::MAX, 0, 0, 1, 1],
+];
+
+/// Whether the thread's call makes so many accesses as there are rows, and leaves these words after each.
+fn leaves(machine: &mut Machine, thread: Tid, call: Call, rows: &[[u64; 6]]) -> bool {
+    let _ = machine.step(Event::Begin(thread, call));
+    for words in rows {
+        if !machine.busy(thread) {
+            return false;
+        }
+        let _ = machine.step(Event::Step(thread));
+        if !has_words(machine, words) {
+            return false;
+        }
+    }
+    !machine.busy(thread)
+}
+
+/// The entry is pending from the call's first access on, is put in front of the list once the mutex is taken, and is no longer pending when the call returns.
+#[test]
+fn a_trylock_links_the_mutex_that_it_took(rt: HostRuntime) -> Result<(), Fail> {
+    let one = thread(1)?;
+    let mut machine = machine(rt.alloc(), 1, 1, &[])?;
+    assert!(rt; leaves(&mut machine, one, TRY_LOCK, &TAKING));
+    assert!(rt; first_owner(&machine) == Some(one));
+    Ok(())
+}
+
+/// An unlock that sees that the mutex is its thread's makes the entry pending, takes it out of the list, and then releases the mutex.
+#[test]
+fn an_unlock_unlinks_the_mutex_before_its_release(rt: HostRuntime) -> Result<(), Fail> {
+    let one = thread(1)?;
+    let mut machine = machine(rt.alloc(), 1, 1, &[])?;
+    play(&mut machine, one, TRY_LOCK, 8);
+    assert!(rt; leaves(&mut machine, one, UNLOCK, &RELEASING));
+    Ok(())
+}
+
+/// A call, its accesses, and the words that it leaves.
+const ON_ONE_LIST: [(Call, u32, [u64; 9]); 4] = [
+    (Call::Lock(0), 8, [5, u64::MAX, 0, 1, 1, 1, 0, 0, 0]),
+    (Call::Lock(1), 9, [8, u64::MAX, 0, 1, 1, 8, 1, 5, 1]),
+    (Call::Unlock(0), 7, [8, u64::MAX, 0, 0, 1, 8, 1, 1, 1]),
+    (Call::Unlock(1), 7, [1, u64::MAX, 0, 0, 1, 8, 0, 1, 1]),
+];
+
+/// Whether the thread's calls leave these words.
+fn calls_leave(machine: &mut Machine, thread: Tid, calls: &[(Call, u32, [u64; 9])]) -> bool {
+    for (call, accesses, words) in calls {
+        play(machine, thread, *call, *accesses);
+        if machine.busy(thread) || !has_words(machine, words) {
+            return false;
+        }
+    }
+    true
+}
+
+/// The newest mutex stands in front. One that is released keeps its links, and those beside it point past it.
+#[test]
+fn a_thread_has_its_mutexes_on_one_list(rt: HostRuntime) -> Result<(), Fail> {
+    let one = thread(1)?;
+    let mut machine = machine(rt.alloc(), 1, 2, &[])?;
+    assert!(rt; calls_leave(&mut machine, one, &ON_ONE_LIST));
+    Ok(())
+}
+
+const NONE_APPLIES: [Row; 4] = [
+    Row(Steps(1), Nothing, Resting, Resting),
+    Row(Steps(2), Nothing, Resting, Resting),
+    Row(Begins(2, TRY_LOCK), Nothing, Resting, Resting),
+    Row(Begins(1, Call::TryLock(1)), Nothing, Resting, Resting),
+];
+
+const BEGINS: [Row; 1] = [Row(Begins(1, TRY_LOCK), Began(TRY_LOCK), Awake, Resting)];
+
+const IN_A_CALL: [Row; 6] = [
+    Row(Begins(1, TRY_LOCK), Began(TRY_LOCK), Awake, Resting),
+    Row(Begins(1, UNLOCK), Nothing, Awake, Resting),
+    Row(Steps(1), Goes, Awake, Resting),
+    Row(Begins(1, TRY_LOCK), Nothing, Awake, Resting),
+    Row(Steps(1), Goes, Awake, Resting),
+    Row(Steps(1), Decides(TryLock, OK), Awake, Resting),
+];
+
+/// Whether nothing has happened to a machine of one thread and one mutex.
+fn is_untouched(machine: &Machine) -> bool {
+    machine.fresh() && has_words(machine, &[1, u64::MAX, 0, 0, 0, 0])
+}
+
+/// Whether each of the events leaves the machine so.
+fn stays_untouched(machine: &mut Machine, rows: &[Row]) -> Result<bool, Fail> {
+    for row in rows {
+        if !goes_through(machine, &[*row])? || !is_untouched(machine) {
+            return Ok(false);
+        }
+    }
+    Ok(true)
+}
+
+#[test]
+fn an_event_that_cannot_apply_does_nothing(rt: HostRuntime) -> Result<(), Fail> {
+    let mut machine = machine(rt.alloc(), 1, 1, &[])?;
+    assert!(rt; stays_untouched(&mut machine, &NONE_APPLIES)?);
+    Ok(())
+}
+
+#[test]
+fn a_thread_in_a_call_begins_no_other(rt: HostRuntime) -> Result<(), Fail> {
+    assert!(rt; !gone_through(rt.alloc(), 1, &BEGINS)?.fresh());
+    assert!(rt; !gone_through(rt.alloc(), 1, &IN_A_CALL)?.fresh());
+    Ok(())
+}
+
+#[test]
+fn a_counter_is_preset(rt: HostRuntime) -> Result<(), Fail> {
+    let mut machine = machine(rt.alloc(), 1, 1, &[0])?;
+    assert!(rt; machine.layout().conditions() == 1);
+    assert!(rt; machine.fresh());
+    machine.preset(0, u32::MAX);
+    assert!(rt; machine.fresh());
+    assert!(rt; has_words(&machine, &[1, u64::MAX, 0, 0, 0, 0, 0xffff_ffff]));
+    Ok(())
+}
+
+const BUSY: [Row; 5] = [
+    Row(Steps(1), Any, Resting, Resting),
+    Row(Begins(1, UNLOCK), Any, Awake, Resting),
+    Row(Steps(1), Any, Resting, Resting),
+    Row(Begins(1, TRY_LOCK), Any, Awake, Resting),
+    Row(Steps(1), Any, Awake, Resting),
+];
+
+#[test]
+fn a_thread_is_busy_in_its_call(rt: HostRuntime) -> Result<(), Fail> {
+    let unknown = thread(64)?;
+    let machine = gone_through(rt.alloc(), 2, &BUSY)?;
+    assert!(rt; standing_of(&machine, unknown) == Resting);
+    Ok(())
+}

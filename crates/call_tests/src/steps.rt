@@ -1,0 +1,198 @@
+//! Calls of thread 2 on mutex 1 of a small layout, and on condition variable 1, which keeps that mutex: what each access is answered, and where that leads. The mutex's cell is at 10,
+//! its entry at 11 and 12, the counter at 14, the thread's head at 4, its pending entry at 6.
+ghost use Rattle.call_tests.specs.Calls.{GoesOn};
+
+use condvar::{CondCellProgram, CondProgram};
+use keys::{Access, Answer, Operation, Point, Progress};
+use lockword::{Reply, Tid};
+use mutex::{CellProgram, Program};
+
+/// An access and its answer.
+#[derive(Clone, Copy)]
+pub(crate) enum Made {
+    /// It loads the word at an address, which is so.
+    Loads(u64, u64),
+    /// It stores a word at an address.
+    Stores(u64, u64),
+    /// Its exchange of a cell for a new one succeeds.
+    Exchanges(u64, u64),
+    /// Its exchange of a cell for a new one finds another.
+    Finds(u64, u64, u64),
+    /// It flips these bits of this cell.
+    Flips(u64, u64),
+    /// It sleeps at an address, expecting this low half, and is answered.
+    Sleeps(u64, u32, Answer),
+    /// It wakes so many at an address, at most, and so many were woken.
+    Wakes(u64, u32, u32),
+    /// Any access, and its answer.
+    Is(Access, Answer),
+}
+
+/// How far an answer brings a call.
+#[derive(Clone, Copy)]
+pub(crate) enum Then {
+    /// On, with no point.
+    Goes,
+    /// On, this access being a point.
+    Decides(Operation, Reply),
+    /// To its return, this access being a point.
+    Ends(Operation, Reply),
+    /// To its return, with no point.
+    Returns(Reply),
+}
+
+/// An access, the answer that it is given, and where that leads.
+#[derive(Clone, Copy)]
+pub(crate) struct Step(pub Made, pub Then);
+
+/// Every kind of answer.
+pub(crate) const ANSWERS: [Answer; 9] = [
+    Answer::Value(0),
+    Answer::Stored,
+    Answer::Exchanged,
+    Answer::Changed(0),
+    Answer::Again,
+    Answer::Woken,
+    Answer::Count(1),
+    Answer::Counts(0, 0),
+    Answer::Fault,
+];
+
+/// A call in progress.
+pub(crate) trait Stepping {
+    ghost is_under_way: { Self → Type 0 };
+
+    fn access(&self) -> Access
+        requires { is_under_way self.now };
+
+    fn answered(&mut self, answer: Answer) -> Progress
+        requires { is_under_way self.old }
+        ensures { GoesOn result (is_under_way self.new) };
+}
+
+impl Stepping for CellProgram {
+    ghost use Rattle.mutex.specs.Rows.{IsGoing};
+
+    ghost is_under_way = { λ p. IsGoing p.row };
+
+    fn access(&self) -> Access {
+        self.next()
+    }
+
+    fn answered(&mut self, answer: Answer) -> Progress {
+        self.resume(answer)
+    }
+}
+
+impl Stepping for Program {
+    ghost use Rattle.mutex.specs.Whole.{IsUnderWay};
+
+    ghost is_under_way = { λ p. IsUnderWay p.phase };
+
+    fn access(&self) -> Access {
+        self.next()
+    }
+
+    fn answered(&mut self, answer: Answer) -> Progress {
+        self.resume(answer)
+    }
+}
+
+impl Stepping for CondCellProgram {
+    ghost use Rattle.condvar.specs.Programs.{IsShortUnderWay};
+
+    ghost is_under_way = { λ p. IsShortUnderWay p.phase };
+
+    fn access(&self) -> Access {
+        self.next()
+    }
+
+    fn answered(&mut self, answer: Answer) -> Progress {
+        self.resume(answer)
+    }
+}
+
+impl Stepping for CondProgram {
+    ghost use Rattle.condvar.specs.Whole.{IsUnderWay};
+
+    ghost is_under_way = { λ p. IsUnderWay p.phase };
+
+    fn access(&self) -> Access {
+        self.next()
+    }
+
+    fn answered(&mut self, answer: Answer) -> Progress {
+        self.resume(answer)
+    }
+}
+
+fn access_of(made: Made) -> Access {
+    match made {
+        Made::Loads(at, _) => Access::Load { at },
+        Made::Stores(at, value) => Access::Store { at, value },
+        Made::Exchanges(expected, new) | Made::Finds(expected, new, _) => Access::Exchange {
+            at: 10,
+            expected,
+            new,
+        },
+        Made::Flips(operand, _) => Access::FetchXor { at: 10, operand },
+        Made::Sleeps(at, expected, _) => Access::Wait { at, expected },
+        Made::Wakes(at, most, _) => Access::Wake { at, most },
+        Made::Is(access, _) => access,
+    }
+}
+
+fn answer_of(made: Made) -> Answer {
+    match made {
+        Made::Loads(_, word) | Made::Flips(_, word) => Answer::Value(word),
+        Made::Stores(_, _) => Answer::Stored,
+        Made::Exchanges(_, _) => Answer::Exchanged,
+        Made::Finds(_, _, found) => Answer::Changed(found),
+        Made::Wakes(_, _, woken) => Answer::Count(woken),
+        Made::Sleeps(_, _, answer) | Made::Is(_, answer) => answer,
+    }
+}
+
+fn progress_of(thread: Tid, then: Then) -> Progress {
+    match then {
+        Then::Goes => Progress::Goes { point: None },
+        Then::Decides(operation, reply) => Progress::Goes {
+            point: Some(point(thread, operation, reply)),
+        },
+        Then::Ends(operation, reply) => Progress::Returns {
+            reply,
+            point: Some(point(thread, operation, reply)),
+        },
+        Then::Returns(reply) => Progress::Returns { reply, point: None },
+    }
+}
+
+fn point(thread: Tid, operation: Operation, reply: Reply) -> Point {
+    Point {
+        thread,
+        at: 10,
+        operation,
+        reply,
+    }
+}
+
+/// Whether the thread's call makes these accesses, in these parts, each of which leads where it says, and has returned after them.
+pub(crate) fn makes<P: Stepping + Drop>(mut program: P, thread: Tid, parts: &[&[Step]]) -> bool
+    requires { P.is_under_way program }
+{
+    for part in parts {
+        for &Step(made, then) in *part {
+            if program.access() != access_of(made) {
+                return false;
+            }
+            let progress = program.answered(answer_of(made));
+            if progress != progress_of(thread, then) {
+                return false;
+            }
+            if let Progress::Returns { .. } = progress {
+                return true;
+            }
+        }
+    }
+    false
+}
