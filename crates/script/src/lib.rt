@@ -26,12 +26,3 @@ pub use parsed::Script;
 pub use player::play;
 pub use reading::parse;
 pub use workload::{Job, Jobs, Phase};
-
-#[cfg(test)]
-mod many_tests;
-#[cfg(test)]
-mod play_tests;
-#[cfg(test)]
-mod tests;
-#[cfg(test)]
-mod thread_tests;

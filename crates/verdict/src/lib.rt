@@ -22,6 +22,3 @@ mod words;
 pub use checking::{Verdict, check};
 pub use fault::{Fault, TraceFault};
 pub use limits::{MAX_BYTES, MAX_CONDITIONS, MAX_EVENTS, MAX_MUTEXES, MAX_THREADS};
-
-#[cfg(test)]
-mod tests;

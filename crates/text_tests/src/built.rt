@@ -1,0 +1,20 @@
+//! Texts that tests put together.
+
+use std::alloc::{AllocError, Global};
+
+/// The three, one behind the other.
+pub fn joined(alloc: Global, front: &str, middle: &str, end: &str) -> Result<String, AllocError> {
+    let mut text = String::from_str(alloc, front)?;
+    text.push_str(middle)?;
+    text.push_str(end)?;
+    Ok(text)
+}
+
+/// As many copies of the piece.
+pub fn repeated(alloc: Global, piece: &str, times: usize) -> Result<String, AllocError> {
+    let mut text = String::new(alloc);
+    for _ in 0..times {
+        text.push_str(piece)?;
+    }
+    Ok(text)
+}

@@ -1,0 +1,119 @@
+//! Scripts that are played, with how many events each runs, counted by hand.
+
+use crate::built::joined;
+use interleave::Trace;
+use script::{Mode, parse, play};
+use std::alloc::{AllocError, Global};
+use std::test::Fail;
+
+/// Whether one thread and one mutex were played for 24 events.
+fn is_played(trace: &Trace) -> bool {
+    trace.threads == 1 && trace.mutexes == 1 && trace.conditions == 0 && trace.notes.len() == 24
+}
+
+/// One mutex is refused, taken, refused and released by one thread, in 23 events; the last step finds it idle.
+#[test]
+fn played(rt: HostRuntime) -> Result<(), Fail> {
+    let text =
+        b"thread a\nmutex m\ncall a unlock m\ncall a trylock m\ncall a trylock m\nbegin a unlock m\nstep a 8\n";
+    let script = parse(rt.alloc(), text, Mode::Run)?;
+    let (trace, machine) = play(rt.alloc(), &script)?;
+    assert!(rt; is_played(&trace));
+    assert!(rt; machine.owner(0).is_none());
+    Ok(())
+}
+
+/// How many events a script runs, or the number of its fault and its line.
+pub type Played = Result<usize, (u8, usize)>;
+
+pub fn playing(alloc: Global, text: &str, mode: Mode) -> Played {
+    let script = match parse(alloc, text.as_bytes(), mode) {
+        Ok(script) => script,
+        Err(refused) => return Err((refused.fault.number(), refused.line)),
+    };
+    match play(alloc, &script) {
+        Ok((trace, _machine)) => Ok(trace.notes.len()),
+        Err(refused) => Err((refused.fault.number(), refused.line)),
+    }
+}
+
+/// The place of the first commands behind these declarations that run otherwise.
+fn first_wrong(
+    alloc: Global,
+    declarations: &str,
+    cases: &[(&str, Played)],
+) -> Result<Option<usize>, AllocError> {
+    for (place, (commands, want)) in cases.iter().enumerate() {
+        let text = joined(alloc, declarations, *commands, "")?;
+        if playing(alloc, text.as_str(), Mode::Run) != *want {
+            return Ok(Some(place));
+        }
+    }
+    Ok(None)
+}
+
+/// A trylock that takes its thread's first mutex has nine events: its begin, three accesses to the pending entry and the cell, four that link the entry, and one
+/// that clears it. An unlock has eight.
+static TOO_MANY_EVENTS: [(&str, Played); 12] = [
+    ("", Ok(0)),
+    ("call a trylock m\n", Ok(9)),
+    ("call a trylock m\ncall a unlock m\n", Ok(17)),
+    ("step a 100000\n", Ok(100_000)),
+    ("step a 100000\n\nstep a 1\n", Err((5, 5))),
+    ("step a 100000\nstep a 1\n", Err((5, 4))),
+    ("step a 99991\nlocks a m 1\n", Ok(100_000)),
+    ("step a 99992\nlocks a m 1\n", Err((5, 4))),
+    ("step a 99998\ncall a unlock m\n", Ok(100_000)),
+    ("step a 99999\nbegin a unlock m\n", Ok(100_000)),
+    ("step a 99999\ncall a unlock m\n", Err((5, 4))),
+    (
+        "step a 100000\nbegin a unlock m\n# no more\nstep a 1\n",
+        Err((5, 4)),
+    ),
+];
+
+#[test]
+fn too_many_events(rt: HostRuntime) -> Result<(), Fail> {
+    let declarations = "thread a\nmutex m\n";
+    assert!(rt; first_wrong(rt.alloc(), declarations, &TOO_MANY_EVENTS)?.is_none());
+    Ok(())
+}
+
+/// Counted by hand. A lock that takes its thread's first mutex has nine events, and ten where the thread has one. A walk has three, three more for
+/// each mutex of the list, and one for a pending entry whose mutex another owns. A lock of a mutex that another owns sleeps after five.
+static EVENTS: [(&str, Played); 9] = [
+    ("go a\n", Ok(0)),
+    ("locks a m0 3\n", Ok(29)),
+    ("locks a m1 2\nkill a\ngo a\n", Ok(29)),
+    ("kill a\nkill a\ngo a\ngo a\n", Ok(5)),
+    ("begin a lock m0\nstep a 2\ngo a\ngo a\n", Ok(9)),
+    ("call a lock m0\ncall b lock m0\ngo b\n", Ok(14)),
+    ("call a lock m0\ncall b lock m0\nkill b\ngo b\n", Ok(19)),
+    (
+        "call a lock m0\ncall b lock m0\ncall a unlock m0\ngo b\n",
+        Ok(30),
+    ),
+    (
+        "call a lock m0\nkill a\ngo a\ncall b lock m0\ncall b consistent m0\n",
+        Ok(28),
+    ),
+];
+
+#[test]
+fn events(rt: HostRuntime) -> Result<(), Fail> {
+    let declarations = "thread a\nthread b\nmutexes m 3\n";
+    assert!(rt; first_wrong(rt.alloc(), declarations, &EVENTS)?.is_none());
+    Ok(())
+}
+
+/// Passes too where any one allocation fails: memory for the machine is wanted at line 1, and for notes at a command.
+#[test]
+fn memory_in_play(rt: HostRuntime) {
+    let text = "thread a\nmutex m\n# played\ncall a trylock m\nstep a 40\n";
+    match playing(rt.alloc(), text, Mode::Run) {
+        Ok(events) => assert!(rt; events == 49),
+        Err((fault, line)) => {
+            assert!(rt; fault == 6 && line != 0 && line != 3 && line < 6);
+        }
+    }
+}

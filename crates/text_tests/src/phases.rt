@@ -1,0 +1,225 @@
+//! Scripts for real threads, with the fault that each is refused for, and what each thread does in each phase, written out by hand.
+
+use crate::built::joined;
+use crate::events::playing;
+use crate::faults::{Refusal, Scripts, refusal};
+use mutex::Call;
+use script::{Mode, Phase, jobs, parse};
+use std::alloc::Global;
+use std::test::Fail;
+
+/// A line stands third in a script of its own, behind a thread `a` and a mutex `m`.
+const THIRD: Scripts = Scripts {
+    mode: Mode::Threads,
+    front: "thread a\nmutex m\n",
+    end: "\n",
+};
+
+/// Third lines.
+static LINES: [(&str, Refusal); 33] = [
+    ("", None),
+    ("# phase", None),
+    ("phase", None),
+    ("call a trylock m", None),
+    ("call a unlock m", None),
+    ("thread b", None),
+    ("phase ", Some((2, 3))),
+    (" phase", Some((2, 3))),
+    ("phase a", Some((2, 3))),
+    ("Phase", Some((2, 3))),
+    ("phases", Some((2, 3))),
+    ("call b trylock m", Some((4, 3))),
+    ("call a unlock n", Some((4, 3))),
+    ("call B trylock m", Some((2, 3))),
+    ("call a lock m", None),
+    ("call a consistent m", None),
+    ("call b consistent m", Some((4, 3))),
+    ("call a lock m0", Some((4, 3))),
+    ("call a trylock", Some((2, 3))),
+    ("begin a trylock m", Some((2, 3))),
+    ("begin b trylock m", Some((2, 3))),
+    ("step a 1", Some((2, 3))),
+    ("step a 0", Some((2, 3))),
+    ("kill a", Some((2, 3))),
+    ("go a", Some((2, 3))),
+    ("locks a m 1", Some((2, 3))),
+    ("die a 4", Some((2, 3))),
+    ("thread a", Some((4, 3))),
+    ("mutex n", None),
+    ("mutex m", Some((4, 3))),
+    ("mutexes m 4095", None),
+    ("mutexes m 4096", Some((3, 3))),
+    ("mutexes n 0", Some((3, 3))),
+];
+
+#[test]
+fn lines(rt: HostRuntime) -> Result<(), Fail> {
+    assert!(rt; THIRD.first_wrong(rt.alloc(), &LINES)?.is_none());
+    Ok(())
+}
+
+const WHOLE: Scripts = Scripts {
+    mode: Mode::Threads,
+    front: "",
+    end: "",
+};
+
+/// Whole scripts.
+static SCRIPTS: [(&str, Refusal); 8] = [
+    ("", Some((3, 1))),
+    ("phase\n", Some((3, 2))),
+    ("thread a\nphase\n", Some((3, 3))),
+    ("thread a\nphase\nmutex m\n", Some((2, 3))),
+    ("thread a\nmutex m\nphase\nthread b\n", Some((2, 4))),
+    ("thread a\nmutex m\nphase", Some((2, 3))),
+    ("thread a\nmutex m\nphase\nphase\n", None),
+    (
+        "thread a\nmutex m\ncall b unlock m\nbegin a unlock m\n",
+        Some((4, 3)),
+    ),
+];
+
+#[test]
+fn scripts(rt: HostRuntime) -> Result<(), Fail> {
+    assert!(rt; WHOLE.first_wrong(rt.alloc(), &SCRIPTS)?.is_none());
+    let bytes = b"phase\n#\n\xff\n";
+    assert!(rt; refusal(rt.alloc(), bytes, Mode::Threads) == Some((1, 3)));
+    Ok(())
+}
+
+/// A phase is a script's line for real threads alone.
+#[test]
+fn phase_in_a_run(rt: HostRuntime) {
+    let text = b"thread a\nmutex m\nphase\n";
+    assert!(rt; refusal(rt.alloc(), text, Mode::Run) == Some((2, 3)));
+}
+
+const LOCK: Call = Call::Lock(0);
+
+const TRY_LOCK: Call = Call::TryLock(0);
+
+const UNLOCK: Call = Call::Unlock(0);
+
+const CONSISTENT: Call = Call::Consistent(0);
+
+/// A job: the number of its thread, and its calls.
+type Calls = (u8, &'static [Call]);
+
+fn has_jobs(phase: &Phase, want: &[Calls]) -> bool {
+    if phase.jobs.len() != want.len() {
+        return false;
+    }
+    for (job, (thread, calls)) in phase.jobs.iter().zip(want) {
+        if job.thread.get() != *thread || job.calls.as_slice() != *calls {
+            return false;
+        }
+    }
+    true
+}
+
+fn has_phases(phases: &[Phase], want: &[&[Calls]]) -> bool {
+    if phases.len() != want.len() {
+        return false;
+    }
+    for (phase, jobs) in phases.iter().zip(want) {
+        if !has_jobs(phase, *jobs) {
+            return false;
+        }
+    }
+    true
+}
+
+/// Whether a script asks for these phases.
+fn asks_for(alloc: Global, text: &str, mode: Mode, want: &[&[Calls]]) -> Result<bool, Fail> {
+    let script = parse(alloc, text.as_bytes(), mode)?;
+    let jobs = jobs(alloc, &script)?;
+    Ok(has_phases(&jobs.phases, want))
+}
+
+/// The commands of three threads, and the phases that they ask for.
+static PHASES: [(&str, &[&[Calls]]); 6] = [
+    ("", &[&[]]),
+    ("phase\n", &[&[], &[]]),
+    (
+        "call c trylock m\ncall a unlock m\n# c again\ncall c unlock m\nphase\nphase\ncall b trylock m\nphase\n",
+        &[
+            &[(1, &[UNLOCK]), (3, &[TRY_LOCK, UNLOCK])],
+            &[],
+            &[(2, &[TRY_LOCK])],
+            &[],
+        ],
+    ),
+    (
+        "call a trylock m\nphase\ncall b trylock m\nphase\ncall a unlock m\nphase\ncall b trylock m\n",
+        &[
+            &[(1, &[TRY_LOCK])],
+            &[(2, &[TRY_LOCK])],
+            &[(1, &[UNLOCK])],
+            &[(2, &[TRY_LOCK])],
+        ],
+    ),
+    (
+        "call b unlock m\ncall a trylock m\ncall b trylock m\ncall b trylock m\n",
+        &[&[(1, &[TRY_LOCK]), (2, &[UNLOCK, TRY_LOCK, TRY_LOCK])]],
+    ),
+    (
+        "call b lock m\ncall b consistent m\nphase\ncall a lock m\n",
+        &[&[(2, &[LOCK, CONSISTENT])], &[(1, &[LOCK])]],
+    ),
+];
+
+/// The place of the first commands that ask for other phases.
+fn first_wrong(alloc: Global) -> Result<Option<usize>, Fail> {
+    for (place, (commands, want)) in PHASES.iter().enumerate() {
+        let text = joined(
+            alloc,
+            "thread a\nthread b\nthread c\nmutex m\n",
+            *commands,
+            "",
+        )?;
+        if !asks_for(alloc, text.as_str(), Mode::Threads, *want)? {
+            return Ok(Some(place));
+        }
+    }
+    Ok(None)
+}
+
+#[test]
+fn phases(rt: HostRuntime) -> Result<(), Fail> {
+    assert!(rt; first_wrong(rt.alloc())?.is_none());
+    Ok(())
+}
+
+/// What only the machine runs asks for nothing of real threads, and the end of a phase for nothing of the machine.
+#[test]
+fn other_modes(rt: HostRuntime) -> Result<(), Fail> {
+    let run = "thread a\nmutex m\nbegin a trylock m\nstep a 2\ncall a unlock m\n";
+    assert!(rt; asks_for(rt.alloc(), run, Mode::Run, &[&[(1, &[UNLOCK])]])?);
+    let threads = "thread a\nmutex m\ncall a trylock m\nphase\nphase\ncall a unlock m\n";
+    assert!(rt; playing(rt.alloc(), threads, Mode::Threads) == Ok(17));
+    Ok(())
+}
+
+/// How many phases a script for real threads has, or the number of its fault and its line.
+fn phases_of(alloc: Global, text: &[u8]) -> Result<usize, (u8, usize)> {
+    let script = match parse(alloc, text, Mode::Threads) {
+        Ok(script) => script,
+        Err(refused) => return Err((refused.fault.number(), refused.line)),
+    };
+    match jobs(alloc, &script) {
+        Ok(jobs) => Ok(jobs.phases.len()),
+        Err(refused) => Err((refused.fault.number(), refused.line)),
+    }
+}
+
+/// Passes too where any one allocation fails: the answer is then fault 6, at a line that says something or, once the script is read, at line 1.
+#[test]
+fn memory(rt: HostRuntime) {
+    let text = b"thread a\n#\nmutex m\ncall a trylock m\nphase\ncall a unlock m\n";
+    match phases_of(rt.alloc(), text) {
+        Ok(phases) => assert!(rt; phases == 2),
+        Err((fault, line)) => {
+            assert!(rt; fault == 6 && line != 0 && line != 2 && line < 7);
+        }
+    }
+}

@@ -1,0 +1,460 @@
+//! Traces with the answer that each gets, written out by hand from the format.
+
+use crate::built::joined;
+use std::alloc::{AllocError, Global};
+use std::test::Fail;
+use verdict::{Fault, MAX_BYTES, TraceFault, Verdict, check};
+
+/// What is answered to a trace.
+#[derive(Clone, Copy, Debug, PartialEq, Eq)]
+enum Answer {
+    /// With so many points.
+    Legal(usize),
+    /// At this line.
+    Illegal(usize),
+    /// The number of a fault, and its line.
+    Refused(u8, usize),
+}
+
+use Answer::{Illegal, Legal, Refused};
+
+fn answered(alloc: Global, bytes: &[u8]) -> Answer {
+    match check(alloc, bytes) {
+        Ok(Verdict::Legal { points }) => Legal(points),
+        Ok(Verdict::Illegal { line }) => Illegal(line),
+        Err(refused) => Refused(refused.fault.number(), refused.line),
+    }
+}
+
+/// The place of the first text that is answered otherwise.
+fn first_wrong(alloc: Global, cases: &[(&str, Answer)]) -> Option<usize> {
+    for (place, (text, want)) in cases.iter().enumerate() {
+        if answered(alloc, text.as_bytes()) != *want {
+            return Some(place);
+        }
+    }
+    None
+}
+
+/// The answer to a trace of two threads, two mutexes and a condition variable, with these lines behind the first.
+fn answer_behind(alloc: Global, behind: &str) -> Result<Answer, AllocError> {
+    let text = joined(alloc, "trace 2 2 1\n", behind, "\n")?;
+    Ok(answered(alloc, text.as_bytes()))
+}
+
+/// The place of the first such trace that is answered otherwise.
+fn first_wrong_behind(
+    alloc: Global,
+    cases: &[(&str, Answer)],
+) -> Result<Option<usize>, AllocError> {
+    for (place, (behind, want)) in cases.iter().enumerate() {
+        if answer_behind(alloc, *behind)? != *want {
+            return Ok(Some(place));
+        }
+    }
+    Ok(None)
+}
+
+/// The place of the first such trace that is answered otherwise than this.
+fn first_answered_otherwise(
+    alloc: Global,
+    want: Answer,
+    cases: &[&str],
+) -> Result<Option<usize>, AllocError> {
+    for (place, behind) in cases.iter().enumerate() {
+        if answer_behind(alloc, *behind)? != want {
+            return Ok(Some(place));
+        }
+    }
+    Ok(None)
+}
+
+/// A lock and an unlock of one thread.
+const LOCK_AND_UNLOCK: &str =
+    "trace 1 1 0\n1 begin t1 lock m0\n4 point t1 m0 lock OK\n9 return t1 OK\n10 begin t1 unlock m0\n16 point t1 m0 unlock OK\n17 return t1 OK\nend 17\n";
+
+/// Whole traces.
+static WORKED_TRACES: [(&str, Answer); 7] = [
+    (LOCK_AND_UNLOCK, Legal(2)),
+    ("trace 1 1 0\nend 0\n", Legal(0)),
+    ("trace 1 1 0\nend 100000\n", Legal(0)),
+    ("trace 1 1 0\n1 return t1 OK\nend 1\n", Illegal(2)),
+    ("trace 1 1 0\n5 kill t1\nend 4\n", Illegal(3)),
+    (
+        "trace 1 1 0\n1 begin t1 lock m0\n4 point t1 m0 lock OK\n9 return t1 OK\n10 begin t1 unlock m0\n16 point t1 m0 unlock EPERM\n17 return t1 OK\nend 17\n",
+        Illegal(6),
+    ),
+    (
+        "trace 1 1 0\n1 begin t1 lock m0\n4 point t1 m0 lock OK\n9 return t1 OK\n10 begin t1 unlock m0\n16 point t1 m0 unlock OK\n17 return t1 OK\n",
+        Refused(5, 8),
+    ),
+];
+
+#[test]
+fn worked_traces(rt: HostRuntime) {
+    assert!(rt; first_wrong(rt.alloc(), &WORKED_TRACES).is_none());
+}
+
+/// Passes too where any one allocation fails: the answer is then want of memory at line 1.
+#[test]
+fn memory_is_wanted_at_line_1(rt: HostRuntime) {
+    let answer = answered(rt.alloc(), LOCK_AND_UNLOCK.as_bytes());
+    assert!(rt; answer == Legal(2) || answer == Refused(6, 1));
+}
+
+/// The first length below the whole at which the trace, cut there, is answered otherwise: its last line is no line, unless a line feed or nothing stands before
+/// the cut, where the trace has no end.
+fn first_wrong_cut(alloc: Global) -> Option<usize> {
+    let bytes = LOCK_AND_UNLOCK.as_bytes();
+    let mut line: usize = 1;
+    let mut fault = 5;
+    for (length, byte) in bytes.iter().enumerate() {
+        let front = bytes.get(..length).unwrap_or(b"");
+        if answered(alloc, front) != Refused(fault, line) {
+            return Some(length);
+        }
+        fault = 2;
+        if *byte == b'\n' {
+            fault = 5;
+            line = line.saturating_add(1);
+        }
+    }
+    None
+}
+
+#[test]
+fn lock_and_unlock_cut_at_each_byte(rt: HostRuntime) {
+    assert!(rt; first_wrong_cut(rt.alloc()).is_none());
+}
+
+/// What threads that are killed leave.
+static DEATHS: [(&str, Answer); 11] = [
+    // A whole call, then a death, a new owner, and a call that declares the mutex consistent.
+    (
+        "1 begin t1 lock m0\n4 point t1 m0 lock OK\n9 return t1 OK\n10 kill t1\n16 death t1 m0\n16 reaped t1\n17 begin t2 lock m0\n20 point t2 m0 lock EOWNERDEAD\n25 return t2 EOWNERDEAD\n26 begin t2 consistent m0\n28 point t2 m0 consistent OK\n28 return t2 OK\n29 begin t2 unlock m0\n35 point t2 m0 unlock OK\n36 return t2 OK\n37 begin t2 lock m0\n40 point t2 m0 lock OK\n45 return t2 OK\nend 45",
+        Legal(5),
+    ),
+    // Killed behind the point of its call.
+    (
+        "1 begin t1 lock m0\n4 point t1 m0 lock OK\n5 kill t1\n10 death t1 m0\n10 reaped t1\n11 begin t2 lock m0\n14 point t2 m0 lock EOWNERDEAD\n19 return t2 EOWNERDEAD\nend 19",
+        Legal(2),
+    ),
+    // Killed between the release and the wake.
+    (
+        "1 begin t1 lock m0\n4 point t1 m0 lock OK\n9 return t1 OK\n10 begin t2 lock m0\n14 sleep t2 m0\n15 begin t1 unlock m0\n21 point t1 m0 unlock OK\n22 kill t1\n27 wake t2\n27 reaped t1\n29 point t2 m0 lock OK\n34 return t2 OK\nend 34",
+        Legal(3),
+    ),
+    ("1 kill t1\n2 kill t1\nend 2", Illegal(3)),
+    ("1 death t1 m0\nend 1", Illegal(2)),
+    ("1 kill t1\n2 death t1 m0\nend 2", Illegal(3)),
+    (
+        "1 begin t1 lock m0\n2 point t1 m0 lock OK\n3 death t1 m0\nend 3",
+        Illegal(4),
+    ),
+    (
+        "1 begin t1 lock m0\n2 point t1 m0 lock OK\n3 kill t1\n4 reaped t1\nend 4",
+        Illegal(5),
+    ),
+    ("1 reaped t1\nend 1", Illegal(2)),
+    ("1 kill t1\n2 reaped t1\n3 reaped t1\nend 3", Illegal(4)),
+    ("1 kill t1\n2 begin t1 lock m0\nend 2", Illegal(3)),
+];
+
+#[test]
+fn deaths(rt: HostRuntime) -> Result<(), Fail> {
+    assert!(rt; first_wrong_behind(rt.alloc(), &DEATHS)?.is_none());
+    Ok(())
+}
+
+/// Calls on a condition variable.
+static WAITS: [(&str, Answer); 6] = [
+    // Released, moved, woken, and the mutex taken again.
+    (
+        "1 begin t1 lock m0\n2 point t1 m0 lock OK\n3 return t1 OK\n4 begin t1 wait c0 m0\n5 point t1 m0 unlock OK\n6 sleep t1 c0\n7 begin t2 lock m0\n8 point t2 m0 lock OK\n9 return t2 OK\n10 begin t2 broadcast c0 m0\n11 point t2 m0 broadcast OK\n12 move t1 m0\n12 return t2 OK\n13 begin t2 unlock m0\n14 point t2 m0 unlock OK\n15 wake t1\n15 return t2 OK\n16 point t1 m0 lock OK\n17 return t1 OK\nend 17",
+        Legal(6),
+    ),
+    (
+        "1 begin t1 wait c0 m0\n2 point t1 m0 wait EPERM\n2 return t1 EPERM\nend 2",
+        Legal(1),
+    ),
+    (
+        "1 begin t1 wait c0 m0\n2 point t1 m0 unlock EPERM\nend 2",
+        Illegal(3),
+    ),
+    (
+        "1 begin t1 wait c0 m0\n2 point t1 m0 lock OK\nend 2",
+        Illegal(3),
+    ),
+    (
+        "1 begin t1 lock m0\n2 point t1 m0 lock OK\n3 return t1 OK\n4 begin t1 wait c0 m0\n5 point t1 m0 unlock OK\n6 return t1 OK\nend 6",
+        Illegal(7),
+    ),
+    (
+        "1 begin t1 lock m0\n2 point t1 m0 lock OK\n3 return t1 OK\n4 begin t1 wait c0 m0\n5 point t1 m0 unlock OK\n6 point t1 m0 wait EPERM\nend 6",
+        Illegal(7),
+    ),
+];
+
+#[test]
+fn waits(rt: HostRuntime) -> Result<(), Fail> {
+    assert!(rt; first_wrong_behind(rt.alloc(), &WAITS)?.is_none());
+    Ok(())
+}
+
+/// Adds the lock of a mutex by thread 1, in an event of a number above 10,000.
+fn push_lock(text: &mut String, alloc: Global, mutex: u32) -> Result<(), AllocError> {
+    let event = 10_000 + u64::from(mutex);
+    let call = format!(in alloc;
+        "{event} begin t1 lock m{mutex}\n{event} point t1 m{mutex} lock OK\n{event} return t1 OK\n"
+    )?;
+    text.push_str(call.as_str())
+}
+
+/// Thread 1 takes so many mutexes, one after the other, and then asks for one more, which is answered so.
+fn taken_and_one_more(alloc: Global, held: u32, reply: &str) -> Result<Answer, AllocError> {
+    let mut text = String::from_str(alloc, "trace 1 4096 0\n")?;
+    for mutex in 0..held {
+        push_lock(&mut text, alloc, mutex)?;
+    }
+    let last = format!(in alloc;
+        "90000 begin t1 lock m{held}\n90000 point t1 m{held} lock {reply}\n90000 return t1 {reply}\nend 90000\n"
+    )?;
+    text.push_str(last.as_str())?;
+    Ok(answered(alloc, text.as_bytes()))
+}
+
+#[test]
+fn a_thread_holds_2048_mutexes(rt: HostRuntime) -> Result<(), Fail> {
+    let cases = [
+        (2047, "OK", Legal(2048)),
+        (2047, "X_HELD", Illegal(6144)),
+        (2048, "X_HELD", Legal(2049)),
+        (2048, "OK", Illegal(6147)),
+    ];
+    for (held, reply, want) in cases {
+        assert!(rt; taken_and_one_more(rt.alloc(), held, reply)? == want);
+    }
+    Ok(())
+}
+
+/// Numbers of events that fall, or that two lines share.
+static NUMBERS_OF_EVENTS: [(&str, Answer); 8] = [
+    ("2 begin t1 lock m0\n1 kill t2\nend 2", Illegal(3)),
+    ("1 begin t1 lock m0\n1 begin t2 lock m0\nend 1", Illegal(3)),
+    (
+        "1 begin t1 lock m0\n1 point t1 m0 lock OK\n1 return t1 OK\n1 begin t1 unlock m0\n1 point t1 m0 unlock OK\nend 1",
+        Illegal(6),
+    ),
+    ("1 begin t1 lock m0\n1 kill t1\nend 1", Illegal(3)),
+    ("1 kill t1\n1 reaped t1\nend 1", Illegal(3)),
+    (
+        "1 begin t1 lock m0\n2 sleep t1 m0\n3 kill t2\n3 wake t1\nend 3",
+        Illegal(5),
+    ),
+    (
+        "1 begin t1 lock m0\n2 sleep t1 m0\n3 begin t2 lock m0\n3 wake t1\nend 3",
+        Legal(0),
+    ),
+    ("2 begin t1 lock m0\nend 1", Illegal(3)),
+];
+
+#[test]
+fn numbers_of_events(rt: HostRuntime) -> Result<(), Fail> {
+    assert!(rt; first_wrong_behind(rt.alloc(), &NUMBERS_OF_EVENTS)?.is_none());
+    Ok(())
+}
+
+/// Calls, their points and their returns.
+static CALLS: [(&str, Answer); 15] = [
+    ("1 begin t1 lock m0\n2 begin t1 lock m0\nend 2", Illegal(3)),
+    ("1 point t1 m0 lock OK\nend 1", Illegal(2)),
+    (
+        "1 begin t1 lock m0\n2 point t1 m1 lock OK\nend 2",
+        Illegal(3),
+    ),
+    (
+        "1 begin t1 lock m0\n2 point t1 m0 trylock OK\nend 2",
+        Illegal(3),
+    ),
+    (
+        "1 begin t1 lock m0\n2 point t1 m0 lock EBUSY\nend 2",
+        Illegal(3),
+    ),
+    (
+        "1 begin t1 trylock m0\n2 point t1 m0 trylock X_RACED\n3 point t1 m0 trylock OK\nend 3",
+        Illegal(4),
+    ),
+    (
+        "1 begin t1 lock m0\n2 sleep t1 m0\n3 point t1 m0 lock OK\nend 3",
+        Illegal(4),
+    ),
+    ("1 begin t1 lock m0\n2 return t1 OK\nend 2", Illegal(3)),
+    (
+        "1 begin t1 lock m0\n2 point t1 m0 lock OK\n3 return t1 EBUSY\nend 3",
+        Illegal(4),
+    ),
+    (
+        "1 begin t1 lock m0\n2 point t1 m0 lock OK\n3 sleep t1 m0\n4 return t1 OK\nend 4",
+        Illegal(5),
+    ),
+    ("1 sleep t1 m0\nend 1", Illegal(2)),
+    (
+        "1 begin t1 lock m0\n2 sleep t1 m0\n3 sleep t1 m0\nend 3",
+        Illegal(4),
+    ),
+    ("1 begin t1 lock m0\n2 wake t1\nend 2", Illegal(3)),
+    ("1 begin t1 lock m0\n2 move t1 m0\nend 2", Illegal(3)),
+    (
+        "1 begin t1 lock m0\n2 point t1 m0 lock OK\n2 return t1 OK\n3 begin t1 lock m0\n4 point t1 m0 lock EDEADLK\n4 return t1 EDEADLK\nend 4",
+        Legal(2),
+    ),
+];
+
+#[test]
+fn calls(rt: HostRuntime) -> Result<(), Fail> {
+    assert!(rt; first_wrong_behind(rt.alloc(), &CALLS)?.is_none());
+    Ok(())
+}
+
+/// First lines.
+static FIRST_LINES: [(&str, Answer); 15] = [
+    ("", Refused(5, 1)),
+    ("trace 1 1 0", Refused(2, 1)),
+    ("trace 1 1\n", Refused(2, 1)),
+    ("trace 1 1 00\n", Refused(2, 1)),
+    ("end 0\n", Refused(2, 1)),
+    ("\n", Refused(2, 1)),
+    ("trace 0 1 0\n", Refused(3, 1)),
+    ("trace 65 1 0\n", Refused(3, 1)),
+    ("trace 1 0 0\n", Refused(3, 1)),
+    ("trace 1 4097 0\n", Refused(3, 1)),
+    ("trace 1 1 257\n", Refused(3, 1)),
+    ("trace 18446744073709551617 1 0\n", Refused(3, 1)),
+    ("trace 64 4096 256\nend 0\n", Legal(0)),
+    ("trace 1 1 0\ntrace 1 1 0\nend 0\n", Refused(2, 2)),
+    ("trace 1 1 0\n\nend 0\n", Refused(2, 2)),
+];
+
+#[test]
+fn first_lines(rt: HostRuntime) {
+    assert!(rt; first_wrong(rt.alloc(), &FIRST_LINES).is_none());
+}
+
+/// No lines of a trace.
+static UNKNOWN_WORDS: [&str; 14] = [
+    "0 kill x1\nend 0",
+    "1 kill t01\nend 1",
+    "01 kill t1\nend 1",
+    "1 kill  t1\nend 1",
+    "1 kill t1 \nend 1",
+    "1 begin t1 lock c0 m0\nend 1",
+    "1 begin t1 wait m0\nend 1",
+    "1 begin t1 death m0\nend 1",
+    "1 point t1 m0 death OK\nend 1",
+    "1 point t1 m0 lock FINE\nend 1",
+    "1 sleep t1 t1\nend 1",
+    "1 move t1 c0\nend 1",
+    "1 return t1\nend 1",
+    "end\nend 1",
+];
+
+#[test]
+fn unknown_words(rt: HostRuntime) -> Result<(), Fail> {
+    let wrong = first_answered_otherwise(rt.alloc(), Refused(2, 2), &UNKNOWN_WORDS)?;
+    assert!(rt; wrong.is_none());
+    Ok(())
+}
+
+/// Lines with a number out of its range.
+static NUMBERS_OUT_OF_RANGE: [&str; 12] = [
+    "0 kill t1\nend 0",
+    "100001 kill t1\nend 1",
+    "1 kill t0\nend 1",
+    "1 kill t3\nend 1",
+    "1 kill t99999999999\nend 1",
+    "1 death t1 m2\nend 1",
+    "1 begin t1 wait c1 m0\nend 1",
+    "1 begin t1 wait c0 m2\nend 1",
+    "1 sleep t1 c1\nend 1",
+    "1 move t1 m2\nend 1",
+    "end 100001\nend 1",
+    "1 kill t3\nbad",
+];
+
+#[test]
+fn numbers_out_of_range(rt: HostRuntime) -> Result<(), Fail> {
+    let wrong = first_answered_otherwise(rt.alloc(), Refused(3, 2), &NUMBERS_OUT_OF_RANGE)?;
+    assert!(rt; wrong.is_none());
+    Ok(())
+}
+
+/// Traces with a line that is illegal, and most with a fault too.
+static FAULTS_AND_ILLEGAL_LINES: [(&str, Answer); 6] = [
+    ("1 return t1 OK\n2 bad\nend 2", Refused(2, 3)),
+    ("1 return t1 OK\n2 kill t3\nend 2", Refused(3, 3)),
+    ("1 return t1 OK", Refused(5, 3)),
+    ("1 return t1 OK\nend 1\nbad", Refused(5, 4)),
+    ("end 0\n", Refused(5, 3)),
+    ("1 return t1 OK\n2 kill t1\n3 kill t1\nend 3", Illegal(2)),
+];
+
+#[test]
+fn a_fault_comes_before_an_illegal_line(rt: HostRuntime) -> Result<(), Fail> {
+    assert!(rt; first_wrong_behind(rt.alloc(), &FAULTS_AND_ILLEGAL_LINES)?.is_none());
+    Ok(())
+}
+
+/// Something stands behind the `end` line.
+static BEHIND_THE_END: [(&str, Answer); 3] = [
+    ("trace 1 1 0\nend 0\nend 0\n", Refused(5, 3)),
+    ("trace 1 1 0\nend 0\nx", Refused(5, 3)),
+    ("trace 1 1 0\nend 0\n\n", Refused(5, 3)),
+];
+
+#[test]
+fn behind_the_end(rt: HostRuntime) {
+    assert!(rt; first_wrong(rt.alloc(), &BEHIND_THE_END).is_none());
+}
+
+#[test]
+fn bytes_that_are_no_text(rt: HostRuntime) {
+    let bytes = b"trace 1 1 0\nbad\n\xff\n";
+    assert!(rt; answered(rt.alloc(), bytes) == Refused(1, 3));
+}
+
+/// The answer to so many line feeds.
+fn answer_to_many(alloc: Global, count: usize) -> Result<Answer, AllocError> {
+    let bytes = vec![in alloc; b'\n'; count]?;
+    Ok(answered(alloc, &bytes))
+}
+
+#[test]
+fn too_many_bytes(rt: HostRuntime) -> Result<(), Fail> {
+    let answer = answer_to_many(rt.alloc(), MAX_BYTES + 1)?;
+    assert!(rt; answer == Refused(4, 1));
+    Ok(())
+}
+
+/// Each fault, and the text of it at line 7.
+static TEXTS: [(Fault, &str); 6] = [
+    (Fault::NotUtf8, "line 7: fault 1: not UTF-8"),
+    (Fault::UnknownWord, "line 7: fault 2: unknown word"),
+    (Fault::OutOfRange, "line 7: fault 3: number out of range"),
+    (Fault::TooLong, "line 7: fault 4: too long"),
+    (Fault::Cut, "line 7: fault 5: cut"),
+    (Fault::OutOfMemory, "line 7: fault 6: out of memory"),
+];
+
+fn told(alloc: Global, fault: Fault) -> Result<String, AllocError> {
+    let refused = TraceFault { line: 7, fault };
+    format!(in alloc; "{refused}")
+}
+
+#[test]
+fn faults_are_told(rt: HostRuntime) -> Result<(), Fail> {
+    for (fault, text) in &TEXTS {
+        let told = told(rt.alloc(), *fault)?;
+        assert!(rt; told.as_str() == *text);
+    }
+    Ok(())
+}
