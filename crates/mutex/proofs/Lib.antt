@@ -4,3 +4,4 @@ mod Replies
 mod Wholes
 pub mod Steps
 pub mod Alone
+pub mod Deciding

@@ -12,3 +12,4 @@ pub mod Laws
 pub mod WholeLaws
 pub mod Steps
 pub mod Alone
+pub mod Decisions

@@ -1,6 +1,7 @@
 //! What holds of every call.
 ghost use Rattle.mutex.specs.Laws.{ProgramsAreRight, RacedAfterFour, PointsArePermitted};
 ghost use Rattle.mutex.specs.WholeLaws.{WholeCallsAreRight};
+ghost use Rattle.mutex.specs.Decisions.{WholeCallsAreDecided};
 
 /// Whatever word an access of a call meets, it is a step of the mutex as POSIX sees it, and leaves what the call's next access needs.
 pub fn programs_are_right()
@@ -21,4 +22,10 @@ pub fn points_are_permitted()
 /// release a mutex only from a cell that it owns; and a trylock gives up only after four exchanges that each found a changed cell.
 pub fn whole_calls_are_right()
     ensures { WholeCallsAreRight }
+{}
+
+/// Whatever a whole call is answered, each of its points, that of a release and of a declaration too, has a reply that POSIX permits for the cell that the call met there, or
+/// met last before; a call that has met no cell has no point.
+pub fn whole_calls_are_decided()
+    ensures { WholeCallsAreDecided }
 {}

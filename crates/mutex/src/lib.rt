@@ -20,7 +20,10 @@ mod unlock;
 pub use call::Call;
 pub use cell_program::CellProgram;
 pub use consistent::ConsistentRow;
-pub use laws::{points_are_permitted, programs_are_right, raced_after_four, whole_calls_are_right};
+pub use laws::{
+    points_are_permitted, programs_are_right, raced_after_four, whole_calls_are_decided,
+    whole_calls_are_right,
+};
 pub use lock::LockRow;
 pub use phase::{Onward, Phase};
 pub use program::Program;
