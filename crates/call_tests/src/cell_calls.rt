@@ -364,4 +364,5 @@ fn calls_name_their_mutex_and_operation(rt: HostRuntime) {
     raced_after_four();
     points_are_permitted();
     whole_calls_are_right();
+    whole_calls_are_decided();
 }

@@ -34,6 +34,7 @@ use Rattle.mutex.specs.WholeLaws.{IsAt, IsWhole}
 use Rattle.mutex.specs.Decisions.{met_in, or_before, IsPermittedFor, ArePermitted, WholeCallsAreDecided}
 use Rattle.mutex.proofs.Replies.{permitted}
 use Rattle.mutex.proofs.Wholes.{whole}
+use Rattle.mutex.proofs.Once.{once, faulted_calls, answered_calls}
 
 -- ---- what a call knows of the cell that it met last
 
@@ -207,5 +208,8 @@ begins_stands t (call.Consistent m) l = tt
 
 pub decided_calls : WholeCallsAreDecided
 decided_calls = record {
+  once = once;
+  faulted = faulted_calls;
+  answered = answered_calls;
   permitted = λ l t c answers pos. are_permitted answers (begins l t c) None (whole.begins_so l t c pos) (begins_stands t c l);
 }

@@ -4,4 +4,5 @@ mod Replies
 mod Wholes
 pub mod Steps
 pub mod Alone
+pub mod Once
 pub mod Deciding

@@ -1,15 +1,47 @@
 -- How a whole call is decided, whatever it is answered.
-use Rattle.std.specs.Prelude.{ℕ, ◌≤◌, Option, Some, None, List, [], ◌∷◌}
+use Rattle.std.specs.Prelude.{ℕ, ◌≡◌, ◌≢◌, ◌≤◌, Option, Some, None, List, [], ◌∷◌, ◌++◌}
 use Rattle.lockword.specs.Cells.{Fields}
 use Rattle.lockword.specs.declared.reply.Reply.{Reply}
+use Rattle.lockword.specs.declared.reply.Reply.TheVariants.{EFAULT}
+use Rattle.keys.specs.declared.access.Access.{Access}
+use Rattle.keys.specs.declared.access.Access.TheVariants as access
 use Rattle.keys.specs.declared.access.Answer.{Answer}
+use Rattle.keys.specs.declared.access.Answer.TheVariants.{Value, Stored, Exchanged, Changed, Again, Woken, Count, Counts}
 use Rattle.keys.specs.Layouts.{Layout'}
 use Rattle.mutex.specs.declared.call.Call.{Call}
 use Rattle.mutex.specs.declared.phase.Phase.{Phase}
-use Rattle.mutex.specs.declared.phase.Phase.TheVariants.{AtCell}
+use Rattle.mutex.specs.declared.phase.Phase.TheVariants.{AtCell, Ended}
 use Rattle.mutex.specs.Standings.{Whole}
-use Rattle.mutex.specs.Whole.{begins, whole_led, whole_moved}
+use Rattle.mutex.specs.Whole.{begins, whole_access, whole_led, whole_moved, IsUnderWay}
 use Rattle.mutex.specs.Laws.{met, IsPermitted}
+use Rattle.mutex.specs.WholeLaws.{whole_reached}
+
+-- what such an access is answered, but for a fault (futex(2))
+abbrev pub IsAnswerOf : Access → Answer → Type 0
+IsAnswerOf (access.Load at) (Value w) = Unit {0}
+IsAnswerOf (access.Store at v) Stored = Unit {0}
+IsAnswerOf (access.Exchange at e n) Exchanged = Unit {0}
+IsAnswerOf (access.Exchange at e n) (Changed w) = Unit {0}
+IsAnswerOf (access.FetchXor at o) (Value w) = Unit {0}
+IsAnswerOf (access.FetchOr at o) (Value w) = Unit {0}
+IsAnswerOf (access.FetchAnd at o) (Value w) = Unit {0}
+IsAnswerOf (access.FetchAdd at o) (Value w) = Unit {0}
+IsAnswerOf (access.Wait at e) Again = Unit {0}
+IsAnswerOf (access.Wait at e) Woken = Unit {0}
+IsAnswerOf (access.Wake at n) (Count k) = Unit {0}
+IsAnswerOf (access.Requeue f n t m) (Counts k j) = Unit {0}
+IsAnswerOf (access.CmpRequeue f e n t m) (Counts k j) = Unit {0}
+IsAnswerOf (access.CmpRequeue f e n t m) Again = Unit {0}
+IsAnswerOf a x = ⊥
+
+abbrev pub replies : Option Reply → List Reply
+replies None = []
+replies (Some x) = x ∷ []
+
+-- the replies of the points that some answers bring, in their order
+abbrev pub decided_by : Whole → List Answer → List Reply
+decided_by p [] = []
+decided_by p (a ∷ answers) = replies (whole_led p a).point ++ decided_by (whole_moved p (whole_led p a)) answers
 
 -- the cell that a call met, as an answer tells
 abbrev pub met_in : Phase → Answer → Option Fields
@@ -34,5 +66,12 @@ ArePermitted p c (a ∷ answers) = IsPermittedFor p (or_before (met_in p.phase a
 
 -- whatever a call is answered
 pub record WholeCallsAreDecided : Type 0 where
+  -- one that returned, and not for a fault, has exactly one point, whose reply it returned
+  pub once : (l : Layout') (t : ℕ) (c : Call) (answers : List Answer) (x : Reply) → (whole_reached (begins l t c) answers).phase ≡ Ended x → x ≢ EFAULT → decided_by (begins l t c) answers ≡ x ∷ []
   -- its point's reply, a release's and a declaration's too, is one that the object permits for the cell that it met there, or met last before
   pub permitted : (l : Layout') (t : ℕ) (c : Call) (answers : List Answer) → 1 ≤ t → ArePermitted (begins l t c) None answers
+  -- it returns EFAULT exactly after an answer that its access doesn't have
+  pub faulted : (l : Layout') (t : ℕ) (c : Call) (answers : List Answer) (a : Answer) → IsUnderWay (whole_reached (begins l t c) answers).phase → ¬ IsAnswerOf (whole_access (whole_reached (begins l t c) answers)) a
+      → (whole_led (whole_reached (begins l t c) answers) a).phase ≡ Ended EFAULT
+  pub answered : (l : Layout') (t : ℕ) (c : Call) (answers : List Answer) (a : Answer) → IsUnderWay (whole_reached (begins l t c) answers).phase → IsAnswerOf (whole_access (whole_reached (begins l t c) answers)) a
+      → (whole_led (whole_reached (begins l t c) answers) a).phase ≢ Ended EFAULT

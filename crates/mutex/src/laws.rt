@@ -24,8 +24,9 @@ pub fn whole_calls_are_right()
     ensures { WholeCallsAreRight }
 {}
 
-/// Whatever a whole call is answered, each of its points, that of a release and of a declaration too, has a reply that POSIX permits for the cell that the call met there, or
-/// met last before; a call that has met no cell has no point.
+/// Whatever a whole call is answered: once it has returned, and not for a fault, it has had exactly one point, whose reply it returned; each point, that of a release and of a
+/// declaration too, has a reply that POSIX permits for the cell that the call met there, or met last before; and it returns `EFAULT` exactly after an answer that its access
+/// doesn't have.
 pub fn whole_calls_are_decided()
     ensures { WholeCallsAreDecided }
 {}
