@@ -11,6 +11,3 @@ mod threads;
 pub use cmdline::{Form, form_of_words};
 pub use messages::{CANNOT_READ, CANNOT_WRITE, OUT_OF_MEMORY, USAGE};
 pub use serving::serve;
-
-#[cfg(test)]
-mod tests;

@@ -12,6 +12,3 @@ pub use pieces::put;
 pub use replies::{MutexWord, ThreadReplies, write_replies};
 pub use table::write_table;
 pub use text::write_trace;
-
-#[cfg(test)]
-mod tests;

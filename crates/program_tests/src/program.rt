@@ -1,0 +1,229 @@
+//! The program: command lines, readers, writers, and what is written of a script.
+
+use crate::served::{Answered, served};
+use crate::streams::{Fixed, Narrow, Stuck, is_printed_or_wants_memory, slow_reader};
+use keys::NoMem;
+use report::{CANNOT_READ, CANNOT_WRITE, Form, OUT_OF_MEMORY, USAGE, form_of_words, serve};
+use std::alloc::{AllocError, Global};
+use std::sync::Wait;
+use std::thread::Threads;
+
+/// Command lines with a form.
+static FORMS: [(&[&str], Form<'static>); 7] = [
+    (&["rfx", "run", "f"], Form::Run("f")),
+    (&["rfx", "run", ""], Form::Run("")),
+    (&["rfx", "run", "help"], Form::Run("help")),
+    (&["rfx", "threads", "f"], Form::Threads("f")),
+    (&["rfx", "run", "--table", "f"], Form::Table("f")),
+    (&["rfx", "check", "f"], Form::Check("f")),
+    (&[], Form::Usage),
+];
+
+/// Command lines without one.
+static WITHOUT_FORM: [&[&str]; 23] = [
+    &["rfx", "run", "-f"],
+    &["rfx", "run", "-"],
+    &["rfx", "run", "--", "f"],
+    &["rfx"],
+    &["rfx", "run"],
+    &["rfx", "run", "a", "b"],
+    &["rfx", "run", "f", "--table"],
+    &["rfx", "--table", "run", "f"],
+    &["rfx", "run", "--table"],
+    &["rfx", "run", "--table", "-x"],
+    &["rfx", "threads", "--table", "f"],
+    &["rfx", "threads", "-f"],
+    &["rfx", "threads"],
+    &["rfx", "threads", "a", "b"],
+    &["rfx", "check", "-f"],
+    &["rfx", "check"],
+    &["rfx", "check", "a", "b"],
+    &["rfx", "check", "--table", "f"],
+    &["rfx", "--help"],
+    &["rfx", "--version"],
+    &["rfx", "run", "--help"],
+    &["rfx", "help"],
+    &["rfx", "help", "run"],
+];
+
+/// The place of the first command line of the table whose form is another.
+fn first_other_form(alloc: Global) -> Result<Option<usize>, NoMem> {
+    for (place, (words, want)) in FORMS.iter().enumerate() {
+        if form_of_words(alloc, *words)? != *want {
+            return Ok(Some(place));
+        }
+    }
+    Ok(None)
+}
+
+/// The place of the first command line of the table that has a form.
+fn first_with_form(alloc: Global) -> Result<Option<usize>, NoMem> {
+    for (place, words) in WITHOUT_FORM.iter().enumerate() {
+        if form_of_words(alloc, *words)? != Form::Usage {
+            return Ok(Some(place));
+        }
+    }
+    Ok(None)
+}
+
+#[test]
+fn forms_are_told(rt: HostRuntime) -> Result<(), NoMem> {
+    assert_eq!(rt; first_other_form(rt.alloc())?, None);
+    assert_eq!(rt; first_with_form(rt.alloc())?, None);
+    Ok(())
+}
+
+#[test]
+fn messages_are_as_documented(rt: HostRuntime) {
+    assert!(rt; CANNOT_READ == "rfx: cannot read ");
+    assert!(rt; CANNOT_WRITE == "rfx: cannot write\n");
+    assert!(rt; OUT_OF_MEMORY == "rfx: out of memory\n");
+    assert!(rt; USAGE == "usage: rfx run [--table] FILE | rfx threads FILE | rfx check FILE\n");
+}
+
+/// The row: one mutex is refused, taken, refused and released by one thread.
+const ROW: &str =
+    "thread a\nmutex m\ncall a unlock m\ncall a trylock m\ncall a trylock m\ncall a unlock m\n";
+
+const ROW_TEXT: &str = "trace 1 1 0\n\
+    1 begin t1 unlock m0\n\
+    2 point t1 m0 unlock EPERM\n\
+    2 return t1 EPERM\n\
+    3 begin t1 trylock m0\n\
+    6 point t1 m0 trylock OK\n\
+    11 return t1 OK\n\
+    12 begin t1 trylock m0\n\
+    14 point t1 m0 trylock EBUSY\n\
+    15 return t1 EBUSY\n\
+    16 begin t1 unlock m0\n\
+    22 point t1 m0 unlock OK\n\
+    23 return t1 OK\n\
+    end 23\n";
+
+/// The same from a reader that gives a byte at a call.
+fn run_slowly(
+    rt: &(impl AllocGlobal + Threads + Wait + Sync),
+    script: &[u8],
+    fails: bool,
+) -> Answered {
+    served(rt, &Form::Run("f"), &mut slow_reader(script, fails))
+}
+
+#[test]
+fn a_script_is_run(rt: HostRuntime) {
+    assert!(rt; run_slowly(&rt, ROW.as_bytes(), false).is(0, ROW_TEXT, ""));
+    let idle = b"# nothing runs\nmutex m\nthread a\n";
+    assert!(rt; run_slowly(&rt, idle, false).is(0, "trace 1 1 0\nend 0\n", ""));
+}
+
+/// Scripts that are refused, and what is told of them.
+static REFUSED: [(&[u8], &str); 5] = [
+    (
+        b"thread a\nmutex m\nx\n",
+        "rfx: line 3: fault 2: unknown word\n",
+    ),
+    (b"thread a\n", "rfx: line 2: fault 3: number out of range\n"),
+    (
+        b"thread a\nmutex m\nstep b 1\n",
+        "rfx: line 3: fault 4: no such name\n",
+    ),
+    (
+        b"thread a\nmutex m\nstep a 100000\nstep a 1\n",
+        "rfx: line 4: fault 5: too long\n",
+    ),
+    (b"x\n\xff\n", "rfx: line 2: fault 1: not UTF-8\n"),
+];
+
+/// Bytes are told before their words.
+#[test]
+fn a_fault_is_told(rt: HostRuntime) {
+    for (script, told) in &REFUSED {
+        assert!(rt; run_slowly(&rt, *script, false).is(1, "", *told));
+    }
+}
+
+#[test]
+fn a_reader_that_fails_is_told(rt: HostRuntime) {
+    assert!(rt; run_slowly(&rt, ROW.as_bytes(), true).is(1, "", "rfx: cannot read f\n"));
+}
+
+/// A script that does nothing, with a comment that fills it up to this length.
+fn script_of(alloc: Global, length: usize) -> Result<Vec<u8>, AllocError> {
+    let mut script = Vec::new(alloc);
+    script.extend_from_slice(b"thread a\nmutex m\n#")?;
+    for _ in script.len() + 1..length {
+        script.push(b'.')?;
+    }
+    script.push(b'\n')?;
+    Ok(script)
+}
+
+/// The length of a script, the status that it is answered, what is told of it, and how many of its bytes aren't read: of 65,536 all are,
+/// and one more is read of what is too long.
+static LENGTHS: [(usize, u8, &str, usize); 4] = [
+    (65_535, 0, "", 0),
+    (65_536, 0, "", 0),
+    (65_537, 1, "rfx: line 1: fault 5: too long\n", 0),
+    (65_540, 1, "rfx: line 1: fault 5: too long\n", 3),
+];
+
+#[test]
+fn the_longest_script_is_run(rt: HostRuntime) -> Result<(), AllocError> {
+    for (length, status, told, left) in &LENGTHS {
+        let script = script_of(rt.alloc(), *length)?;
+        let mut input = slow_reader(script.as_slice(), false);
+        let served = served(&rt, &Form::Run("f"), &mut input);
+        assert!(rt; served.status == *status && served.told.as_slice() == told.as_bytes());
+        assert!(rt; input.left.len() == *left);
+    }
+    Ok(())
+}
+
+/// Whether a trace that a writer with this room can't hold is told, and its beginning written.
+fn is_told_of_room(rt: &(impl AllocGlobal + Threads + Wait + Sync), room: usize) -> bool {
+    let mut input = slow_reader(ROW.as_bytes(), false);
+    let mut out = Narrow::new(rt.alloc(), room, false);
+    let mut err = Vec::new(rt.alloc());
+    let form = Form::Run("f");
+    let status = serve(rt, rt.alloc(), &form, &mut input, &mut out, &mut err);
+    let front = ROW_TEXT.as_bytes().get(..room).unwrap_or(b"");
+    status == 1 && out.held.as_slice() == front && err.as_slice() == CANNOT_WRITE.as_bytes()
+}
+
+#[test]
+fn a_trace_that_cannot_be_written_is_told(rt: HostRuntime) {
+    for room in 0..ROW_TEXT.len() {
+        assert!(rt; is_told_of_room(&rt, room));
+    }
+}
+
+#[test]
+fn usage_is_told(rt: HostRuntime) {
+    let mut input = slow_reader(ROW.as_bytes(), false);
+    assert!(rt; served(&rt, &Form::Usage, &mut input).is(2, "", USAGE));
+    assert!(rt; input.left.len() == ROW.len());
+}
+
+/// Passes too where any one allocation fails: nothing is printed then, and want of memory is told.
+#[test]
+fn memory(rt: HostRuntime) {
+    let mut input = slow_reader(ROW.as_bytes(), false);
+    let mut out = Fixed::new();
+    let mut err = Fixed::new();
+    let form = Form::Run("f");
+    let status = serve(&rt, rt.alloc(), &form, &mut input, &mut out, &mut err);
+    assert!(rt; is_printed_or_wants_memory(status, &out, &err, ROW_TEXT));
+}
+
+#[test]
+fn bytes_that_are_kept_back_are_told(rt: HostRuntime) {
+    let mut input = slow_reader(ROW.as_bytes(), false);
+    let mut out = Stuck {
+        held: Vec::new(rt.alloc()),
+    };
+    let mut err = Vec::new(rt.alloc());
+    let form = Form::Run("f");
+    let status = serve(&rt, rt.alloc(), &form, &mut input, &mut out, &mut err);
+    assert!(rt; status == 1);
+    assert!(rt; err.as_slice() == CANNOT_WRITE.as_bytes());
+}

@@ -1,0 +1,121 @@
+//! Scripts on real threads. What the threads are told is fixed here by phases and by what one thread does alone.
+
+use crate::served::threads;
+use crate::streams::{Fixed, Narrow, is_printed_or_wants_memory};
+use report::{Form, serve};
+use std::sync::Wait;
+use std::thread::Threads;
+
+/// One thread is refused, takes, fails to take again and releases one mutex.
+const ALONE: &str =
+    "thread a\nmutex m\ncall a unlock m\ncall a trylock m\ncall a trylock m\ncall a unlock m\n";
+
+const ALONE_TEXT: &str = "replies a EPERM OK EBUSY OK\nmutex m 0000000000000000 - -\n";
+
+/// A thread holds the mutex, another finds it owned; it is released, and the other takes it.
+const PHASES: &str = "thread a\nthread b\nmutex m\ncall a trylock m\nphase\n\
+    call b trylock m\nphase\ncall a unlock m\nphase\ncall b trylock m\n";
+
+const PHASES_TEXT: &str = "replies a OK OK\nreplies b EBUSY OK\nmutex m 0000000000000002 b -\n";
+
+#[test]
+fn scripts_are_told(rt: HostRuntime) {
+    assert!(rt; threads(&rt, ALONE).is(0, ALONE_TEXT, ""));
+    assert!(rt; threads(&rt, PHASES).is(0, PHASES_TEXT, ""));
+    let idle = "thread a\nthread b\nmutex m\nphase\nphase\n";
+    let text = "replies a\nreplies b\nmutex m 0000000000000000 - -\n";
+    assert!(rt; threads(&rt, idle).is(0, text, ""));
+}
+
+/// A lock of a mutex that the thread owns, one of a mutex that another had, and calls on an owned mutex that nobody left inconsistent.
+#[test]
+fn locks_are_told(rt: HostRuntime) {
+    let script = "thread a\nthread b\nmutex m\ncall a lock m\nphase\ncall b trylock m\nphase\n\
+        call a unlock m\nphase\ncall b lock m\ncall b lock m\ncall b trylock m\n\
+        call b consistent m\ncall b unlock m\n";
+    let text = "replies a OK OK\nreplies b EBUSY OK EDEADLK EBUSY EINVAL OK\n\
+        mutex m 0000000000000000 - -\n";
+    assert!(rt; threads(&rt, script).is(0, text, ""));
+}
+
+/// The threads of one phase lock, and sleep where they have to; WAITERS may stay behind.
+#[test]
+fn threads_lock_at_once(rt: HostRuntime) {
+    let script = "thread a\nthread b\nmutex m\n\
+        call a lock m\ncall a unlock m\ncall b lock m\ncall b unlock m\n";
+    let served = threads(&rt, script);
+    let quiet = served.is(
+        0,
+        "replies a OK OK\nreplies b OK OK\nmutex m 0000000000000000 - -\n",
+        "",
+    );
+    let waited = served.is(
+        0,
+        "replies a OK OK\nreplies b OK OK\nmutex m 0000000080000000 - -\n",
+        "",
+    );
+    assert!(rt; quiet || waited);
+}
+
+#[test]
+fn many_mutexes_are_told(rt: HostRuntime) {
+    let script = "thread a\nthread b\nmutexes m 2\nmutex n\n\
+        call a lock m1\ncall b lock n\nphase\ncall b trylock m1\ncall a lock m0\n";
+    let text = "replies a OK OK\nreplies b OK EBUSY\nmutex m0 0000000000000001 a -\n\
+        mutex m1 0000000000000001 a -\nmutex n 0000000000000002 b -\n";
+    assert!(rt; threads(&rt, script).is(0, text, ""));
+}
+
+/// Scripts that are refused, and what is told of them.
+static REFUSED: [(&str, &str); 3] = [
+    (
+        "thread a\nmutex m\nstep a 1\n",
+        "rfx: line 3: fault 2: unknown word\n",
+    ),
+    (
+        "thread a\nmutex m\ncall b unlock m\n",
+        "rfx: line 3: fault 4: no such name\n",
+    ),
+    (
+        "thread a\nmutexes m 4096\nmutex n\n",
+        "rfx: line 3: fault 3: number out of range\n",
+    ),
+];
+
+#[test]
+fn faults_are_told(rt: HostRuntime) {
+    for (script, told) in &REFUSED {
+        assert!(rt; threads(&rt, *script).is(1, "", *told));
+    }
+}
+
+/// Whether replies that a writer with this room can't hold are told, and their beginning written.
+fn is_told_of_room(rt: &(impl AllocGlobal + Threads + Wait + Sync), room: usize) -> bool {
+    let mut out = Narrow::new(rt.alloc(), room, false);
+    let mut err = Vec::new(rt.alloc());
+    let form = Form::Threads("f");
+    let mut input = PHASES.as_bytes();
+    let status = serve(rt, rt.alloc(), &form, &mut input, &mut out, &mut err);
+    let front = PHASES_TEXT.as_bytes().get(..room).unwrap_or(b"");
+    status == 1
+        && out.held.as_slice() == front
+        && err.as_slice() == b"rfx: cannot write\n".as_slice()
+}
+
+#[test]
+fn a_writer_without_room_is_told(rt: HostRuntime) {
+    for room in 0..PHASES_TEXT.len() {
+        assert!(rt; is_told_of_room(&rt, room));
+    }
+}
+
+/// Passes too where any one allocation fails: nothing is printed then, and want of memory is told.
+#[test]
+fn memory(rt: HostRuntime) {
+    let mut out = Fixed::new();
+    let mut err = Fixed::new();
+    let form = Form::Threads("f");
+    let mut input = PHASES.as_bytes();
+    let status = serve(&rt, rt.alloc(), &form, &mut input, &mut out, &mut err);
+    assert!(rt; is_printed_or_wants_memory(status, &out, &err, PHASES_TEXT));
+}
