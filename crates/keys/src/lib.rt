@@ -11,6 +11,7 @@ mod layout;
 mod memory;
 mod object;
 mod point;
+
 pub use access::{Access, Answer};
 pub use key::{Key, bucket_of, key_of};
 pub use layout::{Layout, LayoutFault, places_differ};
