@@ -13,7 +13,7 @@ use lockword::Reply::{
 use lockword::Tid;
 use mutex::{
     Call, Program, points_are_permitted, programs_are_right, raced_after_four,
-    whole_calls_are_right,
+    whole_calls_are_decided, whole_calls_are_right,
 };
 use std::test::Fail;
 

@@ -6,8 +6,8 @@ use crate::steps::Made::{Exchanges, Flips, Is, Loads, Sleeps, Stores, Wakes};
 use crate::steps::Then::{Decides, Ends, Goes, Returns};
 use crate::steps::{Step, makes};
 use condvar::{
-    CondCall, CondProgram, accesses_are_there, calls_are_right, moves_are_right, needs_are_owned,
-    points_are_permitted, whole_calls_are_right,
+    CondCall, CondProgram, accesses_are_there, calls_are_right, faults_are_told, moves_are_right,
+    needs_are_owned, points_are_permitted, whole_calls_are_right,
 };
 use keys::Operation::{Broadcast, Lock, Signal, Unlock, Wait};
 use keys::{Access, Answer, Layout, Operation};
@@ -293,6 +293,7 @@ fn calls_name_their_condition_and_operation(rt: HostRuntime) {
         assert!(rt; call.condition() == 3 && call.operation() == operation);
     }
     calls_are_right();
+    faults_are_told();
     accesses_are_there();
     moves_are_right();
     needs_are_owned();

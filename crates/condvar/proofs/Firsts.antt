@@ -1,12 +1,12 @@
 -- Whatever a whole call is answered, its points but that of a lock are permitted for the cell that its first load met.
-use Rattle.std.proofs.Common.{◌≡◌, ◌≢◌, ℕ, ◌≤◌, ◌==◌, ◌⊎◌, inl, inr, Bool, true, false, not, Option, Some, None, List, [], ◌∷◌, refl, sym, ap, ◌∙◌, subst}
+use Rattle.std.proofs.Common.{◌≡◌, ℕ, ◌≤◌, ◌==◌, inl, inr, Bool, true, false, not, Option, Some, None, List, [], ◌∷◌, refl, sym, ap, ◌∙◌, subst}
 use Rattle.std.specs.Prelude.{◌++◌, All, if◌then◌else◌}
 use Rattle.std.proofs.lemmas.List.Elements.{All-nil, All-cons, All-append}
 use Rattle.lockword.specs.Cells.{Fields, fields_of}
 use Rattle.lockword.specs.declared.reply.Reply.{Reply}
 use Rattle.lockword.specs.declared.reply.Reply.TheVariants.{OK, EPERM, EFAULT, XFULL, XSTATE}
 use Rattle.keys.specs.declared.access.Answer.{Answer}
-use Rattle.keys.specs.declared.access.Answer.TheVariants.{Value, Stored, Exchanged, Changed, Again, Woken, Count, Counts, Fault}
+use Rattle.keys.specs.declared.access.Answer.TheVariants.{Value, Stored, Again, Woken, Count, Counts}
 use Rattle.keys.specs.declared.point.Operation.TheVariants as operation
 use Rattle.keys.specs.declared.point.Point.{Point}
 use Rattle.keys.specs.Layouts.{Layout'}
@@ -16,9 +16,8 @@ use Rattle.robustlist.specs.Standings.{UnlinkStanding}
 use Rattle.robustlist.specs.Unlink.{unlink_moved}
 use Rattle.mutex.specs.declared.phase.Phase.{Phase}
 use Rattle.mutex.specs.declared.phase.Phase.TheVariants as phase
-use Rattle.mutex.specs.declared.phase.Onward.{Onward}
 use Rattle.mutex.specs.Standings.{Whole}
-use Rattle.mutex.specs.Laws.{points, IsPermitted, PermitsAt}
+use Rattle.mutex.specs.Laws.{points, IsPermitted}
 use Rattle.mutex.specs.Whole as mutex
 use Rattle.condvar.specs.declared.call.CondCall.{CondCall}
 use Rattle.condvar.specs.declared.call.CondCall.TheVariants as call
@@ -28,16 +27,15 @@ use Rattle.condvar.specs.declared.broadcast.BroadcastRow.TheVariants as broadcas
 use Rattle.condvar.specs.declared.row.CondRow.{CondRow}
 use Rattle.condvar.specs.declared.row.CondRow.TheVariants.{Wait, Signal, Broadcast, Awake}
 use Rattle.condvar.specs.declared.row.CondRow.TheVariants as cond
-use Rattle.condvar.specs.declared.row.CondLed.{CondLed}
 use Rattle.condvar.specs.declared.row.Decided.{Decided}
 use Rattle.condvar.specs.declared.phase.CondPhase.{CondPhase}
 use Rattle.condvar.specs.declared.phase.CondPhase.TheVariants.{AtWords, Announcing, Unlinking, Locking, Ended}
 use Rattle.condvar.specs.declared.phase.CondOnward.{CondOnward}
-use Rattle.condvar.specs.Rows.{goes, decides, ends, full, IsGoing}
+use Rattle.condvar.specs.Rows.{goes, decides, ends, full}
 use Rattle.condvar.specs.Standings.{CondWhole}
 use Rattle.condvar.specs.Programs.{point_of, resume_of}
 use Rattle.condvar.specs.Whole.{begins, after_words, from_words, from_lock, unlinked_at, phase_led, cond_led, cond_moved}
-use Rattle.condvar.specs.Laws.{met, GoesOnFrom}
+use Rattle.condvar.specs.Laws.{GoesOnFrom}
 use Rattle.condvar.specs.WholeLaws.{points_after, first_met, IsPermittedFirst}
 use Rattle.condvar.proofs.Replies.{permitted}
 

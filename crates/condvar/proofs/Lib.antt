@@ -2,3 +2,4 @@ pub mod Rights
 mod Replies
 mod Firsts
 mod Wholes
+mod Faults

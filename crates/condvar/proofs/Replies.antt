@@ -1,14 +1,13 @@
 -- For any answers, what a first load decides is permitted for the cell met there.
-use Rattle.std.proofs.Common.{◌≡◌, ◌≢◌, ℕ, ◌≤◌, ◌==◌, Bool, true, false, not, Option, Some, None, refl, ap, ◌∙◌, subst, eqb-true}
+use Rattle.std.proofs.Common.{◌≡◌, ℕ, ◌≤◌, ◌==◌, Bool, true, false, not, Option, Some, None, refl, subst, eqb-true}
 use Rattle.std.specs.Prelude.{if◌then◌else◌}
 use Rattle.lockword.specs.Cells.{Fields, fields_of}
-use Rattle.lockword.specs.declared.reply.Reply.{Reply}
-use Rattle.lockword.specs.declared.reply.Reply.TheVariants.{OK, EPERM, XFULL, XSTATE}
+use Rattle.lockword.specs.declared.reply.Reply.TheVariants.{EPERM, XFULL, XSTATE}
 use Rattle.keys.specs.declared.access.Answer.{Answer}
 use Rattle.keys.specs.declared.access.Answer.TheVariants.{Value, Again, Woken, Count, Counts}
 use Rattle.keys.specs.declared.point.Operation.TheVariants as operation
 use Rattle.keys.specs.Objects.{object_of, freed}
-use Rattle.mutex.specs.Laws.{IsPermitted, PermitsAt}
+use Rattle.mutex.specs.Laws.{PermitsAt}
 use Rattle.condvar.specs.declared.wait.WaitRow.TheVariants as wait
 use Rattle.condvar.specs.declared.signal.SignalRow.TheVariants as signal
 use Rattle.condvar.specs.declared.broadcast.BroadcastRow.TheVariants as broadcast

@@ -1,14 +1,12 @@
 -- One access of a call is a step of the mutex as an object, or leaves it, and leaves what the next row needs.
-use Rattle.std.proofs.Common.{◌≡◌, ◌≢◌, ℕ, ◌+◌, ◌<◌, ◌≤◌, ◌==◌, ◌%◌, ◌^◌, Bool, true, false, not, Option, Some, None, refl, sym, ap, ◌∙◌, subst, arith, eqb-true, bit_xor, bit_or}
+use Rattle.std.proofs.Common.{◌≡◌, ◌≢◌, ℕ, ◌+◌, ◌≤◌, ◌==◌, ◌%◌, ◌^◌, Bool, true, false, not, Some, refl, sym, ap, ◌∙◌, subst, arith, eqb-true, bit_or}
 use Rattle.std.specs.Prelude.{if◌then◌else◌}
 use Rattle.std.proofs.lemmas.Bool.{eqb-false}
-use Rattle.lockword.specs.Cells.{Fields, fields_of, waiting, released}
+use Rattle.lockword.specs.Cells.{Fields, fields_of}
 use Rattle.lockword.proofs.Bits.{xor_released, or_waiting}
-use Rattle.lockword.specs.declared.reply.Reply.{Reply}
-use Rattle.lockword.specs.declared.reply.Reply.TheVariants.{OK, EPERM, XFULL, XSTATE}
+use Rattle.lockword.specs.declared.reply.Reply.TheVariants.{EPERM, XFULL, XSTATE}
 use Rattle.keys.specs.declared.access.Access.TheVariants as access
 use Rattle.keys.specs.declared.point.Operation.TheVariants as operation
-use Rattle.keys.specs.declared.object.Object.{Object}
 use Rattle.keys.specs.Objects.{object_of, owner_of}
 use Rattle.keys.proofs.Owners.{owner_of-some, owner_of-is}
 use Rattle.mutex.specs.declared.unlock.UnlockRow.TheVariants as unlock
@@ -18,13 +16,11 @@ use Rattle.mutex.proofs.Rights as mutex
 use Rattle.condvar.specs.declared.wait.WaitRow.TheVariants as wait
 use Rattle.condvar.specs.declared.signal.SignalRow.TheVariants as signal
 use Rattle.condvar.specs.declared.broadcast.BroadcastRow.TheVariants as broadcast
-use Rattle.condvar.specs.declared.row.CondRow.{CondRow}
 use Rattle.condvar.specs.declared.row.CondRow.TheVariants.{Wait, Signal, Broadcast, Awake, Ended}
 use Rattle.condvar.specs.Rows.{goes, ends, full}
-use Rattle.condvar.specs.Wait.{wait_sees, after_release}
+use Rattle.condvar.specs.Wait.{wait_sees}
 use Rattle.condvar.specs.Signal.{signal_sees, signal_counts}
 use Rattle.condvar.specs.Broadcast.{broadcast_sees, broadcast_counts}
-use Rattle.condvar.specs.Programs.{resume_of}
 use Rattle.condvar.specs.Laws.{Expects, IsOf, Right, CallsAreRight, AccessesAreThere, MovesAreRight, NeedsAreOwned}
 
 -- who owns a cell, as an object

@@ -8,7 +8,6 @@ use Rattle.keys.specs.declared.access.Answer.{Answer}
 use Rattle.keys.specs.declared.access.Answer.TheVariants.{Value}
 use Rattle.keys.specs.declared.point.Operation.{Operation}
 use Rattle.keys.specs.declared.point.Operation.TheVariants as operation
-use Rattle.keys.specs.declared.object.Object.{Object}
 use Rattle.keys.specs.Accesses.{address_of, changed, answer_at}
 use Rattle.keys.specs.Objects.{Run, object_of}
 use Rattle.mutex.specs.Laws.{Sound, points, IsPermitted, PermitsAt}
@@ -16,7 +15,7 @@ use Rattle.condvar.specs.declared.wait.WaitRow.TheVariants as wait
 use Rattle.condvar.specs.declared.signal.SignalRow.TheVariants as signal
 use Rattle.condvar.specs.declared.broadcast.BroadcastRow.TheVariants as broadcast
 use Rattle.condvar.specs.declared.row.CondRow.{CondRow}
-use Rattle.condvar.specs.declared.row.CondRow.TheVariants.{Wait, Signal, Broadcast, Awake, Ended}
+use Rattle.condvar.specs.declared.row.CondRow.TheVariants.{Wait, Signal, Broadcast, Ended}
 use Rattle.condvar.specs.declared.row.CondLed.{CondLed}
 use Rattle.condvar.specs.declared.row.Decided.{Decided}
 use Rattle.condvar.specs.Rows.{full, IsGoing}

@@ -8,3 +8,4 @@ pub mod Programs
 pub mod Whole
 pub mod Laws
 pub mod WholeLaws
+pub mod Faults

@@ -8,7 +8,6 @@
 --
 -- A wait's entry is pending from before its release until the lock that ends it has put it on the list, or has failed: so also while it sleeps. A signal and a broadcast leave the list alone.
 use Rattle.std.specs.Prelude.{ℕ, Option, None}
-use Rattle.lockword.specs.declared.reply.Reply.{Reply}
 use Rattle.lockword.specs.declared.reply.Reply.TheVariants.{OK, EFAULT}
 use Rattle.keys.specs.declared.access.Access.{Access}
 use Rattle.keys.specs.declared.access.Access.TheVariants as access

@@ -13,7 +13,6 @@ use Rattle.mutex.specs.Laws.{points, IsPermitted}
 use Rattle.mutex.specs.Standings.{Whole}
 use Rattle.mutex.specs.WholeLaws.{IsWhole}
 use Rattle.condvar.specs.declared.call.CondCall.{CondCall}
-use Rattle.condvar.specs.declared.phase.CondPhase.{CondPhase}
 use Rattle.condvar.specs.declared.phase.CondPhase.TheVariants.{Locking, Ended}
 use Rattle.condvar.specs.Calls.{operation_of}
 use Rattle.condvar.specs.Programs.{mutex_of}

@@ -1,5 +1,6 @@
 //! What holds of every call.
 ghost use Rattle.condvar.specs.Laws.{CallsAreRight, AccessesAreThere, MovesAreRight, NeedsAreOwned, PointsArePermitted};
+ghost use Rattle.condvar.specs.Faults.{FaultsAreTold};
 ghost use Rattle.condvar.specs.WholeLaws.{WholeCallsAreRight};
 
 /// Whatever words an access of a call meets, it is a step of the mutex as POSIX sees it; the counter goes up by one exactly where a signal or a broadcast
@@ -34,4 +35,9 @@ pub fn points_are_permitted()
 /// first load met; and where a wait takes its mutex again it is a call of lock, of which all holds that `mutex` says of whole calls.
 pub fn whole_calls_are_right()
     ensures { WholeCallsAreRight }
+{}
+
+/// Whatever a whole call is answered, it returns `EFAULT` exactly after an answer that its access doesn't have.
+pub fn faults_are_told()
+    ensures { FaultsAreTold }
 {}

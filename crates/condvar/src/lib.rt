@@ -21,8 +21,8 @@ pub use broadcast::BroadcastRow;
 pub use call::CondCall;
 pub use cell_program::{CellOnward, CellPhase, CondCellProgram};
 pub use laws::{
-    accesses_are_there, calls_are_right, moves_are_right, needs_are_owned, points_are_permitted,
-    whole_calls_are_right,
+    accesses_are_there, calls_are_right, faults_are_told, moves_are_right, needs_are_owned,
+    points_are_permitted, whole_calls_are_right,
 };
 pub use phase::{CondOnward, CondPhase};
 pub use program::CondProgram;

@@ -178,11 +178,11 @@ either a x = inr (λ h. h)
 
 -- ---- what a call was decided by, in each phase
 
-abbrev Once : Option Reply → List Reply → Type 0
+abbrev pub Once : Option Reply → List Reply → Type 0
 Once None ds = ds ≡ []
 Once (Some x) ds = (ds ≡ x ∷ []) × (x ≢ EFAULT)
 
-abbrev DecidedSo : Phase → List Reply → Type 0
+abbrev pub DecidedSo : Phase → List Reply → Type 0
 DecidedSo (Announcing r) ds = IsGoing r × Once (decided r) ds
 DecidedSo (AtCell r) ds = IsGoing r × Once (decided r) ds
 DecidedSo (Linking l x) ds = LinkGoes l.row × (ds ≡ x ∷ []) × (x ≢ EFAULT)
@@ -268,7 +268,7 @@ unlinked_so u (unlink.LoadPrevious n) d ds is e = (subst UnlinkGoes (sym is) tt,
 unlinked_so u (unlink.StoreNext n q) d ds is e = (subst UnlinkGoes (sym is) tt, e)
 unlinked_so u (unlink.StorePrevious n q) d ds is e = (subst UnlinkGoes (sym is) tt, e)
 
-phase_so : (p : Whole) (f : Phase) (a : Answer) (ds : List Reply) → DecidedSo f ds → DecidedSo (phase_led p f a).phase (ds ++ replies (phase_led p f a).point)
+pub phase_so : (p : Whole) (f : Phase) (a : Answer) (ds : List Reply) → DecidedSo f ds → DecidedSo (phase_led p f a).phase (ds ++ replies (phase_led p f a).point)
 phase_so p (Announcing r) Stored ds h = quiet (announced p r) ds (announced_so p r ds h.0 h.1)
 phase_so p (Announcing r) a ds h = λ m. absurd (m refl)
 phase_so p (AtCell r) a ds h = go (either (row_access p.thread p.cell r) a)
@@ -315,7 +315,7 @@ link_faults h e link.StoreFirst Stored g n = absurd (n tt)
 link_faults h e link.StoreFirst a g n = refl
 link_faults h e (link.Ended x) a g n = absurd g
 
-unlink_faults : (h e : ℕ) (r : UnlinkRow) (a : Answer) → UnlinkGoes r → ¬ IsAnswerOf (unlink_access h e r) a → unlink_resume h r a ≡ unlink.Ended EFAULT
+pub unlink_faults : (h e : ℕ) (r : UnlinkRow) (a : Answer) → UnlinkGoes r → ¬ IsAnswerOf (unlink_access h e r) a → unlink_resume h r a ≡ unlink.Ended EFAULT
 unlink_faults h e unlink.LoadNext (Value f) g n = absurd (n tt)
 unlink_faults h e unlink.LoadNext a g n = refl
 unlink_faults h e (unlink.LoadPrevious m) (Value f) g n = absurd (n tt)
@@ -326,7 +326,7 @@ unlink_faults h e (unlink.StorePrevious m q) Stored g n = absurd (n tt)
 unlink_faults h e (unlink.StorePrevious m q) a g n = refl
 unlink_faults h e (unlink.Ended x) a g n = absurd g
 
-phase_faults : (p : Whole) (f : Phase) (a : Answer) (ds : List Reply) → DecidedSo f ds → IsUnderWay f → ¬ IsAnswerOf (phase_access p f) a → (phase_led p f a).phase ≡ Ended EFAULT
+pub phase_faults : (p : Whole) (f : Phase) (a : Answer) (ds : List Reply) → DecidedSo f ds → IsUnderWay f → ¬ IsAnswerOf (phase_access p f) a → (phase_led p f a).phase ≡ Ended EFAULT
 phase_faults p (Announcing r) Stored ds h g n = absurd (n tt)
 phase_faults p (Announcing r) a ds h g n = refl
 phase_faults p (AtCell r) a ds h g n = cell_fault p r a (row_faults p.thread p.cell r a h.0 n)
@@ -345,7 +345,7 @@ faulted_calls l t c answers a g n =
 -- ---- answers
 
 -- it isn't a return with EFAULT
-abbrev NoFault : Phase → Type 0
+abbrev pub NoFault : Phase → Type 0
 NoFault (Ended EFAULT) = ⊥
 NoFault f = Unit {0}
 
@@ -413,12 +413,12 @@ linked_fine x l (link.Ended OK) h = tt
 linked_fine x l (link.Ended y) h = absurd h
 linked_fine x l r h = tt
 
-abbrev UnlinkFine : UnlinkRow → Type 0
+abbrev pub UnlinkFine : UnlinkRow → Type 0
 UnlinkFine (unlink.Ended OK) = Unit {0}
 UnlinkFine (unlink.Ended y) = ⊥
 UnlinkFine r = Unit {0}
 
-unlink_fine : (h e : ℕ) (r : UnlinkRow) (a : Answer) → UnlinkGoes r → IsAnswerOf (unlink_access h e r) a → UnlinkFine (unlink_resume h r a)
+pub unlink_fine : (h e : ℕ) (r : UnlinkRow) (a : Answer) → UnlinkGoes r → IsAnswerOf (unlink_access h e r) a → UnlinkFine (unlink_resume h r a)
 unlink_fine h e unlink.LoadNext (Value f) g is = tt
 unlink_fine h e unlink.LoadNext a g is = absurd is
 unlink_fine h e (unlink.LoadPrevious m) (Value f) g is = tt
@@ -438,7 +438,7 @@ unlinked_fine u (unlink.Ended OK) d h = tt
 unlinked_fine u (unlink.Ended y) d h = absurd h
 unlinked_fine u r d h = tt
 
-phase_fine : (p : Whole) (f : Phase) (a : Answer) (ds : List Reply) → DecidedSo f ds → IsUnderWay f → IsAnswerOf (phase_access p f) a → NoFault (phase_led p f a).phase
+pub phase_fine : (p : Whole) (f : Phase) (a : Answer) (ds : List Reply) → DecidedSo f ds → IsUnderWay f → IsAnswerOf (phase_access p f) a → NoFault (phase_led p f a).phase
 phase_fine p (Announcing r) Stored ds h g is = announced_fine p r
 phase_fine p (Announcing r) a ds h g is = absurd is
 phase_fine p (AtCell r) a ds h g is =
