@@ -183,7 +183,7 @@ impl Walk {
     }
 
     /// After an exchange that failed: the word that it found is looked at, once. While the dead thread owns a word, the library's own programs do nothing to it but set
-    /// WAITERS, which is set once; so a second exchange can't fail in a run of theirs. Where it does, the word is another program's, and the walk has to end.
+    /// WAITERS, which is set once; so a second exchange can't fail in a run of theirs. Where it does, the word is another program's, and is left alone, so that the walk comes to its end on any memory.
     fn after_miss(&self, at: u64, found: u64, again: bool, part: Part) -> Row
         requires { IsCounted part }
         ensures value { result ≡ after_miss self.now.thread self.now.head at again part found }
