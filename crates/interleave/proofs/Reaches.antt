@@ -28,12 +28,14 @@ use Rattle.protocol.specs.Sleepers.{alone, GoesOn}
 use Rattle.protocol.proofs.Queues.{Queued}
 use Rattle.protocol.proofs.QueueRuns.{run_queued}
 use Rattle.protocol.proofs.Undivided.{going}
+use Rattle.protocol.proofs.Waking.{told_sleeps}
 use Rattle.keys.specs.declared.access.Access.TheVariants.{Store}
 use Rattle.syscalls.specs.Kernels.{Kernel'}
 use Rattle.syscalls.specs.Memories as memories
 use Rattle.syscalls.specs.Memories.{word_at, words_after}
 use Rattle.protocol.specs.Deaths.{AreMourned}
 use Rattle.protocol.specs.Headline.{IsHistory, NoReapedOwns, seen}
+use Rattle.protocol.specs.Wakings.{TellsSleepers}
 use Rattle.protocol.proofs.Puts.{by_put, put-same, put-other}
 use Rattle.protocol.proofs.Kept.{Kept, InPhase, Sits}
 use Rattle.protocol.proofs.Deaths.{are_mourned}
@@ -42,7 +44,7 @@ use Rattle.protocol.proofs.Runs.{start_kept, run_kept, run_layout, legal}
 use Rattle.interleave.specs.Shown.{Shown, thread_at, state_at, state_of}
 use Rattle.interleave.specs.Notes.{is_nothing}
 use Rattle.interleave.specs.Steps.{IsOnItsWay, MayStep, SleepsInItsCall}
-use Rattle.interleave.specs.Reached.{IsReached, IsFirst, AtEachMoment}
+use Rattle.interleave.specs.Reached.{IsReached, IsFirst, AtEachMoment, TellsAtEachMoment}
 use Rattle.interleave.proofs.Views.{words-set}
 use Rattle.protocol.proofs.Steps.{seen-inside, is_valid-cell}
 use Rattle.std.specs.Option.{SomeIff}
@@ -282,6 +284,11 @@ notes-take s (e ∷ es) (suc n) = ap (λ (ns : List Note). (happens s e).note �
 pub each_moment : (s : State) (l : Layout') (counters : ℕ → ℕ) (es : List Event) → IsLayout l → s ≡ start l counters → AtEachMoment s es (notes s es)
 each_moment s l counters es is e n =
     subst (IsHistory (run s (take n es))) (sym (notes-take s es n)) (subst (λ (z : State). IsHistory (run z (take n es)) (notes z (take n es))) (sym e) (legal l counters (take n es) is))
+
+-- and so do the notes tell who sleeps
+pub tells_each_moment : (s : State) (l : Layout') (counters : ℕ → ℕ) (es : List Event) → IsLayout l → s ≡ start l counters → TellsAtEachMoment l s es (notes s es)
+tells_each_moment s l counters es is e n =
+    subst (TellsSleepers l (run s (take n es))) (sym (notes-take s es n)) (subst (λ (z : State). TellsSleepers l (run z (take n es)) (notes z (take n es))) (sym e) (told_sleeps l counters (take n es) is))
 
 -- one note more
 pub notes-more : (s : State) (es : List Event) (e : Event) → notes s (es ++ e ∷ []) ≡ notes s es ++ (happens (run s es) e).note ∷ []

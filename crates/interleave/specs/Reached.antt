@@ -6,6 +6,7 @@ use Rattle.protocol.specs.declared.event.Event.{Event}
 use Rattle.protocol.specs.declared.note.Note.{Note}
 use Rattle.protocol.specs.Machine.{State, start, run}
 use Rattle.protocol.specs.Headline.{IsHistory}
+use Rattle.protocol.specs.Wakings.{TellsSleepers}
 use Rattle.interleave.specs.Shown.{Shown, state_of}
 
 -- each thread's robust list begins at its head
@@ -39,3 +40,7 @@ pub record IsReached (m : Shown) : Type 0 where
 -- after each event the points so far are a legal history, which says of every mutex what its cell says
 abbrev pub AtEachMoment : State → List Event → List Note → Type 0
 AtEachMoment s events told = (n : ℕ) → IsHistory (run s (take n events)) (take n told)
+
+-- after each event the notes so far tell who sleeps, and on which mutex
+abbrev pub TellsAtEachMoment : Layout' → State → List Event → List Note → Type 0
+TellsAtEachMoment l s events told = (n : ℕ) → TellsSleepers l (run s (take n events)) (take n told)

@@ -102,7 +102,7 @@ fn first_kernel(alloc: Global, layout: &Layout) -> Result<Kernel, NoMem>
 
 impl Machine {
     ghost use Rattle.interleave.specs.Shown.{state_of};
-    ghost use Rattle.interleave.specs.Reached.{IsStart, IsReached, AtEachMoment};
+    ghost use Rattle.interleave.specs.Reached.{IsStart, IsReached, AtEachMoment, TellsAtEachMoment};
     ghost use Rattle.interleave.specs.Traces.{IsOf};
 
     /// A machine at its beginning: nobody owns a mutex, every robust list is empty, and every counter is 0.
@@ -183,9 +183,11 @@ impl Machine {
     /// Of a machine to which nothing has happened, the notes tell a legal history: after each event, the points so far take every mutex, as POSIX sees
     /// it, from free to what its cell says of its owner, OWNER_DIED and UNUSABLE. And they explain what each thread was told: a call that returned had one point, whose reply it
     /// returned, between its begin and its return, at events of its own thread; one that hasn't returned had one at most; and no point belongs to any other call.
+    /// After each event a thread stands in a queue exactly where the last of its sleeps, wakes and kills told so far is a sleep, in that of the mutex that this names.
     ///
     /// After each event the machine goes on: whenever a mutex that nobody owns has sleepers, some awake thread, run alone, takes it or wakes one of them within 9,000 steps;
-    /// whoever is awake and runs alone ends its call, falls asleep or is reaped within as many; and a call that no other event divides replies as the object does.
+    /// whoever is awake and runs alone ends its call, falls asleep or is reaped within as many; and a call that no other event divides returns within as many, or sleeps, and replies as
+    /// the object does.
     ///
     /// Threads may be killed at any event. A killed thread's call has no later point. Its death is told, once, of each mutex that it owned when it was killed and has lost since, and of
     /// no other. After each event a thread that was reaped owns no mutex.
@@ -198,6 +200,7 @@ impl Machine {
         ensures fresh { IfOk result (λ t. self.new.fresh ≡ (self.old.fresh && are_nothing t.notes.items)) }
         ensures history { IfOk result (λ t. self.old.fresh ≡ true → AtEachMoment (state_of self.old) events.now t.notes.items) }
         ensures explained { IfOk result (λ t. self.old.fresh ≡ true → IsExplained events.now t.notes.items) }
+        ensures sleeps { IfOk result (λ t. self.old.fresh ≡ true → TellsAtEachMoment self.old.layout (state_of self.old) events.now t.notes.items) }
         ensures goes_on { IfOk result (λ t. (n : ℕ) → GoesOn (run (state_of self.old) (take n events.now))) }
         ensures reaped { IfOk result (λ t. (n : ℕ) → NoReapedOwns (run (state_of self.old) (take n events.now))) }
         ensures deaths { IfOk result (λ t. AreMourned (state_of self.old) events.now) }

@@ -79,7 +79,7 @@ change_row u t cell (Consistent consistent.Declare) w q = Stays refl refl refl
 change_row u t cell (row.Ended x) w q = Stays refl refl refl
 
 -- who falls asleep is in a lock that saw the word
-sleeper : (t cell : ℕ) (r : Row) (w : ℕ) → sleeps_at (row_access t cell r) w ≡ true → (v : Fields) × (r ≡ Lock (lock.Sleep v))
+pub sleeper : (t cell : ℕ) (r : Row) (w : ℕ) → sleeps_at (row_access t cell r) w ≡ true → (v : Fields) × (r ≡ Lock (lock.Sleep v))
 sleeper t cell (Lock lock.Load) w e = absurd cc
 sleeper t cell (Lock (lock.Take v)) w e = absurd cc
 sleeper t cell (Lock (lock.SetWaiters v)) w e = absurd cc

@@ -4,7 +4,7 @@ use Rattle.std.specs.Prelude.{if◌then◌else◌}
 use Rattle.std.proofs.lemmas.Bool.{eqb-false}
 use Rattle.std.proofs.lemmas.Bool.Decides.{nat_tests}
 use Rattle.std.specs.Prelude.{Result, Ok, Err}
-use Rattle.keys.specs.Accesses.{address_of, sleeps_at}
+use Rattle.keys.specs.Accesses.{address_of}
 use Rattle.mutex.specs.declared.call.Call.{Call}
 use Rattle.mutex.specs.Calls.{mutex_of, operation_of}
 use Rattle.mutex.specs.Standings.{Whole}
@@ -34,7 +34,7 @@ use Rattle.protocol.specs.declared.note.Note.TheVariants.{Stepped}
 use Rattle.protocol.specs.declared.thread.Stage.{Stage}
 use Rattle.protocol.specs.declared.thread.Stage.TheVariants.{Idle, Calling, Dying, Reaped}
 use Rattle.protocol.specs.Notes.{facts_of, sleep_facts, return_facts, death_facts, reap_facts}
-use Rattle.protocol.specs.Machine.{State, After, start, run, notes, nothing, is_alive, may_begin, begun, went, sleeps, answer_of, decision, returned, woken_by, walked, has_ended, stage_walked, stepped, happens, killed}
+use Rattle.protocol.specs.Machine.{State, After, start, run, notes, nothing, is_alive, may_begin, begun, went, sleeps, answer_of, decision, returned, woken_by, walked, has_ended, stage_walked, stepped, happens, killed, slept_on}
 use Rattle.protocol.specs.Machine as machine
 use Rattle.protocol.specs.Headline.{seen, facts_among}
 use Rattle.protocol.specs.Deaths.{deaths, AreMourned, IsMourned, DeathsAreTold}
@@ -100,7 +100,7 @@ module _ (t m : ℕ) where
     call_lost u pos known c p is =
         let g : Stepping s u c p = goes s u c p inv pos known is in
         subst (Lost s) (sym (went-is s u c p g.valid))
-        (let none = call_deaths t m u (decision u c (onto s u c p).point) (if sleeps_at (whole_access p) (s.words (address_of (whole_access p))) then Some (mutex_of c) else None) (woken_by (whole_access p) (s.queues (address_of (whole_access p)))) (returned (onto s u c p).phase) in
+        (let none = call_deaths t m u (decision u c (onto s u c p).point) (slept_on s c (whole_access p)) (woken_by (whole_access p) (s.queues (address_of (whole_access p)))) (returned (onto s u c p).phase) in
         let kept = same g in omega arith)
       where
         other : u ≢ t

@@ -24,5 +24,7 @@ pub mod WalkQueues
 pub mod QueueRuns
 pub mod Owed
 pub mod WalksOwe
+pub mod Returning
 pub mod Undivided
 pub mod Applying
+pub mod Waking

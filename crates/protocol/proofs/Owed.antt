@@ -87,7 +87,7 @@ few_at (phase.Clearing x) w = omega arith
 few_at (phase.Ended x) w = omega arith
 
 -- something is left of a call that hasn't returned
-some_at : (t held : ℕ) (p : Whole) (f : Phase) (w : ℕ) (o : Object) → InPhase t held p f o → 0 < left_at f w
+pub some_at : (t held : ℕ) (p : Whole) (f : Phase) (w : ℕ) (o : Object) → InPhase t held p f o → 0 < left_at f w
 some_at t held p (phase.Announcing r) w o stands = omega arith
 some_at t held p (phase.AtCell r) w o stands = omega arith
 some_at t held p (phase.Linking l x) w o stands = omega arith

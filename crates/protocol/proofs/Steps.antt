@@ -1,5 +1,5 @@
 -- One access of a call, on the words and the threads of the machine.
-use Rattle.std.proofs.Common.{◌≡◌, ◌≢◌, ℕ, ◌%◌, ◌^◌, ◌<◌, ◌==◌, Bool, true, false, ◌&&◌, Option, Some, None, List, [], refl, sym, ap, subst, arith}
+use Rattle.std.proofs.Common.{◌≡◌, ◌≢◌, ℕ, ◌%◌, ◌^◌, ◌<◌, ◌==◌, Bool, true, false, Option, Some, None, List, [], refl, sym, ap, subst, arith}
 use Rattle.std.specs.Prelude.{if◌then◌else◌, nat_lt}
 use Rattle.std.proofs.lemmas.Bool.Decides.{nat_tests}
 use Rattle.lockword.specs.Cells.{fields_of, low_of}
@@ -11,7 +11,7 @@ use Rattle.keys.specs.declared.point.Operation.{Operation}
 use Rattle.keys.specs.declared.point.Operation.TheVariants as operation
 use Rattle.keys.specs.declared.object.Object.{Object}
 use Rattle.keys.specs.Layouts.{Layout', cell_place}
-use Rattle.keys.specs.Accesses.{address_of, changed, answer_at, sleeps_at}
+use Rattle.keys.specs.Accesses.{address_of, changed, answer_at}
 use Rattle.keys.specs.Objects.{Permits, Run, object_of, fresh, acquires}
 use Rattle.mutex.specs.declared.call.Call.{Call}
 use Rattle.mutex.specs.declared.lock.LockRow.TheVariants as lock
@@ -21,7 +21,7 @@ use Rattle.mutex.specs.declared.consistent.ConsistentRow.TheVariants as consiste
 use Rattle.mutex.specs.declared.row.Row.{Row}
 use Rattle.mutex.specs.declared.row.Row.TheVariants.{Lock, TryLock, Unlock, Consistent, Ended}
 use Rattle.mutex.specs.declared.phase.Onward.{Onward}
-use Rattle.mutex.specs.Calls.{mutex_of, operation_of}
+use Rattle.mutex.specs.Calls.{operation_of}
 use Rattle.mutex.specs.Standings.{Whole}
 use Rattle.mutex.specs.Rows.{IsGoing}
 use Rattle.mutex.specs.Programs.{row_access, row_operation, point_of, resume_of}
@@ -172,7 +172,7 @@ module _ (s : State) (t : ℕ) (c : Call) (p : Whole) where
   abbrev pub leaves : After
   leaves = record {
     state = after;
-    note = Stepped t (decision t c onto.point) (if sleeps_at access (s.words (address_of access)) then Some (mutex_of c) else None) (woken_by access (s.queues (address_of access))) (returned onto.phase);
+    note = Stepped t (decision t c onto.point) (slept_on s c access) (woken_by access (s.queues (address_of access))) (returned onto.phase);
   }
 
   pub went-is : is_valid s.layout (address_of access) ≡ true → went s t (s.threads t).held c p (whole_led p (answer_of s access)) ≡ leaves
@@ -183,7 +183,7 @@ module _ (s : State) (t : ℕ) (c : Call) (p : Whole) where
       queues = queues i;
       threads = put s.threads t (record { stage = stage_after c p (leads i).phase; held = held_after (s.threads t).held (operation_of c) (leads i).point });
     };
-    note = Stepped t (decision t c (leads i).point) (sleeping i) (waking i) (returned (leads i).phase);
+    note = Stepped t (decision t c (leads i).point) (slept_on s c access) (waking i) (returned (leads i).phase);
   }
     where
       leads : whole_led p (answer_of s access) ≡ onto
@@ -194,9 +194,6 @@ module _ (s : State) (t : ℕ) (c : Call) (p : Whole) where
 
       queues : queues_after s t access ≡ after.queues
       queues = ap (λ (b : Bool). if b then after.queues else s.queues) valid
-
-      sleeping : slept_on s c access ≡ (if sleeps_at access (s.words (address_of access)) then Some (mutex_of c) else None)
-      sleeping = ap (λ (b : Bool). if b && sleeps_at access (s.words (address_of access)) then Some (mutex_of c) else None) valid
 
       waking : woken s access ≡ woken_by access (s.queues (address_of access))
       waking = ap (λ (b : Bool). if b then woken_by access (s.queues (address_of access)) else []) valid

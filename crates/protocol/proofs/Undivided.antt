@@ -25,15 +25,14 @@ use Rattle.mutex.specs.declared.phase.Onward.{Onward}
 use Rattle.mutex.specs.Calls.{mutex_of, operation_of}
 use Rattle.mutex.specs.Laws.{Joins}
 use Rattle.mutex.specs.Standings.{Whole}
-use Rattle.mutex.specs.Whole.{begins, first_phase, whole_started, whole_access, whole_led}
+use Rattle.mutex.specs.Whole.{begins, first_phase, whole_started, whole_access}
 use Rattle.protocol.specs.declared.event.Event.TheVariants.{Begin, Step}
 use Rattle.protocol.specs.declared.note.Fact.{Fact}
 use Rattle.protocol.specs.declared.note.Fact.TheVariants.{Wake, Return}
 use Rattle.protocol.specs.declared.note.Note.TheVariants.{Stepped}
 use Rattle.protocol.specs.declared.thread.Thread.{Thread}
-use Rattle.protocol.specs.declared.thread.Stage.{Stage}
-use Rattle.protocol.specs.declared.thread.Stage.TheVariants.{Idle, Calling, Dying, Reaped}
-use Rattle.protocol.specs.Machine.{State, After, put, start, stands_in, sleepers, sleeps, is_thread, is_idle, is_asleep, may_begin, begun, nothing, stage_after, returned, decision, woken_by, stepped, happens, run, notes}
+use Rattle.protocol.specs.declared.thread.Stage.TheVariants.{Idle, Calling}
+use Rattle.protocol.specs.Machine.{State, After, start, stands_in, sleepers, sleeps, is_asleep, may_begin, begun, nothing, stage_after, returned, happens, run, notes}
 use Rattle.protocol.specs.Headline.{seen, facts_among}
 use Rattle.protocol.specs.Notes.{facts_of, sleep_facts, return_facts}
 use Rattle.protocol.specs.Sleepers.{IsAmong, IsUndivided, GoesOn, MachineGoesOn}
@@ -45,7 +44,8 @@ use Rattle.protocol.proofs.Stepping.{Stepping}
 use Rattle.protocol.proofs.Runs.{sound, start_kept, run_kept, does, at_rest}
 use Rattle.protocol.proofs.Queues.{Queued, idle_in_none}
 use Rattle.protocol.proofs.QueueRuns.{run_queued, queued_on}
-use Rattle.protocol.proofs.Owed.{step_is, fits, steps, next, s', steps_to, queued', stage', now_asleep, still_awake, now_idle, ended_or_not}
+use Rattle.protocol.proofs.Owed.{few_at, step_is, fits, steps, next, s', steps_to, queued', stage', now_asleep, still_awake, now_idle, ended_or_not}
+use Rattle.protocol.proofs.Returning.{still_run, still_tells, IsStill, idle_still, asleep_still, comes_back}
 use Rattle.protocol.proofs.WalksOwe.{somebody_owes, ends_alone}
 
 -- ---- what a step tells of returns
@@ -65,35 +65,6 @@ among_sleep t y z (Some m) ws x rest h = ⊎_elim (λ e. absurd (cc e)) (among_w
 among_step : (t y : ℕ) (z : Reply) (d : Option Decision) (m : Option ℕ) (ws : List ℕ) (x : Option Reply) (rest : List Fact) → IsAmong (Return y z) (facts_of (Stepped t d m ws x) ++ rest) → (x ≡ Some z) ⊎ IsAmong (Return y z) rest
 among_step t y z None m ws x rest h = among_sleep t y z m ws x rest h
 among_step t y z (Some d) m ws x rest h = ⊎_elim (λ e. absurd (cc e)) (among_sleep t y z m ws x rest) h
-
--- ---- a thread that is idle or asleep steps no more
-
-abbrev IsStill : State → ℕ → Type 0
-IsStill s t = happens s (Step t) ≡ nothing s
-
-still_run : (s : State) (t n : ℕ) → IsStill s t → run s (replicate n (Step t)) ≡ s
-still_run s t zero still = refl
-still_run s t (suc n) still = ap (λ (a : After). run a.state (replicate n (Step t))) still ∙ still_run s t n still
-
-still_tells : (s : State) (t n : ℕ) → IsStill s t → facts_among (notes s (replicate n (Step t))) ≡ []
-still_tells s t zero still = refl
-still_tells s t (suc n) still = ap (λ (a : After). facts_of a.note ++ facts_among (notes a.state (replicate n (Step t)))) still ∙ still_tells s t n still
-
-either_way : (b : Bool) (s : State) (a : After) → a ≡ nothing s → (if b then a else nothing s) ≡ nothing s
-either_way true s a e = e
-either_way false s a e = refl
-
-idle_still : (s : State) (t : ℕ) → (s.threads t).stage ≡ Idle → IsStill s t
-idle_still s t is = either_way (is_thread s t) s (stepped s t (s.threads t).held (s.threads t).stage) (ap (stepped s t (s.threads t).held) is)
-
-asleep_still : (s : State) (t : ℕ) → is_asleep s t ≡ true → IsStill s t
-asleep_still s t e = either_way (is_thread s t) s (stepped s t (s.threads t).held (s.threads t).stage) (go (s.threads t).stage e)
-  where
-    go : (g : Stage) → sleeps s t g ≡ true → stepped s t (s.threads t).held g ≡ nothing s
-    go Idle h = refl
-    go (Dying w) h = absurd cc
-    go Reaped h = refl
-    go (Calling c p) h = ap (λ (b : Bool). if b then nothing s else Rattle.protocol.specs.Machine.went s t (s.threads t).held c p (whole_led p (Rattle.protocol.specs.Machine.answer_of s (whole_access p)))) h
 
 -- a phase that goes on returns nothing
 goes_on : (f : Phase) → ((c : Call) (p : Whole) → stage_after c p f ≡ Calling c (record p { phase = f })) → (c : Call) (p : Whole) (x : Reply) → returned f ≡ Some x → ⊥
@@ -278,6 +249,7 @@ module _ (s : State) (t : ℕ) (c : Call) (n : ℕ) (inv : Kept s) (queued : Que
       let back : run s (Begin t c ∷ replicate n (Step t)) ≡ s = ap (λ (a : After). run a.state (replicate n (Step t))) to ∙ still_run s t n still in
       let holds : (acquires (operation_of c) && nat_le 2048 owned) ≡ true = subst (λ (h : ℕ). (acquires (operation_of c) && nat_le 2048 h) ≡ true) (inv.held t pos known) e in
       record {
+        ends = λ enough. inl (XHELD, subst (λ (a : After). IsAmong (Return t XHELD) (facts_of a.note ++ facts_among (notes a.state (replicate n (Step t))))) (sym to) (inr (inr (inl refl))));
         returns = λ x among.
             let said = subst (λ (a : After). IsAmong (Return t x) (facts_of a.note ++ facts_among (notes a.state (replicate n (Step t))))) to among in
             let is : x ≡ XHELD = only x (subst (λ fs. IsAmong (Return t x) (facts_of (begun_to true).note ++ fs)) (still_tells s t n still) said) in (
@@ -301,12 +273,17 @@ module _ (s : State) (t : ℕ) (c : Call) (n : ℕ) (inv : Kept s) (queued : Que
       let s1 : State = (begun_to false).state in
       let kept1 : Kept s1 = subst (λ (a : After). Kept a.state) to (sound s (Begin t c) inv).kept in
       let queued1 : Queued s1 = subst (λ (a : After). Queued a.state) to (queued_on s (Begin t c) inv queued) in
+      let begins_here : (s1.threads t).stage ≡ Calling c begins_at = ap (λ (z : Thread). z.stage) (put-same s.threads t (record (s.threads t) { stage = Calling c begins_at })) in
       let comes1 = comes t owned c (seen s (mutex_of c)) room n s1 begins_at kept1 queued1 pos known
-      (ap (λ (z : Thread). z.stage) (put-same s.threads t (record (s.threads t) { stage = Calling c begins_at })))
+      begins_here
       (idle_in_none s t queued idle (cell_place s.layout (mutex_of c)))
       (first_steady t c (s.words (cell_place s.layout (mutex_of c))))
       (subst (λ (d : Option Reply). Decided t owned c (seen s (mutex_of c)) room d (seen s (mutex_of c))) (sym (first_decided c)) refl) in
       record {
+        ends = λ enough.
+            subst (λ (a : After). ((x : Reply) × IsAmong (Return t x) (facts_of a.note ++ facts_among (notes a.state (replicate n (Step t))))) ⊎ (is_asleep (run a.state (replicate n (Step t))) t ≡ true)) (sym to)
+            (⊎_elim (λ told. inl (told.0, inr told.1)) inr
+            (comes_back n s1 t c begins_at kept1 queued1 pos known begins_here (let few = few_at begins_at.phase (s1.words (cell_place s.layout (mutex_of c))) in omega arith)));
         returns = λ x among.
             let said = subst (λ (a : After). IsAmong (Return t x) (facts_of a.note ++ facts_among (notes a.state (replicate n (Step t))))) to among in
             subst (λ (a : After). (x ≢ XRACED) × Does owned (seen s (mutex_of c)) t (operation_of c) x (seen (run a.state (replicate n (Step t))) (mutex_of c))) (sym to)

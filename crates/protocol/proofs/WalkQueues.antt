@@ -54,7 +54,7 @@ without_stands t u (v ∷ vs) e = go (v == t) refl (v == u) refl (without_stands
     go false x true y rest e = (refl, λ is. eqb-false v t x (eqb-true v u y ∙ is))
     go false x false y rest e = rest (sym (ap (λ (b : Bool). if b then true else stands_in u (without t vs)) y) ∙ e)
 
-without_gone : (t : ℕ) (q : List ℕ) → stands_in t (without t q) ≡ false
+pub without_gone : (t : ℕ) (q : List ℕ) → stands_in t (without t q) ≡ false
 without_gone t q = not_true (stands_in t (without t q)) (λ e. (without_stands t t q e).1 refl)
 
 once_without : (t : ℕ) (q : List ℕ) → Once q → Once (without t q)

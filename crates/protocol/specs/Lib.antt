@@ -6,3 +6,4 @@ pub mod Sleepers
 pub mod Lists
 pub mod Deaths
 pub mod Applies
+pub mod Wakings

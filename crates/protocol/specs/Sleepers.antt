@@ -52,9 +52,10 @@ abbrev pub IsAmong : Fact → List Fact → Type 0
 IsAmong f [] = ⊥
 IsAmong f (g ∷ gs) = (g ≡ f) ⊎ IsAmong f gs
 
--- a call and n steps of its thread, which no other event divides: whatever it returns is a reply of its mutex's object as it was, never X_RACED, and leaves that object as it is then; and it
--- sleeps only where it is a lock of a mutex that another owns
+-- a call and n steps of its thread, which no other event divides: after 9,000 its return has been told, or it sleeps. Whatever it returns is a reply of its mutex's object as it was, never X_RACED, and
+-- leaves that object as it is then; and it sleeps only where it is a lock of a mutex that another owns
 pub record IsUndivided (s : State) (t : ℕ) (c : Call) (n : ℕ) : Type 0 where
+  pub ends : 9000 ≤ n → ((x : Reply) × IsAmong (Return t x) (facts_among (notes s (Begin t c ∷ replicate n (Step t))))) ⊎ (is_asleep (run s (Begin t c ∷ replicate n (Step t))) t ≡ true)
   pub returns : (x : Reply) → IsAmong (Return t x) (facts_among (notes s (Begin t c ∷ replicate n (Step t)))) → (x ≢ XRACED) × Does (held_by t (seen s) s.layout.mutexes) (seen s (mutex_of c)) t (operation_of c) x (seen (run s (Begin t c ∷ replicate n (Step t))) (mutex_of c))
   pub sleeps : is_asleep (run s (Begin t c ∷ replicate n (Step t))) t ≡ true → (operation_of c ≡ Lock) × ((u : ℕ) × ((seen s (mutex_of c)).owner ≡ Some u) × (u ≢ t))
 

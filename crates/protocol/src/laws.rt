@@ -5,6 +5,7 @@ ghost use Rattle.protocol.specs.Sleepers.{MachineGoesOn};
 ghost use Rattle.protocol.specs.Lists.{ListsAreKept};
 ghost use Rattle.protocol.specs.Deaths.{DeathsAreTold};
 ghost use Rattle.protocol.specs.Applies.{EventsApply};
+ghost use Rattle.protocol.specs.Wakings.{SleepsAreTold};
 
 /// Whatever happens, the points are one legal history of POSIX robust mutexes, which says at each moment what every cell says.
 pub fn history_is_legal()
@@ -29,8 +30,8 @@ pub fn trace_is_explained()
 {}
 
 /// Whatever happens: whenever a mutex that nobody owns has sleepers, some awake thread, run alone, takes it or wakes one of them within 9,000 steps. Whoever is awake and runs
-/// alone ends its call or falls asleep within 9,000 steps. And a call that no other event divides replies as the object does, never with `XRACED`, and sleeps only where it locks
-/// a mutex that another owns.
+/// alone ends its call or falls asleep within 9,000 steps. And a call that no other event divides returns within as many, or sleeps; it replies as the object does, never with
+/// `XRACED`, and sleeps only where it locks a mutex that another owns.
 pub fn machine_goes_on()
     ensures { MachineGoesOn }
 {}
@@ -46,4 +47,10 @@ pub fn lists_are_kept()
 /// nothing, and changes nothing.
 pub fn events_apply()
     ensures { EventsApply }
+{}
+
+/// Whatever happens: a thread stands in a queue exactly where the last of its lines among sleep, wake and kill is a sleep, in that of the mutex that this names. So its sleeps and wakes alternate; a
+/// sleep is told exactly where it comes to stand in a queue, and a wake exactly where it leaves one, but by its kill.
+pub fn sleeps_are_told()
+    ensures { SleepsAreTold }
 {}

@@ -1,8 +1,8 @@
 //! The protocol of robust mutexes as a pure machine, and what holds of every run of it.
 //!
 //! A state is the words, who sleeps on each, and for each thread the call that it is in. An event begins a call or makes its next access; `specs/`
-//! says what each event does and notes, and a trace is what the notes tell. `history_is_legal`, `events_apply`, `trace_is_explained`, `machine_goes_on`
-//! and `lists_are_kept` are the theorems about every run.
+//! says what each event does and notes, and a trace is what the notes tell. `history_is_legal`, `events_apply`, `trace_is_explained`,
+//! `machine_goes_on`, `sleeps_are_told` and `lists_are_kept` are the theorems about every run.
 #![tactic(auto)]
 
 mod event;
@@ -13,7 +13,7 @@ mod thread;
 pub use event::Event;
 pub use laws::{
     deaths_are_told, events_apply, history_is_legal, lists_are_kept, machine_goes_on,
-    no_reaped_owner, trace_is_explained,
+    no_reaped_owner, sleeps_are_told, trace_is_explained,
 };
 pub use note::{Fact, Line, Note};
 pub use thread::{Stage, Thread};

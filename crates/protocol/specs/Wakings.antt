@@ -1,0 +1,70 @@
+-- What a trace tells of who falls asleep and who is woken (futex(2)).
+use Rattle.std.specs.Prelude.{ℕ, ◌≡◌, ◌≢◌, ◌<◌, ◌==◌, ◌↔◌, true, Option, Some, None, List, [], ◌∷◌, if◌then◌else◌}
+use Rattle.keys.specs.Layouts.{Layout', IsLayout, cell_place}
+use Rattle.protocol.specs.declared.event.Event.{Event}
+use Rattle.protocol.specs.declared.event.Event.TheVariants as event
+use Rattle.protocol.specs.declared.note.Note.{Note}
+use Rattle.protocol.specs.declared.note.Fact.{Fact}
+use Rattle.protocol.specs.declared.note.Fact.TheVariants.{Sleep, Wake, Kill}
+use Rattle.protocol.specs.Notes.{facts_of}
+use Rattle.protocol.specs.Machine.{State, start, happens, run, notes, stands_in}
+use Rattle.protocol.specs.Headline.{facts_among}
+use Rattle.protocol.specs.Sleepers.{Sleeps, IsAmong}
+use Rattle.protocol.specs.Applies.{IsInNoQueue}
+
+-- ---- what lines tell of a thread
+
+-- the mutex that thread t sleeps on, with one fact more: a sleep names it, and a wake and its kill end it
+abbrev pub asleep_next : ℕ → Option ℕ → Fact → Option ℕ
+asleep_next t w (Sleep u m) = if u == t then Some m else w
+asleep_next t w (Wake u) = if u == t then None else w
+asleep_next t w (Kill u) = if u == t then None else w
+asleep_next t w f = w
+
+abbrev pub asleep_after : ℕ → Option ℕ → List Fact → Option ℕ
+asleep_after t w [] = w
+asleep_after t w (f ∷ fs) = asleep_after t (asleep_next t w f) fs
+
+-- that of the last of its lines among sleep, wake and kill, where this is a sleep; of a thread without such a line it is none
+abbrev pub told_asleep : ℕ → List Note → Option ℕ
+told_asleep t ns = asleep_after t None (facts_among ns)
+
+-- it is told to fall asleep only where it was awake, and to be woken only where it slept
+abbrev pub MayFollow : ℕ → Option ℕ → Fact → Type 0
+MayFollow t w (Sleep u m) = u ≡ t → w ≡ None
+MayFollow t w (Wake u) = u ≡ t → w ≢ None
+MayFollow t w f = Unit {0}
+
+-- so its sleeps and wakes alternate
+abbrev pub Alternates : ℕ → Option ℕ → List Fact → Type 0
+Alternates t w [] = Unit {0}
+Alternates t w (f ∷ fs) = MayFollow t w f × Alternates t (asleep_next t w f) fs
+
+-- ---- one event more
+
+-- it stood in no queue, and stands in that of mutex m then
+abbrev pub FallsAsleep : State → State → ℕ → ℕ → Type 0
+FallsAsleep s s' t m = IsInNoQueue s t × Sleeps s' t m
+
+-- it stood in a queue, and stands in none then
+abbrev pub LeavesQueue : State → State → ℕ → Type 0
+LeavesQueue s s' t = ((key : ℕ) × (stands_in t (s.queues key) ≡ true)) × IsInNoQueue s' t
+
+-- an event tells thread t's sleep exactly where it comes to stand in a queue, that of the mutex that the sleep names; and its wake exactly where it leaves one, but by its kill
+pub record TellsTurns (s : State) (e : Event) (t : ℕ) : Type 0 where
+  pub sleep : (m : ℕ) → IsAmong (Sleep t m) (facts_of (happens s e).note) ↔ FallsAsleep s (happens s e).state t m
+  pub wake : IsAmong (Wake t) (facts_of (happens s e).note) ↔ (LeavesQueue s (happens s e).state t × (e ≢ event.Kill t))
+
+-- ---- runs
+
+-- of a state that events lead to that were noted so: a thread stands in a queue exactly where the last of its lines among sleep, wake and kill is a sleep, in that of the mutex that this names, and in
+-- no other
+pub record TellsSleepers (l : Layout') (s : State) (ns : List Note) : Type 0 where
+  pub stands : (t key : ℕ) → stands_in t (s.queues key) ≡ true → (m : ℕ) × (told_asleep t ns ≡ Some m) × (key ≡ cell_place l m)
+  pub sleeps : (t m : ℕ) → told_asleep t ns ≡ Some m → (m < l.mutexes) × Sleeps s t m
+  pub alternate : (t : ℕ) → Alternates t None (facts_among ns)
+  pub next : (e : Event) (t : ℕ) → TellsTurns s e t
+
+-- whatever happens, with any values of the counters at the beginning; so after each event
+abbrev pub SleepsAreTold : Type 0
+SleepsAreTold = (l : Layout') (counters : ℕ → ℕ) (events : List Event) → IsLayout l → TellsSleepers l (run (start l counters) events) (notes (start l counters) events)
