@@ -10,7 +10,7 @@ use Rattle.verdict.specs.declared.checking.Verdict.{Verdict}
 use Rattle.verdict.specs.declared.checking.Verdict.TheVariants.{Legal, Illegal}
 use Rattle.verdict.specs.declared.fault.Fault.TheVariants.{NotUtf8, TooLong}
 use Rattle.verdict.specs.declared.fault.TraceFault.{TraceFault}
-use Rattle.verdict.specs.declared.limits.TheConstants.{MAX_BYTES}
+use Rattle.verdict.specs.Limits.{max_bytes}
 use Rattle.verdict.specs.Reading.{Trace, fault_at, text_read, trace_read}
 use Rattle.texts.specs.Leaves.{AppendsFront}
 use Rattle.report.specs.Verdicts.{verdict_text, verdict_status, IsVerdictOn, FoundLegal, JudgedFront, Checked, CheckedFront}
@@ -21,10 +21,10 @@ found old new bytes (Legal points) on a is = (points, on, a)
 found old new bytes (Illegal line) on a is = absurd cc
 
 -- a trace isn't too long
-pub read_is_short : (bytes : List ℕ) (t : Trace) → trace_read bytes ≡ Ok t → length bytes ≤ MAX_BYTES
-read_is_short bytes t is = go (nat_lt MAX_BYTES (length bytes)) refl
+pub read_is_short : (bytes : List ℕ) (t : Trace) → trace_read bytes ≡ Ok t → length bytes ≤ max_bytes
+read_is_short bytes t is = go (nat_lt max_bytes (length bytes)) refl
   where
-    go : (b : Bool) → nat_lt MAX_BYTES (length bytes) ≡ b → length bytes ≤ MAX_BYTES
+    go : (b : Bool) → nat_lt max_bytes (length bytes) ≡ b → length bytes ≤ max_bytes
     go true long =
         let fault : trace_read bytes ≡ Err (fault_at 1 TooLong) = rw long refl in
         let both : Ok t ≡ Err (fault_at 1 TooLong) = sym is ∙ fault in absurd cc

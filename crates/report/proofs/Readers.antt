@@ -1,7 +1,8 @@
 -- What a reader has left, read after read.
-use Rattle.std.proofs.Common.{◌≡◌, ℕ, ◌+◌, ◌-◌, ◌≤◌, List, [], ◌++◌, length, take, Option, Some, None, refl, sym, ap, ◌∙◌, append_assoc, arith, slice_range, drop_at, length-take-le, le_refl}
+use Rattle.std.proofs.Common.{◌≡◌, ℕ, ◌+◌, ◌-◌, ◌≤◌, List, [], ◌++◌, length, take, Option, Some, None, refl, sym, ap, ◌∙◌, append_assoc, arith, slice_range, drop_at, length-take-le, length-append, le_refl}
 use Rattle.std.specs.Io.KnownBytes.{Consumes, Keeps}
 use Rattle.std.proofs.lemmas.Slice.{take-put_mid_below}
+use Rattle.report.specs.Served.{TakesAtMost}
 use borrow.Rule.Slice.PartMut.{put_mid, post_of}
 use lib.Seq.{take-add, take-append-le}
 
@@ -40,3 +41,7 @@ slice_range-put_mid a k n xs ys within fits =
 -- what stood before a stays
 pub front_stays : (a k : ℕ) (xs ys : List ℕ) → a ≤ length xs → take a (put_mid a k xs ys) ≡ take a xs
 front_stays a k xs ys within = take-put_mid_below _ _ _ _ _ (le_refl _) within
+
+-- some bytes, and then at most as many as there was room for
+pub takes_on : (limit room : ℕ) (a b c : Option (List ℕ)) (bs : List ℕ) → Consumes a b bs → TakesAtMost room b c → length bs + room ≤ limit → TakesAtMost limit a c
+takes_on limit room a b c bs p t fits = (bs ++ t.0, Consumes-trans a b c bs t.0 p t.1, let few = t.2 in omega (arith, length-append bs t.0))

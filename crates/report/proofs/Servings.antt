@@ -9,7 +9,6 @@ use Rattle.interleave.specs.declared.trace.Trace.{Trace}
 use Rattle.interleave.specs.Shown.{Shown, state_of}
 use Rattle.script.specs.declared.command.Mode.TheVariants.{Run, Threads}
 use Rattle.script.specs.declared.fault.ScriptFault.{ScriptFault}
-use Rattle.script.specs.declared.limits.TheConstants.{MAX_BYTES}
 use Rattle.script.specs.Scope.{Scope}
 use Rattle.script.specs.Reading.{script_read}
 use Rattle.script.specs.Playing.{layout_of, first_state, events_in}

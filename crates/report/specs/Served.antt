@@ -7,7 +7,7 @@ use Rattle.protocol.specs.Notes.{lines_from}
 use Rattle.protocol.specs.Machine.{run, notes}
 use Rattle.script.specs.declared.command.Mode.{Mode}
 use Rattle.script.specs.declared.command.Mode.TheVariants.{Run, Threads}
-use Rattle.script.specs.declared.limits.TheConstants.{MAX_BYTES}
+use Rattle.script.specs.Limits.{max_bytes}
 use Rattle.script.specs.Scope.{Scope}
 use Rattle.script.specs.Reading.{script_read}
 use Rattle.script.specs.Playing.{first_state, events_in, overlong}
@@ -24,7 +24,7 @@ use Rattle.texts.specs.Leaves.{AppendsFront}
 use Rattle.texts.specs.Text.{head_line, line_text, end_line}
 use Rattle.texts.specs.Tables.{table_text}
 use Rattle.report.specs.Verdicts.{Checked, CheckedFront}
-use Rattle.verdict.specs.declared.limits.TheConstants as traces
+use Rattle.verdict.specs.Limits as traces
 
 -- the text of a run with these notes
 abbrev pub run_text : ℕ → ℕ → List Note → List ℕ
@@ -113,14 +113,19 @@ ServedFrontAs (form.Threads file) had left old new = ServedFront replies had lef
 ServedFrontAs (form.Check file) had left old new = CheckedFront had left old new
 ServedFrontAs form.Usage had left old new = new ≡ old
 
+-- how many bytes memory is asked for at a time while a file is read: as many as a reader with a buffer keeps. So what is asked for
+-- grows with the file, and a short one needs no room for the longest
+abbrev pub part_bytes : ℕ
+part_bytes = 8192
+
 -- at most so many bytes were taken from the reader
 abbrev pub TakesAtMost : ℕ → Option (List ℕ) → Option (List ℕ) → Type 0
 TakesAtMost limit had left = (bytes : List ℕ) × Consumes had left bytes × (length bytes ≤ limit)
 
 -- how many bytes a form takes at most: of a script or a trace one more than it may have, which tells that it is too long
 abbrev pub bytes_at_most : Form → ℕ
-bytes_at_most (form.Run file) = MAX_BYTES + 1
-bytes_at_most (form.Table file) = MAX_BYTES + 1
-bytes_at_most (form.Threads file) = MAX_BYTES + 1
-bytes_at_most (form.Check file) = traces.MAX_BYTES + 1
+bytes_at_most (form.Run file) = max_bytes + 1
+bytes_at_most (form.Table file) = max_bytes + 1
+bytes_at_most (form.Threads file) = max_bytes + 1
+bytes_at_most (form.Check file) = traces.max_bytes + 1
 bytes_at_most form.Usage = 0

@@ -1,7 +1,7 @@
 //! Judging a trace, and telling the verdict.
 
 ghost use Rattle.std.specs.Prelude.{◌≡◌, ◌≤◌, ◌⊎◌, length};
-ghost use Rattle.verdict.specs.declared.limits.TheConstants.{MAX_BYTES};
+ghost use Rattle.verdict.specs.Limits.{max_bytes};
 ghost use Rattle.texts.specs.Leaves.{Leaves};
 ghost use Rattle.report.specs.Verdicts.{verdict_status, verdict_text, FoundLegal, JudgedFront};
 
@@ -45,7 +45,7 @@ fn status_of(verdict: Verdict) -> u8
 pub fn judge_bytes<W: Write, E: Write>(alloc: Global, bytes: &[u8], out: &mut W, err: &mut E) -> u8
     ensures done { result ≡ 0 → FoundLegal (W.contents out.old) (W.contents out.new) bytes.now }
     ensures front { (W.contents out.new ≡ W.contents out.old) ⊎ JudgedFront (W.contents out.old) (W.contents out.new) bytes.now }
-    ensures short { (length bytes.now ≤ MAX_BYTES) ⊎ ((W.contents out.new ≡ W.contents out.old) × (result ≡ 1)) }
+    ensures short { (length bytes.now ≤ max_bytes) ⊎ ((W.contents out.new ≡ W.contents out.old) × (result ≡ 1)) }
     ensures last { result ≤ 1 }
 {
     let verdict = match check(alloc, bytes) {

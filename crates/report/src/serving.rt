@@ -2,6 +2,7 @@
 ghost use Rattle.std.specs.Prelude.{◌≡◌, ◌≤◌, ◌<◌, ◌^◌, ◌+◌, ◌⊎◌, ◌↔◌, length, vec_len, Ok, IfOk, IfErr};
 ghost use Rattle.std.specs.Io.KnownBytes.{Consumes, IsAtEnd};
 ghost use Rattle.script.specs.declared.command.Mode.TheVariants.{Run};
+ghost use Rattle.script.specs.Limits.{max_bytes};
 ghost use Rattle.script.specs.Reading.{script_read};
 ghost use Rattle.script.specs.Played.{IsPlayed};
 ghost use Rattle.interleave.specs.Shown.{state_of};
@@ -11,7 +12,7 @@ ghost use Rattle.texts.specs.Tables.{table_text};
 ghost use Rattle.texts.specs.Replies.{replies_text};
 ghost use Rattle.report.specs.Served.{trace, table, replies, bytes_at_most, Written, WritesFront, Tells, TellsFront, Served, ServedFront, ServedAs, ServedFrontAs, TakesAtMost};
 ghost use Rattle.report.specs.Verdicts.{Checked, CheckedFront};
-ghost use Rattle.verdict.specs.declared.limits.TheConstants as traces;
+ghost use Rattle.verdict.specs.Limits as traces;
 ghost use Rattle.cmdline.specs.declared.form.Form.TheVariants.{Usage};
 
 use crate::answers::{mutex_words, thread_replies};
@@ -69,7 +70,7 @@ struct Played {
 fn play_bytes<E: Write>(alloc: Global, bytes: &[u8], err: &mut E) -> Result<Played, u8>
     ensures reads { IfOk result (λ p. script_read Run bytes.now ≡ Ok p.script) }
     ensures plays { IfOk result (λ p. IsPlayed p.script p.trace p.machine) }
-    ensures short { IfOk result (λ _. length bytes.now ≤ MAX_BYTES) }
+    ensures short { IfOk result (λ _. length bytes.now ≤ max_bytes) }
     ensures status { IfErr result (λ status. status ≡ 1) }
 {
     let script = match parse(alloc, bytes, Mode::Run) {
@@ -90,7 +91,7 @@ fn play_bytes<E: Write>(alloc: Global, bytes: &[u8], err: &mut E) -> Result<Play
 fn trace_bytes<W: Write, E: Write>(alloc: Global, bytes: &[u8], out: &mut W, err: &mut E) -> u8
     ensures done { result ≡ 0 → Written trace (W.contents out.old) (W.contents out.new) bytes.now }
     ensures front { WritesFront trace (W.contents out.old) (W.contents out.new) bytes.now }
-    ensures short { (length bytes.now ≤ MAX_BYTES) ⊎ ((W.contents out.new ≡ W.contents out.old) × (result ≡ 1)) }
+    ensures short { (length bytes.now ≤ max_bytes) ⊎ ((W.contents out.new ≡ W.contents out.old) × (result ≡ 1)) }
     ensures last { result ≤ 1 }
 {
     let played = match play_bytes(alloc, bytes, err) {
@@ -122,7 +123,7 @@ fn write_table_out<W: Write>(
 fn table_bytes<W: Write, E: Write>(alloc: Global, bytes: &[u8], out: &mut W, err: &mut E) -> u8
     ensures done { result ≡ 0 → Written table (W.contents out.old) (W.contents out.new) bytes.now }
     ensures front { WritesFront table (W.contents out.old) (W.contents out.new) bytes.now }
-    ensures short { (length bytes.now ≤ MAX_BYTES) ⊎ ((W.contents out.new ≡ W.contents out.old) × (result ≡ 1)) }
+    ensures short { (length bytes.now ≤ max_bytes) ⊎ ((W.contents out.new ≡ W.contents out.old) × (result ≡ 1)) }
     ensures last { result ≤ 1 }
 {
     let Played {
@@ -187,7 +188,7 @@ fn thread_bytes<T: Threads + Wait + Sync, W: Write, E: Write>(
 ) -> u8
     ensures done { result ≡ 0 → Written replies (W.contents out.old) (W.contents out.new) bytes.now }
     ensures front { WritesFront replies (W.contents out.old) (W.contents out.new) bytes.now }
-    ensures short { (length bytes.now ≤ MAX_BYTES) ⊎ ((W.contents out.new ≡ W.contents out.old) × (result ≡ 1)) }
+    ensures short { (length bytes.now ≤ max_bytes) ⊎ ((W.contents out.new ≡ W.contents out.old) × (result ≡ 1)) }
     ensures last { result ≤ 1 }
 {
     let script = match parse(alloc, bytes, Mode::Threads) {
@@ -215,7 +216,7 @@ fn serve_trace<R: Read, W: Write, E: Write>(
     ensures done { result ≡ 0 → Served trace (R.remaining input.old) (R.remaining input.new) (W.contents out.old) (W.contents out.new) }
     ensures front { ServedFront trace (R.remaining input.old) (R.remaining input.new) (W.contents out.old) (W.contents out.new) }
     ensures last { result ≤ 1 }
-    ensures limit { TakesAtMost (MAX_BYTES + 1) (R.remaining input.old) (R.remaining input.new) }
+    ensures limit { TakesAtMost (max_bytes + 1) (R.remaining input.old) (R.remaining input.new) }
 {
     match read_file(alloc, file, MAX_BYTES, input, err) {
         Ok(bytes) => trace_bytes(alloc, &bytes, out, err),
@@ -234,7 +235,7 @@ fn serve_table<R: Read, W: Write, E: Write>(
     ensures done { result ≡ 0 → Served table (R.remaining input.old) (R.remaining input.new) (W.contents out.old) (W.contents out.new) }
     ensures front { ServedFront table (R.remaining input.old) (R.remaining input.new) (W.contents out.old) (W.contents out.new) }
     ensures last { result ≤ 1 }
-    ensures limit { TakesAtMost (MAX_BYTES + 1) (R.remaining input.old) (R.remaining input.new) }
+    ensures limit { TakesAtMost (max_bytes + 1) (R.remaining input.old) (R.remaining input.new) }
 {
     match read_file(alloc, file, MAX_BYTES, input, err) {
         Ok(bytes) => table_bytes(alloc, &bytes, out, err),
@@ -254,7 +255,7 @@ fn serve_threads<T: Threads + Wait + Sync, R: Read, W: Write, E: Write>(
     ensures done { result ≡ 0 → Served replies (R.remaining input.old) (R.remaining input.new) (W.contents out.old) (W.contents out.new) }
     ensures front { ServedFront replies (R.remaining input.old) (R.remaining input.new) (W.contents out.old) (W.contents out.new) }
     ensures last { result ≤ 1 }
-    ensures limit { TakesAtMost (MAX_BYTES + 1) (R.remaining input.old) (R.remaining input.new) }
+    ensures limit { TakesAtMost (max_bytes + 1) (R.remaining input.old) (R.remaining input.new) }
 {
     match read_file(alloc, file, MAX_BYTES, input, err) {
         Ok(bytes) => thread_bytes(rt, alloc, &bytes, out, err),
@@ -273,7 +274,7 @@ fn serve_check<R: Read, W: Write, E: Write>(
     ensures done { result ≡ 0 → Checked (R.remaining input.old) (R.remaining input.new) (W.contents out.old) (W.contents out.new) }
     ensures front { CheckedFront (R.remaining input.old) (R.remaining input.new) (W.contents out.old) (W.contents out.new) }
     ensures last { result ≤ 1 }
-    ensures limit { TakesAtMost (traces.MAX_BYTES + 1) (R.remaining input.old) (R.remaining input.new) }
+    ensures limit { TakesAtMost (traces.max_bytes + 1) (R.remaining input.old) (R.remaining input.new) }
 {
     match read_file(alloc, file, verdict::MAX_BYTES, input, err) {
         Ok(bytes) => judge_bytes(alloc, &bytes, out, err),

@@ -20,7 +20,7 @@ use Rattle.script.specs.declared.command.Action.{Action}
 use Rattle.script.specs.declared.command.Action.TheVariants as action
 use Rattle.script.specs.declared.fault.Fault.{Fault}
 use Rattle.script.specs.declared.fault.Fault.TheVariants.{UnknownWord, OutOfRange, NoSuchName, TooLong}
-use Rattle.script.specs.declared.limits.TheConstants.{MAX_LINES, MAX_THREADS, MAX_MUTEXES, MAX_STEPS}
+use Rattle.script.specs.Limits.{max_lines, max_threads, max_mutexes, max_steps}
 
 -- what holds of the first thing's value serves the second
 chain : {A B : Type 0} (r : Result A Fault) (f : A → Result B Fault) (P : A → Type 0) (Q : B → Type 0) → IfOk r P → ((x : A) → P x → IfOk (f x) Q) → IfOk (r >>= f) Q
@@ -82,8 +82,8 @@ appended n s a h p = record {
 
 -- a count that a line gives is in its range
 abbrev IsFit : Form → Type 0
-IsFit (steps t count) = IfSome count (λ n. (1 ≤ n) × (n ≤ MAX_STEPS))
-IsFit (locks t m count) = IfSome count (λ n. (1 ≤ n) × (n ≤ MAX_MUTEXES))
+IsFit (steps t count) = IfSome count (λ n. (1 ≤ n) × (n ≤ max_steps))
+IsFit (locks t m count) = IfSome count (λ n. (1 ≤ n) × (n ≤ max_mutexes))
 IsFit f = Unit {0}
 
 -- an action that the script may have
@@ -100,11 +100,11 @@ of_thread : (s : Scope) (t : List ℕ) (make : ℕ → Action) → ((i : ℕ) �
     → IfOk (thread_of s t >>= λ i. Ok (make i)) (May s)
 of_thread s t make possible = chain (thread_of s t) (λ i. Ok (make i)) (λ i. (1 ≤ i) × (i ≤ length s.threads)) (May s) (threaded s t) (λ i low. possible i low.0 low.1)
 
-stepping : (s : Scope) (t : List ℕ) (count : Option ℕ) → IfSome count (λ k. (1 ≤ k) × (k ≤ MAX_STEPS)) → IfOk (stepped s t count) (May s)
+stepping : (s : Scope) (t : List ℕ) (count : Option ℕ) → IfSome count (λ k. (1 ≤ k) × (k ≤ max_steps)) → IfOk (stepped s t count) (May s)
 stepping s t None range = tt
 stepping s t (Some k) range = of_thread s t (λ i. action.Step i k) (λ i low high. (low, high, range.0, range.1))
 
-locking : (s : Scope) (t m : List ℕ) (count : Option ℕ) → IfSome count (λ k. (1 ≤ k) × (k ≤ MAX_MUTEXES)) → IfOk (locked s t m count) (May s)
+locking : (s : Scope) (t m : List ℕ) (count : Option ℕ) → IfSome count (λ k. (1 ≤ k) × (k ≤ max_mutexes)) → IfOk (locked s t m count) (May s)
 locking s t m None range = tt
 locking s t m (Some k) range = chain (first_of s m k) (λ j. thread_of s t >>= λ i. Ok (action.Locks i j k)) (λ j. j + k ≤ length s.mutexes) (May s) (reached s m k)
     (λ j few. of_thread s t (λ i. action.Locks i j k) (λ i low high. (low, high, range.0, few)))
@@ -114,14 +114,14 @@ may_ask : (n : ℕ) (s : Scope) (r : Result Action Fault) → IsWithinLimits s �
 may_ask n s r h may = chain r (λ a. Ok (with_action n s a)) (May s) IsWithinLimits may (λ a p. appended n s a h p)
 
 -- the names of a script without a command are as many as may be
-with_threads : (s : Scope) (names : List (List ℕ)) → IsWithinLimits s → not (length s.commands == 0) ≡ false → length names ≤ MAX_THREADS → IsWithinLimits (record s { threads = names })
+with_threads : (s : Scope) (names : List (List ℕ)) → IsWithinLimits s → not (length s.commands == 0) ≡ false → length names ≤ max_threads → IsWithinLimits (record s { threads = names })
 with_threads s names h unused_yet few = record {
   threads_at_most = few;
   mutexes_at_most = h.mutexes_at_most;
   commands_possible = unused (λ c. IsPossible (length names) (length s.mutexes) c.action) s.commands unused_yet;
 }
 
-with_mutexes : (s : Scope) (names : List (List ℕ)) → IsWithinLimits s → not (length s.commands == 0) ≡ false → length names ≤ MAX_MUTEXES → IsWithinLimits (record s { mutexes = names })
+with_mutexes : (s : Scope) (names : List (List ℕ)) → IsWithinLimits s → not (length s.commands == 0) ≡ false → length names ≤ max_mutexes → IsWithinLimits (record s { mutexes = names })
 with_mutexes s names h unused_yet few = record {
   threads_at_most = h.threads_at_most;
   mutexes_at_most = few;
@@ -131,23 +131,23 @@ with_mutexes s names h unused_yet few = record {
 declared : (s : Scope) → IfOk (declares s) (λ _. not (length s.commands == 0) ≡ false)
 declared s = refused (not (length s.commands == 0)) UnknownWord (Ok tt) (λ _. not (length s.commands == 0) ≡ false) (λ holds. holds)
 
-declaring_thread : (s : Scope) (w : List ℕ) → IsWithinLimits s → IfOk (declares s >>= λ _. added MAX_THREADS s.threads w >>= λ names. Ok (record s { threads = names })) IsWithinLimits
-declaring_thread s w h = chain (declares s) (λ _. added MAX_THREADS s.threads w >>= λ names. Ok (record s { threads = names })) (λ _. not (length s.commands == 0) ≡ false) IsWithinLimits (declared s)
-    (λ _ unused_yet. chain (added MAX_THREADS s.threads w) (λ names. Ok (record s { threads = names })) (λ names. length names ≤ MAX_THREADS) IsWithinLimits (grown MAX_THREADS s.threads w)
+declaring_thread : (s : Scope) (w : List ℕ) → IsWithinLimits s → IfOk (declares s >>= λ _. added max_threads s.threads w >>= λ names. Ok (record s { threads = names })) IsWithinLimits
+declaring_thread s w h = chain (declares s) (λ _. added max_threads s.threads w >>= λ names. Ok (record s { threads = names })) (λ _. not (length s.commands == 0) ≡ false) IsWithinLimits (declared s)
+    (λ _ unused_yet. chain (added max_threads s.threads w) (λ names. Ok (record s { threads = names })) (λ names. length names ≤ max_threads) IsWithinLimits (grown max_threads s.threads w)
     (λ names few. with_threads s names h unused_yet few))
 
-declaring_mutex : (s : Scope) (w : List ℕ) → IsWithinLimits s → IfOk (declares s >>= λ _. added MAX_MUTEXES s.mutexes w >>= λ names. Ok (record s { mutexes = names })) IsWithinLimits
-declaring_mutex s w h = chain (declares s) (λ _. added MAX_MUTEXES s.mutexes w >>= λ names. Ok (record s { mutexes = names })) (λ _. not (length s.commands == 0) ≡ false) IsWithinLimits (declared s)
-    (λ _ unused_yet. chain (added MAX_MUTEXES s.mutexes w) (λ names. Ok (record s { mutexes = names })) (λ names. length names ≤ MAX_MUTEXES) IsWithinLimits (grown MAX_MUTEXES s.mutexes w)
+declaring_mutex : (s : Scope) (w : List ℕ) → IsWithinLimits s → IfOk (declares s >>= λ _. added max_mutexes s.mutexes w >>= λ names. Ok (record s { mutexes = names })) IsWithinLimits
+declaring_mutex s w h = chain (declares s) (λ _. added max_mutexes s.mutexes w >>= λ names. Ok (record s { mutexes = names })) (λ _. not (length s.commands == 0) ≡ false) IsWithinLimits (declared s)
+    (λ _ unused_yet. chain (added max_mutexes s.mutexes w) (λ names. Ok (record s { mutexes = names })) (λ names. length names ≤ max_mutexes) IsWithinLimits (grown max_mutexes s.mutexes w)
     (λ names few. with_mutexes s names h unused_yet few))
 
 declaring_mutexes : (s : Scope) (w : List ℕ) (count : Option ℕ) → IsWithinLimits s
-    → IfOk (declares s >>= λ _. ok_or count OutOfRange >>= λ k. several MAX_MUTEXES s.mutexes w k >>= λ names. Ok (record s { mutexes = names })) IsWithinLimits
-declaring_mutexes s w count h = chain (declares s) (λ _. ok_or count OutOfRange >>= λ k. several MAX_MUTEXES s.mutexes w k >>= λ names. Ok (record s { mutexes = names })) (λ _. not (length s.commands == 0) ≡ false) IsWithinLimits (declared s)
+    → IfOk (declares s >>= λ _. ok_or count OutOfRange >>= λ k. several max_mutexes s.mutexes w k >>= λ names. Ok (record s { mutexes = names })) IsWithinLimits
+declaring_mutexes s w count h = chain (declares s) (λ _. ok_or count OutOfRange >>= λ k. several max_mutexes s.mutexes w k >>= λ names. Ok (record s { mutexes = names })) (λ _. not (length s.commands == 0) ≡ false) IsWithinLimits (declared s)
     (λ _ unused_yet. by_cases count unused_yet) where
-      by_cases : (o : Option ℕ) → not (length s.commands == 0) ≡ false → IfOk (ok_or o OutOfRange >>= λ k. several MAX_MUTEXES s.mutexes w k >>= λ names. Ok (record s { mutexes = names })) IsWithinLimits
+      by_cases : (o : Option ℕ) → not (length s.commands == 0) ≡ false → IfOk (ok_or o OutOfRange >>= λ k. several max_mutexes s.mutexes w k >>= λ names. Ok (record s { mutexes = names })) IsWithinLimits
       by_cases None unused_yet = tt
-      by_cases (Some k) unused_yet = chain (several MAX_MUTEXES s.mutexes w k) (λ names. Ok (record s { mutexes = names })) (λ names. length names ≤ MAX_MUTEXES) IsWithinLimits (grown_by MAX_MUTEXES s.mutexes w k)
+      by_cases (Some k) unused_yet = chain (several max_mutexes s.mutexes w k) (λ names. Ok (record s { mutexes = names })) (λ names. length names ≤ max_mutexes) IsWithinLimits (grown_by max_mutexes s.mutexes w k)
           (λ names few. with_mutexes s names h unused_yet few)
 
 entered : (n : ℕ) (s : Scope) (f : Form) → IsWithinLimits s → IsFit f → IfOk (enter n s f) IsWithinLimits
@@ -184,13 +184,13 @@ fit_name w a = either (not (is_name a)) None _ tt (either (bytes_eq w _) (Some (
     (either (bytes_eq w _) (Some (kills a)) _ tt (either (bytes_eq w _) (Some (goes a)) None tt tt))))
 
 fit_step : (w t n : List ℕ) → IfSome (step_form w t n) IsFit
-fit_step w t n = either (bytes_eq w _ && is_name t && is_number n) (Some (steps t (within 1 MAX_STEPS (digits_value 10 n)))) None (in_range MAX_STEPS (digits_value 10 n)) tt
+fit_step w t n = either (bytes_eq w _ && is_name t && is_number n) (Some (steps t (within 1 max_steps (digits_value 10 n)))) None (in_range max_steps (digits_value 10 n)) tt
 
 fit_mutexes : (w a n : List ℕ) → IfSome (mutexes_form w a n) IsFit
-fit_mutexes w a n = either (bytes_eq w _ && is_stem a && is_number n) (Some (mutexes a (within 1 MAX_MUTEXES (digits_value 10 n)))) None tt tt
+fit_mutexes w a n = either (bytes_eq w _ && is_stem a && is_number n) (Some (mutexes a (within 1 max_mutexes (digits_value 10 n)))) None tt tt
 
 fit_locks : (w t m n : List ℕ) → IfSome (locks_form w t m n) IsFit
-fit_locks w t m n = either (bytes_eq w _ && is_name t && is_name m && is_number n) (Some (locks t m (within 1 MAX_MUTEXES (digits_value 10 n)))) None (in_range MAX_MUTEXES (digits_value 10 n)) tt
+fit_locks w t m n = either (bytes_eq w _ && is_name t && is_name m && is_number n) (Some (locks t m (within 1 max_mutexes (digits_value 10 n)))) None (in_range max_mutexes (digits_value 10 n)) tt
 
 fit_call : (w t : List ℕ) (c : Option CallForm) → IfSome (option_and_then (calling_form w t) c) IsFit
 fit_call w t None = tt
@@ -214,7 +214,7 @@ fit k text = either (is_silent text) (Some silent) (option_and_then (of_mode k) 
 
 -- a line that is read keeps the limits
 pub line_within : (n : ℕ) (s : Scope) (text : List ℕ) → IsWithinLimits s → IfOk (line_read n s text) IsWithinLimits
-line_within n s text h = refused (nat_lt MAX_LINES n) TooLong (ok_or (form_of s.mode text) UnknownWord >>= λ f. enter n s f) IsWithinLimits (λ _. by_cases (form_of s.mode text) (fit s.mode text)) where
+line_within n s text h = refused (nat_lt max_lines n) TooLong (ok_or (form_of s.mode text) UnknownWord >>= λ f. enter n s f) IsWithinLimits (λ _. by_cases (form_of s.mode text) (fit s.mode text)) where
   by_cases : (o : Option Form) → IfSome o IsFit → IfOk (ok_or o UnknownWord >>= λ f. enter n s f) IsWithinLimits
   by_cases None c = tt
   by_cases (Some f) c = entered n s f h c

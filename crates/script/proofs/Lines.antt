@@ -11,7 +11,7 @@ use Rattle.script.specs.Scope.{Scope}
 use Rattle.script.specs.declared.fault.Fault.{Fault}
 use Rattle.script.specs.declared.fault.Fault.TheVariants.{NotUtf8, UnknownWord, OutOfRange, NoSuchName, TooLong, OutOfMemory}
 use Rattle.script.specs.declared.fault.ScriptFault.{ScriptFault}
-use Rattle.script.specs.declared.limits.TheConstants.{MAX_LINES}
+use Rattle.script.specs.Limits.{max_lines}
 use Rattle.script.proofs.Cutting.{one_or_more}
 
 -- the lines of a text, and the first of them before the others
@@ -61,7 +61,7 @@ met n OutOfMemory (Err e) follow later h = absurd cc
 
 -- the end of a script wants no memory
 pub ends_remembered : (n : ℕ) (s : Scope) (text : List ℕ) → ¬ (finished n s text ≡ Err OutOfMemory)
-ends_remembered n s text = by_cases (not (length text == 0)) (nat_lt MAX_LINES n) (length s.threads == 0 || length s.mutexes == 0) where
+ends_remembered n s text = by_cases (not (length text == 0)) (nat_lt max_lines n) (length s.threads == 0 || length s.mutexes == 0) where
   by_cases : (behind late few : Bool) → ¬ (refuse behind (if late then TooLong else UnknownWord) (refuse few OutOfRange (Ok s)) ≡ Err OutOfMemory)
   by_cases true true few e = absurd cc
   by_cases true false few e = absurd cc
@@ -84,11 +84,18 @@ goes_on n s t text rest after total parts read so_far =
     sym one ∙ so_far
 
 -- a line was refused
-pub stops : (n : ℕ) (s : Scope) (f : Fault) (text rest after : List ℕ) (total : Result Scope ScriptFault) → slice_split (λ b. b == 10) rest ≡ text ∷ slice_split (λ b. b == 10) after → Tells f (line_read n s text)
+stops : (n : ℕ) (s : Scope) (f : Fault) (text rest after : List ℕ) (total : Result Scope ScriptFault) → slice_split (λ b. b == 10) rest ≡ text ∷ slice_split (λ b. b == 10) after → Tells f (line_read n s text)
     → lines_read n s (slice_split (λ b. b == 10) rest) ≡ total → TellsAt (fault_at n f) f total
 stops n s f text rest after total parts told so_far =
     let one : lines_read n s (split rest) ≡ (met_at n (line_read n s text) >>= then_lines n (split after)) = rw (parts, unrolled n s text (split after) (one_or_more (λ b. b == 10) after)) refl in
     subst (λ (r : Result Scope ScriptFault). TellsAt (fault_at n f) f r) (sym one ∙ so_far) (met n f (line_read n s text) (then_lines n (split after)) (λ t. faults_from (n + 1) t (split after)) told)
+
+-- the same where the fault stands at the line
+pub stops_at : (n : ℕ) (s : Scope) (e : ScriptFault) (text rest after : List ℕ) (total : Result Scope ScriptFault) → slice_split (λ b. b == 10) rest ≡ text ∷ slice_split (λ b. b == 10) after → (e.line ≡ n) × Tells e.fault (line_read n s text)
+    → lines_read n s (slice_split (λ b. b == 10) rest) ≡ total → TellsAt e e.fault total
+stops_at n s e text rest after total parts told so_far =
+    let here : fault_at n e.fault ≡ e = λ i. record { line = sym told.0 i; fault = e.fault } in
+    subst (λ (x : ScriptFault). TellsAt x e.fault total) here (stops n s e.fault text rest after total parts told.1 so_far)
 
 -- the last line feed was reached, and nothing is wrong
 pub ends : (n : ℕ) (s t : Scope) (rest : List ℕ) (total : Result Scope ScriptFault) → slice_split (λ b. b == 10) rest ≡ rest ∷ [] → finished n s rest ≡ Ok t → lines_read n s (slice_split (λ b. b == 10) rest) ≡ total → total ≡ Ok t

@@ -1,5 +1,5 @@
 -- Events played one after the other.
-use Rattle.std.proofs.Common.{◌≡◌, ℕ, zero, suc, ◌+◌, ◌-◌, ◌<◌, ◌≤◌, Bool, true, false, List, [], ◌∷◌, ◌++◌, length, take, drop, Some, None, Result, Ok, Err, refl, sym, ap, ◌∙◌, subst, arith, append_assoc, append-nil, length-append, length-drop, add-one, get_or, inr}
+use Rattle.std.proofs.Common.{◌≡◌, ℕ, zero, suc, ◌+◌, ◌-◌, ◌<◌, ◌≤◌, Bool, true, false, List, [], ◌∷◌, ◌++◌, length, take, drop, Some, None, Result, Ok, Err, refl, sym, ap, ◌∙◌, subst, arith, append_assoc, append-nil, length-append, length-drop, add-one, get_or}
 use Rattle.std.specs.Prelude.{replicate, nat_lt, if◌then◌else◌}
 use Rattle.std.proofs.lemmas.Bool.Decides.{nat_tests}
 use Rattle.std.proofs.Math.Seq.{drop-cons, take-suc}
@@ -11,14 +11,14 @@ use Rattle.protocol.specs.Machine.{State, happens, run, notes}
 use Rattle.mutex.specs.declared.call.Call.TheVariants.{Lock}
 use Rattle.script.specs.declared.command.Action.{Action}
 use Rattle.script.specs.declared.command.Action.TheVariants as action
-use Rattle.script.specs.declared.command.Mode.{Mode}
 use Rattle.script.specs.declared.command.Command.{Command}
 use Rattle.script.specs.declared.fault.Fault.{Fault}
 use Rattle.script.specs.declared.fault.Fault.TheVariants.{NotUtf8, UnknownWord, OutOfRange, NoSuchName, TooLong, OutOfMemory}
-use Rattle.script.specs.declared.limits.TheConstants.{MAX_EVENTS, MAX_MUTEXES, REST_STEPS}
+use Rattle.script.specs.declared.fault.ScriptFault.{ScriptFault}
+use Rattle.script.specs.Limits.{max_events, max_mutexes, rest_steps}
 use Rattle.script.specs.Scope.{Scope, IsPossible, IsWellFormed}
-use Rattle.script.specs.Playing.{Adds, HasMutexes, is_going, steps_to_rest, calling, locking, first_state, events_of, events_from, overlong_from}
-use Rattle.script.specs.Played.{RunsAt, Refuses}
+use Rattle.script.specs.Playing.{Adds, AddsAt, HasMutexes, is_going, steps_to_rest, calling, locking, first_state, events_of, events_from, overlong_from}
+use Rattle.script.specs.Played.{RunsAt, RefusesCommand}
 
 run-append : (s : State) (xs ys : List Event) → run s (xs ++ ys) ≡ run (run s xs) ys
 run-append s [] ys = refl
@@ -92,40 +92,40 @@ rest_at_once s t = refl
 -- where the loop to rest is after k steps
 pub record IsOnTheWay (s s' : State) (ns ns' : List Note) (t k : ℕ) : Type 0 where
   pub so_far : Adds s s' ns ns' (replicate k (event.Step t)) (Ok tt)
-  pub left : steps_to_rest REST_STEPS s t ≡ k + steps_to_rest (REST_STEPS - k) s' t
+  pub left : steps_to_rest rest_steps s t ≡ k + steps_to_rest (rest_steps - k) s' t
 
-pub rests : (s s' : State) (ns ns' : List Note) (t k : ℕ) → IsOnTheWay s s' ns ns' t k → is_going s' t ≡ false → Adds s s' ns ns' (replicate (steps_to_rest REST_STEPS s t) (event.Step t)) (Ok tt)
+pub rests : (s s' : State) (ns ns' : List Note) (t k : ℕ) → IsOnTheWay s s' ns ns' t k → is_going s' t ≡ false → Adds s s' ns ns' (replicate (steps_to_rest rest_steps s t) (event.Step t)) (Ok tt)
 rests s s' ns ns' t k h resting =
-    let none = rest_now (REST_STEPS - k) s' t resting in
-    let all : k ≡ steps_to_rest REST_STEPS s t = let left = h.left in omega arith in
+    let none = rest_now (rest_steps - k) s' t resting in
+    let all : k ≡ steps_to_rest rest_steps s t = let left = h.left in omega arith in
     subst (λ (j : ℕ). Adds s s' ns ns' (replicate j (event.Step t)) (Ok tt)) all h.so_far
 
-pub rests_late : (s s' : State) (ns ns' : List Note) (t k : ℕ) → IsOnTheWay s s' ns ns' t k → REST_STEPS ≤ k → Adds s s' ns ns' (replicate (steps_to_rest REST_STEPS s t) (event.Step t)) (Ok tt)
+pub rests_late : (s s' : State) (ns ns' : List Note) (t k : ℕ) → IsOnTheWay s s' ns ns' t k → rest_steps ≤ k → Adds s s' ns ns' (replicate (steps_to_rest rest_steps s t) (event.Step t)) (Ok tt)
 rests_late s s' ns ns' t k h late =
-    let over : REST_STEPS - k ≡ 0 = omega arith in
-    let none : steps_to_rest (REST_STEPS - k) s' t ≡ 0 = ap (λ (j : ℕ). steps_to_rest j s' t) over ∙ rest_at_once s' t in
-    let all : k ≡ steps_to_rest REST_STEPS s t = let left = h.left in omega arith in
+    let over : rest_steps - k ≡ 0 = omega arith in
+    let none : steps_to_rest (rest_steps - k) s' t ≡ 0 = ap (λ (j : ℕ). steps_to_rest j s' t) over ∙ rest_at_once s' t in
+    let all : k ≡ steps_to_rest rest_steps s t = let left = h.left in omega arith in
     subst (λ (j : ℕ). Adds s s' ns ns' (replicate j (event.Step t)) (Ok tt)) all h.so_far
 
-left_after : (s s' s'' : State) (ns ns' ns'' : List Note) (t k : ℕ) → IsOnTheWay s s' ns ns' t k → k < REST_STEPS → is_going s' t ≡ true → steps_to_rest REST_STEPS s t ≡ (k + 1) + steps_to_rest (REST_STEPS - (k + 1)) (happens s' (event.Step t)).state t
+left_after : (s s' s'' : State) (ns ns' ns'' : List Note) (t k : ℕ) → IsOnTheWay s s' ns ns' t k → k < rest_steps → is_going s' t ≡ true → steps_to_rest rest_steps s t ≡ (k + 1) + steps_to_rest (rest_steps - (k + 1)) (happens s' (event.Step t)).state t
 left_after s s' s'' ns ns' ns'' t k h lt busy =
-    let later = rest_later (REST_STEPS - k) s' t (omega arith) busy in
-    let less : REST_STEPS - k - 1 ≡ REST_STEPS - (k + 1) = omega arith in
-    let same : steps_to_rest (REST_STEPS - k - 1) (happens s' (event.Step t)).state t ≡ steps_to_rest (REST_STEPS - (k + 1)) (happens s' (event.Step t)).state t = ap (λ (j : ℕ). steps_to_rest j (happens s' (event.Step t)).state t) less in
+    let later = rest_later (rest_steps - k) s' t (omega arith) busy in
+    let less : rest_steps - k - 1 ≡ rest_steps - (k + 1) = omega arith in
+    let same : steps_to_rest (rest_steps - k - 1) (happens s' (event.Step t)).state t ≡ steps_to_rest (rest_steps - (k + 1)) (happens s' (event.Step t)).state t = ap (λ (j : ℕ). steps_to_rest j (happens s' (event.Step t)).state t) less in
     let left = h.left in omega arith
 
-pub rest_more : (s s' s'' : State) (ns ns' ns'' : List Note) (t k : ℕ) → IsOnTheWay s s' ns ns' t k → k < REST_STEPS → is_going s' t ≡ true → Adds s' s'' ns' ns'' (event.Step t ∷ []) (Ok tt) → IsOnTheWay s s'' ns ns'' t (k + 1)
+pub rest_more : (s s' s'' : State) (ns ns' ns'' : List Note) (t k : ℕ) → IsOnTheWay s s' ns ns' t k → k < rest_steps → is_going s' t ≡ true → Adds s' s'' ns' ns'' (event.Step t ∷ []) (Ok tt) → IsOnTheWay s s'' ns ns'' t (k + 1)
 rest_more s s' s'' ns ns' ns'' t k h lt busy b = record {
   so_far = steps_more s s' s'' ns ns' ns'' k (event.Step t) h.so_far b;
-  left = left_after s s' s'' ns ns' ns'' t k h lt busy ∙ ap (λ (z : State). (k + 1) + steps_to_rest (REST_STEPS - (k + 1)) z t) (sym b.0);
+  left = left_after s s' s'' ns ns' ns'' t k h lt busy ∙ ap (λ (z : State). (k + 1) + steps_to_rest (rest_steps - (k + 1)) z t) (sym b.0);
 }
 
-pub rest_fails : (s s' s'' : State) (ns ns' ns'' : List Note) (t k : ℕ) (f : Fault) → IsOnTheWay s s' ns ns' t k → k < REST_STEPS → is_going s' t ≡ true → Adds s' s'' ns' ns'' (event.Step t ∷ []) (Err f) → Adds s s'' ns ns'' (replicate (steps_to_rest REST_STEPS s t) (event.Step t)) (Err f)
+pub rest_fails : (s s' s'' : State) (ns ns' ns'' : List Note) (t k : ℕ) (f : Fault) → IsOnTheWay s s' ns ns' t k → k < rest_steps → is_going s' t ≡ true → Adds s' s'' ns' ns'' (event.Step t ∷ []) (Err f) → Adds s s'' ns ns'' (replicate (steps_to_rest rest_steps s t) (event.Step t)) (Err f)
 rest_fails s s' s'' ns ns' ns'' t k f h lt busy b =
     let left = left_after s s' s'' ns ns' ns'' t k h lt busy in
-    steps_fail s s' s'' ns ns' ns'' (steps_to_rest REST_STEPS s t) k (event.Step t) f (omega arith) h.so_far b
+    steps_fail s s' s'' ns ns' ns'' (steps_to_rest rest_steps s t) k (event.Step t) f (omega arith) h.so_far b
 
-pub begins_way : (s : State) (ns : List Note) (t : ℕ) → length ns ≤ MAX_EVENTS → IsOnTheWay s s ns ns t 0
+pub begins_way : (s : State) (ns : List Note) (t : ℕ) → length ns ≤ max_events → IsOnTheWay s s ns ns t 0
 begins_way s ns t fits = record { so_far = (refl, sym (append-nil ns), omega arith); left = omega arith }
 
 -- ---- locks of one thread
@@ -140,13 +140,13 @@ pub record IsLocking (s s' : State) (ns ns' : List Note) (t m n k : ℕ) : Type 
   pub so_far : Adds s s' ns ns' events (Ok tt)
   pub left : locking s t m n ≡ events ++ locking s' t (m + k) (n - k)
 
-pub locks_first : (s : State) (ns : List Note) (t m n : ℕ) → length ns ≤ MAX_EVENTS → IsLocking s s ns ns t m n 0
+pub locks_first : (s : State) (ns : List Note) (t m n : ℕ) → length ns ≤ max_events → IsLocking s s ns ns t m n 0
 locks_first s ns t m n fits =
     let at : m + 0 ≡ m = omega arith in
     let all : n - 0 ≡ n = omega arith in
     record { events = []; so_far = (refl, sym (append-nil ns), omega arith); left = λ i. locking s t (sym at i) (sym all i) }
 
-pub locks_room : (s s' : State) (ns ns' : List Note) (t m n k : ℕ) → IsLocking s s' ns ns' t m n k → length ns' ≤ MAX_EVENTS
+pub locks_room : (s s' : State) (ns ns' : List Note) (t m n k : ℕ) → IsLocking s s' ns ns' t m n k → length ns' ≤ max_events
 locks_room s s' ns ns' t m n k h =
     let len : length ns' ≡ length ns + length h.events = ap length h.so_far.1 ∙ length-append ns (notes s h.events) ∙ ap (λ (j : ℕ). length ns + j) (length-notes s h.events) in
     let fits = h.so_far.2 in omega arith
@@ -185,7 +185,7 @@ locks_last s s' ns ns' t m n k h done =
 -- ---- commands
 
 -- the mutexes of a possible action are among those that there may be
-has_mutexes : (n m : ℕ) (a : Action) → m ≤ MAX_MUTEXES → IsPossible n m a → HasMutexes a
+has_mutexes : (n m : ℕ) (a : Action) → m ≤ max_mutexes → IsPossible n m a → HasMutexes a
 has_mutexes n m (action.Begin t c) few h = tt
 has_mutexes n m (action.Step t j) few h = tt
 has_mutexes n m (action.Kill t) few h = tt
@@ -225,10 +225,10 @@ pub record IsAmid (s : State) (cs : List Command) (now : State) (ns : List Note)
 pub amid_first : (s : State) (cs : List Command) → IsAmid s cs s [] 0
 amid_first s cs = record { events = []; so_far = (refl, refl, omega arith); before = refl; rest = refl; too_long = refl }
 
-over-false : (n : ℕ) → n ≤ MAX_EVENTS → nat_lt MAX_EVENTS n ≡ false
+over-false : (n : ℕ) → n ≤ max_events → nat_lt max_events n ≡ false
 over-false n h = grind (arith, nat_tests)
 
-over-true : (n : ℕ) → MAX_EVENTS < n → nat_lt MAX_EVENTS n ≡ true
+over-true : (n : ℕ) → max_events < n → nat_lt max_events n ≡ true
 over-true n h = grind (arith, nat_tests)
 
 before_next : (s : State) (cs : List Command) (now : State) (ns : List Note) (k : ℕ) (c : Command) → (h : IsAmid s cs now ns k) → drop k cs ≡ c ∷ drop (k + 1) cs → events_from s (take (k + 1) cs) ≡ h.events ++ events_of now c.action
@@ -241,7 +241,7 @@ pub amid_next : (s : State) (cs : List Command) (now now' : State) (ns ns' : Lis
 amid_next s cs now now' ns ns' k c h split a =
     let es = events_of now c.action in
     let len : length ns ≡ length h.events = ap length h.so_far.1 ∙ length-notes s h.events in
-    let fits : length h.events + length es ≤ MAX_EVENTS = let bound = a.2 in omega arith in
+    let fits : length h.events + length es ≤ max_events = let bound = a.2 in omega arith in
     let total = length-append h.events es in
     record {
       events = h.events ++ es;
@@ -283,16 +283,19 @@ unremembered s now now' ns ns' k c h split a =
     }
 
 -- the fault of a command is the script's
-pub refuses : (s : Scope) (now now' : State) (ns ns' : List Note) (k : ℕ) (c : Command) (f : Fault) → IsAmid (first_state s) s.commands now ns k → drop k s.commands ≡ c ∷ drop (k + 1) s.commands → Adds now now' ns ns' (events_of now c.action) (Err f) → Refuses s c.line f
-refuses s now now' ns ns' k c TooLong h split a = amid_fails (first_state s) s.commands now now' ns ns' k c h split a
-refuses s now now' ns ns' k c OutOfMemory h split a = inr (unremembered s now now' ns ns' k c h split a)
-refuses s now now' ns ns' k c NotUtf8 h split a = absurd a
-refuses s now now' ns ns' k c UnknownWord h split a = absurd a
-refuses s now now' ns ns' k c OutOfRange h split a = absurd a
-refuses s now now' ns ns' k c NoSuchName h split a = absurd a
+refused_by : (s : Scope) (now now' : State) (ns ns' : List Note) (k : ℕ) (c : Command) (f : Fault) → IsAmid (first_state s) s.commands now ns k → drop k s.commands ≡ c ∷ drop (k + 1) s.commands → Adds now now' ns ns' (events_of now c.action) (Err f) → RefusesCommand s c.line f
+refused_by s now now' ns ns' k c TooLong h split a = amid_fails (first_state s) s.commands now now' ns ns' k c h split a
+refused_by s now now' ns ns' k c OutOfMemory h split a = unremembered s now now' ns ns' k c h split a
+refused_by s now now' ns ns' k c NotUtf8 h split a = absurd a
+refused_by s now now' ns ns' k c UnknownWord h split a = absurd a
+refused_by s now now' ns ns' k c OutOfRange h split a = absurd a
+refused_by s now now' ns ns' k c NoSuchName h split a = absurd a
+
+pub refuses : (s : Scope) (now now' : State) (ns ns' : List Note) (k : ℕ) (c : Command) (e : ScriptFault) → IsAmid (first_state s) s.commands now ns k → drop k s.commands ≡ c ∷ drop (k + 1) s.commands → AddsAt c.line now now' ns ns' (events_of now c.action) (Err e) → RefusesCommand s e.line e.fault
+refuses s now now' ns ns' k c e h split a = subst (λ (line : ℕ). RefusesCommand s line e.fault) (sym a.0) (refused_by s now now' ns ns' k c e.fault h split a.1)
 
 pub split_at : (cs : List Command) (k : ℕ) (c : Command) → k < length cs → c ≡ get_or cs k c → drop k cs ≡ c ∷ drop (k + 1) cs
 split_at cs k c lt is = rw add-one (drop-cons cs k c lt ∙ ap (λ (x : Command). x ∷ drop (suc k) cs) (sym is))
 
-pub amid_room : (s : State) (cs : List Command) (now : State) (ns : List Note) (k : ℕ) → IsAmid s cs now ns k → length ns ≤ MAX_EVENTS
+pub amid_room : (s : State) (cs : List Command) (now : State) (ns : List Note) (k : ℕ) → IsAmid s cs now ns k → length ns ≤ max_events
 amid_room s cs now ns k h = let len : length ns ≡ length h.events = ap length h.so_far.1 ∙ length-notes s h.events in let fits = h.so_far.2 in omega arith

@@ -10,7 +10,7 @@ use Rattle.protocol.proofs.QueueRuns.{run_queued}
 use Rattle.protocol.proofs.Undivided.{going}
 use Rattle.script.specs.Playing.{is_going, steps_to_rest}
 use Rattle.script.specs.Resting.{RestsAfter, ThreadsComeToRest}
-use Rattle.script.specs.declared.limits.TheConstants.{REST_STEPS}
+use Rattle.script.specs.Limits.{rest_steps}
 
 -- whoever isn't asleep stands in no queue
 stands_nowhere : (s : State) (t : ℕ) → Queued s → is_asleep s t ≡ false → (key : ℕ) → stands_in t (s.queues key) ≡ false
@@ -68,12 +68,12 @@ counted (suc most) s t n few rests = go (is_going s t) refl (λ k low at_rest. c
     go false is further = (is, λ k lt. absurd (omega (arith, lt)))
     go true is further = later further n few rests is
 
-comes : (s : State) (t : ℕ) → Queued s → EndsAlone s t → RestsAfter s t (steps_to_rest REST_STEPS s t)
+comes : (s : State) (t : ℕ) → Queued s → EndsAlone s t → RestsAfter s t (steps_to_rest rest_steps s t)
 comes s t queued ends = go (is_going s t) refl
   where
-    go : (b : Bool) → is_going s t ≡ b → RestsAfter s t (steps_to_rest REST_STEPS s t)
-    go false is = counted REST_STEPS s t 0 (omega arith) is
-    go true is = let end = ends (is_awake s t queued is) in counted REST_STEPS s t end.0 end.1 (not_going (alone s t end.0) t end.2)
+    go : (b : Bool) → is_going s t ≡ b → RestsAfter s t (steps_to_rest rest_steps s t)
+    go false is = counted rest_steps s t 0 (omega arith) is
+    go true is = let end = ends (is_awake s t queued is) in counted rest_steps s t end.0 end.1 (not_going (alone s t end.0) t end.2)
 
 pub come_to_rest : ThreadsComeToRest
 come_to_rest l counters events t is = comes (run (start l counters) events) t (run_queued l counters events is) ((going l counters events is).ends t)

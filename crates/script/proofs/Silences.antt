@@ -4,7 +4,7 @@ use Rattle.std.specs.Option.{ok_or}
 use Rattle.std.proofs.lemmas.Bool.{le-ltb}
 use Rattle.script.specs.Forms.{CallForm, lock, trylock, unlock, consistent, Form, silent, thread, mutex, mutexes, begins, steps, kills, goes, calls, locks, phase, form_of, is_silent}
 use Rattle.script.specs.Scope.{Scope}
-use Rattle.script.specs.Reading.{◌>>=◌, refuse, added, several, declares, thread_of, call_of, first_of, begun, stepped, killed, gone, made, locked, with_action, enter, met_at, line_read, finished, lines_read, nothing}
+use Rattle.script.specs.Reading.{◌>>=◌, refuse, added, several, declares, call_of, begun, stepped, killed, gone, made, locked, with_action, enter, met_at, line_read, finished, lines_read, nothing}
 use Rattle.script.specs.Silence.{unplaced, without_lines, outcome, SilentLinesSayNothing}
 use Rattle.script.specs.declared.command.Action.{Action}
 use Rattle.script.specs.declared.command.Action.TheVariants as action
@@ -12,7 +12,7 @@ use Rattle.script.specs.declared.command.Command.{Command}
 use Rattle.script.specs.declared.fault.Fault.{Fault}
 use Rattle.script.specs.declared.fault.Fault.TheVariants.{UnknownWord, OutOfRange}
 use Rattle.script.specs.declared.fault.ScriptFault.{ScriptFault}
-use Rattle.script.specs.declared.limits.TheConstants.{MAX_LINES, MAX_THREADS, MAX_MUTEXES}
+use Rattle.script.specs.Limits.{max_lines, max_threads, max_mutexes}
 
 -- one line's outcome
 abbrev meant : Result Scope Fault → Result Scope Fault
@@ -57,10 +57,10 @@ same_make s t c = rw (same_call s c) refl
 -- what a line adds does not depend on lines
 same_enter : (n : ℕ) (s : Scope) (f : Form) → meant (enter n s f) ≡ meant (enter 0 (without_lines s) f)
 same_enter n s silent = rw (twice s.commands) refl
-same_enter n s (thread w) = rw (same_declares s) (alike (declares s) _ _ (λ _. alike (added MAX_THREADS s.threads w) _ _ (λ names. rw (twice s.commands) refl)))
-same_enter n s (mutex w) = rw (same_declares s) (alike (declares s) _ _ (λ _. alike (added MAX_MUTEXES s.mutexes w) _ _ (λ names. rw (twice s.commands) refl)))
+same_enter n s (thread w) = rw (same_declares s) (alike (declares s) _ _ (λ _. alike (added max_threads s.threads w) _ _ (λ names. rw (twice s.commands) refl)))
+same_enter n s (mutex w) = rw (same_declares s) (alike (declares s) _ _ (λ _. alike (added max_mutexes s.mutexes w) _ _ (λ names. rw (twice s.commands) refl)))
 same_enter n s (mutexes w count) =
-    rw (same_declares s) (alike (declares s) _ _ (λ _. alike (ok_or count OutOfRange) _ _ (λ k. alike (several MAX_MUTEXES s.mutexes w k) _ _ (λ names. rw (twice s.commands) refl))))
+    rw (same_declares s) (alike (declares s) _ _ (λ _. alike (ok_or count OutOfRange) _ _ (λ k. alike (several max_mutexes s.mutexes w k) _ _ (λ names. rw (twice s.commands) refl))))
 same_enter n s (begins t c) = rw (same_begin s t c) (alike (begun s t c) _ _ (λ a. acted n s a))
 same_enter n s (steps t count) = alike (stepped s t count) _ _ (λ a. acted n s a)
 same_enter n s (kills t) = alike (killed s t) _ _ (λ a. acted n s a)
@@ -69,13 +69,13 @@ same_enter n s (calls t c) = rw (same_make s t c) (alike (made s t c) _ _ (λ a.
 same_enter n s (locks t m count) = alike (locked s t m count) _ _ (λ a. acted n s a)
 same_enter n s phase = acted n s action.Phase
 
-same_line : (n : ℕ) (s : Scope) (text : List ℕ) → n ≤ MAX_LINES → meant (line_read n s text) ≡ meant (line_read 0 (without_lines s) text)
+same_line : (n : ℕ) (s : Scope) (text : List ℕ) → n ≤ max_lines → meant (line_read n s text) ≡ meant (line_read 0 (without_lines s) text)
 same_line n s text few =
-    let in_time : nat_lt MAX_LINES n ≡ false = le-ltb _ _ few in
+    let in_time : nat_lt max_lines n ≡ false = le-ltb _ _ few in
     rw in_time (alike (ok_or (form_of s.mode text) UnknownWord) (λ f. enter n s f) (λ f. enter 0 (without_lines s) f) (λ f. same_enter n s f))
 
 -- two states that differ in lines alone read a line alike
-line_alike : (n m : ℕ) (s t : Scope) (text : List ℕ) → without_lines s ≡ without_lines t → n ≤ MAX_LINES → m ≤ MAX_LINES → meant (line_read n s text) ≡ meant (line_read m t text)
+line_alike : (n m : ℕ) (s t : Scope) (text : List ℕ) → without_lines s ≡ without_lines t → n ≤ max_lines → m ≤ max_lines → meant (line_read n s text) ≡ meant (line_read m t text)
 line_alike n m s t text same low high = same_line n s text low ∙ ap (λ (u : Scope). meant (line_read 0 u text)) same ∙ sym (same_line m t text high)
 
 ended : (behind too_few : Bool) (s : Scope) → meant (refuse behind UnknownWord (refuse too_few OutOfRange (Ok s))) ≡ meant (refuse behind UnknownWord (refuse too_few OutOfRange (Ok (without_lines s))))
@@ -83,9 +83,9 @@ ended true b s = refl
 ended false true s = refl
 ended false false s = rw (twice s.commands) refl
 
-end_of : (n : ℕ) (s : Scope) (text : List ℕ) → n ≤ MAX_LINES → meant (finished n s text) ≡ meant (finished 0 (without_lines s) text)
+end_of : (n : ℕ) (s : Scope) (text : List ℕ) → n ≤ max_lines → meant (finished n s text) ≡ meant (finished 0 (without_lines s) text)
 end_of n s text few =
-    let in_time : nat_lt MAX_LINES n ≡ false = le-ltb _ _ few in
+    let in_time : nat_lt max_lines n ≡ false = le-ltb _ _ few in
     rw in_time (ended (not (length text == 0)) (length s.threads == 0 || length s.mutexes == 0) s)
 
 at_line : (n : ℕ) (r : Result Scope Fault) → outcome (met_at n r) ≡ meant r
@@ -99,7 +99,7 @@ leads n m (Ok s) (Err e) f g same next = absurd cc
 leads n m (Err d) (Ok t) f g same next = absurd cc
 leads n m (Err d) (Err e) f g same next = cc
 
-lines_alike : (n m : ℕ) (s t : Scope) (ls : List (List ℕ)) → without_lines s ≡ without_lines t → n + length ls ≤ MAX_LINES + 1 → m + length ls ≤ MAX_LINES + 1 → outcome (lines_read n s ls) ≡ outcome (lines_read m t ls)
+lines_alike : (n m : ℕ) (s t : Scope) (ls : List (List ℕ)) → without_lines s ≡ without_lines t → n + length ls ≤ max_lines + 1 → m + length ls ≤ max_lines + 1 → outcome (lines_read n s ls) ≡ outcome (lines_read m t ls)
 unfolding lines_read
 lines_alike n m s t [] same low high = ap Ok same
 lines_alike n m s t (text ∷ []) same low high = at_line n (finished n s text) ∙ end_of n s text (omega arith) ∙ ap (λ (u : Scope). meant (finished 0 u text)) same ∙ sym (end_of m t text (omega arith)) ∙ sym (at_line m (finished m t text))
@@ -107,13 +107,13 @@ lines_alike n m s t (text ∷ next ∷ more) same low high =
     leads n m (line_read n s text) (line_read m t text) (λ u. lines_read (n + 1) u (next ∷ more)) (λ u. lines_read (m + 1) u (next ∷ more))
     (line_alike n m s t text same (omega arith) (omega arith)) (λ u v alike_so_far. lines_alike (n + 1) (m + 1) u v (next ∷ more) alike_so_far (omega arith) (omega arith))
 
-silent_line : (n : ℕ) (s : Scope) (line : List ℕ) → is_silent line ≡ true → n ≤ MAX_LINES → line_read n s line ≡ Ok s
+silent_line : (n : ℕ) (s : Scope) (line : List ℕ) → is_silent line ≡ true → n ≤ max_lines → line_read n s line ≡ Ok s
 silent_line n s line is few =
-    let in_time : nat_lt MAX_LINES n ≡ false = le-ltb _ _ few in
+    let in_time : nat_lt max_lines n ≡ false = le-ltb _ _ few in
     rw (in_time, is) refl
 
 -- a silent line in front of others
-dropped : (n : ℕ) (s : Scope) (line : List ℕ) (after : List (List ℕ)) → is_silent line ≡ true → 0 < length after → n + length after ≤ MAX_LINES → outcome (lines_read n s (line ∷ after)) ≡ outcome (lines_read n s after)
+dropped : (n : ℕ) (s : Scope) (line : List ℕ) (after : List (List ℕ)) → is_silent line ≡ true → 0 < length after → n + length after ≤ max_lines → outcome (lines_read n s (line ∷ after)) ≡ outcome (lines_read n s after)
 unfolding lines_read
 dropped n s line [] is some few = absurd (omega (arith, some))
 dropped n s line (a ∷ after) is some few = rw (silent_line n s line is (omega arith)) (lines_alike (n + 1) n s s (a ∷ after) refl (omega arith) (omega arith))
@@ -127,7 +127,7 @@ unfolding lines_read
 unrolled n s text [] some = absurd (omega (arith, some))
 unrolled n s text (l ∷ ls) some = refl
 
-silent_anywhere : (n : ℕ) (s : Scope) (before after : List (List ℕ)) (line : List ℕ) → is_silent line ≡ true → 0 < length after → n + length before + length after ≤ MAX_LINES
+silent_anywhere : (n : ℕ) (s : Scope) (before after : List (List ℕ)) (line : List ℕ) → is_silent line ≡ true → 0 < length after → n + length before + length after ≤ max_lines
     → outcome (lines_read n s (before ++ line ∷ after)) ≡ outcome (lines_read n s (before ++ after))
 silent_anywhere n s [] after line is some few = dropped n s line after is some (omega arith)
 silent_anywhere n s (b ∷ before) after line is some few =

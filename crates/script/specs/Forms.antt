@@ -6,7 +6,7 @@ use Rattle.std.specs.Char.{is_ascii_digit}
 use Rattle.std.specs.Str.Parse.{digits_value}
 use Rattle.script.specs.declared.command.Mode.{Mode}
 use Rattle.script.specs.declared.command.Mode.TheVariants as mode
-use Rattle.script.specs.declared.limits.TheConstants.{MAX_NAME, MAX_STEM, MAX_STEPS, MAX_MUTEXES}
+use Rattle.script.specs.Limits.{max_name, max_stem, max_steps, max_mutexes}
 
 -- the parts between line feeds: the lines, and what stands behind the last line feed
 abbrev pub lines_of : List ℕ → List (List ℕ)
@@ -27,7 +27,7 @@ is_name_byte b = is_letter b || is_ascii_digit b || b == 95
 -- the spelling of a name: few enough of these bytes, the first a letter
 abbrev pub is_name : List ℕ → Bool
 is_name [] = false
-is_name (b ∷ bs) = is_letter b && nat_lt (length bs) MAX_NAME && list_all is_name_byte bs
+is_name (b ∷ bs) = is_letter b && nat_lt (length bs) max_name && list_all is_name_byte bs
 
 -- the spelling of a number: decimal, without sign and without leading zeros
 abbrev pub is_number : List ℕ → Bool
@@ -76,17 +76,17 @@ name_form w a = if not (is_name a) then None
 -- `step T N`
 abbrev pub step_form : List ℕ → List ℕ → List ℕ → Option Form
 step_form w t n = if bytes_eq w (codes "step") && is_name t && is_number n
-    then Some (steps t (within 1 MAX_STEPS (digits_value 10 n)))
+    then Some (steps t (within 1 max_steps (digits_value 10 n)))
     else None
 
 -- a name to which a number is added, which leaves it the spelling of a name
 abbrev pub is_stem : List ℕ → Bool
-is_stem a = is_name a && nat_le (length a) MAX_STEM
+is_stem a = is_name a && nat_le (length a) max_stem
 
 -- `mutexes NAME N`
 abbrev pub mutexes_form : List ℕ → List ℕ → List ℕ → Option Form
 mutexes_form w a n = if bytes_eq w (codes "mutexes") && is_stem a && is_number n
-    then Some (mutexes a (within 1 MAX_MUTEXES (digits_value 10 n)))
+    then Some (mutexes a (within 1 max_mutexes (digits_value 10 n)))
     else None
 
 -- the first that there is
@@ -111,7 +111,7 @@ calling_form w t c = if not (is_name t) then None
 -- `locks T M N`
 abbrev pub locks_form : List ℕ → List ℕ → List ℕ → List ℕ → Option Form
 locks_form w t m n = if bytes_eq w (codes "locks") && is_name t && is_name m && is_number n
-    then Some (locks t m (within 1 MAX_MUTEXES (digits_value 10 n)))
+    then Some (locks t m (within 1 max_mutexes (digits_value 10 n)))
     else None
 
 -- `phase`

@@ -20,6 +20,11 @@ abbrev pub Gives : {X A : Type 0} → (X → A) → Result X Fault → Result A 
 Gives view (Ok x) said = said ≡ Ok (view x)
 Gives view (Err f) said = Tells f said
 
+-- the same for line n, at which a fault is told, and no other
+abbrev pub GivesAt : {X A : Type 0} → ℕ → (X → A) → Result X ScriptFault → Result A Fault → Type 0
+GivesAt n view (Ok x) said = said ≡ Ok (view x)
+GivesAt n view (Err e) said = (e.line ≡ n) × Tells e.fault said
+
 -- the same for a whole script
 abbrev pub Reads : {A : Type 0} → Result A ScriptFault → Result A ScriptFault → Type 0
 Reads (Ok x) said = said ≡ Ok x

@@ -1,6 +1,7 @@
 -- What playing a script gives.
 use Rattle.std.specs.Prelude.{ℕ, ◌≡◌, ◌<◌, ◌⊎◌, List, ◌∷◌, ◌++◌, length, Some, None, Result, Ok, Err}
-use Rattle.protocol.specs.Machine.{run, notes}
+use Rattle.protocol.specs.declared.note.Note.{Note}
+use Rattle.protocol.specs.Machine.{State, run, notes}
 use Rattle.interleave.specs.declared.trace.Trace.{Trace}
 use Rattle.interleave.specs.Shown.{Shown, state_of}
 use Rattle.interleave.specs.Traces.{IsOf}
@@ -8,7 +9,7 @@ use Rattle.script.specs.declared.command.Command.{Command}
 use Rattle.script.specs.declared.fault.Fault.{Fault}
 use Rattle.script.specs.declared.fault.Fault.TheVariants.{TooLong, OutOfMemory}
 use Rattle.script.specs.declared.fault.ScriptFault.{ScriptFault}
-use Rattle.script.specs.declared.limits.TheConstants.{MAX_EVENTS}
+use Rattle.script.specs.Limits.{max_events}
 use Rattle.script.specs.Scope.{Scope}
 use Rattle.script.specs.Playing.{layout_of, first_state, events_of, events_from, events_in, overlong}
 
@@ -27,14 +28,23 @@ pub record RunsAt (s : Scope) (line : ℕ) : Type 0 where
   pub stands : s.commands ≡ before ++ command ∷ after
   pub here : command.line ≡ line
   pub some : 0 < length (events_of (run (first_state s) (events_from (first_state s) before)) command.action)
-  pub room : length (events_from (first_state s) before) < MAX_EVENTS
+  pub room : length (events_from (first_state s) before) < max_events
 
--- the line is that of the first command that would run one event too many; memory is wanted at line 1, before
--- the first command, or at a command, for the note of an event that may run
+-- why the commands, one after the other, stop: the line is that of the first command that would run one event too many;
+-- or memory was wanted at a command, for the note of an event that may run
+abbrev pub RefusesCommand : Scope → ℕ → Fault → Type 0
+RefusesCommand s line TooLong = overlong s ≡ Some line
+RefusesCommand s line OutOfMemory = RunsAt s line
+RefusesCommand s line f = ⊥
+
+-- the commands ran on a new machine, which is as they leave it, and each event was noted; or one of them was refused
+abbrev pub PlaysOn : Scope → State → List Note → Result (Unit {0}) ScriptFault → Type 0
+PlaysOn s now ns (Ok u) = (overlong s ≡ None) × (ns ≡ notes (first_state s) (events_in s)) × (now ≡ run (first_state s) (events_in s))
+PlaysOn s now ns (Err e) = RefusesCommand s e.line e.fault
+
+-- a command is refused; or memory is wanted before the first command, at line 1
 abbrev pub Refuses : Scope → ℕ → Fault → Type 0
-Refuses s line TooLong = overlong s ≡ Some line
-Refuses s line OutOfMemory = (line ≡ 1) ⊎ RunsAt s line
-Refuses s line f = ⊥
+Refuses s line f = RefusesCommand s line f ⊎ ((line ≡ 1) × (f ≡ OutOfMemory))
 
 abbrev pub PlaysTo : Scope → Result (Trace × Shown) ScriptFault → Type 0
 PlaysTo s (Ok p) = IsPlayed s p.0 p.1

@@ -12,7 +12,8 @@ use Rattle.script.specs.declared.command.Action.TheVariants.{Begin, Step, Kill, 
 use Rattle.script.specs.declared.command.Command.{Command}
 use Rattle.script.specs.declared.fault.Fault.{Fault}
 use Rattle.script.specs.declared.fault.Fault.TheVariants.{TooLong, OutOfMemory}
-use Rattle.script.specs.declared.limits.TheConstants.{MAX_EVENTS, MAX_MUTEXES, REST_STEPS}
+use Rattle.script.specs.declared.fault.ScriptFault.{ScriptFault}
+use Rattle.script.specs.Limits.{max_events, max_mutexes, rest_steps}
 use Rattle.script.specs.Scope.{Scope}
 
 -- the machine of a script: its threads and mutexes, and no condition variable
@@ -33,7 +34,7 @@ steps_to_rest (suc most) s t = if is_going s t then suc (steps_to_rest most (hap
 
 -- the steps of thread t until it rests
 abbrev pub going_on : State → ℕ → List Event
-going_on s t = replicate (steps_to_rest REST_STEPS s t) (event.Step t)
+going_on s t = replicate (steps_to_rest rest_steps s t) (event.Step t)
 
 -- a call is begun, and then stepped until its thread rests
 abbrev pub calling : State → ℕ → MutexCall → List Event
@@ -56,7 +57,7 @@ events_of s Phase = []
 
 -- the mutexes of a `locks` are among those that there may be
 abbrev pub HasMutexes : Action → Type 0
-HasMutexes (Locks t m n) = m + n ≤ MAX_MUTEXES
+HasMutexes (Locks t m n) = m + n ≤ max_mutexes
 HasMutexes a = Unit {0}
 
 -- the events of commands, each at the state that those before it leave
@@ -70,14 +71,19 @@ events_in s = events_from (first_state s) s.commands
 -- the line of the first command that would run one event too many, where n events ran before
 abbrev pub overlong_from : ℕ → State → List Command → Option ℕ
 overlong_from n s [] = None
-overlong_from n s (c ∷ cs) = if nat_lt MAX_EVENTS (n + length (events_of s c.action)) then Some c.line else overlong_from (n + length (events_of s c.action)) (run s (events_of s c.action)) cs
+overlong_from n s (c ∷ cs) = if nat_lt max_events (n + length (events_of s c.action)) then Some c.line else overlong_from (n + length (events_of s c.action)) (run s (events_of s c.action)) cs
 
 abbrev pub overlong : Scope → Option ℕ
 overlong s = overlong_from 0 (first_state s) s.commands
 
 -- these events ran and were noted; or there are too many of them; or one of them, of those that may run, found no memory
 abbrev pub Adds : State → State → List Note → List Note → List Event → Result (Unit {0}) Fault → Type 0
-Adds s s' ns ns' es (Ok u) = (s' ≡ run s es) × (ns' ≡ ns ++ notes s es) × (length ns + length es ≤ MAX_EVENTS)
-Adds s s' ns ns' es (Err TooLong) = MAX_EVENTS < length ns + length es
-Adds s s' ns ns' es (Err OutOfMemory) = (0 < length es) × (length ns < MAX_EVENTS)
+Adds s s' ns ns' es (Ok u) = (s' ≡ run s es) × (ns' ≡ ns ++ notes s es) × (length ns + length es ≤ max_events)
+Adds s s' ns ns' es (Err TooLong) = max_events < length ns + length es
+Adds s s' ns ns' es (Err OutOfMemory) = (0 < length es) × (length ns < max_events)
 Adds s s' ns ns' es (Err f) = ⊥
+
+-- the same for the command at a line, where a fault is told
+abbrev pub AddsAt : ℕ → State → State → List Note → List Note → List Event → Result (Unit {0}) ScriptFault → Type 0
+AddsAt line s s' ns ns' es (Ok u) = Adds s s' ns ns' es (Ok u)
+AddsAt line s s' ns ns' es (Err e) = (e.line ≡ line) × Adds s s' ns ns' es (Err e.fault)

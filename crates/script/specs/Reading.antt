@@ -15,7 +15,7 @@ use Rattle.script.specs.declared.command.Action.TheVariants as action
 use Rattle.script.specs.declared.fault.Fault.{Fault}
 use Rattle.script.specs.declared.fault.Fault.TheVariants.{NotUtf8, UnknownWord, OutOfRange, NoSuchName, TooLong}
 use Rattle.script.specs.declared.fault.ScriptFault.{ScriptFault}
-use Rattle.script.specs.declared.limits.TheConstants.{MAX_BYTES, MAX_LINES, MAX_THREADS, MAX_MUTEXES}
+use Rattle.script.specs.Limits.{max_bytes, max_lines, max_threads, max_mutexes}
 
 -- first one thing and then another, as `?` does: a fault of the first is the fault
 infixl 10 ◌>>=◌
@@ -81,13 +81,13 @@ first_of s m n = place_of m s.mutexes >>= λ j. refuse (nat_lt (length s.mutexes
 -- ---- declarations
 
 abbrev pub thread_declared : Scope → List ℕ → Result Scope Fault
-thread_declared s w = declares s >>= λ _. added MAX_THREADS s.threads w >>= λ names. Ok (record s { threads = names })
+thread_declared s w = declares s >>= λ _. added max_threads s.threads w >>= λ names. Ok (record s { threads = names })
 
 abbrev pub mutex_declared : Scope → List ℕ → Result Scope Fault
-mutex_declared s w = declares s >>= λ _. added MAX_MUTEXES s.mutexes w >>= λ names. Ok (record s { mutexes = names })
+mutex_declared s w = declares s >>= λ _. added max_mutexes s.mutexes w >>= λ names. Ok (record s { mutexes = names })
 
 abbrev pub mutexes_declared : Scope → List ℕ → Option ℕ → Result Scope Fault
-mutexes_declared s w count = declares s >>= λ _. ok_or count OutOfRange >>= λ k. several MAX_MUTEXES s.mutexes w k >>= λ names.
+mutexes_declared s w count = declares s >>= λ _. ok_or count OutOfRange >>= λ k. several max_mutexes s.mutexes w k >>= λ names.
     Ok (record s { mutexes = names })
 
 -- ---- what commands ask for
@@ -143,11 +143,11 @@ met_at n (Err f) = Err (fault_at n f)
 
 -- line n, which a line feed ends
 abbrev pub line_read : ℕ → Scope → List ℕ → Result Scope Fault
-line_read n s text = refuse (nat_lt MAX_LINES n) TooLong (ok_or (form_of s.mode text) UnknownWord >>= λ f. enter n s f)
+line_read n s text = refuse (nat_lt max_lines n) TooLong (ok_or (form_of s.mode text) UnknownWord >>= λ f. enter n s f)
 
 -- what stands behind the last line feed: nothing, and what was declared is enough
 abbrev pub finished : ℕ → Scope → List ℕ → Result Scope Fault
-finished n s text = refuse (not (length text == 0)) (if nat_lt MAX_LINES n then TooLong else UnknownWord)
+finished n s text = refuse (not (length text == 0)) (if nat_lt max_lines n then TooLong else UnknownWord)
     (refuse (length s.threads == 0 || length s.mutexes == 0) OutOfRange (Ok s))
 
 -- these lines, the first of which is line n, after what the lines before it made
@@ -166,5 +166,5 @@ text_read k text = lines_read 1 (nothing k) (lines_of text)
 
 -- the script that the bytes are, or their first fault
 abbrev pub script_read : Mode → List ℕ → Result Scope ScriptFault
-script_read k bytes = if nat_lt MAX_BYTES (length bytes) then Err (fault_at 1 TooLong)
+script_read k bytes = if nat_lt max_bytes (length bytes) then Err (fault_at 1 TooLong)
     else (if is_utf8 bytes then text_read k bytes else Err (fault_at (bad_line bytes) NotUtf8))

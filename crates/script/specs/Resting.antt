@@ -5,7 +5,7 @@ use Rattle.protocol.specs.declared.event.Event.{Event}
 use Rattle.protocol.specs.Machine.{State, start, run}
 use Rattle.protocol.specs.Sleepers.{alone}
 use Rattle.script.specs.Playing.{is_going, steps_to_rest}
-use Rattle.script.specs.declared.limits.TheConstants.{REST_STEPS}
+use Rattle.script.specs.Limits.{rest_steps}
 
 -- after so many steps of its own the thread rests, and after fewer it doesn't
 abbrev pub RestsAfter : State → ℕ → ℕ → Type 0
@@ -14,4 +14,4 @@ RestsAfter s t n = (is_going (alone s t n) t ≡ false) × ((k : ℕ) → k < n 
 -- whatever happened before, with any values of the counters at the beginning
 abbrev pub ThreadsComeToRest : Type 0
 ThreadsComeToRest = (l : Layout') (counters : ℕ → ℕ) (events : List Event) (t : ℕ) → IsLayout l →
-    RestsAfter (run (start l counters) events) t (steps_to_rest REST_STEPS (run (start l counters) events) t)
+    RestsAfter (run (start l counters) events) t (steps_to_rest rest_steps (run (start l counters) events) t)

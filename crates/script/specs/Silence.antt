@@ -7,7 +7,7 @@ use Rattle.script.specs.declared.command.Command.{Command}
 use Rattle.script.specs.declared.command.Mode.{Mode}
 use Rattle.script.specs.declared.fault.Fault.{Fault}
 use Rattle.script.specs.declared.fault.ScriptFault.{ScriptFault}
-use Rattle.script.specs.declared.limits.TheConstants.{MAX_LINES}
+use Rattle.script.specs.Limits.{max_lines}
 
 -- a command with its line left out
 abbrev pub unplaced : Command → Command
@@ -26,5 +26,5 @@ outcome (Err e) = Err e.fault
 -- stay, or the fault; something stands behind the line, if only the empty end of the text
 abbrev pub SilentLinesSayNothing : Type 0
 SilentLinesSayNothing = (k : Mode) (before after : List (List ℕ)) (line : List ℕ) →
-    is_silent line ≡ true → 0 < length after → length before + length after < MAX_LINES
+    is_silent line ≡ true → 0 < length after → length before + length after < max_lines
     → outcome (lines_read 1 (nothing k) (before ++ line ∷ after)) ≡ outcome (lines_read 1 (nothing k) (before ++ after))

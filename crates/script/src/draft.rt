@@ -3,6 +3,7 @@
 ghost use Rattle.std.specs.Prelude.{◌≡◌, ◌^◌, ◌<◌, ◌≤◌, false, length, map, OnOk, IfOk, IfErr, string_bytes};
 ghost use Rattle.std.specs.List.{list_any};
 ghost use Rattle.script.specs.Forms.{is_silent};
+ghost use Rattle.script.specs.Limits.{max_lines, max_mutexes, max_threads};
 ghost use Rattle.script.specs.Outcome.{Gives};
 ghost use Rattle.script.specs.Reading.{added, asked, begun, call_of, declares, enter, first_of, gone, is_numbered, killed, line_read, locked, made, mutex_declared, mutexes_declared, nothing, place_of, several, stepped, thread_declared, thread_of, with_action};
 ghost use Rattle.script.specs.Scope.{IsWithinLimits};
@@ -113,7 +114,7 @@ impl Draft {
     }
 
     fn thread(&self, name: &str) -> Result<Tid, Fault>
-        requires { length (scope_of self.now).threads ≤ MAX_THREADS }
+        requires { length (scope_of self.now).threads ≤ max_threads }
         ensures { result ≡ thread_of (scope_of self.now) name.now }
     {
         let place = place(&self.threads, name)?;
@@ -132,7 +133,7 @@ impl Draft {
     }
 
     fn call(&self, call: NamedCall<'_>) -> Result<Call, Fault>
-        requires { length (scope_of self.now).mutexes ≤ MAX_MUTEXES }
+        requires { length (scope_of self.now).mutexes ≤ max_mutexes }
         ensures { result ≡ call_of (scope_of self.now) (call_seen call.entry) }
     {
         Ok(match call {
@@ -174,7 +175,7 @@ impl Draft {
         word: &str,
         count: Option<u32>,
     ) -> Result<(), Fault>
-        requires { length (scope_of self.old).mutexes ≤ MAX_MUTEXES }
+        requires { length (scope_of self.old).mutexes ≤ max_mutexes }
         ensures gives { Gives (λ _. scope_of self.new) result (mutexes_declared (scope_of self.old) word.now count) }
         ensures mode { self.new.mode ≡ self.old.mode }
     {
@@ -292,7 +293,7 @@ impl Draft {
         ensures gives { Gives (λ _. scope_of self.new) result
             (line_read number (scope_of self.old) text.now) }
         ensures mode { self.new.mode ≡ self.old.mode }
-        ensures few { OnOk result (number ≤ MAX_LINES) }
+        ensures few { OnOk result (number ≤ max_lines) }
         ensures memory { IfErr result (λ f. f ≡ Fault.OutOfMemory → is_silent text.now ≡ false) }
     {
         if number > MAX_LINES {

@@ -3,11 +3,11 @@
 ghost use Rattle.std.specs.Prelude.{◌≡◌, ◌<◌, ◌≤◌, ℕ, List, [], ◌∷◌, ◌++◌, length, OnOk, map, position, IfOk, IfErr, IfSome, MatchOption};
 ghost use Rattle.script.specs.declared.command.Command.{Command};
 ghost use Rattle.std.specs.List.{slice_split};
+ghost use Rattle.script.specs.Limits.{max_threads};
 ghost use Rattle.script.specs.Jobs.{AreCalls, ends_phase, jobs_up_to, jobs_seen, jobs_of, lists_seen};
 
 use crate::command::{Action, Command};
 use crate::fault::{Fault, ScriptFault};
-use crate::limits::MAX_THREADS;
 use crate::parsed::Script;
 use crate::workload::{Job, Jobs, Phase};
 use lockword::Tid;
@@ -60,7 +60,7 @@ fn add_call(calls: &mut Vec<Vec<Call>>, command: &Command) -> Result<(), AllocEr
 
 /// A job of each thread that has calls.
 fn jobs_with(alloc: Global, calls: Vec<Vec<Call>>) -> Result<Phase, AllocError>
-    requires { length calls.items ≤ MAX_THREADS }
+    requires { length calls.items ≤ max_threads }
     ensures { IfOk result (λ phase. (n : ℕ) (cs : List Command) → AreCalls n cs (lists_seen calls.items) → jobs_seen phase ≡ jobs_up_to n cs) }
 {
     let mut jobs = Vec::new(alloc);
@@ -77,7 +77,7 @@ fn jobs_with(alloc: Global, calls: Vec<Vec<Call>>) -> Result<Phase, AllocError>
 
 /// What real threads do in a phase that consists of these commands.
 fn phase_of(alloc: Global, threads: u8, commands: &[Command]) -> Result<Phase, AllocError>
-    requires { threads ≤ MAX_THREADS }
+    requires { threads ≤ max_threads }
     ensures { IfOk result (λ phase. jobs_seen phase ≡ jobs_up_to threads commands.now) }
 {
     let mut calls = no_calls(alloc, threads)?;
@@ -89,7 +89,7 @@ fn phase_of(alloc: Global, threads: u8, commands: &[Command]) -> Result<Phase, A
 
 /// The phases of all the commands.
 fn phases_of(alloc: Global, threads: u8, commands: &[Command]) -> Result<Vec<Phase>, AllocError>
-    requires { threads ≤ MAX_THREADS }
+    requires { threads ≤ max_threads }
     ensures { IfOk result (λ phases. map jobs_seen phases.items ≡ map (jobs_up_to threads) (slice_split ends_phase commands.now)) }
 {
     let mut phases = Vec::new(alloc);

@@ -1,13 +1,14 @@
 //! Playing a script's commands on the machine.
-ghost use Rattle.std.specs.Prelude.{◌≡◌, ◌≤◌, [], ◌∷◌, ◌++◌, length, replicate, ◌+◌, OnOk, IfErr};
+ghost use Rattle.std.specs.Prelude.{◌≡◌, ◌≤◌, [], ◌∷◌, ◌++◌, length, replicate, ◌+◌, OnOk, IfOk, IfErr};
 ghost use Rattle.protocol.specs.declared.event.Event.TheVariants.{Step};
 ghost use Rattle.interleave.specs.Shown.{state_of};
-ghost use Rattle.script.specs.Playing.{Adds, HasMutexes, calling, events_of, going_on, is_going, locking};
-ghost use Rattle.script.specs.Played.{PlaysTo};
+ghost use Rattle.script.specs.Limits.{max_events, max_mutexes};
+ghost use Rattle.script.specs.Playing.{Adds, AddsAt, HasMutexes, calling, events_of, first_state, going_on, is_going, locking};
+ghost use Rattle.script.specs.Played.{PlaysOn, PlaysTo};
 
-use crate::command::Action;
+use crate::command::{Action, Command};
 use crate::fault::{Fault, ScriptFault};
-use crate::limits::{MAX_EVENTS, MAX_MUTEXES, REST_STEPS};
+use crate::limits::{MAX_EVENTS, REST_STEPS};
 use crate::parsed::Script;
 use interleave::{Machine, Trace};
 use keys::Layout;
@@ -43,7 +44,7 @@ fn play_steps(
     thread: Tid,
     count: u32,
 ) -> Result<(), Fault>
-    requires { length notes.old.items ≤ MAX_EVENTS }
+    requires { length notes.old.items ≤ max_events }
     ensures { Adds (state_of machine.old) (state_of machine.new) notes.old.items notes.new.items (replicate count (Step thread)) result }
 {
     for _done in 0..count {
@@ -61,7 +62,7 @@ fn is_going(machine: &Machine, thread: Tid) -> bool
 
 /// Steps of a thread until it is in no call and not dying, or sleeps.
 fn play_to_rest(machine: &mut Machine, notes: &mut Vec<Note>, thread: Tid) -> Result<(), Fault>
-    requires { length notes.old.items ≤ MAX_EVENTS }
+    requires { length notes.old.items ≤ max_events }
     ensures { Adds (state_of machine.old) (state_of machine.new) notes.old.items notes.new.items (going_on (state_of machine.old) thread) result }
 {
     for _done in 0..REST_STEPS {
@@ -80,7 +81,7 @@ fn play_call(
     thread: Tid,
     call: Call,
 ) -> Result<(), Fault>
-    requires { length notes.old.items ≤ MAX_EVENTS }
+    requires { length notes.old.items ≤ max_events }
     ensures { Adds (state_of machine.old) (state_of machine.new) notes.old.items notes.new.items (calling (state_of machine.old) thread call) result }
 {
     play_event(machine, notes, Event::Begin(thread, call))?;
@@ -95,8 +96,8 @@ fn play_locks(
     mutex: u16,
     count: u16,
 ) -> Result<(), Fault>
-    requires few { length notes.old.items ≤ MAX_EVENTS }
-    requires small { mutex + count ≤ MAX_MUTEXES }
+    requires few { length notes.old.items ≤ max_events }
+    requires small { mutex + count ≤ max_mutexes }
     ensures { Adds (state_of machine.old) (state_of machine.new) notes.old.items notes.new.items (locking (state_of machine.old) thread mutex count) result }
 {
     for next in 0..count {
@@ -107,7 +108,7 @@ fn play_locks(
 
 /// The events of an action.
 fn play_action(machine: &mut Machine, notes: &mut Vec<Note>, action: Action) -> Result<(), Fault>
-    requires few { length notes.old.items ≤ MAX_EVENTS }
+    requires few { length notes.old.items ≤ max_events }
     requires locks { HasMutexes action }
     ensures { Adds (state_of machine.old) (state_of machine.new) notes.old.items notes.new.items (events_of (state_of machine.old) action) result }
 {
@@ -126,6 +127,57 @@ fn play_action(machine: &mut Machine, notes: &mut Vec<Note>, action: Action) -> 
     }
 }
 
+/// The events of a command. A fault is told at the command's line.
+fn play_command(
+    machine: &mut Machine,
+    notes: &mut Vec<Note>,
+    command: &Command,
+) -> Result<(), ScriptFault>
+    requires few { length notes.old.items ≤ max_events }
+    requires locks { HasMutexes command.now.action }
+    ensures { AddsAt command.now.line (state_of machine.old) (state_of machine.new) notes.old.items notes.new.items (events_of (state_of machine.old) command.now.action) result }
+{
+    match play_action(machine, notes, command.action) {
+        Ok(()) => Ok(()),
+        Err(fault) => Err(ScriptFault {
+            line: command.line,
+            fault,
+        }),
+    }
+}
+
+/// The events of all the commands, on a machine and a list of notes that are new. Want of memory is told at the line of a
+/// command that runs an event, and at no other.
+fn play_commands(
+    machine: &mut Machine,
+    notes: &mut Vec<Note>,
+    script: &Script,
+) -> Result<(), ScriptFault>
+    requires starts { state_of machine.old ≡ first_state script.now }
+    requires none { notes.old.items ≡ [] }
+    ensures { PlaysOn script.now (state_of machine.new) notes.new.items result }
+{
+    for command in script.commands() {
+        play_command(machine, notes, command)?;
+    }
+    Ok(())
+}
+
+/// A machine with a script's threads and mutexes, before its first event.
+fn first_machine(alloc: Global, script: &Script) -> Result<Machine, ScriptFault>
+    ensures starts { IfOk result (λ machine. state_of machine ≡ first_state script.now) }
+    ensures memory { IfErr result (λ e. e ≡ record { line = 1; fault = Fault.OutOfMemory }) }
+{
+    let layout = Layout::new(script.threads(), script.mutexes(), &[]).unwrap();
+    match Machine::new(alloc, layout) {
+        Ok(machine) => Ok(machine),
+        Err(_) => Err(ScriptFault {
+            line: 1,
+            fault: Fault::OutOfMemory,
+        }),
+    }
+}
+
 /// What a script's commands do on a new machine: the trace, and the machine afterwards.
 ///
 /// Refused at the line of the first command that would run event 100,001, as [`Fault::TooLong`]; or, where no memory is left, at the line being played,
@@ -133,22 +185,9 @@ fn play_action(machine: &mut Machine, notes: &mut Vec<Note>, action: Action) -> 
 pub fn play(alloc: Global, script: &Script) -> Result<(Trace, Machine), ScriptFault>
     ensures { PlaysTo script.now result }
 {
-    let layout = Layout::new(script.threads(), script.mutexes(), &[]).unwrap();
-    let Ok(mut machine) = Machine::new(alloc, layout) else {
-        return Err(ScriptFault {
-            line: 1,
-            fault: Fault::OutOfMemory,
-        });
-    };
+    let mut machine = first_machine(alloc, script)?;
     let mut notes = Vec::new(alloc);
-    for command in script.commands() {
-        if let Err(fault) = play_action(&mut machine, &mut notes, command.action) {
-            return Err(ScriptFault {
-                line: command.line,
-                fault,
-            });
-        }
-    }
+    play_commands(&mut machine, &mut notes, script)?;
     let trace = Trace {
         threads: script.threads(),
         mutexes: script.mutexes(),

@@ -1,8 +1,10 @@
 //! Reading a script from its first byte to its last.
 
-ghost use Rattle.std.specs.Prelude.{◌≡◌, ◌+◌, ◌≤◌, ◌==◌, length, take, count_by, IfOk, IfErr};
-ghost use Rattle.script.specs.Outcome.{Reads, SpeaksAt};
-ghost use Rattle.script.specs.Reading.{finished, script_read, text_read};
+ghost use Rattle.std.specs.Prelude.{◌≡◌, ◌+◌, ◌≤◌, ◌==◌, false, length, take, count_by, OnOk, IfOk, IfErr};
+ghost use Rattle.script.specs.Forms.{is_silent};
+ghost use Rattle.script.specs.Limits.{max_bytes, max_lines};
+ghost use Rattle.script.specs.Outcome.{GivesAt, Reads, SpeaksAt};
+ghost use Rattle.script.specs.Reading.{finished, line_read, script_read, text_read};
 ghost use Rattle.script.specs.Scope.{IsWellFormed, IsWithinLimits};
 ghost use Rattle.script.specs.Seen.{scope_of};
 
@@ -32,6 +34,23 @@ fn finish(draft: Draft, number: usize, text: &str) -> Result<Script, Fault>
     Ok(Script::of(draft))
 }
 
+/// Reads line `number` into the draft. A fault is told at that line.
+fn read_line(alloc: Global, draft: &mut Draft, number: usize, text: &str) -> Result<(), ScriptFault>
+    requires { IsWithinLimits (scope_of draft.old) }
+    ensures gives { GivesAt number (λ _. scope_of draft.new) result (line_read number (scope_of draft.old) text.now) }
+    ensures mode { draft.new.mode ≡ draft.old.mode }
+    ensures few { OnOk result (number ≤ max_lines) }
+    ensures memory { IfErr result (λ e. e.fault ≡ Fault.OutOfMemory → is_silent text.now ≡ false) }
+{
+    match draft.read_line(alloc, number, text) {
+        Ok(()) => Ok(()),
+        Err(fault) => Err(ScriptFault {
+            line: number,
+            fault,
+        }),
+    }
+}
+
 fn read_text(alloc: Global, text: &str, mode: Mode) -> Result<Script, ScriptFault>
     ensures reads { Reads result (text_read mode text.now) }
     ensures mode { IfOk result (λ s. s.mode ≡ mode) }
@@ -41,9 +60,7 @@ fn read_text(alloc: Global, text: &str, mode: Mode) -> Result<Script, ScriptFaul
     let mut line = 1;
     let mut rest = text;
     while let Some((first, after)) = cut(rest, '\n') {
-        if let Err(fault) = draft.read_line(alloc, line, first) {
-            return Err(ScriptFault { line, fault });
-        }
+        read_line(alloc, &mut draft, line, first)?;
         line += 1;
         rest = after;
     }
@@ -56,7 +73,7 @@ fn read_text(alloc: Global, text: &str, mode: Mode) -> Result<Script, ScriptFaul
 /// The line of the byte at `len`.
 fn line_at(bytes: &[u8], len: usize) -> usize
     requires at { len ≤ length bytes.now }
-    requires small { length bytes.now ≤ MAX_BYTES }
+    requires small { length bytes.now ≤ max_bytes }
     ensures { result ≡ count_by (λ b. b == 10) (take len bytes.now) + 1 }
 {
     bytes[..len].iter().filter(|b| **b == b'\n').count() + 1

@@ -9,7 +9,7 @@ use Rattle.std.proofs.lemmas.Str.Parse.{IsNumeralModel, numerals_by_value, tells
 use Rattle.std.proofs.lemmas.Bool.Decides.{nat_tests}
 use Rattle.std.proofs.lemmas.List.Splits.{length-slice_split}
 use Rattle.script.specs.Forms.{is_number, within}
-use Rattle.verdict.specs.declared.limits.TheConstants.{MAX_EVENTS}
+use Rattle.verdict.specs.Limits.{max_events}
 use Rattle.verdict.specs.Forms.{number_of, numbered}
 
 -- ---- words
@@ -45,7 +45,7 @@ is_digits (b ∷ c ∷ bs) e = sym (same_digits (b ∷ c ∷ bs)) ∙ both (not 
 pub too_long : {E : Type 0} (w : List ℕ) (e : E) → is_number w ≡ true → ParsesUnsigned 32 10 w (Err e) → Some None ≡ number_of w
 too_long {E} w e is h =
     let k = parse_digits own 32 w (Err e) h (is_digits w is) in
-    let past : within 0 MAX_EVENTS (digits_value 10 w) ≡ None = grind (arith, nat_tests) in
+    let past : within 0 max_events (digits_value 10 w) ≡ None = grind (arith, nat_tests) in
     rw (is, past) refl
 
 -- ---- letters

@@ -12,7 +12,7 @@ use Rattle.verdict.specs.declared.form.Said.TheVariants as said
 use Rattle.verdict.specs.declared.form.Form.{Form}
 use Rattle.verdict.specs.declared.form.Form.TheVariants.{Told, End}
 use Rattle.verdict.specs.declared.form.HeadForm.{HeadForm}
-use Rattle.verdict.specs.declared.limits.TheConstants.{MAX_EVENTS}
+use Rattle.verdict.specs.Limits.{max_events}
 
 -- first one thing and then another, as `?` does
 infixl 10 ◌>>=◌
@@ -22,7 +22,7 @@ None >>= f = None
 
 -- the number that a word spells; None inside where it is past every range
 abbrev pub number_of : List ℕ → Option (Option ℕ)
-number_of w = if is_number w then Some (within 0 MAX_EVENTS (digits_value 10 w)) else None
+number_of w = if is_number w then Some (within 0 max_events (digits_value 10 w)) else None
 
 -- a letter and a number: `t1` is a thread, `m0` a mutex, `c0` a condition variable
 abbrev pub numbered : ℕ → List ℕ → Option (Option ℕ)

@@ -1,4 +1,5 @@
 pub mod Faults
+pub mod Limits
 pub mod Facts
 pub mod Forms
 pub mod Words

@@ -23,7 +23,7 @@ use Rattle.verdict.specs.declared.reading.Line.TheVariants as line
 use Rattle.verdict.specs.declared.fault.Fault.{Fault}
 use Rattle.verdict.specs.declared.fault.Fault.TheVariants.{NotUtf8, UnknownWord, OutOfRange, TooLong, Cut}
 use Rattle.verdict.specs.declared.fault.TraceFault.{TraceFault}
-use Rattle.verdict.specs.declared.limits.TheConstants.{MAX_BYTES, MAX_THREADS, MAX_MUTEXES, MAX_CONDITIONS, MAX_EVENTS}
+use Rattle.verdict.specs.Limits.{max_bytes, max_threads, max_mutexes, max_conditions, max_events}
 
 -- a trace that was read: its first line, what its lines tell, the newest first, and the number on its last line
 pub record Trace : Type 0 where
@@ -34,9 +34,9 @@ pub record Trace : Type 0 where
 -- its numbers are in their ranges
 pub record IsHead (h : Head) : Type 0 where
   pub some_thread : 1 ≤ h.threads
-  pub few_threads : h.threads ≤ MAX_THREADS
+  pub few_threads : h.threads ≤ max_threads
   pub some_mutex : 1 ≤ h.mutexes
-  pub few_mutexes : h.mutexes ≤ MAX_MUTEXES
+  pub few_mutexes : h.mutexes ≤ max_mutexes
 
 -- ---- numbers in their ranges
 
@@ -51,7 +51,7 @@ abbrev pub below_in : ℕ → Option ℕ → Option ℕ
 below_in count n = n >>? below count
 
 abbrev pub head_in : HeadForm → Option Head
-head_in f = number_in 1 MAX_THREADS f.threads >>? λ t. number_in 1 MAX_MUTEXES f.mutexes >>? λ m. number_in 0 MAX_CONDITIONS f.conditions >>? λ c. Some (record { threads = t; mutexes = m; conditions = c })
+head_in f = number_in 1 max_threads f.threads >>? λ t. number_in 1 max_mutexes f.mutexes >>? λ m. number_in 0 max_conditions f.conditions >>? λ c. Some (record { threads = t; mutexes = m; conditions = c })
 
 -- threads are numbered from 1
 abbrev pub thread_in : Head → Option ℕ → Option ℕ
@@ -93,7 +93,7 @@ fact_in h (said.Return t x) = thread_in h t >>? λ u. Some (fact.Return u x)
 fact_in h (said.Reap t) = thread_in h t >>? λ u. Some (fact.Reap u)
 
 abbrev pub line_in : Head → Form → Option Line
-line_in h (form.Told n s) = number_in 1 MAX_EVENTS n >>? λ i. fact_in h s >>? λ f. Some (line.Told (record { event = i; fact = f }))
+line_in h (form.Told n s) = number_in 1 max_events n >>? λ i. fact_in h s >>? λ f. Some (line.Told (record { event = i; fact = f }))
 line_in h (form.End n) = n >>? λ i. Some (line.End i)
 
 -- ---- line after line
@@ -143,5 +143,5 @@ text_read (text ∷ next ∷ more) = met_at 1 (head_read text) >>= λ h. lines_r
 
 -- the trace that the bytes are, or their first fault
 abbrev pub trace_read : List ℕ → Result Trace TraceFault
-trace_read bytes = if nat_lt MAX_BYTES (length bytes) then Err (fault_at 1 TooLong)
+trace_read bytes = if nat_lt max_bytes (length bytes) then Err (fault_at 1 TooLong)
     else (if is_utf8 bytes then text_read (lines_of bytes) else Err (fault_at (bad_line bytes) NotUtf8))

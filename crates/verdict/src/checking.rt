@@ -2,6 +2,7 @@
 
 ghost use Rattle.std.specs.Prelude.{◌≡◌, ◌+◌, ◌<◌, ◌≤◌, ◌==◌, nat_lt, [], length, take, count_by, IfOk};
 ghost use Rattle.script.specs.Forms.{lines_of};
+ghost use Rattle.verdict.specs.Limits.{max_bytes};
 ghost use Rattle.verdict.specs.Judges.{IsInside, IsSound};
 ghost use Rattle.verdict.specs.Passes.{AnswersLines, IsFresh, MakesPass, Takes, verdict_of};
 ghost use Rattle.verdict.specs.Reading.{IsHead, head_read, lines_read, text_read, trace_read, unended};
@@ -57,7 +58,7 @@ impl Pass {
     fn take(&mut self, line: usize, entry: &Entry)
         requires sound { IsSound self.old.judge }
         requires inside { IsInside (length self.old.judge.stages.items) (length self.old.judge.objects.items) entry.now.fact }
-        requires room { self.old.points < MAX_BYTES }
+        requires room { self.old.points < max_bytes }
         ensures takes { Takes self.old line entry.now self.new }
         ensures sound { IsSound self.new.judge }
         ensures head { self.new.judge.head ≡ self.old.judge.head }
@@ -108,7 +109,7 @@ fn unended_by(rest: &str) -> Fault
 
 fn judge_lines(mut pass: Pass, text: &str) -> Result<Verdict, TraceFault>
     requires fresh { IsFresh pass }
-    requires small { length text.now ≤ MAX_BYTES }
+    requires small { length text.now ≤ max_bytes }
     ensures { AnswersLines (lines_read 2 pass.judge.head [] (lines_of text.now)) result }
 {
     let mut line = 2;
@@ -147,7 +148,7 @@ fn pass_of(alloc: Global, text: &str) -> Result<Pass, Fault>
 }
 
 fn check_text(alloc: Global, text: &str) -> Result<Verdict, TraceFault>
-    requires { length text.now ≤ MAX_BYTES }
+    requires { length text.now ≤ max_bytes }
     ensures { Answers (text_read (lines_of text.now)) result }
 {
     let Some((first, rest)) = cut(text, '\n') else {
@@ -165,7 +166,7 @@ fn check_text(alloc: Global, text: &str) -> Result<Verdict, TraceFault>
 /// The line of the byte at `len`.
 fn line_at(bytes: &[u8], len: usize) -> usize
     requires at { len ≤ length bytes.now }
-    requires small { length bytes.now ≤ MAX_BYTES }
+    requires small { length bytes.now ≤ max_bytes }
     ensures { result ≡ count_by (λ b. b == 10) (take len bytes.now) + 1 }
 {
     bytes[..len].iter().filter(|b| **b == b'\n').count() + 1

@@ -1,6 +1,7 @@
 //! Lines of a trace whose numbers are in their ranges.
 
 ghost use Rattle.std.specs.Prelude.{◌≡◌, ◌+◌, ◌<◌, ◌≤◌, IfOk, IfSome};
+ghost use Rattle.verdict.specs.Limits.{max_threads};
 ghost use Rattle.verdict.specs.Judges.{IsInside, IsLine};
 ghost use Rattle.verdict.specs.Reading.{IsHead, begin_in, begin_on_in, below_in, call_in, death_in, fact_in, head_in, head_read, line_in, line_read, number_in, point_in, thread_at, thread_in};
 
@@ -42,7 +43,7 @@ fn head_in(form: &HeadForm) -> Option<Head>
 }
 
 fn thread_in(head: &Head, number: Spelled) -> Option<Tid>
-    requires { head.now.threads ≤ MAX_THREADS }
+    requires { head.now.threads ≤ max_threads }
     ensures value { result ≡ thread_in head.now number }
     ensures range { IfSome result (λ t. t < head.now.threads + 1) }
 {
@@ -71,7 +72,7 @@ fn call_in(head: &Head, action: Action, mutex: Spelled) -> Option<Call>
 }
 
 fn begin_in(head: &Head, thread: Spelled, action: Action, mutex: Spelled) -> Option<Fact>
-    requires { head.now.threads ≤ MAX_THREADS }
+    requires { head.now.threads ≤ max_threads }
     ensures value { result ≡ begin_in head.now thread action mutex }
     ensures range { IfSome result (IsInside (head.now.threads + 1) head.now.mutexes) }
 {
@@ -86,7 +87,7 @@ fn begin_on_in(
     condition: Spelled,
     mutex: Spelled,
 ) -> Option<Fact>
-    requires { head.now.threads ≤ MAX_THREADS }
+    requires { head.now.threads ≤ max_threads }
     ensures value { result ≡ begin_on_in head.now thread action condition mutex }
     ensures range { IfSome result (IsInside (head.now.threads + 1) head.now.mutexes) }
 {
@@ -102,7 +103,7 @@ fn point_in(
     action: Action,
     reply: Reply,
 ) -> Option<Fact>
-    requires { head.now.threads ≤ MAX_THREADS }
+    requires { head.now.threads ≤ max_threads }
     ensures value { result ≡ point_in head.now thread mutex action reply }
     ensures range { IfSome result (IsInside (head.now.threads + 1) head.now.mutexes) }
 {
@@ -111,7 +112,7 @@ fn point_in(
 }
 
 fn death_in(head: &Head, thread: Spelled, mutex: Spelled) -> Option<Fact>
-    requires { head.now.threads ≤ MAX_THREADS }
+    requires { head.now.threads ≤ max_threads }
     ensures value { result ≡ death_in head.now thread mutex }
     ensures range { IfSome result (IsInside (head.now.threads + 1) head.now.mutexes) }
 {
@@ -121,7 +122,7 @@ fn death_in(head: &Head, thread: Spelled, mutex: Spelled) -> Option<Fact>
 
 /// The thread of a line that names one of `count` places too, which isn't kept.
 fn thread_at(head: &Head, thread: Spelled, count: u16, place: Spelled) -> Option<Tid>
-    requires { head.now.threads ≤ MAX_THREADS }
+    requires { head.now.threads ≤ max_threads }
     ensures value { result ≡ thread_at head.now thread count place }
     ensures range { IfSome result (λ t. t < head.now.threads + 1) }
 {
@@ -131,7 +132,7 @@ fn thread_at(head: &Head, thread: Spelled, count: u16, place: Spelled) -> Option
 }
 
 fn fact_in(head: &Head, said: &Said) -> Option<Fact>
-    requires { head.now.threads ≤ MAX_THREADS }
+    requires { head.now.threads ≤ max_threads }
     ensures value { result ≡ fact_in head.now said.now }
     ensures range { IfSome result (IsInside (head.now.threads + 1) head.now.mutexes) }
 {
@@ -158,7 +159,7 @@ fn fact_in(head: &Head, said: &Said) -> Option<Fact>
 }
 
 fn line_in(head: &Head, form: &Form) -> Option<Line>
-    requires { head.now.threads ≤ MAX_THREADS }
+    requires { head.now.threads ≤ max_threads }
     ensures value { result ≡ line_in head.now form.now }
     ensures range { IfSome result (IsLine head.now) }
 {
@@ -182,7 +183,7 @@ pub fn head_of(text: &str) -> Result<Head, Fault>
 
 /// Reads a line behind the first.
 pub fn line_of(head: &Head, text: &str) -> Result<Line, Fault>
-    requires { head.now.threads ≤ MAX_THREADS }
+    requires { head.now.threads ≤ max_threads }
     ensures value { result ≡ line_read head.now text.now }
     ensures range { IfOk result (IsLine head.now) }
 {

@@ -5,14 +5,14 @@ use Rattle.script.specs.Forms.{lines_of}
 use Rattle.script.specs.Reading.{lines_read, text_read}
 use Rattle.script.specs.Scope.{IsWithinLimits}
 use Rattle.script.specs.Seen.{scope_of}
-use Rattle.script.specs.declared.limits.TheConstants.{MAX_LINES}
+use Rattle.script.specs.Limits.{max_lines}
 use Rattle.script.proofs.Lines.{IsBehind}
 use Rattle.script.proofs.reading.read_text.Given as goal
 
 abbrev pub invariant-loop-first : goal.invariant-loop-first
 invariant-loop-first l = record {
   is_text : shadow (Utf8 l.rest);
-  few_lines : l.line ≤ MAX_LINES + 1;
+  few_lines : l.line ≤ max_lines + 1;
   mode : l.draft.mode ≡ l.fn.mode;
   within : IsWithinLimits (scope_of l.draft);
   earlier : IsBehind l.text l.rest l.line;
