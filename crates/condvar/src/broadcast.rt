@@ -3,14 +3,8 @@ ghost use Rattle.std.specs.Prelude.{◌≡◌};
 ghost use Rattle.condvar.specs.Broadcast.{broadcast_access, broadcast_resume, broadcast_sees, broadcast_counts};
 
 use crate::row::{CondLed, CondRow, FULL, low_half};
-use keys::{Access, Answer, Operation};
-use lockword::{Cell, Reply, Tid};
-
-/// Bit 31 of a cell.
-const WAITERS: u64 = 0x8000_0000;
-
-/// All sleepers of a word: there are at most as many as threads.
-const ALL: u32 = 64;
+use keys::{ALL, Access, Answer, Operation};
+use lockword::{Cell, Reply, Tid, WAITERS};
 
 /// Where a broadcast stands.
 #[derive(Clone, Copy, Debug, PartialEq, Eq)]

@@ -1,5 +1,6 @@
 -- What a walk does whatever it is answered.
 use Rattle.std.specs.Prelude.{ℕ, ◌≡◌, ◌+◌, ◌≤◌, true, Option, Some, None, List, [], ◌∷◌, length}
+use Rattle.keys.specs.Objects.{held_limit}
 use Rattle.keys.specs.declared.access.Access.{Access}
 use Rattle.keys.specs.declared.access.Access.TheVariants.{Load, Exchange, Wake}
 use Rattle.keys.specs.declared.access.Answer.{Answer}
@@ -55,7 +56,7 @@ WakesFor x a = ⊥
 -- each wake has its reason there too, and is of one sleeper.
 pub record AnyAnswersEnd : Type 0 where
   pub ends : (t h : ℕ) (answers : List Answer) → 10247 ≤ length answers → reached t h LoadFirst answers ≡ Ended
-  pub loads : (t h : ℕ) (answers : List Answer) → entry_loads t h LoadFirst answers ≤ 2048
+  pub loads : (t h : ℕ) (answers : List Answer) → entry_loads t h LoadFirst answers ≤ held_limit
   pub asks : (t h : ℕ) (r : Row) (a : Answer) (at old new : ℕ) → row_access h (row_after t h r a) ≡ Exchange at old new → Asks t (row_access h r) a at old new
   pub twice : (t h : ℕ) (r : Row) (a b : Answer) → IsExchange (row_access h r) → IsExchange (row_access h (row_after t h r a)) → IsExchange (row_access h (row_after t h (row_after t h r a) b)) → ⊥
   pub wakes : (t h : ℕ) (r : Row) (a : Answer) (at n : ℕ) → row_access h (row_after t h r a) ≡ Wake at n → (address_of (row_access h r) ≡ at) × (n ≡ 1) × WakesFor (row_access h r) a

@@ -1,5 +1,6 @@
 -- What the walk leaves of a list that is whole (robust-futexes.rst, robust-futex-ABI.rst).
 use Rattle.std.specs.Prelude.{ℕ, ◌≡◌, ◌≢◌, ◌⊎◌, ◌≤◌, ◌==◌, Bool, true, false, ◌&&◌, ◌||◌, not, List, [], ◌∷◌, length, if◌then◌else◌}
+use Rattle.keys.specs.Objects.{held_limit}
 use Rattle.exitwalk.specs.Words.{sum_of, owner_in, died_word}
 use Rattle.exitwalk.specs.Meanings.{Head, meaning}
 
@@ -26,7 +27,7 @@ pub record IsWhole (valid : ℕ → Bool) (words : ℕ → ℕ) (h : Head) (es :
   pub second : (valid (sum_of h.at 1) ≡ true) × (words (sum_of h.at 1) ≡ h.offset)
   pub third : (valid (sum_of h.at 2) ≡ true) × (words (sum_of h.at 2) ≡ h.pending)
   pub leads : Leads words h.at (words h.at) es
-  pub few : length es ≤ 2048
+  pub few : length es ≤ held_limit
   pub links : (e : ℕ) → Stands e es → (valid e ≡ true) × (e ≢ 0)
   pub places : (e : ℕ) → Stands e es → valid (sum_of e h.offset) ≡ true
   pub last : h.pending ≢ 0 → valid (sum_of h.pending h.offset) ≡ true

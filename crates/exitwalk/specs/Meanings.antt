@@ -1,5 +1,6 @@
 -- What the exit walk leaves where nobody else writes (robust-futexes.rst, robust-futex-ABI.rst, get_robust_list(2)): a fold over the entries.
 use Rattle.std.specs.Prelude.{ℕ, zero, suc, ◌==◌, Bool, true, false, List, [], ◌∷◌, ◌++◌, if◌then◌else◌}
+use Rattle.keys.specs.Objects.{held_limit}
 use Rattle.exitwalk.specs.Words.{sum_of, owner_in, has_waiters, died_word, put}
 
 -- the words, and the places at which one sleeper was woken, in their order
@@ -59,4 +60,4 @@ abbrev pub meaning : (ℕ → Bool) → ℕ → ℕ → (ℕ → ℕ) → Effect
 meaning valid t h words =
     let s = untouched words in
     reading valid h s (λ first. reading valid (sum_of h 1) s (λ offset. reading valid (sum_of h 2) s (λ pending.
-    entries valid t (record { at = h; offset = offset; pending = pending }) 2048 first s)))
+    entries valid t (record { at = h; offset = offset; pending = pending }) held_limit first s)))

@@ -17,6 +17,7 @@
 -- This project's own, of which nothing is claimed of a kernel: the end at a fault, the pending entry included; the word left alone after a second exchange; the wake for an unowned pending word;
 -- and that the bits above the low half stay.
 use Rattle.std.specs.Prelude.{ℕ, ◌≡◌, ◌+◌, ◌==◌, ◌≤◌, ◌<◌, ◌&&◌, ◌||◌, Bool, true, false, Option, Some, None, if◌then◌else◌}
+use Rattle.keys.specs.Objects.{held_limit}
 use Rattle.lockword.specs.Cells.{fields_of, word_of, marked}
 use Rattle.lockword.specs.declared.reply.Reply.TheVariants.{OK}
 use Rattle.keys.specs.declared.access.Access.{Access}
@@ -57,7 +58,7 @@ abbrev pub to_pending : ℕ → ℕ → Row
 to_pending offset pending = if pending == 0 then Ended else LoadWord (sum_of pending offset) Pending
 
 abbrev pub forward : ℕ → Rest → Row
-forward h r = if r.entry == h || r.loaded == 2048 then to_pending r.offset r.pending else LoadNext r
+forward h r = if r.entry == h || r.loaded == held_limit then to_pending r.offset r.pending else LoadNext r
 
 abbrev pub goes_on : ℕ → Part → Row
 goes_on h (List r) = forward h r
@@ -108,12 +109,12 @@ IsGoing r = Unit {0}
 
 -- of a list's rest one entry at least has been loaded, and 2,048 at most
 abbrev pub IsCounted : Part → Type 0
-IsCounted (List r) = (1 ≤ r.loaded) × (r.loaded ≤ 2048)
+IsCounted (List r) = (1 ≤ r.loaded) × (r.loaded ≤ held_limit)
 IsCounted Pending = Unit {0}
 
 -- what a walk of thread t's list knows, whose head is at h: an entry that it loads isn't the head, a word that it marks was seen with that owner
 abbrev pub Knows : ℕ → ℕ → Row → Type 0
-Knows t h (LoadNext r) = ((r.entry == h) ≡ false) × (r.loaded < 2048)
+Knows t h (LoadNext r) = ((r.entry == h) ≡ false) × (r.loaded < held_limit)
 Knows t h (LoadWord at part) = IsCounted part
 Knows t h (Mark at seen again part) = ((fields_of seen).owner ≡ t) × IsCounted part
 Knows t h (WakeOne at part) = IsCounted part

@@ -1,14 +1,15 @@
 //! Walks in progress.
 ghost use Rattle.std.specs.Prelude.{ℕ, ◌≡◌, ◌≤◌, ◌<◌};
+ghost use Rattle.keys.specs.Objects.{held_limit};
 ghost use Rattle.exitwalk.specs.Walks.{marked_word, to_pending, progress_at, Knows};
 
 use crate::row::{Part, Rest, Row};
-use keys::{Access, Answer, Operation, Point, Progress};
+use keys::{Access, Answer, HELD_LIMIT, Operation, Point, Progress};
 use lockword::{Cell, Reply, Tid};
 use std::marker::Model;
 
-/// How many entries of a list are loaded at most (`ROBUST_LIST_LIMIT` in the kernel).
-const ENTRY_LIMIT: u16 = 2048;
+/// How many entries of a list are loaded at most: as many as a thread may hold (`ROBUST_LIST_LIMIT` in the kernel).
+const ENTRY_LIMIT: u16 = HELD_LIMIT;
 
 /// The walk over the robust list of a thread that died.
 #[derive(Clone, Copy, Debug, PartialEq, Eq)]
@@ -150,7 +151,7 @@ impl Walk {
     /// Treats the word of an entry whose next one is known now. The pending entry is skipped here and treated once, at the end: its thread may have died before it
     /// was linked or after.
     fn after_next(&self, rest: Rest, next: u64) -> Row
-        requires { rest.loaded < 2048 }
+        requires { rest.loaded < held_limit }
         ensures value { result ≡ after_next self.now.head rest next }
         ensures knows { Knows self.now.thread self.now.head result }
     {
@@ -231,7 +232,7 @@ impl Walk {
 
     /// On to the next entry; at the list's end, and after as many entries as may be loaded, on to the pending one.
     fn forward(&self, rest: Rest) -> Row
-        requires { rest.loaded ≤ 2048 }
+        requires { rest.loaded ≤ held_limit }
         ensures value { result ≡ forward self.now.head rest }
         ensures knows { Knows self.now.thread self.now.head result }
     {

@@ -9,7 +9,7 @@ use Rattle.std.proofs.lemmas.List.FromFn.{get_or-map-range_with_len, length-map-
 use Rattle.std.proofs.lemmas.List.{length-replicate, length-set}
 use Rattle.lockword.specs.declared.reply.Reply.{Reply}
 use Rattle.keys.specs.declared.object.Object.{Object}
-use Rattle.keys.specs.Layouts.{Layout', IsLayout, words_of, cell_place, counter_place}
+use Rattle.keys.specs.Layouts.{Layout', IsLayout, words_of, cell_place, counter_place, first_word, head_word}
 use Rattle.keys.specs.Histories.{held_by}
 use Rattle.mutex.specs.declared.call.Call.{Call}
 use Rattle.mutex.specs.Calls.{mutex_of}
@@ -23,7 +23,7 @@ use Rattle.protocol.specs.declared.thread.Thread.{Thread}
 use Rattle.protocol.specs.declared.thread.Stage.{Stage}
 use Rattle.protocol.specs.declared.thread.Stage.TheVariants.{Idle, Calling, Dying, Reaped}
 use Rattle.protocol.specs.declared.note.Note.{Note}
-use Rattle.protocol.specs.Machine.{State, After, put, idle, start, first_word, head_word, is_valid, is_thread, may_begin, begun, nothing, is_alive, killed, stands_in, sleeps, went, stepped, answer_of, happens, run, notes}
+use Rattle.protocol.specs.Machine.{State, After, put, idle, start, is_valid, is_thread, may_begin, begun, nothing, is_alive, killed, stands_in, sleeps, went, stepped, answer_of, happens, run, notes}
 use Rattle.protocol.specs.Sleepers.{alone, GoesOn}
 use Rattle.protocol.proofs.Queues.{Queued}
 use Rattle.protocol.proofs.QueueRuns.{run_queued}

@@ -2,19 +2,16 @@
 ghost use Rattle.std.specs.Prelude.{◌≡◌, IfOk};
 ghost use Rattle.keys.specs.Layouts.{IsLayout};
 
-use keys::{Layout, NoMem};
+use keys::{CONDITION_LIMIT, Layout, NoMem};
 use protocol::Thread;
 use std::alloc::Global;
-
-/// How many condition variables a layout has at most.
-const CONDITIONS: usize = 256;
 
 /// The same layout.
 pub(crate) fn same_layout(layout: &Layout) -> Layout
     requires { IsLayout layout.now }
     ensures { result ≡ layout.now }
 {
-    let mut mutexes = [0; CONDITIONS];
+    let mut mutexes = [0; CONDITION_LIMIT];
     let count = layout.conditions();
     for condition in 0..count {
         mutexes[condition as usize] = layout.mutex_of_condition(condition);

@@ -1,8 +1,8 @@
 //! The machine.
 ghost use Rattle.std.specs.Prelude.{◌≡◌, ◌<◌, ◌≤◌, ◌^◌, ◌&&◌, ℕ, true, false, [], ◌∷◌, ◌++◌, length, map, take, replicate, vec_len, vec_capacity, Some, None, IfOk, OnOk, OnErr, MatchBool, if◌then◌else◌};
 ghost use Rattle.std.specs.List.{All, range_with_len};
-ghost use Rattle.keys.specs.Layouts.{IsLayout, counter_place, words_of};
-ghost use Rattle.protocol.specs.Machine.{start, first_word, idle, happens, put, run, notes, is_valid, is_busy, is_dying, is_asleep, stands_in};
+ghost use Rattle.keys.specs.Layouts.{IsLayout, counter_place, words_of, first_word};
+ghost use Rattle.protocol.specs.Machine.{start, idle, happens, put, run, notes, is_valid, is_busy, is_dying, is_asleep, stands_in};
 ghost use Rattle.protocol.specs.Sleepers.{alone, GoesOn};
 ghost use Rattle.protocol.specs.Deaths.{AreMourned};
 ghost use Rattle.protocol.specs.Headline.{seen, NoReapedOwns};
@@ -15,15 +15,12 @@ use crate::copies::{same_layout, same_threads};
 use crate::threads::{apply, is_calling, is_dying, is_reaped};
 use crate::trace::{Trace, push_in_room};
 use buckets::Batch;
-use keys::{Layout, NoMem};
+use keys::{HEAD_SIZE, Layout, NoMem};
 use lockword::{Cell, Tid};
 use protocol::{Event, Note, Stage, Thread};
 use std::alloc::{AllocError, Global};
 use std::marker::Model;
 use syscalls::{Kernel, Memory, PlainMemory};
-
-/// The size of a head in bytes, which the kernel asks for where one is set (get_robust_list(2)).
-const HEAD_SIZE: u64 = 24;
 
 /// Threads whose calls step over the words of a layout, and sleep on them, one event at a time. A thread may be killed at any event: it leaves its queue,
 /// its call ends where it stands, and its later steps are the accesses of the kernel's walk over its robust list, the last of which reaps it.
@@ -48,22 +45,6 @@ impl Model for Machine {
     ghost invariant = { λ m. IsReached (record { layout = m.layout; words = m.memory; kernel = m.kernel; threads = m.threads.items; fresh = m.fresh }) };
 }
 
-/// The word at a place of a new machine: each head's first entry is the head itself, and its offset is -1 (get_robust_list(2)).
-fn first_word(layout: &Layout, place: u64) -> u64
-    requires { place < 2 ^ 16 }
-    ensures { result ≡ first_word layout.now (λ c. 0) place }
-{
-    let heads = 3 * u64::from(layout.threads());
-    if place < 1 || heads < place {
-        return 0;
-    }
-    match place % 3 {
-        1 => place,
-        2 => u64::MAX,
-        _ => 0,
-    }
-}
-
 fn first_words(alloc: Global, layout: &Layout) -> Result<Vec<u64>, AllocError>
     ensures words { IfOk result (λ v. v.items ≡ map (first_word layout.now (λ c. 0)) (range_with_len 0 (words_of layout.now))) }
     ensures layout { IsLayout layout.now }
@@ -71,7 +52,7 @@ fn first_words(alloc: Global, layout: &Layout) -> Result<Vec<u64>, AllocError>
     let count = layout.words() as u64;
     let mut words = Vec::with_capacity(alloc, layout.words())?;
     for place in 0..count {
-        words.push(first_word(layout, place))?;
+        words.push(layout.first_word(place))?;
     }
     Ok(words)
 }

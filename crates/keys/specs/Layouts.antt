@@ -1,5 +1,5 @@
 -- The places of the shared words, and the keys that sleepers meet by.
-use Rattle.std.specs.Prelude.{ℕ, ◌≡◌, ◌+◌, ◌-◌, ◌*◌, ◌<◌, ◌≤◌, List, length, All}
+use Rattle.std.specs.Prelude.{ℕ, ◌≡◌, ◌+◌, ◌-◌, ◌*◌, ◌%◌, ◌<◌, ◌≤◌, ◌==◌, ◌&&◌, nat_le, nat_lt, List, length, All, if◌then◌else◌}
 
 -- so many threads and mutexes, and for each condition variable the number of its mutex
 pub record Layout' : Type 0 where
@@ -41,6 +41,24 @@ counter_place l c = 1 + 3 * l.threads + 3 * l.mutexes + c
 -- how many words there are; word 0 is null
 abbrev pub words_of : Layout' → ℕ
 words_of l = 1 + 3 * l.threads + 3 * l.mutexes + length l.conditions
+
+-- ---- the words at first
+
+-- -1 as an address: an entry's cell stands before the entry (the offset of robust-futex-ABI)
+abbrev pub cell_offset : ℕ
+cell_offset = 18446744073709551615
+
+-- a head at first: its own address as the first entry, the offset, and no pending entry
+abbrev pub head_word : ℕ → ℕ
+head_word p = if p % 3 == 1 then p else if p % 3 == 2 then cell_offset else 0
+
+-- the words at first: heads, mutexes that nobody owns, and counters that begin at these values
+abbrev pub first_word : Layout' → (ℕ → ℕ) → ℕ → ℕ
+first_word l counters p =
+    if nat_lt 0 p && nat_lt p (cell_place l 0) then head_word p
+    else if nat_le (counter_place l 0) p && nat_lt p (words_of l) then counters (p - counter_place l 0) else 0
+
+-- ---- places
 
 -- a word of a layout, by what it is for: one of the three words of a thread's head or of a mutex, or a counter
 pub data Spot : Type 0 where

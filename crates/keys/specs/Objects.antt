@@ -57,9 +57,13 @@ acquires Lock = true
 acquires TryLock = true
 acquires op = false
 
--- the step of an object: where the thread holds 2,048 mutexes, a lock or trylock of any has the one reply XHELD and changes nothing
+-- how many mutexes a thread may hold, and how many entries of a dead thread's list the kernel walks: so a walk meets all that its thread held (ROBUST_LIST_LIMIT; robust-futexes)
+abbrev pub held_limit : ℕ
+held_limit = 2048
+
+-- the step of an object: where the thread holds that many mutexes, a lock or trylock of any has the one reply XHELD and changes nothing
 abbrev pub Does : ℕ → Object → ℕ → Operation → Reply → Object → Type 0
-Does held o t op r n = MatchBool (acquires op && nat_le 2048 held) ((r ≡ XHELD) × (n ≡ o)) (Permits o t op r n)
+Does held o t op r n = MatchBool (acquires op && nat_le held_limit held) ((r ≡ XHELD) × (n ≡ o)) (Permits o t op r n)
 
 -- points on one mutex, one after the other, from object to object
 abbrev pub Run : Object → List Point → Object → Type 0

@@ -1,6 +1,9 @@
 //! Accesses to the shared words, and their answers.
 ghost use Rattle.std.specs.Prelude.{◌≡◌};
 
+/// As many as there are threads at most: a wake of so many wakes all who sleep on the word, and a requeue moves all (futex(2)).
+pub const ALL: u32 = 64;
+
 /// One access to one word, or one section under a bucket's lock (futex(2)). Addresses count 64-bit words.
 #[derive(Clone, Copy, Debug, PartialEq, Eq)]
 pub enum Access {

@@ -1,13 +1,20 @@
 //! The places of the shared words.
 ghost use Rattle.std.specs.Prelude.{◌≡◌, ◌≢◌, ◌<◌, ◌≤◌, ◌^◌, ℕ, length, slice_index, MatchOption};
-ghost use Rattle.keys.specs.Layouts.{Layout', head_place, cell_place, entry_place, counter_place, words_of, IsLayout, PlacesDiffer};
+ghost use Rattle.keys.specs.Layouts.{Layout', head_place, cell_place, entry_place, counter_place, words_of, first_word, IsLayout, PlacesDiffer};
 ghost use Rattle.keys.specs.Refusals.{Lays};
 
 use lockword::Tid;
 use std::marker::Model;
 use thiserror::Error;
 
-const CONDITIONS: usize = 256;
+/// How many condition variables a layout has at most.
+pub const CONDITION_LIMIT: usize = 256;
+
+/// The size of a thread's head in bytes, which the kernel asks for where one is set (set_robust_list(2)).
+pub const HEAD_SIZE: u64 = 24;
+
+/// -1: an entry's cell stands before the entry (the offset of robust-futex-ABI).
+const OFFSET: u64 = 0xffff_ffff_ffff_ffff;
 
 /// Why there is no such layout.
 #[derive(Clone, Copy, Debug, PartialEq, Eq, Error)]
@@ -29,7 +36,7 @@ pub struct Layout {
     threads: u8,
     mutexes: u16,
     conditions: usize,
-    mutex_of_condition: [u16; 256],
+    mutex_of_condition: [u16; CONDITION_LIMIT],
 }
 
 impl Model for Layout {
@@ -55,10 +62,10 @@ impl Layout {
         if mutexes < 1 || 4096 < mutexes {
             return Err(LayoutFault::Mutexes);
         }
-        if CONDITIONS < conditions.len() || !conditions.iter().all(|m| *m < mutexes) {
+        if CONDITION_LIMIT < conditions.len() || !conditions.iter().all(|m| *m < mutexes) {
             return Err(LayoutFault::Conditions);
         }
-        let mut mutex_of_condition = [0; CONDITIONS];
+        let mut mutex_of_condition = [0; CONDITION_LIMIT];
         mutex_of_condition[..conditions.len()].copy_from_slice(conditions);
         Ok(Layout {
             threads,
@@ -151,6 +158,22 @@ impl Layout {
             Some(mutex as u16)
         } else {
             None
+        }
+    }
+
+    /// The word at a place before anything has happened, every counter being 0: each head's first entry is the head itself, and its offset is -1 (get_robust_list(2)). It is 0 where
+    /// there is no such place.
+    pub fn first_word(&self, place: u64) -> u64
+        ensures { result ≡ first_word self.now (λ c. 0) place }
+    {
+        let heads = 3 * u64::from(self.threads);
+        if place < 1 || heads < place {
+            return 0;
+        }
+        match place % 3 {
+            1 => place,
+            2 => OFFSET,
+            _ => 0,
         }
     }
 

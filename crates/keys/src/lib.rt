@@ -12,9 +12,9 @@ mod memory;
 mod object;
 mod point;
 
-pub use access::{Access, Answer};
+pub use access::{ALL, Access, Answer};
 pub use key::{Key, bucket_of, key_of};
-pub use layout::{Layout, LayoutFault, places_differ};
+pub use layout::{CONDITION_LIMIT, HEAD_SIZE, Layout, LayoutFault, places_differ};
 pub use memory::NoMem;
 pub use object::{HELD_LIMIT, Object};
 pub use point::{Decision, Operation, Point, Progress};

@@ -7,11 +7,14 @@ use std::marker::Model;
 
 const OWNER: u64 = 0x3fff_ffff;
 
-const OWNER_DIED: u64 = 0x4000_0000;
+/// Bit 30: the last owner died, and nobody has declared the mutex consistent since (futex(2)).
+pub const OWNER_DIED: u64 = 0x4000_0000;
 
-const WAITERS: u64 = 0x8000_0000;
+/// Bit 31: somebody may sleep on the word (futex(2)).
+pub const WAITERS: u64 = 0x8000_0000;
 
-const UNUSABLE: u64 = 0x1_0000_0000;
+/// Bit 32, above the futex word: the mutex can't be locked any more.
+pub const UNUSABLE: u64 = 0x1_0000_0000;
 
 /// The 64-bit word of a mutex, seen as its owner, its flags and the bits above them.
 #[derive(Clone, Copy, Debug, PartialEq, Eq)]

@@ -9,6 +9,6 @@ mod cell;
 mod reply;
 mod tid;
 
-pub use cell::Cell;
+pub use cell::{Cell, OWNER_DIED, UNUSABLE, WAITERS};
 pub use reply::Reply;
 pub use tid::Tid;

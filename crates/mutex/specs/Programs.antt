@@ -10,7 +10,7 @@ use Rattle.keys.specs.declared.point.Operation.TheVariants as operation
 use Rattle.keys.specs.declared.point.Point.{Point}
 use Rattle.keys.specs.declared.point.Progress.{Progress}
 use Rattle.keys.specs.Layouts.{Layout', cell_place}
-use Rattle.keys.specs.Objects.{acquires}
+use Rattle.keys.specs.Objects.{held_limit, acquires}
 use Rattle.mutex.specs.declared.call.Call.{Call}
 use Rattle.mutex.specs.declared.call.Call.TheVariants as call
 use Rattle.mutex.specs.declared.lock.LockRow.TheVariants as lock
@@ -43,9 +43,9 @@ at_cell l t c = record { thread = t; cell = cell_place l (mutex_of c); row = fir
 abbrev pub retaking_at : ℕ → ℕ → Standing
 retaking_at t cell = record { thread = t; cell = cell; row = Lock lock.Load }
 
--- whoever holds 2,048 mutexes may not take another
+-- whoever holds as many mutexes as a thread may hold may not take another
 abbrev pub started : Layout' → ℕ → ℕ → Call → Result Standing Reply
-started l t held c = if acquires (operation_of c) && nat_le 2048 held then Err XHELD else Ok (at_cell l t c)
+started l t held c = if acquires (operation_of c) && nat_le held_limit held then Err XHELD else Ok (at_cell l t c)
 
 abbrev pub row_access : ℕ → ℕ → Row → Access
 row_access t cell (Lock r) = lock_access t cell r

@@ -23,7 +23,7 @@ use Rattle.keys.specs.declared.point.Progress.{Progress}
 use Rattle.keys.specs.declared.point.Progress.TheVariants.{Goes, Returns}
 use Rattle.keys.specs.Chains.{address_sum}
 use Rattle.keys.specs.Layouts.{Layout', head_place, entry_place, cell_place}
-use Rattle.keys.specs.Objects.{acquires}
+use Rattle.keys.specs.Objects.{held_limit, acquires}
 use Rattle.robustlist.specs.declared.link.LinkRow.{LinkRow}
 use Rattle.robustlist.specs.declared.link.LinkRow.TheVariants as link
 use Rattle.robustlist.specs.declared.unlink.UnlinkRow.{UnlinkRow}
@@ -78,9 +78,9 @@ first_phase c = AtCell (first_row c)
 abbrev pub begins : Layout' → ℕ → Call → Whole
 begins l t c = record { thread = t; operation = operation_of c; head = head_place t; entry = entry_place l (mutex_of c); cell = cell_place l (mutex_of c); phase = first_phase c }
 
--- whoever holds 2,048 mutexes may not take another
+-- whoever holds as many mutexes as a thread may hold may not take another
 abbrev pub whole_started : Layout' → ℕ → ℕ → Call → Result Whole Reply
-whole_started l t held c = if acquires (operation_of c) && nat_le 2048 held then Err XHELD else Ok (begins l t c)
+whole_started l t held c = if acquires (operation_of c) && nat_le held_limit held then Err XHELD else Ok (begins l t c)
 
 -- a lock that takes its mutex again: its entry is pending
 abbrev pub retaking : ℕ → ℕ → ℕ → ℕ → Whole

@@ -5,10 +5,7 @@ ghost use Rattle.mutex.specs.Consistent.{consistent_access, consistent_resume, c
 
 use crate::row::{Led, Row};
 use keys::{Access, Answer};
-use lockword::{Cell, Reply, Tid};
-
-/// Every bit of a cell but OWNER_DIED.
-const ALL_BUT_OWNER_DIED: u64 = 0xffff_ffff_bfff_ffff;
+use lockword::{Cell, OWNER_DIED, Reply, Tid};
 
 /// Where a declaration stands that a mutex is consistent.
 #[derive(Clone, Copy, Debug, PartialEq, Eq)]
@@ -26,7 +23,7 @@ pub(crate) fn next(cell: u64, row: &ConsistentRow) -> Access
         ConsistentRow::Load => Access::Load { at: cell },
         ConsistentRow::Declare => Access::FetchAnd {
             at: cell,
-            operand: ALL_BUT_OWNER_DIED,
+            operand: !OWNER_DIED,
         },
     }
 }

@@ -5,11 +5,8 @@ ghost use Rattle.mutex.specs.Lock.{lock_access, lock_resume, lock_sees, after_lo
 ghost use Rattle.mutex.specs.declared.row.Row.TheVariants.{Lock};
 
 use crate::row::{Led, Row, acquired};
-use keys::{Access, Answer};
+use keys::{ALL, Access, Answer};
 use lockword::{Cell, Reply, Tid};
-
-/// All sleepers of a word: there are at most as many as threads.
-const ALL: u32 = 64;
 
 /// Where a lock stands.
 #[derive(Clone, Copy, Debug, PartialEq, Eq)]

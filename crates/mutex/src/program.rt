@@ -1,6 +1,6 @@
 //! Calls in progress.
 ghost use Rattle.std.specs.Prelude.{◌≡◌, ◌<◌, ◌≤◌, ◌&&◌, nat_le};
-ghost use Rattle.keys.specs.Objects.{acquires};
+ghost use Rattle.keys.specs.Objects.{held_limit, acquires};
 ghost use Rattle.mutex.specs.Calls.{mutex_of, operation_of};
 ghost use Rattle.mutex.specs.Programs.{started};
 ghost use Rattle.mutex.specs.Whole.{first_phase, progress_in, onward, once_stored, linked, unlinked, PhaseKnows};
@@ -265,7 +265,7 @@ fn from_unlink(mut unlink: Unlink, died: bool, answer: Answer) -> Onward
 
 /// Whether a thread that holds so many mutexes may not make the call.
 fn is_refused(held: u16, call: Call) -> bool
-    ensures { result ≡ (acquires (operation_of call) && nat_le 2048 held) }
+    ensures { result ≡ (acquires (operation_of call) && nat_le held_limit held) }
 {
     matches!(call, Call::Lock(_) | Call::TryLock(_)) && HELD_LIMIT <= held
 }

@@ -4,12 +4,8 @@ ghost use Rattle.mutex.specs.Rows.{Knows};
 ghost use Rattle.mutex.specs.Unlock.{unlock_access, unlock_resume, unlock_sees, after_release, released_bits};
 
 use crate::row::{Led, Row};
-use keys::{Access, Answer};
-use lockword::{Cell, Reply, Tid};
-
-const OWNER_DIED: u64 = 0x4000_0000;
-
-const UNUSABLE: u64 = 0x1_0000_0000;
+use keys::{ALL, Access, Answer};
+use lockword::{Cell, OWNER_DIED, Reply, Tid, UNUSABLE};
 
 /// Where an unlock stands.
 #[derive(Clone, Copy, Debug, PartialEq, Eq)]
@@ -33,7 +29,7 @@ pub(crate) fn next(thread: Tid, cell: u64, row: &UnlockRow) -> Access
         },
         UnlockRow::Wake { all } => Access::Wake {
             at: cell,
-            most: if all { 64 } else { 1 },
+            most: if all { ALL } else { 1 },
         },
     }
 }

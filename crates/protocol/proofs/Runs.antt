@@ -8,7 +8,7 @@ use Rattle.lockword.specs.declared.reply.Reply.TheVariants.{XHELD}
 use Rattle.keys.specs.declared.object.Object.{Object}
 use Rattle.keys.specs.declared.point.Operation.{Operation}
 use Rattle.keys.specs.declared.point.Decision.{Decision}
-use Rattle.keys.specs.Layouts.{Layout', IsLayout, head_place, cell_place, counter_place, words_of}
+use Rattle.keys.specs.Layouts.{Layout', IsLayout, head_place, cell_place, counter_place, words_of, head_word, first_word}
 use Rattle.keys.specs.Objects.{Does, Permits, acquires, fresh, object_of}
 use Rattle.keys.specs.Histories.{Legal, opening, held_by}
 use Rattle.robustlist.proofs.Lists.{begins_empty}
@@ -25,7 +25,7 @@ use Rattle.protocol.specs.declared.thread.Stage.TheVariants.{Idle, Calling, Dyin
 use Rattle.protocol.specs.declared.note.Note.TheVariants.{Stepped, Walked}
 use Rattle.protocol.specs.declared.note.Fact.TheVariants.{Wake}
 use Rattle.protocol.specs.Notes.{facts_of, sleep_facts, return_facts, reap_facts}
-use Rattle.protocol.specs.Machine.{State, After, put, start, head_word, first_word, nothing, is_thread, is_idle, is_alive, has_ended, woken_by, walked, killed, may_begin, begun, stepped, went, sleeps, answer_of, happens, run, notes, decision}
+use Rattle.protocol.specs.Machine.{State, After, put, start, nothing, is_thread, is_idle, is_alive, has_ended, woken_by, walked, killed, may_begin, begun, stepped, went, sleeps, answer_of, happens, run, notes, decision}
 use Rattle.protocol.specs.Headline.{seen, points_of, points_among, HistoryIsLegal}
 use Rattle.lockword.specs.Cells.{fields_of}
 use Rattle.protocol.proofs.Puts.{by_put}

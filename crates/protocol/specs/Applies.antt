@@ -4,7 +4,7 @@ use Rattle.lockword.specs.declared.reply.Reply.{Reply}
 use Rattle.lockword.specs.declared.reply.Reply.TheVariants.{XHELD}
 use Rattle.keys.specs.Layouts.{Layout', IsLayout}
 use Rattle.keys.specs.Histories.{held_by}
-use Rattle.keys.specs.Objects.{acquires}
+use Rattle.keys.specs.Objects.{held_limit, acquires}
 use Rattle.mutex.specs.declared.call.Call.{Call}
 use Rattle.mutex.specs.Calls.{mutex_of, operation_of}
 use Rattle.protocol.specs.declared.event.Event.{Event}
@@ -70,7 +70,7 @@ Applies l s ns (event.Kill t) = IsThread l t × IsLiving (last_told t ns)
 
 -- a call that takes a mutex is refused at once where its thread owns 2,048
 abbrev pub refusal : Layout' → State → ℕ → Call → Option Reply
-refusal l s t c = if acquires (operation_of c) && nat_le 2048 (held_by t (seen s) l.mutexes) then Some XHELD else None
+refusal l s t c = if acquires (operation_of c) && nat_le held_limit (held_by t (seen s) l.mutexes) then Some XHELD else None
 
 -- an access of thread t, of its call or of its walk
 abbrev pub IsAccessOf : ℕ → Note → Type 0

@@ -1,7 +1,8 @@
 -- What the kernel would find of each thread, were it to die now (get_robust_list(2); robust-futexes, its ABI document).
 use Rattle.std.specs.Prelude.{ℕ, ◌≡◌, ◌+◌, ◌<◌, ◌≤◌, ◌⊎◌, true, Some, List, length}
 use Rattle.keys.specs.Chains.{IsAmong, IsChain}
-use Rattle.keys.specs.Layouts.{Layout', IsLayout, head_place, entry_place}
+use Rattle.keys.specs.Objects.{held_limit}
+use Rattle.keys.specs.Layouts.{Layout', IsLayout, head_place, entry_place, cell_offset}
 use Rattle.protocol.specs.declared.event.Event.{Event}
 use Rattle.protocol.specs.Machine.{State, start, run, is_alive}
 use Rattle.protocol.specs.Headline.{seen}
@@ -11,10 +12,10 @@ use Rattle.protocol.specs.Headline.{seen}
 pub record HasList (s : State) (t : ℕ) : Type 0 where
   pub entries : List ℕ
   pub chain : IsChain s.words (head_place t) entries
-  pub few : length entries ≤ 2048
+  pub few : length entries ≤ held_limit
   pub owned : (e : ℕ) → IsAmong e entries → (m : ℕ) × (m < s.layout.mutexes) × (e ≡ entry_place s.layout m) × ((seen s m).owner ≡ Some t)
   pub all : (m : ℕ) → m < s.layout.mutexes → (seen s m).owner ≡ Some t → IsAmong (entry_place s.layout m) entries ⊎ (s.words (head_place t + 2) ≡ entry_place s.layout m)
-  pub offset : s.words (head_place t + 1) ≡ 18446744073709551615
+  pub offset : s.words (head_place t + 1) ≡ cell_offset
 
 -- whatever happens, with any values of the counters at the beginning, of each thread that lives
 abbrev pub ListsAreKept : Type 0

@@ -9,7 +9,7 @@ use Rattle.keys.specs.declared.access.Answer.TheVariants.{Again, Woken, Count, F
 use Rattle.keys.specs.declared.point.Operation.{Operation}
 use Rattle.keys.specs.declared.point.Operation.TheVariants as operation
 use Rattle.keys.specs.declared.point.Decision.{Decision}
-use Rattle.keys.specs.Layouts.{Layout', head_place, cell_place, counter_place, words_of}
+use Rattle.keys.specs.Layouts.{Layout', head_place, cell_place, words_of, first_word}
 use Rattle.buckets.specs.Queues.{without}
 use Rattle.keys.specs.Accesses.{address_of, changed, answer_at, sleeps_at}
 use Rattle.mutex.specs.declared.call.Call.{Call}
@@ -44,16 +44,6 @@ abbrev pub put : {A : Type 0} → (ℕ → A) → ℕ → A → ℕ → A
 put f k x j = if j == k then x else f j
 
 -- ---- the beginning
-
--- a head at first: its own address as the first entry, the offset -1, and no pending entry
-abbrev pub head_word : ℕ → ℕ
-head_word p = if p % 3 == 1 then p else if p % 3 == 2 then 18446744073709551615 else 0
-
--- the words at first: heads, mutexes that nobody owns, and counters that begin at these values
-abbrev pub first_word : Layout' → (ℕ → ℕ) → ℕ → ℕ
-first_word l counters p =
-    if nat_lt 0 p && nat_lt p (cell_place l 0) then head_word p
-    else if nat_le (counter_place l 0) p && nat_lt p (words_of l) then counters (p - counter_place l 0) else 0
 
 abbrev pub idle : Thread
 idle = record { stage = Idle; held = 0 }

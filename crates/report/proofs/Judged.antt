@@ -4,8 +4,8 @@ use Rattle.std.specs.Prelude.{nat_lt, if◌then◌else◌}
 use Rattle.std.specs.Str.{is_utf8}
 use Rattle.std.specs.Io.KnownBytes.{Appends, Consumes, IsAtEnd}
 use Rattle.std.proofs.lemmas.Bool.Decides.{nat_tests}
-use Rattle.script.specs.Forms.{lines_of}
-use Rattle.script.specs.Reading.{bad_line}
+use Rattle.lines.specs.Lines.{lines_of}
+use Rattle.lines.specs.Lines.{bad_line}
 use Rattle.verdict.specs.declared.checking.Verdict.{Verdict}
 use Rattle.verdict.specs.declared.checking.Verdict.TheVariants.{Legal, Illegal}
 use Rattle.verdict.specs.declared.fault.Fault.TheVariants.{NotUtf8, TooLong}

@@ -12,12 +12,12 @@ use Rattle.atomic_table.proofs.Lists.{at_set, at_snoc}
 use Rattle.lockword.specs.Cells.{fields_of}
 use Rattle.keys.specs.declared.object.Object.{Object}
 use Rattle.keys.specs.declared.point.Point.{Point}
-use Rattle.keys.specs.Layouts.{Layout', IsLayout, head_place, cell_place, counter_place, words_of}
+use Rattle.keys.specs.Layouts.{Layout', IsLayout, head_place, cell_place, counter_place, words_of, cell_offset, head_word}
 use Rattle.keys.specs.Objects.{fresh, object_of}
 use Rattle.ruledwords.specs.declared.card.Card.{Card}
 use Rattle.ruledwords.specs.Cards.{at, value_at, put_value}
 use Rattle.ruledwords.specs.Seen.{Leaves, Joined, AreExclusive, holds, held, held_after}
-use Rattle.ruledwords.specs.Rules.{head_word, first_word, first_values, first_card, hand, Fits, AllFit, cards_of, Kept, first_of, rest_of, met, Ends}
+use Rattle.ruledwords.specs.Rules.{opening_word, first_values, first_card, hand, Fits, AllFit, cards_of, Kept, first_of, rest_of, met, Ends}
 use Rattle.ruledwords.proofs.Lists.{prefix_self, value_put, value_put_else, all_one, all_set, all_append, cards_append, one_or_none}
 use Rattle.ruledwords.proofs.Held.{count_same, owner_held, owns, owns_one}
 use Rattle.ruledwords.proofs.Keepers.{head_keeper}
@@ -173,21 +173,21 @@ hand_once a u t (suc n) = elim (ℕ_discrete t u) [
 
 -- the words before the first step
 abbrev pub Opens : Layout' → List ℕ → List ℕ → Type 0
-Opens k counters ws = (length ws ≡ words_of k) × ((p : ℕ) → p < words_of k → slice_index ws p ≡ first_word k counters p)
+Opens k counters ws = (length ws ≡ words_of k) × ((p : ℕ) → p < words_of k → slice_index ws p ≡ opening_word k counters p)
 
-head_first : (k : Layout') (counters : List ℕ) (p : ℕ) → p < cell_place k 0 → first_word k counters p ≡ head_word p
+head_first : (k : Layout') (counters : List ℕ) (p : ℕ) → p < cell_place k 0 → opening_word k counters p ≡ head_word p
 head_first k counters p low = grind (arith, nat_tests)
 
-cell_first : (k : Layout') (counters : List ℕ) (m : ℕ) → m < k.mutexes → first_word k counters (cell_place k m) ≡ 0
+cell_first : (k : Layout') (counters : List ℕ) (m : ℕ) → m < k.mutexes → opening_word k counters (cell_place k m) ≡ 0
 cell_first k counters m low = grind (arith, nat_tests)
 
-counter_first : (k : Layout') (counters : List ℕ) (q : ℕ) → first_word k counters (counter_place k q) ≡ slice_index counters q
-counter_first k counters q = grind (arith, nat_tests)
+counter_first : (k : Layout') (counters : List ℕ) (q : ℕ) → q < length k.conditions → opening_word k counters (counter_place k q) ≡ slice_index counters q
+counter_first k counters q low = grind (arith, nat_tests)
 
 first_entry : (t : ℕ) → 1 ≤ t → head_word (head_place t) ≡ head_place t
 first_entry t pos = grind (arith, nat_tests)
 
-first_offset : (t : ℕ) → 1 ≤ t → head_word (head_place t + 1) ≡ 18446744073709551615
+first_offset : (t : ℕ) → 1 ≤ t → head_word (head_place t + 1) ≡ cell_offset
 first_offset t pos = grind (arith, nat_tests)
 
 first_pending : (t : ℕ) → 1 ≤ t → head_word (head_place t + 2) ≡ 0
@@ -201,15 +201,15 @@ first_known : (t p x : ℕ) → 1 ≤ t → value_at (first_values t) p ≡ Some
 first_known t p x pos e =
     let h : ℕ = head_place t in
     let one : List (Option ℕ) = put_value [] h (Some h) in
-    let two : List (Option ℕ) = put_value one (h + 1) (Some 18446744073709551615) in
+    let two : List (Option ℕ) = put_value one (h + 1) (Some cell_offset) in
     dite (ℕ_discrete p (h + 2))
     (λ here. let is : Some 0 ≡ Some x = sym (value_put two (h + 2) (Some 0)) ∙ subst (λ (z : ℕ). value_at (put_value two (h + 2) (Some 0)) z ≡ Some x) here e in let x0 : 0 ≡ x = cc in
     (omega arith, omega arith, ap head_word here ∙ first_pending t pos ∙ x0))
     (λ not2. let e2 : value_at two p ≡ Some x = sym (value_put_else two (h + 2) p (Some 0) not2) ∙ e in
     dite (ℕ_discrete p (h + 1))
-    (λ here. let is : Some 18446744073709551615 ≡ Some x = sym (value_put one (h + 1) (Some 18446744073709551615)) ∙ subst (λ (z : ℕ). value_at two z ≡ Some x) here e2 in let x1 : 18446744073709551615 ≡ x = cc in
+    (λ here. let is : Some cell_offset ≡ Some x = sym (value_put one (h + 1) (Some cell_offset)) ∙ subst (λ (z : ℕ). value_at two z ≡ Some x) here e2 in let x1 : cell_offset ≡ x = cc in
     (omega arith, omega arith, ap head_word here ∙ first_offset t pos ∙ x1))
-    (λ not1. let e1 : value_at one p ≡ Some x = sym (value_put_else one (h + 1) p (Some 18446744073709551615) not1) ∙ e2 in
+    (λ not1. let e1 : value_at one p ≡ Some x = sym (value_put_else one (h + 1) p (Some cell_offset) not1) ∙ e2 in
     dite (ℕ_discrete p h)
     (λ here. let is : Some h ≡ Some x = sym (value_put [] h (Some h)) ∙ subst (λ (z : ℕ). value_at one z ≡ Some x) here e1 in let xh : h ≡ x = cc in
     (omega arith, omega arith, ap head_word here ∙ first_entry t pos ∙ xh))
@@ -242,7 +242,7 @@ opens_kept k counters ws layout small opens = record {
   leaves = λ m low. let zero_word : slice_index ws (cell_place k m) ≡ 0 = opens.1 (cell_place k m) (omega arith) ∙ cell_first k counters m low in (ap (λ (v : ℕ). object_of (fields_of v)) zero_word, tt);
   legal = λ p. (fresh, (refl, tt));
   narrow = λ m low. let zero_word : slice_index ws (cell_place k m) ≡ 0 = opens.1 (cell_place k m) (omega arith) ∙ cell_first k counters m low in ap (λ (v : ℕ). (fields_of v).rest) zero_word;
-  counters = λ q low. let is : slice_index ws (counter_place k q) ≡ slice_index counters q = opens.1 (counter_place k q) (omega arith) ∙ counter_first k counters q in subst (λ (z : ℕ). z < 4294967296) (sym is) (small q);
+  counters = λ q low. let is : slice_index ws (counter_place k q) ≡ slice_index counters q = opens.1 (counter_place k q) (omega arith) ∙ counter_first k counters q low in subst (λ (z : ℕ). z < 4294967296) (sym is) (small q);
   fits = λ j v e. only j v e;
   once = λ t. let a = hand_once k.threads t 1 k.threads in omega arith;
 }

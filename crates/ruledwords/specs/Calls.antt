@@ -12,7 +12,7 @@ use Rattle.keys.specs.declared.object.Object.{Object}
 use Rattle.keys.specs.Accesses.{changed, answer_at}
 use Rattle.keys.specs.Histories.{is_thread}
 use Rattle.keys.specs.Layouts.{Layout', cell_place}
-use Rattle.keys.specs.Objects.{fresh, Run, object_of, acquires}
+use Rattle.keys.specs.Objects.{held_limit, fresh, Run, object_of, acquires}
 use Rattle.mutex.specs.declared.row.Row.{Row}
 use Rattle.mutex.specs.declared.row.Row.TheVariants as row
 use Rattle.mutex.specs.declared.row.Led.{Led}
@@ -71,8 +71,8 @@ count_after n None = n
 count_after n (Some x) = count_by n x.operation x.reply
 
 abbrev pub most_of : Option Reply → Bool → ℕ
-most_of None true = 2047
-most_of x b = 2048
+most_of None true = held_limit - 1
+most_of x b = held_limit
 
 -- so many a thread holds at most that stands there: one less where it may still take one
 abbrev pub most : Row → ℕ

@@ -1,5 +1,6 @@
 -- What the calls of a pass answer.
 use Rattle.std.specs.Prelude.{◌≡◌, ℕ, ◌+◌, ◌<◌, ◌≤◌, nat_le, MatchBool, Result, Ok, Err, if◌then◌else◌}
+use Rattle.keys.specs.Objects.{held_limit}
 use Rattle.lockword.specs.Cells.{fields_of}
 use Rattle.lockword.specs.declared.reply.Reply.TheVariants.{OK, EPERM, XRACED, XHELD}
 use Rattle.keys.specs.declared.point.Operation.TheVariants.{TryLock, Unlock, Consistent}
@@ -25,7 +26,7 @@ use Rattle.ruledwords.specs.Passes.{card, layout_of, IsPassOf}
 abbrev pub Tried : Words → ℕ → Pass Live → Outcome → Type 0
 Tried w m a (outcome.Lives b r) =
     IsPassOf w b
-    × MatchBool (nat_le 2048 (held (card a))) ((r ≡ XHELD) × (card b ≡ card a))
+    × MatchBool (nat_le held_limit (held (card a))) ((r ≡ XHELD) × (card b ≡ card a))
     (Called (card a) (cell_place (layout_of w) m) TryLock r (card b) × (r ≡ XRACED → (card a).misses + 4 ≤ (card b).misses))
 Tried w m a (outcome.Dead b) = ⊥
 

@@ -11,7 +11,7 @@ use Rattle.atomic_table.specs.Table.{State, Me, Step}
 use Rattle.lockword.specs.Cells.{fields_of}
 use Rattle.keys.specs.declared.point.Point.{Point}
 use Rattle.keys.specs.declared.object.Object.{Object}
-use Rattle.keys.specs.Layouts.{Layout', IsLayout, head_place, cell_place, counter_place, words_of}
+use Rattle.keys.specs.Layouts.{Layout', IsLayout, head_place, cell_place, counter_place, words_of, cell_offset, first_word}
 use Rattle.keys.specs.Objects.{object_of}
 use Rattle.ruledwords.specs.declared.card.Card.{Card}
 use Rattle.ruledwords.specs.Cards.{at, value_at, put_value, mark_at}
@@ -19,17 +19,13 @@ use Rattle.ruledwords.specs.Seen.{by, Leaves, Joined}
 
 -- ---- the beginning
 
--- a head at first: its own address as the first entry, the offset -1, and no pending entry
-abbrev pub head_word : ℕ → ℕ
-head_word p = if p % 3 == 1 then p else if p % 3 == 2 then 18446744073709551615 else 0
-
--- the words at first: heads, mutexes that nobody owns, and counters that begin at these values
-abbrev pub first_word : Layout' → List ℕ → ℕ → ℕ
-first_word k counters p = if nat_lt p (cell_place k 0) then head_word p else if nat_lt p (counter_place k 0) then 0 else slice_index counters (p - counter_place k 0)
+-- the words at first, counters that begin at these values among them
+abbrev pub opening_word : Layout' → List ℕ → ℕ → ℕ
+opening_word k counters = first_word k (slice_index counters)
 
 -- a thread knows its head
 abbrev pub first_values : ℕ → List (Option ℕ)
-first_values t = put_value (put_value (put_value [] (head_place t) (Some (head_place t))) (head_place t + 1) (Some 18446744073709551615)) (head_place t + 2) (Some 0)
+first_values t = put_value (put_value (put_value [] (head_place t) (Some (head_place t))) (head_place t + 1) (Some cell_offset)) (head_place t + 2) (Some 0)
 
 -- what thread t of so many knows at first: its own head, and nothing of any mutex
 abbrev pub first_card : ℕ → ℕ → Card

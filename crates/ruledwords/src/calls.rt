@@ -7,12 +7,9 @@ use crate::fate::Fate;
 use crate::outcome::{Outcome, Owed, Owing, Released, Waking};
 use crate::pass::{Live, Pass, Words};
 use crate::turn::{Running, Turn};
-use keys::Access;
+use keys::{ALL, Access};
 use lockword::Reply;
 use mutex::Call;
-
-/// All sleepers of a word: there are at most as many as threads.
-const ALL: u32 = 64;
 
 impl Words {
     /// Takes a mutex if it is free (pthread_mutex_trylock). The reply is OK; EOWNERDEAD where its last owner died and nobody declared it consistent; EBUSY where it is owned;

@@ -1,7 +1,7 @@
 //! The beginning of the words.
 ghost use Rattle.std.specs.Prelude.{◌≡◌, ℕ, ◌+◌, ◌<◌, Some, IfOk, All, length, slice_get, slice_index};
 ghost use Rattle.keys.specs.Layouts.{words_of, IsLayout};
-ghost use Rattle.ruledwords.specs.Rules.{first_card, first_word as opening_word};
+ghost use Rattle.ruledwords.specs.Rules.{first_card, opening_word};
 ghost use Rattle.ruledwords.specs.Passes.{layout_of, card, IsPassOf};
 
 use crate::pass::{Live, Pass, Words};
@@ -11,9 +11,6 @@ use keys::{Layout, NoMem};
 use lockword::Tid;
 use std::alloc::{AllocError, Global};
 use std::marker::PhantomData;
-
-/// An offset of -1: an entry's cell stands before it.
-const OFFSET: u64 = 0xffff_ffff_ffff_ffff;
 
 impl Words {
     /// Makes the words, with a value for each condition variable's counter in the order of their numbers, and a pass for each thread in the order of their ids. Each
@@ -96,17 +93,9 @@ fn first_word(layout: &Layout, presets: &[u32], place: usize) -> u64
     requires place { place < words_of layout.now }
     ensures { result ≡ opening_word layout.now presets.now place }
 {
-    let cells = 1 + 3 * layout.threads() as usize;
-    let counters = cells + 3 * layout.mutexes() as usize;
-    if place < cells {
-        return match place % 3 {
-            1 => place as u64,
-            2 => OFFSET,
-            _ => 0,
-        };
-    }
+    let counters = 1 + 3 * layout.threads() as usize + 3 * layout.mutexes() as usize;
     if place < counters {
-        0
+        layout.first_word(place as u64)
     } else {
         u64::from(presets[place - counters])
     }

@@ -2,6 +2,7 @@
 ghost use Rattle.std.specs.Prelude.{◌≡◌, ◌≤◌};
 ghost use Rattle.std.specs.Mem.Slots.{slots_items, slots_len, IsFull};
 ghost use Rattle.keys.specs.Layouts.{words_of};
+ghost use Rattle.keys.specs.Objects.{held_limit};
 ghost use Rattle.ruledwords.specs.Rules.{card_of, IsOne};
 ghost use Rattle.ruledwords.specs.Seen.{held as holding};
 
@@ -42,7 +43,7 @@ pub struct Pass<A> {
     pub ghost one: { IsOne seat.me },
     pub ghost own: { (card_of seat.me.0).thread ≡ thread },
     pub ghost count: { held ≡ holding (card_of seat.me.0) },
-    pub ghost few: { held ≤ 2048 },
+    pub ghost few: { held ≤ held_limit },
 }
 
 /// The words after the last step.

@@ -1,5 +1,6 @@
 //! A pass in the middle of a call.
 ghost use Rattle.std.specs.Prelude.{◌≡◌, ◌<◌, ◌≤◌, Some};
+ghost use Rattle.keys.specs.Objects.{held_limit};
 ghost use Rattle.keys.specs.Accesses.{answer_at};
 ghost use Rattle.mutex.specs.Calls.{mutex_of};
 ghost use Rattle.mutex.specs.Programs.{access_of};
@@ -102,7 +103,7 @@ fn answer(access: Access, found: u64) -> Answer
 
 /// How many mutexes a thread holds that held so many before its point.
 fn count(held: u16, point: Option<Point>) -> u16
-    requires { held ≤ 2048 }
+    requires { held ≤ held_limit }
     ensures { result ≡ count_after held point }
 {
     match point {
@@ -112,7 +113,7 @@ fn count(held: u16, point: Option<Point>) -> u16
 }
 
 fn count_by(held: u16, operation: Operation, reply: Reply) -> u16
-    requires { held ≤ 2048 }
+    requires { held ≤ held_limit }
     ensures { result ≡ count_after_by held operation reply }
 {
     let replied = reply == Reply::OK;

@@ -12,9 +12,12 @@ use Rattle.std.proofs.lemmas.List.Quantifiers.{position-Some}
 use Rattle.mutex.specs.Calls.{mutex_of}
 use Rattle.mutex.specs.declared.call.Call.{Call}
 use Rattle.mutex.specs.declared.call.Call.TheVariants as call
-use Rattle.script.specs.Forms.{CallForm, lock, trylock, unlock, consistent, Form, silent, thread, mutex, mutexes, begins, steps, kills, goes, calls, locks, phase, form_of, of_mode, has, words_form, or_else, name_form, step_form, mutexes_form, locks_form, call_form, calling_form, is_silent, is_name, is_stem, is_number, within, words_of}
+use Rattle.script.specs.Forms.{CallForm, lock, trylock, unlock, consistent, Form, silent, thread, mutex, mutexes, begins, steps, kills, goes, calls, locks, phase, form_of, of_mode, has, words_form, or_else, name_form, step_form, mutexes_form, locks_form, call_form, calling_form, is_silent, is_name, is_stem}
+use Rattle.lines.specs.Numbers.{is_number, within}
+use Rattle.lines.specs.Lines.{words_of}
 use Rattle.script.specs.Scope.{Scope, IsPossible, IsWithinLimits}
-use Rattle.script.specs.Reading.{◌>>=◌, refuse, place_of, is_declared, added, numbered, is_numbered, several, declares, thread_of, call_of, first_of, begun, stepped, killed, gone, made, locked, with_action, enter, line_read}
+use Rattle.script.specs.Reading.{refuse, place_of, is_declared, added, numbered, is_numbered, several, declares, thread_of, call_of, first_of, begun, stepped, killed, gone, made, locked, with_action, enter, line_read}
+use Rattle.lines.specs.Faults.{◌>>=◌}
 use Rattle.script.specs.declared.command.Mode.{Mode}
 use Rattle.script.specs.declared.command.Action.{Action}
 use Rattle.script.specs.declared.command.Action.TheVariants as action

@@ -1,5 +1,3 @@
-pub mod Cutting
-pub mod Numbers
 pub mod Names
 pub mod Numbered
 pub mod Lines

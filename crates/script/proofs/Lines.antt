@@ -1,18 +1,17 @@
 -- Reading line after line, as a loop does.
 use Rattle.std.proofs.Common.{◌≡◌, ℕ, ◌+◌, ◌<◌, ◌≤◌, ◌==◌, ◌||◌, Bool, true, false, not, nat_lt, if◌then◌else◌, List, [], ◌∷◌, ◌++◌, length, Result, Ok, Err, IfErr, refl, sym, ap, subst, ◌∙◌, append_assoc, length-append, arith}
 use Rattle.std.specs.List.{slice_split}
-use Rattle.std.specs.Str.{is_utf8, IsUtf8}
-use Rattle.std.proofs.lemmas.Str.{IsUtf8-from_is_utf8}
-use Rattle.std.proofs.lemmas.Bool.{false_from_ne_true}
-use Rattle.script.specs.Forms.{lines_of, is_silent}
-use Rattle.script.specs.Reading.{◌>>=◌, refuse, met_at, fault_at, line_read, finished, lines_read}
+use Rattle.script.specs.Forms.{is_silent}
+use Rattle.lines.specs.Lines.{lines_of}
+use Rattle.script.specs.Reading.{refuse, met_at, fault_at, line_read, finished, lines_read}
+use Rattle.lines.specs.Faults.{◌>>=◌}
 use Rattle.script.specs.Outcome.{Tells, TellsAt, SpeaksAt}
 use Rattle.script.specs.Scope.{Scope}
 use Rattle.script.specs.declared.fault.Fault.{Fault}
 use Rattle.script.specs.declared.fault.Fault.TheVariants.{NotUtf8, UnknownWord, OutOfRange, NoSuchName, TooLong, OutOfMemory}
 use Rattle.script.specs.declared.fault.ScriptFault.{ScriptFault}
 use Rattle.script.specs.Limits.{max_lines}
-use Rattle.script.proofs.Cutting.{one_or_more}
+use Rattle.lines.proofs.Cutting.{one_or_more}
 
 -- the lines of a text, and the first of them before the others
 abbrev split : List ℕ → List (List ℕ)
@@ -138,7 +137,3 @@ speaks text rest line after n h parts says = record {
   here = h.here;
   says = says;
 }
-
--- what is not UTF-8 fails the test for it
-pub not_text : (bytes : List ℕ) → ¬ (IsUtf8 bytes) → is_utf8 bytes ≡ false
-not_text bytes never = false_from_ne_true (is_utf8 bytes) (λ yes. never (IsUtf8-from_is_utf8 bytes yes))

@@ -13,10 +13,10 @@ use Rattle.std.proofs.lemmas.List.{map_push, take-append-drop}
 use Rattle.std.proofs.lemmas.List.Folds.{list_any-append}
 use Rattle.std.proofs.lemmas.Slice.Eq.{bytes_eq-Decides}
 use Rattle.indexmap.specs.IndexSet.{insert_key}
-use Rattle.script.specs.Forms.{is_number}
+use Rattle.lines.specs.Numbers.{is_number}
 use Rattle.script.specs.Reading.{numbered, is_numbered}
 use Rattle.script.proofs.Names.{texts, list_any-map}
-use Rattle.script.proofs.Numbers.{written, read_back}
+use Rattle.lines.proofs.Numerals.{written, read_back}
 
 same_bytes : (w : List ℕ) → bytes_eq w w ≡ true
 same_bytes w = (bytes_eq-Decides w w).1 refl

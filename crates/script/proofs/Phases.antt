@@ -15,7 +15,7 @@ use Rattle.script.specs.declared.command.Action.TheVariants as action
 use Rattle.script.specs.declared.command.Command.{Command}
 use Rattle.script.specs.declared.workload.Job.{Job}
 use Rattle.script.specs.Jobs.{Job', AreCalls, call_by, calls_by, job_of, jobs_up_to, job_seen, lists_seen}
-use Rattle.script.proofs.Cutting.{none_passes}
+use Rattle.lines.proofs.Cutting.{none_passes}
 use Rattle.script.proofs.Names.{length-map_of}
 
 -- no element passes

@@ -4,7 +4,8 @@ use Rattle.std.specs.Option.{ok_or}
 use Rattle.std.proofs.lemmas.Bool.{le-ltb}
 use Rattle.script.specs.Forms.{CallForm, lock, trylock, unlock, consistent, Form, silent, thread, mutex, mutexes, begins, steps, kills, goes, calls, locks, phase, form_of, is_silent}
 use Rattle.script.specs.Scope.{Scope}
-use Rattle.script.specs.Reading.{◌>>=◌, refuse, added, several, declares, call_of, begun, stepped, killed, gone, made, locked, with_action, enter, met_at, line_read, finished, lines_read, nothing}
+use Rattle.script.specs.Reading.{refuse, added, several, declares, call_of, begun, stepped, killed, gone, made, locked, with_action, enter, met_at, line_read, finished, lines_read, nothing}
+use Rattle.lines.specs.Faults.{◌>>=◌}
 use Rattle.script.specs.Silence.{unplaced, without_lines, outcome, SilentLinesSayNothing}
 use Rattle.script.specs.declared.command.Action.{Action}
 use Rattle.script.specs.declared.command.Action.TheVariants as action

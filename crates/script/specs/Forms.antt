@@ -1,20 +1,14 @@
 -- Lines, words, names and numbers, and the kinds of line.
 use Rattle.std.specs.Prelude.{ℕ, Bool, true, false, not, ◌&&◌, ◌||◌, ◌==◌, nat_le, nat_lt, List, [], ◌∷◌, length, Option, Some, None, option_and_then, if◌then◌else◌, codes}
-use Rattle.std.specs.List.{slice_split, list_all}
+use Rattle.lines.specs.Lines.{words_of}
+use Rattle.lines.specs.Numbers.{is_number, within}
+use Rattle.std.specs.List.{list_all}
 use Rattle.std.specs.Str.{bytes_eq}
 use Rattle.std.specs.Char.{is_ascii_digit}
 use Rattle.std.specs.Str.Parse.{digits_value}
 use Rattle.script.specs.declared.command.Mode.{Mode}
 use Rattle.script.specs.declared.command.Mode.TheVariants as mode
 use Rattle.script.specs.Limits.{max_name, max_stem, max_steps, max_mutexes}
-
--- the parts between line feeds: the lines, and what stands behind the last line feed
-abbrev pub lines_of : List ℕ → List (List ℕ)
-lines_of bytes = slice_split (λ b. b == 10) bytes
-
--- the words of a line, which are the parts between spaces
-abbrev pub words_of : List ℕ → List (List ℕ)
-words_of text = slice_split (λ b. b == 32) text
 
 -- a to z
 abbrev pub is_letter : ℕ → Bool
@@ -28,16 +22,6 @@ is_name_byte b = is_letter b || is_ascii_digit b || b == 95
 abbrev pub is_name : List ℕ → Bool
 is_name [] = false
 is_name (b ∷ bs) = is_letter b && nat_lt (length bs) max_name && list_all is_name_byte bs
-
--- the spelling of a number: decimal, without sign and without leading zeros
-abbrev pub is_number : List ℕ → Bool
-is_number [] = false
-is_number (b ∷ []) = is_ascii_digit b
-is_number (b ∷ c ∷ bs) = not (b == 48) && list_all is_ascii_digit (b ∷ c ∷ bs)
-
--- the number where it is in the range
-abbrev pub within : ℕ → ℕ → ℕ → Option ℕ
-within low high n = if nat_le low n && nat_le n high then Some n else None
 
 -- a call as a line spells it, with the name of its mutex
 pub data CallForm : Type 0 where

@@ -1,6 +1,7 @@
 -- What a call gave of what the definitions say: the same, unless memory ran out.
 use Rattle.std.specs.Prelude.{ℕ, ◌≡◌, ◌+◌, ◌<◌, false, List, ◌∷◌, ◌++◌, length, Result, Ok, Err, IsOk, IfErr}
-use Rattle.script.specs.Forms.{lines_of, is_silent}
+use Rattle.script.specs.Forms.{is_silent}
+use Rattle.lines.specs.Lines.{lines_of}
 use Rattle.script.specs.declared.fault.Fault.{Fault}
 use Rattle.script.specs.declared.fault.Fault.TheVariants.{OutOfMemory}
 use Rattle.script.specs.declared.fault.ScriptFault.{ScriptFault}

@@ -1,13 +1,15 @@
 -- What a script says, and its first fault: each line in turn, after those before it.
-use Rattle.std.specs.Prelude.{ℕ, zero, suc, ◌+◌, Bool, not, ◌&&◌, ◌||◌, ◌==◌, nat_le, nat_lt, List, [], ◌∷◌, ◌++◌, length, take, drop, position, Option, Result, Ok, Err, if◌then◌else◌, count_by, decimal}
+use Rattle.std.specs.Prelude.{ℕ, zero, suc, ◌+◌, Bool, not, ◌&&◌, ◌||◌, ◌==◌, nat_le, nat_lt, List, [], ◌∷◌, ◌++◌, length, take, drop, position, Option, Result, Ok, Err, if◌then◌else◌, decimal}
 use Rattle.std.specs.Option.{ok_or}
 use Rattle.std.specs.List.{list_any}
 use Rattle.std.specs.Str.{bytes_eq, is_utf8}
 use Rattle.std.specs.Str.Parse.{digits_value}
-use Rattle.std.specs.Str.Lossy.{utf8_valid_len}
 use Rattle.mutex.specs.declared.call.Call.{Call}
 use Rattle.mutex.specs.declared.call.Call.TheVariants as call
-use Rattle.script.specs.Forms.{CallForm, lock, trylock, unlock, consistent, Form, silent, thread, mutex, mutexes, begins, steps, kills, goes, calls, locks, phase, is_number, form_of, lines_of}
+use Rattle.script.specs.Forms.{CallForm, lock, trylock, unlock, consistent, Form, silent, thread, mutex, mutexes, begins, steps, kills, goes, calls, locks, phase, form_of}
+use Rattle.lines.specs.Numbers.{is_number}
+use Rattle.lines.specs.Lines.{lines_of, bad_line}
+use Rattle.lines.specs.Faults.{◌>>=◌}
 use Rattle.script.specs.Scope.{Scope}
 use Rattle.script.specs.declared.command.Mode.{Mode}
 use Rattle.script.specs.declared.command.Action.{Action}
@@ -16,12 +18,6 @@ use Rattle.script.specs.declared.fault.Fault.{Fault}
 use Rattle.script.specs.declared.fault.Fault.TheVariants.{NotUtf8, UnknownWord, OutOfRange, NoSuchName, TooLong}
 use Rattle.script.specs.declared.fault.ScriptFault.{ScriptFault}
 use Rattle.script.specs.Limits.{max_bytes, max_lines, max_threads, max_mutexes}
-
--- first one thing and then another, as `?` does: a fault of the first is the fault
-infixl 10 ◌>>=◌
-abbrev pub ◌>>=◌ : {A B E : Type 0} → Result A E → (A → Result B E) → Result B E
-(Ok x) >>= f = f x
-(Err e) >>= f = Err e
 
 -- before the first line
 abbrev pub nothing : Mode → Scope
@@ -155,10 +151,6 @@ unfoldable pub lines_read : ℕ → Scope → List (List ℕ) → Result Scope S
 lines_read n s [] = Ok s
 lines_read n s (text ∷ []) = met_at n (finished n s text)
 lines_read n s (text ∷ next ∷ more) = met_at n (line_read n s text) >>= λ t. lines_read (n + 1) t (next ∷ more)
-
--- the line of the first byte that is no part of a character
-abbrev pub bad_line : List ℕ → ℕ
-bad_line bytes = count_by (λ b. b == 10) (take (utf8_valid_len bytes) bytes) + 1
 
 -- a text from its first line to its last
 abbrev pub text_read : Mode → List ℕ → Result Scope ScriptFault

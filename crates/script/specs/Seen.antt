@@ -1,22 +1,12 @@
 -- Values of the code as the definitions see them.
-use Rattle.std.specs.Prelude.{ℕ, ◌≡◌, ◌<◌, List, [], ◌∷◌, length, map, string_bytes}
+use Rattle.std.specs.Prelude.{map, string_bytes}
 use Rattle.script.specs.Forms.{CallForm, lock, trylock, unlock, consistent, Form, thread, mutex, mutexes, begins, steps, kills, goes, calls, locks, phase}
 use Rattle.script.specs.Scope.{Scope}
 use Rattle.script.specs.declared.draft.Draft.{Draft}
-use Rattle.script.specs.declared.words.Words.{Words}
-use Rattle.script.specs.declared.words.Words.TheVariants.{One, Two, Three, Four, Other}
 use Rattle.script.specs.declared.line.NamedCall.{NamedCall}
 use Rattle.script.specs.declared.line.NamedCall.TheVariants as named
 use Rattle.script.specs.declared.line.Line.{Line}
 use Rattle.script.specs.declared.line.Line.TheVariants as line
-
--- these are the words, where there are as many as a form can have
-abbrev pub AreWords : List (List ℕ) → Words → Type 0
-AreWords ws (One a) = ws ≡ a.now ∷ []
-AreWords ws (Two a b) = ws ≡ a.now ∷ b.now ∷ []
-AreWords ws (Three a b c) = ws ≡ a.now ∷ b.now ∷ c.now ∷ []
-AreWords ws (Four a b c d) = ws ≡ a.now ∷ b.now ∷ c.now ∷ d.now ∷ []
-AreWords ws Other = 4 < length ws
 
 -- a call by names
 abbrev pub call_seen : NamedCall → CallForm

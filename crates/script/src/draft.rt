@@ -12,8 +12,9 @@ use crate::command::{Action, Command, Mode};
 use crate::fault::Fault;
 use crate::limits::{MAX_LINES, MAX_MUTEXES, MAX_THREADS};
 use crate::line::{Line, NamedCall, is_silent_line, line_of};
-use crate::words::{is_below, is_word_number};
+use crate::words::is_below;
 use indexmap::IndexSet;
+use lines::is_number_word;
 use lockword::Tid;
 use mutex::Call;
 use std::alloc::Global;
@@ -60,7 +61,7 @@ fn is_numbered(name: &str, word: &str, count: u32) -> bool
     ensures { result ≡ is_numbered word.now count name.now }
 {
     match name.strip_prefix(word) {
-        Some(digits) => is_word_number(digits) && is_below(digits, count),
+        Some(digits) => is_number_word(digits) && is_below(digits, count),
         None => false,
     }
 }

@@ -1,13 +1,14 @@
 //! The kinds of line of a script.
 
 ghost use Rattle.std.specs.Prelude.{◌≡◌, true, false, option_map, option_and_then};
-ghost use Rattle.std.specs.Str.Parse.{digits_value};
-ghost use Rattle.script.specs.Forms.{call_form, calling_form, form_of, has, is_number, is_silent, is_stem, locks_form, mutexes_form, name_form, or_else, phase_form, run_has, step_form, threads_have, within};
+ghost use Rattle.script.specs.Forms.{call_form, calling_form, form_of, has, is_silent, is_stem, locks_form, mutexes_form, name_form, or_else, phase_form, run_has, step_form, threads_have};
+ghost use Rattle.lines.specs.Numbers.{is_number, within};
 ghost use Rattle.script.specs.Seen.{call_seen, form_seen};
 
 use crate::command::Mode;
 use crate::limits::{MAX_MUTEXES, MAX_STEM, MAX_STEPS};
-use crate::words::{Words, is_word_name, is_word_number, words_in};
+use crate::words::is_word_name;
+use lines::{Words, is_number_word, number_in, words_in};
 
 /// A call, with the name of its mutex.
 #[derive(Clone, Copy)]
@@ -44,17 +45,6 @@ pub fn is_silent_line(text: &str) -> bool
     }
 }
 
-/// How many, where that is from 1 to `most`.
-fn count(word: &str, most: u32) -> Option<u32>
-    requires { is_number word.now ≡ true }
-    ensures { result ≡ within 1 most (digits_value 10 word.now) }
-{
-    match word.parse::<u32>() {
-        Ok(n) if 1 <= n && n <= most => Some(n),
-        _ => None,
-    }
-}
-
 fn of_a_name<'a>(keyword: &'a str, name: &'a str) -> Option<Line<'a>>
     ensures { option_map form_seen result ≡ name_form keyword.now name.now }
 {
@@ -73,8 +63,8 @@ fn of_a_name<'a>(keyword: &'a str, name: &'a str) -> Option<Line<'a>>
 fn step<'a>(keyword: &'a str, thread: &'a str, number: &'a str) -> Option<Line<'a>>
     ensures { option_map form_seen result ≡ step_form keyword.now thread.now number.now }
 {
-    if keyword == "step" && is_word_name(thread) && is_word_number(number) {
-        return Some(Line::Step(thread, count(number, MAX_STEPS)));
+    if keyword == "step" && is_word_name(thread) && is_number_word(number) {
+        return Some(Line::Step(thread, number_in(number, 1, MAX_STEPS)));
     }
     None
 }
@@ -89,8 +79,8 @@ fn is_word_stem(word: &str) -> bool
 fn mutexes<'a>(keyword: &'a str, name: &'a str, number: &'a str) -> Option<Line<'a>>
     ensures { option_map form_seen result ≡ mutexes_form keyword.now name.now number.now }
 {
-    if keyword == "mutexes" && is_word_stem(name) && is_word_number(number) {
-        return Some(Line::Mutexes(name, count(number, MAX_MUTEXES as u32)));
+    if keyword == "mutexes" && is_word_stem(name) && is_number_word(number) {
+        return Some(Line::Mutexes(name, number_in(number, 1, MAX_MUTEXES as u32)));
     }
     None
 }
@@ -99,8 +89,8 @@ fn locks<'a>(keyword: &'a str, thread: &'a str, mutex: &'a str, number: &'a str)
     ensures { option_map form_seen result
         ≡ locks_form keyword.now thread.now mutex.now number.now }
 {
-    if keyword == "locks" && is_word_name(thread) && is_word_name(mutex) && is_word_number(number) {
-        return Some(Line::Locks(thread, mutex, count(number, MAX_MUTEXES as u32)));
+    if keyword == "locks" && is_word_name(thread) && is_word_name(mutex) && is_number_word(number) {
+        return Some(Line::Locks(thread, mutex, number_in(number, 1, MAX_MUTEXES as u32)));
     }
     None
 }
@@ -202,7 +192,7 @@ pub fn line_of(text: &str, mode: Mode) -> Option<Line<'_>>
         Words::Two(keyword, name) => of_a_name(keyword, name),
         Words::Three(keyword, name, number) => of_three(keyword, name, number),
         Words::Four(keyword, thread, third, fourth) => of_four(keyword, thread, third, fourth),
-        Words::Other => None,
+        _ => None,
     }?;
     if is_of(mode, &line) { Some(line) } else { None }
 }

@@ -1,8 +1,8 @@
 //! Reading a script from its first byte to its last.
 
-ghost use Rattle.std.specs.Prelude.{◌≡◌, ◌+◌, ◌≤◌, ◌==◌, false, length, take, count_by, OnOk, IfOk, IfErr};
+ghost use Rattle.std.specs.Prelude.{◌≡◌, ◌≤◌, false, OnOk, IfOk, IfErr};
 ghost use Rattle.script.specs.Forms.{is_silent};
-ghost use Rattle.script.specs.Limits.{max_bytes, max_lines};
+ghost use Rattle.script.specs.Limits.{max_lines};
 ghost use Rattle.script.specs.Outcome.{GivesAt, Reads, SpeaksAt};
 ghost use Rattle.script.specs.Reading.{finished, line_read, script_read, text_read};
 ghost use Rattle.script.specs.Scope.{IsWellFormed, IsWithinLimits};
@@ -13,7 +13,7 @@ use crate::draft::Draft;
 use crate::fault::{Fault, ScriptFault};
 use crate::limits::{MAX_BYTES, MAX_LINES};
 use crate::parsed::Script;
-use crate::words::cut;
+use lines::{cut, text_of};
 use std::alloc::Global;
 
 /// The script, where nothing stands behind its last line feed, and it declares enough.
@@ -70,15 +70,6 @@ fn read_text(alloc: Global, text: &str, mode: Mode) -> Result<Script, ScriptFaul
     }
 }
 
-/// The line of the byte at `len`.
-fn line_at(bytes: &[u8], len: usize) -> usize
-    requires at { len ≤ length bytes.now }
-    requires small { length bytes.now ≤ max_bytes }
-    ensures { result ≡ count_by (λ b. b == 10) (take len bytes.now) + 1 }
-{
-    bytes[..len].iter().filter(|b| **b == b'\n').count() + 1
-}
-
 /// The script that the bytes are, or their first fault. Only want of memory may come in its place, at a line before it that
 /// says something.
 pub fn parse(alloc: Global, bytes: &[u8], mode: Mode) -> Result<Script, ScriptFault>
@@ -93,10 +84,10 @@ pub fn parse(alloc: Global, bytes: &[u8], mode: Mode) -> Result<Script, ScriptFa
             fault: Fault::TooLong,
         });
     }
-    match str::from_utf8(bytes) {
+    match text_of(bytes) {
         Ok(text) => read_text(alloc, text, mode),
-        Err(e) => Err(ScriptFault {
-            line: line_at(bytes, e.valid_up_to()),
+        Err(line) => Err(ScriptFault {
+            line,
             fault: Fault::NotUtf8,
         }),
     }

@@ -7,16 +7,13 @@ ghost use Rattle.syscalls.specs.Answers.{WaitAnswers, WakeAnswers, RequeueAnswer
 
 use crate::memory::Memory;
 use buckets::{Batch, Bucket};
-use keys::{Key, NoMem, bucket_of, key_of};
+use keys::{HEAD_SIZE, Key, NoMem, bucket_of, key_of};
 use lockword::{Reply, Tid};
 use std::alloc::{AllocError, Global};
 use std::marker::Model;
 
 /// How many hash buckets a kernel has.
 const BUCKETS: usize = 1;
-
-/// The size of a `struct robust_list_head`, in bytes.
-const HEAD_SIZE: u64 = 24;
 
 /// Who sleeps on which word, of threads whose ids go from 1 to a number (futex(2), shared futexes), and where each one's robust list begins (get_robust_list(2)).
 #[derive(Drop)]

@@ -1,5 +1,6 @@
 -- What calls answer that may sleep or wake.
 use Rattle.std.specs.Prelude.{ℕ, ◌≡◌, nat_le, MatchBool}
+use Rattle.keys.specs.Objects.{held_limit}
 use Rattle.lockword.specs.declared.reply.Reply.TheVariants.{OK, XHELD}
 use Rattle.keys.specs.Layouts.{cell_place}
 use Rattle.keys.specs.declared.point.Operation.TheVariants as operation
@@ -17,7 +18,7 @@ use Rattle.ruledwords.specs.Seen.{Called, held}
 abbrev pub Locked : Words → ℕ → Pass Live → Outcome → Type 0
 Locked w m a (Lives b r) =
     IsPassOf w b
-    × MatchBool (nat_le 2048 (held (card a))) ((r ≡ XHELD) × (card b ≡ card a))
+    × MatchBool (nat_le held_limit (held (card a))) ((r ≡ XHELD) × (card b ≡ card a))
     (Called (card a) (cell_place (layout_of w) m) operation.Lock r (card b))
 Locked w m a (Dead b) = ⊥
 

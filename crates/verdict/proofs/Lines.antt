@@ -2,9 +2,9 @@
 use Rattle.std.proofs.Common.{◌≡◌, ℕ, ◌+◌, ◌<◌, ◌≤◌, ◌==◌, Bool, true, false, List, [], ◌∷◌, length, Result, Ok, Err, IfErr, refl, sym, ap, subst, ◌∙◌, arith, cond}
 use Rattle.std.specs.List.{slice_split, onto_first}
 use Rattle.std.proofs.lemmas.Bool.Decides.{nat_tests}
-use Rattle.script.specs.Forms.{lines_of}
-use Rattle.script.specs.Reading.{◌>>=◌}
-use Rattle.script.proofs.Cutting.{one_or_more}
+use Rattle.lines.specs.Lines.{lines_of}
+use Rattle.lines.specs.Faults.{◌>>=◌}
+use Rattle.lines.proofs.Cutting.{one_or_more}
 use Rattle.verdict.specs.declared.entry.Head.{Head}
 use Rattle.verdict.specs.declared.entry.Entry.{Entry}
 use Rattle.verdict.specs.declared.reading.Line.{Line}

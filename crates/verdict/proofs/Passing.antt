@@ -17,7 +17,7 @@ use Rattle.verdict.specs.Places.{Stands, placed}
 use Rattle.verdict.specs.Verdicts.{AllFit, IsFirstMisfit, IsJudged, point_lines}
 use Rattle.verdict.specs.Passes.{AnswersLines, Decides, IsFresh, Takes, verdict_of}
 use Rattle.verdict.specs.Reading.{lines_read, line_read}
-use Rattle.script.specs.Forms.{lines_of}
+use Rattle.lines.specs.Lines.{lines_of}
 use Rattle.std.specs.Option.{is_some}
 use Rattle.verdict.specs.declared.entry.Head.{Head}
 use Rattle.verdict.specs.declared.reading.Line.TheVariants.{Told, End}

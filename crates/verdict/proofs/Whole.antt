@@ -1,9 +1,9 @@
 -- A text from its first line on.
 use Rattle.std.proofs.Common.{◌≡◌, inl, inr, ℕ, ◌<◌, ◌≤◌, ◌==◌, List, [], ◌∷◌, length, Result, Ok, Err, IfErr, refl, sym, ap, subst, ◌∙◌, arith}
 use Rattle.std.specs.Result.{IsOk}
-use Rattle.script.specs.Forms.{lines_of}
-use Rattle.script.specs.Reading.{◌>>=◌}
-use Rattle.script.proofs.Cutting.{one_or_more}
+use Rattle.lines.specs.Lines.{lines_of}
+use Rattle.lines.specs.Faults.{◌>>=◌}
+use Rattle.lines.proofs.Cutting.{one_or_more}
 use Rattle.verdict.specs.declared.entry.Head.{Head}
 use Rattle.verdict.specs.declared.fault.Fault.{Fault}
 use Rattle.verdict.specs.declared.fault.TraceFault.{TraceFault}

@@ -4,7 +4,8 @@ use Rattle.std.specs.Str.{bytes_eq}
 use Rattle.std.specs.Str.Parse.{digits_value}
 use Rattle.lockword.specs.declared.reply.Reply.{Reply}
 use Rattle.lockword.specs.declared.reply.Reply.TheVariants.{OK, EPERM, ESRCH, EAGAIN, EFAULT, EBUSY, EINVAL, EDEADLK, EOWNERDEAD, ENOTRECOVERABLE, XNOMEM, XRACED, XHELD, XFULL, XSTATE}
-use Rattle.script.specs.Forms.{is_number, within, words_of}
+use Rattle.lines.specs.Numbers.{is_number, within}
+use Rattle.lines.specs.Lines.{words_of}
 use Rattle.verdict.specs.declared.entry.Action.{Action}
 use Rattle.verdict.specs.declared.entry.Action.TheVariants.{Lock, TryLock, Unlock, Consistent, Wait, Signal, Broadcast}
 use Rattle.verdict.specs.declared.form.Said.{Said}

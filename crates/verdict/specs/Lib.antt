@@ -2,7 +2,6 @@ pub mod Faults
 pub mod Limits
 pub mod Facts
 pub mod Forms
-pub mod Words
 pub mod Reading
 pub mod Calls
 pub mod Earlier

@@ -2,8 +2,10 @@
 use Rattle.std.specs.Prelude.{ℕ, ◌+◌, ◌≤◌, nat_lt, List, [], ◌∷◌, length, Option, Some, None, Result, Ok, Err, if◌then◌else◌}
 use Rattle.std.specs.Option.{ok_or}
 use Rattle.std.specs.Str.{is_utf8}
-use Rattle.script.specs.Forms.{within, lines_of, words_of}
-use Rattle.script.specs.Reading.{◌>>=◌, bad_line}
+use Rattle.lines.specs.Numbers.{within}
+use Rattle.lines.specs.Lines.{lines_of, words_of}
+use Rattle.lines.specs.Faults.{◌>>=◌}
+use Rattle.lines.specs.Lines.{bad_line}
 use Rattle.verdict.specs.Forms.{head_form, form_of}
 use Rattle.verdict.specs.Forms.{◌>>=◌ as ◌>>?◌}
 use Rattle.lockword.specs.declared.reply.Reply.{Reply}

@@ -1,7 +1,7 @@
 //! Reading and judging a trace from its first byte to its last.
 
-ghost use Rattle.std.specs.Prelude.{◌≡◌, ◌+◌, ◌<◌, ◌≤◌, ◌==◌, nat_lt, [], length, take, count_by, IfOk};
-ghost use Rattle.script.specs.Forms.{lines_of};
+ghost use Rattle.std.specs.Prelude.{◌≡◌, ◌+◌, ◌<◌, ◌≤◌, nat_lt, [], length, IfOk};
+ghost use Rattle.lines.specs.Lines.{lines_of};
 ghost use Rattle.verdict.specs.Limits.{max_bytes};
 ghost use Rattle.verdict.specs.Judges.{IsInside, IsSound};
 ghost use Rattle.verdict.specs.Passes.{AnswersLines, IsFresh, MakesPass, Takes, verdict_of};
@@ -13,7 +13,7 @@ use crate::fault::{Fault, TraceFault};
 use crate::judge::Judge;
 use crate::limits::MAX_BYTES;
 use crate::reading::{Line, head_of, line_of};
-use crate::words::cut;
+use lines::{cut, text_of};
 use std::alloc::{AllocError, Global};
 
 /// What a trace without fault is found to be.
@@ -163,15 +163,6 @@ fn check_text(alloc: Global, text: &str) -> Result<Verdict, TraceFault>
     }
 }
 
-/// The line of the byte at `len`.
-fn line_at(bytes: &[u8], len: usize) -> usize
-    requires at { len ≤ length bytes.now }
-    requires small { length bytes.now ≤ max_bytes }
-    ensures { result ≡ count_by (λ b. b == 10) (take len bytes.now) + 1 }
-{
-    bytes[..len].iter().filter(|b| **b == b'\n').count() + 1
-}
-
 /// Whether the bytes are a legal trace, or the first line that doesn't fit those before it; where they are no trace, their first fault,
 /// wherever a line doesn't fit. Only want of memory, at line 1, may come in the place of a verdict or of a later line's fault.
 pub fn check(alloc: Global, bytes: &[u8]) -> Result<Verdict, TraceFault>
@@ -183,10 +174,10 @@ pub fn check(alloc: Global, bytes: &[u8]) -> Result<Verdict, TraceFault>
             fault: Fault::TooLong,
         });
     }
-    match str::from_utf8(bytes) {
+    match text_of(bytes) {
         Ok(text) => check_text(alloc, text),
-        Err(e) => Err(TraceFault {
-            line: line_at(bytes, e.valid_up_to()),
+        Err(line) => Err(TraceFault {
+            line,
             fault: Fault::NotUtf8,
         }),
     }

@@ -2,10 +2,11 @@
 
 ghost use Rattle.std.specs.Prelude.{◌≡◌, [], ◌∷◌};
 ghost use Rattle.verdict.specs.Forms.{action_of, condition_action, end_form, form_of, head_form, mark_form, mutex_action, object_said, object_form, point_said, begin_on_said, begin_form, many_form, reply_of, sleep_said};
-ghost use Rattle.script.specs.Forms.{words_of};
+ghost use Rattle.lines.specs.Lines.{words_of};
 
 use crate::entry::Action;
-use crate::words::{Words, number, numbered, words_in};
+use crate::words::{number, numbered};
+use lines::{Words, words_in};
 use lockword::Reply;
 
 /// A number that a line spells; None where it is past every range.
@@ -239,7 +240,7 @@ pub fn read_form(text: &str) -> Option<Form>
         Words::Six(event, keyword, thread, first, second, third) => {
             many(event, keyword, thread, first, second, third)
         }
-        Words::Other => None,
+        _ => None,
     }
 }
 

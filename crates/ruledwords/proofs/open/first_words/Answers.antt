@@ -1,5 +1,5 @@
 use Rattle.std.proofs.Common.{rules, ◌≡◌, ℕ, ◌+◌, ◌<◌, List, get_or, sym, subst, arith}
-use Rattle.ruledwords.specs.Rules.{first_word}
+use Rattle.ruledwords.specs.Rules.{opening_word}
 use Rattle.ruledwords.proofs.Lists.{each_more}
 use Rattle.ruledwords.proofs.open.first_words.Goals as goal
 
@@ -9,8 +9,8 @@ loop-place-init c = record { count = search rules; each = λ p low. absurd (omeg
 pub loop-place-preserved : goal.loop-place-preserved
 loop-place-preserved c = record {
   count = search rules;
-  each = subst (λ (xs : List ℕ). (p : ℕ) → p < c.loop-place.place + 1 → get_or xs p 0 ≡ first_word c.args.layout.now c.args.presets.now p) (sym c.in_ok-push.ensures.items)
-      (each_more c.loop-place.words.items c.first_word.result c.loop-place.place (first_word c.args.layout.now c.args.presets.now) c.loop-place.invariant.count c.loop-place.invariant.each c.first_word.ensures);
+  each = subst (λ (xs : List ℕ). (p : ℕ) → p < c.loop-place.place + 1 → get_or xs p 0 ≡ opening_word c.args.layout.now c.args.presets.now p) (sym c.in_ok-push.ensures.items)
+      (each_more c.loop-place.words.items c.first_word.result c.loop-place.place (opening_word c.args.layout.now c.args.presets.now) c.loop-place.invariant.count c.loop-place.invariant.each c.first_word.ensures);
 }
 
 pub returns-clause-count : goal.returns-clause-count

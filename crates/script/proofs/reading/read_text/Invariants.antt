@@ -1,7 +1,7 @@
 use Rattle.std.proofs.Common.{◌≡◌, ◌+◌, ◌≤◌, length}
 use denote.Text.{Utf8}
 use denote.Shadow.{shadow}
-use Rattle.script.specs.Forms.{lines_of}
+use Rattle.lines.specs.Lines.{lines_of}
 use Rattle.script.specs.Reading.{lines_read, text_read}
 use Rattle.script.specs.Scope.{IsWithinLimits}
 use Rattle.script.specs.Seen.{scope_of}

@@ -1,5 +1,5 @@
 use Rattle.std.proofs.Common.{arith}
-use Rattle.script.proofs.Numbers.{not_below}
+use Rattle.lines.proofs.Numerals.{not_below}
 use Rattle.script.proofs.words.is_below.Goals as goal
 
 pub returns-in-Err : goal.returns-in-Err

@@ -1,5 +1,5 @@
 use Rattle.std.proofs.Common.{◌≡◌, ◌+◌, ◌<◌, [], length, Ok, Err, sym, ap, subst, ◌∙◌, arith, rules}
-use Rattle.script.specs.Forms.{lines_of}
+use Rattle.lines.specs.Lines.{lines_of}
 use Rattle.verdict.specs.Facts.{thread_of}
 use Rattle.verdict.specs.Judges.{IsLine, IsMutex}
 use Rattle.verdict.specs.Passes.{AnswersLines}

@@ -1,5 +1,0 @@
-use Rattle.script.proofs.Cutting.{cut_parts}
-use Rattle.verdict.proofs.words.cut.Goals as goal
-
-pub returns-clause-parts : goal.returns-clause-parts
-returns-clause-parts c = cut_parts c.args.at c.args.text.now c.split_once.result c.split_once.ensures.cases c.requires
