@@ -23,9 +23,9 @@ use Rattle.protocol.specs.declared.thread.Thread.{Thread}
 use Rattle.protocol.specs.declared.thread.Stage.{Stage}
 use Rattle.protocol.specs.declared.thread.Stage.TheVariants.{Idle, Calling, Dying, Reaped}
 use Rattle.protocol.specs.declared.note.Note.{Note}
-use Rattle.protocol.specs.Machine.{State, After, put, idle, start, is_valid, is_thread, may_begin, begun, nothing, is_alive, killed, stands_in, sleeps, went, stepped, answer_of, happens, run, notes}
+use Rattle.protocol.specs.Machine.{State, After, put, idle, start, is_valid, is_thread, may_begin, begun, nothing, is_alive, killed, sleeps, went, stepped, answer_of, happens, run, notes}
 use Rattle.protocol.specs.Sleepers.{alone, GoesOn}
-use Rattle.protocol.proofs.Queues.{Queued}
+use Rattle.protocol.proofs.Queued.{Queued, asleep_there}
 use Rattle.protocol.proofs.QueueRuns.{run_queued}
 use Rattle.protocol.proofs.Undivided.{going}
 use Rattle.protocol.proofs.Waking.{told_sleeps}
@@ -85,7 +85,7 @@ may_step m r t pos known =
   where
     on_its_way : (g : Stage) → Sits (state_of m) t (thread_at m.threads t).held g → IsOnItsWay g
     on_its_way Idle f = tt
-    on_its_way (Calling c p) f = on_the_way t (thread_at m.threads t).held p p.phase (seen (state_of m) (mutex_of c)) f.stands
+    on_its_way (Calling c p) f = on_the_way t (thread_at m.threads t).held p p.phase (seen (state_of m) (mutex_of c)) f.0.stands
     on_its_way (Dying w) f = f.going
     on_its_way Reaped f = tt
 
@@ -313,11 +313,7 @@ reached_queued m r = subst Queued (sym r.is) (run_queued m.layout r.counters r.e
 
 -- so whoever stands in a queue sleeps in its call
 pub sleeps_in_call : (m : Shown) → IsReached m → (t : ℕ) → SleepsInItsCall (state_of m) t
-sleeps_in_call m r t key stands =
-    let slept = (reached_queued m r).sleeps key t stands in
-    let call = slept.2 in
-    let in_call : sleeps (state_of m) t ((state_of m).threads t).stage ≡ sleeps (state_of m) t (Calling call.0 call.1) = ap (sleeps (state_of m) t) call.2 in
-    in_call ∙ subst (λ (x : ℕ). stands_in t ((state_of m).queues x) ≡ true) call.4 stands
+sleeps_in_call m r t key stands = asleep_there (state_of m) t key (reached_queued m r) stands
 
 -- one list of events after another
 run-append : (s : State) (es fs : List Event) → run s (es ++ fs) ≡ run (run s es) fs

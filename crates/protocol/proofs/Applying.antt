@@ -29,14 +29,15 @@ use Rattle.protocol.specs.declared.thread.Thread.{Thread}
 use Rattle.protocol.specs.declared.thread.Stage.{Stage}
 use Rattle.protocol.specs.declared.thread.Stage.TheVariants.{Idle, Calling, Dying, Reaped}
 use Rattle.protocol.specs.Notes.{facts_of, return_facts, reap_facts}
-use Rattle.protocol.specs.Machine.{State, After, put, start, answer_of, stands_in, sleeps, is_thread, is_idle, is_alive, may_begin, begun, nothing, decision, slept_on, woken, held_after, stage_after, returned, went, has_ended, death_at, stage_walked, walked, killed, stepped, happens, run, notes}
+use Rattle.protocol.specs.Machine.{State, After, put, start, answer_of, sleeps, is_thread, is_idle, is_alive, may_begin, begun, nothing, decision, slept_on, woken, held_after, stage_after, returned, went, has_ended, death_at, stage_walked, walked, killed, stepped, happens, run, notes}
 use Rattle.protocol.specs.Machine.{told_of as told_of_death}
 use Rattle.protocol.specs.Headline.{facts_among}
 use Rattle.protocol.specs.Applies.{Told, AtRest, InCall, Dead, Gone, told_next, told_after, last_told, IsLiving, HasAccess, IsThread, IsInNoQueue, Applies, refusal, IsAccessOf, IsNotedAs, NextApplies, EventsApply}
 use Rattle.protocol.proofs.Puts.{by_put}
 use Rattle.protocol.proofs.Kept.{Kept}
-use Rattle.protocol.proofs.Runs.{start_kept, run_kept, run_layout, at_rest, second_true}
-use Rattle.protocol.proofs.Queues.{Queued, in_none}
+use Rattle.protocol.proofs.Runs.{start_kept, run_kept, run_layout}
+use Rattle.protocol.proofs.Events.{at_rest, second_true, by_event}
+use Rattle.protocol.proofs.Queued.{Queued, in_none}
 use Rattle.protocol.proofs.QueueRuns.{run_queued}
 
 -- ---- what the trace told of a thread is where it stands
@@ -185,21 +186,13 @@ stepped_agrees s u t w a (Calling c p) is = go (sleeps s u (Calling c p))
     go false = went_agrees s u t (s.threads u).held c p (whole_led p (answer_of s (whole_access p))) w is a
 
 next_agrees : (s : State) (e : Event) (t : ℕ) (w : Told) → Agrees w (s.threads t).stage → Agrees (told_after t w (facts_of (happens s e).note)) ((happens s e).state.threads t).stage
-next_agrees s (event.Begin u c) t w a = go (may_begin s u c) refl
-  where
-    go : (b : Bool) → may_begin s u c ≡ b → Agrees (told_after t w (facts_of (if b then begun s u c (whole_started s.layout u (s.threads u).held c) else nothing s).note)) ((if b then begun s u c (whole_started s.layout u (s.threads u).held c) else nothing s).state.threads t).stage
-    go true e = begun_agrees s u t c w (at_rest (s.threads u).stage (grind (arith, nat_tests))) a (acquires (operation_of c) && nat_le 2048 (s.threads u).held)
-    go false e = a
-next_agrees s (event.Step u) t w a = go (is_thread s u)
-  where
-    go : (b : Bool) → Agrees (told_after t w (facts_of (if b then stepped s u (s.threads u).held (s.threads u).stage else nothing s).note)) ((if b then stepped s u (s.threads u).held (s.threads u).stage else nothing s).state.threads t).stage
-    go true = stepped_agrees s u t w a (s.threads u).stage refl
-    go false = a
-next_agrees s (event.Kill u) t w a = go (is_thread s u && is_alive (s.threads u).stage)
-  where
-    go : (b : Bool) → Agrees (told_after t w (facts_of (if b then killed s u else nothing s).note)) ((if b then killed s u else nothing s).state.threads t).stage
-    go true = moved s u t w Dead _ a tt
-    go false = a
+next_agrees s e t w a =
+    by_event s (λ (x : Event) (z : After). Agrees (told_after t w (facts_of z.note)) (z.state.threads t).stage)
+    (λ x. a)
+    (λ u c pos known inside idle b full. begun_agrees s u t c w idle a b)
+    (λ u pos known. stepped_agrees s u t w a (s.threads u).stage refl)
+    (λ u pos known alive. moved s u t w Dead _ a tt)
+    e
 
 run_agrees : (s : State) (es : List Event) (t : ℕ) (w : Told) → Agrees w (s.threads t).stage → Agrees (told_after t w (facts_among (notes s es))) ((run s es).threads t).stage
 run_agrees s [] t w a = a
@@ -265,22 +258,15 @@ module _ (s : State) (ns : List Note) (inv : Kept s) (queued : Queued s) (agrees
       subst (λ (b : Bool). IsAccessOf t (if b then stepped s t (s.threads t).held (s.threads t).stage else nothing s).note) (sym (known t on.0))
       (step_noted t (last_told t ns) on.1 on.2 (s.threads t).stage (agrees t))
 
-  walks_awake : (t : ℕ) (v : walks.Standing) → (s.threads t).stage ≡ Dying v → IsInNoQueue s t
-  walks_awake t v is key = go (stands_in t (s.queues key)) refl
-    where
-      go : (b : Bool) → stands_in t (s.queues key) ≡ b → b ≡ false
-      go true stands = let slept = queued.sleeps key t stands in absurd (cc (sym slept.2.2 ∙ is))
-      go false stands = refl
-
   step_else : (t : ℕ) → IsThread s.layout t → ¬ Applies s.layout s ns (event.Step t) → (g : Stage) → (s.threads t).stage ≡ g → stepped s t (s.threads t).held g ≡ nothing s
   step_else t range never Idle is = refl
   step_else t range never Reaped is = refl
-  step_else t range never (Dying v) is = absurd (never (range, walks_has (last_told t ns) v (subst (Agrees (last_told t ns)) is (agrees t)), walks_awake t v is))
+  step_else t range never (Dying v) is = absurd (never (range, walks_has (last_told t ns) v (subst (Agrees (last_told t ns)) is (agrees t)), in_none s t queued (ap (sleeps s t) is)))
   step_else t range never (Calling c p) is = go (sleeps s t (Calling c p)) refl
     where
       go : (b : Bool) → sleeps s t (Calling c p) ≡ b → (if b then nothing s else went s t (s.threads t).held c p (whole_led p (answer_of s (whole_access p)))) ≡ nothing s
       go true e = refl
-      go false e = absurd (never (range, calls_has (last_told t ns) c p (subst (Agrees (last_told t ns)) is (agrees t)), in_none s t c p queued is e))
+      go false e = absurd (never (range, calls_has (last_told t ns) c p (subst (Agrees (last_told t ns)) is (agrees t)), in_none s t queued (ap (sleeps s t) is ∙ e)))
 
   steps_else : (t : ℕ) → ¬ Applies s.layout s ns (event.Step t) → happens s (event.Step t) ≡ nothing s
   steps_else t never = go (is_thread s t) refl

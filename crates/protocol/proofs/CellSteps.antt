@@ -1,11 +1,12 @@
 -- One access of a call at its mutex's cell.
-use Rattle.std.proofs.Common.{◌≡◌, ◌≢◌, inl, inr, ⊎_elim, ℕ, zero, suc, ◌+◌, ◌*◌, ◌%◌, ◌^◌, ◌<◌, ◌≤◌, ◌==◌, Bool, true, false, Option, Some, None, List, ◌∷◌, [], ◌++◌, refl, sym, ap, ◌∙◌, subst, arith, eqb-true}
+use Rattle.std.proofs.Common.{◌≡◌, ◌≢◌, inl, inr, ⊎_elim, ℕ, zero, suc, ◌+◌, ◌*◌, ◌<◌, ◌≤◌, ◌==◌, Bool, true, false, Option, Some, None, List, refl, sym, ap, ◌∙◌, subst, arith, eqb-true}
 use Rattle.std.specs.Prelude.{if◌then◌else◌, nat_lt}
 use Rattle.std.proofs.lemmas.Bool.{eqb-false}
-use Rattle.lockword.specs.Cells.{Fields, fields_of, word_of, low_of, taken, waiting}
+use Rattle.lockword.specs.Cells.{Fields, fields_of, word_of, taken, waiting}
 use Rattle.lockword.specs.declared.reply.Reply.{Reply}
 use Rattle.lockword.specs.declared.reply.Reply.TheVariants.{OK, EFAULT, EOWNERDEAD}
 use Rattle.keys.specs.declared.access.Access.{Access}
+use Rattle.keys.specs.declared.access.Access.TheVariants.{Wake}
 use Rattle.keys.specs.declared.object.Object.{Object}
 use Rattle.keys.specs.declared.point.Operation.{Operation}
 use Rattle.keys.specs.declared.point.Operation.TheVariants as operation
@@ -31,8 +32,8 @@ use Rattle.mutex.specs.declared.row.Led.{Led}
 use Rattle.mutex.specs.declared.phase.Phase.{Phase}
 use Rattle.mutex.specs.declared.phase.Phase.TheVariants.{AtCell}
 use Rattle.mutex.specs.declared.phase.Onward.{Onward}
-use Rattle.mutex.specs.Alone.{Alone, left}
-use Rattle.mutex.specs.Calls.{mutex_of, operation_of}
+use Rattle.mutex.specs.Alone.{Alone, is_wake, left}
+use Rattle.mutex.specs.Calls.{mutex_of}
 use Rattle.mutex.specs.Laws.{Expects, Sound, points, decided, Joins, Right}
 use Rattle.mutex.specs.Rows.{Knows, IsGoing}
 use Rattle.mutex.specs.Standings.{Whole}
@@ -42,41 +43,27 @@ use Rattle.mutex.proofs.Rights.{right}
 use Rattle.mutex.proofs.Alone.{alone}
 use Rattle.mutex.proofs.Steps.{at_cell}
 use Rattle.protocol.specs.declared.thread.Stage.TheVariants.{Calling}
-use Rattle.protocol.specs.Machine.{State, put, is_valid, answer_among, queue_after, stage_after, held_after}
+use Rattle.protocol.specs.Machine.{State, put, is_valid, answer_among, stage_after, held_after}
 use Rattle.protocol.specs.Headline.{seen}
 use Rattle.protocol.proofs.Puts.{put-same, put-other}
-use Rattle.protocol.proofs.Objects.{IsCalled}
-use Rattle.protocol.proofs.Phases.{left_at, Moves, Change, Stays, Joins_it, Wakes, after_decided, after_answers, after_left, after_steady}
-use Rattle.protocol.proofs.Kept.{AtRow, Fits, Sits, left_out_in, Owned, ChainedIn, Listed, pending_in, PendsAs, Kept}
+use Rattle.protocol.proofs.Phases.{left_at, Moves, after_decided, after_answers, after_left, after_steady}
+use Rattle.protocol.proofs.Kept.{AtRow, Fits, Serves, Sits, left_out_in, Owned, ChainedIn, Listed, pending_in, PendsAs, Kept}
 use Rattle.protocol.proofs.Places.{mine_is_no_cell, head_is_no_cell, list_is_mine, both_same, lies_apart}
-use Rattle.protocol.proofs.Steps.{alike, is_valid-cell, seen-inside, Tells, run_tells, called, same_operation, not_taken, same_held, onto, thread_after, after}
+use Rattle.protocol.proofs.Steps.{alike, is_valid-cell, seen-inside, Tells, run_tells, same_operation, not_taken, same_held, onto, thread_after, after, call_step}
 use Rattle.protocol.proofs.Owning.{Owning, owning, pends, takes, frees, keeps}
 use Rattle.protocol.proofs.Frames.{OnlyWaitsFrom, kept_where}
 use Rattle.protocol.proofs.Arrivals.{Arrives, sits_after, listed_after, pending_then}
 
--- what an access does to the queue of its mutex
-change_row : (u t cell : ℕ) (r : Row) (w : ℕ) (q : List ℕ) → Change u (row_access t cell r) w (changed (row_access t cell r) w) q (queue_after u (row_access t cell r) w q)
-change_row u t cell (Lock lock.Load) w q = Stays refl refl refl
-change_row u t cell (Lock (lock.Take v)) w q = Stays refl refl refl
-change_row u t cell (Lock (lock.SetWaiters v)) w q = Stays refl refl refl
-change_row u t cell (Lock (lock.Sleep v)) w q = go (w % 2 ^ 32 == low_of v) refl
-  where
-    go : (b : Bool) → (w % 2 ^ 32 == low_of v) ≡ b → Change u (row_access t cell (Lock (lock.Sleep v))) w w q (queue_after u (row_access t cell (Lock (lock.Sleep v))) w q)
-    go true e = Joins_it e refl (ap (λ (b : Bool). if b then q ++ u ∷ [] else q) e)
-    go false e = Stays e refl (ap (λ (b : Bool). if b then q ++ u ∷ [] else q) e)
-change_row u t cell (Lock lock.WakeAll) w q = Wakes 64 (omega arith) refl refl refl
-change_row u t cell (TryLock try.Load) w q = Stays refl refl refl
-change_row u t cell (TryLock (try.Take v k)) w q = Stays refl refl refl
-change_row u t cell (Unlock unlock.Load) w q = Stays refl refl refl
-change_row u t cell (Unlock (unlock.Release d)) w q = Stays refl refl refl
-change_row u t cell (Unlock (unlock.Wake a)) w q = Wakes (if a then 64 else 1) (some a) refl refl refl
-  where
-    some : (b : Bool) → 1 ≤ (if b then 64 else 1)
-    some true = omega arith
-    some false = omega arith
-change_row u t cell (Consistent consistent.Load) w q = Stays refl refl refl
-change_row u t cell (Consistent consistent.Declare) w q = Stays refl refl refl
-change_row u t cell (row.Ended x) w q = Stays refl refl refl
+-- a wake is of the cell
+wakes_row : (t cell : ℕ) (r : Row) → is_wake (row_access t cell r) ≡ true → (n : ℕ) × (1 ≤ n) × (row_access t cell r ≡ Wake cell n)
+wakes_row t cell (Lock lock.WakeAll) e = (64, omega arith, refl)
+wakes_row t cell (Unlock (unlock.Wake true)) e = (64, omega arith, refl)
+wakes_row t cell (Unlock (unlock.Wake false)) e = (1, omega arith, refl)
+wakes_row t cell (TryLock try.Load) e = absurd cc
+wakes_row t cell (TryLock (try.Take v k)) e = absurd cc
+wakes_row t cell (Consistent consistent.Load) e = absurd cc
+wakes_row t cell (Consistent consistent.Declare) e = absurd cc
+wakes_row t cell r e = absurd cc
 
 -- who falls asleep is in a lock that saw the word
 pub sleeper : (t cell : ℕ) (r : Row) (w : ℕ) → sleeps_at (row_access t cell r) w ≡ true → (v : Fields) × (r ≡ Lock (lock.Sleep v))
@@ -132,7 +119,7 @@ waits_row t cell u w (Consistent consistent.Declare) first apart knows expects o
 waits_row t cell u w (row.Ended x) first apart knows expects owner = inl refl
 
 -- an access of thread t's call at row r
-module _ (s : State) (t : ℕ) (c : Call) (p : Whole) (r : Row) (inv : Kept s) (pos : 1 ≤ t) (known : t ≤ s.layout.threads) (fits : Fits s t (s.threads t).held c (record p { phase = AtCell r })) where
+module _ (s : State) (t : ℕ) (c : Call) (p : Whole) (r : Row) (inv : Kept s) (pos : 1 ≤ t) (known : t ≤ s.layout.threads) (fits : Fits s t (s.threads t).held (mutex_of c) (record p { phase = AtCell r })) (serves : Serves c p) where
   abbrev whole : Whole
   whole = record p { phase = AtCell r }
 
@@ -158,10 +145,10 @@ module _ (s : State) (t : ℕ) (c : Call) (p : Whole) (r : Row) (inv : Kept s) (
   l = resume_of p.thread r (answer_at a w)
 
   abbrev o : Onward
-  o = onto s t c whole
+  o = onto s whole
 
   abbrev s' : State
-  s' = after s t c whole
+  s' = after s t (call_step s c whole)
 
   abbrev at : AtRow t (s.threads t).held p.operation r (seen s m)
   at = fits.stands
@@ -181,14 +168,11 @@ module _ (s : State) (t : ℕ) (c : Call) (p : Whole) (r : Row) (inv : Kept s) (
   pub word_there : (x : ℕ) → x ≢ place → s'.words x ≡ s.words x
   word_there x apart = word_at x ∙ put-other s.words place w' x apart
 
-  queue_at : (key : ℕ) → s'.queues key ≡ put s.queues place (queue_after t a w q) key
-  queue_at key = ap (λ (y : ℕ). put s.queues y (queue_after t a (s.words y) (s.queues y)) key) address
+  pub wakes : is_wake a ≡ true → (n : ℕ) × (1 ≤ n) × (a ≡ Wake place n)
+  wakes e = let woken = wakes_row p.thread p.cell r e in (woken.0, woken.1, woken.2 ∙ ap (λ (x : ℕ). Wake x woken.0) fits.cell)
 
-  queue_here : s'.queues place ≡ queue_after t a w q
-  queue_here = queue_at place ∙ put-same s.queues place (queue_after t a w q)
-
-  pub queue_there : (key : ℕ) → key ≢ place → s'.queues key ≡ s.queues key
-  queue_there key apart = queue_at key ∙ put-other s.queues place (queue_after t a w q) key apart
+  pub at_place : address_of a ≡ place
+  at_place = address
 
   leads : o ≡ from_cell whole l
   leads = ap (λ (y : ℕ). from_cell whole (resume_of p.thread r (answer_among a (s.words y) (s.queues y)))) address ∙ ap (from_cell whole) (alike p.thread p.cell r w q)
@@ -223,17 +207,8 @@ module _ (s : State) (t : ℕ) (c : Call) (p : Whole) (r : Row) (inv : Kept s) (
       run_tells t p.cell (seen s m) (seen s' m) (row_operation r) l.point
       (subst (λ (z : Object). Run z (points (point_of t p.cell (row_operation r) l.point)) (seen s' m)) (sym before) (subst (λ (n : Object). Run (object_of (fields_of w)) (points (point_of t p.cell (row_operation r) l.point)) n) (sym here) run))
 
-  same_op : row_operation r ≡ operation_of c
-  same_op = at.of ∙ fits.of
-
-  pub is_called : IsCalled (operation_of c)
-  is_called = subst IsCalled same_op (called r)
-
-  pub tells : Tells t (seen s m) (operation_of c) o.point (seen s' m)
-  tells = subst (λ (z : Operation × Option Reply). Tells t (seen s m) z.0 z.1 (seen s' m)) (λ i. (same_op i, (sym leads i).point)) tells_row
-
-  pub may_take : acquires (operation_of c) ≡ true → (s.threads t).held < 2048
-  may_take takes_one = at.room (ap acquires fits.of ∙ takes_one)
+  pub tells : Tells t (seen s m) p.operation o.point (seen s' m)
+  tells = subst (λ (z : Operation × Option Reply). Tells t (seen s m) z.0 z.1 (seen s' m)) (λ i. (at.of i, (sym leads i).point)) tells_row
 
   -- ---- beyond the object
   moves_so : Moves t whole (from_cell whole l) w w'
@@ -250,16 +225,16 @@ module _ (s : State) (t : ℕ) (c : Call) (p : Whole) (r : Row) (inv : Kept s) (
   moves = subst (λ (z : Onward × ℕ). Moves t whole z.0 w z.1) (λ i. (sym leads i, sym word_here i)) moves_so
 
   -- ---- its thread, and its list
-  room : acquires p.operation ≡ true → (q : Row) → l.row ≡ q → IsGoing q → held_after (s.threads t).held (operation_of c) l.point < 2048
+  room : acquires p.operation ≡ true → (q : Row) → l.row ≡ q → IsGoing q → held_after (s.threads t).held p.operation l.point < 2048
   room took_one z is going =
       let took : acquires (row_operation r) ≡ true = ap acquires at.of ∙ took_one in
       let on : IsGoing l.row = subst IsGoing (sym is) going in
       let same : row_operation l.row ≡ row_operation r = same_operation r l.row on rt.stays in
       let as_before : held_after (s.threads t).held (row_operation r) l.point ≡ (s.threads t).held = same_held (decided r) l.point (decided l.row) (row_operation r) (s.threads t).held rt.tells took (λ z e. not_taken l.row z on (ap acquires same ∙ took) e) in
-      let now : held_after (s.threads t).held (operation_of c) l.point ≡ (s.threads t).held = ap (λ (op : Operation). held_after (s.threads t).held op l.point) (sym same_op) ∙ as_before in
+      let now : held_after (s.threads t).held p.operation l.point ≡ (s.threads t).held = ap (λ (op : Operation). held_after (s.threads t).held op l.point) (sym at.of) ∙ as_before in
       let below = at.room took_one in omega arith
 
-  at_row : (q : Row) → l.row ≡ q → IsGoing q → AtRow t (held_after (s.threads t).held (operation_of c) l.point) p.operation q (seen s' m)
+  at_row : (q : Row) → l.row ≡ q → IsGoing q → AtRow t (held_after (s.threads t).held p.operation l.point) p.operation q (seen s' m)
   at_row z is going =
       let on : IsGoing l.row = subst IsGoing (sym is) going in record {
         going = going;
@@ -273,7 +248,7 @@ module _ (s : State) (t : ℕ) (c : Call) (p : Whole) (r : Row) (inv : Kept s) (
   owning_so = owning m t whole (seen s m) (seen s' m) p.thread p.cell w r at.going at.of rt.stays rt.tells tells_row
 
   abbrev held' : ℕ
-  held' = held_after (s.threads t).held (operation_of c) l.point
+  held' = held_after (s.threads t).held p.operation l.point
 
   linking : (op : Operation) (x : Reply) → Owning m t r (leaving whole op x) (seen s m) (seen s' m) → Arrives t held' whole (leaving whole op x) (seen s' m)
   linking op EFAULT own = tt
@@ -392,18 +367,15 @@ module _ (s : State) (t : ℕ) (c : Call) (p : Whole) (r : Row) (inv : Kept s) (
   -- what holds of every state holds then
   pub kept : (s.threads t).stage ≡ Calling c whole → Listed s t (Calling c whole) → Kept s'
   kept is (es, owned, ch) =
-      kept_where s t m a (thread_after s t c whole) (operation_of c) o.point inv pos known fits.inside is_called far tells refl
-      (λ x e. may_take)
+      kept_where s t m a (thread_after s t (call_step s c whole)) p.operation o.point inv pos known fits.inside fits.called far tells refl
+      (λ x e. at.room)
       (λ u first most. word_there (head_place u + 1) (head_is_no_cell s.layout u m 1 first most (omega arith)))
       (λ u x first most apart mine. word_there x (mine_is_no_cell s u x m first most fits.inside mine))
       waits_so
-      (subst (λ (z : Onward). Sits s' t (held_after (s.threads t).held (operation_of c) z.point) (stage_after c whole z.phase)) (sym leads) (sits_after s t c whole (s.threads t).held fits held' (after_cell whole l.row) (arrives l.row refl owning_so)))
-      (subst (λ (z : Onward). Listed s' t (stage_after c whole z.phase)) (sym leads) (listed_after s t c whole (s.threads t).held fits es (after_cell whole l.row) (owned_after es owned (after_cell whole l.row) owning_so) (chain_after es owned ch l.row owning_so)))
+      (subst (λ (z : Onward). Sits s' t (held_after (s.threads t).held p.operation z.point) (stage_after c whole z.phase)) (sym leads) (sits_after s t (s.threads t).held c whole fits serves a (thread_after s t (call_step s c whole)) held' (after_cell whole l.row) (arrives l.row refl owning_so)))
+      (subst (λ (z : Onward). Listed s' t (stage_after c whole z.phase)) (sym leads) (listed_after s' t c whole es (after_cell whole l.row) (owned_after es owned (after_cell whole l.row) owning_so) (chain_after es owned ch l.row owning_so)))
       (subst (λ (z : Onward). PendsAs (s'.words (head_place t + 2)) (stage_after c whole z.phase)) (sym leads) (pending_then c whole (after_cell whole l.row) (s'.words (head_place t + 2)) (word_there (head_place t + 2) (head_is_no_cell s.layout t m 2 pos known (omega arith)) ∙ subst (PendsAs (s.words (head_place t + 2))) is (inv.heads t pos known).pending ∙ sym pends_so)))
       (subst Sound (sym here) rt.sound)
-
-  pub change : Change t a w (s'.words place) q (s'.queues place)
-  change = subst (λ (z : ℕ × List ℕ). Change t a w z.0 q z.1) (λ i. (sym word_here i, sym queue_here i)) (change_row t p.thread p.cell r w q)
 
   pub falls_asleep : sleeps_at a w ≡ true → (v : Fields) × (AtCell r ≡ AtCell (Lock (lock.Sleep v))) × (o.phase ≡ AtCell (Lock lock.Load))
   falls_asleep e =

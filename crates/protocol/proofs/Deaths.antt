@@ -3,23 +3,25 @@ use Rattle.std.proofs.Common.{◌≡◌, ◌≢◌, ◌⊎◌, inl, inr, ℕ, �
 use Rattle.std.specs.Prelude.{if◌then◌else◌}
 use Rattle.std.proofs.lemmas.Bool.{eqb-false}
 use Rattle.std.proofs.lemmas.Bool.Decides.{nat_tests}
-use Rattle.std.specs.Prelude.{Result, Ok, Err}
+use Rattle.std.specs.Prelude.{Ok, Err}
+use Rattle.lockword.specs.declared.reply.Reply.TheVariants.{XHELD}
 use Rattle.keys.specs.Accesses.{address_of}
 use Rattle.mutex.specs.declared.call.Call.{Call}
-use Rattle.mutex.specs.Calls.{mutex_of, operation_of}
+use Rattle.mutex.specs.Calls.{mutex_of}
 use Rattle.mutex.specs.Standings.{Whole}
-use Rattle.mutex.specs.Whole.{whole_started, whole_access, whole_led}
+use Rattle.mutex.specs.Whole.{begins, whole_access, whole_led}
 use Rattle.exitwalk.specs.declared.row.Row.{Row}
-use Rattle.exitwalk.specs.declared.row.Row.TheVariants.{LoadFirst, LoadOffset, LoadPending, LoadNext, LoadWord, Mark, WakeOne, Ended}
 use Rattle.exitwalk.specs.Standings as walks
 use Rattle.protocol.specs.declared.thread.Thread.{Thread}
 use Rattle.protocol.proofs.Puts.{by_put, put-same, put-other}
-use Rattle.protocol.proofs.Kept.{Walks, Sits, Listed}
 use Rattle.protocol.proofs.Frames.{knows_at}
-use Rattle.protocol.proofs.Steps.{Tells, after, went-is, onto}
+use Rattle.protocol.proofs.Steps.{Tells, after, went-is, onto, call_step}
 use Rattle.protocol.proofs.Stepping.{Stepping}
-use Rattle.protocol.proofs.Accesses.{goes}
-use Rattle.protocol.proofs.WalkSteps.{walk_of, walk_access, row_then, death_then, walk_after, walked-is, DeathTells, WalkStep, walk_step}
+use Rattle.protocol.proofs.CallSteps.{call_stepping}
+use Rattle.protocol.proofs.Accesses.{goes, fits_in}
+use Rattle.protocol.proofs.Events.{by_event}
+use Rattle.protocol.proofs.Working.{walk_is}
+use Rattle.protocol.proofs.WalkSteps.{walk_of, by_walked, walk_access, row_then, death_then, walk_after, walked-is, DeathTells, WalkStep, walk_step}
 use Rattle.protocol.proofs.Reaped.{no_reaped_owns}
 use Rattle.lockword.specs.declared.reply.Reply.{Reply}
 use Rattle.lockword.specs.declared.reply.Reply.TheVariants.{OK}
@@ -27,20 +29,18 @@ use Rattle.keys.specs.declared.object.Object.{Object}
 use Rattle.keys.specs.declared.point.Decision.{Decision}
 use Rattle.keys.specs.declared.point.Operation.TheVariants as operation
 use Rattle.protocol.specs.declared.event.Event.{Event}
-use Rattle.protocol.specs.declared.event.Event.TheVariants.{Begin, Step, Kill}
 use Rattle.protocol.specs.declared.note.Fact.{Fact}
 use Rattle.protocol.specs.declared.note.Fact.TheVariants.{Wake, Death}
 use Rattle.protocol.specs.declared.note.Note.TheVariants.{Stepped}
 use Rattle.protocol.specs.declared.thread.Stage.{Stage}
 use Rattle.protocol.specs.declared.thread.Stage.TheVariants.{Idle, Calling, Dying, Reaped}
 use Rattle.protocol.specs.Notes.{facts_of, sleep_facts, return_facts, death_facts, reap_facts}
-use Rattle.protocol.specs.Machine.{State, After, start, run, notes, nothing, is_alive, may_begin, begun, went, sleeps, answer_of, decision, returned, woken_by, walked, has_ended, stage_walked, stepped, happens, killed, slept_on}
-use Rattle.protocol.specs.Machine as machine
+use Rattle.protocol.specs.Machine.{State, After, start, run, notes, nothing, is_alive, begun, went, sleeps, answer_of, decision, returned, woken_by, walked, has_ended, stepped, happens, killed, slept_on}
 use Rattle.protocol.specs.Headline.{seen, facts_among}
 use Rattle.protocol.specs.Deaths.{deaths, AreMourned, IsMourned, DeathsAreTold}
 use Rattle.protocol.proofs.Objects.{IsCalled, one, one-none, one-own, one-other, others}
 use Rattle.protocol.proofs.Kept.{Kept}
-use Rattle.protocol.proofs.Runs.{sound, start_kept, run_kept, at_rest, kill_kept}
+use Rattle.protocol.proofs.Runs.{sound, start_kept, run_kept, kill_kept}
 
 -- ---- counting
 
@@ -98,23 +98,24 @@ module _ (t m : ℕ) where
 
     call_lost : (u : ℕ) → 1 ≤ u → u ≤ s.layout.threads → (c : Call) (p : Whole) → (s.threads u).stage ≡ Calling c p → Lost s (went s u (s.threads u).held c p (whole_led p (answer_of s (whole_access p))))
     call_lost u pos known c p is =
-        let g : Stepping s u c p = goes s u c p inv pos known is in
-        subst (Lost s) (sym (went-is s u c p g.valid))
-        (let none = call_deaths t m u (decision u c (onto s u c p).point) (slept_on s c (whole_access p)) (woken_by (whole_access p) (s.queues (address_of (whole_access p)))) (returned (onto s u c p).phase) in
+        let fits = fits_in s u c p inv pos known is in
+        let g : Stepping s u (call_step s c p) = call_stepping s u c p (goes s u c p inv pos known is) fits.0 in
+        subst (Lost s) (sym (went-is s u c p fits.1 g.valid))
+        (let none = call_deaths t m u (decision u c (onto s p).point) (slept_on s c (whole_access p)) (woken_by (whole_access p) (s.queues (address_of (whole_access p)))) (returned (onto s p).phase) in
         let kept = same g in omega arith)
       where
         other : u ≢ t
         other = apart_from u (Calling c p) is refl
 
-        told : (x : Option Reply) → (n : Object) → Tells u (seen s (mutex_of c)) (operation_of c) x n → IsCalled (operation_of c) → one t n ≡ one t (seen s (mutex_of c))
+        told : (x : Option Reply) → (n : Object) → Tells u (seen s (mutex_of c)) p.operation x n → IsCalled p.operation → one t n ≡ one t (seen s (mutex_of c))
         told None n e called = ap (one t) e
-        told (Some x) n permits called = others (seen s (mutex_of c)) n u t (operation_of c) x called other permits
+        told (Some x) n permits called = others (seen s (mutex_of c)) n u t p.operation x called other permits
 
-        same : Stepping s u c p → one t (seen (after s u c p) m) ≡ one t (seen s m)
+        same : Stepping s u (call_step s c p) → one t (seen (after s u (call_step s c p)) m) ≡ one t (seen s m)
         same g = go (m == mutex_of c) refl
           where
-            go : (b : Bool) → (m == mutex_of c) ≡ b → one t (seen (after s u c p) m) ≡ one t (seen s m)
-            go true e = subst (λ (k : ℕ). one t (seen (after s u c p) k) ≡ one t (seen s k)) (sym (eqb-true m (mutex_of c) e)) (told (onto s u c p).point (seen (after s u c p) (mutex_of c)) g.tells g.called)
+            go : (b : Bool) → (m == mutex_of c) ≡ b → one t (seen (after s u (call_step s c p)) m) ≡ one t (seen s m)
+            go true e = subst (λ (k : ℕ). one t (seen (after s u (call_step s c p)) k) ≡ one t (seen s k)) (sym (eqb-true m (mutex_of c) e)) (told (onto s p).point (seen (after s u (call_step s c p)) (mutex_of c)) g.tells g.called)
             go false e = ap (one t) (g.far m (eqb-false m (mutex_of c) e))
 
     walk_lost : (u : ℕ) (r : Row) → WalkStep s u r → Lost s (walked s u (s.threads u).held (walk_of u r))
@@ -153,76 +154,35 @@ module _ (t m : ℕ) where
         go true = omega arith
         go false = call_lost u pos known c p is
     step_lost u pos known (Dying w) is =
-        let f : Walks u w = subst (λ (g : Stage). Sits s u (s.threads u).held g) is (inv.sits u pos known) in
-        let whose : walk_of u w.row ≡ w = λ i. record { thread = sym f.mine i; head = sym f.head i; row = w.row } in
-        subst (λ (z : walks.Standing). Lost s (walked s u (s.threads u).held z)) whose
-        (walk_lost u w.row (walk_step s u inv pos known w.row f.going (knows_at u w f) (subst (Listed s u) is (inv.listed u pos known))))
+        let there = walk_is s u w inv pos known is in
+        subst (λ (z : walks.Standing). Lost s (walked s u (s.threads u).held z)) there.1
+        (walk_lost u w.row (walk_step s u inv pos known w.row there.0.going (knows_at u w there.0) there.2))
 
     event_lost : (e : Event) → Lost s (happens s e)
-    event_lost (Begin u c) = go (may_begin s u c)
+    event_lost e = by_event s (λ (x : Event) (a : After). Lost s a) (λ x. omega arith) (λ u c pos known inside idle b full. begun_lost u c b) (λ u pos known. step_lost u pos known (s.threads u).stage refl) (λ u pos known alive. omega arith) e
       where
-        begun_lost : (x : Result Whole Reply) → Lost s (begun s u c x)
-        begun_lost (Ok p) = omega arith
-        begun_lost (Err x) = omega arith
-
-        go : (b : Bool) → Lost s (if b then begun s u c (whole_started s.layout u (s.threads u).held c) else nothing s)
-        go true = begun_lost (whole_started s.layout u (s.threads u).held c)
-        go false = omega arith
-    event_lost (Step u) = go (machine.is_thread s u) refl
-      where
-        go : (b : Bool) → machine.is_thread s u ≡ b → Lost s (if b then stepped s u (s.threads u).held (s.threads u).stage else nothing s)
-        go true e =
-            let pos : 1 ≤ u = grind (arith, nat_tests) in
-            let known : u ≤ s.layout.threads = grind (arith, nat_tests) in
-            step_lost u pos known (s.threads u).stage refl
-        go false e = omega arith
-    event_lost (Kill u) = go (machine.is_thread s u && is_alive (s.threads u).stage)
-      where
-        go : (b : Bool) → Lost s (if b then killed s u else nothing s)
-        go true = omega arith
-        go false = omega arith
+        begun_lost : (u : ℕ) (c : Call) (b : Bool) → Lost s (begun s u c (if b then Err XHELD else Ok (begins s.layout u c)))
+        begun_lost u c true = omega arith
+        begun_lost u c false = omega arith
 
     -- it stays dead
     event_dead : (e : Event) → is_alive ((happens s e).state.threads t).stage ≡ false
-    event_dead (Begin u c) = go (may_begin s u c) refl
+    event_dead e = by_event s (λ (x : Event) (a : After). is_alive (a.state.threads t).stage ≡ false) (λ x. dead) (λ u c pos known inside idle b full. begun_dead u c idle b) (λ u pos known. stepped_dead u (s.threads u).stage refl)
+        (λ u pos known alive. by_put (λ (z : Thread). is_alive z.stage ≡ false) s.threads u _ t (λ e. refl) (λ apart. dead)) e
       where
-        begun_dead : u ≢ t → (x : Result Whole Reply) → is_alive ((begun s u c x).state.threads t).stage ≡ false
-        begun_dead apart (Ok p) = ap (λ (z : Thread). is_alive z.stage) (put-other s.threads u (record (s.threads u) { stage = Calling c p }) t (λ e. apart (sym e))) ∙ dead
-        begun_dead apart (Err x) = dead
+        begun_dead : (u : ℕ) (c : Call) → (s.threads u).stage ≡ Idle → (b : Bool) → is_alive ((begun s u c (if b then Err XHELD else Ok (begins s.layout u c))).state.threads t).stage ≡ false
+        begun_dead u c idle true = dead
+        begun_dead u c idle false = ap (λ (z : Thread). is_alive z.stage) (put-other s.threads u (record (s.threads u) { stage = Calling c (begins s.layout u c) }) t (λ e. apart_from u Idle idle refl (sym e))) ∙ dead
 
-        go : (b : Bool) → may_begin s u c ≡ b → is_alive ((if b then begun s u c (whole_started s.layout u (s.threads u).held c) else nothing s).state.threads t).stage ≡ false
-        go true e = begun_dead (apart_from u Idle (at_rest (s.threads u).stage (grind (arith, nat_tests))) refl) (whole_started s.layout u (s.threads u).held c)
-        go false e = dead
-    event_dead (Step u) = go (machine.is_thread s u)
-      where
-        walked_dead : (w : walks.Standing) (r : Row) → is_alive (stage_walked w r) ≡ false
-        walked_dead w LoadFirst = refl
-        walked_dead w (LoadOffset f) = refl
-        walked_dead w (LoadPending f o) = refl
-        walked_dead w (LoadNext r) = refl
-        walked_dead w (LoadWord at rest) = refl
-        walked_dead w (Mark at v again rest) = refl
-        walked_dead w (WakeOne at rest) = refl
-        walked_dead w Ended = refl
-
-        stepped_dead : (g : Stage) → (s.threads u).stage ≡ g → is_alive ((stepped s u (s.threads u).held g).state.threads t).stage ≡ false
-        stepped_dead Idle is = dead
-        stepped_dead Reaped is = dead
-        stepped_dead (Calling c p) is = pick (sleeps s u (Calling c p))
+        stepped_dead : (u : ℕ) (g : Stage) → (s.threads u).stage ≡ g → is_alive ((stepped s u (s.threads u).held g).state.threads t).stage ≡ false
+        stepped_dead u Idle is = dead
+        stepped_dead u Reaped is = dead
+        stepped_dead u (Calling c p) is = pick (sleeps s u (Calling c p))
           where
             pick : (b : Bool) → is_alive ((if b then nothing s else went s u (s.threads u).held c p (whole_led p (answer_of s (whole_access p)))).state.threads t).stage ≡ false
             pick true = dead
             pick false = ap (λ (z : Thread). is_alive z.stage) (put-other s.threads u _ t (λ e. apart_from u (Calling c p) is refl (sym e))) ∙ dead
-        stepped_dead (Dying w) is = by_put (λ (z : Thread). is_alive z.stage ≡ false) s.threads u _ t (λ e. walked_dead w _) (λ apart. dead)
-
-        go : (b : Bool) → is_alive ((if b then stepped s u (s.threads u).held (s.threads u).stage else nothing s).state.threads t).stage ≡ false
-        go true = stepped_dead (s.threads u).stage refl
-        go false = dead
-    event_dead (Kill u) = go (machine.is_thread s u && is_alive (s.threads u).stage)
-      where
-        go : (b : Bool) → is_alive ((if b then killed s u else nothing s).state.threads t).stage ≡ false
-        go true = by_put (λ (z : Thread). is_alive z.stage ≡ false) s.threads u _ t (λ e. refl) (λ apart. dead)
-        go false = dead
+        stepped_dead u (Dying w) is = by_put (λ (z : Thread). is_alive z.stage ≡ false) s.threads u _ t (λ e. by_walked (λ (g : Stage). is_alive g ≡ false) w _ (λ ended. refl) (λ going. refl)) (λ apart. dead)
 
   -- ---- whole runs
 

@@ -44,7 +44,7 @@ use Rattle.keys.proofs.Objects.{others_keep}
 use Rattle.protocol.proofs.Puts.{by_put}
 use Rattle.protocol.proofs.Objects.{one, IsCalled, mine, others, owners}
 use Rattle.protocol.proofs.Counts.{held_by-changed, held_by-owns}
-use Rattle.protocol.proofs.Kept.{InPhase, Sits, Owned, ChainedIn, Chained, left_out, Walks, Left, LeftOf, LeftIn, LeftFrom, Treats, Mourns, Listed, PendsAs, HasHead, Kept}
+use Rattle.protocol.proofs.Kept.{InPhase, Fits, Sits, Owned, ChainedIn, Chained, left_out, Walks, Left, LeftOf, LeftIn, LeftFrom, Treats, Mourns, Listed, PendsAs, HasHead, Kept}
 use Rattle.protocol.proofs.Places.{IsMine, list_is_mine, both_same, behind}
 use Rattle.protocol.proofs.Steps.{Tells, unmoved, seen-inside, done}
 
@@ -139,19 +139,22 @@ module _ (s : State) (t m : ℕ) (a : Access) (th : Thread) (op : Operation) (po
       go false e = sym (ap (λ (z : Object). z.owner) (far k (eqb-false k m e))) ∙ own
 
   -- ---- the calls of others, and their lists
-  theirs : (u : ℕ) → t ≢ u → (held : ℕ) (g : Stage) → Sits s u held g → Sits s' u held g
-  theirs u apart held Idle f = tt
-  theirs u apart held (Dying w) f = f
-  theirs u apart held Reaped f = tt
-  theirs u apart held (Calling d q) f = record {
+  fits_theirs : (u : ℕ) → t ≢ u → (held k : ℕ) (q : Whole) → Fits s u held k q → Fits s' u held k q
+  fits_theirs u apart held k q f = record {
     mine = f.mine;
-    of = f.of;
+    called = f.called;
     inside = f.inside;
     head = f.head;
     entry = f.entry;
     cell = f.cell;
-    stands = in_phase_carries u held q q.phase (seen s (mutex_of d)) (seen s' (mutex_of d)) (keeps_theirs u (mutex_of d) apart) f.stands;
+    stands = in_phase_carries u held q q.phase (seen s k) (seen s' k) (keeps_theirs u k apart) f.stands;
   }
+
+  theirs : (u : ℕ) → t ≢ u → (held : ℕ) (g : Stage) → Sits s u held g → Sits s' u held g
+  theirs u apart held Idle f = tt
+  theirs u apart held (Dying w) f = f
+  theirs u apart held Reaped f = tt
+  theirs u apart held (Calling d q) (f, serves) = (fits_theirs u apart held (mutex_of d) q f, serves)
 
   their_entries : (u : ℕ) (out : Option ℕ) (es : List ℕ) → t ≢ u → Owned s u out es → Owned s' u out es
   their_entries u out es apart owned = record {
@@ -174,7 +177,7 @@ module _ (s : State) (t m : ℕ) (a : Access) (th : Thread) (op : Operation) (po
     their_chain held Idle f ch = both_same s.words s'.words (head_place u) es agree ch
     their_chain held (Dying w) f ch = both_same s.words s'.words (head_place u) es agree ch
     their_chain held Reaped f ch = both_same s.words s'.words (head_place u) es agree ch
-    their_chain held (Calling d q) f ch = by_phase q.phase f.stands ch
+    their_chain held (Calling d q) (f, serves) ch = by_phase q.phase f.stands ch
       where
         by_phase : (h : Phase) → InPhase u held q h (seen s (mutex_of d)) → ChainedIn s.words (head_place u) q.entry es h → ChainedIn s'.words (head_place u) q.entry es h
         by_phase (Announcing r) a ch = both_same s.words s'.words (head_place u) es agree ch

@@ -34,6 +34,7 @@ use Rattle.protocol.specs.declared.thread.Stage.{Stage}
 use Rattle.protocol.specs.declared.thread.Stage.TheVariants.{Idle, Calling, Dying, Reaped}
 use Rattle.protocol.specs.Machine.{State}
 use Rattle.protocol.specs.Headline.{seen}
+use Rattle.protocol.proofs.Objects.{IsCalled}
 
 -- ---- calls in progress
 
@@ -61,15 +62,19 @@ InPhase t held p (Unlinking u d) o = (u.head ≡ p.head) × (u.entry ≡ p.entry
 InPhase t held p (Clearing x) o = Unit {0}
 InPhase t held p (Ended x) o = ⊥
 
--- it is on its thread's list and its mutex's words
-pub record Fits (s : State) (t held : ℕ) (c : Call) (p : Whole) : Type 0 where
+-- its program is on its thread's list and mutex m's words
+pub record Fits (s : State) (t held m : ℕ) (p : Whole) : Type 0 where
   pub mine : p.thread ≡ t
-  pub of : p.operation ≡ operation_of c
-  pub inside : mutex_of c < s.layout.mutexes
+  pub called : IsCalled p.operation
+  pub inside : m < s.layout.mutexes
   pub head : p.head ≡ head_place t
-  pub entry : p.entry ≡ entry_place s.layout (mutex_of c)
-  pub cell : p.cell ≡ cell_place s.layout (mutex_of c)
-  pub stands : InPhase t held p p.phase (seen s (mutex_of c))
+  pub entry : p.entry ≡ entry_place s.layout m
+  pub cell : p.cell ≡ cell_place s.layout m
+  pub stands : InPhase t held p p.phase (seen s m)
+
+-- it does what the call is to do
+abbrev pub Serves : Call → Whole → Type 0
+Serves c p = p.operation ≡ operation_of c
 
 -- a walk over thread t's list
 pub record Walks (t : ℕ) (w : walks.Standing) : Type 0 where
@@ -80,7 +85,7 @@ pub record Walks (t : ℕ) (w : walks.Standing) : Type 0 where
 
 abbrev pub Sits : State → ℕ → ℕ → Stage → Type 0
 Sits s t held Idle = Unit {0}
-Sits s t held (Calling c p) = Fits s t held c p
+Sits s t held (Calling c p) = Fits s t held (mutex_of c) p × Serves c p
 Sits s t held (Dying w) = Walks t w
 Sits s t held Reaped = Unit {0}
 

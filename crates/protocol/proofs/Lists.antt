@@ -180,12 +180,12 @@ module _ (s : State) (t : ℕ) (inv : Kept s) (first : 1 ≤ t) (most : t ≤ s.
       go (Calling c p) is alive listed =
           let there : Listed s t (Calling c p) = subst (Listed s t) is listed in
           let fits = fits_in s t c p inv first most is in
-          in_call c p p.phase fits.stands fits.entry (subst (PendsAs (s.words (head_place t + 2))) is (inv.heads t first most).pending) there.0 there.1 there.2
+          in_call c p p.phase fits.0.stands fits.0.entry (subst (PendsAs (s.words (head_place t + 2))) is (inv.heads t first most).pending) there.0 there.1 there.2
       go (Dying w) is alive listed = absurd cc
       go Reaped is alive listed = absurd cc
 
   -- its pending entry is none, or a mutex's
-  pends_none_or : (c : Call) (p : Whole) (f : Phase) → Fits s t (s.threads t).held c p → (pending_in p.entry f ≡ 0) ⊎ ((k : ℕ) × (k < s.layout.mutexes) × (pending_in p.entry f ≡ entry_place s.layout k))
+  pends_none_or : (c : Call) (p : Whole) (f : Phase) → Fits s t (s.threads t).held (mutex_of c) p → (pending_in p.entry f ≡ 0) ⊎ ((k : ℕ) × (k < s.layout.mutexes) × (pending_in p.entry f ≡ entry_place s.layout k))
   pends_none_or c p (Announcing r) fits = inl refl
   pends_none_or c p (AtCell (row.Lock r)) fits = inr (mutex_of c, fits.inside, fits.entry)
   pends_none_or c p (AtCell (row.TryLock r)) fits = inr (mutex_of c, fits.inside, fits.entry)
@@ -206,7 +206,7 @@ module _ (s : State) (t : ℕ) (inv : Kept s) (first : 1 ≤ t) (most : t ≤ s.
       go Idle is alive pends = inl (subst (PendsAs (s.words (head_place t + 2))) is pends)
       go (Calling c p) is alive pends =
           let word : s.words (head_place t + 2) ≡ pending_in p.entry p.phase = subst (PendsAs (s.words (head_place t + 2))) is pends in
-          ⊎_elim (λ none. inl (word ∙ none)) (λ some. inr (some.0, some.1, word ∙ some.2)) (pends_none_or c p p.phase (fits_in s t c p inv first most is))
+          ⊎_elim (λ none. inl (word ∙ none)) (λ some. inr (some.0, some.1, word ∙ some.2)) (pends_none_or c p p.phase (fits_in s t c p inv first most is).0)
       go (Dying w) is alive pends = absurd cc
       go Reaped is alive pends = absurd cc
 

@@ -1,21 +1,17 @@
 -- What each event adds to its thread's life, and to the order of lines.
 use Rattle.std.proofs.Common.{◌≡◌, ◌≢◌, ℕ, ◌+◌, ◌≤◌, ◌==◌, Bool, true, false, ◌&&◌, Option, Some, None, Ok, Err, List, [], ◌∷◌, ◌++◌, map, refl, sym, ap, ◌∙◌, subst, arith, eqb-true}
-use Rattle.std.specs.Prelude.{if◌then◌else◌, nat_le, MatchBool}
+use Rattle.std.specs.Prelude.{if◌then◌else◌, MatchBool}
 use Rattle.std.proofs.lemmas.Bool.{eqb-false}
-use Rattle.std.proofs.lemmas.Bool.Decides.{nat_tests}
 use Rattle.lockword.specs.declared.reply.Reply.{Reply}
 use Rattle.lockword.specs.declared.reply.Reply.TheVariants.{XHELD}
-use Rattle.keys.specs.Objects.{acquires}
 use Rattle.mutex.specs.declared.call.Call.{Call}
 use Rattle.mutex.specs.declared.call.Call.TheVariants as call
 use Rattle.mutex.specs.declared.phase.Phase.{Phase}
 use Rattle.mutex.specs.declared.phase.Phase.TheVariants.{Announcing, AtCell, Linking, Unlinking, Clearing, Ended}
-use Rattle.mutex.specs.Calls.{operation_of}
 use Rattle.mutex.specs.Standings.{Whole}
-use Rattle.mutex.specs.Whole.{begins, first_phase, whole_started, whole_access, whole_led}
+use Rattle.mutex.specs.Whole.{begins, first_phase, whole_access, whole_led}
 use Rattle.mutex.specs.Laws.{Joins}
 use Rattle.protocol.specs.declared.event.Event.{Event}
-use Rattle.protocol.specs.declared.event.Event.TheVariants as event
 use Rattle.protocol.specs.declared.thread.Thread.{Thread}
 use Rattle.protocol.specs.declared.thread.Stage.{Stage}
 use Rattle.protocol.specs.declared.thread.Stage.TheVariants.{Idle, Calling, Dying, Reaped}
@@ -25,15 +21,16 @@ use Rattle.protocol.specs.declared.note.Note.{Note}
 use Rattle.protocol.specs.declared.note.Note.TheVariants.{Nothing, Began, Stepped, Killed, Walked}
 use Rattle.protocol.specs.declared.note.Line.{Line}
 use Rattle.protocol.specs.Notes.{line_of, facts_of, point_facts, sleep_facts, return_facts, death_facts, reap_facts, lines_from}
-use Rattle.protocol.specs.Machine.{State, After, start, nothing, is_thread, is_alive, has_ended, stage_walked, killed, walked, may_begin, begun, stage_after, returned, decision, answer_of, went, sleeps, stepped, happens, notes}
+use Rattle.protocol.specs.Machine.{State, After, start, nothing, is_alive, has_ended, stage_walked, killed, walked, begun, stage_after, returned, decision, answer_of, went, sleeps, stepped, happens, notes}
 use Rattle.protocol.specs.Explained.{thread_of, is_of_call, is_wake, point_by, own, Mourned, Unburied, Tells_of, Buried, Lives, Dies, Life, Rests, Returns, Stays, Decides, is_point, Later, Each, Orderly, caller, caller_of, IsExplained, TraceIsExplained}
 use Rattle.protocol.proofs.Puts.{put-same, put-other}
 use Rattle.protocol.proofs.Phases.{decided_at}
 use Rattle.protocol.proofs.Kept.{Kept}
-use Rattle.protocol.proofs.Steps.{after, went-is, onto}
-use Rattle.protocol.proofs.Stepping.{Stepping}
+use Rattle.protocol.proofs.Steps.{after, went-is, onto, call_step}
+use Rattle.protocol.proofs.CallSteps.{CallStep}
+use Rattle.protocol.proofs.Events.{by_event}
 use Rattle.protocol.proofs.Accesses as accesses
-use Rattle.protocol.proofs.Runs.{sound, start_kept, at_rest, second_true}
+use Rattle.protocol.proofs.Runs.{sound, start_kept}
 use Rattle.exitwalk.specs.declared.row.Row as walk_row
 use Rattle.exitwalk.specs.declared.row.Row.TheVariants as walk
 use Rattle.exitwalk.specs.Standings as walks
@@ -293,11 +290,11 @@ module _ (s : State) (u : ℕ) (c : Call) (idle : (s.threads u).stage ≡ Idle) 
 -- a call makes its access
 goes : (s : State) (u : ℕ) → Kept s → 1 ≤ u → u ≤ s.layout.threads → (c : Call) (p : Whole) → (s.threads u).stage ≡ Calling c p → Adds s u (went s u (s.threads u).held c p (whole_led p (answer_of s (whole_access p))))
 goes s u inv pos known c p is =
-    let g : Stepping s u c p = accesses.goes s u c p inv pos known is in
-    let f : Phase = (onto s u c p).phase in
-    let x : Option Reply = (onto s u c p).point in
-    let stage : ((after s u c p).threads u).stage ≡ stage_after c p f = ap (λ (z : Thread). z.stage) (put-same s.threads u _) in
-    subst (Adds s u) (sym (went-is s u c p g.valid)) record {
+    let g : CallStep s u c p = accesses.goes s u c p inv pos known is in
+    let f : Phase = (onto s p).phase in
+    let x : Option Reply = (onto s p).point in
+    let stage : ((after s u (call_step s c p)).threads u).stage ≡ stage_after c p f = ap (λ (z : Thread). z.stage) (put-same s.threads u _) in
+    subst (Adds s u) (sym (went-is s u c p (accesses.fits_in s u c p inv pos known is).1 g.valid)) record {
       fine = access_fine u c x _ _ (returned f);
       says = says_of u c x (returned f);
       mine = λ i ls later.
@@ -333,13 +330,7 @@ mourned_on u i w d r ls later = go d (has_ended r) (at_end r later)
   where
     at_end : (r : walk_row.Row) → Goes u (stage_walked w r) (own u ls) → MatchBool (has_ended r) (own u ls ≡ []) (Mourned u (own u ls))
     at_end walk.Ended e = e
-    at_end walk.LoadFirst m = m
-    at_end (walk.LoadOffset f) m = m
-    at_end (walk.LoadPending f o) m = m
-    at_end (walk.LoadNext x) m = m
-    at_end (walk.LoadWord x y) m = m
-    at_end (walk.Mark x y z a) m = m
-    at_end (walk.WakeOne x y) m = m
+    at_end r m = m
 
     go : (d : Option ℕ) (b : Bool) → MatchBool b (own u ls ≡ []) (Mourned u (own u ls)) → Mourned u (own u (map (line_of i) (death_facts u d ++ reap_facts u b) ++ ls))
     go None false m = m
@@ -370,24 +361,13 @@ goes_on s u inv pos known (Calling c p) is = go (sleeps s u (Calling c p))
 
 -- each event
 adds : (s : State) (e : Event) → Kept s → Adds s (caller e) (happens s e)
-adds s (event.Begin u c) inv = go (may_begin s u c) refl
-  where
-    go : (b : Bool) → may_begin s u c ≡ b → Adds s u (if b then begun s u c (whole_started s.layout u (s.threads u).held c) else nothing s)
-    go true e = begins_call s u c (at_rest (s.threads u).stage (grind (arith, nat_tests))) (acquires (operation_of c) && nat_le 2048 (s.threads u).held)
-    go false e = idles s u
-adds s (event.Step u) inv = go (is_thread s u) refl
-  where
-    go : (b : Bool) → is_thread s u ≡ b → Adds s u (if b then stepped s u (s.threads u).held (s.threads u).stage else nothing s)
-    go true e =
-        let pos : 1 ≤ u = grind (arith, nat_tests) in
-        let known : u ≤ s.layout.threads = grind (arith, nat_tests) in
-        goes_on s u inv pos known (s.threads u).stage refl
-    go false e = idles s u
-adds s (event.Kill u) inv = go (is_thread s u && is_alive (s.threads u).stage) refl
-  where
-    go : (b : Bool) → (is_thread s u && is_alive (s.threads u).stage) ≡ b → Adds s u (if b then killed s u else nothing s)
-    go true e = dies_so s u (second_true (is_thread s u) (is_alive (s.threads u).stage) e)
-    go false e = idles s u
+adds s e inv =
+    by_event s (λ (x : Event) (a : After). Adds s (caller x) a)
+    (λ x. idles s (caller x))
+    (λ u c pos known inside idle b full. begins_call s u c idle b)
+    (λ u pos known. goes_on s u inv pos known (s.threads u).stage refl)
+    (λ u pos known alive. dies_so s u alive)
+    e
 
 -- ---- whole runs
 

@@ -1,178 +1,59 @@
 -- Threads that run alone.
-use Rattle.std.proofs.Common.{◌≡◌, ◌⊎◌, ⊎_elim, inl, inr, ℕ, zero, suc, ◌%◌, ◌^◌, ◌<◌, ◌≤◌, ◌==◌, Bool, true, false, ◌&&◌, Option, Some, None, List, [], ◌∷◌, drop, refl, sym, ap, ◌∙◌, subst, arith}
-use Rattle.std.specs.Prelude.{if◌then◌else◌}
+use Rattle.std.proofs.Common.{◌≡◌, ◌⊎◌, ⊎_elim, inl, inr, ℕ, zero, suc, ◌<◌, ◌≤◌, ◌==◌, Bool, true, false, ◌&&◌, Option, Some, None, refl, sym, ap, ◌∙◌, subst, arith, eqb-true}
+use Rattle.std.proofs.lemmas.Bool.{eqb-false}
 use Rattle.std.proofs.lemmas.Bool.Decides.{nat_tests}
-use Rattle.lockword.specs.Cells.{fields_of, word_of, low_of}
 use Rattle.lockword.specs.declared.reply.Reply.{Reply}
 use Rattle.keys.specs.declared.object.Object.{Object}
 use Rattle.keys.specs.Layouts.{cell_place}
 use Rattle.keys.specs.Accesses.{sleeps_at}
-use Rattle.mutex.specs.declared.call.Call.{Call}
-use Rattle.mutex.specs.declared.lock.LockRow.TheVariants as lock
-use Rattle.mutex.specs.declared.try_lock.TryLockRow.TheVariants as try
-use Rattle.mutex.specs.declared.unlock.UnlockRow.TheVariants as unlock
-use Rattle.mutex.specs.declared.consistent.ConsistentRow.TheVariants as consistent
-use Rattle.mutex.specs.declared.row.Row.{Row}
-use Rattle.mutex.specs.declared.row.Row.TheVariants.{Lock, TryLock, Unlock, Consistent, Ended}
-use Rattle.mutex.specs.declared.phase.Phase.{Phase}
-use Rattle.mutex.specs.declared.phase.Phase.TheVariants as phase
-use Rattle.mutex.specs.declared.phase.Onward.{Onward}
-use Rattle.mutex.specs.Alone.{left}
-use Rattle.mutex.specs.Calls.{mutex_of, operation_of}
-use Rattle.mutex.specs.Standings.{Whole}
-use Rattle.mutex.specs.Whole.{whole_access, whole_led}
 use Rattle.protocol.specs.declared.event.Event.TheVariants.{Step}
 use Rattle.protocol.specs.declared.thread.Stage.{Stage}
-use Rattle.protocol.specs.declared.thread.Stage.TheVariants.{Idle, Calling}
-use Rattle.protocol.specs.Machine.{State, After, answer_of, stands_in, sleepers, sleeps, is_thread, is_calling, is_walked, is_busy, is_dying, is_asleep, nothing, went, stepped, stage_after, happens}
+use Rattle.protocol.specs.declared.thread.Stage.TheVariants.{Idle, Calling, Dying, Reaped}
+use Rattle.protocol.specs.Machine.{State, stands_in, sleepers, sleeps, is_thread, is_calling, is_walked, is_busy, is_dying, is_asleep, happens}
 use Rattle.protocol.specs.Headline.{seen}
-use Rattle.protocol.specs.Sleepers.{Sleeps, IsUnowned, IsAwake, alone, Owes, IsAtRest}
+use Rattle.protocol.specs.Applies.{IsInNoQueue}
+use Rattle.protocol.specs.Sleepers.{Sleeps, IsUnowned, alone, Owes, SomebodyOwes, IsAtRest, EndsAlone}
 use Rattle.protocol.proofs.Objects.{owners}
-use Rattle.protocol.proofs.Phases.{answers_at, left_at, Change, Stays, Joins_it, Wakes, few_of_link, few_of_unlink}
-use Rattle.protocol.proofs.Kept.{Fits, InPhase, Kept}
-use Rattle.protocol.proofs.Steps.{Tells, after, went-is, onto, seen-inside}
-use Rattle.protocol.proofs.Stepping.{Stepping}
-use Rattle.protocol.proofs.Accesses.{goes, fits_in}
-use Rattle.protocol.proofs.Queues.{Once, not_true, stands_last, stands_rest, first_stands, first_gone, Answers, Queued, in_none, mine, bits_here, free_field, free_after, this_answers, went_queued}
+use Rattle.protocol.proofs.Kept.{Kept}
+use Rattle.protocol.proofs.Steps.{Tells, Transition, after, met}
+use Rattle.protocol.proofs.Stepping.{AnswersAs, left_of, Continues, Settles, Wakes_there, Answers_now, Found_free}
+use Rattle.protocol.proofs.Events.{is_known}
+use Rattle.protocol.proofs.Working.{IsWorking, Goes, awake_goes}
+use Rattle.protocol.proofs.Queues.{Turned, As_before, Falls, Woken}
+use Rattle.protocol.proofs.Queued.{Answering, Queued, mine, turn, stood, now_asleep, this_answers, woken_one, went_queued}
 
-pub and_false : (b : Bool) → (b && false) ≡ false
-and_false true = refl
-and_false false = refl
+-- a thread in a call, or dead, or neither
+working_or : (g : Stage) → IsWorking g ⊎ ((is_calling g ≡ false) × (is_walked g ≡ false))
+working_or (Calling c p) = inl tt
+working_or (Dying w) = inl tt
+working_or Idle = inr (refl, refl)
+working_or Reaped = inr (refl, refl)
 
--- a thread that is known
-pub is_known : (s : State) (t : ℕ) → 1 ≤ t → t ≤ s.layout.threads → is_thread s t ≡ true
-is_known s t pos known = grind (arith, nat_tests)
+and_false : (a b : Bool) → b ≡ false → (a && b) ≡ false
+and_false true b e = e
+and_false false b e = refl
 
--- what a step of a thread is that is awake in a call
-pub step_is : (s : State) (t : ℕ) (c : Call) (p : Whole) → 1 ≤ t → t ≤ s.layout.threads → (s.threads t).stage ≡ Calling c p → stands_in t (sleepers s (mutex_of c)) ≡ false → happens s (Step t) ≡ went s t (s.threads t).held c p (whole_led p (answer_of s (whole_access p)))
-step_is s t c p pos known is out =
-    ap (λ (b : Bool). if b then stepped s t (s.threads t).held (s.threads t).stage else nothing s) (is_known s t pos known)
-    ∙ ap (stepped s t (s.threads t).held) is
-    ∙ ap (λ (b : Bool). if b then nothing s else went s t (s.threads t).held c p (whole_led p (answer_of s (whole_access p)))) out
-
--- few accesses are left, wherever a call stands
-pub few_left : (r : Row) (w : ℕ) → left r w ≤ 6
-few_left (Lock lock.Load) w = omega arith
-few_left (Lock (lock.Take v)) w = go (w == word_of v)
+-- whoever stands in no queue is awake
+pub out_awake : (s : State) (t : ℕ) → IsInNoQueue s t → is_asleep s t ≡ false
+out_awake s t out = go (s.threads t).stage
   where
-    go : (b : Bool) → (if b then 1 else 3) ≤ 6
-    go true = omega arith
-    go false = omega arith
-few_left (Lock (lock.SetWaiters v)) w = go (w == word_of v)
-  where
-    go : (b : Bool) → (if b then 2 else 3) ≤ 6
-    go true = omega arith
-    go false = omega arith
-few_left (Lock (lock.Sleep v)) w = go (w % 2 ^ 32 == low_of v)
-  where
-    go : (b : Bool) → (if b then 1 else 4) ≤ 6
-    go true = omega arith
-    go false = omega arith
-few_left (Lock lock.WakeAll) w = omega arith
-few_left (TryLock try.Load) w = omega arith
-few_left (TryLock (try.Take v k)) w = omega arith
-few_left (Unlock unlock.Load) w = omega arith
-few_left (Unlock (unlock.Release d)) w = omega arith
-few_left (Unlock (unlock.Wake a)) w = omega arith
-few_left (Consistent consistent.Load) w = omega arith
-few_left (Consistent consistent.Declare) w = omega arith
-few_left (Ended x) w = omega arith
+    go : (g : Stage) → sleeps s t g ≡ false
+    go (Calling c p) = out _
+    go (Dying w) = refl
+    go Idle = refl
+    go Reaped = refl
 
-pub few_at : (f : Phase) (w : ℕ) → left_at f w ≤ 62
-few_at (phase.Announcing r) w = let few = few_left r w in omega arith
-few_at (phase.AtCell r) w = let few = few_left r w in omega arith
-few_at (phase.Linking l x) w = let few = few_of_link l.row in omega arith
-few_at (phase.Unlinking u d) w = let few = few_of_unlink u.row in omega arith
-few_at (phase.Clearing x) w = omega arith
-few_at (phase.Ended x) w = omega arith
-
--- something is left of a call that hasn't returned
-pub some_at : (t held : ℕ) (p : Whole) (f : Phase) (w : ℕ) (o : Object) → InPhase t held p f o → 0 < left_at f w
-some_at t held p (phase.Announcing r) w o stands = omega arith
-some_at t held p (phase.AtCell r) w o stands = omega arith
-some_at t held p (phase.Linking l x) w o stands = omega arith
-some_at t held p (phase.Unlinking u d) w o stands = omega arith
-some_at t held p (phase.Clearing x) w o stands = omega arith
-some_at t held p (phase.Ended x) w o stands = absurd stands
-
--- ---- the step of a thread that is awake in a call
-module _ (s : State) (t : ℕ) (c : Call) (p : Whole) (inv : Kept s) (queued : Queued s) (pos : 1 ≤ t) (known : t ≤ s.layout.threads) (is : (s.threads t).stage ≡ Calling c p) (out : stands_in t (sleepers s (mutex_of c)) ≡ false) where
-  pub fits : Fits s t (s.threads t).held c p
-  fits = fits_in s t c p inv pos known is
-
-  pub steps : Stepping s t c p
-  steps = goes s t c p inv pos known is
-
-  abbrev pub m : ℕ
-  m = mutex_of c
-
-  abbrev pub s' : State
-  s' = after s t c p
-
-  abbrev pub word : ℕ
-  word = s.words (cell_place s.layout m)
-
-  abbrev pub word' : ℕ
-  word' = s'.words (cell_place s.layout m)
-
-  abbrev pub queue : List ℕ
-  queue = s.queues (cell_place s.layout m)
-
-  abbrev pub next : Onward
-  next = onto s t c p
-
-  pub steps_to : (happens s (Step t)).state ≡ s'
-  steps_to = ap (λ (z : After). z.state) (step_is s t c p pos known is out ∙ went-is s t c p steps.valid)
-
-  pub queued' : Queued s'
-  queued' = went_queued s t c p steps pos known fits.inside is queued out
-
-  pub stage' : (s'.threads t).stage ≡ stage_after c p next.phase
-  stage' = mine s t c p steps pos known fits.inside is queued out
-
-  -- an owner that the step gives is this thread
-  pub owner_is : IsUnowned s m → (o : Option ℕ) → (seen s' m).owner ≡ o → (o ≡ None) ⊎ (o ≡ Some t)
-  owner_is none None own = inl refl
-  owner_is none (Some u) own = inr (ap Some (who next.point steps.tells))
-    where
-      who : (x : Option Reply) → Tells t (seen s m) (operation_of c) x (seen s' m) → u ≡ t
-      who None same = absurd (cc (sym none ∙ (sym (ap (λ (z : Object). z.owner) same) ∙ own)))
-      who (Some x) permits = ⊎_elim (λ before. absurd (cc (sym none ∙ before))) (λ this. this) (owners (seen s m) (seen s' m) t u (operation_of c) x steps.called permits own)
-
-  -- whoever answers for a free mutex takes it now, or wakes one, or goes on to do so with fewer steps left
-  abbrev pub Settles : Type 0
-  Settles = ((seen s' m).owner ≡ Some t) ⊎ ((u : ℕ) × Sleeps s u m × (stands_in u (sleepers s' m) ≡ false))
-
-  abbrev pub Continues : Type 0
-  Continues = Answers s' m t c (record p { phase = next.phase }) × IsUnowned s' m × (sleepers s' m ≡ queue) × (left_at next.phase word' < left_at p.phase word)
-
-  free_now : IsUnowned s m → (fields_of word).owner ≡ 0
-  free_now none = free_field word (sym (ap (λ (o : Object). o.owner) (seen-inside s m fits.inside)) ∙ none)
-
-  pub one_step : (u : ℕ) → answers_at p.phase ≡ true → IsUnowned s m → Sleeps s u m → Change t (whole_access p) word word' queue (sleepers s' m) → Settles ⊎ Continues
-  one_step u on none stands (Joins_it e f g) = absurd (let owned = (steps.moves.sleeps e).0 in let free = free_now none in omega arith)
-  one_step u on none stands (Wakes k some e f g) = wakes queue refl
-    where
-      wakes : (z : List ℕ) → queue ≡ z → Settles ⊎ Continues
-      wakes [] eq = absurd (cc (sym (ap (stands_in u) eq) ∙ stands))
-      wakes (v ∷ vs) eq = inl (inr (v, ap (stands_in v) eq ∙ first_stands v vs, ap (stands_in v) (g ∙ ap (drop k) eq) ∙ first_gone v k vs (subst Once eq (queued.once (cell_place s.layout m))) some))
-  one_step u on none stands (Stays e f g) = ⊎_elim free (λ own. inl (inl own)) (owner_is none (seen s' m).owner refl)
-    where
-      free : IsUnowned s' m → Settles ⊎ Continues
-      free none' =
-          let waits : stands_in u (sleepers s' m) ≡ true = ap (stands_in u) g ∙ stands in
-          inr (
-            ⊎_elim (λ goes. this_answers s t c p steps pos known fits.inside is queued out goes g) (λ looks. absurd (cc (on, looks.0)))
-                (steps.moves.answers f (free_after s t c p steps pos known fits.inside is queued out none') (bits_here s t c p steps pos known fits.inside is queued out u waits)),
-            none',
-            g,
-            steps.moves.fewer e,
-          )
+-- whoever answers for a mutex is in a call, or dead
+answers_work : (s : State) (m t : ℕ) (g : Stage) → AnswersAs s.layout s.words m t g → IsWorking g
+answers_work s m t (Calling c p) a = tt
+answers_work s m t (Dying w) a = tt
+answers_work s m t Idle a = absurd a
+answers_work s m t Reaped a = absurd a
 
 -- ---- whoever answers for a free mutex takes it, or wakes one
 
 -- what holds k steps later holds one more step later
-pub later : (s s' : State) (t m n : ℕ) → (happens s (Step t)).state ≡ s' → ((u : ℕ) → Sleeps s' u m → Sleeps s u m) → Owes s' t m n → Owes s t m (suc n)
+later : (s s' : State) (t m n : ℕ) → (happens s (Step t)).state ≡ s' → ((u : ℕ) → Sleeps s' u m → Sleeps s u m) → Owes s' t m n → Owes s t m (suc n)
 later s s' t m n to stood owes = (
   suc owes.0,
   (let k = owes.1 in omega arith),
@@ -183,7 +64,7 @@ later s s' t m n to stood owes = (
 )
 
 -- one step is enough
-pub at_once : (s s' : State) (t m n : ℕ) → (happens s (Step t)).state ≡ s' → ((seen s' m).owner ≡ Some t) ⊎ ((u : ℕ) × Sleeps s u m × (stands_in u (sleepers s' m) ≡ false)) → Owes s t m (suc n)
+at_once : (s s' : State) (t m n : ℕ) → (happens s (Step t)).state ≡ s' → ((seen s' m).owner ≡ Some t) ⊎ ((u : ℕ) × Sleeps s u m × (stands_in u (sleepers s' m) ≡ false)) → Owes s t m (suc n)
 at_once s s' t m n to done = (
   1,
   omega arith,
@@ -193,125 +74,165 @@ at_once s s' t m n to done = (
       done,
 )
 
-pub owes : (n : ℕ) (s : State) (t u : ℕ) (c : Call) (p : Whole) → Kept s → Queued s → Answers s (mutex_of c) t c p → IsUnowned s (mutex_of c) → Sleeps s u (mutex_of c) → left_at p.phase (s.words (cell_place s.layout (mutex_of c))) ≤ n → Owes s t (mutex_of c) n
-owes zero s t u c p inv queued a none stands few =
-    let fit = fits_in s t c p inv a.first a.last a.stage in
-    absurd (let some = some_at t (s.threads t).held p p.phase (s.words (cell_place s.layout (mutex_of c))) (seen s (mutex_of c)) fit.stands in omega arith)
-owes (suc n) s t u c p inv queued a none stands few =
-    let to = steps_to s t c p inv queued a.first a.last a.stage a.awake in
-    let z = s' s t c p inv queued a.first a.last a.stage a.awake in
-    let f = (next s t c p inv queued a.first a.last a.stage a.awake).phase in
-    let g = steps s t c p inv queued a.first a.last a.stage a.awake in
+-- one step of thread t, which answers for mutex m, where thread u sleeps on that
+module _ (s : State) (t m u : ℕ) (inv : Kept s) (queued : Queued s) (a : Answering s m t) (inside : m < s.layout.mutexes) (none : IsUnowned s m) (stands : Sleeps s u m) where
+  awake : is_asleep s t ≡ false
+  awake = out_awake s t a.awake
+
+  pub goes : Goes s t
+  goes = awake_goes s t inv a.first a.last awake (answers_work s m t (s.threads t).stage a.answers)
+
+  abbrev v : Transition
+  v = goes.v
+
+  abbrev s' : State
+  s' = after s t v
+
+  -- an owner that the step gives is this thread
+  owner_is : ((seen s' m).owner ≡ None) ⊎ ((seen s' m).owner ≡ Some t)
+  owner_is = go (m == v.mutex) refl
+    where
+      given : (o : Option ℕ) → (seen s' v.mutex).owner ≡ o → (seen s v.mutex).owner ≡ None → (o ≡ None) ⊎ (o ≡ Some t)
+      given None own free = inl refl
+      given (Some x) own free = inr (ap Some (who v.point goes.step.tells))
+        where
+          who : (y : Option Reply) → Tells t (seen s v.mutex) v.operation y (seen s' v.mutex) → x ≡ t
+          who None same = absurd (cc (sym free ∙ (sym (ap (λ (z : Object). z.owner) same) ∙ own)))
+          who (Some y) permits = ⊎_elim (λ before. absurd (cc (sym free ∙ before))) (λ this. this) (owners (seen s v.mutex) (seen s' v.mutex) t x v.operation y goes.step.called permits own)
+
+      go : (b : Bool) → (m == v.mutex) ≡ b → ((seen s' m).owner ≡ None) ⊎ ((seen s' m).owner ≡ Some t)
+      go true e = let is = eqb-true m v.mutex e in subst (λ (k : ℕ). ((seen s' k).owner ≡ None) ⊎ ((seen s' k).owner ≡ Some t)) (sym is) (given (seen s' v.mutex).owner refl (subst (IsUnowned s) is none))
+      go false e = inl (ap (λ (z : Object). z.owner) (goes.step.far m (eqb-false m v.mutex e)) ∙ none)
+
+  abbrev Done : Type 0
+  Done = ((seen s' m).owner ≡ Some t) ⊎ ((x : ℕ) × Sleeps s x m × (stands_in x (sleepers s' m) ≡ false))
+
+  -- it takes the mutex now, or wakes one, or goes on to do so with fewer steps left
+  pub record GoesOn : Type 0 where
+    pub answers : Answering s' m t
+    pub free : IsUnowned s' m
+    pub slept : (x : ℕ) → Sleeps s' x m → Sleeps s x m
+    pub still : Sleeps s' u m
+    pub fewer : left_of s' (s'.threads t).stage < left_of s (s.threads t).stage
+
+  pub settles : Done ⊎ GoesOn
+  settles = ⊎_elim (λ free. go free (goes.step.settles m inside free (goes.step.waiters m inside (queued.bits m u inside stands)))) (λ own. inl (inl own)) owner_is
+    where
+      on : IsUnowned s' m → Continues s t v m → Done ⊎ GoesOn
+      on free c = pick (turn s t v goes.step a.first a.last goes.is queued awake u)
+        where
+          pick : Turned u t v.access (met s v) s.queues s'.queues → Done ⊎ GoesOn
+          pick (As_before quiet unwoken same) = inr record {
+            answers = this_answers s t v goes.step a.first a.last goes.is queued awake m c;
+            free = free;
+            slept = λ x there. ⊎_elim (λ old. old.1) (λ new. absurd (cc (c.0, new.1))) (stood s t v goes.step a.first a.last goes.is queued awake x (cell_place s.layout m) there);
+            still = same (cell_place s.layout m) ∙ stands;
+            fewer = subst (λ (z : Stage × Stage). left_of s' z.0 < left_of s z.1) (λ i. (sym (mine s t v goes.step a.first a.last goes.is queued awake) i, sym goes.is i)) (goes.step.fewer c.0);
+          }
+          pick (Falls me on nobody there elsewhere) = absurd (cc (c.0, on))
+          pick (Woken quiet woken before gone) = inl (inr (u, stands, gone (cell_place s.layout m)))
+
+      go : IsUnowned s' m → Settles s t v m → Done ⊎ GoesOn
+      go free (Wakes_there n some wakes) = let x = woken_one s t v goes.step a.first a.last goes.is queued awake m u n inside some wakes stands in inl (inr (x.0, x.1, x.2 (cell_place s.layout m)))
+      go free (Answers_now c) = on free c
+      go free (Found_free before more) = on free (more (subst (AnswersAs s.layout s.words m t) goes.is a.answers))
+
+owes : (n : ℕ) (s : State) (t m u : ℕ) → Kept s → Queued s → Answering s m t → m < s.layout.mutexes → IsUnowned s m → Sleeps s u m → left_of s (s.threads t).stage ≤ n → Owes s t m n
+owes zero s t m u inv queued a inside none stands few = let g = goes s t m u inv queued a inside none stands in absurd (let some = g.step.some in let left : left_of s (s.threads t).stage ≡ left_of s g.v.from = ap (left_of s) g.is in omega (arith, some, few, left))
+owes (suc n) s t m u inv queued a inside none stands few =
+    let g = goes s t m u inv queued a inside none stands in
     ⊎_elim
-    (λ done. at_once s z t (mutex_of c) n to done)
-    (λ on.
-    let same : sleepers z (mutex_of c) ≡ sleepers s (mutex_of c) = on.2 in
-    let fewer : left_at f (z.words (cell_place s.layout (mutex_of c))) < left_at p.phase (s.words (cell_place s.layout (mutex_of c))) = on.3 in
-    later s z t (mutex_of c) n to (λ v h. sym (ap (stands_in v) same) ∙ h)
-    (owes n z t u c (record p { phase = f }) g.kept (queued' s t c p inv queued a.first a.last a.stage a.awake) on.0 on.1 (ap (stands_in u) same ∙ stands) (omega arith)))
-    (one_step s t c p inv queued a.first a.last a.stage a.awake u a.answers none stands g.change)
+    (λ done. at_once s (after s t g.v) t m n g.to done)
+    (λ on. later s (after s t g.v) t m n g.to on.slept
+    (owes n (after s t g.v) t m u g.step.kept (went_queued s t g.v g.step a.first a.last g.is queued (awake s t m u inv queued a inside none stands)) on.answers inside on.free on.still (let less = on.fewer in omega (arith, less, few))))
+    (settles s t m u inv queued a inside none stands)
 
--- a thread in a call is busy
-busy : (s : State) (t : ℕ) (c : Call) (p : Whole) → 1 ≤ t → t ≤ s.layout.threads → (s.threads t).stage ≡ Calling c p → is_busy s t ≡ true
-busy s t c p pos known is = (λ i. is_known s t pos known i && is_calling (is i))
+-- a thread in a call is busy, and one that was killed is dying
+works_awake : (s : State) (t : ℕ) → 1 ≤ t → t ≤ s.layout.threads → (g : Stage) → (s.threads t).stage ≡ g → IsWorking g → (is_busy s t ≡ true) ⊎ (is_dying s t ≡ true)
+works_awake s t pos known (Calling c p) is working = inl (λ i. is_known s t pos known i && is_calling (is i))
+works_awake s t pos known (Dying w) is working = inr (λ i. is_known s t pos known i && is_walked (is i))
+works_awake s t pos known Idle is working = absurd working
+works_awake s t pos known Reaped is working = absurd working
 
--- whoever answers in a call owes
-pub call_owes : (s : State) (m u t : ℕ) (c : Call) (p : Whole) → Kept s → Queued s → Answers s m t c p → IsUnowned s m → Sleeps s u m → IsAwake s t × Owes s t m 9000
-call_owes s m u t c p inv queued a none stands =
-    let at = a.mutex in
-    let a' : Answers s (mutex_of c) t c p = subst (λ (k : ℕ). Answers s k t c p) (sym at) a in (
-      (inl (busy s t c p a.first a.last a.stage), in_none s t c p queued a.stage a'.awake),
-      subst (λ (k : ℕ). Owes s t k 9000) at
-          (owes 9000 s t u c p inv queued a' (subst (IsUnowned s) (sym at) none) (subst (Sleeps s u) (sym at) stands) (let few = few_at p.phase (s.words (cell_place s.layout (mutex_of c))) in omega arith)),
-    )
+pub somebody_owes : (s : State) → Kept s → Queued s → SomebodyOwes s
+somebody_owes s inv queued m u inside none stands =
+    let old = queued.answered m u inside none stands in
+    let a : Answering s m old.0 = old.1 in
+    let g = goes s old.0 m u inv queued a inside none stands in
+    let few : left_of s (s.threads old.0).stage ≤ 9000 = subst (λ (z : Stage). left_of s z ≤ 9000) (sym g.is) g.step.few in
+    (old.0, (works_awake s old.0 a.first a.last (s.threads old.0).stage refl (answers_work s m old.0 (s.threads old.0).stage a.answers), a.awake), owes 9000 s old.0 m u inv queued a inside none stands few)
 
--- ---- whoever is awake ends its call, or falls asleep
+-- ---- whoever is awake comes to rest
 
-abbrev pub Rests : State → ℕ → ℕ → Type 0
+abbrev Rests : State → ℕ → ℕ → Type 0
 Rests s t n = (k : ℕ) × (k ≤ n) × IsAtRest (alone s t k) t
 
-pub rests_later : (s s' : State) (t n : ℕ) → (happens s (Step t)).state ≡ s' → Rests s' t n → Rests s t (suc n)
+rests_later : (s s' : State) (t n : ℕ) → (happens s (Step t)).state ≡ s' → Rests s' t n → Rests s t (suc n)
 rests_later s s' t n to rests = (suc rests.0, (let k = rests.1 in omega arith), subst (λ (z : State). IsAtRest (alone z t rests.0) t) (sym to) rests.2)
 
-pub rests_now : (s : State) (t n : ℕ) → IsAtRest s t → Rests s t n
+rests_now : (s : State) (t n : ℕ) → IsAtRest s t → Rests s t n
 rests_now s t n h = (0, omega arith, h)
 
--- a phase, ended or not
-pub ended_or_not : (f : Phase) → ((x : Reply) × (f ≡ phase.Ended x)) ⊎ ((c : Call) (p : Whole) → stage_after c p f ≡ Calling c (record p { phase = f }))
-ended_or_not (phase.Announcing r) = inr (λ c p. refl)
-ended_or_not (phase.AtCell r) = inr (λ c p. refl)
-ended_or_not (phase.Linking l x) = inr (λ c p. refl)
-ended_or_not (phase.Unlinking u d) = inr (λ c p. refl)
-ended_or_not (phase.Clearing x) = inr (λ c p. refl)
-ended_or_not (phase.Ended x) = inl (x, refl)
+-- whoever isn't in a call, nor dead, is at rest
+idle_rests : (s : State) (t : ℕ) → (is_calling (s.threads t).stage ≡ false) × (is_walked (s.threads t).stage ≡ false) → IsAtRest s t
+idle_rests s t neither = inl (and_false (is_thread s t) (is_calling (s.threads t).stage) neither.0, and_false (is_thread s t) (is_walked (s.threads t).stage) neither.1)
 
--- a step on the mutex of c, by which its thread fell asleep
-module _ (s : State) (t : ℕ) (c : Call) (p : Whole) (inv : Kept s) (queued : Queued s) (pos : 1 ≤ t) (known : t ≤ s.layout.threads) (is : (s.threads t).stage ≡ Calling c p) (out : stands_in t (sleepers s (mutex_of c)) ≡ false) where
-  abbrev z : State
-  z = s' s t c p inv queued pos known is out
-
-  abbrev to : Phase
-  to = (next s t c p inv queued pos known is out).phase
-
-  abbrev change_here : Type 0
-  change_here = Change t (whole_access p) (s.words (cell_place s.layout (mutex_of c))) (z.words (cell_place s.layout (mutex_of c))) (s.queues (cell_place s.layout (mutex_of c))) (z.queues (cell_place s.layout (mutex_of c)))
-
-  pub now_asleep : sleeps_at (whole_access p) (s.words (cell_place s.layout (mutex_of c))) ≡ true → change_here → is_asleep z t ≡ true
-  now_asleep on (Stays e f g) = absurd (cc (on, e))
-  now_asleep on (Wakes k some e f g) = absurd (cc (on, e))
-  now_asleep on (Joins_it e f g) =
-      let stands : stands_in t (z.queues (cell_place s.layout (mutex_of c))) ≡ true = ap (stands_in t) g ∙ stands_last t (s.queues (cell_place s.layout (mutex_of c))) in
-      let slept = (queued' s t c p inv queued pos known is out).sleeps (cell_place s.layout (mutex_of c)) t stands in
-      ap (sleeps z t) slept.2.2 ∙ ap (λ (k : ℕ). stands_in t (z.queues k)) (sym slept.2.4) ∙ stands
-
-  pub still_awake : sleeps_at (whole_access p) (s.words (cell_place s.layout (mutex_of c))) ≡ false → change_here → stands_in t (sleepers z (mutex_of c)) ≡ false
-  still_awake no_sleep (Stays e f g) = ap (stands_in t) g ∙ out
-  still_awake no_sleep (Joins_it e f g) = absurd (cc (no_sleep, e))
-  still_awake no_sleep (Wakes k some e f g) = ap (stands_in t) g ∙ not_true (stands_in t (drop k (s.queues (cell_place s.layout (mutex_of c))))) (λ stands. cc (stands_rest t k (s.queues (cell_place s.layout (mutex_of c))) stands, out))
-
-  pub now_idle : (x : Reply) → to ≡ phase.Ended x → (z.threads t).stage ≡ Idle
-  now_idle x e = stage' s t c p inv queued pos known is out ∙ ap (stage_after c p) e
-
-  at_rest_then : (x : Reply) → to ≡ phase.Ended x → (is_busy z t ≡ false) × (is_dying z t ≡ false)
-  at_rest_then x e = (
-    ap (λ (g : Stage). is_thread z t && is_calling g) (now_idle x e) ∙ and_false (is_thread z t),
-    ap (λ (g : Stage). is_thread z t && is_walked g) (now_idle x e) ∙ and_false (is_thread z t),
-  )
-
-ends : (n : ℕ) (s : State) (t : ℕ) (c : Call) (p : Whole) → Kept s → Queued s → 1 ≤ t → t ≤ s.layout.threads → (s.threads t).stage ≡ Calling c p → left_at p.phase (s.words (cell_place s.layout (mutex_of c))) ≤ n → Rests s t n
-ends zero s t c p inv queued pos known is few =
-    let fit = fits_in s t c p inv pos known is in
-    absurd (let some = some_at t (s.threads t).held p p.phase (s.words (cell_place s.layout (mutex_of c))) (seen s (mutex_of c)) fit.stands in omega arith)
-ends (suc n) s t c p inv queued pos known is few = go (stands_in t (sleepers s (mutex_of c))) refl (λ z q i k g h e. ends n z t c q i k pos g h e)
+-- a thread rests, or sleeps, or goes on
+rests_or : (n : ℕ) (s : State) (t : ℕ) → (is_asleep s t ≡ false → IsWorking (s.threads t).stage → Rests s t n) → Rests s t n
+rests_or n s t on = ⊎_elim (λ working. pick (is_asleep s t) refl working) (λ neither. rests_now s t n (idle_rests s t neither)) (working_or (s.threads t).stage)
   where
-    w : ℕ
-    w = s.words (cell_place s.layout (mutex_of c))
+    pick : (b : Bool) → is_asleep s t ≡ b → IsWorking (s.threads t).stage → Rests s t n
+    pick true asleep working = rests_now s t n (inr asleep)
+    pick false awake working = on awake working
 
-    go : (b : Bool) → stands_in t (sleepers s (mutex_of c)) ≡ b
-        → ((z : State) (q : Whole) → Kept z → Queued z → t ≤ z.layout.threads → (z.threads t).stage ≡ Calling c q → left_at q.phase (z.words (cell_place z.layout (mutex_of c))) ≤ n → Rests z t n)
-        → Rests s t (suc n)
-    go true e further = rests_now s t (suc n) (inr (ap (sleeps s t) is ∙ e))
-    go false out further =
-        let to = steps_to s t c p inv queued pos known is out in
-        let after_it = s' s t c p inv queued pos known is out in
-        rests_later s after_it t n to (further_on (sleeps_at (whole_access p) w) refl out further)
+-- one step, and then those that are left
+one_more : (n : ℕ) (s : State) (t : ℕ) (queued : Queued s) (pos : 1 ≤ t) (known : t ≤ s.layout.threads) (awake : is_asleep s t ≡ false) (g : Goes s t) → left_of s (s.threads t).stage ≤ suc n
+    → (left_of (after s t g.v) ((after s t g.v).threads t).stage ≤ n → Rests (after s t g.v) t n) → Rests s t (suc n)
+one_more n s t queued pos known awake g few further = rests_later s (after s t g.v) t n g.to (go (sleeps_at g.v.access (met s g.v)) refl)
+  where
+    go : (b : Bool) → sleeps_at g.v.access (met s g.v) ≡ b → Rests (after s t g.v) t n
+    go true on = rests_now (after s t g.v) t n (inr (now_asleep s t g.v g.step pos known g.is queued awake on))
+    go false quiet =
+        further
+        (let less = g.step.fewer quiet in
+        let before : left_of s (s.threads t).stage ≡ left_of s g.v.from = ap (left_of s) g.is in
+        let left_then : left_of (after s t g.v) ((after s t g.v).threads t).stage ≡ left_of (after s t g.v) g.v.next = ap (left_of (after s t g.v)) (mine s t g.v g.step pos known g.is queued awake) in
+        omega (arith, less, few, before, left_then))
+
+ends : (n : ℕ) (s : State) (t : ℕ) → Kept s → Queued s → 1 ≤ t → t ≤ s.layout.threads → left_of s (s.threads t).stage ≤ n → Rests s t n
+ends zero s t inv queued pos known few =
+    rests_or zero s t (λ awake working.
+    let g = awake_goes s t inv pos known awake working in
+    absurd (let some = g.step.some in let before : left_of s (s.threads t).stage ≡ left_of s g.v.from = ap (left_of s) g.is in omega (arith, some, few, before)))
+ends (suc n) s t inv queued pos known few =
+    rests_or (suc n) s t (λ awake working.
+    let g = awake_goes s t inv pos known awake working in
+    one_more n s t queued pos known awake g few (λ less. ends n (after s t g.v) t g.step.kept (went_queued s t g.v g.step pos known g.is queued awake) pos known less))
+
+pub ends_alone : (s : State) → Kept s → Queued s → (t : ℕ) → EndsAlone s t
+ends_alone s inv queued t awake = ends 9000 s t inv queued pos last few
+  where
+    there : is_thread s t ≡ true
+    there = ⊎_elim (first_true (is_thread s t) (is_calling (s.threads t).stage)) (first_true (is_thread s t) (is_walked (s.threads t).stage)) awake.0
       where
-        further_on : (b : Bool) → sleeps_at (whole_access p) w ≡ b → (out : stands_in t (sleepers s (mutex_of c)) ≡ false)
-            → ((z : State) (q : Whole) → Kept z → Queued z → t ≤ z.layout.threads → (z.threads t).stage ≡ Calling c q → left_at q.phase (z.words (cell_place z.layout (mutex_of c))) ≤ n → Rests z t n)
-            → Rests (s' s t c p inv queued pos known is out) t n
-        further_on true e out further = rests_now _ t n (inr (now_asleep s t c p inv queued pos known is out e (steps s t c p inv queued pos known is out).change))
-        further_on false e out further =
-            ⊎_elim
-            (λ ended. rests_now _ t n (inl (at_rest_then s t c p inv queued pos known is out ended.0 ended.1)))
-            (λ on.
-            let f = (next s t c p inv queued pos known is out).phase in
-            let g = steps s t c p inv queued pos known is out in
-            let fewer : left_at f ((s' s t c p inv queued pos known is out).words (cell_place s.layout (mutex_of c))) < left_at p.phase w = g.moves.fewer e in
-            further (s' s t c p inv queued pos known is out) (record p { phase = f }) g.kept (queued' s t c p inv queued pos known is out) known
-            (stage' s t c p inv queued pos known is out ∙ on c p)
-            (omega arith))
-            (ended_or_not (next s t c p inv queued pos known is out).phase)
+        first_true : (a b : Bool) → (a && b) ≡ true → a ≡ true
+        first_true true b e = refl
+        first_true false b e = e
 
--- whoever is in a call comes to rest
-pub call_ends : (s : State) (t : ℕ) (c : Call) (p : Whole) → Kept s → Queued s → 1 ≤ t → t ≤ s.layout.threads → (s.threads t).stage ≡ Calling c p → Rests s t 9000
-call_ends s t c p inv queued pos known is = ends 9000 s t c p inv queued pos known is (let few = few_at p.phase (s.words (cell_place s.layout (mutex_of c))) in omega arith)
+    pos : 1 ≤ t
+    pos = let known = there in grind (arith, nat_tests)
+
+    last : t ≤ s.layout.threads
+    last = let known = there in grind (arith, nat_tests)
+
+    few : left_of s (s.threads t).stage ≤ 9000
+    few = go (s.threads t).stage refl
+      where
+        works : IsWorking (s.threads t).stage → left_of s (s.threads t).stage ≤ 9000
+        works working = let g = awake_goes s t inv pos last (out_awake s t awake.1) working in subst (λ (z : Stage). left_of s z ≤ 9000) (sym g.is) g.step.few
+
+        go : (g : Stage) → (s.threads t).stage ≡ g → left_of s (s.threads t).stage ≤ 9000
+        go (Calling c p) is = works (subst IsWorking (sym is) tt)
+        go (Dying w) is = works (subst IsWorking (sym is) tt)
+        go Idle is = subst (λ (z : Stage). left_of s z ≤ 9000) (sym is) (omega arith)
+        go Reaped is = subst (λ (z : Stage). left_of s z ≤ 9000) (sym is) (omega arith)

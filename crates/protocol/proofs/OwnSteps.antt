@@ -33,25 +33,24 @@ use Rattle.mutex.specs.declared.phase.Phase.{Phase}
 use Rattle.mutex.specs.declared.phase.Phase.TheVariants.{Announcing, Linking, Unlinking, Clearing}
 use Rattle.mutex.specs.declared.phase.Onward.{Onward}
 use Rattle.mutex.specs.Alone.{left}
-use Rattle.mutex.specs.Calls.{mutex_of, operation_of}
+use Rattle.mutex.specs.Calls.{mutex_of}
 use Rattle.mutex.specs.Laws.{Sound, decided, Joins}
 use Rattle.mutex.specs.Standings.{Whole}
 use Rattle.mutex.specs.Whole.{whole_access, phase_led, announced, linked_at, unlinked_at}
 use Rattle.protocol.specs.declared.thread.Stage.TheVariants.{Calling}
-use Rattle.protocol.specs.Machine.{State, put, is_valid, queue_after, held_after}
+use Rattle.protocol.specs.Machine.{State, put, is_valid, held_after}
 use Rattle.protocol.specs.Headline.{seen}
-use Rattle.protocol.proofs.Puts.{by_put, put-same, put-other}
-use Rattle.protocol.proofs.Objects.{IsCalled}
-use Rattle.protocol.proofs.Phases.{decided_at, left_at, SteadyAt, Moves, Change, Stays, IsPlain, IsOwn, plain_answer, plain_queue, plain_awake, own_pointless, own_silent, joins_same, link_plain, unlink_plain}
-use Rattle.protocol.proofs.Kept.{AtRow, Fits, left_out_in, Owned, ChainedIn, Listed, IsAnnounced, pending_in, PendsAs, Kept}
+use Rattle.protocol.proofs.Puts.{put-same, put-other}
+use Rattle.protocol.proofs.Phases.{decided_at, left_at, SteadyAt, Moves, IsPlain, IsOwn, plain_answer, plain_awake, own_pointless, own_silent, joins_same, link_plain, unlink_plain}
+use Rattle.protocol.proofs.Kept.{AtRow, Fits, Serves, left_out_in, Owned, ChainedIn, Listed, IsAnnounced, pending_in, PendsAs, Kept}
 use Rattle.protocol.proofs.Places.{IsMine, offset_is_nobodys, more_not_pending, mine_is_valid, mine_is_no_cell, mine_is_not_theirs, list_is_mine, list_not_pending, more_is_mine, both_same, among_without, without_is_apart, pending_is}
-use Rattle.protocol.proofs.Steps.{Tells, unmoved, onto, thread_after, after}
+use Rattle.protocol.proofs.Steps.{Tells, unmoved, onto, thread_after, after, met, call_step}
 use Rattle.protocol.proofs.Frames.{kept_where}
 use Rattle.protocol.proofs.Arrivals.{Arrives, sits_after, listed_after, pending_then}
-use Rattle.protocol.proofs.Stepping.{Stepping}
+use Rattle.protocol.proofs.CallSteps.{CallStep}
 
 -- an access of thread t's call to one of its own words
-module _ (s : State) (t : ℕ) (c : Call) (p : Whole) (inv : Kept s) (pos : 1 ≤ t) (known : t ≤ s.layout.threads) (fits : Fits s t (s.threads t).held c p) (called : IsCalled (operation_of c)) (own : IsOwn p.phase) (plain : IsPlain (whole_access p)) (mine : IsMine s t (address_of (whole_access p))) where
+module _ (s : State) (t : ℕ) (c : Call) (p : Whole) (inv : Kept s) (pos : 1 ≤ t) (known : t ≤ s.layout.threads) (fits : Fits s t (s.threads t).held (mutex_of c) p) (serves : Serves c p) (own : IsOwn p.phase) (plain : IsPlain (whole_access p)) (mine : IsMine s t (address_of (whole_access p))) where
   abbrev m : ℕ
   m = mutex_of c
 
@@ -65,10 +64,10 @@ module _ (s : State) (t : ℕ) (c : Call) (p : Whole) (inv : Kept s) (pos : 1 �
   at = address_of a
 
   abbrev o : Onward
-  o = onto s t c p
+  o = onto s p
 
   abbrev s' : State
-  s' = after s t c p
+  s' = after s t (call_step s c p)
 
   pub own_valid : is_valid s.layout at ≡ true
   own_valid = mine_is_valid s t at pos known mine
@@ -79,9 +78,6 @@ module _ (s : State) (t : ℕ) (c : Call) (p : Whole) (inv : Kept s) (pos : 1 �
 
   pub own_words : (x : ℕ) → x ≢ at → s'.words x ≡ s.words x
   own_words x apart = put-other s.words at (changed a (s.words at)) x apart
-
-  pub own_queues : (key : ℕ) → s'.queues key ≡ s.queues key
-  own_queues key = by_put (λ z. z ≡ s.queues key) s.queues at (queue_after t a (s.words at) (s.queues at)) key (λ is. plain_queue t a (s.words at) (s.queues at) plain ∙ ap s.queues (sym is)) (λ apart. refl)
 
   pub own_cells : (k : ℕ) → k < s.layout.mutexes → s'.words (cell_place s.layout k) ≡ s.words (cell_place s.layout k)
   own_cells k inside = own_words (cell_place s.layout k) (λ e. mine_is_no_cell s t at k pos known inside mine (sym e))
@@ -96,11 +92,8 @@ module _ (s : State) (t : ℕ) (c : Call) (p : Whole) (inv : Kept s) (pos : 1 �
   pub own_no_point : o.point ≡ None
   own_no_point = ap (λ (z : Onward). z.point) own_leads ∙ own_pointless p p.phase (answer_at a (s.words at)) own
 
-  pub own_tells : Tells t (seen s m) (operation_of c) o.point (seen s' m)
-  own_tells = subst (λ (x : Option Reply). Tells t (seen s m) (operation_of c) x (seen s' m)) (sym own_no_point) (own_seen m)
-
-  pub own_change : Change t a (s.words place) (s'.words place) (s.queues place) (s'.queues place)
-  own_change = Stays (plain_awake a (s.words place) plain).0 (plain_awake a (s.words place) plain).1 (own_queues place)
+  pub own_tells : Tells t (seen s m) p.operation o.point (seen s' m)
+  own_tells = subst (λ (x : Option Reply). Tells t (seen s m) p.operation x (seen s' m)) (sym own_no_point) (own_seen m)
 
   -- it knows the same of its mutex as before
   pub own_moves : Joins (decided_at p.phase) None (decided_at o.phase) → left_at o.phase (s.words place) < left_at p.phase (s.words place) → (SteadyAt t p.phase (s.words place) → SteadyAt t o.phase (s.words place)) → Moves t p o (s.words place) (s'.words place)
@@ -115,19 +108,19 @@ module _ (s : State) (t : ℕ) (c : Call) (p : Whole) (inv : Kept s) (pos : 1 �
         steady = λ e was. steady was;
       }
 
-  held_same : held_after (s.threads t).held (operation_of c) o.point ≡ (s.threads t).held
-  held_same = ap (held_after (s.threads t).held (operation_of c)) own_no_point ∙ unmoved (operation_of c) (s.threads t).held
+  held_same : held_after (s.threads t).held p.operation o.point ≡ (s.threads t).held
+  held_same = ap (held_after (s.threads t).held p.operation) own_no_point ∙ unmoved p.operation (s.threads t).held
 
   -- what holds of every state holds then, where its thread arrives rightly
   pub own_kept : (es : List ℕ) → Arrives t (s.threads t).held p o.phase (seen s m) → s'.words (head_place t + 2) ≡ pending_in p.entry o.phase → Owned s t (left_out_in m o.phase) es → ChainedIn s'.words (head_place t) p.entry es o.phase → Kept s'
   own_kept es arrives pending owned ch =
-      kept_where s t m a (thread_after s t c p) (operation_of c) o.point inv pos known fits.inside called (λ k apart. own_seen k) own_tells refl
+      kept_where s t m a (thread_after s t (call_step s c p)) p.operation o.point inv pos known fits.inside fits.called (λ k apart. own_seen k) own_tells refl
       (λ x e takes. absurd (cc (e, own_no_point)))
       (λ u first most. own_words (head_place u + 1) (offset_is_nobodys s t u at pos known first most mine))
       (λ u x first most apart theirs. own_words x (mine_is_not_theirs s u t x at first most pos known (λ e. apart (sym e)) theirs mine))
       (λ u k first most apart inside own. inl (own_cells k inside))
-      (sits_after s t c p (s.threads t).held fits (thread_after s t c p).held o.phase (subst (λ (z : ℕ × Object). Arrives t z.0 p o.phase z.1) (λ i. (sym held_same i, sym (own_seen m) i)) arrives))
-      (listed_after s t c p (s.threads t).held fits es o.phase owned_then ch)
+      (sits_after s t (s.threads t).held c p fits serves a (thread_after s t (call_step s c p)) (thread_after s t (call_step s c p)).held o.phase (subst (λ (z : ℕ × Object). Arrives t z.0 p o.phase z.1) (λ i. (sym held_same i, sym (own_seen m) i)) arrives))
+      (listed_after s' t c p es o.phase owned_then ch)
       (pending_then c p o.phase (s'.words (head_place t + 2)) pending)
       (subst Sound (sym (own_seen m)) (inv.sound m))
     where
@@ -141,31 +134,31 @@ module _ (s : State) (t : ℕ) (c : Call) (p : Whole) (inv : Kept s) (pos : 1 �
 
 -- what is left to show of an access of its own words
 record Lands (s : State) (t : ℕ) (c : Call) (p : Whole) : Type 0 where
-  joins : Joins (decided_at p.phase) None (decided_at (onto s t c p).phase)
-  fewer : left_at (onto s t c p).phase (s.words (cell_place s.layout (mutex_of c))) < left_at p.phase (s.words (cell_place s.layout (mutex_of c)))
-  steady : SteadyAt t p.phase (s.words (cell_place s.layout (mutex_of c))) → SteadyAt t (onto s t c p).phase (s.words (cell_place s.layout (mutex_of c)))
-  arrives : Arrives t (s.threads t).held p (onto s t c p).phase (seen s (mutex_of c))
-  pending : (after s t c p).words (head_place t + 2) ≡ pending_in p.entry (onto s t c p).phase
-  list : (es : List ℕ) × Owned s t (left_out_in (mutex_of c) (onto s t c p).phase) es × ChainedIn (after s t c p).words (head_place t) p.entry es (onto s t c p).phase
+  joins : Joins (decided_at p.phase) None (decided_at (onto s p).phase)
+  fewer : left_at (onto s p).phase (s.words (cell_place s.layout (mutex_of c))) < left_at p.phase (s.words (cell_place s.layout (mutex_of c)))
+  steady : SteadyAt t p.phase (s.words (cell_place s.layout (mutex_of c))) → SteadyAt t (onto s p).phase (s.words (cell_place s.layout (mutex_of c)))
+  arrives : Arrives t (s.threads t).held p (onto s p).phase (seen s (mutex_of c))
+  pending : (after s t (call_step s c p)).words (head_place t + 2) ≡ pending_in p.entry (onto s p).phase
+  list : (es : List ℕ) × Owned s t (left_out_in (mutex_of c) (onto s p).phase) es × ChainedIn (after s t (call_step s c p)).words (head_place t) p.entry es (onto s p).phase
 
-goes_own : (s : State) (t : ℕ) (c : Call) (p : Whole) → Kept s → 1 ≤ t → t ≤ s.layout.threads → Fits s t (s.threads t).held c p → IsCalled (operation_of c) → IsOwn p.phase → IsPlain (whole_access p) → IsMine s t (address_of (whole_access p)) → Lands s t c p → Stepping s t c p
-goes_own s t c p inv pos known fits called own plain mine lands = record {
-  valid = own_valid s t c p inv pos known fits called own plain mine;
-  called = called;
-  kept = own_kept s t c p inv pos known fits called own plain mine lands.list.0 lands.arrives lands.pending lands.list.1 lands.list.2;
-  moves = own_moves s t c p inv pos known fits called own plain mine lands.joins lands.fewer lands.steady;
-  change = own_change s t c p inv pos known fits called own plain mine;
-  sleeper = λ e. absurd (cc (e, (plain_awake (whole_access p) (s.words (cell_place s.layout (mutex_of c))) plain).0));
-  tells = own_tells s t c p inv pos known fits called own plain mine;
-  room = λ x e takes. absurd (cc (e, own_no_point s t c p inv pos known fits called own plain mine));
-  far = λ k apart. own_seen s t c p inv pos known fits called own plain mine k;
-  cells = λ k inside apart. own_cells s t c p inv pos known fits called own plain mine k inside;
-  pendings = λ u first most apart. own_words s t c p inv pos known fits called own plain mine (head_place u + 2) (mine_is_not_theirs s u t (head_place u + 2) _ first most pos known (λ e. apart (sym e)) (inr (inl refl)) mine);
-  queues = λ key apart. own_queues s t c p inv pos known fits called own plain mine key;
+goes_own : (s : State) (t : ℕ) (c : Call) (p : Whole) → Kept s → 1 ≤ t → t ≤ s.layout.threads → Fits s t (s.threads t).held (mutex_of c) p → Serves c p → IsOwn p.phase → IsPlain (whole_access p) → IsMine s t (address_of (whole_access p)) → Lands s t c p → CallStep s t c p
+goes_own s t c p inv pos known fits serves own plain mine lands = record {
+  valid = own_valid s t c p inv pos known fits serves own plain mine;
+  kept = own_kept s t c p inv pos known fits serves own plain mine lands.list.0 lands.arrives lands.pending lands.list.1 lands.list.2;
+  moves = own_moves s t c p inv pos known fits serves own plain mine lands.joins lands.fewer lands.steady;
+  same_sleep = (plain_awake (whole_access p) (met s (call_step s c p)) plain).0 ∙ sym (plain_awake (whole_access p) (s.words (cell_place s.layout (mutex_of c))) plain).0;
+  place = λ e. absurd (cc (e, (plain_awake (whole_access p) (met s (call_step s c p)) plain).0));
+  wakes = λ e. absurd (cc (e, (plain_awake (whole_access p) 0 plain).1));
+  sleeper = λ e. absurd (cc (e, (plain_awake (whole_access p) (met s (call_step s c p)) plain).0));
+  tells = own_tells s t c p inv pos known fits serves own plain mine;
+  room = λ x e takes. absurd (cc (e, own_no_point s t c p inv pos known fits serves own plain mine));
+  far = λ k apart. own_seen s t c p inv pos known fits serves own plain mine k;
+  cells = λ k inside apart. own_cells s t c p inv pos known fits serves own plain mine k inside;
+  pendings = λ u first most apart. own_words s t c p inv pos known fits serves own plain mine (head_place u + 2) (mine_is_not_theirs s u t (head_place u + 2) _ first most pos known (λ e. apart (sym e)) (inr (inl refl)) mine);
 }
 
 -- a call whose phase has its object as it is
-module _ (s : State) (t : ℕ) (c : Call) (p : Whole) (inv : Kept s) (pos : 1 ≤ t) (known : t ≤ s.layout.threads) (called : IsCalled (operation_of c)) where
+module _ (s : State) (t : ℕ) (c : Call) (p : Whole) (inv : Kept s) (pos : 1 ≤ t) (known : t ≤ s.layout.threads) (serves : Serves c p) where
   abbrev held : ℕ
   held = (s.threads t).held
 
@@ -185,7 +178,7 @@ module _ (s : State) (t : ℕ) (c : Call) (p : Whole) (inv : Kept s) (pos : 1 �
   pending_keeps out es x head owned ch = both_same s.words (put s.words (address_sum p.head 2) x) (head_place t) es (λ y on. put-other s.words (address_sum p.head 2) x y (λ e. list_not_pending s t out es y inv.layout pos known owned on (e ∙ pending_at head))) ch
 
   -- ---- the entry is made pending
-  module _ (r : Row) (fits : Fits s t held c (record p { phase = Announcing r })) where
+  module _ (r : Row) (fits : Fits s t held (mutex_of c) (record p { phase = Announcing r })) where
     abbrev before : Whole
     before = record p { phase = Announcing r }
 
@@ -235,7 +228,7 @@ module _ (s : State) (t : ℕ) (c : Call) (p : Whole) (inv : Kept s) (pos : 1 �
     announced_arrives (row.Ended x) at = absurd at.going
 
     abbrev new_words : ℕ → ℕ
-    new_words = (after s t c before).words
+    new_words = (after s t (call_step s c before)).words
 
     announced_list : (z : Row) (es : List ℕ) → AtRow t held p.operation z (seen s (mutex_of c)) → Owned s t None es → IsChainBothWays new_words (head_place t) es → Owned s t (left_out_in (mutex_of c) (announced before z)) es × ChainedIn new_words (head_place t) p.entry es (announced before z)
     announced_list (row.Unlock (Release d)) es at owned ch =
@@ -248,10 +241,10 @@ module _ (s : State) (t : ℕ) (c : Call) (p : Whole) (inv : Kept s) (pos : 1 �
     announced_list (row.Consistent z) es at owned ch = (owned, ch)
     announced_list (row.Ended x) es at owned ch = absurd at.going
 
-    pub announcing : (s.threads t).stage ≡ Calling c before → Listed s t (Calling c before) → Stepping s t c before
+    pub announcing : (s.threads t).stage ≡ Calling c before → Listed s t (Calling c before) → CallStep s t c before
     announcing is (es, owned, ch) =
         let list = announced_list r es fits.stands.0 owned (pending_keeps None es p.entry fits.head owned ch) in
-        goes_own s t c before inv pos known fits called tt tt (inr (inl (pending_at fits.head))) record {
+        goes_own s t c before inv pos known fits serves tt tt (inr (inl (pending_at fits.head))) record {
           joins = subst (Joins (decided r) None) (sym (announced_decided r)) (joins_same (decided r));
           fewer = announced_left r (s.words (cell_place s.layout (mutex_of c)));
           steady = announced_steady r (s.words (cell_place s.layout (mutex_of c)));
@@ -261,9 +254,9 @@ module _ (s : State) (t : ℕ) (c : Call) (p : Whole) (inv : Kept s) (pos : 1 �
         }
 
   -- ---- the pending entry is cleared
-  pub clearing : (x : Reply) → Fits s t held c (record p { phase = Clearing x }) → (s.threads t).stage ≡ Calling c (record p { phase = Clearing x }) → Listed s t (Calling c (record p { phase = Clearing x })) → Stepping s t c (record p { phase = Clearing x })
+  pub clearing : (x : Reply) → Fits s t held (mutex_of c) (record p { phase = Clearing x }) → (s.threads t).stage ≡ Calling c (record p { phase = Clearing x }) → Listed s t (Calling c (record p { phase = Clearing x })) → CallStep s t c (record p { phase = Clearing x })
   clearing x fits is (es, owned, ch) =
-      goes_own s t c (record p { phase = Clearing x }) inv pos known fits called tt tt (inr (inl (pending_at fits.head))) record {
+      goes_own s t c (record p { phase = Clearing x }) inv pos known fits serves tt tt (inr (inl (pending_at fits.head))) record {
         joins = (refl, refl);
         fewer = omega arith;
         steady = λ was. was;
@@ -273,7 +266,7 @@ module _ (s : State) (t : ℕ) (c : Call) (p : Whole) (inv : Kept s) (pos : 1 �
       }
 
   -- ---- the entry is put in front of the list
-  module _ (l : LinkStanding) (x : Reply) (fits : Fits s t held c (record p { phase = Linking l x })) (is_in : (s.threads t).stage ≡ Calling c (record p { phase = Linking l x })) where
+  module _ (l : LinkStanding) (x : Reply) (fits : Fits s t held (mutex_of c) (record p { phase = Linking l x })) (is_in : (s.threads t).stage ≡ Calling c (record p { phase = Linking l x })) where
     abbrev linking_call : Whole
     linking_call = record p { phase = Linking l x }
 
@@ -281,7 +274,7 @@ module _ (s : State) (t : ℕ) (c : Call) (p : Whole) (inv : Kept s) (pos : 1 �
     k = mutex_of c
 
     abbrev linked_words : ℕ → ℕ
-    linked_words = (after s t c linking_call).words
+    linked_words = (after s t (call_step s c linking_call)).words
 
     at_head : l.head ≡ head_place t
     at_head = fits.stands.0 ∙ fits.head
@@ -382,15 +375,15 @@ module _ (s : State) (t : ℕ) (c : Call) (p : Whole) (inv : Kept s) (pos : 1 �
             list = (p.entry ∷ es, owned_more, ends.1);
           }
 
-      pub linking_goes : Stepping s t c linking_call
+      pub linking_goes : CallStep s t c linking_call
       linking_goes =
           let plain : IsPlain (link_access_of l) = link_plain l.head l.entry l.row in
-          let leads : (onto s t c linking_call).phase ≡ linked_at x moved led_to = ap (λ (o : Onward). o.phase) (own_leads s t c linking_call inv pos known fits called tt plain link_mine) in
-          let there : Linked (onto s t c linking_call).phase = subst Linked (sym leads) (is_linked led_to refl) in
-          goes_own s t c linking_call inv pos known fits called tt plain link_mine record { joins = there.joins; fewer = there.fewer; steady = there.steady; arrives = there.arrives; pending = link_pends ∙ there.pends; list = there.list }
+          let leads : (onto s linking_call).phase ≡ linked_at x moved led_to = ap (λ (o : Onward). o.phase) (own_leads s t c linking_call inv pos known fits serves tt plain link_mine) in
+          let there : Linked (onto s linking_call).phase = subst Linked (sym leads) (is_linked led_to refl) in
+          goes_own s t c linking_call inv pos known fits serves tt plain link_mine record { joins = there.joins; fewer = there.fewer; steady = there.steady; arrives = there.arrives; pending = link_pends ∙ there.pends; list = there.list }
 
   -- ---- the entry is taken out of the list
-  module _ (u : UnlinkStanding) (d : Bool) (fits : Fits s t held c (record p { phase = Unlinking u d })) (is_in : (s.threads t).stage ≡ Calling c (record p { phase = Unlinking u d })) where
+  module _ (u : UnlinkStanding) (d : Bool) (fits : Fits s t held (mutex_of c) (record p { phase = Unlinking u d })) (is_in : (s.threads t).stage ≡ Calling c (record p { phase = Unlinking u d })) where
     abbrev unlinking_call : Whole
     unlinking_call = record p { phase = Unlinking u d }
 
@@ -398,7 +391,7 @@ module _ (s : State) (t : ℕ) (c : Call) (p : Whole) (inv : Kept s) (pos : 1 �
     j = mutex_of c
 
     abbrev unlinked_words : ℕ → ℕ
-    unlinked_words = (after s t c unlinking_call).words
+    unlinked_words = (after s t (call_step s c unlinking_call)).words
 
     head_at : u.head ≡ head_place t
     head_at = fits.stands.0 ∙ fits.head
@@ -409,11 +402,11 @@ module _ (s : State) (t : ℕ) (c : Call) (p : Whole) (inv : Kept s) (pos : 1 �
     unlink_is : unlink_access_of u ≡ unlink_access (head_place t) p.entry u.row
     unlink_is = λ i. unlink_access (head_at i) (entry_at i) u.row
 
-    abbrev met : ℕ
-    met = s.words (address_of (unlink_access_of u))
+    abbrev present : ℕ
+    present = s.words (address_of (unlink_access_of u))
 
     abbrev to_row : UnlinkRow
-    to_row = unlink_resume u.head u.row (answer_at (unlink_access_of u) met)
+    to_row = unlink_resume u.head u.row (answer_at (unlink_access_of u) present)
 
     to_is : unlink_resume (head_place t) u.row (answer_on (unlink_access (head_place t) p.entry u.row) s.words) ≡ to_row
     to_is = λ i. unlink_resume (sym head_at i) u.row (answer_on (sym unlink_is i) s.words)
@@ -426,22 +419,22 @@ module _ (s : State) (t : ℕ) (c : Call) (p : Whole) (inv : Kept s) (pos : 1 �
       unlink_pends =
           let on = unlinks.near (head_place t) p.entry es u.row s.words ch in
           let elsewhere : address_of (unlink_access (head_place t) p.entry u.row) ≢ head_place t + 2 = list_not_pending s t None es _ inv.layout pos known owned on in
-          put-other s.words (address_of (unlink_access_of u)) (changed (unlink_access_of u) met) (head_place t + 2) (λ e. elsewhere (sym (ap address_of unlink_is) ∙ sym e)) ∙ subst (PendsAs (s.words (head_place t + 2))) is_in (inv.heads t pos known).pending
+          put-other s.words (address_of (unlink_access_of u)) (changed (unlink_access_of u) present) (head_place t + 2) (λ e. elsewhere (sym (ap address_of unlink_is) ∙ sym e)) ∙ subst (PendsAs (s.words (head_place t + 2))) is_in (inv.heads t pos known).pending
 
       unlink_makes : Makes (unlink_access (head_place t) p.entry u.row) (head_place t) es s.words unlinked_words
       unlink_makes = subst (λ a. Makes a (head_place t) es s.words unlinked_words) unlink_is record {
-        changes = put-same s.words (address_of (unlink_access_of u)) (changed (unlink_access_of u) met);
-        keeps = λ y on apart. put-other s.words (address_of (unlink_access_of u)) (changed (unlink_access_of u) met) y apart;
+        changes = put-same s.words (address_of (unlink_access_of u)) (changed (unlink_access_of u) present);
+        keeps = λ y on apart. put-other s.words (address_of (unlink_access_of u)) (changed (unlink_access_of u) present) y apart;
       }
 
       unlink_chain : unlink_laws.Unlinking (head_place t) p.entry es to_row unlinked_words
       unlink_chain = subst (λ r. unlink_laws.Unlinking (head_place t) p.entry es r unlinked_words) to_is (unlinks.right.steps (head_place t) p.entry es u.row s.words unlinked_words fits.stands.2 ch unlink_makes)
 
       unlink_falls : unlink_laws.unlink_left to_row < unlink_laws.unlink_left u.row
-      unlink_falls = unlinks.right.falls u.head u.row (answer_at (unlink_access_of u) met) fits.stands.2
+      unlink_falls = unlinks.right.falls u.head u.row (answer_at (unlink_access_of u) present) fits.stands.2
 
       abbrev unlink_to : UnlinkStanding
-      unlink_to = unlink_moved u (answer_at (unlink_access_of u) met)
+      unlink_to = unlink_moved u (answer_at (unlink_access_of u) present)
 
       different : AreDifferent es
       different = (entries-different (head_place t) es ch.places).1
@@ -490,9 +483,9 @@ module _ (s : State) (t : ℕ) (c : Call) (p : Whole) (inv : Kept s) (pos : 1 �
             list = (without p.entry es, owned_less, ends.1);
           }
 
-      pub unlinking_goes : Stepping s t c unlinking_call
+      pub unlinking_goes : CallStep s t c unlinking_call
       unlinking_goes =
           let plain : IsPlain (unlink_access_of u) = unlink_plain u.head u.entry u.row in
-          let leads : (onto s t c unlinking_call).phase ≡ unlinked_at unlink_to to_row d = ap (λ (o : Onward). o.phase) (own_leads s t c unlinking_call inv pos known fits called tt plain unlink_mine) in
-          let there : Unlinked (onto s t c unlinking_call).phase = subst Unlinked (sym leads) (is_unlinked to_row refl) in
-          goes_own s t c unlinking_call inv pos known fits called tt plain unlink_mine record { joins = there.joins; fewer = there.fewer; steady = λ was. there.steady; arrives = there.arrives; pending = unlink_pends ∙ there.pends; list = there.list }
+          let leads : (onto s unlinking_call).phase ≡ unlinked_at unlink_to to_row d = ap (λ (o : Onward). o.phase) (own_leads s t c unlinking_call inv pos known fits serves tt plain unlink_mine) in
+          let there : Unlinked (onto s unlinking_call).phase = subst Unlinked (sym leads) (is_unlinked to_row refl) in
+          goes_own s t c unlinking_call inv pos known fits serves tt plain unlink_mine record { joins = there.joins; fewer = there.fewer; steady = λ was. there.steady; arrives = there.arrives; pending = unlink_pends ∙ there.pends; list = there.list }

@@ -1,5 +1,5 @@
 -- What a whole call does beyond its mutex's cell, phase by phase.
-use Rattle.std.proofs.Common.{◌≡◌, ◌≢◌, ◌⊎◌, ℕ, ◌+◌, ◌*◌, ◌<◌, ◌≤◌, Bool, true, false, Option, Some, None, List, [], ◌∷◌, ◌++◌, drop, refl, arith}
+use Rattle.std.proofs.Common.{◌≡◌, ◌≢◌, ◌⊎◌, ℕ, ◌+◌, ◌*◌, ◌<◌, ◌≤◌, Bool, true, false, Option, Some, None, List, refl, arith}
 use Rattle.lockword.specs.Cells.{fields_of}
 use Rattle.lockword.specs.declared.reply.Reply.{Reply}
 use Rattle.lockword.specs.declared.reply.Reply.TheVariants.{OK, EFAULT, EOWNERDEAD, XRACED}
@@ -28,7 +28,7 @@ use Rattle.mutex.specs.Alone.{answers_for, is_wake, left, Steady}
 use Rattle.mutex.specs.Laws.{decided, Joins}
 use Rattle.mutex.specs.Standings.{Whole}
 use Rattle.mutex.specs.Whole.{whole_access, leaving, after_cell, phase_led}
-use Rattle.protocol.specs.Machine.{answer_among, queue_after}
+use Rattle.protocol.specs.Machine.{answer_among}
 
 -- ---- what a phase says of its call
 
@@ -63,12 +63,6 @@ SteadyAt t (Linking l x) w = x ≢ XRACED
 SteadyAt t (Unlinking u d) w = Unit {0}
 SteadyAt t (Clearing x) w = x ≢ XRACED
 SteadyAt t (Ended x) w = x ≢ XRACED
-
--- what a call does to the queue of its mutex: nothing; it puts its thread at the end; or it takes the first out of it, one or more
-pub data Change (t : ℕ) (a : Access) (w w' : ℕ) (q q' : List ℕ) : Type 0 where
-  Stays : sleeps_at a w ≡ false → is_wake a ≡ false → q' ≡ q → Change t a w w' q q'
-  Joins_it : sleeps_at a w ≡ true → w' ≡ w → q' ≡ q ++ t ∷ [] → Change t a w w' q q'
-  Wakes : (n : ℕ) → 1 ≤ n → sleeps_at a w ≡ false → w' ≡ w → q' ≡ drop n q → Change t a w w' q q'
 
 -- one access of thread t's call p, which leads to o, where its mutex's cell is the word w before and w' after
 pub record Moves (t : ℕ) (p : Whole) (o : Onward) (w w' : ℕ) : Type 0 where
@@ -199,11 +193,6 @@ pub plain_answer : (a : Access) (w : ℕ) (q : List ℕ) → IsPlain a → answe
 plain_answer (access.Load at) w q plain = refl
 plain_answer (access.Store at v) w q plain = refl
 plain_answer a w q plain = absurd plain
-
-pub plain_queue : (t : ℕ) (a : Access) (w : ℕ) (q : List ℕ) → IsPlain a → queue_after t a w q ≡ q
-plain_queue t (access.Load at) w q plain = refl
-plain_queue t (access.Store at v) w q plain = refl
-plain_queue t a w q plain = absurd plain
 
 pub plain_awake : (a : Access) (w : ℕ) → IsPlain a → (sleeps_at a w ≡ false) × (is_wake a ≡ false)
 plain_awake (access.Load at) w plain = (refl, refl)

@@ -1,36 +1,15 @@
--- Who sleeps where, and who answers for a mutex that nobody owns.
-use Rattle.std.proofs.Common.{◌≡◌, ◌≢◌, ◌⊎◌, ⊎_elim, inl, inr, ℕ, zero, suc, ◌+◌, ◌<◌, ◌≤◌, ◌==◌, Bool, true, false, None, List, [], ◌∷◌, ◌++◌, drop, refl, sym, ap, ◌∙◌, subst, arith, eqb-true}
-use Rattle.std.specs.Prelude.{if◌then◌else◌}
+-- Queues, and what an access does to them.
+use Rattle.std.proofs.Common.{◌≡◌, ◌≢◌, ◌⊎◌, ⊎_elim, inl, inr, ℕ, zero, suc, ◌≤◌, ◌==◌, Bool, true, false, List, [], ◌∷◌, ◌++◌, take, drop, refl, sym, ap, ◌∙◌, arith, eqb-true}
+use Rattle.std.specs.Prelude.{if◌then◌else◌, not}
 use Rattle.std.proofs.lemmas.Bool.{eqb-false}
-use Rattle.lockword.specs.Cells.{fields_of}
-use Rattle.keys.specs.declared.object.Object.{Object}
-use Rattle.keys.specs.Layouts.{head_place, entry_place, cell_place}
-use Rattle.keys.specs.Accesses.{sleeps_at}
-use Rattle.keys.specs.Objects.{object_of, owner_of}
-use Rattle.keys.proofs.Owners.{owner_of-none}
-use Rattle.mutex.specs.declared.call.Call.{Call}
-use Rattle.mutex.specs.declared.lock.LockRow.TheVariants as lock
-use Rattle.mutex.specs.declared.row.Row.TheVariants.{Lock}
-use Rattle.mutex.specs.declared.phase.Phase.{Phase}
-use Rattle.mutex.specs.declared.phase.Phase.TheVariants.{Announcing, AtCell, Linking, Unlinking, Clearing, Ended}
-use Rattle.mutex.specs.declared.phase.Onward.{Onward}
-use Rattle.mutex.specs.Calls.{mutex_of}
-use Rattle.mutex.specs.Standings.{Whole}
-use Rattle.mutex.specs.Whole.{whole_access}
-use Rattle.protocol.specs.declared.thread.Thread.{Thread}
-use Rattle.protocol.specs.declared.thread.Stage.TheVariants.{Idle, Calling, Dying}
-use Rattle.protocol.specs.Machine.{State, stands_in, sleepers, stage_after}
-use Rattle.protocol.specs.Sleepers.{Sleeps, IsUnowned}
-use Rattle.protocol.proofs.Puts.{put-same, put-other}
-use Rattle.protocol.proofs.Phases.{answers_at, Change, Stays, Joins_it, Wakes}
-use Rattle.protocol.proofs.Steps.{seen-inside, after, onto}
-use Rattle.exitwalk.specs.declared.row.Row as walk_row
-use Rattle.exitwalk.specs.declared.row.Row.TheVariants as walk
-use Rattle.exitwalk.specs.declared.row.Part.TheVariants as part
-use Rattle.protocol.proofs.WalkSteps.{walk_of}
-use Rattle.protocol.proofs.Stepping.{Stepping}
+use Rattle.keys.specs.declared.access.Access.{Access}
+use Rattle.keys.specs.declared.access.Access.TheVariants as access
+use Rattle.keys.specs.Accesses.{address_of, sleeps_at}
+use Rattle.buckets.specs.Queues.{without}
+use Rattle.protocol.specs.Machine.{put, queue_after, woken_by, stands_in}
+use Rattle.protocol.proofs.Puts.{by_put, put-same, put-other}
 
--- ---- queues
+-- ---- lists of threads
 
 -- nobody stands in it twice
 abbrev pub Once : List ℕ → Type 0
@@ -102,275 +81,167 @@ first_stands u us = go (u == u) refl
     go true e = refl
     go false e = absurd (eqb-false u u e refl)
 
--- ---- what holds of every state
-
--- thread t, which stands in the queue of this key, is in a call on that mutex, and loads its cell when it is woken
-abbrev pub Slept : State → ℕ → ℕ → Type 0
-Slept s t key = (1 ≤ t) × (t ≤ s.layout.threads) × ((c : Call) × (p : Whole) × ((s.threads t).stage ≡ Calling c p) × (p.phase ≡ AtCell (Lock lock.Load)) × (key ≡ cell_place s.layout (mutex_of c)))
-
--- thread t, awake in a call on mutex m, answers for it
-pub record Answers (s : State) (m t : ℕ) (c : Call) (p : Whole) : Type 0 where
-  pub first : 1 ≤ t
-  pub last : t ≤ s.layout.threads
-  pub stage : (s.threads t).stage ≡ Calling c p
-  pub mutex : mutex_of c ≡ m
-  pub answers : answers_at p.phase ≡ true
-  pub awake : stands_in t (sleepers s m) ≡ false
-
--- a walk that is at a row, and has not come to its pending entry yet, answers for the mutex that is pending; and at a wake, for the one whose sleeper it is going to wake
-abbrev pub Minds : State → ℕ → ℕ → walk_row.Row → Type 0
-Minds s m t walk.LoadFirst = s.words (head_place t + 2) ≡ entry_place s.layout m
-Minds s m t (walk.LoadOffset f) = s.words (head_place t + 2) ≡ entry_place s.layout m
-Minds s m t (walk.LoadPending f o) = s.words (head_place t + 2) ≡ entry_place s.layout m
-Minds s m t (walk.LoadNext r) = r.pending ≡ entry_place s.layout m
-Minds s m t (walk.LoadWord at (part.List r)) = r.pending ≡ entry_place s.layout m
-Minds s m t (walk.LoadWord at part.Pending) = at ≡ cell_place s.layout m
-Minds s m t (walk.Mark at v again (part.List r)) = r.pending ≡ entry_place s.layout m
-Minds s m t (walk.WakeOne at (part.List r)) = (at ≡ cell_place s.layout m) ⊎ (r.pending ≡ entry_place s.layout m)
-Minds s m t (walk.WakeOne at part.Pending) = at ≡ cell_place s.layout m
-Minds s m t r = ⊥
-
--- thread t died, and its walk answers for mutex m
-pub record Mourns_for (s : State) (m t : ℕ) (r : walk_row.Row) : Type 0 where
-  pub first : 1 ≤ t
-  pub last : t ≤ s.layout.threads
-  pub stage : (s.threads t).stage ≡ Dying (walk_of t r)
-  pub minds : Minds s m t r
-
--- somebody answers for it, in a call or in a walk
-pub data Answering (s : State) (m t : ℕ) : Type 0 where
-  in_call : (c : Call) (p : Whole) → Answers s m t c p → Answering s m t
-  in_walk : (r : walk_row.Row) → Mourns_for s m t r → Answering s m t
-
-pub record Queued (s : State) : Type 0 where
-  pub sleeps : (key t : ℕ) → stands_in t (s.queues key) ≡ true → Slept s t key
-  pub once : (key : ℕ) → Once (s.queues key)
-  pub bits : (m u : ℕ) → m < s.layout.mutexes → Sleeps s u m → (fields_of (s.words (cell_place s.layout m))).waiters ≡ true
-  pub answered : (m u : ℕ) → m < s.layout.mutexes → IsUnowned s m → Sleeps s u m → (t : ℕ) × Answering s m t
-
--- whoever is in no queue of its call's mutex is in none
-pub in_none : (s : State) (t : ℕ) (c : Call) (p : Whole) → Queued s → (s.threads t).stage ≡ Calling c p → stands_in t (sleepers s (mutex_of c)) ≡ false → (key : ℕ) → stands_in t (s.queues key) ≡ false
-in_none s t c p inv is out key = not_true (stands_in t (s.queues key)) (λ stands.
-    let slept = inv.sleeps key t stands in
-    let same : slept.2.0 ≡ c = calls_same _ _ _ _ (sym slept.2.2 ∙ is) in
-    cc (sym (ap (λ (k : ℕ). stands_in t (s.queues k)) (slept.2.4 ∙ ap (λ (d : Call). cell_place s.layout (mutex_of d)) same)) ∙ stands, out))
+-- whoever is among the first of a queue stands in it
+stands_first : (u n : ℕ) (q : List ℕ) → stands_in u (take n q) ≡ true → stands_in u q ≡ true
+stands_first u zero q h = absurd cc
+stands_first u (suc n) [] h = h
+stands_first u (suc n) (v ∷ vs) h = go (v == u) (stands_first u n vs) h
   where
-    calls_same : (c d : Call) (p q : Whole) → Calling c p ≡ Calling d q → c ≡ d
-    calls_same c d p q e = cc
+    go : (b : Bool) → (stands_in u (take n vs) ≡ true → stands_in u vs ≡ true) → (if b then true else stands_in u (take n vs)) ≡ true → (if b then true else stands_in u vs) ≡ true
+    go true rest k = refl
+    go false rest k = rest k
 
--- whoever is idle is in no queue
-pub idle_in_none : (s : State) (t : ℕ) → Queued s → (s.threads t).stage ≡ Idle → (key : ℕ) → stands_in t (s.queues key) ≡ false
-idle_in_none s t inv is key = not_true (stands_in t (s.queues key)) (λ stands. let slept = inv.sleeps key t stands in cc (sym slept.2.2 ∙ is))
+once_first : (n : ℕ) (q : List ℕ) → Once q → Once (take n q)
+once_first zero q once = tt
+once_first (suc n) [] once = tt
+once_first (suc n) (v ∷ vs) once = (not_true (stands_in v (take n vs)) (λ is. cc (stands_first v n vs is, once.0)), once_first n vs once.1)
+
+pub without_stands : (t u : ℕ) (q : List ℕ) → stands_in u (without t q) ≡ true → (stands_in u q ≡ true) × (u ≢ t)
+without_stands t u [] e = absurd cc
+without_stands t u (v ∷ vs) e = go (v == t) refl (v == u) refl (without_stands t u vs) e
+  where
+    go : (a : Bool) → (v == t) ≡ a → (b : Bool) → (v == u) ≡ b → (stands_in u (without t vs) ≡ true → (stands_in u vs ≡ true) × (u ≢ t)) → stands_in u (if not a then v ∷ without t vs else without t vs) ≡ true → ((if b then true else stands_in u vs) ≡ true) × (u ≢ t)
+    go true x true y rest e = let later = rest e in (refl, later.1)
+    go true x false y rest e = rest e
+    go false x true y rest e = (refl, λ is. eqb-false v t x (eqb-true v u y ∙ is))
+    go false x false y rest e = rest (sym (ap (λ (b : Bool). if b then true else stands_in u (without t vs)) y) ∙ e)
+
+pub without_gone : (t : ℕ) (q : List ℕ) → stands_in t (without t q) ≡ false
+without_gone t q = not_true (stands_in t (without t q)) (λ e. (without_stands t t q e).1 refl)
+
+pub once_without : (t : ℕ) (q : List ℕ) → Once q → Once (without t q)
+once_without t [] once = tt
+once_without t (v ∷ vs) once = go (v == t) (once_without t vs once.1)
+  where
+    go : (a : Bool) → Once (without t vs) → Once (if not a then v ∷ without t vs else without t vs)
+    go true rest = rest
+    go false rest = (not_true (stands_in v (without t vs)) (λ e. cc ((without_stands t v vs e).0, once.0)), rest)
+
+pub stands_without : (t u : ℕ) (q : List ℕ) → (u == t) ≡ false → stands_in t (without u q) ≡ stands_in t q
+stands_without t u [] e = refl
+stands_without t u (v ∷ vs) e = go (v == u) refl (v == t) refl (stands_without t u vs e)
+  where
+    go : (a : Bool) → (v == u) ≡ a → (b : Bool) → (v == t) ≡ b → stands_in t (without u vs) ≡ stands_in t vs → stands_in t (if not a then v ∷ without u vs else without u vs) ≡ (if b then true else stands_in t vs)
+    go true x true y rest = absurd (eqb-false u t e (sym (eqb-true v u x) ∙ eqb-true v t y))
+    go true x false y rest = rest
+    go false x true y rest = ap (λ (b : Bool). if b then true else stands_in t (without u vs)) y
+    go false x false y rest = ap (λ (b : Bool). if b then true else stands_in t (without u vs)) y ∙ rest
+
+-- of a queue that wakes these and leaves those thread t is left where it was, or was woken
+abbrev Parted : ℕ → List ℕ → List ℕ → List ℕ → Type 0
+Parted t q these those = ((stands_in t these ≡ false) × (stands_in t those ≡ stands_in t q)) ⊎ ((stands_in t these ≡ true) × (stands_in t q ≡ true) × (stands_in t those ≡ false))
+
+parted : (t n : ℕ) (q : List ℕ) → Once q → Parted t q (take n q) (drop n q)
+parted t zero q once = inl (refl, refl)
+parted t (suc n) [] once = inl (refl, refl)
+parted t (suc n) (v ∷ vs) once = go (v == t) refl (parted t n vs once.1)
+  where
+    gone : v ≡ t → stands_in t (drop n vs) ≡ false
+    gone same = not_true (stands_in t (drop n vs)) (λ is. cc (stands_rest t n vs is, sym (ap (λ (u : ℕ). stands_in u vs) same) ∙ once.0))
+
+    go : (b : Bool) → (v == t) ≡ b → Parted t vs (take n vs) (drop n vs)
+        → (((if b then true else stands_in t (take n vs)) ≡ false) × (stands_in t (drop n vs) ≡ (if b then true else stands_in t vs)))
+        ⊎ (((if b then true else stands_in t (take n vs)) ≡ true) × ((if b then true else stands_in t vs) ≡ true) × (stands_in t (drop n vs) ≡ false))
+    go true e rest = inr (refl, refl, gone (eqb-true v t e))
+    go false e rest = rest
 
 -- ---- one access
 
--- a call that answers for its mutex goes on
-pub stays_calling : (c : Call) (p : Whole) (f : Phase) → answers_at f ≡ true → stage_after c p f ≡ Calling c (record p { phase = f })
-stays_calling c p (AtCell r) e = refl
-stays_calling c p (Announcing r) e = absurd cc
-stays_calling c p (Linking l x) e = absurd cc
-stays_calling c p (Unlinking u d) e = absurd cc
-stays_calling c p (Clearing x) e = absurd cc
-stays_calling c p (Ended x) e = absurd cc
+access_parts : (u : ℕ) (a : Access) (w : ℕ) (q : List ℕ) (t : ℕ) → sleeps_at a w ≡ false → Once q → Parted t q (woken_by a q) (queue_after u a w q)
+access_parts u (access.Wake at n) w q t awake once = parted t n q once
+access_parts u (access.Wait at e) w q t awake once = inl (refl, ap (λ (b : Bool). stands_in t (if b then q ++ u ∷ [] else q)) awake)
+access_parts u a w q t awake once = inl (refl, refl)
 
--- an owner field of nobody is 0
-pub free_field : (w : ℕ) → (object_of (fields_of w)).owner ≡ None → (fields_of w).owner ≡ 0
-free_field w none = owner_of-none (fields_of w).owner none
+pub woken_once : (a : Access) (q : List ℕ) → Once q → Once (woken_by a q)
+woken_once (access.Wake at n) q once = once_first n q once
+woken_once a q once = tt
 
-pub calls_alike : (c d : Call) (p q : Whole) → Calling c p ≡ Calling d q → (c ≡ d) × (p ≡ q)
-calls_alike c d p q e = (cc, cc)
+-- whoever falls asleep comes to the end, and wakes nobody
+joins : (u : ℕ) (a : Access) (w : ℕ) (q : List ℕ) → sleeps_at a w ≡ true → (queue_after u a w q ≡ q ++ u ∷ []) × (woken_by a q ≡ [])
+joins u (access.Wait at e) w q on = (ap (λ (b : Bool). if b then q ++ u ∷ [] else q) on, refl)
+joins u a w q on = absurd cc
 
--- one access of a call of thread t, which is awake
-module _ (s : State) (t : ℕ) (c : Call) (p : Whole) (g : Stepping s t c p) (pos : 1 ≤ t) (known : t ≤ s.layout.threads) (inside : mutex_of c < s.layout.mutexes) (is : (s.threads t).stage ≡ Calling c p) (queued : Queued s) (out : stands_in t (sleepers s (mutex_of c)) ≡ false) where
-  abbrev m : ℕ
-  m = mutex_of c
+stands_beside : (t u : ℕ) (q : List ℕ) → (u == t) ≡ false → stands_in t (q ++ u ∷ []) ≡ stands_in t q
+stands_beside t u [] e = ap (λ (b : Bool). if b then true else false) e
+stands_beside t u (v ∷ vs) e = go (v == t) (stands_beside t u vs e)
+  where
+    go : (b : Bool) → stands_in t (vs ++ u ∷ []) ≡ stands_in t vs → (if b then true else stands_in t (vs ++ u ∷ [])) ≡ (if b then true else stands_in t vs)
+    go true same = refl
+    go false same = same
 
-  abbrev place : ℕ
-  place = cell_place s.layout m
+abbrev pub IsOut : (ℕ → List ℕ) → ℕ → Type 0
+IsOut qs u = (key : ℕ) → stands_in u (qs key) ≡ false
 
-  abbrev s' : State
-  s' = after s t c p
+-- thread u stands in one of these queues at most
+abbrev pub InOne : (ℕ → List ℕ) → ℕ → Type 0
+InOne qs u = (key at : ℕ) → stands_in u (qs key) ≡ true → stands_in u (qs at) ≡ true → key ≡ at
 
-  abbrev o : Onward
-  o = onto s t c p
+-- what access a of thread t, which meets the word w, is to thread u: nothing; or it is t and falls asleep; or it is woken
+pub data Turned (u t : ℕ) (a : Access) (w : ℕ) (qs qs' : ℕ → List ℕ) : Type 0 where
+  As_before : (u ≡ t → sleeps_at a w ≡ false) → stands_in u (woken_by a (qs (address_of a))) ≡ false → ((key : ℕ) → stands_in u (qs' key) ≡ stands_in u (qs key)) → Turned u t a w qs qs'
+  Falls : u ≡ t → sleeps_at a w ≡ true → woken_by a (qs (address_of a)) ≡ [] → stands_in u (qs' (address_of a)) ≡ true → ((key : ℕ) → key ≢ address_of a → stands_in u (qs' key) ≡ false) → Turned u t a w qs qs'
+  Woken : sleeps_at a w ≡ false → stands_in u (woken_by a (qs (address_of a))) ≡ true → stands_in u (qs (address_of a)) ≡ true → IsOut qs' u → Turned u t a w qs qs'
 
-  abbrev w : ℕ
-  w = s.words place
-
-  abbrev w' : ℕ
-  w' = s'.words place
+-- access a of thread t, which stands in no queue, and meets the word w
+module _ (qs : ℕ → List ℕ) (t : ℕ) (a : Access) (w : ℕ) (once : (key : ℕ) → Once (qs key)) (out : IsOut qs t) where
+  abbrev at : ℕ
+  at = address_of a
 
   abbrev q : List ℕ
-  q = s.queues place
+  q = qs at
 
-  abbrev q' : List ℕ
-  q' = s'.queues place
+  abbrev qs' : ℕ → List ℕ
+  qs' = put qs at (queue_after t a w q)
 
-  awake : (key : ℕ) → stands_in t (s.queues key) ≡ false
-  awake = in_none s t c p queued is out
-
-  -- other threads, and this one
-  theirs : (u : ℕ) → u ≢ t → s'.threads u ≡ s.threads u
-  theirs u apart = put-other s.threads t _ u apart
-
-  pub mine : (s'.threads t).stage ≡ stage_after c p o.phase
-  mine = ap (λ (z : Thread). z.stage) (put-same s.threads t _)
-
-  -- whoever slept in a queue sleeps there, or was woken
-  kept_asleep : (key u : ℕ) → stands_in u (s.queues key) ≡ true → Slept s' u key
-  kept_asleep key u stands =
-      let slept = queued.sleeps key u stands in
-      let other : u ≢ t = λ same. cc (sym (ap (λ (v : ℕ). stands_in v (s.queues key)) same) ∙ stands, awake key) in
-      (slept.0, slept.1, (slept.2.0, slept.2.1, ap (λ (z : Thread). z.stage) (theirs u other) ∙ slept.2.2, slept.2.3, slept.2.4))
-
-  falls_asleep : sleeps_at (whole_access p) w ≡ true → Slept s' t place
-  falls_asleep e =
-      let row = g.sleeper e in
-      (pos, known, (c, record p { phase = AtCell (Lock lock.Load) }, mine ∙ ap (stage_after c p) row.2, refl, refl))
-
-  here_asleep : (u : ℕ) → stands_in u q' ≡ true → Change t (whole_access p) w w' q q' → (stands_in u q ≡ true) ⊎ ((u ≡ t) × (sleeps_at (whole_access p) w ≡ true))
-  here_asleep u stands (Stays e f h) = inl (sym (ap (stands_in u) h) ∙ stands)
-  here_asleep u stands (Joins_it e f h) = ⊎_elim inl (λ same. inr (same, e)) (stands_before u t q (sym (ap (stands_in u) h) ∙ stands))
-  here_asleep u stands (Wakes n some e f h) = inl (stands_rest u n q (sym (ap (stands_in u) h) ∙ stands))
-
-  abbrev how : Change t (whole_access p) w w' q q'
-  how = g.change
-
-  sleeps' : (key u : ℕ) → stands_in u (s'.queues key) ≡ true → Slept s' u key
-  sleeps' key u stands = go (key == place) refl
+  pub turned : (u : ℕ) → InOne qs u → Turned u t a w qs qs'
+  turned u one = go (sleeps_at a w) refl (t == u) refl
     where
-      go : (b : Bool) → (key == place) ≡ b → Slept s' u key
-      go true e =
-          let at : key ≡ place = eqb-true key place e in
-          subst (λ (k : ℕ). Slept s' u k) (sym at)
-          (⊎_elim (kept_asleep place u) (λ came. subst (λ (v : ℕ). Slept s' v place) (sym came.0) (falls_asleep came.1))
-          (here_asleep u (sym (ap (stands_in u) (ap s'.queues at)) ∙ stands) how))
-      go false e = kept_asleep key u (sym (ap (stands_in u) (g.queues key (eqb-false key place e))) ∙ stands)
-
-  once_here : Change t (whole_access p) w w' q q' → Once q'
-  once_here (Stays e f h) = subst Once (sym h) (queued.once place)
-  once_here (Joins_it e f h) = subst Once (sym h) (once_last t q (queued.once place) (awake place))
-  once_here (Wakes n some e f h) = subst Once (sym h) (once_rest n q (queued.once place))
-
-  once' : (key : ℕ) → Once (s'.queues key)
-  once' key = go (key == place) refl
-    where
-      go : (b : Bool) → (key == place) ≡ b → Once (s'.queues key)
-      go true e = subst (λ (k : ℕ). Once (s'.queues k)) (sym (eqb-true key place e)) (once_here how)
-      go false e = subst Once (sym (g.queues key (eqb-false key place e))) (queued.once key)
-
-  -- where somebody sleeps on the mutex, WAITERS is set
-  pub bits_here : (u : ℕ) → stands_in u q' ≡ true → (fields_of w').waiters ≡ true
-  bits_here u stands = g.moves.waiters (⊎_elim (queued.bits m u inside) (λ came. (g.moves.sleeps came.1).1) (here_asleep u stands how))
-
-  elsewhere : (k : ℕ) → k ≢ m → cell_place s.layout k ≢ place
-  elsewhere k apart e = apart (omega (arith, e))
-
-  bits' : (k u : ℕ) → k < s.layout.mutexes → Sleeps s' u k → (fields_of (s'.words (cell_place s.layout k))).waiters ≡ true
-  bits' k u inside_k stands = go (k == m) refl
-    where
-      go : (b : Bool) → (k == m) ≡ b → (fields_of (s'.words (cell_place s.layout k))).waiters ≡ true
-      go true e =
-          let at : cell_place s.layout k ≡ place = ap (cell_place s.layout) (eqb-true k m e) in
-          ap (λ (v : ℕ). (fields_of v).waiters) (ap s'.words at) ∙ bits_here u (sym (ap (stands_in u) (ap s'.queues at)) ∙ stands)
-      go false e =
-          let apart = elsewhere k (eqb-false k m e) in
-          ap (λ (v : ℕ). (fields_of v).waiters) (g.cells k inside_k (eqb-false k m e)) ∙ queued.bits k u inside_k (sym (ap (stands_in u) (g.queues (cell_place s.layout k) apart)) ∙ stands)
-
-  -- the mutex's owner, as its cell has it
-  pub free_after : IsUnowned s' m → (fields_of w').owner ≡ 0
-  free_after none = free_field w' (sym (ap (λ (o : Object). o.owner) (seen-inside s' m inside)) ∙ none)
-
-  unowned_before : (fields_of w).owner ≡ 0 → IsUnowned s m
-  unowned_before none = ap (λ (o : Object). o.owner) (seen-inside s m inside) ∙ ap owner_of none
-
-  -- whoever answered for the mutex, and isn't this thread, does so still, where the queue stays
-  still_answers : (k u : ℕ) (d : Call) (r : Whole) → Answers s k u d r → u ≢ t → stands_in u (sleepers s' k) ≡ false → Answers s' k u d r
-  still_answers k u d r a apart awake' = record { first = a.first; last = a.last; stage = ap (λ (z : Thread). z.stage) (theirs u apart) ∙ a.stage; mutex = a.mutex; answers = a.answers; awake = awake' }
-
-  still_minds : (k u : ℕ) (r : walk_row.Row) → s'.words (head_place u + 2) ≡ s.words (head_place u + 2) → Minds s k u r → Minds s' k u r
-  still_minds k u walk.LoadFirst same l = same ∙ l
-  still_minds k u (walk.LoadOffset f) same l = same ∙ l
-  still_minds k u (walk.LoadPending f o) same l = same ∙ l
-  still_minds k u (walk.LoadNext r) same l = l
-  still_minds k u (walk.LoadWord at (part.List r)) same l = l
-  still_minds k u (walk.LoadWord at part.Pending) same l = l
-  still_minds k u (walk.Mark at v again (part.List r)) same l = l
-  still_minds k u (walk.Mark at v again part.Pending) same l = l
-  still_minds k u (walk.WakeOne at (part.List r)) same l = l
-  still_minds k u (walk.WakeOne at part.Pending) same l = l
-  still_minds k u walk.Ended same l = l
-
-  still_mourns : (k u : ℕ) (r : walk_row.Row) → Mourns_for s k u r → Mourns_for s' k u r
-  still_mourns k u r a =
-      let apart : u ≢ t = λ same. cc (sym a.stage ∙ ap (λ (v : ℕ). (s.threads v).stage) same ∙ is) in
-      record { first = a.first; last = a.last; stage = ap (λ (z : Thread). z.stage) (theirs u apart) ∙ a.stage; minds = still_minds k u r (g.pendings u a.first a.last (λ e. apart (sym e))) a.minds }
-
-  pub this_answers : answers_at o.phase ≡ true → q' ≡ q → Answers s' m t c (record p { phase = o.phase })
-  this_answers e same = record {
-    first = pos;
-    last = known;
-    stage = mine ∙ stays_calling c p o.phase e;
-    mutex = refl;
-    answers = e;
-    awake = ap (stands_in t) same ∙ out;
-  }
-
-  abbrev Answered : State → ℕ → Type 0
-  Answered z k = (u : ℕ) × Answering z k u
-
-  answered_here : (u : ℕ) → IsUnowned s' m → stands_in u q' ≡ true → Change t (whole_access p) w w' q q' → Answered s' m
-  answered_here u none stands (Joins_it e f h) = absurd (let owned = (g.moves.sleeps e).0 in let free = free_after none in let same : (fields_of w').owner ≡ (fields_of w).owner = ap (λ (v : ℕ). (fields_of v).owner) f in omega arith)
-  answered_here u none stands (Wakes n some e f h) = wakes q refl
-    where
-      wakes : (z : List ℕ) → q ≡ z → Answered s' m
-      wakes [] eq = absurd (cc (stands_rest u n [] (sym (ap (stands_in u) (h ∙ ap (drop n) eq)) ∙ stands)))
-      wakes (v ∷ vs) eq =
-          let slept = queued.sleeps place v (ap (stands_in v) eq ∙ first_stands v vs) in
-          let other : v ≢ t = λ same. cc (sym (ap (λ (x : ℕ). stands_in x q) same) ∙ ap (stands_in v) eq ∙ first_stands v vs, awake place) in
-          let at : mutex_of slept.2.0 ≡ m = (let e' = slept.2.4 in omega (arith, e')) in (
-            v,
-            in_call slept.2.0 slept.2.1 record {
-              first = slept.0;
-              last = slept.1;
-              stage = ap (λ (z : Thread). z.stage) (theirs v other) ∙ slept.2.2;
-              mutex = at;
-              answers = ap answers_at slept.2.3;
-              awake = ap (stands_in v) (h ∙ ap (drop n) eq) ∙ first_gone v n vs (subst Once eq (queued.once place)) some;
-            },
-          )
-  answered_here u none stands (Stays e f h) = ⊎_elim (λ on. (t, in_call c (record p { phase = o.phase }) (this_answers on h))) still (g.moves.answers f (free_after none) (bits_here u stands))
-    where
-      still : (answers_at p.phase ≡ false) × (w' ≡ w) → Answered s' m
-      still looks =
-          let free : (fields_of w).owner ≡ 0 = sym (ap (λ (v : ℕ). (fields_of v).owner) looks.1) ∙ free_after none in
-          let old = queued.answered m u inside (unowned_before free) (sym (ap (stands_in u) h) ∙ stands) in
-          (old.0, goes_on_answering old.0 old.1)
+      go : (b : Bool) → sleeps_at a w ≡ b → (c : Bool) → (t == u) ≡ c → Turned u t a w qs qs'
+      go true on true e =
+          let is : u ≡ t = sym (eqb-true t u e) in
+          Falls is on (joins t a w q on).1
+          (ap (stands_in u) (put-same qs at (queue_after t a w q) ∙ (joins t a w q on).0) ∙ ap (λ (x : ℕ). stands_in x (q ++ t ∷ [])) is ∙ stands_last t q)
+          (λ key apart. ap (stands_in u) (put-other qs at (queue_after t a w q) key apart) ∙ ap (λ (x : ℕ). stands_in x (qs key)) is ∙ out key)
+      go true on false e =
+          As_before (λ is. absurd (eqb-false t u e (sym is))) (ap (stands_in u) (joins t a w q on).1)
+          (λ key. by_put (λ (z : List ℕ). stands_in u z ≡ stands_in u (qs key)) qs at (queue_after t a w q) key
+          (λ here. ap (stands_in u) (joins t a w q on).0 ∙ stands_beside u t q e ∙ ap (λ (k : ℕ). stands_in u (qs k)) (sym here))
+          (λ apart. refl))
+      go false awake c e = ⊎_elim still woken (access_parts t a w q u awake (once at))
         where
-          goes_on_answering : (x : ℕ) → Answering s m x → Answering s' m x
-          goes_on_answering x (in_call d r a) =
-              let other : x ≢ t = λ same. cc (sym a.answers ∙ ap (λ (z : Whole). answers_at z.phase) (calls_alike _ _ _ _ (sym a.stage ∙ ap (λ (v : ℕ). (s.threads v).stage) same ∙ is)).1 ∙ looks.0) in
-              in_call d r (still_answers m x d r a other (ap (stands_in x) h ∙ a.awake))
-          goes_on_answering x (in_walk r a) = in_walk r (still_mourns m x r a)
+          still : (stands_in u (woken_by a q) ≡ false) × (stands_in u (queue_after t a w q) ≡ stands_in u q) → Turned u t a w qs qs'
+          still h =
+              As_before (λ is. awake) h.0
+              (λ key. by_put (λ (z : List ℕ). stands_in u z ≡ stands_in u (qs key)) qs at (queue_after t a w q) key (λ here. h.1 ∙ ap (λ (k : ℕ). stands_in u (qs k)) (sym here)) (λ apart. refl))
 
-  answered' : (k u : ℕ) → k < s.layout.mutexes → IsUnowned s' k → Sleeps s' u k → Answered s' k
-  answered' k u inside_k none stands = go (k == m) refl
+          woken : (stands_in u (woken_by a q) ≡ true) × (stands_in u q ≡ true) × (stands_in u (queue_after t a w q) ≡ false) → Turned u t a w qs qs'
+          woken h =
+              Woken awake h.0 h.1
+              (λ key. by_put (λ (z : List ℕ). stands_in u z ≡ false) qs at (queue_after t a w q) key (λ here. h.2) (λ apart. not_true (stands_in u (qs key)) (λ is. apart (one key at is h.1))))
+
+  pub once_then : (key : ℕ) → Once (qs' key)
+  once_then key = by_put Once qs at (queue_after t a w q) key (λ here. go a) (λ apart. once key)
     where
-      go : (b : Bool) → (k == m) ≡ b → Answered s' k
-      go true e =
-          let at : k ≡ m = eqb-true k m e in
-          subst (Answered s') (sym at) (answered_here u (subst (IsUnowned s') at none) (sym (ap (stands_in u) (ap (sleepers s') at)) ∙ stands) how)
-      go false e =
-          let apart = eqb-false k m e in
-          let same : sleepers s' k ≡ sleepers s k = g.queues (cell_place s.layout k) (elsewhere k apart) in
-          let old = queued.answered k u inside_k (sym (ap (λ (o : Object). o.owner) (g.far k apart)) ∙ none) (sym (ap (stands_in u) same) ∙ stands) in
-          (old.0, goes_on_answering apart same old.0 old.1)
-        where
-          goes_on_answering : k ≢ m → sleepers s' k ≡ sleepers s k → (x : ℕ) → Answering s k x → Answering s' k x
-          goes_on_answering apart same x (in_call d r a) =
-              let other : x ≢ t = λ this. apart (sym a.mutex ∙ ap mutex_of (calls_alike _ _ _ _ (sym a.stage ∙ ap (λ (v : ℕ). (s.threads v).stage) this ∙ is)).0) in
-              in_call d r (still_answers k x d r a other (ap (stands_in x) same ∙ a.awake))
-          goes_on_answering apart same x (in_walk r a) = in_walk r (still_mourns k x r a)
+      waits : (b : Bool) → Once (if b then q ++ t ∷ [] else q)
+      waits true = once_last t q (once at) (out at)
+      waits false = once at
 
-  pub went_queued : Queued s'
-  went_queued = record { sleeps = sleeps'; once = once'; bits = bits'; answered = answered' }
+      go : (x : Access) → Once (queue_after t x w q)
+      go (access.Wait y e) = waits (sleeps_at (access.Wait y e) w)
+      go (access.Wake y n) = once_rest n q (once at)
+      go x = once at
+
+  pub one_then : (u : ℕ) → InOne qs u → InOne qs' u
+  one_then u one key other here there = go (turned u one)
+    where
+      go : Turned u t a w qs qs' → key ≡ other
+      go (As_before awake quiet same) = one key other (sym (same key) ∙ here) (sym (same other) ∙ there)
+      go (Falls is on nobody stands elsewhere) = at_it key here ∙ sym (at_it other there)
+        where
+          at_it : (k : ℕ) → stands_in u (qs' k) ≡ true → k ≡ at
+          at_it k stands = pick (k == at) refl
+            where
+              pick : (b : Bool) → (k == at) ≡ b → k ≡ at
+              pick true e = eqb-true k at e
+              pick false e = absurd (cc (stands, elsewhere k (eqb-false k at e)))
+      go (Woken awake woken stood gone) = absurd (cc (here, gone key))

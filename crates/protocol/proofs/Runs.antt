@@ -1,5 +1,5 @@
 -- Whole runs.
-use Rattle.std.proofs.Common.{◌≡◌, ◌≢◌, ℕ, zero, suc, ◌+◌, ◌-◌, ◌%◌, ◌<◌, ◌≤◌, ◌==◌, Bool, true, false, ◌&&◌, Option, Some, None, Ok, Err, List, [], ◌∷◌, ◌++◌, map, refl, sym, ap, ◌∙◌, subst, arith, eqb-true}
+use Rattle.std.proofs.Common.{◌≡◌, ◌≢◌, ℕ, zero, suc, ◌+◌, ◌-◌, ◌%◌, ◌<◌, ◌≤◌, ◌==◌, Bool, true, false, ◌&&◌, Option, Some, None, Ok, Err, List, [], ◌∷◌, ◌++◌, refl, sym, ap, ◌∙◌, subst, arith, eqb-true}
 use Rattle.std.specs.Prelude.{if◌then◌else◌, nat_lt, nat_le, MatchBool}
 use Rattle.std.proofs.lemmas.Bool.{eqb-false}
 use Rattle.std.proofs.lemmas.Bool.Decides.{nat_tests}
@@ -16,33 +16,27 @@ use Rattle.mutex.specs.declared.call.Call.{Call}
 use Rattle.mutex.specs.declared.call.Call.TheVariants as call
 use Rattle.mutex.specs.Calls.{mutex_of, operation_of}
 use Rattle.mutex.specs.Standings.{Whole}
-use Rattle.mutex.specs.Whole.{begins, whole_started, whole_access, whole_led}
+use Rattle.mutex.specs.Whole.{begins}
 use Rattle.protocol.specs.declared.event.Event.{Event}
-use Rattle.protocol.specs.declared.event.Event.TheVariants.{Begin, Step, Kill}
 use Rattle.protocol.specs.declared.thread.Thread.{Thread}
 use Rattle.protocol.specs.declared.thread.Stage.{Stage}
 use Rattle.protocol.specs.declared.thread.Stage.TheVariants.{Idle, Calling, Dying, Reaped}
-use Rattle.protocol.specs.declared.note.Note.TheVariants.{Stepped, Walked}
-use Rattle.protocol.specs.declared.note.Fact.TheVariants.{Wake}
-use Rattle.protocol.specs.Notes.{facts_of, sleep_facts, return_facts, reap_facts}
-use Rattle.protocol.specs.Machine.{State, After, put, start, nothing, is_thread, is_idle, is_alive, has_ended, woken_by, walked, killed, may_begin, begun, stepped, went, sleeps, answer_of, happens, run, notes, decision}
+use Rattle.protocol.specs.declared.note.Note.{Note}
+use Rattle.protocol.specs.Notes.{facts_of}
+use Rattle.protocol.specs.Machine.{State, After, put, start, nothing, is_alive, killed, begun, happens, run, notes}
 use Rattle.protocol.specs.Headline.{seen, points_of, points_among, HistoryIsLegal}
 use Rattle.lockword.specs.Cells.{fields_of}
 use Rattle.protocol.proofs.Puts.{by_put}
 use Rattle.protocol.proofs.Objects.{one}
 use Rattle.protocol.proofs.Counts.{held_by-same}
-use Rattle.protocol.proofs.Kept.{Fits, Sits, Owned, left_out, Listed, Walks, Mourns, pending_in, PendsAs, Kept}
-use Rattle.protocol.proofs.Steps.{Tells, after, went-is}
+use Rattle.protocol.proofs.Kept.{Fits, Serves, Sits, Owned, left_out, Listed, Walks, Mourns, pending_in, PendsAs, Kept}
+use Rattle.protocol.proofs.Steps.{Tells, Transition, after}
 use Rattle.protocol.proofs.Stepping.{Stepping}
-use Rattle.protocol.proofs.Accesses.{goes, fits_in}
-use Rattle.exitwalk.specs.declared.row.Row as walk_row
+use Rattle.protocol.proofs.Events.{by_event}
+use Rattle.protocol.proofs.Working.{point_of, point_at, by_step}
 use Rattle.exitwalk.specs.declared.row.Row.TheVariants.{LoadFirst}
-use Rattle.exitwalk.specs.Standings as walks
-use Rattle.exitwalk.specs.Walks as exit
-use Rattle.keys.specs.Accesses.{address_of}
 use Rattle.protocol.proofs.Lists.{left_from}
-use Rattle.protocol.proofs.Frames.{knows_at}
-use Rattle.protocol.proofs.WalkSteps.{walk_of, walk_access, row_then, death_then, walk_after, walked-is, DeathTells, walk_step, mourns_same}
+use Rattle.protocol.proofs.WalkSteps.{walk_of, mourns_same}
 
 -- the decisions take the mutexes from what the one state's cells say to what the other's do
 abbrev pub Told : State → List Decision → State → Type 0
@@ -61,11 +55,14 @@ idles s inv = record { kept = inv; same = refl; told = λ k. refl }
 -- ---- a call begins
 
 -- a call that begins fits its thread
-first_fits : (s : State) (t held : ℕ) (c : Call) → mutex_of c < s.layout.mutexes → (acquires (operation_of c) ≡ true → held < 2048) → Fits s t held c (begins s.layout t c)
-first_fits s t held (call.Lock m) inside room = record { mine = refl; of = refl; inside = inside; head = refl; entry = refl; cell = refl; stands = (record { going = tt; knows = tt; expects = tt; of = refl; room = room }, tt) }
-first_fits s t held (call.TryLock m) inside room = record { mine = refl; of = refl; inside = inside; head = refl; entry = refl; cell = refl; stands = (record { going = tt; knows = tt; expects = tt; of = refl; room = room }, tt) }
-first_fits s t held (call.Unlock m) inside room = record { mine = refl; of = refl; inside = inside; head = refl; entry = refl; cell = refl; stands = record { going = tt; knows = tt; expects = tt; of = refl; room = room } }
-first_fits s t held (call.Consistent m) inside room = record { mine = refl; of = refl; inside = inside; head = refl; entry = refl; cell = refl; stands = record { going = tt; knows = tt; expects = tt; of = refl; room = room } }
+first_fits : (s : State) (t held : ℕ) (c : Call) → mutex_of c < s.layout.mutexes → (acquires (operation_of c) ≡ true → held < 2048) → Fits s t held (mutex_of c) (begins s.layout t c)
+first_fits s t held (call.Lock m) inside room = record { mine = refl; called = tt; inside = inside; head = refl; entry = refl; cell = refl; stands = (record { going = tt; knows = tt; expects = tt; of = refl; room = room }, tt) }
+first_fits s t held (call.TryLock m) inside room = record { mine = refl; called = tt; inside = inside; head = refl; entry = refl; cell = refl; stands = (record { going = tt; knows = tt; expects = tt; of = refl; room = room }, tt) }
+first_fits s t held (call.Unlock m) inside room = record { mine = refl; called = tt; inside = inside; head = refl; entry = refl; cell = refl; stands = record { going = tt; knows = tt; expects = tt; of = refl; room = room } }
+first_fits s t held (call.Consistent m) inside room = record { mine = refl; called = tt; inside = inside; head = refl; entry = refl; cell = refl; stands = record { going = tt; knows = tt; expects = tt; of = refl; room = room } }
+
+first_serves : (s : State) (t : ℕ) (c : Call) → Serves c (begins s.layout t c)
+first_serves s t c = refl
 
 -- its list is as it was
 first_listed : (s : State) (t : ℕ) (c : Call) → Listed s t Idle → Listed s t (Calling c (begins s.layout t c))
@@ -97,7 +94,7 @@ module _ (s : State) (t : ℕ) (c : Call) (inv : Kept s) (pos : 1 ≤ t) (known 
   still u h Idle f = tt
   still u h (Dying w) f = f
   still u h Reaped f = tt
-  still u h (Calling d q) f = record { mine = f.mine; of = f.of; inside = f.inside; head = f.head; entry = f.entry; cell = f.cell; stands = f.stands }
+  still u h (Calling d q) (f, serves) = (record { mine = f.mine; called = f.called; inside = f.inside; head = f.head; entry = f.entry; cell = f.cell; stands = f.stands }, serves)
 
   owned_still : (u : ℕ) (out : Option ℕ) (es : List ℕ) → Owned s u out es → Owned (with_call s t c p) u out es
   owned_still u out es owned = record { entries = owned.entries; all = owned.all }
@@ -112,7 +109,7 @@ module _ (s : State) (t : ℕ) (c : Call) (inv : Kept s) (pos : 1 ≤ t) (known 
   begun_kept room = record {
     layout = inv.layout;
     sits = λ u first most. by_put (λ (z : Thread). Sits (with_call s t c p) u z.held z.stage) s.threads t (record (s.threads t) { stage = Calling c p }) u
-        (λ is. subst (λ (v : ℕ). Sits (with_call s t c p) v held (Calling c p)) (sym is) (first_fits (with_call s t c p) t held c inside room))
+        (λ is. subst (λ (v : ℕ). Sits (with_call s t c p) v held (Calling c p)) (sym is) (first_fits (with_call s t c p) t held c inside room, first_serves s t c))
         (λ apart. still u (s.threads u).held (s.threads u).stage (inv.sits u first most));
     listed = λ u first most. by_put (λ (z : Thread). Listed (with_call s t c p) u z.stage) s.threads t (record (s.threads t) { stage = Calling c p }) u
         (λ is. subst (λ (v : ℕ). Listed (with_call s t c p) v (Calling c p)) (sym is) (listed_still t (Calling c p) (first_listed s t c (subst (Listed s t) resting (inv.listed t pos known)))))
@@ -150,61 +147,20 @@ does held t o n op x room permits = go (acquires op && nat_le 2048 held) refl
     go false e = permits
     go true e = absurd (let takes : acquires op ≡ true = grind (arith, nat_tests) in let less = room takes in let most : 2048 ≤ held = grind (arith, nat_tests) in omega arith)
 
--- who sleeps, who is woken and what is returned is no point
-returned_points : (t : ℕ) (y : Option Reply) → points_of (return_facts t y) ≡ []
-returned_points t None = refl
-returned_points t (Some x) = refl
-
-woken_points : (t : ℕ) (ws : List ℕ) (y : Option Reply) → points_of (map Wake ws ++ return_facts t y) ≡ []
-woken_points t [] y = returned_points t y
-woken_points t (w ∷ ws) y = woken_points t ws y
-
-no_points : (t : ℕ) (z : Option ℕ) (ws : List ℕ) (y : Option Reply) → points_of (sleep_facts t z ++ (map Wake ws ++ return_facts t y)) ≡ []
-no_points t None ws y = woken_points t ws y
-no_points t (Some m) ws y = woken_points t ws y
-
-module _ (s s' : State) (t : ℕ) (c : Call) (inside : mutex_of c < s.layout.mutexes) (far : (k : ℕ) → k ≢ mutex_of c → seen s' k ≡ seen s k) where
-  unchanged : seen s' (mutex_of c) ≡ seen s (mutex_of c) → (k : ℕ) → seen s' k ≡ seen s k
-  unchanged same k = go (k == mutex_of c) refl
-    where
-      go : (b : Bool) → (k == mutex_of c) ≡ b → seen s' k ≡ seen s k
-      go true e = subst (λ (j : ℕ). seen s' j ≡ seen s j) (sym (eqb-true k (mutex_of c) e)) same
-      go false e = far k (eqb-false k (mutex_of c) e)
-
-  told : (x : Option Reply) (z : Option ℕ) (ws : List ℕ) (y : Option Reply) → ((v : Reply) → x ≡ Some v → acquires (operation_of c) ≡ true → held_by t (seen s) s.layout.mutexes < 2048) → Tells t (seen s (mutex_of c)) (operation_of c) x (seen s' (mutex_of c)) → Told s (points_of (facts_of (Stepped t (decision t c x) z ws y))) s'
-  told None z ws y room changes = subst (λ ds. Told s ds s') (sym (no_points t z ws y)) (unchanged changes)
-  told (Some x) z ws y room changes = (inside, does _ t _ _ (operation_of c) x (room x refl) changes, far, no_points t z ws y)
-
--- an access is sound
-step_went : (s : State) (t : ℕ) → Kept s → 1 ≤ t → t ≤ s.layout.threads → (c : Call) (p : Whole) → (s.threads t).stage ≡ Calling c p → Sound' s (went s t (s.threads t).held c p (whole_led p (answer_of s (whole_access p))))
-step_went s t inv pos known c p is =
-    let g : Stepping s t c p = goes s t c p inv pos known is in
-    let fits : Fits s t (s.threads t).held c p = fits_in s t c p inv pos known is in
-    subst (Sound' s) (sym (went-is s t c p g.valid)) record {
-      kept = g.kept;
-      same = refl;
-      told = told s (after s t c p) t c fits.inside g.far _ _ _ _ (λ v e takes. subst (λ (h : ℕ). h < 2048) (inv.held t pos known) (g.room v e takes)) g.tells;
-    }
-
-pub second_true : (a b : Bool) → (a && b) ≡ true → b ≡ true
-second_true true b e = e
-second_true false b e = absurd cc
-
--- who is reaped and who is woken is no point
-reaped_points : (t : ℕ) (ws : List ℕ) (y : Bool) → points_of (map Wake ws ++ reap_facts t y) ≡ []
-reaped_points t [] true = refl
-reaped_points t [] false = refl
-reaped_points t (w ∷ ws) y = reaped_points t ws y
-
--- a walk's access tells of a death, or of nothing
-walk_is_sound : (s : State) (t : ℕ) → Kept s → 1 ≤ t → t ≤ s.layout.threads → (r : walk_row.Row) → exit.IsGoing r → exit.Knows t (head_place t) r → Mourns s t r → Sound' s (walked s t (s.threads t).held (walk_of t r))
-walk_is_sound s t inv pos known r going knows l =
-    let g = walk_step s t inv pos known r going knows l in
-    subst (Sound' s) (sym (walked-is s t r g.valid)) record { kept = g.kept; same = refl; told = tell (death_then s t r) g.tells }
+-- an access of thread t is sound
+access_sound : (s : State) (t : ℕ) (v : Transition) (n : Note) → Kept s → 1 ≤ t → t ≤ s.layout.threads → Stepping s t v → points_of (facts_of n) ≡ point_at t v → Sound' s (record { state = after s t v; note = n })
+access_sound s t v n inv pos known g points = record { kept = g.kept; same = refl; told = subst (λ (ds : List Decision). Told s ds (after s t v)) (sym points) (told v.point refl g.tells) }
   where
-    tell : (d : Option ℕ) → DeathTells s t d (walk_after s t r) → Told s (points_of (facts_of (Walked t d (woken_by (walk_access s t r) (s.queues (address_of (walk_access s t r)))) (has_ended (row_then s t r))))) (walk_after s t r)
-    tell None same = subst (λ ds. Told s ds (walk_after s t r)) (sym (reaped_points t (woken_by (walk_access s t r) (s.queues (address_of (walk_access s t r)))) (has_ended (row_then s t r)))) same
-    tell (Some m) dies = (dies.0, dies.1, dies.2, reaped_points t (woken_by (walk_access s t r) (s.queues (address_of (walk_access s t r)))) (has_ended (row_then s t r)))
+    unchanged : seen (after s t v) v.mutex ≡ seen s v.mutex → (k : ℕ) → seen (after s t v) k ≡ seen s k
+    unchanged same k = go (k == v.mutex) refl
+      where
+        go : (b : Bool) → (k == v.mutex) ≡ b → seen (after s t v) k ≡ seen s k
+        go true e = subst (λ (j : ℕ). seen (after s t v) j ≡ seen s j) (sym (eqb-true k v.mutex e)) same
+        go false e = g.far k (eqb-false k v.mutex e)
+
+    told : (x : Option Reply) → v.point ≡ x → Tells t (seen s v.mutex) v.operation x (seen (after s t v) v.mutex) → Told s (point_of t v.mutex v.operation x) (after s t v)
+    told None is same = unchanged same
+    told (Some x) is permits = (g.inside, does _ t _ _ v.operation x (λ takes. subst (λ (h : ℕ). h < 2048) (inv.held t pos known) (g.room x is takes)) permits, g.far, refl)
 
 -- the state after a death
 module _ (s : State) (t : ℕ) (inv : Kept s) (pos : 1 ≤ t) (known : t ≤ s.layout.threads) (alive : is_alive (s.threads t).stage ≡ true) where
@@ -216,7 +172,7 @@ module _ (s : State) (t : ℕ) (inv : Kept s) (pos : 1 ≤ t) (known : t ≤ s.l
 
   dead_sits : (u h : ℕ) (g : Stage) → Sits s u h g → Sits s1 u h g
   dead_sits u h Idle f = tt
-  dead_sits u h (Calling d q) f = record { mine = f.mine; of = f.of; inside = f.inside; head = f.head; entry = f.entry; cell = f.cell; stands = f.stands }
+  dead_sits u h (Calling d q) (f, serves) = (record { mine = f.mine; called = f.called; inside = f.inside; head = f.head; entry = f.entry; cell = f.cell; stands = f.stands }, serves)
   dead_sits u h (Dying w) f = f
   dead_sits u h Reaped f = tt
 
@@ -250,64 +206,19 @@ module _ (s : State) (t : ℕ) (inv : Kept s) (pos : 1 ≤ t) (known : t ≤ s.l
         (λ apart. inv.held u first most);
   }
 
--- an access of a walk is sound
-walk_sound : (s : State) (t : ℕ) → Kept s → 1 ≤ t → t ≤ s.layout.threads → (w : walks.Standing) → (s.threads t).stage ≡ Dying w → Sound' s (walked s t (s.threads t).held w)
-walk_sound s t inv pos known w e =
-    let f : Walks t w = subst (λ (g : Stage). Sits s t (s.threads t).held g) e (inv.sits t pos known) in
-    let whose : walk_of t w.row ≡ w = λ i. record { thread = sym f.mine i; head = sym f.head i; row = w.row } in
-    subst (λ (z : walks.Standing). Sound' s (walked s t (s.threads t).held z)) whose
-    (walk_is_sound s t inv pos known w.row f.going (knows_at t w f) (subst (Listed s t) e (inv.listed t pos known)))
-
 -- a death is sound: the walk will find what the thread owned
 kill_sound : (s : State) (t : ℕ) → Kept s → 1 ≤ t → t ≤ s.layout.threads → is_alive (s.threads t).stage ≡ true → Sound' s (killed s t)
 kill_sound s t inv pos known alive = record { kept = kill_kept s t inv pos known alive; same = refl; told = λ k. refl }
 
--- a step is sound, wherever its thread stands
-step_sound : (s : State) (t : ℕ) → Kept s → 1 ≤ t → t ≤ s.layout.threads → (g : Stage) → (s.threads t).stage ≡ g → Sound' s (stepped s t (s.threads t).held g)
-step_sound s t inv pos known Idle e = idles s inv
-step_sound s t inv pos known Reaped e = idles s inv
-step_sound s t inv pos known (Dying w) e = walk_sound s t inv pos known w e
-step_sound s t inv pos known (Calling c p) e =
-    go (sleeps s t (Calling c p))
-  where
-    go : (b : Bool) → Sound' s (if b then nothing s else went s t (s.threads t).held c p (whole_led p (answer_of s (whole_access p))))
-    go true = idles s inv
-    go false = step_went s t inv pos known c p e
-
--- whoever may begin is idle
-pub at_rest : (g : Stage) → is_idle g ≡ true → g ≡ Idle
-at_rest Idle e = refl
-at_rest (Calling c p) e = absurd cc
-at_rest (Dying w) e = absurd cc
-at_rest Reaped e = absurd cc
-
 -- each event is sound
 pub sound : (s : State) (e : Event) → Kept s → Sound' s (happens s e)
-sound s (Begin t c) inv = go (may_begin s t c) refl
-  where
-    go : (b : Bool) → may_begin s t c ≡ b → Sound' s (if b then begun s t c (whole_started s.layout t (s.threads t).held c) else nothing s)
-    go true e =
-        let pos : 1 ≤ t = grind (arith, nat_tests) in
-        let known : t ≤ s.layout.threads = grind (arith, nat_tests) in
-        let inside : mutex_of c < s.layout.mutexes = grind (arith, nat_tests) in
-        begins_call s t c inv pos known inside (at_rest (s.threads t).stage (grind (arith, nat_tests))) _ refl
-    go false e = idles s inv
-sound s (Step t) inv = go (is_thread s t) refl
-  where
-    go : (b : Bool) → is_thread s t ≡ b → Sound' s (if b then stepped s t (s.threads t).held (s.threads t).stage else nothing s)
-    go true e =
-        let pos : 1 ≤ t = grind (arith, nat_tests) in
-        let known : t ≤ s.layout.threads = grind (arith, nat_tests) in
-        step_sound s t inv pos known (s.threads t).stage refl
-    go false e = idles s inv
-sound s (Kill t) inv = go (is_thread s t && is_alive (s.threads t).stage) refl
-  where
-    go : (b : Bool) → (is_thread s t && is_alive (s.threads t).stage) ≡ b → Sound' s (if b then killed s t else nothing s)
-    go true e =
-        let pos : 1 ≤ t = grind (arith, nat_tests) in
-        let known : t ≤ s.layout.threads = grind (arith, nat_tests) in
-        kill_sound s t inv pos known (second_true (is_thread s t) (is_alive (s.threads t).stage) e)
-    go false e = idles s inv
+sound s e inv =
+    by_event s (λ (x : Event) (a : After). Sound' s a)
+    (λ x. idles s inv)
+    (λ t c pos known inside idle b full. begins_call s t c inv pos known inside idle b full)
+    (λ t pos known. by_step s t inv pos known (Sound' s) (λ rests. idles s inv) (λ v n is awake g points. access_sound s t v n inv pos known g points))
+    (λ t pos known alive. kill_sound s t inv pos known alive)
+    e
 
 -- ---- the beginning
 

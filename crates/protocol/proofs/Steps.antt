@@ -21,7 +21,7 @@ use Rattle.mutex.specs.declared.consistent.ConsistentRow.TheVariants as consiste
 use Rattle.mutex.specs.declared.row.Row.{Row}
 use Rattle.mutex.specs.declared.row.Row.TheVariants.{Lock, TryLock, Unlock, Consistent, Ended}
 use Rattle.mutex.specs.declared.phase.Onward.{Onward}
-use Rattle.mutex.specs.Calls.{operation_of}
+use Rattle.mutex.specs.Calls.{mutex_of}
 use Rattle.mutex.specs.Standings.{Whole}
 use Rattle.mutex.specs.Rows.{IsGoing}
 use Rattle.mutex.specs.Programs.{row_access, row_operation, point_of, resume_of}
@@ -29,11 +29,15 @@ use Rattle.mutex.specs.Whole.{whole_access, whole_led}
 use Rattle.mutex.specs.Laws.{Expects, points, decided, Joins, IsOf}
 use Rattle.mutex.proofs.Steps.{carries}
 use Rattle.protocol.specs.declared.thread.Thread.{Thread}
+use Rattle.protocol.specs.declared.thread.Stage.{Stage}
+use Rattle.protocol.specs.declared.thread.Stage.TheVariants.{Calling}
+use Rattle.protocol.specs.declared.note.Note.{Note}
 use Rattle.protocol.specs.declared.note.Note.TheVariants.{Stepped}
-use Rattle.protocol.specs.Machine.{State, After, put, is_valid, answer_among, queue_after, woken_by, answer_of, words_after, queues_after, slept_on, woken, went, stage_after, returned, held_after, decision}
+use Rattle.protocol.specs.Machine.{State, put, is_valid, answer_among, queue_after, woken_by, answer_of, words_after, queues_after, slept_on, woken, went, stage_after, returned, held_after, decision}
 use Rattle.protocol.specs.Headline.{seen}
 use Rattle.keys.proofs.Objects.{others_keep}
 use Rattle.protocol.proofs.Objects.{IsCalled}
+use Rattle.protocol.proofs.Kept.{Serves}
 
 -- a call goes on alike, whoever sleeps
 pub alike : (t cell : ℕ) (r : Row) (w : ℕ) (q : List ℕ) → resume_of t r (answer_among (row_access t cell r) w q) ≡ resume_of t r (answer_at (row_access t cell r) w)
@@ -142,8 +146,18 @@ same_held d None y op held joins takes lost = unmoved op held
 same_held None (Some z) y op held joins takes lost = held_lost op held z takes (lost z joins)
 same_held (Some r) (Some z) y op held joins takes lost = absurd (cc joins.0)
 
--- ---- one access of a thread, after which the thread is th
+-- ---- one access of a thread
 
+-- where it was; the access; where it leads; and what point that is, of an operation on a mutex
+pub record Transition : Type 0 where
+  pub from : Stage
+  pub access : Access
+  pub next : Stage
+  pub mutex : ℕ
+  pub operation : Operation
+  pub point : Option Reply
+
+-- after an access the thread is th
 abbrev pub done : State → ℕ → Access → Thread → State
 done s t a th = record {
   layout = s.layout;
@@ -152,48 +166,55 @@ done s t a th = record {
   threads = put s.threads t th;
 }
 
--- ---- one access of thread t's call
+abbrev pub thread_after : State → ℕ → Transition → Thread
+thread_after s t v = record { stage = v.next; held = held_after (s.threads t).held v.operation v.point }
 
-module _ (s : State) (t : ℕ) (c : Call) (p : Whole) where
-  abbrev pub access : Access
-  access = whole_access p
+abbrev pub after : State → ℕ → Transition → State
+after s t v = done s t v.access (thread_after s t v)
 
-  -- where it leads
-  abbrev pub onto : Onward
-  onto = whole_led p (answer_among access (s.words (address_of access)) (s.queues (address_of access)))
+-- the word that it meets
+abbrev pub met : State → Transition → ℕ
+met s v = s.words (address_of v.access)
 
-  abbrev pub thread_after : Thread
-  thread_after = record { stage = stage_after c p onto.phase; held = held_after (s.threads t).held (operation_of c) onto.point }
+-- ---- where an access is valid
 
-  abbrev pub after : State
-  after = done s t access thread_after
+module _ (s : State) (t : ℕ) (a : Access) (valid : is_valid s.layout (address_of a) ≡ true) where
+  pub answer-is : answer_of s a ≡ answer_among a (s.words (address_of a)) (s.queues (address_of a))
+  answer-is = ap (λ (b : Bool). if b then answer_among a (s.words (address_of a)) (s.queues (address_of a)) else Fault) valid
 
-  -- what it leaves and notes, where its address is valid
-  abbrev pub leaves : After
-  leaves = record {
-    state = after;
-    note = Stepped t (decision t c onto.point) (slept_on s c access) (woken_by access (s.queues (address_of access))) (returned onto.phase);
-  }
+  pub words-is : words_after s a ≡ put s.words (address_of a) (changed a (s.words (address_of a)))
+  words-is = ap (λ (b : Bool). if b then put s.words (address_of a) (changed a (s.words (address_of a))) else s.words) valid
 
-  pub went-is : is_valid s.layout (address_of access) ≡ true → went s t (s.threads t).held c p (whole_led p (answer_of s access)) ≡ leaves
-  went-is valid = λ i. record {
-    state = record {
-      layout = s.layout;
-      words = words i;
-      queues = queues i;
-      threads = put s.threads t (record { stage = stage_after c p (leads i).phase; held = held_after (s.threads t).held (operation_of c) (leads i).point });
-    };
-    note = Stepped t (decision t c (leads i).point) (slept_on s c access) (waking i) (returned (leads i).phase);
-  }
-    where
-      leads : whole_led p (answer_of s access) ≡ onto
-      leads = ap (λ (b : Bool). whole_led p (if b then answer_among access (s.words (address_of access)) (s.queues (address_of access)) else Fault)) valid
+  pub queues-is : queues_after s t a ≡ put s.queues (address_of a) (queue_after t a (s.words (address_of a)) (s.queues (address_of a)))
+  queues-is = ap (λ (b : Bool). if b then put s.queues (address_of a) (queue_after t a (s.words (address_of a)) (s.queues (address_of a))) else s.queues) valid
 
-      words : words_after s access ≡ after.words
-      words = ap (λ (b : Bool). if b then after.words else s.words) valid
+  pub woken-is : woken s a ≡ woken_by a (s.queues (address_of a))
+  woken-is = ap (λ (b : Bool). if b then woken_by a (s.queues (address_of a)) else []) valid
 
-      queues : queues_after s t access ≡ after.queues
-      queues = ap (λ (b : Bool). if b then after.queues else s.queues) valid
+-- ---- one access of a call
 
-      waking : woken s access ≡ woken_by access (s.queues (address_of access))
-      waking = ap (λ (b : Bool). if b then woken_by access (s.queues (address_of access)) else []) valid
+-- where it leads
+abbrev pub onto : State → Whole → Onward
+onto s p = whole_led p (answer_among (whole_access p) (s.words (address_of (whole_access p))) (s.queues (address_of (whole_access p))))
+
+abbrev pub call_step : State → Call → Whole → Transition
+call_step s c p = record { from = Calling c p; access = whole_access p; next = stage_after c p (onto s p).phase; mutex = mutex_of c; operation = p.operation; point = (onto s p).point }
+
+abbrev pub call_note : State → ℕ → Call → Whole → Note
+call_note s t c p = Stepped t (decision t c (onto s p).point) (slept_on s c (whole_access p)) (woken_by (whole_access p) (s.queues (address_of (whole_access p)))) (returned (onto s p).phase)
+
+-- what it leaves and notes, where its address is valid
+pub went-is : (s : State) (t : ℕ) (c : Call) (p : Whole) → Serves c p → is_valid s.layout (address_of (whole_access p)) ≡ true
+    → went s t (s.threads t).held c p (whole_led p (answer_of s (whole_access p))) ≡ record { state = after s t (call_step s c p); note = call_note s t c p }
+went-is s t c p serves valid = λ i. record {
+  state = record {
+    layout = s.layout;
+    words = words-is s t (whole_access p) valid i;
+    queues = queues-is s t (whole_access p) valid i;
+    threads = put s.threads t (record { stage = stage_after c p (leads i).phase; held = held_after (s.threads t).held (sym serves i) (leads i).point });
+  };
+  note = Stepped t (decision t c (leads i).point) (slept_on s c (whole_access p)) (woken-is s t (whole_access p) valid i) (returned (leads i).phase);
+}
+  where
+    leads : whole_led p (answer_of s (whole_access p)) ≡ onto s p
+    leads = ap (whole_led p) (answer-is s t (whole_access p) valid)

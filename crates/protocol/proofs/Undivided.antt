@@ -32,21 +32,26 @@ use Rattle.protocol.specs.declared.note.Fact.TheVariants.{Wake, Return}
 use Rattle.protocol.specs.declared.note.Note.TheVariants.{Stepped}
 use Rattle.protocol.specs.declared.thread.Thread.{Thread}
 use Rattle.protocol.specs.declared.thread.Stage.TheVariants.{Idle, Calling}
-use Rattle.protocol.specs.Machine.{State, After, start, stands_in, sleepers, sleeps, is_asleep, may_begin, begun, nothing, stage_after, returned, happens, run, notes}
+use Rattle.protocol.specs.Machine.{State, After, start, sleeps, is_asleep, may_begin, begun, nothing, stage_after, returned, happens, run, notes}
 use Rattle.protocol.specs.Headline.{seen, facts_among}
 use Rattle.protocol.specs.Notes.{facts_of, sleep_facts, return_facts}
 use Rattle.protocol.specs.Sleepers.{IsAmong, IsUndivided, GoesOn, MachineGoesOn}
 use Rattle.protocol.proofs.Puts.{put-same}
 use Rattle.protocol.proofs.Phases.{decided_at, SteadyAt}
-use Rattle.protocol.proofs.Kept.{AtRow, InPhase, Fits, Kept}
-use Rattle.protocol.proofs.Steps.{Tells, went-is, seen-inside}
-use Rattle.protocol.proofs.Stepping.{Stepping}
-use Rattle.protocol.proofs.Runs.{sound, start_kept, run_kept, does, at_rest}
-use Rattle.protocol.proofs.Queues.{Queued, idle_in_none}
+use Rattle.protocol.proofs.Kept.{AtRow, InPhase, Fits, Serves, Kept}
+use Rattle.protocol.proofs.Steps.{Tells, seen-inside, onto, after, met, call_step, call_note}
+use Rattle.protocol.proofs.Arrivals.{ended_or_not}
+use Rattle.protocol.proofs.Stepping.{left_of, Stepping}
+use Rattle.protocol.proofs.CallSteps.{CallStep, few_at, call_stepping}
+use Rattle.protocol.proofs.Accesses.{fits_in}
+use Rattle.protocol.proofs.Accesses.{goes as goes_in}
+use Rattle.protocol.proofs.Events.{at_rest}
+use Rattle.protocol.proofs.Working.{call_goes}
+use Rattle.protocol.proofs.Runs.{sound, start_kept, run_kept, does}
+use Rattle.protocol.proofs.Queued.{Queued, in_none, mine, still_out, now_asleep, went_queued}
 use Rattle.protocol.proofs.QueueRuns.{run_queued, queued_on}
-use Rattle.protocol.proofs.Owed.{few_at, step_is, fits, steps, next, s', steps_to, queued', stage', now_asleep, still_awake, now_idle, ended_or_not}
-use Rattle.protocol.proofs.Returning.{still_run, still_tells, IsStill, idle_still, asleep_still, comes_back}
-use Rattle.protocol.proofs.WalksOwe.{somebody_owes, ends_alone}
+use Rattle.protocol.proofs.Owed.{out_awake, somebody_owes, ends_alone}
+use Rattle.protocol.proofs.Returning.{still_run, still_tells, IsStill, idle_still, asleep_still, told_return, Back, back_later, back_asleep}
 
 -- ---- what a step tells of returns
 
@@ -83,10 +88,18 @@ module _ (t held : ℕ) (c : Call) (o : Object) (room : acquires (operation_of c
   abbrev op : Operation
   op = operation_of c
 
+  -- it sleeps only on a mutex that another owns
+  abbrev Sleeps_so : Type 0
+  Sleeps_so = (op ≡ operation.Lock) × ((u : ℕ) × (o.owner ≡ Some u) × (u ≢ t))
+
   -- what it comes to after n steps
   record Comes (s : State) (n : ℕ) : Type 0 where
     returns : (x : Reply) → IsAmong (Return t x) (facts_among (notes s (replicate n (Step t)))) → (x ≢ XRACED) × Does held o t op x (seen (run s (replicate n (Step t))) m)
-    sleeps : is_asleep (run s (replicate n (Step t))) t ≡ true → (op ≡ operation.Lock) × ((u : ℕ) × (o.owner ≡ Some u) × (u ≢ t))
+    sleeps : is_asleep (run s (replicate n (Step t))) t ≡ true → Sleeps_so
+
+  -- and that it comes back, if they are enough
+  abbrev ComesBack : State → ℕ → Type 0
+  ComesBack s n = Comes s n × (left_of s (s.threads t).stage ≤ n → Back s t n)
 
   -- undecided, the object is as it was; decided, it is as the reply tells
   abbrev Decided : Option Reply → Object → Type 0
@@ -100,115 +113,147 @@ module _ (t held : ℕ) (c : Call) (o : Object) (room : acquires (operation_of c
   decides (Some z) (Some x) y old new joins permits was = absurd (cc joins.0)
 
   -- it comes to nothing more once it is at rest
-  rests : (s : State) (n : ℕ) → IsStill s t → (is_asleep s t ≡ true → (op ≡ operation.Lock) × ((u : ℕ) × (o.owner ≡ Some u) × (u ≢ t))) → Comes s n
+  rests : (s : State) (n : ℕ) → IsStill s t → (is_asleep s t ≡ true → Sleeps_so) → Comes s n
   rests s n still asleep = record {
     returns = λ x among. absurd (subst (IsAmong (Return t x)) (still_tells s t n still) among);
     sleeps = λ e. asleep (ap (λ (z : State). is_asleep z t) (sym (still_run s t n still)) ∙ e);
   }
 
   -- one step of it, while it is awake
-  module _ (s : State) (p : Whole) (inv : Kept s) (queued : Queued s) (pos : 1 ≤ t) (known : t ≤ s.layout.threads) (is : (s.threads t).stage ≡ Calling c p) (out : stands_in t (sleepers s (mutex_of c)) ≡ false) (steady : SteadyAt t p.phase (s.words (cell_place s.layout (mutex_of c)))) (was : Decided (decided_at p.phase) (seen s (mutex_of c))) where
+  module _ (s : State) (p : Whole) (inv : Kept s) (queued : Queued s) (pos : 1 ≤ t) (known : t ≤ s.layout.threads) (is : (s.threads t).stage ≡ Calling c p) (awake : is_asleep s t ≡ false) (steady : SteadyAt t p.phase (s.words (cell_place s.layout (mutex_of c)))) (was : Decided (decided_at p.phase) (seen s (mutex_of c))) where
     abbrev w : ℕ
     w = s.words (cell_place s.layout (mutex_of c))
 
-    abbrev fit : Fits s t (s.threads t).held c p
-    fit = fits s t c p inv queued pos known is out
+    fit : Fits s t (s.threads t).held (mutex_of c) p × Serves c p
+    fit = fits_in s t c p inv pos known is
+
+    went : CallStep s t c p
+    went = goes_in s t c p inv pos known is
+
+    step : Stepping s t (call_step s c p)
+    step = call_stepping s t c p went fit.0
 
     abbrev to : Onward
-    to = next s t c p inv queued pos known is out
-
-    abbrev went : Stepping s t c p
-    went = steps s t c p inv queued pos known is out
+    to = onto s p
 
     abbrev z : State
-    z = s' s t c p inv queued pos known is out
+    z = after s t (call_step s c p)
+
+    abbrev falls : Bool
+    falls = sleeps_at (whole_access p) (met s (call_step s c p))
+
+    goes_to : happens s (Step t) ≡ record { state = z; note = call_note s t c p }
+    goes_to = call_goes s t c p inv pos known is awake
+
+    stage_then : (z.threads t).stage ≡ stage_after c p to.phase
+    stage_then = mine s t (call_step s c p) step pos known is queued awake
+
+    queued_then : Queued z
+    queued_then = went_queued s t (call_step s c p) step pos known is queued awake
 
     -- what it tells
     told : (x : Reply) (rest : List Fact) → IsAmong (Return t x) (facts_of (happens s (Step t)).note ++ rest) → (returned to.phase ≡ Some x) ⊎ IsAmong (Return t x) rest
-    told x rest h =
-        among_step t t x _ _ _ (returned to.phase) rest
-        (subst (λ (a : After). IsAmong (Return t x) (facts_of a.note ++ rest)) (step_is s t c p pos known is out ∙ went-is s t c p went.valid) h)
+    told x rest h = among_step t t x _ _ _ (returned to.phase) rest (subst (λ (a : After). IsAmong (Return t x) (facts_of a.note ++ rest)) goes_to h)
 
     changed_to : Decided (decided_at to.phase) (seen z (mutex_of c))
-    changed_to = decides (decided_at p.phase) to.point (decided_at to.phase) (seen s (mutex_of c)) (seen z (mutex_of c)) went.moves.joins went.tells was
+    changed_to = decides (decided_at p.phase) to.point (decided_at to.phase) (seen s (mutex_of c)) (seen z (mutex_of c)) went.moves.joins (subst (λ (x : Operation). Tells t (seen s (mutex_of c)) x to.point (seen z (mutex_of c))) fit.1 went.tells) was
 
-    steady_then : sleeps_at (whole_access p) w ≡ false → SteadyAt t to.phase (z.words (cell_place s.layout (mutex_of c)))
-    steady_then awake = went.moves.steady awake steady
+    steady_then : falls ≡ false → SteadyAt t to.phase (z.words (cell_place s.layout (mutex_of c)))
+    steady_then quiet = went.moves.steady (sym went.same_sleep ∙ quiet) steady
 
     -- it slept on a mutex that another owns
-    slept : sleeps_at (whole_access p) w ≡ true → (op ≡ operation.Lock) × ((u : ℕ) × (o.owner ≡ Some u) × (u ≢ t))
+    slept : falls ≡ true → Sleeps_so
     slept on =
         let row = went.sleeper on in
         let facts : (w ≡ word_of row.0) × (row.0.owner ≢ t) = subst (λ (x : Phase). SteadyAt t x w) row.1 steady in
-        let sees : AtRow t (s.threads t).held p.operation (Lock (lock.Sleep row.0)) (seen s (mutex_of c)) = subst (λ (x : Phase). InPhase t (s.threads t).held p x (seen s (mutex_of c))) row.1 fit.stands in
+        let sees : AtRow t (s.threads t).held p.operation (Lock (lock.Sleep row.0)) (seen s (mutex_of c)) = subst (λ (x : Phase). InPhase t (s.threads t).held p x (seen s (mutex_of c))) row.1 fit.0.stands in
         let same : seen s (mutex_of c) ≡ o = subst (λ (x : Phase). Decided (decided_at x) (seen s (mutex_of c))) row.1 was in
         let cell : fields_of w ≡ row.0 = ap fields_of facts.0 ∙ fields_of-word_of row.0 sees.knows.0.1 in
         let some : 1 ≤ row.0.owner = (let e = sees.knows.0.0 in omega arith) in (
-          sym fit.of ∙ sym sees.of,
+          sym fit.1 ∙ sym sees.of,
           (
             row.0.owner,
-            sym (ap (λ (x : Object). x.owner) same) ∙ ap (λ (x : Object). x.owner) (seen-inside s (mutex_of c) fit.inside) ∙ ap (λ (x : Fields). owner_of x.owner) cell ∙ owner_of-some row.0.owner some,
+            sym (ap (λ (x : Object). x.owner) same) ∙ ap (λ (x : Object). x.owner) (seen-inside s (mutex_of c) fit.0.inside) ∙ ap (λ (x : Fields). owner_of x.owner) cell ∙ owner_of-some row.0.owner some,
             facts.1,
           ),
         )
 
     -- one step, and then n
     after_step : (n : ℕ) → Comes z n → ((x : Reply) → returned to.phase ≡ Some x → (x ≢ XRACED) × Does held o t op x (seen (run z (replicate n (Step t))) (mutex_of c))) → Comes s (suc n)
-    after_step n comes at_return =
-        let goes = steps_to s t c p inv queued pos known is out in
-        record {
-          returns = λ x among.
-              subst (λ (y : State). (x ≢ XRACED) × Does held o t op x (seen (run y (replicate n (Step t))) (mutex_of c))) (sym goes)
-              (⊎_elim (at_return x) (comes.returns x)
-              (subst (λ (y : State). (returned to.phase ≡ Some x) ⊎ IsAmong (Return t x) (facts_among (notes y (replicate n (Step t))))) goes (told x (facts_among (notes (happens s (Step t)).state (replicate n (Step t)))) among)));
-          sleeps = λ e. comes.sleeps (ap (λ (y : State). is_asleep (run y (replicate n (Step t))) t) (sym goes) ∙ e);
-        }
+    after_step n comes at_return = record {
+      returns = λ x among.
+          subst (λ (a : After). (x ≢ XRACED) × Does held o t op x (seen (run a.state (replicate n (Step t))) (mutex_of c))) (sym goes_to)
+          (⊎_elim (at_return x) (comes.returns x)
+          (subst (λ (a : After). (returned to.phase ≡ Some x) ⊎ IsAmong (Return t x) (facts_among (notes a.state (replicate n (Step t))))) goes_to (told x (facts_among (notes (happens s (Step t)).state (replicate n (Step t)))) among)));
+      sleeps = λ e. comes.sleeps (ap (λ (a : After). is_asleep (run a.state (replicate n (Step t))) t) (sym goes_to) ∙ e);
+    }
 
     -- it fell asleep
-    to_sleep : (n : ℕ) → sleeps_at (whole_access p) w ≡ true → Comes s (suc n)
+    to_sleep : (n : ℕ) → falls ≡ true → ComesBack s (suc n)
     to_sleep n on =
-        let asleep = now_asleep s t c p inv queued pos known is out on went.change in
-        let row = went.sleeper on in
-        after_step n (rests z n (asleep_still z t asleep) (λ e. slept on)) (λ x e. absurd (cc (sym (ap returned row.2) ∙ e)))
+        let asleep = now_asleep s t (call_step s c p) step pos known is queued awake on in
+        let row = went.sleeper on in (
+          after_step n (rests z n (asleep_still z t asleep) (λ e. slept on)) (λ x e. absurd (cc (sym (ap returned row.2) ∙ e))),
+          λ few. back_later s z t n (ap (λ (a : After). a.state) goes_to) (back_asleep z t n asleep),
+        )
 
     -- it returned
-    to_return : (n : ℕ) (y : Reply) → sleeps_at (whole_access p) w ≡ false → to.phase ≡ Ended y → Comes s (suc n)
-    to_return n y awake e =
-        let idle = now_idle s t c p inv queued pos known is out y e in
-        let still = idle_still z t idle in
-        after_step n (rests z n still (λ asleep. absurd (cc (sym (ap (sleeps z t) idle) ∙ asleep)))) (λ x back.
-        let same : y ≡ x = replied y x (sym (ap returned e) ∙ back) in
-        subst (λ (v : Reply). (v ≢ XRACED) × Does held o t op v (seen (run z (replicate n (Step t))) (mutex_of c))) same (
-          subst (λ (v : Phase). SteadyAt t v (z.words (cell_place s.layout (mutex_of c)))) e (steady_then awake),
-          subst (λ (v : State). Does held o t op y (seen v (mutex_of c))) (sym (still_run z t n still)) (subst (λ (v : Phase). Decided (decided_at v) (seen z (mutex_of c))) e changed_to),
-        ))
+    to_return : (n : ℕ) (y : Reply) → falls ≡ false → to.phase ≡ Ended y → ComesBack s (suc n)
+    to_return n y quiet e =
+        let idle : (z.threads t).stage ≡ Idle = stage_then ∙ ap (stage_after c p) e in
+        let still = idle_still z t idle in (
+          after_step n (rests z n still (λ asleep. absurd (cc (sym (ap (sleeps z t) idle) ∙ asleep)))) (λ x back.
+              let same : y ≡ x = replied y x (sym (ap returned e) ∙ back) in
+              subst (λ (v : Reply). (v ≢ XRACED) × Does held o t op v (seen (run z (replicate n (Step t))) (mutex_of c))) same (
+                subst (λ (v : Phase). SteadyAt t v (z.words (cell_place s.layout (mutex_of c)))) e (steady_then quiet),
+                subst (λ (v : State). Does held o t op y (seen v (mutex_of c))) (sym (still_run z t n still)) (subst (λ (v : Phase). Decided (decided_at v) (seen z (mutex_of c))) e changed_to),
+              )),
+          λ few. inl (y, subst (λ (a : After). IsAmong (Return t y) (facts_of a.note ++ facts_among (notes a.state (replicate n (Step t))))) (sym goes_to) (told_return t y _ _ _ (returned to.phase) _ (ap returned e))),
+        )
       where
         replied : (a b : Reply) → Some a ≡ Some b → a ≡ b
         replied a b eq = cc
 
+    -- it goes on
+    goes_further : (n : ℕ) → falls ≡ false → ((a : Call) (q : Whole) → stage_after a q to.phase ≡ Calling a (record q { phase = to.phase })) → ComesBack z n → ComesBack s (suc n)
+    goes_further n quiet on further = (
+      after_step n further.0 (λ x back. absurd (goes_on to.phase on c p x back)),
+      λ few. back_later s z t n (ap (λ (a : After). a.state) goes_to)
+          (further.1
+          (let less = step.fewer quiet in
+          let before : left_of s (s.threads t).stage ≡ left_of s (Calling c p) = ap (left_of s) is in
+          let left_then : left_of z (z.threads t).stage ≡ left_of z (stage_after c p to.phase) = ap (left_of z) stage_then in
+          omega (arith, less, few, before, left_then))),
+    )
+
   -- a call that is awake, whatever steps it has made
-  comes : (n : ℕ) (s : State) (p : Whole) → Kept s → Queued s → 1 ≤ t → t ≤ s.layout.threads → (s.threads t).stage ≡ Calling c p → stands_in t (sleepers s (mutex_of c)) ≡ false → SteadyAt t p.phase (s.words (cell_place s.layout (mutex_of c))) → Decided (decided_at p.phase) (seen s (mutex_of c)) → Comes s n
-  comes zero s p inv queued pos known is out steady was = record {
-    returns = λ x among. absurd among;
-    sleeps = λ e. absurd (cc (sym (ap (sleeps s t) is ∙ out) ∙ e));
-  }
-  comes (suc n) s p inv queued pos known is out steady was = go (sleeps_at (whole_access p) (s.words (cell_place s.layout (mutex_of c)))) refl (comes n)
+  comes : (n : ℕ) (s : State) (p : Whole) → Kept s → Queued s → 1 ≤ t → t ≤ s.layout.threads → (s.threads t).stage ≡ Calling c p → is_asleep s t ≡ false → SteadyAt t p.phase (s.words (cell_place s.layout (mutex_of c))) → Decided (decided_at p.phase) (seen s (mutex_of c)) → ComesBack s n
+  comes zero s p inv queued pos known is awake steady was = (
+    record {
+      returns = λ x among. absurd among;
+      sleeps = λ e. absurd (cc (awake, e));
+    },
+    λ few.
+        let some = (step s p inv queued pos known is awake steady was).some in
+        let before : left_of s (s.threads t).stage ≡ left_of s (Calling c p) = ap (left_of s) is in
+        absurd (omega (arith, some, few, before)),
+  )
+  comes (suc n) s p inv queued pos known is awake steady was = go (falls s p inv queued pos known is awake steady was) refl (comes n)
     where
-      go : (b : Bool) → sleeps_at (whole_access p) (s.words (cell_place s.layout (mutex_of c))) ≡ b
-          → ((y : State) (q : Whole) → Kept y → Queued y → 1 ≤ t → t ≤ y.layout.threads → (y.threads t).stage ≡ Calling c q → stands_in t (sleepers y (mutex_of c)) ≡ false → SteadyAt t q.phase (y.words (cell_place y.layout (mutex_of c))) → Decided (decided_at q.phase) (seen y (mutex_of c)) → Comes y n)
-          → Comes s (suc n)
-      go true e further = to_sleep s p inv queued pos known is out steady was n e
+      go : (b : Bool) → falls s p inv queued pos known is awake steady was ≡ b
+          → ((y : State) (q : Whole) → Kept y → Queued y → 1 ≤ t → t ≤ y.layout.threads → (y.threads t).stage ≡ Calling c q → is_asleep y t ≡ false → SteadyAt t q.phase (y.words (cell_place y.layout (mutex_of c))) → Decided (decided_at q.phase) (seen y (mutex_of c)) → ComesBack y n)
+          → ComesBack s (suc n)
+      go true e further = to_sleep s p inv queued pos known is awake steady was n e
       go false e further =
           ⊎_elim
-          (λ ended. to_return s p inv queued pos known is out steady was n ended.0 e ended.1)
-          (λ on. after_step s p inv queued pos known is out steady was n
-          (further (s' s t c p inv queued pos known is out) (record p { phase = (next s t c p inv queued pos known is out).phase }) (steps s t c p inv queued pos known is out).kept (queued' s t c p inv queued pos known is out) pos known
-          (stage' s t c p inv queued pos known is out ∙ on c p)
-          (still_awake s t c p inv queued pos known is out e (steps s t c p inv queued pos known is out).change)
-          (steady_then s p inv queued pos known is out steady was e)
-          (changed_to s p inv queued pos known is out steady was))
-          (λ x back. absurd (goes_on (next s t c p inv queued pos known is out).phase on c p x back)))
-          (ended_or_not (next s t c p inv queued pos known is out).phase)
+          (λ ended. to_return s p inv queued pos known is awake steady was n ended.0 e ended.1)
+          (λ on. goes_further s p inv queued pos known is awake steady was n e on
+          (further (after s t (call_step s c p)) (record p { phase = (onto s p).phase }) (step s p inv queued pos known is awake steady was).kept (queued_then s p inv queued pos known is awake steady was) pos known
+          (stage_then s p inv queued pos known is awake steady was ∙ on c p)
+          (out_awake (after s t (call_step s c p)) t (still_out s t (call_step s c p) (step s p inv queued pos known is awake steady was) pos known is queued awake e))
+          (steady_then s p inv queued pos known is awake steady was e)
+          (changed_to s p inv queued pos known is awake steady was)))
+          (ended_or_not (onto s p).phase)
 
 -- ---- a call from its begin on
 
@@ -276,21 +321,23 @@ module _ (s : State) (t : ℕ) (c : Call) (n : ℕ) (inv : Kept s) (queued : Que
       let begins_here : (s1.threads t).stage ≡ Calling c begins_at = ap (λ (z : Thread). z.stage) (put-same s.threads t (record (s.threads t) { stage = Calling c begins_at })) in
       let comes1 = comes t owned c (seen s (mutex_of c)) room n s1 begins_at kept1 queued1 pos known
       begins_here
-      (idle_in_none s t queued idle (cell_place s.layout (mutex_of c)))
+      (out_awake s1 t (in_none s t queued (ap (sleeps s t) idle)))
       (first_steady t c (s.words (cell_place s.layout (mutex_of c))))
       (subst (λ (d : Option Reply). Decided t owned c (seen s (mutex_of c)) room d (seen s (mutex_of c))) (sym (first_decided c)) refl) in
       record {
         ends = λ enough.
             subst (λ (a : After). ((x : Reply) × IsAmong (Return t x) (facts_of a.note ++ facts_among (notes a.state (replicate n (Step t))))) ⊎ (is_asleep (run a.state (replicate n (Step t))) t ≡ true)) (sym to)
-            (⊎_elim (λ told. inl (told.0, inr told.1)) inr
-            (comes_back n s1 t c begins_at kept1 queued1 pos known begins_here (let few = few_at begins_at.phase (s1.words (cell_place s.layout (mutex_of c))) in omega arith)));
+            (⊎_elim (λ told. inl (told.0, inr told.1)) inr (comes1.1 (few enough)));
         returns = λ x among.
             let said = subst (λ (a : After). IsAmong (Return t x) (facts_of a.note ++ facts_among (notes a.state (replicate n (Step t))))) to among in
             subst (λ (a : After). (x ≢ XRACED) × Does owned (seen s (mutex_of c)) t (operation_of c) x (seen (run a.state (replicate n (Step t))) (mutex_of c))) (sym to)
-            (comes1.returns x (⊎_elim (λ b. absurd (cc b)) (λ rest. rest) said));
-        sleeps = λ asleep. comes1.sleeps (ap (λ (a : After). is_asleep (run a.state (replicate n (Step t))) t) (sym to) ∙ asleep);
+            (comes1.0.returns x (⊎_elim (λ b. absurd (cc b)) (λ rest. rest) said));
+        sleeps = λ asleep. comes1.0.sleeps (ap (λ (a : After). is_asleep (run a.state (replicate n (Step t))) t) (sym to) ∙ asleep);
       }
     where
+      few : 9000 ≤ n → left_of (begun_to false).state ((begun_to false).state.threads t).stage ≤ n
+      few enough = subst (λ (z : Thread). left_of (begun_to false).state z.stage ≤ n) (sym (put-same s.threads t (record (s.threads t) { stage = Calling c begins_at }))) (let most = few_at begins_at.phase (s.words (cell_place s.layout (mutex_of c))) in omega arith)
+
       room : acquires (operation_of c) ≡ true → owned < 2048
       room takes = let h = inv.held t pos known in let few : (s.threads t).held < 2048 = grind (arith, nat_tests) in omega arith
 

@@ -28,20 +28,27 @@ use Rattle.exitwalk.specs.Steps.{points, Right, OnlyWaits}
 use Rattle.exitwalk.specs.Walks.{Knows, IsGoing, row_access, row_after, point_of, marked_word, goes_on}
 use Rattle.exitwalk.proofs.Steps.{steps}
 use Rattle.protocol.specs.declared.thread.Thread.{Thread}
+use Rattle.protocol.specs.declared.thread.Stage.{Stage}
+use Rattle.protocol.specs.declared.thread.Stage.TheVariants.{Dying, Reaped}
+use Rattle.protocol.specs.declared.note.Note.{Note}
 use Rattle.protocol.specs.declared.note.Note.TheVariants.{Walked}
-use Rattle.keys.specs.declared.access.Answer.TheVariants.{Fault}
-use Rattle.protocol.specs.Machine.{State, put, is_valid, answer_among, woken_by, answer_of, words_after, queues_after, woken, walked, has_ended, stage_walked, told_of, death_at, mutex_at, held_after}
+use Rattle.protocol.specs.Machine.{State, put, is_valid, answer_among, woken_by, answer_of, walked, has_ended, stage_walked, told_of, death_at, mutex_at, held_after}
 use Rattle.protocol.specs.Headline.{seen}
 use Rattle.protocol.proofs.Puts.{put-same, put-other, by_put}
 use Rattle.protocol.proofs.Kept.{Sits, Left, LeftOf, LeftIn, LeftFrom, Treats, Mourns, Listed, PendsAs, Kept}
 use Rattle.protocol.proofs.Places.{mine_is_no_cell, head_is_no_cell}
-use Rattle.protocol.proofs.Steps.{seen-inside, is_valid-cell, done}
+use Rattle.protocol.proofs.Steps.{seen-inside, is_valid-cell, Transition, done, thread_after, after, answer-is, words-is, queues-is, woken-is}
 use Rattle.protocol.proofs.Frames.{kept_where, marks_own}
 use Rattle.protocol.proofs.Walking.{Arrived, OwnsNothing, forward_arrives, next_arrives, goes_on_arrives, looks_arrives}
 
 -- thread t's walk at a row
 abbrev pub walk_of : ℕ → Row → Standing
 walk_of t r = record { thread = t; head = head_place t; row = r }
+
+-- the mutex of a death
+abbrev pub or_first : Option ℕ → ℕ
+or_first None = 0
+or_first (Some m) = m
 
 -- a thread that owns no mutex of the layout owns none
 owns_none : (s : State) (t : ℕ) → OwnsNothing s t → (k : ℕ) → (seen s k).owner ≢ Some t
@@ -50,6 +57,17 @@ owns_none s t none k own = go (nat_lt k s.layout.mutexes) refl
     go : (b : Bool) → nat_lt k s.layout.mutexes ≡ b → ⊥
     go true e = none k (grind (arith, nat_tests)) own
     go false e = cc (sym (ap (λ (b : Bool). (if b then object_of (fields_of (s.words (cell_place s.layout k))) else fresh).owner) e) ∙ own)
+
+-- what holds of a thread that was reaped, and of a walk that goes on, holds wherever a walk leads
+pub by_walked : (P : Stage → Type 0) (w : Standing) (r : Row) → (r ≡ Ended → P Reaped) → (IsGoing r → P (Dying (record w { row = r }))) → P (stage_walked w r)
+by_walked P w Ended gone on = gone refl
+by_walked P w LoadFirst gone on = on tt
+by_walked P w (LoadOffset f) gone on = on tt
+by_walked P w (LoadPending f o) gone on = on tt
+by_walked P w (LoadNext r) gone on = on tt
+by_walked P w (LoadWord at rest) gone on = on tt
+by_walked P w (Mark at v again rest) gone on = on tt
+by_walked P w (WakeOne at rest) gone on = on tt
 
 -- where a walk has come, its thread has what is left
 pub listed_walk : (s : State) (t : ℕ) (w : Standing) (r : Row) → Arrived s t r → Listed s t (stage_walked w r)
@@ -64,25 +82,11 @@ listed_walk s t w (WakeOne at rest) l = l
 
 -- and sits rightly
 pub sits_walk : (s : State) (t held : ℕ) (r q : Row) → Knows t (head_place t) q → Sits s t held (stage_walked (walk_of t r) q)
-sits_walk s t held r Ended knows = tt
-sits_walk s t held r LoadFirst knows = record { mine = refl; head = refl; going = tt; knows = knows }
-sits_walk s t held r (LoadOffset f) knows = record { mine = refl; head = refl; going = tt; knows = knows }
-sits_walk s t held r (LoadPending f o) knows = record { mine = refl; head = refl; going = tt; knows = knows }
-sits_walk s t held r (LoadNext z) knows = record { mine = refl; head = refl; going = tt; knows = knows }
-sits_walk s t held r (LoadWord at rest) knows = record { mine = refl; head = refl; going = tt; knows = knows }
-sits_walk s t held r (Mark at v again rest) knows = record { mine = refl; head = refl; going = tt; knows = knows }
-sits_walk s t held r (WakeOne at rest) knows = record { mine = refl; head = refl; going = tt; knows = knows }
+sits_walk s t held r q knows = by_walked (Sits s t held) (walk_of t r) q (λ ended. tt) (λ going. record { mine = refl; head = refl; going = going; knows = knows })
 
 -- nothing pends for a thread that died
 pub pends_walk : (x : ℕ) (w : Standing) (r : Row) → PendsAs x (stage_walked w r)
-pends_walk x w Ended = tt
-pends_walk x w LoadFirst = tt
-pends_walk x w (LoadOffset f) = tt
-pends_walk x w (LoadPending f o) = tt
-pends_walk x w (LoadNext r) = tt
-pends_walk x w (LoadWord at rest) = tt
-pends_walk x w (Mark at v again rest) = tt
-pends_walk x w (WakeOne at rest) = tt
+pends_walk x w r = by_walked (PendsAs x) w r (λ ended. tt) (λ going. tt)
 
 -- ---- states that differ in what a walk doesn't look at
 
@@ -299,34 +303,29 @@ module _ (s : State) (t : ℕ) (r : Row) where
   abbrev pub death_then : Option ℕ
   death_then = death_at s.layout (point_of t r walk_answer)
 
-  abbrev pub thread_then : Thread
-  thread_then = record { stage = stage_walked (walk_of t r) row_then; held = held_after (s.threads t).held operation.Death (told_of death_then) }
+  -- where no death is told, any mutex will do
+  abbrev pub walk_transition : Transition
+  walk_transition = record { from = Dying (walk_of t r); access = walk_access; next = stage_walked (walk_of t r) row_then; mutex = or_first death_then; operation = operation.Death; point = told_of death_then }
 
   abbrev pub walk_after : State
-  walk_after = done s t walk_access thread_then
+  walk_after = after s t walk_transition
 
-  pub walked-is : is_valid s.layout (address_of walk_access) ≡ true → walked s t (s.threads t).held (walk_of t r) ≡ record { state = walk_after; note = Walked t death_then (woken_by walk_access (s.queues (address_of walk_access))) (has_ended row_then) }
+  abbrev pub walk_note : Note
+  walk_note = Walked t death_then (woken_by walk_access (s.queues (address_of walk_access))) (has_ended row_then)
+
+  pub walked-is : is_valid s.layout (address_of walk_access) ≡ true → walked s t (s.threads t).held (walk_of t r) ≡ record { state = walk_after; note = walk_note }
   walked-is valid = λ i. record {
     state = record {
       layout = s.layout;
-      words = words i;
-      queues = queues i;
+      words = words-is s t walk_access valid i;
+      queues = queues-is s t walk_access valid i;
       threads = put s.threads t (record { stage = stage_walked (walk_of t r) (row_after t (head_place t) r (answers i)); held = held_after (s.threads t).held operation.Death (told_of (death_at s.layout (point_of t r (answers i)))) });
     };
-    note = Walked t (death_at s.layout (point_of t r (answers i))) (waking i) (has_ended (row_after t (head_place t) r (answers i)));
+    note = Walked t (death_at s.layout (point_of t r (answers i))) (woken-is s t walk_access valid i) (has_ended (row_after t (head_place t) r (answers i)));
   }
     where
       answers : answer_of s walk_access ≡ walk_answer
-      answers = ap (λ (b : Bool). if b then walk_answer else Fault) valid
-
-      words : words_after s walk_access ≡ walk_after.words
-      words = ap (λ (b : Bool). if b then walk_after.words else s.words) valid
-
-      queues : queues_after s t walk_access ≡ walk_after.queues
-      queues = ap (λ (b : Bool). if b then walk_after.queues else s.queues) valid
-
-      waking : woken s walk_access ≡ woken_by walk_access (s.queues (address_of walk_access))
-      waking = ap (λ (b : Bool). if b then woken_by walk_access (s.queues (address_of walk_access)) else []) valid
+      answers = answer-is s t walk_access valid
 
 -- what a walk's access tells of mutexes: nothing, or an owner's death
 abbrev pub DeathTells : State → ℕ → Option ℕ → State → Type 0
@@ -379,11 +378,11 @@ module _ (s : State) (t : ℕ) (inv : Kept s) (pos : 1 ≤ t) (known : t ≤ s.l
   reads_so : (r : Row) → IsGoing r → Knows t (head_place t) r → Mourns s t r → death_then s t r ≡ None → changed (walk_access s t r) (s.words (address_of (walk_access s t r))) ≡ s.words (address_of (walk_access s t r)) → Arrived s t (row_then s t r) → WalkStep s t r
   reads_so r going knows l none reads arrived = record {
     valid = walk_valid r going knows l;
-    kept = reads_kept s t r inv pos known (row_then s t r) (death_then s t r) (thread_then s t r) refl none reads (knows_then r knows) arrived;
-    tells = subst (λ (d : Option ℕ). DeathTells s t d (walk_after s t r)) (sym none) (reads_seen s t r inv pos known (row_then s t r) (death_then s t r) (thread_then s t r) refl reads);
+    kept = reads_kept s t r inv pos known (row_then s t r) (death_then s t r) (thread_after s t (walk_transition s t r)) refl none reads (knows_then r knows) arrived;
+    tells = subst (λ (d : Option ℕ). DeathTells s t d (walk_after s t r)) (sym none) (reads_seen s t r inv pos known (row_then s t r) (death_then s t r) (thread_after s t (walk_transition s t r)) refl reads);
     place = λ k e. absurd (cc (none, e));
     wakes = λ k e. absurd (cc (none, e));
-    reads = λ e. read_words s t r inv pos known (row_then s t r) (death_then s t r) (thread_then s t r) refl reads;
+    reads = λ e. read_words s t r inv pos known (row_then s t r) (death_then s t r) (thread_after s t (walk_transition s t r)) refl reads;
   }
 
   pub walk_step : (r : Row) → IsGoing r → Knows t (head_place t) r → Mourns s t r → WalkStep s t r
@@ -407,16 +406,16 @@ module _ (s : State) (t : ℕ) (inv : Kept s) (pos : 1 ≤ t) (known : t ≤ s.l
       go true e =
           let met : s.words place ≡ v = eqb-true (s.words place) v e in
           let told_so : death_then s t (Mark place v again rest) ≡ Some k = ap (λ (x : Answer). death_at s.layout (point_of t (Mark place v again rest) x)) (answered true e) ∙ ap (mutex_at s.layout) treats.1 ∙ mutex_at-cell s.layout k treats.0 in
-          let th_is : thread_then s t (Mark place v again rest) ≡ record { stage = stage_walked (walk_of t (Mark place v again rest)) (row_then s t (Mark place v again rest)); held = held_after (s.threads t).held operation.Death (Some OK) } =
+          let th_is : thread_after s t (walk_transition s t (Mark place v again rest)) ≡ record { stage = stage_walked (walk_of t (Mark place v again rest)) (row_then s t (Mark place v again rest)); held = held_after (s.threads t).held operation.Death (Some OK) } =
           ap (λ (d : Option ℕ). record { stage = stage_walked (walk_of t (Mark place v again rest)) (row_then s t (Mark place v again rest)); held = held_after (s.threads t).held operation.Death (told_of d) }) told_so in
           record {
             valid = walk_valid (Mark place v again rest) going knows (k, treats, l, only);
-            kept = marks_kept s t (Mark place v again rest) inv pos known place k v again rest refl treats l only met knows (row_then s t (Mark place v again rest)) (thread_then s t (Mark place v again rest)) th_is
+            kept = marks_kept s t (Mark place v again rest) inv pos known place k v again rest refl treats l only met knows (row_then s t (Mark place v again rest)) (thread_after s t (walk_transition s t (Mark place v again rest))) th_is
                 (ap (row_after t (head_place t) (Mark place v again rest)) (answered true e)) (knows_then (Mark place v again rest) knows);
             tells = subst (λ (d : Option ℕ). DeathTells s t d (walk_after s t (Mark place v again rest))) (sym told_so) (
               treats.0,
-              dies s t (Mark place v again rest) inv pos known place k v again rest refl treats l only met knows (row_then s t (Mark place v again rest)) (thread_then s t (Mark place v again rest)) th_is,
-              far s t (Mark place v again rest) inv pos known place k v again rest refl treats l only met knows (row_then s t (Mark place v again rest)) (thread_then s t (Mark place v again rest)) th_is,
+              dies s t (Mark place v again rest) inv pos known place k v again rest refl treats l only met knows (row_then s t (Mark place v again rest)) (thread_after s t (walk_transition s t (Mark place v again rest))) th_is,
+              far s t (Mark place v again rest) inv pos known place k v again rest refl treats l only met knows (row_then s t (Mark place v again rest)) (thread_after s t (walk_transition s t (Mark place v again rest))) th_is,
             );
             place = λ j is_j. treats.1 ∙ ap (cell_place s.layout) (sym (one_death k j (sym told_so ∙ is_j)));
             wakes = λ j is_j set.

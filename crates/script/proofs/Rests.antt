@@ -1,30 +1,17 @@
 -- A thread that goes on comes to rest.
-use Rattle.std.proofs.Common.{◌≡◌, ℕ, zero, suc, ◌<◌, ◌≤◌, ◌&&◌, ◌||◌, Bool, true, false, not, refl, sym, ap, ◌∙◌, subst, arith, inl, inr, ⊎_elim}
+use Rattle.std.proofs.Common.{◌≡◌, ℕ, zero, suc, ◌<◌, ◌≤◌, ◌&&◌, ◌||◌, Bool, true, false, not, refl, sym, ◌∙◌, arith, inl, inr, ⊎_elim}
 use Rattle.std.specs.Prelude.{if◌then◌else◌}
 use Rattle.protocol.specs.declared.event.Event.TheVariants.{Step}
-use Rattle.protocol.specs.declared.thread.Stage.TheVariants.{Calling}
-use Rattle.protocol.specs.Machine.{State, start, run, happens, is_busy, is_dying, is_asleep, sleeps, stands_in}
+use Rattle.protocol.specs.Machine.{State, start, run, happens, is_busy, is_dying, is_asleep}
 use Rattle.protocol.specs.Sleepers.{IsAwake, IsAtRest, EndsAlone, alone}
-use Rattle.protocol.proofs.Queues.{Queued}
+use Rattle.protocol.proofs.Queued.{Queued, in_none}
 use Rattle.protocol.proofs.QueueRuns.{run_queued}
 use Rattle.protocol.proofs.Undivided.{going}
 use Rattle.script.specs.Playing.{is_going, steps_to_rest}
 use Rattle.script.specs.Resting.{RestsAfter, ThreadsComeToRest}
 use Rattle.script.specs.Limits.{rest_steps}
 
--- whoever isn't asleep stands in no queue
-stands_nowhere : (s : State) (t : ℕ) → Queued s → is_asleep s t ≡ false → (key : ℕ) → stands_in t (s.queues key) ≡ false
-stands_nowhere s t queued awake key = go (stands_in t (s.queues key)) refl
-  where
-    go : (b : Bool) → stands_in t (s.queues key) ≡ b → b ≡ false
-    go false stands = refl
-    go true stands =
-        let call = (queued.sleeps key t stands).2 in
-        let in_call : is_asleep s t ≡ sleeps s t (Calling call.0 call.1) = ap (sleeps s t) call.2 in
-        let asleep : is_asleep s t ≡ true = in_call ∙ subst (λ (x : ℕ). stands_in t (s.queues x) ≡ true) call.4 stands in
-        absurd (cc (sym asleep ∙ awake))
-
--- so whoever goes on is awake
+-- whoever goes on is awake
 is_awake : (s : State) (t : ℕ) → Queued s → is_going s t ≡ true → IsAwake s t
 is_awake s t queued goes = by_cases (is_busy s t) refl (is_dying s t) refl (is_asleep s t) refl goes
   where
@@ -34,8 +21,8 @@ is_awake s t queued goes = by_cases (is_busy s t) refl (is_dying s t) refl (is_a
         never : (x : Bool) → ¬ ((x && false) ≡ true)
         never true e = absurd cc
         never false e = absurd cc
-    by_cases true busy d dying false asleep e = (inl busy, stands_nowhere s t queued asleep)
-    by_cases false busy true dying false asleep e = (inr dying, stands_nowhere s t queued asleep)
+    by_cases true busy d dying false asleep e = (inl busy, in_none s t queued asleep)
+    by_cases false busy true dying false asleep e = (inr dying, in_none s t queued asleep)
     by_cases false busy false dying false asleep e = absurd cc
 
 -- and whoever is at rest doesn't go on
