@@ -7,6 +7,7 @@ use Rattle.protocol.specs.declared.event.Event.TheVariants.{Step}
 use Rattle.protocol.specs.declared.thread.Stage.{Stage}
 use Rattle.protocol.specs.declared.thread.Stage.TheVariants.{Idle, Calling, Dying, Reaped}
 use Rattle.protocol.specs.Machine.{State, nothing, is_thread, answer_of, went, stepped, stands_in, sleeps, is_asleep, happens}
+use Rattle.protocol.proofs.Queued.{out_awake}
 use Rattle.interleave.specs.Steps.{SleepsInItsCall}
 
 -- whoever stands at some place of a queue stands in it
@@ -39,13 +40,6 @@ outside t q none = go (stands_in t q) refl
     go true is = absurd (none (contains t q is))
     go false is = refl
 
--- in no call that sleeps
-pub awake_stage : (s : State) (t : ℕ) (g : Stage) → ((key : ℕ) → stands_in t (s.queues key) ≡ false) → sleeps s t g ≡ false
-awake_stage s t Idle none = refl
-awake_stage s t (Calling c p) none = none _
-awake_stage s t (Dying w) none = refl
-awake_stage s t Reaped none = refl
-
 -- a thread that sleeps makes no step
 rests : (s : State) (t held : ℕ) (g : Stage) → sleeps s t g ≡ true → stepped s t held g ≡ nothing s
 rests s t held Idle e = refl
@@ -63,7 +57,7 @@ asleep_step s t e = go (is_thread s t)
 -- what a kernel says of a thread is what the machine says, where it sleeps in its call
 pub told_asleep : (s : State) (k : Kernel') (t : ℕ) → ((key : ℕ) → s.queues key ≡ queue_of k key) → SleepsInItsCall s t → (b : Bool) → MatchBool b (IsAsleep k t) (IsAwake k t) → b ≡ is_asleep s t
 told_asleep s k t same sleeps true h = sym (sleeps h.0 (ap (stands_in t) (same h.0) ∙ contained t (queue_of k h.0) h.1))
-told_asleep s k t same sleeps false h = sym (awake_stage s t (s.threads t).stage (λ key. ap (stands_in t) (same key) ∙ outside t (queue_of k key) (h key)))
+told_asleep s k t same sleeps false h = sym (out_awake s t (λ key. ap (stands_in t) (same key) ∙ outside t (queue_of k key) (h key)))
 
 -- the same in the machine's words
 pub told_standing : (s : State) (k : Kernel') (t : ℕ) → ((key : ℕ) → s.queues key ≡ queue_of k key) → (b : Bool) → MatchBool b (IsAsleep k t) (IsAwake k t)

@@ -9,7 +9,7 @@ use Rattle.keys.specs.declared.access.Access.{Access}
 use Rattle.keys.specs.declared.access.Answer.TheVariants.{Fault}
 use Rattle.keys.specs.declared.point.Point.{Point}
 use Rattle.keys.specs.declared.point.Progress.{Progress}
-use Rattle.keys.specs.Layouts.{Layout', words_of, cell_place}
+use Rattle.keys.specs.Layouts.{Layout', words_of}
 use Rattle.keys.specs.Accesses.{address_of, changed, sleeps_at}
 use Rattle.mutex.specs.declared.call.Call.{Call}
 use Rattle.mutex.specs.declared.phase.Phase.{Phase}
@@ -24,8 +24,9 @@ use Rattle.protocol.specs.declared.event.Event.TheVariants.{Begin, Step}
 use Rattle.protocol.specs.declared.thread.Thread.{Thread}
 use Rattle.protocol.specs.declared.thread.Stage.TheVariants.{Calling}
 use Rattle.protocol.specs.declared.note.Note.TheVariants.{Stepped}
-use Rattle.protocol.specs.Machine.{State, After, put, idle, is_valid, answer_among, queue_after, woken_by, answer_of, words_after, queues_after, slept_on, woken, is_thread, is_idle, stands_in, may_begin, begun, nothing, went, stepped, stage_after, returned, held_after, decision, happens}
+use Rattle.protocol.specs.Machine.{State, After, put, idle, is_valid, answer_among, queue_after, woken_by, answer_of, words_after, queues_after, slept_on, woken, is_thread, is_idle, places_of, stands_in, may_begin, begun, nothing, went, stepped, stage_after, returned, held_after, decision, happens}
 use Rattle.protocol.proofs.Puts.{by_put}
+use Rattle.protocol.proofs.Queues.{stands_none}
 use Rattle.interleave.specs.declared.accesses.Performed.{Performed}
 use Rattle.interleave.specs.Shown.{thread_at, state_at}
 use Rattle.interleave.specs.Perform.{Performs, decided_in, reply_in, stage_in}
@@ -154,7 +155,7 @@ module _ (l : Layout') (ws ws' : List ℕ) (kernel after : Kernel') (ts : List T
   ran =
       let is : is_thread s t ≡ true = grind (arith, nat_tests) in
       ap (λ (b : Bool). if b then stepped s t (thread_at ts t).held (thread_at ts t).stage else nothing s) is ∙ ap (λ (z : Thread). stepped s t z.held z.stage) e ∙ ap (stepped s t th.held) calls
-      ∙ ap (λ (b : Bool). if b then nothing s else went s t th.held c p to) (awake (cell_place l (mutex_of c)))
+      ∙ ap (λ (b : Bool). if b then nothing s else went s t th.held c p to) (stands_none t s.queues (places_of l (Calling c p)) awake)
 
   words : (λ q. slice_index ws' q) ≡ words_after s (whole_access p)
   words = ap (λ (v : List ℕ). λ (q : ℕ). slice_index v q) wrote ∙ words-is l ws kernel ts (whole_access p) room

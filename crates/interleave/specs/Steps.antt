@@ -17,6 +17,6 @@ IsOnItsWay Reaped = Unit {0}
 abbrev pub MayStep : Thread → Type 0
 MayStep th = IsOnItsWay th.stage × (th.held < 65535)
 
--- whichever queue it stands in is that of its call's mutex
+-- whichever queue it stands in, it sleeps in its call: the queue is that of a place that its stage has
 abbrev pub SleepsInItsCall : State → ℕ → Type 0
 SleepsInItsCall s t = (key : ℕ) → stands_in t (s.queues key) ≡ true → is_asleep s t ≡ true

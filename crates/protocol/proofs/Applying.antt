@@ -29,7 +29,7 @@ use Rattle.protocol.specs.declared.thread.Thread.{Thread}
 use Rattle.protocol.specs.declared.thread.Stage.{Stage}
 use Rattle.protocol.specs.declared.thread.Stage.TheVariants.{Idle, Calling, Dying, Reaped}
 use Rattle.protocol.specs.Notes.{facts_of, return_facts, reap_facts}
-use Rattle.protocol.specs.Machine.{State, After, put, start, answer_of, sleeps, is_thread, is_idle, is_alive, may_begin, begun, nothing, decision, slept_on, woken, held_after, stage_after, returned, went, has_ended, death_at, stage_walked, walked, killed, stepped, happens, run, notes}
+use Rattle.protocol.specs.Machine.{State, After, put, start, answer_of, places_of, sleeps, is_thread, is_idle, is_alive, may_begin, begun, nothing, decision, slept_on, woken, held_after, stage_after, returned, went, has_ended, death_at, stage_walked, walked, killed, stepped, happens, run, notes}
 use Rattle.protocol.specs.Machine.{told_of as told_of_death}
 use Rattle.protocol.specs.Headline.{facts_among}
 use Rattle.protocol.specs.Applies.{Told, AtRest, InCall, Dead, Gone, told_next, told_after, last_told, IsLiving, HasAccess, IsThread, IsInNoQueue, Applies, refusal, IsAccessOf, IsNotedAs, NextApplies, EventsApply}
@@ -37,6 +37,7 @@ use Rattle.protocol.proofs.Puts.{by_put}
 use Rattle.protocol.proofs.Kept.{Kept}
 use Rattle.protocol.proofs.Runs.{start_kept, run_kept, run_layout}
 use Rattle.protocol.proofs.Events.{at_rest, second_true, by_event}
+use Rattle.protocol.proofs.Queues.{stands_none}
 use Rattle.protocol.proofs.Queued.{Queued, in_none}
 use Rattle.protocol.proofs.QueueRuns.{run_queued}
 
@@ -248,7 +249,7 @@ module _ (s : State) (ns : List Note) (inv : Kept s) (queued : Queued s) (agrees
   step_noted t AtRest has out g a = absurd has
   step_noted t Gone has out g a = absurd has
   step_noted t InCall has out (Calling c p) a =
-      subst (λ (b : Bool). IsAccessOf t (if b then nothing s else went s t (s.threads t).held c p (whole_led p (answer_of s (whole_access p)))).note) (sym (out _)) refl
+      subst (λ (b : Bool). IsAccessOf t (if b then nothing s else went s t (s.threads t).held c p (whole_led p (answer_of s (whole_access p)))).note) (sym (stands_none t s.queues (places_of s.layout (Calling c p)) out)) refl
   step_noted t InCall has out g a = absurd a
   step_noted t Dead has out (Dying v) a = refl
   step_noted t Dead has out g a = absurd a

@@ -1,5 +1,5 @@
 -- One access of a call, and what that is of a thread's access.
-use Rattle.std.proofs.Common.{◌≡◌, ◌≢◌, ⊎_elim, ℕ, ◌+◌, ◌%◌, ◌^◌, ◌<◌, ◌≤◌, ◌==◌, Bool, true, false, Some, None, refl, sym, ap, ◌∙◌, subst, arith, eqb-true}
+use Rattle.std.proofs.Common.{◌≡◌, ◌≢◌, ⊎_elim, inl, ℕ, ◌+◌, ◌%◌, ◌^◌, ◌<◌, ◌≤◌, ◌==◌, Bool, true, false, Some, None, refl, sym, ap, ◌∙◌, subst, arith, eqb-true}
 use Rattle.std.specs.Prelude.{if◌then◌else◌}
 use Rattle.std.proofs.lemmas.Bool.{eqb-false}
 use Rattle.lockword.specs.Cells.{Fields, fields_of, word_of, low_of}
@@ -185,7 +185,7 @@ module _ (s : State) (t : ℕ) (c : Call) (p : Whole) (g : CallStep s t c p) (fi
     far = g.far;
     waiters = waits;
     pendings = g.pendings;
-    sleeper = λ on. let row_is = g.sleeper on in subst (SleepsAs s.layout (address_of v.access)) (sym (ap (stage_after c p) row_is.2)) (refl, g.place on);
+    sleeper = λ on. let row_is = g.sleeper on in subst (SleepsAs s.layout (address_of v.access)) (sym (ap (stage_after c p) row_is.2)) (refl, inl (g.place on));
     asleep = owned_there;
     settles = settled;
     some = some_at t (s.threads t).held p p.phase w (seen s m) fits.stands;

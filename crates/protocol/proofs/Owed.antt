@@ -9,9 +9,8 @@ use Rattle.keys.specs.Accesses.{sleeps_at}
 use Rattle.protocol.specs.declared.event.Event.TheVariants.{Step}
 use Rattle.protocol.specs.declared.thread.Stage.{Stage}
 use Rattle.protocol.specs.declared.thread.Stage.TheVariants.{Idle, Calling, Dying, Reaped}
-use Rattle.protocol.specs.Machine.{State, stands_in, sleepers, sleeps, is_thread, is_calling, is_walked, is_busy, is_dying, is_asleep, happens}
+use Rattle.protocol.specs.Machine.{State, stands_in, sleepers, is_thread, is_calling, is_walked, is_busy, is_dying, is_asleep, happens}
 use Rattle.protocol.specs.Headline.{seen}
-use Rattle.protocol.specs.Applies.{IsInNoQueue}
 use Rattle.protocol.specs.Sleepers.{Sleeps, IsUnowned, alone, Owes, SomebodyOwes, IsAtRest, EndsAlone}
 use Rattle.protocol.proofs.Objects.{owners}
 use Rattle.protocol.proofs.Kept.{Kept}
@@ -20,7 +19,7 @@ use Rattle.protocol.proofs.Stepping.{AnswersAs, left_of, Continues, Settles, Wak
 use Rattle.protocol.proofs.Events.{is_known}
 use Rattle.protocol.proofs.Working.{IsWorking, Goes, awake_goes}
 use Rattle.protocol.proofs.Queues.{Turned, As_before, Falls, Woken}
-use Rattle.protocol.proofs.Queued.{Answering, Queued, mine, turn, stood, now_asleep, this_answers, woken_one, went_queued}
+use Rattle.protocol.proofs.Queued.{Answering, Queued, out_awake, mine, turn, stood, now_asleep, this_answers, woken_one, went_queued}
 
 -- a thread in a call, or dead, or neither
 working_or : (g : Stage) → IsWorking g ⊎ ((is_calling g ≡ false) × (is_walked g ≡ false))
@@ -32,16 +31,6 @@ working_or Reaped = inr (refl, refl)
 and_false : (a b : Bool) → b ≡ false → (a && b) ≡ false
 and_false true b e = e
 and_false false b e = refl
-
--- whoever stands in no queue is awake
-pub out_awake : (s : State) (t : ℕ) → IsInNoQueue s t → is_asleep s t ≡ false
-out_awake s t out = go (s.threads t).stage
-  where
-    go : (g : Stage) → sleeps s t g ≡ false
-    go (Calling c p) = out _
-    go (Dying w) = refl
-    go Idle = refl
-    go Reaped = refl
 
 -- whoever answers for a mutex is in a call, or dead
 answers_work : (s : State) (m t : ℕ) (g : Stage) → AnswersAs s.layout s.words m t g → IsWorking g

@@ -8,14 +8,14 @@ use Rattle.keys.specs.Accesses.{address_of, sleeps_at}
 use Rattle.protocol.specs.declared.thread.Thread.{Thread}
 use Rattle.protocol.specs.declared.thread.Stage.{Stage}
 use Rattle.protocol.specs.declared.thread.Stage.TheVariants.{Idle, Calling, Dying, Reaped}
-use Rattle.protocol.specs.Machine.{State, put, queue_after, stands_in, sleepers, sleeps, is_asleep}
+use Rattle.protocol.specs.Machine.{State, put, queue_after, stands_in, sleepers, places_of, sleeps, is_asleep}
 use Rattle.protocol.specs.Sleepers.{Sleeps, IsUnowned}
 use Rattle.protocol.specs.Applies.{IsInNoQueue}
 use Rattle.protocol.proofs.Puts.{put-same, put-other}
 use Rattle.protocol.proofs.Phases.{answers_at}
 use Rattle.protocol.proofs.Steps.{Transition, after, met, thread_after}
 use Rattle.protocol.proofs.Stepping.{SleepsAs, AnswersAs, HasWaiters, Continues, Settles, Wakes_there, Answers_now, Found_free, Stepping}
-use Rattle.protocol.proofs.Queues.{Once, not_true, first_gone, first_stands, InOne, Turned, As_before, Falls, Woken, turned, once_then, one_then}
+use Rattle.protocol.proofs.Queues.{Once, stands_one, stands_none, not_true, first_gone, first_stands, InOne, Turned, As_before, Falls, Woken, turned, once_then, one_then}
 use Rattle.protocol.proofs.WalkStepping.{same_answers}
 
 -- thread t stands in the queue of this key as its stage says
@@ -38,7 +38,7 @@ pub record Queued (s : State) : Type 0 where
 
 -- whoever stands in a queue sleeps there
 sleeps_there : (s : State) (t key : ℕ) (g : Stage) → SleepsAs s.layout key g → stands_in t (s.queues key) ≡ true → sleeps s t g ≡ true
-sleeps_there s t key (Calling c p) h stands = sym (ap (λ (k : ℕ). stands_in t (s.queues k)) h.1) ∙ stands
+sleeps_there s t key (Calling c p) h stands = stands_one t key s.queues (places_of s.layout (Calling c p)) h.1 stands
 sleeps_there s t key Idle h stands = absurd h
 sleeps_there s t key (Dying w) h stands = absurd h
 sleeps_there s t key Reaped h stands = absurd h
@@ -50,9 +50,13 @@ asleep_there s t key queued stands = sleeps_there s t key (s.threads t).stage (q
 pub in_none : (s : State) (t : ℕ) → Queued s → is_asleep s t ≡ false → IsInNoQueue s t
 in_none s t queued awake key = not_true (stands_in t (s.queues key)) (λ stands. cc (asleep_there s t key queued stands, awake))
 
+-- and whoever stands in none is awake
+pub out_awake : (s : State) (t : ℕ) → IsInNoQueue s t → is_asleep s t ≡ false
+out_awake s t out = stands_none t s.queues (places_of s.layout (s.threads t).stage) out
+
 -- whoever is woken on a mutex answers for it
 woken_as : (l : Layout') (words : ℕ → ℕ) (k t : ℕ) (g : Stage) → SleepsAs l (cell_place l k) g → AnswersAs l words k t g
-woken_as l words k t (Calling c p) h = ((let place = h.1 in omega (arith, place)), ap answers_at h.0)
+woken_as l words k t (Calling c p) h = (⊎_elim (λ place. omega (arith, place)) (λ none. absurd none) h.1, ap answers_at h.0)
 woken_as l words k t Idle h = absurd h
 woken_as l words k t (Dying w) h = absurd h
 woken_as l words k t Reaped h = absurd h

@@ -5,8 +5,9 @@ use Rattle.std.proofs.lemmas.Bool.{eqb-false}
 use Rattle.keys.specs.declared.access.Access.{Access}
 use Rattle.keys.specs.declared.access.Access.TheVariants as access
 use Rattle.keys.specs.Accesses.{address_of, sleeps_at}
+use Rattle.keys.specs.Chains.{IsAmong}
 use Rattle.buckets.specs.Queues.{without}
-use Rattle.protocol.specs.Machine.{put, queue_after, woken_by, stands_in}
+use Rattle.protocol.specs.Machine.{put, queue_after, woken_by, stands_in, stands_at}
 use Rattle.protocol.proofs.Puts.{by_put, put-same, put-other}
 
 -- ---- lists of threads
@@ -144,6 +145,21 @@ parted t (suc n) (v ∷ vs) once = go (v == t) refl (parted t n vs once.1)
         ⊎ (((if b then true else stands_in t (take n vs)) ≡ true) × ((if b then true else stands_in t vs) ≡ true) × (stands_in t (drop n vs) ≡ false))
     go true e rest = inr (refl, refl, gone (eqb-true v t e))
     go false e rest = rest
+
+-- ---- the queues of some places
+
+pub stands_one : (t key : ℕ) (qs : ℕ → List ℕ) (ps : List ℕ) → IsAmong key ps → stands_in t (qs key) ≡ true → stands_at t qs ps ≡ true
+stands_one t key qs [] among stands = absurd among
+stands_one t key qs (p ∷ ps) (inl here) stands = ap (λ (b : Bool). if b then true else stands_at t qs ps) (ap (λ (k : ℕ). stands_in t (qs k)) (sym here) ∙ stands)
+stands_one t key qs (p ∷ ps) (inr later) stands = go (stands_in t (qs p)) (stands_one t key qs ps later stands)
+  where
+    go : (b : Bool) → stands_at t qs ps ≡ true → (if b then true else stands_at t qs ps) ≡ true
+    go true rest = refl
+    go false rest = rest
+
+pub stands_none : (t : ℕ) (qs : ℕ → List ℕ) (ps : List ℕ) → ((key : ℕ) → stands_in t (qs key) ≡ false) → stands_at t qs ps ≡ false
+stands_none t qs [] out = refl
+stands_none t qs (p ∷ ps) out = ap (λ (b : Bool). if b then true else stands_at t qs ps) (out p) ∙ stands_none t qs ps out
 
 -- ---- one access
 

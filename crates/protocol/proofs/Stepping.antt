@@ -5,6 +5,7 @@ use Rattle.lockword.specs.declared.reply.Reply.{Reply}
 use Rattle.keys.specs.declared.access.Access.TheVariants.{Wake}
 use Rattle.keys.specs.Objects.{acquires}
 use Rattle.keys.specs.Accesses.{address_of, sleeps_at}
+use Rattle.keys.specs.Chains.{IsAmong}
 use Rattle.keys.specs.Layouts.{Layout', head_place, entry_place, cell_place}
 use Rattle.mutex.specs.declared.lock.LockRow.TheVariants as lock
 use Rattle.mutex.specs.declared.row.Row.TheVariants.{Lock}
@@ -16,7 +17,7 @@ use Rattle.exitwalk.specs.declared.row.Part.TheVariants as part
 use Rattle.exitwalk.specs.Ranks.{left_alone}
 use Rattle.protocol.specs.declared.thread.Stage.{Stage}
 use Rattle.protocol.specs.declared.thread.Stage.TheVariants.{Calling, Dying}
-use Rattle.protocol.specs.Machine.{State, is_valid}
+use Rattle.protocol.specs.Machine.{State, is_valid, places_of}
 use Rattle.protocol.specs.Headline.{seen}
 use Rattle.protocol.specs.Sleepers.{IsUnowned}
 use Rattle.protocol.proofs.Objects.{IsCalled}
@@ -26,9 +27,9 @@ use Rattle.protocol.proofs.Steps.{Tells, Transition, after, met}
 
 -- ---- stages
 
--- a thread there that stands in the queue of this key will load its mutex's cell when it is woken
+-- a thread there, in the queue of one of its places, will load its mutex's cell when it is woken
 abbrev pub SleepsAs : Layout' → ℕ → Stage → Type 0
-SleepsAs l key (Calling c p) = (p.phase ≡ AtCell (Lock lock.Load)) × (key ≡ cell_place l (mutex_of c))
+SleepsAs l key (Calling c p) = (p.phase ≡ AtCell (Lock lock.Load)) × IsAmong key (places_of l (Calling c p))
 SleepsAs l key g = ⊥
 
 -- a walk that is at a row, and has not come to its pending entry yet, answers for the mutex that is pending; and at a wake, for the one whose sleeper it is going to wake

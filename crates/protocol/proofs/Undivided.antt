@@ -48,9 +48,9 @@ use Rattle.protocol.proofs.Accesses.{goes as goes_in}
 use Rattle.protocol.proofs.Events.{at_rest}
 use Rattle.protocol.proofs.Working.{call_goes}
 use Rattle.protocol.proofs.Runs.{sound, start_kept, run_kept, does}
-use Rattle.protocol.proofs.Queued.{Queued, in_none, mine, still_out, now_asleep, went_queued}
+use Rattle.protocol.proofs.Queued.{Queued, in_none, out_awake, mine, still_out, now_asleep, went_queued}
 use Rattle.protocol.proofs.QueueRuns.{run_queued, queued_on}
-use Rattle.protocol.proofs.Owed.{out_awake, somebody_owes, ends_alone}
+use Rattle.protocol.proofs.Owed.{somebody_owes, ends_alone}
 use Rattle.protocol.proofs.Returning.{still_run, still_tells, IsStill, idle_still, asleep_still, told_return, Back, back_later, back_asleep}
 
 -- ---- what a step tells of returns

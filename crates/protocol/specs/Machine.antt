@@ -137,10 +137,19 @@ stands_in t (u ∷ us) = if u == t then true else stands_in t us
 abbrev pub sleepers : State → ℕ → List ℕ
 sleepers s m = s.queues (cell_place s.layout m)
 
--- in a call that sleeps on its mutex
+-- the places of the words on which a thread there may sleep: in a call, its mutex's cell
+abbrev pub places_of : Layout' → Stage → List ℕ
+places_of l (Calling c p) = cell_place l (mutex_of c) ∷ []
+places_of l g = []
+
+-- thread t stands in the queue of one of these places
+abbrev pub stands_at : ℕ → (ℕ → List ℕ) → List ℕ → Bool
+stands_at t queues [] = false
+stands_at t queues (p ∷ ps) = if stands_in t (queues p) then true else stands_at t queues ps
+
+-- thread t, there, sleeps
 abbrev pub sleeps : State → ℕ → Stage → Bool
-sleeps s t (Calling c p) = stands_in t (sleepers s (mutex_of c))
-sleeps s t g = false
+sleeps s t g = stands_at t s.queues (places_of s.layout g)
 
 abbrev pub is_asleep : State → ℕ → Bool
 is_asleep s t = sleeps s t (s.threads t).stage
