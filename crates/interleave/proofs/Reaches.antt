@@ -103,8 +103,8 @@ stays s (Begin t c) = go (may_begin s t c)
     go false h = refl
 stays s (Step t) = go (is_thread s t) (s.threads t).stage
   where
-    access : (c : Call) (p : Whole) (a : Bool) → is_nothing (if a then nothing s else went s t (s.threads t).held c p (whole_led p (answer_of s (whole_access p)))).note ≡ true
-        → (if a then nothing s else went s t (s.threads t).held c p (whole_led p (answer_of s (whole_access p)))).state ≡ s
+    access : (c : Call) (p : Whole) (a : Bool) → is_nothing (if a then nothing s else went s t (s.threads t).held c p (whole_led p (answer_of s t (whole_access p)))).note ≡ true
+        → (if a then nothing s else went s t (s.threads t).held c p (whole_led p (answer_of s t (whole_access p)))).state ≡ s
     access c p true h = refl
     access c p false h = absurd cc
 

@@ -45,7 +45,7 @@ rests : (s : State) (t held : ℕ) (g : Stage) → sleeps s t g ≡ true → ste
 rests s t held Idle e = refl
 rests s t held (Dying w) e = absurd cc
 rests s t held Reaped e = refl
-rests s t held (Calling c p) e = ap (λ (b : Bool). if b then nothing s else went s t held c p (whole_led p (answer_of s (whole_access p)))) e
+rests s t held (Calling c p) e = ap (λ (b : Bool). if b then nothing s else went s t held c p (whole_led p (answer_of s t (whole_access p)))) e
 
 pub asleep_step : (s : State) (t : ℕ) → is_asleep s t ≡ true → happens s (Step t) ≡ nothing s
 asleep_step s t e = go (is_thread s t)

@@ -74,13 +74,13 @@ begin_state l ws kernel ts k t c p th pos known at len inside e rests starts =
 
 -- ---- an access
 
-module _ (l : Layout') (ws : List ℕ) (kernel : Kernel') (ts : List Thread) (a : Access) (room : length ws ≡ words_of l) where
+module _ (l : Layout') (ws : List ℕ) (kernel : Kernel') (ts : List Thread) (a : Access) (room : length ws ≡ words_of l) (t : ℕ) where
   -- an address is valid in the list as it is in the layout
   valid-is : memories.is_valid ws (address_of a) ≡ is_valid l (address_of a)
   valid-is = ap (λ (n : ℕ). nat_le 1 (address_of a) && nat_lt (address_of a) n) room
 
   -- the words after an access
-  pub words-is : (λ q. slice_index (memories.words_after a ws) q) ≡ words_after (state_at l ws kernel ts) a
+  pub words-is : (λ q. slice_index (memories.words_after a ws) q) ≡ words_after (state_at l ws kernel ts) t a
   words-is = ap (λ (b : Bool). λ (q : ℕ). slice_index (if b then slice_set ws (address_of a) (changed a (slice_index ws (address_of a))) else ws) q) valid-is ∙ go (is_valid l (address_of a)) refl
     where
       go : (b : Bool) → is_valid l (address_of a) ≡ b
@@ -88,8 +88,8 @@ module _ (l : Layout') (ws : List ℕ) (kernel : Kernel') (ts : List Thread) (a 
       go true e = words-set ws (address_of a) (changed a (slice_index ws (address_of a))) (grind (arith, nat_tests))
       go false e = refl
 
-  module _ (t : ℕ) (after : Kernel') (done : Performed) (performs : Performs ws kernel after t a done) where
-    pub answer-is : done.answer ≡ answer_of (state_at l ws kernel ts) a
+  module _ (after : Kernel') (done : Performed) (performs : Performs ws kernel after t a done) where
+    pub answer-is : done.answer ≡ answer_of (state_at l ws kernel ts) t a
     answer-is = performs.answer ∙ ap (λ (b : Bool). if b then answer_among a (slice_index ws (address_of a)) (queue_of kernel (address_of a)) else Fault) valid-is
 
     pub queues-is : (λ q. queue_of after q) ≡ queues_after (state_at l ws kernel ts) t a
@@ -97,12 +97,12 @@ module _ (l : Layout') (ws : List ℕ) (kernel : Kernel') (ts : List Thread) (a 
         fun_ext performs.queues
         ∙ ap (λ (b : Bool). if b then put (queue_of kernel) (address_of a) (queue_after t a (slice_index ws (address_of a)) (queue_of kernel (address_of a))) else queue_of kernel) valid-is
 
-    slept-is : (c : Call) → (if done.slept then Some (mutex_of c) else None) ≡ slept_on (state_at l ws kernel ts) c a
+    slept-is : (c : Call) → (if done.slept then Some (mutex_of c) else None) ≡ slept_on (state_at l ws kernel ts) t c a
     slept-is c =
         ap (λ (b : Bool). if b then Some (mutex_of c) else None) performs.slept
         ∙ ap (λ (b : Bool). if b && sleeps_at a (slice_index ws (address_of a)) then Some (mutex_of c) else None) valid-is
 
-    pub woken-is : done.woken ≡ woken (state_at l ws kernel ts) a
+    pub woken-is : done.woken ≡ woken (state_at l ws kernel ts) t a
     woken-is = performs.woken ∙ ap (λ (b : Bool). if b then woken_by a (queue_of kernel (address_of a)) else []) valid-is
 
 -- where the thread stands after a step, as the definition says
@@ -146,7 +146,7 @@ module _ (l : Layout') (ws ws' : List ℕ) (kernel after : Kernel') (ts : List T
   s = state_at l ws kernel ts
 
   abbrev to : Onward
-  to = whole_led p (answer_of s (whole_access p))
+  to = whole_led p (answer_of s t (whole_access p))
 
   leads : whole_led p done.answer ≡ to
   leads = ap (whole_led p) (answer-is l ws kernel ts (whole_access p) room t after done performs)
@@ -157,8 +157,8 @@ module _ (l : Layout') (ws ws' : List ℕ) (kernel after : Kernel') (ts : List T
       ap (λ (b : Bool). if b then stepped s t (thread_at ts t).held (thread_at ts t).stage else nothing s) is ∙ ap (λ (z : Thread). stepped s t z.held z.stage) e ∙ ap (stepped s t th.held) calls
       ∙ ap (λ (b : Bool). if b then nothing s else went s t th.held c p to) (stands_none t s.queues (places_of l (Calling c p)) awake)
 
-  words : (λ q. slice_index ws' q) ≡ words_after s (whole_access p)
-  words = ap (λ (v : List ℕ). λ (q : ℕ). slice_index v q) wrote ∙ words-is l ws kernel ts (whole_access p) room
+  words : (λ q. slice_index ws' q) ≡ words_after s t (whole_access p)
+  words = ap (λ (v : List ℕ). λ (q : ℕ). slice_index v q) wrote ∙ words-is l ws kernel ts (whole_access p) room t
 
   queues : (λ q. queue_of after q) ≡ queues_after s t (whole_access p)
   queues = queues-is l ws kernel ts (whole_access p) room t after done performs
@@ -182,8 +182,8 @@ module _ (l : Layout') (ws ws' : List ℕ) (kernel after : Kernel') (ts : List T
 
   pub step_note : Stepped t (decision t c (decided_in pr)) (if done.slept then Some (mutex_of c) else None) done.woken (reply_in pr) ≡ (happens s (Step t)).note
   step_note =
-      let sleeps : (if done.slept then Some (mutex_of c) else None) ≡ slept_on s c (whole_access p) = slept-is l ws kernel ts (whole_access p) room t after done performs c in
-      let wakes : done.woken ≡ woken s (whole_access p) = woken-is l ws kernel ts (whole_access p) room t after done performs in
+      let sleeps : (if done.slept then Some (mutex_of c) else None) ≡ slept_on s t c (whole_access p) = slept-is l ws kernel ts (whole_access p) room t after done performs c in
+      let wakes : done.woken ≡ woken s t (whole_access p) = woken-is l ws kernel ts (whole_access p) room t after done performs in
       let returns : reply_in pr ≡ returned to.phase =
       ap reply_in progress ∙ reply-is (whole_point p (whole_led p done.answer).point) (whole_led p done.answer).phase ∙ ap (λ (x : Onward). returned x.phase) leads in
       (λ i. Stepped t (decision t c (decides i)) (sleeps i) (wakes i) (returns i)) ∙ sym (ap (λ (a : After). a.note) ran)

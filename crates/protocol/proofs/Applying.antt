@@ -167,7 +167,7 @@ walked_agrees s u t held v w is a r = unmoved s u t w Gone (record { stage = Dyi
 went_agrees : (s : State) (u t held : ℕ) (c : Call) (p : Whole) (o : Onward) (w : Told) → (s.threads u).stage ≡ Calling c p → Agrees w (s.threads t).stage
     → Agrees (told_after t w (facts_of (went s u held c p o).note)) ((went s u held c p o).state.threads t).stage
 went_agrees s u t held c p o w is a =
-    subst (λ (x : Told). Agrees x ((went s u held c p o).state.threads t).stage) (sym (told_stepped t w u (decision u c o.point) (slept_on s c (whole_access p)) (woken s (whole_access p)) (returned o.phase)))
+    subst (λ (x : Told). Agrees x ((went s u held c p o).state.threads t).stage) (sym (told_stepped t w u (decision u c o.point) (slept_on s u c (whole_access p)) (woken s u (whole_access p)) (returned o.phase)))
     (returned_agrees s u t (held_after held (operation_of c) o.point) c p w is a o.phase)
 
 stepped_agrees : (s : State) (u t : ℕ) (w : Told) → Agrees w (s.threads t).stage → (g : Stage) → (s.threads u).stage ≡ g
@@ -175,16 +175,16 @@ stepped_agrees : (s : State) (u t : ℕ) (w : Told) → Agrees w (s.threads t).s
 stepped_agrees s u t w a Idle is = a
 stepped_agrees s u t w a Reaped is = a
 stepped_agrees s u t w a (Dying v) is =
-    let answer = answer_of s (exit.access_of v) in
+    let answer = answer_of s u (exit.access_of v) in
     let death = death_at s.layout (exit.point_of v.thread v.row answer) in
     let r = exit.row_after v.thread v.head v.row answer in
-    subst (λ (x : Told). Agrees x ((walked s u (s.threads u).held v).state.threads t).stage) (sym (told_walked t w u death (woken s (exit.access_of v)) (has_ended r)))
+    subst (λ (x : Told). Agrees x ((walked s u (s.threads u).held v).state.threads t).stage) (sym (told_walked t w u death (woken s u (exit.access_of v)) (has_ended r)))
     (walked_agrees s u t (held_after (s.threads u).held operation.Death (told_of_death death)) v w is a r)
 stepped_agrees s u t w a (Calling c p) is = go (sleeps s u (Calling c p))
   where
-    go : (b : Bool) → Agrees (told_after t w (facts_of (if b then nothing s else went s u (s.threads u).held c p (whole_led p (answer_of s (whole_access p)))).note)) ((if b then nothing s else went s u (s.threads u).held c p (whole_led p (answer_of s (whole_access p)))).state.threads t).stage
+    go : (b : Bool) → Agrees (told_after t w (facts_of (if b then nothing s else went s u (s.threads u).held c p (whole_led p (answer_of s u (whole_access p)))).note)) ((if b then nothing s else went s u (s.threads u).held c p (whole_led p (answer_of s u (whole_access p)))).state.threads t).stage
     go true = a
-    go false = went_agrees s u t (s.threads u).held c p (whole_led p (answer_of s (whole_access p))) w is a
+    go false = went_agrees s u t (s.threads u).held c p (whole_led p (answer_of s u (whole_access p))) w is a
 
 next_agrees : (s : State) (e : Event) (t : ℕ) (w : Told) → Agrees w (s.threads t).stage → Agrees (told_after t w (facts_of (happens s e).note)) ((happens s e).state.threads t).stage
 next_agrees s e t w a =
@@ -249,7 +249,7 @@ module _ (s : State) (ns : List Note) (inv : Kept s) (queued : Queued s) (agrees
   step_noted t AtRest has out g a = absurd has
   step_noted t Gone has out g a = absurd has
   step_noted t InCall has out (Calling c p) a =
-      subst (λ (b : Bool). IsAccessOf t (if b then nothing s else went s t (s.threads t).held c p (whole_led p (answer_of s (whole_access p)))).note) (sym (stands_none t s.queues (places_of s.layout (Calling c p)) out)) refl
+      subst (λ (b : Bool). IsAccessOf t (if b then nothing s else went s t (s.threads t).held c p (whole_led p (answer_of s t (whole_access p)))).note) (sym (stands_none t s.queues (places_of s.layout (Calling c p)) out)) refl
   step_noted t InCall has out g a = absurd a
   step_noted t Dead has out (Dying v) a = refl
   step_noted t Dead has out g a = absurd a
@@ -265,7 +265,7 @@ module _ (s : State) (ns : List Note) (inv : Kept s) (queued : Queued s) (agrees
   step_else t range never (Dying v) is = absurd (never (range, walks_has (last_told t ns) v (subst (Agrees (last_told t ns)) is (agrees t)), in_none s t queued (ap (sleeps s t) is)))
   step_else t range never (Calling c p) is = go (sleeps s t (Calling c p)) refl
     where
-      go : (b : Bool) → sleeps s t (Calling c p) ≡ b → (if b then nothing s else went s t (s.threads t).held c p (whole_led p (answer_of s (whole_access p)))) ≡ nothing s
+      go : (b : Bool) → sleeps s t (Calling c p) ≡ b → (if b then nothing s else went s t (s.threads t).held c p (whole_led p (answer_of s t (whole_access p)))) ≡ nothing s
       go true e = refl
       go false e = absurd (never (range, calls_has (last_told t ns) c p (subst (Agrees (last_told t ns)) is (agrees t)), in_none s t queued (ap (sleeps s t) is ∙ e)))
 

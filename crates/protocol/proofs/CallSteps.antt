@@ -8,7 +8,7 @@ use Rattle.keys.specs.declared.access.Access.{Access}
 use Rattle.keys.specs.declared.access.Access.TheVariants as access
 use Rattle.keys.specs.declared.object.Object.{Object}
 use Rattle.keys.specs.Objects.{acquires, object_of, owner_of}
-use Rattle.keys.specs.Accesses.{address_of, changed, sleeps_at}
+use Rattle.keys.specs.Accesses.{changed, sleeps_at}
 use Rattle.keys.specs.Layouts.{head_place, cell_place}
 use Rattle.keys.proofs.Owners.{owner_of-none}
 use Rattle.mutex.specs.declared.call.Call.{Call}
@@ -25,32 +25,32 @@ use Rattle.mutex.specs.Alone.{is_wake, left}
 use Rattle.mutex.specs.Calls.{mutex_of}
 use Rattle.mutex.specs.Standings.{Whole}
 use Rattle.mutex.specs.Whole.{whole_access}
-use Rattle.protocol.specs.Machine.{State, is_valid, stage_after}
+use Rattle.protocol.specs.Machine.{State, is_valid, place_met, stage_after}
 use Rattle.protocol.specs.Headline.{seen}
 use Rattle.protocol.specs.Sleepers.{IsUnowned}
 use Rattle.protocol.proofs.Puts.{put-same}
 use Rattle.protocol.proofs.Phases.{answers_at, left_at, Moves, few_of_link, few_of_unlink}
 use Rattle.protocol.proofs.Kept.{InPhase, Fits, Kept}
-use Rattle.protocol.proofs.Steps.{Transition, seen-inside, Tells, onto, after, met, call_step}
+use Rattle.protocol.proofs.Steps.{Transition, seen-inside, Tells, onto, after, place_of, met, call_step}
 use Rattle.protocol.proofs.Arrivals.{ended_or_not}
 use Rattle.protocol.proofs.Stepping.{SleepsAs, AnswersAs, left_of, HasWaiters, Settles, Wakes_there, Answers_now, Found_free, Stepping}
 
 -- what it leaves: of its mutex, and of all else; and what holds of every state holds then
 pub record CallStep (s : State) (t : ℕ) (c : Call) (p : Whole) : Type 0 where
-  pub valid : is_valid s.layout (address_of (whole_access p)) ≡ true
-  pub kept : Kept (after s t (call_step s c p))
-  pub moves : Moves t p (onto s p) (s.words (cell_place s.layout (mutex_of c))) ((after s t (call_step s c p)).words (cell_place s.layout (mutex_of c)))
+  pub valid : is_valid s.layout (place_met s.layout t (whole_access p)) ≡ true
+  pub kept : Kept (after s t (call_step s t c p))
+  pub moves : Moves t p (onto s t p) (s.words (cell_place s.layout (mutex_of c))) ((after s t (call_step s t c p)).words (cell_place s.layout (mutex_of c)))
   -- it sleeps and wakes at its mutex's cell only
-  pub same_sleep : sleeps_at (whole_access p) (met s (call_step s c p)) ≡ sleeps_at (whole_access p) (s.words (cell_place s.layout (mutex_of c)))
-  pub place : sleeps_at (whole_access p) (met s (call_step s c p)) ≡ true → address_of (whole_access p) ≡ cell_place s.layout (mutex_of c)
+  pub same_sleep : sleeps_at (whole_access p) (met s t (call_step s t c p)) ≡ sleeps_at (whole_access p) (s.words (cell_place s.layout (mutex_of c)))
+  pub place : sleeps_at (whole_access p) (met s t (call_step s t c p)) ≡ true → place_met s.layout t (whole_access p) ≡ cell_place s.layout (mutex_of c)
   pub wakes : is_wake (whole_access p) ≡ true → (n : ℕ) × (1 ≤ n) × (whole_access p ≡ access.Wake (cell_place s.layout (mutex_of c)) n)
   -- whoever falls asleep is in a lock that saw the word, and loads it when it is woken
-  pub sleeper : sleeps_at (whole_access p) (met s (call_step s c p)) ≡ true → (v : Fields) × (p.phase ≡ AtCell (Lock (lock.Sleep v))) × ((onto s p).phase ≡ AtCell (Lock lock.Load))
-  pub tells : Tells t (seen s (mutex_of c)) p.operation (onto s p).point (seen (after s t (call_step s c p)) (mutex_of c))
-  pub room : (x : Reply) → (onto s p).point ≡ Some x → acquires p.operation ≡ true → (s.threads t).held < 2048
-  pub far : (k : ℕ) → k ≢ mutex_of c → seen (after s t (call_step s c p)) k ≡ seen s k
-  pub cells : (k : ℕ) → k < s.layout.mutexes → k ≢ mutex_of c → (after s t (call_step s c p)).words (cell_place s.layout k) ≡ s.words (cell_place s.layout k)
-  pub pendings : (u : ℕ) → 1 ≤ u → u ≤ s.layout.threads → t ≢ u → (after s t (call_step s c p)).words (head_place u + 2) ≡ s.words (head_place u + 2)
+  pub sleeper : sleeps_at (whole_access p) (met s t (call_step s t c p)) ≡ true → (v : Fields) × (p.phase ≡ AtCell (Lock (lock.Sleep v))) × ((onto s t p).phase ≡ AtCell (Lock lock.Load))
+  pub tells : Tells t (seen s (mutex_of c)) p.operation (onto s t p).point (seen (after s t (call_step s t c p)) (mutex_of c))
+  pub room : (x : Reply) → (onto s t p).point ≡ Some x → acquires p.operation ≡ true → (s.threads t).held < 2048
+  pub far : (k : ℕ) → k ≢ mutex_of c → seen (after s t (call_step s t c p)) k ≡ seen s k
+  pub cells : (k : ℕ) → k < s.layout.mutexes → k ≢ mutex_of c → (after s t (call_step s t c p)).words (cell_place s.layout k) ≡ s.words (cell_place s.layout k)
+  pub pendings : (u : ℕ) → 1 ≤ u → u ≤ s.layout.threads → t ≢ u → (after s t (call_step s t c p)).words (head_place u + 2) ≡ s.words (head_place u + 2)
 
 -- ---- how many accesses are left of a call
 
@@ -114,7 +114,7 @@ module _ (s : State) (t : ℕ) (c : Call) (p : Whole) (g : CallStep s t c p) (fi
   m = mutex_of c
 
   abbrev v : Transition
-  v = call_step s c p
+  v = call_step s t c p
 
   abbrev s' : State
   s' = after s t v
@@ -126,7 +126,7 @@ module _ (s : State) (t : ℕ) (c : Call) (p : Whole) (g : CallStep s t c p) (fi
   w' = s'.words (cell_place s.layout m)
 
   abbrev f : Phase
-  f = (onto s p).phase
+  f = (onto s t p).phase
 
   -- the accesses that are left
   left_then : left_of s' (stage_after c p f) ≡ left_at f w'
@@ -143,7 +143,7 @@ module _ (s : State) (t : ℕ) (c : Call) (p : Whole) (g : CallStep s t c p) (fi
       go false e = ap (λ (x : ℕ). (fields_of x).waiters) (g.cells k inside (eqb-false k m e)) ∙ on
 
   -- on its cell, that is owned and has WAITERS
-  owned_there : sleeps_at v.access (met s v) ≡ true → (k : ℕ) → k < s.layout.mutexes → address_of v.access ≡ cell_place s.layout k → HasWaiters s k × (IsUnowned s k → ⊥)
+  owned_there : sleeps_at v.access (met s t v) ≡ true → (k : ℕ) → k < s.layout.mutexes → place_of s t v ≡ cell_place s.layout k → HasWaiters s k × (IsUnowned s k → ⊥)
   owned_there on k inside at =
       let here : m ≡ k = (let place = g.place on in omega (arith, at, place)) in
       let owned = g.moves.sleeps (sym g.same_sleep ∙ on) in
@@ -159,10 +159,10 @@ module _ (s : State) (t : ℕ) (c : Call) (p : Whole) (g : CallStep s t c p) (fi
       unowned : k ≡ m → w' ≡ w → IsUnowned s k
       unowned is same = subst (IsUnowned s) (sym is) (ap (λ (o : Object). o.owner) (seen-inside s m fits.inside) ∙ ap owner_of (sym (ap (λ (x : ℕ). (fields_of x).owner) same) ∙ free_then is))
 
-      here : k ≡ m → (a : Bool) → is_wake v.access ≡ a → (b : Bool) → sleeps_at v.access (met s v) ≡ b → Settles s t v k
+      here : k ≡ m → (a : Bool) → is_wake v.access ≡ a → (b : Bool) → sleeps_at v.access (met s t v) ≡ b → Settles s t v k
       here is true e b z = let wakes = g.wakes e in Wakes_there wakes.0 wakes.1 (wakes.2 ∙ ap (λ (j : ℕ). access.Wake (cell_place s.layout j) wakes.0) (sym is))
       here is false e true z =
-          let kept : w' ≡ w = ap (λ (x : ℕ). s'.words x) (sym (g.place z)) ∙ put-same s.words (address_of v.access) _ ∙ sleeps_unchanged v.access (met s v) z ∙ ap s.words (g.place z) in
+          let kept : w' ≡ w = ap (λ (x : ℕ). s'.words x) (sym (g.place z)) ∙ put-same s.words (place_of s t v) _ ∙ sleeps_unchanged v.access (met s t v) z ∙ ap s.words (g.place z) in
           let free : (fields_of w).owner ≡ 0 = sym (ap (λ (x : ℕ). (fields_of x).owner) kept) ∙ free_then is in
           absurd (let some = (g.moves.sleeps (sym g.same_sleep ∙ z)).0 in omega (arith, free, some))
       here is false e false z =
@@ -171,7 +171,7 @@ module _ (s : State) (t : ℕ) (c : Call) (p : Whole) (g : CallStep s t c p) (fi
           (g.moves.answers e (free_then is) (subst (HasWaiters s') is on))
 
       go : (b : Bool) → (k == m) ≡ b → Settles s t v k
-      go true e = here (eqb-true k m e) (is_wake v.access) refl (sleeps_at v.access (met s v)) refl
+      go true e = here (eqb-true k m e) (is_wake v.access) refl (sleeps_at v.access (met s t v)) refl
       go false e = let apart = eqb-false k m e in Found_free (sym (ap (λ (o : Object). o.owner) (g.far k apart)) ∙ none) (λ before. absurd (apart (sym before.0)))
 
   pub call_stepping : Stepping s t v
@@ -185,7 +185,7 @@ module _ (s : State) (t : ℕ) (c : Call) (p : Whole) (g : CallStep s t c p) (fi
     far = g.far;
     waiters = waits;
     pendings = g.pendings;
-    sleeper = λ on. let row_is = g.sleeper on in subst (SleepsAs s.layout (address_of v.access)) (sym (ap (stage_after c p) row_is.2)) (refl, inl (g.place on));
+    sleeper = λ on. let row_is = g.sleeper on in subst (SleepsAs s.layout (place_of s t v)) (sym (ap (stage_after c p) row_is.2)) (refl, inl (g.place on));
     asleep = owned_there;
     settles = settled;
     some = some_at t (s.threads t).held p p.phase w (seen s m) fits.stands;

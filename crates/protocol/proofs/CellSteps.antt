@@ -43,7 +43,7 @@ use Rattle.mutex.proofs.Rights.{right}
 use Rattle.mutex.proofs.Alone.{alone}
 use Rattle.mutex.proofs.Steps.{at_cell}
 use Rattle.protocol.specs.declared.thread.Stage.TheVariants.{Calling}
-use Rattle.protocol.specs.Machine.{State, put, is_valid, answer_among, stage_after, held_after}
+use Rattle.protocol.specs.Machine.{State, put, is_valid, place_met, answer_among, stage_after, held_after}
 use Rattle.protocol.specs.Headline.{seen}
 use Rattle.protocol.proofs.Puts.{put-same, put-other}
 use Rattle.protocol.proofs.Phases.{left_at, Moves, after_decided, after_answers, after_left, after_steady}
@@ -145,10 +145,10 @@ module _ (s : State) (t : ℕ) (c : Call) (p : Whole) (r : Row) (inv : Kept s) (
   l = resume_of p.thread r (answer_at a w)
 
   abbrev o : Onward
-  o = onto s whole
+  o = onto s t whole
 
   abbrev s' : State
-  s' = after s t (call_step s c whole)
+  s' = after s t (call_step s t c whole)
 
   abbrev at : AtRow t (s.threads t).held p.operation r (seen s m)
   at = fits.stands
@@ -171,7 +171,7 @@ module _ (s : State) (t : ℕ) (c : Call) (p : Whole) (r : Row) (inv : Kept s) (
   pub wakes : is_wake a ≡ true → (n : ℕ) × (1 ≤ n) × (a ≡ Wake place n)
   wakes e = let woken = wakes_row p.thread p.cell r e in (woken.0, woken.1, woken.2 ∙ ap (λ (x : ℕ). Wake x woken.0) fits.cell)
 
-  pub at_place : address_of a ≡ place
+  pub at_place : place_met s.layout t a ≡ place
   at_place = address
 
   leads : o ≡ from_cell whole l
@@ -367,12 +367,12 @@ module _ (s : State) (t : ℕ) (c : Call) (p : Whole) (r : Row) (inv : Kept s) (
   -- what holds of every state holds then
   pub kept : (s.threads t).stage ≡ Calling c whole → Listed s t (Calling c whole) → Kept s'
   kept is (es, owned, ch) =
-      kept_where s t m a (thread_after s t (call_step s c whole)) p.operation o.point inv pos known fits.inside fits.called far tells refl
+      kept_where s t m a (thread_after s t (call_step s t c whole)) p.operation o.point inv pos known fits.inside fits.called far tells refl
       (λ x e. at.room)
       (λ u first most. word_there (head_place u + 1) (head_is_no_cell s.layout u m 1 first most (omega arith)))
       (λ u x first most apart mine. word_there x (mine_is_no_cell s u x m first most fits.inside mine))
       waits_so
-      (subst (λ (z : Onward). Sits s' t (held_after (s.threads t).held p.operation z.point) (stage_after c whole z.phase)) (sym leads) (sits_after s t (s.threads t).held c whole fits serves a (thread_after s t (call_step s c whole)) held' (after_cell whole l.row) (arrives l.row refl owning_so)))
+      (subst (λ (z : Onward). Sits s' t (held_after (s.threads t).held p.operation z.point) (stage_after c whole z.phase)) (sym leads) (sits_after s t (s.threads t).held c whole fits serves a (thread_after s t (call_step s t c whole)) held' (after_cell whole l.row) (arrives l.row refl owning_so)))
       (subst (λ (z : Onward). Listed s' t (stage_after c whole z.phase)) (sym leads) (listed_after s' t c whole es (after_cell whole l.row) (owned_after es owned (after_cell whole l.row) owning_so) (chain_after es owned ch l.row owning_so)))
       (subst (λ (z : Onward). PendsAs (s'.words (head_place t + 2)) (stage_after c whole z.phase)) (sym leads) (pending_then c whole (after_cell whole l.row) (s'.words (head_place t + 2)) (word_there (head_place t + 2) (head_is_no_cell s.layout t m 2 pos known (omega arith)) ∙ subst (PendsAs (s.words (head_place t + 2))) is (inv.heads t pos known).pending ∙ sym pends_so)))
       (subst Sound (sym here) rt.sound)

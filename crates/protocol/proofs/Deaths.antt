@@ -5,7 +5,6 @@ use Rattle.std.proofs.lemmas.Bool.{eqb-false}
 use Rattle.std.proofs.lemmas.Bool.Decides.{nat_tests}
 use Rattle.std.specs.Prelude.{Ok, Err}
 use Rattle.lockword.specs.declared.reply.Reply.TheVariants.{XHELD}
-use Rattle.keys.specs.Accesses.{address_of}
 use Rattle.mutex.specs.declared.call.Call.{Call}
 use Rattle.mutex.specs.Calls.{mutex_of}
 use Rattle.mutex.specs.Standings.{Whole}
@@ -35,7 +34,7 @@ use Rattle.protocol.specs.declared.note.Note.TheVariants.{Stepped}
 use Rattle.protocol.specs.declared.thread.Stage.{Stage}
 use Rattle.protocol.specs.declared.thread.Stage.TheVariants.{Idle, Calling, Dying, Reaped}
 use Rattle.protocol.specs.Notes.{facts_of, sleep_facts, return_facts, death_facts, reap_facts}
-use Rattle.protocol.specs.Machine.{State, After, start, run, notes, nothing, is_alive, begun, went, sleeps, answer_of, decision, returned, woken_by, walked, has_ended, stepped, happens, killed, slept_on}
+use Rattle.protocol.specs.Machine.{State, After, place_met, start, run, notes, nothing, is_alive, begun, went, sleeps, answer_of, decision, returned, woken_by, walked, has_ended, stepped, happens, killed, slept_on}
 use Rattle.protocol.specs.Headline.{seen, facts_among}
 use Rattle.protocol.specs.Deaths.{deaths, AreMourned, IsMourned, DeathsAreTold}
 use Rattle.protocol.proofs.Objects.{IsCalled, one, one-none, one-own, one-other, others}
@@ -96,12 +95,12 @@ module _ (t m : ℕ) where
     apart_from : (u : ℕ) (g : Stage) → (s.threads u).stage ≡ g → is_alive g ≡ true → u ≢ t
     apart_from u g is lives same = cc (sym dead ∙ ap (λ (v : ℕ). is_alive (s.threads v).stage) (sym same) ∙ ap is_alive is ∙ lives)
 
-    call_lost : (u : ℕ) → 1 ≤ u → u ≤ s.layout.threads → (c : Call) (p : Whole) → (s.threads u).stage ≡ Calling c p → Lost s (went s u (s.threads u).held c p (whole_led p (answer_of s (whole_access p))))
+    call_lost : (u : ℕ) → 1 ≤ u → u ≤ s.layout.threads → (c : Call) (p : Whole) → (s.threads u).stage ≡ Calling c p → Lost s (went s u (s.threads u).held c p (whole_led p (answer_of s u (whole_access p))))
     call_lost u pos known c p is =
         let fits = fits_in s u c p inv pos known is in
-        let g : Stepping s u (call_step s c p) = call_stepping s u c p (goes s u c p inv pos known is) fits.0 in
+        let g : Stepping s u (call_step s u c p) = call_stepping s u c p (goes s u c p inv pos known is) fits.0 in
         subst (Lost s) (sym (went-is s u c p fits.1 g.valid))
-        (let none = call_deaths t m u (decision u c (onto s p).point) (slept_on s c (whole_access p)) (woken_by (whole_access p) (s.queues (address_of (whole_access p)))) (returned (onto s p).phase) in
+        (let none = call_deaths t m u (decision u c (onto s u p).point) (slept_on s u c (whole_access p)) (woken_by (whole_access p) (s.queues (place_met s.layout u (whole_access p)))) (returned (onto s u p).phase) in
         let kept = same g in omega arith)
       where
         other : u ≢ t
@@ -111,27 +110,27 @@ module _ (t m : ℕ) where
         told None n e called = ap (one t) e
         told (Some x) n permits called = others (seen s (mutex_of c)) n u t p.operation x called other permits
 
-        same : Stepping s u (call_step s c p) → one t (seen (after s u (call_step s c p)) m) ≡ one t (seen s m)
+        same : Stepping s u (call_step s u c p) → one t (seen (after s u (call_step s u c p)) m) ≡ one t (seen s m)
         same g = go (m == mutex_of c) refl
           where
-            go : (b : Bool) → (m == mutex_of c) ≡ b → one t (seen (after s u (call_step s c p)) m) ≡ one t (seen s m)
-            go true e = subst (λ (k : ℕ). one t (seen (after s u (call_step s c p)) k) ≡ one t (seen s k)) (sym (eqb-true m (mutex_of c) e)) (told (onto s p).point (seen (after s u (call_step s c p)) (mutex_of c)) g.tells g.called)
+            go : (b : Bool) → (m == mutex_of c) ≡ b → one t (seen (after s u (call_step s u c p)) m) ≡ one t (seen s m)
+            go true e = subst (λ (k : ℕ). one t (seen (after s u (call_step s u c p)) k) ≡ one t (seen s k)) (sym (eqb-true m (mutex_of c) e)) (told (onto s u p).point (seen (after s u (call_step s u c p)) (mutex_of c)) g.tells g.called)
             go false e = ap (one t) (g.far m (eqb-false m (mutex_of c) e))
 
     walk_lost : (u : ℕ) (r : Row) → WalkStep s u r → Lost s (walked s u (s.threads u).held (walk_of u r))
     walk_lost u r g = subst (Lost s) (sym (walked-is s u r g.valid)) (go (death_then s u r) g.tells)
       where
-        go : (d : Option ℕ) → DeathTells s u d (walk_after s u r) → deaths t m (death_facts u d ++ (map Wake (woken_by (walk_access s u r) (s.queues (address_of (walk_access s u r)))) ++ reap_facts u (has_ended (row_then s u r)))) + one t (seen (walk_after s u r) m) ≡ one t (seen s m)
-        go None tells = let none = reaped_deaths t m u (woken_by (walk_access s u r) (s.queues (address_of (walk_access s u r)))) (has_ended (row_then s u r)) in let same : one t (seen (walk_after s u r) m) ≡ one t (seen s m) = ap (one t) (tells m) in omega arith
+        go : (d : Option ℕ) → DeathTells s u d (walk_after s u r) → deaths t m (death_facts u d ++ (map Wake (woken_by (walk_access s u r) (s.queues (place_met s.layout u (walk_access s u r)))) ++ reap_facts u (has_ended (row_then s u r)))) + one t (seen (walk_after s u r) m) ≡ one t (seen s m)
+        go None tells = let none = reaped_deaths t m u (woken_by (walk_access s u r) (s.queues (place_met s.layout u (walk_access s u r)))) (has_ended (row_then s u r)) in let same : one t (seen (walk_after s u r) m) ≡ one t (seen s m) = ap (one t) (tells m) in omega arith
         go (Some k) tells = pick (u == t) refl (k == m) refl
           where
-            abbrev_none : deaths t m (map Wake (woken_by (walk_access s u r) (s.queues (address_of (walk_access s u r)))) ++ reap_facts u (has_ended (row_then s u r))) ≡ 0
-            abbrev_none = reaped_deaths t m u (woken_by (walk_access s u r) (s.queues (address_of (walk_access s u r)))) (has_ended (row_then s u r))
+            abbrev_none : deaths t m (map Wake (woken_by (walk_access s u r) (s.queues (place_met s.layout u (walk_access s u r)))) ++ reap_facts u (has_ended (row_then s u r))) ≡ 0
+            abbrev_none = reaped_deaths t m u (woken_by (walk_access s u r) (s.queues (place_met s.layout u (walk_access s u r)))) (has_ended (row_then s u r))
 
-            pick : (a : Bool) → (u == t) ≡ a → (b : Bool) → (k == m) ≡ b → (if a && b then 1 else 0) + deaths t m (map Wake (woken_by (walk_access s u r) (s.queues (address_of (walk_access s u r)))) ++ reap_facts u (has_ended (row_then s u r))) + one t (seen (walk_after s u r) m) ≡ one t (seen s m)
+            pick : (a : Bool) → (u == t) ≡ a → (b : Bool) → (k == m) ≡ b → (if a && b then 1 else 0) + deaths t m (map Wake (woken_by (walk_access s u r) (s.queues (place_met s.layout u (walk_access s u r)))) ++ reap_facts u (has_ended (row_then s u r))) + one t (seen (walk_after s u r) m) ≡ one t (seen s m)
             pick a x false y = let none = abbrev_none in let same : one t (seen (walk_after s u r) m) ≡ one t (seen s m) = ap (one t) (tells.2 m (λ e. eqb-false k m y (sym e))) in none_if a same
               where
-                none_if : (a : Bool) → one t (seen (walk_after s u r) m) ≡ one t (seen s m) → (if a && false then 1 else 0) + deaths t m (map Wake (woken_by (walk_access s u r) (s.queues (address_of (walk_access s u r)))) ++ reap_facts u (has_ended (row_then s u r))) + one t (seen (walk_after s u r) m) ≡ one t (seen s m)
+                none_if : (a : Bool) → one t (seen (walk_after s u r) m) ≡ one t (seen s m) → (if a && false then 1 else 0) + deaths t m (map Wake (woken_by (walk_access s u r) (s.queues (place_met s.layout u (walk_access s u r)))) ++ reap_facts u (has_ended (row_then s u r))) + one t (seen (walk_after s u r) m) ≡ one t (seen s m)
                 none_if true same = let none = abbrev_none in omega arith
                 none_if false same = let none = abbrev_none in omega arith
             pick true x true y =
@@ -150,7 +149,7 @@ module _ (t m : ℕ) where
     step_lost u pos known Reaped is = omega arith
     step_lost u pos known (Calling c p) is = go (sleeps s u (Calling c p))
       where
-        go : (b : Bool) → Lost s (if b then nothing s else went s u (s.threads u).held c p (whole_led p (answer_of s (whole_access p))))
+        go : (b : Bool) → Lost s (if b then nothing s else went s u (s.threads u).held c p (whole_led p (answer_of s u (whole_access p))))
         go true = omega arith
         go false = call_lost u pos known c p is
     step_lost u pos known (Dying w) is =
@@ -179,7 +178,7 @@ module _ (t m : ℕ) where
         stepped_dead u Reaped is = dead
         stepped_dead u (Calling c p) is = pick (sleeps s u (Calling c p))
           where
-            pick : (b : Bool) → is_alive ((if b then nothing s else went s u (s.threads u).held c p (whole_led p (answer_of s (whole_access p)))).state.threads t).stage ≡ false
+            pick : (b : Bool) → is_alive ((if b then nothing s else went s u (s.threads u).held c p (whole_led p (answer_of s u (whole_access p)))).state.threads t).stage ≡ false
             pick true = dead
             pick false = ap (λ (z : Thread). is_alive z.stage) (put-other s.threads u _ t (λ e. apart_from u (Calling c p) is refl (sym e))) ∙ dead
         stepped_dead u (Dying w) is = by_put (λ (z : Thread). is_alive z.stage ≡ false) s.threads u _ t (λ e. by_walked (λ (g : Stage). is_alive g ≡ false) w _ (λ ended. refl) (λ going. refl)) (λ apart. dead)

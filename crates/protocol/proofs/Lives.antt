@@ -288,12 +288,12 @@ module _ (s : State) (u : ℕ) (c : Call) (idle : (s.threads u).stage ≡ Idle) 
   }
 
 -- a call makes its access
-goes : (s : State) (u : ℕ) → Kept s → 1 ≤ u → u ≤ s.layout.threads → (c : Call) (p : Whole) → (s.threads u).stage ≡ Calling c p → Adds s u (went s u (s.threads u).held c p (whole_led p (answer_of s (whole_access p))))
+goes : (s : State) (u : ℕ) → Kept s → 1 ≤ u → u ≤ s.layout.threads → (c : Call) (p : Whole) → (s.threads u).stage ≡ Calling c p → Adds s u (went s u (s.threads u).held c p (whole_led p (answer_of s u (whole_access p))))
 goes s u inv pos known c p is =
     let g : CallStep s u c p = accesses.goes s u c p inv pos known is in
-    let f : Phase = (onto s p).phase in
-    let x : Option Reply = (onto s p).point in
-    let stage : ((after s u (call_step s c p)).threads u).stage ≡ stage_after c p f = ap (λ (z : Thread). z.stage) (put-same s.threads u _) in
+    let f : Phase = (onto s u p).phase in
+    let x : Option Reply = (onto s u p).point in
+    let stage : ((after s u (call_step s u c p)).threads u).stage ≡ stage_after c p f = ap (λ (z : Thread). z.stage) (put-same s.threads u _) in
     subst (Adds s u) (sym (went-is s u c p (accesses.fits_in s u c p inv pos known is).1 g.valid)) record {
       fine = access_fine u c x _ _ (returned f);
       says = says_of u c x (returned f);
@@ -355,7 +355,7 @@ goes_on s u inv pos known Reaped is = idles s u
 goes_on s u inv pos known (Dying w) is = walks_on s u inv pos known w is
 goes_on s u inv pos known (Calling c p) is = go (sleeps s u (Calling c p))
   where
-    go : (b : Bool) → Adds s u (if b then nothing s else went s u (s.threads u).held c p (whole_led p (answer_of s (whole_access p))))
+    go : (b : Bool) → Adds s u (if b then nothing s else went s u (s.threads u).held c p (whole_led p (answer_of s u (whole_access p))))
     go true = idles s u
     go false = goes s u inv pos known c p is
 

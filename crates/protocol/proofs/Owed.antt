@@ -14,7 +14,7 @@ use Rattle.protocol.specs.Headline.{seen}
 use Rattle.protocol.specs.Sleepers.{Sleeps, IsUnowned, alone, Owes, SomebodyOwes, IsAtRest, EndsAlone}
 use Rattle.protocol.proofs.Objects.{owners}
 use Rattle.protocol.proofs.Kept.{Kept}
-use Rattle.protocol.proofs.Steps.{Tells, Transition, after, met}
+use Rattle.protocol.proofs.Steps.{Tells, Transition, after, place_of, met}
 use Rattle.protocol.proofs.Stepping.{AnswersAs, left_of, Continues, Settles, Wakes_there, Answers_now, Found_free}
 use Rattle.protocol.proofs.Events.{is_known}
 use Rattle.protocol.proofs.Working.{IsWorking, Goes, awake_goes}
@@ -110,7 +110,7 @@ module _ (s : State) (t m u : ℕ) (inv : Kept s) (queued : Queued s) (a : Answe
       on : IsUnowned s' m → Continues s t v m → Done ⊎ GoesOn
       on free c = pick (turn s t v goes.step a.first a.last goes.is queued awake u)
         where
-          pick : Turned u t v.access (met s v) s.queues s'.queues → Done ⊎ GoesOn
+          pick : Turned u t v.access (place_of s t v) (met s t v) s.queues s'.queues → Done ⊎ GoesOn
           pick (As_before quiet unwoken same) = inr record {
             answers = this_answers s t v goes.step a.first a.last goes.is queued awake m c;
             free = free;
@@ -177,9 +177,9 @@ rests_or n s t on = ⊎_elim (λ working. pick (is_asleep s t) refl working) (λ
 -- one step, and then those that are left
 one_more : (n : ℕ) (s : State) (t : ℕ) (queued : Queued s) (pos : 1 ≤ t) (known : t ≤ s.layout.threads) (awake : is_asleep s t ≡ false) (g : Goes s t) → left_of s (s.threads t).stage ≤ suc n
     → (left_of (after s t g.v) ((after s t g.v).threads t).stage ≤ n → Rests (after s t g.v) t n) → Rests s t (suc n)
-one_more n s t queued pos known awake g few further = rests_later s (after s t g.v) t n g.to (go (sleeps_at g.v.access (met s g.v)) refl)
+one_more n s t queued pos known awake g few further = rests_later s (after s t g.v) t n g.to (go (sleeps_at g.v.access (met s t g.v)) refl)
   where
-    go : (b : Bool) → sleeps_at g.v.access (met s g.v) ≡ b → Rests (after s t g.v) t n
+    go : (b : Bool) → sleeps_at g.v.access (met s t g.v) ≡ b → Rests (after s t g.v) t n
     go true on = rests_now (after s t g.v) t n (inr (now_asleep s t g.v g.step pos known g.is queued awake on))
     go false quiet =
         further

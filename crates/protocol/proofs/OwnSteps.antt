@@ -64,10 +64,10 @@ module _ (s : State) (t : ℕ) (c : Call) (p : Whole) (inv : Kept s) (pos : 1 �
   at = address_of a
 
   abbrev o : Onward
-  o = onto s p
+  o = onto s t p
 
   abbrev s' : State
-  s' = after s t (call_step s c p)
+  s' = after s t (call_step s t c p)
 
   pub own_valid : is_valid s.layout at ≡ true
   own_valid = mine_is_valid s t at pos known mine
@@ -114,12 +114,12 @@ module _ (s : State) (t : ℕ) (c : Call) (p : Whole) (inv : Kept s) (pos : 1 �
   -- what holds of every state holds then, where its thread arrives rightly
   pub own_kept : (es : List ℕ) → Arrives t (s.threads t).held p o.phase (seen s m) → s'.words (head_place t + 2) ≡ pending_in p.entry o.phase → Owned s t (left_out_in m o.phase) es → ChainedIn s'.words (head_place t) p.entry es o.phase → Kept s'
   own_kept es arrives pending owned ch =
-      kept_where s t m a (thread_after s t (call_step s c p)) p.operation o.point inv pos known fits.inside fits.called (λ k apart. own_seen k) own_tells refl
+      kept_where s t m a (thread_after s t (call_step s t c p)) p.operation o.point inv pos known fits.inside fits.called (λ k apart. own_seen k) own_tells refl
       (λ x e takes. absurd (cc (e, own_no_point)))
       (λ u first most. own_words (head_place u + 1) (offset_is_nobodys s t u at pos known first most mine))
       (λ u x first most apart theirs. own_words x (mine_is_not_theirs s u t x at first most pos known (λ e. apart (sym e)) theirs mine))
       (λ u k first most apart inside own. inl (own_cells k inside))
-      (sits_after s t (s.threads t).held c p fits serves a (thread_after s t (call_step s c p)) (thread_after s t (call_step s c p)).held o.phase (subst (λ (z : ℕ × Object). Arrives t z.0 p o.phase z.1) (λ i. (sym held_same i, sym (own_seen m) i)) arrives))
+      (sits_after s t (s.threads t).held c p fits serves a (thread_after s t (call_step s t c p)) (thread_after s t (call_step s t c p)).held o.phase (subst (λ (z : ℕ × Object). Arrives t z.0 p o.phase z.1) (λ i. (sym held_same i, sym (own_seen m) i)) arrives))
       (listed_after s' t c p es o.phase owned_then ch)
       (pending_then c p o.phase (s'.words (head_place t + 2)) pending)
       (subst Sound (sym (own_seen m)) (inv.sound m))
@@ -134,22 +134,22 @@ module _ (s : State) (t : ℕ) (c : Call) (p : Whole) (inv : Kept s) (pos : 1 �
 
 -- what is left to show of an access of its own words
 record Lands (s : State) (t : ℕ) (c : Call) (p : Whole) : Type 0 where
-  joins : Joins (decided_at p.phase) None (decided_at (onto s p).phase)
-  fewer : left_at (onto s p).phase (s.words (cell_place s.layout (mutex_of c))) < left_at p.phase (s.words (cell_place s.layout (mutex_of c)))
-  steady : SteadyAt t p.phase (s.words (cell_place s.layout (mutex_of c))) → SteadyAt t (onto s p).phase (s.words (cell_place s.layout (mutex_of c)))
-  arrives : Arrives t (s.threads t).held p (onto s p).phase (seen s (mutex_of c))
-  pending : (after s t (call_step s c p)).words (head_place t + 2) ≡ pending_in p.entry (onto s p).phase
-  list : (es : List ℕ) × Owned s t (left_out_in (mutex_of c) (onto s p).phase) es × ChainedIn (after s t (call_step s c p)).words (head_place t) p.entry es (onto s p).phase
+  joins : Joins (decided_at p.phase) None (decided_at (onto s t p).phase)
+  fewer : left_at (onto s t p).phase (s.words (cell_place s.layout (mutex_of c))) < left_at p.phase (s.words (cell_place s.layout (mutex_of c)))
+  steady : SteadyAt t p.phase (s.words (cell_place s.layout (mutex_of c))) → SteadyAt t (onto s t p).phase (s.words (cell_place s.layout (mutex_of c)))
+  arrives : Arrives t (s.threads t).held p (onto s t p).phase (seen s (mutex_of c))
+  pending : (after s t (call_step s t c p)).words (head_place t + 2) ≡ pending_in p.entry (onto s t p).phase
+  list : (es : List ℕ) × Owned s t (left_out_in (mutex_of c) (onto s t p).phase) es × ChainedIn (after s t (call_step s t c p)).words (head_place t) p.entry es (onto s t p).phase
 
 goes_own : (s : State) (t : ℕ) (c : Call) (p : Whole) → Kept s → 1 ≤ t → t ≤ s.layout.threads → Fits s t (s.threads t).held (mutex_of c) p → Serves c p → IsOwn p.phase → IsPlain (whole_access p) → IsMine s t (address_of (whole_access p)) → Lands s t c p → CallStep s t c p
 goes_own s t c p inv pos known fits serves own plain mine lands = record {
   valid = own_valid s t c p inv pos known fits serves own plain mine;
   kept = own_kept s t c p inv pos known fits serves own plain mine lands.list.0 lands.arrives lands.pending lands.list.1 lands.list.2;
   moves = own_moves s t c p inv pos known fits serves own plain mine lands.joins lands.fewer lands.steady;
-  same_sleep = (plain_awake (whole_access p) (met s (call_step s c p)) plain).0 ∙ sym (plain_awake (whole_access p) (s.words (cell_place s.layout (mutex_of c))) plain).0;
-  place = λ e. absurd (cc (e, (plain_awake (whole_access p) (met s (call_step s c p)) plain).0));
+  same_sleep = (plain_awake (whole_access p) (met s t (call_step s t c p)) plain).0 ∙ sym (plain_awake (whole_access p) (s.words (cell_place s.layout (mutex_of c))) plain).0;
+  place = λ e. absurd (cc (e, (plain_awake (whole_access p) (met s t (call_step s t c p)) plain).0));
   wakes = λ e. absurd (cc (e, (plain_awake (whole_access p) 0 plain).1));
-  sleeper = λ e. absurd (cc (e, (plain_awake (whole_access p) (met s (call_step s c p)) plain).0));
+  sleeper = λ e. absurd (cc (e, (plain_awake (whole_access p) (met s t (call_step s t c p)) plain).0));
   tells = own_tells s t c p inv pos known fits serves own plain mine;
   room = λ x e takes. absurd (cc (e, own_no_point s t c p inv pos known fits serves own plain mine));
   far = λ k apart. own_seen s t c p inv pos known fits serves own plain mine k;
@@ -228,7 +228,7 @@ module _ (s : State) (t : ℕ) (c : Call) (p : Whole) (inv : Kept s) (pos : 1 �
     announced_arrives (row.Ended x) at = absurd at.going
 
     abbrev new_words : ℕ → ℕ
-    new_words = (after s t (call_step s c before)).words
+    new_words = (after s t (call_step s t c before)).words
 
     announced_list : (z : Row) (es : List ℕ) → AtRow t held p.operation z (seen s (mutex_of c)) → Owned s t None es → IsChainBothWays new_words (head_place t) es → Owned s t (left_out_in (mutex_of c) (announced before z)) es × ChainedIn new_words (head_place t) p.entry es (announced before z)
     announced_list (row.Unlock (Release d)) es at owned ch =
@@ -274,7 +274,7 @@ module _ (s : State) (t : ℕ) (c : Call) (p : Whole) (inv : Kept s) (pos : 1 �
     k = mutex_of c
 
     abbrev linked_words : ℕ → ℕ
-    linked_words = (after s t (call_step s c linking_call)).words
+    linked_words = (after s t (call_step s t c linking_call)).words
 
     at_head : l.head ≡ head_place t
     at_head = fits.stands.0 ∙ fits.head
@@ -378,8 +378,8 @@ module _ (s : State) (t : ℕ) (c : Call) (p : Whole) (inv : Kept s) (pos : 1 �
       pub linking_goes : CallStep s t c linking_call
       linking_goes =
           let plain : IsPlain (link_access_of l) = link_plain l.head l.entry l.row in
-          let leads : (onto s linking_call).phase ≡ linked_at x moved led_to = ap (λ (o : Onward). o.phase) (own_leads s t c linking_call inv pos known fits serves tt plain link_mine) in
-          let there : Linked (onto s linking_call).phase = subst Linked (sym leads) (is_linked led_to refl) in
+          let leads : (onto s t linking_call).phase ≡ linked_at x moved led_to = ap (λ (o : Onward). o.phase) (own_leads s t c linking_call inv pos known fits serves tt plain link_mine) in
+          let there : Linked (onto s t linking_call).phase = subst Linked (sym leads) (is_linked led_to refl) in
           goes_own s t c linking_call inv pos known fits serves tt plain link_mine record { joins = there.joins; fewer = there.fewer; steady = there.steady; arrives = there.arrives; pending = link_pends ∙ there.pends; list = there.list }
 
   -- ---- the entry is taken out of the list
@@ -391,7 +391,7 @@ module _ (s : State) (t : ℕ) (c : Call) (p : Whole) (inv : Kept s) (pos : 1 �
     j = mutex_of c
 
     abbrev unlinked_words : ℕ → ℕ
-    unlinked_words = (after s t (call_step s c unlinking_call)).words
+    unlinked_words = (after s t (call_step s t c unlinking_call)).words
 
     head_at : u.head ≡ head_place t
     head_at = fits.stands.0 ∙ fits.head
@@ -486,6 +486,6 @@ module _ (s : State) (t : ℕ) (c : Call) (p : Whole) (inv : Kept s) (pos : 1 �
       pub unlinking_goes : CallStep s t c unlinking_call
       unlinking_goes =
           let plain : IsPlain (unlink_access_of u) = unlink_plain u.head u.entry u.row in
-          let leads : (onto s unlinking_call).phase ≡ unlinked_at unlink_to to_row d = ap (λ (o : Onward). o.phase) (own_leads s t c unlinking_call inv pos known fits serves tt plain unlink_mine) in
-          let there : Unlinked (onto s unlinking_call).phase = subst Unlinked (sym leads) (is_unlinked to_row refl) in
+          let leads : (onto s t unlinking_call).phase ≡ unlinked_at unlink_to to_row d = ap (λ (o : Onward). o.phase) (own_leads s t c unlinking_call inv pos known fits serves tt plain unlink_mine) in
+          let there : Unlinked (onto s t unlinking_call).phase = subst Unlinked (sym leads) (is_unlinked to_row refl) in
           goes_own s t c unlinking_call inv pos known fits serves tt plain unlink_mine record { joins = there.joins; fewer = there.fewer; steady = λ was. there.steady; arrives = there.arrives; pending = unlink_pends ∙ there.pends; list = there.list }

@@ -4,16 +4,16 @@ use Rattle.std.proofs.lemmas.Bool.{eqb-false}
 use Rattle.keys.specs.declared.access.Access.{Access}
 use Rattle.keys.specs.declared.access.Access.TheVariants as access
 use Rattle.keys.specs.Layouts.{Layout', cell_place}
-use Rattle.keys.specs.Accesses.{address_of, sleeps_at}
+use Rattle.keys.specs.Accesses.{sleeps_at}
 use Rattle.protocol.specs.declared.thread.Thread.{Thread}
 use Rattle.protocol.specs.declared.thread.Stage.{Stage}
 use Rattle.protocol.specs.declared.thread.Stage.TheVariants.{Idle, Calling, Dying, Reaped}
-use Rattle.protocol.specs.Machine.{State, put, queue_after, stands_in, sleepers, places_of, sleeps, is_asleep}
+use Rattle.protocol.specs.Machine.{State, stands_in, sleepers, places_of, sleeps, is_asleep}
 use Rattle.protocol.specs.Sleepers.{Sleeps, IsUnowned}
 use Rattle.protocol.specs.Applies.{IsInNoQueue}
 use Rattle.protocol.proofs.Puts.{put-same, put-other}
 use Rattle.protocol.proofs.Phases.{answers_at}
-use Rattle.protocol.proofs.Steps.{Transition, after, met, thread_after}
+use Rattle.protocol.proofs.Steps.{Transition, done, after, place_of, met, thread_after}
 use Rattle.protocol.proofs.Stepping.{SleepsAs, AnswersAs, HasWaiters, Continues, Settles, Wakes_there, Answers_now, Found_free, Stepping}
 use Rattle.protocol.proofs.Queues.{Once, stands_one, stands_none, not_true, first_gone, first_stands, InOne, Turned, As_before, Falls, Woken, turned, once_then, one_then}
 use Rattle.protocol.proofs.WalkStepping.{same_answers}
@@ -67,7 +67,7 @@ module _ (s : State) (t : ℕ) (v : Transition) (g : Stepping s t v) (pos : 1 �
   s' = after s t v
 
   abbrev at : ℕ
-  at = address_of v.access
+  at = place_of s t v
 
   out : IsInNoQueue s t
   out = in_none s t queued awake
@@ -79,14 +79,14 @@ module _ (s : State) (t : ℕ) (v : Transition) (g : Stepping s t v) (pos : 1 �
   pub mine : (s'.threads t).stage ≡ v.next
   mine = ap (λ (z : Thread). z.stage) (put-same s.threads t (thread_after s t v))
 
-  pub turn : (u : ℕ) → Turned u t v.access (met s v) s.queues s'.queues
-  turn u = turned s.queues t v.access (met s v) queued.once out u (queued.one u)
+  pub turn : (u : ℕ) → Turned u t v.access at (met s t v) s.queues s'.queues
+  turn u = turned s.queues t v.access at (met s t v) queued.once out u (queued.one u)
 
   -- whoever stands in a queue then stood there, or is this thread, which falls asleep
-  pub stood : (u key : ℕ) → stands_in u (s'.queues key) ≡ true → ((u ≢ t) × (stands_in u (s.queues key) ≡ true)) ⊎ ((u ≡ t) × (sleeps_at v.access (met s v) ≡ true) × (key ≡ at))
+  pub stood : (u key : ℕ) → stands_in u (s'.queues key) ≡ true → ((u ≢ t) × (stands_in u (s.queues key) ≡ true)) ⊎ ((u ≡ t) × (sleeps_at v.access (met s t v) ≡ true) × (key ≡ at))
   stood u key stands = go (turn u)
     where
-      go : Turned u t v.access (met s v) s.queues s'.queues → ((u ≢ t) × (stands_in u (s.queues key) ≡ true)) ⊎ ((u ≡ t) × (sleeps_at v.access (met s v) ≡ true) × (key ≡ at))
+      go : Turned u t v.access at (met s t v) s.queues s'.queues → ((u ≢ t) × (stands_in u (s.queues key) ≡ true)) ⊎ ((u ≡ t) × (sleeps_at v.access (met s t v) ≡ true) × (key ≡ at))
       go (As_before quiet unwoken same) = let before = sym (same key) ∙ stands in inl ((λ me. cc (sym (ap (λ (x : ℕ). stands_in x (s.queues key)) me) ∙ before, out key)), before)
       go (Falls me on nobody there elsewhere) = inr (me, on, pick (key == at) refl)
         where
@@ -96,7 +96,7 @@ module _ (s : State) (t : ℕ) (v : Transition) (g : Stepping s t v) (pos : 1 �
       go (Woken quiet woken before gone) = absurd (cc (stands, gone key))
 
   -- this thread sleeps then, or stands in no queue
-  pub still_out : sleeps_at v.access (met s v) ≡ false → IsInNoQueue s' t
+  pub still_out : sleeps_at v.access (met s t v) ≡ false → IsInNoQueue s' t
   still_out quiet key = not_true (stands_in t (s'.queues key)) (λ stands. ⊎_elim (λ old. old.0 refl) (λ new. cc (quiet, new.1)) (stood t key stands))
 
   sleeps' : (key u : ℕ) → stands_in u (s'.queues key) ≡ true → Slept s' u key
@@ -106,10 +106,10 @@ module _ (s : State) (t : ℕ) (v : Transition) (g : Stepping s t v) (pos : 1 �
       (λ new. subst (λ (x : ℕ). Slept s' x key) (sym new.0) (pos, known, subst (SleepsAs s.layout key) (sym mine) (subst (λ (k : ℕ). SleepsAs s.layout k v.next) (sym new.2) (g.sleeper new.1))))
       (stood u key stands)
 
-  pub now_asleep : sleeps_at v.access (met s v) ≡ true → is_asleep s' t ≡ true
+  pub now_asleep : sleeps_at v.access (met s t v) ≡ true → is_asleep s' t ≡ true
   now_asleep on = go (turn t)
     where
-      go : Turned t t v.access (met s v) s.queues s'.queues → is_asleep s' t ≡ true
+      go : Turned t t v.access at (met s t v) s.queues s'.queues → is_asleep s' t ≡ true
       go (As_before quiet unwoken same) = absurd (cc (on, quiet refl))
       go (Falls me joins nobody there elsewhere) = sleeps_there s' t at (s'.threads t).stage (sleeps' at t there).2 there
       go (Woken quiet woken before gone) = absurd (cc (on, quiet))
@@ -133,12 +133,12 @@ module _ (s : State) (t : ℕ) (v : Transition) (g : Stepping s t v) (pos : 1 �
   -- one that it wakes
   module _ (k u n : ℕ) (inside : k < s.layout.mutexes) (some : 1 ≤ n) (wakes : v.access ≡ access.Wake (cell_place s.layout k) n) (stands : Sleeps s u k) where
     queue : s'.queues (cell_place s.layout k) ≡ drop n (s.queues (cell_place s.layout k))
-    queue = ap (λ (a : Access). put s.queues (address_of a) (queue_after t a (s.words (address_of a)) (s.queues (address_of a))) (cell_place s.layout k)) wakes ∙ put-same s.queues (cell_place s.layout k) (drop n (s.queues (cell_place s.layout k)))
+    queue = ap (λ (a : Access). (done s t a (thread_after s t v)).queues (cell_place s.layout k)) wakes ∙ put-same s.queues (cell_place s.layout k) (drop n (s.queues (cell_place s.layout k)))
 
     pub woken_one : (x : ℕ) × Sleeps s x k × IsInNoQueue s' x
     woken_one = go (s.queues (cell_place s.layout k)) refl
       where
-        gone : (x : ℕ) → Sleeps s x k → stands_in x (sleepers s' k) ≡ false → Turned x t v.access (met s v) s.queues s'.queues → IsInNoQueue s' x
+        gone : (x : ℕ) → Sleeps s x k → stands_in x (sleepers s' k) ≡ false → Turned x t v.access at (met s t v) s.queues s'.queues → IsInNoQueue s' x
         gone x before none (As_before quiet unwoken same) = absurd (cc (before, sym (same (cell_place s.layout k)) ∙ none))
         gone x before none (Falls me on nobody there elsewhere) = absurd (cc (sym (subst (λ (y : ℕ). stands_in y (sleepers s k) ≡ true) me before) ∙ out (cell_place s.layout k)))
         gone x before none (Woken quiet woken was away) = away
@@ -175,19 +175,19 @@ module _ (s : State) (t : ℕ) (v : Transition) (g : Stepping s t v) (pos : 1 �
           go (Answers_now c) = (t, this_answers k c)
           go (Found_free free more) = still free before more
 
-      falls : (u ≡ t) × (sleeps_at v.access (met s v) ≡ true) × (cell_place s.layout k ≡ at) → (x : ℕ) × Answering s' k x
+      falls : (u ≡ t) × (sleeps_at v.access (met s t v) ≡ true) × (cell_place s.layout k ≡ at) → (x : ℕ) × Answering s' k x
       falls new = go (g.settles k inside none (bits' k u inside stands))
         where
           go : Settles s t v k → (x : ℕ) × Answering s' k x
-          go (Wakes_there n some wakes) = absurd (cc (sym (ap (λ a. sleeps_at a (met s v)) wakes) ∙ new.1))
+          go (Wakes_there n some wakes) = absurd (cc (sym (ap (λ a. sleeps_at a (met s t v)) wakes) ∙ new.1))
           go (Answers_now c) = (t, this_answers k c)
           go (Found_free free more) = absurd ((g.asleep new.1 k inside (sym new.2)).1 free)
 
   pub went_queued : Queued s'
   went_queued = record {
     sleeps = sleeps';
-    one = λ u. one_then s.queues t v.access (met s v) queued.once out u (queued.one u);
-    once = once_then s.queues t v.access (met s v) queued.once out;
+    one = λ u. one_then s.queues t v.access at (met s t v) queued.once out u (queued.one u);
+    once = once_then s.queues t v.access at (met s t v) queued.once out;
     bits = bits';
     answered = answered';
   }

@@ -4,7 +4,7 @@ use Rattle.std.specs.Prelude.{if◌then◌else◌, not}
 use Rattle.std.proofs.lemmas.Bool.{eqb-false}
 use Rattle.keys.specs.declared.access.Access.{Access}
 use Rattle.keys.specs.declared.access.Access.TheVariants as access
-use Rattle.keys.specs.Accesses.{address_of, sleeps_at}
+use Rattle.keys.specs.Accesses.{sleeps_at}
 use Rattle.keys.specs.Chains.{IsAmong}
 use Rattle.buckets.specs.Queues.{without}
 use Rattle.protocol.specs.Machine.{put, queue_after, woken_by, stands_in, stands_at}
@@ -192,27 +192,24 @@ IsOut qs u = (key : ℕ) → stands_in u (qs key) ≡ false
 abbrev pub InOne : (ℕ → List ℕ) → ℕ → Type 0
 InOne qs u = (key at : ℕ) → stands_in u (qs key) ≡ true → stands_in u (qs at) ≡ true → key ≡ at
 
--- what access a of thread t, which meets the word w, is to thread u: nothing; or it is t and falls asleep; or it is woken
-pub data Turned (u t : ℕ) (a : Access) (w : ℕ) (qs qs' : ℕ → List ℕ) : Type 0 where
-  As_before : (u ≡ t → sleeps_at a w ≡ false) → stands_in u (woken_by a (qs (address_of a))) ≡ false → ((key : ℕ) → stands_in u (qs' key) ≡ stands_in u (qs key)) → Turned u t a w qs qs'
-  Falls : u ≡ t → sleeps_at a w ≡ true → woken_by a (qs (address_of a)) ≡ [] → stands_in u (qs' (address_of a)) ≡ true → ((key : ℕ) → key ≢ address_of a → stands_in u (qs' key) ≡ false) → Turned u t a w qs qs'
-  Woken : sleeps_at a w ≡ false → stands_in u (woken_by a (qs (address_of a))) ≡ true → stands_in u (qs (address_of a)) ≡ true → IsOut qs' u → Turned u t a w qs qs'
+-- what access a of thread t, which meets the word w at a place, is to thread u: nothing; or it is t and falls asleep; or it is woken
+pub data Turned (u t : ℕ) (a : Access) (at w : ℕ) (qs qs' : ℕ → List ℕ) : Type 0 where
+  As_before : (u ≡ t → sleeps_at a w ≡ false) → stands_in u (woken_by a (qs (at))) ≡ false → ((key : ℕ) → stands_in u (qs' key) ≡ stands_in u (qs key)) → Turned u t a at w qs qs'
+  Falls : u ≡ t → sleeps_at a w ≡ true → woken_by a (qs (at)) ≡ [] → stands_in u (qs' (at)) ≡ true → ((key : ℕ) → key ≢ at → stands_in u (qs' key) ≡ false) → Turned u t a at w qs qs'
+  Woken : sleeps_at a w ≡ false → stands_in u (woken_by a (qs (at))) ≡ true → stands_in u (qs (at)) ≡ true → IsOut qs' u → Turned u t a at w qs qs'
 
--- access a of thread t, which stands in no queue, and meets the word w
-module _ (qs : ℕ → List ℕ) (t : ℕ) (a : Access) (w : ℕ) (once : (key : ℕ) → Once (qs key)) (out : IsOut qs t) where
-  abbrev at : ℕ
-  at = address_of a
-
+-- access a of thread t, which stands in no queue, and meets the word w at a place
+module _ (qs : ℕ → List ℕ) (t : ℕ) (a : Access) (at w : ℕ) (once : (key : ℕ) → Once (qs key)) (out : IsOut qs t) where
   abbrev q : List ℕ
   q = qs at
 
   abbrev qs' : ℕ → List ℕ
   qs' = put qs at (queue_after t a w q)
 
-  pub turned : (u : ℕ) → InOne qs u → Turned u t a w qs qs'
+  pub turned : (u : ℕ) → InOne qs u → Turned u t a at w qs qs'
   turned u one = go (sleeps_at a w) refl (t == u) refl
     where
-      go : (b : Bool) → sleeps_at a w ≡ b → (c : Bool) → (t == u) ≡ c → Turned u t a w qs qs'
+      go : (b : Bool) → sleeps_at a w ≡ b → (c : Bool) → (t == u) ≡ c → Turned u t a at w qs qs'
       go true on true e =
           let is : u ≡ t = sym (eqb-true t u e) in
           Falls is on (joins t a w q on).1
@@ -225,12 +222,12 @@ module _ (qs : ℕ → List ℕ) (t : ℕ) (a : Access) (w : ℕ) (once : (key :
           (λ apart. refl))
       go false awake c e = ⊎_elim still woken (access_parts t a w q u awake (once at))
         where
-          still : (stands_in u (woken_by a q) ≡ false) × (stands_in u (queue_after t a w q) ≡ stands_in u q) → Turned u t a w qs qs'
+          still : (stands_in u (woken_by a q) ≡ false) × (stands_in u (queue_after t a w q) ≡ stands_in u q) → Turned u t a at w qs qs'
           still h =
               As_before (λ is. awake) h.0
               (λ key. by_put (λ (z : List ℕ). stands_in u z ≡ stands_in u (qs key)) qs at (queue_after t a w q) key (λ here. h.1 ∙ ap (λ (k : ℕ). stands_in u (qs k)) (sym here)) (λ apart. refl))
 
-          woken : (stands_in u (woken_by a q) ≡ true) × (stands_in u q ≡ true) × (stands_in u (queue_after t a w q) ≡ false) → Turned u t a w qs qs'
+          woken : (stands_in u (woken_by a q) ≡ true) × (stands_in u q ≡ true) × (stands_in u (queue_after t a w q) ≡ false) → Turned u t a at w qs qs'
           woken h =
               Woken awake h.0 h.1
               (λ key. by_put (λ (z : List ℕ). stands_in u z ≡ false) qs at (queue_after t a w q) key (λ here. h.2) (λ apart. not_true (stands_in u (qs key)) (λ is. apart (one key at is h.1))))
@@ -250,7 +247,7 @@ module _ (qs : ℕ → List ℕ) (t : ℕ) (a : Access) (w : ℕ) (once : (key :
   pub one_then : (u : ℕ) → InOne qs u → InOne qs' u
   one_then u one key other here there = go (turned u one)
     where
-      go : Turned u t a w qs qs' → key ≡ other
+      go : Turned u t a at w qs qs' → key ≡ other
       go (As_before awake quiet same) = one key other (sym (same key) ∙ here) (sym (same other) ∙ there)
       go (Falls is on nobody stands elsewhere) = at_it key here ∙ sym (at_it other there)
         where

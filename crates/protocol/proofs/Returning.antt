@@ -42,7 +42,7 @@ asleep_still s t e = either_way (is_thread s t) s (stepped s t (s.threads t).hel
     go Idle h = refl
     go (Dying w) h = absurd cc
     go Reaped h = refl
-    go (Calling c p) h = ap (λ (b : Bool). if b then nothing s else went s t (s.threads t).held c p (whole_led p (answer_of s (whole_access p)))) h
+    go (Calling c p) h = ap (λ (b : Bool). if b then nothing s else went s t (s.threads t).held c p (whole_led p (answer_of s t (whole_access p)))) h
 
 -- ---- what a step tells that returns
 

@@ -4,7 +4,7 @@ use Rattle.lockword.specs.Cells.{fields_of}
 use Rattle.lockword.specs.declared.reply.Reply.{Reply}
 use Rattle.keys.specs.declared.access.Access.TheVariants.{Wake}
 use Rattle.keys.specs.Objects.{acquires}
-use Rattle.keys.specs.Accesses.{address_of, sleeps_at}
+use Rattle.keys.specs.Accesses.{sleeps_at}
 use Rattle.keys.specs.Chains.{IsAmong}
 use Rattle.keys.specs.Layouts.{Layout', head_place, entry_place, cell_place}
 use Rattle.mutex.specs.declared.lock.LockRow.TheVariants as lock
@@ -23,7 +23,7 @@ use Rattle.protocol.specs.Sleepers.{IsUnowned}
 use Rattle.protocol.proofs.Objects.{IsCalled}
 use Rattle.protocol.proofs.Phases.{answers_at, left_at}
 use Rattle.protocol.proofs.Kept.{Kept}
-use Rattle.protocol.proofs.Steps.{Tells, Transition, after, met}
+use Rattle.protocol.proofs.Steps.{Tells, Transition, after, place_of, met}
 
 -- ---- stages
 
@@ -65,7 +65,7 @@ HasWaiters s m = (fields_of (s.words (cell_place s.layout m))).waiters ≡ true
 
 -- it doesn't fall asleep, and answers for mutex k then
 abbrev pub Continues : State → ℕ → Transition → ℕ → Type 0
-Continues s t v k = (sleeps_at v.access (met s v) ≡ false) × AnswersAs s.layout (after s t v).words k t v.next
+Continues s t v k = (sleeps_at v.access (met s t v) ≡ false) × AnswersAs s.layout (after s t v).words k t v.next
 
 -- who leaves mutex k free, with WAITERS: it wakes some that sleep there; or it answers for it; or it found it free, and answers for it where it did
 pub data Settles (s : State) (t : ℕ) (v : Transition) (k : ℕ) : Type 0 where
@@ -75,7 +75,7 @@ pub data Settles (s : State) (t : ℕ) (v : Transition) (k : ℕ) : Type 0 where
 
 -- what it leaves of its mutex and of all else, and what holds of every state holds then
 pub record Stepping (s : State) (t : ℕ) (v : Transition) : Type 0 where
-  pub valid : is_valid s.layout (address_of v.access) ≡ true
+  pub valid : is_valid s.layout (place_of s t v) ≡ true
   pub inside : v.mutex < s.layout.mutexes
   pub called : IsCalled v.operation
   pub kept : Kept (after s t v)
@@ -86,10 +86,10 @@ pub record Stepping (s : State) (t : ℕ) (v : Transition) : Type 0 where
   pub waiters : (k : ℕ) → k < s.layout.mutexes → HasWaiters s k → HasWaiters (after s t v) k
   pub pendings : (u : ℕ) → 1 ≤ u → u ≤ s.layout.threads → t ≢ u → (after s t v).words (head_place u + 2) ≡ s.words (head_place u + 2)
   -- whoever falls asleep stands where it goes on; on a mutex's cell, that is owned and has WAITERS
-  pub sleeper : sleeps_at v.access (met s v) ≡ true → SleepsAs s.layout (address_of v.access) v.next
-  pub asleep : sleeps_at v.access (met s v) ≡ true → (k : ℕ) → k < s.layout.mutexes → address_of v.access ≡ cell_place s.layout k → HasWaiters s k × (IsUnowned s k → ⊥)
+  pub sleeper : sleeps_at v.access (met s t v) ≡ true → SleepsAs s.layout (place_of s t v) v.next
+  pub asleep : sleeps_at v.access (met s t v) ≡ true → (k : ℕ) → k < s.layout.mutexes → place_of s t v ≡ cell_place s.layout k → HasWaiters s k × (IsUnowned s k → ⊥)
   pub settles : (k : ℕ) → k < s.layout.mutexes → IsUnowned (after s t v) k → HasWaiters (after s t v) k → Settles s t v k
   -- fewer accesses are left
   pub some : 0 < left_of s v.from
   pub few : left_of s v.from ≤ 9000
-  pub fewer : sleeps_at v.access (met s v) ≡ false → left_of (after s t v) v.next < left_of s v.from
+  pub fewer : sleeps_at v.access (met s t v) ≡ false → left_of (after s t v) v.next < left_of s v.from

@@ -11,7 +11,7 @@ use Rattle.keys.specs.declared.point.Operation.{Operation}
 use Rattle.keys.specs.declared.point.Operation.TheVariants as operation
 use Rattle.keys.specs.declared.object.Object.{Object}
 use Rattle.keys.specs.Layouts.{Layout', cell_place}
-use Rattle.keys.specs.Accesses.{address_of, changed, answer_at}
+use Rattle.keys.specs.Accesses.{changed, answer_at}
 use Rattle.keys.specs.Objects.{Permits, Run, object_of, fresh, acquires}
 use Rattle.mutex.specs.declared.call.Call.{Call}
 use Rattle.mutex.specs.declared.lock.LockRow.TheVariants as lock
@@ -33,7 +33,7 @@ use Rattle.protocol.specs.declared.thread.Stage.{Stage}
 use Rattle.protocol.specs.declared.thread.Stage.TheVariants.{Calling}
 use Rattle.protocol.specs.declared.note.Note.{Note}
 use Rattle.protocol.specs.declared.note.Note.TheVariants.{Stepped}
-use Rattle.protocol.specs.Machine.{State, put, is_valid, answer_among, queue_after, woken_by, answer_of, words_after, queues_after, slept_on, woken, went, stage_after, returned, held_after, decision}
+use Rattle.protocol.specs.Machine.{State, put, is_valid, place_met, answer_among, queue_after, woken_by, answer_of, words_after, queues_after, slept_on, woken, went, stage_after, returned, held_after, decision}
 use Rattle.protocol.specs.Headline.{seen}
 use Rattle.keys.proofs.Objects.{others_keep}
 use Rattle.protocol.proofs.Objects.{IsCalled}
@@ -161,8 +161,8 @@ pub record Transition : Type 0 where
 abbrev pub done : State → ℕ → Access → Thread → State
 done s t a th = record {
   layout = s.layout;
-  words = put s.words (address_of a) (changed a (s.words (address_of a)));
-  queues = put s.queues (address_of a) (queue_after t a (s.words (address_of a)) (s.queues (address_of a)));
+  words = put s.words (place_met s.layout t a) (changed a (s.words (place_met s.layout t a)));
+  queues = put s.queues (place_met s.layout t a) (queue_after t a (s.words (place_met s.layout t a)) (s.queues (place_met s.layout t a)));
   threads = put s.threads t th;
 }
 
@@ -172,40 +172,46 @@ thread_after s t v = record { stage = v.next; held = held_after (s.threads t).he
 abbrev pub after : State → ℕ → Transition → State
 after s t v = done s t v.access (thread_after s t v)
 
--- the word that it meets
-abbrev pub met : State → Transition → ℕ
-met s v = s.words (address_of v.access)
+-- the place of the word that it meets, and the word
+abbrev pub place_of : State → ℕ → Transition → ℕ
+place_of s t v = place_met s.layout t v.access
+
+abbrev pub met : State → ℕ → Transition → ℕ
+met s t v = s.words (place_of s t v)
 
 -- ---- where an access is valid
 
-module _ (s : State) (t : ℕ) (a : Access) (valid : is_valid s.layout (address_of a) ≡ true) where
-  pub answer-is : answer_of s a ≡ answer_among a (s.words (address_of a)) (s.queues (address_of a))
-  answer-is = ap (λ (b : Bool). if b then answer_among a (s.words (address_of a)) (s.queues (address_of a)) else Fault) valid
+module _ (s : State) (t : ℕ) (a : Access) (valid : is_valid s.layout (place_met s.layout t a) ≡ true) where
+  abbrev at : ℕ
+  at = place_met s.layout t a
 
-  pub words-is : words_after s a ≡ put s.words (address_of a) (changed a (s.words (address_of a)))
-  words-is = ap (λ (b : Bool). if b then put s.words (address_of a) (changed a (s.words (address_of a))) else s.words) valid
+  pub answer-is : answer_of s t a ≡ answer_among a (s.words at) (s.queues at)
+  answer-is = ap (λ (b : Bool). if b then answer_among a (s.words at) (s.queues at) else Fault) valid
 
-  pub queues-is : queues_after s t a ≡ put s.queues (address_of a) (queue_after t a (s.words (address_of a)) (s.queues (address_of a)))
-  queues-is = ap (λ (b : Bool). if b then put s.queues (address_of a) (queue_after t a (s.words (address_of a)) (s.queues (address_of a))) else s.queues) valid
+  pub words-is : words_after s t a ≡ put s.words at (changed a (s.words at))
+  words-is = ap (λ (b : Bool). if b then put s.words at (changed a (s.words at)) else s.words) valid
 
-  pub woken-is : woken s a ≡ woken_by a (s.queues (address_of a))
-  woken-is = ap (λ (b : Bool). if b then woken_by a (s.queues (address_of a)) else []) valid
+  pub queues-is : queues_after s t a ≡ put s.queues at (queue_after t a (s.words at) (s.queues at))
+  queues-is = ap (λ (b : Bool). if b then put s.queues at (queue_after t a (s.words at) (s.queues at)) else s.queues) valid
+
+  pub woken-is : woken s t a ≡ woken_by a (s.queues at)
+  woken-is = ap (λ (b : Bool). if b then woken_by a (s.queues at) else []) valid
 
 -- ---- one access of a call
 
 -- where it leads
-abbrev pub onto : State → Whole → Onward
-onto s p = whole_led p (answer_among (whole_access p) (s.words (address_of (whole_access p))) (s.queues (address_of (whole_access p))))
+abbrev pub onto : State → ℕ → Whole → Onward
+onto s t p = whole_led p (answer_among (whole_access p) (s.words (place_met s.layout t (whole_access p))) (s.queues (place_met s.layout t (whole_access p))))
 
-abbrev pub call_step : State → Call → Whole → Transition
-call_step s c p = record { from = Calling c p; access = whole_access p; next = stage_after c p (onto s p).phase; mutex = mutex_of c; operation = p.operation; point = (onto s p).point }
+abbrev pub call_step : State → ℕ → Call → Whole → Transition
+call_step s t c p = record { from = Calling c p; access = whole_access p; next = stage_after c p (onto s t p).phase; mutex = mutex_of c; operation = p.operation; point = (onto s t p).point }
 
 abbrev pub call_note : State → ℕ → Call → Whole → Note
-call_note s t c p = Stepped t (decision t c (onto s p).point) (slept_on s c (whole_access p)) (woken_by (whole_access p) (s.queues (address_of (whole_access p)))) (returned (onto s p).phase)
+call_note s t c p = Stepped t (decision t c (onto s t p).point) (slept_on s t c (whole_access p)) (woken_by (whole_access p) (s.queues (place_met s.layout t (whole_access p)))) (returned (onto s t p).phase)
 
 -- what it leaves and notes, where its address is valid
-pub went-is : (s : State) (t : ℕ) (c : Call) (p : Whole) → Serves c p → is_valid s.layout (address_of (whole_access p)) ≡ true
-    → went s t (s.threads t).held c p (whole_led p (answer_of s (whole_access p))) ≡ record { state = after s t (call_step s c p); note = call_note s t c p }
+pub went-is : (s : State) (t : ℕ) (c : Call) (p : Whole) → Serves c p → is_valid s.layout (place_met s.layout t (whole_access p)) ≡ true
+    → went s t (s.threads t).held c p (whole_led p (answer_of s t (whole_access p))) ≡ record { state = after s t (call_step s t c p); note = call_note s t c p }
 went-is s t c p serves valid = λ i. record {
   state = record {
     layout = s.layout;
@@ -213,8 +219,8 @@ went-is s t c p serves valid = λ i. record {
     queues = queues-is s t (whole_access p) valid i;
     threads = put s.threads t (record { stage = stage_after c p (leads i).phase; held = held_after (s.threads t).held (sym serves i) (leads i).point });
   };
-  note = Stepped t (decision t c (leads i).point) (slept_on s c (whole_access p)) (woken-is s t (whole_access p) valid i) (returned (leads i).phase);
+  note = Stepped t (decision t c (leads i).point) (slept_on s t c (whole_access p)) (woken-is s t (whole_access p) valid i) (returned (leads i).phase);
 }
   where
-    leads : whole_led p (answer_of s (whole_access p)) ≡ onto s p
+    leads : whole_led p (answer_of s t (whole_access p)) ≡ onto s t p
     leads = ap (whole_led p) (answer-is s t (whole_access p) valid)

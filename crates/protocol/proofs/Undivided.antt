@@ -130,26 +130,26 @@ module _ (t held : ℕ) (c : Call) (o : Object) (room : acquires (operation_of c
     went : CallStep s t c p
     went = goes_in s t c p inv pos known is
 
-    step : Stepping s t (call_step s c p)
+    step : Stepping s t (call_step s t c p)
     step = call_stepping s t c p went fit.0
 
     abbrev to : Onward
-    to = onto s p
+    to = onto s t p
 
     abbrev z : State
-    z = after s t (call_step s c p)
+    z = after s t (call_step s t c p)
 
     abbrev falls : Bool
-    falls = sleeps_at (whole_access p) (met s (call_step s c p))
+    falls = sleeps_at (whole_access p) (met s t (call_step s t c p))
 
     goes_to : happens s (Step t) ≡ record { state = z; note = call_note s t c p }
     goes_to = call_goes s t c p inv pos known is awake
 
     stage_then : (z.threads t).stage ≡ stage_after c p to.phase
-    stage_then = mine s t (call_step s c p) step pos known is queued awake
+    stage_then = mine s t (call_step s t c p) step pos known is queued awake
 
     queued_then : Queued z
-    queued_then = went_queued s t (call_step s c p) step pos known is queued awake
+    queued_then = went_queued s t (call_step s t c p) step pos known is queued awake
 
     -- what it tells
     told : (x : Reply) (rest : List Fact) → IsAmong (Return t x) (facts_of (happens s (Step t)).note ++ rest) → (returned to.phase ≡ Some x) ⊎ IsAmong (Return t x) rest
@@ -191,7 +191,7 @@ module _ (t held : ℕ) (c : Call) (o : Object) (room : acquires (operation_of c
     -- it fell asleep
     to_sleep : (n : ℕ) → falls ≡ true → ComesBack s (suc n)
     to_sleep n on =
-        let asleep = now_asleep s t (call_step s c p) step pos known is queued awake on in
+        let asleep = now_asleep s t (call_step s t c p) step pos known is queued awake on in
         let row = went.sleeper on in (
           after_step n (rests z n (asleep_still z t asleep) (λ e. slept on)) (λ x e. absurd (cc (sym (ap returned row.2) ∙ e))),
           λ few. back_later s z t n (ap (λ (a : After). a.state) goes_to) (back_asleep z t n asleep),
@@ -248,12 +248,12 @@ module _ (t held : ℕ) (c : Call) (o : Object) (room : acquires (operation_of c
           ⊎_elim
           (λ ended. to_return s p inv queued pos known is awake steady was n ended.0 e ended.1)
           (λ on. goes_further s p inv queued pos known is awake steady was n e on
-          (further (after s t (call_step s c p)) (record p { phase = (onto s p).phase }) (step s p inv queued pos known is awake steady was).kept (queued_then s p inv queued pos known is awake steady was) pos known
+          (further (after s t (call_step s t c p)) (record p { phase = (onto s t p).phase }) (step s p inv queued pos known is awake steady was).kept (queued_then s p inv queued pos known is awake steady was) pos known
           (stage_then s p inv queued pos known is awake steady was ∙ on c p)
-          (out_awake (after s t (call_step s c p)) t (still_out s t (call_step s c p) (step s p inv queued pos known is awake steady was) pos known is queued awake e))
+          (out_awake (after s t (call_step s t c p)) t (still_out s t (call_step s t c p) (step s p inv queued pos known is awake steady was) pos known is queued awake e))
           (steady_then s p inv queued pos known is awake steady was e)
           (changed_to s p inv queued pos known is awake steady was)))
-          (ended_or_not (onto s p).phase)
+          (ended_or_not (onto s t p).phase)
 
 -- ---- a call from its begin on
 

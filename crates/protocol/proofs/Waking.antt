@@ -7,7 +7,7 @@ use Rattle.lockword.specs.declared.reply.Reply.TheVariants.{XHELD}
 use Rattle.keys.specs.declared.access.Access.{Access}
 use Rattle.keys.specs.declared.point.Decision.{Decision}
 use Rattle.keys.specs.Layouts.{Layout', head_place, cell_place}
-use Rattle.keys.specs.Accesses.{address_of, sleeps_at}
+use Rattle.keys.specs.Accesses.{sleeps_at}
 use Rattle.buckets.specs.Queues.{without}
 use Rattle.mutex.specs.declared.call.Call.{Call}
 use Rattle.mutex.specs.Calls.{mutex_of}
@@ -24,7 +24,7 @@ use Rattle.protocol.specs.declared.note.Fact.TheVariants.{Sleep, Wake, Kill}
 use Rattle.protocol.specs.declared.thread.Stage.{Stage}
 use Rattle.protocol.specs.declared.thread.Stage.TheVariants.{Idle, Calling, Dying, Reaped}
 use Rattle.protocol.specs.Notes.{facts_of, sleep_facts, return_facts, reap_facts}
-use Rattle.protocol.specs.Machine.{State, After, put, start, queue_after, woken_by, slept_on, answer_of, stands_in, sleeps, is_asleep, begun, nothing, decision, returned, went, walked, killed, stepped, happens, run, notes}
+use Rattle.protocol.specs.Machine.{State, After, put, start, place_met, queue_after, woken_by, slept_on, answer_of, stands_in, sleeps, is_asleep, begun, nothing, decision, returned, went, walked, killed, stepped, happens, run, notes}
 use Rattle.protocol.specs.Headline.{facts_among}
 use Rattle.protocol.specs.Sleepers.{IsAmong}
 use Rattle.protocol.specs.Wakings.{asleep_next, asleep_after, told_asleep, MayFollow, Alternates, FallsAsleep, LeavesQueue, TellsTurns, TellsSleepers, SleepsAreTold}
@@ -187,9 +187,9 @@ idle_turn : (s : State) (t : ℕ) (e : Event) → TurnOf s t e (nothing s)
 idle_turn s t e = Stays refl (λ key. refl)
 
 -- access a of thread u, which is awake, and falls asleep on mutex m's cell at most
-module _ (s : State) (u t : ℕ) (e : Event) (queued : Queued s) (kills : e ≢ event.Kill t) (out : IsOut s.queues u) (a : Access) (m : ℕ) (there : sleeps_at a (s.words (address_of a)) ≡ true → (address_of a ≡ cell_place s.layout m) × (m < s.layout.mutexes)) where
+module _ (s : State) (u t : ℕ) (e : Event) (queued : Queued s) (kills : e ≢ event.Kill t) (out : IsOut s.queues u) (a : Access) (m : ℕ) (there : sleeps_at a (s.words (place_met s.layout u a)) ≡ true → (place_met s.layout u a ≡ cell_place s.layout m) × (m < s.layout.mutexes)) where
   abbrev at : ℕ
-  at = address_of a
+  at = place_met s.layout u a
 
   abbrev q : List ℕ
   q = s.queues at
@@ -201,7 +201,7 @@ module _ (s : State) (u t : ℕ) (e : Event) (queued : Queued s) (kills : e ≢ 
   slept = if sleeps_at a (s.words at) then Some m else None
 
   access_turn : Turn s queues' t e (turns t (sleep_facts u slept) ++ turns t (map Wake (woken_by a q)))
-  access_turn = go (turned s.queues u a (s.words at) queued.once out t (queued.one t))
+  access_turn = go (turned s.queues u a at (s.words at) queued.once out t (queued.one t))
     where
       no_sleep : (t ≡ u → sleeps_at a (s.words at) ≡ false) → turns t (sleep_facts u slept) ≡ []
       no_sleep quiet = pick (u == t) refl (sleeps_at a (s.words at)) refl
@@ -211,7 +211,7 @@ module _ (s : State) (u t : ℕ) (e : Event) (queued : Queued s) (kills : e ≢ 
           pick true x true on = absurd (cc (on, quiet (sym (eqb-true u t x))))
           pick false x true on = ap (λ (c : Bool). if c then Sleep u m ∷ [] else []) x
 
-      go : Turned t u a (s.words at) s.queues queues' → Turn s queues' t e (turns t (sleep_facts u slept) ++ turns t (map Wake (woken_by a q)))
+      go : Turned t u a at (s.words at) s.queues queues' → Turn s queues' t e (turns t (sleep_facts u slept) ++ turns t (map Wake (woken_by a q)))
       go (As_before quiet unwoken same) = Stays (λ i. no_sleep quiet i ++ no_wakes t (woken_by a q) unwoken i) same
       go (Falls me on nobody stands elsewhere) =
           Falls_asleep m
@@ -224,27 +224,27 @@ module _ (s : State) (u t : ℕ) (e : Event) (queued : Queued s) (kills : e ≢ 
           (sym (ap (λ (k : ℕ). stands_in t (queues' k)) (there on).0) ∙ stands)
       go (Woken quiet woken stood gone) = Is_woken at (λ i. no_sleep (λ me. quiet) i ++ one_wake t (woken_by a q) (woken_once a q (queued.once at)) woken i) stood gone kills
 
-call_turn : (s : State) (u t : ℕ) (e : Event) (c : Call) (p : Whole) → Kept s → Queued s → e ≢ event.Kill t → 1 ≤ u → u ≤ s.layout.threads → (s.threads u).stage ≡ Calling c p → is_asleep s u ≡ false → TurnOf s t e (went s u (s.threads u).held c p (whole_led p (answer_of s (whole_access p))))
+call_turn : (s : State) (u t : ℕ) (e : Event) (c : Call) (p : Whole) → Kept s → Queued s → e ≢ event.Kill t → 1 ≤ u → u ≤ s.layout.threads → (s.threads u).stage ≡ Calling c p → is_asleep s u ≡ false → TurnOf s t e (went s u (s.threads u).held c p (whole_led p (answer_of s u (whole_access p))))
 call_turn s u t e c p inv queued kills pos known is awake =
     let g : CallStep s u c p = goes s u c p inv pos known is in
     let fits = fits_in s u c p inv pos known is in
-    let told : slept_on s c (whole_access p) ≡ (if sleeps_at (whole_access p) (s.words (address_of (whole_access p))) then Some (mutex_of c) else None) =
-    ap (λ (b : Bool). if b && sleeps_at (whole_access p) (s.words (address_of (whole_access p))) then Some (mutex_of c) else None) g.valid in
+    let told : slept_on s u c (whole_access p) ≡ (if sleeps_at (whole_access p) (s.words (place_met s.layout u (whole_access p))) then Some (mutex_of c) else None) =
+    ap (λ (b : Bool). if b && sleeps_at (whole_access p) (s.words (place_met s.layout u (whole_access p))) then Some (mutex_of c) else None) g.valid in
     subst (TurnOf s t e) (sym (went-is s u c p fits.1 g.valid))
-    (subst (Turn s (after s u (call_step s c p)).queues t e)
-    (sym (step_turns t u (decision u c (onto s p).point) (slept_on s c (whole_access p)) _ (returned (onto s p).phase) ∙ ap (λ (z : Option ℕ). turns t (sleep_facts u z) ++ turns t (map Wake (woken_by (whole_access p) (s.queues (address_of (whole_access p)))))) told))
+    (subst (Turn s (after s u (call_step s u c p)).queues t e)
+    (sym (step_turns t u (decision u c (onto s u p).point) (slept_on s u c (whole_access p)) _ (returned (onto s u p).phase) ∙ ap (λ (z : Option ℕ). turns t (sleep_facts u z) ++ turns t (map Wake (woken_by (whole_access p) (s.queues (place_met s.layout u (whole_access p)))))) told))
     (access_turn s u t e queued kills (in_none s u queued awake) (whole_access p) (mutex_of c) (λ on. (g.place on, fits.0.inside))))
 
 walk_turn : (s : State) (u t : ℕ) (e : Event) (w : walks.Standing) → Kept s → Queued s → e ≢ event.Kill t → 1 ≤ u → u ≤ s.layout.threads → (s.threads u).stage ≡ Dying w → TurnOf s t e (walked s u (s.threads u).held w)
 walk_turn s u t e w inv queued kills pos known is =
     let there = walk_is s u w inv pos known is in
     let a : Access = exit.row_access (head_place u) w.row in
-    let quiet : sleeps_at a (s.words (address_of a)) ≡ false = walks_awake (head_place u) w.row (s.words (address_of a)) in
+    let quiet : sleeps_at a (s.words (place_met s.layout u a)) ≡ false = walks_awake (head_place u) w.row (s.words (place_met s.layout u a)) in
     let valid = walk_valid s u inv pos known w.row there.0.going (knows_at u w there.0) there.2 in
     subst (λ (z : walks.Standing). TurnOf s t e (walked s u (s.threads u).held z)) there.1
     (subst (TurnOf s t e) (sym (walked-is s u w.row valid))
     (subst (Turn s (walk_after s u w.row).queues t e)
-    (ap (λ (b : Bool). turns t (sleep_facts u (if b then Some 0 else None)) ++ turns t (map Wake (woken_by a (s.queues (address_of a))))) quiet ∙ sym (walk_turns t u (death_then s u w.row) _ _))
+    (ap (λ (b : Bool). turns t (sleep_facts u (if b then Some 0 else None)) ++ turns t (map Wake (woken_by a (s.queues (place_met s.layout u a))))) quiet ∙ sym (walk_turns t u (death_then s u w.row) _ _))
     (access_turn s u t e queued kills (in_none s u queued (ap (sleeps s u) is)) a 0 (λ on. absurd (cc (on, quiet))))))
 
 step_turn : (s : State) (u t : ℕ) (e : Event) → Kept s → Queued s → e ≢ event.Kill t → 1 ≤ u → u ≤ s.layout.threads → (g : Stage) → (s.threads u).stage ≡ g → TurnOf s t e (stepped s u (s.threads u).held g)
@@ -253,7 +253,7 @@ step_turn s u t e inv queued kills pos known Reaped is = idle_turn s t e
 step_turn s u t e inv queued kills pos known (Dying w) is = walk_turn s u t e w inv queued kills pos known is
 step_turn s u t e inv queued kills pos known (Calling c p) is = go (sleeps s u (Calling c p)) refl
   where
-    go : (b : Bool) → sleeps s u (Calling c p) ≡ b → TurnOf s t e (if b then nothing s else went s u (s.threads u).held c p (whole_led p (answer_of s (whole_access p))))
+    go : (b : Bool) → sleeps s u (Calling c p) ≡ b → TurnOf s t e (if b then nothing s else went s u (s.threads u).held c p (whole_led p (answer_of s u (whole_access p))))
     go true asleep = idle_turn s t e
     go false out = call_turn s u t e c p inv queued kills pos known is (ap (sleeps s u) is ∙ out)
 

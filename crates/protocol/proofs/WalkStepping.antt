@@ -211,8 +211,8 @@ module _ (s : State) (t : ℕ) (r : Row) (inv : Kept s) (pos : 1 ≤ t) (known :
       go None e = step.reads e (head_place u + 2)
       go (Some k) e = put-other s.words at_place (changed (walk_access s t r) (s.words at_place)) (head_place u + 2) (λ same. head_is_no_cell s.layout u k 2 first most (omega arith) (same ∙ step.place k e))
 
-  awake : sleeps_at v.access (met s v) ≡ false
-  awake = walks_awake (head_place t) r (met s v)
+  awake : sleeps_at v.access (met s t v) ≡ false
+  awake = walks_awake (head_place t) r (met s t v)
 
   -- a walk that answers for a mutex hasn't ended
   minds_on : (k : ℕ) → Minds s.layout s'.words k t q → Continues s t v k

@@ -32,7 +32,7 @@ use Rattle.protocol.specs.declared.thread.Stage.{Stage}
 use Rattle.protocol.specs.declared.thread.Stage.TheVariants.{Dying, Reaped}
 use Rattle.protocol.specs.declared.note.Note.{Note}
 use Rattle.protocol.specs.declared.note.Note.TheVariants.{Walked}
-use Rattle.protocol.specs.Machine.{State, put, is_valid, answer_among, woken_by, answer_of, walked, has_ended, stage_walked, told_of, death_at, mutex_at, held_after}
+use Rattle.protocol.specs.Machine.{State, put, is_valid, place_met, answer_among, woken_by, answer_of, walked, has_ended, stage_walked, told_of, death_at, mutex_at, held_after}
 use Rattle.protocol.specs.Headline.{seen}
 use Rattle.protocol.proofs.Puts.{put-same, put-other, by_put}
 use Rattle.protocol.proofs.Kept.{Sits, Left, LeftOf, LeftIn, LeftFrom, Treats, Mourns, Listed, PendsAs, Kept}
@@ -295,7 +295,7 @@ module _ (s : State) (t : ℕ) (r : Row) where
   walk_access = row_access (head_place t) r
 
   abbrev pub walk_answer : Answer
-  walk_answer = answer_among walk_access (s.words (address_of walk_access)) (s.queues (address_of walk_access))
+  walk_answer = answer_among walk_access (s.words (place_met s.layout t walk_access)) (s.queues (place_met s.layout t walk_access))
 
   abbrev pub row_then : Row
   row_then = row_after t (head_place t) r walk_answer
@@ -311,9 +311,9 @@ module _ (s : State) (t : ℕ) (r : Row) where
   walk_after = after s t walk_transition
 
   abbrev pub walk_note : Note
-  walk_note = Walked t death_then (woken_by walk_access (s.queues (address_of walk_access))) (has_ended row_then)
+  walk_note = Walked t death_then (woken_by walk_access (s.queues (place_met s.layout t walk_access))) (has_ended row_then)
 
-  pub walked-is : is_valid s.layout (address_of walk_access) ≡ true → walked s t (s.threads t).held (walk_of t r) ≡ record { state = walk_after; note = walk_note }
+  pub walked-is : is_valid s.layout (place_met s.layout t walk_access) ≡ true → walked s t (s.threads t).held (walk_of t r) ≡ record { state = walk_after; note = walk_note }
   walked-is valid = λ i. record {
     state = record {
       layout = s.layout;
@@ -324,7 +324,7 @@ module _ (s : State) (t : ℕ) (r : Row) where
     note = Walked t (death_at s.layout (point_of t r (answers i))) (woken-is s t walk_access valid i) (has_ended (row_after t (head_place t) r (answers i)));
   }
     where
-      answers : answer_of s walk_access ≡ walk_answer
+      answers : answer_of s t walk_access ≡ walk_answer
       answers = answer-is s t walk_access valid
 
 -- what a walk's access tells of mutexes: nothing, or an owner's death
@@ -334,10 +334,10 @@ DeathTells s t (Some m) s' = (m < s.layout.mutexes) × Permits (seen s m) t oper
 
 -- one access of a walk: what holds of every state holds then, and what it tells
 pub record WalkStep (s : State) (t : ℕ) (r : Row) : Type 0 where
-  pub valid : is_valid s.layout (address_of (walk_access s t r)) ≡ true
+  pub valid : is_valid s.layout (place_met s.layout t (walk_access s t r)) ≡ true
   pub kept : Kept (walk_after s t r)
   pub tells : DeathTells s t (death_then s t r) (walk_after s t r)
-  pub place : (k : ℕ) → death_then s t r ≡ Some k → address_of (walk_access s t r) ≡ cell_place s.layout k
+  pub place : (k : ℕ) → death_then s t r ≡ Some k → place_met s.layout t (walk_access s t r) ≡ cell_place s.layout k
   -- a walk that told a death where somebody may sleep wakes one next
   pub wakes : (k : ℕ) → death_then s t r ≡ Some k → (fields_of (s.words (cell_place s.layout k))).waiters ≡ true → (rest : Part) × (row_then s t r ≡ WakeOne (cell_place s.layout k) rest)
   -- and else no word has changed

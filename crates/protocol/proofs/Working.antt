@@ -96,12 +96,12 @@ by_step s t inv pos known P none accesses = go (s.threads t).stage refl
         told serves None z ws y = no_points t z ws y
         told serves (Some x) z ws y = λ i. record { thread = t; mutex = mutex_of c; operation = sym serves i; reply = x } ∷ no_points t z ws y i
 
-        pick : (b : Bool) → sleeps s t (Calling c p) ≡ b → P (if b then nothing s else went s t (s.threads t).held c p (whole_led p (answer_of s (whole_access p))))
+        pick : (b : Bool) → sleeps s t (Calling c p) ≡ b → P (if b then nothing s else went s t (s.threads t).held c p (whole_led p (answer_of s t (whole_access p))))
         pick true e = none (λ awake working. cc (sym (ap (sleeps s t) is ∙ e) ∙ awake))
         pick false e =
             let fits = fits_in s t c p inv pos known is in
             let g = goes s t c p inv pos known is in
-            subst P (sym (went-is s t c p fits.1 g.valid)) (accesses (call_step s c p) (call_note s t c p) is (ap (sleeps s t) is ∙ e) (call_stepping s t c p g fits.0) (told fits.1 (onto s p).point _ _ _))
+            subst P (sym (went-is s t c p fits.1 g.valid)) (accesses (call_step s t c p) (call_note s t c p) is (ap (sleeps s t) is ∙ e) (call_stepping s t c p g fits.0) (told fits.1 (onto s t p).point _ _ _))
 
 -- ---- a thread that is awake
 
@@ -120,9 +120,9 @@ awake_goes s t inv pos known awake working =
     (ap (λ (b : Bool). (if b then stepped s t (s.threads t).held (s.threads t).stage else nothing s).state) (is_known s t pos known))
 
 -- the step of a thread that is awake in a call
-pub call_goes : (s : State) (t : ℕ) (c : Call) (p : Whole) → Kept s → 1 ≤ t → t ≤ s.layout.threads → (s.threads t).stage ≡ Calling c p → is_asleep s t ≡ false → happens s (Step t) ≡ record { state = after s t (call_step s c p); note = call_note s t c p }
+pub call_goes : (s : State) (t : ℕ) (c : Call) (p : Whole) → Kept s → 1 ≤ t → t ≤ s.layout.threads → (s.threads t).stage ≡ Calling c p → is_asleep s t ≡ false → happens s (Step t) ≡ record { state = after s t (call_step s t c p); note = call_note s t c p }
 call_goes s t c p inv pos known is awake =
     ap (λ (b : Bool). if b then stepped s t (s.threads t).held (s.threads t).stage else nothing s) (is_known s t pos known)
     ∙ ap (stepped s t (s.threads t).held) is
-    ∙ ap (λ (b : Bool). if b then nothing s else went s t (s.threads t).held c p (whole_led p (answer_of s (whole_access p)))) (sym (ap (sleeps s t) is) ∙ awake)
+    ∙ ap (λ (b : Bool). if b then nothing s else went s t (s.threads t).held c p (whole_led p (answer_of s t (whole_access p)))) (sym (ap (sleeps s t) is) ∙ awake)
     ∙ went-is s t c p (fits_in s t c p inv pos known is).1 (goes s t c p inv pos known is).valid

@@ -73,21 +73,31 @@ abbrev pub woken_by : Access → List ℕ → List ℕ
 woken_by (access.Wake at n) q = take n q
 woken_by a q = []
 
-abbrev pub answer_of : State → Access → Answer
-answer_of s a = if is_valid s.layout (address_of a) then answer_among a (s.words (address_of a)) (s.queues (address_of a)) else Fault
+-- ---- where it meets its word
 
-abbrev pub words_after : State → Access → ℕ → ℕ
-words_after s a = if is_valid s.layout (address_of a) then put s.words (address_of a) (changed a (s.words (address_of a))) else s.words
+-- the place of the word that thread t has at an address: every thread has each word at its place
+abbrev pub place_at : Layout' → ℕ → ℕ → ℕ
+place_at l t at = at
+
+-- the place of the word that an access of thread t meets
+abbrev pub place_met : Layout' → ℕ → Access → ℕ
+place_met l t a = place_at l t (address_of a)
+
+abbrev pub answer_of : State → ℕ → Access → Answer
+answer_of s t a = if is_valid s.layout (place_met s.layout t a) then answer_among a (s.words (place_met s.layout t a)) (s.queues (place_met s.layout t a)) else Fault
+
+abbrev pub words_after : State → ℕ → Access → ℕ → ℕ
+words_after s t a = if is_valid s.layout (place_met s.layout t a) then put s.words (place_met s.layout t a) (changed a (s.words (place_met s.layout t a))) else s.words
 
 abbrev pub queues_after : State → ℕ → Access → ℕ → List ℕ
-queues_after s t a = if is_valid s.layout (address_of a) then put s.queues (address_of a) (queue_after t a (s.words (address_of a)) (s.queues (address_of a))) else s.queues
+queues_after s t a = if is_valid s.layout (place_met s.layout t a) then put s.queues (place_met s.layout t a) (queue_after t a (s.words (place_met s.layout t a)) (s.queues (place_met s.layout t a))) else s.queues
 
--- the mutex that a thread in such a call falls asleep on
-abbrev pub slept_on : State → Call → Access → Option ℕ
-slept_on s c a = if is_valid s.layout (address_of a) && sleeps_at a (s.words (address_of a)) then Some (mutex_of c) else None
+-- the mutex that thread t falls asleep on, in such a call
+abbrev pub slept_on : State → ℕ → Call → Access → Option ℕ
+slept_on s t c a = if is_valid s.layout (place_met s.layout t a) && sleeps_at a (s.words (place_met s.layout t a)) then Some (mutex_of c) else None
 
-abbrev pub woken : State → Access → List ℕ
-woken s a = if is_valid s.layout (address_of a) then woken_by a (s.queues (address_of a)) else []
+abbrev pub woken : State → ℕ → Access → List ℕ
+woken s t a = if is_valid s.layout (place_met s.layout t a) then woken_by a (s.queues (place_met s.layout t a)) else []
 
 -- ---- one event
 
@@ -189,11 +199,11 @@ abbrev pub went : State → ℕ → ℕ → Call → Whole → Onward → After
 went s t held c p o =
     record {
       state = record s {
-        words = words_after s (whole_access p);
+        words = words_after s t (whole_access p);
         queues = queues_after s t (whole_access p);
         threads = put s.threads t (record { stage = stage_after c p o.phase; held = held_after held (operation_of c) o.point });
       };
-      note = Stepped t (decision t c o.point) (slept_on s c (whole_access p)) (woken s (whole_access p)) (returned o.phase);
+      note = Stepped t (decision t c o.point) (slept_on s t c (whole_access p)) (woken s t (whole_access p)) (returned o.phase);
     }
 
 -- ---- deaths
@@ -233,22 +243,22 @@ stage_walked w r = Dying (record w { row = r })
 abbrev pub walked : State → ℕ → ℕ → walks.Standing → After
 walked s t held w =
     let a = exit.access_of w in
-    let answer = answer_of s a in
+    let answer = answer_of s t a in
     let death = death_at s.layout (exit.point_of w.thread w.row answer) in
     let row = exit.row_after w.thread w.head w.row answer in
     record {
       state = record s {
-        words = words_after s a;
+        words = words_after s t a;
         queues = queues_after s t a;
         threads = put s.threads t (record { stage = stage_walked w row; held = held_after held operation.Death (told_of death) });
       };
-      note = Walked t death (woken s a) (has_ended row);
+      note = Walked t death (woken s t a) (has_ended row);
     }
 
 -- ---- events
 
 abbrev pub stepped : State → ℕ → ℕ → Stage → After
-stepped s t held (Calling c p) = if sleeps s t (Calling c p) then nothing s else went s t held c p (whole_led p (answer_of s (whole_access p)))
+stepped s t held (Calling c p) = if sleeps s t (Calling c p) then nothing s else went s t held c p (whole_led p (answer_of s t (whole_access p)))
 stepped s t held (Dying w) = walked s t held w
 stepped s t held g = nothing s
 

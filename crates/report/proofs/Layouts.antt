@@ -26,7 +26,7 @@ begun_layout s t c (Err x) = refl
 
 stepped_layout : (s : State) (t held : ℕ) (g : Stage) → (stepped s t held g).state.layout ≡ s.layout
 stepped_layout s t held Idle = refl
-stepped_layout s t held (Calling c p) = or_else s (sleeps s t (Calling c p)) (went s t held c p (whole_led p (answer_of s (whole_access p)))) refl
+stepped_layout s t held (Calling c p) = or_else s (sleeps s t (Calling c p)) (went s t held c p (whole_led p (answer_of s t (whole_access p)))) refl
 stepped_layout s t held (Dying w) = refl
 stepped_layout s t held Reaped = refl
 
