@@ -142,7 +142,7 @@ module _ (s : State) (t : ℕ) (c : Call) (p : Whole) (r : Row) (inv : Kept s) (
   q = s.queues place
 
   abbrev l : Led
-  l = resume_of p.thread r (answer_at a w)
+  l = resume_of p.thread r (answer_among a w q)
 
   abbrev o : Onward
   o = onto s t whole
@@ -175,7 +175,11 @@ module _ (s : State) (t : ℕ) (c : Call) (p : Whole) (r : Row) (inv : Kept s) (
   at_place = address
 
   leads : o ≡ from_cell whole l
-  leads = ap (λ (y : ℕ). from_cell whole (resume_of p.thread r (answer_among a (s.words y) (s.queues y)))) address ∙ ap (from_cell whole) (alike p.thread p.cell r w q)
+  leads = ap (λ (y : ℕ). from_cell whole (resume_of p.thread r (answer_among a (s.words y) (s.queues y)))) address
+
+  -- it leads where it does while nobody sleeps
+  led_alike : l ≡ resume_of p.thread r (answer_at a w)
+  led_alike = alike p.thread p.cell r w q
 
   before : seen s m ≡ object_of (fields_of w)
   before = seen-inside s m fits.inside
@@ -196,10 +200,10 @@ module _ (s : State) (t : ℕ) (c : Call) (p : Whole) (r : Row) (inv : Kept s) (
   needs = subst (λ (z : Object). Expects p.thread r z) before (subst (λ (u : ℕ). Expects u r (seen s m)) (sym fits.mine) at.expects)
 
   al : Alone t r a l w w'
-  al = subst (λ (u : ℕ). Alone u r a l w w') fits.mine (alone p.thread p.cell w r (let is = fits.mine in omega arith) (let is = fits.mine in let most = last in omega arith) at.going at.knows needs)
+  al = subst (λ (z : ℕ × Led). Alone z.0 r a z.1 w w') (λ i. (fits.mine i, sym led_alike i)) (alone p.thread p.cell w r (let is = fits.mine in omega arith) (let is = fits.mine in let most = last in omega arith) at.going at.knows needs)
 
   rt : Right p.thread p.cell r l w w'
-  rt = right p.thread p.cell w r (let is = fits.mine in omega arith) (let is = fits.mine in let most = last in omega arith) at.going at.knows (subst Sound before (inv.sound m)) needs
+  rt = subst (λ (z : Led). Right p.thread p.cell r z w w') (sym led_alike) (right p.thread p.cell w r (let is = fits.mine in omega arith) (let is = fits.mine in let most = last in omega arith) at.going at.knows (subst Sound before (inv.sound m)) needs)
 
   tells_row : Tells t (seen s m) (row_operation r) l.point (seen s' m)
   tells_row =
@@ -245,7 +249,7 @@ module _ (s : State) (t : ℕ) (c : Call) (p : Whole) (r : Row) (inv : Kept s) (
       }
 
   owning_so : Owning m t r (after_cell whole l.row) (seen s m) (seen s' m)
-  owning_so = owning m t whole (seen s m) (seen s' m) p.thread p.cell w r at.going at.of rt.stays rt.tells tells_row
+  owning_so = owning m t whole (seen s m) (seen s' m) p.thread r (answer_among a w q) at.going at.of rt.stays rt.tells tells_row
 
   abbrev held' : ℕ
   held' = held_after (s.threads t).held p.operation l.point
@@ -351,7 +355,7 @@ module _ (s : State) (t : ℕ) (c : Call) (p : Whole) (r : Row) (inv : Kept s) (
       chain_after (Unlock (unlock.Wake d)) own = still
 
   pends_so : pending_in p.entry (after_cell whole l.row) ≡ pending_in p.entry (AtCell r)
-  pends_so = pends m t whole (seen s m) (seen s' m) p.thread p.cell w r at.going at.of rt.stays rt.tells tells_row
+  pends_so = pends m t whole (seen s m) (seen s' m) p.thread r (answer_among a w q) at.going at.of rt.stays rt.tells tells_row
 
   waits_so : (u k : ℕ) → 1 ≤ u → u ≤ s.layout.threads → t ≢ u → k < s.layout.mutexes → (seen s k).owner ≡ Some u → OnlyWaitsFrom (s.words (cell_place s.layout k)) (s'.words (cell_place s.layout k))
   waits_so u k first most apart inside own = go (k == m) refl
@@ -380,4 +384,4 @@ module _ (s : State) (t : ℕ) (c : Call) (p : Whole) (r : Row) (inv : Kept s) (
   pub falls_asleep : sleeps_at a w ≡ true → (v : Fields) × (AtCell r ≡ AtCell (Lock (lock.Sleep v))) × (o.phase ≡ AtCell (Lock lock.Load))
   falls_asleep e =
       let row_is = sleeper p.thread p.cell r w e in
-      (row_is.0, ap AtCell row_is.1, ap (λ (z : Onward). z.phase) leads ∙ ap (λ (z : Row). after_cell whole (resume_of p.thread z (answer_at (row_access p.thread p.cell z) w)).row) row_is.1)
+      (row_is.0, ap AtCell row_is.1, ap (λ (z : Onward). z.phase) leads ∙ ap (λ (z : Led). after_cell whole z.row) led_alike ∙ ap (λ (z : Row). after_cell whole (resume_of p.thread z (answer_at (row_access p.thread p.cell z) w)).row) row_is.1)

@@ -8,7 +8,8 @@ use Rattle.keys.specs.declared.object.Object.{Object}
 use Rattle.keys.specs.declared.point.Operation.{Operation}
 use Rattle.keys.specs.declared.point.Operation.TheVariants as operation
 use Rattle.keys.specs.Objects.{Permits}
-use Rattle.keys.specs.Accesses.{answer_at}
+use Rattle.keys.specs.declared.access.Answer.{Answer}
+use Rattle.keys.specs.declared.access.Answer.TheVariants.{Value, Count}
 use Rattle.mutex.specs.declared.lock.LockRow.{LockRow}
 use Rattle.mutex.specs.declared.lock.LockRow.TheVariants as lock
 use Rattle.mutex.specs.declared.try_lock.TryLockRow.{TryLockRow}
@@ -21,7 +22,7 @@ use Rattle.mutex.specs.declared.phase.Phase.{Phase}
 use Rattle.mutex.specs.declared.phase.Phase.TheVariants.{AtCell}
 use Rattle.mutex.specs.Rows.{IsGoing, goes, ends}
 use Rattle.mutex.specs.Standings.{Whole}
-use Rattle.mutex.specs.Programs.{row_access, row_operation, resume_of}
+use Rattle.mutex.specs.Programs.{row_operation, resume_of}
 use Rattle.mutex.specs.Whole.{after_cell, leaving}
 use Rattle.mutex.specs.Laws.{decided, Joins, IsOf}
 use Rattle.protocol.proofs.Objects.{IsCalled}
@@ -157,22 +158,23 @@ module _ (m t : ℕ) (p : Whole) (o n : Object) where
   frees_owning true died of tells = frees refl refl (ap (λ (z : Object). z.owner) tells.1)
   frees_owning false died of tells = frees refl (unlock_ends OK of) (ap (λ (z : Object). z.owner) tells.1)
 
-  -- each access of a call
-  pub owning : (u cell w : ℕ) (r : Row) → IsGoing r → row_operation r ≡ p.operation → IsOf (row_operation r) (resume_of u r (answer_at (row_access u cell r) w)).row
-      → Joins (decided r) (resume_of u r (answer_at (row_access u cell r) w)).point (decided (resume_of u r (answer_at (row_access u cell r) w)).row)
-      → Tells t o (row_operation r) (resume_of u r (answer_at (row_access u cell r) w)).point n
-      → Owning m t r (after_cell p (resume_of u r (answer_at (row_access u cell r) w)).row) o n
-  owning u cell w (Lock r) going of same joins tells = lock_owning r _ _ (sym of) same joins tells
-  owning u cell w (TryLock r) going of same joins tells = try_owning r _ _ (sym of) same joins tells
-  owning u cell w (Consistent r) going of same joins tells = consistent_owning r _ _ (sym of) same joins tells
-  owning u cell w (Unlock unlock.Load) going of same joins tells = looks ((fields_of w).owner == u) tells
+  -- each access of a call, whatever it is answered; but for a fault
+  pub owning : (u : ℕ) (r : Row) (a : Answer) → IsGoing r → row_operation r ≡ p.operation → IsOf (row_operation r) (resume_of u r a).row → Joins (decided r) (resume_of u r a).point (decided (resume_of u r a).row)
+      → Tells t o (row_operation r) (resume_of u r a).point n → Owning m t r (after_cell p (resume_of u r a).row) o n
+  owning u (Lock r) a going of same joins tells = lock_owning r _ _ (sym of) same joins tells
+  owning u (TryLock r) a going of same joins tells = try_owning r _ _ (sym of) same joins tells
+  owning u (Consistent r) a going of same joins tells = consistent_owning r _ _ (sym of) same joins tells
+  owning u (Unlock unlock.Load) (Value w) going of same joins tells = looks ((fields_of w).owner == u) tells
     where
       looks : (b : Bool) → Tells t o operation.Unlock (if b then goes (Unlock (unlock.Release (fields_of w).died)) else ends EPERM).point n → Owning m t (Unlock unlock.Load) (after_cell p (if b then goes (Unlock (unlock.Release (fields_of w).died)) else ends EPERM).row) o n
       looks true tells = keeps refl refl (ap (λ (z : Object). z.owner) tells)
       looks false tells = keeps refl (unlock_ends EPERM (sym of)) (ap (λ (z : Object). z.owner) tells.1)
-  owning u cell w (Unlock (unlock.Release d)) going of same joins tells = frees_owning (fields_of w).waiters d (sym of) tells
-  owning u cell w (Unlock (unlock.Wake a)) going of same joins tells = keeps refl (unlock_ends OK (sym of)) (ap (λ (z : Object). z.owner) tells)
-  owning u cell w (Ended x) going of same joins tells = absurd going
+  owning u (Unlock (unlock.Release d)) (Value w) going of same joins tells = frees_owning (fields_of w).waiters d (sym of) tells
+  owning u (Unlock (unlock.Wake b)) (Count k) going of same joins tells = keeps refl (unlock_ends OK (sym of)) (ap (λ (z : Object). z.owner) tells)
+  owning u (Unlock unlock.Load) a going of same joins tells = absurd cc
+  owning u (Unlock (unlock.Release d)) a going of same joins tells = absurd cc
+  owning u (Unlock (unlock.Wake b)) a going of same joins tells = absurd (cc joins.1)
+  owning u (Ended x) a going of same joins tells = absurd going
 
   -- ---- the pending entry stays as it is
 
@@ -219,22 +221,23 @@ module _ (m t : ℕ) (p : Whole) (o n : Object) where
   unlock_refuses : p.operation ≡ operation.Unlock → pending_in p.entry (after_cell p (Ended EPERM)) ≡ 0
   unlock_refuses of = subst (λ (op : Operation). pending_in p.entry (leaving p op EPERM) ≡ 0) (sym of) refl
 
-  pub pends : (u cell w : ℕ) (r : Row) → IsGoing r → row_operation r ≡ p.operation → IsOf (row_operation r) (resume_of u r (answer_at (row_access u cell r) w)).row
-      → Joins (decided r) (resume_of u r (answer_at (row_access u cell r) w)).point (decided (resume_of u r (answer_at (row_access u cell r) w)).row)
-      → Tells t o (row_operation r) (resume_of u r (answer_at (row_access u cell r) w)).point n
-      → pending_in p.entry (after_cell p (resume_of u r (answer_at (row_access u cell r) w)).row) ≡ pending_in p.entry (AtCell r)
-  pends u cell w (Lock r) going of same joins tells = lock_pends r _ _ (sym of) same joins tells
-  pends u cell w (TryLock r) going of same joins tells = try_pends r _ _ (sym of) same joins tells
-  pends u cell w (Consistent r) going of same joins tells = consistent_pends _ (sym of) same
-  pends u cell w (Unlock unlock.Load) going of same joins tells = looks ((fields_of w).owner == u)
+  pub pends : (u : ℕ) (r : Row) (a : Answer) → IsGoing r → row_operation r ≡ p.operation → IsOf (row_operation r) (resume_of u r a).row → Joins (decided r) (resume_of u r a).point (decided (resume_of u r a).row)
+      → Tells t o (row_operation r) (resume_of u r a).point n → pending_in p.entry (after_cell p (resume_of u r a).row) ≡ pending_in p.entry (AtCell r)
+  pends u (Lock r) a going of same joins tells = lock_pends r _ _ (sym of) same joins tells
+  pends u (TryLock r) a going of same joins tells = try_pends r _ _ (sym of) same joins tells
+  pends u (Consistent r) a going of same joins tells = consistent_pends _ (sym of) same
+  pends u (Unlock unlock.Load) (Value w) going of same joins tells = looks ((fields_of w).owner == u)
     where
       looks : (b : Bool) → pending_in p.entry (after_cell p (if b then goes (Unlock (unlock.Release (fields_of w).died)) else ends EPERM).row) ≡ 0
       looks true = refl
       looks false = unlock_refuses (sym of)
-  pends u cell w (Unlock (unlock.Release d)) going of same joins tells = wakes (fields_of w).waiters
+  pends u (Unlock (unlock.Release d)) (Value w) going of same joins tells = wakes (fields_of w).waiters
     where
       wakes : (b : Bool) → pending_in p.entry (after_cell p (if b then Unlock (unlock.Wake d) else Ended OK)) ≡ p.entry
       wakes true = refl
       wakes false = unlock_clears (sym of)
-  pends u cell w (Unlock (unlock.Wake a)) going of same joins tells = unlock_clears (sym of)
-  pends u cell w (Ended x) going of same joins tells = absurd going
+  pends u (Unlock (unlock.Wake b)) (Count k) going of same joins tells = unlock_clears (sym of)
+  pends u (Unlock unlock.Load) a going of same joins tells = absurd cc
+  pends u (Unlock (unlock.Release d)) a going of same joins tells = absurd cc
+  pends u (Unlock (unlock.Wake b)) a going of same joins tells = absurd (cc joins.1)
+  pends u (Ended x) a going of same joins tells = absurd going
