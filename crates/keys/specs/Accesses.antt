@@ -1,5 +1,5 @@
 -- What an access does to the word that it meets, and what it answers. The futex sections change no word.
-use Rattle.std.specs.Prelude.{ℕ, ◌==◌, ◌+◌, ◌%◌, ◌^◌, Bool, false, bit_or, bit_and, bit_xor, if◌then◌else◌}
+use Rattle.std.specs.Prelude.{ℕ, ◌==◌, ◌+◌, ◌%◌, ◌^◌, Bool, false, List, bit_or, bit_and, bit_xor, if◌then◌else◌}
 use Rattle.keys.specs.declared.access.Access.{Access}
 use Rattle.keys.specs.declared.access.Access.TheVariants.{Load, Store, Exchange, FetchXor, FetchOr, FetchAnd, FetchAdd, Wait, Wake, Requeue, CmpRequeue}
 use Rattle.keys.specs.declared.access.Answer.{Answer}
@@ -28,6 +28,10 @@ changed (FetchOr at v) w = bit_or w v
 changed (FetchAnd at v) w = bit_and w v
 changed (FetchAdd at v) w = (w + v) % 18446744073709551616
 changed a w = w
+
+-- the word after the access, of the word before and of those who sleep there: whoever they are, so far
+abbrev pub word_among : Access → ℕ → List ℕ → ℕ
+word_among a w q = changed a w
 
 -- the answer of an access that meets the word w; of a section, where nobody sleeps and nobody comes to sleep
 abbrev pub answer_at : Access → ℕ → Answer

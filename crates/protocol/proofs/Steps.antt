@@ -11,7 +11,7 @@ use Rattle.keys.specs.declared.point.Operation.{Operation}
 use Rattle.keys.specs.declared.point.Operation.TheVariants as operation
 use Rattle.keys.specs.declared.object.Object.{Object}
 use Rattle.keys.specs.Layouts.{Layout', cell_place}
-use Rattle.keys.specs.Accesses.{changed, answer_at}
+use Rattle.keys.specs.Accesses.{word_among, answer_at}
 use Rattle.keys.specs.Objects.{Permits, Run, object_of, fresh, acquires}
 use Rattle.mutex.specs.declared.call.Call.{Call}
 use Rattle.mutex.specs.declared.lock.LockRow.TheVariants as lock
@@ -161,7 +161,7 @@ pub record Transition : Type 0 where
 abbrev pub done : State → ℕ → Access → Thread → State
 done s t a th = record {
   layout = s.layout;
-  words = put s.words (place_met s.layout t a) (changed a (s.words (place_met s.layout t a)));
+  words = put s.words (place_met s.layout t a) (word_among a (s.words (place_met s.layout t a)) (s.queues (place_met s.layout t a)));
   queues = put s.queues (place_met s.layout t a) (queue_after t a (s.words (place_met s.layout t a)) (s.queues (place_met s.layout t a)));
   threads = put s.threads t th;
 }
@@ -188,8 +188,8 @@ module _ (s : State) (t : ℕ) (a : Access) (valid : is_valid s.layout (place_me
   pub answer-is : answer_of s t a ≡ answer_among a (s.words at) (s.queues at)
   answer-is = ap (λ (b : Bool). if b then answer_among a (s.words at) (s.queues at) else Fault) valid
 
-  pub words-is : words_after s t a ≡ put s.words at (changed a (s.words at))
-  words-is = ap (λ (b : Bool). if b then put s.words at (changed a (s.words at)) else s.words) valid
+  pub words-is : words_after s t a ≡ put s.words at (word_among a (s.words at) (s.queues at))
+  words-is = ap (λ (b : Bool). if b then put s.words at (word_among a (s.words at) (s.queues at)) else s.words) valid
 
   pub queues-is : queues_after s t a ≡ put s.queues at (queue_after t a (s.words at) (s.queues at))
   queues-is = ap (λ (b : Bool). if b then put s.queues at (queue_after t a (s.words at) (s.queues at)) else s.queues) valid

@@ -11,7 +11,7 @@ use Rattle.keys.specs.declared.point.Operation.TheVariants as operation
 use Rattle.keys.specs.declared.point.Decision.{Decision}
 use Rattle.keys.specs.Layouts.{Layout', head_place, cell_place, words_of, first_word}
 use Rattle.buckets.specs.Queues.{without}
-use Rattle.keys.specs.Accesses.{address_of, changed, answer_at, sleeps_at}
+use Rattle.keys.specs.Accesses.{address_of, word_among, answer_at, sleeps_at}
 use Rattle.mutex.specs.declared.call.Call.{Call}
 use Rattle.mutex.specs.declared.phase.Phase.{Phase}
 use Rattle.mutex.specs.declared.phase.Phase.TheVariants.{Ended}
@@ -87,7 +87,7 @@ abbrev pub answer_of : State → ℕ → Access → Answer
 answer_of s t a = if is_valid s.layout (place_met s.layout t a) then answer_among a (s.words (place_met s.layout t a)) (s.queues (place_met s.layout t a)) else Fault
 
 abbrev pub words_after : State → ℕ → Access → ℕ → ℕ
-words_after s t a = if is_valid s.layout (place_met s.layout t a) then put s.words (place_met s.layout t a) (changed a (s.words (place_met s.layout t a))) else s.words
+words_after s t a = if is_valid s.layout (place_met s.layout t a) then put s.words (place_met s.layout t a) (word_among a (s.words (place_met s.layout t a)) (s.queues (place_met s.layout t a))) else s.words
 
 abbrev pub queues_after : State → ℕ → Access → ℕ → List ℕ
 queues_after s t a = if is_valid s.layout (place_met s.layout t a) then put s.queues (place_met s.layout t a) (queue_after t a (s.words (place_met s.layout t a)) (s.queues (place_met s.layout t a))) else s.queues
