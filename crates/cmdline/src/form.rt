@@ -1,12 +1,13 @@
 //! Which of its forms a command line has.
 
-ghost use Rattle.std.specs.Prelude.{◌≡◌, ◌≢◌, true, false, IfOk, map};
-ghost use Rattle.clap.specs.Words.{app_of, rule_of, takes};
+ghost use Rattle.std.specs.Prelude.{◌≡◌, true, false, IfOk, Some, map, option_map};
+ghost use Rattle.clap.specs.Words.{app_of, rule_of, subcommand_of, subcommand_rows_of, takes};
 ghost use Rattle.clap.specs.declared.builder.command.Command.TheViews.{out-Command};
-ghost use Rattle.cmdline.specs.Forms.{is_file_word, asked_of_file, asked_of_table, asked_of, asked_by, rfx, run_app, file_app, table_rule, file_rule};
+ghost use Rattle.cmdline.specs.Forms.{is_file_word, asked_of, asked_by, rfx, run_app, file_app, table_rule, file_rule};
+ghost use Rattle.cmdline.specs.Said.{Said, IsSaid, seen, asked_for, in_order};
 
 use clap::error::ErrorKind;
-use clap::{Arg, ArgAction, Command};
+use clap::{Arg, ArgAction, ArgMatches, Command};
 use keys::NoMem;
 use std::alloc::{AllocError, Global};
 
@@ -73,20 +74,41 @@ fn command<'a>(alloc: Global) -> Result<Command<'a>, AllocError>
         .subcommand(subcommand(alloc, "check")?)
 }
 
-/// Whether clap takes the words.
-fn is_taken<'a>(alloc: Global, words: &'a [&'a str]) -> Result<bool, NoMem>
-    ensures { IfOk result (λ b. b ≡ false → takes rfx (map (λ w. w.now) words.entry.now) ≢ true) }
+/// What clap found in the words.
+#[derive(Clone, Copy)]
+struct Found<'a> {
+    /// The subcommand.
+    word: &'a str,
+    /// Whether `--table` was given.
+    table: bool,
+    /// FILE.
+    file: &'a str,
+}
+
+/// The subcommand, its option and its FILE among the matches; nothing where there is no subcommand, or no FILE.
+fn found_in<'a>(matches: &ArgMatches<'a>) -> Option<Found<'a>>
+    ensures { (s : Said) → IsSaid (subcommand_rows_of matches.now) s → option_map seen result ≡ Some s }
+{
+    let (word, inner) = matches.subcommand()?;
+    let file = inner.get_str("FILE")?;
+    let table = inner.get_flag("table");
+    Some(Found { word, table, file })
+}
+
+/// What clap finds in the words; nothing where it refuses them.
+fn found_by_clap<'a>(alloc: Global, words: &'a [&'a str]) -> Result<Option<Found<'a>>, NoMem>
+    ensures { IfOk result (λ found. (s : Said) → takes rfx (map (λ w. w.now) words.entry.now) ≡ true → IsSaid (subcommand_of rfx (map (λ w. w.now) words.entry.now)) s → option_map seen found ≡ Some s) }
 {
     let Ok(command) = command(alloc) else {
         return Err(NoMem);
     };
     let kind = match command.try_get_matches_from(words) {
-        Ok(_matches) => return Ok(true),
+        Ok(matches) => return Ok(found_in(&matches)),
         Err(error) => error.kind(),
     };
     match kind {
         ErrorKind::OutOfMemory => Err(NoMem),
-        _ => Ok(false),
+        _ => Ok(None),
     }
 }
 
@@ -100,39 +122,34 @@ fn is_file(word: &str) -> bool
     }
 }
 
-/// The form of a subcommand and the word after it.
-fn form_of_file<'a>(word: &str, file: &'a str) -> Form<'a>
-    ensures { asked_by result ≡ asked_of_file word.now file.now }
-{
-    if !is_file(file) {
-        return Form::Usage;
-    }
-    match word {
-        "run" => Form::Run(file),
-        "threads" => Form::Threads(file),
-        "check" => Form::Check(file),
-        _ => Form::Usage,
-    }
-}
-
-/// The form of a subcommand, its option and the word after them.
-fn form_of_table<'a>(word: &str, option: &str, file: &'a str) -> Form<'a>
-    ensures { asked_by result ≡ asked_of_table word.now option.now file.now }
-{
-    if word == "run" && option == "--table" && is_file(file) {
-        Form::Table(file)
-    } else {
-        Form::Usage
-    }
-}
-
-/// The form that the words are spelled in.
-fn spelled<'a>(words: &[&'a str]) -> Form<'a>
-    ensures { asked_by result ≡ asked_of (map (λ w. w.now) words.now) }
+/// Whether the words are just those that were found, in the order of the forms, and FILE names a file. clap takes other orders too, `--` and hyphens.
+fn are_in_order(words: &[&str], found: &Found<'_>) -> bool
+    ensures { result ≡ in_order (map (λ w. w.now) words.now) (seen found.now) }
 {
     match words {
-        [_, word, file] => form_of_file(word, file),
-        [_, word, option, file] => form_of_table(word, option, file),
+        [_, word, file] => {
+            !found.table && is_file(file) && *word == found.word && *file == found.file
+        }
+        [_, word, option, file] => {
+            found.table
+                && is_file(file)
+                && *option == "--table"
+                && *word == found.word
+                && *file == found.file
+        }
+        _ => false,
+    }
+}
+
+/// The form of what was found.
+fn form_of<'a>(found: Found<'a>) -> Form<'a>
+    ensures { asked_by result ≡ asked_for (seen found.entry) }
+{
+    match (found.table, found.word) {
+        (false, "run") => Form::Run(found.file),
+        (true, "run") => Form::Table(found.file),
+        (false, "threads") => Form::Threads(found.file),
+        (false, "check") => Form::Check(found.file),
         _ => Form::Usage,
     }
 }
@@ -141,8 +158,11 @@ fn spelled<'a>(words: &[&'a str]) -> Form<'a>
 pub fn form_of_words<'a>(alloc: Global, words: &'a [&'a str]) -> Result<Form<'a>, NoMem>
     ensures { IfOk result (λ f. asked_by f ≡ asked_of (map (λ w. w.now) words.entry.now)) }
 {
-    if is_taken(alloc, words)? {
-        Ok(spelled(words))
+    let Some(found) = found_by_clap(alloc, words)? else {
+        return Ok(Form::Usage);
+    };
+    if are_in_order(words, &found) {
+        Ok(form_of(found))
     } else {
         Ok(Form::Usage)
     }
