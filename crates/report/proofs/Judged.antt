@@ -1,19 +1,14 @@
 -- What was written of a trace that was judged.
-use Rattle.std.proofs.Common.{◌≡◌, ◌≤◌, ◌⊎◌, ℕ, Bool, true, false, List, length, Option, Result, Ok, Err, inl, inr, refl, sym, ◌∙◌, arith}
-use Rattle.std.specs.Prelude.{nat_lt, if◌then◌else◌}
-use Rattle.std.specs.Str.{is_utf8}
-use Rattle.std.specs.Io.KnownBytes.{Appends, Consumes, IsAtEnd}
+use Rattle.std.proofs.Common.{◌≡◌, ◌≤◌, ℕ, Bool, true, false, List, length, Option, Ok, Err, refl, sym, ◌∙◌, arith}
+use Rattle.std.specs.Prelude.{nat_lt}
+use Rattle.std.specs.Io.KnownBytes.{Appends}
 use Rattle.std.proofs.lemmas.Bool.Decides.{nat_tests}
-use Rattle.lines.specs.Lines.{lines_of}
-use Rattle.lines.specs.Lines.{bad_line}
 use Rattle.verdict.specs.declared.checking.Verdict.{Verdict}
 use Rattle.verdict.specs.declared.checking.Verdict.TheVariants.{Legal, Illegal}
-use Rattle.verdict.specs.declared.fault.Fault.TheVariants.{NotUtf8, TooLong}
-use Rattle.verdict.specs.declared.fault.TraceFault.{TraceFault}
+use Rattle.verdict.specs.declared.fault.Fault.TheVariants.{TooLong}
 use Rattle.verdict.specs.Limits.{max_bytes}
-use Rattle.verdict.specs.Reading.{Trace, fault_at, text_read, trace_read}
-use Rattle.texts.specs.Leaves.{AppendsFront}
-use Rattle.report.specs.Verdicts.{verdict_text, verdict_status, IsVerdictOn, FoundLegal, JudgedFront, Checked, CheckedFront}
+use Rattle.verdict.specs.Reading.{Trace, fault_at, trace_read}
+use Rattle.report.specs.Verdicts.{verdict_text, verdict_status, IsVerdictOn, FoundLegal}
 
 -- the verdict whose status is 0 is that the trace is legal
 pub found : (old new : Option (List ℕ)) (bytes : List ℕ) (v : Verdict) → IsVerdictOn bytes v → Appends old new (verdict_text v) → verdict_status v ≡ 0 → FoundLegal old new bytes

@@ -5,3 +5,4 @@ mod Possible
 mod Servings
 mod Layouts
 mod Judged
+mod Failures

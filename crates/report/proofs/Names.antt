@@ -1,7 +1,7 @@
 -- Names, one after the other.
-use Rattle.std.proofs.Common.{◌≡◌, ℕ, zero, suc, ◌+◌, ◌<◌, length, slice_index_or, List, [], ◌∷◌, ◌++◌, map, take, Some, ap, arith, ◌∙◌, sym}
+use Rattle.std.proofs.Common.{◌≡◌, ℕ, zero, suc, ◌+◌, ◌<◌, length, slice_index_or, get_or, List, [], ◌∷◌, ◌++◌, map, take, Some, ap, arith, ◌∙◌, sym}
 use Rattle.std.specs.Prelude.{slice_get}
-use Rattle.std.proofs.lemmas.List.{map-append}
+use Rattle.std.proofs.lemmas.List.{map-append, take_more}
 
 -- so many items, and the next
 take_next : {B : Type 0} (xs : List B) (i : ℕ) (x : B) → slice_get xs i ≡ Some x → take (suc i) xs ≡ take i xs ++ x ∷ []
@@ -26,3 +26,9 @@ pub at_place : {A : Type 0} (xs : List A) (i : ℕ) (x : A) → i < length xs �
 at_place [] i x lt is = absurd (omega (arith, lt))
 at_place (y ∷ xs) zero x lt is = ap Some (sym is)
 at_place (y ∷ xs) (suc i) x lt is = at_place xs i x (omega (arith, lt)) is
+
+-- one item more on both sides, which says the same on both
+pub says_on : {A B C : Type 0} (f : B → C) (g : A → C) (xs : List A) (i : ℕ) (x : A) (ys ys' : List B) (y : B) → i < length xs → x ≡ get_or xs i x → f y ≡ g x → map f ys ≡ map g (take i xs) → ys' ≡ ys ++ y ∷ [] → map f ys' ≡ map g (take (i + 1) xs)
+says_on f g xs i x ys ys' y lt at same so_far more =
+    let after : map g (take (i + 1) xs) ≡ map g (take i xs) ++ g x ∷ [] = ap (map g) (take_more xs i x lt) ∙ map-append g (take i xs) (get_or xs i x ∷ []) ∙ ap (λ z. map g (take i xs) ++ g z ∷ []) (sym at) in
+    ap (map f) more ∙ map-append f ys (y ∷ []) ∙ ap (λ l. l ++ f y ∷ []) so_far ∙ ap (λ z. map g (take i xs) ++ z ∷ []) same ∙ sym after

@@ -1,7 +1,7 @@
 -- What was written of a script that was read and played.
-use Rattle.std.proofs.Common.{◌≡◌, ◌≤◌, ◌⊎◌, ℕ, List, ◌++◌, length, map, Option, Result, Ok, refl, sym, ap, ◌∙◌, subst, inl, inr, MatchResult, arith}
+use Rattle.std.proofs.Common.{◌≡◌, ℕ, List, ◌++◌, length, map, Option, Result, Ok, refl, sym, ap, ◌∙◌, subst, MatchResult}
 use Rattle.std.specs.List.{concat}
-use Rattle.std.specs.Io.KnownBytes.{Appends, Consumes, IsAtEnd}
+use Rattle.std.specs.Io.KnownBytes.{Appends}
 use Rattle.keys.specs.Layouts.{Layout'}
 use Rattle.protocol.specs.Machine.{State}
 use Rattle.protocol.specs.Notes.{lines_from}
@@ -19,7 +19,7 @@ use Rattle.texts.specs.Replies.{replies_text}
 use Rattle.texts.specs.Leaves.{AppendsFront}
 use Rattle.texts.specs.Text.{head_line, line_text, end_line, trace_text}
 use Rattle.texts.specs.Tables.{table_text}
-use Rattle.report.specs.Served.{Report, trace, table, replies, mode_of, meaning, meant_table, Means, Answer, Tells, TellsFront, Written, WritesFront, Served, ServedFront}
+use Rattle.report.specs.Served.{Report, trace, table, replies, mode_of, meaning, meant_table, Means, Answer, Tells, TellsFront, Written, WrittenFront}
 
 -- the text of the trace is the script's meaning
 meaning-is : (s : Scope) (t : Trace) (m : Shown) → IsPlayed s t m → trace_text t ≡ meaning s
@@ -44,28 +44,27 @@ pub wrote : (k : Report) (old new : Option (List ℕ)) (bytes : List ℕ) (s : S
 wrote k old new bytes s text reads means a =
     subst (λ (r : Result Scope ScriptFault). MatchResult r (λ z. (text : List ℕ) × Means k z text × Appends old new text) (λ e. ⊥)) (sym reads) (text, means, a)
 
-pub wrote_front : (k : Report) (old new : Option (List ℕ)) (bytes : List ℕ) (s : Scope) (text : List ℕ) → script_read (mode_of k) bytes ≡ Ok s → Means k s text → AppendsFront old new text → WritesFront k old new bytes
+pub wrote_front : (k : Report) (old new : Option (List ℕ)) (bytes : List ℕ) (s : Scope) (text : List ℕ) → script_read (mode_of k) bytes ≡ Ok s → Means k s text → AppendsFront old new text → WrittenFront k old new bytes
 wrote_front k old new bytes s text reads means a =
-    inr (subst (λ (r : Result Scope ScriptFault). MatchResult r (λ z. (text : List ℕ) × Means k z text × AppendsFront old new text) (λ e. ⊥)) (sym reads) (text, means, a))
+    subst (λ (r : Result Scope ScriptFault). MatchResult r (λ z. (text : List ℕ) × Means k z text × AppendsFront old new text) (λ e. ⊥)) (sym reads) (text, means, a)
 
 -- the trace of a script that was played is what it means
 pub written : (old new : Option (List ℕ)) (bytes : List ℕ) (s : Scope) (t : Trace) (m : Shown) → script_read Run bytes ≡ Ok s → IsPlayed s t m → Appends old new (trace_text t) → Written trace old new bytes
 written old new bytes s t m reads p a = wrote trace old new bytes s (trace_text t) reads (p.fits, meaning-is s t m p) a
 
-pub written_front : (old new : Option (List ℕ)) (bytes : List ℕ) (s : Scope) (t : Trace) (m : Shown) → script_read Run bytes ≡ Ok s → IsPlayed s t m → AppendsFront old new (trace_text t) → WritesFront trace old new bytes
+pub written_front : (old new : Option (List ℕ)) (bytes : List ℕ) (s : Scope) (t : Trace) (m : Shown) → script_read Run bytes ≡ Ok s → IsPlayed s t m → AppendsFront old new (trace_text t) → WrittenFront trace old new bytes
 written_front old new bytes s t m reads p a = wrote_front trace old new bytes s (trace_text t) reads (p.fits, meaning-is s t m p) a
 
 -- and so is its table
 pub tabled : (old new : Option (List ℕ)) (bytes : List ℕ) (s : Scope) (t : Trace) (m : Shown) → script_read Run bytes ≡ Ok s → IsPlayed s t m → Appends old new (table_text s (state_of m) t.notes.items) → Written table old new bytes
 tabled old new bytes s t m reads p a = wrote table old new bytes s (table_text s (state_of m) t.notes.items) reads (p.fits, table-is s t m p) a
 
-pub tabled_front : (old new : Option (List ℕ)) (bytes : List ℕ) (s : Scope) (t : Trace) (m : Shown) → script_read Run bytes ≡ Ok s → IsPlayed s t m → AppendsFront old new (table_text s (state_of m) t.notes.items) → WritesFront table old new bytes
+pub tabled_front : (old new : Option (List ℕ)) (bytes : List ℕ) (s : Scope) (t : Trace) (m : Shown) → script_read Run bytes ≡ Ok s → IsPlayed s t m → AppendsFront old new (table_text s (state_of m) t.notes.items) → WrittenFront table old new bytes
 tabled_front old new bytes s t m reads p a = wrote_front table old new bytes s (table_text s (state_of m) t.notes.items) reads (p.fits, table-is s t m p) a
 
 -- what was told of a script's threads is what it means
 pub told : (old new : Option (List ℕ)) (bytes : List ℕ) (s : Scope) (a : Answers) → script_read Threads bytes ≡ Ok s → Answer s a → Tells old new s a → Written replies old new bytes
 told old new bytes s a reads answer tells = wrote replies old new bytes s (replies_text tells.0 tells.1) reads (a, answer, tells.0, tells.1, tells.2, refl) tells.3
 
-pub told_front : (old new : Option (List ℕ)) (bytes : List ℕ) (s : Scope) (a : Answers) → script_read Threads bytes ≡ Ok s → Answer s a → (new ≡ old) ⊎ TellsFront old new s a → WritesFront replies old new bytes
-told_front old new bytes s a reads answer (inl same) = inl same
-told_front old new bytes s a reads answer (inr front) = wrote_front replies old new bytes s (replies_text front.0 front.1) reads (a, answer, front.0, front.1, front.2, refl) front.3
+pub told_front : (old new : Option (List ℕ)) (bytes : List ℕ) (s : Scope) (a : Answers) → script_read Threads bytes ≡ Ok s → Answer s a → TellsFront old new s a → WrittenFront replies old new bytes
+told_front old new bytes s a reads answer front = wrote_front replies old new bytes s (replies_text front.0 front.1) reads (a, answer, front.0, front.1, front.2, refl) front.3

@@ -1,3 +1,6 @@
+pub mod Failed
+pub mod Messages
+pub mod Programs
 pub mod Served
 pub mod Threads
 pub mod Verdicts

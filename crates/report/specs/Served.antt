@@ -86,10 +86,6 @@ Written k old new bytes = MatchResult (script_read (mode_of k) bytes) (λ s. (te
 abbrev pub WrittenFront : Report → Option (List ℕ) → Option (List ℕ) → List ℕ → Type 0
 WrittenFront k old new bytes = MatchResult (script_read (mode_of k) bytes) (λ s. (text : List ℕ) × Means k s text × AppendsFront old new text) (λ e. ⊥)
 
--- nothing was written; or a beginning of what these bytes mean
-abbrev pub WritesFront : Report → Option (List ℕ) → Option (List ℕ) → List ℕ → Type 0
-WritesFront k old new bytes = (new ≡ old) ⊎ WrittenFront k old new bytes
-
 -- all that the reader had, up to its end, is a script, and what is told of it was written
 abbrev pub Served : Report → Option (List ℕ) → Option (List ℕ) → Option (List ℕ) → Option (List ℕ) → Type 0
 Served k had left old new = (bytes : List ℕ) × Consumes had left bytes × IsAtEnd left × Written k old new bytes

@@ -1,11 +1,12 @@
-//! Judging a trace, and telling the verdict.
+//! Judging a trace, and writing the verdict.
 
-ghost use Rattle.std.specs.Prelude.{◌≡◌, ◌≤◌, ◌⊎◌, length};
-ghost use Rattle.verdict.specs.Limits.{max_bytes};
+ghost use Rattle.std.specs.Prelude.{◌≡◌, IfOk, IfErr, OnOk};
 ghost use Rattle.texts.specs.Leaves.{Leaves};
-ghost use Rattle.report.specs.Verdicts.{verdict_status, verdict_text, FoundLegal, JudgedFront};
+ghost use Rattle.report.specs.Failed.{FailsTrace};
+ghost use Rattle.report.specs.Verdicts.{verdict_status, verdict_text, Finds};
 
-use crate::messages::{CANNOT_WRITE, tell, tell_fault};
+use crate::messages::Failure;
+use crate::output::Output;
 use itoa::Buffer;
 use std::alloc::Global;
 use std::io::{self, Write};
@@ -24,11 +25,12 @@ fn write_verdict<W: Write>(verdict: Verdict, out: &mut W) -> io::Result<()>
 }
 
 /// Writes a verdict, and lets go of what the writer kept back.
-fn write_verdict_out<W: Write>(verdict: Verdict, out: &mut W) -> io::Result<()>
-    ensures { Leaves (W.contents out.old) (W.contents out.new) result (verdict_text verdict) }
+fn write_verdict_out<W: Output>(verdict: Verdict, out: &mut W) -> io::Result<()>
+    ensures text { Leaves (W.contents out.old) (W.contents out.new) result (verdict_text verdict) }
+    ensures let_go { OnOk result (W.is_let_go out.new) }
 {
     write_verdict(verdict, out)?;
-    out.flush()
+    out.let_go()
 }
 
 /// The exit status for a verdict.
@@ -41,19 +43,22 @@ fn status_of(verdict: Verdict) -> u8
     }
 }
 
-/// Judges a trace's bytes, and writes the verdict. It answers the exit status: 0 for a legal trace, and 1 for an illegal one, or for a fault, which is told.
-pub fn judge_bytes<W: Write, E: Write>(alloc: Global, bytes: &[u8], out: &mut W, err: &mut E) -> u8
-    ensures done { result ≡ 0 → FoundLegal (W.contents out.old) (W.contents out.new) bytes.now }
-    ensures front { (W.contents out.new ≡ W.contents out.old) ⊎ JudgedFront (W.contents out.old) (W.contents out.new) bytes.now }
-    ensures short { (length bytes.now ≤ max_bytes) ⊎ ((W.contents out.new ≡ W.contents out.old) × (result ≡ 1)) }
-    ensures last { result ≤ 1 }
+/// Judges a trace's bytes, and writes the verdict. It answers the exit status: 0 for a legal trace, and 1 for an illegal one.
+pub(crate) fn judge_bytes<W: Output>(
+    alloc: Global,
+    bytes: &[u8],
+    out: &mut W,
+) -> Result<u8, Failure>
+    ensures finds { IfOk result (Finds (W.contents out.old) (W.contents out.new) bytes.now) }
+    ensures let_go { OnOk result (W.is_let_go out.new) }
+    ensures fails { IfErr result (FailsTrace bytes.now (W.contents out.old) (W.contents out.new)) }
 {
     let verdict = match check(alloc, bytes) {
         Ok(verdict) => verdict,
-        Err(fault) => return tell_fault(err, &fault),
+        Err(fault) => return Err(Failure::Trace(fault)),
     };
     match write_verdict_out(verdict, out) {
-        Ok(()) => status_of(verdict),
-        Err(_failed) => tell(err, &[CANNOT_WRITE]),
+        Ok(()) => Ok(status_of(verdict)),
+        Err(_failed) => Err(Failure::CannotWrite),
     }
 }

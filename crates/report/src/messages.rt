@@ -1,10 +1,14 @@
 //! What the program says on standard error. Each whole message ends with a line feed.
 
 ghost use Rattle.std.specs.Prelude.{◌≡◌};
+ghost use Rattle.texts.specs.Leaves.{AppendsFront, Leaves};
+ghost use Rattle.report.specs.Messages.{script_words, trace_words, fault_text, failure_text, failure_status};
 
-use std::fmt::Display;
-use std::io::Write;
+use itoa::Buffer;
+use script::ScriptFault;
+use std::io::{self, Write};
 use texts::put;
+use verdict::TraceFault;
 
 /// A file couldn't be read. The message goes on with the file's name and a line feed.
 pub const CANNOT_READ: &str = "rfx: cannot read ";
@@ -18,19 +22,101 @@ pub const OUT_OF_MEMORY: &str = "rfx: out of memory\n";
 /// The command line has none of the program's forms.
 pub const USAGE: &str = "usage: rfx run [--table] FILE | rfx threads FILE | rfx check FILE\n";
 
-/// Tells why nothing, or not all, was written. A message that can't be written is lost.
-pub(crate) fn tell<E: Write>(err: &mut E, message: &[&str]) -> u8
-    ensures { result ≡ 1 }
-{
-    let _ = put(err, message);
-    let _ = err.flush();
-    1
+/// Why nothing, or not all, of what a command line asks for was written.
+#[derive(Clone, Copy)]
+pub(crate) enum Failure {
+    /// The command line has none of the program's forms.
+    Usage,
+    /// The file couldn't be opened, or a read of it failed.
+    CannotRead,
+    /// A write failed, or the writer didn't let go of what it kept back.
+    CannotWrite,
+    /// Memory was refused where no line of a script or a trace was being read or played.
+    OutOfMemory,
+    /// The file is no script, or can't be played.
+    Script(ScriptFault),
+    /// The file is no trace.
+    Trace(TraceFault),
 }
 
-pub(crate) fn tell_fault<E: Write, F: Display>(err: &mut E, fault: &F) -> u8
-    ensures { result ≡ 1 }
+/// The words for what is wrong with a script.
+fn words_of_script(fault: script::Fault) -> &'static str
+    ensures { result.now ≡ script_words fault }
 {
-    let _ = writeln!(err, "rfx: {fault}");
+    match fault {
+        script::Fault::NotUtf8 => "not UTF-8",
+        script::Fault::UnknownWord => "unknown word",
+        script::Fault::OutOfRange => "number out of range",
+        script::Fault::NoSuchName => "no such name",
+        script::Fault::TooLong => "too long",
+        script::Fault::OutOfMemory => "out of memory",
+    }
+}
+
+/// The words for what is wrong with a trace.
+fn words_of_trace(fault: verdict::Fault) -> &'static str
+    ensures { result.now ≡ trace_words fault }
+{
+    match fault {
+        verdict::Fault::NotUtf8 => "not UTF-8",
+        verdict::Fault::UnknownWord => "unknown word",
+        verdict::Fault::OutOfRange => "number out of range",
+        verdict::Fault::TooLong => "too long",
+        verdict::Fault::Cut => "cut",
+        verdict::Fault::OutOfMemory => "out of memory",
+    }
+}
+
+/// `rfx: line L: fault N: TEXT`.
+fn write_fault<E: Write>(err: &mut E, line: usize, number: u8, words: &str) -> io::Result<()>
+    ensures { Leaves (E.contents err.old) (E.contents err.new) result (fault_text line number words.now) }
+{
+    let mut lines = Buffer::new();
+    let mut numbers = Buffer::new();
+    let line = lines.format(line);
+    let number = numbers.format(number);
+    put(
+        err,
+        &["rfx: line ", line, ": fault ", number, ": ", words, "\n"],
+    )
+}
+
+/// The message of a failure to serve this file.
+fn write_failure<E: Write>(err: &mut E, file: &str, failure: Failure) -> io::Result<()>
+    ensures { Leaves (E.contents err.old) (E.contents err.new) result (failure_text file.now failure) }
+{
+    match failure {
+        Failure::Usage => put(err, &[USAGE]),
+        Failure::CannotRead => put(err, &[CANNOT_READ, file, "\n"]),
+        Failure::CannotWrite => put(err, &[CANNOT_WRITE]),
+        Failure::OutOfMemory => put(err, &[OUT_OF_MEMORY]),
+        Failure::Script(ScriptFault { line, fault }) => {
+            write_fault(err, line, fault.number(), words_of_script(fault))
+        }
+        Failure::Trace(TraceFault { line, fault }) => {
+            write_fault(err, line, fault.number(), words_of_trace(fault))
+        }
+    }
+}
+
+/// Tells a failure to serve this file. Of a message that can't be written a beginning is left.
+pub(crate) fn tell<E: Write>(err: &mut E, file: &str, failure: Failure)
+    ensures { AppendsFront (E.contents err.old) (E.contents err.new) (failure_text file.now failure) }
+{
+    let _ = write_failure(err, file, failure);
     let _ = err.flush();
-    1
+}
+
+/// The exit status after a failure.
+pub(crate) fn status_after(failure: Failure) -> u8
+    ensures { result ≡ failure_status failure }
+{
+    match failure {
+        Failure::Usage => 2,
+        Failure::CannotRead
+        | Failure::CannotWrite
+        | Failure::OutOfMemory
+        | Failure::Script(_)
+        | Failure::Trace(_) => 1,
+    }
 }

@@ -1,5 +1,5 @@
 //! The program, but for opening its file.
-ghost use Rattle.std.specs.Prelude.{◌≡◌, ◌≤◌, ◌<◌, ◌^◌, ◌+◌, ◌⊎◌, ◌↔◌, length, vec_len, Ok, IfOk, IfErr};
+ghost use Rattle.std.specs.Prelude.{◌≡◌, ◌≤◌, ◌<◌, ◌^◌, ◌+◌, ◌⊎◌, ◌↔◌, length, vec_len, Ok, IfOk, IfErr, OnOk};
 ghost use Rattle.std.specs.Io.KnownBytes.{Consumes, IsAtEnd};
 ghost use Rattle.script.specs.declared.command.Mode.TheVariants.{Run};
 ghost use Rattle.script.specs.Limits.{max_bytes};
@@ -10,51 +10,48 @@ ghost use Rattle.texts.specs.Leaves.{Leaves};
 ghost use Rattle.texts.specs.Text.{trace_text};
 ghost use Rattle.texts.specs.Tables.{table_text};
 ghost use Rattle.texts.specs.Replies.{replies_text};
-ghost use Rattle.report.specs.Served.{trace, table, replies, bytes_at_most, Written, WritesFront, Tells, TellsFront, Served, ServedFront, ServedAs, ServedFrontAs, TakesAtMost};
-ghost use Rattle.report.specs.Verdicts.{Checked, CheckedFront};
+ghost use Rattle.report.specs.Served.{trace, table, replies, bytes_at_most, Written, Tells, TellsFront, Served, ServedAs, ServedFrontAs, TakesAtMost};
+ghost use Rattle.report.specs.Failed.{failed_by, file_of, IsUnread, IsFaultOf, Fails, FailsTrace, FailsAt, FailsAs, FailsTelling, EndsAs, Ends};
+ghost use Rattle.report.specs.Verdicts.{Judged};
 ghost use Rattle.verdict.specs.Limits as traces;
 ghost use Rattle.cmdline.specs.declared.form.Form.TheVariants.{Usage};
 
 use crate::answers::{mutex_words, thread_replies};
 use crate::judging::judge_bytes;
-use crate::messages::{CANNOT_READ, CANNOT_WRITE, OUT_OF_MEMORY, USAGE, tell, tell_fault};
+use crate::messages::{Failure, status_after, tell};
+use crate::output::Output;
 use crate::reading::{ReadFault, read_below};
 use crate::threads::{Answers, answers_of};
 use cmdline::Form;
 use interleave::{Machine, Trace};
-use script::{MAX_BYTES, Mode, Script, jobs, parse, play};
+use script::{MAX_BYTES, Mode, Script, ScriptFault, jobs, parse, play};
 use std::alloc::Global;
 use std::io::{self, Read, Write};
 use std::sync::Wait;
 use std::thread::Threads;
 use texts::{MutexWord, ThreadReplies, write_replies, write_table, write_trace};
 
-/// Writes a trace, and lets go of what the writer kept back.
-fn write_out<W: Write>(trace: &Trace, out: &mut W) -> io::Result<()>
-    ensures { Leaves (W.contents out.old) (W.contents out.new) result (trace_text trace.now) }
+/// What a fault of reading is told as.
+fn failure_of(fault: ReadFault) -> Failure
+    ensures { result ≡ failed_by fault }
 {
-    write_trace(trace, out)?;
-    out.flush()
+    match fault {
+        ReadFault::Memory => Failure::OutOfMemory,
+        ReadFault::Failed => Failure::CannotRead,
+    }
 }
 
-/// Reads the file's bytes, at most one more than it may have, or tells why it can't.
-fn read_file<R: Read, E: Write>(
-    alloc: Global,
-    file: &str,
-    most: usize,
-    input: &mut R,
-    err: &mut E,
-) -> Result<Vec<u8>, u8>
+/// Reads the file's bytes, at most one more than it may have.
+fn read_file<R: Read>(alloc: Global, most: usize, input: &mut R) -> Result<Vec<u8>, Failure>
     requires { most < 2 ^ 32 }
     ensures taken { IfOk result (λ v. Consumes (R.remaining input.old) (R.remaining input.new) v.items) }
     ensures end { IfOk result (λ v. vec_len v ≤ most → IsAtEnd (R.remaining input.new)) }
-    ensures status { IfErr result (λ status. status ≡ 1) }
+    ensures fails { IfErr result IsUnread }
     ensures limit { TakesAtMost (most + 1) (R.remaining input.old) (R.remaining input.new) }
 {
     match read_below(alloc, input, most + 1) {
         Ok(bytes) => Ok(bytes),
-        Err(ReadFault::Memory) => Err(tell(err, &[OUT_OF_MEMORY])),
-        Err(ReadFault::Failed) => Err(tell(err, &[CANNOT_READ, file, "\n"])),
+        Err(fault) => Err(failure_of(fault)),
     }
 }
 
@@ -66,46 +63,50 @@ struct Played {
     machine: Machine,
 }
 
-/// Reads a script's bytes and plays them, or tells why it can't.
-fn play_bytes<E: Write>(alloc: Global, bytes: &[u8], err: &mut E) -> Result<Played, u8>
+/// Reads a script's bytes and plays them.
+fn play_bytes(alloc: Global, bytes: &[u8]) -> Result<Played, ScriptFault>
     ensures reads { IfOk result (λ p. script_read Run bytes.now ≡ Ok p.script) }
     ensures plays { IfOk result (λ p. IsPlayed p.script p.trace p.machine) }
-    ensures short { IfOk result (λ _. length bytes.now ≤ max_bytes) }
-    ensures status { IfErr result (λ status. status ≡ 1) }
+    ensures fails { IfErr result (IsFaultOf trace bytes.now) }
 {
-    let script = match parse(alloc, bytes, Mode::Run) {
-        Ok(script) => script,
-        Err(fault) => return Err(tell_fault(err, &fault)),
-    };
+    let script = parse(alloc, bytes, Mode::Run)?;
     match play(alloc, &script) {
         Ok((trace, machine)) => Ok(Played {
             script,
             trace,
             machine,
         }),
-        Err(fault) => Err(tell_fault(err, &fault)),
+        Err(fault) => Err(fault),
     }
 }
 
-/// Reads a script's bytes, plays them, and writes their trace.
-fn trace_bytes<W: Write, E: Write>(alloc: Global, bytes: &[u8], out: &mut W, err: &mut E) -> u8
-    ensures done { result ≡ 0 → Written trace (W.contents out.old) (W.contents out.new) bytes.now }
-    ensures front { WritesFront trace (W.contents out.old) (W.contents out.new) bytes.now }
-    ensures short { (length bytes.now ≤ max_bytes) ⊎ ((W.contents out.new ≡ W.contents out.old) × (result ≡ 1)) }
-    ensures last { result ≤ 1 }
+/// Writes a trace, and lets go of what the writer kept back.
+fn write_out<W: Output>(trace: &Trace, out: &mut W) -> io::Result<()>
+    ensures text { Leaves (W.contents out.old) (W.contents out.new) result (trace_text trace.now) }
+    ensures let_go { OnOk result (W.is_let_go out.new) }
 {
-    let played = match play_bytes(alloc, bytes, err) {
+    write_trace(trace, out)?;
+    out.let_go()
+}
+
+/// Reads a script's bytes, plays them, and writes their trace.
+fn trace_bytes<W: Output>(alloc: Global, bytes: &[u8], out: &mut W) -> Result<u8, Failure>
+    ensures ends { IfOk result (λ status. (status ≡ 0) × Written trace (W.contents out.old) (W.contents out.new) bytes.now) }
+    ensures let_go { OnOk result (W.is_let_go out.new) }
+    ensures fails { IfErr result (Fails trace bytes.now (W.contents out.old) (W.contents out.new)) }
+{
+    let played = match play_bytes(alloc, bytes) {
         Ok(played) => played,
-        Err(status) => return status,
+        Err(fault) => return Err(Failure::Script(fault)),
     };
     match write_out(&played.trace, out) {
-        Ok(()) => 0,
-        Err(_) => tell(err, &[CANNOT_WRITE]),
+        Ok(()) => Ok(0),
+        Err(_) => Err(Failure::CannotWrite),
     }
 }
 
 /// Writes a table, and lets go of what the writer kept back.
-fn write_table_out<W: Write>(
+fn write_table_out<W: Output>(
     script: &Script,
     trace: &Trace,
     machine: &Machine,
@@ -113,179 +114,190 @@ fn write_table_out<W: Write>(
 ) -> io::Result<()>
     requires threads { machine.now.layout.threads ≡ length script.now.threads }
     requires mutexes { machine.now.layout.mutexes ≡ length script.now.mutexes }
-    ensures { Leaves (W.contents out.old) (W.contents out.new) result (table_text script.now (state_of machine.now) trace.now.notes.items) }
+    ensures text { Leaves (W.contents out.old) (W.contents out.new) result (table_text script.now (state_of machine.now) trace.now.notes.items) }
+    ensures let_go { OnOk result (W.is_let_go out.new) }
 {
     write_table(script, trace, machine, out)?;
-    out.flush()
+    out.let_go()
 }
 
 /// Reads a script's bytes, plays them, and writes how they left its threads and mutexes.
-fn table_bytes<W: Write, E: Write>(alloc: Global, bytes: &[u8], out: &mut W, err: &mut E) -> u8
-    ensures done { result ≡ 0 → Written table (W.contents out.old) (W.contents out.new) bytes.now }
-    ensures front { WritesFront table (W.contents out.old) (W.contents out.new) bytes.now }
-    ensures short { (length bytes.now ≤ max_bytes) ⊎ ((W.contents out.new ≡ W.contents out.old) × (result ≡ 1)) }
-    ensures last { result ≤ 1 }
+fn table_bytes<W: Output>(alloc: Global, bytes: &[u8], out: &mut W) -> Result<u8, Failure>
+    ensures ends { IfOk result (λ status. (status ≡ 0) × Written table (W.contents out.old) (W.contents out.new) bytes.now) }
+    ensures let_go { OnOk result (W.is_let_go out.new) }
+    ensures fails { IfErr result (Fails table bytes.now (W.contents out.old) (W.contents out.new)) }
 {
     let Played {
         script,
         trace,
         machine,
-    } = match play_bytes(alloc, bytes, err) {
+    } = match play_bytes(alloc, bytes) {
         Ok(played) => played,
-        Err(status) => return status,
+        Err(refused) => return Err(Failure::Script(refused)),
     };
     match write_table_out(&script, &trace, &machine, out) {
-        Ok(()) => 0,
-        Err(_unwritten) => tell(err, &[CANNOT_WRITE]),
+        Ok(()) => Ok(0),
+        Err(_unwritten) => Err(Failure::CannotWrite),
     }
 }
 
 /// Writes what the threads were answered, and lets go of what the writer kept back.
-fn write_told<W: Write>(
+fn write_told<W: Output>(
     threads: &[ThreadReplies<'_>],
     mutexes: &[MutexWord<'_>],
     out: &mut W,
 ) -> io::Result<()>
-    ensures { Leaves (W.contents out.old) (W.contents out.new) result (replies_text threads.now mutexes.now) }
+    ensures text { Leaves (W.contents out.old) (W.contents out.new) result (replies_text threads.now mutexes.now) }
+    ensures let_go { OnOk result (W.is_let_go out.new) }
 {
     write_replies(threads, mutexes, out)?;
-    out.flush()
+    out.let_go()
 }
 
 /// Writes what a script's threads were answered, by their names. All memory is asked for before the first byte.
-fn tell_answers<W: Write, E: Write>(
+fn tell_answers<W: Output>(
     alloc: Global,
     script: &Script,
     answers: &Answers,
     out: &mut W,
-    err: &mut E,
-) -> u8
+) -> Result<u8, Failure>
     requires replies { length answers.now.replies.items ≡ length script.now.threads }
     requires cells { length answers.now.cells.items ≡ length script.now.mutexes }
-    ensures done { result ≡ 0 → Tells (W.contents out.old) (W.contents out.new) script.now answers.now }
-    ensures front { (W.contents out.new ≡ W.contents out.old) ⊎ TellsFront (W.contents out.old) (W.contents out.new) script.now answers.now }
-    ensures last { result ≤ 1 }
+    ensures ends { IfOk result (λ status. (status ≡ 0) × Tells (W.contents out.old) (W.contents out.new) script.now answers.now) }
+    ensures let_go { OnOk result (W.is_let_go out.new) }
+    ensures fails { IfErr result (FailsTelling script.now answers.now (W.contents out.old) (W.contents out.new)) }
 {
     let Ok(threads) = thread_replies(alloc, script, answers) else {
-        return tell(err, &[OUT_OF_MEMORY]);
+        return Err(Failure::OutOfMemory);
     };
     let Ok(mutexes) = mutex_words(alloc, script, answers) else {
-        return tell(err, &[OUT_OF_MEMORY]);
+        return Err(Failure::OutOfMemory);
     };
     match write_told(&threads, &mutexes, out) {
-        Ok(()) => 0,
-        Err(_failed) => tell(err, &[CANNOT_WRITE]),
+        Ok(()) => Ok(0),
+        Err(_failed) => Err(Failure::CannotWrite),
     }
 }
 
 /// Reads a script's bytes, lets real threads make its calls, and writes what they were answered.
-fn thread_bytes<T: Threads + Wait + Sync, W: Write, E: Write>(
+fn thread_bytes<T: Threads + Wait + Sync, W: Output>(
     rt: &T,
     alloc: Global,
     bytes: &[u8],
     out: &mut W,
-    err: &mut E,
-) -> u8
-    ensures done { result ≡ 0 → Written replies (W.contents out.old) (W.contents out.new) bytes.now }
-    ensures front { WritesFront replies (W.contents out.old) (W.contents out.new) bytes.now }
-    ensures short { (length bytes.now ≤ max_bytes) ⊎ ((W.contents out.new ≡ W.contents out.old) × (result ≡ 1)) }
-    ensures last { result ≤ 1 }
+) -> Result<u8, Failure>
+    ensures ends { IfOk result (λ status. (status ≡ 0) × Written replies (W.contents out.old) (W.contents out.new) bytes.now) }
+    ensures let_go { OnOk result (W.is_let_go out.new) }
+    ensures fails { IfErr result (Fails replies bytes.now (W.contents out.old) (W.contents out.new)) }
 {
     let script = match parse(alloc, bytes, Mode::Threads) {
         Ok(script) => script,
-        Err(fault) => return tell_fault(err, &fault),
+        Err(unread) => return Err(Failure::Script(unread)),
     };
     let jobs = match jobs(alloc, &script) {
         Ok(jobs) => jobs,
-        Err(fault) => return tell_fault(err, &fault),
+        Err(wanted) => return Err(Failure::Script(wanted)),
     };
     match answers_of(rt, alloc, &script, jobs) {
-        Ok(answers) => tell_answers(alloc, &script, &answers, out, err),
-        Err(_) => tell(err, &[OUT_OF_MEMORY]),
+        Ok(answers) => tell_answers(alloc, &script, &answers, out),
+        Err(_) => Err(Failure::OutOfMemory),
     }
 }
 
 /// `rfx run FILE`.
-fn serve_trace<R: Read, W: Write, E: Write>(
-    alloc: Global,
-    file: &str,
-    input: &mut R,
-    out: &mut W,
-    err: &mut E,
-) -> u8
-    ensures done { result ≡ 0 → Served trace (R.remaining input.old) (R.remaining input.new) (W.contents out.old) (W.contents out.new) }
-    ensures front { ServedFront trace (R.remaining input.old) (R.remaining input.new) (W.contents out.old) (W.contents out.new) }
-    ensures last { result ≤ 1 }
+fn serve_trace<R: Read, W: Output>(alloc: Global, input: &mut R, out: &mut W) -> Result<u8, Failure>
+    ensures ends { IfOk result (λ status. (status ≡ 0) × Served trace (R.remaining input.old) (R.remaining input.new) (W.contents out.old) (W.contents out.new)) }
+    ensures let_go { OnOk result (W.is_let_go out.new) }
+    ensures fails { IfErr result (FailsAt max_bytes (λ bytes f. Fails trace bytes (W.contents out.old) (W.contents out.new) f) (R.remaining input.old) (R.remaining input.new) (W.contents out.old) (W.contents out.new)) }
     ensures limit { TakesAtMost (max_bytes + 1) (R.remaining input.old) (R.remaining input.new) }
 {
-    match read_file(alloc, file, MAX_BYTES, input, err) {
-        Ok(bytes) => trace_bytes(alloc, &bytes, out, err),
-        Err(status) => status,
+    match read_file(alloc, MAX_BYTES, input) {
+        Ok(bytes) => trace_bytes(alloc, &bytes, out),
+        Err(failure) => Err(failure),
     }
 }
 
 /// `rfx run --table FILE`.
-fn serve_table<R: Read, W: Write, E: Write>(
-    alloc: Global,
-    file: &str,
-    input: &mut R,
-    out: &mut W,
-    err: &mut E,
-) -> u8
-    ensures done { result ≡ 0 → Served table (R.remaining input.old) (R.remaining input.new) (W.contents out.old) (W.contents out.new) }
-    ensures front { ServedFront table (R.remaining input.old) (R.remaining input.new) (W.contents out.old) (W.contents out.new) }
-    ensures last { result ≤ 1 }
+fn serve_table<R: Read, W: Output>(alloc: Global, input: &mut R, out: &mut W) -> Result<u8, Failure>
+    ensures ends { IfOk result (λ status. (status ≡ 0) × Served table (R.remaining input.old) (R.remaining input.new) (W.contents out.old) (W.contents out.new)) }
+    ensures let_go { OnOk result (W.is_let_go out.new) }
+    ensures fails { IfErr result (FailsAt max_bytes (λ bytes f. Fails table bytes (W.contents out.old) (W.contents out.new) f) (R.remaining input.old) (R.remaining input.new) (W.contents out.old) (W.contents out.new)) }
     ensures limit { TakesAtMost (max_bytes + 1) (R.remaining input.old) (R.remaining input.new) }
 {
-    match read_file(alloc, file, MAX_BYTES, input, err) {
-        Ok(bytes) => table_bytes(alloc, &bytes, out, err),
-        Err(status) => status,
+    match read_file(alloc, MAX_BYTES, input) {
+        Ok(bytes) => table_bytes(alloc, &bytes, out),
+        Err(failure) => Err(failure),
     }
 }
 
 /// `rfx threads FILE`.
-fn serve_threads<T: Threads + Wait + Sync, R: Read, W: Write, E: Write>(
+fn serve_threads<T: Threads + Wait + Sync, R: Read, W: Output>(
     rt: &T,
     alloc: Global,
-    file: &str,
     input: &mut R,
     out: &mut W,
-    err: &mut E,
-) -> u8
-    ensures done { result ≡ 0 → Served replies (R.remaining input.old) (R.remaining input.new) (W.contents out.old) (W.contents out.new) }
-    ensures front { ServedFront replies (R.remaining input.old) (R.remaining input.new) (W.contents out.old) (W.contents out.new) }
-    ensures last { result ≤ 1 }
+) -> Result<u8, Failure>
+    ensures ends { IfOk result (λ status. (status ≡ 0) × Served replies (R.remaining input.old) (R.remaining input.new) (W.contents out.old) (W.contents out.new)) }
+    ensures let_go { OnOk result (W.is_let_go out.new) }
+    ensures fails { IfErr result (FailsAt max_bytes (λ bytes f. Fails replies bytes (W.contents out.old) (W.contents out.new) f) (R.remaining input.old) (R.remaining input.new) (W.contents out.old) (W.contents out.new)) }
     ensures limit { TakesAtMost (max_bytes + 1) (R.remaining input.old) (R.remaining input.new) }
 {
-    match read_file(alloc, file, MAX_BYTES, input, err) {
-        Ok(bytes) => thread_bytes(rt, alloc, &bytes, out, err),
-        Err(status) => status,
+    match read_file(alloc, MAX_BYTES, input) {
+        Ok(bytes) => thread_bytes(rt, alloc, &bytes, out),
+        Err(failure) => Err(failure),
     }
 }
 
 /// `rfx check FILE`.
-fn serve_check<R: Read, W: Write, E: Write>(
-    alloc: Global,
-    file: &str,
-    input: &mut R,
-    out: &mut W,
-    err: &mut E,
-) -> u8
-    ensures done { result ≡ 0 → Checked (R.remaining input.old) (R.remaining input.new) (W.contents out.old) (W.contents out.new) }
-    ensures front { CheckedFront (R.remaining input.old) (R.remaining input.new) (W.contents out.old) (W.contents out.new) }
-    ensures last { result ≤ 1 }
+fn serve_check<R: Read, W: Output>(alloc: Global, input: &mut R, out: &mut W) -> Result<u8, Failure>
+    ensures ends { IfOk result (Judged (R.remaining input.old) (R.remaining input.new) (W.contents out.old) (W.contents out.new)) }
+    ensures let_go { OnOk result (W.is_let_go out.new) }
+    ensures fails { IfErr result (FailsAt traces.max_bytes (λ bytes f. FailsTrace bytes (W.contents out.old) (W.contents out.new) f) (R.remaining input.old) (R.remaining input.new) (W.contents out.old) (W.contents out.new)) }
     ensures limit { TakesAtMost (traces.max_bytes + 1) (R.remaining input.old) (R.remaining input.new) }
 {
-    match read_file(alloc, file, verdict::MAX_BYTES, input, err) {
-        Ok(bytes) => judge_bytes(alloc, &bytes, out, err),
-        Err(status) => status,
+    match read_file(alloc, verdict::MAX_BYTES, input) {
+        Ok(bytes) => judge_bytes(alloc, &bytes, out),
+        Err(failure) => Err(failure),
+    }
+}
+
+/// What a form writes, and the exit status then; or why it isn't written, or not all.
+fn serve_form<T: Threads + Wait + Sync, R: Read, W: Output>(
+    rt: &T,
+    alloc: Global,
+    form: &Form<'_>,
+    input: &mut R,
+    out: &mut W,
+) -> Result<u8, Failure>
+    ensures ends { IfOk result (EndsAs form.now (R.remaining input.old) (R.remaining input.new) (W.contents out.old) (W.contents out.new)) }
+    ensures let_go { OnOk result (W.is_let_go out.new) }
+    ensures fails { IfErr result (FailsAs form.now (R.remaining input.old) (R.remaining input.new) (W.contents out.old) (W.contents out.new)) }
+    ensures limit { TakesAtMost (bytes_at_most form.now) (R.remaining input.old) (R.remaining input.new) }
+{
+    match form {
+        Form::Run(_) => serve_trace(alloc, input, out),
+        Form::Table(_) => serve_table(alloc, input, out),
+        Form::Threads(_) => serve_threads(rt, alloc, input, out),
+        Form::Check(_) => serve_check(alloc, input, out),
+        Form::Usage => Err(Failure::Usage),
+    }
+}
+
+/// The file that a form names; the usage names none.
+fn file_named<'a>(form: &Form<'a>) -> &'a str
+    ensures { result.now ≡ file_of form.now }
+{
+    match form {
+        Form::Run(file) | Form::Table(file) | Form::Threads(file) | Form::Check(file) => file,
+        Form::Usage => "",
     }
 }
 
 /// What `rfx` does for a form of its command line, the file being open as `input`. It answers the exit status: 0 where all of the reader was a script and what it means is written, the
 /// trace or the table of a run, or the replies of real threads, or where it was a legal trace and that is written; 1 for an illegal trace, and for a fault, told on `err`; 2 where the command
-/// line has no form. Where a fault is met before the output begins, nothing is written. It reads at most one byte more than a script or a trace may have.
-pub fn serve<T: Threads + Wait + Sync, R: Read, W: Write, E: Write>(
+/// line has no form. Where a fault is met before the output begins, nothing is written. Where all was written, the writer has let go of it, and nothing is told on `err`; so it is for an illegal
+/// trace too. It reads at most one byte more than a script or a trace may have.
+pub fn serve<T: Threads + Wait + Sync, R: Read, W: Output, E: Write>(
     rt: &T,
     alloc: Global,
     form: &Form<'_>,
@@ -298,15 +310,15 @@ pub fn serve<T: Threads + Wait + Sync, R: Read, W: Write, E: Write>(
     ensures usage { (result ≡ 2) ↔ (form.now ≡ Usage) }
     ensures last { result ≤ 2 }
     ensures limit { TakesAtMost (bytes_at_most form.now) (R.remaining input.old) (R.remaining input.new) }
+    ensures quiet { result ≡ 0 → err.new ≡ err.old }
+    ensures let_go { result ≡ 0 → W.is_let_go out.new }
+    ensures told { Ends form.now (R.remaining input.old) (R.remaining input.new) (W.contents out.old) (W.contents out.new) (W.is_let_go out.new) (err.new ≡ err.old) (E.contents err.old) (E.contents err.new) result }
 {
-    match form {
-        Form::Run(file) => serve_trace(alloc, file, input, out, err),
-        Form::Table(file) => serve_table(alloc, file, input, out, err),
-        Form::Threads(file) => serve_threads(rt, alloc, file, input, out, err),
-        Form::Check(file) => serve_check(alloc, file, input, out, err),
-        Form::Usage => {
-            tell(err, &[USAGE]);
-            2
+    match serve_form(rt, alloc, form, input, out) {
+        Ok(status) => status,
+        Err(failure) => {
+            tell(err, file_named(form), failure);
+            status_after(failure)
         }
     }
 }

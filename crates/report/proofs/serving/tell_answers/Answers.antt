@@ -1,11 +1,9 @@
-use Rattle.std.proofs.Common.{inr, sym, subst}
-use Rattle.texts.specs.Replies.{replies_text}
+use Rattle.std.proofs.Common.{refl, sym, subst}
 use Rattle.report.specs.Served.{AreLines}
-use Rattle.texts.proofs.Writers.{whole_is_front}
 use Rattle.report.proofs.serving.tell_answers.Goals as goal
 
-pub returns-in-Ok-write_told-clause-front : goal.returns-in-Ok-write_told-clause-front
-returns-in-Ok-write_told-clause-front g c =
+pub returns-in-Ok-write_told-clause-ends : goal.returns-in-Ok-write_told-clause-ends
+returns-in-Ok-write_told-clause-ends g c =
     let threads = c.deref.result.now in
     let mutexes = c.deref-2.result.now in
     let script = c.args.script.now in
@@ -16,10 +14,12 @@ returns-in-Ok-write_told-clause-front g c =
       alive = c.in-Ok.ensures.alive;
       mutex_names = c.in-Ok-mutex_words.ensures.names;
       cells = c.in-Ok-mutex_words.ensures.cells;
-    } in
-    inr (
-      threads,
-      mutexes,
-      subst (λ ts. AreLines script answers ts mutexes) (sym c.deref.ensures.value) (subst (λ ms. AreLines script answers c.in-Ok.threads.items ms) (sym c.deref-2.ensures.value) lines),
-      whole_is_front _ _ (replies_text threads mutexes) c.in-Ok-write_told.ensures,
+    } in (
+      refl,
+      (
+        threads,
+        mutexes,
+        subst (λ ts. AreLines script answers ts mutexes) (sym c.deref.ensures.value) (subst (λ ms. AreLines script answers c.in-Ok.threads.items ms) (sym c.deref-2.ensures.value) lines),
+        c.in-Ok-write_told.ensures.text,
+      ),
     )

@@ -1,9 +1,8 @@
-use Rattle.texts.specs.Text.{trace_text}
-use Rattle.texts.proofs.Writers.{whole_is_front}
-use Rattle.report.proofs.Servings.{written_front}
+use Rattle.std.proofs.Common.{refl}
+use Rattle.report.proofs.Servings.{written}
 use Rattle.report.proofs.serving.trace_bytes.Goals as goal
 
-pub returns-in-Ok-write_out-clause-front : goal.returns-in-Ok-write_out-clause-front
-returns-in-Ok-write_out-clause-front g c =
+pub returns-in-Ok-write_out-clause-ends : goal.returns-in-Ok-write_out-clause-ends
+returns-in-Ok-write_out-clause-ends g c =
     let p = c.in-Ok.played in
-    written_front _ _ c.args.bytes.now p.script p.trace p.machine c.in-Ok.ensures.reads c.in-Ok.ensures.plays (whole_is_front _ _ (trace_text p.trace) c.in-Ok-write_out.ensures)
+    (refl, written _ _ c.args.bytes.now p.script p.trace p.machine c.in-Ok.ensures.reads c.in-Ok.ensures.plays c.in-Ok-write_out.ensures.text)

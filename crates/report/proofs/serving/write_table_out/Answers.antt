@@ -3,5 +3,5 @@ use Rattle.texts.specs.Tables.{table_text}
 use Rattle.texts.proofs.Writers.{kept_leaves}
 use Rattle.report.proofs.serving.write_table_out.Goals as goal
 
-pub returns : goal.returns
-returns g c = kept_leaves _ _ _ c.flush.result (table_text c.args.script.now (state_of c.args.machine.now) c.args.trace.now.notes.items) c.in_ok-write_table.ensures c.flush.ensures.bytes
+pub returns-clause-text : goal.returns-clause-text
+returns-clause-text g c = kept_leaves _ _ _ c.let_go.result (table_text c.args.script.now (state_of c.args.machine.now) c.args.trace.now.notes.items) c.in_ok-write_table.ensures c.let_go.ensures.kept
