@@ -215,15 +215,33 @@ fn memory(rt: HostRuntime) {
     assert!(rt; is_printed_or_wants_memory(status, &out, &err, ROW_TEXT));
 }
 
-#[test]
-fn bytes_that_are_kept_back_are_told(rt: HostRuntime) {
-    let mut input = slow_reader(ROW.as_bytes(), false);
+/// A file for each form, which is served in full where the writer lets go of it.
+static SERVED: [(Form<'static>, &str); 5] = [
+    (Form::Run("f"), ROW),
+    (Form::Table("f"), ROW),
+    (Form::Threads("f"), ROW),
+    (Form::Check("f"), "trace 1 1 0\nend 0\n"),
+    (Form::Check("f"), "trace 1 1 0\n1 return t1 OK\nend 1\n"),
+];
+
+/// Whether a writer that keeps its bytes back is told as one that can't be written.
+fn is_told_as_kept_back(
+    rt: &(impl AllocGlobal + Threads + Wait + Sync),
+    form: &Form<'_>,
+    file: &str,
+) -> bool {
+    let mut input = file.as_bytes();
     let mut out = Stuck {
         held: Vec::new(rt.alloc()),
     };
     let mut err = Vec::new(rt.alloc());
-    let form = Form::Run("f");
-    let status = serve(&rt, rt.alloc(), &form, &mut input, &mut out, &mut err);
-    assert!(rt; status == 1);
-    assert!(rt; err.as_slice() == CANNOT_WRITE.as_bytes());
+    let status = serve(rt, rt.alloc(), form, &mut input, &mut out, &mut err);
+    status == 1 && !out.held.is_empty() && err.as_slice() == CANNOT_WRITE.as_bytes()
+}
+
+#[test]
+fn bytes_that_are_kept_back_are_told(rt: HostRuntime) {
+    for (form, file) in &SERVED {
+        assert!(rt; is_told_as_kept_back(&rt, form, *file));
+    }
 }

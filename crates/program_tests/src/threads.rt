@@ -66,6 +66,21 @@ fn many_mutexes_are_told(rt: HostRuntime) {
     assert!(rt; threads(&rt, script).is(0, text, ""));
 }
 
+/// Each of five threads owns a mutex, the last two find others owned, and the third lets go of its own.
+const MANY: &str = "thread a\nthread b\nthread c\nthread d\nthread e\nmutexes m 5\n\
+    call e lock m4\ncall d lock m3\ncall c lock m2\ncall b lock m1\ncall a lock m0\nphase\n\
+    call d trylock m0\ncall e trylock m1\ncall c unlock m2\n";
+
+const MANY_TEXT: &str = "replies a OK\nreplies b OK\nreplies c OK OK\n\
+    replies d OK EBUSY\nreplies e OK EBUSY\nmutex m0 0000000000000001 a -\n\
+    mutex m1 0000000000000002 b -\nmutex m2 0000000000000000 - -\n\
+    mutex m3 0000000000000004 d -\nmutex m4 0000000000000005 e -\n";
+
+#[test]
+fn many_threads_are_told(rt: HostRuntime) {
+    assert!(rt; threads(&rt, MANY).is(0, MANY_TEXT, ""));
+}
+
 /// Scripts that are refused, and what is told of them.
 static REFUSED: [(&str, &str); 3] = [
     (
@@ -109,13 +124,28 @@ fn a_writer_without_room_is_told(rt: HostRuntime) {
     }
 }
 
-/// Passes too where any one allocation fails: nothing is printed then, and want of memory is told.
-#[test]
-fn memory(rt: HostRuntime) {
+/// Whether a script's replies are told, or want of memory for them.
+fn is_told_or_wants_memory(
+    rt: &(impl AllocGlobal + Threads + Wait + Sync),
+    script: &str,
+    text: &str,
+) -> bool {
     let mut out = Fixed::new();
     let mut err = Fixed::new();
     let form = Form::Threads("f");
-    let mut input = PHASES.as_bytes();
-    let status = serve(&rt, rt.alloc(), &form, &mut input, &mut out, &mut err);
-    assert!(rt; is_printed_or_wants_memory(status, &out, &err, PHASES_TEXT));
+    let mut input = script.as_bytes();
+    let status = serve(rt, rt.alloc(), &form, &mut input, &mut out, &mut err);
+    is_printed_or_wants_memory(status, &out, &err, text)
+}
+
+/// Passes too where any one allocation fails: nothing is printed then, and want of memory is told.
+#[test]
+fn memory(rt: HostRuntime) {
+    assert!(rt; is_told_or_wants_memory(&rt, PHASES, PHASES_TEXT));
+}
+
+/// Passes too where any one allocation fails: the same for five threads.
+#[test]
+fn memory_for_many_threads(rt: HostRuntime) {
+    assert!(rt; is_told_or_wants_memory(&rt, MANY, MANY_TEXT));
 }
