@@ -29,16 +29,15 @@ use Rattle.protocol.specs.declared.thread.Thread.{Thread}
 use Rattle.protocol.specs.declared.thread.Stage.{Stage}
 use Rattle.protocol.specs.declared.thread.Stage.TheVariants.{Idle, Calling, Dying, Reaped}
 use Rattle.protocol.specs.Notes.{facts_of, return_facts, reap_facts}
-use Rattle.protocol.specs.Machine.{State, After, put, start, answer_of, places_of, sleeps, is_thread, is_idle, is_alive, may_begin, begun, nothing, decision, slept_on, woken, held_after, stage_after, returned, went, has_ended, death_at, stage_walked, walked, killed, stepped, happens, run, notes}
+use Rattle.protocol.specs.Machine.{State, After, put, start, answer_of, is_thread, is_idle, is_alive, may_begin, begun, nothing, decision, slept_on, woken, held_after, stage_after, returned, went, has_ended, death_at, stage_walked, walked, killed, stepped, happens, run, notes}
 use Rattle.protocol.specs.Machine.{told_of as told_of_death}
 use Rattle.protocol.specs.Headline.{facts_among}
 use Rattle.protocol.specs.Applies.{Told, AtRest, InCall, Dead, Gone, told_next, told_after, last_told, IsLiving, HasAccess, IsThread, IsInNoQueue, Applies, refusal, IsAccessOf, IsNotedAs, NextApplies, EventsApply}
 use Rattle.protocol.proofs.Puts.{by_put}
 use Rattle.protocol.proofs.Kept.{Kept}
 use Rattle.protocol.proofs.Runs.{start_kept, run_kept, run_layout}
-use Rattle.protocol.proofs.Events.{at_rest, second_true, by_event}
-use Rattle.protocol.proofs.Queues.{stands_none}
-use Rattle.protocol.proofs.Queued.{Queued, in_none}
+use Rattle.protocol.proofs.Events.{at_rest, second_true, by_event, IsWorking, by_stage}
+use Rattle.protocol.proofs.Queued.{Queued, in_none, out_awake}
 use Rattle.protocol.proofs.QueueRuns.{run_queued}
 
 -- ---- what the trace told of a thread is where it stands
@@ -170,28 +169,24 @@ went_agrees s u t held c p o w is a =
     subst (λ (x : Told). Agrees x ((went s u held c p o).state.threads t).stage) (sym (told_stepped t w u (decision u c o.point) (slept_on s u c (whole_access p)) (woken s u (whole_access p)) (returned o.phase)))
     (returned_agrees s u t (held_after held (operation_of c) o.point) c p w is a o.phase)
 
-stepped_agrees : (s : State) (u t : ℕ) (w : Told) → Agrees w (s.threads t).stage → (g : Stage) → (s.threads u).stage ≡ g
-    → Agrees (told_after t w (facts_of (stepped s u (s.threads u).held g).note)) ((stepped s u (s.threads u).held g).state.threads t).stage
-stepped_agrees s u t w a Idle is = a
-stepped_agrees s u t w a Reaped is = a
-stepped_agrees s u t w a (Dying v) is =
+on_a_walk_agrees : (s : State) (u t : ℕ) (w : Told) → Agrees w (s.threads t).stage → (v : walks.Standing) → (s.threads u).stage ≡ Dying v
+    → Agrees (told_after t w (facts_of (walked s u (s.threads u).held v).note)) ((walked s u (s.threads u).held v).state.threads t).stage
+on_a_walk_agrees s u t w a v is =
     let answer = answer_of s u (exit.access_of v) in
     let death = death_at s.layout (exit.point_of v.thread v.row answer) in
     let r = exit.row_after v.thread v.head v.row answer in
     subst (λ (x : Told). Agrees x ((walked s u (s.threads u).held v).state.threads t).stage) (sym (told_walked t w u death (woken s u (exit.access_of v)) (has_ended r)))
     (walked_agrees s u t (held_after (s.threads u).held operation.Death (told_of_death death)) v w is a r)
-stepped_agrees s u t w a (Calling c p) is = go (sleeps s u (Calling c p))
-  where
-    go : (b : Bool) → Agrees (told_after t w (facts_of (if b then nothing s else went s u (s.threads u).held c p (whole_led p (answer_of s u (whole_access p)))).note)) ((if b then nothing s else went s u (s.threads u).held c p (whole_led p (answer_of s u (whole_access p)))).state.threads t).stage
-    go true = a
-    go false = went_agrees s u t (s.threads u).held c p (whole_led p (answer_of s u (whole_access p))) w is a
 
 next_agrees : (s : State) (e : Event) (t : ℕ) (w : Told) → Agrees w (s.threads t).stage → Agrees (told_after t w (facts_of (happens s e).note)) ((happens s e).state.threads t).stage
 next_agrees s e t w a =
     by_event s (λ (x : Event) (z : After). Agrees (told_after t w (facts_of z.note)) (z.state.threads t).stage)
     (λ x. a)
     (λ u c pos known inside idle b full. begun_agrees s u t c w idle a b)
-    (λ u pos known. stepped_agrees s u t w a (s.threads u).stage refl)
+    (λ u pos known.
+    by_stage s u (λ (z : After). Agrees (told_after t w (facts_of z.note)) (z.state.threads t).stage) (λ rests. a)
+    (λ c p is awake. went_agrees s u t (s.threads u).held c p (whole_led p (answer_of s u (whole_access p))) w is a)
+    (λ v is awake. on_a_walk_agrees s u t w a v is))
     (λ u pos known alive. moved s u t w Dead _ a tt)
     e
 
@@ -245,35 +240,32 @@ module _ (s : State) (ns : List Note) (inv : Kept s) (queued : Queued s) (agrees
       go false e = refl
 
   -- ---- steps
-  step_noted : (t : ℕ) (w : Told) → HasAccess w → IsInNoQueue s t → (g : Stage) → Agrees w g → IsAccessOf t (stepped s t (s.threads t).held g).note
-  step_noted t AtRest has out g a = absurd has
-  step_noted t Gone has out g a = absurd has
-  step_noted t InCall has out (Calling c p) a =
-      subst (λ (b : Bool). IsAccessOf t (if b then nothing s else went s t (s.threads t).held c p (whole_led p (answer_of s t (whole_access p)))).note) (sym (stands_none t s.queues (places_of s.layout (Calling c p)) out)) refl
-  step_noted t InCall has out g a = absurd a
-  step_noted t Dead has out (Dying v) a = refl
-  step_noted t Dead has out g a = absurd a
+  works : (w : Told) (g : Stage) → HasAccess w → Agrees w g → IsWorking g
+  works InCall (Calling c p) has a = tt
+  works Dead (Dying v) has a = tt
+  works InCall g has a = absurd a
+  works Dead g has a = absurd a
+  works w g has a = absurd has
+
+  step_noted : (t : ℕ) → HasAccess (last_told t ns) → IsInNoQueue s t → IsAccessOf t (stepped s t (s.threads t).held (s.threads t).stage).note
+  step_noted t has out = by_stage s t (λ (a : After). IsAccessOf t a.note) (λ rests. absurd (rests (out_awake s t out) (works (last_told t ns) (s.threads t).stage has (agrees t)))) (λ c p is awake. refl) (λ v is awake. refl)
 
   steps_so : (t : ℕ) → Applies s.layout s ns (event.Step t) → IsAccessOf t (happens s (event.Step t)).note
   steps_so t on =
       subst (λ (b : Bool). IsAccessOf t (if b then stepped s t (s.threads t).held (s.threads t).stage else nothing s).note) (sym (known t on.0))
-      (step_noted t (last_told t ns) on.1 on.2 (s.threads t).stage (agrees t))
+      (step_noted t on.1 on.2)
 
-  step_else : (t : ℕ) → IsThread s.layout t → ¬ Applies s.layout s ns (event.Step t) → (g : Stage) → (s.threads t).stage ≡ g → stepped s t (s.threads t).held g ≡ nothing s
-  step_else t range never Idle is = refl
-  step_else t range never Reaped is = refl
-  step_else t range never (Dying v) is = absurd (never (range, walks_has (last_told t ns) v (subst (Agrees (last_told t ns)) is (agrees t)), in_none s t queued (ap (sleeps s t) is)))
-  step_else t range never (Calling c p) is = go (sleeps s t (Calling c p)) refl
-    where
-      go : (b : Bool) → sleeps s t (Calling c p) ≡ b → (if b then nothing s else went s t (s.threads t).held c p (whole_led p (answer_of s t (whole_access p)))) ≡ nothing s
-      go true e = refl
-      go false e = absurd (never (range, calls_has (last_told t ns) c p (subst (Agrees (last_told t ns)) is (agrees t)), in_none s t queued (ap (sleeps s t) is ∙ e)))
+  step_else : (t : ℕ) → IsThread s.layout t → ¬ Applies s.layout s ns (event.Step t) → stepped s t (s.threads t).held (s.threads t).stage ≡ nothing s
+  step_else t range never =
+      by_stage s t (λ (a : After). a ≡ nothing s) (λ rests. refl)
+      (λ c p is awake. absurd (never (range, calls_has (last_told t ns) c p (subst (Agrees (last_told t ns)) is (agrees t)), in_none s t queued awake)))
+      (λ v is awake. absurd (never (range, walks_has (last_told t ns) v (subst (Agrees (last_told t ns)) is (agrees t)), in_none s t queued awake)))
 
   steps_else : (t : ℕ) → ¬ Applies s.layout s ns (event.Step t) → happens s (event.Step t) ≡ nothing s
   steps_else t never = go (is_thread s t) refl
     where
       go : (b : Bool) → is_thread s t ≡ b → (if b then stepped s t (s.threads t).held (s.threads t).stage else nothing s) ≡ nothing s
-      go true e = step_else t (in_range t e) never (s.threads t).stage refl
+      go true e = step_else t (in_range t e) never
       go false e = refl
 
   -- ---- kills

@@ -18,7 +18,7 @@ use Rattle.protocol.proofs.Steps.{Tells, after, went-is, onto, call_step}
 use Rattle.protocol.proofs.Stepping.{Stepping}
 use Rattle.protocol.proofs.CallSteps.{call_stepping}
 use Rattle.protocol.proofs.Accesses.{goes, fits_in}
-use Rattle.protocol.proofs.Events.{by_event}
+use Rattle.protocol.proofs.Events.{by_event, by_stage}
 use Rattle.protocol.proofs.Working.{walk_is}
 use Rattle.protocol.proofs.WalkSteps.{walk_of, by_walked, walk_access, row_then, death_then, walk_after, walked-is, DeathTells, WalkStep, walk_step}
 use Rattle.protocol.proofs.Reaped.{no_reaped_owns}
@@ -32,9 +32,9 @@ use Rattle.protocol.specs.declared.note.Fact.{Fact}
 use Rattle.protocol.specs.declared.note.Fact.TheVariants.{Wake, Death}
 use Rattle.protocol.specs.declared.note.Note.TheVariants.{Stepped}
 use Rattle.protocol.specs.declared.thread.Stage.{Stage}
-use Rattle.protocol.specs.declared.thread.Stage.TheVariants.{Idle, Calling, Dying, Reaped}
+use Rattle.protocol.specs.declared.thread.Stage.TheVariants.{Idle, Calling, Reaped}
 use Rattle.protocol.specs.Notes.{facts_of, sleep_facts, return_facts, death_facts, reap_facts}
-use Rattle.protocol.specs.Machine.{State, After, place_met, start, run, notes, nothing, is_alive, begun, went, sleeps, answer_of, decision, returned, woken_by, walked, has_ended, stepped, happens, killed, slept_on}
+use Rattle.protocol.specs.Machine.{State, After, place_met, start, run, notes, is_alive, begun, went, answer_of, decision, returned, woken_by, walked, has_ended, stepped, happens, killed, slept_on}
 use Rattle.protocol.specs.Headline.{seen, facts_among}
 use Rattle.protocol.specs.Deaths.{deaths, AreMourned, IsMourned, DeathsAreTold}
 use Rattle.protocol.proofs.Objects.{IsCalled, one, one-none, one-own, one-other, others}
@@ -144,21 +144,16 @@ module _ (t m : ℕ) where
                 let same : one t (seen (walk_after s u r) m) ≡ one t (seen s m) = subst (λ (i : ℕ). one t (seen (walk_after s u r) i) ≡ one t (seen s i)) at (others (seen s k) (seen (walk_after s u r) k) u t operation.Death OK tt (eqb-false u t x) tells.1) in
                 let none = abbrev_none in omega arith
 
-    step_lost : (u : ℕ) → 1 ≤ u → u ≤ s.layout.threads → (g : Stage) → (s.threads u).stage ≡ g → Lost s (stepped s u (s.threads u).held g)
-    step_lost u pos known Idle is = omega arith
-    step_lost u pos known Reaped is = omega arith
-    step_lost u pos known (Calling c p) is = go (sleeps s u (Calling c p))
-      where
-        go : (b : Bool) → Lost s (if b then nothing s else went s u (s.threads u).held c p (whole_led p (answer_of s u (whole_access p))))
-        go true = omega arith
-        go false = call_lost u pos known c p is
-    step_lost u pos known (Dying w) is =
+    step_lost : (u : ℕ) → 1 ≤ u → u ≤ s.layout.threads → Lost s (stepped s u (s.threads u).held (s.threads u).stage)
+    step_lost u pos known =
+        by_stage s u (Lost s) (λ rests. omega arith) (λ c p is awake. call_lost u pos known c p is)
+        (λ w is awake.
         let there = walk_is s u w inv pos known is in
         subst (λ (z : walks.Standing). Lost s (walked s u (s.threads u).held z)) there.1
-        (walk_lost u w.row (walk_step s u inv pos known w.row there.0.going (knows_at u w there.0) there.2))
+        (walk_lost u w.row (walk_step s u inv pos known w.row there.0.going (knows_at u w there.0) there.2)))
 
     event_lost : (e : Event) → Lost s (happens s e)
-    event_lost e = by_event s (λ (x : Event) (a : After). Lost s a) (λ x. omega arith) (λ u c pos known inside idle b full. begun_lost u c b) (λ u pos known. step_lost u pos known (s.threads u).stage refl) (λ u pos known alive. omega arith) e
+    event_lost e = by_event s (λ (x : Event) (a : After). Lost s a) (λ x. omega arith) (λ u c pos known inside idle b full. begun_lost u c b) step_lost (λ u pos known alive. omega arith) e
       where
         begun_lost : (u : ℕ) (c : Call) (b : Bool) → Lost s (begun s u c (if b then Err XHELD else Ok (begins s.layout u c)))
         begun_lost u c true = omega arith
@@ -166,22 +161,18 @@ module _ (t m : ℕ) where
 
     -- it stays dead
     event_dead : (e : Event) → is_alive ((happens s e).state.threads t).stage ≡ false
-    event_dead e = by_event s (λ (x : Event) (a : After). is_alive (a.state.threads t).stage ≡ false) (λ x. dead) (λ u c pos known inside idle b full. begun_dead u c idle b) (λ u pos known. stepped_dead u (s.threads u).stage refl)
+    event_dead e = by_event s (λ (x : Event) (a : After). is_alive (a.state.threads t).stage ≡ false) (λ x. dead) (λ u c pos known inside idle b full. begun_dead u c idle b) (λ u pos known. stepped_dead u)
         (λ u pos known alive. by_put (λ (z : Thread). is_alive z.stage ≡ false) s.threads u _ t (λ e. refl) (λ apart. dead)) e
       where
         begun_dead : (u : ℕ) (c : Call) → (s.threads u).stage ≡ Idle → (b : Bool) → is_alive ((begun s u c (if b then Err XHELD else Ok (begins s.layout u c))).state.threads t).stage ≡ false
         begun_dead u c idle true = dead
         begun_dead u c idle false = ap (λ (z : Thread). is_alive z.stage) (put-other s.threads u (record (s.threads u) { stage = Calling c (begins s.layout u c) }) t (λ e. apart_from u Idle idle refl (sym e))) ∙ dead
 
-        stepped_dead : (u : ℕ) (g : Stage) → (s.threads u).stage ≡ g → is_alive ((stepped s u (s.threads u).held g).state.threads t).stage ≡ false
-        stepped_dead u Idle is = dead
-        stepped_dead u Reaped is = dead
-        stepped_dead u (Calling c p) is = pick (sleeps s u (Calling c p))
-          where
-            pick : (b : Bool) → is_alive ((if b then nothing s else went s u (s.threads u).held c p (whole_led p (answer_of s u (whole_access p)))).state.threads t).stage ≡ false
-            pick true = dead
-            pick false = ap (λ (z : Thread). is_alive z.stage) (put-other s.threads u _ t (λ e. apart_from u (Calling c p) is refl (sym e))) ∙ dead
-        stepped_dead u (Dying w) is = by_put (λ (z : Thread). is_alive z.stage ≡ false) s.threads u _ t (λ e. by_walked (λ (g : Stage). is_alive g ≡ false) w _ (λ ended. refl) (λ going. refl)) (λ apart. dead)
+        stepped_dead : (u : ℕ) → is_alive ((stepped s u (s.threads u).held (s.threads u).stage).state.threads t).stage ≡ false
+        stepped_dead u =
+            by_stage s u (λ (a : After). is_alive (a.state.threads t).stage ≡ false) (λ rests. dead)
+            (λ c p is awake. ap (λ (z : Thread). is_alive z.stage) (put-other s.threads u _ t (λ e. apart_from u (Calling c p) is refl (sym e))) ∙ dead)
+            (λ w is awake. by_put (λ (z : Thread). is_alive z.stage ≡ false) s.threads u _ t (λ e. by_walked (λ (g : Stage). is_alive g ≡ false) w _ (λ ended. refl) (λ going. refl)) (λ apart. dead))
 
   -- ---- whole runs
 

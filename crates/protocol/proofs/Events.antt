@@ -1,17 +1,19 @@
 -- What an event does, case by case.
-use Rattle.std.proofs.Common.{◌≡◌, ℕ, ◌<◌, ◌≤◌, Bool, true, false, ◌&&◌, Ok, Err, refl, arith}
+use Rattle.std.proofs.Common.{◌≡◌, ℕ, ◌<◌, ◌≤◌, Bool, true, false, ◌&&◌, Ok, Err, refl, sym, ap, ◌∙◌, subst, arith}
 use Rattle.std.specs.Prelude.{if◌then◌else◌, nat_le}
 use Rattle.std.proofs.lemmas.Bool.Decides.{nat_tests}
 use Rattle.lockword.specs.declared.reply.Reply.TheVariants.{XHELD}
 use Rattle.keys.specs.Objects.{acquires}
 use Rattle.mutex.specs.declared.call.Call.{Call}
 use Rattle.mutex.specs.Calls.{mutex_of, operation_of}
-use Rattle.mutex.specs.Whole.{begins, whole_started}
+use Rattle.mutex.specs.Standings.{Whole}
+use Rattle.mutex.specs.Whole.{begins, whole_started, whole_access, whole_led}
+use Rattle.exitwalk.specs.Standings as walks
 use Rattle.protocol.specs.declared.event.Event.{Event}
 use Rattle.protocol.specs.declared.event.Event.TheVariants.{Begin, Step, Kill}
 use Rattle.protocol.specs.declared.thread.Stage.{Stage}
 use Rattle.protocol.specs.declared.thread.Stage.TheVariants.{Idle, Calling, Dying, Reaped}
-use Rattle.protocol.specs.Machine.{State, After, is_thread, is_idle, is_alive, killed, may_begin, begun, nothing, stepped, happens}
+use Rattle.protocol.specs.Machine.{State, After, is_thread, is_idle, is_alive, killed, may_begin, begun, nothing, answer_of, sleeps, is_asleep, went, walked, stepped, happens}
 
 pub second_true : (a b : Bool) → (a && b) ≡ true → b ≡ true
 second_true true b e = e
@@ -59,3 +61,28 @@ by_event s P none begins_so steps_so kills_so (Kill t) = go (is_thread s t && is
         let known : t ≤ s.layout.threads = grind (arith, nat_tests) in
         kills_so t pos known (second_true (is_thread s t) (is_alive (s.threads t).stage) e)
     go false e = none (Kill t)
+
+-- ---- steps
+
+-- in a call, or killed and not reaped
+abbrev pub IsWorking : Stage → Type 0
+IsWorking (Calling c p) = Unit {0}
+IsWorking (Dying w) = Unit {0}
+IsWorking g = ⊥
+
+-- what holds of a thread that rests or sleeps, where nothing happens, of each access of a call, and of each of a walk, holds of its step
+pub by_stage : (s : State) (t : ℕ) (P : After → Type 0) → ((is_asleep s t ≡ false → IsWorking (s.threads t).stage → ⊥) → P (nothing s))
+    → ((c : Call) (p : Whole) → (s.threads t).stage ≡ Calling c p → is_asleep s t ≡ false → P (went s t (s.threads t).held c p (whole_led p (answer_of s t (whole_access p)))))
+    → ((w : walks.Standing) → (s.threads t).stage ≡ Dying w → is_asleep s t ≡ false → P (walked s t (s.threads t).held w))
+    → P (stepped s t (s.threads t).held (s.threads t).stage)
+by_stage s t P none calls walks_on = go (s.threads t).stage refl
+  where
+    go : (g : Stage) → (s.threads t).stage ≡ g → P (stepped s t (s.threads t).held g)
+    go Idle is = none (λ awake working. subst IsWorking is working)
+    go Reaped is = none (λ awake working. subst IsWorking is working)
+    go (Dying w) is = walks_on w is (ap (sleeps s t) is)
+    go (Calling c p) is = pick (sleeps s t (Calling c p)) refl
+      where
+        pick : (b : Bool) → sleeps s t (Calling c p) ≡ b → P (if b then nothing s else went s t (s.threads t).held c p (whole_led p (answer_of s t (whole_access p))))
+        pick true e = none (λ awake working. cc (sym (ap (sleeps s t) is ∙ e) ∙ awake))
+        pick false e = calls c p is (ap (sleeps s t) is ∙ e)

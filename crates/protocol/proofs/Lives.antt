@@ -21,14 +21,14 @@ use Rattle.protocol.specs.declared.note.Note.{Note}
 use Rattle.protocol.specs.declared.note.Note.TheVariants.{Nothing, Began, Stepped, Killed, Walked}
 use Rattle.protocol.specs.declared.note.Line.{Line}
 use Rattle.protocol.specs.Notes.{line_of, facts_of, point_facts, sleep_facts, return_facts, death_facts, reap_facts, lines_from}
-use Rattle.protocol.specs.Machine.{State, After, start, nothing, is_alive, has_ended, stage_walked, killed, walked, begun, stage_after, returned, decision, answer_of, went, sleeps, stepped, happens, notes}
+use Rattle.protocol.specs.Machine.{State, After, start, nothing, is_alive, has_ended, stage_walked, killed, walked, begun, stage_after, returned, decision, answer_of, went, happens, notes}
 use Rattle.protocol.specs.Explained.{thread_of, is_of_call, is_wake, point_by, own, Mourned, Unburied, Tells_of, Buried, Lives, Dies, Life, Rests, Returns, Stays, Decides, is_point, Later, Each, Orderly, caller, caller_of, IsExplained, TraceIsExplained}
 use Rattle.protocol.proofs.Puts.{put-same, put-other}
 use Rattle.protocol.proofs.Phases.{decided_at}
 use Rattle.protocol.proofs.Kept.{Kept}
 use Rattle.protocol.proofs.Steps.{after, went-is, onto, call_step}
 use Rattle.protocol.proofs.CallSteps.{CallStep}
-use Rattle.protocol.proofs.Events.{by_event}
+use Rattle.protocol.proofs.Events.{by_event, by_stage}
 use Rattle.protocol.proofs.Accesses as accesses
 use Rattle.protocol.proofs.Runs.{sound, start_kept}
 use Rattle.exitwalk.specs.declared.row.Row as walk_row
@@ -348,24 +348,13 @@ walks_on s u inv pos known w is = record {
   others = λ t apart. ap (λ (z : Thread). z.stage) (put-other s.threads u _ t (λ same. apart (sym same)));
 }
 
--- a call goes on, unless it sleeps
-goes_on : (s : State) (u : ℕ) → Kept s → 1 ≤ u → u ≤ s.layout.threads → (g : Stage) → (s.threads u).stage ≡ g → Adds s u (stepped s u (s.threads u).held g)
-goes_on s u inv pos known Idle is = idles s u
-goes_on s u inv pos known Reaped is = idles s u
-goes_on s u inv pos known (Dying w) is = walks_on s u inv pos known w is
-goes_on s u inv pos known (Calling c p) is = go (sleeps s u (Calling c p))
-  where
-    go : (b : Bool) → Adds s u (if b then nothing s else went s u (s.threads u).held c p (whole_led p (answer_of s u (whole_access p))))
-    go true = idles s u
-    go false = goes s u inv pos known c p is
-
 -- each event
 adds : (s : State) (e : Event) → Kept s → Adds s (caller e) (happens s e)
 adds s e inv =
     by_event s (λ (x : Event) (a : After). Adds s (caller x) a)
     (λ x. idles s (caller x))
     (λ u c pos known inside idle b full. begins_call s u c idle b)
-    (λ u pos known. goes_on s u inv pos known (s.threads u).stage refl)
+    (λ u pos known. by_stage s u (Adds s u) (λ rests. idles s u) (λ c p is awake. goes s u inv pos known c p is) (λ w is awake. walks_on s u inv pos known w is))
     (λ u pos known alive. dies_so s u alive)
     e
 

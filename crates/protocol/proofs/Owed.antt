@@ -16,8 +16,8 @@ use Rattle.protocol.proofs.Objects.{owners}
 use Rattle.protocol.proofs.Kept.{Kept}
 use Rattle.protocol.proofs.Steps.{Tells, Transition, after, place_of, met}
 use Rattle.protocol.proofs.Stepping.{AnswersAs, left_of, Continues, Settles, Wakes_there, Answers_now, Found_free}
-use Rattle.protocol.proofs.Events.{is_known}
-use Rattle.protocol.proofs.Working.{IsWorking, Goes, awake_goes}
+use Rattle.protocol.proofs.Events.{is_known, IsWorking}
+use Rattle.protocol.proofs.Working.{Goes, awake_goes}
 use Rattle.protocol.proofs.Queues.{Turned, As_before, Falls, Woken}
 use Rattle.protocol.proofs.Queued.{Answering, Queued, out_awake, mine, turn, stood, now_asleep, this_answers, woken_one, went_queued}
 

@@ -3,17 +3,16 @@ use Rattle.std.proofs.Common.{◌≡◌, ◌⊎◌, ⊎_elim, inl, inr, ℕ, zer
 use Rattle.std.specs.Prelude.{if◌then◌else◌, replicate}
 use Rattle.lockword.specs.declared.reply.Reply.{Reply}
 use Rattle.keys.specs.declared.point.Decision.{Decision}
-use Rattle.mutex.specs.Whole.{whole_access, whole_led}
 use Rattle.protocol.specs.declared.event.Event.TheVariants.{Step}
 use Rattle.protocol.specs.declared.note.Fact.{Fact}
 use Rattle.protocol.specs.declared.note.Fact.TheVariants.{Wake, Return}
 use Rattle.protocol.specs.declared.note.Note.TheVariants.{Stepped}
-use Rattle.protocol.specs.declared.thread.Stage.{Stage}
-use Rattle.protocol.specs.declared.thread.Stage.TheVariants.{Idle, Calling, Dying, Reaped}
-use Rattle.protocol.specs.Machine.{State, After, answer_of, sleeps, is_thread, is_asleep, nothing, went, stepped, happens, run, notes}
+use Rattle.protocol.specs.declared.thread.Stage.TheVariants.{Idle}
+use Rattle.protocol.specs.Machine.{State, After, is_thread, is_asleep, nothing, stepped, happens, run, notes}
 use Rattle.protocol.specs.Headline.{facts_among}
 use Rattle.protocol.specs.Notes.{facts_of, sleep_facts, return_facts}
 use Rattle.protocol.specs.Sleepers.{IsAmong}
+use Rattle.protocol.proofs.Events.{by_stage}
 
 -- ---- a thread that is idle or asleep steps no more
 
@@ -36,13 +35,7 @@ pub idle_still : (s : State) (t : ℕ) → (s.threads t).stage ≡ Idle → IsSt
 idle_still s t is = either_way (is_thread s t) s (stepped s t (s.threads t).held (s.threads t).stage) (ap (stepped s t (s.threads t).held) is)
 
 pub asleep_still : (s : State) (t : ℕ) → is_asleep s t ≡ true → IsStill s t
-asleep_still s t e = either_way (is_thread s t) s (stepped s t (s.threads t).held (s.threads t).stage) (go (s.threads t).stage e)
-  where
-    go : (g : Stage) → sleeps s t g ≡ true → stepped s t (s.threads t).held g ≡ nothing s
-    go Idle h = refl
-    go (Dying w) h = absurd cc
-    go Reaped h = refl
-    go (Calling c p) h = ap (λ (b : Bool). if b then nothing s else went s t (s.threads t).held c p (whole_led p (answer_of s t (whole_access p)))) h
+asleep_still s t e = either_way (is_thread s t) s (stepped s t (s.threads t).held (s.threads t).stage) (by_stage s t (λ (a : After). a ≡ nothing s) (λ rests. refl) (λ c p is awake. absurd (cc (e, awake))) (λ w is awake. absurd (cc (e, awake))))
 
 -- ---- what a step tells that returns
 

@@ -21,10 +21,9 @@ use Rattle.protocol.specs.declared.note.Note.{Note}
 use Rattle.protocol.specs.declared.note.Note.TheVariants.{Stepped, Walked}
 use Rattle.protocol.specs.declared.note.Fact.{Fact}
 use Rattle.protocol.specs.declared.note.Fact.TheVariants.{Sleep, Wake, Kill}
-use Rattle.protocol.specs.declared.thread.Stage.{Stage}
-use Rattle.protocol.specs.declared.thread.Stage.TheVariants.{Idle, Calling, Dying, Reaped}
+use Rattle.protocol.specs.declared.thread.Stage.TheVariants.{Calling, Dying}
 use Rattle.protocol.specs.Notes.{facts_of, sleep_facts, return_facts, reap_facts}
-use Rattle.protocol.specs.Machine.{State, After, put, start, place_met, queue_after, woken_by, slept_on, answer_of, stands_in, sleeps, is_asleep, begun, nothing, decision, returned, went, walked, killed, stepped, happens, run, notes}
+use Rattle.protocol.specs.Machine.{State, After, put, start, place_met, queue_after, woken_by, slept_on, answer_of, stands_in, sleeps, is_asleep, begun, nothing, decision, returned, went, walked, killed, happens, run, notes}
 use Rattle.protocol.specs.Headline.{facts_among}
 use Rattle.protocol.specs.Sleepers.{IsAmong}
 use Rattle.protocol.specs.Wakings.{asleep_next, asleep_after, told_asleep, MayFollow, Alternates, FallsAsleep, LeavesQueue, TellsTurns, TellsSleepers, SleepsAreTold}
@@ -35,7 +34,7 @@ use Rattle.protocol.proofs.CallSteps.{CallStep}
 use Rattle.protocol.proofs.Accesses.{goes, fits_in}
 use Rattle.protocol.proofs.WalkSteps.{death_then, walk_after, walked-is, walk_valid}
 use Rattle.protocol.proofs.WalkStepping.{walks_awake}
-use Rattle.protocol.proofs.Events.{by_event}
+use Rattle.protocol.proofs.Events.{by_event, by_stage}
 use Rattle.protocol.proofs.Working.{walk_is}
 use Rattle.protocol.proofs.Queues.{Once, IsOut, without_gone, stands_without, woken_once, Turned, As_before, Falls, Woken, turned}
 use Rattle.protocol.proofs.Queued.{Queued, in_none}
@@ -247,16 +246,6 @@ walk_turn s u t e w inv queued kills pos known is =
     (ap (λ (b : Bool). turns t (sleep_facts u (if b then Some 0 else None)) ++ turns t (map Wake (woken_by a (s.queues (place_met s.layout u a))))) quiet ∙ sym (walk_turns t u (death_then s u w.row) _ _))
     (access_turn s u t e queued kills (in_none s u queued (ap (sleeps s u) is)) a 0 (λ on. absurd (cc (on, quiet))))))
 
-step_turn : (s : State) (u t : ℕ) (e : Event) → Kept s → Queued s → e ≢ event.Kill t → 1 ≤ u → u ≤ s.layout.threads → (g : Stage) → (s.threads u).stage ≡ g → TurnOf s t e (stepped s u (s.threads u).held g)
-step_turn s u t e inv queued kills pos known Idle is = idle_turn s t e
-step_turn s u t e inv queued kills pos known Reaped is = idle_turn s t e
-step_turn s u t e inv queued kills pos known (Dying w) is = walk_turn s u t e w inv queued kills pos known is
-step_turn s u t e inv queued kills pos known (Calling c p) is = go (sleeps s u (Calling c p)) refl
-  where
-    go : (b : Bool) → sleeps s u (Calling c p) ≡ b → TurnOf s t e (if b then nothing s else went s u (s.threads u).held c p (whole_led p (answer_of s u (whole_access p))))
-    go true asleep = idle_turn s t e
-    go false out = call_turn s u t e c p inv queued kills pos known is (ap (sleeps s u) is ∙ out)
-
 kill_turn : (s : State) (u t : ℕ) → TurnOf s t (event.Kill u) (killed s u)
 kill_turn s u t = go (u == t) refl
   where
@@ -271,7 +260,10 @@ turn s e inv queued t =
     by_event s (λ (x : Event) (z : After). TurnOf s t x z)
     (λ x. idle_turn s t x)
     (λ u c pos known inside idle b full. begins_so u c b)
-    (λ u pos known. step_turn s u t (event.Step u) inv queued (λ same. cc same) pos known (s.threads u).stage refl)
+    (λ u pos known.
+    by_stage s u (TurnOf s t (event.Step u)) (λ rests. idle_turn s t (event.Step u))
+    (λ c p is awake. call_turn s u t (event.Step u) c p inv queued (λ same. cc same) pos known is awake)
+    (λ w is awake. walk_turn s u t (event.Step u) w inv queued (λ same. cc same) pos known is))
     (λ u pos known alive. kill_turn s u t)
     e
   where

@@ -16,7 +16,7 @@ use Rattle.protocol.specs.declared.note.Note.{Note}
 use Rattle.protocol.specs.declared.note.Note.TheVariants.{Stepped, Walked}
 use Rattle.protocol.specs.declared.note.Fact.TheVariants.{Wake}
 use Rattle.protocol.specs.declared.thread.Stage.{Stage}
-use Rattle.protocol.specs.declared.thread.Stage.TheVariants.{Idle, Calling, Dying, Reaped}
+use Rattle.protocol.specs.declared.thread.Stage.TheVariants.{Calling, Dying}
 use Rattle.protocol.specs.Notes.{facts_of, sleep_facts, return_facts, reap_facts}
 use Rattle.protocol.specs.Machine.{State, After, answer_of, sleeps, told_of, is_asleep, nothing, decision, went, walked, stepped, happens}
 use Rattle.protocol.specs.Headline.{points_of}
@@ -28,13 +28,7 @@ use Rattle.protocol.proofs.Accesses.{goes, fits_in}
 use Rattle.protocol.proofs.WalkSteps.{walk_of, or_first, death_then, walk_transition, walk_note, walked-is}
 use Rattle.protocol.proofs.WalkStepping.{walk_stepping}
 use Rattle.protocol.proofs.Stepping.{Stepping}
-use Rattle.protocol.proofs.Events.{is_known}
-
--- in a call, or killed and not reaped
-abbrev pub IsWorking : Stage → Type 0
-IsWorking (Calling c p) = Unit {0}
-IsWorking (Dying w) = Unit {0}
-IsWorking g = ⊥
+use Rattle.protocol.proofs.Events.{is_known, IsWorking, by_stage}
 
 -- ---- the points of a step
 
@@ -76,32 +70,28 @@ pub by_step : (s : State) (t : ℕ) → Kept s → 1 ≤ t → t ≤ s.layout.th
     → ((is_asleep s t ≡ false → IsWorking (s.threads t).stage → ⊥) → P (nothing s))
     → ((v : Transition) (n : Note) → (s.threads t).stage ≡ v.from → is_asleep s t ≡ false → Stepping s t v → points_of (facts_of n) ≡ point_at t v → P (record { state = after s t v; note = n }))
     → P (stepped s t (s.threads t).held (s.threads t).stage)
-by_step s t inv pos known P none accesses = go (s.threads t).stage refl
+by_step s t inv pos known P none accesses = by_stage s t P none called on_a_walk
   where
-    go : (g : Stage) → (s.threads t).stage ≡ g → P (stepped s t (s.threads t).held g)
-    go Idle is = none (λ awake working. subst IsWorking is working)
-    go Reaped is = none (λ awake working. subst IsWorking is working)
-    go (Dying w) is =
+    told_call : (c : Call) (p : Whole) → Serves c p → (x : Option Reply) (z : Option ℕ) (ws : List ℕ) (y : Option Reply) → points_of (facts_of (Stepped t (decision t c x) z ws y)) ≡ point_of t (mutex_of c) p.operation x
+    told_call c p serves None z ws y = no_points t z ws y
+    told_call c p serves (Some x) z ws y = λ i. record { thread = t; mutex = mutex_of c; operation = sym serves i; reply = x } ∷ no_points t z ws y i
+
+    told_walk : (d : Option ℕ) (us : List ℕ) (y : Bool) → points_of (facts_of (Walked t d us y)) ≡ point_of t (or_first d) operation.Death (told_of d)
+    told_walk None us y = reaped_points t us y
+    told_walk (Some m) us y = ap (λ (ds : List Decision). record { thread = t; mutex = m; operation = operation.Death; reply = OK } ∷ ds) (reaped_points t us y)
+
+    called : (c : Call) (p : Whole) → (s.threads t).stage ≡ Calling c p → is_asleep s t ≡ false → P (went s t (s.threads t).held c p (whole_led p (answer_of s t (whole_access p))))
+    called c p is awake =
+        let fits = fits_in s t c p inv pos known is in
+        let g = goes s t c p inv pos known is in
+        subst P (sym (went-is s t c p fits.1 g.valid)) (accesses (call_step s t c p) (call_note s t c p) is awake (call_stepping s t c p g fits.0) (told_call c p fits.1 (onto s t p).point _ _ _))
+
+    on_a_walk : (w : walks.Standing) → (s.threads t).stage ≡ Dying w → is_asleep s t ≡ false → P (walked s t (s.threads t).held w)
+    on_a_walk w is awake =
         let there = walk_is s t w inv pos known is in
         let g : Stepping s t (walk_transition s t w.row) = walk_stepping s t w.row inv pos known there.0.going (knows_at t w there.0) there.2 in
         subst (λ (z : walks.Standing). P (walked s t (s.threads t).held z)) there.1
-        (subst P (sym (walked-is s t w.row g.valid)) (accesses (walk_transition s t w.row) (walk_note s t w.row) (is ∙ ap Dying (sym there.1)) (ap (sleeps s t) is) g (told (death_then s t w.row) _ _)))
-      where
-        told : (d : Option ℕ) (us : List ℕ) (y : Bool) → points_of (facts_of (Walked t d us y)) ≡ point_of t (or_first d) operation.Death (told_of d)
-        told None us y = reaped_points t us y
-        told (Some m) us y = ap (λ (ds : List Decision). record { thread = t; mutex = m; operation = operation.Death; reply = OK } ∷ ds) (reaped_points t us y)
-    go (Calling c p) is = pick (sleeps s t (Calling c p)) refl
-      where
-        told : (serves : Serves c p) (x : Option Reply) (z : Option ℕ) (ws : List ℕ) (y : Option Reply) → points_of (facts_of (Stepped t (decision t c x) z ws y)) ≡ point_of t (mutex_of c) p.operation x
-        told serves None z ws y = no_points t z ws y
-        told serves (Some x) z ws y = λ i. record { thread = t; mutex = mutex_of c; operation = sym serves i; reply = x } ∷ no_points t z ws y i
-
-        pick : (b : Bool) → sleeps s t (Calling c p) ≡ b → P (if b then nothing s else went s t (s.threads t).held c p (whole_led p (answer_of s t (whole_access p))))
-        pick true e = none (λ awake working. cc (sym (ap (sleeps s t) is ∙ e) ∙ awake))
-        pick false e =
-            let fits = fits_in s t c p inv pos known is in
-            let g = goes s t c p inv pos known is in
-            subst P (sym (went-is s t c p fits.1 g.valid)) (accesses (call_step s t c p) (call_note s t c p) is (ap (sleeps s t) is ∙ e) (call_stepping s t c p g fits.0) (told fits.1 (onto s t p).point _ _ _))
+        (subst P (sym (walked-is s t w.row g.valid)) (accesses (walk_transition s t w.row) (walk_note s t w.row) (is ∙ ap Dying (sym there.1)) awake g (told_walk (death_then s t w.row) _ _)))
 
 -- ---- a thread that is awake
 
