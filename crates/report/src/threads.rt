@@ -80,7 +80,9 @@ fn run_phase<R: Threads + Wait + Sync>(
     let Ok(jobs) = hire(alloc, passes, phase) else {
         return Err(NoMem);
     };
-    let records = bench.work(rt, alloc, jobs, &Open)?;
+    let Ok(records) = bench.work(rt, alloc, jobs, &Open) else {
+        return Err(NoMem);
+    };
     match gather(alloc, records, replies) {
         Ok(passes) => Ok(passes),
         Err(_) => Err(NoMem),

@@ -2,7 +2,7 @@
 ghost use Rattle.std.specs.Prelude.{◌≡◌, ◌<◌, [], All, IfOk, true, Some};
 ghost use Rattle.mutex.specs.Calls.{mutex_of};
 ghost use Rattle.ruledwords.specs.Passes.{layout_of, IsPassOf};
-ghost use Rattle.threadbench.specs.Jobs.{IsJobOf, IsDone};
+ghost use Rattle.threadbench.specs.Jobs.{IsJobOf, IsDone, AreDone};
 
 use keys::{Layout, NoMem};
 use lockword::Reply;
@@ -12,7 +12,7 @@ use std::alloc::Global;
 use std::sync::Wait;
 use std::test::Fail;
 use std::thread::Threads;
-use threadbench::{Bench, Job, Open, Record};
+use threadbench::{Bench, Gate, Job, Open, Record};
 
 mod gates;
 mod sleepers;
@@ -50,6 +50,23 @@ fn jobs_of(
     Ok(jobs)
 }
 
+/// The records of jobs. Those that are given back are dropped.
+fn work<R: Threads + Wait + Sync, G: Gate + Sync>(
+    rt: &R,
+    alloc: Global,
+    bench: &Bench,
+    jobs: Vec<Job>,
+    gate: &G,
+) -> Result<Vec<Record>, NoMem>
+    requires { All (λ j. IsJobOf bench.now j) jobs.items }
+    ensures { IfOk result (λ rs. AreDone bench.now (G.says gate.now) jobs.items rs.items) }
+{
+    match bench.work(rt, alloc, jobs, gate) {
+        Ok(records) => Ok(records),
+        Err((_, refused)) => Err(refused),
+    }
+}
+
 /// A phase of two threads.
 fn phase<R: Threads + Wait + Sync>(
     rt: &R,
@@ -65,7 +82,7 @@ fn phase<R: Threads + Wait + Sync>(
     let Ok(jobs) = Vec::from_array(alloc, [first, second]) else {
         return Err(NoMem);
     };
-    let mut records = bench.work(rt, alloc, jobs, &Open)?;
+    let mut records = work(rt, alloc, bench, jobs, &Open)?;
     let second = records.pop().unwrap();
     let first = records.pop().unwrap();
     Ok((first, second))
@@ -191,23 +208,37 @@ fn prepared(alloc: Global, layout: Layout) -> Result<(Bench, Vec<Job>, Pass<Live
     Ok((bench, jobs, third))
 }
 
-/// Passes too where any one allocation fails: then no call of the phase was made, and nobody owns the mutex.
+/// Takes the mutex with the passes of jobs that came back, one after the other, and tells whether the jobs were to try it and the first of them has taken it.
+fn jobs_are_as_they_were(bench: &Bench, jobs: Vec<Job>) -> bool
+    requires jobs { All (λ j. IsJobOf bench.now j) jobs.items }
+    requires mutex { 0 < (layout_of bench.now).mutexes }
+{
+    let mut count = 0_u8;
+    let mut well = true;
+    for job in jobs {
+        let Job { pass, calls } = job;
+        let (_pass, reply) = try_lock(bench.words(), pass, 0);
+        let want = if count == 0 { Reply::OK } else { Reply::EBUSY };
+        well = well && reply == want && calls.as_slice() == [Call::TryLock(0)].as_slice();
+        count = count.wrapping_add(1);
+    }
+    well && count == 2
+}
+
+/// Passes too where any one allocation fails, or the start of any one thread: then the jobs come back, and no call of the phase was made.
 #[test]
 fn memory(rt: HostRuntime) -> Result<(), Fail> {
     let layout = Layout::new(3, 1, &[])?;
     let Ok((bench, jobs, third)) = prepared(rt.alloc(), layout) else {
         return Ok(());
     };
-    let want = match bench.work(&rt, rt.alloc(), jobs, &Open) {
-        Ok(records) => {
-            assert_eq!(rt; records.len(), 2);
-            Reply::EBUSY
-        }
-        Err(NoMem) => Reply::OK,
-    };
+    match bench.work(&rt, rt.alloc(), jobs, &Open) {
+        Ok(records) => assert_eq!(rt; records.len(), 2),
+        Err((jobs, NoMem)) => assert!(rt; jobs_are_as_they_were(&bench, jobs)),
+    }
     let (third, reply) = try_lock(bench.words(), third, 0);
-    assert_eq!(rt; reply, want);
-    let last = bench.close(third);
-    assert!(rt; (last.cell(0) == 3) == (want == Reply::OK));
+    assert_eq!(rt; reply, Reply::EBUSY);
+    let owner = bench.close(third).cell(0);
+    assert!(rt; owner == 1 || owner == 2);
     Ok(())
 }

@@ -1,5 +1,5 @@
 mod Each
+mod Hands
 mod Answers
-mod Workers
 mod Turning
 mod Beginnings

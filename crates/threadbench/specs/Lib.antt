@@ -3,4 +3,5 @@ pub mod Calls
 pub mod Each
 pub mod Answered
 pub mod Jobs
-pub mod Workers
+pub mod Ends
+pub mod Hands

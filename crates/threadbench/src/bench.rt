@@ -1,5 +1,5 @@
 //! The bench.
-ghost use Rattle.std.specs.Prelude.{◌≡◌, ◌<◌, ◌≤◌, ◌+◌, ℕ, All, length, slice_get, Some, IfOk};
+ghost use Rattle.std.specs.Prelude.{◌≡◌, ◌<◌, ◌≤◌, ◌+◌, ℕ, All, length, slice_get, Some, IfOk, IfErr};
 ghost use Rattle.ruledwords.specs.Passes.{card, layout_of, last_layout, last_words, IsPassOf};
 ghost use Rattle.ruledwords.specs.Rules.{first_card, Ends};
 ghost use Rattle.threadbench.specs.Jobs.{IsJobOf, AreDone};
@@ -7,15 +7,16 @@ ghost use Rattle.threadbench.specs.Jobs.{IsJobOf, AreDone};
 use crate::gate::Gate;
 use crate::job::{Job, Record};
 use crate::parker::Parker;
+use crate::phase::Phase;
 use crate::room::push_in_room;
-use crate::worker::{hire, records_of, run_all};
+use crate::work::{in_scope, work_on};
 use buckets::Bucket;
 use crossbeam_utils::CachePadded;
 use keys::{Layout, NoMem};
 use ruledwords::{Last, Live, Pass, Words};
 use std::alloc::Global;
 use std::marker::Model;
-use std::sync::{Mutex, Wait};
+use std::sync::{Mutex, OnceLock, Wait};
 use std::thread::Threads;
 
 /// As many threads as a bench has at most.
@@ -73,25 +74,37 @@ impl Bench {
         &self.words
     }
 
-    /// Runs one worker for each job, all at once, each in a thread of its own where one can be made, and joins them: each makes its job's calls in their order, and stops where
-    /// the gate tells it to. A record has the replies, and the pass after them; records are in the order of their jobs. Where memory is refused no call was made, and the
-    /// jobs are dropped.
+    /// Runs a worker for each job that has calls, each in a thread of its own, and joins them: all begin at once, each makes its job's calls in their order, and stops where
+    /// the gate tells it to. A record has the replies, and the pass after them; records are in the order of their jobs, and one of a job without calls has its pass.
+    /// Where memory or a thread is refused no call is made, and the jobs are given back.
     pub fn work<R: Threads + Wait + Sync, G: Gate + Sync>(
         &self,
         rt: &R,
         alloc: Global,
         jobs: Vec<Job>,
         gate: &G,
-    ) -> Result<Vec<Record>, NoMem>
-        requires { All (λ j. IsJobOf self.now j) jobs.items }
-        ensures { IfOk result (λ rs. AreDone self.now (G.says gate.now) jobs.items rs.items) }
+    ) -> Result<Vec<Record>, (Vec<Job>, NoMem)>
+        requires { All (IsJobOf self.now) jobs.items }
+        ensures done { IfOk result (λ rs. AreDone self.now (G.says gate.now) jobs.items rs.items) }
+        ensures refused { IfErr result (λ e. e.0.items ≡ jobs.items) }
     {
-        let mut workers = hire(alloc, jobs)?;
-        let Ok(room) = Vec::with_capacity(alloc, workers.len()) else {
-            return Err(NoMem);
+        let begins = OnceLock::new();
+        let phase = Phase {
+            bench: self,
+            gate,
+            begins: &begins,
         };
-        run_all(rt, self, gate, &mut workers);
-        Ok(records_of(workers, room))
+        let shared = &phase;
+        let mut jobs = jobs;
+        in_scope(
+            rt,
+            gate,
+            |scope| -> Result<Vec<Record>, (Vec<Job>, NoMem)>
+                requires { All (IsJobOf shared.now.bench.now) jobs.items }
+                ensures done { IfOk result (λ rs. AreDone shared.entry.now.bench.now (G.says shared.entry.now.gate.now) jobs.entry.items rs.items) }
+                ensures refused { IfErr result (λ e. e.0.items ≡ jobs.entry.items) }
+            { work_on(rt, alloc, scope, shared, &mut jobs) },
+        )
     }
 
     /// Ends the bench. What is left of the words begins with what the pass has seen.

@@ -3,20 +3,27 @@
 //! A [`Bench`] has the words of a layout, a futex hash bucket behind a lock, and a place to sleep for each thread. [`Bench::lock`] sleeps while another thread owns the mutex, and
 //! [`Bench::pay`] wakes those that a release has to wake. What they do under the bucket's lock is what the machine's kernel does there.
 //!
-//! [`Bench::work`] runs one worker for each [`Job`], all of them at once, and joins them: each makes its job's calls in
-//! their order, as far as a [`Gate`] lets it, and its [`Record`] has their replies. So a caller works a phase at a time.
+//! [`Bench::work`] runs one worker for each [`Job`] that has calls, all of them at once, and joins them: each makes its job's calls in
+//! their order, as far as a [`Gate`] lets it, and its [`Record`] has their replies. So a caller works a phase at a time. Workers begin once
+//! each has its thread; where one can't be made none begins, and the jobs are given back.
 //!
 //! A call that may wait promises only what holds if it returns: nothing is claimed of when a sleeper is woken, nor that a mutex is ever had.
 #![tactic(auto)]
 
+mod begins;
 mod bench;
 mod calls;
+mod ending;
 mod gate;
+mod hand;
 mod job;
 mod parker;
+mod phase;
 mod room;
 mod section;
 mod sleep;
+mod starting;
+mod work;
 mod worker;
 
 pub use bench::Bench;

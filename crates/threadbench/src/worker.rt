@@ -1,100 +1,82 @@
-//! Workers: a job, and then its record.
-ghost use Rattle.std.specs.Prelude.{◌≡◌, ◌≤◌, ◌<◌, ℕ, [], All, slice_index_or, length, vec_capacity, IfOk};
-ghost use Rattle.threadbench.specs.Jobs.{IsJobOf, IsDone};
-ghost use Rattle.threadbench.specs.Workers.{IsFor, HasDone, MayWork, IsReady, Has};
-ghost use Rattle.threadbench.specs.Each.{EachWith};
+//! Workers: a job, and what becomes of it.
+ghost use Rattle.std.specs.Prelude.{◌≡◌, ◌≤◌, [], length, vec_capacity, IfOk, IfErr};
 
-use crate::bench::Bench;
+use crate::begins::told;
 use crate::calls::make;
 use crate::gate::Gate;
 use crate::job::{Job, Record};
-use crate::room::push_in_room;
-use keys::NoMem;
+use crate::phase::Phase;
 use lockword::Reply;
 use std::alloc::Global;
 use std::mem;
-use std::sync::Wait;
-use std::thread::{Threads, for_each_mut};
+use std::sync::{OnceToken, Wait};
 
-/// One worker of a phase.
+/// A job, and room for its replies.
 #[derive(Drop)]
-pub(crate) enum Worker {
-    /// It has its job, and room for the replies.
-    Waits(Job, Vec<Reply>),
-    /// It has made its calls.
-    Done(Record),
-    /// Its record was taken.
-    Gone,
+pub(crate) struct Worker {
+    pub(crate) job: Job,
+    pub(crate) room: Vec<Reply>,
+    pub ghost empty: { room.items ≡ [] },
+    pub ghost enough: { length job.calls.items ≤ vec_capacity room },
+}
+
+/// A worker, until it has run. (A closure that gives away what it holds can't promise anything yet, so its thread takes the worker out of this.)
+#[derive(Drop)]
+pub(crate) enum Post {
+    Manned(Worker),
+    Left,
+}
+
+/// What becomes of a worker's job. The token shows what the worker was told.
+#[derive(Drop)]
+pub(crate) enum End<'a> {
+    /// The worker began, and made its calls.
+    Done(Record, OnceToken<'a, bool>),
+    /// It didn't: the job is as it was.
+    Kept(Job, OnceToken<'a, bool>),
 }
 
 impl Worker {
-    pub(crate) fn new(alloc: Global, job: Job) -> Result<Worker, NoMem>
-        ensures { IfOk result (λ w. IsFor job w) }
+    ghost use Rattle.threadbench.specs.Ends.{HasEnded};
+    ghost use Rattle.threadbench.specs.Jobs.{IsJobOf};
+
+    /// Gives the job back where memory is refused.
+    pub(crate) fn new(alloc: Global, job: Job) -> Result<Worker, Job>
+        ensures worker { IfOk result (λ w. w.job ≡ job) }
+        ensures refused { IfErr result (λ j. j ≡ job) }
     {
         match Vec::with_capacity(alloc, job.calls.len()) {
-            Ok(room) => Ok(Worker::Waits(job, room)),
-            Err(_) => Err(NoMem),
+            Ok(room) => Ok(Worker { job, room }),
+            Err(_) => Err(job),
         }
     }
 
-    /// Does its job.
-    pub(crate) fn run<R: Wait, G: Gate>(&mut self, rt: &R, bench: &Bench, gate: &G)
-        requires { MayWork bench.now self.old }
-        ensures { HasDone bench.now (G.says gate.now) self.old self.new }
+    /// Waits until it is told, and makes its calls if it is told to begin.
+    pub(crate) fn run<'a, R: Wait, G: Gate>(self, rt: &R, phase: &Phase<'a, G>) -> End<'a>
+        requires { IsJobOf phase.now.bench.now self.job }
+        ensures { HasEnded phase.now.bench.now (G.says phase.now.gate.now) phase.now.begins.now.id self.job result }
     {
-        if let Worker::Waits(job, room) = mem::replace(self, Worker::Gone) {
-            *self = Worker::Done(make(rt, bench, gate, job, room));
+        let Worker { job, room } = self;
+        let token = told(rt, phase.begins);
+        if *phase.begins.value(&token) {
+            End::Done(make(rt, phase.bench, phase.gate, job, room), token)
+        } else {
+            End::Kept(job, token)
         }
     }
 }
 
-/// A worker for each job.
-pub(crate) fn hire(alloc: Global, jobs: Vec<Job>) -> Result<Vec<Worker>, NoMem>
-    ensures { IfOk result (λ ws. EachWith IsFor jobs.items ws.items) }
-{
-    let Ok(mut workers) = Vec::with_capacity(alloc, jobs.len()) else {
-        return Err(NoMem);
-    };
-    for job in jobs {
-        let worker = Worker::new(alloc, job)?;
-        push_in_room(&mut workers, worker);
-    }
-    Ok(workers)
-}
+impl Post {
+    ghost use Rattle.threadbench.specs.Ends.{IsMannedFor, HasLeft};
 
-/// Lets all workers do their jobs at once.
-pub(crate) fn run_all<R: Threads + Wait + Sync, G: Gate + Sync>(
-    rt: &R,
-    bench: &Bench,
-    gate: &G,
-    workers: &mut Vec<Worker>,
-)
-    requires { All (MayWork bench.now) workers.old.items }
-    ensures len { length workers.new.items ≡ length workers.old.items }
-    ensures each { (i : ℕ) (d : _) → i < length workers.old.items → HasDone bench.now (G.says gate.now) (slice_index_or workers.old.items i d) (slice_index_or workers.new.items i d) }
-{
-    let most = workers.len().max(1);
-    for_each_mut(
-        rt,
-        workers,
-        most,
-        &|_, worker: &mut Worker| worker.run(rt, bench, gate),
-    );
-}
-
-/// The records of workers that have done their jobs.
-pub(crate) fn records_of(workers: Vec<Worker>, room: Vec<Record>) -> Vec<Record>
-    requires done { All IsReady workers.items }
-    requires empty { room.items ≡ [] }
-    requires room { length workers.items ≤ vec_capacity room }
-    ensures { EachWith Has workers.items result.items }
-{
-    let mut records = room;
-    for worker in workers {
-        match worker {
-            Worker::Done(record) => push_in_room(&mut records, record),
-            Worker::Waits(_, _) | Worker::Gone => unreachable!(),
+    /// Lets the worker run.
+    pub(crate) fn run<'a, R: Wait, G: Gate>(&mut self, rt: &R, phase: &Phase<'a, G>) -> End<'a>
+        requires { IsMannedFor phase.now.bench.now self.old }
+        ensures { HasLeft phase.now.bench.now (G.says phase.now.gate.now) phase.now.begins.now.id self.old result }
+    {
+        match mem::replace(self, Post::Left) {
+            Post::Manned(worker) => worker.run(rt, phase),
+            Post::Left => unreachable!(),
         }
     }
-    records
 }

@@ -1,7 +1,7 @@
 //! Workers whose gate lets a call through only when another worker has come as far: so they are at work at once, each in a thread of its own.
 ghost use Rattle.std.specs.Prelude.{None};
 
-use super::{has_replied, job, jobs_of};
+use super::{has_replied, job, jobs_of, work};
 use keys::Layout;
 use lockword::{Reply, Tid};
 use mutex::Call;
@@ -54,7 +54,7 @@ fn one_follows<R: Threads + Wait + Sync>(rt: &R, alloc: Global, last: u8) -> Res
         last,
         told: AtomicBool::new(false),
     };
-    let mut records = bench.work(rt, alloc, jobs, &gate)?;
+    let mut records = work(rt, alloc, &bench, jobs, &gate)?;
     let second = records.pop().unwrap();
     let first = records.pop().unwrap();
     Ok(has_replied(&first, Reply::OK) && has_replied(&second, Reply::OK))
@@ -92,7 +92,7 @@ fn a_worker_that_is_refused_stops(rt: HostRuntime) -> Result<(), Fail> {
     let (bench, passes) = Bench::new(alloc, Layout::new(1, 1, &[])?, &[])?;
     let calls = [Call::Lock(0), Call::Unlock(0), Call::Lock(0)];
     let jobs = jobs_of(alloc, &bench, passes, &calls)?;
-    let records = bench.work(&rt, alloc, jobs, &Refuses(2))?;
+    let records = work(&rt, alloc, &bench, jobs, &Refuses(2))?;
     assert_eq!(rt; records.len(), 1);
     assert!(rt; records.iter().all(|record| has_replied(record, Reply::OK)));
     Ok(())
@@ -135,7 +135,7 @@ fn all_64_workers_are_at_work_at_once(rt: HostRuntime) -> Result<(), Fail> {
         workers: 64,
         come: [AtomicU64::new(0), AtomicU64::new(0), AtomicU64::new(0)],
     };
-    let records = bench.work(&rt, alloc, jobs, &gate)?;
+    let records = work(&rt, alloc, &bench, jobs, &gate)?;
     assert_eq!(rt; records.len(), 64);
     assert!(rt; records.iter().all(|record| record.replies.len() == 3));
     Ok(())

@@ -8,8 +8,8 @@ work-requires-after_bounds g c κs within = jobs_right c.args.bench.now c.args.p
 
 pub gather-requires : goal.gather-requires
 gather-requires g c =
-    c.requires.as_many ∙ sym c.in-Ok.ensures.as_many ∙ sym (as_long (IsDone c.args.bench.now open_gate) c.in-Ok.jobs.items c.in_ok-records.records.items c.in_ok-records.ensures)
+    c.requires.as_many ∙ sym c.in-Ok.ensures.as_many ∙ sym (as_long (IsDone c.args.bench.now open_gate) c.in-Ok.jobs.items c.in-Ok-work.records.items c.in-Ok-work.ensures.done)
 
 pub returns-in-Ok-gather : goal.returns-in-Ok-gather
 returns-in-Ok-gather g c =
-    worked c.args.bench.now c.args.phase.now c.args.passes.items c.in-Ok-gather.passes.items c.in-Ok.jobs.items c.in_ok-records.records.items c.args.replies.now.items c.gather.new.replies.items c.in-Ok.ensures c.in_ok-records.ensures c.in-Ok-gather.ensures c.requires.as_many
+    worked c.args.bench.now c.args.phase.now c.args.passes.items c.in-Ok-gather.passes.items c.in-Ok.jobs.items c.in-Ok-work.records.items c.args.replies.now.items c.gather.new.replies.items c.in-Ok.ensures c.in-Ok-work.ensures.done c.in-Ok-gather.ensures c.requires.as_many
