@@ -1,12 +1,12 @@
 //! The writers of texts, which take no memory: a trace, the table of a run, and the replies of real threads. Where a writer fails, it holds a beginning of the text.
 #![tactic(auto)]
 
-mod lines;
 mod mutex_start;
 mod pieces;
 mod replies;
 mod table;
 mod text;
+mod trace_lines;
 
 pub use pieces::put;
 pub use replies::{MutexWord, ThreadReplies, write_replies};

@@ -6,7 +6,7 @@ ghost use Rattle.protocol.specs.declared.note.Fact.TheVariants.{Wake};
 ghost use Rattle.texts.specs.Leaves.{Leaves};
 ghost use Rattle.texts.specs.Text.{facts_text, notes_text, trace_text};
 
-use crate::lines::{write_end, write_fact, write_head};
+use crate::trace_lines::{write_end, write_fact, write_head};
 use buckets::Batch;
 use interleave::Trace;
 use keys::Decision;
