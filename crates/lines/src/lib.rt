@@ -5,9 +5,9 @@
 #![tactic(auto)]
 
 mod numbers;
-mod texts;
+mod utf8;
 mod words;
 
 pub use numbers::{is_number_word, number_in};
-pub use texts::text_of;
+pub use utf8::text_of;
 pub use words::{Words, cut, words_in};
