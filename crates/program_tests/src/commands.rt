@@ -140,7 +140,7 @@ fn words_that_are_no_text_are_another_command_line(rt: HostRuntime) {
 
 /// Memory is told where it was refused, for the words or for a file.
 #[test]
-fn memory_that_was_refused_is_told(rt: HostRuntime) {
+fn refused_words_and_files_are_told(rt: HostRuntime) {
     let files = Folder {
         text: SCRIPT.as_bytes(),
         fails: ErrorKind::OutOfMemory,
