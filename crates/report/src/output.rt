@@ -8,7 +8,8 @@ use std::io::{self, Write};
 /// A writer that may keep back what it is given, until it lets go of it. Each writer is one.
 ///
 /// Whether it has let go is a name without a meaning of its own here: what is proved of all outputs comes by it through
-/// [`Output::let_go`] alone, where that answered `Ok`. So a promise of it says that the writer was asked last, and didn't fail.
+/// [`Output::let_go`] alone, where that answered `Ok`. So a promise of it says that the writer was asked last, and didn't fail;
+/// that it then flushes is in no contract, and tests show it.
 pub trait Output: Write {
     /// It keeps nothing back.
     ghost is_let_go: { Self → Type 0 };
