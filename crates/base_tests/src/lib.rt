@@ -1,9 +1,11 @@
-//! The tests of `lockword` and `keys`, by their public names alone.
+//! The tests of `lockword`, `keys` and `facts`, by their public names alone.
 //!
 //! A crate that has tests is proved a second time for them. So tests stand in crates of their own, above what they call.
 #![tactic(auto)]
 
 #[cfg(test)]
 mod mutexes;
+#[cfg(test)]
+mod trace_lines;
 #[cfg(test)]
 mod words;

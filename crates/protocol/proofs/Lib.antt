@@ -25,6 +25,7 @@ pub mod Runs
 pub mod QueueRuns
 pub mod Reaped
 pub mod Deaths
+mod LineOrder
 pub mod Lives
 pub mod Owed
 pub mod Returning

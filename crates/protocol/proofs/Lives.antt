@@ -1,11 +1,13 @@
--- What each event adds to its thread's life, and to the order of lines.
-use Rattle.std.proofs.Common.{◌≡◌, ◌≢◌, ℕ, ◌+◌, ◌≤◌, ◌==◌, Bool, true, false, ◌&&◌, Option, Some, None, Ok, Err, List, [], ◌∷◌, ◌++◌, map, refl, sym, ap, ◌∙◌, subst, arith, eqb-true}
+-- What each event adds to its thread's life, and that its lines are in order.
+use Rattle.std.proofs.Common.{◌≡◌, ◌≢◌, ℕ, ◌+◌, ◌≤◌, ◌==◌, Bool, true, false, ◌&&◌, Option, Some, None, Ok, Err, List, [], ◌∷◌, ◌++◌, map, refl, sym, ap, ◌∙◌, subst, eqb-true}
 use Rattle.std.specs.Prelude.{if◌then◌else◌, MatchBool}
 use Rattle.std.proofs.lemmas.Bool.{eqb-false}
 use Rattle.lockword.specs.declared.reply.Reply.{Reply}
-use Rattle.lockword.specs.declared.reply.Reply.TheVariants.{XHELD}
+use Rattle.lockword.specs.declared.reply.Reply.TheVariants.{OK, XHELD}
+use Rattle.keys.specs.declared.point.Operation.{Operation}
 use Rattle.mutex.specs.declared.call.Call.{Call}
 use Rattle.mutex.specs.declared.call.Call.TheVariants as call
+use Rattle.mutex.specs.Calls.{operation_of}
 use Rattle.mutex.specs.declared.phase.Phase.{Phase}
 use Rattle.mutex.specs.declared.phase.Phase.TheVariants.{Announcing, AtCell, Linking, Unlinking, Clearing, Ended}
 use Rattle.mutex.specs.Standings.{Whole}
@@ -15,14 +17,16 @@ use Rattle.protocol.specs.declared.event.Event.{Event}
 use Rattle.protocol.specs.declared.thread.Thread.{Thread}
 use Rattle.protocol.specs.declared.thread.Stage.{Stage}
 use Rattle.protocol.specs.declared.thread.Stage.TheVariants.{Idle, Calling, Dying, Reaped}
-use Rattle.protocol.specs.declared.note.Fact.{Fact}
-use Rattle.protocol.specs.declared.note.Fact.TheVariants.{Begin, Point, Wake, Return, Kill, Death, Reap}
+use Rattle.facts.specs.declared.fact.Fact.{Fact}
+use Rattle.facts.specs.declared.fact.Fact.TheVariants.{Begin, Point, Wake, Return, Kill, Death, Reap}
 use Rattle.protocol.specs.declared.note.Note.{Note}
 use Rattle.protocol.specs.declared.note.Note.TheVariants.{Nothing, Began, Stepped, Killed, Walked}
-use Rattle.protocol.specs.declared.note.Line.{Line}
-use Rattle.protocol.specs.Notes.{line_of, facts_of, point_facts, sleep_facts, return_facts, death_facts, reap_facts, lines_from}
+use Rattle.facts.specs.declared.fact.Line.{Line}
+use Rattle.facts.specs.Facts.{thread_of, is_passive}
+use Rattle.facts.specs.Lives.{Complete, Beginning, made_by, is_of_call, own, Mourned, Unburied, Tells_of, Buried, Life, Rests, Returns, Stays, Cut, Dies}
+use Rattle.protocol.specs.Notes.{begun_of, line_of, facts_of, point_facts, sleep_facts, return_facts, death_facts, reap_facts, lines_from}
 use Rattle.protocol.specs.Machine.{State, After, start, nothing, is_alive, has_ended, stage_walked, killed, walked, begun, stage_after, returned, decision, answer_of, went, happens, notes}
-use Rattle.protocol.specs.Explained.{thread_of, is_of_call, is_wake, point_by, own, Mourned, Unburied, Tells_of, Buried, Lives, Dies, Life, Rests, Returns, Stays, Decides, is_point, Later, Each, Orderly, caller, caller_of, IsExplained, TraceIsExplained}
+use Rattle.protocol.specs.Explained.{caller, caller_of, IsExplained, TraceIsExplained}
 use Rattle.protocol.proofs.Puts.{put-same, put-other}
 use Rattle.protocol.proofs.Phases.{decided_at}
 use Rattle.protocol.proofs.Kept.{Kept}
@@ -31,16 +35,35 @@ use Rattle.protocol.proofs.CallSteps.{CallStep}
 use Rattle.protocol.proofs.Events.{by_event, by_stage}
 use Rattle.protocol.proofs.Accesses as accesses
 use Rattle.protocol.proofs.Runs.{sound, start_kept}
+use Rattle.protocol.proofs.LineOrder.{Fine, access_fine, walked_fine, KillsAlone, no_kill_alone, access_no_kill, walked_no_kill, Called, each, InOrder, placed}
 use Rattle.exitwalk.specs.declared.row.Row as walk_row
 use Rattle.exitwalk.specs.declared.row.Row.TheVariants as walk
 use Rattle.exitwalk.specs.Standings as walks
+
+-- ---- a call on a mutex has one point
+
+-- the point of thread t's call, with this reply
+abbrev point_by : ℕ → Call → Reply → Fact
+point_by t c x = made_by t (begun_of c) (operation_of c, x)
+
+all_points : (op : Operation) (x : Reply) → Complete op ((op, x) ∷ []) x
+all_points op x = refl
+
+undecided_yet : (op : Operation) → Beginning op []
+undecided_yet op = ((op, OK) ∷ [], OK, all_points op OK)
+
+decided_so : (op : Operation) (x : Reply) → Beginning op ((op, x) ∷ [])
+decided_so op x = ([], x, all_points op x)
+
+returned_life : (t : ℕ) (c : Call) (x : Reply) (later : List Fact) → Life t later → Life t (Begin t (begun_of c) ∷ (point_by t c x ∷ (Return t x ∷ later)))
+returned_life t c x later life = Returns (begun_of c) ((operation_of c, x) ∷ []) x later (all_points (operation_of c) x) life
 
 -- ---- what may come next in a thread's life
 
 -- what a thread does from now on that is in a call, undecided or decided: with what the call did before, a life
 abbrev Doing : ℕ → Call → Option Reply → List Fact → Type 0
-Doing t c None fs = Life t (Begin t c ∷ fs)
-Doing t c (Some x) fs = Life t (Begin t c ∷ (point_by t c x ∷ fs))
+Doing t c None fs = Life t (Begin t (begun_of c) ∷ fs)
+Doing t c (Some x) fs = Life t (Begin t (begun_of c) ∷ (point_by t c x ∷ fs))
 
 -- what a thread does from now on
 abbrev Goes : ℕ → Stage → List Fact → Type 0
@@ -51,12 +74,12 @@ Goes t Reaped fs = fs ≡ []
 
 -- it may do nothing more
 ends : (t : ℕ) (g : Stage) → Goes t g []
-ends t Idle = Rests [] Lives
+ends t Idle = Rests
 ends t (Calling c p) = go (decided_at p.phase)
   where
     go : (d : Option Reply) → Doing t c d []
-    go None = Stays c [] Lives
-    go (Some x) = Decides c x [] Lives
+    go None = Stays (begun_of c) [] (undecided_yet (operation_of c))
+    go (Some x) = Stays (begun_of c) ((operation_of c, x) ∷ []) (decided_so (operation_of c) x)
 ends t (Dying w) = Unburied
 ends t Reaped = refl
 
@@ -109,9 +132,9 @@ own-calls t i (Stepped u (Some d) z ws y) ls = ap (λ (v : List Fact). if d.thre
 -- what one event tells: nothing; that its thread began a call, or was refused at once; that it decided its call, or returned, or both; that it died; or of its death
 data Says (t : ℕ) : List Fact → Type 0 where
   nothing_new : Says t []
-  begins_one : (c : Call) → Says t (Begin t c ∷ [])
-  refused : (c : Call) (x : Reply) → Says t (Begin t c ∷ (point_by t c x ∷ (Return t x ∷ [])))
-  decides : (c : Call) (x : Reply) → Says t (point_by t c x ∷ [])
+  begins_one : (c : Call) → Says t (Begin t (begun_of c) ∷ [])
+  refused : (c : Call) (x : Reply) → Says t (Begin t (begun_of c) ∷ (point_by t c x ∷ (Return t x ∷ [])))
+  decided : (c : Call) (x : Reply) → Says t (point_by t c x ∷ [])
   returns : (x : Reply) → Says t (Return t x ∷ [])
   ends_with : (c : Call) (x y : Reply) → Says t (point_by t c x ∷ (Return t y ∷ []))
   dies : Says t (Kill t ∷ [])
@@ -120,9 +143,9 @@ data Says (t : ℕ) : List Fact → Type 0 where
 -- another thread's event adds nothing to this thread's lines
 own-apart : (t u i : ℕ) (fs : List Fact) (ls : List Line) → Says u fs → u ≢ t → own t (map (line_of i) fs ++ ls) ≡ own t ls
 own-apart t u i fs ls nothing_new apart = refl
-own-apart t u i fs ls (begins_one c) apart = own-other t i (Begin u c) ls apart
-own-apart t u i fs ls (refused c x) apart = own-other t i (Begin u c) (line_of i (point_by u c x) ∷ (line_of i (Return u x) ∷ ls)) apart ∙ own-other t i (point_by u c x) (line_of i (Return u x) ∷ ls) apart ∙ own-other t i (Return u x) ls apart
-own-apart t u i fs ls (decides c x) apart = own-other t i (point_by u c x) ls apart
+own-apart t u i fs ls (begins_one c) apart = own-other t i (Begin u (begun_of c)) ls apart
+own-apart t u i fs ls (refused c x) apart = own-other t i (Begin u (begun_of c)) (line_of i (point_by u c x) ∷ (line_of i (Return u x) ∷ ls)) apart ∙ own-other t i (point_by u c x) (line_of i (Return u x) ∷ ls) apart ∙ own-other t i (Return u x) ls apart
+own-apart t u i fs ls (decided c x) apart = own-other t i (point_by u c x) ls apart
 own-apart t u i fs ls (returns x) apart = own-other t i (Return u x) ls apart
 own-apart t u i fs ls dies apart = own-other t i (Kill u) ls apart
 own-apart t u i fs ls (mourned None false) apart = refl
@@ -158,7 +181,7 @@ module _ (t i : ℕ) (c : Call) (p : Whole) (ls : List Line) where
   -- a call that goes on, with the decision that it had or that this access made
   goes_on_so : (d x y : Option Reply) → Joins d x y → Doing t c y (own t ls) → Doing t c d (own t (map (line_of i) (point_facts (decision t c x)) ++ ls))
   goes_on_so None None y joins later = subst (λ (z : Option Reply). Doing t c z (own t ls)) joins later
-  goes_on_so None (Some x) y joins later = subst (λ fs. Life t (Begin t c ∷ fs)) (sym (point_first x)) (subst (λ (z : Option Reply). Doing t c z (own t ls)) joins later)
+  goes_on_so None (Some x) y joins later = subst (λ fs. Life t (Begin t (begun_of c) ∷ fs)) (sym (point_first x)) (subst (λ (z : Option Reply). Doing t c z (own t ls)) joins later)
   goes_on_so (Some x) None y joins later = subst (λ (z : Option Reply). Doing t c z (own t ls)) joins.1 later
   goes_on_so (Some x) (Some z) y joins later = absurd (cc joins.0)
 
@@ -167,10 +190,10 @@ module _ (t i : ℕ) (c : Call) (p : Whole) (ls : List Line) where
   returns_so None None y joins later = absurd cc
   returns_so None (Some x) y joins later =
       let same : y ≡ x = cc in
-      subst (λ fs. Life t (Begin t c ∷ fs)) (sym (both_first x y)) (subst (λ (z : Reply). Life t (Begin t c ∷ (point_by t c x ∷ (Return t z ∷ own t ls)))) (sym same) (Returns c x (own t ls) later))
+      subst (λ fs. Life t (Begin t (begun_of c) ∷ fs)) (sym (both_first x y)) (subst (λ (z : Reply). Life t (Begin t (begun_of c) ∷ (point_by t c x ∷ (Return t z ∷ own t ls)))) (sym same) (returned_life t c x (own t ls) later))
   returns_so (Some x) None y joins later =
       let same : y ≡ x = cc in
-      subst (λ fs. Life t (Begin t c ∷ (point_by t c x ∷ fs))) (sym (own-mine t i (Return t y) ls refl refl)) (subst (λ (z : Reply). Life t (Begin t c ∷ (point_by t c x ∷ (Return t z ∷ own t ls)))) (sym same) (Returns c x (own t ls) later))
+      subst (λ fs. Life t (Begin t (begun_of c) ∷ (point_by t c x ∷ fs))) (sym (own-mine t i (Return t y) ls refl refl)) (subst (λ (z : Reply). Life t (Begin t (begun_of c) ∷ (point_by t c x ∷ (Return t z ∷ own t ls)))) (sym same) (returned_life t c x (own t ls) later))
   returns_so (Some x) (Some z) y joins later = absurd (cc joins.0)
 
   -- a point alone
@@ -195,70 +218,22 @@ module _ (t i : ℕ) (c : Call) (p : Whole) (ls : List Line) where
 says_of : (t : ℕ) (c : Call) (x y : Option Reply) → Says t (point_facts (decision t c x) ++ return_facts t y)
 says_of t c None None = nothing_new
 says_of t c None (Some y) = returns y
-says_of t c (Some x) None = decides c x
+says_of t c (Some x) None = decided c x
 says_of t c (Some x) (Some y) = ends_with c x y
 
--- ---- which facts one event may tell, of thread u: no two points, and but for wakes nothing of others
-abbrev NoPoint : List Fact → Type 0
-NoPoint [] = Unit {0}
-NoPoint (f ∷ fs) = (is_point f ≡ false) × NoPoint fs
-
-abbrev Fine : ℕ → List Fact → Type 0
-Fine u [] = Unit {0}
-Fine u (f ∷ fs) = (is_wake f ≡ false → thread_of f ≡ u) × (is_point f ≡ true → NoPoint fs) × Fine u fs
-
-returned_pointless : (u : ℕ) (y : Option Reply) → NoPoint (return_facts u y)
-returned_pointless u None = tt
-returned_pointless u (Some x) = (refl, tt)
-
-woken_pointless : (u : ℕ) (ws : List ℕ) (y : Option Reply) → NoPoint (map Wake ws ++ return_facts u y)
-woken_pointless u [] y = returned_pointless u y
-woken_pointless u (w ∷ ws) y = (refl, woken_pointless u ws y)
-
-slept_pointless : (u : ℕ) (z : Option ℕ) (ws : List ℕ) (y : Option Reply) → NoPoint (sleep_facts u z ++ (map Wake ws ++ return_facts u y))
-slept_pointless u None ws y = woken_pointless u ws y
-slept_pointless u (Some m) ws y = (refl, woken_pointless u ws y)
-
-returned_fine : (u : ℕ) (y : Option Reply) → Fine u (return_facts u y)
-returned_fine u None = tt
-returned_fine u (Some x) = ((λ e. refl), (λ e. tt), tt)
-
-woken_fine : (u : ℕ) (ws : List ℕ) (y : Option Reply) → Fine u (map Wake ws ++ return_facts u y)
-woken_fine u [] y = returned_fine u y
-woken_fine u (w ∷ ws) y = ((λ e. absurd cc), (λ e. absurd cc), woken_fine u ws y)
-
-slept_fine : (u : ℕ) (z : Option ℕ) (ws : List ℕ) (y : Option Reply) → Fine u (sleep_facts u z ++ (map Wake ws ++ return_facts u y))
-slept_fine u None ws y = woken_fine u ws y
-slept_fine u (Some m) ws y = ((λ e. refl), (λ e. absurd cc), woken_fine u ws y)
-
-access_fine : (u : ℕ) (c : Call) (x : Option Reply) (z : Option ℕ) (ws : List ℕ) (y : Option Reply) → Fine u (point_facts (decision u c x) ++ (sleep_facts u z ++ (map Wake ws ++ return_facts u y)))
-access_fine u c None z ws y = slept_fine u z ws y
-access_fine u c (Some x) z ws y = ((λ e. refl), (λ e. slept_pointless u z ws y), slept_fine u z ws y)
-
-reaped_pointless : (u : ℕ) (ws : List ℕ) (y : Bool) → NoPoint (map Wake ws ++ reap_facts u y)
-reaped_pointless u [] false = tt
-reaped_pointless u [] true = (refl, tt)
-reaped_pointless u (w ∷ ws) y = (refl, reaped_pointless u ws y)
-
-reaped_fine : (u : ℕ) (ws : List ℕ) (y : Bool) → Fine u (map Wake ws ++ reap_facts u y)
-reaped_fine u [] false = tt
-reaped_fine u [] true = ((λ e. refl), (λ e. tt), tt)
-reaped_fine u (w ∷ ws) y = ((λ e. absurd cc), (λ e. absurd cc), reaped_fine u ws y)
-
-walked_fine : (u : ℕ) (d : Option ℕ) (ws : List ℕ) (y : Bool) → Fine u (death_facts u d ++ (map Wake ws ++ reap_facts u y))
-walked_fine u None ws y = reaped_fine u ws y
-walked_fine u (Some m) ws y = ((λ e. refl), (λ e. reaped_pointless u ws y), reaped_fine u ws y)
+-- ---- each event
 
 -- what an event leaves and notes: of its own thread what may come next, and of others nothing
 record Adds (s : State) (u : ℕ) (a : After) : Type 0 where
   fine : Fine u (facts_of a.note)
+  alone : KillsAlone (facts_of a.note)
   says : Says u (calls_of a.note)
   mine : (i : ℕ) (ls : List Line) → Goes u (a.state.threads u).stage (own u ls) → Goes u (s.threads u).stage (own u (map (line_of i) (calls_of a.note) ++ ls))
   others : (t : ℕ) → u ≢ t → (a.state.threads t).stage ≡ (s.threads t).stage
 
 -- an event that can't apply adds nothing
 idles : (s : State) (u : ℕ) → Adds s u (nothing s)
-idles s u = record { fine = tt; says = nothing_new; mine = λ i ls later. later; others = λ t apart. refl }
+idles s u = record { fine = tt; alone = tt; says = nothing_new; mine = λ i ls later. later; others = λ t apart. refl }
 
 module _ (s : State) (u : ℕ) (c : Call) (idle : (s.threads u).stage ≡ Idle) where
   abbrev p : Whole
@@ -268,22 +243,24 @@ module _ (s : State) (u : ℕ) (c : Call) (idle : (s.threads u).stage ≡ Idle) 
   begins_call : (b : Bool) → Adds s u (begun s u c (if b then Err XHELD else Ok p))
   begins_call true = record {
     fine = ((λ e. refl), (λ e. absurd cc), ((λ e. refl), (λ e. (refl, tt)), ((λ e. refl), (λ e. tt), tt)));
+    alone = (refl, (refl, (refl, tt)));
     says = refused c XHELD;
     mine = λ i ls later.
-        let first = own-mine u i (Begin u c) (line_of i (point_by u c XHELD) ∷ (line_of i (Return u XHELD) ∷ ls)) refl refl in
+        let first = own-mine u i (Begin u (begun_of c)) (line_of i (point_by u c XHELD) ∷ (line_of i (Return u XHELD) ∷ ls)) refl refl in
         let second = own-mine u i (point_by u c XHELD) (line_of i (Return u XHELD) ∷ ls) refl refl in
         let third = own-mine u i (Return u XHELD) ls refl refl in
-        subst (λ g. Goes u g (own u (line_of i (Begin u c) ∷ (line_of i (point_by u c XHELD) ∷ (line_of i (Return u XHELD) ∷ ls))))) (sym idle)
-        (subst (Life u) (sym (first ∙ ap (λ fs. Begin u c ∷ fs) (second ∙ ap (λ fs. point_by u c XHELD ∷ fs) third))) (Returns c XHELD (own u ls) (subst (λ g. Goes u g (own u ls)) idle later)));
+        subst (λ g. Goes u g (own u (line_of i (Begin u (begun_of c)) ∷ (line_of i (point_by u c XHELD) ∷ (line_of i (Return u XHELD) ∷ ls))))) (sym idle)
+        (subst (Life u) (sym (first ∙ ap (λ fs. Begin u (begun_of c) ∷ fs) (second ∙ ap (λ fs. point_by u c XHELD ∷ fs) third))) (returned_life u c XHELD (own u ls) (subst (λ g. Goes u g (own u ls)) idle later)));
     others = λ t apart. refl;
   }
   begins_call false = record {
     fine = ((λ e. refl), (λ e. tt), tt);
+    alone = tt;
     says = begins_one c;
     mine = λ i ls later.
         let begun_there : Goes u (Calling c p) (own u ls) = subst (λ (z : Thread). Goes u z.stage (own u ls)) (put-same s.threads u (record (s.threads u) { stage = Calling c p })) later in
-        let undecided : Life u (Begin u c ∷ own u ls) = subst (λ (d : Option Reply). Doing u c d (own u ls)) (first_undecided c) begun_there in
-        subst (λ g. Goes u g (own u (line_of i (Begin u c) ∷ ls))) (sym idle) (subst (Life u) (sym (own-mine u i (Begin u c) ls refl refl)) undecided);
+        let undecided : Life u (Begin u (begun_of c) ∷ own u ls) = subst (λ (d : Option Reply). Doing u c d (own u ls)) (first_undecided c) begun_there in
+        subst (λ g. Goes u g (own u (line_of i (Begin u (begun_of c)) ∷ ls))) (sym idle) (subst (Life u) (sym (own-mine u i (Begin u (begun_of c)) ls refl refl)) undecided);
     others = λ t apart. ap (λ (z : Thread). z.stage) (put-other s.threads u (record (s.threads u) { stage = Calling c p }) t (λ is. apart (sym is)));
   }
 
@@ -296,6 +273,7 @@ goes s u inv pos known c p is =
     let stage : ((after s u (call_step s u c p)).threads u).stage ≡ stage_after c p f = ap (λ (z : Thread). z.stage) (put-same s.threads u _) in
     subst (Adds s u) (sym (went-is s u c p (accesses.fits_in s u c p inv pos known is).1 g.valid)) record {
       fine = access_fine u c x _ _ (returned f);
+      alone = no_kill_alone _ (access_no_kill u c x _ _ (returned f));
       says = says_of u c x (returned f);
       mine = λ i ls later.
           subst (λ g. Goes u g (own u (map (line_of i) (facts_at u c x f) ++ ls))) (sym is)
@@ -307,6 +285,7 @@ goes s u inv pos known c p is =
 dies_so : (s : State) (u : ℕ) → is_alive (s.threads u).stage ≡ true → Adds s u (killed s u)
 dies_so s u alive = record {
   fine = ((λ e. refl), (λ e. tt), tt);
+  alone = tt;
   says = dies;
   mine = λ i ls later.
       let mourns : Mourned u (own u ls) = subst (λ (z : Thread). Goes u z.stage (own u ls)) (put-same s.threads u _) later in
@@ -315,12 +294,12 @@ dies_so s u alive = record {
 }
   where
     cut : (g : Stage) → is_alive g ≡ true → (fs : List Fact) → Mourned u fs → Goes u g (Kill u ∷ fs)
-    cut Idle e fs mourns = Rests (Kill u ∷ fs) (Dies fs mourns)
+    cut Idle e fs mourns = Dies fs mourns
     cut (Calling c p) e fs mourns = go (decided_at p.phase)
       where
         go : (d : Option Reply) → Doing u c d (Kill u ∷ fs)
-        go None = Stays c (Kill u ∷ fs) (Dies fs mourns)
-        go (Some x) = Decides c x (Kill u ∷ fs) (Dies fs mourns)
+        go None = Cut (begun_of c) [] fs (undecided_yet (operation_of c)) mourns
+        go (Some x) = Cut (begun_of c) ((operation_of c, x) ∷ []) fs (decided_so (operation_of c) x) mourns
     cut (Dying w) e fs mourns = absurd cc
     cut Reaped e fs mourns = absurd cc
 
@@ -342,6 +321,7 @@ mourned_on u i w d r ls later = go d (has_ended r) (at_end r later)
 walks_on : (s : State) (u : ℕ) → Kept s → 1 ≤ u → u ≤ s.layout.threads → (w : walks.Standing) → (s.threads u).stage ≡ Dying w → Adds s u (walked s u (s.threads u).held w)
 walks_on s u inv pos known w is = record {
   fine = walked_fine u _ _ _;
+  alone = no_kill_alone _ (walked_no_kill u _ _ _);
   says = mourned _ _;
   mine = λ i ls later. subst (λ g. Goes u g (own u (map (line_of i) (calls_of (walked s u (s.threads u).held w).note) ++ ls))) (sym is)
       (mourned_on u i w _ _ ls (subst (λ (z : Thread). Goes u z.stage (own u ls)) (put-same s.threads u _) later));
@@ -380,68 +360,9 @@ lives s (e ∷ es) i inv t = lives_on s e i (lines_from (i + 1) (notes (happens 
 
 -- ---- the order of lines
 
--- the line's event is one of these, of which the first has number i, and but for a wake it is its thread's
-abbrev Called : ℕ → List Event → Line → Type 0
-Called i es l = (i ≤ l.event) × (is_wake l.fact ≡ false → thread_of l.fact ≡ caller_of i es l.event)
-
--- what holds of each line gives another thing of each
-each : (P Q : Line → Type 0) → ((l : Line) → P l → Q l) → (ls : List Line) → Each P ls → Each Q ls
-each P Q go [] all = tt
-each P Q go (l ∷ ls) all = (go l all.0, each P Q go ls all.1)
-
--- the first of the events is its caller's
-caller_of-first : (i : ℕ) (e : Event) (es : List Event) → caller_of i (e ∷ es) i ≡ caller e
-caller_of-first i e es = go (i == i) refl
-  where
-    go : (b : Bool) → (i == i) ≡ b → (if b then caller e else caller_of (i + 1) es i) ≡ caller e
-    go true is = refl
-    go false is = absurd (eqb-false i i is refl)
-
--- a line of a later event is called among all of them too
-called_later : (i : ℕ) (e : Event) (es : List Event) (l : Line) → Called (i + 1) es l → Called i (e ∷ es) l
-called_later i e es l c = (let at = c.0 in omega arith, λ own. c.1 own ∙ go (l.event == i) refl)
-  where
-    go : (b : Bool) → (l.event == i) ≡ b → caller_of (i + 1) es l.event ≡ (if b then caller e else caller_of (i + 1) es l.event)
-    go true is = absurd (let same : l.event ≡ i = eqb-true l.event i is in let at = c.0 in omega arith)
-    go false is = refl
-
--- lines that are in order, and of events from i on
-abbrev InOrder : ℕ → List Event → List Line → Type 0
-InOrder i es ls = Orderly ls × Each (Called i es) ls
-
--- a line of event i stands rightly before lines of later events
-before_all : (i : ℕ) (es : List Event) (f : Fact) (ls : List Line) → Each (Called (i + 1) es) ls → Each (Later (line_of i f)) ls
-before_all i es f ls =
-    each (Called (i + 1) es) (Later (line_of i f)) (λ l c. record {
-      never_falls = let at = c.0 in omega arith;
-      points_rise = λ a b. let at = c.0 in omega arith;
-      one_thread = λ a b same. absurd (let at = c.0 in omega arith);
-    }) ls
-
--- a line of event i stands rightly before the others of that event, and before those of later ones
-beside_all : (u i : ℕ) (f : Fact) (fs : List Fact) (ls : List Line) → (is_wake f ≡ false → thread_of f ≡ u) → (is_point f ≡ true → NoPoint fs) → Fine u fs → Each (Later (line_of i f)) ls → Each (Later (line_of i f)) (map (line_of i) fs ++ ls)
-beside_all u i f [] ls mine alone fine later = later
-beside_all u i f (g ∷ fs) ls mine alone fine later = (
-  record {
-    never_falls = omega arith;
-    points_rise = λ a b. absurd (cc ((alone a).0, b));
-    one_thread = λ a b same. mine a ∙ sym (fine.0 b);
-  },
-  beside_all u i f fs ls mine (λ a. (alone a).1) fine.2 later,
-)
-
--- what one event tells stands rightly before what later ones tell
-placed : (i : ℕ) (e : Event) (es : List Event) (fs : List Fact) (ls : List Line) → Fine (caller e) fs → InOrder (i + 1) es ls → InOrder i (e ∷ es) (map (line_of i) fs ++ ls)
-placed i e es [] ls fine (order, called) = (order, each (Called (i + 1) es) (Called i (e ∷ es)) (called_later i e es) ls called)
-placed i e es (f ∷ fs) ls fine (order, called) =
-    let others = placed i e es fs ls fine.2 (order, called) in (
-      (beside_all (caller e) i f fs ls fine.0 fine.1 fine.2 (before_all i es f ls called), others.0),
-      ((omega arith, λ own. fine.0 own ∙ sym (caller_of-first i e es)), others.1),
-    )
-
 ordered : (s : State) (es : List Event) (i : ℕ) → Kept s → InOrder i es (lines_from i (notes s es))
 ordered s [] i inv = (tt, tt)
-ordered s (e ∷ es) i inv = placed i e es (facts_of (happens s e).note) (lines_from (i + 1) (notes (happens s e).state es)) (adds s e inv).fine (ordered (happens s e).state es (i + 1) (sound s e inv).kept)
+ordered s (e ∷ es) i inv = placed i e es (facts_of (happens s e).note) (lines_from (i + 1) (notes (happens s e).state es)) (adds s e inv).fine (adds s e inv).alone (ordered (happens s e).state es (i + 1) (sound s e inv).kept)
 
 -- so it is from the start
 pub explained_from : (s : State) (events : List Event) → Kept s → ((t : ℕ) → (s.threads t).stage ≡ Idle) → IsExplained events (notes s events)
@@ -449,7 +370,7 @@ explained_from s events inv resting =
     let order = ordered s events 1 inv in
     record {
       orderly = order.0;
-      callers = each (Called 1 events) (λ l. is_wake l.fact ≡ false → thread_of l.fact ≡ caller_of 1 events l.event) (λ l c. c.1) (lines_from 1 (notes s events)) order.1;
+      callers = each (Called 1 events) (λ l. is_passive l.fact ≡ false → thread_of l.fact ≡ caller_of 1 events l.event) (λ l c. c.1) (lines_from 1 (notes s events)) order.1;
       lives = λ t. subst (λ g. Goes t g (own t (lines_from 1 (notes s events)))) (resting t) (lives s events 1 inv t);
     }
 

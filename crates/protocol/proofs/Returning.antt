@@ -4,8 +4,8 @@ use Rattle.std.specs.Prelude.{if◌then◌else◌, replicate}
 use Rattle.lockword.specs.declared.reply.Reply.{Reply}
 use Rattle.keys.specs.declared.point.Decision.{Decision}
 use Rattle.protocol.specs.declared.event.Event.TheVariants.{Step}
-use Rattle.protocol.specs.declared.note.Fact.{Fact}
-use Rattle.protocol.specs.declared.note.Fact.TheVariants.{Wake, Return}
+use Rattle.facts.specs.declared.fact.Fact.{Fact}
+use Rattle.facts.specs.declared.fact.Fact.TheVariants.{Wake, Return}
 use Rattle.protocol.specs.declared.note.Note.TheVariants.{Stepped}
 use Rattle.protocol.specs.declared.thread.Stage.TheVariants.{Idle}
 use Rattle.protocol.specs.Machine.{State, After, is_thread, is_asleep, nothing, stepped, happens, run, notes}

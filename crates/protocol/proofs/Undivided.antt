@@ -27,8 +27,8 @@ use Rattle.mutex.specs.Laws.{Joins}
 use Rattle.mutex.specs.Standings.{Whole}
 use Rattle.mutex.specs.Whole.{begins, first_phase, whole_started, whole_access}
 use Rattle.protocol.specs.declared.event.Event.TheVariants.{Begin, Step}
-use Rattle.protocol.specs.declared.note.Fact.{Fact}
-use Rattle.protocol.specs.declared.note.Fact.TheVariants.{Wake, Return}
+use Rattle.facts.specs.declared.fact.Fact.{Fact}
+use Rattle.facts.specs.declared.fact.Fact.TheVariants.{Wake, Return}
 use Rattle.protocol.specs.declared.note.Note.TheVariants.{Stepped}
 use Rattle.protocol.specs.declared.thread.Thread.{Thread}
 use Rattle.protocol.specs.declared.thread.Stage.TheVariants.{Idle, Calling}

@@ -19,14 +19,16 @@ use Rattle.protocol.specs.declared.event.Event.{Event}
 use Rattle.protocol.specs.declared.event.Event.TheVariants as event
 use Rattle.protocol.specs.declared.note.Note.{Note}
 use Rattle.protocol.specs.declared.note.Note.TheVariants.{Stepped, Walked}
-use Rattle.protocol.specs.declared.note.Fact.{Fact}
-use Rattle.protocol.specs.declared.note.Fact.TheVariants.{Sleep, Wake, Kill}
+use Rattle.facts.specs.declared.fact.Queue.{Queue}
+use Rattle.facts.specs.declared.fact.Queue.TheVariants.{Mutex, Condition}
+use Rattle.facts.specs.declared.fact.Fact.{Fact}
+use Rattle.facts.specs.declared.fact.Fact.TheVariants.{Sleep, Wake, Move, Kill}
 use Rattle.protocol.specs.declared.thread.Stage.TheVariants.{Calling, Dying}
 use Rattle.protocol.specs.Notes.{facts_of, sleep_facts, return_facts, reap_facts}
 use Rattle.protocol.specs.Machine.{State, After, put, start, place_met, queue_after, woken_by, slept_on, answer_of, stands_in, sleeps, is_asleep, begun, nothing, decision, returned, went, walked, killed, happens, run, notes}
 use Rattle.protocol.specs.Headline.{facts_among}
 use Rattle.protocol.specs.Sleepers.{IsAmong}
-use Rattle.protocol.specs.Wakings.{asleep_next, asleep_after, told_asleep, MayFollow, Alternates, FallsAsleep, LeavesQueue, TellsTurns, TellsSleepers, SleepsAreTold}
+use Rattle.protocol.specs.Wakings.{asleep_next, asleep_after, told_asleep, MayFollow, Alternates, FallsAsleep, LeavesQueue, TellsTurns, SleepsAt, TellsSleepers, SleepsAreTold}
 use Rattle.protocol.proofs.Kept.{Kept}
 use Rattle.protocol.proofs.Steps.{after, onto, call_step, went-is}
 use Rattle.protocol.proofs.Frames.{knows_at}
@@ -44,7 +46,8 @@ use Rattle.protocol.proofs.Runs.{sound, start_kept, run_kept, run_layout}
 -- ---- the facts of one thread's sleep
 
 abbrev about : ℕ → Fact → Bool
-about t (Sleep u m) = u == t
+about t (Sleep u q) = u == t
+about t (Move u m) = u == t
 about t (Wake u) = u == t
 about t (Kill u) = u == t
 about t f = false
@@ -65,40 +68,42 @@ turns-append t (f ∷ fs) gs = go (about t f) (turns-append t fs gs)
     go false e = e
 
 -- the others tell nothing of it
-next_same : (t : ℕ) (w : Option ℕ) (f : Fact) → about t f ≡ false → asleep_next t w f ≡ w
-next_same t w (Sleep u m) e = ap (λ (b : Bool). if b then Some m else w) e
+next_same : (t : ℕ) (w : Option Queue) (f : Fact) → about t f ≡ false → asleep_next t w f ≡ w
+next_same t w (Sleep u q) e = ap (λ (b : Bool). if b then Some q else w) e
+next_same t w (Move u m) e = ap (λ (b : Bool). if b then Some (Mutex m) else w) e
 next_same t w (Wake u) e = ap (λ (b : Bool). if b then None else w) e
 next_same t w (Kill u) e = ap (λ (b : Bool). if b then None else w) e
 next_same t w f e = refl
 
-follows_so : (t : ℕ) (w : Option ℕ) (f : Fact) → about t f ≡ false → MayFollow t w f
-follows_so t w (Sleep u m) e = λ same. absurd (eqb-false u t e same)
+follows_so : (t : ℕ) (w : Option Queue) (f : Fact) → about t f ≡ false → MayFollow t w f
+follows_so t w (Sleep u q) e = λ same. absurd (eqb-false u t e same)
+follows_so t w (Move u m) e = λ same. absurd (eqb-false u t e same)
 follows_so t w (Wake u) e = λ same. absurd (eqb-false u t e same)
 follows_so t w f e = tt
 
-after-turns : (t : ℕ) (w : Option ℕ) (fs : List Fact) → asleep_after t w fs ≡ asleep_after t w (turns t fs)
+after-turns : (t : ℕ) (w : Option Queue) (fs : List Fact) → asleep_after t w fs ≡ asleep_after t w (turns t fs)
 after-turns t w [] = refl
 after-turns t w (f ∷ fs) = go (about t f) refl (after-turns t (asleep_next t w f) fs) (after-turns t w fs)
   where
     go : (b : Bool) → about t f ≡ b → asleep_after t (asleep_next t w f) fs ≡ asleep_after t (asleep_next t w f) (turns t fs) → asleep_after t w fs ≡ asleep_after t w (turns t fs)
         → asleep_after t (asleep_next t w f) fs ≡ asleep_after t w (if b then f ∷ turns t fs else turns t fs)
     go true e with_it without_it = with_it
-    go false e with_it without_it = ap (λ (v : Option ℕ). asleep_after t v fs) (next_same t w f e) ∙ without_it
+    go false e with_it without_it = ap (λ (v : Option Queue). asleep_after t v fs) (next_same t w f e) ∙ without_it
 
-after-append : (t : ℕ) (w : Option ℕ) (fs gs : List Fact) → asleep_after t w (fs ++ gs) ≡ asleep_after t (asleep_after t w fs) gs
+after-append : (t : ℕ) (w : Option Queue) (fs gs : List Fact) → asleep_after t w (fs ++ gs) ≡ asleep_after t (asleep_after t w fs) gs
 after-append t w [] gs = refl
 after-append t w (f ∷ fs) gs = after-append t (asleep_next t w f) fs gs
 
-alternates-turns : (t : ℕ) (w : Option ℕ) (fs : List Fact) → Alternates t w (turns t fs) → Alternates t w fs
+alternates-turns : (t : ℕ) (w : Option Queue) (fs : List Fact) → Alternates t w (turns t fs) → Alternates t w fs
 alternates-turns t w [] h = tt
 alternates-turns t w (f ∷ fs) h = go (about t f) refl (alternates-turns t (asleep_next t w f) fs) (alternates-turns t w fs) h
   where
     go : (b : Bool) → about t f ≡ b → (Alternates t (asleep_next t w f) (turns t fs) → Alternates t (asleep_next t w f) fs) → (Alternates t w (turns t fs) → Alternates t w fs)
         → Alternates t w (if b then f ∷ turns t fs else turns t fs) → MayFollow t w f × Alternates t (asleep_next t w f) fs
     go true e with_it without_it h = (h.0, with_it h.1)
-    go false e with_it without_it h = (follows_so t w f e, subst (λ (v : Option ℕ). Alternates t v fs) (sym (next_same t w f e)) (without_it h))
+    go false e with_it without_it h = (follows_so t w f e, subst (λ (v : Option Queue). Alternates t v fs) (sym (next_same t w f e)) (without_it h))
 
-alternates-append : (t : ℕ) (w : Option ℕ) (fs gs : List Fact) → Alternates t w fs → Alternates t (asleep_after t w fs) gs → Alternates t w (fs ++ gs)
+alternates-append : (t : ℕ) (w : Option Queue) (fs gs : List Fact) → Alternates t w fs → Alternates t (asleep_after t w fs) gs → Alternates t w (fs ++ gs)
 alternates-append t w [] gs h k = k
 alternates-append t w (f ∷ fs) gs h k = (h.0, alternates-append t (asleep_next t w f) fs gs h.1 k)
 
@@ -175,7 +180,7 @@ walk_turns t u death us ended = told death ∙ nothing_behind t (map Wake us) (r
 -- what event e, which leaves these queues, is to thread t, and which of these facts it tells of it
 data Turn (s : State) (qs : ℕ → List ℕ) (t : ℕ) (e : Event) (told : List Fact) : Type 0 where
   Stays : told ≡ [] → ((key : ℕ) → stands_in t (qs key) ≡ stands_in t (s.queues key)) → Turn s qs t e told
-  Falls_asleep : (m : ℕ) → told ≡ Sleep t m ∷ [] → m < s.layout.mutexes → IsOut s.queues t → stands_in t (qs (cell_place s.layout m)) ≡ true → Turn s qs t e told
+  Falls_asleep : (m : ℕ) → told ≡ Sleep t (Mutex m) ∷ [] → m < s.layout.mutexes → IsOut s.queues t → stands_in t (qs (cell_place s.layout m)) ≡ true → Turn s qs t e told
   Is_woken : (key : ℕ) → told ≡ Wake t ∷ [] → stands_in t (s.queues key) ≡ true → IsOut qs t → e ≢ event.Kill t → Turn s qs t e told
   Dies : told ≡ Kill t ∷ [] → e ≡ event.Kill t → IsOut qs t → Turn s qs t e told
 
@@ -208,16 +213,16 @@ module _ (s : State) (u t : ℕ) (e : Event) (queued : Queued s) (kills : e ≢ 
           pick : (c : Bool) → (u == t) ≡ c → (b : Bool) → sleeps_at a (s.words at) ≡ b → turns t (sleep_facts u (if b then Some m else None)) ≡ []
           pick c x false on = refl
           pick true x true on = absurd (cc (on, quiet (sym (eqb-true u t x))))
-          pick false x true on = ap (λ (c : Bool). if c then Sleep u m ∷ [] else []) x
+          pick false x true on = ap (λ (c : Bool). if c then Sleep u (Mutex m) ∷ [] else []) x
 
       go : Turned t u a at (s.words at) s.queues queues' → Turn s queues' t e (turns t (sleep_facts u slept) ++ turns t (map Wake (woken_by a q)))
       go (As_before quiet unwoken same) = Stays (λ i. no_sleep quiet i ++ no_wakes t (woken_by a q) unwoken i) same
       go (Falls me on nobody stands elsewhere) =
           Falls_asleep m
           (ap (λ (b : Bool). turns t (sleep_facts u (if b then Some m else None)) ++ turns t (map Wake (woken_by a q))) on
-          ∙ ap (λ (us : List ℕ). turns t (Sleep u m ∷ []) ++ turns t (map Wake us)) nobody
-          ∙ ap (λ (v : ℕ). turns t (Sleep v m ∷ []) ++ []) (sym me)
-          ∙ ap (λ (b : Bool). (if b then Sleep t m ∷ [] else []) ++ []) (this t))
+          ∙ ap (λ (us : List ℕ). turns t (Sleep u (Mutex m) ∷ []) ++ turns t (map Wake us)) nobody
+          ∙ ap (λ (v : ℕ). turns t (Sleep v (Mutex m) ∷ []) ++ []) (sym me)
+          ∙ ap (λ (b : Bool). (if b then Sleep t (Mutex m) ∷ [] else []) ++ []) (this t))
           (there on).1
           (subst (IsOut s.queues) (sym me) out)
           (sym (ap (λ (k : ℕ). stands_in t (queues' k)) (there on).0) ∙ stands)
@@ -273,36 +278,39 @@ turn s e inv queued t =
 
 -- ---- what was told of a thread is where it stands
 
-abbrev Stood : Layout' → (ℕ → List ℕ) → ℕ → Option ℕ → Type 0
+abbrev Stood : Layout' → (ℕ → List ℕ) → ℕ → Option Queue → Type 0
 Stood l qs t None = IsOut qs t
-Stood l qs t (Some m) = (m < l.mutexes) × (stands_in t (qs (cell_place l m)) ≡ true)
+Stood l qs t (Some (Mutex m)) = (m < l.mutexes) × (stands_in t (qs (cell_place l m)) ≡ true)
+Stood l qs t (Some (Condition k)) = ⊥
 
-after_turn : (s : State) (qs : ℕ → List ℕ) (t : ℕ) (e : Event) (told : List Fact) (w : Option ℕ) → Turn s qs t e told → Stood s.layout s.queues t w → Stood s.layout qs t (asleep_after t w told)
+after_turn : (s : State) (qs : ℕ → List ℕ) (t : ℕ) (e : Event) (told : List Fact) (w : Option Queue) → Turn s qs t e told → Stood s.layout s.queues t w → Stood s.layout qs t (asleep_after t w told)
 after_turn s qs t e told w (Stays none same) stood = subst (λ (fs : List Fact). Stood s.layout qs t (asleep_after t w fs)) (sym none) (still w stood)
   where
-    still : (v : Option ℕ) → Stood s.layout s.queues t v → Stood s.layout qs t v
+    still : (v : Option Queue) → Stood s.layout s.queues t v → Stood s.layout qs t v
     still None out = λ key. same key ∙ out key
-    still (Some m) there = (there.0, same (cell_place s.layout m) ∙ there.1)
+    still (Some (Mutex m)) there = (there.0, same (cell_place s.layout m) ∙ there.1)
+    still (Some (Condition k)) there = absurd there
 after_turn s qs t e told w (Falls_asleep m is inside out stands) stood =
-    subst (λ (fs : List Fact). Stood s.layout qs t (asleep_after t w fs)) (sym is) (subst (λ (b : Bool). Stood s.layout qs t (if b then Some m else w)) (sym (this t)) (inside, stands))
+    subst (λ (fs : List Fact). Stood s.layout qs t (asleep_after t w fs)) (sym is) (subst (λ (b : Bool). Stood s.layout qs t (if b then Some (Mutex m) else w)) (sym (this t)) (inside, stands))
 after_turn s qs t e told w (Is_woken key is stands out kills) stood =
     subst (λ (fs : List Fact). Stood s.layout qs t (asleep_after t w fs)) (sym is) (subst (λ (b : Bool). Stood s.layout qs t (if b then None else w)) (sym (this t)) out)
 after_turn s qs t e told w (Dies is kill out) stood =
     subst (λ (fs : List Fact). Stood s.layout qs t (asleep_after t w fs)) (sym is) (subst (λ (b : Bool). Stood s.layout qs t (if b then None else w)) (sym (this t)) out)
 
-may_turn : (s : State) (qs : ℕ → List ℕ) (t : ℕ) (e : Event) (told : List Fact) (w : Option ℕ) → Turn s qs t e told → Stood s.layout s.queues t w → Alternates t w told
+may_turn : (s : State) (qs : ℕ → List ℕ) (t : ℕ) (e : Event) (told : List Fact) (w : Option Queue) → Turn s qs t e told → Stood s.layout s.queues t w → Alternates t w told
 may_turn s qs t e told w (Stays none same) stood = subst (Alternates t w) (sym none) tt
 may_turn s qs t e told w (Falls_asleep m is inside out stands) stood = subst (Alternates t w) (sym is) ((λ same. awake w stood), tt)
   where
-    awake : (v : Option ℕ) → Stood s.layout s.queues t v → v ≡ None
+    awake : (v : Option Queue) → Stood s.layout s.queues t v → v ≡ None
     awake None h = refl
-    awake (Some k) h = absurd (cc (h.1, out (cell_place s.layout k)))
+    awake (Some (Mutex k)) h = absurd (cc (h.1, out (cell_place s.layout k)))
+    awake (Some (Condition k)) h = absurd h
 may_turn s qs t e told w (Is_woken key is stands out kills) stood = subst (Alternates t w) (sym is) ((λ same. λ none. cc (stands, subst (Stood s.layout s.queues t) none stood key)), tt)
 may_turn s qs t e told w (Dies is kill out) stood = subst (Alternates t w) (sym is) (tt, tt)
 
 -- ---- what the next event tells
 
-sleeps_same : (t k m : ℕ) → IsAmong (Sleep t m) (Sleep t k ∷ []) → k ≡ m
+sleeps_same : (t k m : ℕ) → IsAmong (Sleep t (Mutex m)) (Sleep t (Mutex k) ∷ []) → k ≡ m
 sleeps_same t k m (inl e) = cc
 sleeps_same t k m (inr h) = absurd h
 
@@ -320,29 +328,37 @@ module _ (s : State) (e : Event) (inv : Kept s) (queued : Queued s) (t : ℕ) wh
   same_layout : s'.layout ≡ s.layout
   same_layout = (sound s e inv).same
 
-  falls : (m : ℕ) → IsAmong (Sleep t m) (turns t facts) → Turn s s'.queues t e (turns t facts) → FallsAsleep s s' t m
-  falls m h (Stays none same) = absurd (subst (IsAmong (Sleep t m)) none h)
-  falls m h (Falls_asleep k is inside out stands) = (
+  falls : (q : Queue) → IsAmong (Sleep t q) (turns t facts) → Turn s s'.queues t e (turns t facts) → FallsAsleep s s' t q
+  falls q h (Stays none same) = absurd (subst (IsAmong (Sleep t q)) none h)
+  falls (Mutex m) h (Falls_asleep k is inside out stands) = (
     out,
     subst (λ (l : Layout'). stands_in t (s'.queues (cell_place l m)) ≡ true) (sym same_layout)
-        (subst (λ (i : ℕ). stands_in t (s'.queues (cell_place s.layout i)) ≡ true) (sleeps_same t k m (subst (IsAmong (Sleep t m)) is h)) stands),
+        (subst (λ (i : ℕ). stands_in t (s'.queues (cell_place s.layout i)) ≡ true) (sleeps_same t k m (subst (IsAmong (Sleep t (Mutex m))) is h)) stands),
   )
-  falls m h (Is_woken key is stands out kills) = absurd (cc (only (Sleep t m) (Wake t) (subst (IsAmong (Sleep t m)) is h)))
-  falls m h (Dies is kill out) = absurd (cc (only (Sleep t m) (Kill t) (subst (IsAmong (Sleep t m)) is h)))
+  falls (Condition k) h (Falls_asleep m is inside out stands) = absurd (cc (only (Sleep t (Condition k)) (Sleep t (Mutex m)) (subst (IsAmong (Sleep t (Condition k))) is h)))
+  falls q h (Is_woken key is stands out kills) = absurd (cc (only (Sleep t q) (Wake t) (subst (IsAmong (Sleep t q)) is h)))
+  falls q h (Dies is kill out) = absurd (cc (only (Sleep t q) (Kill t) (subst (IsAmong (Sleep t q)) is h)))
 
-  fell : (m : ℕ) → FallsAsleep s s' t m → Turn s s'.queues t e (turns t facts) → IsAmong (Sleep t m) facts
-  fell m (was, now) (Stays none same) = absurd (cc (now, same (cell_place s'.layout m) ∙ was (cell_place s'.layout m)))
-  fell m (was, now) (Falls_asleep k is inside out stands) =
+  fell : (q : Queue) → FallsAsleep s s' t q → Turn s s'.queues t e (turns t facts) → IsAmong (Sleep t q) facts
+  fell (Condition k) none turns = absurd none
+  fell (Mutex m) (was, now) (Stays none same) = absurd (cc (now, same (cell_place s'.layout m) ∙ was (cell_place s'.layout m)))
+  fell (Mutex m) (was, now) (Falls_asleep k is inside out stands) =
       let here : stands_in t (s'.queues (cell_place s.layout m)) ≡ true = subst (λ (l : Layout'). stands_in t (s'.queues (cell_place l m)) ≡ true) same_layout now in
       let place : cell_place s.layout k ≡ cell_place s.layout m = (queued_on s e inv queued).one t (cell_place s.layout k) (cell_place s.layout m) stands here in
       let same : k ≡ m = omega (arith, place) in
-      turns-among t (Sleep t m) facts (subst (IsAmong (Sleep t m)) (sym is) (inl (ap (Sleep t) same)))
-  fell m (was, now) (Is_woken key is stands out kills) = absurd (cc (now, out (cell_place s'.layout m)))
-  fell m (was, now) (Dies is kill out) = absurd (cc (now, out (cell_place s'.layout m)))
+      turns-among t (Sleep t (Mutex m)) facts (subst (IsAmong (Sleep t (Mutex m))) (sym is) (inl (ap (λ (j : ℕ). Sleep t (Mutex j)) same)))
+  fell (Mutex m) (was, now) (Is_woken key is stands out kills) = absurd (cc (now, out (cell_place s'.layout m)))
+  fell (Mutex m) (was, now) (Dies is kill out) = absurd (cc (now, out (cell_place s'.layout m)))
+
+  moved : (m : ℕ) → IsAmong (Move t m) (turns t facts) → Turn s s'.queues t e (turns t facts) → ⊥
+  moved m h (Stays none same) = absurd (subst (IsAmong (Move t m)) none h)
+  moved m h (Falls_asleep k is inside out stands) = absurd (cc (only (Move t m) (Sleep t (Mutex k)) (subst (IsAmong (Move t m)) is h)))
+  moved m h (Is_woken key is stands out kills) = absurd (cc (only (Move t m) (Wake t) (subst (IsAmong (Move t m)) is h)))
+  moved m h (Dies is kill out) = absurd (cc (only (Move t m) (Kill t) (subst (IsAmong (Move t m)) is h)))
 
   wakes : IsAmong (Wake t) (turns t facts) → Turn s s'.queues t e (turns t facts) → LeavesQueue s s' t × (e ≢ event.Kill t)
   wakes h (Stays none same) = absurd (subst (IsAmong (Wake t)) none h)
-  wakes h (Falls_asleep m is inside out stands) = absurd (cc (only (Wake t) (Sleep t m) (subst (IsAmong (Wake t)) is h)))
+  wakes h (Falls_asleep m is inside out stands) = absurd (cc (only (Wake t) (Sleep t (Mutex m)) (subst (IsAmong (Wake t)) is h)))
   wakes h (Is_woken key is stands out kills) = (((key, stands), out), kills)
   wakes h (Dies is kill out) = absurd (cc (only (Wake t) (Kill t) (subst (IsAmong (Wake t)) is h)))
 
@@ -354,27 +370,28 @@ module _ (s : State) (e : Event) (inv : Kept s) (queued : Queued s) (t : ℕ) wh
 
   tells_turns : TellsTurns s e t
   tells_turns = record {
-    sleep = λ m. ((λ among. falls m (among-turns t (Sleep t m) facts (this t) among) (turn s e inv queued t)), (λ fallen. fell m fallen (turn s e inv queued t)));
+    sleep = λ q. ((λ among. falls q (among-turns t (Sleep t q) facts (this t) among) (turn s e inv queued t)), (λ fallen. fell q fallen (turn s e inv queued t)));
     wake = ((λ among. wakes (among-turns t (Wake t) facts (this t) among) (turn s e inv queued t)), (λ left. woke left.0 left.1 (turn s e inv queued t)));
+    moves_none = λ m among. moved m (among-turns t (Move t m) facts (this t) among) (turn s e inv queued t);
   }
 
-  stood_on : (w : Option ℕ) → Stood s.layout s.queues t w → Stood s'.layout s'.queues t (asleep_after t w facts)
+  stood_on : (w : Option Queue) → Stood s.layout s.queues t w → Stood s'.layout s'.queues t (asleep_after t w facts)
   stood_on w stood =
       subst (λ (l : Layout'). Stood l s'.queues t (asleep_after t w facts)) (sym same_layout)
       (subst (Stood s.layout s'.queues t) (sym (after-turns t w facts)) (after_turn s s'.queues t e (turns t facts) w (turn s e inv queued t) stood))
 
-  alternates_on : (w : Option ℕ) → Stood s.layout s.queues t w → Alternates t w facts
+  alternates_on : (w : Option Queue) → Stood s.layout s.queues t w → Alternates t w facts
   alternates_on w stood = alternates-turns t w facts (may_turn s s'.queues t e (turns t facts) w (turn s e inv queued t) stood)
 
 -- ---- runs
 
-run_stood : (s : State) (es : List Event) → Kept s → Queued s → (t : ℕ) (w : Option ℕ) → Stood s.layout s.queues t w → Stood (run s es).layout (run s es).queues t (asleep_after t w (facts_among (notes s es)))
+run_stood : (s : State) (es : List Event) → Kept s → Queued s → (t : ℕ) (w : Option Queue) → Stood s.layout s.queues t w → Stood (run s es).layout (run s es).queues t (asleep_after t w (facts_among (notes s es)))
 run_stood s [] inv queued t w stood = stood
 run_stood s (e ∷ es) inv queued t w stood =
     subst (Stood (run (happens s e).state es).layout (run (happens s e).state es).queues t) (sym (after-append t w (facts_of (happens s e).note) (facts_among (notes (happens s e).state es))))
     (run_stood (happens s e).state es (sound s e inv).kept (queued_on s e inv queued) t (asleep_after t w (facts_of (happens s e).note)) (stood_on s e inv queued t w stood))
 
-run_alternates : (s : State) (es : List Event) → Kept s → Queued s → (t : ℕ) (w : Option ℕ) → Stood s.layout s.queues t w → Alternates t w (facts_among (notes s es))
+run_alternates : (s : State) (es : List Event) → Kept s → Queued s → (t : ℕ) (w : Option Queue) → Stood s.layout s.queues t w → Alternates t w (facts_among (notes s es))
 run_alternates s [] inv queued t w stood = tt
 run_alternates s (e ∷ es) inv queued t w stood =
     alternates-append t w (facts_of (happens s e).note) (facts_among (notes (happens s e).state es)) (alternates_on s e inv queued t w stood)
@@ -383,14 +400,19 @@ run_alternates s (e ∷ es) inv queued t w stood =
 tells_sleepers : (s : State) (ns : List Note) → Kept s → Queued s → ((t : ℕ) → Stood s.layout s.queues t (told_asleep t ns)) → ((t : ℕ) → Alternates t None (facts_among ns)) → TellsSleepers s.layout s ns
 tells_sleepers s ns inv queued stood alternate = record {
   stands = λ t key on. found t key on (told_asleep t ns) refl (stood t);
-  sleeps = λ t m e. subst (Stood s.layout s.queues t) e (stood t);
+  sleeps = λ t q e. at t q (subst (Stood s.layout s.queues t) e (stood t));
   alternate = alternate;
   next = λ e t. tells_turns s e inv queued t;
 }
   where
-    found : (t key : ℕ) → stands_in t (s.queues key) ≡ true → (w : Option ℕ) → told_asleep t ns ≡ w → Stood s.layout s.queues t w → (m : ℕ) × (told_asleep t ns ≡ Some m) × (key ≡ cell_place s.layout m)
+    found : (t key : ℕ) → stands_in t (s.queues key) ≡ true → (w : Option Queue) → told_asleep t ns ≡ w → Stood s.layout s.queues t w → (m : ℕ) × (told_asleep t ns ≡ Some (Mutex m)) × (key ≡ cell_place s.layout m)
     found t key on None e out = absurd (cc (on, out key))
-    found t key on (Some m) e there = (m, e, queued.one t key (cell_place s.layout m) on there.1)
+    found t key on (Some (Mutex m)) e there = (m, e, queued.one t key (cell_place s.layout m) on there.1)
+    found t key on (Some (Condition k)) e there = absurd there
+
+    at : (t : ℕ) (q : Queue) → Stood s.layout s.queues t (Some q) → SleepsAt s.layout s t q
+    at t (Mutex m) there = there
+    at t (Condition k) there = absurd there
 
 pub told_sleeps : SleepsAreTold
 told_sleeps l counters events is =

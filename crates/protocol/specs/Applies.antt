@@ -11,8 +11,8 @@ use Rattle.protocol.specs.declared.event.Event.{Event}
 use Rattle.protocol.specs.declared.event.Event.TheVariants as event
 use Rattle.protocol.specs.declared.note.Note.{Note}
 use Rattle.protocol.specs.declared.note.Note.TheVariants.{Nothing, Began, Stepped, Killed, Walked}
-use Rattle.protocol.specs.declared.note.Fact.{Fact}
-use Rattle.protocol.specs.declared.note.Fact.TheVariants.{Begin, Return, Kill, Reap}
+use Rattle.facts.specs.declared.fact.Fact.{Fact}
+use Rattle.facts.specs.declared.fact.Fact.TheVariants.{Begin, Return, Kill, Reap}
 use Rattle.protocol.specs.Machine.{State, start, happens, run, notes, stands_in}
 use Rattle.protocol.specs.Headline.{seen, facts_among}
 

@@ -10,8 +10,8 @@ use Rattle.keys.specs.Objects.{object_of, fresh}
 use Rattle.keys.specs.Histories.{Legal, opening}
 use Rattle.protocol.specs.declared.event.Event.{Event}
 use Rattle.protocol.specs.declared.note.Note.{Note}
-use Rattle.protocol.specs.declared.note.Fact.{Fact}
-use Rattle.protocol.specs.declared.note.Fact.TheVariants.{Point, Death}
+use Rattle.facts.specs.declared.fact.Fact.{Fact}
+use Rattle.facts.specs.declared.fact.Fact.TheVariants.{Point, Death}
 use Rattle.protocol.specs.declared.thread.Stage.TheVariants.{Reaped}
 use Rattle.protocol.specs.Notes.{facts_of}
 use Rattle.protocol.specs.Machine.{State, start, run, notes}

@@ -6,9 +6,15 @@ use Rattle.mutex.specs.declared.call.Call.{Call}
 use Rattle.mutex.specs.Calls.{mutex_of, operation_of}
 use Rattle.protocol.specs.declared.note.Note.{Note}
 use Rattle.protocol.specs.declared.note.Note.TheVariants.{Nothing, Began, Stepped, Killed, Walked}
-use Rattle.protocol.specs.declared.note.Fact.{Fact}
-use Rattle.protocol.specs.declared.note.Fact.TheVariants.{Begin, Point, Sleep, Wake, Return, Kill, Death, Reap}
-use Rattle.protocol.specs.declared.note.Line.{Line}
+use Rattle.facts.specs.declared.fact.Begun.{Begun}
+use Rattle.facts.specs.declared.fact.Queue.TheVariants.{Mutex}
+use Rattle.facts.specs.declared.fact.Fact.{Fact}
+use Rattle.facts.specs.declared.fact.Fact.TheVariants.{Begin, Point, Sleep, Wake, Return, Kill, Death, Reap}
+use Rattle.facts.specs.declared.fact.Line.{Line}
+
+-- a call on a mutex, as its begin is told
+abbrev pub begun_of : Call → Begun
+begun_of c = record { operation = operation_of c; mutex = mutex_of c; condition = None }
 
 abbrev pub return_facts : ℕ → Option Reply → List Fact
 return_facts t None = []
@@ -25,7 +31,7 @@ refusal_facts t c (Some x) = Point (record { thread = t; mutex = mutex_of c; ope
 
 abbrev pub sleep_facts : ℕ → Option ℕ → List Fact
 sleep_facts t None = []
-sleep_facts t (Some m) = Sleep t m ∷ []
+sleep_facts t (Some m) = Sleep t (Mutex m) ∷ []
 
 abbrev pub death_facts : ℕ → Option ℕ → List Fact
 death_facts t None = []
@@ -38,7 +44,7 @@ reap_facts t true = Reap t ∷ []
 -- what an event did, one thing after the other
 abbrev pub facts_of : Note → List Fact
 facts_of Nothing = []
-facts_of (Began t c refused) = Begin t c ∷ refusal_facts t c refused
+facts_of (Began t c refused) = Begin t (begun_of c) ∷ refusal_facts t c refused
 facts_of (Stepped t point slept woken returned) = point_facts point ++ (sleep_facts t slept ++ (map Wake woken ++ return_facts t returned))
 facts_of (Killed t) = Kill t ∷ []
 facts_of (Walked t death woken reaped) = death_facts t death ++ (map Wake woken ++ reap_facts t reaped)

@@ -10,8 +10,8 @@ use Rattle.mutex.specs.declared.call.Call.{Call}
 use Rattle.mutex.specs.Calls.{mutex_of, operation_of}
 use Rattle.protocol.specs.declared.event.Event.{Event}
 use Rattle.protocol.specs.declared.event.Event.TheVariants.{Begin, Step}
-use Rattle.protocol.specs.declared.note.Fact.{Fact}
-use Rattle.protocol.specs.declared.note.Fact.TheVariants.{Return}
+use Rattle.facts.specs.declared.fact.Fact.{Fact}
+use Rattle.facts.specs.declared.fact.Fact.TheVariants.{Return}
 use Rattle.protocol.specs.Machine.{State, start, run, notes, stands_in, sleepers, is_busy, is_dying, is_asleep, may_begin}
 use Rattle.protocol.specs.Headline.{seen, facts_among}
 

@@ -4,8 +4,10 @@ use Rattle.keys.specs.Layouts.{Layout', IsLayout, cell_place}
 use Rattle.protocol.specs.declared.event.Event.{Event}
 use Rattle.protocol.specs.declared.event.Event.TheVariants as event
 use Rattle.protocol.specs.declared.note.Note.{Note}
-use Rattle.protocol.specs.declared.note.Fact.{Fact}
-use Rattle.protocol.specs.declared.note.Fact.TheVariants.{Sleep, Wake, Kill}
+use Rattle.facts.specs.declared.fact.Queue.{Queue}
+use Rattle.facts.specs.declared.fact.Queue.TheVariants.{Mutex, Condition}
+use Rattle.facts.specs.declared.fact.Fact.{Fact}
+use Rattle.facts.specs.declared.fact.Fact.TheVariants.{Sleep, Wake, Move, Kill}
 use Rattle.protocol.specs.Notes.{facts_of}
 use Rattle.protocol.specs.Machine.{State, start, happens, run, notes, stands_in}
 use Rattle.protocol.specs.Headline.{facts_among}
@@ -14,54 +16,63 @@ use Rattle.protocol.specs.Applies.{IsInNoQueue}
 
 -- ---- what lines tell of a thread
 
--- the mutex that thread t sleeps on, with one fact more: a sleep names it, and a wake and its kill end it
-abbrev pub asleep_next : ℕ → Option ℕ → Fact → Option ℕ
-asleep_next t w (Sleep u m) = if u == t then Some m else w
+-- where thread t sleeps, with one fact more: a sleep names it, a move takes it to a mutex, and a wake and its kill end it
+abbrev pub asleep_next : ℕ → Option Queue → Fact → Option Queue
+asleep_next t w (Sleep u q) = if u == t then Some q else w
+asleep_next t w (Move u m) = if u == t then Some (Mutex m) else w
 asleep_next t w (Wake u) = if u == t then None else w
 asleep_next t w (Kill u) = if u == t then None else w
 asleep_next t w f = w
 
-abbrev pub asleep_after : ℕ → Option ℕ → List Fact → Option ℕ
+abbrev pub asleep_after : ℕ → Option Queue → List Fact → Option Queue
 asleep_after t w [] = w
 asleep_after t w (f ∷ fs) = asleep_after t (asleep_next t w f) fs
 
--- that of the last of its lines among sleep, wake and kill, where this is a sleep; of a thread without such a line it is none
-abbrev pub told_asleep : ℕ → List Note → Option ℕ
+-- that of the last of its lines among sleep, move, wake and kill, where this is a sleep or a move; of a thread without such a line it is none
+abbrev pub told_asleep : ℕ → List Note → Option Queue
 told_asleep t ns = asleep_after t None (facts_among ns)
 
--- it is told to fall asleep only where it was awake, and to be woken only where it slept
-abbrev pub MayFollow : ℕ → Option ℕ → Fact → Type 0
-MayFollow t w (Sleep u m) = u ≡ t → w ≡ None
+-- it is told to fall asleep only where it was awake, and to be woken or moved only where it slept
+abbrev pub MayFollow : ℕ → Option Queue → Fact → Type 0
+MayFollow t w (Sleep u q) = u ≡ t → w ≡ None
 MayFollow t w (Wake u) = u ≡ t → w ≢ None
+MayFollow t w (Move u m) = u ≡ t → w ≢ None
 MayFollow t w f = Unit {0}
 
 -- so its sleeps and wakes alternate
-abbrev pub Alternates : ℕ → Option ℕ → List Fact → Type 0
+abbrev pub Alternates : ℕ → Option Queue → List Fact → Type 0
 Alternates t w [] = Unit {0}
 Alternates t w (f ∷ fs) = MayFollow t w f × Alternates t (asleep_next t w f) fs
 
 -- ---- one event more
 
--- it stood in no queue, and stands in that of mutex m then
-abbrev pub FallsAsleep : State → State → ℕ → ℕ → Type 0
-FallsAsleep s s' t m = IsInNoQueue s t × Sleeps s' t m
+-- it stood in no queue, and stands in that of mutex m then; on condition variables nobody sleeps
+abbrev pub FallsAsleep : State → State → ℕ → Queue → Type 0
+FallsAsleep s s' t (Mutex m) = IsInNoQueue s t × Sleeps s' t m
+FallsAsleep s s' t (Condition k) = ⊥
 
 -- it stood in a queue, and stands in none then
 abbrev pub LeavesQueue : State → State → ℕ → Type 0
 LeavesQueue s s' t = ((key : ℕ) × (stands_in t (s.queues key) ≡ true)) × IsInNoQueue s' t
 
--- an event tells thread t's sleep exactly where it comes to stand in a queue, that of the mutex that the sleep names; and its wake exactly where it leaves one, but by its kill
+-- an event tells thread t's sleep exactly where it comes to stand in a queue, that of the mutex that the sleep names; its wake exactly where it leaves one, but by its kill; and no move
 pub record TellsTurns (s : State) (e : Event) (t : ℕ) : Type 0 where
-  pub sleep : (m : ℕ) → IsAmong (Sleep t m) (facts_of (happens s e).note) ↔ FallsAsleep s (happens s e).state t m
+  pub sleep : (q : Queue) → IsAmong (Sleep t q) (facts_of (happens s e).note) ↔ FallsAsleep s (happens s e).state t q
   pub wake : IsAmong (Wake t) (facts_of (happens s e).note) ↔ (LeavesQueue s (happens s e).state t × (e ≢ event.Kill t))
+  pub moves_none : (m : ℕ) → ¬ IsAmong (Move t m) (facts_of (happens s e).note)
 
 -- ---- runs
+
+-- thread t sleeps there, on a mutex of the layout; on condition variables nobody sleeps
+abbrev pub SleepsAt : Layout' → State → ℕ → Queue → Type 0
+SleepsAt l s t (Mutex m) = (m < l.mutexes) × Sleeps s t m
+SleepsAt l s t (Condition k) = ⊥
 
 -- of a state that events lead to that were noted so: a thread stands in a queue exactly where the last of its lines among sleep, wake and kill is a sleep, in that of the mutex that this names, and in
 -- no other
 pub record TellsSleepers (l : Layout') (s : State) (ns : List Note) : Type 0 where
-  pub stands : (t key : ℕ) → stands_in t (s.queues key) ≡ true → (m : ℕ) × (told_asleep t ns ≡ Some m) × (key ≡ cell_place l m)
-  pub sleeps : (t m : ℕ) → told_asleep t ns ≡ Some m → (m < l.mutexes) × Sleeps s t m
+  pub stands : (t key : ℕ) → stands_in t (s.queues key) ≡ true → (m : ℕ) × (told_asleep t ns ≡ Some (Mutex m)) × (key ≡ cell_place l m)
+  pub sleeps : (t : ℕ) (q : Queue) → told_asleep t ns ≡ Some q → SleepsAt l s t q
   pub alternate : (t : ℕ) → Alternates t None (facts_among ns)
   pub next : (e : Event) (t : ℕ) → TellsTurns s e t
 

@@ -15,5 +15,5 @@ pub use laws::{
     deaths_are_told, events_apply, history_is_legal, lists_are_kept, machine_goes_on,
     no_reaped_owner, sleeps_are_told, trace_is_explained,
 };
-pub use note::{Fact, Line, Note};
+pub use note::Note;
 pub use thread::{Stage, Thread};

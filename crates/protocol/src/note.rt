@@ -1,4 +1,4 @@
-//! What events did, and the lines of a trace.
+//! What events did.
 ghost use Rattle.std.specs.Prelude.{◌≡◌};
 
 use buckets::Batch;
@@ -36,28 +36,4 @@ pub enum Note {
         woken: Batch,
         reaped: bool,
     },
-}
-
-/// One thing that an event did: what one line of a trace tells.
-#[derive(Clone, Copy, Debug, PartialEq, Eq)]
-pub enum Fact {
-    Begin(Tid, Call),
-    Point(Decision),
-    /// The thread fell asleep on the mutex with this number.
-    Sleep(Tid, u16),
-    /// The thread was woken.
-    Wake(Tid),
-    Return(Tid, Reply),
-    Kill(Tid),
-    /// The thread's death was told of the mutex with this number, which it owned.
-    Death(Tid, u16),
-    /// The walk of the thread's list has ended.
-    Reap(Tid),
-}
-
-/// A fact and the number of its event, from 1.
-#[derive(Clone, Copy, Debug, PartialEq, Eq)]
-pub struct Line {
-    pub event: u32,
-    pub fact: Fact,
 }

@@ -3,10 +3,10 @@ use Rattle.std.proofs.Common.{◌≡◌, ℕ, zero, suc, slice_get, Some, ◌+�
 use Rattle.std.proofs.lemmas.List.Folds.{concat-append}
 use Rattle.std.proofs.lemmas.List.{map-append, take_more, take-append-drop}
 use Rattle.std.proofs.lemmas.Option.{slice_get_within, get_or_from_slice_get}
-use Rattle.protocol.specs.declared.note.Fact.TheVariants.{Wake}
+use Rattle.facts.specs.declared.fact.Fact.TheVariants.{Wake}
 use Rattle.protocol.specs.declared.note.Note.{Note}
-use Rattle.protocol.specs.declared.note.Fact.{Fact}
-use Rattle.protocol.specs.declared.note.Line.{Line}
+use Rattle.facts.specs.declared.fact.Fact.{Fact}
+use Rattle.facts.specs.declared.fact.Line.{Line}
 use Rattle.protocol.specs.Notes.{facts_of, line_of, lines_from}
 use Rattle.texts.specs.Leaves.{Leaves}
 use Rattle.texts.specs.Text.{fact_text, facts_text, line_text, lines_text, notes_text}

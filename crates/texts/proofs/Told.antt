@@ -9,8 +9,8 @@ use Rattle.lockword.specs.declared.reply.Reply.{Reply}
 use Rattle.keys.specs.declared.point.Decision.{Decision}
 use Rattle.mutex.specs.declared.call.Call.{Call}
 use Rattle.protocol.specs.declared.note.Note.{Note}
-use Rattle.protocol.specs.declared.note.Fact.{Fact}
-use Rattle.protocol.specs.declared.note.Fact.TheVariants.{Wake}
+use Rattle.facts.specs.declared.fact.Fact.{Fact}
+use Rattle.facts.specs.declared.fact.Fact.TheVariants.{Wake}
 use Rattle.protocol.specs.Notes.{facts_of, point_facts, sleep_facts, refusal_facts, return_facts, death_facts, reap_facts}
 use Rattle.protocol.specs.Headline.{facts_among}
 use Rattle.texts.specs.Tables.{told_to, last_reply}

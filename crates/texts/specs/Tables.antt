@@ -8,8 +8,8 @@ use Rattle.mutex.specs.Calls.{mutex_of}
 use Rattle.protocol.specs.declared.thread.Stage.{Stage}
 use Rattle.protocol.specs.declared.thread.Stage.TheVariants.{Idle, Calling, Dying, Reaped}
 use Rattle.protocol.specs.declared.note.Note.{Note}
-use Rattle.protocol.specs.declared.note.Fact.{Fact}
-use Rattle.protocol.specs.declared.note.Fact.TheVariants.{Return}
+use Rattle.facts.specs.declared.fact.Fact.{Fact}
+use Rattle.facts.specs.declared.fact.Fact.TheVariants.{Return}
 use Rattle.protocol.specs.Machine.{State, stands_in, sleepers}
 use Rattle.protocol.specs.Headline.{seen, facts_among}
 use Rattle.script.specs.Scope.{Scope}

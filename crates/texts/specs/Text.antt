@@ -1,16 +1,17 @@
 -- The text of a trace, line by line.
-use Rattle.std.specs.Prelude.{ℕ, List, [], ◌∷◌, ◌++◌, length, map, codes, decimal}
+use Rattle.std.specs.Prelude.{ℕ, Option, Some, None, List, [], ◌∷◌, ◌++◌, length, map, codes, decimal}
 use Rattle.std.specs.List.{concat}
 use Rattle.lockword.specs.declared.reply.Reply.{Reply}
 use Rattle.lockword.specs.Replies.{reply_word}
 use Rattle.keys.specs.declared.point.Decision.{Decision}
+use Rattle.keys.specs.declared.point.Operation.{Operation}
 use Rattle.keys.specs.Words.{operation_word}
-use Rattle.mutex.specs.declared.call.Call.{Call}
-use Rattle.mutex.specs.Calls.{mutex_of, operation_of}
 use Rattle.protocol.specs.declared.note.Note.{Note}
-use Rattle.protocol.specs.declared.note.Fact.{Fact}
-use Rattle.protocol.specs.declared.note.Fact.TheVariants.{Begin, Point, Sleep, Wake, Return, Kill, Death, Reap}
-use Rattle.protocol.specs.declared.note.Line.{Line}
+use Rattle.facts.specs.declared.fact.Queue.{Queue}
+use Rattle.facts.specs.declared.fact.Queue.TheVariants.{Mutex, Condition}
+use Rattle.facts.specs.declared.fact.Fact.{Fact}
+use Rattle.facts.specs.declared.fact.Fact.TheVariants.{Begin, Point, Death, Sleep, Wake, Move, Return, Kill, Reap}
+use Rattle.facts.specs.declared.fact.Line.{Line}
 use Rattle.protocol.specs.Notes.{line_of, lines_from}
 use Rattle.interleave.specs.declared.trace.Trace.{Trace}
 
@@ -20,9 +21,17 @@ use Rattle.interleave.specs.declared.trace.Trace.{Trace}
 abbrev pub head_line : ℕ → ℕ → ℕ → List ℕ
 head_line threads mutexes conditions = concat (codes "trace " ∷ decimal threads ∷ codes " " ∷ decimal mutexes ∷ codes " " ∷ decimal conditions ∷ codes "\n" ∷ [])
 
--- i begin tT OP mM: the thread began a call
-abbrev pub begin_line : ℕ → ℕ → Call → List ℕ
-begin_line i t c = concat (decimal i ∷ codes " begin t" ∷ decimal t ∷ codes " " ∷ operation_word (operation_of c) ∷ codes " m" ∷ decimal (mutex_of c) ∷ codes "\n" ∷ [])
+-- i begin tT OP mM: the thread began a call on the mutex
+abbrev pub begin_line : ℕ → ℕ → Operation → ℕ → List ℕ
+begin_line i t op m = concat (decimal i ∷ codes " begin t" ∷ decimal t ∷ codes " " ∷ operation_word op ∷ codes " m" ∷ decimal m ∷ codes "\n" ∷ [])
+
+-- i begin tT OP cC mM: the thread began a call on the condition variable, with the mutex
+abbrev pub begin_on_line : ℕ → ℕ → Operation → ℕ → ℕ → List ℕ
+begin_on_line i t op k m = concat (decimal i ∷ codes " begin t" ∷ decimal t ∷ codes " " ∷ operation_word op ∷ codes " c" ∷ decimal k ∷ codes " m" ∷ decimal m ∷ codes "\n" ∷ [])
+
+abbrev pub begin_line_of : ℕ → ℕ → Operation → Option ℕ → ℕ → List ℕ
+begin_line_of i t op None m = begin_line i t op m
+begin_line_of i t op (Some k) m = begin_on_line i t op k m
 
 -- i point tT mM OP REPLY: the thread's operation on the mutex was decided
 abbrev pub point_line : ℕ → Decision → List ℕ
@@ -32,9 +41,21 @@ point_line i d = concat (decimal i ∷ codes " point t" ∷ decimal d.thread ∷
 abbrev pub sleep_line : ℕ → ℕ → ℕ → List ℕ
 sleep_line i t m = concat (decimal i ∷ codes " sleep t" ∷ decimal t ∷ codes " m" ∷ decimal m ∷ codes "\n" ∷ [])
 
+-- i sleep tT cC: the thread fell asleep on the condition variable
+abbrev pub sleep_on_line : ℕ → ℕ → ℕ → List ℕ
+sleep_on_line i t k = concat (decimal i ∷ codes " sleep t" ∷ decimal t ∷ codes " c" ∷ decimal k ∷ codes "\n" ∷ [])
+
+abbrev pub sleep_line_of : ℕ → ℕ → Queue → List ℕ
+sleep_line_of i t (Mutex m) = sleep_line i t m
+sleep_line_of i t (Condition k) = sleep_on_line i t k
+
 -- i wake tT: the thread was woken
 abbrev pub wake_line : ℕ → ℕ → List ℕ
 wake_line i t = concat (decimal i ∷ codes " wake t" ∷ decimal t ∷ codes "\n" ∷ [])
+
+-- i move tT mM: the thread was moved to the queue of the mutex
+abbrev pub move_line : ℕ → ℕ → ℕ → List ℕ
+move_line i t m = concat (decimal i ∷ codes " move t" ∷ decimal t ∷ codes " m" ∷ decimal m ∷ codes "\n" ∷ [])
 
 -- i return tT REPLY: the thread's call returned
 abbrev pub return_line : ℕ → ℕ → Reply → List ℕ
@@ -60,10 +81,11 @@ end_line n = concat (codes "end " ∷ decimal n ∷ codes "\n" ∷ [])
 
 -- what event i's line tells of a fact
 abbrev pub fact_text : ℕ → Fact → List ℕ
-fact_text i (Begin t c) = begin_line i t c
+fact_text i (Begin t c) = begin_line_of i t c.operation c.condition c.mutex
 fact_text i (Point d) = point_line i d
-fact_text i (Sleep t m) = sleep_line i t m
+fact_text i (Sleep t q) = sleep_line_of i t q
 fact_text i (Wake t) = wake_line i t
+fact_text i (Move t m) = move_line i t m
 fact_text i (Return t r) = return_line i t r
 fact_text i (Kill t) = kill_line i t
 fact_text i (Death t m) = death_line i t m

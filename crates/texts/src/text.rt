@@ -1,18 +1,19 @@
 //! The text of a trace.
 
-ghost use Rattle.std.specs.Prelude.{[], ◌∷◌, ◌++◌, map};
-ghost use Rattle.protocol.specs.Notes.{facts_of, point_facts, sleep_facts, refusal_facts, return_facts, death_facts, reap_facts};
-ghost use Rattle.protocol.specs.declared.note.Fact.TheVariants.{Wake};
+ghost use Rattle.std.specs.Prelude.{◌≡◌, [], ◌∷◌, ◌++◌, map};
+ghost use Rattle.protocol.specs.Notes.{begun_of, facts_of, point_facts, sleep_facts, refusal_facts, return_facts, death_facts, reap_facts};
+ghost use Rattle.facts.specs.declared.fact.Fact.TheVariants.{Wake};
 ghost use Rattle.texts.specs.Leaves.{Leaves};
 ghost use Rattle.texts.specs.Text.{facts_text, notes_text, trace_text};
 
 use crate::trace_lines::{write_end, write_fact, write_head};
 use buckets::Batch;
+use facts::{Begun, Fact, Queue};
 use interleave::Trace;
 use keys::Decision;
 use lockword::{Reply, Tid};
 use mutex::Call;
-use protocol::{Fact, Note};
+use protocol::Note;
 use std::io::{self, Write};
 
 /// The line of the access that decided a call, if one did.
@@ -35,7 +36,7 @@ fn write_slept<W: Write>(
     ensures { Leaves (W.contents out.old) (W.contents out.new) result (facts_text event (sleep_facts thread slept)) }
 {
     match slept {
-        Some(mutex) => write_fact(out, event, Fact::Sleep(thread, mutex)),
+        Some(mutex) => write_fact(out, event, Fact::Sleep(thread, Queue::Mutex(mutex))),
         None => Ok(()),
     }
 }
@@ -65,6 +66,18 @@ fn write_returned<W: Write>(
     match returned {
         Some(reply) => write_fact(out, event, Fact::Return(thread, reply)),
         None => Ok(()),
+    }
+}
+
+/// A call on a mutex, as its begin is told.
+fn begun(call: Call) -> Begun
+    ensures { result ≡ begun_of call }
+{
+    let mutex = call.mutex();
+    Begun {
+        operation: call.operation(),
+        mutex,
+        condition: None,
     }
 }
 
@@ -171,7 +184,7 @@ fn write_note<W: Write>(out: &mut W, event: usize, note: Note) -> io::Result<()>
             call,
             refused,
         } => {
-            write_fact(out, event, Fact::Begin(thread, call))?;
+            write_fact(out, event, Fact::Begin(thread, begun(call)))?;
             write_refused(out, event, thread, call, refused)
         }
         Note::Stepped {

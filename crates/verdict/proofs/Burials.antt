@@ -10,25 +10,26 @@ use Rattle.keys.specs.declared.point.Decision.{Decision}
 use Rattle.keys.specs.declared.point.Operation.TheVariants as operation
 use Rattle.keys.specs.Objects.{Does}
 use Rattle.keys.specs.Histories.{Legal, held_by, is_thread, opening}
-use Rattle.verdict.specs.declared.entry.Call.{Call}
-use Rattle.verdict.specs.declared.entry.Fact.{Fact}
-use Rattle.verdict.specs.declared.entry.Fact.TheVariants.{Begin, Kill, Point, Death, Sleep, Wake, Move, Return, Reap}
-use Rattle.verdict.specs.declared.entry.Entry.{Entry}
+use Rattle.facts.specs.declared.fact.Begun.{Begun}
+use Rattle.facts.specs.declared.fact.Fact.{Fact}
+use Rattle.facts.specs.declared.fact.Fact.TheVariants.{Begin, Kill, Point, Death, Sleep, Wake, Move, Return, Reap}
+use Rattle.facts.specs.declared.fact.Line.{Line}
 use Rattle.verdict.specs.declared.stage.Stage.{Stage}
 use Rattle.verdict.specs.declared.stage.Stage.TheVariants.{Resting, Calling, Dying, Reaped}
-use Rattle.verdict.specs.Facts.{thread_of, decision_of, operation_of}
+use Rattle.facts.specs.Facts.{thread_of, decision_of}
 use Rattle.verdict.specs.Earlier.{told_of, call_in, is_killed, objects_after, moved, changed}
-use Rattle.verdict.specs.Fits.{Fits, FitsThread, Allows, OwnsNothing, Each}
+use Rattle.facts.specs.Orders.{Later, Each, Orderly}
+use Rattle.verdict.specs.Fits.{Fits, FitsThread, Allows, OwnsNothing}
 use Rattle.verdict.specs.Judges.{IsMutex, one}
 use Rattle.verdict.specs.Verdicts.{AllFit}
-use Rattle.verdict.specs.Explained.{with_decision, decisions, is_death, deaths, is_reaping, reaped, Buries, Orderly, Explains}
+use Rattle.verdict.specs.Explained.{with_decision, decisions, is_death, deaths, is_reaping, reaped, Buries, Explains}
 use Rattle.verdict.proofs.Owners.{does_changes, does_owners, not_owner, others_own, owns_itself}
 use Rattle.verdict.proofs.Stages.{Kept}
 use Rattle.verdict.proofs.Lives.{lived, lives}
 
 -- ---- one history
 
-decisions-append : (xs ys : List Entry) (zs : List Decision) → decisions ys ≡ zs → (ds : List Decision) → decisions xs ≡ ds → decisions (xs ++ ys) ≡ ds ++ zs
+decisions-append : (xs ys : List Line) (zs : List Decision) → decisions ys ≡ zs → (ds : List Decision) → decisions xs ≡ ds → decisions (xs ++ ys) ≡ ds ++ zs
 decisions-append [] ys zs e ds f = e ∙ ap (λ qs. qs ++ zs) f
 decisions-append (x ∷ xs) ys zs e ds f = go (decision_of x.fact) (decisions-append xs ys zs e (decisions xs) refl) ∙ ap (λ qs. qs ++ zs) f where
   go : (o : Option Decision) → decisions (xs ++ ys) ≡ decisions xs ++ zs → with_decision o (decisions (xs ++ ys)) ≡ with_decision o (decisions xs) ++ zs
@@ -39,7 +40,7 @@ append_nil : {A : Type 0} (xs : List A) → xs ++ [] ≡ xs
 append_nil [] = refl
 append_nil (x ∷ xs) = ap (λ ys. x ∷ ys) (append_nil xs)
 
-newest : (e : Entry) (es : List Entry) → decisions (reverse (e ∷ es)) ≡ decisions (reverse es) ++ with_decision (decision_of e.fact) []
+newest : (e : Line) (es : List Line) → decisions (reverse (e ∷ es)) ≡ decisions (reverse es) ++ with_decision (decision_of e.fact) []
 newest e es = ap decisions (reverse-append (e ∷ []) es) ∙ decisions-append (reverse es) (e ∷ []) (with_decision (decision_of e.fact) []) refl (decisions (reverse es)) refl
 
 -- one step more
@@ -49,19 +50,19 @@ further n old mid new [] d same lt does others =
     (lt, (new, subst (λ (os : ℕ → Object). Does (held_by d.thread os n) (os d.mutex) d.thread d.operation d.reply (new d.mutex)) e does, λ m o. others m o ∙ same m, λ m. refl))
 further n old mid new (k ∷ ds) d h lt does others = (h.0, (h.1.0, h.1.1, h.1.2, further n h.1.0 mid new ds d h.1.3 lt does others))
 
-pub legal : (n : ℕ) (told : List Entry) → AllFit n told → Each (λ e. IsMutex n e.fact) told → Legal n opening (decisions (reverse told)) (objects_after told)
+pub legal : (n : ℕ) (told : List Line) → AllFit n told → Each (λ e. IsMutex n e.fact) told → Legal n opening (decisions (reverse told)) (objects_after told)
 legal n [] fit inside = λ m. refl
 legal n (e ∷ es) fit inside = subst (λ ds. Legal n opening ds (objects_after (e ∷ es))) (sym (newest e es)) (go e.fact fit.0.allowed inside.0 (legal n es fit.1 inside.1)) where
   go : (f : Fact) → Allows n (objects_after es) (decision_of f) → IsMutex n f → Legal n opening (decisions (reverse es)) (objects_after es) → Legal n opening (decisions (reverse es) ++ with_decision (decision_of f) []) (moved (objects_after es) (decision_of f))
   go f a i h = by_decision (decision_of f) (mutex_in f i) a where
     mutex_in : (f : Fact) → IsMutex n f → (d : Decision) → decision_of f ≡ Some d → d.mutex < n
-    mutex_in (Point t c x) i d is = let same : c.mutex ≡ d.mutex = cc in omega (arith, i, same)
+    mutex_in (Point e) i d is = let same : e.mutex ≡ d.mutex = cc in omega (arith, i, same)
     mutex_in (Death t m) i d is = let same : m ≡ d.mutex = cc in omega (arith, i, same)
     mutex_in (Begin t c) i d is = absurd cc
     mutex_in (Kill t) i d is = absurd cc
-    mutex_in (Sleep t) i d is = absurd cc
+    mutex_in (Sleep t q) i d is = absurd cc
     mutex_in (Wake t) i d is = absurd cc
-    mutex_in (Move t) i d is = absurd cc
+    mutex_in (Move t k) i d is = absurd cc
     mutex_in (Return t x) i d is = absurd cc
     mutex_in (Reap t) i d is = absurd cc
 
@@ -108,7 +109,7 @@ no_call (Calling c made z) fs k killed = let e : true ≡ false = sym killed ∙
 no_call Dying fs k killed = k.0
 no_call Reaped fs k killed = k.0
 
-never_points : (fs : List Fact) (t : ℕ) (o : Option Call) → o ≡ None → (k : Call) → o ≡ Some k → ⊥
+never_points : (fs : List Fact) (t : ℕ) (o : Option Begun) → o ≡ None → (k : Begun) → o ≡ Some k → ⊥
 never_points fs t o e k f = let g : None ≡ Some k = sym e ∙ f in absurd cc
 
 -- the thread's death of a mutex takes it from the thread
@@ -128,20 +129,20 @@ nothing_else : (t : ℕ) (o p : Object) → o ≡ p → 0 + owns t o ≡ owns t 
 nothing_else t o p e = let f = ap (owns t) e in omega (arith, f)
 
 -- after a kill, whoever makes a line: a death less is owned
-balance : (n t m : ℕ) (es : List Entry) (f : Fact) → call_in (told_of t es) ≡ None → FitsThread (told_of (thread_of f) es) f → Allows n (objects_after es) (decision_of f) → (if is_death t m f then 1 else 0) + owns t (moved (objects_after es) (decision_of f) m) ≡ owns t (objects_after es m)
+balance : (n t m : ℕ) (es : List Line) (f : Fact) → call_in (told_of t es) ≡ None → FitsThread (told_of (thread_of f) es) f → Allows n (objects_after es) (decision_of f) → (if is_death t m f then 1 else 0) + owns t (moved (objects_after es) (decision_of f) m) ≡ owns t (objects_after es m)
 balance n t m es (Begin u c) free fits a = nothing_else t (objects_after es m) (objects_after es m) refl
 balance n t m es (Kill u) free fits a = nothing_else t (objects_after es m) (objects_after es m) refl
-balance n t m es (Sleep u) free fits a = nothing_else t (objects_after es m) (objects_after es m) refl
+balance n t m es (Sleep u q) free fits a = nothing_else t (objects_after es m) (objects_after es m) refl
 balance n t m es (Wake u) free fits a = nothing_else t (objects_after es m) (objects_after es m) refl
-balance n t m es (Move u) free fits a = nothing_else t (objects_after es m) (objects_after es m) refl
+balance n t m es (Move u k) free fits a = nothing_else t (objects_after es m) (objects_after es m) refl
 balance n t m es (Return u x) free fits a = nothing_else t (objects_after es m) (objects_after es m) refl
 balance n t m es (Reap u) free fits a = nothing_else t (objects_after es m) (objects_after es m) refl
-balance n t m es (Point u c x) free fits a = go (u == t) refl where
-  go : (b : Bool) → (u == t) ≡ b → 0 + owns t (moved (objects_after es) (decision_of (Point u c x)) m) ≡ owns t (objects_after es m)
+balance n t m es (Point d) free fits a = go (d.thread == t) refl where
+  go : (b : Bool) → (d.thread == t) ≡ b → 0 + owns t (moved (objects_after es) (decision_of (Point d)) m) ≡ owns t (objects_after es m)
   go true is =
-      let same : u ≡ t = grind (arith, nat_tests) in
+      let same : d.thread ≡ t = grind (arith, nat_tests) in
       absurd (never_points [] t (call_in (told_of t es)) free fits.1.0 (subst (λ v. call_in (told_of v es) ≡ Some fits.1.0) same fits.1.1))
-  go false is = let other : t ≢ u = grind (arith, nat_tests) in let e = others_step n t m (objects_after es) (record { thread = u; mutex = c.mutex; operation = operation_of c.action; reply = x }) a other in omega (arith, e)
+  go false is = let other : t ≢ d.thread = grind (arith, nat_tests) in let e = others_step n t m (objects_after es) d a other in omega (arith, e)
 balance n t m es (Death u k) free fits a = go (u == t) refl where
   go : (b : Bool) → (u == t) ≡ b → (if b && (k == m) then 1 else 0) + owns t (moved (objects_after es) (decision_of (Death u k)) m) ≡ owns t (objects_after es m)
   go true is =
@@ -159,25 +160,25 @@ balance n t m es (Death u k) free fits a = go (u == t) refl where
 still_killed : (t : ℕ) (f : Fact) (fs : List Fact) → is_killed fs ≡ true → is_killed (f ∷ fs) ≡ true
 still_killed t (Begin u c) fs k = k
 still_killed t (Kill u) fs k = refl
-still_killed t (Point u c x) fs k = k
+still_killed t (Point d) fs k = k
 still_killed t (Death u m) fs k = k
-still_killed t (Sleep u) fs k = k
+still_killed t (Sleep u q) fs k = k
 still_killed t (Wake u) fs k = k
-still_killed t (Move u) fs k = k
+still_killed t (Move u m) fs k = k
 still_killed t (Return u x) fs k = k
 still_killed t (Reap u) fs k = k
 
-killed_after : (t : ℕ) (e : Entry) (es : List Entry) → is_killed (told_of t es) ≡ true → is_killed (told_of t (e ∷ es)) ≡ true
+killed_after : (t : ℕ) (e : Line) (es : List Line) → is_killed (told_of t es) ≡ true → is_killed (told_of t (e ∷ es)) ≡ true
 killed_after t e es k = go (thread_of e.fact == t) where
   go : (b : Bool) → is_killed (if b then e.fact ∷ told_of t es else told_of t es) ≡ true
   go true = still_killed t e.fact (told_of t es) k
   go false = k
 
-killed_now : (t : ℕ) (i : ℕ) (es : List Entry) → is_killed (told_of t ((record { event = i; fact = Kill t }) ∷ es)) ≡ true
+killed_now : (t : ℕ) (i : ℕ) (es : List Line) → is_killed (told_of t ((record { event = i; fact = Kill t }) ∷ es)) ≡ true
 killed_now t i es = let yes : (t == t) ≡ true = grind (arith, nat_tests) in ap (λ b. is_killed (if b then Kill t ∷ told_of t es else told_of t es)) yes
 
 -- so far: each mutex that t owned at its kill is told of once, or is still owned; and a reaped thread owns nothing
-record Settled (t n : ℕ) (earlier newer told : List Entry) : Type 0 where
+record Settled (t n : ℕ) (earlier newer told : List Line) : Type 0 where
   killed : is_killed (told_of t told) ≡ true
   each : (m : ℕ) → deaths t m newer + owns t (objects_after told m) ≡ owns t (objects_after earlier m)
   gone : reaped t newer ≡ true → (m : ℕ) → m < n → owns t (objects_after told m) ≡ 0
@@ -186,14 +187,14 @@ reap_owns : (t n : ℕ) (os : ℕ → Object) (f : Fact) → OwnsNothing n os f 
 reap_owns t n os (Reap u) o is m lt = let same : u ≡ t = grind (arith, nat_tests) in ap one (not_owner t (os m).owner (λ e. o m lt (e ∙ ap Some (sym same))))
 reap_owns t n os (Begin u c) o is m lt = absurd cc
 reap_owns t n os (Kill u) o is m lt = absurd cc
-reap_owns t n os (Point u c x) o is m lt = absurd cc
+reap_owns t n os (Point d) o is m lt = absurd cc
 reap_owns t n os (Death u k) o is m lt = absurd cc
-reap_owns t n os (Sleep u) o is m lt = absurd cc
+reap_owns t n os (Sleep u q) o is m lt = absurd cc
 reap_owns t n os (Wake u) o is m lt = absurd cc
-reap_owns t n os (Move u) o is m lt = absurd cc
+reap_owns t n os (Move u k) o is m lt = absurd cc
 reap_owns t n os (Return u x) o is m lt = absurd cc
 
-settle : (t n : ℕ) (earlier newer told : List Entry) (e : Entry) → AllFit n told → Fits n told e → Settled t n earlier newer told → Settled t n earlier (e ∷ newer) (e ∷ told)
+settle : (t n : ℕ) (earlier newer told : List Line) (e : Line) → AllFit n told → Fits n told e → Settled t n earlier newer told → Settled t n earlier (e ∷ newer) (e ∷ told)
 settle t n earlier newer told e fit fits s = record {
   killed = killed_after t e told s.killed;
   each = λ m. let a = s.each m in let b = one_more m in omega (arith, a, b);
@@ -210,7 +211,7 @@ settle t n earlier newer told e fit fits s = record {
     go true is w m lt = let was = reap_owns t n (objects_after told) e.fact fits.reaped is m lt in let b = one_more m in omega (arith, was, b)
     go false is w m lt = let was = s.gone w m lt in let b = one_more m in omega (arith, was, b)
 
-settled : (t n i : ℕ) (earlier newer : List Entry) → AllFit n (newer ++ (record { event = i; fact = Kill t }) ∷ earlier) → Settled t n earlier newer (newer ++ (record { event = i; fact = Kill t }) ∷ earlier)
+settled : (t n i : ℕ) (earlier newer : List Line) → AllFit n (newer ++ (record { event = i; fact = Kill t }) ∷ earlier) → Settled t n earlier newer (newer ++ (record { event = i; fact = Kill t }) ∷ earlier)
 settled t n i earlier [] fit = record {
   killed = killed_now t i earlier;
   each = λ m. omega arith;
@@ -222,7 +223,7 @@ at_most_one : (b : Bool) → one b ≤ 1
 at_most_one true = omega arith
 at_most_one false = omega arith
 
-buries : (t n : ℕ) (earlier newer told : List Entry) → Settled t n earlier newer told → Buries t n (objects_after earlier) newer
+buries : (t n : ℕ) (earlier newer told : List Line) → Settled t n earlier newer told → Buries t n (objects_after earlier) newer
 buries t n earlier newer told s = record {
   at_most_once = λ m lt owner. let a = s.each m in omega (arith, a, at_most_one (is_thread t (objects_after earlier m).owner));
   once_reaped = λ m lt owner is. let a = s.each m in let b = s.gone is m lt in let c = ap one (owns_itself t (objects_after earlier m).owner owner) in omega (arith, a, b, c);
@@ -231,25 +232,38 @@ buries t n earlier newer told s = record {
 
 -- ---- all of it
 
-orderly : (n : ℕ) (told : List Entry) → AllFit n told → Orderly told
-orderly n [] fit = tt
-orderly n (e ∷ es) fit = (fit.0.in_order, orderly n es fit.1)
+each_append : (P : Line → Type 0) (xs ys : List Line) → Each P xs → Each P ys → Each P (xs ++ ys)
+each_append P [] ys all more = more
+each_append P (x ∷ xs) ys all more = (all.0, each_append P xs ys all.1 more)
 
-fit_before : (n : ℕ) (newer : List Entry) (e : Entry) (earlier : List Entry) → AllFit n (newer ++ e ∷ earlier) → AllFit n earlier
+each_reverse : (P : Line → Type 0) (es : List Line) → Each P es → Each P (reverse es)
+each_reverse P [] all = tt
+each_reverse P (e ∷ es) all = subst (Each P) (sym (reverse-append (e ∷ []) es)) (each_append P (reverse es) (e ∷ []) (each_reverse P es all.1) (all.0, tt))
+
+-- a line behind all of them
+orderly_behind : (xs : List Line) (e : Line) → Orderly xs → Each (λ a. Later a e) xs → Orderly (xs ++ e ∷ [])
+orderly_behind [] e order before = (tt, tt)
+orderly_behind (x ∷ xs) e order before = (each_append (Later x) xs (e ∷ []) order.0 (before.0, tt), orderly_behind xs e order.1 before.1)
+
+orderly : (n : ℕ) (told : List Line) → AllFit n told → Orderly (reverse told)
+orderly n [] fit = tt
+orderly n (e ∷ es) fit = subst Orderly (sym (reverse-append (e ∷ []) es)) (orderly_behind (reverse es) e (orderly n es fit.1) (each_reverse (λ a. Later a e) es fit.0.in_order))
+
+fit_before : (n : ℕ) (newer : List Line) (e : Line) (earlier : List Line) → AllFit n (newer ++ e ∷ earlier) → AllFit n earlier
 fit_before n [] e earlier fit = fit.1
 fit_before n (x ∷ newer) e earlier fit = fit_before n newer e earlier fit.1
 
-inside_before : (n : ℕ) (newer : List Entry) (e : Entry) (earlier : List Entry) → Each (λ x. IsMutex n x.fact) (newer ++ e ∷ earlier) → Each (λ x. IsMutex n x.fact) earlier
+inside_before : (n : ℕ) (newer : List Line) (e : Line) (earlier : List Line) → Each (λ x. IsMutex n x.fact) (newer ++ e ∷ earlier) → Each (λ x. IsMutex n x.fact) earlier
 inside_before n [] e earlier inside = inside.1
 inside_before n (x ∷ newer) e earlier inside = inside_before n newer e earlier inside.1
 
-pub explains : (n : ℕ) (told : List Entry) → AllFit n told → Each (λ e. IsMutex n e.fact) told → Explains n told
+pub explains : (n : ℕ) (told : List Line) → AllFit n told → Each (λ e. IsMutex n e.fact) told → Explains n told
 explains n told fit inside = record {
   orderly = orderly n told fit;
   legal = (objects_after told, legal n told fit inside);
   lives = lives n told fit;
   deaths_told = λ newer earlier i t all.
-      let k : Entry = record { event = i; fact = Kill t } in
+      let k : Line = record { event = i; fact = Kill t } in
       let fit_all = subst (AllFit n) all fit in
       let inside_all = subst (Each (λ e. IsMutex n e.fact)) all inside in
       (objects_after earlier, legal n earlier (fit_before n newer k earlier fit_all) (inside_before n newer k earlier inside_all), buries t n earlier newer (newer ++ k ∷ earlier) (settled t n i earlier newer fit_all));

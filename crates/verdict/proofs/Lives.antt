@@ -3,20 +3,19 @@ use Rattle.std.proofs.Common.{◌≡◌, ℕ, ◌==◌, ◌&&◌, Bool, true, fa
 use Rattle.std.specs.Prelude.{if◌then◌else◌, reverse}
 use Rattle.std.proofs.lemmas.List.{reverse-append}
 use Rattle.std.proofs.lemmas.Bool.Decides.{nat_tests}
-use Rattle.verdict.specs.declared.entry.Call.{Call}
-use Rattle.verdict.specs.declared.entry.Fact.{Fact}
-use Rattle.verdict.specs.declared.entry.Fact.TheVariants.{Begin, Kill, Point, Death, Sleep, Wake, Move, Return, Reap}
-use Rattle.verdict.specs.declared.entry.Entry.{Entry}
+use Rattle.facts.specs.declared.fact.Begun.{Begun}
+use Rattle.facts.specs.declared.fact.Fact.{Fact}
+use Rattle.facts.specs.declared.fact.Fact.TheVariants.{Begin, Kill, Point, Death, Sleep, Wake, Move, Return, Reap}
+use Rattle.facts.specs.declared.fact.Line.{Line}
 use Rattle.verdict.specs.declared.stage.Made.{Made}
 use Rattle.verdict.specs.declared.stage.Stage.{Stage}
 use Rattle.verdict.specs.declared.stage.Stage.TheVariants.{Resting, Calling, Dying, Reaped}
-use Rattle.verdict.specs.Calls.{Act}
-use Rattle.verdict.specs.Facts.{thread_of}
+use Rattle.facts.specs.Lives.{Act, is_of_call, own, made_by, made, Mourned, Unburied, Tells_of, Buried, Life, Rests, Returns, Stays, Cut, Dies}
+use Rattle.facts.specs.Facts.{thread_of}
 use Rattle.verdict.specs.Earlier.{told_of}
 use Rattle.verdict.specs.Fits.{FitsThread}
 use Rattle.verdict.specs.Stages.{May, next}
 use Rattle.verdict.specs.Verdicts.{AllFit}
-use Rattle.verdict.specs.Explained.{is_of_call, own, made, Mourned, Unburied, Tells_of, Buried, Life, Rests, Returns, Stays, Cut, Dies}
 use Rattle.verdict.proofs.Stages.{Of, Kept, beginning, onward, fits_may, next_kept}
 
 append_nil : {A : Type 0} (xs : List A) → xs ++ [] ≡ xs
@@ -26,11 +25,11 @@ append_nil (x ∷ xs) = ap (λ ys. x ∷ ys) (append_nil xs)
 -- ---- a life so far, and how it may go on
 
 -- the facts end in a call with these points, before which there is a life
-pub record InCall (t : ℕ) (c : Call) (m : Made) (fs : List Fact) : Type 0 where
+pub record InCall (t : ℕ) (c : Begun) (m : Made) (fs : List Fact) : Type 0 where
   pub before : List Fact
   pub points : List Act
   pub all : fs ≡ before ++ Begin t c ∷ made t c points
-  pub of : Of c.action points m
+  pub of : Of c.operation points m
   pub goes_on : (later : List Fact) → Life t later → Life t (before ++ later)
 
 abbrev pub Past : ℕ → Stage → List Fact → Type 0
@@ -41,16 +40,16 @@ Past t Reaped fs = Life t fs
 
 pub whole : (t : ℕ) (s : Stage) (fs : List Fact) → Past t s fs → Life t fs
 whole t Resting fs p = subst (Life t) (append_nil fs) (p [] Rests)
-whole t (Calling c m z) fs p = subst (Life t) (sym p.all) (p.goes_on (Begin t c ∷ made t c p.points) (Stays c p.points (beginning c.action p.points m p.of)))
+whole t (Calling c m z) fs p = subst (Life t) (sym p.all) (p.goes_on (Begin t c ∷ made t c p.points) (Stays c p.points (beginning c.operation p.points m p.of)))
 whole t Dying fs p = subst (Life t) (append_nil fs) (p [] Unburied)
 whole t Reaped fs p = p
 
-made_more : (t : ℕ) (c : Call) (ps : List Act) (p : Act) → made t c ps ++ Point t (record { action = p.0; mutex = c.mutex }) p.1 ∷ [] ≡ made t c (ps ++ p ∷ [])
+made_more : (t : ℕ) (c : Begun) (ps : List Act) (p : Act) → made t c ps ++ made_by t c p ∷ [] ≡ made t c (ps ++ p ∷ [])
 made_more t c [] p = refl
-made_more t c (q ∷ ps) p = ap (λ fs. Point t (record { action = q.0; mutex = c.mutex }) q.1 ∷ fs) (made_more t c ps p)
+made_more t c (q ∷ ps) p = ap (λ fs. made_by t c q ∷ fs) (made_more t c ps p)
 
 -- a fact behind a call's points
-behind : (t : ℕ) (c : Call) (fs before : List Fact) (ps : List Act) (f : Fact) (later : List Fact) → fs ≡ before ++ Begin t c ∷ made t c ps → (fs ++ f ∷ []) ++ later ≡ before ++ Begin t c ∷ (made t c ps ++ f ∷ later)
+behind : (t : ℕ) (c : Begun) (fs before : List Fact) (ps : List Act) (f : Fact) (later : List Fact) → fs ≡ before ++ Begin t c ∷ made t c ps → (fs ++ f ∷ []) ++ later ≡ before ++ Begin t c ∷ (made t c ps ++ f ∷ later)
 behind t c fs before ps f later all = append_assoc fs (f ∷ []) later ∙ ap (λ gs. gs ++ f ∷ later) all ∙ append_assoc before (Begin t c ∷ made t c ps) (f ∷ later)
 
 -- the thread's own fact
@@ -65,35 +64,34 @@ own_fact t Resting (Begin u c) fs is life m p = record {
 own_fact t Resting (Kill u) fs is life m p = λ later h. subst (Life t) (sym (append_assoc fs (Kill u ∷ []) later)) (subst (λ v. Life t (fs ++ Kill v ∷ later)) (sym is) (p (Kill t ∷ later) (Dies later h)))
 own_fact t (Calling c made_so z) (Kill u) fs is life m p = λ later h.
     subst (Life t) (sym (behind t c fs p.before p.points (Kill u) later p.all))
-    (subst (λ v. Life t (p.before ++ Begin t c ∷ (made t c p.points ++ Kill v ∷ later))) (sym is) (p.goes_on (Begin t c ∷ (made t c p.points ++ Kill t ∷ later)) (Cut c p.points later (beginning c.action p.points made_so p.of) h)))
-own_fact t (Calling c made_so z) (Point u d x) fs is life m p = record {
+    (subst (λ v. Life t (p.before ++ Begin t c ∷ (made t c p.points ++ Kill v ∷ later))) (sym is) (p.goes_on (Begin t c ∷ (made t c p.points ++ Kill t ∷ later)) (Cut c p.points later (beginning c.operation p.points made_so p.of) h)))
+own_fact t (Calling c made_so z) (Point d) fs is life m p = record {
   before = p.before;
-  points = p.points ++ (d.action, x) ∷ [];
+  points = p.points ++ (d.operation, d.reply) ∷ [];
   all =
-      let same : d ≡ record { action = d.action; mutex = c.mutex } = λ i. record { action = d.action; mutex = m.1 i } in
-      ap (λ gs. gs ++ Point u d x ∷ []) p.all ∙ append_assoc p.before (Begin t c ∷ made t c p.points) (Point u d x ∷ [])
-      ∙ ap (λ v. p.before ++ Begin t c ∷ (made t c p.points ++ Point v d x ∷ [])) is ∙ ap (λ k. p.before ++ Begin t c ∷ (made t c p.points ++ Point t k x ∷ [])) same
-      ∙ ap (λ gs. p.before ++ Begin t c ∷ gs) (made_more t c p.points (d.action, x));
-  of = onward c.action p.points made_so d.action x p.of m.2;
+      let same : d ≡ record { thread = t; mutex = c.mutex; operation = d.operation; reply = d.reply } = λ i. record { thread = is i; mutex = m.1 i; operation = d.operation; reply = d.reply } in
+      ap (λ gs. gs ++ Point d ∷ []) p.all ∙ append_assoc p.before (Begin t c ∷ made t c p.points) (Point d ∷ []) ∙ ap (λ k. p.before ++ Begin t c ∷ (made t c p.points ++ Point k ∷ [])) same
+      ∙ ap (λ gs. p.before ++ Begin t c ∷ gs) (made_more t c p.points (d.operation, d.reply));
+  of = onward c.operation p.points made_so d.operation d.reply p.of m.2;
   goes_on = p.goes_on;
 }
 own_fact t (Calling c made_so z) (Return u x) fs is life m p = λ later h.
     subst (Life t) (sym (behind t c fs p.before p.points (Return u x) later p.all))
-    (subst (λ v. Life t (p.before ++ Begin t c ∷ (made t c p.points ++ Return v x ∷ later))) (sym is) (p.goes_on (Begin t c ∷ (made t c p.points ++ Return t x ∷ later)) (Returns c p.points x later (subst (Of c.action p.points) m.1 p.of) h)))
+    (subst (λ v. Life t (p.before ++ Begin t c ∷ (made t c p.points ++ Return v x ∷ later))) (sym is) (p.goes_on (Begin t c ∷ (made t c p.points ++ Return t x ∷ later)) (Returns c p.points x later (subst (Of c.operation p.points) m.1 p.of) h)))
 own_fact t Dying (Death u k) fs is life m p = λ later h. subst (Life t) (sym (append_assoc fs (Death u k ∷ []) later)) (subst (λ v. Life t (fs ++ Death v k ∷ later)) (sym is) (p (Death t k ∷ later) (Tells_of k later h)))
 own_fact t Dying (Reap u) fs is life m p = subst (λ v. Life t (fs ++ Reap v ∷ [])) (sym is) (p (Reap t ∷ []) Buried)
-own_fact t (Calling c made_so z) (Sleep u) fs is life m p = absurd cc
+own_fact t (Calling c made_so z) (Sleep u k) fs is life m p = absurd cc
 own_fact t (Calling c made_so z) (Wake u) fs is life m p = absurd cc
-own_fact t (Calling c made_so z) (Move u) fs is life m p = absurd cc
+own_fact t (Calling c made_so z) (Move u k) fs is life m p = absurd cc
 own_fact t s f fs is life m p = absurd m
 
 -- who sleeps is no part of a life
 quiet_fact : (t : ℕ) (s : Stage) (f : Fact) (fs : List Fact) → is_of_call f ≡ false → May s f → Past t s fs → Past t (next s f) fs
-quiet_fact t (Calling c made_so z) (Sleep u) fs q m p = p
+quiet_fact t (Calling c made_so z) (Sleep u k) fs q m p = p
 quiet_fact t (Calling c made_so z) (Wake u) fs q m p = p
-quiet_fact t (Calling c made_so z) (Move u) fs q m p = p
+quiet_fact t (Calling c made_so z) (Move u k) fs q m p = p
 quiet_fact t (Calling c made_so z) (Kill u) fs q m p = absurd cc
-quiet_fact t (Calling c made_so z) (Point u d x) fs q m p = absurd cc
+quiet_fact t (Calling c made_so z) (Point d) fs q m p = absurd cc
 quiet_fact t (Calling c made_so z) (Return u x) fs q m p = absurd cc
 quiet_fact t Resting (Begin u c) fs q m p = absurd cc
 quiet_fact t Resting (Kill u) fs q m p = absurd cc
@@ -103,23 +101,23 @@ quiet_fact t s f fs q m p = absurd m
 
 -- ---- line by line
 
-own-append : (t : ℕ) (xs ys : List Entry) → own t (xs ++ ys) ≡ own t xs ++ own t ys
+own-append : (t : ℕ) (xs ys : List Line) → own t (xs ++ ys) ≡ own t xs ++ own t ys
 own-append t [] ys = refl
 own-append t (x ∷ xs) ys = go (is_of_call x.fact && (thread_of x.fact == t)) (own-append t xs ys) where
   go : (b : Bool) → own t (xs ++ ys) ≡ own t xs ++ own t ys → (if b then x.fact ∷ own t (xs ++ ys) else own t (xs ++ ys)) ≡ (if b then x.fact ∷ own t xs else own t xs) ++ own t ys
   go true e = ap (λ fs. x.fact ∷ fs) e
   go false e = e
 
-own-newest : (t : ℕ) (e : Entry) (es : List Entry) → own t (reverse (e ∷ es)) ≡ own t (reverse es) ++ own t (e ∷ [])
+own-newest : (t : ℕ) (e : Line) (es : List Line) → own t (reverse (e ∷ es)) ≡ own t (reverse es) ++ own t (e ∷ [])
 own-newest t e es = ap (own t) (reverse-append (e ∷ []) es) ∙ own-append t (reverse es) (e ∷ [])
 
 -- how far thread t has come after these lines
-pub record Lived (t : ℕ) (told : List Entry) : Type 0 where
+pub record Lived (t : ℕ) (told : List Line) : Type 0 where
   pub stage : Stage
   pub kept : Kept stage (told_of t told)
   pub past : Past t stage (own t (reverse told))
 
-step : (t : ℕ) (e : Entry) (es : List Entry) (fits : FitsThread (told_of (thread_of e.fact) es) e.fact) → Lived t es → Lived t (e ∷ es)
+step : (t : ℕ) (e : Line) (es : List Line) (fits : FitsThread (told_of (thread_of e.fact) es) e.fact) → Lived t es → Lived t (e ∷ es)
 step t e es fits l = by_thread (thread_of e.fact == t) refl where
   by_call : (u : thread_of e.fact ≡ t) (w : Bool) → is_of_call e.fact ≡ w → May l.stage e.fact → Past t (next l.stage e.fact) (own t (reverse es) ++ (if w && true then e.fact ∷ [] else []))
   by_call u true is may = own_fact t l.stage e.fact (own t (reverse es)) u is may l.past
@@ -144,9 +142,9 @@ step t e es fits l = by_thread (thread_of e.fact == t) refl where
       silent true = subst (Past t l.stage) (sym (append_nil (own t (reverse es)))) l.past
       silent false = subst (Past t l.stage) (sym (append_nil (own t (reverse es)))) l.past
 
-pub lived : (n t : ℕ) (told : List Entry) → AllFit n told → Lived t told
+pub lived : (n t : ℕ) (told : List Line) → AllFit n told → Lived t told
 lived n t [] fit = record { stage = Resting; kept = (refl, refl, refl, refl); past = λ later h. h }
 lived n t (e ∷ es) fit = step t e es fit.0.of_thread (lived n t es fit.1)
 
-pub lives : (n : ℕ) (told : List Entry) → AllFit n told → (t : ℕ) → Life t (own t (reverse told))
+pub lives : (n : ℕ) (told : List Line) → AllFit n told → (t : ℕ) → Life t (own t (reverse told))
 lives n told fit t = let l = lived n t told fit in whole t l.stage (own t (reverse told)) l.past

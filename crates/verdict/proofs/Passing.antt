@@ -3,14 +3,15 @@ use Rattle.std.proofs.Common.{◌≡◌, ◌≢◌, inl, inr, ℕ, ◌<◌, ◌�
 use Rattle.std.specs.Prelude.{if◌then◌else◌, slice_set}
 use Rattle.std.proofs.lemmas.Bool.Decides.{nat_tests}
 use mathlib.Core.Path.{fun_ext}
-use Rattle.verdict.specs.declared.entry.Entry.{Entry}
+use Rattle.facts.specs.declared.fact.Line.{Line}
 use Rattle.verdict.specs.declared.stage.Stage.{Stage}
 use Rattle.verdict.specs.declared.stage.Stage.TheVariants.{Resting}
 use Rattle.verdict.specs.declared.judge.Judge.{Judge}
 use Rattle.verdict.specs.declared.checking.Pass.{Pass}
-use Rattle.verdict.specs.Facts.{thread_of, decision_of, is_point}
+use Rattle.facts.specs.Facts.{thread_of, decision_of, is_point}
 use Rattle.verdict.specs.Earlier.{told_of, objects_after, moved, latest}
-use Rattle.verdict.specs.Fits.{Fits, Later, Each, Allows, OwnsNothing}
+use Rattle.facts.specs.Orders.{Later, Each}
+use Rattle.verdict.specs.Fits.{Fits, Allows, OwnsNothing}
 use Rattle.verdict.specs.Judges.{Accepts, Moves, IsMutex, IsNew, object_at, stage_at}
 use Rattle.verdict.specs.Stages.{May, next}
 use Rattle.verdict.specs.Places.{Stands, placed}
@@ -19,22 +20,22 @@ use Rattle.verdict.specs.Passes.{AnswersLines, Decides, IsFresh, Takes, verdict_
 use Rattle.verdict.specs.Reading.{lines_read, line_read}
 use Rattle.lines.specs.Lines.{lines_of}
 use Rattle.std.specs.Option.{is_some}
-use Rattle.verdict.specs.declared.entry.Head.{Head}
-use Rattle.verdict.specs.declared.reading.Line.TheVariants.{Told, End}
+use Rattle.verdict.specs.declared.head.Head.{Head}
+use Rattle.verdict.specs.declared.reading.Read.TheVariants.{Told, End}
 use Rattle.verdict.proofs.Lines.{goes_told, goes_end, ended_empty}
 use Rattle.verdict.proofs.Burials.{explains}
 use Rattle.verdict.proofs.Places.{stands_later, stands_before, placed_stands, stands_nowhere}
 use Rattle.verdict.proofs.Stages.{Kept, may_fits, fits_may, next_kept}
 
 -- the judge keeps what these lines told
-pub record Reflects (j : Judge) (told : List Entry) : Type 0 where
+pub record Reflects (j : Judge) (told : List Line) : Type 0 where
   pub stages : (t : ℕ) → Kept (stage_at j.stages.items t) (told_of t told)
   pub objects : object_at j.objects.items ≡ objects_after told
-  pub stands : (e : Entry) → 1 ≤ e.event → Stands j.place e → Each (λ a. Later a e) told
-  pub behind : (e : Entry) → 1 ≤ e.event → Each (λ a. Later a e) told → Stands j.place e
+  pub stands : (e : Line) → 1 ≤ e.event → Stands j.place e → Each (λ a. Later a e) told
+  pub behind : (e : Line) → 1 ≤ e.event → Each (λ a. Later a e) told → Stands j.place e
   pub event : j.place.event ≡ latest told
 
-pub accepts_fits : (j : Judge) (told : List Entry) (e : Entry) → Reflects j told → 1 ≤ e.event → Accepts j e → Fits (length j.objects.items) told e
+pub accepts_fits : (j : Judge) (told : List Line) (e : Line) → Reflects j told → 1 ≤ e.event → Accepts j e → Fits (length j.objects.items) told e
 accepts_fits j told e r some a = record {
   in_order = r.stands e some a.stands;
   of_thread = may_fits _ e.fact _ (r.stages (thread_of e.fact)) a.may;
@@ -42,7 +43,7 @@ accepts_fits j told e r some a = record {
   reaped = subst (λ os. OwnsNothing (length j.objects.items) os e.fact) r.objects a.reaped;
 }
 
-pub fits_accepts : (j : Judge) (told : List Entry) (e : Entry) → Reflects j told → 1 ≤ e.event → Fits (length j.objects.items) told e → Accepts j e
+pub fits_accepts : (j : Judge) (told : List Line) (e : Line) → Reflects j told → 1 ≤ e.event → Fits (length j.objects.items) told e → Accepts j e
 fits_accepts j told e r some f = record {
   stands = r.behind e some f.in_order;
   may = fits_may _ e.fact _ (r.stages (thread_of e.fact)) f.of_thread;
@@ -51,7 +52,7 @@ fits_accepts j told e r some f = record {
 }
 
 -- the stages after a fact
-stages_next : (xs : List Stage) (told : List Entry) (e : Entry) → thread_of e.fact < length xs → ((t : ℕ) → Kept (stage_at xs t) (told_of t told)) → May (stage_at xs (thread_of e.fact)) e.fact
+stages_next : (xs : List Stage) (told : List Line) (e : Line) → thread_of e.fact < length xs → ((t : ℕ) → Kept (stage_at xs t) (told_of t told)) → May (stage_at xs (thread_of e.fact)) e.fact
     → (t : ℕ) → Kept (stage_at (slice_set xs (thread_of e.fact) (next (stage_at xs (thread_of e.fact)) e.fact)) t) (told_of t (e ∷ told))
 stages_next xs told e lt kept may t = by_cases (thread_of e.fact == t) refl where
   by_cases : (b : Bool) → (thread_of e.fact == t) ≡ b → Kept (stage_at (slice_set xs (thread_of e.fact) (next (stage_at xs (thread_of e.fact)) e.fact)) t) (if b then e.fact ∷ told_of t told else told_of t told)
@@ -64,7 +65,7 @@ stages_next xs told e lt kept may t = by_cases (thread_of e.fact == t) refl wher
       let other : t ≢ thread_of e.fact = grind (arith, nat_tests) in
       subst (λ z. Kept z (told_of t told)) (sym (get_or-set_other xs (thread_of e.fact) t (next (stage_at xs (thread_of e.fact)) e.fact) Resting other)) (kept t)
 
-pub reflects_next : (j k : Judge) (told : List Entry) (e : Entry) → Reflects j told → 1 ≤ e.event → thread_of e.fact < length j.stages.items → Accepts j e → Moves j e k → Reflects k (e ∷ told)
+pub reflects_next : (j k : Judge) (told : List Line) (e : Line) → Reflects j told → 1 ≤ e.event → thread_of e.fact < length j.stages.items → Accepts j e → Moves j e k → Reflects k (e ∷ told)
 reflects_next j k told e r some lt a m = record {
   stages = λ t. subst (λ xs. Kept (stage_at xs t) (told_of t (e ∷ told))) (sym m.stages) (stages_next j.stages.items told e lt r.stages a.may t);
   objects = m.objects ∙ ap (λ os. moved os (decision_of e.fact)) r.objects;
@@ -76,7 +77,7 @@ reflects_next j k told e r some lt a m = record {
 }
 
 -- what a pass keeps of the lines so far
-abbrev pub Shows : ℕ → Pass → List Entry → Type 0
+abbrev pub Shows : ℕ → Pass → List Line → Type 0
 Shows n p told = MatchOption p.illegal (AllFit n told × Reflects p.judge told × (p.points ≡ point_lines told)) (λ k. IsFirstMisfit n told k)
 
 pub none_of : (o : Option ℕ) → is_some o ≡ false → o ≡ None
@@ -91,10 +92,10 @@ pub missed : (b : Bool) (n : ℕ) → b ≡ false → n ≡ (if b then 1 + n els
 missed false n e = refl
 missed true n e = absurd cc
 
-pub judges : (p : Pass) (n : ℕ) (e : Entry) (q : Pass) → p.illegal ≡ None → Decides p n e q → Takes p n e q
+pub judges : (p : Pass) (n : ℕ) (e : Line) (q : Pass) → p.illegal ≡ None → Decides p n e q → Takes p n e q
 judges p n e q none d = subst (λ o. MatchOption o (Decides p n e q) (λ k. q.illegal ≡ Some k)) (sym none) d
 
-pub shows_next : (n : ℕ) (p q : Pass) (told : List Entry) (line : ℕ) (e : Entry) → Shows n p told → Takes p line e q → length p.judge.objects.items ≡ n → 1 ≤ e.event → thread_of e.fact < length p.judge.stages.items → line ≡ length told + 2 → Shows n q (e ∷ told)
+pub shows_next : (n : ℕ) (p q : Pass) (told : List Line) (line : ℕ) (e : Line) → Shows n p told → Takes p line e q → length p.judge.objects.items ≡ n → 1 ≤ e.event → thread_of e.fact < length p.judge.stages.items → line ≡ length told + 2 → Shows n q (e ∷ told)
 shows_next n p q told line e shows takes is some lt here = go p.illegal shows takes where
   go : (o : Option ℕ) → MatchOption o (AllFit n told × Reflects p.judge told × (p.points ≡ point_lines told)) (λ k. IsFirstMisfit n told k) → MatchOption o (Decides p line e q) (λ k. q.illegal ≡ Some k) → Shows n q (e ∷ told)
   go None s (inl d) =
@@ -138,7 +139,7 @@ pub shows_new : (n : ℕ) (p : Pass) → IsFresh p → Shows n p []
 shows_new n p fresh = subst (λ o. MatchOption o (AllFit n [] × Reflects p.judge [] × (p.points ≡ point_lines [])) (λ k. IsFirstMisfit n [] k)) (sym fresh.illegal) (tt, reflects_new p.judge.head p.judge fresh.judge, fresh.points)
 
 -- at the last line
-pub judged : (h : Head) (p : Pass) (told : List Entry) (line last : ℕ) → Shows h.mutexes p told → line ≡ length told + 2 → Each (λ e. IsMutex h.mutexes e.fact) told → IsJudged (record { head = h; told = told; last = last }) (verdict_of p.illegal p.points line (nat_lt last p.judge.place.event))
+pub judged : (h : Head) (p : Pass) (told : List Line) (line last : ℕ) → Shows h.mutexes p told → line ≡ length told + 2 → Each (λ e. IsMutex h.mutexes e.fact) told → IsJudged (record { head = h; told = told; last = last }) (verdict_of p.illegal p.points line (nat_lt last p.judge.place.event))
 judged h p told line last shows here inside = go p.illegal shows where
   go : (o : Option ℕ) → MatchOption o (AllFit h.mutexes told × Reflects p.judge told × (p.points ≡ point_lines told)) (λ k. IsFirstMisfit h.mutexes told k) → IsJudged (record { head = h; told = told; last = last }) (verdict_of o p.points line (nat_lt last p.judge.place.event))
   go (Some k) s = inl s
@@ -149,7 +150,7 @@ judged h p told line last shows here inside = go p.illegal shows where
 
 -- how far a pass has come over the lines of a text
 pub record Progress (text rest : List ℕ) (h : Head) (line : ℕ) (p : Pass) : Type 0 where
-  pub told : List Entry
+  pub told : List Line
   pub so_far : lines_read line h told (lines_of rest) ≡ lines_read 2 h [] (lines_of text)
   pub shows : Shows h.mutexes p told
   pub here : line ≡ length told + 2
@@ -158,7 +159,7 @@ pub record Progress (text rest : List ℕ) (h : Head) (line : ℕ) (p : Pass) : 
 pub begins : (text : List ℕ) (p : Pass) → IsFresh p → Progress text text p.judge.head 2 p
 begins text p fresh = record { told = []; so_far = refl; shows = shows_new p.judge.head.mutexes p fresh; here = refl; inside = tt }
 
-pub takes_line : (text rest first after : List ℕ) (h : Head) (line : ℕ) (p q : Pass) (e : Entry) → Progress text rest h line p → lines_of rest ≡ first ∷ lines_of after → Ok (Told e) ≡ line_read h first → Takes p line e q → length p.judge.objects.items ≡ h.mutexes → 1 ≤ e.event → thread_of e.fact < length p.judge.stages.items → IsMutex h.mutexes e.fact
+pub takes_line : (text rest first after : List ℕ) (h : Head) (line : ℕ) (p q : Pass) (e : Line) → Progress text rest h line p → lines_of rest ≡ first ∷ lines_of after → Ok (Told e) ≡ line_read h first → Takes p line e q → length p.judge.objects.items ≡ h.mutexes → 1 ≤ e.event → thread_of e.fact < length p.judge.stages.items → IsMutex h.mutexes e.fact
     → Progress text after h (line + 1) q
 takes_line text rest first after h line p q e g parts read takes is some lt mutex =
     let here = g.here in

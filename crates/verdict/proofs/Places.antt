@@ -2,11 +2,11 @@
 use Rattle.std.proofs.Common.{◌≡◌, inl, inr, ℕ, ◌≤◌, ◌==◌, ◌&&◌, ◌||◌, Bool, true, false, Option, None, Some, nat_lt, refl, sym, ap, subst, ◌∙◌, arith}
 use Rattle.std.specs.Prelude.{if◌then◌else◌}
 use Rattle.std.proofs.lemmas.Bool.Decides.{nat_tests}
-use Rattle.verdict.specs.declared.entry.Fact.{Fact}
-use Rattle.verdict.specs.declared.entry.Entry.{Entry}
+use Rattle.facts.specs.declared.fact.Fact.{Fact}
+use Rattle.facts.specs.declared.fact.Line.{Line}
 use Rattle.verdict.specs.declared.place.Place.{Place}
-use Rattle.verdict.specs.Facts.{thread_of, is_passive, is_kill}
-use Rattle.verdict.specs.Fits.{decides, Later}
+use Rattle.facts.specs.Facts.{thread_of, decides, is_passive, is_kill}
+use Rattle.facts.specs.Orders.{Later}
 use Rattle.verdict.specs.Places.{Admits, Stands, caller, placed, nowhere}
 
 not_both : (b : Bool) → b ≡ true → b ≡ false → ⊥
@@ -38,7 +38,7 @@ admits_before (Some t) a e h k = λ pe. go (is_passive a) refl h pe where
   go true is h pe = h pe
   go false is h pe = h pe ∙ k is
 
-pub stands_later : (p : Place) (a e : Entry) → Stands p a → Stands (placed p a) e → Later a e
+pub stands_later : (p : Place) (a e : Line) → Stands p a → Stands (placed p a) e → Later a e
 stands_later p a e sa (inl lt) = record {
   never_falls = omega arith;
   decisions_rise = λ _ _. omega arith;
@@ -54,7 +54,7 @@ stands_later p a e sa (inr h) = record {
   kill_behind = λ k. absurd (not_both (is_kill e.fact) k h.3);
 }
 
-pub stands_before : (p : Place) (a e : Entry) → Stands p a → Stands (placed p a) e → Stands p e
+pub stands_before : (p : Place) (a e : Line) → Stands p a → Stands (placed p a) e → Stands p e
 stands_before p a e (inl la) (inl lt) = inl (omega arith)
 stands_before p a e (inr ha) (inl lt) = inl (omega (arith, ha.0))
 stands_before p a e (inl la) (inr h) = inl (omega (arith, h.0))
@@ -72,7 +72,7 @@ admits_both same t a e own known = go (is_passive a) refl same refl where
   go true is false e = tt
   go true is true e = known e
 
-pub placed_stands : (p : Place) (a e : Entry) → Stands p a → Later a e → Stands p e → Stands (placed p a) e
+pub placed_stands : (p : Place) (a e : Line) → Stands p a → Later a e → Stands p e → Stands (placed p a) e
 placed_stands p a e sa l se = go (nat_lt a.event e.event) refl where
   known : a.event ≡ e.event → p.event ≡ a.event → Stands p e → Admits p.thread e.fact × (decides e.fact ≡ true → p.decided ≡ false)
   known at same (inl lt) = absurd (omega arith)
@@ -95,5 +95,5 @@ placed_stands p a e sa l se = go (nat_lt a.event e.event) refl where
         λ de. neither (decides a.fact) ((p.event == a.event) && p.decided) (false_if (decides a.fact) (λ da. let lt = l.decisions_rise da de in omega arith)) (undecided at de (p.event == a.event) refl),
       )
 
-pub stands_nowhere : (e : Entry) → 1 ≤ e.event → Stands nowhere e
+pub stands_nowhere : (e : Line) → 1 ≤ e.event → Stands nowhere e
 stands_nowhere e h = inl (omega arith)

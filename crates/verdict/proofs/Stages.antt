@@ -2,16 +2,16 @@
 use Rattle.std.proofs.Common.{◌≡◌, Bool, true, false, List, [], ◌∷◌, ◌++◌, Option, None, Some, refl, sym, ap, subst, ◌∙◌, append_assoc}
 use Rattle.lockword.specs.declared.reply.Reply.{Reply}
 use Rattle.lockword.specs.declared.reply.Reply.TheVariants.{OK}
-use Rattle.verdict.specs.declared.entry.Action.{Action}
-use Rattle.verdict.specs.declared.entry.Action.TheVariants.{Lock, Unlock, Wait}
-use Rattle.verdict.specs.declared.entry.Call.{Call}
-use Rattle.verdict.specs.declared.entry.Fact.{Fact}
-use Rattle.verdict.specs.declared.entry.Fact.TheVariants.{Begin, Kill, Point, Death, Sleep, Wake, Move, Return, Reap}
+use Rattle.keys.specs.declared.point.Operation.{Operation}
+use Rattle.keys.specs.declared.point.Operation.TheVariants.{Lock, Unlock, Wait}
+use Rattle.facts.specs.declared.fact.Begun.{Begun}
+use Rattle.facts.specs.declared.fact.Fact.{Fact}
+use Rattle.facts.specs.declared.fact.Fact.TheVariants.{Begin, Kill, Point, Death, Sleep, Wake, Move, Return, Reap}
 use Rattle.verdict.specs.declared.stage.Made.{Made}
 use Rattle.verdict.specs.declared.stage.Made.TheVariants.{Nothing, Released, Decided}
 use Rattle.verdict.specs.declared.stage.Stage.{Stage}
 use Rattle.verdict.specs.declared.stage.Stage.TheVariants.{Resting, Calling, Dying, Reaped}
-use Rattle.verdict.specs.Calls.{Act, Complete, Beginning}
+use Rattle.facts.specs.Lives.{Act, Complete, Beginning}
 use Rattle.verdict.specs.Earlier.{call_in, points_in, is_asleep, is_killed, is_reaped}
 use Rattle.verdict.specs.Fits.{FitsThread}
 use Rattle.verdict.specs.Stages.{MayPoint, pointed, May, next}
@@ -19,7 +19,7 @@ use Rattle.verdict.specs.Stages.{MayPoint, pointed, May, next}
 -- ---- the points of a call
 
 -- these points are made
-abbrev pub Of : Action → List Act → Made → Type 0
+abbrev pub Of : Operation → List Act → Made → Type 0
 Of a ps Nothing = ps ≡ []
 Of a ps Released = (a ≡ Wait) × (ps ≡ (Unlock, OK) ∷ [])
 Of a ps (Decided x) = Complete a ps x
@@ -28,12 +28,12 @@ append_nil : {A : Type 0} (xs : List A) → xs ++ [] ≡ xs
 append_nil [] = refl
 append_nil (x ∷ xs) = ap (λ ys. x ∷ ys) (append_nil xs)
 
-pub beginning : (a : Action) (ps : List Act) (made : Made) → Of a ps made → Beginning a ps
+pub beginning : (a : Operation) (ps : List Act) (made : Made) → Of a ps made → Beginning a ps
 beginning a ps Nothing of = subst (Beginning a) (sym of) ((a, OK) ∷ [], OK, refl)
 beginning a ps Released of = subst (λ c. Beginning c ps) (sym of.0) (subst (Beginning Wait) (sym of.1) ((Lock, OK) ∷ [], OK, (refl, refl)))
 beginning a ps (Decided x) of = ([], x, subst (λ ys. Complete a ys x) (sym (append_nil ps)) of)
 
-pub onward : (a : Action) (ps : List Act) (made : Made) (b : Action) (x : Reply) → Of a ps made → MayPoint a made b x → Of a (ps ++ (b, x) ∷ []) (pointed a b x)
+pub onward : (a : Operation) (ps : List Act) (made : Made) (b : Operation) (x : Reply) → Of a ps made → MayPoint a made b x → Of a (ps ++ (b, x) ∷ []) (pointed a b x)
 onward Wait ps Nothing Wait x of may = subst (λ ys. Complete Wait (ys ++ (Wait, x) ∷ []) x) (sym of) refl
 onward Wait ps Nothing Unlock x of may = (refl, subst (λ ys. ys ++ (Unlock, x) ∷ [] ≡ (Unlock, OK) ∷ []) (sym of) (ap (λ y. (Unlock, y) ∷ []) may))
 onward Wait ps Nothing b x of may = absurd cc
@@ -44,10 +44,10 @@ onward a ps Released b x of may = absurd may
 onward a ps (Decided y) b x of may = absurd may
 
 -- the first point of a call
-may_first : (a b : Action) (x : Reply) → Beginning a ((b, x) ∷ []) → MayPoint a Nothing b x
+may_first : (a b : Operation) (x : Reply) → Beginning a ((b, x) ∷ []) → MayPoint a Nothing b x
 may_first a b x ([], y, is) = same a b x (ap (λ p. p.0) is)
   where
-    same : (a b : Action) (x : Reply) → b ≡ a → MayPoint a Nothing b x
+    same : (a b : Operation) (x : Reply) → b ≡ a → MayPoint a Nothing b x
     same Wait b x e = subst (λ c. MayPoint Wait Nothing c x) (sym e) tt
     same a b x e = e
 may_first Wait b x (p ∷ [], y, is) = subst (λ c. MayPoint Wait Nothing c x) (sym (ap (λ q. q.0) is.0)) (ap (λ q. q.1) is.0)
@@ -55,7 +55,7 @@ may_first a b x (p ∷ [], y, is) = absurd is
 may_first a b x (p ∷ q ∷ rest, y, is) = absurd is
 
 -- and no further one
-none_more : (a : Action) (ps rest : List Act) (p : Act) (x y : Reply) → Complete a ps x → Complete a (ps ++ p ∷ rest) y → ⊥
+none_more : (a : Operation) (ps rest : List Act) (p : Act) (x y : Reply) → Complete a ps x → Complete a (ps ++ p ∷ rest) y → ⊥
 none_more a [] rest p x y is also = is
 none_more Wait (q ∷ []) [] p x y is also = let e : Wait ≡ Unlock = ap (λ (r : Act). r.0) (sym is ∙ also.0) in absurd cc
 none_more a (q ∷ []) [] p x y is also = also
@@ -63,7 +63,7 @@ none_more a (q ∷ []) (r ∷ rest) p x y is also = also
 none_more a (q ∷ r ∷ []) rest p x y is also = also
 none_more a (q ∷ r ∷ s ∷ qs) rest p x y is also = is
 
-pub may_point : (a : Action) (ps : List Act) (made : Made) (b : Action) (x : Reply) → Of a ps made → Beginning a (ps ++ (b, x) ∷ []) → MayPoint a made b x
+pub may_point : (a : Operation) (ps : List Act) (made : Made) (b : Operation) (x : Reply) → Of a ps made → Beginning a (ps ++ (b, x) ∷ []) → MayPoint a made b x
 may_point a ps Nothing b x of is = may_first a b x (subst (λ ys. Beginning a (ys ++ (b, x) ∷ [])) of is)
 may_point a ps Released b x of is = subst (λ c. MayPoint c Released b x) (sym of.0) (second (subst (λ ys. Beginning Wait (ys ++ (b, x) ∷ [])) of.1 (subst (λ c. Beginning c (ps ++ (b, x) ∷ [])) of.0 is)))
   where
@@ -77,7 +77,7 @@ may_point a ps (Decided y) b x of is = absurd (none_more a ps is.0 (b, x) y is.1
 -- this is the stage of a thread of which these facts are told
 abbrev pub Kept : Stage → List Fact → Type 0
 Kept Resting fs = (call_in fs ≡ None) × (is_asleep fs ≡ false) × (is_killed fs ≡ false) × (is_reaped fs ≡ false)
-Kept (Calling c made asleep) fs = (call_in fs ≡ Some c) × (is_asleep fs ≡ asleep) × (is_killed fs ≡ false) × (is_reaped fs ≡ false) × Of c.action (points_in fs) made
+Kept (Calling c made asleep) fs = (call_in fs ≡ Some c) × (is_asleep fs ≡ asleep) × (is_killed fs ≡ false) × (is_reaped fs ≡ false) × Of c.operation (points_in fs) made
 Kept Dying fs = (call_in fs ≡ None) × (is_asleep fs ≡ false) × (is_killed fs ≡ true) × (is_reaped fs ≡ false)
 Kept Reaped fs = (call_in fs ≡ None) × (is_asleep fs ≡ false) × (is_killed fs ≡ true) × (is_reaped fs ≡ true)
 
@@ -85,11 +85,11 @@ pub may_fits : (s : Stage) (f : Fact) (fs : List Fact) → Kept s fs → May s f
 may_fits Resting (Begin t c) fs k m = (k.0, k.2)
 may_fits Resting (Kill t) fs k m = k.2
 may_fits (Calling c made z) (Kill t) fs k m = k.2
-may_fits (Calling c made z) (Point t d x) fs k m = (k.1 ∙ m.0, (c, k.0, m.1, beginning c.action _ _ (onward c.action (points_in fs) made d.action x k.4 m.2)))
-may_fits (Calling c made z) (Sleep t) fs k m = (k.1 ∙ m, (c, k.0))
+may_fits (Calling c made z) (Point d) fs k m = (k.1 ∙ m.0, (c, k.0, m.1, beginning c.operation _ _ (onward c.operation (points_in fs) made d.operation d.reply k.4 m.2)))
+may_fits (Calling c made z) (Sleep t q) fs k m = (k.1 ∙ m, (c, k.0))
 may_fits (Calling c made z) (Wake t) fs k m = k.1 ∙ m
-may_fits (Calling c made z) (Move t) fs k m = k.1 ∙ m
-may_fits (Calling c made z) (Return t x) fs k m = (k.1 ∙ m.0, (c, k.0, subst (Of c.action (points_in fs)) m.1 k.4))
+may_fits (Calling c made z) (Move t m') fs k m = k.1 ∙ m
+may_fits (Calling c made z) (Return t x) fs k m = (k.1 ∙ m.0, (c, k.0, subst (Of c.operation (points_in fs)) m.1 k.4))
 may_fits Dying (Death t m') fs k m = (k.2, k.3)
 may_fits Dying (Reap t) fs k m = (k.2, k.3)
 may_fits s f fs k m = absurd m
@@ -100,38 +100,38 @@ nobody_calls o e f = let g = sym e ∙ f in absurd cc
 unkilled : (b : Bool) → b ≡ true → b ≡ false → ⊥
 unkilled b e f = let g = sym e ∙ f in absurd cc
 
-same_call : (o : Option Call) (c d : Call) → o ≡ Some c → o ≡ Some d → d ≡ c
+same_call : (o : Option Begun) (c d : Begun) → o ≡ Some c → o ≡ Some d → d ≡ c
 same_call o c d e f = let g = sym e ∙ f in cc
 
 pub fits_may : (s : Stage) (f : Fact) (fs : List Fact) → Kept s fs → FitsThread fs f → May s f
 fits_may Resting (Begin t c) fs k h = tt
 fits_may Resting (Kill t) fs k h = tt
-fits_may Resting (Point t c x) fs k h = nobody_calls _ k.0 h.1.1
+fits_may Resting (Point d) fs k h = nobody_calls _ k.0 h.1.1
 fits_may Resting (Death t m) fs k h = unkilled _ h.0 k.2
-fits_may Resting (Sleep t) fs k h = nobody_calls _ k.0 h.1.1
+fits_may Resting (Sleep t q) fs k h = nobody_calls _ k.0 h.1.1
 fits_may Resting (Wake t) fs k h = unkilled _ h k.1
-fits_may Resting (Move t) fs k h = unkilled _ h k.1
+fits_may Resting (Move t m') fs k h = unkilled _ h k.1
 fits_may Resting (Return t x) fs k h = nobody_calls _ k.0 h.1.1
 fits_may Resting (Reap t) fs k h = unkilled _ h.0 k.2
 fits_may (Calling c made z) (Begin t d) fs k h = nobody_calls _ h.0 k.0
 fits_may (Calling c made z) (Kill t) fs k h = tt
-fits_may (Calling c made z) (Point t d x) fs k h =
+fits_may (Calling c made z) (Point d) fs k h =
     let e = same_call _ c h.1.0 k.0 h.1.1 in
-    (sym k.1 ∙ h.0, h.1.2 ∙ ap (λ (q : Call). q.mutex) e, may_point c.action (points_in fs) made d.action x k.4 (subst (λ (q : Call). Beginning q.action (points_in fs ++ (d.action, x) ∷ [])) e h.1.3))
+    (sym k.1 ∙ h.0, h.1.2 ∙ ap (λ (q : Begun). q.mutex) e, may_point c.operation (points_in fs) made d.operation d.reply k.4 (subst (λ (q : Begun). Beginning q.operation (points_in fs ++ (d.operation, d.reply) ∷ [])) e h.1.3))
 fits_may (Calling c made z) (Death t m) fs k h = unkilled _ h.0 k.2
-fits_may (Calling c made z) (Sleep t) fs k h = sym k.1 ∙ h.0
+fits_may (Calling c made z) (Sleep t q) fs k h = sym k.1 ∙ h.0
 fits_may (Calling c made z) (Wake t) fs k h = sym k.1 ∙ h
-fits_may (Calling c made z) (Move t) fs k h = sym k.1 ∙ h
+fits_may (Calling c made z) (Move t m') fs k h = sym k.1 ∙ h
 fits_may (Calling c made z) (Return t x) fs k h =
     let e = same_call _ c h.1.0 k.0 h.1.1 in
-    (sym k.1 ∙ h.0, all_made c.action (points_in fs) made x k.4 (subst (λ (q : Call). Complete q.action (points_in fs) x) e h.1.2))
+    (sym k.1 ∙ h.0, all_made c.operation (points_in fs) made x k.4 (subst (λ (q : Begun). Complete q.operation (points_in fs) x) e h.1.2))
   where
-    all_made : (a : Action) (ps : List Act) (made : Made) (x : Reply) → Of a ps made → Complete a ps x → made ≡ Decided x
+    all_made : (a : Operation) (ps : List Act) (made : Made) (x : Reply) → Of a ps made → Complete a ps x → made ≡ Decided x
     all_made a ps Nothing x of is = absurd (subst (λ ys. Complete a ys x) of is)
     all_made a ps Released x of is = let h : Complete Wait ((Unlock, OK) ∷ []) x = subst (λ ys. Complete Wait ys x) of.1 (subst (λ c. Complete c ps x) of.0 is) in let e : Unlock ≡ Wait = ap (λ (p : Act). p.0) h in absurd cc
     all_made a ps (Decided y) x of is = ap Decided (one_reply a ps y x of is)
       where
-        one_reply : (a : Action) (ps : List Act) (y x : Reply) → Complete a ps y → Complete a ps x → y ≡ x
+        one_reply : (a : Operation) (ps : List Act) (y x : Reply) → Complete a ps y → Complete a ps x → y ≡ x
         one_reply a [] y x p q = absurd p
         one_reply a (r ∷ []) y x p q = ap (λ s. s.1) (sym p ∙ q)
         one_reply Wait (r ∷ s ∷ []) y x p q = ap (λ z. z.1) (sym p.1 ∙ q.1)
@@ -140,20 +140,20 @@ fits_may (Calling c made z) (Return t x) fs k h =
 fits_may (Calling c made z) (Reap t) fs k h = unkilled _ h.0 k.2
 fits_may Dying (Begin t c) fs k h = unkilled _ k.2 h.1
 fits_may Dying (Kill t) fs k h = unkilled _ k.2 h
-fits_may Dying (Point t c x) fs k h = nobody_calls _ k.0 h.1.1
+fits_may Dying (Point d) fs k h = nobody_calls _ k.0 h.1.1
 fits_may Dying (Death t m) fs k h = tt
-fits_may Dying (Sleep t) fs k h = nobody_calls _ k.0 h.1.1
+fits_may Dying (Sleep t q) fs k h = nobody_calls _ k.0 h.1.1
 fits_may Dying (Wake t) fs k h = unkilled _ h k.1
-fits_may Dying (Move t) fs k h = unkilled _ h k.1
+fits_may Dying (Move t m') fs k h = unkilled _ h k.1
 fits_may Dying (Return t x) fs k h = nobody_calls _ k.0 h.1.1
 fits_may Dying (Reap t) fs k h = tt
 fits_may Reaped (Begin t c) fs k h = unkilled _ k.2 h.1
 fits_may Reaped (Kill t) fs k h = unkilled _ k.2 h
-fits_may Reaped (Point t c x) fs k h = nobody_calls _ k.0 h.1.1
+fits_may Reaped (Point d) fs k h = nobody_calls _ k.0 h.1.1
 fits_may Reaped (Death t m) fs k h = unkilled _ k.3 h.1
-fits_may Reaped (Sleep t) fs k h = nobody_calls _ k.0 h.1.1
+fits_may Reaped (Sleep t q) fs k h = nobody_calls _ k.0 h.1.1
 fits_may Reaped (Wake t) fs k h = unkilled _ h k.1
-fits_may Reaped (Move t) fs k h = unkilled _ h k.1
+fits_may Reaped (Move t m') fs k h = unkilled _ h k.1
 fits_may Reaped (Return t x) fs k h = nobody_calls _ k.0 h.1.1
 fits_may Reaped (Reap t) fs k h = unkilled _ k.3 h.1
 
@@ -161,10 +161,10 @@ pub next_kept : (s : Stage) (f : Fact) (fs : List Fact) → Kept s fs → May s 
 next_kept Resting (Begin t c) fs k m = (refl, k.1, k.2, k.3, refl)
 next_kept Resting (Kill t) fs k m = (refl, refl, refl, k.3)
 next_kept (Calling c made z) (Kill t) fs k m = (refl, refl, refl, k.3)
-next_kept (Calling c made z) (Point t d x) fs k m = (k.0, k.1, k.2, k.3, onward c.action (points_in fs) made d.action x k.4 m.2)
-next_kept (Calling c made z) (Sleep t) fs k m = (k.0, refl, k.2, k.3, k.4)
+next_kept (Calling c made z) (Point d) fs k m = (k.0, k.1, k.2, k.3, onward c.operation (points_in fs) made d.operation d.reply k.4 m.2)
+next_kept (Calling c made z) (Sleep t q) fs k m = (k.0, refl, k.2, k.3, k.4)
 next_kept (Calling c made z) (Wake t) fs k m = (k.0, refl, k.2, k.3, k.4)
-next_kept (Calling c made z) (Move t) fs k m = k
+next_kept (Calling c made z) (Move t m') fs k m = k
 next_kept (Calling c made z) (Return t x) fs k m = (refl, k.1 ∙ m.0, k.2, k.3)
 next_kept Dying (Death t m') fs k m = k
 next_kept Dying (Reap t) fs k m = (k.0, k.1, k.2, refl)

@@ -4,7 +4,7 @@ use Rattle.std.specs.Result.{IsOk}
 use Rattle.lines.specs.Lines.{lines_of}
 use Rattle.lines.specs.Faults.{◌>>=◌}
 use Rattle.lines.proofs.Cutting.{one_or_more}
-use Rattle.verdict.specs.declared.entry.Head.{Head}
+use Rattle.verdict.specs.declared.head.Head.{Head}
 use Rattle.verdict.specs.declared.fault.Fault.{Fault}
 use Rattle.verdict.specs.declared.fault.TraceFault.{TraceFault}
 use Rattle.verdict.specs.declared.checking.Pass.{Pass}

@@ -8,22 +8,22 @@ use Rattle.keys.specs.declared.point.Operation.TheVariants as operation
 use Rattle.keys.specs.declared.point.Decision.{Decision}
 use Rattle.keys.specs.Objects.{owned_by, freed, declared_consistent, bereaved}
 use Rattle.keys.specs.Histories.{opening}
-use Rattle.verdict.specs.declared.entry.Call.{Call}
-use Rattle.verdict.specs.declared.entry.Fact.{Fact}
-use Rattle.verdict.specs.declared.entry.Fact.TheVariants.{Begin, Kill, Point, Sleep, Wake, Return, Reap}
-use Rattle.verdict.specs.declared.entry.Entry.{Entry}
-use Rattle.verdict.specs.Facts.{thread_of, decision_of}
-use Rattle.verdict.specs.Calls.{Act}
+use Rattle.facts.specs.declared.fact.Begun.{Begun}
+use Rattle.facts.specs.declared.fact.Fact.{Fact}
+use Rattle.facts.specs.declared.fact.Fact.TheVariants.{Begin, Kill, Point, Sleep, Wake, Return, Reap}
+use Rattle.facts.specs.declared.fact.Line.{Line}
+use Rattle.facts.specs.Facts.{thread_of, decision_of}
+use Rattle.facts.specs.Lives.{Act}
 
 -- ---- one thread
 
 -- what is told of thread t
-abbrev pub told_of : ℕ → List Entry → List Fact
+abbrev pub told_of : ℕ → List Line → List Fact
 told_of t [] = []
 told_of t (e ∷ es) = if thread_of e.fact == t then e.fact ∷ told_of t es else told_of t es
 
 -- the call in which a thread is, of which these facts are told: it began, and has neither returned nor been cut by a kill
-abbrev pub call_in : List Fact → Option Call
+abbrev pub call_in : List Fact → Option Begun
 call_in [] = None
 call_in (Begin t c ∷ fs) = Some c
 call_in (Return t x ∷ fs) = None
@@ -34,13 +34,13 @@ call_in (f ∷ fs) = call_in fs
 abbrev pub points_in : List Fact → List Act
 points_in [] = []
 points_in (Begin t c ∷ fs) = []
-points_in (Point t c x ∷ fs) = points_in fs ++ (c.action, x) ∷ []
+points_in (Point d ∷ fs) = points_in fs ++ (d.operation, d.reply) ∷ []
 points_in (f ∷ fs) = points_in fs
 
 -- it fell asleep, and nobody has woken it; a kill ends sleep
 abbrev pub is_asleep : List Fact → Bool
 is_asleep [] = false
-is_asleep (Sleep t ∷ fs) = true
+is_asleep (Sleep t q ∷ fs) = true
 is_asleep (Wake t ∷ fs) = false
 is_asleep (Kill t ∷ fs) = false
 is_asleep (f ∷ fs) = is_asleep fs
@@ -74,11 +74,11 @@ moved os None m = os m
 moved os (Some d) m = if m == d.mutex then changed (os m) d.thread d.operation d.reply else os m
 
 -- the objects as points and deaths left them
-abbrev pub objects_after : List Entry → ℕ → Object
+abbrev pub objects_after : List Line → ℕ → Object
 objects_after [] = opening
 objects_after (e ∷ es) = moved (objects_after es) (decision_of e.fact)
 
 -- the number of the newest event
-abbrev pub latest : List Entry → ℕ
+abbrev pub latest : List Line → ℕ
 latest [] = 0
 latest (e ∷ es) = e.event

@@ -6,8 +6,8 @@ use Rattle.lockword.specs.declared.reply.Reply.{Reply}
 use Rattle.lockword.specs.declared.reply.Reply.TheVariants.{OK, EPERM, ESRCH, EAGAIN, EFAULT, EBUSY, EINVAL, EDEADLK, EOWNERDEAD, ENOTRECOVERABLE, XNOMEM, XRACED, XHELD, XFULL, XSTATE}
 use Rattle.lines.specs.Numbers.{is_number, within}
 use Rattle.lines.specs.Lines.{words_of}
-use Rattle.verdict.specs.declared.entry.Action.{Action}
-use Rattle.verdict.specs.declared.entry.Action.TheVariants.{Lock, TryLock, Unlock, Consistent, Wait, Signal, Broadcast}
+use Rattle.keys.specs.declared.point.Operation.{Operation}
+use Rattle.keys.specs.declared.point.Operation.TheVariants.{Lock, TryLock, Unlock, Consistent, Wait, Signal, Broadcast}
 use Rattle.verdict.specs.declared.form.Said.{Said}
 use Rattle.verdict.specs.declared.form.Said.TheVariants as said
 use Rattle.verdict.specs.declared.form.Form.{Form}
@@ -40,14 +40,14 @@ abbrev pub condition_word : List ℕ → Option (Option ℕ)
 condition_word w = numbered 99 w
 
 -- the calls on a mutex, and those on a condition variable
-abbrev pub mutex_action : List ℕ → Option Action
-mutex_action w = if bytes_eq w (codes "lock") then Some Lock
+abbrev pub mutex_operation : List ℕ → Option Operation
+mutex_operation w = if bytes_eq w (codes "lock") then Some Lock
     else (if bytes_eq w (codes "trylock") then Some TryLock
     else (if bytes_eq w (codes "unlock") then Some Unlock
     else (if bytes_eq w (codes "consistent") then Some Consistent else None)))
 
-abbrev pub condition_action : List ℕ → Option Action
-condition_action w = if bytes_eq w (codes "wait") then Some Wait
+abbrev pub condition_operation : List ℕ → Option Operation
+condition_operation w = if bytes_eq w (codes "wait") then Some Wait
     else (if bytes_eq w (codes "signal") then Some Signal
     else (if bytes_eq w (codes "broadcast") then Some Broadcast else None))
 
@@ -55,8 +55,8 @@ abbrev pub either_of : {A : Type 0} → Option A → Option A → Option A
 either_of (Some x) o = Some x
 either_of None o = o
 
-abbrev pub action_of : List ℕ → Option Action
-action_of w = either_of (mutex_action w) (condition_action w)
+abbrev pub operation_of : List ℕ → Option Operation
+operation_of w = either_of (mutex_operation w) (condition_operation w)
 
 -- a reply by its name
 abbrev pub reply_of : List ℕ → Option Reply
@@ -114,16 +114,16 @@ object_form e w t o = number_of e >>= λ i. thread_word t >>= λ u. object_said 
 
 -- `i begin tT OP mM`
 abbrev pub begin_form : List ℕ → List ℕ → List ℕ → List ℕ → List ℕ → Option Form
-begin_form e w t a m = number_of e >>= λ i. thread_word t >>= λ u. mutex_action a >>= λ action. mutex_word m >>= λ mutex.
-    if bytes_eq w (codes "begin") then Some (Told i (said.Begin u action mutex)) else None
+begin_form e w t a m = number_of e >>= λ i. thread_word t >>= λ u. mutex_operation a >>= λ operation. mutex_word m >>= λ mutex.
+    if bytes_eq w (codes "begin") then Some (Told i (said.Begin u operation mutex)) else None
 
 -- `begin tT OP cC mM`
 abbrev pub begin_on_said : Option ℕ → List ℕ → List ℕ → List ℕ → Option Said
-begin_on_said u a c m = condition_action a >>= λ action. condition_word c >>= λ condition. mutex_word m >>= λ mutex. Some (said.BeginOn u action condition mutex)
+begin_on_said u a c m = condition_operation a >>= λ operation. condition_word c >>= λ condition. mutex_word m >>= λ mutex. Some (said.BeginOn u operation condition mutex)
 
 -- `point tT mM OP REPLY`
 abbrev pub point_said : Option ℕ → List ℕ → List ℕ → List ℕ → Option Said
-point_said u m a x = mutex_word m >>= λ mutex. action_of a >>= λ action. reply_of x >>= λ reply. Some (said.Point u mutex action reply)
+point_said u m a x = mutex_word m >>= λ mutex. operation_of a >>= λ operation. reply_of x >>= λ reply. Some (said.Point u mutex operation reply)
 
 abbrev pub many_form : List ℕ → List ℕ → List ℕ → List ℕ → List ℕ → List ℕ → Option Form
 many_form e w t a b c = number_of e >>= λ i. thread_word t >>= λ u.

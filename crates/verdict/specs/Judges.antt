@@ -3,16 +3,16 @@ use Rattle.std.specs.Prelude.{ℕ, ◌≡◌, ◌+◌, ◌<◌, ◌≤◌, Bool,
 use Rattle.keys.specs.declared.object.Object.{Object}
 use Rattle.keys.specs.Objects.{fresh}
 use Rattle.keys.specs.Histories.{held_by}
-use Rattle.verdict.specs.declared.entry.Head.{Head}
-use Rattle.verdict.specs.declared.entry.Fact.{Fact}
-use Rattle.verdict.specs.declared.entry.Fact.TheVariants.{Point, Death}
-use Rattle.verdict.specs.declared.entry.Entry.{Entry}
+use Rattle.verdict.specs.declared.head.Head.{Head}
+use Rattle.facts.specs.declared.fact.Fact.{Fact}
+use Rattle.facts.specs.declared.fact.Fact.TheVariants.{Point, Death}
+use Rattle.facts.specs.declared.fact.Line.{Line}
 use Rattle.verdict.specs.declared.stage.Stage.{Stage}
 use Rattle.verdict.specs.declared.stage.Stage.TheVariants.{Resting}
 use Rattle.verdict.specs.declared.judge.Judge.{Judge}
-use Rattle.verdict.specs.declared.reading.Line.{Line}
-use Rattle.verdict.specs.declared.reading.Line.TheVariants.{Told, End}
-use Rattle.verdict.specs.Facts.{thread_of, decision_of}
+use Rattle.verdict.specs.declared.reading.Read.{Read}
+use Rattle.verdict.specs.declared.reading.Read.TheVariants.{Told, End}
+use Rattle.facts.specs.Facts.{thread_of, decision_of}
 use Rattle.verdict.specs.Earlier.{moved}
 use Rattle.verdict.specs.Fits.{Allows, OwnsNothing}
 use Rattle.verdict.specs.Stages.{May, next}
@@ -34,7 +34,7 @@ AreCounted held os = (t : ℕ) → t < length held → slice_index held t ≡ he
 
 -- the mutex that a fact's point or death is of is one of these
 abbrev pub IsMutex : ℕ → Fact → Type 0
-IsMutex n (Point t c x) = c.mutex < n
+IsMutex n (Point d) = d.mutex < n
 IsMutex n (Death t m) = m < n
 IsMutex n f = Unit {0}
 
@@ -43,9 +43,9 @@ abbrev pub IsInside : ℕ → ℕ → Fact → Type 0
 IsInside threads n f = (thread_of f < threads) × IsMutex n f
 
 -- what a line behind the head can tell
-abbrev pub IsLine : Head → Line → Type 0
-IsLine h (Told e) = (1 ≤ e.event) × IsInside (h.threads + 1) h.mutexes e.fact
-IsLine h (End n) = Unit {0}
+abbrev pub IsRead : Head → Read → Type 0
+IsRead h (Told e) = (1 ≤ e.event) × IsInside (h.threads + 1) h.mutexes e.fact
+IsRead h (End n) = Unit {0}
 
 -- there is room for each thread and mutex, and counts are right
 pub record IsSound (j : Judge) : Type 0 where
@@ -54,14 +54,14 @@ pub record IsSound (j : Judge) : Type 0 where
   pub counted : AreCounted j.held.items j.objects.items
 
 -- an entry goes with what is kept
-pub record Accepts (j : Judge) (e : Entry) : Type 0 where
+pub record Accepts (j : Judge) (e : Line) : Type 0 where
   pub stands : Stands j.place e
   pub may : May (stage_at j.stages.items (thread_of e.fact)) e.fact
   pub allowed : Allows (length j.objects.items) (object_at j.objects.items) (decision_of e.fact)
   pub reaped : OwnsNothing (length j.objects.items) (object_at j.objects.items) e.fact
 
 -- and is kept
-pub record Moves (j : Judge) (e : Entry) (k : Judge) : Type 0 where
+pub record Moves (j : Judge) (e : Line) (k : Judge) : Type 0 where
   pub place : k.place ≡ placed j.place e
   pub stages : k.stages.items ≡ slice_set j.stages.items (thread_of e.fact) (next (stage_at j.stages.items (thread_of e.fact)) e.fact)
   pub objects : object_at k.objects.items ≡ moved (object_at j.objects.items) (decision_of e.fact)

@@ -1,9 +1,7 @@
 pub mod Faults
 pub mod Limits
-pub mod Facts
 pub mod Forms
 pub mod Reading
-pub mod Calls
 pub mod Earlier
 pub mod Fits
 pub mod Stages

@@ -1,26 +1,26 @@
 -- How a pass over the lines goes on.
 use Rattle.std.specs.Prelude.{ℕ, ◌≡◌, ◌+◌, ◌⊎◌, Bool, Option, Some, None, MatchOption, Result, Ok, Err, IsOk, if◌then◌else◌}
-use Rattle.verdict.specs.declared.entry.Entry.{Entry}
+use Rattle.facts.specs.declared.fact.Line.{Line}
 use Rattle.verdict.specs.declared.checking.Pass.{Pass}
 use Rattle.verdict.specs.declared.checking.Verdict.{Verdict}
 use Rattle.verdict.specs.declared.checking.Verdict.TheVariants.{Legal, Illegal}
 use Rattle.verdict.specs.declared.fault.Fault.{Fault}
 use Rattle.verdict.specs.declared.fault.Fault.TheVariants.{OutOfMemory}
 use Rattle.verdict.specs.declared.fault.TraceFault.{TraceFault}
-use Rattle.verdict.specs.declared.entry.Head.{Head}
-use Rattle.verdict.specs.Facts.{is_point}
+use Rattle.verdict.specs.declared.head.Head.{Head}
+use Rattle.facts.specs.Facts.{is_point}
 use Rattle.verdict.specs.Judges.{Accepts, Moves, IsNew}
 use Rattle.verdict.specs.Reading.{Trace, IsHead}
 use Rattle.verdict.specs.Verdicts.{IsJudged}
 
 -- the entry at line n is kept and counted, or it is the first that isn't accepted
-abbrev pub Decides : Pass → ℕ → Entry → Pass → Type 0
+abbrev pub Decides : Pass → ℕ → Line → Pass → Type 0
 Decides p n e q =
     (Accepts p.judge e × Moves p.judge e q.judge × (q.illegal ≡ None) × (q.points ≡ (if is_point e.fact then 1 + p.points else p.points)))
     ⊎ ((Accepts p.judge e → ⊥) × (q.illegal ≡ Some n))
 
 -- behind such an entry nothing is judged
-abbrev pub Takes : Pass → ℕ → Entry → Pass → Type 0
+abbrev pub Takes : Pass → ℕ → Line → Pass → Type 0
 Takes p n e q = MatchOption p.illegal (Decides p n e q) (λ k. q.illegal ≡ Some k)
 
 -- the verdict of a pass at its last line, which is line n and has the number `last`

@@ -9,19 +9,19 @@ use Rattle.lines.specs.Lines.{bad_line}
 use Rattle.verdict.specs.Forms.{head_form, form_of}
 use Rattle.verdict.specs.Forms.{◌>>=◌ as ◌>>?◌}
 use Rattle.lockword.specs.declared.reply.Reply.{Reply}
-use Rattle.verdict.specs.declared.entry.Head.{Head}
-use Rattle.verdict.specs.declared.entry.Action.{Action}
-use Rattle.verdict.specs.declared.entry.Call.{Call}
-use Rattle.verdict.specs.declared.entry.Fact.{Fact}
-use Rattle.verdict.specs.declared.entry.Fact.TheVariants as fact
-use Rattle.verdict.specs.declared.entry.Entry.{Entry}
+use Rattle.verdict.specs.declared.head.Head.{Head}
+use Rattle.keys.specs.declared.point.Operation.{Operation}
+use Rattle.facts.specs.declared.fact.Queue.TheVariants.{Mutex, Condition}
+use Rattle.facts.specs.declared.fact.Fact.{Fact}
+use Rattle.facts.specs.declared.fact.Fact.TheVariants as fact
+use Rattle.facts.specs.declared.fact.Line.{Line}
 use Rattle.verdict.specs.declared.form.Said.{Said}
 use Rattle.verdict.specs.declared.form.Said.TheVariants as said
 use Rattle.verdict.specs.declared.form.Form.{Form}
 use Rattle.verdict.specs.declared.form.Form.TheVariants as form
 use Rattle.verdict.specs.declared.form.HeadForm.{HeadForm}
-use Rattle.verdict.specs.declared.reading.Line.{Line}
-use Rattle.verdict.specs.declared.reading.Line.TheVariants as line
+use Rattle.verdict.specs.declared.reading.Read.{Read}
+use Rattle.verdict.specs.declared.reading.Read.TheVariants as read
 use Rattle.verdict.specs.declared.fault.Fault.{Fault}
 use Rattle.verdict.specs.declared.fault.Fault.TheVariants.{NotUtf8, UnknownWord, OutOfRange, TooLong, Cut}
 use Rattle.verdict.specs.declared.fault.TraceFault.{TraceFault}
@@ -30,7 +30,7 @@ use Rattle.verdict.specs.Limits.{max_bytes, max_threads, max_mutexes, max_condit
 -- a trace that was read: its first line, what its lines tell, the newest first, and the number on its last line
 pub record Trace : Type 0 where
   pub head : Head
-  pub told : List Entry
+  pub told : List Line
   pub last : ℕ
 
 -- its numbers are in their ranges
@@ -55,48 +55,49 @@ below_in count n = n >>? below count
 abbrev pub head_in : HeadForm → Option Head
 head_in f = number_in 1 max_threads f.threads >>? λ t. number_in 1 max_mutexes f.mutexes >>? λ m. number_in 0 max_conditions f.conditions >>? λ c. Some (record { threads = t; mutexes = m; conditions = c })
 
--- threads are numbered from 1
 abbrev pub thread_in : Head → Option ℕ → Option ℕ
 thread_in h n = number_in 1 h.threads n
 
--- mutexes and condition variables are numbered from 0
-abbrev pub call_in : Head → Action → Option ℕ → Option Call
-call_in h a n = below_in h.mutexes n >>? λ m. Some (record { action = a; mutex = m })
-
 -- ---- what a line tells
 
-abbrev pub begin_in : Head → Option ℕ → Action → Option ℕ → Option Fact
-begin_in h t a m = thread_in h t >>? λ u. call_in h a m >>? λ c. Some (fact.Begin u c)
+-- threads are numbered from 1, mutexes and condition variables from 0
+abbrev pub begin_in : Head → Option ℕ → Operation → Option ℕ → Option Fact
+begin_in h t op m = thread_in h t >>? λ u. below_in h.mutexes m >>? λ n. Some (fact.Begin u (record { operation = op; mutex = n; condition = None }))
 
-abbrev pub begin_on_in : Head → Option ℕ → Action → Option ℕ → Option ℕ → Option Fact
-begin_on_in h t a k m = thread_in h t >>? λ u. below_in h.conditions k >>? λ _. call_in h a m >>? λ c. Some (fact.Begin u c)
+abbrev pub begin_on_in : Head → Option ℕ → Operation → Option ℕ → Option ℕ → Option Fact
+begin_on_in h t op k m = thread_in h t >>? λ u. below_in h.conditions k >>? λ c. below_in h.mutexes m >>? λ n. Some (fact.Begin u (record { operation = op; mutex = n; condition = Some c }))
 
-abbrev pub point_in : Head → Option ℕ → Option ℕ → Action → Reply → Option Fact
-point_in h t m a x = thread_in h t >>? λ u. call_in h a m >>? λ c. Some (fact.Point u c x)
+abbrev pub point_in : Head → Option ℕ → Option ℕ → Operation → Reply → Option Fact
+point_in h t m op x = thread_in h t >>? λ u. below_in h.mutexes m >>? λ n. Some (fact.Point (record { thread = u; mutex = n; operation = op; reply = x }))
 
 abbrev pub death_in : Head → Option ℕ → Option ℕ → Option Fact
-death_in h t m = thread_in h t >>? λ u. below_in h.mutexes m >>? λ k. Some (fact.Death u k)
+death_in h t m = thread_in h t >>? λ u. below_in h.mutexes m >>? λ n. Some (fact.Death u n)
 
--- the thread of a line that names one of so many places too, which isn't kept
-abbrev pub thread_at : Head → Option ℕ → ℕ → Option ℕ → Option ℕ
-thread_at h t count n = thread_in h t >>? λ u. below_in count n >>? λ _. Some u
+abbrev pub sleep_in : Head → Option ℕ → Option ℕ → Option Fact
+sleep_in h t m = thread_in h t >>? λ u. below_in h.mutexes m >>? λ n. Some (fact.Sleep u (Mutex n))
+
+abbrev pub sleep_on_in : Head → Option ℕ → Option ℕ → Option Fact
+sleep_on_in h t k = thread_in h t >>? λ u. below_in h.conditions k >>? λ c. Some (fact.Sleep u (Condition c))
+
+abbrev pub move_in : Head → Option ℕ → Option ℕ → Option Fact
+move_in h t m = thread_in h t >>? λ u. below_in h.mutexes m >>? λ n. Some (fact.Move u n)
 
 abbrev pub fact_in : Head → Said → Option Fact
-fact_in h (said.Begin t a m) = begin_in h t a m
-fact_in h (said.BeginOn t a k m) = begin_on_in h t a k m
+fact_in h (said.Begin t op m) = begin_in h t op m
+fact_in h (said.BeginOn t op k m) = begin_on_in h t op k m
 fact_in h (said.Kill t) = thread_in h t >>? λ u. Some (fact.Kill u)
-fact_in h (said.Point t m a x) = point_in h t m a x
+fact_in h (said.Point t m op x) = point_in h t m op x
 fact_in h (said.Death t m) = death_in h t m
-fact_in h (said.Sleep t m) = thread_at h t h.mutexes m >>? λ u. Some (fact.Sleep u)
-fact_in h (said.SleepOn t k) = thread_at h t h.conditions k >>? λ u. Some (fact.Sleep u)
+fact_in h (said.Sleep t m) = sleep_in h t m
+fact_in h (said.SleepOn t k) = sleep_on_in h t k
 fact_in h (said.Wake t) = thread_in h t >>? λ u. Some (fact.Wake u)
-fact_in h (said.Move t m) = thread_at h t h.mutexes m >>? λ u. Some (fact.Move u)
+fact_in h (said.Move t m) = move_in h t m
 fact_in h (said.Return t x) = thread_in h t >>? λ u. Some (fact.Return u x)
 fact_in h (said.Reap t) = thread_in h t >>? λ u. Some (fact.Reap u)
 
-abbrev pub line_in : Head → Form → Option Line
-line_in h (form.Told n s) = number_in 1 max_events n >>? λ i. fact_in h s >>? λ f. Some (line.Told (record { event = i; fact = f }))
-line_in h (form.End n) = n >>? λ i. Some (line.End i)
+abbrev pub line_in : Head → Form → Option Read
+line_in h (form.Told n s) = number_in 1 max_events n >>? λ i. fact_in h s >>? λ f. Some (read.Told (record { event = i; fact = f }))
+line_in h (form.End n) = n >>? λ i. Some (read.End i)
 
 -- ---- line after line
 
@@ -105,7 +106,7 @@ abbrev pub head_read : List ℕ → Result Head Fault
 head_read text = ok_or (head_form (words_of text)) UnknownWord >>= λ f. ok_or (head_in f) OutOfRange
 
 -- a line behind the first, which a line feed ends
-abbrev pub line_read : Head → List ℕ → Result Line Fault
+abbrev pub line_read : Head → List ℕ → Result Read Fault
 line_read h text = ok_or (form_of text) UnknownWord >>= λ f. ok_or (line_in h f) OutOfRange
 
 -- a fault at line n
@@ -122,17 +123,17 @@ unended [] = Cut
 unended (b ∷ bs) = UnknownWord
 
 -- nothing stands behind the `end` line; where something does, it is at line n
-abbrev pub ended : ℕ → Head → List Entry → ℕ → List (List ℕ) → Result Trace TraceFault
+abbrev pub ended : ℕ → Head → List Line → ℕ → List (List ℕ) → Result Trace TraceFault
 ended n h told i ([] ∷ []) = Ok (record { head = h; told = told; last = i })
 ended n h told i _ = Err (fault_at n Cut)
 
 -- what follows a line: the lines behind it, the first of which is line n
-abbrev pub goes_on : ℕ → Head → List Entry → List (List ℕ) → (Entry → Result Trace TraceFault) → Line → Result Trace TraceFault
-goes_on n h told ls more (line.Told e) = more e
-goes_on n h told ls more (line.End i) = ended n h told i ls
+abbrev pub goes_on : ℕ → Head → List Line → List (List ℕ) → (Line → Result Trace TraceFault) → Read → Result Trace TraceFault
+goes_on n h told ls more (read.Told e) = more e
+goes_on n h told ls more (read.End i) = ended n h told i ls
 
 -- these lines, the first of which is line n, behind a first line and what the lines behind that one told; what stands behind the last line feed is the last of them
-unfoldable pub lines_read : ℕ → Head → List Entry → List (List ℕ) → Result Trace TraceFault
+unfoldable pub lines_read : ℕ → Head → List Line → List (List ℕ) → Result Trace TraceFault
 lines_read n h told [] = Err (fault_at n Cut)
 lines_read n h told (text ∷ []) = Err (fault_at n (unended text))
 lines_read n h told (text ∷ next ∷ more) = met_at n (line_read h text) >>= goes_on (n + 1) h told (next ∷ more) (λ e. lines_read (n + 1) h (e ∷ told) (next ∷ more))

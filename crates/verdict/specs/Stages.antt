@@ -2,17 +2,17 @@
 use Rattle.std.specs.Prelude.{◌≡◌, true, false}
 use Rattle.lockword.specs.declared.reply.Reply.{Reply}
 use Rattle.lockword.specs.declared.reply.Reply.TheVariants.{OK}
-use Rattle.verdict.specs.declared.entry.Action.{Action}
-use Rattle.verdict.specs.declared.entry.Action.TheVariants.{Lock, Unlock, Wait}
-use Rattle.verdict.specs.declared.entry.Fact.{Fact}
-use Rattle.verdict.specs.declared.entry.Fact.TheVariants.{Begin, Kill, Point, Death, Sleep, Wake, Move, Return, Reap}
+use Rattle.keys.specs.declared.point.Operation.{Operation}
+use Rattle.keys.specs.declared.point.Operation.TheVariants.{Lock, Unlock, Wait}
+use Rattle.facts.specs.declared.fact.Fact.{Fact}
+use Rattle.facts.specs.declared.fact.Fact.TheVariants.{Begin, Kill, Point, Death, Sleep, Wake, Move, Return, Reap}
 use Rattle.verdict.specs.declared.stage.Made.{Made}
 use Rattle.verdict.specs.declared.stage.Made.TheVariants.{Nothing, Released, Decided}
 use Rattle.verdict.specs.declared.stage.Stage.{Stage}
 use Rattle.verdict.specs.declared.stage.Stage.TheVariants.{Resting, Calling, Dying, Reaped}
 
 -- the next point of a call of which these are made
-abbrev pub MayPoint : Action → Made → Action → Reply → Type 0
+abbrev pub MayPoint : Operation → Made → Operation → Reply → Type 0
 MayPoint Wait Nothing Wait x = Unit {0}
 MayPoint Wait Nothing Unlock x = x ≡ OK
 MayPoint Wait Released b x = b ≡ Lock
@@ -20,7 +20,7 @@ MayPoint a Nothing b x = b ≡ a
 MayPoint a made b x = ⊥
 
 -- how far a point brings a call
-abbrev pub pointed : Action → Action → Reply → Made
+abbrev pub pointed : Operation → Operation → Reply → Made
 pointed Wait Unlock x = Released
 pointed a b x = Decided x
 
@@ -29,10 +29,10 @@ abbrev pub May : Stage → Fact → Type 0
 May Resting (Begin t c) = Unit {0}
 May Resting (Kill t) = Unit {0}
 May (Calling c made asleep) (Kill t) = Unit {0}
-May (Calling c made asleep) (Point t k x) = (asleep ≡ false) × (k.mutex ≡ c.mutex) × MayPoint c.action made k.action x
-May (Calling c made asleep) (Sleep t) = asleep ≡ false
+May (Calling c made asleep) (Point d) = (asleep ≡ false) × (d.mutex ≡ c.mutex) × MayPoint c.operation made d.operation d.reply
+May (Calling c made asleep) (Sleep t q) = asleep ≡ false
 May (Calling c made asleep) (Wake t) = asleep ≡ true
-May (Calling c made asleep) (Move t) = asleep ≡ true
+May (Calling c made asleep) (Move t m) = asleep ≡ true
 May (Calling c made asleep) (Return t x) = (asleep ≡ false) × (made ≡ Decided x)
 May Dying (Death t m) = Unit {0}
 May Dying (Reap t) = Unit {0}
@@ -44,7 +44,7 @@ next stage (Begin t c) = Calling c Nothing false
 next stage (Kill t) = Dying
 next stage (Return t x) = Resting
 next stage (Reap t) = Reaped
-next (Calling c made asleep) (Point t k x) = Calling c (pointed c.action k.action x) asleep
-next (Calling c made asleep) (Sleep t) = Calling c made true
+next (Calling c made asleep) (Point d) = Calling c (pointed c.operation d.operation d.reply) asleep
+next (Calling c made asleep) (Sleep t q) = Calling c made true
 next (Calling c made asleep) (Wake t) = Calling c made false
 next stage f = stage

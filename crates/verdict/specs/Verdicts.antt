@@ -1,23 +1,23 @@
 -- When a trace is legal, and which line is the first that isn't.
 use Rattle.std.specs.Prelude.{ℕ, ◌≡◌, ◌+◌, ◌<◌, ◌≤◌, ◌⊎◌, List, [], ◌∷◌, ◌++◌, length, Result, Ok, Err, IfErr, if◌then◌else◌}
-use Rattle.verdict.specs.declared.entry.Entry.{Entry}
+use Rattle.facts.specs.declared.fact.Line.{Line}
 use Rattle.verdict.specs.declared.checking.Verdict.{Verdict}
 use Rattle.verdict.specs.declared.checking.Verdict.TheVariants.{Legal, Illegal}
 use Rattle.verdict.specs.declared.fault.Fault.TheVariants.{OutOfMemory}
 use Rattle.verdict.specs.declared.fault.TraceFault.{TraceFault}
 use Rattle.verdict.specs.Reading.{Trace, fault_at}
-use Rattle.verdict.specs.Facts.{is_point}
+use Rattle.facts.specs.Facts.{is_point}
 use Rattle.verdict.specs.Earlier.{latest}
 use Rattle.verdict.specs.Fits.{Fits}
 use Rattle.verdict.specs.Explained.{Explains}
 
 -- each line fits those before it; n is the number of mutexes
-abbrev pub AllFit : ℕ → List Entry → Type 0
+abbrev pub AllFit : ℕ → List Line → Type 0
 AllFit n [] = Unit {0}
 AllFit n (e ∷ es) = Fits n es e × AllFit n es
 
 -- how many of the lines tell of a point
-abbrev pub point_lines : List Entry → ℕ
+abbrev pub point_lines : List Line → ℕ
 point_lines [] = 0
 point_lines (e ∷ es) = if is_point e.fact then 1 + point_lines es else point_lines es
 
@@ -28,10 +28,10 @@ pub record IsLegal (t : Trace) : Type 0 where
   pub explained : Explains t.head.mutexes t.told
 
 -- of these lines, which stand newest first, this is the first that doesn't fit those before it; line 2 is the first behind the head
-pub record IsFirstMisfit (n : ℕ) (told : List Entry) (line : ℕ) : Type 0 where
-  pub newer : List Entry
-  pub misfit : Entry
-  pub earlier : List Entry
+pub record IsFirstMisfit (n : ℕ) (told : List Line) (line : ℕ) : Type 0 where
+  pub newer : List Line
+  pub misfit : Line
+  pub earlier : List Line
   pub all : told ≡ newer ++ misfit ∷ earlier
   pub fit : AllFit n earlier
   pub fails : Fits n earlier misfit → ⊥

@@ -8,11 +8,12 @@ ghost use Rattle.verdict.specs.Passes.{AnswersLines, IsFresh, MakesPass, Takes, 
 ghost use Rattle.verdict.specs.Reading.{IsHead, head_read, lines_read, text_read, trace_read, unended};
 ghost use Rattle.verdict.specs.Verdicts.{Answers};
 
-use crate::entry::{Entry, Head};
 use crate::fault::{Fault, TraceFault};
+use crate::head::Head;
 use crate::judge::Judge;
 use crate::limits::MAX_BYTES;
-use crate::reading::{Line, head_of, line_of};
+use crate::reading::{Read, head_of, line_of};
+use facts::Line;
 use lines::{cut, text_of};
 use std::alloc::{AllocError, Global};
 
@@ -55,7 +56,7 @@ impl Pass {
     }
 
     /// Judges the entry at this line, unless a line before it didn't fit.
-    fn take(&mut self, line: usize, entry: &Entry)
+    fn take(&mut self, line: usize, entry: &Line)
         requires sound { IsSound self.old.judge }
         requires inside { IsInside (length self.old.judge.stages.items) (length self.old.judge.objects.items) entry.now.fact }
         requires room { self.old.points < max_bytes }
@@ -120,8 +121,8 @@ fn judge_lines(mut pass: Pass, text: &str) -> Result<Verdict, TraceFault>
             Err(fault) => return Err(TraceFault { line, fault }),
         };
         match read {
-            Line::Told(entry) => pass.take(line, &entry),
-            Line::End(last) => {
+            Read::Told(entry) => pass.take(line, &entry),
+            Read::End(last) => {
                 if after.is_empty() {
                     return Ok(pass.verdict(line, last));
                 }

@@ -1,11 +1,11 @@
 //! The kinds of line of a trace.
 
 ghost use Rattle.std.specs.Prelude.{◌≡◌, [], ◌∷◌};
-ghost use Rattle.verdict.specs.Forms.{action_of, condition_action, end_form, form_of, head_form, mark_form, mutex_action, object_said, object_form, point_said, begin_on_said, begin_form, many_form, reply_of, sleep_said};
+ghost use Rattle.verdict.specs.Forms.{operation_of, condition_operation, end_form, form_of, head_form, mark_form, mutex_operation, object_said, object_form, point_said, begin_on_said, begin_form, many_form, reply_of, sleep_said};
 ghost use Rattle.lines.specs.Lines.{words_of};
 
-use crate::entry::Action;
 use crate::words::{number, numbered};
+use keys::Operation;
 use lines::{Words, words_in};
 use lockword::Reply;
 
@@ -16,11 +16,11 @@ pub type Spelled = Option<u32>;
 #[derive(Clone, Copy)]
 pub enum Said {
     /// A call on a mutex: its thread and its mutex.
-    Begin(Spelled, Action, Spelled),
+    Begin(Spelled, Operation, Spelled),
     /// A call on a condition variable: its thread, its condition variable and its mutex.
-    BeginOn(Spelled, Action, Spelled, Spelled),
+    BeginOn(Spelled, Operation, Spelled, Spelled),
     Kill(Spelled),
-    Point(Spelled, Spelled, Action, Reply),
+    Point(Spelled, Spelled, Operation, Reply),
     Death(Spelled, Spelled),
     /// Asleep on a mutex.
     Sleep(Spelled, Spelled),
@@ -49,38 +49,38 @@ pub struct HeadForm {
     pub conditions: Spelled,
 }
 
-/// The action of a call on a mutex.
-fn mutex_action(word: &str) -> Option<Action>
-    ensures { result ≡ mutex_action word.now }
+/// A call on a mutex, by its word.
+fn mutex_operation(word: &str) -> Option<Operation>
+    ensures { result ≡ mutex_operation word.now }
 {
     match word {
-        "lock" => Some(Action::Lock),
-        "trylock" => Some(Action::TryLock),
-        "unlock" => Some(Action::Unlock),
-        "consistent" => Some(Action::Consistent),
+        "lock" => Some(Operation::Lock),
+        "trylock" => Some(Operation::TryLock),
+        "unlock" => Some(Operation::Unlock),
+        "consistent" => Some(Operation::Consistent),
         _ => None,
     }
 }
 
-/// The action of a call on a condition variable.
-fn condition_action(word: &str) -> Option<Action>
-    ensures { result ≡ condition_action word.now }
+/// A call on a condition variable, by its word.
+fn condition_operation(word: &str) -> Option<Operation>
+    ensures { result ≡ condition_operation word.now }
 {
     match word {
-        "wait" => Some(Action::Wait),
-        "signal" => Some(Action::Signal),
-        "broadcast" => Some(Action::Broadcast),
+        "wait" => Some(Operation::Wait),
+        "signal" => Some(Operation::Signal),
+        "broadcast" => Some(Operation::Broadcast),
         _ => None,
     }
 }
 
-/// The action of any call.
-fn action(word: &str) -> Option<Action>
-    ensures { result ≡ action_of word.now }
+/// Any call, by its word.
+fn operation(word: &str) -> Option<Operation>
+    ensures { result ≡ operation_of word.now }
 {
-    match mutex_action(word) {
-        Some(action) => Some(action),
-        None => condition_action(word),
+    match mutex_operation(word) {
+        Some(operation) => Some(operation),
+        None => condition_operation(word),
     }
 }
 
@@ -180,10 +180,10 @@ fn begin(event: &str, keyword: &str, thread: &str, call: &str, mutex: &str) -> O
 {
     let event = number(event)?;
     let thread = numbered('t', thread)?;
-    let action = mutex_action(call)?;
+    let operation = mutex_operation(call)?;
     let mutex = numbered('m', mutex)?;
     if keyword == "begin" {
-        return Some(Form::Told(event, Said::Begin(thread, action, mutex)));
+        return Some(Form::Told(event, Said::Begin(thread, operation, mutex)));
     }
     None
 }
@@ -192,18 +192,18 @@ fn begin(event: &str, keyword: &str, thread: &str, call: &str, mutex: &str) -> O
 fn begin_on(thread: Spelled, call: &str, condition: &str, mutex: &str) -> Option<Said>
     ensures { result ≡ begin_on_said thread call.now condition.now mutex.now }
 {
-    let action = condition_action(call)?;
+    let operation = condition_operation(call)?;
     let condition = numbered('c', condition)?;
     let mutex = numbered('m', mutex)?;
-    Some(Said::BeginOn(thread, action, condition, mutex))
+    Some(Said::BeginOn(thread, operation, condition, mutex))
 }
 
 fn point(thread: Spelled, mutex: &str, call: &str, word: &str) -> Option<Said>
     ensures { result ≡ point_said thread mutex.now call.now word.now }
 {
     let mutex = numbered('m', mutex)?;
-    let action = action(call)?;
-    Some(Said::Point(thread, mutex, action, reply(word)?))
+    let operation = operation(call)?;
+    Some(Said::Point(thread, mutex, operation, reply(word)?))
 }
 
 /// A line with three words behind its thread.

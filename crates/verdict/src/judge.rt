@@ -2,14 +2,15 @@
 ghost use Rattle.std.specs.Prelude.{◌≡◌, ◌+◌, ◌≤◌, ◌<◌, Some, true, false, length, IfOk};
 ghost use Rattle.keys.specs.Histories.{is_thread};
 ghost use Rattle.verdict.specs.Earlier.{moved};
-ghost use Rattle.verdict.specs.Facts.{decision_of};
+ghost use Rattle.facts.specs.Facts.{decision_of};
 ghost use Rattle.verdict.specs.Fits.{Allows, OwnsNothing};
 ghost use Rattle.verdict.specs.Judges.{Accepts, AreCounted, IsInside, IsSound, Moves, IsNew, object_at, one};
 ghost use Rattle.verdict.specs.Reading.{IsHead};
 
-use crate::entry::{Entry, Fact, Head};
+use crate::head::Head;
 use crate::place::Place;
 use crate::stage::Stage;
+use facts::{Fact, Line};
 use keys::{Decision, Object};
 use lockword::Tid;
 use std::alloc::{AllocError, Global};
@@ -118,7 +119,7 @@ impl Judge {
     }
 
     /// Takes an entry, if it fits the lines so far.
-    pub fn accept(&mut self, entry: &Entry) -> bool
+    pub fn accept(&mut self, entry: &Line) -> bool
         requires sound { IsSound self.old }
         requires inside { IsInside (length self.old.stages.items) (length self.old.objects.items) entry.now.fact }
         ensures accepts { result ≡ true → Accepts self.old entry.now }

@@ -9,9 +9,9 @@
 #![tactic(auto)]
 
 mod checking;
-mod entry;
 mod fault;
 mod form;
+mod head;
 mod judge;
 mod limits;
 mod place;

@@ -2,7 +2,7 @@
 ghost use Rattle.std.specs.Prelude.{◌≡◌, ◌↔◌, IsTrue};
 ghost use Rattle.verdict.specs.Places.{Admits, Stands, caller, nowhere, placed};
 
-use crate::entry::Entry;
+use facts::Line;
 use lockword::Tid;
 
 /// What the lines of the newest event told so far.
@@ -32,7 +32,7 @@ impl Place {
     }
 
     /// Whether the thread may have told a line of the event.
-    fn admits(&self, entry: &Entry) -> bool
+    fn admits(&self, entry: &Line) -> bool
         ensures { IsTrue result ↔ Admits self.now.thread entry.now.fact }
     {
         if entry.fact.is_passive() {
@@ -45,7 +45,7 @@ impl Place {
     }
 
     /// Whether the entry may stand behind the lines so far, by its number.
-    pub fn stands(&self, entry: &Entry) -> bool
+    pub fn stands(&self, entry: &Line) -> bool
         ensures { IsTrue result ↔ Stands self.now entry.now }
     {
         if self.event < entry.event {
@@ -62,7 +62,7 @@ impl Place {
     }
 
     /// The place behind the entry.
-    pub fn behind(&self, entry: &Entry) -> Place
+    pub fn behind(&self, entry: &Line) -> Place
         ensures { result ≡ placed self.now entry.now }
     {
         let same = self.event == entry.event;
@@ -76,7 +76,7 @@ impl Place {
     }
 
     /// Whose event the entry's is, as far as lines have told.
-    fn caller(&self, same: bool, entry: &Entry) -> Option<Tid>
+    fn caller(&self, same: bool, entry: &Line) -> Option<Tid>
         ensures { result ≡ caller same self.now.thread entry.now.fact }
     {
         if !entry.fact.is_passive() {

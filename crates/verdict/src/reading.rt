@@ -2,19 +2,21 @@
 
 ghost use Rattle.std.specs.Prelude.{◌≡◌, ◌+◌, ◌<◌, ◌≤◌, IfOk, IfSome};
 ghost use Rattle.verdict.specs.Limits.{max_threads};
-ghost use Rattle.verdict.specs.Judges.{IsInside, IsLine};
-ghost use Rattle.verdict.specs.Reading.{IsHead, begin_in, begin_on_in, below_in, call_in, death_in, fact_in, head_in, head_read, line_in, line_read, number_in, point_in, thread_at, thread_in};
+ghost use Rattle.verdict.specs.Judges.{IsInside, IsRead};
+ghost use Rattle.verdict.specs.Reading.{IsHead, begin_in, begin_on_in, below_in, death_in, fact_in, head_in, head_read, line_in, line_read, move_in, number_in, point_in, sleep_in, sleep_on_in, thread_in};
 
-use crate::entry::{Action, Call, Entry, Fact, Head};
 use crate::fault::Fault;
 use crate::form::{Form, HeadForm, Said, Spelled, read_form, read_head};
+use crate::head::Head;
 use crate::limits::{MAX_CONDITIONS, MAX_EVENTS, MAX_MUTEXES, MAX_THREADS};
+use facts::{Begun, Fact, Line, Queue};
+use keys::{Decision, Operation};
 use lockword::{Reply, Tid};
 
-/// A line behind the first.
+/// A line behind the first: an entry of the trace, or its end.
 #[derive(Clone, Copy)]
-pub enum Line {
-    Told(Entry),
+pub enum Read {
+    Told(Line),
     /// The last line, with the number of events.
     End(u32),
 }
@@ -61,54 +63,66 @@ fn below(count: u16, number: Spelled) -> Option<u16>
     None
 }
 
-fn call_in(head: &Head, action: Action, mutex: Spelled) -> Option<Call>
-    ensures value { result ≡ call_in head.now action mutex }
-    ensures range { IfSome result (λ c. c.mutex < head.now.mutexes) }
-{
-    Some(Call {
-        action,
-        mutex: below(head.mutexes, mutex)?,
-    })
-}
-
-fn begin_in(head: &Head, thread: Spelled, action: Action, mutex: Spelled) -> Option<Fact>
+fn begin_in(head: &Head, thread: Spelled, operation: Operation, mutex: Spelled) -> Option<Fact>
     requires { head.now.threads ≤ max_threads }
-    ensures value { result ≡ begin_in head.now thread action mutex }
+    ensures value { result ≡ begin_in head.now thread operation mutex }
     ensures range { IfSome result (IsInside (head.now.threads + 1) head.now.mutexes) }
 {
     let thread = thread_in(head, thread)?;
-    Some(Fact::Begin(thread, call_in(head, action, mutex)?))
+    let mutex = below(head.mutexes, mutex)?;
+    Some(Fact::Begin(
+        thread,
+        Begun {
+            operation,
+            mutex,
+            condition: None,
+        },
+    ))
 }
 
 fn begin_on_in(
     head: &Head,
     thread: Spelled,
-    action: Action,
+    operation: Operation,
     condition: Spelled,
     mutex: Spelled,
 ) -> Option<Fact>
     requires { head.now.threads ≤ max_threads }
-    ensures value { result ≡ begin_on_in head.now thread action condition mutex }
+    ensures value { result ≡ begin_on_in head.now thread operation condition mutex }
     ensures range { IfSome result (IsInside (head.now.threads + 1) head.now.mutexes) }
 {
     let thread = thread_in(head, thread)?;
-    below(head.conditions, condition)?;
-    Some(Fact::Begin(thread, call_in(head, action, mutex)?))
+    let condition = below(head.conditions, condition)?;
+    let mutex = below(head.mutexes, mutex)?;
+    Some(Fact::Begin(
+        thread,
+        Begun {
+            operation,
+            mutex,
+            condition: Some(condition),
+        },
+    ))
 }
 
 fn point_in(
     head: &Head,
     thread: Spelled,
     mutex: Spelled,
-    action: Action,
+    operation: Operation,
     reply: Reply,
 ) -> Option<Fact>
     requires { head.now.threads ≤ max_threads }
-    ensures value { result ≡ point_in head.now thread mutex action reply }
+    ensures value { result ≡ point_in head.now thread mutex operation reply }
     ensures range { IfSome result (IsInside (head.now.threads + 1) head.now.mutexes) }
 {
     let thread = thread_in(head, thread)?;
-    Some(Fact::Point(thread, call_in(head, action, mutex)?, reply))
+    let mutex = below(head.mutexes, mutex)?;
+    Some(Fact::Point(Decision {
+        thread,
+        mutex,
+        operation,
+        reply,
+    }))
 }
 
 fn death_in(head: &Head, thread: Spelled, mutex: Spelled) -> Option<Fact>
@@ -120,15 +134,33 @@ fn death_in(head: &Head, thread: Spelled, mutex: Spelled) -> Option<Fact>
     Some(Fact::Death(thread, below(head.mutexes, mutex)?))
 }
 
-/// The thread of a line that names one of `count` places too, which isn't kept.
-fn thread_at(head: &Head, thread: Spelled, count: u16, place: Spelled) -> Option<Tid>
+fn sleep_in(head: &Head, thread: Spelled, mutex: Spelled) -> Option<Fact>
     requires { head.now.threads ≤ max_threads }
-    ensures value { result ≡ thread_at head.now thread count place }
-    ensures range { IfSome result (λ t. t < head.now.threads + 1) }
+    ensures value { result ≡ sleep_in head.now thread mutex }
+    ensures range { IfSome result (IsInside (head.now.threads + 1) head.now.mutexes) }
 {
     let thread = thread_in(head, thread)?;
-    below(count, place)?;
-    Some(thread)
+    let mutex = below(head.mutexes, mutex)?;
+    Some(Fact::Sleep(thread, Queue::Mutex(mutex)))
+}
+
+fn sleep_on_in(head: &Head, thread: Spelled, condition: Spelled) -> Option<Fact>
+    requires { head.now.threads ≤ max_threads }
+    ensures value { result ≡ sleep_on_in head.now thread condition }
+    ensures range { IfSome result (IsInside (head.now.threads + 1) head.now.mutexes) }
+{
+    let thread = thread_in(head, thread)?;
+    let condition = below(head.conditions, condition)?;
+    Some(Fact::Sleep(thread, Queue::Condition(condition)))
+}
+
+fn move_in(head: &Head, thread: Spelled, mutex: Spelled) -> Option<Fact>
+    requires { head.now.threads ≤ max_threads }
+    ensures value { result ≡ move_in head.now thread mutex }
+    ensures range { IfSome result (IsInside (head.now.threads + 1) head.now.mutexes) }
+{
+    let thread = thread_in(head, thread)?;
+    Some(Fact::Move(thread, below(head.mutexes, mutex)?))
 }
 
 fn fact_in(head: &Head, said: &Said) -> Option<Fact>
@@ -137,19 +169,19 @@ fn fact_in(head: &Head, said: &Said) -> Option<Fact>
     ensures range { IfSome result (IsInside (head.now.threads + 1) head.now.mutexes) }
 {
     match *said {
-        Said::Begin(thread, action, mutex) => begin_in(head, thread, action, mutex),
-        Said::BeginOn(thread, action, condition, mutex) => {
-            begin_on_in(head, thread, action, condition, mutex)
+        Said::Begin(thread, operation, mutex) => begin_in(head, thread, operation, mutex),
+        Said::BeginOn(thread, operation, condition, mutex) => {
+            begin_on_in(head, thread, operation, condition, mutex)
         }
         Said::Kill(thread) => thread_in(head, thread).map(Fact::Kill),
-        Said::Point(thread, mutex, action, reply) => point_in(head, thread, mutex, action, reply),
-        Said::Death(thread, mutex) => death_in(head, thread, mutex),
-        Said::Sleep(thread, mutex) => thread_at(head, thread, head.mutexes, mutex).map(Fact::Sleep),
-        Said::SleepOn(thread, condition) => {
-            thread_at(head, thread, head.conditions, condition).map(Fact::Sleep)
+        Said::Point(thread, mutex, operation, reply) => {
+            point_in(head, thread, mutex, operation, reply)
         }
+        Said::Death(thread, mutex) => death_in(head, thread, mutex),
+        Said::Sleep(thread, mutex) => sleep_in(head, thread, mutex),
+        Said::SleepOn(thread, condition) => sleep_on_in(head, thread, condition),
         Said::Wake(thread) => thread_in(head, thread).map(Fact::Wake),
-        Said::Move(thread, mutex) => thread_at(head, thread, head.mutexes, mutex).map(Fact::Move),
+        Said::Move(thread, mutex) => move_in(head, thread, mutex),
         Said::Return(thread, reply) => {
             let thread = thread_in(head, thread)?;
             Some(Fact::Return(thread, reply))
@@ -158,17 +190,17 @@ fn fact_in(head: &Head, said: &Said) -> Option<Fact>
     }
 }
 
-fn line_in(head: &Head, form: &Form) -> Option<Line>
+fn line_in(head: &Head, form: &Form) -> Option<Read>
     requires { head.now.threads ≤ max_threads }
     ensures value { result ≡ line_in head.now form.now }
-    ensures range { IfSome result (IsLine head.now) }
+    ensures range { IfSome result (IsRead head.now) }
 {
     Some(match *form {
-        Form::Told(event, said) => Line::Told(Entry {
+        Form::Told(event, said) => Read::Told(Line {
             event: within(1, MAX_EVENTS, event)?,
             fact: fact_in(head, &said)?,
         }),
-        Form::End(count) => Line::End(count?),
+        Form::End(count) => Read::End(count?),
     })
 }
 
@@ -182,10 +214,10 @@ pub fn head_of(text: &str) -> Result<Head, Fault>
 }
 
 /// Reads a line behind the first.
-pub fn line_of(head: &Head, text: &str) -> Result<Line, Fault>
+pub fn line_of(head: &Head, text: &str) -> Result<Read, Fault>
     requires { head.now.threads ≤ max_threads }
     ensures value { result ≡ line_read head.now text.now }
-    ensures range { IfOk result (IsLine head.now) }
+    ensures range { IfOk result (IsRead head.now) }
 {
     let form = read_form(text).ok_or(Fault::UnknownWord)?;
     match line_in(head, &form) {

@@ -2,7 +2,8 @@
 ghost use Rattle.std.specs.Prelude.{◌≡◌, ◌↔◌, IsTrue, MatchOption};
 ghost use Rattle.verdict.specs.Stages.{May, MayPoint, next, pointed};
 
-use crate::entry::{Action, Call, Fact};
+use facts::{Begun, Fact};
+use keys::Operation;
 use lockword::Reply;
 
 /// Which points of a call are made.
@@ -20,27 +21,27 @@ pub enum Made {
 pub enum Stage {
     Resting,
     /// In a call; asleep in it where the last field is true.
-    Calling(Call, Made, bool),
+    Calling(Begun, Made, bool),
     /// Killed, and not reaped yet.
     Dying,
     Reaped,
 }
 
 /// Whether this may be the next point of a call of which these are made.
-fn may_point(call: Action, made: Made, action: Action, reply: Reply) -> bool
-    ensures { IsTrue result ↔ MayPoint call made action reply }
+fn may_point(call: Operation, made: Made, operation: Operation, reply: Reply) -> bool
+    ensures { IsTrue result ↔ MayPoint call made operation reply }
 {
     match made {
         Made::Nothing => match call {
-            Action::Wait => match action {
-                Action::Wait => true,
-                Action::Unlock => reply == Reply::OK,
+            Operation::Wait => match operation {
+                Operation::Wait => true,
+                Operation::Unlock => reply == Reply::OK,
                 _ => false,
             },
-            _ => action == call,
+            _ => operation == call,
         },
         Made::Released => match call {
-            Action::Wait => action == Action::Lock,
+            Operation::Wait => operation == Operation::Lock,
             _ => false,
         },
         Made::Decided(_) => false,
@@ -48,12 +49,12 @@ fn may_point(call: Action, made: Made, action: Action, reply: Reply) -> bool
 }
 
 /// How far a point brings a call.
-fn made_by(call: Action, action: Action, reply: Reply) -> Made
-    ensures { result ≡ pointed call action reply }
+fn made_by(call: Operation, operation: Operation, reply: Reply) -> Made
+    ensures { result ≡ pointed call operation reply }
 {
     match call {
-        Action::Wait => match action {
-            Action::Unlock => Made::Released,
+        Operation::Wait => match operation {
+            Operation::Unlock => Made::Released,
             _ => Made::Decided(reply),
         },
         _ => Made::Decided(reply),
@@ -83,23 +84,23 @@ impl Stage {
 }
 
 /// The same of a thread in a call.
-fn called(call: Call, made: Made, asleep: bool, fact: &Fact) -> Option<Stage>
+fn called(call: Begun, made: Made, asleep: bool, fact: &Fact) -> Option<Stage>
     ensures { MatchOption result (May (Stage.Calling call made asleep) fact.now → ⊥) (λ after. May (Stage.Calling call made asleep) fact.now × (after ≡ next (Stage.Calling call made asleep) fact.now)) }
 {
     match *fact {
         Fact::Kill(_) => Some(Stage::Dying),
-        Fact::Point(_, point, reply) => {
+        Fact::Point(point) => {
             if !asleep
                 && point.mutex == call.mutex
-                && may_point(call.action, made, point.action, reply)
+                && may_point(call.operation, made, point.operation, point.reply)
             {
-                let made = made_by(call.action, point.action, reply);
+                let made = made_by(call.operation, point.operation, point.reply);
                 Some(Stage::Calling(call, made, asleep))
             } else {
                 None
             }
         }
-        Fact::Sleep(_) => {
+        Fact::Sleep(..) => {
             if asleep {
                 None
             } else {
@@ -113,7 +114,7 @@ fn called(call: Call, made: Made, asleep: bool, fact: &Fact) -> Option<Stage>
                 None
             }
         }
-        Fact::Move(_) => {
+        Fact::Move(..) => {
             if asleep {
                 Some(Stage::Calling(call, made, asleep))
             } else {

@@ -1,6 +1,6 @@
 use Rattle.std.proofs.Common.{◌++◌, map}
-use Rattle.protocol.specs.declared.note.Fact.TheVariants.{Begin, Wake}
-use Rattle.protocol.specs.Notes.{point_facts, sleep_facts, refusal_facts, return_facts, death_facts, reap_facts}
+use Rattle.facts.specs.declared.fact.Fact.TheVariants.{Begin, Wake}
+use Rattle.protocol.specs.Notes.{begun_of, point_facts, sleep_facts, refusal_facts, return_facts, death_facts, reap_facts}
 use Rattle.texts.specs.Text.{fact_text, facts_text}
 use Rattle.texts.proofs.Events.{facts_text-append}
 use Rattle.texts.proofs.Writers.{ends_at_first, then_leaves}
@@ -8,13 +8,13 @@ use Rattle.texts.proofs.text.write_note.Goals as goal
 
 pub returns-in_err-write_fact-in-Began : goal.returns-in_err-write_fact-in-Began
 returns-in_err-write_fact-in-Began g c =
-    rw c.in-Began.is (ends_at_first _ _ c.from_residual.result (fact_text c.args.event (Begin c.in-Began.thread c.in-Began.call))
-    (facts_text c.args.event (refusal_facts c.in-Began.thread c.in-Began.call c.in-Began.refused)) c.from_residual.ensures.0 c.in_err-write_fact-in-Began.ensures)
+    rw c.in-Began.is (ends_at_first _ _ c.from_residual.result (fact_text c.args.event (Begin c.in-Began.thread (begun_of c.in-Began.call)))
+    (facts_text c.args.event (refusal_facts c.in-Began.thread c.in-Began.call c.in-Began.refused)) c.from_residual.ensures.0 (rw c.begun.ensures at c.in_err-write_fact-in-Began.ensures))
 
 pub returns-in_ok-write_fact-in-Began : goal.returns-in_ok-write_fact-in-Began
 returns-in_ok-write_fact-in-Began g c =
-    rw c.in-Began.is (then_leaves _ _ _ c.write_refused.result (fact_text c.args.event (Begin c.in-Began.thread c.in-Began.call))
-    (facts_text c.args.event (refusal_facts c.in-Began.thread c.in-Began.call c.in-Began.refused)) c.in_ok-write_fact-in-Began.ensures c.write_refused.ensures)
+    rw c.in-Began.is (then_leaves _ _ _ c.write_refused.result (fact_text c.args.event (Begin c.in-Began.thread (begun_of c.in-Began.call)))
+    (facts_text c.args.event (refusal_facts c.in-Began.thread c.in-Began.call c.in-Began.refused)) (rw c.begun.ensures at c.in_ok-write_fact-in-Began.ensures) c.write_refused.ensures)
 
 pub returns-in_err-write_decided-in-Stepped : goal.returns-in_err-write_decided-in-Stepped
 returns-in_err-write_decided-in-Stepped g c =

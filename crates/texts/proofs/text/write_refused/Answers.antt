@@ -1,5 +1,5 @@
 use Rattle.std.proofs.Common.{[], ◌∷◌}
-use Rattle.protocol.specs.declared.note.Fact.TheVariants.{Return}
+use Rattle.facts.specs.declared.fact.Fact.TheVariants.{Return}
 use Rattle.texts.specs.Text.{facts_text}
 use Rattle.texts.proofs.Events.{leaves_fact}
 use Rattle.texts.proofs.Writers.{ends_at_first, then_leaves}

@@ -1,5 +1,5 @@
 use Rattle.std.proofs.Common.{◌++◌, map}
-use Rattle.protocol.specs.declared.note.Fact.TheVariants.{Wake}
+use Rattle.facts.specs.declared.fact.Fact.TheVariants.{Wake}
 use Rattle.protocol.specs.Notes.{sleep_facts, return_facts}
 use Rattle.texts.specs.Text.{facts_text}
 use Rattle.texts.proofs.Events.{facts_text-append}

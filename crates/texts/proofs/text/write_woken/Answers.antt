@@ -1,6 +1,6 @@
 use Rattle.std.proofs.Common.{map, take, ◌∙◌, sym, subst}
 use Rattle.std.specs.Io.KnownBytes.{Appends}
-use Rattle.protocol.specs.declared.note.Fact.TheVariants.{Wake}
+use Rattle.facts.specs.declared.fact.Fact.TheVariants.{Wake}
 use Rattle.texts.specs.Leaves.{Leaves}
 use Rattle.texts.specs.Text.{fact_text, facts_text}
 use Rattle.texts.proofs.Events.{woken_as_far, woken_more}

@@ -1,6 +1,6 @@
 use Rattle.std.proofs.Common.{map, take}
 use Rattle.std.specs.Io.KnownBytes.{Appends}
-use Rattle.protocol.specs.declared.note.Fact.TheVariants.{Wake}
+use Rattle.facts.specs.declared.fact.Fact.TheVariants.{Wake}
 use Rattle.texts.specs.Text.{facts_text}
 use Rattle.texts.proofs.text.write_woken.Given as goal
 

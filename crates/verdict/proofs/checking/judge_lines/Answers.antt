@@ -1,7 +1,7 @@
 use Rattle.std.proofs.Common.{◌≡◌, ◌+◌, ◌<◌, [], length, Ok, Err, sym, ap, subst, ◌∙◌, arith, rules}
 use Rattle.lines.specs.Lines.{lines_of}
-use Rattle.verdict.specs.Facts.{thread_of}
-use Rattle.verdict.specs.Judges.{IsLine, IsMutex}
+use Rattle.facts.specs.Facts.{thread_of}
+use Rattle.verdict.specs.Judges.{IsRead, IsMutex}
 use Rattle.verdict.specs.Passes.{AnswersLines}
 use Rattle.verdict.specs.Reading.{line_read, lines_read, fault_at}
 use Rattle.verdict.proofs.Lines.{stops, goes_end, ended_ill, is_empty, is_some, runs_out}
@@ -29,9 +29,9 @@ returns-in-End c =
 pub loop-first-preserved : goal.loop-first-preserved
 loop-first-preserved c =
     let i = c.loop-first.invariant in
-    let line : IsLine c.loop-first.pass.judge.head c.in-Ok.read = c.in-Ok.ensures.range in
+    let line : IsRead c.loop-first.pass.judge.head c.in-Ok.read = c.in-Ok.ensures.range in
     let e = c.in-Told.entry in
-    let some = subst (λ r. IsLine c.loop-first.pass.judge.head r) c.in-Told.is line in
+    let some = subst (λ r. IsRead c.loop-first.pass.judge.head r) c.in-Told.is line in
     let low : thread_of e.fact < length c.loop-first.pass.judge.stages.items = omega (arith, some.1.0, i.stages, ap (λ h. h.threads) i.head) in
     record {
       is_text = search rules;

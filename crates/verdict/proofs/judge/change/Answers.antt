@@ -1,7 +1,7 @@
 use Rattle.std.proofs.Common.{◌≡◌, ◌<◌, length, sym, subst, ◌∙◌, arith}
 use Rattle.std.proofs.lemmas.Bool.Decides.{nat_tests}
 use Rattle.verdict.specs.Earlier.{moved}
-use Rattle.verdict.specs.Facts.{thread_of}
+use Rattle.facts.specs.Facts.{thread_of}
 use Rattle.verdict.specs.Fits.{Allows, OwnsNothing}
 use Rattle.verdict.specs.Judges.{object_at}
 use Rattle.verdict.proofs.Owners.{held_some, held_none, owns_itself, read_number}

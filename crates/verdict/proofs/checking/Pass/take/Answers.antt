@@ -1,6 +1,11 @@
-use Rattle.std.proofs.Common.{sym, ◌∙◌, inl}
+use Rattle.std.proofs.Common.{refl, sym, ◌∙◌, inl, inr}
 use Rattle.verdict.proofs.Passing.{counted, missed, none_of, judges}
 use Rattle.verdict.proofs.checking.Pass.take.Goals as goal
+
+pub returns-then-not-accept-clause-takes : goal.returns-then-not-accept-clause-takes
+returns-then-not-accept-clause-takes c =
+    let none = none_of c.args.self.now.illegal (sym c.is_some.ensures ∙ c.if-is_some.false) in
+    judges c.args.self.now c.args.line c.args.entry.now _ none (inr (c.accept.ensures.refuses c.if-not-accept.true, refl))
 
 pub returns-then-is_point-clause-takes : goal.returns-then-is_point-clause-takes
 returns-then-is_point-clause-takes c =

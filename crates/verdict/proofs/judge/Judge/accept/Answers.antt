@@ -2,7 +2,7 @@ use Rattle.std.proofs.Common.{◌≡◌, length, refl, ap, ◌∙◌, arith}
 use Rattle.std.proofs.lemmas.List.{get_or_read_under}
 use Rattle.std.specs.Prelude.{slice_set}
 use Rattle.verdict.specs.declared.stage.Stage.TheVariants.{Resting}
-use Rattle.verdict.specs.Facts.{thread_of}
+use Rattle.facts.specs.Facts.{thread_of}
 use Rattle.verdict.specs.Stages.{next}
 use Rattle.verdict.specs.Judges.{stage_at}
 use Rattle.verdict.proofs.judge.Judge.accept.Goals as goal

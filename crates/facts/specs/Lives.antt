@@ -1,0 +1,65 @@
+-- What a trace tells of one thread (pthread_mutex_lock, pthread_cond_wait).
+use Rattle.std.specs.Prelude.{ℕ, ◌≡◌, ◌==◌, ◌&&◌, Bool, true, false, List, [], ◌∷◌, ◌++◌, map, if◌then◌else◌}
+use Rattle.lockword.specs.declared.reply.Reply.{Reply}
+use Rattle.lockword.specs.declared.reply.Reply.TheVariants.{OK}
+use Rattle.keys.specs.declared.point.Operation.{Operation}
+use Rattle.keys.specs.declared.point.Operation.TheVariants.{Lock, Unlock, Wait}
+use Rattle.facts.specs.declared.fact.Begun.{Begun}
+use Rattle.facts.specs.declared.fact.Fact.{Fact}
+use Rattle.facts.specs.declared.fact.Fact.TheVariants.{Begin, Point, Death, Sleep, Wake, Move, Return, Kill, Reap}
+use Rattle.facts.specs.declared.fact.Line.{Line}
+use Rattle.facts.specs.Facts.{thread_of}
+
+-- ---- the points of a call
+
+-- what a point decided: an operation and its reply
+abbrev pub Act : Type 0
+Act = Operation × Reply
+
+-- these are all the points of a call of this operation that returns that reply: one of its own operation, and of a wait that isn't refused a release and then a lock
+abbrev pub Complete : Operation → List Act → Reply → Type 0
+Complete op [] x = ⊥
+Complete op (p ∷ []) x = p ≡ (op, x)
+Complete op (p ∷ q ∷ r ∷ ps) x = ⊥
+Complete Wait (p ∷ q ∷ []) x = (p ≡ (Unlock, OK)) × (q ≡ (Lock, x))
+Complete op (p ∷ q ∷ []) x = ⊥
+
+-- the first points of such a call, or all of them
+abbrev pub Beginning : Operation → List Act → Type 0
+Beginning op ps = (rest : List Act) × (x : Reply) × Complete op (ps ++ rest) x
+
+-- the point of thread t's call: it is of the call's mutex
+abbrev pub made_by : ℕ → Begun → Act → Fact
+made_by t c p = Point (record { thread = t; mutex = c.mutex; operation = p.0; reply = p.1 })
+
+abbrev pub made : ℕ → Begun → List Act → List Fact
+made t c ps = map (made_by t c) ps
+
+-- ---- a life
+
+-- it tells what a call was told or answered, or of a death, and not who sleeps
+abbrev pub is_of_call : Fact → Bool
+is_of_call (Sleep t q) = false
+is_of_call (Wake t) = false
+is_of_call (Move t m) = false
+is_of_call f = true
+
+-- what lines tell of the calls and the death of thread t, in their order
+abbrev pub own : ℕ → List Line → List Fact
+own t [] = []
+own t (l ∷ ls) = if is_of_call l.fact && (thread_of l.fact == t) then l.fact ∷ own t ls else own t ls
+
+-- what is told of thread t after it was killed: its death, of mutexes; and perhaps that it was reaped, after which nothing is told
+pub data Mourned (t : ℕ) : List Fact → Type 0 where
+  Unburied : Mourned t []
+  Tells_of : (m : ℕ) (later : List Fact) → Mourned t later → Mourned t (Death t m ∷ later)
+  Buried : Mourned t (Reap t ∷ [])
+
+-- all that thread t does: calls that returned, each with exactly its points, the last of which has the reply that it returned; perhaps one that hasn't returned, with a beginning of such points; and
+-- perhaps a kill, which ends that call. No point belongs to any other call, and no death comes before the kill
+pub data Life (t : ℕ) : List Fact → Type 0 where
+  Rests : Life t []
+  Returns : (c : Begun) (ps : List Act) (x : Reply) (later : List Fact) → Complete c.operation ps x → Life t later → Life t (Begin t c ∷ (made t c ps ++ Return t x ∷ later))
+  Stays : (c : Begun) (ps : List Act) → Beginning c.operation ps → Life t (Begin t c ∷ made t c ps)
+  Cut : (c : Begun) (ps : List Act) (later : List Fact) → Beginning c.operation ps → Mourned t later → Life t (Begin t c ∷ (made t c ps ++ Kill t ∷ later))
+  Dies : (later : List Fact) → Mourned t later → Life t (Kill t ∷ later)

@@ -1,0 +1,188 @@
+-- In which order the facts of an event, and those of one event after the other, are told.
+use Rattle.std.proofs.Common.{◌≡◌, ℕ, ◌+◌, ◌≤◌, ◌==◌, Bool, true, false, Option, Some, None, List, [], ◌∷◌, ◌++◌, map, refl, sym, ◌∙◌, arith, eqb-true}
+use Rattle.std.specs.Prelude.{if◌then◌else◌}
+use Rattle.std.proofs.lemmas.Bool.{eqb-false}
+use Rattle.lockword.specs.declared.reply.Reply.{Reply}
+use Rattle.mutex.specs.declared.call.Call.{Call}
+use Rattle.facts.specs.declared.fact.Fact.{Fact}
+use Rattle.facts.specs.declared.fact.Fact.TheVariants.{Wake}
+use Rattle.facts.specs.declared.fact.Line.{Line}
+use Rattle.facts.specs.Facts.{thread_of, decides, is_passive, is_kill}
+use Rattle.facts.specs.Orders.{Later, Each, Orderly}
+use Rattle.protocol.specs.declared.event.Event.{Event}
+use Rattle.protocol.specs.Notes.{line_of, point_facts, sleep_facts, return_facts, death_facts, reap_facts}
+use Rattle.protocol.specs.Machine.{decision}
+use Rattle.protocol.specs.Explained.{caller, caller_of}
+
+-- ---- which facts one event may tell, of thread u: no two points, and but for wakes nothing of others
+abbrev pub NoPoint : List Fact → Type 0
+NoPoint [] = Unit {0}
+NoPoint (f ∷ fs) = (decides f ≡ false) × NoPoint fs
+
+abbrev pub Fine : ℕ → List Fact → Type 0
+Fine u [] = Unit {0}
+Fine u (f ∷ fs) = (is_passive f ≡ false → thread_of f ≡ u) × (decides f ≡ true → NoPoint fs) × Fine u fs
+
+returned_pointless : (u : ℕ) (y : Option Reply) → NoPoint (return_facts u y)
+returned_pointless u None = tt
+returned_pointless u (Some x) = (refl, tt)
+
+woken_pointless : (u : ℕ) (ws : List ℕ) (y : Option Reply) → NoPoint (map Wake ws ++ return_facts u y)
+woken_pointless u [] y = returned_pointless u y
+woken_pointless u (w ∷ ws) y = (refl, woken_pointless u ws y)
+
+slept_pointless : (u : ℕ) (z : Option ℕ) (ws : List ℕ) (y : Option Reply) → NoPoint (sleep_facts u z ++ (map Wake ws ++ return_facts u y))
+slept_pointless u None ws y = woken_pointless u ws y
+slept_pointless u (Some m) ws y = (refl, woken_pointless u ws y)
+
+returned_fine : (u : ℕ) (y : Option Reply) → Fine u (return_facts u y)
+returned_fine u None = tt
+returned_fine u (Some x) = ((λ e. refl), (λ e. tt), tt)
+
+woken_fine : (u : ℕ) (ws : List ℕ) (y : Option Reply) → Fine u (map Wake ws ++ return_facts u y)
+woken_fine u [] y = returned_fine u y
+woken_fine u (w ∷ ws) y = ((λ e. absurd cc), (λ e. absurd cc), woken_fine u ws y)
+
+slept_fine : (u : ℕ) (z : Option ℕ) (ws : List ℕ) (y : Option Reply) → Fine u (sleep_facts u z ++ (map Wake ws ++ return_facts u y))
+slept_fine u None ws y = woken_fine u ws y
+slept_fine u (Some m) ws y = ((λ e. refl), (λ e. absurd cc), woken_fine u ws y)
+
+pub access_fine : (u : ℕ) (c : Call) (x : Option Reply) (z : Option ℕ) (ws : List ℕ) (y : Option Reply) → Fine u (point_facts (decision u c x) ++ (sleep_facts u z ++ (map Wake ws ++ return_facts u y)))
+access_fine u c None z ws y = slept_fine u z ws y
+access_fine u c (Some x) z ws y = ((λ e. refl), (λ e. slept_pointless u z ws y), slept_fine u z ws y)
+
+reaped_pointless : (u : ℕ) (ws : List ℕ) (y : Bool) → NoPoint (map Wake ws ++ reap_facts u y)
+reaped_pointless u [] false = tt
+reaped_pointless u [] true = (refl, tt)
+reaped_pointless u (w ∷ ws) y = (refl, reaped_pointless u ws y)
+
+reaped_fine : (u : ℕ) (ws : List ℕ) (y : Bool) → Fine u (map Wake ws ++ reap_facts u y)
+reaped_fine u [] false = tt
+reaped_fine u [] true = ((λ e. refl), (λ e. tt), tt)
+reaped_fine u (w ∷ ws) y = ((λ e. absurd cc), (λ e. absurd cc), reaped_fine u ws y)
+
+pub walked_fine : (u : ℕ) (d : Option ℕ) (ws : List ℕ) (y : Bool) → Fine u (death_facts u d ++ (map Wake ws ++ reap_facts u y))
+walked_fine u None ws y = reaped_fine u ws y
+walked_fine u (Some m) ws y = ((λ e. refl), (λ e. reaped_pointless u ws y), reaped_fine u ws y)
+
+-- ---- a kill is told alone
+abbrev pub NoKill : List Fact → Type 0
+NoKill [] = Unit {0}
+NoKill (f ∷ fs) = (is_kill f ≡ false) × NoKill fs
+
+abbrev pub KillsAlone : List Fact → Type 0
+KillsAlone [] = Unit {0}
+KillsAlone (f ∷ []) = Unit {0}
+KillsAlone (f ∷ g ∷ fs) = NoKill (f ∷ g ∷ fs)
+
+pub no_kill_alone : (fs : List Fact) → NoKill fs → KillsAlone fs
+no_kill_alone [] none = tt
+no_kill_alone (f ∷ []) none = tt
+no_kill_alone (f ∷ g ∷ fs) none = none
+
+alone_behind : (f : Fact) (fs : List Fact) → KillsAlone (f ∷ fs) → KillsAlone fs
+alone_behind f [] alone = tt
+alone_behind f (g ∷ fs) alone = no_kill_alone (g ∷ fs) alone.1
+
+-- neither the one nor the others is a kill, if there are others
+abbrev Beside : Fact → List Fact → Type 0
+Beside f [] = Unit {0}
+Beside f (g ∷ fs) = (is_kill f ≡ false) × (is_kill g ≡ false) × Beside f fs
+
+no_kill_beside : (f : Fact) → is_kill f ≡ false → (fs : List Fact) → NoKill fs → Beside f fs
+no_kill_beside f lives [] none = tt
+no_kill_beside f lives (g ∷ fs) none = (lives, none.0, no_kill_beside f lives fs none.1)
+
+beside : (f : Fact) (fs : List Fact) → KillsAlone (f ∷ fs) → Beside f fs
+beside f [] alone = tt
+beside f (g ∷ fs) alone = no_kill_beside f alone.0 (g ∷ fs) alone.1
+
+returned_no_kill : (u : ℕ) (y : Option Reply) → NoKill (return_facts u y)
+returned_no_kill u None = tt
+returned_no_kill u (Some x) = (refl, tt)
+
+woken_no_kill : (u : ℕ) (ws : List ℕ) (y : Option Reply) → NoKill (map Wake ws ++ return_facts u y)
+woken_no_kill u [] y = returned_no_kill u y
+woken_no_kill u (w ∷ ws) y = (refl, woken_no_kill u ws y)
+
+slept_no_kill : (u : ℕ) (z : Option ℕ) (ws : List ℕ) (y : Option Reply) → NoKill (sleep_facts u z ++ (map Wake ws ++ return_facts u y))
+slept_no_kill u None ws y = woken_no_kill u ws y
+slept_no_kill u (Some m) ws y = (refl, woken_no_kill u ws y)
+
+pub access_no_kill : (u : ℕ) (c : Call) (x : Option Reply) (z : Option ℕ) (ws : List ℕ) (y : Option Reply) → NoKill (point_facts (decision u c x) ++ (sleep_facts u z ++ (map Wake ws ++ return_facts u y)))
+access_no_kill u c None z ws y = slept_no_kill u z ws y
+access_no_kill u c (Some x) z ws y = (refl, slept_no_kill u z ws y)
+
+reaped_no_kill : (u : ℕ) (ws : List ℕ) (y : Bool) → NoKill (map Wake ws ++ reap_facts u y)
+reaped_no_kill u [] false = tt
+reaped_no_kill u [] true = (refl, tt)
+reaped_no_kill u (w ∷ ws) y = (refl, reaped_no_kill u ws y)
+
+pub walked_no_kill : (u : ℕ) (d : Option ℕ) (ws : List ℕ) (y : Bool) → NoKill (death_facts u d ++ (map Wake ws ++ reap_facts u y))
+walked_no_kill u None ws y = reaped_no_kill u ws y
+walked_no_kill u (Some m) ws y = (refl, reaped_no_kill u ws y)
+
+-- ---- the order of lines
+
+-- the line's event is one of these, of which the first has number i, and but for a wake it is its thread's
+abbrev pub Called : ℕ → List Event → Line → Type 0
+Called i es l = (i ≤ l.event) × (is_passive l.fact ≡ false → thread_of l.fact ≡ caller_of i es l.event)
+
+-- what holds of each line gives another thing of each
+pub each : (P Q : Line → Type 0) → ((l : Line) → P l → Q l) → (ls : List Line) → Each P ls → Each Q ls
+each P Q go [] all = tt
+each P Q go (l ∷ ls) all = (go l all.0, each P Q go ls all.1)
+
+-- the first of the events is its caller's
+caller_of-first : (i : ℕ) (e : Event) (es : List Event) → caller_of i (e ∷ es) i ≡ caller e
+caller_of-first i e es = go (i == i) refl
+  where
+    go : (b : Bool) → (i == i) ≡ b → (if b then caller e else caller_of (i + 1) es i) ≡ caller e
+    go true is = refl
+    go false is = absurd (eqb-false i i is refl)
+
+-- a line of a later event is called among all of them too
+called_later : (i : ℕ) (e : Event) (es : List Event) (l : Line) → Called (i + 1) es l → Called i (e ∷ es) l
+called_later i e es l c = (let at = c.0 in omega arith, λ own. c.1 own ∙ go (l.event == i) refl)
+  where
+    go : (b : Bool) → (l.event == i) ≡ b → caller_of (i + 1) es l.event ≡ (if b then caller e else caller_of (i + 1) es l.event)
+    go true is = absurd (let same : l.event ≡ i = eqb-true l.event i is in let at = c.0 in omega arith)
+    go false is = refl
+
+-- lines that are in order, and of events from i on
+abbrev pub InOrder : ℕ → List Event → List Line → Type 0
+InOrder i es ls = Orderly ls × Each (Called i es) ls
+
+-- a line of event i stands rightly before lines of later events
+before_all : (i : ℕ) (es : List Event) (f : Fact) (ls : List Line) → Each (Called (i + 1) es) ls → Each (Later (line_of i f)) ls
+before_all i es f ls =
+    each (Called (i + 1) es) (Later (line_of i f)) (λ l c. record {
+      never_falls = let at = c.0 in omega arith;
+      decisions_rise = λ a b. let at = c.0 in omega arith;
+      one_thread = λ same a b. absurd (let at = c.0 in omega arith);
+      kill_before = λ a. let at = c.0 in omega arith;
+      kill_behind = λ a. let at = c.0 in omega arith;
+    }) ls
+
+-- a line of event i stands rightly before the others of that event, and before those of later ones
+beside_all : (u i : ℕ) (f : Fact) (fs : List Fact) (ls : List Line) → (is_passive f ≡ false → thread_of f ≡ u) → (decides f ≡ true → NoPoint fs) → Beside f fs → Fine u fs → Each (Later (line_of i f)) ls → Each (Later (line_of i f)) (map (line_of i) fs ++ ls)
+beside_all u i f [] ls mine alone quiet fine later = later
+beside_all u i f (g ∷ fs) ls mine alone quiet fine later = (
+  record {
+    never_falls = omega arith;
+    decisions_rise = λ a b. absurd (cc ((alone a).0, b));
+    one_thread = λ same a b. mine a ∙ sym (fine.0 b);
+    kill_before = λ a. absurd (cc (a, quiet.0));
+    kill_behind = λ a. absurd (cc (a, quiet.1));
+  },
+  beside_all u i f fs ls mine (λ a. (alone a).1) quiet.2 fine.2 later,
+)
+
+-- what one event tells stands rightly before what later ones tell
+pub placed : (i : ℕ) (e : Event) (es : List Event) (fs : List Fact) (ls : List Line) → Fine (caller e) fs → KillsAlone fs → InOrder (i + 1) es ls → InOrder i (e ∷ es) (map (line_of i) fs ++ ls)
+placed i e es [] ls fine alone (order, called) = (order, each (Called (i + 1) es) (Called i (e ∷ es)) (called_later i e es) ls called)
+placed i e es (f ∷ fs) ls fine alone (order, called) =
+    let others = placed i e es fs ls fine.2 (alone_behind f fs alone) (order, called) in (
+      (beside_all (caller e) i f fs ls fine.0 fine.1 (beside f fs alone) fine.2 (before_all i es f ls called), others.0),
+      ((omega arith, λ own. fine.0 own ∙ sym (caller_of-first i e es)), others.1),
+    )
