@@ -1,6 +1,7 @@
 pub mod Readers
 mod Names
 mod Phases
+mod Told
 mod Possible
 mod Servings
 mod Layouts

@@ -1,5 +1,5 @@
 -- Phases of real threads, thread by thread.
-use Rattle.std.proofs.Common.{◌≡◌, ◌≢◌, ◌⊎◌, inl, inr, ⊎_elim, ℕ, zero, suc, ◌+◌, ◌<◌, ◌≤◌, Some, List, [], ◌∷◌, ◌++◌, length, set, get_or, slice_get, Vec, refl, sym, ap, ◌∙◌, subst, arith, length-append, length-set, All, take, append-nil, Option, Bool, true, false, ◌==◌, if◌then◌else◌, Result, Ok, Err, IfOk, ◌-◌}
+use Rattle.std.proofs.Common.{◌≡◌, ◌≢◌, ◌⊎◌, inl, inr, ⊎_elim, ℕ, zero, suc, ◌+◌, ◌<◌, ◌≤◌, Some, List, [], ◌∷◌, ◌++◌, length, set, get_or, slice_get, Vec, refl, sym, ap, ◌∙◌, subst, arith, length-append, length-set, All, take, append-nil, Option, Bool, true, false, ◌==◌, if◌then◌else◌, Result, Ok, Err, IfOk}
 use Rattle.std.proofs.lemmas.List.{take_more}
 use Rattle.std.proofs.lemmas.List.Concat.{flat_map-append}
 use Rattle.std.proofs.lemmas.List.Elements.{All-append, All-head, All-tail}
@@ -89,12 +89,12 @@ others_stay bs b before after n r' others count i past =
 
 -- ---- a phase, and all phases
 
-some_at : {A : Type 0} (xs : List A) (i : ℕ) → i < length xs → (x : A) × (slice_get xs i ≡ Some x)
+pub some_at : {A : Type 0} (xs : List A) (i : ℕ) → i < length xs → (x : A) × (slice_get xs i ≡ Some x)
 some_at [] i lt = absurd (omega arith)
 some_at (x ∷ xs) zero lt = (x, refl)
 some_at (x ∷ xs) (suc i) lt = some_at xs i (omega arith)
 
-all_at : {A : Type 0} (P : A → Type 0) (xs : List A) (i : ℕ) (x : A) → All P xs → slice_get xs i ≡ Some x → P x
+pub all_at : {A : Type 0} (P : A → Type 0) (xs : List A) (i : ℕ) (x : A) → All P xs → slice_get xs i ≡ Some x → P x
 all_at P xs i x all is = subst P (get_or_from_slice_get xs i x x is) (all i x (slice_get_within xs i x is))
 
 each_at : {A B : Type 0} (P : A → B → Type 0) (xs : List A) (ys : List B) (i : ℕ) (x : A) (y : B) → EachWith P xs ys → slice_get xs i ≡ Some x → slice_get ys i ≡ Some y → P x y
@@ -257,9 +257,6 @@ made_still w ps i p firsts bs rs lt at made none = record {
 pub if_ok : {T E : Type 0} (P Q : T → Type 0) (r : Result T E) → IfOk r P → ((x : T) → P x → Q x) → IfOk r Q
 if_ok P Q (Ok x) is go = go x is
 if_ok P Q (Err e) is go = is
-
-pub last_at : {A : Type 0} (xs : List A) (n : ℕ) (x : A) → n ≡ length xs → 1 ≤ length xs → Some x ≡ Some (get_or xs (n - 1) x) → slice_get xs (length xs - 1) ≡ Some x
-last_at xs n x count some is = slice_get-get_or xs (length xs - 1) x (omega arith) ∙ ap (λ (k : ℕ). Some (get_or xs (k - 1) x)) (sym count) ∙ sym is
 
 as_many_replies : (w : Words) (a : Pass Live) (cs : List Call) (rs : List Reply) (b : Pass Live) → Answered w a cs rs b → length rs ≡ length cs
 as_many_replies w a [] [] b is = refl

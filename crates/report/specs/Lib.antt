@@ -2,5 +2,6 @@ pub mod Failed
 pub mod Messages
 pub mod Programs
 pub mod Served
+pub mod Histories
 pub mod Threads
 pub mod Verdicts

@@ -1,5 +1,5 @@
 -- A script's calls on real threads.
-use Rattle.std.specs.Prelude.{ℕ, ◌≡◌, ◌+◌, ◌-◌, ◌<◌, List, [], ◌++◌, length, slice_index, All, Vec, Some, slice_get, ◌==◌, if◌then◌else◌}
+use Rattle.std.specs.Prelude.{ℕ, ◌≡◌, ◌+◌, ◌<◌, List, [], ◌++◌, length, map, slice_index, All, Vec, Some, slice_get, ◌==◌, if◌then◌else◌}
 use Rattle.std.specs.declared.alloc.Global.{Global}
 use Rattle.std.specs.List.{flat_map}
 use Rattle.keys.specs.Layouts.{cell_place}
@@ -10,13 +10,14 @@ use Rattle.ruledwords.specs.declared.pass.Last.{Last}
 use Rattle.ruledwords.specs.declared.pass.Live.{Live}
 use Rattle.ruledwords.specs.declared.pass.Pass.{Pass}
 use Rattle.ruledwords.specs.declared.pass.Words.{Words}
-use Rattle.ruledwords.specs.Passes.{card, layout_of, last_layout, last_words, IsPassOf}
+use Rattle.ruledwords.specs.Passes.{card, layout_of, presets_of, last_layout, last_words, IsPassOf}
 use Rattle.ruledwords.specs.Rules.{first_card, Ends}
 use Rattle.script.specs.declared.workload.Job.{Job as Ordered}
 use Rattle.script.specs.declared.workload.Phase.{Phase}
 use Rattle.threadbench.specs.declared.job.Job.{Job}
 use Rattle.threadbench.specs.declared.job.Record.{Record}
 use Rattle.threadbench.specs.Answered.{Answered}
+use Rattle.report.specs.Histories.{StandTogether}
 
 -- calls on the first m mutexes
 abbrev pub ArePossible : ℕ → Vec Call Global → Type 0
@@ -69,17 +70,15 @@ pub record AreCells (l : Last) (cells : List ℕ) : Type 0 where
   pub as_many : length cells ≡ (last_layout l).mutexes
   pub each : (m : ℕ) → m < (last_layout l).mutexes → slice_index cells m ≡ slice_index (last_words l) (cell_place (last_layout l) m)
 
--- the end of words: the pass of the last thread has seen so much of them, and these are the cells' words
+-- the end of words, where all these passes met; and these are the cells' words
 pub record HasEnded (w : Words) (passes : List (Pass Live)) (cells : List ℕ) : Type 0 where
-  pub pass : Pass Live
-  pub is_last : slice_get passes (length passes - 1) ≡ Some pass
   pub last : Last
   pub same : last_layout last ≡ layout_of w
-  pub ends : Ends (layout_of w) (card pass) (last_words last)
+  pub ends : Ends (layout_of w) (presets_of w) (map (λ p. card p) passes) (last_words last)
   pub words : AreCells last cells
 
 -- what came of the calls of so many threads on so many mutexes: there were words, on which each thread made its calls in these phases from its first pass on and was answered so,
--- and what is left of the words' cells are these
+-- and what is left of the words' cells are these. All replies of all threads stand in one history of each mutex
 pub record HaveAnswered (threads mutexes : ℕ) (ps : List Phase) (replies : List (Vec Reply Global)) (cells : List ℕ) : Type 0 where
   pub words : Words
   pub layout : layout_of words ≡ record { threads = threads; mutexes = mutexes; conditions = [] }
@@ -89,6 +88,7 @@ pub record HaveAnswered (threads mutexes : ℕ) (ps : List Phase) (replies : Lis
   pub passes : List (Pass Live)
   pub made : HaveMade words ps firsts passes replies
   pub ended : HasEnded words passes cells
+  pub together : StandTogether (layout_of words) (λ t. calls_over t ps) replies cells
 
 -- each thread has a reply for each of its calls
 abbrev pub HaveReplies : List Phase → List (Vec Reply Global) → Type 0

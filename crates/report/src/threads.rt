@@ -1,5 +1,5 @@
 //! A script's calls on real threads, phase by phase.
-ghost use Rattle.std.specs.Prelude.{◌≡◌, ◌≤◌, [], All, length, IfOk};
+ghost use Rattle.std.specs.Prelude.{◌≡◌, [], All, length, IfOk};
 ghost use Rattle.ruledwords.specs.Passes.{layout_of, last_layout, IsPassOf};
 ghost use Rattle.report.specs.Threads.{IsRightPhase, AreRightPhases, calls_in, AreHired, AreGathered, AreCells, HaveWorked, HaveMade, HasEnded, HaveAnswered, HaveReplies};
 
@@ -136,7 +136,7 @@ fn cells_of(alloc: Global, last: &Last, mutexes: u16) -> Result<Vec<u64>, AllocE
     Ok(cells)
 }
 
-/// Ends the bench, and reads the cells.
+/// Ends the bench, where all passes meet, and reads the cells.
 fn finish(
     alloc: Global,
     bench: Bench,
@@ -144,15 +144,10 @@ fn finish(
     mutexes: u16,
 ) -> Result<Vec<u64>, AllocError>
     requires mutexes { mutexes ≡ (layout_of bench).mutexes }
-    requires some { 1 ≤ length passes.items }
     requires right { All (λ p. IsPassOf bench p) passes.items }
     ensures { IfOk result (λ cells. HasEnded bench passes.items cells.items) }
 {
-    let mut passes = passes;
-    match passes.pop() {
-        Some(pass) => cells_of(alloc, &bench.close(pass), mutexes),
-        None => unreachable!(),
-    }
+    cells_of(alloc, &bench.close_all(passes), mutexes)
 }
 
 /// Lets real threads make the calls of a script, phase after phase, and tells what they were answered and what is left in the cells. A phase begins when

@@ -1,7 +1,8 @@
 -- Cards that are dealt and gathered, and the first and the last words.
-use Rattle.std.proofs.Common.{Bool, true, false, ◌≡◌, ◌≢◌, ⊎_elim, ℕ, zero, suc, ◌+◌, ◌-◌, ◌<◌, ◌≤◌, ◌==◌, Option, Some, List, [], ◌∷◌, ◌++◌, length, get_or, set, refl, sym, ap, ◌∙◌, subst, arith, eq-eqb, ne_eqb}
+use Rattle.std.proofs.Common.{Bool, true, false, ◌≡◌, ◌≢◌, ⊎_elim, ℕ, zero, suc, ◌+◌, ◌-◌, ◌<◌, ◌≤◌, ◌==◌, Option, Some, List, [], ◌∷◌, ◌++◌, length, get_or, set, drop, refl, sym, ap, ◌∙◌, subst, arith, eq-eqb, ne_eqb, length-drop}
 use Rattle.std.specs.Prelude.{if◌then◌else◌, slice_index}
 use Rattle.std.proofs.lemmas.Bool.Decides.{nat_tests}
+use Rattle.std.proofs.lemmas.List.{ext_get_or, get_or-drop}
 use mathlib.Core.Logic.{dite}
 use mathlib.Core.Option.{some, none, some-ne-none, some-injective}
 use native.Mathlib.Decide.{ℕ_discrete}
@@ -17,11 +18,11 @@ use Rattle.keys.specs.Objects.{fresh, object_of}
 use Rattle.ruledwords.specs.declared.card.Card.{Card}
 use Rattle.ruledwords.specs.Cards.{at, value_at, put_value}
 use Rattle.ruledwords.specs.Seen.{Leaves, Joined, AreExclusive, holds, held, held_after}
-use Rattle.ruledwords.specs.Rules.{opening_word, first_values, first_card, hand, Fits, AllFit, cards_of, Kept, first_of, rest_of, met, Ends}
+use Rattle.ruledwords.specs.Rules.{opening_word, first_values, first_card, hand, Fits, AllFit, cards_of, Kept, first_of, rest_of, met, IsAmong, Ends}
 use Rattle.ruledwords.proofs.Lists.{prefix_self, value_put, value_put_else, all_one, all_set, all_append, cards_append, one_or_none}
 use Rattle.ruledwords.proofs.Held.{count_same, owner_held, owns, owns_one}
 use Rattle.ruledwords.proofs.Keepers.{head_keeper}
-use Rattle.ruledwords.proofs.Moves.{Sat}
+use Rattle.ruledwords.proofs.Moves.{St, Sat}
 
 fit_append : (k : Layout') (ws : List ℕ) (js : List (List Point)) (cs ds : List Card) → AllFit k ws js cs → AllFit k ws js ds → AllFit k ws js (cs ++ ds)
 fit_append k ws js [] ds f g = g
@@ -40,7 +41,7 @@ cut_cards t [] = omega arith
 cut_cards t (c ∷ cs) = omega arith
 
 -- the first card is dealt
-pub deals : (k : Layout') (id : ℕ) (v : List Card) → Splits (Kept k) id v (rest_of v) (first_of v)
+pub deals : {o : List ℕ} (k : Layout') (id : ℕ) (v : List Card) → Splits (Kept k o) id v (rest_of v) (first_of v)
 deals k id v s h is = record {
   layout = h.layout;
   wide = h.wide;
@@ -49,6 +50,7 @@ deals k id v s h is = record {
   legal = h.legal;
   narrow = h.narrow;
   counters = h.counters;
+  unchanged = h.unchanged;
   fits = λ j w e. ⊎_elim
       (λ (was : get_elem? (set s.views id (rest_of v)) j ≡ some w). ⊎_elim
       (λ (t : (j ≡ id) × (rest_of v ≡ w)). subst (AllFit k s.words h.histories) t.1 (fit_rest k s.words h.histories v (h.fits id v is)))
@@ -60,7 +62,7 @@ deals k id v s h is = record {
 }
 
 -- two seats' cards come to one
-pub gathers : (k : Layout') (id : ℕ) (v : List Card) (other : ℕ) (w : List Card) → Joins (Kept k) id v other w (v ++ w) []
+pub gathers : {o : List ℕ} (k : Layout') (id : ℕ) (v : List Card) (other : ℕ) (w : List Card) → Joins (Kept k o) id v other w (v ++ w) []
 gathers k id v other w s h is apart there =
     let theirs : get_elem? s.views other ≡ some w = ⊎_elim (λ (t : (other ≡ id) × ((v ++ w) ≡ w)). absurd (apart t.0)) (λ (t : (other ≢ id) × (get_elem? s.views other ≡ some w)). t.1) (at_set s.views id other (v ++ w) w there) in
     record {
@@ -71,6 +73,7 @@ gathers k id v other w s h is apart there =
       legal = h.legal;
       narrow = h.narrow;
       counters = h.counters;
+      unchanged = h.unchanged;
       fits = λ j u e. ⊎_elim
           (λ (t : (j ≡ other) × ([] ≡ u)). subst (AllFit k s.words h.histories) t.1 tt)
           (λ (t : (j ≢ other) × (get_elem? (set s.views id (v ++ w)) j ≡ some u)). ⊎_elim
@@ -104,8 +107,8 @@ two_cards c d same =
     omega arith
 
 -- two cards that look see all that has happened
-pub meets : (k : Layout') (slots id i : ℕ) (c d : Card) → Allows (Kept k) slots id (c ∷ d ∷ [], []) i (λ n. n) (met (step slots i 0 0 none) (c ∷ d ∷ [], []))
-meets k slots id i c d s h deep is small =
+pub meets : {o : List ℕ} (k : Layout') (slots id i : ℕ) (c d : Card) → Allows (Kept k o) slots id (c ∷ d ∷ [], []) i (λ n. n) (met (step slots i 0 0 none) (c ∷ d ∷ [], []))
+meets {o} k slots id i c d s h deep is small =
     let js = h.histories in
     let f = h.fits id (c ∷ d ∷ []) is in
     let c' = seeing c js in
@@ -114,7 +117,7 @@ meets k slots id i c d s h deep is small =
       c' ∷ d' ∷ [],
       keeps,
       tt,
-      subst (λ (ws : List ℕ). Kept k record { words = ws; homes = s.homes; views = set s.views id (c' ∷ d' ∷ []) }) (sym words) record {
+      subst (λ (ws : List ℕ). Kept k o record { words = ws; homes = s.homes; views = set s.views id (c' ∷ d' ∷ []) }) (sym words) record {
         layout = h.layout;
         wide = h.wide;
         histories = js;
@@ -122,6 +125,7 @@ meets k slots id i c d s h deep is small =
         legal = h.legal;
         narrow = h.narrow;
         counters = h.counters;
+        unchanged = h.unchanged;
         fits = λ j w e. ⊎_elim
             (λ (t : (j ≡ id) × (c' ∷ d' ∷ [] ≡ w)). subst (AllFit k s.words js) t.1 (fits_all k s.words js c f.0, (fits_all k s.words js d f.1.0, tt)))
             (λ (t : (j ≢ id) × (get_elem? s.views j ≡ some w)). h.fits j w t.1)
@@ -144,15 +148,29 @@ meets k slots id i c d s h deep is small =
       ),
     )
 
--- the last words
-pub ends : (k : Layout') (id : ℕ) (c : Card) (words : List ℕ) (xs : List (Unit {0})) → Final (Seen (Kept k) id (c ∷ [])) words xs → Ends k c words
-ends k id c words xs (s, seen, same, deep, homes) = let h = seen.0 in let f = (h.fits id (c ∷ []) seen.1).0 in record {
+-- ---- the end
+
+all_among : (k : Layout') (ws : List ℕ) (js : List (List Point)) (cs : List Card) → AllFit k ws js cs → (i : ℕ) (d : Card) → i < length cs → IsAmong js (get_or cs i d)
+all_among k ws js [] f i d low = absurd (omega arith)
+all_among k ws js (c ∷ cs) f zero d low = record { begins = f.0.begins; own = λ p. sym (f.0.own p) }
+all_among k ws js (c ∷ cs) f (suc i) d low = all_among k ws js cs f.1 i d (omega arith)
+
+kept_ends : (k : Layout') (o words : List ℕ) (s : St) (h : Kept k o s) (cards : List Card) → s.words ≡ words → AllFit k s.words h.histories cards → Ends k o cards words
+kept_ends k o words s h cards same fit = record {
   histories = h.histories;
   leaves = λ m low. subst (λ (ws : List ℕ). Leaves k.threads (cell_place k m) (at h.histories (cell_place k m)) (object_of (fields_of (get_or ws (cell_place k m) 0)))) same (h.leaves m low);
   narrow = λ m low. subst (λ (ws : List ℕ). (fields_of (get_or ws (cell_place k m) 0)).rest ≡ 0) same (h.narrow m low);
-  begins = f.begins;
-  own = λ p. sym (f.own p);
+  counters = λ q low. subst (λ (ws : List ℕ). get_or ws (counter_place k q) 0 ≡ get_or o q 0) same (h.unchanged q low);
+  among = all_among k s.words h.histories cards fit;
 }
+
+-- the last words, of which these cards' seat was there
+pub ends : (k : Layout') (o : List ℕ) (id : ℕ) (cards : List Card) (words : List ℕ) (xs : List (Unit {0})) → Final (Seen (Kept k o) id cards) words xs → Ends k o cards words
+ends k o id cards words xs (s, seen, same, deep, homes) = kept_ends k o words s seen.0 cards same (seen.0.fits id cards seen.1)
+
+-- and where nobody's was
+pub ends_alone : (k : Layout') (o words : List ℕ) (xs : List (Unit {0})) → Final (Kept k o) words xs → Ends k o [] words
+ends_alone k o words xs (s, h, same, deep, homes) = kept_ends k o words s h [] same tt
 
 -- ---- the beginning
 
@@ -234,7 +252,7 @@ hand_fits : (k : Layout') (counters ws : List ℕ) (n t : ℕ) → Opens k count
 hand_fits k counters ws zero t opens pos most = tt
 hand_fits k counters ws (suc n) t opens pos most = (first_fits k counters ws t opens pos (omega arith), hand_fits k counters ws n (t + 1) opens (omega arith) (omega arith))
 
-pub opens_kept : (k : Layout') (counters ws : List ℕ) → IsLayout k → ((q : ℕ) → slice_index counters q < 4294967296) → Opens k counters ws → Kept k (opening ws [] (hand k.threads 1 k.threads))
+pub opens_kept : (k : Layout') (counters ws : List ℕ) → IsLayout k → ((q : ℕ) → slice_index counters q < 4294967296) → Opens k counters ws → Kept k counters (opening ws [] (hand k.threads 1 k.threads))
 opens_kept k counters ws layout small opens = record {
   layout = layout;
   wide = opens.0;
@@ -242,6 +260,7 @@ opens_kept k counters ws layout small opens = record {
   leaves = λ m low. let zero_word : slice_index ws (cell_place k m) ≡ 0 = opens.1 (cell_place k m) (omega arith) ∙ cell_first k counters m low in (ap (λ (v : ℕ). object_of (fields_of v)) zero_word, tt);
   legal = λ p. (fresh, (refl, tt));
   narrow = λ m low. let zero_word : slice_index ws (cell_place k m) ≡ 0 = opens.1 (cell_place k m) (omega arith) ∙ cell_first k counters m low in ap (λ (v : ℕ). (fields_of v).rest) zero_word;
+  unchanged = λ q low. opens.1 (counter_place k q) (omega arith) ∙ counter_first k counters q low;
   counters = λ q low. let is : slice_index ws (counter_place k q) ≡ slice_index counters q = opens.1 (counter_place k q) (omega arith) ∙ counter_first k counters q low in subst (λ (z : ℕ). z < 4294967296) (sym is) (small q);
   fits = λ j v e. only j v e;
   once = λ t. let a = hand_once k.threads t 1 k.threads in omega arith;
@@ -250,6 +269,16 @@ opens_kept k counters ws layout small opens = record {
     only : (j : ℕ) (v : List Card) → get_elem? (hand k.threads 1 k.threads ∷ []) j ≡ some v → AllFit k ws [] v
     only zero v e = subst (AllFit k ws []) (some-injective _ _ e) (hand_fits k counters ws k.threads 1 opens (omega arith) (omega arith))
     only (suc j) v e = absurd (some-ne-none v (sym e))
+
+-- the values that the counters began with stand behind all else
+pub presets_are : (k : Layout') (counters ws : List ℕ) → length counters ≡ length k.conditions → Opens k counters ws → drop (counter_place k 0) ws ≡ counters
+presets_are k counters ws many opens =
+    let wide : length ws ≡ words_of k = opens.0 in
+    let left : length (drop (counter_place k 0) ws) ≡ length ws - counter_place k 0 = length-drop (counter_place k 0) ws in
+    let same : length (drop (counter_place k 0) ws) ≡ length counters = omega arith in
+    ext_get_or 0 (drop (counter_place k 0) ws) counters same
+    (λ q low. let lower : q < length k.conditions = omega arith in let place : counter_place k 0 + q ≡ counter_place k q = omega arith in
+    get_or-drop (counter_place k 0) ws q 0 ∙ ap (λ (p : ℕ). get_or ws p 0) place ∙ opens.1 (counter_place k q) (omega arith) ∙ counter_first k counters q lower)
 
 pub dealt_first : (a t n : ℕ) → 0 < n → first_of (hand a t n) ≡ first_card a t ∷ []
 dealt_first a t zero pos = absurd (omega arith)

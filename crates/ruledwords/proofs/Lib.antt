@@ -3,6 +3,7 @@ mod Held
 mod Keepers
 mod Moves
 mod Hands
+mod Gathering
 mod Steps
 mod Turned
 mod Making

@@ -17,7 +17,7 @@ use Rattle.ruledwords.proofs.Lists.{by_append, no_more}
 use Rattle.ruledwords.proofs.Moves.{St, card_or}
 
 -- what a card's thread finds
-found : (k : Layout') (s : St) (h : Kept k s) (c : Card) (m : ℕ) → m < k.mutexes → Fits k s.words h.histories c → Finds c (cell_place k m) (get_or s.words (cell_place k m) 0)
+found : {o : List ℕ} (k : Layout') (s : St) (h : Kept k o s) (c : Card) (m : ℕ) → m < k.mutexes → Fits k s.words h.histories c → Finds c (cell_place k m) (get_or s.words (cell_place k m) 0)
 found k s h c m low f =
     let p : ℕ = cell_place k m in
     let mine : List Point = at c.seen p in
@@ -29,13 +29,13 @@ found k s h c m low f =
       h.narrow m low,
     )
 
-pub looks : (k : Layout') (slots id : ℕ) (c : Card) (m : ℕ) → m < k.mutexes → Allows (Kept k) slots id (c ∷ [], []) (cell_place k m) (λ n. n) (looked (step slots (cell_place k m) 0 0 none) (c ∷ [], []))
-looks k slots id c m low s h deep is small =
+pub looks : {o : List ℕ} (k : Layout') (slots id : ℕ) (c : Card) (m : ℕ) → m < k.mutexes → Allows (Kept k o) slots id (c ∷ [], []) (cell_place k m) (λ n. n) (looked (step slots (cell_place k m) 0 0 none) (c ∷ [], []))
+looks {o} k slots id c m low s h deep is small =
     let p : ℕ = cell_place k m in
     let f = (h.fits id (c ∷ []) is).0 in (
       c ∷ [],
       keeps,
       tt,
-      subst (λ (z : List ℕ × List (List Card)). Kept k record { words = z.0; homes = s.homes; views = z.1 }) (λ i. (sym (set-get_or s.words p 0) i, sym (set_again s.views id (c ∷ []) is) i)) h,
+      subst (λ (z : List ℕ × List (List Card)). Kept k o record { words = z.0; homes = s.homes; views = z.1 }) (λ i. (sym (set-get_or s.words p 0) i, sym (set_again s.views id (c ∷ []) is) i)) h,
       λ d e. (e, subst (λ (z : Card). Finds z p (get_or s.words p 0)) (ap (card_or c) e) (found k s h c m low f)),
     )

@@ -1,5 +1,5 @@
 -- The access of a call at a seat.
-use Rattle.std.proofs.Common.{Bool, true, false, ◌≡◌, ℕ, ◌<◌, ◌==◌, refl, sym, ap, ◌∙◌, subst}
+use Rattle.std.proofs.Common.{Bool, true, false, ◌≡◌, ℕ, ◌<◌, ◌==◌, List, refl, sym, ap, ◌∙◌, subst}
 use Rattle.std.specs.Prelude.{if◌then◌else◌}
 use mathlib.Core.Path.{fun_ext}
 use prog.Atomic.{either}
@@ -26,17 +26,17 @@ where_is p a res next arm = ap address_of (sym arm ∙ next) ∙ at_cell p.threa
 pub within : (k : Layout') (p : Standing) (a res : Access) (words : ℕ) → words ≡ words_of k → IsInLayout k p → res ≡ access_of p → res ≡ a → address_of a < words
 within k p a res words wide place next arm = subst (λ (z : ℕ). z < words) (sym (where_is p a res next arm ∙ place.2)) (subst (λ (z : ℕ). cell_place k place.0 < z) (sym wide) (inside k place.0 place.1))
 
-pub may_make : (key k : Layout') (slots id : ℕ) (me : Sat) (p q : Standing) (a res : Access) (st : Step (Unit {0})) → key ≡ k → IsInLayout k p → IsOne me → IsGoing p.row → IsStep (access_of p) → Ready p (card_of me.0) → q ≡ p → res ≡ access_of p → res ≡ a
-    → Allows (Kept key) slots id me (address_of a) (changed a) (made q st me)
-may_make key k slots id me p q a res st same place one going step ready is next arm =
-    subst (λ (z : Standing). Allows (Kept key) slots id me (address_of a) (changed a) (made z st me)) (sym is)
+pub may_make : {o : List ℕ} (key k : Layout') (slots id : ℕ) (me : Sat) (p q : Standing) (a res : Access) (st : Step (Unit {0})) → key ≡ k → IsInLayout k p → IsOne me → IsGoing p.row → IsStep (access_of p) → Ready p (card_of me.0) → q ≡ p → res ≡ access_of p → res ≡ a
+    → Allows (Kept key o) slots id me (address_of a) (changed a) (made q st me)
+may_make {o} key k slots id me p q a res st same place one going step ready is next arm =
+    subst (λ (z : Standing). Allows (Kept key o) slots id me (address_of a) (changed a) (made z st me)) (sym is)
     (at_one key k slots id (address_of a) (cell_place k place.0) me (changed a) (λ _ m. made p st m) same (where_is p a res next arm ∙ place.2) one
     (makes k slots id (card_of me.0) place.0 place.1 p a (sym next ∙ arm) place.2 going step ready st))
 
 -- an exchange, as the table has it
-pub may_exchange : (key : Layout') (slots id place old new : ℕ) (me : Sat) (q : Standing) (st : Step (Unit {0})) → Allows (Kept key) slots id me place (λ n. if n == old then new else n) (made q st me)
-    → Allows (Kept key) slots id me place (λ n. either (n == old) new n) (made q st me)
-may_exchange key slots id place old new me q st h = subst (λ (f : ℕ → ℕ). Allows (Kept key) slots id me place f (made q st me)) (fun_ext (λ n. same (n == old) n)) h
+pub may_exchange : {o : List ℕ} (key : Layout') (slots id place old new : ℕ) (me : Sat) (q : Standing) (st : Step (Unit {0})) → Allows (Kept key o) slots id me place (λ n. if n == old then new else n) (made q st me)
+    → Allows (Kept key o) slots id me place (λ n. either (n == old) new n) (made q st me)
+may_exchange {o} key slots id place old new me q st h = subst (λ (f : ℕ → ℕ). Allows (Kept key o) slots id me place f (made q st me)) (fun_ext (λ n. same (n == old) n)) h
   where
     same : (b : Bool) (n : ℕ) → (if b then new else n) ≡ either b new n
     same true n = refl

@@ -147,9 +147,9 @@ fits_own k ws ws' js p op r c misses last vs b f knows marked = let xs : List Po
 leaves_more : (k : Layout') (p t : ℕ) (xs : List Point) (o n : Object) (op : Operation) (r : Option Reply) → 1 ≤ t → t ≤ k.threads → Leaves k.threads p xs o → Run o (told t p op r) n → Leaves k.threads p (xs ++ told t p op r) n
 leaves_more k p t xs o n op r pos low l run = (run_append fresh o n xs (told t p op r) l.0 run, all_of_append k.threads p xs (told t p op r) l.1 (all_of_told k.threads t p op r pos low))
 
-kept_step : (k : Layout') (s : St) (h : Kept k s) (id : ℕ) (c : Card) (m : ℕ) (op : Operation) (r : Option Reply) (n misses last : ℕ) (vs : List (Option ℕ)) → get_elem? s.views id ≡ some (c ∷ []) → m < k.mutexes → MayKeep k m c (get_or s.words (cell_place k m) 0) n vs
+kept_step : {o : List ℕ} (k : Layout') (s : St) (h : Kept k o s) (id : ℕ) (c : Card) (m : ℕ) (op : Operation) (r : Option Reply) (n misses last : ℕ) (vs : List (Option ℕ)) → get_elem? s.views id ≡ some (c ∷ []) → m < k.mutexes → MayKeep k m c (get_or s.words (cell_place k m) 0) n vs
     → Steady (get_or s.words (cell_place k m) 0) n → Run (says s.words (cell_place k m)) (told c.thread (cell_place k m) op r) (object_of (fields_of n))
-    → Kept k record { words = set s.words (cell_place k m) n; homes = s.homes; views = set s.views id (after c (cell_place k m) (at h.histories (cell_place k m) ++ told c.thread (cell_place k m) op r) misses last vs (fields_of n).waiters ∷ []) }
+    → Kept k o record { words = set s.words (cell_place k m) n; homes = s.homes; views = set s.views id (after c (cell_place k m) (at h.histories (cell_place k m) ++ told c.thread (cell_place k m) op r) misses last vs (fields_of n).waiters ∷ []) }
 kept_step k s h id c m op r n misses last vs is low keep steady run =
     let p : ℕ = cell_place k m in
     let js = h.histories in
@@ -175,6 +175,7 @@ kept_step k s h id c m op r n misses last vs is low keep steady run =
           (λ e. ap (λ (z : ℕ). (fields_of (get_or ws' (cell_place k z) 0)).rest) e ∙ ap (λ (v : ℕ). (fields_of v).rest) (get_or-set_same s.words p n 0 within) ∙ steady.1 (h.narrow m low))
           (λ other. ap (λ (v : ℕ). (fields_of v).rest) (get_or-set_other s.words p (cell_place k l) n 0 (other_cell k m l other)) ∙ h.narrow l lower);
       counters = λ q lower. subst (λ (z : ℕ). z < 4294967296) (sym (get_or-set_other s.words p (counter_place k q) n 0 (counter_no_cell k q m low))) (h.counters q lower);
+      unchanged = λ q lower. get_or-set_other s.words p (counter_place k q) n 0 (counter_no_cell k q m low) ∙ h.unchanged q lower;
       fits = λ j v e. ⊎_elim
           (λ (t : (j ≡ id) × (w ≡ v)).
           subst (AllFit k ws' (put js p xs)) t.1
@@ -194,7 +195,7 @@ kept_step k s h id c m op r n misses last vs is low keep steady run =
       once = λ t. let same = all_set t s.views id (c ∷ []) w is in let once = h.once t in omega arith;
     }
 
-sees_step : (k : Layout') (s : St) (h : Kept k s) (id : ℕ) (c : Card) (m : ℕ) (op : Operation) (r : Option Reply) (n misses last : ℕ) (vs : List (Option ℕ)) → get_elem? s.views id ≡ some (c ∷ []) → m < k.mutexes
+sees_step : {o : List ℕ} (k : Layout') (s : St) (h : Kept k o s) (id : ℕ) (c : Card) (m : ℕ) (op : Operation) (r : Option Reply) (n misses last : ℕ) (vs : List (Option ℕ)) → get_elem? s.views id ≡ some (c ∷ []) → m < k.mutexes
     → Run (says s.words (cell_place k m)) (told c.thread (cell_place k m) op r) (object_of (fields_of n))
     → Sees c (cell_place k m) (told c.thread (cell_place k m) op r) (object_of (fields_of n)) (after c (cell_place k m) (at h.histories (cell_place k m) ++ told c.thread (cell_place k m) op r) misses last vs (fields_of n).waiters)
 sees_step k s h id c m op r n misses last vs is low run =
@@ -232,12 +233,12 @@ pub record Knowing (k : Layout') (c : Card) (p n : ℕ) : Type 0 where
   pub mark : mark_at c.marks p ≡ true → (fields_of n).owner ≡ c.thread → (fields_of n).waiters ≡ true
 
 -- a step at a cell may be made: what it does to the word is a step of the mutex as an object, WAITERS stays while it is owned, and what is to be kept of the values is so afterwards
-pub allows : (k : Layout') (slots id : ℕ) (c : Card) (m : ℕ) (op : Operation) (f : ℕ → ℕ) (r : ℕ → Option Reply) (misses last : ℕ → ℕ) (vs : ℕ → List (Option ℕ)) (tells : ℕ → Sat → Type 0) → m < k.mutexes
+pub allows : {o : List ℕ} (k : Layout') (slots id : ℕ) (c : Card) (m : ℕ) (op : Operation) (f : ℕ → ℕ) (r : ℕ → Option Reply) (misses last : ℕ → ℕ) (vs : ℕ → List (Option ℕ)) (tells : ℕ → Sat → Type 0) → m < k.mutexes
     → ((n : ℕ) → Knowing k c (cell_place k m) n → MayKeep k m c n (f n) (vs n))
     → ((n : ℕ) → Knowing k c (cell_place k m) n → Steady n (f n))
     → ((n : ℕ) → Knowing k c (cell_place k m) n → Run (object_of (fields_of n)) (told c.thread (cell_place k m) op (r n)) (object_of (fields_of (f n))))
     → ((n : ℕ) (d : Card) → Knowing k c (cell_place k m) n → Sees c (cell_place k m) (told c.thread (cell_place k m) op (r n)) (object_of (fields_of (f n))) d → d.misses ≡ misses n → d.last ≡ last n → mark_at d.marks (cell_place k m) ≡ (fields_of (f n)).waiters → tells n (d ∷ [], []))
-    → Allows (Kept k) slots id (c ∷ [], []) (cell_place k m) f tells
+    → Allows (Kept k o) slots id (c ∷ [], []) (cell_place k m) f tells
 allows k slots id c m op f r misses last vs tells low keeps_values steadies runs says_of s h deep is small =
     let p : ℕ = cell_place k m in
     let n : ℕ = get_or s.words p 0 in

@@ -66,8 +66,8 @@ module _ (k : Layout') (c : Card) (p n : ℕ) (known : Knowing k c p n) where
   sound = run_sound fresh known.xs (object_of (fields_of n)) (λ e. refl) known.leaves.0
 
 -- the access of a call may be made
-pub makes : (k : Layout') (slots id : ℕ) (c : Card) (m : ℕ) → m < k.mutexes → (p : Standing) (a : Access) → access_of p ≡ a → p.cell ≡ cell_place k m → IsGoing p.row → IsStep (access_of p) → Ready p c → (st : Step (Unit {0}))
-    → Allows (Kept k) slots id (c ∷ [], []) (cell_place k m) (changed a) (made p st (c ∷ [], []))
+pub makes : {o : List ℕ} (k : Layout') (slots id : ℕ) (c : Card) (m : ℕ) → m < k.mutexes → (p : Standing) (a : Access) → access_of p ≡ a → p.cell ≡ cell_place k m → IsGoing p.row → IsStep (access_of p) → Ready p c → (st : Step (Unit {0}))
+    → Allows (Kept k o) slots id (c ∷ [], []) (cell_place k m) (changed a) (made p st (c ∷ [], []))
 makes k slots id c m low p a is there going step ready st =
     allows k slots id c m (row_operation p.row) (changed a) (λ n. (led_at p n).point) (λ n. c.misses + fails (access_of p) n) (λ n. n) (λ n. values_after k m c (changed a n)) (made p st (c ∷ [], [])) low
     (λ n known. may_keep k m c n (changed a n) _ refl)

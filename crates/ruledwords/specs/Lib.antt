@@ -3,6 +3,7 @@ pub mod Seen
 pub mod Rules
 pub mod Passes
 pub mod Looks
+pub mod Gathered
 pub mod Calls
 pub mod Outcomes
 pub mod Turns

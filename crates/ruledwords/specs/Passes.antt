@@ -6,13 +6,17 @@ use Rattle.ruledwords.specs.declared.card.Card.{Card}
 use Rattle.ruledwords.specs.declared.pass.Words.{Words}
 use Rattle.ruledwords.specs.declared.pass.Pass.{Pass}
 use Rattle.ruledwords.specs.declared.pass.Last.{Last}
-use Rattle.ruledwords.specs.Rules.{card_of}
+use Rattle.ruledwords.specs.Rules.{card_of, presets_in}
 
 abbrev pub layout_of : Words → Layout'
 layout_of w = w.layout
 
 abbrev pub last_layout : Last → Layout'
 last_layout l = l.layout
+
+-- the values that the counters of condition variables began with, in the order of their numbers
+abbrev pub presets_of : Words → List ℕ
+presets_of w = presets_in w.table.shared.key
 
 -- the words after the last step
 abbrev pub last_words : Last → List ℕ

@@ -3,7 +3,7 @@
 -- Histories: some legal list of points of each mutex leaves the mutex as its cell says. What a pass has seen begins it, and has all points of the pass's thread.
 -- Own words: a thread alone writes its head, the links of the mutexes that it owns and the counters of their condition variables. Its pass may know
 -- their values. While it owns a mutex in which it saw WAITERS, that stays set.
-use Rattle.std.specs.Prelude.{◌≡◌, ℕ, zero, suc, ◌+◌, ◌-◌, ◌/◌, ◌%◌, ◌<◌, ◌≤◌, ◌==◌, ◌&&◌, nat_lt, true, Option, Some, List, [], ◌∷◌, length, slice_index, if◌then◌else◌}
+use Rattle.std.specs.Prelude.{◌≡◌, ℕ, zero, suc, ◌+◌, ◌-◌, ◌/◌, ◌%◌, ◌<◌, ◌≤◌, ◌==◌, ◌&&◌, nat_lt, true, Option, Some, List, [], ◌∷◌, All, length, drop, slice_index, if◌then◌else◌}
 use mathlib.Core.Option.{some}
 use mathlib.Core.List.{IsPrefix}
 use lib.ListN.{get_elem?}
@@ -14,6 +14,7 @@ use Rattle.keys.specs.declared.object.Object.{Object}
 use Rattle.keys.specs.Layouts.{Layout', IsLayout, head_place, cell_place, counter_place, words_of, cell_offset, first_word}
 use Rattle.keys.specs.Objects.{object_of}
 use Rattle.ruledwords.specs.declared.card.Card.{Card}
+use Rattle.ruledwords.specs.declared.opening.Opening.{Opening}
 use Rattle.ruledwords.specs.Cards.{at, value_at, put_value, mark_at}
 use Rattle.ruledwords.specs.Seen.{by, Leaves, Joined}
 
@@ -35,6 +36,12 @@ first_card n t = record { threads = n; thread = t; seen = []; misses = 0; last =
 abbrev pub hand : ℕ → ℕ → ℕ → List Card
 hand n t zero = []
 hand n t (suc more) = first_card n t ∷ hand n (t + 1) more
+
+-- ---- what the rule's key says
+
+-- the values that the counters began with, in the order of their numbers
+abbrev pub presets_in : Opening → List ℕ
+presets_in o = drop (counter_place o.layout 0) o.words.items
 
 -- ---- whose the words are
 
@@ -75,8 +82,8 @@ abbrev pub all_cards_of : ℕ → List (List Card) → ℕ
 all_cards_of t [] = 0
 all_cards_of t (v ∷ vs) = cards_of t v + all_cards_of t vs
 
--- the rule; the bits of a cell above its flags are 0, and a counter has 32 bits
-pub record Kept (k : Layout') (s : State (Unit {0}) (List Card)) : Type 0 where
+-- the rule; the bits of a cell above its flags are 0, and a counter has 32 bits. No counter is changed yet, so each has the value that it began with
+pub record Kept (k : Layout') (presets : List ℕ) (s : State (Unit {0}) (List Card)) : Type 0 where
   pub layout : IsLayout k
   pub wide : length s.words ≡ words_of k
   pub histories : List (List Point)
@@ -84,6 +91,7 @@ pub record Kept (k : Layout') (s : State (Unit {0}) (List Card)) : Type 0 where
   pub legal : (p : ℕ) → (o : Object) × Leaves k.threads p (at histories p) o
   pub narrow : (m : ℕ) → m < k.mutexes → (fields_of (slice_index s.words (cell_place k m))).rest ≡ 0
   pub counters : (q : ℕ) → q < length k.conditions → slice_index s.words (counter_place k q) < 4294967296
+  pub unchanged : (q : ℕ) → q < length k.conditions → slice_index s.words (counter_place k q) ≡ slice_index presets q
   pub fits : (id : ℕ) (v : List Card) → get_elem? s.views id ≡ some v → AllFit k s.words histories v
   pub once : (t : ℕ) → all_cards_of t s.views ≤ 1
 
@@ -120,10 +128,15 @@ rest_of (c ∷ cs) = cs
 abbrev pub met : At → Sat → ℕ → Sat → Type 0
 met st me r me' = (c d : Card) → me ≡ (c ∷ d ∷ [], []) → (c' : Card) × (d' : Card) × (me' ≡ (c' ∷ d' ∷ [], [])) × Joined c d c' d'
 
--- the last words are those after legal lists, which begin with what the pass saw and have just its thread's points of its own. A cell has no bits above its flags
-pub record Ends (k : Layout') (c : Card) (words : List ℕ) : Type 0 where
+-- what a pass saw begins these lists, which have just its thread's points of its own
+pub record IsAmong (histories : List (List Point)) (c : Card) : Type 0 where
+  pub begins : (p : ℕ) → IsPrefix (at c.seen p) (at histories p)
+  pub own : (p : ℕ) → by c.thread (at histories p) ≡ by c.thread (at c.seen p)
+
+-- the last words: each cell is as one legal list of its mutex says, in which is what these passes saw, all of them. A cell has no bits above its flags, and each counter has the value that it began with
+pub record Ends (k : Layout') (presets : List ℕ) (cards : List Card) (words : List ℕ) : Type 0 where
   pub histories : List (List Point)
   pub leaves : (m : ℕ) → m < k.mutexes → Leaves k.threads (cell_place k m) (at histories (cell_place k m)) (object_of (fields_of (slice_index words (cell_place k m))))
   pub narrow : (m : ℕ) → m < k.mutexes → (fields_of (slice_index words (cell_place k m))).rest ≡ 0
-  pub begins : (p : ℕ) → IsPrefix (at c.seen p) (at histories p)
-  pub own : (p : ℕ) → by c.thread (at histories p) ≡ by c.thread (at c.seen p)
+  pub counters : (q : ℕ) → q < length k.conditions → slice_index words (counter_place k q) ≡ slice_index presets q
+  pub among : All (IsAmong histories) cards

@@ -1,17 +1,22 @@
 //! The end of the words.
-ghost use Rattle.std.specs.Prelude.{◌≡◌, ◌<◌, length, slice_index};
+ghost use Rattle.std.specs.Prelude.{◌≡◌, ◌<◌, List, [], ◌∷◌, ◌++◌, Some, All, IfSome, length, map, slice_index};
 ghost use Rattle.keys.specs.Layouts.{cell_place, counter_place, words_of};
+ghost use Rattle.ruledwords.specs.declared.card.Card.{Card};
+ghost use Rattle.ruledwords.specs.Gathered.{HaveCome};
 ghost use Rattle.ruledwords.specs.Rules.{Ends};
-ghost use Rattle.ruledwords.specs.Passes.{layout_of, last_layout, last_words, card, IsPassOf};
+ghost use Rattle.ruledwords.specs.Passes.{layout_of, presets_of, last_layout, last_words, card, IsPassOf};
 
+use crate::card::View;
 use crate::pass::{Last, Pass, Words};
+use crate::rule::Gather;
+use atomic_table::Seat;
 
 impl Words {
-    /// Ends the words. What is left of them begins with what the pass has seen.
+    /// Ends the words. The history of each mutex begins with what the pass has seen, and each counter is as it began.
     pub fn close<A>(self, pass: Pass<A>) -> Last
         requires { IsPassOf self pass }
         ensures layout { last_layout result ≡ layout_of self }
-        ensures ends { Ends (layout_of self) (card pass) (last_words result) }
+        ensures ends { Ends (layout_of self) (presets_of self) (card pass ∷ []) (last_words result) }
     {
         let Words { table, layout } = self;
         let Pass {
@@ -22,6 +27,77 @@ impl Words {
         } = pass;
         let closed = table.close_with(seat);
         Last { closed, layout }
+    }
+
+    /// Ends the words, and all these passes meet. One history of each mutex has what any of them has seen, with of each of their threads just the thread's own
+    /// points; and each counter is as it began.
+    pub fn close_all<A: Drop>(self, passes: Vec<Pass<A>>) -> Last
+        requires { All (λ p. IsPassOf self p) passes.items }
+        ensures layout { last_layout result ≡ layout_of self }
+        ensures ends { Ends (layout_of self) (presets_of self) (map (λ p. card p) passes.items) (last_words result) }
+    {
+        let seat = self.gathered(passes);
+        match seat {
+            Some(seat) => self.ended_with(seat),
+            None => self.ended_alone(),
+        }
+    }
+
+    /// The end of the words, with a seat that has the cards of all passes.
+    fn ended_with(self, seat: Seat<(), View>) -> Last
+        requires { seat.table_id ≡ self.table.shared.table_id }
+        ensures layout { last_layout result ≡ layout_of self }
+        ensures ends { Ends (layout_of self) (presets_of self) seat.me.0 (last_words result) }
+    {
+        let Words { table, layout } = self;
+        let last = table.close_with(seat);
+        Last {
+            closed: last,
+            layout,
+        }
+    }
+
+    /// The end of words that nobody's pass has seen.
+    fn ended_alone(self) -> Last
+        ensures layout { last_layout result ≡ layout_of self }
+        ensures ends { Ends (layout_of self) (presets_of self) [] (last_words result) }
+    {
+        let Words { table, layout } = self;
+        let closed = table.close();
+        Last { closed, layout }
+    }
+
+    /// The seats of all passes as one, if there are any.
+    fn gathered<A: Drop>(&self, passes: Vec<Pass<A>>) -> Option<Seat<(), View>>
+        requires { All (λ p. IsPassOf self.now p) passes.items }
+        ensures { HaveCome self.now (map (λ p. card p) passes.items) result }
+    {
+        let mut seat = None;
+        for pass in passes {
+            seat = Some(self.joined(seat, pass));
+        }
+        seat
+    }
+
+    /// One seat more.
+    fn joined<A>(&self, seat: Option<Seat<(), View>>, pass: Pass<A>) -> Seat<(), View>
+        requires seat { IfSome seat (λ s. s.table_id ≡ self.now.table.shared.table_id) }
+        requires pass { IsPassOf self.now pass }
+        ensures { (cards : List Card) → HaveCome self.now cards seat → HaveCome self.now (cards ++ card pass ∷ []) (Some result) }
+    {
+        let Pass {
+            seat: other,
+            thread: _,
+            held: _,
+            state: _,
+        } = pass;
+        match seat {
+            Some(mut seat) => {
+                self.table.shared.join_seat::<Gather>(&mut seat, other);
+                seat
+            }
+            None => other,
+        }
     }
 }
 

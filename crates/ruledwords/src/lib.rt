@@ -16,6 +16,7 @@ mod look;
 mod make;
 mod meet;
 mod open;
+mod opening;
 mod outcome;
 mod owed;
 mod owner;

@@ -2,8 +2,9 @@
 ghost use Rattle.std.specs.Prelude.{◌≡◌, ℕ, ◌+◌, ◌<◌, Some, IfOk, All, length, slice_get, slice_index};
 ghost use Rattle.keys.specs.Layouts.{words_of, IsLayout};
 ghost use Rattle.ruledwords.specs.Rules.{first_card, opening_word};
-ghost use Rattle.ruledwords.specs.Passes.{layout_of, card, IsPassOf};
+ghost use Rattle.ruledwords.specs.Passes.{layout_of, presets_of, card, IsPassOf};
 
+use crate::opening::Opening;
 use crate::pass::{Live, Pass, Words};
 use crate::rule::Deal;
 use atomic_table::Table;
@@ -22,6 +23,7 @@ impl Words {
     ) -> Result<(Words, Vec<Pass<Live>>), NoMem>
         requires { length presets.now ≡ length layout.conditions }
         ensures layout { IfOk result (λ r. layout_of r.0 ≡ layout) }
+        ensures presets { IfOk result (λ r. presets_of r.0 ≡ presets.now) }
         ensures passes { IfOk result (λ r. length r.1.items ≡ layout.threads) }
         ensures each { IfOk result (λ r. All (λ p. IsPassOf r.0 p) r.1.items) }
         ensures cards { IfOk result (λ r. (i : ℕ) (p : _) → slice_get r.1.items i ≡ Some p → card p ≡ first_card layout.threads (i + 1)) }
@@ -39,6 +41,7 @@ impl Words {
     ) -> Result<(Words, Vec<Pass<Live>>), AllocError>
         requires { length presets.now ≡ length layout.conditions }
         ensures layout { IfOk result (λ r. layout_of r.0 ≡ layout) }
+        ensures presets { IfOk result (λ r. presets_of r.0 ≡ presets.now) }
         ensures passes { IfOk result (λ r. length r.1.items ≡ layout.threads) }
         ensures each { IfOk result (λ r. All (λ p. IsPassOf r.0 p) r.1.items) }
         ensures cards { IfOk result (λ r. (i : ℕ) (p : _) → slice_get r.1.items i ≡ Some p → card p ≡ first_card layout.threads (i + 1)) }
@@ -46,7 +49,8 @@ impl Words {
         let words = first_words(alloc, &layout, presets)?;
         let threads = layout.threads();
         let mut passes = Vec::with_capacity(alloc, threads as usize)?;
-        let (table, mut seat) = Table::of_words(alloc, words.as_slice(), &layout)?;
+        let opening = Opening { layout, words };
+        let (table, mut seat) = Table::of_words(alloc, opening.words.as_slice(), &opening)?;
         for before in 0..threads {
             let mine = table.shared.split_seat::<Deal>(&mut seat);
             let pass = Pass {
@@ -57,6 +61,7 @@ impl Words {
             };
             passes.push(pass)?;
         }
+        let Opening { layout, words: _ } = opening;
         Ok((Words { table, layout }, passes))
     }
 }

@@ -7,6 +7,7 @@ ghost use Rattle.ruledwords.specs.Rules.{card_of, IsOne};
 ghost use Rattle.ruledwords.specs.Seen.{held as holding};
 
 use crate::card::View;
+use crate::opening::Opening;
 use crate::rule::History;
 use atomic_table::{Closed, Seat, Table};
 use keys::Layout;
@@ -17,9 +18,9 @@ use std::marker::PhantomData;
 /// The shared words of a layout's threads, mutexes and condition variables.
 #[derive(Drop)]
 pub struct Words {
-    pub(crate) table: Table<(), View, Layout, History, Global>,
+    pub(crate) table: Table<(), View, Opening, History, Global>,
     pub(crate) layout: Layout,
-    pub ghost key: { table.shared.key ≡ layout },
+    pub ghost key: { table.shared.key.layout ≡ layout },
     pub ghost wide: { table.shared.table_id.words ≡ words_of layout },
     pub ghost bare: { table.shared.table_id.slots ≡ 0 },
 }

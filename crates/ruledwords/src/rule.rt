@@ -1,17 +1,17 @@
 //! The rule of the words, and what each kind of step tells its pass.
 use crate::card::View;
+use crate::opening::Opening;
 use atomic_table::{Join, Play, Split, TableRule};
-use keys::Layout;
 
-/// Each mutex has one legal history.
+/// Each mutex has one legal history, and each counter the value that it began with.
 pub struct History;
 
-impl TableRule<(), View, Layout> for History {
-    ghost use Rattle.ruledwords.specs.Rules.{Kept, hand};
+impl TableRule<(), View, Opening> for History {
+    ghost use Rattle.ruledwords.specs.Rules.{Kept, presets_in, hand};
 
-    ghost holds = { Kept };
+    ghost holds = { λ o. Kept o.layout (presets_in o) };
 
-    ghost first = { λ k. hand k.threads 1 k.threads };
+    ghost first = { λ o. hand o.layout.threads 1 o.layout.threads };
 }
 
 /// A load by a seat that has the cards of two threads.

@@ -128,6 +128,15 @@ fn replies_to_two_passes(rt: HostRuntime) -> Result<(), Fail> {
     Ok(())
 }
 
+#[test]
+fn all_passes_close_the_words(rt: HostRuntime) -> Result<(), Fail> {
+    let layout = Layout::new(3, 1, &[0])?;
+    let (words, passes) = Words::new(rt.alloc(), layout, &[9])?;
+    let last = words.close_all(passes);
+    assert!(rt; last.cell(0) == 0 && last.counter(0) == 9);
+    Ok(())
+}
+
 /// An owner's death, which would make a mutex inconsistent, isn't among what threads do yet.
 #[test]
 fn consistent_of_consistent_mutexes(rt: HostRuntime) -> Result<(), Fail> {

@@ -1,6 +1,6 @@
 //! The bench.
-ghost use Rattle.std.specs.Prelude.{◌≡◌, ◌<◌, ◌≤◌, ◌+◌, ℕ, All, length, slice_get, Some, IfOk, IfErr};
-ghost use Rattle.ruledwords.specs.Passes.{card, layout_of, last_layout, last_words, IsPassOf};
+ghost use Rattle.std.specs.Prelude.{◌≡◌, ◌<◌, ◌≤◌, ◌+◌, ℕ, [], ◌∷◌, All, length, map, slice_get, Some, IfOk, IfErr};
+ghost use Rattle.ruledwords.specs.Passes.{card, layout_of, presets_of, last_layout, last_words, IsPassOf};
 ghost use Rattle.ruledwords.specs.Rules.{first_card, Ends};
 ghost use Rattle.threadbench.specs.Jobs.{IsJobOf, AreDone};
 
@@ -50,6 +50,7 @@ impl Bench {
     ) -> Result<(Bench, Vec<Pass<Live>>), NoMem>
         requires { length presets.now ≡ length layout.conditions }
         ensures layout { IfOk result (λ r. layout_of r.0 ≡ layout) }
+        ensures presets { IfOk result (λ r. presets_of r.0 ≡ presets.now) }
         ensures passes { IfOk result (λ r. length r.1.items ≡ layout.threads) }
         ensures each { IfOk result (λ r. All (λ p. IsPassOf r.0 p) r.1.items) }
         ensures cards { IfOk result (λ r. (i : ℕ) (p : _) → slice_get r.1.items i ≡ Some p → card p ≡ first_card layout.threads (i + 1)) }
@@ -107,11 +108,11 @@ impl Bench {
         )
     }
 
-    /// Ends the bench. What is left of the words begins with what the pass has seen.
+    /// Ends the bench. The history of each mutex begins with what the pass has seen, and each counter is as it began.
     pub fn close<A>(self, pass: Pass<A>) -> Last
         requires { IsPassOf self pass }
         ensures layout { last_layout result ≡ layout_of self }
-        ensures ends { Ends (layout_of self) (card pass) (last_words result) }
+        ensures ends { Ends (layout_of self) (presets_of self) (card pass ∷ []) (last_words result) }
     {
         let Bench {
             words,
@@ -119,6 +120,21 @@ impl Bench {
             parkers: _,
         } = self;
         words.close(pass)
+    }
+
+    /// Ends the bench, and all these passes meet. One history of each mutex has what any of them has seen, with of each of their threads just the thread's own
+    /// points; and each counter is as it began.
+    pub fn close_all<A: Drop>(self, passes: Vec<Pass<A>>) -> Last
+        requires { All (λ p. IsPassOf self p) passes.items }
+        ensures layout { last_layout result ≡ layout_of self }
+        ensures ends { Ends (layout_of self) (presets_of self) (map (λ p. card p) passes.items) (last_words result) }
+    {
+        let Bench {
+            words,
+            bucket: _,
+            parkers: _,
+        } = self;
+        words.close_all(passes)
     }
 }
 

@@ -1,10 +1,14 @@
-use Rattle.std.proofs.Common.{◌≡◌, ◌+◌, ℕ, [], length, ap, ◌∙◌, subst, List, Ok}
+use Rattle.std.proofs.Common.{◌≡◌, ◌+◌, ℕ, [], length, ap, ◌∙◌, subst, List, Ok, Some, slice_get}
 use Rattle.keys.specs.Layouts.{Layout'}
 use Rattle.keys.specs.Refusals.{Lays}
+use Rattle.ruledwords.specs.declared.pass.Live.{Live}
+use Rattle.ruledwords.specs.declared.pass.Pass.{Pass}
+use Rattle.ruledwords.specs.Passes.{card}
 use Rattle.ruledwords.specs.Rules.{first_card}
 use Rattle.script.specs.declared.workload.Phase.{Phase}
 use Rattle.report.specs.Threads.{HaveMade, HaveReplies}
 use Rattle.report.proofs.Phases.{have_replies}
+use Rattle.report.proofs.Told.{together}
 use Rattle.report.proofs.threads.answers_of.Goals as goal
 
 pub returns-in-Ok-finish-clause-answered : goal.returns-in-Ok-finish-clause-answered
@@ -16,15 +20,20 @@ returns-in-Ok-finish-clause-answered g c =
     lays.3 ∙ (λ i. record { threads = c.threads.ensures.count i; mutexes = c.mutexes.ensures.count i; conditions = [] })
     in
     let many : c.unwrap-layout.result.threads ≡ length s.threads = ap (λ (l : Layout'). l.threads) layout in
+    let cards : (i : ℕ) (a : Pass Live) → slice_get c.in_ok-bench.passes.items i ≡ Some a → card a ≡ first_card (length s.threads) (i + 1) =
+    λ i a is. c.in_ok-bench.ensures.cards i a is ∙ ap (λ (n : ℕ). first_card n (i + 1)) many
+    in
+    let made = subst (λ (ps : List Phase). HaveMade bench ps c.in_ok-bench.passes.items c.in_ok-passes.passes.items c.run_phases.new.replies.items) c.as_slice-phases.ensures.value c.in_ok-passes.ensures in
     record {
       words = bench;
       layout = c.in_ok-bench.ensures.layout ∙ layout;
       firsts = c.in_ok-bench.passes.items;
       as_many = c.in_ok-bench.ensures.passes ∙ many;
-      cards = λ i a is. c.in_ok-bench.ensures.cards i a is ∙ ap (λ (n : ℕ). first_card n (i + 1)) many;
+      cards = cards;
       passes = c.in_ok-passes.passes.items;
-      made = subst (λ (ps : List Phase). HaveMade bench ps c.in_ok-bench.passes.items c.in_ok-passes.passes.items c.run_phases.new.replies.items) c.as_slice-phases.ensures.value c.in_ok-passes.ensures;
+      made = made;
       ended = c.in-Ok-finish.ensures;
+      together = together bench _ c.in_ok-bench.passes.items c.in_ok-passes.passes.items c.run_phases.new.replies.items _ (length s.threads) cards made c.in-Ok-finish.ensures;
     }
 
 pub returns-in-Ok-finish-clause-each : goal.returns-in-Ok-finish-clause-each

@@ -5,11 +5,11 @@ use Rattle.ruledwords.specs.declared.card.Card.{Card}
 use Rattle.ruledwords.specs.declared.pass.Pass.{Pass}
 use Rattle.ruledwords.specs.declared.pass.Live.{Live}
 use Rattle.ruledwords.specs.Seen.{held}
-use Rattle.ruledwords.specs.Rules.{Kept, hand, first_card, card_of, first_of, rest_of}
+use Rattle.ruledwords.specs.Rules.{Kept, presets_in, hand, first_card, card_of, first_of, rest_of}
 use Rattle.ruledwords.proofs.Lists.{get_snoc, slice_get_or}
 use Rattle.ruledwords.proofs.Moves.{Sat}
 use Rattle.ruledwords.proofs.Turned.{is_one}
-use Rattle.ruledwords.proofs.Hands.{opens_kept, deals, dealt_first, dealt_rest}
+use Rattle.ruledwords.proofs.Hands.{opens_kept, presets_are, deals, dealt_first, dealt_rest}
 use Rattle.ruledwords.proofs.pass.Words.made.Goals as goal
 
 pub of_words-requires : goal.of_words-requires
@@ -17,7 +17,8 @@ of_words-requires c =
     let k = c.args.layout in
     let words : c.as_slice.result.now ≡ c.in_ok-words.words.items = c.as_slice.ensures.value in
     let small : (q : ℕ) → slice_index c.args.presets.now q < 4294967296 = λ q. search rules in
-    subst (λ (ws : List ℕ). Kept k (opening ws [] (hand k.threads 1 k.threads))) (sym words)
+    let presets = presets_are k c.args.presets.now c.in_ok-words.words.items c.requires (c.in_ok-words.ensures.count, c.in_ok-words.ensures.each) in
+    subst (λ (z : List ℕ × List ℕ). Kept k z.0 (opening z.1 [] (hand k.threads 1 k.threads))) (λ i. (sym presets i, sym words i))
     (opens_kept k c.args.presets.now c.in_ok-words.words.items c.in_ok-words.ensures.layout small (c.in_ok-words.ensures.count, c.in_ok-words.ensures.each))
 
 pub split_seat-mine-requires : goal.split_seat-mine-requires
@@ -55,6 +56,10 @@ loop-before-preserved c =
           (c.split_seat-mine.ensures.3 ∙ c.loop-before.invariant.table, one.1))
           (get_snoc c.loop-before.passes.items _ p j (subst (λ l. slice_get l j ≡ Some p) c.in_ok-push.ensures.items e));
     }
+
+pub returns-clause-presets : goal.returns-clause-presets
+returns-clause-presets c =
+    ap presets_in c.in_ok-table.ensures.5 ∙ presets_are c.args.layout c.args.presets.now c.in_ok-words.words.items c.requires (c.in_ok-words.ensures.count, c.in_ok-words.ensures.each)
 
 pub returns-clause-each : goal.returns-clause-each
 returns-clause-each c i other low =
