@@ -5,6 +5,16 @@ use keys::{Decision, Operation};
 use lockword::{Reply, Tid};
 use std::test::Fail;
 
+/// The step of a mutex's object that was answered `OK`.
+fn decided(thread: Tid, mutex: u16, operation: Operation) -> Decision {
+    Decision {
+        thread,
+        mutex,
+        operation,
+        reply: Reply::OK,
+    }
+}
+
 #[test]
 fn each_fact_is_of_its_kind(rt: HostRuntime) -> Result<(), Fail> {
     let thread = Tid::new(7).ok_or("no thread 7")?;
@@ -13,23 +23,19 @@ fn each_fact_is_of_its_kind(rt: HostRuntime) -> Result<(), Fail> {
         mutex: 3,
         condition: Some(2),
     };
-    let point = Decision {
-        thread,
-        mutex: 3,
-        operation: Operation::Unlock,
-        reply: Reply::OK,
-    };
-    let death = Decision {
-        thread,
-        mutex: 5,
-        operation: Operation::Death,
-        reply: Reply::OK,
-    };
     // whether it is a point, another thread's doing, a kill
     for (fact, decision, kinds) in [
         (Fact::Begin(thread, call), None, (false, false, false)),
-        (Fact::Point(point), Some(point), (true, false, false)),
-        (Fact::Death(thread, 5), Some(death), (false, false, false)),
+        (
+            Fact::Point(decided(thread, 3, Operation::Unlock)),
+            Some(decided(thread, 3, Operation::Unlock)),
+            (true, false, false),
+        ),
+        (
+            Fact::Death(thread, 5),
+            Some(decided(thread, 5, Operation::Death)),
+            (false, false, false),
+        ),
         (
             Fact::Sleep(thread, Queue::Condition(2)),
             None,

@@ -1,7 +1,6 @@
 -- What a trace tells of each thread, and how its lines follow each other.
 use Rattle.std.specs.Prelude.{ℕ, ◌≡◌, ◌+◌, ◌==◌, false, List, [], ◌∷◌, if◌then◌else◌}
 use Rattle.keys.specs.Layouts.{Layout', IsLayout}
-use Rattle.facts.specs.declared.fact.Line.{Line}
 use Rattle.facts.specs.Facts.{thread_of, is_passive}
 use Rattle.facts.specs.Lives.{own, Life}
 use Rattle.facts.specs.Orders.{Each, Orderly}
