@@ -34,4 +34,3 @@ loop-pass-preserved g c =
       ),
       λ k d lt. others (suc k) d (omega (arith, lt)),
     )
-
