@@ -7,7 +7,7 @@
 -- | Locking    | that of the mutex's lock           | as the lock says; the wait returns when it does
 --
 -- A wait's entry is pending from before its release until the lock that ends it has put it on the list, or has failed: so also while it sleeps. A signal and a broadcast leave the list alone.
-use Rattle.std.specs.Prelude.{ℕ, Option, None}
+use Rattle.std.specs.Prelude.{ℕ, Option, Some, None}
 use Rattle.lockword.specs.declared.reply.Reply.TheVariants.{OK, EFAULT}
 use Rattle.keys.specs.declared.access.Access.{Access}
 use Rattle.keys.specs.declared.access.Access.TheVariants as access
@@ -119,6 +119,11 @@ cond_led p a = phase_led p p.phase a
 
 abbrev pub cond_moved : CondWhole → CondOnward → CondWhole
 cond_moved p o = record p { phase = o.phase }
+
+-- the mutex's lock that a wait is in, once it is awake again
+abbrev pub lock_of : CondPhase → Option Whole
+lock_of (Locking w) = Some w
+lock_of f = None
 
 -- ---- how far an answer brought the call
 

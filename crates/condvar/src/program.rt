@@ -43,7 +43,7 @@ impl Model for CondProgram {
 }
 
 impl CondProgram {
-    ghost use Rattle.condvar.specs.Whole.{begins, cond_access, cond_led, cond_moved, cond_progress, from_words, phase_led, IsUnderWay};
+    ghost use Rattle.condvar.specs.Whole.{begins, cond_access, cond_led, cond_moved, cond_progress, from_words, lock_of, phase_led, IsUnderWay};
 
     /// A call of a thread. What it may be refused for is seen in the mutex's cell and in the counter.
     pub fn new(layout: &Layout, thread: Tid, call: CondCall) -> CondProgram
@@ -105,6 +105,16 @@ impl CondProgram {
             phase: onward.phase,
         };
         progress(&onward.phase, onward.point)
+    }
+
+    /// The mutex's lock that it is in, where it is a wait that is awake again.
+    pub fn lock(&self) -> Option<Program>
+        ensures { result ≡ lock_of self.now.phase }
+    {
+        match self.phase {
+            CondPhase::Locking(lock) => Some(lock),
+            _ => None,
+        }
     }
 
     /// Where an answer leads.
