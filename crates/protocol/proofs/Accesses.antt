@@ -1,35 +1,20 @@
 -- One access of a call, in whatever phase it is.
 use Rattle.std.proofs.Common.{◌≡◌, ℕ, ◌+◌, ◌≤◌, sym, ap, ◌∙◌, subst, arith}
-use Rattle.keys.specs.Accesses.{sleeps_at}
-use Rattle.keys.specs.Layouts.{head_place}
-use Rattle.mutex.specs.declared.call.Call.{Call}
-use Rattle.mutex.specs.declared.call.Call.TheVariants as call
-use Rattle.mutex.specs.declared.phase.Phase.{Phase}
-use Rattle.mutex.specs.declared.phase.Phase.TheVariants.{Announcing, AtCell, Linking, Unlinking, Clearing, Ended}
-use Rattle.mutex.specs.Calls.{mutex_of, operation_of}
-use Rattle.mutex.specs.Standings.{Whole}
+use Rattle.protocol.proofs.Vocabulary.{sleeps_at, head_place, counter_place, Phase, AtCell, Linking, Clearing, Whole, Op, mutex_of, Stage, Calling, State}
+use Rattle.mutex.specs.declared.phase.Phase.TheVariants.{Announcing, Unlinking, Ended}
 use Rattle.mutex.specs.Programs.{row_access}
-use Rattle.protocol.specs.declared.thread.Stage.{Stage}
-use Rattle.protocol.specs.declared.thread.Stage.TheVariants.{Calling}
-use Rattle.protocol.specs.Machine.{State}
-use Rattle.protocol.proofs.Objects.{IsCalled}
 use Rattle.protocol.proofs.Kept.{Fits, Serves, Sits, Listed, Kept}
-use Rattle.protocol.proofs.Places.{head_is_no_cell}
+use Rattle.protocol.proofs.Places.{head_is_no_cell, counter_is_no_cell}
 use Rattle.protocol.proofs.CallSteps.{CallStep}
+use Rattle.protocol.proofs.Steps.{row_no_move}
 use Rattle.protocol.proofs.CellSteps as cell
 use Rattle.protocol.proofs.OwnSteps.{announcing, clearing, linking_goes, unlinking_goes}
 
--- each call's operation is one that calls of the machine have
-pub call_is_called : (c : Call) → IsCalled (operation_of c)
-call_is_called (call.Lock m) = tt
-call_is_called (call.TryLock m) = tt
-call_is_called (call.Unlock m) = tt
-call_is_called (call.Consistent m) = tt
-
-by_phase : (s : State) (t : ℕ) (c : Call) (p : Whole) (f : Phase) → Kept s → 1 ≤ t → t ≤ s.layout.threads → (s.threads t).stage ≡ Calling c (record p { phase = f }) → Fits s t (s.threads t).held (mutex_of c) (record p { phase = f }) → Serves c p → Listed s t (Calling c (record p { phase = f })) → CallStep s t c (record p { phase = f })
+by_phase : (s : State) (t : ℕ) (c : Op) (p : Whole) (f : Phase) → Kept s → 1 ≤ t → t ≤ s.layout.threads → (s.threads t).stage ≡ Calling c (record p { phase = f }) → Fits s t (s.threads t).held (mutex_of s.layout c) (record p { phase = f }) → Serves s.layout c p → Listed s t (Calling c (record p { phase = f })) → CallStep s t c (record p { phase = f })
 by_phase s t c p (Announcing r) inv pos known is fits serves listed = announcing s t c p inv pos known serves r fits is listed
 by_phase s t c p (AtCell r) inv pos known is fits serves listed = record {
   valid = cell.valid s t c p r inv pos known fits serves;
+  no_move = row_no_move p.thread p.cell r;
   kept = cell.kept s t c p r inv pos known fits serves is listed;
   moves = cell.moves s t c p r inv pos known fits serves;
   same_sleep = ap (λ (x : ℕ). sleeps_at (row_access p.thread p.cell r) (s.words x)) (cell.at_place s t c p r inv pos known fits serves);
@@ -40,7 +25,8 @@ by_phase s t c p (AtCell r) inv pos known is fits serves listed = record {
   room = λ x e. fits.stands.room;
   far = cell.far s t c p r inv pos known fits serves;
   cells = λ k inside apart. cell.cells_there s t c p r inv pos known fits serves k apart;
-  pendings = λ u first most apart. cell.word_there s t c p r inv pos known fits serves (head_place u + 2) (head_is_no_cell s.layout u (mutex_of c) 2 first most (omega arith));
+  pendings = λ u first most apart. cell.word_there s t c p r inv pos known fits serves (head_place u + 2) (head_is_no_cell s.layout u (mutex_of s.layout c) 2 first most (omega arith));
+  counters = λ k. cell.word_there s t c p r inv pos known fits serves (counter_place s.layout k) (counter_is_no_cell s.layout (mutex_of s.layout c) k fits.inside);
 }
 by_phase s t c p (Linking l x) inv pos known is fits serves (es, owned, ch) = linking_goes s t c p inv pos known serves l x fits is es owned ch
 by_phase s t c p (Unlinking u d) inv pos known is fits serves (es, owned, ch) = unlinking_goes s t c p inv pos known serves u d fits is es owned ch
@@ -48,10 +34,10 @@ by_phase s t c p (Clearing x) inv pos known is fits serves listed = clearing s t
 by_phase s t c p (Ended x) inv pos known is fits serves listed = absurd fits.stands
 
 -- a thread in a call
-pub fits_in : (s : State) (t : ℕ) (c : Call) (p : Whole) → Kept s → 1 ≤ t → t ≤ s.layout.threads → (s.threads t).stage ≡ Calling c p → Fits s t (s.threads t).held (mutex_of c) p × Serves c p
+pub fits_in : (s : State) (t : ℕ) (c : Op) (p : Whole) → Kept s → 1 ≤ t → t ≤ s.layout.threads → (s.threads t).stage ≡ Calling c p → Fits s t (s.threads t).held (mutex_of s.layout c) p × Serves s.layout c p
 fits_in s t c p inv pos known is = subst (λ (g : Stage). Sits s t (s.threads t).held g) is (inv.sits t pos known)
 
-pub goes : (s : State) (t : ℕ) (c : Call) (p : Whole) → Kept s → 1 ≤ t → t ≤ s.layout.threads → (s.threads t).stage ≡ Calling c p → CallStep s t c p
+pub goes : (s : State) (t : ℕ) (c : Op) (p : Whole) → Kept s → 1 ≤ t → t ≤ s.layout.threads → (s.threads t).stage ≡ Calling c p → CallStep s t c p
 goes s t c p inv pos known is =
     let fits = fits_in s t c p inv pos known is in
     by_phase s t c p p.phase inv pos known is fits.0 fits.1 (subst (λ (g : Stage). Listed s t g) is (inv.listed t pos known))

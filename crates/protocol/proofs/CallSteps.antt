@@ -1,117 +1,66 @@
 -- One access of a call, and what that is of a thread's access.
 use Rattle.std.proofs.Common.{◌≡◌, ◌≢◌, ⊎_elim, inl, ℕ, ◌+◌, ◌%◌, ◌^◌, ◌<◌, ◌≤◌, ◌==◌, Bool, true, false, Some, None, refl, sym, ap, ◌∙◌, subst, arith, eqb-true}
-use Rattle.std.specs.Prelude.{if◌then◌else◌}
-use Rattle.std.proofs.lemmas.Bool.{eqb-false}
-use Rattle.lockword.specs.Cells.{Fields, fields_of, word_of, low_of}
-use Rattle.lockword.specs.declared.reply.Reply.{Reply}
-use Rattle.keys.specs.declared.access.Access.{Access}
-use Rattle.keys.specs.declared.access.Access.TheVariants as access
-use Rattle.keys.specs.declared.object.Object.{Object}
-use Rattle.keys.specs.Objects.{acquires, object_of, owner_of}
-use Rattle.keys.specs.Accesses.{changed, sleeps_at}
-use Rattle.keys.specs.Layouts.{head_place, cell_place}
+use Rattle.protocol.proofs.Vocabulary.{Access, Object, acquires, object_of, owner_of, changed, sleeps_at, Layout', head_place, cell_place, counter_place, Fields, fields_of, Reply}
+use Rattle.protocol.proofs.Vocabulary.{Phase, AtCell, is_wake, Whole, whole_access, Op, mutex_of, OnMutex, OnCondition, Calling, State, is_valid, place_met, stage_after, seen}
+use Rattle.protocol.proofs.Vocabulary.{IsUnowned, eqb-false, LockRow}
+use Rattle.keys.specs.Chains.{IsAmong}
 use Rattle.keys.proofs.Owners.{owner_of-none}
-use Rattle.mutex.specs.declared.call.Call.{Call}
-use Rattle.mutex.specs.declared.lock.LockRow.TheVariants as lock
-use Rattle.mutex.specs.declared.try_lock.TryLockRow.TheVariants as try
-use Rattle.mutex.specs.declared.unlock.UnlockRow.TheVariants as unlock
-use Rattle.mutex.specs.declared.consistent.ConsistentRow.TheVariants as consistent
-use Rattle.mutex.specs.declared.row.Row.{Row}
-use Rattle.mutex.specs.declared.row.Row.TheVariants.{Lock, TryLock, Unlock, Consistent}
-use Rattle.mutex.specs.declared.row.Row.TheVariants as row
-use Rattle.mutex.specs.declared.phase.Phase.{Phase}
-use Rattle.mutex.specs.declared.phase.Phase.TheVariants.{Announcing, AtCell, Linking, Unlinking, Clearing, Ended}
-use Rattle.mutex.specs.Alone.{is_wake, left}
-use Rattle.mutex.specs.Calls.{mutex_of}
-use Rattle.mutex.specs.Standings.{Whole}
-use Rattle.mutex.specs.Whole.{whole_access}
-use Rattle.protocol.specs.Machine.{State, is_valid, place_met, stage_after}
-use Rattle.protocol.specs.Headline.{seen}
-use Rattle.protocol.specs.Sleepers.{IsUnowned}
+use Rattle.mutex.specs.declared.row.Row.TheVariants.{Lock}
+use Rattle.protocol.specs.Machine.{places_of}
 use Rattle.protocol.proofs.Puts.{put-same}
-use Rattle.protocol.proofs.Phases.{answers_at, left_at, Moves, few_of_link, few_of_unlink}
+use Rattle.protocol.proofs.Phases.{answers_at, left_at, Moves}
 use Rattle.protocol.proofs.Kept.{InPhase, Fits, Kept}
-use Rattle.protocol.proofs.Steps.{Transition, seen-inside, Tells, onto, after, place_of, met, call_step}
+use Rattle.protocol.proofs.Steps.{Transition, IsNoMove, met_no_move, seen-inside, Tells, onto, after, place_of, met, call_step}
 use Rattle.protocol.proofs.Arrivals.{ended_or_not}
-use Rattle.protocol.proofs.Stepping.{SleepsAs, AnswersAs, left_of, HasWaiters, Settles, Wakes_there, Answers_now, Found_free, Stepping}
+use Rattle.protocol.proofs.Stepping.{SleepsAs, AnswersAs, left_of, HasWaiters, Moves_none, Settles, Wakes_there, Answers_now, Found_free, Stepping}
 
 -- what it leaves: of its mutex, and of all else; and what holds of every state holds then
-pub record CallStep (s : State) (t : ℕ) (c : Call) (p : Whole) : Type 0 where
+pub record CallStep (s : State) (t : ℕ) (c : Op) (p : Whole) : Type 0 where
   pub valid : is_valid s.layout (place_met s.layout t (whole_access p)) ≡ true
+  pub no_move : IsNoMove (whole_access p)
   pub kept : Kept (after s t (call_step s t c p))
-  pub moves : Moves t p (onto s t p) (s.words (cell_place s.layout (mutex_of c))) ((after s t (call_step s t c p)).words (cell_place s.layout (mutex_of c)))
+  pub moves : Moves t p (onto s t p) (s.words (cell_place s.layout (mutex_of s.layout c))) ((after s t (call_step s t c p)).words (cell_place s.layout (mutex_of s.layout c)))
   -- it sleeps and wakes at its mutex's cell only
-  pub same_sleep : sleeps_at (whole_access p) (met s t (call_step s t c p)) ≡ sleeps_at (whole_access p) (s.words (cell_place s.layout (mutex_of c)))
-  pub place : sleeps_at (whole_access p) (met s t (call_step s t c p)) ≡ true → place_met s.layout t (whole_access p) ≡ cell_place s.layout (mutex_of c)
-  pub wakes : is_wake (whole_access p) ≡ true → (n : ℕ) × (1 ≤ n) × (whole_access p ≡ access.Wake (cell_place s.layout (mutex_of c)) n)
+  pub same_sleep : sleeps_at (whole_access p) (met s t (call_step s t c p)) ≡ sleeps_at (whole_access p) (s.words (cell_place s.layout (mutex_of s.layout c)))
+  pub place : sleeps_at (whole_access p) (met s t (call_step s t c p)) ≡ true → place_met s.layout t (whole_access p) ≡ cell_place s.layout (mutex_of s.layout c)
+  pub wakes : is_wake (whole_access p) ≡ true → (n : ℕ) × (1 ≤ n) × (whole_access p ≡ Access.Wake (cell_place s.layout (mutex_of s.layout c)) n)
   -- whoever falls asleep is in a lock that saw the word, and loads it when it is woken
-  pub sleeper : sleeps_at (whole_access p) (met s t (call_step s t c p)) ≡ true → (v : Fields) × (p.phase ≡ AtCell (Lock (lock.Sleep v))) × ((onto s t p).phase ≡ AtCell (Lock lock.Load))
-  pub tells : Tells t (seen s (mutex_of c)) p.operation (onto s t p).point (seen (after s t (call_step s t c p)) (mutex_of c))
+  pub sleeper : sleeps_at (whole_access p) (met s t (call_step s t c p)) ≡ true → (v : Fields) × (p.phase ≡ AtCell (Lock (LockRow.Sleep v))) × ((onto s t p).phase ≡ AtCell (Lock LockRow.Load))
+  pub tells : Tells t (seen s (mutex_of s.layout c)) p.operation (onto s t p).point (seen (after s t (call_step s t c p)) (mutex_of s.layout c))
   pub room : (x : Reply) → (onto s t p).point ≡ Some x → acquires p.operation ≡ true → (s.threads t).held < 2048
-  pub far : (k : ℕ) → k ≢ mutex_of c → seen (after s t (call_step s t c p)) k ≡ seen s k
-  pub cells : (k : ℕ) → k < s.layout.mutexes → k ≢ mutex_of c → (after s t (call_step s t c p)).words (cell_place s.layout k) ≡ s.words (cell_place s.layout k)
+  pub far : (k : ℕ) → k ≢ mutex_of s.layout c → seen (after s t (call_step s t c p)) k ≡ seen s k
+  pub cells : (k : ℕ) → k < s.layout.mutexes → k ≢ mutex_of s.layout c → (after s t (call_step s t c p)).words (cell_place s.layout k) ≡ s.words (cell_place s.layout k)
   pub pendings : (u : ℕ) → 1 ≤ u → u ≤ s.layout.threads → t ≢ u → (after s t (call_step s t c p)).words (head_place u + 2) ≡ s.words (head_place u + 2)
+  pub counters : (k : ℕ) → (after s t (call_step s t c p)).words (counter_place s.layout k) ≡ s.words (counter_place s.layout k)
 
 -- ---- how many accesses are left of a call
 
-few_left : (r : Row) (w : ℕ) → left r w ≤ 6
-few_left (Lock lock.Load) w = omega arith
-few_left (Lock (lock.Take v)) w = go (w == word_of v)
-  where
-    go : (b : Bool) → (if b then 1 else 3) ≤ 6
-    go true = omega arith
-    go false = omega arith
-few_left (Lock (lock.SetWaiters v)) w = go (w == word_of v)
-  where
-    go : (b : Bool) → (if b then 2 else 3) ≤ 6
-    go true = omega arith
-    go false = omega arith
-few_left (Lock (lock.Sleep v)) w = go (w % 2 ^ 32 == low_of v)
-  where
-    go : (b : Bool) → (if b then 1 else 4) ≤ 6
-    go true = omega arith
-    go false = omega arith
-few_left (Lock lock.WakeAll) w = omega arith
-few_left (TryLock try.Load) w = omega arith
-few_left (TryLock (try.Take v k)) w = omega arith
-few_left (Unlock unlock.Load) w = omega arith
-few_left (Unlock (unlock.Release d)) w = omega arith
-few_left (Unlock (unlock.Wake a)) w = omega arith
-few_left (Consistent consistent.Load) w = omega arith
-few_left (Consistent consistent.Declare) w = omega arith
-few_left (row.Ended x) w = omega arith
-
 pub few_at : (f : Phase) (w : ℕ) → left_at f w ≤ 62
-few_at (Announcing r) w = let few = few_left r w in omega arith
-few_at (AtCell r) w = let few = few_left r w in omega arith
-few_at (Linking l x) w = let few = few_of_link l.row in omega arith
-few_at (Unlinking u d) w = let few = few_of_unlink u.row in omega arith
-few_at (Clearing x) w = omega arith
-few_at (Ended x) w = omega arith
+few_at f w = grind (arith)
 
 -- something is left of a call that hasn't returned
 some_at : (t held : ℕ) (p : Whole) (f : Phase) (w : ℕ) (o : Object) → InPhase t held p f o → 0 < left_at f w
-some_at t held p (Announcing r) w o stands = omega arith
-some_at t held p (AtCell r) w o stands = omega arith
-some_at t held p (Linking l x) w o stands = omega arith
-some_at t held p (Unlinking u d) w o stands = omega arith
-some_at t held p (Clearing x) w o stands = omega arith
-some_at t held p (Ended x) w o stands = absurd stands
+some_at t held p f w o stands = grind (arith)
 
 -- ---- a call's access is a thread's
 
+-- a call's thread may sleep on its mutex's cell
+pub sleeps_on_cell : (l : Layout') (o : Op) (p : Whole) → IsAmong (cell_place l (mutex_of l o)) (places_of l (Calling o p))
+sleeps_on_cell l (OnMutex c) p = inl refl
+sleeps_on_cell l (OnCondition c) p = inl refl
+
 -- a wait changes no word
 sleeps_unchanged : (a : Access) (w : ℕ) → sleeps_at a w ≡ true → changed a w ≡ w
-sleeps_unchanged (access.Wait at e) w on = refl
+sleeps_unchanged (Access.Wait at e) w on = refl
 sleeps_unchanged a w on = absurd cc
 
 -- an owner field of nobody is 0
 pub free_field : (w : ℕ) → (object_of (fields_of w)).owner ≡ None → (fields_of w).owner ≡ 0
 free_field w none = owner_of-none (fields_of w).owner none
 
-module _ (s : State) (t : ℕ) (c : Call) (p : Whole) (g : CallStep s t c p) (fits : Fits s t (s.threads t).held (mutex_of c) p) where
+module _ (s : State) (t : ℕ) (c : Op) (p : Whole) (g : CallStep s t c p) (fits : Fits s t (s.threads t).held (mutex_of s.layout c) p) where
   abbrev m : ℕ
-  m = mutex_of c
+  m = mutex_of s.layout c
 
   abbrev v : Transition
   v = call_step s t c p
@@ -144,11 +93,7 @@ module _ (s : State) (t : ℕ) (c : Call) (p : Whole) (g : CallStep s t c p) (fi
 
   -- on its cell, that is owned and has WAITERS
   owned_there : sleeps_at v.access (met s t v) ≡ true → (k : ℕ) → k < s.layout.mutexes → place_of s t v ≡ cell_place s.layout k → HasWaiters s k × (IsUnowned s k → ⊥)
-  owned_there on k inside at =
-      let here : m ≡ k = (let place = g.place on in omega (arith, at, place)) in
-      let owned = g.moves.sleeps (sym g.same_sleep ∙ on) in
-      subst (λ (j : ℕ). HasWaiters s j × (IsUnowned s j → ⊥)) here
-      (owned.1, λ none. let free = free_field w (sym (ap (λ (o : Object). o.owner) (seen-inside s m fits.inside)) ∙ none) in let some = owned.0 in omega (arith, free, some))
+  owned_there on k inside at = grind (arith)
 
   settled : (k : ℕ) → k < s.layout.mutexes → IsUnowned s' k → HasWaiters s' k → Settles s t v k
   settled k inside none on = go (k == m) refl
@@ -160,7 +105,7 @@ module _ (s : State) (t : ℕ) (c : Call) (p : Whole) (g : CallStep s t c p) (fi
       unowned is same = subst (IsUnowned s) (sym is) (ap (λ (o : Object). o.owner) (seen-inside s m fits.inside) ∙ ap owner_of (sym (ap (λ (x : ℕ). (fields_of x).owner) same) ∙ free_then is))
 
       here : k ≡ m → (a : Bool) → is_wake v.access ≡ a → (b : Bool) → sleeps_at v.access (met s t v) ≡ b → Settles s t v k
-      here is true e b z = let wakes = g.wakes e in Wakes_there wakes.0 wakes.1 (wakes.2 ∙ ap (λ (j : ℕ). access.Wake (cell_place s.layout j) wakes.0) (sym is))
+      here is true e b z = let wakes = g.wakes e in Wakes_there wakes.0 wakes.1 (wakes.2 ∙ ap (λ (j : ℕ). Access.Wake (cell_place s.layout j) wakes.0) (sym is))
       here is false e true z =
           let kept : w' ≡ w = ap (λ (x : ℕ). s'.words x) (sym (g.place z)) ∙ put-same s.words (place_of s t v) _ ∙ sleeps_unchanged v.access (met s t v) z ∙ ap s.words (g.place z) in
           let free : (fields_of w).owner ≡ 0 = sym (ap (λ (x : ℕ). (fields_of x).owner) kept) ∙ free_then is in
@@ -176,17 +121,17 @@ module _ (s : State) (t : ℕ) (c : Call) (p : Whole) (g : CallStep s t c p) (fi
 
   pub call_stepping : Stepping s t v
   call_stepping = record {
-    valid = g.valid;
+    valid = met_no_move s.layout t (whole_access p) g.no_move ∙ g.valid;
     inside = fits.inside;
-    called = fits.called;
     kept = g.kept;
     tells = g.tells;
     room = g.room;
     far = g.far;
     waiters = waits;
     pendings = g.pendings;
-    sleeper = λ on. let row_is = g.sleeper on in subst (SleepsAs s.layout (place_of s t v)) (sym (ap (stage_after c p) row_is.2)) (refl, inl (g.place on));
+    sleeper = λ on. let row_is = g.sleeper on in subst (SleepsAs s.layout (place_of s t v)) (sym (ap (stage_after c p) row_is.2)) (refl, subst (λ (x : ℕ). IsAmong x (places_of s.layout (Calling c (record p { phase = AtCell (Lock LockRow.Load) })))) (sym (g.place on)) (sleeps_on_cell s.layout c (record p { phase = AtCell (Lock LockRow.Load) })));
     asleep = owned_there;
+    moving = Moves_none g.no_move;
     settles = settled;
     some = some_at t (s.threads t).held p p.phase w (seen s m) fits.stands;
     few = let few = few_at p.phase w in omega arith;

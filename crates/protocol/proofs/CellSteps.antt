@@ -1,50 +1,26 @@
 -- One access of a call at its mutex's cell.
 use Rattle.std.proofs.Common.{◌≡◌, ◌≢◌, inl, inr, ⊎_elim, ℕ, zero, suc, ◌+◌, ◌*◌, ◌<◌, ◌≤◌, ◌==◌, Bool, true, false, Option, Some, None, List, refl, sym, ap, ◌∙◌, subst, arith, eqb-true}
-use Rattle.std.specs.Prelude.{if◌then◌else◌, nat_lt}
-use Rattle.std.proofs.lemmas.Bool.{eqb-false}
-use Rattle.lockword.specs.Cells.{Fields, fields_of, word_of, taken, waiting}
-use Rattle.lockword.specs.declared.reply.Reply.{Reply}
-use Rattle.lockword.specs.declared.reply.Reply.TheVariants.{OK, EFAULT, EOWNERDEAD}
-use Rattle.keys.specs.declared.access.Access.{Access}
+use Rattle.protocol.proofs.Vocabulary.{Access, Object, Operation, address_of, changed, answer_at, sleeps_at, IsChainBothWays, head_place, entry_place, cell_place, Run, object_of}
+use Rattle.protocol.proofs.Vocabulary.{owner_of, fresh, acquires, owner_of-some, Fields, fields_of, Reply, OK, EOWNERDEAD, TryLock, Consistent, Phase, AtCell, Onward, is_wake}
+use Rattle.protocol.proofs.Vocabulary.{left, Expects, Sound, decided, Joins, Whole, after_cell, leaving, Op, mutex_of, Calling, State, put, is_valid, place_met, answer_among}
+use Rattle.protocol.proofs.Vocabulary.{stage_after, held_after, seen, Agree, if◌then◌else◌, nat_lt, eqb-false, LinkRow, LockRow, TryLockRow, UnlockRow, ConsistentRow}
+use Rattle.lockword.specs.declared.reply.Reply.TheVariants.{EFAULT}
 use Rattle.keys.specs.declared.access.Access.TheVariants.{Wake}
-use Rattle.keys.specs.declared.object.Object.{Object}
-use Rattle.keys.specs.declared.point.Operation.{Operation}
-use Rattle.keys.specs.declared.point.Operation.TheVariants as operation
-use Rattle.keys.specs.Accesses.{address_of, changed, answer_at, sleeps_at}
-use Rattle.keys.specs.Chains.{IsAmong, IsChainBothWays}
-use Rattle.keys.specs.Layouts.{head_place, entry_place, cell_place}
-use Rattle.keys.specs.Objects.{Run, object_of, owner_of, fresh, acquires}
-use Rattle.keys.proofs.Owners.{owner_of-some}
-use Rattle.lockword.specs.Coding.{fields_of-word_of}
-use Rattle.robustlist.specs.Words.{Agree}
-use Rattle.robustlist.specs.declared.link.LinkRow.TheVariants as link
+use Rattle.keys.specs.Chains.{IsAmong}
 use Rattle.robustlist.specs.LinkLaws as link_laws
 use Rattle.robustlist.proofs.Links as links
-use Rattle.mutex.specs.declared.call.Call.{Call}
-use Rattle.mutex.specs.declared.lock.LockRow.TheVariants as lock
-use Rattle.mutex.specs.declared.try_lock.TryLockRow.TheVariants as try
-use Rattle.mutex.specs.declared.unlock.UnlockRow.TheVariants as unlock
-use Rattle.mutex.specs.declared.consistent.ConsistentRow.TheVariants as consistent
 use Rattle.mutex.specs.declared.row.Row.{Row}
-use Rattle.mutex.specs.declared.row.Row.TheVariants.{Lock, TryLock, Unlock, Consistent}
+use Rattle.mutex.specs.declared.row.Row.TheVariants.{Lock, Unlock}
 use Rattle.mutex.specs.declared.row.Row.TheVariants as row
 use Rattle.mutex.specs.declared.row.Led.{Led}
-use Rattle.mutex.specs.declared.phase.Phase.{Phase}
-use Rattle.mutex.specs.declared.phase.Phase.TheVariants.{AtCell}
-use Rattle.mutex.specs.declared.phase.Onward.{Onward}
-use Rattle.mutex.specs.Alone.{Alone, is_wake, left}
-use Rattle.mutex.specs.Calls.{mutex_of}
-use Rattle.mutex.specs.Laws.{Expects, Sound, points, decided, Joins, Right}
+use Rattle.mutex.specs.Alone.{Alone}
+use Rattle.mutex.specs.Laws.{points, Right}
 use Rattle.mutex.specs.Rows.{Knows, IsGoing}
-use Rattle.mutex.specs.Standings.{Whole}
 use Rattle.mutex.specs.Programs.{row_access, row_operation, point_of, resume_of}
-use Rattle.mutex.specs.Whole.{after_cell, leaving, from_cell}
+use Rattle.mutex.specs.Whole.{from_cell}
 use Rattle.mutex.proofs.Rights.{right}
 use Rattle.mutex.proofs.Alone.{alone}
 use Rattle.mutex.proofs.Steps.{at_cell}
-use Rattle.protocol.specs.declared.thread.Stage.TheVariants.{Calling}
-use Rattle.protocol.specs.Machine.{State, put, is_valid, place_met, answer_among, stage_after, held_after}
-use Rattle.protocol.specs.Headline.{seen}
 use Rattle.protocol.proofs.Puts.{put-same, put-other}
 use Rattle.protocol.proofs.Phases.{left_at, Moves, after_decided, after_answers, after_left, after_steady}
 use Rattle.protocol.proofs.Kept.{AtRow, Fits, Serves, Sits, left_out_in, Owned, ChainedIn, Listed, pending_in, PendsAs, Kept}
@@ -56,30 +32,11 @@ use Rattle.protocol.proofs.Arrivals.{Arrives, sits_after, listed_after, pending_
 
 -- a wake is of the cell
 wakes_row : (t cell : ℕ) (r : Row) → is_wake (row_access t cell r) ≡ true → (n : ℕ) × (1 ≤ n) × (row_access t cell r ≡ Wake cell n)
-wakes_row t cell (Lock lock.WakeAll) e = (64, omega arith, refl)
-wakes_row t cell (Unlock (unlock.Wake true)) e = (64, omega arith, refl)
-wakes_row t cell (Unlock (unlock.Wake false)) e = (1, omega arith, refl)
-wakes_row t cell (TryLock try.Load) e = absurd cc
-wakes_row t cell (TryLock (try.Take v k)) e = absurd cc
-wakes_row t cell (Consistent consistent.Load) e = absurd cc
-wakes_row t cell (Consistent consistent.Declare) e = absurd cc
-wakes_row t cell r e = absurd cc
+wakes_row t cell r e = grind (arith)
 
 -- who falls asleep is in a lock that saw the word
-pub sleeper : (t cell : ℕ) (r : Row) (w : ℕ) → sleeps_at (row_access t cell r) w ≡ true → (v : Fields) × (r ≡ Lock (lock.Sleep v))
-sleeper t cell (Lock lock.Load) w e = absurd cc
-sleeper t cell (Lock (lock.Take v)) w e = absurd cc
-sleeper t cell (Lock (lock.SetWaiters v)) w e = absurd cc
-sleeper t cell (Lock (lock.Sleep v)) w e = (v, refl)
-sleeper t cell (Lock lock.WakeAll) w e = absurd cc
-sleeper t cell (TryLock try.Load) w e = absurd cc
-sleeper t cell (TryLock (try.Take v k)) w e = absurd cc
-sleeper t cell (Unlock unlock.Load) w e = absurd cc
-sleeper t cell (Unlock (unlock.Release d)) w e = absurd cc
-sleeper t cell (Unlock (unlock.Wake a)) w e = absurd cc
-sleeper t cell (Consistent consistent.Load) w e = absurd cc
-sleeper t cell (Consistent consistent.Declare) w e = absurd cc
-sleeper t cell (row.Ended x) w e = absurd cc
+pub sleeper : (t cell : ℕ) (r : Row) (w : ℕ) → sleeps_at (row_access t cell r) w ≡ true → (v : Fields) × (r ≡ Lock (LockRow.Sleep v))
+sleeper t cell r w e = grind (arith)
 
 -- an owner is one
 owned_by_one : (u t : ℕ) → Some u ≡ Some t → u ≡ t
@@ -92,39 +49,27 @@ owner_is (suc n) u e = owned_by_one (suc n) u e
 
 -- a mutex that another owns has WAITERS set in its cell, at most
 waits_row : (t cell u w : ℕ) (r : Row) → 1 ≤ u → u ≢ t → Knows r → Expects t r (object_of (fields_of w)) → (fields_of w).owner ≡ u → OnlyWaitsFrom w (changed (row_access t cell r) w)
-waits_row t cell u w (Lock lock.Load) first apart knows expects owner = inl refl
-waits_row t cell u w (Lock (lock.Take v)) first apart knows expects owner = go (w == word_of v) refl
-  where
-    go : (b : Bool) → (w == word_of v) ≡ b → OnlyWaitsFrom w (if b then word_of (taken v t) else w)
-    go true e = absurd (let same : (fields_of w).owner ≡ v.owner = ap (λ (c : Fields). c.owner) (ap fields_of (eqb-true w (word_of v) e) ∙ fields_of-word_of v (let free = knows.0 in omega arith)) in let free = knows.0 in omega arith)
-    go false e = inl refl
-waits_row t cell u w (Lock (lock.SetWaiters v)) first apart knows expects owner = go (w == word_of v) refl
-  where
-    go : (b : Bool) → (w == word_of v) ≡ b → OnlyWaitsFrom w (if b then word_of (waiting v) else w)
-    go true e = inr (ap (λ (c : Fields). word_of (waiting c)) (sym (ap fields_of (eqb-true w (word_of v) e) ∙ fields_of-word_of v knows.1)))
-    go false e = inl refl
-waits_row t cell u w (Lock (lock.Sleep v)) first apart knows expects owner = inl refl
-waits_row t cell u w (Lock lock.WakeAll) first apart knows expects owner = inl refl
-waits_row t cell u w (TryLock try.Load) first apart knows expects owner = inl refl
-waits_row t cell u w (TryLock (try.Take v n)) first apart knows expects owner = go (w == word_of v) refl
-  where
-    go : (b : Bool) → (w == word_of v) ≡ b → OnlyWaitsFrom w (if b then word_of (taken v t) else w)
-    go true e = absurd (let same : (fields_of w).owner ≡ v.owner = ap (λ (c : Fields). c.owner) (ap fields_of (eqb-true w (word_of v) e) ∙ fields_of-word_of v (let free = knows.0 in omega arith)) in let free = knows.0 in omega arith)
-    go false e = inl refl
-waits_row t cell u w (Unlock unlock.Load) first apart knows expects owner = inl refl
-waits_row t cell u w (Unlock (unlock.Release d)) first apart knows expects owner = absurd (apart (owned_by_one u t (sym (ap owner_of owner ∙ owner_of-some u first) ∙ expects.0)))
-waits_row t cell u w (Unlock (unlock.Wake a)) first apart knows expects owner = inl refl
-waits_row t cell u w (Consistent consistent.Load) first apart knows expects owner = inl refl
-waits_row t cell u w (Consistent consistent.Declare) first apart knows expects owner = absurd (apart (owned_by_one u t (sym (ap owner_of owner ∙ owner_of-some u first) ∙ expects.0)))
+waits_row t cell u w (Lock LockRow.Load) first apart knows expects owner = inl refl
+waits_row t cell u w (Lock (LockRow.Take v)) first apart knows expects owner = grind (arith)
+waits_row t cell u w (Lock (LockRow.SetWaiters v)) first apart knows expects owner = grind (arith)
+waits_row t cell u w (Lock (LockRow.Sleep v)) first apart knows expects owner = inl refl
+waits_row t cell u w (Lock LockRow.WakeAll) first apart knows expects owner = inl refl
+waits_row t cell u w (TryLock TryLockRow.Load) first apart knows expects owner = inl refl
+waits_row t cell u w (TryLock (TryLockRow.Take v n)) first apart knows expects owner = grind (arith)
+waits_row t cell u w (Unlock UnlockRow.Load) first apart knows expects owner = inl refl
+waits_row t cell u w (Unlock (UnlockRow.Release d)) first apart knows expects owner = absurd (apart (owned_by_one u t (sym (ap owner_of owner ∙ owner_of-some u first) ∙ expects.0)))
+waits_row t cell u w (Unlock (UnlockRow.Wake a)) first apart knows expects owner = inl refl
+waits_row t cell u w (Consistent ConsistentRow.Load) first apart knows expects owner = inl refl
+waits_row t cell u w (Consistent ConsistentRow.Declare) first apart knows expects owner = absurd (apart (owned_by_one u t (sym (ap owner_of owner ∙ owner_of-some u first) ∙ expects.0)))
 waits_row t cell u w (row.Ended x) first apart knows expects owner = inl refl
 
 -- an access of thread t's call at row r
-module _ (s : State) (t : ℕ) (c : Call) (p : Whole) (r : Row) (inv : Kept s) (pos : 1 ≤ t) (known : t ≤ s.layout.threads) (fits : Fits s t (s.threads t).held (mutex_of c) (record p { phase = AtCell r })) (serves : Serves c p) where
+module _ (s : State) (t : ℕ) (c : Op) (p : Whole) (r : Row) (inv : Kept s) (pos : 1 ≤ t) (known : t ≤ s.layout.threads) (fits : Fits s t (s.threads t).held (mutex_of s.layout c) (record p { phase = AtCell r })) (serves : Serves s.layout c p) where
   abbrev whole : Whole
   whole = record p { phase = AtCell r }
 
   abbrev m : ℕ
-  m = mutex_of c
+  m = mutex_of s.layout c
 
   abbrev place : ℕ
   place = cell_place s.layout m
@@ -255,32 +200,16 @@ module _ (s : State) (t : ℕ) (c : Call) (p : Whole) (r : Row) (inv : Kept s) (
   held' = held_after (s.threads t).held p.operation l.point
 
   linking : (op : Operation) (x : Reply) → Owning m t r (leaving whole op x) (seen s m) (seen s' m) → Arrives t held' whole (leaving whole op x) (seen s' m)
-  linking op EFAULT own = tt
-  linking operation.Lock OK (takes a b x y) = (refl, refl, tt, y)
-  linking operation.Lock OK (frees a b x) = absurd cc
-  linking operation.Lock OK (keeps a b x) = absurd cc
-  linking operation.Lock EOWNERDEAD (takes a b x y) = (refl, refl, tt, y)
-  linking operation.Lock EOWNERDEAD (frees a b x) = absurd cc
-  linking operation.Lock EOWNERDEAD (keeps a b x) = absurd cc
-  linking operation.Lock x own = tt
-  linking operation.TryLock OK (takes a b x y) = (refl, refl, tt, y)
-  linking operation.TryLock OK (frees a b x) = absurd cc
-  linking operation.TryLock OK (keeps a b x) = absurd cc
-  linking operation.TryLock EOWNERDEAD (takes a b x y) = (refl, refl, tt, y)
-  linking operation.TryLock EOWNERDEAD (frees a b x) = absurd cc
-  linking operation.TryLock EOWNERDEAD (keeps a b x) = absurd cc
-  linking operation.TryLock x own = tt
-  linking operation.Unlock OK own = tt
-  linking op x own = tt
+  linking op x own = grind (arith)
 
   arrives : (q : Row) → l.row ≡ q → Owning m t r (after_cell whole q) (seen s m) (seen s' m) → Arrives t held' whole (after_cell whole q) (seen s' m)
   arrives (row.Ended x) is own = linking p.operation x own
   arrives (Lock z) is own = at_row (Lock z) is tt
   arrives (TryLock z) is own = at_row (TryLock z) is tt
   arrives (Consistent z) is own = at_row (Consistent z) is tt
-  arrives (Unlock unlock.Load) is own = at_row (Unlock unlock.Load) is tt
-  arrives (Unlock (unlock.Release d)) is own = (at_row (Unlock (unlock.Release d)) is tt, tt)
-  arrives (Unlock (unlock.Wake d)) is own = at_row (Unlock (unlock.Wake d)) is tt
+  arrives (Unlock UnlockRow.Load) is own = at_row (Unlock UnlockRow.Load) is tt
+  arrives (Unlock (UnlockRow.Release d)) is own = (at_row (Unlock (UnlockRow.Release d)) is tt, tt)
+  arrives (Unlock (UnlockRow.Wake d)) is own = at_row (Unlock (UnlockRow.Wake d)) is tt
 
   -- the entries are those of the mutexes that the thread owns now
   module _ (es : List ℕ) (owned : Owned s t (left_out_in m (AtCell r)) es) where
@@ -329,20 +258,20 @@ module _ (s : State) (t : ℕ) (c : Call) (p : Whole) (r : Row) (inv : Kept s) (
       apart_from_list : (seen s m).owner ≡ None → (x : ℕ) → IsAmong x es → (k : ℕ) × (k < s.layout.mutexes) × (x ≡ entry_place s.layout k) × (k ≢ m)
       apart_from_list free x among = let e = owned.entries x among in (e.0, e.1, e.2, λ is. cc (sym e.3 ∙ ap (λ (j : ℕ). (seen s j).owner) is ∙ free))
 
-      begins_link : (f : Phase) → left_out_in m f ≡ Some m → Owning m t r f (seen s m) (seen s' m) → link_laws.Linking (head_place t) p.entry es link.LoadFirst s'.words
+      begins_link : (f : Phase) → left_out_in m f ≡ Some m → Owning m t r f (seen s m) (seen s' m) → link_laws.Linking (head_place t) p.entry es LinkRow.LoadFirst s'.words
       begins_link f out (takes x y free now) = links.right.begins (head_place t) p.entry es s'.words still (subst (λ (e : ℕ). link_laws.LiesApart (head_place t) e es) (sym fits.entry) (lies_apart s.layout t m es inv.layout pos known fits.inside (apart_from_list free)))
       begins_link f out (frees x y now) = absurd (cc (out, y))
       begins_link f out (keeps x y now) = absurd (cc (out, y))
 
       chain_left : (op : Operation) (x : Reply) → Owning m t r (leaving whole op x) (seen s m) (seen s' m) → ChainedIn s'.words (head_place t) p.entry es (leaving whole op x)
       chain_left op EFAULT own = still
-      chain_left operation.Lock OK own = begins_link _ refl own
-      chain_left operation.Lock EOWNERDEAD own = begins_link _ refl own
-      chain_left operation.Lock x own = still
-      chain_left operation.TryLock OK own = begins_link _ refl own
-      chain_left operation.TryLock EOWNERDEAD own = begins_link _ refl own
-      chain_left operation.TryLock x own = still
-      chain_left operation.Unlock OK own = still
+      chain_left Operation.Lock OK own = begins_link _ refl own
+      chain_left Operation.Lock EOWNERDEAD own = begins_link _ refl own
+      chain_left Operation.Lock x own = still
+      chain_left Operation.TryLock OK own = begins_link _ refl own
+      chain_left Operation.TryLock EOWNERDEAD own = begins_link _ refl own
+      chain_left Operation.TryLock x own = still
+      chain_left Operation.Unlock OK own = still
       chain_left op x own = still
 
       chain_after : (q : Row) → Owning m t r (after_cell whole q) (seen s m) (seen s' m) → ChainedIn s'.words (head_place t) p.entry es (after_cell whole q)
@@ -350,9 +279,9 @@ module _ (s : State) (t : ℕ) (c : Call) (p : Whole) (r : Row) (inv : Kept s) (
       chain_after (Lock z) own = still
       chain_after (TryLock z) own = still
       chain_after (Consistent z) own = still
-      chain_after (Unlock unlock.Load) own = still
-      chain_after (Unlock (unlock.Release d)) own = still
-      chain_after (Unlock (unlock.Wake d)) own = still
+      chain_after (Unlock UnlockRow.Load) own = still
+      chain_after (Unlock (UnlockRow.Release d)) own = still
+      chain_after (Unlock (UnlockRow.Wake d)) own = still
 
   pends_so : pending_in p.entry (after_cell whole l.row) ≡ pending_in p.entry (AtCell r)
   pends_so = pends m t whole (seen s m) (seen s' m) p.thread r (answer_among a w q) at.going at.of rt.stays rt.tells tells_row
@@ -371,7 +300,7 @@ module _ (s : State) (t : ℕ) (c : Call) (p : Whole) (r : Row) (inv : Kept s) (
   -- what holds of every state holds then
   pub kept : (s.threads t).stage ≡ Calling c whole → Listed s t (Calling c whole) → Kept s'
   kept is (es, owned, ch) =
-      kept_where s t m a (thread_after s t (call_step s t c whole)) p.operation o.point inv pos known fits.inside fits.called far tells refl
+      kept_where s t m a (thread_after s t (call_step s t c whole)) p.operation o.point inv pos known fits.inside far tells refl
       (λ x e. at.room)
       (λ u first most. word_there (head_place u + 1) (head_is_no_cell s.layout u m 1 first most (omega arith)))
       (λ u x first most apart mine. word_there x (mine_is_no_cell s u x m first most fits.inside mine))
@@ -381,7 +310,7 @@ module _ (s : State) (t : ℕ) (c : Call) (p : Whole) (r : Row) (inv : Kept s) (
       (subst (λ (z : Onward). PendsAs (s'.words (head_place t + 2)) (stage_after c whole z.phase)) (sym leads) (pending_then c whole (after_cell whole l.row) (s'.words (head_place t + 2)) (word_there (head_place t + 2) (head_is_no_cell s.layout t m 2 pos known (omega arith)) ∙ subst (PendsAs (s.words (head_place t + 2))) is (inv.heads t pos known).pending ∙ sym pends_so)))
       (subst Sound (sym here) rt.sound)
 
-  pub falls_asleep : sleeps_at a w ≡ true → (v : Fields) × (AtCell r ≡ AtCell (Lock (lock.Sleep v))) × (o.phase ≡ AtCell (Lock lock.Load))
+  pub falls_asleep : sleeps_at a w ≡ true → (v : Fields) × (AtCell r ≡ AtCell (Lock (LockRow.Sleep v))) × (o.phase ≡ AtCell (Lock LockRow.Load))
   falls_asleep e =
       let row_is = sleeper p.thread p.cell r w e in
       (row_is.0, ap AtCell row_is.1, ap (λ (z : Onward). z.phase) leads ∙ ap (λ (z : Led). after_cell whole z.row) led_alike ∙ ap (λ (z : Row). after_cell whole (resume_of p.thread z (answer_at (row_access p.thread p.cell z) w)).row) row_is.1)

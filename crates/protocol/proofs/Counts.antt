@@ -1,8 +1,6 @@
 -- How many mutexes a thread owns, after one of them changed.
 use Rattle.std.proofs.Common.{◌≡◌, ◌≢◌, ℕ, zero, suc, ◌+◌, ◌<◌, ◌≤◌, ◌==◌, Bool, true, false, refl, ap, arith, eqb-true}
-use Rattle.std.proofs.lemmas.Bool.{eqb-false}
-use Rattle.keys.specs.declared.object.Object.{Object}
-use Rattle.keys.specs.Histories.{held_by}
+use Rattle.protocol.proofs.Vocabulary.{Object, held_by, eqb-false}
 use Rattle.protocol.proofs.Objects.{one}
 
 -- the same objects are held by the same threads

@@ -1,45 +1,30 @@
 -- How often a thread's death is told.
 use Rattle.std.proofs.Common.{◌≡◌, ◌≢◌, ◌⊎◌, inl, inr, ℕ, ◌+◌, ◌≤◌, ◌==◌, Bool, true, false, ◌&&◌, Option, Some, None, List, [], ◌∷◌, ◌++◌, map, refl, sym, ap, ◌∙◌, subst, arith, eqb-true}
-use Rattle.std.specs.Prelude.{if◌then◌else◌}
-use Rattle.std.proofs.lemmas.Bool.{eqb-false}
-use Rattle.std.proofs.lemmas.Bool.Decides.{nat_tests}
+use Rattle.protocol.proofs.Vocabulary.{CondCall, condition_of, CondWhole, cond_access, cond_led, Queue, Mutex, Condition, Fact, Access, sleeps_at, head_place, Object, XHELD, OK}
+use Rattle.protocol.proofs.Vocabulary.{Whole, whole_access, whole_led, Op, OnCondition, mutex_of, Thread, Event, Stage, Idle, Calling, AtCondition, Reaped, facts_of, death_facts}
+use Rattle.protocol.proofs.Vocabulary.{reap_facts, State, After, place_met, start, run, notes, is_alive, begun, led, led_at, went, answer_of, decision, slept_in, woken_by}
+use Rattle.protocol.proofs.Vocabulary.{moved_by, walked, has_ended, stepped, happens, killed, seen, facts_among, if◌then◌else◌, eqb-false, nat_tests, Operation}
 use Rattle.std.specs.Prelude.{Ok, Err}
-use Rattle.lockword.specs.declared.reply.Reply.TheVariants.{XHELD}
-use Rattle.mutex.specs.declared.call.Call.{Call}
-use Rattle.mutex.specs.Calls.{mutex_of}
-use Rattle.mutex.specs.Standings.{Whole}
-use Rattle.mutex.specs.Whole.{begins, whole_access, whole_led}
+use Rattle.protocol.proofs.CondAccesses.{cond_stepping}
 use Rattle.exitwalk.specs.declared.row.Row.{Row}
 use Rattle.exitwalk.specs.Standings as walks
-use Rattle.protocol.specs.declared.thread.Thread.{Thread}
 use Rattle.protocol.proofs.Puts.{by_put, put-same, put-other}
 use Rattle.protocol.proofs.Frames.{knows_at}
-use Rattle.protocol.proofs.Steps.{Tells, after, went-is, onto, call_step}
+use Rattle.protocol.proofs.Steps.{Transition, met_no_move, after, went-is, note_of, onto, call_step, cond_onto, cond_step}
 use Rattle.protocol.proofs.Stepping.{Stepping}
 use Rattle.protocol.proofs.CallSteps.{call_stepping}
 use Rattle.protocol.proofs.Accesses.{goes, fits_in}
-use Rattle.protocol.proofs.Events.{by_event, by_stage}
+use Rattle.protocol.proofs.Events.{begins_at, by_event, by_stage}
 use Rattle.protocol.proofs.Working.{walk_is}
-use Rattle.protocol.proofs.WalkSteps.{walk_of, by_walked, walk_access, row_then, death_then, walk_after, walked-is, DeathTells, WalkStep, walk_step}
+use Rattle.protocol.proofs.WalkSteps.{walk_of, walk_no_move, by_walked, walk_access, row_then, death_then, walk_after, walked-is, DeathTells, WalkStep, walk_step}
 use Rattle.protocol.proofs.Reaped.{no_reaped_owns}
-use Rattle.lockword.specs.declared.reply.Reply.{Reply}
-use Rattle.lockword.specs.declared.reply.Reply.TheVariants.{OK}
-use Rattle.keys.specs.declared.object.Object.{Object}
-use Rattle.keys.specs.declared.point.Decision.{Decision}
-use Rattle.keys.specs.declared.point.Operation.TheVariants as operation
-use Rattle.protocol.specs.declared.event.Event.{Event}
-use Rattle.facts.specs.declared.fact.Fact.{Fact}
 use Rattle.facts.specs.declared.fact.Fact.TheVariants.{Wake, Death}
-use Rattle.protocol.specs.declared.note.Note.TheVariants.{Stepped}
-use Rattle.protocol.specs.declared.thread.Stage.{Stage}
-use Rattle.protocol.specs.declared.thread.Stage.TheVariants.{Idle, Calling, Reaped}
-use Rattle.protocol.specs.Notes.{facts_of, sleep_facts, return_facts, death_facts, reap_facts}
-use Rattle.protocol.specs.Machine.{State, After, place_met, start, run, notes, is_alive, begun, went, answer_of, decision, returned, woken_by, walked, has_ended, stepped, happens, killed, slept_on}
-use Rattle.protocol.specs.Headline.{seen, facts_among}
+use Rattle.protocol.specs.Machine.{Led}
 use Rattle.protocol.specs.Deaths.{deaths, AreMourned, IsMourned, DeathsAreTold}
-use Rattle.protocol.proofs.Objects.{IsCalled, one, one-none, one-own, one-other, others}
+use Rattle.protocol.proofs.Objects.{one, one-none, one-own, others}
 use Rattle.protocol.proofs.Kept.{Kept}
 use Rattle.protocol.proofs.Runs.{sound, start_kept, run_kept, kill_kept}
+use Rattle.protocol.proofs.NoteFacts.{IsOfSleep, behind_woken, of_access}
 
 -- ---- counting
 
@@ -48,41 +33,20 @@ deaths_later t m [] gs = omega arith
 deaths_later t m (Death u k ∷ fs) gs = let rest = deaths_later t m fs gs in omega arith
 deaths_later t m (f ∷ fs) gs = deaths_later t m fs gs
 
-returned_deaths : (t m u : ℕ) (y : Option Reply) → deaths t m (return_facts u y) ≡ 0
-returned_deaths t m u None = refl
-returned_deaths t m u (Some x) = refl
+sleep_deaths : (t m u : ℕ) (f : Fact) (fs : List Fact) → IsOfSleep u f → deaths t m fs ≡ 0 → deaths t m (f ∷ fs) ≡ 0
+sleep_deaths t m u f fs of none = grind (arith)
 
-woken_deaths : (t m u : ℕ) (ws : List ℕ) (y : Option Reply) → deaths t m (map Wake ws ++ return_facts u y) ≡ 0
-woken_deaths t m u [] y = returned_deaths t m u y
-woken_deaths t m u (w ∷ ws) y = woken_deaths t m u ws y
-
-slept_deaths : (t m u : ℕ) (z : Option ℕ) (ws : List ℕ) (y : Option Reply) → deaths t m (sleep_facts u z ++ (map Wake ws ++ return_facts u y)) ≡ 0
-slept_deaths t m u None ws y = woken_deaths t m u ws y
-slept_deaths t m u (Some k) ws y = woken_deaths t m u ws y
-
-call_deaths : (t m u : ℕ) (d : Option Decision) (z : Option ℕ) (ws : List ℕ) (y : Option Reply) → deaths t m (facts_of (Stepped u d z ws y)) ≡ 0
-call_deaths t m u None z ws y = slept_deaths t m u z ws y
-call_deaths t m u (Some d) z ws y = slept_deaths t m u z ws y
+note_deaths : (t m : ℕ) (s : State) (u j : ℕ) (k : Queue) (a : Access) (g : Led) → deaths t m (facts_of (note_of s u j k a g)) ≡ 0
+note_deaths t m s u j k a g =
+    of_access (λ (fs : List Fact). deaths t m fs ≡ 0) u j (decision u j g.operation g.point) (slept_in k (sleeps_at a (s.words (place_met s.layout u a)))) (woken_by a (s.words (place_met s.layout u a)) (s.queues (place_met s.layout u a)))
+    (moved_by a (s.words (place_met s.layout u a)) (s.queues (place_met s.layout u a))) g.returned (λ e fs none. none) (λ f of fs none. sleep_deaths t m u f fs of none) (grind (arith))
 
 reaped_deaths : (t m u : ℕ) (ws : List ℕ) (y : Bool) → deaths t m (map Wake ws ++ reap_facts u y) ≡ 0
-reaped_deaths t m u [] false = refl
-reaped_deaths t m u [] true = refl
-reaped_deaths t m u (w ∷ ws) y = reaped_deaths t m u ws y
+reaped_deaths t m u ws y = behind_woken (λ (fs : List Fact). deaths t m fs ≡ 0) ws (reap_facts u y) (λ w fs none. none) (grind (arith))
 
 -- a thread owns a mutex, or it counts for nothing there
 owner_or : (t : ℕ) (o : Object) → (o.owner ≡ Some t) ⊎ ((o.owner ≢ Some t) × (one t o ≡ 0))
-owner_or t o = go o.owner refl
-  where
-    go : (w : Option ℕ) → o.owner ≡ w → (o.owner ≡ Some t) ⊎ ((o.owner ≢ Some t) × (one t o ≡ 0))
-    go None e = inr ((λ own. cc (e, own)), one-none t o e)
-    go (Some u) e = pick (u == t) refl
-      where
-        pick : (b : Bool) → (u == t) ≡ b → (o.owner ≡ Some t) ⊎ ((o.owner ≢ Some t) × (one t o ≡ 0))
-        pick true is = inl (e ∙ ap Some (eqb-true u t is))
-        pick false apart = inr ((λ own. eqb-false u t apart (same (sym e ∙ own))), one-other t u o e (eqb-false u t apart))
-          where
-            same : Some u ≡ Some t → u ≡ t
-            same q = cc
+owner_or t o = grind (arith)
 
 -- ---- one event, of a thread t that died before it
 module _ (t m : ℕ) where
@@ -95,42 +59,40 @@ module _ (t m : ℕ) where
     apart_from : (u : ℕ) (g : Stage) → (s.threads u).stage ≡ g → is_alive g ≡ true → u ≢ t
     apart_from u g is lives same = cc (sym dead ∙ ap (λ (v : ℕ). is_alive (s.threads v).stage) (sym same) ∙ ap is_alive is ∙ lives)
 
-    call_lost : (u : ℕ) → 1 ≤ u → u ≤ s.layout.threads → (c : Call) (p : Whole) → (s.threads u).stage ≡ Calling c p → Lost s (went s u (s.threads u).held c p (whole_led p (answer_of s u (whole_access p))))
-    call_lost u pos known c p is =
-        let fits = fits_in s u c p inv pos known is in
-        let g : Stepping s u (call_step s u c p) = call_stepping s u c p (goes s u c p inv pos known is) fits.0 in
-        subst (Lost s) (sym (went-is s u c p fits.1 g.valid))
-        (let none = call_deaths t m u (decision u c (onto s u p).point) (slept_on s u c (whole_access p)) (woken_by (whole_access p) (s.queues (place_met s.layout u (whole_access p)))) (returned (onto s u p).phase) in
-        let kept = same g in omega arith)
-      where
-        other : u ≢ t
-        other = apart_from u (Calling c p) is refl
+    -- a step of another thread leaves it as it was
+    same : (u : ℕ) (v : Transition) → u ≢ t → Stepping s u v → one t (seen (after s u v) m) ≡ one t (seen s m)
+    same u v other g = grind (arith)
 
-        told : (x : Option Reply) → (n : Object) → Tells u (seen s (mutex_of c)) p.operation x n → IsCalled p.operation → one t n ≡ one t (seen s (mutex_of c))
-        told None n e called = ap (one t) e
-        told (Some x) n permits called = others (seen s (mutex_of c)) n u t p.operation x called other permits
+    call_lost : (u : ℕ) → 1 ≤ u → u ≤ s.layout.threads → (o : Op) (p : Whole) → (s.threads u).stage ≡ Calling o p
+        → Lost s (went s u (s.threads u).held (mutex_of s.layout o) (Mutex (mutex_of s.layout o)) (whole_access p) (led o p (whole_led p (answer_of s u (whole_access p)))))
+    call_lost u pos known o p is =
+        let g : Stepping s u (call_step s u o p) = call_stepping s u o p (goes s u o p inv pos known is) (fits_in s u o p inv pos known is).0 in
+        subst (Lost s) (sym (went-is s u (mutex_of s.layout o) (Mutex (mutex_of s.layout o)) (Calling o p) (whole_access p) (λ a. led o p (whole_led p a)) g.valid))
+        (let none = note_deaths t m s u (mutex_of s.layout o) (Mutex (mutex_of s.layout o)) (whole_access p) (led o p (onto s u p)) in
+        let kept = same u (call_step s u o p) (apart_from u (Calling o p) is refl) g in omega arith)
 
-        same : Stepping s u (call_step s u c p) → one t (seen (after s u (call_step s u c p)) m) ≡ one t (seen s m)
-        same g = go (m == mutex_of c) refl
-          where
-            go : (b : Bool) → (m == mutex_of c) ≡ b → one t (seen (after s u (call_step s u c p)) m) ≡ one t (seen s m)
-            go true e = subst (λ (k : ℕ). one t (seen (after s u (call_step s u c p)) k) ≡ one t (seen s k)) (sym (eqb-true m (mutex_of c) e)) (told (onto s u p).point (seen (after s u (call_step s u c p)) (mutex_of c)) g.tells g.called)
-            go false e = ap (one t) (g.far m (eqb-false m (mutex_of c) e))
+    cond_lost : (u : ℕ) → 1 ≤ u → u ≤ s.layout.threads → (c : CondCall) (p : CondWhole) → (s.threads u).stage ≡ AtCondition c p
+        → Lost s (went s u (s.threads u).held (mutex_of s.layout (OnCondition c)) (Condition (condition_of c)) (cond_access p) (led_at c p (cond_led p (answer_of s u (cond_access p)))))
+    cond_lost u pos known c p is =
+        let g : Stepping s u (cond_step s u c p) = cond_stepping s u c p inv pos known is in
+        subst (Lost s) (sym (went-is s u (mutex_of s.layout (OnCondition c)) (Condition (condition_of c)) (AtCondition c p) (cond_access p) (λ a. led_at c p (cond_led p a)) g.valid))
+        (let none = note_deaths t m s u (mutex_of s.layout (OnCondition c)) (Condition (condition_of c)) (cond_access p) (led_at c p (cond_onto s u p)) in
+        let kept = same u (cond_step s u c p) (apart_from u (AtCondition c p) is refl) g in omega arith)
 
     walk_lost : (u : ℕ) (r : Row) → WalkStep s u r → Lost s (walked s u (s.threads u).held (walk_of u r))
-    walk_lost u r g = subst (Lost s) (sym (walked-is s u r g.valid)) (go (death_then s u r) g.tells)
+    walk_lost u r g = subst (Lost s) (sym (walked-is s u r (met_no_move s.layout u (walk_access s u r) (walk_no_move (head_place u) r) ∙ g.valid))) (go (death_then s u r) g.tells)
       where
-        go : (d : Option ℕ) → DeathTells s u d (walk_after s u r) → deaths t m (death_facts u d ++ (map Wake (woken_by (walk_access s u r) (s.queues (place_met s.layout u (walk_access s u r)))) ++ reap_facts u (has_ended (row_then s u r)))) + one t (seen (walk_after s u r) m) ≡ one t (seen s m)
-        go None tells = let none = reaped_deaths t m u (woken_by (walk_access s u r) (s.queues (place_met s.layout u (walk_access s u r)))) (has_ended (row_then s u r)) in let same : one t (seen (walk_after s u r) m) ≡ one t (seen s m) = ap (one t) (tells m) in omega arith
+        go : (d : Option ℕ) → DeathTells s u d (walk_after s u r) → deaths t m (death_facts u d ++ (map Wake (woken_by (walk_access s u r) (s.words (place_met s.layout u (walk_access s u r))) (s.queues (place_met s.layout u (walk_access s u r)))) ++ reap_facts u (has_ended (row_then s u r)))) + one t (seen (walk_after s u r) m) ≡ one t (seen s m)
+        go None tells = let none = reaped_deaths t m u (woken_by (walk_access s u r) (s.words (place_met s.layout u (walk_access s u r))) (s.queues (place_met s.layout u (walk_access s u r)))) (has_ended (row_then s u r)) in let same : one t (seen (walk_after s u r) m) ≡ one t (seen s m) = ap (one t) (tells m) in omega arith
         go (Some k) tells = pick (u == t) refl (k == m) refl
           where
-            abbrev_none : deaths t m (map Wake (woken_by (walk_access s u r) (s.queues (place_met s.layout u (walk_access s u r)))) ++ reap_facts u (has_ended (row_then s u r))) ≡ 0
-            abbrev_none = reaped_deaths t m u (woken_by (walk_access s u r) (s.queues (place_met s.layout u (walk_access s u r)))) (has_ended (row_then s u r))
+            abbrev_none : deaths t m (map Wake (woken_by (walk_access s u r) (s.words (place_met s.layout u (walk_access s u r))) (s.queues (place_met s.layout u (walk_access s u r)))) ++ reap_facts u (has_ended (row_then s u r))) ≡ 0
+            abbrev_none = reaped_deaths t m u (woken_by (walk_access s u r) (s.words (place_met s.layout u (walk_access s u r))) (s.queues (place_met s.layout u (walk_access s u r)))) (has_ended (row_then s u r))
 
-            pick : (a : Bool) → (u == t) ≡ a → (b : Bool) → (k == m) ≡ b → (if a && b then 1 else 0) + deaths t m (map Wake (woken_by (walk_access s u r) (s.queues (place_met s.layout u (walk_access s u r)))) ++ reap_facts u (has_ended (row_then s u r))) + one t (seen (walk_after s u r) m) ≡ one t (seen s m)
+            pick : (a : Bool) → (u == t) ≡ a → (b : Bool) → (k == m) ≡ b → (if a && b then 1 else 0) + deaths t m (map Wake (woken_by (walk_access s u r) (s.words (place_met s.layout u (walk_access s u r))) (s.queues (place_met s.layout u (walk_access s u r)))) ++ reap_facts u (has_ended (row_then s u r))) + one t (seen (walk_after s u r) m) ≡ one t (seen s m)
             pick a x false y = let none = abbrev_none in let same : one t (seen (walk_after s u r) m) ≡ one t (seen s m) = ap (one t) (tells.2 m (λ e. eqb-false k m y (sym e))) in none_if a same
               where
-                none_if : (a : Bool) → one t (seen (walk_after s u r) m) ≡ one t (seen s m) → (if a && false then 1 else 0) + deaths t m (map Wake (woken_by (walk_access s u r) (s.queues (place_met s.layout u (walk_access s u r)))) ++ reap_facts u (has_ended (row_then s u r))) + one t (seen (walk_after s u r) m) ≡ one t (seen s m)
+                none_if : (a : Bool) → one t (seen (walk_after s u r) m) ≡ one t (seen s m) → (if a && false then 1 else 0) + deaths t m (map Wake (woken_by (walk_access s u r) (s.words (place_met s.layout u (walk_access s u r))) (s.queues (place_met s.layout u (walk_access s u r)))) ++ reap_facts u (has_ended (row_then s u r))) + one t (seen (walk_after s u r) m) ≡ one t (seen s m)
                 none_if true same = let none = abbrev_none in omega arith
                 none_if false same = let none = abbrev_none in omega arith
             pick true x true y =
@@ -141,37 +103,38 @@ module _ (t m : ℕ) where
                 let none = abbrev_none in omega arith
             pick false x true y =
                 let at : k ≡ m = eqb-true k m y in
-                let same : one t (seen (walk_after s u r) m) ≡ one t (seen s m) = subst (λ (i : ℕ). one t (seen (walk_after s u r) i) ≡ one t (seen s i)) at (others (seen s k) (seen (walk_after s u r) k) u t operation.Death OK tt (eqb-false u t x) tells.1) in
+                let same : one t (seen (walk_after s u r) m) ≡ one t (seen s m) = subst (λ (i : ℕ). one t (seen (walk_after s u r) i) ≡ one t (seen s i)) at (others (seen s k) (seen (walk_after s u r) k) u t Operation.Death OK (eqb-false u t x) tells.1) in
                 let none = abbrev_none in omega arith
 
     step_lost : (u : ℕ) → 1 ≤ u → u ≤ s.layout.threads → Lost s (stepped s u (s.threads u).held (s.threads u).stage)
     step_lost u pos known =
-        by_stage s u (Lost s) (λ rests. omega arith) (λ c p is awake. call_lost u pos known c p is)
+        by_stage s u (Lost s) (λ rests. omega arith) (λ o p is awake. call_lost u pos known o p is) (λ c p is awake. cond_lost u pos known c p is)
         (λ w is awake.
         let there = walk_is s u w inv pos known is in
         subst (λ (z : walks.Standing). Lost s (walked s u (s.threads u).held z)) there.1
         (walk_lost u w.row (walk_step s u inv pos known w.row there.0.going (knows_at u w there.0) there.2)))
 
     event_lost : (e : Event) → Lost s (happens s e)
-    event_lost e = by_event s (λ (x : Event) (a : After). Lost s a) (λ x. omega arith) (λ u c pos known inside idle b full. begun_lost u c b) step_lost (λ u pos known alive. omega arith) e
+    event_lost e = by_event s (λ (x : Event) (a : After). Lost s a) (λ x. omega arith) (λ u o pos known inside idle b full. begun_lost u o b) step_lost (λ u pos known alive. omega arith) e
       where
-        begun_lost : (u : ℕ) (c : Call) (b : Bool) → Lost s (begun s u c (if b then Err XHELD else Ok (begins s.layout u c)))
-        begun_lost u c true = omega arith
-        begun_lost u c false = omega arith
+        begun_lost : (u : ℕ) (o : Op) (b : Bool) → Lost s (begun s u o (if b then Err XHELD else Ok (begins_at s.layout u o)))
+        begun_lost u o true = omega arith
+        begun_lost u o false = omega arith
 
     -- it stays dead
     event_dead : (e : Event) → is_alive ((happens s e).state.threads t).stage ≡ false
-    event_dead e = by_event s (λ (x : Event) (a : After). is_alive (a.state.threads t).stage ≡ false) (λ x. dead) (λ u c pos known inside idle b full. begun_dead u c idle b) (λ u pos known. stepped_dead u)
+    event_dead e = by_event s (λ (x : Event) (a : After). is_alive (a.state.threads t).stage ≡ false) (λ x. dead) (λ u o pos known inside idle b full. begun_dead u o idle b) (λ u pos known. stepped_dead u)
         (λ u pos known alive. by_put (λ (z : Thread). is_alive z.stage ≡ false) s.threads u _ t (λ e. refl) (λ apart. dead)) e
       where
-        begun_dead : (u : ℕ) (c : Call) → (s.threads u).stage ≡ Idle → (b : Bool) → is_alive ((begun s u c (if b then Err XHELD else Ok (begins s.layout u c))).state.threads t).stage ≡ false
-        begun_dead u c idle true = dead
-        begun_dead u c idle false = ap (λ (z : Thread). is_alive z.stage) (put-other s.threads u (record (s.threads u) { stage = Calling c (begins s.layout u c) }) t (λ e. apart_from u Idle idle refl (sym e))) ∙ dead
+        begun_dead : (u : ℕ) (o : Op) → (s.threads u).stage ≡ Idle → (b : Bool) → is_alive ((begun s u o (if b then Err XHELD else Ok (begins_at s.layout u o))).state.threads t).stage ≡ false
+        begun_dead u o idle true = dead
+        begun_dead u o idle false = ap (λ (z : Thread). is_alive z.stage) (put-other s.threads u (record (s.threads u) { stage = begins_at s.layout u o }) t (λ e. apart_from u Idle idle refl (sym e))) ∙ dead
 
         stepped_dead : (u : ℕ) → is_alive ((stepped s u (s.threads u).held (s.threads u).stage).state.threads t).stage ≡ false
         stepped_dead u =
             by_stage s u (λ (a : After). is_alive (a.state.threads t).stage ≡ false) (λ rests. dead)
-            (λ c p is awake. ap (λ (z : Thread). is_alive z.stage) (put-other s.threads u _ t (λ e. apart_from u (Calling c p) is refl (sym e))) ∙ dead)
+            (λ o p is awake. ap (λ (z : Thread). is_alive z.stage) (put-other s.threads u _ t (λ e. apart_from u (Calling o p) is refl (sym e))) ∙ dead)
+            (λ c p is awake. ap (λ (z : Thread). is_alive z.stage) (put-other s.threads u _ t (λ e. apart_from u (AtCondition c p) is refl (sym e))) ∙ dead)
             (λ w is awake. by_put (λ (z : Thread). is_alive z.stage ≡ false) s.threads u _ t (λ e. by_walked (λ (g : Stage). is_alive g ≡ false) w _ (λ ended. refl) (λ going. refl)) (λ apart. dead))
 
   -- ---- whole runs

@@ -1,73 +1,38 @@
 -- What one access of a thread leaves of the others, and of the mutexes' owners.
 use Rattle.std.proofs.Common.{◌≡◌, ◌≢◌, ◌⊎◌, inl, inr, ⊎_elim, ℕ, ◌+◌, ◌<◌, ◌≤◌, ◌==◌, Bool, true, false, Option, Some, None, List, ◌∷◌, refl, sym, ap, ◌∙◌, subst, arith, eqb-true}
-use Rattle.std.proofs.lemmas.Bool.{eqb-false}
-use Rattle.lockword.specs.Cells.{Fields, fields_of, word_of, waiting}
-use Rattle.lockword.specs.Coding.{fields_of-word_of}
-use Rattle.keys.specs.Objects.{owner_of}
-use Rattle.keys.proofs.Owners.{owner_of-some}
-use Rattle.keys.specs.declared.access.Access.{Access}
+use Rattle.protocol.proofs.Vocabulary.{CondCall, CondPhase, CondWhole, OnlyWaits, owner_of, owner_of-some, Access, acquires, Object, Operation, IsLayout, head_place, entry_place}
+use Rattle.protocol.proofs.Vocabulary.{cell_place, held_by, Fields, fields_of, word_of, fields_of-word_of, Reply, Phase, AtCell, Linking, Clearing, Whole, Sound, OnCondition}
+use Rattle.protocol.proofs.Vocabulary.{mutex_of, Thread, Stage, Idle, Calling, AtCondition, Dying, Reaped, State, held_after, seen, Agree, eqb-false, Part}
+use Rattle.lockword.specs.Cells.{waiting}
 use Rattle.exitwalk.specs.declared.row.Row as walk_row
 use Rattle.exitwalk.specs.declared.row.Rest as walk_rest
 use Rattle.exitwalk.specs.declared.row.Part as walk_part
 use Rattle.exitwalk.specs.declared.row.Row.TheVariants as walk
-use Rattle.exitwalk.specs.declared.row.Part.TheVariants as part
 use Rattle.exitwalk.specs.Standings as walks
 use Rattle.exitwalk.specs.Walks as exit
-use Rattle.exitwalk.specs.Steps.{OnlyWaits, waiting_word}
+use Rattle.exitwalk.specs.Steps.{waiting_word}
 use Rattle.robustlist.proofs.Chains.{leads-same}
-use Rattle.lockword.specs.declared.reply.Reply.{Reply}
-use Rattle.lockword.specs.declared.reply.Reply.TheVariants.{OK, EOWNERDEAD}
-use Rattle.keys.specs.Objects.{acquires}
-use Rattle.keys.specs.declared.object.Object.{Object}
-use Rattle.keys.specs.declared.point.Operation.{Operation}
-use Rattle.keys.specs.declared.point.Operation.TheVariants as operation
 use Rattle.keys.specs.Chains.{previous_place}
-use Rattle.keys.specs.Layouts.{IsLayout, head_place, entry_place, cell_place}
-use Rattle.keys.specs.Histories.{held_by}
-use Rattle.robustlist.specs.Words.{IsOn, Agree}
+use Rattle.robustlist.specs.Words.{IsOn}
 use Rattle.robustlist.proofs.Links as links
 use Rattle.robustlist.proofs.Unlinks.{right}
-use Rattle.mutex.specs.declared.row.Row.TheVariants as row
-use Rattle.mutex.specs.declared.unlock.UnlockRow.TheVariants.{Release}
-use Rattle.mutex.specs.declared.phase.Phase.{Phase}
-use Rattle.mutex.specs.declared.phase.Phase.TheVariants.{Announcing, AtCell, Linking, Unlinking, Clearing, Ended}
-use Rattle.mutex.specs.Calls.{mutex_of}
-use Rattle.mutex.specs.Standings.{Whole}
-use Rattle.mutex.specs.Laws.{Sound}
-use Rattle.mutex.proofs.Steps.{carries}
-use Rattle.protocol.specs.declared.thread.Thread.{Thread}
-use Rattle.protocol.specs.declared.thread.Stage.{Stage}
-use Rattle.protocol.specs.declared.thread.Stage.TheVariants.{Idle, Calling, Dying, Reaped}
-use Rattle.protocol.specs.Machine.{State, held_after}
-use Rattle.protocol.specs.Headline.{seen}
+use Rattle.mutex.specs.declared.phase.Phase.TheVariants.{Announcing, Unlinking, Ended}
+use Rattle.condvar.specs.Calls.{operation_of}
 use Rattle.keys.proofs.Objects.{others_keep}
 use Rattle.protocol.proofs.Puts.{by_put}
-use Rattle.protocol.proofs.Objects.{one, IsCalled, mine, others, owners}
+use Rattle.protocol.proofs.Objects.{one, mine, others, owners}
 use Rattle.protocol.proofs.Counts.{held_by-changed, held_by-owns}
-use Rattle.protocol.proofs.Kept.{InPhase, Fits, Sits, Owned, ChainedIn, Chained, left_out, Walks, Left, LeftOf, LeftIn, LeftFrom, Treats, Mourns, Listed, PendsAs, HasHead, Kept}
+use Rattle.protocol.proofs.Kept.{InPhase, Fits, AtPhase, FitsAt, ChainedAt, Sits, Owned, ChainedIn, Chained, left_out, Walks, Left, LeftOf, LeftIn, LeftFrom, Treats, Mourns, Listed, PendsAs, HasHead, Kept}
 use Rattle.protocol.proofs.Places.{IsMine, list_is_mine, both_same, behind}
 use Rattle.protocol.proofs.Steps.{Tells, unmoved, seen-inside, done}
 
 -- what a call needs of its mutex stays, where that stays as long as the call's thread owns it
 in_phase_carries : (u held : ℕ) (q : Whole) (f : Phase) (o n : Object) → (o.owner ≡ Some u → n ≡ o) → InPhase u held q f o → InPhase u held q f n
-in_phase_carries u held q (Announcing r) o n same (a, is) = (record { going = a.going; knows = a.knows; expects = carries u r o n same a.expects; of = a.of; room = a.room }, is)
-in_phase_carries u held q (AtCell r) o n same a = record { going = a.going; knows = a.knows; expects = carries u r o n same a.expects; of = a.of; room = a.room }
-in_phase_carries u held q (Linking l x) o n same a = (a.0, a.1, a.2, subst (λ (z : Object). z.owner ≡ Some u) (sym (same a.3)) a.3)
-in_phase_carries u held q (Unlinking v d) o n same a = (a.0, a.1, a.2, a.3, carries u (row.Unlock (Release d)) o n same a.4)
-in_phase_carries u held q (Clearing x) o n same a = tt
-in_phase_carries u held q (Ended x) o n same a = a
+in_phase_carries u held q f o n same a = grind (arith)
 
 -- whoever may take one more owns 2,048 at most then
 held_few : (held : ℕ) (op : Operation) (x : Reply) → held ≤ 2048 → (acquires op ≡ true → held < 2048) → held_after held op (Some x) ≤ 2048
-held_few held operation.Lock OK few may = let less = may refl in omega arith
-held_few held operation.Lock EOWNERDEAD few may = let less = may refl in omega arith
-held_few held operation.Lock x few may = few
-held_few held operation.TryLock OK few may = let less = may refl in omega arith
-held_few held operation.TryLock EOWNERDEAD few may = let less = may refl in omega arith
-held_few held operation.TryLock x few may = few
-held_few held operation.Unlock OK few may = omega arith
-held_few held operation.Death OK few may = omega arith
-held_few held op x few may = few
+held_few held op x few may = grind (arith)
 
 -- a word that is as it was, or has WAITERS too
 abbrev pub OnlyWaitsFrom : ℕ → ℕ → Type 0
@@ -97,13 +62,20 @@ marks_own s u k at v again is treats first most owner only =
     go (inl same) = ap (λ (x : ℕ). (fields_of x).owner) same ∙ owner
     go (inr set) = ap (λ (x : ℕ). (fields_of x).owner) set ∙ ap (λ (c : Fields). c.owner) (fields_of-waiting v) ∙ owner
 
+-- what a call on a condition variable needs of its mutex's cell stays, where that stays as long as the call's thread owns it, but that WAITERS may be set
+abbrev pub StaysFor : ℕ → Fields → Fields → Type 0
+StaysFor u c d = c.owner ≡ u → (d ≡ c) ⊎ (d ≡ waiting c)
+
+-- so its call stays as it is to be
+at_phase_carries : (u held : ℕ) (op : Operation) (q : CondWhole) (f : CondPhase) (c d : Fields) → StaysFor u c d → AtPhase u held op q f c → AtPhase u held op q f d
+at_phase_carries u held op q f c d stays a = grind (arith)
+
 -- what a walk's row knows
 pub knows_at : (u : ℕ) (w : walks.Standing) → Walks u w → exit.Knows u (head_place u) w.row
 knows_at u w f = subst (λ (z : ℕ × ℕ). exit.Knows z.0 z.1 w.row) (λ i. (f.mine i, f.head i)) f.knows
 
 -- one access of thread t, to a mutex m or to its own words: what it tells of m; it leaves the words that others own, and sets WAITERS at most in their cells
 module _ (s : State) (t m : ℕ) (a : Access) (th : Thread) (op : Operation) (point : Option Reply) (inv : Kept s) (pos : 1 ≤ t) (known : t ≤ s.layout.threads) (inside : m < s.layout.mutexes)
-    (called : IsCalled op)
     (far : (k : ℕ) → k ≢ m → seen (done s t a th) k ≡ seen s k)
     (tells : Tells t (seen s m) op point (seen (done s t a th) m))
     (counts : th.held ≡ held_after (s.threads t).held op point)
@@ -132,7 +104,7 @@ module _ (s : State) (t m : ℕ) (a : Access) (th : Thread) (op : Operation) (po
     where
       here : (x : Option Reply) → Tells t (seen s m) op x (seen s' m) → (seen s' m).owner ≡ Some u → (seen s m).owner ≡ Some u
       here None same own = sym (ap (λ (z : Object). z.owner) same) ∙ own
-      here (Some x) permits own = ⊎_elim (λ before. before) (λ is. absurd (apart (sym is))) (owners (seen s m) (seen s' m) t u op x called permits own)
+      here (Some x) permits own = ⊎_elim (λ before. before) (λ is. absurd (apart (sym is))) (owners (seen s m) (seen s' m) t u op x permits own)
 
       go : (b : Bool) → (k == m) ≡ b → (seen s k).owner ≡ Some u
       go true e = let is : k ≡ m = eqb-true k m e in subst (λ (j : ℕ). (seen s j).owner ≡ Some u) (sym is) (here point tells (sym (ap (λ (j : ℕ). (seen s' j).owner) is) ∙ own))
@@ -142,7 +114,6 @@ module _ (s : State) (t m : ℕ) (a : Access) (th : Thread) (op : Operation) (po
   fits_theirs : (u : ℕ) → t ≢ u → (held k : ℕ) (q : Whole) → Fits s u held k q → Fits s' u held k q
   fits_theirs u apart held k q f = record {
     mine = f.mine;
-    called = f.called;
     inside = f.inside;
     head = f.head;
     entry = f.entry;
@@ -150,11 +121,29 @@ module _ (s : State) (t m : ℕ) (a : Access) (th : Thread) (op : Operation) (po
     stands = in_phase_carries u held q q.phase (seen s k) (seen s' k) (keeps_theirs u k apart) f.stands;
   }
 
-  theirs : (u : ℕ) → t ≢ u → (held : ℕ) (g : Stage) → Sits s u held g → Sits s' u held g
-  theirs u apart held Idle f = tt
-  theirs u apart held (Dying w) f = f
-  theirs u apart held Reaped f = tt
-  theirs u apart held (Calling d q) (f, serves) = (fits_theirs u apart held (mutex_of d) q f, serves)
+  cell_stays : (u : ℕ) → 1 ≤ u → u ≤ s.layout.threads → t ≢ u → (k : ℕ) → k < s.layout.mutexes → StaysFor u (fields_of (s.words (cell_place s.layout k))) (fields_of (s'.words (cell_place s.layout k)))
+  cell_stays u first most apart k below own =
+      ⊎_elim (λ same. inl (ap fields_of same)) (λ set. inr (ap fields_of set ∙ fields_of-waiting (s.words (cell_place s.layout k))))
+      (waits u k first most apart below (ap (λ (z : Object). z.owner) (seen-inside s k below) ∙ ap owner_of own ∙ owner_of-some u first))
+
+  fits_at_theirs : (u : ℕ) → 1 ≤ u → u ≤ s.layout.threads → t ≢ u → (held : ℕ) (d : CondCall) (q : CondWhole) → FitsAt s u held d q → FitsAt s' u held d q
+  fits_at_theirs u first most apart held d q f = record {
+    mine = f.mine;
+    inside = f.inside;
+    there = f.there;
+    head = f.head;
+    entry = f.entry;
+    cell = f.cell;
+    counter = f.counter;
+    stands = at_phase_carries u held (operation_of d) q q.phase _ _ (cell_stays u first most apart (mutex_of s.layout (OnCondition d)) f.inside) f.stands;
+  }
+
+  theirs : (u : ℕ) → 1 ≤ u → u ≤ s.layout.threads → t ≢ u → (held : ℕ) (g : Stage) → Sits s u held g → Sits s' u held g
+  theirs u first most apart held Idle f = tt
+  theirs u first most apart held (Dying w) f = f
+  theirs u first most apart held Reaped f = tt
+  theirs u first most apart held (Calling d q) (f, serves) = (fits_theirs u apart held (mutex_of s.layout d) q f, serves)
+  theirs u first most apart held (AtCondition d q) f = fits_at_theirs u first most apart held d q f
 
   their_entries : (u : ℕ) (out : Option ℕ) (es : List ℕ) → t ≢ u → Owned s u out es → Owned s' u out es
   their_entries u out es apart owned = record {
@@ -177,12 +166,20 @@ module _ (s : State) (t m : ℕ) (a : Access) (th : Thread) (op : Operation) (po
     their_chain held Idle f ch = both_same s.words s'.words (head_place u) es agree ch
     their_chain held (Dying w) f ch = both_same s.words s'.words (head_place u) es agree ch
     their_chain held Reaped f ch = both_same s.words s'.words (head_place u) es agree ch
+    their_chain held (AtCondition d q) f ch = by_phase q.phase ch
+      where
+        by_phase : (h : CondPhase) → ChainedAt s.words (head_place u) q.entry es h → ChainedAt s'.words (head_place u) q.entry es h
+        by_phase (CondPhase.AtWords r) ch = both_same s.words s'.words (head_place u) es agree ch
+        by_phase (CondPhase.Announcing x) ch = both_same s.words s'.words (head_place u) es agree ch
+        by_phase (CondPhase.Unlinking v x) ch = right.others (head_place u) q.entry es v.row s.words s'.words agree ch
+        by_phase (CondPhase.Locking v) ch = both_same s.words s'.words (head_place u) es agree ch
+        by_phase (CondPhase.Ended x) ch = both_same s.words s'.words (head_place u) es agree ch
     their_chain held (Calling d q) (f, serves) ch = by_phase q.phase f.stands ch
       where
-        by_phase : (h : Phase) → InPhase u held q h (seen s (mutex_of d)) → ChainedIn s.words (head_place u) q.entry es h → ChainedIn s'.words (head_place u) q.entry es h
+        by_phase : (h : Phase) → InPhase u held q h (seen s (mutex_of s.layout d)) → ChainedIn s.words (head_place u) q.entry es h → ChainedIn s'.words (head_place u) q.entry es h
         by_phase (Announcing r) a ch = both_same s.words s'.words (head_place u) es agree ch
         by_phase (AtCell r) a ch = both_same s.words s'.words (head_place u) es agree ch
-        by_phase (Linking l x) a ch = links.others (head_place u) q.entry es l.row s.words s'.words (agree_more q.entry (mutex_of d) f.inside f.entry a.3) ch
+        by_phase (Linking l x) a ch = links.others (head_place u) q.entry es l.row s.words s'.words (agree_more q.entry (mutex_of s.layout d) f.inside f.entry a.3) ch
         by_phase (Unlinking v x) a ch = right.others (head_place u) q.entry es v.row s.words s'.words agree ch
         by_phase (Clearing x) a ch = both_same s.words s'.words (head_place u) es agree ch
         by_phase (Ended x) a ch = absurd a
@@ -203,8 +200,8 @@ module _ (s : State) (t m : ℕ) (a : Access) (th : Thread) (op : Operation) (po
     their_rest r treated (es, l, offset, few) = (es, their_left r.entry r.pending es treated l, offset, few)
 
     their_part : (rest : walk_part.Part) (treated : Option ℕ) → LeftIn s u rest treated → LeftIn s' u rest treated
-    their_part (part.List r) treated l = their_rest r treated l
-    their_part part.Pending treated l = λ k below own. l k below (owned_before u k apart own)
+    their_part (Part.List r) treated l = their_rest r treated l
+    their_part Part.Pending treated l = λ k below own. l k below (owned_before u k apart own)
 
     their_from : (e : ℕ) → LeftFrom s u e → LeftFrom s' u e
     their_from e (es, l, few) = (es, subst (λ (p : ℕ). Left s' u e p es None) (sym (spares u (head_place u + 2) first most apart (inr (inl refl)))) (their_left e (s.words (head_place u + 2)) es None l), few)
@@ -227,7 +224,9 @@ module _ (s : State) (t m : ℕ) (a : Access) (th : Thread) (op : Operation) (po
 
   their_list : (u : ℕ) → 1 ≤ u → u ≤ s.layout.threads → t ≢ u → (held : ℕ) (g : Stage) → Sits s u held g → Listed s u g → Listed s' u g
   their_list u first most apart held Idle f (es, owned, ch) = (es, their_entries u None es apart owned, their_chain u first most apart None es owned held Idle f ch)
-  their_list u first most apart held (Calling c p) f (es, owned, ch) = (es, their_entries u (left_out (Calling c p)) es apart owned, their_chain u first most apart (left_out (Calling c p)) es owned held (Calling c p) f ch)
+  their_list u first most apart held (Calling o p) f (es, owned, ch) = (es, their_entries u (left_out s.layout (Calling o p)) es apart owned, their_chain u first most apart (left_out s.layout (Calling o p)) es owned held (Calling o p) f ch)
+  their_list u first most apart held (AtCondition c p) f (es, owned, ch) =
+      (es, their_entries u (left_out s.layout (AtCondition c p)) es apart owned, their_chain u first most apart (left_out s.layout (AtCondition c p)) es owned held (AtCondition c p) f ch)
   their_list u first most apart held (Dying w) f l = their_walk u first most apart w.row (knows_at u w f) l
   their_list u first most apart held Reaped f none = λ k own. none k (owned_before u k apart own)
 
@@ -246,12 +245,12 @@ module _ (s : State) (t m : ℕ) (a : Access) (th : Thread) (op : Operation) (po
       let c = count t in
       let h = inv.held t pos known in
       let within = held_by-owns t s.layout.mutexes m (seen s) inside in
-      let moves = mine (seen s m) (seen s' m) t (s.threads t).held op x called (omega arith) permits in
+      let moves = mine (seen s m) (seen s' m) t (s.threads t).held op x (omega arith) permits in
       omega arith
 
   owns_theirs : (u : ℕ) → t ≢ u → (x : Option Reply) → Tells t (seen s m) op x (seen s' m) → held_by u (seen s') s.layout.mutexes ≡ held_by u (seen s) s.layout.mutexes
   owns_theirs u apart None same = let c = count u in let as_before : one u (seen s' m) ≡ one u (seen s m) = ap (one u) same in omega arith
-  owns_theirs u apart (Some x) permits = let c = count u in let as_before = others (seen s m) (seen s' m) t u op x called apart permits in omega arith
+  owns_theirs u apart (Some x) permits = let c = count u in let as_before = others (seen s m) (seen s' m) t u op x apart permits in omega arith
 
   held' : (u : ℕ) → 1 ≤ u → u ≤ s.layout.threads → (s'.threads u).held ≡ held_by u (seen s') s.layout.mutexes
   held' u first most =
@@ -287,7 +286,7 @@ module _ (s : State) (t m : ℕ) (a : Access) (th : Thread) (op : Operation) (po
     sits = λ u first most.
         by_put (λ (z : Thread). Sits s' u z.held z.stage) s.threads t th u
         (λ is. subst (λ (v : ℕ). Sits s' v th.held th.stage) (sym is) sits)
-        (λ apart. theirs u (λ e. apart (sym e)) (s.threads u).held (s.threads u).stage (inv.sits u first most));
+        (λ apart. theirs u first most (λ e. apart (sym e)) (s.threads u).held (s.threads u).stage (inv.sits u first most));
     listed = λ u first most.
         by_put (λ (z : Thread). Listed s' u z.stage) s.threads t th u
         (λ is. subst (λ (v : ℕ). Listed s' v th.stage) (sym is) listed)

@@ -1,40 +1,28 @@
 -- What holds of every state of the machine.
-use Rattle.std.proofs.Common.{◌≡◌, ◌≢◌, ◌⊎◌, ℕ, ◌+◌, ◌<◌, ◌≤◌, true, Option, Some, None, List, ◌∷◌, length}
-use Rattle.keys.specs.declared.object.Object.{Object}
-use Rattle.keys.specs.declared.point.Operation.{Operation}
-use Rattle.keys.specs.declared.point.Operation.TheVariants.{Unlock}
+use Rattle.std.proofs.Common.{◌≡◌, ◌≢◌, ◌⊎◌, ℕ, ◌+◌, ◌<◌, ◌≤◌, true, false, Option, Some, None, List, ◌∷◌, length}
+use Rattle.protocol.proofs.Vocabulary.{CondCall, CondRow, CondPhase, CondWhole, OnlyWaits, Object, Operation, AreDifferent, Leads, IsChainBothWays, Layout', IsLayout, head_place}
+use Rattle.protocol.proofs.Vocabulary.{entry_place, cell_place, counter_place, acquires, held_by, Fields, fields_of, Load, Release, Phase, AtCell, Linking, Clearing, Whole}
+use Rattle.protocol.proofs.Vocabulary.{Expects, Sound, Op, OnMutex, OnCondition, Stage, Idle, Calling, AtCondition, Dying, Reaped, mutex_of, State, seen, LinkGoes, UnlinkGoes}
+use Rattle.protocol.proofs.Vocabulary.{Part, WaitRow, SignalRow, BroadcastRow}
+use Rattle.keys.specs.declared.point.Operation.TheVariants.{Lock, Unlock, Wait}
 use Rattle.exitwalk.specs.declared.row.Row as walk_row
 use Rattle.exitwalk.specs.declared.row.Rest as walk_rest
 use Rattle.exitwalk.specs.declared.row.Part as walk_part
 use Rattle.exitwalk.specs.declared.row.Row.TheVariants as walk
-use Rattle.exitwalk.specs.declared.row.Part.TheVariants as part
 use Rattle.exitwalk.specs.Standings as walks
 use Rattle.exitwalk.specs.Walks as exit
-use Rattle.exitwalk.specs.Steps.{OnlyWaits}
-use Rattle.keys.specs.Chains.{IsAmong, AreDifferent, Leads, IsChainBothWays}
-use Rattle.keys.specs.Layouts.{IsLayout, head_place, entry_place, cell_place}
-use Rattle.keys.specs.Objects.{acquires}
-use Rattle.keys.specs.Histories.{held_by}
-use Rattle.robustlist.specs.Link.{LinkGoes}
-use Rattle.robustlist.specs.Unlink.{UnlinkGoes}
+use Rattle.keys.specs.Chains.{IsAmong}
 use Rattle.robustlist.specs.LinkLaws as link_laws
 use Rattle.robustlist.specs.UnlinkLaws as unlink_laws
-use Rattle.mutex.specs.declared.call.Call.{Call}
 use Rattle.mutex.specs.declared.row.Row.{Row}
 use Rattle.mutex.specs.declared.row.Row.TheVariants as row
-use Rattle.mutex.specs.declared.unlock.UnlockRow.TheVariants.{Load, Release}
-use Rattle.mutex.specs.declared.phase.Phase.{Phase}
-use Rattle.mutex.specs.declared.phase.Phase.TheVariants.{Announcing, AtCell, Linking, Unlinking, Clearing, Ended}
-use Rattle.mutex.specs.Calls.{mutex_of, operation_of}
+use Rattle.mutex.specs.declared.phase.Phase.TheVariants.{Announcing, Unlinking, Ended}
+use Rattle.mutex.specs.Calls as calls
 use Rattle.mutex.specs.Rows.{Knows, IsGoing}
-use Rattle.mutex.specs.Standings.{Whole}
 use Rattle.mutex.specs.Programs.{row_operation}
-use Rattle.mutex.specs.Laws.{Expects, Sound}
-use Rattle.protocol.specs.declared.thread.Stage.{Stage}
-use Rattle.protocol.specs.declared.thread.Stage.TheVariants.{Idle, Calling, Dying, Reaped}
-use Rattle.protocol.specs.Machine.{State}
-use Rattle.protocol.specs.Headline.{seen}
-use Rattle.protocol.proofs.Objects.{IsCalled}
+use Rattle.condvar.specs.Calls as conditions
+use Rattle.condvar.specs.Rows as cond_rows
+use Rattle.condvar.specs.Laws as cond_laws
 
 -- ---- calls in progress
 
@@ -65,16 +53,68 @@ InPhase t held p (Ended x) o = ⊥
 -- its program is on its thread's list and mutex m's words
 pub record Fits (s : State) (t held m : ℕ) (p : Whole) : Type 0 where
   pub mine : p.thread ≡ t
-  pub called : IsCalled p.operation
   pub inside : m < s.layout.mutexes
   pub head : p.head ≡ head_place t
   pub entry : p.entry ≡ entry_place s.layout m
   pub cell : p.cell ≡ cell_place s.layout m
   pub stands : InPhase t held p p.phase (seen s m)
 
--- it does what the call is to do
-abbrev pub Serves : Call → Whole → Type 0
-Serves c p = p.operation ≡ operation_of c
+-- it does what the call is to do; in a wait it is the lock that ends it
+abbrev pub IsFor : Layout' → Op → Operation → Type 0
+IsFor l (OnMutex c) op = op ≡ calls.operation_of c
+IsFor l (OnCondition c) op = (op ≡ Lock) × (conditions.operation_of c ≡ Wait) × (conditions.condition_of c < length l.conditions)
+
+abbrev pub Serves : Layout' → Op → Whole → Type 0
+Serves l o p = IsFor l o p.operation
+
+-- ---- calls on condition variables in progress
+
+-- what such a call needs of its mutex's cell at row r: that its thread owns the mutex; to release it, that it is consistent; and to move sleepers there, that WAITERS is set
+abbrev pub Needs : ℕ → CondRow → Fields → Type 0
+Needs t (CondRow.Wait WaitRow.LoadCounter) c = (c.owner ≡ t) × (c.died ≡ false)
+Needs t (CondRow.Wait (WaitRow.Release seen)) c = (c.owner ≡ t) × (c.died ≡ false)
+Needs t (CondRow.Signal SignalRow.LoadCounter) c = c.owner ≡ t
+Needs t (CondRow.Signal SignalRow.Count) c = c.owner ≡ t
+Needs t (CondRow.Signal SignalRow.Wake) c = c.owner ≡ t
+Needs t (CondRow.Broadcast BroadcastRow.LoadCounter) c = c.owner ≡ t
+Needs t (CondRow.Broadcast (BroadcastRow.Count seen)) c = c.owner ≡ t
+Needs t (CondRow.Broadcast (BroadcastRow.SetWaiters seen)) c = c.owner ≡ t
+Needs t (CondRow.Broadcast (BroadcastRow.Move seen)) c = (c.owner ≡ t) × (c.waiters ≡ true)
+Needs t r c = Unit {0}
+
+-- a wait that has released its mutex will take it again
+abbrev pub Room : ℕ → CondRow → Type 0
+Room held (CondRow.Wait (WaitRow.Wake seen)) = held < 2048
+Room held (CondRow.Wait (WaitRow.Sleep seen)) = held < 2048
+Room held CondRow.Awake = held < 2048
+Room held r = Unit {0}
+
+-- a call of thread t at row r
+pub record AtWordsRow (t held : ℕ) (op : Operation) (r : CondRow) (c : Fields) : Type 0 where
+  pub going : cond_rows.IsGoing r
+  pub of : cond_laws.row_operation r ≡ op
+  pub needs : Needs t r c
+  pub room : Room held r
+
+-- in its phase
+abbrev pub AtPhase : ℕ → ℕ → Operation → CondWhole → CondPhase → Fields → Type 0
+AtPhase t held op p (CondPhase.AtWords r) c = AtWordsRow t held op r c
+AtPhase t held op p (CondPhase.Announcing seen) c = (op ≡ Wait) × Needs t (CondRow.Wait (WaitRow.Release seen)) c
+AtPhase t held op p (CondPhase.Unlinking u seen) c = (op ≡ Wait) × (u.head ≡ p.head) × (u.entry ≡ p.entry) × UnlinkGoes u.row × Needs t (CondRow.Wait (WaitRow.Release seen)) c
+AtPhase t held op p f c = ⊥
+
+-- it is on its thread's list and on the words of its condition variable and of that one's mutex
+pub record FitsAt (s : State) (t held : ℕ) (c : CondCall) (p : CondWhole) : Type 0 where
+  pub mine : p.thread ≡ t
+  pub inside : mutex_of s.layout (OnCondition c) < s.layout.mutexes
+  pub there : conditions.condition_of c < length s.layout.conditions
+  pub head : p.head ≡ head_place t
+  pub entry : p.entry ≡ entry_place s.layout (mutex_of s.layout (OnCondition c))
+  pub cell : p.cell ≡ cell_place s.layout (mutex_of s.layout (OnCondition c))
+  pub counter : p.counter ≡ counter_place s.layout (conditions.condition_of c)
+  pub stands : AtPhase t held (conditions.operation_of c) p p.phase (fields_of (s.words (cell_place s.layout (mutex_of s.layout (OnCondition c)))))
+
+-- ---- stages
 
 -- a walk over thread t's list
 pub record Walks (t : ℕ) (w : walks.Standing) : Type 0 where
@@ -85,7 +125,8 @@ pub record Walks (t : ℕ) (w : walks.Standing) : Type 0 where
 
 abbrev pub Sits : State → ℕ → ℕ → Stage → Type 0
 Sits s t held Idle = Unit {0}
-Sits s t held (Calling c p) = Fits s t held (mutex_of c) p × Serves c p
+Sits s t held (Calling o p) = Fits s t held (mutex_of s.layout o) p × Serves s.layout o p
+Sits s t held (AtCondition c p) = FitsAt s t held c p
 Sits s t held (Dying w) = Walks t w
 Sits s t held Reaped = Unit {0}
 
@@ -97,9 +138,14 @@ left_out_in m (AtCell (row.Unlock (Release d))) = Some m
 left_out_in m (Linking l x) = Some m
 left_out_in m f = None
 
-abbrev pub left_out : Stage → Option ℕ
-left_out (Calling c p) = left_out_in (mutex_of c) p.phase
-left_out g = None
+abbrev pub left_out_at : ℕ → CondPhase → Option ℕ
+left_out_at m (CondPhase.AtWords (CondRow.Wait (WaitRow.Release seen))) = Some m
+left_out_at m f = None
+
+abbrev pub left_out : Layout' → Stage → Option ℕ
+left_out l (Calling o p) = left_out_in (mutex_of l o) p.phase
+left_out l (AtCondition c p) = left_out_at (mutex_of l (OnCondition c)) p.phase
+left_out l g = None
 
 -- the entries are those of the mutexes that thread t owns, but for this one
 pub record Owned (s : State) (t : ℕ) (out : Option ℕ) (es : List ℕ) : Type 0 where
@@ -112,8 +158,13 @@ ChainedIn w h e es (Linking l x) = link_laws.Linking h e es l.row w
 ChainedIn w h e es (Unlinking u d) = unlink_laws.Unlinking h e es u.row w
 ChainedIn w h e es f = IsChainBothWays w h es
 
+abbrev pub ChainedAt : (ℕ → ℕ) → ℕ → ℕ → List ℕ → CondPhase → Type 0
+ChainedAt w h e es (CondPhase.Unlinking u seen) = unlink_laws.Unlinking h e es u.row w
+ChainedAt w h e es f = IsChainBothWays w h es
+
 abbrev pub Chained : (ℕ → ℕ) → ℕ → List ℕ → Stage → Type 0
-Chained w t es (Calling c p) = ChainedIn w (head_place t) p.entry es p.phase
+Chained w t es (Calling o p) = ChainedIn w (head_place t) p.entry es p.phase
+Chained w t es (AtCondition c p) = ChainedAt w (head_place t) p.entry es p.phase
 Chained w t es g = IsChainBothWays w (head_place t) es
 
 -- ---- the lists of threads that died
@@ -133,8 +184,8 @@ LeftOf s t r treated = (es : List ℕ) × Left s t r.entry r.pending es treated 
 
 -- behind the list only the pending mutex is left
 abbrev pub LeftIn : State → ℕ → walk_part.Part → Option ℕ → Type 0
-LeftIn s t (part.List r) treated = LeftOf s t r treated
-LeftIn s t part.Pending treated = (k : ℕ) → k < s.layout.mutexes → (seen s k).owner ≡ Some t → treated ≡ Some k
+LeftIn s t (Part.List r) treated = LeftOf s t r treated
+LeftIn s t Part.Pending treated = (k : ℕ) → k < s.layout.mutexes → (seen s k).owner ≡ Some t → treated ≡ Some k
 
 -- the head's words, as the walk will find them
 abbrev pub LeftFrom : State → ℕ → ℕ → Type 0
@@ -159,7 +210,8 @@ abbrev pub Listed : State → ℕ → Stage → Type 0
 Listed s t (Dying w) = Mourns s t w.row
 Listed s t Reaped = (k : ℕ) → (seen s k).owner ≢ Some t
 Listed s t Idle = (es : List ℕ) × Owned s t None es × Chained s.words t es Idle
-Listed s t (Calling c p) = (es : List ℕ) × Owned s t (left_out (Calling c p)) es × Chained s.words t es (Calling c p)
+Listed s t (Calling o p) = (es : List ℕ) × Owned s t (left_out s.layout (Calling o p)) es × Chained s.words t es (Calling o p)
+Listed s t (AtCondition c p) = (es : List ℕ) × Owned s t (left_out s.layout (AtCondition c p)) es × Chained s.words t es (AtCondition c p)
 
 -- ---- pending entries
 
@@ -177,14 +229,23 @@ pending_in e (AtCell r) = pending_at_row e r
 pending_in e (Ended x) = 0
 pending_in e f = e
 
-abbrev pub pending_of : Stage → ℕ
-pending_of (Calling c p) = pending_in p.entry p.phase
-pending_of g = 0
+-- at its words, a wait's: from before it leaves the list
+abbrev pub pending_at_words : ℕ → CondRow → ℕ
+pending_at_words e (CondRow.Wait (WaitRow.Release seen)) = e
+pending_at_words e (CondRow.Wait (WaitRow.Wake seen)) = e
+pending_at_words e (CondRow.Wait (WaitRow.Sleep seen)) = e
+pending_at_words e r = 0
+
+abbrev pub pending_at : ℕ → CondPhase → ℕ
+pending_at e (CondPhase.AtWords r) = pending_at_words e r
+pending_at e (CondPhase.Unlinking u seen) = e
+pending_at e f = 0
 
 -- of a thread that lives
 abbrev pub PendsAs : ℕ → Stage → Type 0
 PendsAs w Idle = w ≡ 0
-PendsAs w (Calling c p) = w ≡ pending_in p.entry p.phase
+PendsAs w (Calling o p) = w ≡ pending_in p.entry p.phase
+PendsAs w (AtCondition c p) = w ≡ pending_at p.entry p.phase
 PendsAs w g = Unit {0}
 
 -- a thread's head has the offset from an entry to its cell, and its pending entry; and it owns so many mutexes at most

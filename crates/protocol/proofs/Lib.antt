@@ -1,4 +1,6 @@
+mod Vocabulary
 pub mod Puts
+mod NoteFacts
 pub mod Phases
 mod Objects
 mod Counts
@@ -16,6 +18,10 @@ pub mod Accesses
 pub mod Walking
 pub mod WalkSteps
 pub mod WalkStepping
+pub mod CondRows
+pub mod CondSteps
+pub mod CondOwn
+pub mod CondAccesses
 pub mod Events
 pub mod Working
 pub mod Queues
@@ -25,10 +31,19 @@ pub mod Runs
 pub mod QueueRuns
 pub mod Reaped
 pub mod Deaths
+pub mod Endings
+pub mod Acts
 mod LineOrder
 pub mod Lives
 pub mod Owed
 pub mod Returning
+pub mod Comings
+pub mod CondAlone
 pub mod Undivided
 pub mod Applying
 pub mod Waking
+pub mod Counters
+pub mod Passing
+pub mod PassedBy
+pub mod Emptied
+pub mod Signalling

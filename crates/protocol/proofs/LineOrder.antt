@@ -1,18 +1,13 @@
 -- In which order the facts of an event, and those of one event after the other, are told.
-use Rattle.std.proofs.Common.{◌≡◌, ℕ, ◌+◌, ◌≤◌, ◌==◌, Bool, true, false, Option, Some, None, List, [], ◌∷◌, ◌++◌, map, refl, sym, ◌∙◌, arith, eqb-true}
-use Rattle.std.specs.Prelude.{if◌then◌else◌}
-use Rattle.std.proofs.lemmas.Bool.{eqb-false}
-use Rattle.lockword.specs.declared.reply.Reply.{Reply}
-use Rattle.mutex.specs.declared.call.Call.{Call}
-use Rattle.facts.specs.declared.fact.Fact.{Fact}
+use Rattle.std.proofs.Common.{◌≡◌, ℕ, ◌+◌, ◌≤◌, ◌==◌, Bool, true, false, Option, Some, None, List, [], ◌∷◌, ◌++◌, map, refl, sym, ◌∙◌, arith}
+use Rattle.protocol.proofs.Vocabulary.{Fact, Queue, Operation, Reply, Stepped, Event, facts_of, sleep_facts, moves_to, return_facts, death_facts, reap_facts, decision, caller}
 use Rattle.facts.specs.declared.fact.Fact.TheVariants.{Wake}
 use Rattle.facts.specs.declared.fact.Line.{Line}
 use Rattle.facts.specs.Facts.{thread_of, decides, is_passive, is_kill}
 use Rattle.facts.specs.Orders.{Later, Each, Orderly}
-use Rattle.protocol.specs.declared.event.Event.{Event}
-use Rattle.protocol.specs.Notes.{line_of, point_facts, sleep_facts, return_facts, death_facts, reap_facts}
-use Rattle.protocol.specs.Machine.{decision}
-use Rattle.protocol.specs.Explained.{caller, caller_of}
+use Rattle.protocol.specs.Notes.{line_of}
+use Rattle.protocol.specs.Explained.{caller_of}
+use Rattle.protocol.proofs.NoteFacts.{IsOfSleep, behind_woken, behind_point, of_access, of_walk}
 
 -- ---- which facts one event may tell, of thread u: no two points, and but for wakes nothing of others
 abbrev pub NoPoint : List Fact → Type 0
@@ -23,43 +18,35 @@ abbrev pub Fine : ℕ → List Fact → Type 0
 Fine u [] = Unit {0}
 Fine u (f ∷ fs) = (is_passive f ≡ false → thread_of f ≡ u) × (decides f ≡ true → NoPoint fs) × Fine u fs
 
-returned_pointless : (u : ℕ) (y : Option Reply) → NoPoint (return_facts u y)
-returned_pointless u None = tt
-returned_pointless u (Some x) = (refl, tt)
+sleep_decides : (u : ℕ) (f : Fact) → IsOfSleep u f → decides f ≡ false
+sleep_decides u f of = grind (arith)
 
-woken_pointless : (u : ℕ) (ws : List ℕ) (y : Option Reply) → NoPoint (map Wake ws ++ return_facts u y)
-woken_pointless u [] y = returned_pointless u y
-woken_pointless u (w ∷ ws) y = (refl, woken_pointless u ws y)
+sleep_thread : (u : ℕ) (f : Fact) → IsOfSleep u f → is_passive f ≡ false → thread_of f ≡ u
+sleep_thread u f of active = grind (arith)
 
-slept_pointless : (u : ℕ) (z : Option ℕ) (ws : List ℕ) (y : Option Reply) → NoPoint (sleep_facts u z ++ (map Wake ws ++ return_facts u y))
-slept_pointless u None ws y = woken_pointless u ws y
-slept_pointless u (Some m) ws y = (refl, woken_pointless u ws y)
+slept_pointless : (u m : ℕ) (z : Option Queue) (ws ms : List ℕ) (y : Option Reply) → NoPoint (sleep_facts u z ++ (map Wake ws ++ (map (moves_to m) ms ++ return_facts u y)))
+slept_pointless u m z ws ms y = behind_point NoPoint u m z ws ms (return_facts u y) (λ f of fs rest. (sleep_decides u f of, rest)) (grind (arith))
 
 returned_fine : (u : ℕ) (y : Option Reply) → Fine u (return_facts u y)
 returned_fine u None = tt
 returned_fine u (Some x) = ((λ e. refl), (λ e. tt), tt)
 
-woken_fine : (u : ℕ) (ws : List ℕ) (y : Option Reply) → Fine u (map Wake ws ++ return_facts u y)
-woken_fine u [] y = returned_fine u y
-woken_fine u (w ∷ ws) y = ((λ e. absurd cc), (λ e. absurd cc), woken_fine u ws y)
+slept_fine : (u m : ℕ) (z : Option Queue) (ws ms : List ℕ) (y : Option Reply) → Fine u (sleep_facts u z ++ (map Wake ws ++ (map (moves_to m) ms ++ return_facts u y)))
+slept_fine u m z ws ms y = behind_point (Fine u) u m z ws ms (return_facts u y) (λ f of fs rest. (sleep_thread u f of, (λ e. absurd (cc (e, sleep_decides u f of))), rest)) (returned_fine u y)
 
-slept_fine : (u : ℕ) (z : Option ℕ) (ws : List ℕ) (y : Option Reply) → Fine u (sleep_facts u z ++ (map Wake ws ++ return_facts u y))
-slept_fine u None ws y = woken_fine u ws y
-slept_fine u (Some m) ws y = ((λ e. refl), (λ e. absurd cc), woken_fine u ws y)
-
-pub access_fine : (u : ℕ) (c : Call) (x : Option Reply) (z : Option ℕ) (ws : List ℕ) (y : Option Reply) → Fine u (point_facts (decision u c x) ++ (sleep_facts u z ++ (map Wake ws ++ return_facts u y)))
-access_fine u c None z ws y = slept_fine u z ws y
-access_fine u c (Some x) z ws y = ((λ e. refl), (λ e. slept_pointless u z ws y), slept_fine u z ws y)
+pub access_fine : (u m : ℕ) (op : Operation) (x : Option Reply) (z : Option Queue) (ws ms : List ℕ) (y : Option Reply) → Fine u (facts_of (Stepped u m (decision u m op x) z ws ms y))
+access_fine u m op None z ws ms y = slept_fine u m z ws ms y
+access_fine u m op (Some x) z ws ms y = ((λ e. refl), (λ e. slept_pointless u m z ws ms y), slept_fine u m z ws ms y)
 
 reaped_pointless : (u : ℕ) (ws : List ℕ) (y : Bool) → NoPoint (map Wake ws ++ reap_facts u y)
-reaped_pointless u [] false = tt
-reaped_pointless u [] true = (refl, tt)
-reaped_pointless u (w ∷ ws) y = (refl, reaped_pointless u ws y)
+reaped_pointless u ws y = behind_woken NoPoint ws (reap_facts u y) (λ w fs rest. (refl, rest)) (grind (arith))
 
 reaped_fine : (u : ℕ) (ws : List ℕ) (y : Bool) → Fine u (map Wake ws ++ reap_facts u y)
-reaped_fine u [] false = tt
-reaped_fine u [] true = ((λ e. refl), (λ e. tt), tt)
-reaped_fine u (w ∷ ws) y = ((λ e. absurd cc), (λ e. absurd cc), reaped_fine u ws y)
+reaped_fine u ws y = behind_woken (Fine u) ws (reap_facts u y) (λ w fs rest. ((λ e. absurd cc), (λ e. absurd cc), rest)) (reap_fine y)
+  where
+    reap_fine : (b : Bool) → Fine u (reap_facts u b)
+    reap_fine false = tt
+    reap_fine true = ((λ e. refl), (λ e. tt), tt)
 
 pub walked_fine : (u : ℕ) (d : Option ℕ) (ws : List ℕ) (y : Bool) → Fine u (death_facts u d ++ (map Wake ws ++ reap_facts u y))
 walked_fine u None ws y = reaped_fine u ws y
@@ -97,30 +84,14 @@ beside : (f : Fact) (fs : List Fact) → KillsAlone (f ∷ fs) → Beside f fs
 beside f [] alone = tt
 beside f (g ∷ fs) alone = no_kill_beside f alone.0 (g ∷ fs) alone.1
 
-returned_no_kill : (u : ℕ) (y : Option Reply) → NoKill (return_facts u y)
-returned_no_kill u None = tt
-returned_no_kill u (Some x) = (refl, tt)
+sleep_no_kill : (u : ℕ) (f : Fact) → IsOfSleep u f → is_kill f ≡ false
+sleep_no_kill u f of = grind (arith)
 
-woken_no_kill : (u : ℕ) (ws : List ℕ) (y : Option Reply) → NoKill (map Wake ws ++ return_facts u y)
-woken_no_kill u [] y = returned_no_kill u y
-woken_no_kill u (w ∷ ws) y = (refl, woken_no_kill u ws y)
-
-slept_no_kill : (u : ℕ) (z : Option ℕ) (ws : List ℕ) (y : Option Reply) → NoKill (sleep_facts u z ++ (map Wake ws ++ return_facts u y))
-slept_no_kill u None ws y = woken_no_kill u ws y
-slept_no_kill u (Some m) ws y = (refl, woken_no_kill u ws y)
-
-pub access_no_kill : (u : ℕ) (c : Call) (x : Option Reply) (z : Option ℕ) (ws : List ℕ) (y : Option Reply) → NoKill (point_facts (decision u c x) ++ (sleep_facts u z ++ (map Wake ws ++ return_facts u y)))
-access_no_kill u c None z ws y = slept_no_kill u z ws y
-access_no_kill u c (Some x) z ws y = (refl, slept_no_kill u z ws y)
-
-reaped_no_kill : (u : ℕ) (ws : List ℕ) (y : Bool) → NoKill (map Wake ws ++ reap_facts u y)
-reaped_no_kill u [] false = tt
-reaped_no_kill u [] true = (refl, tt)
-reaped_no_kill u (w ∷ ws) y = (refl, reaped_no_kill u ws y)
+pub access_no_kill : (u m : ℕ) (op : Operation) (x : Option Reply) (z : Option Queue) (ws ms : List ℕ) (y : Option Reply) → NoKill (facts_of (Stepped u m (decision u m op x) z ws ms y))
+access_no_kill u m op x z ws ms y = of_access NoKill u m (decision u m op x) z ws ms y (λ e fs rest. (refl, rest)) (λ f of fs rest. (sleep_no_kill u f of, rest)) (grind (arith))
 
 pub walked_no_kill : (u : ℕ) (d : Option ℕ) (ws : List ℕ) (y : Bool) → NoKill (death_facts u d ++ (map Wake ws ++ reap_facts u y))
-walked_no_kill u None ws y = reaped_no_kill u ws y
-walked_no_kill u (Some m) ws y = (refl, reaped_no_kill u ws y)
+walked_no_kill u d ws y = of_walk NoKill u d ws y (λ m fs rest. (refl, rest)) (λ w fs rest. (refl, rest)) (grind (arith))
 
 -- ---- the order of lines
 
@@ -135,19 +106,11 @@ each P Q go (l ∷ ls) all = (go l all.0, each P Q go ls all.1)
 
 -- the first of the events is its caller's
 caller_of-first : (i : ℕ) (e : Event) (es : List Event) → caller_of i (e ∷ es) i ≡ caller e
-caller_of-first i e es = go (i == i) refl
-  where
-    go : (b : Bool) → (i == i) ≡ b → (if b then caller e else caller_of (i + 1) es i) ≡ caller e
-    go true is = refl
-    go false is = absurd (eqb-false i i is refl)
+caller_of-first i e es = grind (arith)
 
 -- a line of a later event is called among all of them too
 called_later : (i : ℕ) (e : Event) (es : List Event) (l : Line) → Called (i + 1) es l → Called i (e ∷ es) l
-called_later i e es l c = (let at = c.0 in omega arith, λ own. c.1 own ∙ go (l.event == i) refl)
-  where
-    go : (b : Bool) → (l.event == i) ≡ b → caller_of (i + 1) es l.event ≡ (if b then caller e else caller_of (i + 1) es l.event)
-    go true is = absurd (let same : l.event ≡ i = eqb-true l.event i is in let at = c.0 in omega arith)
-    go false is = refl
+called_later i e es l c = grind (arith)
 
 -- lines that are in order, and of events from i on
 abbrev pub InOrder : ℕ → List Event → List Line → Type 0

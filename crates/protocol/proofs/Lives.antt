@@ -1,124 +1,85 @@
 -- What each event adds to its thread's life, and that its lines are in order.
-use Rattle.std.proofs.Common.{◌≡◌, ◌≢◌, ℕ, ◌+◌, ◌≤◌, ◌==◌, Bool, true, false, ◌&&◌, Option, Some, None, Ok, Err, List, [], ◌∷◌, ◌++◌, map, refl, sym, ap, ◌∙◌, subst, eqb-true}
-use Rattle.std.specs.Prelude.{if◌then◌else◌, MatchBool}
-use Rattle.std.proofs.lemmas.Bool.{eqb-false}
-use Rattle.lockword.specs.declared.reply.Reply.{Reply}
-use Rattle.lockword.specs.declared.reply.Reply.TheVariants.{OK, XHELD}
-use Rattle.keys.specs.declared.point.Operation.{Operation}
-use Rattle.mutex.specs.declared.call.Call.{Call}
-use Rattle.mutex.specs.declared.call.Call.TheVariants as call
-use Rattle.mutex.specs.Calls.{operation_of}
-use Rattle.mutex.specs.declared.phase.Phase.{Phase}
-use Rattle.mutex.specs.declared.phase.Phase.TheVariants.{Announcing, AtCell, Linking, Unlinking, Clearing, Ended}
-use Rattle.mutex.specs.Standings.{Whole}
-use Rattle.mutex.specs.Whole.{begins, first_phase, whole_access, whole_led}
-use Rattle.mutex.specs.Laws.{Joins}
-use Rattle.protocol.specs.declared.event.Event.{Event}
-use Rattle.protocol.specs.declared.thread.Thread.{Thread}
-use Rattle.protocol.specs.declared.thread.Stage.{Stage}
-use Rattle.protocol.specs.declared.thread.Stage.TheVariants.{Idle, Calling, Dying, Reaped}
-use Rattle.facts.specs.declared.fact.Fact.{Fact}
-use Rattle.facts.specs.declared.fact.Fact.TheVariants.{Begin, Point, Wake, Return, Kill, Death, Reap}
-use Rattle.protocol.specs.declared.note.Note.{Note}
-use Rattle.protocol.specs.declared.note.Note.TheVariants.{Nothing, Began, Stepped, Killed, Walked}
+use Rattle.std.proofs.Common.{◌≡◌, ◌≢◌, inl, inr, append-nil, ℕ, ◌+◌, ◌≤◌, ◌==◌, Bool, true, false, ◌&&◌, Option, Some, None, Ok, Err, List, [], ◌∷◌, ◌++◌, map, refl, sym, ap, ◌∙◌, subst, eqb-true, arith}
+use Rattle.protocol.proofs.Vocabulary.{CondCall, condition_of, CondWhole, cond_access, cond_led, Begun, Queue, Mutex, Condition, Fact, Return, Operation, Access, Answer, Layout'}
+use Rattle.protocol.proofs.Vocabulary.{Reply, XHELD, Whole, whole_access, whole_led, Op, OnCondition, mutex_of, begun_of, Event, Thread, Stage, Idle, Calling, AtCondition, Dying}
+use Rattle.protocol.proofs.Vocabulary.{Reaped, Note, Began, Stepped, Walked, facts_of, sleep_facts, moves_to, return_facts, death_facts, reap_facts, State, After, start, nothing}
+use Rattle.protocol.proofs.Vocabulary.{is_alive, has_ended, stage_walked, killed, walked, begun, decision, slept_in, falls_asleep, woken, answer_of, led, led_at, went, happens}
+use Rattle.protocol.proofs.Vocabulary.{notes, caller, if◌then◌else◌, MatchBool, eqb-false}
+use Rattle.facts.specs.declared.fact.Fact.TheVariants.{Begin, Point, Wake, Kill, Death, Reap}
+use Rattle.protocol.specs.declared.note.Note.TheVariants.{Nothing, Killed}
 use Rattle.facts.specs.declared.fact.Line.{Line}
 use Rattle.facts.specs.Facts.{thread_of, is_passive}
-use Rattle.facts.specs.Lives.{Complete, Beginning, made_by, is_of_call, own, Mourned, Unburied, Tells_of, Buried, Life, Rests, Returns, Stays, Cut, Dies}
-use Rattle.protocol.specs.Notes.{begun_of, line_of, facts_of, point_facts, sleep_facts, return_facts, death_facts, reap_facts, lines_from}
-use Rattle.protocol.specs.Machine.{State, After, start, nothing, is_alive, has_ended, stage_walked, killed, walked, begun, stage_after, returned, decision, answer_of, went, happens, notes}
-use Rattle.protocol.specs.Explained.{caller, caller_of, IsExplained, TraceIsExplained}
+use Rattle.facts.specs.Lives.{Act, Beginning, made_by, made, is_of_call, own, Mourned, Unburied, Tells_of, Buried, Life, Rests, Returns, Stays, Cut, Dies}
+use Rattle.protocol.specs.Notes.{line_of, point_facts, lines_from}
+use Rattle.protocol.specs.Machine.{moved, Led}
+use Rattle.protocol.specs.Explained.{caller_of, IsExplained, TraceIsExplained}
 use Rattle.protocol.proofs.Puts.{put-same, put-other}
 use Rattle.protocol.proofs.Phases.{decided_at}
 use Rattle.protocol.proofs.Kept.{Kept}
-use Rattle.protocol.proofs.Steps.{after, went-is, onto, call_step}
+use Rattle.protocol.proofs.Steps.{met_no_move, answer-is, onto}
 use Rattle.protocol.proofs.CallSteps.{CallStep}
-use Rattle.protocol.proofs.Events.{by_event, by_stage}
+use Rattle.protocol.proofs.Events.{begins_at, by_event, by_stage}
+use Rattle.protocol.proofs.Endings.{EndsOrGoes, call_ends, cond_ends}
+use Rattle.protocol.proofs.Acts.{acts_by, acts_in, acts_begin, acts_in_begin, acts_of, Doing, Goes, Follows, call_follows, cond_follows}
+use Rattle.protocol.proofs.CondAccesses.{cond_stepping, fits_at}
 use Rattle.protocol.proofs.Accesses as accesses
 use Rattle.protocol.proofs.Runs.{sound, start_kept}
 use Rattle.protocol.proofs.LineOrder.{Fine, access_fine, walked_fine, KillsAlone, no_kill_alone, access_no_kill, walked_no_kill, Called, each, InOrder, placed}
 use Rattle.exitwalk.specs.declared.row.Row as walk_row
 use Rattle.exitwalk.specs.declared.row.Row.TheVariants as walk
 use Rattle.exitwalk.specs.Standings as walks
-
--- ---- a call on a mutex has one point
-
--- the point of thread t's call, with this reply
-abbrev point_by : ℕ → Call → Reply → Fact
-point_by t c x = made_by t (begun_of c) (operation_of c, x)
-
-all_points : (op : Operation) (x : Reply) → Complete op ((op, x) ∷ []) x
-all_points op x = refl
-
-undecided_yet : (op : Operation) → Beginning op []
-undecided_yet op = ((op, OK) ∷ [], OK, all_points op OK)
-
-decided_so : (op : Operation) (x : Reply) → Beginning op ((op, x) ∷ [])
-decided_so op x = ([], x, all_points op x)
-
-returned_life : (t : ℕ) (c : Call) (x : Reply) (later : List Fact) → Life t later → Life t (Begin t (begun_of c) ∷ (point_by t c x ∷ (Return t x ∷ later)))
-returned_life t c x later life = Returns (begun_of c) ((operation_of c, x) ∷ []) x later (all_points (operation_of c) x) life
+use Rattle.protocol.proofs.NoteFacts.{IsOfSleep, behind_woken, behind_point}
 
 -- ---- what may come next in a thread's life
 
--- what a thread does from now on that is in a call, undecided or decided: with what the call did before, a life
-abbrev Doing : ℕ → Call → Option Reply → List Fact → Type 0
-Doing t c None fs = Life t (Begin t (begun_of c) ∷ fs)
-Doing t c (Some x) fs = Life t (Begin t (begun_of c) ∷ (point_by t c x ∷ fs))
-
--- what a thread does from now on
-abbrev Goes : ℕ → Stage → List Fact → Type 0
-Goes t Idle fs = Life t fs
-Goes t (Calling c p) fs = Doing t c (decided_at p.phase) fs
-Goes t (Dying w) fs = Mourned t fs
-Goes t Reaped fs = fs ≡ []
+-- the point of thread t's call
+abbrev point_by : ℕ → ℕ → Operation → Reply → Fact
+point_by t m op x = Point (record { thread = t; mutex = m; operation = op; reply = x })
 
 -- it may do nothing more
-ends : (t : ℕ) (g : Stage) → Goes t g []
-ends t Idle = Rests
-ends t (Calling c p) = go (decided_at p.phase)
-  where
-    go : (d : Option Reply) → Doing t c d []
-    go None = Stays (begun_of c) [] (undecided_yet (operation_of c))
-    go (Some x) = Stays (begun_of c) ((operation_of c, x) ∷ []) (decided_so (operation_of c) x)
-ends t (Dying w) = Unburied
-ends t Reaped = refl
+stays : (t : ℕ) (b : Begun) (ps : List Act) → Beginning b.operation ps → Doing t b ps []
+stays t b ps begins = subst (λ (fs : List Fact). Life t (Begin t b ∷ fs)) (sym (append-nil (made t b ps))) (Stays b ps begins)
+
+ends : (l : Layout') (t : ℕ) (g : Stage) → Goes l t g []
+ends l t Idle = Rests
+ends l t (Calling o p) = stays t (begun_of l o) (acts_by o (decided_at p.phase)) (acts_begin o (decided_at p.phase))
+ends l t (AtCondition c p) = stays t (begun_of l (OnCondition c)) (acts_in c p.phase) (acts_in_begin c p.phase)
+ends l t (Dying w) = Unburied
+ends l t Reaped = refl
+
+-- its points, and one more
+made_later : (t : ℕ) (b : Begun) (ps : List Act) (a : Act) (fs : List Fact) → made t b (ps ++ a ∷ []) ++ fs ≡ made t b ps ++ made_by t b a ∷ fs
+made_later t b [] a fs = refl
+made_later t b (p ∷ ps) a fs = ap (λ (zs : List Fact). made_by t b p ∷ zs) (made_later t b ps a fs)
+
+point_then : (t : ℕ) (b : Begun) (ps : List Act) (op : Operation) (x : Option Reply) (fs : List Fact) → Doing t b (ps ++ acts_of op x) fs → Doing t b ps (point_facts (decision t b.mutex op x) ++ fs)
+point_then t b ps op None fs later = subst (λ (qs : List Act). Doing t b qs fs) (append-nil ps) later
+point_then t b ps op (Some x) fs later = subst (λ (zs : List Fact). Life t (Begin t b ∷ zs)) (made_later t b ps (op, x) fs) later
 
 -- ---- a thread's lines
 
 own-mine : (t i : ℕ) (f : Fact) (ls : List Line) → is_of_call f ≡ true → thread_of f ≡ t → own t (line_of i f ∷ ls) ≡ f ∷ own t ls
-own-mine t i f ls call is = go (is_of_call f) refl (thread_of f == t) refl
-  where
-    go : (c : Bool) → is_of_call f ≡ c → (b : Bool) → (thread_of f == t) ≡ b → (if c && b then f ∷ own t ls else own t ls) ≡ f ∷ own t ls
-    go false ec b e = absurd (cc (ec, call))
-    go true ec true e = refl
-    go true ec false e = absurd (eqb-false (thread_of f) t e is)
+own-mine t i f ls call is = grind (arith)
 
 own-other : (t i : ℕ) (f : Fact) (ls : List Line) → thread_of f ≢ t → own t (line_of i f ∷ ls) ≡ own t ls
-own-other t i f ls apart = go (is_of_call f) (thread_of f == t) refl
-  where
-    go : (c b : Bool) → (thread_of f == t) ≡ b → (if c && b then f ∷ own t ls else own t ls) ≡ own t ls
-    go false b e = refl
-    go true true e = absurd (apart (eqb-true (thread_of f) t e))
-    go true false e = refl
+own-other t i f ls apart = grind (arith)
 
 -- what a note tells of calls and deaths, and not of who sleeps
 abbrev calls_of : Note → List Fact
-calls_of (Stepped t point slept woken returned) = point_facts point ++ return_facts t returned
+calls_of (Stepped t m point slept woken moved returned) = point_facts point ++ return_facts t returned
 calls_of (Walked t death woken reaped) = death_facts t death ++ reap_facts t reaped
 calls_of n = facts_of n
 
--- who sleeps and who is woken is told of no call
-woken_own : (t i u : ℕ) (ws : List ℕ) (y : Option Reply) (ls : List Line) → own t (map (line_of i) (map Wake ws ++ return_facts u y) ++ ls) ≡ own t (map (line_of i) (return_facts u y) ++ ls)
-woken_own t i u [] y ls = refl
-woken_own t i u (w ∷ ws) y ls = woken_own t i u ws y ls
+-- who sleeps, who is woken and who is moved is told of no call
+sleep_own : (t i u : ℕ) (f : Fact) (ls : List Line) → IsOfSleep u f → own t (line_of i f ∷ ls) ≡ own t ls
+sleep_own t i u f ls of = grind (arith)
+
+slept_own : (t i u m : ℕ) (z : Option Queue) (ws ms : List ℕ) (y : Option Reply) (ls : List Line) → own t (map (line_of i) (sleep_facts u z ++ (map Wake ws ++ (map (moves_to m) ms ++ return_facts u y))) ++ ls) ≡ own t (map (line_of i) (return_facts u y) ++ ls)
+slept_own t i u m z ws ms y ls =
+    behind_point (λ (fs : List Fact). own t (map (line_of i) fs ++ ls) ≡ own t (map (line_of i) (return_facts u y) ++ ls)) u m z ws ms (return_facts u y) (λ f of fs same. sleep_own t i u f (map (line_of i) fs ++ ls) of ∙ same) refl
 
 reaped_own : (t i u : ℕ) (ws : List ℕ) (y : Bool) (ls : List Line) → own t (map (line_of i) (map Wake ws ++ reap_facts u y) ++ ls) ≡ own t (map (line_of i) (reap_facts u y) ++ ls)
-reaped_own t i u [] y ls = refl
-reaped_own t i u (w ∷ ws) y ls = reaped_own t i u ws y ls
-
-slept_own : (t i u : ℕ) (z : Option ℕ) (ws : List ℕ) (y : Option Reply) (ls : List Line) → own t (map (line_of i) (sleep_facts u z ++ (map Wake ws ++ return_facts u y)) ++ ls) ≡ own t (map (line_of i) (return_facts u y) ++ ls)
-slept_own t i u None ws y ls = woken_own t i u ws y ls
-slept_own t i u (Some m) ws y ls = woken_own t i u ws y ls
+reaped_own t i u ws y ls = behind_woken (λ (fs : List Fact). own t (map (line_of i) fs ++ ls) ≡ own t (map (line_of i) (reap_facts u y) ++ ls)) ws (reap_facts u y) (λ w fs same. same) refl
 
 own-calls : (t i : ℕ) (n : Note) (ls : List Line) → own t (map (line_of i) (facts_of n) ++ ls) ≡ own t (map (line_of i) (calls_of n) ++ ls)
 own-calls t i Nothing ls = refl
@@ -126,100 +87,65 @@ own-calls t i (Began u c x) ls = refl
 own-calls t i (Killed u) ls = refl
 own-calls t i (Walked u None ws y) ls = reaped_own t i u ws y ls
 own-calls t i (Walked u (Some m) ws y) ls = ap (λ (v : List Fact). if u == t then Death u m ∷ v else v) (reaped_own t i u ws y ls)
-own-calls t i (Stepped u None z ws y) ls = slept_own t i u z ws y ls
-own-calls t i (Stepped u (Some d) z ws y) ls = ap (λ (v : List Fact). if d.thread == t then Point d ∷ v else v) (slept_own t i u z ws y ls)
+own-calls t i (Stepped u m None z ws ms y) ls = slept_own t i u m z ws ms y ls
+own-calls t i (Stepped u m (Some d) z ws ms y) ls = ap (λ (v : List Fact). if d.thread == t then Point d ∷ v else v) (slept_own t i u m z ws ms y ls)
 
--- what one event tells: nothing; that its thread began a call, or was refused at once; that it decided its call, or returned, or both; that it died; or of its death
+-- what one event tells: nothing; that its thread began a call, or was refused at once; that it decided something, or returned, or both; that it died; or of its death
 data Says (t : ℕ) : List Fact → Type 0 where
   nothing_new : Says t []
-  begins_one : (c : Call) → Says t (Begin t (begun_of c) ∷ [])
-  refused : (c : Call) (x : Reply) → Says t (Begin t (begun_of c) ∷ (point_by t c x ∷ (Return t x ∷ [])))
-  decided : (c : Call) (x : Reply) → Says t (point_by t c x ∷ [])
+  begins_one : (b : Begun) → Says t (Begin t b ∷ [])
+  refused : (b : Begun) (x : Reply) → Says t (Begin t b ∷ (point_by t b.mutex b.operation x ∷ (Return t x ∷ [])))
+  decided : (m : ℕ) (op : Operation) (x : Reply) → Says t (point_by t m op x ∷ [])
   returns : (x : Reply) → Says t (Return t x ∷ [])
-  ends_with : (c : Call) (x y : Reply) → Says t (point_by t c x ∷ (Return t y ∷ []))
+  ends_with : (m : ℕ) (op : Operation) (x y : Reply) → Says t (point_by t m op x ∷ (Return t y ∷ []))
   dies : Says t (Kill t ∷ [])
   mourned : (d : Option ℕ) (y : Bool) → Says t (death_facts t d ++ reap_facts t y)
 
 -- another thread's event adds nothing to this thread's lines
 own-apart : (t u i : ℕ) (fs : List Fact) (ls : List Line) → Says u fs → u ≢ t → own t (map (line_of i) fs ++ ls) ≡ own t ls
 own-apart t u i fs ls nothing_new apart = refl
-own-apart t u i fs ls (begins_one c) apart = own-other t i (Begin u (begun_of c)) ls apart
-own-apart t u i fs ls (refused c x) apart = own-other t i (Begin u (begun_of c)) (line_of i (point_by u c x) ∷ (line_of i (Return u x) ∷ ls)) apart ∙ own-other t i (point_by u c x) (line_of i (Return u x) ∷ ls) apart ∙ own-other t i (Return u x) ls apart
-own-apart t u i fs ls (decided c x) apart = own-other t i (point_by u c x) ls apart
+own-apart t u i fs ls (begins_one b) apart = own-other t i (Begin u b) ls apart
+own-apart t u i fs ls (refused b x) apart = own-other t i (Begin u b) (line_of i (point_by u b.mutex b.operation x) ∷ (line_of i (Return u x) ∷ ls)) apart ∙ own-other t i (point_by u b.mutex b.operation x) (line_of i (Return u x) ∷ ls) apart ∙ own-other t i (Return u x) ls apart
+own-apart t u i fs ls (decided m op x) apart = own-other t i (point_by u m op x) ls apart
 own-apart t u i fs ls (returns x) apart = own-other t i (Return u x) ls apart
 own-apart t u i fs ls dies apart = own-other t i (Kill u) ls apart
 own-apart t u i fs ls (mourned None false) apart = refl
 own-apart t u i fs ls (mourned None true) apart = own-other t i (Reap u) ls apart
 own-apart t u i fs ls (mourned (Some m) false) apart = own-other t i (Death u m) ls apart
 own-apart t u i fs ls (mourned (Some m) true) apart = own-other t i (Death u m) (line_of i (Reap u) ∷ ls) apart ∙ own-other t i (Reap u) ls apart
-own-apart t u i fs ls (ends_with c x y) apart = own-other t i (point_by u c x) (line_of i (Return u y) ∷ ls) apart ∙ own-other t i (Return u y) ls apart
+own-apart t u i fs ls (ends_with m op x y) apart = own-other t i (point_by u m op x) (line_of i (Return u y) ∷ ls) apart ∙ own-other t i (Return u y) ls apart
 
 -- ---- one event
 
 -- a call begins undecided
-first_undecided : (c : Call) → decided_at (first_phase c) ≡ None
-first_undecided (call.Lock m) = refl
-first_undecided (call.TryLock m) = refl
-first_undecided (call.Unlock m) = refl
-first_undecided (call.Consistent m) = refl
+first_acts : (l : Layout') (t : ℕ) (o : Op) (fs : List Fact) → Goes l t (begins_at l t o) fs → Doing t (begun_of l o) [] fs
+first_acts l t o fs later = grind (arith)
 
 -- the facts of an access
-abbrev facts_at : ℕ → Call → Option Reply → Phase → List Fact
-facts_at t c x f = point_facts (decision t c x) ++ return_facts t (returned f)
+abbrev facts_at : ℕ → ℕ → Operation → Option Reply → Option Reply → List Fact
+facts_at t m op x y = point_facts (decision t m op x) ++ return_facts t y
+
+-- they are its thread's
+own-facts : (t i m : ℕ) (op : Operation) (x y : Option Reply) (ls : List Line) → own t (map (line_of i) (facts_at t m op x y) ++ ls) ≡ point_facts (decision t m op x) ++ (return_facts t y ++ own t ls)
+own-facts t i m op x y ls = grind (arith)
 
 -- an access tells what may come next in its thread's life
-module _ (t i : ℕ) (c : Call) (p : Whole) (ls : List Line) where
-  abbrev told : Option Reply → Phase → List Fact
-  told x f = own t (map (line_of i) (facts_at t c x f) ++ ls)
-
-  point_first : (x : Reply) → own t (line_of i (point_by t c x) ∷ ls) ≡ point_by t c x ∷ own t ls
-  point_first x = own-mine t i (point_by t c x) ls refl refl
-
-  both_first : (x y : Reply) → own t (line_of i (point_by t c x) ∷ (line_of i (Return t y) ∷ ls)) ≡ point_by t c x ∷ (Return t y ∷ own t ls)
-  both_first x y = own-mine t i (point_by t c x) (line_of i (Return t y) ∷ ls) refl refl ∙ ap (λ fs. point_by t c x ∷ fs) (own-mine t i (Return t y) ls refl refl)
-
-  -- a call that goes on, with the decision that it had or that this access made
-  goes_on_so : (d x y : Option Reply) → Joins d x y → Doing t c y (own t ls) → Doing t c d (own t (map (line_of i) (point_facts (decision t c x)) ++ ls))
-  goes_on_so None None y joins later = subst (λ (z : Option Reply). Doing t c z (own t ls)) joins later
-  goes_on_so None (Some x) y joins later = subst (λ fs. Life t (Begin t (begun_of c) ∷ fs)) (sym (point_first x)) (subst (λ (z : Option Reply). Doing t c z (own t ls)) joins later)
-  goes_on_so (Some x) None y joins later = subst (λ (z : Option Reply). Doing t c z (own t ls)) joins.1 later
-  goes_on_so (Some x) (Some z) y joins later = absurd (cc joins.0)
-
-  -- one that returns
-  returns_so : (d x : Option Reply) (y : Reply) → Joins d x (Some y) → Life t (own t ls) → Doing t c d (told x (Ended y))
-  returns_so None None y joins later = absurd cc
-  returns_so None (Some x) y joins later =
-      let same : y ≡ x = cc in
-      subst (λ fs. Life t (Begin t (begun_of c) ∷ fs)) (sym (both_first x y)) (subst (λ (z : Reply). Life t (Begin t (begun_of c) ∷ (point_by t c x ∷ (Return t z ∷ own t ls)))) (sym same) (returned_life t c x (own t ls) later))
-  returns_so (Some x) None y joins later =
-      let same : y ≡ x = cc in
-      subst (λ fs. Life t (Begin t (begun_of c) ∷ (point_by t c x ∷ fs))) (sym (own-mine t i (Return t y) ls refl refl)) (subst (λ (z : Reply). Life t (Begin t (begun_of c) ∷ (point_by t c x ∷ (Return t z ∷ own t ls)))) (sym same) (returned_life t c x (own t ls) later))
-  returns_so (Some x) (Some z) y joins later = absurd (cc joins.0)
-
-  -- a point alone
-  alone_told : (x : Option Reply) → map (line_of i) (point_facts (decision t c x) ++ []) ≡ map (line_of i) (point_facts (decision t c x))
-  alone_told None = refl
-  alone_told (Some x) = refl
-
-  on : (d x : Option Reply) (f : Phase) → returned f ≡ None → Joins d x (decided_at f) → Doing t c (decided_at f) (own t ls) → Doing t c d (told x f)
-  on d x f none joins later =
-      subst (λ (z : Option Reply). Doing t c d (own t (map (line_of i) (point_facts (decision t c x) ++ return_facts t z) ++ ls))) (sym none)
-      (subst (λ z. Doing t c d (own t (z ++ ls))) (sym (alone_told x)) (goes_on_so d x (decided_at f) joins later))
-
-  access : (d x : Option Reply) (f : Phase) → Joins d x (decided_at f) → Goes t (stage_after c p f) (own t ls) → Doing t c d (told x f)
-  access d x (Ended y) joins later = returns_so d x y joins later
-  access d x (Announcing r) joins later = on d x (Announcing r) refl joins later
-  access d x (AtCell r) joins later = on d x (AtCell r) refl joins later
-  access d x (Linking l y) joins later = on d x (Linking l y) refl joins later
-  access d x (Unlinking u b) joins later = on d x (Unlinking u b) refl joins later
-  access d x (Clearing y) joins later = on d x (Clearing y) refl joins later
+access : (l : Layout') (t i : ℕ) (o : Op) (ps : List Act) (g : Led) (ls : List Line) → Follows l t o ps g → EndsOrGoes g.stage g.returned → Goes l t g.stage (own t ls)
+    → Doing t (begun_of l o) ps (own t (map (line_of i) (facts_at t (mutex_of l o) g.operation g.point g.returned) ++ ls))
+access l t i o ps g ls follows (inl (on, none)) later =
+    subst (Doing t (begun_of l o) ps) (sym (own-facts t i (mutex_of l o) g.operation g.point g.returned ls ∙ ap (λ (y : Option Reply). point_facts (decision t (mutex_of l o) g.operation g.point) ++ (return_facts t y ++ own t ls)) none))
+    (point_then t (begun_of l o) ps g.operation g.point (own t ls) (follows.on none (own t ls) later))
+access l t i o ps g ls follows (inr (idle, x, back)) later =
+    subst (Doing t (begun_of l o) ps) (sym (own-facts t i (mutex_of l o) g.operation g.point g.returned ls ∙ ap (λ (y : Option Reply). point_facts (decision t (mutex_of l o) g.operation g.point) ++ (return_facts t y ++ own t ls)) back))
+    (point_then t (begun_of l o) ps g.operation g.point (Return t x ∷ own t ls)
+    (Returns (begun_of l o) (ps ++ acts_of g.operation g.point) x (own t ls) (follows.back x back) (subst (λ (z : Stage). Goes l t z (own t ls)) idle later)))
 
 -- what an access tells is its thread's
-says_of : (t : ℕ) (c : Call) (x y : Option Reply) → Says t (point_facts (decision t c x) ++ return_facts t y)
-says_of t c None None = nothing_new
-says_of t c None (Some y) = returns y
-says_of t c (Some x) None = decided c x
-says_of t c (Some x) (Some y) = ends_with c x y
+says_of : (t m : ℕ) (op : Operation) (x y : Option Reply) → Says t (facts_at t m op x y)
+says_of t m op None None = nothing_new
+says_of t m op None (Some y) = returns y
+says_of t m op (Some x) None = decided m op x
+says_of t m op (Some x) (Some y) = ends_with m op x y
 
 -- ---- each event
 
@@ -228,58 +154,74 @@ record Adds (s : State) (u : ℕ) (a : After) : Type 0 where
   fine : Fine u (facts_of a.note)
   alone : KillsAlone (facts_of a.note)
   says : Says u (calls_of a.note)
-  mine : (i : ℕ) (ls : List Line) → Goes u (a.state.threads u).stage (own u ls) → Goes u (s.threads u).stage (own u (map (line_of i) (calls_of a.note) ++ ls))
+  mine : (i : ℕ) (ls : List Line) → Goes s.layout u (a.state.threads u).stage (own u ls) → Goes s.layout u (s.threads u).stage (own u (map (line_of i) (calls_of a.note) ++ ls))
   others : (t : ℕ) → u ≢ t → (a.state.threads t).stage ≡ (s.threads t).stage
 
 -- an event that can't apply adds nothing
 idles : (s : State) (u : ℕ) → Adds s u (nothing s)
 idles s u = record { fine = tt; alone = tt; says = nothing_new; mine = λ i ls later. later; others = λ t apart. refl }
 
-module _ (s : State) (u : ℕ) (c : Call) (idle : (s.threads u).stage ≡ Idle) where
-  abbrev p : Whole
-  p = begins s.layout u c
+module _ (s : State) (u : ℕ) (o : Op) (idle : (s.threads u).stage ≡ Idle) where
+  abbrev b : Begun
+  b = begun_of s.layout o
 
   -- a call begins, or is refused
-  begins_call : (b : Bool) → Adds s u (begun s u c (if b then Err XHELD else Ok p))
+  begins_call : (full : Bool) → Adds s u (begun s u o (if full then Err XHELD else Ok (begins_at s.layout u o)))
   begins_call true = record {
     fine = ((λ e. refl), (λ e. absurd cc), ((λ e. refl), (λ e. (refl, tt)), ((λ e. refl), (λ e. tt), tt)));
     alone = (refl, (refl, (refl, tt)));
-    says = refused c XHELD;
+    says = refused b XHELD;
     mine = λ i ls later.
-        let first = own-mine u i (Begin u (begun_of c)) (line_of i (point_by u c XHELD) ∷ (line_of i (Return u XHELD) ∷ ls)) refl refl in
-        let second = own-mine u i (point_by u c XHELD) (line_of i (Return u XHELD) ∷ ls) refl refl in
+        let first = own-mine u i (Begin u b) (line_of i (point_by u b.mutex b.operation XHELD) ∷ (line_of i (Return u XHELD) ∷ ls)) refl refl in
+        let second = own-mine u i (point_by u b.mutex b.operation XHELD) (line_of i (Return u XHELD) ∷ ls) refl refl in
         let third = own-mine u i (Return u XHELD) ls refl refl in
-        subst (λ g. Goes u g (own u (line_of i (Begin u (begun_of c)) ∷ (line_of i (point_by u c XHELD) ∷ (line_of i (Return u XHELD) ∷ ls))))) (sym idle)
-        (subst (Life u) (sym (first ∙ ap (λ fs. Begin u (begun_of c) ∷ fs) (second ∙ ap (λ fs. point_by u c XHELD ∷ fs) third))) (returned_life u c XHELD (own u ls) (subst (λ g. Goes u g (own u ls)) idle later)));
+        subst (λ g. Goes s.layout u g (own u (line_of i (Begin u b) ∷ (line_of i (point_by u b.mutex b.operation XHELD) ∷ (line_of i (Return u XHELD) ∷ ls))))) (sym idle)
+        (subst (Life u) (sym (first ∙ ap (λ fs. Begin u b ∷ fs) (second ∙ ap (λ fs. point_by u b.mutex b.operation XHELD ∷ fs) third)))
+        (Returns b ((b.operation, XHELD) ∷ []) XHELD (own u ls) refl (subst (λ g. Goes s.layout u g (own u ls)) idle later)));
     others = λ t apart. refl;
   }
   begins_call false = record {
     fine = ((λ e. refl), (λ e. tt), tt);
     alone = tt;
-    says = begins_one c;
+    says = begins_one b;
     mine = λ i ls later.
-        let begun_there : Goes u (Calling c p) (own u ls) = subst (λ (z : Thread). Goes u z.stage (own u ls)) (put-same s.threads u (record (s.threads u) { stage = Calling c p })) later in
-        let undecided : Life u (Begin u (begun_of c) ∷ own u ls) = subst (λ (d : Option Reply). Doing u c d (own u ls)) (first_undecided c) begun_there in
-        subst (λ g. Goes u g (own u (line_of i (Begin u (begun_of c)) ∷ ls))) (sym idle) (subst (Life u) (sym (own-mine u i (Begin u (begun_of c)) ls refl refl)) undecided);
-    others = λ t apart. ap (λ (z : Thread). z.stage) (put-other s.threads u (record (s.threads u) { stage = Calling c p }) t (λ is. apart (sym is)));
+        let begun_there : Goes s.layout u (begins_at s.layout u o) (own u ls) = subst (λ (z : Thread). Goes s.layout u z.stage (own u ls)) (put-same s.threads u (record (s.threads u) { stage = begins_at s.layout u o })) later in
+        subst (λ g. Goes s.layout u g (own u (line_of i (Begin u b) ∷ ls))) (sym idle) (subst (Life u) (sym (own-mine u i (Begin u b) ls refl refl)) (first_acts s.layout u o (own u ls) begun_there));
+    others = λ t apart. ap (λ (z : Thread). z.stage) (put-other s.threads u (record (s.threads u) { stage = begins_at s.layout u o }) t (λ is. apart (sym is)));
   }
 
 -- a call makes its access
-goes : (s : State) (u : ℕ) → Kept s → 1 ≤ u → u ≤ s.layout.threads → (c : Call) (p : Whole) → (s.threads u).stage ≡ Calling c p → Adds s u (went s u (s.threads u).held c p (whole_led p (answer_of s u (whole_access p))))
-goes s u inv pos known c p is =
-    let g : CallStep s u c p = accesses.goes s u c p inv pos known is in
-    let f : Phase = (onto s u p).phase in
-    let x : Option Reply = (onto s u p).point in
-    let stage : ((after s u (call_step s u c p)).threads u).stage ≡ stage_after c p f = ap (λ (z : Thread). z.stage) (put-same s.threads u _) in
-    subst (Adds s u) (sym (went-is s u c p (accesses.fits_in s u c p inv pos known is).1 g.valid)) record {
-      fine = access_fine u c x _ _ (returned f);
-      alone = no_kill_alone _ (access_no_kill u c x _ _ (returned f));
-      says = says_of u c x (returned f);
-      mine = λ i ls later.
-          subst (λ g. Goes u g (own u (map (line_of i) (facts_at u c x f) ++ ls))) (sym is)
-          (access u i c p ls (decided_at p.phase) x f g.moves.joins (subst (λ g. Goes u g (own u ls)) stage later));
-      others = λ t apart. ap (λ (z : Thread). z.stage) (put-other s.threads u _ t (λ same. apart (sym same)));
-    }
+accesses_add : (s : State) (u : ℕ) (o : Op) (k : Queue) (a : Access) (ps : List Act) (g : Led) → ((fs : List Fact) → Doing u (begun_of s.layout o) ps fs → Goes s.layout u (s.threads u).stage fs) → Follows s.layout u o ps g → EndsOrGoes g.stage g.returned
+    → Adds s u (went s u (s.threads u).held (mutex_of s.layout o) k a g)
+accesses_add s u o k a ps g does follows ends_so = record {
+  fine = access_fine u (mutex_of s.layout o) g.operation g.point (slept_in k (falls_asleep s u a)) (woken s u a) (moved s u a) g.returned;
+  alone = no_kill_alone _ (access_no_kill u (mutex_of s.layout o) g.operation g.point (slept_in k (falls_asleep s u a)) (woken s u a) (moved s u a) g.returned);
+  says = says_of u (mutex_of s.layout o) g.operation g.point g.returned;
+  mine = λ i ls later. does (own u (map (line_of i) (facts_at u (mutex_of s.layout o) g.operation g.point g.returned) ++ ls))
+      (access s.layout u i o ps g ls follows ends_so (subst (λ (z : Thread). Goes s.layout u z.stage (own u ls)) (put-same s.threads u _) later));
+  others = λ t apart. ap (λ (z : Thread). z.stage) (put-other s.threads u _ t (λ same. apart (sym same)));
+}
+
+goes : (s : State) (u : ℕ) → Kept s → 1 ≤ u → u ≤ s.layout.threads → (o : Op) (p : Whole) → (s.threads u).stage ≡ Calling o p
+    → Adds s u (went s u (s.threads u).held (mutex_of s.layout o) (Mutex (mutex_of s.layout o)) (whole_access p) (led o p (whole_led p (answer_of s u (whole_access p)))))
+goes s u inv pos known o p is =
+    let g : CallStep s u o p = accesses.goes s u o p inv pos known is in
+    let fits = accesses.fits_in s u o p inv pos known is in
+    let valid = met_no_move s.layout u (whole_access p) g.no_move ∙ g.valid in
+    accesses_add s u o (Mutex (mutex_of s.layout o)) (whole_access p) (acts_by o (decided_at p.phase)) (led o p (whole_led p (answer_of s u (whole_access p))))
+    (λ fs later. subst (λ (z : Stage). Goes s.layout u z fs) (sym is) later)
+    (subst (λ (a : Answer). Follows s.layout u o (acts_by o (decided_at p.phase)) (led o p (whole_led p a))) (sym (answer-is s u (whole_access p) valid)) (call_follows s.layout u o p (onto s u p) fits.1 g.moves.joins))
+    (call_ends o p (whole_led p (answer_of s u (whole_access p))))
+
+goes_at : (s : State) (u : ℕ) → Kept s → 1 ≤ u → u ≤ s.layout.threads → (c : CondCall) (p : CondWhole) → (s.threads u).stage ≡ AtCondition c p
+    → Adds s u (went s u (s.threads u).held (mutex_of s.layout (OnCondition c)) (Condition (condition_of c)) (cond_access p) (led_at c p (cond_led p (answer_of s u (cond_access p)))))
+goes_at s u inv pos known c p is =
+    let fits = fits_at s u c p inv pos known is in
+    accesses_add s u (OnCondition c) (Condition (condition_of c)) (cond_access p) (acts_in c p.phase) (led_at c p (cond_led p (answer_of s u (cond_access p))))
+    (λ fs later. subst (λ (z : Stage). Goes s.layout u z fs) (sym is) later)
+    (subst (λ (a : Answer). Follows s.layout u (OnCondition c) (acts_in c p.phase) (led_at c p (cond_led p a))) (sym (answer-is s u (cond_access p) (cond_stepping s u c p inv pos known is).valid))
+    (cond_follows s.layout u (s.threads u).held c p _ _ _ fits.stands))
+    (cond_ends c p (cond_led p (answer_of s u (cond_access p))))
 
 -- a thread dies
 dies_so : (s : State) (u : ℕ) → is_alive (s.threads u).stage ≡ true → Adds s u (killed s u)
@@ -288,26 +230,23 @@ dies_so s u alive = record {
   alone = tt;
   says = dies;
   mine = λ i ls later.
-      let mourns : Mourned u (own u ls) = subst (λ (z : Thread). Goes u z.stage (own u ls)) (put-same s.threads u _) later in
-      subst (Goes u (s.threads u).stage) (sym (own-mine u i (Kill u) ls refl refl)) (cut (s.threads u).stage alive (own u ls) mourns);
+      let mourns : Mourned u (own u ls) = subst (λ (z : Thread). Goes s.layout u z.stage (own u ls)) (put-same s.threads u _) later in
+      subst (Goes s.layout u (s.threads u).stage) (sym (own-mine u i (Kill u) ls refl refl)) (cut (s.threads u).stage alive (own u ls) mourns);
   others = λ t apart. ap (λ (z : Thread). z.stage) (put-other s.threads u _ t (λ same. apart (sym same)));
 }
   where
-    cut : (g : Stage) → is_alive g ≡ true → (fs : List Fact) → Mourned u fs → Goes u g (Kill u ∷ fs)
+    cut : (g : Stage) → is_alive g ≡ true → (fs : List Fact) → Mourned u fs → Goes s.layout u g (Kill u ∷ fs)
     cut Idle e fs mourns = Dies fs mourns
-    cut (Calling c p) e fs mourns = go (decided_at p.phase)
-      where
-        go : (d : Option Reply) → Doing u c d (Kill u ∷ fs)
-        go None = Cut (begun_of c) [] fs (undecided_yet (operation_of c)) mourns
-        go (Some x) = Cut (begun_of c) ((operation_of c, x) ∷ []) fs (decided_so (operation_of c) x) mourns
+    cut (Calling o p) e fs mourns = Cut (begun_of s.layout o) (acts_by o (decided_at p.phase)) fs (acts_begin o (decided_at p.phase)) mourns
+    cut (AtCondition c p) e fs mourns = Cut (begun_of s.layout (OnCondition c)) (acts_in c p.phase) fs (acts_in_begin c p.phase) mourns
     cut (Dying w) e fs mourns = absurd cc
     cut Reaped e fs mourns = absurd cc
 
 -- its death is told of, and it is reaped
-mourned_on : (u i : ℕ) (w : walks.Standing) (d : Option ℕ) (r : walk_row.Row) (ls : List Line) → Goes u (stage_walked w r) (own u ls) → Mourned u (own u (map (line_of i) (death_facts u d ++ reap_facts u (has_ended r)) ++ ls))
-mourned_on u i w d r ls later = go d (has_ended r) (at_end r later)
+mourned_on : (l : Layout') (u i : ℕ) (w : walks.Standing) (d : Option ℕ) (r : walk_row.Row) (ls : List Line) → Goes l u (stage_walked w r) (own u ls) → Mourned u (own u (map (line_of i) (death_facts u d ++ reap_facts u (has_ended r)) ++ ls))
+mourned_on l u i w d r ls later = go d (has_ended r) (at_end r later)
   where
-    at_end : (r : walk_row.Row) → Goes u (stage_walked w r) (own u ls) → MatchBool (has_ended r) (own u ls ≡ []) (Mourned u (own u ls))
+    at_end : (r : walk_row.Row) → Goes l u (stage_walked w r) (own u ls) → MatchBool (has_ended r) (own u ls ≡ []) (Mourned u (own u ls))
     at_end walk.Ended e = e
     at_end r m = m
 
@@ -323,8 +262,8 @@ walks_on s u inv pos known w is = record {
   fine = walked_fine u _ _ _;
   alone = no_kill_alone _ (walked_no_kill u _ _ _);
   says = mourned _ _;
-  mine = λ i ls later. subst (λ g. Goes u g (own u (map (line_of i) (calls_of (walked s u (s.threads u).held w).note) ++ ls))) (sym is)
-      (mourned_on u i w _ _ ls (subst (λ (z : Thread). Goes u z.stage (own u ls)) (put-same s.threads u _) later));
+  mine = λ i ls later. subst (λ g. Goes s.layout u g (own u (map (line_of i) (calls_of (walked s u (s.threads u).held w).note) ++ ls))) (sym is)
+      (mourned_on s.layout u i w _ _ ls (subst (λ (z : Thread). Goes s.layout u z.stage (own u ls)) (put-same s.threads u _) later));
   others = λ t apart. ap (λ (z : Thread). z.stage) (put-other s.threads u _ t (λ same. apart (sym same)));
 }
 
@@ -333,30 +272,30 @@ adds : (s : State) (e : Event) → Kept s → Adds s (caller e) (happens s e)
 adds s e inv =
     by_event s (λ (x : Event) (a : After). Adds s (caller x) a)
     (λ x. idles s (caller x))
-    (λ u c pos known inside idle b full. begins_call s u c idle b)
-    (λ u pos known. by_stage s u (Adds s u) (λ rests. idles s u) (λ c p is awake. goes s u inv pos known c p is) (λ w is awake. walks_on s u inv pos known w is))
+    (λ u o pos known inside idle full e. begins_call s u o idle full)
+    (λ u pos known. by_stage s u (Adds s u) (λ rests. idles s u) (λ o p is awake. goes s u inv pos known o p is) (λ c p is awake. goes_at s u inv pos known c p is) (λ w is awake. walks_on s u inv pos known w is))
     (λ u pos known alive. dies_so s u alive)
     e
 
 -- ---- whole runs
 
 -- one event, and then what may come next
-lives_on : (s : State) (e : Event) (i : ℕ) (rest : List Line) → Kept s → (t : ℕ) → Goes t ((happens s e).state.threads t).stage (own t rest) → Goes t (s.threads t).stage (own t (map (line_of i) (facts_of (happens s e).note) ++ rest))
-lives_on s e i rest inv t later = subst (Goes t (s.threads t).stage) (sym (own-calls t i (happens s e).note rest)) (go (caller e == t) refl)
+lives_on : (s : State) (e : Event) (i : ℕ) (rest : List Line) → Kept s → (t : ℕ) → Goes s.layout t ((happens s e).state.threads t).stage (own t rest) → Goes s.layout t (s.threads t).stage (own t (map (line_of i) (facts_of (happens s e).note) ++ rest))
+lives_on s e i rest inv t later = subst (Goes s.layout t (s.threads t).stage) (sym (own-calls t i (happens s e).note rest)) (go (caller e == t) refl)
   where
-    go : (b : Bool) → (caller e == t) ≡ b → Goes t (s.threads t).stage (own t (map (line_of i) (calls_of (happens s e).note) ++ rest))
+    go : (b : Bool) → (caller e == t) ≡ b → Goes s.layout t (s.threads t).stage (own t (map (line_of i) (calls_of (happens s e).note) ++ rest))
     go true e' =
         let is : caller e ≡ t = eqb-true (caller e) t e' in
-        subst (λ (v : ℕ). Goes v ((happens s e).state.threads v).stage (own v rest) → Goes v (s.threads v).stage (own v (map (line_of i) (calls_of (happens s e).note) ++ rest))) is ((adds s e inv).mine i rest) later
+        subst (λ (v : ℕ). Goes s.layout v ((happens s e).state.threads v).stage (own v rest) → Goes s.layout v (s.threads v).stage (own v (map (line_of i) (calls_of (happens s e).note) ++ rest))) is ((adds s e inv).mine i rest) later
     go false e' =
         let apart : caller e ≢ t = eqb-false (caller e) t e' in
-        subst (Goes t (s.threads t).stage) (sym (own-apart t (caller e) i (calls_of (happens s e).note) rest (adds s e inv).says apart))
-        (subst (λ g. Goes t g (own t rest)) ((adds s e inv).others t apart) later)
+        subst (Goes s.layout t (s.threads t).stage) (sym (own-apart t (caller e) i (calls_of (happens s e).note) rest (adds s e inv).says apart))
+        (subst (λ g. Goes s.layout t g (own t rest)) ((adds s e inv).others t apart) later)
 
 -- each thread lives rightly, from any state that keeps the invariant
-lives : (s : State) (es : List Event) (i : ℕ) → Kept s → (t : ℕ) → Goes t (s.threads t).stage (own t (lines_from i (notes s es)))
-lives s [] i inv t = ends t (s.threads t).stage
-lives s (e ∷ es) i inv t = lives_on s e i (lines_from (i + 1) (notes (happens s e).state es)) inv t (lives (happens s e).state es (i + 1) (sound s e inv).kept t)
+lives : (s : State) (es : List Event) (i : ℕ) → Kept s → (t : ℕ) → Goes s.layout t (s.threads t).stage (own t (lines_from i (notes s es)))
+lives s [] i inv t = ends s.layout t (s.threads t).stage
+lives s (e ∷ es) i inv t = lives_on s e i (lines_from (i + 1) (notes (happens s e).state es)) inv t (subst (λ (l : Layout'). Goes l t ((happens s e).state.threads t).stage (own t (lines_from (i + 1) (notes (happens s e).state es)))) (sound s e inv).same (lives (happens s e).state es (i + 1) (sound s e inv).kept t))
 
 -- ---- the order of lines
 
@@ -371,7 +310,7 @@ explained_from s events inv resting =
     record {
       orderly = order.0;
       callers = each (Called 1 events) (λ l. is_passive l.fact ≡ false → thread_of l.fact ≡ caller_of 1 events l.event) (λ l c. c.1) (lines_from 1 (notes s events)) order.1;
-      lives = λ t. subst (λ g. Goes t g (own t (lines_from 1 (notes s events)))) (resting t) (lives s events 1 inv t);
+      lives = λ t. subst (λ g. Goes s.layout t g (own t (lines_from 1 (notes s events)))) (resting t) (lives s events 1 inv t);
     }
 
 pub explained : TraceIsExplained

@@ -1,43 +1,22 @@
 -- Threads that run alone.
 use Rattle.std.proofs.Common.{◌≡◌, ◌⊎◌, ⊎_elim, inl, inr, ℕ, zero, suc, ◌<◌, ◌≤◌, ◌==◌, Bool, true, false, ◌&&◌, Option, Some, None, refl, sym, ap, ◌∙◌, subst, arith, eqb-true}
-use Rattle.std.proofs.lemmas.Bool.{eqb-false}
-use Rattle.std.proofs.lemmas.Bool.Decides.{nat_tests}
-use Rattle.lockword.specs.declared.reply.Reply.{Reply}
-use Rattle.keys.specs.declared.object.Object.{Object}
-use Rattle.keys.specs.Layouts.{cell_place}
-use Rattle.keys.specs.Accesses.{sleeps_at}
-use Rattle.protocol.specs.declared.event.Event.TheVariants.{Step}
-use Rattle.protocol.specs.declared.thread.Stage.{Stage}
-use Rattle.protocol.specs.declared.thread.Stage.TheVariants.{Idle, Calling, Dying, Reaped}
-use Rattle.protocol.specs.Machine.{State, stands_in, sleepers, is_thread, is_calling, is_walked, is_busy, is_dying, is_asleep, happens}
-use Rattle.protocol.specs.Headline.{seen}
-use Rattle.protocol.specs.Sleepers.{Sleeps, IsUnowned, alone, Owes, SomebodyOwes, IsAtRest, EndsAlone}
+use Rattle.protocol.proofs.Vocabulary.{Object, cell_place, counter_place, sleeps_at, Reply, Step, Stage, State, stands_in, sleepers, is_calling, is_asleep, happens, seen}
+use Rattle.protocol.proofs.Vocabulary.{IsUnowned, eqb-false, nat_tests}
+use Rattle.protocol.specs.Machine.{is_thread, is_walked, is_busy, is_dying}
+use Rattle.protocol.specs.Sleepers.{Sleeps, alone, Owes, SomebodyOwes, IsAtRest, EndsAlone}
 use Rattle.protocol.proofs.Objects.{owners}
 use Rattle.protocol.proofs.Kept.{Kept}
 use Rattle.protocol.proofs.Steps.{Tells, Transition, after, place_of, met}
 use Rattle.protocol.proofs.Stepping.{AnswersAs, left_of, Continues, Settles, Wakes_there, Answers_now, Found_free}
-use Rattle.protocol.proofs.Events.{is_known, IsWorking}
+use Rattle.protocol.proofs.Events.{IsWorking}
 use Rattle.protocol.proofs.Working.{Goes, awake_goes}
-use Rattle.protocol.proofs.Queues.{Turned, As_before, Falls, Woken}
-use Rattle.protocol.proofs.Queued.{Answering, Queued, out_awake, mine, turn, stood, now_asleep, this_answers, woken_one, went_queued}
-
--- a thread in a call, or dead, or neither
-working_or : (g : Stage) → IsWorking g ⊎ ((is_calling g ≡ false) × (is_walked g ≡ false))
-working_or (Calling c p) = inl tt
-working_or (Dying w) = inl tt
-working_or Idle = inr (refl, refl)
-working_or Reaped = inr (refl, refl)
-
-and_false : (a b : Bool) → b ≡ false → (a && b) ≡ false
-and_false true b e = e
-and_false false b e = refl
+use Rattle.protocol.proofs.Places.{counter_is_no_cell}
+use Rattle.protocol.proofs.Queues.{Turned, As_before, Falls, Woken, Moved}
+use Rattle.protocol.proofs.Queued.{Answering, Queued, out_awake, mine, turn, carries, stood, now_asleep, this_answers, woken_one, went_queued}
 
 -- whoever answers for a mutex is in a call, or dead
 answers_work : (s : State) (m t : ℕ) (g : Stage) → AnswersAs s.layout s.words m t g → IsWorking g
-answers_work s m t (Calling c p) a = tt
-answers_work s m t (Dying w) a = tt
-answers_work s m t Idle a = absurd a
-answers_work s m t Reaped a = absurd a
+answers_work s m t g a = grind (arith)
 
 -- ---- whoever answers for a free mutex takes it, or wakes one
 
@@ -87,7 +66,7 @@ module _ (s : State) (t m u : ℕ) (inv : Kept s) (queued : Queued s) (a : Answe
         where
           who : (y : Option Reply) → Tells t (seen s v.mutex) v.operation y (seen s' v.mutex) → x ≡ t
           who None same = absurd (cc (sym free ∙ (sym (ap (λ (z : Object). z.owner) same) ∙ own)))
-          who (Some y) permits = ⊎_elim (λ before. absurd (cc (sym free ∙ before))) (λ this. this) (owners (seen s v.mutex) (seen s' v.mutex) t x v.operation y goes.step.called permits own)
+          who (Some y) permits = ⊎_elim (λ before. absurd (cc (sym free ∙ before))) (λ this. this) (owners (seen s v.mutex) (seen s' v.mutex) t x v.operation y permits own)
 
       go : (b : Bool) → (m == v.mutex) ≡ b → ((seen s' m).owner ≡ None) ⊎ ((seen s' m).owner ≡ Some t)
       go true e = let is = eqb-true m v.mutex e in subst (λ (k : ℕ). ((seen s' k).owner ≡ None) ⊎ ((seen s' k).owner ≡ Some t)) (sym is) (given (seen s' v.mutex).owner refl (subst (IsUnowned s) is none))
@@ -111,15 +90,22 @@ module _ (s : State) (t m u : ℕ) (inv : Kept s) (queued : Queued s) (a : Answe
       on free c = pick (turn s t v goes.step a.first a.last goes.is queued awake u)
         where
           pick : Turned u t v.access (place_of s t v) (met s t v) s.queues s'.queues → Done ⊎ GoesOn
-          pick (As_before quiet unwoken same) = inr record {
+          pick (As_before quiet unwoken unmoved same) = inr record {
             answers = this_answers s t v goes.step a.first a.last goes.is queued awake m c;
             free = free;
-            slept = λ x there. ⊎_elim (λ old. old.1) (λ new. absurd (cc (c.0, new.1))) (stood s t v goes.step a.first a.last goes.is queued awake x (cell_place s.layout m) there);
+            slept = λ x there. ⊎_elim (λ old. old.1) (λ new. ⊎_elim (λ falls. absurd (cc (c.0, falls.1))) (λ moved. absurd (moved.owned (subst (IsUnowned s) (let place = moved.to in omega (arith, place)) none))) new) (stood s t v goes.step a.first a.last goes.is queued awake x (cell_place s.layout m) there);
             still = same (cell_place s.layout m) ∙ stands;
             fewer = subst (λ (z : Stage × Stage). left_of s' z.0 < left_of s z.1) (λ i. (sym (mine s t v goes.step a.first a.last goes.is queued awake) i, sym goes.is i)) (goes.step.fewer c.0);
           }
-          pick (Falls me on nobody there elsewhere) = absurd (cc (c.0, on))
-          pick (Woken quiet woken before gone) = inl (inr (u, stands, gone (cell_place s.layout m)))
+          pick (Falls me on nobody moves there elsewhere) = absurd (cc (c.0, on))
+          pick (Woken quiet woken unmoved before gone) = inl (inr (u, stands, gone (cell_place s.layout m)))
+          pick (Moved from e n to k is quiet unwoken moved before there elsewhere) = other (cell_place s.layout m == to) refl
+            where
+              other : (b : Bool) → (cell_place s.layout m == to) ≡ b → Done ⊎ GoesOn
+              other true x =
+                  let carried = carries s t v goes.step a.first a.last goes.is queued awake u (cell_place s.layout m) from e n to k is before (eqb-true (cell_place s.layout m) to x) in
+                  absurd (counter_is_no_cell s.layout m carried.from inside (sym (queued.one u (cell_place s.layout m) (counter_place s.layout carried.from) stands carried.left)))
+              other false x = inl (inr (u, stands, elsewhere (cell_place s.layout m) (eqb-false (cell_place s.layout m) to x)))
 
       go : IsUnowned s' m → Settles s t v m → Done ⊎ GoesOn
       go free (Wakes_there n some wakes) = let x = woken_one s t v goes.step a.first a.last goes.is queued awake m u n inside some wakes stands in inl (inr (x.0, x.1, x.2 (cell_place s.layout m)))
@@ -138,10 +124,7 @@ owes (suc n) s t m u inv queued a inside none stands few =
 
 -- a thread in a call is busy, and one that was killed is dying
 works_awake : (s : State) (t : ℕ) → 1 ≤ t → t ≤ s.layout.threads → (g : Stage) → (s.threads t).stage ≡ g → IsWorking g → (is_busy s t ≡ true) ⊎ (is_dying s t ≡ true)
-works_awake s t pos known (Calling c p) is working = inl (λ i. is_known s t pos known i && is_calling (is i))
-works_awake s t pos known (Dying w) is working = inr (λ i. is_known s t pos known i && is_walked (is i))
-works_awake s t pos known Idle is working = absurd working
-works_awake s t pos known Reaped is working = absurd working
+works_awake s t pos known g is working = grind (arith)
 
 pub somebody_owes : (s : State) → Kept s → Queued s → SomebodyOwes s
 somebody_owes s inv queued m u inside none stands =
@@ -162,17 +145,9 @@ rests_later s s' t n to rests = (suc rests.0, (let k = rests.1 in omega arith), 
 rests_now : (s : State) (t n : ℕ) → IsAtRest s t → Rests s t n
 rests_now s t n h = (0, omega arith, h)
 
--- whoever isn't in a call, nor dead, is at rest
-idle_rests : (s : State) (t : ℕ) → (is_calling (s.threads t).stage ≡ false) × (is_walked (s.threads t).stage ≡ false) → IsAtRest s t
-idle_rests s t neither = inl (and_false (is_thread s t) (is_calling (s.threads t).stage) neither.0, and_false (is_thread s t) (is_walked (s.threads t).stage) neither.1)
-
 -- a thread rests, or sleeps, or goes on
 rests_or : (n : ℕ) (s : State) (t : ℕ) → (is_asleep s t ≡ false → IsWorking (s.threads t).stage → Rests s t n) → Rests s t n
-rests_or n s t on = ⊎_elim (λ working. pick (is_asleep s t) refl working) (λ neither. rests_now s t n (idle_rests s t neither)) (working_or (s.threads t).stage)
-  where
-    pick : (b : Bool) → is_asleep s t ≡ b → IsWorking (s.threads t).stage → Rests s t n
-    pick true asleep working = rests_now s t n (inr asleep)
-    pick false awake working = on awake working
+rests_or n s t on = grind (arith)
 
 -- one step, and then those that are left
 one_more : (n : ℕ) (s : State) (t : ℕ) (queued : Queued s) (pos : 1 ≤ t) (known : t ≤ s.layout.threads) (awake : is_asleep s t ≡ false) (g : Goes s t) → left_of s (s.threads t).stage ≤ suc n
@@ -221,7 +196,4 @@ ends_alone s inv queued t awake = ends 9000 s t inv queued pos last few
         works working = let g = awake_goes s t inv pos last (out_awake s t awake.1) working in subst (λ (z : Stage). left_of s z ≤ 9000) (sym g.is) g.step.few
 
         go : (g : Stage) → (s.threads t).stage ≡ g → left_of s (s.threads t).stage ≤ 9000
-        go (Calling c p) is = works (subst IsWorking (sym is) tt)
-        go (Dying w) is = works (subst IsWorking (sym is) tt)
-        go Idle is = subst (λ (z : Stage). left_of s z ≤ 9000) (sym is) (omega arith)
-        go Reaped is = subst (λ (z : Stage). left_of s z ≤ 9000) (sym is) (omega arith)
+        go g is = grind (arith)

@@ -1,58 +1,35 @@
 -- One access of a call to its thread's own words: its head's, and the links of its mutexes.
-use Rattle.std.proofs.Common.{◌≡◌, ◌≢◌, ◌⊎◌, inl, inr, ℕ, ◌+◌, ◌*◌, ◌<◌, ◌≤◌, ◌==◌, Bool, true, false, Option, Some, None, List, ◌∷◌, refl, sym, ap, ◌∙◌, subst, arith, eqb-true}
-use Rattle.std.specs.Prelude.{if◌then◌else◌, nat_lt}
-use Rattle.std.proofs.lemmas.Bool.{eqb-false}
-use Rattle.std.proofs.lemmas.Bool.Decides.{nat_tests}
-use Rattle.lockword.specs.Cells.{fields_of}
-use Rattle.lockword.specs.declared.reply.Reply.{Reply}
-use Rattle.lockword.specs.declared.reply.Reply.TheVariants.{XRACED}
-use Rattle.keys.specs.declared.access.Access.{Access}
-use Rattle.keys.specs.declared.object.Object.{Object}
-use Rattle.keys.specs.Accesses.{address_of, changed, answer_at}
-use Rattle.keys.specs.Chains.{IsAmong, IsChainBothWays, AreDifferent, without, address_sum}
-use Rattle.keys.specs.Layouts.{head_place, entry_place, cell_place}
-use Rattle.keys.specs.Objects.{object_of, fresh}
-use Rattle.robustlist.specs.declared.link.LinkRow.{LinkRow}
-use Rattle.robustlist.specs.declared.link.LinkRow.TheVariants as link
-use Rattle.robustlist.specs.declared.unlink.UnlinkRow.{UnlinkRow}
-use Rattle.robustlist.specs.declared.unlink.UnlinkRow.TheVariants as unlink
-use Rattle.robustlist.specs.Standings.{LinkStanding, UnlinkStanding}
+use Rattle.std.proofs.Common.{◌≡◌, ◌≢◌, ◌⊎◌, inl, inr, ℕ, ◌+◌, ◌*◌, ◌<◌, ◌≤◌, ◌==◌, Bool, true, false, Option, Some, None, List, ◌∷◌, refl, sym, ap, ◌∙◌, subst, arith}
+use Rattle.protocol.proofs.Vocabulary.{Access, Object, address_of, changed, answer_at, IsChainBothWays, AreDifferent, address_sum, head_place, entry_place, cell_place}
+use Rattle.protocol.proofs.Vocabulary.{counter_place, object_of, fresh, fields_of, Reply, XRACED, Phase, Linking, Clearing, Onward, left, Sound, decided, Joins, Whole}
+use Rattle.protocol.proofs.Vocabulary.{whole_access, Op, mutex_of, Calling, State, put, is_valid, held_after, seen, LinkRow, UnlinkRow, UnlinkStanding, LinkGoes, unlink_access}
+use Rattle.protocol.proofs.Vocabulary.{unlink_resume, UnlinkGoes, entries-different, without-among, if◌then◌else◌, nat_lt, nat_tests}
+use Rattle.keys.specs.Chains.{without}
+use Rattle.robustlist.specs.Standings.{LinkStanding}
 use Rattle.robustlist.specs.Words.{Makes, answer_on}
-use Rattle.robustlist.specs.Link.{link_access, link_access_of, link_resume, link_moved, LinkGoes}
-use Rattle.robustlist.specs.Unlink.{unlink_access, unlink_access_of, unlink_resume, unlink_moved, UnlinkGoes}
+use Rattle.robustlist.specs.Link.{link_access, link_access_of, link_resume, link_moved}
+use Rattle.robustlist.specs.Unlink.{unlink_access_of, unlink_moved}
 use Rattle.robustlist.specs.LinkLaws as link_laws
 use Rattle.robustlist.specs.UnlinkLaws as unlink_laws
 use Rattle.robustlist.proofs.Links as links
 use Rattle.robustlist.proofs.Unlinks as unlinks
-use Rattle.robustlist.proofs.Places.{entries-different, without-among}
-use Rattle.mutex.specs.declared.call.Call.{Call}
-use Rattle.mutex.specs.declared.unlock.UnlockRow.TheVariants.{Load, Release, Wake}
 use Rattle.mutex.specs.declared.row.Row.{Row}
 use Rattle.mutex.specs.declared.row.Row.TheVariants as row
-use Rattle.mutex.specs.declared.phase.Phase.{Phase}
-use Rattle.mutex.specs.declared.phase.Phase.TheVariants.{Announcing, Linking, Unlinking, Clearing}
-use Rattle.mutex.specs.declared.phase.Onward.{Onward}
-use Rattle.mutex.specs.Alone.{left}
-use Rattle.mutex.specs.Calls.{mutex_of}
-use Rattle.mutex.specs.Laws.{Sound, decided, Joins}
-use Rattle.mutex.specs.Standings.{Whole}
-use Rattle.mutex.specs.Whole.{whole_access, phase_led, announced, linked_at, unlinked_at}
-use Rattle.protocol.specs.declared.thread.Stage.TheVariants.{Calling}
-use Rattle.protocol.specs.Machine.{State, put, is_valid, held_after}
-use Rattle.protocol.specs.Headline.{seen}
+use Rattle.mutex.specs.declared.phase.Phase.TheVariants.{Announcing, Unlinking}
+use Rattle.mutex.specs.Whole.{phase_led, announced, linked_at, unlinked_at}
 use Rattle.protocol.proofs.Puts.{put-same, put-other}
-use Rattle.protocol.proofs.Phases.{decided_at, left_at, SteadyAt, Moves, IsPlain, IsOwn, plain_answer, plain_awake, own_pointless, own_silent, joins_same, link_plain, unlink_plain}
+use Rattle.protocol.proofs.Phases.{decided_at, left_at, SteadyAt, Moves, IsPlain, IsOwn, plain_answer, plain_awake, own_pointless, own_silent, joins_same, link_plain, unlink_plain, plain_no_move}
 use Rattle.protocol.proofs.Kept.{AtRow, Fits, Serves, left_out_in, Owned, ChainedIn, Listed, IsAnnounced, pending_in, PendsAs, Kept}
-use Rattle.protocol.proofs.Places.{IsMine, offset_is_nobodys, more_not_pending, mine_is_valid, mine_is_no_cell, mine_is_not_theirs, list_is_mine, list_not_pending, more_is_mine, both_same, among_without, without_is_apart, pending_is}
+use Rattle.protocol.proofs.Places.{IsMine, offset_is_nobodys, more_not_pending, mine_is_valid, mine_is_no_cell, mine_is_not_theirs, list_is_mine, list_not_pending, more_is_mine, both_same, among_without, without_is_apart, pending_is, mine_is_no_counter}
 use Rattle.protocol.proofs.Steps.{Tells, unmoved, onto, thread_after, after, met, call_step}
 use Rattle.protocol.proofs.Frames.{kept_where}
 use Rattle.protocol.proofs.Arrivals.{Arrives, sits_after, listed_after, pending_then}
 use Rattle.protocol.proofs.CallSteps.{CallStep}
 
 -- an access of thread t's call to one of its own words
-module _ (s : State) (t : ℕ) (c : Call) (p : Whole) (inv : Kept s) (pos : 1 ≤ t) (known : t ≤ s.layout.threads) (fits : Fits s t (s.threads t).held (mutex_of c) p) (serves : Serves c p) (own : IsOwn p.phase) (plain : IsPlain (whole_access p)) (mine : IsMine s t (address_of (whole_access p))) where
+module _ (s : State) (t : ℕ) (c : Op) (p : Whole) (inv : Kept s) (pos : 1 ≤ t) (known : t ≤ s.layout.threads) (fits : Fits s t (s.threads t).held (mutex_of s.layout c) p) (serves : Serves s.layout c p) (own : IsOwn p.phase) (plain : IsPlain (whole_access p)) (mine : IsMine s t (address_of (whole_access p))) where
   abbrev m : ℕ
-  m = mutex_of c
+  m = mutex_of s.layout c
 
   abbrev place : ℕ
   place = cell_place s.layout m
@@ -114,7 +91,7 @@ module _ (s : State) (t : ℕ) (c : Call) (p : Whole) (inv : Kept s) (pos : 1 �
   -- what holds of every state holds then, where its thread arrives rightly
   pub own_kept : (es : List ℕ) → Arrives t (s.threads t).held p o.phase (seen s m) → s'.words (head_place t + 2) ≡ pending_in p.entry o.phase → Owned s t (left_out_in m o.phase) es → ChainedIn s'.words (head_place t) p.entry es o.phase → Kept s'
   own_kept es arrives pending owned ch =
-      kept_where s t m a (thread_after s t (call_step s t c p)) p.operation o.point inv pos known fits.inside fits.called (λ k apart. own_seen k) own_tells refl
+      kept_where s t m a (thread_after s t (call_step s t c p)) p.operation o.point inv pos known fits.inside (λ k apart. own_seen k) own_tells refl
       (λ x e takes. absurd (cc (e, own_no_point)))
       (λ u first most. own_words (head_place u + 1) (offset_is_nobodys s t u at pos known first most mine))
       (λ u x first most apart theirs. own_words x (mine_is_not_theirs s u t x at first most pos known (λ e. apart (sym e)) theirs mine))
@@ -133,20 +110,21 @@ module _ (s : State) (t : ℕ) (c : Call) (p : Whole) (inv : Kept s) (pos : 1 �
 -- ---- phase by phase
 
 -- what is left to show of an access of its own words
-record Lands (s : State) (t : ℕ) (c : Call) (p : Whole) : Type 0 where
+record Lands (s : State) (t : ℕ) (c : Op) (p : Whole) : Type 0 where
   joins : Joins (decided_at p.phase) None (decided_at (onto s t p).phase)
-  fewer : left_at (onto s t p).phase (s.words (cell_place s.layout (mutex_of c))) < left_at p.phase (s.words (cell_place s.layout (mutex_of c)))
-  steady : SteadyAt t p.phase (s.words (cell_place s.layout (mutex_of c))) → SteadyAt t (onto s t p).phase (s.words (cell_place s.layout (mutex_of c)))
-  arrives : Arrives t (s.threads t).held p (onto s t p).phase (seen s (mutex_of c))
+  fewer : left_at (onto s t p).phase (s.words (cell_place s.layout (mutex_of s.layout c))) < left_at p.phase (s.words (cell_place s.layout (mutex_of s.layout c)))
+  steady : SteadyAt t p.phase (s.words (cell_place s.layout (mutex_of s.layout c))) → SteadyAt t (onto s t p).phase (s.words (cell_place s.layout (mutex_of s.layout c)))
+  arrives : Arrives t (s.threads t).held p (onto s t p).phase (seen s (mutex_of s.layout c))
   pending : (after s t (call_step s t c p)).words (head_place t + 2) ≡ pending_in p.entry (onto s t p).phase
-  list : (es : List ℕ) × Owned s t (left_out_in (mutex_of c) (onto s t p).phase) es × ChainedIn (after s t (call_step s t c p)).words (head_place t) p.entry es (onto s t p).phase
+  list : (es : List ℕ) × Owned s t (left_out_in (mutex_of s.layout c) (onto s t p).phase) es × ChainedIn (after s t (call_step s t c p)).words (head_place t) p.entry es (onto s t p).phase
 
-goes_own : (s : State) (t : ℕ) (c : Call) (p : Whole) → Kept s → 1 ≤ t → t ≤ s.layout.threads → Fits s t (s.threads t).held (mutex_of c) p → Serves c p → IsOwn p.phase → IsPlain (whole_access p) → IsMine s t (address_of (whole_access p)) → Lands s t c p → CallStep s t c p
+goes_own : (s : State) (t : ℕ) (c : Op) (p : Whole) → Kept s → 1 ≤ t → t ≤ s.layout.threads → Fits s t (s.threads t).held (mutex_of s.layout c) p → Serves s.layout c p → IsOwn p.phase → IsPlain (whole_access p) → IsMine s t (address_of (whole_access p)) → Lands s t c p → CallStep s t c p
 goes_own s t c p inv pos known fits serves own plain mine lands = record {
   valid = own_valid s t c p inv pos known fits serves own plain mine;
+  no_move = plain_no_move (whole_access p) plain;
   kept = own_kept s t c p inv pos known fits serves own plain mine lands.list.0 lands.arrives lands.pending lands.list.1 lands.list.2;
   moves = own_moves s t c p inv pos known fits serves own plain mine lands.joins lands.fewer lands.steady;
-  same_sleep = (plain_awake (whole_access p) (met s t (call_step s t c p)) plain).0 ∙ sym (plain_awake (whole_access p) (s.words (cell_place s.layout (mutex_of c))) plain).0;
+  same_sleep = (plain_awake (whole_access p) (met s t (call_step s t c p)) plain).0 ∙ sym (plain_awake (whole_access p) (s.words (cell_place s.layout (mutex_of s.layout c))) plain).0;
   place = λ e. absurd (cc (e, (plain_awake (whole_access p) (met s t (call_step s t c p)) plain).0));
   wakes = λ e. absurd (cc (e, (plain_awake (whole_access p) 0 plain).1));
   sleeper = λ e. absurd (cc (e, (plain_awake (whole_access p) (met s t (call_step s t c p)) plain).0));
@@ -155,10 +133,11 @@ goes_own s t c p inv pos known fits serves own plain mine lands = record {
   far = λ k apart. own_seen s t c p inv pos known fits serves own plain mine k;
   cells = λ k inside apart. own_cells s t c p inv pos known fits serves own plain mine k inside;
   pendings = λ u first most apart. own_words s t c p inv pos known fits serves own plain mine (head_place u + 2) (mine_is_not_theirs s u t (head_place u + 2) _ first most pos known (λ e. apart (sym e)) (inr (inl refl)) mine);
+  counters = λ k. own_words s t c p inv pos known fits serves own plain mine (counter_place s.layout k) (λ e. mine_is_no_counter s t (address_of (whole_access p)) k pos known mine (sym e));
 }
 
 -- a call whose phase has its object as it is
-module _ (s : State) (t : ℕ) (c : Call) (p : Whole) (inv : Kept s) (pos : 1 ≤ t) (known : t ≤ s.layout.threads) (serves : Serves c p) where
+module _ (s : State) (t : ℕ) (c : Op) (p : Whole) (inv : Kept s) (pos : 1 ≤ t) (known : t ≤ s.layout.threads) (serves : Serves s.layout c p) where
   abbrev held : ℕ
   held = (s.threads t).held
 
@@ -178,83 +157,45 @@ module _ (s : State) (t : ℕ) (c : Call) (p : Whole) (inv : Kept s) (pos : 1 �
   pending_keeps out es x head owned ch = both_same s.words (put s.words (address_sum p.head 2) x) (head_place t) es (λ y on. put-other s.words (address_sum p.head 2) x y (λ e. list_not_pending s t out es y inv.layout pos known owned on (e ∙ pending_at head))) ch
 
   -- ---- the entry is made pending
-  module _ (r : Row) (fits : Fits s t held (mutex_of c) (record p { phase = Announcing r })) where
+  module _ (r : Row) (fits : Fits s t held (mutex_of s.layout c) (record p { phase = Announcing r })) where
     abbrev before : Whole
     before = record p { phase = Announcing r }
 
     announced_decided : (z : Row) → decided_at (announced before z) ≡ decided z
-    announced_decided (row.Unlock (Release d)) = refl
-    announced_decided (row.Unlock Load) = refl
-    announced_decided (row.Unlock (Wake a)) = refl
-    announced_decided (row.Lock z) = refl
-    announced_decided (row.TryLock z) = refl
-    announced_decided (row.Consistent z) = refl
-    announced_decided (row.Ended x) = refl
+    announced_decided z = grind (arith)
 
     announced_left : (z : Row) (w : ℕ) → left_at (announced before z) w < 14 + 8 * left z w
-    announced_left (row.Unlock (Release d)) w = omega arith
-    announced_left (row.Unlock Load) w = omega arith
-    announced_left (row.Unlock (Wake a)) w = omega arith
-    announced_left (row.Lock z) w = let few : 8 + 8 * left (row.Lock z) w < 14 + 8 * left (row.Lock z) w = omega arith in few
-    announced_left (row.TryLock z) w = let few : 8 + 8 * left (row.TryLock z) w < 14 + 8 * left (row.TryLock z) w = omega arith in few
-    announced_left (row.Consistent z) w = let few : 8 + 8 * left (row.Consistent z) w < 14 + 8 * left (row.Consistent z) w = omega arith in few
-    announced_left (row.Ended x) w = omega arith
+    announced_left z w = grind (arith)
 
     announced_steady : (z : Row) (w : ℕ) → SteadyAt t (Announcing z) w → SteadyAt t (announced before z) w
-    announced_steady (row.Unlock (Release d)) w was = tt
-    announced_steady (row.Unlock Load) w was = was
-    announced_steady (row.Unlock (Wake a)) w was = was
-    announced_steady (row.Lock z) w was = was
-    announced_steady (row.TryLock z) w was = was
-    announced_steady (row.Consistent z) w was = was
-    announced_steady (row.Ended x) w was = was
+    announced_steady z w was = grind (arith)
 
     announced_pends : (z : Row) → IsAnnounced z → p.entry ≡ pending_in p.entry (announced before z)
-    announced_pends (row.Unlock (Release d)) is = refl
-    announced_pends (row.Unlock Load) is = absurd is
-    announced_pends (row.Unlock (Wake a)) is = absurd is
-    announced_pends (row.Lock z) is = refl
-    announced_pends (row.TryLock z) is = refl
-    announced_pends (row.Consistent z) is = absurd is
-    announced_pends (row.Ended x) is = absurd is
+    announced_pends z is = grind (arith)
 
-    announced_arrives : (z : Row) → AtRow t held p.operation z (seen s (mutex_of c)) → Arrives t held before (announced before z) (seen s (mutex_of c))
-    announced_arrives (row.Unlock (Release d)) at = (refl, refl, tt, sym at.of, at.expects)
-    announced_arrives (row.Unlock Load) at = at
-    announced_arrives (row.Unlock (Wake a)) at = at
-    announced_arrives (row.Lock z) at = at
-    announced_arrives (row.TryLock z) at = at
-    announced_arrives (row.Consistent z) at = at
-    announced_arrives (row.Ended x) at = absurd at.going
+    announced_arrives : (z : Row) → AtRow t held p.operation z (seen s (mutex_of s.layout c)) → Arrives t held before (announced before z) (seen s (mutex_of s.layout c))
+    announced_arrives z at = grind (arith)
 
     abbrev new_words : ℕ → ℕ
     new_words = (after s t (call_step s t c before)).words
 
-    announced_list : (z : Row) (es : List ℕ) → AtRow t held p.operation z (seen s (mutex_of c)) → Owned s t None es → IsChainBothWays new_words (head_place t) es → Owned s t (left_out_in (mutex_of c) (announced before z)) es × ChainedIn new_words (head_place t) p.entry es (announced before z)
-    announced_list (row.Unlock (Release d)) es at owned ch =
-        let among : IsAmong (entry_place s.layout (mutex_of c)) es = owned.all (mutex_of c) fits.inside at.expects.0 (λ e. cc e) in
-        (owned, unlinks.right.begins (head_place t) p.entry es new_words ch (subst (λ e. IsAmong e es) (sym fits.entry) among))
-    announced_list (row.Unlock Load) es at owned ch = (owned, ch)
-    announced_list (row.Unlock (Wake a)) es at owned ch = (owned, ch)
-    announced_list (row.Lock z) es at owned ch = (owned, ch)
-    announced_list (row.TryLock z) es at owned ch = (owned, ch)
-    announced_list (row.Consistent z) es at owned ch = (owned, ch)
-    announced_list (row.Ended x) es at owned ch = absurd at.going
+    announced_list : (z : Row) (es : List ℕ) → AtRow t held p.operation z (seen s (mutex_of s.layout c)) → Owned s t None es → IsChainBothWays new_words (head_place t) es → Owned s t (left_out_in (mutex_of s.layout c) (announced before z)) es × ChainedIn new_words (head_place t) p.entry es (announced before z)
+    announced_list x0 es at owned ch = grind (arith)
 
     pub announcing : (s.threads t).stage ≡ Calling c before → Listed s t (Calling c before) → CallStep s t c before
     announcing is (es, owned, ch) =
         let list = announced_list r es fits.stands.0 owned (pending_keeps None es p.entry fits.head owned ch) in
         goes_own s t c before inv pos known fits serves tt tt (inr (inl (pending_at fits.head))) record {
           joins = subst (Joins (decided r) None) (sym (announced_decided r)) (joins_same (decided r));
-          fewer = announced_left r (s.words (cell_place s.layout (mutex_of c)));
-          steady = announced_steady r (s.words (cell_place s.layout (mutex_of c)));
+          fewer = announced_left r (s.words (cell_place s.layout (mutex_of s.layout c)));
+          steady = announced_steady r (s.words (cell_place s.layout (mutex_of s.layout c)));
           arrives = announced_arrives r fits.stands.0;
           pending = stored p.entry fits.head ∙ announced_pends r fits.stands.1;
           list = (es, list.0, list.1);
         }
 
   -- ---- the pending entry is cleared
-  pub clearing : (x : Reply) → Fits s t held (mutex_of c) (record p { phase = Clearing x }) → (s.threads t).stage ≡ Calling c (record p { phase = Clearing x }) → Listed s t (Calling c (record p { phase = Clearing x })) → CallStep s t c (record p { phase = Clearing x })
+  pub clearing : (x : Reply) → Fits s t held (mutex_of s.layout c) (record p { phase = Clearing x }) → (s.threads t).stage ≡ Calling c (record p { phase = Clearing x }) → Listed s t (Calling c (record p { phase = Clearing x })) → CallStep s t c (record p { phase = Clearing x })
   clearing x fits is (es, owned, ch) =
       goes_own s t c (record p { phase = Clearing x }) inv pos known fits serves tt tt (inr (inl (pending_at fits.head))) record {
         joins = (refl, refl);
@@ -266,12 +207,12 @@ module _ (s : State) (t : ℕ) (c : Call) (p : Whole) (inv : Kept s) (pos : 1 �
       }
 
   -- ---- the entry is put in front of the list
-  module _ (l : LinkStanding) (x : Reply) (fits : Fits s t held (mutex_of c) (record p { phase = Linking l x })) (is_in : (s.threads t).stage ≡ Calling c (record p { phase = Linking l x })) where
+  module _ (l : LinkStanding) (x : Reply) (fits : Fits s t held (mutex_of s.layout c) (record p { phase = Linking l x })) (is_in : (s.threads t).stage ≡ Calling c (record p { phase = Linking l x })) where
     abbrev linking_call : Whole
     linking_call = record p { phase = Linking l x }
 
     abbrev k : ℕ
-    k = mutex_of c
+    k = mutex_of s.layout c
 
     abbrev linked_words : ℕ → ℕ
     linked_words = (after s t (call_step s t c linking_call)).words
@@ -320,24 +261,7 @@ module _ (s : State) (t : ℕ) (c : Call) (p : Whole) (inv : Kept s) (pos : 1 �
       moved = link_moved l (answer_at (link_access_of l) found)
 
       owned_more : Owned s t None (p.entry ∷ es)
-      owned_more = record {
-        entries = λ y among. more y among;
-        all = λ j below own outside. with_it j below own;
-      }
-        where
-          more : (y : ℕ) → (y ≡ p.entry) ⊎ IsAmong y es → (j : ℕ) × (j < s.layout.mutexes) × (y ≡ entry_place s.layout j) × ((seen s j).owner ≡ Some t) × (None ≢ Some j)
-          more y (inl is) = (k, fits.inside, is ∙ fits.entry, fits.stands.3, λ e. cc e)
-          more y (inr among) = let e = owned.entries y among in (e.0, e.1, e.2, e.3, λ e. cc e)
-
-          with_it : (j : ℕ) → j < s.layout.mutexes → (seen s j).owner ≡ Some t → (entry_place s.layout j ≡ p.entry) ⊎ IsAmong (entry_place s.layout j) es
-          with_it j below own = go (j == k) refl
-            where
-              go : (b : Bool) → (j == k) ≡ b → (entry_place s.layout j ≡ p.entry) ⊎ IsAmong (entry_place s.layout j) es
-              go true e = inl (ap (entry_place s.layout) (eqb-true j k e) ∙ sym fits.entry)
-              go false e = inr (owned.all j below own (λ same. eqb-false j k e (some_same k j same)))
-                where
-                  some_same : (i j : ℕ) → Some i ≡ Some j → j ≡ i
-                  some_same i j e = cc
+      owned_more = grind (arith)
 
       -- where it stands then
       record Linked (f : Phase) : Type 0 where
@@ -359,14 +283,14 @@ module _ (s : State) (t : ℕ) (c : Call) (p : Whole) (inv : Kept s) (pos : 1 �
       }
 
       is_linked : (r : LinkRow) → led_to ≡ r → Linked (linked_at x moved r)
-      is_linked link.LoadFirst is = goes_on link.LoadFirst is tt
-      is_linked (link.StoreNext f) is = goes_on (link.StoreNext f) is tt
-      is_linked (link.StorePrevious f) is = goes_on (link.StorePrevious f) is tt
-      is_linked (link.StoreBehind f) is = goes_on (link.StoreBehind f) is tt
-      is_linked link.StoreFirst is = goes_on link.StoreFirst is tt
-      is_linked (link.Ended y) is =
+      is_linked LinkRow.LoadFirst is = goes_on LinkRow.LoadFirst is tt
+      is_linked (LinkRow.StoreNext f) is = goes_on (LinkRow.StoreNext f) is tt
+      is_linked (LinkRow.StorePrevious f) is = goes_on (LinkRow.StorePrevious f) is tt
+      is_linked (LinkRow.StoreBehind f) is = goes_on (LinkRow.StoreBehind f) is tt
+      is_linked LinkRow.StoreFirst is = goes_on LinkRow.StoreFirst is tt
+      is_linked (LinkRow.Ended y) is =
           let ends = links.right.ends (head_place t) p.entry es y linked_words (subst (λ r. link_laws.Linking (head_place t) p.entry es r linked_words) is chain_then) in
-          subst (λ (z : Reply). Linked (linked_at x moved (link.Ended z))) (sym ends.0) record {
+          subst (λ (z : Reply). Linked (linked_at x moved (LinkRow.Ended z))) (sym ends.0) record {
             joins = (refl, refl);
             fewer = omega arith;
             steady = λ was. was;
@@ -383,12 +307,12 @@ module _ (s : State) (t : ℕ) (c : Call) (p : Whole) (inv : Kept s) (pos : 1 �
           goes_own s t c linking_call inv pos known fits serves tt plain link_mine record { joins = there.joins; fewer = there.fewer; steady = there.steady; arrives = there.arrives; pending = link_pends ∙ there.pends; list = there.list }
 
   -- ---- the entry is taken out of the list
-  module _ (u : UnlinkStanding) (d : Bool) (fits : Fits s t held (mutex_of c) (record p { phase = Unlinking u d })) (is_in : (s.threads t).stage ≡ Calling c (record p { phase = Unlinking u d })) where
+  module _ (u : UnlinkStanding) (d : Bool) (fits : Fits s t held (mutex_of s.layout c) (record p { phase = Unlinking u d })) (is_in : (s.threads t).stage ≡ Calling c (record p { phase = Unlinking u d })) where
     abbrev unlinking_call : Whole
     unlinking_call = record p { phase = Unlinking u d }
 
     abbrev j : ℕ
-    j = mutex_of c
+    j = mutex_of s.layout c
 
     abbrev unlinked_words : ℕ → ℕ
     unlinked_words = (after s t (call_step s t c unlinking_call)).words
@@ -468,13 +392,13 @@ module _ (s : State) (t : ℕ) (c : Call) (p : Whole) (inv : Kept s) (pos : 1 �
       }
 
       is_unlinked : (r : UnlinkRow) → to_row ≡ r → Unlinked (unlinked_at unlink_to r d)
-      is_unlinked unlink.LoadNext is = unlink_on unlink.LoadNext is tt
-      is_unlinked (unlink.LoadPrevious n) is = unlink_on (unlink.LoadPrevious n) is tt
-      is_unlinked (unlink.StoreNext n q) is = unlink_on (unlink.StoreNext n q) is tt
-      is_unlinked (unlink.StorePrevious n q) is = unlink_on (unlink.StorePrevious n q) is tt
-      is_unlinked (unlink.Ended y) is =
+      is_unlinked UnlinkRow.LoadNext is = unlink_on UnlinkRow.LoadNext is tt
+      is_unlinked (UnlinkRow.LoadPrevious n) is = unlink_on (UnlinkRow.LoadPrevious n) is tt
+      is_unlinked (UnlinkRow.StoreNext n q) is = unlink_on (UnlinkRow.StoreNext n q) is tt
+      is_unlinked (UnlinkRow.StorePrevious n q) is = unlink_on (UnlinkRow.StorePrevious n q) is tt
+      is_unlinked (UnlinkRow.Ended y) is =
           let ends = unlinks.right.ends (head_place t) p.entry es y unlinked_words (subst (λ r. unlink_laws.Unlinking (head_place t) p.entry es r unlinked_words) is unlink_chain) in
-          subst (λ (z : Reply). Unlinked (unlinked_at unlink_to (unlink.Ended z) d)) (sym ends.0) record {
+          subst (λ (z : Reply). Unlinked (unlinked_at unlink_to (UnlinkRow.Ended z) d)) (sym ends.0) record {
             joins = refl;
             fewer = omega arith;
             steady = tt;

@@ -1,16 +1,12 @@
 -- Which words are whose.
-use Rattle.std.proofs.Common.{◌≡◌, ◌≢◌, ◌⊎◌, inl, inr, ℕ, ◌+◌, ◌<◌, ◌≤◌, ◌==◌, Bool, true, false, Option, Some, List, [], ◌∷◌, refl, sym, ap, ◌∙◌, arith, eqb-true}
-use Rattle.std.specs.Prelude.{if◌then◌else◌}
-use Rattle.std.proofs.lemmas.Bool.{eqb-false}
-use Rattle.std.proofs.lemmas.Bool.Decides.{nat_tests}
-use Rattle.keys.specs.Layouts.{Layout', IsLayout, head_place, entry_place, cell_place}
-use Rattle.keys.specs.Chains.{address_sum, previous_place, IsAmong, IsApart, AreDifferent, places_of, IsChainBothWays, without}
-use Rattle.robustlist.specs.Words.{IsOn, Agree}
+use Rattle.std.proofs.Common.{◌≡◌, ◌≢◌, ◌⊎◌, inl, inr, ℕ, ◌+◌, ◌<◌, ◌≤◌, ◌==◌, Bool, true, false, Option, Some, List, [], ◌∷◌, length, refl, sym, ap, ◌∙◌, arith, eqb-true}
+use Rattle.protocol.proofs.Vocabulary.{Layout', IsLayout, head_place, entry_place, cell_place, counter_place, address_sum, AreDifferent, IsChainBothWays, State, is_valid, seen}
+use Rattle.protocol.proofs.Vocabulary.{Agree, if◌then◌else◌, eqb-false, nat_tests}
+use Rattle.keys.specs.Chains.{previous_place, IsAmong, IsApart, places_of, without}
+use Rattle.robustlist.specs.Words.{IsOn}
 use Rattle.robustlist.specs.LinkLaws as link_laws
 use Rattle.robustlist.proofs.Chains.{chained, chain-same, both-ways}
 use Rattle.robustlist.proofs.Places.{avoids-all, apart-among}
-use Rattle.protocol.specs.Machine.{State, is_valid}
-use Rattle.protocol.specs.Headline.{seen}
 use Rattle.protocol.proofs.Kept.{Owned}
 
 -- the word is thread t's own: its head's first entry or pending one, or a link of a mutex that it owns
@@ -26,38 +22,15 @@ mine_is_valid s t at pos known (inr (inr (k, inside, inr is, own))) = grind (ari
 
 -- it is no mutex's cell
 pub mine_is_no_cell : (s : State) (t at m : ℕ) → 1 ≤ t → t ≤ s.layout.threads → m < s.layout.mutexes → IsMine s t at → at ≢ cell_place s.layout m
-mine_is_no_cell s t at m pos known in_m (inl is) = λ e. omega (arith, e, is)
-mine_is_no_cell s t at m pos known in_m (inr (inl is)) = λ e. omega (arith, e, is)
-mine_is_no_cell s t at m pos known in_m (inr (inr (k, inside, inl is, own))) = λ e. omega (arith, e, is)
-mine_is_no_cell s t at m pos known in_m (inr (inr (k, inside, inr is, own))) = λ e. omega (arith, e, is)
+mine_is_no_cell s t at m pos known in_m h = grind (arith)
+
+-- nor a counter
+pub mine_is_no_counter : (s : State) (t at c : ℕ) → 1 ≤ t → t ≤ s.layout.threads → IsMine s t at → at ≢ counter_place s.layout c
+mine_is_no_counter s t at c pos known h = grind (arith)
 
 -- nor another thread's own
 pub mine_is_not_theirs : (s : State) (t u a b : ℕ) → 1 ≤ t → t ≤ s.layout.threads → 1 ≤ u → u ≤ s.layout.threads → t ≢ u → IsMine s t a → IsMine s u b → a ≢ b
-mine_is_not_theirs s t u a b pos known first last apart (inl is) (inl at) = λ e. apart (omega (arith, e, is, at))
-mine_is_not_theirs s t u a b pos known first last apart (inl is) (inr (inl at)) = λ e. omega (arith, e, is, at)
-mine_is_not_theirs s t u a b pos known first last apart (inl is) (inr (inr (k, inside, inl at, own))) = λ e. omega (arith, e, is, at)
-mine_is_not_theirs s t u a b pos known first last apart (inl is) (inr (inr (k, inside, inr at, own))) = λ e. omega (arith, e, is, at)
-mine_is_not_theirs s t u a b pos known first last apart (inr (inl is)) (inl at) = λ e. omega (arith, e, is, at)
-mine_is_not_theirs s t u a b pos known first last apart (inr (inl is)) (inr (inl at)) = λ e. apart (omega (arith, e, is, at))
-mine_is_not_theirs s t u a b pos known first last apart (inr (inl is)) (inr (inr (k, inside, inl at, own))) = λ e. omega (arith, e, is, at)
-mine_is_not_theirs s t u a b pos known first last apart (inr (inl is)) (inr (inr (k, inside, inr at, own))) = λ e. omega (arith, e, is, at)
-mine_is_not_theirs s t u a b pos known first last apart (inr (inr (k, inside, inl is, own))) (inl at) = λ e. omega (arith, e, is, at)
-mine_is_not_theirs s t u a b pos known first last apart (inr (inr (k, inside, inr is, own))) (inl at) = λ e. omega (arith, e, is, at)
-mine_is_not_theirs s t u a b pos known first last apart (inr (inr (k, inside, inl is, own))) (inr (inl at)) = λ e. omega (arith, e, is, at)
-mine_is_not_theirs s t u a b pos known first last apart (inr (inr (k, inside, inr is, own))) (inr (inl at)) = λ e. omega (arith, e, is, at)
-mine_is_not_theirs s t u a b pos known first last apart (inr (inr (k, inside, at_k, own))) (inr (inr (j, inside_j, at_j, own_j))) = λ e. two_owners (same at_k at_j e)
-  where
-    same : (a ≡ entry_place s.layout k) ⊎ (a ≡ entry_place s.layout k + 1) → (b ≡ entry_place s.layout j) ⊎ (b ≡ entry_place s.layout j + 1) → a ≡ b → j ≡ k
-    same (inl is) (inl at) e = omega (arith, e, is, at)
-    same (inl is) (inr at) e = absurd (omega (arith, e, is, at))
-    same (inr is) (inl at) e = absurd (omega (arith, e, is, at))
-    same (inr is) (inr at) e = omega (arith, e, is, at)
-
-    two_owners : j ≡ k → ⊥
-    two_owners is = apart (owner_same (sym own ∙ ap (λ (i : ℕ). (seen s i).owner) (sym is) ∙ own_j))
-      where
-        owner_same : Some t ≡ Some u → t ≡ u
-        owner_same e = cc
+mine_is_not_theirs s t u a b pos known first last apart x10 x11 = grind (arith)
 
 -- ---- lists
 
@@ -70,11 +43,7 @@ pending_is t last pos = omega arith
 
 -- the places of a thread's list are its own
 pub list_is_mine : (s : State) (t : ℕ) (out : Option ℕ) (es : List ℕ) (p : ℕ) → IsLayout s.layout → Owned s t out es → IsOn (head_place t) es p → IsMine s t p
-list_is_mine s t out es p is owned (inl at) = inl at
-list_is_mine s t out es p is owned (inr (x, among, inl at)) =
-    let e = owned.entries x among in inr (inr (e.0, e.1, inl (at ∙ e.2), e.3))
-list_is_mine s t out es p is owned (inr (x, among, inr at)) =
-    let e = owned.entries x among in inr (inr (e.0, e.1, inr (at ∙ ap previous_place e.2 ∙ behind s.layout e.0 is e.1), e.3))
+list_is_mine s t out es p is owned x7 = grind (arith)
 
 -- words that agree at a list's places have the same list
 pub both_same : (v w : ℕ → ℕ) (h : ℕ) (es : List ℕ) → Agree h es v w → IsChainBothWays v h es → IsChainBothWays w h es
@@ -112,10 +81,7 @@ list_not_pending s t out es p is pos known owned (inr (x, among, inr at)) = let 
 
 -- the places of a list and of one entry more, of a mutex that the thread owns, are its own
 pub more_is_mine : (s : State) (t m : ℕ) (out : Option ℕ) (e : ℕ) (es : List ℕ) (p : ℕ) → IsLayout s.layout → Owned s t out es → m < s.layout.mutexes → e ≡ entry_place s.layout m → (seen s m).owner ≡ Some t → IsOn (head_place t) (e ∷ es) p → IsMine s t p
-more_is_mine s t m out e es p is owned inside same own (inl at) = inl at
-more_is_mine s t m out e es p is owned inside same own (inr (x, inl this, inl at)) = inr (inr (m, inside, inl (at ∙ this ∙ same), own))
-more_is_mine s t m out e es p is owned inside same own (inr (x, inl this, inr at)) = inr (inr (m, inside, inr (at ∙ ap previous_place (this ∙ same) ∙ behind s.layout m is inside), own))
-more_is_mine s t m out e es p is owned inside same own (inr (x, inr among, at)) = list_is_mine s t out es p is owned (inr (x, among, at))
+more_is_mine s t m out e es p is owned inside same own h = grind (arith)
 
 -- lists without an entry
 pub among_without : (e x : ℕ) (es : List ℕ) → IsAmong x es → x ≢ e → IsAmong x (without e es)
@@ -123,10 +89,7 @@ among_without e x [] among apart = absurd among
 among_without e x (y ∷ ys) among apart = go (λ later. among_without e x ys later apart) (y == e) refl among
   where
     go : (IsAmong x ys → IsAmong x (without e ys)) → (b : Bool) → (y == e) ≡ b → (x ≡ y) ⊎ IsAmong x ys → IsAmong x (if b then ys else y ∷ without e ys)
-    go rest true is (inl same) = absurd (apart (same ∙ eqb-true y e is))
-    go rest true is (inr later) = later
-    go rest false is (inl same) = inl same
-    go rest false is (inr later) = inr (rest later)
+    go rest b is h = grind (arith)
 
 pub without_is_apart : (e x : ℕ) (es : List ℕ) → AreDifferent es → IsAmong x (without e es) → x ≢ e
 without_is_apart e x [] different among = absurd among
@@ -139,17 +102,20 @@ without_is_apart e x (y ∷ ys) different among = go (without_is_apart e x ys di
 
 -- no access to a thread's own words, nor to a cell, is at an offset's place
 pub offset_is_nobodys : (s : State) (t u at : ℕ) → 1 ≤ t → t ≤ s.layout.threads → 1 ≤ u → u ≤ s.layout.threads → IsMine s t at → head_place u + 1 ≢ at
-offset_is_nobodys s t u at pos known first last (inl is) = λ e. omega (arith, e, is)
-offset_is_nobodys s t u at pos known first last (inr (inl is)) = λ e. omega (arith, e, is)
-offset_is_nobodys s t u at pos known first last (inr (inr (k, inside, inl is, own))) = λ e. omega (arith, e, is)
-offset_is_nobodys s t u at pos known first last (inr (inr (k, inside, inr is, own))) = λ e. omega (arith, e, is)
+offset_is_nobodys s t u at pos known first last h = grind (arith)
 
 pub head_is_no_cell : (l : Layout') (u m i : ℕ) → 1 ≤ u → u ≤ l.threads → i < 3 → head_place u + i ≢ cell_place l m
 head_is_no_cell l u m i first last few = λ e. omega (arith, e)
 
+pub head_is_no_counter : (l : Layout') (u c i : ℕ) → 1 ≤ u → u ≤ l.threads → i < 3 → head_place u + i ≢ counter_place l c
+head_is_no_counter l u c i first last few = λ e. omega (arith, e)
+
+pub counter_is_no_cell : (l : Layout') (m c : ℕ) → m < l.mutexes → counter_place l c ≢ cell_place l m
+counter_is_no_cell l m c inside = λ e. omega (arith, e)
+
+pub counter_is_valid : (l : Layout') (c : ℕ) → c < length l.conditions → is_valid l (counter_place l c) ≡ true
+counter_is_valid l c inside = grind (arith, nat_tests)
+
 -- the pending word is none of a list's, nor of one entry more
 pub more_not_pending : (s : State) (t m : ℕ) (out : Option ℕ) (e : ℕ) (es : List ℕ) (p : ℕ) → IsLayout s.layout → 1 ≤ t → t ≤ s.layout.threads → Owned s t out es → m < s.layout.mutexes → e ≡ entry_place s.layout m → IsOn (head_place t) (e ∷ es) p → p ≢ head_place t + 2
-more_not_pending s t m out e es p is pos known owned inside same (inl at) = list_not_pending s t out es p is pos known owned (inl at)
-more_not_pending s t m out e es p is pos known owned inside same (inr (x, inl this, inl at)) = let there = at ∙ this ∙ same in λ q. omega (arith, q, there)
-more_not_pending s t m out e es p is pos known owned inside same (inr (x, inl this, inr at)) = let there : p ≡ entry_place s.layout m + 1 = at ∙ ap previous_place (this ∙ same) ∙ behind s.layout m is inside in λ q. omega (arith, q, there)
-more_not_pending s t m out e es p is pos known owned inside same (inr (x, inr among, at)) = list_not_pending s t out es p is pos known owned (inr (x, among, at))
+more_not_pending s t m out e es p is pos known owned inside same h = grind (arith)

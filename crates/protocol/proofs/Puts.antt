@@ -1,8 +1,6 @@
 -- A function with one new value.
 use Rattle.std.proofs.Common.{◌≡◌, ◌≢◌, ℕ, ◌==◌, Bool, true, false, refl, eqb-true}
-use Rattle.std.specs.Prelude.{if◌then◌else◌}
-use Rattle.std.proofs.lemmas.Bool.{eqb-false}
-use Rattle.protocol.specs.Machine.{put}
+use Rattle.protocol.proofs.Vocabulary.{put, if◌then◌else◌, eqb-false}
 
 -- what holds of the new value, and of each other one, holds of each
 pub by_put : {A : Type 0} (P : A → Type 0) (f : ℕ → A) (k : ℕ) (x : A) (j : ℕ) → (j ≡ k → P x) → (j ≢ k → P (f j)) → P (put f k x j)

@@ -1,69 +1,34 @@
 -- Who sleeps where, event by event.
-use Rattle.std.proofs.Common.{◌≡◌, ◌≢◌, ℕ, ◌+◌, ◌≤◌, ◌==◌, Bool, true, false, Ok, Err, List, [], ◌∷◌, refl, sym, ap, ◌∙◌, subst, eqb-true}
-use Rattle.std.specs.Prelude.{if◌then◌else◌}
-use Rattle.std.proofs.lemmas.Bool.{eqb-false}
-use Rattle.lockword.specs.declared.reply.Reply.TheVariants.{XHELD}
-use Rattle.keys.specs.Layouts.{Layout', IsLayout, head_place, entry_place}
+use Rattle.std.proofs.Common.{arith, ◌≡◌, ◌≢◌, ℕ, ◌+◌, ◌≤◌, ◌==◌, Bool, true, false, Ok, Err, List, [], ◌∷◌, refl, sym, ap, ◌∙◌, subst, eqb-true}
+use Rattle.protocol.proofs.Vocabulary.{LoadFirst, Layout', IsLayout, head_place, entry_place, XHELD, Op, Event, Thread, Stage, Idle, Dying, State, After, put, start, stands_in}
+use Rattle.protocol.proofs.Vocabulary.{sleepers, is_alive, killed, begun, happens, run, if◌then◌else◌, eqb-false}
 use Rattle.buckets.specs.Queues.{without}
-use Rattle.mutex.specs.declared.call.Call.{Call}
-use Rattle.mutex.specs.declared.unlock.UnlockRow.TheVariants as unlock
-use Rattle.mutex.specs.declared.row.Row.TheVariants as call_row
-use Rattle.mutex.specs.declared.phase.Phase.{Phase}
-use Rattle.mutex.specs.declared.phase.Phase.TheVariants as phase
-use Rattle.mutex.specs.Whole.{begins}
-use Rattle.exitwalk.specs.declared.row.Row.TheVariants.{LoadFirst}
-use Rattle.protocol.specs.declared.event.Event.{Event}
-use Rattle.protocol.specs.declared.thread.Thread.{Thread}
-use Rattle.protocol.specs.declared.thread.Stage.{Stage}
-use Rattle.protocol.specs.declared.thread.Stage.TheVariants.{Idle, Calling, Dying, Reaped}
-use Rattle.protocol.specs.Machine.{State, After, put, start, stands_in, sleepers, is_alive, killed, begun, happens, run}
-use Rattle.protocol.proofs.Puts.{by_put, put-same, put-other}
-use Rattle.protocol.proofs.Phases.{answers_at}
-use Rattle.protocol.proofs.Kept.{pending_in, PendsAs, Kept}
-use Rattle.protocol.proofs.Accesses.{fits_in}
+use Rattle.protocol.proofs.Puts.{put-same, put-other}
+use Rattle.protocol.proofs.Kept.{Kept}
 use Rattle.protocol.proofs.WalkSteps.{walk_of}
 use Rattle.protocol.proofs.Stepping.{SleepsAs, AnswersAs}
-use Rattle.protocol.proofs.Events.{by_event}
+use Rattle.protocol.proofs.Events.{begins_at, by_event}
 use Rattle.protocol.proofs.Working.{by_step}
 use Rattle.protocol.proofs.Queues.{without_stands, without_gone, once_without, not_true}
 use Rattle.protocol.proofs.Queued.{Answering, Queued, went_queued}
 use Rattle.protocol.proofs.Runs.{sound, start_kept}
 
 -- ---- a call that begins
-module _ (s : State) (t : ℕ) (c : Call) (queued : Queued s) (idle : (s.threads t).stage ≡ Idle) where
+module _ (s : State) (t : ℕ) (o : Op) (queued : Queued s) (idle : (s.threads t).stage ≡ Idle) where
   abbrev busy : Thread
-  busy = record (s.threads t) { stage = Calling c (begins s.layout t c) }
+  busy = record (s.threads t) { stage = begins_at s.layout t o }
 
   abbrev begun_state : State
   begun_state = record s { threads = put s.threads t busy }
 
-  -- whatever else than idle a thread is, it is still
-  stays : (P : Stage → Type 0) → (P Idle → ⊥) → (u : ℕ) → P (s.threads u).stage → P (begun_state.threads u).stage
-  stays P never u h = by_put (λ (z : Thread). P z.stage) s.threads t busy u (λ at. absurd (never (subst P (ap (λ (v : ℕ). (s.threads v).stage) at ∙ idle) h))) (λ apart. h)
-
   begun_queued : Queued begun_state
-  begun_queued = record {
-    sleeps = λ key u stands. let slept = queued.sleeps key u stands in (slept.0, slept.1, stays (SleepsAs s.layout key) (λ h. h) u slept.2);
-    one = queued.one;
-    once = queued.once;
-    bits = queued.bits;
-    answered = λ m u inside none stands.
-        let old = queued.answered m u inside none stands in
-        let a : Answering s m old.0 = old.1 in
-        (old.0, record { first = a.first; last = a.last; answers = stays (AnswersAs s.layout s.words m old.0) (λ h. h) old.0 a.answers; awake = a.awake });
-  }
+  begun_queued = grind (arith)
 
-  begins_queued : (b : Bool) → Queued (begun s t c (if b then Err XHELD else Ok (begins s.layout t c))).state
+  begins_queued : (b : Bool) → Queued (begun s t o (if b then Err XHELD else Ok (begins_at s.layout t o))).state
   begins_queued true = queued
   begins_queued false = begun_queued
 
 -- ---- a death
-
--- who answers for a mutex in a call has its entry pending
-answers_pend : (e : ℕ) (f : Phase) → answers_at f ≡ true → pending_in e f ≡ e
-answers_pend e (phase.AtCell (call_row.Lock r)) on = refl
-answers_pend e (phase.AtCell (call_row.Unlock (unlock.Wake a))) on = refl
-answers_pend e f on = absurd cc
 
 module _ (s : State) (t : ℕ) (inv : Kept s) (queued : Queued s) (pos : 1 ≤ t) (known : t ≤ s.layout.threads) (alive : is_alive (s.threads t).stage ≡ true) where
   abbrev dead : Thread
@@ -77,11 +42,7 @@ module _ (s : State) (t : ℕ) (inv : Kept s) (queued : Queued s) (pos : 1 ≤ t
 
   -- its walk answers for what its call answered for
   minds : (m : ℕ) (g : Stage) → (s.threads t).stage ≡ g → AnswersAs s.layout s.words m t g → s.words (head_place t + 2) ≡ entry_place s.layout m
-  minds m (Calling c p) is a =
-      subst (PendsAs (s.words (head_place t + 2))) is (inv.heads t pos known).pending ∙ answers_pend p.entry p.phase a.1 ∙ (fits_in s t c p inv pos known is).0.entry ∙ ap (entry_place s.layout) a.0
-  minds m Idle is a = absurd a
-  minds m (Dying w) is a = absurd (cc (sym (ap is_alive is) ∙ alive))
-  minds m Reaped is a = absurd a
+  minds m x1 is a = grind (arith)
 
   out_then : (u : ℕ) → ((key : ℕ) → stands_in u (s.queues key) ≡ false) → (key : ℕ) → stands_in u (s1.queues key) ≡ false
   out_then u out key = not_true (stands_in u (without t (s.queues key))) (λ stands. cc ((without_stands t u (s.queues key) stands).0, out key))
@@ -116,19 +77,13 @@ pub queued_on : (s : State) (e : Event) → Kept s → Queued s → Queued (happ
 queued_on s e inv queued =
     by_event s (λ (x : Event) (a : After). Queued a.state)
     (λ x. queued)
-    (λ t c pos known inside idle b full. begins_queued s t c queued idle b)
-    (λ t pos known. by_step s t inv pos known (λ (a : After). Queued a.state) (λ rests. queued) (λ v n is awake g points. went_queued s t v g pos known is queued awake))
+    (λ t o pos known named idle b full. begins_queued s t o queued idle b)
+    (λ t pos known. by_step s t inv pos known (λ (a : After). Queued a.state) (λ rests. queued) (λ v n is awake g noted. went_queued s t v g pos known is queued awake))
     (λ t pos known alive. kill_queued s t inv queued pos known alive)
     e
 
 pub start_queued : (l : Layout') (counters : ℕ → ℕ) → Queued (start l counters)
-start_queued l counters = record {
-  sleeps = λ key t stands. absurd cc;
-  one = λ t key at here there. absurd cc;
-  once = λ key. tt;
-  bits = λ m u inside stands. absurd cc;
-  answered = λ m u inside none stands. absurd cc;
-}
+start_queued l counters = grind (arith)
 
 pub queued_after : (s : State) (es : List Event) → Kept s → Queued s → Queued (run s es)
 queued_after s [] inv queued = queued

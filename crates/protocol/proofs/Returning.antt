@@ -1,18 +1,11 @@
 -- A call alone comes to its return, or falls asleep.
-use Rattle.std.proofs.Common.{◌≡◌, ◌⊎◌, ⊎_elim, inl, inr, ℕ, zero, suc, Bool, true, false, Option, Some, None, List, [], ◌∷◌, ◌++◌, map, sym, ap, ◌∙◌, subst, refl}
-use Rattle.std.specs.Prelude.{if◌then◌else◌, replicate}
-use Rattle.lockword.specs.declared.reply.Reply.{Reply}
-use Rattle.keys.specs.declared.point.Decision.{Decision}
-use Rattle.protocol.specs.declared.event.Event.TheVariants.{Step}
-use Rattle.facts.specs.declared.fact.Fact.{Fact}
-use Rattle.facts.specs.declared.fact.Fact.TheVariants.{Wake, Return}
-use Rattle.protocol.specs.declared.note.Note.TheVariants.{Stepped}
-use Rattle.protocol.specs.declared.thread.Stage.TheVariants.{Idle}
-use Rattle.protocol.specs.Machine.{State, After, is_thread, is_asleep, nothing, stepped, happens, run, notes}
-use Rattle.protocol.specs.Headline.{facts_among}
-use Rattle.protocol.specs.Notes.{facts_of, sleep_facts, return_facts}
+use Rattle.std.proofs.Common.{◌≡◌, ◌⊎◌, ⊎_elim, inl, inr, ℕ, zero, suc, Bool, true, false, Option, Some, List, [], ◌∷◌, ◌++◌, sym, ap, ◌∙◌, subst, refl}
+use Rattle.protocol.proofs.Vocabulary.{Queue, Fact, Return, Decision, Reply, Step, Stepped, Idle, State, After, is_asleep, nothing, stepped, happens, run, notes, facts_among}
+use Rattle.protocol.proofs.Vocabulary.{facts_of, if◌then◌else◌, replicate}
+use Rattle.protocol.specs.Machine.{is_thread}
 use Rattle.protocol.specs.Sleepers.{IsAmong}
 use Rattle.protocol.proofs.Events.{by_stage}
+use Rattle.protocol.proofs.NoteFacts.{of_access}
 
 -- ---- a thread that is idle or asleep steps no more
 
@@ -35,24 +28,14 @@ pub idle_still : (s : State) (t : ℕ) → (s.threads t).stage ≡ Idle → IsSt
 idle_still s t is = either_way (is_thread s t) s (stepped s t (s.threads t).held (s.threads t).stage) (ap (stepped s t (s.threads t).held) is)
 
 pub asleep_still : (s : State) (t : ℕ) → is_asleep s t ≡ true → IsStill s t
-asleep_still s t e = either_way (is_thread s t) s (stepped s t (s.threads t).held (s.threads t).stage) (by_stage s t (λ (a : After). a ≡ nothing s) (λ rests. refl) (λ c p is awake. absurd (cc (e, awake))) (λ w is awake. absurd (cc (e, awake))))
+asleep_still s t e = either_way (is_thread s t) s (stepped s t (s.threads t).held (s.threads t).stage) (by_stage s t (λ (a : After). a ≡ nothing s) (λ rests. refl) (λ o p is awake. absurd (cc (e, awake))) (λ c p is awake. absurd (cc (e, awake))) (λ w is awake. absurd (cc (e, awake))))
 
 -- ---- what a step tells that returns
 
-told_last : (t : ℕ) (x : Reply) (ws : List ℕ) (rest : List Fact) → IsAmong (Return t x) ((map Wake ws ++ return_facts t (Some x)) ++ rest)
-told_last t x [] rest = inl refl
-told_last t x (w ∷ ws) rest = inr (told_last t x ws rest)
-
-told_behind : (t : ℕ) (x : Reply) (m : Option ℕ) (ws : List ℕ) (rest : List Fact) → IsAmong (Return t x) ((sleep_facts t m ++ (map Wake ws ++ return_facts t (Some x))) ++ rest)
-told_behind t x None ws rest = told_last t x ws rest
-told_behind t x (Some m) ws rest = inr (told_last t x ws rest)
-
-pub told_return : (t : ℕ) (x : Reply) (d : Option Decision) (m : Option ℕ) (ws : List ℕ) (y : Option Reply) (rest : List Fact) → y ≡ Some x → IsAmong (Return t x) (facts_of (Stepped t d m ws y) ++ rest)
-told_return t x d m ws y rest e = subst (λ (z : Option Reply). IsAmong (Return t x) (facts_of (Stepped t d m ws z) ++ rest)) (sym e) (go d)
-  where
-    go : (d : Option Decision) → IsAmong (Return t x) (facts_of (Stepped t d m ws (Some x)) ++ rest)
-    go None = told_behind t x m ws rest
-    go (Some d) = inr (told_behind t x m ws rest)
+pub told_return : (t m : ℕ) (x : Reply) (d : Option Decision) (k : Option Queue) (ws ms : List ℕ) (y : Option Reply) (rest : List Fact) → y ≡ Some x → IsAmong (Return t x) (facts_of (Stepped t m d k ws ms y) ++ rest)
+told_return t m x d k ws ms y rest e =
+    subst (λ (z : Option Reply). IsAmong (Return t x) (facts_of (Stepped t m d k ws ms z) ++ rest)) (sym e)
+    (of_access (λ (fs : List Fact). IsAmong (Return t x) (fs ++ rest)) t m d k ws ms (Some x) (λ p fs later. inr later) (λ f of fs later. inr later) (inl refl))
 
 among_later : (f : Fact) (gs fs : List Fact) → IsAmong f fs → IsAmong f (gs ++ fs)
 among_later f [] fs h = h

@@ -1,35 +1,24 @@
 -- One access of a thread, whatever it does.
-use Rattle.std.proofs.Common.{◌≡◌, ◌≢◌, ◌⊎◌, ℕ, ◌+◌, ◌<◌, ◌≤◌, true, false, Some}
-use Rattle.lockword.specs.Cells.{fields_of}
-use Rattle.lockword.specs.declared.reply.Reply.{Reply}
-use Rattle.keys.specs.declared.access.Access.TheVariants.{Wake}
-use Rattle.keys.specs.Objects.{acquires}
-use Rattle.keys.specs.Accesses.{sleeps_at}
+use Rattle.std.proofs.Common.{◌≡◌, ◌≢◌, ◌⊎◌, ℕ, ◌+◌, ◌<◌, ◌≤◌, Bool, true, false, Some, length}
+use Rattle.protocol.proofs.Vocabulary.{CondRow, CondPhase, acquires, sleeps_at, Layout', head_place, entry_place, cell_place, counter_place, fields_of, Reply, AtCell, OnCondition}
+use Rattle.protocol.proofs.Vocabulary.{mutex_of, Stage, Calling, AtCondition, Dying, State, is_met, seen, IsUnowned, slice_index, LockRow, WaitRow, SignalRow, BroadcastRow, Part}
+use Rattle.keys.specs.declared.access.Access.TheVariants.{Wake, CmpRequeue}
 use Rattle.keys.specs.Chains.{IsAmong}
-use Rattle.keys.specs.Layouts.{Layout', head_place, entry_place, cell_place}
-use Rattle.mutex.specs.declared.lock.LockRow.TheVariants as lock
 use Rattle.mutex.specs.declared.row.Row.TheVariants.{Lock}
-use Rattle.mutex.specs.declared.phase.Phase.TheVariants.{AtCell}
-use Rattle.mutex.specs.Calls.{mutex_of}
+use Rattle.robustlist.specs.UnlinkLaws.{unlink_left}
 use Rattle.exitwalk.specs.declared.row.Row as walk_row
 use Rattle.exitwalk.specs.declared.row.Row.TheVariants as walk
-use Rattle.exitwalk.specs.declared.row.Part.TheVariants as part
 use Rattle.exitwalk.specs.Ranks.{left_alone}
-use Rattle.protocol.specs.declared.thread.Stage.{Stage}
-use Rattle.protocol.specs.declared.thread.Stage.TheVariants.{Calling, Dying}
-use Rattle.protocol.specs.Machine.{State, is_valid, places_of}
-use Rattle.protocol.specs.Headline.{seen}
-use Rattle.protocol.specs.Sleepers.{IsUnowned}
-use Rattle.protocol.proofs.Objects.{IsCalled}
+use Rattle.protocol.specs.Machine.{places_of}
 use Rattle.protocol.proofs.Phases.{answers_at, left_at}
 use Rattle.protocol.proofs.Kept.{Kept}
-use Rattle.protocol.proofs.Steps.{Tells, Transition, after, place_of, met}
+use Rattle.protocol.proofs.Steps.{Tells, Transition, IsNoMove, after, place_of, met}
 
 -- ---- stages
 
 -- a thread there, in the queue of one of its places, will load its mutex's cell when it is woken
 abbrev pub SleepsAs : Layout' → ℕ → Stage → Type 0
-SleepsAs l key (Calling c p) = (p.phase ≡ AtCell (Lock lock.Load)) × IsAmong key (places_of l (Calling c p))
+SleepsAs l key (Calling c p) = (p.phase ≡ AtCell (Lock LockRow.Load)) × IsAmong key (places_of l (Calling c p))
 SleepsAs l key g = ⊥
 
 -- a walk that is at a row, and has not come to its pending entry yet, answers for the mutex that is pending; and at a wake, for the one whose sleeper it is going to wake
@@ -38,22 +27,53 @@ Minds l words m t walk.LoadFirst = words (head_place t + 2) ≡ entry_place l m
 Minds l words m t (walk.LoadOffset f) = words (head_place t + 2) ≡ entry_place l m
 Minds l words m t (walk.LoadPending f o) = words (head_place t + 2) ≡ entry_place l m
 Minds l words m t (walk.LoadNext r) = r.pending ≡ entry_place l m
-Minds l words m t (walk.LoadWord at (part.List r)) = r.pending ≡ entry_place l m
-Minds l words m t (walk.LoadWord at part.Pending) = at ≡ cell_place l m
-Minds l words m t (walk.Mark at v again (part.List r)) = r.pending ≡ entry_place l m
-Minds l words m t (walk.WakeOne at (part.List r)) = (at ≡ cell_place l m) ⊎ (r.pending ≡ entry_place l m)
-Minds l words m t (walk.WakeOne at part.Pending) = at ≡ cell_place l m
+Minds l words m t (walk.LoadWord at (Part.List r)) = r.pending ≡ entry_place l m
+Minds l words m t (walk.LoadWord at Part.Pending) = at ≡ cell_place l m
+Minds l words m t (walk.Mark at v again (Part.List r)) = r.pending ≡ entry_place l m
+Minds l words m t (walk.WakeOne at (Part.List r)) = (at ≡ cell_place l m) ⊎ (r.pending ≡ entry_place l m)
+Minds l words m t (walk.WakeOne at Part.Pending) = at ≡ cell_place l m
 Minds l words m t r = ⊥
+
+-- a wait that is about to wake one of its mutex, which it has released with WAITERS
+abbrev pub wakes_next : CondPhase → Bool
+wakes_next (CondPhase.AtWords (CondRow.Wait (WaitRow.Wake seen))) = true
+wakes_next f = false
 
 -- thread t, awake there, takes mutex m or wakes one that sleeps on it, unless it finds it owned
 abbrev pub AnswersAs : Layout' → (ℕ → ℕ) → ℕ → ℕ → Stage → Type 0
-AnswersAs l words m t (Calling c p) = (mutex_of c ≡ m) × (answers_at p.phase ≡ true)
+AnswersAs l words m t (Calling o p) = (mutex_of l o ≡ m) × (answers_at p.phase ≡ true)
+AnswersAs l words m t (AtCondition c p) = (mutex_of l (OnCondition c) ≡ m) × (wakes_next p.phase ≡ true)
 AnswersAs l words m t (Dying w) = Minds l words m t w.row
 AnswersAs l words m t g = ⊥
 
+-- so many accesses a call on a condition variable still makes, at most, where nobody else steps
+abbrev pub left_of_row : CondRow → ℕ
+left_of_row (CondRow.Wait WaitRow.LoadCell) = 77
+left_of_row (CondRow.Wait WaitRow.LoadCounter) = 76
+left_of_row (CondRow.Wait (WaitRow.Release seen)) = 65
+left_of_row (CondRow.Wait (WaitRow.Wake seen)) = 64
+left_of_row (CondRow.Wait (WaitRow.Sleep seen)) = 63
+left_of_row (CondRow.Signal SignalRow.LoadCell) = 4
+left_of_row (CondRow.Signal SignalRow.LoadCounter) = 3
+left_of_row (CondRow.Signal SignalRow.Count) = 2
+left_of_row (CondRow.Signal SignalRow.Wake) = 1
+left_of_row (CondRow.Broadcast BroadcastRow.LoadCell) = 5
+left_of_row (CondRow.Broadcast BroadcastRow.LoadCounter) = 4
+left_of_row (CondRow.Broadcast (BroadcastRow.Count seen)) = 3
+left_of_row (CondRow.Broadcast (BroadcastRow.SetWaiters seen)) = 2
+left_of_row (CondRow.Broadcast (BroadcastRow.Move seen)) = 1
+left_of_row r = 0
+
+abbrev pub left_at_phase : CondPhase → ℕ
+left_at_phase (CondPhase.AtWords r) = left_of_row r
+left_at_phase (CondPhase.Announcing seen) = 75
+left_at_phase (CondPhase.Unlinking u seen) = 66 + unlink_left u.row
+left_at_phase f = 0
+
 -- so many accesses a thread there still makes, at most, where nobody else steps
 abbrev pub left_of : State → Stage → ℕ
-left_of s (Calling c p) = left_at p.phase (s.words (cell_place s.layout (mutex_of c)))
+left_of s (Calling o p) = left_at p.phase (s.words (cell_place s.layout (mutex_of s.layout o)))
+left_of s (AtCondition c p) = left_at_phase p.phase
 left_of s (Dying w) = left_alone s.words w.row
 left_of s g = 0
 
@@ -73,11 +93,15 @@ pub data Settles (s : State) (t : ℕ) (v : Transition) (k : ℕ) : Type 0 where
   Answers_now : Continues s t v k → Settles s t v k
   Found_free : IsUnowned s k → (AnswersAs s.layout s.words k t v.from → Continues s t v k) → Settles s t v k
 
+-- it moves nobody; or all who sleep on a condition variable to its mutex, which is owned then, and whose cell has WAITERS
+pub data Moving (s : State) (t : ℕ) (v : Transition) : Type 0 where
+  Moves_none : IsNoMove v.access → Moving s t v
+  Moves_to : (k e n : ℕ) → k < length s.layout.conditions → slice_index s.layout.conditions k ≡ v.mutex → v.access ≡ CmpRequeue (counter_place s.layout k) e 0 (cell_place s.layout v.mutex) n → HasWaiters s v.mutex → (IsUnowned s v.mutex → ⊥) → Moving s t v
+
 -- what it leaves of its mutex and of all else, and what holds of every state holds then
 pub record Stepping (s : State) (t : ℕ) (v : Transition) : Type 0 where
-  pub valid : is_valid s.layout (place_of s t v) ≡ true
+  pub valid : is_met s.layout t v.access ≡ true
   pub inside : v.mutex < s.layout.mutexes
-  pub called : IsCalled v.operation
   pub kept : Kept (after s t v)
   pub tells : Tells t (seen s v.mutex) v.operation v.point (seen (after s t v) v.mutex)
   -- who makes a point may take another mutex
@@ -88,6 +112,7 @@ pub record Stepping (s : State) (t : ℕ) (v : Transition) : Type 0 where
   -- whoever falls asleep stands where it goes on; on a mutex's cell, that is owned and has WAITERS
   pub sleeper : sleeps_at v.access (met s t v) ≡ true → SleepsAs s.layout (place_of s t v) v.next
   pub asleep : sleeps_at v.access (met s t v) ≡ true → (k : ℕ) → k < s.layout.mutexes → place_of s t v ≡ cell_place s.layout k → HasWaiters s k × (IsUnowned s k → ⊥)
+  pub moving : Moving s t v
   pub settles : (k : ℕ) → k < s.layout.mutexes → IsUnowned (after s t v) k → HasWaiters (after s t v) k → Settles s t v k
   -- fewer accesses are left
   pub some : 0 < left_of s v.from

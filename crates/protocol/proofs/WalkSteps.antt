@@ -1,45 +1,27 @@
 -- One access of the kernel's walk for a thread that died.
 use Rattle.std.proofs.Common.{◌≡◌, ◌≢◌, ◌⊎◌, inl, inr, ⊎_elim, ℕ, ◌+◌, ◌-◌, ◌/◌, ◌%◌, ◌<◌, ◌≤◌, ◌==◌, Bool, true, false, ◌&&◌, Option, Some, None, List, [], ◌∷◌, refl, sym, ap, ◌∙◌, subst, arith, eqb-true}
-use Rattle.std.specs.Prelude.{if◌then◌else◌, nat_lt, nat_le}
-use Rattle.std.proofs.lemmas.Bool.{eqb-false}
-use Rattle.std.proofs.lemmas.Bool.Decides.{nat_tests}
-use Rattle.lockword.specs.Cells.{fields_of}
-use Rattle.lockword.specs.declared.reply.Reply.TheVariants.{OK}
-use Rattle.keys.specs.declared.access.Access.{Access}
-use Rattle.keys.specs.declared.access.Answer.{Answer}
+use Rattle.protocol.proofs.Vocabulary.{Rest, Part, LoadFirst, LoadOffset, LoadPending, LoadNext, LoadWord, Mark, WakeOne, sum_of, OnlyWaits, Access, Answer, Object, address_of}
+use Rattle.protocol.proofs.Vocabulary.{changed, answer_at, Leads, Layout', IsLayout, head_place, entry_place, cell_place, Permits, Run, object_of, fresh, fields_of, OK, Sound}
+use Rattle.protocol.proofs.Vocabulary.{Thread, Stage, Dying, Reaped, Note, Walked, State, is_valid, is_met, place_met, answer_among, woken_by, walked, has_ended, stage_walked}
+use Rattle.protocol.proofs.Vocabulary.{told_of, held_after, seen, if◌then◌else◌, nat_lt, eqb-false, nat_tests, Operation}
 use Rattle.keys.specs.declared.access.Answer.TheVariants.{Exchanged, Changed}
-use Rattle.keys.specs.declared.object.Object.{Object}
-use Rattle.keys.specs.declared.point.Operation.TheVariants as operation
 use Rattle.keys.specs.declared.point.Point.{Point}
-use Rattle.keys.specs.Accesses.{address_of, changed, answer_at}
-use Rattle.keys.specs.Chains.{IsAmong, Leads}
-use Rattle.keys.specs.Layouts.{Layout', IsLayout, head_place, entry_place, cell_place}
-use Rattle.keys.specs.Objects.{Permits, Run, object_of, fresh, bereaved}
+use Rattle.keys.specs.Chains.{IsAmong}
+use Rattle.keys.specs.Objects.{bereaved}
 use Rattle.robustlist.proofs.Chains.{leads-same}
-use Rattle.mutex.specs.Laws.{Sound}
-use Rattle.exitwalk.specs.declared.row.Rest.{Rest}
-use Rattle.exitwalk.specs.declared.row.Part.{Part}
-use Rattle.exitwalk.specs.declared.row.Part.TheVariants as part
 use Rattle.exitwalk.specs.declared.row.Row.{Row}
-use Rattle.exitwalk.specs.declared.row.Row.TheVariants.{LoadFirst, LoadOffset, LoadPending, LoadNext, LoadWord, Mark, WakeOne, Ended}
+use Rattle.exitwalk.specs.declared.row.Row.TheVariants.{Ended}
 use Rattle.exitwalk.specs.Standings.{Standing}
-use Rattle.exitwalk.specs.Words.{sum_of}
-use Rattle.exitwalk.specs.Steps.{points, Right, OnlyWaits}
+use Rattle.exitwalk.specs.Steps.{points, Right}
 use Rattle.exitwalk.specs.Walks.{Knows, IsGoing, row_access, row_after, point_of, marked_word, goes_on}
 use Rattle.exitwalk.proofs.Steps.{steps}
-use Rattle.protocol.specs.declared.thread.Thread.{Thread}
-use Rattle.protocol.specs.declared.thread.Stage.{Stage}
-use Rattle.protocol.specs.declared.thread.Stage.TheVariants.{Dying, Reaped}
-use Rattle.protocol.specs.declared.note.Note.{Note}
-use Rattle.protocol.specs.declared.note.Note.TheVariants.{Walked}
-use Rattle.protocol.specs.Machine.{State, put, is_valid, place_met, answer_among, woken_by, answer_of, walked, has_ended, stage_walked, told_of, death_at, mutex_at, held_after}
-use Rattle.protocol.specs.Headline.{seen}
+use Rattle.protocol.specs.Machine.{death_at, mutex_at}
 use Rattle.protocol.proofs.Puts.{put-same, put-other, by_put}
 use Rattle.protocol.proofs.Kept.{Sits, Left, LeftOf, LeftIn, LeftFrom, Treats, Mourns, Listed, PendsAs, Kept}
 use Rattle.protocol.proofs.Places.{mine_is_no_cell, head_is_no_cell}
-use Rattle.protocol.proofs.Steps.{seen-inside, is_valid-cell, Transition, done, thread_after, after, answer-is, words-is, queues-is, woken-is}
+use Rattle.protocol.proofs.Steps.{seen-inside, is_valid-cell, IsNoMove, Transition, done, thread_after, after}
 use Rattle.protocol.proofs.Frames.{kept_where, marks_own}
-use Rattle.protocol.proofs.Walking.{Arrived, OwnsNothing, forward_arrives, next_arrives, goes_on_arrives, looks_arrives}
+use Rattle.protocol.proofs.Walking.{Arrived, forward_arrives, next_arrives, goes_on_arrives, looks_arrives}
 
 -- thread t's walk at a row
 abbrev pub walk_of : ℕ → Row → Standing
@@ -50,35 +32,13 @@ abbrev pub or_first : Option ℕ → ℕ
 or_first None = 0
 or_first (Some m) = m
 
--- a thread that owns no mutex of the layout owns none
-owns_none : (s : State) (t : ℕ) → OwnsNothing s t → (k : ℕ) → (seen s k).owner ≢ Some t
-owns_none s t none k own = go (nat_lt k s.layout.mutexes) refl
-  where
-    go : (b : Bool) → nat_lt k s.layout.mutexes ≡ b → ⊥
-    go true e = none k (grind (arith, nat_tests)) own
-    go false e = cc (sym (ap (λ (b : Bool). (if b then object_of (fields_of (s.words (cell_place s.layout k))) else fresh).owner) e) ∙ own)
-
 -- what holds of a thread that was reaped, and of a walk that goes on, holds wherever a walk leads
 pub by_walked : (P : Stage → Type 0) (w : Standing) (r : Row) → (r ≡ Ended → P Reaped) → (IsGoing r → P (Dying (record w { row = r }))) → P (stage_walked w r)
-by_walked P w Ended gone on = gone refl
-by_walked P w LoadFirst gone on = on tt
-by_walked P w (LoadOffset f) gone on = on tt
-by_walked P w (LoadPending f o) gone on = on tt
-by_walked P w (LoadNext r) gone on = on tt
-by_walked P w (LoadWord at rest) gone on = on tt
-by_walked P w (Mark at v again rest) gone on = on tt
-by_walked P w (WakeOne at rest) gone on = on tt
+by_walked P w r gone on = grind (arith)
 
 -- where a walk has come, its thread has what is left
 pub listed_walk : (s : State) (t : ℕ) (w : Standing) (r : Row) → Arrived s t r → Listed s t (stage_walked w r)
-listed_walk s t w Ended l = owns_none s t l
-listed_walk s t w LoadFirst l = l
-listed_walk s t w (LoadOffset f) l = l
-listed_walk s t w (LoadPending f o) l = l
-listed_walk s t w (LoadNext r) l = l
-listed_walk s t w (LoadWord at rest) l = l
-listed_walk s t w (Mark at v again rest) l = l
-listed_walk s t w (WakeOne at rest) l = l
+listed_walk s t w r l = grind (arith)
 
 -- and sits rightly
 pub sits_walk : (s : State) (t held : ℕ) (r q : Row) → Knows t (head_place t) q → Sits s t held (stage_walked (walk_of t r) q)
@@ -92,20 +52,14 @@ pends_walk x w r = by_walked (PendsAs x) w r (λ ended. tt) (λ going. tt)
 
 module _ (s s' : State) (t : ℕ) (layout : s'.layout ≡ s.layout) (words : (x : ℕ) → s'.words x ≡ s.words x) (seen_same : (k : ℕ) → seen s' k ≡ seen s k) where
   left_same : (e p : ℕ) (es : List ℕ) (treated : Option ℕ) → Left s t e p es treated → Left s' t e p es treated
-  left_same e p es treated l = record {
-    leads = leads-same s.words s'.words (head_place t) e e es refl (λ x among. words x) l.leads;
-    different = l.different;
-    entries = λ x among. let k = l.entries x among in (k.0, subst (λ (z : Layout'). k.0 < z.mutexes) (sym layout) k.1, subst (λ (z : Layout'). x ≡ entry_place z k.0) (sym layout) k.2, ap (λ (o : Object). o.owner) (seen_same k.0) ∙ k.3, k.4);
-    all = λ k below own. subst (λ (z : Layout'). IsAmong (entry_place z k) es ⊎ ((p ≡ entry_place z k) ⊎ (treated ≡ Some k))) (sym layout) (l.all k (subst (λ (z : Layout'). k < z.mutexes) layout below) (sym (ap (λ (o : Object). o.owner) (seen_same k)) ∙ own));
-    pending = subst (λ (z : Layout'). (p ≡ 0) ⊎ (k : ℕ) × (k < z.mutexes) × (p ≡ entry_place z k)) (sym layout) l.pending;
-  }
+  left_same e p es treated l = grind (arith)
 
   rest_same : (r : Rest) (treated : Option ℕ) → LeftOf s t r treated → LeftOf s' t r treated
   rest_same r treated (es, l, offset, few) = (es, left_same r.entry r.pending es treated l, offset, few)
 
   part_same : (rest : Part) (treated : Option ℕ) → LeftIn s t rest treated → LeftIn s' t rest treated
-  part_same (part.List r) treated l = rest_same r treated l
-  part_same part.Pending treated l = λ k below own. l k (subst (λ (z : Layout'). k < z.mutexes) layout below) (sym (ap (λ (o : Object). o.owner) (seen_same k)) ∙ own)
+  part_same (Part.List r) treated l = rest_same r treated l
+  part_same Part.Pending treated l = λ k below own. l k (subst (λ (z : Layout'). k < z.mutexes) layout below) (sym (ap (λ (o : Object). o.owner) (seen_same k)) ∙ own)
 
   from_same : (e : ℕ) → LeftFrom s t e → LeftFrom s' t e
   from_same e (es, l, few) = (es, subst (λ (p : ℕ). Left s' t e p es None) (sym (words (head_place t + 2))) (left_same e (s.words (head_place t + 2)) es None l), few)
@@ -135,17 +89,7 @@ module _ (s s' : State) (t : ℕ) (layout : s'.layout ≡ s.layout) (words : (x 
 
 -- the mutex at a cell is found
 pub mutex_at-cell : (l : Layout') (k : ℕ) → k < l.mutexes → mutex_at l (cell_place l k) ≡ Some k
-mutex_at-cell l k inside = go (nat_le (cell_place l 0) (cell_place l k)) refl ((cell_place l k - cell_place l 0) % 3 == 0) refl (nat_lt ((cell_place l k - cell_place l 0) / 3) l.mutexes) refl
-  where
-    third : (cell_place l k - cell_place l 0) / 3 ≡ k
-    third = omega arith
-
-    go : (a : Bool) → nat_le (cell_place l 0) (cell_place l k) ≡ a → (b : Bool) → ((cell_place l k - cell_place l 0) % 3 == 0) ≡ b → (d : Bool) → nat_lt ((cell_place l k - cell_place l 0) / 3) l.mutexes ≡ d
-        → (if a && b && d then Some ((cell_place l k - cell_place l 0) / 3) else None) ≡ Some k
-    go true x true y true z = ap Some third
-    go true x true y false z = absurd (let yes : nat_lt ((cell_place l k - cell_place l 0) / 3) l.mutexes ≡ true = grind (arith, nat_tests) in cc (z, yes))
-    go true x false y d z = absurd (eqb-false ((cell_place l k - cell_place l 0) % 3) 0 y (omega arith))
-    go false x b y d z = absurd (let yes : nat_le (cell_place l 0) (cell_place l k) ≡ true = grind (arith, nat_tests) in cc (x, yes))
+mutex_at-cell l k inside = grind (arith)
 
 -- ---- one access
 
@@ -157,7 +101,7 @@ module _ (s : State) (t : ℕ) (r : Row) (inv : Kept s) (pos : 1 ≤ t) (known :
   at = address_of a
 
   -- an access that writes nothing and is answered so, after which the walk is at row q
-  module _ (q : Row) (death : Option ℕ) (th : Thread) (th_is : th ≡ record { stage = stage_walked (walk_of t r) q; held = held_after (s.threads t).held operation.Death (told_of death) }) where
+  module _ (q : Row) (death : Option ℕ) (th : Thread) (th_is : th ≡ record { stage = stage_walked (walk_of t r) q; held = held_after (s.threads t).held Operation.Death (told_of death) }) where
     abbrev s' : State
     s' = done s t a th
 
@@ -170,9 +114,9 @@ module _ (s : State) (t : ℕ) (r : Row) (inv : Kept s) (pos : 1 ≤ t) (known :
 
     pub reads_kept : death ≡ None → (changed a (s.words at) ≡ s.words at) → Knows t (head_place t) q → Arrived s t q → Kept s'
     reads_kept none reads knows arrived =
-        kept_where s t 0 a th operation.Death None inv pos known (let some = inv.layout.mutexes.0 in omega arith) tt
+        kept_where s t 0 a th Operation.Death None inv pos known (let some = inv.layout.mutexes.0 in omega arith)
         (λ k apart. reads_seen reads k) (reads_seen reads 0)
-        (ap (λ (z : Thread). z.held) th_is ∙ ap (λ (d : Option ℕ). held_after (s.threads t).held operation.Death (told_of d)) none)
+        (ap (λ (z : Thread). z.held) th_is ∙ ap (λ (d : Option ℕ). held_after (s.threads t).held Operation.Death (told_of d)) none)
         (λ x e takes. absurd (cc takes))
         (λ u first most. read_words reads (head_place u + 1))
         (λ u x first most apart mine. read_words reads x)
@@ -184,7 +128,7 @@ module _ (s : State) (t : ℕ) (r : Row) (inv : Kept s) (pos : 1 ≤ t) (known :
 
   -- the exchange that marks a word that is as it was seen: the owner's death
   module _ (place k v : ℕ) (again : Bool) (rest : Part) (is : r ≡ Mark place v again rest) (treats : Treats s place k) (l : LeftIn s t rest (Some k)) (only : OnlyWaits v again (s.words place)) (met : s.words place ≡ v) (knows : Knows t (head_place t) r)
-      (q : Row) (th : Thread) (th_is : th ≡ record { stage = stage_walked (walk_of t r) q; held = held_after (s.threads t).held operation.Death (Some OK) }) where
+      (q : Row) (th : Thread) (th_is : th ≡ record { stage = stage_walked (walk_of t r) q; held = held_after (s.threads t).held Operation.Death (Some OK) }) where
     abbrev after_mark : State
     after_mark = done s t a th
 
@@ -207,13 +151,9 @@ module _ (s : State) (t : ℕ) (r : Row) (inv : Kept s) (pos : 1 ≤ t) (known :
     law = steps.right t (head_place t) (s.words at) r pos (subst IsGoing (sym is) tt) knows
 
     answered : answer_at a (s.words at) ≡ Exchanged
-    answered = ap (λ (z : Row). answer_at (row_access (head_place t) z) (s.words at)) is ∙ go (s.words at == v) refl
-      where
-        go : (b : Bool) → (s.words at == v) ≡ b → (if b then Exchanged else Changed (s.words at)) ≡ Exchanged
-        go true e = refl
-        go false e = absurd (eqb-false (s.words at) v e (ap s.words at_is ∙ met))
+    answered = grind (arith)
 
-    pub told : point_of t r (answer_at a (s.words at)) ≡ Some (record { thread = t; at = place; operation = operation.Death; reply = OK })
+    pub told : point_of t r (answer_at a (s.words at)) ≡ Some (record { thread = t; at = place; operation = Operation.Death; reply = OK })
     told = ap (point_of t r) answered ∙ ap (λ (z : Row). point_of t z Exchanged) is
 
     here : seen after_mark k ≡ object_of (fields_of (changed a (s.words at)))
@@ -222,11 +162,11 @@ module _ (s : State) (t : ℕ) (r : Row) (inv : Kept s) (pos : 1 ≤ t) (known :
     before : seen s k ≡ object_of (fields_of (s.words at))
     before = seen-inside s k treats.0 ∙ ap (λ (x : ℕ). object_of (fields_of (s.words x))) (sym at_cell)
 
-    pub dies : Permits (seen s k) t operation.Death OK (seen after_mark k)
+    pub dies : Permits (seen s k) t Operation.Death OK (seen after_mark k)
     dies =
-        let run : Run (object_of (fields_of (s.words at))) (record { thread = t; at = place; operation = operation.Death; reply = OK } ∷ []) (object_of (fields_of (changed a (s.words at)))) =
+        let run : Run (object_of (fields_of (s.words at))) (record { thread = t; at = place; operation = Operation.Death; reply = OK } ∷ []) (object_of (fields_of (changed a (s.words at)))) =
         subst (λ (p : Option Point). Run (object_of (fields_of (s.words at))) (points p) (object_of (fields_of (changed a (s.words at))))) told law.runs in
-        subst (λ (o : Object). Permits o t operation.Death OK (seen after_mark k)) (sym before) (subst (λ (n : Object). Permits (object_of (fields_of (s.words at))) t operation.Death OK n) (sym (here ∙ run.2)) run.1)
+        subst (λ (o : Object). Permits o t Operation.Death OK (seen after_mark k)) (sym before) (subst (λ (n : Object). Permits (object_of (fields_of (s.words at))) t Operation.Death OK n) (sym (here ∙ run.2)) run.1)
 
     pub far : (j : ℕ) → j ≢ k → seen after_mark j ≡ seen s j
     far j apart = ap (λ (x : ℕ). if nat_lt j s.layout.mutexes then object_of (fields_of x) else fresh) (elsewhere (cell_place s.layout j) (λ e. apart (omega (arith, e))))
@@ -250,8 +190,8 @@ module _ (s : State) (t : ℕ) (r : Row) (inv : Kept s) (pos : 1 ≤ t) (known :
         some_is j e = cc
 
     part_then : (z : Part) → LeftIn s t z (Some k) → LeftIn after_mark t z None
-    part_then (part.List z) (es, x, offset, few) = (es, left_then z.entry z.pending es x, offset, few)
-    part_then part.Pending x = λ j below has.
+    part_then (Part.List z) (es, x, offset, few) = (es, left_then z.entry z.pending es x, offset, few)
+    part_then Part.Pending x = λ j below has.
         let other : j ≢ k = λ same. cc (sym has ∙ ap (λ (i : ℕ). (seen after_mark i).owner) same ∙ freed) in
         absurd (other (some_is j (x j below (sym (ap (λ (o : Object). o.owner) (far j other)) ∙ has))))
       where
@@ -267,7 +207,7 @@ module _ (s : State) (t : ℕ) (r : Row) (inv : Kept s) (pos : 1 ≤ t) (known :
 
     pub marks_kept : q ≡ (if (fields_of v).waiters then WakeOne place rest else goes_on (head_place t) rest) → Knows t (head_place t) q → Kept after_mark
     marks_kept q_is knows_q =
-        kept_where s t k a th operation.Death (Some OK) inv pos known treats.0 tt
+        kept_where s t k a th Operation.Death (Some OK) inv pos known treats.0
         far dies
         (ap (λ (z : Thread). z.held) th_is)
         (λ x e takes. absurd (cc takes))
@@ -290,6 +230,10 @@ module _ (s : State) (t : ℕ) (r : Row) (inv : Kept s) (pos : 1 ≤ t) (known :
 
 -- ---- the walk's access at a row, whatever that is
 
+-- it moves nobody
+pub walk_no_move : (h : ℕ) (r : Row) → IsNoMove (row_access h r)
+walk_no_move h r = grind (arith)
+
 module _ (s : State) (t : ℕ) (r : Row) where
   abbrev pub walk_access : Access
   walk_access = row_access (head_place t) r
@@ -305,32 +249,21 @@ module _ (s : State) (t : ℕ) (r : Row) where
 
   -- where no death is told, any mutex will do
   abbrev pub walk_transition : Transition
-  walk_transition = record { from = Dying (walk_of t r); access = walk_access; next = stage_walked (walk_of t r) row_then; mutex = or_first death_then; operation = operation.Death; point = told_of death_then }
+  walk_transition = record { from = Dying (walk_of t r); access = walk_access; next = stage_walked (walk_of t r) row_then; mutex = or_first death_then; operation = Operation.Death; point = told_of death_then }
 
   abbrev pub walk_after : State
   walk_after = after s t walk_transition
 
   abbrev pub walk_note : Note
-  walk_note = Walked t death_then (woken_by walk_access (s.queues (place_met s.layout t walk_access))) (has_ended row_then)
+  walk_note = Walked t death_then (woken_by walk_access (s.words (place_met s.layout t walk_access)) (s.queues (place_met s.layout t walk_access))) (has_ended row_then)
 
-  pub walked-is : is_valid s.layout (place_met s.layout t walk_access) ≡ true → walked s t (s.threads t).held (walk_of t r) ≡ record { state = walk_after; note = walk_note }
-  walked-is valid = λ i. record {
-    state = record {
-      layout = s.layout;
-      words = words-is s t walk_access valid i;
-      queues = queues-is s t walk_access valid i;
-      threads = put s.threads t (record { stage = stage_walked (walk_of t r) (row_after t (head_place t) r (answers i)); held = held_after (s.threads t).held operation.Death (told_of (death_at s.layout (point_of t r (answers i)))) });
-    };
-    note = Walked t (death_at s.layout (point_of t r (answers i))) (woken-is s t walk_access valid i) (has_ended (row_after t (head_place t) r (answers i)));
-  }
-    where
-      answers : answer_of s t walk_access ≡ walk_answer
-      answers = answer-is s t walk_access valid
+  pub walked-is : is_met s.layout t walk_access ≡ true → walked s t (s.threads t).held (walk_of t r) ≡ record { state = walk_after; note = walk_note }
+  walked-is valid = grind (arith)
 
 -- what a walk's access tells of mutexes: nothing, or an owner's death
 abbrev pub DeathTells : State → ℕ → Option ℕ → State → Type 0
 DeathTells s t None s' = (k : ℕ) → seen s' k ≡ seen s k
-DeathTells s t (Some m) s' = (m < s.layout.mutexes) × Permits (seen s m) t operation.Death OK (seen s' m) × ((k : ℕ) → k ≢ m → seen s' k ≡ seen s k)
+DeathTells s t (Some m) s' = (m < s.layout.mutexes) × Permits (seen s m) t Operation.Death OK (seen s' m) × ((k : ℕ) → k ≢ m → seen s' k ≡ seen s k)
 
 -- one access of a walk: what holds of every state holds then, and what it tells
 pub record WalkStep (s : State) (t : ℕ) (r : Row) : Type 0 where
@@ -406,8 +339,8 @@ module _ (s : State) (t : ℕ) (inv : Kept s) (pos : 1 ≤ t) (known : t ≤ s.l
       go true e =
           let met : s.words place ≡ v = eqb-true (s.words place) v e in
           let told_so : death_then s t (Mark place v again rest) ≡ Some k = ap (λ (x : Answer). death_at s.layout (point_of t (Mark place v again rest) x)) (answered true e) ∙ ap (mutex_at s.layout) treats.1 ∙ mutex_at-cell s.layout k treats.0 in
-          let th_is : thread_after s t (walk_transition s t (Mark place v again rest)) ≡ record { stage = stage_walked (walk_of t (Mark place v again rest)) (row_then s t (Mark place v again rest)); held = held_after (s.threads t).held operation.Death (Some OK) } =
-          ap (λ (d : Option ℕ). record { stage = stage_walked (walk_of t (Mark place v again rest)) (row_then s t (Mark place v again rest)); held = held_after (s.threads t).held operation.Death (told_of d) }) told_so in
+          let th_is : thread_after s t (walk_transition s t (Mark place v again rest)) ≡ record { stage = stage_walked (walk_of t (Mark place v again rest)) (row_then s t (Mark place v again rest)); held = held_after (s.threads t).held Operation.Death (Some OK) } =
+          ap (λ (d : Option ℕ). record { stage = stage_walked (walk_of t (Mark place v again rest)) (row_then s t (Mark place v again rest)); held = held_after (s.threads t).held Operation.Death (told_of d) }) told_so in
           record {
             valid = walk_valid (Mark place v again rest) going knows (k, treats, l, only);
             kept = marks_kept s t (Mark place v again rest) inv pos known place k v again rest refl treats l only met knows (row_then s t (Mark place v again rest)) (thread_after s t (walk_transition s t (Mark place v again rest))) th_is

@@ -1,22 +1,14 @@
 -- Where each access of a walk leads, and what is left to walk then.
 use Rattle.std.proofs.Common.{◌≡◌, ◌≢◌, ◌⊎◌, inl, inr, ⊎_elim, ℕ, zero, suc, ◌+◌, ◌<◌, ◌≤◌, ◌==◌, Bool, true, false, ◌&&◌, Some, None, List, [], ◌∷◌, length, refl, sym, ap, ◌∙◌, subst, arith, eqb-true}
-use Rattle.std.specs.Prelude.{if◌then◌else◌, ◌||◌}
-use Rattle.std.proofs.lemmas.Bool.{eqb-false}
-use Rattle.lockword.specs.Cells.{fields_of}
-use Rattle.keys.specs.declared.object.Object.{Object}
-use Rattle.keys.specs.Chains.{IsAmong, AreDifferent, Leads}
-use Rattle.keys.specs.Layouts.{Layout', IsLayout, head_place, entry_place, cell_place}
-use Rattle.keys.specs.Objects.{owner_of}
+use Rattle.protocol.proofs.Vocabulary.{Rest, Part, LoadFirst, LoadOffset, LoadPending, LoadNext, LoadWord, Mark, WakeOne, sum_of, Object, AreDifferent, Leads, Layout', IsLayout}
+use Rattle.protocol.proofs.Vocabulary.{head_place, entry_place, cell_place, owner_of, fields_of, State, seen, if◌then◌else◌, eqb-false}
+use Rattle.std.specs.Prelude.{◌||◌}
+use Rattle.keys.specs.Chains.{IsAmong}
 use Rattle.robustlist.proofs.Places.{apart-among}
-use Rattle.exitwalk.specs.declared.row.Rest.{Rest}
-use Rattle.exitwalk.specs.declared.row.Part.{Part}
-use Rattle.exitwalk.specs.declared.row.Part.TheVariants as part
 use Rattle.exitwalk.specs.declared.row.Row.{Row}
-use Rattle.exitwalk.specs.declared.row.Row.TheVariants.{LoadFirst, LoadOffset, LoadPending, LoadNext, LoadWord, Mark, WakeOne, Ended}
-use Rattle.exitwalk.specs.Words.{sum_of, has_waiters}
+use Rattle.exitwalk.specs.declared.row.Row.TheVariants.{Ended}
+use Rattle.exitwalk.specs.Words.{has_waiters}
 use Rattle.exitwalk.specs.Walks.{Knows, is_pending, to_pending, forward, goes_on, further, after_next, looks}
-use Rattle.protocol.specs.Machine.{State}
-use Rattle.protocol.specs.Headline.{seen}
 use Rattle.protocol.proofs.Kept.{LeftOf, LeftIn, Treats, Mourns}
 use Rattle.protocol.proofs.Steps.{seen-inside}
 
@@ -46,21 +38,9 @@ module _ (s : State) (t : ℕ) (layout : IsLayout s.layout) (pos : 1 ≤ t) wher
   abbrev h : ℕ
   h = head_place t
 
-  -- no entry is the head
-  no_head : (x : ℕ) (xs : List ℕ) → AreDifferent (h ∷ (x ∷ xs)) → h ≢ x
-  no_head x xs different = different.0.0
-
   -- behind the list
   to_pending_arrives : (p : ℕ) → ((p ≡ 0) ⊎ (k : ℕ) × (k < s.layout.mutexes) × (p ≡ entry_place s.layout k)) → ((k : ℕ) → k < s.layout.mutexes → (seen s k).owner ≡ Some t → p ≡ entry_place s.layout k) → Arrived s t (to_pending 18446744073709551615 p)
-  to_pending_arrives p pending owned = go (p == 0) refl
-    where
-      go : (b : Bool) → (p == 0) ≡ b → Arrived s t (if b then Ended else LoadWord (sum_of p 18446744073709551615) part.Pending)
-      go true e = λ k below own. (let none = eqb-true p 0 e in let there = owned k below own in omega (arith, none, there))
-      go false e = ⊎_elim (λ none. absurd (eqb-false p 0 e none)) (λ some. (
-        some.0,
-        (some.1, ap (λ (x : ℕ). sum_of x 18446744073709551615) some.2 ∙ cell_of s.layout some.0 layout some.1),
-        (λ k below own. ap Some (let there = owned k below own in let place = some.2 in omega (arith, there, place))),
-      )) pending
+  to_pending_arrives p pending owned = grind (arith)
 
   -- the next entry, or behind the list
   pub forward_arrives : (r : Rest) → LeftOf s t r None → Arrived s t (forward h r)
@@ -159,7 +139,7 @@ module _ (s : State) (t : ℕ) (layout : IsLayout s.layout) (pos : 1 ≤ t) wher
               listed k (inl here) = inr (inr (ap Some (let a = here in let b = first.2 in omega (arith, a, b))))
               listed k (inr among) = inl among
 
-          go : (b : Bool) → (r.entry == r.pending) ≡ b → Arrived s t (if b then forward h (further r (s.words r.entry)) else LoadWord (sum_of r.entry r.offset) (part.List (further r (s.words r.entry))))
+          go : (b : Bool) → (r.entry == r.pending) ≡ b → Arrived s t (if b then forward h (further r (s.words r.entry)) else LoadWord (sum_of r.entry r.offset) (Part.List (further r (s.words r.entry))))
           go true e = forward_arrives (further r (s.words r.entry)) (skipped (eqb-true r.entry r.pending e))
           go false e = (
             first.0,
@@ -184,12 +164,12 @@ module _ (s : State) (t : ℕ) (layout : IsLayout s.layout) (pos : 1 ≤ t) wher
 
   -- then the walk goes on
   pub goes_on_arrives : (rest : Part) → LeftIn s t rest None → Arrived s t (goes_on h rest)
-  goes_on_arrives (part.List r) l = forward_arrives r l
-  goes_on_arrives part.Pending l = λ k below own. cc (l k below own)
+  goes_on_arrives (Part.List r) l = forward_arrives r l
+  goes_on_arrives Part.Pending l = λ k below own. cc (l k below own)
 
   pub passes : (rest : Part) (k : ℕ) → (seen s k).owner ≢ Some t → LeftIn s t rest (Some k) → LeftIn s t rest None
-  passes (part.List r) k not_own l = untreated r k not_own l
-  passes part.Pending k not_own l = λ j below own. absurd (not_own (ap (λ (i : ℕ). (seen s i).owner) (sym (some_same k j (l j below own))) ∙ own))
+  passes (Part.List r) k not_own l = untreated r k not_own l
+  passes Part.Pending k not_own l = λ j below own. absurd (not_own (ap (λ (i : ℕ). (seen s i).owner) (sym (some_same k j (l j below own))) ∙ own))
 
   -- a word is looked at
   pub looks_arrives : (at k : ℕ) (again : Bool) (rest : Part) → Treats s at k → LeftIn s t rest (Some k) → (again ≡ true → has_waiters (s.words at) ≡ true) → Arrived s t (looks t h at (s.words at) again rest)

@@ -1,34 +1,33 @@
 -- The step of a thread, in a call or dead.
-use Rattle.std.proofs.Common.{◌≡◌, ℕ, ◌≤◌, Bool, true, false, Option, Some, None, List, [], ◌∷◌, ◌++◌, map, refl, sym, ap, ◌∙◌, subst}
-use Rattle.std.specs.Prelude.{if◌then◌else◌}
-use Rattle.lockword.specs.declared.reply.Reply.{Reply}
-use Rattle.lockword.specs.declared.reply.Reply.TheVariants.{OK}
-use Rattle.keys.specs.declared.point.Operation.{Operation}
-use Rattle.keys.specs.declared.point.Operation.TheVariants as operation
-use Rattle.keys.specs.declared.point.Decision.{Decision}
-use Rattle.mutex.specs.declared.call.Call.{Call}
-use Rattle.mutex.specs.Standings.{Whole}
-use Rattle.mutex.specs.Whole.{whole_access, whole_led}
-use Rattle.mutex.specs.Calls.{mutex_of}
+use Rattle.std.proofs.Common.{arith, ◌≡◌, ℕ, ◌≤◌, Bool, true, false, Option, Some, None, List, [], ◌∷◌, ◌++◌, map, refl, sym, ap, ◌∙◌, subst}
+use Rattle.protocol.proofs.Vocabulary.{Fact, CondCall, condition_of, CondWhole, cond_access, cond_led, Queue, Mutex, Condition, Operation, Decision, sleeps_at, Reply, OK, Whole}
+use Rattle.protocol.proofs.Vocabulary.{whole_access, whole_led, Op, OnCondition, Step, Note, Stepped, Walked, Stage, Calling, AtCondition, Dying, mutex_of, facts_of, sleep_facts}
+use Rattle.protocol.proofs.Vocabulary.{moves_to, return_facts, reap_facts, State, After, answer_of, woken_by, moved_by, sleeps, told_of, is_asleep, nothing, decision, slept_in}
+use Rattle.protocol.proofs.Vocabulary.{led, led_at, went, walked, stepped, happens, if◌then◌else◌}
 use Rattle.exitwalk.specs.Standings as walks
-use Rattle.protocol.specs.declared.event.Event.TheVariants.{Step}
-use Rattle.protocol.specs.declared.note.Note.{Note}
-use Rattle.protocol.specs.declared.note.Note.TheVariants.{Stepped, Walked}
 use Rattle.facts.specs.declared.fact.Fact.TheVariants.{Wake}
-use Rattle.protocol.specs.declared.thread.Stage.{Stage}
-use Rattle.protocol.specs.declared.thread.Stage.TheVariants.{Calling, Dying}
-use Rattle.protocol.specs.Notes.{facts_of, sleep_facts, return_facts, reap_facts}
-use Rattle.protocol.specs.Machine.{State, After, answer_of, sleeps, told_of, is_asleep, nothing, decision, went, walked, stepped, happens}
+use Rattle.protocol.specs.Ops.{queue_place}
 use Rattle.protocol.specs.Headline.{points_of}
-use Rattle.protocol.proofs.Kept.{Serves, Walks, Sits, Mourns, Listed, Kept}
-use Rattle.protocol.proofs.Steps.{Transition, after, onto, call_step, call_note, went-is}
+use Rattle.protocol.specs.Wakings.{IsQueue}
+use Rattle.protocol.proofs.Kept.{Walks, Sits, Mourns, Listed, Kept}
+use Rattle.protocol.proofs.Steps.{Transition, IsNoMove, after, place_of, met, met_queue, call_step, call_note, cond_step, cond_note, went-is}
 use Rattle.protocol.proofs.Frames.{knows_at}
 use Rattle.protocol.proofs.CallSteps.{call_stepping}
 use Rattle.protocol.proofs.Accesses.{goes, fits_in}
-use Rattle.protocol.proofs.WalkSteps.{walk_of, or_first, death_then, walk_transition, walk_note, walked-is}
-use Rattle.protocol.proofs.WalkStepping.{walk_stepping}
+use Rattle.protocol.proofs.WalkSteps.{walk_of, or_first, death_then, walk_no_move, walk_transition, walk_note, walked-is}
+use Rattle.protocol.proofs.WalkStepping.{walks_awake, walk_stepping}
+use Rattle.protocol.proofs.CondAccesses.{cond_sleeps, cond_stepping, fits_at}
 use Rattle.protocol.proofs.Stepping.{Stepping}
 use Rattle.protocol.proofs.Events.{is_known, IsWorking, by_stage}
+use Rattle.protocol.proofs.NoteFacts.{IsOfSleep, behind_woken, behind_point}
+
+-- ---- how a step is noted
+
+-- as an access of a call, and where it falls asleep that queue is told; or as one of a walk
+pub data Noted (s : State) (t : ℕ) (v : Transition) (n : Note) : Type 0 where
+  Of_call : (k : Queue) (y : Option Reply) → n ≡ Stepped t v.mutex (decision t v.mutex v.operation v.point) (slept_in k (sleeps_at v.access (met s t v))) (woken_by v.access (met s t v) (met_queue s t v)) (moved_by v.access (met s t v) (met_queue s t v)) y
+      → (sleeps_at v.access (met s t v) ≡ true → (place_of s t v ≡ queue_place s.layout k) × IsQueue s.layout k) → Noted s t v n
+  Of_walk : (d : Option ℕ) (y : Bool) → n ≡ Walked t d (woken_by v.access (met s t v) (met_queue s t v)) y → v.mutex ≡ or_first d → v.operation ≡ Operation.Death → v.point ≡ told_of d → sleeps_at v.access (met s t v) ≡ false → IsNoMove v.access → Noted s t v n
 
 -- ---- the points of a step
 
@@ -39,23 +38,28 @@ point_of t m op (Some x) = record { thread = t; mutex = m; operation = op; reply
 abbrev pub point_at : ℕ → Transition → List Decision
 point_at t v = point_of t v.mutex v.operation v.point
 
--- who sleeps, who is woken, what is returned and who is reaped is no point
-returned_points : (t : ℕ) (y : Option Reply) → points_of (return_facts t y) ≡ []
-returned_points t None = refl
-returned_points t (Some x) = refl
+-- who sleeps, who is woken or moved, what is returned and who is reaped is no point
+sleep_points : (t : ℕ) (f : Fact) (fs : List Fact) → IsOfSleep t f → points_of fs ≡ [] → points_of (f ∷ fs) ≡ []
+sleep_points t f fs of none = grind (arith)
 
-woken_points : (t : ℕ) (ws : List ℕ) (y : Option Reply) → points_of (map Wake ws ++ return_facts t y) ≡ []
-woken_points t [] y = returned_points t y
-woken_points t (w ∷ ws) y = woken_points t ws y
-
-no_points : (t : ℕ) (z : Option ℕ) (ws : List ℕ) (y : Option Reply) → points_of (sleep_facts t z ++ (map Wake ws ++ return_facts t y)) ≡ []
-no_points t None ws y = woken_points t ws y
-no_points t (Some m) ws y = woken_points t ws y
+no_points : (t m : ℕ) (z : Option Queue) (ws ms : List ℕ) (y : Option Reply) → points_of (sleep_facts t z ++ (map Wake ws ++ (map (moves_to m) ms ++ return_facts t y))) ≡ []
+no_points t m z ws ms y = behind_point (λ (fs : List Fact). points_of fs ≡ []) t m z ws ms (return_facts t y) (λ f of fs none. sleep_points t f fs of none) (grind (arith))
 
 reaped_points : (t : ℕ) (ws : List ℕ) (y : Bool) → points_of (map Wake ws ++ reap_facts t y) ≡ []
-reaped_points t [] true = refl
-reaped_points t [] false = refl
-reaped_points t (w ∷ ws) y = reaped_points t ws y
+reaped_points t ws y = behind_woken (λ (fs : List Fact). points_of fs ≡ []) ws (reap_facts t y) (λ w fs none. none) (grind (arith))
+
+told_call : (t m : ℕ) (op : Operation) (x : Option Reply) (z : Option Queue) (ws ms : List ℕ) (y : Option Reply) → points_of (facts_of (Stepped t m (decision t m op x) z ws ms y)) ≡ point_of t m op x
+told_call t m op None z ws ms y = no_points t m z ws ms y
+told_call t m op (Some x) z ws ms y = ap (λ (ds : List Decision). record { thread = t; mutex = m; operation = op; reply = x } ∷ ds) (no_points t m z ws ms y)
+
+told_walk : (t : ℕ) (d : Option ℕ) (us : List ℕ) (y : Bool) → points_of (facts_of (Walked t d us y)) ≡ point_of t (or_first d) Operation.Death (told_of d)
+told_walk t None us y = reaped_points t us y
+told_walk t (Some m) us y = ap (λ (ds : List Decision). record { thread = t; mutex = m; operation = Operation.Death; reply = OK } ∷ ds) (reaped_points t us y)
+
+-- a step is noted with its point
+pub noted_points : (s : State) (t : ℕ) (v : Transition) (n : Note) → Noted s t v n → points_of (facts_of n) ≡ point_at t v
+noted_points s t v n (Of_call k y is where_to) = ap (λ (z : Note). points_of (facts_of z)) is ∙ told_call t v.mutex v.operation v.point _ _ _ y
+noted_points s t v n (Of_walk d y is m op point quiet stays) = ap (λ (z : Note). points_of (facts_of z)) is ∙ told_walk t d _ y ∙ (λ i. point_of t (sym m i) (sym op i) (sym point i))
 
 -- ---- a step
 
@@ -68,30 +72,32 @@ walk_is s t w inv pos known is =
 -- what holds of a thread that rests or sleeps, where nothing happens, and of each access of one that is awake, holds of its step
 pub by_step : (s : State) (t : ℕ) → Kept s → 1 ≤ t → t ≤ s.layout.threads → (P : After → Type 0)
     → ((is_asleep s t ≡ false → IsWorking (s.threads t).stage → ⊥) → P (nothing s))
-    → ((v : Transition) (n : Note) → (s.threads t).stage ≡ v.from → is_asleep s t ≡ false → Stepping s t v → points_of (facts_of n) ≡ point_at t v → P (record { state = after s t v; note = n }))
+    → ((v : Transition) (n : Note) → (s.threads t).stage ≡ v.from → is_asleep s t ≡ false → Stepping s t v → Noted s t v n → P (record { state = after s t v; note = n }))
     → P (stepped s t (s.threads t).held (s.threads t).stage)
-by_step s t inv pos known P none accesses = by_stage s t P none called on_a_walk
+by_step s t inv pos known P none accesses = by_stage s t P none called at_condition on_a_walk
   where
-    told_call : (c : Call) (p : Whole) → Serves c p → (x : Option Reply) (z : Option ℕ) (ws : List ℕ) (y : Option Reply) → points_of (facts_of (Stepped t (decision t c x) z ws y)) ≡ point_of t (mutex_of c) p.operation x
-    told_call c p serves None z ws y = no_points t z ws y
-    told_call c p serves (Some x) z ws y = λ i. record { thread = t; mutex = mutex_of c; operation = sym serves i; reply = x } ∷ no_points t z ws y i
+    called : (o : Op) (p : Whole) → (s.threads t).stage ≡ Calling o p → is_asleep s t ≡ false → P (went s t (s.threads t).held (mutex_of s.layout o) (Mutex (mutex_of s.layout o)) (whole_access p) (led o p (whole_led p (answer_of s t (whole_access p)))))
+    called o p is awake =
+        let fits = fits_in s t o p inv pos known is in
+        let g = goes s t o p inv pos known is in
+        let step = call_stepping s t o p g fits.0 in
+        subst P (sym (went-is s t (mutex_of s.layout o) (Mutex (mutex_of s.layout o)) (Calling o p) (whole_access p) (λ a. led o p (whole_led p a)) step.valid))
+        (accesses (call_step s t o p) (call_note s t o p) is awake step (Of_call (Mutex (mutex_of s.layout o)) _ refl (λ on. (g.place on, fits.0.inside))))
 
-    told_walk : (d : Option ℕ) (us : List ℕ) (y : Bool) → points_of (facts_of (Walked t d us y)) ≡ point_of t (or_first d) operation.Death (told_of d)
-    told_walk None us y = reaped_points t us y
-    told_walk (Some m) us y = ap (λ (ds : List Decision). record { thread = t; mutex = m; operation = operation.Death; reply = OK } ∷ ds) (reaped_points t us y)
-
-    called : (c : Call) (p : Whole) → (s.threads t).stage ≡ Calling c p → is_asleep s t ≡ false → P (went s t (s.threads t).held c p (whole_led p (answer_of s t (whole_access p))))
-    called c p is awake =
-        let fits = fits_in s t c p inv pos known is in
-        let g = goes s t c p inv pos known is in
-        subst P (sym (went-is s t c p fits.1 g.valid)) (accesses (call_step s t c p) (call_note s t c p) is awake (call_stepping s t c p g fits.0) (told_call c p fits.1 (onto s t p).point _ _ _))
+    at_condition : (c : CondCall) (p : CondWhole) → (s.threads t).stage ≡ AtCondition c p → is_asleep s t ≡ false
+        → P (went s t (s.threads t).held (mutex_of s.layout (OnCondition c)) (Condition (condition_of c)) (cond_access p) (led_at c p (cond_led p (answer_of s t (cond_access p)))))
+    at_condition c p is awake =
+        let step = cond_stepping s t c p inv pos known is in
+        subst P (sym (went-is s t (mutex_of s.layout (OnCondition c)) (Condition (condition_of c)) (AtCondition c p) (cond_access p) (λ a. led_at c p (cond_led p a)) step.valid))
+        (accesses (cond_step s t c p) (cond_note s t c p) is awake step (Of_call (Condition (condition_of c)) _ refl (λ on. (cond_sleeps s t c p inv pos known is on, (fits_at s t c p inv pos known is).there))))
 
     on_a_walk : (w : walks.Standing) → (s.threads t).stage ≡ Dying w → is_asleep s t ≡ false → P (walked s t (s.threads t).held w)
     on_a_walk w is awake =
         let there = walk_is s t w inv pos known is in
         let g : Stepping s t (walk_transition s t w.row) = walk_stepping s t w.row inv pos known there.0.going (knows_at t w there.0) there.2 in
         subst (λ (z : walks.Standing). P (walked s t (s.threads t).held z)) there.1
-        (subst P (sym (walked-is s t w.row g.valid)) (accesses (walk_transition s t w.row) (walk_note s t w.row) (is ∙ ap Dying (sym there.1)) awake g (told_walk (death_then s t w.row) _ _)))
+        (subst P (sym (walked-is s t w.row g.valid))
+        (accesses (walk_transition s t w.row) (walk_note s t w.row) (is ∙ ap Dying (sym there.1)) awake g (Of_walk (death_then s t w.row) _ refl refl refl refl (walks_awake _ w.row _) (walk_no_move _ w.row))))
 
 -- ---- a thread that is awake
 
@@ -106,13 +112,20 @@ pub awake_goes : (s : State) (t : ℕ) → Kept s → 1 ≤ t → t ≤ s.layout
 awake_goes s t inv pos known awake working =
     by_step s t inv pos known (λ (a : After). (happens s (Step t)).state ≡ a.state → Goes s t)
     (λ rests to. absurd (rests awake working))
-    (λ v n is out step points to. record { v = v; is = is; step = step; to = to })
+    (λ v n is out step noted to. record { v = v; is = is; step = step; to = to })
     (ap (λ (b : Bool). (if b then stepped s t (s.threads t).held (s.threads t).stage else nothing s).state) (is_known s t pos known))
 
 -- the step of a thread that is awake in a call
-pub call_goes : (s : State) (t : ℕ) (c : Call) (p : Whole) → Kept s → 1 ≤ t → t ≤ s.layout.threads → (s.threads t).stage ≡ Calling c p → is_asleep s t ≡ false → happens s (Step t) ≡ record { state = after s t (call_step s t c p); note = call_note s t c p }
-call_goes s t c p inv pos known is awake =
+pub call_goes : (s : State) (t : ℕ) (o : Op) (p : Whole) → Kept s → 1 ≤ t → t ≤ s.layout.threads → (s.threads t).stage ≡ Calling o p → is_asleep s t ≡ false → happens s (Step t) ≡ record { state = after s t (call_step s t o p); note = call_note s t o p }
+call_goes s t o p inv pos known is awake =
     ap (λ (b : Bool). if b then stepped s t (s.threads t).held (s.threads t).stage else nothing s) (is_known s t pos known)
     ∙ ap (stepped s t (s.threads t).held) is
-    ∙ ap (λ (b : Bool). if b then nothing s else went s t (s.threads t).held c p (whole_led p (answer_of s t (whole_access p)))) (sym (ap (sleeps s t) is) ∙ awake)
-    ∙ went-is s t c p (fits_in s t c p inv pos known is).1 (goes s t c p inv pos known is).valid
+    ∙ ap (λ (b : Bool). if b then nothing s else went s t (s.threads t).held (mutex_of s.layout o) (Mutex (mutex_of s.layout o)) (whole_access p) (led o p (whole_led p (answer_of s t (whole_access p))))) (sym (ap (sleeps s t) is) ∙ awake)
+    ∙ went-is s t (mutex_of s.layout o) (Mutex (mutex_of s.layout o)) (Calling o p) (whole_access p) (λ a. led o p (whole_led p a)) (call_stepping s t o p (goes s t o p inv pos known is) (fits_in s t o p inv pos known is).0).valid
+
+-- before the lock that ends a wait, and in a signal or broadcast
+pub cond_goes : (s : State) (t : ℕ) (c : CondCall) (p : CondWhole) → Kept s → 1 ≤ t → t ≤ s.layout.threads → (s.threads t).stage ≡ AtCondition c p → happens s (Step t) ≡ record { state = after s t (cond_step s t c p); note = cond_note s t c p }
+cond_goes s t c p inv pos known is =
+    ap (λ (b : Bool). if b then stepped s t (s.threads t).held (s.threads t).stage else nothing s) (is_known s t pos known)
+    ∙ ap (stepped s t (s.threads t).held) is
+    ∙ went-is s t (mutex_of s.layout (OnCondition c)) (Condition (condition_of c)) (AtCondition c p) (cond_access p) (λ a. led_at c p (cond_led p a)) (cond_stepping s t c p inv pos known is).valid

@@ -1,12 +1,15 @@
 -- Which events apply, by what the trace has told so far.
-use Rattle.std.specs.Prelude.{ℕ, ◌≡◌, ◌<◌, ◌≤◌, ◌==◌, ◌&&◌, nat_le, false, Option, Some, None, List, [], ◌∷◌, if◌then◌else◌}
+use Rattle.std.specs.Prelude.{ℕ, length, ◌≡◌, ◌<◌, ◌≤◌, ◌==◌, ◌&&◌, nat_le, false, Option, Some, None, List, [], ◌∷◌, if◌then◌else◌}
 use Rattle.lockword.specs.declared.reply.Reply.{Reply}
 use Rattle.lockword.specs.declared.reply.Reply.TheVariants.{XHELD}
 use Rattle.keys.specs.Layouts.{Layout', IsLayout}
 use Rattle.keys.specs.Histories.{held_by}
 use Rattle.keys.specs.Objects.{held_limit, acquires}
-use Rattle.mutex.specs.declared.call.Call.{Call}
-use Rattle.mutex.specs.Calls.{mutex_of, operation_of}
+use Rattle.mutex.specs.Calls as mutex
+use Rattle.condvar.specs.Calls as condition
+use Rattle.protocol.specs.Ops.{operation_of, begun_of}
+use Rattle.protocol.specs.declared.event.Op.{Op}
+use Rattle.protocol.specs.declared.event.Op.TheVariants.{OnMutex, OnCondition}
 use Rattle.protocol.specs.declared.event.Event.{Event}
 use Rattle.protocol.specs.declared.event.Event.TheVariants as event
 use Rattle.protocol.specs.declared.note.Note.{Note}
@@ -61,26 +64,31 @@ IsThread l t = (1 ≤ t) × (t ≤ l.threads)
 abbrev pub IsInNoQueue : State → ℕ → Type 0
 IsInNoQueue s t = (key : ℕ) → stands_in t (s.queues key) ≡ false
 
--- a begin applies where its thread lives, is in no call, and its mutex is one of the layout; a step where its thread is in a call, or was killed and not reaped, and sleeps on nothing; a kill where its
+-- what a call names is the layout's
+abbrev pub Names : Layout' → Op → Type 0
+Names l (OnMutex c) = mutex.mutex_of c < l.mutexes
+Names l (OnCondition c) = condition.condition_of c < length l.conditions
+
+-- a begin applies where its thread lives, is in no call, and what it calls is in the layout; a step where its thread is in a call, or was killed and not reaped, and sleeps on nothing; a kill where its
 -- thread lives
 abbrev pub Applies : Layout' → State → List Note → Event → Type 0
-Applies l s ns (event.Begin t c) = IsThread l t × (mutex_of c < l.mutexes) × (last_told t ns ≡ AtRest)
+Applies l s ns (event.Begin t o) = IsThread l t × Names l o × (last_told t ns ≡ AtRest)
 Applies l s ns (event.Step t) = IsThread l t × HasAccess (last_told t ns) × IsInNoQueue s t
 Applies l s ns (event.Kill t) = IsThread l t × IsLiving (last_told t ns)
 
 -- a call that takes a mutex is refused at once where its thread owns 2,048
-abbrev pub refusal : Layout' → State → ℕ → Call → Option Reply
-refusal l s t c = if acquires (operation_of c) && nat_le held_limit (held_by t (seen s) l.mutexes) then Some XHELD else None
+abbrev pub refusal : Layout' → State → ℕ → Op → Option Reply
+refusal l s t o = if acquires (operation_of o) && nat_le held_limit (held_by t (seen s) l.mutexes) then Some XHELD else None
 
 -- an access of thread t, of its call or of its walk
 abbrev pub IsAccessOf : ℕ → Note → Type 0
-IsAccessOf t (Stepped u point slept woken returned) = u ≡ t
+IsAccessOf t (Stepped u m point slept woken moved returned) = u ≡ t
 IsAccessOf t (Walked u death woken reaped) = u ≡ t
 IsAccessOf t n = ⊥
 
 -- an event that applies is noted as what it is
 abbrev pub IsNotedAs : Layout' → State → Event → Note → Type 0
-IsNotedAs l s (event.Begin t c) n = n ≡ Began t c (refusal l s t c)
+IsNotedAs l s (event.Begin t o) n = n ≡ Began t (begun_of l o) (refusal l s t o)
 IsNotedAs l s (event.Step t) n = IsAccessOf t n
 IsNotedAs l s (event.Kill t) n = n ≡ Killed t
 

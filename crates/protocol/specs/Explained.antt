@@ -12,7 +12,7 @@ use Rattle.protocol.specs.Machine.{start, notes}
 
 -- the thread that an event gives a turn
 abbrev pub caller : Event → ℕ
-caller (event.Begin t c) = t
+caller (event.Begin t o) = t
 caller (event.Step t) = t
 caller (event.Kill t) = t
 
@@ -21,8 +21,8 @@ abbrev pub caller_of : ℕ → List Event → ℕ → ℕ
 caller_of i [] n = 0
 caller_of i (e ∷ es) n = if n == i then caller e else caller_of (i + 1) es n
 
--- what the notes tell is in order, each line but a wake is of an event of its own thread, and each thread's begins, points and returns belong together: since the operation of each begin is that of a call on a
--- mutex, each such call has one point at most, of its own operation and mutex, whose reply it returns
+-- what the notes tell is in order, each line but a wake or a move is of an event of its own thread, and each thread's begins, points and returns belong together: a call has one point at most, of its own
+-- operation and mutex, whose reply it returns; but a wait that isn't refused has an unlock and then a lock, whose reply it returns
 pub record IsExplained (events : List Event) (told : List Note) : Type 0 where
   pub orderly : Orderly (lines_from 1 told)
   pub callers : Each (λ l. is_passive l.fact ≡ false → thread_of l.fact ≡ caller_of 1 events l.event) (lines_from 1 told)

@@ -1,3 +1,4 @@
+pub mod Ops
 pub mod Notes
 pub mod Machine
 pub mod Headline
@@ -7,3 +8,5 @@ pub mod Lists
 pub mod Deaths
 pub mod Applies
 pub mod Wakings
+pub mod PassedBy
+pub mod Signals

@@ -1,34 +1,45 @@
 -- The machine: threads whose calls step over shared words, and sleep on them.
-use Rattle.std.specs.Prelude.{ℕ, ◌==◌, ◌+◌, ◌-◌, ◌/◌, ◌%◌, ◌^◌, Bool, true, false, ◌&&◌, nat_le, nat_lt, Option, Some, None, Result, Ok, Err, List, [], ◌∷◌, ◌++◌, length, take, drop, if◌then◌else◌}
+use Rattle.std.specs.Prelude.{ℕ, not, ◌==◌, ◌+◌, ◌-◌, ◌/◌, ◌%◌, ◌^◌, Bool, true, false, ◌&&◌, nat_le, nat_lt, Option, Some, None, Result, Ok, Err, List, [], ◌∷◌, ◌++◌, length, take, drop, if◌then◌else◌}
 use Rattle.lockword.specs.declared.reply.Reply.{Reply}
 use Rattle.lockword.specs.declared.reply.Reply.TheVariants.{OK, EOWNERDEAD}
 use Rattle.keys.specs.declared.access.Access.{Access}
 use Rattle.keys.specs.declared.access.Answer.{Answer}
 use Rattle.keys.specs.declared.access.Access.TheVariants as access
-use Rattle.keys.specs.declared.access.Answer.TheVariants.{Again, Woken, Count, Fault}
+use Rattle.keys.specs.declared.access.Answer.TheVariants.{Again, Woken, Count, Counts, Fault}
 use Rattle.keys.specs.declared.point.Operation.{Operation}
 use Rattle.keys.specs.declared.point.Operation.TheVariants as operation
 use Rattle.keys.specs.declared.point.Decision.{Decision}
-use Rattle.keys.specs.Layouts.{Layout', head_place, cell_place, words_of, first_word}
+use Rattle.keys.specs.Layouts.{Layout', head_place, cell_place, counter_place, words_of, first_word}
 use Rattle.buckets.specs.Queues.{without}
 use Rattle.keys.specs.Accesses.{address_of, word_among, answer_at, sleeps_at}
 use Rattle.mutex.specs.declared.call.Call.{Call}
 use Rattle.mutex.specs.declared.phase.Phase.{Phase}
 use Rattle.mutex.specs.declared.phase.Phase.TheVariants.{Ended}
 use Rattle.mutex.specs.declared.phase.Onward.{Onward}
-use Rattle.mutex.specs.Calls.{mutex_of, operation_of}
 use Rattle.mutex.specs.Standings.{Whole}
 use Rattle.mutex.specs.Whole.{whole_started, whole_access, whole_led}
+use Rattle.condvar.specs.declared.call.CondCall.{CondCall}
+use Rattle.condvar.specs.declared.phase.CondPhase.{CondPhase}
+use Rattle.condvar.specs.declared.phase.CondPhase.TheVariants as cond
+use Rattle.condvar.specs.declared.phase.CondOnward.{CondOnward}
+use Rattle.condvar.specs.Calls as conditions
+use Rattle.condvar.specs.Standings.{CondWhole}
+use Rattle.condvar.specs.Whole as condition
+use Rattle.facts.specs.declared.fact.Queue.{Queue}
+use Rattle.facts.specs.declared.fact.Queue.TheVariants.{Mutex, Condition}
 use Rattle.exitwalk.specs.declared.row.Row as walk_row
 use Rattle.exitwalk.specs.declared.row.Row.TheVariants as walk
 use Rattle.exitwalk.specs.Standings as walks
 use Rattle.exitwalk.specs.Walks as exit
 use Rattle.keys.specs.declared.point.Point.{Point}
+use Rattle.protocol.specs.Ops.{mutex_of, is_in, begun_of}
+use Rattle.protocol.specs.declared.event.Op.{Op}
+use Rattle.protocol.specs.declared.event.Op.TheVariants.{OnMutex, OnCondition}
 use Rattle.protocol.specs.declared.event.Event.{Event}
 use Rattle.protocol.specs.declared.event.Event.TheVariants.{Begin, Step, Kill}
 use Rattle.protocol.specs.declared.thread.Thread.{Thread}
 use Rattle.protocol.specs.declared.thread.Stage.{Stage}
-use Rattle.protocol.specs.declared.thread.Stage.TheVariants.{Idle, Calling, Dying, Reaped}
+use Rattle.protocol.specs.declared.thread.Stage.TheVariants.{Idle, Calling, AtCondition, Dying, Reaped}
 use Rattle.protocol.specs.declared.note.Note.{Note}
 use Rattle.protocol.specs.declared.note.Note.TheVariants.{Nothing, Began, Stepped, Killed, Walked}
 
@@ -60,18 +71,30 @@ is_valid l at = nat_le 1 at && nat_lt at (words_of l)
 abbrev pub answer_among : Access → ℕ → List ℕ → Answer
 answer_among (access.Wait at e) w q = if w % 2 ^ 32 == e then Woken else Again
 answer_among (access.Wake at n) w q = Count (length (take n q))
+answer_among (access.Requeue from n to k) w q = Counts (length (take n q)) (length (take k (drop n q)))
+answer_among (access.CmpRequeue from e n to k) w q = if w % 2 ^ 32 == e then Counts (length (take n q)) (length (take k (drop n q))) else Again
 answer_among a w q = answer_at a w
 
--- who sleeps on the word after thread t's access: a wait puts t at the end, a wake takes the first n
+-- who sleeps on the word after thread t's access: a wait puts t at the end, a wake takes the first n, and a requeue takes the first n and then k more
 abbrev pub queue_after : ℕ → Access → ℕ → List ℕ → List ℕ
 queue_after t (access.Wait at e) w q = if w % 2 ^ 32 == e then q ++ t ∷ [] else q
 queue_after t (access.Wake at n) w q = drop n q
+queue_after t (access.Requeue from n to k) w q = drop k (drop n q)
+queue_after t (access.CmpRequeue from e n to k) w q = if w % 2 ^ 32 == e then drop k (drop n q) else q
 queue_after t a w q = q
 
 -- whom it wakes, in their order
-abbrev pub woken_by : Access → List ℕ → List ℕ
-woken_by (access.Wake at n) q = take n q
-woken_by a q = []
+abbrev pub woken_by : Access → ℕ → List ℕ → List ℕ
+woken_by (access.Wake at n) w q = take n q
+woken_by (access.Requeue from n to k) w q = take n q
+woken_by (access.CmpRequeue from e n to k) w q = if w % 2 ^ 32 == e then take n q else []
+woken_by a w q = []
+
+-- whom it moves, asleep, to the end of another queue, in their order
+abbrev pub moved_by : Access → ℕ → List ℕ → List ℕ
+moved_by (access.Requeue from n to k) w q = take k (drop n q)
+moved_by (access.CmpRequeue from e n to k) w q = if w % 2 ^ 32 == e then take k (drop n q) else []
+moved_by a w q = []
 
 -- ---- where it meets its word
 
@@ -83,21 +106,40 @@ place_at l t at = at
 abbrev pub place_met : Layout' → ℕ → Access → ℕ
 place_met l t a = place_at l t (address_of a)
 
+-- a requeue moves to the queue of another word of the layout
+abbrev pub is_target : Layout' → ℕ → ℕ → ℕ → Bool
+is_target l t from to = is_valid l (place_at l t to) && not (from == to)
+
+-- an access is refused where an address isn't valid, and a requeue also from a word to itself
+abbrev pub is_met : Layout' → ℕ → Access → Bool
+is_met l t (access.Requeue from n to k) = is_valid l (place_at l t from) && is_target l t from to
+is_met l t (access.CmpRequeue from e n to k) = is_valid l (place_at l t from) && is_target l t from to
+is_met l t a = is_valid l (place_met l t a)
+
+-- the queues, where these threads come to the end of the one that access a of thread t moves to
+abbrev pub joined : Layout' → ℕ → Access → List ℕ → (ℕ → List ℕ) → ℕ → List ℕ
+joined l t (access.Requeue from n to k) us queues = put queues (place_at l t to) (queues (place_at l t to) ++ us)
+joined l t (access.CmpRequeue from e n to k) us queues = put queues (place_at l t to) (queues (place_at l t to) ++ us)
+joined l t a us queues = queues
+
 abbrev pub answer_of : State → ℕ → Access → Answer
-answer_of s t a = if is_valid s.layout (place_met s.layout t a) then answer_among a (s.words (place_met s.layout t a)) (s.queues (place_met s.layout t a)) else Fault
+answer_of s t a = if is_met s.layout t a then answer_among a (s.words (place_met s.layout t a)) (s.queues (place_met s.layout t a)) else Fault
 
 abbrev pub words_after : State → ℕ → Access → ℕ → ℕ
-words_after s t a = if is_valid s.layout (place_met s.layout t a) then put s.words (place_met s.layout t a) (word_among a (s.words (place_met s.layout t a)) (s.queues (place_met s.layout t a))) else s.words
-
-abbrev pub queues_after : State → ℕ → Access → ℕ → List ℕ
-queues_after s t a = if is_valid s.layout (place_met s.layout t a) then put s.queues (place_met s.layout t a) (queue_after t a (s.words (place_met s.layout t a)) (s.queues (place_met s.layout t a))) else s.queues
-
--- the mutex that thread t falls asleep on, in such a call
-abbrev pub slept_on : State → ℕ → Call → Access → Option ℕ
-slept_on s t c a = if is_valid s.layout (place_met s.layout t a) && sleeps_at a (s.words (place_met s.layout t a)) then Some (mutex_of c) else None
+words_after s t a = if is_met s.layout t a then put s.words (place_met s.layout t a) (word_among a (s.words (place_met s.layout t a)) (s.queues (place_met s.layout t a))) else s.words
 
 abbrev pub woken : State → ℕ → Access → List ℕ
-woken s t a = if is_valid s.layout (place_met s.layout t a) then woken_by a (s.queues (place_met s.layout t a)) else []
+woken s t a = if is_met s.layout t a then woken_by a (s.words (place_met s.layout t a)) (s.queues (place_met s.layout t a)) else []
+
+abbrev pub moved : State → ℕ → Access → List ℕ
+moved s t a = if is_met s.layout t a then moved_by a (s.words (place_met s.layout t a)) (s.queues (place_met s.layout t a)) else []
+
+abbrev pub queues_after : State → ℕ → Access → ℕ → List ℕ
+queues_after s t a = if is_met s.layout t a then joined s.layout t a (moved_by a (s.words (place_met s.layout t a)) (s.queues (place_met s.layout t a))) (put s.queues (place_met s.layout t a) (queue_after t a (s.words (place_met s.layout t a)) (s.queues (place_met s.layout t a)))) else s.queues
+
+-- thread t falls asleep by its access
+abbrev pub falls_asleep : State → ℕ → Access → Bool
+falls_asleep s t a = is_met s.layout t a && sleeps_at a (s.words (place_met s.layout t a))
 
 -- ---- one event
 
@@ -118,12 +160,14 @@ is_idle Idle = true
 is_idle g = false
 
 abbrev pub is_calling : Stage → Bool
-is_calling (Calling c p) = true
+is_calling (Calling o p) = true
+is_calling (AtCondition c p) = true
 is_calling g = false
 
 abbrev pub is_alive : Stage → Bool
 is_alive Idle = true
-is_alive (Calling c p) = true
+is_alive (Calling o p) = true
+is_alive (AtCondition c p) = true
 is_alive g = false
 
 abbrev pub is_walked : Stage → Bool
@@ -147,9 +191,10 @@ stands_in t (u ∷ us) = if u == t then true else stands_in t us
 abbrev pub sleepers : State → ℕ → List ℕ
 sleepers s m = s.queues (cell_place s.layout m)
 
--- the places of the words on which a thread there may sleep: in a call, its mutex's cell
+-- the places of the words on which a thread there may sleep: in a call on a mutex its cell; in the lock that ends a wait that of the mutex, or still the counter of the condition variable
 abbrev pub places_of : Layout' → Stage → List ℕ
-places_of l (Calling c p) = cell_place l (mutex_of c) ∷ []
+places_of l (Calling (OnMutex c) p) = cell_place l (mutex_of l (OnMutex c)) ∷ []
+places_of l (Calling (OnCondition c) p) = cell_place l (mutex_of l (OnCondition c)) ∷ counter_place l (conditions.condition_of c) ∷ []
 places_of l g = []
 
 -- thread t stands in the queue of one of these places
@@ -164,20 +209,63 @@ sleeps s t g = stands_at t s.queues (places_of s.layout g)
 abbrev pub is_asleep : State → ℕ → Bool
 is_asleep s t = sleeps s t (s.threads t).stage
 
-abbrev pub may_begin : State → ℕ → Call → Bool
-may_begin s t c = is_thread s t && is_idle (s.threads t).stage && nat_lt (mutex_of c) s.layout.mutexes
+abbrev pub may_begin : State → ℕ → Op → Bool
+may_begin s t o = is_thread s t && is_idle (s.threads t).stage && is_in s.layout o
 
-abbrev pub begun : State → ℕ → Call → Result Whole Reply → After
-begun s t c (Ok p) = record { state = record s { threads = put s.threads t (record (s.threads t) { stage = Calling c p }) }; note = Began t c None }
-begun s t c (Err x) = record { state = s; note = Began t c (Some x) }
+-- a thread that may not take another mutex stays where it is, and its call is refused
+abbrev pub stage_begun : Call → Result Whole Reply → Result Stage Reply
+stage_begun c (Ok p) = Ok (Calling (OnMutex c) p)
+stage_begun c (Err x) = Err x
 
-abbrev pub stage_after : Call → Whole → Phase → Stage
-stage_after c p (Ended x) = Idle
-stage_after c p f = Calling c (record p { phase = f })
+-- where thread t begins a call, that owns so many mutexes
+abbrev pub first_stage : Layout' → ℕ → ℕ → Op → Result Stage Reply
+first_stage l t held (OnMutex c) = stage_begun c (whole_started l t held c)
+first_stage l t held (OnCondition c) = Ok (AtCondition c (condition.begins l t c))
+
+abbrev pub begun : State → ℕ → Op → Result Stage Reply → After
+begun s t o (Ok g) = record { state = record s { threads = put s.threads t (record (s.threads t) { stage = g }) }; note = Began t (begun_of s.layout o) None }
+begun s t o (Err x) = record { state = s; note = Began t (begun_of s.layout o) (Some x) }
+
+-- where an answer leads a call: its thread's stage then; the reply of its point, if that access was one, and the operation that it decided; and what the call returns, if it does
+pub record Led : Type 0 where
+  pub stage : Stage
+  pub operation : Operation
+  pub point : Option Reply
+  pub returned : Option Reply
+
+-- of a call on a mutex, or the lock that ends a wait
+abbrev pub stage_after : Op → Whole → Phase → Stage
+stage_after o p (Ended x) = Idle
+stage_after o p f = Calling o (record p { phase = f })
 
 abbrev pub returned : Phase → Option Reply
 returned (Ended x) = Some x
 returned f = None
+
+abbrev pub led : Op → Whole → Onward → Led
+led o p g = record { stage = stage_after o p g.phase; operation = p.operation; point = g.point; returned = returned g.phase }
+
+-- of a call on a condition variable: once a wait is awake again it is in the lock that ends it
+abbrev pub stage_at : CondCall → CondWhole → CondPhase → Stage
+stage_at c p (cond.Ended x) = Idle
+stage_at c p (cond.Locking w) = Calling (OnCondition c) w
+stage_at c p f = AtCondition c (record p { phase = f })
+
+abbrev pub returned_at : CondPhase → Option Reply
+returned_at (cond.Ended x) = Some x
+returned_at f = None
+
+-- a point tells which operation it decided: a wait that isn't refused unlocks its mutex
+abbrev pub decided_at : Operation → Option Point → Operation
+decided_at op None = op
+decided_at op (Some p) = p.operation
+
+abbrev pub reply_at : Option Point → Option Reply
+reply_at None = None
+reply_at (Some p) = Some p.reply
+
+abbrev pub led_at : CondCall → CondWhole → CondOnward → Led
+led_at c p g = record { stage = stage_at c p g.phase; operation = decided_at (conditions.operation_of c) g.point; point = reply_at g.point; returned = returned_at g.phase }
 
 -- a thread owns one mutex more after it took one, and one less after it released one, or after its death was told of one
 abbrev pub held_after : ℕ → Operation → Option Reply → ℕ
@@ -189,21 +277,26 @@ held_after held operation.Unlock (Some OK) = held - 1
 held_after held operation.Death (Some OK) = held - 1
 held_after held op point = held
 
--- the point of a call, once an access decided it
-abbrev pub decision : ℕ → Call → Option Reply → Option Decision
-decision t c None = None
-decision t c (Some x) = Some (record { thread = t; mutex = mutex_of c; operation = operation_of c; reply = x })
+-- the point of thread t's call on a mutex, once an access decided it
+abbrev pub decision : ℕ → ℕ → Operation → Option Reply → Option Decision
+decision t m op None = None
+decision t m op (Some x) = Some (record { thread = t; mutex = m; operation = op; reply = x })
 
--- the call's next access, and where its answer leads. A thread that falls asleep stands where it goes on when it is woken
-abbrev pub went : State → ℕ → ℕ → Call → Whole → Onward → After
-went s t held c p o =
+-- where it sleeps, once it has fallen asleep
+abbrev pub slept_in : Queue → Bool → Option Queue
+slept_in q true = Some q
+slept_in q false = None
+
+-- the next access of a call that is about mutex m, where it would sleep in queue q, and where its answer leads. A thread that falls asleep stands where it goes on when it is woken
+abbrev pub went : State → ℕ → ℕ → ℕ → Queue → Access → Led → After
+went s t held m q a g =
     record {
       state = record s {
-        words = words_after s t (whole_access p);
-        queues = queues_after s t (whole_access p);
-        threads = put s.threads t (record { stage = stage_after c p o.phase; held = held_after held (operation_of c) o.point });
+        words = words_after s t a;
+        queues = queues_after s t a;
+        threads = put s.threads t (record { stage = g.stage; held = held_after held g.operation g.point });
       };
-      note = Stepped t (decision t c o.point) (slept_on s t c (whole_access p)) (woken s t (whole_access p)) (returned o.phase);
+      note = Stepped t m (decision t m g.operation g.point) (slept_in q (falls_asleep s t a)) (woken s t a) (moved s t a) g.returned;
     }
 
 -- ---- deaths
@@ -258,13 +351,17 @@ walked s t held w =
 -- ---- events
 
 abbrev pub stepped : State → ℕ → ℕ → Stage → After
-stepped s t held (Calling c p) = if sleeps s t (Calling c p) then nothing s else went s t held c p (whole_led p (answer_of s t (whole_access p)))
+stepped s t held (Calling o p) =
+    if sleeps s t (Calling o p) then nothing s
+    else went s t held (mutex_of s.layout o) (Mutex (mutex_of s.layout o)) (whole_access p) (led o p (whole_led p (answer_of s t (whole_access p))))
+stepped s t held (AtCondition c p) =
+    went s t held (mutex_of s.layout (OnCondition c)) (Condition (conditions.condition_of c)) (condition.cond_access p) (led_at c p (condition.cond_led p (answer_of s t (condition.cond_access p))))
 stepped s t held (Dying w) = walked s t held w
 stepped s t held g = nothing s
 
--- a begin of a busy, killed or unknown thread or of a mutex outside the layout, a step of an idle, sleeping, reaped or unknown thread, and a kill of a killed or unknown thread do nothing
+-- a begin of a busy, killed or unknown thread or of a call outside the layout, a step of an idle, sleeping, reaped or unknown thread, and a kill of a killed or unknown thread do nothing
 abbrev pub happens : State → Event → After
-happens s (Begin t c) = if may_begin s t c then begun s t c (whole_started s.layout t (s.threads t).held c) else nothing s
+happens s (Begin t o) = if may_begin s t o then begun s t o (first_stage s.layout t (s.threads t).held o) else nothing s
 happens s (Step t) = if is_thread s t then stepped s t (s.threads t).held (s.threads t).stage else nothing s
 happens s (Kill t) = if is_thread s t && is_alive (s.threads t).stage then killed s t else nothing s
 

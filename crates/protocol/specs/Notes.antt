@@ -2,19 +2,13 @@
 use Rattle.std.specs.Prelude.{ℕ, ◌+◌, Bool, true, false, Option, Some, None, List, [], ◌∷◌, ◌++◌, map}
 use Rattle.lockword.specs.declared.reply.Reply.{Reply}
 use Rattle.keys.specs.declared.point.Decision.{Decision}
-use Rattle.mutex.specs.declared.call.Call.{Call}
-use Rattle.mutex.specs.Calls.{mutex_of, operation_of}
 use Rattle.protocol.specs.declared.note.Note.{Note}
 use Rattle.protocol.specs.declared.note.Note.TheVariants.{Nothing, Began, Stepped, Killed, Walked}
 use Rattle.facts.specs.declared.fact.Begun.{Begun}
-use Rattle.facts.specs.declared.fact.Queue.TheVariants.{Mutex}
+use Rattle.facts.specs.declared.fact.Queue.{Queue}
 use Rattle.facts.specs.declared.fact.Fact.{Fact}
-use Rattle.facts.specs.declared.fact.Fact.TheVariants.{Begin, Point, Sleep, Wake, Return, Kill, Death, Reap}
+use Rattle.facts.specs.declared.fact.Fact.TheVariants.{Begin, Point, Sleep, Wake, Move, Return, Kill, Death, Reap}
 use Rattle.facts.specs.declared.fact.Line.{Line}
-
--- a call on a mutex, as its begin is told
-abbrev pub begun_of : Call → Begun
-begun_of c = record { operation = operation_of c; mutex = mutex_of c; condition = None }
 
 abbrev pub return_facts : ℕ → Option Reply → List Fact
 return_facts t None = []
@@ -25,13 +19,17 @@ point_facts None = []
 point_facts (Some d) = Point d ∷ []
 
 -- a call that is refused at once is decided and returns
-abbrev pub refusal_facts : ℕ → Call → Option Reply → List Fact
+abbrev pub refusal_facts : ℕ → Begun → Option Reply → List Fact
 refusal_facts t c None = []
-refusal_facts t c (Some x) = Point (record { thread = t; mutex = mutex_of c; operation = operation_of c; reply = x }) ∷ Return t x ∷ []
+refusal_facts t c (Some x) = Point (record { thread = t; mutex = c.mutex; operation = c.operation; reply = x }) ∷ Return t x ∷ []
 
-abbrev pub sleep_facts : ℕ → Option ℕ → List Fact
+abbrev pub sleep_facts : ℕ → Option Queue → List Fact
 sleep_facts t None = []
-sleep_facts t (Some m) = Sleep t (Mutex m) ∷ []
+sleep_facts t (Some q) = Sleep t q ∷ []
+
+-- a thread that is moved to a mutex's queue
+abbrev pub moves_to : ℕ → ℕ → Fact
+moves_to m u = Move u m
 
 abbrev pub death_facts : ℕ → Option ℕ → List Fact
 death_facts t None = []
@@ -44,8 +42,8 @@ reap_facts t true = Reap t ∷ []
 -- what an event did, one thing after the other
 abbrev pub facts_of : Note → List Fact
 facts_of Nothing = []
-facts_of (Began t c refused) = Begin t (begun_of c) ∷ refusal_facts t c refused
-facts_of (Stepped t point slept woken returned) = point_facts point ++ (sleep_facts t slept ++ (map Wake woken ++ return_facts t returned))
+facts_of (Began t c refused) = Begin t c ∷ refusal_facts t c refused
+facts_of (Stepped t m point slept woken moved returned) = point_facts point ++ (sleep_facts t slept ++ (map Wake woken ++ (map (moves_to m) moved ++ return_facts t returned)))
 facts_of (Killed t) = Kill t ∷ []
 facts_of (Walked t death woken reaped) = death_facts t death ++ (map Wake woken ++ reap_facts t reaped)
 

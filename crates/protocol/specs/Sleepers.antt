@@ -1,19 +1,27 @@
 -- Threads that sleep, and who owes them.
-use Rattle.std.specs.Prelude.{ℕ, ◌≡◌, ◌≢◌, ◌<◌, ◌≤◌, ◌⊎◌, true, false, Some, None, List, [], ◌∷◌, replicate}
+use Rattle.std.specs.Prelude.{ℕ, ◌≡◌, ◌≢◌, ◌<◌, ◌≤◌, ◌⊎◌, true, false, Some, None, Option, List, [], ◌∷◌, replicate}
 use Rattle.lockword.specs.declared.reply.Reply.{Reply}
 use Rattle.lockword.specs.declared.reply.Reply.TheVariants.{XRACED}
-use Rattle.keys.specs.declared.point.Operation.TheVariants.{Lock}
+use Rattle.keys.specs.declared.point.Operation.TheVariants.{Lock, Wait}
 use Rattle.keys.specs.Layouts.{Layout', IsLayout}
 use Rattle.keys.specs.Histories.{held_by}
 use Rattle.keys.specs.Objects.{Does}
-use Rattle.mutex.specs.declared.call.Call.{Call}
-use Rattle.mutex.specs.Calls.{mutex_of, operation_of}
+use Rattle.keys.specs.declared.object.Object.{Object}
+use Rattle.keys.specs.declared.point.Operation.{Operation}
+use Rattle.facts.specs.declared.fact.Queue.{Queue}
+use Rattle.facts.specs.declared.fact.Queue.TheVariants.{Condition}
+use Rattle.protocol.specs.declared.event.Op.{Op}
+use Rattle.protocol.specs.Ops.{mutex_of, operation_of, condition_of, queue_place}
 use Rattle.protocol.specs.declared.event.Event.{Event}
 use Rattle.protocol.specs.declared.event.Event.TheVariants.{Begin, Step}
 use Rattle.facts.specs.declared.fact.Fact.{Fact}
 use Rattle.facts.specs.declared.fact.Fact.TheVariants.{Return}
 use Rattle.protocol.specs.Machine.{State, start, run, notes, stands_in, sleepers, is_busy, is_dying, is_asleep, may_begin}
 use Rattle.protocol.specs.Headline.{seen, facts_among}
+
+-- thread t stands in a queue
+abbrev pub StandsIn : State → ℕ → Queue → Type 0
+StandsIn s t q = stands_in t (s.queues (queue_place s.layout q)) ≡ true
 
 -- thread t sleeps on mutex m
 abbrev pub Sleeps : State → ℕ → ℕ → Type 0
@@ -52,18 +60,29 @@ abbrev pub IsAmong : Fact → List Fact → Type 0
 IsAmong f [] = ⊥
 IsAmong f (g ∷ gs) = (g ≡ f) ⊎ IsAmong f gs
 
+-- a lock of a mutex that another owns
+pub record IsKeptWaiting (o : Object) (t : ℕ) (op : Operation) : Type 0 where
+  pub locks : op ≡ Lock
+  pub owned : (u : ℕ) × (o.owner ≡ Some u) × (u ≢ t)
+
+-- a wait by the owner of a consistent mutex: then it stands in the queue of its condition variable
+pub record IsWaiting (o : Object) (t : ℕ) (op : Operation) (condition : Option ℕ) (s' : State) : Type 0 where
+  pub waits : op ≡ Wait
+  pub owns : (o.owner ≡ Some t) × (o.inconsistent ≡ false)
+  pub there : (k : ℕ) × (condition ≡ Some k) × StandsIn s' t (Condition k)
+
 -- a call and n steps of its thread, which no other event divides: after 9,000 its return has been told, or it sleeps. Whatever it returns is a reply of its mutex's object as it was, never X_RACED, and
--- leaves that object as it is then; and it sleeps only where it is a lock of a mutex that another owns
-pub record IsUndivided (s : State) (t : ℕ) (c : Call) (n : ℕ) : Type 0 where
+-- leaves that object as it is then; and it sleeps only where it is a lock of a mutex that another owns, or a wait by the owner of a consistent one, and that in the queue of its condition variable
+pub record IsUndivided (s : State) (t : ℕ) (c : Op) (n : ℕ) : Type 0 where
   pub ends : 9000 ≤ n → ((x : Reply) × IsAmong (Return t x) (facts_among (notes s (Begin t c ∷ replicate n (Step t))))) ⊎ (is_asleep (run s (Begin t c ∷ replicate n (Step t))) t ≡ true)
-  pub returns : (x : Reply) → IsAmong (Return t x) (facts_among (notes s (Begin t c ∷ replicate n (Step t)))) → (x ≢ XRACED) × Does (held_by t (seen s) s.layout.mutexes) (seen s (mutex_of c)) t (operation_of c) x (seen (run s (Begin t c ∷ replicate n (Step t))) (mutex_of c))
-  pub sleeps : is_asleep (run s (Begin t c ∷ replicate n (Step t))) t ≡ true → (operation_of c ≡ Lock) × ((u : ℕ) × ((seen s (mutex_of c)).owner ≡ Some u) × (u ≢ t))
+  pub returns : (x : Reply) → IsAmong (Return t x) (facts_among (notes s (Begin t c ∷ replicate n (Step t)))) → (x ≢ XRACED) × Does (held_by t (seen s) s.layout.mutexes) (seen s (mutex_of s.layout c)) t (operation_of c) x (seen (run s (Begin t c ∷ replicate n (Step t))) (mutex_of s.layout c))
+  pub sleeps : is_asleep (run s (Begin t c ∷ replicate n (Step t))) t ≡ true → IsKeptWaiting (seen s (mutex_of s.layout c)) t (operation_of c) ⊎ IsWaiting (seen s (mutex_of s.layout c)) t (operation_of c) (condition_of c) (run s (Begin t c ∷ replicate n (Step t)))
 
 -- what every state keeps that events lead to
 pub record GoesOn (s : State) : Type 0 where
   pub owed : SomebodyOwes s
   pub ends : (t : ℕ) → EndsAlone s t
-  pub undivided : (t : ℕ) (c : Call) (n : ℕ) → may_begin s t c ≡ true → IsUndivided s t c n
+  pub undivided : (t : ℕ) (c : Op) (n : ℕ) → may_begin s t c ≡ true → IsUndivided s t c n
 
 -- whatever happens, with any values of the counters at the beginning
 abbrev pub MachineGoesOn : Type 0

@@ -1,6 +1,6 @@
 -- What a trace tells of who falls asleep and who is woken (futex(2)).
-use Rattle.std.specs.Prelude.{ℕ, ◌≡◌, ◌≢◌, ◌<◌, ◌==◌, ◌↔◌, true, Option, Some, None, List, [], ◌∷◌, if◌then◌else◌}
-use Rattle.keys.specs.Layouts.{Layout', IsLayout, cell_place}
+use Rattle.std.specs.Prelude.{ℕ, length, slice_index, ◌≡◌, ◌≢◌, ◌<◌, ◌==◌, ◌↔◌, true, Option, Some, None, List, [], ◌∷◌, if◌then◌else◌}
+use Rattle.keys.specs.Layouts.{Layout', IsLayout}
 use Rattle.protocol.specs.declared.event.Event.{Event}
 use Rattle.protocol.specs.declared.event.Event.TheVariants as event
 use Rattle.protocol.specs.declared.note.Note.{Note}
@@ -11,7 +11,8 @@ use Rattle.facts.specs.declared.fact.Fact.TheVariants.{Sleep, Wake, Move, Kill}
 use Rattle.protocol.specs.Notes.{facts_of}
 use Rattle.protocol.specs.Machine.{State, start, happens, run, notes, stands_in}
 use Rattle.protocol.specs.Headline.{facts_among}
-use Rattle.protocol.specs.Sleepers.{Sleeps, IsAmong}
+use Rattle.protocol.specs.Ops.{queue_place}
+use Rattle.protocol.specs.Sleepers.{StandsIn, IsAmong}
 use Rattle.protocol.specs.Applies.{IsInNoQueue}
 
 -- ---- what lines tell of a thread
@@ -46,33 +47,37 @@ Alternates t w (f ∷ fs) = MayFollow t w f × Alternates t (asleep_next t w f) 
 
 -- ---- one event more
 
--- it stood in no queue, and stands in that of mutex m then; on condition variables nobody sleeps
+-- a queue of the layout
+abbrev pub IsQueue : Layout' → Queue → Type 0
+IsQueue l (Mutex m) = m < l.mutexes
+IsQueue l (Condition k) = k < length l.conditions
+
+-- it stood in no queue, and stands in this one then
 abbrev pub FallsAsleep : State → State → ℕ → Queue → Type 0
-FallsAsleep s s' t (Mutex m) = IsInNoQueue s t × Sleeps s' t m
-FallsAsleep s s' t (Condition k) = ⊥
+FallsAsleep s s' t q = IsInNoQueue s t × IsQueue s.layout q × StandsIn s' t q
 
 -- it stood in a queue, and stands in none then
 abbrev pub LeavesQueue : State → State → ℕ → Type 0
 LeavesQueue s s' t = ((key : ℕ) × (stands_in t (s.queues key) ≡ true)) × IsInNoQueue s' t
 
--- an event tells thread t's sleep exactly where it comes to stand in a queue, that of the mutex that the sleep names; its wake exactly where it leaves one, but by its kill; and no move
+-- it stood in the queue of a condition variable of mutex m, and stands in the mutex's then
+abbrev pub IsMoved : State → State → ℕ → ℕ → Type 0
+IsMoved s s' t m = ((k : ℕ) × (k < length s.layout.conditions) × (slice_index s.layout.conditions k ≡ m) × StandsIn s t (Condition k)) × StandsIn s' t (Mutex m)
+
+-- an event tells thread t's sleep exactly where it comes to stand in a queue, which the sleep names; its wake exactly where it leaves one and stands in none, but by its kill; and its move exactly where
+-- it leaves that of a condition variable for its mutex's
 pub record TellsTurns (s : State) (e : Event) (t : ℕ) : Type 0 where
   pub sleep : (q : Queue) → IsAmong (Sleep t q) (facts_of (happens s e).note) ↔ FallsAsleep s (happens s e).state t q
   pub wake : IsAmong (Wake t) (facts_of (happens s e).note) ↔ (LeavesQueue s (happens s e).state t × (e ≢ event.Kill t))
-  pub moves_none : (m : ℕ) → ¬ IsAmong (Move t m) (facts_of (happens s e).note)
+  pub move : (m : ℕ) → IsAmong (Move t m) (facts_of (happens s e).note) ↔ IsMoved s (happens s e).state t m
 
 -- ---- runs
 
--- thread t sleeps there, on a mutex of the layout; on condition variables nobody sleeps
-abbrev pub SleepsAt : Layout' → State → ℕ → Queue → Type 0
-SleepsAt l s t (Mutex m) = (m < l.mutexes) × Sleeps s t m
-SleepsAt l s t (Condition k) = ⊥
-
--- of a state that events lead to that were noted so: a thread stands in a queue exactly where the last of its lines among sleep, wake and kill is a sleep, in that of the mutex that this names, and in
--- no other
+-- of a state that events lead to that were noted so: a thread stands in a queue exactly where the last of its lines among sleep, move, wake and kill is a sleep or a move, in the one that this names, and
+-- in no other
 pub record TellsSleepers (l : Layout') (s : State) (ns : List Note) : Type 0 where
-  pub stands : (t key : ℕ) → stands_in t (s.queues key) ≡ true → (m : ℕ) × (told_asleep t ns ≡ Some (Mutex m)) × (key ≡ cell_place l m)
-  pub sleeps : (t : ℕ) (q : Queue) → told_asleep t ns ≡ Some q → SleepsAt l s t q
+  pub stands : (t key : ℕ) → stands_in t (s.queues key) ≡ true → (q : Queue) × (told_asleep t ns ≡ Some q) × (key ≡ queue_place l q)
+  pub sleeps : (t : ℕ) (q : Queue) → told_asleep t ns ≡ Some q → IsQueue l q × StandsIn s t q
   pub alternate : (t : ℕ) → Alternates t None (facts_among ns)
   pub next : (e : Event) (t : ℕ) → TellsTurns s e t
 

@@ -6,6 +6,8 @@ ghost use Rattle.protocol.specs.Lists.{ListsAreKept};
 ghost use Rattle.protocol.specs.Deaths.{DeathsAreTold};
 ghost use Rattle.protocol.specs.Applies.{EventsApply};
 ghost use Rattle.protocol.specs.Wakings.{SleepsAreTold};
+ghost use Rattle.protocol.specs.PassedBy.{NobodyIsPassedBy};
+ghost use Rattle.protocol.specs.Signals.{SignalsAreRight};
 
 /// Whatever happens, the points are one legal history of POSIX robust mutexes, which says at each moment what every cell says.
 pub fn history_is_legal()
@@ -24,14 +26,14 @@ pub fn deaths_are_told()
 {}
 
 /// Whatever happens, the trace explains itself: each thread's calls begin, have their one point and return its reply, each at an event of that thread, and no point belongs to any
-/// other call.
+/// other call. But a wait that isn't refused has two: it unlocks its mutex, and later locks it again, with the reply that it returns.
 pub fn trace_is_explained()
     ensures { TraceIsExplained }
 {}
 
 /// Whatever happens: whenever a mutex that nobody owns has sleepers, some awake thread, run alone, takes it or wakes one of them within 9,000 steps. Whoever is awake and runs
 /// alone ends its call or falls asleep within 9,000 steps. And a call that no other event divides returns within as many, or sleeps; it replies as the object does, never with
-/// `XRACED`, and sleeps only where it locks a mutex that another owns.
+/// `XRACED`, and sleeps only where it locks a mutex that another owns, or waits as the owner of a consistent one, and then on its condition variable.
 pub fn machine_goes_on()
     ensures { MachineGoesOn }
 {}
@@ -42,15 +44,28 @@ pub fn lists_are_kept()
     ensures { ListsAreKept }
 {}
 
-/// Whatever happens, by what the trace has told so far: a begin by a thread in no call, on a mutex of the layout, is noted as a begin, which is refused only where the thread owns 2,048; a
-/// kill of a thread that lives is noted; a step is an access of its thread where that is in a call, or was killed and not reaped, and sleeps on nothing. Every other event is noted as
-/// nothing, and changes nothing.
+/// Whatever happens, by what the trace has told so far: a begin by a thread in no call, on a mutex or condition variable of the layout, is noted as a begin, which is refused only where it is
+/// to take a mutex and the thread owns 2,048; a kill of a thread that lives is noted; a step is an access of its thread where that is in a call, or was killed and not reaped, and sleeps on
+/// nothing. Every other event is noted as nothing, and changes nothing.
 pub fn events_apply()
     ensures { EventsApply }
 {}
 
-/// Whatever happens: a thread stands in a queue exactly where the last of its lines among sleep, wake and kill is a sleep, in that of the mutex that this names. So its sleeps and wakes alternate; a
-/// sleep is told exactly where it comes to stand in a queue, and a wake exactly where it leaves one, but by its kill.
+/// Whatever happens: a thread stands in a queue exactly where the last of its lines among sleep, move, wake and kill is a sleep or a move, in that of the mutex or condition variable that this
+/// names. So its sleeps and wakes alternate; a sleep is told exactly where it comes to stand in a queue, a wake exactly where it leaves one and stands in none, but by its kill, and a move
+/// exactly where it leaves that of a condition variable for its mutex's.
 pub fn sleeps_are_told()
     ensures { SleepsAreTold }
+{}
+
+/// Whatever happens, with counters that are at most 2^32 - 1 at the beginning: a thread that released its mutex in a wait before a signal or a broadcast counted doesn't fall asleep on that condition
+/// variable behind it. And directly after a broadcast's move nobody stands in its queue.
+pub fn nobody_is_passed_by()
+    ensures { NobodyIsPassedBy }
+{}
+
+/// Whatever happened before, with such counters: a signal or a broadcast by the owner of the mutex that no other event divides is refused with `XFULL` exactly where the counter is 2^32 - 1, and changes
+/// nothing then. Else it counts; a signal takes the front of the condition variable's queue, and a broadcast moves the whole queue, in its order, to the end of the mutex's, whose cell has WAITERS then.
+pub fn signals_are_right()
+    ensures { SignalsAreRight }
 {}

@@ -2,9 +2,9 @@
 ghost use Rattle.std.specs.Prelude.{◌≡◌};
 
 use buckets::Batch;
+use facts::{Begun, Queue};
 use keys::Decision;
 use lockword::{Reply, Tid};
-use mutex::Call;
 
 /// What one event did.
 #[derive(Clone, Copy, Debug, PartialEq, Eq)]
@@ -14,15 +14,18 @@ pub enum Note {
     /// A call began. One that is refused at once has its point and its return in the same event.
     Began {
         thread: Tid,
-        call: Call,
+        call: Begun,
         refused: Option<Reply>,
     },
-    /// A thread made an access: whether that decided its call, on which mutex it fell asleep, whom it woke, and whether the call returned.
+    /// A thread made an access of its call: whether that decided something of the call's mutex, where the thread fell asleep, whom it woke, whom it moved, asleep, to
+    /// the mutex's queue, and whether the call returned.
     Stepped {
         thread: Tid,
+        mutex: u16,
         point: Option<Decision>,
-        slept: Option<u16>,
+        slept: Option<Queue>,
         woken: Batch,
+        moved: Batch,
         returned: Option<Reply>,
     },
     /// A thread died: it left its queue, if it slept, and its call ended there.

@@ -1,0 +1,136 @@
+-- The points that a call has made so far, and what each access adds to them.
+use Rattle.std.proofs.Common.{◌≡◌, ◌⊎◌, ⊎_elim, inl, inr, ℕ, ◌+◌, ◌%◌, ◌^◌, ◌==◌, Option, Some, None, List, [], ◌∷◌, ◌++◌, refl, sym, ap, ◌∙◌, subst, arith}
+use Rattle.protocol.proofs.Vocabulary.{CondCall, CondRow, CondPhase, CondWhole, cond_access, cond_led, Begun, Fact, Operation, Layout', Fields, Reply, OK, Phase, Onward, Joins}
+use Rattle.protocol.proofs.Vocabulary.{Whole, Op, OnMutex, OnCondition, Stage, Idle, Calling, AtCondition, Dying, Reaped, begun_of, answer_among, stage_after, returned, led}
+use Rattle.protocol.proofs.Vocabulary.{led_at, WaitRow, SignalRow, BroadcastRow}
+use Rattle.mutex.specs.Calls as mutex
+use Rattle.mutex.specs.declared.phase.Phase.TheVariants.{Ended}
+use Rattle.condvar.specs.Calls as condition
+use Rattle.facts.specs.declared.fact.Fact.TheVariants.{Begin}
+use Rattle.facts.specs.Lives.{Act, Complete, Beginning, made, Mourned, Life}
+use Rattle.protocol.specs.Ops.{operation_of}
+use Rattle.protocol.specs.Machine.{Led}
+use Rattle.protocol.proofs.Phases.{decided_at}
+use Rattle.protocol.proofs.Arrivals.{ended_or_not}
+use Rattle.protocol.proofs.Kept.{IsFor, AtPhase}
+
+-- ---- points so far
+
+-- a wait's, once it has released its mutex
+abbrev pub released : List Act
+released = (Operation.Unlock, OK) ∷ []
+
+-- of a call on a mutex, or of a wait in the lock that ends it, undecided or decided
+abbrev pub acts_by : Op → Option Reply → List Act
+acts_by (OnMutex c) None = []
+acts_by (OnMutex c) (Some x) = (mutex.operation_of c, x) ∷ []
+acts_by (OnCondition (CondCall.Wait k)) None = released
+acts_by (OnCondition (CondCall.Wait k)) (Some x) = (Operation.Unlock, OK) ∷ (Operation.Lock, x) ∷ []
+acts_by (OnCondition c) d = []
+
+-- of a call on a condition variable at a row, before that
+abbrev pub acts_row : CondCall → CondRow → List Act
+acts_row (CondCall.Wait k) (CondRow.Wait (WaitRow.Wake seen)) = released
+acts_row (CondCall.Wait k) (CondRow.Wait (WaitRow.Sleep seen)) = released
+acts_row (CondCall.Wait k) CondRow.Awake = released
+acts_row (CondCall.Signal k) (CondRow.Signal SignalRow.Wake) = (Operation.Signal, OK) ∷ []
+acts_row (CondCall.Broadcast k) (CondRow.Broadcast (BroadcastRow.SetWaiters seen)) = (Operation.Broadcast, OK) ∷ []
+acts_row (CondCall.Broadcast k) (CondRow.Broadcast (BroadcastRow.Move seen)) = (Operation.Broadcast, OK) ∷ []
+acts_row c r = []
+
+abbrev pub acts_in : CondCall → CondPhase → List Act
+acts_in c (CondPhase.AtWords r) = acts_row c r
+acts_in c f = []
+
+-- they are the first of such a call's points
+begins_with : (op : Operation) (x : Reply) → Beginning op []
+begins_with op x = ((op, x) ∷ [], x, refl)
+
+one_point : (op : Operation) (x : Reply) → Beginning op ((op, x) ∷ [])
+one_point op x = ([], x, refl)
+
+pub acts_begin : (o : Op) (d : Option Reply) → Beginning (operation_of o) (acts_by o d)
+acts_begin (OnMutex c) None = begins_with (mutex.operation_of c) OK
+acts_begin (OnMutex c) (Some x) = one_point (mutex.operation_of c) x
+acts_begin (OnCondition (CondCall.Wait k)) None = ((Operation.Lock, OK) ∷ [], OK, (refl, refl))
+acts_begin (OnCondition (CondCall.Wait k)) (Some x) = ([], x, (refl, refl))
+acts_begin (OnCondition (CondCall.Signal k)) d = begins_with Operation.Signal OK
+acts_begin (OnCondition (CondCall.Broadcast k)) d = begins_with Operation.Broadcast OK
+
+row_begins : (c : CondCall) (r : CondRow) → Beginning (condition.operation_of c) (acts_row c r)
+row_begins (CondCall.Wait k) (CondRow.Wait (WaitRow.Wake seen)) = ((Operation.Lock, OK) ∷ [], OK, (refl, refl))
+row_begins (CondCall.Wait k) (CondRow.Wait (WaitRow.Sleep seen)) = ((Operation.Lock, OK) ∷ [], OK, (refl, refl))
+row_begins (CondCall.Wait k) CondRow.Awake = ((Operation.Lock, OK) ∷ [], OK, (refl, refl))
+row_begins (CondCall.Signal k) (CondRow.Signal SignalRow.Wake) = one_point Operation.Signal OK
+row_begins (CondCall.Broadcast k) (CondRow.Broadcast (BroadcastRow.SetWaiters seen)) = one_point Operation.Broadcast OK
+row_begins (CondCall.Broadcast k) (CondRow.Broadcast (BroadcastRow.Move seen)) = one_point Operation.Broadcast OK
+row_begins c r = begins_with (condition.operation_of c) OK
+
+pub acts_in_begin : (c : CondCall) (f : CondPhase) → Beginning (condition.operation_of c) (acts_in c f)
+acts_in_begin c (CondPhase.AtWords r) = row_begins c r
+acts_in_begin c f = begins_with (condition.operation_of c) OK
+
+-- ---- what one access adds
+
+abbrev pub acts_of : Operation → Option Reply → List Act
+acts_of op None = []
+acts_of op (Some x) = (op, x) ∷ []
+
+-- of a call on a mutex, or of the lock that ends a wait
+joined_acts : (l : Layout') (o : Op) (op : Operation) (d x y : Option Reply) → IsFor l o op → Joins d x y → acts_by o y ≡ acts_by o d ++ acts_of op x
+joined_acts l o op d x y is joins = grind (arith)
+
+completed : (l : Layout') (o : Op) (op : Operation) (x : Reply) → IsFor l o op → Complete (operation_of o) (acts_by o (Some x)) x
+completed l o op x is = grind (arith)
+
+-- ---- of a call on a condition variable, at a row
+
+-- ---- in a phase
+
+-- ---- what a thread does from now on
+
+-- with what its call did before, a life
+abbrev pub Doing : ℕ → Begun → List Act → List Fact → Type 0
+Doing t b ps fs = Life t (Begin t b ∷ (made t b ps ++ fs))
+
+abbrev pub Goes : Layout' → ℕ → Stage → List Fact → Type 0
+Goes l t Idle fs = Life t fs
+Goes l t (Calling o p) fs = Doing t (begun_of l o) (acts_by o (decided_at p.phase)) fs
+Goes l t (AtCondition c p) fs = Doing t (begun_of l (OnCondition c)) (acts_in c p.phase) fs
+Goes l t (Dying w) fs = Mourned t fs
+Goes l t Reaped fs = fs ≡ []
+
+-- an access of call o, with these points so far, and where it leads
+pub record Follows (l : Layout') (t : ℕ) (o : Op) (ps : List Act) (g : Led) : Type 0 where
+  pub on : g.returned ≡ None → (fs : List Fact) → Goes l t g.stage fs → Doing t (begun_of l o) (ps ++ acts_of g.operation g.point) fs
+  pub back : (x : Reply) → g.returned ≡ Some x → Complete (operation_of o) (ps ++ acts_of g.operation g.point) x
+
+-- of a call on a mutex, or of the lock that ends a wait
+pub call_follows : (l : Layout') (t : ℕ) (o : Op) (p : Whole) (g : Onward) → IsFor l o p.operation → Joins (decided_at p.phase) g.point (decided_at g.phase) → Follows l t o (acts_by o (decided_at p.phase)) (led o p g)
+call_follows l t o p g is joins = record { on = λ none fs later. on none fs later; back = λ x e. back x (ended_or_not g.phase) e }
+  where
+    adds : acts_by o (decided_at g.phase) ≡ acts_by o (decided_at p.phase) ++ acts_of p.operation g.point
+    adds = joined_acts l o p.operation (decided_at p.phase) g.point (decided_at g.phase) is joins
+
+    on : returned g.phase ≡ None → (fs : List Fact) → Goes l t (stage_after o p g.phase) fs → Doing t (begun_of l o) (acts_by o (decided_at p.phase) ++ acts_of p.operation g.point) fs
+    on none fs later =
+        ⊎_elim (λ ended. absurd (cc (sym none ∙ ap returned ended.1)))
+        (λ further. subst (λ (ps : List Act). Doing t (begun_of l o) ps fs) adds (subst (λ (z : Stage). Goes l t z fs) (further o p) later))
+        (ended_or_not g.phase)
+
+    back : (x : Reply) → ((y : Reply) × (g.phase ≡ Ended y)) ⊎ ((a : Op) (q : Whole) → stage_after a q g.phase ≡ Calling a (record q { phase = g.phase })) → returned g.phase ≡ Some x → Complete (operation_of o) (acts_by o (decided_at p.phase) ++ acts_of p.operation g.point) x
+    back x (inl (y, ended)) e =
+        let same : x ≡ y = replied x y (sym e ∙ ap returned ended) in
+        subst (λ (ps : List Act). Complete (operation_of o) ps x) (sym (ap (λ (f : Phase). acts_by o (decided_at f)) ended ∙ ap (λ (z : Reply). acts_by o (Some z)) (sym same)) ∙ adds) (completed l o p.operation x is)
+      where
+        replied : (a b : Reply) → Some a ≡ Some b → a ≡ b
+        replied a b eq = cc
+    back x (inr further) e = absurd (never g.phase further e)
+      where
+        never : (f : Phase) → ((a : Op) (q : Whole) → stage_after a q f ≡ Calling a (record q { phase = f })) → returned f ≡ Some x → ⊥
+        never (Ended z) more h = cc (more o p)
+        never f more h = cc h
+
+-- of a call on a condition variable, before that
+pub cond_follows : (l : Layout') (t held : ℕ) (c : CondCall) (p : CondWhole) (z : Fields) (w : ℕ) (q : List ℕ) → AtPhase t held (condition.operation_of c) p p.phase z → Follows l t (OnCondition c) (acts_in c p.phase) (led_at c p (cond_led p (answer_among (cond_access p) w q)))
+cond_follows l t held c p z w q stands = grind (arith)

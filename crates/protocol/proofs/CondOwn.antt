@@ -1,0 +1,252 @@
+-- One access of a wait to its thread's own words: its entry is made pending and leaves the list.
+use Rattle.std.proofs.Common.{◌≡◌, ◌≢◌, inl, inr, ℕ, ◌+◌, ◌<◌, ◌≤◌, Bool, true, false, Option, Some, None, List, refl, sym, ap, ◌∙◌, subst, arith}
+use Rattle.protocol.proofs.Vocabulary.{CondCall, CondPhase, CondOnward, CondWhole, Object, address_of, changed, answer_at, sleeps_at, IsChainBothWays, AreDifferent, address_sum}
+use Rattle.protocol.proofs.Vocabulary.{head_place, entry_place, cell_place, counter_place, object_of, owner_of, fresh, owner_of-some, fields_of, Reply, Sound, OnCondition, Stage}
+use Rattle.protocol.proofs.Vocabulary.{AtCondition, mutex_of, State, held_after, stage_at, seen, UnlinkRow, UnlinkStanding, unlink_access, unlink_resume, UnlinkGoes}
+use Rattle.protocol.proofs.Vocabulary.{entries-different, without-among, if◌then◌else◌, nat_lt, nat_tests, WaitRow, CondRow}
+use Rattle.keys.specs.Chains.{IsAmong, without}
+use Rattle.robustlist.specs.Words.{Makes}
+use Rattle.robustlist.specs.UnlinkLaws as unlink_laws
+use Rattle.robustlist.proofs.Unlinks as unlinks
+use Rattle.condvar.specs.Whole.{phase_led, unlinked_at}
+use Rattle.protocol.proofs.Puts.{put-same, put-other}
+use Rattle.protocol.proofs.Phases.{IsPlain, plain_answer, plain_awake, plain_no_move, unlink_plain, few_of_unlink}
+use Rattle.protocol.proofs.Kept.{Needs, FitsAt, Sits, Owned, Listed, PendsAs, Kept}
+use Rattle.protocol.proofs.Places.{IsMine, offset_is_nobodys, mine_is_valid, mine_is_no_cell, mine_is_no_counter, mine_is_not_theirs, list_is_mine, list_not_pending, both_same, among_without, without_is_apart, pending_is}
+use Rattle.protocol.proofs.Steps.{Tells, Transition, seen-inside, met_no_move, unmoved, thread_after, after, place_of, met, cond_onto, cond_step}
+use Rattle.protocol.proofs.Frames.{kept_where}
+use Rattle.protocol.proofs.Stepping.{AnswersAs, left_of, Moves_none, Found_free, Stepping}
+use Rattle.protocol.proofs.CondSteps.{cond_of, fit_at}
+
+-- ---- any load or store of a thread's own words that makes no point
+module _ (s : State) (t : ℕ) (v : Transition) (inv : Kept s) (pos : 1 ≤ t) (known : t ≤ s.layout.threads) (inside : v.mutex < s.layout.mutexes) (plain : IsPlain v.access) (mine : IsMine s t (place_of s t v)) (pointless : v.point ≡ None) where
+  abbrev s' : State
+  s' = after s t v
+
+  abbrev at : ℕ
+  at = place_of s t v
+
+  own_words : (x : ℕ) → x ≢ at → s'.words x ≡ s.words x
+  own_words x apart = put-other s.words at (changed v.access (s.words at)) x apart
+
+  own_cells : (k : ℕ) → k < s.layout.mutexes → s'.words (cell_place s.layout k) ≡ s.words (cell_place s.layout k)
+  own_cells k below = own_words (cell_place s.layout k) (λ e. mine_is_no_cell s t at k pos known below mine (sym e))
+
+  pub own_seen : (k : ℕ) → seen s' k ≡ seen s k
+  own_seen k = go (nat_lt k s.layout.mutexes) refl
+    where
+      go : (b : Bool) → nat_lt k s.layout.mutexes ≡ b → (if b then object_of (fields_of (s'.words (cell_place s.layout k))) else fresh) ≡ (if b then object_of (fields_of (s.words (cell_place s.layout k))) else fresh)
+      go true e = ap (λ (x : ℕ). object_of (fields_of x)) (own_cells k (grind (arith, nat_tests)))
+      go false e = refl
+
+  pub own_counter : (k : ℕ) → s'.words (counter_place s.layout k) ≡ s.words (counter_place s.layout k)
+  own_counter k = own_words (counter_place s.layout k) (λ e. mine_is_no_counter s t at k pos known mine (sym e))
+
+  pub own_cell : (k : ℕ) → k < s.layout.mutexes → fields_of (s'.words (cell_place s.layout k)) ≡ fields_of (s.words (cell_place s.layout k))
+  own_cell k below = ap fields_of (own_cells k below)
+
+  pub held_same : held_after (s.threads t).held v.operation v.point ≡ (s.threads t).held
+  held_same = ap (held_after (s.threads t).held v.operation) pointless ∙ unmoved v.operation (s.threads t).held
+
+  pub own_owned : (out : Option ℕ) (es : List ℕ) → Owned s t out es → Owned s' t out es
+  own_owned out es owned = record {
+    entries = λ x among. let e = owned.entries x among in (e.0, e.1, e.2, ap (λ (z : Object). z.owner) (own_seen e.0) ∙ e.3, e.4);
+    all = λ k below have outside. owned.all k below (sym (ap (λ (z : Object). z.owner) (own_seen k)) ∙ have) outside;
+  }
+
+  own_tells : Tells t (seen s v.mutex) v.operation v.point (seen s' v.mutex)
+  own_tells = subst (λ (x : Option Reply). Tells t (seen s v.mutex) v.operation x (seen s' v.mutex)) (sym pointless) (own_seen v.mutex)
+
+  awake : sleeps_at v.access (met s t v) ≡ false
+  awake = (plain_awake v.access (met s t v) plain).0
+
+  pub own_stepping : Sits s' t (s.threads t).held v.next → Listed s' t v.next → PendsAs (s'.words (head_place t + 2)) v.next → ((k : ℕ) → AnswersAs s.layout s.words k t v.from → ⊥) → 0 < left_of s v.from → left_of s v.from ≤ 9000 → left_of s' v.next < left_of s v.from → Stepping s t v
+  own_stepping sits listed pends silent some few fewer = record {
+    valid = met_no_move s.layout t v.access (plain_no_move v.access plain) ∙ mine_is_valid s t at pos known mine;
+    inside = inside;
+    kept = kept_where s t v.mutex v.access (thread_after s t v) v.operation v.point inv pos known inside (λ k apart. own_seen k) own_tells refl
+        (λ x e takes. absurd (cc (e, pointless)))
+        (λ u first most. own_words (head_place u + 1) (offset_is_nobodys s t u at pos known first most mine))
+        (λ u x first most apart theirs. own_words x (mine_is_not_theirs s u t x at first most pos known (λ e. apart (sym e)) theirs mine))
+        (λ u k first most apart below own. inl (own_cells k below))
+        (subst (λ (h : ℕ). Sits s' t h v.next) (sym held_same) sits)
+        listed
+        pends
+        (subst Sound (sym (own_seen v.mutex)) (inv.sound v.mutex));
+    tells = own_tells;
+    room = λ x e takes. absurd (cc (e, pointless));
+    far = λ k apart. own_seen k;
+    waiters = λ k below on. ap (λ (x : ℕ). (fields_of x).waiters) (own_cells k below) ∙ on;
+    pendings = λ u first most apart. own_words (head_place u + 2) (mine_is_not_theirs s u t (head_place u + 2) at first most pos known (λ e. apart (sym e)) (inr (inl refl)) mine);
+    sleeper = λ on. absurd (cc (on, awake));
+    asleep = λ on. absurd (cc (on, awake));
+    moving = Moves_none (plain_no_move v.access plain);
+    settles = λ k below none on. Found_free (sym (ap (λ (z : Object). z.owner) (own_seen k)) ∙ none) (λ was. absurd (silent k was));
+    some = some;
+    few = few;
+    fewer = λ quiet. fewer;
+  }
+
+-- ---- a wait that is about to release its mutex
+module _ (s : State) (t : ℕ) (c : CondCall) (inv : Kept s) (pos : 1 ≤ t) (known : t ≤ s.layout.threads) where
+  abbrev m : ℕ
+  m = mutex_of s.layout (OnCondition c)
+
+  abbrev head : ℕ
+  head = head_place t
+
+  abbrev entry : ℕ
+  entry = entry_place s.layout m
+
+  abbrev held : ℕ
+  held = (s.threads t).held
+
+  last : t ≤ 64
+  last = let most = inv.layout.threads.1 in omega arith
+
+  -- the pending word
+  pending_place : address_sum head 2 ≡ head + 2
+  pending_place = pending_is t last pos
+
+  -- its mutex is its own
+  owns_it : m < s.layout.mutexes → (fields_of (s.words (cell_place s.layout m))).owner ≡ t → (seen s m).owner ≡ Some t
+  owns_it inside own = ap (λ (z : Object). z.owner) (seen-inside s m inside) ∙ ap owner_of own ∙ owner_of-some t pos
+
+  -- ---- its entry is made pending
+  module _ (x : ℕ) (fits : FitsAt s t held c (cond_of s.layout t c (CondPhase.Announcing x))) where
+    abbrev announcing : CondWhole
+    announcing = cond_of s.layout t c (CondPhase.Announcing x)
+
+    abbrev step : Transition
+    step = cond_step s t c announcing
+
+    abbrev words' : ℕ → ℕ
+    words' = (after s t step).words
+
+    pub at_pending : IsMine s t (place_of s t step)
+    at_pending = inr (inl pending_place)
+
+    pub announcing_stepping : (s.threads t).stage ≡ AtCondition c announcing → Listed s t (AtCondition c announcing) → Stepping s t step
+    announcing_stepping is (es, owned, ch) =
+        own_stepping s t step inv pos known fits.inside tt at_pending refl
+        (fit_at (after s t step) t held c (CondPhase.Announcing x) fits.inside fits.there (CondPhase.Unlinking (record { head = head; entry = entry; row = UnlinkRow.LoadNext }) x)
+        (fits.stands.0, refl, refl, tt, subst (Needs t (CondRow.Wait (WaitRow.Release x))) (sym (own_cell s t step inv pos known fits.inside tt at_pending refl m fits.inside)) fits.stands.1))
+        (es, own_owned s t step inv pos known fits.inside tt at_pending refl None es owned, unlinks.right.begins head entry es words' still among)
+        (ap words' (sym pending_place) ∙ put-same s.words (address_sum head 2) entry)
+        (λ k was. absurd (cc was.1)) (omega arith) (omega arith) (omega arith)
+      where
+        still : IsChainBothWays words' head es
+        still = both_same s.words words' head es (λ y on. put-other s.words (address_sum head 2) entry y (λ e. list_not_pending s t None es y inv.layout pos known owned on (e ∙ pending_place))) ch
+
+        among : IsAmong entry es
+        among = owned.all m fits.inside (owns_it fits.inside fits.stands.1.0) (λ e. cc e)
+
+  -- ---- and is taken out of the list
+  module _ (r : UnlinkRow) (x : ℕ) where
+    abbrev standing : UnlinkStanding
+    standing = record { head = head; entry = entry; row = r }
+
+    abbrev unlinking : CondWhole
+    unlinking = cond_of s.layout t c (CondPhase.Unlinking standing x)
+
+    module _ (fits : FitsAt s t held c unlinking) (is_in : (s.threads t).stage ≡ AtCondition c unlinking) (es : List ℕ) (owned : Owned s t None es) (ch : unlink_laws.Unlinking head entry es r s.words) where
+      abbrev out_step : Transition
+      out_step = cond_step s t c unlinking
+
+      abbrev out_state : State
+      out_state = after s t out_step
+
+      abbrev present : ℕ
+      present = s.words (address_of (unlink_access head entry r))
+
+      abbrev to_row : UnlinkRow
+      to_row = unlink_resume head r (answer_at (unlink_access head entry r) present)
+
+      pub plain : IsPlain (unlink_access head entry r)
+      plain = unlink_plain head entry r
+
+      pub on_list : IsMine s t (address_of (unlink_access head entry r))
+      on_list = list_is_mine s t None es _ inv.layout owned (unlinks.near head entry es r s.words ch)
+
+      pub leads : cond_onto s t unlinking ≡ phase_led unlinking (CondPhase.Unlinking standing x) (answer_at (unlink_access head entry r) present)
+      leads = ap (phase_led unlinking (CondPhase.Unlinking standing x)) (plain_answer (unlink_access head entry r) present (s.queues (address_of (unlink_access head entry r))) plain)
+
+      pointless : out_step.point ≡ None
+      pointless = refl
+
+      makes : Makes (unlink_access head entry r) head es s.words out_state.words
+      makes = record {
+        changes = put-same s.words (address_of (unlink_access head entry r)) (changed (unlink_access head entry r) present);
+        keeps = λ y on apart. put-other s.words (address_of (unlink_access head entry r)) (changed (unlink_access head entry r) present) y apart;
+      }
+
+      chain_then : unlink_laws.Unlinking head entry es to_row out_state.words
+      chain_then = unlinks.right.steps head entry es r s.words out_state.words fits.stands.3 ch makes
+
+      falls : unlink_laws.unlink_left to_row < unlink_laws.unlink_left r
+      falls = unlinks.right.falls head r (answer_at (unlink_access head entry r) present) fits.stands.3
+
+      pends : out_state.words (head + 2) ≡ entry
+      pends =
+          put-other s.words (address_of (unlink_access head entry r)) (changed (unlink_access head entry r) present) (head + 2)
+          (λ e. list_not_pending s t None es _ inv.layout pos known owned (unlinks.near head entry es r s.words ch) (sym e))
+          ∙ subst (PendsAs (s.words (head + 2))) is_in (inv.heads t pos known).pending
+
+      needs : Needs t (CondRow.Wait (WaitRow.Release x)) (fields_of (out_state.words (cell_place s.layout m)))
+      needs = subst (Needs t (CondRow.Wait (WaitRow.Release x))) (sym (own_cell s t out_step inv pos known fits.inside plain on_list pointless m fits.inside)) fits.stands.4
+
+      different : AreDifferent es
+      different = (entries-different head es ch.places).1
+
+      owned_less : Owned s t (Some m) (without entry es)
+      owned_less = record {
+        entries = λ y among. let e = owned.entries y (without-among entry y es among) in (e.0, e.1, e.2, e.3, λ same. without_is_apart entry y es different among (e.2 ∙ ap (entry_place s.layout) (some_same m e.0 same)));
+        all = λ i below own outside. among_without entry (entry_place s.layout i) es (owned.all i below own (λ e. cc e)) (λ same. outside (ap Some (omega (arith, same))));
+      }
+        where
+          some_same : (i k : ℕ) → Some i ≡ Some k → k ≡ i
+          some_same i k e = cc
+
+      -- where it stands then
+      record Stands (g : Stage) : Type 0 where
+        sits : Sits out_state t held g
+        listed : Listed out_state t g
+        pending : PendsAs (out_state.words (head + 2)) g
+        fewer : left_of out_state g < 66 + unlink_laws.unlink_left r
+
+      abbrev moved : UnlinkStanding
+      moved = record { head = head; entry = entry; row = to_row }
+
+      goes_on : UnlinkGoes to_row → Stands (AtCondition c (cond_of s.layout t c (CondPhase.Unlinking moved x)))
+      goes_on going = record {
+        sits = fit_at out_state t held c (CondPhase.Announcing x) fits.inside fits.there (CondPhase.Unlinking moved x) (fits.stands.0, refl, refl, going, needs);
+        listed = (es, own_owned s t out_step inv pos known fits.inside plain on_list pointless None es owned, chain_then);
+        pending = pends;
+        fewer = let less = falls in omega arith;
+      }
+
+      -- what holds of an unlink that goes on, and of the release behind it, holds where it leads
+      pub then_at : (P : CondPhase → Type 0) → (UnlinkGoes to_row → P (CondPhase.Unlinking moved x)) → (IsChainBothWays out_state.words head (without entry es) → P (CondPhase.AtWords (CondRow.Wait (WaitRow.Release x)))) → P (unlinked_at moved to_row x)
+      then_at P on out = go to_row refl
+        where
+          go : (q : UnlinkRow) → to_row ≡ q → P (unlinked_at moved q x)
+          go UnlinkRow.LoadNext is = on (subst UnlinkGoes (sym is) tt)
+          go (UnlinkRow.LoadPrevious n) is = on (subst UnlinkGoes (sym is) tt)
+          go (UnlinkRow.StoreNext n q) is = on (subst UnlinkGoes (sym is) tt)
+          go (UnlinkRow.StorePrevious n q) is = on (subst UnlinkGoes (sym is) tt)
+          go (UnlinkRow.Ended y) is =
+              let ends = unlinks.right.ends head entry es y out_state.words (subst (λ q. unlink_laws.Unlinking head entry es q out_state.words) is chain_then) in
+              subst (λ (z : Reply). P (unlinked_at moved (UnlinkRow.Ended z) x)) (sym ends.0) (out ends.1)
+
+      stands_then : Stands (stage_at c unlinking (unlinked_at moved to_row x))
+      stands_then = then_at (λ (f : CondPhase). Stands (stage_at c unlinking f)) goes_on (λ ch_less. record {
+        sits = fit_at out_state t held c (CondPhase.Announcing x) fits.inside fits.there (CondPhase.AtWords (CondRow.Wait (WaitRow.Release x))) (record { going = tt; of = sym fits.stands.0; needs = needs; room = tt });
+        listed = (without entry es, own_owned s t out_step inv pos known fits.inside plain on_list pointless (Some m) (without entry es) owned_less, ch_less);
+        pending = pends;
+        fewer = omega arith;
+      })
+
+      pub unlinking_stepping : Stepping s t out_step
+      unlinking_stepping =
+          let arrived : Stands out_step.next = subst (λ (z : CondOnward). Stands (stage_at c unlinking z.phase)) (sym leads) stands_then in
+          own_stepping s t out_step inv pos known fits.inside plain on_list pointless arrived.sits arrived.listed arrived.pending (λ k was. absurd (cc was.1)) (omega arith) (let few = few_of_unlink r in omega arith) arrived.fewer

@@ -1,0 +1,199 @@
+-- A broadcast's move empties its condition variable's queue.
+use Rattle.std.proofs.Common.{⊎_elim, ◌≡◌, ℕ, zero, suc, ◌+◌, ◌%◌, ◌^◌, ◌≤◌, ◌==◌, Bool, true, false, Option, Some, None, List, [], ◌∷◌, ◌++◌, length, drop, refl, sym, ap, ◌∙◌, subst, arith, eqb-true, eq-eqb}
+use Rattle.protocol.proofs.Vocabulary.{Fact, CondCall, CondRow, Broadcast, CondPhase, CondOnward, condition_of, met_word, CondWhole, cond_access, cond_led, after_words, Queue}
+use Rattle.protocol.proofs.Vocabulary.{Return, Begun, Condition, Decision, answer_at, Layout', cell_place, counter_place, Reply, OK, Whole, Op, OnCondition, Stepped, Walked, Stage}
+use Rattle.protocol.proofs.Vocabulary.{Calling, AtCondition, Event, Step, facts_of, return_facts, mutex_of, begun_of, State, After, put, start, stands_in, returned_at, led_at}
+use Rattle.protocol.proofs.Vocabulary.{stepped, happens, run, if◌then◌else◌, not, Operation, BroadcastRow}
+use Rattle.buckets.specs.Queues.{without}
+use Rattle.condvar.specs.declared.row.CondRow.TheVariants.{Ended}
+use Rattle.condvar.specs.Calls.{operation_of}
+use Rattle.condvar.specs.Rows.{IsGoing}
+use Rattle.condvar.specs.Laws.{row_operation}
+use Rattle.condvar.specs.Programs.{row_access, resume_of}
+use Rattle.protocol.specs.Ops.{operation_of as operation_of_op}
+use Rattle.protocol.specs.PassedBy.{NobodyIsPassedBy}
+use Rattle.protocol.specs.Sleepers.{IsAmong}
+use Rattle.protocol.proofs.Puts.{put-same, put-other}
+use Rattle.protocol.proofs.Kept.{IsFor, Kept}
+use Rattle.protocol.proofs.Places.{counter_is_no_cell}
+use Rattle.protocol.proofs.Steps.{after, went-is, cond_onto, cond_step, cond_note}
+use Rattle.protocol.proofs.Accesses.{fits_in}
+use Rattle.protocol.proofs.Events.{by_event, by_stage}
+use Rattle.protocol.proofs.Runs.{start_kept, run_kept, run_layout}
+use Rattle.protocol.proofs.QueueRuns.{run_queued}
+use Rattle.protocol.proofs.PassedBy.{IsTold, told_run, never_passed}
+use Rattle.protocol.proofs.Queued.{Queued}
+use Rattle.protocol.proofs.CondSteps.{cond_of}
+use Rattle.protocol.proofs.CondAccesses.{cond_stepping, fits_at}
+use Rattle.protocol.proofs.Counters.{IsBefore, CondMove, By_row, Before_release, cond_moves, KnowsAt, KnowsIn, Counted, start_counted, run_counted}
+use Rattle.protocol.proofs.Queues.{Once, first_stands, without_stands, once_without}
+use Rattle.protocol.proofs.NoteFacts.{IsOfSleep, of_access, of_walk}
+use Rattle.std.proofs.lemmas.List.{drop_all}
+
+-- ---- queues are short
+
+-- whoever doesn't stand there isn't taken out
+without_same : (t : ℕ) (q : List ℕ) → stands_in t q ≡ false → without t q ≡ q
+without_same t [] out = refl
+without_same t (u ∷ us) out = grind (arith, without_same t us)
+
+-- and whoever does stood there once
+one_less : (t : ℕ) (q : List ℕ) → Once q → length q ≤ suc (length (without t q))
+one_less t [] once = omega arith
+one_less t (u ∷ us) once = go (u == t) refl (one_less t us once.1)
+  where
+    go : (b : Bool) → (u == t) ≡ b → length us ≤ suc (length (without t us)) → suc (length us) ≤ suc (length (if not b then u ∷ without t us else without t us))
+    go true e rest =
+        let out : stands_in t us ≡ false = sym (ap (λ (x : ℕ). stands_in x us) (eqb-true u t e)) ∙ once.0 in
+        let same : length (without t us) ≡ length us = ap length (without_same t us out) in
+        omega (arith, same)
+    go false e rest = omega (arith, rest)
+
+pub no_more : (n : ℕ) (q : List ℕ) → Once q → ((u : ℕ) → stands_in u q ≡ true → (1 ≤ u) × (u ≤ n)) → length q ≤ n
+no_more n [] once each = omega arith
+no_more zero (x ∷ xs) once each = let range = each x (first_stands x xs) in absurd (let first = range.0 in let last = range.1 in omega arith)
+no_more (suc n) (x ∷ xs) once each =
+    let fewer = no_more n (without (suc n) (x ∷ xs)) (once_without (suc n) (x ∷ xs) once) (λ u stands.
+    let there = without_stands (suc n) u (x ∷ xs) stands in
+    let range = each u there.0 in
+    (range.0, (let last = range.1 in let other = there.1 in omega arith))) in
+    let less = one_less (suc n) (x ∷ xs) once in
+    omega (arith, fewer, less)
+
+-- ---- returns
+
+pub no_return_walked : (t u : ℕ) (x : Reply) (d : Option ℕ) (ws : List ℕ) (y : Bool) → IsAmong (Return t x) (facts_of (Walked u d ws y)) → ⊥
+no_return_walked t u x d ws y = of_walk (λ (fs : List Fact). IsAmong (Return t x) fs → ⊥) u d ws y (λ m fs none. ⊎_elim (λ e. cc e) none) (λ w fs none. ⊎_elim (λ e. cc e) none) (grind (arith))
+
+-- an access that returns tells so
+return_said : (t u : ℕ) (x : Reply) (y : Option Reply) → IsAmong (Return t x) (return_facts u y) → y ≡ Some x
+return_said t u x y h = grind (arith)
+
+pub returned_noted : (t u m : ℕ) (x : Reply) (d : Option Decision) (k : Option Queue) (ws ms : List ℕ) (y : Option Reply) → IsAmong (Return t x) (facts_of (Stepped u m d k ws ms y)) → y ≡ Some x
+returned_noted t u m x d k ws ms y =
+    of_access (λ (fs : List Fact). IsAmong (Return t x) fs → y ≡ Some x) u m d k ws ms y (λ e fs said. ⊎_elim (λ same. absurd (cc same)) said)
+    (λ f of fs said. ⊎_elim (λ same. absurd (subst (IsOfSleep u) same of)) said) (return_said t u x y)
+
+-- ---- where a broadcast returns OK
+
+ok_row : (p : CondWhole) (r : CondRow) → returned_at (after_words p r) ≡ Some OK → r ≡ Ended OK
+ok_row p r e = grind (arith)
+
+-- only its move does so
+only_move : (t cell counter w n : ℕ) (r : CondRow) → IsGoing r → row_operation r ≡ Operation.Broadcast → (resume_of t r (answer_at (row_access t cell counter r) (met_word r w n))).row ≡ Ended OK → (seen : ℕ) × (r ≡ Broadcast (BroadcastRow.Move seen))
+only_move t cell counter w n r going of e = grind (arith)
+
+never_returns : (seen : ℕ) (f : CondPhase) → IsBefore seen f → returned_at f ≡ Some OK → ⊥
+never_returns seen f is e = grind (arith)
+
+module _ (s : State) (t : ℕ) (c : CondCall) (p : CondWhole) (inv : Kept s) (queued : Queued s) (counted : Counted s) (pos : 1 ≤ t) (known : t ≤ s.layout.threads) (is : (s.threads t).stage ≡ AtCondition c p) (of_broadcast : operation_of c ≡ Operation.Broadcast) where
+  abbrev l : Layout'
+  l = s.layout
+
+  abbrev cell : ℕ
+  cell = cell_place l (mutex_of l (OnCondition c))
+
+  abbrev counter : ℕ
+  counter = counter_place l (condition_of c)
+
+  abbrev z : State
+  z = after s t (cond_step s t c p)
+
+  short : length (s.queues counter) ≤ 64
+  short =
+      let few = no_more l.threads (s.queues counter) (queued.once counter) (λ u stands. let slept = queued.sleeps counter u stands in (slept.0, slept.1)) in
+      let most = inv.layout.threads.1 in omega (arith, few, most)
+
+  -- the state that a move leaves
+  abbrev moved_by_row : ℕ → State
+  moved_by_row seen = after s t (cond_step s t c (cond_of l t c (CondPhase.AtWords (Broadcast (BroadcastRow.Move seen)))))
+
+  emptied : (seen : ℕ) → s.words counter ≡ seen + 1 → (moved_by_row seen).queues counter ≡ []
+  emptied seen at =
+      put-other left cell _ counter (counter_is_no_cell l (mutex_of l (OnCondition c)) (condition_of c) (fits_at s t c p inv pos known is).inside)
+      ∙ put-same s.queues counter _
+      ∙ ap (λ (b : Bool). if b then drop 64 (drop 0 (s.queues counter)) else s.queues counter) (eq-eqb (s.words counter % 2 ^ 32) ((seen + 1) % 2 ^ 32) (ap (λ (x : ℕ). x % 2 ^ 32) at))
+      ∙ drop_all 64 (s.queues counter) short
+    where
+      left : ℕ → List ℕ
+      left = put s.queues counter (if s.words counter % 2 ^ 32 == (seen + 1) % 2 ^ 32 then drop 64 (drop 0 (s.queues counter)) else s.queues counter)
+
+  pub then_empty : returned_at (cond_onto s t p).phase ≡ Some OK → z.queues counter ≡ []
+  then_empty back = go (cond_moves s t c inv pos known p is).move
+    where
+      knows : KnowsAt (s.words counter) p.phase
+      knows = subst (KnowsIn l s.words) is (counted.knows t pos known)
+
+      go : CondMove s t c p → z.queues counter ≡ []
+      go (Before_release seen before later none same) = absurd (never_returns seen (cond_onto s t p).phase later back)
+      go (By_row r from going of needs counts leads) =
+          let row = only_move t cell counter (s.words cell) (s.words counter) r going (of ∙ of_broadcast) (ok_row p _ (sym (ap (λ (g : CondOnward). returned_at g.phase) leads) ∙ back)) in
+          let shape : p ≡ cond_of l t c (CondPhase.AtWords (Broadcast (BroadcastRow.Move row.0))) = from ∙ ap (λ (y : CondRow). cond_of l t c (CondPhase.AtWords y)) row.1 in
+          subst (λ (y : CondWhole). (after s t (cond_step s t c y)).queues counter ≡ []) (sym shape) (emptied row.0 (subst (λ (y : CondWhole). KnowsAt (s.words counter) y.phase) shape knows))
+
+-- ---- a step that tells a broadcast's return
+
+module _ (s : State) (t k : ℕ) (b : Begun) (inv : Kept s) (queued : Queued s) (counted : Counted s) (told : IsTold s.layout (s.threads t).stage (Some b)) (broadcasts : b.operation ≡ Operation.Broadcast) (on : b.condition ≡ Some k) where
+  same_call : (x : Begun) → Some b ≡ Some x → b ≡ x
+  same_call x e = cc
+
+  some_same : (i j : ℕ) → Some i ≡ Some j → i ≡ j
+  some_same i j e = cc
+
+  abbrev pub Empties : After → Type 0
+  Empties a = IsAmong (Return t OK) (facts_of a.note) → a.state.queues (counter_place s.layout k) ≡ []
+
+  -- no call on a mutex is a broadcast, nor the lock that ends a wait
+  no_call : (o : Op) (p : Whole) → IsFor s.layout o p.operation → operation_of_op o ≡ Operation.Broadcast → ⊥
+  no_call x0 p is e = grind (arith)
+
+  called : (o : Op) (p : Whole) → 1 ≤ t → t ≤ s.layout.threads → (s.threads t).stage ≡ Calling o p → ⊥
+  called o p pos known is =
+      let same : b ≡ begun_of s.layout o = same_call (begun_of s.layout o) (subst (λ (g : Stage). IsTold s.layout g (Some b)) is told) in
+      no_call o p (fits_in s t o p inv pos known is).1 (sym (ap (λ (x : Begun). x.operation) same) ∙ broadcasts)
+
+  at_condition : (c : CondCall) (p : CondWhole) → 1 ≤ t → t ≤ s.layout.threads → (s.threads t).stage ≡ AtCondition c p → Empties (record { state = after s t (cond_step s t c p); note = cond_note s t c p })
+  at_condition c p pos known is among =
+      let same : b ≡ begun_of s.layout (OnCondition c) = same_call (begun_of s.layout (OnCondition c)) (subst (λ (g : Stage). IsTold s.layout g (Some b)) is told) in
+      let here : condition_of c ≡ k = some_same (condition_of c) k (sym (ap (λ (x : Begun). x.condition) same) ∙ on) in
+      subst (λ (j : ℕ). (after s t (cond_step s t c p)).queues (counter_place s.layout j) ≡ []) here
+      (then_empty s t c p inv queued counted pos known is (sym (ap (λ (x : Begun). x.operation) same) ∙ broadcasts) (returned_noted t t (mutex_of s.layout (OnCondition c)) OK _ _ _ _ _ among))
+
+  step_empties : 1 ≤ t → t ≤ s.layout.threads → Empties (stepped s t (s.threads t).held (s.threads t).stage)
+  step_empties pos known =
+      by_stage s t Empties (λ rests among. absurd among)
+      (λ o p is awake. absurd (called o p pos known is))
+      (λ c p is awake. subst Empties
+      (sym (went-is s t (mutex_of s.layout (OnCondition c)) (Condition (condition_of c)) (AtCondition c p) (cond_access p) (λ a. led_at c p (cond_led p a)) (cond_stepping s t c p inv pos known is).valid))
+      (at_condition c p pos known is))
+      (λ w is awake among. absurd (no_return_walked t t OK _ _ _ among))
+
+  pub empties : Empties (happens s (Step t))
+  empties =
+      by_event s (λ (e : Event) (a : After). e ≡ Step t → Empties a) (λ e same among. absurd among)
+      (λ u o pos known inside idle full is same. absurd cc)
+      (λ u pos known same. subst (λ (v : ℕ). 1 ≤ v → v ≤ s.layout.threads → Empties (stepped s v (s.threads v).held (s.threads v).stage)) (step_same u t (sym same)) step_empties pos known)
+      (λ u pos known alive same. absurd cc) (Step t) refl
+    where
+      step_same : (u v : ℕ) → Step v ≡ Step u → v ≡ u
+      step_same u v e = cc
+
+-- ---- every run
+
+pub nobody_passed : NobodyIsPassedBy
+nobody_passed l counters events is presets = record {
+  counted = λ t k h. never_passed s0 events inv counted (λ u. tt) t k h;
+  moved = λ before later t k b same told broadcasts on among.
+      subst (λ (y : Layout'). (happens (run s0 before) (Step t)).state.queues (counter_place y k) ≡ []) (run_layout s0 before inv)
+      (empties (run s0 before) t k b (run_kept s0 before inv) (run_queued l counters before is) (run_counted s0 before inv counted)
+      (subst (IsTold (run s0 before).layout ((run s0 before).threads t).stage) told (told_run s0 before inv counted t None tt)) broadcasts on among);
+}
+  where
+    s0 : State
+    s0 = start l counters
+
+    inv : Kept s0
+    inv = start_kept l counters is
+
+    counted : Counted s0
+    counted = start_counted l counters presets

@@ -1,0 +1,560 @@
+-- No wait is passed by.
+use Rattle.std.proofs.Common.{◌≡◌, ◌≢◌, ⊎_elim, ℕ, ◌+◌, ◌%◌, ◌^◌, ◌<◌, ◌≤◌, ◌==◌, Bool, true, false, Option, Some, None, Ok, Err, List, [], ◌∷◌, ◌++◌, append_assoc, refl, sym, ap, ◌∙◌, subst, arith}
+use Rattle.protocol.proofs.Vocabulary.{CondCall, CondRow, CondLed, CondPhase, condition_of, full, met_word, counter_after, CondWhole, cond_access, cond_led, after_words}
+use Rattle.protocol.proofs.Vocabulary.{from_words, CondOnward, Begun, Mutex, Condition, Fact, Operation, Decision, answer_at, sleeps_at, Layout', cell_place, counter_place, Reply}
+use Rattle.protocol.proofs.Vocabulary.{OK, XHELD, Phase, Whole, whole_access, whole_led, Op, OnCondition, Thread, Stage, Idle, Calling, AtCondition, Dying, Reaped, Event, caller}
+use Rattle.protocol.proofs.Vocabulary.{mutex_of, begun_of, facts_of, State, After, nothing, place_met, answer_of, falls_asleep, decision, slept_in, stage_after, stage_at, reply_at}
+use Rattle.protocol.proofs.Vocabulary.{led, led_at, went, begun, killed, walked, happens, run, notes, facts_among, Note, if◌then◌else◌, WaitRow}
+use Rattle.keys.specs.declared.point.Point.{Point}
+use Rattle.condvar.specs.declared.row.CondRow.TheVariants.{Wait}
+use Rattle.condvar.specs.declared.row.Decided.{Decided}
+use Rattle.condvar.specs.Calls.{operation_of}
+use Rattle.condvar.specs.Rows.{IsGoing}
+use Rattle.condvar.specs.Programs.{row_access, resume_of, point_of}
+use Rattle.exitwalk.specs.Standings as walks
+use Rattle.protocol.specs.Machine.{decided_at, Led}
+use Rattle.protocol.proofs.Runs.{sound, run_kept, run_layout}
+use Rattle.protocol.specs.Sleepers.{IsAmong}
+use Rattle.protocol.specs.PassedBy.{last_begun, call_told, BeginsNone, Counts, IsOn, IsPassedBy}
+use Rattle.protocol.proofs.Puts.{put-same}
+use Rattle.protocol.proofs.Kept.{IsFor, Kept}
+use Rattle.protocol.proofs.Arrivals.{ended_or_not}
+use Rattle.protocol.proofs.Accesses.{fits_in}
+use Rattle.protocol.proofs.Passing.{point_noted, sleep_noted, none_walked, Begins_nothing, begins_stepped, begins_walked, last_begun-append, begins_first, begins_later}
+use Rattle.protocol.proofs.WalkSteps.{by_walked}
+use Rattle.protocol.proofs.Events.{begins_at, by_event, by_stage}
+use Rattle.protocol.proofs.Counters.{IsBefore, CondMove, By_row, Before_release, CondGoes, cond_moves, KnowsCount, KnowsAt, KnowsIn, Counted, Passes, never_falls, passes, counted_on, run_counted}
+use Rattle.protocol.proofs.CondSteps.{cond_of}
+use Rattle.protocol.proofs.CondAccesses.{cond_stepping}
+use Rattle.protocol.proofs.Steps.{thread_after, after, went-is, cond_onto, cond_step, cond_note}
+
+-- ---- where a wait stands
+
+-- behind its release, if it is a wait's
+abbrev IsPastRow : CondRow → Type 0
+IsPastRow (Wait WaitRow.LoadCell) = ⊥
+IsPastRow (Wait WaitRow.LoadCounter) = ⊥
+IsPastRow (Wait (WaitRow.Release seen)) = ⊥
+IsPastRow r = Unit {0}
+
+abbrev IsPastIn : CondPhase → Type 0
+IsPastIn (CondPhase.AtWords r) = IsPastRow r
+IsPastIn (CondPhase.Announcing seen) = ⊥
+IsPastIn (CondPhase.Unlinking u seen) = ⊥
+IsPastIn f = Unit {0}
+
+abbrev IsPast : Stage → Type 0
+IsPast (AtCondition c p) = IsPastIn p.phase
+IsPast g = Unit {0}
+
+-- and it saw less than the counter is, so it won't sleep
+abbrev IsBehindRow : ℕ → CondRow → Type 0
+IsBehindRow n (Wait WaitRow.LoadCell) = ⊥
+IsBehindRow n (Wait WaitRow.LoadCounter) = ⊥
+IsBehindRow n (Wait (WaitRow.Release seen)) = ⊥
+IsBehindRow n (Wait (WaitRow.Wake seen)) = seen < n
+IsBehindRow n (Wait (WaitRow.Sleep seen)) = seen < n
+IsBehindRow n r = Unit {0}
+
+abbrev IsBehindIn : ℕ → CondPhase → Type 0
+IsBehindIn n (CondPhase.AtWords r) = IsBehindRow n r
+IsBehindIn n (CondPhase.Announcing seen) = ⊥
+IsBehindIn n (CondPhase.Unlinking u seen) = ⊥
+IsBehindIn n f = Unit {0}
+
+-- if it is on condition variable k
+abbrev IsBehind : Layout' → (ℕ → ℕ) → ℕ → Stage → Type 0
+IsBehind l words k (AtCondition c p) = condition_of c ≡ k → IsBehindIn (words (counter_place l k)) p.phase
+IsBehind l words k g = Unit {0}
+
+-- ---- row by row
+
+-- an unlock leads behind it
+abbrev Unlocks : Option Decided → CondRow → Type 0
+Unlocks None q = Unit {0}
+Unlocks (Some d) q = d.operation ≡ Operation.Unlock → IsPastRow q
+
+-- a count is one more, and leads to a row at which no wait is
+abbrev CountsTo : ℕ → ℕ → Option Decided → CondRow → Type 0
+CountsTo n n' None q = Unit {0}
+CountsTo n n' (Some d) q = Counts d.operation d.reply → (n' ≡ n + 1) × ((j : ℕ) → IsBehindRow j q)
+
+record Does_so (n n' : ℕ) (r : CondRow) (l : CondLed) : Type 0 where
+  unlocks : Unlocks l.decided l.row
+  past : IsPastRow r → IsPastRow l.row
+  behind : IsBehindRow n r → IsBehindRow n' l.row
+  counts : CountsTo n n' l.decided l.row
+
+does_row : (t cell counter w n : ℕ) (r : CondRow) → IsGoing r → KnowsCount n r → Does_so n (counter_after t cell counter r n) r (resume_of t r (answer_at (row_access t cell counter r) (met_word r w n)))
+does_row t cell counter w n r going knows = grind (arith)
+
+-- ---- where a row leads its thread
+
+past_there : (c : CondCall) (p : CondWhole) (q : CondRow) → IsPastRow q → IsPast (stage_at c p (after_words p q))
+past_there c p q h = grind (arith)
+
+-- a greater counter leaves it behind
+behind_later : (l : Layout') (words words' : ℕ → ℕ) (k : ℕ) (g : Stage) → words (counter_place l k) ≤ words' (counter_place l k) → IsBehind l words k g → IsBehind l words' k g
+behind_later l words words' k g more h = grind (arith)
+
+-- whoever is past its release and saw no more than the counter was is behind once that is one more
+behind_now : (l : Layout') (words words' : ℕ → ℕ) (k : ℕ) (g : Stage) → words' (counter_place l k) ≡ words (counter_place l k) + 1 → IsPast g → KnowsIn l words g → IsBehind l words' k g
+behind_now l words words' k g more past knows = grind (arith)
+
+-- ---- one event
+
+-- the call that it is in was told so
+abbrev pub IsTold : Layout' → Stage → Option Begun → Type 0
+IsTold l (Calling o p) b = b ≡ Some (begun_of l o)
+IsTold l (AtCondition c p) b = b ≡ Some (begun_of l (OnCondition c))
+IsTold l g b = Unit {0}
+
+-- an event of thread u, which leaves a
+record Makes (s : State) (u : ℕ) (a : After) : Type 0 where
+  points : (d : Decision) → IsAmong (Fact.Point d) (facts_of a.note) → (d.thread ≡ u) × (1 ≤ u) × (u ≤ s.layout.threads)
+  unlocks : (d : Decision) → IsAmong (Fact.Point d) (facts_of a.note) → d.operation ≡ Operation.Unlock → d.reply ≡ OK → IsPast (a.state.threads u).stage
+  past : BeginsNone u (facts_of a.note) → IsPast (s.threads u).stage → IsPast (a.state.threads u).stage
+  behind : (k : ℕ) → BeginsNone u (facts_of a.note) → IsBehind s.layout s.words k (s.threads u).stage → IsBehind s.layout a.state.words k (a.state.threads u).stage
+  counts : (d : Decision) → IsAmong (Fact.Point d) (facts_of a.note) → Counts d.operation d.reply
+      → (c : CondCall) × (p : CondWhole) × ((s.threads u).stage ≡ AtCondition c p) × (a.state.words (counter_place s.layout (condition_of c)) ≡ s.words (counter_place s.layout (condition_of c)) + 1) × ((k : ℕ) → IsBehind s.layout a.state.words k (a.state.threads u).stage)
+  sleeps : (t k : ℕ) → IsAmong (Fact.Sleep t (Condition k)) (facts_of a.note) → IsBehind s.layout s.words k (s.threads t).stage → ⊥
+  told : (b : Option Begun) → IsTold s.layout (s.threads u).stage b → IsTold s.layout (a.state.threads u).stage (last_begun u b (facts_of a.note))
+  others : (t : ℕ) (b : Option Begun) → u ≢ t → last_begun t b (facts_of a.note) ≡ b
+
+nothing_makes : (s : State) (u : ℕ) → Makes s u (nothing s)
+nothing_makes s u = grind (arith)
+
+decided_is : (u m : ℕ) (op : Operation) (x : Reply) (d : Decision) → Some (record { thread = u; mutex = m; operation = op; reply = x }) ≡ Some d → (u ≡ d.thread) × (op ≡ d.operation) × (x ≡ d.reply)
+decided_is u m op x d is = (cc, cc, cc)
+
+-- ---- a call on a mutex, or the lock that ends a wait
+past_call : (o : Op) (p : Whole) (f : Phase) → IsPast (stage_after o p f)
+past_call o p f = ⊎_elim (λ ended. subst (λ (x : Phase). IsPast (stage_after o p x)) (sym ended.1) tt) (λ on. subst IsPast (sym (on o p)) tt) (ended_or_not f)
+
+behind_call : (l : Layout') (words : ℕ → ℕ) (k : ℕ) (o : Op) (p : Whole) (f : Phase) → IsBehind l words k (stage_after o p f)
+behind_call l words k o p f = ⊎_elim (λ ended. subst (λ (x : Phase). IsBehind l words k (stage_after o p x)) (sym ended.1) tt) (λ on. subst (IsBehind l words k) (sym (on o p)) tt) (ended_or_not f)
+
+told_call : (l : Layout') (o : Op) (p : Whole) (f : Phase) (b : Option Begun) → b ≡ Some (begun_of l o) → IsTold l (stage_after o p f) b
+told_call l o p f b is = ⊎_elim (λ ended. subst (λ (x : Phase). IsTold l (stage_after o p x) b) (sym ended.1) tt) (λ on. subst (λ (g : Stage). IsTold l g b) (sym (on o p)) is) (ended_or_not f)
+
+-- it counts nothing
+never_counts : (l : Layout') (o : Op) (op : Operation) (x : Reply) → IsFor l o op → Counts op x → ⊥
+never_counts l o op x is h = grind (arith)
+
+module _ (s : State) (u : ℕ) (o : Op) (p : Whole) (inv : Kept s) (pos : 1 ≤ u) (known : u ≤ s.layout.threads) (is : (s.threads u).stage ≡ Calling o p) where
+  abbrev m : ℕ
+  m = mutex_of s.layout o
+
+  abbrev called : Led
+  called = led o p (whole_led p (answer_of s u (whole_access p)))
+
+  abbrev a : After
+  a = went s u (s.threads u).held m (Mutex m) (whole_access p) called
+
+  stage_is : (a.state.threads u).stage ≡ called.stage
+  stage_is = ap (λ (z : Thread). z.stage) (put-same s.threads u _)
+
+  point_is : (d : Decision) → IsAmong (Fact.Point d) (facts_of a.note) → decision u m called.operation called.point ≡ Some d
+  point_is d h = point_noted d u m _ _ _ _ _ h
+
+  -- what a point is
+  pointed : (x : Option Reply) (d : Decision) → decision u m p.operation x ≡ Some d → (u ≡ d.thread) × (p.operation ≡ d.operation)
+  pointed None d e = absurd cc
+  pointed (Some x) d e = let same = decided_is u m p.operation x d e in (same.0, same.1)
+
+  nothing_begins : Begins_nothing (facts_of a.note)
+  nothing_begins = begins_stepped u m _ _ _ _ _
+
+  call_makes : Makes s u a
+  call_makes = record {
+    points = λ d h. (sym (pointed called.point d (point_is d h)).0, pos, known);
+    unlocks = λ d h op x. subst IsPast (sym stage_is) (past_call o p _);
+    past = λ none h. subst IsPast (sym stage_is) (past_call o p _);
+    behind = λ k none h. subst (IsBehind s.layout a.state.words k) (sym stage_is) (behind_call s.layout a.state.words k o p _);
+    counts = λ d h c. absurd (never_counts s.layout o p.operation d.reply (fits_in s u o p inv pos known is).1 (subst (λ (z : Operation). Counts z d.reply) (sym (pointed called.point d (point_is d h)).1) c));
+    sleeps = λ t k h b. never (falls_asleep s u (whole_access p)) k (sleep_noted t (Condition k) u m _ _ _ _ _ h).1;
+    told = λ b h. subst (λ (z : Option Begun). IsTold s.layout (a.state.threads u).stage z) (sym (nothing_begins.same u b))
+        (subst (λ (g : Stage). IsTold s.layout g b) (sym stage_is) (told_call s.layout o p _ b (subst (λ (g : Stage). IsTold s.layout g b) is h)));
+    others = λ t b apart. nothing_begins.same t b;
+  }
+    where
+      never : (b : Bool) (k : ℕ) → slept_in (Mutex m) b ≡ Some (Condition k) → ⊥
+      never true k e = cc
+      never false k e = cc
+
+-- ---- a call on a condition variable, before that
+
+past_before : (seen : ℕ) (f : CondPhase) → IsBefore seen f → IsPastIn f → ⊥
+past_before seen f is h = grind (arith)
+
+told_at : (l : Layout') (c : CondCall) (p : CondWhole) (f : CondPhase) (b : Option Begun) → b ≡ Some (begun_of l (OnCondition c)) → IsTold l (stage_at c p f) b
+told_at l c p f b is = grind (arith)
+
+module _ (s : State) (u : ℕ) (c : CondCall) (p : CondWhole) (inv : Kept s) (counted : Counted s) (pos : 1 ≤ u) (known : u ≤ s.layout.threads) (is : (s.threads u).stage ≡ AtCondition c p) where
+  abbrev l : Layout'
+  l = s.layout
+
+  abbrev cell : ℕ
+  cell = cell_place l (mutex_of l (OnCondition c))
+
+  abbrev counter : ℕ
+  counter = counter_place l (condition_of c)
+
+  abbrev w : ℕ
+  w = s.words cell
+
+  abbrev n : ℕ
+  n = s.words counter
+
+  abbrev z : State
+  z = after s u (cond_step s u c p)
+
+  abbrev led_on : Led
+  led_on = led_at c p (cond_onto s u p)
+
+  abbrev to_led : CondRow → CondLed
+  to_led r = resume_of u r (answer_at (row_access u cell counter r) (met_word r w n))
+
+  stage_then : (z.threads u).stage ≡ led_on.stage
+  stage_then = ap (λ (y : Thread). y.stage) (put-same s.threads u (thread_after s u (cond_step s u c p)))
+
+  moved : CondGoes s u c p
+  moved = cond_moves s u c inv pos known p is
+
+  knows : KnowsAt n p.phase
+  knows = subst (KnowsIn l s.words) is (counted.knows u pos known)
+
+  does : (r : CondRow) → p ≡ cond_of l u c (CondPhase.AtWords r) → IsGoing r → Does_so n (counter_after u cell counter r n) r (to_led r)
+  does r from going = does_row u cell counter w n r going (subst (λ (y : CondWhole). KnowsAt n y.phase) from knows)
+
+  noted_point : (d : Decision) → IsAmong (Fact.Point d) (facts_of (cond_note s u c p)) → decision u (mutex_of l (OnCondition c)) led_on.operation led_on.point ≡ Some d
+  noted_point d h = point_noted d u (mutex_of l (OnCondition c)) _ _ _ _ _ h
+
+  -- what was decided, where that is told
+  told_so : (x : Option Point) (d : Decision) → decision u (mutex_of l (OnCondition c)) (decided_at (operation_of c) x) (reply_at x) ≡ Some d → (y : Point) × (x ≡ Some y) × (u ≡ d.thread) × (y.operation ≡ d.operation) × (y.reply ≡ d.reply)
+  told_so None d e = absurd cc
+  told_so (Some y) d e = let same = decided_is u (mutex_of l (OnCondition c)) y.operation y.reply d e in (y, refl, same.0, same.1, same.2)
+
+  abbrev Told_point : Decision → Type 0
+  Told_point d = (y : Point) × ((cond_onto s u p).point ≡ Some y) × (u ≡ d.thread) × (y.operation ≡ d.operation) × (y.reply ≡ d.reply)
+
+  point_told : (d : Decision) → IsAmong (Fact.Point d) (facts_of (cond_note s u c p)) → Told_point d
+  point_told d h = told_so (cond_onto s u p).point d (noted_point d h)
+
+  -- by a row
+  row_decided : (r : CondRow) (x : Option Decided) (y : Point) → point_of p.thread p.cell x ≡ Some y → (e : Decided) × (x ≡ Some e) × (e.operation ≡ y.operation) × (e.reply ≡ y.reply)
+  row_decided r x1 y e = grind (arith)
+
+  abbrev FromRow : CondRow → Decision → Type 0
+  FromRow r d = (e : Decided) × ((to_led r).decided ≡ Some e) × (e.operation ≡ d.operation) × (e.reply ≡ d.reply)
+
+  from_row : (r : CondRow) (d : Decision) → cond_onto s u p ≡ from_words p (to_led r) → Told_point d → FromRow r d
+  from_row r d leads (y, pointed, me, op, x) =
+      let e = row_decided r (to_led r).decided y (sym (ap (λ (g : CondOnward). g.point) leads) ∙ pointed) in
+      (e.0, e.1, e.2 ∙ op, e.3 ∙ x)
+
+  -- where a row leads
+  stage_row : (r : CondRow) → cond_onto s u p ≡ from_words p (to_led r) → (z.threads u).stage ≡ stage_at c p (after_words p (to_led r).row)
+  stage_row r leads = stage_then ∙ ap (λ (g : CondOnward). stage_at c p g.phase) leads
+
+  nothing_begins_at : Begins_nothing (facts_of (cond_note s u c p))
+  nothing_begins_at = begins_stepped u (mutex_of l (OnCondition c)) _ _ _ _ _
+
+  unlocks_at : (d : Decision) → Told_point d → d.operation ≡ Operation.Unlock → CondMove s u c p → IsPast (z.threads u).stage
+  unlocks_at d told op (Before_release seen before later none same) = absurd (cc (sym none ∙ told.1))
+  unlocks_at d told op (By_row r from going of needs counts leads) =
+      let e = from_row r d leads told in
+      subst IsPast (sym (stage_row r leads)) (past_there c p (to_led r).row (subst (λ (x : Option Decided). Unlocks x (to_led r).row) e.1 (does r from going).unlocks (e.2 ∙ op)))
+
+  past_at : IsPastIn p.phase → CondMove s u c p → IsPast (z.threads u).stage
+  past_at h (Before_release seen before later none same) = absurd (past_before seen p.phase before h)
+  past_at h (By_row r from going of needs counts leads) = subst IsPast (sym (stage_row r leads)) (past_there c p (to_led r).row ((does r from going).past (subst (λ (y : CondWhole). IsPastIn y.phase) from h)))
+
+  behind_at : (k : ℕ) → (condition_of c ≡ k → IsBehindIn (s.words (counter_place l k)) p.phase) → CondMove s u c p → IsBehind l z.words k (z.threads u).stage
+  behind_at k h x2 = grind (arith)
+
+  abbrev CountsAt : Type 0
+  CountsAt = (z.words counter ≡ n + 1) × ((k : ℕ) → IsBehind l z.words k (z.threads u).stage)
+
+  counts_at : (d : Decision) → Told_point d → Counts d.operation d.reply → CondMove s u c p → CountsAt
+  counts_at d told h x3 = grind (arith)
+
+  sleeps_on : (k : ℕ) → slept_in (Condition (condition_of c)) (sleeps_at (cond_access p) (s.words (place_met l u (cond_access p)))) ≡ Some (Condition k) → (condition_of c ≡ k → IsBehindIn (s.words (counter_place l k)) p.phase) → CondMove s u c p → ⊥
+  sleeps_on k e h x3 = grind (arith)
+
+  cond_makes : Makes s u (record { state = z; note = cond_note s u c p })
+  cond_makes = record {
+    points = λ d h. (sym (point_told d h).2, pos, known);
+    unlocks = λ d h op x. unlocks_at d (point_told d h) op moved.move;
+    past = λ none h. past_at (subst IsPast is h) moved.move;
+    behind = λ k none h. behind_at k (subst (IsBehind l s.words k) is h) moved.move;
+    counts = λ d h counts. let made = counts_at d (point_told d h) counts moved.move in (c, p, is, made.0, made.1);
+    sleeps = λ t k h b.
+        let noted = sleep_noted t (Condition k) u (mutex_of l (OnCondition c)) _ _ _ _ _ h in
+        sleeps_on k noted.1 (subst (IsBehind l s.words k) (ap (λ (y : ℕ). (s.threads y).stage) (sym noted.0) ∙ is) b) moved.move;
+    told = λ b h. subst (λ (y : Option Begun). IsTold l (z.threads u).stage y) (sym (nothing_begins_at.same u b))
+        (subst (λ (g : Stage). IsTold l g b) (sym stage_then) (told_at l c p (cond_onto s u p).phase b (subst (λ (g : Stage). IsTold l g b) is h)));
+    others = λ t b apart. nothing_begins_at.same t b;
+  }
+
+-- ---- each event
+
+module _ (s : State) (u : ℕ) (o : Op) (pos : 1 ≤ u) (known : u ≤ s.layout.threads) (idle : (s.threads u).stage ≡ Idle) where
+  abbrev b : Begun
+  b = begun_of s.layout o
+
+  -- a call that begins, or is refused
+  begin_makes : (full : Bool) → Makes s u (begun s u o (if full then Err XHELD else Ok (begins_at s.layout u o)))
+  begin_makes x0 = grind (arith)
+
+kill_makes : (s : State) (u : ℕ) → Makes s u (killed s u)
+kill_makes s u = grind (arith)
+
+-- a walk
+module _ (s : State) (u : ℕ) (v : walks.Standing) where
+  abbrev after_walk : After
+  after_walk = walked s u (s.threads u).held v
+
+  dying : (P : Stage → Type 0) → P Reaped → ((y : walks.Standing) → P (Dying y)) → P (after_walk.state.threads u).stage
+  dying P reaped walks_on = subst (λ (z : Thread). P z.stage) (sym (put-same s.threads u _)) (by_walked P v _ (λ ended. reaped) (λ going. walks_on _))
+
+  nothing_of_walk : Begins_nothing (facts_of after_walk.note)
+  nothing_of_walk = begins_walked u _ _ _
+
+  walk_makes : Makes s u after_walk
+  walk_makes = record {
+    points = λ d h. absurd (none_walked (Fact.Point d) u _ _ _ refl h);
+    unlocks = λ d h op x. absurd (none_walked (Fact.Point d) u _ _ _ refl h);
+    past = λ never h. dying IsPast tt (λ y. tt);
+    behind = λ k never h. dying (IsBehind s.layout after_walk.state.words k) tt (λ y. tt);
+    counts = λ d h c. absurd (none_walked (Fact.Point d) u _ _ _ refl h);
+    sleeps = λ t k h x. none_walked (Fact.Sleep t (Condition k)) u _ _ _ refl h;
+    told = λ b h. dying (λ (g : Stage). IsTold s.layout g (last_begun u b (facts_of after_walk.note))) tt (λ y. tt);
+    others = λ t b apart. nothing_of_walk.same t b;
+  }
+
+makes : (s : State) (e : Event) → Kept s → Counted s → Makes s (caller e) (happens s e)
+makes s e inv counted =
+    by_event s (λ (x : Event) (a : After). Makes s (caller x) a)
+    (λ x. nothing_makes s (caller x))
+    (λ t o pos known inside idle b full. begin_makes s t o pos known idle b)
+    (λ t pos known.
+    by_stage s t (Makes s t) (λ rests. nothing_makes s t)
+    (λ o p is awake. call_makes s t o p inv pos known is)
+    (λ c p is awake. subst (Makes s t)
+    (sym (went-is s t (mutex_of s.layout (OnCondition c)) (Condition (condition_of c)) (AtCondition c p) (cond_access p) (λ a. led_at c p (cond_led p a)) (cond_stepping s t c p inv pos known is).valid))
+    (cond_makes s t c p inv counted pos known is))
+    (λ w is awake. walk_makes s t w))
+    (λ t pos known alive. kill_makes s t)
+    e
+
+-- ---- what one event is to any thread
+
+module _ (s : State) (e : Event) (inv : Kept s) (counted : Counted s) (t : ℕ) where
+  abbrev s' : State
+  s' = (happens s e).state
+
+  abbrev told_facts : List Fact
+  told_facts = facts_of (happens s e).note
+
+  abbrev made : Makes s (caller e) (happens s e)
+  made = makes s e inv counted
+
+  abbrev went_by : Passes s (caller e) s'
+  went_by = passes s e inv counted
+
+  -- of its own event one thing, and of another's another
+  either : (P : Stage → Type 0) → (caller e ≡ t → P (s'.threads t).stage) → (caller e ≢ t → P (s.threads t).stage) → P (s'.threads t).stage
+  either x0 mine theirs = grind (arith)
+
+  past_on : BeginsNone t told_facts → IsPast (s.threads t).stage → IsPast (s'.threads t).stage
+  past_on none h = either IsPast (λ me. subst (λ (v : ℕ). BeginsNone v told_facts → IsPast (s.threads v).stage → IsPast (s'.threads v).stage) me made.past none h) (λ apart. h)
+
+  behind_on : (k : ℕ) → BeginsNone t told_facts → IsBehind s.layout s.words k (s.threads t).stage → IsBehind s'.layout s'.words k (s'.threads t).stage
+  behind_on k none h =
+      subst (λ (l : Layout'). IsBehind l s'.words k (s'.threads t).stage) (sym went_by.layout)
+      (either (IsBehind s.layout s'.words k)
+      (λ me. subst (λ (v : ℕ). BeginsNone v told_facts → IsBehind s.layout s.words k (s.threads v).stage → IsBehind s.layout s'.words k (s'.threads v).stage) me (made.behind k) none h)
+      (λ apart. behind_later s.layout s.words s'.words k (s.threads t).stage (never_falls s (caller e) s' inv counted went_by k) h))
+
+  told_on : (b : Option Begun) → IsTold s.layout (s.threads t).stage b → IsTold s'.layout (s'.threads t).stage (last_begun t b told_facts)
+  told_on b h =
+      subst (λ (l : Layout'). IsTold l (s'.threads t).stage (last_begun t b told_facts)) (sym went_by.layout)
+      (either (λ (g : Stage). IsTold s.layout g (last_begun t b told_facts))
+      (λ me. subst (λ (v : ℕ). IsTold s.layout (s.threads v).stage b → IsTold s.layout (s'.threads v).stage (last_begun v b told_facts)) me (made.told b) h)
+      (λ apart. subst (IsTold s.layout (s.threads t).stage) (sym (made.others t b apart)) h))
+
+  -- a count on condition variable k leaves it behind, if it is past its release
+  counted_by : (k : ℕ) (d : Decision) (b : Option Begun) → 1 ≤ t → t ≤ s.layout.threads → IsPast (s.threads t).stage → IsAmong (Fact.Point d) told_facts → Counts d.operation d.reply → IsTold s.layout (s.threads d.thread).stage b → IsOn k b → IsBehind s'.layout s'.words k (s'.threads t).stage
+  counted_by k d b first last past among counts told on =
+      let done = made.counts d among counts in
+      let c : CondCall = done.0 in
+      let is_at : (s.threads d.thread).stage ≡ AtCondition c done.1 = ap (λ (v : ℕ). (s.threads v).stage) (made.points d among).0 ∙ done.2 in
+      let here : condition_of c ≡ k = named c k b (subst (λ (g : Stage). IsTold s.layout g b) is_at told) on in
+      subst (λ (l : Layout'). IsBehind l s'.words k (s'.threads t).stage) (sym went_by.layout)
+      (either (IsBehind s.layout s'.words k)
+      (λ me. subst (λ (v : ℕ). IsBehind s.layout s'.words k (s'.threads v).stage) me (done.4 k))
+      (λ apart. behind_now s.layout s.words s'.words k (s.threads t).stage (subst (λ (j : ℕ). s'.words (counter_place s.layout j) ≡ s.words (counter_place s.layout j) + 1) here done.3) past (counted.knows t first last)))
+    where
+      named : (c : CondCall) (k : ℕ) (b : Option Begun) → b ≡ Some (begun_of s.layout (OnCondition c)) → IsOn k b → condition_of c ≡ k
+      named c k None is on = absurd on
+      named c k (Some x) is on = same (sym (ap (λ (z : Option Begun). condition_in z) is) ∙ on)
+        where
+          condition_in : Option Begun → Option ℕ
+          condition_in None = None
+          condition_in (Some y) = y.condition
+
+          same : Some (condition_of c) ≡ Some k → condition_of c ≡ k
+          same e = cc
+
+-- ---- runs
+
+past_run : (s : State) (es : List Event) → Kept s → Counted s → (t : ℕ) → BeginsNone t (facts_among (notes s es)) → IsPast (s.threads t).stage → IsPast ((run s es).threads t).stage
+past_run s [] inv counted t none h = h
+past_run s (e ∷ es) inv counted t none h =
+    past_run (happens s e).state es (sound s e inv).kept (counted_on s e inv counted) t (begins_later t (facts_of (happens s e).note) (facts_among (notes (happens s e).state es)) none)
+    (past_on s e inv counted t (begins_first t (facts_of (happens s e).note) (facts_among (notes (happens s e).state es)) none) h)
+
+behind_run : (s : State) (es : List Event) → Kept s → Counted s → (t k : ℕ) → BeginsNone t (facts_among (notes s es)) → IsBehind s.layout s.words k (s.threads t).stage → IsBehind (run s es).layout (run s es).words k ((run s es).threads t).stage
+behind_run s [] inv counted t k none h = h
+behind_run s (e ∷ es) inv counted t k none h =
+    behind_run (happens s e).state es (sound s e inv).kept (counted_on s e inv counted) t k (begins_later t (facts_of (happens s e).note) (facts_among (notes (happens s e).state es)) none)
+    (behind_on s e inv counted t k (begins_first t (facts_of (happens s e).note) (facts_among (notes (happens s e).state es)) none) h)
+
+pub told_run : (s : State) (es : List Event) → Kept s → Counted s → (t : ℕ) (b : Option Begun) → IsTold s.layout (s.threads t).stage b → IsTold (run s es).layout ((run s es).threads t).stage (last_begun t b (facts_among (notes s es)))
+told_run s [] inv counted t b h = h
+told_run s (e ∷ es) inv counted t b h =
+    subst (IsTold (run (happens s e).state es).layout ((run (happens s e).state es).threads t).stage) (sym (last_begun-append t b (facts_of (happens s e).note) (facts_among (notes (happens s e).state es))))
+    (told_run (happens s e).state es (sound s e inv).kept (counted_on s e inv counted) t (last_begun t b (facts_of (happens s e).note)) (told_on s e inv counted t b h))
+
+-- a note among those of a run is that of one of its events
+record Split (s : State) (a : List Note) (n : Note) (b : List Note) : Type 0 where
+  first : List Event
+  event : Event
+  rest : List Event
+  before : notes s first ≡ a
+  note : (happens (run s first) event).note ≡ n
+  behind : notes (happens (run s first) event).state rest ≡ b
+
+split : (s : State) (es : List Event) (a : List Note) (n : Note) (b : List Note) → notes s es ≡ a ++ n ∷ b → Split s a n b
+split s [] [] n b is = absurd cc
+split s [] (x ∷ a) n b is = absurd cc
+split s (e ∷ es) [] n b is = record { first = []; event = e; rest = es; before = refl; note = head is; behind = tail is }
+  where
+    head : (happens s e).note ∷ notes (happens s e).state es ≡ n ∷ b → (happens s e).note ≡ n
+    head same = cc
+
+    tail : (happens s e).note ∷ notes (happens s e).state es ≡ n ∷ b → notes (happens s e).state es ≡ b
+    tail same = cc
+split s (e ∷ es) (x ∷ a) n b is =
+    let later = split (happens s e).state es a n b (tail is) in
+    record { first = e ∷ later.first; event = later.event; rest = later.rest; before = λ i. head is i ∷ later.before i; note = later.note; behind = later.behind }
+  where
+    head : (happens s e).note ∷ notes (happens s e).state es ≡ x ∷ (a ++ n ∷ b) → (happens s e).note ≡ x
+    head same = cc
+
+    tail : (happens s e).note ∷ notes (happens s e).state es ≡ x ∷ (a ++ n ∷ b) → notes (happens s e).state es ≡ a ++ n ∷ b
+    tail same = cc
+
+facts_among-append : (xs ys : List Note) → facts_among (xs ++ ys) ≡ facts_among xs ++ facts_among ys
+facts_among-append [] ys = refl
+facts_among-append (x ∷ xs) ys = ap (λ (fs : List Fact). facts_of x ++ fs) (facts_among-append xs ys) ∙ sym (append_assoc (facts_of x) (facts_among xs) (facts_among ys))
+
+-- from a state in which no call was told
+module _ (s0 : State) (events : List Event) (inv : Kept s0) (counted : Counted s0) (untold : (t : ℕ) → IsTold s0.layout (s0.threads t).stage None) (t k : ℕ) (h : IsPassedBy t k (notes s0 events)) where
+  release_at : Split s0 h.before h.release (h.between ++ h.count ∷ (h.later ++ h.sleep ∷ h.rest))
+  release_at = split s0 events h.before h.release (h.between ++ h.count ∷ (h.later ++ h.sleep ∷ h.rest)) h.told_so
+
+  abbrev s1 : State
+  s1 = run s0 release_at.first
+
+  abbrev s2 : State
+  s2 = (happens s1 release_at.event).state
+
+  inv1 : Kept s1
+  inv1 = run_kept s0 release_at.first inv
+
+  counted1 : Counted s1
+  counted1 = run_counted s0 release_at.first inv counted
+
+  inv2 : Kept s2
+  inv2 = (sound s1 release_at.event inv1).kept
+
+  counted2 : Counted s2
+  counted2 = counted_on s1 release_at.event inv1 counted1
+
+  abbrev unlock : Decision
+  unlock = record { thread = t; mutex = h.mutex; operation = Operation.Unlock; reply = OK }
+
+  released : IsAmong (Fact.Point unlock) (facts_of (happens s1 release_at.event).note)
+  released = subst (λ (n : Note). IsAmong (Fact.Point unlock) (facts_of n)) (sym release_at.note) h.releases
+
+  mine : (t ≡ caller release_at.event) × (1 ≤ caller release_at.event) × (caller release_at.event ≤ s1.layout.threads)
+  mine = (makes s1 release_at.event inv1 counted1).points unlock released
+
+  past2 : IsPast (s2.threads t).stage
+  past2 = subst (λ (v : ℕ). IsPast (s2.threads v).stage) (sym mine.0) ((makes s1 release_at.event inv1 counted1).unlocks unlock released refl refl)
+
+  count_at : Split s2 h.between h.count (h.later ++ h.sleep ∷ h.rest)
+  count_at = split s2 release_at.rest h.between h.count (h.later ++ h.sleep ∷ h.rest) release_at.behind
+
+  abbrev s3 : State
+  s3 = run s2 count_at.first
+
+  abbrev s4 : State
+  s4 = (happens s3 count_at.event).state
+
+  inv3 : Kept s3
+  inv3 = run_kept s2 count_at.first inv2
+
+  counted3 : Counted s3
+  counted3 = run_counted s2 count_at.first inv2 counted2
+
+  inv4 : Kept s4
+  inv4 = (sound s3 count_at.event inv3).kept
+
+  counted4 : Counted s4
+  counted4 = counted_on s3 count_at.event inv3 counted3
+
+  none_between : BeginsNone t (facts_among h.between)
+  none_between = begins_first t (facts_among h.between) (facts_among (h.count ∷ h.later)) (subst (BeginsNone t) (facts_among-append h.between (h.count ∷ h.later)) h.same_call)
+
+  none_later : BeginsNone t (facts_among h.later)
+  none_later = begins_later t (facts_of h.count) (facts_among h.later) (begins_later t (facts_among h.between) (facts_among (h.count ∷ h.later)) (subst (BeginsNone t) (facts_among-append h.between (h.count ∷ h.later)) h.same_call))
+
+  past3 : IsPast (s3.threads t).stage
+  past3 = past_run s2 count_at.first inv2 counted2 t (subst (λ (ns : List Note). BeginsNone t (facts_among ns)) (sym count_at.before) none_between) past2
+
+  abbrev v : ℕ
+  v = h.point.thread
+
+  told3 : IsTold s3.layout (s3.threads v).stage (call_told v (h.before ++ h.release ∷ h.between))
+  told3 =
+      subst (IsTold s3.layout (s3.threads v).stage) calls
+      (told_run s2 count_at.first inv2 counted2 v _ (told_on s1 release_at.event inv1 counted1 v _ (told_run s0 release_at.first inv counted v None (untold v))))
+    where
+      calls : last_begun v (last_begun v (last_begun v None (facts_among (notes s0 release_at.first))) (facts_of (happens s1 release_at.event).note)) (facts_among (notes s2 count_at.first)) ≡ call_told v (h.before ++ h.release ∷ h.between)
+      calls =
+          (λ i. last_begun v (last_begun v (last_begun v None (facts_among (release_at.before i))) (facts_of (release_at.note i))) (facts_among (count_at.before i)))
+          ∙ sym (last_begun-append v (last_begun v None (facts_among h.before)) (facts_of h.release) (facts_among h.between))
+          ∙ sym (last_begun-append v None (facts_among h.before) (facts_of h.release ++ facts_among h.between))
+          ∙ ap (last_begun v None) (sym (facts_among-append h.before (h.release ∷ h.between)))
+
+  last3 : t ≤ s3.layout.threads
+  last3 =
+      subst (λ (l : Layout'). t ≤ l.threads) (sym (run_layout s2 count_at.first inv2 ∙ (sound s1 release_at.event inv1).same))
+      (subst (λ (x : ℕ). x ≤ s1.layout.threads) (sym mine.0) mine.2)
+
+  behind4 : IsBehind s4.layout s4.words k (s4.threads t).stage
+  behind4 =
+      counted_by s3 count_at.event inv3 counted3 t k h.point (call_told v (h.before ++ h.release ∷ h.between)) (subst (λ (x : ℕ). 1 ≤ x) (sym mine.0) mine.1) last3 past3
+      (subst (λ (n : Note). IsAmong (Fact.Point h.point) (facts_of n)) (sym count_at.note) h.counts.0) h.counts.1 told3 h.counts.2
+
+  sleep_at : Split s4 h.later h.sleep h.rest
+  sleep_at = split s4 count_at.rest h.later h.sleep h.rest count_at.behind
+
+  pub never_passed : ⊥
+  never_passed =
+      (makes (run s4 sleep_at.first) sleep_at.event (run_kept s4 sleep_at.first inv4) (run_counted s4 sleep_at.first inv4 counted4)).sleeps t k
+      (subst (λ (n : Note). IsAmong (Fact.Sleep t (Condition k)) (facts_of n)) (sym sleep_at.note) h.sleeps)
+      (behind_run s4 sleep_at.first inv4 counted4 t k (subst (λ (ns : List Note). BeginsNone t (facts_among ns)) (sym sleep_at.before) none_later) behind4)

@@ -1,0 +1,82 @@
+-- The words of the crates below, and of specs/, that many proofs here speak: each file names from here those that it uses.
+pub use Rattle.std.proofs.lemmas.Bool.{eqb-false}
+pub use Rattle.std.proofs.lemmas.Bool.Decides.{nat_tests}
+pub use Rattle.std.specs.Prelude.{MatchBool, if◌then◌else◌, nat_le, nat_lt, not, replicate, slice_index}
+pub use Rattle.lockword.proofs.Bits.{or_waiting}
+pub use Rattle.lockword.specs.Cells.{Fields, fields_of, word_of}
+pub use Rattle.lockword.specs.Coding.{fields_of-word_of}
+pub use Rattle.lockword.specs.declared.reply.Reply.{Reply}
+pub use Rattle.lockword.specs.declared.reply.Reply.TheVariants.{EOWNERDEAD, EPERM, OK, XFULL, XHELD, XRACED}
+pub use Rattle.keys.proofs.Owners.{owner_of-some}
+pub use Rattle.keys.specs.Accesses.{address_of, answer_at, changed, sleeps_at}
+pub use Rattle.keys.specs.Chains.{AreDifferent, IsChainBothWays, Leads, address_sum}
+pub use Rattle.keys.specs.Histories.{held_by}
+pub use Rattle.keys.specs.Layouts.{IsLayout, Layout', cell_place, counter_place, entry_place, head_place}
+pub use Rattle.keys.specs.Objects.{Does, Permits, Run, acquires, fresh, object_of, owner_of}
+pub use Rattle.keys.specs.declared.access.Access.{Access}
+pub use Rattle.keys.specs.declared.access.Answer.{Answer}
+pub use Rattle.keys.specs.declared.access.Answer.TheVariants.{Again}
+pub use Rattle.keys.specs.declared.object.Object.{Object}
+pub use Rattle.keys.specs.declared.point.Decision.{Decision}
+pub use Rattle.keys.specs.declared.point.Operation.{Operation}
+pub use Rattle.robustlist.proofs.Places.{entries-different, without-among}
+pub use Rattle.robustlist.specs.Link.{LinkGoes}
+pub use Rattle.robustlist.specs.Standings.{UnlinkStanding}
+pub use Rattle.robustlist.specs.Unlink.{UnlinkGoes, unlink_access, unlink_resume}
+pub use Rattle.robustlist.specs.Words.{Agree}
+pub use Rattle.robustlist.specs.declared.link.LinkRow.{LinkRow}
+pub use Rattle.robustlist.specs.declared.unlink.UnlinkRow.{UnlinkRow}
+pub use Rattle.mutex.specs.Alone.{is_wake, left}
+pub use Rattle.mutex.specs.Laws.{Expects, Joins, Sound, decided}
+pub use Rattle.mutex.specs.Standings.{Whole}
+pub use Rattle.mutex.specs.Whole.{after_cell, leaving, whole_access, whole_led}
+pub use Rattle.mutex.specs.declared.call.Call.{Call}
+pub use Rattle.mutex.specs.declared.consistent.ConsistentRow.{ConsistentRow}
+pub use Rattle.mutex.specs.declared.lock.LockRow.{LockRow}
+pub use Rattle.mutex.specs.declared.phase.Onward.{Onward}
+pub use Rattle.mutex.specs.declared.phase.Phase.{Phase}
+pub use Rattle.mutex.specs.declared.phase.Phase.TheVariants.{AtCell, Clearing, Linking}
+pub use Rattle.mutex.specs.declared.row.Row.TheVariants.{Consistent, TryLock}
+pub use Rattle.mutex.specs.declared.try_lock.TryLockRow.{TryLockRow}
+pub use Rattle.mutex.specs.declared.unlock.UnlockRow.TheVariants.{Load, Release}
+pub use Rattle.mutex.specs.declared.unlock.UnlockRow.{UnlockRow}
+pub use Rattle.condvar.specs.Calls.{condition_of}
+pub use Rattle.condvar.specs.Laws.{cell_after, counter_after, met_word}
+pub use Rattle.condvar.specs.Rows.{full}
+pub use Rattle.condvar.specs.Standings.{CondWhole}
+pub use Rattle.condvar.specs.Whole.{after_words, cond_access, cond_led, from_words}
+pub use Rattle.condvar.specs.declared.broadcast.BroadcastRow.{BroadcastRow}
+pub use Rattle.condvar.specs.declared.call.CondCall.{CondCall}
+pub use Rattle.condvar.specs.declared.phase.CondOnward.{CondOnward}
+pub use Rattle.condvar.specs.declared.phase.CondPhase.{CondPhase}
+pub use Rattle.condvar.specs.declared.row.CondLed.{CondLed}
+pub use Rattle.condvar.specs.declared.row.CondRow.{CondRow}
+pub use Rattle.condvar.specs.declared.row.CondRow.TheVariants.{Awake, Broadcast, Signal}
+pub use Rattle.condvar.specs.declared.signal.SignalRow.{SignalRow}
+pub use Rattle.condvar.specs.declared.wait.WaitRow.{WaitRow}
+pub use Rattle.exitwalk.specs.Steps.{OnlyWaits}
+pub use Rattle.exitwalk.specs.Words.{sum_of}
+pub use Rattle.exitwalk.specs.declared.row.Part.{Part}
+pub use Rattle.exitwalk.specs.declared.row.Rest.{Rest}
+pub use Rattle.exitwalk.specs.declared.row.Row.TheVariants.{LoadFirst, LoadNext, LoadOffset, LoadPending, LoadWord, Mark, WakeOne}
+pub use Rattle.facts.specs.declared.fact.Begun.{Begun}
+pub use Rattle.facts.specs.declared.fact.Fact.{Fact}
+pub use Rattle.facts.specs.declared.fact.Fact.TheVariants.{Return}
+pub use Rattle.facts.specs.declared.fact.Queue.{Queue}
+pub use Rattle.facts.specs.declared.fact.Queue.TheVariants.{Condition, Mutex}
+pub use Rattle.protocol.specs.Applies.{Names}
+pub use Rattle.protocol.specs.Explained.{caller}
+pub use Rattle.protocol.specs.Headline.{facts_among, seen}
+pub use Rattle.protocol.specs.Machine.{After, State, answer_among, answer_of, begun, decision, falls_asleep, first_stage, happens, has_ended, held_after, is_alive, is_asleep, is_calling, is_met, is_valid, joined, killed, led, led_at, may_begin, moved_by, notes, nothing, place_met, put, queue_after, reply_at, returned, returned_at, run, sleepers, sleeps, slept_in, stage_after, stage_at, stage_walked, stands_in, start, stepped, told_of, walked, went, woken, woken_by}
+pub use Rattle.protocol.specs.Notes.{death_facts, facts_of, moves_to, reap_facts, return_facts, sleep_facts}
+pub use Rattle.protocol.specs.Ops.{begun_of, mutex_of}
+pub use Rattle.protocol.specs.Sleepers.{IsUnowned}
+pub use Rattle.protocol.specs.declared.event.Event.{Event}
+pub use Rattle.protocol.specs.declared.event.Event.TheVariants.{Step}
+pub use Rattle.protocol.specs.declared.event.Op.{Op}
+pub use Rattle.protocol.specs.declared.event.Op.TheVariants.{OnCondition, OnMutex}
+pub use Rattle.protocol.specs.declared.note.Note.{Note}
+pub use Rattle.protocol.specs.declared.note.Note.TheVariants.{Began, Stepped, Walked}
+pub use Rattle.protocol.specs.declared.thread.Stage.{Stage}
+pub use Rattle.protocol.specs.declared.thread.Stage.TheVariants.{AtCondition, Calling, Dying, Idle, Reaped}
+pub use Rattle.protocol.specs.declared.thread.Thread.{Thread}

@@ -1,0 +1,90 @@
+-- Whom a signal or a broadcast passes by: nobody (pthread_cond_signal(3p), pthread_cond_broadcast(3p)).
+use Rattle.std.specs.Prelude.{ℕ, ◌≡◌, ◌≢◌, ◌≤◌, ◌==◌, Option, Some, None, List, [], ◌∷◌, ◌++◌, if◌then◌else◌}
+use Rattle.lockword.specs.declared.reply.Reply.{Reply}
+use Rattle.lockword.specs.declared.reply.Reply.TheVariants.{OK}
+use Rattle.keys.specs.declared.point.Operation.{Operation}
+use Rattle.keys.specs.declared.point.Operation.TheVariants.{Unlock, Signal, Broadcast}
+use Rattle.keys.specs.declared.point.Decision.{Decision}
+use Rattle.keys.specs.Layouts.{Layout', IsLayout}
+use Rattle.condvar.specs.Rows.{full}
+use Rattle.facts.specs.declared.fact.Begun.{Begun}
+use Rattle.facts.specs.declared.fact.Queue.TheVariants.{Condition}
+use Rattle.facts.specs.declared.fact.Fact.{Fact}
+use Rattle.facts.specs.declared.fact.Fact.TheVariants.{Begin, Point, Sleep, Return}
+use Rattle.protocol.specs.declared.event.Event.{Event}
+use Rattle.protocol.specs.declared.event.Event.TheVariants.{Step}
+use Rattle.protocol.specs.declared.note.Note.{Note}
+use Rattle.protocol.specs.Notes.{facts_of}
+use Rattle.protocol.specs.Ops.{queue_place}
+use Rattle.protocol.specs.Machine.{State, start, happens, run, notes}
+use Rattle.protocol.specs.Headline.{facts_among}
+use Rattle.protocol.specs.Sleepers.{IsAmong}
+
+-- ---- what a trace tells of calls
+
+-- the call that thread t began last, as it was told; before these facts it was c
+abbrev pub last_begun : ℕ → Option Begun → List Fact → Option Begun
+last_begun t c [] = c
+last_begun t c (Begin u b ∷ fs) = last_begun t (if u == t then Some b else c) fs
+last_begun t c (f ∷ fs) = last_begun t c fs
+
+-- by these notes
+abbrev pub call_told : ℕ → List Note → Option Begun
+call_told t ns = last_begun t None (facts_among ns)
+
+-- thread t begins none
+abbrev pub BeginsNone : ℕ → List Fact → Type 0
+BeginsNone t [] = Unit {0}
+BeginsNone t (Begin u b ∷ fs) = (u ≢ t) × BeginsNone t fs
+BeginsNone t (f ∷ fs) = BeginsNone t fs
+
+-- ---- counts
+
+-- a signal or a broadcast counts where it isn't refused
+abbrev pub Counts : Operation → Reply → Type 0
+Counts Signal OK = Unit {0}
+Counts Broadcast OK = Unit {0}
+Counts op x = ⊥
+
+-- a call, as it was told, is on condition variable k
+abbrev pub IsOn : ℕ → Option Begun → Type 0
+IsOn k None = ⊥
+IsOn k (Some b) = b.condition ≡ Some k
+
+-- thread t released a mutex; at a later event a signal or a broadcast counted on condition variable k; and at a later one t fell asleep there, and had begun no other call. So its wait was passed by
+pub record IsPassedBy (t k : ℕ) (told : List Note) : Type 0 where
+  pub before : List Note
+  pub release : Note
+  pub between : List Note
+  pub count : Note
+  pub later : List Note
+  pub sleep : Note
+  pub rest : List Note
+  pub told_so : told ≡ before ++ release ∷ (between ++ count ∷ (later ++ sleep ∷ rest))
+  pub mutex : ℕ
+  pub releases : IsAmong (Point (record { thread = t; mutex = mutex; operation = Unlock; reply = OK })) (facts_of release)
+  pub point : Decision
+  pub counts : IsAmong (Point point) (facts_of count) × Counts point.operation point.reply × IsOn k (call_told point.thread (before ++ release ∷ between))
+  pub sleeps : IsAmong (Sleep t (Condition k)) (facts_of sleep)
+  pub same_call : BeginsNone t (facts_among (between ++ count ∷ later))
+
+-- ---- moves
+
+-- where a broadcast on condition variable k returns OK, nobody stands in its queue directly after that event: all were moved
+abbrev pub MovesAll : State → List Event → Type 0
+MovesAll s events = (before after : List Event) (t k : ℕ) (b : Begun) → events ≡ before ++ Step t ∷ after → call_told t (notes s before) ≡ Some b → b.operation ≡ Broadcast → b.condition ≡ Some k
+    → IsAmong (Return t OK) (facts_of (happens (run s before) (Step t)).note) → (happens (run s before) (Step t)).state.queues (queue_place s.layout (Condition k)) ≡ []
+
+-- ---- runs
+
+pub record PassesNobody (s : State) (events : List Event) : Type 0 where
+  pub counted : (t k : ℕ) → ¬ IsPassedBy t k (notes s events)
+  pub moved : MovesAll s events
+
+-- no counter is above its largest value at the beginning
+abbrev pub ArePresets : (ℕ → ℕ) → Type 0
+ArePresets counters = (k : ℕ) → counters k ≤ full
+
+-- whatever happens, with any such values of the counters at the beginning
+abbrev pub NobodyIsPassedBy : Type 0
+NobodyIsPassedBy = (l : Layout') (counters : ℕ → ℕ) (events : List Event) → IsLayout l → ArePresets counters → PassesNobody (start l counters) events
