@@ -93,7 +93,7 @@ module _ (l : Layout') (ws ws' : List ℕ) (kernel after : Kernel') (ts : List T
   tells = point_of w.thread w.row (answer_of s t (access_of w))
 
   answers : done.answer ≡ answer_of s t (access_of w)
-  answers = answer-is l ws kernel ts (access_of w) room t after done performs
+  answers = answer-is l ws kernel ts room t (access_of w) after done performs
 
   ran : happens s (Step t) ≡ walked s t th.held w
   ran =
@@ -114,8 +114,8 @@ module _ (l : Layout') (ws ws' : List ℕ) (kernel after : Kernel') (ts : List T
 
   pub walk_state : state_at l ws' after (slice_set ts k (record { stage = stage_walked_in w' pr; held = held_after th.held Death (told_of (death_at l (point_in pr))) })) ≡ (happens s (Step t)).state
   walk_state =
-      let words : (λ q. slice_index ws' q) ≡ words_after s t (access_of w) = ap (λ (v : List ℕ). λ (q : ℕ). slice_index v q) wrote ∙ words-is l ws kernel ts (access_of w) room t in
-      let queues : (λ q. queue_of after q) ≡ queues_after s t (access_of w) = queues-is l ws kernel ts (access_of w) room t after done performs in
+      let words : (λ q. slice_index ws' q) ≡ words_after s t (access_of w) = ap (λ (v : List ℕ). λ (q : ℕ). slice_index v q) wrote ∙ words-is l ws kernel ts room t (access_of w) in
+      let queues : (λ q. queue_of after q) ≡ queues_after s t (access_of w) = queues-is l ws kernel ts room t (access_of w) after done performs in
       let threads : thread_at (slice_set ts k (record { stage = stage_walked_in w' pr; held = held_after th.held Death (told_of (death_at l (point_in pr))) })) ≡ put (thread_at ts) t (record { stage = stage_walked w to; held = held_after th.held Death (told_of (death_at l tells)) }) =
       threads-set ts k t (record { stage = stage_walked_in w' pr; held = held_after th.held Death (told_of (death_at l (point_in pr))) }) at (omega arith)
       ∙ (λ i. put (thread_at ts) t (record { stage = stage i; held = held_after th.held Death (told_of (death i)) })) in
@@ -123,6 +123,6 @@ module _ (l : Layout') (ws ws' : List ℕ) (kernel after : Kernel') (ts : List T
 
   pub walk_note : Walked t (death_at l (point_in pr)) done.woken (has_returned pr) ≡ (happens s (Step t)).note
   walk_note =
-      let wakes : done.woken ≡ woken s t (access_of w) = woken-is l ws kernel ts (access_of w) room t after done performs in
+      let wakes : done.woken ≡ woken s t (access_of w) = woken-is l ws kernel ts room t (access_of w) after done performs in
       let ends : has_returned pr ≡ has_ended to = ap has_returned goes ∙ ended-is tells to in
       (λ i. Walked t (death i) (wakes i) (ends i)) ∙ sym (ap (λ (a : After). a.note) ran)

@@ -1,6 +1,8 @@
 mod Freshness
 mod Views
 mod Dying
-mod Reaches
+pub mod Reaches
+pub mod Runs
 mod Sleeping
 mod Layouts
+mod Requeues

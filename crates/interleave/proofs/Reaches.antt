@@ -11,19 +11,27 @@ use Rattle.lockword.specs.declared.reply.Reply.{Reply}
 use Rattle.keys.specs.declared.object.Object.{Object}
 use Rattle.keys.specs.Layouts.{Layout', IsLayout, words_of, cell_place, counter_place, first_word, head_word}
 use Rattle.keys.specs.Histories.{held_by}
-use Rattle.mutex.specs.declared.call.Call.{Call}
-use Rattle.mutex.specs.Calls.{mutex_of}
+use Rattle.lockword.specs.Cells.{Fields}
+use Rattle.keys.specs.declared.point.Operation.{Operation}
 use Rattle.mutex.specs.declared.phase.Phase.{Phase}
 use Rattle.mutex.specs.declared.phase.Phase.TheVariants.{Announcing, AtCell, Linking, Unlinking, Clearing, Ended}
 use Rattle.mutex.specs.Standings.{Whole}
-use Rattle.mutex.specs.Whole.{whole_started, whole_access, whole_led, IsUnderWay, PhaseKnows}
+use Rattle.mutex.specs.Whole.{whole_access, whole_led, IsUnderWay, PhaseKnows}
+use Rattle.condvar.specs.declared.phase.CondPhase.{CondPhase}
+use Rattle.condvar.specs.declared.phase.CondPhase.TheVariants as cond
+use Rattle.condvar.specs.Standings.{CondWhole}
+use Rattle.condvar.specs.Whole as condition
+use Rattle.facts.specs.declared.fact.Queue.TheVariants.{Mutex}
+use Rattle.protocol.specs.declared.event.Op.{Op}
+use Rattle.protocol.specs.declared.event.Op.TheVariants.{OnMutex, OnCondition}
+use Rattle.protocol.specs.Ops.{mutex_of, is_in}
 use Rattle.protocol.specs.declared.event.Event.{Event}
 use Rattle.protocol.specs.declared.event.Event.TheVariants.{Begin, Step, Kill}
 use Rattle.protocol.specs.declared.thread.Thread.{Thread}
 use Rattle.protocol.specs.declared.thread.Stage.{Stage}
-use Rattle.protocol.specs.declared.thread.Stage.TheVariants.{Idle, Calling, Dying, Reaped}
+use Rattle.protocol.specs.declared.thread.Stage.TheVariants.{Idle, Calling, AtCondition, Dying, Reaped}
 use Rattle.protocol.specs.declared.note.Note.{Note}
-use Rattle.protocol.specs.Machine.{State, After, put, idle, start, is_valid, is_thread, may_begin, begun, nothing, is_alive, killed, sleeps, went, stepped, answer_of, happens, run, notes}
+use Rattle.protocol.specs.Machine.{State, After, put, idle, start, is_valid, is_thread, may_begin, first_stage, begun, nothing, is_alive, killed, sleeps, led, went, stepped, answer_of, happens, run, notes}
 use Rattle.protocol.specs.Sleepers.{alone, GoesOn}
 use Rattle.protocol.proofs.Queued.{Queued, asleep_there}
 use Rattle.protocol.proofs.QueueRuns.{run_queued}
@@ -36,8 +44,10 @@ use Rattle.syscalls.specs.Memories.{word_at, words_after}
 use Rattle.protocol.specs.Deaths.{AreMourned}
 use Rattle.protocol.specs.Headline.{IsHistory, NoReapedOwns, seen}
 use Rattle.protocol.specs.Wakings.{TellsSleepers}
+use Rattle.protocol.specs.PassedBy.{ArePresets}
+use Rattle.condvar.specs.Rows.{full}
 use Rattle.protocol.proofs.Puts.{by_put, put-same, put-other}
-use Rattle.protocol.proofs.Kept.{Kept, InPhase, Sits}
+use Rattle.protocol.proofs.Kept.{Kept, InPhase, AtPhase, Fits, Serves, Sits}
 use Rattle.protocol.proofs.Deaths.{are_mourned}
 use Rattle.protocol.proofs.Reaped.{no_reaped_owns}
 use Rattle.protocol.proofs.Runs.{start_kept, run_kept, run_layout, legal}
@@ -74,8 +84,21 @@ on_the_way t held p (Unlinking u d) o h = (tt, h.2)
 on_the_way t held p (Clearing x) o h = (tt, tt)
 on_the_way t held p (Ended x) o h = absurd h
 
+-- and so is one on a condition variable
+at_the_words : (t held : ℕ) (op : Operation) (p : CondWhole) (f : CondPhase) (c : Fields) → AtPhase t held op p f c → condition.IsUnderWay f × condition.PhaseKnows f
+at_the_words t held op p (cond.AtWords r) c h = (tt, h.going)
+at_the_words t held op p (cond.Announcing seen) c h = (tt, tt)
+at_the_words t held op p (cond.Unlinking u seen) c h = (tt, h.3)
+at_the_words t held op p (cond.Locking w) c h = absurd h
+at_the_words t held op p (cond.Ended x) c h = absurd h
+
+-- what a call names is the layout's
+names : (s : State) (t held : ℕ) (o : Op) (p : Whole) → Fits s t held (mutex_of s.layout o) p → Serves s.layout o p → is_in s.layout o ≡ true
+names s t held (OnMutex c) p fits serves = let inside = fits.inside in grind (arith, nat_tests)
+names s t held (OnCondition c) p fits serves = let inside = serves.2 in grind (arith, nat_tests)
+
 -- so each thread may step
-pub may_step : (m : Shown) → IsReached m → (t : ℕ) → 1 ≤ t → t ≤ m.layout.threads → MayStep (thread_at m.threads t)
+pub may_step : (m : Shown) → IsReached m → (t : ℕ) → 1 ≤ t → t ≤ m.layout.threads → MayStep m.layout (thread_at m.threads t)
 may_step m r t pos known =
     let inv = reached_kept m r in
     let held = inv.held t pos known in
@@ -83,34 +106,41 @@ may_step m r t pos known =
     let most = r.layout.mutexes.1 in
     (on_its_way (thread_at m.threads t).stage (inv.sits t pos known), omega arith)
   where
-    on_its_way : (g : Stage) → Sits (state_of m) t (thread_at m.threads t).held g → IsOnItsWay g
+    on_its_way : (g : Stage) → Sits (state_of m) t (thread_at m.threads t).held g → IsOnItsWay m.layout g
     on_its_way Idle f = tt
-    on_its_way (Calling c p) f = on_the_way t (thread_at m.threads t).held p p.phase (seen (state_of m) (mutex_of c)) f.0.stands
+    on_its_way (Calling o p) f =
+        let way = on_the_way t (thread_at m.threads t).held p p.phase (seen (state_of m) (mutex_of m.layout o)) f.0.stands in
+        (names (state_of m) t (thread_at m.threads t).held o p f.0 f.1, way.0, way.1)
+    on_its_way (AtCondition c p) f =
+        let there = f.there in
+        let way = at_the_words t (thread_at m.threads t).held _ p p.phase _ f.stands in
+        (grind (arith, nat_tests), way.0, way.1)
     on_its_way (Dying w) f = f.going
     on_its_way Reaped f = tt
 
 -- a begin that applies is noted
-begun_noted : (s : State) (t : ℕ) (c : Call) (r : Result Whole Reply) → is_nothing (begun s t c r).note ≡ true → (begun s t c r).state ≡ s
-begun_noted s t c (Ok p) h = absurd cc
-begun_noted s t c (Err x) h = refl
+begun_noted : (s : State) (t : ℕ) (o : Op) (r : Result Stage Reply) → is_nothing (begun s t o r).note ≡ true → (begun s t o r).state ≡ s
+begun_noted s t o (Ok g) h = absurd cc
+begun_noted s t o (Err x) h = refl
 
 -- an event that is noted as nothing changes nothing
 stays : (s : State) (e : Event) → is_nothing (happens s e).note ≡ true → (happens s e).state ≡ s
-stays s (Begin t c) = go (may_begin s t c)
+stays s (Begin t o) = go (may_begin s t o)
   where
-    go : (b : Bool) → is_nothing (if b then begun s t c (whole_started s.layout t (s.threads t).held c) else nothing s).note ≡ true → (if b then begun s t c (whole_started s.layout t (s.threads t).held c) else nothing s).state ≡ s
-    go true h = begun_noted s t c (whole_started s.layout t (s.threads t).held c) h
+    go : (b : Bool) → is_nothing (if b then begun s t o (first_stage s.layout t (s.threads t).held o) else nothing s).note ≡ true → (if b then begun s t o (first_stage s.layout t (s.threads t).held o) else nothing s).state ≡ s
+    go true h = begun_noted s t o (first_stage s.layout t (s.threads t).held o) h
     go false h = refl
 stays s (Step t) = go (is_thread s t) (s.threads t).stage
   where
-    access : (c : Call) (p : Whole) (a : Bool) → is_nothing (if a then nothing s else went s t (s.threads t).held c p (whole_led p (answer_of s t (whole_access p)))).note ≡ true
-        → (if a then nothing s else went s t (s.threads t).held c p (whole_led p (answer_of s t (whole_access p)))).state ≡ s
-    access c p true h = refl
-    access c p false h = absurd cc
+    access : (o : Op) (p : Whole) (a : Bool) → is_nothing (if a then nothing s else went s t (s.threads t).held (mutex_of s.layout o) (Mutex (mutex_of s.layout o)) (whole_access p) (led o p (whole_led p (answer_of s t (whole_access p))))).note ≡ true
+        → (if a then nothing s else went s t (s.threads t).held (mutex_of s.layout o) (Mutex (mutex_of s.layout o)) (whole_access p) (led o p (whole_led p (answer_of s t (whole_access p))))).state ≡ s
+    access o p true h = refl
+    access o p false h = absurd cc
 
     go : (b : Bool) (g : Stage) → is_nothing (if b then stepped s t (s.threads t).held g else nothing s).note ≡ true → (if b then stepped s t (s.threads t).held g else nothing s).state ≡ s
     go true Idle h = refl
-    go true (Calling c p) h = access c p (sleeps s t (Calling c p)) h
+    go true (Calling o p) h = access o p (sleeps s t (Calling o p)) h
+    go true (AtCondition c p) h = absurd cc
     go true (Dying w) h = absurd cc
     go true Reaped h = refl
     go false g h = refl
@@ -131,12 +161,13 @@ pub reached_step : (m : Shown) (ws : List ℕ) (k : Kernel') (ts : List Thread) 
 reached_step m ws k ts e r is words kernel heads threads b fresh = record {
   layout = r.layout;
   counters = r.counters;
+  presets = r.presets;
   events = r.events ++ e ∷ [];
   is = is ∙ ap (λ (s : State). (happens s e).state) r.is ∙ sym (run-more (start m.layout r.counters) r.events e);
   fresh = λ on.
       let parts = both m.fresh (is_nothing (happens (state_of m) e).note) (sym fresh ∙ on) in
       let before = r.fresh parts.0 in
-      record { layout = before.layout; counters = before.counters; is = is ∙ stays (state_of m) e parts.1 ∙ before.is };
+      record { layout = before.layout; counters = before.counters; presets = before.presets; is = is ∙ stays (state_of m) e parts.1 ∙ before.is };
   words = words ∙ r.words;
   kernel = kernel ∙ r.kernel;
   threads = threads ∙ r.threads;
@@ -179,9 +210,10 @@ pub reached_first : (l : Layout') (ws : List ℕ) (k : Kernel') (ts : List Threa
 reached_first l ws k ts is w idles t = record {
   layout = is;
   counters = λ c. 0;
+  presets = λ c. omega arith;
   events = [];
   is = state-first l ws k ts w idles t;
-  fresh = λ on. record { layout = is; counters = λ c. 0; is = state-first l ws k ts w idles t };
+  fresh = λ on. record { layout = is; counters = λ c. 0; presets = λ c. omega arith; is = state-first l ws k ts w idles t };
   words = ap length w ∙ length-map-range_with_len (first_word l (λ c. 0)) 0 (words_of l);
   kernel = idles.threads;
   threads = ap length t ∙ length-replicate l.threads idle;
@@ -189,7 +221,7 @@ reached_first l ws k ts is w idles t = record {
 }
 
 -- a counter set at the beginning is a counter that begins so
-first_word-set : (l : Layout') (counters : ℕ → ℕ) (c v : ℕ) → c < length l.conditions → (p : ℕ) → put (first_word l counters) (counter_place l c) v p ≡ first_word l (put counters c v) p
+pub first_word-set : (l : Layout') (counters : ℕ → ℕ) (c v : ℕ) → c < length l.conditions → (p : ℕ) → put (first_word l counters) (counter_place l c) v p ≡ first_word l (put counters c v) p
 first_word-set l counters c v inside p =
     by_put (λ x. x ≡ first_word l (put counters c v) p) (first_word l counters) (counter_place l c) v p
     (λ is.
@@ -209,9 +241,13 @@ first_word-set l counters c v inside p =
         let from : counter_place l 0 ≤ p = grind (arith, nat_tests) in
         sym (put-other counters c v (p - counter_place l 0) (λ (same : p - counter_place l 0 ≡ c). apart (omega (arith, same, from))))
 
+-- one more is within its limit
+presets-set : (counters : ℕ → ℕ) (c v : ℕ) → ArePresets counters → v ≤ full → ArePresets (put counters c v)
+presets-set counters c v presets small k = by_put (λ x. x ≤ full) counters c v k (λ is. small) (λ apart. presets k)
+
 -- a counter that is set on a fresh machine leaves it reached
-reached_counter : (m : Shown) (c v : ℕ) → IsReached m → m.fresh ≡ true → c < length m.layout.conditions → IsReached (record m { words = slice_set m.words (counter_place m.layout c) v })
-reached_counter m c v r on inside =
+reached_counter : (m : Shown) (c v : ℕ) → v ≤ full → IsReached m → m.fresh ≡ true → c < length m.layout.conditions → IsReached (record m { words = slice_set m.words (counter_place m.layout c) v })
+reached_counter m c v small r on inside =
     let before = r.fresh on in
     let room : counter_place m.layout c < length m.words = let n = r.words in omega arith in
     let words : (λ p. slice_index (slice_set m.words (counter_place m.layout c) v) p) ≡ first_word m.layout (put before.counters c v) =
@@ -221,9 +257,10 @@ reached_counter m c v r on inside =
     record {
       layout = r.layout;
       counters = put before.counters c v;
+      presets = presets-set before.counters c v before.presets small;
       events = [];
       is = now;
-      fresh = λ z. record { layout = r.layout; counters = put before.counters c v; is = now };
+      fresh = λ z. record { layout = r.layout; counters = put before.counters c v; presets = presets-set before.counters c v before.presets small; is = now };
       words = length-set m.words (counter_place m.layout c) v ∙ r.words;
       kernel = r.kernel;
       threads = r.threads;
@@ -241,9 +278,9 @@ stored_counter m ws c v q x r inside at is wrote =
     wrote ∙ (λ i. words_after (Store (at i) (is i)) m.words) ∙ stored m.words (counter_place m.layout c) v (omega arith) (omega arith)
 
 -- the same, by the place that the code computes
-pub reached_preset : (m : Shown) (ws : List ℕ) (c v q x : ℕ) → IsReached m → m.fresh ≡ true → c < length m.layout.conditions → q ≡ counter_place m.layout c → x ≡ v → ws ≡ words_after (Store q x) m.words → IsReached (record m { words = ws })
-reached_preset m ws c v q x r on inside at is wrote =
-    subst (λ (z : List ℕ). IsReached (record m { words = z })) (sym (stored_counter m ws c v q x r inside at is wrote)) (reached_counter m c v r on inside)
+pub reached_preset : (m : Shown) (ws : List ℕ) (c v q x : ℕ) → v ≤ full → IsReached m → m.fresh ≡ true → c < length m.layout.conditions → q ≡ counter_place m.layout c → x ≡ v → ws ≡ words_after (Store q x) m.words → IsReached (record m { words = ws })
+reached_preset m ws c v q x small r on inside at is wrote =
+    subst (λ (z : List ℕ). IsReached (record m { words = z })) (sym (stored_counter m ws c v q x r inside at is wrote)) (reached_counter m c v small r on inside)
 
 -- and the state
 pub state_preset : (m : Shown) (ws : List ℕ) (c v q x : ℕ) → IsReached m → c < length m.layout.conditions → q ≡ counter_place m.layout c → x ≡ v → ws ≡ words_after (Store q x) m.words

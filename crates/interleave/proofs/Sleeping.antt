@@ -5,8 +5,10 @@ use Rattle.mutex.specs.Whole.{whole_access, whole_led}
 use Rattle.syscalls.specs.Kernels.{Kernel', queue_of, IsAsleep, IsAwake}
 use Rattle.protocol.specs.declared.event.Event.TheVariants.{Step}
 use Rattle.protocol.specs.declared.thread.Stage.{Stage}
-use Rattle.protocol.specs.declared.thread.Stage.TheVariants.{Idle, Calling, Dying, Reaped}
-use Rattle.protocol.specs.Machine.{State, nothing, is_thread, answer_of, went, stepped, stands_in, sleeps, is_asleep, happens}
+use Rattle.protocol.specs.declared.thread.Stage.TheVariants.{Idle, Calling, AtCondition, Dying, Reaped}
+use Rattle.facts.specs.declared.fact.Queue.TheVariants.{Mutex}
+use Rattle.protocol.specs.Ops.{mutex_of}
+use Rattle.protocol.specs.Machine.{State, nothing, is_thread, answer_of, led, went, stepped, stands_in, sleeps, is_asleep, happens}
 use Rattle.protocol.proofs.Queued.{out_awake}
 use Rattle.interleave.specs.Steps.{SleepsInItsCall}
 
@@ -43,9 +45,10 @@ outside t q none = go (stands_in t q) refl
 -- a thread that sleeps makes no step
 rests : (s : State) (t held : ℕ) (g : Stage) → sleeps s t g ≡ true → stepped s t held g ≡ nothing s
 rests s t held Idle e = refl
+rests s t held (AtCondition c p) e = absurd cc
 rests s t held (Dying w) e = absurd cc
 rests s t held Reaped e = refl
-rests s t held (Calling c p) e = ap (λ (b : Bool). if b then nothing s else went s t held c p (whole_led p (answer_of s t (whole_access p)))) e
+rests s t held (Calling o p) e = ap (λ (b : Bool). if b then nothing s else went s t held (mutex_of s.layout o) (Mutex (mutex_of s.layout o)) (whole_access p) (led o p (whole_led p (answer_of s t (whole_access p))))) e
 
 pub asleep_step : (s : State) (t : ℕ) → is_asleep s t ≡ true → happens s (Step t) ≡ nothing s
 asleep_step s t e = go (is_thread s t)

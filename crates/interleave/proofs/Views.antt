@@ -1,35 +1,50 @@
 -- The machine's lists and the state that they show: a write into a list is a write into the state.
-use Rattle.std.proofs.Common.{◌≡◌, ◌≢◌, ℕ, zero, suc, ◌+◌, ◌<◌, ◌≤◌, Bool, true, false, ◌&&◌, List, [], length, Option, Some, None, Ok, refl, sym, ap, ◌∙◌, arith, slice_index_or, slice_set}
-use Rattle.std.specs.Prelude.{if◌then◌else◌, slice_index, nat_le, nat_lt}
+use Rattle.std.proofs.Common.{◌≡◌, ◌≢◌, ℕ, zero, suc, ◌+◌, ◌<◌, ◌≤◌, ◌==◌, Bool, true, false, ◌&&◌, List, [], length, Option, Some, None, Result, Ok, refl, sym, ap, ◌∙◌, subst, arith, slice_index_or, slice_set}
+use Rattle.std.specs.Prelude.{if◌then◌else◌, not, slice_index, nat_le, nat_lt}
 use mathlib.Core.Path.{fun_ext}
 use Rattle.std.proofs.lemmas.Grind.{common_steps}
 use Rattle.std.proofs.lemmas.Bool.Decides.{nat_tests}
 use Rattle.lockword.specs.declared.reply.Reply.{Reply}
 use Rattle.keys.specs.declared.access.Access.{Access}
+use Rattle.keys.specs.declared.access.Access.TheVariants as access
+use Rattle.keys.specs.declared.access.Answer.{Answer}
 use Rattle.keys.specs.declared.access.Answer.TheVariants.{Fault}
+use Rattle.keys.specs.declared.point.Decision.{Decision}
+use Rattle.keys.specs.declared.point.Operation.{Operation}
 use Rattle.keys.specs.declared.point.Point.{Point}
 use Rattle.keys.specs.declared.point.Progress.{Progress}
 use Rattle.keys.specs.Layouts.{Layout', words_of}
-use Rattle.keys.specs.Accesses.{address_of, changed, sleeps_at}
-use Rattle.mutex.specs.declared.call.Call.{Call}
+use Rattle.keys.specs.Accesses.{address_of, word_among, sleeps_at}
 use Rattle.mutex.specs.declared.phase.Phase.{Phase}
 use Rattle.mutex.specs.declared.phase.Phase.TheVariants.{Announcing, AtCell, Linking, Unlinking, Clearing, Ended}
 use Rattle.mutex.specs.declared.phase.Onward.{Onward}
-use Rattle.mutex.specs.Calls.{mutex_of, operation_of}
 use Rattle.mutex.specs.Standings.{Whole}
-use Rattle.mutex.specs.Whole.{whole_started, whole_access, whole_led, whole_moved, whole_progress, whole_point, progress_in}
+use Rattle.mutex.specs.Whole.{whole_access, whole_led, whole_moved, whole_progress, whole_point, progress_in}
+use Rattle.condvar.specs.declared.call.CondCall.{CondCall}
+use Rattle.condvar.specs.declared.phase.CondPhase.{CondPhase}
+use Rattle.condvar.specs.declared.phase.CondPhase.TheVariants as cond
+use Rattle.condvar.specs.declared.phase.CondOnward.{CondOnward}
+use Rattle.condvar.specs.Calls as conditions
+use Rattle.condvar.specs.Standings.{CondWhole}
+use Rattle.condvar.specs.Whole as condition
+use Rattle.facts.specs.declared.fact.Queue.{Queue}
+use Rattle.facts.specs.declared.fact.Queue.TheVariants.{Mutex}
 use Rattle.syscalls.specs.Kernels.{Kernel', queue_of}
 use Rattle.syscalls.specs.Memories as memories
+use Rattle.protocol.specs.declared.event.Op.{Op}
 use Rattle.protocol.specs.declared.event.Event.TheVariants.{Begin, Step}
 use Rattle.protocol.specs.declared.thread.Thread.{Thread}
+use Rattle.protocol.specs.declared.thread.Stage.{Stage}
 use Rattle.protocol.specs.declared.thread.Stage.TheVariants.{Calling}
 use Rattle.protocol.specs.declared.note.Note.TheVariants.{Stepped}
-use Rattle.protocol.specs.Machine.{State, After, put, idle, is_valid, answer_among, queue_after, woken_by, answer_of, words_after, queues_after, slept_on, woken, is_thread, is_idle, places_of, stands_in, may_begin, begun, nothing, went, stepped, stage_after, returned, held_after, decision, happens}
+use Rattle.protocol.specs.Ops.{mutex_of, is_in}
+use Rattle.protocol.specs.Machine.{State, After, Led, put, idle, is_valid, is_met, joined, answer_among, queue_after, woken_by, moved_by, answer_of, words_after, queues_after, falls_asleep, woken, moved, slept_in, is_thread, is_idle, places_of, stands_in, may_begin, first_stage, begun, nothing, went, stepped, stage_after, returned, led, stage_at, returned_at, led_at, decided_at, reply_at, held_after, decision, happens}
 use Rattle.protocol.proofs.Puts.{by_put}
+use Rattle.protocol.proofs.Steps.{unmoved}
 use Rattle.protocol.proofs.Queues.{stands_none}
 use Rattle.interleave.specs.declared.accesses.Performed.{Performed}
 use Rattle.interleave.specs.Shown.{thread_at, state_at}
-use Rattle.interleave.specs.Perform.{Performs, decided_in, reply_in, stage_in}
+use Rattle.interleave.specs.Perform.{Performs, list_met, list_joined, point_in, held_with, decision_with, reply_in, stage_in, stage_at_in}
 
 -- a word that is set in the list is put in the state
 pub words-set : (ws : List ℕ) (k v : ℕ) → k < length ws → (λ p. slice_index (slice_set ws k v) p) ≡ put (λ p. slice_index ws p) k v
@@ -57,133 +72,242 @@ threads-set ts k t x e lt = fun_ext (thread_at-set ts k t x e lt)
 
 -- ---- a call begins
 
--- the state after a begin
-pub begin_state : (l : Layout') (ws : List ℕ) (kernel : Kernel') (ts : List Thread) (k t : ℕ) (c : Call) (p : Whole) (th : Thread) → 1 ≤ t → t ≤ l.threads → k + 1 ≡ t → length ts ≡ l.threads → mutex_of c < l.mutexes
-    → thread_at ts t ≡ th → is_idle th.stage ≡ true → whole_started l t th.held c ≡ Ok p
-    → state_at l ws kernel (slice_set ts k (record { stage = Calling c p; held = th.held })) ≡ (happens (state_at l ws kernel ts) (Begin t c)).state
-begin_state l ws kernel ts k t c p th pos known at len inside e rests starts =
+-- a begin of a thread in no call
+pub begin_ran : (l : Layout') (ws : List ℕ) (kernel : Kernel') (ts : List Thread) (t : ℕ) (o : Op) (r : Result Stage Reply) (th : Thread) → 1 ≤ t → t ≤ l.threads → is_in l o ≡ true
+    → thread_at ts t ≡ th → is_idle th.stage ≡ true → first_stage l t th.held o ≡ r → happens (state_at l ws kernel ts) (Begin t o) ≡ begun (state_at l ws kernel ts) t o r
+begin_ran l ws kernel ts t o r th pos known inside e rests starts =
     let s : State = state_at l ws kernel ts in
     let resting : is_idle (thread_at ts t).stage ≡ true = ap (λ (z : Thread). is_idle z.stage) e ∙ rests in
-    let may : may_begin s t c ≡ true = grind (arith, nat_tests, resting) in
-    let ran : happens s (Begin t c) ≡ begun s t c (whole_started l t (thread_at ts t).held c) = ap (λ (b : Bool). if b then begun s t c (whole_started l t (thread_at ts t).held c) else nothing s) may in
-    let begins : whole_started l t (thread_at ts t).held c ≡ Ok p = ap (λ (z : Thread). whole_started l t z.held c) e ∙ starts in
-    let gave : begun s t c (whole_started l t (thread_at ts t).held c) ≡ begun s t c (Ok p) = ap (begun s t c) begins in
-    let same : thread_at (slice_set ts k (record { stage = Calling c p; held = th.held })) ≡ put (thread_at ts) t (record { stage = Calling c p; held = (thread_at ts t).held }) =
-    threads-set ts k t (record { stage = Calling c p; held = th.held }) at (omega arith) ∙ ap (λ (z : Thread). put (thread_at ts) t (record { stage = Calling c p; held = z.held })) (sym e) in
-    (λ i. record { layout = l; words = λ q. slice_index ws q; queues = λ q. queue_of kernel q; threads = same i }) ∙ sym (ap (λ (a : After). a.state) (ran ∙ gave))
+    let may : may_begin s t o ≡ true = grind (arith, nat_tests, resting, inside) in
+    ap (λ (b : Bool). if b then begun s t o (first_stage l t (thread_at ts t).held o) else nothing s) may
+    ∙ ap (begun s t o) (ap (λ (z : Thread). first_stage l t z.held o) e ∙ starts)
+
+-- the state after one that isn't refused
+pub begin_state : (l : Layout') (ws : List ℕ) (kernel : Kernel') (ts : List Thread) (k t : ℕ) (o : Op) (g : Stage) (th : Thread) → 1 ≤ t → t ≤ l.threads → k + 1 ≡ t → length ts ≡ l.threads → is_in l o ≡ true
+    → thread_at ts t ≡ th → is_idle th.stage ≡ true → first_stage l t th.held o ≡ Ok g
+    → state_at l ws kernel (slice_set ts k (record { stage = g; held = th.held })) ≡ (happens (state_at l ws kernel ts) (Begin t o)).state
+begin_state l ws kernel ts k t o g th pos known at len inside e rests starts =
+    let same : thread_at (slice_set ts k (record { stage = g; held = th.held })) ≡ put (thread_at ts) t (record { stage = g; held = (thread_at ts t).held }) =
+    threads-set ts k t (record { stage = g; held = th.held }) at (omega arith) ∙ ap (λ (z : Thread). put (thread_at ts) t (record { stage = g; held = z.held })) (sym e) in
+    (λ i. record { layout = l; words = λ q. slice_index ws q; queues = λ q. queue_of kernel q; threads = same i })
+    ∙ sym (ap (λ (a : After). a.state) (begin_ran l ws kernel ts t o (Ok g) th pos known inside e rests starts))
 
 -- ---- an access
 
-module _ (l : Layout') (ws : List ℕ) (kernel : Kernel') (ts : List Thread) (a : Access) (room : length ws ≡ words_of l) (t : ℕ) where
-  -- an address is valid in the list as it is in the layout
-  valid-is : memories.is_valid ws (address_of a) ≡ is_valid l (address_of a)
-  valid-is = ap (λ (n : ℕ). nat_le 1 (address_of a) && nat_lt (address_of a) n) room
+-- a function with the value that it has there anyway
+put-itself : {A : Type 0} (f : ℕ → A) (k : ℕ) → put f k (f k) ≡ f
+put-itself f k = fun_ext (λ p. by_put (λ x. x ≡ f p) f k (f k) p (λ is. ap f (sym is)) (λ apart. refl))
 
-  -- the words after an access
-  pub words-is : (λ q. slice_index (memories.words_after a ws) q) ≡ words_after (state_at l ws kernel ts) t a
-  words-is = ap (λ (b : Bool). λ (q : ℕ). slice_index (if b then slice_set ws (address_of a) (changed a (slice_index ws (address_of a))) else ws) q) valid-is ∙ go (is_valid l (address_of a)) refl
+module _ (l : Layout') (ws : List ℕ) (kernel : Kernel') (ts : List Thread) (room : length ws ≡ words_of l) (t : ℕ) where
+  abbrev words : ℕ → ℕ
+  words = λ q. slice_index ws q
+
+  -- an address is valid in the list as it is in the layout
+  valid-is : (at : ℕ) → memories.is_valid ws at ≡ is_valid l at
+  valid-is at = ap (λ (n : ℕ). nat_le 1 at && nat_lt at n) room
+
+  met-is : (a : Access) → list_met ws a ≡ is_met l t a
+  met-is (access.Requeue from n to k) = λ i. valid-is from i && (valid-is to i && not (from == to))
+  met-is (access.CmpRequeue from e n to k) = λ i. valid-is from i && (valid-is to i && not (from == to))
+  met-is a = valid-is (address_of a)
+
+  -- the list's words, with a new one at a place where there is one
+  set-is : (at v : ℕ) → (λ q. slice_index (if memories.is_valid ws at then slice_set ws at v else ws) q) ≡ (if is_valid l at then put words at v else words)
+  set-is at v = ap (λ (b : Bool). λ (q : ℕ). slice_index (if b then slice_set ws at v else ws) q) (valid-is at) ∙ go (is_valid l at) refl
     where
-      go : (b : Bool) → is_valid l (address_of a) ≡ b
-          → (λ q. slice_index (if b then slice_set ws (address_of a) (changed a (slice_index ws (address_of a))) else ws) q) ≡ (if b then put (λ q. slice_index ws q) (address_of a) (changed a (slice_index ws (address_of a))) else (λ q. slice_index ws q))
-      go true e = words-set ws (address_of a) (changed a (slice_index ws (address_of a))) (grind (arith, nat_tests))
+      go : (b : Bool) → is_valid l at ≡ b → (λ q. slice_index (if b then slice_set ws at v else ws) q) ≡ (if b then put words at v else words)
+      go true e = words-set ws at v (grind (arith, nat_tests))
       go false e = refl
 
-  module _ (after : Kernel') (done : Performed) (performs : Performs ws kernel after t a done) where
-    pub answer-is : done.answer ≡ answer_of (state_at l ws kernel ts) t a
-    answer-is = performs.answer ∙ ap (λ (b : Bool). if b then answer_among a (slice_index ws (address_of a)) (queue_of kernel (address_of a)) else Fault) valid-is
+  -- a requeue changes none, where it is refused and where it isn't
+  same-is : (at : ℕ) (b c : Bool) → (if b then put words at (words at) else words) ≡ (if c then put words at (words at) else words)
+  same-is at true true = refl
+  same-is at true false = put-itself words at
+  same-is at false true = sym (put-itself words at)
+  same-is at false false = refl
 
-    pub queues-is : (λ q. queue_of after q) ≡ queues_after (state_at l ws kernel ts) t a
+  -- the words after an access
+  pub words-is : (a : Access) → (λ q. slice_index (memories.words_after a ws) q) ≡ words_after (state_at l ws kernel ts) t a
+  words-is (access.Requeue from n to k) = set-is from (words from) ∙ same-is from (is_valid l from) (is_met l t (access.Requeue from n to k))
+  words-is (access.CmpRequeue from e n to k) = set-is from (words from) ∙ same-is from (is_valid l from) (is_met l t (access.CmpRequeue from e n to k))
+  words-is a = set-is (address_of a) (word_among a (words (address_of a)) [])
+
+  joined-is : (a : Access) (us : List ℕ) (queues : ℕ → List ℕ) → list_joined a us queues ≡ joined l t a us queues
+  joined-is (access.Requeue from n to k) us queues = refl
+  joined-is (access.CmpRequeue from e n to k) us queues = refl
+  joined-is a us queues = refl
+
+  module _ (a : Access) (after : Kernel') (done : Performed) (performs : Performs ws kernel after t a done) where
+    abbrev w : ℕ
+    w = slice_index ws (address_of a)
+
+    abbrev q : List ℕ
+    q = queue_of kernel (address_of a)
+
+    pub answer-is : done.answer ≡ answer_of (state_at l ws kernel ts) t a
+    answer-is = performs.answer ∙ ap (λ (b : Bool). if b then answer_among a w q else Fault) (met-is a)
+
+    pub queues-is : (λ p. queue_of after p) ≡ queues_after (state_at l ws kernel ts) t a
     queues-is =
         fun_ext performs.queues
-        ∙ ap (λ (b : Bool). if b then put (queue_of kernel) (address_of a) (queue_after t a (slice_index ws (address_of a)) (queue_of kernel (address_of a))) else queue_of kernel) valid-is
+        ∙ ap (λ (b : Bool). if b then list_joined a (moved_by a w q) (put (queue_of kernel) (address_of a) (queue_after t a w q)) else queue_of kernel) (met-is a)
+        ∙ ap (λ (f : ℕ → List ℕ). if is_met l t a then f else queue_of kernel) (joined-is a (moved_by a w q) (put (queue_of kernel) (address_of a) (queue_after t a w q)))
 
-    slept-is : (c : Call) → (if done.slept then Some (mutex_of c) else None) ≡ slept_on (state_at l ws kernel ts) t c a
-    slept-is c =
-        ap (λ (b : Bool). if b then Some (mutex_of c) else None) performs.slept
-        ∙ ap (λ (b : Bool). if b && sleeps_at a (slice_index ws (address_of a)) then Some (mutex_of c) else None) valid-is
+    pub slept-is : done.slept ≡ falls_asleep (state_at l ws kernel ts) t a
+    slept-is = performs.slept ∙ ap (λ (b : Bool). b && sleeps_at a w) (met-is a)
 
     pub woken-is : done.woken ≡ woken (state_at l ws kernel ts) t a
-    woken-is = performs.woken ∙ ap (λ (b : Bool). if b then woken_by a (queue_of kernel (address_of a)) else []) valid-is
+    woken-is = performs.woken ∙ ap (λ (b : Bool). if b then woken_by a w q else []) (met-is a)
 
--- where the thread stands after a step, as the definition says
-stage-is : (c : Call) (p : Whole) (pt : Option Point) (f : Phase) → stage_in c (record p { phase = f }) (progress_in pt f) ≡ stage_after c p f
-stage-is c p pt (Announcing r) = refl
-stage-is c p pt (AtCell r) = refl
-stage-is c p pt (Linking l x) = refl
-stage-is c p pt (Unlinking u d) = refl
-stage-is c p pt (Clearing x) = refl
-stage-is c p pt (Ended x) = refl
+    pub moved-is : done.moved ≡ moved (state_at l ws kernel ts) t a
+    moved-is = performs.moved ∙ ap (λ (b : Bool). if b then moved_by a w q else []) (met-is a)
 
--- the reply that a step returns, as the definition says
-reply-is : (pt : Option Point) (f : Phase) → reply_in (progress_in pt f) ≡ returned f
-reply-is pt (Announcing r) = refl
-reply-is pt (AtCell r) = refl
-reply-is pt (Linking l x) = refl
-reply-is pt (Unlinking u d) = refl
-reply-is pt (Clearing x) = refl
-reply-is pt (Ended x) = refl
+-- ---- what a program says of its step, and what the definition does
 
--- the reply of the point that a step tells, as the definition says
-decided-is : (p : Whole) (x : Option Reply) (f : Phase) → decided_in (progress_in (whole_point p x) f) ≡ x
-decided-is p None (Announcing r) = refl
-decided-is p None (AtCell r) = refl
-decided-is p None (Linking l y) = refl
-decided-is p None (Unlinking u d) = refl
-decided-is p None (Clearing y) = refl
-decided-is p None (Ended y) = refl
-decided-is p (Some x) (Announcing r) = refl
-decided-is p (Some x) (AtCell r) = refl
-decided-is p (Some x) (Linking l y) = refl
-decided-is p (Some x) (Unlinking u d) = refl
-decided-is p (Some x) (Clearing y) = refl
-decided-is p (Some x) (Ended y) = refl
+-- without a point a thread holds as many mutexes, and nothing is decided
+pub held-with : (op : Operation) (held : ℕ) (pt : Option Point) → held_with held pt ≡ held_after held (decided_at op pt) (reply_at pt)
+held-with op held None = sym (unmoved op held)
+held-with op held (Some p) = refl
 
-module _ (l : Layout') (ws ws' : List ℕ) (kernel after : Kernel') (ts : List Thread) (k t : ℕ) (c : Call) (p p' : Whole) (th : Thread) (done : Performed) (pr : Progress)
-    (known : t ≤ l.threads) (at : k + 1 ≡ t) (len : length ts ≡ l.threads) (room : length ws ≡ words_of l) (awake : (key : ℕ) → stands_in t (queue_of kernel key) ≡ false)
-    (e : thread_at ts t ≡ th) (calls : th.stage ≡ Calling c p) (performs : Performs ws kernel after t (whole_access p) done) (wrote : ws' ≡ memories.words_after (whole_access p) ws)
-    (went_on : p' ≡ whole_moved p (whole_led p done.answer)) (progress : pr ≡ whole_progress p (whole_led p done.answer)) where
+pub decision-with : (t m : ℕ) (op : Operation) (pt : Option Point) → decision_with t m pt ≡ decision t m (decided_at op pt) (reply_at pt)
+decision-with t m op None = refl
+decision-with t m op (Some p) = refl
+
+-- of a mutex's program
+module _ (o : Op) (p : Whole) where
+  stage-of : (pt : Option Point) (f : Phase) → stage_in o (record p { phase = f }) (progress_in pt f) ≡ stage_after o p f
+  stage-of pt (Announcing r) = refl
+  stage-of pt (AtCell r) = refl
+  stage-of pt (Linking l x) = refl
+  stage-of pt (Unlinking u d) = refl
+  stage-of pt (Clearing x) = refl
+  stage-of pt (Ended x) = refl
+
+  returned-of : (pt : Option Point) (f : Phase) → reply_in (progress_in pt f) ≡ returned f
+  returned-of pt (Announcing r) = refl
+  returned-of pt (AtCell r) = refl
+  returned-of pt (Linking l x) = refl
+  returned-of pt (Unlinking u d) = refl
+  returned-of pt (Clearing x) = refl
+  returned-of pt (Ended x) = refl
+
+  point-of : (pt : Option Point) (f : Phase) → point_in (progress_in pt f) ≡ pt
+  point-of pt (Announcing r) = refl
+  point-of pt (AtCell r) = refl
+  point-of pt (Linking l x) = refl
+  point-of pt (Unlinking u d) = refl
+  point-of pt (Clearing x) = refl
+  point-of pt (Ended x) = refl
+
+  held-of : (held : ℕ) (x : Option Reply) → held_with held (whole_point p x) ≡ held_after held p.operation x
+  held-of held None = sym (unmoved p.operation held)
+  held-of held (Some x) = refl
+
+  decision-of : (t m : ℕ) (x : Option Reply) → decision_with t m (whole_point p x) ≡ decision t m p.operation x
+  decision-of t m None = refl
+  decision-of t m (Some x) = refl
+
+-- of a call on a condition variable
+module _ (c : CondCall) (p : CondWhole) where
+  stage-at : (pt : Option Point) (f : CondPhase) → stage_at_in c (record p { phase = f }) (condition.progress_in pt f) ≡ stage_at c p f
+  stage-at pt (cond.AtWords r) = refl
+  stage-at pt (cond.Announcing x) = refl
+  stage-at pt (cond.Unlinking u x) = refl
+  stage-at pt (cond.Locking w) = refl
+  stage-at pt (cond.Ended x) = refl
+
+  returned-at : (pt : Option Point) (f : CondPhase) → reply_in (condition.progress_in pt f) ≡ returned_at f
+  returned-at pt (cond.AtWords r) = refl
+  returned-at pt (cond.Announcing x) = refl
+  returned-at pt (cond.Unlinking u x) = refl
+  returned-at pt (cond.Locking w) = refl
+  returned-at pt (cond.Ended x) = refl
+
+  point-at : (pt : Option Point) (f : CondPhase) → point_in (condition.progress_in pt f) ≡ pt
+  point-at pt (cond.AtWords r) = refl
+  point-at pt (cond.Announcing x) = refl
+  point-at pt (cond.Unlinking u x) = refl
+  point-at pt (cond.Locking w) = refl
+  point-at pt (cond.Ended x) = refl
+
+-- ---- a step
+
+-- what the code made of an answer: the stage of its thread then, how many mutexes this owns, the point, and what is returned
+pub record Made : Type 0 where
+  pub stage : Stage
+  pub held : ℕ
+  pub point : Option Decision
+  pub returned : Option Reply
+
+-- it is what the definition makes of it
+pub record IsMade (t m before : ℕ) (g : Led) (made : Made) : Type 0 where
+  pub stage : made.stage ≡ g.stage
+  pub held : made.held ≡ held_after before g.operation g.point
+  pub point : made.point ≡ decision t m g.operation g.point
+  pub returned : made.returned ≡ g.returned
+
+pub made_called : (t m held : ℕ) (o : Op) (p p' : Whole) (g : Onward) (pr : Progress) → p' ≡ whole_moved p g → pr ≡ whole_progress p g
+    → IsMade t m held (led o p g) (record { stage = stage_in o p' pr; held = held_with held (point_in pr); point = decision_with t m (point_in pr); returned = reply_in pr })
+made_called t m held o p p' g pr moves says =
+    let point : point_in pr ≡ whole_point p g.point = ap point_in says ∙ point-of o p (whole_point p g.point) g.phase in
+    record {
+      stage = (λ i. stage_in o (moves i) (says i)) ∙ stage-of o p (whole_point p g.point) g.phase;
+      held = ap (held_with held) point ∙ held-of o p held g.point;
+      point = ap (decision_with t m) point ∙ decision-of o p t m g.point;
+      returned = ap reply_in says ∙ returned-of o p (whole_point p g.point) g.phase;
+    }
+
+pub made_at : (t m held : ℕ) (c : CondCall) (p p' : CondWhole) (g : CondOnward) (pr : Progress) → p' ≡ condition.cond_moved p g → pr ≡ condition.cond_progress g
+    → IsMade t m held (led_at c p g) (record { stage = stage_at_in c p' pr; held = held_with held (point_in pr); point = decision_with t m (point_in pr); returned = reply_in pr })
+made_at t m held c p p' g pr moves says =
+    let point : point_in pr ≡ g.point = ap point_in says ∙ point-at c p g.point g.phase in
+    record {
+      stage = (λ i. stage_at_in c (moves i) (says i)) ∙ stage-at c p g.point g.phase;
+      held = ap (held_with held) point ∙ held-with (conditions.operation_of c) held g.point;
+      point = ap (decision_with t m) point ∙ decision-with t m (conditions.operation_of c) g.point;
+      returned = ap reply_in says ∙ returned-at c p g.point g.phase;
+    }
+
+-- an access of thread t, which stands in no queue, of a call about mutex m that would sleep in queue q
+module _ (l : Layout') (ws ws' : List ℕ) (kernel after : Kernel') (ts : List Thread) (k t m : ℕ) (q : Queue) (a : Access) (f : Answer → Led) (th : Thread) (done : Performed) (made : Made)
+    (known : t ≤ l.threads) (at : k + 1 ≡ t) (len : length ts ≡ l.threads) (room : length ws ≡ words_of l)
+    (e : thread_at ts t ≡ th) (goes : stepped (state_at l ws kernel ts) t th.held th.stage ≡ went (state_at l ws kernel ts) t th.held m q a (f (answer_of (state_at l ws kernel ts) t a)))
+    (performs : Performs ws kernel after t a done) (wrote : ws' ≡ memories.words_after a ws) (is_made : IsMade t m th.held (f done.answer) made) where
   abbrev s : State
   s = state_at l ws kernel ts
 
-  abbrev to : Onward
-  to = whole_led p (answer_of s t (whole_access p))
+  abbrev to : Led
+  to = f (answer_of s t a)
 
-  leads : whole_led p done.answer ≡ to
-  leads = ap (whole_led p) (answer-is l ws kernel ts (whole_access p) room t after done performs)
+  leads : f done.answer ≡ to
+  leads = ap f (answer-is l ws kernel ts room t a after done performs)
 
-  ran : happens s (Step t) ≡ went s t th.held c p to
+  as_told : IsMade t m th.held to made
+  as_told = subst (λ (g : Led). IsMade t m th.held g made) leads is_made
+
+  ran : happens s (Step t) ≡ went s t th.held m q a to
   ran =
       let is : is_thread s t ≡ true = grind (arith, nat_tests) in
-      ap (λ (b : Bool). if b then stepped s t (thread_at ts t).held (thread_at ts t).stage else nothing s) is ∙ ap (λ (z : Thread). stepped s t z.held z.stage) e ∙ ap (stepped s t th.held) calls
-      ∙ ap (λ (b : Bool). if b then nothing s else went s t th.held c p to) (stands_none t s.queues (places_of l (Calling c p)) awake)
+      ap (λ (b : Bool). if b then stepped s t (thread_at ts t).held (thread_at ts t).stage else nothing s) is ∙ ap (λ (z : Thread). stepped s t z.held z.stage) e ∙ goes
 
-  words : (λ q. slice_index ws' q) ≡ words_after s t (whole_access p)
-  words = ap (λ (v : List ℕ). λ (q : ℕ). slice_index v q) wrote ∙ words-is l ws kernel ts (whole_access p) room t
-
-  queues : (λ q. queue_of after q) ≡ queues_after s t (whole_access p)
-  queues = queues-is l ws kernel ts (whole_access p) room t after done performs
-
-  stage : stage_in c p' pr ≡ stage_after c p to.phase
-  stage =
-      ap (λ (q : Whole). stage_in c q pr) went_on ∙ ap (stage_in c (whole_moved p (whole_led p done.answer))) progress
-      ∙ stage-is c p (whole_point p (whole_led p done.answer).point) (whole_led p done.answer).phase ∙ ap (λ (x : Onward). stage_after c p x.phase) leads
-
-  decides : decided_in pr ≡ to.point
-  decides = ap decided_in progress ∙ decided-is p (whole_led p done.answer).point (whole_led p done.answer).phase ∙ ap (λ (x : Onward). x.point) leads
-
-  held : held_after th.held (operation_of c) (decided_in pr) ≡ held_after th.held (operation_of c) to.point
-  held = ap (held_after th.held (operation_of c)) decides
-
-  pub step_state : state_at l ws' after (slice_set ts k (record { stage = stage_in c p' pr; held = held_after th.held (operation_of c) (decided_in pr) })) ≡ (happens s (Step t)).state
+  pub step_state : state_at l ws' after (slice_set ts k (record { stage = made.stage; held = made.held })) ≡ (happens s (Step t)).state
   step_state =
-      let threads : thread_at (slice_set ts k (record { stage = stage_in c p' pr; held = held_after th.held (operation_of c) (decided_in pr) })) ≡ put (thread_at ts) t (record { stage = stage_after c p to.phase; held = held_after th.held (operation_of c) to.point }) =
-      threads-set ts k t (record { stage = stage_in c p' pr; held = held_after th.held (operation_of c) (decided_in pr) }) at (omega arith) ∙ (λ i. put (thread_at ts) t (record { stage = stage i; held = held i })) in
-      (λ i. record { layout = l; words = words i; queues = queues i; threads = threads i }) ∙ sym (ap (λ (a : After). a.state) ran)
+      let words : (λ p. slice_index ws' p) ≡ words_after s t a = ap (λ (v : List ℕ). λ (p : ℕ). slice_index v p) wrote ∙ words-is l ws kernel ts room t a in
+      let queues : (λ p. queue_of after p) ≡ queues_after s t a = queues-is l ws kernel ts room t a after done performs in
+      let threads : thread_at (slice_set ts k (record { stage = made.stage; held = made.held })) ≡ put (thread_at ts) t (record { stage = to.stage; held = held_after th.held to.operation to.point }) =
+      threads-set ts k t (record { stage = made.stage; held = made.held }) at (omega arith) ∙ (λ i. put (thread_at ts) t (record { stage = as_told.stage i; held = as_told.held i })) in
+      (λ i. record { layout = l; words = words i; queues = queues i; threads = threads i }) ∙ sym (ap (λ (x : After). x.state) ran)
 
-  pub step_note : Stepped t (decision t c (decided_in pr)) (if done.slept then Some (mutex_of c) else None) done.woken (reply_in pr) ≡ (happens s (Step t)).note
+  pub step_note : Stepped t m made.point (slept_in q done.slept) done.woken done.moved made.returned ≡ (happens s (Step t)).note
   step_note =
-      let sleeps : (if done.slept then Some (mutex_of c) else None) ≡ slept_on s t c (whole_access p) = slept-is l ws kernel ts (whole_access p) room t after done performs c in
-      let wakes : done.woken ≡ woken s t (whole_access p) = woken-is l ws kernel ts (whole_access p) room t after done performs in
-      let returns : reply_in pr ≡ returned to.phase =
-      ap reply_in progress ∙ reply-is (whole_point p (whole_led p done.answer).point) (whole_led p done.answer).phase ∙ ap (λ (x : Onward). returned x.phase) leads in
-      (λ i. Stepped t (decision t c (decides i)) (sleeps i) (wakes i) (returns i)) ∙ sym (ap (λ (a : After). a.note) ran)
+      let slept : done.slept ≡ falls_asleep s t a = slept-is l ws kernel ts room t a after done performs in
+      let wakes : done.woken ≡ woken s t a = woken-is l ws kernel ts room t a after done performs in
+      let moves : done.moved ≡ moved s t a = moved-is l ws kernel ts room t a after done performs in
+      (λ i. Stepped t m (as_told.point i) (slept_in q (slept i)) (wakes i) (moves i) (as_told.returned i)) ∙ sym (ap (λ (x : After). x.note) ran)
+
+-- a thread that stands in no queue makes the next access of its call
+pub goes_called : (s : State) (t held : ℕ) (o : Op) (p : Whole) (g : Stage) → g ≡ Calling o p → ((key : ℕ) → stands_in t (s.queues key) ≡ false)
+    → stepped s t held g ≡ went s t held (mutex_of s.layout o) (Mutex (mutex_of s.layout o)) (whole_access p) (led o p (whole_led p (answer_of s t (whole_access p))))
+goes_called s t held o p g is awake =
+    ap (stepped s t held) is
+    ∙ ap (λ (b : Bool). if b then nothing s else went s t held (mutex_of s.layout o) (Mutex (mutex_of s.layout o)) (whole_access p) (led o p (whole_led p (answer_of s t (whole_access p))))) (stands_none t s.queues (places_of s.layout (Calling o p)) awake)

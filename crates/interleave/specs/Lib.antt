@@ -5,3 +5,4 @@ pub mod Steps
 pub mod Reached
 pub mod Traces
 pub mod Reapings
+pub mod Runs

@@ -1,19 +1,26 @@
 -- What an access does over a list of words and a kernel's queues, and what a thread does with its answer.
-use Rattle.std.specs.Prelude.{ℕ, ◌≡◌, ◌==◌, ◌&&◌, Bool, true, false, List, [], slice_index, Option, Some, None, if◌then◌else◌}
+use Rattle.std.specs.Prelude.{ℕ, ◌≡◌, ◌==◌, ◌&&◌, not, Bool, true, false, List, [], ◌++◌, length, slice_index, Option, Some, None, Result, Ok, Err, if◌then◌else◌}
 use Rattle.lockword.specs.declared.reply.Reply.{Reply}
+use Rattle.lockword.specs.declared.reply.Reply.TheVariants.{EAGAIN}
 use Rattle.keys.specs.declared.access.Access.{Access}
 use Rattle.keys.specs.declared.access.Answer.{Answer}
-use Rattle.keys.specs.declared.access.Answer.TheVariants.{Exchanged, Changed, Fault}
+use Rattle.keys.specs.declared.access.Access.TheVariants.{Requeue, CmpRequeue}
+use Rattle.keys.specs.declared.access.Answer.TheVariants.{Exchanged, Changed, Again, Counts, Fault}
 use Rattle.keys.specs.declared.point.Point.{Point}
 use Rattle.keys.specs.declared.point.Progress.{Progress}
 use Rattle.keys.specs.declared.point.Progress.TheVariants.{Goes, Returns}
 use Rattle.keys.specs.Accesses.{address_of, sleeps_at}
 use Rattle.exitwalk.specs.Standings as walks
-use Rattle.mutex.specs.declared.call.Call.{Call}
+use Rattle.keys.specs.declared.point.Decision.{Decision}
+use Rattle.condvar.specs.declared.call.CondCall.{CondCall}
+use Rattle.condvar.specs.Standings.{CondWhole}
+use Rattle.condvar.specs.Whole.{lock_of}
+use Rattle.protocol.specs.declared.event.Op.{Op}
+use Rattle.protocol.specs.declared.event.Op.TheVariants.{OnCondition}
 use Rattle.mutex.specs.Standings.{Whole}
 use Rattle.protocol.specs.declared.thread.Stage.{Stage}
-use Rattle.protocol.specs.declared.thread.Stage.TheVariants.{Idle, Calling, Dying, Reaped}
-use Rattle.protocol.specs.Machine.{put, answer_among, queue_after, woken_by}
+use Rattle.protocol.specs.declared.thread.Stage.TheVariants.{Idle, Calling, AtCondition, Dying, Reaped}
+use Rattle.protocol.specs.Machine.{put, answer_among, queue_after, woken_by, moved_by, held_after, decision}
 use Rattle.syscalls.specs.Kernels.{Kernel', queue_of}
 use Rattle.syscalls.specs.Memories.{is_valid}
 use Rattle.interleave.specs.declared.accesses.Performed.{Performed}
@@ -27,49 +34,81 @@ or_fault f (Some x) = f x
 abbrev pub exchange_answer : ℕ → ℕ → Answer
 exchange_answer old w = if w == old then Exchanged else Changed w
 
+-- what a requeue answers, and whom it wakes and moves, as the kernel tells it
+abbrev pub requeue_performed : Result (List ℕ × List ℕ) Reply → Performed
+requeue_performed (Ok x) = record { answer = Counts (length x.0) (length x.1); slept = false; woken = x.0; moved = x.1 }
+requeue_performed (Err EAGAIN) = record { answer = Again; slept = false; woken = []; moved = [] }
+requeue_performed (Err r) = record { answer = Fault; slept = false; woken = []; moved = [] }
+
+-- an access isn't refused: its address is valid; of a requeue both are, and they differ
+abbrev pub list_met : List ℕ → Access → Bool
+list_met ws (Requeue from n to k) = is_valid ws from && (is_valid ws to && not (from == to))
+list_met ws (CmpRequeue from e n to k) = is_valid ws from && (is_valid ws to && not (from == to))
+list_met ws a = is_valid ws (address_of a)
+
+-- these threads come to the end of the queue that an access moves to
+abbrev pub list_joined : Access → List ℕ → (ℕ → List ℕ) → ℕ → List ℕ
+list_joined (Requeue from n to k) us queues = put queues to (queues to ++ us)
+list_joined (CmpRequeue from e n to k) us queues = put queues to (queues to ++ us)
+list_joined a us queues = queues
+
 abbrev pub list_answer : List ℕ → Kernel' → Access → Answer
-list_answer ws k a = if is_valid ws (address_of a) then answer_among a (slice_index ws (address_of a)) (queue_of k (address_of a)) else Fault
+list_answer ws k a = if list_met ws a then answer_among a (slice_index ws (address_of a)) (queue_of k (address_of a)) else Fault
 
 abbrev pub list_slept : List ℕ → Access → Bool
-list_slept ws a = is_valid ws (address_of a) && sleeps_at a (slice_index ws (address_of a))
+list_slept ws a = list_met ws a && sleeps_at a (slice_index ws (address_of a))
 
 abbrev pub list_woken : List ℕ → Kernel' → Access → List ℕ
-list_woken ws k a = if is_valid ws (address_of a) then woken_by a (queue_of k (address_of a)) else []
+list_woken ws k a = if list_met ws a then woken_by a (slice_index ws (address_of a)) (queue_of k (address_of a)) else []
+
+abbrev pub list_moved : List ℕ → Kernel' → Access → List ℕ
+list_moved ws k a = if list_met ws a then moved_by a (slice_index ws (address_of a)) (queue_of k (address_of a)) else []
 
 abbrev pub list_queues : List ℕ → Kernel' → ℕ → Access → ℕ → List ℕ
-list_queues ws k t a = if is_valid ws (address_of a) then put (queue_of k) (address_of a) (queue_after t a (slice_index ws (address_of a)) (queue_of k (address_of a))) else queue_of k
+list_queues ws k t a = if list_met ws a then list_joined a (moved_by a (slice_index ws (address_of a)) (queue_of k (address_of a))) (put (queue_of k) (address_of a) (queue_after t a (slice_index ws (address_of a)) (queue_of k (address_of a)))) else queue_of k
 
 -- what thread t's access over these words does to the queues, and tells
 pub record Performs (ws : List ℕ) (old new : Kernel') (t : ℕ) (a : Access) (done : Performed) : Type 0 where
   pub answer : done.answer ≡ list_answer ws old a
   pub slept : done.slept ≡ list_slept ws a
   pub woken : done.woken ≡ list_woken ws old a
+  pub moved : done.moved ≡ list_moved ws old a
   pub queues : (p : ℕ) → queue_of new p ≡ list_queues ws old t a p
   pub threads : new.threads ≡ old.threads
   pub heads : new.heads ≡ old.heads
 
-abbrev pub reply_at : Option Point → Option Reply
-reply_at None = None
-reply_at (Some p) = Some p.reply
+-- the point that a step was
+abbrev pub point_in : Progress → Option Point
+point_in (Goes point) = point
+point_in (Returns x point) = point
 
--- the reply of the point that a step made
-abbrev pub decided_in : Progress → Option Reply
-decided_in (Goes point) = reply_at point
-decided_in (Returns x point) = reply_at point
+-- how many mutexes a thread owns after such a point
+abbrev pub held_with : ℕ → Option Point → ℕ
+held_with held None = held
+held_with held (Some p) = held_after held p.operation (Some p.reply)
+
+abbrev pub decision_with : ℕ → ℕ → Option Point → Option Decision
+decision_with t m None = None
+decision_with t m (Some p) = decision t m p.operation (Some p.reply)
 
 abbrev pub reply_in : Progress → Option Reply
 reply_in (Goes point) = None
 reply_in (Returns x point) = Some x
 
-abbrev pub stage_in : Call → Whole → Progress → Stage
-stage_in c p (Goes point) = Calling c p
-stage_in c p (Returns x point) = Idle
+abbrev pub stage_in : Op → Whole → Progress → Stage
+stage_in o p (Goes point) = Calling o p
+stage_in o p (Returns x point) = Idle
+
+-- a wait that is awake again is in the mutex's lock
+abbrev pub stage_where : CondCall → CondWhole → Option Whole → Stage
+stage_where c p None = AtCondition c p
+stage_where c p (Some w) = Calling (OnCondition c) w
+
+abbrev pub stage_at_in : CondCall → CondWhole → Progress → Stage
+stage_at_in c p (Goes point) = stage_where c p (lock_of p.phase)
+stage_at_in c p (Returns x point) = Idle
 
 -- ---- a walk
-
-abbrev pub point_in : Progress → Option Point
-point_in (Goes point) = point
-point_in (Returns x point) = point
 
 abbrev pub has_returned : Progress → Bool
 has_returned (Goes point) = false

@@ -7,6 +7,7 @@ use Rattle.protocol.specs.declared.note.Note.{Note}
 use Rattle.protocol.specs.Machine.{State, start, run}
 use Rattle.protocol.specs.Headline.{IsHistory}
 use Rattle.protocol.specs.Wakings.{TellsSleepers}
+use Rattle.protocol.specs.PassedBy.{ArePresets}
 use Rattle.interleave.specs.Shown.{Shown, state_of}
 
 -- each thread's robust list begins at its head
@@ -23,12 +24,14 @@ pub record IsFirst (l : Layout') (k : Kernel') : Type 0 where
 pub record IsStart (m : Shown) : Type 0 where
   pub layout : IsLayout m.layout
   pub counters : ℕ → ℕ
+  pub presets : ArePresets counters
   pub is : state_of m ≡ start m.layout counters
 
 -- some events lead there from the beginning
 pub record IsReached (m : Shown) : Type 0 where
   pub layout : IsLayout m.layout
   pub counters : ℕ → ℕ
+  pub presets : ArePresets counters
   pub events : List Event
   pub is : state_of m ≡ run (start m.layout counters) events
   pub fresh : m.fresh ≡ true → IsStart m

@@ -1,32 +1,34 @@
 //! Accesses of the machine's threads: to its words, and to the kernel's queues.
 ghost use Rattle.std.specs.Prelude.{◌≡◌, ◌≤◌, ℕ, [], true, false};
 ghost use Rattle.keys.specs.declared.access.Access.TheVariants.{Wait, Wake};
-ghost use Rattle.keys.specs.declared.access.Answer.TheVariants.{Value, Stored, Exchanged, Changed, Counts};
+ghost use Rattle.keys.specs.declared.access.Answer.TheVariants.{Value, Stored, Exchanged, Changed};
 ghost use Rattle.syscalls.specs.Kernels.{IsAwake};
 ghost use Rattle.syscalls.specs.Memories.{words_after};
-ghost use Rattle.interleave.specs.Perform.{or_fault, exchange_answer, Performs};
+ghost use Rattle.interleave.specs.Perform.{or_fault, exchange_answer, requeue_performed, Performs};
 
 use buckets::Batch;
 use keys::{Access, Answer};
 use lockword::{Reply, Tid};
 use syscalls::{Kernel, Memory};
 
-/// What an access answered, whether its thread fell asleep by it, and whom it woke, in their order.
+/// What an access answered, whether its thread fell asleep by it, whom it woke, and whom it moved to another queue, in their order.
 #[derive(Clone, Copy)]
 pub(crate) struct Performed {
     pub answer: Answer,
     pub slept: bool,
     pub woken: Batch,
+    pub moved: Batch,
 }
 
-/// Of an access by which nobody falls asleep, and nobody is woken.
+/// Of an access by which nobody falls asleep, is woken or is moved.
 fn quiet(answer: Answer) -> Performed
-    ensures { result ≡ record { answer = answer; slept = false; woken = [] } }
+    ensures { result ≡ record { answer = answer; slept = false; woken = []; moved = [] } }
 {
     Performed {
         answer,
         slept: false,
         woken: Batch::new(),
+        moved: Batch::new(),
     }
 }
 
@@ -63,16 +65,6 @@ fn exchanged(word: Option<u64>, expected: u64) -> Answer
     }
 }
 
-/// Of a requeue. No call makes one yet, so it moves nobody.
-fn unmoved(word: Option<u64>) -> Answer
-    ensures { result ≡ or_fault (λ w. Counts 0 0) word }
-{
-    match word {
-        Some(_) => Answer::Counts(0, 0),
-        None => Answer::Fault,
-    }
-}
-
 /// A thread that falls asleep goes on, when it is woken, with the answer that this gives.
 fn wait<M: Memory>(
     memory: &M,
@@ -90,6 +82,7 @@ fn wait<M: Memory>(
             answer: Answer::Woken,
             slept: true,
             woken: Batch::new(),
+            moved: Batch::new(),
         },
         Err(Reply::EAGAIN) => quiet(Answer::Again),
         Err(_) => quiet(Answer::Fault),
@@ -104,7 +97,24 @@ fn wake<M: Memory>(memory: &M, kernel: &mut Kernel, at: u64, most: u32) -> Perfo
             answer: Answer::Count(woken.len() as u32),
             slept: false,
             woken,
+            moved: Batch::new(),
         },
+        Err(_) => quiet(Answer::Fault),
+    }
+}
+
+/// Of a requeue: it answers how many it woke and how many it moved, or EAGAIN where its word differs.
+fn requeued(told: Result<(Batch, Batch), Reply>) -> Performed
+    ensures { result ≡ requeue_performed told }
+{
+    match told {
+        Ok((woken, moved)) => Performed {
+            answer: Answer::Counts(woken.len() as u32, moved.len() as u32),
+            slept: false,
+            woken,
+            moved,
+        },
+        Err(Reply::EAGAIN) => quiet(Answer::Again),
         Err(_) => quiet(Answer::Fault),
     }
 }
@@ -133,8 +143,18 @@ pub(crate) fn perform<M: Memory>(
         Access::FetchAdd { at, operand } => quiet(value(memory.fetch_add(at, operand))),
         Access::Wait { at, expected } => wait(memory, kernel, thread, at, expected),
         Access::Wake { at, most } => wake(memory, kernel, at, most),
-        Access::Requeue { from, .. } | Access::CmpRequeue { from, .. } => {
-            quiet(unmoved(memory.load(from)))
-        }
+        Access::Requeue {
+            from,
+            wake,
+            to,
+            moves,
+        } => requeued(kernel.requeue(memory, from, wake, to, moves)),
+        Access::CmpRequeue {
+            from,
+            expected,
+            wake,
+            to,
+            moves,
+        } => requeued(kernel.cmp_requeue(memory, from, expected, wake, to, moves)),
     }
 }

@@ -22,7 +22,7 @@ fn is_alive(stage: &Stage) -> bool
     ensures { result ≡ is_alive stage.now }
 {
     match *stage {
-        Stage::Idle | Stage::Calling(_, _) => true,
+        Stage::Idle | Stage::Calling(_, _) | Stage::AtCondition(_, _) => true,
         Stage::Dying(_) | Stage::Reaped => false,
     }
 }

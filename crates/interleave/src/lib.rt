@@ -10,6 +10,7 @@ mod accesses;
 mod copies;
 mod deaths;
 mod machine;
+mod ops;
 mod threads;
 mod trace;
 

@@ -85,6 +85,7 @@ impl Machine {
     ghost use Rattle.interleave.specs.Shown.{state_of};
     ghost use Rattle.interleave.specs.Reached.{IsStart, IsReached, AtEachMoment, TellsAtEachMoment};
     ghost use Rattle.interleave.specs.Traces.{IsOf};
+    ghost use Rattle.protocol.specs.PassedBy.{PassesNobody};
 
     /// A machine at its beginning: nobody owns a mutex, every robust list is empty, and every counter is 0.
     pub fn new(alloc: Global, layout: Layout) -> Result<Machine, NoMem>
@@ -163,8 +164,11 @@ impl Machine {
     ///
     /// Of a machine to which nothing has happened, the notes tell a legal history: after each event, the points so far take every mutex, as POSIX sees
     /// it, from free to what its cell says of its owner, OWNER_DIED and UNUSABLE. And they explain what each thread was told: a call that returned had one point, whose reply it
-    /// returned, between its begin and its return, at events of its own thread; one that hasn't returned had one at most; and no point belongs to any other call.
-    /// After each event a thread stands in a queue exactly where the last of its sleeps, wakes and kills told so far is a sleep, in that of the mutex that this names.
+    /// returned, between its begin and its return, at events of its own thread, but that a wait which isn't refused had an unlock and then a lock; one that hasn't returned had a beginning of
+    /// its points; and no point belongs to any other call.
+    /// After each event a thread stands in a queue exactly where the last of its sleeps, moves, wakes and kills told so far is a sleep or a move, in that of the mutex or condition
+    /// variable that this names. No signal and no broadcast passes a wait by: a thread that released its mutex in a wait before such a call counted doesn't fall asleep on that condition
+    /// variable behind it, and a broadcast's move leaves nobody there.
     ///
     /// After each event the machine goes on: whenever a mutex that nobody owns has sleepers, some awake thread, run alone, takes it or wakes one of them within 9,000 steps;
     /// whoever is awake and runs alone ends its call, falls asleep or is reaped within as many; and a call that no other event divides returns within as many, or sleeps, and replies as
@@ -182,6 +186,7 @@ impl Machine {
         ensures history { IfOk result (λ t. self.old.fresh ≡ true → AtEachMoment (state_of self.old) events.now t.notes.items) }
         ensures explained { IfOk result (λ t. self.old.fresh ≡ true → IsExplained events.now t.notes.items) }
         ensures sleeps { IfOk result (λ t. self.old.fresh ≡ true → TellsAtEachMoment self.old.layout (state_of self.old) events.now t.notes.items) }
+        ensures passed { IfOk result (λ t. self.old.fresh ≡ true → PassesNobody (state_of self.old) events.now) }
         ensures goes_on { IfOk result (λ t. (n : ℕ) → GoesOn (run (state_of self.old) (take n events.now))) }
         ensures reaped { IfOk result (λ t. (n : ℕ) → NoReapedOwns (run (state_of self.old) (take n events.now))) }
         ensures deaths { IfOk result (λ t. AreMourned (state_of self.old) events.now) }

@@ -1,29 +1,37 @@
 //! The machine's threads.
-ghost use Rattle.std.specs.Prelude.{◌≡◌, ◌<◌, ◌≤◌, ℕ, List, Some, None, length, if◌then◌else◌};
+ghost use Rattle.std.specs.Prelude.{◌≡◌, ◌<◌, ◌≤◌, ℕ, List, true, length};
 ghost use Rattle.keys.specs.Layouts.{words_of, head_place};
+ghost use Rattle.mutex.specs.Whole.{IsUnderWay};
+ghost use Rattle.condvar.specs.Whole as condition;
+ghost use Rattle.protocol.specs.declared.event.Op.TheVariants.{OnCondition};
 ghost use Rattle.protocol.specs.declared.event.Event.TheVariants.{Begin, Step};
-ghost use Rattle.protocol.specs.Machine.{happens, is_idle, is_calling, is_walked, held_after, decision};
-ghost use Rattle.mutex.specs.Calls.{mutex_of, operation_of};
-ghost use Rattle.syscalls.specs.Kernels.{Kernel', head_of};
-ghost use Rattle.interleave.specs.Perform.{decided_in, reply_in, stage_in};
+ghost use Rattle.protocol.specs.declared.thread.Stage.TheVariants.{AtCondition, Calling};
+ghost use Rattle.protocol.specs.Machine.{happens, first_stage, is_idle, is_calling, is_walked, slept_in};
+ghost use Rattle.protocol.specs.declared.note.Note.TheVariants.{Stepped};
+ghost use Rattle.protocol.specs.Ops.{is_in};
+ghost use Rattle.syscalls.specs.Kernels.{IsAwake, Kernel', head_of};
+ghost use Rattle.interleave.specs.Perform.{decision_with, held_with, point_in, reply_in, stage_at_in, stage_in};
 ghost use Rattle.interleave.specs.Reapings.{has_ended};
 ghost use Rattle.interleave.specs.Shown.{state_at, thread_at};
 ghost use Rattle.interleave.specs.Steps.{MayStep, SleepsInItsCall};
 
-use crate::accesses::perform;
+use crate::accesses::{Performed, perform};
 use crate::deaths::{kill, walk_on};
-use keys::{Decision, Layout, Operation, Progress};
+use crate::ops::{begun, is_in, mutex_of};
+use condvar::{CondCall, CondProgram};
+use facts::Queue;
+use keys::{Decision, Layout, Operation, Point, Progress};
 use lockword::{Reply, Tid};
-use mutex::{Call, Program};
-use protocol::{Event, Note, Stage, Thread};
+use mutex::Program;
+use protocol::{Event, Note, Op, Stage, Thread};
 use syscalls::{Kernel, PlainMemory};
 
-/// The reply of the call's point, where the access was it.
-fn decided(progress: &Progress) -> Option<Reply>
-    ensures { result ≡ decided_in progress.now }
+/// The point that the access was, if it was one.
+fn point(progress: &Progress) -> Option<Point>
+    ensures { result ≡ point_in progress.now }
 {
     match *progress {
-        Progress::Goes { point } | Progress::Returns { point, .. } => Some(point?.reply),
+        Progress::Goes { point } | Progress::Returns { point, .. } => point,
     }
 }
 
@@ -36,46 +44,71 @@ fn returned(progress: &Progress) -> Option<Reply>
     }
 }
 
-fn stage_after(call: Call, program: &Program, progress: &Progress) -> Stage
-    ensures { result ≡ stage_in call program.now progress.now }
+/// Where a thread stands after an access of a mutex's program.
+fn stage_after(op: Op, program: &Program, progress: &Progress) -> Stage
+    ensures { result ≡ stage_in op program.now progress.now }
 {
     match *progress {
-        Progress::Goes { .. } => Stage::Calling(call, *program),
+        Progress::Goes { .. } => Stage::Calling(op, *program),
         Progress::Returns { .. } => Stage::Idle,
     }
 }
 
-/// How many mutexes a thread owns after an access of its call, which may have decided it.
-fn held_after(held: u16, call: Call, decided: Option<Reply>) -> u16
-    requires { held < 65535 }
-    ensures { result ≡ held_after held (operation_of call) decided }
+/// Where a thread stands after an access of a call on a condition variable. A wait that is awake again is in the lock that ends it.
+fn stage_at(call: CondCall, program: &CondProgram, progress: &Progress) -> Stage
+    ensures { result ≡ stage_at_in call program.now progress.now }
 {
-    let Some(reply) = decided else {
+    match (*progress, program.lock()) {
+        (Progress::Returns { .. }, _) => Stage::Idle,
+        (Progress::Goes { .. }, Some(lock)) => Stage::Calling(Op::OnCondition(call), lock),
+        (Progress::Goes { .. }, None) => Stage::AtCondition(call, *program),
+    }
+}
+
+/// How many mutexes a thread owns after an access of its call, which may have been a point.
+fn held_after(held: u16, point: Option<Point>) -> u16
+    requires { held < 65535 }
+    ensures { result ≡ held_with held point }
+{
+    let Some(
+        Point {
+            operation,
+            reply,
+            ..
+        },
+    ) = point
+    else {
         return held;
     };
-    match (call.operation(), reply) {
+    match (operation, reply) {
         (Operation::Lock | Operation::TryLock, Reply::OK | Reply::EOWNERDEAD) => held + 1,
-        (Operation::Unlock, Reply::OK) => held.saturating_sub(1),
+        (Operation::Unlock | Operation::Death, Reply::OK) => held.saturating_sub(1),
         _ => held,
     }
 }
 
-fn decision(thread: Tid, call: Call, decided: Option<Reply>) -> Option<Decision>
-    ensures { result ≡ decision thread call decided }
+/// The point of a thread's call on a mutex.
+fn decision(thread: Tid, mutex: u16, point: Option<Point>) -> Option<Decision>
+    ensures { result ≡ decision_with thread mutex point }
 {
+    let Point {
+        operation,
+        reply,
+        ..
+    } = point?;
     Some(Decision {
         thread,
-        mutex: call.mutex(),
-        operation: call.operation(),
-        reply: decided?,
+        mutex,
+        operation,
+        reply,
     })
 }
 
-/// The mutex that a thread in such a call fell asleep on, if it did.
-fn slept_on(call: Call, slept: bool) -> Option<u16>
-    ensures { result ≡ (if slept then Some (mutex_of call) else None) }
+/// The queue that a thread came to stand in, if it fell asleep.
+fn slept_in(queue: Queue, slept: bool) -> Option<Queue>
+    ensures { result ≡ slept_in queue slept }
 {
-    if slept { Some(call.mutex()) } else { None }
+    if slept { Some(queue) } else { None }
 }
 
 /// Whether a thread that is there lives and is in no call.
@@ -84,7 +117,7 @@ fn is_idle(stage: &Stage) -> bool
 {
     match *stage {
         Stage::Idle => true,
-        Stage::Calling(_, _) | Stage::Dying(_) | Stage::Reaped => false,
+        Stage::Calling(_, _) | Stage::AtCondition(_, _) | Stage::Dying(_) | Stage::Reaped => false,
     }
 }
 
@@ -93,7 +126,7 @@ pub(crate) fn is_calling(stage: &Stage) -> bool
     ensures { result ≡ is_calling stage.now }
 {
     match *stage {
-        Stage::Calling(_, _) => true,
+        Stage::Calling(_, _) | Stage::AtCondition(_, _) => true,
         Stage::Idle | Stage::Dying(_) | Stage::Reaped => false,
     }
 }
@@ -104,7 +137,7 @@ pub(crate) fn is_dying(stage: &Stage) -> bool
 {
     match *stage {
         Stage::Dying(_) => true,
-        Stage::Idle | Stage::Calling(_, _) | Stage::Reaped => false,
+        Stage::Idle | Stage::Calling(_, _) | Stage::AtCondition(_, _) | Stage::Reaped => false,
     }
 }
 
@@ -114,18 +147,36 @@ pub(crate) fn is_reaped(stage: &Stage) -> bool
 {
     match *stage {
         Stage::Reaped => true,
-        Stage::Idle | Stage::Calling(_, _) | Stage::Dying(_) => false,
+        Stage::Idle | Stage::Calling(_, _) | Stage::AtCondition(_, _) | Stage::Dying(_) => false,
+    }
+}
+
+/// Where a thread begins a call that the layout has; or the reply by which it is refused at once.
+fn first_stage(layout: &Layout, thread: Tid, held: u16, op: Op) -> Result<Stage, Reply>
+    requires thread { thread ≤ layout.now.threads }
+    requires inside { is_in layout.now op ≡ true }
+    ensures { result ≡ first_stage layout.now thread held op }
+{
+    match op {
+        Op::OnMutex(call) => {
+            let program = Program::new(layout, thread, held, call)?;
+            Ok(Stage::Calling(op, program))
+        }
+        Op::OnCondition(call) => {
+            let program = CondProgram::new(layout, thread, call);
+            Ok(Stage::AtCondition(call, program))
+        }
     }
 }
 
 /// The thread begins a call, if it can.
-fn begin(layout: &Layout, threads: &mut Vec<Thread>, thread: Tid, call: Call) -> Note
+fn begin(layout: &Layout, threads: &mut Vec<Thread>, thread: Tid, op: Op) -> Note
     requires { length threads.old.items ≡ layout.now.threads }
-    ensures state { (ws : List ℕ) (k : Kernel') → state_at layout.now ws k threads.new.items ≡ (happens (state_at layout.now ws k threads.old.items) (Begin thread call)).state }
-    ensures note { (ws : List ℕ) (k : Kernel') → result ≡ (happens (state_at layout.now ws k threads.old.items) (Begin thread call)).note }
+    ensures state { (ws : List ℕ) (k : Kernel') → state_at layout.now ws k threads.new.items ≡ (happens (state_at layout.now ws k threads.old.items) (Begin thread op)).state }
+    ensures note { (ws : List ℕ) (k : Kernel') → result ≡ (happens (state_at layout.now ws k threads.old.items) (Begin thread op)).note }
     ensures threads { length threads.new.items ≡ length threads.old.items }
 {
-    if layout.threads() < thread.get() || layout.mutexes() <= call.mutex() {
+    if layout.threads() < thread.get() || !is_in(layout, op) {
         return Note::Nothing;
     }
     let index = usize::from(thread.get()) - 1;
@@ -133,12 +184,10 @@ fn begin(layout: &Layout, threads: &mut Vec<Thread>, thread: Tid, call: Call) ->
     if !is_idle(&stage) {
         return Note::Nothing;
     }
-    match Program::new(layout, thread, held, call) {
-        Ok(program) => {
-            threads[index] = Thread {
-                stage: Stage::Calling(call, program),
-                held,
-            };
+    let call = begun(layout, op);
+    match first_stage(layout, thread, held, op) {
+        Ok(stage) => {
+            threads[index] = Thread { stage, held };
             Note::Began {
                 thread,
                 call,
@@ -153,6 +202,100 @@ fn begin(layout: &Layout, threads: &mut Vec<Thread>, thread: Tid, call: Call) ->
     }
 }
 
+/// What is noted of an access of a call about a mutex, which sleeps in that queue if it does.
+fn stepped(thread: Tid, mutex: u16, queue: Queue, done: &Performed, progress: &Progress) -> Note
+    ensures { result ≡ Stepped thread mutex (decision_with thread mutex (point_in progress.now)) (slept_in queue done.now.slept) done.now.woken done.now.moved (reply_in progress.now) }
+{
+    Note::Stepped {
+        thread,
+        mutex,
+        point: decision(thread, mutex, point(progress)),
+        slept: slept_in(queue, done.slept),
+        woken: done.woken,
+        moved: done.moved,
+        returned: returned(progress),
+    }
+}
+
+/// A thread that doesn't sleep makes the next access of a mutex's program: of its call on the mutex, or of the lock that ends its wait.
+fn go_on(
+    layout: &Layout,
+    memory: &mut PlainMemory,
+    kernel: &mut Kernel,
+    threads: &mut Vec<Thread>,
+    thread: Tid,
+    op: Op,
+    program: Program,
+) -> Note
+    requires words { length memory.old ≡ words_of layout.now }
+    requires kernel { kernel.old.threads ≡ layout.now.threads }
+    requires threads { length threads.old.items ≡ layout.now.threads }
+    requires known { thread ≤ layout.now.threads }
+    requires awake { IsAwake kernel.old thread }
+    requires stands { (thread_at threads.old.items thread).stage ≡ Calling op program }
+    requires inside { is_in layout.now op ≡ true }
+    requires going { IsUnderWay program.phase }
+    requires few { (thread_at threads.old.items thread).held < 65535 }
+    ensures state { state_at layout.now memory.new kernel.new threads.new.items ≡ (happens (state_at layout.now memory.old kernel.old threads.old.items) (Step thread)).state }
+    ensures note { result ≡ (happens (state_at layout.now memory.old kernel.old threads.old.items) (Step thread)).note }
+    ensures words { length memory.new ≡ length memory.old }
+    ensures kernel { kernel.new.threads ≡ kernel.old.threads }
+    ensures heads { kernel.new.heads ≡ kernel.old.heads }
+    ensures threads { length threads.new.items ≡ length threads.old.items }
+{
+    let mut program = program;
+    let done = perform(memory, kernel, thread, &program.next());
+    let progress = program.resume(done.answer);
+    let index = usize::from(thread.get()) - 1;
+    let held = threads[index].held;
+    threads[index] = Thread {
+        stage: stage_after(op, &program, &progress),
+        held: held_after(held, point(&progress)),
+    };
+    let mutex = mutex_of(layout, op);
+    stepped(thread, mutex, Queue::Mutex(mutex), &done, &progress)
+}
+
+/// A thread makes the next access of its call on a condition variable.
+fn go_on_at(
+    layout: &Layout,
+    memory: &mut PlainMemory,
+    kernel: &mut Kernel,
+    threads: &mut Vec<Thread>,
+    thread: Tid,
+    call: CondCall,
+    program: CondProgram,
+) -> Note
+    requires words { length memory.old ≡ words_of layout.now }
+    requires kernel { kernel.old.threads ≡ layout.now.threads }
+    requires threads { length threads.old.items ≡ layout.now.threads }
+    requires known { thread ≤ layout.now.threads }
+    requires awake { IsAwake kernel.old thread }
+    requires stands { (thread_at threads.old.items thread).stage ≡ AtCondition call program }
+    requires inside { is_in layout.now (OnCondition call) ≡ true }
+    requires going { condition.IsUnderWay program.phase }
+    requires few { (thread_at threads.old.items thread).held < 65535 }
+    ensures state { state_at layout.now memory.new kernel.new threads.new.items ≡ (happens (state_at layout.now memory.old kernel.old threads.old.items) (Step thread)).state }
+    ensures note { result ≡ (happens (state_at layout.now memory.old kernel.old threads.old.items) (Step thread)).note }
+    ensures words { length memory.new ≡ length memory.old }
+    ensures kernel { kernel.new.threads ≡ kernel.old.threads }
+    ensures heads { kernel.new.heads ≡ kernel.old.heads }
+    ensures threads { length threads.new.items ≡ length threads.old.items }
+{
+    let mut program = program;
+    let done = perform(memory, kernel, thread, &program.next());
+    let progress = program.resume(done.answer);
+    let index = usize::from(thread.get()) - 1;
+    let held = threads[index].held;
+    threads[index] = Thread {
+        stage: stage_at(call, &program, &progress),
+        held: held_after(held, point(&progress)),
+    };
+    let mutex = mutex_of(layout, Op::OnCondition(call));
+    let queue = Queue::Condition(call.condition());
+    stepped(thread, mutex, queue, &done, &progress)
+}
+
 /// The thread makes the next access of its call, if it is in one and doesn't sleep; or the kernel makes the next one of its walk, if the thread died.
 fn step(
     layout: &Layout,
@@ -164,7 +307,7 @@ fn step(
     requires words { length memory.old ≡ words_of layout.now }
     requires kernel { kernel.old.threads ≡ layout.now.threads }
     requires threads { length threads.old.items ≡ layout.now.threads }
-    requires goes { thread ≤ layout.now.threads → MayStep (thread_at threads.old.items thread) }
+    requires goes { thread ≤ layout.now.threads → MayStep layout.now (thread_at threads.old.items thread) }
     requires sleeps { SleepsInItsCall (state_at layout.now memory.old kernel.old threads.old.items) thread }
     ensures state { state_at layout.now memory.new kernel.new threads.new.items ≡ (happens (state_at layout.now memory.old kernel.old threads.old.items) (Step thread)).state }
     ensures note { result ≡ (happens (state_at layout.now memory.old kernel.old threads.old.items) (Step thread)).note }
@@ -180,26 +323,15 @@ fn step(
         return Note::Nothing;
     }
     let index = usize::from(thread.get()) - 1;
-    let Thread { stage, held } = threads[index];
-    if let Stage::Dying(walk) = stage {
-        return walk_on(layout, memory, kernel, threads, thread, walk);
-    }
-    let Stage::Calling(call, mut program) = stage else {
-        return Note::Nothing;
-    };
-    let done = perform(memory, kernel, thread, &program.next());
-    let progress = program.resume(done.answer);
-    let decided = decided(&progress);
-    threads[index] = Thread {
-        stage: stage_after(call, &program, &progress),
-        held: held_after(held, call, decided),
-    };
-    Note::Stepped {
-        thread,
-        point: decision(thread, call, decided),
-        slept: slept_on(call, done.slept),
-        woken: done.woken,
-        returned: returned(&progress),
+    match threads[index].stage {
+        Stage::Idle | Stage::Reaped => Note::Nothing,
+        Stage::Calling(op, program) => {
+            go_on(layout, memory, kernel, threads, thread, op, program)
+        }
+        Stage::AtCondition(call, program) => {
+            go_on_at(layout, memory, kernel, threads, thread, call, program)
+        }
+        Stage::Dying(walk) => walk_on(layout, memory, kernel, threads, thread, walk),
     }
 }
 
@@ -215,7 +347,7 @@ pub(crate) fn apply(
     requires kernel { kernel.old.threads ≡ layout.now.threads }
     requires threads { length threads.old.items ≡ layout.now.threads }
     requires heads { (t : ℕ) → 1 ≤ t → t ≤ layout.now.threads → head_of kernel.old t ≡ head_place t }
-    requires goes { (t : ℕ) → 1 ≤ t → t ≤ layout.now.threads → MayStep (thread_at threads.old.items t) }
+    requires goes { (t : ℕ) → 1 ≤ t → t ≤ layout.now.threads → MayStep layout.now (thread_at threads.old.items t) }
     requires sleeps { (t : ℕ) → SleepsInItsCall (state_at layout.now memory.old kernel.old threads.old.items) t }
     ensures state { state_at layout.now memory.new kernel.new threads.new.items ≡ (happens (state_at layout.now memory.old kernel.old threads.old.items) event).state }
     ensures note { result ≡ (happens (state_at layout.now memory.old kernel.old threads.old.items) event).note }
@@ -225,7 +357,7 @@ pub(crate) fn apply(
     ensures threads { length threads.new.items ≡ length threads.old.items }
 {
     match event {
-        Event::Begin(thread, call) => begin(layout, threads, thread, call),
+        Event::Begin(thread, op) => begin(layout, threads, thread, op),
         Event::Step(thread) => step(layout, memory, kernel, threads, thread),
         Event::Kill(thread) => kill(layout, kernel, threads, thread),
     }

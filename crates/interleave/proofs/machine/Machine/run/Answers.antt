@@ -1,15 +1,13 @@
-use Rattle.std.proofs.Common.{◌≡◌, ◌+◌, ◌++◌, ◌&&◌, [], ◌∷◌, List, arith, sym, ap, ◌∙◌, subst, take}
-use Rattle.std.proofs.lemmas.List.{take_more, take_all}
+use Rattle.std.proofs.Common.{◌≡◌, ◌+◌, ◌++◌, ◌&&◌, [], ◌∷◌, List, arith, sym, ap, ◌∙◌, take}
+use Rattle.std.proofs.lemmas.List.{take_more}
 use Rattle.protocol.specs.declared.event.Event.{Event}
 use Rattle.protocol.specs.declared.note.Note.{Note}
 use Rattle.protocol.specs.Machine.{State, happens, run, notes}
 use Rattle.interleave.specs.Notes.{are_nothing}
 use Rattle.interleave.specs.Shown.{state_of}
 use Rattle.interleave.proofs.Freshness.{stays_fresh}
-use Rattle.protocol.specs.Explained.{IsExplained}
-use Rattle.protocol.proofs.Lives.{explained}
-use Rattle.interleave.specs.Reached.{AtEachMoment, TellsAtEachMoment}
-use Rattle.interleave.proofs.Reaches.{run-more, notes-more, each_moment, tells_each_moment, reached_goes_on, reached_reaped, reached_mourned}
+use Rattle.interleave.proofs.Reaches.{run-more, notes-more, reached_goes_on, reached_reaped, reached_mourned}
+use Rattle.interleave.proofs.Runs.{whole_run}
 use Rattle.interleave.proofs.machine.Machine.run.Goals as goal
 
 pub loop-event-preserved : goal.loop-event-preserved
@@ -28,29 +26,16 @@ loop-event-preserved c =
     )
 
 pub returns-clause-history : goal.returns-clause-history
-returns-clause-history c = λ on.
-    let s = state_of c.args.self.now in
-    let es = c.args.events.now in
-    let start = c.fresh-fresh.ensures.start on in
-    let all : take c.loop-event.event-index es ≡ es = take_all c.loop-event.event-index es (omega arith) in
-    subst (λ (ns : List Note). AtEachMoment s es ns) (sym (c.loop-event.invariant.3 ∙ ap (notes s) all)) (each_moment s c.args.self.now.layout start.counters es start.layout start.is)
+returns-clause-history c = λ on. (whole_run c.args.self.now c.args.events.now c.loop-event.notes.items c.loop-event.event-index (c.fresh-fresh.ensures.start on) (omega arith) c.loop-event.invariant.3).history
 
 pub returns-clause-explained : goal.returns-clause-explained
-returns-clause-explained c = λ on.
-    let s = state_of c.args.self.now in
-    let es = c.args.events.now in
-    let start = c.fresh-fresh.ensures.start on in
-    let all : take c.loop-event.event-index es ≡ es = take_all c.loop-event.event-index es (omega arith) in
-    let begun : IsExplained es (notes s es) = subst (λ (z : State). IsExplained es (notes z es)) (sym start.is) (explained c.args.self.now.layout start.counters es start.layout) in
-    subst (λ (ns : List Note). IsExplained es ns) (sym (c.loop-event.invariant.3 ∙ ap (notes s) all)) begun
+returns-clause-explained c = λ on. (whole_run c.args.self.now c.args.events.now c.loop-event.notes.items c.loop-event.event-index (c.fresh-fresh.ensures.start on) (omega arith) c.loop-event.invariant.3).explained
 
 pub returns-clause-sleeps : goal.returns-clause-sleeps
-returns-clause-sleeps c = λ on.
-    let s = state_of c.args.self.now in
-    let es = c.args.events.now in
-    let start = c.fresh-fresh.ensures.start on in
-    let all : take c.loop-event.event-index es ≡ es = take_all c.loop-event.event-index es (omega arith) in
-    subst (λ (ns : List Note). TellsAtEachMoment c.args.self.now.layout s es ns) (sym (c.loop-event.invariant.3 ∙ ap (notes s) all)) (tells_each_moment s c.args.self.now.layout start.counters es start.layout start.is)
+returns-clause-sleeps c = λ on. (whole_run c.args.self.now c.args.events.now c.loop-event.notes.items c.loop-event.event-index (c.fresh-fresh.ensures.start on) (omega arith) c.loop-event.invariant.3).sleeps
+
+pub returns-clause-passed : goal.returns-clause-passed
+returns-clause-passed c = λ on. (whole_run c.args.self.now c.args.events.now c.loop-event.notes.items c.loop-event.event-index (c.fresh-fresh.ensures.start on) (omega arith) c.loop-event.invariant.3).passed
 
 pub returns-clause-goes_on : goal.returns-clause-goes_on
 returns-clause-goes_on c = λ n. reached_goes_on c.args.self.now (take n c.args.events.now) c.reached.ensures

@@ -1,0 +1,30 @@
+-- What holds of every run of the machine, wherever threads are killed.
+use Rattle.std.specs.Prelude.{ℕ, ◌≡◌, List, take}
+use Rattle.protocol.specs.declared.event.Event.{Event}
+use Rattle.protocol.specs.declared.note.Note.{Note}
+use Rattle.protocol.specs.Machine.{State, run, notes}
+use Rattle.protocol.specs.Sleepers.{GoesOn}
+use Rattle.protocol.specs.Deaths.{AreMourned}
+use Rattle.protocol.specs.Headline.{NoReapedOwns}
+use Rattle.protocol.specs.Explained.{IsExplained}
+use Rattle.protocol.specs.PassedBy.{PassesNobody}
+use Rattle.interleave.specs.Reached.{AtEachMoment, TellsAtEachMoment}
+
+-- from state s these events led on, and this was told of them: a legal history of robust mutexes, in which each call is explained, nobody who sleeps is stranded, and nobody who died owns a mutex once reaped
+pub record IsLegalRun (s : State) (events : List Event) (told : List Note) : Type 0 where
+  -- each event was noted, once and in its order, as what it did
+  pub noted : told ≡ notes s events
+  -- after each event the points and deaths told so far are one legal history: they lead from free mutexes to what each cell says of its owner, OWNER_DIED and UNUSABLE
+  pub history : AtEachMoment s events told
+  -- a call that returned had one point, between its begin and its return, and returned that point's reply; a wait that isn't refused had an unlock and then a lock; no point belongs to any other call
+  pub explained : IsExplained events told
+  -- after each event a thread stands in a queue exactly where the last of its sleeps, moves, wakes and kills told so far is a sleep or a move, in the one that this names
+  pub sleeps : TellsAtEachMoment s.layout s events told
+  -- no wait that released its mutex before a signal or a broadcast counted falls asleep there behind it, and a broadcast's move leaves nobody in its condition variable's queue
+  pub passed : PassesNobody s events
+  -- after each event some awake thread owes whoever sleeps on a mutex that nobody owns, whoever is awake and runs alone comes to rest, and a call that no other event divides returns what its object replies, or sleeps
+  pub goes_on : (n : ℕ) → GoesOn (run s (take n events))
+  -- after each event a thread that was reaped owns no mutex
+  pub reaped : (n : ℕ) → NoReapedOwns (run s (take n events))
+  -- a killed thread's death is told, once, of each mutex that it owned then and has lost since, and of no other
+  pub deaths : AreMourned s events
