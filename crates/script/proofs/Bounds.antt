@@ -9,21 +9,24 @@ use Rattle.std.proofs.lemmas.Bool.{leb-true}
 use Rattle.std.proofs.lemmas.Bool.Decides.{nat_tests}
 use Rattle.std.proofs.lemmas.List.Elements.{All-nil, All-push}
 use Rattle.std.proofs.lemmas.List.Quantifiers.{position-Some}
-use Rattle.mutex.specs.Calls.{mutex_of}
-use Rattle.mutex.specs.declared.call.Call.{Call}
+use Rattle.protocol.specs.declared.event.Op.{Op}
+use Rattle.protocol.specs.declared.event.Op.TheVariants.{OnMutex, OnCondition}
 use Rattle.mutex.specs.declared.call.Call.TheVariants as call
-use Rattle.script.specs.Forms.{CallForm, lock, trylock, unlock, consistent, Form, silent, thread, mutex, mutexes, begins, steps, kills, goes, calls, locks, phase, form_of, of_mode, has, words_form, or_else, name_form, step_form, mutexes_form, locks_form, call_form, calling_form, is_silent, is_name, is_stem}
+use Rattle.condvar.specs.declared.call.CondCall.TheVariants as on
+use Rattle.script.specs.Forms.{CallForm, lock, trylock, unlock, consistent, wait, signal, broadcast, Form, silent, thread, mutex, mutexes, cond, begins, steps, kills, goes, calls, locks, phase, form_of, of_mode, has, words_form, or_else, name_form, step_form, mutexes_form, locks_form, cond_form, call_form, calling_form, is_silent, is_name, is_stem}
 use Rattle.lines.specs.Numbers.{is_number, within}
 use Rattle.lines.specs.Lines.{words_of}
-use Rattle.script.specs.Scope.{Scope, IsPossible, IsWithinLimits}
-use Rattle.script.specs.Reading.{refuse, place_of, is_declared, added, numbered, is_numbered, several, declares, thread_of, call_of, first_of, begun, stepped, killed, gone, made, locked, with_action, enter, line_read}
+use Rattle.script.specs.Scope.{Scope, Names, IsPossible, IsCondition, IsWithinLimits}
+use Rattle.script.specs.Reading.{refuse, place_of, is_declared, condition_names, with_condition, added, numbered, is_numbered, several, declares, condition_declared, thread_of, call_of, first_of, begun, stepped, killed, gone, made, locked, with_action, enter, line_read}
 use Rattle.lines.specs.Faults.{◌>>=◌}
 use Rattle.script.specs.declared.command.Mode.{Mode}
 use Rattle.script.specs.declared.command.Action.{Action}
 use Rattle.script.specs.declared.command.Action.TheVariants as action
 use Rattle.script.specs.declared.fault.Fault.{Fault}
 use Rattle.script.specs.declared.fault.Fault.TheVariants.{UnknownWord, OutOfRange, NoSuchName, TooLong}
-use Rattle.script.specs.Limits.{max_lines, max_threads, max_mutexes, max_steps}
+use Rattle.script.specs.declared.command.Condition.{Condition}
+use Rattle.script.specs.Limits.{max_lines, max_threads, max_mutexes, max_conditions, max_counter, max_steps}
+use Rattle.script.proofs.Names.{length-map_of}
 
 -- what holds of the first thing's value serves the second
 chain : {A B : Type 0} (r : Result A Fault) (f : A → Result B Fault) (P : A → Type 0) (Q : B → Type 0) → IfOk r P → ((x : A) → P x → IfOk (f x) Q) → IfOk (r >>= f) Q
@@ -42,19 +45,19 @@ placed w names = by_cases (position (λ n. bytes_eq w n) names) (λ i h. (positi
   by_cases (Some i) h = h i refl
 
 -- a name more is still within the limit
-grown : (limit : ℕ) (names : List (List ℕ)) (w : List ℕ) → IfOk (added limit names w) (λ ns. length ns ≤ limit)
-grown limit names w = refused (nat_le limit (length names)) OutOfRange (refuse (is_declared w names) NoSuchName (Ok (names ++ w ∷ []))) (λ ns. length ns ≤ limit)
-    (λ room. refused (is_declared w names) NoSuchName (Ok (names ++ w ∷ [])) (λ ns. length ns ≤ limit) (λ new. rw (length-append names (w ∷ [])) (grind (arith, nat_tests))))
+grown : (limit : ℕ) (names : List (List ℕ)) (w : List ℕ) → IfOk (added limit names w) (λ ns. (length names ≤ length ns) × (length ns ≤ limit))
+grown limit names w = refused (nat_le limit (length names)) OutOfRange (refuse (is_declared w names) NoSuchName (Ok (names ++ w ∷ []))) (λ ns. (length names ≤ length ns) × (length ns ≤ limit))
+    (λ room. refused (is_declared w names) NoSuchName (Ok (names ++ w ∷ [])) (λ ns. (length names ≤ length ns) × (length ns ≤ limit)) (λ new. rw (length-append names (w ∷ [])) (omega arith, grind (arith, nat_tests))))
 
 -- so many numbered names
 length-numbered : (w : List ℕ) (n : ℕ) → length (numbered w n) ≡ n
 length-numbered w zero = refl
 length-numbered w (suc n) = let fewer = length-numbered w n in omega (arith, length-append (numbered w n) ((w ++ decimal n) ∷ []))
 
-grown_by : (limit : ℕ) (names : List (List ℕ)) (w : List ℕ) (n : ℕ) → IfOk (several limit names w n) (λ ns. length ns ≤ limit)
-grown_by limit names w n = refused (nat_lt limit (length names + n)) OutOfRange (refuse (list_any (λ name. is_numbered w n name) names) NoSuchName (Ok (names ++ numbered w n))) (λ ns. length ns ≤ limit)
-    (λ room. refused (list_any (λ name. is_numbered w n name) names) NoSuchName (Ok (names ++ numbered w n)) (λ ns. length ns ≤ limit)
-    (λ new. rw (length-append names (numbered w n), length-numbered w n) (grind (arith, nat_tests))))
+grown_by : (limit : ℕ) (names : List (List ℕ)) (w : List ℕ) (n : ℕ) → IfOk (several limit names w n) (λ ns. (length names ≤ length ns) × (length ns ≤ limit))
+grown_by limit names w n = refused (nat_lt limit (length names + n)) OutOfRange (refuse (list_any (λ name. is_numbered w n name) names) NoSuchName (Ok (names ++ numbered w n))) (λ ns. (length names ≤ length ns) × (length ns ≤ limit))
+    (λ room. refused (list_any (λ name. is_numbered w n name) names) NoSuchName (Ok (names ++ numbered w n)) (λ ns. (length names ≤ length ns) × (length ns ≤ limit))
+    (λ new. rw (length-append names (numbered w n), length-numbered w n) (omega arith, grind (arith, nat_tests))))
 
 -- no command came before a declaration
 unused : {A : Type 0} (P : A → Type 0) (xs : List A) → not (length xs == 0) ≡ false → All P xs
@@ -64,11 +67,15 @@ unused P (x ∷ xs) h = absurd (grind (arith, nat_tests))
 threaded : (s : Scope) (t : List ℕ) → IfOk (thread_of s t) (λ i. (1 ≤ i) × (i ≤ length s.threads))
 threaded s t = chain (place_of t s.threads) (λ i. Ok (i + 1)) (λ i. i < length s.threads) (λ i. (1 ≤ i) × (i ≤ length s.threads)) (placed t s.threads) (λ i h. (omega arith, omega arith))
 
-called : (s : Scope) (c : CallForm) → IfOk (call_of s c) (λ k. mutex_of k < length s.mutexes)
-called s (lock m) = chain (place_of m s.mutexes) (λ j. Ok (call.Lock j)) (λ j. j < length s.mutexes) (λ k. mutex_of k < length s.mutexes) (placed m s.mutexes) (λ j h. h)
-called s (trylock m) = chain (place_of m s.mutexes) (λ j. Ok (call.TryLock j)) (λ j. j < length s.mutexes) (λ k. mutex_of k < length s.mutexes) (placed m s.mutexes) (λ j h. h)
-called s (unlock m) = chain (place_of m s.mutexes) (λ j. Ok (call.Unlock j)) (λ j. j < length s.mutexes) (λ k. mutex_of k < length s.mutexes) (placed m s.mutexes) (λ j h. h)
-called s (consistent m) = chain (place_of m s.mutexes) (λ j. Ok (call.Consistent j)) (λ j. j < length s.mutexes) (λ k. mutex_of k < length s.mutexes) (placed m s.mutexes) (λ j h. h)
+-- a call names a mutex or a condition variable of the script
+called : (s : Scope) (c : CallForm) → IfOk (call_of s c) (Names (length s.mutexes) (length s.conditions))
+called s (lock m) = chain (place_of m s.mutexes) (λ j. Ok (OnMutex (call.Lock j))) (λ j. j < length s.mutexes) (Names (length s.mutexes) (length s.conditions)) (placed m s.mutexes) (λ j h. h)
+called s (trylock m) = chain (place_of m s.mutexes) (λ j. Ok (OnMutex (call.TryLock j))) (λ j. j < length s.mutexes) (Names (length s.mutexes) (length s.conditions)) (placed m s.mutexes) (λ j h. h)
+called s (unlock m) = chain (place_of m s.mutexes) (λ j. Ok (OnMutex (call.Unlock j))) (λ j. j < length s.mutexes) (Names (length s.mutexes) (length s.conditions)) (placed m s.mutexes) (λ j h. h)
+called s (consistent m) = chain (place_of m s.mutexes) (λ j. Ok (OnMutex (call.Consistent j))) (λ j. j < length s.mutexes) (Names (length s.mutexes) (length s.conditions)) (placed m s.mutexes) (λ j h. h)
+called s (wait c) = chain (place_of c (condition_names s)) (λ k. Ok (OnCondition (on.Wait k))) (λ k. k < length (condition_names s)) (Names (length s.mutexes) (length s.conditions)) (placed c (condition_names s)) (λ k h. omega (arith, h, length-map_of (λ d. d.0) s.conditions))
+called s (signal c) = chain (place_of c (condition_names s)) (λ k. Ok (OnCondition (on.Signal k))) (λ k. k < length (condition_names s)) (Names (length s.mutexes) (length s.conditions)) (placed c (condition_names s)) (λ k h. omega (arith, h, length-map_of (λ d. d.0) s.conditions))
+called s (broadcast c) = chain (place_of c (condition_names s)) (λ k. Ok (OnCondition (on.Broadcast k))) (λ k. k < length (condition_names s)) (Names (length s.mutexes) (length s.conditions)) (placed c (condition_names s)) (λ k h. omega (arith, h, length-map_of (λ d. d.0) s.conditions))
 
 -- the mutexes of a `locks` are declared
 reached : (s : Scope) (m : List ℕ) (n : ℕ) → IfOk (first_of s m n) (λ j. j + n ≤ length s.mutexes)
@@ -76,28 +83,31 @@ reached s m n = chain (place_of m s.mutexes) (λ j. refuse (nat_lt (length s.mut
     (λ j h. refused (nat_lt (length s.mutexes) (j + n)) OutOfRange (Ok j) (λ i. i + n ≤ length s.mutexes) (λ room. grind (arith, nat_tests)))
 
 -- a possible action more
-appended : (n : ℕ) (s : Scope) (a : Action) → IsWithinLimits s → IsPossible (length s.threads) (length s.mutexes) a → IsWithinLimits (with_action n s a)
+appended : (n : ℕ) (s : Scope) (a : Action) → IsWithinLimits s → IsPossible (length s.threads) (length s.mutexes) (length s.conditions) a → IsWithinLimits (with_action n s a)
 appended n s a h p = record {
   threads_at_most = h.threads_at_most;
   mutexes_at_most = h.mutexes_at_most;
-  commands_possible = All-push (λ c. IsPossible (length s.threads) (length s.mutexes) c.action) s.commands (record { line = n; action = a }) h.commands_possible p;
+  conditions_at_most = h.conditions_at_most;
+  conditions_possible = h.conditions_possible;
+  commands_possible = All-push (λ c. IsPossible (length s.threads) (length s.mutexes) (length s.conditions) c.action) s.commands (record { line = n; action = a }) h.commands_possible p;
 }
 
 -- a count that a line gives is in its range
 abbrev IsFit : Form → Type 0
 IsFit (steps t count) = IfSome count (λ n. (1 ≤ n) × (n ≤ max_steps))
+IsFit (cond c m count) = IfSome count (λ n. (0 ≤ n) × (n ≤ max_counter))
 IsFit (locks t m count) = IfSome count (λ n. (1 ≤ n) × (n ≤ max_mutexes))
 IsFit f = Unit {0}
 
 -- an action that the script may have
 abbrev May : Scope → Action → Type 0
-May s a = IsPossible (length s.threads) (length s.mutexes) a
+May s a = IsPossible (length s.threads) (length s.mutexes) (length s.conditions) a
 
 -- what a command asks for: its parts were looked up among what the script has
-calling : (s : Scope) (t : List ℕ) (c : CallForm) (make : ℕ → Call → Action) → ((i : ℕ) (k : Call) → 1 ≤ i → i ≤ length s.threads → mutex_of k < length s.mutexes → May s (make i k))
+calling : (s : Scope) (t : List ℕ) (c : CallForm) (make : ℕ → Op → Action) → ((i : ℕ) (k : Op) → 1 ≤ i → i ≤ length s.threads → Names (length s.mutexes) (length s.conditions) k → May s (make i k))
     → IfOk (thread_of s t >>= λ i. call_of s c >>= λ k. Ok (make i k)) (May s)
 calling s t c make possible = chain (thread_of s t) (λ i. call_of s c >>= λ k. Ok (make i k)) (λ i. (1 ≤ i) × (i ≤ length s.threads)) (May s) (threaded s t)
-    (λ i low. chain (call_of s c) (λ k. Ok (make i k)) (λ k. mutex_of k < length s.mutexes) (May s) (called s c) (λ k few. possible i k low.0 low.1 few))
+    (λ i low. chain (call_of s c) (λ k. Ok (make i k)) (Names (length s.mutexes) (length s.conditions)) (May s) (called s c) (λ k few. possible i k low.0 low.1 few))
 
 of_thread : (s : Scope) (t : List ℕ) (make : ℕ → Action) → ((i : ℕ) → 1 ≤ i → i ≤ length s.threads → May s (make i))
     → IfOk (thread_of s t >>= λ i. Ok (make i)) (May s)
@@ -121,14 +131,18 @@ with_threads : (s : Scope) (names : List (List ℕ)) → IsWithinLimits s → no
 with_threads s names h unused_yet few = record {
   threads_at_most = few;
   mutexes_at_most = h.mutexes_at_most;
-  commands_possible = unused (λ c. IsPossible (length names) (length s.mutexes) c.action) s.commands unused_yet;
+  conditions_at_most = h.conditions_at_most;
+  conditions_possible = h.conditions_possible;
+  commands_possible = unused (λ c. IsPossible (length names) (length s.mutexes) (length s.conditions) c.action) s.commands unused_yet;
 }
 
-with_mutexes : (s : Scope) (names : List (List ℕ)) → IsWithinLimits s → not (length s.commands == 0) ≡ false → length names ≤ max_mutexes → IsWithinLimits (record s { mutexes = names })
-with_mutexes s names h unused_yet few = record {
+with_mutexes : (s : Scope) (names : List (List ℕ)) → IsWithinLimits s → not (length s.commands == 0) ≡ false → length s.mutexes ≤ length names → length names ≤ max_mutexes → IsWithinLimits (record s { mutexes = names })
+with_mutexes s names h unused_yet more few = record {
   threads_at_most = h.threads_at_most;
   mutexes_at_most = few;
-  commands_possible = unused (λ c. IsPossible (length s.threads) (length names) c.action) s.commands unused_yet;
+  conditions_at_most = h.conditions_at_most;
+  conditions_possible = λ i c lt. let old = h.conditions_possible i c lt in let its = old.0 in (omega arith, old.1);
+  commands_possible = unused (λ c. IsPossible (length s.threads) (length names) (length s.conditions) c.action) s.commands unused_yet;
 }
 
 declared : (s : Scope) → IfOk (declares s) (λ _. not (length s.commands == 0) ≡ false)
@@ -136,13 +150,13 @@ declared s = refused (not (length s.commands == 0)) UnknownWord (Ok tt) (λ _. n
 
 declaring_thread : (s : Scope) (w : List ℕ) → IsWithinLimits s → IfOk (declares s >>= λ _. added max_threads s.threads w >>= λ names. Ok (record s { threads = names })) IsWithinLimits
 declaring_thread s w h = chain (declares s) (λ _. added max_threads s.threads w >>= λ names. Ok (record s { threads = names })) (λ _. not (length s.commands == 0) ≡ false) IsWithinLimits (declared s)
-    (λ _ unused_yet. chain (added max_threads s.threads w) (λ names. Ok (record s { threads = names })) (λ names. length names ≤ max_threads) IsWithinLimits (grown max_threads s.threads w)
-    (λ names few. with_threads s names h unused_yet few))
+    (λ _ unused_yet. chain (added max_threads s.threads w) (λ names. Ok (record s { threads = names })) (λ names. (length s.threads ≤ length names) × (length names ≤ max_threads)) IsWithinLimits (grown max_threads s.threads w)
+    (λ names few. with_threads s names h unused_yet few.1))
 
 declaring_mutex : (s : Scope) (w : List ℕ) → IsWithinLimits s → IfOk (declares s >>= λ _. added max_mutexes s.mutexes w >>= λ names. Ok (record s { mutexes = names })) IsWithinLimits
 declaring_mutex s w h = chain (declares s) (λ _. added max_mutexes s.mutexes w >>= λ names. Ok (record s { mutexes = names })) (λ _. not (length s.commands == 0) ≡ false) IsWithinLimits (declared s)
-    (λ _ unused_yet. chain (added max_mutexes s.mutexes w) (λ names. Ok (record s { mutexes = names })) (λ names. length names ≤ max_mutexes) IsWithinLimits (grown max_mutexes s.mutexes w)
-    (λ names few. with_mutexes s names h unused_yet few))
+    (λ _ unused_yet. chain (added max_mutexes s.mutexes w) (λ names. Ok (record s { mutexes = names })) (λ names. (length s.mutexes ≤ length names) × (length names ≤ max_mutexes)) IsWithinLimits (grown max_mutexes s.mutexes w)
+    (λ names few. with_mutexes s names h unused_yet few.0 few.1))
 
 declaring_mutexes : (s : Scope) (w : List ℕ) (count : Option ℕ) → IsWithinLimits s
     → IfOk (declares s >>= λ _. ok_or count OutOfRange >>= λ k. several max_mutexes s.mutexes w k >>= λ names. Ok (record s { mutexes = names })) IsWithinLimits
@@ -150,14 +164,36 @@ declaring_mutexes s w count h = chain (declares s) (λ _. ok_or count OutOfRange
     (λ _ unused_yet. by_cases count unused_yet) where
       by_cases : (o : Option ℕ) → not (length s.commands == 0) ≡ false → IfOk (ok_or o OutOfRange >>= λ k. several max_mutexes s.mutexes w k >>= λ names. Ok (record s { mutexes = names })) IsWithinLimits
       by_cases None unused_yet = tt
-      by_cases (Some k) unused_yet = chain (several max_mutexes s.mutexes w k) (λ names. Ok (record s { mutexes = names })) (λ names. length names ≤ max_mutexes) IsWithinLimits (grown_by max_mutexes s.mutexes w k)
-          (λ names few. with_mutexes s names h unused_yet few)
+      by_cases (Some k) unused_yet = chain (several max_mutexes s.mutexes w k) (λ names. Ok (record s { mutexes = names })) (λ names. (length s.mutexes ≤ length names) × (length names ≤ max_mutexes)) IsWithinLimits (grown_by max_mutexes s.mutexes w k)
+          (λ names few. with_mutexes s names h unused_yet few.0 few.1)
+
+-- a condition variable more
+with_one : (s : Scope) (w : List ℕ) (m n : ℕ) → IsWithinLimits s → not (length s.commands == 0) ≡ false → nat_le max_conditions (length s.conditions) ≡ false → m < length s.mutexes → n ≤ max_counter → IfOk (with_condition s w m n) IsWithinLimits
+with_one s w m n h unused_yet room its small =
+    let d : Condition = record { mutex = m; counter = n } in
+    refused (is_declared w (condition_names s)) NoSuchName (Ok (record s { conditions = s.conditions ++ (w, d) ∷ [] })) IsWithinLimits (λ new. record {
+      threads_at_most = h.threads_at_most;
+      mutexes_at_most = h.mutexes_at_most;
+      conditions_at_most = rw (length-append s.conditions ((w, d) ∷ [])) (grind (arith, nat_tests));
+      conditions_possible = All-push (λ c. IsCondition (length s.mutexes) c.1) s.conditions (w, d) h.conditions_possible (its, small);
+      commands_possible = unused (λ c. IsPossible (length s.threads) (length s.mutexes) (length (s.conditions ++ (w, d) ∷ [])) c.action) s.commands unused_yet;
+    })
+
+declaring_condition : (s : Scope) (w m : List ℕ) (count : Option ℕ) → IsWithinLimits s → IfSome count (λ n. (0 ≤ n) × (n ≤ max_counter)) → IfOk (condition_declared s w m count) IsWithinLimits
+declaring_condition s w m None h range = chain (declares s) (λ _. ok_or None OutOfRange >>= λ n. refuse (nat_le max_conditions (length s.conditions)) OutOfRange (place_of m s.mutexes >>= λ j. with_condition s w j n))
+    (λ _. not (length s.commands == 0) ≡ false) IsWithinLimits (declared s) (λ _ unused_yet. tt)
+declaring_condition s w m (Some n) h range = chain (declares s) (λ _. refuse (nat_le max_conditions (length s.conditions)) OutOfRange (place_of m s.mutexes >>= λ j. with_condition s w j n))
+    (λ _. not (length s.commands == 0) ≡ false) IsWithinLimits (declared s)
+    (λ _ unused_yet. refused (nat_le max_conditions (length s.conditions)) OutOfRange (place_of m s.mutexes >>= λ j. with_condition s w j n) IsWithinLimits
+    (λ room. chain (place_of m s.mutexes) (λ j. with_condition s w j n) (λ j. j < length s.mutexes) IsWithinLimits (placed m s.mutexes)
+    (λ j its. with_one s w j n h unused_yet room its range.1)))
 
 entered : (n : ℕ) (s : Scope) (f : Form) → IsWithinLimits s → IsFit f → IfOk (enter n s f) IsWithinLimits
 entered n s silent h k = h
 entered n s (thread w) h k = declaring_thread s w h
 entered n s (mutex w) h k = declaring_mutex s w h
 entered n s (mutexes w count) h k = declaring_mutexes s w count h
+entered n s (cond w m count) h k = declaring_condition s w m count h k
 entered n s (begins t c) h k = may_ask n s (begun s t c) h (calling s t c (λ i x. action.Begin i x) (λ i x low high few. (low, high, few)))
 entered n s (steps t count) h k = may_ask n s (stepped s t count) h (stepping s t count k)
 entered n s (kills t) h k = may_ask n s (killed s t) h (of_thread s t (λ i. action.Kill i) (λ i low high. (low, high)))
@@ -175,9 +211,9 @@ first : (x y : Option Form) → IfSome x IsFit → IfSome y IsFit → IfSome (or
 first (Some f) y p q = p
 first None y p q = q
 
-in_range : (most n : ℕ) → IfSome (within 1 most n) (λ k. (1 ≤ k) × (k ≤ most))
-in_range most n = by_cases (nat_le 1 n) (nat_le n most) (λ e. leb-true _ _ e) (λ e. leb-true _ _ e) where
-  by_cases : (low high : Bool) → (low ≡ true → 1 ≤ n) → (high ≡ true → n ≤ most) → IfSome (if low && high then Some n else None) (λ k. (1 ≤ k) × (k ≤ most))
+in_range : (least most n : ℕ) → IfSome (within least most n) (λ k. (least ≤ k) × (k ≤ most))
+in_range least most n = by_cases (nat_le least n) (nat_le n most) (λ e. leb-true _ _ e) (λ e. leb-true _ _ e) where
+  by_cases : (low high : Bool) → (low ≡ true → least ≤ n) → (high ≡ true → n ≤ most) → IfSome (if low && high then Some n else None) (λ k. (least ≤ k) × (k ≤ most))
   by_cases true true p q = (p refl, q refl)
   by_cases true false p q = tt
   by_cases false high p q = tt
@@ -187,13 +223,16 @@ fit_name w a = either (not (is_name a)) None _ tt (either (bytes_eq w _) (Some (
     (either (bytes_eq w _) (Some (kills a)) _ tt (either (bytes_eq w _) (Some (goes a)) None tt tt))))
 
 fit_step : (w t n : List ℕ) → IfSome (step_form w t n) IsFit
-fit_step w t n = either (bytes_eq w _ && is_name t && is_number n) (Some (steps t (within 1 max_steps (digits_value 10 n)))) None (in_range max_steps (digits_value 10 n)) tt
+fit_step w t n = either (bytes_eq w _ && is_name t && is_number n) (Some (steps t (within 1 max_steps (digits_value 10 n)))) None (in_range 1 max_steps (digits_value 10 n)) tt
 
 fit_mutexes : (w a n : List ℕ) → IfSome (mutexes_form w a n) IsFit
 fit_mutexes w a n = either (bytes_eq w _ && is_stem a && is_number n) (Some (mutexes a (within 1 max_mutexes (digits_value 10 n)))) None tt tt
 
 fit_locks : (w t m n : List ℕ) → IfSome (locks_form w t m n) IsFit
-fit_locks w t m n = either (bytes_eq w _ && is_name t && is_name m && is_number n) (Some (locks t m (within 1 max_mutexes (digits_value 10 n)))) None (in_range max_mutexes (digits_value 10 n)) tt
+fit_locks w t m n = either (bytes_eq w _ && is_name t && is_name m && is_number n) (Some (locks t m (within 1 max_mutexes (digits_value 10 n)))) None (in_range 1 max_mutexes (digits_value 10 n)) tt
+
+fit_cond : (w c m n : List ℕ) → IfSome (cond_form w c m n) IsFit
+fit_cond w c m n = either (bytes_eq w _ && is_name c && is_name m && is_number n) (Some (cond c m (within 0 max_counter (digits_value 10 n)))) None (in_range 0 max_counter (digits_value 10 n)) tt
 
 fit_call : (w t : List ℕ) (c : Option CallForm) → IfSome (option_and_then (calling_form w t) c) IsFit
 fit_call w t None = tt
@@ -204,7 +243,8 @@ fit_words [] = tt
 fit_words (w ∷ []) = either (bytes_eq w _) (Some phase) None tt tt
 fit_words (w ∷ a ∷ []) = fit_name w a
 fit_words (w ∷ a ∷ n ∷ []) = first (step_form w a n) (mutexes_form w a n) (fit_step w a n) (fit_mutexes w a n)
-fit_words (w ∷ t ∷ c ∷ m ∷ []) = first (locks_form w t c m) (option_and_then (calling_form w t) (call_form c m)) (fit_locks w t c m) (fit_call w t (call_form c m))
+fit_words (w ∷ t ∷ c ∷ m ∷ []) = first (locks_form w t c m) (or_else (cond_form w t c m) (option_and_then (calling_form w t) (call_form c m))) (fit_locks w t c m)
+    (first (cond_form w t c m) (option_and_then (calling_form w t) (call_form c m)) (fit_cond w t c m) (fit_call w t (call_form c m)))
 fit_words (w ∷ t ∷ c ∷ m ∷ x ∷ more) = tt
 
 -- a mode has fewer forms

@@ -1,4 +1,6 @@
 pub mod Names
+mod Conditions
+mod Firsts
 pub mod Numbered
 pub mod Lines
 pub mod Bounds

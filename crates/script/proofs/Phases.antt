@@ -10,6 +10,7 @@ use Rattle.std.proofs.lemmas.List.Concat.{flat_map-append}
 use Rattle.std.proofs.lemmas.List.Sums.{prefix_len-le-length}
 use Rattle.std.proofs.lemmas.List.Splits.{slice_split_first}
 use Rattle.mutex.specs.declared.call.Call.{Call}
+use Rattle.protocol.specs.declared.event.Op.TheVariants.{OnMutex}
 use Rattle.script.specs.declared.command.Action.{Action}
 use Rattle.script.specs.declared.command.Action.TheVariants as action
 use Rattle.script.specs.declared.command.Command.{Command}
@@ -59,7 +60,7 @@ pub none_pushed : (n : ℕ) (vs : List (Vec Call Global)) (v : Vec Call Global) 
 none_pushed n vs v e h = rw (map_push (λ x. x.items) vs v, e) (none_more n (lists_seen vs) h)
 
 -- a call of thread j + 1 more
-pub call_more : (n j : ℕ) (cs : List Command) (c : Command) (k : Call) (ls : List (List Call)) → j < length ls → c.action ≡ action.Call (j + 1) k → AreCalls n cs ls → AreCalls n (cs ++ c ∷ []) (set ls j (get_or ls j [] ++ k ∷ []))
+pub call_more : (n j : ℕ) (cs : List Command) (c : Command) (k : Call) (ls : List (List Call)) → j < length ls → c.action ≡ action.Call (j + 1) (OnMutex k) → AreCalls n cs ls → AreCalls n (cs ++ c ∷ []) (set ls j (get_or ls j [] ++ k ∷ []))
 call_more n j cs c k ls lt is h = record {
   as_many = length-set ls j (get_or ls j [] ++ k ∷ []) ∙ h.as_many;
   each = λ i few. by_cases i few (i == j) refl;
@@ -80,12 +81,12 @@ call_more n j cs c k ls lt is h = record {
       ∙ ap (λ (a : Action). calls_by (i + 1) cs ++ call_by (i + 1) a) (sym is) ∙ sym (calls_push (i + 1) cs c)
 
 -- the same of the code's lists
-pub call_pushed : (n j t : ℕ) (cs : List Command) (c : Command) (k : Call) (vs : List (Vec Call Global)) (old new : Vec Call Global) → j < length vs → old ≡ get_or vs j old → new.items ≡ old.items ++ k ∷ [] → t ≡ j + 1 → c.action ≡ action.Call t k
+pub call_pushed : (n j t : ℕ) (cs : List Command) (c : Command) (k : Call) (vs : List (Vec Call Global)) (old new : Vec Call Global) → j < length vs → old ≡ get_or vs j old → new.items ≡ old.items ++ k ∷ [] → t ≡ j + 1 → c.action ≡ action.Call t (OnMutex k)
     → AreCalls n cs (lists_seen vs) → AreCalls n (cs ++ c ∷ []) (lists_seen (set vs j new))
 call_pushed n j t cs c k vs old new lt at grown its is h =
     let theirs : get_or (lists_seen vs) j [] ≡ old.items = get_or-map (λ v. v.items) vs j old [] lt ∙ ap (λ (v : Vec Call Global). v.items) (sym at) in
     let whole : lists_seen (set vs j new) ≡ set (lists_seen vs) j (get_or (lists_seen vs) j [] ++ k ∷ []) = map-set (λ v. v.items) vs j new ∙ ap (λ (x : List Call). set (lists_seen vs) j x) (grown ∙ ap (λ (x : List Call). x ++ k ∷ []) (sym theirs)) in
-    rw whole (call_more n j cs c k (lists_seen vs) (omega (arith, length-map_of (λ v. v.items) vs, lt)) (is ∙ ap (λ (u : ℕ). action.Call u k) its) h)
+    rw whole (call_more n j cs c k (lists_seen vs) (omega (arith, length-map_of (λ v. v.items) vs, lt)) (is ∙ ap (λ (u : ℕ). action.Call u (OnMutex k)) its) h)
 
 -- ---- the jobs of a phase
 

@@ -9,6 +9,7 @@ use Rattle.protocol.specs.declared.event.Event.TheVariants as event
 use Rattle.protocol.specs.declared.note.Note.{Note}
 use Rattle.protocol.specs.Machine.{State, happens, run, notes}
 use Rattle.mutex.specs.declared.call.Call.TheVariants.{Lock}
+use Rattle.protocol.specs.declared.event.Op.TheVariants.{OnMutex}
 use Rattle.script.specs.declared.command.Action.{Action}
 use Rattle.script.specs.declared.command.Action.TheVariants as action
 use Rattle.script.specs.declared.command.Command.{Command}
@@ -130,9 +131,9 @@ begins_way s ns t fits = record { so_far = (refl, sym (append-nil ns), omega ari
 
 -- ---- locks of one thread
 
-locking_now : (s : State) (t m n : ℕ) → 0 < n → locking s t m n ≡ calling s t (Lock m) ++ locking (run s (calling s t (Lock m))) t (m + 1) (n - 1)
+locking_now : (s : State) (t m n : ℕ) → 0 < n → locking s t m n ≡ calling s t (OnMutex (Lock m)) ++ locking (run s (calling s t (OnMutex (Lock m)))) t (m + 1) (n - 1)
 locking_now s t m zero some = absurd (omega arith)
-locking_now s t m (suc n) some = let one : suc n - 1 ≡ n = omega arith in λ i. calling s t (Lock m) ++ locking (run s (calling s t (Lock m))) t (sym (add-one m) i) (sym one i)
+locking_now s t m (suc n) some = let one : suc n - 1 ≡ n = omega arith in λ i. calling s t (OnMutex (Lock m)) ++ locking (run s (calling s t (OnMutex (Lock m)))) t (sym (add-one m) i) (sym one i)
 
 -- where the loop over the mutexes is after k of them
 pub record IsLocking (s s' : State) (ns ns' : List Note) (t m n k : ℕ) : Type 0 where
@@ -152,27 +153,27 @@ locks_room s s' ns ns' t m n k h =
     let fits = h.so_far.2 in omega arith
 
 locks_left : (s s' : State) (ns ns' : List Note) (t m n k : ℕ) → (h : IsLocking s s' ns ns' t m n k) → k < n
-    → locking s t m n ≡ (h.events ++ calling s' t (Lock (m + k))) ++ locking (run s' (calling s' t (Lock (m + k)))) t (m + (k + 1)) (n - (k + 1))
+    → locking s t m n ≡ (h.events ++ calling s' t (OnMutex (Lock (m + k)))) ++ locking (run s' (calling s' t (OnMutex (Lock (m + k))))) t (m + (k + 1)) (n - (k + 1))
 locks_left s s' ns ns' t m n k h lt =
-    let es = calling s' t (Lock (m + k)) in
+    let es = calling s' t (OnMutex (Lock (m + k))) in
     let next : m + k + 1 ≡ m + (k + 1) = omega arith in
     let fewer : n - k - 1 ≡ n - (k + 1) = omega arith in
     h.left ∙ ap (λ (l : List Event). h.events ++ l) (locking_now s' t (m + k) (n - k) (omega arith))
     ∙ sym (append_assoc h.events es (locking (run s' es) t (m + k + 1) (n - k - 1)))
     ∙ (λ i. (h.events ++ es) ++ locking (run s' es) t (next i) (fewer i))
 
-pub locks_next : (s s' s'' : State) (ns ns' ns'' : List Note) (t m n k : ℕ) → IsLocking s s' ns ns' t m n k → k < n → Adds s' s'' ns' ns'' (calling s' t (Lock (m + k))) (Ok tt) → IsLocking s s'' ns ns'' t m n (k + 1)
+pub locks_next : (s s' s'' : State) (ns ns' ns'' : List Note) (t m n k : ℕ) → IsLocking s s' ns ns' t m n k → k < n → Adds s' s'' ns' ns'' (calling s' t (OnMutex (Lock (m + k)))) (Ok tt) → IsLocking s s'' ns ns'' t m n (k + 1)
 locks_next s s' s'' ns ns' ns'' t m n k h lt a =
-    let es = calling s' t (Lock (m + k)) in
+    let es = calling s' t (OnMutex (Lock (m + k))) in
     record {
       events = h.events ++ es;
       so_far = then_adds s s' s'' ns ns' ns'' h.events es (Ok tt) h.so_far a;
       left = locks_left s s' ns ns' t m n k h lt ∙ ap (λ (z : State). (h.events ++ es) ++ locking z t (m + (k + 1)) (n - (k + 1))) (sym a.0);
     }
 
-pub locks_fail : (s s' s'' : State) (ns ns' ns'' : List Note) (t m n k : ℕ) (f : Fault) → IsLocking s s' ns ns' t m n k → k < n → Adds s' s'' ns' ns'' (calling s' t (Lock (m + k))) (Err f) → Adds s s'' ns ns'' (locking s t m n) (Err f)
+pub locks_fail : (s s' s'' : State) (ns ns' ns'' : List Note) (t m n k : ℕ) (f : Fault) → IsLocking s s' ns ns' t m n k → k < n → Adds s' s'' ns' ns'' (calling s' t (OnMutex (Lock (m + k)))) (Err f) → Adds s s'' ns ns'' (locking s t m n) (Err f)
 locks_fail s s' s'' ns ns' ns'' t m n k f h lt a =
-    let es = calling s' t (Lock (m + k)) in
+    let es = calling s' t (OnMutex (Lock (m + k))) in
     subst (λ (l : List Event). Adds s s'' ns ns'' l (Err f)) (sym (locks_left s s' ns ns' t m n k h lt))
     (adds_fewer s s'' s'' ns ns'' ns'' (h.events ++ es) (locking (run s' es) t (m + (k + 1)) (n - (k + 1))) f (then_adds s s' s'' ns ns' ns'' h.events es (Err f) h.so_far a))
 
@@ -185,19 +186,19 @@ locks_last s s' ns ns' t m n k h done =
 -- ---- commands
 
 -- the mutexes of a possible action are among those that there may be
-has_mutexes : (n m : ℕ) (a : Action) → m ≤ max_mutexes → IsPossible n m a → HasMutexes a
-has_mutexes n m (action.Begin t c) few h = tt
-has_mutexes n m (action.Step t j) few h = tt
-has_mutexes n m (action.Kill t) few h = tt
-has_mutexes n m (action.Go t) few h = tt
-has_mutexes n m (action.Call t c) few h = tt
-has_mutexes n m (action.Locks t j i) few h = let last = h.3 in omega arith
-has_mutexes n m action.Phase few h = tt
+has_mutexes : (n m k : ℕ) (a : Action) → m ≤ max_mutexes → IsPossible n m k a → HasMutexes a
+has_mutexes n m k (action.Begin t c) few h = tt
+has_mutexes n m k (action.Step t j) few h = tt
+has_mutexes n m k (action.Kill t) few h = tt
+has_mutexes n m k (action.Go t) few h = tt
+has_mutexes n m k (action.Call t c) few h = tt
+has_mutexes n m k (action.Locks t j i) few h = let last = h.3 in omega arith
+has_mutexes n m k action.Phase few h = tt
 
 pub locks_have : (s : Scope) (i : ℕ) (c : Command) → IsWellFormed s → i < length s.commands → c ≡ get_or s.commands i c → HasMutexes c.action
 locks_have s i c whole lt is =
-    has_mutexes (length s.threads) (length s.mutexes) c.action whole.within.mutexes_at_most
-    (subst (λ (x : Command). IsPossible (length s.threads) (length s.mutexes) x.action) (sym is) (whole.within.commands_possible i c lt))
+    has_mutexes (length s.threads) (length s.mutexes) (length s.conditions) c.action whole.within.mutexes_at_most
+    (subst (λ (x : Command). IsPossible (length s.threads) (length s.mutexes) (length s.conditions) x.action) (sym is) (whole.within.commands_possible i c lt))
 
 events-append : (s : State) (cs ds : List Command) → events_from s (cs ++ ds) ≡ events_from s cs ++ events_from (run s (events_from s cs)) ds
 events-append s [] ds = refl

@@ -1,19 +1,19 @@
 -- Lines read at other numbers say the same, and silent lines say nothing.
-use Rattle.std.proofs.Common.{◌≡◌, ℕ, ◌+◌, ◌<◌, ◌≤◌, ◌==◌, ◌||◌, Bool, false, true, not, nat_lt, List, [], ◌∷◌, ◌++◌, length, map, Result, Ok, Err, refl, sym, ap, ◌∙◌, arith, length-append}
+use Rattle.std.proofs.Common.{◌≡◌, ℕ, ◌+◌, ◌<◌, ◌≤◌, ◌==◌, ◌||◌, Bool, false, true, not, nat_le, nat_lt, List, [], ◌∷◌, ◌++◌, length, map, Result, Ok, Err, refl, sym, ap, ◌∙◌, arith, length-append}
 use Rattle.std.specs.Option.{ok_or}
 use Rattle.std.proofs.lemmas.Bool.{le-ltb}
-use Rattle.script.specs.Forms.{CallForm, lock, trylock, unlock, consistent, Form, silent, thread, mutex, mutexes, begins, steps, kills, goes, calls, locks, phase, form_of, is_silent}
+use Rattle.script.specs.Forms.{CallForm, lock, trylock, unlock, consistent, wait, signal, broadcast, Form, silent, thread, mutex, mutexes, cond, begins, steps, kills, goes, calls, locks, phase, form_of, is_silent}
 use Rattle.script.specs.Scope.{Scope}
-use Rattle.script.specs.Reading.{refuse, added, several, declares, call_of, begun, stepped, killed, gone, made, locked, with_action, enter, met_at, line_read, finished, lines_read, nothing}
+use Rattle.script.specs.Reading.{refuse, place_of, is_declared, condition_names, added, several, declares, call_of, begun, stepped, killed, gone, made, locked, with_action, enter, met_at, line_read, finished, lines_read, nothing}
 use Rattle.lines.specs.Faults.{◌>>=◌}
 use Rattle.script.specs.Silence.{unplaced, without_lines, outcome, SilentLinesSayNothing}
 use Rattle.script.specs.declared.command.Action.{Action}
 use Rattle.script.specs.declared.command.Action.TheVariants as action
 use Rattle.script.specs.declared.command.Command.{Command}
 use Rattle.script.specs.declared.fault.Fault.{Fault}
-use Rattle.script.specs.declared.fault.Fault.TheVariants.{UnknownWord, OutOfRange}
+use Rattle.script.specs.declared.fault.Fault.TheVariants.{UnknownWord, OutOfRange, NoSuchName}
 use Rattle.script.specs.declared.fault.ScriptFault.{ScriptFault}
-use Rattle.script.specs.Limits.{max_lines, max_threads, max_mutexes}
+use Rattle.script.specs.Limits.{max_lines, max_threads, max_mutexes, max_conditions}
 
 -- one line's outcome
 abbrev meant : Result Scope Fault → Result Scope Fault
@@ -37,11 +37,19 @@ alike : {A : Type 0} (r : Result A Fault) (f g : A → Result Scope Fault) → (
 alike (Ok x) f g h = h x
 alike (Err e) f g h = refl
 
+-- one test before two things
+tested : (b : Bool) (f : Fault) (r q : Result Scope Fault) → meant r ≡ meant q → meant (refuse b f r) ≡ meant (refuse b f q)
+tested true f r q h = refl
+tested false f r q h = h
+
 same_call : (s : Scope) (c : CallForm) → call_of (without_lines s) c ≡ call_of s c
 same_call s (lock m) = refl
 same_call s (trylock m) = refl
 same_call s (unlock m) = refl
 same_call s (consistent m) = refl
+same_call s (wait c) = refl
+same_call s (signal c) = refl
+same_call s (broadcast c) = refl
 
 same_declares : (s : Scope) → declares (without_lines s) ≡ declares s
 same_declares s = rw (same_length s.commands) refl
@@ -62,6 +70,10 @@ same_enter n s (thread w) = rw (same_declares s) (alike (declares s) _ _ (λ _. 
 same_enter n s (mutex w) = rw (same_declares s) (alike (declares s) _ _ (λ _. alike (added max_mutexes s.mutexes w) _ _ (λ names. rw (twice s.commands) refl)))
 same_enter n s (mutexes w count) =
     rw (same_declares s) (alike (declares s) _ _ (λ _. alike (ok_or count OutOfRange) _ _ (λ k. alike (several max_mutexes s.mutexes w k) _ _ (λ names. rw (twice s.commands) refl))))
+same_enter n s (cond w m counter) =
+    rw (same_declares s) (alike (declares s) _ _ (λ _. alike (ok_or counter OutOfRange) _ _ (λ k.
+    tested (nat_le max_conditions (length s.conditions)) OutOfRange _ _ (alike (place_of m s.mutexes) _ _ (λ j.
+    tested (is_declared w (condition_names s)) NoSuchName _ _ (rw (twice s.commands) refl))))))
 same_enter n s (begins t c) = rw (same_begin s t c) (alike (begun s t c) _ _ (λ a. acted n s a))
 same_enter n s (steps t count) = alike (stepped s t count) _ _ (λ a. acted n s a)
 same_enter n s (kills t) = alike (killed s t) _ _ (λ a. acted n s a)

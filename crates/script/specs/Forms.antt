@@ -8,7 +8,7 @@ use Rattle.std.specs.Char.{is_ascii_digit}
 use Rattle.std.specs.Str.Parse.{digits_value}
 use Rattle.script.specs.declared.command.Mode.{Mode}
 use Rattle.script.specs.declared.command.Mode.TheVariants as mode
-use Rattle.script.specs.Limits.{max_name, max_stem, max_steps, max_mutexes}
+use Rattle.script.specs.Limits.{max_name, max_stem, max_steps, max_mutexes, max_counter}
 
 -- a to z
 abbrev pub is_letter : ℕ → Bool
@@ -23,12 +23,15 @@ abbrev pub is_name : List ℕ → Bool
 is_name [] = false
 is_name (b ∷ bs) = is_letter b && nat_lt (length bs) max_name && list_all is_name_byte bs
 
--- a call as a line spells it, with the name of its mutex
+-- a call as a line spells it, with the name of its mutex or of its condition variable
 pub data CallForm : Type 0 where
   lock : List ℕ → CallForm
   trylock : List ℕ → CallForm
   unlock : List ℕ → CallForm
   consistent : List ℕ → CallForm
+  wait : List ℕ → CallForm
+  signal : List ℕ → CallForm
+  broadcast : List ℕ → CallForm
 
 -- the form of a line: its words are of the right kinds; a count out of its range is None
 pub data Form : Type 0 where
@@ -36,6 +39,7 @@ pub data Form : Type 0 where
   thread : List ℕ → Form
   mutex : List ℕ → Form
   mutexes : List ℕ → Option ℕ → Form
+  cond : List ℕ → List ℕ → Option ℕ → Form
   begins : List ℕ → CallForm → Form
   steps : List ℕ → Option ℕ → Form
   kills : List ℕ → Form
@@ -78,13 +82,22 @@ abbrev pub or_else : Option Form → Option Form → Option Form
 or_else (Some f) o = Some f
 or_else None o = o
 
--- CALL: `lock M`, `trylock M`, `unlock M` and `consistent M`
+-- `cond NAME M N`
+abbrev pub cond_form : List ℕ → List ℕ → List ℕ → List ℕ → Option Form
+cond_form w c m n = if bytes_eq w (codes "cond") && is_name c && is_name m && is_number n
+    then Some (cond c m (within 0 max_counter (digits_value 10 n)))
+    else None
+
+-- CALL: `lock M`, `trylock M`, `unlock M` and `consistent M`; `wait C`, `signal C` and `broadcast C`
 abbrev pub call_form : List ℕ → List ℕ → Option CallForm
 call_form w m = if not (is_name m) then None
     else (if bytes_eq w (codes "lock") then Some (lock m)
     else (if bytes_eq w (codes "trylock") then Some (trylock m)
     else (if bytes_eq w (codes "unlock") then Some (unlock m)
-    else (if bytes_eq w (codes "consistent") then Some (consistent m) else None))))
+    else (if bytes_eq w (codes "consistent") then Some (consistent m)
+    else (if bytes_eq w (codes "wait") then Some (wait m)
+    else (if bytes_eq w (codes "signal") then Some (signal m)
+    else (if bytes_eq w (codes "broadcast") then Some (broadcast m) else None)))))))
 
 -- `begin T CALL` and `call T CALL`
 abbrev pub calling_form : List ℕ → List ℕ → CallForm → Option Form
@@ -107,20 +120,31 @@ abbrev pub words_form : List (List ℕ) → Option Form
 words_form (w ∷ []) = phase_form w
 words_form (w ∷ a ∷ []) = name_form w a
 words_form (w ∷ a ∷ n ∷ []) = or_else (step_form w a n) (mutexes_form w a n)
-words_form (w ∷ t ∷ c ∷ m ∷ []) = or_else (locks_form w t c m) (option_and_then (calling_form w t) (call_form c m))
+words_form (w ∷ t ∷ c ∷ m ∷ []) = or_else (locks_form w t c m) (or_else (cond_form w t c m) (option_and_then (calling_form w t) (call_form c m)))
 words_form _ = None
 
--- whether scripts of real threads have lines of this form: events are the machine's alone
+-- a call on a mutex
+abbrev pub is_on_mutex : CallForm → Bool
+is_on_mutex (lock m) = true
+is_on_mutex (trylock m) = true
+is_on_mutex (unlock m) = true
+is_on_mutex (consistent m) = true
+is_on_mutex (wait c) = false
+is_on_mutex (signal c) = false
+is_on_mutex (broadcast c) = false
+
+-- whether scripts of real threads have lines of this form: events are the machine's alone, and so far condition variables
 abbrev pub threads_have : Form → Bool
 threads_have silent = true
 threads_have (thread a) = true
 threads_have (mutex a) = true
 threads_have (mutexes a n) = true
+threads_have (cond c m n) = false
 threads_have (begins t c) = false
 threads_have (steps t n) = false
 threads_have (kills t) = false
 threads_have (goes t) = false
-threads_have (calls t c) = true
+threads_have (calls t c) = is_on_mutex c
 threads_have (locks t m n) = false
 threads_have phase = true
 

@@ -3,6 +3,7 @@ use Rattle.std.specs.Prelude.{ℕ, zero, suc, ◌≡◌, ◌+◌, ◌<◌, Bool,
 use Rattle.std.specs.declared.alloc.Global.{Global}
 use Rattle.std.specs.List.{slice_split, flat_map}
 use Rattle.mutex.specs.declared.call.Call.{Call}
+use Rattle.protocol.specs.declared.event.Op.TheVariants.{OnMutex, OnCondition}
 use Rattle.script.specs.Scope.{Scope}
 use Rattle.script.specs.declared.command.Action.{Action}
 use Rattle.script.specs.declared.command.Action.TheVariants as action
@@ -28,9 +29,10 @@ is_end (action.Locks t m n) = false
 abbrev pub ends_phase : Command → Bool
 ends_phase c = is_end c.action
 
--- what an action asks of thread t: its call, if it is one
+-- what an action asks of thread t: its call, if it is one. Real threads make calls on mutexes alone so far
 abbrev pub call_by : ℕ → Action → List Call
-call_by t (action.Call u k) = if u == t then k ∷ [] else []
+call_by t (action.Call u (OnMutex k)) = if u == t then k ∷ [] else []
+call_by t (action.Call u (OnCondition k)) = []
 call_by t action.Phase = []
 call_by t (action.Begin u k) = []
 call_by t (action.Step u n) = []

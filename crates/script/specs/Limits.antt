@@ -17,6 +17,14 @@ max_threads = 64
 abbrev pub max_mutexes : ℕ
 max_mutexes = 4096
 
+-- the condition variables that it may declare: a layout has no more
+abbrev pub max_conditions : ℕ
+max_conditions = 256
+
+-- the value that a counter may begin with: the largest that it may have
+abbrev pub max_counter : ℕ
+max_counter = 4294967295
+
 -- the characters of a name: chosen, so that the lines of a table stay short
 abbrev pub max_name : ℕ
 max_name = 16

@@ -3,6 +3,7 @@ use Rattle.std.specs.Prelude.{ℕ, ◌≡◌, ◌<◌, ◌⊎◌, List, ◌∷�
 use Rattle.protocol.specs.declared.note.Note.{Note}
 use Rattle.protocol.specs.Machine.{State, run, notes}
 use Rattle.interleave.specs.declared.trace.Trace.{Trace}
+use Rattle.interleave.specs.Runs.{IsLegalRun}
 use Rattle.interleave.specs.Shown.{Shown, state_of}
 use Rattle.interleave.specs.Traces.{IsOf}
 use Rattle.script.specs.declared.command.Command.{Command}
@@ -13,11 +14,12 @@ use Rattle.script.specs.Limits.{max_events}
 use Rattle.script.specs.Scope.{Scope}
 use Rattle.script.specs.Playing.{layout_of, first_state, events_of, events_from, events_in, overlong}
 
--- there aren't too many events; the trace notes them all, and the machine is as they leave it
+-- there aren't too many events; the trace notes them all, and is that of a legal run; and the machine is as they leave it
 pub record IsPlayed (s : Scope) (t : Trace) (m : Shown) : Type 0 where
   pub fits : overlong s ≡ None
   pub numbers : IsOf (layout_of s) t
   pub notes : t.notes.items ≡ notes (first_state s) (events_in s)
+  pub legal : IsLegalRun (first_state s) (events_in s) t.notes.items
   pub machine : state_of m ≡ run (first_state s) (events_in s)
 
 -- the command at this line runs an event, and it is one of those that may run: fewer than the limit run before it

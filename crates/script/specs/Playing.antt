@@ -1,7 +1,8 @@
 -- The events that a script stands for, and what it means to play them.
-use Rattle.std.specs.Prelude.{ℕ, zero, suc, Bool, not, ◌&&◌, ◌||◌, ◌≡◌, ◌+◌, ◌<◌, ◌≤◌, nat_lt, List, [], ◌∷◌, ◌++◌, length, replicate, Option, Some, None, Result, Ok, Err, if◌then◌else◌}
+use Rattle.std.specs.Prelude.{ℕ, zero, suc, Bool, not, ◌&&◌, ◌||◌, ◌≡◌, ◌+◌, ◌<◌, ◌≤◌, nat_lt, List, [], ◌∷◌, ◌++◌, length, map, replicate, slice_index_or, Option, Some, None, Result, Ok, Err, if◌then◌else◌}
 use Rattle.keys.specs.Layouts.{Layout'}
-use Rattle.mutex.specs.declared.call.Call.{Call as MutexCall}
+use Rattle.protocol.specs.declared.event.Op.{Op}
+use Rattle.protocol.specs.declared.event.Op.TheVariants.{OnMutex}
 use Rattle.mutex.specs.declared.call.Call.TheVariants.{Lock}
 use Rattle.protocol.specs.declared.event.Event.{Event}
 use Rattle.protocol.specs.declared.event.Event.TheVariants as event
@@ -16,12 +17,16 @@ use Rattle.script.specs.declared.fault.ScriptFault.{ScriptFault}
 use Rattle.script.specs.Limits.{max_events, max_mutexes, rest_steps}
 use Rattle.script.specs.Scope.{Scope}
 
--- the machine of a script: its threads and mutexes, and no condition variable
+-- the machine of a script: its threads, mutexes and condition variables
 abbrev pub layout_of : Scope → Layout'
-layout_of s = record { threads = length s.threads; mutexes = length s.mutexes; conditions = [] }
+layout_of s = record { threads = length s.threads; mutexes = length s.mutexes; conditions = map (λ c. c.1.mutex) s.conditions }
+
+-- what the counters begin with, by the numbers of their condition variables
+abbrev pub counter_of : Scope → ℕ → ℕ
+counter_of s k = slice_index_or (map (λ c. c.1.counter) s.conditions) k 0
 
 abbrev pub first_state : Scope → State
-first_state s = start (layout_of s) (λ c. 0)
+first_state s = start (layout_of s) (counter_of s)
 
 -- thread t is in a call or dying, and doesn't sleep
 abbrev pub is_going : State → ℕ → Bool
@@ -37,13 +42,13 @@ abbrev pub going_on : State → ℕ → List Event
 going_on s t = replicate (steps_to_rest rest_steps s t) (event.Step t)
 
 -- a call is begun, and then stepped until its thread rests
-abbrev pub calling : State → ℕ → MutexCall → List Event
-calling s t c = event.Begin t c ∷ going_on (happens s (event.Begin t c)).state t
+abbrev pub calling : State → ℕ → Op → List Event
+calling s t o = event.Begin t o ∷ going_on (happens s (event.Begin t o)).state t
 
 -- a lock of each of n mutexes from mutex m on, one after the other
 abbrev pub locking : State → ℕ → ℕ → ℕ → List Event
 locking s t m zero = []
-locking s t m (suc n) = calling s t (Lock m) ++ locking (run s (calling s t (Lock m))) t (suc m) n
+locking s t m (suc n) = calling s t (OnMutex (Lock m)) ++ locking (run s (calling s t (OnMutex (Lock m)))) t (suc m) n
 
 -- the events of an action at a state of the machine; the end of a phase of real threads is no event
 abbrev pub events_of : State → Action → List Event

@@ -1,12 +1,14 @@
 -- What a script says, and its first fault: each line in turn, after those before it.
-use Rattle.std.specs.Prelude.{ℕ, zero, suc, ◌+◌, Bool, not, ◌&&◌, ◌||◌, ◌==◌, nat_le, nat_lt, List, [], ◌∷◌, ◌++◌, length, take, drop, position, Option, Result, Ok, Err, if◌then◌else◌, decimal}
+use Rattle.std.specs.Prelude.{ℕ, map, zero, suc, ◌+◌, Bool, not, ◌&&◌, ◌||◌, ◌==◌, nat_le, nat_lt, List, [], ◌∷◌, ◌++◌, length, take, drop, position, Option, Result, Ok, Err, if◌then◌else◌, decimal}
 use Rattle.std.specs.Option.{ok_or}
 use Rattle.std.specs.List.{list_any}
 use Rattle.std.specs.Str.{bytes_eq, is_utf8}
 use Rattle.std.specs.Str.Parse.{digits_value}
-use Rattle.mutex.specs.declared.call.Call.{Call}
 use Rattle.mutex.specs.declared.call.Call.TheVariants as call
-use Rattle.script.specs.Forms.{CallForm, lock, trylock, unlock, consistent, Form, silent, thread, mutex, mutexes, begins, steps, kills, goes, calls, locks, phase, form_of}
+use Rattle.condvar.specs.declared.call.CondCall.TheVariants as on
+use Rattle.protocol.specs.declared.event.Op.{Op}
+use Rattle.protocol.specs.declared.event.Op.TheVariants.{OnMutex, OnCondition}
+use Rattle.script.specs.Forms.{CallForm, lock, trylock, unlock, consistent, wait, signal, broadcast, Form, silent, thread, mutex, mutexes, cond, begins, steps, kills, goes, calls, locks, phase, form_of}
 use Rattle.lines.specs.Numbers.{is_number}
 use Rattle.lines.specs.Lines.{lines_of, bad_line}
 use Rattle.lines.specs.Faults.{◌>>=◌}
@@ -17,11 +19,11 @@ use Rattle.script.specs.declared.command.Action.TheVariants as action
 use Rattle.script.specs.declared.fault.Fault.{Fault}
 use Rattle.script.specs.declared.fault.Fault.TheVariants.{NotUtf8, UnknownWord, OutOfRange, NoSuchName, TooLong}
 use Rattle.script.specs.declared.fault.ScriptFault.{ScriptFault}
-use Rattle.script.specs.Limits.{max_bytes, max_lines, max_threads, max_mutexes}
+use Rattle.script.specs.Limits.{max_bytes, max_lines, max_threads, max_mutexes, max_conditions}
 
 -- before the first line
 abbrev pub nothing : Mode → Scope
-nothing k = record { mode = k; threads = []; mutexes = []; commands = [] }
+nothing k = record { mode = k; threads = []; mutexes = []; conditions = []; commands = [] }
 
 -- the fault where the test holds, and else what follows
 abbrev pub refuse : {A : Type 0} → Bool → Fault → Result A Fault → Result A Fault
@@ -63,12 +65,19 @@ declares s = refuse (not (length s.commands == 0)) UnknownWord (Ok tt)
 abbrev pub thread_of : Scope → List ℕ → Result ℕ Fault
 thread_of s t = place_of t s.threads >>= λ i. Ok (i + 1)
 
--- a call by the number of its mutex, from 0
-abbrev pub call_of : Scope → CallForm → Result Call Fault
-call_of s (lock m) = place_of m s.mutexes >>= λ j. Ok (call.Lock j)
-call_of s (trylock m) = place_of m s.mutexes >>= λ j. Ok (call.TryLock j)
-call_of s (unlock m) = place_of m s.mutexes >>= λ j. Ok (call.Unlock j)
-call_of s (consistent m) = place_of m s.mutexes >>= λ j. Ok (call.Consistent j)
+-- the names of the condition variables
+abbrev pub condition_names : Scope → List (List ℕ)
+condition_names s = map (λ c. c.0) s.conditions
+
+-- a call by the number of its mutex or of its condition variable, from 0
+abbrev pub call_of : Scope → CallForm → Result Op Fault
+call_of s (lock m) = place_of m s.mutexes >>= λ j. Ok (OnMutex (call.Lock j))
+call_of s (trylock m) = place_of m s.mutexes >>= λ j. Ok (OnMutex (call.TryLock j))
+call_of s (unlock m) = place_of m s.mutexes >>= λ j. Ok (OnMutex (call.Unlock j))
+call_of s (consistent m) = place_of m s.mutexes >>= λ j. Ok (OnMutex (call.Consistent j))
+call_of s (wait c) = place_of c (condition_names s) >>= λ k. Ok (OnCondition (on.Wait k))
+call_of s (signal c) = place_of c (condition_names s) >>= λ k. Ok (OnCondition (on.Signal k))
+call_of s (broadcast c) = place_of c (condition_names s) >>= λ k. Ok (OnCondition (on.Broadcast k))
 
 -- the first of n mutexes from the named one on; the last mutex may not stand before the last of them
 abbrev pub first_of : Scope → List ℕ → ℕ → Result ℕ Fault
@@ -85,6 +94,15 @@ mutex_declared s w = declares s >>= λ _. added max_mutexes s.mutexes w >>= λ n
 abbrev pub mutexes_declared : Scope → List ℕ → Option ℕ → Result Scope Fault
 mutexes_declared s w count = declares s >>= λ _. ok_or count OutOfRange >>= λ k. several max_mutexes s.mutexes w k >>= λ names.
     Ok (record s { mutexes = names })
+
+-- a condition variable of the named mutex, whose counter begins at this value, unless there are as many as may be, or there is one of this name
+abbrev pub with_condition : Scope → List ℕ → ℕ → ℕ → Result Scope Fault
+with_condition s w m counter = refuse (is_declared w (condition_names s)) NoSuchName
+    (Ok (record s { conditions = s.conditions ++ (w, record { mutex = m; counter = counter }) ∷ [] }))
+
+abbrev pub condition_declared : Scope → List ℕ → List ℕ → Option ℕ → Result Scope Fault
+condition_declared s w m counter = declares s >>= λ _. ok_or counter OutOfRange >>= λ n.
+    refuse (nat_le max_conditions (length s.conditions)) OutOfRange (place_of m s.mutexes >>= λ j. with_condition s w j n)
 
 -- ---- what commands ask for
 
@@ -120,6 +138,7 @@ enter n s silent = Ok s
 enter n s (thread w) = thread_declared s w
 enter n s (mutex w) = mutex_declared s w
 enter n s (mutexes w count) = mutexes_declared s w count
+enter n s (cond w m counter) = condition_declared s w m counter
 enter n s (begins t c) = asked n s (begun s t c)
 enter n s (steps t count) = asked n s (stepped s t count)
 enter n s (kills t) = asked n s (killed s t)

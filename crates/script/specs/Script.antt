@@ -1,6 +1,7 @@
 -- A script that was read, as callers see it.
 use Rattle.std.specs.Prelude.{map, string_bytes}
 use Rattle.script.specs.Scope.{Scope, IsWellFormed}
+use Rattle.script.specs.Seen.{conditions_seen}
 use Rattle.script.specs.declared.parsed.Script.TheInside.{Inside}
 
 -- what it is written for, its names as bytes, and its commands
@@ -9,6 +10,7 @@ contents s = record {
   mode = s.mode;
   threads = map string_bytes s.threads.keys;
   mutexes = map string_bytes s.mutexes.keys;
+  conditions = conditions_seen s.conditions.entries;
   commands = s.commands.items;
 }
 

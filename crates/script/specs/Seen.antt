@@ -1,7 +1,9 @@
 -- Values of the code as the definitions see them.
-use Rattle.std.specs.Prelude.{map, string_bytes}
-use Rattle.script.specs.Forms.{CallForm, lock, trylock, unlock, consistent, Form, thread, mutex, mutexes, begins, steps, kills, goes, calls, locks, phase}
+use Rattle.std.specs.Prelude.{ℕ, List, map, String, string_bytes}
+use Rattle.std.specs.declared.alloc.Global.{Global}
+use Rattle.script.specs.Forms.{CallForm, lock, trylock, unlock, consistent, wait, signal, broadcast, Form, thread, mutex, mutexes, cond, begins, steps, kills, goes, calls, locks, phase}
 use Rattle.script.specs.Scope.{Scope}
+use Rattle.script.specs.declared.command.Condition.{Condition}
 use Rattle.script.specs.declared.draft.Draft.{Draft}
 use Rattle.script.specs.declared.line.NamedCall.{NamedCall}
 use Rattle.script.specs.declared.line.NamedCall.TheVariants as named
@@ -14,12 +16,16 @@ call_seen (named.Lock m) = lock m.now
 call_seen (named.TryLock m) = trylock m.now
 call_seen (named.Unlock m) = unlock m.now
 call_seen (named.Consistent m) = consistent m.now
+call_seen (named.Wait c) = wait c.now
+call_seen (named.Signal c) = signal c.now
+call_seen (named.Broadcast c) = broadcast c.now
 
 -- the form that a line that isn't silent was read to
 abbrev pub form_seen : Line → Form
 form_seen (line.Thread a) = thread a.now
 form_seen (line.Mutex a) = mutex a.now
 form_seen (line.Mutexes a n) = mutexes a.now n
+form_seen (line.Cond c m n) = cond c.now m.now n
 form_seen (line.Begin a c) = begins a.now (call_seen c)
 form_seen (line.Step a n) = steps a.now n
 form_seen (line.Kill a) = kills a.now
@@ -28,11 +34,16 @@ form_seen (line.Call a c) = calls a.now (call_seen c)
 form_seen (line.Locks a m n) = locks a.now m.now n
 form_seen line.Phase = phase
 
+-- condition variables by their names' bytes
+abbrev pub conditions_seen : List (String Global × Condition) → List (List ℕ × Condition)
+conditions_seen cs = map (λ c. (string_bytes c.0, c.1)) cs
+
 -- what the lines so far declared and asked for
 abbrev pub scope_of : Draft → Scope
 scope_of d = record {
   mode = d.mode;
   threads = map string_bytes d.threads.keys;
   mutexes = map string_bytes d.mutexes.keys;
+  conditions = conditions_seen d.conditions.entries;
   commands = d.commands.items;
 }

@@ -1,7 +1,7 @@
 //! What a script asks for.
 
 use lockword::Tid;
-use mutex::Call;
+use protocol::Op;
 
 /// What a script is written for, which says which commands it may have.
 #[derive(Clone, Copy, Debug, PartialEq, Eq)]
@@ -12,12 +12,21 @@ pub enum Mode {
     Threads,
 }
 
-/// What a command asks for. Threads are numbered from 1 and mutexes from 0, in the order of their
+/// What a condition variable was declared with.
+#[derive(Clone, Copy, Debug, PartialEq, Eq)]
+pub struct Condition {
+    /// The number of its mutex.
+    pub mutex: u16,
+    /// What its counter begins with.
+    pub counter: u32,
+}
+
+/// What a command asks for. Threads are numbered from 1, and mutexes and condition variables from 0, in the order of their
 /// declarations.
 #[derive(Clone, Copy, Debug, PartialEq, Eq)]
 pub enum Action {
     /// One begin event.
-    Begin(Tid, Call),
+    Begin(Tid, Op),
     /// As many step events as `count`, from 1 to [`MAX_STEPS`](crate::MAX_STEPS).
     Step { thread: Tid, count: u32 },
     /// One kill event.
@@ -25,7 +34,7 @@ pub enum Action {
     /// Step events until the thread rests: until it is in no call and not dying, or sleeps.
     Go(Tid),
     /// A begin event, and then step events until the thread rests; for real threads one call.
-    Call(Tid, Call),
+    Call(Tid, Op),
     /// The call that locks a mutex, for each of `count` mutexes from `mutex` on, one after the other. There are from 1 to
     /// [`MAX_MUTEXES`](crate::MAX_MUTEXES).
     Locks { thread: Tid, mutex: u16, count: u16 },

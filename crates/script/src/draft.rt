@@ -3,20 +3,22 @@
 ghost use Rattle.std.specs.Prelude.{◌≡◌, ◌^◌, ◌<◌, ◌≤◌, false, length, map, OnOk, IfOk, IfErr, string_bytes};
 ghost use Rattle.std.specs.List.{list_any};
 ghost use Rattle.script.specs.Forms.{is_silent};
-ghost use Rattle.script.specs.Limits.{max_lines, max_mutexes, max_threads};
+ghost use Rattle.script.specs.Limits.{max_conditions, max_lines, max_mutexes, max_threads};
 ghost use Rattle.script.specs.Outcome.{Gives};
-ghost use Rattle.script.specs.Reading.{added, asked, begun, call_of, declares, enter, first_of, gone, is_numbered, killed, line_read, locked, made, mutex_declared, mutexes_declared, nothing, place_of, several, stepped, thread_declared, thread_of, with_action};
+ghost use Rattle.script.specs.Reading.{added, asked, begun, call_of, condition_declared, condition_names, declares, with_condition, enter, first_of, gone, is_numbered, killed, line_read, locked, made, mutex_declared, mutexes_declared, nothing, place_of, several, stepped, thread_declared, thread_of, with_action};
 ghost use Rattle.script.specs.Scope.{IsWithinLimits};
 
-use crate::command::{Action, Command, Mode};
+use crate::command::{Action, Command, Condition, Mode};
 use crate::fault::Fault;
-use crate::limits::{MAX_LINES, MAX_MUTEXES, MAX_THREADS};
+use crate::limits::{MAX_CONDITIONS, MAX_LINES, MAX_MUTEXES, MAX_THREADS};
 use crate::line::{Line, NamedCall, is_silent_line, line_of};
 use crate::words::is_below;
-use indexmap::IndexSet;
+use condvar::CondCall;
+use indexmap::{IndexMap, IndexSet};
 use lines::is_number_word;
 use lockword::Tid;
 use mutex::Call;
+use protocol::Op;
 use std::alloc::Global;
 
 /// What the lines so far declared and asked for.
@@ -25,6 +27,7 @@ pub struct Draft {
     pub mode: Mode,
     pub threads: IndexSet<String>,
     pub mutexes: IndexSet<String>,
+    pub conditions: IndexMap<String, Condition>,
     pub commands: Vec<Command>,
 }
 
@@ -110,6 +113,7 @@ impl Draft {
             mode,
             threads: IndexSet::new(alloc),
             mutexes: IndexSet::new(alloc),
+            conditions: IndexMap::new(alloc),
             commands: Vec::new(alloc),
         }
     }
@@ -133,15 +137,37 @@ impl Draft {
         Ok(place)
     }
 
-    fn call(&self, call: NamedCall<'_>) -> Result<Call, Fault>
+    fn mutex(&self, name: &str) -> Result<u16, Fault>
         requires { length (scope_of self.now).mutexes ≤ max_mutexes }
+        ensures { result ≡ place_of name.now (scope_of self.now).mutexes }
+    {
+        Ok(place(&self.mutexes, name)? as u16)
+    }
+
+    fn condition(&self, name: &str) -> Result<u16, Fault>
+        requires { length (scope_of self.now).conditions ≤ max_conditions }
+        ensures { result ≡ place_of name.now (condition_names (scope_of self.now)) }
+    {
+        match self.conditions.get_index_of(name) {
+            Some(place) => Ok(place as u16),
+            None => Err(Fault::NoSuchName),
+        }
+    }
+
+    fn call(&self, call: NamedCall<'_>) -> Result<Op, Fault>
+        requires { IsWithinLimits (scope_of self.now) }
         ensures { result ≡ call_of (scope_of self.now) (call_seen call.entry) }
     {
         Ok(match call {
-            NamedCall::Lock(name) => Call::Lock(place(&self.mutexes, name)? as u16),
-            NamedCall::TryLock(name) => Call::TryLock(place(&self.mutexes, name)? as u16),
-            NamedCall::Unlock(name) => Call::Unlock(place(&self.mutexes, name)? as u16),
-            NamedCall::Consistent(name) => Call::Consistent(place(&self.mutexes, name)? as u16),
+            NamedCall::Lock(name) => Op::OnMutex(Call::Lock(self.mutex(name)?)),
+            NamedCall::TryLock(name) => Op::OnMutex(Call::TryLock(self.mutex(name)?)),
+            NamedCall::Unlock(name) => Op::OnMutex(Call::Unlock(self.mutex(name)?)),
+            NamedCall::Consistent(name) => Op::OnMutex(Call::Consistent(self.mutex(name)?)),
+            NamedCall::Wait(name) => Op::OnCondition(CondCall::Wait(self.condition(name)?)),
+            NamedCall::Signal(name) => Op::OnCondition(CondCall::Signal(self.condition(name)?)),
+            NamedCall::Broadcast(name) => {
+                Op::OnCondition(CondCall::Broadcast(self.condition(name)?))
+            }
         })
     }
 
@@ -183,6 +209,44 @@ impl Draft {
         self.declares()?;
         let count = count.ok_or(Fault::OutOfRange)?;
         declare_numbered(alloc, &mut self.mutexes, MAX_MUTEXES, word, count)
+    }
+
+    /// Adds a condition variable, unless there is one of this name.
+    fn add_condition(
+        &mut self,
+        alloc: Global,
+        name: &str,
+        condition: Condition,
+    ) -> Result<(), Fault>
+        ensures gives { Gives (λ _. scope_of self.new) result (with_condition (scope_of self.old) name.now condition.mutex condition.counter) }
+        ensures mode { self.new.mode ≡ self.old.mode }
+    {
+        if self.conditions.contains_key(name) {
+            return Err(Fault::NoSuchName);
+        }
+        self.conditions
+            .insert(String::from_str(alloc, name)?, condition)?;
+        Ok(())
+    }
+
+    fn declare_condition(
+        &mut self,
+        alloc: Global,
+        name: &str,
+        mutex: &str,
+        counter: Option<u32>,
+    ) -> Result<(), Fault>
+        requires { IsWithinLimits (scope_of self.old) }
+        ensures gives { Gives (λ _. scope_of self.new) result (condition_declared (scope_of self.old) name.now mutex.now counter) }
+        ensures mode { self.new.mode ≡ self.old.mode }
+    {
+        self.declares()?;
+        let counter = counter.ok_or(Fault::OutOfRange)?;
+        if self.conditions.len() >= MAX_CONDITIONS {
+            return Err(Fault::OutOfRange);
+        }
+        let mutex = self.mutex(mutex)?;
+        self.add_condition(alloc, name, Condition { mutex, counter })
     }
 
     /// Adds the command of line `number`.
@@ -278,6 +342,9 @@ impl Draft {
             Line::Thread(word) => self.declare_thread(alloc, word),
             Line::Mutex(word) => self.declare_mutex(alloc, word),
             Line::Mutexes(word, count) => self.declare_mutexes(alloc, word, count),
+            Line::Cond(name, mutex, counter) => {
+                self.declare_condition(alloc, name, mutex, counter)
+            }
             Line::Begin(thread, call) => self.begin(number, thread, call),
             Line::Step(thread, count) => self.step(number, thread, count),
             Line::Kill(thread) => self.kill(number, thread),

@@ -12,6 +12,7 @@ use crate::parsed::Script;
 use crate::workload::{Job, Jobs, Phase};
 use lockword::Tid;
 use mutex::Call;
+use protocol::Op;
 use std::alloc::{AllocError, Global};
 
 /// Where the phase ends.
@@ -49,11 +50,15 @@ fn no_calls(alloc: Global, threads: u8) -> Result<Vec<Vec<Call>>, AllocError>
 fn add_call(calls: &mut Vec<Vec<Call>>, command: &Command) -> Result<(), AllocError>
     ensures { OnOk result ((n : ℕ) (cs : List Command) → AreCalls n cs (lists_seen calls.old.items) → AreCalls n (cs ++ command.now ∷ []) (lists_seen calls.new.items)) }
 {
-    if let Action::Call(thread, call) = &command.action {
-        let index = usize::from(thread.get()) - 1;
-        if index < calls.len() {
-            calls[index].push(*call)?;
-        }
+    let Action::Call(thread, op) = command.action else {
+        return Ok(());
+    };
+    let Op::OnMutex(call) = op else {
+        return Ok(());
+    };
+    let index = usize::from(thread.get()) - 1;
+    if index < calls.len() {
+        calls[index].push(call)?;
     }
     Ok(())
 }

@@ -14,13 +14,13 @@ mod reading;
 mod words;
 mod workload;
 
-pub use command::{Action, Command, Mode};
+pub use command::{Action, Command, Condition, Mode};
 pub use fault::{Fault, ScriptFault};
 pub use gathering::jobs;
 pub use laws::{silent_lines_say_nothing, threads_come_to_rest};
 pub use limits::{
-    MAX_BYTES, MAX_EVENTS, MAX_LINES, MAX_MUTEXES, MAX_NAME, MAX_STEM, MAX_STEPS, MAX_THREADS,
-    REST_STEPS,
+    MAX_BYTES, MAX_CONDITIONS, MAX_COUNTER, MAX_EVENTS, MAX_LINES, MAX_MUTEXES, MAX_NAME, MAX_STEM,
+    MAX_STEPS, MAX_THREADS, REST_STEPS,
 };
 pub use parsed::Script;
 pub use player::play;

@@ -12,6 +12,12 @@ pub const MAX_THREADS: usize = 64;
 /// The mutexes that a script may declare, and those of one `mutexes` or `locks` line.
 pub const MAX_MUTEXES: usize = 4_096;
 
+/// The condition variables that a script may declare.
+pub const MAX_CONDITIONS: usize = 256;
+
+/// The value that a counter may begin with.
+pub const MAX_COUNTER: u32 = 4_294_967_295;
+
 /// The characters of a name.
 pub const MAX_NAME: usize = 16;
 

@@ -1,22 +1,25 @@
 //! The kinds of line of a script.
 
 ghost use Rattle.std.specs.Prelude.{◌≡◌, true, false, option_map, option_and_then};
-ghost use Rattle.script.specs.Forms.{call_form, calling_form, form_of, has, is_silent, is_stem, locks_form, mutexes_form, name_form, or_else, phase_form, run_has, step_form, threads_have};
+ghost use Rattle.script.specs.Forms.{call_form, calling_form, cond_form, form_of, has, is_on_mutex, is_silent, is_stem, locks_form, mutexes_form, name_form, or_else, phase_form, run_has, step_form, threads_have};
 ghost use Rattle.lines.specs.Numbers.{is_number, within};
 ghost use Rattle.script.specs.Seen.{call_seen, form_seen};
 
 use crate::command::Mode;
-use crate::limits::{MAX_MUTEXES, MAX_STEM, MAX_STEPS};
+use crate::limits::{MAX_COUNTER, MAX_MUTEXES, MAX_STEM, MAX_STEPS};
 use crate::words::is_word_name;
 use lines::{Words, is_number_word, number_in, words_in};
 
-/// A call, with the name of its mutex.
+/// A call, with the name of its mutex or of its condition variable.
 #[derive(Clone, Copy)]
 pub enum NamedCall<'a> {
     Lock(&'a str),
     TryLock(&'a str),
     Unlock(&'a str),
     Consistent(&'a str),
+    Wait(&'a str),
+    Signal(&'a str),
+    Broadcast(&'a str),
 }
 
 /// What a line that isn't silent says, by names.
@@ -26,6 +29,8 @@ pub enum Line<'a> {
     Mutex(&'a str),
     /// None here and below: the number is out of its range.
     Mutexes(&'a str, Option<u32>),
+    /// The name of the condition variable, then that of its mutex, and what its counter begins with.
+    Cond(&'a str, &'a str, Option<u32>),
     Begin(&'a str, NamedCall<'a>),
     Step(&'a str, Option<u32>),
     Kill(&'a str),
@@ -95,17 +100,30 @@ fn locks<'a>(keyword: &'a str, thread: &'a str, mutex: &'a str, number: &'a str)
     None
 }
 
-fn named_call<'a>(word: &'a str, mutex: &'a str) -> Option<NamedCall<'a>>
-    ensures { option_map call_seen result ≡ call_form word.now mutex.now }
+fn cond<'a>(keyword: &'a str, name: &'a str, mutex: &'a str, number: &'a str) -> Option<Line<'a>>
+    ensures { option_map form_seen result
+        ≡ cond_form keyword.now name.now mutex.now number.now }
 {
-    if !is_word_name(mutex) {
+    if keyword == "cond" && is_word_name(name) && is_word_name(mutex) && is_number_word(number) {
+        return Some(Line::Cond(name, mutex, number_in(number, 0, MAX_COUNTER)));
+    }
+    None
+}
+
+fn named_call<'a>(word: &'a str, name: &'a str) -> Option<NamedCall<'a>>
+    ensures { option_map call_seen result ≡ call_form word.now name.now }
+{
+    if !is_word_name(name) {
         return None;
     }
     match word {
-        "lock" => Some(NamedCall::Lock(mutex)),
-        "trylock" => Some(NamedCall::TryLock(mutex)),
-        "unlock" => Some(NamedCall::Unlock(mutex)),
-        "consistent" => Some(NamedCall::Consistent(mutex)),
+        "lock" => Some(NamedCall::Lock(name)),
+        "trylock" => Some(NamedCall::TryLock(name)),
+        "unlock" => Some(NamedCall::Unlock(name)),
+        "consistent" => Some(NamedCall::Consistent(name)),
+        "wait" => Some(NamedCall::Wait(name)),
+        "signal" => Some(NamedCall::Signal(name)),
+        "broadcast" => Some(NamedCall::Broadcast(name)),
         _ => None,
     }
 }
@@ -147,16 +165,30 @@ fn of_three<'a>(keyword: &'a str, name: &'a str, number: &'a str) -> Option<Line
 /// A line of four words.
 fn of_four<'a>(
     keyword: &'a str,
-    thread: &'a str,
+    second: &'a str,
     third: &'a str,
     fourth: &'a str,
 ) -> Option<Line<'a>>
-    ensures { option_map form_seen result ≡ or_else (locks_form keyword.now thread.now third.now fourth.now)
-        (option_and_then (calling_form keyword.now thread.now) (call_form third.now fourth.now)) }
+    ensures { option_map form_seen result ≡ or_else (locks_form keyword.now second.now third.now fourth.now)
+        (or_else (cond_form keyword.now second.now third.now fourth.now)
+        (option_and_then (calling_form keyword.now second.now) (call_form third.now fourth.now))) }
 {
-    match locks(keyword, thread, third, fourth) {
+    if let Some(line) = locks(keyword, second, third, fourth) {
+        return Some(line);
+    }
+    match cond(keyword, second, third, fourth) {
         Some(line) => Some(line),
-        None => calling(keyword, thread, named_call(third, fourth)?),
+        None => calling(keyword, second, named_call(third, fourth)?),
+    }
+}
+
+fn is_on_mutex(call: &NamedCall<'_>) -> bool
+    ensures { result ≡ is_on_mutex (call_seen call.now) }
+{
+    match call {
+        NamedCall::Lock(_) | NamedCall::TryLock(_) => true,
+        NamedCall::Unlock(_) | NamedCall::Consistent(_) => true,
+        NamedCall::Wait(_) | NamedCall::Signal(_) | NamedCall::Broadcast(_) => false,
     }
 }
 
@@ -166,7 +198,9 @@ fn is_of_threads(line: &Line<'_>) -> bool
 {
     match line {
         Line::Thread(_) | Line::Mutex(_) | Line::Mutexes(..) => true,
-        Line::Call(..) | Line::Phase => true,
+        Line::Call(_, call) => is_on_mutex(call),
+        Line::Phase => true,
+        Line::Cond(..) => false,
         Line::Begin(..) | Line::Step(..) | Line::Kill(_) => false,
         Line::Go(_) | Line::Locks(..) => false,
     }
@@ -191,7 +225,7 @@ pub fn line_of(text: &str, mode: Mode) -> Option<Line<'_>>
         Words::One(keyword) => phase(keyword),
         Words::Two(keyword, name) => of_a_name(keyword, name),
         Words::Three(keyword, name, number) => of_three(keyword, name, number),
-        Words::Four(keyword, thread, third, fourth) => of_four(keyword, thread, third, fourth),
+        Words::Four(keyword, second, third, fourth) => of_four(keyword, second, third, fourth),
         _ => None,
     }?;
     if is_of(mode, &line) { Some(line) } else { None }

@@ -1,10 +1,10 @@
 //! A script that was read.
 
-ghost use Rattle.std.specs.Prelude.{◌≡◌, ◌-◌, ◌≤◌, ◌<◌, Some, length, slice_get};
+ghost use Rattle.std.specs.Prelude.{option_map, ◌≡◌, ◌-◌, ◌≤◌, ◌<◌, Some, length, slice_get};
 
-use crate::command::{Command, Mode};
+use crate::command::{Command, Condition, Mode};
 use crate::draft::Draft;
-use indexmap::IndexSet;
+use indexmap::{IndexMap, IndexSet};
 use lockword::Tid;
 use std::marker::Model;
 
@@ -15,6 +15,7 @@ pub struct Script {
     mode: Mode,
     threads: IndexSet<String>,
     mutexes: IndexSet<String>,
+    conditions: IndexMap<String, Condition>,
     commands: Vec<Command>,
 }
 
@@ -42,6 +43,7 @@ impl Script {
             mode: draft.mode,
             threads: draft.threads,
             mutexes: draft.mutexes,
+            conditions: draft.conditions,
             commands: draft.commands,
         }
     }
@@ -71,6 +73,23 @@ impl Script {
         self.mutexes.len() as u16
     }
 
+    /// How many condition variables it declares, at most [`MAX_CONDITIONS`](crate::MAX_CONDITIONS). They have the numbers below this.
+    pub fn conditions(&self) -> u16
+        ensures count { result ≡ length self.now.conditions }
+        ensures well_formed { IsWellFormed self.now }
+    {
+        self.conditions.len() as u16
+    }
+
+    /// What a condition variable was declared with.
+    pub fn condition(&self, condition: u16) -> Condition
+        requires { condition < length self.now.conditions }
+        ensures { option_map (λ c. c.1) (slice_get self.now.conditions condition) ≡ Some result }
+    {
+        let (_, declared) = self.conditions.get_index(usize::from(condition)).unwrap();
+        *declared
+    }
+
     /// Its commands, in the order of their lines.
     pub fn commands(&self) -> &[Command]
         ensures value { result.now ≡ self.now.commands }
@@ -96,5 +115,14 @@ impl Script {
         ensures { slice_get self.now.mutexes mutex ≡ Some result.now }
     {
         self.mutexes.get_index(usize::from(mutex)).unwrap().as_str()
+    }
+
+    /// The name of a condition variable that it declares.
+    pub fn condition_name(&self, condition: u16) -> &str
+        requires { condition < length self.now.conditions }
+        ensures { option_map (λ c. c.0) (slice_get self.now.conditions condition) ≡ Some result.now }
+    {
+        let (name, _) = self.conditions.get_index(usize::from(condition)).unwrap();
+        name.as_str()
     }
 }

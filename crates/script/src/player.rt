@@ -1,9 +1,10 @@
 //! Playing a script's commands on the machine.
-ghost use Rattle.std.specs.Prelude.{◌≡◌, ◌≤◌, [], ◌∷◌, ◌++◌, length, replicate, ◌+◌, OnOk, IfOk, IfErr};
+ghost use Rattle.std.specs.Prelude.{true, ◌≡◌, ◌≤◌, [], ◌∷◌, ◌++◌, length, replicate, ◌+◌, OnOk, IfOk, IfErr};
 ghost use Rattle.protocol.specs.declared.event.Event.TheVariants.{Step};
+ghost use Rattle.protocol.specs.Machine.{start};
 ghost use Rattle.interleave.specs.Shown.{state_of};
 ghost use Rattle.script.specs.Limits.{max_events, max_mutexes};
-ghost use Rattle.script.specs.Playing.{Adds, AddsAt, HasMutexes, calling, events_of, first_state, going_on, is_going, locking};
+ghost use Rattle.script.specs.Playing.{Adds, AddsAt, HasMutexes, calling, events_of, first_state, going_on, is_going, layout_of, locking};
 ghost use Rattle.script.specs.Played.{PlaysOn, PlaysTo};
 
 use crate::command::{Action, Command};
@@ -11,10 +12,10 @@ use crate::fault::{Fault, ScriptFault};
 use crate::limits::{MAX_EVENTS, REST_STEPS};
 use crate::parsed::Script;
 use interleave::{Machine, Trace};
-use keys::Layout;
+use keys::{CONDITION_LIMIT, Layout};
 use lockword::Tid;
 use mutex::Call;
-use protocol::{Event, Note};
+use protocol::{Event, Note, Op};
 use std::alloc::Global;
 
 /// Adds a copy to a list.
@@ -75,16 +76,11 @@ fn play_to_rest(machine: &mut Machine, notes: &mut Vec<Note>, thread: Tid) -> Re
 }
 
 /// A call, until its thread rests.
-fn play_call(
-    machine: &mut Machine,
-    notes: &mut Vec<Note>,
-    thread: Tid,
-    call: Call,
-) -> Result<(), Fault>
+fn play_call(machine: &mut Machine, notes: &mut Vec<Note>, thread: Tid, op: Op) -> Result<(), Fault>
     requires { length notes.old.items ≤ max_events }
-    ensures { Adds (state_of machine.old) (state_of machine.new) notes.old.items notes.new.items (calling (state_of machine.old) thread call) result }
+    ensures { Adds (state_of machine.old) (state_of machine.new) notes.old.items notes.new.items (calling (state_of machine.old) thread op) result }
 {
-    play_event(machine, notes, Event::Begin(thread, call))?;
+    play_event(machine, notes, Event::Begin(thread, op))?;
     play_to_rest(machine, notes, thread)
 }
 
@@ -101,7 +97,12 @@ fn play_locks(
     ensures { Adds (state_of machine.old) (state_of machine.new) notes.old.items notes.new.items (locking (state_of machine.old) thread mutex count) result }
 {
     for next in 0..count {
-        play_call(machine, notes, thread, Call::Lock(mutex + next))?;
+        play_call(
+            machine,
+            notes,
+            thread,
+            Op::OnMutex(Call::Lock(mutex + next)),
+        )?;
     }
     Ok(())
 }
@@ -113,11 +114,11 @@ fn play_action(machine: &mut Machine, notes: &mut Vec<Note>, action: Action) -> 
     ensures { Adds (state_of machine.old) (state_of machine.new) notes.old.items notes.new.items (events_of (state_of machine.old) action) result }
 {
     match action {
-        Action::Begin(thread, call) => play_event(machine, notes, Event::Begin(thread, call)),
+        Action::Begin(thread, op) => play_event(machine, notes, Event::Begin(thread, op)),
         Action::Step { thread, count } => play_steps(machine, notes, thread, count),
         Action::Kill(thread) => play_event(machine, notes, Event::Kill(thread)),
         Action::Go(thread) => play_to_rest(machine, notes, thread),
-        Action::Call(thread, call) => play_call(machine, notes, thread, call),
+        Action::Call(thread, op) => play_call(machine, notes, thread, op),
         Action::Locks {
             thread,
             mutex,
@@ -163,22 +164,51 @@ fn play_commands(
     Ok(())
 }
 
-/// A machine with a script's threads and mutexes, before its first event.
+/// The layout of a script's threads, mutexes and condition variables.
+fn layout_of(script: &Script) -> Layout
+    ensures { result ≡ layout_of script.now }
+{
+    let mut mutexes = [0; CONDITION_LIMIT];
+    let count = script.conditions();
+    for condition in 0..count {
+        mutexes[usize::from(condition)] = script.condition(condition).mutex;
+    }
+    Layout::new(
+        script.threads(),
+        script.mutexes(),
+        &mutexes[..usize::from(count)],
+    )
+    .unwrap()
+}
+
+/// Sets each counter to the value that the script begins it with.
+fn preset_all(machine: &mut Machine, script: &Script)
+    requires starts { state_of machine.old ≡ start (layout_of script.now) (λ c. 0) }
+    requires fresh { machine.old.fresh ≡ true }
+    ensures { state_of machine.new ≡ first_state script.now }
+{
+    for condition in 0..script.conditions() {
+        machine.preset(condition, script.condition(condition).counter);
+    }
+}
+
+/// A machine with a script's threads, mutexes and condition variables, before its first event.
 fn first_machine(alloc: Global, script: &Script) -> Result<Machine, ScriptFault>
     ensures starts { IfOk result (λ machine. state_of machine ≡ first_state script.now) }
     ensures memory { IfErr result (λ e. e ≡ record { line = 1; fault = Fault.OutOfMemory }) }
 {
-    let layout = Layout::new(script.threads(), script.mutexes(), &[]).unwrap();
-    match Machine::new(alloc, layout) {
-        Ok(machine) => Ok(machine),
-        Err(_) => Err(ScriptFault {
+    let Ok(mut machine) = Machine::new(alloc, layout_of(script)) else {
+        return Err(ScriptFault {
             line: 1,
             fault: Fault::OutOfMemory,
-        }),
-    }
+        });
+    };
+    preset_all(&mut machine, script);
+    Ok(machine)
 }
 
-/// What a script's commands do on a new machine: the trace, and the machine afterwards.
+/// What a script's commands do on a new machine: the trace, and the machine afterwards. The trace tells a legal run: of its notes and of the machine after each event all holds that
+/// [`Machine::run`] promises of a list of events.
 ///
 /// Refused at the line of the first command that would run event 100,001, as [`Fault::TooLong`]; or, where no memory is left, at the line being played,
 /// or at line 1 before the first.
@@ -191,7 +221,7 @@ pub fn play(alloc: Global, script: &Script) -> Result<(Trace, Machine), ScriptFa
     let trace = Trace {
         threads: script.threads(),
         mutexes: script.mutexes(),
-        conditions: 0,
+        conditions: script.conditions(),
         notes,
     };
     Ok((trace, machine))

@@ -17,4 +17,4 @@ returns c =
     let ns'' = c.play_to_rest.new.notes.items in
     let begun = c.in_ok-play_event.ensures in
     let rested = subst (λ (z : State). Adds s' s'' ns' ns'' (going_on z t) c.play_to_rest.result) begun.0 c.play_to_rest.ensures in
-    then_adds s s' s'' ns ns' ns'' (Begin t c.args.call ∷ []) (going_on (happens s (Begin t c.args.call)).state t) c.play_to_rest.result begun rested
+    then_adds s s' s'' ns ns' ns'' (Begin t c.args.op ∷ []) (going_on (happens s (Begin t c.args.op)).state t) c.play_to_rest.result begun rested
