@@ -3,7 +3,6 @@ use Rattle.std.proofs.Common.{◌≡◌, ℕ, zero, suc, slice_get, Some, ◌+�
 use Rattle.std.proofs.lemmas.List.Folds.{concat-append}
 use Rattle.std.proofs.lemmas.List.{map-append, take_more, take-append-drop}
 use Rattle.std.proofs.lemmas.Option.{slice_get_within, get_or_from_slice_get}
-use Rattle.facts.specs.declared.fact.Fact.TheVariants.{Wake}
 use Rattle.protocol.specs.declared.note.Note.{Note}
 use Rattle.facts.specs.declared.fact.Fact.{Fact}
 use Rattle.facts.specs.declared.fact.Line.{Line}
@@ -51,19 +50,19 @@ notes_as_far i ns n is lt =
     let whole : notes_text 1 ns ≡ notes_text 1 (take (i + 1) ns) ++ rest = ap (notes_text 1) (sym (take-append-drop (i + 1) ns)) ∙ notes_text-append 1 (take (i + 1) ns) (drop (i + 1) ns) in
     (rest, whole ∙ rw (notes_more i ns n is lt) (append_assoc (notes_text 1 (take i ns)) (facts_text (i + 1) (facts_of n)) rest))
 
--- the lines of those that were woken before one, that one's, and those of the ones behind it
-pub woken_as_far : (i k : ℕ) (ws : List ℕ) (u : ℕ) → slice_get ws k ≡ Some u → (rest : List ℕ) × (facts_text i (map Wake ws) ≡ facts_text i (map Wake (take k ws)) ++ (fact_text i (Wake u) ++ rest))
-woken_as_far i k [] u e = absurd (cc e)
-woken_as_far i zero (w ∷ ws) u e = (facts_text i (map Wake ws), ap (λ (t : ℕ). fact_text i (Wake t) ++ facts_text i (map Wake ws)) (same e))
+-- a fact of each of some threads: the lines of those before one, that one's, and those of the ones behind it
+pub each_as_far : (make : ℕ → Fact) (i k : ℕ) (us : List ℕ) (u : ℕ) → slice_get us k ≡ Some u → (rest : List ℕ) × (facts_text i (map make us) ≡ facts_text i (map make (take k us)) ++ (fact_text i (make u) ++ rest))
+each_as_far make i k [] u e = absurd (cc e)
+each_as_far make i zero (v ∷ us) u e = (facts_text i (map make us), ap (λ (t : ℕ). fact_text i (make t) ++ facts_text i (map make us)) (same e))
   where
-    same : Some w ≡ Some u → w ≡ u
+    same : Some v ≡ Some u → v ≡ u
     same is = cc
-woken_as_far i (suc k) (w ∷ ws) u e =
-    let far = woken_as_far i k ws u e in
-    (far.0, ap (λ (t : List ℕ). fact_text i (Wake w) ++ t) far.1 ∙ sym (append_assoc (fact_text i (Wake w)) (facts_text i (map Wake (take k ws))) (fact_text i (Wake u) ++ far.0)))
+each_as_far make i (suc k) (v ∷ us) u e =
+    let far = each_as_far make i k us u e in
+    (far.0, ap (λ (t : List ℕ). fact_text i (make v) ++ t) far.1 ∙ sym (append_assoc (fact_text i (make v)) (facts_text i (map make (take k us))) (fact_text i (make u) ++ far.0)))
 
--- one more that was woken
-pub woken_more : (i k : ℕ) (ws : List ℕ) (u : ℕ) → slice_get ws k ≡ Some u → facts_text i (map Wake (take (k + 1) ws)) ≡ facts_text i (map Wake (take k ws)) ++ fact_text i (Wake u)
-woken_more i k ws u e =
-    ap (λ (t : List ℕ). facts_text i (map Wake t)) (take_more ws k u (slice_get_within ws k u e) ∙ ap (λ (v : ℕ). take k ws ++ v ∷ []) (get_or_from_slice_get ws k u u e))
-    ∙ ap (facts_text i) (map-append Wake (take k ws) (u ∷ [])) ∙ facts_text-append i (map Wake (take k ws)) (Wake u ∷ []) ∙ ap (λ (t : List ℕ). facts_text i (map Wake (take k ws)) ++ t) (append-nil (fact_text i (Wake u)))
+-- one thread more
+pub each_more : (make : ℕ → Fact) (i k : ℕ) (us : List ℕ) (u : ℕ) → slice_get us k ≡ Some u → facts_text i (map make (take (k + 1) us)) ≡ facts_text i (map make (take k us)) ++ fact_text i (make u)
+each_more make i k us u e =
+    ap (λ (t : List ℕ). facts_text i (map make t)) (take_more us k u (slice_get_within us k u e) ∙ ap (λ (v : ℕ). take k us ++ v ∷ []) (get_or_from_slice_get us k u u e))
+    ∙ ap (facts_text i) (map-append make (take k us) (u ∷ [])) ∙ facts_text-append i (map make (take k us)) (make u ∷ []) ∙ ap (λ (t : List ℕ). facts_text i (map make (take k us)) ++ t) (append-nil (fact_text i (make u)))

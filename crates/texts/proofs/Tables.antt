@@ -6,9 +6,11 @@ use Rattle.std.specs.Io.KnownBytes.{Appends}
 use Rattle.std.proofs.lemmas.List.{take_all}
 use Rattle.std.proofs.lemmas.List.FromFn.{get_or-range_with_len, length-range_with_len}
 use Rattle.std.proofs.lemmas.List.Filters.{length-filter_more}
-use Rattle.std.proofs.lemmas.Option.{slice_get_within, get_or_from_slice_get}
+use Rattle.std.specs.Option.{option_map}
+use Rattle.std.proofs.lemmas.Option.{slice_get_within, get_or_from_slice_get, slice_get-map}
 use Rattle.texts.specs.Leaves.{AppendsFront, Leaves}
-use Rattle.texts.specs.Tables.{name_of, comma_name, others_names, queue_names}
+use Rattle.script.specs.Scope.{Scope}
+use Rattle.texts.specs.Tables.{name_in, name_of, comma_name, others_names, queue_names, condition_name}
 use Rattle.texts.proofs.Writers.{texts, goes_on, stops_at}
 
 -- where an item was written after those before it, so many are written
@@ -28,6 +30,10 @@ behind_first (y ∷ xs) i x is = is
 pub comma_names : (names : List (List ℕ)) (ts : List ℕ) → flat_map (λ y. codes "," ++ name_of names y) ts ≡ concat (map (comma_name names) ts)
 comma_names names [] = refl
 comma_names names (t ∷ ts) = (λ i. (codes "," ++ sym (append-nil (name_of names t)) i) ++ comma_names names ts i)
+
+-- the name that a condition variable was declared with
+pub its_name : (sc : Scope) (k : ℕ) (name : List ℕ) → option_map (λ c. c.0) (slice_get sc.conditions k) ≡ Some name → name ≡ condition_name sc k
+its_name sc k name is = sym (ap name_in (slice_get-map (λ c. c.0) sc.conditions k ∙ is))
 
 -- ---- counts
 

@@ -7,11 +7,12 @@ use Rattle.std.proofs.lemmas.Grind.{flat_map-append}
 use Rattle.std.proofs.lemmas.List.{take_more}
 use Rattle.lockword.specs.declared.reply.Reply.{Reply}
 use Rattle.keys.specs.declared.point.Decision.{Decision}
-use Rattle.mutex.specs.declared.call.Call.{Call}
 use Rattle.protocol.specs.declared.note.Note.{Note}
+use Rattle.facts.specs.declared.fact.Begun.{Begun}
+use Rattle.facts.specs.declared.fact.Queue.{Queue}
 use Rattle.facts.specs.declared.fact.Fact.{Fact}
 use Rattle.facts.specs.declared.fact.Fact.TheVariants.{Wake}
-use Rattle.protocol.specs.Notes.{facts_of, point_facts, sleep_facts, refusal_facts, return_facts, death_facts, reap_facts}
+use Rattle.protocol.specs.Notes.{facts_of, point_facts, sleep_facts, moves_to, refusal_facts, return_facts, death_facts, reap_facts}
 use Rattle.protocol.specs.Headline.{facts_among}
 use Rattle.texts.specs.Tables.{told_to, last_reply}
 
@@ -30,13 +31,17 @@ no_point : (t : ℕ) (p : Option Decision) → told_by t (point_facts p) ≡ []
 no_point t None = refl
 no_point t (Some d) = refl
 
-no_sleep : (t u : ℕ) (m : Option ℕ) → told_by t (sleep_facts u m) ≡ []
+no_sleep : (t u : ℕ) (m : Option Queue) → told_by t (sleep_facts u m) ≡ []
 no_sleep t u None = refl
 no_sleep t u (Some m) = refl
 
 no_wake : (t : ℕ) (us : List ℕ) → told_by t (map Wake us) ≡ []
 no_wake t [] = refl
 no_wake t (u ∷ us) = no_wake t us
+
+no_move : (t m : ℕ) (us : List ℕ) → told_by t (map (moves_to m) us) ≡ []
+no_move t m [] = refl
+no_move t m (u ∷ us) = no_move t m us
 
 no_death : (t u : ℕ) (m : Option ℕ) → told_by t (death_facts u m) ≡ []
 no_death t u None = refl
@@ -47,14 +52,17 @@ no_end t u false = refl
 no_end t u true = refl
 
 -- a call that begins tells its thread a reply where it is refused
-pub told_at_begin : (t u : ℕ) (c : Call) (x : Option Reply) → told_by t (refusal_facts u c x) ≡ told_by t (return_facts u x)
+pub told_at_begin : (t u : ℕ) (c : Begun) (x : Option Reply) → told_by t (refusal_facts u c x) ≡ told_by t (return_facts u x)
 told_at_begin t u c None = refl
 told_at_begin t u c (Some x) = refl
 
 -- an access tells its thread a reply where the call returned
-pub told_at_step : (t u : ℕ) (p : Option Decision) (m : Option ℕ) (us : List ℕ) (x : Option Reply) → told_by t (point_facts p ++ (sleep_facts u m ++ (map Wake us ++ return_facts u x))) ≡ told_by t (return_facts u x)
-told_at_step t u p m us x =
-    behind t (point_facts p) (sleep_facts u m ++ (map Wake us ++ return_facts u x)) (no_point t p) ∙ behind t (sleep_facts u m) (map Wake us ++ return_facts u x) (no_sleep t u m) ∙ behind t (map Wake us) (return_facts u x) (no_wake t us)
+pub told_at_step : (t u m : ℕ) (p : Option Decision) (q : Option Queue) (us vs : List ℕ) (x : Option Reply)
+    → told_by t (point_facts p ++ (sleep_facts u q ++ (map Wake us ++ (map (moves_to m) vs ++ return_facts u x)))) ≡ told_by t (return_facts u x)
+told_at_step t u m p q us vs x =
+    behind t (point_facts p) (sleep_facts u q ++ (map Wake us ++ (map (moves_to m) vs ++ return_facts u x))) (no_point t p)
+    ∙ behind t (sleep_facts u q) (map Wake us ++ (map (moves_to m) vs ++ return_facts u x)) (no_sleep t u q)
+    ∙ behind t (map Wake us) (map (moves_to m) vs ++ return_facts u x) (no_wake t us) ∙ behind t (map (moves_to m) vs) (return_facts u x) (no_move t m vs)
 
 -- a walk tells nobody a reply
 pub told_at_walk : (t u : ℕ) (m : Option ℕ) (us : List ℕ) (b : Bool) → told_by t (death_facts u m ++ (map Wake us ++ reap_facts u b)) ≡ []

@@ -1,16 +1,15 @@
--- The text of a table: how a run left each thread and each mutex.
+-- The text of a table: how a run left each thread, each mutex and each condition variable.
 use Rattle.std.specs.Prelude.{ℕ, zero, suc, ◌==◌, Bool, false, List, [], ◌∷◌, ◌++◌, length, map, filter, drop, slice_get, codes, decimal, Option, Some, None, if◌then◌else◌}
 use Rattle.std.specs.List.{concat, flat_map, last_or, join_by, range_with_len}
 use Rattle.lockword.specs.declared.reply.Reply.{Reply}
 use Rattle.lockword.specs.Replies.{reply_word}
-use Rattle.keys.specs.Layouts.{cell_place}
-use Rattle.mutex.specs.Calls.{mutex_of}
+use Rattle.keys.specs.Layouts.{cell_place, counter_place}
 use Rattle.protocol.specs.declared.thread.Stage.{Stage}
-use Rattle.protocol.specs.declared.thread.Stage.TheVariants.{Idle, Calling, Dying, Reaped}
+use Rattle.protocol.specs.declared.thread.Stage.TheVariants.{Idle, Calling, AtCondition, Dying, Reaped}
 use Rattle.protocol.specs.declared.note.Note.{Note}
 use Rattle.facts.specs.declared.fact.Fact.{Fact}
 use Rattle.facts.specs.declared.fact.Fact.TheVariants.{Return}
-use Rattle.protocol.specs.Machine.{State, stands_in, sleepers}
+use Rattle.protocol.specs.Machine.{State, sleeps, sleepers}
 use Rattle.protocol.specs.Headline.{seen, facts_among}
 use Rattle.script.specs.Scope.{Scope}
 use Rattle.texts.specs.MutexLines.{mutex_start}
@@ -28,10 +27,11 @@ name_of names (suc i) = name_in (slice_get names i)
 
 -- ---- a thread
 
--- what thread t does at this stage: a thread whose call sleeps stands in the queue of the call's mutex
+-- what thread t does at this stage
 abbrev pub deed : State → ℕ → Stage → List ℕ
 deed s t Idle = codes "idle"
-deed s t (Calling c p) = if stands_in t (sleepers s (mutex_of c)) then codes "asleep" else codes "busy"
+deed s t (Calling o p) = if sleeps s t (Calling o p) then codes "asleep" else codes "busy"
+deed s t (AtCondition c p) = if sleeps s t (AtCondition c p) then codes "asleep" else codes "busy"
 deed s t (Dying w) = codes "dying"
 deed s t Reaped = codes "reaped"
 
@@ -84,6 +84,18 @@ others_names names ids = concat (map (comma_name names) (drop 1 ids))
 abbrev pub mutex_line : Scope → State → ℕ → List ℕ
 mutex_line sc s m = mutex_start (name_in (slice_get sc.mutexes m)) (s.words (cell_place s.layout m)) (owner_word sc.threads (seen s m).owner) ++ (queue_names sc.threads (sleepers s m) ++ concat (codes "\n" ∷ []))
 
+-- ---- a condition variable
+
+-- the name of condition variable k
+abbrev pub condition_name : Scope → ℕ → List ℕ
+condition_name sc k = name_in (slice_get (map (λ c. c.0) sc.conditions) k)
+
+-- cond NAME COUNTER SLEEPERS
+abbrev pub condition_line : Scope → State → ℕ → List ℕ
+condition_line sc s k =
+    concat (codes "cond " ∷ condition_name sc k ∷ codes " " ∷ decimal (s.words (counter_place s.layout k)) ∷ codes " " ∷ [])
+    ++ (queue_names sc.threads (s.queues (counter_place s.layout k)) ++ concat (codes "\n" ∷ []))
+
 -- ---- a table
 
 abbrev pub thread_lines : Scope → State → List Note → List ℕ
@@ -92,6 +104,13 @@ thread_lines sc s ns = concat (map (thread_line sc.threads s ns) (range_with_len
 abbrev pub mutex_lines : Scope → State → List ℕ
 mutex_lines sc s = concat (map (mutex_line sc s) (range_with_len 0 (length sc.mutexes)))
 
--- the script's threads and then its mutexes, each in the order of their numbers, as they are in this state after these notes
+abbrev pub condition_lines : Scope → State → List ℕ
+condition_lines sc s = concat (map (condition_line sc s) (range_with_len 0 (length sc.conditions)))
+
+-- the script's mutexes and then its condition variables
+abbrev pub object_lines : Scope → State → List ℕ
+object_lines sc s = mutex_lines sc s ++ condition_lines sc s
+
+-- the script's threads, then its mutexes, then its condition variables, each in the order of their numbers, as they are in this state after these notes
 abbrev pub table_text : Scope → State → List Note → List ℕ
-table_text sc s ns = thread_lines sc s ns ++ mutex_lines sc s
+table_text sc s ns = thread_lines sc s ns ++ object_lines sc s

@@ -1,11 +1,11 @@
-//! The table of a run: how it left each thread and each mutex.
+//! The table of a run: how it left each thread, each mutex and each condition variable.
 
 ghost use Rattle.std.specs.Prelude.{◌≡◌, ◌<◌, ◌≤◌, ◌++◌, [], ◌∷◌, codes, length, slice_get, option_to_list};
 ghost use Rattle.std.specs.List.{concat, flat_map};
 ghost use Rattle.protocol.specs.Notes.{facts_of, return_facts};
 ghost use Rattle.interleave.specs.Shown.{state_of};
 ghost use Rattle.texts.specs.Leaves.{Leaves};
-ghost use Rattle.texts.specs.Tables.{name_in, name_of, deed, held_by, told_to, last_reply, reply_or_hyphen, owner_word, others_names, queue_names, thread_line, mutex_line, thread_lines, mutex_lines, table_text};
+ghost use Rattle.texts.specs.Tables.{name_in, name_of, deed, held_by, told_to, last_reply, reply_or_hyphen, owner_word, others_names, queue_names, thread_line, mutex_line, condition_line, thread_lines, mutex_lines, condition_lines, object_lines, table_text};
 
 use crate::mutex_start::write_mutex_start;
 use crate::pieces::put;
@@ -207,8 +207,50 @@ fn write_mutexes<W: Write>(out: &mut W, script: &Script, machine: &Machine) -> i
     Ok(())
 }
 
-/// Writes how a run of the script left its threads and mutexes: a line for each thread, in the order of their ids, and then one for each mutex. The trace and the machine
-/// are of that run. It takes no memory. At an error a beginning of the text is written.
+/// `cond NAME COUNTER SLEEPERS`: SLEEPERS in the order in which they are to be woken.
+fn write_condition<W: Write>(
+    out: &mut W,
+    script: &Script,
+    machine: &Machine,
+    condition: u16,
+) -> io::Result<()>
+    requires known { condition < length machine.now.layout.conditions }
+    requires named { condition < length script.now.conditions }
+    ensures { Leaves (W.contents out.old) (W.contents out.new) result (condition_line script.now (state_of machine.now) condition) }
+{
+    let mut digits = Buffer::new();
+    let place = machine.layout().counter(condition);
+    let counter = digits.format(machine.word(place).unwrap());
+    put(
+        out,
+        &["cond ", script.condition_name(condition), " ", counter, " "],
+    )?;
+    write_queue(out, script, &machine.sleepers(place))?;
+    put(out, &["\n"])
+}
+
+fn write_conditions<W: Write>(out: &mut W, script: &Script, machine: &Machine) -> io::Result<()>
+    requires { length machine.now.layout.conditions ≡ length script.now.conditions }
+    ensures { Leaves (W.contents out.old) (W.contents out.new) result (condition_lines script.now (state_of machine.now)) }
+{
+    for condition in 0..script.conditions() {
+        write_condition(out, script, machine, condition)?;
+    }
+    Ok(())
+}
+
+/// The mutexes' lines, and then those of the condition variables.
+fn write_objects<W: Write>(out: &mut W, script: &Script, machine: &Machine) -> io::Result<()>
+    requires mutexes { machine.now.layout.mutexes ≡ length script.now.mutexes }
+    requires conditions { length machine.now.layout.conditions ≡ length script.now.conditions }
+    ensures { Leaves (W.contents out.old) (W.contents out.new) result (object_lines script.now (state_of machine.now)) }
+{
+    write_mutexes(out, script, machine)?;
+    write_conditions(out, script, machine)
+}
+
+/// Writes how a run of the script left its threads, mutexes and condition variables: a line for each thread, in the order of their ids, then one for each mutex, then one for
+/// each condition variable. The trace and the machine are of that run. It takes no memory. At an error a beginning of the text is written.
 pub fn write_table<W: Write>(
     script: &Script,
     trace: &Trace,
@@ -217,8 +259,9 @@ pub fn write_table<W: Write>(
 ) -> io::Result<()>
     requires threads { machine.now.layout.threads ≡ length script.now.threads }
     requires mutexes { machine.now.layout.mutexes ≡ length script.now.mutexes }
+    requires conditions { length machine.now.layout.conditions ≡ length script.now.conditions }
     ensures { Leaves (W.contents out.old) (W.contents out.new) result (table_text script.now (state_of machine.now) trace.now.notes.items) }
 {
     write_threads(out, script, &trace.notes, machine)?;
-    write_mutexes(out, script, machine)
+    write_objects(out, script, machine)
 }

@@ -1,7 +1,7 @@
 //! The text of a trace.
 
 ghost use Rattle.std.specs.Prelude.{◌≡◌, [], ◌∷◌, ◌++◌, map};
-ghost use Rattle.protocol.specs.Notes.{begun_of, facts_of, point_facts, sleep_facts, refusal_facts, return_facts, death_facts, reap_facts};
+ghost use Rattle.protocol.specs.Notes.{facts_of, moves_to, point_facts, sleep_facts, refusal_facts, return_facts, death_facts, reap_facts};
 ghost use Rattle.facts.specs.declared.fact.Fact.TheVariants.{Wake};
 ghost use Rattle.texts.specs.Leaves.{Leaves};
 ghost use Rattle.texts.specs.Text.{facts_text, notes_text, trace_text};
@@ -12,7 +12,6 @@ use facts::{Begun, Fact, Queue};
 use interleave::Trace;
 use keys::Decision;
 use lockword::{Reply, Tid};
-use mutex::Call;
 use protocol::Note;
 use std::io::{self, Write};
 
@@ -31,12 +30,12 @@ fn write_slept<W: Write>(
     out: &mut W,
     event: usize,
     thread: Tid,
-    slept: Option<u16>,
+    slept: Option<Queue>,
 ) -> io::Result<()>
     ensures { Leaves (W.contents out.old) (W.contents out.new) result (facts_text event (sleep_facts thread slept)) }
 {
     match slept {
-        Some(mutex) => write_fact(out, event, Fact::Sleep(thread, Queue::Mutex(mutex))),
+        Some(queue) => write_fact(out, event, Fact::Sleep(thread, queue)),
         None => Ok(()),
     }
 }
@@ -50,6 +49,19 @@ fn write_woken<W: Write>(out: &mut W, event: usize, woken: &Batch) -> io::Result
             unreachable!()
         };
         write_fact(out, event, Fact::Wake(thread))?;
+    }
+    Ok(())
+}
+
+/// The lines of those that were moved to the mutex's queue, in their order.
+fn write_moved<W: Write>(out: &mut W, event: usize, mutex: u16, moved: &Batch) -> io::Result<()>
+    ensures { Leaves (W.contents out.old) (W.contents out.new) result (facts_text event (map (moves_to mutex) moved.now)) }
+{
+    for place in 0..moved.len() {
+        let Some(thread) = moved.get(place) else {
+            unreachable!()
+        };
+        write_fact(out, event, Fact::Move(thread, mutex))?;
     }
     Ok(())
 }
@@ -69,24 +81,12 @@ fn write_returned<W: Write>(
     }
 }
 
-/// A call on a mutex, as its begin is told.
-fn begun(call: Call) -> Begun
-    ensures { result ≡ begun_of call }
-{
-    let mutex = call.mutex();
-    Begun {
-        operation: call.operation(),
-        mutex,
-        condition: None,
-    }
-}
-
 /// The lines of a call that was refused as it began, if it was: it is decided and returns at once.
 fn write_refused<W: Write>(
     out: &mut W,
     event: usize,
     thread: Tid,
-    call: Call,
+    call: Begun,
     refused: Option<Reply>,
 ) -> io::Result<()>
     ensures { Leaves (W.contents out.old) (W.contents out.new) result (facts_text event (refusal_facts thread call refused)) }
@@ -96,41 +96,56 @@ fn write_refused<W: Write>(
     };
     let decision = Decision {
         thread,
-        mutex: call.mutex(),
-        operation: call.operation(),
+        mutex: call.mutex,
+        operation: call.operation,
         reply,
     };
     write_fact(out, event, Fact::Point(decision))?;
     write_fact(out, event, Fact::Return(thread, reply))
 }
 
-/// The lines of those that an access woke, and of its thread's return.
+/// What an access of a call did, behind its point: where its thread fell asleep, whom it woke, whom it moved to the mutex's queue, and what the call returned.
+#[derive(Clone, Copy)]
+struct Effects {
+    mutex: u16,
+    slept: Option<Queue>,
+    woken: Batch,
+    moved: Batch,
+    returned: Option<Reply>,
+}
+
+/// The lines of those that an access moved, and of its thread's return.
+fn write_moves_and_return<W: Write>(
+    out: &mut W,
+    event: usize,
+    thread: Tid,
+    effects: &Effects,
+) -> io::Result<()>
+    ensures { Leaves (W.contents out.old) (W.contents out.new) result (facts_text event (map (moves_to effects.now.mutex) effects.now.moved ++ return_facts thread effects.now.returned)) }
+{
+    write_moved(out, event, effects.mutex, &effects.moved)?;
+    write_returned(out, event, thread, effects.returned)
+}
+
+/// The lines of those that an access woke and moved, and of its thread's return.
 fn write_end_of_step<W: Write>(
     out: &mut W,
     event: usize,
     thread: Tid,
-    woken: &Batch,
-    returned: Option<Reply>,
+    effects: &Effects,
 ) -> io::Result<()>
-    ensures { Leaves (W.contents out.old) (W.contents out.new) result (facts_text event (map Wake woken.now ++ return_facts thread returned)) }
+    ensures { Leaves (W.contents out.old) (W.contents out.new) result (facts_text event (map Wake effects.now.woken ++ (map (moves_to effects.now.mutex) effects.now.moved ++ return_facts thread effects.now.returned))) }
 {
-    write_woken(out, event, woken)?;
-    write_returned(out, event, thread, returned)
+    write_woken(out, event, &effects.woken)?;
+    write_moves_and_return(out, event, thread, effects)
 }
 
 /// The lines of what an access did, behind its point.
-fn write_step<W: Write>(
-    out: &mut W,
-    event: usize,
-    thread: Tid,
-    slept: Option<u16>,
-    woken: &Batch,
-    returned: Option<Reply>,
-) -> io::Result<()>
-    ensures { Leaves (W.contents out.old) (W.contents out.new) result (facts_text event (sleep_facts thread slept ++ (map Wake woken.now ++ return_facts thread returned))) }
+fn write_step<W: Write>(out: &mut W, event: usize, thread: Tid, effects: &Effects) -> io::Result<()>
+    ensures { Leaves (W.contents out.old) (W.contents out.new) result (facts_text event (sleep_facts thread effects.now.slept ++ (map Wake effects.now.woken ++ (map (moves_to effects.now.mutex) effects.now.moved ++ return_facts thread effects.now.returned)))) }
 {
-    write_slept(out, event, thread, slept)?;
-    write_end_of_step(out, event, thread, woken, returned)
+    write_slept(out, event, thread, effects.slept)?;
+    write_end_of_step(out, event, thread, effects)
 }
 
 /// The line of the mutex of which the thread's death was told, if it was.
@@ -184,18 +199,27 @@ fn write_note<W: Write>(out: &mut W, event: usize, note: Note) -> io::Result<()>
             call,
             refused,
         } => {
-            write_fact(out, event, Fact::Begin(thread, begun(call)))?;
+            write_fact(out, event, Fact::Begin(thread, call))?;
             write_refused(out, event, thread, call, refused)
         }
         Note::Stepped {
             thread,
+            mutex,
             point,
             slept,
             woken,
+            moved,
             returned,
         } => {
             write_decided(out, event, point)?;
-            write_step(out, event, thread, slept, &woken, returned)
+            let effects = Effects {
+                mutex,
+                slept,
+                woken,
+                moved,
+                returned,
+            };
+            write_step(out, event, thread, &effects)
         }
         Note::Killed { thread } => write_fact(out, event, Fact::Kill(thread)),
         Note::Walked {

@@ -9,7 +9,7 @@ use Rattle.texts.proofs.table.reply_in.Goals as goal
 pub returns-in-Stepped : goal.returns-in-Stepped
 returns-in-Stepped c =
     let n = c.in-Stepped in
-    c.reply_to-in-Stepped.ensures ∙ sym (told_at_step c.args.thread n.caller n.point n.slept n.woken n.returned) ∙ ap (λ (m : Note). flat_map (told_to c.args.thread) (facts_of m)) (sym n.is)
+    c.reply_to-in-Stepped.ensures ∙ sym (told_at_step c.args.thread n.caller n.mutex n.point n.slept n.woken n.moved n.returned) ∙ ap (λ (m : Note). flat_map (told_to c.args.thread) (facts_of m)) (sym n.is)
 
 pub returns-in-Nothing : goal.returns-in-Nothing
 returns-in-Nothing c = elim c.in-Nothing.is [

@@ -1,6 +1,6 @@
-use Rattle.std.proofs.Common.{map}
+use Rattle.std.proofs.Common.{◌++◌, map}
 use Rattle.facts.specs.declared.fact.Fact.TheVariants.{Wake}
-use Rattle.protocol.specs.Notes.{return_facts}
+use Rattle.protocol.specs.Notes.{moves_to, return_facts}
 use Rattle.texts.specs.Text.{facts_text}
 use Rattle.texts.proofs.Events.{facts_text-append}
 use Rattle.texts.proofs.Writers.{ends_at_first, then_leaves}
@@ -8,12 +8,14 @@ use Rattle.texts.proofs.text.write_end_of_step.Goals as goal
 
 pub returns-in_err-write_woken : goal.returns-in_err-write_woken
 returns-in_err-write_woken g c =
-    let now = map Wake c.args.woken.now in
-    let later = return_facts c.args.thread c.args.returned in
+    let e = c.args.effects.now in
+    let now = map Wake e.woken in
+    let later = map (moves_to e.mutex) e.moved ++ return_facts c.args.thread e.returned in
     rw (facts_text-append c.args.event now later) (ends_at_first _ _ c.from_residual.result (facts_text c.args.event now) (facts_text c.args.event later) c.from_residual.ensures.0 c.in_err-write_woken.ensures)
 
 pub returns : goal.returns
 returns g c =
-    let now = map Wake c.args.woken.now in
-    let later = return_facts c.args.thread c.args.returned in
-    rw (facts_text-append c.args.event now later) (then_leaves _ _ _ c.write_returned.result (facts_text c.args.event now) (facts_text c.args.event later) c.in_ok-write_woken.ensures c.write_returned.ensures)
+    let e = c.args.effects.now in
+    let now = map Wake e.woken in
+    let later = map (moves_to e.mutex) e.moved ++ return_facts c.args.thread e.returned in
+    rw (facts_text-append c.args.event now later) (then_leaves _ _ _ c.write_moves_and_return.result (facts_text c.args.event now) (facts_text c.args.event later) c.in_ok-write_woken.ensures c.write_moves_and_return.ensures)

@@ -7,10 +7,8 @@ use Rattle.texts.proofs.text.write_refused.Goals as goal
 
 pub returns-in_err-write_fact : goal.returns-in_err-write_fact
 returns-in_err-write_fact g c =
-    let point = rw (c.mutex.ensures, c.operation.ensures) at c.in_err-write_fact.ensures in
-    rw c.in-Some.is (ends_at_first _ _ c.from_residual.result _ (facts_text c.args.event (Return c.args.thread c.in-Some.reply ∷ [])) c.from_residual.ensures.0 point)
+    rw c.in-Some.is (ends_at_first _ _ c.from_residual.result _ (facts_text c.args.event (Return c.args.thread c.in-Some.reply ∷ [])) c.from_residual.ensures.0 c.in_err-write_fact.ensures)
 
 pub returns : goal.returns
 returns g c =
-    let point = rw (c.mutex.ensures, c.operation.ensures) at c.in_ok-write_fact.ensures in
-    rw c.in-Some.is (then_leaves _ _ _ c.write_fact-2.result _ (facts_text c.args.event (Return c.args.thread c.in-Some.reply ∷ [])) point (leaves_fact _ _ c.write_fact-2.result c.args.event (Return c.args.thread c.in-Some.reply) c.write_fact-2.ensures))
+    rw c.in-Some.is (then_leaves _ _ _ c.write_fact-2.result _ (facts_text c.args.event (Return c.args.thread c.in-Some.reply ∷ [])) c.in_ok-write_fact.ensures (leaves_fact _ _ c.write_fact-2.result c.args.event (Return c.args.thread c.in-Some.reply) c.write_fact-2.ensures))
