@@ -56,7 +56,7 @@ pub told_fails : (old new : Option (List ℕ)) (bytes : List ℕ) (s : Scope) (a
 told_fails old new bytes s a reads answer Usage h = absurd h
 told_fails old new bytes s a reads answer CannotRead h = absurd h
 told_fails old new bytes s a reads answer CannotWrite h = told_front old new bytes s a reads answer h
-told_fails old new bytes s a reads answer OutOfMemory h = h
+told_fails old new bytes s a reads answer OutOfMemory h = (h, (s, reads))
 told_fails old new bytes s a reads answer (Script e) h = absurd h
 told_fails old new bytes s a reads answer (Trace e) h = absurd h
 
@@ -76,9 +76,7 @@ script_fails_at : (k : Report) (had left old new : Option (List ℕ)) (bytes : L
 script_fails_at k had left old new bytes taken end Usage h = absurd h
 script_fails_at k had left old new bytes taken end CannotRead h = absurd h
 script_fails_at k had left old new bytes taken end CannotWrite h = (bytes, taken, end, h)
-script_fails_at trace had left old new bytes taken end OutOfMemory h = absurd h
-script_fails_at table had left old new bytes taken end OutOfMemory h = absurd h
-script_fails_at replies had left old new bytes taken end OutOfMemory h = h
+script_fails_at k had left old new bytes taken end OutOfMemory h = h.0
 script_fails_at k had left old new bytes taken end (Script e) h = (bytes, taken, end, h)
 script_fails_at k had left old new bytes taken end (Trace e) h = absurd h
 

@@ -2,14 +2,14 @@
 use Rattle.std.proofs.Common.{◌≡◌, ◌&&◌, ℕ, Bool, true, false, List, [], ◌∷◌, refl, ◌∙◌, if◌then◌else◌}
 use Rattle.std.specs.Prelude.{Result, Ok, Err}
 use Rattle.lockword.specs.declared.reply.Reply.{Reply}
-use Rattle.mutex.specs.declared.call.Call.{Call}
-use Rattle.mutex.specs.Standings.{Whole}
-use Rattle.mutex.specs.Whole.{whole_started, whole_access, whole_led}
+use Rattle.mutex.specs.Whole.{whole_access, whole_led}
+use Rattle.protocol.specs.Ops.{mutex_of}
+use Rattle.protocol.specs.declared.event.Op.{Op}
 use Rattle.protocol.specs.declared.event.Event.{Event}
 use Rattle.protocol.specs.declared.event.Event.TheVariants.{Begin, Step, Kill}
 use Rattle.protocol.specs.declared.thread.Stage.{Stage}
-use Rattle.protocol.specs.declared.thread.Stage.TheVariants.{Idle, Calling, Dying, Reaped}
-use Rattle.protocol.specs.Machine.{State, After, nothing, is_thread, is_alive, may_begin, begun, killed, sleeps, went, answer_of, stepped, happens, run}
+use Rattle.protocol.specs.declared.thread.Stage.TheVariants.{Idle, Calling, AtCondition, Dying, Reaped}
+use Rattle.protocol.specs.Machine.{State, After, nothing, is_thread, is_alive, may_begin, first_stage, begun, killed, sleeps, led, went, answer_of, stepped, happens, run}
 
 -- whichever of two states comes, both have the layout
 either : (s : State) (b : Bool) (a : After) → a.state.layout ≡ s.layout → (if b then a else nothing s).state.layout ≡ s.layout
@@ -20,18 +20,20 @@ or_else : (s : State) (b : Bool) (a : After) → a.state.layout ≡ s.layout →
 or_else s true a h = refl
 or_else s false a h = h
 
-begun_layout : (s : State) (t : ℕ) (c : Call) (r : Result Whole Reply) → (begun s t c r).state.layout ≡ s.layout
-begun_layout s t c (Ok p) = refl
-begun_layout s t c (Err x) = refl
+begun_layout : (s : State) (t : ℕ) (o : Op) (r : Result Stage Reply) → (begun s t o r).state.layout ≡ s.layout
+begun_layout s t o (Ok g) = refl
+begun_layout s t o (Err x) = refl
 
 stepped_layout : (s : State) (t held : ℕ) (g : Stage) → (stepped s t held g).state.layout ≡ s.layout
 stepped_layout s t held Idle = refl
-stepped_layout s t held (Calling c p) = or_else s (sleeps s t (Calling c p)) (went s t held c p (whole_led p (answer_of s t (whole_access p)))) refl
+stepped_layout s t held (Calling o p) =
+    or_else s (sleeps s t (Calling o p)) (went s t held (mutex_of s.layout o) _ (whole_access p) (led o p (whole_led p (answer_of s t (whole_access p))))) refl
+stepped_layout s t held (AtCondition c p) = refl
 stepped_layout s t held (Dying w) = refl
 stepped_layout s t held Reaped = refl
 
 happens_layout : (s : State) (e : Event) → (happens s e).state.layout ≡ s.layout
-happens_layout s (Begin t c) = either s (may_begin s t c) (begun s t c (whole_started s.layout t (s.threads t).held c)) (begun_layout s t c (whole_started s.layout t (s.threads t).held c))
+happens_layout s (Begin t o) = either s (may_begin s t o) (begun s t o (first_stage s.layout t (s.threads t).held o)) (begun_layout s t o (first_stage s.layout t (s.threads t).held o))
 happens_layout s (Step t) = either s (is_thread s t) (stepped s t (s.threads t).held (s.threads t).stage) (stepped_layout s t (s.threads t).held (s.threads t).stage)
 happens_layout s (Kill t) = either s (is_thread s t && is_alive (s.threads t).stage) (killed s t) refl
 

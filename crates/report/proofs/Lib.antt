@@ -7,3 +7,4 @@ mod Servings
 mod Layouts
 mod Judged
 mod Failures
+mod Asking

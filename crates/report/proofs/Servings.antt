@@ -3,9 +3,11 @@ use Rattle.std.proofs.Common.{◌≡◌, ℕ, List, ◌++◌, length, map, Optio
 use Rattle.std.specs.List.{concat}
 use Rattle.std.specs.Io.KnownBytes.{Appends}
 use Rattle.keys.specs.Layouts.{Layout'}
+use Rattle.protocol.specs.declared.note.Note.{Note}
 use Rattle.protocol.specs.Machine.{State}
 use Rattle.protocol.specs.Notes.{lines_from}
 use Rattle.interleave.specs.declared.trace.Trace.{Trace}
+use Rattle.interleave.specs.Runs.{IsLegalRun}
 use Rattle.interleave.specs.Shown.{Shown, state_of}
 use Rattle.script.specs.declared.command.Mode.TheVariants.{Run, Threads}
 use Rattle.script.specs.declared.fault.ScriptFault.{ScriptFault}
@@ -19,15 +21,22 @@ use Rattle.texts.specs.Replies.{replies_text}
 use Rattle.texts.specs.Leaves.{AppendsFront}
 use Rattle.texts.specs.Text.{head_line, line_text, end_line, trace_text}
 use Rattle.texts.specs.Tables.{table_text}
-use Rattle.report.specs.Served.{Report, trace, table, replies, mode_of, meaning, meant_table, Means, Answer, Tells, TellsFront, Written, WrittenFront}
+use Rattle.report.specs.Served.{Report, trace, table, replies, mode_of, meaning, meant_table, RunsLegally, Means, Answer, Tells, TellsFront, Written, WrittenFront}
+use Rattle.script.proofs.Names.{length-map_of}
 
 -- the text of the trace is the script's meaning
 meaning-is : (s : Scope) (t : Trace) (m : Shown) → IsPlayed s t m → trace_text t ≡ meaning s
-meaning-is s t m p = λ i. head_line (p.numbers.threads i) (p.numbers.mutexes i) (p.numbers.conditions i) ++ (concat (map line_text (lines_from 1 (p.notes i))) ++ end_line (length (p.notes i)))
+meaning-is s t m p =
+    let conditions = p.numbers.conditions ∙ length-map_of (λ c. c.1.mutex) s.conditions in
+    λ i. head_line (p.numbers.threads i) (p.numbers.mutexes i) (conditions i) ++ (concat (map line_text (lines_from 1 (p.notes i))) ++ end_line (length (p.notes i)))
 
 -- the table of what was played is the script's
 table-is : (s : Scope) (t : Trace) (m : Shown) → IsPlayed s t m → table_text s (state_of m) t.notes.items ≡ meant_table s
 table-is s t m p = λ i. table_text s (p.machine i) (p.notes i)
+
+-- what is told of the script's events is told of a legal run
+runs_legally : (s : Scope) (t : Trace) (m : Shown) → IsPlayed s t m → RunsLegally s
+runs_legally s t m p = subst (λ (ns : List Note). IsLegalRun (first_state s) (events_in s) ns) p.notes p.legal
 
 -- the machine of a script that was played has the script's threads and mutexes
 machine_layout : (s : Scope) (t : Trace) (m : Shown) → IsPlayed s t m → m.layout ≡ layout_of s
@@ -38,6 +47,9 @@ machine_threads s t m p = ap (λ (l : Layout'). l.threads) (machine_layout s t m
 
 pub machine_mutexes : (s : Scope) (t : Trace) (m : Shown) → IsPlayed s t m → m.layout.mutexes ≡ length s.mutexes
 machine_mutexes s t m p = ap (λ (l : Layout'). l.mutexes) (machine_layout s t m p)
+
+pub machine_conditions : (s : Scope) (t : Trace) (m : Shown) → IsPlayed s t m → length m.layout.conditions ≡ length s.conditions
+machine_conditions s t m p = ap (λ (l : Layout'). length l.conditions) (machine_layout s t m p) ∙ length-map_of (λ c. c.1.mutex) s.conditions
 
 -- what may be told of a script that was read was written, or a beginning of it
 pub wrote : (k : Report) (old new : Option (List ℕ)) (bytes : List ℕ) (s : Scope) (text : List ℕ) → script_read (mode_of k) bytes ≡ Ok s → Means k s text → Appends old new text → Written k old new bytes
@@ -50,17 +62,17 @@ wrote_front k old new bytes s text reads means a =
 
 -- the trace of a script that was played is what it means
 pub written : (old new : Option (List ℕ)) (bytes : List ℕ) (s : Scope) (t : Trace) (m : Shown) → script_read Run bytes ≡ Ok s → IsPlayed s t m → Appends old new (trace_text t) → Written trace old new bytes
-written old new bytes s t m reads p a = wrote trace old new bytes s (trace_text t) reads (p.fits, meaning-is s t m p) a
+written old new bytes s t m reads p a = wrote trace old new bytes s (trace_text t) reads (p.fits, runs_legally s t m p, meaning-is s t m p) a
 
 pub written_front : (old new : Option (List ℕ)) (bytes : List ℕ) (s : Scope) (t : Trace) (m : Shown) → script_read Run bytes ≡ Ok s → IsPlayed s t m → AppendsFront old new (trace_text t) → WrittenFront trace old new bytes
-written_front old new bytes s t m reads p a = wrote_front trace old new bytes s (trace_text t) reads (p.fits, meaning-is s t m p) a
+written_front old new bytes s t m reads p a = wrote_front trace old new bytes s (trace_text t) reads (p.fits, runs_legally s t m p, meaning-is s t m p) a
 
 -- and so is its table
 pub tabled : (old new : Option (List ℕ)) (bytes : List ℕ) (s : Scope) (t : Trace) (m : Shown) → script_read Run bytes ≡ Ok s → IsPlayed s t m → Appends old new (table_text s (state_of m) t.notes.items) → Written table old new bytes
-tabled old new bytes s t m reads p a = wrote table old new bytes s (table_text s (state_of m) t.notes.items) reads (p.fits, table-is s t m p) a
+tabled old new bytes s t m reads p a = wrote table old new bytes s (table_text s (state_of m) t.notes.items) reads (p.fits, runs_legally s t m p, table-is s t m p) a
 
 pub tabled_front : (old new : Option (List ℕ)) (bytes : List ℕ) (s : Scope) (t : Trace) (m : Shown) → script_read Run bytes ≡ Ok s → IsPlayed s t m → AppendsFront old new (table_text s (state_of m) t.notes.items) → WrittenFront table old new bytes
-tabled_front old new bytes s t m reads p a = wrote_front table old new bytes s (table_text s (state_of m) t.notes.items) reads (p.fits, table-is s t m p) a
+tabled_front old new bytes s t m reads p a = wrote_front table old new bytes s (table_text s (state_of m) t.notes.items) reads (p.fits, runs_legally s t m p, table-is s t m p) a
 
 -- what was told of a script's threads is what it means
 pub told : (old new : Option (List ℕ)) (bytes : List ℕ) (s : Scope) (a : Answers) → script_read Threads bytes ≡ Ok s → Answer s a → Tells old new s a → Written replies old new bytes

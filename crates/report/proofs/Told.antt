@@ -11,7 +11,7 @@ use Rattle.lockword.specs.declared.reply.Reply.TheVariants.{XHELD}
 use Rattle.keys.specs.declared.point.Point.{Point}
 use Rattle.keys.specs.declared.point.Operation.{Operation}
 use Rattle.keys.specs.Layouts.{Layout', cell_place}
-use Rattle.keys.specs.Objects.{object_of}
+use Rattle.keys.specs.Objects.{acquires, object_of}
 use Rattle.mutex.specs.declared.call.Call.{Call}
 use Rattle.mutex.specs.declared.call.Call.TheVariants.{Lock, TryLock, Unlock, Consistent}
 use Rattle.mutex.specs.Calls.{mutex_of, operation_of}
@@ -32,7 +32,7 @@ use Rattle.report.proofs.Phases.{some_at, all_at}
 -- what a call adds to the points that its own thread made at p: nothing, or its point
 abbrev Adds : Card → ℕ → ℕ → Operation → Reply → Card → Type 0
 Adds c place p op r d =
-    (d.thread ≡ c.thread) × (((place ≢ p) ⊎ (r ≡ XHELD)) × (by c.thread (at d.seen p) ≡ by c.thread (at c.seen p))
+    (d.thread ≡ c.thread) × (((place ≢ p) ⊎ ((acquires op ≡ true) × (r ≡ XHELD))) × (by c.thread (at d.seen p) ≡ by c.thread (at c.seen p))
     ⊎ (place ≡ p) × (by c.thread (at d.seen p) ≡ by c.thread (at c.seen p) ++ record { thread = c.thread; at = p; operation = op; reply = r } ∷ []))
 
 called_adds : (c d : Card) (place p : ℕ) (op : Operation) (r : Reply) → Called c place op r d → Adds c place p op r d
@@ -43,16 +43,16 @@ called_adds c d place p op r (o, sees) = (
       (λ other. inl (inl (λ e. other (sym e)), ap (by c.thread) (sees.elsewhere p other))),
 )
 
-held_adds : (c d : Card) (place p : ℕ) (op : Operation) (r : Reply) → r ≡ XHELD → d ≡ c → Adds c place p op r d
-held_adds c d place p op r refused same = (ap (λ (z : Card). z.thread) same, inl (inr refused, ap (λ (z : Card). by c.thread (at z.seen p)) same))
+held_adds : (c d : Card) (place p : ℕ) (op : Operation) (r : Reply) → acquires op ≡ true → r ≡ XHELD → d ≡ c → Adds c place p op r d
+held_adds c d place p op r takes refused same = (ap (λ (z : Card). z.thread) same, inl (inr (takes, refused), ap (λ (z : Card). by c.thread (at z.seen p)) same))
 
-either_adds : (b : Bool) (c d : Card) (place p : ℕ) (op : Operation) (r : Reply) (P : Type 0) → (P → Called c place op r d) → MatchBool b ((r ≡ XHELD) × (d ≡ c)) P → Adds c place p op r d
-either_adds true c d place p op r P calls m = held_adds c d place p op r m.0 m.1
-either_adds false c d place p op r P calls m = called_adds c d place p op r (calls m)
+either_adds : (b : Bool) (c d : Card) (place p : ℕ) (op : Operation) (r : Reply) (P : Type 0) → acquires op ≡ true → (P → Called c place op r d) → MatchBool b ((r ≡ XHELD) × (d ≡ c)) P → Adds c place p op r d
+either_adds true c d place p op r P takes calls m = held_adds c d place p op r takes m.0 m.1
+either_adds false c d place p op r P takes calls m = called_adds c d place p op r (calls m)
 
 replied_adds : (w : Words) (a : Pass Live) (call : Call) (r : Reply) (b : Pass Live) (p : ℕ) → Replied w a call r b → Adds (card a) (cell_place (layout_of w) (mutex_of call)) p (operation_of call) r (card b)
-replied_adds w a (Lock m) r b p t = either_adds (nat_le 2048 (held (card a))) (card a) (card b) (cell_place (layout_of w) m) p _ r _ (λ c. c) t.1
-replied_adds w a (TryLock m) r b p t = either_adds (nat_le 2048 (held (card a))) (card a) (card b) (cell_place (layout_of w) m) p _ r _ (λ c. c.0) t.1
+replied_adds w a (Lock m) r b p t = either_adds (nat_le 2048 (held (card a))) (card a) (card b) (cell_place (layout_of w) m) p _ r _ refl (λ c. c) t.1
+replied_adds w a (TryLock m) r b p t = either_adds (nat_le 2048 (held (card a))) (card a) (card b) (cell_place (layout_of w) m) p _ r _ refl (λ c. c.0) t.1
 replied_adds w a (Unlock m) r b p t = called_adds (card a) (card b) (cell_place (layout_of w) m) p _ r t.1
 replied_adds w a (Consistent m) r b p t = called_adds (card a) (card b) (cell_place (layout_of w) m) p _ r t.1
 
@@ -67,8 +67,8 @@ first_added t k m call cs r rs c d e mine adds rest =
     let xs = rest.1.0 in (
       rest.0,
       ⊎_elim
-          (λ (no : ((there ≢ p) ⊎ (r ≡ XHELD)) × (by c.thread (at d.seen p) ≡ by c.thread (at c.seen p))).
-          (xs, rest.1.1 ∙ ap (λ l. l ++ xs) (subst (λ (z : ℕ). by z (at d.seen p) ≡ by z (at c.seen p)) mine no.1), inl (⊎_elim (λ (apart : there ≢ p). inl (λ same. apart (ap (cell_place k) same))) (λ (x : r ≡ XHELD). inr x) no.0, rest.1.2)))
+          (λ (no : ((there ≢ p) ⊎ ((acquires (operation_of call) ≡ true) × (r ≡ XHELD))) × (by c.thread (at d.seen p) ≡ by c.thread (at c.seen p))).
+          (xs, rest.1.1 ∙ ap (λ l. l ++ xs) (subst (λ (z : ℕ). by z (at d.seen p) ≡ by z (at c.seen p)) mine no.1), inl (⊎_elim (λ (apart : there ≢ p). inl (λ same. apart (ap (cell_place k) same))) (λ (x : (acquires (operation_of call) ≡ true) × (r ≡ XHELD)). inr x) no.0, rest.1.2)))
           (λ (yes : (there ≡ p) × (by c.thread (at d.seen p) ≡ by c.thread (at c.seen p) ++ record { thread = c.thread; at = p; operation = operation_of call; reply = r } ∷ [])).
           let point : Point = record { thread = t; at = p; operation = operation_of call; reply = r } in (
             point ∷ xs,

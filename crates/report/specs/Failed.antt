@@ -47,18 +47,18 @@ Stops replies s e = e ≡ record { line = 1; fault = fault.OutOfMemory }
 abbrev pub IsFaultOf : Report → List ℕ → ScriptFault → Type 0
 IsFaultOf k bytes e = (TellsAt e e.fault (script_read (mode_of k) bytes) × (e.fault ≡ fault.OutOfMemory → SpeaksAt bytes e.line)) ⊎ ((s : Scope) × (script_read (mode_of k) bytes ≡ Ok s) × Stops k s e)
 
--- memory that no line asks for is wanted by real threads alone
-abbrev pub WantsMemory : Report → Option (List ℕ) → Option (List ℕ) → Type 0
-WantsMemory trace old new = ⊥
-WantsMemory table old new = ⊥
-WantsMemory replies old new = new ≡ old
+-- memory that no line asks for is wanted by real threads alone, of a script that was read
+abbrev pub WantsMemory : Report → List ℕ → Type 0
+WantsMemory trace bytes = ⊥
+WantsMemory table bytes = ⊥
+WantsMemory replies bytes = (s : Scope) × (script_read (mode_of replies) bytes ≡ Ok s)
 
 -- why what is told of a script with these bytes wasn't written, or not all: a fault of the script, or want of memory, before the first byte; or a writer that failed behind a beginning
 abbrev pub Fails : Report → List ℕ → Option (List ℕ) → Option (List ℕ) → Failure → Type 0
 Fails k bytes old new Usage = ⊥
 Fails k bytes old new CannotRead = ⊥
 Fails k bytes old new CannotWrite = WrittenFront k old new bytes
-Fails k bytes old new OutOfMemory = WantsMemory k old new
+Fails k bytes old new OutOfMemory = (new ≡ old) × WantsMemory k bytes
 Fails k bytes old new (Script e) = (new ≡ old) × IsFaultOf k bytes e
 Fails k bytes old new (Trace e) = ⊥
 

@@ -1,5 +1,5 @@
 -- What the program does with the words of its command line.
-use Rattle.std.specs.Prelude.{ℕ, ◌≡◌, ◌⊎◌, ⊤, List, [], Option, Result, Ok, Err, Vec, String, map, string_bytes}
+use Rattle.std.specs.Prelude.{ℕ, ◌≡◌, ◌≢◌, ◌⊎◌, List, [], Option, Result, Ok, Err, Vec, String, map, string_bytes}
 use Rattle.std.specs.declared.io.Error.{Error}
 use Rattle.std.specs.declared.alloc.Global.{Global}
 use Rattle.std.specs.declared.io.ErrorKind.{ErrorKind}
@@ -8,7 +8,7 @@ use Rattle.cmdline.specs.declared.form.Form.{Form}
 use Rattle.cmdline.specs.Forms.{Asked, run, table, threads, check, usage, asked_of, asked_by}
 use Rattle.texts.specs.Leaves.{AppendsFront}
 use Rattle.report.specs.declared.messages.Failure.{Failure}
-use Rattle.report.specs.declared.messages.Failure.TheVariants.{Usage, CannotRead, CannotWrite, OutOfMemory, Script, Trace}
+use Rattle.report.specs.declared.messages.Failure.TheVariants.{CannotRead, OutOfMemory}
 use Rattle.report.specs.Messages.{failure_text, failure_status}
 use Rattle.report.specs.Failed.{Ends}
 
@@ -30,16 +30,21 @@ abbrev pub unopened_by : ErrorKind → Failure
 unopened_by kind.OutOfMemory = OutOfMemory
 unopened_by _ = CannotRead
 
--- before a file was opened memory was wanted; or there is a file, and it couldn't be opened
-abbrev pub IsUnopened : Asked → Failure → Type 0
-IsUnopened a OutOfMemory = ⊤
-IsUnopened a CannotRead = a ≡ usage → ⊥
-IsUnopened a Usage = ⊥
-IsUnopened a CannotWrite = ⊥
-IsUnopened a (Script e) = ⊥
-IsUnopened a (Trace e) = ⊥
+-- a file is asked for, and opening it gave an error that is told as this
+abbrev pub IsUnopened : (List ℕ → Result (Option (List ℕ)) ErrorKind → Type 0) → Asked → Failure → Type 0
+IsUnopened Opens a g = (a ≢ usage) × (k : ErrorKind) × Opens (file_asked a) (Err k) × (g ≡ unopened_by k)
 
--- how the program ended: a form that asks for the same was served, from some reader; or no file was opened, nothing was written, and that is told, or a beginning of it
-abbrev pub RunEnds : Asked → Option (List ℕ) → Option (List ℕ) → Type 0 → Type 0 → Option (List ℕ) → Option (List ℕ) → ℕ → Type 0
-RunEnds a old new LetGo Quiet told told' status = ((f : Form) × (asked_by f ≡ a) × (had : Option (List ℕ)) × (left : Option (List ℕ)) × Ends f had left old new LetGo Quiet told told' status)
-    ⊎ ((g : Failure) × IsUnopened a g × (new ≡ old) × AppendsFront told told' (failure_text (file_asked a) g) × (status ≡ failure_status g))
+-- how a form ended: one that asks for the same was served, from what opening its file gave; or the file couldn't be opened, nothing was written, and that is told, or a beginning of it
+abbrev pub NamedEnds : (List ℕ → Result (Option (List ℕ)) ErrorKind → Type 0) → Asked → Option (List ℕ) → Option (List ℕ) → Type 0 → Type 0 → Option (List ℕ) → Option (List ℕ) → ℕ → Type 0
+NamedEnds Opens a old new LetGo Quiet told told' status =
+    ((f : Form) × (asked_by f ≡ a) × (had : Option (List ℕ)) × (a ≢ usage → Opens (file_asked a) (Ok had)) × (left : Option (List ℕ)) × Ends f had left old new LetGo Quiet told told' status)
+    ⊎ ((g : Failure) × IsUnopened Opens a g × (new ≡ old) × AppendsFront told told' (failure_text (file_asked a) g) × (status ≡ failure_status g))
+
+-- memory for the words of the command line was wanted, which names no file: nothing was written, and that is told, or a beginning of it. That memory was refused for them no contract of the library
+-- says: an error for want of memory is one that anybody can make
+abbrev pub IsUnserved : Option (List ℕ) → Option (List ℕ) → Option (List ℕ) → Option (List ℕ) → ℕ → Type 0
+IsUnserved old new told told' status = (new ≡ old) × AppendsFront told told' (failure_text [] OutOfMemory) × (status ≡ failure_status OutOfMemory)
+
+-- how the program ended
+abbrev pub RunEnds : (List ℕ → Result (Option (List ℕ)) ErrorKind → Type 0) → Asked → Option (List ℕ) → Option (List ℕ) → Type 0 → Type 0 → Option (List ℕ) → Option (List ℕ) → ℕ → Type 0
+RunEnds Opens a old new LetGo Quiet told told' status = NamedEnds Opens a old new LetGo Quiet told told' status ⊎ IsUnserved old new told told' status

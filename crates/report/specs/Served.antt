@@ -5,6 +5,7 @@ use Rattle.std.specs.Io.KnownBytes.{Appends, Consumes, IsAtEnd}
 use Rattle.protocol.specs.declared.note.Note.{Note}
 use Rattle.protocol.specs.Notes.{lines_from}
 use Rattle.protocol.specs.Machine.{run, notes}
+use Rattle.interleave.specs.Runs.{IsLegalRun}
 use Rattle.script.specs.declared.command.Mode.{Mode}
 use Rattle.script.specs.declared.command.Mode.TheVariants.{Run, Threads}
 use Rattle.script.specs.Limits.{max_bytes}
@@ -26,13 +27,17 @@ use Rattle.texts.specs.Tables.{table_text}
 use Rattle.report.specs.Verdicts.{Checked, CheckedFront}
 use Rattle.verdict.specs.Limits as traces
 
+-- what is told of a script's events, one note for each
+abbrev pub told_of : Scope → List Note
+told_of s = notes (first_state s) (events_in s)
+
 -- the text of a run with these notes
-abbrev pub run_text : ℕ → ℕ → List Note → List ℕ
-run_text threads mutexes ns = head_line threads mutexes 0 ++ (concat (map line_text (lines_from 1 ns)) ++ end_line (length ns))
+abbrev pub run_text : ℕ → ℕ → ℕ → List Note → List ℕ
+run_text threads mutexes conditions ns = head_line threads mutexes conditions ++ (concat (map line_text (lines_from 1 ns)) ++ end_line (length ns))
 
 -- what a script means: the text of the trace of its events
 abbrev pub meaning : Scope → List ℕ
-meaning s = run_text (length s.threads) (length s.mutexes) (notes (first_state s) (events_in s))
+meaning s = run_text (length s.threads) (length s.mutexes) (length s.conditions) (told_of s)
 
 -- the lines tell of the script's threads and mutexes, by their names, what they were answered and what is left. Nobody dies yet
 pub record AreLines (s : Scope) (a : Answers) (threads : List ThreadReplies) (mutexes : List MutexWord) : Type 0 where
@@ -48,9 +53,9 @@ pub record Answer (s : Scope) (a : Answers) : Type 0 where
   pub asked : map jobs_seen phases ≡ jobs_of s
   pub answered : HaveAnswered (length s.threads) (length s.mutexes) phases a.replies.items a.cells.items
 
--- how a script's events leave its threads and mutexes
+-- how a script's events leave its threads, mutexes and condition variables
 abbrev pub meant_table : Scope → List ℕ
-meant_table s = table_text s (run (first_state s) (events_in s)) (notes (first_state s) (events_in s))
+meant_table s = table_text s (run (first_state s) (events_in s)) (told_of s)
 
 -- what the program tells of a script: what its events did, how they left it, or what real threads were answered
 pub data Report : Type 0 where
@@ -64,11 +69,15 @@ mode_of trace = Run
 mode_of table = Run
 mode_of replies = Threads
 
--- what may be written of a script: of a run, if it isn't too long to play, its trace or its table; of real threads, what some that made its calls were answered. A script doesn't
--- determine what real threads are told
+-- its events, as they are told, are a legal run from its first state
+abbrev pub RunsLegally : Scope → Type 0
+RunsLegally s = IsLegalRun (first_state s) (events_in s) (told_of s)
+
+-- what may be written of a script: of a run, if it isn't too long to play, its trace or its table, and the run that they are of is legal; of real threads, what some that made its calls were
+-- answered. A script doesn't determine what real threads are told
 abbrev pub Means : Report → Scope → List ℕ → Type 0
-Means trace s text = (overlong s ≡ None) × (text ≡ meaning s)
-Means table s text = (overlong s ≡ None) × (text ≡ meant_table s)
+Means trace s text = (overlong s ≡ None) × RunsLegally s × (text ≡ meaning s)
+Means table s text = (overlong s ≡ None) × RunsLegally s × (text ≡ meant_table s)
 Means replies s text = (a : Answers) × Answer s a × (threads : List ThreadReplies) × (mutexes : List MutexWord) × AreLines s a threads mutexes × (text ≡ replies_text threads mutexes)
 
 -- these lines were written, or a beginning of them

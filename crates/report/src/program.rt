@@ -1,11 +1,12 @@
 //! The program: what it does with the words of its command line.
-ghost use Rattle.std.specs.Prelude.{◌≡◌, ◌≢◌, map, IfOk, IfErr, string_bytes};
+ghost use Rattle.std.specs.Prelude.{◌≡◌, ◌≢◌, ℕ, List, Option, Result, Ok, Err, ⊤, map, IfOk, IfErr, string_bytes};
 ghost use Rattle.std.specs.IoError.{error_kind};
+ghost use Rattle.std.specs.declared.io.ErrorKind.{ErrorKind as Kind};
 ghost use Rattle.std.specs.declared.io.ErrorKind.TheVariants.{OutOfMemory};
 ghost use Rattle.cmdline.specs.Forms.{asked_by};
 ghost use Rattle.cmdline.specs.declared.form.Form.TheVariants.{Usage};
 ghost use Rattle.report.specs.Messages.{failure_status, failure_text};
-ghost use Rattle.report.specs.Programs.{asked_in, unopened_by, RunEnds};
+ghost use Rattle.report.specs.Programs.{asked_in, unopened_by, IsUnserved, NamedEnds, RunEnds};
 ghost use Rattle.texts.specs.Leaves.{AppendsFront};
 
 use crate::messages::{Failure, status_after, tell};
@@ -22,8 +23,13 @@ pub trait Opener {
     /// An open file.
     type Input: Read + Drop;
 
+    /// What opening the file of this name may give: a reader that has these bytes left, where they are known, or an error of this kind.
+    ghost opens: { Self → List ℕ → Result (Option (List ℕ)) Kind → Type 0 } = { λ _ _ _. ⊤ };
+
     /// Opens the file of this name for reading.
-    fn open(&self, file: &str) -> io::Result<Self::Input>;
+    fn open(&self, file: &str) -> io::Result<Self::Input>
+        ensures opened { IfOk result (λ input. opens self.now file.now (Ok (Self.Input.remaining input))) }
+        ensures refused { IfErr result (λ e. opens self.now file.now (Err (error_kind e))) };
 }
 
 /// The words, lent.
@@ -66,7 +72,7 @@ fn serve_named<T: Threads + Wait + Sync, F: Opener, W: Output, E: Write>(
     err: &mut E,
 ) -> u8
     ensures usage { form.now ≡ Usage → result ≡ 2 }
-    ensures ends { RunEnds (asked_by form.now) (W.contents out.old) (W.contents out.new) (W.is_let_go out.new) (err.new ≡ err.old) (E.contents err.old) (E.contents err.new) result }
+    ensures ends { NamedEnds (F.opens files.now) (asked_by form.now) (W.contents out.old) (W.contents out.new) (W.is_let_go out.new) (err.new ≡ err.old) (E.contents err.old) (E.contents err.new) result }
 {
     match form {
         Form::Run(file) | Form::Table(file) | Form::Threads(file) | Form::Check(file) => {
@@ -89,8 +95,9 @@ pub fn run<T: Threads + Wait + Sync, F: Opener, W: Output, E: Write>(
     out: &mut W,
     err: &mut E,
 ) -> u8
-    ensures ends { RunEnds (asked_in words) (W.contents out.old) (W.contents out.new) (W.is_let_go out.new) (err.new ≡ err.old) (E.contents err.old) (E.contents err.new) result }
+    ensures ends { RunEnds (F.opens files.now) (asked_in words) (W.contents out.old) (W.contents out.new) (W.is_let_go out.new) (err.new ≡ err.old) (E.contents err.old) (E.contents err.new) result }
     ensures no_text { IfErr words (λ e. error_kind e ≢ OutOfMemory → result ≡ 2) }
+    ensures no_memory { IfErr words (λ e. error_kind e ≡ OutOfMemory → IsUnserved (W.contents out.old) (W.contents out.new) (E.contents err.old) (E.contents err.new) result) }
 {
     let words = match words {
         Ok(words) => words,

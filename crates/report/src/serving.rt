@@ -114,6 +114,7 @@ fn write_table_out<W: Output>(
 ) -> io::Result<()>
     requires threads { machine.now.layout.threads ≡ length script.now.threads }
     requires mutexes { machine.now.layout.mutexes ≡ length script.now.mutexes }
+    requires conditions { length machine.now.layout.conditions ≡ length script.now.conditions }
     ensures text { Leaves (W.contents out.old) (W.contents out.new) result (table_text script.now (state_of machine.now) trace.now.notes.items) }
     ensures let_go { OnOk result (W.is_let_go out.new) }
 {
@@ -121,7 +122,7 @@ fn write_table_out<W: Output>(
     out.let_go()
 }
 
-/// Reads a script's bytes, plays them, and writes how they left its threads and mutexes.
+/// Reads a script's bytes, plays them, and writes how they left its threads, mutexes and condition variables.
 fn table_bytes<W: Output>(alloc: Global, bytes: &[u8], out: &mut W) -> Result<u8, Failure>
     ensures ends { IfOk result (λ status. (status ≡ 0) × Written table (W.contents out.old) (W.contents out.new) bytes.now) }
     ensures let_go { OnOk result (W.is_let_go out.new) }
@@ -294,7 +295,7 @@ fn file_named<'a>(form: &Form<'a>) -> &'a str
 }
 
 /// What `rfx` does for a form of its command line, the file being open as `input`. It answers the exit status: 0 where all of the reader was a script and what it means is written, the
-/// trace or the table of a run, or the replies of real threads, or where it was a legal trace and that is written; 1 for an illegal trace, and for a fault, told on `err`; 2 where the command
+/// trace or the table of a run, whose points and deaths are one legal history, or the replies of real threads, or where it was a legal trace and that is written; 1 for an illegal trace, and for a fault, told on `err`; 2 where the command
 /// line has no form. Where a fault is met before the output begins, nothing is written. Where all was written, the writer has let go of it, and nothing is told on `err`; so it is for an illegal
 /// trace too. It reads at most one byte more than a script or a trace may have.
 pub fn serve<T: Threads + Wait + Sync, R: Read, W: Output, E: Write>(

@@ -1,13 +1,12 @@
-use Rattle.std.proofs.Common.{◌≡◌, ap, inr, map, refl, subst, sym, ◌∙◌}
+use Rattle.std.proofs.Common.{◌≡◌, ap, inl, inr, map, refl, subst, sym, ◌∙◌}
 use Rattle.std.specs.Prelude.{string_bytes}
 use Rattle.cmdline.specs.Forms.{asked_by, asked_of}
-use Rattle.report.specs.declared.messages.Failure.TheVariants.{OutOfMemory}
-use Rattle.report.specs.Programs.{asked_in, RunEnds}
+use Rattle.report.specs.Programs.{asked_in, NamedEnds}
 use Rattle.report.proofs.Failures.{anyway}
 use Rattle.report.proofs.program.run.Goals as goal
 
 pub returns-in-Err-clause-ends : goal.returns-in-Err-clause-ends
-returns-in-Err-clause-ends g c = inr (OutOfMemory, tt, refl, c.fail.ensures.told, c.fail.ensures.status)
+returns-in-Err-clause-ends g c = inr (refl, c.fail.ensures.told, c.fail.ensures.status)
 
 pub returns-in-Err-2-clause-no_text : goal.returns-in-Err-2-clause-no_text
 returns-in-Err-2-clause-no_text g c = anyway c.args.words _ _ (c.serve_named.ensures.usage refl)
@@ -20,4 +19,4 @@ returns-in-Ok-form_of_words-clause-ends g c =
     ∙ ap (λ ws. asked_of (map (λ w. w.now) ws)) c.deref-2.ensures.value
     ∙ ap asked_of (c.in-Ok-lent.ensures ∙ ap (map string_bytes) c.deref.ensures.value)
     ∙ ap asked_in (sym c.in-Ok.is) in
-    subst (λ a. RunEnds a (g.W.Write.contents c.args.out.now) (g.W.Write.contents served.new.out) (g.W.Output.is_let_go served.new.out) (served.new.err ≡ c.args.err.now) (g.E.Write.contents c.args.err.now) (g.E.Write.contents served.new.err) served.result) asked served.ensures.ends
+    inl (subst (λ a. NamedEnds (g.F.Opener.opens c.args.files.now) a (g.W.Write.contents c.args.out.now) (g.W.Write.contents served.new.out) (g.W.Output.is_let_go served.new.out) (served.new.err ≡ c.args.err.now) (g.E.Write.contents c.args.err.now) (g.E.Write.contents served.new.err) served.result) asked served.ensures.ends)
