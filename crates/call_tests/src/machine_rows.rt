@@ -1,11 +1,12 @@
 //! Machines that go through tables of events.
 
 use buckets::Batch;
+use facts::{Begun, Queue};
 use interleave::Machine;
 use keys::{Decision, Layout, Operation};
 use lockword::{Reply, Tid};
 use mutex::Call;
-use protocol::{Event, Note};
+use protocol::{Event, Note, Op};
 use std::alloc::Global;
 use std::test::Fail;
 
@@ -81,7 +82,7 @@ pub(crate) fn machine(
 
 fn event_of(thread: Tid, does: Does) -> Event {
     match does {
-        Does::Begins(_, call) => Event::Begin(thread, call),
+        Does::Begins(_, call) => Event::Begin(thread, Op::OnMutex(call)),
         Does::Steps(_) | Does::Calls(_, _, _) => Event::Step(thread),
         Does::Dies(_) => Event::Kill(thread),
     }
@@ -97,7 +98,7 @@ fn id_of(does: Does) -> u8 {
 fn stepped(
     thread: Tid,
     decided: Option<(Operation, Reply)>,
-    slept: Option<u16>,
+    slept: Option<Queue>,
     returned: Option<Reply>,
 ) -> Note {
     let point = match decided {
@@ -111,9 +112,11 @@ fn stepped(
     };
     Note::Stepped {
         thread,
+        mutex: 0,
         point,
         slept,
         woken: Batch::new(),
+        moved: Batch::new(),
         returned,
     }
 }
@@ -133,7 +136,11 @@ pub(crate) fn is_noted(thread: Tid, noted: Noted, note: &Note) -> bool {
         Noted::Nothing => Note::Nothing,
         Noted::Began(call) => Note::Began {
             thread,
-            call,
+            call: Begun {
+                operation: call.operation(),
+                mutex: call.mutex(),
+                condition: None,
+            },
             refused: None,
         },
         Noted::Goes => stepped(thread, None, None, None),
@@ -142,7 +149,7 @@ pub(crate) fn is_noted(thread: Tid, noted: Noted, note: &Note) -> bool {
             stepped(thread, Some((operation, reply)), None, Some(reply))
         }
         Noted::Returns(reply) => stepped(thread, None, None, Some(reply)),
-        Noted::Sleeps => stepped(thread, None, Some(0), None),
+        Noted::Sleeps => stepped(thread, None, Some(Queue::Mutex(0)), None),
         Noted::Killed => Note::Killed { thread },
         Noted::Walks => walked(thread, false),
         Noted::IsReaped => walked(thread, true),
@@ -211,7 +218,7 @@ pub(crate) fn alone_after(
 
 /// The thread begins a call, and makes so many accesses of it.
 pub(crate) fn play(machine: &mut Machine, thread: Tid, call: Call, accesses: u32) {
-    let _ = machine.step(Event::Begin(thread, call));
+    let _ = machine.step(Event::Begin(thread, Op::OnMutex(call)));
     for _ in 0..accesses {
         let _ = machine.step(Event::Step(thread));
     }

@@ -12,7 +12,7 @@ use keys::Operation::{TryLock, Unlock};
 use lockword::Reply::{EBUSY, EPERM, OK};
 use lockword::Tid;
 use mutex::Call;
-use protocol::Event;
+use protocol::{Event, Op};
 use std::test::Fail;
 
 #[test]
@@ -59,10 +59,10 @@ fn notes_are(trace: &Trace, thread: Tid) -> bool {
 /// Thread 1 unlocks a mutex that it doesn't own, takes it, tries to take it again, and releases it.
 fn four_calls(one: Tid) -> [Event; 23] {
     let mut events = [Event::Step(one); 23];
-    events[0] = Event::Begin(one, UNLOCK);
-    events[2] = Event::Begin(one, TRY_LOCK);
-    events[11] = Event::Begin(one, TRY_LOCK);
-    events[15] = Event::Begin(one, UNLOCK);
+    events[0] = Event::Begin(one, Op::OnMutex(UNLOCK));
+    events[2] = Event::Begin(one, Op::OnMutex(TRY_LOCK));
+    events[11] = Event::Begin(one, Op::OnMutex(TRY_LOCK));
+    events[15] = Event::Begin(one, Op::OnMutex(UNLOCK));
     events
 }
 
@@ -102,7 +102,7 @@ const RELEASING: [[u64; 6]; 7] = [
 
 /// Whether the thread's call makes so many accesses as there are rows, and leaves these words after each.
 fn leaves(machine: &mut Machine, thread: Tid, call: Call, rows: &[[u64; 6]]) -> bool {
-    let _ = machine.step(Event::Begin(thread, call));
+    let _ = machine.step(Event::Begin(thread, Op::OnMutex(call)));
     for words in rows {
         if !machine.busy(thread) {
             return false;

@@ -1,42 +1,6 @@
 //! What the program prints of scripts worked out by hand.
 
-use crate::served::{run, table};
-use std::str;
-use std::sync::Wait;
-use std::thread::Threads;
-
-/// The script's trace is this.
-fn trace_is(rt: &(impl AllocGlobal + Threads + Wait + Sync), script: &str, trace: &str) -> bool {
-    run(rt, script).is(0, trace, "")
-}
-
-/// The script's table is this.
-fn table_is(rt: &(impl AllocGlobal + Threads + Wait + Sync), script: &str, wanted: &str) -> bool {
-    table(rt, script).is(0, wanted, "")
-}
-
-/// Whether the text has these lines, in this order, and ends with the last of them.
-fn has_lines(text: &str, wanted: &str) -> bool {
-    let mut wanted = wanted.split('\n');
-    let mut next = wanted.next();
-    let mut is_last = false;
-    for line in text.split('\n') {
-        is_last = next == Some(line);
-        if is_last {
-            next = wanted.next();
-        }
-    }
-    is_last && next.is_none()
-}
-
-/// The script's trace has these lines, in this order, and ends with the last of them.
-fn trace_has(rt: &(impl AllocGlobal + Threads + Wait + Sync), script: &str, wanted: &str) -> bool {
-    let run = run(rt, script);
-    match str::from_utf8(&run.printed) {
-        Ok(text) => run.status == 0 && run.told.is_empty() && has_lines(text, wanted),
-        Err(_) => false,
-    }
-}
+use crate::served::{run, table, table_is, trace_has, trace_is};
 
 #[test]
 fn one_thread_locks_and_unlocks(rt: HostRuntime) {

@@ -1,5 +1,8 @@
 //! Writers and readers that hold little, are slow, or fail.
 
+ghost use Rattle.std.specs.Prelude.{⊤};
+
+use report::Output;
 use std::alloc::Global;
 use std::io::{self, ErrorKind, Read, Write};
 
@@ -44,6 +47,14 @@ impl Write for Narrow {
     }
 }
 
+impl Output for Narrow {
+    ghost is_let_go = { λ _. ⊤ };
+
+    fn let_go(&mut self) -> io::Result<()> {
+        self.flush()
+    }
+}
+
 /// Holds up to 512 bytes, of which it takes one at a call, and needs no memory.
 #[derive(Drop)]
 pub struct Fixed {
@@ -81,6 +92,14 @@ impl Write for Fixed {
     }
 }
 
+impl Output for Fixed {
+    ghost is_let_go = { λ _. ⊤ };
+
+    fn let_go(&mut self) -> io::Result<()> {
+        self.flush()
+    }
+}
+
 /// Holds what it is given, and fails when it should let go of it.
 #[derive(Drop)]
 pub struct Stuck {
@@ -95,6 +114,14 @@ impl Write for Stuck {
 
     fn flush(&mut self) -> io::Result<()> {
         Err(io::Error::from(ErrorKind::StorageFull))
+    }
+}
+
+impl Output for Stuck {
+    ghost is_let_go = { λ _. ⊤ };
+
+    fn let_go(&mut self) -> io::Result<()> {
+        self.flush()
     }
 }
 

@@ -4,6 +4,7 @@ ghost use Rattle.std.specs.Prelude.{◌≤◌};
 
 use crate::streams::Narrow;
 use buckets::Batch;
+use facts::Begun;
 use interleave::Trace;
 use keys::{Decision, Operation};
 use lockword::{Reply, Tid};
@@ -24,7 +25,11 @@ fn began(id: u8, call: Call, refused: Option<Reply>) -> Note
     let thread = tid(id);
     Note::Began {
         thread,
-        call,
+        call: Begun {
+            operation: call.operation(),
+            mutex: call.mutex(),
+            condition: None,
+        },
         refused,
     }
 }
@@ -44,9 +49,11 @@ fn stepped(id: u8, point: Option<(u16, Operation, Reply)>, returned: Option<Repl
     };
     Note::Stepped {
         thread,
+        mutex: 0,
         point,
         slept: None,
         woken: Batch::new(),
+        moved: Batch::new(),
         returned,
     }
 }

@@ -16,7 +16,7 @@ const THIRD: Scripts = Scripts {
 };
 
 /// Third lines.
-static LINES: [(&str, Refusal); 33] = [
+static LINES: [(&str, Refusal); 40] = [
     ("", None),
     ("# phase", None),
     ("phase", None),
@@ -44,6 +44,13 @@ static LINES: [(&str, Refusal); 33] = [
     ("go a", Some((2, 3))),
     ("locks a m 1", Some((2, 3))),
     ("die a 4", Some((2, 3))),
+    ("cond c m 0", Some((2, 3))),
+    ("cond c n 4294967296", Some((2, 3))),
+    ("call a wait c", Some((2, 3))),
+    ("call a wait m", Some((2, 3))),
+    ("call b signal m", Some((2, 3))),
+    ("call a broadcast m", Some((2, 3))),
+    ("begin a signal c", Some((2, 3))),
     ("thread a", Some((4, 3))),
     ("mutex n", None),
     ("mutex m", Some((4, 3))),

@@ -4,6 +4,7 @@ use crate::built::{joined, repeated};
 use crate::faults::{Refusal, Scripts, refusal};
 use lockword::Tid;
 use mutex::Call;
+use protocol::Op;
 use script::{Action, Command, Fault, MAX_BYTES, MAX_LINES, Mode, Script, ScriptFault, parse};
 use std::alloc::{AllocError, Global};
 use std::test::Fail;
@@ -107,7 +108,7 @@ fn steps(rt: HostRuntime) -> Result<(), Fail> {
 }
 
 /// Third lines with calls.
-static CALLS: [(&str, Refusal); 27] = [
+static CALLS: [(&str, Refusal); 31] = [
     ("begin a trylock m", None),
     ("begin a unlock m", None),
     ("call a trylock m", None),
@@ -123,7 +124,11 @@ static CALLS: [(&str, Refusal); 27] = [
     ("call b lock n", Some((4, 3))),
     ("begin a consistent n", Some((4, 3))),
     ("call a locks m", Some((2, 3))),
-    ("call a wait m", Some((2, 3))),
+    ("call a wait m", Some((4, 3))),
+    ("call b signal m", Some((4, 3))),
+    ("begin a broadcast a", Some((4, 3))),
+    ("call a Wait m", Some((2, 3))),
+    ("call a wait M", Some((2, 3))),
     ("begin a TryLock m", Some((2, 3))),
     ("begin a death m", Some((2, 3))),
     ("begin a trylock", Some((2, 3))),
@@ -144,7 +149,7 @@ fn calls(rt: HostRuntime) -> Result<(), Fail> {
 }
 
 /// Third lines that kill a thread or let it go on.
-static KILL_AND_GO: [(&str, Refusal); 9] = [
+static KILL_AND_GO: [(&str, Refusal); 8] = [
     ("kill a", None),
     ("go a", None),
     ("kill b", Some((4, 3))),
@@ -153,12 +158,99 @@ static KILL_AND_GO: [(&str, Refusal); 9] = [
     ("kill", Some((2, 3))),
     ("kill a 1", Some((2, 3))),
     ("die a 4", Some((2, 3))),
-    ("cond c m 0", Some((2, 3))),
 ];
 
 #[test]
 fn kill_and_go(rt: HostRuntime) -> Result<(), Fail> {
     assert!(rt; THIRD.first_wrong(rt.alloc(), &KILL_AND_GO)?.is_none());
+    Ok(())
+}
+
+/// Third lines that declare a condition variable, or nearly.
+static CONDITIONS: [(&str, Refusal); 26] = [
+    ("cond c m 0", None),
+    ("cond a m 1", None),
+    ("cond m m 4294967295", None),
+    ("cond c m 4294967296", Some((3, 3))),
+    ("cond c m 18446744073709551617", Some((3, 3))),
+    ("cond c n 4294967296", Some((3, 3))),
+    ("cond c n 0", Some((4, 3))),
+    ("cond c a 0", Some((4, 3))),
+    ("cond c m 0\ncond d m 0", None),
+    ("cond c m 0\nmutex c\nthread c", None),
+    ("cond c m 0\ncond c m 0", Some((4, 4))),
+    ("cond c m 0\nmutex n\ncond c n 7", Some((4, 5))),
+    ("cond c m 0\ncond d c 0", Some((4, 4))),
+    ("step a 1\ncond c m 0", Some((2, 4))),
+    ("step a 1\ncond c n 4294967296", Some((2, 4))),
+    ("cond c m", Some((2, 3))),
+    ("cond c m 0 0", Some((2, 3))),
+    ("cond c m 00", Some((2, 3))),
+    ("cond c m -1", Some((2, 3))),
+    ("cond c m x", Some((2, 3))),
+    ("cond c m ", Some((2, 3))),
+    ("cond C m 0", Some((2, 3))),
+    ("cond c M 0", Some((2, 3))),
+    ("conds c m 0", Some((2, 3))),
+    ("cond abcdefgh_1234567 m 0", None),
+    ("cond abcdefgh_12345678 m 0", Some((2, 3))),
+];
+
+#[test]
+fn conditions(rt: HostRuntime) -> Result<(), Fail> {
+    assert!(rt; THIRD.first_wrong(rt.alloc(), &CONDITIONS)?.is_none());
+    Ok(())
+}
+
+/// A line stands fourth, behind a thread `a`, a mutex `m` and a condition variable `c`.
+const BEHIND_A_CONDITION: Scripts = Scripts {
+    mode: Mode::Run,
+    front: "thread a\nmutex m\ncond c m 5\n",
+    end: "\n",
+};
+
+static CALLS_ON_CONDITIONS: [(&str, Refusal); 10] = [
+    ("begin a wait c", None),
+    ("call a wait c", None),
+    ("call a signal c", None),
+    ("begin a broadcast c", None),
+    ("call a wait d", Some((4, 4))),
+    ("begin a signal m", Some((4, 4))),
+    ("call b broadcast c", Some((4, 4))),
+    ("call a lock c", Some((4, 4))),
+    ("call a wait c m", Some((2, 4))),
+    ("locks a c 1", Some((4, 4))),
+];
+
+#[test]
+fn calls_on_conditions(rt: HostRuntime) -> Result<(), Fail> {
+    assert!(rt;
+        BEHIND_A_CONDITION
+            .first_wrong(rt.alloc(), &CALLS_ON_CONDITIONS)?
+            .is_none()
+    );
+    Ok(())
+}
+
+/// A thread, a mutex, and so many condition variables.
+fn of_conditions(alloc: Global, count: usize) -> Result<String, AllocError> {
+    let mut text = String::from_str(alloc, "thread a\nmutex m\n")?;
+    for number in 0..count {
+        text.push_str(format!(in alloc; "cond c{number} m 0\n")?.as_str())?;
+    }
+    Ok(text)
+}
+
+/// 256 of them may be; the 257th may not, whether its name is new or declared already.
+#[test]
+fn many_conditions(rt: HostRuntime) -> Result<(), Fail> {
+    let most = of_conditions(rt.alloc(), 256)?;
+    let script = parse(rt.alloc(), most.as_bytes(), Mode::Run)?;
+    assert!(rt; script.conditions() == 256);
+    let over = of_conditions(rt.alloc(), 257)?;
+    assert!(rt; refusal(rt.alloc(), over.as_bytes(), Mode::Run) == Some((3, 259)));
+    let again = joined(rt.alloc(), most.as_str(), "cond c0 m 0", "\n")?;
+    assert!(rt; refusal(rt.alloc(), again.as_bytes(), Mode::Run) == Some((3, 259)));
     Ok(())
 }
 
@@ -298,7 +390,7 @@ fn are_commands(commands: &[Command], ada: Tid, bob: Tid) -> bool {
     let wanted = [
         Command {
             line: 6,
-            action: Action::Begin(bob, Call::TryLock(0)),
+            action: Action::Begin(bob, Op::OnMutex(Call::TryLock(0))),
         },
         Command {
             line: 7,
@@ -309,15 +401,15 @@ fn are_commands(commands: &[Command], ada: Tid, bob: Tid) -> bool {
         },
         Command {
             line: 9,
-            action: Action::Call(ada, Call::Unlock(0)),
+            action: Action::Call(ada, Op::OnMutex(Call::Unlock(0))),
         },
         Command {
             line: 10,
-            action: Action::Begin(ada, Call::Unlock(0)),
+            action: Action::Begin(ada, Op::OnMutex(Call::Unlock(0))),
         },
         Command {
             line: 11,
-            action: Action::Call(bob, Call::TryLock(0)),
+            action: Action::Call(bob, Op::OnMutex(Call::TryLock(0))),
         },
         Command {
             line: 12,
@@ -362,11 +454,11 @@ fn are_commands_with_a_death(commands: &[Command], a: Tid, b: Tid) -> bool {
         },
         Command {
             line: 7,
-            action: Action::Call(a, Call::Lock(2)),
+            action: Action::Call(a, Op::OnMutex(Call::Lock(2))),
         },
         Command {
             line: 8,
-            action: Action::Begin(a, Call::Consistent(2)),
+            action: Action::Begin(a, Op::OnMutex(Call::Consistent(2))),
         },
     ];
     commands == wanted.as_slice()
