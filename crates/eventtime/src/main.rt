@@ -59,6 +59,13 @@ fn next_event(machine: &Machine, thread: Tid, turn: u64) -> Event {
     }
 }
 
+/// Makes an event, behind the others.
+fn make(machine: &mut Machine, events: &mut Vec<Event>, event: &Event) -> Result<(), AllocError> {
+    let _ = machine.step(*event);
+    events.push(*event)?;
+    Ok(())
+}
+
 /// So many events, the threads taking turns, in which those that sleep are passed over.
 fn schedule(alloc: Global, machine: &mut Machine, count: u64) -> Result<Vec<Event>, AllocError> {
     let threads = u64::from(machine.layout().threads());
@@ -69,8 +76,7 @@ fn schedule(alloc: Global, machine: &mut Machine, count: u64) -> Result<Vec<Even
         };
         if !machine.asleep(thread) {
             let event = next_event(machine, thread, turn / threads);
-            let _ = machine.step(event);
-            events.push(event)?;
+            make(machine, &mut events, &event)?;
         }
     }
     Ok(events)
