@@ -1,2 +1,3 @@
 pub mod Owners
 pub mod Objects
+pub mod Trims

@@ -1,5 +1,6 @@
 //! Accesses to the shared words, and their answers.
 ghost use Rattle.std.specs.Prelude.{◌≡◌};
+ghost use Rattle.keys.specs.Accesses.{TrimsAreRight};
 
 /// As many as there are threads at most: a wake of so many wakes all who sleep on the word, and a requeue moves all (futex(2)).
 pub const ALL: u32 = 64;
@@ -61,6 +62,10 @@ pub enum Access {
         to: u64,
         moves: u32,
     },
+    /// Clears the word where it is `0x80000000`, the cell of a free mutex that says only that somebody may sleep on it, and nobody does.
+    Trim {
+        at: u64,
+    },
 }
 
 /// What an access answers.
@@ -80,6 +85,13 @@ pub enum Answer {
     Count(u32),
     /// How many were woken, and how many moved.
     Counts(u32, u32),
+    /// Whether the word was cleared.
+    Trimmed(bool),
     /// An address is invalid.
     Fault,
 }
+
+/// A trim changes its word, and answers, as the meaning of a trim says.
+pub fn trims_are_right()
+    ensures { TrimsAreRight }
+{}

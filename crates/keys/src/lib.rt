@@ -1,8 +1,8 @@
 //! Where the shared words lie, and what is done with them.
 //!
 //! [`Layout`] gives each word its place: robust-list heads, the cells and links of mutexes, the counters of condition variables. Valid places are pairwise
-//! different (`places_differ`). [`Access`] and [`Answer`] are the steps that programs take on words; [`Point`] is the step at which an
-//! operation takes effect. [`Object`] is the mutex with no bits: what POSIX says that each operation answers and leaves.
+//! different (`places_differ`). [`Access`] and [`Answer`] are the steps that programs take on words, a trim's with its meaning (`trims_are_right`); [`Point`] is the
+//! step at which an operation takes effect. [`Object`] is the mutex with no bits: what POSIX says that each operation answers and leaves.
 #![tactic(auto)]
 
 mod access;
@@ -12,7 +12,7 @@ mod memory;
 mod object;
 mod point;
 
-pub use access::{ALL, Access, Answer};
+pub use access::{ALL, Access, Answer, trims_are_right};
 pub use key::{Key, bucket_of, key_of};
 pub use layout::{CONDITION_LIMIT, HEAD_SIZE, Layout, LayoutFault, places_differ};
 pub use memory::NoMem;

@@ -49,3 +49,11 @@ spoiled c = record c { owner = 0; died = false; unusable = not c.unusable }
 -- the futex word: the low half
 abbrev pub low_of : Fields → ℕ
 low_of c = word_of c % 2 ^ 32
+
+-- the word of a free cell that says nothing but that somebody may sleep on it: WAITERS alone
+abbrev pub waiters_alone : ℕ
+waiters_alone = 0x8000_0000
+
+-- a free cell that says nothing but that: where nobody sleeps on it, it may be trimmed to 0
+abbrev pub trimmable : Fields → Bool
+trimmable c = word_of c == waiters_alone

@@ -1,6 +1,6 @@
 //! The cell of a mutex.
 ghost use Rattle.std.specs.Prelude.{◌≡◌, ◌<◌, ◌%◌, ◌^◌, true};
-ghost use Rattle.lockword.specs.Cells.{fields_of, word_of, waiting, taken, marked, released, spoiled};
+ghost use Rattle.lockword.specs.Cells.{fields_of, word_of, waiting, taken, marked, released, spoiled, trimmable};
 
 use crate::tid::Tid;
 use std::marker::Model;
@@ -77,6 +77,13 @@ impl Cell {
         ensures { result ≡ self.unusable }
     {
         self.word() & UNUSABLE != 0
+    }
+
+    /// WAITERS is all that it says: nobody owns it, and it can be locked. Where nobody sleeps on it, nothing is lost if it becomes 0.
+    pub fn trimmable(self) -> bool
+        ensures { result ≡ trimmable self }
+    {
+        self.word() == WAITERS
     }
 
     /// Its low half: the futex word.

@@ -1,13 +1,15 @@
 -- What a call does while no other thread steps.
-use Rattle.std.proofs.Common.{◌≡◌, ◌≢◌, ℕ, ◌+◌, ◌-◌, ◌%◌, ◌^◌, ◌<◌, ◌≤◌, ◌==◌, Bool, true, false, not, Some, ◌⊎◌, inl, inr, refl, sym, ap, ◌∙◌, subst, arith, eq-eqb, eqb-true}
-use Rattle.std.specs.Prelude.{if◌then◌else◌}
+use Rattle.std.proofs.Common.{◌≡◌, ◌≢◌, ℕ, ◌+◌, ◌-◌, ◌%◌, ◌^◌, ◌<◌, ◌≤◌, ◌==◌, Bool, true, false, not, Some, List, [], ◌⊎◌, inl, inr, refl, sym, ap, ◌∙◌, subst, arith, eq-eqb, eqb-true}
+use Rattle.std.specs.Prelude.{◌&&◌, length, take, if◌then◌else◌}
 use Rattle.std.proofs.lemmas.Bool.{eqb-false}
-use Rattle.lockword.specs.Cells.{Fields, fields_of, word_of, low_of, taken, waiting}
+use Rattle.lockword.specs.Cells.{Fields, fields_of, word_of, low_of, taken, waiting, waiters_alone}
 use Rattle.lockword.specs.Coding.{fields_of-word_of, word_of-fields_of}
 use Rattle.lockword.proofs.Bits.{xor_released, xor_spoiled, and_declared, low_alike}
 use Rattle.lockword.specs.declared.reply.Reply.TheVariants.{OK, EPERM, EBUSY, EINVAL, EDEADLK, EOWNERDEAD, ENOTRECOVERABLE, XRACED}
-use Rattle.keys.specs.declared.access.Answer.TheVariants.{Exchanged, Changed}
-use Rattle.keys.specs.Accesses.{changed, answer_at}
+use Rattle.keys.specs.declared.access.Answer.TheVariants.{Exchanged, Changed, Again, Woken}
+use Rattle.keys.specs.declared.access.Access.TheVariants as access
+use Rattle.keys.specs.Accesses.{word_among, answer_among, is_trimmed}
+use Rattle.keys.proofs.Trims.{trims_free, trims_unslept}
 use Rattle.keys.specs.Objects.{object_of}
 use Rattle.keys.proofs.Owners.{owner_of-is}
 use Rattle.mutex.specs.declared.lock.LockRow.TheVariants as lock
@@ -92,10 +94,10 @@ took t w c = go c.died
     go false = λ e. cc
 
 -- ---- an unlock, and a declaration
-unlock_looked : (t w : ℕ) → (left (unlock_sees t (fields_of w)).row w < 3) × Steady t (unlock_sees t (fields_of w)).row w
+unlock_looked : (t w : ℕ) → (left (unlock_sees t (fields_of w)).row w < 4) × Steady t (unlock_sees t (fields_of w)).row w
 unlock_looked t w = go ((fields_of w).owner == t)
   where
-    go : (b : Bool) → (left (if b then goes (Unlock (unlock.Release (fields_of w).died)) else ends EPERM).row w < 3) × Steady t (if b then goes (Unlock (unlock.Release (fields_of w).died)) else ends EPERM).row w
+    go : (b : Bool) → (left (if b then goes (Unlock (unlock.Release (fields_of w).died)) else ends EPERM).row w < 4) × Steady t (if b then goes (Unlock (unlock.Release (fields_of w).died)) else ends EPERM).row w
     go true = (omega arith, tt)
     go false = (omega arith, λ e. cc)
 
@@ -108,7 +110,7 @@ consistent_looked t w = go ((fields_of w).owner == t) (fields_of w).died
     go true false = (omega arith, λ e. cc)
 
 record Released (t : ℕ) (r : Row) (waiters : Bool) (w' : ℕ) : Type 0 where
-  fewer : left r w' < 2
+  fewer : left r w' < 3
   answers : waiters ≡ true → answers_for r ≡ true
   steady : Steady t r w'
 
@@ -122,65 +124,65 @@ release_keeps t w true mine dead = ap (λ (c : Fields). c.waiters) (xor_spoiled 
 release_keeps t w false mine alive = ap (λ (c : Fields). c.waiters) (xor_released w t mine)
 
 -- ---- exchanges, whether they meet the cell that they saw or another
-take_lock : (t cell w : ℕ) (v : Fields) → 1 ≤ t → t ≤ 64 → Knows (Lock (lock.Take v)) → (b : Bool) → (w == word_of v) ≡ b
-    → Alone t (Lock (lock.Take v)) (row_access t cell (Lock (lock.Take v))) (resume_of t (Lock (lock.Take v)) (if b then Exchanged else Changed w)) w (if b then word_of (taken v t) else w)
-take_lock t cell w v pos last known false miss = let s = lock_looked t w pos in let three = misses (w == word_of v) 1 3 miss in record {
-  waiters = λ on. on;
+take_lock : (t cell w : ℕ) (q : List ℕ) (v : Fields) → 1 ≤ t → t ≤ 64 → Knows (Lock (lock.Take v)) → (b : Bool) → (w == word_of v) ≡ b
+    → Alone t (Lock (lock.Take v)) (row_access t cell (Lock (lock.Take v))) (resume_of t (Lock (lock.Take v)) (if b then Exchanged else Changed w)) w q (if b then word_of (taken v t) else w)
+take_lock t cell w q v pos last known false miss = let s = lock_looked t w pos in let three = misses (w == word_of v) 1 3 miss in record {
+  waiters = λ on. inl on;
   sleeps = λ e. absurd cc;
   fewer = λ e. let l = s.fewer in omega arith;
   answers = λ e free on. inl (s.answers free on);
   steady = λ e f. s.steady;
 }
-take_lock t cell w v pos last known true hit =
+take_lock t cell w q v pos last known true hit =
     let none = known.0 in
     let before : fields_of w ≡ v = ap fields_of (eqb-true w (word_of v) hit) ∙ fields_of-word_of v (omega arith) in
     let after : fields_of (word_of (taken v t)) ≡ taken v t = fields_of-word_of (taken v t) (omega arith) in
     let one = picks (w == word_of v) 1 3 hit in
     record {
-      waiters = λ on. ap (λ (c : Fields). c.waiters) after ∙ ap (λ (c : Fields). c.waiters) (sym before) ∙ on;
+      waiters = λ on. inl (ap (λ (c : Fields). c.waiters) after ∙ ap (λ (c : Fields). c.waiters) (sym before) ∙ on);
       sleeps = λ e. absurd cc;
       fewer = λ e. omega arith;
       answers = λ e free on. let mine : (fields_of (word_of (taken v t))).owner ≡ t = ap (λ (c : Fields). c.owner) after in absurd (omega arith);
       steady = λ e f. took t (word_of (taken v t)) v;
     }
 
-mark_lock : (t cell w : ℕ) (v : Fields) → 1 ≤ t → Knows (Lock (lock.SetWaiters v)) → (b : Bool) → (w == word_of v) ≡ b
-    → Alone t (Lock (lock.SetWaiters v)) (row_access t cell (Lock (lock.SetWaiters v))) (resume_of t (Lock (lock.SetWaiters v)) (if b then Exchanged else Changed w)) w (if b then word_of (waiting v) else w)
-mark_lock t cell w v pos known false miss = let s = lock_looked t w pos in let three = misses (w == word_of v) 2 3 miss in record {
-  waiters = λ on. on;
+mark_lock : (t cell w : ℕ) (q : List ℕ) (v : Fields) → 1 ≤ t → Knows (Lock (lock.SetWaiters v)) → (b : Bool) → (w == word_of v) ≡ b
+    → Alone t (Lock (lock.SetWaiters v)) (row_access t cell (Lock (lock.SetWaiters v))) (resume_of t (Lock (lock.SetWaiters v)) (if b then Exchanged else Changed w)) w q (if b then word_of (waiting v) else w)
+mark_lock t cell w q v pos known false miss = let s = lock_looked t w pos in let three = misses (w == word_of v) 2 3 miss in record {
+  waiters = λ on. inl on;
   sleeps = λ e. absurd cc;
   fewer = λ e. let l = s.fewer in omega arith;
   answers = λ e free on. inl (s.answers free on);
   steady = λ e f. s.steady;
 }
-mark_lock t cell w v pos known true hit =
+mark_lock t cell w q v pos known true hit =
     let after : fields_of (word_of (waiting v)) ≡ waiting v = fields_of-word_of (waiting v) known.1 in
     let two = picks (w == word_of v) 2 3 hit in
     let one = picks (word_of (waiting v) % 2 ^ 32 == low_of (waiting v)) 1 4 (eq-eqb (word_of (waiting v) % 2 ^ 32) (low_of (waiting v)) refl) in
     record {
-      waiters = λ on. ap (λ (c : Fields). c.waiters) after;
+      waiters = λ on. inl (ap (λ (c : Fields). c.waiters) after);
       sleeps = λ e. absurd cc;
       fewer = λ e. omega arith;
       answers = λ e free on. inl refl;
       steady = λ e f. (refl, f.1);
     }
 
-take_try : (t cell w : ℕ) (v : Fields) (k : ℕ) → 1 ≤ t → t ≤ 64 → Knows (TryLock (try.Take v k)) → (b : Bool) → (w == word_of v) ≡ b
-    → Alone t (TryLock (try.Take v k)) (row_access t cell (TryLock (try.Take v k))) (resume_of t (TryLock (try.Take v k)) (if b then Exchanged else Changed w)) w (if b then word_of (taken v t) else w)
-take_try t cell w v k pos last known false miss = let few = known.2 in record {
-  waiters = λ on. on;
+take_try : (t cell w : ℕ) (q : List ℕ) (v : Fields) (k : ℕ) → 1 ≤ t → t ≤ 64 → Knows (TryLock (try.Take v k)) → (b : Bool) → (w == word_of v) ≡ b
+    → Alone t (TryLock (try.Take v k)) (row_access t cell (TryLock (try.Take v k))) (resume_of t (TryLock (try.Take v k)) (if b then Exchanged else Changed w)) w q (if b then word_of (taken v t) else w)
+take_try t cell w q v k pos last known false miss = let few = known.2 in record {
+  waiters = λ on. inl on;
   sleeps = λ e. absurd cc;
   fewer = λ e. try_fewer (k + 1) w (5 - k) (omega arith) (λ l. omega arith) (omega arith);
   answers = λ e free on. inr (refl, refl);
   steady = λ e f. absurd (cc (miss, eq-eqb w (word_of v) f.0));
 }
-take_try t cell w v k pos last known true hit =
+take_try t cell w q v k pos last known true hit =
     let few = known.2 in
     let none = known.0 in
     let before : fields_of w ≡ v = ap fields_of (eqb-true w (word_of v) hit) ∙ fields_of-word_of v (omega arith) in
     let after : fields_of (word_of (taken v t)) ≡ taken v t = fields_of-word_of (taken v t) (omega arith) in
     record {
-      waiters = λ on. ap (λ (c : Fields). c.waiters) after ∙ ap (λ (c : Fields). c.waiters) (sym before) ∙ on;
+      waiters = λ on. inl (ap (λ (c : Fields). c.waiters) after ∙ ap (λ (c : Fields). c.waiters) (sym before) ∙ on);
       sleeps = λ e. absurd cc;
       fewer = λ e. omega arith;
       answers = λ e free on. let mine : (fields_of (word_of (taken v t))).owner ≡ t = ap (λ (c : Fields). c.owner) after in absurd (omega arith);
@@ -188,9 +190,9 @@ take_try t cell w v k pos last known true hit =
     }
 
 -- a wait
-sleep : (t cell w : ℕ) (v : Fields) → Knows (Lock (lock.Sleep v)) → Alone t (Lock (lock.Sleep v)) (row_access t cell (Lock (lock.Sleep v))) (resume_of t (Lock (lock.Sleep v)) (answer_at (row_access t cell (Lock (lock.Sleep v))) w)) w w
-sleep t cell w v known = record {
-  waiters = λ on. on;
+sleep : (t cell w : ℕ) (q : List ℕ) (v : Fields) → Knows (Lock (lock.Sleep v)) → Alone t (Lock (lock.Sleep v)) (row_access t cell (Lock (lock.Sleep v))) (goes (Lock lock.Load)) w q w
+sleep t cell w q v known = record {
+  waiters = λ on. inl on;
   sleeps = λ e.
       let is : fields_of (word_of v) ≡ v = fields_of-word_of v known.0.1 in
       let same = low_alike w (word_of v) (eqb-true (w % 2 ^ 32) (low_of v) e) in
@@ -202,62 +204,90 @@ sleep t cell w v known = record {
   steady = λ e f. tt;
 }
 
+-- a wait, whether or not it sleeps
+waits : (t cell w : ℕ) (q : List ℕ) (v : Fields) (b : Bool) → Knows (Lock (lock.Sleep v)) → Alone t (Lock (lock.Sleep v)) (row_access t cell (Lock (lock.Sleep v))) (resume_of t (Lock (lock.Sleep v)) (if b then Woken else Again)) w q w
+waits t cell w q v true known = sleep t cell w q v known
+waits t cell w q v false known = sleep t cell w q v known
+
+-- a wake, and where it leads
+wake_fewer : (b : Bool) (w : ℕ) → left (if b then Unlock unlock.Trim else Ended OK) w < 2
+wake_fewer true w = omega arith
+wake_fewer false w = omega arith
+
+wake_steady : (t w : ℕ) (b : Bool) → Steady t (if b then Unlock unlock.Trim else Ended OK) w
+wake_steady t w true = tt
+wake_steady t w false = λ e. cc
+
+-- a trim
+trim : (t cell w : ℕ) (q : List ℕ) (b : Bool) → (b ≡ true → w ≡ waiters_alone) → (b ≡ true → q ≡ []) → Alone t (Unlock unlock.Trim) (access.Trim cell) (goes (Ended OK)) w q (if b then 0 else w)
+trim t cell w q true is none = record {
+  waiters = λ on. inr (none refl, ap (λ (v : ℕ). (fields_of v).owner) (is refl));
+  sleeps = λ e. absurd cc;
+  fewer = λ e. omega arith;
+  answers = λ e free on. absurd cc;
+  steady = λ e f. λ i. cc;
+}
+trim t cell w q false is none = record { waiters = λ on. inl on; sleeps = λ e. absurd cc; fewer = λ e. omega arith; answers = λ e free on. inr (refl, refl); steady = λ e f. λ i. cc }
+
 -- each row in turn
-pub alone : (t cell w : ℕ) (r : Row) → 1 ≤ t → t ≤ 64 → IsGoing r → Knows r → Expects t r (object_of (fields_of w))
-    → Alone t r (row_access t cell r) (resume_of t r (answer_at (row_access t cell r) w)) w (changed (row_access t cell r) w)
-alone t cell w (Lock lock.Load) pos last going known expected = let s = lock_looked t w pos in record {
-  waiters = λ on. on;
+pub alone : (t cell w : ℕ) (q : List ℕ) (r : Row) → 1 ≤ t → t ≤ 64 → IsGoing r → Knows r → Expects t r (object_of (fields_of w))
+    → Alone t r (row_access t cell r) (resume_of t r (answer_among (row_access t cell r) w q)) w q (word_among (row_access t cell r) w q)
+alone t cell w q (Lock lock.Load) pos last going known expected = let s = lock_looked t w pos in record {
+  waiters = λ on. inl on;
   sleeps = λ e. absurd cc;
   fewer = λ e. s.fewer;
   answers = λ e free on. inl (s.answers free on);
   steady = λ e f. s.steady;
 }
-alone t cell w (Lock (lock.Take v)) pos last going known expected = take_lock t cell w v pos last known (w == word_of v) refl
-alone t cell w (Lock (lock.SetWaiters v)) pos last going known expected = mark_lock t cell w v pos known (w == word_of v) refl
-alone t cell w (Lock (lock.Sleep v)) pos last going known expected = sleep t cell w v known
-alone t cell w (Lock lock.WakeAll) pos last going known expected = record { waiters = λ on. on; sleeps = λ e. absurd cc; fewer = λ e. omega arith; answers = λ e free on. absurd cc; steady = λ e f. λ i. cc }
-alone t cell w (TryLock try.Load) pos last going known expected = record {
-  waiters = λ on. on;
+alone t cell w q (Lock (lock.Take v)) pos last going known expected = take_lock t cell w q v pos last known (w == word_of v) refl
+alone t cell w q (Lock (lock.SetWaiters v)) pos last going known expected = mark_lock t cell w q v pos known (w == word_of v) refl
+alone t cell w q (Lock (lock.Sleep v)) pos last going known expected = waits t cell w q v (w % 2 ^ 32 == low_of v) known
+alone t cell w q (Lock lock.WakeAll) pos last going known expected = record { waiters = λ on. inl on; sleeps = λ e. absurd cc; fewer = λ e. omega arith; answers = λ e free on. absurd cc; steady = λ e f. λ i. cc }
+alone t cell w q (TryLock try.Load) pos last going known expected = record {
+  waiters = λ on. inl on;
   sleeps = λ e. absurd cc;
   fewer = λ e. try_fewer 0 w 6 (omega arith) (λ l. omega arith) (omega arith);
   answers = λ e free on. inr (refl, refl);
   steady = λ e f. try_steady t w;
 }
-alone t cell w (TryLock (try.Take v k)) pos last going known expected = take_try t cell w v k pos last known (w == word_of v) refl
-alone t cell w (Unlock unlock.Load) pos last going known expected = let s = unlock_looked t w in record {
-  waiters = λ on. on;
+alone t cell w q (TryLock (try.Take v k)) pos last going known expected = take_try t cell w q v k pos last known (w == word_of v) refl
+alone t cell w q (Unlock unlock.Load) pos last going known expected = let s = unlock_looked t w in record {
+  waiters = λ on. inl on;
   sleeps = λ e. absurd cc;
   fewer = λ e. s.0;
   answers = λ e free on. inr (refl, refl);
   steady = λ e f. s.1;
 }
-alone t cell w (Unlock (unlock.Release d)) pos last going known expected =
+alone t cell w q (Unlock (unlock.Release d)) pos last going known expected =
     let w' = Rattle.std.proofs.Common.bit_xor w (released_bits t d) in
     let s = released t w' d (fields_of w).waiters in
     let keeps = release_keeps t w d (owner_of-is (fields_of w).owner t expected.0) expected.1 in
     record {
-      waiters = λ on. keeps ∙ on;
+      waiters = λ on. inl (keeps ∙ on);
       sleeps = λ e. absurd cc;
       fewer = λ e. s.fewer;
       answers = λ e free on. inl (s.answers (sym keeps ∙ on));
       steady = λ e f. s.steady;
     }
-alone t cell w (Unlock (unlock.Wake a)) pos last going known expected = record { waiters = λ on. on; sleeps = λ e. absurd cc; fewer = λ e. omega arith; answers = λ e free on. absurd cc; steady = λ e f. λ i. cc }
-alone t cell w (Consistent consistent.Load) pos last going known expected = let s = consistent_looked t w in record {
-  waiters = λ on. on;
+alone t cell w q (Unlock (unlock.Wake a)) pos last going known expected =
+    let b : Bool = not a && (length (take (if a then 64 else 1) q) == 0) in
+    record { waiters = λ on. inl on; sleeps = λ e. absurd cc; fewer = λ e. wake_fewer b w; answers = λ e free on. absurd cc; steady = λ e f. wake_steady t w b }
+alone t cell w q (Unlock unlock.Trim) pos last going known expected = trim t cell w q (is_trimmed w q) (trims_free w q) (trims_unslept w q)
+alone t cell w q (Consistent consistent.Load) pos last going known expected = let s = consistent_looked t w in record {
+  waiters = λ on. inl on;
   sleeps = λ e. absurd cc;
   fewer = λ e. s.0;
   answers = λ e free on. inr (refl, refl);
   steady = λ e f. s.1;
 }
-alone t cell w (Consistent consistent.Declare) pos last going known expected =
+alone t cell w q (Consistent consistent.Declare) pos last going known expected =
     let d = and_declared w in
     let mine = owner_of-is (fields_of w).owner t expected.0 in
     record {
-      waiters = λ on. d.waiters ∙ on;
+      waiters = λ on. inl (d.waiters ∙ on);
       sleeps = λ e. absurd cc;
       fewer = λ e. omega arith;
       answers = λ e free on. let own = d.owner in absurd (omega arith);
       steady = λ e f. λ i. cc;
     }
-alone t cell w (Ended x) pos last going known expected = absurd going
+alone t cell w q (Ended x) pos last going known expected = absurd going

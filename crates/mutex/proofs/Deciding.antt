@@ -4,7 +4,7 @@ use Rattle.lockword.specs.Cells.{Fields}
 use Rattle.lockword.specs.declared.reply.Reply.{Reply}
 use Rattle.lockword.specs.declared.reply.Reply.TheVariants.{OK, EFAULT, EOWNERDEAD}
 use Rattle.keys.specs.declared.access.Answer.{Answer}
-use Rattle.keys.specs.declared.access.Answer.TheVariants.{Value, Stored, Exchanged, Changed, Again, Woken, Count}
+use Rattle.keys.specs.declared.access.Answer.TheVariants.{Value, Stored, Exchanged, Changed, Again, Woken, Count, Trimmed}
 use Rattle.keys.specs.declared.point.Operation.{Operation}
 use Rattle.keys.specs.declared.point.Operation.TheVariants as operation
 use Rattle.keys.specs.Layouts.{Layout'}
@@ -97,6 +97,8 @@ row_point t (row.Unlock (unlock.Release d)) (Value w) x c pos k s e = permitted_
 row_point t (row.Unlock (unlock.Release d)) a x c pos k s e = none_told x e
 row_point t (row.Unlock (unlock.Wake all)) (Count n) x c pos k s e = none_told x e
 row_point t (row.Unlock (unlock.Wake all)) a x c pos k s e = none_told x e
+row_point t (row.Unlock unlock.Trim) (Trimmed b) x c pos k s e = none_told x e
+row_point t (row.Unlock unlock.Trim) a x c pos k s e = none_told x e
 row_point t (row.Consistent consistent.Load) (Value w) x c pos k s e = permitted.at t (row.Consistent consistent.Load) (Value w) x pos k e
 row_point t (row.Consistent consistent.Load) a x c pos k s e = none_told x e
 row_point t (row.Consistent consistent.Declare) (Value w) x c pos k s e = permitted_there t operation.Consistent c x s e
@@ -111,6 +113,7 @@ row_stands t r a c pos = go (resume_of t r a).row refl
     go (row.Unlock (unlock.Release d)) e = let l = permitted.release t r a d pos e in subst (λ (m : Option Fields). HasMet t operation.Unlock (or_before m c)) (sym l.1) l.2
     go (row.Unlock unlock.Load) e = tt
     go (row.Unlock (unlock.Wake all)) e = tt
+    go (row.Unlock unlock.Trim) e = tt
     go (row.Consistent consistent.Declare) e = let l = permitted.declaration t r a pos e in subst (λ (m : Option Fields). HasMet t operation.Consistent (or_before m c)) (sym l.1) l.2
     go (row.Consistent consistent.Load) e = tt
     go (row.Lock z) e = tt
@@ -139,6 +142,7 @@ after_stands t p (row.Ended x) c s = leaving_stands t p p.operation x c
 after_stands t p (row.Unlock (unlock.Release d)) c s = s
 after_stands t p (row.Unlock unlock.Load) c s = s
 after_stands t p (row.Unlock (unlock.Wake all)) c s = s
+after_stands t p (row.Unlock unlock.Trim) c s = s
 after_stands t p (row.Lock r) c s = s
 after_stands t p (row.TryLock r) c s = s
 after_stands t p (row.Consistent r) c s = s
@@ -147,6 +151,7 @@ announced_stands : (t : ℕ) (p : Whole) (r : Row) (c : Option Fields) → RowSt
 announced_stands t p (row.Unlock (unlock.Release d)) c s = s
 announced_stands t p (row.Unlock unlock.Load) c s = s
 announced_stands t p (row.Unlock (unlock.Wake all)) c s = s
+announced_stands t p (row.Unlock unlock.Trim) c s = s
 announced_stands t p (row.Lock r) c s = s
 announced_stands t p (row.TryLock r) c s = s
 announced_stands t p (row.Consistent r) c s = s

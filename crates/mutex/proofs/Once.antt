@@ -1,15 +1,16 @@
 -- Whatever a whole call is answered, it has one point, and returns EFAULT exactly after an answer that its access doesn't have.
 use Rattle.std.proofs.Common.{◌≡◌, ◌≢◌, ◌⊎◌, inl, inr, ℕ, ◌+◌, ◌==◌, Bool, true, false, not, Option, Some, None, List, [], ◌∷◌, ◌++◌, refl, sym, ap, ◌∙◌, subst}
-use Rattle.std.specs.Prelude.{if◌then◌else◌}
+use Rattle.std.specs.Prelude.{◌&&◌, if◌then◌else◌}
 use Rattle.lockword.specs.Cells.{Fields, fields_of}
 use Rattle.lockword.specs.declared.reply.Reply.{Reply}
 use Rattle.lockword.specs.declared.reply.Reply.TheVariants.{OK, EPERM, EBUSY, EINVAL, EFAULT, EDEADLK, EOWNERDEAD, ENOTRECOVERABLE, XRACED}
 use Rattle.keys.specs.declared.access.Access.{Access}
 use Rattle.keys.specs.declared.access.Access.TheVariants as access
 use Rattle.keys.specs.declared.access.Answer.{Answer}
-use Rattle.keys.specs.declared.access.Answer.TheVariants.{Value, Stored, Exchanged, Changed, Again, Woken, Count, Counts}
+use Rattle.keys.specs.declared.access.Answer.TheVariants.{Value, Stored, Exchanged, Changed, Again, Woken, Count, Counts, Trimmed}
 use Rattle.keys.specs.declared.point.Operation.{Operation}
 use Rattle.keys.specs.declared.point.Operation.TheVariants as operation
+use Rattle.keys.specs.Accesses.{IsAnswerOf}
 use Rattle.keys.specs.Layouts.{Layout'}
 use Rattle.robustlist.specs.declared.link.LinkRow.{LinkRow}
 use Rattle.robustlist.specs.declared.link.LinkRow.TheVariants as link
@@ -39,7 +40,7 @@ use Rattle.mutex.specs.Programs.{row_access, resume_of}
 use Rattle.mutex.specs.Laws.{decided, Joins}
 use Rattle.mutex.specs.Whole.{begins, leaving, announced, after_cell, linked_at, linked, unlinked_at, unlinked, phase_access, phase_led, whole_access, whole_led, whole_moved, IsUnderWay}
 use Rattle.mutex.specs.WholeLaws.{whole_reached}
-use Rattle.mutex.specs.Decisions.{IsAnswerOf, replies, decided_by}
+use Rattle.mutex.specs.Decisions.{replies, decided_by}
 
 -- ---- rows
 
@@ -88,6 +89,10 @@ released_fine : (d w : Bool) → Fine None (decides (if w then row.Unlock (unloc
 released_fine d true = (refl, λ e. cc)
 released_fine d false = (refl, λ e. cc)
 
+woken_fine : (b : Bool) → Fine (Some OK) (goes (if b then row.Unlock unlock.Trim else row.Ended OK))
+woken_fine true = ((refl, refl), no_fault)
+woken_fine false = ((refl, refl), no_fault)
+
 consistent_fine : (t : ℕ) (c : Fields) → Fine None (consistent_sees t c)
 consistent_fine t c = go (c.owner == t) c.died
   where
@@ -119,8 +124,10 @@ row_fine t cell (row.Unlock unlock.Load) (Value w) g h = unlock_fine t (fields_o
 row_fine t cell (row.Unlock unlock.Load) a g h = absurd h
 row_fine t cell (row.Unlock (unlock.Release d)) (Value w) g h = released_fine d (fields_of w).waiters
 row_fine t cell (row.Unlock (unlock.Release d)) a g h = absurd h
-row_fine t cell (row.Unlock (unlock.Wake all)) (Count n) g h = ((refl, refl), no_fault)
+row_fine t cell (row.Unlock (unlock.Wake all)) (Count n) g h = woken_fine (not all && (n == 0))
 row_fine t cell (row.Unlock (unlock.Wake all)) a g h = absurd h
+row_fine t cell (row.Unlock unlock.Trim) (Trimmed b) g h = ((refl, refl), no_fault)
+row_fine t cell (row.Unlock unlock.Trim) a g h = absurd h
 row_fine t cell (row.Consistent consistent.Load) (Value w) g h = consistent_fine t (fields_of w)
 row_fine t cell (row.Consistent consistent.Load) a g h = absurd h
 row_fine t cell (row.Consistent consistent.Declare) (Value w) g h = (refl, λ e. cc)
@@ -152,6 +159,8 @@ row_faults t cell (row.Unlock (unlock.Release d)) (Value w) g n = absurd (n tt)
 row_faults t cell (row.Unlock (unlock.Release d)) a g n = refl
 row_faults t cell (row.Unlock (unlock.Wake all)) (Count k) g n = absurd (n tt)
 row_faults t cell (row.Unlock (unlock.Wake all)) a g n = refl
+row_faults t cell (row.Unlock unlock.Trim) (Trimmed b) g n = absurd (n tt)
+row_faults t cell (row.Unlock unlock.Trim) a g n = refl
 row_faults t cell (row.Consistent consistent.Load) (Value w) g n = absurd (n tt)
 row_faults t cell (row.Consistent consistent.Load) a g n = refl
 row_faults t cell (row.Consistent consistent.Declare) (Value w) g n = absurd (n tt)
@@ -174,6 +183,7 @@ either (access.Wake at n) (Count k) = inl tt
 either (access.Requeue f n t m) (Counts k j) = inl tt
 either (access.CmpRequeue f e n t m) (Counts k j) = inl tt
 either (access.CmpRequeue f e n t m) Again = inl tt
+either (access.Trim at) (Trimmed b) = inl tt
 either a x = inr (λ h. h)
 
 -- ---- what a call was decided by, in each phase
@@ -228,6 +238,7 @@ after_so p (row.Ended x) ds h = leaving_so p p.operation x ds h.0 h.1
 after_so p (row.Unlock (unlock.Release d)) ds h = (tt, h)
 after_so p (row.Unlock unlock.Load) ds h = (tt, h)
 after_so p (row.Unlock (unlock.Wake all)) ds h = (tt, h)
+after_so p (row.Unlock unlock.Trim) ds h = (tt, h)
 after_so p (row.Lock r) ds h = (tt, h)
 after_so p (row.TryLock r) ds h = (tt, h)
 after_so p (row.Consistent r) ds h = (tt, h)
@@ -246,6 +257,7 @@ announced_so : (p : Whole) (r : Row) (ds : List Reply) → IsGoing r → Once (d
 announced_so p (row.Unlock (unlock.Release d)) ds g h = (tt, h)
 announced_so p (row.Unlock unlock.Load) ds g h = (g, h)
 announced_so p (row.Unlock (unlock.Wake all)) ds g h = (g, h)
+announced_so p (row.Unlock unlock.Trim) ds g h = (g, h)
 announced_so p (row.Lock r) ds g h = (g, h)
 announced_so p (row.TryLock r) ds g h = (g, h)
 announced_so p (row.Consistent r) ds g h = (g, h)
@@ -372,6 +384,7 @@ after_fine p (row.Ended x) ds h = leaving_fine p p.operation x h.1
 after_fine p (row.Unlock (unlock.Release d)) ds h = tt
 after_fine p (row.Unlock unlock.Load) ds h = tt
 after_fine p (row.Unlock (unlock.Wake all)) ds h = tt
+after_fine p (row.Unlock unlock.Trim) ds h = tt
 after_fine p (row.Lock r) ds h = tt
 after_fine p (row.TryLock r) ds h = tt
 after_fine p (row.Consistent r) ds h = tt
@@ -380,6 +393,7 @@ announced_fine : (p : Whole) (r : Row) → NoFault (announced p r)
 announced_fine p (row.Unlock (unlock.Release d)) = tt
 announced_fine p (row.Unlock unlock.Load) = tt
 announced_fine p (row.Unlock (unlock.Wake all)) = tt
+announced_fine p (row.Unlock unlock.Trim) = tt
 announced_fine p (row.Lock r) = tt
 announced_fine p (row.TryLock r) = tt
 announced_fine p (row.Consistent r) = tt

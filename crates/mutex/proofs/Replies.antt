@@ -1,11 +1,11 @@
 -- Whatever a call is answered, its reply is permitted for the cell that it met.
 use Rattle.std.proofs.Common.{◌≡◌, ℕ, ◌+◌, ◌≤◌, ◌==◌, Bool, true, false, not, Some, refl, subst, ap, ◌∙◌, arith, eqb-true}
-use Rattle.std.specs.Prelude.{Option, if◌then◌else◌}
+use Rattle.std.specs.Prelude.{Option, ◌&&◌, if◌then◌else◌}
 use Rattle.lockword.specs.Cells.{Fields, fields_of, taken}
 use Rattle.lockword.specs.declared.reply.Reply.{Reply}
 use Rattle.lockword.specs.declared.reply.Reply.TheVariants.{OK, EPERM, EBUSY, EINVAL, EDEADLK, ENOTRECOVERABLE, XRACED}
 use Rattle.keys.specs.declared.access.Answer.{Answer}
-use Rattle.keys.specs.declared.access.Answer.TheVariants.{Value, Exchanged, Changed, Again, Woken, Count}
+use Rattle.keys.specs.declared.access.Answer.TheVariants.{Value, Exchanged, Changed, Again, Woken, Count, Trimmed}
 use Rattle.keys.specs.declared.point.Operation.{Operation}
 use Rattle.keys.specs.declared.point.Operation.TheVariants as operation
 use Rattle.keys.specs.Objects.{Permits, Run, object_of, owner_of, freed, declared_consistent}
@@ -58,6 +58,7 @@ at t (Unlock unlock.Load) (Value w) x pos known e = looked t operation.Unlock _ 
 at t (Unlock unlock.Load) a x pos known e = tt
 at t (Unlock (unlock.Release d)) a x pos known e = tt
 at t (Unlock (unlock.Wake d)) a x pos known e = tt
+at t (Unlock unlock.Trim) a x pos known e = tt
 at t (Consistent consistent.Load) (Value w) x pos known e = looked t operation.Consistent _ (fields_of w) x (consistent_looks t 0 (fields_of w) pos) e
 at t (Consistent consistent.Load) a x pos known e = tt
 at t (Consistent consistent.Declare) a x pos known e = tt
@@ -137,6 +138,15 @@ unlock_row : (d w : Bool) (r : ConsistentRow) → (if w then Unlock (unlock.Wake
 unlock_row d true r is = cc
 unlock_row d false r is = cc
 
+-- behind a wake there is neither
+woken_release : (b d : Bool) → (if b then Unlock unlock.Trim else Ended OK) ≡ Unlock (unlock.Release d) → ⊥
+woken_release true d is = cc
+woken_release false d is = cc
+
+woken_declare : (b : Bool) → (if b then Unlock unlock.Trim else Ended OK) ≡ Consistent consistent.Declare → ⊥
+woken_declare true is = cc
+woken_declare false is = cc
+
 unlock_sight : (t : ℕ) (c : Fields) (r : ConsistentRow) → (unlock_sees t c).row ≡ Consistent r → ⊥
 unlock_sight t c r = go (c.owner == t)
   where
@@ -169,8 +179,10 @@ release t (Unlock unlock.Load) (Value w) d pos e = let l = loads t (fields_of w)
 release t (Unlock unlock.Load) a d pos e = absurd cc
 release t (Unlock (unlock.Release f)) (Value w) d pos e = absurd (released f (fields_of w).waiters d e)
 release t (Unlock (unlock.Release f)) a d pos e = absurd cc
-release t (Unlock (unlock.Wake all)) (Count k) d pos e = absurd cc
+release t (Unlock (unlock.Wake all)) (Count k) d pos e = absurd (woken_release (not all && (k == 0)) d e)
 release t (Unlock (unlock.Wake all)) a d pos e = absurd cc
+release t (Unlock unlock.Trim) (Trimmed b) d pos e = absurd cc
+release t (Unlock unlock.Trim) a d pos e = absurd cc
 release t (Consistent consistent.Load) (Value w) d pos e = absurd (consistent_sight t (fields_of w) (unlock.Release d) e)
 release t (Consistent consistent.Load) a d pos e = absurd cc
 release t (Consistent consistent.Declare) (Value w) d pos e = absurd cc
@@ -185,8 +197,10 @@ declaration t (Unlock unlock.Load) (Value w) pos e = absurd (unlock_sight t (fie
 declaration t (Unlock unlock.Load) a pos e = absurd cc
 declaration t (Unlock (unlock.Release f)) (Value w) pos e = absurd (unlock_row f (fields_of w).waiters consistent.Declare e)
 declaration t (Unlock (unlock.Release f)) a pos e = absurd cc
-declaration t (Unlock (unlock.Wake all)) (Count k) pos e = absurd cc
+declaration t (Unlock (unlock.Wake all)) (Count k) pos e = absurd (woken_declare (not all && (k == 0)) e)
 declaration t (Unlock (unlock.Wake all)) a pos e = absurd cc
+declaration t (Unlock unlock.Trim) (Trimmed b) pos e = absurd cc
+declaration t (Unlock unlock.Trim) a pos e = absurd cc
 declaration t (Consistent consistent.Load) (Value w) pos e = (fields_of w, refl, owns t (fields_of w) pos e)
 declaration t (Consistent consistent.Load) a pos e = absurd cc
 declaration t (Consistent consistent.Declare) (Value w) pos e = absurd cc

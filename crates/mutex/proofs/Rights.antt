@@ -1,16 +1,18 @@
 -- One access of a call is a step of the mutex as an object, and leaves what the next row needs.
 use Rattle.std.proofs.Common.{◌≡◌, ◌≢◌, ℕ, ◌+◌, ◌<◌, ◌≤◌, ◌==◌, Bool, true, false, not, Option, Some, None, refl, sym, ap, ◌∙◌, subst, arith, eqb-true, bit_xor, bit_and}
-use Rattle.std.specs.Prelude.{if◌then◌else◌}
+use Rattle.std.specs.Prelude.{◌&&◌, ◌%◌, ◌^◌, length, take, if◌then◌else◌}
 use Rattle.std.proofs.lemmas.Bool.{eqb-false}
-use Rattle.lockword.specs.Cells.{Fields, fields_of, word_of, taken, waiting}
+use Rattle.lockword.specs.Cells.{Fields, fields_of, word_of, low_of, taken, waiting, waiters_alone}
 use Rattle.lockword.specs.Coding.{fields_of-word_of}
 use Rattle.lockword.proofs.Bits.{xor_released, xor_spoiled, and_declared}
 use Rattle.lockword.specs.declared.reply.Reply.{Reply}
 use Rattle.lockword.specs.declared.reply.Reply.TheVariants.{OK, EPERM, EBUSY, EINVAL, EDEADLK, EOWNERDEAD, ENOTRECOVERABLE, XRACED}
-use Rattle.keys.specs.declared.access.Answer.TheVariants.{Exchanged, Changed}
+use Rattle.keys.specs.declared.access.Answer.TheVariants.{Exchanged, Changed, Again, Woken}
 use Rattle.keys.specs.declared.point.Operation.{Operation}
 use Rattle.keys.specs.declared.point.Operation.TheVariants as operation
 use Rattle.keys.specs.declared.object.Object.{Object}
+use Rattle.keys.specs.Accesses.{is_trimmed}
+use Rattle.keys.proofs.Trims.{trims_free}
 use Rattle.keys.specs.Objects.{Permits, Run, object_of, owner_of, owned_by, freed, declared_consistent}
 use Rattle.keys.proofs.Owners.{owner_of-some, owner_of-is, owner_of-none}
 use Rattle.mutex.specs.declared.lock.LockRow.TheVariants as lock
@@ -251,21 +253,36 @@ release_stays : (d b : Bool) → IsOf operation.Unlock (if b then Unlock (unlock
 release_stays d true = refl
 release_stays d false = tt
 
+-- where a wake leads needs nothing
+wake_leads : (t cell w : ℕ) (all b : Bool) → Sound (object_of (fields_of w)) → Right t cell (Unlock (unlock.Wake all)) (goes (if b then Unlock unlock.Trim else Ended OK)) w w
+wake_leads t cell w all true sound = record { runs = refl; knows = tt; expects = tt; sound = sound; tells = (refl, refl); stays = refl }
+wake_leads t cell w all false sound = record { runs = refl; knows = tt; expects = tt; sound = sound; tells = (refl, refl); stays = tt }
+
+-- a cell that is trimmed was free and usable, and stays so
+trim_leaves : (w : ℕ) (b : Bool) → (b ≡ true → w ≡ waiters_alone) → object_of (fields_of (if b then 0 else w)) ≡ object_of (fields_of w)
+trim_leaves w true is = ap (λ (v : ℕ). object_of (fields_of v)) (sym (is refl))
+trim_leaves w false is = refl
+
+-- a sleep, whether or not it is one
+sleep_leads : (t cell w : ℕ) (v : Fields) (b : Bool) → Sound (object_of (fields_of w)) → Right t cell (Lock (lock.Sleep v)) (resume_of t (Lock (lock.Sleep v)) (if b then Woken else Again)) w w
+sleep_leads t cell w v true sound = looked t cell w (Lock (lock.Sleep v)) _ refl sound (record { runs = refl; knows = tt; expects = tt; tells = refl; stays = refl })
+sleep_leads t cell w v false sound = looked t cell w (Lock (lock.Sleep v)) _ refl sound (record { runs = refl; knows = tt; expects = tt; tells = refl; stays = refl })
+
 -- declaring an owned mutex consistent
 declares : (t w : ℕ) → object_of (fields_of (bit_and w all_but_owner_died)) ≡ declared_consistent (object_of (fields_of w))
 declares t w = let d = and_declared w in λ i. record { owner = owner_of (d.owner i); inconsistent = d.died i; unusable = d.unusable i }
 
 -- each row in turn
 pub right : ProgramsAreRight
-right t cell w (Lock lock.Load) pos last going known sound expected = looked t cell w (Lock lock.Load) _ refl sound (lock_looks t cell (fields_of w) pos (small_owner w))
-right t cell w (Lock (lock.Take v)) pos last going known sound expected = lock_take t cell w v pos last known sound (w == word_of v) refl
-right t cell w (Lock (lock.SetWaiters v)) pos last going known sound expected = lock_wait t cell w v pos known sound (w == word_of v) refl
-right t cell w (Lock (lock.Sleep v)) pos last going known sound expected = looked t cell w (Lock (lock.Sleep v)) _ refl sound (record { runs = refl; knows = tt; expects = tt; tells = refl; stays = refl })
-right t cell w (Lock lock.WakeAll) pos last going known sound expected = record { runs = refl; knows = tt; expects = tt; sound = sound; tells = (refl, refl); stays = tt }
-right t cell w (TryLock try.Load) pos last going known sound expected = looked t cell w (TryLock try.Load) _ refl sound (try_looks t cell 0 (fields_of w) (omega arith))
-right t cell w (TryLock (try.Take v k)) pos last going known sound expected = try_take t cell w v k pos last known sound (w == word_of v) refl
-right t cell w (Unlock unlock.Load) pos last going known sound expected = looked t cell w (Unlock unlock.Load) _ refl sound (unlock_looks t cell (fields_of w) pos)
-right t cell w (Unlock (unlock.Release d)) pos last going known sound expected =
+right t cell w q (Lock lock.Load) pos last going known sound expected = looked t cell w (Lock lock.Load) _ refl sound (lock_looks t cell (fields_of w) pos (small_owner w))
+right t cell w q (Lock (lock.Take v)) pos last going known sound expected = lock_take t cell w v pos last known sound (w == word_of v) refl
+right t cell w q (Lock (lock.SetWaiters v)) pos last going known sound expected = lock_wait t cell w v pos known sound (w == word_of v) refl
+right t cell w q (Lock (lock.Sleep v)) pos last going known sound expected = sleep_leads t cell w v (w % 2 ^ 32 == low_of v) sound
+right t cell w q (Lock lock.WakeAll) pos last going known sound expected = record { runs = refl; knows = tt; expects = tt; sound = sound; tells = (refl, refl); stays = tt }
+right t cell w q (TryLock try.Load) pos last going known sound expected = looked t cell w (TryLock try.Load) _ refl sound (try_looks t cell 0 (fields_of w) (omega arith))
+right t cell w q (TryLock (try.Take v k)) pos last going known sound expected = try_take t cell w v k pos last known sound (w == word_of v) refl
+right t cell w q (Unlock unlock.Load) pos last going known sound expected = looked t cell w (Unlock unlock.Load) _ refl sound (unlock_looks t cell (fields_of w) pos)
+right t cell w q (Unlock (unlock.Release d)) pos last going known sound expected =
     let leaves = release_leaves t w d pos sound expected.0 expected.1 in
     record {
       runs = (freed (object_of (fields_of w)), (expected.0, refl), leaves);
@@ -275,16 +292,12 @@ right t cell w (Unlock (unlock.Release d)) pos last going known sound expected =
       tells = release_tells t w d;
       stays = release_stays d (fields_of w).waiters;
     }
-right t cell w (Unlock (unlock.Wake all)) pos last going known sound expected = record {
-  runs = refl;
-  knows = tt;
-  expects = tt;
-  sound = sound;
-  tells = (refl, refl);
-  stays = tt;
-}
-right t cell w (Consistent consistent.Load) pos last going known sound expected = looked t cell w (Consistent consistent.Load) _ refl sound (consistent_looks t cell (fields_of w) pos)
-right t cell w (Consistent consistent.Declare) pos last going known sound expected =
+right t cell w q (Unlock (unlock.Wake all)) pos last going known sound expected = wake_leads t cell w all (not all && (length (take (if all then 64 else 1) q) == 0)) sound
+right t cell w q (Unlock unlock.Trim) pos last going known sound expected =
+    let leaves = trim_leaves w (is_trimmed w q) (trims_free w q) in
+    record { runs = leaves; knows = tt; expects = tt; sound = subst Sound (sym leaves) sound; tells = (refl, refl); stays = tt }
+right t cell w q (Consistent consistent.Load) pos last going known sound expected = looked t cell w (Consistent consistent.Load) _ refl sound (consistent_looks t cell (fields_of w) pos)
+right t cell w q (Consistent consistent.Declare) pos last going known sound expected =
     let leaves = declares t w in
     record {
       runs = (declared_consistent (object_of (fields_of w)), (expected.0, expected.1, refl), leaves);
@@ -294,4 +307,4 @@ right t cell w (Consistent consistent.Declare) pos last going known sound expect
       tells = refl;
       stays = tt;
     }
-right t cell w (Ended x) pos last going known sound expected = absurd going
+right t cell w q (Ended x) pos last going known sound expected = absurd going

@@ -1,5 +1,5 @@
 -- What one step of a call tells beyond the object.
-use Rattle.std.proofs.Common.{◌≡◌, ◌≢◌, ℕ, ◌+◌, ◌-◌, ◌<◌, ◌≤◌, ◌==◌, Bool, true, false, Option, Some, None, not, refl, sym, ap, ◌∙◌, subst, arith, eqb-true, bit_xor}
+use Rattle.std.proofs.Common.{◌≡◌, ◌≢◌, ℕ, ◌+◌, ◌-◌, ◌<◌, ◌≤◌, ◌==◌, Bool, true, false, Option, Some, None, List, [], not, refl, sym, ap, ◌∙◌, subst, arith, eqb-true, bit_xor}
 use Rattle.std.specs.Prelude.{if◌then◌else◌}
 use Rattle.std.proofs.lemmas.Bool.{eqb-false}
 use Rattle.lockword.specs.Cells.{Fields, fields_of, word_of, taken, waiting}
@@ -7,14 +7,16 @@ use Rattle.lockword.proofs.Bits.{xor_released, xor_spoiled, and_declared}
 use Rattle.lockword.specs.Coding.{fields_of-word_of}
 use Rattle.lockword.specs.declared.reply.Reply.{Reply}
 use Rattle.lockword.specs.declared.reply.Reply.TheVariants.{OK, EPERM, EBUSY, EINVAL, EDEADLK, EOWNERDEAD, ENOTRECOVERABLE, XRACED}
+use Rattle.keys.specs.declared.access.Access.{Access}
 use Rattle.keys.specs.declared.access.Access.TheVariants as access
+use Rattle.keys.specs.declared.access.Answer.{Answer}
 use Rattle.keys.specs.declared.access.Answer.TheVariants.{Exchanged, Changed}
 use Rattle.keys.specs.declared.object.Object.{Object}
 use Rattle.keys.specs.declared.point.Operation.{Operation}
 use Rattle.keys.specs.declared.point.Operation.TheVariants as operation
 use Rattle.keys.specs.declared.point.Point.{Point}
 use Rattle.keys.specs.declared.point.Progress.TheVariants.{Goes, Returns}
-use Rattle.keys.specs.Accesses.{address_of, changed, answer_at}
+use Rattle.keys.specs.Accesses.{address_of, changed, answer_at, word_among, answer_among}
 use Rattle.keys.specs.Objects.{object_of}
 use Rattle.keys.proofs.Owners.{owner_of-is}
 use Rattle.mutex.specs.declared.lock.LockRow.TheVariants as lock
@@ -30,8 +32,9 @@ use Rattle.mutex.specs.Unlock.{released_bits, after_release, unlock_sees}
 use Rattle.mutex.specs.Consistent.{consistent_sees}
 use Rattle.mutex.specs.Programs.{row_access, resume_of, row_operation}
 use Rattle.mutex.specs.Progresses.{progress_at}
-use Rattle.mutex.specs.Laws.{Expects, decided, IsOf}
+use Rattle.mutex.specs.Laws.{Expects, Sound, Right, decided, IsOf}
 use Rattle.mutex.specs.Steps.{IsStep, Minds, Tells, rank}
+use Rattle.mutex.proofs.Rights.{right}
 
 -- a call's accesses are at its cell
 pub at_cell : (t cell : ℕ) (r : Row) → address_of (row_access t cell r) ≡ cell
@@ -45,6 +48,7 @@ at_cell t cell (TryLock (try.Take v k)) = refl
 at_cell t cell (Unlock unlock.Load) = refl
 at_cell t cell (Unlock (unlock.Release d)) = refl
 at_cell t cell (Unlock (unlock.Wake a)) = refl
+at_cell t cell (Unlock unlock.Trim) = refl
 at_cell t cell (Consistent consistent.Load) = refl
 at_cell t cell (Consistent consistent.Declare) = refl
 at_cell t cell (Ended x) = refl
@@ -211,11 +215,35 @@ minds t cell w (Unlock (unlock.Release d)) last going step known expected =
       falls = λ other. release_falls d (fields_of w).waiters;
     }
 minds t cell w (Unlock (unlock.Wake all)) last going step known expected = absurd step
+minds t cell w (Unlock unlock.Trim) last going step known expected = absurd step
 minds t cell w (Consistent consistent.Load) last going step known expected = record { tells = consistent_tells t (fields_of w); waiters = λ on. on; rest = λ none. none; falls = λ other. consistent_falls t (fields_of w) }
 minds t cell w (Consistent consistent.Declare) last going step known expected =
     let d = and_declared w in
     record { tells = tt; waiters = λ on. d.waiters ∙ on; rest = d.rest; falls = λ other. (let e : 0 < 1 = omega arith in e) }
 minds t cell w (Ended x) last going step known expected = absurd going
+
+-- a step does what it does, and answers so, whoever sleeps
+step_answer : (a : Access) (w : ℕ) (queue : List ℕ) → IsStep a → answer_among a w queue ≡ answer_at a w
+step_answer (access.Load at) w queue step = refl
+step_answer (access.Exchange at old new) w queue step = refl
+step_answer (access.FetchXor at v) w queue step = refl
+step_answer (access.FetchOr at v) w queue step = refl
+step_answer (access.FetchAnd at v) w queue step = refl
+step_answer a w queue step = absurd step
+
+step_word : (a : Access) (w : ℕ) (queue : List ℕ) → IsStep a → word_among a w queue ≡ changed a w
+step_word (access.Load at) w queue step = refl
+step_word (access.Exchange at old new) w queue step = refl
+step_word (access.FetchXor at v) w queue step = refl
+step_word (access.FetchOr at v) w queue step = refl
+step_word (access.FetchAnd at v) w queue step = refl
+step_word a w queue step = absurd step
+
+-- so the law of programs holds of it with no word of sleepers
+pub right_step : (t cell w : ℕ) (r : Row) → 1 ≤ t → t ≤ 64 → IsGoing r → IsStep (row_access t cell r) → Knows r → Sound (object_of (fields_of w)) → Expects t r (object_of (fields_of w))
+    → Right t cell r (resume_of t r (answer_at (row_access t cell r) w)) w (changed (row_access t cell r) w)
+right_step t cell w r pos last going step known sound expected =
+    subst (λ (z : Answer × ℕ). Right t cell r (resume_of t r z.0) w z.1) (λ i. (step_answer (row_access t cell r) w [] step i, step_word (row_access t cell r) w [] step i)) (right t cell w [] r pos last going known sound expected)
 
 -- what a row needs of the mutex is a matter of its owner's: where others leave an owned mutex alone, it stays so
 pub carries : (t : ℕ) (r : Row) (o n : Object) → (o.owner ≡ Some t → n ≡ o) → Expects t r o → Expects t r n
@@ -224,6 +252,7 @@ carries t (TryLock r) o n keep e = tt
 carries t (Unlock unlock.Load) o n keep e = tt
 carries t (Unlock (unlock.Release d)) o n keep e = subst (λ (z : Object). (z.owner ≡ Some t) × (z.inconsistent ≡ d)) (sym (keep e.0)) e
 carries t (Unlock (unlock.Wake a)) o n keep e = tt
+carries t (Unlock unlock.Trim) o n keep e = tt
 carries t (Consistent consistent.Load) o n keep e = tt
 carries t (Consistent consistent.Declare) o n keep e = subst (λ (z : Object). (z.owner ≡ Some t) × (z.inconsistent ≡ true)) (sym (keep e.0)) e
 carries t (Ended x) o n keep e = tt
@@ -239,6 +268,7 @@ undecided t cell (TryLock r) going step = refl
 undecided t cell (Unlock unlock.Load) going step = refl
 undecided t cell (Unlock (unlock.Release d)) going step = refl
 undecided t cell (Unlock (unlock.Wake a)) going step = absurd step
+undecided t cell (Unlock unlock.Trim) going step = absurd step
 undecided t cell (Consistent r) going step = refl
 undecided t cell (Ended x) going step = absurd going
 
@@ -272,15 +302,16 @@ try_steps t cell (Unlock r) going of = absurd (cc of)
 try_steps t cell (Consistent r) going of = absurd (cc of)
 try_steps t cell (Ended x) going of = absurd going
 
--- each access of an unlock but the wake
-pub unlock_steps : (t cell : ℕ) (r : Row) → IsGoing r → IsOf operation.Unlock r → ((at n : ℕ) → row_access t cell r ≡ access.Wake at n → ⊥) → IsStep (row_access t cell r)
-unlock_steps t cell (Lock r) going of other = absurd (cc of)
-unlock_steps t cell (TryLock r) going of other = absurd (cc of)
-unlock_steps t cell (Unlock unlock.Load) going of other = tt
-unlock_steps t cell (Unlock (unlock.Release d)) going of other = tt
-unlock_steps t cell (Unlock (unlock.Wake a)) going of other = absurd (other cell (if a then 64 else 1) refl)
-unlock_steps t cell (Consistent r) going of other = absurd (cc of)
-unlock_steps t cell (Ended x) going of other = absurd going
+-- each access of an unlock but the wake and what follows it
+pub unlock_steps : (t cell : ℕ) (r : Row) (c : Fields) → IsGoing r → IsOf operation.Unlock r → Tells operation.Unlock r c → ((at n : ℕ) → row_access t cell r ≡ access.Wake at n → ⊥) → IsStep (row_access t cell r)
+unlock_steps t cell (Lock r) c going of tells other = absurd (cc of)
+unlock_steps t cell (TryLock r) c going of tells other = absurd (cc of)
+unlock_steps t cell (Unlock unlock.Load) c going of tells other = tt
+unlock_steps t cell (Unlock (unlock.Release d)) c going of tells other = tt
+unlock_steps t cell (Unlock (unlock.Wake a)) c going of tells other = absurd (other cell (if a then 64 else 1) refl)
+unlock_steps t cell (Unlock unlock.Trim) c going of tells other = absurd tells
+unlock_steps t cell (Consistent r) c going of tells other = absurd (cc of)
+unlock_steps t cell (Ended x) c going of tells other = absurd going
 
 -- who wakes has made its release, which found what its row tells
 pub wakes : (t cell at n : ℕ) (r : Row) (c : Fields) → IsGoing r → IsOf operation.Unlock r → row_access t cell r ≡ access.Wake at n → Tells operation.Unlock r c → (decided r ≡ Some OK) × (c.waiters ≡ true) × (n ≡ (if c.died then 64 else 1))
@@ -288,6 +319,7 @@ wakes t cell at n (Lock r) c going of is tells = absurd (cc of)
 wakes t cell at n (TryLock r) c going of is tells = absurd (cc of)
 wakes t cell at n (Unlock unlock.Load) c going of is tells = absurd (cc is)
 wakes t cell at n (Unlock (unlock.Release d)) c going of is tells = absurd (cc is)
+wakes t cell at n (Unlock unlock.Trim) c going of is tells = absurd tells
 wakes t cell at n (Unlock (unlock.Wake a)) c going of is tells = let e : (if a then 64 else 1) ≡ n = cc is in (refl, tells.0, sym e ∙ ap (λ (b : Bool). if b then 64 else 1) (sym tells.1))
 wakes t cell at n (Consistent r) c going of is tells = absurd (cc of)
 wakes t cell at n (Ended x) c going of is tells = absurd going

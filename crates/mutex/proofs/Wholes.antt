@@ -1,11 +1,11 @@
 -- Whatever a whole call is answered, what it does to its mutex is what its row does.
 use Rattle.std.proofs.Common.{◌≡◌, ℕ, ◌+◌, ◌≤◌, ◌==◌, ◌⊎◌, inl, inr, Bool, true, false, not, Option, Some, None, List, [], ◌∷◌, refl, sym, subst, arith}
-use Rattle.std.specs.Prelude.{if◌then◌else◌}
+use Rattle.std.specs.Prelude.{◌&&◌, if◌then◌else◌}
 use Rattle.lockword.specs.Cells.{Fields, fields_of}
 use Rattle.lockword.specs.declared.reply.Reply.{Reply}
 use Rattle.lockword.specs.declared.reply.Reply.TheVariants.{OK, EPERM, EFAULT, EINVAL, EDEADLK, EOWNERDEAD, ENOTRECOVERABLE, XRACED}
 use Rattle.keys.specs.declared.access.Answer.{Answer}
-use Rattle.keys.specs.declared.access.Answer.TheVariants.{Value, Stored, Exchanged, Changed, Again, Woken, Count}
+use Rattle.keys.specs.declared.access.Answer.TheVariants.{Value, Stored, Exchanged, Changed, Again, Woken, Count, Trimmed}
 use Rattle.keys.specs.declared.point.Operation.{Operation}
 use Rattle.keys.specs.declared.point.Operation.TheVariants as operation
 use Rattle.keys.specs.Layouts.{Layout'}
@@ -42,6 +42,11 @@ after_knows : (d w : Bool) → Knows (if w then row.Unlock (unlock.Wake d) else 
 after_knows d true = (tt, refl)
 after_knows d false = (tt, tt)
 
+-- where a wake goes on
+trim_knows : (b : Bool) → Knows (if b then row.Unlock unlock.Trim else row.Ended OK) × IsOf operation.Unlock (if b then row.Unlock unlock.Trim else row.Ended OK)
+trim_knows true = (tt, refl)
+trim_knows false = (tt, tt)
+
 -- whatever a call is answered at a row, its next row is of its operation, and knows what it needs
 goes_on : (t : ℕ) (r : Row) (a : Answer) → 1 ≤ t → Knows r → Knows (resume_of t r a).row × IsOf (row_operation r) (resume_of t r a).row
 goes_on t (row.Lock lock.Load) (Value w) pos k = let l = lock_looks t 0 (fields_of w) pos (omega arith) in (l.knows, l.stays)
@@ -66,8 +71,10 @@ goes_on t (row.Unlock unlock.Load) (Value w) pos k = let l = unlock_looks t 0 (f
 goes_on t (row.Unlock unlock.Load) a pos k = (tt, tt)
 goes_on t (row.Unlock (unlock.Release d)) (Value w) pos k = after_knows d (fields_of w).waiters
 goes_on t (row.Unlock (unlock.Release d)) a pos k = (tt, tt)
-goes_on t (row.Unlock (unlock.Wake all)) (Count n) pos k = (tt, tt)
+goes_on t (row.Unlock (unlock.Wake all)) (Count n) pos k = trim_knows (not all && (n == 0))
 goes_on t (row.Unlock (unlock.Wake all)) a pos k = (tt, tt)
+goes_on t (row.Unlock unlock.Trim) (Trimmed b) pos k = (tt, tt)
+goes_on t (row.Unlock unlock.Trim) a pos k = (tt, tt)
 goes_on t (row.Consistent consistent.Load) (Value w) pos k = let l = consistent_looks t 0 (fields_of w) pos in (l.knows, l.stays)
 goes_on t (row.Consistent consistent.Load) a pos k = (tt, tt)
 goes_on t (row.Consistent consistent.Declare) (Value w) pos k = (tt, tt)
@@ -103,6 +110,7 @@ after_at p q (row.Ended x) k s = leaving_at p q p.operation x
 after_at p q (row.Unlock (unlock.Release d)) k s = (tt, s)
 after_at p q (row.Unlock unlock.Load) k s = (tt, s)
 after_at p q (row.Unlock (unlock.Wake all)) k s = (tt, s)
+after_at p q (row.Unlock unlock.Trim) k s = (tt, s)
 after_at p q (row.Lock r) k s = (k, s)
 after_at p q (row.TryLock r) k s = (k, s)
 after_at p q (row.Consistent r) k s = (k, s)
@@ -112,6 +120,7 @@ announced_at : (p q : Whole) (r : Row) → Knows r → row_operation r ≡ q.ope
 announced_at p q (row.Unlock (unlock.Release d)) k s = sym s
 announced_at p q (row.Unlock unlock.Load) k s = (tt, s)
 announced_at p q (row.Unlock (unlock.Wake all)) k s = (tt, s)
+announced_at p q (row.Unlock unlock.Trim) k s = (tt, s)
 announced_at p q (row.Lock r) k s = (k, s)
 announced_at p q (row.TryLock r) k s = (k, s)
 announced_at p q (row.Consistent r) k s = (k, s)
@@ -192,6 +201,7 @@ release_row p (row.Ended x) d e = absurd (none_is (about_to_release (leaving p p
 release_row p (row.Unlock (unlock.Release c)) d e = let same = noted c d e in cc
 release_row p (row.Unlock unlock.Load) d e = absurd cc
 release_row p (row.Unlock (unlock.Wake all)) d e = absurd cc
+release_row p (row.Unlock unlock.Trim) d e = absurd cc
 release_row p (row.Lock r) d e = absurd cc
 release_row p (row.TryLock r) d e = absurd cc
 release_row p (row.Consistent r) d e = absurd cc
@@ -213,6 +223,7 @@ announced_row : (p : Whole) (r : Row) (d : Bool) → about_to_release (phase_led
 announced_row p (row.Unlock (unlock.Release c)) d e = e
 announced_row p (row.Unlock unlock.Load) d e = absurd cc
 announced_row p (row.Unlock (unlock.Wake all)) d e = absurd cc
+announced_row p (row.Unlock unlock.Trim) d e = absurd cc
 announced_row p (row.Lock r) d e = absurd cc
 announced_row p (row.TryLock r) d e = absurd cc
 announced_row p (row.Consistent r) d e = absurd cc
@@ -291,6 +302,10 @@ release_met : (d w : Bool) (n : ℕ) → RowMet (if w then row.Unlock (unlock.Wa
 release_met d true n = tt
 release_met d false n = tt
 
+trim_met : (b : Bool) (n : ℕ) → RowMet (if b then row.Unlock unlock.Trim else row.Ended OK) n
+trim_met true n = tt
+trim_met false n = tt
+
 unlock_met : (b d : Bool) (n : ℕ) → RowMet (if b then goes (row.Unlock (unlock.Release d)) else ends EPERM).row n
 unlock_met true d n = tt
 unlock_met false d n = tt
@@ -320,8 +335,10 @@ row_met t (row.Unlock unlock.Load) (Value w) n h = unlock_met ((fields_of w).own
 row_met t (row.Unlock unlock.Load) a n h = tt
 row_met t (row.Unlock (unlock.Release d)) (Value w) n h = release_met d (fields_of w).waiters (n + 0)
 row_met t (row.Unlock (unlock.Release d)) a n h = tt
-row_met t (row.Unlock (unlock.Wake all)) (Count k) n h = tt
+row_met t (row.Unlock (unlock.Wake all)) (Count k) n h = trim_met (not all && (k == 0)) (n + 0)
 row_met t (row.Unlock (unlock.Wake all)) a n h = tt
+row_met t (row.Unlock unlock.Trim) (Trimmed b) n h = tt
+row_met t (row.Unlock unlock.Trim) a n h = tt
 row_met t (row.Consistent consistent.Load) (Value w) n h = consistent_met ((fields_of w).owner == t) (fields_of w).died (n + 0)
 row_met t (row.Consistent consistent.Load) a n h = tt
 row_met t (row.Consistent consistent.Declare) (Value w) n h = tt
@@ -349,6 +366,7 @@ after_met p (row.Ended x) n h = leaving_met p p.operation x n h
 after_met p (row.Unlock (unlock.Release d)) n h = tt
 after_met p (row.Unlock unlock.Load) n h = tt
 after_met p (row.Unlock (unlock.Wake all)) n h = tt
+after_met p (row.Unlock unlock.Trim) n h = tt
 after_met p (row.Lock r) n h = tt
 after_met p (row.TryLock r) n h = h
 after_met p (row.Consistent r) n h = tt
@@ -357,6 +375,7 @@ announced_met : (p : Whole) (r : Row) (n : ℕ) → RowMet r n → PhaseMet (ann
 announced_met p (row.Unlock (unlock.Release d)) n h = tt
 announced_met p (row.Unlock unlock.Load) n h = tt
 announced_met p (row.Unlock (unlock.Wake all)) n h = tt
+announced_met p (row.Unlock unlock.Trim) n h = tt
 announced_met p (row.Lock r) n h = tt
 announced_met p (row.TryLock r) n h = h
 announced_met p (row.Consistent r) n h = tt

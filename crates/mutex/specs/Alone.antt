@@ -1,5 +1,5 @@
 -- What a call does while no other thread steps, and which calls answer for a mutex that nobody owns.
-use Rattle.std.specs.Prelude.{ℕ, ◌≡◌, ◌≢◌, ◌==◌, ◌-◌, ◌%◌, ◌^◌, ◌<◌, ◌⊎◌, Bool, true, false, if◌then◌else◌}
+use Rattle.std.specs.Prelude.{ℕ, ◌≡◌, ◌≢◌, ◌==◌, ◌-◌, ◌%◌, ◌^◌, ◌<◌, ◌⊎◌, Bool, true, false, List, [], if◌then◌else◌}
 use Rattle.lockword.specs.Cells.{word_of, low_of, fields_of}
 use Rattle.lockword.specs.declared.reply.Reply.TheVariants.{XRACED}
 use Rattle.keys.specs.declared.access.Access.{Access}
@@ -28,9 +28,10 @@ left (Lock (lock.Sleep v)) w = if w % 2 ^ 32 == low_of v then 1 else 4
 left (Lock lock.WakeAll) w = 1
 left (TryLock try.Load) w = 6
 left (TryLock (try.Take v k)) w = 5 - k
-left (Unlock unlock.Load) w = 3
-left (Unlock (unlock.Release d)) w = 2
-left (Unlock (unlock.Wake a)) w = 1
+left (Unlock unlock.Load) w = 4
+left (Unlock (unlock.Release d)) w = 3
+left (Unlock (unlock.Wake a)) w = 2
+left (Unlock unlock.Trim) w = 1
 left (Consistent consistent.Load) w = 2
 left (Consistent consistent.Declare) w = 1
 left (Ended x) w = 0
@@ -48,10 +49,13 @@ abbrev pub is_wake : Access → Bool
 is_wake (Wake at n) = true
 is_wake a = false
 
--- one access of a call of thread t at row r, which meets the word w, leaves the word w' and leads to l
-pub record Alone (t : ℕ) (r : Row) (a : Access) (l : Led) (w w' : ℕ) : Type 0 where
-  -- WAITERS stays
-  pub waiters : (fields_of w).waiters ≡ true → (fields_of w').waiters ≡ true
+-- where those of q sleep on the word w, WAITERS stays in it, or nobody sleeps there and nobody owns the cell
+abbrev pub KeepsWaiters : ℕ → List ℕ → ℕ → Type 0
+KeepsWaiters w q w' = (fields_of w).waiters ≡ true → ((fields_of w').waiters ≡ true) ⊎ ((q ≡ []) × ((fields_of w).owner ≡ 0))
+
+-- one access of a call of thread t at row r, which meets the word w, on which those of q sleep, leaves the word w' and leads to l
+pub record Alone (t : ℕ) (r : Row) (a : Access) (l : Led) (w : ℕ) (q : List ℕ) (w' : ℕ) : Type 0 where
+  pub waiters : KeepsWaiters w q w'
   -- it falls asleep only on a cell that is owned and has WAITERS
   pub sleeps : sleeps_at a w ≡ true → (0 < (fields_of w).owner) × ((fields_of w).waiters ≡ true)
   -- else fewer accesses are left

@@ -3,10 +3,8 @@ use Rattle.std.specs.Prelude.{ℕ, ◌≡◌, ◌≢◌, ◌≤◌, Option, Some
 use Rattle.lockword.specs.Cells.{Fields}
 use Rattle.lockword.specs.declared.reply.Reply.{Reply}
 use Rattle.lockword.specs.declared.reply.Reply.TheVariants.{EFAULT}
-use Rattle.keys.specs.declared.access.Access.{Access}
-use Rattle.keys.specs.declared.access.Access.TheVariants as access
 use Rattle.keys.specs.declared.access.Answer.{Answer}
-use Rattle.keys.specs.declared.access.Answer.TheVariants.{Value, Stored, Exchanged, Changed, Again, Woken, Count, Counts}
+use Rattle.keys.specs.Accesses.{IsAnswerOf}
 use Rattle.keys.specs.Layouts.{Layout'}
 use Rattle.mutex.specs.declared.call.Call.{Call}
 use Rattle.mutex.specs.declared.phase.Phase.{Phase}
@@ -15,24 +13,6 @@ use Rattle.mutex.specs.Standings.{Whole}
 use Rattle.mutex.specs.Whole.{begins, whole_access, whole_led, whole_moved, IsUnderWay}
 use Rattle.mutex.specs.Laws.{met, IsPermitted}
 use Rattle.mutex.specs.WholeLaws.{whole_reached}
-
--- what such an access is answered, but for a fault (futex(2))
-abbrev pub IsAnswerOf : Access → Answer → Type 0
-IsAnswerOf (access.Load at) (Value w) = Unit {0}
-IsAnswerOf (access.Store at v) Stored = Unit {0}
-IsAnswerOf (access.Exchange at e n) Exchanged = Unit {0}
-IsAnswerOf (access.Exchange at e n) (Changed w) = Unit {0}
-IsAnswerOf (access.FetchXor at o) (Value w) = Unit {0}
-IsAnswerOf (access.FetchOr at o) (Value w) = Unit {0}
-IsAnswerOf (access.FetchAnd at o) (Value w) = Unit {0}
-IsAnswerOf (access.FetchAdd at o) (Value w) = Unit {0}
-IsAnswerOf (access.Wait at e) Again = Unit {0}
-IsAnswerOf (access.Wait at e) Woken = Unit {0}
-IsAnswerOf (access.Wake at n) (Count k) = Unit {0}
-IsAnswerOf (access.Requeue f n t m) (Counts k j) = Unit {0}
-IsAnswerOf (access.CmpRequeue f e n t m) (Counts k j) = Unit {0}
-IsAnswerOf (access.CmpRequeue f e n t m) Again = Unit {0}
-IsAnswerOf a x = ⊥
 
 abbrev pub replies : Option Reply → List Reply
 replies None = []

@@ -9,7 +9,7 @@ use Rattle.keys.specs.declared.point.Operation.{Operation}
 use Rattle.keys.specs.declared.point.Operation.TheVariants as operation
 use Rattle.keys.specs.declared.point.Point.{Point}
 use Rattle.keys.specs.declared.object.Object.{Object}
-use Rattle.keys.specs.Accesses.{changed, answer_at}
+use Rattle.keys.specs.Accesses.{word_among, answer_among}
 use Rattle.keys.specs.Objects.{Permits, Run, object_of}
 use Rattle.mutex.specs.declared.lock.LockRow.TheVariants as lock
 use Rattle.mutex.specs.declared.try_lock.TryLockRow.TheVariants as try
@@ -39,6 +39,7 @@ points (Some p) = p ∷ []
 abbrev pub decided : Row → Option Reply
 decided (Lock lock.WakeAll) = Some ENOTRECOVERABLE
 decided (Unlock (unlock.Wake all)) = Some OK
+decided (Unlock unlock.Trim) = Some OK
 decided (Ended x) = Some x
 decided r = None
 
@@ -61,9 +62,10 @@ pub record Right (t cell : ℕ) (r : Row) (l : Led) (w w' : ℕ) : Type 0 where
   pub tells : Joins (decided r) l.point (decided l.row)
   pub stays : IsOf (row_operation r) l.row
 
--- whatever word an access meets
+-- whatever word an access meets, and whoever sleeps on it
 abbrev pub ProgramsAreRight : Type 0
-ProgramsAreRight = (t cell w : ℕ) (r : Row) → 1 ≤ t → t ≤ 64 → IsGoing r → Knows r → Sound (object_of (fields_of w)) → Expects t r (object_of (fields_of w)) → Right t cell r (resume_of t r (answer_at (row_access t cell r) w)) w (changed (row_access t cell r) w)
+ProgramsAreRight = (t cell w : ℕ) (queue : List ℕ) (r : Row) → 1 ≤ t → t ≤ 64 → IsGoing r → Knows r → Sound (object_of (fields_of w)) → Expects t r (object_of (fields_of w))
+    → Right t cell r (resume_of t r (answer_among (row_access t cell r) w queue)) w (word_among (row_access t cell r) w queue)
 
 -- where a call stands after some answers, whatever they are
 abbrev pub reached : ℕ → Row → List Answer → Row

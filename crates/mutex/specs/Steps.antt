@@ -38,10 +38,11 @@ rank (Consistent consistent.Load) = 2
 rank (Consistent consistent.Declare) = 1
 rank r = 0
 
--- what the row after an access says of the cell that it met: a release that has somebody to wake found WAITERS there and OWNER_DIED as its row tells; one that has nobody found no WAITERS; and an
--- unlock that isn't refused has no other end
+-- what the row after an access says of the cell that it met: a release that has somebody to wake found WAITERS there and OWNER_DIED as its row tells; one that has nobody found no WAITERS; an
+-- unlock that isn't refused has no other end; and no step leads to a trim, only a wake does
 abbrev pub Tells : Operation → Row → Fields → Type 0
 Tells op (Unlock (unlock.Wake all)) c = (c.waiters ≡ true) × (c.died ≡ all)
+Tells op (Unlock unlock.Trim) c = ⊥
 Tells operation.Unlock (Ended OK) c = c.waiters ≡ false
 Tells operation.Unlock (Ended EPERM) c = Unit {0}
 Tells operation.Unlock (Ended x) c = ⊥
@@ -74,5 +75,6 @@ Expects-prop t (TryLock r) o = Prim.hlevel props
 Expects-prop t (Unlock unlock.Load) o = Prim.hlevel props
 Expects-prop t (Unlock (unlock.Release d)) o = Prim.hlevel props
 Expects-prop t (Unlock (unlock.Wake a)) o = Prim.hlevel props
+Expects-prop t (Unlock unlock.Trim) o = Prim.hlevel props
 Expects-prop t (Consistent consistent.Load) o = Prim.hlevel props
 Expects-prop t (Consistent consistent.Declare) o = Prim.hlevel props

@@ -4,16 +4,18 @@
 -- | Load      | load the cell                               | another's: EPERM. Own: Release, noting OWNER_DIED
 -- | Release   | flip the owner's id away; where OWNER_DIED  | OK; where WAITERS was set, Wake
 -- |           | was noted, flip it and UNUSABLE too         |
--- | Wake      | wake one sleeper, or all of an unusable one | returns OK
-use Rattle.std.specs.Prelude.{ℕ, ◌+◌, ◌==◌, Bool, if◌then◌else◌}
+-- | Wake      | wake one sleeper, or all of an unusable one | returns OK; but where it was to wake one, and nobody slept, Trim
+-- | Trim      | clear WAITERS, where that is all that the   | returns OK, whatever the answer
+-- |           | cell says and nobody sleeps on it           |
+use Rattle.std.specs.Prelude.{ℕ, ◌+◌, ◌==◌, ◌&&◌, Bool, not, if◌then◌else◌}
 use Rattle.lockword.specs.Cells.{Fields, fields_of}
 use Rattle.lockword.specs.declared.reply.Reply.TheVariants.{OK, EPERM}
 use Rattle.keys.specs.declared.access.Access.{Access}
 use Rattle.keys.specs.declared.access.Access.TheVariants as access
 use Rattle.keys.specs.declared.access.Answer.{Answer}
-use Rattle.keys.specs.declared.access.Answer.TheVariants.{Value, Count}
+use Rattle.keys.specs.declared.access.Answer.TheVariants.{Value, Count, Trimmed}
 use Rattle.mutex.specs.declared.unlock.UnlockRow.{UnlockRow}
-use Rattle.mutex.specs.declared.unlock.UnlockRow.TheVariants.{Load, Release, Wake}
+use Rattle.mutex.specs.declared.unlock.UnlockRow.TheVariants.{Load, Release, Wake, Trim}
 use Rattle.mutex.specs.declared.row.Row.{Row}
 use Rattle.mutex.specs.declared.row.Row.TheVariants.{Unlock, Ended}
 use Rattle.mutex.specs.declared.row.Led.{Led}
@@ -27,6 +29,7 @@ abbrev pub unlock_access : ℕ → ℕ → UnlockRow → Access
 unlock_access t cell Load = access.Load cell
 unlock_access t cell (Release died) = access.FetchXor cell (released_bits t died)
 unlock_access t cell (Wake all) = access.Wake cell (if all then 64 else 1)
+unlock_access t cell Trim = access.Trim cell
 
 abbrev pub unlock_sees : ℕ → Fields → Led
 unlock_sees t c = if c.owner == t then goes (Unlock (Release c.died)) else ends EPERM
@@ -35,8 +38,13 @@ unlock_sees t c = if c.owner == t then goes (Unlock (Release c.died)) else ends 
 abbrev pub after_release : Bool → Fields → Row
 after_release died c = if c.waiters then Unlock (Wake died) else Ended OK
 
+-- where a wake leads that woke so many
+abbrev pub after_wake : Bool → ℕ → Row
+after_wake all woken = if not all && (woken == 0) then Unlock Trim else Ended OK
+
 abbrev pub unlock_resume : ℕ → UnlockRow → Answer → Led
 unlock_resume t Load (Value w) = unlock_sees t (fields_of w)
 unlock_resume t (Release died) (Value w) = decides (after_release died (fields_of w)) OK
-unlock_resume t (Wake all) (Count k) = goes (Ended OK)
+unlock_resume t (Wake all) (Count k) = goes (after_wake all k)
+unlock_resume t Trim (Trimmed trimmed) = goes (Ended OK)
 unlock_resume t r a = faults

@@ -1,7 +1,7 @@
 //! Unlock.
 ghost use Rattle.std.specs.Prelude.{◌≡◌};
 ghost use Rattle.mutex.specs.Rows.{Knows};
-ghost use Rattle.mutex.specs.Unlock.{unlock_access, unlock_resume, unlock_sees, after_release, released_bits};
+ghost use Rattle.mutex.specs.Unlock.{unlock_access, unlock_resume, unlock_sees, after_release, after_wake, released_bits};
 
 use crate::row::{Led, Row};
 use keys::{ALL, Access, Answer};
@@ -16,6 +16,8 @@ pub enum UnlockRow {
     Release { died: bool },
     /// It wakes one sleeper, or all of an unusable mutex.
     Wake { all: bool },
+    /// It clears WAITERS, where that is all that the cell says and nobody sleeps on it.
+    Trim,
 }
 
 pub(crate) fn next(thread: Tid, cell: u64, row: &UnlockRow) -> Access
@@ -31,6 +33,7 @@ pub(crate) fn next(thread: Tid, cell: u64, row: &UnlockRow) -> Access
             at: cell,
             most: if all { ALL } else { 1 },
         },
+        UnlockRow::Trim => Access::Trim { at: cell },
     }
 }
 
@@ -48,8 +51,12 @@ pub(crate) fn resume(thread: Tid, row: &UnlockRow, answer: Answer) -> Led
             Answer::Value(word) => Led::decides(after_release(died, Cell::new(word)), Reply::OK),
             _ => Led::faults(),
         },
-        UnlockRow::Wake { .. } => match answer {
-            Answer::Count(_) => Led::goes(Row::Ended(Reply::OK)),
+        UnlockRow::Wake { all } => match answer {
+            Answer::Count(woken) => Led::goes(after_wake(all, woken)),
+            _ => Led::faults(),
+        },
+        UnlockRow::Trim => match answer {
+            Answer::Trimmed(_) => Led::goes(Row::Ended(Reply::OK)),
             _ => Led::faults(),
         },
     }
@@ -75,6 +82,18 @@ fn after_release(died: bool, found: Cell) -> Row
 {
     if found.waiters() {
         Row::Unlock(UnlockRow::Wake { all: died })
+    } else {
+        Row::Ended(Reply::OK)
+    }
+}
+
+/// Where a wake leads that woke so many: where it was to wake one sleeper and found none, WAITERS need not stay.
+fn after_wake(all: bool, woken: u32) -> Row
+    ensures value { result ≡ after_wake all woken }
+    ensures knows { Knows result }
+{
+    if !all && woken == 0 {
+        Row::Unlock(UnlockRow::Trim)
     } else {
         Row::Ended(Reply::OK)
     }
