@@ -17,7 +17,8 @@ use Rattle.mutex.specs.declared.phase.Phase.{Phase}
 use Rattle.mutex.specs.declared.phase.Phase.TheVariants as phase
 use Rattle.mutex.specs.Standings.{Whole}
 use Rattle.mutex.specs.Whole as mutex
-use Rattle.mutex.specs.Decisions.{IsAnswerOf, replies}
+use Rattle.keys.specs.Accesses.{IsAnswerOf}
+use Rattle.mutex.specs.Decisions.{replies}
 use Rattle.mutex.proofs.Once.{DecidedSo, phase_so, phase_faults, phase_fine, NoFault, unlink_faults, UnlinkFine, unlink_fine}
 use Rattle.condvar.specs.declared.call.CondCall.{CondCall}
 use Rattle.condvar.specs.declared.call.CondCall.TheVariants as call

@@ -1,5 +1,5 @@
 -- One access of a call is a step of the mutex as an object, or leaves it, and leaves what the next row needs.
-use Rattle.std.proofs.Common.{◌≡◌, ◌≢◌, ℕ, ◌+◌, ◌≤◌, ◌==◌, ◌%◌, ◌^◌, Bool, true, false, not, Some, refl, sym, ap, ◌∙◌, subst, arith, eqb-true, bit_or}
+use Rattle.std.proofs.Common.{◌≡◌, ◌≢◌, ℕ, ◌+◌, ◌≤◌, ◌==◌, ◌%◌, ◌^◌, Bool, true, false, not, Some, [], refl, sym, ap, ◌∙◌, subst, arith, eqb-true, bit_or}
 use Rattle.std.specs.Prelude.{if◌then◌else◌}
 use Rattle.std.proofs.lemmas.Bool.{eqb-false}
 use Rattle.lockword.specs.Cells.{Fields, fields_of}
@@ -104,7 +104,7 @@ right t cell counter w k (Wait (wait.Release seen)) pos last going small sound e
     let c = fields_of w in
     let own = expected.0 in
     let leaves = xor_released w t own in
-    let step = mutex.right t cell w (row.Unlock (unlock.Release false)) pos last tt tt sound (names t c pos own, expected.1) in
+    let step = mutex.right t cell w [] (row.Unlock (unlock.Release false)) pos last tt tt sound (names t c pos own, expected.1) in
     record {
       runs = step.runs;
       sound = step.sound;
@@ -194,19 +194,19 @@ moves t cell counter seen k c small e =
 
 -- what is needed of an owned mutex stays
 pub owned : NeedsAreOwned
-owned t (Wait wait.LoadCell) c d k j keep on e = tt
-owned t (Wait wait.LoadCounter) c d k j keep on e = let s = keep e.0 in (s.0 ∙ e.0, s.1 ∙ e.1)
-owned t (Wait (wait.Release seen)) c d k j keep on e = let s = keep e.0 in (s.0 ∙ e.0, s.1 ∙ e.1)
-owned t (Wait (wait.Wake seen)) c d k j keep on e = tt
-owned t (Wait (wait.Sleep seen)) c d k j keep on e = tt
-owned t (Signal signal.LoadCell) c d k j keep on e = tt
-owned t (Signal signal.LoadCounter) c d k j keep on e = (keep e).0 ∙ e
-owned t (Signal signal.Count) c d k j keep on e = let s = keep e.0 in (s.0 ∙ e.0, λ is. e.1 (sym s.2 ∙ is))
-owned t (Signal signal.Wake) c d k j keep on e = (keep e).0 ∙ e
-owned t (Broadcast broadcast.LoadCell) c d k j keep on e = tt
-owned t (Broadcast broadcast.LoadCounter) c d k j keep on e = (keep e).0 ∙ e
-owned t (Broadcast (broadcast.Count seen)) c d k j keep on e = let s = keep e.0 in (s.0 ∙ e.0, (λ is. e.1 (sym s.2 ∙ is)), s.2 ∙ e.2)
-owned t (Broadcast (broadcast.SetWaiters seen)) c d k j keep on e = let s = keep e.0 in (s.0 ∙ e.0, s.2 ∙ e.1)
-owned t (Broadcast (broadcast.Move seen)) c d k j keep on e = let s = keep e.0 in (s.0 ∙ e.0, s.2 ∙ e.1, on e.2)
-owned t Awake c d k j keep on e = tt
-owned t (Ended x) c d k j keep on e = tt
+owned t (Wait wait.LoadCell) c d k j keep e = tt
+owned t (Wait wait.LoadCounter) c d k j keep e = let s = keep e.0 in (s.0 ∙ e.0, s.1 ∙ e.1)
+owned t (Wait (wait.Release seen)) c d k j keep e = let s = keep e.0 in (s.0 ∙ e.0, s.1 ∙ e.1)
+owned t (Wait (wait.Wake seen)) c d k j keep e = tt
+owned t (Wait (wait.Sleep seen)) c d k j keep e = tt
+owned t (Signal signal.LoadCell) c d k j keep e = tt
+owned t (Signal signal.LoadCounter) c d k j keep e = (keep e).0 ∙ e
+owned t (Signal signal.Count) c d k j keep e = let s = keep e.0 in (s.0 ∙ e.0, λ is. e.1 (sym s.2 ∙ is))
+owned t (Signal signal.Wake) c d k j keep e = (keep e).0 ∙ e
+owned t (Broadcast broadcast.LoadCell) c d k j keep e = tt
+owned t (Broadcast broadcast.LoadCounter) c d k j keep e = (keep e).0 ∙ e
+owned t (Broadcast (broadcast.Count seen)) c d k j keep e = let s = keep e.0 in (s.0 ∙ e.0, (λ is. e.1 (sym s.2 ∙ is)), s.2 ∙ e.2)
+owned t (Broadcast (broadcast.SetWaiters seen)) c d k j keep e = let s = keep e.0 in (s.0 ∙ e.0, s.2 ∙ e.1)
+owned t (Broadcast (broadcast.Move seen)) c d k j keep e = let s = keep e.0 in (s.0 ∙ e.0, s.2 ∙ e.1, s.3 e.2)
+owned t Awake c d k j keep e = tt
+owned t (Ended x) c d k j keep e = tt

@@ -2,8 +2,8 @@
 use Rattle.std.specs.Prelude.{ℕ, ◌≡◌, ◌≢◌, List}
 use Rattle.lockword.specs.declared.reply.Reply.TheVariants.{EFAULT}
 use Rattle.keys.specs.declared.access.Answer.{Answer}
+use Rattle.keys.specs.Accesses.{IsAnswerOf}
 use Rattle.keys.specs.Layouts.{Layout'}
-use Rattle.mutex.specs.Decisions.{IsAnswerOf}
 use Rattle.condvar.specs.declared.call.CondCall.{CondCall}
 use Rattle.condvar.specs.declared.phase.CondPhase.TheVariants.{Ended}
 use Rattle.condvar.specs.Whole.{begins, cond_access, cond_led, IsUnderWay}

@@ -18,7 +18,7 @@ use Rattle.condvar.specs.declared.row.CondRow.{CondRow}
 use Rattle.condvar.specs.declared.row.CondRow.TheVariants.{Wait, Signal, Broadcast, Ended}
 use Rattle.condvar.specs.declared.row.CondLed.{CondLed}
 use Rattle.condvar.specs.declared.row.Decided.{Decided}
-use Rattle.condvar.specs.Rows.{full, IsGoing}
+use Rattle.condvar.specs.Rows.{IsGoing}
 use Rattle.condvar.specs.Programs.{row_access, resume_of, point_of}
 
 -- the access of a row is at the counter, and not at the cell
@@ -43,16 +43,20 @@ cell_after t cell counter r w = if is_at_counter r then w else changed (row_acce
 abbrev pub counter_after : ℕ → ℕ → ℕ → CondRow → ℕ → ℕ
 counter_after t cell counter r k = if is_at_counter r then changed (row_access t cell counter r) k else k
 
+-- the largest value of a counter, which has the 32 bits of a futex word (futex(2)): 2^32 - 1
+abbrev pub largest_counter : ℕ
+largest_counter = 4294967295
+
 -- what a call that stands at a row needs of the cell and of the counter. A release, a count and a setting of WAITERS need that its thread owns the mutex; a release that it is consistent, a count that the
 -- counter isn't full, a move that WAITERS is set and that the counter is one more than it was
 abbrev pub Expects : ℕ → CondRow → Fields → ℕ → Type 0
 Expects t (Wait wait.LoadCounter) c k = (c.owner ≡ t) × (c.died ≡ false)
 Expects t (Wait (wait.Release seen)) c k = (c.owner ≡ t) × (c.died ≡ false)
 Expects t (Signal signal.LoadCounter) c k = c.owner ≡ t
-Expects t (Signal signal.Count) c k = (c.owner ≡ t) × (k ≢ full)
+Expects t (Signal signal.Count) c k = (c.owner ≡ t) × (k ≢ largest_counter)
 Expects t (Signal signal.Wake) c k = c.owner ≡ t
 Expects t (Broadcast broadcast.LoadCounter) c k = c.owner ≡ t
-Expects t (Broadcast (broadcast.Count seen)) c k = (c.owner ≡ t) × (k ≢ full) × (k ≡ seen)
+Expects t (Broadcast (broadcast.Count seen)) c k = (c.owner ≡ t) × (k ≢ largest_counter) × (k ≡ seen)
 Expects t (Broadcast (broadcast.SetWaiters seen)) c k = (c.owner ≡ t) × (k ≡ seen + 1)
 Expects t (Broadcast (broadcast.Move seen)) c k = (c.owner ≡ t) × (k ≡ seen + 1) × (c.waiters ≡ true)
 Expects t r c k = Unit {0}
@@ -69,7 +73,7 @@ counts_by (Some d) = reply_counts d.operation d.reply
 
 -- a refusal with X_FULL is one of a full counter
 abbrev pub ReplyFits : Reply → ℕ → Type 0
-ReplyFits XFULL k = k ≡ full
+ReplyFits XFULL k = k ≡ largest_counter
 ReplyFits x k = Unit {0}
 
 abbrev pub IsFullAt : Option Decided → ℕ → Type 0
@@ -95,7 +99,7 @@ pub record Right (t cell : ℕ) (r : CondRow) (l : CondLed) (w k w' k' : ℕ) : 
   pub waiters : (fields_of w).waiters ≡ true → (fields_of w').waiters ≡ true
   -- the counter goes up by one exactly where a signal or a broadcast is OK, stays within its limit, and is full where X_FULL is the reply
   pub counts : k' ≡ k + counts_by l.decided
-  pub within : k' ≤ full
+  pub within : k' ≤ largest_counter
   pub is_full : IsFullAt l.decided k
   -- the words are as the next row needs them
   pub expects : Expects t l.row (fields_of w') k'
@@ -103,7 +107,7 @@ pub record Right (t cell : ℕ) (r : CondRow) (l : CondLed) (w k w' k' : ℕ) : 
 
 -- whatever words an access meets
 abbrev pub CallsAreRight : Type 0
-CallsAreRight = (t cell counter w k : ℕ) (r : CondRow) → 1 ≤ t → t ≤ 64 → IsGoing r → k ≤ full → Sound (object_of (fields_of w)) → Expects t r (fields_of w) k
+CallsAreRight = (t cell counter w k : ℕ) (r : CondRow) → 1 ≤ t → t ≤ 64 → IsGoing r → k ≤ largest_counter → Sound (object_of (fields_of w)) → Expects t r (fields_of w) k
     → Right t cell r (resume_of t r (answer_at (row_access t cell counter r) (met_word r w k))) w k (cell_after t cell counter r w) (counter_after t cell counter r k)
 
 -- a call's accesses are at the cell and at the counter alone
@@ -112,12 +116,12 @@ AccessesAreThere = (t cell counter : ℕ) (r : CondRow) → address_of (row_acce
 
 -- a broadcast moves to a cell that its thread owns and that has WAITERS, and only by the counter as it is: so it is never answered that this differs
 abbrev pub MovesAreRight : Type 0
-MovesAreRight = (t cell counter seen k : ℕ) (c : Fields) → k ≤ full → Expects t (Broadcast (broadcast.Move seen)) c k
+MovesAreRight = (t cell counter seen k : ℕ) (c : Fields) → k ≤ largest_counter → Expects t (Broadcast (broadcast.Move seen)) c k
     → (row_access t cell counter (Broadcast (broadcast.Move seen)) ≡ access.CmpRequeue counter (k % 2 ^ 32) 0 cell 64) × (c.owner ≡ t) × (c.waiters ≡ true)
 
--- what a call needs of the words is its thread's own while that owns the mutex: where others leave then the owner, OWNER_DIED and the counter, and clear no WAITERS, it stays so
+-- what a call needs of the words is its thread's own while that owns the mutex: where others leave then the owner, OWNER_DIED and the counter, and clear no WAITERS then, it stays so
 abbrev pub NeedsAreOwned : Type 0
-NeedsAreOwned = (t : ℕ) (r : CondRow) (c d : Fields) (k j : ℕ) → (c.owner ≡ t → (d.owner ≡ c.owner) × (d.died ≡ c.died) × (j ≡ k)) → (c.waiters ≡ true → d.waiters ≡ true) → Expects t r c k → Expects t r d j
+NeedsAreOwned = (t : ℕ) (r : CondRow) (c d : Fields) (k j : ℕ) → (c.owner ≡ t → (d.owner ≡ c.owner) × (d.died ≡ c.died) × (j ≡ k) × (c.waiters ≡ true → d.waiters ≡ true)) → Expects t r c k → Expects t r d j
 
 -- the cell that an access met, as its answer tells: each call's first load
 abbrev pub met : CondRow → Answer → Option Fields
