@@ -9,6 +9,8 @@ mod batches;
 #[cfg(test)]
 mod calls;
 #[cfg(test)]
+mod hashes;
+#[cfg(test)]
 mod links;
 #[cfg(test)]
 mod memories;

@@ -50,7 +50,7 @@ stands_home n hs bs i k t has lt c = go (cases_eq (k % length bs) i)
 
 -- the bucket of a key is one of them
 pub inside : (n : ℕ) (hs : List ℕ) (bs : List Sleepers) (k : ℕ) → HasBuckets (kernel n hs bs) → k % length bs < length bs
-inside n hs bs k has = let some = has.some in mod-lt k (omega arith)
+inside n hs bs k has = let count = has.count in mod-lt k (omega arith)
 
 -- who sleeps nowhere stands in no bucket
 pub awake_nowhere : (n : ℕ) (hs : List ℕ) (bs : List Sleepers) (i t : ℕ) → HasBuckets (kernel n hs bs) → i < length bs → IsAwake (kernel n hs bs) t → StandsNowhere (bucket_at bs i) t

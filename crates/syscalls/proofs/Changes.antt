@@ -8,7 +8,7 @@ use Rattle.std.proofs.lemmas.Grind.{common_steps}
 use Rattle.std.proofs.lemmas.List.Elements.{All-weaker, All-drop, All-filter, All-contains, All-contains_itself, Contains-push_cases}
 use Rattle.buckets.specs.Queues.{Sleepers, queue, Stands, StandsNowhere, without, IsOrderly, IsEmptied, Enqueues, Takes, Removes}
 use Rattle.buckets.proofs.Places.{without-none}
-use Rattle.syscalls.specs.Kernels.{nobody, bucket_at, queue_in, IsAsleep, IsAwake, IsKernel, HasBuckets, IsIdle, FallsAsleep, Wakes, Leaves, SetsHead}
+use Rattle.syscalls.specs.Kernels.{bucket_count, nobody, bucket_at, queue_in, IsAsleep, IsAwake, IsKernel, HasBuckets, IsIdle, FallsAsleep, Wakes, Leaves, SetsHead}
 use Rattle.syscalls.proofs.Buckets.{kernel, at_same, at_other, number_same, queue_here, queue_there, queues_set, stands_home, inside}
 
 -- what a kernel is, and what its buckets are
@@ -48,7 +48,7 @@ kept_buckets : (n : ℕ) (hs : List ℕ) (bs : List Sleepers) (i : ℕ) (b : Sle
     → HasBuckets (kernel n hs (set bs i b))
 unfolding Comes
 kept_buckets n hs bs i b J has lt orderly capacity joins comes = record {
-  some = let len = length-set bs i b in let some = has.some in omega arith;
+  count = length-set bs i b ∙ has.count;
   orderly = λ j below. by IsOrderly j below orderly (λ in' ne. has.orderly j in');
   room = λ j below. by (λ (c : Sleepers). c.capacity ≡ n) j below capacity (λ in' ne. has.room j in');
   home = λ j k below ne. at_home j k below (subst (λ (m : ℕ). m ≢ j) (number_same bs i b k) ne);
@@ -197,7 +197,7 @@ without-absent : (t : ℕ) (ids : List ℕ) → ¬ Contains ids t → without t 
 without-absent t ids none =
     without-none t ids (All-weaker (Contains ids) (λ u. u ≢ t) (λ u c same. none (subst (Contains ids) same c)) ids (All-contains_itself ids))
 
-contains_without : (t : ℕ) (ids : List ℕ) (u : ℕ) → Contains (without t ids) u → Contains ids u
+pub contains_without : (t : ℕ) (ids : List ℕ) (u : ℕ) → Contains (without t ids) u → Contains ids u
 contains_without t ids u c = All-contains (Contains ids) (without t ids) u (All-filter (λ v. not (v == t)) (Contains ids) ids (All-contains_itself ids)) c
 
 pub sound_left : (n : ℕ) (hs : List ℕ) (bs : List Sleepers) (i : ℕ) (b : Sleepers) (t : ℕ) (stood : Bool) → Sound n hs bs → i < length bs → IsOrderly b → Removes (bucket_at bs i) b t stood → Sound n hs (set bs i b)
@@ -251,11 +251,11 @@ empty_queue bs n i k emptied lt = (emptied i nobody lt).queues k
 zero_heads : (n i : ℕ) (hs : List ℕ) → hs ≡ replicate n 0 → slice_index hs i ≡ 0
 zero_heads n i hs zeros = ap (λ (xs : List ℕ). slice_index xs i) zeros ∙ grind (arith, common_steps)
 
-pub idle : (n : ℕ) (hs : List ℕ) (bs : List Sleepers) → hs ≡ replicate n 0 → 1 ≤ length bs → All (λ b. IsEmptied b n) bs → IsIdle (kernel n hs bs) n
-idle n hs bs zeros some emptied = record { threads = refl; queues = λ k. empty_queue bs n (k % length bs) k emptied (mod-lt k (omega arith)); heads = λ t. zero_heads n (t - 1) hs zeros }
+pub idle : (n : ℕ) (hs : List ℕ) (bs : List Sleepers) → hs ≡ replicate n 0 → length bs ≡ bucket_count → All (λ b. IsEmptied b n) bs → IsIdle (kernel n hs bs) n
+idle n hs bs zeros count emptied = record { threads = refl; queues = λ k. empty_queue bs n (k % length bs) k emptied (mod-lt k (omega arith)); heads = λ t. zero_heads n (t - 1) hs zeros }
 
-pub sound_idle : (n : ℕ) (hs : List ℕ) (bs : List Sleepers) → hs ≡ replicate n 0 → 1 ≤ n → n ≤ 64 → 1 ≤ length bs → All (λ b. IsEmptied b n) bs → All IsOrderly bs → Sound n hs bs
-sound_idle n hs bs zeros low high some emptied orderly = (
+pub sound_idle : (n : ℕ) (hs : List ℕ) (bs : List Sleepers) → hs ≡ replicate n 0 → 1 ≤ n → n ≤ 64 → length bs ≡ bucket_count → All (λ b. IsEmptied b n) bs → All IsOrderly bs → Sound n hs bs
+sound_idle n hs bs zeros low high count emptied orderly = (
   record {
     first = low;
     last = high;
@@ -265,7 +265,7 @@ sound_idle n hs bs zeros low high some emptied orderly = (
     heads = ap length zeros ∙ length-replicate n 0;
   },
   record {
-    some = some;
+    count = count;
     orderly = λ i lt. orderly i nobody lt;
     room = λ i lt. (emptied i nobody lt).capacity;
     home = λ i k lt ne. empty_queue bs n i k emptied lt;
@@ -273,7 +273,7 @@ sound_idle n hs bs zeros low high some emptied orderly = (
 )
   where
     nobody_there : (k t : ℕ) → ¬ Contains (queue_in bs k) t
-    nobody_there k t c = let none = ap length ((idle n hs bs zeros some emptied).queues k) in omega (arith, none, c.1)
+    nobody_there k t c = let none = ap length ((idle n hs bs zeros count emptied).queues k) in omega (arith, none, c.1)
 
 -- ---- a head is set
 
@@ -288,7 +288,7 @@ sound_set n hs bs i head s = (
     heads = length-set hs i head ∙ s.0.heads;
   },
   record {
-    some = s.1.some;
+    count = s.1.count;
     orderly = s.1.orderly;
     room = s.1.room;
     home = s.1.home;

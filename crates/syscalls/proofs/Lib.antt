@@ -2,3 +2,4 @@ pub mod Buckets
 pub mod Changes
 pub mod Calls
 pub mod Moves
+pub mod Told

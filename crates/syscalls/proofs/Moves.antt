@@ -34,7 +34,7 @@ pub record Changed (bs cs : List Sleepers) : Type 0 where
 
 changed : (n : ℕ) (hs : List ℕ) (bs cs : List Sleepers) → HasBuckets (kernel n hs bs) → Changed bs cs → HasBuckets (kernel n hs cs)
 changed n hs bs cs has c = record {
-  some = let len = c.long in let some = has.some in omega arith;
+  count = c.long ∙ has.count;
   orderly = λ i lt. c.orderly i (below i lt);
   room = λ i lt. c.capacity i (below i lt) ∙ has.room i (below i lt);
   home = λ i k lt ne. let away = subst (λ (m : ℕ). k % m ≢ i) c.long ne in c.home i k (below i lt) away ∙ has.home i k (below i lt) away;
@@ -46,10 +46,10 @@ changed n hs bs cs has c = record {
 -- ---- who stands after a move
 
 -- those moved stood on the one key
-moved_from : (old new : Kernel') (from m to : ℕ) (moved : List ℕ) (t : ℕ) → Moves old new from m to moved → Contains moved t → Contains (take m (queue_of old from)) t
+pub moved_from : (old new : Kernel') (from m to : ℕ) (moved : List ℕ) (t : ℕ) → Moves old new from m to moved → Contains moved t → Contains (take m (queue_of old from)) t
 moved_from old new from m to moved t e c = subst (λ (q : List ℕ). Contains q t) e.firsts c
 
-came : (old new : Kernel') (from m to : ℕ) (moved : List ℕ) → IsKernel old → from ≢ to → Moves old new from m to moved → (k t : ℕ) → Contains (queue_of new k) t
+pub came : (old new : Kernel') (from m to : ℕ) (moved : List ℕ) → IsKernel old → from ≢ to → Moves old new from m to moved → (k t : ℕ) → Contains (queue_of new k) t
     → (Contains (queue_of old k) t × ¬ Contains moved t) ⊎ ((k ≡ to) × Contains moved t)
 came old new from m to moved is ne e k t c = go (cases_eq k from) (cases_eq k to)
   where

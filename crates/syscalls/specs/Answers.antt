@@ -1,7 +1,8 @@
 -- When a call is refused, and how.
-use Rattle.std.specs.Prelude.{ℕ, ◌≡◌, ◌≢◌, ◌≤◌, ◌%◌, ◌^◌, List, slice_index, Result, Ok, Err, IsTrue, IsFalse}
+use Rattle.std.specs.Prelude.{ℕ, ◌≡◌, ◌≢◌, ◌≤◌, ◌%◌, ◌^◌, Bool, List, slice_index, slice_set, Result, Ok, Err, IsTrue, IsFalse}
 use Rattle.lockword.specs.declared.reply.Reply.{Reply}
 use Rattle.lockword.specs.declared.reply.Reply.TheVariants.{ESRCH, EAGAIN, EFAULT, EINVAL}
+use Rattle.keys.specs.Accesses.{Trims}
 use Rattle.syscalls.specs.Kernels.{Kernel', head_of, head_size}
 use Rattle.syscalls.specs.Memories.{is_valid}
 
@@ -21,6 +22,17 @@ abbrev pub WakeAnswers : {X : Type 0} → List ℕ → ℕ → Result X Reply �
 WakeAnswers words at (Ok x) = IsTrue (is_valid words at)
 WakeAnswers words at (Err EFAULT) = IsFalse (is_valid words at)
 WakeAnswers words at (Err r) = ⊥
+
+-- and so is a trim
+abbrev pub TrimAnswers : List ℕ → ℕ → Result Bool Reply → Type 0
+TrimAnswers words at (Ok trimmed) = IsTrue (is_valid words at)
+TrimAnswers words at (Err EFAULT) = IsFalse (is_valid words at)
+TrimAnswers words at (Err r) = ⊥
+
+-- the word at an address was trimmed, on which these threads sleep; every other word stays
+pub record TrimsAt (old new : List ℕ) (at : ℕ) (queue : List ℕ) (trimmed : Bool) : Type 0 where
+  pub word : Trims (slice_index old at) queue (slice_index new at) trimmed
+  pub others : new ≡ slice_set old at (slice_index new at)
 
 -- both addresses are valid
 abbrev pub BothValid : List ℕ → ℕ → ℕ → Type 0

@@ -1,5 +1,5 @@
 -- The sleepers of every key and the robust list's head of every thread, as a kernel keeps them (futex(2), get_robust_list(2)).
-use Rattle.std.specs.Prelude.{ℕ, ◌≡◌, ◌≢◌, ◌<◌, ◌≤◌, ◌%◌, ◌-◌, ◌==◌, Bool, List, [], ◌∷◌, ◌++◌, length, take, drop, slice_index, slice_index_or, if◌then◌else◌, AllPairs, Contains, MatchBool}
+use Rattle.std.specs.Prelude.{ℕ, ◌≡◌, ◌≢◌, ◌<◌, ◌≤◌, ◌%◌, ◌-◌, ◌==◌, Bool, List, [], ◌∷◌, ◌++◌, length, take, drop, slice_index, slice_index_or, slice_get, Some, if◌then◌else◌, AllPairs, Contains, MatchBool}
 use Rattle.buckets.specs.Queues.{Sleepers, queue, without, IsOrderly}
 
 -- hash buckets and heads for so many threads. What calls speak of is each key's queue, `queue_of`, and each thread's head, `head_of`
@@ -7,6 +7,10 @@ pub record Kernel' : Type 0 where
   pub threads : ℕ
   pub buckets : List Sleepers
   pub heads : List ℕ
+
+-- how many hash buckets a kernel has
+abbrev pub bucket_count : ℕ
+bucket_count = 256
 
 abbrev pub nobody : Sleepers
 nobody = record { capacity = 0; sleeping = [] }
@@ -48,10 +52,24 @@ pub record IsKernel (k : Kernel') : Type 0 where
 
 -- what its buckets always are: each has room for every thread, and sleepers on its own keys alone
 pub record HasBuckets (k : Kernel') : Type 0 where
-  pub some : 1 ≤ length k.buckets
+  pub count : length k.buckets ≡ bucket_count
   pub orderly : (i : ℕ) → i < length k.buckets → IsOrderly (bucket_at k.buckets i)
   pub room : (i : ℕ) → i < length k.buckets → (bucket_at k.buckets i).capacity ≡ k.threads
   pub home : (i key : ℕ) → i < length k.buckets → key % length k.buckets ≢ i → queue (bucket_at k.buckets i) key ≡ []
+
+-- a bucket has the queues of the keys whose bucket is number i, and of no others
+pub record HasQueuesOf (k : Kernel') (i : ℕ) (b : Sleepers) : Type 0 where
+  pub own : (key : ℕ) → key % bucket_count ≡ i → queue b key ≡ queue_of k key
+  pub others : (key : ℕ) → key % bucket_count ≢ i → queue b key ≡ []
+
+-- whoever stands in a bucket stands in that whose number is told of the thread
+abbrev pub StandWhereTold : List ℕ → List Sleepers → Type 0
+StandWhereTold told buckets = (i key t : ℕ) → i < length buckets → Contains (queue (bucket_at buckets i) key) t → slice_get told (t - 1) ≡ Some i
+
+-- the number of a bucket is told of each of so many threads, and whoever stands stands there
+pub record Remembers (told : List ℕ) (threads : ℕ) (buckets : List Sleepers) : Type 0 where
+  pub long : length told ≡ threads
+  pub stand : StandWhereTold told buckets
 
 -- nobody sleeps and each head is 0, of so many threads
 pub record IsIdle (k : Kernel') (count : ℕ) : Type 0 where

@@ -1,36 +1,40 @@
 //! The sleepers of every word, and the robust list's head of every thread.
-ghost use Rattle.std.specs.Prelude.{◌≡◌, ◌≢◌, ◌<◌, ◌≤◌, ◌%◌, ℕ, length, slice_index, MatchOption, MatchResult, MatchBool, IfOk};
+ghost use Rattle.std.specs.Prelude.{◌≡◌, ◌≢◌, ◌<◌, ◌≤◌, ◌-◌, ◌%◌, ℕ, not, length, slice_index, slice_get, Contains, Some, MatchOption, MatchResult, MatchBool, IfOk};
+ghost use Rattle.keys.specs.Accesses.{is_nobody};
 ghost use Rattle.std.specs.List.{All};
 ghost use Rattle.buckets.specs.Queues.{Stands, StandsNowhere, IsOrderly, IsEmptied, Fits, MovesTo};
-ghost use Rattle.syscalls.specs.Kernels.{bucket_at, queue_of, IsAsleep, IsAwake, IsKernel, IsIdle, FallsAsleep, Wakes, Moves, Requeues, Leaves, SetsHead};
-ghost use Rattle.syscalls.specs.Answers.{WaitAnswers, WakeAnswers, RequeueAnswers, CmpRequeueAnswers, SetHeadAnswers, GetHeadAnswers};
+ghost use Rattle.syscalls.specs.Kernels.{bucket_count, bucket_at, queue_of, StandWhereTold, HasQueuesOf, IsAsleep, IsAwake, IsKernel, IsIdle, FallsAsleep, Wakes, Moves, Requeues, Leaves, SetsHead};
+ghost use Rattle.syscalls.specs.Answers.{WaitAnswers, WakeAnswers, TrimAnswers, TrimsAt, RequeueAnswers, CmpRequeueAnswers, SetHeadAnswers, GetHeadAnswers};
 
 use crate::memory::Memory;
 use buckets::{Batch, Bucket};
 use keys::{HEAD_SIZE, Key, NoMem, bucket_of, key_of};
-use lockword::{Reply, Tid};
+use lockword::{Cell, Reply, Tid, WAITERS};
 use std::alloc::{AllocError, Global};
 use std::marker::Model;
 
 /// How many hash buckets a kernel has.
-const BUCKETS: usize = 1;
+const BUCKETS: usize = 256;
 
 /// Who sleeps on which word, of threads whose ids go from 1 to a number (futex(2), shared futexes), and where each one's robust list begins (get_robust_list(2)).
 #[derive(Drop)]
 pub struct Kernel {
     threads: u8,
     buckets: Vec<Bucket>,
+    /// The number of the bucket in which each thread last came to stand, 0 before it first slept: a thread that sleeps stands there.
+    stood_in: Vec<u8>,
     heads: Vec<u64>,
 }
 
 impl Model for Kernel {
-    ghost use Rattle.syscalls.specs.Kernels.{Kernel', IsKernel, HasBuckets};
+    ghost use Rattle.syscalls.specs.Kernels.{Kernel', IsKernel, HasBuckets, Remembers};
 
     ghost Value = { Kernel' };
 
     ghost view = { λ k. record { threads = k.threads; buckets = k.buckets.items; heads = k.heads.items } };
 
-    ghost invariant = { λ k. IsKernel (record { threads = k.threads; buckets = k.buckets.items; heads = k.heads.items }) × HasBuckets (record { threads = k.threads; buckets = k.buckets.items; heads = k.heads.items }) };
+    ghost invariant = { λ k. (IsKernel (record { threads = k.threads; buckets = k.buckets.items; heads = k.heads.items }) × HasBuckets (record { threads = k.threads; buckets = k.buckets.items; heads = k.heads.items }))
+        × Remembers k.stood_in.items k.threads k.buckets.items };
 }
 
 impl Clone for Kernel {
@@ -41,6 +45,7 @@ impl Clone for Kernel {
         Ok(Kernel {
             threads: self.threads,
             buckets: self.buckets.clone()?,
+            stood_in: self.stood_in.clone()?,
             heads: self.heads.clone()?,
         })
     }
@@ -50,7 +55,7 @@ impl Clone for Kernel {
 fn empty_buckets(alloc: Global, capacity: usize) -> Result<Vec<Bucket>, NoMem>
     requires first { 1 ≤ capacity }
     requires last { capacity ≤ 64 }
-    ensures some { IfOk result (λ v. 1 ≤ length v.items) }
+    ensures count { IfOk result (λ v. length v.items ≡ bucket_count) }
     ensures emptied { IfOk result (λ v. All (λ b. IsEmptied b capacity) v.items) }
     ensures orderly { IfOk result (λ v. All IsOrderly v.items) }
 {
@@ -63,17 +68,37 @@ fn empty_buckets(alloc: Global, capacity: usize) -> Result<Vec<Bucket>, NoMem>
     Ok(buckets)
 }
 
-/// The number of the bucket that the thread stands in; None where it stands in none.
-fn bucket_with(buckets: &[Bucket], thread: Tid) -> Option<usize>
+/// The number of the bucket that the thread stands in; None where it stands in none. Only the one in which it last came to stand is asked.
+fn bucket_with(buckets: &[Bucket], stood_in: &[u8], thread: Tid) -> Option<usize>
+    requires many { length buckets.now ≡ bucket_count }
+    requires remembers { StandWhereTold stood_in.now buckets.now }
     ensures { MatchOption result ((i : ℕ) → i < length buckets.now → StandsNowhere (bucket_at buckets.now i) thread)
         (λ i. (i < length buckets.now) × Stands (bucket_at buckets.now i) thread) }
 {
-    for (number, bucket) in buckets.iter().enumerate() {
-        if bucket.stands(thread) {
-            return Some(number);
+    let index = usize::from(thread.get()) - 1;
+    if stood_in.len() <= index {
+        return None;
+    }
+    let number = usize::from(stood_in[index]);
+    if buckets[number].stands(thread) {
+        Some(number)
+    } else {
+        None
+    }
+}
+
+/// Keeps in mind in which bucket these threads came to stand.
+fn remember(stood_in: &mut [u8], threads: &Batch, number: u8)
+    requires known { All (λ t. (1 ≤ t) × (t ≤ length stood_in.old)) threads.now }
+    ensures came { (t : ℕ) → Contains threads.now t → slice_get stood_in.new (t - 1) ≡ Some number }
+    ensures others { (t : ℕ) → 1 ≤ t → ¬ Contains threads.now t → slice_get stood_in.new (t - 1) ≡ slice_get stood_in.old (t - 1) }
+    ensures long { length stood_in.new ≡ length stood_in.old }
+{
+    for place in 0..threads.len() {
+        if let Some(thread) = threads.get(place) {
+            stood_in[usize::from(thread.get()) - 1] = number;
         }
     }
-    None
 }
 
 /// The word at the first of two addresses. Refused with EINVAL where they are equal, and else with EFAULT where either is invalid.
@@ -125,14 +150,19 @@ impl Kernel {
         requires last { threads ≤ 64 }
         ensures idle { IfOk result (λ k. IsIdle k threads) }
         ensures sound { IfOk result IsKernel }
+        ensures buckets { IfOk result (λ k. length k.buckets ≡ 256) }
     {
         let buckets = empty_buckets(alloc, usize::from(threads))?;
+        let Ok(stood_in) = vec![in alloc; 0; usize::from(threads)] else {
+            return Err(NoMem);
+        };
         let Ok(heads) = vec![in alloc; 0; usize::from(threads)] else {
             return Err(NoMem);
         };
         Ok(Kernel {
             threads,
             buckets,
+            stood_in,
             heads,
         })
     }
@@ -170,6 +200,7 @@ impl Kernel {
         if !self.buckets[number].wait_section(thread, key, word, expected) {
             return Err(Reply::EAGAIN);
         }
+        self.stood_in[usize::from(thread.get()) - 1] = number as u8;
         Ok(())
     }
 
@@ -249,8 +280,38 @@ impl Kernel {
         if number == into {
             self.buckets[number].move_within(key, n, other)
         } else {
-            move_between(&mut self.buckets, number, into, key, n, other)
+            let moved = move_between(&mut self.buckets, number, into, key, n, other);
+            remember(&mut self.stood_in, &moved, into as u8);
+            moved
         }
+    }
+
+    /// Clears the word at the address where it is `0x80000000`, the cell of a free mutex that says only that somebody may sleep on it, and nobody does: looking for sleepers,
+    /// comparing and clearing are one step. Answers whether it cleared it; no queue changes. Refused with EFAULT where the address is invalid, and then no word changes.
+    pub fn trim<M: Memory>(&self, memory: &mut M, at: u64) -> Result<bool, Reply>
+        ensures answer { TrimAnswers (M.words memory.old) at result }
+        ensures changes { MatchResult result (TrimsAt (M.words memory.old) (M.words memory.new) at (queue_of self.now at)) (λ _. M.words memory.new ≡ M.words memory.old) }
+        ensures sound { IsKernel self.now }
+    {
+        if self.is_slept_on(at) {
+            return match memory.load(at) {
+                Some(_) => Ok(false),
+                None => Err(Reply::EFAULT),
+            };
+        }
+        match memory.exchange(at, WAITERS, 0) {
+            Some(word) => Ok(Cell::new(word).trimmable()),
+            None => Err(Reply::EFAULT),
+        }
+    }
+
+    /// Somebody sleeps on the word at an address.
+    fn is_slept_on(&self, at: u64) -> bool
+        ensures value { result ≡ not (is_nobody (queue_of self.now at)) }
+        ensures sound { IsKernel self.now }
+    {
+        let key = key_of(at);
+        self.buckets[bucket_of(key, self.buckets.len())].count(key) != 0
     }
 
     /// Takes a thread out of the queue that it stands in, as its death does. False where it stood in none.
@@ -258,7 +319,7 @@ impl Kernel {
         ensures changes { Leaves self.old self.new thread result }
         ensures sound { IsKernel self.new }
     {
-        match bucket_with(&self.buckets, thread) {
+        match bucket_with(&self.buckets, &self.stood_in, thread) {
             Some(number) => self.buckets[number].remove(thread),
             None => false,
         }
@@ -269,7 +330,7 @@ impl Kernel {
         ensures value { MatchBool result (IsAsleep self.now thread) (IsAwake self.now thread) }
         ensures sound { IsKernel self.now }
     {
-        bucket_with(&self.buckets, thread).is_some()
+        bucket_with(&self.buckets, &self.stood_in, thread).is_some()
     }
 
     /// Who sleeps on the word at an address, in the order in which they are to be woken.
@@ -279,6 +340,15 @@ impl Kernel {
     {
         let key = key_of(at);
         self.buckets[bucket_of(key, self.buckets.len())].sleepers(key)
+    }
+
+    /// Bucket number `i`, which has the queues of the keys whose bucket it is, among 256, and of no others.
+    pub fn bucket(&self, i: u8) -> &Bucket
+        ensures queues { HasQueuesOf self.now i result.now }
+        ensures room { result.now.capacity ≡ self.now.threads }
+        ensures sound { IsKernel self.now }
+    {
+        &self.buckets[usize::from(i)]
     }
 
     /// Sets the address of the thread's robust list head, as the thread itself asks (set_robust_list(2)). It stays until it is set again.

@@ -1,7 +1,8 @@
 //! The kernel's half of futexes.
 //!
 //! A [`Kernel`] keeps who sleeps on which word (futex(2)): a wait sleeps exactly where the low half of its word is the expected value, a wake takes
-//! the first sleepers of its word, in order, and a requeue moves sleepers of one word to the end of another word's queue; a call that is refused changes nothing. It stands over any [`Memory`], and [`PlainMemory`] is one.
+//! the first sleepers of its word, in order, a requeue moves sleepers of one word to the end of another word's queue, and a trim clears a word that says only that
+//! somebody may sleep on it, where nobody does; a call that is refused changes nothing. It stands over any [`Memory`], and [`PlainMemory`] is one.
 //! It also keeps where each thread's robust list begins (get_robust_list(2)): a head is 0 until its thread sets it, and a futex call changes none.
 //! All the room is made by `Kernel::new` and by a clone; no other call of a kernel takes memory.
 #![tactic(auto)]
