@@ -1,5 +1,5 @@
 -- The points that a call has made so far, and what each access adds to them.
-use Rattle.std.proofs.Common.{◌≡◌, ◌⊎◌, ⊎_elim, inl, inr, ℕ, ◌+◌, ◌%◌, ◌^◌, ◌==◌, Option, Some, None, List, [], ◌∷◌, ◌++◌, refl, sym, ap, ◌∙◌, subst, arith}
+use Rattle.std.proofs.Common.{◌≡◌, ◌⊎◌, ⊎_elim, inl, inr, ℕ, Option, Some, None, List, [], ◌∷◌, ◌++◌, refl, sym, ap, ◌∙◌, subst, arith}
 use Rattle.protocol.proofs.Vocabulary.{CondCall, CondRow, CondPhase, CondWhole, cond_access, cond_led, Begun, Fact, Operation, Layout', Fields, Reply, OK, Phase, Onward, Joins}
 use Rattle.protocol.proofs.Vocabulary.{Whole, Op, OnMutex, OnCondition, Stage, Idle, Calling, AtCondition, Dying, Reaped, begun_of, answer_among, stage_after, returned, led}
 use Rattle.protocol.proofs.Vocabulary.{led_at, WaitRow, SignalRow, BroadcastRow}

@@ -1,20 +1,19 @@
 -- Which events apply.
-use Rattle.std.proofs.Common.{◌≡◌, ◌≢◌, ℕ, ◌<◌, ◌≤◌, ◌==◌, Bool, true, false, ◌&&◌, Option, Ok, Err, List, [], ◌∷◌, ◌++◌, refl, sym, ap, ◌∙◌, subst, arith, eq-eqb}
+use Rattle.std.proofs.Common.{◌≡◌, ◌≢◌, ℕ, ◌≤◌, ◌==◌, Bool, true, false, ◌&&◌, Option, Ok, Err, List, [], ◌∷◌, ◌++◌, refl, sym, ap, ◌∙◌, subst, arith, eq-eqb}
 use Rattle.protocol.proofs.Vocabulary.{cond_access, cond_led, Mutex, Condition, Queue, Fact, Decision, Layout', Access, Reply, XHELD, whole_access, whole_led, Op, OnMutex}
 use Rattle.protocol.proofs.Vocabulary.{OnCondition, mutex_of, begun_of, Event, Note, Began, Stepped, Walked, Thread, Stage, Idle, Calling, AtCondition, Dying, Reaped, facts_of}
 use Rattle.protocol.proofs.Vocabulary.{return_facts, reap_facts, State, After, put, start, answer_of, is_calling, is_alive, begun, nothing, decision, slept_in, falls_asleep, woken}
 use Rattle.protocol.proofs.Vocabulary.{held_after, led, led_at, went, has_ended, stage_walked, walked, killed, stepped, happens, run, notes, facts_among, if◌then◌else◌, nat_tests}
-use Rattle.protocol.proofs.Vocabulary.{Operation}
+use Rattle.protocol.proofs.Vocabulary.{Operation, Told, AtRest, InCall, Dead, Gone, told_next, told_after, last_told, IsLiving, HasAccess, IsThread, IsInNoQueue, Applies, refusal}
+use Rattle.protocol.proofs.Vocabulary.{IsAccessOf, IsNotedAs, NextApplies, EventsApply, Killed}
 use Rattle.condvar.specs.Calls as condition
 use Rattle.exitwalk.specs.declared.row.Row as walk_row
 use Rattle.exitwalk.specs.declared.row.Row.TheVariants as walk
 use Rattle.exitwalk.specs.Standings as walks
 use Rattle.exitwalk.specs.Walks as exit
-use Rattle.protocol.specs.declared.note.Note.TheVariants.{Killed}
 use Rattle.protocol.specs.Machine.{is_thread, Led, death_at}
 use Rattle.protocol.specs.Machine.{moved as moved_then}
 use Rattle.protocol.specs.Machine.{told_of as told_of_death}
-use Rattle.protocol.specs.Applies.{Told, AtRest, InCall, Dead, Gone, told_next, told_after, last_told, IsLiving, HasAccess, IsThread, IsInNoQueue, Applies, refusal, IsAccessOf, IsNotedAs, NextApplies, EventsApply}
 use Rattle.protocol.proofs.Puts.{by_put}
 use Rattle.protocol.proofs.Kept.{Kept}
 use Rattle.protocol.proofs.Runs.{start_kept, run_kept, run_layout}
@@ -93,7 +92,7 @@ begun_agrees s u t o w idle a false = moved s u t w InCall (record (s.threads u)
 -- an access of a call
 returned_agrees : (s : State) (u t held : ℕ) (w : Told) (g : Stage) (y : Option Reply) → is_calling (s.threads u).stage ≡ true → EndsOrGoes g y → Agrees w (s.threads t).stage
     → Agrees (told_after t w (return_facts u y)) (put s.threads u (record { stage = g; held = held }) t).stage
-returned_agrees s u t held w g y calls x8 a = grind (arith)
+returned_agrees s u t held w g y calls ends a = grind (arith)
 
 -- an access of a walk
 walked_agrees : (s : State) (u t held : ℕ) (v : walks.Standing) (w : Told) → (s.threads u).stage ≡ Dying v → Agrees w (s.threads t).stage → (r : walk_row.Row)

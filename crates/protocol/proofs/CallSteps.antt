@@ -1,25 +1,25 @@
 -- One access of a call, and what that is of a thread's access.
-use Rattle.std.proofs.Common.{◌≡◌, ◌≢◌, ⊎_elim, inl, ℕ, ◌+◌, ◌%◌, ◌^◌, ◌<◌, ◌≤◌, ◌==◌, Bool, true, false, Some, None, refl, sym, ap, ◌∙◌, subst, arith, eqb-true}
-use Rattle.protocol.proofs.Vocabulary.{Access, Object, acquires, object_of, owner_of, changed, sleeps_at, Layout', head_place, cell_place, counter_place, Fields, fields_of, Reply}
+use Rattle.std.proofs.Common.{◌≡◌, ◌≢◌, ⊎_elim, ◌⊎◌, inl, inr, ℕ, zero, suc, List, [], ◌∷◌, ◌++◌, drop, ◌+◌, ◌<◌, ◌≤◌, Bool, true, false, Some, None, refl, sym, ap, ◌∙◌, subst, arith}
+use Rattle.protocol.proofs.Vocabulary.{Access, Object, acquires, object_of, owner_of, word_among, sleeps_at, put, queue_after, Layout', head_place, cell_place, counter_place, Fields, fields_of, Reply, if◌then◌else◌}
 use Rattle.protocol.proofs.Vocabulary.{Phase, AtCell, is_wake, Whole, whole_access, Op, mutex_of, OnMutex, OnCondition, Calling, State, is_valid, place_met, stage_after, seen}
-use Rattle.protocol.proofs.Vocabulary.{IsUnowned, eqb-false, LockRow}
+use Rattle.protocol.proofs.Vocabulary.{IsUnowned, LockRow, owner_of-none}
 use Rattle.keys.specs.Chains.{IsAmong}
-use Rattle.keys.proofs.Owners.{owner_of-none}
 use Rattle.mutex.specs.declared.row.Row.TheVariants.{Lock}
 use Rattle.protocol.specs.Machine.{places_of}
-use Rattle.protocol.proofs.Puts.{put-same}
+use Rattle.protocol.proofs.Puts.{by_put, put-same}
 use Rattle.protocol.proofs.Phases.{answers_at, left_at, Moves}
 use Rattle.protocol.proofs.Kept.{InPhase, Fits, Kept}
-use Rattle.protocol.proofs.Steps.{Transition, IsNoMove, met_no_move, seen-inside, Tells, onto, after, place_of, met, call_step}
+use Rattle.protocol.proofs.Steps.{Transition, IsNoMove, joined_none, met_queue, met_no_move, seen-inside, Tells, onto, after, place_of, met, call_step}
 use Rattle.protocol.proofs.Arrivals.{ended_or_not}
 use Rattle.protocol.proofs.Stepping.{SleepsAs, AnswersAs, left_of, HasWaiters, Moves_none, Settles, Wakes_there, Answers_now, Found_free, Stepping}
+use Rattle.protocol.proofs.Cases.{by_same, at_or_else}
 
 -- what it leaves: of its mutex, and of all else; and what holds of every state holds then
 pub record CallStep (s : State) (t : ℕ) (c : Op) (p : Whole) : Type 0 where
   pub valid : is_valid s.layout (place_met s.layout t (whole_access p)) ≡ true
   pub no_move : IsNoMove (whole_access p)
   pub kept : Kept (after s t (call_step s t c p))
-  pub moves : Moves t p (onto s t p) (s.words (cell_place s.layout (mutex_of s.layout c))) ((after s t (call_step s t c p)).words (cell_place s.layout (mutex_of s.layout c)))
+  pub moves : Moves t p (onto s t p) (s.words (cell_place s.layout (mutex_of s.layout c))) (s.queues (cell_place s.layout (mutex_of s.layout c))) ((after s t (call_step s t c p)).words (cell_place s.layout (mutex_of s.layout c)))
   -- it sleeps and wakes at its mutex's cell only
   pub same_sleep : sleeps_at (whole_access p) (met s t (call_step s t c p)) ≡ sleeps_at (whole_access p) (s.words (cell_place s.layout (mutex_of s.layout c)))
   pub place : sleeps_at (whole_access p) (met s t (call_step s t c p)) ≡ true → place_met s.layout t (whole_access p) ≡ cell_place s.layout (mutex_of s.layout c)
@@ -50,9 +50,21 @@ sleeps_on_cell l (OnMutex c) p = inl refl
 sleeps_on_cell l (OnCondition c) p = inl refl
 
 -- a wait changes no word
-sleeps_unchanged : (a : Access) (w : ℕ) → sleeps_at a w ≡ true → changed a w ≡ w
-sleeps_unchanged (Access.Wait at e) w on = refl
-sleeps_unchanged a w on = absurd cc
+sleeps_unchanged : (a : Access) (w : ℕ) (q : List ℕ) → sleeps_at a w ≡ true → word_among a w q ≡ w
+sleeps_unchanged (Access.Wait at e) w q on = refl
+sleeps_unchanged a w q on = absurd cc
+
+-- where nobody sleeps and nobody falls asleep, nobody sleeps then
+none_left : (n : ℕ) → drop {A = ℕ} n [] ≡ []
+none_left zero = refl
+none_left (suc n) = refl
+
+still_empty : (t : ℕ) (a : Access) (w : ℕ) → IsNoMove a → sleeps_at a w ≡ false → queue_after t a w [] ≡ []
+still_empty t (Access.Wait at e) w none quiet = ap (λ (b : Bool). if b then [] ++ t ∷ [] else []) quiet
+still_empty t (Access.Wake at n) w none quiet = none_left n
+still_empty t (Access.Requeue from n to k) w none quiet = absurd none
+still_empty t (Access.CmpRequeue from e n to k) w none quiet = absurd none
+still_empty t a w none quiet = refl
 
 -- an owner field of nobody is 0
 pub free_field : (w : ℕ) → (object_of (fields_of w)).owner ≡ None → (fields_of w).owner ≡ 0
@@ -84,19 +96,32 @@ module _ (s : State) (t : ℕ) (c : Op) (p : Whole) (g : CallStep s t c p) (fits
   answers_then : answers_at f ≡ true → AnswersAs s.layout s'.words m t (stage_after c p f)
   answers_then e = ⊎_elim (λ ended. absurd (cc (sym (ap answers_at ended.1) ∙ e))) (λ on. subst (AnswersAs s.layout s'.words m t) (sym (on c p)) (refl, e)) (ended_or_not f)
 
-  waits : (k : ℕ) → k < s.layout.mutexes → HasWaiters s k → HasWaiters s' k
-  waits k inside on = go (k == m) refl
+  -- where nobody sleeps on a cell that nobody owns, nobody sleeps there then
+  unslept : s.queues (cell_place s.layout m) ≡ [] → (fields_of w).owner ≡ 0 → s'.queues (cell_place s.layout m) ≡ []
+  unslept nobody free = ap (λ (qs : ℕ → List ℕ). qs (cell_place s.layout m)) (joined_none s.layout t v.access _ (put s.queues (place_of s t v) (queue_after t v.access (met s t v) (met_queue s t v))) g.no_move)
+      ∙ by_put (λ (x : List ℕ). x ≡ []) s.queues (place_of s t v) (queue_after t v.access (met s t v) (met_queue s t v)) (cell_place s.layout m) here (λ apart. nobody)
     where
-      go : (b : Bool) → (k == m) ≡ b → HasWaiters s' k
-      go true e = let is = eqb-true k m e in subst (HasWaiters s') (sym is) (g.moves.waiters (subst (HasWaiters s) is on))
-      go false e = ap (λ (x : ℕ). (fields_of x).waiters) (g.cells k inside (eqb-false k m e)) ∙ on
+      awake : (b : Bool) → sleeps_at v.access (met s t v) ≡ b → sleeps_at v.access (met s t v) ≡ false
+      awake true on = absurd (let some = (g.moves.sleeps (sym g.same_sleep ∙ on)).0 in omega (arith, free, some))
+      awake false off = off
+
+      here : cell_place s.layout m ≡ place_of s t v → queue_after t v.access (met s t v) (met_queue s t v) ≡ []
+      here is = ap (queue_after t v.access (met s t v)) (ap s.queues (sym is) ∙ nobody) ∙ still_empty t v.access (met s t v) g.no_move (awake (sleeps_at v.access (met s t v)) refl)
+
+  waits : (k : ℕ) → k < s.layout.mutexes → HasWaiters s k → HasWaiters s' k ⊎ ((s'.queues (cell_place s.layout k) ≡ []) × IsUnowned s k)
+  waits k inside =
+      at_or_else (λ (j : ℕ). HasWaiters s j → HasWaiters s' j ⊎ ((s'.queues (cell_place s.layout j) ≡ []) × IsUnowned s j)) m k
+      (λ on. ⊎_elim inl (λ free. inr (unslept free.0 free.1, ap (λ (o : Object). o.owner) (seen-inside s m fits.inside) ∙ ap owner_of free.1)) (g.moves.waiters on))
+      (λ apart on. inl (ap (λ (x : ℕ). (fields_of x).waiters) (g.cells k inside apart) ∙ on))
 
   -- on its cell, that is owned and has WAITERS
   owned_there : sleeps_at v.access (met s t v) ≡ true → (k : ℕ) → k < s.layout.mutexes → place_of s t v ≡ cell_place s.layout k → HasWaiters s k × (IsUnowned s k → ⊥)
   owned_there on k inside at = grind (arith)
 
   settled : (k : ℕ) → k < s.layout.mutexes → IsUnowned s' k → HasWaiters s' k → Settles s t v k
-  settled k inside none on = go (k == m) refl
+  settled k inside none on =
+      by_same k m (λ is. here is (is_wake v.access) refl (sleeps_at v.access (met s t v)) refl)
+      (λ apart. Found_free (sym (ap (λ (o : Object). o.owner) (g.far k apart)) ∙ none) (λ before. absurd (apart (sym before.0))))
     where
       free_then : k ≡ m → (fields_of w').owner ≡ 0
       free_then is = free_field w' (sym (ap (λ (o : Object). o.owner) (seen-inside s' m fits.inside)) ∙ subst (IsUnowned s') is none)
@@ -107,17 +132,13 @@ module _ (s : State) (t : ℕ) (c : Op) (p : Whole) (g : CallStep s t c p) (fits
       here : k ≡ m → (a : Bool) → is_wake v.access ≡ a → (b : Bool) → sleeps_at v.access (met s t v) ≡ b → Settles s t v k
       here is true e b z = let wakes = g.wakes e in Wakes_there wakes.0 wakes.1 (wakes.2 ∙ ap (λ (j : ℕ). Access.Wake (cell_place s.layout j) wakes.0) (sym is))
       here is false e true z =
-          let kept : w' ≡ w = ap (λ (x : ℕ). s'.words x) (sym (g.place z)) ∙ put-same s.words (place_of s t v) _ ∙ sleeps_unchanged v.access (met s t v) z ∙ ap s.words (g.place z) in
+          let kept : w' ≡ w = ap (λ (x : ℕ). s'.words x) (sym (g.place z)) ∙ put-same s.words (place_of s t v) _ ∙ sleeps_unchanged v.access (met s t v) (s.queues (place_of s t v)) z ∙ ap s.words (g.place z) in
           let free : (fields_of w).owner ≡ 0 = sym (ap (λ (x : ℕ). (fields_of x).owner) kept) ∙ free_then is in
           absurd (let some = (g.moves.sleeps (sym g.same_sleep ∙ z)).0 in omega (arith, free, some))
       here is false e false z =
           ⊎_elim (λ answers. Answers_now (z, subst (λ (j : ℕ). AnswersAs s.layout s'.words j t v.next) (sym is) (answers_then answers)))
           (λ looks. Found_free (unowned is looks.1) (λ before. absurd (cc (before.1, looks.0))))
           (g.moves.answers e (free_then is) (subst (HasWaiters s') is on))
-
-      go : (b : Bool) → (k == m) ≡ b → Settles s t v k
-      go true e = here (eqb-true k m e) (is_wake v.access) refl (sleeps_at v.access (met s t v)) refl
-      go false e = let apart = eqb-false k m e in Found_free (sym (ap (λ (o : Object). o.owner) (g.far k apart)) ∙ none) (λ before. absurd (apart (sym before.0)))
 
   pub call_stepping : Stepping s t v
   call_stepping = record {

@@ -1,10 +1,15 @@
 -- One access of a call at its mutex's cell.
-use Rattle.std.proofs.Common.{◌≡◌, ◌≢◌, inl, inr, ⊎_elim, ℕ, zero, suc, ◌+◌, ◌*◌, ◌<◌, ◌≤◌, ◌==◌, Bool, true, false, Option, Some, None, List, refl, sym, ap, ◌∙◌, subst, arith, eqb-true}
-use Rattle.protocol.proofs.Vocabulary.{Access, Object, Operation, address_of, changed, answer_at, sleeps_at, IsChainBothWays, head_place, entry_place, cell_place, Run, object_of}
-use Rattle.protocol.proofs.Vocabulary.{owner_of, fresh, acquires, owner_of-some, Fields, fields_of, Reply, OK, EOWNERDEAD, TryLock, Consistent, Phase, AtCell, Onward, is_wake}
-use Rattle.protocol.proofs.Vocabulary.{left, Expects, Sound, decided, Joins, Whole, after_cell, leaving, Op, mutex_of, Calling, State, put, is_valid, place_met, answer_among}
-use Rattle.protocol.proofs.Vocabulary.{stage_after, held_after, seen, Agree, if◌then◌else◌, nat_lt, eqb-false, LinkRow, LockRow, TryLockRow, UnlockRow, ConsistentRow}
+use Rattle.std.proofs.Common.{◌≡◌, ◌≢◌, inl, inr, ⊎_elim, ℕ, zero, suc, ◌+◌, ◌*◌, ◌%◌, ◌^◌, ◌<◌, ◌≤◌, ◌==◌, Bool, true, false, Option, Some, None, List, refl, sym, ap, ◌∙◌, subst, arith, eqb-true}
+use Rattle.protocol.proofs.Vocabulary.{word_of, fields_of-word_of, Access, Object, Operation, address_of, word_among, sleeps_at, IsChainBothWays, head_place, entry_place}
+use Rattle.protocol.proofs.Vocabulary.{cell_place, Run, object_of, owner_of, fresh, acquires, owner_of-some, Fields, fields_of, Reply, OK, EOWNERDEAD, TryLock, Consistent, Phase}
+use Rattle.protocol.proofs.Vocabulary.{AtCell, Onward, is_wake, left, Expects, Sound, decided, Joins, Whole, after_cell, leaving, Op, mutex_of, Calling, State, put, is_valid}
+use Rattle.protocol.proofs.Vocabulary.{place_met, answer_among, stage_after, held_after, seen, Agree, if◌then◌else◌, nat_lt, eqb-false, LinkRow, LockRow, TryLockRow, UnlockRow}
+use Rattle.protocol.proofs.Vocabulary.{ConsistentRow, Alone, taken, waiting}
+use Rattle.lockword.specs.Cells.{low_of, waiters_alone}
 use Rattle.lockword.specs.declared.reply.Reply.TheVariants.{EFAULT}
+use Rattle.keys.specs.Accesses.{is_trimmed}
+use Rattle.keys.specs.declared.access.Answer.TheVariants.{Again, Woken}
+use Rattle.keys.proofs.Trims.{trims_free}
 use Rattle.keys.specs.declared.access.Access.TheVariants.{Wake}
 use Rattle.keys.specs.Chains.{IsAmong}
 use Rattle.robustlist.specs.LinkLaws as link_laws
@@ -13,7 +18,6 @@ use Rattle.mutex.specs.declared.row.Row.{Row}
 use Rattle.mutex.specs.declared.row.Row.TheVariants.{Lock, Unlock}
 use Rattle.mutex.specs.declared.row.Row.TheVariants as row
 use Rattle.mutex.specs.declared.row.Led.{Led}
-use Rattle.mutex.specs.Alone.{Alone}
 use Rattle.mutex.specs.Laws.{points, Right}
 use Rattle.mutex.specs.Rows.{Knows, IsGoing}
 use Rattle.mutex.specs.Programs.{row_access, row_operation, point_of, resume_of}
@@ -25,10 +29,11 @@ use Rattle.protocol.proofs.Puts.{put-same, put-other}
 use Rattle.protocol.proofs.Phases.{left_at, Moves, after_decided, after_answers, after_left, after_steady}
 use Rattle.protocol.proofs.Kept.{AtRow, Fits, Serves, Sits, left_out_in, Owned, ChainedIn, Listed, pending_in, PendsAs, Kept}
 use Rattle.protocol.proofs.Places.{mine_is_no_cell, head_is_no_cell, list_is_mine, both_same, lies_apart}
-use Rattle.protocol.proofs.Steps.{alike, is_valid-cell, seen-inside, Tells, run_tells, same_operation, not_taken, same_held, onto, thread_after, after, call_step}
+use Rattle.protocol.proofs.Steps.{is_valid-cell, seen-inside, Tells, run_tells, same_operation, not_taken, same_held, onto, thread_after, after, call_step}
 use Rattle.protocol.proofs.Owning.{Owning, owning, pends, takes, frees, keeps}
 use Rattle.protocol.proofs.Frames.{OnlyWaitsFrom, kept_where}
 use Rattle.protocol.proofs.Arrivals.{Arrives, sits_after, listed_after, pending_then}
+use Rattle.protocol.proofs.Cases.{by_equal, at_or_else, some_same}
 
 -- a wake is of the cell
 wakes_row : (t cell : ℕ) (r : Row) → is_wake (row_access t cell r) ≡ true → (n : ℕ) × (1 ≤ n) × (row_access t cell r ≡ Wake cell n)
@@ -38,30 +43,36 @@ wakes_row t cell r e = grind (arith)
 pub sleeper : (t cell : ℕ) (r : Row) (w : ℕ) → sleeps_at (row_access t cell r) w ≡ true → (v : Fields) × (r ≡ Lock (LockRow.Sleep v))
 sleeper t cell r w e = grind (arith)
 
--- an owner is one
-owned_by_one : (u t : ℕ) → Some u ≡ Some t → u ≡ t
-owned_by_one u t e = cc
-
 -- an owner field of an id
 owner_is : (n u : ℕ) → owner_of n ≡ Some u → n ≡ u
 owner_is zero u e = absurd cc
-owner_is (suc n) u e = owned_by_one (suc n) u e
+owner_is (suc n) u e = some_same (suc n) u e
+
+-- a word that is taken from was free
+taken_free : (u w : ℕ) (v : Fields) → w ≡ word_of v → 1 ≤ u → v.owner ≡ 0 → (fields_of w).owner ≡ u → ⊥
+taken_free u w v is first free owner = let same : (fields_of w).owner ≡ v.owner = ap (λ (c : Fields). c.owner) (ap fields_of is ∙ fields_of-word_of v (omega arith)) in omega arith
 
 -- a mutex that another owns has WAITERS set in its cell, at most
-waits_row : (t cell u w : ℕ) (r : Row) → 1 ≤ u → u ≢ t → Knows r → Expects t r (object_of (fields_of w)) → (fields_of w).owner ≡ u → OnlyWaitsFrom w (changed (row_access t cell r) w)
-waits_row t cell u w (Lock LockRow.Load) first apart knows expects owner = inl refl
-waits_row t cell u w (Lock (LockRow.Take v)) first apart knows expects owner = grind (arith)
-waits_row t cell u w (Lock (LockRow.SetWaiters v)) first apart knows expects owner = grind (arith)
-waits_row t cell u w (Lock (LockRow.Sleep v)) first apart knows expects owner = inl refl
-waits_row t cell u w (Lock LockRow.WakeAll) first apart knows expects owner = inl refl
-waits_row t cell u w (TryLock TryLockRow.Load) first apart knows expects owner = inl refl
-waits_row t cell u w (TryLock (TryLockRow.Take v n)) first apart knows expects owner = grind (arith)
-waits_row t cell u w (Unlock UnlockRow.Load) first apart knows expects owner = inl refl
-waits_row t cell u w (Unlock (UnlockRow.Release d)) first apart knows expects owner = absurd (apart (owned_by_one u t (sym (ap owner_of owner ∙ owner_of-some u first) ∙ expects.0)))
-waits_row t cell u w (Unlock (UnlockRow.Wake a)) first apart knows expects owner = inl refl
-waits_row t cell u w (Consistent ConsistentRow.Load) first apart knows expects owner = inl refl
-waits_row t cell u w (Consistent ConsistentRow.Declare) first apart knows expects owner = absurd (apart (owned_by_one u t (sym (ap owner_of owner ∙ owner_of-some u first) ∙ expects.0)))
-waits_row t cell u w (row.Ended x) first apart knows expects owner = inl refl
+waits_row : (t cell u w : ℕ) (q : List ℕ) (r : Row) → 1 ≤ u → u ≢ t → Knows r → Expects t r (object_of (fields_of w)) → (fields_of w).owner ≡ u → OnlyWaitsFrom w (word_among (row_access t cell r) w q)
+waits_row t cell u w q (Lock LockRow.Load) first apart knows expects owner = inl refl
+waits_row t cell u w q (Lock (LockRow.Take v)) first apart knows expects owner = by_equal (OnlyWaitsFrom w) w (word_of v) (word_of (taken v t)) w (λ is. absurd (taken_free u w v is first knows.0 owner)) (λ other. inl refl)
+waits_row t cell u w q (Lock (LockRow.SetWaiters v)) first apart knows expects owner =
+    by_equal (OnlyWaitsFrom w) w (word_of v) (word_of (waiting v)) w (λ is. inr (ap (λ (c : Fields). word_of (waiting c)) (sym (ap fields_of is ∙ fields_of-word_of v knows.1)))) (λ other. inl refl)
+waits_row t cell u w q (Lock (LockRow.Sleep v)) first apart knows expects owner = inl refl
+waits_row t cell u w q (Lock LockRow.WakeAll) first apart knows expects owner = inl refl
+waits_row t cell u w q (TryLock TryLockRow.Load) first apart knows expects owner = inl refl
+waits_row t cell u w q (TryLock (TryLockRow.Take v n)) first apart knows expects owner = by_equal (OnlyWaitsFrom w) w (word_of v) (word_of (taken v t)) w (λ is. absurd (taken_free u w v is first knows.0 owner)) (λ other. inl refl)
+waits_row t cell u w q (Unlock UnlockRow.Load) first apart knows expects owner = inl refl
+waits_row t cell u w q (Unlock (UnlockRow.Release d)) first apart knows expects owner = absurd (apart (some_same u t (sym (ap owner_of owner ∙ owner_of-some u first) ∙ expects.0)))
+waits_row t cell u w q (Unlock (UnlockRow.Wake a)) first apart knows expects owner = inl refl
+waits_row t cell u w q (Unlock UnlockRow.Trim) first apart knows expects owner = go (is_trimmed w q) (trims_free w q)
+  where
+    go : (b : Bool) → (b ≡ true → w ≡ waiters_alone) → OnlyWaitsFrom w (if b then 0 else w)
+    go true is = absurd (let free : (fields_of w).owner ≡ 0 = ap (λ (v : ℕ). (fields_of v).owner) (is refl) in omega arith)
+    go false is = inl refl
+waits_row t cell u w q (Consistent ConsistentRow.Load) first apart knows expects owner = inl refl
+waits_row t cell u w q (Consistent ConsistentRow.Declare) first apart knows expects owner = absurd (apart (some_same u t (sym (ap owner_of owner ∙ owner_of-some u first) ∙ expects.0)))
+waits_row t cell u w q (row.Ended x) first apart knows expects owner = inl refl
 
 -- an access of thread t's call at row r
 module _ (s : State) (t : ℕ) (c : Op) (p : Whole) (r : Row) (inv : Kept s) (pos : 1 ≤ t) (known : t ≤ s.layout.threads) (fits : Fits s t (s.threads t).held (mutex_of s.layout c) (record p { phase = AtCell r })) (serves : Serves s.layout c p) where
@@ -80,11 +91,11 @@ module _ (s : State) (t : ℕ) (c : Op) (p : Whole) (r : Row) (inv : Kept s) (po
   abbrev w : ℕ
   w = s.words place
 
-  abbrev w' : ℕ
-  w' = changed a w
-
   abbrev q : List ℕ
   q = s.queues place
+
+  abbrev w' : ℕ
+  w' = word_among a w q
 
   abbrev l : Led
   l = resume_of p.thread r (answer_among a w q)
@@ -105,7 +116,7 @@ module _ (s : State) (t : ℕ) (c : Op) (p : Whole) (r : Row) (inv : Kept s) (po
   valid = ap (is_valid s.layout) address ∙ is_valid-cell s.layout m fits.inside
 
   word_at : (x : ℕ) → s'.words x ≡ put s.words place w' x
-  word_at x = ap (λ (y : ℕ). put s.words y (changed a (s.words y)) x) address
+  word_at x = ap (λ (y : ℕ). put s.words y (word_among a (s.words y) (s.queues y)) x) address
 
   word_here : s'.words place ≡ w'
   word_here = word_at place ∙ put-same s.words place w'
@@ -121,10 +132,6 @@ module _ (s : State) (t : ℕ) (c : Op) (p : Whole) (r : Row) (inv : Kept s) (po
 
   leads : o ≡ from_cell whole l
   leads = ap (λ (y : ℕ). from_cell whole (resume_of p.thread r (answer_among a (s.words y) (s.queues y)))) address
-
-  -- it leads where it does while nobody sleeps
-  led_alike : l ≡ resume_of p.thread r (answer_at a w)
-  led_alike = alike p.thread p.cell r w q
 
   before : seen s m ≡ object_of (fields_of w)
   before = seen-inside s m fits.inside
@@ -144,11 +151,11 @@ module _ (s : State) (t : ℕ) (c : Op) (p : Whole) (r : Row) (inv : Kept s) (po
   needs : Expects p.thread r (object_of (fields_of w))
   needs = subst (λ (z : Object). Expects p.thread r z) before (subst (λ (u : ℕ). Expects u r (seen s m)) (sym fits.mine) at.expects)
 
-  al : Alone t r a l w w'
-  al = subst (λ (z : ℕ × Led). Alone z.0 r a z.1 w w') (λ i. (fits.mine i, sym led_alike i)) (alone p.thread p.cell w r (let is = fits.mine in omega arith) (let is = fits.mine in let most = last in omega arith) at.going at.knows needs)
+  al : Alone t r a l w q w'
+  al = subst (λ (u : ℕ). Alone u r a l w q w') fits.mine (alone p.thread p.cell w q r (let is = fits.mine in omega arith) (let is = fits.mine in let most = last in omega arith) at.going at.knows needs)
 
   rt : Right p.thread p.cell r l w w'
-  rt = subst (λ (z : Led). Right p.thread p.cell r z w w') (sym led_alike) (right p.thread p.cell w r (let is = fits.mine in omega arith) (let is = fits.mine in let most = last in omega arith) at.going at.knows (subst Sound before (inv.sound m)) needs)
+  rt = right p.thread p.cell w q r (let is = fits.mine in omega arith) (let is = fits.mine in let most = last in omega arith) at.going at.knows (subst Sound before (inv.sound m)) needs
 
   tells_row : Tells t (seen s m) (row_operation r) l.point (seen s' m)
   tells_row =
@@ -160,7 +167,7 @@ module _ (s : State) (t : ℕ) (c : Op) (p : Whole) (r : Row) (inv : Kept s) (po
   tells = subst (λ (z : Operation × Option Reply). Tells t (seen s m) z.0 z.1 (seen s' m)) (λ i. (at.of i, (sym leads i).point)) tells_row
 
   -- ---- beyond the object
-  moves_so : Moves t whole (from_cell whole l) w w'
+  moves_so : Moves t whole (from_cell whole l) w q w'
   moves_so = record {
     joins = subst (Joins (decided r) l.point) (sym (after_decided whole l.row)) rt.tells;
     waiters = al.waiters;
@@ -170,8 +177,8 @@ module _ (s : State) (t : ℕ) (c : Op) (p : Whole) (r : Row) (inv : Kept s) (po
     steady = λ e was. after_steady t whole l.row w' (al.steady e was);
   }
 
-  pub moves : Moves t whole o w (s'.words place)
-  moves = subst (λ (z : Onward × ℕ). Moves t whole z.0 w z.1) (λ i. (sym leads i, sym word_here i)) moves_so
+  pub moves : Moves t whole o w q (s'.words place)
+  moves = subst (λ (z : Onward × ℕ). Moves t whole z.0 w q z.1) (λ i. (sym leads i, sym word_here i)) moves_so
 
   -- ---- its thread, and its list
   room : acquires p.operation ≡ true → (q : Row) → l.row ≡ q → IsGoing q → held_after (s.threads t).held p.operation l.point < 2048
@@ -210,6 +217,7 @@ module _ (s : State) (t : ℕ) (c : Op) (p : Whole) (r : Row) (inv : Kept s) (po
   arrives (Unlock UnlockRow.Load) is own = at_row (Unlock UnlockRow.Load) is tt
   arrives (Unlock (UnlockRow.Release d)) is own = (at_row (Unlock (UnlockRow.Release d)) is tt, tt)
   arrives (Unlock (UnlockRow.Wake d)) is own = at_row (Unlock (UnlockRow.Wake d)) is tt
+  arrives (Unlock UnlockRow.Trim) is own = at_row (Unlock UnlockRow.Trim) is tt
 
   -- the entries are those of the mutexes that the thread owns now
   module _ (es : List ℕ) (owned : Owned s t (left_out_in m (AtCell r)) es) where
@@ -219,9 +227,6 @@ module _ (s : State) (t : ℕ) (c : Op) (p : Whole) (r : Row) (inv : Kept s) (po
         go : Owning m t r f (seen s m) (seen s' m) → (b : Bool) → (k == m) ≡ b → ((seen s' k).owner ≡ Some t) × (left_out_in m f ≢ Some k)
         go (takes x y free now) true e = absurd (cc (ap (λ (j : ℕ). (seen s j).owner) (eqb-true k m e), mine, free))
         go (takes x y free now) false e = (ap (λ (z : Object). z.owner) (far k (eqb-false k m e)) ∙ mine, λ same. eqb-false k m e (sym (some_same m k (sym y ∙ same))))
-          where
-            some_same : (i j : ℕ) → Some i ≡ Some j → i ≡ j
-            some_same i j e = cc
         go (frees x y now) true e = absurd (outside (x ∙ ap Some (sym (eqb-true k m e))))
         go (frees x y now) false e = (ap (λ (z : Object). z.owner) (far k (eqb-false k m e)) ∙ mine, λ same. cc (y, same))
         go (keeps x y now) true e = (ap (λ (j : ℕ). (seen s' j).owner) (eqb-true k m e) ∙ now ∙ sym (ap (λ (j : ℕ). (seen s j).owner) (eqb-true k m e)) ∙ mine, λ same. cc (y, same))
@@ -235,9 +240,6 @@ module _ (s : State) (t : ℕ) (c : Op) (p : Whole) (r : Row) (inv : Kept s) (po
         go (takes x y free now) false e = (sym (ap (λ (z : Object). z.owner) (far k (eqb-false k m e))) ∙ mine, λ same. cc (x, same))
         go (frees x y now) true e = absurd (cc (ap (λ (j : ℕ). (seen s' j).owner) (eqb-true k m e), mine, now))
         go (frees x y now) false e = (sym (ap (λ (z : Object). z.owner) (far k (eqb-false k m e))) ∙ mine, λ same. eqb-false k m e (sym (some_same m k (sym x ∙ same))))
-          where
-            some_same : (i j : ℕ) → Some i ≡ Some j → i ≡ j
-            some_same i j e = cc
         go (keeps x y now) true e = (ap (λ (j : ℕ). (seen s j).owner) (eqb-true k m e) ∙ sym now ∙ sym (ap (λ (j : ℕ). (seen s' j).owner) (eqb-true k m e)) ∙ mine, λ same. cc (x, same))
         go (keeps x y now) false e = (sym (ap (λ (z : Object). z.owner) (far k (eqb-false k m e))) ∙ mine, λ same. cc (x, same))
 
@@ -282,20 +284,18 @@ module _ (s : State) (t : ℕ) (c : Op) (p : Whole) (r : Row) (inv : Kept s) (po
       chain_after (Unlock UnlockRow.Load) own = still
       chain_after (Unlock (UnlockRow.Release d)) own = still
       chain_after (Unlock (UnlockRow.Wake d)) own = still
+      chain_after (Unlock UnlockRow.Trim) own = still
 
   pends_so : pending_in p.entry (after_cell whole l.row) ≡ pending_in p.entry (AtCell r)
   pends_so = pends m t whole (seen s m) (seen s' m) p.thread r (answer_among a w q) at.going at.of rt.stays rt.tells tells_row
 
   waits_so : (u k : ℕ) → 1 ≤ u → u ≤ s.layout.threads → t ≢ u → k < s.layout.mutexes → (seen s k).owner ≡ Some u → OnlyWaitsFrom (s.words (cell_place s.layout k)) (s'.words (cell_place s.layout k))
-  waits_so u k first most apart inside own = go (k == m) refl
-    where
-      go : (b : Bool) → (k == m) ≡ b → OnlyWaitsFrom (s.words (cell_place s.layout k)) (s'.words (cell_place s.layout k))
-      go true e =
-          let is : k ≡ m = eqb-true k m e in
-          let mine : (fields_of w).owner ≡ u = owner_is (fields_of w).owner u (sym (ap (λ (z : Object). z.owner) before) ∙ sym (ap (λ (j : ℕ). (seen s j).owner) is) ∙ own) in
-          subst (λ (j : ℕ). OnlyWaitsFrom (s.words (cell_place s.layout j)) (s'.words (cell_place s.layout j))) (sym is)
-          (subst (OnlyWaitsFrom w) (sym word_here) (waits_row p.thread p.cell u w r first (λ same. apart (sym (same ∙ fits.mine))) at.knows needs mine))
-      go false e = inl (cells_there k (eqb-false k m e))
+  waits_so u k first most apart inside =
+      at_or_else (λ (j : ℕ). (seen s j).owner ≡ Some u → OnlyWaitsFrom (s.words (cell_place s.layout j)) (s'.words (cell_place s.layout j))) m k
+      (λ own.
+      subst (OnlyWaitsFrom w) (sym word_here)
+      (waits_row p.thread p.cell u w q r first (λ same. apart (sym (same ∙ fits.mine))) at.knows needs (owner_is (fields_of w).owner u (sym (ap (λ (z : Object). z.owner) before) ∙ own))))
+      (λ other own. inl (cells_there k other))
 
   -- what holds of every state holds then
   pub kept : (s.threads t).stage ≡ Calling c whole → Listed s t (Calling c whole) → Kept s'
@@ -310,7 +310,15 @@ module _ (s : State) (t : ℕ) (c : Op) (p : Whole) (r : Row) (inv : Kept s) (po
       (subst (λ (z : Onward). PendsAs (s'.words (head_place t + 2)) (stage_after c whole z.phase)) (sym leads) (pending_then c whole (after_cell whole l.row) (s'.words (head_place t + 2)) (word_there (head_place t + 2) (head_is_no_cell s.layout t m 2 pos known (omega arith)) ∙ subst (PendsAs (s.words (head_place t + 2))) is (inv.heads t pos known).pending ∙ sym pends_so)))
       (subst Sound (sym here) rt.sound)
 
+  -- a lock that slept loads the cell again
+  woken_after : (v : Fields) → r ≡ Lock (LockRow.Sleep v) → after_cell whole l.row ≡ AtCell (Lock LockRow.Load)
+  woken_after v is = ap (λ (z : Row). after_cell whole (resume_of p.thread z (answer_among (row_access p.thread p.cell z) w q)).row) is ∙ go (w % 2 ^ 32 == low_of v)
+    where
+      go : (b : Bool) → after_cell whole (resume_of p.thread (Lock (LockRow.Sleep v)) (if b then Woken else Again)).row ≡ AtCell (Lock LockRow.Load)
+      go true = refl
+      go false = refl
+
   pub falls_asleep : sleeps_at a w ≡ true → (v : Fields) × (AtCell r ≡ AtCell (Lock (LockRow.Sleep v))) × (o.phase ≡ AtCell (Lock LockRow.Load))
   falls_asleep e =
       let row_is = sleeper p.thread p.cell r w e in
-      (row_is.0, ap AtCell row_is.1, ap (λ (z : Onward). z.phase) leads ∙ ap (λ (z : Led). after_cell whole z.row) led_alike ∙ ap (λ (z : Row). after_cell whole (resume_of p.thread z (answer_at (row_access p.thread p.cell z) w)).row) row_is.1)
+      (row_is.0, ap AtCell row_is.1, ap (λ (z : Onward). z.phase) leads ∙ woken_after row_is.0 row_is.1)

@@ -1,5 +1,5 @@
 -- What a call that no other event divides comes to: one step, whatever that is, and then the others.
-use Rattle.std.proofs.Common.{◌≡◌, ◌≢◌, ◌⊎◌, ⊎_elim, inl, inr, ℕ, suc, ◌≤◌, Bool, true, false, Option, Some, List, [], ◌∷◌, ◌++◌, refl, sym, ap, ◌∙◌, subst, arith}
+use Rattle.std.proofs.Common.{◌≡◌, ◌≢◌, ◌⊎◌, ⊎_elim, inl, inr, ℕ, suc, ◌≤◌, Bool, true, false, Option, Some, List, ◌++◌, refl, sym, ap, ◌∙◌, subst, arith}
 use Rattle.protocol.proofs.Vocabulary.{Fact, Return, Queue, Object, Operation, Decision, sleeps_at, Does, Reply, XRACED, Step, Stepped, Idle, State, After, is_calling, sleeps}
 use Rattle.protocol.proofs.Vocabulary.{is_asleep, happens, run, notes, seen, facts_among, facts_of, return_facts, replicate}
 use Rattle.protocol.specs.Sleepers.{IsAmong}

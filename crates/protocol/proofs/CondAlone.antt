@@ -1,17 +1,15 @@
 -- Calls on condition variables that no other event divides.
-use Rattle.std.proofs.Common.{◌≡◌, ◌≢◌, ℕ, zero, suc, ◌≤◌, ◌==◌, ◌%◌, ◌^◌, true, false, Some, None, List, refl, sym, ap, ◌∙◌, subst, arith}
+use Rattle.std.proofs.Common.{◌≡◌, ◌≢◌, ℕ, zero, suc, ◌≤◌, ◌%◌, ◌^◌, true, false, Some, None, List, refl, sym, ap, ◌∙◌, subst, arith}
 use Rattle.protocol.proofs.Vocabulary.{CondCall, CondRow, Signal, Broadcast, Awake, CondPhase, CondOnward, condition_of, cell_after, counter_after, met_word, CondWhole}
 use Rattle.protocol.proofs.Vocabulary.{cond_access, after_words, Object, Operation, answer_at, sleeps_at, head_place, cell_place, counter_place, Does, object_of, Fields, fields_of}
 use Rattle.protocol.proofs.Vocabulary.{Reply, OK, XRACED, or_waiting, OnCondition, AtCondition, mutex_of, State, is_calling, stands_in, is_asleep, place_met, stage_at, returned_at}
-use Rattle.protocol.proofs.Vocabulary.{seen, UnlinkRow, UnlinkStanding, eqb-false, WaitRow, SignalRow, BroadcastRow}
+use Rattle.protocol.proofs.Vocabulary.{seen, UnlinkRow, UnlinkStanding, eqb-false, WaitRow, SignalRow, BroadcastRow, names, IsWaiting}
 use Rattle.robustlist.specs.UnlinkLaws.{Unlinking}
 use Rattle.condvar.specs.declared.row.CondRow.TheVariants.{Wait, Ended}
 use Rattle.condvar.specs.Calls.{operation_of}
 use Rattle.condvar.specs.Rows.{IsGoing}
 use Rattle.condvar.specs.Laws.{row_operation}
 use Rattle.condvar.specs.Programs.{row_access, resume_of}
-use Rattle.condvar.proofs.Rights.{names}
-use Rattle.protocol.specs.Sleepers.{IsWaiting}
 use Rattle.protocol.proofs.Kept.{Needs, FitsAt, Owned, Listed, Kept}
 use Rattle.protocol.proofs.Steps.{after, cond_onto, cond_step}
 use Rattle.protocol.proofs.Stepping.{Stepping}
@@ -20,7 +18,8 @@ use Rattle.protocol.proofs.Working.{cond_goes}
 use Rattle.protocol.proofs.Queues.{Turned}
 use Rattle.protocol.proofs.Queued.{Queued, out_awake, mine, turn, still_out, went_queued}
 use Rattle.protocol.proofs.CondSteps.{cond_of, met_is, leads as words_lead, before, here, counter_here}
-use Rattle.protocol.proofs.CondOwn.{own_seen, own_counter, at_pending, plain, on_list, then_at}
+use Rattle.protocol.proofs.CondOwn.{at_pending, plain, on_list, then_at}
+use Rattle.protocol.proofs.OwnWords.{own_seen, own_counter}
 use Rattle.protocol.proofs.CondOwn.{leads as unlink_leads}
 use Rattle.protocol.proofs.CondAccesses.{fits_at, is_canonical, cond_sleeps, cond_stepping}
 use Rattle.protocol.proofs.Comings.{ComesBack, at_first, takes_step}

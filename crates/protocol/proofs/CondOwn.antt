@@ -1,91 +1,21 @@
 -- One access of a wait to its thread's own words: its entry is made pending and leaves the list.
-use Rattle.std.proofs.Common.{◌≡◌, ◌≢◌, inl, inr, ℕ, ◌+◌, ◌<◌, ◌≤◌, Bool, true, false, Option, Some, None, List, refl, sym, ap, ◌∙◌, subst, arith}
-use Rattle.protocol.proofs.Vocabulary.{CondCall, CondPhase, CondOnward, CondWhole, Object, address_of, changed, answer_at, sleeps_at, IsChainBothWays, AreDifferent, address_sum}
-use Rattle.protocol.proofs.Vocabulary.{head_place, entry_place, cell_place, counter_place, object_of, owner_of, fresh, owner_of-some, fields_of, Reply, Sound, OnCondition, Stage}
-use Rattle.protocol.proofs.Vocabulary.{AtCondition, mutex_of, State, held_after, stage_at, seen, UnlinkRow, UnlinkStanding, unlink_access, unlink_resume, UnlinkGoes}
-use Rattle.protocol.proofs.Vocabulary.{entries-different, without-among, if◌then◌else◌, nat_lt, nat_tests, WaitRow, CondRow}
+use Rattle.std.proofs.Common.{◌≡◌, inl, inr, ℕ, ◌+◌, ◌<◌, ◌≤◌, Some, None, List, refl, sym, ap, ◌∙◌, subst, arith}
+use Rattle.protocol.proofs.Vocabulary.{CondCall, CondPhase, CondOnward, CondWhole, Object, address_of, answer_at, IsChainBothWays, AreDifferent, address_sum, head_place, word_among}
+use Rattle.protocol.proofs.Vocabulary.{entry_place, cell_place, owner_of, owner_of-some, fields_of, Reply, OnCondition, Stage, AtCondition, mutex_of, State, stage_at, seen}
+use Rattle.protocol.proofs.Vocabulary.{UnlinkRow, UnlinkStanding, unlink_access, unlink_resume, UnlinkGoes, entries-different, without-among, WaitRow, CondRow, Makes}
 use Rattle.keys.specs.Chains.{IsAmong, without}
-use Rattle.robustlist.specs.Words.{Makes}
 use Rattle.robustlist.specs.UnlinkLaws as unlink_laws
 use Rattle.robustlist.proofs.Unlinks as unlinks
 use Rattle.condvar.specs.Whole.{phase_led, unlinked_at}
 use Rattle.protocol.proofs.Puts.{put-same, put-other}
-use Rattle.protocol.proofs.Phases.{IsPlain, plain_answer, plain_awake, plain_no_move, unlink_plain, few_of_unlink}
+use Rattle.protocol.proofs.Phases.{IsPlain, plain_answer, unlink_plain, few_of_unlink, plain_word}
 use Rattle.protocol.proofs.Kept.{Needs, FitsAt, Sits, Owned, Listed, PendsAs, Kept}
-use Rattle.protocol.proofs.Places.{IsMine, offset_is_nobodys, mine_is_valid, mine_is_no_cell, mine_is_no_counter, mine_is_not_theirs, list_is_mine, list_not_pending, both_same, among_without, without_is_apart, pending_is}
-use Rattle.protocol.proofs.Steps.{Tells, Transition, seen-inside, met_no_move, unmoved, thread_after, after, place_of, met, cond_onto, cond_step}
-use Rattle.protocol.proofs.Frames.{kept_where}
-use Rattle.protocol.proofs.Stepping.{AnswersAs, left_of, Moves_none, Found_free, Stepping}
+use Rattle.protocol.proofs.Places.{IsMine, list_is_mine, list_not_pending, both_same, among_without, without_is_apart, pending_is}
+use Rattle.protocol.proofs.Steps.{Transition, seen-inside, after, place_of, cond_onto, cond_step}
+use Rattle.protocol.proofs.Stepping.{left_of, Stepping}
 use Rattle.protocol.proofs.CondSteps.{cond_of, fit_at}
-
--- ---- any load or store of a thread's own words that makes no point
-module _ (s : State) (t : ℕ) (v : Transition) (inv : Kept s) (pos : 1 ≤ t) (known : t ≤ s.layout.threads) (inside : v.mutex < s.layout.mutexes) (plain : IsPlain v.access) (mine : IsMine s t (place_of s t v)) (pointless : v.point ≡ None) where
-  abbrev s' : State
-  s' = after s t v
-
-  abbrev at : ℕ
-  at = place_of s t v
-
-  own_words : (x : ℕ) → x ≢ at → s'.words x ≡ s.words x
-  own_words x apart = put-other s.words at (changed v.access (s.words at)) x apart
-
-  own_cells : (k : ℕ) → k < s.layout.mutexes → s'.words (cell_place s.layout k) ≡ s.words (cell_place s.layout k)
-  own_cells k below = own_words (cell_place s.layout k) (λ e. mine_is_no_cell s t at k pos known below mine (sym e))
-
-  pub own_seen : (k : ℕ) → seen s' k ≡ seen s k
-  own_seen k = go (nat_lt k s.layout.mutexes) refl
-    where
-      go : (b : Bool) → nat_lt k s.layout.mutexes ≡ b → (if b then object_of (fields_of (s'.words (cell_place s.layout k))) else fresh) ≡ (if b then object_of (fields_of (s.words (cell_place s.layout k))) else fresh)
-      go true e = ap (λ (x : ℕ). object_of (fields_of x)) (own_cells k (grind (arith, nat_tests)))
-      go false e = refl
-
-  pub own_counter : (k : ℕ) → s'.words (counter_place s.layout k) ≡ s.words (counter_place s.layout k)
-  own_counter k = own_words (counter_place s.layout k) (λ e. mine_is_no_counter s t at k pos known mine (sym e))
-
-  pub own_cell : (k : ℕ) → k < s.layout.mutexes → fields_of (s'.words (cell_place s.layout k)) ≡ fields_of (s.words (cell_place s.layout k))
-  own_cell k below = ap fields_of (own_cells k below)
-
-  pub held_same : held_after (s.threads t).held v.operation v.point ≡ (s.threads t).held
-  held_same = ap (held_after (s.threads t).held v.operation) pointless ∙ unmoved v.operation (s.threads t).held
-
-  pub own_owned : (out : Option ℕ) (es : List ℕ) → Owned s t out es → Owned s' t out es
-  own_owned out es owned = record {
-    entries = λ x among. let e = owned.entries x among in (e.0, e.1, e.2, ap (λ (z : Object). z.owner) (own_seen e.0) ∙ e.3, e.4);
-    all = λ k below have outside. owned.all k below (sym (ap (λ (z : Object). z.owner) (own_seen k)) ∙ have) outside;
-  }
-
-  own_tells : Tells t (seen s v.mutex) v.operation v.point (seen s' v.mutex)
-  own_tells = subst (λ (x : Option Reply). Tells t (seen s v.mutex) v.operation x (seen s' v.mutex)) (sym pointless) (own_seen v.mutex)
-
-  awake : sleeps_at v.access (met s t v) ≡ false
-  awake = (plain_awake v.access (met s t v) plain).0
-
-  pub own_stepping : Sits s' t (s.threads t).held v.next → Listed s' t v.next → PendsAs (s'.words (head_place t + 2)) v.next → ((k : ℕ) → AnswersAs s.layout s.words k t v.from → ⊥) → 0 < left_of s v.from → left_of s v.from ≤ 9000 → left_of s' v.next < left_of s v.from → Stepping s t v
-  own_stepping sits listed pends silent some few fewer = record {
-    valid = met_no_move s.layout t v.access (plain_no_move v.access plain) ∙ mine_is_valid s t at pos known mine;
-    inside = inside;
-    kept = kept_where s t v.mutex v.access (thread_after s t v) v.operation v.point inv pos known inside (λ k apart. own_seen k) own_tells refl
-        (λ x e takes. absurd (cc (e, pointless)))
-        (λ u first most. own_words (head_place u + 1) (offset_is_nobodys s t u at pos known first most mine))
-        (λ u x first most apart theirs. own_words x (mine_is_not_theirs s u t x at first most pos known (λ e. apart (sym e)) theirs mine))
-        (λ u k first most apart below own. inl (own_cells k below))
-        (subst (λ (h : ℕ). Sits s' t h v.next) (sym held_same) sits)
-        listed
-        pends
-        (subst Sound (sym (own_seen v.mutex)) (inv.sound v.mutex));
-    tells = own_tells;
-    room = λ x e takes. absurd (cc (e, pointless));
-    far = λ k apart. own_seen k;
-    waiters = λ k below on. ap (λ (x : ℕ). (fields_of x).waiters) (own_cells k below) ∙ on;
-    pendings = λ u first most apart. own_words (head_place u + 2) (mine_is_not_theirs s u t (head_place u + 2) at first most pos known (λ e. apart (sym e)) (inr (inl refl)) mine);
-    sleeper = λ on. absurd (cc (on, awake));
-    asleep = λ on. absurd (cc (on, awake));
-    moving = Moves_none (plain_no_move v.access plain);
-    settles = λ k below none on. Found_free (sym (ap (λ (z : Object). z.owner) (own_seen k)) ∙ none) (λ was. absurd (silent k was));
-    some = some;
-    few = few;
-    fewer = λ quiet. fewer;
-  }
+use Rattle.protocol.proofs.Cases.{some_same}
+use Rattle.protocol.proofs.OwnWords.{own_cell, own_owned, own_stepping}
 
 -- ---- a wait that is about to release its mutex
 module _ (s : State) (t : ℕ) (c : CondCall) (inv : Kept s) (pos : 1 ≤ t) (known : t ≤ s.layout.threads) where
@@ -176,8 +106,8 @@ module _ (s : State) (t : ℕ) (c : CondCall) (inv : Kept s) (pos : 1 ≤ t) (kn
 
       makes : Makes (unlink_access head entry r) head es s.words out_state.words
       makes = record {
-        changes = put-same s.words (address_of (unlink_access head entry r)) (changed (unlink_access head entry r) present);
-        keeps = λ y on apart. put-other s.words (address_of (unlink_access head entry r)) (changed (unlink_access head entry r) present) y apart;
+        changes = put-same s.words (address_of (unlink_access head entry r)) (word_among (unlink_access head entry r) present (s.queues (address_of (unlink_access head entry r)))) ∙ plain_word (unlink_access head entry r) present (s.queues (address_of (unlink_access head entry r))) plain;
+        keeps = λ y on apart. put-other s.words (address_of (unlink_access head entry r)) (word_among (unlink_access head entry r) present (s.queues (address_of (unlink_access head entry r)))) y apart;
       }
 
       chain_then : unlink_laws.Unlinking head entry es to_row out_state.words
@@ -188,7 +118,7 @@ module _ (s : State) (t : ℕ) (c : CondCall) (inv : Kept s) (pos : 1 ≤ t) (kn
 
       pends : out_state.words (head + 2) ≡ entry
       pends =
-          put-other s.words (address_of (unlink_access head entry r)) (changed (unlink_access head entry r) present) (head + 2)
+          put-other s.words (address_of (unlink_access head entry r)) (word_among (unlink_access head entry r) present (s.queues (address_of (unlink_access head entry r)))) (head + 2)
           (λ e. list_not_pending s t None es _ inv.layout pos known owned (unlinks.near head entry es r s.words ch) (sym e))
           ∙ subst (PendsAs (s.words (head + 2))) is_in (inv.heads t pos known).pending
 
@@ -200,12 +130,9 @@ module _ (s : State) (t : ℕ) (c : CondCall) (inv : Kept s) (pos : 1 ≤ t) (kn
 
       owned_less : Owned s t (Some m) (without entry es)
       owned_less = record {
-        entries = λ y among. let e = owned.entries y (without-among entry y es among) in (e.0, e.1, e.2, e.3, λ same. without_is_apart entry y es different among (e.2 ∙ ap (entry_place s.layout) (some_same m e.0 same)));
+        entries = λ y among. let e = owned.entries y (without-among entry y es among) in (e.0, e.1, e.2, e.3, λ same. without_is_apart entry y es different among (e.2 ∙ ap (entry_place s.layout) (sym (some_same m e.0 same))));
         all = λ i below own outside. among_without entry (entry_place s.layout i) es (owned.all i below own (λ e. cc e)) (λ same. outside (ap Some (omega (arith, same))));
       }
-        where
-          some_same : (i k : ℕ) → Some i ≡ Some k → k ≡ i
-          some_same i k e = cc
 
       -- where it stands then
       record Stands (g : Stage) : Type 0 where

@@ -1,7 +1,8 @@
 -- One access of a call on a condition variable, row by row: what it does to its mutex, and what holds at the next row. Whatever the counter is.
-use Rattle.std.proofs.Common.{◌≡◌, ◌⊎◌, inl, inr, ℕ, ◌+◌, ◌<◌, ◌≤◌, ◌==◌, ◌%◌, ◌^◌, Bool, true, false, Some, None, List, refl, sym, ap, ◌∙◌, subst, arith, bit_or, bit_xor}
+use Rattle.std.proofs.Common.{◌≡◌, ◌⊎◌, inl, inr, ℕ, ◌<◌, ◌≤◌, Bool, true, false, Some, None, List, refl, sym, ap, ◌∙◌, subst, arith, bit_or, bit_xor, []}
 use Rattle.protocol.proofs.Vocabulary.{CondRow, Signal, Broadcast, Awake, CondLed, cell_after, met_word, answer_at, sleeps_at, Permits, acquires, object_of, Fields, fields_of, OK}
 use Rattle.protocol.proofs.Vocabulary.{or_waiting, Sound, answer_among, reply_at, held_after, if◌then◌else◌, Operation, UnlockRow, WaitRow, SignalRow, BroadcastRow, CondPhase}
+use Rattle.protocol.proofs.Vocabulary.{names, decided_at}
 use Rattle.lockword.proofs.Bits.{xor_released}
 use Rattle.mutex.specs.declared.row.Row.TheVariants as row
 use Rattle.mutex.specs.Laws as mutex_laws
@@ -14,17 +15,19 @@ use Rattle.condvar.specs.Programs.{row_access, resume_of, point_of}
 use Rattle.condvar.specs.Wait.{wait_sees}
 use Rattle.condvar.specs.Signal.{signal_sees, signal_counts}
 use Rattle.condvar.specs.Broadcast.{broadcast_sees, broadcast_counts}
-use Rattle.condvar.proofs.Rights.{names}
-use Rattle.protocol.specs.Machine.{decided_at}
 use Rattle.protocol.proofs.Kept.{Needs, Room, left_out_at, pending_at_words}
-use Rattle.protocol.proofs.Steps.{Tells, IsNoMove}
+use Rattle.protocol.proofs.Steps.{Tells, IsNoMove, IsNoTrim}
 use Rattle.protocol.proofs.Stepping.{wakes_next, left_of_row}
 
 -- ---- whoever sleeps
 
+-- no access of a call is a trim
+pub cond_no_trim : (t cell counter : ℕ) (r : CondRow) → IsNoTrim (row_access t cell counter r)
+cond_no_trim t cell counter r = grind (arith)
+
 -- a call goes on alike, whoever sleeps
 pub cond_alike : (t cell counter : ℕ) (r : CondRow) (w : ℕ) (q : List ℕ) → resume_of t r (answer_among (row_access t cell counter r) w q) ≡ resume_of t r (answer_at (row_access t cell counter r) w)
-cond_alike t cell counter x3 w q = grind (arith)
+cond_alike t cell counter r w q = grind (arith)
 
 -- only a wait sleeps
 pub only_waits_sleep : (t cell counter : ℕ) (r : CondRow) (w : ℕ) → sleeps_at (row_access t cell counter r) w ≡ true → (seen : ℕ) × (r ≡ Wait (WaitRow.Sleep seen))
@@ -101,7 +104,7 @@ released t cell held w seen pos last sound own living b is = go b is
     none = ap (λ (d : Fields). d.owner) (xor_released w t own)
 
     step : mutex_laws.Right t cell (row.Unlock (UnlockRow.Release false)) (mutex_programs.resume_of t (row.Unlock (UnlockRow.Release false)) (answer_at (mutex_programs.row_access t cell (row.Unlock (UnlockRow.Release false))) w)) w (bit_xor w t)
-    step = mutex.right t cell w (row.Unlock (UnlockRow.Release false)) pos last tt tt sound (names t c pos own, living)
+    step = mutex.right t cell w [] (row.Unlock (UnlockRow.Release false)) pos last tt tt sound (names t c pos own, living)
 
     tells : Permits (object_of c) t Operation.Unlock OK (object_of (fields_of (bit_xor w t)))
     tells = subst (Permits (object_of c) t Operation.Unlock OK) (sym step.runs.2) step.runs.1

@@ -1,25 +1,24 @@
 -- One access of a call on a condition variable at its words: its mutex's cell and its counter.
 use Rattle.std.proofs.Common.{◌≡◌, ◌≢◌, ⊎_elim, inl, inr, ℕ, ◌+◌, ◌<◌, ◌≤◌, ◌==◌, Bool, true, false, not, ◌&&◌, Option, Some, None, List, length, refl, sym, ap, ◌∙◌, subst, arith, eqb-true}
-use Rattle.protocol.proofs.Vocabulary.{CondCall, CondRow, Broadcast, CondLed, CondPhase, CondOnward, condition_of, cell_after, counter_after, met_word, CondWhole, after_words}
+use Rattle.protocol.proofs.Vocabulary.{CondCall, CondRow, Broadcast, CondLed, CondPhase, CondOnward, condition_of, cell_after, counter_after, met_word, CondWhole, after_words, word_among}
 use Rattle.protocol.proofs.Vocabulary.{from_words, Access, Object, Operation, address_of, changed, answer_at, sleeps_at, IsChainBothWays, Layout', head_place, cell_place}
-use Rattle.protocol.proofs.Vocabulary.{counter_place, acquires, object_of, owner_of, fresh, owner_of-some, fields_of, Reply, Sound, OnCondition, Stage, AtCondition, mutex_of}
-use Rattle.protocol.proofs.Vocabulary.{State, put, is_valid, is_met, stage_at, reply_at, held_after, seen, IsUnowned, Agree, if◌then◌else◌, nat_lt, eqb-false, nat_tests, WaitRow}
-use Rattle.protocol.proofs.Vocabulary.{BroadcastRow}
+use Rattle.protocol.proofs.Vocabulary.{counter_place, acquires, object_of, owner_of, owner_of-some, fields_of, Reply, Sound, OnCondition, Stage, AtCondition, mutex_of, State, put}
+use Rattle.protocol.proofs.Vocabulary.{is_valid, is_met, stage_at, reply_at, held_after, seen, IsUnowned, Agree, if◌then◌else◌, WaitRow, BroadcastRow, there, decided_at}
 use Rattle.condvar.specs.declared.row.CondRow.TheVariants.{Wait}
 use Rattle.condvar.specs.Calls.{operation_of}
 use Rattle.condvar.specs.Laws.{IsOf, row_operation, is_at_counter}
 use Rattle.condvar.specs.Programs.{row_access, resume_of, point_of}
 use Rattle.condvar.specs.Whole.{begins}
-use Rattle.condvar.proofs.Rights.{there}
-use Rattle.protocol.specs.Machine.{decided_at}
 use Rattle.protocol.proofs.Puts.{put-same, put-other}
 use Rattle.protocol.proofs.Kept.{Needs, Room, AtWordsRow, AtPhase, FitsAt, Sits, left_out_at, Owned, Listed, PendsAs, Kept}
 use Rattle.protocol.proofs.Places.{mine_is_no_cell, mine_is_no_counter, head_is_no_cell, head_is_no_counter, counter_is_no_cell, counter_is_valid, list_is_mine, both_same}
-use Rattle.protocol.proofs.Steps.{is_valid-cell, seen-inside, Tells, Transition, met_no_move, thread_after, after, cond_onto, cond_step}
+use Rattle.protocol.proofs.Steps.{is_valid-cell, seen-inside, Tells, Transition, met_no_move, thread_after, after, cond_onto, cond_step, untrimmed}
 use Rattle.protocol.proofs.Frames.{OnlyWaitsFrom, kept_where}
 use Rattle.protocol.proofs.CallSteps.{free_field}
-use Rattle.protocol.proofs.Stepping.{SleepsAs, AnswersAs, left_of_row, left_of, HasWaiters, wakes_next, Moving, Moves_none, Moves_to, Settles, Wakes_there, Answers_now, Found_free, Stepping}
-use Rattle.protocol.proofs.CondRows.{cond_alike, only_waits_sleep, move_or, left_next, pending_next, Fair, fair}
+use Rattle.protocol.proofs.Stepping.{AnswersAs, Answers_now, SleepsAs, left_of_row, left_of, HasWaiters, wakes_next, Moving, Moves_none, Moves_to, Settles, Wakes_there, Found_free, Stepping}
+use Rattle.protocol.proofs.CondRows.{cond_alike, only_waits_sleep, move_or, left_next, pending_next, Fair, fair, cond_no_trim}
+use Rattle.protocol.proofs.Cases.{at_or_else, some_same, same_object}
+use Rattle.protocol.proofs.Queues.{not_true}
 
 -- the call of thread t in a phase
 abbrev pub cond_of : Layout' → ℕ → CondCall → CondPhase → CondWhole
@@ -66,7 +65,7 @@ module _ (s' : State) (t held : ℕ) (c : CondCall) where
       fit_at g stands = grind (arith)
 
       sits_at : (q : CondRow) → IsOf (operation_of c) q → Needs t q (fields_of (s'.words (cell_place l m))) → Room held q → Sits s' t held (stage_at c from (after_words from q))
-      sits_at x0 same needs room = grind (arith)
+      sits_at q same needs room = grind (arith)
 
 -- ---- the access of a row
 
@@ -139,18 +138,18 @@ module _ (s : State) (t : ℕ) (c : CondCall) (r : CondRow) (inv : Kept s) (pos 
   word_here = go (is_at_counter r) refl
     where
       go : (b : Bool) → is_at_counter r ≡ b → s'.words cell ≡ w'
-      go true e = put-other s.words at (changed a (s.words at)) cell (λ is. apart (sym (is ∙ at_counter e))) ∙ ap (λ (b : Bool). if b then w else changed a w) (sym e)
-      go false e = ap (λ (y : ℕ). put s.words y (changed a (s.words y)) cell) (at_cell e) ∙ put-same s.words cell (changed a w) ∙ ap (λ (b : Bool). if b then w else changed a w) (sym e)
+      go true e = put-other s.words at (word_among a (s.words at) (s.queues at)) cell (λ is. apart (sym (is ∙ at_counter e))) ∙ ap (λ (b : Bool). if b then w else changed a w) (sym e)
+      go false e = ap (λ (y : ℕ). put s.words y (word_among a (s.words y) (s.queues y)) cell) (at_cell e) ∙ put-same s.words cell (word_among a w (s.queues cell)) ∙ untrimmed a w (s.queues cell) (cond_no_trim t cell counter r) ∙ ap (λ (b : Bool). if b then w else changed a w) (sym e)
 
   pub counter_here : s'.words counter ≡ counter_after t cell counter r n
   counter_here = go (is_at_counter r) refl
     where
       go : (b : Bool) → is_at_counter r ≡ b → s'.words counter ≡ counter_after t cell counter r n
-      go true e = ap (λ (y : ℕ). put s.words y (changed a (s.words y)) counter) (at_counter e) ∙ put-same s.words counter (changed a n) ∙ ap (λ (b : Bool). if b then changed a n else n) (sym e)
-      go false e = put-other s.words at (changed a (s.words at)) counter (λ is. apart (is ∙ at_cell e)) ∙ ap (λ (b : Bool). if b then changed a n else n) (sym e)
+      go true e = ap (λ (y : ℕ). put s.words y (word_among a (s.words y) (s.queues y)) counter) (at_counter e) ∙ put-same s.words counter (word_among a n (s.queues counter)) ∙ untrimmed a n (s.queues counter) (cond_no_trim t cell counter r) ∙ ap (λ (b : Bool). if b then changed a n else n) (sym e)
+      go false e = put-other s.words at (word_among a (s.words at) (s.queues at)) counter (λ is. apart (is ∙ at_cell e)) ∙ ap (λ (b : Bool). if b then changed a n else n) (sym e)
 
   word_there : (x : ℕ) → x ≢ cell → x ≢ counter → s'.words x ≡ s.words x
-  word_there x no_cell no_counter = put-other s.words at (changed a (s.words at)) x (either x no_cell no_counter)
+  word_there x no_cell no_counter = put-other s.words at (word_among a (s.words at) (s.queues at)) x (either x no_cell no_counter)
 
   pub before : seen s k ≡ object_of (fields_of w)
   before = seen-inside s k fits.inside
@@ -162,11 +161,7 @@ module _ (s : State) (t : ℕ) (c : CondCall) (r : CondRow) (inv : Kept s) (pos 
   cells_there j below other = word_there (cell_place s.layout j) (λ e. other (omega (arith, e))) (λ e. counter_is_no_cell s.layout j (condition_of c) below (sym e))
 
   far : (j : ℕ) → j ≢ k → seen s' j ≡ seen s j
-  far j other = go (nat_lt j s.layout.mutexes) refl
-    where
-      go : (b : Bool) → nat_lt j s.layout.mutexes ≡ b → (if b then object_of (fields_of (s'.words (cell_place s.layout j))) else fresh) ≡ (if b then object_of (fields_of (s.words (cell_place s.layout j))) else fresh)
-      go true e = ap (λ (x : ℕ). object_of (fields_of x)) (cells_there j (grind (arith, nat_tests)) other)
-      go false e = refl
+  far j other = same_object s.layout s.words s'.words j (λ inside. cells_there j inside other)
 
   last : t ≤ 64
   last = let most = inv.layout.threads.1 in omega arith
@@ -206,9 +201,6 @@ module _ (s : State) (t : ℕ) (c : CondCall) (r : CondRow) (inv : Kept s) (pos 
       sits_at s' t held' c (CondPhase.AtWords r) fits.inside fits.there led_to.row (subst (λ (x : Operation). IsOf x led_to.row) stands.of is_fair.stays)
       (subst (λ (x : ℕ). Needs t led_to.row (fields_of x)) (sym word_here) is_fair.needs) (is_fair.room (inv.heads t pos known).few)
 
-  some_same : (i j : ℕ) → Some i ≡ Some j → j ≡ i
-  some_same i j e = cc
-
   owned_then : (es : List ℕ) → Owned s t (left_out_at k (CondPhase.AtWords r)) es → Owned s' t None es
   owned_then es owned = ⊎_elim still frees (is_fair.frees k)
     where
@@ -219,35 +211,26 @@ module _ (s : State) (t : ℕ) (c : CondCall) (r : CondRow) (inv : Kept s) (pos 
       }
         where
           same : (j : ℕ) → (seen s' j).owner ≡ (seen s j).owner
-          same j = go (j == k) refl
-            where
-              go : (b : Bool) → (j == k) ≡ b → (seen s' j).owner ≡ (seen s j).owner
-              go true e = let is = eqb-true j k e in subst (λ (i : ℕ). (seen s' i).owner ≡ (seen s i).owner) (sym is) (ap (λ (z : Object). z.owner) here ∙ ap owner_of h.1 ∙ sym (ap (λ (z : Object). z.owner) before))
-              go false e = ap (λ (z : Object). z.owner) (far j (eqb-false j k e))
+          same j =
+              at_or_else (λ (i : ℕ). (seen s' i).owner ≡ (seen s i).owner) k j (ap (λ (z : Object). z.owner) here ∙ ap owner_of h.1 ∙ sym (ap (λ (z : Object). z.owner) before))
+              (λ other. ap (λ (z : Object). z.owner) (far j other))
 
       frees : (left_out_at k (CondPhase.AtWords r) ≡ Some k) × ((fields_of w').owner ≡ 0) → Owned s' t None es
       frees h = record {
         entries = λ x among. let e = owned.entries x among in (e.0, e.1, e.2, ap (λ (z : Object). z.owner) (far e.0 (λ same. e.4 (h.0 ∙ ap Some (sym same)))) ∙ e.3, λ none. cc none);
         all = λ j below mine none.
             let other : j ≢ k = λ same. cc (sym (ap (λ (i : ℕ). (seen s' i).owner) same) ∙ mine, ap (λ (z : Object). z.owner) here ∙ ap owner_of h.1) in
-            owned.all j below (sym (ap (λ (z : Object). z.owner) (far j other)) ∙ mine) (λ e. other (some_same k j (sym h.0 ∙ e)));
+            owned.all j below (sym (ap (λ (z : Object). z.owner) (far j other)) ∙ mine) (λ e. other (sym (some_same k j (sym h.0 ∙ e))));
       }
 
   waits_so : (u j : ℕ) → 1 ≤ u → u ≤ s.layout.threads → t ≢ u → j < s.layout.mutexes → (seen s j).owner ≡ Some u → OnlyWaitsFrom (s.words (cell_place s.layout j)) (s'.words (cell_place s.layout j))
-  waits_so u j first most other below own = inl (go (j == k) refl)
+  waits_so u j first most other below own =
+      inl (at_or_else (λ (i : ℕ). (seen s i).owner ≡ Some u → s'.words (cell_place s.layout i) ≡ s.words (cell_place s.layout i)) k j
+      (λ theirs. word_here ∙ ⊎_elim (λ same. same) (λ own_t. absurd (other (some_same t u (sym (mine own_t) ∙ theirs)))) is_fair.touched)
+      (λ elsewhere theirs. cells_there j below elsewhere) own)
     where
       mine : (fields_of w).owner ≡ t → (seen s k).owner ≡ Some t
       mine is = ap (λ (z : Object). z.owner) before ∙ ap owner_of is ∙ owner_of-some t pos
-
-      go : (b : Bool) → (j == k) ≡ b → s'.words (cell_place s.layout j) ≡ s.words (cell_place s.layout j)
-      go true e =
-          let is : j ≡ k = eqb-true j k e in
-          subst (λ (i : ℕ). s'.words (cell_place s.layout i) ≡ s.words (cell_place s.layout i)) (sym is)
-          (word_here ∙ ⊎_elim (λ same. same) (λ own_t. absurd (other (one_owner (sym (mine own_t) ∙ sym (ap (λ (i : ℕ). (seen s i).owner) is) ∙ own)))) is_fair.touched)
-        where
-          one_owner : Some t ≡ Some u → t ≡ u
-          one_owner e = cc
-      go false e = cells_there j below (eqb-false j k e)
 
   pending : (u : ℕ) → 1 ≤ u → u ≤ s.layout.threads → s'.words (head_place u + 2) ≡ s.words (head_place u + 2)
   pending u first most = word_there (head_place u + 2) (head_is_no_cell s.layout u k 2 first most (omega arith)) (head_is_no_counter s.layout u (condition_of c) 2 first most (omega arith))
@@ -296,11 +279,9 @@ module _ (s : State) (t : ℕ) (c : CondCall) (r : CondRow) (inv : Kept s) (pos 
       moves = λ i. on_counter i && (on_cell i && differ (counter == cell) refl i)
 
   waiters_then : (j : ℕ) → j < s.layout.mutexes → HasWaiters s j → HasWaiters s' j
-  waiters_then j below on = go (j == k) refl
-    where
-      go : (b : Bool) → (j == k) ≡ b → HasWaiters s' j
-      go true e = let is = eqb-true j k e in subst (HasWaiters s') (sym is) (ap (λ (x : ℕ). (fields_of x).waiters) word_here ∙ is_fair.waiters (subst (HasWaiters s) is on))
-      go false e = ap (λ (x : ℕ). (fields_of x).waiters) (cells_there j below (eqb-false j k e)) ∙ on
+  waiters_then j below =
+      at_or_else (λ (i : ℕ). HasWaiters s i → HasWaiters s' i) k j (λ on. ap (λ (x : ℕ). (fields_of x).waiters) word_here ∙ is_fair.waiters on)
+      (λ other on. ap (λ (x : ℕ). (fields_of x).waiters) (cells_there j below other) ∙ on)
 
   pub falls_at : sleeps_at a (s.words at) ≡ true → at ≡ counter
   falls_at on = let row_is = only_waits_sleep t cell counter r (s.words at) on in ap (λ (z : CondRow). address_of (row_access t cell counter z)) row_is.1
@@ -321,42 +302,36 @@ module _ (s : State) (t : ℕ) (c : CondCall) (r : CondRow) (inv : Kept s) (pos 
           (λ none. cc (sym (ap (λ (z : Object). z.owner) before ∙ ap owner_of needs.0 ∙ owner_of-some t pos) ∙ none))
 
   settled : (j : ℕ) → j < s.layout.mutexes → IsUnowned s' j → HasWaiters s' j → Settles s t v j
-  settled j below none on = go (j == k) refl
+  settled j below =
+      at_or_else (λ (i : ℕ). IsUnowned s' i → HasWaiters s' i → Settles s t v i) k j settles
+      (λ other none on. Found_free (sym (ap (λ (z : Object). z.owner) (far j other)) ∙ none) (λ was. absurd (other (sym was.0))))
     where
-      go : (b : Bool) → (j == k) ≡ b → Settles s t v j
-      go false e = let other = eqb-false j k e in Found_free (sym (ap (λ (z : Object). z.owner) (far j other)) ∙ none) (λ was. absurd (other (sym was.0)))
-      go true e = let is = eqb-true j k e in subst (Settles s t v) (sym is) (settles (subst (IsUnowned s') is none) (subst (HasWaiters s') is on))
+      settles : IsUnowned s' k → HasWaiters s' k → Settles s t v k
+      settles free_now waits_now =
+          let free : (fields_of w').owner ≡ 0 = free_field w' (ap (λ (z : Object). z.owner) (sym here) ∙ free_now) in
+          let waits : (fields_of w').waiters ≡ true = ap (λ (x : ℕ). (fields_of x).waiters) (sym word_here) ∙ waits_now in
+          ⊎_elim (λ wakes. Wakes_there 1 (omega arith) (wakes_at t cell counter r wakes))
+          (λ rest. ⊎_elim about found rest)
+          (is_fair.settles free waits)
         where
-          settles : IsUnowned s' k → HasWaiters s' k → Settles s t v k
-          settles free_now waits_now =
-              let free : (fields_of w').owner ≡ 0 = free_field w' (ap (λ (z : Object). z.owner) (sym here) ∙ free_now) in
-              let waits : (fields_of w').waiters ≡ true = ap (λ (x : ℕ). (fields_of x).waiters) (sym word_here) ∙ waits_now in
-              ⊎_elim (λ wakes. Wakes_there 1 (omega arith) (wakes_at t cell counter r wakes))
-              (λ rest. ⊎_elim about found rest)
-              (is_fair.settles free waits)
-            where
-              awake : sleeps_at a (s.words at) ≡ true → wakes_next (CondPhase.AtWords led_to.row) ≡ true → ⊥
-              awake sleeps wakes =
-                  let row_is = only_waits_sleep t cell counter r (s.words at) sleeps in
-                  cc (sym (ap (λ (z : CondRow). wakes_next (CondPhase.AtWords (resume_of t z (answer_at (row_access t cell counter z) (met_word z w n))).row)) row_is.1) ∙ wakes)
+          awake : sleeps_at a (s.words at) ≡ true → wakes_next (CondPhase.AtWords led_to.row) ≡ true → ⊥
+          awake sleeps wakes =
+              let row_is = only_waits_sleep t cell counter r (s.words at) sleeps in
+              cc (sym (ap (λ (z : CondRow). wakes_next (CondPhase.AtWords (resume_of t z (answer_at (row_access t cell counter z) (met_word z w n))).row)) row_is.1) ∙ wakes)
 
-              quiet : wakes_next (CondPhase.AtWords led_to.row) ≡ true → sleeps_at a (s.words at) ≡ false
-              quiet wakes = pick (sleeps_at a (s.words at)) refl
-                where
-                  pick : (b : Bool) → sleeps_at a (s.words at) ≡ b → b ≡ false
-                  pick true e = absurd (awake e wakes)
-                  pick false e = refl
+          quiet : wakes_next (CondPhase.AtWords led_to.row) ≡ true → sleeps_at a (s.words at) ≡ false
+          quiet wakes = not_true (sleeps_at a (s.words at)) (λ sleeps. awake sleeps wakes)
 
-              about : wakes_next (CondPhase.AtWords led_to.row) ≡ true → Settles s t v k
-              about wakes =
-                  Answers_now (
-                    quiet wakes,
-                    subst (AnswersAs s.layout s'.words k t) next_is
-                        (subst (λ (f : CondPhase). AnswersAs s.layout s'.words k t (stage_at c whole f)) (sym (wakes_on whole led_to.row wakes)) (refl, wakes)),
-                  )
+          about : wakes_next (CondPhase.AtWords led_to.row) ≡ true → Settles s t v k
+          about wakes =
+              Answers_now (
+                quiet wakes,
+                subst (AnswersAs s.layout s'.words k t) next_is
+                    (subst (λ (f : CondPhase). AnswersAs s.layout s'.words k t (stage_at c whole f)) (sym (wakes_on whole led_to.row wakes)) (refl, wakes)),
+              )
 
-              found : (w' ≡ w) × (wakes_next (CondPhase.AtWords r) ≡ false) → Settles s t v k
-              found h = Found_free (ap (λ (z : Object). z.owner) (before ∙ sym (ap (λ (x : ℕ). object_of (fields_of x)) h.0) ∙ sym here) ∙ free_now) (λ was. absurd (cc (was.1, h.1)))
+          found : (w' ≡ w) × (wakes_next (CondPhase.AtWords r) ≡ false) → Settles s t v k
+          found h = Found_free (ap (λ (z : Object). z.owner) (before ∙ sym (ap (λ (x : ℕ). object_of (fields_of x)) h.0) ∙ sym here) ∙ free_now) (λ was. absurd (cc (was.1, h.1)))
 
   pub words_stepping : (s.threads t).stage ≡ AtCondition c whole → Listed s t (AtCondition c whole) → Stepping s t v
   words_stepping is listed = record {
@@ -366,7 +341,7 @@ module _ (s : State) (t : ℕ) (c : CondCall) (r : CondRow) (inv : Kept s) (pos 
     tells = tells;
     room = λ x e takes. absurd (cc (takes, takes_none));
     far = far;
-    waiters = waiters_then;
+    waiters = λ j below on. inl (waiters_then j below on);
     pendings = λ u first most other. pending u first most;
     sleeper = falls;
     asleep = λ on j below place. absurd (counter_is_no_cell s.layout j (condition_of c) below (sym (falls_at on) ∙ place));

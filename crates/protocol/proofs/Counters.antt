@@ -1,12 +1,10 @@
 -- Counters of condition variables: what changes them, and what calls know of them.
-use Rattle.std.proofs.Common.{◌≡◌, ◌≢◌, ◌⊎◌, ⊎_elim, inl, inr, ℕ, ◌+◌, ◌%◌, ◌^◌, ◌<◌, ◌≤◌, ◌==◌, Bool, true, false, Option, Some, None, Ok, Err, List, [], ◌∷◌, length, refl, sym, ap, ◌∙◌, subst, arith, eqb-true}
+use Rattle.std.proofs.Common.{◌≡◌, ◌≢◌, ◌⊎◌, ⊎_elim, inl, inr, ℕ, ◌+◌, ◌%◌, ◌<◌, ◌≤◌, Bool, true, false, Option, Some, None, Ok, Err, List, [], ◌∷◌, length, refl, sym, ap, ◌∙◌, subst, arith}
 use Rattle.protocol.proofs.Vocabulary.{CondCall, CondRow, Signal, Broadcast, CondPhase, CondOnward, condition_of, full, met_word, counter_after, CondWhole, cond_access, cond_led}
 use Rattle.protocol.proofs.Vocabulary.{after_words, from_words, Mutex, Condition, address_of, answer_at, Layout', head_place, cell_place, counter_place, fields_of, XHELD, Phase}
 use Rattle.protocol.proofs.Vocabulary.{Whole, whole_access, whole_led, Op, OnMutex, OnCondition, Event, Thread, Stage, Calling, AtCondition, Dying, mutex_of, State, After, start}
 use Rattle.protocol.proofs.Vocabulary.{place_met, stage_after, stage_at, led, led_at, begun, walked, happens, run, caller, UnlinkRow, UnlinkStanding, if◌then◌else◌, slice_index}
-use Rattle.protocol.proofs.Vocabulary.{eqb-false, WaitRow, SignalRow, BroadcastRow}
-use Rattle.std.specs.Prelude.{◌-◌, ◌&&◌}
-use Rattle.keys.specs.Layouts.{first_word}
+use Rattle.protocol.proofs.Vocabulary.{WaitRow, SignalRow, BroadcastRow, first_word, there, ArePresets}
 use Rattle.robustlist.specs.UnlinkLaws.{Unlinking}
 use Rattle.exitwalk.specs.Standings as walks
 use Rattle.condvar.specs.declared.row.CondRow.TheVariants.{Wait}
@@ -14,8 +12,6 @@ use Rattle.condvar.specs.Calls.{operation_of}
 use Rattle.condvar.specs.Rows.{IsGoing}
 use Rattle.condvar.specs.Laws.{is_at_counter, row_operation}
 use Rattle.condvar.specs.Programs.{row_access, resume_of}
-use Rattle.condvar.proofs.Rights.{there}
-use Rattle.protocol.specs.PassedBy.{ArePresets}
 use Rattle.protocol.proofs.Puts.{put-same, put-other}
 use Rattle.protocol.proofs.Kept.{Needs, FitsAt, Owned, Listed, Kept}
 use Rattle.protocol.proofs.Places.{counter_is_no_cell}
@@ -29,9 +25,11 @@ use Rattle.protocol.proofs.Events.{begins_at, by_event, by_stage}
 use Rattle.protocol.proofs.Working.{walk_is}
 use Rattle.protocol.proofs.Runs.{sound}
 use Rattle.protocol.proofs.CondSteps.{cond_of, counter_here, leads}
-use Rattle.protocol.proofs.CondOwn.{own_counter, at_pending, plain, on_list, then_at}
+use Rattle.protocol.proofs.CondOwn.{at_pending, plain, on_list, then_at}
+use Rattle.protocol.proofs.OwnWords.{own_counter}
 use Rattle.protocol.proofs.CondOwn.{leads as unlink_leads}
 use Rattle.protocol.proofs.CondAccesses.{cond_stepping, fits_at}
+use Rattle.protocol.proofs.Cases.{at_or_else}
 
 -- ---- one access of a call on a condition variable
 
@@ -245,11 +243,7 @@ cond_passes s t c p inv counted pos known is = record {
         pick n' is (inr (more, less, own)) = inr (is ∙ more, less, own)
 
     rises : (k : ℕ) → Rises s t (after s t (cond_step s t c p)) k
-    rises k = pick (k == condition_of c) refl
-      where
-        pick : (b : Bool) → (k == condition_of c) ≡ b → Rises s t (after s t (cond_step s t c p)) k
-        pick true e = subst (Rises s t (after s t (cond_step s t c p))) (sym (eqb-true k (condition_of c) e)) (here moved.move)
-        pick false e = inl (moved.others k (eqb-false k (condition_of c) e))
+    rises k = at_or_else (Rises s t (after s t (cond_step s t c p))) (condition_of c) k (here moved.move) (λ other. inl (moved.others k other))
 
     go : CondMove s t c p → KnowsIn s.layout words' (stage_at c p (cond_onto s t p).phase)
     go (Before_release seen before later point same) =

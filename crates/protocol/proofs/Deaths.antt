@@ -1,16 +1,15 @@
 -- How often a thread's death is told.
-use Rattle.std.proofs.Common.{◌≡◌, ◌≢◌, ◌⊎◌, inl, inr, ℕ, ◌+◌, ◌≤◌, ◌==◌, Bool, true, false, ◌&&◌, Option, Some, None, List, [], ◌∷◌, ◌++◌, map, refl, sym, ap, ◌∙◌, subst, arith, eqb-true}
-use Rattle.protocol.proofs.Vocabulary.{CondCall, condition_of, CondWhole, cond_access, cond_led, Queue, Mutex, Condition, Fact, Access, sleeps_at, head_place, Object, XHELD, OK}
+use Rattle.std.proofs.Common.{eqb-true, ◌≡◌, ◌≢◌, ◌⊎◌, inl, inr, ℕ, ◌+◌, ◌≤◌, ◌==◌, Bool, true, false, ◌&&◌, Option, Some, None, List, [], ◌∷◌, ◌++◌, map, refl, sym, ap, ◌∙◌, subst, arith}
+use Rattle.protocol.proofs.Vocabulary.{Operation, OK, eqb-false, Reply, CondCall, condition_of, CondWhole, cond_access, cond_led, Queue, Mutex, Condition, Fact, Access, sleeps_at, head_place, Object, XHELD}
 use Rattle.protocol.proofs.Vocabulary.{Whole, whole_access, whole_led, Op, OnCondition, mutex_of, Thread, Event, Stage, Idle, Calling, AtCondition, Reaped, facts_of, death_facts}
 use Rattle.protocol.proofs.Vocabulary.{reap_facts, State, After, place_met, start, run, notes, is_alive, begun, led, led_at, went, answer_of, decision, slept_in, woken_by}
-use Rattle.protocol.proofs.Vocabulary.{moved_by, walked, has_ended, stepped, happens, killed, seen, facts_among, if◌then◌else◌, eqb-false, nat_tests, Operation}
-use Rattle.std.specs.Prelude.{Ok, Err}
+use Rattle.protocol.proofs.Vocabulary.{moved_by, walked, has_ended, stepped, happens, killed, seen, facts_among, if◌then◌else◌, nat_tests, Ok, Err}
 use Rattle.protocol.proofs.CondAccesses.{cond_stepping}
 use Rattle.exitwalk.specs.declared.row.Row.{Row}
 use Rattle.exitwalk.specs.Standings as walks
 use Rattle.protocol.proofs.Puts.{by_put, put-same, put-other}
 use Rattle.protocol.proofs.Frames.{knows_at}
-use Rattle.protocol.proofs.Steps.{Transition, met_no_move, after, went-is, note_of, onto, call_step, cond_onto, cond_step}
+use Rattle.protocol.proofs.Steps.{Transition, Tells, met_no_move, after, went-is, note_of, onto, call_step, cond_onto, cond_step}
 use Rattle.protocol.proofs.Stepping.{Stepping}
 use Rattle.protocol.proofs.CallSteps.{call_stepping}
 use Rattle.protocol.proofs.Accesses.{goes, fits_in}
@@ -25,6 +24,7 @@ use Rattle.protocol.proofs.Objects.{one, one-none, one-own, others}
 use Rattle.protocol.proofs.Kept.{Kept}
 use Rattle.protocol.proofs.Runs.{sound, start_kept, run_kept, kill_kept}
 use Rattle.protocol.proofs.NoteFacts.{IsOfSleep, behind_woken, of_access}
+use Rattle.protocol.proofs.Cases.{at_or_else}
 
 -- ---- counting
 
@@ -48,6 +48,16 @@ reaped_deaths t m u ws y = behind_woken (λ (fs : List Fact). deaths t m fs ≡ 
 owner_or : (t : ℕ) (o : Object) → (o.owner ≡ Some t) ⊎ ((o.owner ≢ Some t) × (one t o ≡ 0))
 owner_or t o = grind (arith)
 
+-- a walk of thread u that tells of mutex k, in numbers
+told_once : (t m u k d o n : ℕ) → d ≡ 0 → (k ≢ m → n ≡ o) → (k ≡ m → u ≢ t → n ≡ o) → (k ≡ m → u ≡ t → (o ≡ 1) × (n ≡ 0)) → (if (u == t) && (k == m) then 1 else 0) + d + n ≡ o
+told_once t m u k d o n none elsewhere theirs its = go (u == t) refl (k == m) refl
+  where
+    go : (a : Bool) → (u == t) ≡ a → (b : Bool) → (k == m) ≡ b → (if a && b then 1 else 0) + d + n ≡ o
+    go true x true y = let both = its (eqb-true k m y) (eqb-true u t x) in omega (arith, both.0, both.1, none)
+    go true x false y = let same = elsewhere (eqb-false k m y) in omega (arith, same, none)
+    go false x true y = let same = theirs (eqb-true k m y) (eqb-false u t x) in omega (arith, same, none)
+    go false x false y = let same = elsewhere (eqb-false k m y) in omega (arith, same, none)
+
 -- ---- one event, of a thread t that died before it
 module _ (t m : ℕ) where
   -- its death is told exactly where it loses the mutex
@@ -61,7 +71,11 @@ module _ (t m : ℕ) where
 
     -- a step of another thread leaves it as it was
     same : (u : ℕ) (v : Transition) → u ≢ t → Stepping s u v → one t (seen (after s u v) m) ≡ one t (seen s m)
-    same u v other g = grind (arith)
+    same u v other g = at_or_else (λ (k : ℕ). one t (seen (after s u v) k) ≡ one t (seen s k)) v.mutex m (told v.point (seen (after s u v) v.mutex) g.tells) (λ apart. ap (one t) (g.far m apart))
+      where
+        told : (x : Option Reply) (n : Object) → Tells u (seen s v.mutex) v.operation x n → one t n ≡ one t (seen s v.mutex)
+        told None n e = ap (one t) e
+        told (Some x) n permits = others (seen s v.mutex) n u t v.operation x other permits
 
     call_lost : (u : ℕ) → 1 ≤ u → u ≤ s.layout.threads → (o : Op) (p : Whole) → (s.threads u).stage ≡ Calling o p
         → Lost s (went s u (s.threads u).held (mutex_of s.layout o) (Mutex (mutex_of s.layout o)) (whole_access p) (led o p (whole_led p (answer_of s u (whole_access p)))))
@@ -84,27 +98,14 @@ module _ (t m : ℕ) where
       where
         go : (d : Option ℕ) → DeathTells s u d (walk_after s u r) → deaths t m (death_facts u d ++ (map Wake (woken_by (walk_access s u r) (s.words (place_met s.layout u (walk_access s u r))) (s.queues (place_met s.layout u (walk_access s u r)))) ++ reap_facts u (has_ended (row_then s u r)))) + one t (seen (walk_after s u r) m) ≡ one t (seen s m)
         go None tells = let none = reaped_deaths t m u (woken_by (walk_access s u r) (s.words (place_met s.layout u (walk_access s u r))) (s.queues (place_met s.layout u (walk_access s u r)))) (has_ended (row_then s u r)) in let same : one t (seen (walk_after s u r) m) ≡ one t (seen s m) = ap (one t) (tells m) in omega arith
-        go (Some k) tells = pick (u == t) refl (k == m) refl
-          where
-            abbrev_none : deaths t m (map Wake (woken_by (walk_access s u r) (s.words (place_met s.layout u (walk_access s u r))) (s.queues (place_met s.layout u (walk_access s u r)))) ++ reap_facts u (has_ended (row_then s u r))) ≡ 0
-            abbrev_none = reaped_deaths t m u (woken_by (walk_access s u r) (s.words (place_met s.layout u (walk_access s u r))) (s.queues (place_met s.layout u (walk_access s u r)))) (has_ended (row_then s u r))
-
-            pick : (a : Bool) → (u == t) ≡ a → (b : Bool) → (k == m) ≡ b → (if a && b then 1 else 0) + deaths t m (map Wake (woken_by (walk_access s u r) (s.words (place_met s.layout u (walk_access s u r))) (s.queues (place_met s.layout u (walk_access s u r)))) ++ reap_facts u (has_ended (row_then s u r))) + one t (seen (walk_after s u r) m) ≡ one t (seen s m)
-            pick a x false y = let none = abbrev_none in let same : one t (seen (walk_after s u r) m) ≡ one t (seen s m) = ap (one t) (tells.2 m (λ e. eqb-false k m y (sym e))) in none_if a same
-              where
-                none_if : (a : Bool) → one t (seen (walk_after s u r) m) ≡ one t (seen s m) → (if a && false then 1 else 0) + deaths t m (map Wake (woken_by (walk_access s u r) (s.words (place_met s.layout u (walk_access s u r))) (s.queues (place_met s.layout u (walk_access s u r)))) ++ reap_facts u (has_ended (row_then s u r))) + one t (seen (walk_after s u r) m) ≡ one t (seen s m)
-                none_if true same = let none = abbrev_none in omega arith
-                none_if false same = let none = abbrev_none in omega arith
-            pick true x true y =
-                let is : u ≡ t = eqb-true u t x in
-                let at : k ≡ m = eqb-true k m y in
-                let had : one t (seen s m) ≡ 1 = one-own t (seen s m) (sym (ap (λ (i : ℕ). (seen s i).owner) at) ∙ tells.1.0 ∙ ap Some is) in
-                let has : one t (seen (walk_after s u r) m) ≡ 0 = one-none t (seen (walk_after s u r) m) (sym (ap (λ (i : ℕ). (seen (walk_after s u r) i).owner) at) ∙ ap (λ (o : Object). o.owner) tells.1.1) in
-                let none = abbrev_none in omega arith
-            pick false x true y =
-                let at : k ≡ m = eqb-true k m y in
-                let same : one t (seen (walk_after s u r) m) ≡ one t (seen s m) = subst (λ (i : ℕ). one t (seen (walk_after s u r) i) ≡ one t (seen s i)) at (others (seen s k) (seen (walk_after s u r) k) u t Operation.Death OK (eqb-false u t x) tells.1) in
-                let none = abbrev_none in omega arith
+        go (Some k) tells =
+            told_once t m u k _ _ _ (reaped_deaths t m u (woken_by (walk_access s u r) (s.words (place_met s.layout u (walk_access s u r))) (s.queues (place_met s.layout u (walk_access s u r)))) (has_ended (row_then s u r)))
+            (λ apart. ap (one t) (tells.2 m (λ e. apart (sym e))))
+            (λ at other. subst (λ (i : ℕ). one t (seen (walk_after s u r) i) ≡ one t (seen s i)) at (others (seen s k) (seen (walk_after s u r) k) u t Operation.Death OK other tells.1))
+            (λ at is. (
+              one-own t (seen s m) (sym (ap (λ (i : ℕ). (seen s i).owner) at) ∙ tells.1.0 ∙ ap Some is),
+              one-none t (seen (walk_after s u r) m) (sym (ap (λ (i : ℕ). (seen (walk_after s u r) i).owner) at) ∙ ap (λ (o : Object). o.owner) tells.1.1),
+            ))
 
     step_lost : (u : ℕ) → 1 ≤ u → u ≤ s.layout.threads → Lost s (stepped s u (s.threads u).held (s.threads u).stage)
     step_lost u pos known =

@@ -1,9 +1,9 @@
 -- A broadcast's move empties its condition variable's queue.
-use Rattle.std.proofs.Common.{⊎_elim, ◌≡◌, ℕ, zero, suc, ◌+◌, ◌%◌, ◌^◌, ◌≤◌, ◌==◌, Bool, true, false, Option, Some, None, List, [], ◌∷◌, ◌++◌, length, drop, refl, sym, ap, ◌∙◌, subst, arith, eqb-true, eq-eqb}
+use Rattle.std.proofs.Common.{⊎_elim, ◌≡◌, ℕ, zero, suc, ◌+◌, ◌%◌, ◌^◌, ◌≤◌, ◌==◌, Bool, true, false, Option, Some, None, List, [], ◌∷◌, length, drop, refl, sym, ap, ◌∙◌, subst, arith, eqb-true, eq-eqb}
 use Rattle.protocol.proofs.Vocabulary.{Fact, CondCall, CondRow, Broadcast, CondPhase, CondOnward, condition_of, met_word, CondWhole, cond_access, cond_led, after_words, Queue}
 use Rattle.protocol.proofs.Vocabulary.{Return, Begun, Condition, Decision, answer_at, Layout', cell_place, counter_place, Reply, OK, Whole, Op, OnCondition, Stepped, Walked, Stage}
 use Rattle.protocol.proofs.Vocabulary.{Calling, AtCondition, Event, Step, facts_of, return_facts, mutex_of, begun_of, State, After, put, start, stands_in, returned_at, led_at}
-use Rattle.protocol.proofs.Vocabulary.{stepped, happens, run, if◌then◌else◌, not, Operation, BroadcastRow}
+use Rattle.protocol.proofs.Vocabulary.{stepped, happens, run, if◌then◌else◌, not, Operation, BroadcastRow, NobodyIsPassedBy}
 use Rattle.buckets.specs.Queues.{without}
 use Rattle.condvar.specs.declared.row.CondRow.TheVariants.{Ended}
 use Rattle.condvar.specs.Calls.{operation_of}
@@ -11,7 +11,6 @@ use Rattle.condvar.specs.Rows.{IsGoing}
 use Rattle.condvar.specs.Laws.{row_operation}
 use Rattle.condvar.specs.Programs.{row_access, resume_of}
 use Rattle.protocol.specs.Ops.{operation_of as operation_of_op}
-use Rattle.protocol.specs.PassedBy.{NobodyIsPassedBy}
 use Rattle.protocol.specs.Sleepers.{IsAmong}
 use Rattle.protocol.proofs.Puts.{put-same, put-other}
 use Rattle.protocol.proofs.Kept.{IsFor, Kept}
@@ -29,6 +28,7 @@ use Rattle.protocol.proofs.Counters.{IsBefore, CondMove, By_row, Before_release,
 use Rattle.protocol.proofs.Queues.{Once, first_stands, without_stands, once_without}
 use Rattle.protocol.proofs.NoteFacts.{IsOfSleep, of_access, of_walk}
 use Rattle.std.proofs.lemmas.List.{drop_all}
+use Rattle.protocol.proofs.Cases.{some_same}
 
 -- ---- queues are short
 
@@ -137,15 +137,12 @@ module _ (s : State) (t k : ℕ) (b : Begun) (inv : Kept s) (queued : Queued s) 
   same_call : (x : Begun) → Some b ≡ Some x → b ≡ x
   same_call x e = cc
 
-  some_same : (i j : ℕ) → Some i ≡ Some j → i ≡ j
-  some_same i j e = cc
-
   abbrev pub Empties : After → Type 0
   Empties a = IsAmong (Return t OK) (facts_of a.note) → a.state.queues (counter_place s.layout k) ≡ []
 
   -- no call on a mutex is a broadcast, nor the lock that ends a wait
   no_call : (o : Op) (p : Whole) → IsFor s.layout o p.operation → operation_of_op o ≡ Operation.Broadcast → ⊥
-  no_call x0 p is e = grind (arith)
+  no_call o p is e = grind (arith)
 
   called : (o : Op) (p : Whole) → 1 ≤ t → t ≤ s.layout.threads → (s.threads t).stage ≡ Calling o p → ⊥
   called o p pos known is =

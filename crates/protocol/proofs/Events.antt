@@ -1,5 +1,5 @@
 -- What an event does, case by case.
-use Rattle.std.proofs.Common.{◌≡◌, ℕ, ◌<◌, ◌≤◌, Bool, true, false, ◌&&◌, Result, Ok, Err, refl, sym, ◌∙◌, subst, arith}
+use Rattle.std.proofs.Common.{◌≡◌, ℕ, ◌<◌, ◌≤◌, Bool, true, false, ◌&&◌, Result, Ok, Err, refl, sym, subst, arith}
 use Rattle.protocol.proofs.Vocabulary.{CondCall, condition_of, CondWhole, Mutex, Condition, Layout', IsLayout, acquires, Reply, XHELD, Whole, whole_access, whole_led, Op, OnMutex}
 use Rattle.protocol.proofs.Vocabulary.{OnCondition, Event, Step, Stage, Idle, Calling, AtCondition, Dying, mutex_of, Names, State, After, is_alive, killed, may_begin, begun}
 use Rattle.protocol.proofs.Vocabulary.{first_stage, nothing, answer_of, is_asleep, led, led_at, went, walked, stepped, happens, if◌then◌else◌, nat_le, nat_tests}
@@ -38,7 +38,7 @@ begins_at l t (OnCondition c) = AtCondition c (condition.begins l t c)
 
 -- one that takes a mutex is refused where its thread owns 2,048
 pub first_is : (l : Layout') (t held : ℕ) (o : Op) → first_stage l t held o ≡ (if acquires (operation_of o) && nat_le 2048 held then Err XHELD else Ok (begins_at l t o))
-first_is l t held x3 = grind (arith)
+first_is l t held o = grind (arith)
 
 -- ---- events
 
@@ -77,4 +77,4 @@ pub by_stage : (s : State) (t : ℕ) (P : After → Type 0) → ((is_asleep s t 
     → P (went s t (s.threads t).held (mutex_of s.layout (OnCondition c)) (Condition (condition_of c)) (condition.cond_access p) (led_at c p (condition.cond_led p (answer_of s t (condition.cond_access p))))))
     → ((w : walks.Standing) → (s.threads t).stage ≡ Dying w → is_asleep s t ≡ false → P (walked s t (s.threads t).held w))
     → P (stepped s t (s.threads t).held (s.threads t).stage)
-by_stage s t x2 none calls_on conditions_on walks_on = grind (arith)
+by_stage s t P none calls_on conditions_on walks_on = grind (arith)

@@ -1,17 +1,12 @@
 -- What one access of a thread leaves of the others, and of the mutexes' owners.
-use Rattle.std.proofs.Common.{◌≡◌, ◌≢◌, ◌⊎◌, inl, inr, ⊎_elim, ℕ, ◌+◌, ◌<◌, ◌≤◌, ◌==◌, Bool, true, false, Option, Some, None, List, ◌∷◌, refl, sym, ap, ◌∙◌, subst, arith, eqb-true}
+use Rattle.std.proofs.Common.{◌≡◌, ◌≢◌, ◌⊎◌, inl, inr, ⊎_elim, ℕ, ◌+◌, ◌<◌, ◌≤◌, Bool, true, Option, Some, None, List, ◌∷◌, refl, sym, ap, ◌∙◌, subst, arith}
 use Rattle.protocol.proofs.Vocabulary.{CondCall, CondPhase, CondWhole, OnlyWaits, owner_of, owner_of-some, Access, acquires, Object, Operation, IsLayout, head_place, entry_place}
 use Rattle.protocol.proofs.Vocabulary.{cell_place, held_by, Fields, fields_of, word_of, fields_of-word_of, Reply, Phase, AtCell, Linking, Clearing, Whole, Sound, OnCondition}
-use Rattle.protocol.proofs.Vocabulary.{mutex_of, Thread, Stage, Idle, Calling, AtCondition, Dying, Reaped, State, held_after, seen, Agree, eqb-false, Part}
-use Rattle.lockword.specs.Cells.{waiting}
+use Rattle.protocol.proofs.Vocabulary.{mutex_of, Thread, Stage, Idle, Calling, AtCondition, Dying, Reaped, State, held_after, seen, Agree, waiting}
 use Rattle.exitwalk.specs.declared.row.Row as walk_row
-use Rattle.exitwalk.specs.declared.row.Rest as walk_rest
-use Rattle.exitwalk.specs.declared.row.Part as walk_part
-use Rattle.exitwalk.specs.declared.row.Row.TheVariants as walk
 use Rattle.exitwalk.specs.Standings as walks
 use Rattle.exitwalk.specs.Walks as exit
 use Rattle.exitwalk.specs.Steps.{waiting_word}
-use Rattle.robustlist.proofs.Chains.{leads-same}
 use Rattle.keys.specs.Chains.{previous_place}
 use Rattle.robustlist.specs.Words.{IsOn}
 use Rattle.robustlist.proofs.Links as links
@@ -22,9 +17,11 @@ use Rattle.keys.proofs.Objects.{others_keep}
 use Rattle.protocol.proofs.Puts.{by_put}
 use Rattle.protocol.proofs.Objects.{one, mine, others, owners}
 use Rattle.protocol.proofs.Counts.{held_by-changed, held_by-owns}
-use Rattle.protocol.proofs.Kept.{InPhase, Fits, AtPhase, FitsAt, ChainedAt, Sits, Owned, ChainedIn, Chained, left_out, Walks, Left, LeftOf, LeftIn, LeftFrom, Treats, Mourns, Listed, PendsAs, HasHead, Kept}
+use Rattle.protocol.proofs.Kept.{InPhase, Fits, AtPhase, FitsAt, ChainedAt, Sits, Owned, ChainedIn, Chained, left_out, Walks, Treats, Mourns, Listed, PendsAs, HasHead, Kept}
 use Rattle.protocol.proofs.Places.{IsMine, list_is_mine, both_same, behind}
 use Rattle.protocol.proofs.Steps.{Tells, unmoved, seen-inside, done}
+use Rattle.protocol.proofs.Cases.{by_same, at_or_else}
+use Rattle.protocol.proofs.Mourning.{mourns_carries}
 
 -- what a call needs of its mutex stays, where that stays as long as the call's thread owns it
 in_phase_carries : (u held : ℕ) (q : Whole) (f : Phase) (o n : Object) → (o.owner ≡ Some u → n ≡ o) → InPhase u held q f o → InPhase u held q f n
@@ -88,27 +85,19 @@ module _ (s : State) (t m : ℕ) (a : Access) (th : Thread) (op : Operation) (po
 
   -- a mutex that another owns is as it was
   keeps_theirs : (u k : ℕ) → t ≢ u → (seen s k).owner ≡ Some u → seen s' k ≡ seen s k
-  keeps_theirs u k apart own = go (k == m) refl
+  keeps_theirs u k apart = at_or_else (λ (j : ℕ). (seen s j).owner ≡ Some u → seen s' j ≡ seen s j) m k (here point tells) (λ other own. far k other)
     where
       here : (x : Option Reply) → Tells t (seen s m) op x (seen s' m) → (seen s m).owner ≡ Some u → seen s' m ≡ seen s m
       here None same own = same
       here (Some x) permits own = others_keep (seen s m) (seen s' m) t u op x own apart permits
 
-      go : (b : Bool) → (k == m) ≡ b → seen s' k ≡ seen s k
-      go true e = let is : k ≡ m = eqb-true k m e in subst (λ (j : ℕ). seen s' j ≡ seen s j) (sym is) (here point tells (sym (ap (λ (j : ℕ). (seen s j).owner) is) ∙ own))
-      go false e = far k (eqb-false k m e)
-
   -- and another comes to own none
   owned_before : (u k : ℕ) → t ≢ u → (seen s' k).owner ≡ Some u → (seen s k).owner ≡ Some u
-  owned_before u k apart own = go (k == m) refl
+  owned_before u k apart = at_or_else (λ (j : ℕ). (seen s' j).owner ≡ Some u → (seen s j).owner ≡ Some u) m k (here point tells) (λ other own. sym (ap (λ (z : Object). z.owner) (far k other)) ∙ own)
     where
       here : (x : Option Reply) → Tells t (seen s m) op x (seen s' m) → (seen s' m).owner ≡ Some u → (seen s m).owner ≡ Some u
       here None same own = sym (ap (λ (z : Object). z.owner) same) ∙ own
       here (Some x) permits own = ⊎_elim (λ before. before) (λ is. absurd (apart (sym is))) (owners (seen s m) (seen s' m) t u op x permits own)
-
-      go : (b : Bool) → (k == m) ≡ b → (seen s k).owner ≡ Some u
-      go true e = let is : k ≡ m = eqb-true k m e in subst (λ (j : ℕ). (seen s j).owner ≡ Some u) (sym is) (here point tells (sym (ap (λ (j : ℕ). (seen s' j).owner) is) ∙ own))
-      go false e = sym (ap (λ (z : Object). z.owner) (far k (eqb-false k m e))) ∙ own
 
   -- ---- the calls of others, and their lists
   fits_theirs : (u : ℕ) → t ≢ u → (held k : ℕ) (q : Whole) → Fits s u held k q → Fits s' u held k q
@@ -187,25 +176,6 @@ module _ (s : State) (t m : ℕ) (a : Access) (th : Thread) (op : Operation) (po
   -- ---- the lists of threads that died
 
   module _ (u : ℕ) (first : 1 ≤ u) (most : u ≤ s.layout.threads) (apart : t ≢ u) where
-    their_left : (e p : ℕ) (es : List ℕ) (treated : Option ℕ) → Left s u e p es treated → Left s' u e p es treated
-    their_left e p es treated l = record {
-      leads = leads-same s.words s'.words (head_place u) e e es refl (λ x among. let k = l.entries x among in spares u x first most apart (inr (inr (k.0, k.1, inl k.2, k.3)))) l.leads;
-      different = l.different;
-      entries = λ x among. let k = l.entries x among in (k.0, k.1, k.2, ap (λ (z : Object). z.owner) (keeps_theirs u k.0 apart k.3) ∙ k.3, k.4);
-      all = λ k below own. l.all k below (owned_before u k apart own);
-      pending = l.pending;
-    }
-
-    their_rest : (r : walk_rest.Rest) (treated : Option ℕ) → LeftOf s u r treated → LeftOf s' u r treated
-    their_rest r treated (es, l, offset, few) = (es, their_left r.entry r.pending es treated l, offset, few)
-
-    their_part : (rest : walk_part.Part) (treated : Option ℕ) → LeftIn s u rest treated → LeftIn s' u rest treated
-    their_part (Part.List r) treated l = their_rest r treated l
-    their_part Part.Pending treated l = λ k below own. l k below (owned_before u k apart own)
-
-    their_from : (e : ℕ) → LeftFrom s u e → LeftFrom s' u e
-    their_from e (es, l, few) = (es, subst (λ (p : ℕ). Left s' u e p es None) (sym (spares u (head_place u + 2) first most apart (inr (inl refl)))) (their_left e (s.words (head_place u + 2)) es None l), few)
-
     -- the word that is being treated is still as it was seen, but that WAITERS may be set
     still_waits : (v at k : ℕ) (again : Bool) → Treats s at k → (seen s k).owner ≡ Some u → OnlyWaits v again (s.words at) → OnlyWaits v again (s'.words at)
     still_waits v at k again treats own only =
@@ -213,14 +183,11 @@ module _ (s : State) (t m : ℕ) (a : Access) (th : Thread) (op : Operation) (po
         (only_waits_on v again (s.words (cell_place s.layout k)) (s'.words (cell_place s.layout k)) (subst (λ (x : ℕ). OnlyWaits v again (s.words x)) treats.1 only) (waits u k first most apart treats.0 own))
 
     their_walk : (r : walk_row.Row) → exit.Knows u (head_place u) r → Mourns s u r → Mourns s' u r
-    their_walk walk.LoadFirst knows l = subst (LeftFrom s' u) (sym (spares u (head_place u) first most apart (inl refl))) (their_from (s.words (head_place u)) l)
-    their_walk (walk.LoadOffset f) knows l = their_from f l
-    their_walk (walk.LoadPending f o) knows (l, offset) = (their_from f l, offset)
-    their_walk (walk.LoadNext r) knows l = their_rest r None l
-    their_walk (walk.LoadWord at rest) knows (k, treats, l) = (k, treats, their_part rest (Some k) l)
-    their_walk (walk.Mark at v again rest) knows (k, treats, l, only) = (k, treats, their_part rest (Some k) l, still_waits v at k again treats (marks_own s u k at v again inv.layout treats first most knows.0 only) only)
-    their_walk (walk.WakeOne at rest) knows (k, treats, l) = (k, treats, their_part rest None l)
-    their_walk walk.Ended knows l = absurd l
+    their_walk r knows l =
+        mourns_carries s s'.words s'.queues s'.threads u (λ x k below is own. spares u x first most apart (inr (inr (k, below, inl is, own))))
+        (spares u (head_place u) first most apart (inl refl)) (spares u (head_place u + 2) first most apart (inr (inl refl)))
+        (λ k own. ap (λ (z : Object). z.owner) (keeps_theirs u k apart own) ∙ own) (λ k own. owned_before u k apart own)
+        (λ k at v again treats owner only. still_waits v at k again treats (marks_own s u k at v again inv.layout treats first most owner only) only) r knows l
 
   their_list : (u : ℕ) → 1 ≤ u → u ≤ s.layout.threads → t ≢ u → (held : ℕ) (g : Stage) → Sits s u held g → Listed s u g → Listed s' u g
   their_list u first most apart held Idle f (es, owned, ch) = (es, their_entries u None es apart owned, their_chain u first most apart None es owned held Idle f ch)
@@ -273,11 +240,7 @@ module _ (s : State) (t m : ℕ) (a : Access) (th : Thread) (op : Operation) (po
   }
 
   owners' : (k u : ℕ) → (seen s' k).owner ≡ Some u → (1 ≤ u) × (u ≤ s.layout.threads)
-  owners' k u own = go (t == u) refl
-    where
-      go : (b : Bool) → (t == u) ≡ b → (1 ≤ u) × (u ≤ s.layout.threads)
-      go true e = let is : t ≡ u = eqb-true t u e in (omega arith, omega arith)
-      go false e = inv.owners k u (owned_before u k (eqb-false t u e) own)
+  owners' k u own = by_same t u (λ is. (omega (arith, is), omega (arith, is))) (λ apart. inv.owners k u (owned_before u k apart own))
 
   -- what holds of every state holds then, where it holds of the thread itself and of its mutex
   pub kept_where : Sits s' t th.held th.stage → Listed s' t th.stage → PendsAs (s'.words (head_place t + 2)) th.stage → Sound (seen s' m) → Kept s'
@@ -292,14 +255,7 @@ module _ (s : State) (t m : ℕ) (a : Access) (th : Thread) (op : Operation) (po
         (λ is. subst (λ (v : ℕ). Listed s' v th.stage) (sym is) listed)
         (λ apart. their_list u first most (λ e. apart (sym e)) (s.threads u).held (s.threads u).stage (inv.sits u first most) (inv.listed u first most));
     heads = head_after pending;
-    sound = sound';
+    sound = λ k. at_or_else (λ (j : ℕ). Sound (seen s' j)) m k sound_here (λ other. subst Sound (sym (far k other)) (inv.sound k));
     owners = owners';
     held = held';
   }
-    where
-      sound' : (k : ℕ) → Sound (seen s' k)
-      sound' k = go (k == m) refl
-        where
-          go : (b : Bool) → (k == m) ≡ b → Sound (seen s' k)
-          go true e = subst (λ (j : ℕ). Sound (seen s' j)) (sym (eqb-true k m e)) sound_here
-          go false e = subst Sound (sym (far k (eqb-false k m e))) (inv.sound k)

@@ -1,4 +1,5 @@
 mod Vocabulary
+mod Cases
 pub mod Puts
 mod NoteFacts
 pub mod Phases
@@ -9,10 +10,12 @@ pub mod Places
 pub mod Steps
 pub mod Owning
 pub mod Arrivals
+mod Mourning
 pub mod Frames
 pub mod Stepping
 pub mod CallSteps
 pub mod CellSteps
+pub mod OwnWords
 pub mod OwnSteps
 pub mod Accesses
 pub mod Walking

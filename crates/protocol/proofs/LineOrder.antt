@@ -1,12 +1,10 @@
 -- In which order the facts of an event, and those of one event after the other, are told.
-use Rattle.std.proofs.Common.{◌≡◌, ℕ, ◌+◌, ◌≤◌, ◌==◌, Bool, true, false, Option, Some, None, List, [], ◌∷◌, ◌++◌, map, refl, sym, ◌∙◌, arith}
+use Rattle.std.proofs.Common.{◌≡◌, ℕ, ◌+◌, ◌≤◌, Bool, true, false, Option, Some, None, List, [], ◌∷◌, ◌++◌, map, refl, sym, ◌∙◌, arith}
 use Rattle.protocol.proofs.Vocabulary.{Fact, Queue, Operation, Reply, Stepped, Event, facts_of, sleep_facts, moves_to, return_facts, death_facts, reap_facts, decision, caller}
-use Rattle.facts.specs.declared.fact.Fact.TheVariants.{Wake}
+use Rattle.protocol.proofs.Vocabulary.{line_of, caller_of}
 use Rattle.facts.specs.declared.fact.Line.{Line}
 use Rattle.facts.specs.Facts.{thread_of, decides, is_passive, is_kill}
 use Rattle.facts.specs.Orders.{Later, Each, Orderly}
-use Rattle.protocol.specs.Notes.{line_of}
-use Rattle.protocol.specs.Explained.{caller_of}
 use Rattle.protocol.proofs.NoteFacts.{IsOfSleep, behind_woken, behind_point, of_access, of_walk}
 
 -- ---- which facts one event may tell, of thread u: no two points, and but for wakes nothing of others
@@ -24,31 +22,31 @@ sleep_decides u f of = grind (arith)
 sleep_thread : (u : ℕ) (f : Fact) → IsOfSleep u f → is_passive f ≡ false → thread_of f ≡ u
 sleep_thread u f of active = grind (arith)
 
-slept_pointless : (u m : ℕ) (z : Option Queue) (ws ms : List ℕ) (y : Option Reply) → NoPoint (sleep_facts u z ++ (map Wake ws ++ (map (moves_to m) ms ++ return_facts u y)))
+slept_pointless : (u m : ℕ) (z : Option Queue) (ws ms : List ℕ) (y : Option Reply) → NoPoint (sleep_facts u z ++ (map Fact.Wake ws ++ (map (moves_to m) ms ++ return_facts u y)))
 slept_pointless u m z ws ms y = behind_point NoPoint u m z ws ms (return_facts u y) (λ f of fs rest. (sleep_decides u f of, rest)) (grind (arith))
 
 returned_fine : (u : ℕ) (y : Option Reply) → Fine u (return_facts u y)
 returned_fine u None = tt
 returned_fine u (Some x) = ((λ e. refl), (λ e. tt), tt)
 
-slept_fine : (u m : ℕ) (z : Option Queue) (ws ms : List ℕ) (y : Option Reply) → Fine u (sleep_facts u z ++ (map Wake ws ++ (map (moves_to m) ms ++ return_facts u y)))
+slept_fine : (u m : ℕ) (z : Option Queue) (ws ms : List ℕ) (y : Option Reply) → Fine u (sleep_facts u z ++ (map Fact.Wake ws ++ (map (moves_to m) ms ++ return_facts u y)))
 slept_fine u m z ws ms y = behind_point (Fine u) u m z ws ms (return_facts u y) (λ f of fs rest. (sleep_thread u f of, (λ e. absurd (cc (e, sleep_decides u f of))), rest)) (returned_fine u y)
 
 pub access_fine : (u m : ℕ) (op : Operation) (x : Option Reply) (z : Option Queue) (ws ms : List ℕ) (y : Option Reply) → Fine u (facts_of (Stepped u m (decision u m op x) z ws ms y))
 access_fine u m op None z ws ms y = slept_fine u m z ws ms y
 access_fine u m op (Some x) z ws ms y = ((λ e. refl), (λ e. slept_pointless u m z ws ms y), slept_fine u m z ws ms y)
 
-reaped_pointless : (u : ℕ) (ws : List ℕ) (y : Bool) → NoPoint (map Wake ws ++ reap_facts u y)
+reaped_pointless : (u : ℕ) (ws : List ℕ) (y : Bool) → NoPoint (map Fact.Wake ws ++ reap_facts u y)
 reaped_pointless u ws y = behind_woken NoPoint ws (reap_facts u y) (λ w fs rest. (refl, rest)) (grind (arith))
 
-reaped_fine : (u : ℕ) (ws : List ℕ) (y : Bool) → Fine u (map Wake ws ++ reap_facts u y)
+reaped_fine : (u : ℕ) (ws : List ℕ) (y : Bool) → Fine u (map Fact.Wake ws ++ reap_facts u y)
 reaped_fine u ws y = behind_woken (Fine u) ws (reap_facts u y) (λ w fs rest. ((λ e. absurd cc), (λ e. absurd cc), rest)) (reap_fine y)
   where
     reap_fine : (b : Bool) → Fine u (reap_facts u b)
     reap_fine false = tt
     reap_fine true = ((λ e. refl), (λ e. tt), tt)
 
-pub walked_fine : (u : ℕ) (d : Option ℕ) (ws : List ℕ) (y : Bool) → Fine u (death_facts u d ++ (map Wake ws ++ reap_facts u y))
+pub walked_fine : (u : ℕ) (d : Option ℕ) (ws : List ℕ) (y : Bool) → Fine u (death_facts u d ++ (map Fact.Wake ws ++ reap_facts u y))
 walked_fine u None ws y = reaped_fine u ws y
 walked_fine u (Some m) ws y = ((λ e. refl), (λ e. reaped_pointless u ws y), reaped_fine u ws y)
 
@@ -90,7 +88,7 @@ sleep_no_kill u f of = grind (arith)
 pub access_no_kill : (u m : ℕ) (op : Operation) (x : Option Reply) (z : Option Queue) (ws ms : List ℕ) (y : Option Reply) → NoKill (facts_of (Stepped u m (decision u m op x) z ws ms y))
 access_no_kill u m op x z ws ms y = of_access NoKill u m (decision u m op x) z ws ms y (λ e fs rest. (refl, rest)) (λ f of fs rest. (sleep_no_kill u f of, rest)) (grind (arith))
 
-pub walked_no_kill : (u : ℕ) (d : Option ℕ) (ws : List ℕ) (y : Bool) → NoKill (death_facts u d ++ (map Wake ws ++ reap_facts u y))
+pub walked_no_kill : (u : ℕ) (d : Option ℕ) (ws : List ℕ) (y : Bool) → NoKill (death_facts u d ++ (map Fact.Wake ws ++ reap_facts u y))
 walked_no_kill u d ws y = of_walk NoKill u d ws y (λ m fs rest. (refl, rest)) (λ w fs rest. (refl, rest)) (grind (arith))
 
 -- ---- the order of lines

@@ -1,12 +1,12 @@
 -- The list of each thread.
-use Rattle.std.proofs.Common.{◌≡◌, ◌≢◌, ◌⊎◌, inl, inr, ⊎_elim, ℕ, zero, suc, ◌+◌, ◌<◌, ◌≤◌, ◌==◌, Bool, true, false, Option, Some, None, List, [], ◌∷◌, length, refl, sym, ap, ◌∙◌, subst, arith, eqb-true}
+use Rattle.std.proofs.Common.{◌≡◌, ◌≢◌, ◌⊎◌, inl, inr, ⊎_elim, ℕ, zero, suc, ◌+◌, ◌<◌, ◌≤◌, ◌==◌, Bool, true, false, Option, Some, None, List, [], ◌∷◌, length, refl, sym, ap, ◌∙◌, subst, arith}
 use Rattle.protocol.proofs.Vocabulary.{CondPhase, Object, AreDifferent, Layout', head_place, entry_place, held_by, Load, Release, Phase, AtCell, Linking, Clearing, Whole, Op}
 use Rattle.protocol.proofs.Vocabulary.{mutex_of, Stage, Idle, Calling, AtCondition, Dying, Reaped, State, is_alive, seen, OnCondition, UnlinkRow, LinkGoes, LinkRow}
-use Rattle.protocol.proofs.Vocabulary.{entries-different, without-among, if◌then◌else◌, eqb-false, WaitRow, CondRow}
+use Rattle.protocol.proofs.Vocabulary.{entries-different, without-among, if◌then◌else◌, WaitRow, CondRow}
 use Rattle.keys.specs.Chains.{IsAmong, IsApart, IsChain, without}
 use Rattle.robustlist.specs.LinkLaws as link_laws
 use Rattle.robustlist.specs.UnlinkLaws as unlink_laws
-use Rattle.mutex.specs.declared.unlock.UnlockRow.TheVariants.{Wake}
+use Rattle.mutex.specs.declared.unlock.UnlockRow.TheVariants.{Wake, Trim}
 use Rattle.mutex.specs.declared.row.Row.TheVariants as row
 use Rattle.mutex.specs.declared.phase.Phase.TheVariants.{Announcing, Unlinking, Ended}
 use Rattle.protocol.specs.Lists.{HasList}
@@ -15,6 +15,7 @@ use Rattle.protocol.proofs.Kept.{left_out_at, ChainedAt, pending_at, InPhase, le
 use Rattle.protocol.proofs.Places.{among_without, without_is_apart}
 use Rattle.protocol.proofs.Accesses.{fits_in}
 use Rattle.protocol.proofs.CondAccesses.{fits_at}
+use Rattle.protocol.proofs.Cases.{by_same, some_same}
 
 -- ---- a list is no longer than its thread owns mutexes
 
@@ -90,14 +91,7 @@ module _ (s : State) (t : ℕ) (inv : Kept s) (first : 1 ≤ t) (most : t ≤ s.
     where
       left : (o : Option ℕ) → out ≡ o → (m : ℕ) → m < s.layout.mutexes → (seen s m).owner ≡ Some t → IsAmong (entry_place s.layout m) es ⊎ (s.words (head_place t + 2) ≡ entry_place s.layout m)
       left None is m inside own = inl (owned.all m inside own (λ e. cc (is, e)))
-      left (Some k) is m inside own = pick (k == m) refl
-        where
-          pick : (b : Bool) → (k == m) ≡ b → IsAmong (entry_place s.layout m) es ⊎ (s.words (head_place t + 2) ≡ entry_place s.layout m)
-          pick true e = inr (pends m inside (is ∙ ap Some (eqb-true k m e)))
-          pick false e = inl (owned.all m inside own (λ same. eqb-false k m e (some_same k m (sym is ∙ same))))
-            where
-              some_same : (i j : ℕ) → Some i ≡ Some j → i ≡ j
-              some_same i j e = cc
+      left (Some k) is m inside own = by_same k m (λ e. inr (pends m inside (is ∙ ap Some e))) (λ other. inl (owned.all m inside own (λ same. other (some_same k m (sym is ∙ same)))))
 
   -- a call that leaves out none
   none_left : (es : List ℕ) → IsChain s.words (head_place t) es → Owned s t None es → HasList s t
@@ -107,9 +101,6 @@ module _ (s : State) (t : ℕ) (inv : Kept s) (first : 1 ≤ t) (most : t ≤ s.
   in_unlink : (m e : ℕ) (es : List ℕ) (r : UnlinkRow) → e ≡ entry_place s.layout m → s.words (head_place t + 2) ≡ e → Owned s t None es → unlink_laws.Unlinking (head_place t) e es r s.words → HasList s t
   in_unlink m e es r entry pends owned ch = go (unlink_leads (head_place t) e es r s.words ch)
     where
-      some_same : (i j : ℕ) → Some i ≡ Some j → i ≡ j
-      some_same i j e = cc
-
       go : IsChain s.words (head_place t) es ⊎ IsChain s.words (head_place t) (without e es) → HasList s t
       go (inl chain) = none_left es chain owned
       go (inr chain) = finds (without e es) (Some m) chain
@@ -123,9 +114,6 @@ module _ (s : State) (t : ℕ) (inv : Kept s) (first : 1 ≤ t) (most : t ≤ s.
   -- a call on a condition variable
   in_condition : (m e : ℕ) (f : CondPhase) → e ≡ entry_place s.layout m → s.words (head_place t + 2) ≡ pending_at e f → (es : List ℕ) → Owned s t (left_out_at m f) es → ChainedAt s.words (head_place t) e es f → HasList s t
   in_condition m e (CondPhase.AtWords (CondRow.Wait (WaitRow.Release x))) entry pends es owned ch = finds es (Some m) ch.chain owned (λ k inside is. pends ∙ entry ∙ ap (entry_place s.layout) (some_same m k is))
-    where
-      some_same : (i j : ℕ) → Some i ≡ Some j → i ≡ j
-      some_same i j e = cc
   in_condition m e (CondPhase.AtWords (CondRow.Wait WaitRow.LoadCell)) entry pends es owned ch = none_left es ch.chain owned
   in_condition m e (CondPhase.AtWords (CondRow.Wait WaitRow.LoadCounter)) entry pends es owned ch = none_left es ch.chain owned
   in_condition m e (CondPhase.AtWords (CondRow.Wait (WaitRow.Wake x))) entry pends es owned ch = none_left es ch.chain owned
@@ -143,19 +131,14 @@ module _ (s : State) (t : ℕ) (inv : Kept s) (first : 1 ≤ t) (most : t ≤ s.
       → (es : List ℕ) → Owned s t (left_out_in (mutex_of s.layout c) f) es → ChainedIn s.words (head_place t) p.entry es f → HasList s t
   in_call c p (Announcing r) stands entry pends es owned ch = none_left es ch.chain owned
   in_call c p (AtCell (row.Unlock (Release d))) stands entry pends es owned ch = finds es (Some (mutex_of s.layout c)) ch.chain owned (λ m inside e. pends ∙ entry ∙ ap (entry_place s.layout) (some_same (mutex_of s.layout c) m e))
-    where
-      some_same : (i j : ℕ) → Some i ≡ Some j → i ≡ j
-      some_same i j e = cc
   in_call c p (AtCell (row.Unlock Load)) stands entry pends es owned ch = none_left es ch.chain owned
   in_call c p (AtCell (row.Unlock (Wake a))) stands entry pends es owned ch = none_left es ch.chain owned
+  in_call c p (AtCell (row.Unlock Trim)) stands entry pends es owned ch = none_left es ch.chain owned
   in_call c p (AtCell (row.Lock r)) stands entry pends es owned ch = none_left es ch.chain owned
   in_call c p (AtCell (row.TryLock r)) stands entry pends es owned ch = none_left es ch.chain owned
   in_call c p (AtCell (row.Consistent r)) stands entry pends es owned ch = none_left es ch.chain owned
   in_call c p (AtCell (row.Ended x)) stands entry pends es owned ch = none_left es ch.chain owned
   in_call c p (Linking l x) stands entry pends es owned ch = finds es (Some (mutex_of s.layout c)) (link_leads (head_place t) p.entry es l.row s.words stands.2 ch) owned (λ m inside e. pends ∙ entry ∙ ap (entry_place s.layout) (some_same (mutex_of s.layout c) m e))
-    where
-      some_same : (i j : ℕ) → Some i ≡ Some j → i ≡ j
-      some_same i j e = cc
   in_call c p (Unlinking u d) stands entry pends es owned ch = in_unlink (mutex_of s.layout c) p.entry es u.row entry pends owned ch
   in_call c p (Clearing x) stands entry pends es owned ch = none_left es ch.chain owned
   in_call c p (Ended x) stands entry pends es owned ch = absurd stands

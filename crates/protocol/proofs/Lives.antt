@@ -1,18 +1,15 @@
 -- What each event adds to its thread's life, and that its lines are in order.
-use Rattle.std.proofs.Common.{◌≡◌, ◌≢◌, inl, inr, append-nil, ℕ, ◌+◌, ◌≤◌, ◌==◌, Bool, true, false, ◌&&◌, Option, Some, None, Ok, Err, List, [], ◌∷◌, ◌++◌, map, refl, sym, ap, ◌∙◌, subst, eqb-true, arith}
+use Rattle.std.proofs.Common.{◌≡◌, ◌≢◌, inl, inr, append-nil, ℕ, ◌+◌, ◌≤◌, ◌==◌, Bool, true, false, Option, Some, None, Ok, Err, List, [], ◌∷◌, ◌++◌, map, refl, sym, ap, ◌∙◌, subst, arith}
 use Rattle.protocol.proofs.Vocabulary.{CondCall, condition_of, CondWhole, cond_access, cond_led, Begun, Queue, Mutex, Condition, Fact, Return, Operation, Access, Answer, Layout'}
 use Rattle.protocol.proofs.Vocabulary.{Reply, XHELD, Whole, whole_access, whole_led, Op, OnCondition, mutex_of, begun_of, Event, Thread, Stage, Idle, Calling, AtCondition, Dying}
 use Rattle.protocol.proofs.Vocabulary.{Reaped, Note, Began, Stepped, Walked, facts_of, sleep_facts, moves_to, return_facts, death_facts, reap_facts, State, After, start, nothing}
 use Rattle.protocol.proofs.Vocabulary.{is_alive, has_ended, stage_walked, killed, walked, begun, decision, slept_in, falls_asleep, woken, answer_of, led, led_at, went, happens}
-use Rattle.protocol.proofs.Vocabulary.{notes, caller, if◌then◌else◌, MatchBool, eqb-false}
+use Rattle.protocol.proofs.Vocabulary.{notes, caller, if◌then◌else◌, MatchBool, Nothing, Killed, line_of, point_facts, lines_from, caller_of, IsExplained, TraceIsExplained}
 use Rattle.facts.specs.declared.fact.Fact.TheVariants.{Begin, Point, Wake, Kill, Death, Reap}
-use Rattle.protocol.specs.declared.note.Note.TheVariants.{Nothing, Killed}
 use Rattle.facts.specs.declared.fact.Line.{Line}
 use Rattle.facts.specs.Facts.{thread_of, is_passive}
 use Rattle.facts.specs.Lives.{Act, Beginning, made_by, made, is_of_call, own, Mourned, Unburied, Tells_of, Buried, Life, Rests, Returns, Stays, Cut, Dies}
-use Rattle.protocol.specs.Notes.{line_of, point_facts, lines_from}
 use Rattle.protocol.specs.Machine.{moved, Led}
-use Rattle.protocol.specs.Explained.{caller_of, IsExplained, TraceIsExplained}
 use Rattle.protocol.proofs.Puts.{put-same, put-other}
 use Rattle.protocol.proofs.Phases.{decided_at}
 use Rattle.protocol.proofs.Kept.{Kept}
@@ -29,6 +26,7 @@ use Rattle.exitwalk.specs.declared.row.Row as walk_row
 use Rattle.exitwalk.specs.declared.row.Row.TheVariants as walk
 use Rattle.exitwalk.specs.Standings as walks
 use Rattle.protocol.proofs.NoteFacts.{IsOfSleep, behind_woken, behind_point}
+use Rattle.protocol.proofs.Cases.{by_same}
 
 -- ---- what may come next in a thread's life
 
@@ -281,16 +279,13 @@ adds s e inv =
 
 -- one event, and then what may come next
 lives_on : (s : State) (e : Event) (i : ℕ) (rest : List Line) → Kept s → (t : ℕ) → Goes s.layout t ((happens s e).state.threads t).stage (own t rest) → Goes s.layout t (s.threads t).stage (own t (map (line_of i) (facts_of (happens s e).note) ++ rest))
-lives_on s e i rest inv t later = subst (Goes s.layout t (s.threads t).stage) (sym (own-calls t i (happens s e).note rest)) (go (caller e == t) refl)
-  where
-    go : (b : Bool) → (caller e == t) ≡ b → Goes s.layout t (s.threads t).stage (own t (map (line_of i) (calls_of (happens s e).note) ++ rest))
-    go true e' =
-        let is : caller e ≡ t = eqb-true (caller e) t e' in
-        subst (λ (v : ℕ). Goes s.layout v ((happens s e).state.threads v).stage (own v rest) → Goes s.layout v (s.threads v).stage (own v (map (line_of i) (calls_of (happens s e).note) ++ rest))) is ((adds s e inv).mine i rest) later
-    go false e' =
-        let apart : caller e ≢ t = eqb-false (caller e) t e' in
-        subst (Goes s.layout t (s.threads t).stage) (sym (own-apart t (caller e) i (calls_of (happens s e).note) rest (adds s e inv).says apart))
-        (subst (λ g. Goes s.layout t g (own t rest)) ((adds s e inv).others t apart) later)
+lives_on s e i rest inv t later = subst (Goes s.layout t (s.threads t).stage) (sym (own-calls t i (happens s e).note rest))
+    (by_same (caller e) t
+    (λ is.
+    subst (λ (v : ℕ). Goes s.layout v ((happens s e).state.threads v).stage (own v rest) → Goes s.layout v (s.threads v).stage (own v (map (line_of i) (calls_of (happens s e).note) ++ rest))) is ((adds s e inv).mine i rest) later)
+    (λ apart.
+    subst (Goes s.layout t (s.threads t).stage) (sym (own-apart t (caller e) i (calls_of (happens s e).note) rest (adds s e inv).says apart))
+    (subst (λ g. Goes s.layout t g (own t rest)) ((adds s e inv).others t apart) later)))
 
 -- each thread lives rightly, from any state that keeps the invariant
 lives : (s : State) (es : List Event) (i : ℕ) → Kept s → (t : ℕ) → Goes s.layout t (s.threads t).stage (own t (lines_from i (notes s es)))

@@ -22,7 +22,8 @@ behind_moved P m [] rest keeps h = h
 behind_moved P m (v ∷ vs) rest keeps h = keeps v (map (moves_to m) vs ++ rest) (behind_moved P m vs rest keeps h)
 
 -- behind an access's point: what it returns, and before that who sleeps, and who is woken or moved
-pub behind_point : (P : List Fact → Type 0) (u m : ℕ) (k : Option Queue) (ws ms : List ℕ) (rest : List Fact) → ((f : Fact) → IsOfSleep u f → Keeps P f) → P rest → P (sleep_facts u k ++ (map Fact.Wake ws ++ (map (moves_to m) ms ++ rest)))
+pub behind_point : (P : List Fact → Type 0) (u m : ℕ) (k : Option Queue) (ws ms : List ℕ) (rest : List Fact)
+    → ((f : Fact) → IsOfSleep u f → Keeps P f) → P rest → P (sleep_facts u k ++ (map Fact.Wake ws ++ (map (moves_to m) ms ++ rest)))
 behind_point P u m k ws ms rest keeps h = go k (behind_woken P ws (map (moves_to m) ms ++ rest) (λ w. keeps (Fact.Wake w) tt) (behind_moved P m ms rest (λ v. keeps (Fact.Move v m) tt) h))
   where
     go : (k : Option Queue) → P (map Fact.Wake ws ++ (map (moves_to m) ms ++ rest)) → P (sleep_facts u k ++ (map Fact.Wake ws ++ (map (moves_to m) ms ++ rest)))
@@ -36,6 +37,7 @@ of_access P u m None k ws ms y point keeps h = behind_point P u m k ws ms (retur
 of_access P u m (Some e) k ws ms y point keeps h = point e (facts_of (Stepped u m None k ws ms y)) (behind_point P u m k ws ms (return_facts u y) keeps h)
 
 -- and a walk
-pub of_walk : (P : List Fact → Type 0) (u : ℕ) (d : Option ℕ) (ws : List ℕ) (y : Bool) → ((m : ℕ) → Keeps P (Fact.Death u m)) → ((w : ℕ) → Keeps P (Fact.Wake w)) → P (reap_facts u y) → P (facts_of (Walked u d ws y))
+pub of_walk : (P : List Fact → Type 0) (u : ℕ) (d : Option ℕ) (ws : List ℕ) (y : Bool)
+    → ((m : ℕ) → Keeps P (Fact.Death u m)) → ((w : ℕ) → Keeps P (Fact.Wake w)) → P (reap_facts u y) → P (facts_of (Walked u d ws y))
 of_walk P u None ws y death woken h = behind_woken P ws (reap_facts u y) woken h
 of_walk P u (Some m) ws y death woken h = death m (map Fact.Wake ws ++ reap_facts u y) (behind_woken P ws (reap_facts u y) woken h)

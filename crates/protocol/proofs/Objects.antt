@@ -1,5 +1,5 @@
 -- What the object's steps keep.
-use Rattle.std.proofs.Common.{◌≡◌, ◌≢◌, ◌⊎◌, ℕ, ◌+◌, ◌≤◌, ◌==◌, Bool, Option, Some, None, refl, ap, ◌∙◌, arith, eq-eqb}
+use Rattle.std.proofs.Common.{None, ◌≡◌, ◌≢◌, ◌⊎◌, ℕ, ◌+◌, ◌≤◌, Bool, Option, Some, refl, ap, ◌∙◌, arith, eq-eqb}
 use Rattle.protocol.proofs.Vocabulary.{Operation, Object, Permits, Reply, held_after, if◌then◌else◌}
 use Rattle.keys.specs.Histories.{is_thread}
 

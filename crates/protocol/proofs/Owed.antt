@@ -1,8 +1,7 @@
 -- Threads that run alone.
-use Rattle.std.proofs.Common.{◌≡◌, ◌⊎◌, ⊎_elim, inl, inr, ℕ, zero, suc, ◌<◌, ◌≤◌, ◌==◌, Bool, true, false, ◌&&◌, Option, Some, None, refl, sym, ap, ◌∙◌, subst, arith, eqb-true}
-use Rattle.protocol.proofs.Vocabulary.{Object, cell_place, counter_place, sleeps_at, Reply, Step, Stage, State, stands_in, sleepers, is_calling, is_asleep, happens, seen}
-use Rattle.protocol.proofs.Vocabulary.{IsUnowned, eqb-false, nat_tests}
-use Rattle.protocol.specs.Machine.{is_thread, is_walked, is_busy, is_dying}
+use Rattle.std.proofs.Common.{◌≡◌, ◌⊎◌, ⊎_elim, inl, inr, ℕ, zero, suc, ◌<◌, ◌≤◌, Bool, true, false, Option, Some, None, refl, sym, ap, ◌∙◌, subst, arith}
+use Rattle.protocol.proofs.Vocabulary.{Object, cell_place, counter_place, sleeps_at, Reply, Step, Stage, State, stands_in, sleepers, is_asleep, happens, seen, IsUnowned, nat_tests}
+use Rattle.protocol.specs.Machine.{is_thread, is_busy, is_dying}
 use Rattle.protocol.specs.Sleepers.{Sleeps, alone, Owes, SomebodyOwes, IsAtRest, EndsAlone}
 use Rattle.protocol.proofs.Objects.{owners}
 use Rattle.protocol.proofs.Kept.{Kept}
@@ -13,6 +12,7 @@ use Rattle.protocol.proofs.Working.{Goes, awake_goes}
 use Rattle.protocol.proofs.Places.{counter_is_no_cell}
 use Rattle.protocol.proofs.Queues.{Turned, As_before, Falls, Woken, Moved}
 use Rattle.protocol.proofs.Queued.{Answering, Queued, out_awake, mine, turn, carries, stood, now_asleep, this_answers, woken_one, went_queued}
+use Rattle.protocol.proofs.Cases.{by_same, at_or_else}
 
 -- whoever answers for a mutex is in a call, or dead
 answers_work : (s : State) (m t : ℕ) (g : Stage) → AnswersAs s.layout s.words m t g → IsWorking g
@@ -58,7 +58,9 @@ module _ (s : State) (t m u : ℕ) (inv : Kept s) (queued : Queued s) (a : Answe
 
   -- an owner that the step gives is this thread
   owner_is : ((seen s' m).owner ≡ None) ⊎ ((seen s' m).owner ≡ Some t)
-  owner_is = go (m == v.mutex) refl
+  owner_is =
+      at_or_else (λ (k : ℕ). IsUnowned s k → ((seen s' k).owner ≡ None) ⊎ ((seen s' k).owner ≡ Some t)) v.mutex m (given (seen s' v.mutex).owner refl)
+      (λ other free. inl (ap (λ (z : Object). z.owner) (goes.step.far m other) ∙ free)) none
     where
       given : (o : Option ℕ) → (seen s' v.mutex).owner ≡ o → (seen s v.mutex).owner ≡ None → (o ≡ None) ⊎ (o ≡ Some t)
       given None own free = inl refl
@@ -67,10 +69,6 @@ module _ (s : State) (t m u : ℕ) (inv : Kept s) (queued : Queued s) (a : Answe
           who : (y : Option Reply) → Tells t (seen s v.mutex) v.operation y (seen s' v.mutex) → x ≡ t
           who None same = absurd (cc (sym free ∙ (sym (ap (λ (z : Object). z.owner) same) ∙ own)))
           who (Some y) permits = ⊎_elim (λ before. absurd (cc (sym free ∙ before))) (λ this. this) (owners (seen s v.mutex) (seen s' v.mutex) t x v.operation y permits own)
-
-      go : (b : Bool) → (m == v.mutex) ≡ b → ((seen s' m).owner ≡ None) ⊎ ((seen s' m).owner ≡ Some t)
-      go true e = let is = eqb-true m v.mutex e in subst (λ (k : ℕ). ((seen s' k).owner ≡ None) ⊎ ((seen s' k).owner ≡ Some t)) (sym is) (given (seen s' v.mutex).owner refl (subst (IsUnowned s) is none))
-      go false e = inl (ap (λ (z : Object). z.owner) (goes.step.far m (eqb-false m v.mutex e)) ∙ none)
 
   abbrev Done : Type 0
   Done = ((seen s' m).owner ≡ Some t) ⊎ ((x : ℕ) × Sleeps s x m × (stands_in x (sleepers s' m) ≡ false))
@@ -84,7 +82,7 @@ module _ (s : State) (t m u : ℕ) (inv : Kept s) (queued : Queued s) (a : Answe
     pub fewer : left_of s' (s'.threads t).stage < left_of s (s.threads t).stage
 
   pub settles : Done ⊎ GoesOn
-  settles = ⊎_elim (λ free. go free (goes.step.settles m inside free (goes.step.waiters m inside (queued.bits m u inside stands)))) (λ own. inl (inl own)) owner_is
+  settles = ⊎_elim (λ free. ⊎_elim (λ waits. go free (goes.step.settles m inside free waits)) (λ nobody. inl (inr (u, stands, ap (stands_in u) nobody.0))) (goes.step.waiters m inside (queued.bits m u inside stands))) (λ own. inl (inl own)) owner_is
     where
       on : IsUnowned s' m → Continues s t v m → Done ⊎ GoesOn
       on free c = pick (turn s t v goes.step a.first a.last goes.is queued awake u)
@@ -99,13 +97,12 @@ module _ (s : State) (t m u : ℕ) (inv : Kept s) (queued : Queued s) (a : Answe
           }
           pick (Falls me on nobody moves there elsewhere) = absurd (cc (c.0, on))
           pick (Woken quiet woken unmoved before gone) = inl (inr (u, stands, gone (cell_place s.layout m)))
-          pick (Moved from e n to k is quiet unwoken moved before there elsewhere) = other (cell_place s.layout m == to) refl
-            where
-              other : (b : Bool) → (cell_place s.layout m == to) ≡ b → Done ⊎ GoesOn
-              other true x =
-                  let carried = carries s t v goes.step a.first a.last goes.is queued awake u (cell_place s.layout m) from e n to k is before (eqb-true (cell_place s.layout m) to x) in
-                  absurd (counter_is_no_cell s.layout m carried.from inside (sym (queued.one u (cell_place s.layout m) (counter_place s.layout carried.from) stands carried.left)))
-              other false x = inl (inr (u, stands, elsewhere (cell_place s.layout m) (eqb-false (cell_place s.layout m) to x)))
+          pick (Moved from e n to k is quiet unwoken moved before there elsewhere) =
+              by_same (cell_place s.layout m) to
+              (λ here.
+              let carried = carries s t v goes.step a.first a.last goes.is queued awake u (cell_place s.layout m) from e n to k is before here in
+              absurd (counter_is_no_cell s.layout m carried.from inside (sym (queued.one u (cell_place s.layout m) (counter_place s.layout carried.from) stands carried.left))))
+              (λ apart. inl (inr (u, stands, elsewhere (cell_place s.layout m) apart)))
 
       go : IsUnowned s' m → Settles s t v m → Done ⊎ GoesOn
       go free (Wakes_there n some wakes) = let x = woken_one s t v goes.step a.first a.last goes.is queued awake m u n inside some wakes stands in inl (inr (x.0, x.1, x.2 (cell_place s.layout m)))
@@ -177,11 +174,7 @@ pub ends_alone : (s : State) → Kept s → Queued s → (t : ℕ) → EndsAlone
 ends_alone s inv queued t awake = ends 9000 s t inv queued pos last few
   where
     there : is_thread s t ≡ true
-    there = ⊎_elim (first_true (is_thread s t) (is_calling (s.threads t).stage)) (first_true (is_thread s t) (is_walked (s.threads t).stage)) awake.0
-      where
-        first_true : (a b : Bool) → (a && b) ≡ true → a ≡ true
-        first_true true b e = refl
-        first_true false b e = e
+    there = grind (arith)
 
     pos : 1 ≤ t
     pos = let known = there in grind (arith, nat_tests)

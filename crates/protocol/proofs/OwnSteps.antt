@@ -1,113 +1,28 @@
 -- One access of a call to its thread's own words: its head's, and the links of its mutexes.
-use Rattle.std.proofs.Common.{◌≡◌, ◌≢◌, ◌⊎◌, inl, inr, ℕ, ◌+◌, ◌*◌, ◌<◌, ◌≤◌, ◌==◌, Bool, true, false, Option, Some, None, List, ◌∷◌, refl, sym, ap, ◌∙◌, subst, arith}
-use Rattle.protocol.proofs.Vocabulary.{Access, Object, address_of, changed, answer_at, IsChainBothWays, AreDifferent, address_sum, head_place, entry_place, cell_place}
-use Rattle.protocol.proofs.Vocabulary.{counter_place, object_of, fresh, fields_of, Reply, XRACED, Phase, Linking, Clearing, Onward, left, Sound, decided, Joins, Whole}
-use Rattle.protocol.proofs.Vocabulary.{whole_access, Op, mutex_of, Calling, State, put, is_valid, held_after, seen, LinkRow, UnlinkRow, UnlinkStanding, LinkGoes, unlink_access}
-use Rattle.protocol.proofs.Vocabulary.{unlink_resume, UnlinkGoes, entries-different, without-among, if◌then◌else◌, nat_lt, nat_tests}
+use Rattle.std.proofs.Common.{◌≡◌, ◌≢◌, inl, inr, ℕ, ◌+◌, ◌*◌, ◌<◌, ◌≤◌, Bool, Option, Some, None, List, ◌∷◌, refl, sym, ap, ◌∙◌, subst, arith}
+use Rattle.protocol.proofs.Vocabulary.{address_of, answer_at, IsChainBothWays, AreDifferent, address_sum, head_place, entry_place, cell_place, Reply, XRACED, Phase, word_among}
+use Rattle.protocol.proofs.Vocabulary.{Linking, Clearing, Onward, left, decided, Joins, Whole, whole_access, Op, mutex_of, Calling, State, put, seen, LinkRow, UnlinkRow}
+use Rattle.protocol.proofs.Vocabulary.{UnlinkStanding, LinkGoes, unlink_access, unlink_resume, UnlinkGoes, entries-different, without-among, Makes, answer_on, link_access}
+use Rattle.protocol.proofs.Vocabulary.{link_access_of, link_resume, link_moved}
 use Rattle.keys.specs.Chains.{without}
 use Rattle.robustlist.specs.Standings.{LinkStanding}
-use Rattle.robustlist.specs.Words.{Makes, answer_on}
-use Rattle.robustlist.specs.Link.{link_access, link_access_of, link_resume, link_moved}
 use Rattle.robustlist.specs.Unlink.{unlink_access_of, unlink_moved}
 use Rattle.robustlist.specs.LinkLaws as link_laws
 use Rattle.robustlist.specs.UnlinkLaws as unlink_laws
 use Rattle.robustlist.proofs.Links as links
 use Rattle.robustlist.proofs.Unlinks as unlinks
 use Rattle.mutex.specs.declared.row.Row.{Row}
-use Rattle.mutex.specs.declared.row.Row.TheVariants as row
 use Rattle.mutex.specs.declared.phase.Phase.TheVariants.{Announcing, Unlinking}
 use Rattle.mutex.specs.Whole.{phase_led, announced, linked_at, unlinked_at}
 use Rattle.protocol.proofs.Puts.{put-same, put-other}
-use Rattle.protocol.proofs.Phases.{decided_at, left_at, SteadyAt, Moves, IsPlain, IsOwn, plain_answer, plain_awake, own_pointless, own_silent, joins_same, link_plain, unlink_plain, plain_no_move}
+use Rattle.protocol.proofs.Phases.{decided_at, left_at, SteadyAt, Moves, IsPlain, IsOwn, plain_answer, plain_awake, own_pointless, own_silent, joins_same, link_plain, unlink_plain, plain_no_move, plain_word}
 use Rattle.protocol.proofs.Kept.{AtRow, Fits, Serves, left_out_in, Owned, ChainedIn, Listed, IsAnnounced, pending_in, PendsAs, Kept}
-use Rattle.protocol.proofs.Places.{IsMine, offset_is_nobodys, more_not_pending, mine_is_valid, mine_is_no_cell, mine_is_not_theirs, list_is_mine, list_not_pending, more_is_mine, both_same, among_without, without_is_apart, pending_is, mine_is_no_counter}
-use Rattle.protocol.proofs.Steps.{Tells, unmoved, onto, thread_after, after, met, call_step}
-use Rattle.protocol.proofs.Frames.{kept_where}
+use Rattle.protocol.proofs.Places.{IsMine, more_not_pending, mine_is_valid, list_is_mine, list_not_pending, more_is_mine, both_same, among_without, without_is_apart, pending_is}
+use Rattle.protocol.proofs.Steps.{Transition, onto, thread_after, after, place_of, met, met_queue, call_step}
 use Rattle.protocol.proofs.Arrivals.{Arrives, sits_after, listed_after, pending_then}
 use Rattle.protocol.proofs.CallSteps.{CallStep}
-
--- an access of thread t's call to one of its own words
-module _ (s : State) (t : ℕ) (c : Op) (p : Whole) (inv : Kept s) (pos : 1 ≤ t) (known : t ≤ s.layout.threads) (fits : Fits s t (s.threads t).held (mutex_of s.layout c) p) (serves : Serves s.layout c p) (own : IsOwn p.phase) (plain : IsPlain (whole_access p)) (mine : IsMine s t (address_of (whole_access p))) where
-  abbrev m : ℕ
-  m = mutex_of s.layout c
-
-  abbrev place : ℕ
-  place = cell_place s.layout m
-
-  abbrev a : Access
-  a = whole_access p
-
-  abbrev at : ℕ
-  at = address_of a
-
-  abbrev o : Onward
-  o = onto s t p
-
-  abbrev s' : State
-  s' = after s t (call_step s t c p)
-
-  pub own_valid : is_valid s.layout at ≡ true
-  own_valid = mine_is_valid s t at pos known mine
-
-  -- where it leads, by the word there
-  pub own_leads : o ≡ phase_led p p.phase (answer_at a (s.words at))
-  own_leads = ap (phase_led p p.phase) (plain_answer a (s.words at) (s.queues at) plain)
-
-  pub own_words : (x : ℕ) → x ≢ at → s'.words x ≡ s.words x
-  own_words x apart = put-other s.words at (changed a (s.words at)) x apart
-
-  pub own_cells : (k : ℕ) → k < s.layout.mutexes → s'.words (cell_place s.layout k) ≡ s.words (cell_place s.layout k)
-  own_cells k inside = own_words (cell_place s.layout k) (λ e. mine_is_no_cell s t at k pos known inside mine (sym e))
-
-  pub own_seen : (k : ℕ) → seen s' k ≡ seen s k
-  own_seen k = go (nat_lt k s.layout.mutexes) refl
-    where
-      go : (b : Bool) → nat_lt k s.layout.mutexes ≡ b → (if b then object_of (fields_of (s'.words (cell_place s.layout k))) else fresh) ≡ (if b then object_of (fields_of (s.words (cell_place s.layout k))) else fresh)
-      go true e = ap (λ (v : ℕ). object_of (fields_of v)) (own_cells k (grind (arith, nat_tests)))
-      go false e = refl
-
-  pub own_no_point : o.point ≡ None
-  own_no_point = ap (λ (z : Onward). z.point) own_leads ∙ own_pointless p p.phase (answer_at a (s.words at)) own
-
-  pub own_tells : Tells t (seen s m) p.operation o.point (seen s' m)
-  own_tells = subst (λ (x : Option Reply). Tells t (seen s m) p.operation x (seen s' m)) (sym own_no_point) (own_seen m)
-
-  -- it knows the same of its mutex as before
-  pub own_moves : Joins (decided_at p.phase) None (decided_at o.phase) → left_at o.phase (s.words place) < left_at p.phase (s.words place) → (SteadyAt t p.phase (s.words place) → SteadyAt t o.phase (s.words place)) → Moves t p o (s.words place) (s'.words place)
-  own_moves joins fewer steady =
-      let same : s'.words place ≡ s.words place = own_cells m fits.inside in
-      subst (Moves t p o (s.words place)) (sym same) record {
-        joins = subst (λ (x : Option Reply). Joins (decided_at p.phase) x (decided_at o.phase)) (sym own_no_point) joins;
-        waiters = λ e. e;
-        sleeps = λ e. absurd (cc (e, (plain_awake a (s.words place) plain).0));
-        fewer = λ e. fewer;
-        answers = λ e free on. inr (own_silent p.phase own, refl);
-        steady = λ e was. steady was;
-      }
-
-  held_same : held_after (s.threads t).held p.operation o.point ≡ (s.threads t).held
-  held_same = ap (held_after (s.threads t).held p.operation) own_no_point ∙ unmoved p.operation (s.threads t).held
-
-  -- what holds of every state holds then, where its thread arrives rightly
-  pub own_kept : (es : List ℕ) → Arrives t (s.threads t).held p o.phase (seen s m) → s'.words (head_place t + 2) ≡ pending_in p.entry o.phase → Owned s t (left_out_in m o.phase) es → ChainedIn s'.words (head_place t) p.entry es o.phase → Kept s'
-  own_kept es arrives pending owned ch =
-      kept_where s t m a (thread_after s t (call_step s t c p)) p.operation o.point inv pos known fits.inside (λ k apart. own_seen k) own_tells refl
-      (λ x e takes. absurd (cc (e, own_no_point)))
-      (λ u first most. own_words (head_place u + 1) (offset_is_nobodys s t u at pos known first most mine))
-      (λ u x first most apart theirs. own_words x (mine_is_not_theirs s u t x at first most pos known (λ e. apart (sym e)) theirs mine))
-      (λ u k first most apart inside own. inl (own_cells k inside))
-      (sits_after s t (s.threads t).held c p fits serves a (thread_after s t (call_step s t c p)) (thread_after s t (call_step s t c p)).held o.phase (subst (λ (z : ℕ × Object). Arrives t z.0 p o.phase z.1) (λ i. (sym held_same i, sym (own_seen m) i)) arrives))
-      (listed_after s' t c p es o.phase owned_then ch)
-      (pending_then c p o.phase (s'.words (head_place t + 2)) pending)
-      (subst Sound (sym (own_seen m)) (inv.sound m))
-    where
-      owned_then : Owned s' t (left_out_in m o.phase) es
-      owned_then = record {
-        entries = λ x among. let e = owned.entries x among in (e.0, e.1, e.2, ap (λ (z : Object). z.owner) (own_seen e.0) ∙ e.3, e.4);
-        all = λ k below have outside. owned.all k below (sym (ap (λ (z : Object). z.owner) (own_seen k)) ∙ have) outside;
-      }
-
--- ---- phase by phase
+use Rattle.protocol.proofs.Cases.{some_same}
+use Rattle.protocol.proofs.OwnWords.{own_cells, own_seen, own_tells, own_owned, own_counter, own_pendings, own_kept}
 
 -- what is left to show of an access of its own words
 record Lands (s : State) (t : ℕ) (c : Op) (p : Whole) : Type 0 where
@@ -118,23 +33,57 @@ record Lands (s : State) (t : ℕ) (c : Op) (p : Whole) : Type 0 where
   pending : (after s t (call_step s t c p)).words (head_place t + 2) ≡ pending_in p.entry (onto s t p).phase
   list : (es : List ℕ) × Owned s t (left_out_in (mutex_of s.layout c) (onto s t p).phase) es × ChainedIn (after s t (call_step s t c p)).words (head_place t) p.entry es (onto s t p).phase
 
-goes_own : (s : State) (t : ℕ) (c : Op) (p : Whole) → Kept s → 1 ≤ t → t ≤ s.layout.threads → Fits s t (s.threads t).held (mutex_of s.layout c) p → Serves s.layout c p → IsOwn p.phase → IsPlain (whole_access p) → IsMine s t (address_of (whole_access p)) → Lands s t c p → CallStep s t c p
-goes_own s t c p inv pos known fits serves own plain mine lands = record {
-  valid = own_valid s t c p inv pos known fits serves own plain mine;
-  no_move = plain_no_move (whole_access p) plain;
-  kept = own_kept s t c p inv pos known fits serves own plain mine lands.list.0 lands.arrives lands.pending lands.list.1 lands.list.2;
-  moves = own_moves s t c p inv pos known fits serves own plain mine lands.joins lands.fewer lands.steady;
-  same_sleep = (plain_awake (whole_access p) (met s t (call_step s t c p)) plain).0 ∙ sym (plain_awake (whole_access p) (s.words (cell_place s.layout (mutex_of s.layout c))) plain).0;
-  place = λ e. absurd (cc (e, (plain_awake (whole_access p) (met s t (call_step s t c p)) plain).0));
-  wakes = λ e. absurd (cc (e, (plain_awake (whole_access p) 0 plain).1));
-  sleeper = λ e. absurd (cc (e, (plain_awake (whole_access p) (met s t (call_step s t c p)) plain).0));
-  tells = own_tells s t c p inv pos known fits serves own plain mine;
-  room = λ x e takes. absurd (cc (e, own_no_point s t c p inv pos known fits serves own plain mine));
-  far = λ k apart. own_seen s t c p inv pos known fits serves own plain mine k;
-  cells = λ k inside apart. own_cells s t c p inv pos known fits serves own plain mine k inside;
-  pendings = λ u first most apart. own_words s t c p inv pos known fits serves own plain mine (head_place u + 2) (mine_is_not_theirs s u t (head_place u + 2) _ first most pos known (λ e. apart (sym e)) (inr (inl refl)) mine);
-  counters = λ k. own_words s t c p inv pos known fits serves own plain mine (counter_place s.layout k) (λ e. mine_is_no_counter s t (address_of (whole_access p)) k pos known mine (sym e));
-}
+-- an access of thread t's call to one of its own words
+module _ (s : State) (t : ℕ) (c : Op) (p : Whole) (inv : Kept s) (pos : 1 ≤ t) (known : t ≤ s.layout.threads) (fits : Fits s t (s.threads t).held (mutex_of s.layout c) p) (serves : Serves s.layout c p) (own : IsOwn p.phase) (plain : IsPlain (whole_access p)) (mine : IsMine s t (address_of (whole_access p))) where
+  abbrev place : ℕ
+  place = cell_place s.layout (mutex_of s.layout c)
+
+  abbrev v : Transition
+  v = call_step s t c p
+
+  abbrev o : Onward
+  o = onto s t p
+
+  -- where it leads, by the word there
+  pub own_leads : o ≡ phase_led p p.phase (answer_at (whole_access p) (met s t v))
+  own_leads = ap (phase_led p p.phase) (plain_answer (whole_access p) (met s t v) (met_queue s t v) plain)
+
+  no_point : v.point ≡ None
+  no_point = ap (λ (z : Onward). z.point) own_leads ∙ own_pointless p p.phase (answer_at (whole_access p) (met s t v)) own
+
+  -- it knows the same of its mutex as before
+  moves_so : Lands s t c p → Moves t p o (s.words place) (s.queues place) ((after s t v).words place)
+  moves_so lands = subst (Moves t p o (s.words place) (s.queues place)) (sym (own_cells s t v inv pos known fits.inside plain mine no_point (mutex_of s.layout c) fits.inside)) record {
+    joins = subst (λ (x : Option Reply). Joins (decided_at p.phase) x (decided_at o.phase)) (sym no_point) lands.joins;
+    waiters = λ e. inl e;
+    sleeps = λ e. absurd (cc (e, (plain_awake (whole_access p) (s.words place) plain).0));
+    fewer = λ e. lands.fewer;
+    answers = λ e free on. inr (own_silent p.phase own, refl);
+    steady = λ e was. lands.steady was;
+  }
+
+  goes_own : Lands s t c p → CallStep s t c p
+  goes_own lands = record {
+    valid = mine_is_valid s t (place_of s t v) pos known mine;
+    no_move = plain_no_move (whole_access p) plain;
+    kept = own_kept s t v inv pos known fits.inside plain mine no_point
+        (sits_after s t (s.threads t).held c p fits serves (whole_access p) (thread_after s t v) (s.threads t).held o.phase
+        (subst (Arrives t (s.threads t).held p o.phase) (sym (own_seen s t v inv pos known fits.inside plain mine no_point (mutex_of s.layout c))) lands.arrives))
+        (listed_after (after s t v) t c p lands.list.0 o.phase
+        (own_owned s t v inv pos known fits.inside plain mine no_point (left_out_in (mutex_of s.layout c) o.phase) lands.list.0 lands.list.1) lands.list.2)
+        (pending_then c p o.phase ((after s t v).words (head_place t + 2)) lands.pending);
+    moves = moves_so lands;
+    same_sleep = (plain_awake (whole_access p) (met s t v) plain).0 ∙ sym (plain_awake (whole_access p) (s.words place) plain).0;
+    place = λ e. absurd (cc (e, (plain_awake (whole_access p) (met s t v) plain).0));
+    wakes = λ e. absurd (cc (e, (plain_awake (whole_access p) 0 plain).1));
+    sleeper = λ e. absurd (cc (e, (plain_awake (whole_access p) (met s t v) plain).0));
+    tells = own_tells s t v inv pos known fits.inside plain mine no_point;
+    room = λ x e takes. absurd (cc (e, no_point));
+    far = λ k apart. own_seen s t v inv pos known fits.inside plain mine no_point k;
+    cells = λ k inside apart. own_cells s t v inv pos known fits.inside plain mine no_point k inside;
+    pendings = own_pendings s t v inv pos known fits.inside plain mine no_point;
+    counters = own_counter s t v inv pos known fits.inside plain mine no_point;
+  }
 
 -- a call whose phase has its object as it is
 module _ (s : State) (t : ℕ) (c : Op) (p : Whole) (inv : Kept s) (pos : 1 ≤ t) (known : t ≤ s.layout.threads) (serves : Serves s.layout c p) where
@@ -180,7 +129,7 @@ module _ (s : State) (t : ℕ) (c : Op) (p : Whole) (inv : Kept s) (pos : 1 ≤ 
     new_words = (after s t (call_step s t c before)).words
 
     announced_list : (z : Row) (es : List ℕ) → AtRow t held p.operation z (seen s (mutex_of s.layout c)) → Owned s t None es → IsChainBothWays new_words (head_place t) es → Owned s t (left_out_in (mutex_of s.layout c) (announced before z)) es × ChainedIn new_words (head_place t) p.entry es (announced before z)
-    announced_list x0 es at owned ch = grind (arith)
+    announced_list z es at owned ch = grind (arith)
 
     pub announcing : (s.threads t).stage ≡ Calling c before → Listed s t (Calling c before) → CallStep s t c before
     announcing is (es, owned, ch) =
@@ -243,12 +192,12 @@ module _ (s : State) (t : ℕ) (c : Op) (p : Whole) (inv : Kept s) (pos : 1 ≤ 
       link_pends =
           let on = links.near (head_place t) p.entry es l.row s.words ch in
           let elsewhere : address_of (link_access (head_place t) p.entry l.row) ≢ head_place t + 2 = more_not_pending s t k (Some k) p.entry es _ inv.layout pos known owned fits.inside fits.entry on in
-          put-other s.words (address_of (link_access_of l)) (changed (link_access_of l) found) (head_place t + 2) (λ e. elsewhere (sym (ap address_of access_is) ∙ sym e)) ∙ subst (PendsAs (s.words (head_place t + 2))) is_in (inv.heads t pos known).pending
+          put-other s.words (address_of (link_access_of l)) (word_among (link_access_of l) found (s.queues (address_of (link_access_of l)))) (head_place t + 2) (λ e. elsewhere (sym (ap address_of access_is) ∙ sym e)) ∙ subst (PendsAs (s.words (head_place t + 2))) is_in (inv.heads t pos known).pending
 
       makes : Makes (link_access (head_place t) p.entry l.row) (head_place t) (p.entry ∷ es) s.words linked_words
       makes = subst (λ a. Makes a (head_place t) (p.entry ∷ es) s.words linked_words) access_is record {
-        changes = put-same s.words (address_of (link_access_of l)) (changed (link_access_of l) found);
-        keeps = λ y on apart. put-other s.words (address_of (link_access_of l)) (changed (link_access_of l) found) y apart;
+        changes = put-same s.words (address_of (link_access_of l)) (word_among (link_access_of l) found (s.queues (address_of (link_access_of l)))) ∙ plain_word (link_access_of l) found (s.queues (address_of (link_access_of l))) (link_plain l.head l.entry l.row);
+        keeps = λ y on apart. put-other s.words (address_of (link_access_of l)) (word_among (link_access_of l) found (s.queues (address_of (link_access_of l)))) y apart;
       }
 
       chain_then : link_laws.Linking (head_place t) p.entry es led_to linked_words
@@ -343,12 +292,12 @@ module _ (s : State) (t : ℕ) (c : Op) (p : Whole) (inv : Kept s) (pos : 1 ≤ 
       unlink_pends =
           let on = unlinks.near (head_place t) p.entry es u.row s.words ch in
           let elsewhere : address_of (unlink_access (head_place t) p.entry u.row) ≢ head_place t + 2 = list_not_pending s t None es _ inv.layout pos known owned on in
-          put-other s.words (address_of (unlink_access_of u)) (changed (unlink_access_of u) present) (head_place t + 2) (λ e. elsewhere (sym (ap address_of unlink_is) ∙ sym e)) ∙ subst (PendsAs (s.words (head_place t + 2))) is_in (inv.heads t pos known).pending
+          put-other s.words (address_of (unlink_access_of u)) (word_among (unlink_access_of u) present (s.queues (address_of (unlink_access_of u)))) (head_place t + 2) (λ e. elsewhere (sym (ap address_of unlink_is) ∙ sym e)) ∙ subst (PendsAs (s.words (head_place t + 2))) is_in (inv.heads t pos known).pending
 
       unlink_makes : Makes (unlink_access (head_place t) p.entry u.row) (head_place t) es s.words unlinked_words
       unlink_makes = subst (λ a. Makes a (head_place t) es s.words unlinked_words) unlink_is record {
-        changes = put-same s.words (address_of (unlink_access_of u)) (changed (unlink_access_of u) present);
-        keeps = λ y on apart. put-other s.words (address_of (unlink_access_of u)) (changed (unlink_access_of u) present) y apart;
+        changes = put-same s.words (address_of (unlink_access_of u)) (word_among (unlink_access_of u) present (s.queues (address_of (unlink_access_of u)))) ∙ plain_word (unlink_access_of u) present (s.queues (address_of (unlink_access_of u))) (unlink_plain u.head u.entry u.row);
+        keeps = λ y on apart. put-other s.words (address_of (unlink_access_of u)) (word_among (unlink_access_of u) present (s.queues (address_of (unlink_access_of u)))) y apart;
       }
 
       unlink_chain : unlink_laws.Unlinking (head_place t) p.entry es to_row unlinked_words
@@ -366,16 +315,13 @@ module _ (s : State) (t : ℕ) (c : Op) (p : Whole) (inv : Kept s) (pos : 1 ≤ 
       owned_less : Owned s t (Some j) (without p.entry es)
       owned_less = record {
         entries = λ y among. let e = owned.entries y (without-among p.entry y es among) in
-            (e.0, e.1, e.2, e.3, λ same. without_is_apart p.entry y es different among (e.2 ∙ ap (entry_place s.layout) (some_same j e.0 same) ∙ sym fits.entry));
+            (e.0, e.1, e.2, e.3, λ same. without_is_apart p.entry y es different among (e.2 ∙ ap (entry_place s.layout) (sym (some_same j e.0 same)) ∙ sym fits.entry));
         all = λ i below own outside. among_without p.entry (entry_place s.layout i) es (owned.all i below own (λ e. cc e)) (λ same. outside (let place = same ∙ fits.entry in ap Some (omega (arith, place))));
       }
-        where
-          some_same : (i k : ℕ) → Some i ≡ Some k → k ≡ i
-          some_same i k e = cc
 
       record Unlinked (f : Phase) : Type 0 where
         joins : Joins None None (decided_at f)
-        fewer : left_at f (s.words (cell_place s.layout j)) < 25 + unlink_laws.unlink_left u.row
+        fewer : left_at f (s.words (cell_place s.layout j)) < 33 + unlink_laws.unlink_left u.row
         steady : SteadyAt t f (s.words (cell_place s.layout j))
         arrives : Arrives t held unlinking_call f (seen s j)
         pends : p.entry ≡ pending_in p.entry f

@@ -1,5 +1,5 @@
 -- No wait is passed by.
-use Rattle.std.proofs.Common.{◌≡◌, ◌≢◌, ⊎_elim, ℕ, ◌+◌, ◌%◌, ◌^◌, ◌<◌, ◌≤◌, ◌==◌, Bool, true, false, Option, Some, None, Ok, Err, List, [], ◌∷◌, ◌++◌, append_assoc, refl, sym, ap, ◌∙◌, subst, arith}
+use Rattle.std.proofs.Common.{◌≡◌, ◌≢◌, ⊎_elim, ℕ, ◌+◌, ◌<◌, ◌≤◌, Bool, true, false, Option, Some, None, Ok, Err, List, [], ◌∷◌, ◌++◌, append_assoc, refl, sym, ap, ◌∙◌, subst, arith}
 use Rattle.protocol.proofs.Vocabulary.{CondCall, CondRow, CondLed, CondPhase, condition_of, full, met_word, counter_after, CondWhole, cond_access, cond_led, after_words}
 use Rattle.protocol.proofs.Vocabulary.{from_words, CondOnward, Begun, Mutex, Condition, Fact, Operation, Decision, answer_at, sleeps_at, Layout', cell_place, counter_place, Reply}
 use Rattle.protocol.proofs.Vocabulary.{OK, XHELD, Phase, Whole, whole_access, whole_led, Op, OnCondition, Thread, Stage, Idle, Calling, AtCondition, Dying, Reaped, Event, caller}
@@ -243,7 +243,7 @@ module _ (s : State) (u : ℕ) (c : CondCall) (p : CondWhole) (inv : Kept s) (co
 
   -- by a row
   row_decided : (r : CondRow) (x : Option Decided) (y : Point) → point_of p.thread p.cell x ≡ Some y → (e : Decided) × (x ≡ Some e) × (e.operation ≡ y.operation) × (e.reply ≡ y.reply)
-  row_decided r x1 y e = grind (arith)
+  row_decided r d y e = grind (arith)
 
   abbrev FromRow : CondRow → Decision → Type 0
   FromRow r d = (e : Decided) × ((to_led r).decided ≡ Some e) × (e.operation ≡ d.operation) × (e.reply ≡ d.reply)
@@ -271,16 +271,16 @@ module _ (s : State) (u : ℕ) (c : CondCall) (p : CondWhole) (inv : Kept s) (co
   past_at h (By_row r from going of needs counts leads) = subst IsPast (sym (stage_row r leads)) (past_there c p (to_led r).row ((does r from going).past (subst (λ (y : CondWhole). IsPastIn y.phase) from h)))
 
   behind_at : (k : ℕ) → (condition_of c ≡ k → IsBehindIn (s.words (counter_place l k)) p.phase) → CondMove s u c p → IsBehind l z.words k (z.threads u).stage
-  behind_at k h x2 = grind (arith)
+  behind_at k h move = grind (arith)
 
   abbrev CountsAt : Type 0
   CountsAt = (z.words counter ≡ n + 1) × ((k : ℕ) → IsBehind l z.words k (z.threads u).stage)
 
   counts_at : (d : Decision) → Told_point d → Counts d.operation d.reply → CondMove s u c p → CountsAt
-  counts_at d told h x3 = grind (arith)
+  counts_at d told h move = grind (arith)
 
   sleeps_on : (k : ℕ) → slept_in (Condition (condition_of c)) (sleeps_at (cond_access p) (s.words (place_met l u (cond_access p)))) ≡ Some (Condition k) → (condition_of c ≡ k → IsBehindIn (s.words (counter_place l k)) p.phase) → CondMove s u c p → ⊥
-  sleeps_on k e h x3 = grind (arith)
+  sleeps_on k e h move = grind (arith)
 
   cond_makes : Makes s u (record { state = z; note = cond_note s u c p })
   cond_makes = record {
@@ -305,7 +305,7 @@ module _ (s : State) (u : ℕ) (o : Op) (pos : 1 ≤ u) (known : u ≤ s.layout.
 
   -- a call that begins, or is refused
   begin_makes : (full : Bool) → Makes s u (begun s u o (if full then Err XHELD else Ok (begins_at s.layout u o)))
-  begin_makes x0 = grind (arith)
+  begin_makes full = grind (arith)
 
 kill_makes : (s : State) (u : ℕ) → Makes s u (killed s u)
 kill_makes s u = grind (arith)
@@ -365,7 +365,7 @@ module _ (s : State) (e : Event) (inv : Kept s) (counted : Counted s) (t : ℕ) 
 
   -- of its own event one thing, and of another's another
   either : (P : Stage → Type 0) → (caller e ≡ t → P (s'.threads t).stage) → (caller e ≢ t → P (s.threads t).stage) → P (s'.threads t).stage
-  either x0 mine theirs = grind (arith)
+  either P mine theirs = grind (arith)
 
   past_on : BeginsNone t told_facts → IsPast (s.threads t).stage → IsPast (s'.threads t).stage
   past_on none h = either IsPast (λ me. subst (λ (v : ℕ). BeginsNone v told_facts → IsPast (s.threads v).stage → IsPast (s'.threads v).stage) me made.past none h) (λ apart. h)
@@ -397,15 +397,7 @@ module _ (s : State) (e : Event) (inv : Kept s) (counted : Counted s) (t : ℕ) 
       (λ apart. behind_now s.layout s.words s'.words k (s.threads t).stage (subst (λ (j : ℕ). s'.words (counter_place s.layout j) ≡ s.words (counter_place s.layout j) + 1) here done.3) past (counted.knows t first last)))
     where
       named : (c : CondCall) (k : ℕ) (b : Option Begun) → b ≡ Some (begun_of s.layout (OnCondition c)) → IsOn k b → condition_of c ≡ k
-      named c k None is on = absurd on
-      named c k (Some x) is on = same (sym (ap (λ (z : Option Begun). condition_in z) is) ∙ on)
-        where
-          condition_in : Option Begun → Option ℕ
-          condition_in None = None
-          condition_in (Some y) = y.condition
-
-          same : Some (condition_of c) ≡ Some k → condition_of c ≡ k
-          same e = cc
+      named c k b is on = grind (arith)
 
 -- ---- runs
 

@@ -1,9 +1,8 @@
 -- What one event tells of releases, counts and sleeps.
 use Rattle.std.proofs.Common.{⊎_elim, ◌≡◌, inl, inr, ℕ, ◌==◌, Bool, true, false, Option, Some, None, List, [], ◌∷◌, ◌++◌, map, refl, arith, ap}
-use Rattle.protocol.proofs.Vocabulary.{Begun, Queue, Fact, Decision, Reply, Stepped, Walked, facts_of, moves_to, return_facts, reap_facts, if◌then◌else◌}
+use Rattle.protocol.proofs.Vocabulary.{Begun, Queue, Fact, Decision, Reply, Stepped, Walked, facts_of, moves_to, return_facts, reap_facts, if◌then◌else◌, last_begun, BeginsNone}
 use Rattle.facts.specs.declared.fact.Fact.TheVariants.{Begin, Point, Sleep, Wake}
 use Rattle.protocol.specs.Sleepers.{IsAmong}
-use Rattle.protocol.specs.PassedBy.{last_begun, BeginsNone}
 use Rattle.protocol.proofs.NoteFacts.{IsOfSleep, behind_woken, behind_moved, of_access, of_walk}
 
 -- ---- facts

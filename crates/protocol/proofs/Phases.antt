@@ -1,15 +1,14 @@
 -- What a whole call does beyond its mutex's cell, phase by phase.
 use Rattle.std.proofs.Common.{◌≡◌, ◌≢◌, ◌⊎◌, ℕ, ◌+◌, ◌*◌, ◌<◌, ◌≤◌, Bool, true, false, Option, Some, None, List, refl, arith}
-use Rattle.protocol.proofs.Vocabulary.{Access, Answer, answer_at, sleeps_at, fields_of, Reply, XRACED, Phase, AtCell, Linking, Clearing, Onward, is_wake, left, decided, Joins}
-use Rattle.protocol.proofs.Vocabulary.{Whole, whole_access, after_cell, answer_among, LinkRow, UnlinkRow, unlink_access}
-use Rattle.robustlist.specs.Link.{link_access}
+use Rattle.protocol.proofs.Vocabulary.{Access, Answer, answer_at, sleeps_at, fields_of, Reply, XRACED, Phase, AtCell, Linking, Clearing, Onward, is_wake, left, decided, Joins, word_among, changed}
+use Rattle.protocol.proofs.Vocabulary.{Whole, whole_access, after_cell, answer_among, LinkRow, UnlinkRow, unlink_access, answers_for, Steady, link_access}
 use Rattle.robustlist.specs.LinkLaws.{link_left}
 use Rattle.robustlist.specs.UnlinkLaws.{unlink_left}
 use Rattle.mutex.specs.declared.row.Row.{Row}
 use Rattle.mutex.specs.declared.phase.Phase.TheVariants.{Announcing, Unlinking, Ended}
-use Rattle.mutex.specs.Alone.{answers_for, Steady}
 use Rattle.mutex.specs.Whole.{phase_led}
-use Rattle.protocol.proofs.Steps.{IsNoMove}
+use Rattle.protocol.proofs.Steps.{IsNoMove, IsNoTrim, untrimmed}
+use Rattle.mutex.specs.Alone.{KeepsWaiters}
 
 -- ---- what a phase says of its call
 
@@ -32,7 +31,7 @@ abbrev pub left_at : Phase → ℕ → ℕ
 left_at (Announcing r) w = 14 + 8 * left r w
 left_at (AtCell r) w = 8 + 8 * left r w
 left_at (Linking l x) w = 2 + link_left l.row
-left_at (Unlinking u d) w = 25 + unlink_left u.row
+left_at (Unlinking u d) w = 33 + unlink_left u.row
 left_at (Clearing x) w = 1
 left_at (Ended x) w = 0
 
@@ -45,12 +44,12 @@ SteadyAt t (Unlinking u d) w = Unit {0}
 SteadyAt t (Clearing x) w = x ≢ XRACED
 SteadyAt t (Ended x) w = x ≢ XRACED
 
--- one access of thread t's call p, which leads to o, where its mutex's cell is the word w before and w' after
-pub record Moves (t : ℕ) (p : Whole) (o : Onward) (w w' : ℕ) : Type 0 where
+-- one access of thread t's call p, which leads to o, where its mutex's cell is the word w before, on which those of q sleep, and w' after
+pub record Moves (t : ℕ) (p : Whole) (o : Onward) (w : ℕ) (q : List ℕ) (w' : ℕ) : Type 0 where
   -- a call has one point, whose reply it returns
   pub joins : Joins (decided_at p.phase) o.point (decided_at o.phase)
-  -- WAITERS stays
-  pub waiters : (fields_of w).waiters ≡ true → (fields_of w').waiters ≡ true
+  -- WAITERS stays, or nobody sleeps there and nobody owns the cell
+  pub waiters : KeepsWaiters w q w'
   -- it falls asleep only on a cell that is owned and has WAITERS
   pub sleeps : sleeps_at (whole_access p) w ≡ true → (0 < (fields_of w).owner) × ((fields_of w).waiters ≡ true)
   -- else fewer accesses are left
@@ -95,6 +94,14 @@ pub plain_answer : (a : Access) (w : ℕ) (q : List ℕ) → IsPlain a → answe
 plain_answer (Access.Load at) w q plain = refl
 plain_answer (Access.Store at v) w q plain = refl
 plain_answer a w q plain = absurd plain
+
+pub plain_no_trim : (a : Access) → IsPlain a → IsNoTrim a
+plain_no_trim (Access.Load at) plain = tt
+plain_no_trim (Access.Store at v) plain = tt
+plain_no_trim a plain = absurd plain
+
+pub plain_word : (a : Access) (w : ℕ) (q : List ℕ) → IsPlain a → word_among a w q ≡ changed a w
+plain_word a w q plain = untrimmed a w q (plain_no_trim a plain)
 
 pub plain_awake : (a : Access) (w : ℕ) → IsPlain a → (sleeps_at a w ≡ false) × (is_wake a ≡ false)
 plain_awake (Access.Load at) w plain = (refl, refl)

@@ -1,12 +1,10 @@
 -- Which words are whose.
 use Rattle.std.proofs.Common.{◌≡◌, ◌≢◌, ◌⊎◌, inl, inr, ℕ, ◌+◌, ◌<◌, ◌≤◌, ◌==◌, Bool, true, false, Option, Some, List, [], ◌∷◌, length, refl, sym, ap, ◌∙◌, arith, eqb-true}
 use Rattle.protocol.proofs.Vocabulary.{Layout', IsLayout, head_place, entry_place, cell_place, counter_place, address_sum, AreDifferent, IsChainBothWays, State, is_valid, seen}
-use Rattle.protocol.proofs.Vocabulary.{Agree, if◌then◌else◌, eqb-false, nat_tests}
+use Rattle.protocol.proofs.Vocabulary.{Agree, if◌then◌else◌, eqb-false, nat_tests, chained, chain-same, both-ways, avoids-all, apart-among}
 use Rattle.keys.specs.Chains.{previous_place, IsAmong, IsApart, places_of, without}
 use Rattle.robustlist.specs.Words.{IsOn}
 use Rattle.robustlist.specs.LinkLaws as link_laws
-use Rattle.robustlist.proofs.Chains.{chained, chain-same, both-ways}
-use Rattle.robustlist.proofs.Places.{avoids-all, apart-among}
 use Rattle.protocol.proofs.Kept.{Owned}
 
 -- the word is thread t's own: its head's first entry or pending one, or a link of a mutex that it owns
@@ -43,7 +41,7 @@ pending_is t last pos = omega arith
 
 -- the places of a thread's list are its own
 pub list_is_mine : (s : State) (t : ℕ) (out : Option ℕ) (es : List ℕ) (p : ℕ) → IsLayout s.layout → Owned s t out es → IsOn (head_place t) es p → IsMine s t p
-list_is_mine s t out es p is owned x7 = grind (arith)
+list_is_mine s t out es p is owned on = grind (arith)
 
 -- words that agree at a list's places have the same list
 pub both_same : (v w : ℕ → ℕ) (h : ℕ) (es : List ℕ) → Agree h es v w → IsChainBothWays v h es → IsChainBothWays w h es

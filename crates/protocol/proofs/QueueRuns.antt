@@ -1,7 +1,7 @@
 -- Who sleeps where, event by event.
-use Rattle.std.proofs.Common.{arith, ◌≡◌, ◌≢◌, ℕ, ◌+◌, ◌≤◌, ◌==◌, Bool, true, false, Ok, Err, List, [], ◌∷◌, refl, sym, ap, ◌∙◌, subst, eqb-true}
+use Rattle.std.proofs.Common.{arith, ◌≡◌, ◌≢◌, ℕ, ◌+◌, ◌≤◌, Bool, true, false, Ok, Err, List, [], ◌∷◌, refl, sym, ap, subst}
 use Rattle.protocol.proofs.Vocabulary.{LoadFirst, Layout', IsLayout, head_place, entry_place, XHELD, Op, Event, Thread, Stage, Idle, Dying, State, After, put, start, stands_in}
-use Rattle.protocol.proofs.Vocabulary.{sleepers, is_alive, killed, begun, happens, run, if◌then◌else◌, eqb-false}
+use Rattle.protocol.proofs.Vocabulary.{sleepers, is_alive, killed, begun, happens, run, if◌then◌else◌}
 use Rattle.buckets.specs.Queues.{without}
 use Rattle.protocol.proofs.Puts.{put-same, put-other}
 use Rattle.protocol.proofs.Kept.{Kept}
@@ -12,6 +12,7 @@ use Rattle.protocol.proofs.Working.{by_step}
 use Rattle.protocol.proofs.Queues.{without_stands, without_gone, once_without, not_true}
 use Rattle.protocol.proofs.Queued.{Answering, Queued, went_queued}
 use Rattle.protocol.proofs.Runs.{sound, start_kept}
+use Rattle.protocol.proofs.Cases.{at_or_else}
 
 -- ---- a call that begins
 module _ (s : State) (t : ℕ) (o : Op) (queued : Queued s) (idle : (s.threads t).stage ≡ Idle) where
@@ -42,20 +43,21 @@ module _ (s : State) (t : ℕ) (inv : Kept s) (queued : Queued s) (pos : 1 ≤ t
 
   -- its walk answers for what its call answered for
   minds : (m : ℕ) (g : Stage) → (s.threads t).stage ≡ g → AnswersAs s.layout s.words m t g → s.words (head_place t + 2) ≡ entry_place s.layout m
-  minds m x1 is a = grind (arith)
+  minds m g is a = grind (arith)
 
   out_then : (u : ℕ) → ((key : ℕ) → stands_in u (s.queues key) ≡ false) → (key : ℕ) → stands_in u (s1.queues key) ≡ false
   out_then u out key = not_true (stands_in u (without t (s.queues key))) (λ stands. cc ((without_stands t u (s.queues key) stands).0, out key))
 
   dead_answers : (m x : ℕ) → Answering s m x → Answering s1 m x
-  dead_answers m x a = go (x == t) refl
-    where
-      go : (b : Bool) → (x == t) ≡ b → Answering s1 m x
-      go false e = record { first = a.first; last = a.last; answers = subst (AnswersAs s.layout s.words m x) (sym (stage_stays x (eqb-false x t e))) a.answers; awake = out_then x a.awake }
-      go true e =
-          let me : x ≡ t = eqb-true x t e in
-          let here : AnswersAs s.layout s.words m t (s.threads t).stage = subst (λ (y : ℕ). AnswersAs s.layout s.words m y (s.threads y).stage) me a.answers in
-          subst (Answering s1 m) (sym me) record { first = pos; last = known; answers = subst (λ (z : Thread). AnswersAs s.layout s.words m t z.stage) (sym (put-same s.threads t dead)) (minds m (s.threads t).stage refl here); awake = λ key. without_gone t (s.queues key) }
+  dead_answers m x =
+      at_or_else (λ (y : ℕ). Answering s m y → Answering s1 m y) t x
+      (λ a. record {
+        first = pos;
+        last = known;
+        answers = subst (λ (z : Thread). AnswersAs s.layout s.words m t z.stage) (sym (put-same s.threads t dead)) (minds m (s.threads t).stage refl a.answers);
+        awake = λ key. without_gone t (s.queues key);
+      })
+      (λ apart a. record { first = a.first; last = a.last; answers = subst (AnswersAs s.layout s.words m x) (sym (stage_stays x apart)) a.answers; awake = out_then x a.awake })
 
   kill_queued : Queued s1
   kill_queued = record {

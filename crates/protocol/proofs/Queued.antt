@@ -1,11 +1,9 @@
 -- Who sleeps where, and who answers for a mutex that nobody owns.
 use Rattle.std.proofs.Common.{◌≡◌, ◌≢◌, ◌⊎◌, ⊎_elim, inl, inr, ℕ, ◌<◌, ◌≤◌, ◌==◌, Bool, true, false, List, [], ◌∷◌, drop, length, refl, sym, ap, ◌∙◌, subst, arith, eqb-true}
-use Rattle.protocol.proofs.Vocabulary.{condition_of, Access, Layout', cell_place, counter_place, address_of, sleeps_at, Whole, Op, OnMutex, OnCondition, mutex_of, Thread, Stage}
-use Rattle.protocol.proofs.Vocabulary.{Idle, Calling, AtCondition, Dying, Reaped, State, stands_in, sleepers, sleeps, is_asleep, IsUnowned, slice_index, eqb-false}
+use Rattle.protocol.proofs.Vocabulary.{Access, Layout', cell_place, counter_place, address_of, sleeps_at, Whole, Op, mutex_of, Thread, Stage, Idle, Calling, AtCondition, Dying}
+use Rattle.protocol.proofs.Vocabulary.{Reaped, State, stands_in, sleepers, sleeps, is_asleep, IsUnowned, slice_index, eqb-false, Sleeps, IsInNoQueue}
 use Rattle.keys.specs.Chains.{IsAmong}
 use Rattle.protocol.specs.Machine.{places_of}
-use Rattle.protocol.specs.Sleepers.{Sleeps}
-use Rattle.protocol.specs.Applies.{IsInNoQueue}
 use Rattle.protocol.proofs.Puts.{put-same, put-other}
 use Rattle.protocol.proofs.Kept.{Kept}
 use Rattle.protocol.proofs.Places.{counter_is_no_cell}
@@ -14,6 +12,7 @@ use Rattle.protocol.proofs.Steps.{Transition, IsNoMove, done, after, place_of, m
 use Rattle.protocol.proofs.Stepping.{SleepsAs, AnswersAs, HasWaiters, Moving, Moves_none, Moves_to, Continues, Settles, Wakes_there, Answers_now, Found_free, Stepping}
 use Rattle.protocol.proofs.Queues.{Once, stands_none, not_true, first_gone, first_stands, InOne, Turned, As_before, Falls, Woken, Moved, Route, Nowhere, Somewhere, turned, once_then, one_then}
 use Rattle.protocol.proofs.WalkStepping.{same_answers}
+use Rattle.protocol.proofs.Cases.{by_same}
 
 -- thread t stands in the queue of this key as its stage says
 abbrev pub Slept : State → ℕ → ℕ → Type 0
@@ -50,7 +49,7 @@ out_awake s t out = stands_none t s.queues (places_of s.layout (s.threads t).sta
 
 -- whoever is woken on a mutex answers for it
 woken_as : (l : Layout') (words : ℕ → ℕ) (k t : ℕ) (g : Stage) → k < l.mutexes → SleepsAs l (cell_place l k) g → AnswersAs l words k t g
-woken_as l words k t x4 inside h = grind (arith)
+woken_as l words k t g inside h = grind (arith)
 
 -- the mutex of a call in progress
 pub mutex_inside : (s : State) (t : ℕ) → Kept s → 1 ≤ t → t ≤ s.layout.threads → (o : Op) (p : Whole) → (s.threads t).stage ≡ Calling o p → mutex_of s.layout o < s.layout.mutexes
@@ -61,13 +60,7 @@ carried_as : (l : Layout') (c m : ℕ) (g : Stage) → ((o : Op) (p : Whole) →
 carried_as l c m (Calling o p) inside of h = (h.0, there o p (inside o p refl) h.1)
   where
     there : (o : Op) (p : Whole) → mutex_of l o < l.mutexes → IsAmong (counter_place l c) (places_of l (Calling o p)) → IsAmong (cell_place l m) (places_of l (Calling o p))
-    there (OnMutex d) p below (inl place) = absurd (counter_is_no_cell l _ c below place)
-    there (OnMutex d) p below (inr none) = absurd none
-    there (OnCondition d) p below (inl place) = absurd (counter_is_no_cell l _ c below place)
-    there (OnCondition d) p below (inr (inl place)) =
-        let same : c ≡ condition_of d = omega (arith, place) in
-        inl (ap (cell_place l) (sym of ∙ ap (λ (x : ℕ). slice_index l.conditions x) same))
-    there (OnCondition d) p below (inr (inr none)) = absurd none
+    there o p below place = grind (arith)
 carried_as l c m Idle inside of h = absurd h
 carried_as l c m (AtCondition d p) inside of h = absurd h
 carried_as l c m (Dying w) inside of h = absurd h
@@ -143,11 +136,7 @@ module _ (s : State) (t : ℕ) (v : Transition) (g : Stepping s t v) (pos : 1 �
   stood u key stands = go (turn u)
     where
       only : (place : ℕ) → ((x : ℕ) → x ≢ place → stands_in u (s'.queues x) ≡ false) → key ≡ place
-      only place elsewhere = pick (key == place) refl
-        where
-          pick : (b : Bool) → (key == place) ≡ b → key ≡ place
-          pick true e = eqb-true key place e
-          pick false e = absurd (cc (stands, elsewhere key (eqb-false key place e)))
+      only place elsewhere = by_same key place (λ is. is) (λ apart. absurd (cc (stands, elsewhere key apart)))
 
       go : Turned u t v.access at (met s t v) s.queues s'.queues → ((u ≢ t) × (stands_in u (s.queues key) ≡ true)) ⊎ (((u ≡ t) × (sleeps_at v.access (met s t v) ≡ true) × (key ≡ at)) ⊎ Carried u key)
       go (As_before quiet unwoken unmoved same) = let before = sym (same key) ∙ stands in inl ((λ me. cc (sym (ap (λ (x : ℕ). stands_in x (s.queues key)) me) ∙ before, out key)), before)
@@ -180,10 +169,11 @@ module _ (s : State) (t : ℕ) (v : Transition) (g : Stepping s t v) (pos : 1 �
 
   pub bits' : (k u : ℕ) → k < s.layout.mutexes → Sleeps s' u k → HasWaiters s' k
   bits' k u inside stands =
-      g.waiters k inside
+      ⊎_elim (λ on. on) (λ none. absurd (cc (sym (ap (stands_in u) none.0) ∙ stands)))
+      (g.waiters k inside
       (⊎_elim (λ old. queued.bits k u inside old.1)
       (λ new. ⊎_elim (λ falls. (g.asleep falls.1 k inside (sym falls.2)).0) (λ moved. subst (HasWaiters s) (let place = moved.to in omega (arith, place)) moved.waits) new)
-      (stood u (cell_place s.layout k) stands))
+      (stood u (cell_place s.layout k) stands)))
 
   -- ---- who answers then
 

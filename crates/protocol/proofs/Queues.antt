@@ -1,10 +1,10 @@
 -- Queues, and what an access does to them.
 use Rattle.std.proofs.Common.{◌≡◌, ◌≢◌, ◌⊎◌, ⊎_elim, inl, ℕ, zero, suc, ◌≤◌, ◌==◌, ◌%◌, ◌^◌, Bool, true, false, List, [], ◌∷◌, ◌++◌, take, drop, refl, sym, ap, ◌∙◌, subst, arith, eqb-true}
-use Rattle.protocol.proofs.Vocabulary.{Access, sleeps_at, Layout', put, queue_after, woken_by, moved_by, joined, stands_in, if◌then◌else◌, not, eqb-false}
+use Rattle.protocol.proofs.Vocabulary.{Access, sleeps_at, Layout', put, queue_after, woken_by, moved_by, joined, stands_in, if◌then◌else◌, not, eqb-false, stands_at}
 use Rattle.buckets.specs.Queues.{without}
-use Rattle.protocol.specs.Machine.{stands_at}
 use Rattle.protocol.proofs.Puts.{by_put, put-same, put-other}
 use Rattle.protocol.proofs.Steps.{IsNoMove, moves_none, joined_none}
+use Rattle.protocol.proofs.Cases.{by_same}
 
 -- ---- lists of threads
 
@@ -275,7 +275,7 @@ module _ (l : Layout') (qs : ℕ → List ℕ) (t : ℕ) (a : Access) (at w : �
 
     -- a property of each queue then
     by_key : (P : List ℕ → Type 0) (b : Bool) (key : ℕ) → (key ≡ to → P (qs to ++ moved_if b)) → (key ≡ at → P (left_if b)) → (key ≢ to → key ≢ at → P (qs key)) → P (joined_if b key)
-    by_key x0 b key there here others = grind (arith)
+    by_key P b key there here others = grind (arith)
 
     -- whoever stands at the source stands nowhere else
     only_there : (u : ℕ) → stands_in u q ≡ true → (key : ℕ) → key ≢ at → stands_in u (qs key) ≡ false
@@ -363,11 +363,7 @@ module _ (l : Layout') (qs : ℕ → List ℕ) (t : ℕ) (a : Access) (at w : �
     where
       -- the one place where it stands
       only : (place : ℕ) → ((x : ℕ) → x ≢ place → stands_in u (qs' x) ≡ false) → (x : ℕ) → stands_in u (qs' x) ≡ true → x ≡ place
-      only place elsewhere x stands = pick (x == place) refl
-        where
-          pick : (b : Bool) → (x == place) ≡ b → x ≡ place
-          pick true e = eqb-true x place e
-          pick false e = absurd (cc (stands, elsewhere x (eqb-false x place e)))
+      only place elsewhere x stands = by_same x place (λ is. is) (λ apart. absurd (cc (stands, elsewhere x apart)))
 
       go : Turned u t a at w qs qs' → key ≡ other
       go h = grind (arith)

@@ -1,7 +1,6 @@
 -- Threads that were reaped, and the lists of those that live.
 use Rattle.std.proofs.Common.{ap, subst, arith}
-use Rattle.protocol.proofs.Vocabulary.{Layout', State, start, run}
-use Rattle.protocol.specs.Headline.{NoReapedOwns, NoReapedOwner}
+use Rattle.protocol.proofs.Vocabulary.{Layout', State, start, run, NoReapedOwns, NoReapedOwner}
 use Rattle.protocol.specs.Lists.{ListsAreKept}
 use Rattle.protocol.proofs.Kept.{Listed, Kept}
 use Rattle.protocol.proofs.Lists.{has_list}

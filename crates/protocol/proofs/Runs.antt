@@ -1,13 +1,11 @@
 -- Whole runs.
-use Rattle.std.proofs.Common.{◌≡◌, ◌≢◌, ℕ, zero, suc, ◌+◌, ◌-◌, ◌%◌, ◌<◌, ◌≤◌, ◌==◌, Bool, true, false, ◌&&◌, Option, Some, None, Ok, Err, List, [], ◌∷◌, ◌++◌, refl, sym, ap, ◌∙◌, subst, arith, eqb-true}
+use Rattle.std.proofs.Common.{◌≡◌, ◌≢◌, ℕ, zero, suc, ◌+◌, ◌<◌, ◌≤◌, Bool, true, false, ◌&&◌, Option, Some, None, Ok, Err, List, [], ◌∷◌, ◌++◌, refl, sym, ap, ◌∙◌, subst, arith}
 use Rattle.protocol.proofs.Vocabulary.{LoadFirst, Object, Operation, Decision, Layout', IsLayout, head_place, Does, Permits, acquires, fresh, held_by, Reply, XHELD, Op, mutex_of}
 use Rattle.protocol.proofs.Vocabulary.{Names, Event, Thread, Stage, Idle, Dying, Note, facts_of, State, After, put, start, nothing, is_alive, killed, begun, happens, run, notes}
-use Rattle.protocol.proofs.Vocabulary.{seen, if◌then◌else◌, nat_le, MatchBool, eqb-false, nat_tests}
-use Rattle.keys.specs.Layouts.{first_word}
+use Rattle.protocol.proofs.Vocabulary.{seen, if◌then◌else◌, nat_le, MatchBool, nat_tests, first_word, points_of, points_among, HistoryIsLegal}
 use Rattle.keys.specs.Histories.{Legal, opening}
 use Rattle.robustlist.proofs.Lists.{begins_empty}
 use Rattle.protocol.specs.Ops.{operation_of}
-use Rattle.protocol.specs.Headline.{points_of, points_among, HistoryIsLegal}
 use Rattle.protocol.proofs.Puts.{by_put}
 use Rattle.protocol.proofs.Objects.{one}
 use Rattle.protocol.proofs.Counts.{held_by-same}
@@ -17,7 +15,9 @@ use Rattle.protocol.proofs.Stepping.{Stepping}
 use Rattle.protocol.proofs.Events.{begins_at, names_mutex, by_event}
 use Rattle.protocol.proofs.Working.{Noted, noted_points, point_of, by_step}
 use Rattle.protocol.proofs.Lists.{left_from}
-use Rattle.protocol.proofs.WalkSteps.{walk_of, mourns_same}
+use Rattle.protocol.proofs.WalkSteps.{walk_of}
+use Rattle.protocol.proofs.Cases.{at_or_else}
+use Rattle.protocol.proofs.Mourning.{mourns_carries}
 
 -- the decisions take the mutexes from what the one state's cells say to what the other's do
 abbrev pub Told : State → List Decision → State → Type 0
@@ -110,11 +110,7 @@ access_sound : (s : State) (t : ℕ) (v : Transition) (n : Note) → Kept s → 
 access_sound s t v n inv pos known g noted = record { kept = g.kept; same = refl; told = subst (λ (ds : List Decision). Told s ds (after s t v)) (sym (noted_points s t v n noted)) (told v.point refl g.tells) }
   where
     unchanged : seen (after s t v) v.mutex ≡ seen s v.mutex → (k : ℕ) → seen (after s t v) k ≡ seen s k
-    unchanged same k = go (k == v.mutex) refl
-      where
-        go : (b : Bool) → (k == v.mutex) ≡ b → seen (after s t v) k ≡ seen s k
-        go true e = subst (λ (j : ℕ). seen (after s t v) j ≡ seen s j) (sym (eqb-true k v.mutex e)) same
-        go false e = g.far k (eqb-false k v.mutex e)
+    unchanged same k = at_or_else (λ (j : ℕ). seen (after s t v) j ≡ seen s j) v.mutex k same (g.far k)
 
     told : (x : Option Reply) → v.point ≡ x → Tells t (seen s v.mutex) v.operation x (seen (after s t v) v.mutex) → Told s (point_of t v.mutex v.operation x) (after s t v)
     told None is same = unchanged same
@@ -141,7 +137,8 @@ module _ (s : State) (t : ℕ) (inv : Kept s) (pos : 1 ≤ t) (known : t ≤ s.l
         (λ is. subst (λ (v : ℕ). Walks v (walk_of t LoadFirst)) (sym is) (record { mine = refl; head = refl; going = tt; knows = tt }))
         (λ apart. dead_sits u (s.threads u).held (s.threads u).stage (inv.sits u first most));
     listed = λ u first most. by_put (λ (z : Thread). Listed s1 u z.stage) s.threads t dead u
-        (λ is. subst (λ (v : ℕ). Mourns s1 v LoadFirst) (sym is) (mourns_same s s1 t refl (λ x. refl) (λ k. refl) LoadFirst (left_from s t inv pos known alive)))
+        (λ is. subst (λ (v : ℕ). Mourns s1 v LoadFirst) (sym is)
+        (mourns_carries s s1.words s1.queues s1.threads t (λ x k below is own. refl) refl refl (λ k own. own) (λ k own. own) (λ k at v again treats owner only. only) LoadFirst tt (left_from s t inv pos known alive)))
         (λ apart. dead_listed u (s.threads u).stage (inv.listed u first most));
     heads = λ u first most. record {
       offset = (inv.heads u first most).offset;

@@ -1,19 +1,16 @@
 -- Signals and broadcasts by the mutex's owner that no other event divides.
-use Rattle.std.proofs.Common.{◌≡◌, ◌≢◌, ℕ, zero, suc, ◌+◌, ◌-◌, ◌%◌, ◌^◌, ◌<◌, ◌≤◌, ◌==◌, Bool, true, false, Some, None, List, [], ◌∷◌, ◌++◌, map, length, take, drop, refl, sym, ap, ◌∙◌, subst, arith, eqb-true, eq-eqb, append-nil}
-use Rattle.protocol.proofs.Vocabulary.{CondCall, CondRow, Signal, Broadcast, CondPhase, full, CondOnward, condition_of, CondWhole, from_words, cond_led, Fact, Condition, Again}
-use Rattle.protocol.proofs.Vocabulary.{address_of, changed, Layout', cell_place, counter_place, Object, Operation, or_waiting, fields_of, Reply, OK, EPERM, XFULL, OnCondition}
+use Rattle.std.proofs.Common.{◌≡◌, ◌≢◌, ℕ, suc, ◌+◌, ◌-◌, ◌%◌, ◌^◌, ◌<◌, ◌≤◌, ◌==◌, Bool, true, false, Some, None, List, [], ◌∷◌, ◌++◌, map, length, take, drop, refl, sym, ap, ◌∙◌, subst, arith, eq-eqb, append-nil}
+use Rattle.protocol.proofs.Vocabulary.{CondCall, CondRow, Signal, Broadcast, CondPhase, full, CondOnward, condition_of, CondWhole, from_words, cond_led, Fact, Condition, Again, word_among}
+use Rattle.protocol.proofs.Vocabulary.{address_of, Layout', cell_place, counter_place, Object, Operation, or_waiting, fields_of, Reply, OK, EPERM, XFULL, OnCondition}
 use Rattle.protocol.proofs.Vocabulary.{Event, Step, Began, Note, Thread, Stage, Idle, AtCondition, facts_of, moves_to, mutex_of, begun_of, State, After, put, answer_among}
 use Rattle.protocol.proofs.Vocabulary.{queue_after, moved_by, joined, stage_at, reply_at, led_at, held_after, start, may_begin, first_stage, begun, nothing, happens, run, notes}
-use Rattle.protocol.proofs.Vocabulary.{seen, facts_among, if◌then◌else◌, not, replicate, slice_index, nat_tests, SignalRow, BroadcastRow}
-use Rattle.std.specs.Prelude.{bit_or}
+use Rattle.protocol.proofs.Vocabulary.{seen, facts_among, if◌then◌else◌, not, replicate, slice_index, nat_tests, SignalRow, BroadcastRow, bit_or, decided_at, owner_of-is}
 use Rattle.keys.specs.declared.access.Answer.TheVariants.{Counts}
 use Rattle.protocol.proofs.Places.{counter_is_no_cell}
 use Rattle.protocol.proofs.Emptied.{no_more}
 use Rattle.std.proofs.lemmas.List.{take_all, drop_all}
 use Rattle.protocol.specs.declared.event.Event.TheVariants.{Begin}
-use Rattle.keys.proofs.Owners.{owner_of-is}
 use Rattle.condvar.specs.Rows.{goes, ends}
-use Rattle.facts.specs.declared.fact.Fact.TheVariants.{Wake}
 use Rattle.protocol.specs.Signals.{call_alone, told_of_call, IsUnchanged, IsSignalled, IsBroadcast, IsRightAlone, AreRightAlone, SignalsAreRight}
 use Rattle.protocol.proofs.Events.{at_rest, names_mutex}
 use Rattle.protocol.proofs.QueueRuns.{run_queued}
@@ -22,7 +19,6 @@ use Rattle.protocol.proofs.Counters.{Counted, one_more, start_counted, run_count
 use Rattle.condvar.specs.Calls.{operation_of}
 use Rattle.condvar.specs.Programs.{first_row, row_access}
 use Rattle.condvar.specs.Whole.{onward}
-use Rattle.protocol.specs.Machine.{decided_at}
 use Rattle.protocol.proofs.Puts.{by_put, put-same, put-other}
 use Rattle.protocol.proofs.Kept.{Kept}
 use Rattle.protocol.proofs.Steps.{seen-inside, thread_after, note_of, cond_step}
@@ -94,7 +90,7 @@ module _ (s : State) (t : ℕ) (c : CondCall) (pos : 1 ≤ t) (known : t ≤ s.l
   -- one access, at a row
   row_goes : (words words' : ℕ → ℕ) (queues queues' : ℕ → List ℕ) (r : CondRow) (g : CondOnward) → Kept (at_row words queues r)
       → cond_led (whole r) (answer_among (row_access t cell counter r) (words (address_of (row_access t cell counter r))) (queues (address_of (row_access t cell counter r)))) ≡ g
-      → put words (address_of (row_access t cell counter r)) (changed (row_access t cell counter r) (words (address_of (row_access t cell counter r)))) ≡ words'
+      → put words (address_of (row_access t cell counter r)) (word_among (row_access t cell counter r) (words (address_of (row_access t cell counter r))) (queues (address_of (row_access t cell counter r)))) ≡ words'
       → joined l t (row_access t cell counter r) (moved_by (row_access t cell counter r) (words (address_of (row_access t cell counter r))) (queues (address_of (row_access t cell counter r))))
       (put queues (address_of (row_access t cell counter r)) (queue_after t (row_access t cell counter r) (words (address_of (row_access t cell counter r))) (queues (address_of (row_access t cell counter r))))) ≡ queues'
       → held_after held (decided_at (operation_of c) g.point) (reply_at g.point) ≡ held
@@ -121,7 +117,7 @@ module _ (s : State) (t : ℕ) (c : CondCall) (pos : 1 ≤ t) (known : t ≤ s.l
   -- and then the others, where what holds of every state holds still
   row_then : (words words' : ℕ → ℕ) (queues queues' : ℕ → List ℕ) (r : CondRow) (g : CondOnward) (es : List Event) (y : State) (fs : List Fact)
       → cond_led (whole r) (answer_among (row_access t cell counter r) (words (address_of (row_access t cell counter r))) (queues (address_of (row_access t cell counter r)))) ≡ g
-      → put words (address_of (row_access t cell counter r)) (changed (row_access t cell counter r) (words (address_of (row_access t cell counter r)))) ≡ words'
+      → put words (address_of (row_access t cell counter r)) (word_among (row_access t cell counter r) (words (address_of (row_access t cell counter r))) (queues (address_of (row_access t cell counter r)))) ≡ words'
       → joined l t (row_access t cell counter r) (moved_by (row_access t cell counter r) (words (address_of (row_access t cell counter r))) (queues (address_of (row_access t cell counter r))))
       (put queues (address_of (row_access t cell counter r)) (queue_after t (row_access t cell counter r) (words (address_of (row_access t cell counter r))) (queues (address_of (row_access t cell counter r))))) ≡ queues'
       → held_after held (decided_at (operation_of c) g.point) (reply_at g.point) ≡ held
@@ -129,7 +125,8 @@ module _ (s : State) (t : ℕ) (c : CondCall) (pos : 1 ≤ t) (known : t ≤ s.l
       → Comes_to (at_row words queues r) (Step t ∷ es) y (facts_of (note_at words queues r g) ++ fs)
   row_then words words' queues queues' r g es y fs leads words_are queues_are same further kept =
       let goes = row_goes words words' queues queues' r g kept leads words_are queues_are same in
-      first_step (at_row words queues r) (Step t) es (at_stage words' queues' (stage_at c (whole r) g.phase)) y (note_at words queues r g) fs goes (further (subst (λ (a : After). Kept a.state) goes (sound (at_row words queues r) (Step t) kept).kept))
+      first_step (at_row words queues r) (Step t) es (at_stage words' queues' (stage_at c (whole r) g.phase)) y (note_at words queues r g) fs goes
+      (further (subst (λ (a : After). Kept a.state) goes (sound (at_row words queues r) (Step t) kept).kept))
 
   -- the call begins
   begins_so : may_begin s t (OnCondition c) ≡ true → happens s (Begin t (OnCondition c)) ≡ record { state = at_row s.words s.queues (first_row c); note = Began t (begun_of l (OnCondition c)) None }
@@ -217,9 +214,9 @@ module _ (s : State) (t k : ℕ) (inv : Kept s) (counted : Counted s) (queued : 
         (ap (λ (b : Bool). from_words (whole s t signal pos known (Signal SignalRow.LoadCounter)) (if b then ends Operation.Signal XFULL else goes (Signal SignalRow.Count))) (eq-eqb n full is))
         (put-self s.words at) (put-self s.queues at) refl (λ kept. returned s t signal pos known s.words s.queues r))
 
-    signals_alone : n ≢ full → (r : ℕ) → Comes_to s (call_alone t signal (suc (suc (suc (suc r))))) (at_stage s t signal pos known words_counted (put s.queues at (drop 1 q)) Idle) (told_of_call s t signal mutex Operation.Signal OK (map Wake (take 1 q)))
+    signals_alone : n ≢ full → (r : ℕ) → Comes_to s (call_alone t signal (suc (suc (suc (suc r))))) (at_stage s t signal pos known words_counted (put s.queues at (drop 1 q)) Idle) (told_of_call s t signal mutex Operation.Signal OK (map Fact.Wake (take 1 q)))
     signals_alone apart r =
-        subst (λ (fs : List Fact). Comes_to s (call_alone t signal (suc (suc (suc (suc r))))) (at_stage s t signal pos known words_counted (put s.queues at (drop 1 q)) Idle) (Fact.Begin t (begun_of s.layout (OnCondition signal)) ∷ (Fact.Point (record { thread = t; mutex = mutex; operation = Operation.Signal; reply = OK }) ∷ fs))) (append-nil (map Wake (take 1 q) ++ Fact.Return t OK ∷ []))
+        subst (λ (fs : List Fact). Comes_to s (call_alone t signal (suc (suc (suc (suc r))))) (at_stage s t signal pos known words_counted (put s.queues at (drop 1 q)) Idle) (Fact.Begin t (begun_of s.layout (OnCondition signal)) ∷ (Fact.Point (record { thread = t; mutex = mutex; operation = Operation.Signal; reply = OK }) ∷ fs))) (append-nil (map Fact.Wake (take 1 q) ++ Fact.Return t OK ∷ []))
         (signal_looks _ _ _
         (row_then s t signal pos known s.words s.words s.queues s.queues (Signal SignalRow.LoadCounter) (onward (CondPhase.AtWords (Signal SignalRow.Count))) _ _ _
         (ap (λ (b : Bool). from_words (whole s t signal pos known (Signal SignalRow.LoadCounter)) (if b then ends Operation.Signal XFULL else goes (Signal SignalRow.Count))) (differs n full apart))
@@ -288,7 +285,7 @@ module _ (s : State) (t k : ℕ) (inv : Kept s) (counted : Counted s) (queued : 
     -- what the move tells
     move_told : facts_of (note_at s t cast pos known words_set s.queues (Broadcast (BroadcastRow.Move low)) (onward (CondPhase.Ended OK))) ≡ map (moves_to mutex) q ++ Fact.Return t OK ∷ []
     move_told =
-        ap (λ (b : Bool). map Wake (if b then take 0 q else []) ++ (map (moves_to mutex) (if b then take 64 (drop 0 q) else []) ++ Fact.Return t OK ∷ [])) compares
+        ap (λ (b : Bool). map Fact.Wake (if b then take 0 q else []) ++ (map (moves_to mutex) (if b then take 64 (drop 0 q) else []) ++ Fact.Return t OK ∷ [])) compares
         ∙ ap (λ (us : List ℕ). map (moves_to mutex) us ++ Fact.Return t OK ∷ []) (take_all 64 q short_queue)
 
     cast_alone : n ≢ full → (r : ℕ) → Comes_to s (call_alone t cast (suc (suc (suc (suc (suc r)))))) (at_stage s t cast pos known words_set queues_moved Idle) (told_of_call s t cast mutex Operation.Broadcast OK (map (moves_to mutex) q))

@@ -1,5 +1,5 @@
 -- One access of a thread, whatever it does.
-use Rattle.std.proofs.Common.{◌≡◌, ◌≢◌, ◌⊎◌, ℕ, ◌+◌, ◌<◌, ◌≤◌, Bool, true, false, Some, length}
+use Rattle.std.proofs.Common.{◌≡◌, ◌≢◌, ◌⊎◌, ℕ, ◌+◌, ◌<◌, ◌≤◌, Bool, true, false, Some, length, []}
 use Rattle.protocol.proofs.Vocabulary.{CondRow, CondPhase, acquires, sleeps_at, Layout', head_place, entry_place, cell_place, counter_place, fields_of, Reply, AtCell, OnCondition}
 use Rattle.protocol.proofs.Vocabulary.{mutex_of, Stage, Calling, AtCondition, Dying, State, is_met, seen, IsUnowned, slice_index, LockRow, WaitRow, SignalRow, BroadcastRow, Part}
 use Rattle.keys.specs.declared.access.Access.TheVariants.{Wake, CmpRequeue}
@@ -107,7 +107,8 @@ pub record Stepping (s : State) (t : ℕ) (v : Transition) : Type 0 where
   -- who makes a point may take another mutex
   pub room : (x : Reply) → v.point ≡ Some x → acquires v.operation ≡ true → (s.threads t).held < 2048
   pub far : (k : ℕ) → k ≢ v.mutex → seen (after s t v) k ≡ seen s k
-  pub waiters : (k : ℕ) → k < s.layout.mutexes → HasWaiters s k → HasWaiters (after s t v) k
+  -- WAITERS stays in each cell, or nobody sleeps there and nobody owns it
+  pub waiters : (k : ℕ) → k < s.layout.mutexes → HasWaiters s k → HasWaiters (after s t v) k ⊎ (((after s t v).queues (cell_place s.layout k) ≡ []) × IsUnowned s k)
   pub pendings : (u : ℕ) → 1 ≤ u → u ≤ s.layout.threads → t ≢ u → (after s t v).words (head_place u + 2) ≡ s.words (head_place u + 2)
   -- whoever falls asleep stands where it goes on; on a mutex's cell, that is owned and has WAITERS
   pub sleeper : sleeps_at v.access (met s t v) ≡ true → SleepsAs s.layout (place_of s t v) v.next

@@ -1,21 +1,25 @@
 -- One access of a call, on the words and the threads of the machine.
-use Rattle.std.proofs.Common.{◌≡◌, ◌≢◌, ℕ, ◌%◌, ◌^◌, ◌<◌, ◌==◌, Bool, true, ◌&&◌, Option, Some, None, List, [], refl, sym, ap, subst, arith}
+use Rattle.std.proofs.Common.{◌≡◌, ℕ, ◌<◌, Bool, true, Option, Some, None, List, [], refl, sym, ap, subst, arith}
 use Rattle.protocol.proofs.Vocabulary.{CondCall, CondOnward, condition_of, CondWhole, cond_access, cond_led, Queue, Mutex, Condition, Access, Answer, Operation, Object, Layout'}
-use Rattle.protocol.proofs.Vocabulary.{cell_place, answer_at, sleeps_at, Permits, Run, object_of, fresh, acquires, fields_of, Reply, OK, EOWNERDEAD, Onward, Whole, whole_access}
+use Rattle.protocol.proofs.Vocabulary.{cell_place, changed, sleeps_at, word_among, Permits, Run, object_of, fresh, acquires, fields_of, Reply, OK, EOWNERDEAD, Onward, Whole, whole_access}
 use Rattle.protocol.proofs.Vocabulary.{whole_led, decided, Joins, Thread, Stage, Calling, AtCondition, Op, OnCondition, mutex_of, Note, Stepped, State, put, is_valid, is_met}
 use Rattle.protocol.proofs.Vocabulary.{place_met, answer_among, queue_after, woken_by, moved_by, joined, answer_of, woken, led, led_at, went, held_after, decision, slept_in, seen}
-use Rattle.protocol.proofs.Vocabulary.{if◌then◌else◌, nat_lt, nat_tests}
-use Rattle.keys.specs.declared.access.Answer.TheVariants.{Fault}
-use Rattle.keys.specs.Accesses.{word_among}
+use Rattle.protocol.proofs.Vocabulary.{if◌then◌else◌, nat_lt, nat_tests, Fault}
 use Rattle.mutex.specs.declared.row.Row.{Row}
 use Rattle.mutex.specs.Rows.{IsGoing}
-use Rattle.mutex.specs.Programs.{row_access, row_operation, point_of, resume_of}
+use Rattle.mutex.specs.Programs.{row_access, row_operation, point_of}
 use Rattle.mutex.specs.Laws.{points, IsOf}
 use Rattle.protocol.specs.Machine.{words_after, queues_after, moved, Led}
 
--- a call goes on alike, whoever sleeps
-pub alike : (t cell : ℕ) (r : Row) (w : ℕ) (q : List ℕ) → resume_of t r (answer_among (row_access t cell r) w q) ≡ resume_of t r (answer_at (row_access t cell r) w)
-alike t cell x2 w q = grind (arith)
+-- an access that is no trim
+abbrev pub IsNoTrim : Access → Type 0
+IsNoTrim (Access.Trim at) = ⊥
+IsNoTrim a = Unit {0}
+
+-- it does what it does to its word, whoever sleeps there
+pub untrimmed : (a : Access) (w : ℕ) (q : List ℕ) → IsNoTrim a → word_among a w q ≡ changed a w
+untrimmed (Access.Trim at) w q none = absurd none
+untrimmed a w q none = refl
 
 -- each cell is inside
 pub is_valid-cell : (l : Layout') (m : ℕ) → m < l.mutexes → is_valid l (cell_place l m) ≡ true

@@ -110,7 +110,7 @@ module _ (t held : ℕ) (c : Call) (o : Object) (room : acquires (calls.operatio
 
     -- what it returned is what it was decided
     replied : (x : Reply) (f : Phase) → returned f ≡ Some x → falls ≡ false → SteadyAt t f (z.words (cell_place s.layout m)) → Decided (decided_at f) (seen z m) → (x ≢ XRACED) × Does held o t op x (seen z m)
-    replied x x1 e quiet calm done = grind (arith)
+    replied x f e quiet calm done = grind (arith)
 
     -- it falls asleep, returns, or goes on
     one_step : (n : ℕ) → ((y : State) (q : Whole) → Kept y → Queued y → 1 ≤ t → t ≤ y.layout.threads → (y.threads t).stage ≡ Calling (OnMutex c) q → is_asleep y t ≡ false → SteadyAt t q.phase (y.words (cell_place y.layout m)) → Decided (decided_at q.phase) (seen y m) → ComesBack t held m op o KeptOut y n)
@@ -199,10 +199,7 @@ module _ (s : State) (t : ℕ) (c : Op) (n : ℕ) (inv : Kept s) (queued : Queue
       }
     where
       only : (x : Reply) → IsAmong (Return t x) (facts_of (begun_to true).note ++ []) → x ≡ XHELD
-      only x among = ⊎_elim (λ b. absurd (cc b)) (λ rest. ⊎_elim (λ b. absurd (cc b)) (λ last. ⊎_elim (λ same. sym (replied same)) (λ none. absurd none) last) rest) among
-        where
-          replied : Return t XHELD ≡ Return t x → XHELD ≡ x
-          replied same = cc
+      only x among = grind (arith)
 
   -- begun
   goes : full ≡ false → IsUndivided s t c n

@@ -1,32 +1,33 @@
 -- The words of the crates below, and of specs/, that many proofs here speak: each file names from here those that it uses.
 pub use Rattle.std.proofs.lemmas.Bool.{eqb-false}
 pub use Rattle.std.proofs.lemmas.Bool.Decides.{nat_tests}
-pub use Rattle.std.specs.Prelude.{MatchBool, if◌then◌else◌, nat_le, nat_lt, not, replicate, slice_index}
+pub use Rattle.std.specs.Prelude.{Err, MatchBool, Ok, bit_or, if◌then◌else◌, nat_le, nat_lt, not, replicate, slice_index, ◌&&◌, ◌-◌, ◌||◌}
 pub use Rattle.lockword.proofs.Bits.{or_waiting}
-pub use Rattle.lockword.specs.Cells.{Fields, fields_of, word_of}
+pub use Rattle.lockword.specs.Cells.{Fields, fields_of, taken, waiting, word_of}
 pub use Rattle.lockword.specs.Coding.{fields_of-word_of}
 pub use Rattle.lockword.specs.declared.reply.Reply.{Reply}
 pub use Rattle.lockword.specs.declared.reply.Reply.TheVariants.{EOWNERDEAD, EPERM, OK, XFULL, XHELD, XRACED}
-pub use Rattle.keys.proofs.Owners.{owner_of-some}
-pub use Rattle.keys.specs.Accesses.{address_of, answer_at, changed, sleeps_at}
+pub use Rattle.keys.proofs.Owners.{owner_of-is, owner_of-none, owner_of-some}
+pub use Rattle.keys.specs.Accesses.{address_of, answer_among, answer_at, changed, sleeps_at, word_among}
 pub use Rattle.keys.specs.Chains.{AreDifferent, IsChainBothWays, Leads, address_sum}
 pub use Rattle.keys.specs.Histories.{held_by}
-pub use Rattle.keys.specs.Layouts.{IsLayout, Layout', cell_place, counter_place, entry_place, head_place}
+pub use Rattle.keys.specs.Layouts.{IsLayout, Layout', cell_place, counter_place, entry_place, first_word, head_place}
 pub use Rattle.keys.specs.Objects.{Does, Permits, Run, acquires, fresh, object_of, owner_of}
 pub use Rattle.keys.specs.declared.access.Access.{Access}
 pub use Rattle.keys.specs.declared.access.Answer.{Answer}
-pub use Rattle.keys.specs.declared.access.Answer.TheVariants.{Again}
+pub use Rattle.keys.specs.declared.access.Answer.TheVariants.{Again, Changed, Exchanged, Fault}
 pub use Rattle.keys.specs.declared.object.Object.{Object}
 pub use Rattle.keys.specs.declared.point.Decision.{Decision}
 pub use Rattle.keys.specs.declared.point.Operation.{Operation}
-pub use Rattle.robustlist.proofs.Places.{entries-different, without-among}
-pub use Rattle.robustlist.specs.Link.{LinkGoes}
+pub use Rattle.robustlist.proofs.Chains.{both-ways, chain-same, chained, leads-same}
+pub use Rattle.robustlist.proofs.Places.{apart-among, avoids-all, entries-different, without-among}
+pub use Rattle.robustlist.specs.Link.{LinkGoes, link_access, link_access_of, link_moved, link_resume}
 pub use Rattle.robustlist.specs.Standings.{UnlinkStanding}
 pub use Rattle.robustlist.specs.Unlink.{UnlinkGoes, unlink_access, unlink_resume}
-pub use Rattle.robustlist.specs.Words.{Agree}
+pub use Rattle.robustlist.specs.Words.{Agree, Makes, answer_on}
 pub use Rattle.robustlist.specs.declared.link.LinkRow.{LinkRow}
 pub use Rattle.robustlist.specs.declared.unlink.UnlinkRow.{UnlinkRow}
-pub use Rattle.mutex.specs.Alone.{is_wake, left}
+pub use Rattle.mutex.specs.Alone.{Alone, Steady, answers_for, is_wake, left}
 pub use Rattle.mutex.specs.Laws.{Expects, Joins, Sound, decided}
 pub use Rattle.mutex.specs.Standings.{Whole}
 pub use Rattle.mutex.specs.Whole.{after_cell, leaving, whole_access, whole_led}
@@ -40,6 +41,7 @@ pub use Rattle.mutex.specs.declared.row.Row.TheVariants.{Consistent, TryLock}
 pub use Rattle.mutex.specs.declared.try_lock.TryLockRow.{TryLockRow}
 pub use Rattle.mutex.specs.declared.unlock.UnlockRow.TheVariants.{Load, Release}
 pub use Rattle.mutex.specs.declared.unlock.UnlockRow.{UnlockRow}
+pub use Rattle.condvar.proofs.Rights.{names, there}
 pub use Rattle.condvar.specs.Calls.{condition_of}
 pub use Rattle.condvar.specs.Laws.{cell_after, counter_after, met_word}
 pub use Rattle.condvar.specs.Rows.{full}
@@ -65,18 +67,23 @@ pub use Rattle.facts.specs.declared.fact.Fact.TheVariants.{Return}
 pub use Rattle.facts.specs.declared.fact.Queue.{Queue}
 pub use Rattle.facts.specs.declared.fact.Queue.TheVariants.{Condition, Mutex}
 pub use Rattle.protocol.specs.Applies.{Names}
-pub use Rattle.protocol.specs.Explained.{caller}
-pub use Rattle.protocol.specs.Headline.{facts_among, seen}
-pub use Rattle.protocol.specs.Machine.{After, State, answer_among, answer_of, begun, decision, falls_asleep, first_stage, happens, has_ended, held_after, is_alive, is_asleep, is_calling, is_met, is_valid, joined, killed, led, led_at, may_begin, moved_by, notes, nothing, place_met, put, queue_after, reply_at, returned, returned_at, run, sleepers, sleeps, slept_in, stage_after, stage_at, stage_walked, stands_in, start, stepped, told_of, walked, went, woken, woken_by}
-pub use Rattle.protocol.specs.Notes.{death_facts, facts_of, moves_to, reap_facts, return_facts, sleep_facts}
-pub use Rattle.protocol.specs.Ops.{begun_of, mutex_of}
-pub use Rattle.protocol.specs.Sleepers.{IsUnowned}
+pub use Rattle.protocol.specs.Applies.{Applies, AtRest, Dead, EventsApply, Gone, HasAccess, InCall, IsAccessOf, IsInNoQueue, IsLiving, IsNotedAs, IsThread, NextApplies, Told, last_told, refusal, told_after, told_next}
+pub use Rattle.protocol.specs.Explained.{IsExplained, TraceIsExplained, caller, caller_of}
+pub use Rattle.protocol.specs.Headline.{HistoryIsLegal, NoReapedOwner, NoReapedOwns, facts_among, points_among, points_of, seen}
+pub use Rattle.protocol.specs.Machine.{After, State, answer_of, begun, decision, falls_asleep, first_stage, happens, has_ended, held_after, is_alive, is_asleep}
+pub use Rattle.protocol.specs.Machine.{is_calling, is_met, is_valid, joined, killed, led, led_at, may_begin, moved_by, notes, nothing, place_met, put, queue_after, reply_at}
+pub use Rattle.protocol.specs.Machine.{returned, returned_at, run, sleepers, sleeps, slept_in, stage_after, stage_at, stage_walked, stands_in, start, stepped, told_of, walked}
+pub use Rattle.protocol.specs.Machine.{death_at, decided_at, mutex_at, stands_at, went, woken, woken_by}
+pub use Rattle.protocol.specs.Notes.{death_facts, facts_of, line_of, lines_from, moves_to, point_facts, reap_facts, return_facts, sleep_facts}
+pub use Rattle.protocol.specs.Ops.{begun_of, mutex_of, queue_place}
+pub use Rattle.protocol.specs.PassedBy.{ArePresets, BeginsNone, NobodyIsPassedBy, last_begun}
+pub use Rattle.protocol.specs.Sleepers.{IsUnowned, IsWaiting, Sleeps}
 pub use Rattle.protocol.specs.declared.event.Event.{Event}
 pub use Rattle.protocol.specs.declared.event.Event.TheVariants.{Step}
 pub use Rattle.protocol.specs.declared.event.Op.{Op}
 pub use Rattle.protocol.specs.declared.event.Op.TheVariants.{OnCondition, OnMutex}
 pub use Rattle.protocol.specs.declared.note.Note.{Note}
-pub use Rattle.protocol.specs.declared.note.Note.TheVariants.{Began, Stepped, Walked}
+pub use Rattle.protocol.specs.declared.note.Note.TheVariants.{Began, Killed, Nothing, Stepped, Walked}
 pub use Rattle.protocol.specs.declared.thread.Stage.{Stage}
 pub use Rattle.protocol.specs.declared.thread.Stage.TheVariants.{AtCondition, Calling, Dying, Idle, Reaped}
 pub use Rattle.protocol.specs.declared.thread.Thread.{Thread}

@@ -1,10 +1,9 @@
 -- Who falls asleep and who is woken, as the trace tells it.
-use Rattle.std.proofs.Common.{◌≡◌, ◌≢◌, ◌⊎◌, inl, inr, ℕ, ◌<◌, ◌≤◌, length, ◌==◌, Bool, true, false, Option, Some, None, Ok, Err, List, [], ◌∷◌, ◌++◌, map, refl, sym, ap, ◌∙◌, subst, arith, eq-eqb, eqb-true, append-nil}
+use Rattle.std.proofs.Common.{◌≡◌, ◌≢◌, inl, inr, ℕ, ◌<◌, ◌≤◌, length, ◌==◌, Bool, true, false, Option, Some, None, Ok, Err, List, [], ◌∷◌, ◌++◌, map, refl, sym, ap, ◌∙◌, subst, arith, eq-eqb, eqb-true, append-nil}
 use Rattle.protocol.proofs.Vocabulary.{Queue, Mutex, Fact, Decision, Layout', cell_place, counter_place, address_of, sleeps_at, Reply, XHELD, OnCondition, Op, Event, Note, Stepped}
 use Rattle.protocol.proofs.Vocabulary.{Walked, facts_of, sleep_facts, moves_to, return_facts, reap_facts, State, After, start, woken_by, moved_by, stands_in, is_asleep, begun}
-use Rattle.protocol.proofs.Vocabulary.{nothing, decision, slept_in, killed, happens, run, notes, facts_among, if◌then◌else◌, slice_index, CondCall}
+use Rattle.protocol.proofs.Vocabulary.{nothing, decision, slept_in, killed, happens, run, notes, facts_among, if◌then◌else◌, slice_index, CondCall, queue_place}
 use Rattle.buckets.specs.Queues.{without}
-use Rattle.protocol.specs.Ops.{queue_place}
 use Rattle.facts.specs.declared.fact.Fact.TheVariants.{Sleep, Wake, Move, Kill}
 use Rattle.protocol.specs.Sleepers.{StandsIn, IsAmong}
 use Rattle.protocol.specs.Wakings.{asleep_next, asleep_after, told_asleep, Alternates, IsQueue, FallsAsleep, LeavesQueue, IsMoved, TellsTurns, TellsSleepers, SleepsAreTold}
@@ -19,6 +18,7 @@ use Rattle.protocol.proofs.Queued.{Queued, in_none}
 use Rattle.protocol.proofs.Queued.{turn as turn_at}
 use Rattle.protocol.proofs.QueueRuns.{queued_on, start_queued, run_queued}
 use Rattle.protocol.proofs.Runs.{sound, start_kept, run_kept, run_layout}
+use Rattle.protocol.proofs.Cases.{by_equal}
 
 -- ---- the facts of one thread's sleep
 
@@ -214,13 +214,10 @@ module _ (s : State) (u t : ℕ) (v : Transition) (g : Stepping s u v) (pos : 1 
       subst (Turn s queues' t (Event.Step u)) (sym (ap (λ (z : Note). turns t (facts_of z)) noted ∙ walk_turns t u d (woken_by v.access w q) y)) (walk_turn quiet still)
 
 kill_turn : (s : State) (u t : ℕ) → TurnOf s t (Event.Kill u) (killed s u)
-kill_turn s u t = go (u == t) refl
-  where
-    go : (b : Bool) → (u == t) ≡ b → Turn s (λ key. without u (s.queues key)) t (Event.Kill u) (if b then Kill u ∷ [] else [])
-    go true x =
-        let same : u ≡ t = eqb-true u t x in
-        Dies (ap (λ (v : ℕ). Kill v ∷ []) same) (ap Event.Kill same) (λ key. ap (λ (v : ℕ). stands_in v (without u (s.queues key))) (sym same) ∙ without_gone u (s.queues key))
-    go false x = Stays refl (λ key. stands_without t u (s.queues key) x)
+kill_turn s u t =
+    by_equal (Turn s (λ key. without u (s.queues key)) t (Event.Kill u)) u t (Kill u ∷ []) []
+    (λ same. Dies (ap (λ (v : ℕ). Kill v ∷ []) same) (ap Event.Kill same) (λ key. ap (λ (v : ℕ). stands_in v (without u (s.queues key))) (sym same) ∙ without_gone u (s.queues key)))
+    (λ apart. Stays refl (λ key. stands_without t u (s.queues key) (grind (arith))))
 
 turn : (s : State) (e : Event) → Kept s → Queued s → (t : ℕ) → TurnOf s t e (happens s e)
 turn s e inv queued t =
@@ -242,10 +239,10 @@ Stood l qs t None = IsOut qs t
 Stood l qs t (Some q) = IsQueue l q × (stands_in t (qs (queue_place l q)) ≡ true)
 
 after_turn : (s : State) (qs : ℕ → List ℕ) (t : ℕ) (e : Event) (told : List Fact) (w : Option Queue) → Turn s qs t e told → Stood s.layout s.queues t w → Stood s.layout qs t (asleep_after t w told)
-after_turn s qs t e told w x6 stood = grind (arith)
+after_turn s qs t e told w is stood = grind (arith)
 
 may_turn : (s : State) (qs : ℕ → List ℕ) (t : ℕ) (e : Event) (told : List Fact) (w : Option Queue) → Turn s qs t e told → Stood s.layout s.queues t w → Alternates t w told
-may_turn s qs t e told w x6 stood = grind (arith)
+may_turn s qs t e told w is stood = grind (arith)
 
 -- ---- what the next event tells
 

@@ -1,8 +1,7 @@
 -- One access of a walk, and what that is of a thread's access.
-use Rattle.std.proofs.Common.{◌≡◌, ◌≢◌, ◌⊎◌, ⊎_elim, inl, inr, ℕ, ◌+◌, ◌<◌, ◌≤◌, ◌==◌, Bool, true, false, Option, Some, None, refl, sym, ap, ◌∙◌, subst, arith, eqb-true}
-use Rattle.protocol.proofs.Vocabulary.{Rest, Part, LoadFirst, LoadOffset, LoadPending, LoadNext, LoadWord, Mark, WakeOne, Object, Layout', head_place, entry_place, cell_place}
-use Rattle.protocol.proofs.Vocabulary.{address_of, changed, answer_at, sleeps_at, Fields, fields_of, Stage, State, told_of, seen, IsUnowned, eqb-false, Access, Operation}
-use Rattle.std.specs.Prelude.{◌||◌}
+use Rattle.std.proofs.Common.{◌≡◌, ◌≢◌, ◌⊎◌, ⊎_elim, inl, inr, ℕ, ◌+◌, ◌<◌, ◌≤◌, false, Option, Some, None, refl, sym, ap, ◌∙◌, subst, arith}
+use Rattle.protocol.proofs.Vocabulary.{Rest, Part, LoadFirst, LoadOffset, LoadPending, LoadNext, LoadWord, Mark, WakeOne, Object, Layout', head_place, entry_place, cell_place, word_among}
+use Rattle.protocol.proofs.Vocabulary.{address_of, changed, answer_at, sleeps_at, Fields, fields_of, Stage, State, told_of, seen, IsUnowned, Access, Operation}
 use Rattle.exitwalk.specs.declared.row.Row.{Row}
 use Rattle.exitwalk.specs.declared.row.Row.TheVariants.{Ended}
 use Rattle.exitwalk.specs.Walks.{Knows, IsGoing, row_access, forward}
@@ -13,8 +12,9 @@ use Rattle.protocol.proofs.Puts.{by_put, put-same, put-other}
 use Rattle.protocol.proofs.Kept.{Mourns, Kept}
 use Rattle.protocol.proofs.Places.{head_is_no_cell}
 use Rattle.protocol.proofs.Steps.{Tells, Transition, met_no_move, met}
-use Rattle.protocol.proofs.WalkSteps.{walk_of, or_first, by_walked, walk_access, walk_answer, row_then, death_then, walk_no_move, walk_transition, walk_after, DeathTells, WalkStep, walk_step}
+use Rattle.protocol.proofs.WalkSteps.{walk_of, or_first, by_walked, walk_access, walk_answer, row_then, death_then, walk_no_move, walk_transition, walk_after, DeathTells, WalkStep, walk_step, walk_word}
 use Rattle.protocol.proofs.Stepping.{Minds, AnswersAs, left_of, HasWaiters, Moves_none, Continues, Settles, Wakes_there, Answers_now, Found_free, Stepping}
+use Rattle.protocol.proofs.Cases.{by_same}
 
 -- it wakes one that sleeps on mutex m
 abbrev IsWaking : Layout' → ℕ → Row → Type 0
@@ -43,11 +43,11 @@ same_answers l words words' m t g same h = grind (arith)
 
 -- a walk is answered truly
 true_answer : (s : State) (t : ℕ) (r : Row) → IsGoing r → IsTrueOf (row_access (head_place t) r) (s.words (address_of (row_access (head_place t) r))) (walk_answer s t r)
-true_answer s t x2 going = grind (arith)
+true_answer s t r going = grind (arith)
 
 -- something is left of a walk that hasn't ended
 some_left : (words : ℕ → ℕ) (r : Row) → IsGoing r → 0 < left_alone words r
-some_left words x1 going = grind (arith)
+some_left words r going = grind (arith)
 
 module _ (s : State) (t : ℕ) (r : Row) (inv : Kept s) (pos : 1 ≤ t) (known : t ≤ s.layout.threads) (going : IsGoing r) (knows : Knows t (head_place t) r) (mourns : Mourns s t r) where
   abbrev step : WalkStep s t r
@@ -87,8 +87,8 @@ module _ (s : State) (t : ℕ) (r : Row) (inv : Kept s) (pos : 1 ≤ t) (known :
   -- WAITERS stays as it is in every cell
   same_waiters : (k : ℕ) → (fields_of (s'.words (cell_place s.layout k))).waiters ≡ (fields_of (s.words (cell_place s.layout k))).waiters
   same_waiters k =
-      by_put (λ x. (fields_of x).waiters ≡ (fields_of (s.words (cell_place s.layout k))).waiters) s.words at_place (changed (walk_access s t r) (s.words at_place)) (cell_place s.layout k)
-      (λ here. ⊎_elim (λ same. ap (λ (x : ℕ). (fields_of x).waiters) same) (λ died. ap (λ (c : Fields). c.waiters) died.cell) law.changes ∙ ap (λ (x : ℕ). (fields_of (s.words x)).waiters) (sym here))
+      by_put (λ x. (fields_of x).waiters ≡ (fields_of (s.words (cell_place s.layout k))).waiters) s.words at_place (word_among (walk_access s t r) (s.words at_place) (s.queues at_place)) (cell_place s.layout k)
+      (λ here. ap (λ (x : ℕ). (fields_of x).waiters) (walk_word (head_place t) r (s.words at_place) (s.queues at_place)) ∙ ⊎_elim (λ same. ap (λ (x : ℕ). (fields_of x).waiters) same) (λ died. ap (λ (c : Fields). c.waiters) died.cell) law.changes ∙ ap (λ (x : ℕ). (fields_of (s.words x)).waiters) (sym here))
       (λ apart. refl)
     where
       law : Right t r (answer_at (walk_access s t r) (s.words at_place)) (s.words at_place) (changed (walk_access s t r) (s.words at_place))
@@ -100,7 +100,7 @@ module _ (s : State) (t : ℕ) (r : Row) (inv : Kept s) (pos : 1 ≤ t) (known :
     where
       go : (d : Option ℕ) → death_then s t r ≡ d → s'.words (head_place u + 2) ≡ s.words (head_place u + 2)
       go None e = step.reads e (head_place u + 2)
-      go (Some k) e = put-other s.words at_place (changed (walk_access s t r) (s.words at_place)) (head_place u + 2) (λ same. head_is_no_cell s.layout u k 2 first most (omega arith) (same ∙ step.place k e))
+      go (Some k) e = put-other s.words at_place (word_among (walk_access s t r) (s.words at_place) (s.queues at_place)) (head_place u + 2) (λ same. head_is_no_cell s.layout u k 2 first most (omega arith) (same ∙ step.place k e))
 
   awake : sleeps_at v.access (met s t v) ≡ false
   awake = walks_awake (head_place t) r (met s t v)
@@ -126,13 +126,12 @@ module _ (s : State) (t : ℕ) (r : Row) (inv : Kept s) (pos : 1 ≤ t) (known :
 
       go : (d : Option ℕ) → death_then s t r ≡ d → DeathTells s t d s' → Settles s t v k
       go None e tells = quiet k inside (tells k) none
-      go (Some j) e tells = pick (k == j) refl
-        where
-          pick : (b : Bool) → (k == j) ≡ b → Settles s t v k
-          pick false apart = quiet k inside (tells.2 k (eqb-false k j apart)) none
-          pick true same =
-              let wakes = step.wakes k (e ∙ ap Some (sym (eqb-true k j same))) (sym (same_waiters k) ∙ on) in
-              Answers_now (minds_on k (subst (Minds s.layout s'.words k t) (sym wakes.1) (wake_minds wakes.0)))
+      go (Some j) e tells =
+          by_same k j
+          (λ same.
+          let wakes = step.wakes k (e ∙ ap Some (sym same)) (sym (same_waiters k) ∙ on) in
+          Answers_now (minds_on k (subst (Minds s.layout s'.words k t) (sym wakes.1) (wake_minds wakes.0))))
+          (λ apart. quiet k inside (tells.2 k apart) none)
 
   told : (d : Option ℕ) → DeathTells s t d s' → (or_first d < s.layout.mutexes) × Tells t (seen s (or_first d)) Operation.Death (told_of d) (seen s' (or_first d)) × ((k : ℕ) → k ≢ or_first d → seen s' k ≡ seen s k)
   told None tells = ((let some = inv.layout.mutexes.0 in omega arith), tells 0, λ k apart. tells k)
@@ -146,7 +145,7 @@ module _ (s : State) (t : ℕ) (r : Row) (inv : Kept s) (pos : 1 ≤ t) (known :
     tells = (told (death_then s t r) step.tells).1;
     room = λ x e takes. absurd (cc takes);
     far = (told (death_then s t r) step.tells).2;
-    waiters = λ k inside on. same_waiters k ∙ on;
+    waiters = λ k inside on. inl (same_waiters k ∙ on);
     pendings = λ u first most apart. pending_stays u first most;
     sleeper = λ on. absurd (cc (on, awake));
     asleep = λ on. absurd (cc (on, awake));
@@ -155,6 +154,6 @@ module _ (s : State) (t : ℕ) (r : Row) (inv : Kept s) (pos : 1 ≤ t) (known :
     some = some_left s.words r going;
     few = let most = (steps.few t (head_place t) r s.words knows).1 in omega arith;
     fewer = λ e.
-        let less = steps.alone t (head_place t) r (walk_answer s t r) s.words s'.words going knows (true_answer s t r going) (put-same s.words at_place (changed (walk_access s t r) (s.words at_place))) in
+        let less = steps.alone t (head_place t) r (walk_answer s t r) s.words s'.words going knows (true_answer s t r going) (put-same s.words at_place (word_among (walk_access s t r) (s.words at_place) (s.queues at_place)) ∙ walk_word (head_place t) r (s.words at_place) (s.queues at_place)) in
         by_walked (λ (g : Stage). left_of s' g < left_alone s.words r) (walk_of t r) q (λ ended. let some = some_left s.words r going in omega arith) (λ on. less);
   }

@@ -1,27 +1,26 @@
 -- One access of the kernel's walk for a thread that died.
-use Rattle.std.proofs.Common.{◌≡◌, ◌≢◌, ◌⊎◌, inl, inr, ⊎_elim, ℕ, ◌+◌, ◌-◌, ◌/◌, ◌%◌, ◌<◌, ◌≤◌, ◌==◌, Bool, true, false, ◌&&◌, Option, Some, None, List, [], ◌∷◌, refl, sym, ap, ◌∙◌, subst, arith, eqb-true}
-use Rattle.protocol.proofs.Vocabulary.{Rest, Part, LoadFirst, LoadOffset, LoadPending, LoadNext, LoadWord, Mark, WakeOne, sum_of, OnlyWaits, Access, Answer, Object, address_of}
-use Rattle.protocol.proofs.Vocabulary.{changed, answer_at, Leads, Layout', IsLayout, head_place, entry_place, cell_place, Permits, Run, object_of, fresh, fields_of, OK, Sound}
-use Rattle.protocol.proofs.Vocabulary.{Thread, Stage, Dying, Reaped, Note, Walked, State, is_valid, is_met, place_met, answer_among, woken_by, walked, has_ended, stage_walked}
-use Rattle.protocol.proofs.Vocabulary.{told_of, held_after, seen, if◌then◌else◌, nat_lt, eqb-false, nat_tests, Operation}
-use Rattle.keys.specs.declared.access.Answer.TheVariants.{Exchanged, Changed}
+use Rattle.std.proofs.Common.{◌≡◌, ◌≢◌, inl, inr, ⊎_elim, ℕ, ◌+◌, ◌<◌, ◌≤◌, ◌==◌, Bool, true, false, Option, Some, None, List, [], ◌∷◌, refl, sym, ap, ◌∙◌, subst, arith, eqb-true}
+use Rattle.protocol.proofs.Vocabulary.{Part, LoadFirst, LoadOffset, LoadPending, LoadNext, LoadWord, Mark, WakeOne, sum_of, OnlyWaits, Access, Answer, Object, address_of, changed, word_among}
+use Rattle.protocol.proofs.Vocabulary.{answer_at, Leads, Layout', IsLayout, head_place, entry_place, cell_place, Permits, Run, object_of, fresh, fields_of, OK, Sound, Thread}
+use Rattle.protocol.proofs.Vocabulary.{Stage, Dying, Reaped, Note, Walked, State, is_valid, is_met, place_met, answer_among, woken_by, walked, has_ended, stage_walked, told_of}
+use Rattle.protocol.proofs.Vocabulary.{held_after, seen, if◌then◌else◌, nat_lt, eqb-false, nat_tests, Operation, death_at, mutex_at, Exchanged, Changed, leads-same}
 use Rattle.keys.specs.declared.point.Point.{Point}
 use Rattle.keys.specs.Chains.{IsAmong}
 use Rattle.keys.specs.Objects.{bereaved}
-use Rattle.robustlist.proofs.Chains.{leads-same}
 use Rattle.exitwalk.specs.declared.row.Row.{Row}
 use Rattle.exitwalk.specs.declared.row.Row.TheVariants.{Ended}
 use Rattle.exitwalk.specs.Standings.{Standing}
 use Rattle.exitwalk.specs.Steps.{points, Right}
 use Rattle.exitwalk.specs.Walks.{Knows, IsGoing, row_access, row_after, point_of, marked_word, goes_on}
 use Rattle.exitwalk.proofs.Steps.{steps}
-use Rattle.protocol.specs.Machine.{death_at, mutex_at}
 use Rattle.protocol.proofs.Puts.{put-same, put-other, by_put}
-use Rattle.protocol.proofs.Kept.{Sits, Left, LeftOf, LeftIn, LeftFrom, Treats, Mourns, Listed, PendsAs, Kept}
+use Rattle.protocol.proofs.Kept.{Sits, Left, LeftIn, Treats, Mourns, Listed, PendsAs, Kept}
 use Rattle.protocol.proofs.Places.{mine_is_no_cell, head_is_no_cell}
-use Rattle.protocol.proofs.Steps.{seen-inside, is_valid-cell, IsNoMove, Transition, done, thread_after, after}
+use Rattle.protocol.proofs.Steps.{seen-inside, is_valid-cell, IsNoMove, Transition, done, thread_after, after, IsNoTrim, untrimmed}
 use Rattle.protocol.proofs.Frames.{kept_where, marks_own}
-use Rattle.protocol.proofs.Walking.{Arrived, forward_arrives, next_arrives, goes_on_arrives, looks_arrives}
+use Rattle.protocol.proofs.Walking.{Arrived, OwnsNothing, forward_arrives, next_arrives, goes_on_arrives, looks_arrives}
+use Rattle.protocol.proofs.Cases.{some_same}
+use Rattle.protocol.proofs.Mourning.{mourns_carries}
 
 -- thread t's walk at a row
 abbrev pub walk_of : ℕ → Row → Standing
@@ -48,50 +47,22 @@ sits_walk s t held r q knows = by_walked (Sits s t held) (walk_of t r) q (λ end
 pub pends_walk : (x : ℕ) (w : Standing) (r : Row) → PendsAs x (stage_walked w r)
 pends_walk x w r = by_walked (PendsAs x) w r (λ ended. tt) (λ going. tt)
 
--- ---- states that differ in what a walk doesn't look at
-
-module _ (s s' : State) (t : ℕ) (layout : s'.layout ≡ s.layout) (words : (x : ℕ) → s'.words x ≡ s.words x) (seen_same : (k : ℕ) → seen s' k ≡ seen s k) where
-  left_same : (e p : ℕ) (es : List ℕ) (treated : Option ℕ) → Left s t e p es treated → Left s' t e p es treated
-  left_same e p es treated l = grind (arith)
-
-  rest_same : (r : Rest) (treated : Option ℕ) → LeftOf s t r treated → LeftOf s' t r treated
-  rest_same r treated (es, l, offset, few) = (es, left_same r.entry r.pending es treated l, offset, few)
-
-  part_same : (rest : Part) (treated : Option ℕ) → LeftIn s t rest treated → LeftIn s' t rest treated
-  part_same (Part.List r) treated l = rest_same r treated l
-  part_same Part.Pending treated l = λ k below own. l k (subst (λ (z : Layout'). k < z.mutexes) layout below) (sym (ap (λ (o : Object). o.owner) (seen_same k)) ∙ own)
-
-  from_same : (e : ℕ) → LeftFrom s t e → LeftFrom s' t e
-  from_same e (es, l, few) = (es, subst (λ (p : ℕ). Left s' t e p es None) (sym (words (head_place t + 2))) (left_same e (s.words (head_place t + 2)) es None l), few)
-
-  treats_same : (at k : ℕ) → Treats s at k → Treats s' at k
-  treats_same at k x = subst (λ (z : Layout'). (k < z.mutexes) × (at ≡ cell_place z k)) (sym layout) x
-
-  pub mourns_same : (r : Row) → Mourns s t r → Mourns s' t r
-  mourns_same LoadFirst l = subst (LeftFrom s' t) (sym (words (head_place t))) (from_same (s.words (head_place t)) l)
-  mourns_same (LoadOffset f) l = from_same f l
-  mourns_same (LoadPending f o) (l, offset) = (from_same f l, offset)
-  mourns_same (LoadNext r) l = rest_same r None l
-  mourns_same (LoadWord at rest) (k, x, l) = (k, treats_same at k x, part_same rest (Some k) l)
-  mourns_same (Mark at v again rest) (k, x, l, only) = (k, treats_same at k x, part_same rest (Some k) l, subst (OnlyWaits v again) (sym (words at)) only)
-  mourns_same (WakeOne at rest) (k, x, l) = (k, treats_same at k x, part_same rest None l)
-  mourns_same Ended l = l
-
-  pub arrived_same : (r : Row) → Arrived s t r → Arrived s' t r
-  arrived_same Ended none = λ k below own. none k (subst (λ (z : Layout'). k < z.mutexes) layout below) (sym (ap (λ (o : Object). o.owner) (seen_same k)) ∙ own)
-  arrived_same LoadFirst l = mourns_same LoadFirst l
-  arrived_same (LoadOffset f) l = mourns_same (LoadOffset f) l
-  arrived_same (LoadPending f o) l = mourns_same (LoadPending f o) l
-  arrived_same (LoadNext r) l = mourns_same (LoadNext r) l
-  arrived_same (LoadWord at rest) l = mourns_same (LoadWord at rest) l
-  arrived_same (Mark at v again rest) l = mourns_same (Mark at v again rest) l
-  arrived_same (WakeOne at rest) l = mourns_same (WakeOne at rest) l
+-- where a walk has come, in another state
+arrived_by : (s s' : State) (t : ℕ) (r : Row) → (OwnsNothing s t → OwnsNothing s' t) → (Mourns s t r → Mourns s' t r) → Arrived s t r → Arrived s' t r
+arrived_by s s' t r gone on a = grind (arith)
 
 -- the mutex at a cell is found
 pub mutex_at-cell : (l : Layout') (k : ℕ) → k < l.mutexes → mutex_at l (cell_place l k) ≡ Some k
 mutex_at-cell l k inside = grind (arith)
 
 -- ---- one access
+
+-- no access of a walk is a trim
+walk_no_trim : (h : ℕ) (r : Row) → IsNoTrim (row_access h r)
+walk_no_trim h r = grind (arith)
+
+pub walk_word : (h : ℕ) (r : Row) (w : ℕ) (q : List ℕ) → word_among (row_access h r) w q ≡ changed (row_access h r) w
+walk_word h r w q = untrimmed (row_access h r) w q (walk_no_trim h r)
 
 module _ (s : State) (t : ℕ) (r : Row) (inv : Kept s) (pos : 1 ≤ t) (known : t ≤ s.layout.threads) where
   abbrev a : Access
@@ -107,10 +78,17 @@ module _ (s : State) (t : ℕ) (r : Row) (inv : Kept s) (pos : 1 ≤ t) (known :
 
     -- no word changes
     pub read_words : (changed a (s.words at) ≡ s.words at) → (x : ℕ) → s'.words x ≡ s.words x
-    read_words reads x = by_put (λ v. v ≡ s.words x) s.words at (changed a (s.words at)) x (λ is. reads ∙ ap s.words (sym is)) (λ apart. refl)
+    read_words reads x = by_put (λ v. v ≡ s.words x) s.words at (word_among a (s.words at) (s.queues at)) x (λ is. walk_word (head_place t) r (s.words at) (s.queues at) ∙ reads ∙ ap s.words (sym is)) (λ apart. refl)
 
     pub reads_seen : (changed a (s.words at) ≡ s.words at) → (k : ℕ) → seen s' k ≡ seen s k
     reads_seen reads k = ap (λ (v : ℕ). if nat_lt k s.layout.mutexes then object_of (fields_of v) else fresh) (read_words reads (cell_place s.layout k))
+
+    arrives_still : (changed a (s.words at) ≡ s.words at) → Knows t (head_place t) q → Arrived s t q → Arrived s' t q
+    arrives_still reads knows =
+        arrived_by s s' t q (λ none k below own. none k below (sym (ap (λ (o : Object). o.owner) (reads_seen reads k)) ∙ own))
+        (mourns_carries s s'.words s'.queues s'.threads t (λ x k below is own. read_words reads x) (read_words reads (head_place t)) (read_words reads (head_place t + 2))
+        (λ k own. ap (λ (o : Object). o.owner) (reads_seen reads k) ∙ own) (λ k own. sym (ap (λ (o : Object). o.owner) (reads_seen reads k)) ∙ own)
+        (λ k at v again treats owner only. subst (OnlyWaits v again) (sym (read_words reads at)) only) q knows)
 
     pub reads_kept : death ≡ None → (changed a (s.words at) ≡ s.words at) → Knows t (head_place t) q → Arrived s t q → Kept s'
     reads_kept none reads knows arrived =
@@ -122,7 +100,7 @@ module _ (s : State) (t : ℕ) (r : Row) (inv : Kept s) (pos : 1 ≤ t) (known :
         (λ u x first most apart mine. read_words reads x)
         (λ u k first most apart inside own. inl (read_words reads (cell_place s.layout k)))
         (subst (λ (z : Thread). Sits s' t z.held z.stage) (sym th_is) (sits_walk s' t _ r q knows))
-        (subst (λ (z : Thread). Listed s' t z.stage) (sym th_is) (listed_walk s' t (walk_of t r) q (arrived_same s s' t refl (read_words reads) (reads_seen reads) q arrived)))
+        (subst (λ (z : Thread). Listed s' t z.stage) (sym th_is) (listed_walk s' t (walk_of t r) q (arrives_still reads knows arrived)))
         (subst (λ (z : Thread). PendsAs (s'.words (head_place t + 2)) z.stage) (sym th_is) (pends_walk _ (walk_of t r) q))
         (subst Sound (sym (reads_seen reads 0)) (inv.sound 0))
 
@@ -145,7 +123,7 @@ module _ (s : State) (t : ℕ) (r : Row) (inv : Kept s) (pos : 1 ≤ t) (known :
     own = marks_own s t k place v again inv.layout treats pos known knows_mark.0 only
 
     elsewhere : (x : ℕ) → x ≢ cell_place s.layout k → after_mark.words x ≡ s.words x
-    elsewhere x apart = put-other s.words at (changed a (s.words at)) x (λ e. apart (e ∙ at_cell))
+    elsewhere x apart = put-other s.words at (word_among a (s.words at) (s.queues at)) x (λ e. apart (e ∙ at_cell))
 
     law : Right t r (answer_at a (s.words at)) (s.words at) (changed a (s.words at))
     law = steps.right t (head_place t) (s.words at) r pos (subst IsGoing (sym is) tt) knows
@@ -157,7 +135,7 @@ module _ (s : State) (t : ℕ) (r : Row) (inv : Kept s) (pos : 1 ≤ t) (known :
     told = ap (point_of t r) answered ∙ ap (λ (z : Row). point_of t z Exchanged) is
 
     here : seen after_mark k ≡ object_of (fields_of (changed a (s.words at)))
-    here = seen-inside after_mark k treats.0 ∙ ap (λ (x : ℕ). object_of (fields_of (after_mark.words x))) (sym at_cell) ∙ ap (λ (x : ℕ). object_of (fields_of x)) (put-same s.words at (changed a (s.words at)))
+    here = seen-inside after_mark k treats.0 ∙ ap (λ (x : ℕ). object_of (fields_of (after_mark.words x))) (sym at_cell) ∙ ap (λ (x : ℕ). object_of (fields_of x)) (put-same s.words at (word_among a (s.words at) (s.queues at)) ∙ walk_word (head_place t) r (s.words at) (s.queues at))
 
     before : seen s k ≡ object_of (fields_of (s.words at))
     before = seen-inside s k treats.0 ∙ ap (λ (x : ℕ). object_of (fields_of (s.words x))) (sym at_cell)
@@ -182,21 +160,15 @@ module _ (s : State) (t : ℕ) (r : Row) (inv : Kept s) (pos : 1 ≤ t) (known :
       entries = λ y among. let j = x.entries y among in (j.0, j.1, j.2, ap (λ (o : Object). o.owner) (far j.0 (λ same. j.4 (ap Some (sym same)))) ∙ j.3, λ e. cc e);
       all = λ j below has.
           let other : j ≢ k = λ same. cc (sym has ∙ ap (λ (i : ℕ). (seen after_mark i).owner) same ∙ freed) in
-          ⊎_elim inl (λ more. inr (⊎_elim inl (λ same. absurd (other (some_is j same))) more)) (x.all j below (sym (ap (λ (o : Object). o.owner) (far j other)) ∙ has));
+          ⊎_elim inl (λ more. inr (⊎_elim inl (λ same. absurd (other (sym (some_same k j same)))) more)) (x.all j below (sym (ap (λ (o : Object). o.owner) (far j other)) ∙ has));
       pending = x.pending;
     }
-      where
-        some_is : (j : ℕ) → Some k ≡ Some j → j ≡ k
-        some_is j e = cc
 
     part_then : (z : Part) → LeftIn s t z (Some k) → LeftIn after_mark t z None
     part_then (Part.List z) (es, x, offset, few) = (es, left_then z.entry z.pending es x, offset, few)
     part_then Part.Pending x = λ j below has.
         let other : j ≢ k = λ same. cc (sym has ∙ ap (λ (i : ℕ). (seen after_mark i).owner) same ∙ freed) in
-        absurd (other (some_is j (x j below (sym (ap (λ (o : Object). o.owner) (far j other)) ∙ has))))
-      where
-        some_is : (j : ℕ) → Some k ≡ Some j → j ≡ k
-        some_is j e = cc
+        absurd (other (sym (some_same k j (x j below (sym (ap (λ (o : Object). o.owner) (far j other)) ∙ has)))))
 
     mark_arrives : Arrived after_mark t (if (fields_of v).waiters then WakeOne place rest else goes_on (head_place t) rest)
     mark_arrives = go (fields_of v).waiters
@@ -213,15 +185,12 @@ module _ (s : State) (t : ℕ) (r : Row) (inv : Kept s) (pos : 1 ≤ t) (known :
         (λ x e takes. absurd (cc takes))
         (λ u first most. elsewhere (head_place u + 1) (head_is_no_cell s.layout u k 1 first most (omega arith)))
         (λ u x first most apart mine. elsewhere x (mine_is_no_cell s u x k first most treats.0 mine))
-        (λ u j first most apart inside has. inl (elsewhere (cell_place s.layout j) (λ e. apart (owners_same u (sym own ∙ ap (λ (i : ℕ). (seen s i).owner) (place_same j e) ∙ has)))))
+        (λ u j first most apart inside has. inl (elsewhere (cell_place s.layout j) (λ e. apart (some_same t u (sym own ∙ ap (λ (i : ℕ). (seen s i).owner) (place_same j e) ∙ has)))))
         (subst (λ (z : Thread). Sits after_mark t z.held z.stage) (sym th_is) (sits_walk after_mark t _ r q knows_q))
         (subst (λ (z : Thread). Listed after_mark t z.stage) (sym th_is) (listed_walk after_mark t (walk_of t r) q (subst (Arrived after_mark t) (sym q_is) mark_arrives)))
         (subst (λ (z : Thread). PendsAs (after_mark.words (head_place t + 2)) z.stage) (sym th_is) (pends_walk _ (walk_of t r) q))
         (sound_then (seen after_mark k) freed dies.1)
       where
-        owners_same : (u : ℕ) → Some t ≡ Some u → t ≡ u
-        owners_same u e = cc
-
         place_same : (j : ℕ) → cell_place s.layout j ≡ cell_place s.layout k → k ≡ j
         place_same j e = omega (arith, e)
 
@@ -328,9 +297,6 @@ module _ (s : State) (t : ℕ) (inv : Kept s) (pos : 1 ≤ t) (known : t ≤ s.l
   walk_step (LoadWord place rest) going knows (k, treats, l) = reads_so (LoadWord place rest) going knows (k, treats, l) refl refl (looks_arrives s t inv.layout pos place k false rest treats l (λ e. absurd cc))
   walk_step (Mark place v again rest) going knows (k, treats, l, only) = go (s.words place == v) refl
     where
-      one_death : (i j : ℕ) → Some i ≡ Some j → j ≡ i
-      one_death i j e = cc
-
       -- the answer by whether the word is as it was seen
       answered : (b : Bool) → (s.words place == v) ≡ b → walk_answer s t (Mark place v again rest) ≡ (if b then Exchanged else Changed (s.words place))
       answered b e = ap (λ (x : Bool). if x then Exchanged else Changed (s.words place)) e
@@ -350,9 +316,9 @@ module _ (s : State) (t : ℕ) (inv : Kept s) (pos : 1 ≤ t) (known : t ≤ s.l
               dies s t (Mark place v again rest) inv pos known place k v again rest refl treats l only met knows (row_then s t (Mark place v again rest)) (thread_after s t (walk_transition s t (Mark place v again rest))) th_is,
               far s t (Mark place v again rest) inv pos known place k v again rest refl treats l only met knows (row_then s t (Mark place v again rest)) (thread_after s t (walk_transition s t (Mark place v again rest))) th_is,
             );
-            place = λ j is_j. treats.1 ∙ ap (cell_place s.layout) (sym (one_death k j (sym told_so ∙ is_j)));
+            place = λ j is_j. treats.1 ∙ ap (cell_place s.layout) (some_same k j (sym told_so ∙ is_j));
             wakes = λ j is_j set.
-                let same : j ≡ k = one_death k j (sym told_so ∙ is_j) in
+                let same : j ≡ k = sym (some_same k j (sym told_so ∙ is_j)) in
                 let there : place ≡ cell_place s.layout j = treats.1 ∙ ap (cell_place s.layout) (sym same) in
                 let waits : (fields_of v).waiters ≡ true = ap (λ (x : ℕ). (fields_of x).waiters) (sym met ∙ ap s.words there) ∙ set in
                 (rest, ap (row_after t (head_place t) (Mark place v again rest)) (answered true e) ∙ ap (λ (b : Bool). if b then WakeOne place rest else goes_on (head_place t) rest) waits ∙ ap (λ (x : ℕ). WakeOne x rest) there);

@@ -1,10 +1,8 @@
 -- Where each access of a walk leads, and what is left to walk then.
-use Rattle.std.proofs.Common.{◌≡◌, ◌≢◌, ◌⊎◌, inl, inr, ⊎_elim, ℕ, zero, suc, ◌+◌, ◌<◌, ◌≤◌, ◌==◌, Bool, true, false, ◌&&◌, Some, None, List, [], ◌∷◌, length, refl, sym, ap, ◌∙◌, subst, arith, eqb-true}
+use Rattle.std.proofs.Common.{◌≡◌, ◌≢◌, ◌⊎◌, inl, inr, ⊎_elim, ℕ, suc, ◌+◌, ◌<◌, ◌≤◌, ◌==◌, Bool, true, false, ◌&&◌, Some, None, List, [], ◌∷◌, length, refl, sym, ap, ◌∙◌, subst, arith, eqb-true}
 use Rattle.protocol.proofs.Vocabulary.{Rest, Part, LoadFirst, LoadOffset, LoadPending, LoadNext, LoadWord, Mark, WakeOne, sum_of, Object, AreDifferent, Leads, Layout', IsLayout}
-use Rattle.protocol.proofs.Vocabulary.{head_place, entry_place, cell_place, owner_of, fields_of, State, seen, if◌then◌else◌, eqb-false}
-use Rattle.std.specs.Prelude.{◌||◌}
+use Rattle.protocol.proofs.Vocabulary.{head_place, entry_place, cell_place, owner_of, fields_of, State, seen, if◌then◌else◌, eqb-false, ◌||◌, apart-among}
 use Rattle.keys.specs.Chains.{IsAmong}
-use Rattle.robustlist.proofs.Places.{apart-among}
 use Rattle.exitwalk.specs.declared.row.Row.{Row}
 use Rattle.exitwalk.specs.declared.row.Row.TheVariants.{Ended}
 use Rattle.exitwalk.specs.Words.{has_waiters}
@@ -179,11 +177,7 @@ module _ (s : State) (t : ℕ) (layout : IsLayout s.layout) (pos : 1 ≤ t) wher
       owner_is = ap (λ (o : Object). o.owner) (seen-inside s k treats.0) ∙ ap (λ (x : ℕ). owner_of (fields_of (s.words x)).owner) (sym treats.1)
 
       not_owned : (fields_of (s.words at)).owner ≢ t → (seen s k).owner ≢ Some t
-      not_owned apart own = apart (same (fields_of (s.words at)).owner (sym owner_is ∙ own))
-        where
-          same : (n : ℕ) → owner_of n ≡ Some t → n ≡ t
-          same zero e = absurd cc
-          same (suc n) e = some_same t (suc n) (sym e)
+      not_owned apart own = grind (arith)
 
       free_then : (a : Bool) → (is_pending rest && ((fields_of (s.words at)).owner == 0)) ≡ true → (fields_of (s.words at)).owner ≡ 0
       free_then a e = both (is_pending rest) ((fields_of (s.words at)).owner == 0) refl e

@@ -3,11 +3,8 @@ use Rattle.std.proofs.Common.{arith, ◌≡◌, ℕ, ◌≤◌, Bool, true, fals
 use Rattle.protocol.proofs.Vocabulary.{Fact, CondCall, condition_of, CondWhole, cond_access, cond_led, Queue, Mutex, Condition, Operation, Decision, sleeps_at, Reply, OK, Whole}
 use Rattle.protocol.proofs.Vocabulary.{whole_access, whole_led, Op, OnCondition, Step, Note, Stepped, Walked, Stage, Calling, AtCondition, Dying, mutex_of, facts_of, sleep_facts}
 use Rattle.protocol.proofs.Vocabulary.{moves_to, return_facts, reap_facts, State, After, answer_of, woken_by, moved_by, sleeps, told_of, is_asleep, nothing, decision, slept_in}
-use Rattle.protocol.proofs.Vocabulary.{led, led_at, went, walked, stepped, happens, if◌then◌else◌}
+use Rattle.protocol.proofs.Vocabulary.{led, led_at, went, walked, stepped, happens, if◌then◌else◌, queue_place, points_of}
 use Rattle.exitwalk.specs.Standings as walks
-use Rattle.facts.specs.declared.fact.Fact.TheVariants.{Wake}
-use Rattle.protocol.specs.Ops.{queue_place}
-use Rattle.protocol.specs.Headline.{points_of}
 use Rattle.protocol.specs.Wakings.{IsQueue}
 use Rattle.protocol.proofs.Kept.{Walks, Sits, Mourns, Listed, Kept}
 use Rattle.protocol.proofs.Steps.{Transition, IsNoMove, after, place_of, met, met_queue, call_step, call_note, cond_step, cond_note, went-is}
@@ -42,10 +39,10 @@ point_at t v = point_of t v.mutex v.operation v.point
 sleep_points : (t : ℕ) (f : Fact) (fs : List Fact) → IsOfSleep t f → points_of fs ≡ [] → points_of (f ∷ fs) ≡ []
 sleep_points t f fs of none = grind (arith)
 
-no_points : (t m : ℕ) (z : Option Queue) (ws ms : List ℕ) (y : Option Reply) → points_of (sleep_facts t z ++ (map Wake ws ++ (map (moves_to m) ms ++ return_facts t y))) ≡ []
+no_points : (t m : ℕ) (z : Option Queue) (ws ms : List ℕ) (y : Option Reply) → points_of (sleep_facts t z ++ (map Fact.Wake ws ++ (map (moves_to m) ms ++ return_facts t y))) ≡ []
 no_points t m z ws ms y = behind_point (λ (fs : List Fact). points_of fs ≡ []) t m z ws ms (return_facts t y) (λ f of fs none. sleep_points t f fs of none) (grind (arith))
 
-reaped_points : (t : ℕ) (ws : List ℕ) (y : Bool) → points_of (map Wake ws ++ reap_facts t y) ≡ []
+reaped_points : (t : ℕ) (ws : List ℕ) (y : Bool) → points_of (map Fact.Wake ws ++ reap_facts t y) ≡ []
 reaped_points t ws y = behind_woken (λ (fs : List Fact). points_of fs ≡ []) ws (reap_facts t y) (λ w fs none. none) (grind (arith))
 
 told_call : (t m : ℕ) (op : Operation) (x : Option Reply) (z : Option Queue) (ws ms : List ℕ) (y : Option Reply) → points_of (facts_of (Stepped t m (decision t m op x) z ws ms y)) ≡ point_of t m op x

@@ -1,17 +1,17 @@
 -- The machine: threads whose calls step over shared words, and sleep on them.
-use Rattle.std.specs.Prelude.{ℕ, not, ◌==◌, ◌+◌, ◌-◌, ◌/◌, ◌%◌, ◌^◌, Bool, true, false, ◌&&◌, nat_le, nat_lt, Option, Some, None, Result, Ok, Err, List, [], ◌∷◌, ◌++◌, length, take, drop, if◌then◌else◌}
+use Rattle.std.specs.Prelude.{ℕ, not, ◌==◌, ◌+◌, ◌-◌, ◌/◌, ◌%◌, ◌^◌, Bool, true, false, ◌&&◌, nat_le, nat_lt, Option, Some, None, Result, Ok, Err, List, [], ◌∷◌, ◌++◌, take, drop, if◌then◌else◌}
 use Rattle.lockword.specs.declared.reply.Reply.{Reply}
 use Rattle.lockword.specs.declared.reply.Reply.TheVariants.{OK, EOWNERDEAD}
 use Rattle.keys.specs.declared.access.Access.{Access}
 use Rattle.keys.specs.declared.access.Answer.{Answer}
 use Rattle.keys.specs.declared.access.Access.TheVariants as access
-use Rattle.keys.specs.declared.access.Answer.TheVariants.{Again, Woken, Count, Counts, Fault}
+use Rattle.keys.specs.declared.access.Answer.TheVariants.{Fault}
 use Rattle.keys.specs.declared.point.Operation.{Operation}
 use Rattle.keys.specs.declared.point.Operation.TheVariants as operation
 use Rattle.keys.specs.declared.point.Decision.{Decision}
 use Rattle.keys.specs.Layouts.{Layout', head_place, cell_place, counter_place, words_of, first_word}
 use Rattle.buckets.specs.Queues.{without}
-use Rattle.keys.specs.Accesses.{address_of, word_among, answer_at, sleeps_at}
+use Rattle.keys.specs.Accesses.{address_of, word_among, answer_among, sleeps_at}
 use Rattle.mutex.specs.declared.call.Call.{Call}
 use Rattle.mutex.specs.declared.phase.Phase.{Phase}
 use Rattle.mutex.specs.declared.phase.Phase.TheVariants.{Ended}
@@ -66,14 +66,6 @@ start l counters = record { layout = l; words = first_word l counters; queues = 
 
 abbrev pub is_valid : Layout' → ℕ → Bool
 is_valid l at = nat_le 1 at && nat_lt at (words_of l)
-
--- what an access answers that meets the word w, on which those of q sleep: a thread whose wait sleeps goes on with this answer when it is woken (futex(2))
-abbrev pub answer_among : Access → ℕ → List ℕ → Answer
-answer_among (access.Wait at e) w q = if w % 2 ^ 32 == e then Woken else Again
-answer_among (access.Wake at n) w q = Count (length (take n q))
-answer_among (access.Requeue from n to k) w q = Counts (length (take n q)) (length (take k (drop n q)))
-answer_among (access.CmpRequeue from e n to k) w q = if w % 2 ^ 32 == e then Counts (length (take n q)) (length (take k (drop n q))) else Again
-answer_among a w q = answer_at a w
 
 -- who sleeps on the word after thread t's access: a wait puts t at the end, a wake takes the first n, and a requeue takes the first n and then k more
 abbrev pub queue_after : ℕ → Access → ℕ → List ℕ → List ℕ

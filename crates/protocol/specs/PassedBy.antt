@@ -6,7 +6,7 @@ use Rattle.keys.specs.declared.point.Operation.{Operation}
 use Rattle.keys.specs.declared.point.Operation.TheVariants.{Unlock, Signal, Broadcast}
 use Rattle.keys.specs.declared.point.Decision.{Decision}
 use Rattle.keys.specs.Layouts.{Layout', IsLayout}
-use Rattle.condvar.specs.Rows.{full}
+use Rattle.condvar.specs.Laws.{largest_counter}
 use Rattle.facts.specs.declared.fact.Begun.{Begun}
 use Rattle.facts.specs.declared.fact.Queue.TheVariants.{Condition}
 use Rattle.facts.specs.declared.fact.Fact.{Fact}
@@ -83,7 +83,7 @@ pub record PassesNobody (s : State) (events : List Event) : Type 0 where
 
 -- no counter is above its largest value at the beginning
 abbrev pub ArePresets : (ℕ → ℕ) → Type 0
-ArePresets counters = (k : ℕ) → counters k ≤ full
+ArePresets counters = (k : ℕ) → counters k ≤ largest_counter
 
 -- whatever happens, with any such values of the counters at the beginning
 abbrev pub NobodyIsPassedBy : Type 0

@@ -8,7 +8,7 @@ use Rattle.keys.specs.declared.point.Operation.TheVariants as operation
 use Rattle.keys.specs.Layouts.{Layout', IsLayout, cell_place, counter_place}
 use Rattle.condvar.specs.declared.call.CondCall.{CondCall}
 use Rattle.condvar.specs.declared.call.CondCall.TheVariants.{Signal, Broadcast}
-use Rattle.condvar.specs.Rows.{full}
+use Rattle.condvar.specs.Laws.{largest_counter}
 use Rattle.facts.specs.declared.fact.Fact.{Fact}
 use Rattle.facts.specs.declared.fact.Fact.TheVariants.{Begin, Point, Wake, Return}
 use Rattle.protocol.specs.declared.event.Op.TheVariants.{OnCondition}
@@ -52,13 +52,13 @@ pub record IsBroadcast (s s' : State) (k m : ℕ) : Type 0 where
   pub queues : (key : ℕ) → key ≢ counter_place s.layout k → key ≢ cell_place s.layout m → s'.queues key ≡ s.queues key
   pub threads : (u : ℕ) → s'.threads u ≡ s.threads u
 
--- by the owner of condition variable k's mutex m: refused exactly where the counter is full
+-- by the owner of condition variable k's mutex m: refused exactly where the counter has its largest value
 pub record IsRightAlone (s : State) (t k m n : ℕ) : Type 0 where
-  pub signal_full : s.words (counter_place s.layout k) ≡ full → IsUnchanged s (run s (call_alone t (Signal k) n)) × (facts_among (notes s (call_alone t (Signal k) n)) ≡ told_of_call s t (Signal k) m operation.Signal XFULL [])
-  pub signal : s.words (counter_place s.layout k) ≢ full
+  pub signal_full : s.words (counter_place s.layout k) ≡ largest_counter → IsUnchanged s (run s (call_alone t (Signal k) n)) × (facts_among (notes s (call_alone t (Signal k) n)) ≡ told_of_call s t (Signal k) m operation.Signal XFULL [])
+  pub signal : s.words (counter_place s.layout k) ≢ largest_counter
       → IsSignalled s (run s (call_alone t (Signal k) n)) k × (facts_among (notes s (call_alone t (Signal k) n)) ≡ told_of_call s t (Signal k) m operation.Signal OK (map Wake (take 1 (s.queues (counter_place s.layout k)))))
-  pub broadcast_full : s.words (counter_place s.layout k) ≡ full → IsUnchanged s (run s (call_alone t (Broadcast k) n)) × (facts_among (notes s (call_alone t (Broadcast k) n)) ≡ told_of_call s t (Broadcast k) m operation.Broadcast XFULL [])
-  pub broadcast : s.words (counter_place s.layout k) ≢ full
+  pub broadcast_full : s.words (counter_place s.layout k) ≡ largest_counter → IsUnchanged s (run s (call_alone t (Broadcast k) n)) × (facts_among (notes s (call_alone t (Broadcast k) n)) ≡ told_of_call s t (Broadcast k) m operation.Broadcast XFULL [])
+  pub broadcast : s.words (counter_place s.layout k) ≢ largest_counter
       → IsBroadcast s (run s (call_alone t (Broadcast k) n)) k m × (facts_among (notes s (call_alone t (Broadcast k) n)) ≡ told_of_call s t (Broadcast k) m operation.Broadcast OK (map (moves_to m) (s.queues (counter_place s.layout k))))
 
 -- a thread in no call, that owns the mutex of condition variable k, calls; it has returned within 9,000 steps
