@@ -2,7 +2,7 @@
 
 use keys::{
     HELD_LIMIT, Key, Layout, LayoutFault, NoMem, Object, Operation, bucket_of, key_of,
-    places_differ,
+    places_differ, trims_are_right,
 };
 use lockword::{Reply, Tid};
 use std::test::Fail;
@@ -370,6 +370,7 @@ fn a_small_layout_has_its_places(rt: HostRuntime) -> Result<(), Fail> {
         assert_eq!(rt; layout.mutex_of(place), mutex, "at {place}");
     }
     places_differ();
+    trims_are_right();
     Ok(())
 }
 

@@ -40,6 +40,20 @@ fn a_cell_has_an_owner_and_three_flags(rt: HostRuntime) {
 }
 
 #[test]
+fn a_free_cell_with_waiters_alone_is_trimmable(rt: HostRuntime) {
+    for (word, trimmable) in [
+        (WAITERS, true),
+        (0, false),
+        (WAITERS + 1, false),
+        (WAITERS + OWNER_DIED, false),
+        (WAITERS + UNUSABLE, false),
+        (WAITERS + (1 << 63), false),
+    ] {
+        assert_eq!(rt; Cell::new(word).trimmable(), trimmable, "{word:x}");
+    }
+}
+
+#[test]
 fn a_cell_changes_by_its_bits(rt: HostRuntime) -> Result<(), Fail> {
     let thread = Tid::new(5).ok_or("no thread 5")?;
     let above = 1 << 63;

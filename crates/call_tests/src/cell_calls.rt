@@ -215,6 +215,43 @@ fn an_unlock_wakes_who_waits(rt: HostRuntime) -> Result<(), Fail> {
     Ok(())
 }
 
+/// A release of an own cell that has WAITERS.
+const RELEASED: [Step; 2] = [
+    Step(Loads(10, 2), Goes),
+    Step(Flips(2, 0x8000_0002), Decides(Unlock, OK)),
+];
+
+const TRIM: Access = Access::Trim { at: 10 };
+
+#[test]
+fn an_unlock_trims_where_nobody_slept(rt: HostRuntime) -> Result<(), Fail> {
+    for trimmed in [true, false] {
+        let steps = [
+            Step(Wakes(10, 1, 0), Goes),
+            Step(Is(TRIM, Answer::Trimmed(trimmed)), Returns(OK)),
+        ];
+        assert!(rt; takes(Unlock, &[&RELEASED, &steps])?);
+    }
+    Ok(())
+}
+
+/// A release that makes the mutex unusable wakes all.
+const SPOILED: [Step; 3] = [
+    Step(Loads(10, 0x4000_0002), Goes),
+    Step(Flips(0x1_4000_0002, 0xc000_0002), Decides(Unlock, OK)),
+    Step(Wakes(10, 64, 0), Returns(OK)),
+];
+
+const NOBODY_TOLD: [Step; 1] = [Step(Wakes(10, 64, 0), Returns(ENOTRECOVERABLE))];
+
+#[test]
+fn who_wakes_all_never_trims(rt: HostRuntime) -> Result<(), Fail> {
+    assert!(rt; takes(Unlock, &[&SPOILED])?);
+    let lost = Decides(Lock, ENOTRECOVERABLE);
+    assert!(rt; lock_decides(0x1_8000_0000, lost, &NOBODY_TOLD)?);
+    Ok(())
+}
+
 /// A cell that can't be declared consistent, and the reply.
 const UNDECLARED: [(u64, Reply); 5] = [
     (0x4000_0000, EPERM),
@@ -252,6 +289,7 @@ fn is_answer(access: Access, answer: Answer) -> bool {
         Access::Exchange { .. } => matches!(answer, Answer::Exchanged | Answer::Changed(_)),
         Access::Wait { .. } => matches!(answer, Answer::Again | Answer::Woken),
         Access::Wake { .. } => matches!(answer, Answer::Count(_)),
+        Access::Trim { .. } => matches!(answer, Answer::Trimmed(_)),
         _ => matches!(answer, Answer::Value(_)),
     }
 }
@@ -305,9 +343,10 @@ const AFTER_LOAD: [(Operation, u64, Then, Access); 7] = [
     (Consistent, 0x4000_0002, Goes, DECLARATION),
 ];
 
-const RELEASED: [Step; 2] = [
+const NOBODY_WOKEN: [Step; 3] = [
     Step(Loads(10, 2), Goes),
     Step(Flips(2, 0x8000_0002), Decides(Unlock, OK)),
+    Step(Wakes(10, 1, 0), Goes),
 ];
 
 #[test]
@@ -318,6 +357,7 @@ fn an_answer_of_another_access_is_a_fault(rt: HostRuntime) -> Result<(), Fail> {
     }
     let wake = Access::Wake { at: 10, most: 1 };
     assert!(rt; faults(Unlock, &RELEASED, wake)?);
+    assert!(rt; faults(Unlock, &NOBODY_WOKEN, TRIM)?);
     Ok(())
 }
 

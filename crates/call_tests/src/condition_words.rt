@@ -31,7 +31,9 @@ fn access_to(word: u64, access: Access) -> (Answer, u64) {
         Access::Wait { expected, .. } => (slept(word, expected, Answer::Woken), word),
         Access::Wake { .. } => (Answer::Count(0), word),
         Access::CmpRequeue { expected, .. } => (slept(word, expected, Answer::Counts(0, 0)), word),
-        Access::FetchAnd { .. } | Access::Requeue { .. } => (Answer::Fault, word),
+        Access::FetchAnd { .. } | Access::Requeue { .. } | Access::Trim { .. } => {
+            (Answer::Fault, word)
+        }
     }
 }
 
@@ -54,7 +56,8 @@ fn address_of(access: Access) -> u64 {
         | Access::FetchAnd { at, .. }
         | Access::FetchAdd { at, .. }
         | Access::Wait { at, .. }
-        | Access::Wake { at, .. } => at,
+        | Access::Wake { at, .. }
+        | Access::Trim { at } => at,
         Access::Requeue { from, .. } | Access::CmpRequeue { from, .. } => from,
     }
 }

@@ -63,6 +63,68 @@ fn the_machine_of_which_a_copy_runs_stays(rt: HostRuntime) -> Result<(), Fail> {
     Ok(())
 }
 
+/// Thread 2, that was woken, takes the mutex.
+const WOKEN_TAKES: [Row; 7] = [
+    Row(Steps(2), Any, Resting, Awake),
+    Row(Steps(2), Any, Resting, Awake),
+    Row(Steps(2), Any, Resting, Awake),
+    Row(Steps(2), Any, Resting, Awake),
+    Row(Steps(2), Any, Resting, Awake),
+    Row(Steps(2), Any, Resting, Awake),
+    Row(Steps(2), Any, Resting, Resting),
+];
+
+/// It unlocks, and wakes nobody.
+const WAKES_NOBODY: [Row; 1] = [Row(Calls(2, UNLOCK, 7), Any, Resting, Awake)];
+
+/// It trims the cell, and clears its pending entry.
+const TRIMS: [Row; 2] = [
+    Row(Steps(2), Any, Resting, Awake),
+    Row(Steps(2), Any, Resting, Resting),
+];
+
+#[test]
+fn the_last_unlock_clears_waiters(rt: HostRuntime) -> Result<(), Fail> {
+    let mut machine = gone_through(rt.alloc(), 2, &ONE_IS_WOKEN)?;
+    assert!(rt; goes_through(&mut machine, &WOKEN_TAKES)?);
+    assert!(rt; machine.word(7) == Some(0x8000_0002));
+    assert!(rt; goes_through(&mut machine, &WAKES_NOBODY)?);
+    assert!(rt; machine.word(7) == Some(0x8000_0000));
+    assert!(rt; goes_through(&mut machine, &TRIMS)?);
+    assert!(rt; machine.word(7) == Some(0));
+    Ok(())
+}
+
+/// Thread 1 wakes nobody, and before it trims, thread 2 takes the mutex.
+const TAKEN_FIRST: [Row; 4] = [
+    Row(Calls(1, LOCK, 8), Any, Resting, Resting),
+    Row(Calls(2, LOCK, 3), Any, Resting, Awake),
+    Row(Calls(1, UNLOCK, 7), Any, Awake, Awake),
+    Row(Steps(2), Any, Awake, Awake),
+];
+
+const TAKES_IT: [Row; 2] = [
+    Row(Steps(2), Any, Awake, Awake),
+    Row(Steps(2), Any, Awake, Awake),
+];
+
+/// The trim leaves an owned cell.
+const TRIM_FAILS: [Row; 2] = [
+    Row(Steps(1), Any, Awake, Awake),
+    Row(Steps(1), Any, Resting, Awake),
+];
+
+#[test]
+fn an_owned_cell_keeps_waiters(rt: HostRuntime) -> Result<(), Fail> {
+    let mut machine = gone_through(rt.alloc(), 2, &TAKEN_FIRST)?;
+    assert!(rt; machine.word(7) == Some(0x8000_0000));
+    assert!(rt; goes_through(&mut machine, &TAKES_IT)?);
+    assert!(rt; machine.word(7) == Some(0x8000_0002));
+    assert!(rt; goes_through(&mut machine, &TRIM_FAILS)?);
+    assert!(rt; machine.word(7) == Some(0x8000_0002));
+    Ok(())
+}
+
 /// Thread 2 falls asleep, and then does nothing.
 const FALLS_ASLEEP: [Row; 8] = [
     Row(Calls(1, LOCK, 8), Any, Resting, Resting),

@@ -46,7 +46,7 @@ pub(crate) enum Then {
 pub(crate) struct Step(pub Made, pub Then);
 
 /// Every kind of answer.
-pub(crate) const ANSWERS: [Answer; 9] = [
+pub(crate) const ANSWERS: [Answer; 10] = [
     Answer::Value(0),
     Answer::Stored,
     Answer::Exchanged,
@@ -55,6 +55,7 @@ pub(crate) const ANSWERS: [Answer; 9] = [
     Answer::Woken,
     Answer::Count(1),
     Answer::Counts(0, 0),
+    Answer::Trimmed(true),
     Answer::Fault,
 ];
 

@@ -128,6 +128,22 @@ const WOKEN: [Step; 3] = [
     Step(Stores(6, 0), Returns(OK)),
 ];
 
+/// Nobody slept, and the cell was cleared, or not.
+const TRIMMED: [[Step; 4]; 2] = [
+    [
+        Step(Flips(2, 0x8000_0002), Decides(Unlock, OK)),
+        Step(Wakes(10, 1, 0), Goes),
+        Step(Is(Access::Trim { at: 10 }, Answer::Trimmed(true)), Goes),
+        Step(Stores(6, 0), Returns(OK)),
+    ],
+    [
+        Step(Flips(2, 0x8000_0002), Decides(Unlock, OK)),
+        Step(Wakes(10, 1, 0), Goes),
+        Step(Is(Access::Trim { at: 10 }, Answer::Trimmed(false)), Goes),
+        Step(Stores(6, 0), Returns(OK)),
+    ],
+];
+
 /// Whether an unlock of this cell unlinks the mutex so, and then releases it.
 fn unlinks(cell: u64, operand: u64, list: &[Step]) -> Result<bool, Fail> {
     let way = [Step(Loads(10, cell), Goes), ANNOUNCED];
@@ -143,6 +159,9 @@ fn an_unlock_takes_the_entry_out_of_the_list_first(rt: HostRuntime) -> Result<()
         assert!(rt; unlinks(cell, operand, &UNLINKED_IN_FRONT)?);
     }
     assert!(rt; takes(Unlock, &[&HOLDS, &UNLINKED_ALONE, &WOKEN])?);
+    for trimmed in TRIMMED {
+        assert!(rt; takes(Unlock, &[&HOLDS, &UNLINKED_ALONE, &trimmed])?);
+    }
     Ok(())
 }
 

@@ -11,7 +11,6 @@ use Rattle.exitwalk.specs.declared.row.Row.TheVariants.{LoadFirst, LoadOffset, L
 use Rattle.exitwalk.specs.Standings.{Standing}
 use Rattle.exitwalk.specs.Walks.{access_of, row_after, point_of, moved, progress_at, progress_of}
 use Rattle.syscalls.specs.Kernels.{Kernel', queue_of}
-use Rattle.syscalls.specs.Memories as memories
 use Rattle.protocol.specs.declared.event.Event.TheVariants.{Step}
 use Rattle.protocol.specs.declared.thread.Thread.{Thread}
 use Rattle.protocol.specs.declared.thread.Stage.TheVariants.{Dying}
@@ -20,7 +19,7 @@ use Rattle.protocol.specs.Machine.{State, After, put, answer_of, words_after, qu
 use Rattle.protocol.proofs.WalkSteps.{mutex_at-cell}
 use Rattle.interleave.specs.declared.accesses.Performed.{Performed}
 use Rattle.interleave.specs.Shown.{thread_at, state_at}
-use Rattle.interleave.specs.Perform.{Performs, point_in, has_returned, stage_walked_in}
+use Rattle.interleave.specs.Perform.{Performs, list_words, point_in, has_returned, stage_walked_in}
 use Rattle.interleave.proofs.Views.{threads-set, answer-is, words-is, queues-is, woken-is}
 
 -- ---- a walk
@@ -81,7 +80,7 @@ point-is pt Ended = refl
 
 module _ (l : Layout') (ws ws' : List ℕ) (kernel after : Kernel') (ts : List Thread) (k t : ℕ) (w w' : Standing) (th : Thread) (done : Performed) (pr : Progress)
     (known : t ≤ l.threads) (at : k + 1 ≡ t) (len : length ts ≡ l.threads) (room : length ws ≡ words_of l)
-    (e : thread_at ts t ≡ th) (dies : th.stage ≡ Dying w) (performs : Performs ws kernel after t (access_of w) done) (wrote : ws' ≡ memories.words_after (access_of w) ws)
+    (e : thread_at ts t ≡ th) (dies : th.stage ≡ Dying w) (performs : Performs ws kernel after t (access_of w) done) (wrote : ws' ≡ list_words ws kernel (access_of w))
     (went_on : w' ≡ moved w done.answer) (progress : pr ≡ progress_of w done.answer) where
   abbrev s : State
   s = state_at l ws kernel ts

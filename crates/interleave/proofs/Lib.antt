@@ -6,3 +6,4 @@ pub mod Runs
 mod Sleeping
 mod Layouts
 mod Requeues
+mod Trims

@@ -15,12 +15,12 @@ use Rattle.protocol.proofs.Puts.{by_put, put-other}
 use Rattle.interleave.specs.declared.accesses.Performed.{Performed}
 use Rattle.interleave.specs.Perform.{Performs, requeue_performed}
 
-and_false : (b : Bool) → false ≡ (b && false)
+pub and_false : (b : Bool) → false ≡ (b && false)
 and_false true = refl
 and_false false = refl
 
 -- a function with the value that it has there anyway
-put-itself : {A : Type 0} (f : ℕ → A) (k : ℕ) → put f k (f k) ≡ f
+pub put-itself : {A : Type 0} (f : ℕ → A) (k : ℕ) → put f k (f k) ≡ f
 put-itself f k = fun_ext (λ p. by_put (λ x. x ≡ f p) f k (f k) p (λ is. ap f (sym is)) (λ apart. refl))
 
 differs : (from to : ℕ) → from ≢ to → (from == to) ≡ false

@@ -14,7 +14,7 @@ use Rattle.keys.specs.declared.point.Operation.{Operation}
 use Rattle.keys.specs.declared.point.Point.{Point}
 use Rattle.keys.specs.declared.point.Progress.{Progress}
 use Rattle.keys.specs.Layouts.{Layout', words_of}
-use Rattle.keys.specs.Accesses.{address_of, word_among, sleeps_at}
+use Rattle.keys.specs.Accesses.{address_of, word_among, answer_among, sleeps_at}
 use Rattle.mutex.specs.declared.phase.Phase.{Phase}
 use Rattle.mutex.specs.declared.phase.Phase.TheVariants.{Announcing, AtCell, Linking, Unlinking, Clearing, Ended}
 use Rattle.mutex.specs.declared.phase.Onward.{Onward}
@@ -38,13 +38,13 @@ use Rattle.protocol.specs.declared.thread.Stage.{Stage}
 use Rattle.protocol.specs.declared.thread.Stage.TheVariants.{Calling}
 use Rattle.protocol.specs.declared.note.Note.TheVariants.{Stepped}
 use Rattle.protocol.specs.Ops.{mutex_of, is_in}
-use Rattle.protocol.specs.Machine.{State, After, Led, put, idle, is_valid, is_met, joined, answer_among, queue_after, woken_by, moved_by, answer_of, words_after, queues_after, falls_asleep, woken, moved, slept_in, is_thread, is_idle, places_of, stands_in, may_begin, first_stage, begun, nothing, went, stepped, stage_after, returned, led, stage_at, returned_at, led_at, decided_at, reply_at, held_after, decision, happens}
+use Rattle.protocol.specs.Machine.{State, After, Led, put, idle, is_valid, is_met, joined, queue_after, woken_by, moved_by, answer_of, words_after, queues_after, falls_asleep, woken, moved, slept_in, is_thread, is_idle, places_of, stands_in, may_begin, first_stage, begun, nothing, went, stepped, stage_after, returned, led, stage_at, returned_at, led_at, decided_at, reply_at, held_after, decision, happens}
 use Rattle.protocol.proofs.Puts.{by_put}
 use Rattle.protocol.proofs.Steps.{unmoved}
 use Rattle.protocol.proofs.Queues.{stands_none}
 use Rattle.interleave.specs.declared.accesses.Performed.{Performed}
 use Rattle.interleave.specs.Shown.{thread_at, state_at}
-use Rattle.interleave.specs.Perform.{Performs, list_met, list_joined, point_in, held_with, decision_with, reply_in, stage_in, stage_at_in}
+use Rattle.interleave.specs.Perform.{Performs, list_words, list_met, list_joined, point_in, held_with, decision_with, reply_in, stage_in, stage_at_in}
 
 -- a word that is set in the list is put in the state
 pub words-set : (ws : List ℕ) (k v : ℕ) → k < length ws → (λ p. slice_index (slice_set ws k v) p) ≡ put (λ p. slice_index ws p) k v
@@ -127,10 +127,10 @@ module _ (l : Layout') (ws : List ℕ) (kernel : Kernel') (ts : List Thread) (ro
   same-is at false false = refl
 
   -- the words after an access
-  pub words-is : (a : Access) → (λ q. slice_index (memories.words_after a ws) q) ≡ words_after (state_at l ws kernel ts) t a
+  pub words-is : (a : Access) → (λ q. slice_index (list_words ws kernel a) q) ≡ words_after (state_at l ws kernel ts) t a
   words-is (access.Requeue from n to k) = set-is from (words from) ∙ same-is from (is_valid l from) (is_met l t (access.Requeue from n to k))
   words-is (access.CmpRequeue from e n to k) = set-is from (words from) ∙ same-is from (is_valid l from) (is_met l t (access.CmpRequeue from e n to k))
-  words-is a = set-is (address_of a) (word_among a (words (address_of a)) [])
+  words-is a = set-is (address_of a) (word_among a (words (address_of a)) (queue_of kernel (address_of a)))
 
   joined-is : (a : Access) (us : List ℕ) (queues : ℕ → List ℕ) → list_joined a us queues ≡ joined l t a us queues
   joined-is (access.Requeue from n to k) us queues = refl
@@ -272,7 +272,7 @@ made_at t m held c p p' g pr moves says =
 module _ (l : Layout') (ws ws' : List ℕ) (kernel after : Kernel') (ts : List Thread) (k t m : ℕ) (q : Queue) (a : Access) (f : Answer → Led) (th : Thread) (done : Performed) (made : Made)
     (known : t ≤ l.threads) (at : k + 1 ≡ t) (len : length ts ≡ l.threads) (room : length ws ≡ words_of l)
     (e : thread_at ts t ≡ th) (goes : stepped (state_at l ws kernel ts) t th.held th.stage ≡ went (state_at l ws kernel ts) t th.held m q a (f (answer_of (state_at l ws kernel ts) t a)))
-    (performs : Performs ws kernel after t a done) (wrote : ws' ≡ memories.words_after a ws) (is_made : IsMade t m th.held (f done.answer) made) where
+    (performs : Performs ws kernel after t a done) (wrote : ws' ≡ list_words ws kernel a) (is_made : IsMade t m th.held (f done.answer) made) where
   abbrev s : State
   s = state_at l ws kernel ts
 

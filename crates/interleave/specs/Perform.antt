@@ -1,15 +1,15 @@
 -- What an access does over a list of words and a kernel's queues, and what a thread does with its answer.
-use Rattle.std.specs.Prelude.{ℕ, ◌≡◌, ◌==◌, ◌&&◌, not, Bool, true, false, List, [], ◌++◌, length, slice_index, Option, Some, None, Result, Ok, Err, if◌then◌else◌}
+use Rattle.std.specs.Prelude.{ℕ, ◌≡◌, ◌==◌, ◌&&◌, not, Bool, true, false, List, [], ◌++◌, length, slice_index, slice_set, Option, Some, None, Result, Ok, Err, if◌then◌else◌}
 use Rattle.lockword.specs.declared.reply.Reply.{Reply}
 use Rattle.lockword.specs.declared.reply.Reply.TheVariants.{EAGAIN}
 use Rattle.keys.specs.declared.access.Access.{Access}
 use Rattle.keys.specs.declared.access.Answer.{Answer}
 use Rattle.keys.specs.declared.access.Access.TheVariants.{Requeue, CmpRequeue}
-use Rattle.keys.specs.declared.access.Answer.TheVariants.{Exchanged, Changed, Again, Counts, Fault}
+use Rattle.keys.specs.declared.access.Answer.TheVariants.{Exchanged, Changed, Again, Counts, Trimmed, Fault}
 use Rattle.keys.specs.declared.point.Point.{Point}
 use Rattle.keys.specs.declared.point.Progress.{Progress}
 use Rattle.keys.specs.declared.point.Progress.TheVariants.{Goes, Returns}
-use Rattle.keys.specs.Accesses.{address_of, sleeps_at}
+use Rattle.keys.specs.Accesses.{address_of, word_among, answer_among, sleeps_at}
 use Rattle.exitwalk.specs.Standings as walks
 use Rattle.keys.specs.declared.point.Decision.{Decision}
 use Rattle.condvar.specs.declared.call.CondCall.{CondCall}
@@ -20,7 +20,7 @@ use Rattle.protocol.specs.declared.event.Op.TheVariants.{OnCondition}
 use Rattle.mutex.specs.Standings.{Whole}
 use Rattle.protocol.specs.declared.thread.Stage.{Stage}
 use Rattle.protocol.specs.declared.thread.Stage.TheVariants.{Idle, Calling, AtCondition, Dying, Reaped}
-use Rattle.protocol.specs.Machine.{put, answer_among, queue_after, woken_by, moved_by, held_after, decision}
+use Rattle.protocol.specs.Machine.{put, queue_after, woken_by, moved_by, held_after, decision}
 use Rattle.syscalls.specs.Kernels.{Kernel', queue_of}
 use Rattle.syscalls.specs.Memories.{is_valid}
 use Rattle.interleave.specs.declared.accesses.Performed.{Performed}
@@ -40,6 +40,11 @@ requeue_performed (Ok x) = record { answer = Counts (length x.0) (length x.1); s
 requeue_performed (Err EAGAIN) = record { answer = Again; slept = false; woken = []; moved = [] }
 requeue_performed (Err r) = record { answer = Fault; slept = false; woken = []; moved = [] }
 
+-- what a trim answers, as the kernel tells it
+abbrev pub trim_performed : Result Bool Reply → Performed
+trim_performed (Ok trimmed) = record { answer = Trimmed trimmed; slept = false; woken = []; moved = [] }
+trim_performed (Err r) = record { answer = Fault; slept = false; woken = []; moved = [] }
+
 -- an access isn't refused: its address is valid; of a requeue both are, and they differ
 abbrev pub list_met : List ℕ → Access → Bool
 list_met ws (Requeue from n to k) = is_valid ws from && (is_valid ws to && not (from == to))
@@ -51,6 +56,10 @@ abbrev pub list_joined : Access → List ℕ → (ℕ → List ℕ) → ℕ → 
 list_joined (Requeue from n to k) us queues = put queues to (queues to ++ us)
 list_joined (CmpRequeue from e n to k) us queues = put queues to (queues to ++ us)
 list_joined a us queues = queues
+
+-- the words after an access, of the words before and of those who sleep on the one that it meets: that one is changed, where its address is valid, and all others stay
+abbrev pub list_words : List ℕ → Kernel' → Access → List ℕ
+list_words ws k a = if is_valid ws (address_of a) then slice_set ws (address_of a) (word_among a (slice_index ws (address_of a)) (queue_of k (address_of a))) else ws
 
 abbrev pub list_answer : List ℕ → Kernel' → Access → Answer
 list_answer ws k a = if list_met ws a then answer_among a (slice_index ws (address_of a)) (queue_of k (address_of a)) else Fault

@@ -3,8 +3,7 @@ ghost use Rattle.std.specs.Prelude.{◌≡◌, ◌≤◌, ℕ, [], true, false};
 ghost use Rattle.keys.specs.declared.access.Access.TheVariants.{Wait, Wake};
 ghost use Rattle.keys.specs.declared.access.Answer.TheVariants.{Value, Stored, Exchanged, Changed};
 ghost use Rattle.syscalls.specs.Kernels.{IsAwake};
-ghost use Rattle.syscalls.specs.Memories.{words_after};
-ghost use Rattle.interleave.specs.Perform.{or_fault, exchange_answer, requeue_performed, Performs};
+ghost use Rattle.interleave.specs.Perform.{or_fault, exchange_answer, requeue_performed, trim_performed, list_words, Performs};
 
 use buckets::Batch;
 use keys::{Access, Answer};
@@ -103,6 +102,16 @@ fn wake<M: Memory>(memory: &M, kernel: &mut Kernel, at: u64, most: u32) -> Perfo
     }
 }
 
+/// Of a trim: it answers whether it cleared its word.
+fn trimmed(told: Result<bool, Reply>) -> Performed
+    ensures { result ≡ trim_performed told }
+{
+    match told {
+        Ok(trimmed) => quiet(Answer::Trimmed(trimmed)),
+        Err(_) => quiet(Answer::Fault),
+    }
+}
+
 /// Of a requeue: it answers how many it woke and how many it moved, or EAGAIN where its word differs.
 fn requeued(told: Result<(Batch, Batch), Reply>) -> Performed
     ensures { result ≡ requeue_performed told }
@@ -129,7 +138,7 @@ pub(crate) fn perform<M: Memory>(
     requires known { thread ≤ kernel.old.threads }
     requires awake { IsAwake kernel.old thread }
     ensures performs { Performs (M.words memory.old) kernel.old kernel.new thread access.now result }
-    ensures words { M.words memory.new ≡ words_after access.now (M.words memory.old) }
+    ensures words { M.words memory.new ≡ list_words (M.words memory.old) kernel.old access.now }
 {
     match *access {
         Access::Load { at } => quiet(value(memory.load(at))),
@@ -156,5 +165,6 @@ pub(crate) fn perform<M: Memory>(
             to,
             moves,
         } => requeued(kernel.cmp_requeue(memory, from, expected, wake, to, moves)),
+        Access::Trim { at } => trimmed(kernel.trim(memory, at)),
     }
 }

@@ -3,13 +3,12 @@ use Rattle.std.proofs.lemmas.Grind.{common_steps}
 use Rattle.keys.specs.declared.access.Access.{Access}
 use Rattle.keys.specs.declared.point.Operation.TheVariants.{Death}
 use Rattle.exitwalk.specs.Walks.{access_of}
-use Rattle.syscalls.specs.Memories.{words_after}
 use Rattle.protocol.specs.declared.thread.Thread.{Thread}
 use Rattle.protocol.specs.declared.thread.Stage.TheVariants.{Dying}
 use Rattle.protocol.specs.declared.note.Note.TheVariants.{Walked}
 use Rattle.protocol.specs.Machine.{idle, told_of, held_after}
 use Rattle.interleave.specs.Shown.{state_at}
-use Rattle.interleave.specs.Perform.{Performs}
+use Rattle.interleave.specs.Perform.{list_words, Performs}
 use Rattle.interleave.proofs.Views.{thread_at-index}
 use Rattle.interleave.proofs.Dying.{walk_state, walk_note}
 use Rattle.interleave.proofs.deaths.walk_on.Goals as goal
@@ -28,7 +27,7 @@ returns-clause-state c =
     let dies : c.index.result.now.stage ≡ Dying w = ap (λ (z : Thread). z.stage) (sym is) ∙ c.requires.stands in
     let performs : Performs ws kernel c.perform-done.new.kernel c.args.thread (access_of w) c.perform-done.result =
     subst (λ (a : Access). Performs ws kernel c.perform-done.new.kernel c.args.thread a c.perform-done.result) c.next.ensures c.perform-done.ensures.performs in
-    let wrote : c.perform-done.new.memory ≡ words_after (access_of w) ws = c.perform-done.ensures.words ∙ ap (λ (a : Access). words_after a ws) c.next.ensures in
+    let wrote : c.perform-done.new.memory ≡ list_words ws kernel (access_of w) = c.perform-done.ensures.words ∙ ap (λ (a : Access). list_words ws kernel a) c.next.ensures in
     let held : c.held_walked.result ≡ held_after c.index.result.now.held Death (told_of _) = c.held_walked.ensures ∙ ap (λ (d : Option ℕ). held_after c.index.result.now.held Death (told_of d)) c.death_told-death.ensures in
     (λ i. state_at l c.perform-done.new.memory c.perform-done.new.kernel (slice_set ts k (record { stage = c.stage_walked.ensures i; held = held i })))
     ∙ walk_state l ws c.perform-done.new.memory kernel c.perform-done.new.kernel ts k c.args.thread w c.resume-progress.new.self c.index.result.now c.perform-done.result c.resume-progress.result
@@ -48,7 +47,7 @@ returns-clause-note c =
     let dies : c.index.result.now.stage ≡ Dying w = ap (λ (z : Thread). z.stage) (sym is) ∙ c.requires.stands in
     let performs : Performs ws kernel c.perform-done.new.kernel c.args.thread (access_of w) c.perform-done.result =
     subst (λ (a : Access). Performs ws kernel c.perform-done.new.kernel c.args.thread a c.perform-done.result) c.next.ensures c.perform-done.ensures.performs in
-    let wrote : c.perform-done.new.memory ≡ words_after (access_of w) ws = c.perform-done.ensures.words ∙ ap (λ (a : Access). words_after a ws) c.next.ensures in
+    let wrote : c.perform-done.new.memory ≡ list_words ws kernel (access_of w) = c.perform-done.ensures.words ∙ ap (λ (a : Access). list_words ws kernel a) c.next.ensures in
     (λ i. Walked c.args.thread (c.death_told-death.ensures i) c.perform-done.result.woken (c.has_returned.ensures i))
     ∙ walk_note l ws c.perform-done.new.memory kernel c.perform-done.new.kernel ts k c.args.thread w c.resume-progress.new.self c.index.result.now c.perform-done.result c.resume-progress.result
     c.requires.known at c.requires.threads c.requires.words is dies performs wrote c.resume-progress.ensures.row c.resume-progress.ensures.progress

@@ -7,14 +7,13 @@ use Rattle.condvar.specs.Whole.{cond_access, cond_led}
 use Rattle.facts.specs.declared.fact.Queue.TheVariants.{Condition}
 use Rattle.protocol.specs.declared.event.Op.{Op}
 use Rattle.protocol.specs.declared.event.Op.TheVariants.{OnCondition}
-use Rattle.syscalls.specs.Memories.{words_after}
 use Rattle.protocol.specs.declared.thread.Thread.{Thread}
 use Rattle.protocol.specs.declared.thread.Stage.TheVariants.{AtCondition}
 use Rattle.protocol.specs.declared.note.Note.TheVariants.{Stepped}
 use Rattle.protocol.specs.Ops.{mutex_of}
 use Rattle.protocol.specs.Machine.{idle, slept_in, led_at, stepped}
 use Rattle.interleave.specs.Shown.{state_at}
-use Rattle.interleave.specs.Perform.{Performs, decision_with, held_with, point_in, reply_in}
+use Rattle.interleave.specs.Perform.{list_words, Performs, decision_with, held_with, point_in, reply_in}
 use Rattle.interleave.proofs.Views.{thread_at-index, made_at, step_state, step_note}
 use Rattle.interleave.proofs.threads.go_on_at.Goals as goal
 
@@ -34,7 +33,7 @@ returns-clause-state c =
     let stands : c.index.result.now.stage ≡ AtCondition c.args.call p = ap (λ (z : Thread). z.stage) (sym is) ∙ c.requires.stands in
     let performs : Performs ws kernel c.perform-done.new.kernel t (cond_access p) c.perform-done.result =
     subst (λ (a : Access). Performs ws kernel c.perform-done.new.kernel t a c.perform-done.result) c.next.ensures c.perform-done.ensures.performs in
-    let wrote : c.perform-done.new.memory ≡ words_after (cond_access p) ws = c.perform-done.ensures.words ∙ ap (λ (a : Access). words_after a ws) c.next.ensures in
+    let wrote : c.perform-done.new.memory ≡ list_words ws kernel (cond_access p) = c.perform-done.ensures.words ∙ ap (λ (a : Access). list_words ws kernel a) c.next.ensures in
     let made = made_at t (mutex_of l o) c.index.result.now.held c.args.call p c.resume-progress.new.self (cond_led p c.perform-done.result.answer) c.resume-progress.result c.resume-progress.ensures.phase c.resume-progress.ensures.progress in
     let held : c.held_after.result ≡ held_with c.index.result.now.held (point_in c.resume-progress.result) = c.held_after.ensures ∙ ap (held_with c.index.result.now.held) c.point.ensures in
     (λ i. state_at l c.perform-done.new.memory c.perform-done.new.kernel (slice_set ts k (record { stage = c.stage_at.ensures i; held = held i })))
@@ -57,7 +56,7 @@ returns-clause-note c =
     let stands : c.index.result.now.stage ≡ AtCondition c.args.call p = ap (λ (z : Thread). z.stage) (sym is) ∙ c.requires.stands in
     let performs : Performs ws kernel c.perform-done.new.kernel t (cond_access p) c.perform-done.result =
     subst (λ (a : Access). Performs ws kernel c.perform-done.new.kernel t a c.perform-done.result) c.next.ensures c.perform-done.ensures.performs in
-    let wrote : c.perform-done.new.memory ≡ words_after (cond_access p) ws = c.perform-done.ensures.words ∙ ap (λ (a : Access). words_after a ws) c.next.ensures in
+    let wrote : c.perform-done.new.memory ≡ list_words ws kernel (cond_access p) = c.perform-done.ensures.words ∙ ap (λ (a : Access). list_words ws kernel a) c.next.ensures in
     let made = made_at t (mutex_of l o) c.index.result.now.held c.args.call p c.resume-progress.new.self (cond_led p c.perform-done.result.answer) c.resume-progress.result c.resume-progress.ensures.phase c.resume-progress.ensures.progress in
     let me : c.mutex_of-mutex.result ≡ mutex_of l o = c.mutex_of-mutex.ensures in
     c.stepped.ensures
