@@ -41,8 +41,8 @@ returned_point p n x result reply point at is progress =
     returned (point_of p.thread p.cell (row_operation p.row) (led_at p n).point) point (led_at p n).row reply e
 
 -- the count after the access
-pub counted_after : (p : Standing) (c d : Card) (n h h' : ℕ) (point : Option Point) → IsGoing p.row → Ready p c → Made p c n d → h ≡ held c → h' ≡ count_after h point → point ≡ point_of p.thread p.cell (row_operation p.row) (led_at p n).point → h' ≡ held d
-counted_after p c d n h h' point going ready m was is told = is ∙ ap (λ (x : Option Point). count_after h x) told ∙ ap (λ (x : ℕ). count_after x (point_of p.thread p.cell (row_operation p.row) (led_at p n).point)) was ∙ sym (held_made p c d n going ready m)
+pub counted_after : (p : Standing) (c d : Card) (n h h' : ℕ) (point : Option Point) → IsGoing p.row → IsStep (access_of p) → Ready p c → Made p c n d → h ≡ held c → h' ≡ count_after h point → point ≡ point_of p.thread p.cell (row_operation p.row) (led_at p n).point → h' ≡ held d
+counted_after p c d n h h' point going step ready m was is told = is ∙ ap (λ (x : Option Point). count_after h x) told ∙ ap (λ (x : ℕ). count_after x (point_of p.thread p.cell (row_operation p.row) (led_at p n).point)) was ∙ sym (held_made p c d n going step ready m)
 
 pub room_made : (p : Standing) (c d : Card) (n h h' : ℕ) (point : Option Point) → IsGoing p.row → IsStep (access_of p) → Ready p c → Made p c n d → h ≤ most p.row → h' ≡ count_after h point → point ≡ point_of p.thread p.cell (row_operation p.row) (led_at p n).point
     → h' ≤ most (led_at p n).row

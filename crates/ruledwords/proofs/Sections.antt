@@ -1,9 +1,13 @@
 -- A section that a call's caller made.
-use Rattle.std.proofs.Common.{◌≡◌, ℕ, ◌≤◌, Option, [], ◌∷◌, ◌++◌, refl, sym, ap, ◌∙◌, subst, arith}
+use Rattle.std.proofs.Common.{◌≡◌, ℕ, ◌≤◌, ◌==◌, Bool, true, false, not, Option, Some, [], ◌∷◌, ◌++◌, refl, sym, ap, ◌∙◌, subst, arith}
+use Rattle.std.specs.Prelude.{◌&&◌, if◌then◌else◌}
 use Rattle.lockword.specs.declared.reply.Reply.{Reply}
+use Rattle.lockword.specs.declared.reply.Reply.TheVariants.{OK}
 use Rattle.keys.specs.declared.access.Answer.{Answer}
-use Rattle.keys.specs.declared.access.Answer.TheVariants.{Again, Woken, Count}
+use Rattle.keys.specs.declared.access.Answer.TheVariants.{Again, Woken, Count, Trimmed}
 use Rattle.keys.specs.declared.point.Operation.{Operation}
+use Rattle.keys.specs.declared.point.Operation.TheVariants as operation
+use Rattle.keys.specs.Objects.{held_limit}
 use Rattle.keys.specs.declared.point.Point.{Point}
 use Rattle.keys.specs.declared.point.Progress.{Progress}
 use Rattle.keys.specs.declared.point.Progress.TheVariants.{Goes, Returns}
@@ -35,6 +39,35 @@ pub record Passes (t : ℕ) (r : Row) (x : Answer) : Type 0 where
   pub change : tells_change x ≡ 0
   pub room : most r ≤ most (resume_of t r x).row
 
+-- behind a wake the unlock trims, or returns
+abbrev behind_wake : Bool → Row
+behind_wake b = if b then Unlock unlock.Trim else Ended OK
+
+behind_decided : (b : Bool) → decided (behind_wake b) ≡ Some OK
+behind_decided true = refl
+behind_decided false = refl
+
+behind_knows : (b : Bool) → Knows (behind_wake b)
+behind_knows true = tt
+behind_knows false = tt
+
+behind_expects : (t : ℕ) (b : Bool) (o : Object) → Expects t (behind_wake b) o
+behind_expects t true o = tt
+behind_expects t false o = tt
+
+behind_of : (op : Operation) (b : Bool) → operation.Unlock ≡ op → IsOf op (behind_wake b)
+behind_of op true is = is
+behind_of op false is = tt
+
+behind_room : (b : Bool) → held_limit ≤ most (behind_wake b)
+behind_room true = omega arith
+behind_room false = omega arith
+
+wake_passes : (t : ℕ) (a : Bool) (k : ℕ) → Passes t (Unlock (unlock.Wake a)) (Count k)
+wake_passes t a k =
+    let b : Bool = not a && (k == 0) in
+    record { same = behind_decided b; knows = behind_knows b; expects = behind_expects t b; of = λ op is. behind_of op b is; change = refl; room = behind_room b }
+
 pub passes : (t cell : ℕ) (r : Row) (x : Answer) → IsAnswerOf (row_access t cell r) x → Passes t r x
 passes t cell (Lock lock.Load) x fits = absurd fits
 passes t cell (Lock (lock.Take v)) x fits = absurd fits
@@ -48,8 +81,10 @@ passes t cell (TryLock try.Load) x fits = absurd fits
 passes t cell (TryLock (try.Take v k)) x fits = absurd fits
 passes t cell (Unlock unlock.Load) x fits = absurd fits
 passes t cell (Unlock (unlock.Release d)) x fits = absurd fits
-passes t cell (Unlock (unlock.Wake a)) (Count k) fits = record { same = refl; knows = tt; expects = λ o. tt; of = λ op e. tt; change = refl; room = omega arith }
+passes t cell (Unlock (unlock.Wake a)) (Count k) fits = wake_passes t a k
 passes t cell (Unlock (unlock.Wake a)) x fits = absurd fits
+passes t cell (Unlock unlock.Trim) (Trimmed b) fits = record { same = refl; knows = tt; expects = λ o. tt; of = λ op e. tt; change = refl; room = omega arith }
+passes t cell (Unlock unlock.Trim) x fits = absurd fits
 passes t cell (Consistent consistent.Load) x fits = absurd fits
 passes t cell (Consistent consistent.Declare) x fits = absurd fits
 passes t cell (Ended y) x fits = absurd fits

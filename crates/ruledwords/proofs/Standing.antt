@@ -20,9 +20,8 @@ use Rattle.mutex.specs.Programs.{access_of, row_operation, resume_of, point_of, 
 use Rattle.mutex.specs.Rows.{IsGoing}
 use Rattle.mutex.specs.Standings.{Standing}
 use Rattle.mutex.specs.Steps.{IsStep, Minds, Tells, rank}
-use Rattle.mutex.proofs.Rights.{right}
 use Rattle.mutex.proofs.Races.{raced}
-use Rattle.mutex.proofs.Steps.{minds, undecided, of_going, undecided_going}
+use Rattle.mutex.proofs.Steps.{right_step, minds, undecided, of_going, undecided_going}
 use Rattle.ruledwords.specs.declared.card.Card.{Card}
 use Rattle.ruledwords.specs.declared.outcome.Wakes.TheVariants.{Nobody, One, All}
 use Rattle.ruledwords.specs.Cards.{at}
@@ -49,20 +48,20 @@ begins op c p of none = record {
 }
 
 -- the laws of programs, of an access that was made
-made_right : (p : Standing) (c d : Card) (n : ℕ) → IsGoing p.row → Ready p c → Made p c n d → Right c.thread p.cell p.row (led_at p n) n (changed (access_of p) n)
-made_right p c d n going ready m = subst (λ (t : ℕ). Right t p.cell p.row (led_at p n) n (changed (access_of p) n)) ready.0
-    (right p.thread p.cell n p.row (subst (λ (z : ℕ). 1 ≤ z) (sym ready.0) m.thread.0) (subst (λ (z : ℕ). z ≤ 64) (sym ready.0) m.thread.1) going ready.1 m.sound (subst (λ (z : ℕ). Expects z p.row (object_of (fields_of n))) (sym ready.0) m.met))
+made_right : (p : Standing) (c d : Card) (n : ℕ) → IsGoing p.row → IsStep (access_of p) → Ready p c → Made p c n d → Right c.thread p.cell p.row (led_at p n) n (changed (access_of p) n)
+made_right p c d n going step ready m = subst (λ (t : ℕ). Right t p.cell p.row (led_at p n) n (changed (access_of p) n)) ready.0
+    (right_step p.thread p.cell n p.row (subst (λ (z : ℕ). 1 ≤ z) (sym ready.0) m.thread.0) (subst (λ (z : ℕ). z ≤ 64) (sym ready.0) m.thread.1) going step ready.1 m.sound (subst (λ (z : ℕ). Expects z p.row (object_of (fields_of n))) (sym ready.0) m.met))
 
 made_minds : (p : Standing) (c d : Card) (n : ℕ) → IsGoing p.row → IsStep (access_of p) → Ready p c → Made p c n d → Minds p.row (led_at p n) n (changed (access_of p) n)
 made_minds p c d n going step ready m = minds p.thread p.cell n p.row (subst (λ (z : ℕ). z ≤ 64) (sym ready.0) m.thread.1) going step ready.1 (subst (λ (z : ℕ). Expects z p.row (object_of (fields_of n))) (sym ready.0) m.met)
 
 -- the point that is made is the one that the next row tells
 made_point : (p : Standing) (c d : Card) (n : ℕ) → IsGoing p.row → IsStep (access_of p) → Ready p c → Made p c n d → decided (led_at p n).row ≡ (led_at p n).point
-made_point p c d n going step ready m = subst (λ (z : Option Reply). Joins z (led_at p n).point (decided (led_at p n).row)) (undecided p.thread p.cell p.row going step) (made_right p c d n going ready m).tells
+made_point p c d n going step ready m = subst (λ (z : Option Reply). Joins z (led_at p n).point (decided (led_at p n).row)) (undecided p.thread p.cell p.row going step) (made_right p c d n going step ready m).tells
 
-pub ready_after : (p : Standing) (c d : Card) (n : ℕ) → IsGoing p.row → Ready p c → Made p c n d → Ready (moved p (led_at p n)) d
-ready_after p c d n going ready m =
-    let r = made_right p c d n going ready m in
+pub ready_after : (p : Standing) (c d : Card) (n : ℕ) → IsGoing p.row → IsStep (access_of p) → Ready p c → Made p c n d → Ready (moved p (led_at p n)) d
+ready_after p c d n going step ready m =
+    let r = made_right p c d n going step ready m in
     let u : Object = object_of (fields_of (changed (access_of p) n)) in (
       ready.0 ∙ sym m.sees.thread,
       r.knows,
@@ -79,7 +78,7 @@ changes_more (x ∷ xs) a = let r = changes_more xs a in omega arith
 
 pub stands_after : (op : Operation) (first : Row) (c : Card) (p : Standing) (d e : Card) (n : ℕ) → IsGoing p.row → IsStep (access_of p) → Ready p d → Stands op first c p d → Made p d n e → Stands op first c (moved p (led_at p n)) e
 stands_after op first c p d e n going step ready s m =
-    let r = made_right p d e n going ready m in
+    let r = made_right p d e n going step ready m in
     let none = undecided p.thread p.cell p.row going step in
     let point = made_point p d e n going step ready m in
     let is = of_going op p.row going s.of in
@@ -120,9 +119,9 @@ less_left op p c d n other going step ready of m = (made_minds p c d n going ste
 
 -- ---- how many mutexes are held
 
-pub held_made : (p : Standing) (c d : Card) (n : ℕ) → IsGoing p.row → Ready p c → Made p c n d → held d ≡ count_after (held c) (point_of p.thread p.cell (row_operation p.row) (led_at p n).point)
-held_made p c d n going ready m =
-    held_sees c p.cell (row_operation p.row) (led_at p n).point (object_of (fields_of n)) (object_of (fields_of (changed (access_of p) n))) d m.sees (made_right p c d n going ready m).runs m.holder
+pub held_made : (p : Standing) (c d : Card) (n : ℕ) → IsGoing p.row → IsStep (access_of p) → Ready p c → Made p c n d → held d ≡ count_after (held c) (point_of p.thread p.cell (row_operation p.row) (led_at p n).point)
+held_made p c d n going step ready m =
+    held_sees c p.cell (row_operation p.row) (led_at p n).point (object_of (fields_of n)) (object_of (fields_of (changed (access_of p) n))) d m.sees (made_right p c d n going step ready m).runs m.holder
     ∙ ap (λ (t : ℕ). count_after (held c) (point_of t p.cell (row_operation p.row) (led_at p n).point)) (sym ready.0)
 
 most_le : (r : Option Reply) (b : Bool) → most_of r b ≤ 2048
@@ -157,7 +156,7 @@ room_after p c d n h going step ready m le =
     go : (r : Option Reply) → (led_at p n).point ≡ r → count_after h (point_of p.thread p.cell (row_operation p.row) r) ≤ most (led_at p n).row
     go None is =
         let still = made_point p c d n going step ready m ∙ is in
-        let same = of_going (row_operation p.row) (led_at p n).row (undecided_going (led_at p n).row still) (made_right p c d n going ready m).stays in
+        let same = of_going (row_operation p.row) (led_at p n).row (undecided_going (led_at p n).row still) (made_right p c d n going step ready m).stays in
         subst (λ (z : Option Reply × Operation). h ≤ most_of z.0 (acquires z.1)) (λ i. (sym still i, sym same i)) before
     go (Some x) is =
         let now = made_point p c d n going step ready m ∙ is in

@@ -16,8 +16,7 @@ use Rattle.mutex.specs.Programs.{access_of, row_operation}
 use Rattle.mutex.specs.Rows.{IsGoing}
 use Rattle.mutex.specs.Standings.{Standing}
 use Rattle.mutex.specs.Steps.{IsStep, Minds}
-use Rattle.mutex.proofs.Rights.{right}
-use Rattle.mutex.proofs.Steps.{minds, carries}
+use Rattle.mutex.proofs.Steps.{right_step, minds, carries}
 use Rattle.ruledwords.specs.declared.card.Card.{Card}
 use Rattle.ruledwords.specs.Cards.{at}
 use Rattle.ruledwords.specs.Seen.{by, holds, Sees}
@@ -94,7 +93,7 @@ makes k slots id c m low p a is there going step ready st =
 
     rights : (n : ℕ) → Knowing k c (cell_place k m) n → Right c.thread p.cell p.row (led_at p n) n (changed (access_of p) n)
     rights n known = subst (λ (t : ℕ). Right t p.cell p.row (led_at p n) n (changed (access_of p) n)) ready.0
-        (right p.thread p.cell n p.row (short n known).0 (short n known).1 going ready.1 (sound k c (cell_place k m) n known) (subst (λ (t : ℕ). Expects t p.row (object_of (fields_of n))) (sym ready.0) (met n known)))
+        (right_step p.thread p.cell n p.row (short n known).0 (short n known).1 going step ready.1 (sound k c (cell_place k m) n known) (subst (λ (t : ℕ). Expects t p.row (object_of (fields_of n))) (sym ready.0) (met n known)))
 
     mind : (n : ℕ) → Knowing k c (cell_place k m) n → Minds p.row (led_at p n) n (changed (access_of p) n)
     mind n known = minds p.thread p.cell n p.row (short n known).1 going step ready.1 (subst (λ (t : ℕ). Expects t p.row (object_of (fields_of n))) (sym ready.0) (met n known))

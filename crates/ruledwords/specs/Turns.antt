@@ -2,9 +2,9 @@
 use Rattle.std.specs.Prelude.{◌≡◌, ℕ, Bool, true, false, Result, Ok, Err}
 use Rattle.lockword.specs.declared.reply.Reply.{Reply}
 use Rattle.keys.specs.declared.access.Access.{Access}
-use Rattle.keys.specs.declared.access.Access.TheVariants.{Wait, Wake}
+use Rattle.keys.specs.declared.access.Access.TheVariants.{Wait, Wake, Trim}
 use Rattle.keys.specs.declared.access.Answer.{Answer}
-use Rattle.keys.specs.declared.access.Answer.TheVariants.{Again, Woken, Count}
+use Rattle.keys.specs.declared.access.Answer.TheVariants.{Again, Woken, Count, Trimmed}
 use Rattle.keys.specs.Layouts.{cell_place}
 use Rattle.mutex.specs.declared.call.Call.{Call}
 use Rattle.mutex.specs.declared.row.Row.TheVariants.{Unlock, Ended}
@@ -58,11 +58,12 @@ abbrev pub Turned : Standing → Pass Live → Turn → Type 0
 Turned p a (Goes r) = (n : ℕ) × Made p (card a) n (card (running_pass r)) × (running_program r ≡ moved p (led_at p n)) × IsGoing (running_program r).row
 Turned p a (Lives b x) = (n : ℕ) × Made p (card a) n (card b) × ((led_at p n).row ≡ Ended x)
 
--- what a section answers: a wait that the word differed, or that it slept and was woken; a wake, how many it woke
+-- what a section answers: a wait that the word differed, or that it slept and was woken; a wake, how many it woke; a trim, whether it cleared the word
 abbrev pub IsAnswerOf : Access → Answer → Type 0
 IsAnswerOf (Wait at e) Again = Unit {0}
 IsAnswerOf (Wait at e) Woken = Unit {0}
 IsAnswerOf (Wake at n) (Count k) = Unit {0}
+IsAnswerOf (Trim at) (Trimmed b) = Unit {0}
 IsAnswerOf a x = ⊥
 
 -- the call went on with this answer, its pass as it was

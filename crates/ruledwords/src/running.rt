@@ -12,7 +12,7 @@ ghost use Rattle.ruledwords.specs.Turns.{running_pass, running_program, Begun, I
 use crate::pass::{Live, Pass, Words};
 use crate::turn::{Running, Turn};
 use keys::{Access, Answer, Operation, Point, Progress};
-use lockword::Reply;
+use lockword::{Reply, WAITERS};
 use mutex::{Call, Program};
 use std::marker::Brand;
 
@@ -98,6 +98,7 @@ fn answer(access: Access, found: u64) -> Answer
         Access::Wait { .. } => Answer::Again,
         Access::Wake { .. } => Answer::Count(0),
         Access::Requeue { .. } | Access::CmpRequeue { .. } => Answer::Counts(0, 0),
+        Access::Trim { .. } => Answer::Trimmed(found == WAITERS),
     }
 }
 

@@ -68,7 +68,8 @@ fn address(access: Access) -> u64
         | Access::FetchAnd { at, .. }
         | Access::FetchAdd { at, .. }
         | Access::Wait { at, .. }
-        | Access::Wake { at, .. } => at,
+        | Access::Wake { at, .. }
+        | Access::Trim { at } => at,
         Access::Requeue { from, .. } | Access::CmpRequeue { from, .. } => from,
     }
 }

@@ -13,6 +13,10 @@ use Rattle.ruledwords.specs.declared.outcome.Owed.{Owed}
 use Rattle.ruledwords.specs.Outcomes.{owed_pass}
 use Rattle.ruledwords.specs.Passes.{card, layout_of, IsPassOf}
 use Rattle.ruledwords.specs.Seen.{Called, held}
+use Rattle.ruledwords.specs.declared.turn.Running.{Running}
+use Rattle.ruledwords.specs.Turns.{running_pass, running_program}
+use Rattle.mutex.specs.declared.row.Row.TheVariants.{Unlock}
+use Rattle.mutex.specs.declared.unlock.UnlockRow.TheVariants as unlock
 
 -- a lock of mutex m: by a thread that holds 2,048 mutexes it is refused, with nothing seen anew. Otherwise the reply is that of its point, whether it slept before or not
 abbrev pub Locked : Words → ℕ → Pass Live → Outcome → Type 0
@@ -26,3 +30,12 @@ Locked w m a (Dead b) = ⊥
 abbrev pub Paid : Words → Owed → Outcome → Type 0
 Paid w o (Lives b r) = IsPassOf w b × (r ≡ OK) × (card b ≡ card (owed_pass o))
 Paid w o (Dead b) = ⊥
+
+-- an unlock stands before its trim
+abbrev pub StandsAtTrim : Running → Type 0
+StandsAtTrim r = (running_program r).row ≡ Unlock unlock.Trim
+
+-- it ends with OK, its pass as it was
+abbrev pub Untrimmed : Running → Outcome → Type 0
+Untrimmed r (Lives b x) = (x ≡ OK) × (b ≡ running_pass r)
+Untrimmed r (Dead b) = ⊥

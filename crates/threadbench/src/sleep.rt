@@ -5,7 +5,7 @@ ghost use Rattle.mutex.specs.Programs.{access_of};
 ghost use Rattle.ruledwords.specs.Outcomes.{IsOwedOf};
 ghost use Rattle.ruledwords.specs.Passes.{layout_of, IsPassOf};
 ghost use Rattle.ruledwords.specs.Turns.{running_program, IsRunningOf, IsTurnOf, Keeps};
-ghost use Rattle.threadbench.specs.Calls.{Locked, Paid};
+ghost use Rattle.threadbench.specs.Calls.{Locked, Paid, StandsAtTrim, Untrimmed};
 
 use crate::bench::Bench;
 use crate::parker::Parker;
@@ -61,7 +61,7 @@ impl Bench {
         let woken = self.wake(rt, key_of(at), most);
         match running.answer(Answer::Count(woken)) {
             Turn::Lives(pass, reply) => Outcome::Lives(pass, reply),
-            Turn::Goes(_) => unreachable!(),
+            Turn::Goes(running) => untrimmed(running),
         }
     }
 
@@ -77,6 +77,8 @@ impl Bench {
                 let woken = self.wake(rt, key_of(at), most);
                 running.answer(Answer::Count(woken))
             }
+            // No section is made for a trim yet: WAITERS stays.
+            Access::Trim { .. } => running.answer(Answer::Trimmed(false)),
             _ => running.access(&self.words),
         }
     }
@@ -131,5 +133,16 @@ impl Bench {
     /// Where the thread sleeps; None where it isn't one of the bench's.
     fn parker(&self, thread: Tid) -> Option<&Parker> {
         self.parkers.get(usize::from(thread.get()) - 1)
+    }
+}
+
+/// Ends an unlock that woke nobody. No section is made for its trim yet: WAITERS stays.
+fn untrimmed(running: Running) -> Outcome
+    requires { StandsAtTrim running }
+    ensures { Untrimmed running result }
+{
+    match running.answer(Answer::Trimmed(false)) {
+        Turn::Lives(pass, reply) => Outcome::Lives(pass, reply),
+        Turn::Goes(_) => unreachable!(),
     }
 }

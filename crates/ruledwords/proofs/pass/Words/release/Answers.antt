@@ -1,4 +1,4 @@
-use Rattle.std.proofs.Common.{rules, ◌≡◌, ◌≢◌, ℕ, refl, sym, ap, ◌∙◌, subst}
+use Rattle.std.proofs.Common.{rules, ◌≡◌, ◌≢◌, ◌<◌, ℕ, refl, sym, ap, ◌∙◌, subst}
 use Rattle.lockword.specs.Cells.{fields_of}
 use Rattle.lockword.specs.declared.reply.Reply.{Reply}
 use Rattle.lockword.specs.declared.reply.Reply.TheVariants.{OK, EPERM}
@@ -11,7 +11,7 @@ use Rattle.mutex.specs.Laws.{decided}
 use Rattle.mutex.specs.Programs.{moved}
 use Rattle.mutex.specs.Rows.{IsGoing}
 use Rattle.mutex.specs.Standings.{Standing}
-use Rattle.mutex.specs.Steps.{Tells}
+use Rattle.mutex.specs.Steps.{Tells, rank}
 use Rattle.mutex.proofs.Steps.{unlock_steps, unlock_refused}
 use Rattle.ruledwords.specs.declared.card.Card.{Card}
 use Rattle.ruledwords.specs.declared.pass.Pass.{Pass}
@@ -20,7 +20,7 @@ use Rattle.ruledwords.specs.Passes.{card, layout_of, IsPassOf}
 use Rattle.ruledwords.specs.Seen.{held, Called}
 use Rattle.ruledwords.specs.Calls.{Stands, led_at}
 use Rattle.ruledwords.proofs.Beginnings.{unlock_begins}
-use Rattle.ruledwords.proofs.Standing.{begins, stands_after, tells_after, called, wakes_nobody}
+use Rattle.ruledwords.proofs.Standing.{begins, stands_after, tells_after, less_left, called, wakes_nobody}
 use Rattle.ruledwords.proofs.pass.Words.release.Goals as goal
 
 pub loop-most-init : goal.loop-most-init
@@ -44,7 +44,7 @@ loop-most-preserved g c =
     let p : Standing = c.loop-most.running.program in
     let was : Card = card c.loop-most.running.pass in
     let now : Card = card c.in-Goes.next.pass in
-    let step = unlock_steps p.thread p.cell p.row i.going i.stands.of (λ at n e. c.in_default.not-Wake at n (c.next.ensures ∙ e)) in
+    let step = unlock_steps p.thread p.cell p.row (fields_of was.last) i.going i.stands.of i.tells (λ at n e. c.in_default.not-Wake at n (c.next.ensures ∙ e)) in
     let t = c.in-Goes.ensures.turned in
     record {
       pass = c.in-Goes.ensures.words.0;
@@ -55,6 +55,16 @@ loop-most-preserved g c =
       tells = subst (λ (q : Standing). Tells operation.Unlock q.row (fields_of now.last)) (sym t.2) (tells_after operation.Unlock p was now t.0 i.going step c.loop-most.running.ready i.stands.of t.1);
     }
 
+pub loop-most-smaller : goal.loop-most-smaller
+loop-most-smaller g c =
+    let i = c.loop-most.invariant in
+    let p : Standing = c.loop-most.running.program in
+    let was : Card = card c.loop-most.running.pass in
+    let now : Card = card c.in-Goes.next.pass in
+    let step = unlock_steps p.thread p.cell p.row (fields_of was.last) i.going i.stands.of i.tells (λ at n e. c.in_default.not-Wake at n (c.next.ensures ∙ e)) in
+    let t = c.in-Goes.ensures.turned in
+    subst (λ (q : Standing). rank q.row < rank p.row) (sym t.2) (less_left operation.Unlock p was now t.0 (λ e. cc) i.going step c.loop-most.running.ready i.stands.of t.1)
+
 pub returns-in-Lives-default-OK : goal.returns-in-Lives-default-OK
 returns-in-Lives-default-OK g c =
     let i = c.loop-most.invariant in
@@ -62,7 +72,7 @@ returns-in-Lives-default-OK g c =
     let p : Standing = c.loop-most.running.program in
     let was : Card = card c.loop-most.running.pass in
     let now : Card = card c.in-Lives-default-OK.pass in
-    let step = unlock_steps p.thread p.cell p.row i.going i.stands.of (λ at n e. c.in_default.not-Wake at n (c.next.ensures ∙ e)) in
+    let step = unlock_steps p.thread p.cell p.row (fields_of was.last) i.going i.stands.of i.tells (λ at n e. c.in_default.not-Wake at n (c.next.ensures ∙ e)) in
     let t = c.in-Lives-default-OK.ensures.turned in
     let s = stands_after operation.Unlock (Unlock unlock.Load) (card a) p was now t.0 i.going step c.loop-most.running.ready i.stands t.1 in
     let end : Standing = moved p (led_at p t.0) in
@@ -85,7 +95,7 @@ returns-in-Lives g c =
     let p : Standing = c.loop-most.running.program in
     let was : Card = card c.loop-most.running.pass in
     let now : Card = card c.in-Lives.pass in
-    let step = unlock_steps p.thread p.cell p.row i.going i.stands.of (λ at n e. c.in_default.not-Wake at n (c.next.ensures ∙ e)) in
+    let step = unlock_steps p.thread p.cell p.row (fields_of was.last) i.going i.stands.of i.tells (λ at n e. c.in_default.not-Wake at n (c.next.ensures ∙ e)) in
     let t = c.in-Lives.ensures.turned in
     let s = stands_after operation.Unlock (Unlock unlock.Load) (card a) p was now t.0 i.going step c.loop-most.running.ready i.stands t.1 in
     let end : Standing = moved p (led_at p t.0) in

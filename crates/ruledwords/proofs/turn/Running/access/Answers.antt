@@ -19,7 +19,7 @@ invariant_of-result c =
     record {
       one = c.make-found.ensures.one;
       own = c.make-found.ensures.made.sees.thread ∙ c.args.self.pass.own;
-      count = counted_after p was now c.make-found.result c.args.self.pass.held c.count.result c.in-Goes.point c.args.self.going c.args.self.ready c.make-found.ensures.made c.args.self.pass.count c.count.ensures told;
+      count = counted_after p was now c.make-found.result c.args.self.pass.held c.count.result c.in-Goes.point c.args.self.going c.requires.step c.args.self.ready c.make-found.ensures.made c.args.self.pass.count c.count.ensures told;
       few = few_made p was now c.make-found.result c.args.self.pass.held c.count.result c.in-Goes.point c.args.self.going c.requires.step c.args.self.ready c.make-found.ensures.made c.args.self.room c.count.ensures told;
     }
 
@@ -32,7 +32,7 @@ invariant_of-result-in-Goes c =
     let told = (going_point p c.make-found.result c.answer.result c.resume.result c.in-Goes.point at c.in-Goes.is c.resume.ensures.progress).1 in
     let to = moved_to p c.resume.new.self c.make-found.result c.answer.result c.resume.ensures.row at in
     record {
-      ready = subst (λ (q : Standing). Ready q now) (sym to) (ready_after p was now c.make-found.result c.args.self.going c.args.self.ready c.make-found.ensures.made);
+      ready = subst (λ (q : Standing). Ready q now) (sym to) (ready_after p was now c.make-found.result c.args.self.going c.requires.step c.args.self.ready c.make-found.ensures.made);
       room = subst (λ (q : Standing). c.count.result ≤ most q.row) (sym to)
           (room_made p was now c.make-found.result c.args.self.pass.held c.count.result c.in-Goes.point c.args.self.going c.requires.step c.args.self.ready c.make-found.ensures.made c.args.self.room c.count.ensures told);
       going = subst (λ (q : Standing). IsGoing q.row) (sym to) (going_point p c.make-found.result c.answer.result c.resume.result c.in-Goes.point at c.in-Goes.is c.resume.ensures.progress).0;
@@ -48,7 +48,7 @@ invariant_of-result-in-Returns c =
     record {
       one = c.make-found.ensures.one;
       own = c.make-found.ensures.made.sees.thread ∙ c.args.self.pass.own;
-      count = counted_after p was now c.make-found.result c.args.self.pass.held c.count-in-Returns.result c.in-Returns.point c.args.self.going c.args.self.ready c.make-found.ensures.made c.args.self.pass.count c.count-in-Returns.ensures told;
+      count = counted_after p was now c.make-found.result c.args.self.pass.held c.count-in-Returns.result c.in-Returns.point c.args.self.going c.requires.step c.args.self.ready c.make-found.ensures.made c.args.self.pass.count c.count-in-Returns.ensures told;
       few = few_made p was now c.make-found.result c.args.self.pass.held c.count-in-Returns.result c.in-Returns.point c.args.self.going c.requires.step c.args.self.ready c.make-found.ensures.made c.args.self.room c.count-in-Returns.ensures told;
     }
 
