@@ -13,6 +13,8 @@ mod faults;
 #[cfg(test)]
 mod many_mutexes;
 #[cfg(test)]
+mod misfits;
+#[cfg(test)]
 mod phases;
 #[cfg(test)]
 mod scripts;

@@ -211,7 +211,7 @@ fn push_lock(text: &mut String, alloc: Global, mutex: u32) -> Result<(), AllocEr
 }
 
 /// Thread 1 takes so many mutexes, one after the other, and then asks for one more, which is answered so.
-fn taken_and_one_more(alloc: Global, held: u32, reply: &str) -> Result<Answer, AllocError> {
+pub fn taken_and_one_more(alloc: Global, held: u32, reply: &str) -> Result<String, AllocError> {
     let mut text = String::from_str(alloc, "trace 1 4096 0\n")?;
     for mutex in 0..held {
         push_lock(&mut text, alloc, mutex)?;
@@ -220,7 +220,7 @@ fn taken_and_one_more(alloc: Global, held: u32, reply: &str) -> Result<Answer, A
         "90000 begin t1 lock m{held}\n90000 point t1 m{held} lock {reply}\n90000 return t1 {reply}\nend 90000\n"
     )?;
     text.push_str(last.as_str())?;
-    Ok(answered(alloc, text.as_bytes()))
+    Ok(text)
 }
 
 #[test]
@@ -232,7 +232,8 @@ fn a_thread_holds_2048_mutexes(rt: HostRuntime) -> Result<(), Fail> {
         (2048, "OK", Illegal(6147)),
     ];
     for (held, reply, want) in cases {
-        assert!(rt; taken_and_one_more(rt.alloc(), held, reply)? == want);
+        let text = taken_and_one_more(rt.alloc(), held, reply)?;
+        assert!(rt; answered(rt.alloc(), text.as_bytes()) == want);
     }
     Ok(())
 }

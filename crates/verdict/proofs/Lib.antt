@@ -2,6 +2,7 @@ pub mod Spelling
 pub mod Owners
 pub mod Stages
 pub mod Places
+pub mod Misfits
 pub mod Lines
 pub mod Passing
 pub mod Whole

@@ -12,11 +12,15 @@ use Rattle.facts.specs.Facts.{thread_of, decision_of, is_point}
 use Rattle.verdict.specs.Earlier.{told_of, objects_after, moved, latest}
 use Rattle.facts.specs.Orders.{Later, Each}
 use Rattle.verdict.specs.Fits.{Fits, Allows, OwnsNothing}
-use Rattle.verdict.specs.Judges.{Accepts, Moves, IsMutex, IsNew, object_at, stage_at}
+use Rattle.verdict.specs.Misfits.{IsMisfit, OwnsSome, Refuses}
+use Rattle.verdict.specs.declared.misfit.Misfit.{Misfit}
+use Rattle.verdict.specs.declared.misfit.Misfit.TheVariants.{EndFalls}
+use Rattle.verdict.specs.declared.misfit.TraceMisfit.{TraceMisfit}
+use Rattle.verdict.specs.Judges.{Accepts, Rejects, Moves, IsMutex, IsNew, object_at, stage_at}
 use Rattle.verdict.specs.Stages.{May, next}
 use Rattle.verdict.specs.Places.{Stands, placed}
-use Rattle.verdict.specs.Verdicts.{AllFit, IsFirstMisfit, IsJudged, point_lines}
-use Rattle.verdict.specs.Passes.{AnswersLines, Decides, IsFresh, Takes, verdict_of}
+use Rattle.verdict.specs.Verdicts.{AllFit, IsFound, IsReason, point_lines}
+use Rattle.verdict.specs.Passes.{AnswersLines, Decides, IsFresh, Takes, found_at, misfit_at}
 use Rattle.verdict.specs.Reading.{lines_read, line_read}
 use Rattle.lines.specs.Lines.{lines_of}
 use Rattle.std.specs.Option.{is_some}
@@ -24,15 +28,16 @@ use Rattle.verdict.specs.declared.head.Head.{Head}
 use Rattle.verdict.specs.declared.reading.Read.TheVariants.{Told, End}
 use Rattle.verdict.proofs.Lines.{goes_told, goes_end, ended_empty}
 use Rattle.verdict.proofs.Burials.{explains}
-use Rattle.verdict.proofs.Places.{stands_later, stands_before, placed_stands, stands_nowhere}
-use Rattle.verdict.proofs.Stages.{Kept, may_fits, fits_may, next_kept}
+use Rattle.verdict.proofs.Places.{Recalls, clashes_out, recalls_next, recalls_nowhere, stands_later, stands_before}
+use Rattle.verdict.proofs.Misfits.{forbids_out, life_breaks, misfit_fails, order_breaks, owns_breaks, refuses_breaks}
+use Rattle.verdict.proofs.Stages.{Kept, may_fits, next_kept}
 
 -- the judge keeps what these lines told
 pub record Reflects (j : Judge) (told : List Line) : Type 0 where
   pub stages : (t : ℕ) → Kept (stage_at j.stages.items t) (told_of t told)
   pub objects : object_at j.objects.items ≡ objects_after told
   pub stands : (e : Line) → 1 ≤ e.event → Stands j.place e → Each (λ a. Later a e) told
-  pub behind : (e : Line) → 1 ≤ e.event → Each (λ a. Later a e) told → Stands j.place e
+  pub recalls : Recalls j.place told
   pub event : j.place.event ≡ latest told
 
 pub accepts_fits : (j : Judge) (told : List Line) (e : Line) → Reflects j told → 1 ≤ e.event → Accepts j e → Fits (length j.objects.items) told e
@@ -43,13 +48,17 @@ accepts_fits j told e r some a = record {
   reaped = subst (λ os. OwnsNothing (length j.objects.items) os e.fact) r.objects a.reaped;
 }
 
-pub fits_accepts : (j : Judge) (told : List Line) (e : Line) → Reflects j told → 1 ≤ e.event → Fits (length j.objects.items) told e → Accepts j e
-fits_accepts j told e r some f = record {
-  stands = r.behind e some f.in_order;
-  may = fits_may _ e.fact _ (r.stages (thread_of e.fact)) f.of_thread;
-  allowed = subst (λ os. Allows (length j.objects.items) os (decision_of e.fact)) (sym r.objects) f.allowed;
-  reaped = subst (λ os. OwnsNothing (length j.objects.items) os e.fact) (sym r.objects) f.reaped;
-}
+pub rejects_misfit : (m : Misfit) (j : Judge) (told : List Line) (e : Line) → Reflects j told → 1 ≤ e.event → Rejects m j e → IsMisfit m (length j.objects.items) told e
+rejects_misfit m j told e r some (inl h) = let out = clashes_out m j.place told e r.recalls r.event some h in inl (out, order_breaks m told e out)
+rejects_misfit m j told e r some (inr (inl h)) =
+    let out = forbids_out m (stage_at j.stages.items (thread_of e.fact)) e.fact (told_of (thread_of e.fact) told) (r.stages (thread_of e.fact)) h in
+    inr (inl (out, life_breaks m (told_of (thread_of e.fact) told) e.fact out))
+rejects_misfit m j told e r some (inr (inr (inl h))) =
+    let out = subst (λ os. Refuses m (length j.objects.items) os (decision_of e.fact)) r.objects h in
+    inr (inr (inl (out, refuses_breaks m (length j.objects.items) (objects_after told) (decision_of e.fact) out)))
+rejects_misfit m j told e r some (inr (inr (inr h))) =
+    let out = subst (λ os. OwnsSome m (length j.objects.items) os e.fact) r.objects h in
+    inr (inr (inr (out, owns_breaks m (length j.objects.items) (objects_after told) e.fact out)))
 
 -- the stages after a fact
 stages_next : (xs : List Stage) (told : List Line) (e : Line) → thread_of e.fact < length xs → ((t : ℕ) → Kept (stage_at xs t) (told_of t told)) → May (stage_at xs (thread_of e.fact)) e.fact
@@ -72,15 +81,15 @@ reflects_next j k told e r some lt a m = record {
   stands = λ x one s.
       let there : Stands (placed j.place e) x = subst (λ p. Stands p x) m.place s in
       (stands_later j.place e x a.stands there, r.stands x one (stands_before j.place e x a.stands there));
-  behind = λ x one h. subst (λ p. Stands p x) (sym m.place) (placed_stands j.place e x a.stands h.0 (r.behind x one h.1));
+  recalls = subst (λ p. Recalls p (e ∷ told)) (sym m.place) (recalls_next j.place told e r.recalls);
   event = ap (λ p. p.event) m.place;
 }
 
 -- what a pass keeps of the lines so far
 abbrev pub Shows : ℕ → Pass → List Line → Type 0
-Shows n p told = MatchOption p.illegal (AllFit n told × Reflects p.judge told × (p.points ≡ point_lines told)) (λ k. IsFirstMisfit n told k)
+Shows n p told = MatchOption p.illegal (AllFit n told × Reflects p.judge told × (p.points ≡ point_lines told)) (λ why. IsReason n told why)
 
-pub none_of : (o : Option ℕ) → is_some o ≡ false → o ≡ None
+pub none_of : {A : Type 0} (o : Option A) → is_some o ≡ false → o ≡ None
 none_of None e = refl
 none_of (Some k) e = absurd cc
 
@@ -93,37 +102,44 @@ missed false n e = refl
 missed true n e = absurd cc
 
 pub judges : (p : Pass) (n : ℕ) (e : Line) (q : Pass) → p.illegal ≡ None → Decides p n e q → Takes p n e q
-judges p n e q none d = subst (λ o. MatchOption o (Decides p n e q) (λ k. q.illegal ≡ Some k)) (sym none) d
+judges p n e q none d = subst (λ o. MatchOption o (Decides p n e q) (λ why. q.illegal ≡ Some why)) (sym none) d
 
 pub shows_next : (n : ℕ) (p q : Pass) (told : List Line) (line : ℕ) (e : Line) → Shows n p told → Takes p line e q → length p.judge.objects.items ≡ n → 1 ≤ e.event → thread_of e.fact < length p.judge.stages.items → line ≡ length told + 2 → Shows n q (e ∷ told)
 shows_next n p q told line e shows takes is some lt here = go p.illegal shows takes where
-  go : (o : Option ℕ) → MatchOption o (AllFit n told × Reflects p.judge told × (p.points ≡ point_lines told)) (λ k. IsFirstMisfit n told k) → MatchOption o (Decides p line e q) (λ k. q.illegal ≡ Some k) → Shows n q (e ∷ told)
+  go : (o : Option TraceMisfit) → MatchOption o (AllFit n told × Reflects p.judge told × (p.points ≡ point_lines told)) (λ why. IsReason n told why) → MatchOption o (Decides p line e q) (λ why. q.illegal ≡ Some why) → Shows n q (e ∷ told)
   go None s (inl d) =
       let fits : Fits n told e = subst (λ k. Fits k told e) is (accepts_fits p.judge told e s.1 some d.0) in
-      subst (λ o. MatchOption o (AllFit n (e ∷ told) × Reflects q.judge (e ∷ told) × (q.points ≡ point_lines (e ∷ told))) (λ k. IsFirstMisfit n (e ∷ told) k)) (sym d.2)
+      subst (λ o. MatchOption o (AllFit n (e ∷ told) × Reflects q.judge (e ∷ told) × (q.points ≡ point_lines (e ∷ told))) (λ why. IsReason n (e ∷ told) why)) (sym d.2)
       ((fits, s.0), reflects_next p.judge q.judge told e s.1 some lt d.0 d.1, d.3 ∙ ap (λ k. if is_point e.fact then 1 + k else k) s.2)
   go None s (inr d) =
-      let found : IsFirstMisfit n (e ∷ told) line = record {
-        newer = [];
-        misfit = e;
-        earlier = told;
-        all = refl;
-        fit = s.0;
-        fails = λ fits. d.0 (fits_accepts p.judge told e s.1 some (subst (λ k. Fits k told e) (sym is) fits));
-        here = here;
+      let reason : IsMisfit d.0 n told e = subst (λ k. IsMisfit d.0 k told e) is (rejects_misfit d.0 p.judge told e s.1 some d.1) in
+      let found : IsReason n (e ∷ told) (misfit_at line d.0) = record {
+        first = record {
+          newer = [];
+          misfit = e;
+          earlier = told;
+          all = refl;
+          fit = s.0;
+          fails = misfit_fails d.0 n told e reason;
+          here = here;
+        };
+        reason = reason;
       } in
-      subst (λ o. MatchOption o (AllFit n (e ∷ told) × Reflects q.judge (e ∷ told) × (q.points ≡ point_lines (e ∷ told))) (λ k. IsFirstMisfit n (e ∷ told) k)) (sym d.1) found
-  go (Some k) s d =
-      let found : IsFirstMisfit n (e ∷ told) k = record {
-        newer = e ∷ s.newer;
-        misfit = s.misfit;
-        earlier = s.earlier;
-        all = ap (λ es. e ∷ es) s.all;
-        fit = s.fit;
-        fails = s.fails;
-        here = s.here;
+      subst (λ o. MatchOption o (AllFit n (e ∷ told) × Reflects q.judge (e ∷ told) × (q.points ≡ point_lines (e ∷ told))) (λ why. IsReason n (e ∷ told) why)) (sym d.2) found
+  go (Some why) s d =
+      let found : IsReason n (e ∷ told) why = record {
+        first = record {
+          newer = e ∷ s.first.newer;
+          misfit = s.first.misfit;
+          earlier = s.first.earlier;
+          all = ap (λ es. e ∷ es) s.first.all;
+          fit = s.first.fit;
+          fails = s.first.fails;
+          here = s.first.here;
+        };
+        reason = s.reason;
       } in
-      subst (λ o. MatchOption o (AllFit n (e ∷ told) × Reflects q.judge (e ∷ told) × (q.points ≡ point_lines (e ∷ told))) (λ k. IsFirstMisfit n (e ∷ told) k)) (sym d) found
+      subst (λ o. MatchOption o (AllFit n (e ∷ told) × Reflects q.judge (e ∷ told) × (q.points ≡ point_lines (e ∷ told))) (λ why. IsReason n (e ∷ told) why)) (sym d) found
 
 -- before the first line behind the head
 reflects_new : (h : Head) (j : Judge) → IsNew h j → Reflects j []
@@ -131,21 +147,23 @@ reflects_new h j new = record {
   stages = λ t. subst (λ s. Kept s []) (sym (new.stages t)) (refl, refl, refl, refl);
   objects = fun_ext new.objects;
   stands = λ e some s. tt;
-  behind = λ e some s. subst (λ p. Stands p e) (sym new.place) (stands_nowhere e some);
+  recalls = subst (λ p. Recalls p []) (sym new.place) recalls_nowhere;
   event = ap (λ p. p.event) new.place;
 }
 
 pub shows_new : (n : ℕ) (p : Pass) → IsFresh p → Shows n p []
-shows_new n p fresh = subst (λ o. MatchOption o (AllFit n [] × Reflects p.judge [] × (p.points ≡ point_lines [])) (λ k. IsFirstMisfit n [] k)) (sym fresh.illegal) (tt, reflects_new p.judge.head p.judge fresh.judge, fresh.points)
+shows_new n p fresh = subst (λ o. MatchOption o (AllFit n [] × Reflects p.judge [] × (p.points ≡ point_lines [])) (λ why. IsReason n [] why)) (sym fresh.illegal) (tt, reflects_new p.judge.head p.judge fresh.judge, fresh.points)
 
 -- at the last line
-pub judged : (h : Head) (p : Pass) (told : List Line) (line last : ℕ) → Shows h.mutexes p told → line ≡ length told + 2 → Each (λ e. IsMutex h.mutexes e.fact) told → IsJudged (record { head = h; told = told; last = last }) (verdict_of p.illegal p.points line (nat_lt last p.judge.place.event))
+pub judged : (h : Head) (p : Pass) (told : List Line) (line last : ℕ) → Shows h.mutexes p told → line ≡ length told + 2 → Each (λ e. IsMutex h.mutexes e.fact) told
+    → IsFound (record { head = h; told = told; last = last }) (found_at p.illegal p.points line p.judge.place.event (nat_lt last p.judge.place.event))
 judged h p told line last shows here inside = go p.illegal shows where
-  go : (o : Option ℕ) → MatchOption o (AllFit h.mutexes told × Reflects p.judge told × (p.points ≡ point_lines told)) (λ k. IsFirstMisfit h.mutexes told k) → IsJudged (record { head = h; told = told; last = last }) (verdict_of o p.points line (nat_lt last p.judge.place.event))
-  go (Some k) s = inl s
+  go : (o : Option TraceMisfit) → MatchOption o (AllFit h.mutexes told × Reflects p.judge told × (p.points ≡ point_lines told)) (λ why. IsReason h.mutexes told why)
+      → IsFound (record { head = h; told = told; last = last }) (found_at o p.points line p.judge.place.event (nat_lt last p.judge.place.event))
+  go (Some why) s = inl s
   go None s = short (nat_lt last p.judge.place.event) refl where
-    short : (b : Bool) → nat_lt last p.judge.place.event ≡ b → IsJudged (record { head = h; told = told; last = last }) (verdict_of None p.points line b)
-    short true is = let at = s.1.event in let low : last < p.judge.place.event = grind (arith, nat_tests) in inr (record { fit = s.0; below = omega arith; here = here })
+    short : (b : Bool) → nat_lt last p.judge.place.event ≡ b → IsFound (record { head = h; told = told; last = last }) (found_at None p.points line p.judge.place.event b)
+    short true is = let at = s.1.event in let low : last < p.judge.place.event = grind (arith, nat_tests) in inr (record { short = record { fit = s.0; below = omega arith; here = here }; event = ap EndFalls at })
     short false is = let at = s.1.event in let high : p.judge.place.event ≤ last = grind (arith, nat_tests) in (record { fits = s.0; ends = omega arith; explained = explains h.mutexes told s.0 inside }, s.2)
 
 -- how far a pass has come over the lines of a text
@@ -171,6 +189,6 @@ takes_line text rest first after h line p q e g parts read takes is some lt mute
       inside = (mutex, g.inside);
     }
 
-pub ends_well : (text rest first after : List ℕ) (h : Head) (line last : ℕ) (p : Pass) → Progress text rest h line p → lines_of rest ≡ first ∷ lines_of after → Ok (End last) ≡ line_read h first → after ≡ [] → AnswersLines (lines_read 2 h [] (lines_of text)) (Ok (verdict_of p.illegal p.points line (nat_lt last p.judge.place.event)))
+pub ends_well : (text rest first after : List ℕ) (h : Head) (line last : ℕ) (p : Pass) → Progress text rest h line p → lines_of rest ≡ first ∷ lines_of after → Ok (End last) ≡ line_read h first → after ≡ [] → AnswersLines (lines_read 2 h [] (lines_of text)) (Ok (found_at p.illegal p.points line p.judge.place.event (nat_lt last p.judge.place.event)))
 ends_well text rest first after h line last p g parts read empty =
     (record { head = h; told = g.told; last = last }, goes_end line h g.told last first rest after _ parts (sym read) g.so_far ∙ ended_empty (line + 1) h g.told last after empty, judged h p g.told line last g.shows g.here g.inside)

@@ -1,5 +1,5 @@
 -- What is kept of the newest event says how a line may stand behind all lines.
-use Rattle.std.proofs.Common.{◌≡◌, inl, inr, ℕ, ◌≤◌, ◌==◌, ◌&&◌, ◌||◌, Bool, true, false, Option, None, Some, nat_lt, refl, sym, ap, subst, ◌∙◌, arith}
+use Rattle.std.proofs.Common.{◌≡◌, inl, inr, ℕ, ◌≤◌, ◌==◌, List, [], ◌∷◌, ◌&&◌, ◌||◌, Bool, true, false, Option, None, Some, refl, sym, ap, subst, ◌∙◌, arith}
 use Rattle.std.specs.Prelude.{if◌then◌else◌}
 use Rattle.std.proofs.lemmas.Bool.Decides.{nat_tests}
 use Rattle.facts.specs.declared.fact.Fact.{Fact}
@@ -7,21 +7,18 @@ use Rattle.facts.specs.declared.fact.Line.{Line}
 use Rattle.verdict.specs.declared.place.Place.{Place}
 use Rattle.facts.specs.Facts.{thread_of, decides, is_passive, is_kill}
 use Rattle.facts.specs.Orders.{Later}
-use Rattle.verdict.specs.Places.{Admits, Stands, caller, placed, nowhere}
+use Rattle.verdict.specs.declared.misfit.Misfit.{Misfit}
+use Rattle.verdict.specs.declared.misfit.Misfit.TheVariants.{EventFalls, AnothersEvent, EventDecided, KillShares, EventKilled}
+use Rattle.verdict.specs.Earlier.{latest}
+use Rattle.verdict.specs.Misfits.{IsDoneBy, IsOutOfOrder, Told}
+use Rattle.verdict.specs.Places.{Admits, Clashes, Stands, caller, placed, nowhere}
 
 not_both : (b : Bool) → b ≡ true → b ≡ false → ⊥
 not_both b e f = let g = sym e ∙ f in absurd cc
 
-false_if : (b : Bool) → (b ≡ true → ⊥) → b ≡ false
-false_if false h = refl
-false_if true h = absurd (h refl)
-
 not_either : (a b : Bool) → (a || b) ≡ false → (a ≡ false) × (b ≡ false)
 not_either false b e = (refl, e)
 not_either true b e = absurd cc
-
-neither : (a b : Bool) → a ≡ false → b ≡ false → (a || b) ≡ false
-neither a b e f = ap (λ x. x || b) e ∙ f
 
 -- ---- forwards
 
@@ -48,10 +45,10 @@ stands_later p a e sa (inl lt) = record {
 }
 stands_later p a e sa (inr h) = record {
   never_falls = omega (arith, h.0);
-  decisions_rise = λ da de. absurd (not_both (decides a.fact) da (not_either (decides a.fact) ((p.event == a.event) && p.decided) (h.4 de)).0);
-  one_thread = λ _ pa pe. admits_own (p.event == a.event) p.thread a.fact e.fact h.1 pa pe;
-  kill_before = λ k. absurd (not_both (is_kill a.fact) k h.2);
-  kill_behind = λ k. absurd (not_both (is_kill e.fact) k h.3);
+  decisions_rise = λ da de. absurd (not_both (decides a.fact) da (not_either (decides a.fact) ((p.event == a.event) && p.decided) (h.1.decides de)).0);
+  one_thread = λ _ pa pe. admits_own (p.event == a.event) p.thread a.fact e.fact h.1.admits pa pe;
+  kill_before = λ k. absurd (not_both (is_kill a.fact) k h.1.killed);
+  kill_behind = λ k. absurd (not_both (is_kill e.fact) k h.1.kills);
 }
 
 pub stands_before : (p : Place) (a e : Line) → Stands p a → Stands (placed p a) e → Stands p e
@@ -60,40 +57,60 @@ stands_before p a e (inr ha) (inl lt) = inl (omega (arith, ha.0))
 stands_before p a e (inl la) (inr h) = inl (omega (arith, h.0))
 stands_before p a e (inr ha) (inr h) =
     let same : (p.event == a.event) ≡ true = let e = ha.0 in grind (arith, nat_tests) in
-    let adm : Admits (caller true p.thread a.fact) e.fact = subst (λ b. Admits (caller b p.thread a.fact) e.fact) same h.1 in
-    inr (ha.0 ∙ h.0, admits_before p.thread a.fact e.fact adm ha.1, ha.2, h.3, λ de. sym (ap (λ b. b && p.decided) same) ∙ (not_either (decides a.fact) ((p.event == a.event) && p.decided) (h.4 de)).1)
+    let adm : Admits (caller true p.thread a.fact) e.fact = subst (λ b. Admits (caller b p.thread a.fact) e.fact) same h.1.admits in
+    inr (
+      ha.0 ∙ h.0,
+      record {
+        admits = admits_before p.thread a.fact e.fact adm ha.1.admits;
+        killed = ha.1.killed;
+        kills = h.1.kills;
+        decides = λ de. sym (ap (λ b. b && p.decided) same) ∙ (not_either (decides a.fact) ((p.event == a.event) && p.decided) (h.1.decides de)).1;
+      },
+    )
 
--- ---- backwards
+-- ---- what is kept is what was told
 
-admits_both : (same : Bool) (t : Option ℕ) (a e : Fact) → (is_passive a ≡ false → is_passive e ≡ false → thread_of a ≡ thread_of e) → (same ≡ true → Admits t e) → Admits (caller same t a) e
-admits_both same t a e own known = go (is_passive a) refl same refl where
-  go : (b : Bool) → is_passive a ≡ b → (s : Bool) → same ≡ s → Admits (if b then (if s then t else None) else Some (thread_of a)) e
-  go false is s e = λ pe. sym (own is pe)
-  go true is false e = tt
-  go true is true e = known e
+-- the lines of the newest event told what the place has of it
+pub record Recalls (p : Place) (told : List Line) : Type 0 where
+  pub line : 1 ≤ p.event → Told (λ f. Unit {0}) p.event told
+  pub thread : (t : ℕ) → p.thread ≡ Some t → Told (IsDoneBy t) p.event told
+  pub decided : p.decided ≡ true → Told (λ f. decides f ≡ true) p.event told
+  pub killed : p.killed ≡ true → Told (λ f. is_kill f ≡ true) p.event told
 
-pub placed_stands : (p : Place) (a e : Line) → Stands p a → Later a e → Stands p e → Stands (placed p a) e
-placed_stands p a e sa l se = go (nat_lt a.event e.event) refl where
-  known : a.event ≡ e.event → p.event ≡ a.event → Stands p e → Admits p.thread e.fact × (decides e.fact ≡ true → p.decided ≡ false)
-  known at same (inl lt) = absurd (omega arith)
-  known at same (inr h) = (h.1, h.4)
+caller_told : (p : Place) (told : List Line) (e : Line) (t : ℕ) → Recalls p told → caller (p.event == e.event) p.thread e.fact ≡ Some t → Told (IsDoneBy t) e.event (e ∷ told)
+caller_told p told e t r is = go (is_passive e.fact) refl (p.event == e.event) refl is where
+  go : (b : Bool) → is_passive e.fact ≡ b → (s : Bool) → (p.event == e.event) ≡ s → (if b then (if s then p.thread else None) else Some (thread_of e.fact)) ≡ Some t → Told (IsDoneBy t) e.event (e ∷ told)
+  go false acts s same is = inl (refl, (acts, cc))
+  go true acts true same is = let at : p.event ≡ e.event = grind (arith, nat_tests) in inr (subst (λ i. Told (IsDoneBy t) i told) at (r.thread t is))
+  go true acts false same is = absurd cc
 
-  undecided : a.event ≡ e.event → decides e.fact ≡ true → (s : Bool) → (p.event == a.event) ≡ s → (s && p.decided) ≡ false
-  undecided at de false is = refl
-  undecided at de true is = (known at (grind (arith, nat_tests)) se).1 de
+decided_told : (p : Place) (told : List Line) (e : Line) → Recalls p told → (decides e.fact || ((p.event == e.event) && p.decided)) ≡ true → Told (λ f. decides f ≡ true) e.event (e ∷ told)
+decided_told p told e r is = go (decides e.fact) refl (p.event == e.event) refl is where
+  go : (b : Bool) → decides e.fact ≡ b → (s : Bool) → (p.event == e.event) ≡ s → (b || (s && p.decided)) ≡ true → Told (λ f. decides f ≡ true) e.event (e ∷ told)
+  go true does s same is = inl (refl, does)
+  go false does true same is = let at : p.event ≡ e.event = grind (arith, nat_tests) in inr (subst (λ i. Told (λ f. decides f ≡ true) i told) at (r.decided is))
+  go false does false same is = absurd cc
 
-  go : (b : Bool) → nat_lt a.event e.event ≡ b → Stands (placed p a) e
-  go true is = inl (grind (arith, nat_tests))
-  go false is =
-      let low = l.never_falls in
-      let at : a.event ≡ e.event = grind (arith, nat_tests) in
-      inr (
-        at,
-        admits_both (p.event == a.event) p.thread a.fact e.fact (l.one_thread at) (λ same. (known at (grind (arith, nat_tests)) se).0),
-        false_if (is_kill a.fact) (λ k. let lt = l.kill_before k in omega arith),
-        false_if (is_kill e.fact) (λ k. let lt = l.kill_behind k in omega arith),
-        λ de. neither (decides a.fact) ((p.event == a.event) && p.decided) (false_if (decides a.fact) (λ da. let lt = l.decisions_rise da de in omega arith)) (undecided at de (p.event == a.event) refl),
-      )
+pub recalls_next : (p : Place) (told : List Line) (e : Line) → Recalls p told → Recalls (placed p e) (e ∷ told)
+recalls_next p told e r = record {
+  line = λ some. inl (refl, tt);
+  thread = λ t is. caller_told p told e t r is;
+  decided = λ is. decided_told p told e r is;
+  killed = λ is. inl (refl, is);
+}
 
-pub stands_nowhere : (e : Line) → 1 ≤ e.event → Stands nowhere e
-stands_nowhere e h = inl (omega arith)
+pub recalls_nowhere : Recalls nowhere []
+recalls_nowhere = record {
+  line = λ some. omega (arith, some);
+  thread = λ t is. absurd cc;
+  decided = λ is. absurd cc;
+  killed = λ is. absurd cc;
+}
+
+pub clashes_out : (m : Misfit) (p : Place) (told : List Line) (e : Line) → Recalls p told → p.event ≡ latest told → 1 ≤ e.event → Clashes m p e → IsOutOfOrder m told e
+clashes_out (EventFalls n) p told e r at some h = (h.0 ∙ at, h.1)
+clashes_out (AnothersEvent t) p told e r at some h = (subst (λ i. Told (IsDoneBy t) i told) h.0 (r.thread t h.1.0), h.1.1, h.1.2)
+clashes_out EventDecided p told e r at some h = (subst (λ i. Told (λ f. decides f ≡ true) i told) h.0 (r.decided h.1.0), h.1.1)
+clashes_out KillShares p told e r at some h = let same : p.event ≡ e.event = h.0 in (subst (λ i. Told (λ f. Unit {0}) i told) h.0 (r.line (omega arith)), h.1)
+clashes_out EventKilled p told e r at some h = subst (λ i. Told (λ f. is_kill f ≡ true) i told) h.0 (r.killed h.1)
+clashes_out m p told e r at some h = absurd h.1

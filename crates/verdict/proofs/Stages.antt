@@ -40,11 +40,11 @@ onward Wait ps Nothing b x of may = absurd cc
 onward Wait ps Released b x of may = subst (λ r. Of Wait (ps ++ (r, x) ∷ []) (pointed Wait r x)) (sym may) (subst (λ ys. Complete Wait (ys ++ (Lock, x) ∷ []) x) (sym of.1) (refl, refl))
 onward Wait ps (Decided y) b x of may = absurd may
 onward a ps Nothing b x of may = subst (λ r. Of a (ps ++ (r, x) ∷ []) (pointed a r x)) (sym may) (subst (λ ys. Complete a (ys ++ (a, x) ∷ []) x) (sym of) refl)
-onward a ps Released b x of may = absurd may
+onward a ps Released b x of may = let e : a ≡ Wait = of.0 in absurd cc
 onward a ps (Decided y) b x of may = absurd may
 
 -- the first point of a call
-may_first : (a b : Operation) (x : Reply) → Beginning a ((b, x) ∷ []) → MayPoint a Nothing b x
+pub may_first : (a b : Operation) (x : Reply) → Beginning a ((b, x) ∷ []) → MayPoint a Nothing b x
 may_first a b x ([], y, is) = same a b x (ap (λ p. p.0) is)
   where
     same : (a b : Operation) (x : Reply) → b ≡ a → MayPoint a Nothing b x
@@ -94,14 +94,26 @@ may_fits Dying (Death t m') fs k m = (k.2, k.3)
 may_fits Dying (Reap t) fs k m = (k.2, k.3)
 may_fits s f fs k m = absurd m
 
-nobody_calls : {A : Type 0} {x : A} (o : Option A) → o ≡ None → o ≡ Some x → ⊥
+pub nobody_calls : {A : Type 0} {x : A} (o : Option A) → o ≡ None → o ≡ Some x → ⊥
 nobody_calls o e f = let g = sym e ∙ f in absurd cc
 
-unkilled : (b : Bool) → b ≡ true → b ≡ false → ⊥
+pub unkilled : (b : Bool) → b ≡ true → b ≡ false → ⊥
 unkilled b e f = let g = sym e ∙ f in absurd cc
 
-same_call : (o : Option Begun) (c d : Begun) → o ≡ Some c → o ≡ Some d → d ≡ c
+pub same_call : (o : Option Begun) (c d : Begun) → o ≡ Some c → o ≡ Some d → d ≡ c
 same_call o c d e f = let g = sym e ∙ f in cc
+
+pub all_made : (a : Operation) (ps : List Act) (made : Made) (x : Reply) → Of a ps made → Complete a ps x → made ≡ Decided x
+all_made a ps Nothing x of is = absurd (subst (λ ys. Complete a ys x) of is)
+all_made a ps Released x of is = let h : Complete Wait ((Unlock, OK) ∷ []) x = subst (λ ys. Complete Wait ys x) of.1 (subst (λ c. Complete c ps x) of.0 is) in let e : Unlock ≡ Wait = ap (λ (p : Act). p.0) h in absurd cc
+all_made a ps (Decided y) x of is = ap Decided (one_reply a ps y x of is)
+  where
+    one_reply : (a : Operation) (ps : List Act) (y x : Reply) → Complete a ps y → Complete a ps x → y ≡ x
+    one_reply a [] y x p q = absurd p
+    one_reply a (r ∷ []) y x p q = ap (λ s. s.1) (sym p ∙ q)
+    one_reply Wait (r ∷ s ∷ []) y x p q = ap (λ z. z.1) (sym p.1 ∙ q.1)
+    one_reply a (r ∷ s ∷ []) y x p q = absurd p
+    one_reply a (r ∷ s ∷ t ∷ rs) y x p q = absurd p
 
 pub fits_may : (s : Stage) (f : Fact) (fs : List Fact) → Kept s fs → FitsThread fs f → May s f
 fits_may Resting (Begin t c) fs k h = tt
@@ -125,18 +137,6 @@ fits_may (Calling c made z) (Move t m') fs k h = sym k.1 ∙ h
 fits_may (Calling c made z) (Return t x) fs k h =
     let e = same_call _ c h.1.0 k.0 h.1.1 in
     (sym k.1 ∙ h.0, all_made c.operation (points_in fs) made x k.4 (subst (λ (q : Begun). Complete q.operation (points_in fs) x) e h.1.2))
-  where
-    all_made : (a : Operation) (ps : List Act) (made : Made) (x : Reply) → Of a ps made → Complete a ps x → made ≡ Decided x
-    all_made a ps Nothing x of is = absurd (subst (λ ys. Complete a ys x) of is)
-    all_made a ps Released x of is = let h : Complete Wait ((Unlock, OK) ∷ []) x = subst (λ ys. Complete Wait ys x) of.1 (subst (λ c. Complete c ps x) of.0 is) in let e : Unlock ≡ Wait = ap (λ (p : Act). p.0) h in absurd cc
-    all_made a ps (Decided y) x of is = ap Decided (one_reply a ps y x of is)
-      where
-        one_reply : (a : Operation) (ps : List Act) (y x : Reply) → Complete a ps y → Complete a ps x → y ≡ x
-        one_reply a [] y x p q = absurd p
-        one_reply a (r ∷ []) y x p q = ap (λ s. s.1) (sym p ∙ q)
-        one_reply Wait (r ∷ s ∷ []) y x p q = ap (λ z. z.1) (sym p.1 ∙ q.1)
-        one_reply a (r ∷ s ∷ []) y x p q = absurd p
-        one_reply a (r ∷ s ∷ t ∷ rs) y x p q = absurd p
 fits_may (Calling c made z) (Reap t) fs k h = unkilled _ h.0 k.2
 fits_may Dying (Begin t c) fs k h = unkilled _ k.2 h.1
 fits_may Dying (Kill t) fs k h = unkilled _ k.2 h

@@ -1,5 +1,5 @@
 -- What the checker keeps of the lines so far.
-use Rattle.std.specs.Prelude.{ℕ, ◌≡◌, ◌+◌, ◌<◌, ◌≤◌, Bool, true, false, List, length, slice_index_or, slice_index, slice_set}
+use Rattle.std.specs.Prelude.{ℕ, ◌≡◌, ◌+◌, ◌<◌, ◌≤◌, ◌⊎◌, Bool, true, false, List, length, slice_index_or, slice_index, slice_set}
 use Rattle.keys.specs.declared.object.Object.{Object}
 use Rattle.keys.specs.Objects.{fresh}
 use Rattle.keys.specs.Histories.{held_by}
@@ -15,8 +15,10 @@ use Rattle.verdict.specs.declared.reading.Read.TheVariants.{Told, End}
 use Rattle.facts.specs.Facts.{thread_of, decision_of}
 use Rattle.verdict.specs.Earlier.{moved}
 use Rattle.verdict.specs.Fits.{Allows, OwnsNothing}
-use Rattle.verdict.specs.Stages.{May, next}
-use Rattle.verdict.specs.Places.{Stands, placed, nowhere}
+use Rattle.verdict.specs.declared.misfit.Misfit.{Misfit}
+use Rattle.verdict.specs.Misfits.{Refuses, OwnsSome}
+use Rattle.verdict.specs.Stages.{Forbids, May, next}
+use Rattle.verdict.specs.Places.{Clashes, Stands, placed, nowhere}
 
 abbrev pub one : Bool → ℕ
 one true = 1
@@ -60,7 +62,15 @@ pub record Accepts (j : Judge) (e : Line) : Type 0 where
   pub allowed : Allows (length j.objects.items) (object_at j.objects.items) (decision_of e.fact)
   pub reaped : OwnsNothing (length j.objects.items) (object_at j.objects.items) e.fact
 
--- and is kept
+-- why an entry doesn't go with what is kept
+abbrev pub Rejects : Misfit → Judge → Line → Type 0
+Rejects m j e =
+    Clashes m j.place e
+    ⊎ (Forbids m (stage_at j.stages.items (thread_of e.fact)) e.fact
+    ⊎ (Refuses m (length j.objects.items) (object_at j.objects.items) (decision_of e.fact)
+    ⊎ OwnsSome m (length j.objects.items) (object_at j.objects.items) e.fact))
+
+-- an entry that does is kept
 pub record Moves (j : Judge) (e : Line) (k : Judge) : Type 0 where
   pub place : k.place ≡ placed j.place e
   pub stages : k.stages.items ≡ slice_set j.stages.items (thread_of e.fact) (next (stage_at j.stages.items (thread_of e.fact)) e.fact)

@@ -4,6 +4,7 @@ pub mod Forms
 pub mod Reading
 pub mod Earlier
 pub mod Fits
+pub mod Misfits
 pub mod Stages
 pub mod Places
 pub mod Judges

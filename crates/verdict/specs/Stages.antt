@@ -1,5 +1,5 @@
 -- What the checker keeps of a thread.
-use Rattle.std.specs.Prelude.{◌≡◌, true, false}
+use Rattle.std.specs.Prelude.{◌≡◌, ◌≢◌, true, false}
 use Rattle.lockword.specs.declared.reply.Reply.{Reply}
 use Rattle.lockword.specs.declared.reply.Reply.TheVariants.{OK}
 use Rattle.keys.specs.declared.point.Operation.{Operation}
@@ -10,14 +10,26 @@ use Rattle.verdict.specs.declared.stage.Made.{Made}
 use Rattle.verdict.specs.declared.stage.Made.TheVariants.{Nothing, Released, Decided}
 use Rattle.verdict.specs.declared.stage.Stage.{Stage}
 use Rattle.verdict.specs.declared.stage.Stage.TheVariants.{Resting, Calling, Dying, Reaped}
+use Rattle.facts.specs.Facts.{is_passive}
+use Rattle.verdict.specs.declared.misfit.Misfit.{Misfit}
+use Rattle.verdict.specs.declared.misfit.Misfit.TheVariants as misfit
+use Rattle.verdict.specs.Misfits.{acts, begins, mourns}
 
 -- the next point of a call of which these are made
 abbrev pub MayPoint : Operation → Made → Operation → Reply → Type 0
 MayPoint Wait Nothing Wait x = Unit {0}
 MayPoint Wait Nothing Unlock x = x ≡ OK
-MayPoint Wait Released b x = b ≡ Lock
 MayPoint a Nothing b x = b ≡ a
-MayPoint a made b x = ⊥
+MayPoint a Released b x = b ≡ Lock
+MayPoint a (Decided y) b x = ⊥
+
+-- why a point isn't the next of such a call
+abbrev pub ForbidsPoint : Misfit → Operation → Made → Operation → Reply → Type 0
+ForbidsPoint (misfit.OtherOperation op) a Nothing b x = (op ≡ a) × ((y : Reply) → MayPoint a Nothing b y → ⊥)
+ForbidsPoint misfit.ReleaseRefused a Nothing b x = (a ≡ Wait) × (b ≡ Unlock) × (x ≢ OK)
+ForbidsPoint misfit.Released a Released b x = b ≢ Lock
+ForbidsPoint (misfit.Decided y) a (Decided z) b x = y ≡ z
+ForbidsPoint m a made b x = ⊥
 
 -- how far a point brings a call
 abbrev pub pointed : Operation → Operation → Reply → Made
@@ -37,6 +49,24 @@ May (Calling c made asleep) (Return t x) = (asleep ≡ false) × (made ≡ Decid
 May Dying (Death t m) = Unit {0}
 May Dying (Reap t) = Unit {0}
 May stage f = ⊥
+
+-- why a fact may not be told of a thread at a stage
+abbrev pub Forbids : Misfit → Stage → Fact → Type 0
+Forbids (misfit.InCall k) (Calling c made asleep) f = (begins f ≡ true) × (k ≡ c)
+Forbids misfit.NoCall Resting f = acts f ≡ true
+Forbids misfit.Asleep (Calling c made asleep) f = (acts f ≡ true) × (asleep ≡ true)
+Forbids misfit.Awake Resting f = is_passive f ≡ true
+Forbids misfit.Awake (Calling c made asleep) f = (is_passive f ≡ true) × (asleep ≡ false)
+Forbids misfit.Alive Resting f = mourns f ≡ true
+Forbids misfit.Alive (Calling c made asleep) f = mourns f ≡ true
+Forbids misfit.Killed Dying f = mourns f ≡ false
+Forbids misfit.Reaped Reaped f = Unit {0}
+Forbids (misfit.OtherMutex n) (Calling c made asleep) (Point d) = (asleep ≡ false) × (n ≡ c.mutex) × (d.mutex ≢ n)
+Forbids misfit.Undecided (Calling c made asleep) (Return t x) = (asleep ≡ false) × (made ≡ Nothing)
+Forbids misfit.Released (Calling c made asleep) (Return t x) = (asleep ≡ false) × (made ≡ Released)
+Forbids (misfit.OtherReply y) (Calling c made asleep) (Return t x) = (asleep ≡ false) × (made ≡ Decided y) × (x ≢ y)
+Forbids m (Calling c made asleep) (Point d) = (asleep ≡ false) × (d.mutex ≡ c.mutex) × ForbidsPoint m c.operation made d.operation d.reply
+Forbids m stage f = ⊥
 
 -- and where it leaves the thread
 abbrev pub next : Stage → Fact → Stage

@@ -3,6 +3,10 @@ use Rattle.std.specs.Prelude.{ℕ, ◌≡◌, ◌+◌, ◌<◌, ◌≤◌, ◌�
 use Rattle.facts.specs.declared.fact.Line.{Line}
 use Rattle.verdict.specs.declared.checking.Verdict.{Verdict}
 use Rattle.verdict.specs.declared.checking.Verdict.TheVariants.{Legal, Illegal}
+use Rattle.verdict.specs.declared.checking.Finding.{Finding}
+use Rattle.verdict.specs.declared.checking.Finding.TheVariants as finding
+use Rattle.verdict.specs.declared.misfit.Misfit.TheVariants.{EndFalls}
+use Rattle.verdict.specs.declared.misfit.TraceMisfit.{TraceMisfit}
 use Rattle.verdict.specs.declared.fault.Fault.TheVariants.{OutOfMemory}
 use Rattle.verdict.specs.declared.fault.TraceFault.{TraceFault}
 use Rattle.verdict.specs.Reading.{Trace, fault_at}
@@ -10,6 +14,7 @@ use Rattle.facts.specs.Facts.{is_point}
 use Rattle.verdict.specs.Earlier.{latest}
 use Rattle.verdict.specs.Fits.{Fits}
 use Rattle.verdict.specs.Explained.{Explains}
+use Rattle.verdict.specs.Misfits.{IsMisfit}
 
 -- each line fits those before it; n is the number of mutexes
 abbrev pub AllFit : ℕ → List Line → Type 0
@@ -51,3 +56,29 @@ IsJudged t (Illegal line) = IsFirstMisfit t.head.mutexes t.told line ⊎ IsShort
 abbrev pub Answers : Result Trace TraceFault → Result Verdict TraceFault → Type 0
 Answers said (Ok v) = (t : Trace) × (said ≡ Ok t) × IsJudged t v
 Answers said (Err e) = (said ≡ Err e) ⊎ ((e ≡ fault_at 1 OutOfMemory) × IfErr said (λ first. 1 < first.line))
+
+-- ---- why
+
+-- of these lines this is the first that doesn't fit those before it, for this reason
+pub record IsReason (n : ℕ) (told : List Line) (why : TraceMisfit) : Type 0 where
+  pub first : IsFirstMisfit n told why.line
+  pub reason : IsMisfit why.misfit n first.earlier first.misfit
+
+-- all fit, and the number on the last line is below the last event's, which is told
+pub record IsShortOf (t : Trace) (why : TraceMisfit) : Type 0 where
+  pub short : IsShort t why.line
+  pub event : why.misfit ≡ EndFalls (latest t.told)
+
+abbrev pub IsFound : Trace → Finding → Type 0
+IsFound t (finding.Legal points) = IsLegal t × (points ≡ point_lines t.told)
+IsFound t (finding.Illegal why) = IsReason t.head.mutexes t.told why ⊎ IsShortOf t why
+
+-- what is answered where the bytes say this, as `Answers` has it, with the reason where a line doesn't fit
+abbrev pub Tells : Result Trace TraceFault → Result Finding TraceFault → Type 0
+Tells said (Ok f) = (t : Trace) × (said ≡ Ok t) × IsFound t f
+Tells said (Err e) = (said ≡ Err e) ⊎ ((e ≡ fault_at 1 OutOfMemory) × IfErr said (λ first. 1 < first.line))
+
+-- the verdict without the reason
+abbrev pub verdict_of : Finding → Verdict
+verdict_of (finding.Legal points) = Legal points
+verdict_of (finding.Illegal why) = Illegal why.line

@@ -4,14 +4,15 @@ ghost use Rattle.std.specs.Prelude.{◌≡◌, ◌+◌, ◌<◌, ◌≤◌, nat_
 ghost use Rattle.lines.specs.Lines.{lines_of};
 ghost use Rattle.verdict.specs.Limits.{max_bytes};
 ghost use Rattle.verdict.specs.Judges.{IsInside, IsSound};
-ghost use Rattle.verdict.specs.Passes.{AnswersLines, IsFresh, MakesPass, Takes, verdict_of};
+ghost use Rattle.verdict.specs.Passes.{AnswersLines, IsFresh, MakesPass, Takes, found_at};
 ghost use Rattle.verdict.specs.Reading.{IsHead, head_read, lines_read, text_read, trace_read, unended};
-ghost use Rattle.verdict.specs.Verdicts.{Answers};
+ghost use Rattle.verdict.specs.Verdicts.{Answers, Tells, verdict_of};
 
 use crate::fault::{Fault, TraceFault};
 use crate::head::Head;
 use crate::judge::Judge;
 use crate::limits::MAX_BYTES;
+use crate::misfit::{Misfit, TraceMisfit};
 use crate::reading::{Read, head_of, line_of};
 use facts::Line;
 use lines::{cut, text_of};
@@ -32,14 +33,38 @@ pub enum Verdict {
     },
 }
 
+/// What a trace without fault is found to be, and why.
+#[derive(Clone, Copy, Debug, PartialEq, Eq)]
+pub enum Finding {
+    /// Each line fits those before it.
+    Legal {
+        /// How many of its lines tell of a point.
+        points: usize,
+    },
+    /// A line doesn't fit.
+    Illegal(TraceMisfit),
+}
+
+impl Finding {
+    /// The verdict, without the reason.
+    pub fn verdict(self) -> Verdict
+        ensures { result ≡ verdict_of self }
+    {
+        match self {
+            Finding::Legal { points } => Verdict::Legal { points },
+            Finding::Illegal(why) => Verdict::Illegal { line: why.line },
+        }
+    }
+}
+
 /// A pass over the lines of a trace.
 #[derive(Drop)]
 pub struct Pass {
     /// What the lines told that fit.
     pub judge: Judge,
     pub points: usize,
-    /// The first line that doesn't fit.
-    pub illegal: Option<usize>,
+    /// The first line that doesn't fit, and why.
+    pub illegal: Option<TraceMisfit>,
 }
 
 impl Pass {
@@ -70,8 +95,8 @@ impl Pass {
         if self.illegal.is_some() {
             return;
         }
-        if !self.judge.accept(entry) {
-            self.illegal = Some(line);
+        if let Err(misfit) = self.judge.accept(entry) {
+            self.illegal = Some(TraceMisfit { line, misfit });
             return;
         }
         if entry.fact.is_point() {
@@ -79,17 +104,21 @@ impl Pass {
         }
     }
 
-    /// The verdict at the last line, which has this number of events.
-    fn verdict(&self, line: usize, last: u32) -> Verdict
-        ensures { result ≡ verdict_of self.now.illegal self.now.points line (nat_lt last self.now.judge.place.event) }
+    /// What is found at the last line, which has this number of events.
+    fn finding(&self, line: usize, last: u32) -> Finding
+        ensures { result ≡ found_at self.now.illegal self.now.points line self.now.judge.place.event (nat_lt last self.now.judge.place.event) }
     {
+        let latest = self.judge.place.event;
         match self.illegal {
-            Some(line) => Verdict::Illegal { line },
+            Some(why) => Finding::Illegal(why),
             None => {
-                if last < self.judge.place.event {
-                    Verdict::Illegal { line }
+                if last < latest {
+                    Finding::Illegal(TraceMisfit {
+                        line,
+                        misfit: Misfit::EndFalls { latest },
+                    })
                 } else {
-                    Verdict::Legal {
+                    Finding::Legal {
                         points: self.points,
                     }
                 }
@@ -108,7 +137,7 @@ fn unended_by(rest: &str) -> Fault
     }
 }
 
-fn judge_lines(mut pass: Pass, text: &str) -> Result<Verdict, TraceFault>
+fn judge_lines(mut pass: Pass, text: &str) -> Result<Finding, TraceFault>
     requires fresh { IsFresh pass }
     requires small { length text.now ≤ max_bytes }
     ensures { AnswersLines (lines_read 2 pass.judge.head [] (lines_of text.now)) result }
@@ -124,7 +153,7 @@ fn judge_lines(mut pass: Pass, text: &str) -> Result<Verdict, TraceFault>
             Read::Told(entry) => pass.take(line, &entry),
             Read::End(last) => {
                 if after.is_empty() {
-                    return Ok(pass.verdict(line, last));
+                    return Ok(pass.finding(line, last));
                 }
                 return Err(TraceFault {
                     line: line + 1,
@@ -148,9 +177,9 @@ fn pass_of(alloc: Global, text: &str) -> Result<Pass, Fault>
     Ok(Pass::new(alloc, head)?)
 }
 
-fn check_text(alloc: Global, text: &str) -> Result<Verdict, TraceFault>
+fn explain_text(alloc: Global, text: &str) -> Result<Finding, TraceFault>
     requires { length text.now ≤ max_bytes }
-    ensures { Answers (text_read (lines_of text.now)) result }
+    ensures { Tells (text_read (lines_of text.now)) result }
 {
     let Some((first, rest)) = cut(text, '\n') else {
         return Err(TraceFault {
@@ -164,10 +193,10 @@ fn check_text(alloc: Global, text: &str) -> Result<Verdict, TraceFault>
     }
 }
 
-/// Whether the bytes are a legal trace, or the first line that doesn't fit those before it; where they are no trace, their first fault,
-/// wherever a line doesn't fit. Only want of memory, at line 1, may come in the place of a verdict or of a later line's fault.
-pub fn check(alloc: Global, bytes: &[u8]) -> Result<Verdict, TraceFault>
-    ensures { Answers (trace_read bytes.now) result }
+/// Whether the bytes are a legal trace, or the first line that doesn't fit those before it and why; else, as [`check`] does, the first
+/// fault. The reasons are tried in this order: the line's event, its thread, its mutex.
+pub fn explain(alloc: Global, bytes: &[u8]) -> Result<Finding, TraceFault>
+    ensures { Tells (trace_read bytes.now) result }
 {
     if bytes.len() > MAX_BYTES {
         return Err(TraceFault {
@@ -176,10 +205,21 @@ pub fn check(alloc: Global, bytes: &[u8]) -> Result<Verdict, TraceFault>
         });
     }
     match text_of(bytes) {
-        Ok(text) => check_text(alloc, text),
+        Ok(text) => explain_text(alloc, text),
         Err(line) => Err(TraceFault {
             line,
             fault: Fault::NotUtf8,
         }),
+    }
+}
+
+/// Whether the bytes are a legal trace, or the first line that doesn't fit those before it; where they are no trace, their first fault,
+/// wherever a line doesn't fit. Only want of memory, at line 1, may come in the place of a verdict or of a later line's fault.
+pub fn check(alloc: Global, bytes: &[u8]) -> Result<Verdict, TraceFault>
+    ensures { Answers (trace_read bytes.now) result }
+{
+    match explain(alloc, bytes) {
+        Ok(finding) => Ok(finding.verdict()),
+        Err(fault) => Err(fault),
     }
 }

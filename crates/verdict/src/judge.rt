@@ -1,17 +1,20 @@
 //! What is kept of the lines so far, and whether a line fits them.
-ghost use Rattle.std.specs.Prelude.{◌≡◌, ◌+◌, ◌≤◌, ◌<◌, Some, true, false, length, IfOk};
+ghost use Rattle.std.specs.Prelude.{◌≡◌, ◌+◌, ◌≤◌, ◌<◌, ◌⊎◌, Some, true, length, IfOk, IfErr, MatchOption};
+ghost use Rattle.keys.specs.Objects.{Does, acquires};
 ghost use Rattle.keys.specs.Histories.{is_thread};
 ghost use Rattle.verdict.specs.Earlier.{moved};
 ghost use Rattle.facts.specs.Facts.{decision_of};
 ghost use Rattle.verdict.specs.Fits.{Allows, OwnsNothing};
-ghost use Rattle.verdict.specs.Judges.{Accepts, AreCounted, IsInside, IsSound, Moves, IsNew, object_at, one};
+ghost use Rattle.verdict.specs.Judges.{Accepts, AreCounted, IsInside, IsSound, Moves, Rejects, IsNew, object_at, one};
+ghost use Rattle.verdict.specs.Misfits.{OwnsSome, Refuses, RefusesStep};
 ghost use Rattle.verdict.specs.Reading.{IsHead};
 
 use crate::head::Head;
+use crate::misfit::Misfit;
 use crate::place::Place;
 use crate::stage::Stage;
 use facts::{Fact, Line};
-use keys::{Decision, Object};
+use keys::{Decision, HELD_LIMIT, Object, Operation};
 use lockword::Tid;
 use std::alloc::{AllocError, Global};
 
@@ -52,15 +55,53 @@ fn is_owner(thread: Tid, object: &Object) -> bool
     }
 }
 
+/// The first of the mutexes that the thread owns.
+fn first_owned(objects: &[Object], thread: Tid) -> Option<u16>
+    requires { length objects.now ≤ 4096 }
+    ensures { MatchOption result (OwnsNothing (length objects.now) (object_at objects.now) (Fact.Reap thread)) (λ m. OwnsSome (Misfit.StillOwns m) (length objects.now) (object_at objects.now) (Fact.Reap thread)) }
+{
+    for (mutex, object) in objects.iter().enumerate() {
+        if is_owner(thread, object) {
+            return Some(mutex as u16);
+        }
+    }
+    None
+}
+
+/// Whether the operation takes a mutex.
+fn acquires(operation: Operation) -> bool
+    ensures { result ≡ acquires operation }
+{
+    matches!(operation, Operation::Lock | Operation::TryLock)
+}
+
+/// Why a step is refused that a mutex's object doesn't allow to a thread that owns so many.
+fn refusal(held: u16, object: Object, decision: &Decision) -> Misfit
+    requires { (new : Object) → ¬ Does held object decision.now.thread decision.now.operation decision.now.reply new }
+    ensures { RefusesStep result held object decision.now }
+{
+    if acquires(decision.operation) && HELD_LIMIT <= held {
+        return Misfit::AtLimit { held };
+    }
+    let dies = decision.operation == Operation::Death;
+    if dies && !is_owner(decision.thread, &object) {
+        return Misfit::NotOwner { object };
+    }
+    Misfit::NotAllowed {
+        object,
+        reply: decision.reply,
+    }
+}
+
 /// Makes a step of its mutex's object, if the object allows it.
-fn decide(objects: &mut Vec<Object>, held: &mut Vec<u16>, decision: &Decision) -> bool
+fn decide(objects: &mut Vec<Object>, held: &mut Vec<u16>, decision: &Decision) -> Result<(), Misfit>
     requires mutex { decision.now.mutex < length objects.old.items }
     requires thread { decision.now.thread < length held.old.items }
     requires few { length objects.old.items ≤ 4096 }
     requires counted { AreCounted held.old.items objects.old.items }
-    ensures allowed { result ≡ true → Allows (length objects.old.items) (object_at objects.old.items) (Some decision.now) }
-    ensures refused { result ≡ false → Allows (length objects.old.items) (object_at objects.old.items) (Some decision.now) → ⊥ }
-    ensures moved { result ≡ true → object_at objects.new.items ≡ moved (object_at objects.old.items) (Some decision.now) }
+    ensures allowed { IfOk result (λ _. Allows (length objects.old.items) (object_at objects.old.items) (Some decision.now)) }
+    ensures refused { IfErr result (λ m. Refuses m (length objects.old.items) (object_at objects.old.items) (Some decision.now)) }
+    ensures moved { IfOk result (λ _. object_at objects.new.items ≡ moved (object_at objects.old.items) (Some decision.now)) }
     ensures counted { AreCounted held.new.items objects.new.items }
     ensures objects { length objects.new.items ≡ length objects.old.items }
     ensures held { length held.new.items ≡ length held.old.items }
@@ -71,23 +112,23 @@ fn decide(objects: &mut Vec<Object>, held: &mut Vec<u16>, decision: &Decision) -
     let old = objects[at];
     let owned = held[by];
     match old.step(owned, thread, decision.operation, decision.reply) {
-        None => false,
+        None => Err(refusal(owned, old, decision)),
         Some(new) => {
             objects[at] = new;
             held[by] = recount(owned, is_owner(thread, &old), is_owner(thread, &new));
-            true
+            Ok(())
         }
     }
 }
 
 /// Makes what a fact tells of the mutexes, if they allow it.
-fn change(objects: &mut Vec<Object>, held: &mut Vec<u16>, fact: &Fact) -> bool
+fn change(objects: &mut Vec<Object>, held: &mut Vec<u16>, fact: &Fact) -> Result<(), Misfit>
     requires inside { IsInside (length held.old.items) (length objects.old.items) fact.now }
     requires few { length objects.old.items ≤ 4096 }
     requires counted { AreCounted held.old.items objects.old.items }
-    ensures allowed { result ≡ true → Allows (length objects.old.items) (object_at objects.old.items) (decision_of fact.now) × OwnsNothing (length objects.old.items) (object_at objects.old.items) fact.now }
-    ensures refused { result ≡ false → Allows (length objects.old.items) (object_at objects.old.items) (decision_of fact.now) → OwnsNothing (length objects.old.items) (object_at objects.old.items) fact.now → ⊥ }
-    ensures moved { result ≡ true → object_at objects.new.items ≡ moved (object_at objects.old.items) (decision_of fact.now) }
+    ensures allowed { IfOk result (λ _. Allows (length objects.old.items) (object_at objects.old.items) (decision_of fact.now) × OwnsNothing (length objects.old.items) (object_at objects.old.items) fact.now) }
+    ensures refused { IfErr result (λ m. Refuses m (length objects.old.items) (object_at objects.old.items) (decision_of fact.now) ⊎ OwnsSome m (length objects.old.items) (object_at objects.old.items) fact.now) }
+    ensures moved { IfOk result (λ _. object_at objects.new.items ≡ moved (object_at objects.old.items) (decision_of fact.now)) }
     ensures counted { AreCounted held.new.items objects.new.items }
     ensures objects { length objects.new.items ≡ length objects.old.items }
     ensures held { length held.new.items ≡ length held.old.items }
@@ -95,8 +136,11 @@ fn change(objects: &mut Vec<Object>, held: &mut Vec<u16>, fact: &Fact) -> bool
     match fact.decision() {
         Some(decision) => decide(objects, held, &decision),
         None => match *fact {
-            Fact::Reap(thread) => held[usize::from(thread.get())] == 0,
-            _ => true,
+            Fact::Reap(thread) => match first_owned(objects, thread) {
+                None => Ok(()),
+                Some(mutex) => Err(Misfit::StillOwns { mutex }),
+            },
+            _ => Ok(()),
         },
     }
 }
@@ -119,29 +163,23 @@ impl Judge {
     }
 
     /// Takes an entry, if it fits the lines so far.
-    pub fn accept(&mut self, entry: &Line) -> bool
+    pub fn accept(&mut self, entry: &Line) -> Result<(), Misfit>
         requires sound { IsSound self.old }
         requires inside { IsInside (length self.old.stages.items) (length self.old.objects.items) entry.now.fact }
-        ensures accepts { result ≡ true → Accepts self.old entry.now }
-        ensures refuses { result ≡ false → Accepts self.old entry.now → ⊥ }
-        ensures moves { result ≡ true → Moves self.old entry.now self.new }
+        ensures accepts { IfOk result (λ _. Accepts self.old entry.now) }
+        ensures rejects { IfErr result (λ m. Rejects m self.old entry.now) }
+        ensures moves { IfOk result (λ _. Moves self.old entry.now self.new) }
         ensures sound { IsSound self.new }
         ensures head { self.new.head ≡ self.old.head }
         ensures stages { length self.new.stages.items ≡ length self.old.stages.items }
         ensures objects { length self.new.objects.items ≡ length self.old.objects.items }
     {
-        if !self.place.stands(entry) {
-            return false;
-        }
+        self.place.stands(entry)?;
         let by = usize::from(entry.fact.thread().get());
-        let Some(stage) = self.stages[by].after(&entry.fact) else {
-            return false;
-        };
-        if !change(&mut self.objects, &mut self.held, &entry.fact) {
-            return false;
-        }
+        let stage = self.stages[by].after(&entry.fact)?;
+        change(&mut self.objects, &mut self.held, &entry.fact)?;
         self.stages[by] = stage;
         self.place = self.place.behind(entry);
-        true
+        Ok(())
     }
 }

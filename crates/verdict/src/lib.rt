@@ -6,6 +6,19 @@
 //! robust mutexes, each call that returned has exactly its points and the last one's reply, a call that was cut has a beginning of
 //! them, and a killed thread's death is told of what it owned and of nothing else (pthread_mutex_lock, pthread_cond_wait,
 //! robust-futexes).
+//!
+//! [`explain`] answers why that line doesn't fit, beside the line: its event's number, its thread's life or its mutex forbids it.
+//!
+//! ```text
+//! let trace = b"trace 2 1 0\n1 begin t1 lock m0\n2 sleep t1 m0\n3 point t1 m0 lock OK\nend 3\n";
+//! match explain(rt.alloc(), trace) {
+//!     Ok(Finding::Legal { points }) => println!(rt; "legal: {points} points")?,
+//!     // line 4: the thread is asleep
+//!     Ok(Finding::Illegal(why)) => println!(rt; "{why}")?,
+//!     // such as: line 3: fault 2: unknown word
+//!     Err(fault) => println!(rt; "{fault}")?,
+//! }
+//! ```
 #![tactic(auto)]
 
 mod checking;
@@ -14,11 +27,13 @@ mod form;
 mod head;
 mod judge;
 mod limits;
+mod misfit;
 mod place;
 mod reading;
 mod stage;
 mod words;
 
-pub use checking::{Verdict, check};
+pub use checking::{Finding, Verdict, check, explain};
 pub use fault::{Fault, TraceFault};
 pub use limits::{MAX_BYTES, MAX_CONDITIONS, MAX_EVENTS, MAX_MUTEXES, MAX_THREADS};
+pub use misfit::{Misfit, TraceMisfit};

@@ -1,8 +1,9 @@
 //! The newest event.
-ghost use Rattle.std.specs.Prelude.{◌≡◌, ◌↔◌, IsTrue};
-ghost use Rattle.verdict.specs.Places.{Admits, Stands, caller, nowhere, placed};
+ghost use Rattle.std.specs.Prelude.{◌≡◌, MatchResult};
+ghost use Rattle.verdict.specs.Places.{Admits, Clashes, ClashesHere, IsAnothers, Shares, Stands, caller, nowhere, placed};
 
-use facts::Line;
+use crate::misfit::Misfit;
+use facts::{Fact, Line};
 use lockword::Tid;
 
 /// What the lines of the newest event told so far.
@@ -31,34 +32,53 @@ impl Place {
         }
     }
 
-    /// Whether the thread may have told a line of the event.
-    fn admits(&self, entry: &Line) -> bool
-        ensures { IsTrue result ↔ Admits self.now.thread entry.now.fact }
-    {
-        if entry.fact.is_passive() {
-            return true;
-        }
-        match self.thread {
-            None => true,
-            Some(thread) => thread == entry.fact.thread(),
-        }
-    }
-
-    /// Whether the entry may stand behind the lines so far, by its number.
-    pub fn stands(&self, entry: &Line) -> bool
-        ensures { IsTrue result ↔ Stands self.now entry.now }
+    /// That the entry may stand behind the lines so far, by its number; or why not.
+    pub fn stands(&self, entry: &Line) -> Result<(), Misfit>
+        ensures { MatchResult result (λ _. Stands self.now entry.now) (λ m. Clashes m self.now entry.now) }
     {
         if self.event < entry.event {
-            return true;
+            return Ok(());
         }
-        let decides = entry.fact.decides();
-        let kills = entry.fact.is_kill();
-        let admitted = self.admits(entry);
-        self.event == entry.event
-            && admitted
-            && !self.killed
-            && !kills
-            && !(decides && self.decided)
+        if entry.event < self.event {
+            return Err(Misfit::EventFalls { latest: self.event });
+        }
+        self.shared(&entry.fact)
+    }
+
+    /// That the newest event may have a further line; or why not.
+    fn shared(&self, fact: &Fact) -> Result<(), Misfit>
+        ensures { MatchResult result (λ _. Shares self.now fact.now) (λ m. ClashesHere m self.now fact.now) }
+    {
+        if self.killed {
+            return Err(Misfit::EventKilled);
+        }
+        if fact.is_kill() {
+            return Err(Misfit::KillShares);
+        }
+        self.admits(fact)?;
+        if self.decided && fact.decides() {
+            return Err(Misfit::EventDecided);
+        }
+        Ok(())
+    }
+
+    /// That the fact may be of the newest event by its thread; or why not.
+    fn admits(&self, fact: &Fact) -> Result<(), Misfit>
+        ensures { MatchResult result (λ _. Admits self.now.thread fact.now) (λ m. IsAnothers m self.now.thread fact.now) }
+    {
+        if fact.is_passive() {
+            return Ok(());
+        }
+        match self.thread {
+            None => Ok(()),
+            Some(thread) => {
+                if thread == fact.thread() {
+                    Ok(())
+                } else {
+                    Err(Misfit::AnothersEvent { thread })
+                }
+            }
+        }
     }
 
     /// The place behind the entry.

@@ -1,7 +1,8 @@
 //! How far a thread has come.
-ghost use Rattle.std.specs.Prelude.{◌≡◌, ◌↔◌, IsTrue, MatchOption};
-ghost use Rattle.verdict.specs.Stages.{May, MayPoint, next, pointed};
+ghost use Rattle.std.specs.Prelude.{◌≡◌, true, false, MatchResult};
+ghost use Rattle.verdict.specs.Stages.{Forbids, ForbidsPoint, May, MayPoint, next, pointed};
 
+use crate::misfit::Misfit;
 use facts::{Begun, Fact};
 use keys::Operation;
 use lockword::Reply;
@@ -27,110 +28,133 @@ pub enum Stage {
     Reaped,
 }
 
-/// Whether this may be the next point of a call of which these are made.
-fn may_point(call: Operation, made: Made, operation: Operation, reply: Reply) -> bool
-    ensures { IsTrue result ↔ MayPoint call made operation reply }
-{
-    match made {
-        Made::Nothing => match call {
-            Operation::Wait => match operation {
-                Operation::Wait => true,
-                Operation::Unlock => reply == Reply::OK,
-                _ => false,
-            },
-            _ => operation == call,
-        },
-        Made::Released => match call {
-            Operation::Wait => operation == Operation::Lock,
-            _ => false,
-        },
-        Made::Decided(_) => false,
-    }
-}
-
-/// How far a point brings a call.
-fn made_by(call: Operation, operation: Operation, reply: Reply) -> Made
-    ensures { result ≡ pointed call operation reply }
+/// How far its first point brings a call.
+fn begun(call: Operation, operation: Operation, reply: Reply) -> Result<Made, Misfit>
+    ensures { MatchResult result (λ after. MayPoint call Made.Nothing operation reply × (after ≡ pointed call operation reply)) (λ m. ForbidsPoint m call Made.Nothing operation reply) }
 {
     match call {
         Operation::Wait => match operation {
-            Operation::Unlock => Made::Released,
-            _ => Made::Decided(reply),
+            Operation::Wait => Ok(Made::Decided(reply)),
+            Operation::Unlock => {
+                if reply == Reply::OK {
+                    Ok(Made::Released)
+                } else {
+                    Err(Misfit::ReleaseRefused)
+                }
+            }
+            _ => Err(Misfit::OtherOperation { operation: call }),
         },
-        _ => Made::Decided(reply),
+        _ => {
+            if operation == call {
+                Ok(Made::Decided(reply))
+            } else {
+                Err(Misfit::OtherOperation { operation: call })
+            }
+        }
+    }
+}
+
+/// How far a point brings a call of which these are made.
+fn made_by(call: Operation, made: Made, operation: Operation, reply: Reply) -> Result<Made, Misfit>
+    ensures { MatchResult result (λ after. MayPoint call made operation reply × (after ≡ pointed call operation reply)) (λ m. ForbidsPoint m call made operation reply) }
+{
+    match made {
+        Made::Nothing => begun(call, operation, reply),
+        Made::Released => {
+            if operation == Operation::Lock {
+                Ok(Made::Decided(reply))
+            } else {
+                Err(Misfit::Released)
+            }
+        }
+        Made::Decided(reply) => Err(Misfit::Decided { reply }),
     }
 }
 
 impl Stage {
-    /// Where a fact leaves the thread; None where it may not be told of it.
-    pub fn after(self, fact: &Fact) -> Option<Stage>
-        ensures { MatchOption result (May self fact.now → ⊥) (λ after. May self fact.now × (after ≡ next self fact.now)) }
+    /// Where a fact leaves the thread, or why it may not be told of it.
+    pub fn after(self, fact: &Fact) -> Result<Stage, Misfit>
+        ensures { MatchResult result (λ after. May self fact.now × (after ≡ next self fact.now)) (λ m. Forbids m self fact.now) }
     {
         match self {
-            Stage::Resting => match *fact {
-                Fact::Begin(_, call) => Some(Stage::Calling(call, Made::Nothing, false)),
-                Fact::Kill(_) => Some(Stage::Dying),
-                _ => None,
-            },
+            Stage::Resting => resting(fact),
             Stage::Calling(call, made, asleep) => called(call, made, asleep, fact),
             Stage::Dying => match *fact {
-                Fact::Death(..) => Some(Stage::Dying),
-                Fact::Reap(_) => Some(Stage::Reaped),
-                _ => None,
+                Fact::Death(..) => Ok(Stage::Dying),
+                Fact::Reap(_) => Ok(Stage::Reaped),
+                _ => Err(Misfit::Killed),
             },
-            Stage::Reaped => None,
+            Stage::Reaped => Err(Misfit::Reaped),
         }
     }
 }
 
-/// The same of a thread in a call.
-fn called(call: Begun, made: Made, asleep: bool, fact: &Fact) -> Option<Stage>
-    ensures { MatchOption result (May (Stage.Calling call made asleep) fact.now → ⊥) (λ after. May (Stage.Calling call made asleep) fact.now × (after ≡ next (Stage.Calling call made asleep) fact.now)) }
+/// The same of a thread in no call.
+fn resting(fact: &Fact) -> Result<Stage, Misfit>
+    ensures { MatchResult result (λ after. May Stage.Resting fact.now × (after ≡ next Stage.Resting fact.now)) (λ m. Forbids m Stage.Resting fact.now) }
 {
     match *fact {
-        Fact::Kill(_) => Some(Stage::Dying),
+        Fact::Begin(_, call) => Ok(Stage::Calling(call, Made::Nothing, false)),
+        Fact::Kill(_) => Ok(Stage::Dying),
+        Fact::Wake(_) | Fact::Move(..) => Err(Misfit::Awake),
+        Fact::Death(..) | Fact::Reap(_) => Err(Misfit::Alive),
+        Fact::Point(_) | Fact::Sleep(..) | Fact::Return(..) => Err(Misfit::NoCall),
+    }
+}
+
+/// The same of a thread in a call.
+fn called(call: Begun, made: Made, asleep: bool, fact: &Fact) -> Result<Stage, Misfit>
+    ensures { MatchResult result (λ after. May (Stage.Calling call made asleep) fact.now × (after ≡ next (Stage.Calling call made asleep) fact.now)) (λ m. Forbids m (Stage.Calling call made asleep) fact.now) }
+{
+    if asleep {
+        sleeping(call, made, fact)
+    } else {
+        awake(call, made, fact)
+    }
+}
+
+/// The same of a thread asleep in a call.
+fn sleeping(call: Begun, made: Made, fact: &Fact) -> Result<Stage, Misfit>
+    ensures { MatchResult result (λ after. May (Stage.Calling call made true) fact.now × (after ≡ next (Stage.Calling call made true) fact.now)) (λ m. Forbids m (Stage.Calling call made true) fact.now) }
+{
+    match *fact {
+        Fact::Begin(..) => Err(Misfit::InCall { call }),
+        Fact::Kill(_) => Ok(Stage::Dying),
+        Fact::Wake(_) => Ok(Stage::Calling(call, made, false)),
+        Fact::Move(..) => Ok(Stage::Calling(call, made, true)),
+        Fact::Death(..) | Fact::Reap(_) => Err(Misfit::Alive),
+        Fact::Point(_) | Fact::Sleep(..) | Fact::Return(..) => Err(Misfit::Asleep),
+    }
+}
+
+/// The same of a thread awake in a call.
+fn awake(call: Begun, made: Made, fact: &Fact) -> Result<Stage, Misfit>
+    ensures { MatchResult result (λ after. May (Stage.Calling call made false) fact.now × (after ≡ next (Stage.Calling call made false) fact.now)) (λ m. Forbids m (Stage.Calling call made false) fact.now) }
+{
+    match *fact {
+        Fact::Begin(..) => Err(Misfit::InCall { call }),
+        Fact::Kill(_) => Ok(Stage::Dying),
+        Fact::Wake(_) | Fact::Move(..) => Err(Misfit::Awake),
+        Fact::Death(..) | Fact::Reap(_) => Err(Misfit::Alive),
+        Fact::Sleep(..) => Ok(Stage::Calling(call, made, true)),
         Fact::Point(point) => {
-            if !asleep
-                && point.mutex == call.mutex
-                && may_point(call.operation, made, point.operation, point.reply)
-            {
-                let made = made_by(call.operation, point.operation, point.reply);
-                Some(Stage::Calling(call, made, asleep))
+            if point.mutex == call.mutex {
+                let made = made_by(call.operation, made, point.operation, point.reply)?;
+                Ok(Stage::Calling(call, made, false))
             } else {
-                None
-            }
-        }
-        Fact::Sleep(..) => {
-            if asleep {
-                None
-            } else {
-                Some(Stage::Calling(call, made, true))
-            }
-        }
-        Fact::Wake(_) => {
-            if asleep {
-                Some(Stage::Calling(call, made, false))
-            } else {
-                None
-            }
-        }
-        Fact::Move(..) => {
-            if asleep {
-                Some(Stage::Calling(call, made, asleep))
-            } else {
-                None
+                Err(Misfit::OtherMutex { mutex: call.mutex })
             }
         }
         Fact::Return(_, reply) => match made {
+            Made::Nothing => Err(Misfit::Undecided),
+            Made::Released => Err(Misfit::Released),
             Made::Decided(decided) => {
-                if !asleep && decided == reply {
-                    Some(Stage::Resting)
+                if decided == reply {
+                    Ok(Stage::Resting)
                 } else {
-                    None
+                    Err(Misfit::OtherReply { reply: decided })
                 }
             }
-            _ => None,
         },
-        _ => None,
     }
 }

@@ -1,6 +1,7 @@
-use Rattle.std.proofs.Common.{◌+◌, length, sym, ap, ◌∙◌, arith}
+use Rattle.std.proofs.Common.{◌+◌, length, sym, ap, subst, ◌∙◌, arith}
 use Rattle.keys.specs.declared.object.Object.{Object}
-use Rattle.keys.specs.Histories.{is_thread}
+use Rattle.keys.specs.Histories.{is_thread, held_by}
+use Rattle.verdict.specs.Misfits.{RefusesStep}
 use Rattle.verdict.specs.Judges.{object_at, one}
 use Rattle.verdict.proofs.Owners.{held_most, held_some, read_object, read_number, step_moves, step_counts}
 use Rattle.verdict.proofs.judge.decide.Goals as goal
@@ -21,8 +22,16 @@ recount-requires-clause-few c =
     let owned = read_number c.args.held.now.items c.from-by.result d.thread c.index-owned.result.now (c.from-by.ensures ∙ c.get.ensures.value) c.requires.thread c.index-owned.ensures in
     omega (arith, owned, c.requires.few, c.requires.counted d.thread c.requires.thread, held_most d.thread (object_at xs) (length xs))
 
+pub returns-in-None-clause-refused : goal.returns-in-None-clause-refused
+returns-in-None-clause-refused c =
+    let d = c.args.decision.now in
+    let xs = c.args.objects.now.items in
+    let old = read_object xs c.from-at.result d.mutex c.index.result.now c.from-at.ensures c.requires.mutex c.index.ensures in
+    let owned = read_number c.args.held.now.items c.from-by.result d.thread c.index-owned.result.now (c.from-by.ensures ∙ c.get.ensures.value) c.requires.thread c.index-owned.ensures in
+    subst (λ o. RefusesStep c.refusal.result (held_by d.thread (object_at xs) (length xs)) o d) old (subst (λ k. RefusesStep c.refusal.result k c.index.result.now d) (owned ∙ c.requires.counted d.thread c.requires.thread) c.refusal.ensures)
+
 pub returns-in-Some-clause-moved : goal.returns-in-Some-clause-moved
-returns-in-Some-clause-moved c = λ _.
+returns-in-Some-clause-moved c =
     let d = c.args.decision.now in
     let xs = c.args.objects.now.items in
     let old = read_object xs c.from-at.result d.mutex c.index.result.now c.from-at.ensures c.requires.mutex c.index.ensures in

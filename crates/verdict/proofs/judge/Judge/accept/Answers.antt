@@ -8,13 +8,13 @@ use Rattle.verdict.specs.Judges.{stage_at}
 use Rattle.verdict.proofs.judge.Judge.accept.Goals as goal
 
 pub returns-clause-moves : goal.returns-clause-moves
-returns-clause-moves c = λ _.
+returns-clause-moves c =
     let xs = c.args.self.now.stages.items in
     let f = c.args.entry.now.fact in
     let by : c.from-by.result ≡ thread_of f = c.from-by.ensures ∙ c.get.ensures.value ∙ c.thread.ensures in
     let was = get_or_read_under xs c.from-by.result (length xs) c.index.result.now Resting c.index.ensures (omega arith) refl ∙ ap (stage_at xs) by in
     record {
       place = c.behind-self.ensures;
-      stages = ap (λ k. slice_set xs k c.in-Some.stage) by ∙ ap (slice_set xs (thread_of f)) (c.in-Some.ensures.1 ∙ ap (λ s. next s f) was);
-      objects = c.change.ensures.moved c.if-not-change.false;
+      stages = ap (λ k. slice_set xs k c.in_ok-stage.stage) by ∙ ap (slice_set xs (thread_of f)) (c.in_ok-stage.ensures.1 ∙ ap (λ s. next s f) was);
+      objects = c.in_ok-change.ensures.moved;
     }

@@ -1,5 +1,5 @@
 use Rattle.verdict.proofs.Whole.{answered, refused}
-use Rattle.verdict.proofs.checking.check_text.Goals as goal
+use Rattle.verdict.proofs.checking.explain_text.Goals as goal
 
 pub returns-in-Ok : goal.returns-in-Ok
 returns-in-Ok c = answered c.args.text.now c.in-Some.first.now c.in-Some.rest.now c.in-Ok.pass c.judge_lines.result c.in-Some.ensures.parts c.in-Ok.ensures.0 c.judge_lines.ensures
