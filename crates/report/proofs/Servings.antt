@@ -1,5 +1,5 @@
 -- What was written of a script that was read and played.
-use Rattle.std.proofs.Common.{◌≡◌, ℕ, List, ◌++◌, length, map, Option, Result, Ok, refl, sym, ap, ◌∙◌, subst, MatchResult}
+use Rattle.std.proofs.Common.{◌≡◌, ℕ, List, ◌++◌, length, map, Option, None, Result, Ok, IfOk, refl, sym, ap, ◌∙◌, subst, MatchResult}
 use Rattle.std.specs.List.{concat}
 use Rattle.std.specs.Io.KnownBytes.{Appends}
 use Rattle.keys.specs.Layouts.{Layout'}
@@ -13,7 +13,7 @@ use Rattle.script.specs.declared.command.Mode.TheVariants.{Run, Threads}
 use Rattle.script.specs.declared.fault.ScriptFault.{ScriptFault}
 use Rattle.script.specs.Scope.{Scope}
 use Rattle.script.specs.Reading.{script_read}
-use Rattle.script.specs.Playing.{layout_of, first_state, events_in}
+use Rattle.script.specs.Playing.{layout_of, first_state, events_in, overlong}
 use Rattle.script.specs.Played.{IsPlayed}
 use Rattle.report.proofs.Layouts.{run_layout}
 use Rattle.report.specs.declared.threads.Answers.{Answers}
@@ -21,8 +21,9 @@ use Rattle.texts.specs.Replies.{replies_text}
 use Rattle.texts.specs.Leaves.{AppendsFront}
 use Rattle.texts.specs.Text.{head_line, line_text, end_line, trace_text}
 use Rattle.texts.specs.Tables.{table_text}
-use Rattle.report.specs.Served.{Report, trace, table, replies, mode_of, meaning, meant_table, RunsLegally, Means, Answer, Tells, TellsFront, Written, WrittenFront}
+use Rattle.report.specs.Served.{Report, trace, table, replies, mode_of, meaning, meant_table, RunsLegally, IsFoundLegal, Means, Answer, Tells, TellsFront, Written, WrittenFront}
 use Rattle.script.proofs.Names.{length-map_of}
+use Rattle.runs_judged.proofs.Scripts.{printed}
 
 -- the text of the trace is the script's meaning
 meaning-is : (s : Scope) (t : Trace) (m : Shown) → IsPlayed s t m → trace_text t ≡ meaning s
@@ -61,11 +62,16 @@ wrote_front k old new bytes s text reads means a =
     subst (λ (r : Result Scope ScriptFault). MatchResult r (λ z. (text : List ℕ) × Means k z text × AppendsFront old new text) (λ e. ⊥)) (sym reads) (text, means, a)
 
 -- the trace of a script that was played is what it means
+means_trace : (bytes : List ℕ) (s : Scope) (t : Trace) (m : Shown) → script_read Run bytes ≡ Ok s → IsPlayed s t m → Means trace s (trace_text t)
+means_trace bytes s t m reads p =
+    let found : overlong s ≡ None → IsFoundLegal s = subst (λ (r : Result Scope ScriptFault). IfOk r (λ z. overlong z ≡ None → IsFoundLegal z)) reads (printed Run bytes) in
+    (p.fits, runs_legally s t m p, found p.fits, meaning-is s t m p)
+
 pub written : (old new : Option (List ℕ)) (bytes : List ℕ) (s : Scope) (t : Trace) (m : Shown) → script_read Run bytes ≡ Ok s → IsPlayed s t m → Appends old new (trace_text t) → Written trace old new bytes
-written old new bytes s t m reads p a = wrote trace old new bytes s (trace_text t) reads (p.fits, runs_legally s t m p, meaning-is s t m p) a
+written old new bytes s t m reads p a = wrote trace old new bytes s (trace_text t) reads (means_trace bytes s t m reads p) a
 
 pub written_front : (old new : Option (List ℕ)) (bytes : List ℕ) (s : Scope) (t : Trace) (m : Shown) → script_read Run bytes ≡ Ok s → IsPlayed s t m → AppendsFront old new (trace_text t) → WrittenFront trace old new bytes
-written_front old new bytes s t m reads p a = wrote_front trace old new bytes s (trace_text t) reads (p.fits, runs_legally s t m p, meaning-is s t m p) a
+written_front old new bytes s t m reads p a = wrote_front trace old new bytes s (trace_text t) reads (means_trace bytes s t m reads p) a
 
 -- and so is its table
 pub tabled : (old new : Option (List ℕ)) (bytes : List ℕ) (s : Scope) (t : Trace) (m : Shown) → script_read Run bytes ≡ Ok s → IsPlayed s t m → Appends old new (table_text s (state_of m) t.notes.items) → Written table old new bytes

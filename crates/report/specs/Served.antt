@@ -1,9 +1,7 @@
 -- What the program did with the bytes of its reader.
 use Rattle.std.specs.Prelude.{ℕ, ◌≡◌, ◌≤◌, ◌+◌, ◌⊎◌, false, All, List, ◌++◌, length, map, Option, None, MatchResult}
-use Rattle.std.specs.List.{concat}
 use Rattle.std.specs.Io.KnownBytes.{Appends, Consumes, IsAtEnd}
 use Rattle.protocol.specs.declared.note.Note.{Note}
-use Rattle.protocol.specs.Notes.{lines_from}
 use Rattle.protocol.specs.Machine.{run, notes}
 use Rattle.interleave.specs.Runs.{IsLegalRun}
 use Rattle.script.specs.declared.command.Mode.{Mode}
@@ -22,18 +20,14 @@ use Rattle.report.specs.declared.threads.Answers.{Answers}
 use Rattle.report.specs.Threads.{HaveAnswered}
 use Rattle.texts.specs.Replies.{replies_text}
 use Rattle.texts.specs.Leaves.{AppendsFront}
-use Rattle.texts.specs.Text.{head_line, line_text, end_line}
 use Rattle.texts.specs.Tables.{table_text}
 use Rattle.report.specs.Verdicts.{Checked, CheckedFront}
+use Rattle.runs_judged.specs.Judged.{run_text, script_head, IsJudgedLegal}
 use Rattle.verdict.specs.Limits as traces
 
 -- what is told of a script's events, one note for each
 abbrev pub told_of : Scope → List Note
 told_of s = notes (first_state s) (events_in s)
-
--- the text of a run with these notes
-abbrev pub run_text : ℕ → ℕ → ℕ → List Note → List ℕ
-run_text threads mutexes conditions ns = head_line threads mutexes conditions ++ (concat (map line_text (lines_from 1 ns)) ++ end_line (length ns))
 
 -- what a script means: the text of the trace of its events
 abbrev pub meaning : Scope → List ℕ
@@ -73,10 +67,14 @@ mode_of replies = Threads
 abbrev pub RunsLegally : Scope → Type 0
 RunsLegally s = IsLegalRun (first_state s) (events_in s) (told_of s)
 
+-- and whoever judges the text of that run finds it legal, with exactly the number of its points
+abbrev pub IsFoundLegal : Scope → Type 0
+IsFoundLegal s = IsJudgedLegal (script_head s) (told_of s)
+
 -- what may be written of a script: of a run, if it isn't too long to play, its trace or its table, and the run that they are of is legal; of real threads, what some that made its calls were
 -- answered. A script doesn't determine what real threads are told
 abbrev pub Means : Report → Scope → List ℕ → Type 0
-Means trace s text = (overlong s ≡ None) × RunsLegally s × (text ≡ meaning s)
+Means trace s text = (overlong s ≡ None) × RunsLegally s × IsFoundLegal s × (text ≡ meaning s)
 Means table s text = (overlong s ≡ None) × RunsLegally s × (text ≡ meant_table s)
 Means replies s text = (a : Answers) × Answer s a × (threads : List ThreadReplies) × (mutexes : List MutexWord) × AreLines s a threads mutexes × (text ≡ replies_text threads mutexes)
 

@@ -1,10 +1,10 @@
 -- Condition variables as entries of a map and by their names' bytes.
-use Rattle.std.proofs.Common.{◌≡◌, ℕ, Bool, true, false, cond, ◌||◌, List, [], ◌∷◌, ◌++◌, map, Ok, Err, IsOk, Some, is_some, if◌then◌else◌, Global, String, string_bytes, refl, sym, ap, subst, ◌∙◌}
+use Rattle.std.proofs.Common.{◌≡◌, ℕ, Bool, true, false, cond, ◌||◌, List, [], ◌∷◌, ◌++◌, map, Ok, Err, IsOk, Some, is_some, if◌then◌else◌, Global, String, string_bytes, refl, sym, ap, subst}
 use Rattle.std.specs.Map.{lookup}
 use Rattle.std.specs.Str.{bytes_eq}
 use Rattle.std.specs.String.{string_eq}
 use Rattle.indexmap.specs.IndexMap.{insert_entry}
-use Rattle.script.specs.Reading.{is_declared, condition_names, with_condition}
+use Rattle.script.specs.Reading.{is_declared, with_condition}
 use Rattle.script.specs.Scope.{Scope}
 use Rattle.script.specs.Seen.{conditions_seen}
 use Rattle.script.specs.declared.command.Condition.{Condition}

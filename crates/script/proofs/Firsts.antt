@@ -1,12 +1,12 @@
 -- The first machine of a script: its layout, and its counters.
-use Rattle.std.proofs.Common.{◌≡◌, ◌≢◌, ℕ, zero, suc, ◌+◌, ◌<◌, ◌≤◌, Bool, true, false, nat_lt, List, [], ◌∷◌, ◌++◌, length, map, take, get_or, set, slice_get, All, Option, Some, None, Result, Ok, Err, IsOk, if◌then◌else◌, refl, sym, ap, ◌∙◌, subst, arith, add-one}
+use Rattle.std.proofs.Common.{◌≡◌, ◌≢◌, ℕ, zero, suc, ◌+◌, ◌<◌, ◌≤◌, Bool, true, false, nat_lt, List, [], ◌∷◌, ◌++◌, length, map, take, get_or, set, slice_get, All, Some, Result, Ok, Err, IsOk, if◌then◌else◌, refl, sym, ap, ◌∙◌, subst, arith, add-one}
 use Rattle.std.specs.Option.{option_map}
 use mathlib.Core.Path.{fun_ext}
 use Rattle.std.proofs.Math.Seq.{take-suc}
 use Rattle.std.proofs.lemmas.Bool.Decides.{nat_tests}
 use Rattle.std.proofs.lemmas.List.{take_more_set, take_all, get_or_past}
 use Rattle.std.proofs.lemmas.List.Elements.{All-map}
-use Rattle.keys.specs.Layouts.{Layout', IsLayout, HasThreads, HasMutexes, HasConditions, counter_place, first_word}
+use Rattle.keys.specs.Layouts.{Layout', IsLayout, HasConditions, counter_place}
 use Rattle.keys.specs.Refusals.{Lays}
 use Rattle.keys.specs.declared.layout.Layout.{Layout}
 use Rattle.keys.specs.declared.layout.LayoutFault.{LayoutFault}
@@ -17,7 +17,7 @@ use Rattle.protocol.proofs.Puts.{by_put}
 use Rattle.interleave.proofs.Reaches.{first_word-set}
 use Rattle.script.specs.Limits.{max_counter}
 use Rattle.script.specs.Playing.{layout_of, counter_of, first_state}
-use Rattle.script.specs.Scope.{Scope, IsCondition, IsWellFormed}
+use Rattle.script.specs.Scope.{Scope, IsWellFormed}
 use Rattle.script.specs.declared.command.Condition.{Condition}
 use Rattle.script.proofs.Names.{length-map_of}
 

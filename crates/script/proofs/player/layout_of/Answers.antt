@@ -1,8 +1,7 @@
-use Rattle.std.proofs.Common.{◌≡◌, ◌∙◌, ℕ, ◌+◌, ◌<◌, ◌≤◌, Ok, length, take, set, sym, ap, subst, arith}
+use Rattle.std.proofs.Common.{◌≡◌, ◌∙◌, ℕ, ◌+◌, ◌<◌, length, take, set, sym, ap, subst, arith}
 use Rattle.std.proofs.lemmas.List.{length-set}
-use Rattle.keys.specs.Refusals.{Lays}
 use Rattle.script.specs.Playing.{layout_of}
-use Rattle.script.proofs.Firsts.{lays, laid, mutex_more, all_mutexes}
+use Rattle.script.proofs.Firsts.{lays, mutex_more, all_mutexes}
 use Rattle.script.proofs.player.layout_of.Goals as goal
 
 pub loop-condition-preserved : goal.loop-condition-preserved

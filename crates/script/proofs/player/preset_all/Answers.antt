@@ -1,4 +1,4 @@
-use Rattle.std.proofs.Common.{◌<◌, ◌≤◌, length, refl, arith}
+use Rattle.std.proofs.Common.{◌<◌, length, refl, arith}
 use Rattle.interleave.specs.Shown.{state_of}
 use Rattle.script.proofs.Firsts.{preset_first, preset_next, preset_last}
 use Rattle.script.proofs.player.preset_all.Goals as goal

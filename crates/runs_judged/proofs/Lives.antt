@@ -1,0 +1,70 @@
+-- What is told of a thread's calls and of its death goes through the stages that a checker keeps of it.
+use Rattle.std.proofs.Common.{◌≡◌, ℕ, false, List, [], ◌∷◌, ◌++◌, refl, sym, ap, ◌∙◌, subst, append_assoc, append-nil}
+use Rattle.lockword.specs.declared.reply.Reply.{Reply}
+use Rattle.lockword.specs.declared.reply.Reply.TheVariants.{OK}
+use Rattle.keys.specs.declared.point.Operation.{Operation}
+use Rattle.keys.specs.declared.point.Operation.TheVariants.{Unlock, Wait}
+use Rattle.facts.specs.declared.fact.Begun.{Begun}
+use Rattle.facts.specs.declared.fact.Fact.{Fact}
+use Rattle.facts.specs.declared.fact.Fact.TheVariants.{Return, Kill}
+use Rattle.facts.specs.Lives.{Act, Complete, Beginning, made, Mourned, Unburied, Tells_of, Buried, Life, Rests, Returns, Stays, Cut, Dies}
+use Rattle.verdict.specs.declared.stage.Made.{Made}
+use Rattle.verdict.specs.declared.stage.Made.TheVariants.{Nothing, Released, Decided}
+use Rattle.verdict.specs.declared.stage.Stage.{Stage}
+use Rattle.verdict.specs.declared.stage.Stage.TheVariants.{Resting, Calling, Dying}
+use Rattle.verdict.specs.Stages.{May, next}
+use Rattle.verdict.proofs.Stages.{Of, onward, may_point}
+
+-- these facts may be told, one after the other, of a thread at this stage
+abbrev pub Runs : Stage → List Fact → Type 0
+Runs v [] = Unit {0}
+Runs v (f ∷ fs) = May v f × Runs (next v f) fs
+
+-- whoever makes the first of more points makes a beginning
+shorter : (op : Operation) (ps qs : List Act) (p : Act) → Beginning op (ps ++ p ∷ qs) → Beginning op (ps ++ p ∷ [])
+shorter op ps qs p (rest, x, all) = (qs ++ rest, x, subst (λ (zs : List Act). Complete op zs x) (append_assoc ps (p ∷ qs) rest ∙ sym (append_assoc ps (p ∷ []) (qs ++ rest))) all)
+
+-- a call whose points are made has decided the reply of the last
+all_made : (op : Operation) (ps : List Act) (m : Made) (x : Reply) → Of op ps m → Complete op ps x → m ≡ Decided x
+all_made op ps Nothing x of is = absurd (subst (λ (zs : List Act). Complete op zs x) of is)
+all_made op ps Released x of is =
+    let h : Complete Wait ((Unlock, OK) ∷ []) x = subst (λ (zs : List Act). Complete Wait zs x) of.1 (subst (λ (a : Operation). Complete a ps x) of.0 is) in
+    let e : Unlock ≡ Wait = ap (λ (p : Act). p.0) h in
+    absurd cc
+all_made op ps (Decided y) x of is = ap Decided (one_reply op ps of is)
+  where
+    one_reply : (a : Operation) (qs : List Act) → Complete a qs y → Complete a qs x → y ≡ x
+    one_reply a [] h k = absurd h
+    one_reply a (r ∷ []) h k = ap (λ (z : Act). z.1) (sym h ∙ k)
+    one_reply Wait (r ∷ s ∷ []) h k = ap (λ (z : Act). z.1) (sym h.1 ∙ k.1)
+    one_reply a (r ∷ s ∷ []) h k = absurd h
+    one_reply a (r ∷ s ∷ t ∷ rs) h k = absurd h
+
+-- the points of a call, of which some are made, and then what may come behind them
+call_runs : (t : ℕ) (c : Begun) (ps qs : List Act) (m : Made) (rest : List Fact) → Of c.operation qs m → Beginning c.operation (qs ++ ps) → ((n : Made) → Of c.operation (qs ++ ps) n → Runs (Calling c n false) rest)
+    → Runs (Calling c m false) (made t c ps ++ rest)
+call_runs t c [] qs m rest of begins later = later m (subst (λ (zs : List Act). Of c.operation zs m) (sym (append-nil qs)) of)
+call_runs t c (p ∷ ps) qs m rest of begins later =
+    let may = may_point c.operation qs m p.0 p.1 of (shorter c.operation qs ps p begins) in
+    let same : (qs ++ p ∷ []) ++ ps ≡ qs ++ p ∷ ps = append_assoc qs (p ∷ []) ps in (
+      (refl, refl, may),
+      call_runs t c ps (qs ++ p ∷ []) _ rest (onward c.operation qs m p.0 p.1 of may) (subst (Beginning c.operation) (sym same) begins)
+          (λ n all. later n (subst (λ (zs : List Act). Of c.operation zs n) same all)),
+    )
+
+mourned_runs : (t : ℕ) (fs : List Fact) → Mourned t fs → Runs Dying fs
+mourned_runs t _ Unburied = tt
+mourned_runs t _ (Tells_of m later rest) = (tt, mourned_runs t later rest)
+mourned_runs t _ Buried = (tt, tt)
+
+complete_begins : (op : Operation) (ps : List Act) (x : Reply) → Complete op ps x → Beginning op ps
+complete_begins op ps x all = ([], x, subst (λ (zs : List Act). Complete op zs x) (sym (append-nil ps)) all)
+
+-- so does a life
+pub life_runs : (t : ℕ) (fs : List Fact) → Life t fs → Runs Resting fs
+life_runs t _ Rests = tt
+life_runs t _ (Returns c ps x later all life) =
+    (tt, call_runs t c ps [] Nothing (Return t x ∷ later) refl (complete_begins c.operation ps x all) (λ n of. ((refl, all_made c.operation ps n x of all), life_runs t later life)))
+life_runs t _ (Stays c ps begins) = (tt, subst (Runs (Calling c Nothing false)) (append-nil (made t c ps)) (call_runs t c ps [] Nothing [] refl begins (λ n of. tt)))
+life_runs t _ (Cut c ps later begins mourned) = (tt, call_runs t c ps [] Nothing (Kill t ∷ later) refl begins (λ n of. (tt, mourned_runs t later mourned)))
+life_runs t _ (Dies later mourned) = (tt, mourned_runs t later mourned)
