@@ -210,7 +210,7 @@ fn broadcast_to_all(alloc: Global) -> Result<String, AllocError> {
 fn all_at_rest(alloc: Global) -> Result<String, AllocError> {
     let mut table = String::from_str(alloc, "thread o idle 0 OK\n")?;
     add_for_each(&mut table, &["thread w", " idle 0 OK\n"])?;
-    table.push_str("mutex m 0000000080000000 - -\ncond q 1 -\n")?;
+    table.push_str("mutex m 0000000000000000 - -\ncond q 1 -\n")?;
     Ok(table)
 }
 

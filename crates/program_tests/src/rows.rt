@@ -309,8 +309,55 @@ fn four_exchanges_meet_a_changed_cell(rt: HostRuntime) {
             &rt,
             script,
             "thread r idle 0 X_RACED\nthread a idle 0 OK\nthread b reaped 0 OK\n\
-         thread c reaped 0 OK\nmutex m 00000000c0000000 - -\n"
+         thread c reaped 0 OK\nmutex m 0000000040000000 - -\n"
         )
+    );
+}
+
+#[test]
+fn the_last_unlock_clears_waiters(rt: HostRuntime) {
+    let script = "thread a\nthread b\nmutex m\ncall a lock m\ncall b lock m\ncall a unlock m\n\
+         go b\ncall b unlock m\n";
+    assert!(rt;
+        trace_has(
+            &rt,
+            script,
+            "14 sleep t2 m0\n22 wake t2\n23 return t1 OK\n25 point t2 m0 lock OK\n\
+         30 return t2 OK\n31 begin t2 unlock m0\n37 point t2 m0 unlock OK\n40 return t2 OK\n\
+         end 40\n"
+        )
+    );
+    assert!(rt;
+        table_is(
+            &rt,
+            script,
+            "thread a idle 0 OK\nthread b idle 0 OK\nmutex m 0000000000000000 - -\n"
+        )
+    );
+}
+
+/// The cells of m0 and m256 stand at 10 and 778, in one hash bucket of 256.
+#[test]
+fn sleepers_of_one_bucket_wake_by_their_mutex(rt: HostRuntime) {
+    let script = "thread a\nthread b\nthread c\nmutexes m 257\ncall a lock m0\ncall a lock m256\n\
+         call b lock m0\ncall c lock m256\ncall a unlock m0\n";
+    assert!(rt;
+        trace_has(
+            &rt,
+            script,
+            "24 sleep t2 m0\n29 sleep t3 m256\n36 point t1 m0 unlock OK\n37 wake t2\n\
+         38 return t1 OK\nend 38\n"
+        )
+    );
+    let table = table(&rt, script);
+    assert!(rt; table.status == 0 && table.told.is_empty());
+    let front =
+        b"thread a idle 1 OK\nthread b busy 0 -\nthread c asleep 0 -\nmutex m0 0000000080000000 - -\n";
+    assert!(rt; table.printed.starts_with(front));
+    assert!(rt;
+        table
+            .printed
+            .ends_with(b"mutex m256 0000000080000001 a c\n")
     );
 }
 
