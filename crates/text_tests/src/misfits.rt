@@ -33,286 +33,283 @@ const WAIT: Begun = Begun {
     condition: Some(0),
 };
 
+/// Of a mutex of which nothing was told.
+const UNTOUCHED: Object = Object {
+    owner: None,
+    inconsistent: false,
+    unusable: false,
+};
+
 /// By the numbers of events.
-fn of_events() -> [Case; 6] {
-    [
-        Case {
-            behind: "2 begin t1 lock m0\n1 kill t2\nend 2",
-            line: 3,
-            misfit: Misfit::EventFalls { latest: 2 },
-            text: "line 3: the event is before event 2, of which a line was told",
-        },
-        Case {
-            behind: "1 begin t1 lock m0\n1 point t1 m0 lock OK\n1 return t1 OK\n1 begin t1 unlock m0\n1 point t1 m0 unlock OK\nend 1",
-            line: 6,
-            misfit: Misfit::EventDecided,
-            text: "line 6: the event has a point or a death already",
-        },
-        Case {
-            behind: "1 begin t1 lock m0\n1 kill t1\nend 1",
-            line: 3,
-            misfit: Misfit::KillShares,
-            text: "line 3: a kill is an event of its own, and this event has a line already",
-        },
-        Case {
-            behind: "1 kill t1\n1 reaped t1\nend 1",
-            line: 3,
-            misfit: Misfit::EventKilled,
-            text: "line 3: the event is a kill, and has no other line",
-        },
-        Case {
-            behind: "2 begin t1 lock m0\nend 1",
-            line: 3,
-            misfit: Misfit::EndFalls { latest: 2 },
-            text: "line 3: the end is before event 2, of which a line was told",
-        },
-        // The number of the event comes before what the thread does.
-        Case {
-            behind: "2 begin t1 lock m0\n1 return t2 OK\nend 2",
-            line: 3,
-            misfit: Misfit::EventFalls { latest: 2 },
-            text: "line 3: the event is before event 2, of which a line was told",
-        },
-    ]
-}
+const OF_EVENTS: [Case; 6] = [
+    Case {
+        behind: "2 begin t1 lock m0\n1 kill t2\nend 2",
+        line: 3,
+        misfit: Misfit::EventFalls { latest: 2 },
+        text: "line 3: the event is before event 2, of which a line was told",
+    },
+    Case {
+        behind: "1 begin t1 lock m0\n1 point t1 m0 lock OK\n1 return t1 OK\n1 begin t1 unlock m0\n1 point t1 m0 unlock OK\nend 1",
+        line: 6,
+        misfit: Misfit::EventDecided,
+        text: "line 6: the event has a point or a death already",
+    },
+    Case {
+        behind: "1 begin t1 lock m0\n1 kill t1\nend 1",
+        line: 3,
+        misfit: Misfit::KillShares,
+        text: "line 3: a kill is an event of its own, and this event has a line already",
+    },
+    Case {
+        behind: "1 kill t1\n1 reaped t1\nend 1",
+        line: 3,
+        misfit: Misfit::EventKilled,
+        text: "line 3: the event is a kill, and has no other line",
+    },
+    Case {
+        behind: "2 begin t1 lock m0\nend 1",
+        line: 3,
+        misfit: Misfit::EndFalls { latest: 2 },
+        text: "line 3: the end is before event 2, of which a line was told",
+    },
+    // The number of the event comes before what the thread does.
+    Case {
+        behind: "2 begin t1 lock m0\n1 return t2 OK\nend 2",
+        line: 3,
+        misfit: Misfit::EventFalls { latest: 2 },
+        text: "line 3: the event is before event 2, of which a line was told",
+    },
+];
 
 /// By what was told of the thread.
-fn of_threads() -> [Case; 16] {
-    [
-        Case {
-            behind: "1 begin t1 lock m0\n2 begin t1 unlock m0\nend 2",
-            line: 3,
-            misfit: Misfit::InCall { call: LOCK },
-            text: "line 3: the thread is in a call already: lock of m0",
-        },
-        Case {
-            behind: "1 begin t1 wait c0 m1\n2 begin t1 lock m0\nend 2",
-            line: 3,
-            misfit: Misfit::InCall { call: WAIT },
-            text: "line 3: the thread is in a call already: wait of m1",
-        },
-        Case {
-            behind: "1 point t1 m0 lock OK\nend 1",
-            line: 2,
-            misfit: Misfit::NoCall,
-            text: "line 2: the thread is in no call",
-        },
-        Case {
-            behind: "1 sleep t1 m0\nend 1",
-            line: 2,
-            misfit: Misfit::NoCall,
-            text: "line 2: the thread is in no call",
-        },
-        Case {
-            behind: "1 return t1 OK\nend 1",
-            line: 2,
-            misfit: Misfit::NoCall,
-            text: "line 2: the thread is in no call",
-        },
-        Case {
-            behind: "1 begin t1 lock m0\n2 sleep t1 m0\n3 point t1 m0 lock OK\nend 3",
-            line: 4,
-            misfit: Misfit::Asleep,
-            text: "line 4: the thread is asleep",
-        },
-        Case {
-            behind: "1 begin t1 lock m0\n2 sleep t1 m0\n3 sleep t1 m0\nend 3",
-            line: 4,
-            misfit: Misfit::Asleep,
-            text: "line 4: the thread is asleep",
-        },
-        Case {
-            behind: "1 begin t1 lock m0\n2 point t1 m0 lock OK\n3 sleep t1 m0\n4 return t1 OK\nend 4",
-            line: 5,
-            misfit: Misfit::Asleep,
-            text: "line 5: the thread is asleep",
-        },
-        Case {
-            behind: "1 wake t1\nend 1",
-            line: 2,
-            misfit: Misfit::Awake,
-            text: "line 2: the thread isn't asleep",
-        },
-        Case {
-            behind: "1 begin t1 lock m0\n2 move t1 m0\nend 2",
-            line: 3,
-            misfit: Misfit::Awake,
-            text: "line 3: the thread isn't asleep",
-        },
-        Case {
-            behind: "1 kill t1\n2 begin t1 lock m0\nend 2",
-            line: 3,
-            misfit: Misfit::Killed,
-            text: "line 3: the thread was killed",
-        },
-        // A kill ends sleep.
-        Case {
-            behind: "1 begin t1 lock m0\n2 sleep t1 m0\n3 kill t1\n4 wake t1\nend 4",
-            line: 5,
-            misfit: Misfit::Killed,
-            text: "line 5: the thread was killed",
-        },
-        Case {
-            behind: "1 kill t1\n2 kill t1\nend 2",
-            line: 3,
-            misfit: Misfit::Killed,
-            text: "line 3: the thread was killed",
-        },
-        Case {
-            behind: "1 kill t1\n2 reaped t1\n3 reaped t1\nend 3",
-            line: 4,
-            misfit: Misfit::Reaped,
-            text: "line 4: the thread was reaped",
-        },
-        Case {
-            behind: "1 death t1 m0\nend 1",
-            line: 2,
-            misfit: Misfit::Alive,
-            text: "line 2: the thread wasn't killed",
-        },
-        Case {
-            behind: "1 begin t1 lock m0\n2 reaped t1\nend 2",
-            line: 3,
-            misfit: Misfit::Alive,
-            text: "line 3: the thread wasn't killed",
-        },
-    ]
-}
+const OF_THREADS: [Case; 16] = [
+    Case {
+        behind: "1 begin t1 lock m0\n2 begin t1 unlock m0\nend 2",
+        line: 3,
+        misfit: Misfit::InCall { call: LOCK },
+        text: "line 3: the thread is in a call already: lock of m0",
+    },
+    Case {
+        behind: "1 begin t1 wait c0 m1\n2 begin t1 lock m0\nend 2",
+        line: 3,
+        misfit: Misfit::InCall { call: WAIT },
+        text: "line 3: the thread is in a call already: wait of m1",
+    },
+    Case {
+        behind: "1 point t1 m0 lock OK\nend 1",
+        line: 2,
+        misfit: Misfit::NoCall,
+        text: "line 2: the thread is in no call",
+    },
+    Case {
+        behind: "1 sleep t1 m0\nend 1",
+        line: 2,
+        misfit: Misfit::NoCall,
+        text: "line 2: the thread is in no call",
+    },
+    Case {
+        behind: "1 return t1 OK\nend 1",
+        line: 2,
+        misfit: Misfit::NoCall,
+        text: "line 2: the thread is in no call",
+    },
+    Case {
+        behind: "1 begin t1 lock m0\n2 sleep t1 m0\n3 point t1 m0 lock OK\nend 3",
+        line: 4,
+        misfit: Misfit::Asleep,
+        text: "line 4: the thread is asleep",
+    },
+    Case {
+        behind: "1 begin t1 lock m0\n2 sleep t1 m0\n3 sleep t1 m0\nend 3",
+        line: 4,
+        misfit: Misfit::Asleep,
+        text: "line 4: the thread is asleep",
+    },
+    Case {
+        behind: "1 begin t1 lock m0\n2 point t1 m0 lock OK\n3 sleep t1 m0\n4 return t1 OK\nend 4",
+        line: 5,
+        misfit: Misfit::Asleep,
+        text: "line 5: the thread is asleep",
+    },
+    Case {
+        behind: "1 wake t1\nend 1",
+        line: 2,
+        misfit: Misfit::Awake,
+        text: "line 2: the thread isn't asleep",
+    },
+    Case {
+        behind: "1 begin t1 lock m0\n2 move t1 m0\nend 2",
+        line: 3,
+        misfit: Misfit::Awake,
+        text: "line 3: the thread isn't asleep",
+    },
+    Case {
+        behind: "1 kill t1\n2 begin t1 lock m0\nend 2",
+        line: 3,
+        misfit: Misfit::Killed,
+        text: "line 3: the thread was killed",
+    },
+    // A kill ends sleep.
+    Case {
+        behind: "1 begin t1 lock m0\n2 sleep t1 m0\n3 kill t1\n4 wake t1\nend 4",
+        line: 5,
+        misfit: Misfit::Killed,
+        text: "line 5: the thread was killed",
+    },
+    Case {
+        behind: "1 kill t1\n2 kill t1\nend 2",
+        line: 3,
+        misfit: Misfit::Killed,
+        text: "line 3: the thread was killed",
+    },
+    Case {
+        behind: "1 kill t1\n2 reaped t1\n3 reaped t1\nend 3",
+        line: 4,
+        misfit: Misfit::Reaped,
+        text: "line 4: the thread was reaped",
+    },
+    Case {
+        behind: "1 death t1 m0\nend 1",
+        line: 2,
+        misfit: Misfit::Alive,
+        text: "line 2: the thread wasn't killed",
+    },
+    Case {
+        behind: "1 begin t1 lock m0\n2 reaped t1\nend 2",
+        line: 3,
+        misfit: Misfit::Alive,
+        text: "line 3: the thread wasn't killed",
+    },
+];
 
 /// By the points of the thread's call.
-fn of_calls() -> [Case; 10] {
-    [
-        Case {
-            behind: "1 begin t1 lock m0\n2 point t1 m1 lock OK\nend 2",
-            line: 3,
-            misfit: Misfit::OtherMutex { mutex: 0 },
-            text: "line 3: the thread's call is on m0",
+const OF_CALLS: [Case; 10] = [
+    Case {
+        behind: "1 begin t1 lock m0\n2 point t1 m1 lock OK\nend 2",
+        line: 3,
+        misfit: Misfit::OtherMutex { mutex: 0 },
+        text: "line 3: the thread's call is on m0",
+    },
+    Case {
+        behind: "1 begin t1 lock m0\n2 point t1 m0 trylock OK\nend 2",
+        line: 3,
+        misfit: Misfit::OtherOperation {
+            operation: Operation::Lock,
         },
-        Case {
-            behind: "1 begin t1 lock m0\n2 point t1 m0 trylock OK\nend 2",
-            line: 3,
-            misfit: Misfit::OtherOperation {
-                operation: Operation::Lock,
-            },
-            text: "line 3: a call of lock has no such point",
+        text: "line 3: a call of lock has no such point",
+    },
+    // A wait releases its mutex before it locks it.
+    Case {
+        behind: "1 begin t1 wait c0 m0\n2 point t1 m0 lock OK\nend 2",
+        line: 3,
+        misfit: Misfit::OtherOperation {
+            operation: Operation::Wait,
         },
-        // A wait releases its mutex before it locks it.
-        Case {
-            behind: "1 begin t1 wait c0 m0\n2 point t1 m0 lock OK\nend 2",
-            line: 3,
-            misfit: Misfit::OtherOperation {
-                operation: Operation::Wait,
-            },
-            text: "line 3: a call of wait has no such point",
+        text: "line 3: a call of wait has no such point",
+    },
+    Case {
+        behind: "1 begin t1 wait c0 m0\n2 point t1 m0 unlock EPERM\nend 2",
+        line: 3,
+        misfit: Misfit::ReleaseRefused,
+        text: "line 3: the unlock of a wait replies OK",
+    },
+    Case {
+        behind: "1 begin t1 lock m0\n2 point t1 m0 lock OK\n3 return t1 OK\n4 begin t1 wait c0 m0\n5 point t1 m0 unlock OK\n6 point t1 m0 wait EPERM\nend 6",
+        line: 7,
+        misfit: Misfit::Released,
+        text: "line 7: the wait has released its mutex, and locks it next",
+    },
+    Case {
+        behind: "1 begin t1 lock m0\n2 point t1 m0 lock OK\n3 return t1 OK\n4 begin t1 wait c0 m0\n5 point t1 m0 unlock OK\n6 return t1 OK\nend 6",
+        line: 7,
+        misfit: Misfit::Released,
+        text: "line 7: the wait has released its mutex, and locks it next",
+    },
+    Case {
+        behind: "1 begin t1 trylock m0\n2 point t1 m0 trylock X_RACED\n3 point t1 m0 trylock OK\nend 3",
+        line: 4,
+        misfit: Misfit::Decided {
+            reply: Reply::XRACED,
         },
-        Case {
-            behind: "1 begin t1 wait c0 m0\n2 point t1 m0 unlock EPERM\nend 2",
-            line: 3,
-            misfit: Misfit::ReleaseRefused,
-            text: "line 3: the unlock of a wait replies OK",
-        },
-        Case {
-            behind: "1 begin t1 lock m0\n2 point t1 m0 lock OK\n3 return t1 OK\n4 begin t1 wait c0 m0\n5 point t1 m0 unlock OK\n6 point t1 m0 wait EPERM\nend 6",
-            line: 7,
-            misfit: Misfit::Released,
-            text: "line 7: the wait has released its mutex, and locks it next",
-        },
-        Case {
-            behind: "1 begin t1 lock m0\n2 point t1 m0 lock OK\n3 return t1 OK\n4 begin t1 wait c0 m0\n5 point t1 m0 unlock OK\n6 return t1 OK\nend 6",
-            line: 7,
-            misfit: Misfit::Released,
-            text: "line 7: the wait has released its mutex, and locks it next",
-        },
-        Case {
-            behind: "1 begin t1 trylock m0\n2 point t1 m0 trylock X_RACED\n3 point t1 m0 trylock OK\nend 3",
-            line: 4,
-            misfit: Misfit::Decided {
-                reply: Reply::XRACED,
-            },
-            text: "line 4: the call has its points already, and returns X_RACED",
-        },
-        Case {
-            behind: "1 begin t1 lock m0\n2 return t1 OK\nend 2",
-            line: 3,
-            misfit: Misfit::Undecided,
-            text: "line 3: the call has had no point yet",
-        },
-        Case {
-            behind: "1 begin t1 lock m0\n2 point t1 m0 lock OK\n3 return t1 EBUSY\nend 3",
-            line: 4,
-            misfit: Misfit::OtherReply { reply: Reply::OK },
-            text: "line 4: the call's point replied OK",
-        },
-        // The reply of a wait is that of its lock.
-        Case {
-            behind: "1 begin t1 lock m0\n2 point t1 m0 lock OK\n3 return t1 OK\n4 begin t1 wait c0 m0\n5 point t1 m0 unlock OK\n6 kill t2\n7 point t1 m0 lock OK\n8 return t1 EOWNERDEAD\nend 8",
-            line: 9,
-            misfit: Misfit::OtherReply { reply: Reply::OK },
-            text: "line 9: the call's point replied OK",
-        },
-    ]
-}
+        text: "line 4: the call has its points already, and returns X_RACED",
+    },
+    Case {
+        behind: "1 begin t1 lock m0\n2 return t1 OK\nend 2",
+        line: 3,
+        misfit: Misfit::Undecided,
+        text: "line 3: the call has had no point yet",
+    },
+    Case {
+        behind: "1 begin t1 lock m0\n2 point t1 m0 lock OK\n3 return t1 EBUSY\nend 3",
+        line: 4,
+        misfit: Misfit::OtherReply { reply: Reply::OK },
+        text: "line 4: the call's point replied OK",
+    },
+    // The reply of a wait is that of its lock.
+    Case {
+        behind: "1 begin t1 lock m0\n2 point t1 m0 lock OK\n3 return t1 OK\n4 begin t1 wait c0 m0\n5 point t1 m0 unlock OK\n6 kill t2\n7 point t1 m0 lock OK\n8 return t1 EOWNERDEAD\nend 8",
+        line: 9,
+        misfit: Misfit::OtherReply { reply: Reply::OK },
+        text: "line 9: the call's point replied OK",
+    },
+];
 
 /// By the mutexes, which nobody owns.
-fn of_mutexes() -> [Case; 6] {
-    [
-        Case {
-            behind: "1 begin t1 lock m0\n2 point t1 m0 lock EBUSY\nend 2",
-            line: 3,
-            misfit: Misfit::NotAllowed {
-                object: Object::new(),
-                reply: Reply::EBUSY,
+const OF_MUTEXES: [Case; 6] = [
+    Case {
+        behind: "1 begin t1 lock m0\n2 point t1 m0 lock EBUSY\nend 2",
+        line: 3,
+        misfit: Misfit::NotAllowed {
+            object: UNTOUCHED,
+            reply: Reply::EBUSY,
+        },
+        text: "line 3: the mutex doesn't allow the reply EBUSY: nobody owns it",
+    },
+    Case {
+        behind: "1 begin t1 lock m0\n2 point t1 m0 lock OK\n3 kill t1\n4 death t1 m0\n5 begin t2 lock m0\n6 point t2 m0 lock OK\nend 6",
+        line: 7,
+        misfit: Misfit::NotAllowed {
+            object: Object {
+                owner: None,
+                inconsistent: true,
+                unusable: false,
             },
-            text: "line 3: the mutex doesn't allow the reply EBUSY: nobody owns it",
+            reply: Reply::OK,
         },
-        Case {
-            behind: "1 begin t1 lock m0\n2 point t1 m0 lock OK\n3 kill t1\n4 death t1 m0\n5 begin t2 lock m0\n6 point t2 m0 lock OK\nend 6",
-            line: 7,
-            misfit: Misfit::NotAllowed {
-                object: Object {
-                    owner: None,
-                    inconsistent: true,
-                    unusable: false,
-                },
-                reply: Reply::OK,
+        text: "line 7: the mutex doesn't allow the reply OK: nobody owns it, it is inconsistent",
+    },
+    Case {
+        behind: "1 begin t1 lock m0\n2 point t1 m0 lock OK\n3 kill t1\n4 death t1 m0\n5 begin t2 lock m0\n6 point t2 m0 lock EOWNERDEAD\n7 return t2 EOWNERDEAD\n8 begin t2 unlock m0\n9 point t2 m0 unlock OK\n10 return t2 OK\n11 begin t2 lock m0\n12 point t2 m0 lock OK\nend 12",
+        line: 13,
+        misfit: Misfit::NotAllowed {
+            object: Object {
+                owner: None,
+                inconsistent: false,
+                unusable: true,
             },
-            text: "line 7: the mutex doesn't allow the reply OK: nobody owns it, it is inconsistent",
+            reply: Reply::OK,
         },
-        Case {
-            behind: "1 begin t1 lock m0\n2 point t1 m0 lock OK\n3 kill t1\n4 death t1 m0\n5 begin t2 lock m0\n6 point t2 m0 lock EOWNERDEAD\n7 return t2 EOWNERDEAD\n8 begin t2 unlock m0\n9 point t2 m0 unlock OK\n10 return t2 OK\n11 begin t2 lock m0\n12 point t2 m0 lock OK\nend 12",
-            line: 13,
-            misfit: Misfit::NotAllowed {
-                object: Object {
-                    owner: None,
-                    inconsistent: false,
-                    unusable: true,
-                },
-                reply: Reply::OK,
-            },
-            text: "line 13: the mutex doesn't allow the reply OK: nobody owns it, it is unusable",
-        },
-        Case {
-            behind: "1 kill t1\n2 death t1 m0\nend 2",
-            line: 3,
-            misfit: Misfit::NotOwner {
-                object: Object::new(),
-            },
-            text: "line 3: the thread doesn't own the mutex: nobody owns it",
-        },
-        Case {
-            behind: "1 begin t1 lock m0\n2 point t1 m0 lock OK\n3 kill t1\n4 reaped t1\nend 4",
-            line: 5,
-            misfit: Misfit::StillOwns { mutex: 0 },
-            text: "line 5: the thread still owns m0",
-        },
-        Case {
-            behind: "1 begin t1 lock m1\n2 point t1 m1 lock OK\n3 kill t1\n4 reaped t1\nend 4",
-            line: 5,
-            misfit: Misfit::StillOwns { mutex: 1 },
-            text: "line 5: the thread still owns m1",
-        },
-    ]
-}
+        text: "line 13: the mutex doesn't allow the reply OK: nobody owns it, it is unusable",
+    },
+    Case {
+        behind: "1 kill t1\n2 death t1 m0\nend 2",
+        line: 3,
+        misfit: Misfit::NotOwner { object: UNTOUCHED },
+        text: "line 3: the thread doesn't own the mutex: nobody owns it",
+    },
+    Case {
+        behind: "1 begin t1 lock m0\n2 point t1 m0 lock OK\n3 kill t1\n4 reaped t1\nend 4",
+        line: 5,
+        misfit: Misfit::StillOwns { mutex: 0 },
+        text: "line 5: the thread still owns m0",
+    },
+    Case {
+        behind: "1 begin t1 lock m1\n2 point t1 m1 lock OK\n3 kill t1\n4 reaped t1\nend 4",
+        line: 5,
+        misfit: Misfit::StillOwns { mutex: 1 },
+        text: "line 5: the thread still owns m1",
+    },
+];
 
 /// Whether the trace is found illegal at this line, for this reason, with this text, and `check` finds the same line.
 fn is_found(alloc: Global, trace: &str, case: &Case) -> Result<bool, AllocError> {
@@ -345,25 +342,25 @@ fn first_wrong(alloc: Global, cases: &[Case]) -> Result<Option<usize>, AllocErro
 
 #[test]
 fn reasons_of_events(rt: HostRuntime) -> Result<(), Fail> {
-    assert!(rt; first_wrong(rt.alloc(), &of_events())?.is_none());
+    assert!(rt; first_wrong(rt.alloc(), &OF_EVENTS)?.is_none());
     Ok(())
 }
 
 #[test]
 fn reasons_of_threads(rt: HostRuntime) -> Result<(), Fail> {
-    assert!(rt; first_wrong(rt.alloc(), &of_threads())?.is_none());
+    assert!(rt; first_wrong(rt.alloc(), &OF_THREADS)?.is_none());
     Ok(())
 }
 
 #[test]
 fn reasons_of_calls(rt: HostRuntime) -> Result<(), Fail> {
-    assert!(rt; first_wrong(rt.alloc(), &of_calls())?.is_none());
+    assert!(rt; first_wrong(rt.alloc(), &OF_CALLS)?.is_none());
     Ok(())
 }
 
 #[test]
 fn reasons_of_mutexes(rt: HostRuntime) -> Result<(), Fail> {
-    assert!(rt; first_wrong(rt.alloc(), &of_mutexes())?.is_none());
+    assert!(rt; first_wrong(rt.alloc(), &OF_MUTEXES)?.is_none());
     Ok(())
 }
 
