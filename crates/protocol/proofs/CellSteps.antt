@@ -27,7 +27,7 @@ use Rattle.mutex.proofs.Alone.{alone}
 use Rattle.mutex.proofs.Steps.{at_cell}
 use Rattle.protocol.proofs.Puts.{put-same, put-other}
 use Rattle.protocol.proofs.Phases.{left_at, Moves, after_decided, after_answers, after_left, after_steady}
-use Rattle.protocol.proofs.Kept.{AtRow, Fits, Serves, Sits, left_out_in, Owned, ChainedIn, Listed, pending_in, PendsAs, Kept}
+use Rattle.protocol.proofs.Kept.{AtRow, Fits, Serves, Sits, left_out_in, Owned, ChainedIn, Listed, pending_in, PendsAs, Kept, last_thread}
 use Rattle.protocol.proofs.Places.{mine_is_no_cell, head_is_no_cell, list_is_mine, both_same, lies_apart}
 use Rattle.protocol.proofs.Steps.{is_valid-cell, seen-inside, Tells, run_tells, same_operation, not_taken, same_held, onto, thread_after, after, call_step}
 use Rattle.protocol.proofs.Owning.{Owning, owning, pends, takes, frees, keeps}
@@ -145,17 +145,14 @@ module _ (s : State) (t : ℕ) (c : Op) (p : Whole) (r : Row) (inv : Kept s) (po
   pub far : (k : ℕ) → k ≢ m → seen s' k ≡ seen s k
   far k apart = ap (λ (v : ℕ). if nat_lt k s.layout.mutexes then object_of (fields_of v) else fresh) (cells_there k apart)
 
-  last : t ≤ 64
-  last = let most = inv.layout.threads.1 in omega arith
-
   needs : Expects p.thread r (object_of (fields_of w))
   needs = subst (λ (z : Object). Expects p.thread r z) before (subst (λ (u : ℕ). Expects u r (seen s m)) (sym fits.mine) at.expects)
 
   al : Alone t r a l w q w'
-  al = subst (λ (u : ℕ). Alone u r a l w q w') fits.mine (alone p.thread p.cell w q r (let is = fits.mine in omega arith) (let is = fits.mine in let most = last in omega arith) at.going at.knows needs)
+  al = subst (λ (u : ℕ). Alone u r a l w q w') fits.mine (alone p.thread p.cell w q r (let is = fits.mine in omega arith) (let is = fits.mine in let most = last_thread s t inv known in omega arith) at.going at.knows needs)
 
   rt : Right p.thread p.cell r l w w'
-  rt = right p.thread p.cell w q r (let is = fits.mine in omega arith) (let is = fits.mine in let most = last in omega arith) at.going at.knows (subst Sound before (inv.sound m)) needs
+  rt = right p.thread p.cell w q r (let is = fits.mine in omega arith) (let is = fits.mine in let most = last_thread s t inv known in omega arith) at.going at.knows (subst Sound before (inv.sound m)) needs
 
   tells_row : Tells t (seen s m) (row_operation r) l.point (seen s' m)
   tells_row =

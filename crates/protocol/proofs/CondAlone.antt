@@ -1,27 +1,24 @@
 -- Calls on condition variables that no other event divides.
-use Rattle.std.proofs.Common.{◌≡◌, ◌≢◌, ℕ, zero, suc, ◌≤◌, ◌%◌, ◌^◌, true, false, Some, None, List, refl, sym, ap, ◌∙◌, subst, arith}
+use Rattle.std.proofs.Common.{◌≡◌, ◌≢◌, ℕ, zero, suc, ◌≤◌, ◌%◌, ◌^◌, true, false, Some, refl, sym, ap, ◌∙◌, subst, arith}
 use Rattle.protocol.proofs.Vocabulary.{CondCall, CondRow, Signal, Broadcast, Awake, CondPhase, CondOnward, condition_of, cell_after, counter_after, met_word, CondWhole}
-use Rattle.protocol.proofs.Vocabulary.{cond_access, after_words, Object, Operation, answer_at, sleeps_at, head_place, cell_place, counter_place, Does, object_of, Fields, fields_of}
-use Rattle.protocol.proofs.Vocabulary.{Reply, OK, XRACED, or_waiting, OnCondition, AtCondition, mutex_of, State, is_calling, stands_in, is_asleep, place_met, stage_at, returned_at}
-use Rattle.protocol.proofs.Vocabulary.{seen, UnlinkRow, UnlinkStanding, eqb-false, WaitRow, SignalRow, BroadcastRow, names, IsWaiting}
-use Rattle.robustlist.specs.UnlinkLaws.{Unlinking}
+use Rattle.protocol.proofs.Vocabulary.{cond_access, after_words, Object, Operation, answer_at, sleeps_at, Does, object_of, Fields, fields_of}
+use Rattle.protocol.proofs.Vocabulary.{Reply, OK, XRACED, or_waiting, AtCondition, State, is_calling, stands_in, is_asleep, place_met, stage_at, reply_at, returned_at}
+use Rattle.protocol.proofs.Vocabulary.{seen, eqb-false, WaitRow, SignalRow, BroadcastRow, names, IsWaiting}
 use Rattle.condvar.specs.declared.row.CondRow.TheVariants.{Wait, Ended}
 use Rattle.condvar.specs.Calls.{operation_of}
 use Rattle.condvar.specs.Rows.{IsGoing}
 use Rattle.condvar.specs.Laws.{row_operation}
 use Rattle.condvar.specs.Programs.{row_access, resume_of}
-use Rattle.protocol.proofs.Kept.{Needs, FitsAt, Owned, Listed, Kept}
-use Rattle.protocol.proofs.Steps.{after, cond_onto, cond_step}
+use Rattle.protocol.proofs.Kept.{Needs, FitsAt, Kept}
+use Rattle.protocol.proofs.Steps.{cond_onto, cond_step, its_mutex, its_cell, its_counter, cond_after}
 use Rattle.protocol.proofs.Stepping.{Stepping}
 use Rattle.protocol.proofs.Endings.{cond_ends}
 use Rattle.protocol.proofs.Working.{cond_goes}
 use Rattle.protocol.proofs.Queues.{Turned}
 use Rattle.protocol.proofs.Queued.{Queued, out_awake, mine, turn, still_out, went_queued}
 use Rattle.protocol.proofs.CondSteps.{cond_of, met_is, leads as words_lead, before, here, counter_here}
-use Rattle.protocol.proofs.CondOwn.{at_pending, plain, on_list, then_at}
 use Rattle.protocol.proofs.OwnWords.{own_seen, own_counter}
-use Rattle.protocol.proofs.CondOwn.{leads as unlink_leads}
-use Rattle.protocol.proofs.CondAccesses.{fits_at, is_canonical, cond_sleeps, cond_stepping}
+use Rattle.protocol.proofs.CondAccesses.{IsBefore, Nears, by_access, cond_sleeps, cond_stepping}
 use Rattle.protocol.proofs.Comings.{ComesBack, at_first, takes_step}
 
 -- a call of thread t, which held so many mutexes when its mutex was this object
@@ -79,78 +76,46 @@ module _ (t held : ℕ) (o : Object) where
   module _ (c : CondCall) where
     -- of a state
     abbrev pub KnowsIn : State → CondPhase → Type 0
-    KnowsIn s f = Knows (operation_of c) (s.words (counter_place s.layout (condition_of c))) (seen s (mutex_of s.layout (OnCondition c))) f
+    KnowsIn s f = Knows (operation_of c) (s.words (its_counter s c)) (seen s (its_mutex s c)) f
 
-    abbrev next_state : State → CondWhole → State
-    next_state s p = after s t (cond_step s t c p)
+    -- before its release it has decided nothing
+    undecided : (op : Operation) (k x : ℕ) (now : Object) (f : CondPhase) → IsBefore x f → Knows op k now f → (x ≡ k % 2 ^ 32) × (now ≡ o)
+    undecided op k x now f before knows = grind (arith)
 
-    keeps : (s : State) (f : CondPhase) → Kept s → 1 ≤ t → t ≤ s.layout.threads → (s.threads t).stage ≡ AtCondition c (cond_of s.layout t c f) → FitsAt s t (s.threads t).held c (cond_of s.layout t c f) → Listed s t (AtCondition c (cond_of s.layout t c f))
-        → sleeps_at (cond_access (cond_of s.layout t c f)) (s.words (place_met s.layout t (cond_access (cond_of s.layout t c f)))) ≡ false → KnowsIn s f → KnowsIn (next_state s (cond_of s.layout t c f)) (cond_onto s t (cond_of s.layout t c f)).phase
-    keeps s (CondPhase.AtWords r) inv pos known is fits listed quiet knows =
-        subst (λ (g : CondOnward). KnowsIn (next_state s (cond_of s.layout t c (CondPhase.AtWords r))) g.phase) (sym (words_lead s t c r inv pos known fits))
-        (subst (λ (z : Operation × ℕ × Object). Knows z.0 z.1 z.2 (after_words (cond_of s.layout t c (CondPhase.AtWords r)) to_row))
-        (λ i. (fits.stands.of i, sym (counter_here s t c r inv pos known fits) i, sym (here s t c r inv pos known fits) i))
-        (knows_row w pos cell counter k r (cond_of s.layout t c (CondPhase.AtWords r)) fits.stands.going fits.stands.needs
-        (subst (λ (z : Operation × Object). Knows z.0 k z.1 (CondPhase.AtWords r)) (λ i. (sym fits.stands.of i, before s t c r inv pos known fits i)) knows)
-        (ap (sleeps_at (row_access t cell counter r)) (sym (met_is s t c r inv pos known fits)) ∙ quiet)))
+    abbrev Keeps : State → CondWhole → Type 0
+    Keeps s p = sleeps_at (cond_access p) (s.words (place_met s.layout t (cond_access p))) ≡ false → KnowsIn s p.phase → KnowsIn (cond_after s t c p) (cond_onto s t p).phase
+
+    keeps_on : (s : State) (p : CondWhole) → Kept s → 1 ≤ t → t ≤ s.layout.threads → (s.threads t).stage ≡ AtCondition c p → Keeps s p
+    keeps_on s p inv pos known is = by_access s t c inv pos known (Keeps s) row nearer p is
       where
-        cell : ℕ
-        cell = cell_place s.layout (mutex_of s.layout (OnCondition c))
-
-        counter : ℕ
-        counter = counter_place s.layout (condition_of c)
-
-        w : ℕ
-        w = s.words cell
-
-        k : ℕ
-        k = s.words counter
-
-        to_row : CondRow
-        to_row = (resume_of t r (answer_at (row_access t cell counter r) (met_word r w k))).row
-    keeps s (CondPhase.Announcing x) inv pos known is fits listed quiet knows = (
-      knows.0 ∙ ap (λ (n : ℕ). n % 2 ^ 32) (sym (own_counter s t (cond_step s t c (cond_of s.layout t c (CondPhase.Announcing x))) inv pos known fits.inside tt (at_pending s t c inv pos known x fits) refl (condition_of c))),
-      own_seen s t (cond_step s t c (cond_of s.layout t c (CondPhase.Announcing x))) inv pos known fits.inside tt (at_pending s t c inv pos known x fits) refl (mutex_of s.layout (OnCondition c)) ∙ knows.1,
-    )
-    keeps s (CondPhase.Unlinking u x) inv pos known is fits listed quiet knows =
-        subst (λ (z : UnlinkStanding). KnowsIn (next_state s (cond_of s.layout t c (CondPhase.Unlinking z x))) (cond_onto s t (cond_of s.layout t c (CondPhase.Unlinking z x))).phase) (sym same)
-        (unlinks u.row (subst (λ (z : UnlinkStanding). FitsAt s t (s.threads t).held c (cond_of s.layout t c (CondPhase.Unlinking z x))) same fits) (is ∙ ap (λ (z : UnlinkStanding). AtCondition c (cond_of s.layout t c (CondPhase.Unlinking z x))) same) listed.0 listed.1 listed.2)
-      where
-        standing : UnlinkRow → UnlinkStanding
-        standing r = record { head = (cond_of s.layout t c (CondPhase.Announcing x)).head; entry = (cond_of s.layout t c (CondPhase.Announcing x)).entry; row = r }
-
-        same : u ≡ standing u.row
-        same = λ i. record { head = fits.stands.1 i; entry = fits.stands.2 i; row = u.row }
-
-        unlinks : (r : UnlinkRow) → FitsAt s t (s.threads t).held c (cond_of s.layout t c (CondPhase.Unlinking (standing r) x)) → (s.threads t).stage ≡ AtCondition c (cond_of s.layout t c (CondPhase.Unlinking (standing r) x))
-            → (es : List ℕ) → Owned s t None es → Unlinking (head_place t) (cond_of s.layout t c (CondPhase.Announcing x)).entry es r s.words → KnowsIn (next_state s (cond_of s.layout t c (CondPhase.Unlinking (standing r) x))) (cond_onto s t (cond_of s.layout t c (CondPhase.Unlinking (standing r) x))).phase
-        unlinks r f there es owned ch =
-            subst (λ (g : CondOnward). KnowsIn (next_state s (cond_of s.layout t c (CondPhase.Unlinking (standing r) x))) g.phase) (sym (unlink_leads s t c inv pos known r x f there es owned ch))
-            (then_at s t c inv pos known r x f there es owned ch (KnowsIn (next_state s (cond_of s.layout t c (CondPhase.Unlinking (standing r) x)))) (λ going. still) (λ ch_less. still))
+        row : (r : CondRow) → FitsAt s t (s.threads t).held c (cond_of s.layout t c (CondPhase.AtWords r)) → Stepping s t (cond_step s t c (cond_of s.layout t c (CondPhase.AtWords r))) → Keeps s (cond_of s.layout t c (CondPhase.AtWords r))
+        row r fits step quiet knows =
+            subst (λ (g : CondOnward). KnowsIn (cond_after s t c (cond_of s.layout t c (CondPhase.AtWords r))) g.phase) (sym (words_lead s t c r inv pos known fits))
+            (subst (λ (z : Operation × ℕ × Object). Knows z.0 z.1 z.2 (after_words (cond_of s.layout t c (CondPhase.AtWords r)) to_row))
+            (λ i. (fits.stands.of i, sym (counter_here s t c r inv pos known fits) i, sym (here s t c r inv pos known fits) i))
+            (knows_row w pos (its_cell s c) (its_counter s c) k r (cond_of s.layout t c (CondPhase.AtWords r)) fits.stands.going fits.stands.needs
+            (subst (λ (z : Operation × Object). Knows z.0 k z.1 (CondPhase.AtWords r)) (λ i. (sym fits.stands.of i, before s t c r inv pos known fits i)) knows)
+            (ap (sleeps_at (row_access t (its_cell s c) (its_counter s c) r)) (sym (met_is s t c r inv pos known fits)) ∙ quiet)))
           where
-            still : (x ≡ (next_state s (cond_of s.layout t c (CondPhase.Unlinking (standing r) x))).words (counter_place s.layout (condition_of c)) % 2 ^ 32) × (seen (next_state s (cond_of s.layout t c (CondPhase.Unlinking (standing r) x))) (mutex_of s.layout (OnCondition c)) ≡ o)
+            w : ℕ
+            w = s.words (its_cell s c)
+
+            k : ℕ
+            k = s.words (its_counter s c)
+
+            to_row : CondRow
+            to_row = (resume_of t r (answer_at (row_access t (its_cell s c) (its_counter s c) r) (met_word r w k))).row
+
+        nearer : (x : ℕ) (q : CondWhole) → Nears s t c x q → Keeps s q
+        nearer x q near quiet knows = near.leads (KnowsIn (cond_after s t c q)) (λ u. still) still
+          where
+            still : (x ≡ (cond_after s t c q).words (its_counter s c) % 2 ^ 32) × (seen (cond_after s t c q) (its_mutex s c) ≡ o)
             still =
-                let step = cond_step s t c (cond_of s.layout t c (CondPhase.Unlinking (standing r) x)) in
-                let load_or_store = plain s t c inv pos known r x f there es owned ch in
-                let own = on_list s t c inv pos known r x f there es owned ch in (
-                  knows.0 ∙ ap (λ (n : ℕ). n % 2 ^ 32) (sym (own_counter s t step inv pos known f.inside load_or_store own refl (condition_of c))),
-                  own_seen s t step inv pos known f.inside load_or_store own refl (mutex_of s.layout (OnCondition c)) ∙ knows.1,
+                let was = undecided (operation_of c) _ x _ q.phase near.before knows in
+                let pointless = ap reply_at near.pointless in (
+                  was.0 ∙ ap (λ (n : ℕ). n % 2 ^ 32) (sym (own_counter s t (cond_step s t c q) inv pos known near.step.inside near.plain near.mine pointless (condition_of c))),
+                  own_seen s t (cond_step s t c q) inv pos known near.step.inside near.plain near.mine pointless (its_mutex s c) ∙ was.1,
                 )
-    keeps s (CondPhase.Locking w) inv pos known is fits listed quiet knows = absurd fits.stands
-    keeps s (CondPhase.Ended x) inv pos known is fits listed quiet knows = absurd fits.stands
-
-    -- so of any call
-    keeps_on : (s : State) (p : CondWhole) → Kept s → 1 ≤ t → t ≤ s.layout.threads → (s.threads t).stage ≡ AtCondition c p → sleeps_at (cond_access p) (s.words (place_met s.layout t (cond_access p))) ≡ false → KnowsIn s p.phase → KnowsIn (next_state s p) (cond_onto s t p).phase
-    keeps_on s p inv pos known is quiet knows =
-        subst (λ (q : CondWhole). KnowsIn (next_state s q) (cond_onto s t q).phase) (sym same)
-        (keeps s p.phase inv pos known (is ∙ ap (AtCondition c) same) (subst (FitsAt s t (s.threads t).held c) same fits) (subst (λ (z : CondWhole). Listed s t (AtCondition c z)) same (subst (Listed s t) is (inv.listed t pos known)))
-        (subst (λ (z : CondWhole). sleeps_at (cond_access z) (s.words (place_met s.layout t (cond_access z))) ≡ false) same quiet) knows)
-      where
-        fits : FitsAt s t (s.threads t).held c p
-        fits = fits_at s t c p inv pos known is
-
-        same : p ≡ cond_of s.layout t c p.phase
-        same = is_canonical s t c p fits
 
     -- it sleeps only where it is a wait by the owner of a consistent mutex
     sleeps_known : (s : State) (p : CondWhole) → Kept s → 1 ≤ t → t ≤ s.layout.threads → (s.threads t).stage ≡ AtCondition c p → sleeps_at (cond_access p) (s.words (place_met s.layout t (cond_access p))) ≡ true → KnowsIn s p.phase → (operation_of c ≡ Operation.Wait) × IsIts
@@ -160,7 +125,7 @@ module _ (t held : ℕ) (o : Object) where
     abbrev pub Waits : State → Type 0
     Waits z = IsWaiting o t (operation_of c) (Some (condition_of c)) z
 
-    now_waits : (s : State) (p : CondWhole) → Kept s → Queued s → 1 ≤ t → t ≤ s.layout.threads → (s.threads t).stage ≡ AtCondition c p → is_asleep s t ≡ false → sleeps_at (cond_access p) (s.words (place_met s.layout t (cond_access p))) ≡ true → KnowsIn s p.phase → Waits (next_state s p)
+    now_waits : (s : State) (p : CondWhole) → Kept s → Queued s → 1 ≤ t → t ≤ s.layout.threads → (s.threads t).stage ≡ AtCondition c p → is_asleep s t ≡ false → sleeps_at (cond_access p) (s.words (place_met s.layout t (cond_access p))) ≡ true → KnowsIn s p.phase → Waits (cond_after s t c p)
     now_waits s p inv queued pos known is awake on knows =
         let why = sleeps_known s p inv pos known is on knows in
         record { waits = why.0; owns = why.1; there = (condition_of c, refl, stands (turn s t (cond_step s t c p) step pos known is queued awake t)) }
@@ -168,18 +133,18 @@ module _ (t held : ℕ) (o : Object) where
         step : Stepping s t (cond_step s t c p)
         step = cond_stepping s t c p inv pos known is
 
-        place : place_met s.layout t (cond_access p) ≡ counter_place s.layout (condition_of c)
+        place : place_met s.layout t (cond_access p) ≡ its_counter s c
         place = cond_sleeps s t c p inv pos known is on
 
-        stands : Turned t t (cond_access p) (place_met s.layout t (cond_access p)) (s.words (place_met s.layout t (cond_access p))) s.queues (next_state s p).queues → stands_in t ((next_state s p).queues (counter_place s.layout (condition_of c))) ≡ true
+        stands : Turned t t (cond_access p) (place_met s.layout t (cond_access p)) (s.words (place_met s.layout t (cond_access p))) s.queues (cond_after s t c p).queues → stands_in t ((cond_after s t c p).queues (its_counter s c)) ≡ true
         stands h = grind (arith)
 
     -- a call that is awake, whatever steps it has made
     pub comes_at : (n : ℕ) (s : State) (p : CondWhole) → Kept s → Queued s → 1 ≤ t → t ≤ s.layout.threads → (s.threads t).stage ≡ AtCondition c p → is_asleep s t ≡ false → KnowsIn s p.phase
-        → ComesBack t held (mutex_of s.layout (OnCondition c)) (operation_of c) o Waits s n
-    comes_at zero s p inv queued pos known is awake knows = at_first t held (mutex_of s.layout (OnCondition c)) (operation_of c) o Waits s (cond_step s t c p) (cond_stepping s t c p inv pos known is) is awake
+        → ComesBack t held (its_mutex s c) (operation_of c) o Waits s n
+    comes_at zero s p inv queued pos known is awake knows = at_first t held (its_mutex s c) (operation_of c) o Waits s (cond_step s t c p) (cond_stepping s t c p inv pos known is) is awake
     comes_at (suc n) s p inv queued pos known is awake knows =
-        takes_step t held (mutex_of s.layout (OnCondition c)) (operation_of c) o Waits s (cond_step s t c p) step queued pos known is awake (mutex_of s.layout (OnCondition c)) _ _ _ _ (returned_at (cond_onto s t p).phase) (cond_goes s t c p inv pos known is) (cond_ends c p (cond_onto s t p)) n
+        takes_step t held (its_mutex s c) (operation_of c) o Waits s (cond_step s t c p) step queued pos known is awake (its_mutex s c) _ _ _ _ (returned_at (cond_onto s t p).phase) (cond_goes s t c p inv pos known is) (cond_ends c p (cond_onto s t p)) n
         (λ on. now_waits s p inv queued pos known is awake on knows)
         (λ x quiet e. returns x (cond_onto s t p).phase e (keeps_on s p inv pos known is quiet knows))
         (λ quiet calling. on quiet calling (comes_at n))
@@ -187,8 +152,8 @@ module _ (t held : ℕ) (o : Object) where
         step : Stepping s t (cond_step s t c p)
         step = cond_stepping s t c p inv pos known is
 
-        returns : (x : Reply) (f : CondPhase) → returned_at f ≡ Some x → KnowsIn (next_state s p) f → (x ≢ XRACED) × Does held o t (operation_of c) x (seen (next_state s p) (mutex_of s.layout (OnCondition c)))
-        returns x (CondPhase.Ended y) e h = subst (λ (z : Reply). (z ≢ XRACED) × Does held o t (operation_of c) z (seen (next_state s p) (mutex_of s.layout (OnCondition c)))) (replied e) h
+        returns : (x : Reply) (f : CondPhase) → returned_at f ≡ Some x → KnowsIn (cond_after s t c p) f → (x ≢ XRACED) × Does held o t (operation_of c) x (seen (cond_after s t c p) (its_mutex s c))
+        returns x (CondPhase.Ended y) e h = subst (λ (z : Reply). (z ≢ XRACED) × Does held o t (operation_of c) z (seen (cond_after s t c p) (its_mutex s c))) (replied e) h
           where
             replied : Some y ≡ Some x → y ≡ x
             replied same = cc
@@ -198,22 +163,22 @@ module _ (t held : ℕ) (o : Object) where
         returns x (CondPhase.Locking w) e h = absurd (cc e)
 
         on : sleeps_at (cond_access p) (s.words (place_met s.layout t (cond_access p))) ≡ false → is_calling (stage_at c p (cond_onto s t p).phase) ≡ true
-            → ((z : State) (q : CondWhole) → Kept z → Queued z → 1 ≤ t → t ≤ z.layout.threads → (z.threads t).stage ≡ AtCondition c q → is_asleep z t ≡ false → KnowsIn z q.phase → ComesBack t held (mutex_of z.layout (OnCondition c)) (operation_of c) o Waits z n)
-            → ComesBack t held (mutex_of s.layout (OnCondition c)) (operation_of c) o Waits (next_state s p) n
+            → ((z : State) (q : CondWhole) → Kept z → Queued z → 1 ≤ t → t ≤ z.layout.threads → (z.threads t).stage ≡ AtCondition c q → is_asleep z t ≡ false → KnowsIn z q.phase → ComesBack t held (its_mutex z c) (operation_of c) o Waits z n)
+            → ComesBack t held (its_mutex s c) (operation_of c) o Waits (cond_after s t c p) n
         on quiet calling further = go (cond_onto s t p).phase refl calling (keeps_on s p inv pos known is quiet knows)
           where
-            there : (f : CondPhase) → (cond_onto s t p).phase ≡ f → ((next_state s p).threads t).stage ≡ stage_at c p f
+            there : (f : CondPhase) → (cond_onto s t p).phase ≡ f → ((cond_after s t c p).threads t).stage ≡ stage_at c p f
             there f is_f = mine s t (cond_step s t c p) step pos known is queued awake ∙ ap (stage_at c p) is_f
 
-            out : is_asleep (next_state s p) t ≡ false
-            out = out_awake (next_state s p) t (still_out s t (cond_step s t c p) step pos known is queued awake quiet)
+            out : is_asleep (cond_after s t c p) t ≡ false
+            out = out_awake (cond_after s t c p) t (still_out s t (cond_step s t c p) step pos known is queued awake quiet)
 
-            queued_then : Queued (next_state s p)
+            queued_then : Queued (cond_after s t c p)
             queued_then = went_queued s t (cond_step s t c p) step pos known is queued awake
 
-            go : (f : CondPhase) → (cond_onto s t p).phase ≡ f → is_calling (stage_at c p f) ≡ true → KnowsIn (next_state s p) f → ComesBack t held (mutex_of s.layout (OnCondition c)) (operation_of c) o Waits (next_state s p) n
-            go (CondPhase.AtWords r) is_f calling h = further (next_state s p) (record p { phase = CondPhase.AtWords r }) step.kept queued_then pos known (there (CondPhase.AtWords r) is_f) out h
-            go (CondPhase.Announcing x) is_f calling h = further (next_state s p) (record p { phase = CondPhase.Announcing x }) step.kept queued_then pos known (there (CondPhase.Announcing x) is_f) out h
-            go (CondPhase.Unlinking u x) is_f calling h = further (next_state s p) (record p { phase = CondPhase.Unlinking u x }) step.kept queued_then pos known (there (CondPhase.Unlinking u x) is_f) out h
+            go : (f : CondPhase) → (cond_onto s t p).phase ≡ f → is_calling (stage_at c p f) ≡ true → KnowsIn (cond_after s t c p) f → ComesBack t held (its_mutex s c) (operation_of c) o Waits (cond_after s t c p) n
+            go (CondPhase.AtWords r) is_f calling h = further (cond_after s t c p) (record p { phase = CondPhase.AtWords r }) step.kept queued_then pos known (there (CondPhase.AtWords r) is_f) out h
+            go (CondPhase.Announcing x) is_f calling h = further (cond_after s t c p) (record p { phase = CondPhase.Announcing x }) step.kept queued_then pos known (there (CondPhase.Announcing x) is_f) out h
+            go (CondPhase.Unlinking u x) is_f calling h = further (cond_after s t c p) (record p { phase = CondPhase.Unlinking u x }) step.kept queued_then pos known (there (CondPhase.Unlinking u x) is_f) out h
             go (CondPhase.Locking w) is_f calling h = absurd h
             go (CondPhase.Ended x) is_f calling h = absurd (cc calling)

@@ -1,7 +1,7 @@
 -- One access of a wait to its thread's own words: its entry is made pending and leaves the list.
 use Rattle.std.proofs.Common.{◌≡◌, inl, inr, ℕ, ◌+◌, ◌<◌, ◌≤◌, Some, None, List, refl, sym, ap, ◌∙◌, subst, arith}
 use Rattle.protocol.proofs.Vocabulary.{CondCall, CondPhase, CondOnward, CondWhole, Object, address_of, answer_at, IsChainBothWays, AreDifferent, address_sum, head_place, word_among}
-use Rattle.protocol.proofs.Vocabulary.{entry_place, cell_place, owner_of, owner_of-some, fields_of, Reply, OnCondition, Stage, AtCondition, mutex_of, State, stage_at, seen}
+use Rattle.protocol.proofs.Vocabulary.{entry_place, cell_place, owner_of, owner_of-some, fields_of, Reply, Stage, AtCondition, State, stage_at, seen}
 use Rattle.protocol.proofs.Vocabulary.{UnlinkRow, UnlinkStanding, unlink_access, unlink_resume, UnlinkGoes, entries-different, without-among, WaitRow, CondRow, Makes}
 use Rattle.keys.specs.Chains.{IsAmong, without}
 use Rattle.robustlist.specs.UnlinkLaws as unlink_laws
@@ -9,9 +9,9 @@ use Rattle.robustlist.proofs.Unlinks as unlinks
 use Rattle.condvar.specs.Whole.{phase_led, unlinked_at}
 use Rattle.protocol.proofs.Puts.{put-same, put-other}
 use Rattle.protocol.proofs.Phases.{IsPlain, plain_answer, unlink_plain, few_of_unlink, plain_word}
-use Rattle.protocol.proofs.Kept.{Needs, FitsAt, Sits, Owned, Listed, PendsAs, Kept}
+use Rattle.protocol.proofs.Kept.{Needs, FitsAt, Sits, Owned, Listed, PendsAs, Kept, last_thread}
 use Rattle.protocol.proofs.Places.{IsMine, list_is_mine, list_not_pending, both_same, among_without, without_is_apart, pending_is}
-use Rattle.protocol.proofs.Steps.{Transition, seen-inside, after, place_of, cond_onto, cond_step}
+use Rattle.protocol.proofs.Steps.{Transition, seen-inside, after, place_of, cond_onto, cond_step, its_mutex}
 use Rattle.protocol.proofs.Stepping.{left_of, Stepping}
 use Rattle.protocol.proofs.CondSteps.{cond_of, fit_at}
 use Rattle.protocol.proofs.Cases.{some_same}
@@ -19,28 +19,22 @@ use Rattle.protocol.proofs.OwnWords.{own_cell, own_owned, own_stepping}
 
 -- ---- a wait that is about to release its mutex
 module _ (s : State) (t : ℕ) (c : CondCall) (inv : Kept s) (pos : 1 ≤ t) (known : t ≤ s.layout.threads) where
-  abbrev m : ℕ
-  m = mutex_of s.layout (OnCondition c)
-
   abbrev head : ℕ
   head = head_place t
 
   abbrev entry : ℕ
-  entry = entry_place s.layout m
+  entry = entry_place s.layout (its_mutex s c)
 
   abbrev held : ℕ
   held = (s.threads t).held
 
-  last : t ≤ 64
-  last = let most = inv.layout.threads.1 in omega arith
-
   -- the pending word
   pending_place : address_sum head 2 ≡ head + 2
-  pending_place = pending_is t last pos
+  pending_place = pending_is t (last_thread s t inv known) pos
 
   -- its mutex is its own
-  owns_it : m < s.layout.mutexes → (fields_of (s.words (cell_place s.layout m))).owner ≡ t → (seen s m).owner ≡ Some t
-  owns_it inside own = ap (λ (z : Object). z.owner) (seen-inside s m inside) ∙ ap owner_of own ∙ owner_of-some t pos
+  owns_it : its_mutex s c < s.layout.mutexes → (fields_of (s.words (cell_place s.layout (its_mutex s c)))).owner ≡ t → (seen s (its_mutex s c)).owner ≡ Some t
+  owns_it inside own = ap (λ (z : Object). z.owner) (seen-inside s (its_mutex s c) inside) ∙ ap owner_of own ∙ owner_of-some t pos
 
   -- ---- its entry is made pending
   module _ (x : ℕ) (fits : FitsAt s t held c (cond_of s.layout t c (CondPhase.Announcing x))) where
@@ -60,7 +54,7 @@ module _ (s : State) (t : ℕ) (c : CondCall) (inv : Kept s) (pos : 1 ≤ t) (kn
     announcing_stepping is (es, owned, ch) =
         own_stepping s t step inv pos known fits.inside tt at_pending refl
         (fit_at (after s t step) t held c (CondPhase.Announcing x) fits.inside fits.there (CondPhase.Unlinking (record { head = head; entry = entry; row = UnlinkRow.LoadNext }) x)
-        (fits.stands.0, refl, refl, tt, subst (Needs t (CondRow.Wait (WaitRow.Release x))) (sym (own_cell s t step inv pos known fits.inside tt at_pending refl m fits.inside)) fits.stands.1))
+        (fits.stands.0, refl, refl, tt, subst (Needs t (CondRow.Wait (WaitRow.Release x))) (sym (own_cell s t step inv pos known fits.inside tt at_pending refl (its_mutex s c) fits.inside)) fits.stands.1))
         (es, own_owned s t step inv pos known fits.inside tt at_pending refl None es owned, unlinks.right.begins head entry es words' still among)
         (ap words' (sym pending_place) ∙ put-same s.words (address_sum head 2) entry)
         (λ k was. absurd (cc was.1)) (omega arith) (omega arith) (omega arith)
@@ -69,7 +63,7 @@ module _ (s : State) (t : ℕ) (c : CondCall) (inv : Kept s) (pos : 1 ≤ t) (kn
         still = both_same s.words words' head es (λ y on. put-other s.words (address_sum head 2) entry y (λ e. list_not_pending s t None es y inv.layout pos known owned on (e ∙ pending_place))) ch
 
         among : IsAmong entry es
-        among = owned.all m fits.inside (owns_it fits.inside fits.stands.1.0) (λ e. cc e)
+        among = owned.all (its_mutex s c) fits.inside (owns_it fits.inside fits.stands.1.0) (λ e. cc e)
 
   -- ---- and is taken out of the list
   module _ (r : UnlinkRow) (x : ℕ) where
@@ -122,15 +116,15 @@ module _ (s : State) (t : ℕ) (c : CondCall) (inv : Kept s) (pos : 1 ≤ t) (kn
           (λ e. list_not_pending s t None es _ inv.layout pos known owned (unlinks.near head entry es r s.words ch) (sym e))
           ∙ subst (PendsAs (s.words (head + 2))) is_in (inv.heads t pos known).pending
 
-      needs : Needs t (CondRow.Wait (WaitRow.Release x)) (fields_of (out_state.words (cell_place s.layout m)))
-      needs = subst (Needs t (CondRow.Wait (WaitRow.Release x))) (sym (own_cell s t out_step inv pos known fits.inside plain on_list pointless m fits.inside)) fits.stands.4
+      needs : Needs t (CondRow.Wait (WaitRow.Release x)) (fields_of (out_state.words (cell_place s.layout (its_mutex s c))))
+      needs = subst (Needs t (CondRow.Wait (WaitRow.Release x))) (sym (own_cell s t out_step inv pos known fits.inside plain on_list pointless (its_mutex s c) fits.inside)) fits.stands.4
 
       different : AreDifferent es
       different = (entries-different head es ch.places).1
 
-      owned_less : Owned s t (Some m) (without entry es)
+      owned_less : Owned s t (Some (its_mutex s c)) (without entry es)
       owned_less = record {
-        entries = λ y among. let e = owned.entries y (without-among entry y es among) in (e.0, e.1, e.2, e.3, λ same. without_is_apart entry y es different among (e.2 ∙ ap (entry_place s.layout) (sym (some_same m e.0 same))));
+        entries = λ y among. let e = owned.entries y (without-among entry y es among) in (e.0, e.1, e.2, e.3, λ same. without_is_apart entry y es different among (e.2 ∙ ap (entry_place s.layout) (sym (some_same (its_mutex s c) e.0 same))));
         all = λ i below own outside. among_without entry (entry_place s.layout i) es (owned.all i below own (λ e. cc e)) (λ same. outside (ap Some (omega (arith, same))));
       }
 
@@ -168,7 +162,7 @@ module _ (s : State) (t : ℕ) (c : CondCall) (inv : Kept s) (pos : 1 ≤ t) (kn
       stands_then : Stands (stage_at c unlinking (unlinked_at moved to_row x))
       stands_then = then_at (λ (f : CondPhase). Stands (stage_at c unlinking f)) goes_on (λ ch_less. record {
         sits = fit_at out_state t held c (CondPhase.Announcing x) fits.inside fits.there (CondPhase.AtWords (CondRow.Wait (WaitRow.Release x))) (record { going = tt; of = sym fits.stands.0; needs = needs; room = tt });
-        listed = (without entry es, own_owned s t out_step inv pos known fits.inside plain on_list pointless (Some m) (without entry es) owned_less, ch_less);
+        listed = (without entry es, own_owned s t out_step inv pos known fits.inside plain on_list pointless (Some (its_mutex s c)) (without entry es) owned_less, ch_less);
         pending = pends;
         fewer = omega arith;
       })

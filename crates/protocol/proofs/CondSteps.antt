@@ -10,7 +10,7 @@ use Rattle.condvar.specs.Laws.{IsOf, row_operation, is_at_counter}
 use Rattle.condvar.specs.Programs.{row_access, resume_of, point_of}
 use Rattle.condvar.specs.Whole.{begins}
 use Rattle.protocol.proofs.Puts.{put-same, put-other}
-use Rattle.protocol.proofs.Kept.{Needs, Room, AtWordsRow, AtPhase, FitsAt, Sits, left_out_at, Owned, Listed, PendsAs, Kept}
+use Rattle.protocol.proofs.Kept.{Needs, Room, AtWordsRow, AtPhase, FitsAt, Sits, left_out_at, Owned, Listed, PendsAs, Kept, last_thread}
 use Rattle.protocol.proofs.Places.{mine_is_no_cell, mine_is_no_counter, head_is_no_cell, head_is_no_counter, counter_is_no_cell, counter_is_valid, list_is_mine, both_same}
 use Rattle.protocol.proofs.Steps.{is_valid-cell, seen-inside, Tells, Transition, met_no_move, thread_after, after, cond_onto, cond_step, untrimmed}
 use Rattle.protocol.proofs.Frames.{OnlyWaitsFrom, kept_where}
@@ -163,11 +163,8 @@ module _ (s : State) (t : ℕ) (c : CondCall) (r : CondRow) (inv : Kept s) (pos 
   far : (j : ℕ) → j ≢ k → seen s' j ≡ seen s j
   far j other = same_object s.layout s.words s'.words j (λ inside. cells_there j inside other)
 
-  last : t ≤ 64
-  last = let most = inv.layout.threads.1 in omega arith
-
   is_fair : Fair t cell held r led_to w w'
-  is_fair = fair t cell counter held w n r pos last stands.going (subst Sound before (inv.sound k)) stands.needs stands.room
+  is_fair = fair t cell counter held w n r pos (last_thread s t inv known) stands.going (subst Sound before (inv.sound k)) stands.needs stands.room
 
   -- what its point is
   abbrev op : Operation

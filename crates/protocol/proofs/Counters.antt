@@ -3,9 +3,8 @@ use Rattle.std.proofs.Common.{◌≡◌, ◌≢◌, ◌⊎◌, ⊎_elim, inl, in
 use Rattle.protocol.proofs.Vocabulary.{CondCall, CondRow, Signal, Broadcast, CondPhase, CondOnward, condition_of, full, met_word, counter_after, CondWhole, cond_access, cond_led}
 use Rattle.protocol.proofs.Vocabulary.{after_words, from_words, Mutex, Condition, address_of, answer_at, Layout', head_place, cell_place, counter_place, fields_of, XHELD, Phase}
 use Rattle.protocol.proofs.Vocabulary.{Whole, whole_access, whole_led, Op, OnMutex, OnCondition, Event, Thread, Stage, Calling, AtCondition, Dying, mutex_of, State, After, start}
-use Rattle.protocol.proofs.Vocabulary.{place_met, stage_after, stage_at, led, led_at, begun, walked, happens, run, caller, UnlinkRow, UnlinkStanding, if◌then◌else◌, slice_index}
+use Rattle.protocol.proofs.Vocabulary.{place_met, stage_after, stage_at, led, led_at, reply_at, begun, walked, happens, run, caller, if◌then◌else◌, slice_index}
 use Rattle.protocol.proofs.Vocabulary.{WaitRow, SignalRow, BroadcastRow, first_word, there, ArePresets}
-use Rattle.robustlist.specs.UnlinkLaws.{Unlinking}
 use Rattle.exitwalk.specs.Standings as walks
 use Rattle.condvar.specs.declared.row.CondRow.TheVariants.{Wait}
 use Rattle.condvar.specs.Calls.{operation_of}
@@ -13,9 +12,10 @@ use Rattle.condvar.specs.Rows.{IsGoing}
 use Rattle.condvar.specs.Laws.{is_at_counter, row_operation}
 use Rattle.condvar.specs.Programs.{row_access, resume_of}
 use Rattle.protocol.proofs.Puts.{put-same, put-other}
-use Rattle.protocol.proofs.Kept.{Needs, FitsAt, Owned, Listed, Kept}
+use Rattle.protocol.proofs.Kept.{Needs, FitsAt, Kept}
 use Rattle.protocol.proofs.Places.{counter_is_no_cell}
-use Rattle.protocol.proofs.Steps.{thread_after, met_no_move, after, went-is, onto, call_step, cond_onto, cond_step}
+use Rattle.protocol.proofs.Steps.{thread_after, met_no_move, after, went-is, onto, call_step, cond_onto, cond_step, its_mutex, its_cell, its_counter, cond_after}
+use Rattle.protocol.proofs.Stepping.{Stepping}
 use Rattle.protocol.proofs.Arrivals.{ended_or_not}
 use Rattle.protocol.proofs.Frames.{knows_at}
 use Rattle.protocol.proofs.CallSteps.{call_stepping}
@@ -25,97 +25,49 @@ use Rattle.protocol.proofs.Events.{begins_at, by_event, by_stage}
 use Rattle.protocol.proofs.Working.{walk_is}
 use Rattle.protocol.proofs.Runs.{sound}
 use Rattle.protocol.proofs.CondSteps.{cond_of, counter_here, leads}
-use Rattle.protocol.proofs.CondOwn.{at_pending, plain, on_list, then_at}
 use Rattle.protocol.proofs.OwnWords.{own_counter}
-use Rattle.protocol.proofs.CondOwn.{leads as unlink_leads}
-use Rattle.protocol.proofs.CondAccesses.{cond_stepping, fits_at}
+use Rattle.protocol.proofs.CondAccesses.{fits_at, IsBefore, Nears, by_access, cond_stepping}
 use Rattle.protocol.proofs.Cases.{at_or_else}
 
 -- ---- one access of a call on a condition variable
 
--- a wait that is about to release its mutex, and has seen this of the counter
-abbrev pub IsBefore : ℕ → CondPhase → Type 0
-IsBefore seen (CondPhase.Announcing x) = x ≡ seen
-IsBefore seen (CondPhase.Unlinking u x) = x ≡ seen
-IsBefore seen (CondPhase.AtWords (Wait (WaitRow.Release x))) = x ≡ seen
-IsBefore seen f = ⊥
-
 module _ (s : State) (t : ℕ) (c : CondCall) where
-  abbrev l : Layout'
-  l = s.layout
-
-  abbrev cell : ℕ
-  cell = cell_place l (mutex_of l (OnCondition c))
-
-  abbrev counter : ℕ
-  counter = counter_place l (condition_of c)
-
   abbrev w : ℕ
-  w = s.words cell
+  w = s.words (its_cell s c)
 
   abbrev n : ℕ
-  n = s.words counter
+  n = s.words (its_counter s c)
 
   abbrev then_words : CondWhole → ℕ → ℕ
-  then_words p = (after s t (cond_step s t c p)).words
+  then_words p = (cond_after s t c p).words
 
   -- by its row; or it comes nearer to its release
   pub data CondMove (p : CondWhole) : Type 0 where
-    By_row : (r : CondRow) → p ≡ cond_of l t c (CondPhase.AtWords r) → IsGoing r → row_operation r ≡ operation_of c → Needs t r (fields_of w) → then_words p counter ≡ counter_after t cell counter r n
-        → cond_onto s t p ≡ from_words p (resume_of t r (answer_at (row_access t cell counter r) (met_word r w n))) → CondMove p
-    Before_release : (seen : ℕ) → IsBefore seen p.phase → IsBefore seen (cond_onto s t p).phase → (cond_onto s t p).point ≡ None → then_words p counter ≡ n → CondMove p
+    By_row : (r : CondRow) → p ≡ cond_of s.layout t c (CondPhase.AtWords r) → IsGoing r → row_operation r ≡ operation_of c → Needs t r (fields_of w) → then_words p (its_counter s c) ≡ counter_after t (its_cell s c) (its_counter s c) r n
+        → cond_onto s t p ≡ from_words p (resume_of t r (answer_at (row_access t (its_cell s c) (its_counter s c) r) (met_word r w n))) → CondMove p
+    Before_release : (seen : ℕ) → IsBefore seen p.phase → IsBefore seen (cond_onto s t p).phase → (cond_onto s t p).point ≡ None → then_words p (its_counter s c) ≡ n → CondMove p
 
   pub record CondGoes (p : CondWhole) : Type 0 where
     pub move : CondMove p
-    pub others : (k : ℕ) → k ≢ condition_of c → then_words p (counter_place l k) ≡ s.words (counter_place l k)
+    pub others : (k : ℕ) → k ≢ condition_of c → then_words p (counter_place s.layout k) ≡ s.words (counter_place s.layout k)
 
-  module _ (inv : Kept s) (pos : 1 ≤ t) (known : t ≤ s.layout.threads) where
-    by_phase : (f : CondPhase) → (s.threads t).stage ≡ AtCondition c (cond_of l t c f) → FitsAt s t (s.threads t).held c (cond_of l t c f) → Listed s t (AtCondition c (cond_of l t c f)) → CondGoes (cond_of l t c f)
-    by_phase (CondPhase.AtWords r) is fits listed = record {
-      move = By_row r refl fits.stands.going fits.stands.of fits.stands.needs (counter_here s t c r inv pos known fits) (leads s t c r inv pos known fits);
-      others = λ k apart. put-other s.words (address_of (row_access t cell counter r)) _ (counter_place l k) (λ at. elsewhere k apart (is_at_counter r) (at ∙ there t cell counter r));
-    }
-      where
-        elsewhere : (k : ℕ) → k ≢ condition_of c → (b : Bool) → counter_place l k ≡ (if b then counter else cell) → ⊥
-        elsewhere k apart true at = apart (omega (arith, at))
-        elsewhere k apart false at = counter_is_no_cell l (mutex_of l (OnCondition c)) k fits.inside at
-    by_phase (CondPhase.Announcing x) is fits listed =
-        let own = own_counter s t (cond_step s t c (cond_of l t c (CondPhase.Announcing x))) inv pos known fits.inside tt (at_pending s t c inv pos known x fits) refl in
-        record { move = Before_release x refl refl refl (own (condition_of c)); others = λ k apart. own k }
-    by_phase (CondPhase.Unlinking u x) is fits listed =
-        subst (λ (z : UnlinkStanding). CondGoes (cond_of l t c (CondPhase.Unlinking z x))) (sym same)
-        (unlinks u.row (subst (λ (z : UnlinkStanding). FitsAt s t (s.threads t).held c (cond_of l t c (CondPhase.Unlinking z x))) same fits) (is ∙ ap (λ (z : UnlinkStanding). AtCondition c (cond_of l t c (CondPhase.Unlinking z x))) same) listed.0 listed.1 listed.2)
-      where
-        standing : UnlinkRow → UnlinkStanding
-        standing r = record { head = (cond_of l t c (CondPhase.Announcing x)).head; entry = (cond_of l t c (CondPhase.Announcing x)).entry; row = r }
+  pub cond_moves : Kept s → 1 ≤ t → t ≤ s.layout.threads → (p : CondWhole) → (s.threads t).stage ≡ AtCondition c p → CondGoes p
+  cond_moves inv pos known = by_access s t c inv pos known CondGoes row nearer
+    where
+      row : (r : CondRow) → FitsAt s t (s.threads t).held c (cond_of s.layout t c (CondPhase.AtWords r)) → Stepping s t (cond_step s t c (cond_of s.layout t c (CondPhase.AtWords r))) → CondGoes (cond_of s.layout t c (CondPhase.AtWords r))
+      row r fits step = record {
+        move = By_row r refl fits.stands.going fits.stands.of fits.stands.needs (counter_here s t c r inv pos known fits) (leads s t c r inv pos known fits);
+        others = λ k apart. put-other s.words (address_of (row_access t (its_cell s c) (its_counter s c) r)) _ (counter_place s.layout k) (λ at. elsewhere k apart (is_at_counter r) (at ∙ there t (its_cell s c) (its_counter s c) r));
+      }
+        where
+          elsewhere : (k : ℕ) → k ≢ condition_of c → (b : Bool) → counter_place s.layout k ≡ (if b then its_counter s c else its_cell s c) → ⊥
+          elsewhere k apart true at = apart (omega (arith, at))
+          elsewhere k apart false at = counter_is_no_cell s.layout (its_mutex s c) k fits.inside at
 
-        same : u ≡ standing u.row
-        same = λ i. record { head = fits.stands.1 i; entry = fits.stands.2 i; row = u.row }
-
-        unlinks : (r : UnlinkRow) → FitsAt s t (s.threads t).held c (cond_of l t c (CondPhase.Unlinking (standing r) x)) → (s.threads t).stage ≡ AtCondition c (cond_of l t c (CondPhase.Unlinking (standing r) x))
-            → (es : _) → Owned s t None es → Unlinking (head_place t) (cond_of l t c (CondPhase.Announcing x)).entry es r s.words → CondGoes (cond_of l t c (CondPhase.Unlinking (standing r) x))
-        unlinks r f is_in es owned ch =
-            let step = cond_step s t c (cond_of l t c (CondPhase.Unlinking (standing r) x)) in
-            let own = own_counter s t step inv pos known f.inside (plain s t c inv pos known r x f is_in es owned ch) (on_list s t c inv pos known r x f is_in es owned ch) refl in
-            record {
-              move = Before_release x refl
-                  (subst (λ (g : CondOnward). IsBefore x g.phase) (sym (unlink_leads s t c inv pos known r x f is_in es owned ch)) (then_at s t c inv pos known r x f is_in es owned ch (IsBefore x) (λ going. refl) (λ ch_less. refl)))
-                  (ap (λ (g : CondOnward). g.point) (unlink_leads s t c inv pos known r x f is_in es owned ch)) (own (condition_of c));
-              others = λ k apart. own k;
-            }
-    by_phase (CondPhase.Locking v) is fits listed = absurd fits.stands
-    by_phase (CondPhase.Ended x) is fits listed = absurd fits.stands
-
-    pub cond_moves : (p : CondWhole) → (s.threads t).stage ≡ AtCondition c p → CondGoes p
-    cond_moves p is =
-        subst CondGoes (sym same)
-        (by_phase p.phase (is ∙ ap (AtCondition c) same) (subst (FitsAt s t (s.threads t).held c) same fits) (subst (λ (z : CondWhole). Listed s t (AtCondition c z)) same (subst (Listed s t) is (inv.listed t pos known))))
-      where
-        fits : FitsAt s t (s.threads t).held c p
-        fits = fits_at s t c p inv pos known is
-
-        same : p ≡ cond_of l t c p.phase
-        same = λ i. record { thread = fits.mine i; head = fits.head i; entry = fits.entry i; cell = fits.cell i; counter = fits.counter i; phase = p.phase }
+      nearer : (x : ℕ) (p : CondWhole) → Nears s t c x p → CondGoes p
+      nearer x p near =
+          let own = own_counter s t (cond_step s t c p) inv pos known near.step.inside near.plain near.mine (ap reply_at near.pointless) in
+          record { move = Before_release x near.before (near.leads (IsBefore x) (λ u. refl) refl) near.pointless (own (condition_of c)); others = λ k apart. own k }
 
 -- ---- what a call knows of its counter
 
@@ -197,13 +149,13 @@ knows_before l words c p seen f is few = grind (arith)
 -- where a row of thread t's call leads
 abbrev row_to : State → ℕ → CondCall → CondRow → CondRow
 row_to s t c r =
-    (resume_of t r (answer_at (row_access t (cell_place s.layout (mutex_of s.layout (OnCondition c))) (counter_place s.layout (condition_of c)) r) (met_word r (s.words (cell_place s.layout (mutex_of s.layout (OnCondition c)))) (s.words (counter_place s.layout (condition_of c)))))).row
+    (resume_of t r (answer_at (row_access t (its_cell s c) (its_counter s c) r) (met_word r (s.words (its_cell s c)) (s.words (its_counter s c))))).row
 
 -- and what is so of it
 abbrev RowLaw : State → ℕ → CondCall → CondRow → Type 0
 RowLaw s t c r =
-    Counts_so t (s.words (cell_place s.layout (mutex_of s.layout (OnCondition c)))) (s.words (counter_place s.layout (condition_of c)))
-    (counter_after t (cell_place s.layout (mutex_of s.layout (OnCondition c))) (counter_place s.layout (condition_of c)) r (s.words (counter_place s.layout (condition_of c)))) (row_to s t c r)
+    Counts_so t (s.words (its_cell s c)) (s.words (its_counter s c))
+    (counter_after t (its_cell s c) (its_counter s c) r (s.words (its_counter s c))) (row_to s t c r)
 
 cond_passes : (s : State) (t : ℕ) (c : CondCall) (p : CondWhole) → Kept s → Counted s → 1 ≤ t → t ≤ s.layout.threads → (s.threads t).stage ≡ AtCondition c p → Passes s t (after s t (cond_step s t c p))
 cond_passes s t c p inv counted pos known is = record {
@@ -217,7 +169,7 @@ cond_passes s t c p inv counted pos known is = record {
     words' = (after s t (cond_step s t c p)).words
 
     at : ℕ
-    at = counter_place s.layout (condition_of c)
+    at = its_counter s c
 
     moved : CondGoes s t c p
     moved = cond_moves s t c inv pos known p is
@@ -231,14 +183,14 @@ cond_passes s t c p inv counted pos known is = record {
     knows : KnowsAt (s.words at) p.phase
     knows = subst (KnowsIn s.layout s.words) is (counted.knows t pos known)
 
-    law : (r : CondRow) → p ≡ cond_of s.layout t c (CondPhase.AtWords r) → IsGoing r → Needs t r (fields_of (s.words (cell_place s.layout (mutex_of s.layout (OnCondition c))))) → RowLaw s t c r
+    law : (r : CondRow) → p ≡ cond_of s.layout t c (CondPhase.AtWords r) → IsGoing r → Needs t r (fields_of (s.words (its_cell s c))) → RowLaw s t c r
     law r from going needs = knows_row t _ at _ (s.words at) r going needs most (subst (λ (z : CondWhole). KnowsAt (s.words at) z.phase) from knows)
 
     here : CondMove s t c p → Rises s t (after s t (cond_step s t c p)) (condition_of c)
     here (Before_release seen before later point same) = inl same
     here (By_row r from going of needs counts leads_to) = pick _ counts (law r from going needs).rises
       where
-        pick : (n' : ℕ) → words' at ≡ n' → Up t (s.words (cell_place s.layout (mutex_of s.layout (OnCondition c)))) (s.words at) n' → Rises s t (after s t (cond_step s t c p)) (condition_of c)
+        pick : (n' : ℕ) → words' at ≡ n' → Up t (s.words (its_cell s c)) (s.words at) n' → Rises s t (after s t (cond_step s t c p)) (condition_of c)
         pick n' is (inl same) = inl (is ∙ same)
         pick n' is (inr (more, less, own)) = inr (is ∙ more, less, own)
 
@@ -295,7 +247,7 @@ passes s e inv counted =
     (sym (went-is s t (mutex_of s.layout o) (Mutex (mutex_of s.layout o)) (Calling o p) (whole_access p) (λ a. led o p (whole_led p a)) (call_stepping s t o p (accesses.goes s t o p inv pos known is) (accesses.fits_in s t o p inv pos known is).0).valid))
     (call_passes s t o p inv pos known is))
     (λ c p is awake. subst (λ (a : After). Passes s t a.state)
-    (sym (went-is s t (mutex_of s.layout (OnCondition c)) (Condition (condition_of c)) (AtCondition c p) (cond_access p) (λ a. led_at c p (cond_led p a)) (cond_stepping s t c p inv pos known is).valid))
+    (sym (went-is s t (its_mutex s c) (Condition (condition_of c)) (AtCondition c p) (cond_access p) (λ a. led_at c p (cond_led p a)) (cond_stepping s t c p inv pos known is).valid))
     (cond_passes s t c p inv counted pos known is))
     (λ w is awake. walk_passes s t w inv pos known is))
     (λ t pos known alive. record {

@@ -1,8 +1,8 @@
 -- A broadcast's move empties its condition variable's queue.
 use Rattle.std.proofs.Common.{⊎_elim, ◌≡◌, ℕ, zero, suc, ◌+◌, ◌%◌, ◌^◌, ◌≤◌, ◌==◌, Bool, true, false, Option, Some, None, List, [], ◌∷◌, length, drop, refl, sym, ap, ◌∙◌, subst, arith, eqb-true, eq-eqb}
 use Rattle.protocol.proofs.Vocabulary.{Fact, CondCall, CondRow, Broadcast, CondPhase, CondOnward, condition_of, met_word, CondWhole, cond_access, cond_led, after_words, Queue}
-use Rattle.protocol.proofs.Vocabulary.{Return, Begun, Condition, Decision, answer_at, Layout', cell_place, counter_place, Reply, OK, Whole, Op, OnCondition, Stepped, Walked, Stage}
-use Rattle.protocol.proofs.Vocabulary.{Calling, AtCondition, Event, Step, facts_of, return_facts, mutex_of, begun_of, State, After, put, start, stands_in, returned_at, led_at}
+use Rattle.protocol.proofs.Vocabulary.{Return, Begun, Condition, Decision, answer_at, Layout', counter_place, Reply, OK, Whole, Op, OnCondition, Stepped, Walked, Stage}
+use Rattle.protocol.proofs.Vocabulary.{Calling, AtCondition, Event, Step, facts_of, return_facts, begun_of, State, After, put, start, stands_in, returned_at, led_at}
 use Rattle.protocol.proofs.Vocabulary.{stepped, happens, run, if◌then◌else◌, not, Operation, BroadcastRow, NobodyIsPassedBy}
 use Rattle.buckets.specs.Queues.{without}
 use Rattle.condvar.specs.declared.row.CondRow.TheVariants.{Ended}
@@ -15,7 +15,7 @@ use Rattle.protocol.specs.Sleepers.{IsAmong}
 use Rattle.protocol.proofs.Puts.{put-same, put-other}
 use Rattle.protocol.proofs.Kept.{IsFor, Kept}
 use Rattle.protocol.proofs.Places.{counter_is_no_cell}
-use Rattle.protocol.proofs.Steps.{after, went-is, cond_onto, cond_step, cond_note}
+use Rattle.protocol.proofs.Steps.{went-is, cond_onto, cond_note, its_mutex, its_cell, its_counter, cond_after}
 use Rattle.protocol.proofs.Accesses.{fits_in}
 use Rattle.protocol.proofs.Events.{by_event, by_stage}
 use Rattle.protocol.proofs.Runs.{start_kept, run_kept, run_layout}
@@ -23,8 +23,8 @@ use Rattle.protocol.proofs.QueueRuns.{run_queued}
 use Rattle.protocol.proofs.PassedBy.{IsTold, told_run, never_passed}
 use Rattle.protocol.proofs.Queued.{Queued}
 use Rattle.protocol.proofs.CondSteps.{cond_of}
-use Rattle.protocol.proofs.CondAccesses.{cond_stepping, fits_at}
-use Rattle.protocol.proofs.Counters.{IsBefore, CondMove, By_row, Before_release, cond_moves, KnowsAt, KnowsIn, Counted, start_counted, run_counted}
+use Rattle.protocol.proofs.CondAccesses.{IsBefore, cond_stepping, fits_at}
+use Rattle.protocol.proofs.Counters.{CondMove, By_row, Before_release, cond_moves, KnowsAt, KnowsIn, Counted, start_counted, run_counted}
 use Rattle.protocol.proofs.Queues.{Once, first_stands, without_stands, once_without}
 use Rattle.protocol.proofs.NoteFacts.{IsOfSleep, of_access, of_walk}
 use Rattle.std.proofs.lemmas.List.{drop_all}
@@ -87,49 +87,37 @@ never_returns : (seen : ℕ) (f : CondPhase) → IsBefore seen f → returned_at
 never_returns seen f is e = grind (arith)
 
 module _ (s : State) (t : ℕ) (c : CondCall) (p : CondWhole) (inv : Kept s) (queued : Queued s) (counted : Counted s) (pos : 1 ≤ t) (known : t ≤ s.layout.threads) (is : (s.threads t).stage ≡ AtCondition c p) (of_broadcast : operation_of c ≡ Operation.Broadcast) where
-  abbrev l : Layout'
-  l = s.layout
-
-  abbrev cell : ℕ
-  cell = cell_place l (mutex_of l (OnCondition c))
-
-  abbrev counter : ℕ
-  counter = counter_place l (condition_of c)
-
-  abbrev z : State
-  z = after s t (cond_step s t c p)
-
-  short : length (s.queues counter) ≤ 64
+  short : length (s.queues (its_counter s c)) ≤ 64
   short =
-      let few = no_more l.threads (s.queues counter) (queued.once counter) (λ u stands. let slept = queued.sleeps counter u stands in (slept.0, slept.1)) in
+      let few = no_more s.layout.threads (s.queues (its_counter s c)) (queued.once (its_counter s c)) (λ u stands. let slept = queued.sleeps (its_counter s c) u stands in (slept.0, slept.1)) in
       let most = inv.layout.threads.1 in omega (arith, few, most)
 
   -- the state that a move leaves
   abbrev moved_by_row : ℕ → State
-  moved_by_row seen = after s t (cond_step s t c (cond_of l t c (CondPhase.AtWords (Broadcast (BroadcastRow.Move seen)))))
+  moved_by_row seen = cond_after s t c (cond_of s.layout t c (CondPhase.AtWords (Broadcast (BroadcastRow.Move seen))))
 
-  emptied : (seen : ℕ) → s.words counter ≡ seen + 1 → (moved_by_row seen).queues counter ≡ []
+  emptied : (seen : ℕ) → s.words (its_counter s c) ≡ seen + 1 → (moved_by_row seen).queues (its_counter s c) ≡ []
   emptied seen at =
-      put-other left cell _ counter (counter_is_no_cell l (mutex_of l (OnCondition c)) (condition_of c) (fits_at s t c p inv pos known is).inside)
-      ∙ put-same s.queues counter _
-      ∙ ap (λ (b : Bool). if b then drop 64 (drop 0 (s.queues counter)) else s.queues counter) (eq-eqb (s.words counter % 2 ^ 32) ((seen + 1) % 2 ^ 32) (ap (λ (x : ℕ). x % 2 ^ 32) at))
-      ∙ drop_all 64 (s.queues counter) short
+      put-other left (its_cell s c) _ (its_counter s c) (counter_is_no_cell s.layout (its_mutex s c) (condition_of c) (fits_at s t c p inv pos known is).inside)
+      ∙ put-same s.queues (its_counter s c) _
+      ∙ ap (λ (b : Bool). if b then drop 64 (drop 0 (s.queues (its_counter s c))) else s.queues (its_counter s c)) (eq-eqb (s.words (its_counter s c) % 2 ^ 32) ((seen + 1) % 2 ^ 32) (ap (λ (x : ℕ). x % 2 ^ 32) at))
+      ∙ drop_all 64 (s.queues (its_counter s c)) short
     where
       left : ℕ → List ℕ
-      left = put s.queues counter (if s.words counter % 2 ^ 32 == (seen + 1) % 2 ^ 32 then drop 64 (drop 0 (s.queues counter)) else s.queues counter)
+      left = put s.queues (its_counter s c) (if s.words (its_counter s c) % 2 ^ 32 == (seen + 1) % 2 ^ 32 then drop 64 (drop 0 (s.queues (its_counter s c))) else s.queues (its_counter s c))
 
-  pub then_empty : returned_at (cond_onto s t p).phase ≡ Some OK → z.queues counter ≡ []
+  pub then_empty : returned_at (cond_onto s t p).phase ≡ Some OK → (cond_after s t c p).queues (its_counter s c) ≡ []
   then_empty back = go (cond_moves s t c inv pos known p is).move
     where
-      knows : KnowsAt (s.words counter) p.phase
-      knows = subst (KnowsIn l s.words) is (counted.knows t pos known)
+      knows : KnowsAt (s.words (its_counter s c)) p.phase
+      knows = subst (KnowsIn s.layout s.words) is (counted.knows t pos known)
 
-      go : CondMove s t c p → z.queues counter ≡ []
+      go : CondMove s t c p → (cond_after s t c p).queues (its_counter s c) ≡ []
       go (Before_release seen before later none same) = absurd (never_returns seen (cond_onto s t p).phase later back)
       go (By_row r from going of needs counts leads) =
-          let row = only_move t cell counter (s.words cell) (s.words counter) r going (of ∙ of_broadcast) (ok_row p _ (sym (ap (λ (g : CondOnward). returned_at g.phase) leads) ∙ back)) in
-          let shape : p ≡ cond_of l t c (CondPhase.AtWords (Broadcast (BroadcastRow.Move row.0))) = from ∙ ap (λ (y : CondRow). cond_of l t c (CondPhase.AtWords y)) row.1 in
-          subst (λ (y : CondWhole). (after s t (cond_step s t c y)).queues counter ≡ []) (sym shape) (emptied row.0 (subst (λ (y : CondWhole). KnowsAt (s.words counter) y.phase) shape knows))
+          let row = only_move t (its_cell s c) (its_counter s c) (s.words (its_cell s c)) (s.words (its_counter s c)) r going (of ∙ of_broadcast) (ok_row p _ (sym (ap (λ (g : CondOnward). returned_at g.phase) leads) ∙ back)) in
+          let shape : p ≡ cond_of s.layout t c (CondPhase.AtWords (Broadcast (BroadcastRow.Move row.0))) = from ∙ ap (λ (y : CondRow). cond_of s.layout t c (CondPhase.AtWords y)) row.1 in
+          subst (λ (y : CondWhole). (cond_after s t c y).queues (its_counter s c) ≡ []) (sym shape) (emptied row.0 (subst (λ (y : CondWhole). KnowsAt (s.words (its_counter s c)) y.phase) shape knows))
 
 -- ---- a step that tells a broadcast's return
 
@@ -149,19 +137,19 @@ module _ (s : State) (t k : ℕ) (b : Begun) (inv : Kept s) (queued : Queued s) 
       let same : b ≡ begun_of s.layout o = same_call (begun_of s.layout o) (subst (λ (g : Stage). IsTold s.layout g (Some b)) is told) in
       no_call o p (fits_in s t o p inv pos known is).1 (sym (ap (λ (x : Begun). x.operation) same) ∙ broadcasts)
 
-  at_condition : (c : CondCall) (p : CondWhole) → 1 ≤ t → t ≤ s.layout.threads → (s.threads t).stage ≡ AtCondition c p → Empties (record { state = after s t (cond_step s t c p); note = cond_note s t c p })
+  at_condition : (c : CondCall) (p : CondWhole) → 1 ≤ t → t ≤ s.layout.threads → (s.threads t).stage ≡ AtCondition c p → Empties (record { state = cond_after s t c p; note = cond_note s t c p })
   at_condition c p pos known is among =
       let same : b ≡ begun_of s.layout (OnCondition c) = same_call (begun_of s.layout (OnCondition c)) (subst (λ (g : Stage). IsTold s.layout g (Some b)) is told) in
       let here : condition_of c ≡ k = some_same (condition_of c) k (sym (ap (λ (x : Begun). x.condition) same) ∙ on) in
-      subst (λ (j : ℕ). (after s t (cond_step s t c p)).queues (counter_place s.layout j) ≡ []) here
-      (then_empty s t c p inv queued counted pos known is (sym (ap (λ (x : Begun). x.operation) same) ∙ broadcasts) (returned_noted t t (mutex_of s.layout (OnCondition c)) OK _ _ _ _ _ among))
+      subst (λ (j : ℕ). (cond_after s t c p).queues (counter_place s.layout j) ≡ []) here
+      (then_empty s t c p inv queued counted pos known is (sym (ap (λ (x : Begun). x.operation) same) ∙ broadcasts) (returned_noted t t (its_mutex s c) OK _ _ _ _ _ among))
 
   step_empties : 1 ≤ t → t ≤ s.layout.threads → Empties (stepped s t (s.threads t).held (s.threads t).stage)
   step_empties pos known =
       by_stage s t Empties (λ rests among. absurd among)
       (λ o p is awake. absurd (called o p pos known is))
       (λ c p is awake. subst Empties
-      (sym (went-is s t (mutex_of s.layout (OnCondition c)) (Condition (condition_of c)) (AtCondition c p) (cond_access p) (λ a. led_at c p (cond_led p a)) (cond_stepping s t c p inv pos known is).valid))
+      (sym (went-is s t (its_mutex s c) (Condition (condition_of c)) (AtCondition c p) (cond_access p) (λ a. led_at c p (cond_led p a)) (cond_stepping s t c p inv pos known is).valid))
       (at_condition c p pos known is))
       (λ w is awake among. absurd (no_return_walked t t OK _ _ _ among))
 

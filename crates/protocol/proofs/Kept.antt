@@ -1,5 +1,5 @@
 -- What holds of every state of the machine.
-use Rattle.std.proofs.Common.{◌≡◌, ◌≢◌, ◌⊎◌, ℕ, ◌+◌, ◌<◌, ◌≤◌, true, false, Option, Some, None, List, ◌∷◌, length}
+use Rattle.std.proofs.Common.{◌≡◌, ◌≢◌, ◌⊎◌, ℕ, ◌+◌, ◌<◌, ◌≤◌, true, false, Option, Some, None, List, ◌∷◌, length, arith}
 use Rattle.protocol.proofs.Vocabulary.{CondCall, CondRow, CondPhase, CondWhole, OnlyWaits, Object, Operation, AreDifferent, Leads, IsChainBothWays, Layout', IsLayout, head_place}
 use Rattle.protocol.proofs.Vocabulary.{entry_place, cell_place, counter_place, acquires, held_by, Fields, fields_of, Load, Release, Phase, AtCell, Linking, Clearing, Whole}
 use Rattle.protocol.proofs.Vocabulary.{Expects, Sound, Op, OnMutex, OnCondition, Stage, Idle, Calling, AtCondition, Dying, Reaped, mutex_of, State, seen, LinkGoes, UnlinkGoes}
@@ -262,3 +262,7 @@ pub record Kept (s : State) : Type 0 where
   pub sound : (m : ℕ) → Sound (seen s m)
   pub owners : (m u : ℕ) → (seen s m).owner ≡ Some u → (1 ≤ u) × (u ≤ s.layout.threads)
   pub held : (t : ℕ) → 1 ≤ t → t ≤ s.layout.threads → (s.threads t).held ≡ held_by t (seen s) s.layout.mutexes
+
+-- no thread is beyond the 64th
+pub last_thread : (s : State) (t : ℕ) → Kept s → t ≤ s.layout.threads → t ≤ 64
+last_thread s t inv known = let most = inv.layout.threads.1 in omega arith

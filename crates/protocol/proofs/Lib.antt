@@ -47,6 +47,7 @@ pub mod Applying
 pub mod Waking
 pub mod Counters
 pub mod Passing
+pub mod Splits
 pub mod PassedBy
 pub mod Emptied
 pub mod Signalling

@@ -16,7 +16,7 @@ use Rattle.mutex.specs.declared.phase.Phase.TheVariants.{Announcing, Unlinking}
 use Rattle.mutex.specs.Whole.{phase_led, announced, linked_at, unlinked_at}
 use Rattle.protocol.proofs.Puts.{put-same, put-other}
 use Rattle.protocol.proofs.Phases.{decided_at, left_at, SteadyAt, Moves, IsPlain, IsOwn, plain_answer, plain_awake, own_pointless, own_silent, joins_same, link_plain, unlink_plain, plain_no_move, plain_word}
-use Rattle.protocol.proofs.Kept.{AtRow, Fits, Serves, left_out_in, Owned, ChainedIn, Listed, IsAnnounced, pending_in, PendsAs, Kept}
+use Rattle.protocol.proofs.Kept.{AtRow, Fits, Serves, left_out_in, Owned, ChainedIn, Listed, IsAnnounced, pending_in, PendsAs, Kept, last_thread}
 use Rattle.protocol.proofs.Places.{IsMine, more_not_pending, mine_is_valid, list_is_mine, list_not_pending, more_is_mine, both_same, among_without, without_is_apart, pending_is}
 use Rattle.protocol.proofs.Steps.{Transition, onto, thread_after, after, place_of, met, met_queue, call_step}
 use Rattle.protocol.proofs.Arrivals.{Arrives, sits_after, listed_after, pending_then}
@@ -90,12 +90,9 @@ module _ (s : State) (t : ℕ) (c : Op) (p : Whole) (inv : Kept s) (pos : 1 ≤ 
   abbrev held : ℕ
   held = (s.threads t).held
 
-  last : t ≤ 64
-  last = let most = inv.layout.threads.1 in omega arith
-
   -- the pending word
   pending_at : p.head ≡ head_place t → address_sum p.head 2 ≡ head_place t + 2
-  pending_at head = ap (λ (h : ℕ). address_sum h 2) head ∙ pending_is t last pos
+  pending_at head = ap (λ (h : ℕ). address_sum h 2) head ∙ pending_is t (last_thread s t inv known) pos
 
   -- a store to it
   stored : (x : ℕ) → p.head ≡ head_place t → put s.words (address_sum p.head 2) x (head_place t + 2) ≡ x

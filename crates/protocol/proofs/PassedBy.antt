@@ -1,7 +1,7 @@
 -- No wait is passed by.
-use Rattle.std.proofs.Common.{◌≡◌, ◌≢◌, ⊎_elim, ℕ, ◌+◌, ◌<◌, ◌≤◌, Bool, true, false, Option, Some, None, Ok, Err, List, [], ◌∷◌, ◌++◌, append_assoc, refl, sym, ap, ◌∙◌, subst, arith}
+use Rattle.std.proofs.Common.{◌≡◌, ◌≢◌, ⊎_elim, ℕ, ◌+◌, ◌<◌, ◌≤◌, Bool, true, false, Option, Some, None, Ok, Err, List, [], ◌∷◌, ◌++◌, refl, sym, ap, ◌∙◌, subst, arith}
 use Rattle.protocol.proofs.Vocabulary.{CondCall, CondRow, CondLed, CondPhase, condition_of, full, met_word, counter_after, CondWhole, cond_access, cond_led, after_words}
-use Rattle.protocol.proofs.Vocabulary.{from_words, CondOnward, Begun, Mutex, Condition, Fact, Operation, Decision, answer_at, sleeps_at, Layout', cell_place, counter_place, Reply}
+use Rattle.protocol.proofs.Vocabulary.{from_words, CondOnward, Begun, Mutex, Condition, Fact, Operation, Decision, answer_at, sleeps_at, Layout', counter_place, Reply}
 use Rattle.protocol.proofs.Vocabulary.{OK, XHELD, Phase, Whole, whole_access, whole_led, Op, OnCondition, Thread, Stage, Idle, Calling, AtCondition, Dying, Reaped, Event, caller}
 use Rattle.protocol.proofs.Vocabulary.{mutex_of, begun_of, facts_of, State, After, nothing, place_met, answer_of, falls_asleep, decision, slept_in, stage_after, stage_at, reply_at}
 use Rattle.protocol.proofs.Vocabulary.{led, led_at, went, begun, killed, walked, happens, run, notes, facts_among, Note, if◌then◌else◌, WaitRow}
@@ -23,10 +23,11 @@ use Rattle.protocol.proofs.Accesses.{fits_in}
 use Rattle.protocol.proofs.Passing.{point_noted, sleep_noted, none_walked, Begins_nothing, begins_stepped, begins_walked, last_begun-append, begins_first, begins_later}
 use Rattle.protocol.proofs.WalkSteps.{by_walked}
 use Rattle.protocol.proofs.Events.{begins_at, by_event, by_stage}
-use Rattle.protocol.proofs.Counters.{IsBefore, CondMove, By_row, Before_release, CondGoes, cond_moves, KnowsCount, KnowsAt, KnowsIn, Counted, Passes, never_falls, passes, counted_on, run_counted}
+use Rattle.protocol.proofs.Counters.{CondMove, By_row, Before_release, CondGoes, cond_moves, KnowsCount, KnowsAt, KnowsIn, Counted, Passes, never_falls, passes, counted_on, run_counted}
 use Rattle.protocol.proofs.CondSteps.{cond_of}
-use Rattle.protocol.proofs.CondAccesses.{cond_stepping}
-use Rattle.protocol.proofs.Steps.{thread_after, after, went-is, cond_onto, cond_step, cond_note}
+use Rattle.protocol.proofs.CondAccesses.{IsBefore, cond_stepping}
+use Rattle.protocol.proofs.Steps.{thread_after, went-is, cond_onto, cond_step, cond_note, its_mutex, its_cell, its_counter, cond_after}
+use Rattle.protocol.proofs.Splits.{Split, split, facts_among-append}
 
 -- ---- where a wait stands
 
@@ -191,49 +192,34 @@ told_at : (l : Layout') (c : CondCall) (p : CondWhole) (f : CondPhase) (b : Opti
 told_at l c p f b is = grind (arith)
 
 module _ (s : State) (u : ℕ) (c : CondCall) (p : CondWhole) (inv : Kept s) (counted : Counted s) (pos : 1 ≤ u) (known : u ≤ s.layout.threads) (is : (s.threads u).stage ≡ AtCondition c p) where
-  abbrev l : Layout'
-  l = s.layout
-
-  abbrev cell : ℕ
-  cell = cell_place l (mutex_of l (OnCondition c))
-
-  abbrev counter : ℕ
-  counter = counter_place l (condition_of c)
-
-  abbrev w : ℕ
-  w = s.words cell
-
   abbrev n : ℕ
-  n = s.words counter
-
-  abbrev z : State
-  z = after s u (cond_step s u c p)
+  n = s.words (its_counter s c)
 
   abbrev led_on : Led
   led_on = led_at c p (cond_onto s u p)
 
   abbrev to_led : CondRow → CondLed
-  to_led r = resume_of u r (answer_at (row_access u cell counter r) (met_word r w n))
+  to_led r = resume_of u r (answer_at (row_access u (its_cell s c) (its_counter s c) r) (met_word r (s.words (its_cell s c)) n))
 
-  stage_then : (z.threads u).stage ≡ led_on.stage
+  stage_then : ((cond_after s u c p).threads u).stage ≡ led_on.stage
   stage_then = ap (λ (y : Thread). y.stage) (put-same s.threads u (thread_after s u (cond_step s u c p)))
 
   moved : CondGoes s u c p
   moved = cond_moves s u c inv pos known p is
 
   knows : KnowsAt n p.phase
-  knows = subst (KnowsIn l s.words) is (counted.knows u pos known)
+  knows = subst (KnowsIn s.layout s.words) is (counted.knows u pos known)
 
-  does : (r : CondRow) → p ≡ cond_of l u c (CondPhase.AtWords r) → IsGoing r → Does_so n (counter_after u cell counter r n) r (to_led r)
-  does r from going = does_row u cell counter w n r going (subst (λ (y : CondWhole). KnowsAt n y.phase) from knows)
+  does : (r : CondRow) → p ≡ cond_of s.layout u c (CondPhase.AtWords r) → IsGoing r → Does_so n (counter_after u (its_cell s c) (its_counter s c) r n) r (to_led r)
+  does r from going = does_row u (its_cell s c) (its_counter s c) (s.words (its_cell s c)) n r going (subst (λ (y : CondWhole). KnowsAt n y.phase) from knows)
 
-  noted_point : (d : Decision) → IsAmong (Fact.Point d) (facts_of (cond_note s u c p)) → decision u (mutex_of l (OnCondition c)) led_on.operation led_on.point ≡ Some d
-  noted_point d h = point_noted d u (mutex_of l (OnCondition c)) _ _ _ _ _ h
+  noted_point : (d : Decision) → IsAmong (Fact.Point d) (facts_of (cond_note s u c p)) → decision u (its_mutex s c) led_on.operation led_on.point ≡ Some d
+  noted_point d h = point_noted d u (its_mutex s c) _ _ _ _ _ h
 
   -- what was decided, where that is told
-  told_so : (x : Option Point) (d : Decision) → decision u (mutex_of l (OnCondition c)) (decided_at (operation_of c) x) (reply_at x) ≡ Some d → (y : Point) × (x ≡ Some y) × (u ≡ d.thread) × (y.operation ≡ d.operation) × (y.reply ≡ d.reply)
+  told_so : (x : Option Point) (d : Decision) → decision u (its_mutex s c) (decided_at (operation_of c) x) (reply_at x) ≡ Some d → (y : Point) × (x ≡ Some y) × (u ≡ d.thread) × (y.operation ≡ d.operation) × (y.reply ≡ d.reply)
   told_so None d e = absurd cc
-  told_so (Some y) d e = let same = decided_is u (mutex_of l (OnCondition c)) y.operation y.reply d e in (y, refl, same.0, same.1, same.2)
+  told_so (Some y) d e = let same = decided_is u (its_mutex s c) y.operation y.reply d e in (y, refl, same.0, same.1, same.2)
 
   abbrev Told_point : Decision → Type 0
   Told_point d = (y : Point) × ((cond_onto s u p).point ≡ Some y) × (u ≡ d.thread) × (y.operation ≡ d.operation) × (y.reply ≡ d.reply)
@@ -254,46 +240,46 @@ module _ (s : State) (u : ℕ) (c : CondCall) (p : CondWhole) (inv : Kept s) (co
       (e.0, e.1, e.2 ∙ op, e.3 ∙ x)
 
   -- where a row leads
-  stage_row : (r : CondRow) → cond_onto s u p ≡ from_words p (to_led r) → (z.threads u).stage ≡ stage_at c p (after_words p (to_led r).row)
+  stage_row : (r : CondRow) → cond_onto s u p ≡ from_words p (to_led r) → ((cond_after s u c p).threads u).stage ≡ stage_at c p (after_words p (to_led r).row)
   stage_row r leads = stage_then ∙ ap (λ (g : CondOnward). stage_at c p g.phase) leads
 
   nothing_begins_at : Begins_nothing (facts_of (cond_note s u c p))
-  nothing_begins_at = begins_stepped u (mutex_of l (OnCondition c)) _ _ _ _ _
+  nothing_begins_at = begins_stepped u (its_mutex s c) _ _ _ _ _
 
-  unlocks_at : (d : Decision) → Told_point d → d.operation ≡ Operation.Unlock → CondMove s u c p → IsPast (z.threads u).stage
+  unlocks_at : (d : Decision) → Told_point d → d.operation ≡ Operation.Unlock → CondMove s u c p → IsPast ((cond_after s u c p).threads u).stage
   unlocks_at d told op (Before_release seen before later none same) = absurd (cc (sym none ∙ told.1))
   unlocks_at d told op (By_row r from going of needs counts leads) =
       let e = from_row r d leads told in
       subst IsPast (sym (stage_row r leads)) (past_there c p (to_led r).row (subst (λ (x : Option Decided). Unlocks x (to_led r).row) e.1 (does r from going).unlocks (e.2 ∙ op)))
 
-  past_at : IsPastIn p.phase → CondMove s u c p → IsPast (z.threads u).stage
+  past_at : IsPastIn p.phase → CondMove s u c p → IsPast ((cond_after s u c p).threads u).stage
   past_at h (Before_release seen before later none same) = absurd (past_before seen p.phase before h)
   past_at h (By_row r from going of needs counts leads) = subst IsPast (sym (stage_row r leads)) (past_there c p (to_led r).row ((does r from going).past (subst (λ (y : CondWhole). IsPastIn y.phase) from h)))
 
-  behind_at : (k : ℕ) → (condition_of c ≡ k → IsBehindIn (s.words (counter_place l k)) p.phase) → CondMove s u c p → IsBehind l z.words k (z.threads u).stage
+  behind_at : (k : ℕ) → (condition_of c ≡ k → IsBehindIn (s.words (counter_place s.layout k)) p.phase) → CondMove s u c p → IsBehind s.layout (cond_after s u c p).words k ((cond_after s u c p).threads u).stage
   behind_at k h move = grind (arith)
 
   abbrev CountsAt : Type 0
-  CountsAt = (z.words counter ≡ n + 1) × ((k : ℕ) → IsBehind l z.words k (z.threads u).stage)
+  CountsAt = ((cond_after s u c p).words (its_counter s c) ≡ n + 1) × ((k : ℕ) → IsBehind s.layout (cond_after s u c p).words k ((cond_after s u c p).threads u).stage)
 
   counts_at : (d : Decision) → Told_point d → Counts d.operation d.reply → CondMove s u c p → CountsAt
   counts_at d told h move = grind (arith)
 
-  sleeps_on : (k : ℕ) → slept_in (Condition (condition_of c)) (sleeps_at (cond_access p) (s.words (place_met l u (cond_access p)))) ≡ Some (Condition k) → (condition_of c ≡ k → IsBehindIn (s.words (counter_place l k)) p.phase) → CondMove s u c p → ⊥
+  sleeps_on : (k : ℕ) → slept_in (Condition (condition_of c)) (sleeps_at (cond_access p) (s.words (place_met s.layout u (cond_access p)))) ≡ Some (Condition k) → (condition_of c ≡ k → IsBehindIn (s.words (counter_place s.layout k)) p.phase) → CondMove s u c p → ⊥
   sleeps_on k e h move = grind (arith)
 
-  cond_makes : Makes s u (record { state = z; note = cond_note s u c p })
+  cond_makes : Makes s u (record { state = cond_after s u c p; note = cond_note s u c p })
   cond_makes = record {
     points = λ d h. (sym (point_told d h).2, pos, known);
     unlocks = λ d h op x. unlocks_at d (point_told d h) op moved.move;
     past = λ none h. past_at (subst IsPast is h) moved.move;
-    behind = λ k none h. behind_at k (subst (IsBehind l s.words k) is h) moved.move;
+    behind = λ k none h. behind_at k (subst (IsBehind s.layout s.words k) is h) moved.move;
     counts = λ d h counts. let made = counts_at d (point_told d h) counts moved.move in (c, p, is, made.0, made.1);
     sleeps = λ t k h b.
-        let noted = sleep_noted t (Condition k) u (mutex_of l (OnCondition c)) _ _ _ _ _ h in
-        sleeps_on k noted.1 (subst (IsBehind l s.words k) (ap (λ (y : ℕ). (s.threads y).stage) (sym noted.0) ∙ is) b) moved.move;
-    told = λ b h. subst (λ (y : Option Begun). IsTold l (z.threads u).stage y) (sym (nothing_begins_at.same u b))
-        (subst (λ (g : Stage). IsTold l g b) (sym stage_then) (told_at l c p (cond_onto s u p).phase b (subst (λ (g : Stage). IsTold l g b) is h)));
+        let noted = sleep_noted t (Condition k) u (its_mutex s c) _ _ _ _ _ h in
+        sleeps_on k noted.1 (subst (IsBehind s.layout s.words k) (ap (λ (y : ℕ). (s.threads y).stage) (sym noted.0) ∙ is) b) moved.move;
+    told = λ b h. subst (λ (y : Option Begun). IsTold s.layout ((cond_after s u c p).threads u).stage y) (sym (nothing_begins_at.same u b))
+        (subst (λ (g : Stage). IsTold s.layout g b) (sym stage_then) (told_at s.layout c p (cond_onto s u p).phase b (subst (λ (g : Stage). IsTold s.layout g b) is h)));
     others = λ t b apart. nothing_begins_at.same t b;
   }
 
@@ -342,7 +328,7 @@ makes s e inv counted =
     by_stage s t (Makes s t) (λ rests. nothing_makes s t)
     (λ o p is awake. call_makes s t o p inv pos known is)
     (λ c p is awake. subst (Makes s t)
-    (sym (went-is s t (mutex_of s.layout (OnCondition c)) (Condition (condition_of c)) (AtCondition c p) (cond_access p) (λ a. led_at c p (cond_led p a)) (cond_stepping s t c p inv pos known is).valid))
+    (sym (went-is s t (its_mutex s c) (Condition (condition_of c)) (AtCondition c p) (cond_access p) (λ a. led_at c p (cond_led p a)) (cond_stepping s t c p inv pos known is).valid))
     (cond_makes s t c p inv counted pos known is))
     (λ w is awake. walk_makes s t w))
     (λ t pos known alive. kill_makes s t)
@@ -419,39 +405,6 @@ told_run s (e ∷ es) inv counted t b h =
     subst (IsTold (run (happens s e).state es).layout ((run (happens s e).state es).threads t).stage) (sym (last_begun-append t b (facts_of (happens s e).note) (facts_among (notes (happens s e).state es))))
     (told_run (happens s e).state es (sound s e inv).kept (counted_on s e inv counted) t (last_begun t b (facts_of (happens s e).note)) (told_on s e inv counted t b h))
 
--- a note among those of a run is that of one of its events
-record Split (s : State) (a : List Note) (n : Note) (b : List Note) : Type 0 where
-  first : List Event
-  event : Event
-  rest : List Event
-  before : notes s first ≡ a
-  note : (happens (run s first) event).note ≡ n
-  behind : notes (happens (run s first) event).state rest ≡ b
-
-split : (s : State) (es : List Event) (a : List Note) (n : Note) (b : List Note) → notes s es ≡ a ++ n ∷ b → Split s a n b
-split s [] [] n b is = absurd cc
-split s [] (x ∷ a) n b is = absurd cc
-split s (e ∷ es) [] n b is = record { first = []; event = e; rest = es; before = refl; note = head is; behind = tail is }
-  where
-    head : (happens s e).note ∷ notes (happens s e).state es ≡ n ∷ b → (happens s e).note ≡ n
-    head same = cc
-
-    tail : (happens s e).note ∷ notes (happens s e).state es ≡ n ∷ b → notes (happens s e).state es ≡ b
-    tail same = cc
-split s (e ∷ es) (x ∷ a) n b is =
-    let later = split (happens s e).state es a n b (tail is) in
-    record { first = e ∷ later.first; event = later.event; rest = later.rest; before = λ i. head is i ∷ later.before i; note = later.note; behind = later.behind }
-  where
-    head : (happens s e).note ∷ notes (happens s e).state es ≡ x ∷ (a ++ n ∷ b) → (happens s e).note ≡ x
-    head same = cc
-
-    tail : (happens s e).note ∷ notes (happens s e).state es ≡ x ∷ (a ++ n ∷ b) → notes (happens s e).state es ≡ a ++ n ∷ b
-    tail same = cc
-
-facts_among-append : (xs ys : List Note) → facts_among (xs ++ ys) ≡ facts_among xs ++ facts_among ys
-facts_among-append [] ys = refl
-facts_among-append (x ∷ xs) ys = ap (λ (fs : List Fact). facts_of x ++ fs) (facts_among-append xs ys) ∙ sym (append_assoc (facts_of x) (facts_among xs) (facts_among ys))
-
 -- from a state in which no call was told
 module _ (s0 : State) (events : List Event) (inv : Kept s0) (counted : Counted s0) (untold : (t : ℕ) → IsTold s0.layout (s0.threads t).stage None) (t k : ℕ) (h : IsPassedBy t k (notes s0 events)) where
   release_at : Split s0 h.before h.release (h.between ++ h.count ∷ (h.later ++ h.sleep ∷ h.rest))
@@ -460,20 +413,14 @@ module _ (s0 : State) (events : List Event) (inv : Kept s0) (counted : Counted s
   abbrev s1 : State
   s1 = run s0 release_at.first
 
+  good1 : Kept s1 × Counted s1
+  good1 = (run_kept s0 release_at.first inv, run_counted s0 release_at.first inv counted)
+
   abbrev s2 : State
   s2 = (happens s1 release_at.event).state
 
-  inv1 : Kept s1
-  inv1 = run_kept s0 release_at.first inv
-
-  counted1 : Counted s1
-  counted1 = run_counted s0 release_at.first inv counted
-
-  inv2 : Kept s2
-  inv2 = (sound s1 release_at.event inv1).kept
-
-  counted2 : Counted s2
-  counted2 = counted_on s1 release_at.event inv1 counted1
+  good2 : Kept s2 × Counted s2
+  good2 = ((sound s1 release_at.event good1.0).kept, counted_on s1 release_at.event good1.0 good1.1)
 
   abbrev unlock : Decision
   unlock = record { thread = t; mutex = h.mutex; operation = Operation.Unlock; reply = OK }
@@ -482,10 +429,10 @@ module _ (s0 : State) (events : List Event) (inv : Kept s0) (counted : Counted s
   released = subst (λ (n : Note). IsAmong (Fact.Point unlock) (facts_of n)) (sym release_at.note) h.releases
 
   mine : (t ≡ caller release_at.event) × (1 ≤ caller release_at.event) × (caller release_at.event ≤ s1.layout.threads)
-  mine = (makes s1 release_at.event inv1 counted1).points unlock released
+  mine = (makes s1 release_at.event good1.0 good1.1).points unlock released
 
   past2 : IsPast (s2.threads t).stage
-  past2 = subst (λ (v : ℕ). IsPast (s2.threads v).stage) (sym mine.0) ((makes s1 release_at.event inv1 counted1).unlocks unlock released refl refl)
+  past2 = subst (λ (v : ℕ). IsPast (s2.threads v).stage) (sym mine.0) ((makes s1 release_at.event good1.0 good1.1).unlocks unlock released refl refl)
 
   count_at : Split s2 h.between h.count (h.later ++ h.sleep ∷ h.rest)
   count_at = split s2 release_at.rest h.between h.count (h.later ++ h.sleep ∷ h.rest) release_at.behind
@@ -493,20 +440,14 @@ module _ (s0 : State) (events : List Event) (inv : Kept s0) (counted : Counted s
   abbrev s3 : State
   s3 = run s2 count_at.first
 
+  good3 : Kept s3 × Counted s3
+  good3 = (run_kept s2 count_at.first good2.0, run_counted s2 count_at.first good2.0 good2.1)
+
   abbrev s4 : State
   s4 = (happens s3 count_at.event).state
 
-  inv3 : Kept s3
-  inv3 = run_kept s2 count_at.first inv2
-
-  counted3 : Counted s3
-  counted3 = run_counted s2 count_at.first inv2 counted2
-
-  inv4 : Kept s4
-  inv4 = (sound s3 count_at.event inv3).kept
-
-  counted4 : Counted s4
-  counted4 = counted_on s3 count_at.event inv3 counted3
+  good4 : Kept s4 × Counted s4
+  good4 = ((sound s3 count_at.event good3.0).kept, counted_on s3 count_at.event good3.0 good3.1)
 
   none_between : BeginsNone t (facts_among h.between)
   none_between = begins_first t (facts_among h.between) (facts_among (h.count ∷ h.later)) (subst (BeginsNone t) (facts_among-append h.between (h.count ∷ h.later)) h.same_call)
@@ -515,7 +456,7 @@ module _ (s0 : State) (events : List Event) (inv : Kept s0) (counted : Counted s
   none_later = begins_later t (facts_of h.count) (facts_among h.later) (begins_later t (facts_among h.between) (facts_among (h.count ∷ h.later)) (subst (BeginsNone t) (facts_among-append h.between (h.count ∷ h.later)) h.same_call))
 
   past3 : IsPast (s3.threads t).stage
-  past3 = past_run s2 count_at.first inv2 counted2 t (subst (λ (ns : List Note). BeginsNone t (facts_among ns)) (sym count_at.before) none_between) past2
+  past3 = past_run s2 count_at.first good2.0 good2.1 t (subst (λ (ns : List Note). BeginsNone t (facts_among ns)) (sym count_at.before) none_between) past2
 
   abbrev v : ℕ
   v = h.point.thread
@@ -523,7 +464,7 @@ module _ (s0 : State) (events : List Event) (inv : Kept s0) (counted : Counted s
   told3 : IsTold s3.layout (s3.threads v).stage (call_told v (h.before ++ h.release ∷ h.between))
   told3 =
       subst (IsTold s3.layout (s3.threads v).stage) calls
-      (told_run s2 count_at.first inv2 counted2 v _ (told_on s1 release_at.event inv1 counted1 v _ (told_run s0 release_at.first inv counted v None (untold v))))
+      (told_run s2 count_at.first good2.0 good2.1 v _ (told_on s1 release_at.event good1.0 good1.1 v _ (told_run s0 release_at.first inv counted v None (untold v))))
     where
       calls : last_begun v (last_begun v (last_begun v None (facts_among (notes s0 release_at.first))) (facts_of (happens s1 release_at.event).note)) (facts_among (notes s2 count_at.first)) ≡ call_told v (h.before ++ h.release ∷ h.between)
       calls =
@@ -534,12 +475,12 @@ module _ (s0 : State) (events : List Event) (inv : Kept s0) (counted : Counted s
 
   last3 : t ≤ s3.layout.threads
   last3 =
-      subst (λ (l : Layout'). t ≤ l.threads) (sym (run_layout s2 count_at.first inv2 ∙ (sound s1 release_at.event inv1).same))
+      subst (λ (l : Layout'). t ≤ l.threads) (sym (run_layout s2 count_at.first good2.0 ∙ (sound s1 release_at.event good1.0).same))
       (subst (λ (x : ℕ). x ≤ s1.layout.threads) (sym mine.0) mine.2)
 
   behind4 : IsBehind s4.layout s4.words k (s4.threads t).stage
   behind4 =
-      counted_by s3 count_at.event inv3 counted3 t k h.point (call_told v (h.before ++ h.release ∷ h.between)) (subst (λ (x : ℕ). 1 ≤ x) (sym mine.0) mine.1) last3 past3
+      counted_by s3 count_at.event good3.0 good3.1 t k h.point (call_told v (h.before ++ h.release ∷ h.between)) (subst (λ (x : ℕ). 1 ≤ x) (sym mine.0) mine.1) last3 past3
       (subst (λ (n : Note). IsAmong (Fact.Point h.point) (facts_of n)) (sym count_at.note) h.counts.0) h.counts.1 told3 h.counts.2
 
   sleep_at : Split s4 h.later h.sleep h.rest
@@ -547,6 +488,6 @@ module _ (s0 : State) (events : List Event) (inv : Kept s0) (counted : Counted s
 
   pub never_passed : ⊥
   never_passed =
-      (makes (run s4 sleep_at.first) sleep_at.event (run_kept s4 sleep_at.first inv4) (run_counted s4 sleep_at.first inv4 counted4)).sleeps t k
+      (makes (run s4 sleep_at.first) sleep_at.event (run_kept s4 sleep_at.first good4.0) (run_counted s4 sleep_at.first good4.0 good4.1)).sleeps t k
       (subst (λ (n : Note). IsAmong (Fact.Sleep t (Condition k)) (facts_of n)) (sym sleep_at.note) h.sleeps)
-      (behind_run s4 sleep_at.first inv4 counted4 t k (subst (λ (ns : List Note). BeginsNone t (facts_among ns)) (sym sleep_at.before) none_later) behind4)
+      (behind_run s4 sleep_at.first good4.0 good4.1 t k (subst (λ (ns : List Note). BeginsNone t (facts_among ns)) (sym sleep_at.before) none_later) behind4)

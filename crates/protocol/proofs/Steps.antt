@@ -1,7 +1,7 @@
 -- One access of a call, on the words and the threads of the machine.
 use Rattle.std.proofs.Common.{◌≡◌, ℕ, ◌<◌, Bool, true, Option, Some, None, List, [], refl, sym, ap, subst, arith}
 use Rattle.protocol.proofs.Vocabulary.{CondCall, CondOnward, condition_of, CondWhole, cond_access, cond_led, Queue, Mutex, Condition, Access, Answer, Operation, Object, Layout'}
-use Rattle.protocol.proofs.Vocabulary.{cell_place, changed, sleeps_at, word_among, Permits, Run, object_of, fresh, acquires, fields_of, Reply, OK, EOWNERDEAD, Onward, Whole, whole_access}
+use Rattle.protocol.proofs.Vocabulary.{counter_place, cell_place, changed, sleeps_at, word_among, Permits, Run, object_of, fresh, acquires, fields_of, Reply, OK, EOWNERDEAD, Onward, Whole, whole_access}
 use Rattle.protocol.proofs.Vocabulary.{whole_led, decided, Joins, Thread, Stage, Calling, AtCondition, Op, OnCondition, mutex_of, Note, Stepped, State, put, is_valid, is_met}
 use Rattle.protocol.proofs.Vocabulary.{place_met, answer_among, queue_after, woken_by, moved_by, joined, answer_of, woken, led, led_at, went, held_after, decision, slept_in, seen}
 use Rattle.protocol.proofs.Vocabulary.{if◌then◌else◌, nat_lt, nat_tests, Fault}
@@ -200,3 +200,17 @@ cond_step s t c p = step_of (AtCondition c p) (mutex_of s.layout (OnCondition c)
 
 abbrev pub cond_note : State → ℕ → CondCall → CondWhole → Note
 cond_note s t c p = note_of s t (mutex_of s.layout (OnCondition c)) (Condition (condition_of c)) (cond_access p) (led_at c p (cond_onto s t p))
+
+-- what such a call is about: its mutex, that one's cell, and its counter
+abbrev pub its_mutex : State → CondCall → ℕ
+its_mutex s c = mutex_of s.layout (OnCondition c)
+
+abbrev pub its_cell : State → CondCall → ℕ
+its_cell s c = cell_place s.layout (its_mutex s c)
+
+abbrev pub its_counter : State → CondCall → ℕ
+its_counter s c = counter_place s.layout (condition_of c)
+
+-- the state that its access leaves
+abbrev pub cond_after : State → ℕ → CondCall → CondWhole → State
+cond_after s t c p = after s t (cond_step s t c p)

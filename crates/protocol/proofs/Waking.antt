@@ -66,37 +66,33 @@ turns-among t f (g ∷ gs) h = grind (arith, turns-among t f gs)
 
 -- ---- the facts of a note
 
+-- facts, one of each thread and about that thread alone
+module _ (t : ℕ) (tells : ℕ → Fact) (of_it : (u : ℕ) → about t (tells u) ≡ (u == t)) where
+  none_told : (us : List ℕ) → stands_in t us ≡ false → turns t (map tells us) ≡ []
+  none_told [] out = refl
+  none_told (u ∷ us) out = grind (arith, of_it u, none_told us)
+
+  one_told : (us : List ℕ) → Once us → stands_in t us ≡ true → turns t (map tells us) ≡ tells t ∷ []
+  one_told [] once stands = absurd cc
+  one_told (u ∷ us) once stands = ap (λ (b : Bool). if b then tells u ∷ turns t (map tells us) else turns t (map tells us)) (of_it u) ∙ go (u == t) refl stands (one_told us once.1)
+    where
+      go : (b : Bool) → (u == t) ≡ b → (if b then true else stands_in t us) ≡ true → (stands_in t us ≡ true → turns t (map tells us) ≡ tells t ∷ []) → (if b then tells u ∷ turns t (map tells us) else turns t (map tells us)) ≡ tells t ∷ []
+      go true e h later =
+          let same : u ≡ t = eqb-true u t e in
+          (λ i. tells (same i) ∷ none_told us (sym (ap (λ (v : ℕ). stands_in v us) same) ∙ once.0) i)
+      go false e h later = later h
+
 no_wakes : (t : ℕ) (us : List ℕ) → stands_in t us ≡ false → turns t (map Wake us) ≡ []
-no_wakes t [] out = refl
-no_wakes t (u ∷ us) out = grind (arith, no_wakes t us)
+no_wakes t = none_told t Wake (λ u. refl)
 
 no_moves : (t m : ℕ) (us : List ℕ) → stands_in t us ≡ false → turns t (map (moves_to m) us) ≡ []
-no_moves t m [] out = refl
-no_moves t m (u ∷ us) out = grind (arith, no_moves t m us)
+no_moves t m = none_told t (moves_to m) (λ u. refl)
 
 one_move : (t m : ℕ) (us : List ℕ) → Once us → stands_in t us ≡ true → turns t (map (moves_to m) us) ≡ Move t m ∷ []
-one_move t m [] once stands = absurd cc
-one_move t m (u ∷ us) once stands = go (u == t) refl (one_move t m us once.1) stands
-  where
-    go : (b : Bool) → (u == t) ≡ b → (stands_in t us ≡ true → turns t (map (moves_to m) us) ≡ Move t m ∷ []) → (if b then true else stands_in t us) ≡ true
-        → (if b then Move u m ∷ turns t (map (moves_to m) us) else turns t (map (moves_to m) us)) ≡ Move t m ∷ []
-    go true e rest h =
-        let same : u ≡ t = eqb-true u t e in
-        let out : stands_in t us ≡ false = sym (ap (λ (v : ℕ). stands_in v us) same) ∙ once.0 in
-        ap (λ (v : ℕ). Move v m ∷ turns t (map (moves_to m) us)) same ∙ ap (λ (zs : List Fact). Move t m ∷ zs) (no_moves t m us out)
-    go false e rest h = rest h
+one_move t m = one_told t (moves_to m) (λ u. refl)
 
 one_wake : (t : ℕ) (us : List ℕ) → Once us → stands_in t us ≡ true → turns t (map Wake us) ≡ Wake t ∷ []
-one_wake t [] once stands = absurd cc
-one_wake t (u ∷ us) once stands = go (u == t) refl (one_wake t us once.1) stands
-  where
-    go : (b : Bool) → (u == t) ≡ b → (stands_in t us ≡ true → turns t (map Wake us) ≡ Wake t ∷ []) → (if b then true else stands_in t us) ≡ true
-        → (if b then Wake u ∷ turns t (map Wake us) else turns t (map Wake us)) ≡ Wake t ∷ []
-    go true e rest h =
-        let same : u ≡ t = eqb-true u t e in
-        let out : stands_in t us ≡ false = sym (ap (λ (v : ℕ). stands_in v us) same) ∙ once.0 in
-        ap (λ (v : ℕ). Wake v ∷ turns t (map Wake us)) same ∙ ap (λ (zs : List Fact). Wake t ∷ zs) (no_wakes t us out)
-    go false e rest h = rest h
+one_wake t = one_told t Wake (λ u. refl)
 
 nothing_behind : (t : ℕ) (fs gs : List Fact) → turns t gs ≡ [] → turns t (fs ++ gs) ≡ turns t fs
 nothing_behind t fs gs e = turns-append t fs gs ∙ ap (λ (zs : List Fact). turns t fs ++ zs) e ∙ append-nil (turns t fs)

@@ -1,5 +1,5 @@
 -- Where each access of a walk leads, and what is left to walk then.
-use Rattle.std.proofs.Common.{◌≡◌, ◌≢◌, ◌⊎◌, inl, inr, ⊎_elim, ℕ, suc, ◌+◌, ◌<◌, ◌≤◌, ◌==◌, Bool, true, false, ◌&&◌, Some, None, List, [], ◌∷◌, length, refl, sym, ap, ◌∙◌, subst, arith, eqb-true}
+use Rattle.std.proofs.Common.{◌≡◌, ◌≢◌, ◌⊎◌, inl, inr, ⊎_elim, ℕ, suc, ◌+◌, ◌<◌, ◌≤◌, ◌==◌, Bool, true, false, ◌&&◌, Option, Some, None, List, [], ◌∷◌, length, refl, sym, ap, ◌∙◌, subst, arith, eqb-true}
 use Rattle.protocol.proofs.Vocabulary.{Rest, Part, LoadFirst, LoadOffset, LoadPending, LoadNext, LoadWord, Mark, WakeOne, sum_of, Object, AreDifferent, Leads, Layout', IsLayout}
 use Rattle.protocol.proofs.Vocabulary.{head_place, entry_place, cell_place, owner_of, fields_of, State, seen, if◌then◌else◌, eqb-false, ◌||◌, apart-among}
 use Rattle.keys.specs.Chains.{IsAmong}
@@ -92,37 +92,14 @@ module _ (s : State) (t : ℕ) (layout : IsLayout s.layout) (pos : 1 ≤ t) wher
           next_leads : Leads s.words h (s.words r.entry) xs
           next_leads = subst (λ (e : ℕ). Leads s.words h (s.words e) xs) (sym leads.0) leads.1
 
-          rest_different : AreDifferent (h ∷ xs)
-          rest_different = (different.0.1, different.1.1)
-
-          skipped : r.entry ≡ r.pending → LeftOf s t (further r (s.words r.entry)) None
-          skipped is = (
+          -- behind that entry, which is pending, or is treated now
+          rest_left : (out : Option ℕ) → ((k : ℕ) → entry_place s.layout k ≡ x → (r.pending ≡ entry_place s.layout k) ⊎ (out ≡ Some k)) → ((y : ℕ) → IsAmong y xs → (k : ℕ) → y ≡ entry_place s.layout k → out ≢ Some k) → LeftOf s t (further r (s.words r.entry)) out
+          rest_left out of_first apart = (
             xs,
             record {
               leads = next_leads;
-              different = rest_different;
-              entries = λ y among. let k = later y among in (k.0, k.1, k.2, k.3, k.4);
-              all = λ k below own. ⊎_elim
-                  (λ among. listed k (subst (IsAmong (entry_place s.layout k)) same among))
-                  inr
-                  (l.all k below own);
-              pending = l.pending;
-            },
-            offset,
-            size,
-          )
-            where
-              listed : (k : ℕ) → (entry_place s.layout k ≡ x) ⊎ IsAmong (entry_place s.layout k) xs → IsAmong (entry_place s.layout k) xs ⊎ ((r.pending ≡ entry_place s.layout k) ⊎ (None ≡ Some k))
-              listed k (inl here) = inr (inl (sym is ∙ leads.0 ∙ sym here))
-              listed k (inr among) = inl among
-
-          treated : LeftOf s t (further r (s.words r.entry)) (Some first.0)
-          treated = (
-            xs,
-            record {
-              leads = next_leads;
-              different = rest_different;
-              entries = λ y among. let k = later y among in (k.0, k.1, k.2, k.3, λ e. apart-among x y xs different.1.0 among (first.2 ∙ ap (entry_place s.layout) (sym (some_same first.0 k.0 e)) ∙ sym k.2));
+              different = (different.0.1, different.1.1);
+              entries = λ y among. let k = later y among in (k.0, k.1, k.2, k.3, apart y among k.0 k.2);
               all = λ k below own. ⊎_elim
                   (λ among. listed k (subst (IsAmong (entry_place s.layout k)) same among))
                   (λ rest. inr (⊎_elim inl (λ no_one. absurd (cc no_one)) rest))
@@ -133,16 +110,18 @@ module _ (s : State) (t : ℕ) (layout : IsLayout s.layout) (pos : 1 ≤ t) wher
             size,
           )
             where
-              listed : (k : ℕ) → (entry_place s.layout k ≡ x) ⊎ IsAmong (entry_place s.layout k) xs → IsAmong (entry_place s.layout k) xs ⊎ ((r.pending ≡ entry_place s.layout k) ⊎ (Some first.0 ≡ Some k))
-              listed k (inl here) = inr (inr (ap Some (let a = here in let b = first.2 in omega (arith, a, b))))
+              listed : (k : ℕ) → (entry_place s.layout k ≡ x) ⊎ IsAmong (entry_place s.layout k) xs → IsAmong (entry_place s.layout k) xs ⊎ ((r.pending ≡ entry_place s.layout k) ⊎ (out ≡ Some k))
+              listed k (inl here) = inr (of_first k here)
               listed k (inr among) = inl among
 
           go : (b : Bool) → (r.entry == r.pending) ≡ b → Arrived s t (if b then forward h (further r (s.words r.entry)) else LoadWord (sum_of r.entry r.offset) (Part.List (further r (s.words r.entry))))
-          go true e = forward_arrives (further r (s.words r.entry)) (skipped (eqb-true r.entry r.pending e))
+          go true e = forward_arrives (further r (s.words r.entry)) (rest_left None (λ k here. inl (sym (eqb-true r.entry r.pending e) ∙ leads.0 ∙ sym here)) (λ y among k place none. cc none))
           go false e = (
             first.0,
             (first.1, ap (λ (o : ℕ). sum_of r.entry o) offset ∙ ap (λ (x : ℕ). sum_of x 18446744073709551615) (leads.0 ∙ first.2) ∙ cell_of s.layout first.0 layout first.1),
-            treated,
+            rest_left (Some first.0)
+                (λ k here. inr (ap Some (let a = here in let b = first.2 in omega (arith, a, b))))
+                (λ y among k place is. apart-among x y xs different.1.0 among (first.2 ∙ ap (entry_place s.layout) (sym (some_same first.0 k is)) ∙ sym place)),
           )
 
   -- a mutex that isn't t's (any more) needs no treatment
