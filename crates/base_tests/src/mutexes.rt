@@ -1,8 +1,8 @@
 //! The table of the object, the places of a small layout and each printed text.
 
 use keys::{
-    HELD_LIMIT, Key, Layout, LayoutFault, NoMem, Object, Operation, bucket_of, key_of,
-    places_differ, trims_are_right,
+    HELD_LIMIT, Key, Layout, LayoutFault, NoMem, Object, Operation, ParseOperationError, bucket_of,
+    key_of, operations_are_read_back, places_differ, trims_are_right,
 };
 use lockword::{Reply, Tid};
 use std::test::Fail;
@@ -429,7 +429,23 @@ fn words_of_operations(rt: HostRuntime) {
     ];
     for (operation, word) in OPERATIONS.into_iter().zip(words) {
         assert_eq!(rt; operation.word(), word);
+        assert_eq!(rt; word.parse(), Ok(operation));
     }
+    operations_are_read_back();
+}
+
+#[test]
+fn other_texts_are_no_operations(rt: HostRuntime) -> Result<(), Fail> {
+    for text in ["", "Lock", "lock ", "try_lock", "begin"] {
+        assert_eq!(rt;
+            text.parse::<Operation>(),
+            Err(ParseOperationError),
+            "{text}"
+        );
+    }
+    let printed = format!(in rt.alloc(); "{}", ParseOperationError)?;
+    assert_eq!(rt; printed.as_str(), "no operation has this word");
+    Ok(())
 }
 
 #[test]

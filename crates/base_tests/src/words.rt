@@ -1,6 +1,6 @@
 //! Each call once, with words written out by hand from the ABI's bits (robust-futex-ABI).
 
-use lockword::{Cell, Reply, Tid};
+use lockword::{Cell, ParseReplyError, Reply, Tid, replies_are_read_back};
 use std::test::Fail;
 
 const WAITERS: u64 = 0x8000_0000;
@@ -94,5 +94,17 @@ fn replies_have_numbers_and_names(rt: HostRuntime) {
         (Reply::XSTATE, 1004, "X_STATE"),
     ] {
         assert_eq!(rt; (reply.number(), reply.name()), (number, name));
+        assert_eq!(rt; name.parse(), Ok(reply));
     }
+    replies_are_read_back();
+}
+
+#[test]
+fn other_texts_are_no_replies(rt: HostRuntime) -> Result<(), Fail> {
+    for text in ["", "ok", "OK ", "XHELD", "EOWNERDIED", "0"] {
+        assert_eq!(rt; text.parse::<Reply>(), Err(ParseReplyError), "{text}");
+    }
+    let printed = format!(in rt.alloc(); "{}", ParseReplyError)?;
+    assert_eq!(rt; printed.as_str(), "no reply has this name");
+    Ok(())
 }

@@ -1,3 +1,4 @@
 pub mod Owners
 pub mod Objects
 pub mod Trims
+pub mod Words

@@ -1,5 +1,6 @@
 -- The words that scripts and traces write for operations.
-use Rattle.std.specs.Prelude.{ℕ, List, codes}
+use Rattle.std.specs.Prelude.{ℕ, ◌≡◌, List, [], ◌∷◌, Option, Some, find, codes}
+use Rattle.std.specs.Str.{bytes_eq}
 use Rattle.keys.specs.declared.point.Operation.{Operation}
 use Rattle.keys.specs.declared.point.Operation.TheVariants.{Lock, TryLock, Unlock, Consistent, Wait, Signal, Broadcast, Death}
 
@@ -12,3 +13,16 @@ operation_word Wait = codes "wait"
 operation_word Signal = codes "signal"
 operation_word Broadcast = codes "broadcast"
 operation_word Death = codes "death"
+
+-- every operation
+abbrev pub all_operations : List Operation
+all_operations = Lock ∷ TryLock ∷ Unlock ∷ Consistent ∷ Wait ∷ Signal ∷ Broadcast ∷ Death ∷ []
+
+-- the operation that has this word
+unfoldable pub operation_of : List ℕ → Option Operation
+operation_of text = find (λ op. bytes_eq (operation_word op) text) all_operations
+
+-- an operation's word is read as that operation, and no other text is
+pub record OperationsAreReadBack : Type 0 where
+  pub back : (op : Operation) → operation_of (operation_word op) ≡ Some op
+  pub only : (text : List ℕ) (op : Operation) → operation_of text ≡ Some op → text ≡ operation_word op

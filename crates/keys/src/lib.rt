@@ -2,7 +2,8 @@
 //!
 //! [`Layout`] gives each word its place: robust-list heads, the cells and links of mutexes, the counters of condition variables. Valid places are pairwise
 //! different (`places_differ`). [`Access`] and [`Answer`] are the steps that programs take on words, a trim's with its meaning (`trims_are_right`); [`Point`] is the
-//! step at which an operation takes effect. [`Object`] is the mutex with no bits: what POSIX says that each operation answers and leaves.
+//! step at which an operation takes effect, and an [`Operation`]'s word is read back as that operation (`operations_are_read_back`). [`Object`] is the mutex with no
+//! bits: what POSIX says that each operation answers and leaves.
 #![tactic(auto)]
 
 mod access;
@@ -17,4 +18,6 @@ pub use key::{Key, bucket_of, key_of};
 pub use layout::{CONDITION_LIMIT, HEAD_SIZE, Layout, LayoutFault, places_differ};
 pub use memory::NoMem;
 pub use object::{HELD_LIMIT, Object};
-pub use point::{Decision, Operation, Point, Progress};
+pub use point::{
+    Decision, Operation, ParseOperationError, Point, Progress, operations_are_read_back,
+};

@@ -1,8 +1,13 @@
 //! Where operations take effect.
 ghost use Rattle.std.specs.Prelude.{◌≡◌};
-ghost use Rattle.keys.specs.Words.{operation_word};
+ghost use Rattle.std.specs.Array.Iter.{array_into_iter_items};
+ghost use Rattle.std.specs.Result.{result_ok};
+ghost use Rattle.keys.specs.Words.{OperationsAreReadBack, all_operations, operation_of, operation_word};
 
 use lockword::{Reply, Tid};
+use std::array;
+use std::str::FromStr;
+use thiserror::Error;
 
 /// What is done to a mutex. A condition variable's calls are operations on its mutex, and an owner's death is one too.
 #[derive(Clone, Copy, Debug, PartialEq, Eq)]
@@ -35,6 +40,49 @@ impl Operation {
         }
     }
 }
+
+/// A text that is no operation's word.
+#[derive(Clone, Copy, Debug, PartialEq, Eq, Error)]
+#[error("no operation has this word")]
+pub struct ParseOperationError;
+
+/// Every operation.
+fn operations() -> array::IntoIter<Operation, 8>
+    ensures { array_into_iter_items result ≡ all_operations }
+{
+    [
+        Operation::Lock,
+        Operation::TryLock,
+        Operation::Unlock,
+        Operation::Consistent,
+        Operation::Wait,
+        Operation::Signal,
+        Operation::Broadcast,
+        Operation::Death,
+    ]
+    .into_iter()
+}
+
+/// Reads an operation's word, a death's too.
+impl FromStr for Operation {
+    type Err = ParseOperationError;
+
+    ghost from_str_gives = { λ text r. result_ok r ≡ operation_of text };
+
+    fn from_str(text: &str) -> Result<Operation, ParseOperationError> {
+        for operation in operations() {
+            if operation.word() == text {
+                return Ok(operation);
+            }
+        }
+        Err(ParseOperationError)
+    }
+}
+
+/// An operation's word is read as that operation, and no other text is.
+pub fn operations_are_read_back()
+    ensures { OperationsAreReadBack }
+{}
 
 /// The access that decided an operation: its linearization point.
 #[derive(Clone, Copy, Debug, PartialEq, Eq)]

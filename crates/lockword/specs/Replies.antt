@@ -1,5 +1,6 @@
 -- The numbers and the printed names of replies (errno(3); those with an X are this project's own).
-use Rattle.std.specs.Prelude.{ℕ, List, codes}
+use Rattle.std.specs.Prelude.{ℕ, ◌≡◌, List, [], ◌∷◌, Option, Some, find, codes}
+use Rattle.std.specs.Str.{bytes_eq}
 use Rattle.lockword.specs.declared.reply.Reply.{Reply}
 use Rattle.lockword.specs.declared.reply.Reply.TheVariants.{OK, EPERM, ESRCH, EAGAIN, EFAULT, EBUSY, EINVAL, EDEADLK, EOWNERDEAD, ENOTRECOVERABLE, XNOMEM, XRACED, XHELD, XFULL, XSTATE}
 
@@ -36,3 +37,16 @@ reply_word XRACED = codes "X_RACED"
 reply_word XHELD = codes "X_HELD"
 reply_word XFULL = codes "X_FULL"
 reply_word XSTATE = codes "X_STATE"
+
+-- every reply
+abbrev pub all_replies : List Reply
+all_replies = OK ∷ EPERM ∷ ESRCH ∷ EAGAIN ∷ EFAULT ∷ EBUSY ∷ EINVAL ∷ EDEADLK ∷ EOWNERDEAD ∷ ENOTRECOVERABLE ∷ XNOMEM ∷ XRACED ∷ XHELD ∷ XFULL ∷ XSTATE ∷ []
+
+-- the reply that has this name
+unfoldable pub reply_of : List ℕ → Option Reply
+reply_of text = find (λ x. bytes_eq (reply_word x) text) all_replies
+
+-- a reply's name is read as that reply, and no other text is
+pub record RepliesAreReadBack : Type 0 where
+  pub back : (x : Reply) → reply_of (reply_word x) ≡ Some x
+  pub only : (text : List ℕ) (x : Reply) → reply_of text ≡ Some x → text ≡ reply_word x

@@ -1,6 +1,12 @@
 //! Replies of calls.
 ghost use Rattle.std.specs.Prelude.{◌≡◌};
-ghost use Rattle.lockword.specs.Replies.{number_of, reply_word};
+ghost use Rattle.std.specs.Array.Iter.{array_into_iter_items};
+ghost use Rattle.std.specs.Result.{result_ok};
+ghost use Rattle.lockword.specs.Replies.{RepliesAreReadBack, all_replies, number_of, reply_of, reply_word};
+
+use std::array;
+use std::str::FromStr;
+use thiserror::Error;
 
 /// How a call answers. The names and numbers are Linux's (errno(3)); those with an X are this project's own.
 #[derive(Clone, Copy, Debug, PartialEq, Eq)]
@@ -74,3 +80,53 @@ impl Reply {
         }
     }
 }
+
+/// A text that is no reply's name.
+#[derive(Clone, Copy, Debug, PartialEq, Eq, Error)]
+#[error("no reply has this name")]
+pub struct ParseReplyError;
+
+/// Every reply, in the order of their numbers.
+fn replies() -> array::IntoIter<Reply, 15>
+    ensures { array_into_iter_items result ≡ all_replies }
+{
+    [
+        Reply::OK,
+        Reply::EPERM,
+        Reply::ESRCH,
+        Reply::EAGAIN,
+        Reply::EFAULT,
+        Reply::EBUSY,
+        Reply::EINVAL,
+        Reply::EDEADLK,
+        Reply::EOWNERDEAD,
+        Reply::ENOTRECOVERABLE,
+        Reply::XNOMEM,
+        Reply::XRACED,
+        Reply::XHELD,
+        Reply::XFULL,
+        Reply::XSTATE,
+    ]
+    .into_iter()
+}
+
+/// Reads a reply's name.
+impl FromStr for Reply {
+    type Err = ParseReplyError;
+
+    ghost from_str_gives = { λ text r. result_ok r ≡ reply_of text };
+
+    fn from_str(text: &str) -> Result<Reply, ParseReplyError> {
+        for reply in replies() {
+            if reply.name() == text {
+                return Ok(reply);
+            }
+        }
+        Err(ParseReplyError)
+    }
+}
+
+/// A reply's name is read as that reply, and no other text is.
+pub fn replies_are_read_back()
+    ensures { RepliesAreReadBack }
+{}
