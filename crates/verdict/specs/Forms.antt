@@ -2,12 +2,12 @@
 use Rattle.std.specs.Prelude.{ℕ, ◌==◌, List, [], ◌∷◌, Option, Some, None, if◌then◌else◌, codes}
 use Rattle.std.specs.Str.{bytes_eq}
 use Rattle.std.specs.Str.Parse.{digits_value}
-use Rattle.lockword.specs.declared.reply.Reply.{Reply}
-use Rattle.lockword.specs.declared.reply.Reply.TheVariants.{OK, EPERM, ESRCH, EAGAIN, EFAULT, EBUSY, EINVAL, EDEADLK, EOWNERDEAD, ENOTRECOVERABLE, XNOMEM, XRACED, XHELD, XFULL, XSTATE}
+use Rattle.lockword.specs.Replies.{reply_of}
 use Rattle.lines.specs.Numbers.{is_number, within}
 use Rattle.lines.specs.Lines.{words_of}
 use Rattle.keys.specs.declared.point.Operation.{Operation}
-use Rattle.keys.specs.declared.point.Operation.TheVariants.{Lock, TryLock, Unlock, Consistent, Wait, Signal, Broadcast}
+use Rattle.keys.specs.declared.point.Operation.TheVariants.{Lock, TryLock, Unlock, Consistent, Wait, Signal, Broadcast, Death}
+use Rattle.keys.specs.Words.{operation_of}
 use Rattle.verdict.specs.declared.form.Said.{Said}
 use Rattle.verdict.specs.declared.form.Said.TheVariants as said
 use Rattle.verdict.specs.declared.form.Form.{Form}
@@ -39,42 +39,34 @@ mutex_word w = numbered 109 w
 abbrev pub condition_word : List ℕ → Option (Option ℕ)
 condition_word w = numbered 99 w
 
--- the calls on a mutex, and those on a condition variable
+-- the calls on a mutex
+abbrev pub of_mutex : Operation → Option Operation
+of_mutex Lock = Some Lock
+of_mutex TryLock = Some TryLock
+of_mutex Unlock = Some Unlock
+of_mutex Consistent = Some Consistent
+of_mutex op = None
+
 abbrev pub mutex_operation : List ℕ → Option Operation
-mutex_operation w = if bytes_eq w (codes "lock") then Some Lock
-    else (if bytes_eq w (codes "trylock") then Some TryLock
-    else (if bytes_eq w (codes "unlock") then Some Unlock
-    else (if bytes_eq w (codes "consistent") then Some Consistent else None)))
+mutex_operation w = operation_of w >>= of_mutex
+
+-- those on a condition variable
+abbrev pub of_condition : Operation → Option Operation
+of_condition Wait = Some Wait
+of_condition Signal = Some Signal
+of_condition Broadcast = Some Broadcast
+of_condition op = None
 
 abbrev pub condition_operation : List ℕ → Option Operation
-condition_operation w = if bytes_eq w (codes "wait") then Some Wait
-    else (if bytes_eq w (codes "signal") then Some Signal
-    else (if bytes_eq w (codes "broadcast") then Some Broadcast else None))
+condition_operation w = operation_of w >>= of_condition
 
-abbrev pub either_of : {A : Type 0} → Option A → Option A → Option A
-either_of (Some x) o = Some x
-either_of None o = o
+-- any call: a death is none
+abbrev pub of_call : Operation → Option Operation
+of_call Death = None
+of_call op = Some op
 
-abbrev pub operation_of : List ℕ → Option Operation
-operation_of w = either_of (mutex_operation w) (condition_operation w)
-
--- a reply by its name
-abbrev pub reply_of : List ℕ → Option Reply
-reply_of w = if bytes_eq w (codes "OK") then Some OK
-    else (if bytes_eq w (codes "EPERM") then Some EPERM
-    else (if bytes_eq w (codes "ESRCH") then Some ESRCH
-    else (if bytes_eq w (codes "EAGAIN") then Some EAGAIN
-    else (if bytes_eq w (codes "EFAULT") then Some EFAULT
-    else (if bytes_eq w (codes "EBUSY") then Some EBUSY
-    else (if bytes_eq w (codes "EINVAL") then Some EINVAL
-    else (if bytes_eq w (codes "EDEADLK") then Some EDEADLK
-    else (if bytes_eq w (codes "EOWNERDEAD") then Some EOWNERDEAD
-    else (if bytes_eq w (codes "ENOTRECOVERABLE") then Some ENOTRECOVERABLE
-    else (if bytes_eq w (codes "X_NOMEM") then Some XNOMEM
-    else (if bytes_eq w (codes "X_RACED") then Some XRACED
-    else (if bytes_eq w (codes "X_HELD") then Some XHELD
-    else (if bytes_eq w (codes "X_FULL") then Some XFULL
-    else (if bytes_eq w (codes "X_STATE") then Some XSTATE else None))))))))))))))
+abbrev pub call_operation : List ℕ → Option Operation
+call_operation w = operation_of w >>= of_call
 
 -- `trace T M C`
 abbrev pub head_form : List (List ℕ) → Option HeadForm
@@ -123,7 +115,7 @@ begin_on_said u a c m = condition_operation a >>= λ operation. condition_word c
 
 -- `point tT mM OP REPLY`
 abbrev pub point_said : Option ℕ → List ℕ → List ℕ → List ℕ → Option Said
-point_said u m a x = mutex_word m >>= λ mutex. operation_of a >>= λ operation. reply_of x >>= λ reply. Some (said.Point u mutex operation reply)
+point_said u m a x = mutex_word m >>= λ mutex. call_operation a >>= λ operation. reply_of x >>= λ reply. Some (said.Point u mutex operation reply)
 
 abbrev pub many_form : List ℕ → List ℕ → List ℕ → List ℕ → List ℕ → List ℕ → Option Form
 many_form e w t a b c = number_of e >>= λ i. thread_word t >>= λ u.

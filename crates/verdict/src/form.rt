@@ -1,7 +1,9 @@
 //! The kinds of line of a trace.
 
 ghost use Rattle.std.specs.Prelude.{◌≡◌, [], ◌∷◌};
-ghost use Rattle.verdict.specs.Forms.{operation_of, condition_operation, end_form, form_of, head_form, mark_form, mutex_operation, object_said, object_form, point_said, begin_on_said, begin_form, many_form, reply_of, sleep_said};
+ghost use Rattle.verdict.specs.Forms.{call_operation, condition_operation, end_form, form_of, head_form, mark_form, mutex_operation, object_said, object_form, point_said, begin_on_said, begin_form, many_form, sleep_said};
+ghost use Rattle.keys.specs.Words.{operation_of};
+ghost use Rattle.lockword.specs.Replies.{reply_of};
 ghost use Rattle.lines.specs.Lines.{words_of};
 
 use crate::words::{number, numbered};
@@ -49,15 +51,21 @@ pub struct HeadForm {
     pub conditions: Spelled,
 }
 
+/// The operation with this word.
+fn operation(word: &str) -> Option<Operation>
+    ensures { result ≡ operation_of word.now }
+{
+    word.parse::<Operation>().ok()
+}
+
 /// A call on a mutex, by its word.
 fn mutex_operation(word: &str) -> Option<Operation>
     ensures { result ≡ mutex_operation word.now }
 {
-    match word {
-        "lock" => Some(Operation::Lock),
-        "trylock" => Some(Operation::TryLock),
-        "unlock" => Some(Operation::Unlock),
-        "consistent" => Some(Operation::Consistent),
+    let operation = operation(word)?;
+    match operation {
+        Operation::Lock | Operation::TryLock => Some(operation),
+        Operation::Unlock | Operation::Consistent => Some(operation),
         _ => None,
     }
 }
@@ -66,21 +74,20 @@ fn mutex_operation(word: &str) -> Option<Operation>
 fn condition_operation(word: &str) -> Option<Operation>
     ensures { result ≡ condition_operation word.now }
 {
-    match word {
-        "wait" => Some(Operation::Wait),
-        "signal" => Some(Operation::Signal),
-        "broadcast" => Some(Operation::Broadcast),
+    let operation = operation(word)?;
+    match operation {
+        Operation::Wait | Operation::Signal | Operation::Broadcast => Some(operation),
         _ => None,
     }
 }
 
 /// Any call, by its word.
-fn operation(word: &str) -> Option<Operation>
-    ensures { result ≡ operation_of word.now }
+fn call_operation(word: &str) -> Option<Operation>
+    ensures { result ≡ call_operation word.now }
 {
-    match mutex_operation(word) {
-        Some(operation) => Some(operation),
-        None => condition_operation(word),
+    match operation(word)? {
+        Operation::Death => None,
+        operation => Some(operation),
     }
 }
 
@@ -88,24 +95,7 @@ fn operation(word: &str) -> Option<Operation>
 fn reply(word: &str) -> Option<Reply>
     ensures { result ≡ reply_of word.now }
 {
-    match word {
-        "OK" => Some(Reply::OK),
-        "EPERM" => Some(Reply::EPERM),
-        "ESRCH" => Some(Reply::ESRCH),
-        "EAGAIN" => Some(Reply::EAGAIN),
-        "EFAULT" => Some(Reply::EFAULT),
-        "EBUSY" => Some(Reply::EBUSY),
-        "EINVAL" => Some(Reply::EINVAL),
-        "EDEADLK" => Some(Reply::EDEADLK),
-        "EOWNERDEAD" => Some(Reply::EOWNERDEAD),
-        "ENOTRECOVERABLE" => Some(Reply::ENOTRECOVERABLE),
-        "X_NOMEM" => Some(Reply::XNOMEM),
-        "X_RACED" => Some(Reply::XRACED),
-        "X_HELD" => Some(Reply::XHELD),
-        "X_FULL" => Some(Reply::XFULL),
-        "X_STATE" => Some(Reply::XSTATE),
-        _ => None,
-    }
+    word.parse::<Reply>().ok()
 }
 
 fn head_of(keyword: &str, threads: &str, mutexes: &str, conditions: &str) -> Option<HeadForm>
@@ -202,7 +192,7 @@ fn point(thread: Spelled, mutex: &str, call: &str, word: &str) -> Option<Said>
     ensures { result ≡ point_said thread mutex.now call.now word.now }
 {
     let mutex = numbered('m', mutex)?;
-    let operation = operation(call)?;
+    let operation = call_operation(call)?;
     Some(Said::Point(thread, mutex, operation, reply(word)?))
 }
 
