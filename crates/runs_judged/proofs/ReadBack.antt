@@ -9,10 +9,12 @@ use Rattle.std.proofs.lemmas.Bool.Decides.{nat_tests}
 use Rattle.std.proofs.lemmas.Fmt.{length-decimal-le}
 use Rattle.lockword.specs.declared.reply.Reply.{Reply}
 use Rattle.lockword.specs.declared.reply.Reply.TheVariants as reply
-use Rattle.lockword.specs.Replies.{reply_word}
+use Rattle.lockword.specs.Replies.{reply_of, reply_word}
+use Rattle.lockword.proofs.Names.{replies_read_back}
 use Rattle.keys.specs.declared.point.Operation.{Operation}
 use Rattle.keys.specs.declared.point.Operation.TheVariants.{Lock, TryLock, Unlock, Consistent, Wait, Signal, Broadcast, Death}
-use Rattle.keys.specs.Words.{operation_word}
+use Rattle.keys.specs.Words.{operation_of, operation_word}
+use Rattle.keys.proofs.Words.{operations_read_back}
 use Rattle.lines.specs.Numbers.{is_number, within}
 use Rattle.lines.specs.Lines.{lines_of, words_of}
 use Rattle.lines.specs.Faults.{◌>>=◌ as ◌>>!◌}
@@ -31,7 +33,7 @@ use Rattle.verdict.specs.declared.reading.Read.{Read}
 use Rattle.verdict.specs.declared.reading.Read.TheVariants as read
 use Rattle.verdict.specs.declared.fault.Fault.TheVariants.{UnknownWord, OutOfRange}
 use Rattle.verdict.specs.Limits.{max_events, max_threads, max_mutexes, max_conditions}
-use Rattle.verdict.specs.Forms.{◌>>=◌, number_of, thread_word, mutex_word, condition_word, mutex_operation, condition_operation, operation_of, reply_of, head_form, sleeps, words_form}
+use Rattle.verdict.specs.Forms.{◌>>=◌, number_of, thread_word, mutex_word, condition_word, of_mutex, mutex_operation, of_condition, condition_operation, of_call, call_operation, head_form, sleeps, words_form}
 use Rattle.verdict.specs.Reading.{IsHead, below, head_in, thread_in, fact_in, line_in, head_read, line_read}
 use Rattle.texts.specs.Text.{head_line, line_text, end_line, fact_text}
 use Rattle.runs_judged.specs.Written.{IsThreadOf, IsCallOf, IsCalled, IsQueueOf, IsFactOf, IsLineOf, LinesAreReadBack}
@@ -74,45 +76,62 @@ decimal-short n most = length-decimal-le 6 n (omega arith) (omega arith) (omega 
 
 -- ---- operations and replies
 
+-- an operation's word is read as it
+operation-read : (op : Operation) → operation_of (operation_word op) ≡ Some op
+operation-read = operations_read_back.back
+
 mutex-call : (op : Operation) (h : Head) → IsCallOf h op None → mutex_operation (operation_word op) ≡ Some op
-mutex-call Lock h is = refl
-mutex-call TryLock h is = refl
-mutex-call Unlock h is = refl
-mutex-call Consistent h is = refl
-mutex-call op h is = absurd is
+mutex-call op h is = ap (λ o. o >>= of_mutex) (operation-read op) ∙ kept op is
+  where
+    kept : (op : Operation) → IsCallOf h op None → of_mutex op ≡ Some op
+    kept Lock is = refl
+    kept TryLock is = refl
+    kept Unlock is = refl
+    kept Consistent is = refl
+    kept op is = absurd is
 
 condition-call : (op : Operation) (h : Head) (k : ℕ) → IsCallOf h op (Some k) → (condition_operation (operation_word op) ≡ Some op) × (k < h.conditions)
-condition-call Wait h k is = (refl, is)
-condition-call Signal h k is = (refl, is)
-condition-call Broadcast h k is = (refl, is)
-condition-call op h k is = absurd is
+condition-call op h k is = let both = kept op is in (ap (λ o. o >>= of_condition) (operation-read op) ∙ both.0, both.1)
+  where
+    kept : (op : Operation) → IsCallOf h op (Some k) → (of_condition op ≡ Some op) × (k < h.conditions)
+    kept Wait is = (refl, is)
+    kept Signal is = (refl, is)
+    kept Broadcast is = (refl, is)
+    kept op is = absurd is
 
-call-word : (op : Operation) → IsCalled op → (operation_of (operation_word op) ≡ Some op) × IsWord (operation_word op)
-call-word Lock is = (refl, refl)
-call-word TryLock is = (refl, refl)
-call-word Unlock is = (refl, refl)
-call-word Consistent is = (refl, refl)
-call-word Wait is = (refl, refl)
-call-word Signal is = (refl, refl)
-call-word Broadcast is = (refl, refl)
-call-word Death is = absurd is
+call-word : (op : Operation) → IsCalled op → (call_operation (operation_word op) ≡ Some op) × IsWord (operation_word op)
+call-word op is = let both = kept op is in (ap (λ o. o >>= of_call) (operation-read op) ∙ both.0, both.1)
+  where
+    kept : (op : Operation) → IsCalled op → (of_call op ≡ Some op) × IsWord (operation_word op)
+    kept Lock is = (refl, refl)
+    kept TryLock is = (refl, refl)
+    kept Unlock is = (refl, refl)
+    kept Consistent is = (refl, refl)
+    kept Wait is = (refl, refl)
+    kept Signal is = (refl, refl)
+    kept Broadcast is = (refl, refl)
+    kept Death is = absurd is
 
+reply-is-word : (x : Reply) → IsWord (reply_word x)
+reply-is-word reply.OK = refl
+reply-is-word reply.EPERM = refl
+reply-is-word reply.ESRCH = refl
+reply-is-word reply.EAGAIN = refl
+reply-is-word reply.EFAULT = refl
+reply-is-word reply.EBUSY = refl
+reply-is-word reply.EINVAL = refl
+reply-is-word reply.EDEADLK = refl
+reply-is-word reply.EOWNERDEAD = refl
+reply-is-word reply.ENOTRECOVERABLE = refl
+reply-is-word reply.XNOMEM = refl
+reply-is-word reply.XRACED = refl
+reply-is-word reply.XHELD = refl
+reply-is-word reply.XFULL = refl
+reply-is-word reply.XSTATE = refl
+
+-- a reply's name is read as it
 reply-word : (x : Reply) → (reply_of (reply_word x) ≡ Some x) × IsWord (reply_word x)
-reply-word reply.OK = (refl, refl)
-reply-word reply.EPERM = (refl, refl)
-reply-word reply.ESRCH = (refl, refl)
-reply-word reply.EAGAIN = (refl, refl)
-reply-word reply.EFAULT = (refl, refl)
-reply-word reply.EBUSY = (refl, refl)
-reply-word reply.EINVAL = (refl, refl)
-reply-word reply.EDEADLK = (refl, refl)
-reply-word reply.EOWNERDEAD = (refl, refl)
-reply-word reply.ENOTRECOVERABLE = (refl, refl)
-reply-word reply.XNOMEM = (refl, refl)
-reply-word reply.XRACED = (refl, refl)
-reply-word reply.XHELD = (refl, refl)
-reply-word reply.XFULL = (refl, refl)
-reply-word reply.XSTATE = (refl, refl)
+reply-word x = (replies_read_back.back x, reply-is-word x)
 
 mutex-word : (op : Operation) (h : Head) → IsCallOf h op None → IsWord (operation_word op)
 mutex-word Lock h is = refl

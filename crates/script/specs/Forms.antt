@@ -6,6 +6,9 @@ use Rattle.std.specs.List.{list_all}
 use Rattle.std.specs.Str.{bytes_eq}
 use Rattle.std.specs.Char.{is_ascii_digit}
 use Rattle.std.specs.Str.Parse.{digits_value}
+use Rattle.keys.specs.declared.point.Operation.{Operation}
+use Rattle.keys.specs.declared.point.Operation.TheVariants.{Lock, TryLock, Unlock, Consistent, Wait, Signal, Broadcast, Death}
+use Rattle.keys.specs.Words.{operation_of}
 use Rattle.script.specs.declared.command.Mode.{Mode}
 use Rattle.script.specs.declared.command.Mode.TheVariants as mode
 use Rattle.script.specs.Limits.{max_name, max_stem, max_steps, max_mutexes, max_counter}
@@ -88,16 +91,20 @@ cond_form w c m n = if bytes_eq w (codes "cond") && is_name c && is_name m && is
     then Some (cond c m (within 0 max_counter (digits_value 10 n)))
     else None
 
+-- the call of an operation, with this name; no call dies
+abbrev pub call_on : List ℕ → Operation → Option CallForm
+call_on m Lock = Some (lock m)
+call_on m TryLock = Some (trylock m)
+call_on m Unlock = Some (unlock m)
+call_on m Consistent = Some (consistent m)
+call_on m Wait = Some (wait m)
+call_on m Signal = Some (signal m)
+call_on m Broadcast = Some (broadcast m)
+call_on m Death = None
+
 -- CALL: `lock M`, `trylock M`, `unlock M` and `consistent M`; `wait C`, `signal C` and `broadcast C`
 abbrev pub call_form : List ℕ → List ℕ → Option CallForm
-call_form w m = if not (is_name m) then None
-    else (if bytes_eq w (codes "lock") then Some (lock m)
-    else (if bytes_eq w (codes "trylock") then Some (trylock m)
-    else (if bytes_eq w (codes "unlock") then Some (unlock m)
-    else (if bytes_eq w (codes "consistent") then Some (consistent m)
-    else (if bytes_eq w (codes "wait") then Some (wait m)
-    else (if bytes_eq w (codes "signal") then Some (signal m)
-    else (if bytes_eq w (codes "broadcast") then Some (broadcast m) else None)))))))
+call_form w m = if not (is_name m) then None else option_and_then (call_on m) (operation_of w)
 
 -- `begin T CALL` and `call T CALL`
 abbrev pub calling_form : List ℕ → List ℕ → CallForm → Option Form

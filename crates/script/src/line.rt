@@ -8,6 +8,7 @@ ghost use Rattle.script.specs.Seen.{call_seen, form_seen};
 use crate::command::Mode;
 use crate::limits::{MAX_COUNTER, MAX_MUTEXES, MAX_STEM, MAX_STEPS};
 use crate::words::is_word_name;
+use keys::Operation;
 use lines::{Words, is_number_word, number_in, words_in};
 
 /// A call, with the name of its mutex or of its condition variable.
@@ -116,15 +117,15 @@ fn named_call<'a>(word: &'a str, name: &'a str) -> Option<NamedCall<'a>>
     if !is_word_name(name) {
         return None;
     }
-    match word {
-        "lock" => Some(NamedCall::Lock(name)),
-        "trylock" => Some(NamedCall::TryLock(name)),
-        "unlock" => Some(NamedCall::Unlock(name)),
-        "consistent" => Some(NamedCall::Consistent(name)),
-        "wait" => Some(NamedCall::Wait(name)),
-        "signal" => Some(NamedCall::Signal(name)),
-        "broadcast" => Some(NamedCall::Broadcast(name)),
-        _ => None,
+    match word.parse::<Operation>() {
+        Ok(Operation::Lock) => Some(NamedCall::Lock(name)),
+        Ok(Operation::TryLock) => Some(NamedCall::TryLock(name)),
+        Ok(Operation::Unlock) => Some(NamedCall::Unlock(name)),
+        Ok(Operation::Consistent) => Some(NamedCall::Consistent(name)),
+        Ok(Operation::Wait) => Some(NamedCall::Wait(name)),
+        Ok(Operation::Signal) => Some(NamedCall::Signal(name)),
+        Ok(Operation::Broadcast) => Some(NamedCall::Broadcast(name)),
+        Ok(Operation::Death) | Err(_) => None,
     }
 }
 
