@@ -23,14 +23,17 @@ fn plain_round(word: &AtomicU64) -> bool {
     taken.is_ok() && freed == 1
 }
 
-/// Ends an unlock whose sleepers nobody wakes: one thread alone never sleeps.
+/// Ends an unlock whose sleepers nobody wakes, and which doesn't trim its word: one thread alone never sleeps.
 fn wake_nobody(owed: Owed) -> Pass<Live>
     requires { ¬ (owed_wakes owed ≡ Nobody) }
     ensures { result ≡ owed_pass owed }
 {
     match Running::owed(owed).answer(Answer::Count(0)) {
         Turn::Lives(pass, _) => pass,
-        Turn::Goes(_) => unreachable!(),
+        Turn::Goes(trims) => match trims.answer(Answer::Trimmed(false)) {
+            Turn::Lives(pass, _) => pass,
+            Turn::Goes(_) => unreachable!(),
+        },
     }
 }
 
