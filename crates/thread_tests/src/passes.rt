@@ -30,7 +30,10 @@ fn wake_nobody(owed: Owed) -> (Pass<Live>, Reply)
 {
     match Running::owed(owed).answer(Answer::Count(0)) {
         Turn::Lives(pass, _) => (pass, Reply::EAGAIN),
-        Turn::Goes(_) => unreachable!(),
+        Turn::Goes(trims) => match trims.answer(Answer::Trimmed(false)) {
+            Turn::Lives(pass, _) => (pass, Reply::EAGAIN),
+            Turn::Goes(_) => unreachable!(),
+        },
     }
 }
 
