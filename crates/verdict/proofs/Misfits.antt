@@ -6,8 +6,8 @@ use Rattle.lockword.specs.declared.reply.Reply.TheVariants.{OK, XHELD}
 use Rattle.keys.specs.declared.object.Object.{Object}
 use Rattle.keys.specs.declared.point.Operation.TheVariants as operation
 use Rattle.keys.specs.declared.point.Decision.{Decision}
-use Rattle.keys.specs.Objects.{Permits, Does, acquires}
-use Rattle.keys.specs.Histories.{held_by}
+use Rattle.keys.specs.Objects.{Permits, Does, acquires, bereaved}
+use Rattle.keys.specs.Histories.{held_by, is_thread}
 use Rattle.facts.specs.declared.fact.Begun.{Begun}
 use Rattle.facts.specs.declared.fact.Fact.{Fact}
 use Rattle.facts.specs.declared.fact.Fact.TheVariants as fact
@@ -143,7 +143,7 @@ step_breaks (misfit.NotAllowed p x) held o d n h does = by_cases (acquires d.ope
       let room = h.2 (both (acquires d.operation) (nat_le 2048 held) is).0 in
       let full = (both (acquires d.operation) (nat_le 2048 held) is).1 in
       grind (arith, nat_tests)
-  by_cases false is does = h.3 n (subst (λ y. Permits o d.thread d.operation y n) (sym h.1) does)
+  by_cases false is does = h.4 n (subst (λ y. Permits o d.thread d.operation y n) (sym h.1) does)
 step_breaks (misfit.AtLimit k) held o d n h does =
     let full : nat_le 2048 held ≡ true = let le = h.1 in grind (arith, nat_tests) in
     let limited : (acquires d.operation && nat_le 2048 held) ≡ true = ap (λ b. b && nat_le 2048 held) h.2 ∙ full in
@@ -159,6 +159,15 @@ limited held o d refused takes full is =
     let many : nat_le 2048 held ≡ true = grind (arith, nat_tests) in
     let at_limit : (acquires d.operation && nat_le 2048 held) ≡ true = ap (λ b. b && nat_le 2048 held) takes ∙ many in
     refused o (subst (λ b. MatchBool b ((d.reply ≡ XHELD) × (o ≡ o)) (Permits o d.thread d.operation d.reply o)) (sym at_limit) (is, refl))
+
+pub is_owner : (t : ℕ) (o : Option ℕ) → is_thread t o ≡ true → o ≡ Some t
+is_owner t None e = absurd cc
+is_owner t (Some u) e = let same : u ≡ t = grind (arith, nat_tests) in ap Some same
+
+-- an owner's death is refused only with another reply than OK
+pub owner_dies : (held : ℕ) (o : Object) (d : Decision) → ((n : Object) → Does held o d.thread d.operation d.reply n → ⊥) → d.operation ≡ operation.Death → o.owner ≡ Some d.thread → d.reply ≢ OK
+owner_dies held o d refused dies owner is =
+    refused (bereaved o) (subst (λ op. Does held o d.thread op d.reply (bereaved o)) (sym dies) (subst (λ x. Does held o d.thread operation.Death x (bereaved o)) (sym is) (owner, refl)))
 
 pub refuses_breaks : (m : Misfit) (n : ℕ) (os : ℕ → Object) (d : Option Decision) → Refuses m n os d → Allows n os d → ⊥
 refuses_breaks m n os None h allows = h

@@ -90,9 +90,10 @@ IsOutOfLife m fs f = ⊥
 
 -- ---- the mutexes
 
--- the mutex's object doesn't allow the step of a thread that owns so many mutexes
+-- the mutex's object doesn't allow the step of a thread that owns so many mutexes: it is a lock or trylock of a thread that owns as many as it may, a death of one that isn't the owner, or neither. A
+-- death replies OK
 abbrev pub RefusesStep : Misfit → ℕ → Object → Decision → Type 0
-RefusesStep (NotAllowed p x) held o d = (p ≡ o) × (x ≡ d.reply) × (acquires d.operation ≡ true → held < held_limit) × ((new : Object) → Permits o d.thread d.operation x new → ⊥)
+RefusesStep (NotAllowed p x) held o d = (p ≡ o) × (x ≡ d.reply) × (acquires d.operation ≡ true → held < held_limit) × (d.operation ≡ operation.Death → x ≢ OK) × ((new : Object) → Permits o d.thread d.operation x new → ⊥)
 RefusesStep (AtLimit k) held o d = (k ≡ held) × (held_limit ≤ held) × (acquires d.operation ≡ true) × (d.reply ≢ XHELD)
 RefusesStep (NotOwner p) held o d = (p ≡ o) × (d.operation ≡ operation.Death) × (o.owner ≢ Some d.thread)
 RefusesStep m held o d = ⊥
