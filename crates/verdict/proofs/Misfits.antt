@@ -122,7 +122,7 @@ pub order_breaks : (m : Misfit) (earlier : List Line) (e : Line) → IsOutOfOrde
 order_breaks (misfit.EventFalls i) earlier e h each = falls_breaks i earlier e h each
 order_breaks (misfit.AnothersEvent t) earlier e h each = told_breaks (IsDoneBy t) earlier e (λ a same by l. h.2 (sym (l.one_thread same by.0 h.1) ∙ by.1)) h.0 each
 order_breaks misfit.EventDecided earlier e h each = told_breaks (λ f. decides f ≡ true) earlier e (λ a same does l. let lt = l.decisions_rise does h.1 in omega arith) h.0 each
-order_breaks misfit.KillShares earlier e h each = told_breaks (λ f. Unit {0}) earlier e (λ a same any l. let lt = l.kill_behind h.1 in omega arith) h.0 each
+order_breaks misfit.KillShares earlier e h each = told_breaks (λ f. is_kill f ≡ false) earlier e (λ a same any l. let lt = l.kill_behind h.1 in omega arith) h.0 each
 order_breaks misfit.EventKilled earlier e h each = told_breaks (λ f. is_kill f ≡ true) earlier e (λ a same kills l. let lt = l.kill_before kills in omega arith) h each
 order_breaks m earlier e h each = h
 
@@ -181,6 +181,6 @@ owns_breaks m n os f h nothing = absurd h
 
 pub misfit_fails : (m : Misfit) (n : ℕ) (earlier : List Line) (e : Line) → IsMisfit m n earlier e → Fits n earlier e → ⊥
 misfit_fails m n earlier e (inl h) fits = h.1 fits.in_order
-misfit_fails m n earlier e (inr (inl h)) fits = h.1 fits.of_thread
-misfit_fails m n earlier e (inr (inr (inl h))) fits = h.1 fits.allowed
-misfit_fails m n earlier e (inr (inr (inr h))) fits = h.1 fits.reaped
+misfit_fails m n earlier e (inr (inl h)) fits = h.2 fits.of_thread
+misfit_fails m n earlier e (inr (inr (inl h))) fits = h.3 fits.allowed
+misfit_fails m n earlier e (inr (inr (inr h))) fits = h.3 fits.reaped

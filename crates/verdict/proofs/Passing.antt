@@ -1,6 +1,6 @@
 -- What a pass keeps says what the lines so far told.
 use Rattle.std.proofs.Common.{◌≡◌, ◌≢◌, inl, inr, ℕ, ◌<◌, ◌≤◌, ◌==◌, ◌+◌, Bool, true, false, List, [], ◌∷◌, length, Option, None, Some, MatchOption, Ok, nat_lt, refl, sym, ap, subst, ◌∙◌, arith, get_or-set_same, get_or-set_other}
-use Rattle.std.specs.Prelude.{if◌then◌else◌, slice_set}
+use Rattle.std.specs.Prelude.{◌⊎◌, if◌then◌else◌, slice_set}
 use Rattle.std.proofs.lemmas.Bool.Decides.{nat_tests}
 use mathlib.Core.Path.{fun_ext}
 use Rattle.facts.specs.declared.fact.Line.{Line}
@@ -11,7 +11,7 @@ use Rattle.verdict.specs.declared.checking.Pass.{Pass}
 use Rattle.facts.specs.Facts.{thread_of, decision_of, is_point}
 use Rattle.verdict.specs.Earlier.{told_of, objects_after, moved, latest}
 use Rattle.facts.specs.Orders.{Later, Each}
-use Rattle.verdict.specs.Fits.{Fits, Allows, OwnsNothing}
+use Rattle.verdict.specs.Fits.{Fits, FitsThread, Allows, OwnsNothing}
 use Rattle.verdict.specs.Misfits.{IsMisfit, OwnsSome, Refuses}
 use Rattle.verdict.specs.declared.misfit.Misfit.{Misfit}
 use Rattle.verdict.specs.declared.misfit.Misfit.TheVariants.{EndFalls}
@@ -48,17 +48,21 @@ accepts_fits j told e r some a = record {
   reaped = subst (λ os. OwnsNothing (length j.objects.items) os e.fact) r.objects a.reaped;
 }
 
+rejects_change : (m : Misfit) (j : Judge) (told : List Line) (e : Line) → Reflects j told → Each (λ a. Later a e) told → FitsThread (told_of (thread_of e.fact) told) e.fact
+    → Refuses m (length j.objects.items) (object_at j.objects.items) (decision_of e.fact) ⊎ OwnsSome m (length j.objects.items) (object_at j.objects.items) e.fact → IsMisfit m (length j.objects.items) told e
+rejects_change m j told e r order life (inl h) =
+    let out = subst (λ os. Refuses m (length j.objects.items) os (decision_of e.fact)) r.objects h in
+    inr (inr (inl (order, life, out, refuses_breaks m (length j.objects.items) (objects_after told) (decision_of e.fact) out)))
+rejects_change m j told e r order life (inr h) =
+    let out = subst (λ os. OwnsSome m (length j.objects.items) os e.fact) r.objects h in
+    inr (inr (inr (order, life, out, owns_breaks m (length j.objects.items) (objects_after told) e.fact out)))
+
 pub rejects_misfit : (m : Misfit) (j : Judge) (told : List Line) (e : Line) → Reflects j told → 1 ≤ e.event → Rejects m j e → IsMisfit m (length j.objects.items) told e
 rejects_misfit m j told e r some (inl h) = let out = clashes_out m j.place told e r.recalls r.event some h in inl (out, order_breaks m told e out)
-rejects_misfit m j told e r some (inr (inl h)) =
+rejects_misfit m j told e r some (inr (stands, inl h)) =
     let out = forbids_out m (stage_at j.stages.items (thread_of e.fact)) e.fact (told_of (thread_of e.fact) told) (r.stages (thread_of e.fact)) h in
-    inr (inl (out, life_breaks m (told_of (thread_of e.fact) told) e.fact out))
-rejects_misfit m j told e r some (inr (inr (inl h))) =
-    let out = subst (λ os. Refuses m (length j.objects.items) os (decision_of e.fact)) r.objects h in
-    inr (inr (inl (out, refuses_breaks m (length j.objects.items) (objects_after told) (decision_of e.fact) out)))
-rejects_misfit m j told e r some (inr (inr (inr h))) =
-    let out = subst (λ os. OwnsSome m (length j.objects.items) os e.fact) r.objects h in
-    inr (inr (inr (out, owns_breaks m (length j.objects.items) (objects_after told) e.fact out)))
+    inr (inl (r.stands e some stands, out, life_breaks m (told_of (thread_of e.fact) told) e.fact out))
+rejects_misfit m j told e r some (inr (stands, inr h)) = rejects_change m j told e r (r.stands e some stands) (may_fits _ e.fact _ (r.stages (thread_of e.fact)) h.0) h.1
 
 -- the stages after a fact
 stages_next : (xs : List Stage) (told : List Line) (e : Line) → thread_of e.fact < length xs → ((t : ℕ) → Kept (stage_at xs t) (told_of t told)) → May (stage_at xs (thread_of e.fact)) e.fact

@@ -72,7 +72,7 @@ stands_before p a e (inr ha) (inr h) =
 
 -- the lines of the newest event told what the place has of it
 pub record Recalls (p : Place) (told : List Line) : Type 0 where
-  pub line : 1 ≤ p.event → Told (λ f. Unit {0}) p.event told
+  pub line : 1 ≤ p.event → p.killed ≡ false → Told (λ f. is_kill f ≡ false) p.event told
   pub thread : (t : ℕ) → p.thread ≡ Some t → Told (IsDoneBy t) p.event told
   pub decided : p.decided ≡ true → Told (λ f. decides f ≡ true) p.event told
   pub killed : p.killed ≡ true → Told (λ f. is_kill f ≡ true) p.event told
@@ -93,7 +93,7 @@ decided_told p told e r is = go (decides e.fact) refl (p.event == e.event) refl 
 
 pub recalls_next : (p : Place) (told : List Line) (e : Line) → Recalls p told → Recalls (placed p e) (e ∷ told)
 recalls_next p told e r = record {
-  line = λ some. inl (refl, tt);
+  line = λ some is. inl (refl, is);
   thread = λ t is. caller_told p told e t r is;
   decided = λ is. decided_told p told e r is;
   killed = λ is. inl (refl, is);
@@ -101,7 +101,7 @@ recalls_next p told e r = record {
 
 pub recalls_nowhere : Recalls nowhere []
 recalls_nowhere = record {
-  line = λ some. omega (arith, some);
+  line = λ some is. absurd (omega (arith, some));
   thread = λ t is. absurd cc;
   decided = λ is. absurd cc;
   killed = λ is. absurd cc;
@@ -111,6 +111,6 @@ pub clashes_out : (m : Misfit) (p : Place) (told : List Line) (e : Line) → Rec
 clashes_out (EventFalls n) p told e r at some h = (h.0 ∙ at, h.1)
 clashes_out (AnothersEvent t) p told e r at some h = (subst (λ i. Told (IsDoneBy t) i told) h.0 (r.thread t h.1.0), h.1.1, h.1.2)
 clashes_out EventDecided p told e r at some h = (subst (λ i. Told (λ f. decides f ≡ true) i told) h.0 (r.decided h.1.0), h.1.1)
-clashes_out KillShares p told e r at some h = let same : p.event ≡ e.event = h.0 in (subst (λ i. Told (λ f. Unit {0}) i told) h.0 (r.line (omega arith)), h.1)
+clashes_out KillShares p told e r at some h = let same : p.event ≡ e.event = h.0 in (subst (λ i. Told (λ f. is_kill f ≡ false) i told) h.0 (r.line (omega arith) h.1.0), h.1.1)
 clashes_out EventKilled p told e r at some h = subst (λ i. Told (λ f. is_kill f ≡ true) i told) h.0 (r.killed h.1)
 clashes_out m p told e r at some h = absurd h.1

@@ -62,13 +62,13 @@ pub record Accepts (j : Judge) (e : Line) : Type 0 where
   pub allowed : Allows (length j.objects.items) (object_at j.objects.items) (decision_of e.fact)
   pub reaped : OwnsNothing (length j.objects.items) (object_at j.objects.items) e.fact
 
--- why an entry doesn't go with what is kept
+-- why an entry doesn't go with what is kept: its event is asked first, then its thread, then its mutex
 abbrev pub Rejects : Misfit → Judge → Line → Type 0
 Rejects m j e =
     Clashes m j.place e
-    ⊎ (Forbids m (stage_at j.stages.items (thread_of e.fact)) e.fact
-    ⊎ (Refuses m (length j.objects.items) (object_at j.objects.items) (decision_of e.fact)
-    ⊎ OwnsSome m (length j.objects.items) (object_at j.objects.items) e.fact))
+    ⊎ (Stands j.place e × (Forbids m (stage_at j.stages.items (thread_of e.fact)) e.fact
+    ⊎ (May (stage_at j.stages.items (thread_of e.fact)) e.fact × (Refuses m (length j.objects.items) (object_at j.objects.items) (decision_of e.fact)
+    ⊎ OwnsSome m (length j.objects.items) (object_at j.objects.items) e.fact))))
 
 -- an entry that does is kept
 pub record Moves (j : Judge) (e : Line) (k : Judge) : Type 0 where

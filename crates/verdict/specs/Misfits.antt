@@ -30,12 +30,12 @@ Told P i (l ∷ ls) = ((l.event ≡ i) × P l.fact) ⊎ Told P i ls
 abbrev pub IsDoneBy : ℕ → Fact → Type 0
 IsDoneBy t f = (is_passive f ≡ false) × (thread_of f ≡ t)
 
--- the line isn't in the order of events
+-- the line isn't in the order of events. The lines before it fit, so those of one event are a kill alone, or have no kill: EventKilled is of the one, KillShares of the other
 abbrev pub IsOutOfOrder : Misfit → List Line → Line → Type 0
 IsOutOfOrder (EventFalls i) earlier e = (i ≡ latest earlier) × (e.event < i)
 IsOutOfOrder (AnothersEvent t) earlier e = Told (IsDoneBy t) e.event earlier × (is_passive e.fact ≡ false) × (thread_of e.fact ≢ t)
 IsOutOfOrder EventDecided earlier e = Told (λ f. decides f ≡ true) e.event earlier × (decides e.fact ≡ true)
-IsOutOfOrder KillShares earlier e = Told (λ f. Unit {0}) e.event earlier × (is_kill e.fact ≡ true)
+IsOutOfOrder KillShares earlier e = Told (λ f. is_kill f ≡ false) e.event earlier × (is_kill e.fact ≡ true)
 IsOutOfOrder EventKilled earlier e = Told (λ f. is_kill f ≡ true) e.event earlier
 IsOutOfOrder m earlier e = ⊥
 
@@ -109,10 +109,11 @@ OwnsSome m n os f = ⊥
 
 -- ---- the line
 
--- the reason is true of the line behind the earlier ones, and the clause of Fits that it is about isn't; n is the number of mutexes
+-- the reason is true of the line behind the earlier ones, and the clause of Fits that it is about is the first that isn't: the line's event comes first, then its thread, then its mutex; n is the number
+-- of mutexes
 abbrev pub IsMisfit : Misfit → ℕ → List Line → Line → Type 0
 IsMisfit m n earlier e =
     (IsOutOfOrder m earlier e × (Each (λ a. Later a e) earlier → ⊥))
-    ⊎ ((IsOutOfLife m (told_of (thread_of e.fact) earlier) e.fact × (FitsThread (told_of (thread_of e.fact) earlier) e.fact → ⊥))
-    ⊎ ((Refuses m n (objects_after earlier) (decision_of e.fact) × (Allows n (objects_after earlier) (decision_of e.fact) → ⊥))
-    ⊎ (OwnsSome m n (objects_after earlier) e.fact × (OwnsNothing n (objects_after earlier) e.fact → ⊥))))
+    ⊎ ((Each (λ a. Later a e) earlier × IsOutOfLife m (told_of (thread_of e.fact) earlier) e.fact × (FitsThread (told_of (thread_of e.fact) earlier) e.fact → ⊥))
+    ⊎ ((Each (λ a. Later a e) earlier × FitsThread (told_of (thread_of e.fact) earlier) e.fact × Refuses m n (objects_after earlier) (decision_of e.fact) × (Allows n (objects_after earlier) (decision_of e.fact) → ⊥))
+    ⊎ (Each (λ a. Later a e) earlier × FitsThread (told_of (thread_of e.fact) earlier) e.fact × OwnsSome m n (objects_after earlier) e.fact × (OwnsNothing n (objects_after earlier) e.fact → ⊥))))

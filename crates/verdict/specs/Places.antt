@@ -35,7 +35,7 @@ IsAnothers m caller f = ⊥
 -- why the newest event has no such further line
 abbrev pub ClashesHere : Misfit → Place → Fact → Type 0
 ClashesHere EventKilled p f = p.killed ≡ true
-ClashesHere KillShares p f = is_kill f ≡ true
+ClashesHere KillShares p f = (p.killed ≡ false) × (is_kill f ≡ true)
 ClashesHere EventDecided p f = (p.decided ≡ true) × (decides f ≡ true)
 ClashesHere m p f = IsAnothers m p.thread f
 
