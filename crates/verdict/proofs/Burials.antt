@@ -25,7 +25,7 @@ use Rattle.verdict.specs.Verdicts.{AllFit}
 use Rattle.verdict.specs.Explained.{with_decision, decisions, is_death, deaths, is_reaping, reaped, Buries, Explains}
 use Rattle.verdict.proofs.Owners.{does_changes, does_owners, not_owner, others_own, owns_itself}
 use Rattle.verdict.proofs.Stages.{Kept}
-use Rattle.verdict.proofs.Lives.{lived, lives}
+use Rattle.verdict.proofs.Lives.{lived, lives, sleeps}
 
 -- ---- one history
 
@@ -262,6 +262,7 @@ explains n told fit inside = record {
   orderly = orderly n told fit;
   legal = (objects_after told, legal n told fit inside);
   lives = lives n told fit;
+  sleeps = sleeps n told fit;
   deaths_told = λ newer earlier i t all.
       let k : Line = record { event = i; fact = Kill t } in
       let fit_all = subst (AllFit n) all fit in

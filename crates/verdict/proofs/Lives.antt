@@ -13,6 +13,7 @@ use Rattle.verdict.specs.declared.stage.Stage.TheVariants.{Resting, Calling, Dyi
 use Rattle.facts.specs.Lives.{Act, is_of_call, own, made_by, made, Mourned, Unburied, Tells_of, Buried, Life, Rests, Returns, Stays, Cut, Dies}
 use Rattle.facts.specs.Facts.{thread_of}
 use Rattle.verdict.specs.Earlier.{told_of}
+use Rattle.verdict.specs.Explained.{Alternates, Doing, Idle, Awake, Asleep}
 use Rattle.verdict.specs.Fits.{FitsThread}
 use Rattle.verdict.specs.Stages.{May, next}
 use Rattle.verdict.specs.Verdicts.{AllFit}
@@ -111,11 +112,57 @@ own-append t (x ∷ xs) ys = go (is_of_call x.fact && (thread_of x.fact == t)) (
 own-newest : (t : ℕ) (e : Line) (es : List Line) → own t (reverse (e ∷ es)) ≡ own t (reverse es) ++ own t (e ∷ [])
 own-newest t e es = ap (own t) (reverse-append (e ∷ []) es) ∙ own-append t (reverse es) (e ∷ [])
 
+-- ---- who sleeps
+
+abbrev pub doing : Stage → Doing
+doing Resting = Idle
+doing (Calling c m true) = Asleep
+doing (Calling c m false) = Awake
+doing Dying = Idle
+doing Reaped = Idle
+
+alternates : (s : Stage) (f : Fact) (later : List Fact) → May s f → Alternates (doing (next s f)) later → Alternates (doing s) (f ∷ later)
+alternates Resting (Begin t c) later m a = a
+alternates Resting (Kill t) later m a = a
+alternates (Calling c made_so true) (Kill t) later m a = a
+alternates (Calling c made_so false) (Kill t) later m a = a
+alternates (Calling c made_so false) (Point d) later m a = a
+alternates (Calling c made_so true) (Point d) later m a = let e : true ≡ false = m.0 in absurd cc
+alternates (Calling c made_so false) (Sleep t q) later m a = a
+alternates (Calling c made_so true) (Sleep t q) later m a = let e : true ≡ false = m in absurd cc
+alternates (Calling c made_so true) (Wake t) later m a = a
+alternates (Calling c made_so false) (Wake t) later m a = let e : false ≡ true = m in absurd cc
+alternates (Calling c made_so true) (Move t k) later m a = a
+alternates (Calling c made_so false) (Move t k) later m a = let e : false ≡ true = m in absurd cc
+alternates (Calling c made_so false) (Return t x) later m a = a
+alternates (Calling c made_so true) (Return t x) later m a = let e : true ≡ false = m.0 in absurd cc
+alternates Dying (Death t k) later m a = a
+alternates Dying (Reap t) later m a = a
+alternates s f later m a = absurd m
+
+told_of-append : (t : ℕ) (xs ys : List Line) → told_of t (xs ++ ys) ≡ told_of t xs ++ told_of t ys
+told_of-append t [] ys = refl
+told_of-append t (x ∷ xs) ys = go (thread_of x.fact == t) (told_of-append t xs ys) where
+  go : (b : Bool) → told_of t (xs ++ ys) ≡ told_of t xs ++ told_of t ys → (if b then x.fact ∷ told_of t (xs ++ ys) else told_of t (xs ++ ys)) ≡ (if b then x.fact ∷ told_of t xs else told_of t xs) ++ told_of t ys
+  go true e = ap (λ fs. x.fact ∷ fs) e
+  go false e = e
+
+told_of-newest : (t : ℕ) (e : Line) (es : List Line) → told_of t (reverse (e ∷ es)) ≡ told_of t (reverse es) ++ told_of t (e ∷ [])
+told_of-newest t e es = ap (told_of t) (reverse-append (e ∷ []) es) ∙ told_of-append t (reverse es) (e ∷ [])
+
+-- so far it alternates, and may go on so from this stage
+abbrev pub Slept : Stage → List Fact → Type 0
+Slept s fs = (later : List Fact) → Alternates (doing s) later → Alternates Idle (fs ++ later)
+
+slept_next : (s : Stage) (f : Fact) (fs : List Fact) → May s f → Slept s fs → Slept (next s f) (fs ++ f ∷ [])
+slept_next s f fs m slept later a = subst (Alternates Idle) (sym (append_assoc fs (f ∷ []) later)) (slept (f ∷ later) (alternates s f later m a))
+
 -- how far thread t has come after these lines
 pub record Lived (t : ℕ) (told : List Line) : Type 0 where
   pub stage : Stage
   pub kept : Kept stage (told_of t told)
   pub past : Past t stage (own t (reverse told))
+  pub slept : Slept stage (told_of t (reverse told))
 
 step : (t : ℕ) (e : Line) (es : List Line) (fits : FitsThread (told_of (thread_of e.fact) es) e.fact) → Lived t es → Lived t (e ∷ es)
 step t e es fits l = by_thread (thread_of e.fact == t) refl where
@@ -131,11 +178,14 @@ step t e es fits l = by_thread (thread_of e.fact == t) refl where
         stage = next l.stage e.fact;
         kept = subst (λ b. Kept (next l.stage e.fact) (if b then e.fact ∷ told_of t es else told_of t es)) (sym is) (next_kept l.stage e.fact (told_of t es) l.kept may);
         past = subst (Past t (next l.stage e.fact)) (sym (own-newest t e es)) (subst (λ b. Past t (next l.stage e.fact) (own t (reverse es) ++ (if is_of_call e.fact && b then e.fact ∷ [] else []))) (sym is) (by_call u (is_of_call e.fact) refl may));
+        slept = subst (Slept (next l.stage e.fact)) (sym (told_of-newest t e es))
+            (subst (λ b. Slept (next l.stage e.fact) (told_of t (reverse es) ++ (if b then e.fact ∷ [] else []))) (sym is) (slept_next l.stage e.fact (told_of t (reverse es)) may l.slept));
       }
   by_thread false is = record {
     stage = l.stage;
     kept = subst (λ b. Kept l.stage (if b then e.fact ∷ told_of t es else told_of t es)) (sym is) l.kept;
     past = subst (Past t l.stage) (sym (own-newest t e es)) (subst (λ b. Past t l.stage (own t (reverse es) ++ (if is_of_call e.fact && b then e.fact ∷ [] else []))) (sym is) (silent (is_of_call e.fact)));
+    slept = subst (Slept l.stage) (sym (told_of-newest t e es)) (subst (λ b. Slept l.stage (told_of t (reverse es) ++ (if b then e.fact ∷ [] else []))) (sym is) (subst (Slept l.stage) (sym (append_nil (told_of t (reverse es)))) l.slept));
   }
     where
       silent : (w : Bool) → Past t l.stage (own t (reverse es) ++ (if w && false then e.fact ∷ [] else []))
@@ -143,8 +193,11 @@ step t e es fits l = by_thread (thread_of e.fact == t) refl where
       silent false = subst (Past t l.stage) (sym (append_nil (own t (reverse es)))) l.past
 
 pub lived : (n t : ℕ) (told : List Line) → AllFit n told → Lived t told
-lived n t [] fit = record { stage = Resting; kept = (refl, refl, refl, refl); past = λ later h. h }
+lived n t [] fit = record { stage = Resting; kept = (refl, refl, refl, refl); past = λ later h. h; slept = λ later a. a }
 lived n t (e ∷ es) fit = step t e es fit.0.of_thread (lived n t es fit.1)
 
 pub lives : (n : ℕ) (told : List Line) → AllFit n told → (t : ℕ) → Life t (own t (reverse told))
 lives n told fit t = let l = lived n t told fit in whole t l.stage (own t (reverse told)) l.past
+
+pub sleeps : (n : ℕ) (told : List Line) → AllFit n told → (t : ℕ) → Alternates Idle (told_of t (reverse told))
+sleeps n told fit t = let l = lived n t told fit in subst (Alternates Idle) (append_nil (told_of t (reverse told))) (l.slept [] tt)

@@ -4,11 +4,12 @@ use Rattle.keys.specs.declared.object.Object.{Object}
 use Rattle.keys.specs.declared.point.Decision.{Decision}
 use Rattle.keys.specs.Histories.{Legal, opening}
 use Rattle.facts.specs.declared.fact.Fact.{Fact}
-use Rattle.facts.specs.declared.fact.Fact.TheVariants.{Kill, Death, Reap}
+use Rattle.facts.specs.declared.fact.Fact.TheVariants.{Begin, Kill, Death, Sleep, Wake, Move, Return, Reap}
 use Rattle.facts.specs.declared.fact.Line.{Line}
 use Rattle.facts.specs.Lives.{own, Life}
 use Rattle.facts.specs.Facts.{decision_of}
 use Rattle.facts.specs.Orders.{Orderly}
+use Rattle.verdict.specs.Earlier.{told_of}
 
 -- ---- the mutexes
 
@@ -45,6 +46,29 @@ pub record Buries (t n : ℕ) (held : ℕ → Object) (later : List Line) : Type
   pub once_reaped : (m : ℕ) → m < n → (held m).owner ≡ Some t → reaped t later ≡ true → deaths t m later ≡ 1
   pub no_other : (m : ℕ) → m < n → (held m).owner ≢ Some t → deaths t m later ≡ 0
 
+-- ---- who sleeps
+
+-- what a thread does: it is in no call, or awake in one, or asleep in one
+pub data Doing : Type 0 where
+  Idle : Doing
+  Awake : Doing
+  Asleep : Doing
+
+-- what is told of a thread that does this, in its order: it falls asleep only awake in a call; asleep it is only moved, and then woken or killed; and it is woken and moved only asleep
+abbrev pub Alternates : Doing → List Fact → Type 0
+Alternates d [] = Unit {0}
+Alternates Awake (Sleep t q ∷ fs) = Alternates Asleep fs
+Alternates d (Sleep t q ∷ fs) = ⊥
+Alternates Asleep (Move t m ∷ fs) = Alternates Asleep fs
+Alternates d (Move t m ∷ fs) = ⊥
+Alternates Asleep (Wake t ∷ fs) = Alternates Awake fs
+Alternates d (Wake t ∷ fs) = ⊥
+Alternates d (Kill t ∷ fs) = Alternates Idle fs
+Alternates Asleep (f ∷ fs) = ⊥
+Alternates d (Begin t c ∷ fs) = Alternates Awake fs
+Alternates d (Return t x ∷ fs) = Alternates Idle fs
+Alternates d (f ∷ fs) = Alternates d fs
+
 -- ---- the trace
 
 -- these lines, the newest first, explain themselves; n is the number of mutexes
@@ -54,6 +78,8 @@ pub record Explains (n : ℕ) (told : List Line) : Type 0 where
   -- the points and deaths are a legal history
   pub legal : (new : ℕ → Object) × Legal n opening (decisions (reverse told)) new
   pub lives : (t : ℕ) → Life t (own t (reverse told))
+  -- nobody sleeps but in a call, until it is woken or killed
+  pub sleeps : (t : ℕ) → Alternates Idle (told_of t (reverse told))
   -- at each kill
   pub deaths_told : (newer earlier : List Line) (i t : ℕ) → told ≡ newer ++ (record { event = i; fact = Kill t }) ∷ earlier →
       (held : ℕ → Object) × Legal n opening (decisions (reverse earlier)) held × Buries t n held newer

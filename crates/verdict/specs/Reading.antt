@@ -33,7 +33,7 @@ pub record Trace : Type 0 where
   pub told : List Line
   pub last : ℕ
 
--- its numbers are in their ranges
+-- its numbers of threads and mutexes are in their ranges
 pub record IsHead (h : Head) : Type 0 where
   pub some_thread : 1 ≤ h.threads
   pub few_threads : h.threads ≤ max_threads
