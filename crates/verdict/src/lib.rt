@@ -4,10 +4,11 @@
 //! none, the first line that doesn't fit the lines before it; and where all fit, how many points there are. It asks for memory once,
 //! behind the first line. A trace that is found legal explains itself: its points and deaths, in their order, are a legal history of
 //! robust mutexes, each call that returned has exactly its points and the last one's reply, a call that was cut has a beginning of
-//! them, and a killed thread's death is told of what it owned and of nothing else (pthread_mutex_lock, pthread_cond_wait,
-//! robust-futexes).
+//! them, a thread sleeps only in a call, until it is woken or killed, and a killed thread's death is told of what it owned and of
+//! nothing else (pthread_mutex_lock, pthread_cond_wait, robust-futexes).
 //!
-//! [`explain`] answers why that line doesn't fit, beside the line: its event's number, its thread's life or its mutex forbids it.
+//! [`explain`] answers why that line doesn't fit, beside the line: its event's number, its thread's life or its mutex forbids it, the
+//! first of these that does.
 //!
 //! ```text
 //! let trace = b"trace 2 1 0\n1 begin t1 lock m0\n2 sleep t1 m0\n3 point t1 m0 lock OK\nend 3\n";
