@@ -6,6 +6,8 @@
 #[cfg(test)]
 mod mutexes;
 #[cfg(test)]
+mod processes;
+#[cfg(test)]
 mod trace_lines;
 #[cfg(test)]
 mod words;

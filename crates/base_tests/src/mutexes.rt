@@ -406,6 +406,9 @@ fn faults_are_printed(rt: HostRuntime) -> Result<(), Fail> {
             LayoutFault::Conditions,
             "more than 256 condition variables, or one of no such mutex",
         ),
+        (LayoutFault::Processes, "not 1 to 8 processes"),
+        (LayoutFault::Bases, "a base above 1000000000"),
+        (LayoutFault::Members, "a thread of no such process"),
     ] {
         let printed = format!(in rt.alloc(); "{fault}")?;
         assert_eq!(rt; printed.as_str(), text);

@@ -2,3 +2,5 @@ pub mod Owners
 pub mod Objects
 pub mod Trims
 pub mod Words
+pub mod Processes
+pub mod Mappings

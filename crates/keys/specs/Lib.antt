@@ -4,4 +4,6 @@ pub mod Objects
 pub mod Histories
 pub mod Words
 pub mod Refusals
+pub mod Addresses
 pub mod Chains
+pub mod Mappings

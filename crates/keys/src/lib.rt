@@ -1,12 +1,13 @@
 //! Where the shared words lie, and what is done with them.
 //!
 //! [`Layout`] gives each word its place: robust-list heads, the cells and links of mutexes, the counters of condition variables. Valid places are pairwise
-//! different (`places_differ`). [`Access`] and [`Answer`] are the steps that programs take on words, a trim's with its meaning (`trims_are_right`); [`Point`] is the
-//! step at which an operation takes effect, and an [`Operation`]'s word is read back as that operation (`operations_are_read_back`). [`Object`] is the mutex with no
-//! bits: what POSIX says that each operation answers and leaves.
+//! different (`places_differ`). Threads belong to processes, each of which maps the words at a base of its own: programs speak of words by their addresses there
+//! (`addresses_are_sums`, `addresses_are_seen`, `writes_are_seen`). [`Access`] and [`Answer`] are the steps that programs take on words, a trim's with its meaning (`trims_are_right`); [`Point`] is the
+//! step at which an operation takes effect, and an [`Operation`]'s word is read back as that operation (`operations_are_read_back`). [`Object`] is the mutex with no bits: what POSIX says that each operation answers and leaves.
 #![tactic(auto)]
 
 mod access;
+mod address;
 mod key;
 mod layout;
 mod memory;
@@ -14,8 +15,11 @@ mod object;
 mod point;
 
 pub use access::{ALL, Access, Answer, trims_are_right};
+pub use address::{address_from, addresses_are_seen, addresses_are_sums, seen_at, writes_are_seen};
 pub use key::{Key, bucket_of, key_of};
-pub use layout::{CONDITION_LIMIT, HEAD_SIZE, Layout, LayoutFault, places_differ};
+pub use layout::{
+    BASE_LIMIT, CONDITION_LIMIT, HEAD_SIZE, Layout, LayoutFault, PROCESS_LIMIT, places_differ,
+};
 pub use memory::NoMem;
 pub use object::{HELD_LIMIT, Object};
 pub use point::{

@@ -1,0 +1,14 @@
+-- Addresses are sums of a base and a place.
+use Rattle.std.proofs.Common.{refl, arith}
+use Rattle.keys.specs.Mappings.{AddressesAreSums}
+
+pub sums : AddressesAreSums
+sums = record {
+  sum = λ base place. refl;
+  found = λ base place low small. omega (arith, low, small);
+  at_zero = λ place small. (omega (arith, small), omega (arith, small));
+  next = λ base place. omega arith;
+  apart = λ base other place least. omega (arith, least);
+  of_threads = λ l t place. refl;
+  of_places = λ l t at. refl;
+}
