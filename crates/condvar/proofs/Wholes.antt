@@ -9,7 +9,7 @@ use Rattle.keys.specs.declared.access.Answer.TheVariants.{Value, Stored, Exchang
 use Rattle.keys.specs.declared.point.Operation.{Operation}
 use Rattle.keys.specs.declared.point.Operation.TheVariants as operation
 use Rattle.keys.specs.declared.point.Point.{Point}
-use Rattle.keys.specs.Layouts.{Layout', cell_place}
+use Rattle.keys.specs.Layouts.{Layout', cell_place, address_in}
 use Rattle.robustlist.specs.declared.link.LinkRow.{LinkRow}
 use Rattle.robustlist.specs.declared.link.LinkRow.TheVariants as link
 use Rattle.robustlist.specs.declared.unlink.UnlinkRow.{UnlinkRow}
@@ -391,7 +391,7 @@ reached_had l t c answers f pos is =
     subst (λ (g : CondPhase). Had (operation_of c) (cond_reached (begins l t c) answers) g (points_after (begins l t c) [] answers)) is (all_had (operation_of c) answers (begins l t c) [] pos (none_had l t c))
 
 has_points : (l : Layout') (t : ℕ) (c : CondCall) (answers : List Answer) (x : Reply) → 1 ≤ t → (cond_reached (begins l t c) answers).phase ≡ Ended x → x ≢ EFAULT
-    → IsDecidedBy t (cell_place l (mutex_of l c)) (operation_of c) x (points_after (begins l t c) [] answers)
+    → IsDecidedBy t (address_in l t (cell_place l (mutex_of l c))) (operation_of c) x (points_after (begins l t c) [] answers)
 has_points l t c answers x pos is other =
     let k = kept answers (begins l t c) in
     let h = reached_had l t c answers (Ended x) pos is other in

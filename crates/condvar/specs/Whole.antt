@@ -16,7 +16,7 @@ use Rattle.keys.specs.declared.access.Answer.TheVariants.{Stored}
 use Rattle.keys.specs.declared.point.Point.{Point}
 use Rattle.keys.specs.declared.point.Progress.{Progress}
 use Rattle.keys.specs.declared.point.Progress.TheVariants.{Goes, Returns}
-use Rattle.keys.specs.Layouts.{Layout', head_place, entry_place, cell_place, counter_place}
+use Rattle.keys.specs.Layouts.{Layout', head_place, entry_place, cell_place, counter_place, address_in}
 use Rattle.robustlist.specs.declared.unlink.UnlinkRow.{UnlinkRow}
 use Rattle.robustlist.specs.declared.unlink.UnlinkRow.TheVariants as unlink
 use Rattle.robustlist.specs.Standings.{UnlinkStanding}
@@ -61,10 +61,10 @@ PhaseKnows f = Unit {0}
 abbrev pub begins : Layout' → ℕ → CondCall → CondWhole
 begins l t c = record {
   thread = t;
-  head = head_place t;
-  entry = entry_place l (mutex_of l c);
-  cell = cell_place l (mutex_of l c);
-  counter = counter_place l (condition_of c);
+  head = address_in l t (head_place t);
+  entry = address_in l t (entry_place l (mutex_of l c));
+  cell = address_in l t (cell_place l (mutex_of l c));
+  counter = address_in l t (counter_place l (condition_of c));
   phase = AtWords (first_row c);
 }
 

@@ -8,7 +8,7 @@ use Rattle.keys.specs.declared.access.Answer.TheVariants.{Value}
 use Rattle.keys.specs.declared.point.Operation.{Operation}
 use Rattle.keys.specs.declared.point.Operation.TheVariants as operation
 use Rattle.keys.specs.declared.point.Point.{Point}
-use Rattle.keys.specs.Layouts.{Layout', cell_place, head_place, entry_place}
+use Rattle.keys.specs.Layouts.{Layout', cell_place, head_place, entry_place, address_in}
 use Rattle.mutex.specs.Laws.{points, IsPermitted}
 use Rattle.mutex.specs.Standings.{Whole}
 use Rattle.mutex.specs.WholeLaws.{IsWhole}
@@ -49,9 +49,9 @@ pub record IsLockOf (l : Layout') (t : ℕ) (c : CondCall) (w : Whole) : Type 0 
   pub whole : IsWhole w
   pub thread : w.thread ≡ t
   pub operation : w.operation ≡ operation.Lock
-  pub head : w.head ≡ head_place t
-  pub entry : w.entry ≡ entry_place l (mutex_of l c)
-  pub cell : w.cell ≡ cell_place l (mutex_of l c)
+  pub head : w.head ≡ address_in l t (head_place t)
+  pub entry : w.entry ≡ address_in l t (entry_place l (mutex_of l c))
+  pub cell : w.cell ≡ address_in l t (cell_place l (mutex_of l c))
 
 -- the cell that a call's first load met, as its first answer tells
 abbrev pub first_met : List Answer → Option Fields
@@ -67,7 +67,7 @@ IsPermittedFirst t None q = ⊥
 pub record WholeCallsAreRight : Type 0 where
   -- one that returned, and not for a fault, has exactly its points, each at its mutex's cell
   pub points : (l : Layout') (t : ℕ) (c : CondCall) (answers : List Answer) (x : Reply) → 1 ≤ t → (cond_reached (begins l t c) answers).phase ≡ Ended x → x ≢ EFAULT
-      → IsDecidedBy t (cell_place l (mutex_of l c)) (operation_of c) x (points_after (begins l t c) [] answers)
+      → IsDecidedBy t (address_in l t (cell_place l (mutex_of l c))) (operation_of c) x (points_after (begins l t c) [] answers)
   -- each point but that of a lock has a reply that the object permits for the cell that the call's first load met
   pub permitted : (l : Layout') (t : ℕ) (c : CondCall) (answers : List Answer) → 1 ≤ t → All (IsPermittedFirst t (first_met answers)) (points_after (begins l t c) [] answers)
   -- where a wait takes its mutex again it is a lock, of which all holds that the mutex's laws say of whole calls

@@ -45,7 +45,7 @@ impl Model for CondProgram {
 impl CondProgram {
     ghost use Rattle.condvar.specs.Whole.{begins, cond_access, cond_led, cond_moved, cond_progress, from_words, lock_of, phase_led, IsUnderWay};
 
-    /// A call of a thread. What it may be refused for is seen in the mutex's cell and in the counter.
+    /// A call of a thread, which speaks of words by their addresses in the thread's process. What it may be refused for is seen in the mutex's cell and in the counter.
     pub fn new(layout: &Layout, thread: Tid, call: CondCall) -> CondProgram
         requires thread { thread ≤ layout.now.threads }
         requires condition { condition_of call < length layout.now.conditions }
@@ -54,15 +54,15 @@ impl CondProgram {
         let mutex = layout.mutex_of_condition(call.condition());
         CondProgram {
             thread,
-            head: layout.head(thread),
-            entry: layout.entry(mutex),
-            cell: layout.cell(mutex),
-            counter: layout.counter(call.condition()),
+            head: layout.address(thread, layout.head(thread)),
+            entry: layout.address(thread, layout.entry(mutex)),
+            cell: layout.address(thread, layout.cell(mutex)),
+            counter: layout.address(thread, layout.counter(call.condition())),
             phase: CondPhase::AtWords(CondRow::first(call)),
         }
     }
 
-    /// Such a call without its accesses to the thread's robust list.
+    /// Such a call without its accesses to the thread's robust list. It names its words by their places, as it's made by threads of one process that maps the words at 0.
     pub fn short(layout: &Layout, thread: Tid, call: CondCall) -> CondCellProgram
         requires thread { thread ≤ layout.now.threads }
         requires condition { condition_of call < length layout.now.conditions }

@@ -1,6 +1,7 @@
 pub mod Rights
 pub mod Races
 mod Replies
+mod Trims
 mod Wholes
 pub mod Steps
 pub mod Alone

@@ -48,7 +48,7 @@ trim_knows true = (tt, refl)
 trim_knows false = (tt, tt)
 
 -- whatever a call is answered at a row, its next row is of its operation, and knows what it needs
-goes_on : (t : ℕ) (r : Row) (a : Answer) → 1 ≤ t → Knows r → Knows (resume_of t r a).row × IsOf (row_operation r) (resume_of t r a).row
+pub goes_on : (t : ℕ) (r : Row) (a : Answer) → 1 ≤ t → Knows r → Knows (resume_of t r a).row × IsOf (row_operation r) (resume_of t r a).row
 goes_on t (row.Lock lock.Load) (Value w) pos k = let l = lock_looks t 0 (fields_of w) pos (omega arith) in (l.knows, l.stays)
 goes_on t (row.Lock lock.Load) a pos k = (tt, tt)
 goes_on t (row.Lock (lock.Take v)) Exchanged pos k = (tt, tt)

@@ -1,10 +1,11 @@
 -- What every call keeps, whatever the words that it meets and the answers that it gets.
-use Rattle.std.specs.Prelude.{ℕ, ◌≡◌, ◌+◌, ◌≤◌, Bool, true, Option, Some, None, List, [], ◌∷◌}
+use Rattle.std.specs.Prelude.{ℕ, ◌≡◌, ◌≢◌, ◌↔◌, ◌+◌, ◌≤◌, Bool, true, Option, Some, None, List, [], ◌∷◌}
 use Rattle.lockword.specs.Cells.{Fields, fields_of}
 use Rattle.lockword.specs.declared.reply.Reply.{Reply}
 use Rattle.lockword.specs.declared.reply.Reply.TheVariants.{OK, ENOTRECOVERABLE, XRACED}
+use Rattle.keys.specs.declared.access.Access.TheVariants as access
 use Rattle.keys.specs.declared.access.Answer.{Answer}
-use Rattle.keys.specs.declared.access.Answer.TheVariants.{Value, Exchanged, Changed}
+use Rattle.keys.specs.declared.access.Answer.TheVariants.{Value, Exchanged, Changed, Count}
 use Rattle.keys.specs.declared.point.Operation.{Operation}
 use Rattle.keys.specs.declared.point.Operation.TheVariants as operation
 use Rattle.keys.specs.declared.point.Point.{Point}
@@ -66,6 +67,16 @@ pub record Right (t cell : ℕ) (r : Row) (l : Led) (w w' : ℕ) : Type 0 where
 abbrev pub ProgramsAreRight : Type 0
 ProgramsAreRight = (t cell w : ℕ) (queue : List ℕ) (r : Row) → 1 ≤ t → t ≤ 64 → IsGoing r → Knows r → Sound (object_of (fields_of w)) → Expects t r (object_of (fields_of w))
     → Right t cell r (resume_of t r (answer_among (row_access t cell r) w queue)) w (word_among (row_access t cell r) w queue)
+
+-- WAITERS stays through every access of a call but a trim: taking, releasing and declaring keep it
+abbrev pub WaitersAreKept : Type 0
+WaitersAreKept = (t cell w : ℕ) (queue : List ℕ) (r : Row) → t ≤ 64 → IsGoing r → Knows r → Expects t r (object_of (fields_of w)) → row_access t cell r ≢ access.Trim cell
+    → (fields_of w).waiters ≡ true → (fields_of (word_among (row_access t cell r) w queue)).waiters ≡ true
+
+-- a call comes to a trim exactly where an unlock was to wake one thread and woke nobody, whatever it was answered before
+abbrev pub UnlocksTrim : Type 0
+UnlocksTrim = (t cell : ℕ) (r : Row) (a : Answer) → 1 ≤ t → IsGoing r → Knows r
+    → (row_access t cell (resume_of t r a).row ≡ access.Trim cell) ↔ ((row_operation r ≡ operation.Unlock) × (row_access t cell r ≡ access.Wake cell 1) × (a ≡ Count 0))
 
 -- where a call stands after some answers, whatever they are
 abbrev pub reached : ℕ → Row → List Answer → Row

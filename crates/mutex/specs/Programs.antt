@@ -35,7 +35,7 @@ first_row (call.TryLock m) = TryLock try.Load
 first_row (call.Unlock m) = Unlock unlock.Load
 first_row (call.Consistent m) = Consistent consistent.Load
 
--- a call's begin, at its mutex's cell
+-- a call's begin, at its mutex's cell, which it names by its place
 abbrev pub at_cell : Layout' → ℕ → Call → Standing
 at_cell l t c = record { thread = t; cell = cell_place l (mutex_of c); row = first_row c }
 

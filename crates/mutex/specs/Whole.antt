@@ -22,7 +22,7 @@ use Rattle.keys.specs.declared.point.Point.{Point}
 use Rattle.keys.specs.declared.point.Progress.{Progress}
 use Rattle.keys.specs.declared.point.Progress.TheVariants.{Goes, Returns}
 use Rattle.keys.specs.Chains.{address_sum}
-use Rattle.keys.specs.Layouts.{Layout', head_place, entry_place, cell_place}
+use Rattle.keys.specs.Layouts.{Layout', head_place, entry_place, cell_place, address_in}
 use Rattle.keys.specs.Objects.{held_limit, acquires}
 use Rattle.robustlist.specs.declared.link.LinkRow.{LinkRow}
 use Rattle.robustlist.specs.declared.link.LinkRow.TheVariants as link
@@ -75,8 +75,16 @@ first_phase (call.Lock m) = Announcing (first_row (call.Lock m))
 first_phase (call.TryLock m) = Announcing (first_row (call.TryLock m))
 first_phase c = AtCell (first_row c)
 
+-- it speaks of its head, its entry and its cell by their addresses in the thread's process
 abbrev pub begins : Layout' → ℕ → Call → Whole
-begins l t c = record { thread = t; operation = operation_of c; head = head_place t; entry = entry_place l (mutex_of c); cell = cell_place l (mutex_of c); phase = first_phase c }
+begins l t c = record {
+  thread = t;
+  operation = operation_of c;
+  head = address_in l t (head_place t);
+  entry = address_in l t (entry_place l (mutex_of c));
+  cell = address_in l t (cell_place l (mutex_of c));
+  phase = first_phase c;
+}
 
 -- whoever holds as many mutexes as a thread may hold may not take another
 abbrev pub whole_started : Layout' → ℕ → ℕ → Call → Result Whole Reply

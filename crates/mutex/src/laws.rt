@@ -1,11 +1,21 @@
 //! What holds of every call.
-ghost use Rattle.mutex.specs.Laws.{ProgramsAreRight, RacedAfterFour, PointsArePermitted};
+ghost use Rattle.mutex.specs.Laws.{ProgramsAreRight, WaitersAreKept, UnlocksTrim, RacedAfterFour, PointsArePermitted};
 ghost use Rattle.mutex.specs.WholeLaws.{WholeCallsAreRight};
 ghost use Rattle.mutex.specs.Decisions.{WholeCallsAreDecided};
 
 /// Whatever word an access of a call meets, it is a step of the mutex as POSIX sees it, and leaves what the call's next access needs.
 pub fn programs_are_right()
     ensures { ProgramsAreRight }
+{}
+
+/// Every access of a call but a trim leaves `WAITERS` where it is set.
+pub fn waiters_are_kept()
+    ensures { WaitersAreKept }
+{}
+
+/// A call comes to a trim exactly where an unlock was to wake one thread and woke nobody.
+pub fn unlocks_trim_after_waking_nobody()
+    ensures { UnlocksTrim }
 {}
 
 /// Whatever it is answered, a trylock gives up only after four exchanges that each found a changed cell.

@@ -48,7 +48,7 @@ impl Program {
     ghost use Rattle.mutex.specs.declared.phase.Phase.TheVariants.{AtCell};
     ghost use Rattle.mutex.specs.Whole.{whole_started, retaking, whole_access, whole_led, whole_moved, whole_point, whole_progress, announced, from_cell, after_cell, leaving, IsUnderWay, PhaseKnows};
 
-    /// A call of a thread that holds so many mutexes. A lock or trylock by a thread that holds 2,048 is refused with `XHELD` before any access.
+    /// A call of a thread that holds so many mutexes. It speaks of words by their addresses in the thread's process. A lock or trylock by a thread that holds 2,048 is refused with `XHELD` before any access.
     pub fn new(layout: &Layout, thread: Tid, held: u16, call: Call) -> Result<Program, Reply>
         requires thread { thread ≤ layout.now.threads }
         requires mutex { mutex_of call < layout.now.mutexes }
@@ -60,14 +60,14 @@ impl Program {
         Ok(Program {
             thread,
             operation: call.operation(),
-            head: layout.head(thread),
-            entry: layout.entry(call.mutex()),
-            cell: layout.cell(call.mutex()),
+            head: layout.address(thread, layout.head(thread)),
+            entry: layout.address(thread, layout.entry(call.mutex())),
+            cell: layout.address(thread, layout.cell(call.mutex())),
             phase: first_phase(call),
         })
     }
 
-    /// Such a call without its accesses to the thread's robust list.
+    /// Such a call without its accesses to the thread's robust list. It names the cell by its place, as it's made by threads of one process that maps the words at 0.
     pub fn short(layout: &Layout, thread: Tid, held: u16, call: Call) -> Result<CellProgram, Reply>
         requires thread { thread ≤ layout.now.threads }
         requires mutex { mutex_of call < layout.now.mutexes }
