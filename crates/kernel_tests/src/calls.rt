@@ -1,4 +1,4 @@
-//! Each call of a kernel, by worked tables.
+//! Each call of a kernel, by worked tables. The caller's process maps the words at 0, so that addresses are places.
 
 use crate::batches::{has_ids, thread};
 use buckets::Batch;
@@ -98,7 +98,7 @@ fn wait(
     let thread = thread(rt, id);
     assert!(rt; thread.get() <= kernel.threads());
     assert!(rt; !kernel.asleep(thread));
-    reply_of(kernel.wait(memory, thread, at, expected))
+    reply_of(kernel.wait(0, memory, thread, at, expected))
 }
 
 /// A wake woke these, where the reply is `OK`.
@@ -141,8 +141,8 @@ fn make(rt: &impl Abort, kernel: &mut Kernel, memory: &PlainMemory, call: Call) 
         } => {
             assert!(rt; wait(rt, kernel, memory, id, at, expected) == reply);
         }
-        Call::Wake { at, n, ids } => woke(rt, kernel.wake(memory, at, n), Reply::OK, ids),
-        Call::WakeRefused { at, n, reply } => woke(rt, kernel.wake(memory, at, n), reply, &[]),
+        Call::Wake { at, n, ids } => woke(rt, kernel.wake(0, memory, at, n), Reply::OK, ids),
+        Call::WakeRefused { at, n, reply } => woke(rt, kernel.wake(0, memory, at, n), reply, &[]),
         Call::Remove { id, slept } => assert!(rt; kernel.remove(thread(rt, id)) == slept),
         Call::Asleep { id, asleep } => assert!(rt; kernel.asleep(thread(rt, id)) == asleep),
         Call::Sleepers { at, ids } => has_ids(rt, &kernel.sleepers(at), ids),
@@ -163,14 +163,20 @@ fn requeue(rt: &impl Abort, kernel: &mut Kernel, memory: &PlainMemory, call: Cal
         } => {
             requeued(
                 rt,
-                kernel.requeue(memory, from, wake, to, moves),
+                kernel.requeue(0, memory, from, wake, to, moves),
                 Reply::OK,
                 woken,
                 moved,
             );
         }
         Call::RequeueRefused { from, to, reply } => {
-            requeued(rt, kernel.requeue(memory, from, 1, to, 1), reply, &[], &[]);
+            requeued(
+                rt,
+                kernel.requeue(0, memory, from, 1, to, 1),
+                reply,
+                &[],
+                &[],
+            );
         }
         Call::CmpRequeue {
             from,
@@ -181,7 +187,7 @@ fn requeue(rt: &impl Abort, kernel: &mut Kernel, memory: &PlainMemory, call: Cal
             woken,
             moved,
         } => {
-            let answer = kernel.cmp_requeue(memory, from, expected, wake, to, moves);
+            let answer = kernel.cmp_requeue(0, memory, from, expected, wake, to, moves);
             requeued(rt, answer, Reply::OK, woken, moved);
         }
         Call::CmpRequeueRefused {
@@ -190,7 +196,7 @@ fn requeue(rt: &impl Abort, kernel: &mut Kernel, memory: &PlainMemory, call: Cal
             to,
             reply,
         } => {
-            let answer = kernel.cmp_requeue(memory, from, expected, 1, to, 1);
+            let answer = kernel.cmp_requeue(0, memory, from, expected, 1, to, 1);
             requeued(rt, answer, reply, &[], &[]);
         }
         _ => assert!(rt; false),
@@ -617,7 +623,7 @@ fn trims(
     trimmed: bool,
     word: u64,
 ) {
-    assert!(rt; kernel.trim(memory, at) == Ok(trimmed));
+    assert!(rt; kernel.trim(0, memory, at) == Ok(trimmed));
     assert!(rt; memory.load(at) == Some(word));
 }
 
@@ -630,7 +636,7 @@ fn a_trim_clears_waiters_alone(rt: HostRuntime) -> Result<(), Fail> {
         trims(&rt, &kernel, &mut memory, 5, word != left, left);
     }
     for at in NOWHERE {
-        assert!(rt; kernel.trim(&mut memory, at) == Err(Reply::EFAULT));
+        assert!(rt; kernel.trim(0, &mut memory, at) == Err(Reply::EFAULT));
     }
     trims(&rt, &kernel, &mut memory, 4, false, 7);
     Ok(())
@@ -647,7 +653,7 @@ fn a_trim_looks_for_sleepers_of_its_word(rt: HostRuntime) -> Result<(), Fail> {
     trims(&rt, &kernel, &mut memory, 8, false, 0x8000_0000);
     trims(&rt, &kernel, &mut memory, 9, true, 0);
     has_ids(&rt, &kernel.sleepers(8), &[1]);
-    woke(&rt, kernel.wake(&memory, 8, 1), Reply::OK, &[1]);
+    woke(&rt, kernel.wake(0, &memory, 8, 1), Reply::OK, &[1]);
     trims(&rt, &kernel, &mut memory, 8, true, 0);
     Ok(())
 }

@@ -14,7 +14,7 @@ fn sleep(rt: &impl Abort, kernel: &mut Kernel, memory: &PlainMemory, id: u8, at:
     let thread = thread(rt, id);
     assert!(rt; thread.get() <= kernel.threads());
     assert!(rt; !kernel.asleep(thread));
-    assert!(rt; kernel.wait(memory, thread, at, 0) == Ok(()));
+    assert!(rt; kernel.wait(0, memory, thread, at, 0) == Ok(()));
     assert!(rt; kernel.asleep(thread));
 }
 
@@ -32,7 +32,7 @@ fn moved(
     to: u64,
     moves: u32,
 ) -> Batch {
-    match kernel.requeue(memory, from, 0, to, moves) {
+    match kernel.requeue(0, memory, from, 0, to, moves) {
         Ok((woken, moved)) => {
             assert!(rt; woken.is_empty());
             moved
@@ -91,7 +91,7 @@ fn a_requeue_moves_between_two_buckets(rt: HostRuntime) -> Result<(), Fail> {
         assert!(rt; kernel.asleep(thread(&rt, id)));
         assert!(rt; kernel.clone()?.remove(thread(&rt, id)));
     }
-    match kernel.wake(&memory, 10, 64) {
+    match kernel.wake(0, &memory, 10, 64) {
         Ok(woken) => has_ids(&rt, &woken, &[4, 1]),
         Err(reply) => assert!(rt; reply == Reply::OK),
     }

@@ -15,6 +15,8 @@ mod links;
 #[cfg(test)]
 mod memories;
 #[cfg(test)]
+mod processes;
+#[cfg(test)]
 mod queues;
 #[cfg(test)]
 mod rings;

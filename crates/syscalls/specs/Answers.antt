@@ -6,18 +6,18 @@ use Rattle.keys.specs.Accesses.{Trims}
 use Rattle.syscalls.specs.Kernels.{Kernel', head_of, head_size}
 use Rattle.syscalls.specs.Memories.{is_valid}
 
--- the futex word in the word at an address: its low half
+-- the futex word in the word at a place: its low half
 abbrev pub futex_word : List ℕ → ℕ → ℕ
 futex_word words at = slice_index words at % 2 ^ 32
 
--- a wait sleeps exactly where the futex word is the expected one. EFAULT tells that the address is invalid, and else EAGAIN that the word differs
+-- a wait sleeps exactly where the futex word is the expected one. EFAULT tells that the place is invalid, and else EAGAIN that the word differs
 abbrev pub WaitAnswers : List ℕ → ℕ → ℕ → Result (Unit {0}) Reply → Type 0
 WaitAnswers words at expected (Ok x) = IsTrue (is_valid words at) × (futex_word words at ≡ expected)
 WaitAnswers words at expected (Err EAGAIN) = IsTrue (is_valid words at) × (futex_word words at ≢ expected)
 WaitAnswers words at expected (Err EFAULT) = IsFalse (is_valid words at)
 WaitAnswers words at expected (Err r) = ⊥
 
--- a wake is refused exactly where the address is invalid
+-- a wake is refused exactly where the place is invalid
 abbrev pub WakeAnswers : {X : Type 0} → List ℕ → ℕ → Result X Reply → Type 0
 WakeAnswers words at (Ok x) = IsTrue (is_valid words at)
 WakeAnswers words at (Err EFAULT) = IsFalse (is_valid words at)
@@ -29,23 +29,23 @@ TrimAnswers words at (Ok trimmed) = IsTrue (is_valid words at)
 TrimAnswers words at (Err EFAULT) = IsFalse (is_valid words at)
 TrimAnswers words at (Err r) = ⊥
 
--- the word at an address was trimmed, on which these threads sleep; every other word stays
+-- the word at a place was trimmed, on which these threads sleep; every other word stays
 pub record TrimsAt (old new : List ℕ) (at : ℕ) (queue : List ℕ) (trimmed : Bool) : Type 0 where
   pub word : Trims (slice_index old at) queue (slice_index new at) trimmed
   pub others : new ≡ slice_set old at (slice_index new at)
 
--- both addresses are valid
+-- both places are valid
 abbrev pub BothValid : List ℕ → ℕ → ℕ → Type 0
 BothValid words from to = IsTrue (is_valid words from) × IsTrue (is_valid words to)
 
--- a requeue is refused exactly where the addresses are equal, which EINVAL tells, and else where one of them is invalid, which EFAULT tells
+-- a requeue is refused exactly where the places are equal, which EINVAL tells, and else where one of them is invalid, which EFAULT tells
 abbrev pub RequeueAnswers : {X : Type 0} → List ℕ → ℕ → ℕ → Result X Reply → Type 0
 RequeueAnswers words from to (Ok x) = (from ≢ to) × BothValid words from to
 RequeueAnswers words from to (Err EINVAL) = from ≡ to
 RequeueAnswers words from to (Err EFAULT) = (from ≢ to) × ¬ BothValid words from to
 RequeueAnswers words from to (Err r) = ⊥
 
--- the same, and else it is refused where the futex word at the first address isn't the expected one, which EAGAIN tells
+-- the same, and else it is refused where the futex word at the first place isn't the expected one, which EAGAIN tells
 abbrev pub CmpRequeueAnswers : {X : Type 0} → List ℕ → ℕ → ℕ → ℕ → Result X Reply → Type 0
 CmpRequeueAnswers words from expected to (Ok x) = (from ≢ to) × BothValid words from to × (futex_word words from ≡ expected)
 CmpRequeueAnswers words from expected to (Err EAGAIN) = (from ≢ to) × BothValid words from to × (futex_word words from ≢ expected)

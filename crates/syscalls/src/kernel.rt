@@ -1,4 +1,4 @@
-//! The sleepers of every word, and the robust list's head of every thread.
+//! The sleepers of every word, by its place, and the robust list's head of every thread.
 ghost use Rattle.std.specs.Prelude.{◌≡◌, ◌≢◌, ◌<◌, ◌≤◌, ◌-◌, ◌%◌, ℕ, not, length, slice_index, slice_get, Contains, Some, MatchOption, MatchResult, MatchBool, IfOk};
 ghost use Rattle.keys.specs.Accesses.{is_nobody};
 ghost use Rattle.std.specs.List.{All};
@@ -17,6 +17,8 @@ use std::marker::Model;
 const BUCKETS: usize = 256;
 
 /// Who sleeps on which word, of threads whose ids go from 1 to a number (futex(2), shared futexes), and where each one's robust list begins (get_robust_list(2)).
+///
+/// A word is known by its place: whatever addresses it has for the processes of those who sleep on it, they meet.
 #[derive(Drop)]
 pub struct Kernel {
     threads: u8,
@@ -101,7 +103,7 @@ fn remember(stood_in: &mut [u8], threads: &Batch, number: u8)
     }
 }
 
-/// The word at the first of two addresses. Refused with EINVAL where they are equal, and else with EFAULT where either is invalid.
+/// The word at the first of two places. Refused with EINVAL where they are equal, and else with EFAULT where either is invalid.
 fn first_of_two<M: Memory>(memory: &M, first: u64, second: u64) -> Result<u64, Reply>
     ensures answer { RequeueAnswers (M.words memory.now) first second result }
     ensures word { IfOk result (λ w. w ≡ slice_index (M.words memory.now) first) }
@@ -175,9 +177,9 @@ impl Kernel {
         self.threads
     }
 
-    /// FUTEX_WAIT of a thread that doesn't sleep: where the low half of the word at the address is the expected value, the thread falls asleep on it;
-    /// comparing and falling asleep are one step. Refused with EFAULT where the address is invalid, and else with EAGAIN where the word differs.
-    pub fn wait<M: Memory>(
+    /// FUTEX_WAIT of a thread that doesn't sleep: where the low half of the word at the place is the expected value, the thread falls asleep on it;
+    /// comparing and falling asleep are one step. Refused with EFAULT where there is no such place, and else with EAGAIN where the word differs.
+    pub(crate) fn wait_at<M: Memory>(
         &mut self,
         memory: &M,
         thread: Tid,
@@ -204,9 +206,9 @@ impl Kernel {
         Ok(())
     }
 
-    /// FUTEX_WAKE: wakes the first `n` that sleep on the word at the address, in the order in which they fell asleep, or all where there are fewer.
-    /// Refused with EFAULT where the address is invalid.
-    pub fn wake<M: Memory>(&mut self, memory: &M, at: u64, n: u32) -> Result<Batch, Reply>
+    /// FUTEX_WAKE: wakes the first `n` that sleep on the word at the place, in the order in which they fell asleep, or all where there are fewer.
+    /// Refused with EFAULT where there is no such place.
+    pub(crate) fn wake_at<M: Memory>(&mut self, memory: &M, at: u64, n: u32) -> Result<Batch, Reply>
         ensures answer { WakeAnswers (M.words memory.now) at result }
         ensures changes { MatchResult result (Wakes self.old self.new at n) (λ _. self.new ≡ self.old) }
         ensures sound { IsKernel self.new }
@@ -221,8 +223,8 @@ impl Kernel {
 
     /// FUTEX_REQUEUE: wakes the first `wake` that sleep on the word at `from`, or all where there are fewer, and moves the first of the rest, `moves` at most,
     /// to the end of the queue of the word at `to`, as if they had fallen asleep on it. Answers who was woken and who was moved, in order.
-    /// Refused with EINVAL where the addresses are equal, and else with EFAULT where either is invalid; then nothing changes.
-    pub fn requeue<M: Memory>(
+    /// Refused with EINVAL where the places are equal, and else with EFAULT where there is no such place; then nothing changes.
+    pub(crate) fn requeue_at<M: Memory>(
         &mut self,
         memory: &M,
         from: u64,
@@ -237,14 +239,14 @@ impl Kernel {
         // What a kernel always keeps is known once a field of it is read.
         let _threads = self.threads;
         first_of_two(memory, from, to)?;
-        let woken = self.wake(memory, from, wake)?;
+        let woken = self.wake_at(memory, from, wake)?;
         let moved = self.move_sleepers(from, moves, to);
         Ok((woken, moved))
     }
 
     /// FUTEX_CMP_REQUEUE: a requeue where the low half of the word at `from` is the expected value; comparing and moving are one step.
-    /// Refused with EINVAL where the addresses are equal, else with EFAULT where either is invalid, and else with EAGAIN where the word differs; then nothing changes.
-    pub fn cmp_requeue<M: Memory>(
+    /// Refused with EINVAL where the places are equal, else with EFAULT where there is no such place, and else with EAGAIN where the word differs; then nothing changes.
+    pub(crate) fn cmp_requeue_at<M: Memory>(
         &mut self,
         memory: &M,
         from: u64,
@@ -264,7 +266,7 @@ impl Kernel {
         if low != expected {
             return Err(Reply::EAGAIN);
         }
-        self.requeue(memory, from, wake, to, moves)
+        self.requeue_at(memory, from, wake, to, moves)
     }
 
     /// Moves the first `n` that sleep on the one word, or all where there are fewer, to the end of the other word's queue, in order. Their buckets may be one or two.
@@ -286,9 +288,9 @@ impl Kernel {
         }
     }
 
-    /// Clears the word at the address where it is `0x80000000`, the cell of a free mutex that says only that somebody may sleep on it, and nobody does: looking for sleepers,
-    /// comparing and clearing are one step. Answers whether it cleared it; no queue changes. Refused with EFAULT where the address is invalid, and then no word changes.
-    pub fn trim<M: Memory>(&self, memory: &mut M, at: u64) -> Result<bool, Reply>
+    /// Clears the word at the place where it is `0x80000000`, the cell of a free mutex that says only that somebody may sleep on it, and nobody does: looking for sleepers,
+    /// comparing and clearing are one step. Answers whether it cleared it; no queue changes. Refused with EFAULT where there is no such place, and then no word changes.
+    pub(crate) fn trim_at<M: Memory>(&self, memory: &mut M, at: u64) -> Result<bool, Reply>
         ensures answer { TrimAnswers (M.words memory.old) at result }
         ensures changes { MatchResult result (TrimsAt (M.words memory.old) (M.words memory.new) at (queue_of self.now at)) (λ _. M.words memory.new ≡ M.words memory.old) }
         ensures sound { IsKernel self.now }
@@ -305,7 +307,7 @@ impl Kernel {
         }
     }
 
-    /// Somebody sleeps on the word at an address.
+    /// Somebody sleeps on the word at a place.
     fn is_slept_on(&self, at: u64) -> bool
         ensures value { result ≡ not (is_nobody (queue_of self.now at)) }
         ensures sound { IsKernel self.now }
@@ -333,7 +335,7 @@ impl Kernel {
         bucket_with(&self.buckets, &self.stood_in, thread).is_some()
     }
 
-    /// Who sleeps on the word at an address, in the order in which they are to be woken.
+    /// Who sleeps on the word at a place, in the order in which they are to be woken.
     pub fn sleepers(&self, at: u64) -> Batch
         ensures value { result ≡ queue_of self.now at }
         ensures sound { IsKernel self.now }
@@ -351,7 +353,7 @@ impl Kernel {
         &self.buckets[usize::from(i)]
     }
 
-    /// Sets the address of the thread's robust list head, as the thread itself asks (set_robust_list(2)). It stays until it is set again.
+    /// Sets the address of the thread's robust list head, as the thread itself asks and as its process has it (set_robust_list(2)). It stays until it is set again.
     /// Refused with EINVAL where the length isn't 24, the size of a head in bytes; then nothing changes.
     pub fn set_robust_list(&mut self, thread: Tid, head: u64, len: u64) -> Result<(), Reply>
         requires known { thread ≤ self.old.threads }

@@ -3,7 +3,7 @@ use Rattle.buckets.specs.Queues.{Takes}
 use Rattle.std.proofs.lemmas.List.{length-set}
 use Rattle.syscalls.proofs.Told.{remembers_woken}
 use Rattle.syscalls.proofs.Calls.{Taken, sound_wake, wakes_in}
-use Rattle.syscalls.proofs.kernel.Kernel.wake.Goals as goal
+use Rattle.syscalls.proofs.kernel.Kernel.wake_at.Goals as goal
 
 pub invariant_of-self : goal.invariant_of-self
 invariant_of-self g c =

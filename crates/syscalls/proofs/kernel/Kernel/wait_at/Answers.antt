@@ -4,7 +4,7 @@ use Rattle.syscalls.specs.Kernels.{Kernel', IsAwake}
 use Rattle.std.proofs.lemmas.List.{length-set}
 use Rattle.syscalls.proofs.Told.{remembers_asleep}
 use Rattle.syscalls.proofs.Calls.{Taken, room_in, nowhere_in, sound_wait, waits}
-use Rattle.syscalls.proofs.kernel.Kernel.wait.Goals as goal
+use Rattle.syscalls.proofs.kernel.Kernel.wait_at.Goals as goal
 
 pub wait_section-requires-clause-room : goal.wait_section-requires-clause-room
 wait_section-requires-clause-room g c =
