@@ -3,6 +3,8 @@ use Rattle.std.proofs.Common.{◌≡◌, ℕ, ◌+◌, ◌≤◌, sym, ap, ◌�
 use Rattle.protocol.proofs.Vocabulary.{sleeps_at, head_place, counter_place, Phase, AtCell, Linking, Clearing, Whole, Op, mutex_of, Stage, Calling, State}
 use Rattle.mutex.specs.declared.phase.Phase.TheVariants.{Announcing, Unlinking, Ended}
 use Rattle.mutex.specs.Programs.{row_access}
+use Rattle.protocol.proofs.Seeing.{head_in}
+use Rattle.robustlist.specs.Standings.{LinkStanding, UnlinkStanding}
 use Rattle.protocol.proofs.Kept.{Fits, Serves, Sits, Listed, Kept}
 use Rattle.protocol.proofs.Places.{head_is_no_cell, counter_is_no_cell}
 use Rattle.protocol.proofs.CallSteps.{CallStep}
@@ -28,8 +30,18 @@ by_phase s t c p (AtCell r) inv pos known is fits serves listed = record {
   pendings = λ u first most apart. cell.word_there s t c p r inv pos known fits serves (head_place u + 2) (head_is_no_cell s.layout u (mutex_of s.layout c) 2 first most (omega arith));
   counters = λ k. cell.word_there s t c p r inv pos known fits serves (counter_place s.layout k) (counter_is_no_cell s.layout (mutex_of s.layout c) k fits.inside);
 }
-by_phase s t c p (Linking l x) inv pos known is fits serves (es, owned, ch) = linking_goes s t c p inv pos known serves l x fits is es owned ch
-by_phase s t c p (Unlinking u d) inv pos known is fits serves (es, owned, ch) = unlinking_goes s t c p inv pos known serves u d fits is es owned ch
+by_phase s t c p (Linking l x) inv pos known is fits serves (es, owned, ch) =
+    subst (λ (z : LinkStanding). CallStep s t c (record p { phase = Linking z x })) (sym same)
+    (linking_goes s t c p inv pos known serves l.row x (subst (λ (z : LinkStanding). Fits s t (s.threads t).held (mutex_of s.layout c) (record p { phase = Linking z x })) same fits) (is ∙ ap (λ (z : LinkStanding). Calling c (record p { phase = Linking z x })) same) es owned ch)
+  where
+    same : l ≡ record { head = head_in s.layout t; entry = p.entry; row = l.row }
+    same = λ i. record { head = (fits.stands.0 ∙ fits.head) i; entry = fits.stands.1 i; row = l.row }
+by_phase s t c p (Unlinking u d) inv pos known is fits serves (es, owned, ch) =
+    subst (λ (z : UnlinkStanding). CallStep s t c (record p { phase = Unlinking z d })) (sym same)
+    (unlinking_goes s t c p inv pos known serves u.row d (subst (λ (z : UnlinkStanding). Fits s t (s.threads t).held (mutex_of s.layout c) (record p { phase = Unlinking z d })) same fits) (is ∙ ap (λ (z : UnlinkStanding). Calling c (record p { phase = Unlinking z d })) same) es owned ch)
+  where
+    same : u ≡ record { head = head_in s.layout t; entry = p.entry; row = u.row }
+    same = λ i. record { head = (fits.stands.0 ∙ fits.head) i; entry = fits.stands.1 i; row = u.row }
 by_phase s t c p (Clearing x) inv pos known is fits serves listed = clearing s t c p inv pos known serves x fits is listed
 by_phase s t c p (Ended x) inv pos known is fits serves listed = absurd fits.stands
 

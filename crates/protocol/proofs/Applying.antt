@@ -5,7 +5,7 @@ use Rattle.protocol.proofs.Vocabulary.{OnCondition, mutex_of, begun_of, Event, N
 use Rattle.protocol.proofs.Vocabulary.{return_facts, reap_facts, State, After, put, start, answer_of, is_calling, is_alive, begun, nothing, decision, slept_in, falls_asleep, woken}
 use Rattle.protocol.proofs.Vocabulary.{held_after, led, led_at, went, has_ended, stage_walked, walked, killed, stepped, happens, run, notes, facts_among, if◌then◌else◌, nat_tests}
 use Rattle.protocol.proofs.Vocabulary.{Operation, Told, AtRest, InCall, Dead, Gone, told_next, told_after, last_told, IsLiving, HasAccess, IsThread, IsInNoQueue, Applies, refusal}
-use Rattle.protocol.proofs.Vocabulary.{IsAccessOf, IsNotedAs, NextApplies, EventsApply, Killed}
+use Rattle.protocol.proofs.Vocabulary.{IsAccessOf, IsNotedAs, NextApplies, EventsApply, Killed, is_asleep}
 use Rattle.condvar.specs.Calls as condition
 use Rattle.exitwalk.specs.declared.row.Row as walk_row
 use Rattle.exitwalk.specs.declared.row.Row.TheVariants as walk
@@ -19,7 +19,7 @@ use Rattle.protocol.proofs.Kept.{Kept}
 use Rattle.protocol.proofs.Runs.{start_kept, run_kept, run_layout}
 use Rattle.protocol.proofs.Events.{begins_at, by_event, IsWorking, by_stage}
 use Rattle.protocol.proofs.Endings.{EndsOrGoes, call_ends, cond_ends}
-use Rattle.protocol.proofs.Queued.{Queued, out_awake}
+use Rattle.protocol.proofs.Queued.{Queued, out_awake, in_none}
 use Rattle.protocol.proofs.QueueRuns.{run_queued}
 use Rattle.protocol.proofs.NoteFacts.{IsOfSleep, of_access, of_walk}
 
@@ -111,7 +111,7 @@ on_a_walk_agrees : (s : State) (u t : ℕ) (w : Told) → Agrees w (s.threads t)
     → Agrees (told_after t w (facts_of (walked s u (s.threads u).held v).note)) ((walked s u (s.threads u).held v).state.threads t).stage
 on_a_walk_agrees s u t w a v is =
     let answer = answer_of s u (exit.access_of v) in
-    let death = death_at s.layout (exit.point_of v.thread v.row answer) in
+    let death = death_at s.layout u (exit.point_of v.thread v.row answer) in
     let r = exit.row_after v.thread v.head v.row answer in
     subst (λ (x : Told). Agrees x ((walked s u (s.threads u).held v).state.threads t).stage) (sym (told_walked t w u death (woken s u (exit.access_of v)) (has_ended r)))
     (walked_agrees s u t (held_after (s.threads u).held Operation.Death (told_of_death death)) v w is a r)
@@ -160,6 +160,9 @@ module _ (s : State) (ns : List Note) (inv : Kept s) (queued : Queued s) (agrees
   works : (w : Told) (g : Stage) → HasAccess w → Agrees w g → IsWorking g
   works w g has a = grind (arith)
 
+  accesses : (w : Told) (g : Stage) → IsWorking g → Agrees w g → HasAccess w
+  accesses w g working a = grind (arith)
+
   step_noted : (t : ℕ) → HasAccess (last_told t ns) → IsInNoQueue s t → IsAccessOf t (stepped s t (s.threads t).held (s.threads t).stage).note
   step_noted t has out = by_stage s t (λ (a : After). IsAccessOf t a.note) (λ rests. absurd (rests (out_awake s t out) (works (last_told t ns) (s.threads t).stage has (agrees t)))) (λ o p is awake. refl) (λ c p is awake. refl) (λ v is awake. refl)
 
@@ -169,7 +172,19 @@ module _ (s : State) (ns : List Note) (inv : Kept s) (queued : Queued s) (agrees
       (step_noted t on.1 on.2)
 
   steps_else : (t : ℕ) → ¬ Applies s.layout s ns (Event.Step t) → happens s (Event.Step t) ≡ nothing s
-  steps_else t never = grind (arith)
+  steps_else t never = go (is_thread s t) refl
+    where
+      applies : is_thread s t ≡ true → is_asleep s t ≡ false → IsWorking (s.threads t).stage → ⊥
+      applies inside awake working = let first : 1 ≤ t = grind (arith, nat_tests) in let last : t ≤ s.layout.threads = grind (arith, nat_tests) in
+          never ((first, last), accesses (last_told t ns) (s.threads t).stage working (agrees t), in_none s t queued awake)
+
+      go : (b : Bool) → is_thread s t ≡ b → (if b then stepped s t (s.threads t).held (s.threads t).stage else nothing s) ≡ nothing s
+      go false outside = refl
+      go true inside =
+          by_stage s t (λ (a : After). a ≡ nothing s) (λ rests. refl)
+          (λ o p is awake. absurd (applies inside awake (subst IsWorking (sym is) tt)))
+          (λ c p is awake. absurd (applies inside awake (subst IsWorking (sym is) tt)))
+          (λ v is awake. absurd (applies inside awake (subst IsWorking (sym is) tt)))
 
   -- ---- kills
   kills_so : (t : ℕ) → Applies s.layout s ns (Event.Kill t) → (happens s (Event.Kill t)).note ≡ Killed t

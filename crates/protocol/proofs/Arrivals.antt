@@ -1,7 +1,8 @@
 -- Where a step leads its own thread: to a phase in which it stands rightly, with its list as that phase has it.
 use Rattle.std.proofs.Common.{◌≡◌, ◌⊎◌, inl, inr, ℕ, List, refl, arith}
-use Rattle.protocol.proofs.Vocabulary.{Access, Object, head_place, Reply, Phase, AtCell, Linking, Clearing, Whole, Op, mutex_of, Thread, Calling, State, stage_after, seen}
+use Rattle.protocol.proofs.Vocabulary.{Access, Object, Reply, Phase, AtCell, Linking, Clearing, Whole, Op, mutex_of, Thread, Calling, State, stage_after, seen}
 use Rattle.mutex.specs.declared.phase.Phase.TheVariants.{Announcing, Unlinking, Ended}
+use Rattle.protocol.proofs.Seeing.{head_in, words_in}
 use Rattle.protocol.proofs.Kept.{InPhase, Fits, Serves, Sits, left_out_in, Owned, ChainedIn, Listed, pending_in, PendsAs}
 use Rattle.protocol.proofs.Steps.{done}
 
@@ -33,7 +34,7 @@ module _ (s : State) (t h : ℕ) (c : Op) (p : Whole) (fits : Fits s t h (mutex_
   sits_after held f stands = grind (arith)
 
 -- and has its list
-pub listed_after : (s : State) (t : ℕ) (c : Op) (p : Whole) (es : List ℕ) (f : Phase) → Owned s t (left_out_in (mutex_of s.layout c) f) es → ChainedIn s.words (head_place t) p.entry es f → Listed s t (stage_after c p f)
+pub listed_after : (s : State) (t : ℕ) (c : Op) (p : Whole) (es : List ℕ) (f : Phase) → Owned s t (left_out_in (mutex_of s.layout c) f) es → ChainedIn (words_in s.layout t s.words) (head_in s.layout t) p.entry es f → Listed s t (stage_after c p f)
 listed_after s t c p es f owned ch = grind (arith)
 
 -- its pending entry is that of its phase

@@ -8,6 +8,7 @@ use Rattle.mutex.specs.declared.row.Row.TheVariants.{Lock}
 use Rattle.protocol.specs.Machine.{places_of}
 use Rattle.protocol.proofs.Puts.{by_put, put-same}
 use Rattle.protocol.proofs.Phases.{answers_at, left_at, Moves}
+use Rattle.protocol.proofs.Seeing.{cell_in}
 use Rattle.protocol.proofs.Kept.{InPhase, Fits, Kept}
 use Rattle.protocol.proofs.Steps.{Transition, IsNoMove, joined_none, met_queue, met_no_move, seen-inside, Tells, onto, after, place_of, met, call_step}
 use Rattle.protocol.proofs.Arrivals.{ended_or_not}
@@ -23,7 +24,7 @@ pub record CallStep (s : State) (t : ℕ) (c : Op) (p : Whole) : Type 0 where
   -- it sleeps and wakes at its mutex's cell only
   pub same_sleep : sleeps_at (whole_access p) (met s t (call_step s t c p)) ≡ sleeps_at (whole_access p) (s.words (cell_place s.layout (mutex_of s.layout c)))
   pub place : sleeps_at (whole_access p) (met s t (call_step s t c p)) ≡ true → place_met s.layout t (whole_access p) ≡ cell_place s.layout (mutex_of s.layout c)
-  pub wakes : is_wake (whole_access p) ≡ true → (n : ℕ) × (1 ≤ n) × (whole_access p ≡ Access.Wake (cell_place s.layout (mutex_of s.layout c)) n)
+  pub wakes : is_wake (whole_access p) ≡ true → (n : ℕ) × (1 ≤ n) × (whole_access p ≡ Access.Wake (cell_in s.layout t (mutex_of s.layout c)) n)
   -- whoever falls asleep is in a lock that saw the word, and loads it when it is woken
   pub sleeper : sleeps_at (whole_access p) (met s t (call_step s t c p)) ≡ true → (v : Fields) × (p.phase ≡ AtCell (Lock (LockRow.Sleep v))) × ((onto s t p).phase ≡ AtCell (Lock LockRow.Load))
   pub tells : Tells t (seen s (mutex_of s.layout c)) p.operation (onto s t p).point (seen (after s t (call_step s t c p)) (mutex_of s.layout c))
@@ -130,7 +131,7 @@ module _ (s : State) (t : ℕ) (c : Op) (p : Whole) (g : CallStep s t c p) (fits
       unowned is same = subst (IsUnowned s) (sym is) (ap (λ (o : Object). o.owner) (seen-inside s m fits.inside) ∙ ap owner_of (sym (ap (λ (x : ℕ). (fields_of x).owner) same) ∙ free_then is))
 
       here : k ≡ m → (a : Bool) → is_wake v.access ≡ a → (b : Bool) → sleeps_at v.access (met s t v) ≡ b → Settles s t v k
-      here is true e b z = let wakes = g.wakes e in Wakes_there wakes.0 wakes.1 (wakes.2 ∙ ap (λ (j : ℕ). Access.Wake (cell_place s.layout j) wakes.0) (sym is))
+      here is true e b z = let wakes = g.wakes e in Wakes_there wakes.0 wakes.1 (wakes.2 ∙ ap (λ (j : ℕ). Access.Wake (cell_in s.layout t j) wakes.0) (sym is))
       here is false e true z =
           let kept : w' ≡ w = ap (λ (x : ℕ). s'.words x) (sym (g.place z)) ∙ put-same s.words (place_of s t v) _ ∙ sleeps_unchanged v.access (met s t v) (s.queues (place_of s t v)) z ∙ ap s.words (g.place z) in
           let free : (fields_of w).owner ≡ 0 = sym (ap (λ (x : ℕ). (fields_of x).owner) kept) ∙ free_then is in

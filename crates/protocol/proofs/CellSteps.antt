@@ -1,6 +1,6 @@
 -- One access of a call at its mutex's cell.
 use Rattle.std.proofs.Common.{◌≡◌, ◌≢◌, inl, inr, ⊎_elim, ℕ, zero, suc, ◌+◌, ◌*◌, ◌%◌, ◌^◌, ◌<◌, ◌≤◌, ◌==◌, Bool, true, false, Option, Some, None, List, refl, sym, ap, ◌∙◌, subst, arith, eqb-true}
-use Rattle.protocol.proofs.Vocabulary.{word_of, fields_of-word_of, Access, Object, Operation, address_of, word_among, sleeps_at, IsChainBothWays, head_place, entry_place}
+use Rattle.protocol.proofs.Vocabulary.{word_of, fields_of-word_of, Access, Object, Operation, word_among, sleeps_at, IsChainBothWays, head_place, place_in}
 use Rattle.protocol.proofs.Vocabulary.{cell_place, Run, object_of, owner_of, fresh, acquires, owner_of-some, Fields, fields_of, Reply, OK, EOWNERDEAD, TryLock, Consistent, Phase}
 use Rattle.protocol.proofs.Vocabulary.{AtCell, Onward, is_wake, left, Expects, Sound, decided, Joins, Whole, after_cell, leaving, Op, mutex_of, Calling, State, put, is_valid}
 use Rattle.protocol.proofs.Vocabulary.{place_met, answer_among, stage_after, held_after, seen, Agree, if◌then◌else◌, nat_lt, eqb-false, LinkRow, LockRow, TryLockRow, UnlockRow}
@@ -27,8 +27,9 @@ use Rattle.mutex.proofs.Alone.{alone}
 use Rattle.mutex.proofs.Steps.{at_cell}
 use Rattle.protocol.proofs.Puts.{put-same, put-other}
 use Rattle.protocol.proofs.Phases.{left_at, Moves, after_decided, after_answers, after_left, after_steady}
-use Rattle.protocol.proofs.Kept.{AtRow, Fits, Serves, Sits, left_out_in, Owned, ChainedIn, Listed, pending_in, PendsAs, Kept, last_thread}
-use Rattle.protocol.proofs.Places.{mine_is_no_cell, head_is_no_cell, list_is_mine, both_same, lies_apart}
+use Rattle.protocol.proofs.Seeing.{head_in, entry_in, cell_in, cell_again}
+use Rattle.protocol.proofs.Kept.{AtRow, Fits, Serves, Sits, left_out_in, Owned, ChainedIn, Listed, pending_in, PendsAs, Kept, last_thread, view_of}
+use Rattle.protocol.proofs.Places.{mine_is_no_cell, head_is_no_cell, list_links, links_mine, both_same, lies_apart}
 use Rattle.protocol.proofs.Steps.{is_valid-cell, seen-inside, Tells, run_tells, same_operation, not_taken, same_held, onto, thread_after, after, call_step}
 use Rattle.protocol.proofs.Owning.{Owning, owning, pends, takes, frees, keeps}
 use Rattle.protocol.proofs.Frames.{OnlyWaitsFrom, kept_where}
@@ -109,14 +110,14 @@ module _ (s : State) (t : ℕ) (c : Op) (p : Whole) (r : Row) (inv : Kept s) (po
   abbrev at : AtRow t (s.threads t).held p.operation r (seen s m)
   at = fits.stands
 
-  address : address_of a ≡ place
-  address = at_cell p.thread p.cell r ∙ fits.cell
+  pub at_place : place_met s.layout t a ≡ place
+  at_place = ap (place_in s.layout t) (at_cell p.thread p.cell r ∙ fits.cell) ∙ cell_again s.layout t inv.layout pos known m fits.inside
 
-  pub valid : is_valid s.layout (address_of a) ≡ true
-  valid = ap (is_valid s.layout) address ∙ is_valid-cell s.layout m fits.inside
+  pub valid : is_valid s.layout (place_met s.layout t a) ≡ true
+  valid = ap (is_valid s.layout) at_place ∙ is_valid-cell s.layout m fits.inside
 
   word_at : (x : ℕ) → s'.words x ≡ put s.words place w' x
-  word_at x = ap (λ (y : ℕ). put s.words y (word_among a (s.words y) (s.queues y)) x) address
+  word_at x = ap (λ (y : ℕ). put s.words y (word_among a (s.words y) (s.queues y)) x) at_place
 
   word_here : s'.words place ≡ w'
   word_here = word_at place ∙ put-same s.words place w'
@@ -124,14 +125,11 @@ module _ (s : State) (t : ℕ) (c : Op) (p : Whole) (r : Row) (inv : Kept s) (po
   pub word_there : (x : ℕ) → x ≢ place → s'.words x ≡ s.words x
   word_there x apart = word_at x ∙ put-other s.words place w' x apart
 
-  pub wakes : is_wake a ≡ true → (n : ℕ) × (1 ≤ n) × (a ≡ Wake place n)
+  pub wakes : is_wake a ≡ true → (n : ℕ) × (1 ≤ n) × (a ≡ Wake (cell_in s.layout t m) n)
   wakes e = let woken = wakes_row p.thread p.cell r e in (woken.0, woken.1, woken.2 ∙ ap (λ (x : ℕ). Wake x woken.0) fits.cell)
 
-  pub at_place : place_met s.layout t a ≡ place
-  at_place = address
-
   leads : o ≡ from_cell whole l
-  leads = ap (λ (y : ℕ). from_cell whole (resume_of p.thread r (answer_among a (s.words y) (s.queues y)))) address
+  leads = ap (λ (y : ℕ). from_cell whole (resume_of p.thread r (answer_among a (s.words y) (s.queues y)))) at_place
 
   before : seen s m ≡ object_of (fields_of w)
   before = seen-inside s m fits.inside
@@ -246,23 +244,23 @@ module _ (s : State) (t : ℕ) (c : Op) (p : Whole) (r : Row) (inv : Kept s) (po
       all = λ k below mine outside. let was = entry_before f own k mine outside in owned.all k below was.0 was.1;
     }
 
-    agree : Agree (head_place t) es s.words s'.words
-    agree x on = word_there x (mine_is_no_cell s t x m pos known fits.inside (list_is_mine s t (left_out_in m (AtCell r)) es x inv.layout owned on))
+    agree : Agree (head_in s.layout t) es (view_of s t) (view_of s' t)
+    agree x on = word_there (place_in s.layout t x) (mine_is_no_cell s t (place_in s.layout t x) m pos known fits.inside (links_mine s t x (list_links s t inv.layout pos known (left_out_in m (AtCell r)) es x owned on)))
 
-    module _ (ch : IsChainBothWays s.words (head_place t) es) where
-      still : IsChainBothWays s'.words (head_place t) es
-      still = both_same s.words s'.words (head_place t) es agree ch
+    module _ (ch : IsChainBothWays (view_of s t) (head_in s.layout t) es) where
+      still : IsChainBothWays (view_of s' t) (head_in s.layout t) es
+      still = both_same (view_of s t) (view_of s' t) (head_in s.layout t) es agree ch
 
       -- a mutex that was free isn't on the list
-      apart_from_list : (seen s m).owner ≡ None → (x : ℕ) → IsAmong x es → (k : ℕ) × (k < s.layout.mutexes) × (x ≡ entry_place s.layout k) × (k ≢ m)
+      apart_from_list : (seen s m).owner ≡ None → (x : ℕ) → IsAmong x es → (k : ℕ) × (k < s.layout.mutexes) × (x ≡ entry_in s.layout t k) × (k ≢ m)
       apart_from_list free x among = let e = owned.entries x among in (e.0, e.1, e.2, λ is. cc (sym e.3 ∙ ap (λ (j : ℕ). (seen s j).owner) is ∙ free))
 
-      begins_link : (f : Phase) → left_out_in m f ≡ Some m → Owning m t r f (seen s m) (seen s' m) → link_laws.Linking (head_place t) p.entry es LinkRow.LoadFirst s'.words
-      begins_link f out (takes x y free now) = links.right.begins (head_place t) p.entry es s'.words still (subst (λ (e : ℕ). link_laws.LiesApart (head_place t) e es) (sym fits.entry) (lies_apart s.layout t m es inv.layout pos known fits.inside (apart_from_list free)))
+      begins_link : (f : Phase) → left_out_in m f ≡ Some m → Owning m t r f (seen s m) (seen s' m) → link_laws.Linking (head_in s.layout t) p.entry es LinkRow.LoadFirst (view_of s' t)
+      begins_link f out (takes x y free now) = links.right.begins (head_in s.layout t) p.entry es (view_of s' t) still (subst (λ (e : ℕ). link_laws.LiesApart (head_in s.layout t) e es) (sym fits.entry) (lies_apart s.layout t m es inv.layout pos known fits.inside (apart_from_list free)))
       begins_link f out (frees x y now) = absurd (cc (out, y))
       begins_link f out (keeps x y now) = absurd (cc (out, y))
 
-      chain_left : (op : Operation) (x : Reply) → Owning m t r (leaving whole op x) (seen s m) (seen s' m) → ChainedIn s'.words (head_place t) p.entry es (leaving whole op x)
+      chain_left : (op : Operation) (x : Reply) → Owning m t r (leaving whole op x) (seen s m) (seen s' m) → ChainedIn (view_of s' t) (head_in s.layout t) p.entry es (leaving whole op x)
       chain_left op EFAULT own = still
       chain_left Operation.Lock OK own = begins_link _ refl own
       chain_left Operation.Lock EOWNERDEAD own = begins_link _ refl own
@@ -273,7 +271,7 @@ module _ (s : State) (t : ℕ) (c : Op) (p : Whole) (r : Row) (inv : Kept s) (po
       chain_left Operation.Unlock OK own = still
       chain_left op x own = still
 
-      chain_after : (q : Row) → Owning m t r (after_cell whole q) (seen s m) (seen s' m) → ChainedIn s'.words (head_place t) p.entry es (after_cell whole q)
+      chain_after : (q : Row) → Owning m t r (after_cell whole q) (seen s m) (seen s' m) → ChainedIn (view_of s' t) (head_in s.layout t) p.entry es (after_cell whole q)
       chain_after (row.Ended x) own = chain_left p.operation x own
       chain_after (Lock z) own = still
       chain_after (TryLock z) own = still

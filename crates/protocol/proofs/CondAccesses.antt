@@ -1,6 +1,6 @@
 -- One access of a call on a condition variable, in whatever phase it is.
 use Rattle.std.proofs.Common.{◌≡◌, ℕ, ◌≤◌, true, None, refl, sym, ap, subst}
-use Rattle.protocol.proofs.Vocabulary.{CondCall, CondPhase, CondRow, CondOnward, CondWhole, cond_access, sleeps_at, head_place, entry_place}
+use Rattle.protocol.proofs.Vocabulary.{CondCall, CondPhase, CondRow, CondOnward, CondWhole, cond_access, sleeps_at}
 use Rattle.protocol.proofs.Vocabulary.{Stage, AtCondition, State, place_met, UnlinkRow, UnlinkStanding, WaitRow}
 use Rattle.condvar.specs.declared.row.CondRow.TheVariants.{Wait}
 use Rattle.condvar.specs.declared.phase.CondPhase.TheVariants.{AtWords, Announcing, Unlinking, Locking, Ended}
@@ -12,6 +12,7 @@ use Rattle.protocol.proofs.Stepping.{Stepping}
 use Rattle.protocol.proofs.CondSteps.{cond_of, falls_at, words_stepping}
 use Rattle.protocol.proofs.CondOwn.{at_pending, announcing_stepping, plain, on_list, then_at, unlinking_stepping}
 use Rattle.protocol.proofs.CondOwn.{leads as unlink_leads}
+use Rattle.protocol.proofs.Seeing.{head_in, entry_in}
 
 -- a thread in such a call
 pub fits_at : (s : State) (t : ℕ) (c : CondCall) (p : CondWhole) → Kept s → 1 ≤ t → t ≤ s.layout.threads → (s.threads t).stage ≡ AtCondition c p → FitsAt s t (s.threads t).held c p
@@ -55,7 +56,7 @@ module _ (s : State) (t : ℕ) (c : CondCall) (inv : Kept s) (pos : 1 ≤ t) (kn
   }
 
   abbrev standing : UnlinkRow → UnlinkStanding
-  standing r = record { head = head_place t; entry = entry_place s.layout (its_mutex s c); row = r }
+  standing r = record { head = head_in s.layout t; entry = entry_in s.layout t (its_mutex s c); row = r }
 
   unlinks : (r : UnlinkRow) (x : ℕ) → Fitting (Unlinking (standing r) x) → Nears s t c x (at_phase (Unlinking (standing r) x))
   unlinks r x (is, fits, (es, owned, ch)) = record {

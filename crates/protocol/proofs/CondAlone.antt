@@ -10,7 +10,7 @@ use Rattle.condvar.specs.Rows.{IsGoing}
 use Rattle.condvar.specs.Laws.{row_operation}
 use Rattle.condvar.specs.Programs.{row_access, resume_of}
 use Rattle.protocol.proofs.Kept.{Needs, FitsAt, Kept}
-use Rattle.protocol.proofs.Steps.{cond_onto, cond_step, its_mutex, its_cell, its_counter, cond_after}
+use Rattle.protocol.proofs.Steps.{cond_onto, cond_step, its_mutex, its_cell, its_counter, cond_after, cell_at, counter_at}
 use Rattle.protocol.proofs.Stepping.{Stepping}
 use Rattle.protocol.proofs.Endings.{cond_ends}
 use Rattle.protocol.proofs.Working.{cond_goes}
@@ -93,9 +93,9 @@ module _ (t held : ℕ) (o : Object) where
             subst (λ (g : CondOnward). KnowsIn (cond_after s t c (cond_of s.layout t c (CondPhase.AtWords r))) g.phase) (sym (words_lead s t c r inv pos known fits))
             (subst (λ (z : Operation × ℕ × Object). Knows z.0 z.1 z.2 (after_words (cond_of s.layout t c (CondPhase.AtWords r)) to_row))
             (λ i. (fits.stands.of i, sym (counter_here s t c r inv pos known fits) i, sym (here s t c r inv pos known fits) i))
-            (knows_row w pos (its_cell s c) (its_counter s c) k r (cond_of s.layout t c (CondPhase.AtWords r)) fits.stands.going fits.stands.needs
+            (knows_row w pos (cell_at s t c) (counter_at s t c) k r (cond_of s.layout t c (CondPhase.AtWords r)) fits.stands.going fits.stands.needs
             (subst (λ (z : Operation × Object). Knows z.0 k z.1 (CondPhase.AtWords r)) (λ i. (sym fits.stands.of i, before s t c r inv pos known fits i)) knows)
-            (ap (sleeps_at (row_access t (its_cell s c) (its_counter s c) r)) (sym (met_is s t c r inv pos known fits)) ∙ quiet)))
+            (ap (sleeps_at (row_access t (cell_at s t c) (counter_at s t c) r)) (sym (met_is s t c r inv pos known fits)) ∙ quiet)))
           where
             w : ℕ
             w = s.words (its_cell s c)
@@ -104,7 +104,7 @@ module _ (t held : ℕ) (o : Object) where
             k = s.words (its_counter s c)
 
             to_row : CondRow
-            to_row = (resume_of t r (answer_at (row_access t (its_cell s c) (its_counter s c) r) (met_word r w k))).row
+            to_row = (resume_of t r (answer_at (row_access t (cell_at s t c) (counter_at s t c) r) (met_word r w k))).row
 
         nearer : (x : ℕ) (q : CondWhole) → Nears s t c x q → Keeps s q
         nearer x q near quiet knows = near.leads (KnowsIn (cond_after s t c q)) (λ u. still) still
@@ -136,7 +136,7 @@ module _ (t held : ℕ) (o : Object) where
         place : place_met s.layout t (cond_access p) ≡ its_counter s c
         place = cond_sleeps s t c p inv pos known is on
 
-        stands : Turned t t (cond_access p) (place_met s.layout t (cond_access p)) (s.words (place_met s.layout t (cond_access p))) s.queues (cond_after s t c p).queues → stands_in t ((cond_after s t c p).queues (its_counter s c)) ≡ true
+        stands : Turned s.layout t t (cond_access p) (place_met s.layout t (cond_access p)) (s.words (place_met s.layout t (cond_access p))) s.queues (cond_after s t c p).queues → stands_in t ((cond_after s t c p).queues (its_counter s c)) ≡ true
         stands h = grind (arith)
 
     -- a call that is awake, whatever steps it has made

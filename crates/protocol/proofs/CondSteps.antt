@@ -1,9 +1,10 @@
 -- One access of a call on a condition variable at its words: its mutex's cell and its counter.
 use Rattle.std.proofs.Common.{◌≡◌, ◌≢◌, ⊎_elim, inl, inr, ℕ, ◌+◌, ◌<◌, ◌≤◌, ◌==◌, Bool, true, false, not, ◌&&◌, Option, Some, None, List, length, refl, sym, ap, ◌∙◌, subst, arith, eqb-true}
 use Rattle.protocol.proofs.Vocabulary.{CondCall, CondRow, Broadcast, CondLed, CondPhase, CondOnward, condition_of, cell_after, counter_after, met_word, CondWhole, after_words, word_among}
-use Rattle.protocol.proofs.Vocabulary.{from_words, Access, Object, Operation, address_of, changed, answer_at, sleeps_at, IsChainBothWays, Layout', head_place, cell_place}
+use Rattle.protocol.proofs.Vocabulary.{from_words, Access, Object, Operation, changed, answer_at, sleeps_at, IsChainBothWays, Layout', head_place, cell_place}
 use Rattle.protocol.proofs.Vocabulary.{counter_place, acquires, object_of, owner_of, owner_of-some, fields_of, Reply, Sound, OnCondition, Stage, AtCondition, mutex_of, State, put}
 use Rattle.protocol.proofs.Vocabulary.{is_valid, is_met, stage_at, reply_at, held_after, seen, IsUnowned, Agree, if◌then◌else◌, WaitRow, BroadcastRow, there, decided_at}
+use Rattle.protocol.proofs.Vocabulary.{place_in, place_met}
 use Rattle.condvar.specs.declared.row.CondRow.TheVariants.{Wait}
 use Rattle.condvar.specs.Calls.{operation_of}
 use Rattle.condvar.specs.Laws.{IsOf, row_operation, is_at_counter}
@@ -11,14 +12,16 @@ use Rattle.condvar.specs.Programs.{row_access, resume_of, point_of}
 use Rattle.condvar.specs.Whole.{begins}
 use Rattle.protocol.proofs.Puts.{put-same, put-other}
 use Rattle.protocol.proofs.Kept.{Needs, Room, AtWordsRow, AtPhase, FitsAt, Sits, left_out_at, Owned, Listed, PendsAs, Kept, last_thread}
-use Rattle.protocol.proofs.Places.{mine_is_no_cell, mine_is_no_counter, head_is_no_cell, head_is_no_counter, counter_is_no_cell, counter_is_valid, list_is_mine, both_same}
-use Rattle.protocol.proofs.Steps.{is_valid-cell, seen-inside, Tells, Transition, met_no_move, thread_after, after, cond_onto, cond_step, untrimmed}
+use Rattle.protocol.proofs.Places.{mine_is_no_cell, mine_is_no_counter, head_is_no_cell, head_is_no_counter, counter_is_no_cell, counter_is_valid, both_same}
+use Rattle.protocol.proofs.Places.{links_mine, list_links}
+use Rattle.protocol.proofs.Steps.{is_valid-cell, seen-inside, Tells, Transition, met_no_move, thread_after, after, cond_onto, cond_step, untrimmed, cell_at, counter_at}
 use Rattle.protocol.proofs.Frames.{OnlyWaitsFrom, kept_where}
 use Rattle.protocol.proofs.CallSteps.{free_field}
 use Rattle.protocol.proofs.Stepping.{AnswersAs, Answers_now, SleepsAs, left_of_row, left_of, HasWaiters, wakes_next, Moving, Moves_none, Moves_to, Settles, Wakes_there, Found_free, Stepping}
 use Rattle.protocol.proofs.CondRows.{cond_alike, only_waits_sleep, move_or, left_next, pending_next, Fair, fair, cond_no_trim}
 use Rattle.protocol.proofs.Cases.{at_or_else, some_same, same_object}
 use Rattle.protocol.proofs.Queues.{not_true}
+use Rattle.protocol.proofs.Seeing.{head_in, words_in, cell_again, counter_again}
 
 -- the call of thread t in a phase
 abbrev pub cond_of : Layout' → ℕ → CondCall → CondPhase → CondWhole
@@ -51,7 +54,7 @@ module _ (s' : State) (t held : ℕ) (c : CondCall) where
     abbrev from : CondWhole
     from = cond_of l t c f
 
-    listed_at : (q : CondRow) (es : List ℕ) → Owned s' t None es → IsChainBothWays s'.words (head_place t) es → Listed s' t (stage_at c from (after_words from q))
+    listed_at : (q : CondRow) (es : List ℕ) → Owned s' t None es → IsChainBothWays (words_in l t s'.words) (head_in l t) es → Listed s' t (stage_at c from (after_words from q))
     listed_at q es owned ch = grind (arith)
 
     pends_at : (q : CondRow) (x : ℕ) → x ≡ pending_next from.entry q → PendsAs x (stage_at c from (after_words from q))
@@ -82,14 +85,21 @@ module _ (s : State) (t : ℕ) (c : CondCall) (r : CondRow) (inv : Kept s) (pos 
   abbrev counter : ℕ
   counter = counter_place s.layout (condition_of c)
 
+  -- their addresses
+  abbrev cell_there : ℕ
+  cell_there = cell_at s t c
+
+  abbrev counter_there : ℕ
+  counter_there = counter_at s t c
+
   abbrev held : ℕ
   held = (s.threads t).held
 
   abbrev a : Access
-  a = row_access t cell counter r
+  a = row_access t cell_there counter_there r
 
   abbrev at : ℕ
-  at = address_of a
+  at = place_met s.layout t a
 
   abbrev w : ℕ
   w = s.words cell
@@ -110,7 +120,7 @@ module _ (s : State) (t : ℕ) (c : CondCall) (r : CondRow) (inv : Kept s) (pos 
   s' = after s t v
 
   abbrev w' : ℕ
-  w' = cell_after t cell counter r w
+  w' = cell_after t cell_there counter_there r w
 
   abbrev stands : AtWordsRow t held (operation_of c) r (fields_of w)
   stands = fits.stands
@@ -118,34 +128,55 @@ module _ (s : State) (t : ℕ) (c : CondCall) (r : CondRow) (inv : Kept s) (pos 
   apart : counter ≢ cell
   apart = counter_is_no_cell s.layout k (condition_of c) fits.inside
 
+  counter_is : place_in s.layout t counter_there ≡ counter
+  counter_is = counter_again s.layout t inv.layout pos known (condition_of c) fits.there
+
+  cell_is : place_in s.layout t cell_there ≡ cell
+  cell_is = cell_again s.layout t inv.layout pos known k fits.inside
+
   -- by where it is
+  pub at_either : at ≡ (if is_at_counter r then counter else cell)
+  at_either = ap (place_in s.layout t) (there t cell_there counter_there r) ∙ go (is_at_counter r)
+    where
+      go : (b : Bool) → place_in s.layout t (if b then counter_there else cell_there) ≡ (if b then counter else cell)
+      go true = counter_is
+      go false = cell_is
+
   at_counter : is_at_counter r ≡ true → at ≡ counter
-  at_counter e = there t cell counter r ∙ ap (λ (b : Bool). if b then counter else cell) e
+  at_counter e = at_either ∙ ap (λ (b : Bool). if b then counter else cell) e
 
   at_cell : is_at_counter r ≡ false → at ≡ cell
-  at_cell e = there t cell counter r ∙ ap (λ (b : Bool). if b then counter else cell) e
+  at_cell e = at_either ∙ ap (λ (b : Bool). if b then counter else cell) e
 
   either : (x : ℕ) → x ≢ cell → x ≢ counter → x ≢ at
-  either x no_cell no_counter is = grind (arith)
+  either x no_cell no_counter is = go (is_at_counter r) (is ∙ at_either)
+    where
+      go : (b : Bool) → x ≡ (if b then counter else cell) → ⊥
+      go true e = no_counter e
+      go false e = no_cell e
 
   pub met_is : s.words at ≡ met_word r w n
-  met_is = grind (arith)
+  met_is = ap s.words at_either ∙ go (is_at_counter r)
+    where
+      go : (b : Bool) → s.words (if b then counter else cell) ≡ (if b then n else w)
+      go true = refl
+      go false = refl
 
   pub leads : o ≡ from_words whole led_to
-  leads = ap (from_words whole) (cond_alike t cell counter r (s.words at) (s.queues at) ∙ ap (λ (x : ℕ). resume_of t r (answer_at a x)) met_is)
+  leads = ap (from_words whole) (cond_alike t cell_there counter_there r (s.words at) (s.queues at) ∙ ap (λ (x : ℕ). resume_of t r (answer_at a x)) met_is)
 
   word_here : s'.words cell ≡ w'
   word_here = go (is_at_counter r) refl
     where
       go : (b : Bool) → is_at_counter r ≡ b → s'.words cell ≡ w'
       go true e = put-other s.words at (word_among a (s.words at) (s.queues at)) cell (λ is. apart (sym (is ∙ at_counter e))) ∙ ap (λ (b : Bool). if b then w else changed a w) (sym e)
-      go false e = ap (λ (y : ℕ). put s.words y (word_among a (s.words y) (s.queues y)) cell) (at_cell e) ∙ put-same s.words cell (word_among a w (s.queues cell)) ∙ untrimmed a w (s.queues cell) (cond_no_trim t cell counter r) ∙ ap (λ (b : Bool). if b then w else changed a w) (sym e)
+      go false e = ap (λ (y : ℕ). put s.words y (word_among a (s.words y) (s.queues y)) cell) (at_cell e) ∙ put-same s.words cell (word_among a w (s.queues cell)) ∙ untrimmed a w (s.queues cell) (cond_no_trim t cell_there counter_there r) ∙ ap (λ (b : Bool). if b then w else changed a w) (sym e)
 
-  pub counter_here : s'.words counter ≡ counter_after t cell counter r n
+  pub counter_here : s'.words counter ≡ counter_after t cell_there counter_there r n
   counter_here = go (is_at_counter r) refl
     where
-      go : (b : Bool) → is_at_counter r ≡ b → s'.words counter ≡ counter_after t cell counter r n
-      go true e = ap (λ (y : ℕ). put s.words y (word_among a (s.words y) (s.queues y)) counter) (at_counter e) ∙ put-same s.words counter (word_among a n (s.queues counter)) ∙ untrimmed a n (s.queues counter) (cond_no_trim t cell counter r) ∙ ap (λ (b : Bool). if b then changed a n else n) (sym e)
+      go : (b : Bool) → is_at_counter r ≡ b → s'.words counter ≡ counter_after t cell_there counter_there r n
+      go true e = ap (λ (y : ℕ). put s.words y (word_among a (s.words y) (s.queues y)) counter) (at_counter e) ∙ put-same s.words counter (word_among a n (s.queues counter)) ∙ untrimmed a n (s.queues counter) (cond_no_trim t cell_there counter_there r) ∙ ap (λ (b : Bool). if b then changed a n else n) (sym e)
       go false e = put-other s.words at (word_among a (s.words at) (s.queues at)) counter (λ is. apart (is ∙ at_cell e)) ∙ ap (λ (b : Bool). if b then changed a n else n) (sym e)
 
   word_there : (x : ℕ) → x ≢ cell → x ≢ counter → s'.words x ≡ s.words x
@@ -163,15 +194,15 @@ module _ (s : State) (t : ℕ) (c : CondCall) (r : CondRow) (inv : Kept s) (pos 
   far : (j : ℕ) → j ≢ k → seen s' j ≡ seen s j
   far j other = same_object s.layout s.words s'.words j (λ inside. cells_there j inside other)
 
-  is_fair : Fair t cell held r led_to w w'
-  is_fair = fair t cell counter held w n r pos (last_thread s t inv known) stands.going (subst Sound before (inv.sound k)) stands.needs stands.room
+  is_fair : Fair t cell_there held r led_to w w'
+  is_fair = fair t cell_there counter_there held w n r pos (last_thread s t inv known) stands.going (subst Sound before (inv.sound k)) stands.needs stands.room
 
   -- what its point is
   abbrev op : Operation
-  op = decided_at (row_operation r) (point_of t cell led_to.decided)
+  op = decided_at (row_operation r) (point_of t cell_there led_to.decided)
 
   abbrev point : Option Reply
-  point = reply_at (point_of t cell led_to.decided)
+  point = reply_at (point_of t cell_there led_to.decided)
 
   point_is : (op ≡ v.operation) × (point ≡ v.point)
   point_is = ((λ i. decided_at (stands.of i) (sym leads i).point), (λ i. reply_at (sym leads i).point))
@@ -241,19 +272,19 @@ module _ (s : State) (t : ℕ) (c : CondCall) (r : CondRow) (inv : Kept s) (pos 
       (λ u x first most other mine. word_there x (mine_is_no_cell s u x k first most fits.inside mine) (mine_is_no_counter s u x (condition_of c) first most mine))
       waits_so
       (subst (λ (z : ℕ × Stage). Sits s' t z.0 z.1) (λ i. (held_is i, next_is i)) sits)
-      (subst (Listed s' t) next_is (listed_at s' t held' c (CondPhase.AtWords r) led_to.row es (owned_then es owned) (both_same s.words s'.words (head_place t) es agree ch)))
+      (subst (Listed s' t) next_is (listed_at s' t held' c (CondPhase.AtWords r) led_to.row es (owned_then es owned) (both_same (words_in s.layout t s.words) (words_in s.layout t s'.words) (head_in s.layout t) es agree ch)))
       (subst (PendsAs (s'.words (head_place t + 2))) next_is (pends_at s' t held' c (CondPhase.AtWords r) led_to.row (s'.words (head_place t + 2)) (pending t pos known ∙ subst (PendsAs (s.words (head_place t + 2))) is (inv.heads t pos known).pending ∙ sym (is_fair.pends whole.entry))))
       (subst Sound (sym here) is_fair.sound)
     where
-      agree : Agree (head_place t) es s.words s'.words
+      agree : Agree (head_in s.layout t) es (words_in s.layout t s.words) (words_in s.layout t s'.words)
       agree x on =
-          let mine = list_is_mine s t (left_out_at k (CondPhase.AtWords r)) es x inv.layout owned on in
-          word_there x (mine_is_no_cell s t x k pos known fits.inside mine) (mine_is_no_counter s t x (condition_of c) pos known mine)
+          let mine = links_mine s t x (list_links s t inv.layout pos known (left_out_at k (CondPhase.AtWords r)) es x owned on) in
+          word_there (place_in s.layout t x) (mine_is_no_cell s t (place_in s.layout t x) k pos known fits.inside mine) (mine_is_no_counter s t (place_in s.layout t x) (condition_of c) pos known mine)
 
   -- ---- beyond what holds of every state
 
   met_there : is_met s.layout t a ≡ true
-  met_there = ⊎_elim (λ none. met_no_move s.layout t a none ∙ place_valid) (λ move. subst (λ (z : CondRow). is_met s.layout t (row_access t cell counter z) ≡ true) (sym move.1) moves) (move_or t cell counter r)
+  met_there = ⊎_elim (λ none. met_no_move s.layout t a none ∙ place_valid) (λ move. subst (λ (z : CondRow). is_met s.layout t (row_access t cell_there counter_there z) ≡ true) (sym move.1) moves) (move_or t cell_there counter_there r)
     where
       on_counter : is_valid s.layout counter ≡ true
       on_counter = counter_is_valid s.layout (condition_of c) fits.there
@@ -262,7 +293,7 @@ module _ (s : State) (t : ℕ) (c : CondCall) (r : CondRow) (inv : Kept s) (pos 
       on_cell = is_valid-cell s.layout k fits.inside
 
       place_valid : is_valid s.layout at ≡ true
-      place_valid = ap (is_valid s.layout) (there t cell counter r) ∙ go (is_at_counter r)
+      place_valid = ap (is_valid s.layout) at_either ∙ go (is_at_counter r)
         where
           go : (b : Bool) → is_valid s.layout (if b then counter else cell) ≡ true
           go true = on_counter
@@ -272,8 +303,8 @@ module _ (s : State) (t : ℕ) (c : CondCall) (r : CondRow) (inv : Kept s) (pos 
       differ true e = absurd (apart (eqb-true counter cell e))
       differ false e = refl
 
-      moves : (is_valid s.layout counter && (is_valid s.layout cell && not (counter == cell))) ≡ true
-      moves = λ i. on_counter i && (on_cell i && differ (counter == cell) refl i)
+      moves : (is_valid s.layout (place_in s.layout t counter_there) && (is_valid s.layout (place_in s.layout t cell_there) && not (place_in s.layout t counter_there == place_in s.layout t cell_there))) ≡ true
+      moves = (λ i. is_valid s.layout (counter_is i) && (is_valid s.layout (cell_is i) && not (counter_is i == cell_is i))) ∙ (λ i. on_counter i && (on_cell i && differ (counter == cell) refl i))
 
   waiters_then : (j : ℕ) → j < s.layout.mutexes → HasWaiters s j → HasWaiters s' j
   waiters_then j below =
@@ -281,21 +312,21 @@ module _ (s : State) (t : ℕ) (c : CondCall) (r : CondRow) (inv : Kept s) (pos 
       (λ other on. ap (λ (x : ℕ). (fields_of x).waiters) (cells_there j below other) ∙ on)
 
   pub falls_at : sleeps_at a (s.words at) ≡ true → at ≡ counter
-  falls_at on = let row_is = only_waits_sleep t cell counter r (s.words at) on in ap (λ (z : CondRow). address_of (row_access t cell counter z)) row_is.1
+  falls_at on = let row_is = only_waits_sleep t cell_there counter_there r (s.words at) on in ap (λ (z : CondRow). place_met s.layout t (row_access t cell_there counter_there z)) row_is.1 ∙ counter_is
 
   falls : sleeps_at a (s.words at) ≡ true → SleepsAs s.layout at v.next
   falls on =
-      let row_is = only_waits_sleep t cell counter r (s.words at) on in
+      let row_is = only_waits_sleep t cell_there counter_there r (s.words at) on in
       subst (SleepsAs s.layout at) next_is
-      (subst (λ (z : CondRow). SleepsAs s.layout (address_of (row_access t cell counter z)) (stage_at c (cond_of s.layout t c (CondPhase.AtWords z)) (after_words (cond_of s.layout t c (CondPhase.AtWords z)) (resume_of t z (answer_at (row_access t cell counter z) (met_word z w n))).row))) (sym row_is.1) (refl, inr (inl refl)))
+      (subst (λ (z : CondRow). SleepsAs s.layout (place_met s.layout t (row_access t cell_there counter_there z)) (stage_at c (cond_of s.layout t c (CondPhase.AtWords z)) (after_words (cond_of s.layout t c (CondPhase.AtWords z)) (resume_of t z (answer_at (row_access t cell_there counter_there z) (met_word z w n))).row))) (sym row_is.1) (refl, inr (inl counter_is)))
 
   moving : Moving s t v
-  moving = ⊎_elim Moves_none moves (move_or t cell counter r)
+  moving = ⊎_elim Moves_none moves (move_or t cell_there counter_there r)
     where
       moves : (seen : ℕ) × (r ≡ Broadcast (BroadcastRow.Move seen)) → Moving s t v
       moves (x, is) =
           let needs : ((fields_of w).owner ≡ t) × ((fields_of w).waiters ≡ true) = subst (λ (z : CondRow). Needs t z (fields_of w)) is stands.needs in
-          Moves_to (condition_of c) _ 64 fits.there refl (ap (row_access t cell counter) is) needs.1
+          Moves_to (condition_of c) _ 64 fits.there refl (ap (row_access t cell_there counter_there) is) needs.1
           (λ none. cc (sym (ap (λ (z : Object). z.owner) before ∙ ap owner_of needs.0 ∙ owner_of-some t pos) ∙ none))
 
   settled : (j : ℕ) → j < s.layout.mutexes → IsUnowned s' j → HasWaiters s' j → Settles s t v j
@@ -307,14 +338,14 @@ module _ (s : State) (t : ℕ) (c : CondCall) (r : CondRow) (inv : Kept s) (pos 
       settles free_now waits_now =
           let free : (fields_of w').owner ≡ 0 = free_field w' (ap (λ (z : Object). z.owner) (sym here) ∙ free_now) in
           let waits : (fields_of w').waiters ≡ true = ap (λ (x : ℕ). (fields_of x).waiters) (sym word_here) ∙ waits_now in
-          ⊎_elim (λ wakes. Wakes_there 1 (omega arith) (wakes_at t cell counter r wakes))
+          ⊎_elim (λ wakes. Wakes_there 1 (omega arith) (wakes_at t cell_there counter_there r wakes))
           (λ rest. ⊎_elim about found rest)
           (is_fair.settles free waits)
         where
           awake : sleeps_at a (s.words at) ≡ true → wakes_next (CondPhase.AtWords led_to.row) ≡ true → ⊥
           awake sleeps wakes =
-              let row_is = only_waits_sleep t cell counter r (s.words at) sleeps in
-              cc (sym (ap (λ (z : CondRow). wakes_next (CondPhase.AtWords (resume_of t z (answer_at (row_access t cell counter z) (met_word z w n))).row)) row_is.1) ∙ wakes)
+              let row_is = only_waits_sleep t cell_there counter_there r (s.words at) sleeps in
+              cc (sym (ap (λ (z : CondRow). wakes_next (CondPhase.AtWords (resume_of t z (answer_at (row_access t cell_there counter_there z) (met_word z w n))).row)) row_is.1) ∙ wakes)
 
           quiet : wakes_next (CondPhase.AtWords led_to.row) ≡ true → sleeps_at a (s.words at) ≡ false
           quiet wakes = not_true (sleeps_at a (s.words at)) (λ sleeps. awake sleeps wakes)

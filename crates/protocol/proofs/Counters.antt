@@ -1,10 +1,10 @@
 -- Counters of condition variables: what changes them, and what calls know of them.
 use Rattle.std.proofs.Common.{◌≡◌, ◌≢◌, ◌⊎◌, ⊎_elim, inl, inr, ℕ, ◌+◌, ◌%◌, ◌<◌, ◌≤◌, Bool, true, false, Option, Some, None, Ok, Err, List, [], ◌∷◌, length, refl, sym, ap, ◌∙◌, subst, arith}
 use Rattle.protocol.proofs.Vocabulary.{CondCall, CondRow, Signal, Broadcast, CondPhase, CondOnward, condition_of, full, met_word, counter_after, CondWhole, cond_access, cond_led}
-use Rattle.protocol.proofs.Vocabulary.{after_words, from_words, Mutex, Condition, address_of, answer_at, Layout', head_place, cell_place, counter_place, fields_of, XHELD, Phase}
+use Rattle.protocol.proofs.Vocabulary.{after_words, from_words, Mutex, Condition, answer_at, Layout', cell_place, counter_place, fields_of, XHELD, Phase}
 use Rattle.protocol.proofs.Vocabulary.{Whole, whole_access, whole_led, Op, OnMutex, OnCondition, Event, Thread, Stage, Calling, AtCondition, Dying, mutex_of, State, After, start}
 use Rattle.protocol.proofs.Vocabulary.{place_met, stage_after, stage_at, led, led_at, reply_at, begun, walked, happens, run, caller, if◌then◌else◌, slice_index}
-use Rattle.protocol.proofs.Vocabulary.{WaitRow, SignalRow, BroadcastRow, first_word, there, ArePresets}
+use Rattle.protocol.proofs.Vocabulary.{WaitRow, SignalRow, BroadcastRow, first_word, ArePresets}
 use Rattle.exitwalk.specs.Standings as walks
 use Rattle.condvar.specs.declared.row.CondRow.TheVariants.{Wait}
 use Rattle.condvar.specs.Calls.{operation_of}
@@ -15,6 +15,7 @@ use Rattle.protocol.proofs.Puts.{put-same, put-other}
 use Rattle.protocol.proofs.Kept.{Needs, FitsAt, Kept}
 use Rattle.protocol.proofs.Places.{counter_is_no_cell}
 use Rattle.protocol.proofs.Steps.{thread_after, met_no_move, after, went-is, onto, call_step, cond_onto, cond_step, its_mutex, its_cell, its_counter, cond_after}
+use Rattle.protocol.proofs.Steps.{cell_at, counter_at}
 use Rattle.protocol.proofs.Stepping.{Stepping}
 use Rattle.protocol.proofs.Arrivals.{ended_or_not}
 use Rattle.protocol.proofs.Frames.{knows_at}
@@ -24,10 +25,11 @@ use Rattle.protocol.proofs.WalkSteps.{walk_of, by_walked, walk_no_move, walk_acc
 use Rattle.protocol.proofs.Events.{begins_at, by_event, by_stage}
 use Rattle.protocol.proofs.Working.{walk_is}
 use Rattle.protocol.proofs.Runs.{sound}
-use Rattle.protocol.proofs.CondSteps.{cond_of, counter_here, leads}
+use Rattle.protocol.proofs.CondSteps.{cond_of, at_either, counter_here, leads}
 use Rattle.protocol.proofs.OwnWords.{own_counter}
 use Rattle.protocol.proofs.CondAccesses.{fits_at, IsBefore, Nears, by_access, cond_stepping}
 use Rattle.protocol.proofs.Cases.{at_or_else}
+use Rattle.protocol.proofs.Seeing.{head_in}
 
 -- ---- one access of a call on a condition variable
 
@@ -43,8 +45,8 @@ module _ (s : State) (t : ℕ) (c : CondCall) where
 
   -- by its row; or it comes nearer to its release
   pub data CondMove (p : CondWhole) : Type 0 where
-    By_row : (r : CondRow) → p ≡ cond_of s.layout t c (CondPhase.AtWords r) → IsGoing r → row_operation r ≡ operation_of c → Needs t r (fields_of w) → then_words p (its_counter s c) ≡ counter_after t (its_cell s c) (its_counter s c) r n
-        → cond_onto s t p ≡ from_words p (resume_of t r (answer_at (row_access t (its_cell s c) (its_counter s c) r) (met_word r w n))) → CondMove p
+    By_row : (r : CondRow) → p ≡ cond_of s.layout t c (CondPhase.AtWords r) → IsGoing r → row_operation r ≡ operation_of c → Needs t r (fields_of w) → then_words p (its_counter s c) ≡ counter_after t (cell_at s t c) (counter_at s t c) r n
+        → cond_onto s t p ≡ from_words p (resume_of t r (answer_at (row_access t (cell_at s t c) (counter_at s t c) r) (met_word r w n))) → CondMove p
     Before_release : (seen : ℕ) → IsBefore seen p.phase → IsBefore seen (cond_onto s t p).phase → (cond_onto s t p).point ≡ None → then_words p (its_counter s c) ≡ n → CondMove p
 
   pub record CondGoes (p : CondWhole) : Type 0 where
@@ -57,7 +59,7 @@ module _ (s : State) (t : ℕ) (c : CondCall) where
       row : (r : CondRow) → FitsAt s t (s.threads t).held c (cond_of s.layout t c (CondPhase.AtWords r)) → Stepping s t (cond_step s t c (cond_of s.layout t c (CondPhase.AtWords r))) → CondGoes (cond_of s.layout t c (CondPhase.AtWords r))
       row r fits step = record {
         move = By_row r refl fits.stands.going fits.stands.of fits.stands.needs (counter_here s t c r inv pos known fits) (leads s t c r inv pos known fits);
-        others = λ k apart. put-other s.words (address_of (row_access t (its_cell s c) (its_counter s c) r)) _ (counter_place s.layout k) (λ at. elsewhere k apart (is_at_counter r) (at ∙ there t (its_cell s c) (its_counter s c) r));
+        others = λ k apart. put-other s.words (place_met s.layout t (row_access t (cell_at s t c) (counter_at s t c) r)) _ (counter_place s.layout k) (λ at. elsewhere k apart (is_at_counter r) (at ∙ at_either s t c r inv pos known fits));
       }
         where
           elsewhere : (k : ℕ) → k ≢ condition_of c → (b : Bool) → counter_place s.layout k ≡ (if b then its_counter s c else its_cell s c) → ⊥
@@ -149,13 +151,13 @@ knows_before l words c p seen f is few = grind (arith)
 -- where a row of thread t's call leads
 abbrev row_to : State → ℕ → CondCall → CondRow → CondRow
 row_to s t c r =
-    (resume_of t r (answer_at (row_access t (its_cell s c) (its_counter s c) r) (met_word r (s.words (its_cell s c)) (s.words (its_counter s c))))).row
+    (resume_of t r (answer_at (row_access t (cell_at s t c) (counter_at s t c) r) (met_word r (s.words (its_cell s c)) (s.words (its_counter s c))))).row
 
 -- and what is so of it
 abbrev RowLaw : State → ℕ → CondCall → CondRow → Type 0
 RowLaw s t c r =
     Counts_so t (s.words (its_cell s c)) (s.words (its_counter s c))
-    (counter_after t (its_cell s c) (its_counter s c) r (s.words (its_counter s c))) (row_to s t c r)
+    (counter_after t (cell_at s t c) (counter_at s t c) r (s.words (its_counter s c))) (row_to s t c r)
 
 cond_passes : (s : State) (t : ℕ) (c : CondCall) (p : CondWhole) → Kept s → Counted s → 1 ≤ t → t ≤ s.layout.threads → (s.threads t).stage ≡ AtCondition c p → Passes s t (after s t (cond_step s t c p))
 cond_passes s t c p inv counted pos known is = record {
@@ -184,7 +186,7 @@ cond_passes s t c p inv counted pos known is = record {
     knows = subst (KnowsIn s.layout s.words) is (counted.knows t pos known)
 
     law : (r : CondRow) → p ≡ cond_of s.layout t c (CondPhase.AtWords r) → IsGoing r → Needs t r (fields_of (s.words (its_cell s c))) → RowLaw s t c r
-    law r from going needs = knows_row t _ at _ (s.words at) r going needs most (subst (λ (z : CondWhole). KnowsAt (s.words at) z.phase) from knows)
+    law r from going needs = knows_row t _ (counter_at s t c) _ (s.words at) r going needs most (subst (λ (z : CondWhole). KnowsAt (s.words at) z.phase) from knows)
 
     here : CondMove s t c p → Rises s t (after s t (cond_step s t c p)) (condition_of c)
     here (Before_release seen before later point same) = inl same
@@ -219,14 +221,14 @@ call_passes s t o p inv pos known is = record {
 walk_passes : (s : State) (t : ℕ) (w : walks.Standing) → Kept s → 1 ≤ t → t ≤ s.layout.threads → (s.threads t).stage ≡ Dying w → Passes s t (walked s t (s.threads t).held w).state
 walk_passes s t w inv pos known is =
     let at = walk_is s t w inv pos known is in
-    let g : WalkStep s t w.row = walk_step s t inv pos known w.row at.0.going (knows_at t w at.0) at.2 in
+    let g : WalkStep s t w.row = walk_step s t inv pos known w.row at.0.going (knows_at s.layout t w at.0) at.2 in
     subst (λ (z : walks.Standing). Passes s t (walked s t (s.threads t).held z).state) at.1
-    (subst (λ (a : After). Passes s t a.state) (sym (walked-is s t w.row (met_no_move s.layout t (walk_access s t w.row) (walk_no_move (head_place t) w.row) ∙ g.valid)))
+    (subst (λ (a : After). Passes s t a.state) (sym (walked-is s t w.row (met_no_move s.layout t (walk_access s t w.row) (walk_no_move (head_in s.layout t) w.row) ∙ g.valid)))
     record {
       layout = refl;
       rises = λ k. inl (same g k (death_then s t w.row) refl);
       knows = λ first last. subst (KnowsIn s.layout (walk_after s t w.row).words) (sym (ap (λ (z : Thread). z.stage) (put-same s.threads t (thread_after s t (walk_transition s t w.row)))))
-          (by_walked (KnowsIn s.layout (walk_after s t w.row).words) (walk_of t w.row) (row_then s t w.row) (λ ended. tt) (λ going. tt));
+          (by_walked (KnowsIn s.layout (walk_after s t w.row).words) (walk_of s.layout t w.row) (row_then s t w.row) (λ ended. tt) (λ going. tt));
       theirs = λ u other. ap (λ (z : Thread). z.stage) (put-other s.threads t (thread_after s t (walk_transition s t w.row)) u other);
     })
   where

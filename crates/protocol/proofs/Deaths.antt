@@ -1,6 +1,6 @@
 -- How often a thread's death is told.
 use Rattle.std.proofs.Common.{eqb-true, ◌≡◌, ◌≢◌, ◌⊎◌, inl, inr, ℕ, ◌+◌, ◌≤◌, ◌==◌, Bool, true, false, ◌&&◌, Option, Some, None, List, [], ◌∷◌, ◌++◌, map, refl, sym, ap, ◌∙◌, subst, arith}
-use Rattle.protocol.proofs.Vocabulary.{Operation, OK, eqb-false, Reply, CondCall, condition_of, CondWhole, cond_access, cond_led, Queue, Mutex, Condition, Fact, Access, sleeps_at, head_place, Object, XHELD}
+use Rattle.protocol.proofs.Vocabulary.{Operation, OK, eqb-false, Reply, CondCall, condition_of, CondWhole, cond_access, cond_led, Queue, Mutex, Condition, Fact, Access, sleeps_at, Object, XHELD}
 use Rattle.protocol.proofs.Vocabulary.{Whole, whole_access, whole_led, Op, OnCondition, mutex_of, Thread, Event, Stage, Idle, Calling, AtCondition, Reaped, facts_of, death_facts}
 use Rattle.protocol.proofs.Vocabulary.{reap_facts, State, After, place_met, start, run, notes, is_alive, begun, led, led_at, went, answer_of, decision, slept_in, woken_by}
 use Rattle.protocol.proofs.Vocabulary.{moved_by, walked, has_ended, stepped, happens, killed, seen, facts_among, if◌then◌else◌, nat_tests, Ok, Err}
@@ -25,6 +25,7 @@ use Rattle.protocol.proofs.Kept.{Kept}
 use Rattle.protocol.proofs.Runs.{sound, start_kept, run_kept, kill_kept}
 use Rattle.protocol.proofs.NoteFacts.{IsOfSleep, behind_woken, of_access}
 use Rattle.protocol.proofs.Cases.{at_or_else}
+use Rattle.protocol.proofs.Seeing.{head_in}
 
 -- ---- counting
 
@@ -93,8 +94,8 @@ module _ (t m : ℕ) where
         (let none = note_deaths t m s u (mutex_of s.layout (OnCondition c)) (Condition (condition_of c)) (cond_access p) (led_at c p (cond_onto s u p)) in
         let kept = same u (cond_step s u c p) (apart_from u (AtCondition c p) is refl) g in omega arith)
 
-    walk_lost : (u : ℕ) (r : Row) → WalkStep s u r → Lost s (walked s u (s.threads u).held (walk_of u r))
-    walk_lost u r g = subst (Lost s) (sym (walked-is s u r (met_no_move s.layout u (walk_access s u r) (walk_no_move (head_place u) r) ∙ g.valid))) (go (death_then s u r) g.tells)
+    walk_lost : (u : ℕ) (r : Row) → WalkStep s u r → Lost s (walked s u (s.threads u).held (walk_of s.layout u r))
+    walk_lost u r g = subst (Lost s) (sym (walked-is s u r (met_no_move s.layout u (walk_access s u r) (walk_no_move (head_in s.layout u) r) ∙ g.valid))) (go (death_then s u r) g.tells)
       where
         go : (d : Option ℕ) → DeathTells s u d (walk_after s u r) → deaths t m (death_facts u d ++ (map Wake (woken_by (walk_access s u r) (s.words (place_met s.layout u (walk_access s u r))) (s.queues (place_met s.layout u (walk_access s u r)))) ++ reap_facts u (has_ended (row_then s u r)))) + one t (seen (walk_after s u r) m) ≡ one t (seen s m)
         go None tells = let none = reaped_deaths t m u (woken_by (walk_access s u r) (s.words (place_met s.layout u (walk_access s u r))) (s.queues (place_met s.layout u (walk_access s u r)))) (has_ended (row_then s u r)) in let same : one t (seen (walk_after s u r) m) ≡ one t (seen s m) = ap (one t) (tells m) in omega arith
@@ -113,7 +114,7 @@ module _ (t m : ℕ) where
         (λ w is awake.
         let there = walk_is s u w inv pos known is in
         subst (λ (z : walks.Standing). Lost s (walked s u (s.threads u).held z)) there.1
-        (walk_lost u w.row (walk_step s u inv pos known w.row there.0.going (knows_at u w there.0) there.2)))
+        (walk_lost u w.row (walk_step s u inv pos known w.row there.0.going (knows_at s.layout u w there.0) there.2)))
 
     event_lost : (e : Event) → Lost s (happens s e)
     event_lost e = by_event s (λ (x : Event) (a : After). Lost s a) (λ x. omega arith) (λ u o pos known inside idle b full. begun_lost u o b) step_lost (λ u pos known alive. omega arith) e

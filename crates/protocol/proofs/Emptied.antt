@@ -1,8 +1,9 @@
 -- A broadcast's move empties its condition variable's queue.
 use Rattle.std.proofs.Common.{⊎_elim, ◌≡◌, ℕ, zero, suc, ◌+◌, ◌%◌, ◌^◌, ◌≤◌, ◌==◌, Bool, true, false, Option, Some, None, List, [], ◌∷◌, length, drop, refl, sym, ap, ◌∙◌, subst, arith, eqb-true, eq-eqb}
+use Rattle.std.proofs.Common.{take, ◌++◌}
 use Rattle.protocol.proofs.Vocabulary.{Fact, CondCall, CondRow, Broadcast, CondPhase, CondOnward, condition_of, met_word, CondWhole, cond_access, cond_led, after_words, Queue}
 use Rattle.protocol.proofs.Vocabulary.{Return, Begun, Condition, Decision, answer_at, Layout', counter_place, Reply, OK, Whole, Op, OnCondition, Stepped, Walked, Stage}
-use Rattle.protocol.proofs.Vocabulary.{Calling, AtCondition, Event, Step, facts_of, return_facts, begun_of, State, After, put, start, stands_in, returned_at, led_at}
+use Rattle.protocol.proofs.Vocabulary.{Calling, AtCondition, Event, Step, facts_of, return_facts, begun_of, State, After, put, start, stands_in, returned_at, led_at, place_in}
 use Rattle.protocol.proofs.Vocabulary.{stepped, happens, run, if◌then◌else◌, not, Operation, BroadcastRow, NobodyIsPassedBy}
 use Rattle.buckets.specs.Queues.{without}
 use Rattle.condvar.specs.declared.row.CondRow.TheVariants.{Ended}
@@ -13,9 +14,9 @@ use Rattle.condvar.specs.Programs.{row_access, resume_of}
 use Rattle.protocol.specs.Ops.{operation_of as operation_of_op}
 use Rattle.protocol.specs.Sleepers.{IsAmong}
 use Rattle.protocol.proofs.Puts.{put-same, put-other}
-use Rattle.protocol.proofs.Kept.{IsFor, Kept}
+use Rattle.protocol.proofs.Kept.{IsFor, Kept, FitsAt}
 use Rattle.protocol.proofs.Places.{counter_is_no_cell}
-use Rattle.protocol.proofs.Steps.{went-is, cond_onto, cond_note, its_mutex, its_cell, its_counter, cond_after}
+use Rattle.protocol.proofs.Steps.{went-is, cond_onto, cond_note, its_mutex, its_cell, its_counter, cond_after, cell_at, counter_at}
 use Rattle.protocol.proofs.Accesses.{fits_in}
 use Rattle.protocol.proofs.Events.{by_event, by_stage}
 use Rattle.protocol.proofs.Runs.{start_kept, run_kept, run_layout}
@@ -29,6 +30,7 @@ use Rattle.protocol.proofs.Queues.{Once, first_stands, without_stands, once_with
 use Rattle.protocol.proofs.NoteFacts.{IsOfSleep, of_access, of_walk}
 use Rattle.std.proofs.lemmas.List.{drop_all}
 use Rattle.protocol.proofs.Cases.{some_same}
+use Rattle.protocol.proofs.Seeing.{cell_again, counter_again}
 
 -- ---- queues are short
 
@@ -98,13 +100,27 @@ module _ (s : State) (t : ℕ) (c : CondCall) (p : CondWhole) (inv : Kept s) (qu
 
   emptied : (seen : ℕ) → s.words (its_counter s c) ≡ seen + 1 → (moved_by_row seen).queues (its_counter s c) ≡ []
   emptied seen at =
-      put-other left (its_cell s c) _ (its_counter s c) (counter_is_no_cell s.layout (its_mutex s c) (condition_of c) (fits_at s t c p inv pos known is).inside)
+      (λ i. put (left (counter_is i)) (cell_is i) (left (counter_is i) (cell_is i) ++ moves (counter_is i)) (its_counter s c))
+      ∙ put-other (left (its_counter s c)) (its_cell s c) (left (its_counter s c) (its_cell s c) ++ moves (its_counter s c)) (its_counter s c) (counter_is_no_cell s.layout (its_mutex s c) (condition_of c) fits.inside)
       ∙ put-same s.queues (its_counter s c) _
       ∙ ap (λ (b : Bool). if b then drop 64 (drop 0 (s.queues (its_counter s c))) else s.queues (its_counter s c)) (eq-eqb (s.words (its_counter s c) % 2 ^ 32) ((seen + 1) % 2 ^ 32) (ap (λ (x : ℕ). x % 2 ^ 32) at))
       ∙ drop_all 64 (s.queues (its_counter s c)) short
     where
-      left : ℕ → List ℕ
-      left = put s.queues (its_counter s c) (if s.words (its_counter s c) % 2 ^ 32 == (seen + 1) % 2 ^ 32 then drop 64 (drop 0 (s.queues (its_counter s c))) else s.queues (its_counter s c))
+      -- what it leaves where it meets its word, and moves from there
+      left : ℕ → ℕ → List ℕ
+      left x = put s.queues x (if s.words x % 2 ^ 32 == (seen + 1) % 2 ^ 32 then drop 64 (drop 0 (s.queues x)) else s.queues x)
+
+      moves : ℕ → List ℕ
+      moves x = if s.words x % 2 ^ 32 == (seen + 1) % 2 ^ 32 then take 64 (drop 0 (s.queues x)) else []
+
+      fits : FitsAt s t (s.threads t).held c p
+      fits = fits_at s t c p inv pos known is
+
+      counter_is : place_in s.layout t (counter_at s t c) ≡ its_counter s c
+      counter_is = counter_again s.layout t inv.layout pos known (condition_of c) fits.there
+
+      cell_is : place_in s.layout t (cell_at s t c) ≡ its_cell s c
+      cell_is = cell_again s.layout t inv.layout pos known (its_mutex s c) fits.inside
 
   pub then_empty : returned_at (cond_onto s t p).phase ≡ Some OK → (cond_after s t c p).queues (its_counter s c) ≡ []
   then_empty back = go (cond_moves s t c inv pos known p is).move
@@ -115,7 +131,7 @@ module _ (s : State) (t : ℕ) (c : CondCall) (p : CondWhole) (inv : Kept s) (qu
       go : CondMove s t c p → (cond_after s t c p).queues (its_counter s c) ≡ []
       go (Before_release seen before later none same) = absurd (never_returns seen (cond_onto s t p).phase later back)
       go (By_row r from going of needs counts leads) =
-          let row = only_move t (its_cell s c) (its_counter s c) (s.words (its_cell s c)) (s.words (its_counter s c)) r going (of ∙ of_broadcast) (ok_row p _ (sym (ap (λ (g : CondOnward). returned_at g.phase) leads) ∙ back)) in
+          let row = only_move t (cell_at s t c) (counter_at s t c) (s.words (its_cell s c)) (s.words (its_counter s c)) r going (of ∙ of_broadcast) (ok_row p _ (sym (ap (λ (g : CondOnward). returned_at g.phase) leads) ∙ back)) in
           let shape : p ≡ cond_of s.layout t c (CondPhase.AtWords (Broadcast (BroadcastRow.Move row.0))) = from ∙ ap (λ (y : CondRow). cond_of s.layout t c (CondPhase.AtWords y)) row.1 in
           subst (λ (y : CondWhole). (cond_after s t c y).queues (its_counter s c) ≡ []) (sym shape) (emptied row.0 (subst (λ (y : CondWhole). KnowsAt (s.words (its_counter s c)) y.phase) shape knows))
 

@@ -1,14 +1,12 @@
 -- What one access of a thread leaves of the others, and of the mutexes' owners.
 use Rattle.std.proofs.Common.{◌≡◌, ◌≢◌, ◌⊎◌, inl, inr, ⊎_elim, ℕ, ◌+◌, ◌<◌, ◌≤◌, Bool, true, Option, Some, None, List, ◌∷◌, refl, sym, ap, ◌∙◌, subst, arith}
-use Rattle.protocol.proofs.Vocabulary.{CondCall, CondPhase, CondWhole, OnlyWaits, owner_of, owner_of-some, Access, acquires, Object, Operation, IsLayout, head_place, entry_place}
+use Rattle.protocol.proofs.Vocabulary.{CondCall, CondPhase, CondWhole, OnlyWaits, owner_of, owner_of-some, Access, acquires, Object, Operation, Layout', IsLayout, head_place, place_in}
 use Rattle.protocol.proofs.Vocabulary.{cell_place, held_by, Fields, fields_of, word_of, fields_of-word_of, Reply, Phase, AtCell, Linking, Clearing, Whole, Sound, OnCondition}
 use Rattle.protocol.proofs.Vocabulary.{mutex_of, Thread, Stage, Idle, Calling, AtCondition, Dying, Reaped, State, held_after, seen, Agree, waiting}
 use Rattle.exitwalk.specs.declared.row.Row as walk_row
 use Rattle.exitwalk.specs.Standings as walks
 use Rattle.exitwalk.specs.Walks as exit
 use Rattle.exitwalk.specs.Steps.{waiting_word}
-use Rattle.keys.specs.Chains.{previous_place}
-use Rattle.robustlist.specs.Words.{IsOn}
 use Rattle.robustlist.proofs.Links as links
 use Rattle.robustlist.proofs.Unlinks.{right}
 use Rattle.mutex.specs.declared.phase.Phase.TheVariants.{Announcing, Unlinking, Ended}
@@ -17,8 +15,10 @@ use Rattle.keys.proofs.Objects.{others_keep}
 use Rattle.protocol.proofs.Puts.{by_put}
 use Rattle.protocol.proofs.Objects.{one, mine, others, owners}
 use Rattle.protocol.proofs.Counts.{held_by-changed, held_by-owns}
+use Rattle.protocol.proofs.Seeing.{head_in, entry_in, entry_again}
 use Rattle.protocol.proofs.Kept.{InPhase, Fits, AtPhase, FitsAt, ChainedAt, Sits, Owned, ChainedIn, Chained, left_out, Walks, Treats, Mourns, Listed, PendsAs, HasHead, Kept}
-use Rattle.protocol.proofs.Places.{IsMine, list_is_mine, both_same, behind}
+use Rattle.protocol.proofs.Kept.{view_of}
+use Rattle.protocol.proofs.Places.{IsMine, Links, list_links, more_links, links_mine, treated_at, both_same}
 use Rattle.protocol.proofs.Steps.{Tells, unmoved, seen-inside, done}
 use Rattle.protocol.proofs.Cases.{by_same, at_or_else}
 use Rattle.protocol.proofs.Mourning.{mourns_carries}
@@ -50,12 +50,12 @@ only_waits_on v again w w' only (inr set) = record { stays = inr (go only.stays)
     go (inr is) = set ∙ ap waiting_word is ∙ waiting_twice v
 
 -- a walk marks only what its thread still owns
-pub marks_own : (s : State) (u k at v : ℕ) (again : Bool) → IsLayout s.layout → Treats s at k → 1 ≤ u → u ≤ s.layout.threads → (fields_of v).owner ≡ u → OnlyWaits v again (s.words at) → (seen s k).owner ≡ Some u
+pub marks_own : (s : State) (u k at v : ℕ) (again : Bool) → IsLayout s.layout → Treats s u at k → 1 ≤ u → u ≤ s.layout.threads → (fields_of v).owner ≡ u → OnlyWaits v again (s.words (place_in s.layout u at)) → (seen s k).owner ≡ Some u
 marks_own s u k at v again is treats first most owner only =
-    let cell : (fields_of (s.words (cell_place s.layout k))).owner ≡ u = subst (λ (x : ℕ). (fields_of (s.words x)).owner ≡ u) treats.1 (go only.stays) in
+    let cell : (fields_of (s.words (cell_place s.layout k))).owner ≡ u = subst (λ (x : ℕ). (fields_of (s.words x)).owner ≡ u) (treated_at s u is first most at k treats) (go only.stays) in
     ap (λ (o : Object). o.owner) (seen-inside s k treats.0) ∙ ap owner_of cell ∙ owner_of-some u first
   where
-    go : (s.words at ≡ v) ⊎ (s.words at ≡ waiting_word v) → (fields_of (s.words at)).owner ≡ u
+    go : (s.words (place_in s.layout u at) ≡ v) ⊎ (s.words (place_in s.layout u at) ≡ waiting_word v) → (fields_of (s.words (place_in s.layout u at))).owner ≡ u
     go (inl same) = ap (λ (x : ℕ). (fields_of x).owner) same ∙ owner
     go (inr set) = ap (λ (x : ℕ). (fields_of x).owner) set ∙ ap (λ (c : Fields). c.owner) (fields_of-waiting v) ∙ owner
 
@@ -68,8 +68,8 @@ at_phase_carries : (u held : ℕ) (op : Operation) (q : CondWhole) (f : CondPhas
 at_phase_carries u held op q f c d stays a = grind (arith)
 
 -- what a walk's row knows
-pub knows_at : (u : ℕ) (w : walks.Standing) → Walks u w → exit.Knows u (head_place u) w.row
-knows_at u w f = subst (λ (z : ℕ × ℕ). exit.Knows z.0 z.1 w.row) (λ i. (f.mine i, f.head i)) f.knows
+pub knows_at : (l : Layout') (u : ℕ) (w : walks.Standing) → Walks l u w → exit.Knows u (head_in l u) w.row
+knows_at l u w f = subst (λ (z : ℕ × ℕ). exit.Knows z.0 z.1 w.row) (λ i. (f.mine i, f.head i)) f.knows
 
 -- one access of thread t, to a mutex m or to its own words: what it tells of m; it leaves the words that others own, and sets WAITERS at most in their cells
 module _ (s : State) (t m : ℕ) (a : Access) (th : Thread) (op : Operation) (point : Option Reply) (inv : Kept s) (pos : 1 ≤ t) (known : t ≤ s.layout.threads) (inside : m < s.layout.mutexes)
@@ -141,50 +141,51 @@ module _ (s : State) (t m : ℕ) (a : Access) (th : Thread) (op : Operation) (po
   }
 
   module _ (u : ℕ) (first : 1 ≤ u) (most : u ≤ s.layout.threads) (apart : t ≢ u) (out : Option ℕ) (es : List ℕ) (owned : Owned s u out es) where
-    agree : Agree (head_place u) es s.words s'.words
-    agree x on = spares u x first most apart (list_is_mine s u out es x inv.layout owned on)
+    spared : (x : ℕ) → Links s u x → view_of s' u x ≡ view_of s u x
+    spared x on = spares u (place_in s.layout u x) first most apart (links_mine s u x on)
+
+    agree : Agree (head_in s.layout u) es (view_of s u) (view_of s' u)
+    agree x on = spared x (list_links s u inv.layout first most out es x owned on)
 
     -- the list and one entry more, of a mutex that it owns
-    agree_more : (e k : ℕ) → k < s.layout.mutexes → e ≡ entry_place s.layout k → (seen s k).owner ≡ Some u → (x : ℕ) → IsOn (head_place u) (e ∷ es) x → s'.words x ≡ s.words x
-    agree_more e k below is own x (inl at) = agree x (inl at)
-    agree_more e k below is own x (inr (y, inl same, inl at)) = spares u x first most apart (inr (inr (k, below, inl (at ∙ same ∙ is), own)))
-    agree_more e k below is own x (inr (y, inl same, inr at)) = spares u x first most apart (inr (inr (k, below, inr (at ∙ ap previous_place (same ∙ is) ∙ behind s.layout k inv.layout below), own)))
-    agree_more e k below is own x (inr (y, inr among, at)) = agree x (inr (y, among, at))
+    agree_more : (e k : ℕ) → k < s.layout.mutexes → e ≡ entry_in s.layout u k → (seen s k).owner ≡ Some u → Agree (head_in s.layout u) (e ∷ es) (view_of s u) (view_of s' u)
+    agree_more e k below is own x on = spared x (more_links s u inv.layout first most k out e es x owned below is own on)
 
-    their_chain : (held : ℕ) (g : Stage) → Sits s u held g → Chained s.words u es g → Chained s'.words u es g
-    their_chain held Idle f ch = both_same s.words s'.words (head_place u) es agree ch
-    their_chain held (Dying w) f ch = both_same s.words s'.words (head_place u) es agree ch
-    their_chain held Reaped f ch = both_same s.words s'.words (head_place u) es agree ch
+    their_chain : (held : ℕ) (g : Stage) → Sits s u held g → Chained s.layout s.words u es g → Chained s.layout s'.words u es g
+    their_chain held Idle f ch = both_same (view_of s u) (view_of s' u) (head_in s.layout u) es agree ch
+    their_chain held (Dying w) f ch = both_same (view_of s u) (view_of s' u) (head_in s.layout u) es agree ch
+    their_chain held Reaped f ch = both_same (view_of s u) (view_of s' u) (head_in s.layout u) es agree ch
     their_chain held (AtCondition d q) f ch = by_phase q.phase ch
       where
-        by_phase : (h : CondPhase) → ChainedAt s.words (head_place u) q.entry es h → ChainedAt s'.words (head_place u) q.entry es h
-        by_phase (CondPhase.AtWords r) ch = both_same s.words s'.words (head_place u) es agree ch
-        by_phase (CondPhase.Announcing x) ch = both_same s.words s'.words (head_place u) es agree ch
-        by_phase (CondPhase.Unlinking v x) ch = right.others (head_place u) q.entry es v.row s.words s'.words agree ch
-        by_phase (CondPhase.Locking v) ch = both_same s.words s'.words (head_place u) es agree ch
-        by_phase (CondPhase.Ended x) ch = both_same s.words s'.words (head_place u) es agree ch
+        by_phase : (h : CondPhase) → ChainedAt (view_of s u) (head_in s.layout u) q.entry es h → ChainedAt (view_of s' u) (head_in s.layout u) q.entry es h
+        by_phase (CondPhase.AtWords r) ch = both_same (view_of s u) (view_of s' u) (head_in s.layout u) es agree ch
+        by_phase (CondPhase.Announcing x) ch = both_same (view_of s u) (view_of s' u) (head_in s.layout u) es agree ch
+        by_phase (CondPhase.Unlinking v x) ch = right.others (head_in s.layout u) q.entry es v.row (view_of s u) (view_of s' u) agree ch
+        by_phase (CondPhase.Locking v) ch = both_same (view_of s u) (view_of s' u) (head_in s.layout u) es agree ch
+        by_phase (CondPhase.Ended x) ch = both_same (view_of s u) (view_of s' u) (head_in s.layout u) es agree ch
     their_chain held (Calling d q) (f, serves) ch = by_phase q.phase f.stands ch
       where
-        by_phase : (h : Phase) → InPhase u held q h (seen s (mutex_of s.layout d)) → ChainedIn s.words (head_place u) q.entry es h → ChainedIn s'.words (head_place u) q.entry es h
-        by_phase (Announcing r) a ch = both_same s.words s'.words (head_place u) es agree ch
-        by_phase (AtCell r) a ch = both_same s.words s'.words (head_place u) es agree ch
-        by_phase (Linking l x) a ch = links.others (head_place u) q.entry es l.row s.words s'.words (agree_more q.entry (mutex_of s.layout d) f.inside f.entry a.3) ch
-        by_phase (Unlinking v x) a ch = right.others (head_place u) q.entry es v.row s.words s'.words agree ch
-        by_phase (Clearing x) a ch = both_same s.words s'.words (head_place u) es agree ch
+        by_phase : (h : Phase) → InPhase u held q h (seen s (mutex_of s.layout d)) → ChainedIn (view_of s u) (head_in s.layout u) q.entry es h → ChainedIn (view_of s' u) (head_in s.layout u) q.entry es h
+        by_phase (Announcing r) a ch = both_same (view_of s u) (view_of s' u) (head_in s.layout u) es agree ch
+        by_phase (AtCell r) a ch = both_same (view_of s u) (view_of s' u) (head_in s.layout u) es agree ch
+        by_phase (Linking l x) a ch = links.others (head_in s.layout u) q.entry es l.row (view_of s u) (view_of s' u) (agree_more q.entry (mutex_of s.layout d) f.inside f.entry a.3) ch
+        by_phase (Unlinking v x) a ch = right.others (head_in s.layout u) q.entry es v.row (view_of s u) (view_of s' u) agree ch
+        by_phase (Clearing x) a ch = both_same (view_of s u) (view_of s' u) (head_in s.layout u) es agree ch
         by_phase (Ended x) a ch = absurd a
 
   -- ---- the lists of threads that died
 
   module _ (u : ℕ) (first : 1 ≤ u) (most : u ≤ s.layout.threads) (apart : t ≢ u) where
     -- the word that is being treated is still as it was seen, but that WAITERS may be set
-    still_waits : (v at k : ℕ) (again : Bool) → Treats s at k → (seen s k).owner ≡ Some u → OnlyWaits v again (s.words at) → OnlyWaits v again (s'.words at)
+    still_waits : (v at k : ℕ) (again : Bool) → Treats s u at k → (seen s k).owner ≡ Some u → OnlyWaits v again (s.words (place_in s.layout u at)) → OnlyWaits v again (s'.words (place_in s.layout u at))
     still_waits v at k again treats own only =
-        subst (λ (x : ℕ). OnlyWaits v again (s'.words x)) (sym treats.1)
-        (only_waits_on v again (s.words (cell_place s.layout k)) (s'.words (cell_place s.layout k)) (subst (λ (x : ℕ). OnlyWaits v again (s.words x)) treats.1 only) (waits u k first most apart treats.0 own))
+        let place = treated_at s u inv.layout first most at k treats in
+        subst (λ (x : ℕ). OnlyWaits v again (s'.words x)) (sym place)
+        (only_waits_on v again (s.words (cell_place s.layout k)) (s'.words (cell_place s.layout k)) (subst (λ (x : ℕ). OnlyWaits v again (s.words x)) place only) (waits u k first most apart treats.0 own))
 
-    their_walk : (r : walk_row.Row) → exit.Knows u (head_place u) r → Mourns s u r → Mourns s' u r
+    their_walk : (r : walk_row.Row) → exit.Knows u (head_in s.layout u) r → Mourns s u r → Mourns s' u r
     their_walk r knows l =
-        mourns_carries s s'.words s'.queues s'.threads u (λ x k below is own. spares u x first most apart (inr (inr (k, below, inl is, own))))
+        mourns_carries s s'.words s'.queues s'.threads u (λ x k below is own. spares u (place_in s.layout u x) first most apart (inr (inr (k, below, inl (ap (place_in s.layout u) is ∙ entry_again s.layout u inv.layout first most k below), own))))
         (spares u (head_place u) first most apart (inl refl)) (spares u (head_place u + 2) first most apart (inr (inl refl)))
         (λ k own. ap (λ (z : Object). z.owner) (keeps_theirs u k apart own) ∙ own) (λ k own. owned_before u k apart own)
         (λ k at v again treats owner only. still_waits v at k again treats (marks_own s u k at v again inv.layout treats first most owner only) only) r knows l
@@ -194,7 +195,7 @@ module _ (s : State) (t m : ℕ) (a : Access) (th : Thread) (op : Operation) (po
   their_list u first most apart held (Calling o p) f (es, owned, ch) = (es, their_entries u (left_out s.layout (Calling o p)) es apart owned, their_chain u first most apart (left_out s.layout (Calling o p)) es owned held (Calling o p) f ch)
   their_list u first most apart held (AtCondition c p) f (es, owned, ch) =
       (es, their_entries u (left_out s.layout (AtCondition c p)) es apart owned, their_chain u first most apart (left_out s.layout (AtCondition c p)) es owned held (AtCondition c p) f ch)
-  their_list u first most apart held (Dying w) f l = their_walk u first most apart w.row (knows_at u w f) l
+  their_list u first most apart held (Dying w) f l = their_walk u first most apart w.row (knows_at s.layout u w f) l
   their_list u first most apart held Reaped f none = λ k own. none k (owned_before u k apart own)
 
   -- ---- how many mutexes each thread owns

@@ -1,9 +1,10 @@
 -- What holds of every state of the machine.
 use Rattle.std.proofs.Common.{◌≡◌, ◌≢◌, ◌⊎◌, ℕ, ◌+◌, ◌<◌, ◌≤◌, true, false, Option, Some, None, List, ◌∷◌, length, arith}
 use Rattle.protocol.proofs.Vocabulary.{CondCall, CondRow, CondPhase, CondWhole, OnlyWaits, Object, Operation, AreDifferent, Leads, IsChainBothWays, Layout', IsLayout, head_place}
-use Rattle.protocol.proofs.Vocabulary.{entry_place, cell_place, counter_place, acquires, held_by, Fields, fields_of, Load, Release, Phase, AtCell, Linking, Clearing, Whole}
+use Rattle.protocol.proofs.Vocabulary.{cell_place, acquires, held_by, Fields, fields_of, Load, Release, Phase, AtCell, Linking, Clearing, Whole}
 use Rattle.protocol.proofs.Vocabulary.{Expects, Sound, Op, OnMutex, OnCondition, Stage, Idle, Calling, AtCondition, Dying, Reaped, mutex_of, State, seen, LinkGoes, UnlinkGoes}
-use Rattle.protocol.proofs.Vocabulary.{Part, WaitRow, SignalRow, BroadcastRow}
+use Rattle.protocol.proofs.Vocabulary.{Part, WaitRow, SignalRow, BroadcastRow, place_in}
+use Rattle.protocol.proofs.Seeing.{head_in, entry_in, cell_in, counter_in, words_in}
 use Rattle.keys.specs.declared.point.Operation.TheVariants.{Lock, Unlock, Wait}
 use Rattle.exitwalk.specs.declared.row.Row as walk_row
 use Rattle.exitwalk.specs.declared.row.Rest as walk_rest
@@ -23,6 +24,10 @@ use Rattle.mutex.specs.Programs.{row_operation}
 use Rattle.condvar.specs.Calls as conditions
 use Rattle.condvar.specs.Rows as cond_rows
 use Rattle.condvar.specs.Laws as cond_laws
+
+-- the words of a state as thread t's process has them
+abbrev pub view_of : State → ℕ → ℕ → ℕ
+view_of s t = words_in s.layout t s.words
 
 -- ---- calls in progress
 
@@ -50,13 +55,13 @@ InPhase t held p (Unlinking u d) o = (u.head ≡ p.head) × (u.entry ≡ p.entry
 InPhase t held p (Clearing x) o = Unit {0}
 InPhase t held p (Ended x) o = ⊥
 
--- its program is on its thread's list and mutex m's words
+-- its program is on its thread's list and mutex m's words, by their addresses in the thread's process
 pub record Fits (s : State) (t held m : ℕ) (p : Whole) : Type 0 where
   pub mine : p.thread ≡ t
   pub inside : m < s.layout.mutexes
-  pub head : p.head ≡ head_place t
-  pub entry : p.entry ≡ entry_place s.layout m
-  pub cell : p.cell ≡ cell_place s.layout m
+  pub head : p.head ≡ head_in s.layout t
+  pub entry : p.entry ≡ entry_in s.layout t m
+  pub cell : p.cell ≡ cell_in s.layout t m
   pub stands : InPhase t held p p.phase (seen s m)
 
 -- it does what the call is to do; in a wait it is the lock that ends it
@@ -108,18 +113,18 @@ pub record FitsAt (s : State) (t held : ℕ) (c : CondCall) (p : CondWhole) : Ty
   pub mine : p.thread ≡ t
   pub inside : mutex_of s.layout (OnCondition c) < s.layout.mutexes
   pub there : conditions.condition_of c < length s.layout.conditions
-  pub head : p.head ≡ head_place t
-  pub entry : p.entry ≡ entry_place s.layout (mutex_of s.layout (OnCondition c))
-  pub cell : p.cell ≡ cell_place s.layout (mutex_of s.layout (OnCondition c))
-  pub counter : p.counter ≡ counter_place s.layout (conditions.condition_of c)
+  pub head : p.head ≡ head_in s.layout t
+  pub entry : p.entry ≡ entry_in s.layout t (mutex_of s.layout (OnCondition c))
+  pub cell : p.cell ≡ cell_in s.layout t (mutex_of s.layout (OnCondition c))
+  pub counter : p.counter ≡ counter_in s.layout t (conditions.condition_of c)
   pub stands : AtPhase t held (conditions.operation_of c) p p.phase (fields_of (s.words (cell_place s.layout (mutex_of s.layout (OnCondition c)))))
 
 -- ---- stages
 
 -- a walk over thread t's list
-pub record Walks (t : ℕ) (w : walks.Standing) : Type 0 where
+pub record Walks (l : Layout') (t : ℕ) (w : walks.Standing) : Type 0 where
   pub mine : w.thread ≡ t
-  pub head : w.head ≡ head_place t
+  pub head : w.head ≡ head_in l t
   pub going : exit.IsGoing w.row
   pub knows : exit.Knows w.thread w.head w.row
 
@@ -127,7 +132,7 @@ abbrev pub Sits : State → ℕ → ℕ → Stage → Type 0
 Sits s t held Idle = Unit {0}
 Sits s t held (Calling o p) = Fits s t held (mutex_of s.layout o) p × Serves s.layout o p
 Sits s t held (AtCondition c p) = FitsAt s t held c p
-Sits s t held (Dying w) = Walks t w
+Sits s t held (Dying w) = Walks s.layout t w
 Sits s t held Reaped = Unit {0}
 
 -- ---- robust lists
@@ -147,10 +152,10 @@ left_out l (Calling o p) = left_out_in (mutex_of l o) p.phase
 left_out l (AtCondition c p) = left_out_at (mutex_of l (OnCondition c)) p.phase
 left_out l g = None
 
--- the entries are those of the mutexes that thread t owns, but for this one
+-- the entries are those of the mutexes that thread t owns, but for this one, by their addresses in its process
 pub record Owned (s : State) (t : ℕ) (out : Option ℕ) (es : List ℕ) : Type 0 where
-  pub entries : (x : ℕ) → IsAmong x es → (k : ℕ) × (k < s.layout.mutexes) × (x ≡ entry_place s.layout k) × ((seen s k).owner ≡ Some t) × (out ≢ Some k)
-  pub all : (k : ℕ) → k < s.layout.mutexes → (seen s k).owner ≡ Some t → out ≢ Some k → IsAmong (entry_place s.layout k) es
+  pub entries : (x : ℕ) → IsAmong x es → (k : ℕ) × (k < s.layout.mutexes) × (x ≡ entry_in s.layout t k) × ((seen s k).owner ≡ Some t) × (out ≢ Some k)
+  pub all : (k : ℕ) → k < s.layout.mutexes → (seen s k).owner ≡ Some t → out ≢ Some k → IsAmong (entry_in s.layout t k) es
 
 -- the words are a list of the entries, whole or in change
 abbrev pub ChainedIn : (ℕ → ℕ) → ℕ → ℕ → List ℕ → Phase → Type 0
@@ -162,21 +167,22 @@ abbrev pub ChainedAt : (ℕ → ℕ) → ℕ → ℕ → List ℕ → CondPhase 
 ChainedAt w h e es (CondPhase.Unlinking u seen) = unlink_laws.Unlinking h e es u.row w
 ChainedAt w h e es f = IsChainBothWays w h es
 
-abbrev pub Chained : (ℕ → ℕ) → ℕ → List ℕ → Stage → Type 0
-Chained w t es (Calling o p) = ChainedIn w (head_place t) p.entry es p.phase
-Chained w t es (AtCondition c p) = ChainedAt w (head_place t) p.entry es p.phase
-Chained w t es g = IsChainBothWays w (head_place t) es
+-- as thread t's process has them
+abbrev pub Chained : Layout' → (ℕ → ℕ) → ℕ → List ℕ → Stage → Type 0
+Chained l w t es (Calling o p) = ChainedIn (words_in l t w) (head_in l t) p.entry es p.phase
+Chained l w t es (AtCondition c p) = ChainedAt (words_in l t w) (head_in l t) p.entry es p.phase
+Chained l w t es g = IsChainBothWays (words_in l t w) (head_in l t) es
 
 -- ---- the lists of threads that died
 
 -- what is left to walk: from e next words lead over these entries, of mutexes that thread t owns still, and back to its head; each mutex that it owns is one of them, or the pending one p, or is
--- being treated
+-- being treated. All this is by addresses of t's process
 pub record Left (s : State) (t e p : ℕ) (es : List ℕ) (treated : Option ℕ) : Type 0 where
-  pub leads : Leads s.words (head_place t) e es
-  pub different : AreDifferent (head_place t ∷ es)
-  pub entries : (x : ℕ) → IsAmong x es → (k : ℕ) × (k < s.layout.mutexes) × (x ≡ entry_place s.layout k) × ((seen s k).owner ≡ Some t) × (treated ≢ Some k)
-  pub all : (k : ℕ) → k < s.layout.mutexes → (seen s k).owner ≡ Some t → IsAmong (entry_place s.layout k) es ⊎ ((p ≡ entry_place s.layout k) ⊎ (treated ≡ Some k))
-  pub pending : (p ≡ 0) ⊎ (k : ℕ) × (k < s.layout.mutexes) × (p ≡ entry_place s.layout k)
+  pub leads : Leads (view_of s t) (head_in s.layout t) e es
+  pub different : AreDifferent (head_in s.layout t ∷ es)
+  pub entries : (x : ℕ) → IsAmong x es → (k : ℕ) × (k < s.layout.mutexes) × (x ≡ entry_in s.layout t k) × ((seen s k).owner ≡ Some t) × (treated ≢ Some k)
+  pub all : (k : ℕ) → k < s.layout.mutexes → (seen s k).owner ≡ Some t → IsAmong (entry_in s.layout t k) es ⊎ ((p ≡ entry_in s.layout t k) ⊎ (treated ≡ Some k))
+  pub pending : (p ≡ 0) ⊎ (k : ℕ) × (k < s.layout.mutexes) × (p ≡ entry_in s.layout t k)
 
 -- the rest of a walk, after so many entries
 abbrev pub LeftOf : State → ℕ → walk_rest.Rest → Option ℕ → Type 0
@@ -191,27 +197,27 @@ LeftIn s t Part.Pending treated = (k : ℕ) → k < s.layout.mutexes → (seen s
 abbrev pub LeftFrom : State → ℕ → ℕ → Type 0
 LeftFrom s t first = (es : List ℕ) × Left s t first (s.words (head_place t + 2)) es None × (length es ≤ 2048)
 
--- a mutex that is treated, by its cell's place
-abbrev pub Treats : State → ℕ → ℕ → Type 0
-Treats s at k = (k < s.layout.mutexes) × (at ≡ cell_place s.layout k)
+-- a mutex that is treated, by its cell's address
+abbrev pub Treats : State → ℕ → ℕ → ℕ → Type 0
+Treats s t at k = (k < s.layout.mutexes) × (at ≡ cell_in s.layout t k)
 
 abbrev pub Mourns : State → ℕ → walk_row.Row → Type 0
 Mourns s t walk.LoadFirst = LeftFrom s t (s.words (head_place t))
 Mourns s t (walk.LoadOffset first) = LeftFrom s t first
 Mourns s t (walk.LoadPending first offset) = LeftFrom s t first × (offset ≡ 18446744073709551615)
 Mourns s t (walk.LoadNext r) = LeftOf s t r None
-Mourns s t (walk.LoadWord at rest) = (k : ℕ) × Treats s at k × LeftIn s t rest (Some k)
-Mourns s t (walk.Mark at v again rest) = (k : ℕ) × Treats s at k × LeftIn s t rest (Some k) × OnlyWaits v again (s.words at)
-Mourns s t (walk.WakeOne at rest) = (k : ℕ) × Treats s at k × LeftIn s t rest None
+Mourns s t (walk.LoadWord at rest) = (k : ℕ) × Treats s t at k × LeftIn s t rest (Some k)
+Mourns s t (walk.Mark at v again rest) = (k : ℕ) × Treats s t at k × LeftIn s t rest (Some k) × OnlyWaits v again (s.words (place_in s.layout t at))
+Mourns s t (walk.WakeOne at rest) = (k : ℕ) × Treats s t at k × LeftIn s t rest None
 Mourns s t walk.Ended = ⊥
 
 -- a thread's list: as it has it, or as the walk will find it; a thread that was reaped owns nothing
 abbrev pub Listed : State → ℕ → Stage → Type 0
 Listed s t (Dying w) = Mourns s t w.row
 Listed s t Reaped = (k : ℕ) → (seen s k).owner ≢ Some t
-Listed s t Idle = (es : List ℕ) × Owned s t None es × Chained s.words t es Idle
-Listed s t (Calling o p) = (es : List ℕ) × Owned s t (left_out s.layout (Calling o p)) es × Chained s.words t es (Calling o p)
-Listed s t (AtCondition c p) = (es : List ℕ) × Owned s t (left_out s.layout (AtCondition c p)) es × Chained s.words t es (AtCondition c p)
+Listed s t Idle = (es : List ℕ) × Owned s t None es × Chained s.layout s.words t es Idle
+Listed s t (Calling o p) = (es : List ℕ) × Owned s t (left_out s.layout (Calling o p)) es × Chained s.layout s.words t es (Calling o p)
+Listed s t (AtCondition c p) = (es : List ℕ) × Owned s t (left_out s.layout (AtCondition c p)) es × Chained s.layout s.words t es (AtCondition c p)
 
 -- ---- pending entries
 

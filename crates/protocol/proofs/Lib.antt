@@ -5,6 +5,7 @@ mod NoteFacts
 pub mod Phases
 mod Objects
 mod Counts
+pub mod Seeing
 pub mod Kept
 pub mod Places
 pub mod Steps
@@ -16,6 +17,7 @@ pub mod Stepping
 pub mod CallSteps
 pub mod CellSteps
 pub mod OwnWords
+pub mod Leaving
 pub mod OwnSteps
 pub mod Accesses
 pub mod Walking
@@ -51,3 +53,4 @@ pub mod Splits
 pub mod PassedBy
 pub mod Emptied
 pub mod Signalling
+mod WaitersBit

@@ -1,6 +1,7 @@
 -- Threads that run alone.
 use Rattle.std.proofs.Common.{◌≡◌, ◌⊎◌, ⊎_elim, inl, inr, ℕ, zero, suc, ◌<◌, ◌≤◌, Bool, true, false, Option, Some, None, refl, sym, ap, ◌∙◌, subst, arith}
 use Rattle.protocol.proofs.Vocabulary.{Object, cell_place, counter_place, sleeps_at, Reply, Step, Stage, State, stands_in, sleepers, is_asleep, happens, seen, IsUnowned, nat_tests}
+use Rattle.protocol.proofs.Vocabulary.{place_in}
 use Rattle.protocol.specs.Machine.{is_thread, is_busy, is_dying}
 use Rattle.protocol.specs.Sleepers.{Sleeps, alone, Owes, SomebodyOwes, IsAtRest, EndsAlone}
 use Rattle.protocol.proofs.Objects.{owners}
@@ -87,7 +88,7 @@ module _ (s : State) (t m u : ℕ) (inv : Kept s) (queued : Queued s) (a : Answe
       on : IsUnowned s' m → Continues s t v m → Done ⊎ GoesOn
       on free c = pick (turn s t v goes.step a.first a.last goes.is queued awake u)
         where
-          pick : Turned u t v.access (place_of s t v) (met s t v) s.queues s'.queues → Done ⊎ GoesOn
+          pick : Turned s.layout u t v.access (place_of s t v) (met s t v) s.queues s'.queues → Done ⊎ GoesOn
           pick (As_before quiet unwoken unmoved same) = inr record {
             answers = this_answers s t v goes.step a.first a.last goes.is queued awake m c;
             free = free;
@@ -98,7 +99,7 @@ module _ (s : State) (t m u : ℕ) (inv : Kept s) (queued : Queued s) (a : Answe
           pick (Falls me on nobody moves there elsewhere) = absurd (cc (c.0, on))
           pick (Woken quiet woken unmoved before gone) = inl (inr (u, stands, gone (cell_place s.layout m)))
           pick (Moved from e n to k is quiet unwoken moved before there elsewhere) =
-              by_same (cell_place s.layout m) to
+              by_same (cell_place s.layout m) (place_in s.layout t to)
               (λ here.
               let carried = carries s t v goes.step a.first a.last goes.is queued awake u (cell_place s.layout m) from e n to k is before here in
               absurd (counter_is_no_cell s.layout m carried.from inside (sym (queued.one u (cell_place s.layout m) (counter_place s.layout carried.from) stands carried.left))))

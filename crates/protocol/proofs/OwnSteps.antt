@@ -1,40 +1,40 @@
 -- One access of a call to its thread's own words: its head's, and the links of its mutexes.
-use Rattle.std.proofs.Common.{◌≡◌, ◌≢◌, inl, inr, ℕ, ◌+◌, ◌*◌, ◌<◌, ◌≤◌, Bool, Option, Some, None, List, ◌∷◌, refl, sym, ap, ◌∙◌, subst, arith}
-use Rattle.protocol.proofs.Vocabulary.{address_of, answer_at, IsChainBothWays, AreDifferent, address_sum, head_place, entry_place, cell_place, Reply, XRACED, Phase, word_among}
+use Rattle.std.proofs.Common.{◌≡◌, inl, inr, ℕ, ◌+◌, ◌*◌, ◌<◌, ◌≤◌, Bool, Option, Some, None, List, ◌∷◌, refl, sym, ap, ◌∙◌, subst, arith}
+use Rattle.protocol.proofs.Vocabulary.{address_of, answer_at, IsChainBothWays, address_sum, head_place, cell_place, Reply, Phase, Access, Thread, place_in, place_met}
 use Rattle.protocol.proofs.Vocabulary.{Linking, Clearing, Onward, left, decided, Joins, Whole, whole_access, Op, mutex_of, Calling, State, put, seen, LinkRow, UnlinkRow}
-use Rattle.protocol.proofs.Vocabulary.{UnlinkStanding, LinkGoes, unlink_access, unlink_resume, UnlinkGoes, entries-different, without-among, Makes, answer_on, link_access}
-use Rattle.protocol.proofs.Vocabulary.{link_access_of, link_resume, link_moved}
+use Rattle.protocol.proofs.Vocabulary.{UnlinkStanding, LinkGoes, unlink_access, unlink_resume, UnlinkGoes, answer_on, link_access}
+use Rattle.protocol.proofs.Vocabulary.{link_resume}
 use Rattle.keys.specs.Chains.{without}
 use Rattle.robustlist.specs.Standings.{LinkStanding}
-use Rattle.robustlist.specs.Unlink.{unlink_access_of, unlink_moved}
 use Rattle.robustlist.specs.LinkLaws as link_laws
 use Rattle.robustlist.specs.UnlinkLaws as unlink_laws
 use Rattle.robustlist.proofs.Links as links
-use Rattle.robustlist.proofs.Unlinks as unlinks
 use Rattle.mutex.specs.declared.row.Row.{Row}
 use Rattle.mutex.specs.declared.phase.Phase.TheVariants.{Announcing, Unlinking}
 use Rattle.mutex.specs.Whole.{phase_led, announced, linked_at, unlinked_at}
 use Rattle.protocol.proofs.Puts.{put-same, put-other}
-use Rattle.protocol.proofs.Phases.{decided_at, left_at, SteadyAt, Moves, IsPlain, IsOwn, plain_answer, plain_awake, own_pointless, own_silent, joins_same, link_plain, unlink_plain, plain_no_move, plain_word}
-use Rattle.protocol.proofs.Kept.{AtRow, Fits, Serves, left_out_in, Owned, ChainedIn, Listed, IsAnnounced, pending_in, PendsAs, Kept, last_thread}
-use Rattle.protocol.proofs.Places.{IsMine, more_not_pending, mine_is_valid, list_is_mine, list_not_pending, more_is_mine, both_same, among_without, without_is_apart, pending_is}
-use Rattle.protocol.proofs.Steps.{Transition, onto, thread_after, after, place_of, met, met_queue, call_step}
+use Rattle.protocol.proofs.Phases.{decided_at, left_at, SteadyAt, Moves, IsPlain, IsOwn, plain_answer, plain_awake, own_pointless, own_silent, joins_same, link_plain, plain_no_move}
+use Rattle.protocol.proofs.Kept.{AtRow, Fits, Serves, left_out_in, Owned, ChainedIn, Listed, IsAnnounced, pending_in, PendsAs, Kept}
+use Rattle.protocol.proofs.Places.{IsMine, mine_is_valid, both_same, Links, links_mine, links_not_pending, list_links, more_links}
+use Rattle.protocol.proofs.Steps.{Transition, onto, thread_after, after, place_of, met, met_queue, call_step, done}
 use Rattle.protocol.proofs.Arrivals.{Arrives, sits_after, listed_after, pending_then}
 use Rattle.protocol.proofs.CallSteps.{CallStep}
-use Rattle.protocol.proofs.Cases.{some_same}
-use Rattle.protocol.proofs.OwnWords.{own_cells, own_seen, own_tells, own_owned, own_counter, own_pendings, own_kept}
+use Rattle.protocol.proofs.OwnWords.{own_cells, own_seen, own_tells, own_owned, own_counter, own_pendings, own_kept, own_makes, own_pending}
+use Rattle.protocol.proofs.Leaving as leaving
+use Rattle.robustlist.specs.Words.{IsOn}
+use Rattle.protocol.proofs.Seeing.{head_in, words_in, head_word_again}
 
--- what is left to show of an access of its own words
-record Lands (s : State) (t : ℕ) (c : Op) (p : Whole) : Type 0 where
-  joins : Joins (decided_at p.phase) None (decided_at (onto s t p).phase)
-  fewer : left_at (onto s t p).phase (s.words (cell_place s.layout (mutex_of s.layout c))) < left_at p.phase (s.words (cell_place s.layout (mutex_of s.layout c)))
-  steady : SteadyAt t p.phase (s.words (cell_place s.layout (mutex_of s.layout c))) → SteadyAt t (onto s t p).phase (s.words (cell_place s.layout (mutex_of s.layout c)))
-  arrives : Arrives t (s.threads t).held p (onto s t p).phase (seen s (mutex_of s.layout c))
-  pending : (after s t (call_step s t c p)).words (head_place t + 2) ≡ pending_in p.entry (onto s t p).phase
-  list : (es : List ℕ) × Owned s t (left_out_in (mutex_of s.layout c) (onto s t p).phase) es × ChainedIn (after s t (call_step s t c p)).words (head_place t) p.entry es (onto s t p).phase
+-- what is left to show of an access of its own words that leads to a phase
+record Lands (s : State) (t : ℕ) (c : Op) (p : Whole) (f : Phase) : Type 0 where
+  joins : Joins (decided_at p.phase) None (decided_at f)
+  fewer : left_at f (s.words (cell_place s.layout (mutex_of s.layout c))) < left_at p.phase (s.words (cell_place s.layout (mutex_of s.layout c)))
+  steady : SteadyAt t p.phase (s.words (cell_place s.layout (mutex_of s.layout c))) → SteadyAt t f (s.words (cell_place s.layout (mutex_of s.layout c)))
+  arrives : Arrives t (s.threads t).held p f (seen s (mutex_of s.layout c))
+  pending : (after s t (call_step s t c p)).words (head_place t + 2) ≡ pending_in p.entry f
+  list : (es : List ℕ) × Owned s t (left_out_in (mutex_of s.layout c) f) es × ChainedIn (words_in s.layout t (after s t (call_step s t c p)).words) (head_in s.layout t) p.entry es f
 
 -- an access of thread t's call to one of its own words
-module _ (s : State) (t : ℕ) (c : Op) (p : Whole) (inv : Kept s) (pos : 1 ≤ t) (known : t ≤ s.layout.threads) (fits : Fits s t (s.threads t).held (mutex_of s.layout c) p) (serves : Serves s.layout c p) (own : IsOwn p.phase) (plain : IsPlain (whole_access p)) (mine : IsMine s t (address_of (whole_access p))) where
+module _ (s : State) (t : ℕ) (c : Op) (p : Whole) (inv : Kept s) (pos : 1 ≤ t) (known : t ≤ s.layout.threads) (fits : Fits s t (s.threads t).held (mutex_of s.layout c) p) (serves : Serves s.layout c p) (own : IsOwn p.phase) (plain : IsPlain (whole_access p)) (mine : IsMine s t (place_met s.layout t (whole_access p))) where
   abbrev place : ℕ
   place = cell_place s.layout (mutex_of s.layout c)
 
@@ -52,7 +52,7 @@ module _ (s : State) (t : ℕ) (c : Op) (p : Whole) (inv : Kept s) (pos : 1 ≤ 
   no_point = ap (λ (z : Onward). z.point) own_leads ∙ own_pointless p p.phase (answer_at (whole_access p) (met s t v)) own
 
   -- it knows the same of its mutex as before
-  moves_so : Lands s t c p → Moves t p o (s.words place) (s.queues place) ((after s t v).words place)
+  moves_so : Lands s t c p (onto s t p).phase → Moves t p o (s.words place) (s.queues place) ((after s t v).words place)
   moves_so lands = subst (Moves t p o (s.words place) (s.queues place)) (sym (own_cells s t v inv pos known fits.inside plain mine no_point (mutex_of s.layout c) fits.inside)) record {
     joins = subst (λ (x : Option Reply). Joins (decided_at p.phase) x (decided_at o.phase)) (sym no_point) lands.joins;
     waiters = λ e. inl e;
@@ -62,7 +62,7 @@ module _ (s : State) (t : ℕ) (c : Op) (p : Whole) (inv : Kept s) (pos : 1 ≤ 
     steady = λ e was. lands.steady was;
   }
 
-  goes_own : Lands s t c p → CallStep s t c p
+  goes_own : Lands s t c p (onto s t p).phase → CallStep s t c p
   goes_own lands = record {
     valid = mine_is_valid s t (place_of s t v) pos known mine;
     no_move = plain_no_move (whole_access p) plain;
@@ -90,17 +90,28 @@ module _ (s : State) (t : ℕ) (c : Op) (p : Whole) (inv : Kept s) (pos : 1 ≤ 
   abbrev held : ℕ
   held = (s.threads t).held
 
+  abbrev head : ℕ
+  head = head_in s.layout t
+
+  abbrev view : (ℕ → ℕ) → ℕ → ℕ
+  view = words_in s.layout t
+
   -- the pending word
-  pending_at : p.head ≡ head_place t → address_sum p.head 2 ≡ head_place t + 2
-  pending_at head = ap (λ (h : ℕ). address_sum h 2) head ∙ pending_is t (last_thread s t inv known) pos
+  abbrev pending_place : ℕ
+  pending_place = place_in s.layout t (address_sum p.head 2)
+
+  pending_at : p.head ≡ head → pending_place ≡ head_place t + 2
+  pending_at is = ap (λ (h : ℕ). place_in s.layout t (address_sum h 2)) is ∙ head_word_again s.layout t inv.layout pos known 2 (omega arith)
 
   -- a store to it
-  stored : (x : ℕ) → p.head ≡ head_place t → put s.words (address_sum p.head 2) x (head_place t + 2) ≡ x
-  stored x head = ap (λ (y : ℕ). put s.words (address_sum p.head 2) x y) (sym (pending_at head)) ∙ put-same s.words (address_sum p.head 2) x
+  stored : (x : ℕ) → p.head ≡ head → put s.words pending_place x (head_place t + 2) ≡ x
+  stored x is = ap (λ (y : ℕ). put s.words pending_place x y) (sym (pending_at is)) ∙ put-same s.words pending_place x
 
   -- leaves the list
-  pending_keeps : (out : Option ℕ) (es : List ℕ) (x : ℕ) → p.head ≡ head_place t → Owned s t out es → IsChainBothWays s.words (head_place t) es → IsChainBothWays (put s.words (address_sum p.head 2) x) (head_place t) es
-  pending_keeps out es x head owned ch = both_same s.words (put s.words (address_sum p.head 2) x) (head_place t) es (λ y on. put-other s.words (address_sum p.head 2) x y (λ e. list_not_pending s t out es y inv.layout pos known owned on (e ∙ pending_at head))) ch
+  pending_keeps : (out : Option ℕ) (es : List ℕ) (x : ℕ) → p.head ≡ head → Owned s t out es → IsChainBothWays (view s.words) head es → IsChainBothWays (view (put s.words pending_place x)) head es
+  pending_keeps out es x is owned ch =
+      both_same (view s.words) (view (put s.words pending_place x)) head es
+      (λ y on. put-other s.words pending_place x (place_in s.layout t y) (λ e. links_not_pending s t y pos known (list_links s t inv.layout pos known out es y owned on) (e ∙ pending_at is))) ch
 
   -- ---- the entry is made pending
   module _ (r : Row) (fits : Fits s t held (mutex_of s.layout c) (record p { phase = Announcing r })) where
@@ -125,7 +136,7 @@ module _ (s : State) (t : ℕ) (c : Op) (p : Whole) (inv : Kept s) (pos : 1 ≤ 
     abbrev new_words : ℕ → ℕ
     new_words = (after s t (call_step s t c before)).words
 
-    announced_list : (z : Row) (es : List ℕ) → AtRow t held p.operation z (seen s (mutex_of s.layout c)) → Owned s t None es → IsChainBothWays new_words (head_place t) es → Owned s t (left_out_in (mutex_of s.layout c) (announced before z)) es × ChainedIn new_words (head_place t) p.entry es (announced before z)
+    announced_list : (z : Row) (es : List ℕ) → AtRow t held p.operation z (seen s (mutex_of s.layout c)) → Owned s t None es → IsChainBothWays (view new_words) head es → Owned s t (left_out_in (mutex_of s.layout c) (announced before z)) es × ChainedIn (view new_words) head p.entry es (announced before z)
     announced_list z es at owned ch = grind (arith)
 
     pub announcing : (s.threads t).stage ≡ Calling c before → Listed s t (Calling c before) → CallStep s t c before
@@ -153,206 +164,129 @@ module _ (s : State) (t : ℕ) (c : Op) (p : Whole) (inv : Kept s) (pos : 1 ≤ 
       }
 
   -- ---- the entry is put in front of the list
-  module _ (l : LinkStanding) (x : Reply) (fits : Fits s t held (mutex_of s.layout c) (record p { phase = Linking l x })) (is_in : (s.threads t).stage ≡ Calling c (record p { phase = Linking l x })) where
-    abbrev linking_call : Whole
-    linking_call = record p { phase = Linking l x }
+  abbrev k : ℕ
+  k = mutex_of s.layout c
 
-    abbrev k : ℕ
-    k = mutex_of s.layout c
+  abbrev link_at : LinkRow → LinkStanding
+  link_at r = record { head = head; entry = p.entry; row = r }
+
+  module _ (r : LinkRow) (x : Reply) (fits : Fits s t held k (record p { phase = Linking (link_at r) x })) (is_in : (s.threads t).stage ≡ Calling c (record p { phase = Linking (link_at r) x })) (es : List ℕ) (owned : Owned s t (Some k) es) (ch : link_laws.Linking head p.entry es r (view s.words)) where
+    abbrev linking_call : Whole
+    linking_call = record p { phase = Linking (link_at r) x }
+
+    abbrev a : Access
+    a = link_access head p.entry r
+
+    abbrev th : Thread
+    th = thread_after s t (call_step s t c linking_call)
 
     abbrev linked_words : ℕ → ℕ
-    linked_words = (after s t (call_step s t c linking_call)).words
-
-    at_head : l.head ≡ head_place t
-    at_head = fits.stands.0 ∙ fits.head
-
-    at_entry : l.entry ≡ p.entry
-    at_entry = fits.stands.1
-
-    access_is : link_access_of l ≡ link_access (head_place t) p.entry l.row
-    access_is = λ i. link_access (at_head i) (at_entry i) l.row
-
-    abbrev found : ℕ
-    found = s.words (address_of (link_access_of l))
+    linked_words = (done s t a th).words
 
     abbrev led_to : LinkRow
-    led_to = link_resume l.head l.row (answer_at (link_access_of l) found)
+    led_to = link_resume head r (answer_on a (view s.words))
 
-    led_is : link_resume (head_place t) l.row (answer_on (link_access (head_place t) p.entry l.row) s.words) ≡ led_to
-    led_is = λ i. link_resume (sym at_head i) l.row (answer_on (sym access_is i) s.words)
+    each : (y : ℕ) → IsOn head (p.entry ∷ es) y → Links s t y
+    each y on = more_links s t inv.layout pos known k (Some k) p.entry es y owned fits.inside fits.entry fits.stands.3 on
 
-    module _ (es : List ℕ) (owned : Owned s t (Some k) es) (ch : link_laws.Linking (head_place t) p.entry es l.row s.words) where
-      link_mine : IsMine s t (address_of (link_access_of l))
-      link_mine = subst (λ a. IsMine s t (address_of a)) (sym access_is) (more_is_mine s t k (Some k) p.entry es _ inv.layout owned fits.inside fits.entry fits.stands.3 (links.near (head_place t) p.entry es l.row s.words ch))
+    at_link : Links s t (address_of a)
+    at_link = each (address_of a) (links.near head p.entry es r (view s.words) ch)
 
-      link_pends : linked_words (head_place t + 2) ≡ p.entry
-      link_pends =
-          let on = links.near (head_place t) p.entry es l.row s.words ch in
-          let elsewhere : address_of (link_access (head_place t) p.entry l.row) ≢ head_place t + 2 = more_not_pending s t k (Some k) p.entry es _ inv.layout pos known owned fits.inside fits.entry on in
-          put-other s.words (address_of (link_access_of l)) (word_among (link_access_of l) found (s.queues (address_of (link_access_of l)))) (head_place t + 2) (λ e. elsewhere (sym (ap address_of access_is) ∙ sym e)) ∙ subst (PendsAs (s.words (head_place t + 2))) is_in (inv.heads t pos known).pending
+    link_pends : linked_words (head_place t + 2) ≡ p.entry
+    link_pends = own_pending s t a th pos known at_link ∙ subst (PendsAs (s.words (head_place t + 2))) is_in (inv.heads t pos known).pending
 
-      makes : Makes (link_access (head_place t) p.entry l.row) (head_place t) (p.entry ∷ es) s.words linked_words
-      makes = subst (λ a. Makes a (head_place t) (p.entry ∷ es) s.words linked_words) access_is record {
-        changes = put-same s.words (address_of (link_access_of l)) (word_among (link_access_of l) found (s.queues (address_of (link_access_of l)))) ∙ plain_word (link_access_of l) found (s.queues (address_of (link_access_of l))) (link_plain l.head l.entry l.row);
-        keeps = λ y on apart. put-other s.words (address_of (link_access_of l)) (word_among (link_access_of l) found (s.queues (address_of (link_access_of l)))) y apart;
-      }
+    chain_then : link_laws.Linking head p.entry es led_to (view linked_words)
+    chain_then = links.right.steps head p.entry es r (view s.words) (view linked_words) fits.stands.2 ch (own_makes s t a th (p.entry ∷ es) each at_link (link_plain head p.entry r))
 
-      chain_then : link_laws.Linking (head_place t) p.entry es led_to linked_words
-      chain_then = subst (λ r. link_laws.Linking (head_place t) p.entry es r linked_words) led_is (links.right.steps (head_place t) p.entry es l.row s.words linked_words fits.stands.2 ch makes)
+    falls : link_laws.link_left led_to < link_laws.link_left r
+    falls = links.right.falls head r (answer_on a (view s.words)) fits.stands.2
 
-      falls : link_laws.link_left led_to < link_laws.link_left l.row
-      falls = links.right.falls l.head l.row (answer_at (link_access_of l) found) fits.stands.2
+    owned_more : Owned s t None (p.entry ∷ es)
+    owned_more = grind (arith)
 
-      abbrev moved : LinkStanding
-      moved = link_moved l (answer_at (link_access_of l) found)
+    goes_on : (q : LinkRow) → led_to ≡ q → LinkGoes q → Lands s t c linking_call (Linking (link_at led_to) x)
+    goes_on q is going = record {
+      joins = (refl, refl);
+      fewer = let few = falls in omega arith;
+      steady = λ was. was;
+      arrives = (fits.stands.0, fits.stands.1, subst LinkGoes (sym is) going, fits.stands.3);
+      pending = link_pends;
+      list = (es, owned, chain_then);
+    }
 
-      owned_more : Owned s t None (p.entry ∷ es)
-      owned_more = grind (arith)
+    is_linked : (q : LinkRow) → led_to ≡ q → Lands s t c linking_call (linked_at x (link_at led_to) q)
+    is_linked LinkRow.LoadFirst is = goes_on LinkRow.LoadFirst is tt
+    is_linked (LinkRow.StoreNext f) is = goes_on (LinkRow.StoreNext f) is tt
+    is_linked (LinkRow.StorePrevious f) is = goes_on (LinkRow.StorePrevious f) is tt
+    is_linked (LinkRow.StoreBehind f) is = goes_on (LinkRow.StoreBehind f) is tt
+    is_linked LinkRow.StoreFirst is = goes_on LinkRow.StoreFirst is tt
+    is_linked (LinkRow.Ended y) is =
+        let ends = links.right.ends head p.entry es y (view linked_words) (subst (λ q. link_laws.Linking head p.entry es q (view linked_words)) is chain_then) in
+        subst (λ (z : Reply). Lands s t c linking_call (linked_at x (link_at led_to) (LinkRow.Ended z))) (sym ends.0) record {
+          joins = (refl, refl);
+          fewer = omega arith;
+          steady = λ was. was;
+          arrives = tt;
+          pending = link_pends;
+          list = (p.entry ∷ es, owned_more, ends.1);
+        }
 
-      -- where it stands then
-      record Linked (f : Phase) : Type 0 where
-        joins : Joins (Some x) None (decided_at f)
-        fewer : left_at f (s.words (cell_place s.layout k)) < 2 + link_laws.link_left l.row
-        steady : x ≢ XRACED → SteadyAt t f (s.words (cell_place s.layout k))
-        arrives : Arrives t held linking_call f (seen s k)
-        pends : p.entry ≡ pending_in p.entry f
-        list : (ds : List ℕ) × Owned s t (left_out_in k f) ds × ChainedIn linked_words (head_place t) p.entry ds f
-
-      goes_on : (r : LinkRow) → led_to ≡ r → LinkGoes r → Linked (Linking moved x)
-      goes_on r is going = record {
-        joins = (refl, refl);
-        fewer = let few = falls in omega arith;
-        steady = λ was. was;
-        arrives = (fits.stands.0, fits.stands.1, subst LinkGoes (sym is) going, fits.stands.3);
-        pends = refl;
-        list = (es, owned, chain_then);
-      }
-
-      is_linked : (r : LinkRow) → led_to ≡ r → Linked (linked_at x moved r)
-      is_linked LinkRow.LoadFirst is = goes_on LinkRow.LoadFirst is tt
-      is_linked (LinkRow.StoreNext f) is = goes_on (LinkRow.StoreNext f) is tt
-      is_linked (LinkRow.StorePrevious f) is = goes_on (LinkRow.StorePrevious f) is tt
-      is_linked (LinkRow.StoreBehind f) is = goes_on (LinkRow.StoreBehind f) is tt
-      is_linked LinkRow.StoreFirst is = goes_on LinkRow.StoreFirst is tt
-      is_linked (LinkRow.Ended y) is =
-          let ends = links.right.ends (head_place t) p.entry es y linked_words (subst (λ r. link_laws.Linking (head_place t) p.entry es r linked_words) is chain_then) in
-          subst (λ (z : Reply). Linked (linked_at x moved (LinkRow.Ended z))) (sym ends.0) record {
-            joins = (refl, refl);
-            fewer = omega arith;
-            steady = λ was. was;
-            arrives = tt;
-            pends = refl;
-            list = (p.entry ∷ es, owned_more, ends.1);
-          }
-
-      pub linking_goes : CallStep s t c linking_call
-      linking_goes =
-          let plain : IsPlain (link_access_of l) = link_plain l.head l.entry l.row in
-          let leads : (onto s t linking_call).phase ≡ linked_at x moved led_to = ap (λ (o : Onward). o.phase) (own_leads s t c linking_call inv pos known fits serves tt plain link_mine) in
-          let there : Linked (onto s t linking_call).phase = subst Linked (sym leads) (is_linked led_to refl) in
-          goes_own s t c linking_call inv pos known fits serves tt plain link_mine record { joins = there.joins; fewer = there.fewer; steady = there.steady; arrives = there.arrives; pending = link_pends ∙ there.pends; list = there.list }
+    pub linking_goes : CallStep s t c linking_call
+    linking_goes =
+        let plain : IsPlain a = link_plain head p.entry r in
+        let mine = links_mine s t (address_of a) at_link in
+        let leads : (onto s t linking_call).phase ≡ linked_at x (link_at led_to) led_to = ap (λ (o : Onward). o.phase) (own_leads s t c linking_call inv pos known fits serves tt plain mine) in
+        goes_own s t c linking_call inv pos known fits serves tt plain mine (subst (Lands s t c linking_call) (sym leads) (is_linked led_to refl))
 
   -- ---- the entry is taken out of the list
-  module _ (u : UnlinkStanding) (d : Bool) (fits : Fits s t held (mutex_of s.layout c) (record p { phase = Unlinking u d })) (is_in : (s.threads t).stage ≡ Calling c (record p { phase = Unlinking u d })) where
-    abbrev unlinking_call : Whole
-    unlinking_call = record p { phase = Unlinking u d }
+  abbrev unlink_at : UnlinkRow → UnlinkStanding
+  unlink_at r = record { head = head; entry = p.entry; row = r }
 
-    abbrev j : ℕ
-    j = mutex_of s.layout c
+  still_unlinking : (u : UnlinkStanding) (q : UnlinkRow) (d : Bool) → UnlinkGoes q → unlinked_at u q d ≡ Unlinking u d
+  still_unlinking u q d going = grind (arith)
+
+  module _ (r : UnlinkRow) (d : Bool) (fits : Fits s t held k (record p { phase = Unlinking (unlink_at r) d })) (is_in : (s.threads t).stage ≡ Calling c (record p { phase = Unlinking (unlink_at r) d })) (es : List ℕ) (owned : Owned s t None es) (ch : unlink_laws.Unlinking head p.entry es r (view s.words)) where
+    abbrev unlinking_call : Whole
+    unlinking_call = record p { phase = Unlinking (unlink_at r) d }
+
+    abbrev after_thread : Thread
+    after_thread = thread_after s t (call_step s t c unlinking_call)
 
     abbrev unlinked_words : ℕ → ℕ
     unlinked_words = (after s t (call_step s t c unlinking_call)).words
 
-    head_at : u.head ≡ head_place t
-    head_at = fits.stands.0 ∙ fits.head
-
-    entry_at : u.entry ≡ p.entry
-    entry_at = fits.stands.1
-
-    unlink_is : unlink_access_of u ≡ unlink_access (head_place t) p.entry u.row
-    unlink_is = λ i. unlink_access (head_at i) (entry_at i) u.row
-
-    abbrev present : ℕ
-    present = s.words (address_of (unlink_access_of u))
-
     abbrev to_row : UnlinkRow
-    to_row = unlink_resume u.head u.row (answer_at (unlink_access_of u) present)
+    to_row = unlink_resume head r (answer_on (unlink_access head p.entry r) (view s.words))
 
-    to_is : unlink_resume (head_place t) u.row (answer_on (unlink_access (head_place t) p.entry u.row) s.words) ≡ to_row
-    to_is = λ i. unlink_resume (sym head_at i) u.row (answer_on (sym unlink_is i) s.words)
+    unlink_pends : unlinked_words (head_place t + 2) ≡ p.entry
+    unlink_pends = leaving.still_pending s t after_thread inv pos known k fits.inside p.entry fits.entry r fits.stands.2 es owned ch ∙ subst (PendsAs (s.words (head_place t + 2))) is_in (inv.heads t pos known).pending
 
-    module _ (es : List ℕ) (owned : Owned s t None es) (ch : unlink_laws.Unlinking (head_place t) p.entry es u.row s.words) where
-      unlink_mine : IsMine s t (address_of (unlink_access_of u))
-      unlink_mine = subst (λ a. IsMine s t (address_of a)) (sym unlink_is) (list_is_mine s t None es _ inv.layout owned (unlinks.near (head_place t) p.entry es u.row s.words ch))
+    unlink_on : (q : UnlinkRow) → to_row ≡ q → UnlinkGoes q → Lands s t c unlinking_call (Unlinking (unlink_at to_row) d)
+    unlink_on q is going = record {
+      joins = refl;
+      fewer = let few = leaving.falls s t after_thread inv pos known k fits.inside p.entry fits.entry r fits.stands.2 es owned ch in omega arith;
+      steady = λ was. tt;
+      arrives = (fits.stands.0, fits.stands.1, subst UnlinkGoes (sym is) going, fits.stands.3, fits.stands.4);
+      pending = unlink_pends;
+      list = (es, owned, leaving.chain_then s t after_thread inv pos known k fits.inside p.entry fits.entry r fits.stands.2 es owned ch);
+    }
 
-      unlink_pends : unlinked_words (head_place t + 2) ≡ p.entry
-      unlink_pends =
-          let on = unlinks.near (head_place t) p.entry es u.row s.words ch in
-          let elsewhere : address_of (unlink_access (head_place t) p.entry u.row) ≢ head_place t + 2 = list_not_pending s t None es _ inv.layout pos known owned on in
-          put-other s.words (address_of (unlink_access_of u)) (word_among (unlink_access_of u) present (s.queues (address_of (unlink_access_of u)))) (head_place t + 2) (λ e. elsewhere (sym (ap address_of unlink_is) ∙ sym e)) ∙ subst (PendsAs (s.words (head_place t + 2))) is_in (inv.heads t pos known).pending
+    is_unlinked : Lands s t c unlinking_call (unlinked_at (unlink_at to_row) to_row d)
+    is_unlinked =
+        leaving.by_row s t after_thread inv pos known k fits.inside p.entry fits.entry r fits.stands.2 es owned ch (λ (q : UnlinkRow). Lands s t c unlinking_call (unlinked_at (unlink_at to_row) q d))
+        (λ q is going. subst (Lands s t c unlinking_call) (sym (still_unlinking (unlink_at to_row) q d going)) (unlink_on q is going))
+        (λ chain. record {
+          joins = refl;
+          fewer = omega arith;
+          steady = λ was. tt;
+          arrives = record { going = tt; knows = tt; expects = fits.stands.4; of = sym fits.stands.3; room = λ takes. absurd (cc (takes, fits.stands.3)) };
+          pending = unlink_pends;
+          list = (without p.entry es, leaving.owned_less s t after_thread inv pos known k fits.inside p.entry fits.entry r fits.stands.2 es owned ch, chain);
+        })
 
-      unlink_makes : Makes (unlink_access (head_place t) p.entry u.row) (head_place t) es s.words unlinked_words
-      unlink_makes = subst (λ a. Makes a (head_place t) es s.words unlinked_words) unlink_is record {
-        changes = put-same s.words (address_of (unlink_access_of u)) (word_among (unlink_access_of u) present (s.queues (address_of (unlink_access_of u)))) ∙ plain_word (unlink_access_of u) present (s.queues (address_of (unlink_access_of u))) (unlink_plain u.head u.entry u.row);
-        keeps = λ y on apart. put-other s.words (address_of (unlink_access_of u)) (word_among (unlink_access_of u) present (s.queues (address_of (unlink_access_of u)))) y apart;
-      }
-
-      unlink_chain : unlink_laws.Unlinking (head_place t) p.entry es to_row unlinked_words
-      unlink_chain = subst (λ r. unlink_laws.Unlinking (head_place t) p.entry es r unlinked_words) to_is (unlinks.right.steps (head_place t) p.entry es u.row s.words unlinked_words fits.stands.2 ch unlink_makes)
-
-      unlink_falls : unlink_laws.unlink_left to_row < unlink_laws.unlink_left u.row
-      unlink_falls = unlinks.right.falls u.head u.row (answer_at (unlink_access_of u) present) fits.stands.2
-
-      abbrev unlink_to : UnlinkStanding
-      unlink_to = unlink_moved u (answer_at (unlink_access_of u) present)
-
-      different : AreDifferent es
-      different = (entries-different (head_place t) es ch.places).1
-
-      owned_less : Owned s t (Some j) (without p.entry es)
-      owned_less = record {
-        entries = λ y among. let e = owned.entries y (without-among p.entry y es among) in
-            (e.0, e.1, e.2, e.3, λ same. without_is_apart p.entry y es different among (e.2 ∙ ap (entry_place s.layout) (sym (some_same j e.0 same)) ∙ sym fits.entry));
-        all = λ i below own outside. among_without p.entry (entry_place s.layout i) es (owned.all i below own (λ e. cc e)) (λ same. outside (let place = same ∙ fits.entry in ap Some (omega (arith, place))));
-      }
-
-      record Unlinked (f : Phase) : Type 0 where
-        joins : Joins None None (decided_at f)
-        fewer : left_at f (s.words (cell_place s.layout j)) < 33 + unlink_laws.unlink_left u.row
-        steady : SteadyAt t f (s.words (cell_place s.layout j))
-        arrives : Arrives t held unlinking_call f (seen s j)
-        pends : p.entry ≡ pending_in p.entry f
-        list : (ds : List ℕ) × Owned s t (left_out_in j f) ds × ChainedIn unlinked_words (head_place t) p.entry ds f
-
-      unlink_on : (r : UnlinkRow) → to_row ≡ r → UnlinkGoes r → Unlinked (Unlinking unlink_to d)
-      unlink_on r is going = record {
-        joins = refl;
-        fewer = let few = unlink_falls in omega arith;
-        steady = tt;
-        arrives = (fits.stands.0, fits.stands.1, subst UnlinkGoes (sym is) going, fits.stands.3, fits.stands.4);
-        pends = refl;
-        list = (es, owned, unlink_chain);
-      }
-
-      is_unlinked : (r : UnlinkRow) → to_row ≡ r → Unlinked (unlinked_at unlink_to r d)
-      is_unlinked UnlinkRow.LoadNext is = unlink_on UnlinkRow.LoadNext is tt
-      is_unlinked (UnlinkRow.LoadPrevious n) is = unlink_on (UnlinkRow.LoadPrevious n) is tt
-      is_unlinked (UnlinkRow.StoreNext n q) is = unlink_on (UnlinkRow.StoreNext n q) is tt
-      is_unlinked (UnlinkRow.StorePrevious n q) is = unlink_on (UnlinkRow.StorePrevious n q) is tt
-      is_unlinked (UnlinkRow.Ended y) is =
-          let ends = unlinks.right.ends (head_place t) p.entry es y unlinked_words (subst (λ r. unlink_laws.Unlinking (head_place t) p.entry es r unlinked_words) is unlink_chain) in
-          subst (λ (z : Reply). Unlinked (unlinked_at unlink_to (UnlinkRow.Ended z) d)) (sym ends.0) record {
-            joins = refl;
-            fewer = omega arith;
-            steady = tt;
-            arrives = record { going = tt; knows = tt; expects = fits.stands.4; of = sym fits.stands.3; room = λ takes. absurd (cc (takes, fits.stands.3)) };
-            pends = refl;
-            list = (without p.entry es, owned_less, ends.1);
-          }
-
-      pub unlinking_goes : CallStep s t c unlinking_call
-      unlinking_goes =
-          let plain : IsPlain (unlink_access_of u) = unlink_plain u.head u.entry u.row in
-          let leads : (onto s t unlinking_call).phase ≡ unlinked_at unlink_to to_row d = ap (λ (o : Onward). o.phase) (own_leads s t c unlinking_call inv pos known fits serves tt plain unlink_mine) in
-          let there : Unlinked (onto s t unlinking_call).phase = subst Unlinked (sym leads) (is_unlinked to_row refl) in
-          goes_own s t c unlinking_call inv pos known fits serves tt plain unlink_mine record { joins = there.joins; fewer = there.fewer; steady = λ was. there.steady; arrives = there.arrives; pending = unlink_pends ∙ there.pends; list = there.list }
+    pub unlinking_goes : CallStep s t c unlinking_call
+    unlinking_goes =
+        let plain = leaving.plain s t after_thread inv pos known k fits.inside p.entry fits.entry r fits.stands.2 es owned ch in
+        let mine = leaving.mine s t after_thread inv pos known k fits.inside p.entry fits.entry r fits.stands.2 es owned ch in
+        let leads : (onto s t unlinking_call).phase ≡ unlinked_at (unlink_at to_row) to_row d = ap (λ (o : Onward). o.phase) (own_leads s t c unlinking_call inv pos known fits serves tt plain mine) in
+        goes_own s t c unlinking_call inv pos known fits serves tt plain mine (subst (Lands s t c unlinking_call) (sym leads) is_unlinked)

@@ -1,11 +1,13 @@
 -- One load or store of a thread's own words that makes no point: its head's, and the links of its mutexes.
 use Rattle.std.proofs.Common.{◌≡◌, ◌≢◌, inl, inr, ℕ, ◌+◌, ◌<◌, ◌≤◌, false, Option, None, List, refl, sym, ap, ◌∙◌, subst}
-use Rattle.protocol.proofs.Vocabulary.{Object, sleeps_at, head_place, cell_place, counter_place, fields_of, Reply, Sound, State, held_after, seen, word_among}
-use Rattle.protocol.proofs.Puts.{put-other}
-use Rattle.protocol.proofs.Phases.{IsPlain, plain_awake, plain_no_move}
+use Rattle.protocol.proofs.Vocabulary.{Object, sleeps_at, head_place, cell_place, counter_place, fields_of, Reply, Sound, State, held_after, seen, word_among, Access, Makes, Thread, address_of, place_in, place_met}
+use Rattle.robustlist.specs.Words.{IsOn}
+use Rattle.protocol.proofs.Puts.{put-same, put-other}
+use Rattle.protocol.proofs.Phases.{IsPlain, plain_awake, plain_no_move, plain_word}
+use Rattle.protocol.proofs.Seeing.{head_in, words_in}
 use Rattle.protocol.proofs.Kept.{Sits, Owned, Listed, PendsAs, Kept}
-use Rattle.protocol.proofs.Places.{IsMine, offset_is_nobodys, mine_is_valid, mine_is_no_cell, mine_is_no_counter, mine_is_not_theirs}
-use Rattle.protocol.proofs.Steps.{Tells, Transition, met_no_move, unmoved, thread_after, after, place_of, met}
+use Rattle.protocol.proofs.Places.{IsMine, Links, links_not_pending, links_apart, offset_is_nobodys, mine_is_valid, mine_is_no_cell, mine_is_no_counter, mine_is_not_theirs}
+use Rattle.protocol.proofs.Steps.{Tells, Transition, met_no_move, unmoved, thread_after, done, after, place_of, met}
 use Rattle.protocol.proofs.Frames.{kept_where}
 use Rattle.protocol.proofs.Stepping.{AnswersAs, left_of, Moves_none, Found_free, Stepping}
 use Rattle.protocol.proofs.Cases.{same_object}
@@ -81,3 +83,19 @@ module _ (s : State) (t : ℕ) (v : Transition) (inv : Kept s) (pos : 1 ≤ t) (
     few = few;
     fewer = λ quiet. fewer;
   }
+
+-- a load or store of thread t at an address of its list
+module _ (s : State) (t : ℕ) (a : Access) (th : Thread) where
+  abbrev there : ℕ
+  there = place_met s.layout t a
+
+  -- is what it makes of the list's words
+  pub own_makes : (es : List ℕ) → ((y : ℕ) → IsOn (head_in s.layout t) es y → Links s t y) → Links s t (address_of a) → IsPlain a → Makes a (head_in s.layout t) es (words_in s.layout t s.words) (words_in s.layout t (done s t a th).words)
+  own_makes es each at plain = record {
+    changes = put-same s.words there (word_among a (s.words there) (s.queues there)) ∙ plain_word a (s.words there) (s.queues there) plain;
+    keeps = λ y on apart. put-other s.words there (word_among a (s.words there) (s.queues there)) (place_in s.layout t y) (links_apart s t y (address_of a) (each y on) at apart);
+  }
+
+  -- and leaves the pending word
+  pub own_pending : 1 ≤ t → t ≤ s.layout.threads → Links s t (address_of a) → (done s t a th).words (head_place t + 2) ≡ s.words (head_place t + 2)
+  own_pending pos known at = put-other s.words there (word_among a (s.words there) (s.queues there)) (head_place t + 2) (λ e. links_not_pending s t (address_of a) pos known at (sym e))

@@ -26,7 +26,7 @@ use Rattle.protocol.proofs.Events.{begins_at, by_event, by_stage}
 use Rattle.protocol.proofs.Counters.{CondMove, By_row, Before_release, CondGoes, cond_moves, KnowsCount, KnowsAt, KnowsIn, Counted, Passes, never_falls, passes, counted_on, run_counted}
 use Rattle.protocol.proofs.CondSteps.{cond_of}
 use Rattle.protocol.proofs.CondAccesses.{IsBefore, cond_stepping}
-use Rattle.protocol.proofs.Steps.{thread_after, went-is, cond_onto, cond_step, cond_note, its_mutex, its_cell, its_counter, cond_after}
+use Rattle.protocol.proofs.Steps.{thread_after, went-is, cond_onto, cond_step, cond_note, its_mutex, its_cell, its_counter, cond_after, cell_at, counter_at}
 use Rattle.protocol.proofs.Splits.{Split, split, facts_among-append}
 
 -- ---- where a wait stands
@@ -199,7 +199,7 @@ module _ (s : State) (u : ℕ) (c : CondCall) (p : CondWhole) (inv : Kept s) (co
   led_on = led_at c p (cond_onto s u p)
 
   abbrev to_led : CondRow → CondLed
-  to_led r = resume_of u r (answer_at (row_access u (its_cell s c) (its_counter s c) r) (met_word r (s.words (its_cell s c)) n))
+  to_led r = resume_of u r (answer_at (row_access u (cell_at s u c) (counter_at s u c) r) (met_word r (s.words (its_cell s c)) n))
 
   stage_then : ((cond_after s u c p).threads u).stage ≡ led_on.stage
   stage_then = ap (λ (y : Thread). y.stage) (put-same s.threads u (thread_after s u (cond_step s u c p)))
@@ -210,8 +210,8 @@ module _ (s : State) (u : ℕ) (c : CondCall) (p : CondWhole) (inv : Kept s) (co
   knows : KnowsAt n p.phase
   knows = subst (KnowsIn s.layout s.words) is (counted.knows u pos known)
 
-  does : (r : CondRow) → p ≡ cond_of s.layout u c (CondPhase.AtWords r) → IsGoing r → Does_so n (counter_after u (its_cell s c) (its_counter s c) r n) r (to_led r)
-  does r from going = does_row u (its_cell s c) (its_counter s c) (s.words (its_cell s c)) n r going (subst (λ (y : CondWhole). KnowsAt n y.phase) from knows)
+  does : (r : CondRow) → p ≡ cond_of s.layout u c (CondPhase.AtWords r) → IsGoing r → Does_so n (counter_after u (cell_at s u c) (counter_at s u c) r n) r (to_led r)
+  does r from going = does_row u (cell_at s u c) (counter_at s u c) (s.words (its_cell s c)) n r going (subst (λ (y : CondWhole). KnowsAt n y.phase) from knows)
 
   noted_point : (d : Decision) → IsAmong (Fact.Point d) (facts_of (cond_note s u c p)) → decision u (its_mutex s c) led_on.operation led_on.point ≡ Some d
   noted_point d h = point_noted d u (its_mutex s c) _ _ _ _ _ h

@@ -1,11 +1,12 @@
 -- Which words are whose.
-use Rattle.std.proofs.Common.{◌≡◌, ◌≢◌, ◌⊎◌, inl, inr, ℕ, ◌+◌, ◌<◌, ◌≤◌, ◌==◌, Bool, true, false, Option, Some, List, [], ◌∷◌, length, refl, sym, ap, ◌∙◌, arith, eqb-true}
-use Rattle.protocol.proofs.Vocabulary.{Layout', IsLayout, head_place, entry_place, cell_place, counter_place, address_sum, AreDifferent, IsChainBothWays, State, is_valid, seen}
-use Rattle.protocol.proofs.Vocabulary.{Agree, if◌then◌else◌, eqb-false, nat_tests, chained, chain-same, both-ways, avoids-all, apart-among}
+use Rattle.std.proofs.Common.{◌≡◌, ◌≢◌, ◌⊎◌, inl, inr, ℕ, ◌+◌, ◌<◌, ◌≤◌, ◌==◌, Bool, true, false, Option, Some, List, [], ◌∷◌, length, refl, sym, ap, ◌∙◌, subst, arith, eqb-true}
+use Rattle.protocol.proofs.Vocabulary.{Layout', IsLayout, head_place, entry_place, cell_place, counter_place, address_sum, AreDifferent, IsChainBothWays, State, is_valid, seen, words_of, address_in}
+use Rattle.protocol.proofs.Vocabulary.{place_in, Agree, if◌then◌else◌, eqb-false, nat_tests, chained, chain-same, both-ways, avoids-all, apart-among}
 use Rattle.keys.specs.Chains.{previous_place, IsAmong, IsApart, places_of, without}
 use Rattle.robustlist.specs.Words.{IsOn}
 use Rattle.robustlist.specs.LinkLaws as link_laws
-use Rattle.protocol.proofs.Kept.{Owned}
+use Rattle.protocol.proofs.Seeing.{head_in, entry_in, again, same_place, further_on, cell_again}
+use Rattle.protocol.proofs.Kept.{Owned, Treats}
 
 -- the word is thread t's own: its head's first entry or pending one, or a link of a mutex that it owns
 abbrev pub IsMine : State → ℕ → ℕ → Type 0
@@ -32,54 +33,96 @@ mine_is_not_theirs s t u a b pos known first last apart x10 x11 = grind (arith)
 
 -- ---- lists
 
--- places are below 2^64, so an entry's previous word is behind it
-pub behind : (l : Layout') (k : ℕ) → IsLayout l → k < l.mutexes → previous_place (entry_place l k) ≡ entry_place l k + 1
-behind l k is inside = let t = is.threads.1 in let m = is.mutexes.1 in omega arith
+-- a word of its list: its head's first entry, or a link of a mutex that it owns
+abbrev pub IsLinked : State → ℕ → ℕ → Type 0
+IsLinked s t p = (p ≡ head_place t) ⊎ (k : ℕ) × (k < s.layout.mutexes) × ((p ≡ entry_place s.layout k) ⊎ (p ≡ entry_place s.layout k + 1)) × ((seen s k).owner ≡ Some t)
 
-pub pending_is : (t : ℕ) → t ≤ 64 → 1 ≤ t → address_sum (head_place t) 2 ≡ head_place t + 2
-pending_is t last pos = omega arith
+linked_inside : (s : State) (t p : ℕ) → 1 ≤ t → t ≤ s.layout.threads → IsLinked s t p → p < words_of s.layout
+linked_inside s t p pos known h = grind (arith)
 
--- the places of a thread's list are its own
-pub list_is_mine : (s : State) (t : ℕ) (out : Option ℕ) (es : List ℕ) (p : ℕ) → IsLayout s.layout → Owned s t out es → IsOn (head_place t) es p → IsMine s t p
-list_is_mine s t out es p is owned on = grind (arith)
+-- the address of such a word, in its thread's process
+pub record Links (s : State) (t at : ℕ) : Type 0 where
+  pub place : ℕ
+  pub from : at ≡ address_in s.layout t place
+  pub met : place_in s.layout t at ≡ place
+  pub linked : IsLinked s t place
+
+module _ (s : State) (t : ℕ) (is : IsLayout s.layout) (pos : 1 ≤ t) (known : t ≤ s.layout.threads) where
+  links_at : (at p : ℕ) → at ≡ address_in s.layout t p → IsLinked s t p → Links s t at
+  links_at at p from linked = record { place = p; from = from; met = ap (place_in s.layout t) from ∙ again s.layout t is pos known p (linked_inside s t p pos known linked); linked = linked }
+
+  -- the word behind an entry
+  pub behind : (k : ℕ) → k < s.layout.mutexes → previous_place (entry_in s.layout t k) ≡ address_in s.layout t (entry_place s.layout k + 1)
+  behind k inside = further_on s.layout t is pos known (entry_place s.layout k) 1 (omega arith)
+
+  -- an address of a list, and of one of an entry more of a mutex that the thread owns
+  pub list_links : (out : Option ℕ) (es : List ℕ) (at : ℕ) → Owned s t out es → IsOn (head_in s.layout t) es at → Links s t at
+  list_links out es at owned (inl here) = links_at at (head_place t) here (inl refl)
+  list_links out es at owned (inr (x, among, inl here)) = let e = owned.entries x among in links_at at (entry_place s.layout e.0) (here ∙ e.2) (inr (e.0, e.1, inl refl, e.3))
+  list_links out es at owned (inr (x, among, inr here)) = let e = owned.entries x among in links_at at (entry_place s.layout e.0 + 1) (here ∙ ap previous_place e.2 ∙ behind e.0 e.1) (inr (e.0, e.1, inr refl, e.3))
+
+  pub more_links : (m : ℕ) (out : Option ℕ) (e : ℕ) (es : List ℕ) (at : ℕ) → Owned s t out es → m < s.layout.mutexes → e ≡ entry_in s.layout t m → (seen s m).owner ≡ Some t → IsOn (head_in s.layout t) (e ∷ es) at → Links s t at
+  more_links m out e es at owned inside same own (inl here) = links_at at (head_place t) here (inl refl)
+  more_links m out e es at owned inside same own (inr (x, inl first, inl here)) = links_at at (entry_place s.layout m) (here ∙ first ∙ same) (inr (m, inside, inl refl, own))
+  more_links m out e es at owned inside same own (inr (x, inl first, inr here)) = links_at at (entry_place s.layout m + 1) (here ∙ ap previous_place (first ∙ same) ∙ behind m inside) (inr (m, inside, inr refl, own))
+  more_links m out e es at owned inside same own (inr (x, inr among, here)) = list_links out es at owned (inr (x, among, here))
+
+-- its place is one of the thread's own, and not the pending one's
+linked_is_mine : (s : State) (t p : ℕ) → IsLinked s t p → IsMine s t p
+linked_is_mine s t p (inl here) = inl here
+linked_is_mine s t p (inr here) = inr (inr here)
+
+pub links_mine : (s : State) (t at : ℕ) → Links s t at → IsMine s t (place_in s.layout t at)
+links_mine s t at x = subst (IsMine s t) (sym x.met) (linked_is_mine s t x.place x.linked)
+
+linked_not_pending : (s : State) (t p : ℕ) → t ≤ s.layout.threads → 1 ≤ t → IsLinked s t p → p ≢ head_place t + 2
+linked_not_pending s t p known pos h = grind (arith)
+
+pub links_not_pending : (s : State) (t at : ℕ) → 1 ≤ t → t ≤ s.layout.threads → Links s t at → place_in s.layout t at ≢ head_place t + 2
+links_not_pending s t at pos known x e = linked_not_pending s t x.place known pos x.linked (sym x.met ∙ e)
+
+-- other addresses are of other places
+pub links_apart : (s : State) (t a b : ℕ) → Links s t a → Links s t b → a ≢ b → place_in s.layout t a ≢ place_in s.layout t b
+links_apart s t a b x y apart e = apart (x.from ∙ ap (address_in s.layout t) (sym x.met ∙ e ∙ y.met) ∙ sym y.from)
+
+-- the place of a mutex that is treated
+pub treated_at : (s : State) (t : ℕ) → IsLayout s.layout → 1 ≤ t → t ≤ s.layout.threads → (at k : ℕ) → Treats s t at k → place_in s.layout t at ≡ cell_place s.layout k
+treated_at s t is pos known at k treats = ap (place_in s.layout t) treats.1 ∙ cell_again s.layout t is pos known k treats.0
 
 -- words that agree at a list's places have the same list
 pub both_same : (v w : ℕ → ℕ) (h : ℕ) (es : List ℕ) → Agree h es v w → IsChainBothWays v h es → IsChainBothWays w h es
 both_same v w h es agree c = both-ways w h es c.places (chain-same v w h h es (agree h (inl refl)) (λ e among. (agree e (inr (e, among, inl refl)), agree (previous_place e) (inr (e, among, inr refl)))) (chained v h es c))
 
 -- an entry of a mutex lies apart from a thread's list that has only entries of others
-pub lies_apart : (l : Layout') (t m : ℕ) (es : List ℕ) → IsLayout l → 1 ≤ t → t ≤ l.threads → m < l.mutexes
-    → ((x : ℕ) → IsAmong x es → (k : ℕ) × (k < l.mutexes) × (x ≡ entry_place l k) × (k ≢ m)) → link_laws.LiesApart (head_place t) (entry_place l m) es
-lies_apart l t m es is pos known inside each =
-    let same = behind l m is inside in
-    (apart_from 0 (entry_place l m) (omega arith) (omega arith), apart_from 1 (previous_place (entry_place l m)) (omega arith) same)
-  where
-    apart_from : (i p : ℕ) → i < 2 → p ≡ entry_place l m + i → IsApart p (places_of (head_place t) es)
-    apart_from i p few at =
-        let threads = is.threads.1 in
-        let mutexes = is.mutexes.1 in (
-          (λ e. omega (arith, e, at)),
-          (
-            (λ e. omega (arith, e, at)),
-            (
-              (λ e. omega (arith, e, at)),
-              avoids-all p es (λ x among.
-                  let e = each x among in
-                  let there = behind l e.0 is e.1 in
-                  ((λ same. e.3 (omega (arith, same, at))), (λ same. e.3 (let before = ap previous_place e.2 in omega (arith, same, at, there, before))))),
-            ),
-          ),
-        )
+module _ (l : Layout') (t m : ℕ) (es : List ℕ) (is : IsLayout l) (pos : 1 ≤ t) (known : t ≤ l.threads) (inside : m < l.mutexes) (each : (x : ℕ) → IsAmong x es → (k : ℕ) × (k < l.mutexes) × (x ≡ entry_in l t k) × (k ≢ m)) where
+  abbrev At : ℕ → ℕ → Type 0
+  At a p = (a ≡ address_in l t p) × (p < words_of l)
 
--- the pending word is none of a list's
-pub list_not_pending : (s : State) (t : ℕ) (out : Option ℕ) (es : List ℕ) (p : ℕ) → IsLayout s.layout → 1 ≤ t → t ≤ s.layout.threads → Owned s t out es → IsOn (head_place t) es p → p ≢ head_place t + 2
-list_not_pending s t out es p is pos known owned (inl at) = λ e. omega (arith, e, at)
-list_not_pending s t out es p is pos known owned (inr (x, among, inl at)) = let k = owned.entries x among in let there = k.2 in λ e. omega (arith, e, at, there)
-list_not_pending s t out es p is pos known owned (inr (x, among, inr at)) = let k = owned.entries x among in let there : p ≡ entry_place s.layout k.0 + 1 = at ∙ ap previous_place k.2 ∙ behind s.layout k.0 is k.1 in λ e. omega (arith, e, there)
+  differ : (a b p q : ℕ) → At a p → At b q → p ≢ q → a ≢ b
+  differ a b p q x y apart e = apart (same_place l t is pos known p q x.1 y.1 (sym x.0 ∙ e ∙ y.0))
 
--- the places of a list and of one entry more, of a mutex that the thread owns, are its own
-pub more_is_mine : (s : State) (t m : ℕ) (out : Option ℕ) (e : ℕ) (es : List ℕ) (p : ℕ) → IsLayout s.layout → Owned s t out es → m < s.layout.mutexes → e ≡ entry_place s.layout m → (seen s m).owner ≡ Some t → IsOn (head_place t) (e ∷ es) p → IsMine s t p
-more_is_mine s t m out e es p is owned inside same own h = grind (arith)
+  further_at : (p k : ℕ) → p + k < words_of l → At (address_sum (address_in l t p) k) (p + k)
+  further_at p k within = (further_on l t is pos known p k within, within)
+
+  apart_from : (i a : ℕ) → i < 2 → At a (entry_place l m + i) → IsApart a (places_of (head_in l t) es)
+  apart_from i a few at = (
+    differ a (head_in l t) (entry_place l m + i) (head_place t) at (refl, omega arith) (λ e. omega (arith, e)),
+    (
+      differ a (address_sum (head_in l t) 1) (entry_place l m + i) (head_place t + 1) at (further_at (head_place t) 1 (omega arith)) (λ e. omega (arith, e)),
+      (
+        differ a (address_sum (head_in l t) 2) (entry_place l m + i) (head_place t + 2) at (further_at (head_place t) 2 (omega arith)) (λ e. omega (arith, e)),
+        avoids-all a es (λ x among.
+            let e = each x among in
+            let below = e.1 in (
+              differ a x (entry_place l m + i) (entry_place l e.0) at (e.2, omega (arith, below)) (λ same. e.3 (omega (arith, same))),
+              differ a (previous_place x) (entry_place l m + i) (entry_place l e.0 + 1) at (ap previous_place e.2 ∙ (further_at (entry_place l e.0) 1 (omega (arith, below))).0, omega (arith, below)) (λ same. e.3 (omega (arith, same))),
+            )),
+      ),
+    ),
+  )
+
+  pub lies_apart : link_laws.LiesApart (head_in l t) (entry_in l t m) es
+  lies_apart = (apart_from 0 (entry_in l t m) (omega arith) (ap (address_in l t) (omega arith), omega arith), apart_from 1 (previous_place (entry_in l t m)) (omega arith) (further_at (entry_place l m) 1 (omega arith)))
 
 -- lists without an entry
 pub among_without : (e x : ℕ) (es : List ℕ) → IsAmong x es → x ≢ e → IsAmong x (without e es)
@@ -113,7 +156,3 @@ counter_is_no_cell l m c inside = λ e. omega (arith, e)
 
 pub counter_is_valid : (l : Layout') (c : ℕ) → c < length l.conditions → is_valid l (counter_place l c) ≡ true
 counter_is_valid l c inside = grind (arith, nat_tests)
-
--- the pending word is none of a list's, nor of one entry more
-pub more_not_pending : (s : State) (t m : ℕ) (out : Option ℕ) (e : ℕ) (es : List ℕ) (p : ℕ) → IsLayout s.layout → 1 ≤ t → t ≤ s.layout.threads → Owned s t out es → m < s.layout.mutexes → e ≡ entry_place s.layout m → IsOn (head_place t) (e ∷ es) p → p ≢ head_place t + 2
-more_not_pending s t m out e es p is pos known owned inside same h = grind (arith)

@@ -1,6 +1,6 @@
 -- Who sleeps where, event by event.
 use Rattle.std.proofs.Common.{arith, ◌≡◌, ◌≢◌, ℕ, ◌+◌, ◌≤◌, Bool, true, false, Ok, Err, List, [], ◌∷◌, refl, sym, ap, subst}
-use Rattle.protocol.proofs.Vocabulary.{LoadFirst, Layout', IsLayout, head_place, entry_place, XHELD, Op, Event, Thread, Stage, Idle, Dying, State, After, put, start, stands_in}
+use Rattle.protocol.proofs.Vocabulary.{LoadFirst, Layout', IsLayout, head_place, XHELD, Op, Event, Thread, Stage, Idle, Dying, State, After, put, start, stands_in}
 use Rattle.protocol.proofs.Vocabulary.{sleepers, is_alive, killed, begun, happens, run, if◌then◌else◌}
 use Rattle.buckets.specs.Queues.{without}
 use Rattle.protocol.proofs.Puts.{put-same, put-other}
@@ -13,6 +13,7 @@ use Rattle.protocol.proofs.Queues.{without_stands, without_gone, once_without, n
 use Rattle.protocol.proofs.Queued.{Answering, Queued, went_queued}
 use Rattle.protocol.proofs.Runs.{sound, start_kept}
 use Rattle.protocol.proofs.Cases.{at_or_else}
+use Rattle.protocol.proofs.Seeing.{entry_in}
 
 -- ---- a call that begins
 module _ (s : State) (t : ℕ) (o : Op) (queued : Queued s) (idle : (s.threads t).stage ≡ Idle) where
@@ -33,7 +34,7 @@ module _ (s : State) (t : ℕ) (o : Op) (queued : Queued s) (idle : (s.threads t
 
 module _ (s : State) (t : ℕ) (inv : Kept s) (queued : Queued s) (pos : 1 ≤ t) (known : t ≤ s.layout.threads) (alive : is_alive (s.threads t).stage ≡ true) where
   abbrev dead : Thread
-  dead = record (s.threads t) { stage = Dying (walk_of t LoadFirst) }
+  dead = record (s.threads t) { stage = Dying (walk_of s.layout t LoadFirst) }
 
   abbrev s1 : State
   s1 = (killed s t).state
@@ -42,7 +43,7 @@ module _ (s : State) (t : ℕ) (inv : Kept s) (queued : Queued s) (pos : 1 ≤ t
   stage_stays u apart = ap (λ (z : Thread). z.stage) (put-other s.threads t dead u apart)
 
   -- its walk answers for what its call answered for
-  minds : (m : ℕ) (g : Stage) → (s.threads t).stage ≡ g → AnswersAs s.layout s.words m t g → s.words (head_place t + 2) ≡ entry_place s.layout m
+  minds : (m : ℕ) (g : Stage) → (s.threads t).stage ≡ g → AnswersAs s.layout s.words m t g → s.words (head_place t + 2) ≡ entry_in s.layout t m
   minds m g is a = grind (arith)
 
   out_then : (u : ℕ) → ((key : ℕ) → stands_in u (s.queues key) ≡ false) → (key : ℕ) → stands_in u (s1.queues key) ≡ false

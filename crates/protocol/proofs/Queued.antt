@@ -1,7 +1,7 @@
 -- Who sleeps where, and who answers for a mutex that nobody owns.
 use Rattle.std.proofs.Common.{◌≡◌, ◌≢◌, ◌⊎◌, ⊎_elim, inl, inr, ℕ, ◌<◌, ◌≤◌, ◌==◌, Bool, true, false, List, [], ◌∷◌, drop, length, refl, sym, ap, ◌∙◌, subst, arith, eqb-true}
-use Rattle.protocol.proofs.Vocabulary.{Access, Layout', cell_place, counter_place, address_of, sleeps_at, Whole, Op, mutex_of, Thread, Stage, Idle, Calling, AtCondition, Dying}
-use Rattle.protocol.proofs.Vocabulary.{Reaped, State, stands_in, sleepers, sleeps, is_asleep, IsUnowned, slice_index, eqb-false, Sleeps, IsInNoQueue}
+use Rattle.protocol.proofs.Vocabulary.{Access, Layout', cell_place, counter_place, sleeps_at, Whole, Op, mutex_of, Thread, Stage, Idle, Calling, AtCondition, Dying}
+use Rattle.protocol.proofs.Vocabulary.{Reaped, State, stands_in, sleepers, sleeps, is_asleep, IsUnowned, slice_index, eqb-false, Sleeps, IsInNoQueue, place_in, place_met, put}
 use Rattle.keys.specs.Chains.{IsAmong}
 use Rattle.protocol.specs.Machine.{places_of}
 use Rattle.protocol.proofs.Puts.{put-same, put-other}
@@ -13,6 +13,7 @@ use Rattle.protocol.proofs.Stepping.{SleepsAs, AnswersAs, HasWaiters, Moving, Mo
 use Rattle.protocol.proofs.Queues.{Once, stands_none, not_true, first_gone, first_stands, InOne, Turned, As_before, Falls, Woken, Moved, Route, Nowhere, Somewhere, turned, once_then, one_then}
 use Rattle.protocol.proofs.WalkStepping.{same_answers}
 use Rattle.protocol.proofs.Cases.{by_same}
+use Rattle.protocol.proofs.Seeing.{cell_in, counter_in, cell_again, counter_again}
 
 -- thread t stands in the queue of this key as its stage says
 abbrev pub Slept : State → ℕ → ℕ → Type 0
@@ -84,15 +85,20 @@ module _ (s : State) (t : ℕ) (v : Transition) (g : Stepping s t v) (pos : 1 �
   pub mine : (s'.threads t).stage ≡ v.next
   mine = ap (λ (z : Thread). z.stage) (put-same s.threads t (thread_after s t v))
 
+  -- an access that moves from a condition variable's queue is there
+  from_counter : (c e n : ℕ) → c < length s.layout.conditions → v.access ≡ Access.CmpRequeue (counter_in s.layout t c) e 0 (cell_in s.layout t v.mutex) n → at ≡ counter_place s.layout c
+  from_counter c e n below is = ap (place_met s.layout t) is ∙ counter_again s.layout t g.kept.layout pos known c below
+
   -- it moves nobody, or from a condition variable's queue to its mutex's
-  pub route : Route v.access at
+  pub route : Route s.layout t v.access at
   route = go g.moving
     where
-      go : Moving s t v → Route v.access at
+      go : Moving s t v → Route s.layout t v.access at
       go (Moves_none none) = Nowhere none
-      go (Moves_to c e n below of is waits owned) = Somewhere (counter_place s.layout c) e 0 (cell_place s.layout v.mutex) n is (λ same. counter_is_no_cell s.layout v.mutex c g.inside (sym (same ∙ ap address_of is)))
+      go (Moves_to c e n below of is waits owned) =
+          Somewhere (counter_in s.layout t c) e 0 (cell_in s.layout t v.mutex) n is (λ same. counter_is_no_cell s.layout v.mutex c g.inside (sym (from_counter c e n below is) ∙ sym same ∙ cell_again s.layout t g.kept.layout pos known v.mutex g.inside))
 
-  pub turn : (u : ℕ) → Turned u t v.access at (met s t v) s.queues s'.queues
+  pub turn : (u : ℕ) → Turned s.layout u t v.access at (met s t v) s.queues s'.queues
   turn u = turned s.layout s.queues t v.access at (met s t v) queued.once queued.one out route u
 
   -- thread u, asleep on a condition variable, is moved to its mutex, which is owned
@@ -108,20 +114,20 @@ module _ (s : State) (t : ℕ) (v : Transition) (g : Stepping s t v) (pos : 1 �
     pub moves : IsNoMove v.access → ⊥
 
   -- who is moved
-  pub carries : (u key from e n to k : ℕ) → v.access ≡ Access.CmpRequeue from e n to k → stands_in u (s.queues at) ≡ true → key ≡ to → Carried u key
+  pub carries : (u key from e n to k : ℕ) → v.access ≡ Access.CmpRequeue from e n to k → stands_in u (s.queues at) ≡ true → key ≡ place_in s.layout t to → Carried u key
   carries u key from e n to k is before there = go g.moving
     where
       go : Moving s t v → Carried u key
       go (Moves_none none) = absurd (subst IsNoMove is none)
       go (Moves_to c f x below of same waits owned) =
-          let targets : to ≡ cell_place s.layout v.mutex = ap target (sym is ∙ same) in
+          let targets : to ≡ cell_in s.layout t v.mutex = ap target (sym is ∙ same) in
           record {
             apart = λ me. cc (sym (ap (λ (y : ℕ). stands_in y (s.queues at)) me) ∙ before, out at);
             from = c;
             below = below;
             of = of;
-            left = ap (λ (a : Access). stands_in u (s.queues (address_of a))) (sym same) ∙ before;
-            to = there ∙ targets;
+            left = sym (ap (λ (x : ℕ). stands_in u (s.queues x)) (from_counter c f x below same)) ∙ before;
+            to = there ∙ ap (place_in s.layout t) targets ∙ cell_again s.layout t g.kept.layout pos known v.mutex g.inside;
             waits = waits;
             owned = owned;
             moves = λ none. subst IsNoMove is none;
@@ -138,11 +144,11 @@ module _ (s : State) (t : ℕ) (v : Transition) (g : Stepping s t v) (pos : 1 �
       only : (place : ℕ) → ((x : ℕ) → x ≢ place → stands_in u (s'.queues x) ≡ false) → key ≡ place
       only place elsewhere = by_same key place (λ is. is) (λ apart. absurd (cc (stands, elsewhere key apart)))
 
-      go : Turned u t v.access at (met s t v) s.queues s'.queues → ((u ≢ t) × (stands_in u (s.queues key) ≡ true)) ⊎ (((u ≡ t) × (sleeps_at v.access (met s t v) ≡ true) × (key ≡ at)) ⊎ Carried u key)
+      go : Turned s.layout u t v.access at (met s t v) s.queues s'.queues → ((u ≢ t) × (stands_in u (s.queues key) ≡ true)) ⊎ (((u ≡ t) × (sleeps_at v.access (met s t v) ≡ true) × (key ≡ at)) ⊎ Carried u key)
       go (As_before quiet unwoken unmoved same) = let before = sym (same key) ∙ stands in inl ((λ me. cc (sym (ap (λ (x : ℕ). stands_in x (s.queues key)) me) ∙ before, out key)), before)
       go (Falls me on nobody none there elsewhere) = inr (inl (me, on, only at elsewhere))
       go (Woken quiet woken unmoved before gone) = absurd (cc (stands, gone key))
-      go (Moved from e n to k is quiet unwoken moved before there elsewhere) = inr (inr (carries u key from e n to k is before (only to elsewhere)))
+      go (Moved from e n to k is quiet unwoken moved before there elsewhere) = inr (inr (carries u key from e n to k is before (only (place_in s.layout t to) elsewhere)))
 
   -- this thread sleeps then, or stands in no queue
   pub still_out : sleeps_at v.access (met s t v) ≡ false → IsInNoQueue s' t
@@ -164,7 +170,7 @@ module _ (s : State) (t : ℕ) (v : Transition) (g : Stepping s t v) (pos : 1 �
   pub now_asleep : sleeps_at v.access (met s t v) ≡ true → is_asleep s' t ≡ true
   now_asleep on = go (turn t)
     where
-      go : Turned t t v.access at (met s t v) s.queues s'.queues → is_asleep s' t ≡ true
+      go : Turned s.layout t t v.access at (met s t v) s.queues s'.queues → is_asleep s' t ≡ true
       go h = grind (arith)
 
   pub bits' : (k u : ℕ) → k < s.layout.mutexes → Sleeps s' u k → HasWaiters s' k
@@ -189,14 +195,14 @@ module _ (s : State) (t : ℕ) (v : Transition) (g : Stepping s t v) (pos : 1 �
   }
 
   -- one that it wakes
-  module _ (k u n : ℕ) (inside : k < s.layout.mutexes) (some : 1 ≤ n) (wakes : v.access ≡ Access.Wake (cell_place s.layout k) n) (stands : Sleeps s u k) where
+  module _ (k u n : ℕ) (inside : k < s.layout.mutexes) (some : 1 ≤ n) (wakes : v.access ≡ Access.Wake (cell_in s.layout t k) n) (stands : Sleeps s u k) where
     queue : s'.queues (cell_place s.layout k) ≡ drop n (s.queues (cell_place s.layout k))
-    queue = ap (λ (a : Access). (done s t a (thread_after s t v)).queues (cell_place s.layout k)) wakes ∙ put-same s.queues (cell_place s.layout k) (drop n (s.queues (cell_place s.layout k)))
+    queue = ap (λ (a : Access). (done s t a (thread_after s t v)).queues (cell_place s.layout k)) wakes ∙ ap (λ (x : ℕ). put s.queues x (drop n (s.queues x)) (cell_place s.layout k)) (cell_again s.layout t g.kept.layout pos known k inside) ∙ put-same s.queues (cell_place s.layout k) (drop n (s.queues (cell_place s.layout k)))
 
     pub woken_one : (x : ℕ) × Sleeps s x k × IsInNoQueue s' x
     woken_one = go (s.queues (cell_place s.layout k)) refl
       where
-        gone : (x : ℕ) → Sleeps s x k → stands_in x (sleepers s' k) ≡ false → Turned x t v.access at (met s t v) s.queues s'.queues → IsInNoQueue s' x
+        gone : (x : ℕ) → Sleeps s x k → stands_in x (sleepers s' k) ≡ false → Turned s.layout x t v.access at (met s t v) s.queues s'.queues → IsInNoQueue s' x
         gone x before none h = grind (arith)
 
         go : (ds : List ℕ) → s.queues (cell_place s.layout k) ≡ ds → (x : ℕ) × Sleeps s x k × IsInNoQueue s' x

@@ -1,6 +1,6 @@
 -- Queues, and what an access does to them.
 use Rattle.std.proofs.Common.{◌≡◌, ◌≢◌, ◌⊎◌, ⊎_elim, inl, ℕ, zero, suc, ◌≤◌, ◌==◌, ◌%◌, ◌^◌, Bool, true, false, List, [], ◌∷◌, ◌++◌, take, drop, refl, sym, ap, ◌∙◌, subst, arith, eqb-true}
-use Rattle.protocol.proofs.Vocabulary.{Access, sleeps_at, Layout', put, queue_after, woken_by, moved_by, joined, stands_in, if◌then◌else◌, not, eqb-false, stands_at}
+use Rattle.protocol.proofs.Vocabulary.{Access, sleeps_at, Layout', put, queue_after, woken_by, moved_by, joined, stands_in, if◌then◌else◌, not, eqb-false, stands_at, place_in}
 use Rattle.buckets.specs.Queues.{without}
 use Rattle.protocol.proofs.Puts.{by_put, put-same, put-other}
 use Rattle.protocol.proofs.Steps.{IsNoMove, moves_none, joined_none}
@@ -172,20 +172,20 @@ abbrev pub InOne : (ℕ → List ℕ) → ℕ → Type 0
 InOne qs u = (key at : ℕ) → stands_in u (qs key) ≡ true → stands_in u (qs at) ≡ true → key ≡ at
 
 -- what access a of thread t, which meets the word w at a place, is to thread u: nothing; or it is t and falls asleep; or it is woken; or it is moved to another place
-pub data Turned (u t : ℕ) (a : Access) (at w : ℕ) (qs qs' : ℕ → List ℕ) : Type 0 where
-  As_before : (u ≡ t → sleeps_at a w ≡ false) → stands_in u (woken_by a w (qs at)) ≡ false → stands_in u (moved_by a w (qs at)) ≡ false → ((key : ℕ) → stands_in u (qs' key) ≡ stands_in u (qs key)) → Turned u t a at w qs qs'
-  Falls : u ≡ t → sleeps_at a w ≡ true → woken_by a w (qs at) ≡ [] → moved_by a w (qs at) ≡ [] → stands_in u (qs' at) ≡ true → ((key : ℕ) → key ≢ at → stands_in u (qs' key) ≡ false) → Turned u t a at w qs qs'
-  Woken : sleeps_at a w ≡ false → stands_in u (woken_by a w (qs at)) ≡ true → stands_in u (moved_by a w (qs at)) ≡ false → stands_in u (qs at) ≡ true → IsOut qs' u → Turned u t a at w qs qs'
-  Moved : (from e n to k : ℕ) → a ≡ Access.CmpRequeue from e n to k → sleeps_at a w ≡ false → stands_in u (woken_by a w (qs at)) ≡ false → stands_in u (moved_by a w (qs at)) ≡ true → stands_in u (qs at) ≡ true → stands_in u (qs' to) ≡ true
-      → ((key : ℕ) → key ≢ to → stands_in u (qs' key) ≡ false) → Turned u t a at w qs qs'
+pub data Turned (l : Layout') (u t : ℕ) (a : Access) (at w : ℕ) (qs qs' : ℕ → List ℕ) : Type 0 where
+  As_before : (u ≡ t → sleeps_at a w ≡ false) → stands_in u (woken_by a w (qs at)) ≡ false → stands_in u (moved_by a w (qs at)) ≡ false → ((key : ℕ) → stands_in u (qs' key) ≡ stands_in u (qs key)) → Turned l u t a at w qs qs'
+  Falls : u ≡ t → sleeps_at a w ≡ true → woken_by a w (qs at) ≡ [] → moved_by a w (qs at) ≡ [] → stands_in u (qs' at) ≡ true → ((key : ℕ) → key ≢ at → stands_in u (qs' key) ≡ false) → Turned l u t a at w qs qs'
+  Woken : sleeps_at a w ≡ false → stands_in u (woken_by a w (qs at)) ≡ true → stands_in u (moved_by a w (qs at)) ≡ false → stands_in u (qs at) ≡ true → IsOut qs' u → Turned l u t a at w qs qs'
+  Moved : (from e n to k : ℕ) → a ≡ Access.CmpRequeue from e n to k → sleeps_at a w ≡ false → stands_in u (woken_by a w (qs at)) ≡ false → stands_in u (moved_by a w (qs at)) ≡ true → stands_in u (qs at) ≡ true → stands_in u (qs' (place_in l t to)) ≡ true
+      → ((key : ℕ) → key ≢ place_in l t to → stands_in u (qs' key) ≡ false) → Turned l u t a at w qs qs'
 
 -- who moves nobody, or to another place
-pub data Route (a : Access) (at : ℕ) : Type 0 where
-  Nowhere : IsNoMove a → Route a at
-  Somewhere : (from e n to k : ℕ) → a ≡ Access.CmpRequeue from e n to k → to ≢ at → Route a at
+pub data Route (l : Layout') (t : ℕ) (a : Access) (at : ℕ) : Type 0 where
+  Nowhere : IsNoMove a → Route l t a at
+  Somewhere : (from e n to k : ℕ) → a ≡ Access.CmpRequeue from e n to k → place_in l t to ≢ at → Route l t a at
 
 -- access a of thread t, which stands in no queue, and meets the word w at a place
-module _ (l : Layout') (qs : ℕ → List ℕ) (t : ℕ) (a : Access) (at w : ℕ) (once : (key : ℕ) → Once (qs key)) (one : (u : ℕ) → InOne qs u) (out : IsOut qs t) (route : Route a at) where
+module _ (l : Layout') (qs : ℕ → List ℕ) (t : ℕ) (a : Access) (at w : ℕ) (once : (key : ℕ) → Once (qs key)) (one : (u : ℕ) → InOne qs u) (out : IsOut qs t) (route : Route l t a at) where
   abbrev q : List ℕ
   q = qs at
 
@@ -206,10 +206,10 @@ module _ (l : Layout') (qs : ℕ → List ℕ) (t : ℕ) (a : Access) (at w : �
     unmoved : (u : ℕ) → stands_in u (moved_by a w q) ≡ false
     unmoved u = ap (stands_in u) (moves_none a w q none)
 
-    turned_still : (u : ℕ) → Turned u t a at w qs qs'
+    turned_still : (u : ℕ) → Turned l u t a at w qs qs'
     turned_still u = go (sleeps_at a w) refl (t == u) refl
       where
-        go : (b : Bool) → sleeps_at a w ≡ b → (c : Bool) → (t == u) ≡ c → Turned u t a at w qs qs'
+        go : (b : Bool) → sleeps_at a w ≡ b → (c : Bool) → (t == u) ≡ c → Turned l u t a at w qs qs'
         go true on true e =
             let is : u ≡ t = sym (eqb-true t u e) in
             Falls is on (joins t a w q on).1 (joins t a w q on).2
@@ -222,12 +222,12 @@ module _ (l : Layout') (qs : ℕ → List ℕ) (t : ℕ) (a : Access) (at w : �
             (λ apart. refl))
         go false awake c e = ⊎_elim still woken (access_parts t a w q u none awake (once at))
           where
-            still : (stands_in u (woken_by a w q) ≡ false) × (stands_in u (queue_after t a w q) ≡ stands_in u q) → Turned u t a at w qs qs'
+            still : (stands_in u (woken_by a w q) ≡ false) × (stands_in u (queue_after t a w q) ≡ stands_in u q) → Turned l u t a at w qs qs'
             still h =
                 As_before (λ is. awake) h.0 (unmoved u)
                 (λ key. ap (stands_in u) (same_key key) ∙ by_put (λ (z : List ℕ). stands_in u z ≡ stands_in u (qs key)) qs at (queue_after t a w q) key (λ here. h.1 ∙ ap (λ (k : ℕ). stands_in u (qs k)) (sym here)) (λ apart. refl))
 
-            woken : (stands_in u (woken_by a w q) ≡ true) × (stands_in u q ≡ true) × (stands_in u (queue_after t a w q) ≡ false) → Turned u t a at w qs qs'
+            woken : (stands_in u (woken_by a w q) ≡ true) × (stands_in u q ≡ true) × (stands_in u (queue_after t a w q) ≡ false) → Turned l u t a at w qs qs'
             woken h =
                 Woken awake h.0 (unmoved u) h.1
                 (λ key. ap (stands_in u) (same_key key) ∙ by_put (λ (z : List ℕ). stands_in u z ≡ false) qs at (queue_after t a w q) key (λ here. h.2) (λ apart. not_true (stands_in u (qs key)) (λ is. apart (one u key at is h.1))))
@@ -247,9 +247,12 @@ module _ (l : Layout') (qs : ℕ → List ℕ) (t : ℕ) (a : Access) (at w : �
         go x is = once at
 
   -- a move to another place
-  module _ (from e n to k : ℕ) (apart : to ≢ at) where
+  module _ (from e n target k : ℕ) (apart : place_in l t target ≢ at) where
     abbrev move : Access
-    move = Access.CmpRequeue from e n to k
+    move = Access.CmpRequeue from e n target k
+
+    abbrev to : ℕ
+    to = place_in l t target
 
     abbrev us : List ℕ
     us = take k (drop n q)
@@ -291,7 +294,7 @@ module _ (l : Layout') (qs : ℕ → List ℕ) (t : ℕ) (a : Access) (at w : �
       queue_is : (key : ℕ) → stands_in u (after_all move key) ≡ stands_in u (joined_if b key)
       queue_is key = ap (λ (x : Bool). stands_in u (joined_if x key)) is
 
-      stays : stands_in u (woken_if b) ≡ false → stands_in u (moved_if b) ≡ false → stands_in u (left_if b) ≡ stands_in u q → Turned u t move at w qs (after_all move)
+      stays : stands_in u (woken_if b) ≡ false → stands_in u (moved_if b) ≡ false → stands_in u (left_if b) ≡ stands_in u q → Turned l u t move at w qs (after_all move)
       stays quiet still same =
           As_before (λ me. refl) (not_woken quiet) (not_moved still)
           (λ key. queue_is key ∙ by_key (λ (z : List ℕ). stands_in u z ≡ stands_in u (qs key)) b key
@@ -303,14 +306,14 @@ module _ (l : Layout') (qs : ℕ → List ℕ) (t : ℕ) (a : Access) (at w : �
           either true = refl
           either false = refl
 
-    turned_moves : (u : ℕ) → Turned u t move at w qs (after_all move)
+    turned_moves : (u : ℕ) → Turned l u t move at w qs (after_all move)
     turned_moves u = go (w % 2 ^ 32 == e) refl
       where
-        go : (b : Bool) → (w % 2 ^ 32 == e) ≡ b → Turned u t move at w qs (after_all move)
+        go : (b : Bool) → (w % 2 ^ 32 == e) ≡ b → Turned l u t move at w qs (after_all move)
         go false is = stays u false is refl refl refl
         go true is = ⊎_elim rest woken (parted u n q (once at))
           where
-            woken : (stands_in u (take n q) ≡ true) × (stands_in u q ≡ true) × (stands_in u (drop n q) ≡ false) → Turned u t move at w qs (after_all move)
+            woken : (stands_in u (take n q) ≡ true) × (stands_in u q ≡ true) × (stands_in u (drop n q) ≡ false) → Turned l u t move at w qs (after_all move)
             woken h =
                 let not_us : stands_in u us ≡ false = not_true (stands_in u us) (λ there. cc (stands_first u k (drop n q) there, h.2)) in
                 Woken refl (ap (λ (x : Bool). stands_in u (woken_if x)) is ∙ h.0) (not_moved u true is not_us) h.1
@@ -319,16 +322,16 @@ module _ (l : Layout') (qs : ℕ → List ℕ) (t : ℕ) (a : Access) (at w : �
                 (λ here. not_true (stands_in u (drop k (drop n q))) (λ there. cc (stands_rest u k (drop n q) there, h.2)))
                 (λ not_to not_at. only_there u h.1 key not_at))
 
-            rest : (stands_in u (take n q) ≡ false) × (stands_in u (drop n q) ≡ stands_in u q) → Turned u t move at w qs (after_all move)
+            rest : (stands_in u (take n q) ≡ false) × (stands_in u (drop n q) ≡ stands_in u q) → Turned l u t move at w qs (after_all move)
             rest h = ⊎_elim still moved (parted u k (drop n q) (once_rest n q (once at)))
               where
-                still : (stands_in u us ≡ false) × (stands_in u (drop k (drop n q)) ≡ stands_in u (drop n q)) → Turned u t move at w qs (after_all move)
+                still : (stands_in u us ≡ false) × (stands_in u (drop k (drop n q)) ≡ stands_in u (drop n q)) → Turned l u t move at w qs (after_all move)
                 still g = stays u true is h.0 g.0 (g.1 ∙ h.1)
 
-                moved : (stands_in u us ≡ true) × (stands_in u (drop n q) ≡ true) × (stands_in u (drop k (drop n q)) ≡ false) → Turned u t move at w qs (after_all move)
+                moved : (stands_in u us ≡ true) × (stands_in u (drop n q) ≡ true) × (stands_in u (drop k (drop n q)) ≡ false) → Turned l u t move at w qs (after_all move)
                 moved g =
                     let stood : stands_in u q ≡ true = sym h.1 ∙ g.1 in
-                    Moved from e n to k refl refl (not_woken u true is h.0) (ap (λ (x : Bool). stands_in u (moved_if x)) is ∙ g.0) stood
+                    Moved from e n target k refl refl (not_woken u true is h.0) (ap (λ (x : Bool). stands_in u (moved_if x)) is ∙ g.0) stood
                     (queue_is u true is to ∙ ap (stands_in u) (at_target true) ∙ append_right u (qs to) us g.0)
                     (λ key other. queue_is u true is key ∙ by_key (λ (z : List ℕ). stands_in u z ≡ false) true key (λ there. absurd (other there)) (λ here. g.2) (λ not_to not_at. only_there u stood key not_at))
 
@@ -344,17 +347,17 @@ module _ (l : Layout') (qs : ℕ → List ℕ) (t : ℕ) (a : Access) (at w : �
             (λ here. once_rest k (drop n q) (once_rest n q (once at)))
             (λ not_to not_at. once key))
 
-  pub turned : (u : ℕ) → Turned u t a at w qs qs'
+  pub turned : (u : ℕ) → Turned l u t a at w qs qs'
   turned u = go route
     where
-      go : Route a at → Turned u t a at w qs qs'
+      go : Route l t a at → Turned l u t a at w qs qs'
       go (Nowhere none) = turned_still none u
-      go (Somewhere from e n to k is apart) = subst (λ (b : Access). Turned u t b at w qs (after_all b)) (sym is) (turned_moves from e n to k apart u)
+      go (Somewhere from e n to k is apart) = subst (λ (b : Access). Turned l u t b at w qs (after_all b)) (sym is) (turned_moves from e n to k apart u)
 
   pub once_then : (key : ℕ) → Once (qs' key)
   once_then key = go route
     where
-      go : Route a at → Once (qs' key)
+      go : Route l t a at → Once (qs' key)
       go (Nowhere none) = once_still none key
       go (Somewhere from e n to k is apart) = subst (λ (b : Access). Once (after_all b key)) (sym is) (once_moves from e n to k apart key)
 
@@ -365,5 +368,5 @@ module _ (l : Layout') (qs : ℕ → List ℕ) (t : ℕ) (a : Access) (at w : �
       only : (place : ℕ) → ((x : ℕ) → x ≢ place → stands_in u (qs' x) ≡ false) → (x : ℕ) → stands_in u (qs' x) ≡ true → x ≡ place
       only place elsewhere x stands = by_same x place (λ is. is) (λ apart. absurd (cc (stands, elsewhere x apart)))
 
-      go : Turned u t a at w qs qs' → key ≡ other
+      go : Turned l u t a at w qs qs' → key ≡ other
       go h = grind (arith)

@@ -1,15 +1,17 @@
 -- Whole runs.
 use Rattle.std.proofs.Common.{◌≡◌, ◌≢◌, ℕ, zero, suc, ◌+◌, ◌<◌, ◌≤◌, Bool, true, false, ◌&&◌, Option, Some, None, Ok, Err, List, [], ◌∷◌, ◌++◌, refl, sym, ap, ◌∙◌, subst, arith}
+use Rattle.std.proofs.Common.{eq-eqb, ◌%◌, ◌==◌}
 use Rattle.protocol.proofs.Vocabulary.{LoadFirst, Object, Operation, Decision, Layout', IsLayout, head_place, Does, Permits, acquires, fresh, held_by, Reply, XHELD, Op, mutex_of}
 use Rattle.protocol.proofs.Vocabulary.{Names, Event, Thread, Stage, Idle, Dying, Note, facts_of, State, After, put, start, nothing, is_alive, killed, begun, happens, run, notes}
-use Rattle.protocol.proofs.Vocabulary.{seen, if◌then◌else◌, nat_le, MatchBool, nat_tests, first_word, points_of, points_among, HistoryIsLegal}
+use Rattle.protocol.proofs.Vocabulary.{seen, if◌then◌else◌, nat_le, MatchBool, nat_tests, first_word, points_of, points_among, HistoryIsLegal, address_in}
+use Rattle.protocol.proofs.Vocabulary.{Calling, AtCondition, Reaped}
 use Rattle.keys.specs.Histories.{Legal, opening}
 use Rattle.robustlist.proofs.Lists.{begins_empty}
 use Rattle.protocol.specs.Ops.{operation_of}
 use Rattle.protocol.proofs.Puts.{by_put}
 use Rattle.protocol.proofs.Objects.{one}
 use Rattle.protocol.proofs.Counts.{held_by-same}
-use Rattle.protocol.proofs.Kept.{Sits, Listed, Walks, Mourns, PendsAs, Kept}
+use Rattle.protocol.proofs.Kept.{Sits, Listed, Walks, Mourns, PendsAs, Kept, Owned, left_out}
 use Rattle.protocol.proofs.Steps.{Tells, Transition, after}
 use Rattle.protocol.proofs.Stepping.{Stepping}
 use Rattle.protocol.proofs.Events.{begins_at, names_mutex, by_event}
@@ -18,6 +20,9 @@ use Rattle.protocol.proofs.Lists.{left_from}
 use Rattle.protocol.proofs.WalkSteps.{walk_of}
 use Rattle.protocol.proofs.Cases.{at_or_else}
 use Rattle.protocol.proofs.Mourning.{mourns_carries}
+use Rattle.protocol.proofs.Seeing.{head_in, words_in, head_again}
+use Rattle.keys.specs.Layouts.{thread_of, head_word, cell_offset}
+use Rattle.protocol.proofs.Frames.{knows_at}
 
 -- the decisions take the mutexes from what the one state's cells say to what the other's do
 abbrev pub Told : State → List Decision → State → Type 0
@@ -64,8 +69,16 @@ module _ (s : State) (t : ℕ) (o : Op) (inv : Kept s) (pos : 1 ≤ t) (known : 
   still : (u h : ℕ) (f : Stage) → Sits s u h f → Sits (with_call s t g) u h f
   still u h f f' = grind (arith)
 
-  listed_still : (u : ℕ) (f : Stage) → Listed s u f → Listed (with_call s t g) u f
-  listed_still u f l = grind (arith)
+  owned_still : (u : ℕ) (out : Option ℕ) (es : List ℕ) → Owned s u out es → Owned (with_call s t g) u out es
+  owned_still u out es owned = record { entries = owned.entries; all = owned.all }
+
+  listed_still : (u h : ℕ) (f : Stage) → Sits s u h f → Listed s u f → Listed (with_call s t g) u f
+  listed_still u h Idle sits (es, owned, ch) = (es, owned_still u None es owned, ch)
+  listed_still u h (Calling c p) sits (es, owned, ch) = (es, owned_still u (left_out s.layout (Calling c p)) es owned, ch)
+  listed_still u h (AtCondition c p) sits (es, owned, ch) = (es, owned_still u (left_out s.layout (AtCondition c p)) es owned, ch)
+  listed_still u h (Dying w) sits l =
+      mourns_carries s s.words s.queues (with_call s t g).threads u (λ x k below is own. refl) refl refl (λ k own. own) (λ k own. own) (λ k at v again treats owner only. only) w.row (knows_at s.layout u w sits) l
+  listed_still u h Reaped sits none = none
 
   begun_kept : (acquires (operation_of o) ≡ true → held < 2048) → Kept (with_call s t g)
   begun_kept room = record {
@@ -74,8 +87,8 @@ module _ (s : State) (t : ℕ) (o : Op) (inv : Kept s) (pos : 1 ≤ t) (known : 
         (λ is. subst (λ (v : ℕ). Sits (with_call s t g) v held g) (sym is) (still t held g (first_sits s t held o inv.layout named room)))
         (λ apart. still u (s.threads u).held (s.threads u).stage (inv.sits u first most));
     listed = λ u first most. by_put (λ (z : Thread). Listed (with_call s t g) u z.stage) s.threads t (record (s.threads t) { stage = g }) u
-        (λ is. subst (λ (v : ℕ). Listed (with_call s t g) v g) (sym is) (listed_still t g (first_listed s t o (subst (Listed s t) resting (inv.listed t pos known)))))
-        (λ apart. listed_still u (s.threads u).stage (inv.listed u first most));
+        (λ is. subst (λ (v : ℕ). Listed (with_call s t g) v g) (sym is) (listed_still t held g (first_sits s t held o inv.layout named room) (first_listed s t o (subst (Listed s t) resting (inv.listed t pos known)))))
+        (λ apart. listed_still u (s.threads u).held (s.threads u).stage (inv.sits u first most) (inv.listed u first most));
     heads = λ u first most. record {
       offset = (inv.heads u first most).offset;
       pending = by_put (λ (z : Thread). PendsAs (s.words (head_place u + 2)) z.stage) s.threads t (record (s.threads t) { stage = g }) u
@@ -119,7 +132,7 @@ access_sound s t v n inv pos known g noted = record { kept = g.kept; same = refl
 -- the state after a death
 module _ (s : State) (t : ℕ) (inv : Kept s) (pos : 1 ≤ t) (known : t ≤ s.layout.threads) (alive : is_alive (s.threads t).stage ≡ true) where
   abbrev dead : Thread
-  dead = record (s.threads t) { stage = Dying (walk_of t LoadFirst) }
+  dead = record (s.threads t) { stage = Dying (walk_of s.layout t LoadFirst) }
 
   abbrev s1 : State
   s1 = (killed s t).state
@@ -134,7 +147,7 @@ module _ (s : State) (t : ℕ) (inv : Kept s) (pos : 1 ≤ t) (known : t ≤ s.l
   kill_kept = record {
     layout = inv.layout;
     sits = λ u first most. by_put (λ (z : Thread). Sits s1 u z.held z.stage) s.threads t dead u
-        (λ is. subst (λ (v : ℕ). Walks v (walk_of t LoadFirst)) (sym is) (record { mine = refl; head = refl; going = tt; knows = tt }))
+        (λ is. subst (λ (v : ℕ). Walks s.layout v (walk_of s.layout t LoadFirst)) (sym is) (record { mine = refl; head = refl; going = tt; knows = tt }))
         (λ apart. dead_sits u (s.threads u).held (s.threads u).stage (inv.sits u first most));
     listed = λ u first most. by_put (λ (z : Thread). Listed s1 u z.stage) s.threads t dead u
         (λ is. subst (λ (v : ℕ). Mourns s1 v LoadFirst) (sym is)
@@ -177,8 +190,13 @@ nobody_owns : (t n : ℕ) (f : ℕ → Object) → ((m : ℕ) → f m ≡ fresh)
 nobody_owns t zero f all = refl
 nobody_owns t (suc n) f all = let first : one t (f n) ≡ 0 = ap (one t) (all n) in let others = nobody_owns t n f all in omega arith
 
-head_first : (l : Layout') (counters : ℕ → ℕ) (t : ℕ) → 1 ≤ t → t ≤ l.threads → first_word l counters (head_place t) ≡ head_place t
-head_first l counters t first most = grind (arith)
+head_first : (l : Layout') (counters : ℕ → ℕ) (t : ℕ) → 1 ≤ t → t ≤ l.threads → first_word l counters (head_place t) ≡ head_in l t
+head_first l counters t first most =
+    among_heads ∙ ap (λ (b : Bool). if b then address_in l (thread_of (head_place t)) (head_place t) else if head_place t % 3 == 2 then cell_offset else 0) (eq-eqb (head_place t % 3) 1 (omega arith))
+    ∙ ap (λ (u : ℕ). address_in l u (head_place t)) (omega arith)
+  where
+    among_heads : first_word l counters (head_place t) ≡ head_word l (head_place t)
+    among_heads = grind (arith, nat_tests)
 
 head_second : (l : Layout') (counters : ℕ → ℕ) (t : ℕ) → 1 ≤ t → t ≤ l.threads → first_word l counters (head_place t + 1) ≡ 18446744073709551615
 head_second l counters t first most = grind (arith)
@@ -190,7 +208,7 @@ start_listed : (l : Layout') (counters : ℕ → ℕ) (t : ℕ) → IsLayout l �
 start_listed l counters t is first most = (
   [],
   record { entries = λ x among. absurd among; all = λ k below own outside. absurd (cc (ap (λ (o : Object). o.owner) (seen-start l counters k), own)) },
-  begins_empty (first_word l counters) (head_place t) (head_first l counters t first most),
+  begins_empty (words_in l t (first_word l counters)) (head_in l t) (ap (first_word l counters) (head_again l t is first most) ∙ head_first l counters t first most),
 )
 
 -- the start keeps the invariant

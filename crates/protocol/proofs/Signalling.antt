@@ -1,10 +1,11 @@
 -- Signals and broadcasts by the mutex's owner that no other event divides.
 use Rattle.std.proofs.Common.{◌≡◌, ◌≢◌, ℕ, suc, ◌+◌, ◌-◌, ◌%◌, ◌^◌, ◌<◌, ◌≤◌, ◌==◌, Bool, true, false, Some, None, List, [], ◌∷◌, ◌++◌, map, length, take, drop, refl, sym, ap, ◌∙◌, subst, arith, eq-eqb, append-nil}
 use Rattle.protocol.proofs.Vocabulary.{CondCall, CondRow, Signal, Broadcast, CondPhase, full, CondOnward, condition_of, CondWhole, from_words, cond_led, Fact, Condition, Again, word_among}
-use Rattle.protocol.proofs.Vocabulary.{address_of, Layout', cell_place, counter_place, Object, Operation, or_waiting, fields_of, Reply, OK, EPERM, XFULL, OnCondition}
+use Rattle.protocol.proofs.Vocabulary.{Layout', cell_place, counter_place, Object, Operation, or_waiting, fields_of, Reply, OK, EPERM, XFULL, OnCondition}
 use Rattle.protocol.proofs.Vocabulary.{Event, Step, Began, Note, Thread, Stage, Idle, AtCondition, facts_of, moves_to, mutex_of, begun_of, State, After, put, answer_among}
-use Rattle.protocol.proofs.Vocabulary.{queue_after, moved_by, joined, stage_at, reply_at, led_at, held_after, start, may_begin, first_stage, begun, nothing, happens, run, notes}
+use Rattle.protocol.proofs.Vocabulary.{queue_after, moved_by, joined, stage_at, reply_at, held_after, start, may_begin, first_stage, begun, nothing, happens, run, notes}
 use Rattle.protocol.proofs.Vocabulary.{seen, facts_among, if◌then◌else◌, not, replicate, slice_index, nat_tests, SignalRow, BroadcastRow, bit_or, decided_at, owner_of-is}
+use Rattle.protocol.proofs.Vocabulary.{Access, Stepped, decision, returned_at, sleeps_at, slept_in, woken_by}
 use Rattle.keys.specs.declared.access.Answer.TheVariants.{Counts}
 use Rattle.protocol.proofs.Places.{counter_is_no_cell}
 use Rattle.protocol.proofs.Emptied.{no_more}
@@ -21,11 +22,14 @@ use Rattle.condvar.specs.Programs.{first_row, row_access}
 use Rattle.condvar.specs.Whole.{onward}
 use Rattle.protocol.proofs.Puts.{by_put, put-same, put-other}
 use Rattle.protocol.proofs.Kept.{Kept}
-use Rattle.protocol.proofs.Steps.{seen-inside, thread_after, note_of, cond_step}
-use Rattle.protocol.proofs.CondSteps.{cond_of}
+use Rattle.protocol.proofs.Steps.{seen-inside, cell_at, counter_at}
+use Rattle.protocol.proofs.CondSteps.{cond_of, at_either}
 use Rattle.protocol.proofs.Working.{cond_goes}
 use Rattle.protocol.proofs.Runs.{sound, start_kept, run_kept}
 use Rattle.protocol.proofs.Returning.{still_run, still_tells, idle_still}
+use Rattle.protocol.proofs.Seeing.{cell_in, cell_again}
+use Rattle.protocol.proofs.CondAccesses.{fits_at}
+use Rattle.condvar.specs.Laws.{is_at_counter}
 
 -- ---- functions with one new value
 
@@ -84,19 +88,38 @@ module _ (s : State) (t : ℕ) (c : CondCall) (pos : 1 ≤ t) (known : t ≤ s.l
   stage_is : (words : ℕ → ℕ) (queues : ℕ → List ℕ) (g : Stage) → ((at_stage words queues g).threads t).stage ≡ g
   stage_is words queues g = ap (λ (z : Thread). z.stage) (put-same s.threads t (record { stage = g; held = held }))
 
+  -- the access of a row, the place that it meets, and how it is noted
+  abbrev access_at : CondRow → Access
+  access_at r = row_access t (cell_at s t c) (counter_at s t c) r
+
+  abbrev met_at : CondRow → ℕ
+  met_at r = if is_at_counter r then counter else cell
+
+  abbrev noted : (ℕ → ℕ) → (ℕ → List ℕ) → CondRow → ℕ → CondOnward → Note
+  noted words queues r x g =
+      Stepped t m (decision t m (decided_at (operation_of c) g.point) (reply_at g.point)) (slept_in (Condition (condition_of c)) (sleeps_at (access_at r) (words x))) (woken_by (access_at r) (words x) (queues x)) (moved_by (access_at r) (words x) (queues x)) (returned_at g.phase)
+
   abbrev note_at : (ℕ → ℕ) → (ℕ → List ℕ) → CondRow → CondOnward → Note
-  note_at words queues r g = note_of (at_row words queues r) t m (Condition (condition_of c)) (row_access t cell counter r) (led_at c (whole r) g)
+  note_at words queues r g = noted words queues r (met_at r) g
+
+  -- what it leads to and leaves, where it meets a place
+  abbrev led_by : (ℕ → ℕ) → (ℕ → List ℕ) → CondRow → ℕ → CondOnward
+  led_by words queues r x = cond_led (whole r) (answer_among (access_at r) (words x) (queues x))
+
+  abbrev words_by : (ℕ → ℕ) → (ℕ → List ℕ) → CondRow → ℕ → ℕ → ℕ
+  words_by words queues r x = put words x (word_among (access_at r) (words x) (queues x))
+
+  abbrev queues_by : (ℕ → ℕ) → (ℕ → List ℕ) → CondRow → ℕ → ℕ → List ℕ
+  queues_by words queues r x = joined l t (access_at r) (moved_by (access_at r) (words x) (queues x)) (put queues x (queue_after t (access_at r) (words x) (queues x)))
 
   -- one access, at a row
   row_goes : (words words' : ℕ → ℕ) (queues queues' : ℕ → List ℕ) (r : CondRow) (g : CondOnward) → Kept (at_row words queues r)
-      → cond_led (whole r) (answer_among (row_access t cell counter r) (words (address_of (row_access t cell counter r))) (queues (address_of (row_access t cell counter r)))) ≡ g
-      → put words (address_of (row_access t cell counter r)) (word_among (row_access t cell counter r) (words (address_of (row_access t cell counter r))) (queues (address_of (row_access t cell counter r)))) ≡ words'
-      → joined l t (row_access t cell counter r) (moved_by (row_access t cell counter r) (words (address_of (row_access t cell counter r))) (queues (address_of (row_access t cell counter r))))
-      (put queues (address_of (row_access t cell counter r)) (queue_after t (row_access t cell counter r) (words (address_of (row_access t cell counter r))) (queues (address_of (row_access t cell counter r))))) ≡ queues'
-      → held_after held (decided_at (operation_of c) g.point) (reply_at g.point) ≡ held
+      → led_by words queues r (met_at r) ≡ g → words_by words queues r (met_at r) ≡ words' → queues_by words queues r (met_at r) ≡ queues' → held_after held (decided_at (operation_of c) g.point) (reply_at g.point) ≡ held
       → happens (at_row words queues r) (Step t) ≡ record { state = at_stage words' queues' (stage_at c (whole r) g.phase); note = note_at words queues r g }
   row_goes words words' queues queues' r g kept leads words_are queues_are same =
-      cond_goes z t c (whole r) kept pos known (stage_is words queues (AtCondition c (whole r)))
+      cond_goes z t c (whole r) kept pos known in_call
+      ∙ ap (λ (x : ℕ). record { state = record { layout = l; words = words_by words queues r x; queues = queues_by words queues r x; threads = threads_by (led_by words queues r x) }; note = noted words queues r x (led_by words queues r x) })
+      (at_either z t c r kept pos known (fits_at z t c (whole r) kept pos known in_call))
       ∙ (λ i. record {
         state = record { layout = l; words = words_are i; queues = queues_are i; threads = threads_are i };
         note = note_at words queues r (leads i);
@@ -105,22 +128,23 @@ module _ (s : State) (t : ℕ) (c : CondCall) (pos : 1 ≤ t) (known : t ≤ s.l
       z : State
       z = at_row words queues r
 
+      in_call : (z.threads t).stage ≡ AtCondition c (whole r)
+      in_call = stage_is words queues (AtCondition c (whole r))
+
+      threads_by : CondOnward → ℕ → Thread
+      threads_by o = put z.threads t (record { stage = stage_at c (whole r) o.phase; held = held_after (z.threads t).held (decided_at (operation_of c) o.point) (reply_at o.point) })
+
       held_is : held_after (z.threads t).held (decided_at (operation_of c) g.point) (reply_at g.point) ≡ held
       held_is = ap (λ (y : Thread). held_after y.held (decided_at (operation_of c) g.point) (reply_at g.point)) (put-same s.threads t (record { stage = AtCondition c (whole r); held = held })) ∙ same
 
-      threads_are : put z.threads t (thread_after z t (cond_step z t c (whole r))) ≡ put s.threads t (record { stage = stage_at c (whole r) g.phase; held = held })
+      threads_are : threads_by (led_by words queues r (met_at r)) ≡ put s.threads t (record { stage = stage_at c (whole r) g.phase; held = held })
       threads_are =
-          (λ i. put z.threads t (record { stage = stage_at c (whole r) (leads i).phase; held = held_after (z.threads t).held (decided_at (operation_of c) (leads i).point) (reply_at (leads i).point) }))
-          ∙ (λ i. put z.threads t (record { stage = stage_at c (whole r) g.phase; held = held_is i }))
+          ap threads_by leads ∙ (λ i. put z.threads t (record { stage = stage_at c (whole r) g.phase; held = held_is i }))
           ∙ put-put s.threads t (record { stage = AtCondition c (whole r); held = held }) (record { stage = stage_at c (whole r) g.phase; held = held })
 
   -- and then the others, where what holds of every state holds still
   row_then : (words words' : ℕ → ℕ) (queues queues' : ℕ → List ℕ) (r : CondRow) (g : CondOnward) (es : List Event) (y : State) (fs : List Fact)
-      → cond_led (whole r) (answer_among (row_access t cell counter r) (words (address_of (row_access t cell counter r))) (queues (address_of (row_access t cell counter r)))) ≡ g
-      → put words (address_of (row_access t cell counter r)) (word_among (row_access t cell counter r) (words (address_of (row_access t cell counter r))) (queues (address_of (row_access t cell counter r)))) ≡ words'
-      → joined l t (row_access t cell counter r) (moved_by (row_access t cell counter r) (words (address_of (row_access t cell counter r))) (queues (address_of (row_access t cell counter r))))
-      (put queues (address_of (row_access t cell counter r)) (queue_after t (row_access t cell counter r) (words (address_of (row_access t cell counter r))) (queues (address_of (row_access t cell counter r))))) ≡ queues'
-      → held_after held (decided_at (operation_of c) g.point) (reply_at g.point) ≡ held
+      → led_by words queues r (met_at r) ≡ g → words_by words queues r (met_at r) ≡ words' → queues_by words queues r (met_at r) ≡ queues' → held_after held (decided_at (operation_of c) g.point) (reply_at g.point) ≡ held
       → (Kept (at_stage words' queues' (stage_at c (whole r) g.phase)) → Comes_to (at_stage words' queues' (stage_at c (whole r) g.phase)) es y fs) → Kept (at_row words queues r)
       → Comes_to (at_row words queues r) (Step t ∷ es) y (facts_of (note_at words queues r g) ++ fs)
   row_then words words' queues queues' r g es y fs leads words_are queues_are same further kept =
@@ -148,14 +172,14 @@ module _ (s : State) (t k : ℕ) (inv : Kept s) (counted : Counted s) (queued : 
   abbrev mutex : ℕ
   mutex = slice_index s.layout.conditions k
 
-  abbrev cell_at : ℕ
-  cell_at = cell_place s.layout mutex
+  abbrev mutex_cell : ℕ
+  mutex_cell = cell_place s.layout mutex
 
   abbrev at : ℕ
   at = counter_place s.layout k
 
   abbrev w : ℕ
-  w = s.words cell_at
+  w = s.words mutex_cell
 
   abbrev n : ℕ
   n = s.words at
@@ -190,7 +214,7 @@ module _ (s : State) (t k : ℕ) (inv : Kept s) (counted : Counted s) (queued : 
   signals_at = at_row s t signal pos known
 
   abbrev decided_with : Reply → Operation → CondPhase → CondOnward
-  decided_with x op f = record { phase = f; point = Some (record { thread = t; at = cell_at; operation = op; reply = x }) }
+  decided_with x op f = record { phase = f; point = Some (record { thread = t; at = cell_in s.layout t mutex; operation = op; reply = x }) }
 
   abbrev words_counted : ℕ → ℕ
   words_counted = put s.words at (n + 1)
@@ -205,7 +229,7 @@ module _ (s : State) (t k : ℕ) (inv : Kept s) (counted : Counted s) (queued : 
         begins_then s t signal pos known _ _ _ inv may
         (row_then s t signal pos known s.words s.words s.queues s.queues (Signal SignalRow.LoadCell) (onward (CondPhase.AtWords (Signal SignalRow.LoadCounter))) es y fs
         (ap (λ (b : Bool). from_words (whole s t signal pos known (Signal SignalRow.LoadCell)) (if not b then ends Operation.Signal EPERM else goes (Signal SignalRow.LoadCounter))) owns)
-        (put-self s.words cell_at) (put-self s.queues cell_at) refl further)
+        (put-self s.words mutex_cell) (put-self s.queues mutex_cell) refl further)
 
     refused_alone : n ≡ full → (r : ℕ) → Comes_to s (call_alone t signal (suc (suc r))) (at_stage s t signal pos known s.words s.queues Idle) (told_of_call s t signal mutex Operation.Signal XFULL [])
     refused_alone is r =
@@ -251,22 +275,32 @@ module _ (s : State) (t k : ℕ) (inv : Kept s) (counted : Counted s) (queued : 
         begins_then s t cast pos known _ _ _ inv may
         (row_then s t cast pos known s.words s.words s.queues s.queues (Broadcast BroadcastRow.LoadCell) (onward (CondPhase.AtWords (Broadcast BroadcastRow.LoadCounter))) es y fs
         (ap (λ (b : Bool). from_words (whole s t cast pos known (Broadcast BroadcastRow.LoadCell)) (if not b then ends Operation.Broadcast EPERM else goes (Broadcast BroadcastRow.LoadCounter))) owns)
-        (put-self s.words cell_at) (put-self s.queues cell_at) refl further)
+        (put-self s.words mutex_cell) (put-self s.queues mutex_cell) refl further)
 
     abbrev words_set : ℕ → ℕ
-    words_set = put words_counted cell_at (bit_or (words_counted cell_at) 0x8000_0000)
+    words_set = put words_counted mutex_cell (bit_or (words_counted mutex_cell) 0x8000_0000)
 
     abbrev queues_moved : ℕ → List ℕ
-    queues_moved = put (put s.queues at (drop 64 q)) cell_at (put s.queues at (drop 64 q) cell_at ++ take 64 q)
+    queues_moved = put (put s.queues at (drop 64 q)) mutex_cell (put s.queues at (drop 64 q) mutex_cell ++ take 64 q)
 
     -- the counter is as the broadcast left it
-    not_cell : at ≢ cell_at
+    not_cell : at ≢ mutex_cell
     not_cell = counter_is_no_cell s.layout mutex k inside
 
     set_counter : words_set at ≡ n + 1
-    set_counter = put-other words_counted cell_at _ at not_cell ∙ put-same s.words at (n + 1)
+    set_counter = put-other words_counted mutex_cell _ at not_cell ∙ put-same s.words at (n + 1)
 
-    compares : (words_set at % 2 ^ 32 == (low + 1) % 2 ^ 32) ≡ true
+    abbrev differs_not : Bool
+    differs_not = words_set at % 2 ^ 32 == (low + 1) % 2 ^ 32
+
+    -- what its move leaves there, and takes from there
+    abbrev left_if : Bool → ℕ → List ℕ
+    left_if b = put s.queues at (if b then drop 64 (drop 0 q) else q)
+
+    abbrev moved_if : Bool → List ℕ
+    moved_if b = if b then take 64 (drop 0 q) else []
+
+    compares : differs_not ≡ true
     compares = eq-eqb (words_set at % 2 ^ 32) ((low + 1) % 2 ^ 32) (ap (λ (x : ℕ). x % 2 ^ 32) set_counter ∙ omega arith)
 
     -- no more than 64 sleep
@@ -298,21 +332,21 @@ module _ (s : State) (t k : ℕ) (inv : Kept s) (counted : Counted s) (queued : 
         (put-self s.words at) (put-self s.queues at) refl
         (row_then s t cast pos known s.words words_counted s.queues s.queues (Broadcast (BroadcastRow.Count low)) (decided_with OK Operation.Broadcast (CondPhase.AtWords (Broadcast (BroadcastRow.SetWaiters low)))) _ _ _
         refl (counted_so apart) (put-self s.queues at) refl
-        (row_then s t cast pos known words_counted words_set s.queues s.queues (Broadcast (BroadcastRow.SetWaiters low)) (onward (CondPhase.AtWords (Broadcast (BroadcastRow.Move low)))) _ _ _ refl refl (put-self s.queues cell_at) refl
+        (row_then s t cast pos known words_counted words_set s.queues s.queues (Broadcast (BroadcastRow.SetWaiters low)) (onward (CondPhase.AtWords (Broadcast (BroadcastRow.Move low)))) _ _ _ refl refl (put-self s.queues mutex_cell) refl
         (row_then s t cast pos known words_set words_set s.queues queues_moved (Broadcast (BroadcastRow.Move low)) (onward (CondPhase.Ended OK)) _ _ _
         (ap (λ (b : Bool). cond_led (whole s t cast pos known (Broadcast (BroadcastRow.Move low))) (if b then Counts (length (take 0 q)) (length (take 64 (drop 0 q))) else Again)) compares)
         (put-self words_set at)
-        (ap (λ (b : Bool). put (put s.queues at (if b then drop 64 (drop 0 q) else q)) cell_at (put s.queues at (if b then drop 64 (drop 0 q) else q) cell_at ++ (if b then take 64 (drop 0 q) else []))) compares)
+        (ap (λ (x : ℕ). put (left_if differs_not) x (left_if differs_not x ++ moved_if differs_not)) (cell_again s.layout t inv.layout pos known mutex inside) ∙ ap (λ (b : Bool). put (left_if b) mutex_cell (left_if b mutex_cell ++ moved_if b)) compares)
         refl (λ kept. returned s t cast pos known words_set queues_moved r))))))
 
     broadcast_done : IsBroadcast s (at_stage s t cast pos known words_set queues_moved Idle) k mutex
     broadcast_done = record {
       counter = set_counter;
-      cell = ap fields_of (put-same words_counted cell_at _ ∙ ap (λ (x : ℕ). bit_or x 0x8000_0000) (put-other s.words at (n + 1) cell_at (λ e. not_cell (sym e)))) ∙ or_waiting w;
-      words = λ p no_counter no_cell. put-other words_counted cell_at _ p no_cell ∙ put-other s.words at (n + 1) p no_counter;
-      queue = put-other (put s.queues at (drop 64 q)) cell_at _ at not_cell ∙ put-same s.queues at (drop 64 q) ∙ drop_all 64 q short_queue;
-      moved = put-same (put s.queues at (drop 64 q)) cell_at _ ∙ (λ i. put-other s.queues at (drop 64 q) cell_at (λ e. not_cell (sym e)) i ++ take_all 64 q short_queue i);
-      queues = λ key no_counter no_cell. put-other (put s.queues at (drop 64 q)) cell_at _ key no_cell ∙ put-other s.queues at (drop 64 q) key no_counter;
+      cell = ap fields_of (put-same words_counted mutex_cell _ ∙ ap (λ (x : ℕ). bit_or x 0x8000_0000) (put-other s.words at (n + 1) mutex_cell (λ e. not_cell (sym e)))) ∙ or_waiting w;
+      words = λ p no_counter no_cell. put-other words_counted mutex_cell _ p no_cell ∙ put-other s.words at (n + 1) p no_counter;
+      queue = put-other (put s.queues at (drop 64 q)) mutex_cell _ at not_cell ∙ put-same s.queues at (drop 64 q) ∙ drop_all 64 q short_queue;
+      moved = put-same (put s.queues at (drop 64 q)) mutex_cell _ ∙ (λ i. put-other s.queues at (drop 64 q) mutex_cell (λ e. not_cell (sym e)) i ++ take_all 64 q short_queue i);
+      queues = λ key no_counter no_cell. put-other (put s.queues at (drop 64 q)) mutex_cell _ key no_cell ∙ put-other s.queues at (drop 64 q) key no_counter;
       threads = idle_again s t cast pos known idle words_set queues_moved;
     }
 

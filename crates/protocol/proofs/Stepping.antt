@@ -1,6 +1,7 @@
 -- One access of a thread, whatever it does.
 use Rattle.std.proofs.Common.{◌≡◌, ◌≢◌, ◌⊎◌, ℕ, ◌+◌, ◌<◌, ◌≤◌, Bool, true, false, Some, length, []}
-use Rattle.protocol.proofs.Vocabulary.{CondRow, CondPhase, acquires, sleeps_at, Layout', head_place, entry_place, cell_place, counter_place, fields_of, Reply, AtCell, OnCondition}
+pub use Rattle.protocol.specs.WaitersBit.{HasWaiters}
+use Rattle.protocol.proofs.Vocabulary.{CondRow, CondPhase, acquires, sleeps_at, Layout', head_place, cell_place, Reply, AtCell, OnCondition}
 use Rattle.protocol.proofs.Vocabulary.{mutex_of, Stage, Calling, AtCondition, Dying, State, is_met, seen, IsUnowned, slice_index, LockRow, WaitRow, SignalRow, BroadcastRow, Part}
 use Rattle.keys.specs.declared.access.Access.TheVariants.{Wake, CmpRequeue}
 use Rattle.keys.specs.Chains.{IsAmong}
@@ -11,6 +12,7 @@ use Rattle.exitwalk.specs.declared.row.Row.TheVariants as walk
 use Rattle.exitwalk.specs.Ranks.{left_alone}
 use Rattle.protocol.specs.Machine.{places_of}
 use Rattle.protocol.proofs.Phases.{answers_at, left_at}
+use Rattle.protocol.proofs.Seeing.{entry_in, cell_in, counter_in, words_in}
 use Rattle.protocol.proofs.Kept.{Kept}
 use Rattle.protocol.proofs.Steps.{Tells, Transition, IsNoMove, after, place_of, met}
 
@@ -23,15 +25,15 @@ SleepsAs l key g = ⊥
 
 -- a walk that is at a row, and has not come to its pending entry yet, answers for the mutex that is pending; and at a wake, for the one whose sleeper it is going to wake
 abbrev pub Minds : Layout' → (ℕ → ℕ) → ℕ → ℕ → walk_row.Row → Type 0
-Minds l words m t walk.LoadFirst = words (head_place t + 2) ≡ entry_place l m
-Minds l words m t (walk.LoadOffset f) = words (head_place t + 2) ≡ entry_place l m
-Minds l words m t (walk.LoadPending f o) = words (head_place t + 2) ≡ entry_place l m
-Minds l words m t (walk.LoadNext r) = r.pending ≡ entry_place l m
-Minds l words m t (walk.LoadWord at (Part.List r)) = r.pending ≡ entry_place l m
-Minds l words m t (walk.LoadWord at Part.Pending) = at ≡ cell_place l m
-Minds l words m t (walk.Mark at v again (Part.List r)) = r.pending ≡ entry_place l m
-Minds l words m t (walk.WakeOne at (Part.List r)) = (at ≡ cell_place l m) ⊎ (r.pending ≡ entry_place l m)
-Minds l words m t (walk.WakeOne at Part.Pending) = at ≡ cell_place l m
+Minds l words m t walk.LoadFirst = words (head_place t + 2) ≡ entry_in l t m
+Minds l words m t (walk.LoadOffset f) = words (head_place t + 2) ≡ entry_in l t m
+Minds l words m t (walk.LoadPending f o) = words (head_place t + 2) ≡ entry_in l t m
+Minds l words m t (walk.LoadNext r) = r.pending ≡ entry_in l t m
+Minds l words m t (walk.LoadWord at (Part.List r)) = r.pending ≡ entry_in l t m
+Minds l words m t (walk.LoadWord at Part.Pending) = at ≡ cell_in l t m
+Minds l words m t (walk.Mark at v again (Part.List r)) = r.pending ≡ entry_in l t m
+Minds l words m t (walk.WakeOne at (Part.List r)) = (at ≡ cell_in l t m) ⊎ (r.pending ≡ entry_in l t m)
+Minds l words m t (walk.WakeOne at Part.Pending) = at ≡ cell_in l t m
 Minds l words m t r = ⊥
 
 -- a wait that is about to wake one of its mutex, which it has released with WAITERS
@@ -74,12 +76,8 @@ left_at_phase f = 0
 abbrev pub left_of : State → Stage → ℕ
 left_of s (Calling o p) = left_at p.phase (s.words (cell_place s.layout (mutex_of s.layout o)))
 left_of s (AtCondition c p) = left_at_phase p.phase
-left_of s (Dying w) = left_alone s.words w.row
+left_of s (Dying w) = left_alone (words_in s.layout w.thread s.words) w.row
 left_of s g = 0
-
--- somebody may sleep on mutex m, as its cell says
-abbrev pub HasWaiters : State → ℕ → Type 0
-HasWaiters s m = (fields_of (s.words (cell_place s.layout m))).waiters ≡ true
 
 -- ---- what an access leaves
 
@@ -89,14 +87,14 @@ Continues s t v k = (sleeps_at v.access (met s t v) ≡ false) × AnswersAs s.la
 
 -- who leaves mutex k free, with WAITERS: it wakes some that sleep there; or it answers for it; or it found it free, and answers for it where it did
 pub data Settles (s : State) (t : ℕ) (v : Transition) (k : ℕ) : Type 0 where
-  Wakes_there : (n : ℕ) → 1 ≤ n → v.access ≡ Wake (cell_place s.layout k) n → Settles s t v k
+  Wakes_there : (n : ℕ) → 1 ≤ n → v.access ≡ Wake (cell_in s.layout t k) n → Settles s t v k
   Answers_now : Continues s t v k → Settles s t v k
   Found_free : IsUnowned s k → (AnswersAs s.layout s.words k t v.from → Continues s t v k) → Settles s t v k
 
 -- it moves nobody; or all who sleep on a condition variable to its mutex, which is owned then, and whose cell has WAITERS
 pub data Moving (s : State) (t : ℕ) (v : Transition) : Type 0 where
   Moves_none : IsNoMove v.access → Moving s t v
-  Moves_to : (k e n : ℕ) → k < length s.layout.conditions → slice_index s.layout.conditions k ≡ v.mutex → v.access ≡ CmpRequeue (counter_place s.layout k) e 0 (cell_place s.layout v.mutex) n → HasWaiters s v.mutex → (IsUnowned s v.mutex → ⊥) → Moving s t v
+  Moves_to : (k e n : ℕ) → k < length s.layout.conditions → slice_index s.layout.conditions k ≡ v.mutex → v.access ≡ CmpRequeue (counter_in s.layout t k) e 0 (cell_in s.layout t v.mutex) n → HasWaiters s v.mutex → (IsUnowned s v.mutex → ⊥) → Moving s t v
 
 -- what it leaves of its mutex and of all else, and what holds of every state holds then
 pub record Stepping (s : State) (t : ℕ) (v : Transition) : Type 0 where

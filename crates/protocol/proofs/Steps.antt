@@ -9,6 +9,7 @@ use Rattle.mutex.specs.declared.row.Row.{Row}
 use Rattle.mutex.specs.Rows.{IsGoing}
 use Rattle.mutex.specs.Programs.{row_access, row_operation, point_of}
 use Rattle.mutex.specs.Laws.{points, IsOf}
+use Rattle.protocol.proofs.Seeing.{cell_in, counter_in}
 use Rattle.protocol.specs.Machine.{words_after, queues_after, moved, Led}
 
 -- an access that is no trim
@@ -210,6 +211,13 @@ its_cell s c = cell_place s.layout (its_mutex s c)
 
 abbrev pub its_counter : State → CondCall → ℕ
 its_counter s c = counter_place s.layout (condition_of c)
+
+-- the addresses of the two, in thread t's process
+abbrev pub cell_at : State → ℕ → CondCall → ℕ
+cell_at s t c = cell_in s.layout t (its_mutex s c)
+
+abbrev pub counter_at : State → ℕ → CondCall → ℕ
+counter_at s t c = counter_in s.layout t (condition_of c)
 
 -- the state that its access leaves
 abbrev pub cond_after : State → ℕ → CondCall → CondWhole → State

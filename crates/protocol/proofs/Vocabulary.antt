@@ -9,9 +9,10 @@ pub use Rattle.lockword.specs.declared.reply.Reply.{Reply}
 pub use Rattle.lockword.specs.declared.reply.Reply.TheVariants.{EOWNERDEAD, EPERM, OK, XFULL, XHELD, XRACED}
 pub use Rattle.keys.proofs.Owners.{owner_of-is, owner_of-none, owner_of-some}
 pub use Rattle.keys.specs.Accesses.{address_of, answer_among, answer_at, changed, sleeps_at, word_among}
+pub use Rattle.keys.specs.Addresses.{words_from}
 pub use Rattle.keys.specs.Chains.{AreDifferent, IsChainBothWays, Leads, address_sum}
 pub use Rattle.keys.specs.Histories.{held_by}
-pub use Rattle.keys.specs.Layouts.{IsLayout, Layout', cell_place, counter_place, entry_place, first_word, head_place}
+pub use Rattle.keys.specs.Layouts.{IsLayout, Layout', address_in, base_of, cell_place, counter_place, entry_place, first_word, head_place, place_in, words_of}
 pub use Rattle.keys.specs.Objects.{Does, Permits, Run, acquires, fresh, object_of, owner_of}
 pub use Rattle.keys.specs.declared.access.Access.{Access}
 pub use Rattle.keys.specs.declared.access.Answer.{Answer}

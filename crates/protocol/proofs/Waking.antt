@@ -1,8 +1,9 @@
 -- Who falls asleep and who is woken, as the trace tells it.
 use Rattle.std.proofs.Common.{◌≡◌, ◌≢◌, inl, inr, ℕ, ◌<◌, ◌≤◌, length, ◌==◌, Bool, true, false, Option, Some, None, Ok, Err, List, [], ◌∷◌, ◌++◌, map, refl, sym, ap, ◌∙◌, subst, arith, eq-eqb, eqb-true, append-nil}
-use Rattle.protocol.proofs.Vocabulary.{Queue, Mutex, Fact, Decision, Layout', cell_place, counter_place, address_of, sleeps_at, Reply, XHELD, OnCondition, Op, Event, Note, Stepped}
+use Rattle.protocol.proofs.Vocabulary.{Queue, Mutex, Fact, Decision, Layout', cell_place, counter_place, sleeps_at, Reply, XHELD, OnCondition, Op, Event, Note, Stepped}
 use Rattle.protocol.proofs.Vocabulary.{Walked, facts_of, sleep_facts, moves_to, return_facts, reap_facts, State, After, start, woken_by, moved_by, stands_in, is_asleep, begun}
 use Rattle.protocol.proofs.Vocabulary.{nothing, decision, slept_in, killed, happens, run, notes, facts_among, if◌then◌else◌, slice_index, CondCall, queue_place}
+use Rattle.protocol.proofs.Vocabulary.{place_in, place_met}
 use Rattle.buckets.specs.Queues.{without}
 use Rattle.facts.specs.declared.fact.Fact.TheVariants.{Sleep, Wake, Move, Kill}
 use Rattle.protocol.specs.Sleepers.{StandsIn, IsAmong}
@@ -19,6 +20,7 @@ use Rattle.protocol.proofs.Queued.{turn as turn_at}
 use Rattle.protocol.proofs.QueueRuns.{queued_on, start_queued, run_queued}
 use Rattle.protocol.proofs.Runs.{sound, start_kept, run_kept, run_layout}
 use Rattle.protocol.proofs.Cases.{by_equal}
+use Rattle.protocol.proofs.Seeing.{cell_again, counter_again, cell_in}
 
 -- ---- the facts of one thread's sleep
 
@@ -152,7 +154,7 @@ module _ (s : State) (u t : ℕ) (v : Transition) (g : Stepping s u v) (pos : 1 
   abbrev queues' : ℕ → List ℕ
   queues' = (after s u v).queues
 
-  turned_to : Turned t u v.access at w s.queues queues'
+  turned_to : Turned s.layout t u v.access at w s.queues queues'
   turned_to = turn_at s u v g pos known is queued awake t
 
   -- of a call, which would fall asleep in queue k
@@ -166,7 +168,7 @@ module _ (s : State) (u t : ℕ) (v : Transition) (g : Stepping s u v) (pos : 1 
     call_turn : Turn s queues' t (Event.Step u) tells
     call_turn = go turned_to
       where
-        go : Turned t u v.access at w s.queues queues' → Turn s queues' t (Event.Step u) tells
+        go : Turned s.layout t u v.access at w s.queues queues' → Turn s queues' t (Event.Step u) tells
         go (As_before quiet unwoken unmoved same) = Stays (λ i. no_sleep quiet i ++ (no_wakes t (woken_by v.access w q) unwoken i ++ no_moves t v.mutex (moved_by v.access w q) unmoved i)) same
         go (Falls me on nobody none stands elsewhere) =
             let where_to = there on in
@@ -187,15 +189,16 @@ module _ (s : State) (u t : ℕ) (v : Transition) (g : Stepping s u v) (pos : 1 
             carried : Moving s u v → Turn s queues' t (Event.Step u) tells
             carried (Moves_none none) = absurd (subst IsNoMove form none)
             carried (Moves_to c x y below of shape waits owned) =
-                let to_is : to ≡ cell_place s.layout v.mutex = cc (sym form ∙ shape) in
-                let at_is : at ≡ counter_place s.layout c = ap address_of shape in
+                let target : to ≡ cell_in s.layout u v.mutex = cc (sym form ∙ shape) in
+                let to_is : place_in s.layout u to ≡ cell_place s.layout v.mutex = ap (place_in s.layout u) target ∙ cell_again s.layout u g.kept.layout pos known v.mutex g.inside in
+                let at_is : at ≡ counter_place s.layout c = ap (place_met s.layout u) shape ∙ counter_again s.layout u g.kept.layout pos known c below in
                 Is_moved c v.mutex told below of g.inside (sym (ap (λ (x : ℕ). stands_in t (s.queues x)) at_is) ∙ stood) (sym (ap (λ (x : ℕ). stands_in t (queues' x)) to_is) ∙ stands)
 
   -- of a walk, which never sleeps and moves nobody
   walk_turn : sleeps_at v.access w ≡ false → IsNoMove v.access → Turn s queues' t (Event.Step u) (turns t (map Wake (woken_by v.access w q)))
   walk_turn quiet still = go turned_to
     where
-      go : Turned t u v.access at w s.queues queues' → Turn s queues' t (Event.Step u) (turns t (map Wake (woken_by v.access w q)))
+      go : Turned s.layout t u v.access at w s.queues queues' → Turn s queues' t (Event.Step u) (turns t (map Wake (woken_by v.access w q)))
       go (As_before none unwoken unmoved same) = Stays (no_wakes t (woken_by v.access w q) unwoken) same
       go (Falls me on nobody none stands elsewhere) = absurd (cc (on, quiet))
       go (Woken none woken unmoved stood gone) = Is_woken at (one_wake t (woken_by v.access w q) (woken_once v.access w q (queued.once at)) woken) stood gone kills
@@ -250,12 +253,6 @@ only f g (inr h) = absurd h
 same_queue : (l : Layout') (q r : Queue) → IsQueue l q → IsQueue l r → queue_place l q ≡ queue_place l r → q ≡ r
 same_queue l q r inside below place = grind (arith)
 
-sleep_same : (t : ℕ) (q r : Queue) → Sleep t q ≡ Sleep t r → q ≡ r
-sleep_same t q r e = cc
-
-move_same : (t m n : ℕ) → Move t m ≡ Move t n → m ≡ n
-move_same t m n e = cc
-
 module _ (s : State) (e : Event) (inv : Kept s) (queued : Queued s) (t : ℕ) where
   abbrev s' : State
   s' = (happens s e).state
@@ -277,14 +274,19 @@ module _ (s : State) (e : Event) (inv : Kept s) (queued : Queued s) (t : ℕ) wh
   one_then : (q r : Queue) → IsQueue s.layout q → IsQueue s.layout r → stands_in t (s'.queues (queue_place s.layout q)) ≡ true → stands_in t (s'.queues (queue_place s.layout r)) ≡ true → q ≡ r
   one_then q r inside below here there = same_queue s.layout q r inside below ((queued_on s e inv queued).one t (queue_place s.layout q) (queue_place s.layout r) here there)
 
-  falls : (q : Queue) → IsAmong (Sleep t q) (turns t facts) → Turn s s'.queues t e (turns t facts) → FallsAsleep s s' t q
-  falls q h (Stays none same) = absurd (subst (IsAmong (Sleep t q)) none h)
-  falls q h (Falls_asleep k is inside out stands) =
-      let same : k ≡ q = sleep_same t k q (only (Sleep t q) (Sleep t k) (subst (IsAmong (Sleep t q)) is h)) in
-      subst (FallsAsleep s s' t) same (out, inside, stands_then k stands)
-  falls q h (Is_woken key is stands out kills) = absurd (cc (only (Sleep t q) (Wake t) (subst (IsAmong (Sleep t q)) is h)))
-  falls q h (Is_moved k m is below of inside before stands) = absurd (cc (only (Sleep t q) (Move t m) (subst (IsAmong (Sleep t q)) is h)))
-  falls q h (Dies is kill out) = absurd (cc (only (Sleep t q) (Kill t) (subst (IsAmong (Sleep t q)) is h)))
+  -- what a fact of its sleep tells
+  abbrev Says : Fact → Type 0
+  Says (Sleep u q) = FallsAsleep s s' t q
+  Says (Wake u) = LeavesQueue s s' t × (e ≢ Event.Kill t)
+  Says (Move u m) = IsMoved s s' t m
+  Says f = Unit {0}
+
+  says : (f : Fact) → IsAmong f (turns t facts) → Turn s s'.queues t e (turns t facts) → Says f
+  says f h (Stays none same) = absurd (subst (IsAmong f) none h)
+  says f h (Falls_asleep q is inside out stands) = subst Says (only f (Sleep t q) (subst (IsAmong f) is h)) (out, inside, stands_then q stands)
+  says f h (Is_woken key is stands out kills) = subst Says (only f (Wake t) (subst (IsAmong f) is h)) (((key, stands), out), kills)
+  says f h (Is_moved k m is below of inside before stands) = subst Says (only f (Move t m) (subst (IsAmong f) is h)) ((k, below, of, before), stands_then (Mutex m) stands)
+  says f h (Dies is kill out) = subst Says (only f (Kill t) (subst (IsAmong f) is h)) tt
 
   fell : (q : Queue) → FallsAsleep s s' t q → Turn s s'.queues t e (turns t facts) → IsAmong (Sleep t q) facts
   fell q (was, inside, now) (Stays none same) = absurd (cc (now, same (queue_place s'.layout q) ∙ was (queue_place s'.layout q)))
@@ -294,15 +296,6 @@ module _ (s : State) (e : Event) (inv : Kept s) (queued : Queued s) (t : ℕ) wh
   fell q (was, inside, now) (Is_woken key is stands out kills) = absurd (cc (now, out (queue_place s'.layout q)))
   fell q (was, inside, now) (Is_moved k m is below of there before stands) = absurd (cc (before, was (counter_place s.layout k)))
   fell q (was, inside, now) (Dies is kill out) = absurd (cc (now, out (queue_place s'.layout q)))
-
-  moves : (m : ℕ) → IsAmong (Move t m) (turns t facts) → Turn s s'.queues t e (turns t facts) → IsMoved s s' t m
-  moves m h (Stays none same) = absurd (subst (IsAmong (Move t m)) none h)
-  moves m h (Falls_asleep q is inside out stands) = absurd (cc (only (Move t m) (Sleep t q) (subst (IsAmong (Move t m)) is h)))
-  moves m h (Is_woken key is stands out kills) = absurd (cc (only (Move t m) (Wake t) (subst (IsAmong (Move t m)) is h)))
-  moves m h (Is_moved k n is below of inside before stands) =
-      let same : n ≡ m = move_same t n m (only (Move t m) (Move t n) (subst (IsAmong (Move t m)) is h)) in
-      subst (IsMoved s s' t) same ((k, below, of, before), stands_then (Mutex n) stands)
-  moves m h (Dies is kill out) = absurd (cc (only (Move t m) (Kill t) (subst (IsAmong (Move t m)) is h)))
 
   was_moved : (m : ℕ) → IsMoved s s' t m → Turn s s'.queues t e (turns t facts) → IsAmong (Move t m) facts
   was_moved m ((k, below, of, before), now) (Stays none same) =
@@ -317,13 +310,6 @@ module _ (s : State) (e : Event) (inv : Kept s) (queued : Queued s) (t : ℕ) wh
       turns-among t (Move t m) facts (subst (IsAmong (Move t m)) (sym is) (inl (ap (Move t) same)))
   was_moved m ((k, below, of, before), now) (Dies is kill out) = absurd (cc (now, out (queue_place s'.layout (Mutex m))))
 
-  wakes : IsAmong (Wake t) (turns t facts) → Turn s s'.queues t e (turns t facts) → LeavesQueue s s' t × (e ≢ Event.Kill t)
-  wakes h (Stays none same) = absurd (subst (IsAmong (Wake t)) none h)
-  wakes h (Falls_asleep q is inside out stands) = absurd (cc (only (Wake t) (Sleep t q) (subst (IsAmong (Wake t)) is h)))
-  wakes h (Is_woken key is stands out kills) = (((key, stands), out), kills)
-  wakes h (Is_moved k m is below of inside before stands) = absurd (cc (only (Wake t) (Move t m) (subst (IsAmong (Wake t)) is h)))
-  wakes h (Dies is kill out) = absurd (cc (only (Wake t) (Kill t) (subst (IsAmong (Wake t)) is h)))
-
   woke : LeavesQueue s s' t → e ≢ Event.Kill t → Turn s s'.queues t e (turns t facts) → IsAmong (Wake t) facts
   woke (stood, gone) lives (Stays none same) = absurd (cc (sym (gone stood.0) ∙ (same stood.0 ∙ stood.1)))
   woke (stood, gone) lives (Falls_asleep q is inside out stands) = absurd (cc (stood.1, out stood.0))
@@ -333,9 +319,9 @@ module _ (s : State) (e : Event) (inv : Kept s) (queued : Queued s) (t : ℕ) wh
 
   tells_turns : TellsTurns s e t
   tells_turns = record {
-    sleep = λ q. ((λ among. falls q (among-turns t (Sleep t q) facts (this t) among) (turn s e inv queued t)), (λ fallen. fell q fallen (turn s e inv queued t)));
-    wake = ((λ among. wakes (among-turns t (Wake t) facts (this t) among) (turn s e inv queued t)), (λ left. woke left.0 left.1 (turn s e inv queued t)));
-    move = λ m. ((λ among. moves m (among-turns t (Move t m) facts (this t) among) (turn s e inv queued t)), (λ is. was_moved m is (turn s e inv queued t)));
+    sleep = λ q. ((λ among. says (Sleep t q) (among-turns t (Sleep t q) facts (this t) among) (turn s e inv queued t)), (λ fallen. fell q fallen (turn s e inv queued t)));
+    wake = ((λ among. says (Wake t) (among-turns t (Wake t) facts (this t) among) (turn s e inv queued t)), (λ left. woke left.0 left.1 (turn s e inv queued t)));
+    move = λ m. ((λ among. says (Move t m) (among-turns t (Move t m) facts (this t) among) (turn s e inv queued t)), (λ is. was_moved m is (turn s e inv queued t)));
   }
 
   stood_on : (w : Option Queue) → Stood s.layout s.queues t w → Stood s'.layout s'.queues t (asleep_after t w facts)

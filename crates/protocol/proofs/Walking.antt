@@ -1,13 +1,15 @@
 -- Where each access of a walk leads, and what is left to walk then.
 use Rattle.std.proofs.Common.{◌≡◌, ◌≢◌, ◌⊎◌, inl, inr, ⊎_elim, ℕ, suc, ◌+◌, ◌<◌, ◌≤◌, ◌==◌, Bool, true, false, ◌&&◌, Option, Some, None, List, [], ◌∷◌, length, refl, sym, ap, ◌∙◌, subst, arith, eqb-true}
-use Rattle.protocol.proofs.Vocabulary.{Rest, Part, LoadFirst, LoadOffset, LoadPending, LoadNext, LoadWord, Mark, WakeOne, sum_of, Object, AreDifferent, Leads, Layout', IsLayout}
-use Rattle.protocol.proofs.Vocabulary.{head_place, entry_place, cell_place, owner_of, fields_of, State, seen, if◌then◌else◌, eqb-false, ◌||◌, apart-among}
+use Rattle.protocol.proofs.Vocabulary.{Rest, Part, LoadFirst, LoadOffset, LoadPending, LoadNext, LoadWord, Mark, WakeOne, sum_of, Object, AreDifferent, Leads, IsLayout}
+use Rattle.protocol.proofs.Vocabulary.{entry_place, address_sum, owner_of, fields_of, State, seen, if◌then◌else◌, eqb-false, ◌||◌, apart-among}
 use Rattle.keys.specs.Chains.{IsAmong}
 use Rattle.exitwalk.specs.declared.row.Row.{Row}
 use Rattle.exitwalk.specs.declared.row.Row.TheVariants.{Ended}
 use Rattle.exitwalk.specs.Words.{has_waiters}
 use Rattle.exitwalk.specs.Walks.{Knows, is_pending, to_pending, forward, goes_on, further, after_next, looks}
-use Rattle.protocol.proofs.Kept.{LeftOf, LeftIn, Treats, Mourns}
+use Rattle.protocol.proofs.Seeing.{head_in, entry_in, not_null, same_entry, cell_before}
+use Rattle.protocol.proofs.Kept.{LeftOf, LeftIn, Treats, Mourns, view_of}
+use Rattle.protocol.proofs.Places.{treated_at}
 use Rattle.protocol.proofs.Steps.{seen-inside}
 
 -- it owns nothing
@@ -28,24 +30,28 @@ Arrived s t (WakeOne at rest) = Mourns s t (WakeOne at rest)
 some_same : (i j : ℕ) → Some i ≡ Some j → j ≡ i
 some_same i j e = cc
 
--- an entry's cell
-pub cell_of : (l : Layout') (k : ℕ) → IsLayout l → k < l.mutexes → sum_of (entry_place l k) 18446744073709551615 ≡ cell_place l k
-cell_of l k is inside = let threads = is.threads.1 in let mutexes = is.mutexes.1 in omega arith
-
-module _ (s : State) (t : ℕ) (layout : IsLayout s.layout) (pos : 1 ≤ t) where
+module _ (s : State) (t : ℕ) (layout : IsLayout s.layout) (pos : 1 ≤ t) (known : t ≤ s.layout.threads) where
   abbrev h : ℕ
-  h = head_place t
+  h = head_in s.layout t
 
   -- behind the list
-  to_pending_arrives : (p : ℕ) → ((p ≡ 0) ⊎ (k : ℕ) × (k < s.layout.mutexes) × (p ≡ entry_place s.layout k)) → ((k : ℕ) → k < s.layout.mutexes → (seen s k).owner ≡ Some t → p ≡ entry_place s.layout k) → Arrived s t (to_pending 18446744073709551615 p)
-  to_pending_arrives p pending owned = grind (arith)
+  to_pending_arrives : (p : ℕ) → ((p ≡ 0) ⊎ (k : ℕ) × (k < s.layout.mutexes) × (p ≡ entry_in s.layout t k)) → ((k : ℕ) → k < s.layout.mutexes → (seen s k).owner ≡ Some t → p ≡ entry_in s.layout t k) → Arrived s t (to_pending 18446744073709551615 p)
+  to_pending_arrives p (inl none) owned = subst (Arrived s t) (sym (ap (to_pending 18446744073709551615) none)) (λ k below own. not_null s.layout t layout pos known (entry_place s.layout k) (omega arith) (omega arith) (sym (owned k below own) ∙ none))
+  to_pending_arrives p (inr (k, below, is)) owned = go (p == 0) refl
+    where
+      treats : Treats s t (address_sum p 18446744073709551615) k
+      treats = (below, ap (λ (e : ℕ). address_sum e 18446744073709551615) is ∙ cell_before s.layout t layout pos known k below)
+
+      go : (b : Bool) → (p == 0) ≡ b → Arrived s t (if b then Ended else LoadWord (address_sum p 18446744073709551615) Part.Pending)
+      go true e = absurd (not_null s.layout t layout pos known (entry_place s.layout k) (omega arith) (omega arith) (sym is ∙ eqb-true p 0 e))
+      go false e = (k, treats, λ j inside own. ap Some (same_entry s.layout t layout pos known k j below inside (sym is ∙ owned j inside own)))
 
   -- the next entry, or behind the list
   pub forward_arrives : (r : Rest) → LeftOf s t r None → Arrived s t (forward h r)
   forward_arrives r (es, l, offset, few) = go (r.entry == h) refl (r.loaded == 2048) refl
     where
-      owned_then : es ≡ [] → (k : ℕ) → k < s.layout.mutexes → (seen s k).owner ≡ Some t → r.pending ≡ entry_place s.layout k
-      owned_then none k below own = ⊎_elim (λ among. absurd (subst (IsAmong (entry_place s.layout k)) none among)) (λ rest. ⊎_elim (λ is. is) (λ no_one. absurd (cc no_one)) rest) (l.all k below own)
+      owned_then : es ≡ [] → (k : ℕ) → k < s.layout.mutexes → (seen s k).owner ≡ Some t → r.pending ≡ entry_in s.layout t k
+      owned_then none k below own = ⊎_elim (λ among. absurd (subst (IsAmong (entry_in s.layout t k)) none among)) (λ rest. ⊎_elim (λ is. is) (λ no_one. absurd (cc no_one)) rest) (l.all k below own)
 
       behind : es ≡ [] → Arrived s t (to_pending r.offset r.pending)
       behind none = subst (λ (o : ℕ). Arrived s t (to_pending o r.pending)) (sym offset) (to_pending_arrives r.pending l.pending (owned_then none))
@@ -53,7 +59,7 @@ module _ (s : State) (t : ℕ) (layout : IsLayout s.layout) (pos : 1 ≤ t) wher
       at_head : r.entry ≡ h → (ds : List ℕ) → es ≡ ds → es ≡ []
       at_head is [] same = same
       at_head is (x ∷ xs) same =
-          let leads : Leads s.words h r.entry (x ∷ xs) = subst (Leads s.words h r.entry) same l.leads in
+          let leads : Leads (view_of s t) h r.entry (x ∷ xs) = subst (Leads (view_of s t) h r.entry) same l.leads in
           let different : AreDifferent (h ∷ (x ∷ xs)) = subst (λ (ds : List ℕ). AreDifferent (h ∷ ds)) same l.different in
           absurd (different.0.0 (sym is ∙ leads.0))
 
@@ -67,15 +73,15 @@ module _ (s : State) (t : ℕ) (layout : IsLayout s.layout) (pos : 1 ≤ t) wher
       go false e false x = (es, l, offset, few)
 
   -- from an entry: it is skipped where it is pending, and else its cell comes next
-  pub next_arrives : (r : Rest) → Knows t h (LoadNext r) → LeftOf s t r None → Arrived s t (after_next h r (s.words r.entry))
+  pub next_arrives : (r : Rest) → Knows t h (LoadNext r) → LeftOf s t r None → Arrived s t (after_next h r (view_of s t r.entry))
   next_arrives r knows (es, l, offset, few) = at es refl
     where
-      at : (ds : List ℕ) → es ≡ ds → Arrived s t (after_next h r (s.words r.entry))
-      at [] same = absurd (eqb-false r.entry h knows.0 (subst (Leads s.words h r.entry) same l.leads))
+      at : (ds : List ℕ) → es ≡ ds → Arrived s t (after_next h r (view_of s t r.entry))
+      at [] same = absurd (eqb-false r.entry h knows.0 (subst (Leads (view_of s t) h r.entry) same l.leads))
       at (x ∷ xs) same = go (r.entry == r.pending) refl
         where
-          leads : Leads s.words h r.entry (x ∷ xs)
-          leads = subst (Leads s.words h r.entry) same l.leads
+          leads : Leads (view_of s t) h r.entry (x ∷ xs)
+          leads = subst (Leads (view_of s t) h r.entry) same l.leads
 
           different : AreDifferent (h ∷ (x ∷ xs))
           different = subst (λ (ds : List ℕ). AreDifferent (h ∷ ds)) same l.different
@@ -83,17 +89,17 @@ module _ (s : State) (t : ℕ) (layout : IsLayout s.layout) (pos : 1 ≤ t) wher
           size : length xs + (r.loaded + 1) ≤ 2048
           size = let long : length es ≡ suc (length xs) = ap length same in omega arith
 
-          first : (k : ℕ) × (k < s.layout.mutexes) × (x ≡ entry_place s.layout k) × ((seen s k).owner ≡ Some t) × (None ≢ Some k)
+          first : (k : ℕ) × (k < s.layout.mutexes) × (x ≡ entry_in s.layout t k) × ((seen s k).owner ≡ Some t) × (None ≢ Some k)
           first = l.entries x (subst (IsAmong x) (sym same) (inl refl))
 
-          later : (y : ℕ) → IsAmong y xs → (k : ℕ) × (k < s.layout.mutexes) × (y ≡ entry_place s.layout k) × ((seen s k).owner ≡ Some t) × (None ≢ Some k)
+          later : (y : ℕ) → IsAmong y xs → (k : ℕ) × (k < s.layout.mutexes) × (y ≡ entry_in s.layout t k) × ((seen s k).owner ≡ Some t) × (None ≢ Some k)
           later y among = l.entries y (subst (IsAmong y) (sym same) (inr among))
 
-          next_leads : Leads s.words h (s.words r.entry) xs
-          next_leads = subst (λ (e : ℕ). Leads s.words h (s.words e) xs) (sym leads.0) leads.1
+          next_leads : Leads (view_of s t) h (view_of s t r.entry) xs
+          next_leads = subst (λ (e : ℕ). Leads (view_of s t) h (view_of s t e) xs) (sym leads.0) leads.1
 
           -- behind that entry, which is pending, or is treated now
-          rest_left : (out : Option ℕ) → ((k : ℕ) → entry_place s.layout k ≡ x → (r.pending ≡ entry_place s.layout k) ⊎ (out ≡ Some k)) → ((y : ℕ) → IsAmong y xs → (k : ℕ) → y ≡ entry_place s.layout k → out ≢ Some k) → LeftOf s t (further r (s.words r.entry)) out
+          rest_left : (out : Option ℕ) → ((k : ℕ) → k < s.layout.mutexes → entry_in s.layout t k ≡ x → (r.pending ≡ entry_in s.layout t k) ⊎ (out ≡ Some k)) → ((y : ℕ) → IsAmong y xs → (k : ℕ) → y ≡ entry_in s.layout t k → out ≢ Some k) → LeftOf s t (further r (view_of s t r.entry)) out
           rest_left out of_first apart = (
             xs,
             record {
@@ -101,7 +107,7 @@ module _ (s : State) (t : ℕ) (layout : IsLayout s.layout) (pos : 1 ≤ t) wher
               different = (different.0.1, different.1.1);
               entries = λ y among. let k = later y among in (k.0, k.1, k.2, k.3, apart y among k.0 k.2);
               all = λ k below own. ⊎_elim
-                  (λ among. listed k (subst (IsAmong (entry_place s.layout k)) same among))
+                  (λ among. listed k below (subst (IsAmong (entry_in s.layout t k)) same among))
                   (λ rest. inr (⊎_elim inl (λ no_one. absurd (cc no_one)) rest))
                   (l.all k below own);
               pending = l.pending;
@@ -110,18 +116,18 @@ module _ (s : State) (t : ℕ) (layout : IsLayout s.layout) (pos : 1 ≤ t) wher
             size,
           )
             where
-              listed : (k : ℕ) → (entry_place s.layout k ≡ x) ⊎ IsAmong (entry_place s.layout k) xs → IsAmong (entry_place s.layout k) xs ⊎ ((r.pending ≡ entry_place s.layout k) ⊎ (out ≡ Some k))
-              listed k (inl here) = inr (of_first k here)
-              listed k (inr among) = inl among
+              listed : (k : ℕ) → k < s.layout.mutexes → (entry_in s.layout t k ≡ x) ⊎ IsAmong (entry_in s.layout t k) xs → IsAmong (entry_in s.layout t k) xs ⊎ ((r.pending ≡ entry_in s.layout t k) ⊎ (out ≡ Some k))
+              listed k below (inl here) = inr (of_first k below here)
+              listed k below (inr among) = inl among
 
-          go : (b : Bool) → (r.entry == r.pending) ≡ b → Arrived s t (if b then forward h (further r (s.words r.entry)) else LoadWord (sum_of r.entry r.offset) (Part.List (further r (s.words r.entry))))
-          go true e = forward_arrives (further r (s.words r.entry)) (rest_left None (λ k here. inl (sym (eqb-true r.entry r.pending e) ∙ leads.0 ∙ sym here)) (λ y among k place none. cc none))
+          go : (b : Bool) → (r.entry == r.pending) ≡ b → Arrived s t (if b then forward h (further r (view_of s t r.entry)) else LoadWord (sum_of r.entry r.offset) (Part.List (further r (view_of s t r.entry))))
+          go true e = forward_arrives (further r (view_of s t r.entry)) (rest_left None (λ k below here. inl (sym (eqb-true r.entry r.pending e) ∙ leads.0 ∙ sym here)) (λ y among k place none. cc none))
           go false e = (
             first.0,
-            (first.1, ap (λ (o : ℕ). sum_of r.entry o) offset ∙ ap (λ (x : ℕ). sum_of x 18446744073709551615) (leads.0 ∙ first.2) ∙ cell_of s.layout first.0 layout first.1),
+            (first.1, ap (λ (o : ℕ). sum_of r.entry o) offset ∙ ap (λ (x : ℕ). sum_of x 18446744073709551615) (leads.0 ∙ first.2) ∙ cell_before s.layout t layout pos known first.0 first.1),
             rest_left (Some first.0)
-                (λ k here. inr (ap Some (let a = here in let b = first.2 in omega (arith, a, b))))
-                (λ y among k place is. apart-among x y xs different.1.0 among (first.2 ∙ ap (entry_place s.layout) (sym (some_same first.0 k is)) ∙ sym place)),
+                (λ k below here. inr (ap Some (same_entry s.layout t layout pos known first.0 k first.1 below (sym first.2 ∙ sym here))))
+                (λ y among k place is. apart-among x y xs different.1.0 among (first.2 ∙ ap (entry_in s.layout t) (sym (some_same first.0 k is)) ∙ sym place)),
           )
 
   -- a mutex that isn't t's (any more) needs no treatment
@@ -149,24 +155,24 @@ module _ (s : State) (t : ℕ) (layout : IsLayout s.layout) (pos : 1 ≤ t) wher
   passes Part.Pending k not_own l = λ j below own. absurd (not_own (ap (λ (i : ℕ). (seen s i).owner) (sym (some_same k j (l j below own))) ∙ own))
 
   -- a word is looked at
-  pub looks_arrives : (at k : ℕ) (again : Bool) (rest : Part) → Treats s at k → LeftIn s t rest (Some k) → (again ≡ true → has_waiters (s.words at) ≡ true) → Arrived s t (looks t h at (s.words at) again rest)
-  looks_arrives at k again rest treats l waits = go (is_pending rest && ((fields_of (s.words at)).owner == 0)) refl ((fields_of (s.words at)).owner == t) refl
+  pub looks_arrives : (at k : ℕ) (again : Bool) (rest : Part) → Treats s t at k → LeftIn s t rest (Some k) → (again ≡ true → has_waiters (view_of s t at) ≡ true) → Arrived s t (looks t h at (view_of s t at) again rest)
+  looks_arrives at k again rest treats l waits = go (is_pending rest && ((fields_of (view_of s t at)).owner == 0)) refl ((fields_of (view_of s t at)).owner == t) refl
     where
-      owner_is : (seen s k).owner ≡ owner_of (fields_of (s.words at)).owner
-      owner_is = ap (λ (o : Object). o.owner) (seen-inside s k treats.0) ∙ ap (λ (x : ℕ). owner_of (fields_of (s.words x)).owner) (sym treats.1)
+      owner_is : (seen s k).owner ≡ owner_of (fields_of (view_of s t at)).owner
+      owner_is = ap (λ (o : Object). o.owner) (seen-inside s k treats.0) ∙ ap (λ (x : ℕ). owner_of (fields_of (s.words x)).owner) (sym (treated_at s t layout pos known at k treats))
 
-      not_owned : (fields_of (s.words at)).owner ≢ t → (seen s k).owner ≢ Some t
+      not_owned : (fields_of (view_of s t at)).owner ≢ t → (seen s k).owner ≢ Some t
       not_owned apart own = grind (arith)
 
-      free_then : (a : Bool) → (is_pending rest && ((fields_of (s.words at)).owner == 0)) ≡ true → (fields_of (s.words at)).owner ≡ 0
-      free_then a e = both (is_pending rest) ((fields_of (s.words at)).owner == 0) refl e
+      free_then : (a : Bool) → (is_pending rest && ((fields_of (view_of s t at)).owner == 0)) ≡ true → (fields_of (view_of s t at)).owner ≡ 0
+      free_then a e = both (is_pending rest) ((fields_of (view_of s t at)).owner == 0) refl e
         where
-          both : (x y : Bool) → ((fields_of (s.words at)).owner == 0) ≡ y → (x && y) ≡ true → (fields_of (s.words at)).owner ≡ 0
-          both true true z e = eqb-true (fields_of (s.words at)).owner 0 z
+          both : (x y : Bool) → ((fields_of (view_of s t at)).owner == 0) ≡ y → (x && y) ≡ true → (fields_of (view_of s t at)).owner ≡ 0
+          both true true z e = eqb-true (fields_of (view_of s t at)).owner 0 z
           both true false z e = absurd cc
           both false y z e = absurd cc
 
-      go : (a : Bool) → (is_pending rest && ((fields_of (s.words at)).owner == 0)) ≡ a → (b : Bool) → ((fields_of (s.words at)).owner == t) ≡ b → Arrived s t (if a then WakeOne at rest else if b then Mark at (s.words at) again rest else goes_on h rest)
+      go : (a : Bool) → (is_pending rest && ((fields_of (view_of s t at)).owner == 0)) ≡ a → (b : Bool) → ((fields_of (view_of s t at)).owner == t) ≡ b → Arrived s t (if a then WakeOne at rest else if b then Mark at (view_of s t at) again rest else goes_on h rest)
       go true e b x = (k, treats, passes rest k (not_owned (λ is. let free = free_then true e in omega (arith, is, free))) l)
       go false e true x = (k, treats, l, record { stays = inl refl; set = waits })
-      go false e false x = goes_on_arrives rest (passes rest k (not_owned (eqb-false (fields_of (s.words at)).owner t x)) l)
+      go false e false x = goes_on_arrives rest (passes rest k (not_owned (eqb-false (fields_of (view_of s t at)).owner t x)) l)

@@ -61,9 +61,9 @@ noted_points s t v n (Of_walk d y is m op point quiet stays) = ap (λ (z : Note)
 -- ---- a step
 
 -- a thread's walk is at a row
-pub walk_is : (s : State) (t : ℕ) (w : walks.Standing) → Kept s → 1 ≤ t → t ≤ s.layout.threads → (s.threads t).stage ≡ Dying w → Walks t w × (walk_of t w.row ≡ w) × Mourns s t w.row
+pub walk_is : (s : State) (t : ℕ) (w : walks.Standing) → Kept s → 1 ≤ t → t ≤ s.layout.threads → (s.threads t).stage ≡ Dying w → Walks s.layout t w × (walk_of s.layout t w.row ≡ w) × Mourns s t w.row
 walk_is s t w inv pos known is =
-    let f : Walks t w = subst (λ (g : Stage). Sits s t (s.threads t).held g) is (inv.sits t pos known) in
+    let f : Walks s.layout t w = subst (λ (g : Stage). Sits s t (s.threads t).held g) is (inv.sits t pos known) in
     (f, (λ i. record { thread = sym f.mine i; head = sym f.head i; row = w.row }), subst (Listed s t) is (inv.listed t pos known))
 
 -- what holds of a thread that rests or sleeps, where nothing happens, and of each access of one that is awake, holds of its step
@@ -91,7 +91,7 @@ by_step s t inv pos known P none accesses = by_stage s t P none called at_condit
     on_a_walk : (w : walks.Standing) → (s.threads t).stage ≡ Dying w → is_asleep s t ≡ false → P (walked s t (s.threads t).held w)
     on_a_walk w is awake =
         let there = walk_is s t w inv pos known is in
-        let g : Stepping s t (walk_transition s t w.row) = walk_stepping s t w.row inv pos known there.0.going (knows_at t w there.0) there.2 in
+        let g : Stepping s t (walk_transition s t w.row) = walk_stepping s t w.row inv pos known there.0.going (knows_at s.layout t w there.0) there.2 in
         subst (λ (z : walks.Standing). P (walked s t (s.threads t).held z)) there.1
         (subst P (sym (walked-is s t w.row g.valid))
         (accesses (walk_transition s t w.row) (walk_note s t w.row) (is ∙ ap Dying (sym there.1)) awake g (Of_walk (death_then s t w.row) _ refl refl refl refl (walks_awake _ w.row _) (walk_no_move _ w.row))))

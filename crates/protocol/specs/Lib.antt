@@ -10,3 +10,4 @@ pub mod Applies
 pub mod Wakings
 pub mod PassedBy
 pub mod Signals
+pub mod WaitersBit

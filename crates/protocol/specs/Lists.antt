@@ -2,19 +2,20 @@
 use Rattle.std.specs.Prelude.{ℕ, ◌≡◌, ◌+◌, ◌<◌, ◌≤◌, ◌⊎◌, true, Some, List, length}
 use Rattle.keys.specs.Chains.{IsAmong, IsChain}
 use Rattle.keys.specs.Objects.{held_limit}
-use Rattle.keys.specs.Layouts.{Layout', IsLayout, head_place, entry_place, cell_offset}
+use Rattle.keys.specs.Addresses.{words_from}
+use Rattle.keys.specs.Layouts.{Layout', IsLayout, head_place, entry_place, base_of, address_in, cell_offset}
 use Rattle.protocol.specs.declared.event.Event.{Event}
 use Rattle.protocol.specs.Machine.{State, start, run, is_alive}
 use Rattle.protocol.specs.Headline.{seen}
 
 -- from thread t's head next words lead over some entries, all different, and back: each is that of a mutex that t owns; and each mutex that t owns is one of them, or the pending one. They are 2,048
--- at most, and cells are where the offset says
+-- at most, and cells are where the offset says. All this is by addresses of t's process
 pub record HasList (s : State) (t : ℕ) : Type 0 where
   pub entries : List ℕ
-  pub chain : IsChain s.words (head_place t) entries
+  pub chain : IsChain (words_from (base_of s.layout t) s.words) (address_in s.layout t (head_place t)) entries
   pub few : length entries ≤ held_limit
-  pub owned : (e : ℕ) → IsAmong e entries → (m : ℕ) × (m < s.layout.mutexes) × (e ≡ entry_place s.layout m) × ((seen s m).owner ≡ Some t)
-  pub all : (m : ℕ) → m < s.layout.mutexes → (seen s m).owner ≡ Some t → IsAmong (entry_place s.layout m) entries ⊎ (s.words (head_place t + 2) ≡ entry_place s.layout m)
+  pub owned : (e : ℕ) → IsAmong e entries → (m : ℕ) × (m < s.layout.mutexes) × (e ≡ address_in s.layout t (entry_place s.layout m)) × ((seen s m).owner ≡ Some t)
+  pub all : (m : ℕ) → m < s.layout.mutexes → (seen s m).owner ≡ Some t → IsAmong (address_in s.layout t (entry_place s.layout m)) entries ⊎ (s.words (head_place t + 2) ≡ address_in s.layout t (entry_place s.layout m))
   pub offset : s.words (head_place t + 1) ≡ cell_offset
 
 -- whatever happens, with any values of the counters at the beginning, of each thread that lives

@@ -9,7 +9,7 @@ use Rattle.keys.specs.declared.access.Answer.TheVariants.{Fault}
 use Rattle.keys.specs.declared.point.Operation.{Operation}
 use Rattle.keys.specs.declared.point.Operation.TheVariants as operation
 use Rattle.keys.specs.declared.point.Decision.{Decision}
-use Rattle.keys.specs.Layouts.{Layout', head_place, cell_place, counter_place, words_of, first_word}
+use Rattle.keys.specs.Layouts.{Layout', head_place, cell_place, counter_place, words_of, address_in, place_in, first_word}
 use Rattle.buckets.specs.Queues.{without}
 use Rattle.keys.specs.Accesses.{address_of, word_among, answer_among, sleeps_at}
 use Rattle.mutex.specs.declared.call.Call.{Call}
@@ -43,7 +43,7 @@ use Rattle.protocol.specs.declared.thread.Stage.TheVariants.{Idle, Calling, AtCo
 use Rattle.protocol.specs.declared.note.Note.{Note}
 use Rattle.protocol.specs.declared.note.Note.TheVariants.{Nothing, Began, Stepped, Killed, Walked}
 
--- the words by place, who sleeps on each, in the order in which they are to be woken, and the threads by id
+-- the words by place, who sleeps on each, also by place, in the order in which they are to be woken, and the threads by id
 pub record State : Type 0 where
   pub layout : Layout'
   pub words : ℕ → ℕ
@@ -90,28 +90,24 @@ moved_by a w q = []
 
 -- ---- where it meets its word
 
--- the place of the word that thread t has at an address: every thread has each word at its place
-abbrev pub place_at : Layout' → ℕ → ℕ → ℕ
-place_at l t at = at
-
--- the place of the word that an access of thread t meets
+-- the place of the word that an access of thread t meets, whose address is one of its process
 abbrev pub place_met : Layout' → ℕ → Access → ℕ
-place_met l t a = place_at l t (address_of a)
+place_met l t a = place_in l t (address_of a)
 
 -- a requeue moves to the queue of another word of the layout
 abbrev pub is_target : Layout' → ℕ → ℕ → ℕ → Bool
-is_target l t from to = is_valid l (place_at l t to) && not (from == to)
+is_target l t from to = is_valid l (place_in l t to) && not (place_in l t from == place_in l t to)
 
 -- an access is refused where an address isn't valid, and a requeue also from a word to itself
 abbrev pub is_met : Layout' → ℕ → Access → Bool
-is_met l t (access.Requeue from n to k) = is_valid l (place_at l t from) && is_target l t from to
-is_met l t (access.CmpRequeue from e n to k) = is_valid l (place_at l t from) && is_target l t from to
+is_met l t (access.Requeue from n to k) = is_valid l (place_in l t from) && is_target l t from to
+is_met l t (access.CmpRequeue from e n to k) = is_valid l (place_in l t from) && is_target l t from to
 is_met l t a = is_valid l (place_met l t a)
 
 -- the queues, where these threads come to the end of the one that access a of thread t moves to
 abbrev pub joined : Layout' → ℕ → Access → List ℕ → (ℕ → List ℕ) → ℕ → List ℕ
-joined l t (access.Requeue from n to k) us queues = put queues (place_at l t to) (queues (place_at l t to) ++ us)
-joined l t (access.CmpRequeue from e n to k) us queues = put queues (place_at l t to) (queues (place_at l t to) ++ us)
+joined l t (access.Requeue from n to k) us queues = put queues (place_in l t to) (queues (place_in l t to) ++ us)
+joined l t (access.CmpRequeue from e n to k) us queues = put queues (place_in l t to) (queues (place_in l t to) ++ us)
 joined l t a us queues = queues
 
 abbrev pub answer_of : State → ℕ → Access → Answer
@@ -297,7 +293,7 @@ went s t held m q a g =
 abbrev pub killed : State → ℕ → After
 killed s t =
     record {
-      state = record s { queues = λ key. without t (s.queues key); threads = put s.threads t (record (s.threads t) { stage = Dying (exit.begun t (head_place t)) }) };
+      state = record s { queues = λ key. without t (s.queues key); threads = put s.threads t (record (s.threads t) { stage = Dying (exit.begun t (address_in s.layout t (head_place t))) }) };
       note = Killed t;
     }
 
@@ -306,10 +302,10 @@ abbrev pub mutex_at : Layout' → ℕ → Option ℕ
 mutex_at l p =
     if nat_le (cell_place l 0) p && ((p - cell_place l 0) % 3 == 0) && nat_lt ((p - cell_place l 0) / 3) l.mutexes then Some ((p - cell_place l 0) / 3) else None
 
--- the mutex of which a walk told the owner's death
-abbrev pub death_at : Layout' → Option Point → Option ℕ
-death_at l None = None
-death_at l (Some p) = mutex_at l p.at
+-- the mutex of which thread t's walk told the owner's death, by its cell's address in t's process
+abbrev pub death_at : Layout' → ℕ → Option Point → Option ℕ
+death_at l t None = None
+death_at l t (Some p) = mutex_at l (place_in l t p.at)
 
 -- an owner's death is told with OK
 abbrev pub told_of : Option ℕ → Option Reply
@@ -329,7 +325,7 @@ abbrev pub walked : State → ℕ → ℕ → walks.Standing → After
 walked s t held w =
     let a = exit.access_of w in
     let answer = answer_of s t a in
-    let death = death_at s.layout (exit.point_of w.thread w.row answer) in
+    let death = death_at s.layout t (exit.point_of w.thread w.row answer) in
     let row = exit.row_after w.thread w.head w.row answer in
     record {
       state = record s {

@@ -8,6 +8,7 @@ ghost use Rattle.protocol.specs.Applies.{EventsApply};
 ghost use Rattle.protocol.specs.Wakings.{SleepsAreTold};
 ghost use Rattle.protocol.specs.PassedBy.{NobodyIsPassedBy};
 ghost use Rattle.protocol.specs.Signals.{SignalsAreRight};
+ghost use Rattle.protocol.specs.WaitersBit.{WaitersAreKept};
 
 /// Whatever happens, the points are one legal history of POSIX robust mutexes, which says at each moment what every cell says.
 pub fn history_is_legal()
@@ -68,4 +69,9 @@ pub fn nobody_is_passed_by()
 /// nothing then. Else it counts; a signal takes the front of the condition variable's queue, and a broadcast moves the whole queue, in its order, to the end of the mutex's, whose cell has WAITERS then.
 pub fn signals_are_right()
     ensures { SignalsAreRight }
+{}
+
+/// Whatever happens: where a thread sleeps on a mutex, the mutex's word has WAITERS; and no event takes WAITERS from a word but one that nobody owned and on which nobody sleeps.
+pub fn waiters_are_kept()
+    ensures { WaitersAreKept }
 {}
