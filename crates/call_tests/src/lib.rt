@@ -13,6 +13,8 @@ mod condition_words;
 #[cfg(test)]
 mod machine_deaths;
 #[cfg(test)]
+mod machine_processes;
+#[cfg(test)]
 mod machine_rows;
 #[cfg(test)]
 mod machine_runs;

@@ -88,7 +88,7 @@ fn event_of(thread: Tid, does: Does) -> Event {
     }
 }
 
-fn id_of(does: Does) -> u8 {
+pub(crate) fn id_of(does: Does) -> u8 {
     match does {
         Does::Begins(id, _) | Does::Steps(id) | Does::Dies(id) | Does::Calls(id, _, _) => id,
     }
@@ -172,7 +172,7 @@ pub(crate) fn standing_of(machine: &Machine, thread: Tid) -> Standing {
 }
 
 /// Makes the event, or the events.
-fn happens(machine: &mut Machine, thread: Tid, does: Does) -> Note {
+pub(crate) fn happens(machine: &mut Machine, thread: Tid, does: Does) -> Note {
     if let Does::Calls(_, call, accesses) = does {
         play(machine, thread, call, accesses.saturating_sub(1));
     }

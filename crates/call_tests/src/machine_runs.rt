@@ -1,15 +1,15 @@
 //! Small machines, with their words and notes worked out by hand.
 
-use crate::machine_rows::Does::{Begins, Steps};
+use crate::machine_rows::Does::{Begins, Calls, Dies, Steps};
 use crate::machine_rows::Noted::{Any, Began, Decides, Ends, Goes, Nothing, Returns};
 use crate::machine_rows::Standing::{Awake, Resting};
 use crate::machine_rows::{
-    Noted, Row, TRY_LOCK, UNLOCK, first_owner, goes_through, gone_through, has_words, is_noted,
-    machine, play, standing_of, thread,
+    Does, LOCK, Noted, Row, TRY_LOCK, UNLOCK, first_owner, goes_through, gone_through, happens,
+    has_words, id_of, is_noted, machine, play, standing_of, thread,
 };
 use interleave::{Machine, Trace};
 use keys::Operation::{TryLock, Unlock};
-use lockword::Reply::{EBUSY, EPERM, OK};
+use lockword::Reply::{EBUSY, EPERM, OK, XRACED};
 use lockword::Tid;
 use mutex::Call;
 use protocol::{Event, Op};
@@ -234,5 +234,40 @@ fn a_thread_is_busy_in_its_call(rt: HostRuntime) -> Result<(), Fail> {
     let unknown = thread(64)?;
     let machine = gone_through(rt.alloc(), 2, &BUSY)?;
     assert!(rt; standing_of(&machine, unknown) == Resting);
+    Ok(())
+}
+
+/// Makes these events, and tells whether the cell of mutex 0 among four threads, which is at 13, has this word then.
+fn cell_becomes(machine: &mut Machine, events: &[Does], word: u64) -> Result<bool, Fail> {
+    for &does in events {
+        let _ = happens(machine, thread(id_of(does))?, does);
+    }
+    Ok(machine.word(13) == Some(word))
+}
+
+/// Thread 1 has loaded the free cell. Before each of its exchanges another one is woken, dies, recovers the mutex, or dies with it.
+#[test]
+fn each_exchange_of_an_overtaken_trylock_finds_another_word(rt: HostRuntime) -> Result<(), Fail> {
+    let mut machine = machine(rt.alloc(), 4, 1, &[])?;
+    let exchange = Steps(1);
+    let begins = [
+        Calls(1, TRY_LOCK, 2),
+        Calls(2, LOCK, 8),
+        Calls(3, LOCK, 4),
+        Calls(2, UNLOCK, 8),
+    ];
+    assert!(rt; cell_becomes(&mut machine, &begins, 0x8000_0000)?);
+    assert!(rt; cell_becomes(&mut machine, &[exchange], 0x8000_0000)?);
+    assert!(rt; cell_becomes(&mut machine, &[Steps(3); 7], 0x8000_0003)?);
+    assert!(rt; cell_becomes(&mut machine, &[Dies(3)], 0x8000_0003)?);
+    assert!(rt; cell_becomes(&mut machine, &[Steps(3); 7], 0xc000_0000)?);
+    assert!(rt; cell_becomes(&mut machine, &[exchange], 0xc000_0000)?);
+    let recovers = [Calls(2, LOCK, 8), Calls(2, Call::Consistent(0), 2)];
+    assert!(rt; cell_becomes(&mut machine, &recovers, 0x8000_0002)?);
+    assert!(rt; cell_becomes(&mut machine, &[Calls(2, UNLOCK, 9)], 0)?);
+    assert!(rt; cell_becomes(&mut machine, &[exchange, Calls(4, LOCK, 8), Dies(4)], 4)?);
+    assert!(rt; cell_becomes(&mut machine, &[Steps(4); 6], 0x4000_0000)?);
+    let raced = machine.step(Event::Step(thread(1)?));
+    assert!(rt; is_noted(thread(1)?, Decides(TryLock, XRACED), &raced));
     Ok(())
 }

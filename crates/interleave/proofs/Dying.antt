@@ -5,7 +5,7 @@ use Rattle.std.proofs.lemmas.Bool.Decides.{nat_tests}
 use Rattle.keys.specs.declared.point.Point.{Point}
 use Rattle.keys.specs.declared.point.Progress.{Progress}
 use Rattle.keys.specs.declared.point.Operation.TheVariants.{Death}
-use Rattle.keys.specs.Layouts.{Layout', words_of, cell_place}
+use Rattle.keys.specs.Layouts.{Layout', words_of, cell_place, base_of, is_place}
 use Rattle.exitwalk.specs.declared.row.Row.{Row}
 use Rattle.exitwalk.specs.declared.row.Row.TheVariants.{LoadFirst, LoadOffset, LoadPending, LoadNext, LoadWord, Mark, WakeOne, Ended}
 use Rattle.exitwalk.specs.Standings.{Standing}
@@ -45,6 +45,32 @@ pub found_at : (l : Layout') (p : ℕ) (r : Option ℕ) → MatchOption r ((m : 
 found_at l p None h = none_at l p h
 found_at l p (Some m) h = sym (ap (mutex_at l) h.1 ∙ mutex_at-cell l m h.0)
 
+-- where a layout has no place there is no mutex
+nowhere : (l : Layout') (p : ℕ) → is_place l p ≡ false → None ≡ mutex_at l p
+nowhere l p outside = none_at l p (λ m lt is. apart m lt is)
+  where
+    apart : (m : ℕ) → m < l.mutexes → p ≡ cell_place l m → ⊥
+    apart m lt is =
+        let there : is_place l p ≡ true = grind (arith, nat_tests) in
+        let both : true ≡ false = sym there ∙ outside in
+        absurd (cc both)
+
+-- so none is found of an address that isn't valid
+pub unplaced : (l : Layout') (p : ℕ) → None ≡ (if is_place l p then Some p else None) → None ≡ mutex_at l p
+unplaced l p e = go (is_place l p) refl e
+  where
+    go : (b : Bool) → is_place l p ≡ b → None ≡ (if b then Some p else None) → None ≡ mutex_at l p
+    go true is e = absurd (cc e)
+    go false is e = nowhere l p is
+
+-- and of one that is, the mutex at its place
+pub placed : (l : Layout') (p q : ℕ) → Some q ≡ (if is_place l p then Some p else None) → q ≡ p
+placed l p q e = go (is_place l p) e
+  where
+    go : (b : Bool) → Some q ≡ (if b then Some p else None) → q ≡ p
+    go true e = cc e
+    go false e = absurd (cc e)
+
 -- where the thread stands after a step of its walk, as the definition says
 walked-is : (w : Standing) (pt : Option Point) (r : Row) → stage_walked_in (record w { row = r }) (progress_at pt r) ≡ stage_walked w r
 walked-is w pt LoadFirst = refl
@@ -80,7 +106,7 @@ point-is pt Ended = refl
 
 module _ (l : Layout') (ws ws' : List ℕ) (kernel after : Kernel') (ts : List Thread) (k t : ℕ) (w w' : Standing) (th : Thread) (done : Performed) (pr : Progress)
     (known : t ≤ l.threads) (at : k + 1 ≡ t) (len : length ts ≡ l.threads) (room : length ws ≡ words_of l)
-    (e : thread_at ts t ≡ th) (dies : th.stage ≡ Dying w) (performs : Performs ws kernel after t (access_of w) done) (wrote : ws' ≡ list_words ws kernel (access_of w))
+    (e : thread_at ts t ≡ th) (dies : th.stage ≡ Dying w) (performs : Performs ws kernel after (base_of l t) t (access_of w) done) (wrote : ws' ≡ list_words ws kernel (base_of l t) (access_of w))
     (went_on : w' ≡ moved w done.answer) (progress : pr ≡ progress_of w done.answer) where
   abbrev s : State
   s = state_at l ws kernel ts
@@ -108,19 +134,19 @@ module _ (l : Layout') (ws ws' : List ℕ) (kernel after : Kernel') (ts : List T
   stage : stage_walked_in w' pr ≡ stage_walked w to
   stage = (λ i. stage_walked_in (stands i) (goes i)) ∙ walked-is w tells to
 
-  death : death_at l (point_in pr) ≡ death_at l tells
-  death = ap (λ (x : Progress). death_at l (point_in x)) goes ∙ ap (death_at l) (point-is tells to)
+  death : death_at l t (point_in pr) ≡ death_at l t tells
+  death = ap (λ (x : Progress). death_at l t (point_in x)) goes ∙ ap (death_at l t) (point-is tells to)
 
-  pub walk_state : state_at l ws' after (slice_set ts k (record { stage = stage_walked_in w' pr; held = held_after th.held Death (told_of (death_at l (point_in pr))) })) ≡ (happens s (Step t)).state
+  pub walk_state : state_at l ws' after (slice_set ts k (record { stage = stage_walked_in w' pr; held = held_after th.held Death (told_of (death_at l t (point_in pr))) })) ≡ (happens s (Step t)).state
   walk_state =
       let words : (λ q. slice_index ws' q) ≡ words_after s t (access_of w) = ap (λ (v : List ℕ). λ (q : ℕ). slice_index v q) wrote ∙ words-is l ws kernel ts room t (access_of w) in
       let queues : (λ q. queue_of after q) ≡ queues_after s t (access_of w) = queues-is l ws kernel ts room t (access_of w) after done performs in
-      let threads : thread_at (slice_set ts k (record { stage = stage_walked_in w' pr; held = held_after th.held Death (told_of (death_at l (point_in pr))) })) ≡ put (thread_at ts) t (record { stage = stage_walked w to; held = held_after th.held Death (told_of (death_at l tells)) }) =
-      threads-set ts k t (record { stage = stage_walked_in w' pr; held = held_after th.held Death (told_of (death_at l (point_in pr))) }) at (omega arith)
+      let threads : thread_at (slice_set ts k (record { stage = stage_walked_in w' pr; held = held_after th.held Death (told_of (death_at l t (point_in pr))) })) ≡ put (thread_at ts) t (record { stage = stage_walked w to; held = held_after th.held Death (told_of (death_at l t tells)) }) =
+      threads-set ts k t (record { stage = stage_walked_in w' pr; held = held_after th.held Death (told_of (death_at l t (point_in pr))) }) at (omega arith)
       ∙ (λ i. put (thread_at ts) t (record { stage = stage i; held = held_after th.held Death (told_of (death i)) })) in
       (λ i. record { layout = l; words = words i; queues = queues i; threads = threads i }) ∙ sym (ap (λ (a : After). a.state) ran)
 
-  pub walk_note : Walked t (death_at l (point_in pr)) done.woken (has_returned pr) ≡ (happens s (Step t)).note
+  pub walk_note : Walked t (death_at l t (point_in pr)) done.woken (has_returned pr) ≡ (happens s (Step t)).note
   walk_note =
       let wakes : done.woken ≡ woken s t (access_of w) = woken-is l ws kernel ts room t (access_of w) after done performs in
       let ends : has_returned pr ≡ has_ended to = ap has_returned goes ∙ ended-is tells to in

@@ -4,6 +4,5 @@ mod Dying
 pub mod Reaches
 pub mod Runs
 mod Sleeping
-mod Layouts
 mod Requeues
 mod Trims

@@ -228,13 +228,13 @@ first_word-set l counters c v inside p =
     let heads : (nat_lt 0 p && nat_lt p (cell_place l 0)) ≡ false = grind (arith, nat_tests) in
     let counts : (nat_le (counter_place l 0) p && nat_lt p (words_of l)) ≡ true = grind (arith, nat_tests) in
     let here : p - counter_place l 0 ≡ c = omega arith in
-    sym (ap (λ (b : Bool). if b then head_word p else if nat_le (counter_place l 0) p && nat_lt p (words_of l) then put counters c v (p - counter_place l 0) else 0) heads
+    sym (ap (λ (b : Bool). if b then head_word l p else if nat_le (counter_place l 0) p && nat_lt p (words_of l) then put counters c v (p - counter_place l 0) else 0) heads
     ∙ ap (λ (b : Bool). if b then put counters c v (p - counter_place l 0) else 0) counts
     ∙ ap (put counters c v) here ∙ put-same counters c v))
     (λ apart. go (nat_lt 0 p && nat_lt p (cell_place l 0)) (nat_le (counter_place l 0) p && nat_lt p (words_of l)) refl apart)
   where
     go : (a b : Bool) → (nat_le (counter_place l 0) p && nat_lt p (words_of l)) ≡ b → p ≢ counter_place l c
-        → (if a then head_word p else if b then counters (p - counter_place l 0) else 0) ≡ (if a then head_word p else if b then put counters c v (p - counter_place l 0) else 0)
+        → (if a then head_word l p else if b then counters (p - counter_place l 0) else 0) ≡ (if a then head_word l p else if b then put counters c v (p - counter_place l 0) else 0)
     go true b e apart = refl
     go false false e apart = refl
     go false true e apart =

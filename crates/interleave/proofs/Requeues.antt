@@ -7,6 +7,7 @@ use Rattle.lockword.specs.declared.reply.Reply.{Reply}
 use Rattle.lockword.specs.declared.reply.Reply.TheVariants.{EAGAIN, EFAULT, EINVAL}
 use Rattle.keys.specs.declared.access.Access.TheVariants.{Requeue, CmpRequeue}
 use Rattle.keys.specs.declared.access.Answer.TheVariants.{Again, Counts, Fault}
+use Rattle.keys.specs.Addresses.{seen_at}
 use Rattle.syscalls.specs.Kernels.{Kernel', queue_of, Requeues}
 use Rattle.syscalls.specs.Memories.{is_valid}
 use Rattle.syscalls.specs.Answers.{BothValid, RequeueAnswers, CmpRequeueAnswers}
@@ -37,28 +38,35 @@ same_place n = eq-eqb n n refl
 abbrev nobody : Performed
 nobody = record { answer = Fault; slept = false; woken = []; moved = [] }
 
-module _ (ws : List ℕ) (old new : Kernel') (t from n to k : ℕ) where
+module _ (ws : List ℕ) (old new : Kernel') (base t from n to k : ℕ) where
+  -- the places of the two words
+  abbrev source : ℕ
+  source = seen_at base from
+
+  abbrev target : ℕ
+  target = seen_at base to
+
   abbrev q : List ℕ
-  q = queue_of old from
+  q = queue_of old source
 
   abbrev met : Bool
-  met = is_valid ws from && (is_valid ws to && not (from == to))
+  met = is_valid ws source && (is_valid ws target && not (source == target))
 
-  is_met : BothValid ws from to → from ≢ to → met ≡ true
-  is_met valid apart = λ i. valid.0 i && (valid.1 i && not (differs from to apart i))
+  is_met : BothValid ws source target → source ≢ target → met ≡ true
+  is_met valid apart = λ i. valid.0 i && (valid.1 i && not (differs source target apart i))
 
-  unmet_same : from ≡ to → met ≡ false
-  unmet_same same = ap (λ (b : Bool). is_valid ws from && (is_valid ws to && not b)) (ap (λ (x : ℕ). x == to) same ∙ same_place to) ∙ go (is_valid ws from) (is_valid ws to)
+  unmet_same : source ≡ target → met ≡ false
+  unmet_same same = ap (λ (b : Bool). is_valid ws source && (is_valid ws target && not b)) (ap (λ (x : ℕ). x == target) same ∙ same_place target) ∙ go (is_valid ws source) (is_valid ws target)
     where
       go : (a b : Bool) → (a && (b && false)) ≡ false
       go true true = refl
       go true false = refl
       go false b = refl
 
-  unmet_invalid : ¬ BothValid ws from to → met ≡ false
-  unmet_invalid not_both = go (is_valid ws from) refl (is_valid ws to) refl
+  unmet_invalid : ¬ BothValid ws source target → met ≡ false
+  unmet_invalid not_both = go (is_valid ws source) refl (is_valid ws target) refl
     where
-      go : (a : Bool) → is_valid ws from ≡ a → (b : Bool) → is_valid ws to ≡ b → (a && (b && not (from == to))) ≡ false
+      go : (a : Bool) → is_valid ws source ≡ a → (b : Bool) → is_valid ws target ≡ b → (a && (b && not (source == target))) ≡ false
       go true x true y = absurd (not_both (x, y))
       go true x false y = refl
       go false x b y = refl
@@ -70,11 +78,11 @@ module _ (ws : List ℕ) (old new : Kernel') (t from n to k : ℕ) where
   these = take k (drop n q)
 
   abbrev after : List ℕ → List ℕ → ℕ → List ℕ
-  after rest moved = put (put (queue_of old) from rest) to (put (queue_of old) from rest to ++ moved)
+  after rest moved = put (put (queue_of old) source rest) target (put (queue_of old) source rest target ++ moved)
 
   -- ---- refused
 
-  refused : met ≡ false → new ≡ old → Performs ws old new t (Requeue from n to k) nobody
+  refused : met ≡ false → new ≡ old → Performs ws old new base t (Requeue from n to k) nobody
   refused none same = record {
     answer = sym (ap (λ (b : Bool). if b then Counts (length (take n q)) (length these) else Fault) none);
     slept = and_false met;
@@ -87,7 +95,7 @@ module _ (ws : List ℕ) (old new : Kernel') (t from n to k : ℕ) where
 
   -- ---- done
 
-  requeued : (us vs : List ℕ) → met ≡ true → from ≢ to → Requeues old new from n to k us vs → Performs ws old new t (Requeue from n to k) (record { answer = Counts (length us) (length vs); slept = false; woken = us; moved = vs })
+  requeued : (us vs : List ℕ) → met ≡ true → source ≢ target → Requeues old new source n target k us vs → Performs ws old new base t (Requeue from n to k) (record { answer = Counts (length us) (length vs); slept = false; woken = us; moved = vs })
   requeued us vs on apart r = record {
     answer = (λ i. Counts (length (r.firsts i)) (length (r.next i))) ∙ sym (ap (λ (b : Bool). if b then Counts (length (take n q)) (length these) else Fault) on);
     slept = and_false met;
@@ -98,16 +106,16 @@ module _ (ws : List ℕ) (old new : Kernel') (t from n to k : ℕ) where
     heads = r.heads;
   }
     where
-      there : put (queue_of old) from left to ≡ queue_of old to
-      there = put-other (queue_of old) from left to (λ e. apart (sym e))
+      there : put (queue_of old) source left target ≡ queue_of old target
+      there = put-other (queue_of old) source left target (λ e. apart (sym e))
 
       each : (p : ℕ) → queue_of new p ≡ after left these p
       each p =
-          by_put (λ x. queue_of new p ≡ x) (put (queue_of old) from left) to (put (queue_of old) from left to ++ these) p
+          by_put (λ x. queue_of new p ≡ x) (put (queue_of old) source left) target (put (queue_of old) source left target ++ these) p
           (λ is. ap (queue_of new) is ∙ r.joined ∙ (λ i. sym there i ++ r.next i))
-          (λ other. by_put (λ x. queue_of new p ≡ x) (queue_of old) from left p (λ is. ap (queue_of new) is ∙ r.left) (λ elsewhere. r.others p elsewhere other))
+          (λ other. by_put (λ x. queue_of new p ≡ x) (queue_of old) source left p (λ is. ap (queue_of new) is ∙ r.left) (λ elsewhere. r.others p elsewhere other))
 
-  pub performs_requeue : (r : Result (List ℕ × List ℕ) Reply) → RequeueAnswers ws from to r → MatchResult r (λ x. Requeues old new from n to k x.0 x.1) (λ e. new ≡ old) → Performs ws old new t (Requeue from n to k) (requeue_performed r)
+  pub performs_requeue : (r : Result (List ℕ × List ℕ) Reply) → RequeueAnswers ws source target r → MatchResult r (λ x. Requeues old new source n target k x.0 x.1) (λ e. new ≡ old) → Performs ws old new base t (Requeue from n to k) (requeue_performed r)
   performs_requeue (Ok x) (apart, valid) changes = requeued x.0 x.1 (is_met valid apart) apart changes
   performs_requeue (Err EINVAL) same changes = refused (unmet_same same) changes
   performs_requeue (Err EFAULT) (apart, invalid) changes = refused (unmet_invalid invalid) changes
@@ -116,9 +124,9 @@ module _ (ws : List ℕ) (old new : Kernel') (t from n to k : ℕ) where
   -- ---- where the word is compared
   module _ (e : ℕ) where
     abbrev same_word : Bool
-    same_word = slice_index ws from % 2 ^ 32 == e
+    same_word = slice_index ws source % 2 ^ 32 == e
 
-    refused_too : met ≡ false → new ≡ old → Performs ws old new t (CmpRequeue from e n to k) nobody
+    refused_too : met ≡ false → new ≡ old → Performs ws old new base t (CmpRequeue from e n to k) nobody
     refused_too none same = record {
       answer = sym (ap (λ (b : Bool). if b then (if same_word then Counts (length (take n q)) (length these) else Again) else Fault) none);
       slept = and_false met;
@@ -130,7 +138,7 @@ module _ (ws : List ℕ) (old new : Kernel') (t from n to k : ℕ) where
     }
 
     -- a word as expected is none difference
-    expected : same_word ≡ true → (d : Performed) → Performs ws old new t (Requeue from n to k) d → Performs ws old new t (CmpRequeue from e n to k) d
+    expected : same_word ≡ true → (d : Performed) → Performs ws old new base t (Requeue from n to k) d → Performs ws old new base t (CmpRequeue from e n to k) d
     expected on d p = record {
       answer = p.answer ∙ sym (ap (λ (b : Bool). if met then (if b then Counts (length (take n q)) (length these) else Again) else Fault) on);
       slept = p.slept;
@@ -142,7 +150,7 @@ module _ (ws : List ℕ) (old new : Kernel') (t from n to k : ℕ) where
     }
 
     -- one that differs leaves all as they are
-    differing : met ≡ true → same_word ≡ false → new ≡ old → Performs ws old new t (CmpRequeue from e n to k) (record { answer = Again; slept = false; woken = []; moved = [] })
+    differing : met ≡ true → same_word ≡ false → new ≡ old → Performs ws old new base t (CmpRequeue from e n to k) (record { answer = Again; slept = false; woken = []; moved = [] })
     differing on other same = record {
       answer = sym (λ i. if on i then (if other i then Counts (length (take n q)) (length these) else Again) else Fault);
       slept = and_false met;
@@ -155,13 +163,13 @@ module _ (ws : List ℕ) (old new : Kernel') (t from n to k : ℕ) where
       where
         unmoved : after q [] ≡ queue_of old
         unmoved =
-            ap (λ (f : ℕ → List ℕ). put f to (f to ++ [])) (put-itself (queue_of old) from)
-            ∙ ap (put (queue_of old) to) (append-nil (queue_of old to))
-            ∙ put-itself (queue_of old) to
+            ap (λ (f : ℕ → List ℕ). put f target (f target ++ [])) (put-itself (queue_of old) source)
+            ∙ ap (put (queue_of old) target) (append-nil (queue_of old target))
+            ∙ put-itself (queue_of old) target
 
-    pub performs_cmp_requeue : (r : Result (List ℕ × List ℕ) Reply) → CmpRequeueAnswers ws from e to r → MatchResult r (λ x. Requeues old new from n to k x.0 x.1) (λ f. new ≡ old) → Performs ws old new t (CmpRequeue from e n to k) (requeue_performed r)
-    performs_cmp_requeue (Ok x) (apart, valid, is) changes = expected (eq-eqb (slice_index ws from % 2 ^ 32) e is) (requeue_performed (Ok x)) (requeued x.0 x.1 (is_met valid apart) apart changes)
-    performs_cmp_requeue (Err EAGAIN) (apart, valid, other) changes = differing (is_met valid apart) (differs (slice_index ws from % 2 ^ 32) e other) changes
+    pub performs_cmp_requeue : (r : Result (List ℕ × List ℕ) Reply) → CmpRequeueAnswers ws source e target r → MatchResult r (λ x. Requeues old new source n target k x.0 x.1) (λ f. new ≡ old) → Performs ws old new base t (CmpRequeue from e n to k) (requeue_performed r)
+    performs_cmp_requeue (Ok x) (apart, valid, is) changes = expected (eq-eqb (slice_index ws source % 2 ^ 32) e is) (requeue_performed (Ok x)) (requeued x.0 x.1 (is_met valid apart) apart changes)
+    performs_cmp_requeue (Err EAGAIN) (apart, valid, other) changes = differing (is_met valid apart) (differs (slice_index ws source % 2 ^ 32) e other) changes
     performs_cmp_requeue (Err EINVAL) same changes = refused_too (unmet_same same) changes
     performs_cmp_requeue (Err EFAULT) (apart, invalid) changes = refused_too (unmet_invalid invalid) changes
     performs_cmp_requeue (Err f) answers changes = absurd answers

@@ -7,6 +7,7 @@ use Rattle.keys.specs.declared.access.Access.TheVariants.{Trim}
 use Rattle.keys.specs.declared.access.Answer.TheVariants.{Trimmed, Fault}
 use Rattle.lockword.specs.Cells.{waiters_alone}
 use Rattle.keys.specs.Accesses.{is_nobody, is_trimmed, Trims}
+use Rattle.keys.specs.Addresses.{seen_at}
 use Rattle.keys.proofs.Trims.{trims_free, trims_unslept}
 use Rattle.syscalls.specs.Kernels.{Kernel', queue_of}
 use Rattle.syscalls.specs.Memories.{is_valid}
@@ -28,16 +29,20 @@ one_word : (w : ℕ) (q : List ℕ) (after : ℕ) (b : Bool) → Trims w q after
 one_word w q after true t = t.cleared refl
 one_word w q after false t = t.kept refl
 
-module _ (ws ws' : List ℕ) (kernel : Kernel') (t at : ℕ) where
+module _ (ws ws' : List ℕ) (kernel : Kernel') (base t at : ℕ) where
+  -- the place of the word
+  abbrev place : ℕ
+  place = seen_at base at
+
   abbrev w : ℕ
-  w = slice_index ws at
+  w = slice_index ws place
 
   abbrev q : List ℕ
-  q = queue_of kernel at
+  q = queue_of kernel place
 
   -- no queue changes
-  stay : (b : Bool) (p : ℕ) → queue_of kernel p ≡ (if b then put (queue_of kernel) at q else queue_of kernel) p
-  stay true p = ap (λ (f : ℕ → List ℕ). f p) (sym (put-itself (queue_of kernel) at))
+  stay : (b : Bool) (p : ℕ) → queue_of kernel p ≡ (if b then put (queue_of kernel) place q else queue_of kernel) p
+  stay true p = ap (λ (f : ℕ → List ℕ). f p) (sym (put-itself (queue_of kernel) place))
   stay false p = refl
 
   -- and nobody is woken or moved
@@ -48,31 +53,31 @@ module _ (ws ws' : List ℕ) (kernel : Kernel') (t at : ℕ) where
   nobody true = refl
   nobody false = refl
 
-  pub performs_trim : (r : Result Bool Reply) → TrimAnswers ws at r → MatchResult r (TrimsAt ws ws' at q) (λ e. ws' ≡ ws) → Performs ws kernel kernel t (Trim at) (trim_performed r)
+  pub performs_trim : (r : Result Bool Reply) → TrimAnswers ws place r → MatchResult r (TrimsAt ws ws' place q) (λ e. ws' ≡ ws) → Performs ws kernel kernel base t (Trim at) (trim_performed r)
   performs_trim (Ok b) valid trims = record {
-    answer = ap Trimmed (one_answer w q (slice_index ws' at) b trims.word) ∙ sym (ap (λ (c : Bool). if c then Trimmed (is_trimmed w q) else Fault) valid);
-    slept = and_false (is_valid ws at);
-    woken = nobody (is_valid ws at);
-    moved = nobody (is_valid ws at);
-    queues = stay (is_valid ws at);
+    answer = ap Trimmed (one_answer w q (slice_index ws' place) b trims.word) ∙ sym (ap (λ (c : Bool). if c then Trimmed (is_trimmed w q) else Fault) valid);
+    slept = and_false (is_valid ws place);
+    woken = nobody (is_valid ws place);
+    moved = nobody (is_valid ws place);
+    queues = stay (is_valid ws place);
     threads = refl;
     heads = refl;
   }
   performs_trim (Err EFAULT) invalid same = record {
     answer = sym (ap (λ (c : Bool). if c then Trimmed (is_trimmed w q) else Fault) invalid);
-    slept = and_false (is_valid ws at);
-    woken = nobody (is_valid ws at);
-    moved = nobody (is_valid ws at);
-    queues = stay (is_valid ws at);
+    slept = and_false (is_valid ws place);
+    woken = nobody (is_valid ws place);
+    moved = nobody (is_valid ws place);
+    queues = stay (is_valid ws place);
     threads = refl;
     heads = refl;
   }
   performs_trim (Err e) answers same = absurd answers
 
-  pub trims_words : (r : Result Bool Reply) → TrimAnswers ws at r → MatchResult r (TrimsAt ws ws' at q) (λ e. ws' ≡ ws) → ws' ≡ list_words ws kernel (Trim at)
+  pub trims_words : (r : Result Bool Reply) → TrimAnswers ws place r → MatchResult r (TrimsAt ws ws' place q) (λ e. ws' ≡ ws) → ws' ≡ list_words ws kernel base (Trim at)
   trims_words (Ok b) valid trims =
       trims.others
-      ∙ ap (slice_set ws at) (one_word w q (slice_index ws' at) b trims.word ∙ ap (λ (c : Bool). if c then 0 else w) (one_answer w q (slice_index ws' at) b trims.word))
-      ∙ sym (ap (λ (c : Bool). if c then slice_set ws at (if is_trimmed w q then 0 else w) else ws) valid)
-  trims_words (Err EFAULT) invalid same = same ∙ sym (ap (λ (c : Bool). if c then slice_set ws at (if is_trimmed w q then 0 else w) else ws) invalid)
+      ∙ ap (slice_set ws place) (one_word w q (slice_index ws' place) b trims.word ∙ ap (λ (c : Bool). if c then 0 else w) (one_answer w q (slice_index ws' place) b trims.word))
+      ∙ sym (ap (λ (c : Bool). if c then slice_set ws place (if is_trimmed w q then 0 else w) else ws) valid)
+  trims_words (Err EFAULT) invalid same = same ∙ sym (ap (λ (c : Bool). if c then slice_set ws place (if is_trimmed w q then 0 else w) else ws) invalid)
   trims_words (Err e) answers same = absurd answers

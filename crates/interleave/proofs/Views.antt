@@ -13,8 +13,8 @@ use Rattle.keys.specs.declared.point.Decision.{Decision}
 use Rattle.keys.specs.declared.point.Operation.{Operation}
 use Rattle.keys.specs.declared.point.Point.{Point}
 use Rattle.keys.specs.declared.point.Progress.{Progress}
-use Rattle.keys.specs.Layouts.{Layout', words_of}
-use Rattle.keys.specs.Accesses.{address_of, word_among, answer_among, sleeps_at}
+use Rattle.keys.specs.Layouts.{Layout', words_of, base_of, place_in}
+use Rattle.keys.specs.Accesses.{word_among, answer_among, sleeps_at}
 use Rattle.mutex.specs.declared.phase.Phase.{Phase}
 use Rattle.mutex.specs.declared.phase.Phase.TheVariants.{Announcing, AtCell, Linking, Unlinking, Clearing, Ended}
 use Rattle.mutex.specs.declared.phase.Onward.{Onward}
@@ -38,7 +38,7 @@ use Rattle.protocol.specs.declared.thread.Stage.{Stage}
 use Rattle.protocol.specs.declared.thread.Stage.TheVariants.{Calling}
 use Rattle.protocol.specs.declared.note.Note.TheVariants.{Stepped}
 use Rattle.protocol.specs.Ops.{mutex_of, is_in}
-use Rattle.protocol.specs.Machine.{State, After, Led, put, idle, is_valid, is_met, joined, queue_after, woken_by, moved_by, answer_of, words_after, queues_after, falls_asleep, woken, moved, slept_in, is_thread, is_idle, places_of, stands_in, may_begin, first_stage, begun, nothing, went, stepped, stage_after, returned, led, stage_at, returned_at, led_at, decided_at, reply_at, held_after, decision, happens}
+use Rattle.protocol.specs.Machine.{State, After, Led, put, idle, is_valid, place_met, is_met, joined, queue_after, woken_by, moved_by, answer_of, words_after, queues_after, falls_asleep, woken, moved, slept_in, is_thread, is_idle, places_of, stands_in, may_begin, first_stage, begun, nothing, went, stepped, stage_after, returned, led, stage_at, returned_at, led_at, decided_at, reply_at, held_after, decision, happens}
 use Rattle.protocol.proofs.Puts.{by_put}
 use Rattle.protocol.proofs.Steps.{unmoved}
 use Rattle.protocol.proofs.Queues.{stands_none}
@@ -102,14 +102,14 @@ module _ (l : Layout') (ws : List ℕ) (kernel : Kernel') (ts : List Thread) (ro
   abbrev words : ℕ → ℕ
   words = λ q. slice_index ws q
 
-  -- an address is valid in the list as it is in the layout
+  -- a place is valid in the list as it is in the layout
   valid-is : (at : ℕ) → memories.is_valid ws at ≡ is_valid l at
   valid-is at = ap (λ (n : ℕ). nat_le 1 at && nat_lt at n) room
 
-  met-is : (a : Access) → list_met ws a ≡ is_met l t a
-  met-is (access.Requeue from n to k) = λ i. valid-is from i && (valid-is to i && not (from == to))
-  met-is (access.CmpRequeue from e n to k) = λ i. valid-is from i && (valid-is to i && not (from == to))
-  met-is a = valid-is (address_of a)
+  met-is : (a : Access) → list_met ws (base_of l t) a ≡ is_met l t a
+  met-is (access.Requeue from n to k) = λ i. valid-is (place_in l t from) i && (valid-is (place_in l t to) i && not (place_in l t from == place_in l t to))
+  met-is (access.CmpRequeue from e n to k) = λ i. valid-is (place_in l t from) i && (valid-is (place_in l t to) i && not (place_in l t from == place_in l t to))
+  met-is a = valid-is (place_met l t a)
 
   -- the list's words, with a new one at a place where there is one
   set-is : (at v : ℕ) → (λ q. slice_index (if memories.is_valid ws at then slice_set ws at v else ws) q) ≡ (if is_valid l at then put words at v else words)
@@ -127,22 +127,22 @@ module _ (l : Layout') (ws : List ℕ) (kernel : Kernel') (ts : List Thread) (ro
   same-is at false false = refl
 
   -- the words after an access
-  pub words-is : (a : Access) → (λ q. slice_index (list_words ws kernel a) q) ≡ words_after (state_at l ws kernel ts) t a
-  words-is (access.Requeue from n to k) = set-is from (words from) ∙ same-is from (is_valid l from) (is_met l t (access.Requeue from n to k))
-  words-is (access.CmpRequeue from e n to k) = set-is from (words from) ∙ same-is from (is_valid l from) (is_met l t (access.CmpRequeue from e n to k))
-  words-is a = set-is (address_of a) (word_among a (words (address_of a)) (queue_of kernel (address_of a)))
+  pub words-is : (a : Access) → (λ q. slice_index (list_words ws kernel (base_of l t) a) q) ≡ words_after (state_at l ws kernel ts) t a
+  words-is (access.Requeue from n to k) = set-is (place_in l t from) (words (place_in l t from)) ∙ same-is (place_in l t from) (is_valid l (place_in l t from)) (is_met l t (access.Requeue from n to k))
+  words-is (access.CmpRequeue from e n to k) = set-is (place_in l t from) (words (place_in l t from)) ∙ same-is (place_in l t from) (is_valid l (place_in l t from)) (is_met l t (access.CmpRequeue from e n to k))
+  words-is a = set-is (place_met l t a) (word_among a (words (place_met l t a)) (queue_of kernel (place_met l t a)))
 
-  joined-is : (a : Access) (us : List ℕ) (queues : ℕ → List ℕ) → list_joined a us queues ≡ joined l t a us queues
+  joined-is : (a : Access) (us : List ℕ) (queues : ℕ → List ℕ) → list_joined (base_of l t) a us queues ≡ joined l t a us queues
   joined-is (access.Requeue from n to k) us queues = refl
   joined-is (access.CmpRequeue from e n to k) us queues = refl
   joined-is a us queues = refl
 
-  module _ (a : Access) (after : Kernel') (done : Performed) (performs : Performs ws kernel after t a done) where
+  module _ (a : Access) (after : Kernel') (done : Performed) (performs : Performs ws kernel after (base_of l t) t a done) where
     abbrev w : ℕ
-    w = slice_index ws (address_of a)
+    w = slice_index ws (place_met l t a)
 
     abbrev q : List ℕ
-    q = queue_of kernel (address_of a)
+    q = queue_of kernel (place_met l t a)
 
     pub answer-is : done.answer ≡ answer_of (state_at l ws kernel ts) t a
     answer-is = performs.answer ∙ ap (λ (b : Bool). if b then answer_among a w q else Fault) (met-is a)
@@ -150,8 +150,8 @@ module _ (l : Layout') (ws : List ℕ) (kernel : Kernel') (ts : List Thread) (ro
     pub queues-is : (λ p. queue_of after p) ≡ queues_after (state_at l ws kernel ts) t a
     queues-is =
         fun_ext performs.queues
-        ∙ ap (λ (b : Bool). if b then list_joined a (moved_by a w q) (put (queue_of kernel) (address_of a) (queue_after t a w q)) else queue_of kernel) (met-is a)
-        ∙ ap (λ (f : ℕ → List ℕ). if is_met l t a then f else queue_of kernel) (joined-is a (moved_by a w q) (put (queue_of kernel) (address_of a) (queue_after t a w q)))
+        ∙ ap (λ (b : Bool). if b then list_joined (base_of l t) a (moved_by a w q) (put (queue_of kernel) (place_met l t a) (queue_after t a w q)) else queue_of kernel) (met-is a)
+        ∙ ap (λ (f : ℕ → List ℕ). if is_met l t a then f else queue_of kernel) (joined-is a (moved_by a w q) (put (queue_of kernel) (place_met l t a) (queue_after t a w q)))
 
     pub slept-is : done.slept ≡ falls_asleep (state_at l ws kernel ts) t a
     slept-is = performs.slept ∙ ap (λ (b : Bool). b && sleeps_at a w) (met-is a)
@@ -272,7 +272,7 @@ made_at t m held c p p' g pr moves says =
 module _ (l : Layout') (ws ws' : List ℕ) (kernel after : Kernel') (ts : List Thread) (k t m : ℕ) (q : Queue) (a : Access) (f : Answer → Led) (th : Thread) (done : Performed) (made : Made)
     (known : t ≤ l.threads) (at : k + 1 ≡ t) (len : length ts ≡ l.threads) (room : length ws ≡ words_of l)
     (e : thread_at ts t ≡ th) (goes : stepped (state_at l ws kernel ts) t th.held th.stage ≡ went (state_at l ws kernel ts) t th.held m q a (f (answer_of (state_at l ws kernel ts) t a)))
-    (performs : Performs ws kernel after t a done) (wrote : ws' ≡ list_words ws kernel a) (is_made : IsMade t m th.held (f done.answer) made) where
+    (performs : Performs ws kernel after (base_of l t) t a done) (wrote : ws' ≡ list_words ws kernel (base_of l t) a) (is_made : IsMade t m th.held (f done.answer) made) where
   abbrev s : State
   s = state_at l ws kernel ts
 

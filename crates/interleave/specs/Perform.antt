@@ -9,6 +9,7 @@ use Rattle.keys.specs.declared.access.Answer.TheVariants.{Exchanged, Changed, Ag
 use Rattle.keys.specs.declared.point.Point.{Point}
 use Rattle.keys.specs.declared.point.Progress.{Progress}
 use Rattle.keys.specs.declared.point.Progress.TheVariants.{Goes, Returns}
+use Rattle.keys.specs.Addresses.{seen_at}
 use Rattle.keys.specs.Accesses.{address_of, word_among, answer_among, sleeps_at}
 use Rattle.exitwalk.specs.Standings as walks
 use Rattle.keys.specs.declared.point.Decision.{Decision}
@@ -45,44 +46,48 @@ abbrev pub trim_performed : Result Bool Reply → Performed
 trim_performed (Ok trimmed) = record { answer = Trimmed trimmed; slept = false; woken = []; moved = [] }
 trim_performed (Err r) = record { answer = Fault; slept = false; woken = []; moved = [] }
 
+-- the place of the word that an access meets, made by a process that maps the words at this base
+abbrev pub place_from : ℕ → Access → ℕ
+place_from b a = seen_at b (address_of a)
+
 -- an access isn't refused: its address is valid; of a requeue both are, and they differ
-abbrev pub list_met : List ℕ → Access → Bool
-list_met ws (Requeue from n to k) = is_valid ws from && (is_valid ws to && not (from == to))
-list_met ws (CmpRequeue from e n to k) = is_valid ws from && (is_valid ws to && not (from == to))
-list_met ws a = is_valid ws (address_of a)
+abbrev pub list_met : List ℕ → ℕ → Access → Bool
+list_met ws b (Requeue from n to k) = is_valid ws (seen_at b from) && (is_valid ws (seen_at b to) && not (seen_at b from == seen_at b to))
+list_met ws b (CmpRequeue from e n to k) = is_valid ws (seen_at b from) && (is_valid ws (seen_at b to) && not (seen_at b from == seen_at b to))
+list_met ws b a = is_valid ws (place_from b a)
 
 -- these threads come to the end of the queue that an access moves to
-abbrev pub list_joined : Access → List ℕ → (ℕ → List ℕ) → ℕ → List ℕ
-list_joined (Requeue from n to k) us queues = put queues to (queues to ++ us)
-list_joined (CmpRequeue from e n to k) us queues = put queues to (queues to ++ us)
-list_joined a us queues = queues
+abbrev pub list_joined : ℕ → Access → List ℕ → (ℕ → List ℕ) → ℕ → List ℕ
+list_joined b (Requeue from n to k) us queues = put queues (seen_at b to) (queues (seen_at b to) ++ us)
+list_joined b (CmpRequeue from e n to k) us queues = put queues (seen_at b to) (queues (seen_at b to) ++ us)
+list_joined b a us queues = queues
 
 -- the words after an access, of the words before and of those who sleep on the one that it meets: that one is changed, where its address is valid, and all others stay
-abbrev pub list_words : List ℕ → Kernel' → Access → List ℕ
-list_words ws k a = if is_valid ws (address_of a) then slice_set ws (address_of a) (word_among a (slice_index ws (address_of a)) (queue_of k (address_of a))) else ws
+abbrev pub list_words : List ℕ → Kernel' → ℕ → Access → List ℕ
+list_words ws k b a = if is_valid ws (place_from b a) then slice_set ws (place_from b a) (word_among a (slice_index ws (place_from b a)) (queue_of k (place_from b a))) else ws
 
-abbrev pub list_answer : List ℕ → Kernel' → Access → Answer
-list_answer ws k a = if list_met ws a then answer_among a (slice_index ws (address_of a)) (queue_of k (address_of a)) else Fault
+abbrev pub list_answer : List ℕ → Kernel' → ℕ → Access → Answer
+list_answer ws k b a = if list_met ws b a then answer_among a (slice_index ws (place_from b a)) (queue_of k (place_from b a)) else Fault
 
-abbrev pub list_slept : List ℕ → Access → Bool
-list_slept ws a = list_met ws a && sleeps_at a (slice_index ws (address_of a))
+abbrev pub list_slept : List ℕ → ℕ → Access → Bool
+list_slept ws b a = list_met ws b a && sleeps_at a (slice_index ws (place_from b a))
 
-abbrev pub list_woken : List ℕ → Kernel' → Access → List ℕ
-list_woken ws k a = if list_met ws a then woken_by a (slice_index ws (address_of a)) (queue_of k (address_of a)) else []
+abbrev pub list_woken : List ℕ → Kernel' → ℕ → Access → List ℕ
+list_woken ws k b a = if list_met ws b a then woken_by a (slice_index ws (place_from b a)) (queue_of k (place_from b a)) else []
 
-abbrev pub list_moved : List ℕ → Kernel' → Access → List ℕ
-list_moved ws k a = if list_met ws a then moved_by a (slice_index ws (address_of a)) (queue_of k (address_of a)) else []
+abbrev pub list_moved : List ℕ → Kernel' → ℕ → Access → List ℕ
+list_moved ws k b a = if list_met ws b a then moved_by a (slice_index ws (place_from b a)) (queue_of k (place_from b a)) else []
 
-abbrev pub list_queues : List ℕ → Kernel' → ℕ → Access → ℕ → List ℕ
-list_queues ws k t a = if list_met ws a then list_joined a (moved_by a (slice_index ws (address_of a)) (queue_of k (address_of a))) (put (queue_of k) (address_of a) (queue_after t a (slice_index ws (address_of a)) (queue_of k (address_of a)))) else queue_of k
+abbrev pub list_queues : List ℕ → Kernel' → ℕ → ℕ → Access → ℕ → List ℕ
+list_queues ws k b t a = if list_met ws b a then list_joined b a (moved_by a (slice_index ws (place_from b a)) (queue_of k (place_from b a))) (put (queue_of k) (place_from b a) (queue_after t a (slice_index ws (place_from b a)) (queue_of k (place_from b a)))) else queue_of k
 
--- what thread t's access over these words does to the queues, and tells
-pub record Performs (ws : List ℕ) (old new : Kernel') (t : ℕ) (a : Access) (done : Performed) : Type 0 where
-  pub answer : done.answer ≡ list_answer ws old a
-  pub slept : done.slept ≡ list_slept ws a
-  pub woken : done.woken ≡ list_woken ws old a
-  pub moved : done.moved ≡ list_moved ws old a
-  pub queues : (p : ℕ) → queue_of new p ≡ list_queues ws old t a p
+-- what thread t's access over these words does to the queues, and tells, its process mapping the words at base b
+pub record Performs (ws : List ℕ) (old new : Kernel') (b t : ℕ) (a : Access) (done : Performed) : Type 0 where
+  pub answer : done.answer ≡ list_answer ws old b a
+  pub slept : done.slept ≡ list_slept ws b a
+  pub woken : done.woken ≡ list_woken ws old b a
+  pub moved : done.moved ≡ list_moved ws old b a
+  pub queues : (p : ℕ) → queue_of new p ≡ list_queues ws old b t a p
   pub threads : new.threads ≡ old.threads
   pub heads : new.heads ≡ old.heads
 

@@ -1,6 +1,6 @@
 -- What a machine is made by.
 use Rattle.std.specs.Prelude.{ℕ, ◌≡◌, ◌≤◌, true, List, [], length, take}
-use Rattle.keys.specs.Layouts.{Layout', IsLayout, words_of, head_place}
+use Rattle.keys.specs.Layouts.{Layout', IsLayout, words_of, head_place, address_in}
 use Rattle.syscalls.specs.Kernels.{Kernel', queue_of, head_of}
 use Rattle.protocol.specs.declared.event.Event.{Event}
 use Rattle.protocol.specs.declared.note.Note.{Note}
@@ -10,9 +10,9 @@ use Rattle.protocol.specs.Wakings.{TellsSleepers}
 use Rattle.protocol.specs.PassedBy.{ArePresets}
 use Rattle.interleave.specs.Shown.{Shown, state_of}
 
--- each thread's robust list begins at its head
+-- each thread's robust list begins at its head, by the address that this has in its process
 abbrev pub HasHeads : Layout' → Kernel' → Type 0
-HasHeads l k = (t : ℕ) → 1 ≤ t → t ≤ l.threads → head_of k t ≡ head_place t
+HasHeads l k = (t : ℕ) → 1 ≤ t → t ≤ l.threads → head_of k t ≡ address_in l t (head_place t)
 
 -- a kernel for the threads of a layout, none of which sleeps
 pub record IsFirst (l : Layout') (k : Kernel') : Type 0 where

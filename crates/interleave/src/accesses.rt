@@ -1,4 +1,4 @@
-//! Accesses of the machine's threads: to its words, and to the kernel's queues.
+//! Accesses of the machine's threads: to its words, and to the kernel's queues. A thread names words by the addresses that they have in its process.
 ghost use Rattle.std.specs.Prelude.{◌≡◌, ◌≤◌, ℕ, [], true, false};
 ghost use Rattle.keys.specs.declared.access.Access.TheVariants.{Wait, Wake};
 ghost use Rattle.keys.specs.declared.access.Answer.TheVariants.{Value, Stored, Exchanged, Changed};
@@ -6,7 +6,7 @@ ghost use Rattle.syscalls.specs.Kernels.{IsAwake};
 ghost use Rattle.interleave.specs.Perform.{or_fault, exchange_answer, requeue_performed, trim_performed, list_words, Performs};
 
 use buckets::Batch;
-use keys::{Access, Answer};
+use keys::{Access, Answer, seen_at};
 use lockword::{Reply, Tid};
 use syscalls::{Kernel, Memory};
 
@@ -68,15 +68,16 @@ fn exchanged(word: Option<u64>, expected: u64) -> Answer
 fn wait<M: Memory>(
     memory: &M,
     kernel: &mut Kernel,
+    base: u64,
     thread: Tid,
     at: u64,
     expected: u32,
 ) -> Performed
     requires known { thread ≤ kernel.old.threads }
     requires awake { IsAwake kernel.old thread }
-    ensures { Performs (M.words memory.now) kernel.old kernel.new thread (Wait at expected) result }
+    ensures { Performs (M.words memory.now) kernel.old kernel.new base thread (Wait at expected) result }
 {
-    match kernel.wait(memory, thread, at, expected) {
+    match kernel.wait(base, memory, thread, at, expected) {
         Ok(()) => Performed {
             answer: Answer::Woken,
             slept: true,
@@ -88,10 +89,10 @@ fn wait<M: Memory>(
     }
 }
 
-fn wake<M: Memory>(memory: &M, kernel: &mut Kernel, at: u64, most: u32) -> Performed
-    ensures { (thread : ℕ) → Performs (M.words memory.now) kernel.old kernel.new thread (Wake at most) result }
+fn wake<M: Memory>(memory: &M, kernel: &mut Kernel, base: u64, at: u64, most: u32) -> Performed
+    ensures { (thread : ℕ) → Performs (M.words memory.now) kernel.old kernel.new base thread (Wake at most) result }
 {
-    match kernel.wake(memory, at, most) {
+    match kernel.wake(base, memory, at, most) {
         Ok(woken) => Performed {
             answer: Answer::Count(woken.len() as u32),
             slept: false,
@@ -128,43 +129,52 @@ fn requeued(told: Result<(Batch, Batch), Reply>) -> Performed
     }
 }
 
-/// Makes an access of a thread that doesn't sleep.
+/// Makes an access of a thread that doesn't sleep, whose process maps the words at this base.
 pub(crate) fn perform<M: Memory>(
     memory: &mut M,
     kernel: &mut Kernel,
+    base: u64,
     thread: Tid,
     access: &Access,
 ) -> Performed
     requires known { thread ≤ kernel.old.threads }
     requires awake { IsAwake kernel.old thread }
-    ensures performs { Performs (M.words memory.old) kernel.old kernel.new thread access.now result }
-    ensures words { M.words memory.new ≡ list_words (M.words memory.old) kernel.old access.now }
+    ensures performs { Performs (M.words memory.old) kernel.old kernel.new base thread access.now result }
+    ensures words { M.words memory.new ≡ list_words (M.words memory.old) kernel.old base access.now }
 {
     match *access {
-        Access::Load { at } => quiet(value(memory.load(at))),
-        Access::Store { at, value } => quiet(stored(memory.store(at, value))),
+        Access::Load { at } => quiet(value(memory.load(seen_at(base, at)))),
+        Access::Store { at, value } => quiet(stored(memory.store(seen_at(base, at), value))),
         Access::Exchange { at, expected, new } => {
-            quiet(exchanged(memory.exchange(at, expected, new), expected))
+            quiet(exchanged(memory.exchange(seen_at(base, at), expected, new), expected))
         }
-        Access::FetchXor { at, operand } => quiet(value(memory.fetch_xor(at, operand))),
-        Access::FetchOr { at, operand } => quiet(value(memory.fetch_or(at, operand))),
-        Access::FetchAnd { at, operand } => quiet(value(memory.fetch_and(at, operand))),
-        Access::FetchAdd { at, operand } => quiet(value(memory.fetch_add(at, operand))),
-        Access::Wait { at, expected } => wait(memory, kernel, thread, at, expected),
-        Access::Wake { at, most } => wake(memory, kernel, at, most),
+        Access::FetchXor { at, operand } => {
+            quiet(value(memory.fetch_xor(seen_at(base, at), operand)))
+        }
+        Access::FetchOr { at, operand } => {
+            quiet(value(memory.fetch_or(seen_at(base, at), operand)))
+        }
+        Access::FetchAnd { at, operand } => {
+            quiet(value(memory.fetch_and(seen_at(base, at), operand)))
+        }
+        Access::FetchAdd { at, operand } => {
+            quiet(value(memory.fetch_add(seen_at(base, at), operand)))
+        }
+        Access::Wait { at, expected } => wait(memory, kernel, base, thread, at, expected),
+        Access::Wake { at, most } => wake(memory, kernel, base, at, most),
         Access::Requeue {
             from,
             wake,
             to,
             moves,
-        } => requeued(kernel.requeue(memory, from, wake, to, moves)),
+        } => requeued(kernel.requeue(base, memory, from, wake, to, moves)),
         Access::CmpRequeue {
             from,
             expected,
             wake,
             to,
             moves,
-        } => requeued(kernel.cmp_requeue(memory, from, expected, wake, to, moves)),
-        Access::Trim { at } => trimmed(kernel.trim(memory, at)),
+        } => requeued(kernel.cmp_requeue(base, memory, from, expected, wake, to, moves)),
+        Access::Trim { at } => trimmed(kernel.trim(base, memory, at)),
     }
 }

@@ -1,6 +1,6 @@
 //! Threads that die, and the kernel's walks over their robust lists (get_robust_list(2)).
 ghost use Rattle.std.specs.Prelude.{◌≡◌, ◌≤◌, ℕ, List, length};
-ghost use Rattle.keys.specs.Layouts.{words_of, head_place};
+ghost use Rattle.keys.specs.Layouts.{words_of, head_place, address_in};
 ghost use Rattle.keys.specs.declared.point.Operation.TheVariants.{Death};
 ghost use Rattle.exitwalk.specs.Walks.{IsGoing};
 ghost use Rattle.protocol.specs.declared.event.Event.TheVariants.{Kill, Step};
@@ -36,7 +36,7 @@ pub(crate) fn kill(
 ) -> Note
     requires kernel { kernel.old.threads ≡ layout.now.threads }
     requires threads { length threads.old.items ≡ layout.now.threads }
-    requires heads { thread ≤ layout.now.threads → head_of kernel.old thread ≡ head_place thread }
+    requires heads { thread ≤ layout.now.threads → head_of kernel.old thread ≡ address_in layout.now thread (head_place thread) }
     ensures state { (ws : List ℕ) → state_at layout.now ws kernel.new threads.new.items ≡ (happens (state_at layout.now ws kernel.old threads.old.items) (Kill thread)).state }
     ensures note { (ws : List ℕ) → result ≡ (happens (state_at layout.now ws kernel.old threads.old.items) (Kill thread)).note }
     ensures kernel { kernel.new.threads ≡ kernel.old.threads }
@@ -69,12 +69,15 @@ fn mutex_at(layout: &Layout, place: u64) -> Option<u16>
     layout.mutex_of(place)
 }
 
-/// The mutex of which an access of a walk told the owner's death.
-fn death_told(layout: &Layout, progress: &Progress) -> Option<u16>
-    ensures { result ≡ death_at layout.now (point_in progress.now) }
+/// The mutex of which an access of a thread's walk told the owner's death, by its cell's address in the thread's process.
+fn death_told(layout: &Layout, thread: Tid, progress: &Progress) -> Option<u16>
+    requires { thread ≤ layout.now.threads }
+    ensures { result ≡ death_at layout.now thread (point_in progress.now) }
 {
     match *progress {
-        Progress::Goes { point } | Progress::Returns { point, .. } => mutex_at(layout, point?.at),
+        Progress::Goes { point } | Progress::Returns { point, .. } => {
+            mutex_at(layout, layout.place(thread, point?.at)?)
+        }
     }
 }
 
@@ -130,9 +133,10 @@ pub(crate) fn walk_on(
     ensures threads { length threads.new.items ≡ length threads.old.items }
 {
     let mut walk = walk;
-    let done = perform(memory, kernel, thread, &walk.next());
+    let base = layout.base(thread);
+    let done = perform(memory, kernel, base, thread, &walk.next());
     let progress = walk.resume(done.answer);
-    let death = death_told(layout, &progress);
+    let death = death_told(layout, thread, &progress);
     let index = usize::from(thread.get()) - 1;
     let held = threads[index].held;
     threads[index] = Thread {

@@ -11,7 +11,7 @@ ghost use Rattle.interleave.specs.Notes.{is_nothing, are_nothing};
 ghost use Rattle.interleave.specs.Reached.{IsFirst};
 ghost use Rattle.interleave.specs.Reapings.{is_reaped};
 
-use crate::copies::{same_layout, same_threads};
+use crate::copies::same_threads;
 use crate::threads::{apply, is_calling, is_dying, is_reaped};
 use crate::trace::{Trace, push_in_room};
 use buckets::Batch;
@@ -67,7 +67,7 @@ fn first_threads(alloc: Global, layout: &Layout) -> Result<Vec<Thread>, AllocErr
     vec![in alloc; thread; usize::from(layout.threads())]
 }
 
-/// A kernel where nobody sleeps, and each thread has set the head at its place.
+/// A kernel where nobody sleeps, and each thread has set its head, by the address that this has in its process.
 fn first_kernel(alloc: Global, layout: &Layout) -> Result<Kernel, NoMem>
     ensures { IfOk result (IsFirst layout.now) }
 {
@@ -76,7 +76,8 @@ fn first_kernel(alloc: Global, layout: &Layout) -> Result<Kernel, NoMem>
         let Some(thread) = Tid::new(before + 1) else {
             unreachable!()
         };
-        let _ = kernel.set_robust_list(thread, layout.head(thread), HEAD_SIZE);
+        let head = layout.address(thread, layout.head(thread));
+        let _ = kernel.set_robust_list(thread, head, HEAD_SIZE);
     }
     Ok(kernel)
 }
@@ -248,7 +249,7 @@ impl Machine {
             return Err(NoMem);
         };
         Ok(Machine {
-            layout: same_layout(&self.layout),
+            layout: self.layout.copy(),
             memory,
             kernel,
             threads: same_threads(alloc, &self.threads)?,

@@ -1,6 +1,6 @@
 //! The machine's threads.
 ghost use Rattle.std.specs.Prelude.{◌≡◌, ◌<◌, ◌≤◌, ℕ, List, true, length};
-ghost use Rattle.keys.specs.Layouts.{words_of, head_place};
+ghost use Rattle.keys.specs.Layouts.{words_of, head_place, address_in};
 ghost use Rattle.mutex.specs.Whole.{IsUnderWay};
 ghost use Rattle.condvar.specs.Whole as condition;
 ghost use Rattle.protocol.specs.declared.event.Op.TheVariants.{OnCondition};
@@ -244,7 +244,8 @@ fn go_on(
     ensures threads { length threads.new.items ≡ length threads.old.items }
 {
     let mut program = program;
-    let done = perform(memory, kernel, thread, &program.next());
+    let base = layout.base(thread);
+    let done = perform(memory, kernel, base, thread, &program.next());
     let progress = program.resume(done.answer);
     let index = usize::from(thread.get()) - 1;
     let held = threads[index].held;
@@ -283,7 +284,8 @@ fn go_on_at(
     ensures threads { length threads.new.items ≡ length threads.old.items }
 {
     let mut program = program;
-    let done = perform(memory, kernel, thread, &program.next());
+    let base = layout.base(thread);
+    let done = perform(memory, kernel, base, thread, &program.next());
     let progress = program.resume(done.answer);
     let index = usize::from(thread.get()) - 1;
     let held = threads[index].held;
@@ -346,7 +348,7 @@ pub(crate) fn apply(
     requires words { length memory.old ≡ words_of layout.now }
     requires kernel { kernel.old.threads ≡ layout.now.threads }
     requires threads { length threads.old.items ≡ layout.now.threads }
-    requires heads { (t : ℕ) → 1 ≤ t → t ≤ layout.now.threads → head_of kernel.old t ≡ head_place t }
+    requires heads { (t : ℕ) → 1 ≤ t → t ≤ layout.now.threads → head_of kernel.old t ≡ address_in layout.now t (head_place t) }
     requires goes { (t : ℕ) → 1 ≤ t → t ≤ layout.now.threads → MayStep layout.now (thread_at threads.old.items t) }
     requires sleeps { (t : ℕ) → SleepsInItsCall (state_at layout.now memory.old kernel.old threads.old.items) t }
     ensures state { state_at layout.now memory.new kernel.new threads.new.items ≡ (happens (state_at layout.now memory.old kernel.old threads.old.items) event).state }

@@ -1,6 +1,7 @@
 use Rattle.std.proofs.Common.{◌≡◌, ◌+◌, ◌-◌, ℕ, Option, arith, sym, ap, ◌∙◌, subst, slice_index_or, slice_set}
 use Rattle.std.proofs.lemmas.Grind.{common_steps}
 use Rattle.keys.specs.declared.access.Access.{Access}
+use Rattle.keys.specs.Layouts.{base_of}
 use Rattle.keys.specs.declared.point.Operation.TheVariants.{Death}
 use Rattle.exitwalk.specs.Walks.{access_of}
 use Rattle.protocol.specs.declared.thread.Thread.{Thread}
@@ -25,9 +26,9 @@ returns-clause-state c =
     let is = thread_at-index ts k c.args.thread at ∙ sym read in
     let w = c.args.walk in
     let dies : c.index.result.now.stage ≡ Dying w = ap (λ (z : Thread). z.stage) (sym is) ∙ c.requires.stands in
-    let performs : Performs ws kernel c.perform-done.new.kernel c.args.thread (access_of w) c.perform-done.result =
-    subst (λ (a : Access). Performs ws kernel c.perform-done.new.kernel c.args.thread a c.perform-done.result) c.next.ensures c.perform-done.ensures.performs in
-    let wrote : c.perform-done.new.memory ≡ list_words ws kernel (access_of w) = c.perform-done.ensures.words ∙ ap (λ (a : Access). list_words ws kernel a) c.next.ensures in
+    let performs : Performs ws kernel c.perform-done.new.kernel (base_of l c.args.thread) c.args.thread (access_of w) c.perform-done.result =
+    subst (λ (x : ℕ × Access). Performs ws kernel c.perform-done.new.kernel x.0 c.args.thread x.1 c.perform-done.result) (λ i. (c.base-base.ensures.value i, c.next.ensures i)) c.perform-done.ensures.performs in
+    let wrote : c.perform-done.new.memory ≡ list_words ws kernel (base_of l c.args.thread) (access_of w) = c.perform-done.ensures.words ∙ (λ i. list_words ws kernel (c.base-base.ensures.value i) (c.next.ensures i)) in
     let held : c.held_walked.result ≡ held_after c.index.result.now.held Death (told_of _) = c.held_walked.ensures ∙ ap (λ (d : Option ℕ). held_after c.index.result.now.held Death (told_of d)) c.death_told-death.ensures in
     (λ i. state_at l c.perform-done.new.memory c.perform-done.new.kernel (slice_set ts k (record { stage = c.stage_walked.ensures i; held = held i })))
     ∙ walk_state l ws c.perform-done.new.memory kernel c.perform-done.new.kernel ts k c.args.thread w c.resume-progress.new.self c.index.result.now c.perform-done.result c.resume-progress.result
@@ -45,9 +46,9 @@ returns-clause-note c =
     let is = thread_at-index ts k c.args.thread at ∙ sym read in
     let w = c.args.walk in
     let dies : c.index.result.now.stage ≡ Dying w = ap (λ (z : Thread). z.stage) (sym is) ∙ c.requires.stands in
-    let performs : Performs ws kernel c.perform-done.new.kernel c.args.thread (access_of w) c.perform-done.result =
-    subst (λ (a : Access). Performs ws kernel c.perform-done.new.kernel c.args.thread a c.perform-done.result) c.next.ensures c.perform-done.ensures.performs in
-    let wrote : c.perform-done.new.memory ≡ list_words ws kernel (access_of w) = c.perform-done.ensures.words ∙ ap (λ (a : Access). list_words ws kernel a) c.next.ensures in
+    let performs : Performs ws kernel c.perform-done.new.kernel (base_of l c.args.thread) c.args.thread (access_of w) c.perform-done.result =
+    subst (λ (x : ℕ × Access). Performs ws kernel c.perform-done.new.kernel x.0 c.args.thread x.1 c.perform-done.result) (λ i. (c.base-base.ensures.value i, c.next.ensures i)) c.perform-done.ensures.performs in
+    let wrote : c.perform-done.new.memory ≡ list_words ws kernel (base_of l c.args.thread) (access_of w) = c.perform-done.ensures.words ∙ (λ i. list_words ws kernel (c.base-base.ensures.value i) (c.next.ensures i)) in
     (λ i. Walked c.args.thread (c.death_told-death.ensures i) c.perform-done.result.woken (c.has_returned.ensures i))
     ∙ walk_note l ws c.perform-done.new.memory kernel c.perform-done.new.kernel ts k c.args.thread w c.resume-progress.new.self c.index.result.now c.perform-done.result c.resume-progress.result
     c.requires.known at c.requires.threads c.requires.words is dies performs wrote c.resume-progress.ensures.row c.resume-progress.ensures.progress

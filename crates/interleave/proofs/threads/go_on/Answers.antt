@@ -1,6 +1,7 @@
 use Rattle.std.proofs.Common.{◌≡◌, ◌+◌, ◌-◌, false, ℕ, arith, sym, ap, ◌∙◌, subst, slice_index_or, slice_set}
 use Rattle.std.proofs.lemmas.Grind.{common_steps}
 use Rattle.keys.specs.declared.access.Access.{Access}
+use Rattle.keys.specs.Layouts.{base_of}
 use Rattle.keys.specs.declared.access.Answer.{Answer}
 use Rattle.mutex.specs.Whole.{whole_access, whole_led}
 use Rattle.facts.specs.declared.fact.Queue.TheVariants.{Mutex}
@@ -31,9 +32,9 @@ returns-clause-state c =
     let is = thread_at-index ts k t at ∙ sym read in
     let stands : c.index.result.now.stage ≡ Calling o p = ap (λ (z : Thread). z.stage) (sym is) ∙ c.requires.stands in
     let awake : (key : ℕ) → stands_in t (queue_of kernel key) ≡ false = λ key. outside t (queue_of kernel key) (c.requires.awake key) in
-    let performs : Performs ws kernel c.perform-done.new.kernel t (whole_access p) c.perform-done.result =
-    subst (λ (a : Access). Performs ws kernel c.perform-done.new.kernel t a c.perform-done.result) c.next.ensures c.perform-done.ensures.performs in
-    let wrote : c.perform-done.new.memory ≡ list_words ws kernel (whole_access p) = c.perform-done.ensures.words ∙ ap (λ (a : Access). list_words ws kernel a) c.next.ensures in
+    let performs : Performs ws kernel c.perform-done.new.kernel (base_of l t) t (whole_access p) c.perform-done.result =
+    subst (λ (x : ℕ × Access). Performs ws kernel c.perform-done.new.kernel x.0 t x.1 c.perform-done.result) (λ i. (c.base-base.ensures.value i, c.next.ensures i)) c.perform-done.ensures.performs in
+    let wrote : c.perform-done.new.memory ≡ list_words ws kernel (base_of l t) (whole_access p) = c.perform-done.ensures.words ∙ (λ i. list_words ws kernel (c.base-base.ensures.value i) (c.next.ensures i)) in
     let made = made_called t (mutex_of l o) c.index.result.now.held o p c.resume-progress.new.self (whole_led p c.perform-done.result.answer) c.resume-progress.result c.resume-progress.ensures.phase c.resume-progress.ensures.progress in
     let held : c.held_after.result ≡ held_with c.index.result.now.held (point_in c.resume-progress.result) = c.held_after.ensures ∙ ap (held_with c.index.result.now.held) c.point.ensures in
     (λ i. state_at l c.perform-done.new.memory c.perform-done.new.kernel (slice_set ts k (record { stage = c.stage_after.ensures i; held = held i })))
@@ -55,9 +56,9 @@ returns-clause-note c =
     let is = thread_at-index ts k t at ∙ sym read in
     let stands : c.index.result.now.stage ≡ Calling o p = ap (λ (z : Thread). z.stage) (sym is) ∙ c.requires.stands in
     let awake : (key : ℕ) → stands_in t (queue_of kernel key) ≡ false = λ key. outside t (queue_of kernel key) (c.requires.awake key) in
-    let performs : Performs ws kernel c.perform-done.new.kernel t (whole_access p) c.perform-done.result =
-    subst (λ (a : Access). Performs ws kernel c.perform-done.new.kernel t a c.perform-done.result) c.next.ensures c.perform-done.ensures.performs in
-    let wrote : c.perform-done.new.memory ≡ list_words ws kernel (whole_access p) = c.perform-done.ensures.words ∙ ap (λ (a : Access). list_words ws kernel a) c.next.ensures in
+    let performs : Performs ws kernel c.perform-done.new.kernel (base_of l t) t (whole_access p) c.perform-done.result =
+    subst (λ (x : ℕ × Access). Performs ws kernel c.perform-done.new.kernel x.0 t x.1 c.perform-done.result) (λ i. (c.base-base.ensures.value i, c.next.ensures i)) c.perform-done.ensures.performs in
+    let wrote : c.perform-done.new.memory ≡ list_words ws kernel (base_of l t) (whole_access p) = c.perform-done.ensures.words ∙ (λ i. list_words ws kernel (c.base-base.ensures.value i) (c.next.ensures i)) in
     let made = made_called t (mutex_of l o) c.index.result.now.held o p c.resume-progress.new.self (whole_led p c.perform-done.result.answer) c.resume-progress.result c.resume-progress.ensures.phase c.resume-progress.ensures.progress in
     let me : c.mutex_of-mutex.result ≡ mutex_of l o = c.mutex_of-mutex.ensures in
     c.stepped.ensures

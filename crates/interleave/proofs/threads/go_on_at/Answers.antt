@@ -1,6 +1,7 @@
-use Rattle.std.proofs.Common.{◌≡◌, ◌+◌, ◌-◌, arith, sym, ap, ◌∙◌, subst, slice_index_or, slice_set}
+use Rattle.std.proofs.Common.{◌≡◌, ◌+◌, ◌-◌, ℕ, arith, sym, ap, ◌∙◌, subst, slice_index_or, slice_set}
 use Rattle.std.proofs.lemmas.Grind.{common_steps}
 use Rattle.keys.specs.declared.access.Access.{Access}
+use Rattle.keys.specs.Layouts.{base_of}
 use Rattle.keys.specs.declared.access.Answer.{Answer}
 use Rattle.condvar.specs.Calls.{condition_of}
 use Rattle.condvar.specs.Whole.{cond_access, cond_led}
@@ -31,9 +32,9 @@ returns-clause-state c =
     let read : c.index.result.now ≡ slice_index_or ts k idle = grind (arith, common_steps) in
     let is = thread_at-index ts k t at ∙ sym read in
     let stands : c.index.result.now.stage ≡ AtCondition c.args.call p = ap (λ (z : Thread). z.stage) (sym is) ∙ c.requires.stands in
-    let performs : Performs ws kernel c.perform-done.new.kernel t (cond_access p) c.perform-done.result =
-    subst (λ (a : Access). Performs ws kernel c.perform-done.new.kernel t a c.perform-done.result) c.next.ensures c.perform-done.ensures.performs in
-    let wrote : c.perform-done.new.memory ≡ list_words ws kernel (cond_access p) = c.perform-done.ensures.words ∙ ap (λ (a : Access). list_words ws kernel a) c.next.ensures in
+    let performs : Performs ws kernel c.perform-done.new.kernel (base_of l t) t (cond_access p) c.perform-done.result =
+    subst (λ (x : ℕ × Access). Performs ws kernel c.perform-done.new.kernel x.0 t x.1 c.perform-done.result) (λ i. (c.base-base.ensures.value i, c.next.ensures i)) c.perform-done.ensures.performs in
+    let wrote : c.perform-done.new.memory ≡ list_words ws kernel (base_of l t) (cond_access p) = c.perform-done.ensures.words ∙ (λ i. list_words ws kernel (c.base-base.ensures.value i) (c.next.ensures i)) in
     let made = made_at t (mutex_of l o) c.index.result.now.held c.args.call p c.resume-progress.new.self (cond_led p c.perform-done.result.answer) c.resume-progress.result c.resume-progress.ensures.phase c.resume-progress.ensures.progress in
     let held : c.held_after.result ≡ held_with c.index.result.now.held (point_in c.resume-progress.result) = c.held_after.ensures ∙ ap (held_with c.index.result.now.held) c.point.ensures in
     (λ i. state_at l c.perform-done.new.memory c.perform-done.new.kernel (slice_set ts k (record { stage = c.stage_at.ensures i; held = held i })))
@@ -54,9 +55,9 @@ returns-clause-note c =
     let read : c.index.result.now ≡ slice_index_or ts k idle = grind (arith, common_steps) in
     let is = thread_at-index ts k t at ∙ sym read in
     let stands : c.index.result.now.stage ≡ AtCondition c.args.call p = ap (λ (z : Thread). z.stage) (sym is) ∙ c.requires.stands in
-    let performs : Performs ws kernel c.perform-done.new.kernel t (cond_access p) c.perform-done.result =
-    subst (λ (a : Access). Performs ws kernel c.perform-done.new.kernel t a c.perform-done.result) c.next.ensures c.perform-done.ensures.performs in
-    let wrote : c.perform-done.new.memory ≡ list_words ws kernel (cond_access p) = c.perform-done.ensures.words ∙ ap (λ (a : Access). list_words ws kernel a) c.next.ensures in
+    let performs : Performs ws kernel c.perform-done.new.kernel (base_of l t) t (cond_access p) c.perform-done.result =
+    subst (λ (x : ℕ × Access). Performs ws kernel c.perform-done.new.kernel x.0 t x.1 c.perform-done.result) (λ i. (c.base-base.ensures.value i, c.next.ensures i)) c.perform-done.ensures.performs in
+    let wrote : c.perform-done.new.memory ≡ list_words ws kernel (base_of l t) (cond_access p) = c.perform-done.ensures.words ∙ (λ i. list_words ws kernel (c.base-base.ensures.value i) (c.next.ensures i)) in
     let made = made_at t (mutex_of l o) c.index.result.now.held c.args.call p c.resume-progress.new.self (cond_led p c.perform-done.result.answer) c.resume-progress.result c.resume-progress.ensures.phase c.resume-progress.ensures.progress in
     let me : c.mutex_of-mutex.result ≡ mutex_of l o = c.mutex_of-mutex.ensures in
     c.stepped.ensures
