@@ -41,14 +41,14 @@ returned_point p n x result reply point at is progress =
     returned (point_of p.thread p.cell (row_operation p.row) (led_at p n).point) point (led_at p n).row reply e
 
 -- the count after the access
-pub counted_after : (p : Standing) (c d : Card) (n h h' : ℕ) (point : Option Point) → IsGoing p.row → IsStep (access_of p) → Ready p c → Made p c n d → h ≡ held c → h' ≡ count_after h point → point ≡ point_of p.thread p.cell (row_operation p.row) (led_at p n).point → h' ≡ held d
-counted_after p c d n h h' point going step ready m was is told = is ∙ ap (λ (x : Option Point). count_after h x) told ∙ ap (λ (x : ℕ). count_after x (point_of p.thread p.cell (row_operation p.row) (led_at p n).point)) was ∙ sym (held_made p c d n going step ready m)
+pub counted_after : (p : Standing) (q : ℕ) (c d : Card) (n h h' : ℕ) (point : Option Point) → IsGoing p.row → IsStep (access_of p) → Ready p c → Made p q c n d → h ≡ held c → h' ≡ count_after h point → point ≡ point_of p.thread p.cell (row_operation p.row) (led_at p n).point → h' ≡ held d
+counted_after p q c d n h h' point going step ready m was is told = is ∙ ap (λ (x : Option Point). count_after h x) told ∙ ap (λ (x : ℕ). count_after x (point_of p.thread p.cell (row_operation p.row) (led_at p n).point)) was ∙ sym (held_made p q c d n going step ready m)
 
-pub room_made : (p : Standing) (c d : Card) (n h h' : ℕ) (point : Option Point) → IsGoing p.row → IsStep (access_of p) → Ready p c → Made p c n d → h ≤ most p.row → h' ≡ count_after h point → point ≡ point_of p.thread p.cell (row_operation p.row) (led_at p n).point
+pub room_made : (p : Standing) (q : ℕ) (c d : Card) (n h h' : ℕ) (point : Option Point) → IsGoing p.row → IsStep (access_of p) → Ready p c → Made p q c n d → h ≤ most p.row → h' ≡ count_after h point → point ≡ point_of p.thread p.cell (row_operation p.row) (led_at p n).point
     → h' ≤ most (led_at p n).row
-room_made p c d n h h' point going step ready m room is told =
-    subst (λ (x : ℕ). x ≤ most (led_at p n).row) (sym (is ∙ ap (λ (x : Option Point). count_after h x) told)) (room_after p c d n h going step ready m room)
+room_made p q c d n h h' point going step ready m room is told =
+    subst (λ (x : ℕ). x ≤ most (led_at p n).row) (sym (is ∙ ap (λ (x : Option Point). count_after h x) told)) (room_after p q c d n h going step ready m room)
 
-pub few_made : (p : Standing) (c d : Card) (n h h' : ℕ) (point : Option Point) → IsGoing p.row → IsStep (access_of p) → Ready p c → Made p c n d → h ≤ most p.row → h' ≡ count_after h point → point ≡ point_of p.thread p.cell (row_operation p.row) (led_at p n).point
+pub few_made : (p : Standing) (q : ℕ) (c d : Card) (n h h' : ℕ) (point : Option Point) → IsGoing p.row → IsStep (access_of p) → Ready p c → Made p q c n d → h ≤ most p.row → h' ≡ count_after h point → point ≡ point_of p.thread p.cell (row_operation p.row) (led_at p n).point
     → h' ≤ 2048
-few_made p c d n h h' point going step ready m room is told = few_after h' (led_at p n).row (room_made p c d n h h' point going step ready m room is told)
+few_made p q c d n h h' point going step ready m room is told = few_after h' (led_at p n).row (room_made p q c d n h h' point going step ready m room is told)

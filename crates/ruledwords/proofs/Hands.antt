@@ -1,6 +1,6 @@
 -- Cards that are dealt and gathered, and the first and the last words.
 use Rattle.std.proofs.Common.{Bool, true, false, ◌≡◌, ◌≢◌, ⊎_elim, ℕ, zero, suc, ◌+◌, ◌-◌, ◌<◌, ◌≤◌, ◌==◌, Option, Some, List, [], ◌∷◌, ◌++◌, length, get_or, set, drop, refl, sym, ap, ◌∙◌, subst, arith, eq-eqb, ne_eqb, length-drop}
-use Rattle.std.specs.Prelude.{if◌then◌else◌, slice_index}
+use Rattle.std.specs.Prelude.{◌%◌, if◌then◌else◌, slice_index}
 use Rattle.std.proofs.lemmas.Bool.Decides.{nat_tests}
 use Rattle.std.proofs.lemmas.List.{ext_get_or, get_or-drop}
 use mathlib.Core.Logic.{dite}
@@ -13,7 +13,7 @@ use Rattle.atomic_table.proofs.Lists.{at_set, at_snoc}
 use Rattle.lockword.specs.Cells.{fields_of}
 use Rattle.keys.specs.declared.object.Object.{Object}
 use Rattle.keys.specs.declared.point.Point.{Point}
-use Rattle.keys.specs.Layouts.{Layout', IsLayout, head_place, cell_place, counter_place, words_of, cell_offset, head_word}
+use Rattle.keys.specs.Layouts.{Layout', IsLayout, head_place, cell_place, counter_place, words_of, address_in, thread_of, cell_offset, head_word}
 use Rattle.keys.specs.Objects.{fresh, object_of}
 use Rattle.ruledwords.specs.declared.card.Card.{Card}
 use Rattle.ruledwords.specs.Cards.{at, value_at, put_value}
@@ -174,11 +174,11 @@ ends_alone k o words xs (s, h, same, deep, homes) = kept_ends k o words s h [] s
 
 -- ---- the beginning
 
-none_below : (a u t n : ℕ) → u < t → cards_of u (hand a t n) ≡ 0
+none_below : (a : Layout') (u t n : ℕ) → u < t → cards_of u (hand a t n) ≡ 0
 none_below a u t zero low = refl
 none_below a u t (suc n) low = let r = none_below a u (t + 1) n (omega arith) in one_or_none u t (hand a (t + 1) n) a (omega arith) r
 
-hand_once : (a u t n : ℕ) → cards_of u (hand a t n) ≤ 1
+hand_once : (a : Layout') (u t n : ℕ) → cards_of u (hand a t n) ≤ 1
 hand_once a u t zero = omega arith
 hand_once a u t (suc n) = elim (ℕ_discrete t u) [
   | yes e ↦ (let r = none_below a u (t + 1) n (omega arith) in let b : if◌then◌else◌ {A = ℕ} (t == u) 1 0 ≤ 1 = bit_le (t == u) in omega arith)
@@ -193,7 +193,7 @@ hand_once a u t (suc n) = elim (ℕ_discrete t u) [
 abbrev pub Opens : Layout' → List ℕ → List ℕ → Type 0
 Opens k counters ws = (length ws ≡ words_of k) × ((p : ℕ) → p < words_of k → slice_index ws p ≡ opening_word k counters p)
 
-head_first : (k : Layout') (counters : List ℕ) (p : ℕ) → p < cell_place k 0 → opening_word k counters p ≡ head_word p
+head_first : (k : Layout') (counters : List ℕ) (p : ℕ) → p < cell_place k 0 → opening_word k counters p ≡ head_word k p
 head_first k counters p low = grind (arith, nat_tests)
 
 cell_first : (k : Layout') (counters : List ℕ) (m : ℕ) → m < k.mutexes → opening_word k counters (cell_place k m) ≡ 0
@@ -202,45 +202,59 @@ cell_first k counters m low = grind (arith, nat_tests)
 counter_first : (k : Layout') (counters : List ℕ) (q : ℕ) → q < length k.conditions → opening_word k counters (counter_place k q) ≡ slice_index counters q
 counter_first k counters q low = grind (arith, nat_tests)
 
-first_entry : (t : ℕ) → 1 ≤ t → head_word (head_place t) ≡ head_place t
-first_entry t pos = grind (arith, nat_tests)
+-- a head's words, by which of the three they are
+abbrev by_word : Layout' → ℕ → Bool → Bool → ℕ
+by_word k p first second = if first then address_in k (thread_of p) p else if second then cell_offset else 0
 
-first_offset : (t : ℕ) → 1 ≤ t → head_word (head_place t + 1) ≡ cell_offset
-first_offset t pos = grind (arith, nat_tests)
+first_entry : (k : Layout') (t : ℕ) → 1 ≤ t → head_word k (head_place t) ≡ address_in k t (head_place t)
+first_entry k t pos =
+    let is : (head_place t % 3 == 1) ≡ true = grind (arith, nat_tests) in
+    let mine : thread_of (head_place t) ≡ t = omega arith in
+    ap (λ (b : Bool). by_word k (head_place t) b (head_place t % 3 == 2)) is ∙ ap (λ (u : ℕ). address_in k u (head_place t)) mine
 
-first_pending : (t : ℕ) → 1 ≤ t → head_word (head_place t + 2) ≡ 0
-first_pending t pos = grind (arith, nat_tests)
+first_offset : (k : Layout') (t : ℕ) → 1 ≤ t → head_word k (head_place t + 1) ≡ cell_offset
+first_offset k t pos =
+    let not_first : ((head_place t + 1) % 3 == 1) ≡ false = grind (arith, nat_tests) in
+    let is : ((head_place t + 1) % 3 == 2) ≡ true = grind (arith, nat_tests) in
+    λ i. by_word k (head_place t + 1) (not_first i) (is i)
+
+first_pending : (k : Layout') (t : ℕ) → 1 ≤ t → head_word k (head_place t + 2) ≡ 0
+first_pending k t pos =
+    let not_first : ((head_place t + 2) % 3 == 1) ≡ false = grind (arith, nat_tests) in
+    let not_second : ((head_place t + 2) % 3 == 2) ≡ false = grind (arith, nat_tests) in
+    λ i. by_word k (head_place t + 2) (not_first i) (not_second i)
 
 value_none : (p x : ℕ) → value_at [] p ≡ Some x → ⊥
 value_none p x e = cc
 
 -- what a thread knows of its head is so
-first_known : (t p x : ℕ) → 1 ≤ t → value_at (first_values t) p ≡ Some x → (head_place t ≤ p) × (p < head_place t + 3) × (head_word p ≡ x)
-first_known t p x pos e =
+first_known : (k : Layout') (t p x : ℕ) → 1 ≤ t → value_at (first_values k t) p ≡ Some x → (head_place t ≤ p) × (p < head_place t + 3) × (head_word k p ≡ x)
+first_known k t p x pos e =
     let h : ℕ = head_place t in
-    let one : List (Option ℕ) = put_value [] h (Some h) in
+    let own : ℕ = address_in k t h in
+    let one : List (Option ℕ) = put_value [] h (Some own) in
     let two : List (Option ℕ) = put_value one (h + 1) (Some cell_offset) in
     dite (ℕ_discrete p (h + 2))
     (λ here. let is : Some 0 ≡ Some x = sym (value_put two (h + 2) (Some 0)) ∙ subst (λ (z : ℕ). value_at (put_value two (h + 2) (Some 0)) z ≡ Some x) here e in let x0 : 0 ≡ x = cc in
-    (omega arith, omega arith, ap head_word here ∙ first_pending t pos ∙ x0))
+    (omega arith, omega arith, ap (head_word k) here ∙ first_pending k t pos ∙ x0))
     (λ not2. let e2 : value_at two p ≡ Some x = sym (value_put_else two (h + 2) p (Some 0) not2) ∙ e in
     dite (ℕ_discrete p (h + 1))
     (λ here. let is : Some cell_offset ≡ Some x = sym (value_put one (h + 1) (Some cell_offset)) ∙ subst (λ (z : ℕ). value_at two z ≡ Some x) here e2 in let x1 : cell_offset ≡ x = cc in
-    (omega arith, omega arith, ap head_word here ∙ first_offset t pos ∙ x1))
+    (omega arith, omega arith, ap (head_word k) here ∙ first_offset k t pos ∙ x1))
     (λ not1. let e1 : value_at one p ≡ Some x = sym (value_put_else one (h + 1) p (Some cell_offset) not1) ∙ e2 in
     dite (ℕ_discrete p h)
-    (λ here. let is : Some h ≡ Some x = sym (value_put [] h (Some h)) ∙ subst (λ (z : ℕ). value_at one z ≡ Some x) here e1 in let xh : h ≡ x = cc in
-    (omega arith, omega arith, ap head_word here ∙ first_entry t pos ∙ xh))
-    (λ not0. absurd (value_none p x (sym (value_put_else [] h p (Some h) not0) ∙ e1)))))
+    (λ here. let is : Some own ≡ Some x = sym (value_put [] h (Some own)) ∙ subst (λ (z : ℕ). value_at one z ≡ Some x) here e1 in let xh : own ≡ x = cc in
+    (omega arith, omega arith, ap (head_word k) here ∙ first_entry k t pos ∙ xh))
+    (λ not0. absurd (value_none p x (sym (value_put_else [] h p (Some own) not0) ∙ e1)))))
 
-first_fits : (k : Layout') (counters ws : List ℕ) (t : ℕ) → Opens k counters ws → 1 ≤ t → t ≤ k.threads → Fits k ws [] (first_card k.threads t)
+first_fits : (k : Layout') (counters ws : List ℕ) (t : ℕ) → Opens k counters ws → 1 ≤ t → t ≤ k.threads → Fits k ws [] (first_card k t)
 first_fits k counters ws t opens pos low = record {
   thread = (pos, low);
   threads = refl;
   begins = λ p. prefix_self [];
   own = λ p. refl;
   values = λ p x e.
-      let known = first_known t p x pos e in
+      let known = first_known k t p x pos e in
       let from = known.0 in
       let to = known.1 in
       let before : p < cell_place k 0 = omega arith in
@@ -248,11 +262,11 @@ first_fits k counters ws t opens pos low = record {
   marks = λ m lower e own. absurd (cc e);
 }
 
-hand_fits : (k : Layout') (counters ws : List ℕ) (n t : ℕ) → Opens k counters ws → 1 ≤ t → t + n ≤ k.threads + 1 → AllFit k ws [] (hand k.threads t n)
+hand_fits : (k : Layout') (counters ws : List ℕ) (n t : ℕ) → Opens k counters ws → 1 ≤ t → t + n ≤ k.threads + 1 → AllFit k ws [] (hand k t n)
 hand_fits k counters ws zero t opens pos most = tt
 hand_fits k counters ws (suc n) t opens pos most = (first_fits k counters ws t opens pos (omega arith), hand_fits k counters ws n (t + 1) opens (omega arith) (omega arith))
 
-pub opens_kept : (k : Layout') (counters ws : List ℕ) → IsLayout k → ((q : ℕ) → slice_index counters q < 4294967296) → Opens k counters ws → Kept k counters (opening ws [] (hand k.threads 1 k.threads))
+pub opens_kept : (k : Layout') (counters ws : List ℕ) → IsLayout k → ((q : ℕ) → slice_index counters q < 4294967296) → Opens k counters ws → Kept k counters (opening ws [] (hand k 1 k.threads))
 opens_kept k counters ws layout small opens = record {
   layout = layout;
   wide = opens.0;
@@ -263,10 +277,10 @@ opens_kept k counters ws layout small opens = record {
   unchanged = λ q low. opens.1 (counter_place k q) (omega arith) ∙ counter_first k counters q low;
   counters = λ q low. let is : slice_index ws (counter_place k q) ≡ slice_index counters q = opens.1 (counter_place k q) (omega arith) ∙ counter_first k counters q low in subst (λ (z : ℕ). z < 4294967296) (sym is) (small q);
   fits = λ j v e. only j v e;
-  once = λ t. let a = hand_once k.threads t 1 k.threads in omega arith;
+  once = λ t. let a = hand_once k t 1 k.threads in omega arith;
 }
   where
-    only : (j : ℕ) (v : List Card) → get_elem? (hand k.threads 1 k.threads ∷ []) j ≡ some v → AllFit k ws [] v
+    only : (j : ℕ) (v : List Card) → get_elem? (hand k 1 k.threads ∷ []) j ≡ some v → AllFit k ws [] v
     only zero v e = subst (AllFit k ws []) (some-injective _ _ e) (hand_fits k counters ws k.threads 1 opens (omega arith) (omega arith))
     only (suc j) v e = absurd (some-ne-none v (sym e))
 
@@ -280,11 +294,11 @@ presets_are k counters ws many opens =
     (λ q low. let lower : q < length k.conditions = omega arith in let place : counter_place k 0 + q ≡ counter_place k q = omega arith in
     get_or-drop (counter_place k 0) ws q 0 ∙ ap (λ (p : ℕ). get_or ws p 0) place ∙ opens.1 (counter_place k q) (omega arith) ∙ counter_first k counters q lower)
 
-pub dealt_first : (a t n : ℕ) → 0 < n → first_of (hand a t n) ≡ first_card a t ∷ []
+pub dealt_first : (a : Layout') (t n : ℕ) → 0 < n → first_of (hand a t n) ≡ first_card a t ∷ []
 dealt_first a t zero pos = absurd (omega arith)
 dealt_first a t (suc n) pos = refl
 
-pub dealt_rest : (a t n : ℕ) → 0 < n → rest_of (hand a t n) ≡ hand a (t + 1) (n - 1)
+pub dealt_rest : (a : Layout') (t n : ℕ) → 0 < n → rest_of (hand a t n) ≡ hand a (t + 1) (n - 1)
 dealt_rest a t zero pos = absurd (omega arith)
 dealt_rest a t (suc n) pos = ap (λ (z : ℕ). hand a (t + 1) z) (let e : n ≡ suc n - 1 = omega arith in e)
 

@@ -1,4 +1,5 @@
 mod Lists
+mod Cards
 mod Held
 mod Keepers
 mod Moves
@@ -11,5 +12,7 @@ mod Standing
 mod Accesses
 mod Beginnings
 mod Looks
+mod Freeing
+pub mod Fates
 mod Sections
 mod Turning

@@ -40,7 +40,7 @@ is_owner : (t a : ℕ) → 1 ≤ t → a ≡ t → is_thread t (owner_of a) ≡ 
 is_owner t zero pos e = absurd (omega arith)
 is_owner t (suc a) pos e = eq-eqb (suc a) t e
 
-owner_is : (t a : ℕ) → is_thread t (owner_of a) ≡ true → a ≡ t
+pub owner_is : (t a : ℕ) → is_thread t (owner_of a) ≡ true → a ≡ t
 owner_is t zero e = absurd (cc e)
 owner_is t (suc a) e = eqb-true (suc a) t e
 
@@ -55,7 +55,7 @@ owner_was t v n xs pos none run own = owner_is t (fields_of v).owner (others_run
 
 -- the card after it saw the list xs at p
 abbrev pub after : Card → ℕ → List Point → ℕ → ℕ → List (Option ℕ) → Bool → Card
-after c p xs misses last vs mark = record { threads = c.threads; thread = c.thread; seen = put c.seen p xs; misses = misses; last = last; values = vs; marks = put_mark c.marks p mark }
+after c p xs misses last vs mark = record { threads = c.threads; thread = c.thread; base = c.base; seen = put c.seen p xs; misses = misses; last = last; values = vs; marks = put_mark c.marks p mark }
 
 abbrev pub Told : Layout' → List ℕ → ℕ → List (Option ℕ) → Type 0
 Told k ws t vs = (p x : ℕ) → value_at vs p ≡ Some x → (get_or ws p 0 ≡ x) × (keeper k ws p ≡ t)
@@ -208,6 +208,7 @@ sees_step k s h id c m op r n misses last vs is low run =
     record {
       thread = refl;
       threads = refl;
+      base = refl;
       elsewhere = λ q other. at_put_else c.seen p q xs other;
       between = (fit.begins p).0;
       grows = there ∙ ap (λ l. l ++ new) (sym (fit.begins p).1);

@@ -18,15 +18,14 @@ use Rattle.mutex.specs.declared.lock.LockRow.TheVariants as lock
 use Rattle.mutex.specs.declared.try_lock.TryLockRow.TheVariants as try
 use Rattle.mutex.specs.declared.unlock.UnlockRow.TheVariants as unlock
 use Rattle.mutex.specs.declared.consistent.ConsistentRow.TheVariants as consistent
-use Rattle.mutex.specs.Laws.{Expects, points, decided, IsOf, tells_change}
+use Rattle.mutex.specs.Laws.{Expects, decided, IsOf, tells_change}
 use Rattle.mutex.specs.Programs.{access_of, row_access, resume_of, row_operation, point_of, progress_of, led, moved}
 use Rattle.mutex.specs.Rows.{Knows, IsGoing}
 use Rattle.mutex.specs.Standings.{Standing}
 use Rattle.mutex.proofs.Steps.{goes_on, returned}
 use Rattle.ruledwords.specs.declared.card.Card.{Card}
-use Rattle.ruledwords.specs.Cards.{at}
-use Rattle.ruledwords.specs.Seen.{by}
-use Rattle.ruledwords.specs.Calls.{Ready, Stands, most}
+use Rattle.ruledwords.specs.Seen.{Called}
+use Rattle.ruledwords.specs.Calls.{acts, Ready, Stands, most}
 use Rattle.ruledwords.specs.Turns.{IsAnswerOf}
 use Rattle.ruledwords.proofs.Standing.{reached_more, changes_more}
 
@@ -92,26 +91,20 @@ passes t cell (Ended y) x fits = absurd fits
 pub ready_answered : (p : Standing) (c : Card) (x : Answer) → IsAnswerOf (access_of p) x → Ready p c → Ready (moved p (led p x)) c
 ready_answered p c x fits ready =
     let k = passes p.thread p.cell p.row x fits in
-    (ready.0, k.knows, λ o run. subst (λ (t : ℕ). Expects t (led p x).row o) ready.0 (k.expects o))
+    (ready.0, k.knows, λ q o there run. subst (λ (t : ℕ). Expects t (led p x).row o) ready.0 (k.expects o))
 
-pub stands_answered : (op : Operation) (first : Row) (c : Card) (p : Standing) (d : Card) (x : Answer) → IsAnswerOf (access_of p) x → Ready p d → Stands op first c p d → Stands op first c (moved p (led p x)) d
-stands_answered op first c p d x fits ready s =
+pub stands_answered : (op : Operation) (first : Row) (q : ℕ) (c : Card) (p : Standing) (d : Card) (x : Answer) → IsAnswerOf (access_of p) x → Ready p d → Stands op first q c p d → Stands op first q c (moved p (led p x)) d
+stands_answered op first q c p d x fits ready s =
     let k = passes p.thread p.cell p.row x fits in
-    let same = sym k.same in
     let none = k.change in
     let had = s.misses in
     let sum = changes_more s.answers x in
+    let thread = s.called.saw.thread in
     record {
       of = k.of op s.of;
-      thread = s.thread;
-      threads = s.threads;
-      elsewhere = s.elsewhere;
-      between = s.between;
-      grows = subst (λ (z : Option Reply). at d.seen p.cell ≡ (at c.seen p.cell ++ s.between) ++ points (point_of c.thread p.cell op z)) same s.grows;
-      own = subst (λ (z : Option Reply). by c.thread (at d.seen p.cell) ≡ by c.thread (at c.seen p.cell) ++ points (point_of c.thread p.cell op z)) same s.own;
-      left = λ some_point. s.left (λ e. some_point (k.same ∙ e));
+      called = subst (λ (z : Option Reply). Called c q (acts op z) d) (sym k.same) s.called;
       answers = s.answers ++ x ∷ [];
-      reaches = reached_more c.thread first s.answers x ∙ ap (λ (z : Row). (resume_of c.thread z x).row) s.reaches ∙ ap (λ (t : ℕ). (resume_of t p.row x).row) (sym (ready.0 ∙ s.thread));
+      reaches = reached_more c.thread first s.answers x ∙ ap (λ (z : Row). (resume_of c.thread z x).row) s.reaches ∙ ap (λ (t : ℕ). (resume_of t p.row x).row) (sym (ready.0 ∙ thread));
       misses = omega arith;
     }
 

@@ -1,5 +1,5 @@
 -- A call, access by access.
-use Rattle.std.proofs.Common.{Bool, true, false, ◌≡◌, ◌≢◌, ℕ, ◌+◌, ◌<◌, ◌≤◌, ◌==◌, Option, Some, None, List, [], ◌∷◌, ◌++◌, refl, sym, ap, ◌∙◌, subst, arith, append-nil, append_assoc}
+use Rattle.std.proofs.Common.{Bool, true, false, ◌≡◌, ◌≢◌, ℕ, ◌+◌, ◌<◌, ◌≤◌, ◌==◌, Option, Some, None, List, [], ◌∷◌, ◌++◌, refl, sym, ap, ◌∙◌, subst, arith}
 use Rattle.std.specs.Prelude.{if◌then◌else◌}
 use Rattle.lockword.specs.Cells.{fields_of}
 use Rattle.lockword.specs.declared.reply.Reply.{Reply}
@@ -7,15 +7,14 @@ use Rattle.lockword.specs.declared.reply.Reply.TheVariants.{OK, EOWNERDEAD, XRAC
 use Rattle.keys.specs.declared.access.Answer.{Answer}
 use Rattle.keys.specs.declared.point.Operation.{Operation}
 use Rattle.keys.specs.declared.point.Operation.TheVariants.{Lock, TryLock, Unlock, Death}
-use Rattle.keys.specs.declared.point.Point.{Point}
 use Rattle.keys.specs.declared.object.Object.{Object}
 use Rattle.keys.specs.Accesses.{changed, answer_at}
-use Rattle.keys.specs.Objects.{fresh, object_of, acquires}
+use Rattle.keys.specs.Objects.{fresh, Run, object_of, acquires}
 use Rattle.keys.proofs.Objects.{run_same}
 use Rattle.mutex.specs.declared.row.Row.{Row}
 use Rattle.mutex.specs.declared.row.Row.TheVariants as row
 use Rattle.mutex.specs.declared.try_lock.TryLockRow.TheVariants as try
-use Rattle.mutex.specs.Laws.{Expects, Right, Joins, points, decided, IsOf, reached, changes, tells_change}
+use Rattle.mutex.specs.Laws.{Expects, Right, Joins, decided, IsOf, reached, changes, tells_change}
 use Rattle.mutex.specs.Programs.{access_of, row_operation, resume_of, point_of, moved}
 use Rattle.mutex.specs.Rows.{IsGoing}
 use Rattle.mutex.specs.Standings.{Standing}
@@ -25,47 +24,45 @@ use Rattle.mutex.proofs.Steps.{right_step, minds, undecided, of_going, undecided
 use Rattle.ruledwords.specs.declared.card.Card.{Card}
 use Rattle.ruledwords.specs.declared.outcome.Wakes.TheVariants.{Nobody, One, All}
 use Rattle.ruledwords.specs.Cards.{at}
-use Rattle.ruledwords.specs.Seen.{by, held, Leaves, Sees, Called}
-use Rattle.ruledwords.specs.Calls.{Ready, Made, Stands, led_at, count_by, count_after, most, most_of}
+use Rattle.ruledwords.specs.Seen.{held, Sees, Called}
+use Rattle.ruledwords.specs.Calls.{address_at, acts, Ready, Made, Stands, led_at, count_by, count_after, most, most_of}
 use Rattle.ruledwords.specs.Outcomes.{wakes_of}
+use Rattle.ruledwords.proofs.Cards.{run_at, saw_nothing, saw_more}
 use Rattle.ruledwords.proofs.Lists.{told}
 use Rattle.ruledwords.proofs.Held.{held_sees}
 
 -- a call that begins
-pub begins : (op : Operation) (c : Card) (p : Standing) → IsOf op p.row → decided p.row ≡ None → Stands op p.row c p c
-begins op c p of none = record {
+pub begins : (op : Operation) (q : ℕ) (c : Card) (p : Standing) → IsOf op p.row → decided p.row ≡ None → Stands op p.row q c p c
+begins op q c p of none = record {
   of = of;
-  thread = refl;
-  threads = refl;
-  elsewhere = λ q other. refl;
-  between = [];
-  grows = sym (append-nil _) ∙ ap (λ l. l ++ []) (sym (append-nil _)) ∙ ap (λ (z : Option Reply). (at c.seen p.cell ++ []) ++ points (point_of c.thread p.cell op z)) (sym none);
-  own = sym (append-nil _) ∙ ap (λ (z : Option Reply). by c.thread (at c.seen p.cell) ++ points (point_of c.thread p.cell op z)) (sym none);
-  left = λ some_point. absurd (some_point none);
+  called = subst (λ (z : Option Reply). Called c q (acts op z) c) (sym none) (saw_nothing c q);
   answers = [];
   reaches = refl;
   misses = (let e : c.misses ≡ c.misses + 0 = omega arith in e);
 }
 
 -- the laws of programs, of an access that was made
-made_right : (p : Standing) (c d : Card) (n : ℕ) → IsGoing p.row → IsStep (access_of p) → Ready p c → Made p c n d → Right c.thread p.cell p.row (led_at p n) n (changed (access_of p) n)
-made_right p c d n going step ready m = subst (λ (t : ℕ). Right t p.cell p.row (led_at p n) n (changed (access_of p) n)) ready.0
+made_right : (p : Standing) (q : ℕ) (c d : Card) (n : ℕ) → IsGoing p.row → IsStep (access_of p) → Ready p c → Made p q c n d → Right c.thread p.cell p.row (led_at p n) n (changed (access_of p) n)
+made_right p q c d n going step ready m = subst (λ (t : ℕ). Right t p.cell p.row (led_at p n) n (changed (access_of p) n)) ready.0
     (right_step p.thread p.cell n p.row (subst (λ (z : ℕ). 1 ≤ z) (sym ready.0) m.thread.0) (subst (λ (z : ℕ). z ≤ 64) (sym ready.0) m.thread.1) going step ready.1 m.sound (subst (λ (z : ℕ). Expects z p.row (object_of (fields_of n))) (sym ready.0) m.met))
 
-made_minds : (p : Standing) (c d : Card) (n : ℕ) → IsGoing p.row → IsStep (access_of p) → Ready p c → Made p c n d → Minds p.row (led_at p n) n (changed (access_of p) n)
-made_minds p c d n going step ready m = minds p.thread p.cell n p.row (subst (λ (z : ℕ). z ≤ 64) (sym ready.0) m.thread.1) going step ready.1 (subst (λ (z : ℕ). Expects z p.row (object_of (fields_of n))) (sym ready.0) m.met)
+made_minds : (p : Standing) (q : ℕ) (c d : Card) (n : ℕ) → IsGoing p.row → IsStep (access_of p) → Ready p c → Made p q c n d → Minds p.row (led_at p n) n (changed (access_of p) n)
+made_minds p q c d n going step ready m = minds p.thread p.cell n p.row (subst (λ (z : ℕ). z ≤ 64) (sym ready.0) m.thread.1) going step ready.1 (subst (λ (z : ℕ). Expects z p.row (object_of (fields_of n))) (sym ready.0) m.met)
 
 -- the point that is made is the one that the next row tells
-made_point : (p : Standing) (c d : Card) (n : ℕ) → IsGoing p.row → IsStep (access_of p) → Ready p c → Made p c n d → decided (led_at p n).row ≡ (led_at p n).point
-made_point p c d n going step ready m = subst (λ (z : Option Reply). Joins z (led_at p n).point (decided (led_at p n).row)) (undecided p.thread p.cell p.row going step) (made_right p c d n going step ready m).tells
+made_point : (p : Standing) (q : ℕ) (c d : Card) (n : ℕ) → IsGoing p.row → IsStep (access_of p) → Ready p c → Made p q c n d → decided (led_at p n).row ≡ (led_at p n).point
+made_point p q c d n going step ready m = subst (λ (z : Option Reply). Joins z (led_at p n).point (decided (led_at p n).row)) (undecided p.thread p.cell p.row going step) (made_right p q c d n going step ready m).tells
 
-pub ready_after : (p : Standing) (c d : Card) (n : ℕ) → IsGoing p.row → IsStep (access_of p) → Ready p c → Made p c n d → Ready (moved p (led_at p n)) d
-ready_after p c d n going step ready m =
-    let r = made_right p c d n going step ready m in
+pub ready_after : (p : Standing) (q : ℕ) (c d : Card) (n : ℕ) → p.cell ≡ address_at c q → IsGoing p.row → IsStep (access_of p) → Ready p c → Made p q c n d → Ready (moved p (led_at p n)) d
+ready_after p q c d n there going step ready m =
+    let r = made_right p q c d n going step ready m in
     let u : Object = object_of (fields_of (changed (access_of p) n)) in (
       ready.0 ∙ sym m.sees.thread,
       r.knows,
-      λ o run. subst (λ (z : ℕ × Object). Expects z.0 (led_at p n).row z.1) (λ i. (sym m.sees.thread i, run_same fresh u o (at d.seen p.cell) m.sees.leaves.0 run i)) r.expects,
+      λ z o at' run.
+          let base = m.sees.base in
+          let here : z ≡ q = omega arith in
+          subst (λ (z : ℕ × Object). Expects z.0 (led_at p n).row z.1) (λ i. (sym m.sees.thread i, run_same fresh u o (at d.seen q) m.sees.leaves.0 (subst (λ (y : ℕ). Run fresh (at d.seen y) o) here run) i)) r.expects,
     )
 
 pub reached_more : (t : ℕ) (r : Row) (xs : List Answer) (a : Answer) → reached t r (xs ++ a ∷ []) ≡ (resume_of t (reached t r xs) a).row
@@ -76,53 +73,50 @@ pub changes_more : (xs : List Answer) (a : Answer) → changes (xs ++ a ∷ []) 
 changes_more [] a = omega arith
 changes_more (x ∷ xs) a = let r = changes_more xs a in omega arith
 
-pub stands_after : (op : Operation) (first : Row) (c : Card) (p : Standing) (d e : Card) (n : ℕ) → IsGoing p.row → IsStep (access_of p) → Ready p d → Stands op first c p d → Made p d n e → Stands op first c (moved p (led_at p n)) e
-stands_after op first c p d e n going step ready s m =
-    let r = made_right p d e n going step ready m in
+pub stands_after : (op : Operation) (first : Row) (q : ℕ) (c : Card) (p : Standing) (d e : Card) (n : ℕ) → IsGoing p.row → IsStep (access_of p) → Ready p d → Stands op first q c p d → Made p q d n e → Stands op first q c (moved p (led_at p n)) e
+stands_after op first q c p d e n going step ready s m =
+    let r = made_right p q d e n going step ready m in
     let none = undecided p.thread p.cell p.row going step in
-    let point = made_point p d e n going step ready m in
+    let point = made_point p q d e n going step ready m in
     let is = of_going op p.row going s.of in
     let u : Object = object_of (fields_of (changed (access_of p) n)) in
     let a : Answer = answer_at (access_of p) n in
     let next : Option Reply = decided (led_at p n).row in
-    -- what the step added, told of the thread and the operation of the call
-    let added : Sees d p.cell (told c.thread p.cell op next) u e =
-    subst (λ (z : ℕ × Operation × Option Reply). Sees d p.cell (told z.0 p.cell z.1 z.2) u e) (λ i. (s.thread i, is i, sym point i)) m.sees in
-    let new : List Point = told c.thread p.cell op next in
-    let before : at d.seen p.cell ≡ at c.seen p.cell ++ s.between = s.grows ∙ ap (λ (z : Option Reply). (at c.seen p.cell ++ s.between) ++ told c.thread p.cell op z) none ∙ append-nil _ in
-    let mine : by c.thread (at d.seen p.cell) ≡ by c.thread (at c.seen p.cell) = s.own ∙ ap (λ (z : Option Reply). by c.thread (at c.seen p.cell) ++ told c.thread p.cell op z) none ∙ append-nil _ in
+    -- what the step added, told of the operation of the call
+    let added : Sees d q (told d.thread q op next) u e = subst (λ (z : Operation × Option Reply). Sees d q (told d.thread q z.0 z.1) u e) (λ i. (is i, sym point i)) m.sees in
     let had = s.misses in
     let more = m.misses in
     let sum = changes_more s.answers a in
+    let thread = s.called.saw.thread in
     record {
       of = subst (λ (z : Operation). IsOf z (led_at p n).row) is r.stays;
-      thread = added.thread ∙ s.thread;
-      threads = added.threads ∙ s.threads;
-      elsewhere = λ q other. added.elsewhere q other ∙ s.elsewhere q other;
-      between = s.between ++ added.between;
-      grows = added.grows ∙ ap (λ l. (l ++ added.between) ++ new) before ∙ ap (λ l. l ++ new) (append_assoc (at c.seen p.cell) s.between added.between);
-      own = subst (λ (t : ℕ). by t (at e.seen p.cell) ≡ by t (at d.seen p.cell) ++ new) s.thread added.own ∙ ap (λ l. l ++ new) mine;
-      left = λ some_point. (u, subst (λ (z : ℕ). Leaves z p.cell (at e.seen p.cell) u) s.threads added.leaves);
+      called = saw_more c q d op next u e (subst (λ (z : Option Reply). Called c q (acts op z) d) none s.called) added;
       answers = s.answers ++ a ∷ [];
-      reaches = reached_more c.thread first s.answers a ∙ ap (λ (z : Row). (resume_of c.thread z a).row) s.reaches ∙ ap (λ (t : ℕ). (resume_of t p.row a).row) (sym (ready.0 ∙ s.thread));
+      reaches = reached_more c.thread first s.answers a ∙ ap (λ (z : Row). (resume_of c.thread z a).row) s.reaches ∙ ap (λ (t : ℕ). (resume_of t p.row a).row) (sym (ready.0 ∙ thread));
       misses = omega arith;
     }
 
 -- what is told of the word that a release found
-pub tells_after : (op : Operation) (p : Standing) (c d : Card) (n : ℕ) → IsGoing p.row → IsStep (access_of p) → Ready p c → IsOf op p.row → Made p c n d → Tells op (led_at p n).row (fields_of d.last)
-tells_after op p c d n going step ready of m =
-    subst (λ (z : Operation × ℕ). Tells z.0 (led_at p n).row (fields_of z.1)) (λ i. (of_going op p.row going of i, sym m.last i)) (made_minds p c d n going step ready m).tells
+pub tells_after : (op : Operation) (p : Standing) (q : ℕ) (c d : Card) (n : ℕ) → IsGoing p.row → IsStep (access_of p) → Ready p c → IsOf op p.row → Made p q c n d → Tells op (led_at p n).row (fields_of d.last)
+tells_after op p q c d n going step ready of m =
+    subst (λ (z : Operation × ℕ). Tells z.0 (led_at p n).row (fields_of z.1)) (λ i. (of_going op p.row going of i, sym m.last i)) (made_minds p q c d n going step ready m).tells
 
 -- of a call that is no lock, fewer steps are left
-pub less_left : (op : Operation) (p : Standing) (c d : Card) (n : ℕ) → op ≢ Lock → IsGoing p.row → IsStep (access_of p) → Ready p c → IsOf op p.row → Made p c n d → rank (led_at p n).row < rank p.row
-less_left op p c d n other going step ready of m = (made_minds p c d n going step ready m).falls (λ lock. other (sym (of_going op p.row going of) ∙ lock))
+pub less_left : (op : Operation) (p : Standing) (q : ℕ) (c d : Card) (n : ℕ) → op ≢ Lock → IsGoing p.row → IsStep (access_of p) → Ready p c → IsOf op p.row → Made p q c n d → rank (led_at p n).row < rank p.row
+less_left op p q c d n other going step ready of m = (made_minds p q c d n going step ready m).falls (λ lock. other (sym (of_going op p.row going of) ∙ lock))
 
 -- ---- how many mutexes are held
 
-pub held_made : (p : Standing) (c d : Card) (n : ℕ) → IsGoing p.row → IsStep (access_of p) → Ready p c → Made p c n d → held d ≡ count_after (held c) (point_of p.thread p.cell (row_operation p.row) (led_at p n).point)
-held_made p c d n going step ready m =
-    held_sees c p.cell (row_operation p.row) (led_at p n).point (object_of (fields_of n)) (object_of (fields_of (changed (access_of p) n))) d m.sees (made_right p c d n going step ready m).runs m.holder
-    ∙ ap (λ (t : ℕ). count_after (held c) (point_of t p.cell (row_operation p.row) (led_at p n).point)) (sym ready.0)
+-- it is no matter whose point it is, and where
+count_any : (t u q z : ℕ) (op : Operation) (r : Option Reply) (h : ℕ) → count_after h (point_of t q op r) ≡ count_after h (point_of u z op r)
+count_any t u q z op None h = refl
+count_any t u q z op (Some x) h = refl
+
+pub held_made : (p : Standing) (q : ℕ) (c d : Card) (n : ℕ) → IsGoing p.row → IsStep (access_of p) → Ready p c → Made p q c n d → held d ≡ count_after (held c) (point_of p.thread p.cell (row_operation p.row) (led_at p n).point)
+held_made p q c d n going step ready m =
+    held_sees c q (row_operation p.row) (led_at p n).point (object_of (fields_of n)) (object_of (fields_of (changed (access_of p) n))) d m.sees
+    (run_at (object_of (fields_of n)) (object_of (fields_of (changed (access_of p) n))) c.thread p.cell q (row_operation p.row) (led_at p n).point (made_right p q c d n going step ready m).runs) m.holder
+    ∙ count_any c.thread p.thread q p.cell (row_operation p.row) (led_at p n).point (held c)
 
 most_le : (r : Option Reply) (b : Bool) → most_of r b ≤ 2048
 most_le None true = omega arith
@@ -143,8 +137,8 @@ count_le Death x h le = omega arith
 count_le op x h le = omega arith
 
 -- who may still take a mutex has room for it
-pub room_after : (p : Standing) (c d : Card) (n h : ℕ) → IsGoing p.row → IsStep (access_of p) → Ready p c → Made p c n d → h ≤ most p.row → count_after h (point_of p.thread p.cell (row_operation p.row) (led_at p n).point) ≤ most (led_at p n).row
-room_after p c d n h going step ready m le =
+pub room_after : (p : Standing) (q : ℕ) (c d : Card) (n h : ℕ) → IsGoing p.row → IsStep (access_of p) → Ready p c → Made p q c n d → h ≤ most p.row → count_after h (point_of p.thread p.cell (row_operation p.row) (led_at p n).point) ≤ most (led_at p n).row
+room_after p q c d n h going step ready m le =
     go (led_at p n).point refl
   where
     none : decided p.row ≡ None
@@ -155,11 +149,11 @@ room_after p c d n h going step ready m le =
 
     go : (r : Option Reply) → (led_at p n).point ≡ r → count_after h (point_of p.thread p.cell (row_operation p.row) r) ≤ most (led_at p n).row
     go None is =
-        let still = made_point p c d n going step ready m ∙ is in
-        let same = of_going (row_operation p.row) (led_at p n).row (undecided_going (led_at p n).row still) (made_right p c d n going step ready m).stays in
+        let still = made_point p q c d n going step ready m ∙ is in
+        let same = of_going (row_operation p.row) (led_at p n).row (undecided_going (led_at p n).row still) (made_right p q c d n going step ready m).stays in
         subst (λ (z : Option Reply × Operation). h ≤ most_of z.0 (acquires z.1)) (λ i. (sym still i, sym same i)) before
     go (Some x) is =
-        let now = made_point p c d n going step ready m ∙ is in
+        let now = made_point p q c d n going step ready m ∙ is in
         subst (λ (z : Option Reply). count_by h (row_operation p.row) x ≤ most_of z (acquires (row_operation (led_at p n).row))) (sym now) (count_le (row_operation p.row) x h before)
 
 pub few_after : (h : ℕ) (r : Row) → h ≤ most r → h ≤ 2048
@@ -168,23 +162,11 @@ few_after h r le = let m = most_le (decided r) (acquires (row_operation r)) in o
 -- ---- the end
 
 -- a call that is decided
-pub called : (op : Operation) (first : Row) (c : Card) (p : Standing) (d : Card) (r : Reply) → Stands op first c p d → decided p.row ≡ Some r → Called c p.cell op r d
-called op first c p d r s is =
-    let l = s.left (λ none. let bad : Some r ≡ None = sym is ∙ none in cc) in (
-      l.0,
-      record {
-        thread = s.thread;
-        threads = s.threads;
-        elsewhere = s.elsewhere;
-        between = s.between;
-        grows = s.grows ∙ ap (λ (z : Option Reply). (at c.seen p.cell ++ s.between) ++ told c.thread p.cell op z) is;
-        own = s.own ∙ ap (λ (z : Option Reply). by c.thread (at c.seen p.cell) ++ told c.thread p.cell op z) is;
-        leaves = l.1;
-      },
-    )
+pub called : (op : Operation) (first : Row) (q : ℕ) (c : Card) (p : Standing) (d : Card) (r : Reply) → Stands op first q c p d → decided p.row ≡ Some r → Called c q ((op, r) ∷ []) d
+called op first q c p d r s is = subst (λ (z : Option Reply). Called c q (acts op z) d) is s.called
 
-pub raced_four : (op : Operation) (c : Card) (p : Standing) (d : Card) → Stands op (row.TryLock try.Load) c p d → p.row ≡ row.Ended XRACED → c.misses + 4 ≤ d.misses
-raced_four op c p d s is = let four = raced c.thread s.answers (s.reaches ∙ is) in let m = s.misses in omega arith
+pub raced_four : (op : Operation) (q : ℕ) (c : Card) (p : Standing) (d : Card) → Stands op (row.TryLock try.Load) q c p d → p.row ≡ row.Ended XRACED → c.misses + 4 ≤ d.misses
+raced_four op q c p d s is = let four = raced c.thread s.answers (s.reaches ∙ is) in let m = s.misses in omega arith
 
 pub wakes_nobody : (v : ℕ) → (fields_of v).waiters ≡ false → Nobody ≡ wakes_of v
 wakes_nobody v off = sym (ap (λ (b : Bool). if b then (if (fields_of v).died then All else One) else Nobody) off)

@@ -1,5 +1,5 @@
 -- The accesses of a call, on what its pass knows.
-use Rattle.std.specs.Prelude.{◌≡◌, ◌≢◌, ℕ, ◌+◌, ◌-◌, ◌<◌, ◌≤◌, Bool, true, Option, Some, None, List, ◌++◌}
+use Rattle.std.specs.Prelude.{◌≡◌, ℕ, ◌+◌, ◌-◌, ◌<◌, ◌≤◌, Bool, true, Option, Some, None, List, [], ◌∷◌}
 use Rattle.lockword.specs.Cells.{fields_of}
 use Rattle.lockword.specs.declared.reply.Reply.{Reply}
 use Rattle.lockword.specs.declared.reply.Reply.TheVariants.{OK, EOWNERDEAD}
@@ -13,6 +13,7 @@ use Rattle.keys.specs.Accesses.{changed, answer_at}
 use Rattle.keys.specs.Histories.{is_thread}
 use Rattle.keys.specs.Layouts.{Layout', cell_place}
 use Rattle.keys.specs.Objects.{held_limit, fresh, Run, object_of, acquires}
+use Rattle.facts.specs.Lives.{Act}
 use Rattle.mutex.specs.declared.row.Row.{Row}
 use Rattle.mutex.specs.declared.row.Row.TheVariants as row
 use Rattle.mutex.specs.declared.row.Led.{Led}
@@ -23,8 +24,8 @@ use Rattle.mutex.specs.Standings.{Standing}
 use Rattle.mutex.specs.Steps.{Expects-prop, Knows-prop}
 use Rattle.ruledwords.specs.declared.card.Card.{Card}
 use Rattle.ruledwords.specs.Cards.{at}
-use Rattle.ruledwords.specs.Seen.{by, holds, Leaves, Sees}
-use Rattle.ruledwords.specs.Rules.{Sat, At, Turns}
+use Rattle.ruledwords.specs.Seen.{holds, Sees, Called}
+use Rattle.ruledwords.specs.Rules.{Sat, At, Turns, base_of}
 use Rattle.std.proofs.Props.{props}
 
 -- where a call goes whose access meets this word
@@ -35,26 +36,33 @@ led_at p n = led p (answer_at (access_of p) n)
 abbrev pub fails : Access → ℕ → ℕ
 fails a n = tells_change (answer_at a n)
 
--- the call's cell is that of a mutex of the layout
+-- the address that the card's thread has for a place
+abbrev pub address_at : Card → ℕ → ℕ
+address_at c q = c.base + q
+
+-- the call is on mutex m of the layout: that is the mutex whose cell its thread has at the call's address
+abbrev pub IsOnMutex : Layout' → Standing → ℕ → Type 0
+IsOnMutex k p m = (m < k.mutexes) × (p.cell ≡ base_of k p.thread + cell_place k m)
+
 abbrev pub IsInLayout : Layout' → Standing → Type 0
-IsInLayout k p = (m : ℕ) × (m < k.mutexes) × (p.cell ≡ cell_place k m)
+IsInLayout k p = (m : ℕ) × IsOnMutex k p m
 
 -- it is a call of the card's thread, and what its row needs of the mutex is so, as far as that thread has seen it
 abbrev pub Ready : Standing → Card → Type 0
-Ready p c = (p.thread ≡ c.thread) × Knows p.row × ((o : Object) → Run fresh (at c.seen p.cell) o → Expects c.thread p.row o)
+Ready p c = (p.thread ≡ c.thread) × Knows p.row × ((q : ℕ) (o : Object) → p.cell ≡ address_at c q → Run fresh (at c.seen q) o → Expects c.thread p.row o)
 
--- an access of a call, at a word that was n: its point, if it is one, is what the thread sees anew
-pub record Made (p : Standing) (c : Card) (n : ℕ) (d : Card) : Type 0 where
-  pub sees : Sees c p.cell (points (point_of c.thread p.cell (row_operation p.row) (led_at p n).point)) (object_of (fields_of (changed (access_of p) n))) d
+-- an access of a call, at the cell at q, whose word was n: its point, if it is one, is what the thread sees anew
+pub record Made (p : Standing) (q : ℕ) (c : Card) (n : ℕ) (d : Card) : Type 0 where
+  pub sees : Sees c q (points (point_of c.thread q (row_operation p.row) (led_at p n).point)) (object_of (fields_of (changed (access_of p) n))) d
   pub misses : d.misses ≡ c.misses + fails (access_of p) n
   pub last : d.last ≡ n
   pub sound : Sound (object_of (fields_of n))
   pub met : Expects c.thread p.row (object_of (fields_of n))
-  pub holder : holds c.thread (at c.seen p.cell) ≡ is_thread c.thread (object_of (fields_of n)).owner
+  pub holder : holds c.thread (at c.seen q) ≡ is_thread c.thread (object_of (fields_of n)).owner
   pub thread : (1 ≤ c.thread) × (c.thread ≤ 64)
 
 abbrev pub made : Standing → At → Sat → ℕ → Sat → Type 0
-made p st me r me' = Turns me me' (λ c d. Made p c r d)
+made p st me r me' = Turns me me' (λ c d. Made p st.word c r d)
 
 abbrev pub count_by : ℕ → Operation → Reply → ℕ
 count_by n Lock OK = n + 1
@@ -78,16 +86,15 @@ most_of x b = held_limit
 abbrev pub most : Row → ℕ
 most r = most_of (decided r) (acquires (row_operation r))
 
--- a call that began at the card c stands at the program p, and its pass has the card d: of its points it has seen those that its row tells, and of its exchanges those failed that its answers tell
-pub record Stands (op : Operation) (first : Row) (c : Card) (p : Standing) (d : Card) : Type 0 where
+-- what a call of this operation has decided, with this reply if with any
+abbrev pub acts : Operation → Option Reply → List Act
+acts op None = []
+acts op (Some x) = (op, x) ∷ []
+
+-- a call on the mutex whose cell is at q, begun at the card c, stands at the program p, and its pass has the card d: it is decided as its row tells, and of its exchanges those failed that its answers tell
+pub record Stands (op : Operation) (first : Row) (q : ℕ) (c : Card) (p : Standing) (d : Card) : Type 0 where
   pub of : IsOf op p.row
-  pub thread : d.thread ≡ c.thread
-  pub threads : d.threads ≡ c.threads
-  pub elsewhere : (q : ℕ) → q ≢ p.cell → at d.seen q ≡ at c.seen q
-  pub between : List Point
-  pub grows : at d.seen p.cell ≡ (at c.seen p.cell ++ between) ++ points (point_of c.thread p.cell op (decided p.row))
-  pub own : by c.thread (at d.seen p.cell) ≡ by c.thread (at c.seen p.cell) ++ points (point_of c.thread p.cell op (decided p.row))
-  pub left : decided p.row ≢ None → (o : Object) × Leaves c.threads p.cell (at d.seen p.cell) o
+  pub called : Called c q (acts op (decided p.row)) d
   pub answers : List Answer
   pub reaches : reached c.thread first answers ≡ p.row
   pub misses : d.misses ≡ c.misses + changes answers

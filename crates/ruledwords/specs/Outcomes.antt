@@ -1,10 +1,13 @@
 -- What the calls of a pass answer.
-use Rattle.std.specs.Prelude.{◌≡◌, ℕ, ◌+◌, ◌<◌, ◌≤◌, nat_le, MatchBool, Result, Ok, Err, if◌then◌else◌}
+use Rattle.std.specs.Prelude.{◌≡◌, ℕ, ◌+◌, ◌<◌, ◌≤◌, nat_le, false, MatchBool, Result, Ok, Err, [], ◌∷◌, if◌then◌else◌}
 use Rattle.keys.specs.Objects.{held_limit}
+use Rattle.lockword.specs.declared.reply.Reply.{Reply}
+use Rattle.keys.specs.declared.point.Operation.{Operation}
 use Rattle.lockword.specs.Cells.{fields_of}
 use Rattle.lockword.specs.declared.reply.Reply.TheVariants.{OK, EPERM, XRACED, XHELD}
 use Rattle.keys.specs.declared.point.Operation.TheVariants.{TryLock, Unlock, Consistent}
-use Rattle.keys.specs.Layouts.{cell_place}
+use Rattle.keys.specs.Layouts.{Layout', cell_place}
+use Rattle.ruledwords.specs.declared.card.Card.{Card}
 use Rattle.ruledwords.specs.declared.pass.Words.{Words}
 use Rattle.ruledwords.specs.declared.pass.Pass.{Pass}
 use Rattle.ruledwords.specs.declared.pass.Live.{Live}
@@ -18,22 +21,37 @@ use Rattle.ruledwords.specs.declared.outcome.Owing.{Owing}
 use Rattle.ruledwords.specs.declared.outcome.Owing.TheVariants as owing
 use Rattle.ruledwords.specs.declared.outcome.Wakes.{Wakes}
 use Rattle.ruledwords.specs.declared.outcome.Wakes.TheVariants.{Nobody, One, All}
-use Rattle.ruledwords.specs.Seen.{Called, held}
+use Rattle.ruledwords.specs.Seen.{Called, Died, held}
 use Rattle.ruledwords.specs.Passes.{card, layout_of, IsPassOf}
+use Rattle.ruledwords.specs.Calls.{IsOnMutex}
 
--- a trylock of mutex m: by a thread that holds 2,048 mutexes it is refused, with nothing seen anew. Otherwise the reply is that of its point, and it gives up only
--- after four exchanges that each found a changed cell, as the pass counts them
+-- a call that may take mutex m replied so: by a thread that holds 2,048 mutexes it is refused, with nothing seen anew. Otherwise it is decided by one point, whose reply it is
+abbrev pub Takes : Layout' → ℕ → Operation → Card → Reply → Card → Type 0
+Takes k m op c r d = MatchBool (nat_le held_limit (held c)) ((r ≡ XHELD) × (d ≡ c)) (Called c (cell_place k m) ((op, r) ∷ []) d)
+
+-- its thread died in it: it wasn't refused
+abbrev pub DiesTaking : Layout' → ℕ → Operation → Card → Card → Type 0
+DiesTaking k m op c d = (nat_le held_limit (held c) ≡ false) × Died c (cell_place k m) op d
+
+-- a trylock of mutex m gives up only after four exchanges that each found a changed cell, as the pass counts them
 abbrev pub Tried : Words → ℕ → Pass Live → Outcome → Type 0
-Tried w m a (outcome.Lives b r) =
-    IsPassOf w b
-    × MatchBool (nat_le held_limit (held (card a))) ((r ≡ XHELD) × (card b ≡ card a))
-    (Called (card a) (cell_place (layout_of w) m) TryLock r (card b) × (r ≡ XRACED → (card a).misses + 4 ≤ (card b).misses))
-Tried w m a (outcome.Dead b) = ⊥
+Tried w m a (outcome.Lives b r) = IsPassOf w b × Takes (layout_of w) m TryLock (card a) r (card b) × (r ≡ XRACED → (card a).misses + 4 ≤ (card b).misses)
+Tried w m a (outcome.Dead d) = IsPassOf w d × DiesTaking (layout_of w) m TryLock (card a) (card d)
 
 -- a declaration that mutex m is consistent: the reply is that of its point. So it is OK, EINVAL or EPERM, as the thread owned the mutex and found it inconsistent, owned it, or didn't own it
 abbrev pub Declared : Words → ℕ → Pass Live → Outcome → Type 0
-Declared w m a (outcome.Lives b r) = IsPassOf w b × Called (card a) (cell_place (layout_of w) m) Consistent r (card b)
-Declared w m a (outcome.Dead b) = ⊥
+Declared w m a (outcome.Lives b r) = IsPassOf w b × Called (card a) (cell_place (layout_of w) m) ((Consistent, r) ∷ []) (card b)
+Declared w m a (outcome.Dead d) = IsPassOf w d × Died (card a) (cell_place (layout_of w) m) Consistent (card d)
+
+-- how often its thread was told to stop, in a call that ends so: once where it died, and else never
+abbrev pub stops_in : Outcome → ℕ
+stops_in (outcome.Lives b r) = 0
+stops_in (outcome.Dead d) = 1
+
+abbrev pub stops_releasing : Released → ℕ
+stops_releasing (released.Owes o) = 0
+stops_releasing (released.Refused b r) = 0
+stops_releasing (released.Dead d) = 1
 
 -- whom a release has to wake that found this word: nobody where nobody waits, else all of a mutex that became unusable, else one
 abbrev pub wakes_of : ℕ → Wakes
@@ -47,9 +65,9 @@ abbrev pub wakes_in : Owing → Wakes
 wakes_in (owing.Nobody b) = Nobody
 wakes_in (owing.Somebody v) = if v.all then All else One
 
-abbrev pub WakesAt : Owing → ℕ → Type 0
-WakesAt (owing.Nobody b) p = Unit {0}
-WakesAt (owing.Somebody v) p = v.running.program.cell ≡ p
+abbrev pub WakesOn : Layout' → Owing → ℕ → Type 0
+WakesOn k (owing.Nobody b) m = Unit {0}
+WakesOn k (owing.Somebody v) m = IsOnMutex k v.running.program m
 
 abbrev pub owed_pass : Owed → Pass Live
 owed_pass o = pass_in o.owing
@@ -57,22 +75,22 @@ owed_pass o = pass_in o.owing
 abbrev pub owed_wakes : Owed → Wakes
 owed_wakes o = wakes_in o.owing
 
--- whom it has to wake sleeps on the cell at p
-abbrev pub OwesAt : Owed → ℕ → Type 0
-OwesAt o p = WakesAt o.owing p
+-- whom it has to wake sleeps on mutex m
+abbrev pub OwesOn : Layout' → Owed → ℕ → Type 0
+OwesOn k o m = WakesOn k o.owing m
 
 -- its pass is one of these words, and whom it has to wake sleeps on a mutex of theirs
 abbrev pub IsOwedOf : Words → Owed → Type 0
-IsOwedOf w o = IsPassOf w (owed_pass o) × ((m : ℕ) × (m < (layout_of w).mutexes) × OwesAt o (cell_place (layout_of w) m))
+IsOwedOf w o = IsPassOf w (owed_pass o) × ((m : ℕ) × (m < (layout_of w).mutexes) × OwesOn (layout_of w) o m)
 
 -- a release of mutex m: its point is an unlock with OK where the mutex is freed, and with EPERM where it is refused. Whom it has to wake is told by the word that it found,
--- the last that the pass met
+-- the last that the pass met, of which its thread was the owner
 abbrev pub Frees : Words → ℕ → Pass Live → Released → Type 0
 Frees w m a (released.Owes o) =
-    IsPassOf w (owed_pass o) × Called (card a) (cell_place (layout_of w) m) Unlock OK (card (owed_pass o))
-    × (owed_wakes o ≡ wakes_of (card (owed_pass o)).last) × OwesAt o (cell_place (layout_of w) m)
-Frees w m a (released.Refused b r) = IsPassOf w b × (r ≡ EPERM) × Called (card a) (cell_place (layout_of w) m) Unlock EPERM (card b)
-Frees w m a (released.Dead b) = ⊥
+    IsPassOf w (owed_pass o) × Called (card a) (cell_place (layout_of w) m) ((Unlock, OK) ∷ []) (card (owed_pass o))
+    × ((fields_of (card (owed_pass o)).last).owner ≡ (card a).thread) × (owed_wakes o ≡ wakes_of (card (owed_pass o)).last) × OwesOn (layout_of w) o m
+Frees w m a (released.Refused b r) = IsPassOf w b × (r ≡ EPERM) × Called (card a) (cell_place (layout_of w) m) ((Unlock, EPERM) ∷ []) (card b)
+Frees w m a (released.Dead d) = IsPassOf w d × Died (card a) (cell_place (layout_of w) m) Unlock (card d)
 
 -- an unlock ends exactly where nobody is to be woken. Nothing is seen anew
 abbrev pub Settles : Owed → Result (Pass Live) Owed → Type 0

@@ -6,7 +6,8 @@ use Rattle.ruledwords.specs.declared.card.Card.{Card}
 use Rattle.ruledwords.specs.declared.pass.Words.{Words}
 use Rattle.ruledwords.specs.declared.pass.Pass.{Pass}
 use Rattle.ruledwords.specs.declared.pass.Last.{Last}
-use Rattle.ruledwords.specs.Rules.{card_of, presets_in}
+use Rattle.ruledwords.specs.Rules.{card_of, base_of, presets_in}
+use Rattle.ruledwords.specs.Seen.{IsLegal}
 
 abbrev pub layout_of : Words → Layout'
 layout_of w = w.layout
@@ -22,6 +23,13 @@ presets_of w = presets_in w.table.shared.key
 abbrev pub last_words : Last → List ℕ
 last_words l = slots_items l.closed.words
 
+-- it is of one of the layout's threads, and what that has seen of each mutex is legal
+pub record IsCardOf (k : Layout') (c : Card) : Type 0 where
+  pub threads : c.threads ≡ k.threads
+  pub thread : c.thread ≤ k.threads
+  pub base : c.base ≡ base_of k c.thread
+  pub legal : IsLegal c
+
 module _ {A : Type 0} where
   -- what the pass knows
   abbrev pub card : Pass A → Card
@@ -29,4 +37,4 @@ module _ {A : Type 0} where
 
   -- it is a pass of these words, for one of their layout's threads
   abbrev pub IsPassOf : Words → Pass A → Type 0
-  IsPassOf w p = (p.seat.table_id ≡ w.table.shared.table_id) × ((card p).threads ≡ w.layout.threads) × ((card p).thread ≤ w.layout.threads)
+  IsPassOf w p = (p.seat.table_id ≡ w.table.shared.table_id) × IsCardOf (layout_of w) (card p)

@@ -11,12 +11,18 @@ use Rattle.atomic_table.specs.Table.{State, Me, Step}
 use Rattle.lockword.specs.Cells.{fields_of}
 use Rattle.keys.specs.declared.point.Point.{Point}
 use Rattle.keys.specs.declared.object.Object.{Object}
-use Rattle.keys.specs.Layouts.{Layout', IsLayout, head_place, cell_place, counter_place, words_of, cell_offset, first_word}
+use Rattle.keys.specs.Layouts.{Layout', IsLayout, head_place, cell_place, counter_place, words_of, address_in, cell_offset, first_word}
 use Rattle.keys.specs.Objects.{object_of}
 use Rattle.ruledwords.specs.declared.card.Card.{Card}
 use Rattle.ruledwords.specs.declared.opening.Opening.{Opening}
 use Rattle.ruledwords.specs.Cards.{at, value_at, put_value, mark_at}
 use Rattle.ruledwords.specs.Seen.{by, Leaves, Joined}
+
+-- ---- addresses
+
+-- where thread t sees the words begin: every thread has each word at its place
+abbrev pub base_of : Layout' → ℕ → ℕ
+base_of k t = 0
 
 -- ---- the beginning
 
@@ -24,18 +30,18 @@ use Rattle.ruledwords.specs.Seen.{by, Leaves, Joined}
 abbrev pub opening_word : Layout' → List ℕ → ℕ → ℕ
 opening_word k counters = first_word k (slice_index counters)
 
--- a thread knows its head
-abbrev pub first_values : ℕ → List (Option ℕ)
-first_values t = put_value (put_value (put_value [] (head_place t) (Some (head_place t))) (head_place t + 1) (Some cell_offset)) (head_place t + 2) (Some 0)
+-- a thread knows its head, whose first word is the head's own address in the thread's process
+abbrev pub first_values : Layout' → ℕ → List (Option ℕ)
+first_values k t = put_value (put_value (put_value [] (head_place t) (Some (address_in k t (head_place t)))) (head_place t + 1) (Some cell_offset)) (head_place t + 2) (Some 0)
 
--- what thread t of so many knows at first: its own head, and nothing of any mutex
-abbrev pub first_card : ℕ → ℕ → Card
-first_card n t = record { threads = n; thread = t; seen = []; misses = 0; last = 0; values = first_values t; marks = [] }
+-- what thread t of a layout knows at first: its own head, and nothing of any mutex
+abbrev pub first_card : Layout' → ℕ → Card
+first_card k t = record { threads = k.threads; thread = t; base = base_of k t; seen = []; misses = 0; last = 0; values = first_values k t; marks = [] }
 
 -- the cards of so many threads from t on
-abbrev pub hand : ℕ → ℕ → ℕ → List Card
-hand n t zero = []
-hand n t (suc more) = first_card n t ∷ hand n (t + 1) more
+abbrev pub hand : Layout' → ℕ → ℕ → List Card
+hand k t zero = []
+hand k t (suc more) = first_card k t ∷ hand k (t + 1) more
 
 -- ---- what the rule's key says
 
@@ -105,7 +111,7 @@ At = Step (Unit {0})
 
 -- the one card of a pass
 abbrev pub card_of : List Card → Card
-card_of [] = record { threads = 0; thread = 0; seen = []; misses = 0; last = 0; values = []; marks = [] }
+card_of [] = record { threads = 0; thread = 0; base = 0; seen = []; misses = 0; last = 0; values = []; marks = [] }
 card_of (c ∷ cs) = c
 
 abbrev pub IsOne : Sat → Type 0

@@ -2,7 +2,7 @@
 --
 -- What is seen of a mutex is a legal list of its points: from a mutex that nobody has locked yet, each is a step of the mutex as POSIX has it. Between
 -- passes that never met, no order is claimed.
-use Rattle.std.specs.Prelude.{◌≡◌, ◌≢◌, ℕ, ◌+◌, ◌≤◌, ◌==◌, Bool, true, false, List, [], ◌∷◌, ◌++◌, filter, if◌then◌else◌}
+use Rattle.std.specs.Prelude.{◌≡◌, ◌≢◌, ℕ, ◌+◌, ◌≤◌, ◌==◌, Bool, true, false, List, [], ◌∷◌, ◌++◌, filter, map, if◌then◌else◌}
 use mathlib.Core.List.{IsPrefix}
 use Rattle.lockword.specs.declared.reply.Reply.{Reply}
 use Rattle.lockword.specs.declared.reply.Reply.TheVariants.{OK, EOWNERDEAD}
@@ -11,6 +11,7 @@ use Rattle.keys.specs.declared.point.Operation.TheVariants.{Lock, TryLock, Unloc
 use Rattle.keys.specs.declared.point.Point.{Point}
 use Rattle.keys.specs.declared.object.Object.{Object}
 use Rattle.keys.specs.Objects.{fresh, Run}
+use Rattle.facts.specs.Lives.{Act, Beginning}
 use Rattle.ruledwords.specs.declared.card.Card.{Card}
 use Rattle.ruledwords.specs.Cards.{at}
 
@@ -26,6 +27,10 @@ AllOf n p (x ∷ xs) = ((x.at ≡ p) × (1 ≤ x.thread) × (x.thread ≤ n)) ×
 -- a legal list of such points leaves the mutex as o
 abbrev pub Leaves : ℕ → ℕ → List Point → Object → Type 0
 Leaves n p xs o = Run fresh xs o × AllOf n p xs
+
+-- what the card's thread has seen of each mutex is legal
+abbrev pub IsLegal : Card → Type 0
+IsLegal c = (p : ℕ) → (o : Object) × Leaves c.threads p (at c.seen p) o
 
 -- whether its thread holds the mutex after a point
 abbrev pub holds_after : Bool → Operation → Reply → Bool
@@ -53,19 +58,47 @@ count_held t (xs ∷ xss) = (if holds t xs then 1 else 0) + count_held t xss
 abbrev pub held : Card → ℕ
 held c = count_held c.thread c.seen
 
--- a pass saw more at p: after what it had seen stand other threads' points, then its thread's new ones, and all of that is legal and leaves o. What it saw elsewhere stays
+-- a step at p: after what its thread had seen stand other threads' points, then the step's own if it is one, and all of that is legal and leaves o. What it saw elsewhere stays
 pub record Sees (c : Card) (p : ℕ) (new : List Point) (o : Object) (d : Card) : Type 0 where
   pub thread : d.thread ≡ c.thread
   pub threads : d.threads ≡ c.threads
+  pub base : d.base ≡ c.base
   pub elsewhere : (q : ℕ) → q ≢ p → at d.seen q ≡ at c.seen q
   pub between : List Point
   pub grows : at d.seen p ≡ (at c.seen p ++ between) ++ new
   pub own : by c.thread (at d.seen p) ≡ by c.thread (at c.seen p) ++ new
   pub leaves : Leaves c.threads p (at d.seen p) o
 
--- a call on the mutex whose cell is at p, decided by a point with this reply, of which the pass has seen the mutex's history up to that point
-abbrev pub Called : Card → ℕ → Operation → Reply → Card → Type 0
-Called c p op r d = (o : Object) × Sees c p (record { thread = c.thread; at = p; operation = op; reply = r } ∷ []) o d
+-- the points of thread t at p that decided so
+abbrev pub points_of : ℕ → ℕ → List Act → List Point
+points_of t p acts = map (λ (a : Act). record { thread = t; at = p; operation = a.0; reply = a.1 }) acts
+
+-- a thread saw more of the mutex whose cell is at p: behind what it had seen stand other threads' points and its own new ones, which decided so, in this order. What it saw elsewhere stays
+pub record Saw (c : Card) (p : ℕ) (acts : List Act) (d : Card) : Type 0 where
+  pub thread : d.thread ≡ c.thread
+  pub threads : d.threads ≡ c.threads
+  pub base : d.base ≡ c.base
+  pub elsewhere : (q : ℕ) → q ≢ p → at d.seen q ≡ at c.seen q
+  pub since : List Point
+  pub grows : at d.seen p ≡ at c.seen p ++ since
+  pub own : by c.thread (at d.seen p) ≡ by c.thread (at c.seen p) ++ points_of c.thread p acts
+
+-- the one list ends with the last point of the other, if that has any
+abbrev pub EndsWith : List Point → List Point → Type 0
+EndsWith xs [] = Unit {0}
+EndsWith xs (y ∷ []) = (before : List Point) × (xs ≡ before ++ y ∷ [])
+EndsWith xs (y ∷ z ∷ ys) = EndsWith xs (z ∷ ys)
+
+-- a call on the mutex whose cell is at p was decided so: its thread has seen the mutex's history up to the call's last point
+pub record Called (c : Card) (p : ℕ) (acts : List Act) (d : Card) : Type 0 where
+  pub saw : Saw c p acts d
+  pub last : EndsWith (at d.seen p) (points_of c.thread p acts)
+
+-- a thread died in a call of this operation, of which it had made all points or some of the first
+pub record Died (c : Card) (p : ℕ) (op : Operation) (d : Card) : Type 0 where
+  pub acts : List Act
+  pub beginning : Beginning op acts
+  pub saw : Saw c p acts d
 
 -- passes of two threads that met see one legal list of each mutex. It begins with what either had seen, so it has all those points, each once and in the same order; and of each of the two threads it
 -- has just the points that this thread made. Nothing else of them changes

@@ -1,6 +1,6 @@
 //! The calls on mutexes, which wait for nobody.
-ghost use Rattle.std.specs.Prelude.{◌≡◌, ◌<◌};
-ghost use Rattle.ruledwords.specs.Outcomes.{Tried, Frees, Declared};
+ghost use Rattle.std.specs.Prelude.{◌≡◌, ◌<◌, ◌+◌};
+ghost use Rattle.ruledwords.specs.Outcomes.{Tried, Frees, Declared, stops_in, stops_releasing};
 ghost use Rattle.ruledwords.specs.Passes.{layout_of, IsPassOf};
 
 use crate::fate::Fate;
@@ -14,18 +14,21 @@ use mutex::Call;
 impl Words {
     /// Takes a mutex if it is free (pthread_mutex_trylock). The reply is OK; EOWNERDEAD where its last owner died and nobody declared it consistent; EBUSY where it is owned;
     /// ENOTRECOVERABLE where it can't be used any more; XRACED after four exchanges that each found a changed cell; XHELD, with no access, where the thread holds 2,048
-    /// mutexes. The fate isn't asked yet, and is left as it was.
+    /// mutexes. The fate is asked before each access, and the thread dies where it says so.
     pub fn try_lock<F: Fate>(&self, pass: Pass<Live>, mutex: u16, fate: &mut F) -> Outcome
         requires pass { IsPassOf self.now pass }
         requires mutex { mutex < (layout_of self.now).mutexes }
         ensures tried { Tried self.now mutex pass result }
-        ensures fate { fate.new ≡ fate.old }
+        ensures fate { F.stopped fate.new ≡ F.stopped fate.old + stops_in result }
     {
         let mut running = match Running::call(self, pass, Call::TryLock(mutex)) {
             Ok(running) => running,
             Err((pass, reply)) => return Outcome::Lives(pass, reply),
         };
         loop {
+            if fate.stops() {
+                return Outcome::Dead(running.die());
+            }
             match running.access(self) {
                 Turn::Goes(next) => running = next,
                 Turn::Lives(pass, reply) => return Outcome::Lives(pass, reply),
@@ -35,18 +38,21 @@ impl Words {
 
     /// Declares that what a mutex guards is consistent again (pthread_mutex_consistent). The reply is OK to the owner of an inconsistent mutex, one that it took with
     /// EOWNERDEAD and hasn't declared consistent since; EINVAL to the owner of any other; EPERM where the thread doesn't own the mutex. Where it isn't OK, the mutex stays as
-    /// it is. The fate isn't asked yet, and is left as it was.
+    /// it is. The fate is asked before each access, and the thread dies where it says so.
     pub fn consistent<F: Fate>(&self, pass: Pass<Live>, mutex: u16, fate: &mut F) -> Outcome
         requires pass { IsPassOf self.now pass }
         requires mutex { mutex < (layout_of self.now).mutexes }
         ensures declared { Declared self.now mutex pass result }
-        ensures fate { fate.new ≡ fate.old }
+        ensures fate { F.stopped fate.new ≡ F.stopped fate.old + stops_in result }
     {
         let mut running = match Running::call(self, pass, Call::Consistent(mutex)) {
             Ok(running) => running,
             Err((pass, reply)) => return Outcome::Lives(pass, reply),
         };
         loop {
+            if fate.stops() {
+                return Outcome::Dead(running.die());
+            }
             match running.access(self) {
                 Turn::Goes(next) => running = next,
                 Turn::Lives(after, reply) => return Outcome::Lives(after, reply),
@@ -55,12 +61,12 @@ impl Words {
     }
 
     /// Frees a mutex that the thread owns (pthread_mutex_unlock), up to the waking of sleepers. One that is inconsistent becomes unusable. Another's mutex is refused with EPERM.
-    /// The fate isn't asked yet, and is left as it was.
+    /// The fate is asked before each access, and the thread dies where it says so.
     pub fn release<F: Fate>(&self, pass: Pass<Live>, mutex: u16, fate: &mut F) -> Released
         requires pass { IsPassOf self.now pass }
         requires mutex { mutex < (layout_of self.now).mutexes }
         ensures frees { Frees self.now mutex pass result }
-        ensures fate { fate.new ≡ fate.old }
+        ensures fate { F.stopped fate.new ≡ F.stopped fate.old + stops_releasing result }
     {
         let mut running = match Running::call(self, pass, Call::Unlock(mutex)) {
             Ok(running) => running,
@@ -71,6 +77,9 @@ impl Words {
                 let all = most == ALL;
                 let owing = Owing::Somebody(Waking { running, all });
                 return Released::Owes(Owed { owing });
+            }
+            if fate.stops() {
+                return Released::Dead(running.die());
             }
             match running.access(self) {
                 Turn::Goes(next) => running = next,

@@ -8,6 +8,8 @@ pub struct Card {
     pub threads: u64,
     /// Whose card it is.
     pub thread: u64,
+    /// The address that the thread has for place 0 of the words.
+    pub base: u64,
     /// What it has seen of each mutex, by the place of its cell.
     pub seen: LinkedList<LinkedList<Point>>,
     /// How many of its exchanges found a changed cell.

@@ -1,7 +1,7 @@
 //! When a thread dies.
 ghost use Rattle.std.specs.Prelude.{◌≡◌, ℕ, ◌+◌, if◌then◌else◌};
 
-/// Tells a thread whether it stops now. A call asks it before each of its accesses; no call does so yet.
+/// Tells a thread whether it stops now. A call asks it before each of its accesses.
 pub trait Fate {
     ghost stopped: { Self → ℕ };
 

@@ -11,6 +11,7 @@
 mod calls;
 mod card;
 mod close;
+mod death;
 mod fate;
 mod look;
 mod make;

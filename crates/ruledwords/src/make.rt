@@ -1,10 +1,11 @@
 //! The access of a call, made on its word.
 ghost use Rattle.std.specs.Prelude.{◌≡◌, ℕ};
+ghost use Rattle.keys.specs.Layouts.{cell_place};
 ghost use Rattle.mutex.specs.Programs.{access_of};
 ghost use Rattle.mutex.specs.Rows.{IsGoing};
 ghost use Rattle.mutex.specs.Steps.{IsStep};
-ghost use Rattle.ruledwords.specs.Calls.{Ready, IsInLayout, Made};
-ghost use Rattle.ruledwords.specs.Rules.{card_of, IsOne};
+ghost use Rattle.ruledwords.specs.Calls.{Ready, IsOnMutex, IsInLayout, Made};
+ghost use Rattle.ruledwords.specs.Rules.{base_of, card_of, IsOne};
 
 use crate::card::View;
 use crate::pass::Words;
@@ -48,9 +49,10 @@ impl Words {
         requires going { IsGoing program.now.row }
         requires step { IsStep (access_of program.now) }
         requires ready { Ready program.now (card_of seat.old.me.0) }
+        requires base { (card_of seat.old.me.0).base ≡ base_of self.now.layout (card_of seat.old.me.0).thread }
         ensures table { seat.new.table_id ≡ seat.old.table_id }
         ensures one { IsOne seat.new.me }
-        ensures made { Made program.now (card_of seat.old.me.0) result (card_of seat.new.me.0) }
+        ensures made { (m : ℕ) × IsOnMutex self.now.layout program.now m × Made program.now (cell_place self.now.layout m) (card_of seat.old.me.0) result (card_of seat.new.me.0) }
     {
         let shared = &self.table.shared;
         match program.next() {

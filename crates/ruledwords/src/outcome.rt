@@ -12,7 +12,7 @@ use lockword::Reply;
 pub enum Outcome {
     /// The thread lives, and the call replied.
     Lives(Pass<Live>, Reply),
-    /// The thread died in the call. No call answers this yet.
+    /// The thread died in the call.
     Dead(Pass<Dead>),
 }
 
@@ -52,6 +52,6 @@ pub enum Released {
     Owes(Owed),
     /// The thread doesn't own the mutex: the reply is EPERM.
     Refused(Pass<Live>, Reply),
-    /// The thread died in the call. No call answers this yet.
+    /// The thread died in the call.
     Dead(Pass<Dead>),
 }

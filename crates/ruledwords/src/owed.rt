@@ -1,12 +1,10 @@
 //! The end of an unlock.
 ghost use Rattle.std.specs.Prelude.{◌≡◌};
 ghost use Rattle.ruledwords.specs.Passes.{IsPassOf};
-ghost use Rattle.ruledwords.specs.Outcomes.{owed_pass, owed_wakes, Settles, Abandons};
+ghost use Rattle.ruledwords.specs.Outcomes.{owed_pass, owed_wakes, Settles};
 
-use crate::outcome::{Owed, Owing, Wakes, Waking};
-use crate::pass::{Dead, Live, Pass, Words};
-use crate::turn::Running;
-use std::marker::PhantomData;
+use crate::outcome::{Owed, Owing, Wakes};
+use crate::pass::{Live, Pass, Words};
 
 impl Owed {
     /// How many sleepers are to be woken.
@@ -30,33 +28,6 @@ impl Owed {
             Owing::Somebody(waking) => Err(Owed {
                 owing: Owing::Somebody(waking),
             }),
-        }
-    }
-
-    /// The thread dies before the unlock's end, and wakes nobody. What it has seen stays.
-    pub fn abandon(self) -> Pass<Dead>
-        ensures { Abandons self result }
-    {
-        let Owed { owing } = self;
-        let pass = match owing {
-            Owing::Nobody(pass) => pass,
-            Owing::Somebody(waking) => {
-                let Waking { running, all: _ } = waking;
-                let Running { pass, program: _ } = running;
-                pass
-            }
-        };
-        let Pass {
-            seat,
-            thread,
-            held,
-            state: _,
-        } = pass;
-        Pass {
-            seat,
-            thread,
-            held,
-            state: PhantomData,
         }
     }
 }

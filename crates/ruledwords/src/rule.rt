@@ -11,7 +11,7 @@ impl TableRule<(), View, Opening> for History {
 
     ghost holds = { λ o. Kept o.layout (presets_in o) };
 
-    ghost first = { λ o. hand o.layout.threads 1 o.layout.threads };
+    ghost first = { λ o. hand o.layout 1 o.layout.threads };
 }
 
 /// A load by a seat that has the cards of two threads.

@@ -42,7 +42,7 @@ impl Running {
         requires words { IsRunningOf words.now self }
         requires step { IsStep (access_of (running_program self)) }
         ensures words { IsTurnOf words.now result }
-        ensures turned { Turned (running_program self) (running_pass self) result }
+        ensures turned { Turned (layout_of words.now) (running_program self) (running_pass self) result }
         ensures keeps { Keeps words.now self result }
     {
         let Running { pass, mut program } = self;

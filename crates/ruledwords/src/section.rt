@@ -1,12 +1,14 @@
 //! A call at a futex section, which its caller makes.
-ghost use Rattle.std.specs.Prelude.{◌≡◌};
+ghost use Rattle.std.specs.Prelude.{◌≡◌, ℕ};
 ghost use Rattle.keys.specs.Accesses.{address_of};
+ghost use Rattle.keys.specs.Layouts.{cell_place};
 ghost use Rattle.mutex.specs.Programs.{access_of};
 ghost use Rattle.ruledwords.specs.declared.outcome.Wakes.TheVariants.{Nobody};
 ghost use Rattle.ruledwords.specs.declared.pass.Words.{Words};
+ghost use Rattle.ruledwords.specs.Calls.{IsOnMutex};
 ghost use Rattle.ruledwords.specs.Looks.{Finds};
 ghost use Rattle.ruledwords.specs.Outcomes.{owed_wakes};
-ghost use Rattle.ruledwords.specs.Passes.{card};
+ghost use Rattle.ruledwords.specs.Passes.{card, layout_of};
 ghost use Rattle.ruledwords.specs.Turns.{running_pass, running_program, IsAnswerOf, IsRunningOf, IsTurnOf, Unmoved, Onward, Keeps, StandsAtWake};
 
 use crate::outcome::{Owed, Owing, Waking};
@@ -34,7 +36,7 @@ impl Running {
     pub fn load(&mut self, words: &Words) -> u64
         requires { IsRunningOf words.now self.old }
         ensures unmoved { Unmoved words.now self.old self.new }
-        ensures finds { Finds (card (running_pass self.old)) (running_program self.old).cell result }
+        ensures finds { (m : ℕ) → IsOnMutex (layout_of words.now) (running_program self.old) m → Finds (card (running_pass self.old)) (cell_place (layout_of words.now) m) result }
     {
         let at = address(self.program.next());
         words.look(&mut self.pass, at)

@@ -9,6 +9,8 @@ use Rattle.ruledwords.specs.Rules.{Kept, presets_in, hand, first_card, card_of, 
 use Rattle.ruledwords.proofs.Lists.{get_snoc, slice_get_or}
 use Rattle.ruledwords.proofs.Moves.{Sat}
 use Rattle.ruledwords.proofs.Turned.{is_one}
+use Rattle.ruledwords.specs.Passes.{IsCardOf}
+use Rattle.ruledwords.proofs.Cards.{first_is}
 use Rattle.ruledwords.proofs.Hands.{opens_kept, presets_are, deals, dealt_first, dealt_rest}
 use Rattle.ruledwords.proofs.pass.Words.made.Goals as goal
 
@@ -18,7 +20,7 @@ of_words-requires c =
     let words : c.as_slice.result.now ≡ c.in_ok-words.words.items = c.as_slice.ensures.value in
     let small : (q : ℕ) → slice_index c.args.presets.now q < 4294967296 = λ q. search rules in
     let presets = presets_are k c.args.presets.now c.in_ok-words.words.items c.requires (c.in_ok-words.ensures.count, c.in_ok-words.ensures.each) in
-    subst (λ (z : List ℕ × List ℕ). Kept k z.0 (opening z.1 [] (hand k.threads 1 k.threads))) (λ i. (sym presets i, sym words i))
+    subst (λ (z : List ℕ × List ℕ). Kept k z.0 (opening z.1 [] (hand k 1 k.threads))) (λ i. (sym presets i, sym words i))
     (opens_kept k c.args.presets.now c.in_ok-words.words.items c.in_ok-words.ensures.layout small (c.in_ok-words.ensures.count, c.in_ok-words.ensures.each))
 
 pub split_seat-mine-requires : goal.split_seat-mine-requires
@@ -30,8 +32,8 @@ invariant_of-pass c =
     let test = c.loop-before-test.true in
     let all = c.threads-threads.ensures.value in
     let more : 0 < left = omega arith in
-    let one = is_one _ (first_card c.args.layout.threads (c.loop-before.before + 1))
-    (c.split_seat-mine.ensures.4 ∙ ap (λ (m : Sat). (first_of m.0, [])) c.loop-before.invariant.left ∙ ap (λ l. (l, [])) (dealt_first c.args.layout.threads (c.loop-before.before + 1) left more)) in
+    let one = is_one _ (first_card c.args.layout (c.loop-before.before + 1))
+    (c.split_seat-mine.ensures.4 ∙ ap (λ (m : Sat). (first_of m.0, [])) c.loop-before.invariant.left ∙ ap (λ l. (l, [])) (dealt_first c.args.layout (c.loop-before.before + 1) left more)) in
     record { one = one.0; own = ap (λ (z : Card). z.thread) one.1 ∙ sym c.thread_after.ensures; count = ap held (sym one.1); few = search rules }
 
 pub loop-before-preserved : goal.loop-before-preserved
@@ -41,17 +43,17 @@ loop-before-preserved c =
     let all = c.threads-threads.ensures.value in
     let more : 0 < left = omega arith in
     let fewer : left - 1 ≡ c.args.layout.threads - (c.loop-before.before + 1) = omega arith in
-    let one = is_one _ (first_card c.args.layout.threads (c.loop-before.before + 1))
-    (c.split_seat-mine.ensures.4 ∙ ap (λ (m : Sat). (first_of m.0, [])) c.loop-before.invariant.left ∙ ap (λ l. (l, [])) (dealt_first c.args.layout.threads (c.loop-before.before + 1) left more)) in
+    let one = is_one _ (first_card c.args.layout (c.loop-before.before + 1))
+    (c.split_seat-mine.ensures.4 ∙ ap (λ (m : Sat). (first_of m.0, [])) c.loop-before.invariant.left ∙ ap (λ l. (l, [])) (dealt_first c.args.layout (c.loop-before.before + 1) left more)) in
     record {
       table = search rules;
       left = c.split_seat-mine.ensures.2 ∙ ap (λ (m : Sat). (rest_of m.0, m.1)) c.loop-before.invariant.left
-          ∙ ap (λ l. (l, [])) (dealt_rest c.args.layout.threads (c.loop-before.before + 1) left more ∙ ap (λ (n : ℕ). hand c.args.layout.threads (c.loop-before.before + 1 + 1) n) fewer);
+          ∙ ap (λ l. (l, [])) (dealt_rest c.args.layout (c.loop-before.before + 1) left more ∙ ap (λ (n : ℕ). hand c.args.layout (c.loop-before.before + 1 + 1) n) fewer);
       count = search rules;
       dealt = λ j p e. ⊎_elim
           (λ was. c.loop-before.invariant.dealt j p was)
           (λ (t : (j ≡ length c.loop-before.passes.items) × (_ ≡ p)).
-          subst (λ (z : ℕ × Pass Live). (z.1.seat.table_id ≡ c.in_ok-table.table.shared.table_id) × (card_of z.1.seat.me.0 ≡ first_card c.args.layout.threads (z.0 + 1)))
+          subst (λ (z : ℕ × Pass Live). (z.1.seat.table_id ≡ c.in_ok-table.table.shared.table_id) × (card_of z.1.seat.me.0 ≡ first_card c.args.layout (z.0 + 1)))
           (λ i. (sym (t.0 ∙ c.loop-before.invariant.count) i, t.1 i))
           (c.split_seat-mine.ensures.3 ∙ c.loop-before.invariant.table, one.1))
           (get_snoc c.loop-before.passes.items _ p j (subst (λ l. slice_get l j ≡ Some p) c.in_ok-push.ensures.items e));
@@ -69,7 +71,7 @@ returns-clause-each c i other low =
     let all = c.threads-threads.ensures.value in
     let end = c.loop-before.auto in
     let last : i + 1 ≤ c.args.layout.threads = omega arith in
-    (d.0, ap (λ (z : Card). z.threads) d.1, subst (λ (n : ℕ). n ≤ c.args.layout.threads) (sym (ap (λ (z : Card). z.thread) d.1)) last)
+    (d.0, subst (IsCardOf c.args.layout) (sym d.1) (first_is c.args.layout (i + 1) last))
 
 pub returns-clause-cards : goal.returns-clause-cards
 returns-clause-cards c i p e = (c.loop-before.invariant.dealt i p e).1

@@ -1,10 +1,12 @@
-use Rattle.std.proofs.Common.{rules, ℕ, ◌≤◌, [], sym, ap, ◌∙◌, subst}
+use Rattle.std.proofs.Common.{rules, [], sym, ap, ◌∙◌, subst}
 use mathlib.Core.Option.{none}
 use Rattle.atomic_table.specs.Table.{step}
 use Rattle.ruledwords.specs.declared.card.Card.{Card}
 use Rattle.ruledwords.specs.Seen.{held, AreExclusive}
+use Rattle.ruledwords.specs.Passes.{IsCardOf}
 use Rattle.ruledwords.specs.Rules.{met, first_of, rest_of}
 use Rattle.ruledwords.proofs.Moves.{Sat}
+use Rattle.ruledwords.proofs.Cards.{first_met, second_met}
 use Rattle.ruledwords.proofs.Turned.{paired, is_one, at_two, parted}
 use Rattle.ruledwords.proofs.Hands.{deals, gathers, meets, held_first, held_second, exclusive}
 use Rattle.ruledwords.proofs.pass.Words.meet.Goals as goal
@@ -55,14 +57,13 @@ returns-clause-joined g c =
 
 pub returns-clause-passes : goal.returns-clause-passes
 returns-clause-passes g c =
+    let k = c.args.self.now.layout in
     let two = paired _ _ _ c.args.first.one c.args.second.one c.join_seat.ensures.2 in
     let did = c.load.ensures.2 _ _ two in
     let one = is_one _ did.0 (c.split_seat-mine.ensures.4 ∙ ap (λ (m : Sat). (first_of m.0, [])) did.2) in
-    let other = is_one _ did.1 (c.split_seat-mine.ensures.2 ∙ ap (λ (m : Sat). (rest_of m.0, m.1)) did.2) in
-    let a = one.1 ∙ did.3.first in
-    let b = other.1 ∙ did.3.second in (
-      (search rules, ap (λ (z : Card). z.threads) a ∙ c.requires.first.1, subst (λ (n : ℕ). n ≤ c.args.self.now.layout.threads) (sym (ap (λ (z : Card). z.thread) a)) c.requires.first.2),
-      (search rules, ap (λ (z : Card). z.threads) b ∙ c.requires.second.1, subst (λ (n : ℕ). n ≤ c.args.self.now.layout.threads) (sym (ap (λ (z : Card). z.thread) b)) c.requires.second.2),
+    let other = is_one _ did.1 (c.split_seat-mine.ensures.2 ∙ ap (λ (m : Sat). (rest_of m.0, m.1)) did.2) in (
+      (search rules, subst (IsCardOf k) (sym one.1) (first_met k _ _ did.0 did.1 c.requires.first.1 did.3)),
+      (search rules, subst (IsCardOf k) (sym other.1) (second_met k _ _ did.0 did.1 c.requires.first.1 c.requires.second.1 did.3)),
     )
 
 pub returns-clause-exclusive : goal.returns-clause-exclusive

@@ -1,21 +1,14 @@
 use Rattle.std.proofs.Common.{◌≡◌}
-use Rattle.keys.specs.declared.point.Operation.TheVariants as operation
-use Rattle.keys.specs.Layouts.{cell_place}
-use Rattle.mutex.specs.declared.row.Row.TheVariants.{TryLock}
-use Rattle.mutex.specs.declared.try_lock.TryLockRow.TheVariants as try
-use Rattle.mutex.specs.Rows.{IsGoing}
+use Rattle.mutex.specs.declared.call.Call.TheVariants as call
 use Rattle.mutex.specs.Steps.{rank}
-use Rattle.ruledwords.specs.Passes.{card, IsPassOf}
-use Rattle.ruledwords.specs.Calls.{Stands}
+use Rattle.ruledwords.specs.Turns.{IsUnderWay}
 use Rattle.ruledwords.proofs.pass.Words.try_lock.Given as goal
 
-abbrev pub invariant-loop-next : goal.invariant-loop-next
-invariant-loop-next g l = record {
-  pass : IsPassOf l.self l.running.pass;
-  cell : l.running.program.cell ≡ cell_place l.self.layout l.mutex;
-  stands : Stands operation.TryLock (TryLock try.Load) (card l.fn.pass) l.running.program (card l.running.pass);
-  going : IsGoing l.running.program.row;
+abbrev pub invariant-loop-running : goal.invariant-loop-running
+invariant-loop-running g l = record {
+  under : IsUnderWay l.self l.fn.pass (call.TryLock l.mutex) l.running;
+  fate : g.F.Fate.stopped l.fate ≡ g.F.Fate.stopped l.fn.fate;
 }
 
-abbrev pub decreases-loop-next : goal.decreases-loop-next
-decreases-loop-next g l = rank l.running.program.row
+abbrev pub decreases-loop-running : goal.decreases-loop-running
+decreases-loop-running g l = rank l.running.program.row

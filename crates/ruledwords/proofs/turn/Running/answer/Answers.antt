@@ -1,8 +1,10 @@
-use Rattle.std.proofs.Common.{◌≤◌, refl, sym, ap, ◌∙◌, subst, arith}
+use Rattle.std.proofs.Common.{◌≤◌, refl, sym, subst, arith}
 use Rattle.mutex.specs.Rows.{IsGoing}
 use Rattle.mutex.specs.Standings.{Standing}
+use Rattle.mutex.specs.Calls.{mutex_of}
 use Rattle.ruledwords.specs.Rules.{card_of}
-use Rattle.ruledwords.specs.Calls.{Ready, most}
+use Rattle.ruledwords.specs.Passes.{layout_of}
+use Rattle.ruledwords.specs.Calls.{IsOnMutex, Ready, most}
 use Rattle.ruledwords.proofs.Sections.{passes, ready_answered, answer_goes, answer_returns}
 use Rattle.ruledwords.proofs.Turning.{goes_on_answered, ends_answered}
 use Rattle.ruledwords.proofs.turn.Running.answer.Goals as goal
@@ -27,7 +29,12 @@ pub returns-in-Goes-clause-keeps : goal.returns-in-Goes-clause-keeps
 returns-in-Goes-clause-keeps c = λ w a call u.
     let to = c.resume.ensures.row in
     let on = goes_on_answered w a call c.args.self u c.args.answer c.resume.new.self c.requires to in
-    ((u.0.0, (u.0.1.0, u.0.1.1, ap (λ (q : Standing). q.cell) to ∙ u.0.1.2)), on.0, on.1)
+    ((u.0.0, (mutex_of call, on.0)), on.0, on.1)
 
 pub returns-in-Returns-clause-keeps : goal.returns-in-Returns-clause-keeps
-returns-in-Returns-clause-keeps c = λ w a call u. (u.0.0, ends_answered w a call c.args.self u c.args.answer c.in-Returns.reply c.requires (answer_returns c.args.self.program c.args.answer c.resume.result c.in-Returns.reply c.in-Returns.point c.in-Returns.is c.resume.ensures.progress))
+returns-in-Returns-clause-keeps c = λ w a call u.
+    let ended = ends_answered w a call c.args.self u c.args.answer c.in-Returns.reply c.requires (answer_returns c.args.self.program c.args.answer c.resume.result c.in-Returns.reply c.in-Returns.point c.in-Returns.is c.resume.ensures.progress) in
+    (u.0.0, ended.0, ended.1)
+
+pub returns-in-Goes-clause-words : goal.returns-in-Goes-clause-words
+returns-in-Goes-clause-words c = λ w of. (of.0, (of.1.0, subst (λ (q : Standing). IsOnMutex (layout_of w) q of.1.0) (sym c.resume.ensures.row) of.1.1))
