@@ -4,6 +4,7 @@ ghost use Rattle.mutex.specs.Calls.{mutex_of};
 ghost use Rattle.ruledwords.specs.Passes.{layout_of, IsPassOf};
 ghost use Rattle.threadbench.specs.Jobs.{IsJobOf, IsDone, AreDone};
 
+use crate::hands::last_of;
 use keys::{Layout, NoMem};
 use lockword::Reply;
 use mutex::Call;
@@ -104,8 +105,8 @@ fn try_lock(words: &Words, pass: Pass<Live>, mutex: u16) -> (Pass<Live>, Reply)
 fn phases_follow_each_other(rt: HostRuntime) -> Result<(), Fail> {
     let alloc = rt.alloc();
     let (bench, mut passes) = Bench::new(alloc, Layout::new(2, 2, &[])?, &[])?;
-    let second = passes.pop().unwrap();
-    let first = passes.pop().unwrap();
+    let second = last_of(bench.words(), &mut passes);
+    let first = last_of(bench.words(), &mut passes);
 
     let first = job(alloc, &bench, first, &[Call::TryLock(0), Call::TryLock(0)])?;
     let second = job(alloc, &bench, second, &[Call::Unlock(0), Call::TryLock(1)])?;
@@ -139,8 +140,8 @@ fn phases_follow_each_other(rt: HostRuntime) -> Result<(), Fail> {
 fn nothing_is_to_be_declared_consistent(rt: HostRuntime) -> Result<(), Fail> {
     let alloc = rt.alloc();
     let (bench, mut passes) = Bench::new(alloc, Layout::new(2, 2, &[])?, &[])?;
-    let second = passes.pop().unwrap();
-    let first = passes.pop().unwrap();
+    let second = last_of(bench.words(), &mut passes);
+    let first = last_of(bench.words(), &mut passes);
     let own = [Call::TryLock(0), Call::Consistent(0), Call::Unlock(0)];
     let first = job(alloc, &bench, first, &own)?;
     let second = job(alloc, &bench, second, &[Call::Consistent(0)])?;
@@ -160,8 +161,8 @@ fn has_replied(record: &Record, reply: Reply) -> bool {
 fn locks_follow_each_other(rt: HostRuntime) -> Result<(), Fail> {
     let alloc = rt.alloc();
     let (bench, mut passes) = Bench::new(alloc, Layout::new(2, 1, &[])?, &[])?;
-    let second = passes.pop().unwrap();
-    let first = passes.pop().unwrap();
+    let second = last_of(bench.words(), &mut passes);
+    let first = last_of(bench.words(), &mut passes);
     let first = job(alloc, &bench, first, &[Call::Lock(0), Call::Lock(0)])?;
     let second = job(alloc, &bench, second, &[])?;
     let (first, second) = phase(&rt, alloc, &bench, first, second)?;
@@ -180,8 +181,8 @@ fn locks_follow_each_other(rt: HostRuntime) -> Result<(), Fail> {
 fn one_of_two_takes(rt: HostRuntime) -> Result<(), Fail> {
     let alloc = rt.alloc();
     let (bench, mut passes) = Bench::new(alloc, Layout::new(2, 1, &[0])?, &[7])?;
-    let second = passes.pop().unwrap();
-    let first = passes.pop().unwrap();
+    let second = last_of(bench.words(), &mut passes);
+    let first = last_of(bench.words(), &mut passes);
     let first = job(alloc, &bench, first, &[Call::TryLock(0)])?;
     let second = job(alloc, &bench, second, &[Call::TryLock(0)])?;
     let (first, second) = phase(&rt, alloc, &bench, first, second)?;
@@ -203,7 +204,7 @@ fn prepared(alloc: Global, layout: Layout) -> Result<(Bench, Vec<Job>, Pass<Live
     ensures third { IfOk result (λ r. IsPassOf r.0 r.2) }
 {
     let (bench, mut passes) = Bench::new(alloc, layout, &[])?;
-    let third = passes.pop().unwrap();
+    let third = last_of(bench.words(), &mut passes);
     let jobs = jobs_of(alloc, &bench, passes, &[Call::TryLock(0)])?;
     Ok((bench, jobs, third))
 }

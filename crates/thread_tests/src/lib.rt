@@ -6,4 +6,8 @@
 #[cfg(test)]
 mod benches;
 #[cfg(test)]
+mod fates;
+#[cfg(test)]
+mod hands;
+#[cfg(test)]
 mod passes;

@@ -4,6 +4,7 @@ ghost use Rattle.ruledwords.specs.declared.outcome.Wakes.TheVariants.{Nobody};
 ghost use Rattle.ruledwords.specs.Outcomes.{owed_pass, owed_wakes};
 ghost use Rattle.ruledwords.specs.Passes.{layout_of, IsPassOf};
 
+use crate::hands::last_of;
 use keys::{Answer, Layout};
 use lockword::Reply;
 use ruledwords::{Live, Never, Outcome, Owed, Pass, Released, Running, Turn, Wakes, Words};
@@ -87,8 +88,8 @@ fn rounds(words: &Words, first: Pass<Live>) -> (u32, Pass<Live>)
 fn two_threads_try_one_mutex(rt: HostRuntime) -> Result<(), Fail> {
     let layout = Layout::new(2, 1, &[])?;
     let (words, mut passes) = Words::new(rt.alloc(), layout, &[])?;
-    let second = passes.pop().unwrap();
-    let first = passes.pop().unwrap();
+    let second = last_of(&words, &mut passes);
+    let first = last_of(&words, &mut passes);
     let shared = &words;
     let (a, b) = thread::join(
         &rt,
@@ -112,8 +113,8 @@ fn two_threads_try_one_mutex(rt: HostRuntime) -> Result<(), Fail> {
 fn replies_to_two_passes(rt: HostRuntime) -> Result<(), Fail> {
     let layout = Layout::new(2, 2, &[1, 0])?;
     let (words, mut passes) = Words::new(rt.alloc(), layout, &[7, 4_294_967_295])?;
-    let second = passes.pop().unwrap();
-    let first = passes.pop().unwrap();
+    let second = last_of(&words, &mut passes);
+    let first = last_of(&words, &mut passes);
     let (first, none) = unlock(&words, first, 1);
     let (first, taken) = try_lock(&words, first, 1);
     let (second, busy) = try_lock(&words, second, 1);
@@ -140,13 +141,13 @@ fn all_passes_close_the_words(rt: HostRuntime) -> Result<(), Fail> {
     Ok(())
 }
 
-/// An owner's death, which would make a mutex inconsistent, isn't among what threads do yet.
+/// Nobody marks what a dead owner had yet, so no mutex is inconsistent.
 #[test]
 fn consistent_of_consistent_mutexes(rt: HostRuntime) -> Result<(), Fail> {
     let layout = Layout::new(2, 2, &[])?;
     let (words, mut passes) = Words::new(rt.alloc(), layout, &[])?;
-    let second = passes.pop().unwrap();
-    let first = passes.pop().unwrap();
+    let second = last_of(&words, &mut passes);
+    let first = last_of(&words, &mut passes);
     let (first, nobodys) = consistent(&words, first, 1);
     let (first, _taken) = try_lock(&words, first, 1);
     let (first, own) = consistent(&words, first, 1);
@@ -164,7 +165,7 @@ fn consistent_of_consistent_mutexes(rt: HostRuntime) -> Result<(), Fail> {
 fn release_owes_nobody(rt: HostRuntime) -> Result<(), Fail> {
     let layout = Layout::new(1, 1, &[])?;
     let (words, mut passes) = Words::new(rt.alloc(), layout, &[])?;
-    let pass = passes.pop().unwrap();
+    let pass = last_of(&words, &mut passes);
     let (pass, taken) = try_lock(&words, pass, 0);
     assert!(rt; taken == Reply::OK);
     match words.release(pass, 0, &mut Never) {
@@ -181,7 +182,7 @@ fn release_owes_nobody(rt: HostRuntime) -> Result<(), Fail> {
 fn the_2049th_mutex_is_refused(rt: HostRuntime) -> Result<(), Fail> {
     let layout = Layout::new(1, 2049, &[])?;
     let (words, mut passes) = Words::new(rt.alloc(), layout, &[])?;
-    let mut pass = passes.pop().unwrap();
+    let mut pass = last_of(&words, &mut passes);
     let mut taken: u32 = 0;
     for mutex in 0..2048_u16 {
         let (after, reply) = try_lock(&words, pass, mutex);

@@ -18,7 +18,7 @@ use Rattle.threadbench.specs.Calls.{Locked}
 abbrev pub Replied : Words → Pass Live → Call → Reply → Pass Live → Type 0
 Replied w a (Lock m) r b = Locked w m a (Lives b r)
 Replied w a (TryLock m) r b = Tried w m a (Lives b r)
-Replied w a (Unlock m) r b = IsPassOf w b × Called (card a) (cell_place (layout_of w) m) operation.Unlock r (card b)
+Replied w a (Unlock m) r b = IsPassOf w b × Called (card a) (cell_place (layout_of w) m) ((operation.Unlock, r) ∷ []) (card b)
 Replied w a (Consistent m) r b = Declared w m a (Lives b r)
 
 -- so many calls, a reply each

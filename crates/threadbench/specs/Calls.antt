@@ -1,8 +1,6 @@
 -- What calls answer that may sleep or wake.
-use Rattle.std.specs.Prelude.{ℕ, ◌≡◌, nat_le, MatchBool}
-use Rattle.keys.specs.Objects.{held_limit}
-use Rattle.lockword.specs.declared.reply.Reply.TheVariants.{OK, XHELD}
-use Rattle.keys.specs.Layouts.{cell_place}
+use Rattle.std.specs.Prelude.{ℕ, ◌≡◌}
+use Rattle.lockword.specs.declared.reply.Reply.TheVariants.{OK}
 use Rattle.keys.specs.declared.point.Operation.TheVariants as operation
 use Rattle.ruledwords.specs.declared.pass.Words.{Words}
 use Rattle.ruledwords.specs.declared.pass.Pass.{Pass}
@@ -10,26 +8,22 @@ use Rattle.ruledwords.specs.declared.pass.Live.{Live}
 use Rattle.ruledwords.specs.declared.outcome.Outcome.{Outcome}
 use Rattle.ruledwords.specs.declared.outcome.Outcome.TheVariants.{Lives, Dead}
 use Rattle.ruledwords.specs.declared.outcome.Owed.{Owed}
-use Rattle.ruledwords.specs.Outcomes.{owed_pass}
+use Rattle.ruledwords.specs.Outcomes.{owed_pass, Takes, DiesTaking}
 use Rattle.ruledwords.specs.Passes.{card, layout_of, IsPassOf}
-use Rattle.ruledwords.specs.Seen.{Called, held}
 use Rattle.ruledwords.specs.declared.turn.Running.{Running}
 use Rattle.ruledwords.specs.Turns.{running_pass, running_program}
 use Rattle.mutex.specs.declared.row.Row.TheVariants.{Unlock}
 use Rattle.mutex.specs.declared.unlock.UnlockRow.TheVariants as unlock
 
--- a lock of mutex m: by a thread that holds 2,048 mutexes it is refused, with nothing seen anew. Otherwise the reply is that of its point, whether it slept before or not
+-- a lock of mutex m, whether it slept before or not
 abbrev pub Locked : Words → ℕ → Pass Live → Outcome → Type 0
-Locked w m a (Lives b r) =
-    IsPassOf w b
-    × MatchBool (nat_le held_limit (held (card a))) ((r ≡ XHELD) × (card b ≡ card a))
-    (Called (card a) (cell_place (layout_of w) m) operation.Lock r (card b))
-Locked w m a (Dead b) = ⊥
+Locked w m a (Lives b r) = IsPassOf w b × Takes (layout_of w) m operation.Lock (card a) r (card b)
+Locked w m a (Dead d) = IsPassOf w d × DiesTaking (layout_of w) m operation.Lock (card a) (card d)
 
 -- an unlock ends with OK once its sleepers are woken. Nothing is seen anew
 abbrev pub Paid : Words → Owed → Outcome → Type 0
 Paid w o (Lives b r) = IsPassOf w b × (r ≡ OK) × (card b ≡ card (owed_pass o))
-Paid w o (Dead b) = ⊥
+Paid w o (Dead d) = IsPassOf w d × (card d ≡ card (owed_pass o))
 
 -- an unlock stands before its trim
 abbrev pub StandsAtTrim : Running → Type 0

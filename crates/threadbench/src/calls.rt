@@ -1,5 +1,5 @@
 //! The calls of a job, one after the other.
-ghost use Rattle.std.specs.Prelude.{◌≡◌, ◌<◌, ◌≤◌, [], All, length, vec_capacity};
+ghost use Rattle.std.specs.Prelude.{◌≡◌, ◌<◌, ◌≤◌, [], ◌∷◌, All, length, vec_capacity};
 ghost use Rattle.keys.specs.Layouts.{cell_place};
 ghost use Rattle.keys.specs.declared.point.Operation.TheVariants as operation;
 ghost use Rattle.mutex.specs.Calls.{mutex_of};
@@ -21,7 +21,7 @@ fn unlock<R: Wait>(rt: &R, bench: &Bench, pass: Pass<Live>, mutex: u16) -> (Pass
     requires pass { IsPassOf bench.now pass }
     requires mutex { mutex < (layout_of bench.now).mutexes }
     ensures pass { IsPassOf bench.now result.0 }
-    ensures called { Called (card pass) (cell_place (layout_of bench.now) mutex) operation.Unlock result.1 (card result.0) }
+    ensures called { Called (card pass) (cell_place (layout_of bench.now) mutex) ((operation.Unlock, result.1) ∷ []) (card result.0) }
 {
     match bench.words().release(pass, mutex, &mut Never) {
         Released::Owes(owed) => match bench.pay(rt, owed, &mut Never) {

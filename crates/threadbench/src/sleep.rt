@@ -1,8 +1,8 @@
 //! Calls that sleep, and those that wake.
-ghost use Rattle.std.specs.Prelude.{◌≡◌, ◌<◌, ◌≤◌};
+ghost use Rattle.std.specs.Prelude.{◌≡◌, ◌+◌, ◌<◌, ◌≤◌};
 ghost use Rattle.keys.specs.declared.access.Access.TheVariants.{Wait as AtWait};
 ghost use Rattle.mutex.specs.Programs.{access_of};
-ghost use Rattle.ruledwords.specs.Outcomes.{IsOwedOf};
+ghost use Rattle.ruledwords.specs.Outcomes.{IsOwedOf, stops_in};
 ghost use Rattle.ruledwords.specs.Passes.{layout_of, IsPassOf};
 ghost use Rattle.ruledwords.specs.Turns.{running_program, IsRunningOf, IsTurnOf, Keeps};
 ghost use Rattle.threadbench.specs.Calls.{Locked, Paid, StandsAtTrim, Untrimmed};
@@ -18,8 +18,8 @@ use std::sync::Wait;
 
 impl Bench {
     /// Takes a mutex, and sleeps while another thread owns it (pthread_mutex_lock). The reply is OK; EOWNERDEAD where its last owner died and nobody declared it consistent;
-    /// ENOTRECOVERABLE where it can't be used any more; EDEADLK where the thread owns it already; XHELD, with no access, where the thread holds 2,048 mutexes. The fate isn't asked
-    /// yet, and is left as it was.
+    /// ENOTRECOVERABLE where it can't be used any more; EDEADLK where the thread owns it already; XHELD, with no access, where the thread holds 2,048 mutexes. The fate is asked
+    /// before each access and each section, and the thread dies where it says so.
     pub fn lock<R: Wait, F: Fate>(
         &self,
         rt: &R,
@@ -30,13 +30,16 @@ impl Bench {
         requires pass { IsPassOf self.now pass }
         requires mutex { mutex < (layout_of self.now).mutexes }
         ensures locked { Locked self.now mutex pass result }
-        ensures fate { fate.new ≡ fate.old }
+        ensures fate { F.stopped fate.new ≡ F.stopped fate.old + stops_in result }
     {
         let mut running = match Running::call(&self.words, pass, Call::Lock(mutex)) {
             Ok(running) => running,
             Err((pass, reply)) => return Outcome::Lives(pass, reply),
         };
         for _ in rt.forever() {
+            if fate.stops() {
+                return Outcome::Dead(running.die());
+            }
             match self.turn(rt, running) {
                 Turn::Goes(next) => running = next,
                 Turn::Lives(pass, reply) => return Outcome::Lives(pass, reply),
@@ -45,23 +48,31 @@ impl Bench {
         unreachable!()
     }
 
-    /// Ends an unlock: wakes whom it has to wake. The reply is OK. The fate isn't asked yet, and is left as it was.
+    /// Ends an unlock: wakes whom it has to wake. The reply is OK. The fate is asked before each section, and the thread dies where it says so.
     pub fn pay<R: Wait, F: Fate>(&self, rt: &R, owed: Owed, fate: &mut F) -> Outcome
         requires { IsOwedOf self.now owed }
         ensures paid { Paid self.now owed result }
-        ensures fate { fate.new ≡ fate.old }
+        ensures fate { F.stopped fate.new ≡ F.stopped fate.old + stops_in result }
     {
         let running = match owed.settle(&self.words) {
             Ok(pass) => return Outcome::Lives(pass, Reply::OK),
             Err(owed) => Running::owed(owed),
         };
+        if fate.stops() {
+            return Outcome::Dead(running.die());
+        }
         let Access::Wake { at, most } = running.next() else {
             unreachable!()
         };
         let woken = self.wake(rt, key_of(at), most);
         match running.answer(Answer::Count(woken)) {
             Turn::Lives(pass, reply) => Outcome::Lives(pass, reply),
-            Turn::Goes(running) => untrimmed(running),
+            Turn::Goes(running) => {
+                if fate.stops() {
+                    return Outcome::Dead(running.die());
+                }
+                untrimmed(running)
+            }
         }
     }
 

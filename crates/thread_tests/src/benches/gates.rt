@@ -2,6 +2,7 @@
 ghost use Rattle.std.specs.Prelude.{None};
 
 use super::{has_replied, job, jobs_of, work};
+use crate::hands::last_of;
 use keys::Layout;
 use lockword::{Reply, Tid};
 use mutex::Call;
@@ -45,8 +46,8 @@ impl Gate for Follows {
 /// Two workers with one call each, that of the thread `last` after the other's.
 fn one_follows<R: Threads + Wait + Sync>(rt: &R, alloc: Global, last: u8) -> Result<bool, Fail> {
     let (bench, mut passes) = Bench::new(alloc, Layout::new(2, 2, &[])?, &[])?;
-    let second = passes.pop().unwrap();
-    let first = passes.pop().unwrap();
+    let second = last_of(bench.words(), &mut passes);
+    let first = last_of(bench.words(), &mut passes);
     let first = job(alloc, &bench, first, &[Call::TryLock(0)])?;
     let second = job(alloc, &bench, second, &[Call::TryLock(1)])?;
     let jobs = Vec::from_array(alloc, [first, second])?;

@@ -3,6 +3,7 @@ ghost use Rattle.std.specs.Prelude.{◌≡◌, ◌<◌};
 ghost use Rattle.ruledwords.specs.Outcomes.{IsOwedOf};
 ghost use Rattle.ruledwords.specs.Passes.{layout_of, IsPassOf};
 
+use crate::hands::last_of;
 use keys::Layout;
 use lockword::Reply;
 use ruledwords::{Live, Never, Outcome, Owed, Pass, Released};
@@ -70,8 +71,8 @@ fn rounds<R: Wait>(rt: &R, bench: &Bench, first: Pass<Live>) -> (u32, Pass<Live>
 #[test]
 fn two_threads_sleep_for_each_other(rt: HostRuntime) -> Result<(), Fail> {
     let (bench, mut passes) = Bench::new(rt.alloc(), Layout::new(2, 1, &[])?, &[])?;
-    let second = passes.pop().unwrap();
-    let first = passes.pop().unwrap();
+    let second = last_of(bench.words(), &mut passes);
+    let first = last_of(bench.words(), &mut passes);
     let shared = &bench;
     let host = &rt;
     let (a, b) = thread::join(
