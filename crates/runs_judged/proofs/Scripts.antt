@@ -4,11 +4,10 @@ use Rattle.std.specs.Prelude.{if◌then◌else◌, nat_lt}
 use Rattle.std.proofs.lemmas.Bool.Decides.{nat_tests}
 use Rattle.std.proofs.lemmas.List.{length-map}
 use Rattle.std.proofs.lemmas.List.Elements.{All-nil, All-map}
-use Rattle.keys.specs.Layouts.{IsLayout}
 use Rattle.protocol.specs.declared.event.Event.{Event}
 use Rattle.protocol.specs.Machine.{State, run, notes}
 use Rattle.script.specs.declared.command.Command.{Command}
-use Rattle.script.specs.Limits.{max_bytes, max_lines, max_events}
+use Rattle.script.specs.Limits.{max_bytes, max_lines, max_base, max_events}
 use Rattle.script.specs.declared.command.Mode.{Mode}
 use Rattle.script.specs.declared.fault.Fault.{Fault}
 use Rattle.script.specs.declared.fault.Fault.TheVariants.{NotUtf8, UnknownWord, OutOfRange, TooLong}
@@ -16,6 +15,7 @@ use Rattle.script.specs.declared.fault.ScriptFault.{ScriptFault}
 use Rattle.script.specs.Scope.{Scope, IsPossible, IsCondition, IsWithinLimits, IsWellFormed}
 use Rattle.script.specs.Reading.{refuse, nothing, fault_at, met_at, line_read, finished, lines_read, text_read, script_read}
 use Rattle.script.proofs.Bounds.{line_within}
+use Rattle.script.proofs.Firsts.{is_layout}
 use Rattle.lines.specs.Faults.{◌>>=◌}
 use Rattle.lines.specs.Lines.{lines_of, bad_line}
 use Rattle.lines.proofs.Cutting.{one_or_more}
@@ -24,15 +24,6 @@ use Rattle.script.specs.Playing.{layout_of, counter_of, first_state, events_of, 
 use Rattle.verdict.specs.declared.head.Head.{Head}
 use Rattle.runs_judged.specs.Judged.{IsJudgedLegal, head_of, script_head, ScriptsAreJudgedLegal, PrintedRunsAreLegal}
 use Rattle.runs_judged.proofs.Judging.{judged}
-
-is_layout : (s : Scope) → IsWellFormed s → IsLayout (layout_of s)
-is_layout s whole =
-    let few = whole.within.conditions_at_most in
-    record {
-      threads = (whole.some_thread, whole.within.threads_at_most);
-      mutexes = (whole.some_mutex, whole.within.mutexes_at_most);
-      conditions = (omega (arith, few, length-map s.conditions (λ c. c.1.mutex)), All-map (λ m. m < length s.mutexes) (λ c. c.1.mutex) s.conditions (λ i c lt. (whole.within.conditions_possible i c lt).0));
-    }
 
 within_from : (n : ℕ) (s : State) (cs : List Command) → n ≤ max_events → overlong_from n s cs ≡ None → n + length (events_from s cs) ≤ max_events
 within_from n s [] most none = omega (arith, most)
@@ -92,7 +83,17 @@ lines_well n s (text ∷ next ∷ more) some within = go (line_read n s text) (l
     go (Err f) in_it rest = tt
 
 nothing_within : (k : Mode) → IsWithinLimits (nothing k)
-nothing_within k = record { threads_at_most = omega arith; mutexes_at_most = omega arith; conditions_at_most = omega arith; conditions_possible = All-nil (λ c. IsCondition 0 c.1); commands_possible = All-nil (λ c. IsPossible 0 0 0 c.action) }
+nothing_within k = record {
+  processes_at_most = omega arith;
+  bases_possible = All-nil (λ p. p.1 ≤ max_base);
+  threads_at_most = omega arith;
+  each_thread = refl;
+  members_possible = All-nil (λ p. p ≤ 0);
+  mutexes_at_most = omega arith;
+  conditions_at_most = omega arith;
+  conditions_possible = All-nil (λ c. IsCondition 0 c.1);
+  commands_possible = All-nil (λ c. IsPossible 0 0 0 0 c.action);
+}
 
 read_well : (k : Mode) (bytes : List ℕ) → IfOk (script_read k bytes) IsWellFormed
 read_well k bytes = go (nat_lt max_bytes (length bytes)) (is_utf8 bytes)

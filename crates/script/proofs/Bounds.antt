@@ -13,11 +13,11 @@ use Rattle.protocol.specs.declared.event.Op.{Op}
 use Rattle.protocol.specs.declared.event.Op.TheVariants.{OnMutex, OnCondition}
 use Rattle.mutex.specs.declared.call.Call.TheVariants as call
 use Rattle.condvar.specs.declared.call.CondCall.TheVariants as on
-use Rattle.script.specs.Forms.{CallForm, lock, trylock, unlock, consistent, wait, signal, broadcast, Form, silent, thread, mutex, mutexes, cond, begins, steps, kills, goes, calls, locks, phase, form_of, of_mode, has, words_form, or_else, name_form, step_form, mutexes_form, locks_form, cond_form, call_form, calling_form, is_silent, is_name, is_stem}
+use Rattle.script.specs.Forms.{CallForm, lock, trylock, unlock, consistent, wait, signal, broadcast, Form, silent, process, thread, member, mutex, mutexes, cond, begins, steps, kills, kills_all, goes, calls, locks, phase, form_of, of_mode, has, words_form, or_else, name_form, step_form, mutexes_form, process_form, member_form, locks_form, cond_form, call_form, calling_form, is_silent, is_name, is_stem}
 use Rattle.lines.specs.Numbers.{is_number, within}
 use Rattle.lines.specs.Lines.{words_of}
 use Rattle.script.specs.Scope.{Scope, Names, IsPossible, IsCondition, IsWithinLimits}
-use Rattle.script.specs.Reading.{refuse, place_of, is_declared, condition_names, with_condition, added, numbered, is_numbered, several, declares, condition_declared, thread_of, call_of, first_of, begun, stepped, killed, gone, made, locked, with_action, enter, line_read}
+use Rattle.script.specs.Reading.{refuse, place_of, process_of, is_declared, names_of, condition_names, with_entry, with_condition, with_thread, added, numbered, is_numbered, several, declares, process_declared, thread_declared, condition_declared, thread_of, call_of, first_of, begun, stepped, killed, all_killed, gone, made, locked, with_action, enter, line_read}
 use Rattle.lines.specs.Faults.{◌>>=◌}
 use Rattle.script.specs.declared.command.Mode.{Mode}
 use Rattle.script.specs.declared.command.Action.{Action}
@@ -25,15 +25,15 @@ use Rattle.script.specs.declared.command.Action.TheVariants as action
 use Rattle.script.specs.declared.fault.Fault.{Fault}
 use Rattle.script.specs.declared.fault.Fault.TheVariants.{UnknownWord, OutOfRange, NoSuchName, TooLong}
 use Rattle.script.specs.declared.command.Condition.{Condition}
-use Rattle.script.specs.Limits.{max_lines, max_threads, max_mutexes, max_conditions, max_counter, max_steps}
+use Rattle.script.specs.Limits.{max_lines, max_processes, max_base, max_threads, max_mutexes, max_conditions, max_counter, max_steps}
 use Rattle.script.proofs.Names.{length-map_of}
 
 -- what holds of the first thing's value serves the second
-chain : {A B : Type 0} (r : Result A Fault) (f : A → Result B Fault) (P : A → Type 0) (Q : B → Type 0) → IfOk r P → ((x : A) → P x → IfOk (f x) Q) → IfOk (r >>= f) Q
+pub chain : {A B : Type 0} (r : Result A Fault) (f : A → Result B Fault) (P : A → Type 0) (Q : B → Type 0) → IfOk r P → ((x : A) → P x → IfOk (f x) Q) → IfOk (r >>= f) Q
 chain (Ok x) f P Q p q = q x p
 chain (Err e) f P Q p q = tt
 
-refused : {A : Type 0} (b : Bool) (f : Fault) (r : Result A Fault) (P : A → Type 0) → (b ≡ false → IfOk r P) → IfOk (refuse b f r) P
+pub refused : {A : Type 0} (b : Bool) (f : Fault) (r : Result A Fault) (P : A → Type 0) → (b ≡ false → IfOk r P) → IfOk (refuse b f r) P
 refused true f r P h = tt
 refused false f r P h = h refl
 
@@ -64,6 +64,11 @@ unused : {A : Type 0} (P : A → Type 0) (xs : List A) → not (length xs == 0) 
 unused P [] h = All-nil P
 unused P (x ∷ xs) h = absurd (grind (arith, nat_tests))
 
+-- a process that is named is one of those that were declared
+processed : (s : Scope) (p : List ℕ) → IfOk (process_of s p) (λ i. (1 ≤ i) × (i ≤ length s.processes))
+processed s p = chain (place_of p (names_of s.processes)) (λ i. Ok (i + 1)) (λ i. i < length (names_of s.processes)) (λ i. (1 ≤ i) × (i ≤ length s.processes)) (placed p (names_of s.processes))
+    (λ i h. let few : i < length s.processes = omega (arith, h, length-map_of (λ x. x.0) s.processes) in (omega arith, omega arith))
+
 threaded : (s : Scope) (t : List ℕ) → IfOk (thread_of s t) (λ i. (1 ≤ i) × (i ≤ length s.threads))
 threaded s t = chain (place_of t s.threads) (λ i. Ok (i + 1)) (λ i. i < length s.threads) (λ i. (1 ≤ i) × (i ≤ length s.threads)) (placed t s.threads) (λ i h. (omega arith, omega arith))
 
@@ -83,17 +88,22 @@ reached s m n = chain (place_of m s.mutexes) (λ j. refuse (nat_lt (length s.mut
     (λ j h. refused (nat_lt (length s.mutexes) (j + n)) OutOfRange (Ok j) (λ i. i + n ≤ length s.mutexes) (λ room. grind (arith, nat_tests)))
 
 -- a possible action more
-appended : (n : ℕ) (s : Scope) (a : Action) → IsWithinLimits s → IsPossible (length s.threads) (length s.mutexes) (length s.conditions) a → IsWithinLimits (with_action n s a)
+appended : (n : ℕ) (s : Scope) (a : Action) → IsWithinLimits s → IsPossible (length s.processes) (length s.threads) (length s.mutexes) (length s.conditions) a → IsWithinLimits (with_action n s a)
 appended n s a h p = record {
+  processes_at_most = h.processes_at_most;
+  bases_possible = h.bases_possible;
   threads_at_most = h.threads_at_most;
+  each_thread = h.each_thread;
+  members_possible = h.members_possible;
   mutexes_at_most = h.mutexes_at_most;
   conditions_at_most = h.conditions_at_most;
   conditions_possible = h.conditions_possible;
-  commands_possible = All-push (λ c. IsPossible (length s.threads) (length s.mutexes) (length s.conditions) c.action) s.commands (record { line = n; action = a }) h.commands_possible p;
+  commands_possible = All-push (λ c. IsPossible (length s.processes) (length s.threads) (length s.mutexes) (length s.conditions) c.action) s.commands (record { line = n; action = a }) h.commands_possible p;
 }
 
 -- a count that a line gives is in its range
 abbrev IsFit : Form → Type 0
+IsFit (process p base) = IfSome base (λ n. (0 ≤ n) × (n ≤ max_base))
 IsFit (steps t count) = IfSome count (λ n. (1 ≤ n) × (n ≤ max_steps))
 IsFit (cond c m count) = IfSome count (λ n. (0 ≤ n) × (n ≤ max_counter))
 IsFit (locks t m count) = IfSome count (λ n. (1 ≤ n) × (n ≤ max_mutexes))
@@ -101,7 +111,7 @@ IsFit f = Unit {0}
 
 -- an action that the script may have
 abbrev May : Scope → Action → Type 0
-May s a = IsPossible (length s.threads) (length s.mutexes) (length s.conditions) a
+May s a = IsPossible (length s.processes) (length s.threads) (length s.mutexes) (length s.conditions) a
 
 -- what a command asks for: its parts were looked up among what the script has
 calling : (s : Scope) (t : List ℕ) (c : CallForm) (make : ℕ → Op → Action) → ((i : ℕ) (k : Op) → 1 ≤ i → i ≤ length s.threads → Names (length s.mutexes) (length s.conditions) k → May s (make i k))
@@ -112,6 +122,9 @@ calling s t c make possible = chain (thread_of s t) (λ i. call_of s c >>= λ k.
 of_thread : (s : Scope) (t : List ℕ) (make : ℕ → Action) → ((i : ℕ) → 1 ≤ i → i ≤ length s.threads → May s (make i))
     → IfOk (thread_of s t >>= λ i. Ok (make i)) (May s)
 of_thread s t make possible = chain (thread_of s t) (λ i. Ok (make i)) (λ i. (1 ≤ i) × (i ≤ length s.threads)) (May s) (threaded s t) (λ i low. possible i low.0 low.1)
+
+of_process : (s : Scope) (p : List ℕ) → IfOk (all_killed s p) (May s)
+of_process s p = chain (process_of s p) (λ i. Ok (action.KillAll i)) (λ i. (1 ≤ i) × (i ≤ length s.processes)) (May s) (processed s p) (λ i low. low)
 
 stepping : (s : Scope) (t : List ℕ) (count : Option ℕ) → IfSome count (λ k. (1 ≤ k) × (k ≤ max_steps)) → IfOk (stepped s t count) (May s)
 stepping s t None range = tt
@@ -127,31 +140,71 @@ may_ask : (n : ℕ) (s : Scope) (r : Result Action Fault) → IsWithinLimits s �
 may_ask n s r h may = chain r (λ a. Ok (with_action n s a)) (May s) IsWithinLimits may (λ a p. appended n s a h p)
 
 -- the names of a script without a command are as many as may be
-with_threads : (s : Scope) (names : List (List ℕ)) → IsWithinLimits s → not (length s.commands == 0) ≡ false → length names ≤ max_threads → IsWithinLimits (record s { threads = names })
-with_threads s names h unused_yet few = record {
+with_threads : (s : Scope) (names : List (List ℕ)) (p : ℕ) → IsWithinLimits s → not (length s.commands == 0) ≡ false → length names ≤ max_threads → length names ≡ length s.threads + 1 → p ≤ length s.processes
+    → IsWithinLimits (record s { threads = names; members = s.members ++ p ∷ [] })
+with_threads s names p h unused_yet few more known = record {
+  processes_at_most = h.processes_at_most;
+  bases_possible = h.bases_possible;
   threads_at_most = few;
+  each_thread = let each = h.each_thread in omega (arith, each, more, length-append s.members (p ∷ []));
+  members_possible = All-push (λ i. i ≤ length s.processes) s.members p h.members_possible known;
   mutexes_at_most = h.mutexes_at_most;
   conditions_at_most = h.conditions_at_most;
   conditions_possible = h.conditions_possible;
-  commands_possible = unused (λ c. IsPossible (length names) (length s.mutexes) (length s.conditions) c.action) s.commands unused_yet;
+  commands_possible = unused (λ c. IsPossible (length s.processes) (length names) (length s.mutexes) (length s.conditions) c.action) s.commands unused_yet;
 }
 
 with_mutexes : (s : Scope) (names : List (List ℕ)) → IsWithinLimits s → not (length s.commands == 0) ≡ false → length s.mutexes ≤ length names → length names ≤ max_mutexes → IsWithinLimits (record s { mutexes = names })
 with_mutexes s names h unused_yet more few = record {
+  processes_at_most = h.processes_at_most;
+  bases_possible = h.bases_possible;
   threads_at_most = h.threads_at_most;
+  each_thread = h.each_thread;
+  members_possible = h.members_possible;
   mutexes_at_most = few;
   conditions_at_most = h.conditions_at_most;
   conditions_possible = λ i c lt. let old = h.conditions_possible i c lt in let its = old.0 in (omega arith, old.1);
-  commands_possible = unused (λ c. IsPossible (length s.threads) (length names) (length s.conditions) c.action) s.commands unused_yet;
+  commands_possible = unused (λ c. IsPossible (length s.processes) (length s.threads) (length names) (length s.conditions) c.action) s.commands unused_yet;
 }
 
 declared : (s : Scope) → IfOk (declares s) (λ _. not (length s.commands == 0) ≡ false)
 declared s = refused (not (length s.commands == 0)) UnknownWord (Ok tt) (λ _. not (length s.commands == 0) ≡ false) (λ holds. holds)
 
-declaring_thread : (s : Scope) (w : List ℕ) → IsWithinLimits s → IfOk (declares s >>= λ _. added max_threads s.threads w >>= λ names. Ok (record s { threads = names })) IsWithinLimits
-declaring_thread s w h = chain (declares s) (λ _. added max_threads s.threads w >>= λ names. Ok (record s { threads = names })) (λ _. not (length s.commands == 0) ≡ false) IsWithinLimits (declared s)
-    (λ _ unused_yet. chain (added max_threads s.threads w) (λ names. Ok (record s { threads = names })) (λ names. (length s.threads ≤ length names) × (length names ≤ max_threads)) IsWithinLimits (grown max_threads s.threads w)
-    (λ names few. with_threads s names h unused_yet few.1))
+-- a process more
+with_process : (s : Scope) (w : List ℕ) (b : ℕ) → IsWithinLimits s → not (length s.commands == 0) ≡ false → nat_le max_processes (length s.processes) ≡ false → b ≤ max_base → IsWithinLimits (record s { processes = s.processes ++ (w, b) ∷ [] })
+with_process s w b h unused_yet room small =
+    let more = length-append s.processes ((w, b) ∷ []) in
+    record {
+      processes_at_most = rw more (grind (arith, nat_tests));
+      bases_possible = All-push (λ p. p.1 ≤ max_base) s.processes (w, b) h.bases_possible small;
+      threads_at_most = h.threads_at_most;
+      each_thread = h.each_thread;
+      members_possible = λ i p lt. let old = h.members_possible i p lt in omega (arith, old, more);
+      mutexes_at_most = h.mutexes_at_most;
+      conditions_at_most = h.conditions_at_most;
+      conditions_possible = h.conditions_possible;
+      commands_possible = unused (λ c. IsPossible (length (s.processes ++ (w, b) ∷ [])) (length s.threads) (length s.mutexes) (length s.conditions) c.action) s.commands unused_yet;
+    }
+
+declaring_process : (s : Scope) (w : List ℕ) (base : Option ℕ) → IsWithinLimits s → IfSome base (λ n. (0 ≤ n) × (n ≤ max_base)) → IfOk (process_declared s w base) IsWithinLimits
+declaring_process s w None h range = chain (declares s) (λ _. ok_or None OutOfRange >>= λ b. refuse (nat_le max_processes (length s.processes)) OutOfRange (with_entry s.processes w b >>= λ ps. Ok (record s { processes = ps })))
+    (λ _. not (length s.commands == 0) ≡ false) IsWithinLimits (declared s) (λ _ unused_yet. tt)
+declaring_process s w (Some b) h range = chain (declares s) (λ _. refuse (nat_le max_processes (length s.processes)) OutOfRange (with_entry s.processes w b >>= λ ps. Ok (record s { processes = ps })))
+    (λ _. not (length s.commands == 0) ≡ false) IsWithinLimits (declared s)
+    (λ _ unused_yet. refused (nat_le max_processes (length s.processes)) OutOfRange (with_entry s.processes w b >>= λ ps. Ok (record s { processes = ps })) IsWithinLimits (λ room. by_cases unused_yet room (is_declared w (names_of s.processes)))) where
+      by_cases : not (length s.commands == 0) ≡ false → nat_le max_processes (length s.processes) ≡ false → (there : Bool) → IfOk (refuse there NoSuchName (Ok (s.processes ++ (w, b) ∷ [])) >>= λ ps. Ok (record s { processes = ps })) IsWithinLimits
+      by_cases unused_yet room true = tt
+      by_cases unused_yet room false = with_process s w b h unused_yet room range.1
+
+-- a thread of this process
+declaring_thread : (s : Scope) (w : List ℕ) (its : Result ℕ Fault) → IsWithinLimits s → IfOk its (λ p. p ≤ length s.processes) → IfOk (thread_declared s w its) IsWithinLimits
+declaring_thread s w its h known = chain (declares s) (λ _. refuse (nat_le max_threads (length s.threads)) OutOfRange (its >>= λ p. with_thread s w p)) (λ _. not (length s.commands == 0) ≡ false) IsWithinLimits (declared s)
+    (λ _ unused_yet. refused (nat_le max_threads (length s.threads)) OutOfRange (its >>= λ p. with_thread s w p) IsWithinLimits
+    (λ room. chain its (λ p. with_thread s w p) (λ p. p ≤ length s.processes) IsWithinLimits known (λ p low. by_cases p low unused_yet room (is_declared w s.threads)))) where
+      by_cases : (p : ℕ) → p ≤ length s.processes → not (length s.commands == 0) ≡ false → nat_le max_threads (length s.threads) ≡ false → (there : Bool)
+          → IfOk (refuse there NoSuchName (Ok (s.threads ++ w ∷ [])) >>= λ names. Ok (record s { threads = names; members = s.members ++ p ∷ [] })) IsWithinLimits
+      by_cases p low unused_yet room true = tt
+      by_cases p low unused_yet room false = let more = length-append s.threads (w ∷ []) in with_threads s (s.threads ++ w ∷ []) p h unused_yet (rw more (grind (arith, nat_tests))) more low
 
 declaring_mutex : (s : Scope) (w : List ℕ) → IsWithinLimits s → IfOk (declares s >>= λ _. added max_mutexes s.mutexes w >>= λ names. Ok (record s { mutexes = names })) IsWithinLimits
 declaring_mutex s w h = chain (declares s) (λ _. added max_mutexes s.mutexes w >>= λ names. Ok (record s { mutexes = names })) (λ _. not (length s.commands == 0) ≡ false) IsWithinLimits (declared s)
@@ -171,13 +224,19 @@ declaring_mutexes s w count h = chain (declares s) (λ _. ok_or count OutOfRange
 with_one : (s : Scope) (w : List ℕ) (m n : ℕ) → IsWithinLimits s → not (length s.commands == 0) ≡ false → nat_le max_conditions (length s.conditions) ≡ false → m < length s.mutexes → n ≤ max_counter → IfOk (with_condition s w m n) IsWithinLimits
 with_one s w m n h unused_yet room its small =
     let d : Condition = record { mutex = m; counter = n } in
-    refused (is_declared w (condition_names s)) NoSuchName (Ok (record s { conditions = s.conditions ++ (w, d) ∷ [] })) IsWithinLimits (λ new. record {
+    chain (with_entry s.conditions w d) (λ cs. Ok (record s { conditions = cs })) (λ cs. cs ≡ s.conditions ++ (w, d) ∷ []) IsWithinLimits
+    (refused (is_declared w (condition_names s)) NoSuchName (Ok (s.conditions ++ (w, d) ∷ [])) (λ cs. cs ≡ s.conditions ++ (w, d) ∷ []) (λ new. refl))
+    (λ cs is. rw is (record {
+      processes_at_most = h.processes_at_most;
+      bases_possible = h.bases_possible;
       threads_at_most = h.threads_at_most;
+      each_thread = h.each_thread;
+      members_possible = h.members_possible;
       mutexes_at_most = h.mutexes_at_most;
       conditions_at_most = rw (length-append s.conditions ((w, d) ∷ [])) (grind (arith, nat_tests));
       conditions_possible = All-push (λ c. IsCondition (length s.mutexes) c.1) s.conditions (w, d) h.conditions_possible (its, small);
-      commands_possible = unused (λ c. IsPossible (length s.threads) (length s.mutexes) (length (s.conditions ++ (w, d) ∷ [])) c.action) s.commands unused_yet;
-    })
+      commands_possible = unused (λ c. IsPossible (length s.processes) (length s.threads) (length s.mutexes) (length (s.conditions ++ (w, d) ∷ [])) c.action) s.commands unused_yet;
+    }))
 
 declaring_condition : (s : Scope) (w m : List ℕ) (count : Option ℕ) → IsWithinLimits s → IfSome count (λ n. (0 ≤ n) × (n ≤ max_counter)) → IfOk (condition_declared s w m count) IsWithinLimits
 declaring_condition s w m None h range = chain (declares s) (λ _. ok_or None OutOfRange >>= λ n. refuse (nat_le max_conditions (length s.conditions)) OutOfRange (place_of m s.mutexes >>= λ j. with_condition s w j n))
@@ -190,13 +249,19 @@ declaring_condition s w m (Some n) h range = chain (declares s) (λ _. refuse (n
 
 entered : (n : ℕ) (s : Scope) (f : Form) → IsWithinLimits s → IsFit f → IfOk (enter n s f) IsWithinLimits
 entered n s silent h k = h
-entered n s (thread w) h k = declaring_thread s w h
+entered n s (process w base) h k = declaring_process s w base h k
+entered n s (thread w) h k = declaring_thread s w (Ok 0) h (omega arith)
+entered n s (member w p) h k = declaring_thread s w (process_of s p) h (weaker (process_of s p) (processed s p)) where
+  weaker : (r : Result ℕ Fault) → IfOk r (λ i. (1 ≤ i) × (i ≤ length s.processes)) → IfOk r (λ i. i ≤ length s.processes)
+  weaker (Ok i) h = h.1
+  weaker (Err f) h = tt
 entered n s (mutex w) h k = declaring_mutex s w h
 entered n s (mutexes w count) h k = declaring_mutexes s w count h
 entered n s (cond w m count) h k = declaring_condition s w m count h k
 entered n s (begins t c) h k = may_ask n s (begun s t c) h (calling s t c (λ i x. action.Begin i x) (λ i x low high few. (low, high, few)))
 entered n s (steps t count) h k = may_ask n s (stepped s t count) h (stepping s t count k)
 entered n s (kills t) h k = may_ask n s (killed s t) h (of_thread s t (λ i. action.Kill i) (λ i low high. (low, high)))
+entered n s (kills_all p) h k = may_ask n s (all_killed s p) h (of_process s p)
 entered n s (goes t) h k = may_ask n s (gone s t) h (of_thread s t (λ i. action.Go i) (λ i low high. (low, high)))
 entered n s (calls t c) h k = may_ask n s (made s t c) h (calling s t c (λ i x. action.Call i x) (λ i x low high few. (low, high, few)))
 entered n s (locks t m count) h k = may_ask n s (locked s t m count) h (locking s t m count k)
@@ -220,13 +285,19 @@ in_range least most n = by_cases (nat_le least n) (nat_le n most) (λ e. leb-tru
 
 fit_name : (w a : List ℕ) → IfSome (name_form w a) IsFit
 fit_name w a = either (not (is_name a)) None _ tt (either (bytes_eq w _) (Some (thread a)) _ tt (either (bytes_eq w _) (Some (mutex a)) _ tt
-    (either (bytes_eq w _) (Some (kills a)) _ tt (either (bytes_eq w _) (Some (goes a)) None tt tt))))
+    (either (bytes_eq w _) (Some (kills a)) _ tt (either (bytes_eq w _) (Some (kills_all a)) _ tt (either (bytes_eq w _) (Some (goes a)) None tt tt)))))
 
 fit_step : (w t n : List ℕ) → IfSome (step_form w t n) IsFit
 fit_step w t n = either (bytes_eq w _ && is_name t && is_number n) (Some (steps t (within 1 max_steps (digits_value 10 n)))) None (in_range 1 max_steps (digits_value 10 n)) tt
 
 fit_mutexes : (w a n : List ℕ) → IfSome (mutexes_form w a n) IsFit
 fit_mutexes w a n = either (bytes_eq w _ && is_stem a && is_number n) (Some (mutexes a (within 1 max_mutexes (digits_value 10 n)))) None tt tt
+
+fit_process : (w p n : List ℕ) → IfSome (process_form w p n) IsFit
+fit_process w p n = either (bytes_eq w _ && is_name p && is_number n) (Some (process p (within 0 max_base (digits_value 10 n)))) None (in_range 0 max_base (digits_value 10 n)) tt
+
+fit_member : (w t p : List ℕ) → IfSome (member_form w t p) IsFit
+fit_member w t p = either (bytes_eq w _ && is_name t && is_name p) (Some (member t p)) None tt tt
 
 fit_locks : (w t m n : List ℕ) → IfSome (locks_form w t m n) IsFit
 fit_locks w t m n = either (bytes_eq w _ && is_name t && is_name m && is_number n) (Some (locks t m (within 1 max_mutexes (digits_value 10 n)))) None (in_range 1 max_mutexes (digits_value 10 n)) tt
@@ -242,7 +313,8 @@ fit_words : (ws : List (List ℕ)) → IfSome (words_form ws) IsFit
 fit_words [] = tt
 fit_words (w ∷ []) = either (bytes_eq w _) (Some phase) None tt tt
 fit_words (w ∷ a ∷ []) = fit_name w a
-fit_words (w ∷ a ∷ n ∷ []) = first (step_form w a n) (mutexes_form w a n) (fit_step w a n) (fit_mutexes w a n)
+fit_words (w ∷ a ∷ n ∷ []) = first (step_form w a n) (or_else (mutexes_form w a n) (or_else (process_form w a n) (member_form w a n))) (fit_step w a n)
+    (first (mutexes_form w a n) (or_else (process_form w a n) (member_form w a n)) (fit_mutexes w a n) (first (process_form w a n) (member_form w a n) (fit_process w a n) (fit_member w a n)))
 fit_words (w ∷ t ∷ c ∷ m ∷ []) = first (locks_form w t c m) (or_else (cond_form w t c m) (option_and_then (calling_form w t) (call_form c m))) (fit_locks w t c m)
     (first (cond_form w t c m) (option_and_then (calling_form w t) (call_form c m)) (fit_cond w t c m) (fit_call w t (call_form c m)))
 fit_words (w ∷ t ∷ c ∷ m ∷ x ∷ more) = tt

@@ -1,22 +1,23 @@
 -- The first machine of a script: its layout, and its counters.
-use Rattle.std.proofs.Common.{◌≡◌, ◌≢◌, ℕ, zero, suc, ◌+◌, ◌<◌, ◌≤◌, Bool, true, false, nat_lt, List, [], ◌∷◌, ◌++◌, length, map, take, get_or, set, slice_get, All, Some, Result, Ok, Err, IsOk, if◌then◌else◌, refl, sym, ap, ◌∙◌, subst, arith, add-one}
+use Rattle.std.proofs.Common.{◌≡◌, ◌≢◌, ℕ, zero, suc, ◌+◌, ◌<◌, ◌≤◌, Bool, true, false, nat_lt, List, [], ◌∷◌, ◌++◌, length, map, take, get_or, set, slice_get, All, Some, Result, Ok, Err, IsOk, replicate, if◌then◌else◌, refl, sym, ap, ◌∙◌, subst, arith, add-one}
 use Rattle.std.specs.Option.{option_map}
 use mathlib.Core.Path.{fun_ext}
 use Rattle.std.proofs.Math.Seq.{take-suc}
 use Rattle.std.proofs.lemmas.Bool.Decides.{nat_tests}
-use Rattle.std.proofs.lemmas.List.{take_more_set, take_all, get_or_past}
+use Rattle.std.proofs.lemmas.List.{take_more_set, get_or_past}
 use Rattle.std.proofs.lemmas.List.Elements.{All-map}
-use Rattle.keys.specs.Layouts.{Layout', IsLayout, HasConditions, counter_place}
-use Rattle.keys.specs.Refusals.{Lays}
+use Rattle.keys.specs.Layouts.{Layout', IsLayout, HasThreads, HasConditions, HasProcesses, HasBases, AreOf, counter_place}
+use Rattle.keys.specs.Refusals.{LaysOver}
 use Rattle.keys.specs.declared.layout.Layout.{Layout}
 use Rattle.keys.specs.declared.layout.LayoutFault.{LayoutFault}
-use Rattle.keys.specs.declared.layout.LayoutFault.TheVariants.{Threads, Mutexes, Conditions}
+use Rattle.keys.specs.declared.layout.LayoutFault.TheVariants.{Threads, Mutexes, Conditions, Processes, Bases, Members}
 use Rattle.protocol.specs.Machine.{State, put, start}
 use Rattle.protocol.specs.PassedBy.{ArePresets}
 use Rattle.protocol.proofs.Puts.{by_put}
 use Rattle.interleave.proofs.Reaches.{first_word-set}
-use Rattle.script.specs.Limits.{max_counter}
+use Rattle.script.specs.Limits.{max_base, max_counter}
 use Rattle.script.specs.Playing.{layout_of, counter_of, first_state}
+use Rattle.script.specs.Processes.{OneProcessWithoutALine}
 use Rattle.script.specs.Scope.{Scope, IsWellFormed}
 use Rattle.script.specs.declared.command.Condition.{Condition}
 use Rattle.script.proofs.Names.{length-map_of}
@@ -28,21 +29,16 @@ has_conditions s whole =
     let few = whole.within.conditions_at_most in
     (omega (arith, few, length-map_of (λ c. c.1.mutex) s.conditions), All-map (λ m. m < length s.mutexes) (λ c. c.1.mutex) s.conditions (λ i c lt. (whole.within.conditions_possible i c lt).0))
 
-lays_its : (s : Scope) (r : Result Layout LayoutFault) → IsWellFormed s → Lays (length s.threads) (length s.mutexes) (layout_of s).conditions r → IsOk r
-lays_its s (Ok l) whole h = refl
-lays_its s (Err Threads) whole h = absurd (h (whole.some_thread, whole.within.threads_at_most))
-lays_its s (Err Mutexes) whole h = absurd (h.1 (whole.some_mutex, whole.within.mutexes_at_most))
-lays_its s (Err Conditions) whole h = absurd (h.2 (has_conditions s whole))
+-- process 0 maps the words at 0, and the others where they were declared to
+bases_low : (ps : List (List ℕ × ℕ)) → All (λ p. p.1 ≤ max_base) ps → HasBases (0 ∷ map (λ p. p.1) ps)
+bases_low ps all zero d lt = omega arith
+bases_low ps all (suc i) d lt = All-map (λ b. b ≤ 1000000000) (λ p. p.1) ps all i d (omega (arith, lt))
 
--- what a layout is asked for with
-its : (s : Scope) (t m : ℕ) (cs : List ℕ) (r : Result Layout LayoutFault) → t ≡ length s.threads → m ≡ length s.mutexes → cs ≡ (layout_of s).conditions → Lays t m cs r → Lays (length s.threads) (length s.mutexes) (layout_of s).conditions r
-its s t m cs r ts ms same h = subst (λ (x : ℕ). Lays x (length s.mutexes) (layout_of s).conditions r) ts (subst (λ (x : ℕ). Lays t x (layout_of s).conditions r) ms (subst (λ (x : List ℕ). Lays t m x r) same h))
+has_processes : (s : Scope) → IsWellFormed s → HasProcesses (layout_of s).bases
+has_processes s whole = let few = whole.within.processes_at_most in (omega arith, omega (arith, few, length-map_of (λ p. p.1) s.processes))
 
-pub lays : (s : Scope) (t m : ℕ) (cs : List ℕ) (r : Result Layout LayoutFault) → IsWellFormed s → t ≡ length s.threads → m ≡ length s.mutexes → cs ≡ (layout_of s).conditions → Lays t m cs r → IsOk r
-lays s t m cs r whole ts ms same h = lays_its s r whole (its s t m cs r ts ms same h)
-
-pub laid : (s : Scope) (t m : ℕ) (cs : List ℕ) (l : Layout) → t ≡ length s.threads → m ≡ length s.mutexes → cs ≡ (layout_of s).conditions → Lays t m cs (Ok l) → l ≡ layout_of s
-laid s t m cs l ts ms same h = (its s t m cs (Ok l) ts ms same h).3
+are_of : (s : Scope) → IsWellFormed s → AreOf (layout_of s).bases s.members
+are_of s whole i p lt = let its = whole.within.members_possible i p lt in omega (arith, its, length-map_of (λ x. x.1) s.processes)
 
 -- what the machine of a script has is a layout
 pub is_layout : (s : Scope) → IsWellFormed s → IsLayout (layout_of s)
@@ -50,24 +46,65 @@ is_layout s whole = record {
   threads = (whole.some_thread, whole.within.threads_at_most);
   mutexes = (whole.some_mutex, whole.within.mutexes_at_most);
   conditions = has_conditions s whole;
+  each = whole.within.each_thread;
+  processes = has_processes s whole;
+  bases = bases_low s.processes whole.within.bases_possible;
+  members = are_of s whole;
 }
 
+-- and it can be laid out
+lays_its : (s : Scope) (r : Result Layout LayoutFault) → IsWellFormed s → LaysOver s.members (layout_of s).bases (length s.mutexes) (layout_of s).conditions r → IsOk r
+lays_its s (Ok l) whole h = refl
+lays_its s (Err Threads) whole h = absurd (h (subst HasThreads (sym whole.within.each_thread) (is_layout s whole).threads))
+lays_its s (Err Mutexes) whole h = absurd (h.1 (is_layout s whole).mutexes)
+lays_its s (Err Conditions) whole h = absurd (h.2 (has_conditions s whole))
+lays_its s (Err Processes) whole h = absurd (h.1 (has_processes s whole))
+lays_its s (Err Bases) whole h = absurd (h.2 (is_layout s whole).bases)
+lays_its s (Err Members) whole h = absurd (h.3 (are_of s whole))
+
+pub lays : (s : Scope) (ps bs : List ℕ) (m : ℕ) (cs : List ℕ) (r : Result Layout LayoutFault) → IsWellFormed s → ps ≡ s.members → bs ≡ (layout_of s).bases → m ≡ length s.mutexes → cs ≡ (layout_of s).conditions → LaysOver ps bs m cs r
+    → IsOk r
+lays s ps bs m cs r whole members bases mutexes conditions h =
+    lays_its s r whole (subst (λ (x : List ℕ). LaysOver x (layout_of s).bases (length s.mutexes) (layout_of s).conditions r) members
+    (subst (λ (x : List ℕ). LaysOver ps x (length s.mutexes) (layout_of s).conditions r) bases
+    (subst (λ (x : ℕ). LaysOver ps bs x (layout_of s).conditions r) mutexes
+    (subst (λ (x : List ℕ). LaysOver ps bs m x r) conditions h))))
+
+-- a script with no named process has one process
+zeros : (xs : List ℕ) → All (λ p. p ≤ 0) xs → xs ≡ replicate (length xs) 0
+zeros [] all = refl
+zeros (x ∷ xs) all =
+    let first : x ≡ 0 = let none = all 0 x (omega arith) in omega arith in
+    λ i. first i ∷ zeros xs (λ j d lt. all (suc j) d (omega (arith, lt))) i
+
+pub no_processes : OneProcessWithoutALine
+no_processes s whole none =
+    let fewest : All (λ p. p ≤ 0) s.members = subst (λ (ps : List (List ℕ × ℕ)). All (λ p. p ≤ length ps) s.members) none whole.within.members_possible in
+    let members : s.members ≡ replicate (length s.threads) 0 = zeros s.members fewest ∙ ap (λ (n : ℕ). replicate n 0) whole.within.each_thread in
+    λ i. record (layout_of s) { processes = members i; bases = 0 ∷ map (λ p. p.1) (none i) }
+
 -- what was declared at a place
-read_at : (f : Condition → ℕ) (cs : List (List ℕ × Condition)) (k d : ℕ) (x : Condition) → option_map (λ c. c.1) (slice_get cs k) ≡ Some x → get_or (map (λ c. f c.1) cs) k d ≡ f x
+read_at : {V : Type 0} (f : V → ℕ) (cs : List (List ℕ × V)) (k d : ℕ) (x : V) → option_map (λ c. c.1) (slice_get cs k) ≡ Some x → get_or (map (λ c. f c.1) cs) k d ≡ f x
 read_at f [] k d x h = absurd cc
 read_at f (c ∷ cs) zero d x h = ap f (cc)
 read_at f (c ∷ cs) (suc k) d x h = read_at f cs k d x h
+
+-- one number more is as it should be
+one_more_set : (ms cs : List ℕ) (k x : ℕ) → get_or cs k 0 ≡ x → k < length cs → k < length ms → take k ms ≡ take k cs → take (k + 1) (set ms k x) ≡ take (k + 1) cs
+one_more_set ms cs k x is lt room so_far = take_more_set ms k x room ∙ (λ i. so_far i ++ sym is i ∷ []) ∙ sym (rw add-one (take-suc cs k 0 lt))
+
+-- the base of one process more
+pub base_more : (s : Scope) (bs : List ℕ) (k x : ℕ) → option_map (λ p. p.1) (slice_get s.processes k) ≡ Some x → k < length s.processes → k + 1 < length bs → take (k + 1) bs ≡ take (k + 1) (layout_of s).bases
+    → take (k + 1 + 1) (set bs (k + 1) x) ≡ take (k + 1 + 1) (layout_of s).bases
+base_more s bs k x is lt room so_far =
+    let there : get_or (layout_of s).bases (k + 1) 0 ≡ x = ap (λ (j : ℕ). get_or (layout_of s).bases j 0) (add-one k) ∙ read_at (λ b. b) s.processes k 0 x is in
+    one_more_set bs (layout_of s).bases (k + 1) x there (omega (arith, lt, length-map_of (λ p. p.1) s.processes)) room so_far
 
 -- the mutexes of one condition variable more
 pub mutex_more : (s : Scope) (ms : List ℕ) (k : ℕ) (x : Condition) → option_map (λ c. c.1) (slice_get s.conditions k) ≡ Some x → k < length s.conditions → k < length ms → take k ms ≡ take k (layout_of s).conditions
     → take (k + 1) (set ms k x.mutex) ≡ take (k + 1) (layout_of s).conditions
 mutex_more s ms k x is lt room so_far =
-    let cs = (layout_of s).conditions in
-    let inside : k < length cs = omega (arith, lt, length-map_of (λ c. c.1.mutex) s.conditions) in
-    take_more_set ms k x.mutex room ∙ (λ i. so_far i ++ sym (read_at (λ c. c.mutex) s.conditions k 0 x is) i ∷ []) ∙ sym (rw add-one (take-suc cs k 0 inside))
-
-pub all_mutexes : (s : Scope) (ms : List ℕ) (k : ℕ) → length s.conditions ≤ k → take k ms ≡ take k (layout_of s).conditions → take k ms ≡ (layout_of s).conditions
-all_mutexes s ms k most so_far = so_far ∙ take_all k (layout_of s).conditions (omega (arith, most, length-map_of (λ c. c.1.mutex) s.conditions))
+    one_more_set ms (layout_of s).conditions k x.mutex (read_at (λ c. c.mutex) s.conditions k 0 x is) (omega (arith, lt, length-map_of (λ c. c.1.mutex) s.conditions)) room so_far
 
 -- ---- the counters
 

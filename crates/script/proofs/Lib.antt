@@ -1,10 +1,13 @@
 pub mod Names
-mod Conditions
-mod Firsts
+mod Entries
+pub mod Layouts
+pub mod Firsts
 pub mod Numbered
 pub mod Lines
 pub mod Bounds
 pub mod Silences
 mod Plays
+mod Killing
+mod Told
 mod Rests
 pub mod Phases

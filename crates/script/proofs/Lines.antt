@@ -1,5 +1,5 @@
 -- Reading line after line, as a loop does.
-use Rattle.std.proofs.Common.{◌≡◌, ℕ, ◌+◌, ◌<◌, ◌≤◌, ◌==◌, ◌||◌, Bool, true, false, not, nat_lt, if◌then◌else◌, List, [], ◌∷◌, ◌++◌, length, Result, Ok, Err, IfErr, refl, sym, ap, subst, ◌∙◌, append_assoc, length-append, arith}
+use Rattle.std.proofs.Common.{◌≡◌, ℕ, ◌+◌, ◌<◌, ◌≤◌, ◌==◌, ◌||◌, Bool, true, false, not, nat_lt, if◌then◌else◌, List, [], ◌∷◌, ◌++◌, length, Result, Ok, Err, IfErr, refl, sym, ap, subst, ◌∙◌, append_assoc, length-append, arith, Global, String}
 use Rattle.std.specs.List.{slice_split}
 use Rattle.script.specs.Forms.{is_silent}
 use Rattle.lines.specs.Lines.{lines_of}
@@ -11,7 +11,9 @@ use Rattle.script.specs.declared.fault.Fault.{Fault}
 use Rattle.script.specs.declared.fault.Fault.TheVariants.{NotUtf8, UnknownWord, OutOfRange, NoSuchName, TooLong, OutOfMemory}
 use Rattle.script.specs.declared.fault.ScriptFault.{ScriptFault}
 use Rattle.script.specs.Limits.{max_lines}
+use Rattle.std.proofs.lemmas.Bool.Decides.{nat_tests}
 use Rattle.lines.proofs.Cutting.{one_or_more}
+use Rattle.script.proofs.Names.{texts, no_names}
 
 -- the lines of a text, and the first of them before the others
 abbrev split : List ℕ → List (List ℕ)
@@ -109,6 +111,26 @@ unfolding lines_read
 ends_ill n s f rest total parts told so_far =
     let one : lines_read n s (split rest) ≡ met_at n (finished n s rest) = rw parts refl in
     subst (λ (r : Result Scope ScriptFault). TellsAt (fault_at n f) f r) (sym one ∙ so_far) (met_last n f (finished n s rest) (ends_remembered n s rest) told)
+
+-- ---- how a script ends
+
+-- something stands behind the last line feed
+pub ends_late : (n : ℕ) (s : Scope) (text : List ℕ) → (length text == 0) ≡ false → max_lines < n → Err TooLong ≡ finished n s text
+ends_late n s text behind late = let past : nat_lt max_lines n ≡ true = grind (arith, nat_tests) in rw (behind, past) refl
+
+pub ends_behind : (n : ℕ) (s : Scope) (text : List ℕ) → (length text == 0) ≡ false → n ≤ max_lines → Err UnknownWord ≡ finished n s text
+ends_behind n s text behind few = let in_time : nat_lt max_lines n ≡ false = grind (arith, nat_tests) in rw (behind, in_time) refl
+
+-- nothing stands there, and too little was declared
+pub ends_without_threads : (n : ℕ) (s : Scope) (text : List ℕ) (ks : List (String Global)) → (length text == 0) ≡ true → (length ks == 0) ≡ true → Err OutOfRange ≡ finished n (record s { threads = texts ks }) text
+ends_without_threads n s text ks empty none = rw (empty, no_names ks none) refl
+
+pub ends_without_mutexes : (n : ℕ) (s : Scope) (text : List ℕ) (ks : List (String Global)) → (length text == 0) ≡ true → (length ks == 0) ≡ true → Err OutOfRange ≡ finished n (record s { mutexes = texts ks }) text
+ends_without_mutexes n s text ks empty none = go (length s.threads == 0)
+  where
+    go : (b : Bool) → Err OutOfRange ≡ refuse (not (length text == 0)) (if nat_lt max_lines n then TooLong else UnknownWord) (refuse (b || length (texts ks) == 0) OutOfRange (Ok (record s { mutexes = texts ks })))
+    go true = rw empty refl
+    go false = rw (empty, no_names ks none) refl
 
 -- ---- where memory was wanted
 

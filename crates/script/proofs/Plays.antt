@@ -186,19 +186,20 @@ locks_last s s' ns ns' t m n k h done =
 -- ---- commands
 
 -- the mutexes of a possible action are among those that there may be
-has_mutexes : (n m k : ℕ) (a : Action) → m ≤ max_mutexes → IsPossible n m k a → HasMutexes a
-has_mutexes n m k (action.Begin t c) few h = tt
-has_mutexes n m k (action.Step t j) few h = tt
-has_mutexes n m k (action.Kill t) few h = tt
-has_mutexes n m k (action.Go t) few h = tt
-has_mutexes n m k (action.Call t c) few h = tt
-has_mutexes n m k (action.Locks t j i) few h = let last = h.3 in omega arith
-has_mutexes n m k action.Phase few h = tt
+has_mutexes : (p n m k : ℕ) (a : Action) → m ≤ max_mutexes → IsPossible p n m k a → HasMutexes a
+has_mutexes p n m k (action.Begin t c) few h = tt
+has_mutexes p n m k (action.Step t j) few h = tt
+has_mutexes p n m k (action.Kill t) few h = tt
+has_mutexes p n m k (action.KillAll q) few h = tt
+has_mutexes p n m k (action.Go t) few h = tt
+has_mutexes p n m k (action.Call t c) few h = tt
+has_mutexes p n m k (action.Locks t j i) few h = let last = h.3 in omega arith
+has_mutexes p n m k action.Phase few h = tt
 
 pub locks_have : (s : Scope) (i : ℕ) (c : Command) → IsWellFormed s → i < length s.commands → c ≡ get_or s.commands i c → HasMutexes c.action
 locks_have s i c whole lt is =
-    has_mutexes (length s.threads) (length s.mutexes) (length s.conditions) c.action whole.within.mutexes_at_most
-    (subst (λ (x : Command). IsPossible (length s.threads) (length s.mutexes) (length s.conditions) x.action) (sym is) (whole.within.commands_possible i c lt))
+    has_mutexes (length s.processes) (length s.threads) (length s.mutexes) (length s.conditions) c.action whole.within.mutexes_at_most
+    (subst (λ (x : Command). IsPossible (length s.processes) (length s.threads) (length s.mutexes) (length s.conditions) x.action) (sym is) (whole.within.commands_possible i c lt))
 
 events-append : (s : State) (cs ds : List Command) → events_from s (cs ++ ds) ≡ events_from s cs ++ events_from (run s (events_from s cs)) ds
 events-append s [] ds = refl

@@ -2,18 +2,18 @@
 use Rattle.std.proofs.Common.{◌≡◌, ℕ, ◌+◌, ◌<◌, ◌≤◌, ◌==◌, ◌||◌, Bool, false, true, not, nat_le, nat_lt, List, [], ◌∷◌, ◌++◌, length, map, Result, Ok, Err, refl, sym, ap, ◌∙◌, arith, length-append}
 use Rattle.std.specs.Option.{ok_or}
 use Rattle.std.proofs.lemmas.Bool.{le-ltb}
-use Rattle.script.specs.Forms.{CallForm, lock, trylock, unlock, consistent, wait, signal, broadcast, Form, silent, thread, mutex, mutexes, cond, begins, steps, kills, goes, calls, locks, phase, form_of, is_silent}
+use Rattle.script.specs.Forms.{CallForm, lock, trylock, unlock, consistent, wait, signal, broadcast, Form, silent, process, thread, member, mutex, mutexes, cond, begins, steps, kills, kills_all, goes, calls, locks, phase, form_of, is_silent}
 use Rattle.script.specs.Scope.{Scope}
-use Rattle.script.specs.Reading.{refuse, place_of, is_declared, condition_names, added, several, declares, call_of, begun, stepped, killed, gone, made, locked, with_action, enter, met_at, line_read, finished, lines_read, nothing}
+use Rattle.script.specs.Reading.{refuse, place_of, process_of, added, several, declares, with_name, with_entry, thread_declared, call_of, begun, stepped, killed, all_killed, gone, made, locked, with_action, enter, met_at, line_read, finished, lines_read, nothing}
 use Rattle.lines.specs.Faults.{◌>>=◌}
 use Rattle.script.specs.Silence.{unplaced, without_lines, outcome, SilentLinesSayNothing}
 use Rattle.script.specs.declared.command.Action.{Action}
 use Rattle.script.specs.declared.command.Action.TheVariants as action
 use Rattle.script.specs.declared.command.Command.{Command}
 use Rattle.script.specs.declared.fault.Fault.{Fault}
-use Rattle.script.specs.declared.fault.Fault.TheVariants.{UnknownWord, OutOfRange, NoSuchName}
+use Rattle.script.specs.declared.fault.Fault.TheVariants.{UnknownWord, OutOfRange}
 use Rattle.script.specs.declared.fault.ScriptFault.{ScriptFault}
-use Rattle.script.specs.Limits.{max_lines, max_threads, max_mutexes, max_conditions}
+use Rattle.script.specs.Limits.{max_lines, max_processes, max_threads, max_mutexes, max_conditions}
 
 -- one line's outcome
 abbrev meant : Result Scope Fault → Result Scope Fault
@@ -63,20 +63,29 @@ same_begin s t c = rw (same_call s c) refl
 same_make : (s : Scope) (t : List ℕ) (c : CallForm) → made (without_lines s) t c ≡ made s t c
 same_make s t c = rw (same_call s c) refl
 
+same_thread : (s : Scope) (w : List ℕ) (its : Result ℕ Fault) → meant (thread_declared s w its) ≡ meant (thread_declared (without_lines s) w its)
+same_thread s w its =
+    rw (same_declares s) (alike (declares s) _ _ (λ _. tested (nat_le max_threads (length s.threads)) OutOfRange _ _ (alike its _ _ (λ p. alike (with_name s.threads w) _ _ (λ names. rw (twice s.commands) refl)))))
+
 -- what a line adds does not depend on lines
 same_enter : (n : ℕ) (s : Scope) (f : Form) → meant (enter n s f) ≡ meant (enter 0 (without_lines s) f)
 same_enter n s silent = rw (twice s.commands) refl
-same_enter n s (thread w) = rw (same_declares s) (alike (declares s) _ _ (λ _. alike (added max_threads s.threads w) _ _ (λ names. rw (twice s.commands) refl)))
+same_enter n s (process w base) =
+    rw (same_declares s) (alike (declares s) _ _ (λ _. alike (ok_or base OutOfRange) _ _ (λ b.
+    tested (nat_le max_processes (length s.processes)) OutOfRange _ _ (alike (with_entry s.processes w b) _ _ (λ ps. rw (twice s.commands) refl)))))
+same_enter n s (thread w) = same_thread s w (Ok 0)
+same_enter n s (member w p) = same_thread s w (process_of s p)
 same_enter n s (mutex w) = rw (same_declares s) (alike (declares s) _ _ (λ _. alike (added max_mutexes s.mutexes w) _ _ (λ names. rw (twice s.commands) refl)))
 same_enter n s (mutexes w count) =
     rw (same_declares s) (alike (declares s) _ _ (λ _. alike (ok_or count OutOfRange) _ _ (λ k. alike (several max_mutexes s.mutexes w k) _ _ (λ names. rw (twice s.commands) refl))))
 same_enter n s (cond w m counter) =
     rw (same_declares s) (alike (declares s) _ _ (λ _. alike (ok_or counter OutOfRange) _ _ (λ k.
     tested (nat_le max_conditions (length s.conditions)) OutOfRange _ _ (alike (place_of m s.mutexes) _ _ (λ j.
-    tested (is_declared w (condition_names s)) NoSuchName _ _ (rw (twice s.commands) refl))))))
+    alike (with_entry s.conditions w (record { mutex = j; counter = k })) _ _ (λ cs. rw (twice s.commands) refl))))))
 same_enter n s (begins t c) = rw (same_begin s t c) (alike (begun s t c) _ _ (λ a. acted n s a))
 same_enter n s (steps t count) = alike (stepped s t count) _ _ (λ a. acted n s a)
 same_enter n s (kills t) = alike (killed s t) _ _ (λ a. acted n s a)
+same_enter n s (kills_all p) = alike (all_killed s p) _ _ (λ a. acted n s a)
 same_enter n s (goes t) = alike (gone s t) _ _ (λ a. acted n s a)
 same_enter n s (calls t c) = rw (same_make s t c) (alike (made s t c) _ _ (λ a. acted n s a))
 same_enter n s (locks t m count) = alike (locked s t m count) _ _ (λ a. acted n s a)

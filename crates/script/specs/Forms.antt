@@ -11,7 +11,7 @@ use Rattle.keys.specs.declared.point.Operation.TheVariants.{Lock, TryLock, Unloc
 use Rattle.keys.specs.Words.{operation_of}
 use Rattle.script.specs.declared.command.Mode.{Mode}
 use Rattle.script.specs.declared.command.Mode.TheVariants as mode
-use Rattle.script.specs.Limits.{max_name, max_stem, max_steps, max_mutexes, max_counter}
+use Rattle.script.specs.Limits.{max_name, max_stem, max_steps, max_mutexes, max_counter, max_base}
 
 -- a to z
 abbrev pub is_letter : ℕ → Bool
@@ -39,13 +39,16 @@ pub data CallForm : Type 0 where
 -- the form of a line: its words are of the right kinds; a count out of its range is None
 pub data Form : Type 0 where
   silent : Form
+  process : List ℕ → Option ℕ → Form
   thread : List ℕ → Form
+  member : List ℕ → List ℕ → Form
   mutex : List ℕ → Form
   mutexes : List ℕ → Option ℕ → Form
   cond : List ℕ → List ℕ → Option ℕ → Form
   begins : List ℕ → CallForm → Form
   steps : List ℕ → Option ℕ → Form
   kills : List ℕ → Form
+  kills_all : List ℕ → Form
   goes : List ℕ → Form
   calls : List ℕ → CallForm → Form
   locks : List ℕ → List ℕ → Option ℕ → Form
@@ -56,13 +59,14 @@ abbrev pub is_silent : List ℕ → Bool
 is_silent [] = true
 is_silent (b ∷ bs) = b == 35
 
--- `thread NAME` and `mutex NAME`, `kill T` and `go T`
+-- `thread NAME` and `mutex NAME`, `kill T`, `killall PROCESS` and `go T`
 abbrev pub name_form : List ℕ → List ℕ → Option Form
 name_form w a = if not (is_name a) then None
     else (if bytes_eq w (codes "thread") then Some (thread a)
     else (if bytes_eq w (codes "mutex") then Some (mutex a)
     else (if bytes_eq w (codes "kill") then Some (kills a)
-    else (if bytes_eq w (codes "go") then Some (goes a) else None))))
+    else (if bytes_eq w (codes "killall") then Some (kills_all a)
+    else (if bytes_eq w (codes "go") then Some (goes a) else None)))))
 
 -- `step T N`
 abbrev pub step_form : List ℕ → List ℕ → List ℕ → Option Form
@@ -79,6 +83,16 @@ abbrev pub mutexes_form : List ℕ → List ℕ → List ℕ → Option Form
 mutexes_form w a n = if bytes_eq w (codes "mutexes") && is_stem a && is_number n
     then Some (mutexes a (within 1 max_mutexes (digits_value 10 n)))
     else None
+
+-- `process NAME BASE`
+abbrev pub process_form : List ℕ → List ℕ → List ℕ → Option Form
+process_form w p n = if bytes_eq w (codes "process") && is_name p && is_number n
+    then Some (process p (within 0 max_base (digits_value 10 n)))
+    else None
+
+-- `thread NAME PROCESS`
+abbrev pub member_form : List ℕ → List ℕ → List ℕ → Option Form
+member_form w t p = if bytes_eq w (codes "thread") && is_name t && is_name p then Some (member t p) else None
 
 -- the first that there is
 abbrev pub or_else : Option Form → Option Form → Option Form
@@ -126,7 +140,7 @@ phase_form w = if bytes_eq w (codes "phase") then Some phase else None
 abbrev pub words_form : List (List ℕ) → Option Form
 words_form (w ∷ []) = phase_form w
 words_form (w ∷ a ∷ []) = name_form w a
-words_form (w ∷ a ∷ n ∷ []) = or_else (step_form w a n) (mutexes_form w a n)
+words_form (w ∷ a ∷ n ∷ []) = or_else (step_form w a n) (or_else (mutexes_form w a n) (or_else (process_form w a n) (member_form w a n)))
 words_form (w ∷ t ∷ c ∷ m ∷ []) = or_else (locks_form w t c m) (or_else (cond_form w t c m) (option_and_then (calling_form w t) (call_form c m)))
 words_form _ = None
 
@@ -143,13 +157,16 @@ is_on_mutex (broadcast c) = false
 -- whether scripts of real threads have lines of this form: events are the machine's alone, and so far condition variables
 abbrev pub threads_have : Form → Bool
 threads_have silent = true
+threads_have (process p b) = true
 threads_have (thread a) = true
+threads_have (member a p) = true
 threads_have (mutex a) = true
 threads_have (mutexes a n) = true
 threads_have (cond c m n) = false
 threads_have (begins t c) = false
 threads_have (steps t n) = false
 threads_have (kills t) = false
+threads_have (kills_all p) = false
 threads_have (goes t) = false
 threads_have (calls t c) = is_on_mutex c
 threads_have (locks t m n) = false

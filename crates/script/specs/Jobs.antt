@@ -22,6 +22,7 @@ is_end action.Phase = true
 is_end (action.Begin t c) = false
 is_end (action.Step t n) = false
 is_end (action.Kill t) = false
+is_end (action.KillAll p) = false
 is_end (action.Go t) = false
 is_end (action.Call t c) = false
 is_end (action.Locks t m n) = false
@@ -37,6 +38,7 @@ call_by t action.Phase = []
 call_by t (action.Begin u k) = []
 call_by t (action.Step u n) = []
 call_by t (action.Kill u) = []
+call_by t (action.KillAll p) = []
 call_by t (action.Go u) = []
 call_by t (action.Locks u m n) = []
 

@@ -9,5 +9,7 @@ pub mod Seen
 pub mod Silence
 pub mod Playing
 pub mod Resting
+pub mod Killing
+pub mod Processes
 pub mod Played
 pub mod Jobs

@@ -9,6 +9,14 @@ max_bytes = 65536
 abbrev pub max_lines : ℕ
 max_lines = 10000
 
+-- the processes that it may declare: with process 0, which is always there, as many as a layout may have
+abbrev pub max_processes : ℕ
+max_processes = 7
+
+-- the address at which a process may map the words: a layout has no larger base
+abbrev pub max_base : ℕ
+max_base = 1000000000
+
 -- the threads that it may declare: a layout has no more
 abbrev pub max_threads : ℕ
 max_threads = 64

@@ -1,5 +1,6 @@
 -- The events that a script stands for, and what it means to play them.
-use Rattle.std.specs.Prelude.{ℕ, zero, suc, Bool, not, ◌&&◌, ◌||◌, ◌≡◌, ◌+◌, ◌<◌, ◌≤◌, nat_lt, List, [], ◌∷◌, ◌++◌, length, map, replicate, slice_index_or, Option, Some, None, Result, Ok, Err, if◌then◌else◌}
+use Rattle.std.specs.Prelude.{ℕ, zero, suc, Bool, not, ◌&&◌, ◌||◌, ◌≡◌, ◌==◌, ◌+◌, ◌-◌, ◌<◌, ◌≤◌, nat_lt, List, [], ◌∷◌, ◌++◌, length, map, filter, replicate, slice_index, slice_index_or, Option, Some, None, Result, Ok, Err, if◌then◌else◌}
+use Rattle.std.specs.List.{range_with_len}
 use Rattle.keys.specs.Layouts.{Layout'}
 use Rattle.protocol.specs.declared.event.Op.{Op}
 use Rattle.protocol.specs.declared.event.Op.TheVariants.{OnMutex}
@@ -9,7 +10,7 @@ use Rattle.protocol.specs.declared.event.Event.TheVariants as event
 use Rattle.protocol.specs.declared.note.Note.{Note}
 use Rattle.protocol.specs.Machine.{State, start, happens, run, notes, is_busy, is_dying, is_asleep}
 use Rattle.script.specs.declared.command.Action.{Action}
-use Rattle.script.specs.declared.command.Action.TheVariants.{Begin, Step, Kill, Go, Call, Locks, Phase}
+use Rattle.script.specs.declared.command.Action.TheVariants.{Begin, Step, Kill, KillAll, Go, Call, Locks, Phase}
 use Rattle.script.specs.declared.command.Command.{Command}
 use Rattle.script.specs.declared.fault.Fault.{Fault}
 use Rattle.script.specs.declared.fault.Fault.TheVariants.{TooLong, OutOfMemory}
@@ -17,9 +18,15 @@ use Rattle.script.specs.declared.fault.ScriptFault.{ScriptFault}
 use Rattle.script.specs.Limits.{max_events, max_mutexes, rest_steps}
 use Rattle.script.specs.Scope.{Scope}
 
--- the machine of a script: its threads, mutexes and condition variables
+-- the machine of a script: its threads, each of its process, its mutexes and condition variables. Process 0 maps the words at 0, and those with names map them at the bases that they were declared with
 abbrev pub layout_of : Scope → Layout'
-layout_of s = record { threads = length s.threads; mutexes = length s.mutexes; conditions = map (λ c. c.1.mutex) s.conditions }
+layout_of s = record {
+  threads = length s.threads;
+  mutexes = length s.mutexes;
+  conditions = map (λ c. c.1.mutex) s.conditions;
+  processes = s.members;
+  bases = 0 ∷ map (λ p. p.1) s.processes;
+}
 
 -- what the counters begin with, by the numbers of their condition variables
 abbrev pub counter_of : Scope → ℕ → ℕ
@@ -27,6 +34,14 @@ counter_of s k = slice_index_or (map (λ c. c.1.counter) s.conditions) k 0
 
 abbrev pub first_state : Scope → State
 first_state s = start (layout_of s) (counter_of s)
+
+-- the first threads of a process, so many being looked at
+abbrev pub members_among : Layout' → ℕ → ℕ → List ℕ
+members_among l p n = filter (λ t. slice_index l.processes (t - 1) == p) (range_with_len 1 n)
+
+-- a kill of each thread of a process, in the order of ids
+abbrev pub killing : Layout' → ℕ → List Event
+killing l p = map event.Kill (members_among l p l.threads)
 
 -- thread t is in a call or dying, and doesn't sleep
 abbrev pub is_going : State → ℕ → Bool
@@ -55,6 +70,7 @@ abbrev pub events_of : State → Action → List Event
 events_of s (Begin t c) = event.Begin t c ∷ []
 events_of s (Step t n) = replicate n (event.Step t)
 events_of s (Kill t) = event.Kill t ∷ []
+events_of s (KillAll p) = killing s.layout p
 events_of s (Go t) = going_on s t
 events_of s (Call t c) = calling s t c
 events_of s (Locks t m n) = locking s t m n

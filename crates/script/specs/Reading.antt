@@ -8,7 +8,7 @@ use Rattle.mutex.specs.declared.call.Call.TheVariants as call
 use Rattle.condvar.specs.declared.call.CondCall.TheVariants as on
 use Rattle.protocol.specs.declared.event.Op.{Op}
 use Rattle.protocol.specs.declared.event.Op.TheVariants.{OnMutex, OnCondition}
-use Rattle.script.specs.Forms.{CallForm, lock, trylock, unlock, consistent, wait, signal, broadcast, Form, silent, thread, mutex, mutexes, cond, begins, steps, kills, goes, calls, locks, phase, form_of}
+use Rattle.script.specs.Forms.{CallForm, lock, trylock, unlock, consistent, wait, signal, broadcast, Form, silent, process, thread, member, mutex, mutexes, cond, begins, steps, kills, kills_all, goes, calls, locks, phase, form_of}
 use Rattle.lines.specs.Numbers.{is_number}
 use Rattle.lines.specs.Lines.{lines_of, bad_line}
 use Rattle.lines.specs.Faults.{◌>>=◌}
@@ -19,11 +19,11 @@ use Rattle.script.specs.declared.command.Action.TheVariants as action
 use Rattle.script.specs.declared.fault.Fault.{Fault}
 use Rattle.script.specs.declared.fault.Fault.TheVariants.{NotUtf8, UnknownWord, OutOfRange, NoSuchName, TooLong}
 use Rattle.script.specs.declared.fault.ScriptFault.{ScriptFault}
-use Rattle.script.specs.Limits.{max_bytes, max_lines, max_threads, max_mutexes, max_conditions}
+use Rattle.script.specs.Limits.{max_bytes, max_lines, max_processes, max_threads, max_mutexes, max_conditions}
 
 -- before the first line
 abbrev pub nothing : Mode → Scope
-nothing k = record { mode = k; threads = []; mutexes = []; conditions = []; commands = [] }
+nothing k = record { mode = k; processes = []; threads = []; members = []; mutexes = []; conditions = []; commands = [] }
 
 -- the fault where the test holds, and else what follows
 abbrev pub refuse : {A : Type 0} → Bool → Fault → Result A Fault → Result A Fault
@@ -37,10 +37,13 @@ place_of w names = ok_or (position (λ n. bytes_eq w n) names) NoSuchName
 abbrev pub is_declared : List ℕ → List (List ℕ) → Bool
 is_declared w names = list_any (λ n. bytes_eq w n) names
 
--- the names with one more, unless there are as many as may be, or it is among them
+-- the names with one more, unless it is among them
+abbrev pub with_name : List (List ℕ) → List ℕ → Result (List (List ℕ)) Fault
+with_name names w = refuse (is_declared w names) NoSuchName (Ok (names ++ w ∷ []))
+
+-- the same, unless there are as many as may be
 abbrev pub added : ℕ → List (List ℕ) → List ℕ → Result (List (List ℕ)) Fault
-added limit names w = refuse (nat_le limit (length names)) OutOfRange
-    (refuse (is_declared w names) NoSuchName (Ok (names ++ w ∷ [])))
+added limit names w = refuse (nat_le limit (length names)) OutOfRange (with_name names w)
 
 -- a name with a number behind it, for each number below n
 abbrev pub numbered : List ℕ → ℕ → List (List ℕ)
@@ -65,9 +68,17 @@ declares s = refuse (not (length s.commands == 0)) UnknownWord (Ok tt)
 abbrev pub thread_of : Scope → List ℕ → Result ℕ Fault
 thread_of s t = place_of t s.threads >>= λ i. Ok (i + 1)
 
+-- the names of things that were declared with more than their names
+abbrev pub names_of : {V : Type 0} → List (List ℕ × V) → List (List ℕ)
+names_of things = map (λ x. x.0) things
+
 -- the names of the condition variables
 abbrev pub condition_names : Scope → List (List ℕ)
-condition_names s = map (λ c. c.0) s.conditions
+condition_names s = names_of s.conditions
+
+-- the number of a named process, from 1: process 0 has no name
+abbrev pub process_of : Scope → List ℕ → Result ℕ Fault
+process_of s p = place_of p (names_of s.processes) >>= λ i. Ok (i + 1)
 
 -- a call by the number of its mutex or of its condition variable, from 0
 abbrev pub call_of : Scope → CallForm → Result Op Fault
@@ -85,8 +96,22 @@ first_of s m n = place_of m s.mutexes >>= λ j. refuse (nat_lt (length s.mutexes
 
 -- ---- declarations
 
-abbrev pub thread_declared : Scope → List ℕ → Result Scope Fault
-thread_declared s w = declares s >>= λ _. added max_threads s.threads w >>= λ names. Ok (record s { threads = names })
+-- things that have names, with one more, unless there is one of this name
+abbrev pub with_entry : {V : Type 0} → List (List ℕ × V) → List ℕ → V → Result (List (List ℕ × V)) Fault
+with_entry things w v = refuse (is_declared w (names_of things)) NoSuchName (Ok (things ++ (w, v) ∷ []))
+
+-- a process that maps the words at this base, unless there are as many as may be, or there is one of this name
+abbrev pub process_declared : Scope → List ℕ → Option ℕ → Result Scope Fault
+process_declared s w base = declares s >>= λ _. ok_or base OutOfRange >>= λ b.
+    refuse (nat_le max_processes (length s.processes)) OutOfRange (with_entry s.processes w b >>= λ ps. Ok (record s { processes = ps }))
+
+-- a thread of the process with this number, unless there is one of this name
+abbrev pub with_thread : Scope → List ℕ → ℕ → Result Scope Fault
+with_thread s w p = with_name s.threads w >>= λ names. Ok (record s { threads = names; members = s.members ++ p ∷ [] })
+
+-- a thread, unless there are as many as may be; its process is the one that the line names, where it names one
+abbrev pub thread_declared : Scope → List ℕ → Result ℕ Fault → Result Scope Fault
+thread_declared s w its = declares s >>= λ _. refuse (nat_le max_threads (length s.threads)) OutOfRange (its >>= λ p. with_thread s w p)
 
 abbrev pub mutex_declared : Scope → List ℕ → Result Scope Fault
 mutex_declared s w = declares s >>= λ _. added max_mutexes s.mutexes w >>= λ names. Ok (record s { mutexes = names })
@@ -95,10 +120,9 @@ abbrev pub mutexes_declared : Scope → List ℕ → Option ℕ → Result Scope
 mutexes_declared s w count = declares s >>= λ _. ok_or count OutOfRange >>= λ k. several max_mutexes s.mutexes w k >>= λ names.
     Ok (record s { mutexes = names })
 
--- a condition variable of the named mutex, whose counter begins at this value, unless there are as many as may be, or there is one of this name
+-- a condition variable of the mutex with this number, whose counter begins at this value, unless there is one of this name
 abbrev pub with_condition : Scope → List ℕ → ℕ → ℕ → Result Scope Fault
-with_condition s w m counter = refuse (is_declared w (condition_names s)) NoSuchName
-    (Ok (record s { conditions = s.conditions ++ (w, record { mutex = m; counter = counter }) ∷ [] }))
+with_condition s w m counter = with_entry s.conditions w (record { mutex = m; counter = counter }) >>= λ cs. Ok (record s { conditions = cs })
 
 abbrev pub condition_declared : Scope → List ℕ → List ℕ → Option ℕ → Result Scope Fault
 condition_declared s w m counter = declares s >>= λ _. ok_or counter OutOfRange >>= λ n.
@@ -114,6 +138,9 @@ stepped s t count = ok_or count OutOfRange >>= λ k. thread_of s t >>= λ i. Ok 
 
 abbrev pub killed : Scope → List ℕ → Result Action Fault
 killed s t = thread_of s t >>= λ i. Ok (action.Kill i)
+
+abbrev pub all_killed : Scope → List ℕ → Result Action Fault
+all_killed s p = process_of s p >>= λ i. Ok (action.KillAll i)
 
 abbrev pub gone : Scope → List ℕ → Result Action Fault
 gone s t = thread_of s t >>= λ i. Ok (action.Go i)
@@ -135,13 +162,16 @@ asked n s r = r >>= λ a. Ok (with_action n s a)
 -- what line n adds
 abbrev pub enter : ℕ → Scope → Form → Result Scope Fault
 enter n s silent = Ok s
-enter n s (thread w) = thread_declared s w
+enter n s (process w base) = process_declared s w base
+enter n s (thread w) = thread_declared s w (Ok 0)
+enter n s (member w p) = thread_declared s w (process_of s p)
 enter n s (mutex w) = mutex_declared s w
 enter n s (mutexes w count) = mutexes_declared s w count
 enter n s (cond w m counter) = condition_declared s w m counter
 enter n s (begins t c) = asked n s (begun s t c)
 enter n s (steps t count) = asked n s (stepped s t count)
 enter n s (kills t) = asked n s (killed s t)
+enter n s (kills_all p) = asked n s (all_killed s p)
 enter n s (goes t) = asked n s (gone s t)
 enter n s (calls t c) = asked n s (made s t c)
 enter n s (locks t m count) = asked n s (locked s t m count)

@@ -1,9 +1,8 @@
 -- Values of the code as the definitions see them.
 use Rattle.std.specs.Prelude.{ℕ, List, map, String, string_bytes}
 use Rattle.std.specs.declared.alloc.Global.{Global}
-use Rattle.script.specs.Forms.{CallForm, lock, trylock, unlock, consistent, wait, signal, broadcast, Form, thread, mutex, mutexes, cond, begins, steps, kills, goes, calls, locks, phase}
+use Rattle.script.specs.Forms.{CallForm, lock, trylock, unlock, consistent, wait, signal, broadcast, Form, process, thread, member, mutex, mutexes, cond, begins, steps, kills, kills_all, goes, calls, locks, phase}
 use Rattle.script.specs.Scope.{Scope}
-use Rattle.script.specs.declared.command.Condition.{Condition}
 use Rattle.script.specs.declared.draft.Draft.{Draft}
 use Rattle.script.specs.declared.line.NamedCall.{NamedCall}
 use Rattle.script.specs.declared.line.NamedCall.TheVariants as named
@@ -22,28 +21,33 @@ call_seen (named.Broadcast c) = broadcast c.now
 
 -- the form that a line that isn't silent was read to
 abbrev pub form_seen : Line → Form
+form_seen (line.Process p b) = process p.now b
 form_seen (line.Thread a) = thread a.now
+form_seen (line.Member a p) = member a.now p.now
 form_seen (line.Mutex a) = mutex a.now
 form_seen (line.Mutexes a n) = mutexes a.now n
 form_seen (line.Cond c m n) = cond c.now m.now n
 form_seen (line.Begin a c) = begins a.now (call_seen c)
 form_seen (line.Step a n) = steps a.now n
 form_seen (line.Kill a) = kills a.now
+form_seen (line.KillAll p) = kills_all p.now
 form_seen (line.Go a) = goes a.now
 form_seen (line.Call a c) = calls a.now (call_seen c)
 form_seen (line.Locks a m n) = locks a.now m.now n
 form_seen line.Phase = phase
 
--- condition variables by their names' bytes
-abbrev pub conditions_seen : List (String Global × Condition) → List (List ℕ × Condition)
-conditions_seen cs = map (λ c. (string_bytes c.0, c.1)) cs
+-- what was declared with names, by their bytes
+abbrev pub entries_seen : {V : Type 0} → List (String Global × V) → List (List ℕ × V)
+entries_seen es = map (λ e. (string_bytes e.0, e.1)) es
 
 -- what the lines so far declared and asked for
 abbrev pub scope_of : Draft → Scope
 scope_of d = record {
   mode = d.mode;
+  processes = entries_seen d.processes.entries;
   threads = map string_bytes d.threads.keys;
+  members = d.members.items;
   mutexes = map string_bytes d.mutexes.keys;
-  conditions = conditions_seen d.conditions.entries;
+  conditions = entries_seen d.conditions.entries;
   commands = d.commands.items;
 }

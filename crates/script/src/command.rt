@@ -21,8 +21,8 @@ pub struct Condition {
     pub counter: u32,
 }
 
-/// What a command asks for. Threads are numbered from 1, and mutexes and condition variables from 0, in the order of their
-/// declarations.
+/// What a command asks for. Threads and the processes with names are numbered from 1, and mutexes and condition variables
+/// from 0, in the order of their declarations.
 #[derive(Clone, Copy, Debug, PartialEq, Eq)]
 pub enum Action {
     /// One begin event.
@@ -31,6 +31,8 @@ pub enum Action {
     Step { thread: Tid, count: u32 },
     /// One kill event.
     Kill(Tid),
+    /// One kill event for each thread of the process with this number, in the order of the threads' ids.
+    KillAll(u8),
     /// Step events until the thread rests: until it is in no call and not dying, or sleeps.
     Go(Tid),
     /// A begin event, and then step events until the thread rests; for real threads one call.

@@ -3,14 +3,15 @@
 ghost use Rattle.std.specs.Prelude.{◌≡◌, ◌^◌, ◌<◌, ◌≤◌, false, length, map, OnOk, IfOk, IfErr, string_bytes};
 ghost use Rattle.std.specs.List.{list_any};
 ghost use Rattle.script.specs.Forms.{is_silent};
-ghost use Rattle.script.specs.Limits.{max_conditions, max_lines, max_mutexes, max_threads};
+ghost use Rattle.script.specs.Limits.{max_conditions, max_lines, max_mutexes, max_processes, max_threads};
 ghost use Rattle.script.specs.Outcome.{Gives};
-ghost use Rattle.script.specs.Reading.{added, asked, begun, call_of, condition_declared, condition_names, declares, with_condition, enter, first_of, gone, is_numbered, killed, line_read, locked, made, mutex_declared, mutexes_declared, nothing, place_of, several, stepped, thread_declared, thread_of, with_action};
+ghost use Rattle.script.specs.Reading.{added, all_killed, asked, begun, call_of, condition_declared, condition_names, declares, enter, first_of, gone, is_numbered, killed, line_read, locked, made, mutex_declared, mutexes_declared, names_of, nothing, place_of, process_declared, process_of, several, stepped, thread_declared, thread_of, with_action, with_entry, with_name, with_thread};
 ghost use Rattle.script.specs.Scope.{IsWithinLimits};
+ghost use Rattle.script.specs.Seen.{entries_seen};
 
 use crate::command::{Action, Command, Condition, Mode};
 use crate::fault::Fault;
-use crate::limits::{MAX_CONDITIONS, MAX_LINES, MAX_MUTEXES, MAX_THREADS};
+use crate::limits::{MAX_CONDITIONS, MAX_LINES, MAX_MUTEXES, MAX_PROCESSES, MAX_THREADS};
 use crate::line::{Line, NamedCall, is_silent_line, line_of};
 use crate::words::is_below;
 use condvar::CondCall;
@@ -25,7 +26,11 @@ use std::alloc::Global;
 #[derive(Drop)]
 pub struct Draft {
     pub mode: Mode,
+    /// Each with its base. The first has number 1.
+    pub processes: IndexMap<String, u64>,
     pub threads: IndexSet<String>,
+    /// The number of each thread's process, 0 for a thread whose line names none.
+    pub members: Vec<u8>,
     pub mutexes: IndexSet<String>,
     pub conditions: IndexMap<String, Condition>,
     pub commands: Vec<Command>,
@@ -37,6 +42,43 @@ fn place(names: &IndexSet<String>, word: &str) -> Result<usize, Fault>
     ensures within { IfOk result (λ i. i < length (map string_bytes names.now.keys)) }
 {
     names.get_index_of(word).ok_or(Fault::NoSuchName)
+}
+
+/// The place of a name among those that were declared with more than their names, from 0.
+fn entry_place<V>(entries: &IndexMap<String, V>, word: &str) -> Result<usize, Fault>
+    ensures value { result ≡ place_of word.now (names_of (entries_seen entries.now.entries)) }
+    ensures within { IfOk result (λ i. i < length entries.now.entries) }
+{
+    entries.get_index_of(word).ok_or(Fault::NoSuchName)
+}
+
+/// Adds a name, unless it is there.
+fn add_name(alloc: Global, names: &mut IndexSet<String>, word: &str) -> Result<(), Fault>
+    ensures { Gives (λ _. map string_bytes names.new.keys) result
+        (with_name (map string_bytes names.old.keys) word.now) }
+{
+    if names.contains(word) {
+        return Err(Fault::NoSuchName);
+    }
+    names.insert(String::from_str(alloc, word)?)?;
+    Ok(())
+}
+
+/// Adds a name and what was declared with it, unless the name is there.
+fn add_entry<V: Copy>(
+    alloc: Global,
+    entries: &mut IndexMap<String, V>,
+    word: &str,
+    value: V,
+) -> Result<(), Fault>
+    ensures { Gives (λ _. entries_seen entries.new.entries) result
+        (with_entry (entries_seen entries.old.entries) word.now value) }
+{
+    if entries.contains_key(word) {
+        return Err(Fault::NoSuchName);
+    }
+    entries.insert(String::from_str(alloc, word)?, value)?;
+    Ok(())
 }
 
 /// Adds a name, unless there are as many as may be, or it is there.
@@ -52,11 +94,7 @@ fn declare(
     if names.len() >= limit {
         return Err(Fault::OutOfRange);
     }
-    if names.contains(word) {
-        return Err(Fault::NoSuchName);
-    }
-    names.insert(String::from_str(alloc, word)?)?;
-    Ok(())
+    add_name(alloc, names, word)
 }
 
 /// Whether a name is a word with a number below `count` behind it.
@@ -111,11 +149,21 @@ impl Draft {
     {
         Draft {
             mode,
+            processes: IndexMap::new(alloc),
             threads: IndexSet::new(alloc),
+            members: Vec::new(alloc),
             mutexes: IndexSet::new(alloc),
             conditions: IndexMap::new(alloc),
             commands: Vec::new(alloc),
         }
+    }
+
+    fn process(&self, name: &str) -> Result<u8, Fault>
+        requires { length (scope_of self.now).processes ≤ max_processes }
+        ensures { result ≡ process_of (scope_of self.now) name.now }
+    {
+        let place = entry_place(&self.processes, name)?;
+        Ok(place as u8 + 1)
     }
 
     fn thread(&self, name: &str) -> Result<Tid, Fault>
@@ -148,10 +196,7 @@ impl Draft {
         requires { length (scope_of self.now).conditions ≤ max_conditions }
         ensures { result ≡ place_of name.now (condition_names (scope_of self.now)) }
     {
-        match self.conditions.get_index_of(name) {
-            Some(place) => Ok(place as u16),
-            None => Err(Fault::NoSuchName),
-        }
+        Ok(entry_place(&self.conditions, name)? as u16)
     }
 
     fn call(&self, call: NamedCall<'_>) -> Result<Op, Fault>
@@ -180,12 +225,52 @@ impl Draft {
         Ok(())
     }
 
-    fn declare_thread(&mut self, alloc: Global, word: &str) -> Result<(), Fault>
-        ensures gives { Gives (λ _. scope_of self.new) result (thread_declared (scope_of self.old) word.now) }
+    fn declare_process(&mut self, alloc: Global, word: &str, base: Option<u32>) -> Result<(), Fault>
+        ensures gives { Gives (λ _. scope_of self.new) result (process_declared (scope_of self.old) word.now base) }
         ensures mode { self.new.mode ≡ self.old.mode }
     {
         self.declares()?;
-        declare(alloc, &mut self.threads, MAX_THREADS, word)
+        let base = base.ok_or(Fault::OutOfRange)?;
+        if self.processes.len() >= MAX_PROCESSES {
+            return Err(Fault::OutOfRange);
+        }
+        add_entry(alloc, &mut self.processes, word, u64::from(base))
+    }
+
+    /// Adds a thread of the process with this number, unless there is one of this name.
+    fn add_thread(&mut self, alloc: Global, word: &str, process: u8) -> Result<(), Fault>
+        ensures gives { Gives (λ _. scope_of self.new) result (with_thread (scope_of self.old) word.now process) }
+        ensures mode { self.new.mode ≡ self.old.mode }
+    {
+        add_name(alloc, &mut self.threads, word)?;
+        self.members.push(process)?;
+        Ok(())
+    }
+
+    /// A thread of process 0.
+    fn declare_thread(&mut self, alloc: Global, word: &str) -> Result<(), Fault>
+        ensures gives { Gives (λ _. scope_of self.new) result (thread_declared (scope_of self.old) word.now (Ok 0)) }
+        ensures mode { self.new.mode ≡ self.old.mode }
+    {
+        self.declares()?;
+        if self.threads.len() >= MAX_THREADS {
+            return Err(Fault::OutOfRange);
+        }
+        self.add_thread(alloc, word, 0)
+    }
+
+    /// A thread of a named process.
+    fn declare_member(&mut self, alloc: Global, word: &str, process: &str) -> Result<(), Fault>
+        requires { IsWithinLimits (scope_of self.old) }
+        ensures gives { Gives (λ _. scope_of self.new) result (thread_declared (scope_of self.old) word.now (process_of (scope_of self.old) process.now)) }
+        ensures mode { self.new.mode ≡ self.old.mode }
+    {
+        self.declares()?;
+        if self.threads.len() >= MAX_THREADS {
+            return Err(Fault::OutOfRange);
+        }
+        let process = self.process(process)?;
+        self.add_thread(alloc, word, process)
     }
 
     fn declare_mutex(&mut self, alloc: Global, word: &str) -> Result<(), Fault>
@@ -211,24 +296,6 @@ impl Draft {
         declare_numbered(alloc, &mut self.mutexes, MAX_MUTEXES, word, count)
     }
 
-    /// Adds a condition variable, unless there is one of this name.
-    fn add_condition(
-        &mut self,
-        alloc: Global,
-        name: &str,
-        condition: Condition,
-    ) -> Result<(), Fault>
-        ensures gives { Gives (λ _. scope_of self.new) result (with_condition (scope_of self.old) name.now condition.mutex condition.counter) }
-        ensures mode { self.new.mode ≡ self.old.mode }
-    {
-        if self.conditions.contains_key(name) {
-            return Err(Fault::NoSuchName);
-        }
-        self.conditions
-            .insert(String::from_str(alloc, name)?, condition)?;
-        Ok(())
-    }
-
     fn declare_condition(
         &mut self,
         alloc: Global,
@@ -246,7 +313,12 @@ impl Draft {
             return Err(Fault::OutOfRange);
         }
         let mutex = self.mutex(mutex)?;
-        self.add_condition(alloc, name, Condition { mutex, counter })
+        add_entry(
+            alloc,
+            &mut self.conditions,
+            name,
+            Condition { mutex, counter },
+        )
     }
 
     /// Adds the command of line `number`.
@@ -287,6 +359,15 @@ impl Draft {
     {
         let thread = self.thread(thread)?;
         self.ask(number, Action::Kill(thread))
+    }
+
+    fn kill_all(&mut self, number: usize, process: &str) -> Result<(), Fault>
+        requires { IsWithinLimits (scope_of self.old) }
+        ensures gives { Gives (λ _. scope_of self.new) result (asked number (scope_of self.old) (all_killed (scope_of self.old) process.now)) }
+        ensures mode { self.new.mode ≡ self.old.mode }
+    {
+        let process = self.process(process)?;
+        self.ask(number, Action::KillAll(process))
     }
 
     fn go(&mut self, number: usize, thread: &str) -> Result<(), Fault>
@@ -339,7 +420,9 @@ impl Draft {
         ensures mode { self.new.mode ≡ self.old.mode }
     {
         match line {
+            Line::Process(word, base) => self.declare_process(alloc, word, base),
             Line::Thread(word) => self.declare_thread(alloc, word),
+            Line::Member(word, process) => self.declare_member(alloc, word, process),
             Line::Mutex(word) => self.declare_mutex(alloc, word),
             Line::Mutexes(word, count) => self.declare_mutexes(alloc, word, count),
             Line::Cond(name, mutex, counter) => {
@@ -348,6 +431,7 @@ impl Draft {
             Line::Begin(thread, call) => self.begin(number, thread, call),
             Line::Step(thread, count) => self.step(number, thread, count),
             Line::Kill(thread) => self.kill(number, thread),
+            Line::KillAll(process) => self.kill_all(number, process),
             Line::Go(thread) => self.go(number, thread),
             Line::Call(thread, call) => self.make(number, thread, call),
             Line::Locks(thread, mutex, count) => self.lock_several(number, thread, mutex, count),

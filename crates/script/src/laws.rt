@@ -1,5 +1,7 @@
 //! What holds of every script.
 
+ghost use Rattle.script.specs.Killing.{KillallKillsOneProcess};
+ghost use Rattle.script.specs.Processes.{OneProcessWithoutALine, ProcessesAreAsTold};
 ghost use Rattle.script.specs.Silence.{SilentLinesSayNothing};
 ghost use Rattle.script.specs.Resting.{ThreadsComeToRest};
 
@@ -15,4 +17,21 @@ pub fn silent_lines_say_nothing()
 /// cuts no call off.
 pub fn threads_come_to_rest()
     ensures { ThreadsComeToRest }
+{}
+
+/// Of every script that is read: each process has the base that its own line gives, process 0 has base 0; each thread is of the
+/// process that its own line names, or of process 0 where that names none; and `killall` is asked of the process that it names.
+pub fn processes_are_as_told()
+    ensures { ProcessesAreAsTold }
+{}
+
+/// A script that declares no process has the machine of one process, where addresses are places.
+pub fn one_process_without_a_line()
+    ensures { OneProcessWithoutALine }
+{}
+
+/// Whatever happened before, `killall` is one kill of each thread that the script has in that process, in the order of ids, and
+/// of no other thread.
+pub fn killall_kills_one_process()
+    ensures { KillallKillsOneProcess }
 {}

@@ -17,10 +17,13 @@ mod workload;
 pub use command::{Action, Command, Condition, Mode};
 pub use fault::{Fault, ScriptFault};
 pub use gathering::jobs;
-pub use laws::{silent_lines_say_nothing, threads_come_to_rest};
+pub use laws::{
+    killall_kills_one_process, one_process_without_a_line, processes_are_as_told,
+    silent_lines_say_nothing, threads_come_to_rest,
+};
 pub use limits::{
-    MAX_BYTES, MAX_CONDITIONS, MAX_COUNTER, MAX_EVENTS, MAX_LINES, MAX_MUTEXES, MAX_NAME, MAX_STEM,
-    MAX_STEPS, MAX_THREADS, REST_STEPS,
+    MAX_BASE, MAX_BYTES, MAX_CONDITIONS, MAX_COUNTER, MAX_EVENTS, MAX_LINES, MAX_MUTEXES, MAX_NAME,
+    MAX_PROCESSES, MAX_STEM, MAX_STEPS, MAX_THREADS, REST_STEPS,
 };
 pub use parsed::Script;
 pub use player::play;

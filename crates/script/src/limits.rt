@@ -6,6 +6,12 @@ pub const MAX_BYTES: usize = 65_536;
 /// The lines of a script, silent ones too.
 pub const MAX_LINES: usize = 10_000;
 
+/// The processes that a script may declare.
+pub const MAX_PROCESSES: usize = 7;
+
+/// The base of a process.
+pub const MAX_BASE: u32 = 1_000_000_000;
+
 /// The threads that a script may declare.
 pub const MAX_THREADS: usize = 64;
 

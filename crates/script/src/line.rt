@@ -1,12 +1,12 @@
 //! The kinds of line of a script.
 
 ghost use Rattle.std.specs.Prelude.{◌≡◌, true, false, option_map, option_and_then};
-ghost use Rattle.script.specs.Forms.{call_form, calling_form, cond_form, form_of, has, is_on_mutex, is_silent, is_stem, locks_form, mutexes_form, name_form, or_else, phase_form, run_has, step_form, threads_have};
+ghost use Rattle.script.specs.Forms.{call_form, calling_form, cond_form, form_of, has, is_on_mutex, is_silent, is_stem, locks_form, member_form, mutexes_form, name_form, or_else, phase_form, process_form, run_has, step_form, threads_have};
 ghost use Rattle.lines.specs.Numbers.{is_number, within};
 ghost use Rattle.script.specs.Seen.{call_seen, form_seen};
 
 use crate::command::Mode;
-use crate::limits::{MAX_COUNTER, MAX_MUTEXES, MAX_STEM, MAX_STEPS};
+use crate::limits::{MAX_BASE, MAX_COUNTER, MAX_MUTEXES, MAX_STEM, MAX_STEPS};
 use crate::words::is_word_name;
 use keys::Operation;
 use lines::{Words, is_number_word, number_in, words_in};
@@ -26,15 +26,19 @@ pub enum NamedCall<'a> {
 /// What a line that isn't silent says, by names.
 #[derive(Clone, Copy)]
 pub enum Line<'a> {
+    /// A process and its base. None here and below: the number is out of its range.
+    Process(&'a str, Option<u32>),
     Thread(&'a str),
+    /// A thread, and then its process.
+    Member(&'a str, &'a str),
     Mutex(&'a str),
-    /// None here and below: the number is out of its range.
     Mutexes(&'a str, Option<u32>),
     /// The name of the condition variable, then that of its mutex, and what its counter begins with.
     Cond(&'a str, &'a str, Option<u32>),
     Begin(&'a str, NamedCall<'a>),
     Step(&'a str, Option<u32>),
     Kill(&'a str),
+    KillAll(&'a str),
     Go(&'a str),
     Call(&'a str, NamedCall<'a>),
     Locks(&'a str, &'a str, Option<u32>),
@@ -61,6 +65,7 @@ fn of_a_name<'a>(keyword: &'a str, name: &'a str) -> Option<Line<'a>>
         "thread" => Some(Line::Thread(name)),
         "mutex" => Some(Line::Mutex(name)),
         "kill" => Some(Line::Kill(name)),
+        "killall" => Some(Line::KillAll(name)),
         "go" => Some(Line::Go(name)),
         _ => None,
     }
@@ -87,6 +92,24 @@ fn mutexes<'a>(keyword: &'a str, name: &'a str, number: &'a str) -> Option<Line<
 {
     if keyword == "mutexes" && is_word_stem(name) && is_number_word(number) {
         return Some(Line::Mutexes(name, number_in(number, 1, MAX_MUTEXES as u32)));
+    }
+    None
+}
+
+fn process<'a>(keyword: &'a str, name: &'a str, number: &'a str) -> Option<Line<'a>>
+    ensures { option_map form_seen result ≡ process_form keyword.now name.now number.now }
+{
+    if keyword == "process" && is_word_name(name) && is_number_word(number) {
+        return Some(Line::Process(name, number_in(number, 0, MAX_BASE)));
+    }
+    None
+}
+
+fn member<'a>(keyword: &'a str, thread: &'a str, process: &'a str) -> Option<Line<'a>>
+    ensures { option_map form_seen result ≡ member_form keyword.now thread.now process.now }
+{
+    if keyword == "thread" && is_word_name(thread) && is_word_name(process) {
+        return Some(Line::Member(thread, process));
     }
     None
 }
@@ -153,13 +176,20 @@ fn phase(keyword: &str) -> Option<Line<'_>>
 }
 
 /// A line of three words.
-fn of_three<'a>(keyword: &'a str, name: &'a str, number: &'a str) -> Option<Line<'a>>
-    ensures { option_map form_seen result ≡ or_else (step_form keyword.now name.now number.now)
-        (mutexes_form keyword.now name.now number.now) }
+fn of_three<'a>(keyword: &'a str, second: &'a str, third: &'a str) -> Option<Line<'a>>
+    ensures { option_map form_seen result ≡ or_else (step_form keyword.now second.now third.now)
+        (or_else (mutexes_form keyword.now second.now third.now)
+        (or_else (process_form keyword.now second.now third.now) (member_form keyword.now second.now third.now))) }
 {
-    match step(keyword, name, number) {
+    if let Some(line) = step(keyword, second, third) {
+        return Some(line);
+    }
+    if let Some(line) = mutexes(keyword, second, third) {
+        return Some(line);
+    }
+    match process(keyword, second, third) {
         Some(line) => Some(line),
-        None => mutexes(keyword, name, number),
+        None => member(keyword, second, third),
     }
 }
 
@@ -198,12 +228,13 @@ fn is_of_threads(line: &Line<'_>) -> bool
     ensures { result ≡ threads_have (form_seen line.now) }
 {
     match line {
-        Line::Thread(_) | Line::Mutex(_) | Line::Mutexes(..) => true,
+        Line::Process(..) | Line::Thread(_) | Line::Member(..) => true,
+        Line::Mutex(_) | Line::Mutexes(..) => true,
         Line::Call(_, call) => is_on_mutex(call),
         Line::Phase => true,
         Line::Cond(..) => false,
         Line::Begin(..) | Line::Step(..) | Line::Kill(_) => false,
-        Line::Go(_) | Line::Locks(..) => false,
+        Line::KillAll(_) | Line::Go(_) | Line::Locks(..) => false,
     }
 }
 
@@ -225,7 +256,7 @@ pub fn line_of(text: &str, mode: Mode) -> Option<Line<'_>>
     let line = match words_in(text) {
         Words::One(keyword) => phase(keyword),
         Words::Two(keyword, name) => of_a_name(keyword, name),
-        Words::Three(keyword, name, number) => of_three(keyword, name, number),
+        Words::Three(keyword, second, third) => of_three(keyword, second, third),
         Words::Four(keyword, second, third, fourth) => of_four(keyword, second, third, fourth),
         _ => None,
     }?;

@@ -13,7 +13,9 @@ use std::marker::Model;
 #[derive(Drop)]
 pub struct Script {
     mode: Mode,
+    processes: IndexMap<String, u64>,
     threads: IndexSet<String>,
+    members: Vec<u8>,
     mutexes: IndexSet<String>,
     conditions: IndexMap<String, Condition>,
     commands: Vec<Command>,
@@ -41,7 +43,9 @@ impl Script {
     {
         Script {
             mode: draft.mode,
+            processes: draft.processes,
             threads: draft.threads,
+            members: draft.members,
             mutexes: draft.mutexes,
             conditions: draft.conditions,
             commands: draft.commands,
@@ -54,6 +58,33 @@ impl Script {
         ensures well_formed { IsWellFormed self.now }
     {
         self.mode
+    }
+
+    /// How many processes it declares, at most [`MAX_PROCESSES`](crate::MAX_PROCESSES). They have the numbers from 1 to
+    /// this; process 0 is always there, with base 0.
+    pub fn processes(&self) -> u8
+        ensures count { result ≡ length self.now.processes }
+        ensures well_formed { IsWellFormed self.now }
+    {
+        self.processes.len() as u8
+    }
+
+    /// The base of a process that it declares, at most [`MAX_BASE`](crate::MAX_BASE).
+    pub fn base(&self, process: u8) -> u64
+        requires first { 1 ≤ process }
+        requires last { process ≤ length self.now.processes }
+        ensures { option_map (λ p. p.1) (slice_get self.now.processes (process - 1)) ≡ Some result }
+    {
+        let (_, base) = self.processes.get_index(usize::from(process) - 1).unwrap();
+        *base
+    }
+
+    /// The process of each thread, in the order of their ids: 0 where the thread's line names none.
+    pub fn members(&self) -> &[u8]
+        ensures value { result.now ≡ self.now.members }
+        ensures well_formed { IsWellFormed self.now }
+    {
+        self.members.as_slice()
     }
 
     /// How many threads it declares, from 1 to [`MAX_THREADS`](crate::MAX_THREADS). They have the

@@ -1,10 +1,10 @@
 //! Playing a script's commands on the machine.
-ghost use Rattle.std.specs.Prelude.{true, ◌≡◌, ◌≤◌, [], ◌∷◌, ◌++◌, length, replicate, ◌+◌, OnOk, IfOk, IfErr};
+ghost use Rattle.std.specs.Prelude.{true, ◌≡◌, ◌≤◌, [], ◌∷◌, ◌++◌, length, replicate, take, ◌+◌, OnOk, IfOk, IfErr};
 ghost use Rattle.protocol.specs.declared.event.Event.TheVariants.{Step};
 ghost use Rattle.protocol.specs.Machine.{start};
 ghost use Rattle.interleave.specs.Shown.{state_of};
 ghost use Rattle.script.specs.Limits.{max_events, max_mutexes};
-ghost use Rattle.script.specs.Playing.{Adds, AddsAt, HasMutexes, calling, events_of, first_state, going_on, is_going, layout_of, locking};
+ghost use Rattle.script.specs.Playing.{Adds, AddsAt, HasMutexes, calling, events_of, first_state, going_on, is_going, killing, layout_of, locking};
 ghost use Rattle.script.specs.Played.{PlaysOn, PlaysTo};
 
 use crate::command::{Action, Command};
@@ -12,7 +12,7 @@ use crate::fault::{Fault, ScriptFault};
 use crate::limits::{MAX_EVENTS, REST_STEPS};
 use crate::parsed::Script;
 use interleave::{Machine, Trace};
-use keys::{CONDITION_LIMIT, Layout};
+use keys::{CONDITION_LIMIT, Layout, PROCESS_LIMIT};
 use lockword::Tid;
 use mutex::Call;
 use protocol::{Event, Note, Op};
@@ -107,6 +107,20 @@ fn play_locks(
     Ok(())
 }
 
+/// A kill of each thread of a process, in the order of ids.
+fn play_kills(machine: &mut Machine, notes: &mut Vec<Note>, process: u8) -> Result<(), Fault>
+    requires { length notes.old.items ≤ max_events }
+    ensures { Adds (state_of machine.old) (state_of machine.new) notes.old.items notes.new.items (killing (state_of machine.old).layout process) result }
+{
+    for earlier in 0..machine.layout().threads() {
+        let thread = Tid::new(earlier + 1).unwrap();
+        if machine.layout().process_of(thread) == process {
+            play_event(machine, notes, Event::Kill(thread))?;
+        }
+    }
+    Ok(())
+}
+
 /// The events of an action.
 fn play_action(machine: &mut Machine, notes: &mut Vec<Note>, action: Action) -> Result<(), Fault>
     requires few { length notes.old.items ≤ max_events }
@@ -117,6 +131,7 @@ fn play_action(machine: &mut Machine, notes: &mut Vec<Note>, action: Action) -> 
         Action::Begin(thread, op) => play_event(machine, notes, Event::Begin(thread, op)),
         Action::Step { thread, count } => play_steps(machine, notes, thread, count),
         Action::Kill(thread) => play_event(machine, notes, Event::Kill(thread)),
+        Action::KillAll(process) => play_kills(machine, notes, process),
         Action::Go(thread) => play_to_rest(machine, notes, thread),
         Action::Call(thread, op) => play_call(machine, notes, thread, op),
         Action::Locks {
@@ -164,19 +179,40 @@ fn play_commands(
     Ok(())
 }
 
-/// The layout of a script's threads, mutexes and condition variables.
+/// The bases of a script's processes, that of process 0 first.
+fn bases_of(script: &Script) -> [u64; PROCESS_LIMIT]
+    ensures { take (length script.now.processes + 1) result ≡ (layout_of script.now).bases }
+{
+    let mut bases = [0; PROCESS_LIMIT];
+    for earlier in 0..script.processes() {
+        let process = earlier + 1;
+        bases[usize::from(process)] = script.base(process);
+    }
+    bases
+}
+
+/// The mutexes of a script's condition variables.
+fn mutexes_of(script: &Script) -> [u16; CONDITION_LIMIT]
+    ensures { take (length script.now.conditions) result ≡ (layout_of script.now).conditions }
+{
+    let mut mutexes = [0; CONDITION_LIMIT];
+    for condition in 0..script.conditions() {
+        mutexes[usize::from(condition)] = script.condition(condition).mutex;
+    }
+    mutexes
+}
+
+/// The layout of a script's threads and processes, mutexes and condition variables.
 fn layout_of(script: &Script) -> Layout
     ensures { result ≡ layout_of script.now }
 {
-    let mut mutexes = [0; CONDITION_LIMIT];
-    let count = script.conditions();
-    for condition in 0..count {
-        mutexes[usize::from(condition)] = script.condition(condition).mutex;
-    }
-    Layout::new(
-        script.threads(),
+    let bases = bases_of(script);
+    let mutexes = mutexes_of(script);
+    Layout::with_processes(
+        script.members(),
+        &bases[..usize::from(script.processes()) + 1],
         script.mutexes(),
-        &mutexes[..usize::from(count)],
+        &mutexes[..usize::from(script.conditions())],
     )
     .unwrap()
 }

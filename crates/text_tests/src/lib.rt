@@ -17,6 +17,8 @@ mod misfits;
 #[cfg(test)]
 mod phases;
 #[cfg(test)]
+mod processes;
+#[cfg(test)]
 mod scripts;
 #[cfg(test)]
 mod traces;

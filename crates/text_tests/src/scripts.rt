@@ -23,7 +23,7 @@ pub const THIRD: Scripts = Scripts {
 };
 
 /// Whole scripts, most of which only declare.
-static DECLARATIONS: [(&str, Refusal); 42] = [
+static DECLARATIONS: [(&str, Refusal); 43] = [
     ("", Some((3, 1))),
     ("\n", Some((3, 2))),
     ("# nothing\n\n#\n", Some((3, 4))),
@@ -37,7 +37,8 @@ static DECLARATIONS: [(&str, Refusal); 42] = [
     ("thread abcdefgh_12345678\nmutex m\n", Some((2, 1))),
     ("thread \nmutex m\n", Some((2, 1))),
     ("thread\nmutex m\n", Some((2, 1))),
-    ("thread a b\nmutex m\n", Some((2, 1))),
+    ("thread a b\nmutex m\n", Some((4, 1))),
+    ("thread a b c\nmutex m\n", Some((2, 1))),
     ("thread  a\nmutex m\n", Some((2, 1))),
     (" thread a\nmutex m\n", Some((2, 1))),
     ("thread a \nmutex m\n", Some((2, 1))),
@@ -320,8 +321,9 @@ const BEHIND_MANY_THREADS: Scripts = Scripts {
     end: "\n",
 };
 
-/// The 65th thread, one of the 64 again, and no thread.
-static ONE_MORE_THREAD: [(&str, Refusal); 3] = [
+/// The 65th thread, also of a process that is not declared; one of the 64 again; and no thread.
+static ONE_MORE_THREAD: [(&str, Refusal); 4] = [
+    ("thread t65 p", Some((3, 66))),
     ("thread t65", Some((3, 66))),
     ("thread t64", Some((3, 66))),
     ("thread 65", Some((2, 66))),

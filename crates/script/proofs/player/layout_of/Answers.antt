@@ -1,30 +1,13 @@
-use Rattle.std.proofs.Common.{◌≡◌, ◌∙◌, ℕ, ◌+◌, ◌<◌, length, take, set, sym, ap, subst, arith}
-use Rattle.std.proofs.lemmas.List.{length-set}
-use Rattle.script.specs.Playing.{layout_of}
-use Rattle.script.proofs.Firsts.{lays, mutex_more, all_mutexes}
+use Rattle.std.proofs.Common.{◌≡◌, ◌∙◌, ℕ, ◌+◌, length, take, ap}
+use Rattle.script.proofs.Firsts.{lays}
 use Rattle.script.proofs.player.layout_of.Goals as goal
-
-pub loop-condition-preserved : goal.loop-condition-preserved
-loop-condition-preserved c =
-    let s = c.args.script.now in
-    let k = c.loop-condition.condition in
-    let ms = c.loop-condition.mutexes in
-    let few = c.conditions-count.ensures.well_formed.within.conditions_at_most in
-    let count = c.conditions-count.ensures.count in
-    let below = c.loop-condition-test.true in
-    let inside : k < length s.conditions = omega arith in
-    let long = c.loop-condition.invariant.1 in
-    subst (λ (i : ℕ). (take (k + 1) (set ms i c.condition.result.mutex) ≡ take (k + 1) (layout_of s).conditions) × (length (set ms i c.condition.result.mutex) ≡ 256)) (sym c.from.ensures)
-    (mutex_more s ms k c.condition.result c.condition.ensures inside (omega arith) c.loop-condition.invariant.0, length-set ms k c.condition.result.mutex ∙ long)
 
 pub unwrap-requires : goal.unwrap-requires
 unwrap-requires c =
     let s = c.args.script.now in
-    let k = c.loop-condition.condition in
-    let ms = c.loop-condition.mutexes in
-    let count = c.conditions-count.ensures.count in
-    let over = c.loop-condition-test.false in
-    let same = c.from-2.ensures in
-    let ended : c.from-2.result ≡ k = omega arith in
-    lays s c.threads.result c.mutexes.result (take c.from-2.result ms) c.new.result c.conditions-count.ensures.well_formed c.threads.ensures.count c.mutexes.ensures.count
-    (ap (λ (n : ℕ). take n ms) ended ∙ all_mutexes s ms k (omega arith) c.loop-condition.invariant.0) c.new.ensures
+    let bs = c.bases_of-bases.result in
+    let ms = c.mutexes_of-mutexes.result in
+    let processes : c.from.result + 1 ≡ length s.processes + 1 = ap (λ (n : ℕ). n + 1) (c.from.ensures ∙ c.processes.ensures.count) in
+    let conditions : c.from-2.result ≡ length s.conditions = c.from-2.ensures ∙ c.conditions.ensures.count in
+    lays s c.members.result.now (take (c.from.result + 1) bs) c.mutexes.result (take c.from-2.result ms) c.with_processes.result c.members.ensures.well_formed c.members.ensures.value
+    (ap (λ (n : ℕ). take n bs) processes ∙ c.bases_of-bases.ensures) c.mutexes.ensures.count (ap (λ (n : ℕ). take n ms) conditions ∙ c.mutexes_of-mutexes.ensures) c.with_processes.ensures
