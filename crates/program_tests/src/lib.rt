@@ -8,6 +8,8 @@ mod commands;
 #[cfg(test)]
 mod conditions;
 #[cfg(test)]
+mod processes;
+#[cfg(test)]
 mod program;
 #[cfg(test)]
 mod rows;

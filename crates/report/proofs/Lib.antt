@@ -4,7 +4,6 @@ mod Phases
 mod Told
 mod Possible
 mod Servings
-mod Layouts
 mod Judged
 mod Failures
 mod Asking

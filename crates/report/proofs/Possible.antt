@@ -38,28 +38,29 @@ each-append P (x ∷ xs) ys a b = (a.0, each-append P xs ys a.1 b)
 abbrev IsOn : ℕ → Call → Type 0
 IsOn m c = mutex_of c < m
 
-abbrev IsFine : ℕ → ℕ → ℕ → Command → Type 0
-IsFine n m k c = IsPossible n m k c.action
+abbrev IsFine : ℕ → ℕ → ℕ → ℕ → Command → Type 0
+IsFine p n m k c = IsPossible p n m k c.action
 
-by_action : (n m d t : ℕ) (a : Action) → IsPossible n m d a → Each (IsOn m) (call_by t a)
+by_action : (p n m d t : ℕ) (a : Action) → IsPossible p n m d a → Each (IsOn m) (call_by t a)
 unfolding Each
-by_action n m d t (action.Begin u k) fine = tt
-by_action n m d t (action.Step u k) fine = tt
-by_action n m d t (action.Kill u) fine = tt
-by_action n m d t (action.Go u) fine = tt
-by_action n m d t (action.Locks u j k) fine = tt
-by_action n m d t action.Phase fine = tt
-by_action n m d t (action.Call u (OnCondition k)) fine = tt
-by_action n m d t (action.Call u (OnMutex k)) fine = go (u == t)
+by_action p n m d t (action.Begin u k) fine = tt
+by_action p n m d t (action.Step u k) fine = tt
+by_action p n m d t (action.Kill u) fine = tt
+by_action p n m d t (action.KillAll q) fine = tt
+by_action p n m d t (action.Go u) fine = tt
+by_action p n m d t (action.Locks u j k) fine = tt
+by_action p n m d t action.Phase fine = tt
+by_action p n m d t (action.Call u (OnCondition k)) fine = tt
+by_action p n m d t (action.Call u (OnMutex k)) fine = go (u == t)
   where
     go : (b : Bool) → Each (IsOn m) (if b then k ∷ [] else [])
     go true = (fine.2, tt)
     go false = tt
 
-by_thread : (n m d t : ℕ) (cs : List Command) → Each (IsFine n m d) cs → Each (IsOn m) (calls_by t cs)
+by_thread : (p n m d t : ℕ) (cs : List Command) → Each (IsFine p n m d) cs → Each (IsOn m) (calls_by t cs)
 unfolding Each
-by_thread n m d t [] fine = tt
-by_thread n m d t (c ∷ cs) fine = each-append (IsOn m) (call_by t c.action) (calls_by t cs) (by_action n m d t c.action fine.0) (by_thread n m d t cs fine.1)
+by_thread p n m d t [] fine = tt
+by_thread p n m d t (c ∷ cs) fine = each-append (IsOn m) (call_by t c.action) (calls_by t cs) (by_action p n m d t c.action fine.0) (by_thread p n m d t cs fine.1)
 
 -- a job's calls
 abbrev IsJobOn : ℕ → Job' → Type 0
@@ -70,10 +71,10 @@ unfolding Each
 one_job m t [] fine = tt
 one_job m t (c ∷ cs) fine = (fine, tt)
 
-phase_jobs : (n m d k : ℕ) (cs : List Command) → Each (IsFine n m d) cs → Each (IsJobOn m) (jobs_up_to k cs)
+phase_jobs : (p n m d k : ℕ) (cs : List Command) → Each (IsFine p n m d) cs → Each (IsJobOn m) (jobs_up_to k cs)
 unfolding Each
-phase_jobs n m d zero cs fine = tt
-phase_jobs n m d (suc k) cs fine = each-append (IsJobOn m) (jobs_up_to k cs) (job_of (suc k) (calls_by (suc k) cs)) (phase_jobs n m d k cs fine) (one_job m (suc k) (calls_by (suc k) cs) (by_thread n m d (suc k) cs fine))
+phase_jobs p n m d zero cs fine = tt
+phase_jobs p n m d (suc k) cs fine = each-append (IsJobOn m) (jobs_up_to k cs) (job_of (suc k) (calls_by (suc k) cs)) (phase_jobs p n m d k cs fine) (one_job m (suc k) (calls_by (suc k) cs) (by_thread p n m d (suc k) cs fine))
 
 -- each part of a list
 first_too : {A : Type 0} (P : A → Type 0) (x : A) (parts : List (List A)) → P x → Each (Each P) parts → Each (Each P) (onto_first x parts)
@@ -102,11 +103,12 @@ each-unmap P Q f go (x ∷ xs) each = (go x each.0, each-unmap P Q f go xs each.
 
 pub right_phases : (s : Scope) (phases : List Phase) → IsWellFormed s → map jobs_seen phases ≡ jobs_of s → AreRightPhases (length s.mutexes) phases
 right_phases s phases whole is =
+    let p = length s.processes in
     let n = length s.threads in
     let m = length s.mutexes in
     let d = length s.conditions in
-    let fine : Each (IsFine n m d) s.commands = to_each (IsFine n m d) s.commands whole.within.commands_possible in
-    let asked : Each (Each (IsJobOn m)) (jobs_of s) = each-map (Each (IsFine n m d)) (Each (IsJobOn m)) (jobs_up_to n) (λ cs. phase_jobs n m d n cs) (slice_split ends_phase s.commands) (parts_too (IsFine n m d) ends_phase s.commands fine) in
+    let fine : Each (IsFine p n m d) s.commands = to_each (IsFine p n m d) s.commands whole.within.commands_possible in
+    let asked : Each (Each (IsJobOn m)) (jobs_of s) = each-map (Each (IsFine p n m d)) (Each (IsJobOn m)) (jobs_up_to n) (λ cs. phase_jobs p n m d n cs) (slice_split ends_phase s.commands) (parts_too (IsFine p n m d) ends_phase s.commands fine) in
     let seen : Each (Each (IsJobOn m)) (map jobs_seen phases) = subst (Each (Each (IsJobOn m))) (sym is) asked in
     from_each (λ p. All (λ j. ArePossible m j.calls) p.jobs.items) phases
     (each-unmap (λ p. All (λ j. ArePossible m j.calls) p.jobs.items) (Each (IsJobOn m)) jobs_seen

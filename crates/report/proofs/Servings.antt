@@ -15,7 +15,7 @@ use Rattle.script.specs.Scope.{Scope}
 use Rattle.script.specs.Reading.{script_read}
 use Rattle.script.specs.Playing.{layout_of, first_state, events_in, overlong}
 use Rattle.script.specs.Played.{IsPlayed}
-use Rattle.report.proofs.Layouts.{run_layout}
+use Rattle.script.proofs.Layouts.{run_layout}
 use Rattle.report.specs.declared.threads.Answers.{Answers}
 use Rattle.texts.specs.Replies.{replies_text}
 use Rattle.texts.specs.Leaves.{AppendsFront}

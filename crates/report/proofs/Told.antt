@@ -35,8 +35,8 @@ Adds c place p op r d =
     (d.thread ≡ c.thread) × (((place ≢ p) ⊎ ((acquires op ≡ true) × (r ≡ XHELD))) × (by c.thread (at d.seen p) ≡ by c.thread (at c.seen p))
     ⊎ (place ≡ p) × (by c.thread (at d.seen p) ≡ by c.thread (at c.seen p) ++ record { thread = c.thread; at = p; operation = op; reply = r } ∷ []))
 
-called_adds : (c d : Card) (place p : ℕ) (op : Operation) (r : Reply) → Called c place op r d → Adds c place p op r d
-called_adds c d place p op r (o, sees) = (
+called_adds : (c d : Card) (place p : ℕ) (op : Operation) (r : Reply) → Called c place ((op, r) ∷ []) d → Adds c place p op r d
+called_adds c d place p op r called = let sees = called.saw in (
   sees.thread,
   dite (ℕ_discrete p place)
       (λ here. inr (sym here, subst (λ (z : ℕ). by c.thread (at d.seen z) ≡ by c.thread (at c.seen z) ++ record { thread = c.thread; at = z; operation = op; reply = r } ∷ []) (sym here) sees.own))
@@ -46,13 +46,13 @@ called_adds c d place p op r (o, sees) = (
 held_adds : (c d : Card) (place p : ℕ) (op : Operation) (r : Reply) → acquires op ≡ true → r ≡ XHELD → d ≡ c → Adds c place p op r d
 held_adds c d place p op r takes refused same = (ap (λ (z : Card). z.thread) same, inl (inr (takes, refused), ap (λ (z : Card). by c.thread (at z.seen p)) same))
 
-either_adds : (b : Bool) (c d : Card) (place p : ℕ) (op : Operation) (r : Reply) (P : Type 0) → acquires op ≡ true → (P → Called c place op r d) → MatchBool b ((r ≡ XHELD) × (d ≡ c)) P → Adds c place p op r d
+either_adds : (b : Bool) (c d : Card) (place p : ℕ) (op : Operation) (r : Reply) (P : Type 0) → acquires op ≡ true → (P → Called c place ((op, r) ∷ []) d) → MatchBool b ((r ≡ XHELD) × (d ≡ c)) P → Adds c place p op r d
 either_adds true c d place p op r P takes calls m = held_adds c d place p op r takes m.0 m.1
 either_adds false c d place p op r P takes calls m = called_adds c d place p op r (calls m)
 
 replied_adds : (w : Words) (a : Pass Live) (call : Call) (r : Reply) (b : Pass Live) (p : ℕ) → Replied w a call r b → Adds (card a) (cell_place (layout_of w) (mutex_of call)) p (operation_of call) r (card b)
 replied_adds w a (Lock m) r b p t = either_adds (nat_le 2048 (held (card a))) (card a) (card b) (cell_place (layout_of w) m) p _ r _ refl (λ c. c) t.1
-replied_adds w a (TryLock m) r b p t = either_adds (nat_le 2048 (held (card a))) (card a) (card b) (cell_place (layout_of w) m) p _ r _ refl (λ c. c.0) t.1
+replied_adds w a (TryLock m) r b p t = either_adds (nat_le 2048 (held (card a))) (card a) (card b) (cell_place (layout_of w) m) p _ r _ refl (λ c. c) t.1
 replied_adds w a (Unlock m) r b p t = called_adds (card a) (card b) (cell_place (layout_of w) m) p _ r t.1
 replied_adds w a (Consistent m) r b p t = called_adds (card a) (card b) (cell_place (layout_of w) m) p _ r t.1
 
@@ -95,9 +95,9 @@ mapped_at f (y ∷ ys) zero x is = let one : y ≡ x = cc is in ap (λ z. Some (
 mapped_at f (y ∷ ys) (suc i) x is = mapped_at f ys i x is
 
 -- what all threads were told stands in the history of each mutex in which their passes met
-pub together : (w : Words) (ps : List Phase) (firsts passes : List (Pass Live)) (replies : List (Vec Reply Global)) (cells : List ℕ) (n : ℕ) → ((i : ℕ) (a : Pass Live) → slice_get firsts i ≡ Some a → card a ≡ first_card n (i + 1)) → HaveMade w ps firsts passes replies → HasEnded w passes cells
+pub together : (w : Words) (ps : List Phase) (firsts passes : List (Pass Live)) (replies : List (Vec Reply Global)) (cells : List ℕ) (k : Layout') → ((i : ℕ) (a : Pass Live) → slice_get firsts i ≡ Some a → card a ≡ first_card k (i + 1)) → HaveMade w ps firsts passes replies → HasEnded w passes cells
     → StandTogether (layout_of w) (λ t. calls_over t ps) replies cells
-together w ps firsts passes replies cells n cards made ended = record {
+together w ps firsts passes replies cells k cards made ended = record {
   histories = ended.ends.histories;
   legal = λ m low. subst (λ (v : ℕ). Leaves (layout_of w).threads (cell_place (layout_of w) m) (at ended.ends.histories (cell_place (layout_of w) m)) (object_of (fields_of v))) (sym (cell_is m low)) (ended.ends.leaves m low);
   told = told_at;

@@ -2,7 +2,7 @@
 use Rattle.std.specs.Prelude.{ℕ, ◌≡◌, ◌+◌, ◌<◌, List, [], ◌++◌, length, map, slice_index, All, Vec, Some, slice_get, ◌==◌, if◌then◌else◌}
 use Rattle.std.specs.declared.alloc.Global.{Global}
 use Rattle.std.specs.List.{flat_map}
-use Rattle.keys.specs.Layouts.{cell_place}
+use Rattle.keys.specs.Layouts.{cell_place, one_process}
 use Rattle.lockword.specs.declared.reply.Reply.{Reply}
 use Rattle.mutex.specs.declared.call.Call.{Call}
 use Rattle.mutex.specs.Calls.{mutex_of}
@@ -81,10 +81,10 @@ pub record HasEnded (w : Words) (passes : List (Pass Live)) (cells : List ℕ) :
 -- and what is left of the words' cells are these. All replies of all threads stand in one history of each mutex
 pub record HaveAnswered (threads mutexes : ℕ) (ps : List Phase) (replies : List (Vec Reply Global)) (cells : List ℕ) : Type 0 where
   pub words : Words
-  pub layout : layout_of words ≡ record { threads = threads; mutexes = mutexes; conditions = [] }
+  pub layout : layout_of words ≡ one_process threads mutexes []
   pub firsts : List (Pass Live)
   pub as_many : length firsts ≡ threads
-  pub cards : (i : ℕ) (a : Pass Live) → slice_get firsts i ≡ Some a → card a ≡ first_card threads (i + 1)
+  pub cards : (i : ℕ) (a : Pass Live) → slice_get firsts i ≡ Some a → card a ≡ first_card (layout_of words) (i + 1)
   pub passes : List (Pass Live)
   pub made : HaveMade words ps firsts passes replies
   pub ended : HasEnded words passes cells
