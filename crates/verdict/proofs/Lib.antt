@@ -8,3 +8,4 @@ pub mod Passing
 pub mod Whole
 pub mod Lives
 pub mod Burials
+pub mod Collecting

@@ -19,7 +19,7 @@ unrolled : (text : List ℕ) (ls : List (List ℕ)) → 1 ≤ length ls → text
 unrolled text [] long = absurd (omega (arith, long))
 unrolled text (l ∷ ls) long = refl
 
-whole : (text first rest : List ℕ) → lines_of text ≡ first ∷ lines_of rest → text_read (lines_of text) ≡ (met_at 1 (head_read first) >>= λ h. lines_read 2 h [] (lines_of rest))
+pub whole : (text first rest : List ℕ) → lines_of text ≡ first ∷ lines_of rest → text_read (lines_of text) ≡ (met_at 1 (head_read first) >>= λ h. lines_read 2 h [] (lines_of rest))
 whole text first rest parts = ap text_read parts ∙ unrolled first (lines_of rest) (one_or_more (λ b. b == 10) rest)
 
 lift : (said : Result Trace TraceFault) (r : Result Finding TraceFault) → AnswersLines said r → Tells said r

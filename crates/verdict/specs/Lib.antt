@@ -11,3 +11,4 @@ pub mod Judges
 pub mod Verdicts
 pub mod Passes
 pub mod Explained
+pub mod Told

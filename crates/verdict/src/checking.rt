@@ -128,7 +128,7 @@ impl Pass {
 }
 
 /// What is wrong with what stands behind the last line feed, where there was no `end` line.
-fn unended_by(rest: &str) -> Fault
+pub(crate) fn unended_by(rest: &str) -> Fault
     ensures { result ≡ unended rest.now }
 {
     match rest.as_bytes() {

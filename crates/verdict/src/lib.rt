@@ -8,7 +8,7 @@
 //! nothing else (pthread_mutex_lock, pthread_cond_wait, robust-futexes).
 //!
 //! [`explain`] answers why that line doesn't fit, beside the line: its event's number, its thread's life or its mutex forbids it, the
-//! first of these that does.
+//! first of these that does. [`read_trace`] gives the lines themselves, of a trace that needn't be legal.
 //!
 //! ```text
 //! let trace = b"trace 2 1 0\n1 begin t1 lock m0\n2 sleep t1 m0\n3 point t1 m0 lock OK\nend 3\n";
@@ -32,9 +32,12 @@ mod misfit;
 mod place;
 mod reading;
 mod stage;
+mod told;
 mod words;
 
 pub use checking::{Finding, Verdict, check, explain};
 pub use fault::{Fault, TraceFault};
+pub use head::Head;
 pub use limits::{MAX_BYTES, MAX_CONDITIONS, MAX_EVENTS, MAX_MUTEXES, MAX_THREADS};
 pub use misfit::{Misfit, TraceMisfit};
+pub use told::{Told, read_trace};
