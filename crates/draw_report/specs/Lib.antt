@@ -1,0 +1,4 @@
+pub mod Asked
+pub mod Messages
+pub mod Served
+pub mod Programs

@@ -1,0 +1,66 @@
+-- What the program did with the bytes of its reader.
+use Rattle.std.specs.Prelude.{ℕ, ◌≡◌, ◌≤◌, ◌⊎◌, ⊤, List, length, Option, Ok, Err}
+use Rattle.std.specs.Io.KnownBytes.{Appends, Consumes, IsAtEnd}
+use Rattle.streams.specs.Leaves.{AppendsFront}
+use Rattle.streams.specs.declared.reading.ReadFault.{ReadFault}
+use Rattle.streams.specs.declared.reading.ReadFault.TheVariants as read
+use Rattle.verdict.specs.declared.told.Told.{Told}
+use Rattle.verdict.specs.Limits.{max_bytes}
+use Rattle.verdict.specs.Reading.{trace_read}
+use Rattle.verdict.specs.Told.{Gives, IsWithin, trace_of}
+use Rattle.draw_report.specs.declared.asking.Kind.{Kind}
+use Rattle.draw_report.specs.declared.asking.Kind.TheVariants.{Text, Svg}
+use Rattle.picture.specs.declared.drawing.Unwritten.{Unwritten}
+use Rattle.picture.specs.declared.drawing.Unwritten.TheVariants as unwritten
+use Rattle.draw_report.specs.declared.messages.Failure.{Failure}
+use Rattle.draw_report.specs.declared.messages.Failure.TheVariants.{Usage, CannotRead, CannotWrite, OutOfMemory, Trace}
+use Rattle.picture.specs.Drawn.{drawn}
+use Rattle.picture.specs.Svg.{svg_drawn}
+
+-- the failure that a fault of reading is told as, and one of drawing: memory where memory was refused
+abbrev pub failed_by : ReadFault → Failure
+failed_by read.Memory = OutOfMemory
+failed_by read.Failed = CannotRead
+
+abbrev pub undrawn_by : Unwritten → Failure
+undrawn_by unwritten.OutOfMemory = OutOfMemory
+undrawn_by unwritten.Failed = CannotWrite
+
+-- it says that the file couldn't be read, or that memory for its bytes was wanted
+abbrev pub IsUnread : Failure → Type 0
+IsUnread Usage = ⊥
+IsUnread CannotRead = ⊤
+IsUnread CannotWrite = ⊥
+IsUnread OutOfMemory = ⊤
+IsUnread (Trace e) = ⊥
+
+abbrev pub picture : Kind → Told → List ℕ
+picture Text t = drawn t.head.threads t.head.mutexes t.lines.items t.last
+picture Svg t = svg_drawn t.head.threads t.head.mutexes t.lines.items t.last
+
+-- these bytes are a trace, and all of its picture was written, or a beginning of it
+abbrev pub Draws : Kind → Option (List ℕ) → Option (List ℕ) → List ℕ → Type 0
+Draws kind old new bytes = (t : Told) × (trace_read bytes ≡ Ok (trace_of t)) × IsWithin t × Appends old new (picture kind t)
+
+abbrev pub DrawsFront : Kind → Option (List ℕ) → Option (List ℕ) → List ℕ → Type 0
+DrawsFront kind old new bytes = (t : Told) × (trace_read bytes ≡ Ok (trace_of t)) × IsWithin t × AppendsFront old new (picture kind t)
+
+-- why bytes weren't drawn, or not all: the fault that the judge of traces tells of them, or want of memory, before the first byte; or a write that failed, or memory for a row, behind a beginning
+abbrev pub FailsDrawing : Kind → List ℕ → Option (List ℕ) → Option (List ℕ) → Failure → Type 0
+FailsDrawing kind bytes old new Usage = ⊥
+FailsDrawing kind bytes old new CannotRead = ⊥
+FailsDrawing kind bytes old new CannotWrite = DrawsFront kind old new bytes
+FailsDrawing kind bytes old new OutOfMemory = DrawsFront kind old new bytes
+FailsDrawing kind bytes old new (Trace e) = (new ≡ old) × Gives (trace_read bytes) (Err e)
+
+-- all that the reader had, up to its end, is a trace, and its picture was written
+abbrev pub Serves : Kind → Option (List ℕ) → Option (List ℕ) → Option (List ℕ) → Option (List ℕ) → Type 0
+Serves kind had left old new = (bytes : List ℕ) × Consumes had left bytes × IsAtEnd left × Draws kind old new bytes
+
+-- what came of a reader's bytes, which are all that it had, or more than there may be
+abbrev pub Comes : Kind → Option (List ℕ) → Option (List ℕ) → Option (List ℕ) → Option (List ℕ) → Failure → Type 0
+Comes kind had left old new f = (bytes : List ℕ) × Consumes had left bytes × (length bytes ≤ max_bytes → IsAtEnd left) × FailsDrawing kind bytes old new f
+
+-- why a file wasn't drawn, or not all: before the first byte it couldn't be read, or memory was wanted; or this came of its bytes
+abbrev pub Fails : Kind → Option (List ℕ) → Option (List ℕ) → Option (List ℕ) → Option (List ℕ) → Failure → Type 0
+Fails kind had left old new f = (IsUnread f × (new ≡ old)) ⊎ Comes kind had left old new f

@@ -1,0 +1,97 @@
+//! What the program says on standard error. Each whole message ends with a line feed.
+
+ghost use Rattle.std.specs.Prelude.{◌≡◌};
+ghost use Rattle.streams.specs.Leaves.{AppendsFront, Leaves};
+ghost use Rattle.draw_report.specs.Messages.{failure_status, failure_text, fault_text, fault_words};
+
+use itoa::Buffer;
+use std::io::{self, Write};
+use streams::put;
+use verdict::{Fault, TraceFault};
+
+/// Memory was refused.
+pub const OUT_OF_MEMORY: &str = "rfx-draw: out of memory\n";
+
+/// Why no picture, or not all of it, was written.
+#[derive(Clone, Copy)]
+pub enum Failure {
+    /// The command line has none of the program's forms.
+    Usage,
+    /// The file couldn't be opened, or a read of it failed.
+    CannotRead,
+    /// A write failed, or the writer didn't let go of what it kept back.
+    CannotWrite,
+    /// Memory was refused where no line of the trace was being read.
+    OutOfMemory,
+    /// The file is no trace.
+    Trace(TraceFault),
+}
+
+/// The words for what is wrong with a trace.
+fn fault_words(fault: Fault) -> &'static str
+    ensures { result.now ≡ fault_words fault }
+{
+    match fault {
+        Fault::NotUtf8 => "not UTF-8",
+        Fault::UnknownWord => "unknown word",
+        Fault::OutOfRange => "number out of range",
+        Fault::TooLong => "too long",
+        Fault::Cut => "cut",
+        Fault::OutOfMemory => "out of memory",
+    }
+}
+
+/// `rfx-draw: line L: fault N: TEXT`.
+fn write_fault<E: Write>(err: &mut E, at: TraceFault) -> io::Result<()>
+    ensures { Leaves (E.contents err.old) (E.contents err.new) result (fault_text at) }
+{
+    let mut lines = Buffer::new();
+    let mut numbers = Buffer::new();
+    let line = lines.format(at.line);
+    let number = numbers.format(at.fault.number());
+    put(
+        err,
+        &[
+            "rfx-draw: line ",
+            line,
+            ": fault ",
+            number,
+            ": ",
+            fault_words(at.fault),
+            "\n",
+        ],
+    )
+}
+
+/// The message of a failure to draw this file.
+fn write_failure<E: Write>(err: &mut E, file: &str, failure: Failure) -> io::Result<()>
+    ensures { Leaves (E.contents err.old) (E.contents err.new) result (failure_text file.now failure) }
+{
+    match failure {
+        Failure::Usage => put(err, &["usage: rfx-draw [--svg] [FILE]\n"]),
+        Failure::CannotRead => put(err, &["rfx-draw: cannot read ", file, "\n"]),
+        Failure::CannotWrite => put(err, &["rfx-draw: cannot write\n"]),
+        Failure::OutOfMemory => put(err, &[OUT_OF_MEMORY]),
+        Failure::Trace(at) => write_fault(err, at),
+    }
+}
+
+/// The exit status after a failure.
+fn status_after(failure: Failure) -> u8
+    ensures { result ≡ failure_status failure }
+{
+    match failure {
+        Failure::Usage => 2,
+        Failure::CannotRead | Failure::CannotWrite | Failure::OutOfMemory | Failure::Trace(_) => 1,
+    }
+}
+
+/// Tells a failure to draw this file, and answers the exit status after it. Of a message that can't be written a beginning is left.
+pub fn fail<E: Write>(err: &mut E, file: &str, failure: Failure) -> u8
+    ensures told { AppendsFront (E.contents err.old) (E.contents err.new) (failure_text file.now failure) }
+    ensures status { result ≡ failure_status failure }
+{
+    let _ = write_failure(err, file, failure);
+    let _ = err.flush();
+    status_after(failure)
+}

@@ -1,0 +1,128 @@
+//! The program, but for opening its file.
+
+ghost use Rattle.std.specs.Prelude.{◌≡◌, ◌≤◌, ◌<◌, ◌^◌, ◌+◌, length, vec_len, IfOk, IfErr, OnOk};
+ghost use Rattle.std.specs.Io.KnownBytes.{Consumes, IsAtEnd};
+ghost use Rattle.streams.specs.Leaves.{Leaves};
+ghost use Rattle.streams.specs.Taken.{TakesAtMost};
+ghost use Rattle.verdict.specs.Limits.{max_bytes};
+ghost use Rattle.draw_report.specs.Served.{Draws, Fails, FailsDrawing, IsUnread, Serves, failed_by, picture, undrawn_by};
+
+use crate::asking::Kind;
+use crate::messages::Failure;
+use picture::{Unwritten, draw, draw_svg};
+use std::alloc::Global;
+use std::io::Read;
+use streams::{Output, ReadFault, read_below};
+use verdict::{MAX_BYTES, Told, read_trace};
+
+/// What a fault of reading is told as.
+fn failed_by(fault: ReadFault) -> Failure
+    ensures { result ≡ failed_by fault }
+{
+    match fault {
+        ReadFault::Memory => Failure::OutOfMemory,
+        ReadFault::Failed => Failure::CannotRead,
+    }
+}
+
+/// What a picture that wasn't written is told as.
+fn undrawn_by(unwritten: Unwritten) -> Failure
+    ensures { result ≡ undrawn_by unwritten }
+{
+    match unwritten {
+        Unwritten::OutOfMemory => Failure::OutOfMemory,
+        Unwritten::Failed => Failure::CannotWrite,
+    }
+}
+
+/// Reads the file's bytes, at most one more than a trace may have.
+fn read_file<R: Read>(alloc: Global, input: &mut R) -> Result<Vec<u8>, Failure>
+    ensures taken { IfOk result (λ v. Consumes (R.remaining input.old) (R.remaining input.new) v.items) }
+    ensures end { IfOk result (λ v. vec_len v ≤ max_bytes → IsAtEnd (R.remaining input.new)) }
+    ensures fails { IfErr result IsUnread }
+    ensures limit { TakesAtMost (max_bytes + 1) (R.remaining input.old) (R.remaining input.new) }
+{
+    match read_below(alloc, input, MAX_BYTES + 1) {
+        Ok(bytes) => Ok(bytes),
+        Err(fault) => Err(failed_by(fault)),
+    }
+}
+
+fn draw_as<W: Output>(alloc: Global, kind: Kind, trace: &Told, out: &mut W) -> Result<(), Unwritten>
+    ensures { Leaves (W.contents out.old) (W.contents out.new) result (picture kind trace.now) }
+{
+    match kind {
+        Kind::Text => draw(
+            alloc,
+            trace.head.threads,
+            trace.head.mutexes,
+            &trace.lines,
+            trace.last,
+            out,
+        ),
+        Kind::Svg => draw_svg(
+            alloc,
+            trace.head.threads,
+            trace.head.mutexes,
+            &trace.lines,
+            trace.last,
+            out,
+        ),
+    }
+}
+
+/// Draws a trace, and lets go of what the writer kept back.
+fn draw_out<W: Output>(
+    alloc: Global,
+    kind: Kind,
+    trace: &Told,
+    out: &mut W,
+) -> Result<(), Unwritten>
+    ensures text { Leaves (W.contents out.old) (W.contents out.new) result (picture kind trace.now) }
+    ensures let_go { OnOk result (W.is_let_go out.new) }
+{
+    draw_as(alloc, kind, trace, out)?;
+    match out.let_go() {
+        Ok(()) => Ok(()),
+        Err(_kept) => Err(Unwritten::Failed),
+    }
+}
+
+/// Reads a trace's bytes, and draws it.
+fn draw_bytes<W: Output>(
+    alloc: Global,
+    kind: Kind,
+    bytes: &[u8],
+    out: &mut W,
+) -> Result<(), Failure>
+    ensures draws { OnOk result (Draws kind (W.contents out.old) (W.contents out.new) bytes.now) }
+    ensures let_go { OnOk result (W.is_let_go out.new) }
+    ensures fails { IfErr result (FailsDrawing kind bytes.now (W.contents out.old) (W.contents out.new)) }
+{
+    let trace = match read_trace(alloc, bytes) {
+        Ok(trace) => trace,
+        Err(fault) => return Err(Failure::Trace(fault)),
+    };
+    match draw_out(alloc, kind, &trace, out) {
+        Ok(()) => Ok(()),
+        Err(unwritten) => Err(undrawn_by(unwritten)),
+    }
+}
+
+/// Reads a file, and draws the trace that it is. It reads at most one byte more than a trace may have.
+pub fn serve<R: Read, W: Output>(
+    alloc: Global,
+    kind: Kind,
+    input: &mut R,
+    out: &mut W,
+) -> Result<(), Failure>
+    ensures serves { OnOk result (Serves kind (R.remaining input.old) (R.remaining input.new) (W.contents out.old) (W.contents out.new)) }
+    ensures let_go { OnOk result (W.is_let_go out.new) }
+    ensures fails { IfErr result (Fails kind (R.remaining input.old) (R.remaining input.new) (W.contents out.old) (W.contents out.new)) }
+    ensures limit { TakesAtMost (max_bytes + 1) (R.remaining input.old) (R.remaining input.new) }
+{
+    match read_file(alloc, input) {
+        Ok(bytes) => draw_bytes(alloc, kind, &bytes, out),
+        Err(failure) => Err(failure),
+    }
+}

@@ -1,0 +1,3 @@
+pub mod Columns
+pub mod Going
+pub mod Own

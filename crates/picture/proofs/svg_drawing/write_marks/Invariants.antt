@@ -1,0 +1,8 @@
+use Rattle.std.proofs.Common.{drop, ◌+◌}
+use Rattle.picture.specs.Svg.{marks}
+use Rattle.picture.specs.Scenes.{first_scene}
+use Rattle.picture.proofs.Going.{Sofar}
+use Rattle.picture.proofs.svg_drawing.write_marks.Given as goal
+
+abbrev pub invariant-loop-index : goal.invariant-loop-index
+invariant-loop-index g l = Sofar (g.W.Write.contents l.initial.out) (g.W.Write.contents l.out) (marks l.extent first_scene 1 l.lines) (marks l.extent l.scene (l.index + 1) (drop l.index l.lines))

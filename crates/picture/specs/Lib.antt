@@ -1,0 +1,15 @@
+pub mod Pieces
+pub mod Signs
+pub mod Lanes
+pub mod Words
+pub mod Objects
+pub mod Scenes
+pub mod Layouts
+pub mod Rows
+pub mod Heads
+pub mod Drawn
+pub mod Places
+pub mod Shapes
+pub mod Style
+pub mod Svg
+pub mod Laws

@@ -1,0 +1,157 @@
+-- The rows of a picture in text, from their left to their right.
+use Rattle.std.specs.Prelude.{ℕ, ◌+◌, ◌-◌, ◌/◌, ◌%◌, ◌==◌, ◌&&◌, nat_lt, nat_le, min, max, not, Bool, false, Option, Some, None, List, [], ◌∷◌, ◌++◌, length, codes, decimal, if◌then◌else◌}
+use Rattle.std.specs.List.{concat, repeat}
+use Rattle.keys.specs.declared.object.Object.{Object}
+use Rattle.keys.specs.Objects.{fresh}
+use Rattle.facts.specs.declared.fact.Fact.{Fact}
+use Rattle.facts.specs.declared.fact.Fact.TheVariants.{Begin, Point, Death, Sleep, Wake, Move, Return, Kill, Reap}
+use Rattle.facts.specs.declared.fact.Line.{Line}
+use Rattle.facts.specs.Facts.{is_passive, thread_of}
+use Rattle.std.specs.Prelude.{slice_index_or}
+use Rattle.picture.specs.declared.lane.Lane.{Lane}
+use Rattle.picture.specs.declared.scene.Scene.{Scene}
+use Rattle.picture.specs.declared.rows.Part.{Part}
+use Rattle.picture.specs.declared.rows.Part.TheVariants as part
+use Rattle.picture.specs.Lanes.{stays}
+use Rattle.picture.specs.Layouts.{gap, is_wide, width}
+use Rattle.picture.specs.Pieces.{each, less, padded}
+use Rattle.picture.specs.Scenes.{lane_at}
+use Rattle.picture.specs.Words.{words}
+use Rattle.picture.specs.Signs.{dagger, top, disc, bottom, cross, ring, dash, to_right, to_left}
+
+-- ---- a line's mark
+
+-- where the arrow to a line's mark comes from: another thread, whose event did this
+abbrev pub arrow_from : Option ℕ → Fact → Option ℕ
+arrow_from None f = None
+arrow_from (Some a) f = if is_passive f && not (a == thread_of f) then Some a else None
+
+-- an arrow's head; where nobody else is told of, a ring
+abbrev pub arrow_sign : ℕ → Option ℕ → List ℕ
+arrow_sign t None = ring
+arrow_sign t (Some a) = if nat_lt a t then codes ">" else codes "<"
+
+abbrev pub sign : Fact → Option ℕ → List ℕ
+sign (Begin t c) from = top
+sign (Point d) from = disc
+sign (Death t m) from = codes "!"
+sign (Sleep t q) from = codes "z"
+sign (Wake t) from = arrow_sign t from
+sign (Move t m) from = arrow_sign t from
+sign (Return t x) from = bottom
+sign (Kill t) from = cross
+sign (Reap t) from = dagger
+
+-- how many columns a sign, a blank and the words behind it take; all words have fewer than 62
+abbrev pub taken : List (List ℕ) → ℕ
+taken ws = 64 - less 62 ws
+
+-- how many lanes behind its own the words of a line cover, with a blank behind them
+abbrev pub reach : ℕ → List (List ℕ) → ℕ
+reach threads ws = taken ws / width threads
+
+abbrev pub is_from_right : ℕ → Option ℕ → Bool
+is_from_right t None = false
+is_from_right t (Some a) = nat_lt t a
+
+-- blanks stand behind the words, up to the next lane that shows; none behind the last lane
+abbrev pub blanks : ℕ → ℕ → List (List ℕ) → ℕ
+blanks threads t ws = if nat_le (threads - t) (reach threads ws) then 0 else width threads - (taken ws % width threads)
+
+-- sign and words; an arrow from the right begins behind them
+abbrev pub wide_mark : ℕ → ℕ → Option ℕ → List ℕ → List (List ℕ) → List ℕ
+wide_mark threads t from s ws = (s ++ codes " ") ++ (concat ws ++ (if is_from_right t from
+    then codes " " ++ repeat (less (width threads - 3) ws) dash
+    else repeat (blanks threads t ws) (codes " ")))
+
+abbrev pub narrow_mark : ℕ → ℕ → Option ℕ → List ℕ → List ℕ
+narrow_mark threads t from s = s ++ (if is_from_right t from then repeat (width threads - 1) dash else repeat (gap threads t) (codes " "))
+
+abbrev pub mark : ℕ → ℕ → Option ℕ → List ℕ → List (List ℕ) → List ℕ
+mark threads t from s ws = if is_wide threads then wide_mark threads t from s ws else narrow_mark threads t from s
+
+-- ---- a lane
+
+-- words of the line stand in lane u, which is neither the line's own nor one of its arrow's
+abbrev pub is_covered : ℕ → ℕ → Option ℕ → List (List ℕ) → ℕ → Bool
+is_covered threads t from ws u = is_wide threads && not (is_from_right t from) && nat_lt t u && nat_le (u - t) (reach threads ws)
+
+abbrev pub beside : ℕ → ℕ → Option ℕ → List (List ℕ) → ℕ → Part
+beside threads t from ws u = if is_covered threads t from ws u then part.Covered else part.Stays
+
+-- an arrow takes all lanes between both ends
+abbrev pub in_arrow : Option ℕ → ℕ → ℕ → Part → Part
+in_arrow None t u other = other
+in_arrow (Some a) t u other = if u == a then part.Origin else (if nat_lt (min t a) u && nat_lt u (max t a) then part.Arrow else other)
+
+-- what stands in lane u at the row of a line of thread t
+abbrev pub part_of : ℕ → ℕ → Option ℕ → List (List ℕ) → ℕ → Part
+part_of threads t from ws u = if u == t then part.Mark else in_arrow from t u (beside threads t from ws u)
+
+abbrev pub origin : ℕ → ℕ → Option ℕ → ℕ → List ℕ
+origin threads t from u = if is_from_right t from then to_left ++ repeat (gap threads u) (codes " ") else to_right ++ repeat (width threads - 1) dash
+
+-- a lane that goes on to show what it showed
+abbrev pub stays_so : ℕ → Lane → ℕ → List ℕ
+stays_so threads shown u = stays shown ++ repeat (gap threads u) (codes " ")
+
+abbrev pub part_text : ℕ → ℕ → Option ℕ → List ℕ → List (List ℕ) → Lane → ℕ → Part → List ℕ
+part_text threads t from s ws shown u part.Stays = stays_so threads shown u
+part_text threads t from s ws shown u part.Covered = []
+part_text threads t from s ws shown u part.Mark = mark threads t from s ws
+part_text threads t from s ws shown u part.Origin = origin threads t from u
+part_text threads t from s ws shown u part.Arrow = repeat (width threads) dash
+
+abbrev pub cell : ℕ → ℕ → Option ℕ → List ℕ → List (List ℕ) → Lane → ℕ → List ℕ
+cell threads t from s ws shown u = part_text threads t from s ws shown u (part_of threads t from ws u)
+
+abbrev pub cell_at : ℕ → ℕ → Option ℕ → List ℕ → List (List ℕ) → List Lane → ℕ → List ℕ
+cell_at threads t from s ws lanes i = cell threads t from s ws (lane_at lanes (i + 1)) (i + 1)
+
+-- all lanes, side by side
+abbrev pub cells : ℕ → ℕ → Option ℕ → List ℕ → List (List ℕ) → List Lane → List ℕ
+cells threads t from s ws lanes = each (cell_at threads t from s ws lanes) threads
+
+-- where lanes have no room for words, these stand behind all lanes
+abbrev pub tail : ℕ → ℕ → List (List ℕ) → List ℕ
+tail threads t ws = if is_wide threads then [] else concat (codes "  t" ∷ decimal t ∷ codes " " ∷ []) ++ concat ws
+
+-- ---- a band
+
+-- the owner, `-` or `lost`; and `!` where an owner died and nobody has declared the mutex consistent
+abbrev pub owner_name : Option ℕ → Bool → List ℕ → List (List ℕ)
+owner_name (Some t) unusable m = codes "t" ∷ decimal t ∷ m ∷ []
+owner_name None unusable m = if unusable then codes "lost" ∷ [] ∷ m ∷ [] else codes "-" ∷ [] ∷ m ∷ []
+
+abbrev pub owner_pieces : Object → List (List ℕ)
+owner_pieces o = owner_name o.owner o.unusable (if o.inconsistent then codes "!" else [])
+
+abbrev pub band_at : List Object → ℕ → List ℕ
+band_at os m = padded 5 (owner_pieces (slice_index_or os m fresh))
+
+abbrev pub bands_text : ℕ → List Object → List ℕ
+bands_text count os = each (band_at os) count
+
+-- ---- a row
+
+abbrev pub event_text : ℕ → List ℕ
+event_text i = repeat (6 - length (decimal i)) (codes " ") ++ concat (decimal i ∷ codes "  " ∷ [])
+
+-- the words of a line, and where its arrow comes from
+abbrev pub words_at : Scene → Line → List (List ℕ)
+words_at s l = words (lane_at s.lanes (thread_of l.fact)) l.fact
+
+abbrev pub from_at : Scene → Line → Option ℕ
+from_at s l = arrow_from s.actor l.fact
+
+-- the row of a line of this event, with its thread, where its arrow comes from, its sign and its words
+abbrev pub row_of : ℕ → ℕ → Scene → ℕ → ℕ → Option ℕ → List ℕ → List (List ℕ) → List ℕ
+row_of threads count s event t from mark ws = event_text event ++ (bands_text count s.objects ++ (cells threads t from mark ws s.lanes ++ (tail threads t ws ++ codes "\n")))
+
+-- the row of a line, behind which all lanes and bands show this
+abbrev pub row_text : ℕ → ℕ → Scene → Line → List ℕ
+row_text threads count s l = row_of threads count s l.event (thread_of l.fact) (from_at s l) (sign l.fact (from_at s l)) (words_at s l)
+
+-- the last row: how many events there were
+abbrev pub end_text : ℕ → List ℕ
+end_text n = event_text n ++ codes "end\n"

@@ -1,0 +1,45 @@
+//! Where things stand in an SVG picture, in its pixels. Time runs downwards, a line of the trace after the other.
+
+ghost use Rattle.std.specs.Prelude.{◌≡◌, ◌≤◌, ◌<◌, ◌*◌, ◌^◌};
+ghost use Rattle.picture.specs.Places.{along, band_x, lane_x, row_y};
+
+/// How far a lane is from the first one: the more lanes, the nearer.
+fn along(threads: u8, lane: u8) -> u32
+    ensures value { result ≡ along threads lane }
+    ensures few { result ≤ 180 * 255 }
+{
+    let before = u32::from(lane.saturating_sub(1));
+    match threads {
+        0..=5 => 180 * before,
+        6..=8 => 120 * before,
+        9..=16 => 60 * before,
+        _ => 30 * before,
+    }
+}
+
+/// The left end of a band.
+pub fn band_x(mutex: usize) -> u32
+    requires { mutex ≤ 16 }
+    ensures { result ≡ band_x mutex }
+{
+    64 + 26 * (mutex as u32)
+}
+
+/// The middle of a lane.
+pub fn lane_x(threads: u8, bands: usize, lane: u8) -> u32
+    requires { bands ≤ 16 }
+    ensures value { result ≡ lane_x threads bands lane }
+    ensures low { 50 ≤ result }
+    ensures high { result < 2 ^ 20 }
+{
+    band_x(bands) + 20 + along(threads, lane)
+}
+
+/// The middle of a line's row, the first line being number 1.
+pub fn row_y(line: usize) -> u128
+    ensures value { result ≡ row_y line }
+    ensures low { 30 ≤ result }
+    ensures high { result < 2 ^ 70 }
+{
+    30 + 18 * (line as u128)
+}

@@ -1,0 +1,340 @@
+//! The rows of a picture in text.
+
+ghost use Rattle.std.specs.Prelude.{◌≡◌, ◌++◌, ◌≤◌, map, string_bytes, IfOk};
+ghost use Rattle.picture.specs.Rows.{arrow_from, arrow_sign, bands_text, blanks, cell, cells, end_text, event_text, is_covered, is_from_right, mark, narrow_mark, origin, owner_pieces, part_of, reach, row_of, row_text, sign, stays_so, tail, taken, wide_mark};
+
+use crate::lane::Lane;
+use crate::layout::{BAND, EVENT, gap, is_wide, width};
+use crate::pieces::{add, add_padded, fill, room};
+use crate::scene::Scene;
+use crate::words::{first_number, second_number, words};
+use facts::{Fact, Line};
+use itoa::Buffer;
+use keys::Object;
+use lockword::Tid;
+use std::alloc::AllocError;
+
+/// What a line's row tells of it, but for its event.
+#[derive(Clone, Copy)]
+struct Row<'a> {
+    threads: u8,
+    /// Whose lane it is drawn in.
+    thread: u8,
+    /// Whose event did this to the thread, where that is another one.
+    from: Option<u8>,
+    sign: &'a str,
+    words: &'a [&'a str],
+}
+
+/// What stands in a lane at a row.
+#[derive(Clone, Copy)]
+enum Part {
+    /// What the lane showed before, and goes on to show.
+    Stays,
+    /// Nothing: words of a lane before it stand here.
+    Covered,
+    /// The line's mark.
+    Mark,
+    /// The beginning of an arrow to the mark.
+    Origin,
+    /// An arrow to the mark.
+    Arrow,
+}
+
+/// Whose event did what a line tells, where that is another thread's.
+pub fn arrow_from(actor: Option<Tid>, fact: &Fact) -> Option<u8>
+    ensures { result ≡ arrow_from actor fact.now }
+{
+    let Some(actor) = actor else {
+        return None;
+    };
+    if !fact.is_passive() || actor.get() == fact.thread().get() {
+        return None;
+    }
+    Some(actor.get())
+}
+
+/// The sign of what an event did to another thread.
+fn arrow_sign(thread: u8, from: Option<u8>) -> &'static str
+    ensures { result.now ≡ arrow_sign thread from }
+{
+    match from {
+        None => "○",
+        Some(actor) => { if actor < thread { ">" } else { "<" } }
+    }
+}
+
+/// The sign of a line in its lane.
+fn sign(fact: &Fact, from: Option<u8>) -> &'static str
+    ensures { result.now ≡ sign fact.now from }
+{
+    match *fact {
+        Fact::Begin(..) => "┌",
+        Fact::Point(_) => "●",
+        Fact::Death(..) => "!",
+        Fact::Sleep(..) => "z",
+        Fact::Wake(thread) => arrow_sign(thread.get(), from),
+        Fact::Move(thread, _) => arrow_sign(thread.get(), from),
+        Fact::Return(..) => "└",
+        Fact::Kill(_) => "╳",
+        Fact::Reap(_) => "†",
+    }
+}
+
+/// How many columns a sign, a blank and the words behind it take; all words have fewer than 62.
+fn taken(words: &[&str]) -> usize
+    ensures { result ≡ taken (map (λ w. w.now) words.now) }
+{
+    64 - room(62, words)
+}
+
+/// How many lanes behind its own the words of a line cover, with a blank behind them.
+fn reach(threads: u8, words: &[&str]) -> usize
+    ensures { result ≡ reach threads (map (λ w. w.now) words.now) }
+{
+    taken(words) / width(threads)
+}
+
+/// Whether an arrow comes to a thread's lane from its right.
+pub fn is_right_of(thread: u8, from: Option<u8>) -> bool
+    ensures { result ≡ is_from_right thread from }
+{
+    match from {
+        None => false,
+        Some(actor) => thread < actor,
+    }
+}
+
+/// Whether words of a line before it stand in a lane, which is neither the line's own nor one of its arrow's.
+fn is_covered(row: &Row<'_>, lane: u8) -> bool
+    ensures { result ≡ is_covered row.now.threads row.now.thread row.now.from (map (λ w. w.now) row.now.words.now) lane }
+{
+    is_wide(row.threads)
+        && !is_right_of(row.thread, row.from)
+        && row.thread < lane
+        && usize::from(lane - row.thread) <= reach(row.threads, row.words)
+}
+
+fn part_at(row: &Row<'_>, lane: u8) -> Part
+    ensures { result ≡ part_of row.now.threads row.now.thread row.now.from (map (λ w. w.now) row.now.words.now) lane }
+{
+    let thread = row.thread;
+    if lane == thread {
+        return Part::Mark;
+    }
+    if let Some(actor) = row.from {
+        if lane == actor {
+            return Part::Origin;
+        }
+        if thread.min(actor) < lane && lane < thread.max(actor) {
+            return Part::Arrow;
+        }
+    }
+    if is_covered(row, lane) {
+        Part::Covered
+    } else {
+        Part::Stays
+    }
+}
+
+/// How many blanks stand behind the words of a line, up to the next lane that shows; none behind the last lane.
+fn blanks(row: &Row<'_>) -> usize
+    ensures { result ≡ blanks row.now.threads row.now.thread (map (λ w. w.now) row.now.words.now) }
+{
+    let left = row.threads.saturating_sub(row.thread);
+    if usize::from(left) <= reach(row.threads, row.words) {
+        return 0;
+    }
+    let width = width(row.threads);
+    width.saturating_sub(taken(row.words) % width)
+}
+
+/// The mark of a line, with its words.
+fn add_wide_mark(text: &mut String, row: &Row<'_>) -> Result<(), AllocError>
+    ensures { IfOk result (λ _. string_bytes text.new ≡ string_bytes text.old ++ wide_mark row.now.threads row.now.thread row.now.from row.now.sign.now (map (λ w. w.now) row.now.words.now)) }
+{
+    add(text, &[row.sign, " "])?;
+    add(text, row.words)?;
+    if is_right_of(row.thread, row.from) {
+        add(text, &[" "])?;
+        fill(
+            text,
+            "─",
+            room(width(row.threads).saturating_sub(3), row.words),
+        )
+    } else {
+        fill(text, " ", blanks(row))
+    }
+}
+
+/// The mark of a line in a lane that has no room for words.
+fn add_narrow_mark(text: &mut String, row: &Row<'_>) -> Result<(), AllocError>
+    ensures { IfOk result (λ _. string_bytes text.new ≡ string_bytes text.old ++ narrow_mark row.now.threads row.now.thread row.now.from row.now.sign.now) }
+{
+    add(text, &[row.sign])?;
+    if is_right_of(row.thread, row.from) {
+        fill(text, "─", width(row.threads) - 1)
+    } else {
+        fill(text, " ", gap(row.threads, row.thread))
+    }
+}
+
+fn add_mark(text: &mut String, row: &Row<'_>) -> Result<(), AllocError>
+    ensures { IfOk result (λ _. string_bytes text.new ≡ string_bytes text.old ++ mark row.now.threads row.now.thread row.now.from row.now.sign.now (map (λ w. w.now) row.now.words.now)) }
+{
+    if is_wide(row.threads) {
+        add_wide_mark(text, row)
+    } else {
+        add_narrow_mark(text, row)
+    }
+}
+
+/// Where an arrow begins in this lane.
+fn add_origin(text: &mut String, row: &Row<'_>, lane: u8) -> Result<(), AllocError>
+    ensures { IfOk result (λ _. string_bytes text.new ≡ string_bytes text.old ++ origin row.now.threads row.now.thread row.now.from lane) }
+{
+    if is_right_of(row.thread, row.from) {
+        add(text, &["┤"])?;
+        fill(text, " ", gap(row.threads, lane))
+    } else {
+        add(text, &["├"])?;
+        fill(text, "─", width(row.threads) - 1)
+    }
+}
+
+fn add_sign(text: &mut String, row: &Row<'_>, shown: Lane, lane: u8) -> Result<(), AllocError>
+    ensures { IfOk result (λ _. string_bytes text.new ≡ string_bytes text.old ++ stays_so row.now.threads shown lane) }
+{
+    add(text, &[shown.sign()])?;
+    fill(text, " ", gap(row.threads, lane))
+}
+
+/// What stands in a lane at a row, where the lane shows this.
+fn add_cell(text: &mut String, row: &Row<'_>, shown: Lane, lane: u8) -> Result<(), AllocError>
+    ensures { IfOk result (λ _. string_bytes text.new ≡ string_bytes text.old ++ cell row.now.threads row.now.thread row.now.from row.now.sign.now (map (λ w. w.now) row.now.words.now) shown lane) }
+{
+    match part_at(row, lane) {
+        Part::Stays => add_sign(text, row, shown, lane),
+        Part::Covered => Ok(()),
+        Part::Mark => add_mark(text, row),
+        Part::Origin => add_origin(text, row, lane),
+        Part::Arrow => fill(text, "─", width(row.threads)),
+    }
+}
+
+fn add_cells(text: &mut String, row: &Row<'_>, lanes: &[Lane; 65]) -> Result<(), AllocError>
+    requires { row.now.threads ≤ 64 }
+    ensures { IfOk result (λ _. string_bytes text.new ≡ string_bytes text.old ++ cells row.now.threads row.now.thread row.now.from row.now.sign.now (map (λ w. w.now) row.now.words.now) lanes.now) }
+{
+    for index in 0..row.threads {
+        add_cell(text, row, lanes[usize::from(index) + 1], index + 1)?;
+    }
+    Ok(())
+}
+
+/// The words of a line behind all lanes, where these have no room for them.
+fn add_tail(text: &mut String, row: &Row<'_>) -> Result<(), AllocError>
+    ensures { IfOk result (λ _. string_bytes text.new ≡ string_bytes text.old ++ tail row.now.threads row.now.thread (map (λ w. w.now) row.now.words.now)) }
+{
+    if is_wide(row.threads) {
+        return Ok(());
+    }
+    let mut digits = Buffer::new();
+    add(text, &["  t", digits.format(row.thread), " "])?;
+    add(text, row.words)
+}
+
+/// The name of a mutex's owner.
+fn owner_pieces(digits: &mut Buffer, object: Object) -> [&str; 3]
+    ensures { map (λ p. p.now) result ≡ owner_pieces object }
+{
+    let mark = if object.inconsistent { "!" } else { "" };
+    match object.owner {
+        Some(owner) => ["t", digits.format(owner.get()), mark],
+        None => {
+            if object.unusable {
+                ["lost", "", mark]
+            } else {
+                ["-", "", mark]
+            }
+        }
+    }
+}
+
+fn add_bands(text: &mut String, count: usize, objects: &[Object; 16]) -> Result<(), AllocError>
+    requires { count ≤ 16 }
+    ensures { IfOk result (λ _. string_bytes text.new ≡ string_bytes text.old ++ bands_text count objects.now) }
+{
+    for mutex in 0..count {
+        let mut digits = Buffer::new();
+        add_padded(text, &owner_pieces(&mut digits, objects[mutex]), BAND)?;
+    }
+    Ok(())
+}
+
+/// The number of an event.
+fn add_event(text: &mut String, event: u32) -> Result<(), AllocError>
+    ensures { IfOk result (λ _. string_bytes text.new ≡ string_bytes text.old ++ event_text event) }
+{
+    let mut digits = Buffer::new();
+    let event = digits.format(event);
+    fill(text, " ", room(EVENT - 2, &[event]))?;
+    add(text, &[event, "  "])
+}
+
+/// The row of a line of this event, behind which all lanes and bands show this.
+fn add_row_of(
+    text: &mut String,
+    event: u32,
+    bands: usize,
+    scene: &Scene,
+    row: &Row<'_>,
+) -> Result<(), AllocError>
+    requires few { row.now.threads ≤ 64 }
+    requires narrow { bands ≤ 16 }
+    ensures { IfOk result (λ _. string_bytes text.new ≡ string_bytes text.old ++ row_of row.now.threads bands scene.now event row.now.thread row.now.from row.now.sign.now (map (λ w. w.now) row.now.words.now)) }
+{
+    add_event(text, event)?;
+    add_bands(text, bands, &scene.objects)?;
+    add_cells(text, row, &scene.lanes)?;
+    add_tail(text, row)?;
+    add(text, &["\n"])
+}
+
+/// The row of a line, behind which all lanes and bands show this.
+pub fn add_row(
+    text: &mut String,
+    threads: u8,
+    bands: usize,
+    scene: &Scene,
+    line: &Line,
+) -> Result<(), AllocError>
+    requires few { threads ≤ 64 }
+    requires narrow { bands ≤ 16 }
+    ensures { IfOk result (λ _. string_bytes text.new ≡ string_bytes text.old ++ row_text threads bands scene.now line.now) }
+{
+    let thread = line.fact.thread();
+    let from = arrow_from(scene.actor, &line.fact);
+    let shown = scene.lanes[usize::from(thread.get())];
+    let mut firsts = Buffer::new();
+    let mut seconds = Buffer::new();
+    let first = firsts.format(first_number(&line.fact));
+    let second = seconds.format(second_number(&line.fact));
+    let words = words(shown, &line.fact, first, second);
+    let row = Row {
+        threads,
+        thread: thread.get(),
+        from,
+        sign: sign(&line.fact, from),
+        words: &words,
+    };
+    add_row_of(text, line.event, bands, scene, &row)
+}
+
+/// The last row: how many events there were.
+pub fn add_end(text: &mut String, last: u32) -> Result<(), AllocError>
+    ensures { IfOk result (λ _. string_bytes text.new ≡ string_bytes text.old ++ end_text last) }
+{
+    add_event(text, last)?;
+    add(text, &["end\n"])
+}

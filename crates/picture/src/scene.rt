@@ -1,0 +1,134 @@
+//! What all lanes and bands show, line after line.
+
+ghost use Rattle.std.specs.Prelude.{◌≡◌, List};
+ghost use Rattle.facts.specs.Facts.{decision_of};
+ghost use Rattle.picture.specs.Objects.{changed};
+ghost use Rattle.picture.specs.Scenes.{actor_of, behind, first_scene, lanes_behind, objects_behind};
+
+use crate::lane::Lane;
+use facts::{Fact, Line};
+use keys::{Decision, Object, Operation};
+use lockword::{Reply, Tid};
+
+/// How many mutexes have a band at most: the first ones.
+pub const BANDS: usize = 16;
+
+/// What all lanes and bands show behind a line.
+#[derive(Clone, Copy)]
+pub struct Scene {
+    /// By the threads' ids, from 0, which is no thread's.
+    pub lanes: [Lane; 65],
+    /// The first mutexes, by their numbers.
+    pub objects: [Object; 16],
+    /// The number of the line's event, 0 before the first line.
+    pub event: u32,
+    /// Whose event it is, where a line tells.
+    pub actor: Option<Tid>,
+}
+
+/// What a mutex is behind a point or a death, also behind one that its object doesn't allow.
+fn changed(object: Object, decision: &Decision) -> Object
+    ensures { result ≡ changed object decision.now.thread decision.now.operation decision.now.reply }
+{
+    match decision.operation {
+        Operation::Lock | Operation::TryLock => match decision.reply {
+            Reply::OK | Reply::EOWNERDEAD => Object {
+                owner: Some(decision.thread),
+                ..object
+            },
+            _ => object,
+        },
+        Operation::Unlock => match decision.reply {
+            Reply::OK => Object {
+                owner: None,
+                inconsistent: false,
+                unusable: object.inconsistent || object.unusable,
+            },
+            _ => object,
+        },
+        Operation::Consistent => match decision.reply {
+            Reply::OK => Object {
+                inconsistent: false,
+                ..object
+            },
+            _ => object,
+        },
+        Operation::Death => match decision.reply {
+            Reply::OK => Object {
+                owner: None,
+                inconsistent: true,
+                unusable: object.unusable,
+            },
+            _ => object,
+        },
+        Operation::Wait | Operation::Signal | Operation::Broadcast => object,
+    }
+}
+
+/// Whose this event is, of which the first lines tell: the thread of the first of them that isn't told of what the event did to another one.
+fn actor_of(event: u32, lines: &[Line]) -> Option<Tid>
+    ensures { result ≡ actor_of event lines.now }
+{
+    for line in lines {
+        if line.event != event {
+            return None;
+        }
+        if !line.fact.is_passive() {
+            return Some(line.fact.thread());
+        }
+    }
+    None
+}
+
+fn lanes_behind(lanes: [Lane; 65], fact: &Fact) -> [Lane; 65]
+    ensures { result ≡ lanes_behind lanes fact.now }
+{
+    let mut lanes = lanes;
+    let thread = usize::from(fact.thread().get());
+    lanes[thread] = lanes[thread].after(fact);
+    lanes
+}
+
+fn objects_behind(objects: [Object; 16], decision: Option<Decision>) -> [Object; 16]
+    ensures { result ≡ objects_behind objects decision }
+{
+    let mut objects = objects;
+    if let Some(decision) = decision {
+        let mutex = usize::from(decision.mutex);
+        if mutex < BANDS {
+            objects[mutex] = changed(objects[mutex], &decision);
+        }
+    }
+    objects
+}
+
+impl Scene {
+    /// Before the first line.
+    pub fn new() -> Scene
+        ensures { result ≡ first_scene }
+    {
+        Scene {
+            lanes: [Lane::Idle; 65],
+            objects: [Object::new(); 16],
+            event: 0,
+            actor: None,
+        }
+    }
+
+    /// Behind a line, the first of `lines`.
+    pub fn behind(self, line: &Line, lines: &[Line]) -> Scene
+        ensures { result ≡ behind self line.now lines.now }
+    {
+        let actor = if line.event == self.event {
+            self.actor
+        } else {
+            actor_of(line.event, lines)
+        };
+        Scene {
+            lanes: lanes_behind(self.lanes, &line.fact),
+            objects: objects_behind(self.objects, line.fact.decision()),
+            event: line.event,
+            actor,
+        }
+    }
+}

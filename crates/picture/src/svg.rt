@@ -1,0 +1,418 @@
+//! The parts of an SVG picture: what lanes and bands show from line to line, and over that the lines' marks.
+
+ghost use Rattle.std.specs.Prelude.{◌≡◌, ◌++◌, ◌≤◌, ◌<◌, codes, map, string_bytes, IfOk};
+ghost use Rattle.facts.specs.Facts.{decision_of};
+ghost use Rattle.picture.specs.Svg.{band_part, band_rests, begins_at, ends_lane, extent_of, first_since, foot_text, lane_part, lane_rests, line_marks, line_parts, mark_of, marks_of, rests, since_band, since_lane, svg_band, svg_bands, svg_heads, svg_lane, svg_lanes, svg_open};
+
+use crate::pieces::add;
+use crate::places::{band_x, lane_x, row_y};
+use crate::rows::{arrow_from, is_right_of};
+use crate::scene::{BANDS, Scene};
+use crate::shapes::{add_arrow, add_band, add_lane, add_mark, add_number, add_words};
+use crate::style::style;
+use crate::words::{first_number, second_number, words};
+use facts::{Fact, Line};
+use itoa::Buffer;
+use keys::Decision;
+use std::alloc::AllocError;
+
+/// Since which line, from 1, each lane and each band shows what it shows; 0 before the first line.
+#[derive(Clone, Copy)]
+pub struct Since {
+    /// By the threads' ids.
+    pub lanes: [usize; 65],
+    /// By the mutexes' numbers.
+    pub bands: [usize; 16],
+}
+
+/// Whether a line ends what its lane showed.
+fn ends_lane(fact: &Fact) -> bool
+    ensures { result ≡ ends_lane fact.now }
+{
+    match *fact {
+        Fact::Point(_) | Fact::Death(..) | Fact::Move(..) => false,
+        Fact::Begin(..)
+        | Fact::Sleep(..)
+        | Fact::Wake(_)
+        | Fact::Return(..)
+        | Fact::Kill(_)
+        | Fact::Reap(_) => true,
+    }
+}
+
+fn since_lane(lanes: [usize; 65], fact: &Fact, line: usize) -> [usize; 65]
+    ensures { result ≡ since_lane lanes fact.now line }
+{
+    let mut lanes = lanes;
+    if ends_lane(fact) {
+        lanes[usize::from(fact.thread().get())] = line;
+    }
+    lanes
+}
+
+fn since_band(bands: [usize; 16], decision: Option<Decision>, line: usize) -> [usize; 16]
+    ensures { result ≡ since_band bands decision line }
+{
+    let mut bands = bands;
+    if let Some(decision) = decision {
+        let mutex = usize::from(decision.mutex);
+        if mutex < BANDS {
+            bands[mutex] = line;
+        }
+    }
+    bands
+}
+
+impl Since {
+    /// Before the first line.
+    pub fn new() -> Since
+        ensures { result ≡ first_since }
+    {
+        Since {
+            lanes: [0; 65],
+            bands: [0; 16],
+        }
+    }
+
+    /// Behind this line.
+    pub fn behind(self, fact: &Fact, line: usize) -> Since
+        ensures { result ≡ begins_at self fact.now line }
+    {
+        Since {
+            lanes: since_lane(self.lanes, fact, line),
+            bands: since_band(self.bands, fact.decision(), line),
+        }
+    }
+}
+
+/// How many lanes and bands a picture has.
+#[derive(Clone, Copy)]
+pub struct Extent {
+    pub threads: u8,
+    pub bands: usize,
+}
+
+/// The extent of the picture of a trace of so many threads and mutexes.
+pub fn extent_of(threads: u8, mutexes: u16) -> Extent
+    ensures value { result ≡ extent_of threads mutexes }
+    ensures few { result.threads ≤ 64 }
+    ensures narrow { result.bands ≤ 16 }
+{
+    Extent {
+        threads: threads.min(64),
+        bands: usize::from(mutexes).min(BANDS),
+    }
+}
+
+fn add_lane_part(
+    text: &mut String,
+    extent: Extent,
+    scene: &Scene,
+    since: &Since,
+    fact: &Fact,
+    line: usize,
+) -> Result<(), AllocError>
+    requires { extent.bands ≤ 16 }
+    ensures { IfOk result (λ _. string_bytes text.new ≡ string_bytes text.old ++ lane_part extent scene.now since.now fact.now line) }
+{
+    if !ends_lane(fact) {
+        return Ok(());
+    }
+    let thread = fact.thread().get();
+    let at = usize::from(thread);
+    add_lane(
+        text,
+        scene.lanes[at],
+        lane_x(extent.threads, extent.bands, thread),
+        since.lanes[at],
+        line,
+    )
+}
+
+fn add_band_part(
+    text: &mut String,
+    extent: Extent,
+    scene: &Scene,
+    since: &Since,
+    decision: Option<Decision>,
+    line: usize,
+) -> Result<(), AllocError>
+    requires { extent.bands ≤ 16 }
+    ensures { IfOk result (λ _. string_bytes text.new ≡ string_bytes text.old ++ band_part extent scene.now since.now decision line) }
+{
+    let Some(decision) = decision else {
+        return Ok(());
+    };
+    let mutex = usize::from(decision.mutex);
+    if mutex < extent.bands {
+        add_band(text, scene.objects[mutex], mutex, since.bands[mutex], line)
+    } else {
+        Ok(())
+    }
+}
+
+/// What this line ends: what its lane showed, and what its mutex's band showed.
+pub fn add_parts(
+    text: &mut String,
+    extent: Extent,
+    scene: &Scene,
+    since: &Since,
+    fact: &Fact,
+    line: usize,
+) -> Result<(), AllocError>
+    requires { extent.bands ≤ 16 }
+    ensures { IfOk result (λ _. string_bytes text.new ≡ string_bytes text.old ++ line_parts extent scene.now since.now fact.now line) }
+{
+    add_lane_part(text, extent, scene, since, fact, line)?;
+    add_band_part(text, extent, scene, since, fact.decision(), line)
+}
+
+fn add_lane_rests(
+    text: &mut String,
+    extent: Extent,
+    scene: &Scene,
+    since: &Since,
+    line: usize,
+) -> Result<(), AllocError>
+    requires few { extent.threads ≤ 64 }
+    requires narrow { extent.bands ≤ 16 }
+    ensures { IfOk result (λ _. string_bytes text.new ≡ string_bytes text.old ++ lane_rests extent scene.now.lanes since.now.lanes line) }
+{
+    for index in 0..extent.threads {
+        let at = usize::from(index) + 1;
+        add_lane(
+            text,
+            scene.lanes[at],
+            lane_x(extent.threads, extent.bands, index + 1),
+            since.lanes[at],
+            line,
+        )?;
+    }
+    Ok(())
+}
+
+fn add_band_rests(
+    text: &mut String,
+    extent: Extent,
+    scene: &Scene,
+    since: &Since,
+    line: usize,
+) -> Result<(), AllocError>
+    requires { extent.bands ≤ 16 }
+    ensures { IfOk result (λ _. string_bytes text.new ≡ string_bytes text.old ++ band_rests extent scene.now.objects since.now.bands line) }
+{
+    for mutex in 0..extent.bands {
+        add_band(text, scene.objects[mutex], mutex, since.bands[mutex], line)?;
+    }
+    Ok(())
+}
+
+/// What lanes and bands show up to the end, at this line.
+pub fn add_rests(
+    text: &mut String,
+    extent: Extent,
+    scene: &Scene,
+    since: &Since,
+    line: usize,
+) -> Result<(), AllocError>
+    requires few { extent.threads ≤ 64 }
+    requires narrow { extent.bands ≤ 16 }
+    ensures { IfOk result (λ _. string_bytes text.new ≡ string_bytes text.old ++ rests extent scene.now since.now line) }
+{
+    add_lane_rests(text, extent, scene, since, line)?;
+    add_band_rests(text, extent, scene, since, line)
+}
+
+/// A line's mark, or the arrow to its lane.
+fn add_mark_of(
+    text: &mut String,
+    extent: Extent,
+    fact: &Fact,
+    from: Option<u8>,
+    line: usize,
+) -> Result<(), AllocError>
+    requires { extent.bands ≤ 16 }
+    ensures { IfOk result (λ _. string_bytes text.new ≡ string_bytes text.old ++ mark_of extent fact.now from line) }
+{
+    let middle = lane_x(extent.threads, extent.bands, fact.thread().get());
+    match from {
+        Some(actor) => add_arrow(
+            text,
+            lane_x(extent.threads, extent.bands, actor),
+            middle,
+            line,
+        ),
+        None => add_mark(text, fact, middle, line),
+    }
+}
+
+/// The number of a line's event, its mark in the lane of its thread, and these words.
+fn add_marks(
+    text: &mut String,
+    extent: Extent,
+    fact: &Fact,
+    event: u32,
+    from: Option<u8>,
+    words: &[&str],
+    number: usize,
+) -> Result<(), AllocError>
+    requires { extent.bands ≤ 16 }
+    ensures { IfOk result (λ _. string_bytes text.new ≡ string_bytes text.old ++ marks_of extent fact.now event from (map (λ w. w.now) words.now) number) }
+{
+    let thread = fact.thread().get();
+    let middle = lane_x(extent.threads, extent.bands, thread);
+    add_number(text, event, number)?;
+    add_mark_of(text, extent, fact, from, number)?;
+    add_words(text, words, middle, number, is_right_of(thread, from))
+}
+
+/// A line: the number of its event, its mark in the lane of its thread, and its words.
+pub fn add_line(
+    text: &mut String,
+    extent: Extent,
+    scene: &Scene,
+    line: &Line,
+    number: usize,
+) -> Result<(), AllocError>
+    requires { extent.bands ≤ 16 }
+    ensures { IfOk result (λ _. string_bytes text.new ≡ string_bytes text.old ++ line_marks extent scene.now line.now number) }
+{
+    let thread = line.fact.thread().get();
+    let from = arrow_from(scene.actor, &line.fact);
+    let shown = scene.lanes[usize::from(thread)];
+    let mut firsts = Buffer::new();
+    let mut seconds = Buffer::new();
+    let first = firsts.format(first_number(&line.fact));
+    let second = seconds.format(second_number(&line.fact));
+    let words = words(shown, &line.fact, first, second);
+    add_marks(text, extent, &line.fact, line.event, from, &words, number)
+}
+
+/// The name of a band.
+fn add_band_name(text: &mut String, mutex: usize) -> Result<(), AllocError>
+    requires { mutex ≤ 16 }
+    ensures { IfOk result (λ _. string_bytes text.new ≡ string_bytes text.old ++ svg_band mutex) }
+{
+    let mut lefts = Buffer::new();
+    let mut names = Buffer::new();
+    let left = lefts.format(band_x(mutex) + 11);
+    let name = names.format(mutex);
+    add(
+        text,
+        &[
+            "<text class=\"h\" x=\"",
+            left,
+            "\" y=\"20\">m",
+            name,
+            "</text>\n",
+        ],
+    )
+}
+
+fn add_band_names(text: &mut String, bands: usize) -> Result<(), AllocError>
+    requires { bands ≤ 16 }
+    ensures { IfOk result (λ _. string_bytes text.new ≡ string_bytes text.old ++ svg_bands bands) }
+{
+    for mutex in 0..bands {
+        add_band_name(text, mutex)?;
+    }
+    Ok(())
+}
+
+/// The name of a lane, and the line that stands for its time.
+fn add_lane_name(
+    text: &mut String,
+    extent: Extent,
+    bottom: u128,
+    lane: u8,
+) -> Result<(), AllocError>
+    requires { extent.bands ≤ 16 }
+    ensures { IfOk result (λ _. string_bytes text.new ≡ string_bytes text.old ++ svg_lane extent bottom lane) }
+{
+    let mut bottoms = Buffer::new();
+    let mut middles = Buffer::new();
+    let mut names = Buffer::new();
+    let middle = middles.format(lane_x(extent.threads, extent.bands, lane));
+    let name = names.format(lane);
+    let low = bottoms.format(bottom);
+    add(
+        text,
+        &[
+            "<text class=\"h\" x=\"",
+            middle,
+            "\" y=\"20\">t",
+            name,
+            "</text><path class=\"l\" d=\"M",
+            middle,
+            " 28V",
+            low,
+            "\"/>\n",
+        ],
+    )
+}
+
+fn add_lane_names(text: &mut String, extent: Extent, bottom: u128) -> Result<(), AllocError>
+    requires few { extent.threads ≤ 64 }
+    requires narrow { extent.bands ≤ 16 }
+    ensures { IfOk result (λ _. string_bytes text.new ≡ string_bytes text.old ++ svg_lanes extent bottom) }
+{
+    for index in 0..extent.threads {
+        add_lane_name(text, extent, bottom, index + 1)?;
+    }
+    Ok(())
+}
+
+/// The size of the picture and the style of its shapes.
+fn add_open(text: &mut String, extent: Extent, lines: usize) -> Result<(), AllocError>
+    requires { extent.bands ≤ 16 }
+    ensures { IfOk result (λ _. string_bytes text.new ≡ string_bytes text.old ++ svg_open extent lines) }
+{
+    let mut widths = Buffer::new();
+    let mut heights = Buffer::new();
+    let width = widths.format(lane_x(extent.threads, extent.bands, extent.threads) + 160);
+    let height = heights.format(row_y(lines) + 36);
+    add(
+        text,
+        &[
+            "<svg xmlns=\"http://www.w3.org/2000/svg\" width=\"",
+            width,
+            "\" height=\"",
+            height,
+            "\">\n",
+            style(),
+        ],
+    )
+}
+
+/// What stands before all lines, of which there are so many.
+pub fn add_svg_heads(text: &mut String, extent: Extent, lines: usize) -> Result<(), AllocError>
+    requires few { extent.threads ≤ 64 }
+    requires narrow { extent.bands ≤ 16 }
+    ensures { IfOk result (λ _. string_bytes text.new ≡ string_bytes text.old ++ svg_heads extent lines) }
+{
+    add_open(text, extent, lines)?;
+    add_band_names(text, extent.bands)?;
+    add_lane_names(text, extent, row_y(lines) + 18)
+}
+
+/// What stands behind all lines: the number of events.
+pub fn add_foot(text: &mut String, last: u32, lines: usize) -> Result<(), AllocError>
+    ensures { IfOk result (λ _. string_bytes text.new ≡ string_bytes text.old ++ foot_text last lines) }
+{
+    let mut rows = Buffer::new();
+    let mut lasts = Buffer::new();
+    let row = rows.format(row_y(lines) + 22);
+    let last = lasts.format(last);
+    add(
+        text,
+        &[
+            "<text class=\"n\" x=\"48\" y=\"",
+            row,
+            "\">",
+            last,
+            "</text><text x=\"54\" y=\"",
+            row,
+            "\">end</text>\n</svg>\n",
+        ],
+    )
+}

@@ -1,0 +1,158 @@
+//! An SVG picture, part by part.
+
+ghost use Rattle.std.specs.Prelude.{◌≤◌};
+ghost use Rattle.streams.specs.Leaves.{Leaves};
+ghost use Rattle.picture.specs.Scenes.{first_scene};
+ghost use Rattle.picture.specs.Svg.{first_since, foot_text, line_marks, line_parts, marks, parts, rests, svg_drawn, svg_heads};
+
+use crate::drawing::{Unwritten, write_text};
+use crate::scene::Scene;
+use crate::svg::{
+    Extent, Since, add_foot, add_line, add_parts, add_rests, add_svg_heads, extent_of,
+};
+use facts::{Fact, Line};
+use std::alloc::Global;
+use std::io::Write;
+
+/// Room for the longest part, the heads of all lanes and bands, which is asked for before anything is written.
+const PART: usize = 16_384;
+
+fn write_svg_heads<W: Write>(
+    part: &mut String,
+    extent: Extent,
+    lines: usize,
+    out: &mut W,
+) -> Result<(), Unwritten>
+    requires few { extent.threads ≤ 64 }
+    requires narrow { extent.bands ≤ 16 }
+    ensures { Leaves (W.contents out.old) (W.contents out.new) result (svg_heads extent lines) }
+{
+    part.clear();
+    add_svg_heads(part, extent, lines)?;
+    write_text(part, out)
+}
+
+fn write_line_parts<W: Write>(
+    part: &mut String,
+    extent: Extent,
+    scene: &Scene,
+    since: &Since,
+    fact: &Fact,
+    line: usize,
+    out: &mut W,
+) -> Result<(), Unwritten>
+    requires { extent.bands ≤ 16 }
+    ensures { Leaves (W.contents out.old) (W.contents out.new) result (line_parts extent scene.now since.now fact.now line) }
+{
+    part.clear();
+    add_parts(part, extent, scene, since, fact, line)?;
+    write_text(part, out)
+}
+
+fn write_rests<W: Write>(
+    part: &mut String,
+    extent: Extent,
+    scene: &Scene,
+    since: &Since,
+    line: usize,
+    out: &mut W,
+) -> Result<(), Unwritten>
+    requires few { extent.threads ≤ 64 }
+    requires narrow { extent.bands ≤ 16 }
+    ensures { Leaves (W.contents out.old) (W.contents out.new) result (rests extent scene.now since.now line) }
+{
+    part.clear();
+    add_rests(part, extent, scene, since, line)?;
+    write_text(part, out)
+}
+
+/// What lanes and bands show from line to line.
+fn write_parts<W: Write>(
+    part: &mut String,
+    extent: Extent,
+    lines: &[Line],
+    out: &mut W,
+) -> Result<(), Unwritten>
+    requires few { extent.threads ≤ 64 }
+    requires narrow { extent.bands ≤ 16 }
+    ensures { Leaves (W.contents out.old) (W.contents out.new) result (parts extent first_scene first_since 1 lines.now) }
+{
+    let mut scene = Scene::new();
+    let mut since = Since::new();
+    for index in 0..lines.len() {
+        let line = &lines[index];
+        write_line_parts(part, extent, &scene, &since, &line.fact, index + 1, out)?;
+        scene = scene.behind(line, &lines[index..]);
+        since = since.behind(&line.fact, index + 1);
+    }
+    write_rests(part, extent, &scene, &since, lines.len() + 1, out)
+}
+
+fn write_line<W: Write>(
+    part: &mut String,
+    extent: Extent,
+    scene: &Scene,
+    line: &Line,
+    number: usize,
+    out: &mut W,
+) -> Result<(), Unwritten>
+    requires { extent.bands ≤ 16 }
+    ensures { Leaves (W.contents out.old) (W.contents out.new) result (line_marks extent scene.now line.now number) }
+{
+    part.clear();
+    add_line(part, extent, scene, line, number)?;
+    write_text(part, out)
+}
+
+/// The marks of all lines.
+fn write_marks<W: Write>(
+    part: &mut String,
+    extent: Extent,
+    lines: &[Line],
+    out: &mut W,
+) -> Result<(), Unwritten>
+    requires { extent.bands ≤ 16 }
+    ensures { Leaves (W.contents out.old) (W.contents out.new) result (marks extent first_scene 1 lines.now) }
+{
+    let mut scene = Scene::new();
+    for index in 0..lines.len() {
+        let line = &lines[index];
+        scene = scene.behind(line, &lines[index..]);
+        write_line(part, extent, &scene, line, index + 1, out)?;
+    }
+    Ok(())
+}
+
+fn write_foot<W: Write>(
+    part: &mut String,
+    last: u32,
+    lines: usize,
+    out: &mut W,
+) -> Result<(), Unwritten>
+    ensures { Leaves (W.contents out.old) (W.contents out.new) result (foot_text last lines) }
+{
+    part.clear();
+    add_foot(part, last, lines)?;
+    write_text(part, out)
+}
+
+/// Draws a trace of so many threads and mutexes as SVG, time running downwards: each of its lines once, in the order of the trace, with the number of its
+/// event, and its mark in the lane of its thread. `last` is the number of events. At an error a beginning of the picture is written.
+pub fn draw_svg<W: Write>(
+    alloc: Global,
+    threads: u8,
+    mutexes: u16,
+    lines: &[Line],
+    last: u32,
+    out: &mut W,
+) -> Result<(), Unwritten>
+    ensures { Leaves (W.contents out.old) (W.contents out.new) result (svg_drawn threads mutexes lines.now last) }
+{
+    let mut part = String::with_capacity(alloc, PART)?;
+    let extent = extent_of(threads, mutexes);
+    let count = lines.len();
+    write_svg_heads(&mut part, extent, count, out)?;
+    write_parts(&mut part, extent, lines, out)?;
+    write_marks(&mut part, extent, lines, out)?;
+    write_foot(&mut part, last, count, out)
+}
