@@ -4,3 +4,4 @@ pub mod Trims
 pub mod Words
 pub mod Processes
 pub mod Mappings
+pub mod Steps

@@ -1,5 +1,6 @@
 -- Addresses are sums of a base and a place.
 use Rattle.std.proofs.Common.{refl, arith}
+use Rattle.std.proofs.lemmas.Bool.Decides.{nat_tests}
 use Rattle.keys.specs.Mappings.{AddressesAreSums}
 
 pub sums : AddressesAreSums
@@ -10,5 +11,6 @@ sums = record {
   next = λ base place. omega arith;
   apart = λ base other place least. omega (arith, least);
   of_threads = λ l t place. refl;
+  valid = λ l place. (λ is. grind (arith, nat_tests), λ both. grind (arith, nat_tests));
   of_places = λ l t at. refl;
 }

@@ -81,7 +81,7 @@ sleeps_at a w = false
 
 -- the meaning of a trim of the word w, on which these threads sleep: it becomes 0 exactly where WAITERS is all that it says and nobody sleeps on it, and the answer is true exactly there
 pub record Trims (w : ℕ) (queue : List ℕ) (after : ℕ) (trimmed : Bool) : Type 0 where
-  pub answer : (trimmed ≡ true) ↔ ((w ≡ waiters_alone) × (queue ≡ []))
+  pub answer : (trimmed ≡ true) ↔ ((w ≡ 0x8000_0000) × (queue ≡ []))
   pub cleared : trimmed ≡ true → after ≡ 0
   pub kept : trimmed ≡ false → after ≡ w
 

@@ -65,6 +65,21 @@ held_limit = 2048
 abbrev pub Does : ℕ → Object → ℕ → Operation → Reply → Object → Type 0
 Does held o t op r n = MatchBool (acquires op && nat_le held_limit held) ((r ≡ XHELD) × (n ≡ o)) (Permits o t op r n)
 
+-- what an object becomes by a step of thread t's operation that replies so
+abbrev pub stepped : Object → ℕ → Operation → Reply → Object
+stepped o t Lock OK = owned_by o t
+stepped o t Lock EOWNERDEAD = owned_by o t
+stepped o t TryLock OK = owned_by o t
+stepped o t TryLock EOWNERDEAD = owned_by o t
+stepped o t Unlock OK = freed o
+stepped o t Consistent OK = declared_consistent o
+stepped o t Death OK = bereaved o
+stepped o t op r = o
+
+-- a step leaves no choice: who knows the operation and its reply knows the object behind it
+abbrev pub StepsAreDetermined : Type 0
+StepsAreDetermined = (held : ℕ) (o : Object) (t : ℕ) (op : Operation) (r : Reply) (n : Object) → Does held o t op r n → n ≡ stepped o t op r
+
 -- points on one mutex, one after the other, from object to object
 abbrev pub Run : Object → List Point → Object → Type 0
 Run o [] n = n ≡ o

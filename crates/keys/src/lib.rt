@@ -3,7 +3,8 @@
 //! [`Layout`] gives each word its place: robust-list heads, the cells and links of mutexes, the counters of condition variables. Valid places are pairwise
 //! different (`places_differ`). Threads belong to processes, each of which maps the words at a base of its own: programs speak of words by their addresses there
 //! (`addresses_are_sums`, `addresses_are_seen`, `writes_are_seen`). [`Access`] and [`Answer`] are the steps that programs take on words, a trim's with its meaning (`trims_are_right`); [`Point`] is the
-//! step at which an operation takes effect, and an [`Operation`]'s word is read back as that operation (`operations_are_read_back`). [`Object`] is the mutex with no bits: what POSIX says that each operation answers and leaves.
+//! step at which an operation takes effect, and an [`Operation`]'s word is read back as that operation (`operations_are_read_back`). [`Object`] is the mutex with no bits: what POSIX says that each operation answers and leaves
+//! (`steps_are_determined`).
 #![tactic(auto)]
 
 mod access;
@@ -21,7 +22,7 @@ pub use layout::{
     BASE_LIMIT, CONDITION_LIMIT, HEAD_SIZE, Layout, LayoutFault, PROCESS_LIMIT, places_differ,
 };
 pub use memory::NoMem;
-pub use object::{HELD_LIMIT, Object};
+pub use object::{HELD_LIMIT, Object, steps_are_determined};
 pub use point::{
     Decision, Operation, ParseOperationError, Point, Progress, operations_are_read_back,
 };

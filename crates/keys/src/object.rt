@@ -1,5 +1,6 @@
 //! The mutex as an object, with no bits.
 ghost use Rattle.std.specs.Prelude.{◌≡◌, true, false, MatchOption};
+ghost use Rattle.keys.specs.Objects.{StepsAreDetermined};
 
 use crate::point::Operation;
 use lockword::{Reply, Tid};
@@ -171,3 +172,8 @@ impl Object {
         }
     }
 }
+
+/// A step leaves no choice: its operation and its reply say what the object becomes.
+pub fn steps_are_determined()
+    ensures { StepsAreDetermined }
+{}

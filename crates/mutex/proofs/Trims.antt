@@ -17,6 +17,9 @@ use Rattle.mutex.specs.declared.row.Row.TheVariants.{Lock, TryLock, Unlock, Cons
 use Rattle.mutex.specs.Rows.{IsGoing, goes, ends}
 use Rattle.mutex.specs.Programs.{row_access, resume_of, row_operation}
 use Rattle.mutex.specs.Laws.{IsOf, WaitersAreKept, UnlocksTrim}
+use Rattle.mutex.specs.declared.phase.Phase.{Phase}
+use Rattle.mutex.specs.Whole.{whole_access, whole_moved, phase_led}
+use Rattle.mutex.specs.WholeLaws.{WholeUnlocksTrim}
 use Rattle.mutex.proofs.Steps.{minds}
 use Rattle.mutex.proofs.Wholes.{goes_on}
 
@@ -114,3 +117,6 @@ trims t cell r a pos going known = (
       let was = comes t cell r a of going there in (of, was.0, was.1)),
   (λ was. subst (λ (x : Answer). row_access t cell (resume_of t r x).row ≡ access.Trim cell) (sym was.2) (leads t cell r was.0 was.1)),
 )
+
+pub whole_trims : WholeUnlocksTrim
+whole_trims p is = subst (λ (f : Phase). whole_access (whole_moved p (phase_led p f (Count 0))) ≡ access.Trim p.cell) (sym is) refl

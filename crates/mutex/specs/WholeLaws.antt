@@ -1,21 +1,23 @@
 -- What every whole call keeps, whatever it is answered.
-use Rattle.std.specs.Prelude.{ℕ, ◌≡◌, ◌≤◌, ◌⊎◌, Bool, Option, Some, None, List, [], ◌∷◌}
+use Rattle.std.specs.Prelude.{ℕ, ◌≡◌, ◌≤◌, ◌⊎◌, Bool, false, Option, Some, None, List, [], ◌∷◌}
 use Rattle.lockword.specs.Cells.{Fields}
 use Rattle.lockword.specs.declared.reply.Reply.{Reply}
 use Rattle.lockword.specs.declared.reply.Reply.TheVariants.{OK, XRACED}
+use Rattle.keys.specs.declared.access.Access.TheVariants as access
 use Rattle.keys.specs.declared.access.Answer.{Answer}
+use Rattle.keys.specs.declared.access.Answer.TheVariants.{Count}
 use Rattle.keys.specs.declared.point.Operation.TheVariants as operation
 use Rattle.keys.specs.Layouts.{Layout'}
 use Rattle.mutex.specs.declared.call.Call.{Call}
 use Rattle.mutex.specs.declared.row.Row.{Row}
 use Rattle.mutex.specs.declared.row.Row.TheVariants as row
-use Rattle.mutex.specs.declared.unlock.UnlockRow.TheVariants.{Release}
+use Rattle.mutex.specs.declared.unlock.UnlockRow.TheVariants.{Release, Wake}
 use Rattle.mutex.specs.declared.phase.Phase.{Phase}
 use Rattle.mutex.specs.declared.phase.Phase.TheVariants.{Announcing, AtCell, Unlinking, Ended}
 use Rattle.mutex.specs.Rows.{Knows}
 use Rattle.mutex.specs.Standings.{Whole}
 use Rattle.mutex.specs.Programs.{row_operation}
-use Rattle.mutex.specs.Whole.{begins, whole_led, whole_moved}
+use Rattle.mutex.specs.Whole.{begins, whole_access, whole_led, whole_moved}
 use Rattle.mutex.specs.Laws.{met, changes, IsPermitted, PermitsAt}
 
 -- a call whose row is of its operation; only an unlock takes its entry out of the list
@@ -39,6 +41,10 @@ about_to_release (Announcing (row.Unlock (Release d))) = Some d
 about_to_release (Unlinking u d) = Some d
 about_to_release (AtCell (row.Unlock (Release d))) = Some d
 about_to_release f = None
+
+-- a whole unlock that was to wake one thread and woke nobody goes on to its trim
+abbrev pub WholeUnlocksTrim : Type 0
+WholeUnlocksTrim = (p : Whole) → p.phase ≡ AtCell (row.Unlock (Wake false)) → whole_access (whole_moved p (whole_led p (Count 0))) ≡ access.Trim p.cell
 
 -- whatever a call is answered
 pub record WholeCallsAreRight : Type 0 where

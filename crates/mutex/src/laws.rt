@@ -1,6 +1,6 @@
 //! What holds of every call.
 ghost use Rattle.mutex.specs.Laws.{ProgramsAreRight, WaitersAreKept, UnlocksTrim, RacedAfterFour, PointsArePermitted};
-ghost use Rattle.mutex.specs.WholeLaws.{WholeCallsAreRight};
+ghost use Rattle.mutex.specs.WholeLaws.{WholeCallsAreRight, WholeUnlocksTrim};
 ghost use Rattle.mutex.specs.Decisions.{WholeCallsAreDecided};
 
 /// Whatever word an access of a call meets, it is a step of the mutex as POSIX sees it, and leaves what the call's next access needs.
@@ -15,7 +15,8 @@ pub fn waiters_are_kept()
 
 /// A call comes to a trim exactly where an unlock was to wake one thread and woke nobody.
 pub fn unlocks_trim_after_waking_nobody()
-    ensures { UnlocksTrim }
+    ensures at_the_cell { UnlocksTrim }
+    ensures whole { WholeUnlocksTrim }
 {}
 
 /// Whatever it is answered, a trylock gives up only after four exchanges that each found a changed cell.

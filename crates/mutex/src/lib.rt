@@ -3,7 +3,7 @@
 //! A [`Program`] is a call in progress: a value that says which access comes next ([`Program::next`]) and goes on with its answer
 //! ([`Program::resume`]). Whoever runs it makes the accesses. What it does at its mutex's cell is a [`CellProgram`], which running threads make alone
 //! ([`Program::short`]); around that it keeps its thread's robust list. Whatever word an access meets, it is a step of the mutex as POSIX sees it
-//! (`programs_are_right`).
+//! (`programs_are_right`), which leaves `WAITERS` where it is set (`waiters_are_kept`), but for the trim of an unlock that woke nobody (`unlocks_trim_after_waking_nobody`).
 #![tactic(auto)]
 
 mod call;
@@ -21,8 +21,8 @@ pub use call::Call;
 pub use cell_program::CellProgram;
 pub use consistent::ConsistentRow;
 pub use laws::{
-    points_are_permitted, programs_are_right, raced_after_four, whole_calls_are_decided,
-    whole_calls_are_right,
+    points_are_permitted, programs_are_right, raced_after_four, unlocks_trim_after_waking_nobody,
+    waiters_are_kept, whole_calls_are_decided, whole_calls_are_right,
 };
 pub use lock::LockRow;
 pub use phase::{Onward, Phase};

@@ -2,7 +2,6 @@ pub mod Pieces
 pub mod Signs
 pub mod Lanes
 pub mod Words
-pub mod Objects
 pub mod Scenes
 pub mod Layouts
 pub mod Rows

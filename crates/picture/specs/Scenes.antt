@@ -2,11 +2,10 @@
 use Rattle.std.specs.Prelude.{ℕ, ◌==◌, nat_lt, Option, Some, None, List, [], ◌∷◌, replicate, slice_index_or, slice_set, if◌then◌else◌}
 use Rattle.keys.specs.declared.object.Object.{Object}
 use Rattle.keys.specs.declared.point.Decision.{Decision}
-use Rattle.keys.specs.Objects.{fresh}
+use Rattle.keys.specs.Objects.{fresh, stepped}
 use Rattle.facts.specs.declared.fact.Fact.{Fact}
 use Rattle.facts.specs.declared.fact.Line.{Line}
 use Rattle.facts.specs.Facts.{thread_of, decision_of, is_passive}
-use Rattle.picture.specs.Objects.{changed}
 use Rattle.picture.specs.declared.lane.Lane.{Lane}
 use Rattle.picture.specs.declared.lane.Lane.TheVariants.{Idle}
 use Rattle.picture.specs.declared.scene.Scene.{Scene}
@@ -28,7 +27,7 @@ lanes_behind lanes f = slice_set lanes (thread_of f) (after (lane_at lanes (thre
 abbrev pub objects_behind : List Object → Option Decision → List Object
 objects_behind os None = os
 objects_behind os (Some d) = if nat_lt d.mutex most_bands
-    then slice_set os d.mutex (changed (slice_index_or os d.mutex fresh) d.thread d.operation d.reply)
+    then slice_set os d.mutex (stepped (slice_index_or os d.mutex fresh) d.thread d.operation d.reply)
     else os
 
 -- whose event i is, of which the first lines tell: the thread of the first one that isn't told of what the event did to another; a trace needn't tell

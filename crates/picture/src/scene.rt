@@ -2,7 +2,7 @@
 
 ghost use Rattle.std.specs.Prelude.{◌≡◌, List};
 ghost use Rattle.facts.specs.Facts.{decision_of};
-ghost use Rattle.picture.specs.Objects.{changed};
+ghost use Rattle.keys.specs.Objects.{stepped};
 ghost use Rattle.picture.specs.Scenes.{actor_of, behind, first_scene, lanes_behind, objects_behind};
 
 use crate::lane::Lane;
@@ -27,8 +27,8 @@ pub struct Scene {
 }
 
 /// What a mutex is behind a point or a death, also behind one that its object doesn't allow.
-fn changed(object: Object, decision: &Decision) -> Object
-    ensures { result ≡ changed object decision.now.thread decision.now.operation decision.now.reply }
+fn stepped(object: Object, decision: &Decision) -> Object
+    ensures { result ≡ stepped object decision.now.thread decision.now.operation decision.now.reply }
 {
     match decision.operation {
         Operation::Lock | Operation::TryLock => match decision.reply {
@@ -96,7 +96,7 @@ fn objects_behind(objects: [Object; 16], decision: Option<Decision>) -> [Object;
     if let Some(decision) = decision {
         let mutex = usize::from(decision.mutex);
         if mutex < BANDS {
-            objects[mutex] = changed(objects[mutex], &decision);
+            objects[mutex] = stepped(objects[mutex], &decision);
         }
     }
     objects

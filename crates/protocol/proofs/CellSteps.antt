@@ -119,7 +119,7 @@ module _ (s : State) (t : ℕ) (c : Op) (p : Whole) (r : Row) (inv : Kept s) (po
   word_at : (x : ℕ) → s'.words x ≡ put s.words place w' x
   word_at x = ap (λ (y : ℕ). put s.words y (word_among a (s.words y) (s.queues y)) x) at_place
 
-  word_here : s'.words place ≡ w'
+  pub word_here : s'.words place ≡ w'
   word_here = word_at place ∙ put-same s.words place w'
 
   pub word_there : (x : ℕ) → x ≢ place → s'.words x ≡ s.words x
@@ -128,7 +128,7 @@ module _ (s : State) (t : ℕ) (c : Op) (p : Whole) (r : Row) (inv : Kept s) (po
   pub wakes : is_wake a ≡ true → (n : ℕ) × (1 ≤ n) × (a ≡ Wake (cell_in s.layout t m) n)
   wakes e = let woken = wakes_row p.thread p.cell r e in (woken.0, woken.1, woken.2 ∙ ap (λ (x : ℕ). Wake x woken.0) fits.cell)
 
-  leads : o ≡ from_cell whole l
+  pub leads : o ≡ from_cell whole l
   leads = ap (λ (y : ℕ). from_cell whole (resume_of p.thread r (answer_among a (s.words y) (s.queues y)))) at_place
 
   before : seen s m ≡ object_of (fields_of w)

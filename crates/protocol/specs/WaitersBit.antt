@@ -1,8 +1,16 @@
 -- The WAITERS bit of mutexes' words, over runs of the machine.
-use Rattle.std.specs.Prelude.{ℕ, ◌≡◌, ◌<◌, ◌⊎◌, true, List, [], ◌∷◌}
+use Rattle.std.specs.Prelude.{ℕ, ◌≡◌, ◌<◌, ◌≤◌, ◌==◌, ◌⊎◌, true, false, List, [], ◌∷◌, if◌then◌else◌}
 use Rattle.lockword.specs.Cells.{fields_of}
 use Rattle.keys.specs.Layouts.{Layout', IsLayout, cell_place}
+use Rattle.mutex.specs.declared.call.Call.TheVariants as call
+use Rattle.mutex.specs.declared.row.Row.TheVariants as row
+use Rattle.mutex.specs.declared.unlock.UnlockRow.TheVariants.{Wake}
+use Rattle.mutex.specs.declared.phase.Phase.TheVariants.{AtCell}
+use Rattle.mutex.specs.Standings.{Whole}
+use Rattle.protocol.specs.declared.event.Op.TheVariants.{OnMutex}
 use Rattle.protocol.specs.declared.event.Event.{Event}
+use Rattle.protocol.specs.declared.event.Event.TheVariants.{Step}
+use Rattle.protocol.specs.declared.thread.Stage.TheVariants.{Calling}
 use Rattle.protocol.specs.Machine.{State, start, run, sleepers}
 use Rattle.protocol.specs.Sleepers.{Sleeps, IsUnowned}
 
@@ -14,10 +22,19 @@ HasWaiters s m = (fields_of (s.words (cell_place s.layout m))).waiters ≡ true
 abbrev pub WaitersStay : State → State → Type 0
 WaitersStay s s' = (m : ℕ) → m < s.layout.mutexes → HasWaiters s m → HasWaiters s' m ⊎ ((sleepers s' m ≡ []) × IsUnowned s m)
 
--- whoever sleeps on a mutex is told of in its word; and at each event WAITERS stays so
+-- thread t has released mutex m in an unlock, and is to wake one that sleeps on it
+abbrev pub IsToWakeOne : State → ℕ → ℕ → Type 0
+IsToWakeOne s t m = (p : Whole) × ((s.threads t).stage ≡ Calling (OnMutex (call.Unlock m)) p) × (p.phase ≡ AtCell (row.Unlock (Wake false)))
+
+-- where nobody sleeps on the mutex, the thread's next two steps leave its word 0, if that was WAITERS alone, and else leave it as it was
+abbrev pub IsTrimmed : State → ℕ → ℕ → Type 0
+IsTrimmed s t m = (run s (Step t ∷ Step t ∷ [])).words (cell_place s.layout m) ≡ (if s.words (cell_place s.layout m) == 0x8000_0000 then 0 else s.words (cell_place s.layout m))
+
+-- whoever sleeps on a mutex is told of in its word; at each event WAITERS stays so; and an unlock that finds nobody to wake takes it away
 pub record WaitersAreTold (s : State) : Type 0 where
   pub told : (m t : ℕ) → m < s.layout.mutexes → Sleeps s t m → HasWaiters s m
   pub stay : (e : Event) → WaitersStay s (run s (e ∷ []))
+  pub trimmed : (t m : ℕ) → 1 ≤ t → t ≤ s.layout.threads → IsToWakeOne s t m → sleepers s m ≡ [] → IsTrimmed s t m
 
 -- whatever happened before, with any values of the counters at the beginning
 abbrev pub WaitersAreKept : Type 0

@@ -71,7 +71,8 @@ pub fn signals_are_right()
     ensures { SignalsAreRight }
 {}
 
-/// Whatever happens: where a thread sleeps on a mutex, the mutex's word has WAITERS; and no event takes WAITERS from a word but one that nobody owned and on which nobody sleeps.
+/// Whatever happens: where a thread sleeps on a mutex, the mutex's word has WAITERS; no event takes WAITERS from a word but one that nobody owned and on which nobody sleeps; and where
+/// nobody sleeps on a mutex that an unlock has released and is to wake one sleeper of, the next two steps of its thread, the wake and the trim, leave the word 0 if WAITERS is all that it says.
 pub fn waiters_are_kept()
     ensures { WaitersAreKept }
 {}

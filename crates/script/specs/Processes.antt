@@ -8,7 +8,7 @@ use Rattle.lines.specs.Lines.{lines_of, words_of}
 use Rattle.script.specs.Forms.{is_silent}
 use Rattle.script.specs.Scope.{Scope, IsWellFormed}
 use Rattle.script.specs.Reading.{script_read}
-use Rattle.script.specs.Playing.{layout_of}
+use Rattle.script.specs.Playing.{first_state}
 use Rattle.script.specs.declared.command.Mode.{Mode}
 use Rattle.script.specs.declared.command.Action.{Action}
 use Rattle.script.specs.declared.command.Action.TheVariants as action
@@ -59,8 +59,8 @@ killalls_of cs = flat_map (λ c. killed_by c.action) cs
 -- the machine of this script is as its lines say: process 0 has base 0, and each declared process, in the order of their lines, the base that its own line gives; each thread is of the process that its own line
 -- names, and of process 0 where that names none; and the processes to be killed, one command after the other, are those that the `killall` lines name
 pub record IsAsTold (lines : List (List ℕ)) (s : Scope) : Type 0 where
-  pub bases : (layout_of s).bases ≡ 0 ∷ map (λ p. p.1) (processes_in lines)
-  pub threads : (layout_of s).processes ≡ flat_map (λ text. member_in (processes_in lines) (said text)) lines
+  pub bases : (first_state s).layout.bases ≡ 0 ∷ map (λ p. p.1) (processes_in lines)
+  pub threads : (first_state s).layout.processes ≡ flat_map (λ text. member_in (processes_in lines) (said text)) lines
   pub killalls : killalls_of s.commands ≡ flat_map (λ text. killall_in (processes_in lines) (said text)) lines
 
 -- of every script that is read
@@ -69,4 +69,4 @@ ProcessesAreAsTold = (k : Mode) (bytes : List ℕ) → IfOk (script_read k bytes
 
 -- a script that declares no process is of one process, which maps the words at 0: addresses are places
 abbrev pub OneProcessWithoutALine : Type 0
-OneProcessWithoutALine = (s : Scope) → IsWellFormed s → s.processes ≡ [] → layout_of s ≡ one_process (length s.threads) (length s.mutexes) (map (λ c. c.1.mutex) s.conditions)
+OneProcessWithoutALine = (s : Scope) → IsWellFormed s → s.processes ≡ [] → (first_state s).layout ≡ one_process (length s.threads) (length s.mutexes) (map (λ c. c.1.mutex) s.conditions)

@@ -8,7 +8,7 @@ use Rattle.keys.specs.declared.object.Object.{Object}
 use Rattle.lockword.specs.declared.reply.Reply.TheVariants.{OK}
 use Rattle.keys.specs.declared.point.Decision.{Decision}
 use Rattle.keys.specs.declared.point.Operation.TheVariants as operation
-use Rattle.keys.specs.Objects.{Does}
+use Rattle.keys.specs.Objects.{Does, stepped}
 use Rattle.keys.specs.Histories.{Legal, held_by, is_thread, opening}
 use Rattle.facts.specs.declared.fact.Begun.{Begun}
 use Rattle.facts.specs.declared.fact.Fact.{Fact}
@@ -17,13 +17,14 @@ use Rattle.facts.specs.declared.fact.Line.{Line}
 use Rattle.verdict.specs.declared.stage.Stage.{Stage}
 use Rattle.verdict.specs.declared.stage.Stage.TheVariants.{Resting, Calling, Dying, Reaped}
 use Rattle.facts.specs.Facts.{thread_of, decision_of}
-use Rattle.verdict.specs.Earlier.{told_of, call_in, is_killed, objects_after, moved, changed}
+use Rattle.verdict.specs.Earlier.{told_of, call_in, is_killed, objects_after, moved}
 use Rattle.facts.specs.Orders.{Later, Each, Orderly}
 use Rattle.verdict.specs.Fits.{Fits, FitsThread, Allows, OwnsNothing}
 use Rattle.verdict.specs.Judges.{IsMutex, one}
 use Rattle.verdict.specs.Verdicts.{AllFit}
 use Rattle.verdict.specs.Explained.{with_decision, decisions, is_death, deaths, is_reaping, reaped, Buries, Explains}
-use Rattle.verdict.proofs.Owners.{does_changes, does_owners, not_owner, others_own, owns_itself}
+use Rattle.keys.proofs.Steps.{determined}
+use Rattle.verdict.proofs.Owners.{does_owners, not_owner, others_own, owns_itself}
 use Rattle.verdict.proofs.Stages.{Kept}
 use Rattle.verdict.proofs.Lives.{lived, lives, sleeps}
 
@@ -70,22 +71,22 @@ legal n (e ∷ es) fit inside = subst (λ ds. Legal n opening ds (objects_after 
     by_decision None i a = subst (λ ds. Legal n opening ds (objects_after es)) (sym (append_nil (decisions (reverse es)))) h
     by_decision (Some d) i a =
         let here : (d.mutex == d.mutex) ≡ true = grind (arith, nat_tests) in
-        let becomes : moved (objects_after es) (Some d) d.mutex ≡ a.0 = ap (λ b. if b then changed (objects_after es d.mutex) d.thread d.operation d.reply else objects_after es d.mutex) here ∙ sym (does_changes (held_by d.thread (objects_after es) n) (objects_after es d.mutex) d.thread d.operation d.reply a.0 a.1) in
+        let becomes : moved (objects_after es) (Some d) d.mutex ≡ a.0 = ap (λ b. if b then stepped (objects_after es d.mutex) d.thread d.operation d.reply else objects_after es d.mutex) here ∙ sym (determined (held_by d.thread (objects_after es) n) (objects_after es d.mutex) d.thread d.operation d.reply a.0 a.1) in
         further n opening (objects_after es) (moved (objects_after es) (Some d)) (decisions (reverse es)) d h (i d refl)
         (subst (λ k. Does (held_by d.thread (objects_after es) n) (objects_after es d.mutex) d.thread d.operation d.reply k) (sym becomes) a.1)
-        (λ m other. let no : (m == d.mutex) ≡ false = grind (arith, nat_tests) in ap (λ b. if b then changed (objects_after es m) d.thread d.operation d.reply else objects_after es m) no)
+        (λ m other. let no : (m == d.mutex) ≡ false = grind (arith, nat_tests) in ap (λ b. if b then stepped (objects_after es m) d.thread d.operation d.reply else objects_after es m) no)
 
 -- ---- deaths
 
-moved_here : (os : ℕ → Object) (d : Decision) (m : ℕ) → m ≡ d.mutex → moved os (Some d) m ≡ changed (os d.mutex) d.thread d.operation d.reply
+moved_here : (os : ℕ → Object) (d : Decision) (m : ℕ) → m ≡ d.mutex → moved os (Some d) m ≡ stepped (os d.mutex) d.thread d.operation d.reply
 moved_here os d m same =
     let yes : (m == d.mutex) ≡ true = grind (arith, nat_tests) in
-    ap (λ b. if b then changed (os m) d.thread d.operation d.reply else os m) yes ∙ ap (λ k. changed (os k) d.thread d.operation d.reply) same
+    ap (λ b. if b then stepped (os m) d.thread d.operation d.reply else os m) yes ∙ ap (λ k. stepped (os k) d.thread d.operation d.reply) same
 
 moved_there : (os : ℕ → Object) (d : Decision) (m : ℕ) → m ≢ d.mutex → moved os (Some d) m ≡ os m
 moved_there os d m other =
     let no : (m == d.mutex) ≡ false = grind (arith, nat_tests) in
-    ap (λ b. if b then changed (os m) d.thread d.operation d.reply else os m) no
+    ap (λ b. if b then stepped (os m) d.thread d.operation d.reply else os m) no
 
 -- whether thread t owns the object
 abbrev owns : ℕ → Object → ℕ
@@ -98,7 +99,7 @@ others_step n t m os d a other = go (m == d.mutex) refl where
   go true is =
       let same : m ≡ d.mutex = grind (arith, nat_tests) in
       let held = held_by d.thread os n in
-      ap (owns t) (moved_here os d m same ∙ sym (does_changes held (os d.mutex) d.thread d.operation d.reply a.0 a.1))
+      ap (owns t) (moved_here os d m same ∙ sym (determined held (os d.mutex) d.thread d.operation d.reply a.0 a.1))
       ∙ ap one (others_own (os d.mutex) d.thread a.0 t other (does_owners held (os d.mutex) d.thread d.operation d.reply a.0 a.1)) ∙ ap (λ k. owns t (os k)) (sym same)
   go false is = ap (owns t) (moved_there os d m (grind (arith, nat_tests)))
 

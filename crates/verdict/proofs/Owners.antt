@@ -11,38 +11,13 @@ use Rattle.keys.specs.declared.object.Object.{Object}
 use Rattle.keys.specs.declared.point.Operation.{Operation}
 use Rattle.keys.specs.declared.point.Operation.TheVariants.{Lock, TryLock, Unlock, Consistent, Wait, Signal, Broadcast, Death}
 use Rattle.keys.specs.declared.point.Decision.{Decision}
-use Rattle.keys.specs.Objects.{Permits, Does, acquires, fresh}
+use Rattle.keys.specs.Objects.{Permits, Does, acquires, fresh, stepped}
+use Rattle.keys.proofs.Steps.{determined}
 use Rattle.keys.specs.Histories.{is_thread, held_by}
-use Rattle.verdict.specs.Earlier.{changed, moved}
+use Rattle.verdict.specs.Earlier.{moved}
 use Rattle.verdict.specs.Judges.{one, object_at, AreCounted}
 
--- ---- what a step leaves
-
-permits_changes : (o : Object) (t : ℕ) (op : Operation) (x : Reply) (n : Object) → Permits o t op x n → n ≡ changed o t op x
-permits_changes o t Lock OK n h = h.3
-permits_changes o t Lock EOWNERDEAD n h = h.3
-permits_changes o t Lock ENOTRECOVERABLE n h = h.1
-permits_changes o t Lock EDEADLK n h = h.1
-permits_changes o t TryLock OK n h = h.3
-permits_changes o t TryLock EOWNERDEAD n h = h.3
-permits_changes o t TryLock ENOTRECOVERABLE n h = h.1
-permits_changes o t TryLock EBUSY n h = h.1
-permits_changes o t TryLock XRACED n h = h.2
-permits_changes o t Unlock OK n h = h.1
-permits_changes o t Unlock EPERM n h = h.1
-permits_changes o t Consistent OK n h = h.2
-permits_changes o t Consistent EINVAL n h = h.2
-permits_changes o t Consistent EPERM n h = h.1
-permits_changes o t Wait XSTATE n h = h.2
-permits_changes o t Wait EPERM n h = h.1
-permits_changes o t Signal OK n h = h.1
-permits_changes o t Signal XFULL n h = h.1
-permits_changes o t Signal EPERM n h = h.1
-permits_changes o t Broadcast OK n h = h.1
-permits_changes o t Broadcast XFULL n h = h.1
-permits_changes o t Broadcast EPERM n h = h.1
-permits_changes o t Death OK n h = h.1
-permits_changes o t op x n h = absurd h
+-- ---- who owns it then
 
 -- the owner stays, or the thread takes it, or gives it up
 abbrev pub Owners : Object → ℕ → Object → Type 0
@@ -76,22 +51,6 @@ permits_owners o t Broadcast XFULL n h = kept o t n h.1
 permits_owners o t Broadcast EPERM n h = kept o t n h.1
 permits_owners o t Death OK n h = inr (inr (h.0, ap (λ (z : Object). z.owner) h.1))
 permits_owners o t op x n h = absurd h
-
--- a thread that holds as many as it may changes nothing by a lock or trylock
-refused_changes : (o : Object) (t : ℕ) (op : Operation) (x : Reply) (n : Object) → acquires op ≡ true → (x ≡ XHELD) × (n ≡ o) → n ≡ changed o t op x
-refused_changes o t Lock x n e h = h.1 ∙ ap (λ y. changed o t Lock y) (sym h.0)
-refused_changes o t TryLock x n e h = h.1 ∙ ap (λ y. changed o t TryLock y) (sym h.0)
-refused_changes o t op x n e h = absurd cc
-
-first : (a b : Bool) → (a && b) ≡ true → a ≡ true
-first true b e = refl
-first false b e = e
-
-pub does_changes : (held : ℕ) (o : Object) (t : ℕ) (op : Operation) (x : Reply) (n : Object) → Does held o t op x n → n ≡ changed o t op x
-does_changes held o t op x n h = by_cases (acquires op && nat_le 2048 held) refl h where
-  by_cases : (b : Bool) → (acquires op && nat_le 2048 held) ≡ b → MatchBool b ((x ≡ XHELD) × (n ≡ o)) (Permits o t op x n) → n ≡ changed o t op x
-  by_cases true e h = refused_changes o t op x n (first (acquires op) (nat_le 2048 held) e) h
-  by_cases false e h = permits_changes o t op x n h
 
 pub does_owners : (held : ℕ) (o : Object) (t : ℕ) (op : Operation) (x : Reply) (n : Object) → Does held o t op x n → Owners o t n
 does_owners held o t op x n h = by_cases (acquires op && nat_le 2048 held) h where
@@ -179,12 +138,12 @@ owns_itself t o e = let same : (t == t) ≡ true = grind (arith, nat_tests) in a
 
 -- ---- a step in the list of objects
 
-pub stepped : (xs : List Object) (d : Decision) (held : ℕ) (new : Object) → d.mutex < length xs → Does held (object_at xs d.mutex) d.thread d.operation d.reply new → object_at (slice_set xs d.mutex new) ≡ moved (object_at xs) (Some d)
-stepped xs d held new lt h = fun_ext (λ m. by_cases m (m == d.mutex) refl) where
-  by_cases : (m : ℕ) → (b : Bool) → (m == d.mutex) ≡ b → object_at (slice_set xs d.mutex new) m ≡ (if b then changed (object_at xs m) d.thread d.operation d.reply else object_at xs m)
+pub changed_list : (xs : List Object) (d : Decision) (held : ℕ) (new : Object) → d.mutex < length xs → Does held (object_at xs d.mutex) d.thread d.operation d.reply new → object_at (slice_set xs d.mutex new) ≡ moved (object_at xs) (Some d)
+changed_list xs d held new lt h = fun_ext (λ m. by_cases m (m == d.mutex) refl) where
+  by_cases : (m : ℕ) → (b : Bool) → (m == d.mutex) ≡ b → object_at (slice_set xs d.mutex new) m ≡ (if b then stepped (object_at xs m) d.thread d.operation d.reply else object_at xs m)
   by_cases m true e =
       let same : m ≡ d.mutex = grind (arith, nat_tests) in
-      ap (object_at (slice_set xs d.mutex new)) same ∙ get_or-set_same xs d.mutex new fresh lt ∙ does_changes held (object_at xs d.mutex) d.thread d.operation d.reply new h ∙ ap (λ j. changed (object_at xs j) d.thread d.operation d.reply) (sym same)
+      ap (object_at (slice_set xs d.mutex new)) same ∙ get_or-set_same xs d.mutex new fresh lt ∙ determined held (object_at xs d.mutex) d.thread d.operation d.reply new h ∙ ap (λ j. stepped (object_at xs j) d.thread d.operation d.reply) (sym same)
   by_cases m false e =
       let other : m ≢ d.mutex = grind (arith, nat_tests) in
       get_or-set_other xs d.mutex m new fresh other
@@ -233,7 +192,7 @@ pub read_number : (hs : List ℕ) (by t owned : ℕ) → by ≡ t → t < length
 read_number hs by t owned is lt e = get_or_read_under hs by (length hs) owned 0 e (omega arith) refl ∙ ap (slice_index hs) is
 
 pub step_moves : (xs : List Object) (d : Decision) (at held : ℕ) (old new : Object) → at ≡ d.mutex → d.mutex < length xs → old ≡ object_at xs d.mutex → Does held old d.thread d.operation d.reply new → object_at (slice_set xs at new) ≡ moved (object_at xs) (Some d)
-step_moves xs d at held old new is lt e h = ap (λ k. object_at (slice_set xs k new)) is ∙ stepped xs d held new lt (subst (λ o. Does held o d.thread d.operation d.reply new) e h)
+step_moves xs d at held old new is lt e h = ap (λ k. object_at (slice_set xs k new)) is ∙ changed_list xs d held new lt (subst (λ o. Does held o d.thread d.operation d.reply new) e h)
 
 pub step_counts : (hs : List ℕ) (xs : List Object) (d : Decision) (at by owned left : ℕ) (old new : Object) → at ≡ d.mutex → by ≡ d.thread → d.mutex < length xs → d.thread < length hs → old ≡ object_at xs d.mutex → owned ≡ slice_index hs d.thread
     → AreCounted hs xs → Does owned old d.thread d.operation d.reply new → left + one (is_thread d.thread old.owner) ≡ owned + one (is_thread d.thread new.owner) → AreCounted (slice_set hs by left) (slice_set xs at new)

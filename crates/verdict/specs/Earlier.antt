@@ -1,12 +1,8 @@
 -- What the lines before a line tell. They stand newest first.
 use Rattle.std.specs.Prelude.{ℕ, Bool, true, false, ◌==◌, Option, Some, None, List, [], ◌∷◌, ◌++◌, if◌then◌else◌}
-use Rattle.lockword.specs.declared.reply.Reply.{Reply}
-use Rattle.lockword.specs.declared.reply.Reply.TheVariants.{OK, EOWNERDEAD}
 use Rattle.keys.specs.declared.object.Object.{Object}
-use Rattle.keys.specs.declared.point.Operation.{Operation}
-use Rattle.keys.specs.declared.point.Operation.TheVariants as operation
 use Rattle.keys.specs.declared.point.Decision.{Decision}
-use Rattle.keys.specs.Objects.{owned_by, freed, declared_consistent, bereaved}
+use Rattle.keys.specs.Objects.{stepped}
 use Rattle.keys.specs.Histories.{opening}
 use Rattle.facts.specs.declared.fact.Begun.{Begun}
 use Rattle.facts.specs.declared.fact.Fact.{Fact}
@@ -57,21 +53,10 @@ is_reaped (f ∷ fs) = is_reaped fs
 
 -- ---- the mutexes
 
--- what an object becomes by a step that thread t's operation makes with this reply
-abbrev pub changed : Object → ℕ → Operation → Reply → Object
-changed o t operation.Lock OK = owned_by o t
-changed o t operation.Lock EOWNERDEAD = owned_by o t
-changed o t operation.TryLock OK = owned_by o t
-changed o t operation.TryLock EOWNERDEAD = owned_by o t
-changed o t operation.Unlock OK = freed o
-changed o t operation.Consistent OK = declared_consistent o
-changed o t operation.Death OK = bereaved o
-changed o t op x = o
-
 -- a step changes its own mutex
 abbrev pub moved : (ℕ → Object) → Option Decision → ℕ → Object
 moved os None m = os m
-moved os (Some d) m = if m == d.mutex then changed (os m) d.thread d.operation d.reply else os m
+moved os (Some d) m = if m == d.mutex then stepped (os m) d.thread d.operation d.reply else os m
 
 -- the objects as points and deaths left them
 abbrev pub objects_after : List Line → ℕ → Object
