@@ -60,15 +60,13 @@ impl Bucket {
         ensures made { IfOk result (λ b. IsEmptied b capacity) }
         ensures orderly { IfOk result IsOrderly }
     {
-        match Vec::with_capacity(alloc, capacity) {
-            Ok(rings) => Ok(Bucket {
-                capacity,
-                standing: 0,
-                rows: no_rows(),
-                rings,
-            }),
-            Err(_) => Err(NoMem),
-        }
+        let rings = Vec::with_capacity(alloc, capacity)?;
+        Ok(Bucket {
+            capacity,
+            standing: 0,
+            rows: no_rows(),
+            rings,
+        })
     }
 
     /// Puts the thread at the end of the key's queue.

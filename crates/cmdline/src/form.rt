@@ -99,9 +99,7 @@ fn found_in<'a>(matches: &ArgMatches<'a>) -> Option<Found<'a>>
 fn found_by_clap<'a>(alloc: Global, words: &'a [&'a str]) -> Result<Option<Found<'a>>, NoMem>
     ensures { IfOk result (λ found. (s : Said) → takes rfx (map (λ w. w.now) words.entry.now) ≡ true → IsSaid (subcommand_of rfx (map (λ w. w.now) words.entry.now)) s → option_map seen found ≡ Some s) }
 {
-    let Ok(command) = command(alloc) else {
-        return Err(NoMem);
-    };
+    let command = command(alloc)?;
     let kind = match command.try_get_matches_from(words) {
         Ok(matches) => return Ok(found_in(&matches)),
         Err(error) => error.kind(),

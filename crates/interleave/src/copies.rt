@@ -9,11 +9,7 @@ use std::alloc::Global;
 pub(crate) fn same_threads(alloc: Global, threads: &Vec<Thread>) -> Result<Vec<Thread>, NoMem>
     ensures { IfOk result (λ v. v.items ≡ threads.now.items) }
 {
-    let Ok(mut copy) = Vec::with_capacity(alloc, threads.len()) else {
-        return Err(NoMem);
-    };
-    match copy.extend_from_slice(threads) {
-        Ok(()) => Ok(copy),
-        Err(_) => Err(NoMem),
-    }
+    let mut copy = Vec::with_capacity(alloc, threads.len())?;
+    copy.extend_from_slice(threads)?;
+    Ok(copy)
 }

@@ -96,12 +96,8 @@ impl Machine {
         ensures goes_on { IfOk result (λ m. GoesOn (state_of m)) }
         ensures reaped { IfOk result (λ m. NoReapedOwns (state_of m)) }
     {
-        let Ok(words) = first_words(alloc, &layout) else {
-            return Err(NoMem);
-        };
-        let Ok(threads) = first_threads(alloc, &layout) else {
-            return Err(NoMem);
-        };
+        let words = first_words(alloc, &layout)?;
+        let threads = first_threads(alloc, &layout)?;
         let kernel = first_kernel(alloc, &layout)?;
         Ok(Machine {
             layout,
@@ -193,9 +189,7 @@ impl Machine {
         ensures deaths { IfOk result (λ t. AreMourned (state_of self.old) events.now) }
         ensures err { OnErr result (self.new ≡ self.old) }
     {
-        let Ok(mut notes) = Vec::with_capacity(alloc, events.len()) else {
-            return Err(NoMem);
-        };
+        let mut notes = Vec::with_capacity(alloc, events.len())?;
         self.reached();
         let _fresh = self.fresh();
         let layout = self.layout();
@@ -242,16 +236,10 @@ impl Machine {
     fn copied(&self, alloc: Global) -> Result<Machine, NoMem>
         ensures { IfOk result (λ m. m ≡ self.now) }
     {
-        let Ok(memory) = self.memory.clone() else {
-            return Err(NoMem);
-        };
-        let Ok(kernel) = self.kernel.clone() else {
-            return Err(NoMem);
-        };
         Ok(Machine {
             layout: self.layout.copy(),
-            memory,
-            kernel,
+            memory: self.memory.clone()?,
+            kernel: self.kernel.clone()?,
             threads: same_threads(alloc, &self.threads)?,
             fresh: self.fresh,
         })

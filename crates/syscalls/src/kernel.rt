@@ -61,9 +61,7 @@ fn empty_buckets(alloc: Global, capacity: usize) -> Result<Vec<Bucket>, NoMem>
     ensures emptied { IfOk result (λ v. All (λ b. IsEmptied b capacity) v.items) }
     ensures orderly { IfOk result (λ v. All IsOrderly v.items) }
 {
-    let Ok(mut buckets) = Vec::with_capacity(alloc, BUCKETS) else {
-        return Err(NoMem);
-    };
+    let mut buckets = Vec::with_capacity(alloc, BUCKETS)?;
     for _ in 0..BUCKETS {
         buckets.push_reserved(Bucket::new(alloc, capacity)?);
     }
@@ -155,17 +153,11 @@ impl Kernel {
         ensures buckets { IfOk result (λ k. length k.buckets ≡ 256) }
     {
         let buckets = empty_buckets(alloc, usize::from(threads))?;
-        let Ok(stood_in) = vec![in alloc; 0; usize::from(threads)] else {
-            return Err(NoMem);
-        };
-        let Ok(heads) = vec![in alloc; 0; usize::from(threads)] else {
-            return Err(NoMem);
-        };
         Ok(Kernel {
             threads,
             buckets,
-            stood_in,
-            heads,
+            stood_in: vec![in alloc; 0; usize::from(threads)]?,
+            heads: vec![in alloc; 0; usize::from(threads)]?,
         })
     }
 

@@ -36,10 +36,8 @@ impl PlainMemory {
     pub fn new(alloc: Global, count: usize) -> Result<PlainMemory, NoMem>
         ensures { IfOk result (λ m. m ≡ replicate count 0) }
     {
-        match vec![in alloc; 0; count] {
-            Ok(words) => Ok(PlainMemory { words }),
-            Err(_) => Err(NoMem),
-        }
+        let words = vec![in alloc; 0; count]?;
+        Ok(PlainMemory { words })
     }
 }
 
