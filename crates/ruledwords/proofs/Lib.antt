@@ -12,6 +12,7 @@ mod Standing
 mod Accesses
 mod Beginnings
 mod Looks
+mod Trims
 mod Freeing
 pub mod Fates
 mod Sections

@@ -17,7 +17,7 @@ use Rattle.ruledwords.proofs.Lists.{by_append, no_more}
 use Rattle.ruledwords.proofs.Moves.{St, card_or}
 
 -- what a card's thread finds
-found : {o : List ℕ} (k : Layout') (s : St) (h : Kept k o s) (c : Card) (m : ℕ) → m < k.mutexes → Fits k s.words h.histories c → Finds c (cell_place k m) (get_or s.words (cell_place k m) 0)
+pub found : {o : List ℕ} (k : Layout') (s : St) (h : Kept k o s) (c : Card) (m : ℕ) → m < k.mutexes → Fits k s.words h.histories c → Finds c (cell_place k m) (get_or s.words (cell_place k m) 0)
 found k s h c m low f =
     let p : ℕ = cell_place k m in
     let mine : List Point = at c.seen p in

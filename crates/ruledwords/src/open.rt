@@ -15,7 +15,7 @@ use std::marker::PhantomData;
 
 impl Words {
     /// Makes the words, with a value for each condition variable's counter in the order of their numbers, and a pass for each thread in the order of their ids. Each
-    /// list is empty, and nobody owns a mutex.
+    /// list is empty, and nobody owns a mutex. The bases of the layout's processes aren't looked at: words are named by their places.
     pub fn new(
         alloc: Global,
         layout: Layout,

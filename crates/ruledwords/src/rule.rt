@@ -23,7 +23,7 @@ impl Play<(), View> for Meet {
     ghost then = { met };
 }
 
-/// A load of a cell by which nothing is seen anew.
+/// A load of a cell, or a trim of it, by which nothing is seen anew.
 pub(crate) struct Look;
 
 impl Play<(), View> for Look {

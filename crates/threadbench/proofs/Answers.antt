@@ -2,24 +2,23 @@
 use Rattle.std.proofs.Common.{◌≡◌, ◌≢◌, ◌∙◌, ℕ, ◌+◌, ◌<◌, Bool, true, false, Option, Some, List, [], ◌∷◌, ◌++◌, length, take, get_or, refl, sym, subst}
 use Rattle.std.proofs.lemmas.List.{take_more}
 use Rattle.lockword.specs.declared.reply.Reply.{Reply}
-use Rattle.ruledwords.specs.declared.pass.Words.{Words}
+use Rattle.keys.specs.Layouts.{Layout'}
+use Rattle.ruledwords.specs.declared.card.Card.{Card}
 use Rattle.mutex.specs.declared.call.Call.{Call}
-use Rattle.ruledwords.specs.declared.pass.Pass.{Pass}
-use Rattle.ruledwords.specs.declared.pass.Live.{Live}
 use Rattle.threadbench.specs.Answered.{Replied, Answered}
 
 -- the calls so far and then one more
-pub answered_more : (w : Words) (a : Pass Live) (cs : List Call) (rs : List Reply) (p : Pass Live) (c : Call) (r : Reply) (b : Pass Live) → Answered w a cs rs p → Replied w p c r b → Answered w a (cs ++ c ∷ []) (rs ++ r ∷ []) b
-answered_more w a [] [] p c r b so_far one = (b, subst (λ (z : Pass Live). Replied w z c r b) (sym so_far) one, refl)
-answered_more w a [] (s ∷ rs) p c r b so_far one = absurd so_far
-answered_more w a (d ∷ cs) [] p c r b so_far one = absurd so_far
-answered_more w a (d ∷ cs) (s ∷ rs) p c r b so_far one = (so_far.0, so_far.1, answered_more w so_far.0 cs rs p c r b so_far.2 one)
+pub answered_more : (k : Layout') (a : Card) (cs : List Call) (rs : List Reply) (p : Card) (c : Call) (r : Reply) (b : Card) → Answered k a cs rs p → Replied k p c r b → Answered k a (cs ++ c ∷ []) (rs ++ r ∷ []) b
+answered_more k a [] [] p c r b so_far one = (b, subst (λ (z : Card). Replied k z c r b) (sym so_far) one, refl)
+answered_more k a [] (s ∷ rs) p c r b so_far one = absurd so_far
+answered_more k a (d ∷ cs) [] p c r b so_far one = absurd so_far
+answered_more k a (d ∷ cs) (s ∷ rs) p c r b so_far one = (so_far.0, so_far.1, answered_more k so_far.0 cs rs p c r b so_far.2 one)
 
 -- the calls up to one, and that one
-pub answered_next : (w : Words) (a : Pass Live) (calls : List Call) (i : ℕ) (d : Call) (rs rs' : List Reply) (p : Pass Live) (r : Reply) (b : Pass Live) → i < length calls → Answered w a (take i calls) rs p → Replied w p (get_or calls i d) r b → rs' ≡ rs ++ r ∷ []
-    → Answered w a (take (i + 1) calls) rs' b
-answered_next w a calls i d rs rs' p r b lt so_far one told =
-    subst (λ (cs : List Call). Answered w a cs rs' b) (sym (take_more calls i d lt)) (subst (λ (z : List Reply). Answered w a (take i calls ++ get_or calls i d ∷ []) z b) (sym told) (answered_more w a (take i calls) rs p (get_or calls i d) r b so_far one))
+pub answered_next : (k : Layout') (a : Card) (calls : List Call) (i : ℕ) (d : Call) (rs rs' : List Reply) (p : Card) (r : Reply) (b : Card) → i < length calls → Answered k a (take i calls) rs p → Replied k p (get_or calls i d) r b → rs' ≡ rs ++ r ∷ []
+    → Answered k a (take (i + 1) calls) rs' b
+answered_next k a calls i d rs rs' p r b lt so_far one told =
+    subst (λ (cs : List Call). Answered k a cs rs' b) (sym (take_more calls i d lt)) (subst (λ (z : List Reply). Answered k a (take i calls ++ get_or calls i d ∷ []) z b) (sym told) (answered_more k a (take i calls) rs p (get_or calls i d) r b so_far one))
 
 -- a gate that let a call through doesn't surely refuse it
 pub let_through : (says : ℕ → ℕ → Option Bool) (t u n k : ℕ) (answer : Bool) → ((b : Bool) → says t n ≡ Some b → answer ≡ b) → t ≡ u → n ≡ k → answer ≡ true → says u k ≢ Some false

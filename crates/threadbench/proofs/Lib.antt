@@ -1,5 +1,6 @@
 mod Each
 mod Hands
 mod Answers
+mod Sections
 mod Turning
 mod Beginnings

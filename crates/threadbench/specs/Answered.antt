@@ -1,29 +1,25 @@
 -- What a thread's calls answered, one after the other.
-use Rattle.std.specs.Prelude.{◌≡◌, List, [], ◌∷◌}
+use Rattle.std.specs.Prelude.{◌≡◌, ℕ, ◌+◌, ◌≤◌, List, [], ◌∷◌}
 use Rattle.lockword.specs.declared.reply.Reply.{Reply}
-use Rattle.keys.specs.Layouts.{cell_place}
+use Rattle.lockword.specs.declared.reply.Reply.TheVariants.{XRACED}
+use Rattle.keys.specs.Layouts.{Layout', cell_place}
 use Rattle.keys.specs.declared.point.Operation.TheVariants as operation
 use Rattle.mutex.specs.declared.call.Call.{Call}
 use Rattle.mutex.specs.declared.call.Call.TheVariants.{Lock, TryLock, Unlock, Consistent}
-use Rattle.ruledwords.specs.declared.pass.Pass.{Pass}
-use Rattle.ruledwords.specs.declared.pass.Live.{Live}
-use Rattle.ruledwords.specs.declared.outcome.Outcome.TheVariants.{Lives}
-use Rattle.ruledwords.specs.Outcomes.{Tried, Declared}
-use Rattle.ruledwords.specs.Passes.{card, layout_of, IsPassOf}
-use Rattle.ruledwords.specs.declared.pass.Words.{Words}
+use Rattle.ruledwords.specs.declared.card.Card.{Card}
+use Rattle.ruledwords.specs.Outcomes.{Takes}
 use Rattle.ruledwords.specs.Seen.{Called}
-use Rattle.threadbench.specs.Calls.{Locked}
 
--- a call of the thread whose pass is a replied so, and left the pass b: its point, if it has one, is the last that the pass has seen of the mutex
-abbrev pub Replied : Words → Pass Live → Call → Reply → Pass Live → Type 0
-Replied w a (Lock m) r b = Locked w m a (Lives b r)
-Replied w a (TryLock m) r b = Tried w m a (Lives b r)
-Replied w a (Unlock m) r b = IsPassOf w b × Called (card a) (cell_place (layout_of w) m) ((operation.Unlock, r) ∷ []) (card b)
-Replied w a (Consistent m) r b = Declared w m a (Lives b r)
+-- a call of the thread whose card is c replied so, and left the card d: its point, if it has one, is the last that the thread has seen of the mutex
+abbrev pub Replied : Layout' → Card → Call → Reply → Card → Type 0
+Replied k c (Lock m) r d = Takes k m operation.Lock c r d
+Replied k c (TryLock m) r d = Takes k m operation.TryLock c r d × (r ≡ XRACED → c.misses + 4 ≤ d.misses)
+Replied k c (Unlock m) r d = Called c (cell_place k m) ((operation.Unlock, r) ∷ []) d
+Replied k c (Consistent m) r d = Called c (cell_place k m) ((operation.Consistent, r) ∷ []) d
 
 -- so many calls, a reply each
-abbrev pub Answered : Words → Pass Live → List Call → List Reply → Pass Live → Type 0
-Answered w a [] [] b = a ≡ b
-Answered w a (c ∷ cs) (r ∷ rs) b = (p : Pass Live) × Replied w a c r p × Answered w p cs rs b
-Answered w a [] (r ∷ rs) b = ⊥
-Answered w a (c ∷ cs) [] b = ⊥
+abbrev pub Answered : Layout' → Card → List Call → List Reply → Card → Type 0
+Answered k c [] [] d = c ≡ d
+Answered k c (x ∷ xs) (r ∷ rs) d = (e : Card) × Replied k c x r e × Answered k e xs rs d
+Answered k c [] (r ∷ rs) d = ⊥
+Answered k c (x ∷ xs) [] d = ⊥

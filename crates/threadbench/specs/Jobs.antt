@@ -17,7 +17,7 @@ IsJobOf w j = IsPassOf w j.pass × All (λ c. mutex_of c < (layout_of w).mutexes
 pub record IsDone (w : Words) (says : ℕ → ℕ → Option Bool) (j : Job) (r : Record) : Type 0 where
   pub pass : IsPassOf w r.pass
   pub few : length r.replies.items ≤ length j.calls.items
-  pub answered : Answered w j.pass (take (length r.replies.items) j.calls.items) r.replies.items r.pass
+  pub answered : Answered (layout_of w) (card j.pass) (take (length r.replies.items) j.calls.items) r.replies.items (card r.pass)
   pub let_through : (i : ℕ) → i < length r.replies.items → says (card j.pass).thread (i + 1) ≢ Some false
   pub stopped : (length r.replies.items ≡ length j.calls.items) ⊎ (says (card j.pass).thread (length r.replies.items + 1) ≢ Some true)
 

@@ -19,25 +19,28 @@ use std::marker::Model;
 use std::sync::{Mutex, OnceLock, Wait};
 use std::thread::Threads;
 
-/// As many threads as a bench has at most.
-const THREADS: usize = 64;
+/// How many buckets a bench has. A word's key says in which of them its sleepers stand.
+pub(crate) const BUCKETS: usize = 256;
 
 /// The words of a layout's threads, and what their calls need to sleep and to wake.
 #[derive(Drop)]
 pub struct Bench {
     pub(crate) words: Words,
-    /// Who sleeps.
-    pub(crate) bucket: CachePadded<Mutex<Bucket>>,
+    /// Who sleeps. Each bucket has a lock of its own.
+    pub(crate) buckets: Vec<CachePadded<Mutex<Bucket>>>,
     /// Where each thread sleeps, in the order of their ids.
     pub(crate) parkers: Vec<Parker>,
 }
 
 impl Model for Bench {
+    ghost use Rattle.std.specs.Prelude.{◌≡◌, length};
     ghost use Rattle.ruledwords.specs.declared.pass.Words.{Words};
 
     ghost Value = { Words };
 
     ghost view = { λ b. b.words };
+
+    ghost invariant = { λ b. length b.buckets.items ≡ 256 };
 }
 
 impl Bench {
@@ -56,12 +59,12 @@ impl Bench {
         ensures cards { IfOk result (λ r. (i : ℕ) (p : _) → slice_get r.1.items i ≡ Some p → card p ≡ first_card layout (i + 1)) }
     {
         let parkers = parkers(alloc, layout.threads())?;
-        let bucket = CachePadded::new(Mutex::new(Bucket::new(alloc, THREADS)?));
+        let buckets = buckets(alloc, layout.threads())?;
         let (words, passes) = Words::new(alloc, layout, presets)?;
         Ok((
             Bench {
                 words,
-                bucket,
+                buckets,
                 parkers,
             },
             passes,
@@ -116,7 +119,7 @@ impl Bench {
     {
         let Bench {
             words,
-            bucket: _,
+            buckets: _,
             parkers: _,
         } = self;
         words.close(pass)
@@ -131,7 +134,7 @@ impl Bench {
     {
         let Bench {
             words,
-            bucket: _,
+            buckets: _,
             parkers: _,
         } = self;
         words.close_all(passes)
@@ -147,4 +150,20 @@ fn parkers(alloc: Global, threads: u8) -> Result<Vec<Parker>, NoMem> {
         push_in_room(&mut parkers, Parker::new());
     }
     Ok(parkers)
+}
+
+/// Buckets where nobody stands, each with room for so many threads.
+fn buckets(alloc: Global, threads: u8) -> Result<Vec<CachePadded<Mutex<Bucket>>>, NoMem>
+    requires first { 1 ≤ threads }
+    requires last { threads ≤ 64 }
+    ensures { IfOk result (λ v. length v.items ≡ 256) }
+{
+    let Ok(mut buckets) = Vec::with_capacity(alloc, BUCKETS) else {
+        return Err(NoMem);
+    };
+    for _ in 0..BUCKETS {
+        let bucket = Bucket::new(alloc, usize::from(threads))?;
+        push_in_room(&mut buckets, CachePadded::new(Mutex::new(bucket)));
+    }
+    Ok(buckets)
 }

@@ -37,7 +37,7 @@ fn answer<R: Wait>(rt: &R, bench: &Bench, pass: Pass<Live>, call: Call) -> (Pass
     requires pass { IsPassOf bench.now pass }
     requires mutex { mutex_of call < (layout_of bench.now).mutexes }
     ensures pass { IsPassOf bench.now result.0 }
-    ensures replied { Replied bench.now pass call result.1 result.0 }
+    ensures replied { Replied (layout_of bench.now) (card pass) call result.1 (card result.0) }
 {
     let outcome = match call {
         Call::Unlock(mutex) => return unlock(rt, bench, pass, mutex),

@@ -1,7 +1,8 @@
 //! Real threads at work on shared words.
 //!
-//! A [`Bench`] has the words of a layout, a futex hash bucket behind a lock, and a place to sleep for each thread. [`Bench::lock`] sleeps while another thread owns the mutex, and
-//! [`Bench::pay`] wakes those that a release has to wake. What they do under the bucket's lock is what the machine's kernel does there.
+//! A [`Bench`] has the words of a layout, 256 futex hash buckets, each behind a lock of its own, and a place to sleep for each thread. [`Bench::lock`] sleeps while another thread owns the mutex, and
+//! [`Bench::pay`] wakes those that a release has to wake, and trims the word where there is nobody. Under a bucket's lock they do what the machine's kernel does there, as far as `docs/PROVED.md` says it is proved.
+//! A layout's bases aren't looked at: running threads are of one process, and speak of words by their places.
 //!
 //! [`Bench::work`] runs one worker for each [`Job`] that has calls, all of them at once, and joins them: each makes its job's calls in
 //! their order, as far as a [`Gate`] lets it, and its [`Record`] has their replies. So a caller works a phase at a time. Workers begin once

@@ -1,20 +1,22 @@
 //! Calls that sleep, and those that wake.
 ghost use Rattle.std.specs.Prelude.{◌≡◌, ◌+◌, ◌<◌, ◌≤◌};
-ghost use Rattle.keys.specs.declared.access.Access.TheVariants.{Wait as AtWait};
+ghost use Rattle.keys.specs.declared.access.Access.TheVariants.{Wait as AtWait, Trim as AtTrim};
 ghost use Rattle.mutex.specs.Programs.{access_of};
 ghost use Rattle.ruledwords.specs.Outcomes.{IsOwedOf, stops_in};
 ghost use Rattle.ruledwords.specs.Passes.{layout_of, IsPassOf};
 ghost use Rattle.ruledwords.specs.Turns.{running_program, IsRunningOf, IsTurnOf, Keeps};
-ghost use Rattle.threadbench.specs.Calls.{Locked, Paid, StandsAtTrim, Untrimmed};
+ghost use Rattle.threadbench.specs.Calls.{Locked, Paid, StandsAtTrim, EndsAtTrim};
 
-use crate::bench::Bench;
+use crate::bench::{BUCKETS, Bench};
 use crate::parker::Parker;
-use crate::section::wait_in;
-use keys::{Access, Answer, Key, key_of};
+use crate::section::{trim_in, wait_in, wake_in};
+use buckets::Bucket;
+use crossbeam_utils::CachePadded;
+use keys::{Access, Answer, Key, bucket_of, key_of};
 use lockword::{Reply, Tid};
 use mutex::Call;
 use ruledwords::{Fate, Live, Outcome, Owed, Pass, Running, Turn};
-use std::sync::Wait;
+use std::sync::{Mutex, Wait};
 
 impl Bench {
     /// Takes a mutex, and sleeps while another thread owns it (pthread_mutex_lock). The reply is OK; EOWNERDEAD where its last owner died and nobody declared it consistent;
@@ -48,7 +50,8 @@ impl Bench {
         unreachable!()
     }
 
-    /// Ends an unlock: wakes whom it has to wake. The reply is OK. The fate is asked before each section, and the thread dies where it says so.
+    /// Ends an unlock: wakes whom it has to wake; and where it finds nobody to wake, a word that says nothing but WAITERS becomes 0. The reply is OK. The fate is asked before each section, and the
+    /// thread dies where it says so.
     pub fn pay<R: Wait, F: Fate>(&self, rt: &R, owed: Owed, fate: &mut F) -> Outcome
         requires { IsOwedOf self.now owed }
         ensures paid { Paid self.now owed result }
@@ -71,7 +74,13 @@ impl Bench {
                 if fate.stops() {
                     return Outcome::Dead(running.die());
                 }
-                untrimmed(running)
+                let Access::Trim { at } = running.next() else {
+                    unreachable!()
+                };
+                match self.trim(rt, running, key_of(at)) {
+                    Turn::Lives(pass, reply) => Outcome::Lives(pass, reply),
+                    Turn::Goes(_) => unreachable!(),
+                }
             }
         }
     }
@@ -88,8 +97,7 @@ impl Bench {
                 let woken = self.wake(rt, key_of(at), most);
                 running.answer(Answer::Count(woken))
             }
-            // No section is made for a trim yet: WAITERS stays.
-            Access::Trim { .. } => running.answer(Answer::Trimmed(false)),
+            Access::Trim { at } => self.trim(rt, running, key_of(at)),
             _ => running.access(&self.words),
         }
     }
@@ -102,26 +110,39 @@ impl Bench {
         ensures keeps { Keeps self.now running result }
     {
         let mut running = running;
-        let thread = running.thread();
-        let mut bucket = self.bucket.lock(rt);
-        let seen = running.load(&self.words);
-        let sleeps = wait_in(&mut bucket, thread, key, seen, expected);
+        let mut bucket = self.bucket(key).lock(rt);
+        let sleeps = wait_in(&mut bucket, &mut running, &self.words, key, expected);
         drop(bucket);
         if !sleeps {
             return running.answer(Answer::Again);
         }
-        self.sleep(rt, thread);
+        self.sleep(rt, running.thread(), key);
         running.answer(Answer::Woken)
     }
 
-    /// Sleeps until the thread stands in no queue.
-    fn sleep<R: Wait>(&self, rt: &R, thread: Tid) {
+    /// Makes the trim of an unlock that found nobody to wake.
+    fn trim<R: Wait>(&self, rt: &R, running: Running, key: Key) -> Turn
+        requires words { IsRunningOf self.now running }
+        requires trim { access_of (running_program running) ≡ AtTrim key.0 }
+        ensures words { IsTurnOf self.now result }
+        ensures keeps { Keeps self.now running result }
+        ensures ends { StandsAtTrim running → EndsAtTrim running result }
+    {
+        let mut running = running;
+        let bucket = self.bucket(key).lock(rt);
+        let cleared = trim_in(&bucket, &mut running, &self.words, key);
+        drop(bucket);
+        running.answer(Answer::Trimmed(cleared))
+    }
+
+    /// Sleeps until the thread stands no more in the bucket of the key on which it fell asleep.
+    fn sleep<R: Wait>(&self, rt: &R, thread: Tid, key: Key) {
         let Some(parker) = self.parker(thread) else {
             return;
         };
         for _ in rt.forever() {
             parker.park(rt);
-            if !self.bucket.lock(rt).stands(thread) {
+            if !self.bucket(key).lock(rt).stands(thread) {
                 return;
             }
         }
@@ -131,7 +152,7 @@ impl Bench {
     fn wake<R: Wait>(&self, rt: &R, key: Key, most: u32) -> u32
         ensures { result ≤ 64 }
     {
-        let woken = self.bucket.lock(rt).take(key, most);
+        let woken = wake_in(&mut self.bucket(key).lock(rt), key, most);
         let count = woken.len();
         for place in 0..count {
             if let Some(parker) = woken.get(place).and_then(|thread| self.parker(thread)) {
@@ -141,19 +162,13 @@ impl Bench {
         count as u32
     }
 
+    /// The bucket in which those stand who sleep on the key.
+    fn bucket(&self, key: Key) -> &CachePadded<Mutex<Bucket>> {
+        &self.buckets[bucket_of(key, BUCKETS)]
+    }
+
     /// Where the thread sleeps; None where it isn't one of the bench's.
     fn parker(&self, thread: Tid) -> Option<&Parker> {
         self.parkers.get(usize::from(thread.get()) - 1)
-    }
-}
-
-/// Ends an unlock that woke nobody. No section is made for its trim yet: WAITERS stays.
-fn untrimmed(running: Running) -> Outcome
-    requires { StandsAtTrim running }
-    ensures { Untrimmed running result }
-{
-    match running.answer(Answer::Trimmed(false)) {
-        Turn::Lives(pass, reply) => Outcome::Lives(pass, reply),
-        Turn::Goes(_) => unreachable!(),
     }
 }

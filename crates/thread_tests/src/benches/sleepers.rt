@@ -87,7 +87,6 @@ fn two_threads_sleep_for_each_other(rt: HostRuntime) -> Result<(), Fail> {
         { rounds(host, shared, second) },
     );
     assert!(rt; a.0 == ROUNDS && b.0 == ROUNDS);
-    let end = bench.close(a.1).cell(0);
-    assert!(rt; end == 0 || end == 0x8000_0000);
+    assert_eq!(rt; bench.close(a.1).cell(0), 0);
     Ok(())
 }

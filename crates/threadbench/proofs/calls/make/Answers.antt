@@ -1,7 +1,7 @@
 use Rattle.std.proofs.Common.{rules, ◌+◌, vec_len, arith}
 use mathlib.Core.Logic.{dite}
 use native.Mathlib.Decide.{ℕ_discrete}
-use Rattle.ruledwords.specs.Passes.{card}
+use Rattle.ruledwords.specs.Passes.{card, layout_of}
 use Rattle.threadbench.proofs.Answers.{answered_next, let_through}
 use Rattle.threadbench.proofs.calls.make.Goals as goal
 
@@ -13,7 +13,7 @@ loop-call-preserved g c =
     let counted = so_far.2 in
     let fits = so_far.3 in (
       c.answer-after.ensures.pass,
-      answered_next c.args.bench.now c.args.job.pass c.deref-call-items.result.now c.loop-call.call-index _ c.loop-call.replies.items c.push_in_room.new.list.items c.loop-call.pass c.answer-after.result.1 c.answer-after.result.0
+      answered_next (layout_of c.args.bench.now) (card c.args.job.pass) c.deref-call-items.result.now c.loop-call.call-index _ c.loop-call.replies.items c.push_in_room.new.list.items (card c.loop-call.pass) c.answer-after.result.1 (card c.answer-after.result.0)
           c.loop-call-test.true so_far.1 c.answer-after.ensures.replied c.push_in_room.ensures.items,
       omega (arith, len, counted),
       omega (arith, room, fits),

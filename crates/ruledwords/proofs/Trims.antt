@@ -1,0 +1,103 @@
+-- A trim of a cell keeps the rule, and nothing is seen anew by it.
+use Rattle.std.proofs.Common.{Bool, true, false, ◌≡◌, ◌≢◌, ℕ, ◌<◌, ◌==◌, List, [], ◌∷◌, length, get_or, set, refl, sym, ap, ◌∙◌, subst, arith, eqb-true, length-set, get_or-set_other, get_or-set_same}
+use mathlib.Core.Logic.{dite}
+use mathlib.Core.Option.{none}
+use native.Mathlib.Decide.{ℕ_discrete}
+use lib.Seq.{set-get_or}
+use prog.Atomic.{either}
+use Rattle.atomic_table.specs.Table.{step, keeps, Allows}
+use Rattle.atomic_table.proofs.Lists.{set_again}
+use Rattle.lockword.specs.Cells.{fields_of}
+use Rattle.keys.specs.Layouts.{Layout', cell_place, counter_place}
+use Rattle.keys.specs.Objects.{object_of}
+use Rattle.ruledwords.specs.declared.card.Card.{Card}
+use Rattle.ruledwords.specs.Cards.{at}
+use Rattle.ruledwords.specs.Seen.{Leaves}
+use Rattle.ruledwords.specs.Rules.{guard, owner_at, keeper, Fits, AllFit, Kept}
+use Rattle.ruledwords.specs.Looks.{Finds, looked}
+use Rattle.ruledwords.proofs.Keepers.{cell_keeper, keeper_same, other_cell, inside, owner_set, counter_no_cell}
+use Rattle.ruledwords.proofs.Moves.{St, says, card_or}
+use Rattle.ruledwords.proofs.Looks.{found}
+
+-- where WAITERS is all that the word of mutex m says
+module _ {o : List ℕ} (k : Layout') (s : St) (h : Kept k o s) (m : ℕ) (low : m < k.mutexes) (alone : get_or s.words (cell_place k m) 0 ≡ 0x8000_0000) where
+  abbrev p : ℕ
+  p = cell_place k m
+
+  abbrev ws' : List ℕ
+  ws' = set s.words p 0
+
+  within : p < length s.words
+  within = subst (λ (z : ℕ). p < z) (sym h.wide) (inside k m low)
+
+  cell_now : get_or ws' p 0 ≡ 0
+  cell_now = get_or-set_same s.words p 0 0 within
+
+  -- the mutex is as it was, and nobody's
+  same_object : says ws' p ≡ says s.words p
+  same_object = ap (λ (v : ℕ). object_of (fields_of v)) cell_now ∙ sym (ap (λ (v : ℕ). object_of (fields_of v)) alone)
+
+  owner_same : (l : ℕ) → owner_at k ws' l ≡ owner_at k s.words l
+  owner_same l = dite (ℕ_discrete l m)
+      (λ same. ap (owner_at k ws') same ∙ ap (λ (v : ℕ). (fields_of v).owner) cell_now ∙ sym (ap (λ (v : ℕ). (fields_of v).owner) alone) ∙ ap (owner_at k s.words) (sym same))
+      (λ other. owner_set k s.words m 0 l other)
+
+  keeper_stays : (q : ℕ) → keeper k ws' q ≡ keeper k s.words q
+  keeper_stays q = keeper_same k s.words ws' q (owner_same (guard k q))
+
+  fits_trimmed : (c : Card) → Fits k s.words h.histories c → Fits k ws' h.histories c
+  fits_trimmed c f = record {
+    thread = f.thread;
+    threads = f.threads;
+    begins = f.begins;
+    own = f.own;
+    values = λ q x e.
+        let was = f.values q x e in
+        let other : q ≢ p = λ here. let nobody : c.thread ≡ 0 = sym was.1 ∙ ap (keeper k s.words) here ∙ cell_keeper k s.words m low in let some = f.thread.0 in absurd (omega (arith, some, nobody)) in
+        (get_or-set_other s.words p q 0 0 other ∙ was.0, keeper_stays q ∙ was.1);
+    marks = λ l lower e own. dite (ℕ_discrete l m)
+        (λ same. let nobody : c.thread ≡ 0 = sym own ∙ ap (owner_at k ws') same ∙ ap (λ (v : ℕ). (fields_of v).owner) cell_now in let some = f.thread.0 in absurd (omega (arith, some, nobody)))
+        (λ other. ap (λ (v : ℕ). (fields_of v).waiters) (get_or-set_other s.words p (cell_place k l) 0 0 (other_cell k m l other)) ∙ f.marks l lower e (sym (owner_same l) ∙ own));
+  }
+
+  all_trimmed : (cs : List Card) → AllFit k s.words h.histories cs → AllFit k ws' h.histories cs
+  all_trimmed [] f = tt
+  all_trimmed (c ∷ cs) f = (fits_trimmed c f.0, all_trimmed cs f.1)
+
+  kept_trimmed : Kept k o record { words = ws'; homes = s.homes; views = s.views }
+  kept_trimmed = record {
+    layout = h.layout;
+    wide = length-set s.words p 0 ∙ h.wide;
+    histories = h.histories;
+    leaves = λ l lower. dite (ℕ_discrete l m)
+        (λ same. subst (λ (z : ℕ). Leaves k.threads (cell_place k z) (at h.histories (cell_place k z)) (says ws' (cell_place k z))) (sym same) (subst (Leaves k.threads p (at h.histories p)) (sym same_object) (h.leaves m low)))
+        (λ other. subst (λ (v : ℕ). Leaves k.threads (cell_place k l) (at h.histories (cell_place k l)) (object_of (fields_of v))) (sym (get_or-set_other s.words p (cell_place k l) 0 0 (other_cell k m l other))) (h.leaves l lower));
+    legal = h.legal;
+    narrow = λ l lower. dite (ℕ_discrete l m)
+        (λ same. ap (λ (z : ℕ). (fields_of (get_or ws' (cell_place k z) 0)).rest) same ∙ ap (λ (v : ℕ). (fields_of v).rest) cell_now)
+        (λ other. ap (λ (v : ℕ). (fields_of v).rest) (get_or-set_other s.words p (cell_place k l) 0 0 (other_cell k m l other)) ∙ h.narrow l lower);
+    counters = λ q lower. subst (λ (v : ℕ). v < 4294967296) (sym (get_or-set_other s.words p (counter_place k q) 0 0 (counter_no_cell k q m low))) (h.counters q lower);
+    unchanged = λ q lower. get_or-set_other s.words p (counter_place k q) 0 0 (counter_no_cell k q m low) ∙ h.unchanged q lower;
+    fits = λ j v e. all_trimmed v (h.fits j v e);
+    once = h.once;
+  }
+
+-- whatever the word is
+kept_trim : {o : List ℕ} (k : Layout') (s : St) (h : Kept k o s) (m : ℕ) → m < k.mutexes → (b : Bool) → (get_or s.words (cell_place k m) 0 == 0x8000_0000) ≡ b
+    → Kept k o record { words = set s.words (cell_place k m) (either b 0 (get_or s.words (cell_place k m) 0)); homes = s.homes; views = s.views }
+kept_trim k s h m low true is = kept_trimmed k s h m low (eqb-true (get_or s.words (cell_place k m) 0) 0x8000_0000 is)
+kept_trim {o} k s h m low false is = subst (λ (z : List ℕ). Kept k o record { words = z; homes = s.homes; views = s.views }) (sym (set-get_or s.words (cell_place k m) 0)) h
+
+-- an exchange from WAITERS alone to 0
+pub trims : {o : List ℕ} (k : Layout') (slots id : ℕ) (c : Card) (m : ℕ) → m < k.mutexes
+    → Allows (Kept k o) slots id (c ∷ [], []) (cell_place k m) (λ n. either (n == 0x8000_0000) 0 n) (looked (step slots (cell_place k m) 0x8000_0000 0 none) (c ∷ [], []))
+trims {o} k slots id c m low s h deep is small =
+    let p : ℕ = cell_place k m in
+    let n : ℕ = get_or s.words p 0 in
+    let f = (h.fits id (c ∷ []) is).0 in (
+      c ∷ [],
+      keeps,
+      tt,
+      subst (λ (z : List (List Card)). Kept k o record { words = set s.words p (either (n == 0x8000_0000) 0 n); homes = s.homes; views = z }) (sym (set_again s.views id (c ∷ []) is)) (kept_trim k s h m low (n == 0x8000_0000) refl),
+      λ d e. (e, subst (λ (z : Card). Finds z p n) (ap (card_or c) e) (found k s h c m low f)),
+    )
