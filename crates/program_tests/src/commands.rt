@@ -1,7 +1,7 @@
 //! The program from the words of its command line on: files that are there or not, words that aren't text, and what is told.
 
+use crate::faulty::{Fixed, is_printed_or_wants_memory};
 use crate::served::Answered;
-use crate::streams::{Fixed, is_printed_or_wants_memory};
 use report::{CANNOT_READ, OUT_OF_MEMORY, Opener, USAGE, run};
 use std::alloc::{AllocError, Global};
 use std::fs;

@@ -8,6 +8,8 @@ mod commands;
 #[cfg(test)]
 mod conditions;
 #[cfg(test)]
+mod faulty;
+#[cfg(test)]
 mod processes;
 #[cfg(test)]
 mod program;
@@ -15,8 +17,6 @@ mod program;
 mod rows;
 #[cfg(test)]
 mod served;
-#[cfg(test)]
-mod streams;
 #[cfg(test)]
 mod tables;
 #[cfg(test)]

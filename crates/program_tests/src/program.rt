@@ -1,7 +1,7 @@
 //! The program: command lines, readers, writers, and what is written of a script.
 
+use crate::faulty::{Fixed, Narrow, Stuck, is_printed_or_wants_memory, slow_reader};
 use crate::served::{Answered, served};
-use crate::streams::{Fixed, Narrow, Stuck, is_printed_or_wants_memory, slow_reader};
 use keys::NoMem;
 use report::{CANNOT_READ, CANNOT_WRITE, Form, OUT_OF_MEMORY, USAGE, form_of_words, serve};
 use std::alloc::{AllocError, Global};

@@ -1,7 +1,7 @@
 //! The texts of tables.
 
+use crate::faulty::{Fixed, Narrow, is_printed_or_wants_memory};
 use crate::served::table;
-use crate::streams::{Fixed, Narrow, is_printed_or_wants_memory};
 use report::{Form, serve};
 use std::sync::Wait;
 use std::thread::Threads;

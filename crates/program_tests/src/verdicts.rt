@@ -1,7 +1,7 @@
 //! What the program tells of traces.
 
+use crate::faulty::{Fixed, is_printed_or_wants_memory, slow_reader};
 use crate::served::{check, run, served};
-use crate::streams::{Fixed, is_printed_or_wants_memory, slow_reader};
 use report::{Form, OUT_OF_MEMORY, serve};
 use std::io::{Chain, Read, Repeat, Take, repeat};
 

@@ -2,7 +2,7 @@
 
 ghost use Rattle.std.specs.Prelude.{◌≤◌};
 
-use crate::streams::Narrow;
+use crate::faulty::Narrow;
 use buckets::Batch;
 use facts::Begun;
 use interleave::Trace;

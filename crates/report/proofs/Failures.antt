@@ -13,8 +13,8 @@ use Rattle.verdict.specs.Limits as traces
 use Rattle.verdict.specs.declared.checking.Verdict.TheVariants as verdict
 use Rattle.cmdline.specs.declared.form.Form.{Form}
 use Rattle.cmdline.specs.declared.form.Form.TheVariants as form
-use Rattle.texts.specs.Leaves.{AppendsFront, Leaves}
-use Rattle.texts.proofs.Writers.{Appends-kept, whole_is_front}
+use Rattle.streams.specs.Leaves.{AppendsFront, Leaves}
+use Rattle.streams.proofs.Writers.{Appends-kept, whole_is_front}
 use Rattle.report.specs.declared.messages.Failure.{Failure}
 use Rattle.report.specs.declared.messages.Failure.TheVariants.{Usage, CannotRead, CannotWrite, OutOfMemory, Script, Trace}
 use Rattle.report.specs.declared.threads.Answers.{Answers}

@@ -1,4 +1,3 @@
-pub mod Readers
 mod Names
 mod Phases
 mod Told

@@ -8,7 +8,9 @@ use Rattle.std.specs.List.{flat_map}
 use Rattle.mutex.specs.declared.call.Call.{Call}
 use Rattle.mutex.specs.Calls.{mutex_of}
 use Rattle.ruledwords.specs.declared.pass.Words.{Words}
-use Rattle.ruledwords.specs.Passes.{layout_of, IsPassOf}
+use Rattle.keys.specs.Layouts.{Layout'}
+use Rattle.ruledwords.specs.declared.card.Card.{Card}
+use Rattle.ruledwords.specs.Passes.{card, layout_of, IsPassOf}
 use Rattle.script.specs.declared.workload.Job.{Job as Ordered}
 use Rattle.threadbench.specs.Answered.{Answered}
 use Rattle.threadbench.specs.Each.{EachWith}
@@ -140,16 +142,16 @@ all_taken [] = refl
 all_taken (x ∷ xs) = ap (λ ys. x ∷ ys) (all_taken xs)
 
 -- behind it each call of a job is answered
-all_answered : (w : Words) (j : Job) (k : Record) → IsDone w open_gate j k → Answered w j.pass j.calls.items k.replies.items k.pass
+all_answered : (w : Words) (j : Job) (k : Record) → IsDone w open_gate j k → Answered (layout_of w) (card j.pass) j.calls.items k.replies.items (card k.pass)
 all_answered w j k done = ⊎_elim
     (λ (same : length k.replies.items ≡ length j.calls.items).
-    subst (λ (cs : List Call). Answered w j.pass cs k.replies.items k.pass) (ap (λ (n : ℕ). take n j.calls.items) same ∙ all_taken j.calls.items) done.answered)
+    subst (λ (cs : List Call). Answered (layout_of w) (card j.pass) cs k.replies.items (card k.pass)) (ap (λ (n : ℕ). take n j.calls.items) same ∙ all_taken j.calls.items) done.answered)
     (λ (stopped : open_gate 0 0 ≢ Some true). absurd (stopped refl))
     done.stopped
 
 -- a thread in a phase
 worked_at : (w : Words) (p : Phase) (bs bs' : List (Pass Live)) (js : List Job) (ks : List Record) (rs rs' : List (Vec Reply Global)) → AreHired p bs js → AreDone w open_gate js ks → AreGathered ks bs' rs rs' → (i : ℕ) (a b : Pass Live) (r r' : Vec Reply Global) → slice_get bs i ≡ Some a → slice_get bs' i ≡ Some b → slice_get rs i ≡ Some r → slice_get rs' i ≡ Some r'
-    → IsPassOf w b × ((more : List Reply) × (r'.items ≡ r.items ++ more) × Answered w a (calls_in (i + 1) p) more b)
+    → IsPassOf w b × ((more : List Reply) × (r'.items ≡ r.items ++ more) × Answered (layout_of w) (card a) (calls_in (i + 1) p) more (card b))
 worked_at w p bs bs' js ks rs rs' hired done gathered i a b r r' is_a is_b is_r is_r' =
     let low : i < length bs = slice_get_within bs i a is_a in
     let many = hired.as_many in
@@ -163,8 +165,8 @@ worked_at w p bs bs' js ks rs rs' hired done gathered i a b r r' is_a is_b is_r 
       (
         k.0.replies.items,
         left.1,
-        subst (λ (z : Pass Live). Answered w a (calls_in (i + 1) p) k.0.replies.items z) (sym left.0)
-            (subst (λ (cs : List Call). Answered w a cs k.0.replies.items k.0.pass) its.1 (subst (λ (z : Pass Live). Answered w z j.0.calls.items k.0.replies.items k.0.pass) its.0 (all_answered w j.0 k.0 did))),
+        subst (λ (z : Pass Live). Answered (layout_of w) (card a) (calls_in (i + 1) p) k.0.replies.items (card z)) (sym left.0)
+            (subst (λ (cs : List Call). Answered (layout_of w) (card a) cs k.0.replies.items (card k.0.pass)) its.1 (subst (λ (z : Pass Live). Answered (layout_of w) (card z) j.0.calls.items k.0.replies.items (card k.0.pass)) its.0 (all_answered w j.0 k.0 did))),
       ),
     )
 
@@ -189,11 +191,11 @@ worked w p bs bs' js ks rs rs' hired done gathered same = record {
       (worked_at w p bs bs' js ks rs rs' hired done gathered i a.0 (get_or bs' i d) r.0 r'.0 a.1 (slice_get-get_or bs' i d lt) r.1 r'.1).0
 
 -- some calls, and then others
-answered_on : (w : Words) (a : Pass Live) (cs : List Call) (rs : List Reply) (p : Pass Live) (cs' : List Call) (rs' : List Reply) (b : Pass Live) → Answered w a cs rs p → Answered w p cs' rs' b → Answered w a (cs ++ cs') (rs ++ rs') b
-answered_on w a [] [] p cs' rs' b first then' = subst (λ (z : Pass Live). Answered w z cs' rs' b) (sym first) then'
-answered_on w a [] (r ∷ rs) p cs' rs' b first then' = absurd first
-answered_on w a (c ∷ cs) [] p cs' rs' b first then' = absurd first
-answered_on w a (c ∷ cs) (r ∷ rs) p cs' rs' b first then' = (first.0, first.1, answered_on w first.0 cs rs p cs' rs' b first.2 then')
+answered_on : (k : Layout') (a : Card) (cs : List Call) (rs : List Reply) (p : Card) (cs' : List Call) (rs' : List Reply) (b : Card) → Answered k a cs rs p → Answered k p cs' rs' b → Answered k a (cs ++ cs') (rs ++ rs') b
+answered_on k a [] [] p cs' rs' b first then' = subst (λ (z : Card). Answered k z cs' rs' b) (sym first) then'
+answered_on k a [] (r ∷ rs) p cs' rs' b first then' = absurd first
+answered_on k a (c ∷ cs) [] p cs' rs' b first then' = absurd first
+answered_on k a (c ∷ cs) (r ∷ rs) p cs' rs' b first then' = (first.0, first.1, answered_on k first.0 cs rs p cs' rs' b first.2 then')
 
 over_more : (t : ℕ) (ps : List Phase) (p : Phase) → calls_over t (ps ++ p ∷ []) ≡ calls_over t ps ++ calls_in t p
 over_more t ps p = flat_map-append (calls_in t) ps (p ∷ []) ∙ ap (λ (cs : List Call). calls_over t ps ++ cs) (append-nil (calls_in t p))
@@ -204,14 +206,14 @@ none_made w firsts rs right same empty = record {
   as_many = refl;
   as_long = same;
   right = right;
-  each = λ i a b r is_a is_b is_r. let one : a ≡ b = same_Some a b (sym is_a ∙ is_b) in subst (λ (xs : List Reply). Answered w a [] xs b) (sym (all_at (λ x. x.items ≡ []) rs i r empty is_r)) one;
+  each = λ i a b r is_a is_b is_r. let one : a ≡ b = same_Some a b (sym is_a ∙ is_b) in subst (λ (xs : List Reply). Answered (layout_of w) (card a) [] xs (card b)) (sym (all_at (λ x. x.items ≡ []) rs i r empty is_r)) (ap (λ (z : Pass Live). card z) one);
 }
 
 -- a thread's calls in some phases, and then in one more
-answered_phase : (w : Words) (a b : Pass Live) (t : ℕ) (ps : List Phase) (p : Phase) (q : Pass Live) (rs more rs' : List Reply) → Answered w a (calls_over t ps) rs q → rs' ≡ rs ++ more → Answered w q (calls_in t p) more b → Answered w a (calls_over t (ps ++ p ∷ [])) rs' b
-answered_phase w a b t ps p q rs more rs' so_far grown one =
-    subst (λ (cs : List Call). Answered w a cs rs' b) (sym (over_more t ps p))
-    (subst (λ (xs : List Reply). Answered w a (calls_over t ps ++ calls_in t p) xs b) (sym grown) (answered_on w a (calls_over t ps) rs q (calls_in t p) more b so_far one))
+answered_phase : (k : Layout') (a b : Card) (t : ℕ) (ps : List Phase) (p : Phase) (q : Card) (rs more rs' : List Reply) → Answered k a (calls_over t ps) rs q → rs' ≡ rs ++ more → Answered k q (calls_in t p) more b → Answered k a (calls_over t (ps ++ p ∷ [])) rs' b
+answered_phase k a b t ps p q rs more rs' so_far grown one =
+    subst (λ (cs : List Call). Answered k a cs rs' b) (sym (over_more t ps p))
+    (subst (λ (xs : List Reply). Answered k a (calls_over t ps ++ calls_in t p) xs b) (sym grown) (answered_on k a (calls_over t ps) rs q (calls_in t p) more b so_far one))
 
 more_made : (w : Words) (ps : List Phase) (p : Phase) (firsts bs bs' : List (Pass Live)) (rs rs' : List (Vec Reply Global)) → HaveMade w ps firsts bs rs → HaveWorked w p bs bs' rs rs' → HaveMade w (ps ++ p ∷ []) firsts bs' rs'
 more_made w ps p firsts bs bs' rs rs' made worked = record {
@@ -220,7 +222,7 @@ more_made w ps p firsts bs bs' rs rs' made worked = record {
   right = worked.right;
   each = each;
 } where
-  each : (i : ℕ) (a b : Pass Live) (r' : Vec Reply Global) → slice_get firsts i ≡ Some a → slice_get bs' i ≡ Some b → slice_get rs' i ≡ Some r' → Answered w a (calls_over (i + 1) (ps ++ p ∷ [])) r'.items b
+  each : (i : ℕ) (a b : Pass Live) (r' : Vec Reply Global) → slice_get firsts i ≡ Some a → slice_get bs' i ≡ Some b → slice_get rs' i ≡ Some r' → Answered (layout_of w) (card a) (calls_over (i + 1) (ps ++ p ∷ [])) r'.items (card b)
   each i a b r' is_a is_b is_r' =
       let low : i < length firsts = slice_get_within firsts i a is_a in
       let many = made.as_many in
@@ -228,7 +230,7 @@ more_made w ps p firsts bs bs' rs rs' made worked = record {
       let q = some_at bs i (omega arith) in
       let r = some_at rs i (omega arith) in
       let more = worked.each i q.0 b r.0 r' q.1 is_b r.1 is_r' in
-      answered_phase w a b (i + 1) ps p q.0 r.0.items more.0 r'.items (made.each i a q.0 r.0 is_a q.1 r.1) more.1 more.2
+      answered_phase (layout_of w) (card a) (card b) (i + 1) ps p (card q.0) r.0.items more.0 r'.items (made.each i a q.0 r.0 is_a q.1 r.1) more.1 more.2
 
 -- one phase more
 pub made_next : (w : Words) (ps : List Phase) (i : ℕ) (p : Phase) (firsts bs bs' : List (Pass Live)) (rs rs' : List (Vec Reply Global)) → i < length ps → p ≡ get_or ps i p → HaveMade w (take i ps) firsts bs rs → HaveWorked w p bs bs' rs rs' → HaveMade w (take (i + 1) ps) firsts bs' rs'
@@ -245,7 +247,7 @@ made_still w ps i p firsts bs rs lt at made none = record {
   as_many = made.as_many;
   as_long = made.as_long;
   right = made.right;
-  each = λ t a b r is_a is_b is_r. subst (λ (cs : List Call). Answered w a cs r.items b) (same (t + 1)) (made.each t a b r is_a is_b is_r);
+  each = λ t a b r is_a is_b is_r. subst (λ (cs : List Call). Answered (layout_of w) (card a) cs r.items (card b)) (same (t + 1)) (made.each t a b r is_a is_b is_r);
 } where
   same : (t : ℕ) → calls_over t (take i ps) ≡ calls_over t (take (i + 1) ps)
   same t =
@@ -258,11 +260,11 @@ pub if_ok : {T E : Type 0} (P Q : T → Type 0) (r : Result T E) → IfOk r P �
 if_ok P Q (Ok x) is go = go x is
 if_ok P Q (Err e) is go = is
 
-as_many_replies : (w : Words) (a : Pass Live) (cs : List Call) (rs : List Reply) (b : Pass Live) → Answered w a cs rs b → length rs ≡ length cs
-as_many_replies w a [] [] b is = refl
-as_many_replies w a [] (r ∷ rs) b is = absurd is
-as_many_replies w a (c ∷ cs) [] b is = absurd is
-as_many_replies w a (c ∷ cs) (r ∷ rs) b is = ap suc (as_many_replies w is.0 cs rs b is.2)
+as_many_replies : (k : Layout') (a : Card) (cs : List Call) (rs : List Reply) (b : Card) → Answered k a cs rs b → length rs ≡ length cs
+as_many_replies k a [] [] b is = refl
+as_many_replies k a [] (r ∷ rs) b is = absurd is
+as_many_replies k a (c ∷ cs) [] b is = absurd is
+as_many_replies k a (c ∷ cs) (r ∷ rs) b is = ap suc (as_many_replies k is.0 cs rs b is.2)
 
 -- calls that were made have their replies
 pub have_replies : (w : Words) (ps : List Phase) (firsts bs : List (Pass Live)) (rs : List (Vec Reply Global)) → HaveMade w ps firsts bs rs → HaveReplies ps rs
@@ -272,4 +274,4 @@ have_replies w ps firsts bs rs made i r is_r =
     let long = made.as_long in
     let a = some_at firsts i (omega arith) in
     let b = some_at bs i (omega arith) in
-    as_many_replies w a.0 (calls_over (i + 1) ps) r.items b.0 (made.each i a.0 b.0 r a.1 b.1 is_r)
+    as_many_replies (layout_of w) (card a.0) (calls_over (i + 1) ps) r.items (card b.0) (made.each i a.0 b.0 r a.1 b.1 is_r)

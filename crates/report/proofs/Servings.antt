@@ -18,7 +18,7 @@ use Rattle.script.specs.Played.{IsPlayed}
 use Rattle.script.proofs.Layouts.{run_layout}
 use Rattle.report.specs.declared.threads.Answers.{Answers}
 use Rattle.texts.specs.Replies.{replies_text}
-use Rattle.texts.specs.Leaves.{AppendsFront}
+use Rattle.streams.specs.Leaves.{AppendsFront}
 use Rattle.texts.specs.Text.{head_line, line_text, end_line, trace_text}
 use Rattle.texts.specs.Tables.{table_text}
 use Rattle.report.specs.Served.{Report, trace, table, replies, mode_of, meaning, meant_table, RunsLegally, IsFoundLegal, Means, Answer, Tells, TellsFront, Written, WrittenFront}

@@ -50,11 +50,11 @@ either_adds : (b : Bool) (c d : Card) (place p : ℕ) (op : Operation) (r : Repl
 either_adds true c d place p op r P takes calls m = held_adds c d place p op r takes m.0 m.1
 either_adds false c d place p op r P takes calls m = called_adds c d place p op r (calls m)
 
-replied_adds : (w : Words) (a : Pass Live) (call : Call) (r : Reply) (b : Pass Live) (p : ℕ) → Replied w a call r b → Adds (card a) (cell_place (layout_of w) (mutex_of call)) p (operation_of call) r (card b)
-replied_adds w a (Lock m) r b p t = either_adds (nat_le 2048 (held (card a))) (card a) (card b) (cell_place (layout_of w) m) p _ r _ refl (λ c. c) t.1
-replied_adds w a (TryLock m) r b p t = either_adds (nat_le 2048 (held (card a))) (card a) (card b) (cell_place (layout_of w) m) p _ r _ refl (λ c. c) t.1
-replied_adds w a (Unlock m) r b p t = called_adds (card a) (card b) (cell_place (layout_of w) m) p _ r t.1
-replied_adds w a (Consistent m) r b p t = called_adds (card a) (card b) (cell_place (layout_of w) m) p _ r t.1
+replied_adds : (k : Layout') (a : Card) (call : Call) (r : Reply) (b : Card) (p : ℕ) → Replied k a call r b → Adds a (cell_place k (mutex_of call)) p (operation_of call) r b
+replied_adds k a (Lock m) r b p t = either_adds (nat_le 2048 (held a)) a b (cell_place k m) p _ r _ refl (λ c. c) t
+replied_adds k a (TryLock m) r b p t = either_adds (nat_le 2048 (held a)) a b (cell_place k m) p _ r _ refl (λ c. c) t.0
+replied_adds k a (Unlock m) r b p t = called_adds a b (cell_place k m) p _ r t
+replied_adds k a (Consistent m) r b p t = called_adds a b (cell_place k m) p _ r t
 
 -- what calls add
 abbrev pub HaveAdded : ℕ → Layout' → ℕ → List Call → List Reply → Card → Card → Type 0
@@ -78,16 +78,13 @@ first_added t k m call cs r rs c d e mine adds rest =
           adds.1,
     )
 
-pub added : (w : Words) (t m : ℕ) (a : Pass Live) (cs : List Call) (rs : List Reply) (b : Pass Live) → (card a).thread ≡ t → Answered w a cs rs b → HaveAdded t (layout_of w) m cs rs (card a) (card b)
-added w t m a [] [] b mine same = (
-  ap (λ (z : Pass Live). (card z).thread) (sym same) ∙ mine,
-  ([], ap (λ (z : Pass Live). by t (at (card z).seen (cell_place (layout_of w) m))) (sym same) ∙ sym (append-nil _), refl),
-)
-added w t m a [] (r ∷ rs) b mine answered = absurd answered
-added w t m a (c ∷ cs) [] b mine answered = absurd answered
-added w t m a (c ∷ cs) (r ∷ rs) b mine answered =
-    let adds = replied_adds w a c r answered.0 (cell_place (layout_of w) m) answered.1 in
-    first_added t (layout_of w) m c cs r rs (card a) (card answered.0) (card b) mine adds (added w t m answered.0 cs rs b (adds.0 ∙ mine) answered.2)
+pub added : (k : Layout') (t m : ℕ) (a : Card) (cs : List Call) (rs : List Reply) (b : Card) → a.thread ≡ t → Answered k a cs rs b → HaveAdded t k m cs rs a b
+added k t m a [] [] b mine same = (ap (λ (z : Card). z.thread) (sym same) ∙ mine, ([], ap (λ (z : Card). by t (at z.seen (cell_place k m))) (sym same) ∙ sym (append-nil _), refl))
+added k t m a [] (r ∷ rs) b mine answered = absurd answered
+added k t m a (c ∷ cs) [] b mine answered = absurd answered
+added k t m a (c ∷ cs) (r ∷ rs) b mine answered =
+    let adds = replied_adds k a c r answered.0 (cell_place k m) answered.1 in
+    first_added t k m c cs r rs a answered.0 b mine adds (added k t m answered.0 cs rs b (adds.0 ∙ mine) answered.2)
 
 mapped_at : {A B : Type 0} (f : A → B) (xs : List A) (i : ℕ) (x : A) → slice_get xs i ≡ Some x → slice_get (map f xs) i ≡ Some (f x)
 mapped_at f [] i x is = absurd (cc is)
@@ -117,7 +114,7 @@ together w ps firsts passes replies cells k cards made ended = record {
       let b = some_at passes i (omega arith) in
       let first = cards i a.0 a.1 in
       let own = all_at (IsAmong js) (map (λ (z : Pass Live). card z) passes) i (card b.0) ended.ends.among (mapped_at (λ (z : Pass Live). card z) passes i b.0 b.1) in
-      let did = added w (i + 1) m a.0 (calls_over (i + 1) ps) r.items b.0 (ap (λ (c : Card). c.thread) first) (made.each i a.0 b.0 r a.1 b.1 is) in
+      let did = added (layout_of w) (i + 1) m (card a.0) (calls_over (i + 1) ps) r.items (card b.0) (ap (λ (c : Card). c.thread) first) (made.each i a.0 b.0 r a.1 b.1 is) in
       let none : by (i + 1) (at (card a.0).seen p) ≡ [] = ap (λ (c : Card). by (i + 1) (at c.seen p)) first in
       let points : by (i + 1) (at js p) ≡ did.1.0 =
       subst (λ (t : ℕ). by t (at js p) ≡ by t (at (card b.0).seen p)) did.0 (own.own p) ∙ did.1.1 ∙ ap (λ (l : List Point). l ++ did.1.0) none

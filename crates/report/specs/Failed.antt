@@ -11,13 +11,13 @@ use Rattle.script.specs.Scope.{Scope}
 use Rattle.verdict.specs.Limits as traces
 use Rattle.verdict.specs.Reading.{trace_read}
 use Rattle.verdict.specs.Verdicts.{Answers}
-use Rattle.texts.specs.Leaves.{AppendsFront}
+use Rattle.streams.specs.Leaves.{AppendsFront}
 use Rattle.cmdline.specs.declared.form.Form.{Form}
 use Rattle.cmdline.specs.declared.form.Form.TheVariants as form
 use Rattle.report.specs.declared.messages.Failure.{Failure}
 use Rattle.report.specs.declared.messages.Failure.TheVariants.{Usage, CannotRead, CannotWrite, OutOfMemory, Script, Trace}
-use Rattle.report.specs.declared.reading.ReadFault.{ReadFault}
-use Rattle.report.specs.declared.reading.ReadFault.TheVariants as read
+use Rattle.streams.specs.declared.reading.ReadFault.{ReadFault}
+use Rattle.streams.specs.declared.reading.ReadFault.TheVariants as read
 use Rattle.report.specs.declared.threads.Answers.{Answers as Replies}
 use Rattle.report.specs.Messages.{failure_text, failure_status}
 use Rattle.report.specs.Served.{Report, trace, table, replies, mode_of, Served, TellsFront, WrittenFront}

@@ -6,7 +6,7 @@ use Rattle.std.specs.declared.io.ErrorKind.{ErrorKind}
 use Rattle.std.specs.declared.io.ErrorKind.TheVariants as kind
 use Rattle.cmdline.specs.declared.form.Form.{Form}
 use Rattle.cmdline.specs.Forms.{Asked, run, table, threads, check, usage, asked_of, asked_by}
-use Rattle.texts.specs.Leaves.{AppendsFront}
+use Rattle.streams.specs.Leaves.{AppendsFront}
 use Rattle.report.specs.declared.messages.Failure.{Failure}
 use Rattle.report.specs.declared.messages.Failure.TheVariants.{CannotRead, OutOfMemory}
 use Rattle.report.specs.Messages.{failure_text, failure_status}

@@ -19,7 +19,7 @@ use Rattle.script.specs.Jobs.{jobs_seen, jobs_of}
 use Rattle.report.specs.declared.threads.Answers.{Answers}
 use Rattle.report.specs.Threads.{HaveAnswered}
 use Rattle.texts.specs.Replies.{replies_text}
-use Rattle.texts.specs.Leaves.{AppendsFront}
+use Rattle.streams.specs.Leaves.{AppendsFront}
 use Rattle.texts.specs.Tables.{table_text}
 use Rattle.report.specs.Verdicts.{Checked, CheckedFront}
 use Rattle.runs_judged.specs.Judged.{run_text, script_head, IsJudgedLegal}
@@ -115,15 +115,6 @@ ServedFrontAs (form.Table file) had left old new = ServedFront table had left ol
 ServedFrontAs (form.Threads file) had left old new = ServedFront replies had left old new
 ServedFrontAs (form.Check file) had left old new = CheckedFront had left old new
 ServedFrontAs form.Usage had left old new = new ≡ old
-
--- how many bytes memory is asked for at a time while a file is read: as many as a reader with a buffer keeps. So what is asked for
--- grows with the file, and a short one needs no room for the longest
-abbrev pub part_bytes : ℕ
-part_bytes = 8192
-
--- at most so many bytes were taken from the reader
-abbrev pub TakesAtMost : ℕ → Option (List ℕ) → Option (List ℕ) → Type 0
-TakesAtMost limit had left = (bytes : List ℕ) × Consumes had left bytes × (length bytes ≤ limit)
 
 -- how many bytes a form takes at most: of a script or a trace one more than it may have, which tells that it is too long
 abbrev pub bytes_at_most : Form → ℕ

@@ -56,14 +56,14 @@ pub record HaveWorked (w : Words) (p : Phase) (passes after : List (Pass Live)) 
   pub as_many : length after ≡ length passes
   pub as_long : length replies' ≡ length replies
   pub right : All (λ b. IsPassOf w b) after
-  pub each : (i : ℕ) (a b : Pass Live) (r r' : Vec Reply Global) → slice_get passes i ≡ Some a → slice_get after i ≡ Some b → slice_get replies i ≡ Some r → slice_get replies' i ≡ Some r' → (more : List Reply) × (r'.items ≡ r.items ++ more) × Answered w a (calls_in (i + 1) p) more b
+  pub each : (i : ℕ) (a b : Pass Live) (r r' : Vec Reply Global) → slice_get passes i ≡ Some a → slice_get after i ≡ Some b → slice_get replies i ≡ Some r → slice_get replies' i ≡ Some r' → (more : List Reply) × (r'.items ≡ r.items ++ more) × Answered (layout_of w) (card a) (calls_in (i + 1) p) more (card b)
 
 -- from their first passes on, the threads made their calls in these phases, and were answered so
 pub record HaveMade (w : Words) (ps : List Phase) (firsts passes : List (Pass Live)) (replies : List (Vec Reply Global)) : Type 0 where
   pub as_many : length passes ≡ length firsts
   pub as_long : length replies ≡ length firsts
   pub right : All (λ b. IsPassOf w b) passes
-  pub each : (i : ℕ) (a b : Pass Live) (r : Vec Reply Global) → slice_get firsts i ≡ Some a → slice_get passes i ≡ Some b → slice_get replies i ≡ Some r → Answered w a (calls_over (i + 1) ps) r.items b
+  pub each : (i : ℕ) (a b : Pass Live) (r : Vec Reply Global) → slice_get firsts i ≡ Some a → slice_get passes i ≡ Some b → slice_get replies i ≡ Some r → Answered (layout_of w) (card a) (calls_over (i + 1) ps) r.items (card b)
 
 -- the words of all cells, that of mutex 0 first
 pub record AreCells (l : Last) (cells : List ℕ) : Type 0 where

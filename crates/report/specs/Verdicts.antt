@@ -6,7 +6,7 @@ use Rattle.verdict.specs.declared.checking.Verdict.{Verdict}
 use Rattle.verdict.specs.declared.checking.Verdict.TheVariants.{Legal, Illegal}
 use Rattle.verdict.specs.Reading.{Trace, trace_read}
 use Rattle.verdict.specs.Verdicts.{IsJudged}
-use Rattle.texts.specs.Leaves.{AppendsFront}
+use Rattle.streams.specs.Leaves.{AppendsFront}
 
 -- `legal N points`, or `illegal at line L`
 abbrev pub verdict_text : Verdict → List ℕ

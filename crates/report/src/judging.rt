@@ -1,16 +1,15 @@
 //! Judging a trace, and writing the verdict.
 
 ghost use Rattle.std.specs.Prelude.{◌≡◌, IfOk, IfErr, OnOk};
-ghost use Rattle.texts.specs.Leaves.{Leaves};
+ghost use Rattle.streams.specs.Leaves.{Leaves};
 ghost use Rattle.report.specs.Failed.{FailsTrace};
 ghost use Rattle.report.specs.Verdicts.{verdict_status, verdict_text, Finds};
 
 use crate::messages::Failure;
-use crate::output::Output;
 use itoa::Buffer;
 use std::alloc::Global;
 use std::io::{self, Write};
-use texts::put;
+use streams::{Output, put};
 use verdict::{Verdict, check};
 
 /// `legal N points`, or `illegal at line L`.

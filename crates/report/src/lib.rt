@@ -4,18 +4,16 @@
 mod answers;
 mod judging;
 mod messages;
-mod output;
 mod program;
-mod reading;
 mod serving;
 mod threads;
 
 /// The forms of the command line.
 pub use cmdline::{Form, form_of_words};
 pub use messages::{CANNOT_READ, CANNOT_WRITE, OUT_OF_MEMORY, USAGE};
-pub use output::Output;
-pub use program::{Opener, run};
+pub use program::run;
 pub use serving::serve;
+pub use streams::{Opener, Output};
 /// The writers of a trace, of a table and of threads' replies, over any writer.
 pub use texts::{MutexWord, ThreadReplies, write_replies, write_table, write_trace};
 /// The judge of traces.

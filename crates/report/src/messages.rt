@@ -1,13 +1,13 @@
 //! What the program says on standard error. Each whole message ends with a line feed.
 
 ghost use Rattle.std.specs.Prelude.{◌≡◌};
-ghost use Rattle.texts.specs.Leaves.{AppendsFront, Leaves};
+ghost use Rattle.streams.specs.Leaves.{AppendsFront, Leaves};
 ghost use Rattle.report.specs.Messages.{script_words, trace_words, fault_text, failure_text, failure_status};
 
 use itoa::Buffer;
 use script::ScriptFault;
 use std::io::{self, Write};
-use texts::put;
+use streams::put;
 use verdict::TraceFault;
 
 /// A file couldn't be read. The message goes on with the file's name and a line feed.

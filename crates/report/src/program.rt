@@ -7,30 +7,16 @@ ghost use Rattle.cmdline.specs.Forms.{asked_by};
 ghost use Rattle.cmdline.specs.declared.form.Form.TheVariants.{Usage};
 ghost use Rattle.report.specs.Messages.{failure_status, failure_text};
 ghost use Rattle.report.specs.Programs.{asked_in, unopened_by, IsUnserved, NamedEnds, RunEnds};
-ghost use Rattle.texts.specs.Leaves.{AppendsFront};
+ghost use Rattle.streams.specs.Leaves.{AppendsFront};
 
 use crate::messages::{Failure, status_after, tell};
-use crate::output::Output;
 use crate::serving::serve;
 use cmdline::{Form, form_of_words};
 use std::alloc::{AllocError, Global};
 use std::io::{self, ErrorKind, Read, Write};
 use std::sync::Wait;
 use std::thread::Threads;
-
-/// What opens files.
-pub trait Opener {
-    /// An open file.
-    type Input: Read + Drop;
-
-    /// What opening the file of this name may give: a reader that has these bytes left, where they are known, or an error of this kind.
-    ghost opens: { Self → List ℕ → Result (Option (List ℕ)) Kind → Type 0 } = { λ _ _ _. ⊤ };
-
-    /// Opens the file of this name for reading.
-    fn open(&self, file: &str) -> io::Result<Self::Input>
-        ensures opened { IfOk result (λ input. opens self.now file.now (Ok (Self.Input.remaining input))) }
-        ensures refused { IfErr result (λ e. opens self.now file.now (Err (error_kind e))) };
-}
+use streams::{Opener, Output};
 
 /// The words, lent.
 fn lent<'a>(alloc: Global, words: &'a [String]) -> Result<Vec<&'a str>, AllocError>

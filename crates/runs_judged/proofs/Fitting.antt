@@ -6,7 +6,7 @@ use Rattle.std.proofs.lemmas.Bool.{eqb-false}
 use mathlib.Core.Path.{fun_ext}
 use Rattle.keys.specs.declared.object.Object.{Object}
 use Rattle.keys.specs.declared.point.Decision.{Decision}
-use Rattle.keys.specs.Objects.{Does}
+use Rattle.keys.specs.Objects.{Does, stepped}
 use Rattle.keys.specs.Histories.{Legal, opening, held_by}
 use Rattle.facts.specs.declared.fact.Fact.{Fact}
 use Rattle.facts.specs.declared.fact.Fact.TheVariants.{Reap}
@@ -15,11 +15,11 @@ use Rattle.facts.specs.Facts.{thread_of, decision_of}
 use Rattle.facts.specs.Orders.{Later, Each, Orderly}
 use Rattle.protocol.specs.Notes.{line_of}
 use Rattle.protocol.specs.Sleepers.{IsAmong}
-use Rattle.verdict.specs.Earlier.{told_of, changed, moved, objects_after}
+use Rattle.verdict.specs.Earlier.{told_of, moved, objects_after}
 use Rattle.verdict.specs.Fits.{FitsThread, Allows, OwnsNothing}
 use Rattle.verdict.specs.Explained.{with_decision, decisions}
 use Rattle.verdict.specs.Verdicts.{AllFit}
-use Rattle.verdict.proofs.Owners.{does_changes}
+use Rattle.keys.proofs.Steps.{determined}
 use Rattle.runs_judged.proofs.Turns.{FitAlong}
 
 -- ---- line by line, the earlier ones newest first
@@ -106,10 +106,10 @@ threads_fit ls fit = threads_from [] ls fit
 next_is : (n : ℕ) (os next : ℕ → Object) (d : Decision) → Does (held_by d.thread os n) (os d.mutex) d.thread d.operation d.reply (next d.mutex) → ((m : ℕ) → m ≢ d.mutex → next m ≡ os m) → next ≡ moved os (Some d)
 next_is n os next d does others = fun_ext (λ m. at m (m == d.mutex) refl)
   where
-    at : (m : ℕ) (b : Bool) → (m == d.mutex) ≡ b → next m ≡ (if b then changed (os m) d.thread d.operation d.reply else os m)
+    at : (m : ℕ) (b : Bool) → (m == d.mutex) ≡ b → next m ≡ (if b then stepped (os m) d.thread d.operation d.reply else os m)
     at m true e =
         let is : m ≡ d.mutex = eqb-true m d.mutex e in
-        subst (λ (k : ℕ). next k ≡ changed (os k) d.thread d.operation d.reply) (sym is) (does_changes (held_by d.thread os n) (os d.mutex) d.thread d.operation d.reply (next d.mutex) does)
+        subst (λ (k : ℕ). next k ≡ stepped (os k) d.thread d.operation d.reply) (sym is) (determined (held_by d.thread os n) (os d.mutex) d.thread d.operation d.reply (next d.mutex) does)
     at m false e = others m (eqb-false m d.mutex e)
 
 module _ (n : ℕ) (new : ℕ → Object) where

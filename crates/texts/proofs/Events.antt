@@ -7,7 +7,7 @@ use Rattle.protocol.specs.declared.note.Note.{Note}
 use Rattle.facts.specs.declared.fact.Fact.{Fact}
 use Rattle.facts.specs.declared.fact.Line.{Line}
 use Rattle.protocol.specs.Notes.{facts_of, line_of, lines_from}
-use Rattle.texts.specs.Leaves.{Leaves}
+use Rattle.streams.specs.Leaves.{Leaves}
 use Rattle.texts.specs.Text.{fact_text, facts_text, line_text, lines_text, notes_text}
 
 lines_text-append : (xs ys : List Line) → lines_text (xs ++ ys) ≡ lines_text xs ++ lines_text ys

@@ -1,4 +1,3 @@
-pub mod Writers
 mod Events
 mod Told
 mod Tables

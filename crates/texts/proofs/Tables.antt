@@ -8,10 +8,10 @@ use Rattle.std.proofs.lemmas.List.FromFn.{get_or-range_with_len, length-range_wi
 use Rattle.std.proofs.lemmas.List.Filters.{length-filter_more}
 use Rattle.std.specs.Option.{option_map}
 use Rattle.std.proofs.lemmas.Option.{slice_get_within, get_or_from_slice_get, slice_get-map}
-use Rattle.texts.specs.Leaves.{AppendsFront, Leaves}
+use Rattle.streams.specs.Leaves.{AppendsFront, Leaves}
 use Rattle.script.specs.Scope.{Scope}
 use Rattle.texts.specs.Tables.{name_in, name_of, comma_name, others_names, queue_names, condition_name}
-use Rattle.texts.proofs.Writers.{texts, goes_on, stops_at}
+use Rattle.streams.proofs.Writers.{texts, goes_on, stops_at}
 
 -- where an item was written after those before it, so many are written
 pub item_goes_on : {A : Type 0} (f : A → List ℕ) (xs : List A) (i : ℕ) (x : A) (a b c : Option (List ℕ)) → slice_get xs i ≡ Some x → Appends a b (texts f (take i xs)) → Appends b c (f x) → Appends a c (texts f (take (i + 1) xs))

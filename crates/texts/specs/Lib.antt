@@ -1,4 +1,3 @@
-pub mod Leaves
 pub mod Text
 pub mod Replies
 pub mod MutexLines

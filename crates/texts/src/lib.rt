@@ -2,13 +2,11 @@
 #![tactic(auto)]
 
 mod mutex_start;
-mod pieces;
 mod replies;
 mod table;
 mod text;
 mod trace_lines;
 
-pub use pieces::put;
 pub use replies::{MutexWord, ThreadReplies, write_replies};
 pub use table::write_table;
 pub use text::write_trace;

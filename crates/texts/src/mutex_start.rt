@@ -1,11 +1,11 @@
 //! What tables and replies tell of a mutex in the same words.
 
 ghost use Rattle.std.specs.Prelude.{◌≡◌};
-ghost use Rattle.texts.specs.Leaves.{Leaves};
+ghost use Rattle.streams.specs.Leaves.{Leaves};
 ghost use Rattle.texts.specs.MutexLines.{word_digits, mutex_start};
 
-use crate::pieces::{put, put_text};
 use std::io::{self, Write};
+use streams::{put, put_text};
 
 /// The word in 16 hexadecimal digits, the highest first.
 fn digits(word: u64) -> [u8; 16]

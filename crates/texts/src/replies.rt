@@ -1,13 +1,13 @@
 //! The text that tells of real threads: what each was answered, and how they left the mutexes.
 
 ghost use Rattle.std.specs.Prelude.{◌≡◌};
-ghost use Rattle.texts.specs.Leaves.{Leaves};
+ghost use Rattle.streams.specs.Leaves.{Leaves};
 ghost use Rattle.texts.specs.Replies.{reply_texts, ending, replies_line, owner_name, mutex_line, threads_text, mutexes_text, replies_text};
 
 use crate::mutex_start::write_mutex_start;
-use crate::pieces::put;
 use lockword::{Cell, Reply};
 use std::io::{self, Write};
+use streams::put;
 
 /// What a thread was answered.
 #[derive(Clone, Copy, Debug)]

@@ -4,11 +4,10 @@ ghost use Rattle.std.specs.Prelude.{◌≡◌, ◌<◌, ◌≤◌, ◌++◌, [],
 ghost use Rattle.std.specs.List.{concat, flat_map};
 ghost use Rattle.protocol.specs.Notes.{facts_of, return_facts};
 ghost use Rattle.interleave.specs.Shown.{state_of};
-ghost use Rattle.texts.specs.Leaves.{Leaves};
+ghost use Rattle.streams.specs.Leaves.{Leaves};
 ghost use Rattle.texts.specs.Tables.{name_in, name_of, deed, held_by, told_to, last_reply, reply_or_hyphen, owner_word, others_names, queue_names, thread_line, mutex_line, condition_line, thread_lines, mutex_lines, condition_lines, object_lines, table_text};
 
 use crate::mutex_start::write_mutex_start;
-use crate::pieces::put;
 use buckets::Batch;
 use interleave::{Machine, Trace};
 use itoa::Buffer;
@@ -16,6 +15,7 @@ use lockword::{Reply, Tid};
 use protocol::Note;
 use script::Script;
 use std::io::{self, Write};
+use streams::put;
 
 /// The name of a thread; a hyphen where the script declares none with this id.
 fn name(script: &Script, thread: Tid) -> &str

@@ -3,7 +3,7 @@
 ghost use Rattle.std.specs.Prelude.{◌≡◌, [], ◌∷◌, ◌++◌, map};
 ghost use Rattle.protocol.specs.Notes.{facts_of, moves_to, point_facts, sleep_facts, refusal_facts, return_facts, death_facts, reap_facts};
 ghost use Rattle.facts.specs.declared.fact.Fact.TheVariants.{Wake};
-ghost use Rattle.texts.specs.Leaves.{Leaves};
+ghost use Rattle.streams.specs.Leaves.{Leaves};
 ghost use Rattle.texts.specs.Text.{facts_text, notes_text, trace_text};
 
 use crate::trace_lines::{write_end, write_fact, write_head};

@@ -1,14 +1,14 @@
 //! The lines of a trace, one function each kind.
 
-ghost use Rattle.texts.specs.Leaves.{Leaves};
+ghost use Rattle.streams.specs.Leaves.{Leaves};
 ghost use Rattle.texts.specs.Text.{head_line, begin_line, begin_line_of, begin_on_line, point_line, sleep_line, sleep_line_of, sleep_on_line, wake_line, move_line, return_line, kill_line, death_line, reaped_line, end_line, fact_text};
 
-use crate::pieces::put;
 use facts::{Begun, Fact, Queue};
 use itoa::Buffer;
 use keys::{Decision, Operation};
 use lockword::{Reply, Tid};
 use std::io::{self, Write};
+use streams::put;
 
 /// `trace T M C`: how many threads, mutexes and condition variables there are.
 pub fn write_head<W: Write>(

@@ -1,5 +1,5 @@
 use Rattle.report.specs.Verdicts.{verdict_text}
-use Rattle.texts.proofs.Writers.{kept_leaves}
+use Rattle.streams.proofs.Writers.{kept_leaves}
 use Rattle.report.proofs.judging.write_verdict_out.Goals as goal
 
 pub returns-clause-text : goal.returns-clause-text

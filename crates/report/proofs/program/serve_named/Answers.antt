@@ -1,7 +1,7 @@
 use Rattle.std.proofs.Common.{inl, inr, ⊎_elim, Err, refl, sym, ap, subst}
 use Rattle.std.specs.IoError.{error_kind}
 use Rattle.cmdline.specs.Forms.{asked_by}
-use Rattle.texts.specs.Leaves.{AppendsFront}
+use Rattle.streams.specs.Leaves.{AppendsFront}
 use Rattle.report.specs.Messages.{failure_text}
 use Rattle.report.proofs.Asking.{asked_file}
 use Rattle.report.proofs.program.serve_named.Goals as goal

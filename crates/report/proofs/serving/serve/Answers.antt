@@ -1,5 +1,5 @@
 use Rattle.std.proofs.Common.{arith, inl, inr, refl, sym, subst, ◌∙◌}
-use Rattle.texts.specs.Leaves.{AppendsFront}
+use Rattle.streams.specs.Leaves.{AppendsFront}
 use Rattle.report.specs.Messages.{failure_text}
 use Rattle.report.proofs.Failures.{ended_done, ended_front, ended_low, ended_named, failed_front, failed_low, failed_not_0, fails_usage, usage_fails}
 use Rattle.report.proofs.serving.serve.Goals as goal

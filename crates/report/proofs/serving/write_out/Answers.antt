@@ -1,5 +1,5 @@
 use Rattle.texts.specs.Text.{trace_text}
-use Rattle.texts.proofs.Writers.{kept_leaves}
+use Rattle.streams.proofs.Writers.{kept_leaves}
 use Rattle.report.proofs.serving.write_out.Goals as goal
 
 pub returns-clause-text : goal.returns-clause-text

@@ -1,6 +1,6 @@
 use Rattle.interleave.specs.Shown.{state_of}
 use Rattle.texts.specs.Tables.{table_text}
-use Rattle.texts.proofs.Writers.{kept_leaves}
+use Rattle.streams.proofs.Writers.{kept_leaves}
 use Rattle.report.proofs.serving.write_table_out.Goals as goal
 
 pub returns-clause-text : goal.returns-clause-text

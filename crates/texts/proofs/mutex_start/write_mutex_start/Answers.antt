@@ -1,9 +1,9 @@
 use Rattle.std.proofs.Common.{[], ◌∷◌, ◌++◌, codes, subst}
 use Rattle.std.specs.List.{concat}
 use Rattle.std.specs.Io.KnownBytes.{Appends}
-use Rattle.texts.specs.Leaves.{AppendsFront}
+use Rattle.streams.specs.Leaves.{AppendsFront}
 use Rattle.texts.specs.MutexLines.{word_digits}
-use Rattle.texts.proofs.Writers.{ends_at_first, ends_at_second, then_leaves}
+use Rattle.streams.proofs.Writers.{ends_at_first, ends_at_second, then_leaves}
 use Rattle.texts.proofs.mutex_start.write_mutex_start.Goals as goal
 
 pub returns-in_err-put : goal.returns-in_err-put

@@ -2,10 +2,10 @@ use Rattle.std.proofs.Common.{[], ◌∷◌, codes, subst, ap, ◌∙◌}
 use Rattle.std.specs.List.{concat}
 use Rattle.std.specs.Io.KnownBytes.{Appends}
 use Rattle.lockword.specs.Cells.{fields_of}
-use Rattle.texts.specs.Leaves.{AppendsFront}
+use Rattle.streams.specs.Leaves.{AppendsFront}
 use Rattle.texts.specs.MutexLines.{mutex_start}
 use Rattle.texts.specs.Replies.{owner_name}
-use Rattle.texts.proofs.Writers.{ends_at_first, then_leaves}
+use Rattle.streams.proofs.Writers.{ends_at_first, then_leaves}
 use Rattle.texts.proofs.replies.write_mutex.Goals as goal
 
 pub returns-in_err-write_mutex_start : goal.returns-in_err-write_mutex_start

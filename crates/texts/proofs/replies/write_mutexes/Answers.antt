@@ -1,5 +1,5 @@
 use Rattle.texts.specs.Replies.{mutex_line}
-use Rattle.texts.proofs.Writers.{goes_on, stops_at}
+use Rattle.streams.proofs.Writers.{goes_on, stops_at}
 use Rattle.texts.proofs.replies.write_mutexes.Goals as goal
 
 pub returns-in_err-write_mutex : goal.returns-in_err-write_mutex

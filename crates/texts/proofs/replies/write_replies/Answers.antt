@@ -1,5 +1,5 @@
 use Rattle.texts.specs.Replies.{threads_text, mutexes_text}
-use Rattle.texts.proofs.Writers.{ends_at_first, then_leaves}
+use Rattle.streams.proofs.Writers.{ends_at_first, then_leaves}
 use Rattle.texts.proofs.replies.write_replies.Goals as goal
 
 pub returns-in_err-write_threads : goal.returns-in_err-write_threads

@@ -1,8 +1,8 @@
 use Rattle.std.proofs.Common.{[], ◌∷◌, ◌++◌, codes, subst}
 use Rattle.std.specs.List.{concat}
-use Rattle.texts.specs.Leaves.{Leaves}
+use Rattle.streams.specs.Leaves.{Leaves}
 use Rattle.texts.specs.Replies.{reply_texts, ending}
-use Rattle.texts.proofs.Writers.{ends_at_first, ends_at_second, then_leaves}
+use Rattle.streams.proofs.Writers.{ends_at_first, ends_at_second, then_leaves}
 use Rattle.texts.proofs.replies.write_thread.Goals as goal
 
 pub returns-in_err-put : goal.returns-in_err-put

@@ -1,5 +1,5 @@
 use Rattle.texts.specs.Replies.{replies_line}
-use Rattle.texts.proofs.Writers.{goes_on, stops_at}
+use Rattle.streams.proofs.Writers.{goes_on, stops_at}
 use Rattle.texts.proofs.replies.write_threads.Goals as goal
 
 pub returns-in_err-write_thread : goal.returns-in_err-write_thread

@@ -1,9 +1,9 @@
 use Rattle.std.proofs.Common.{◌∷◌, [], codes, ap, subst}
 use Rattle.std.specs.List.{concat}
 use Rattle.std.specs.Io.KnownBytes.{Appends}
-use Rattle.texts.specs.Leaves.{AppendsFront}
+use Rattle.streams.specs.Leaves.{AppendsFront}
 use Rattle.texts.specs.Replies.{reply_text}
-use Rattle.texts.proofs.Writers.{goes_on, stops_at}
+use Rattle.streams.proofs.Writers.{goes_on, stops_at}
 use Rattle.texts.proofs.replies.write_words.Goals as goal
 
 pub returns-in_err-put : goal.returns-in_err-put

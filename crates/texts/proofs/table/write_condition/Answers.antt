@@ -1,12 +1,12 @@
 use Rattle.std.proofs.Common.{rules, ◌≡◌, ℕ, ◌∷◌, ◌++◌, [], List, codes, decimal, subst, ap, sym, ◌∙◌}
 use Rattle.std.specs.List.{concat}
 use Rattle.std.specs.Io.KnownBytes.{Appends}
-use Rattle.texts.specs.Leaves.{AppendsFront}
+use Rattle.streams.specs.Leaves.{AppendsFront}
 use Rattle.keys.specs.Layouts.{Layout', counter_place}
 use Rattle.interleave.specs.Shown.{state_of}
 use Rattle.texts.specs.Tables.{condition_name, queue_names}
 use Rattle.texts.proofs.Tables.{its_name}
-use Rattle.texts.proofs.Writers.{ends_at_first, ends_at_second, then_leaves}
+use Rattle.streams.proofs.Writers.{ends_at_first, ends_at_second, then_leaves}
 use Rattle.texts.proofs.table.write_condition.Goals as goal
 
 pub returns-in_err-put : goal.returns-in_err-put

@@ -1,7 +1,7 @@
 use Rattle.std.proofs.Common.{rules, ◌≡◌, ℕ, ◌∷◌, ◌++◌, [], List, codes, subst, ap, sym, ◌∙◌}
 use Rattle.std.specs.List.{concat}
 use Rattle.std.specs.Io.KnownBytes.{Appends}
-use Rattle.texts.specs.Leaves.{AppendsFront}
+use Rattle.streams.specs.Leaves.{AppendsFront}
 use Rattle.std.specs.Prelude.{slice_get}
 use Rattle.keys.specs.Layouts.{Layout', cell_place}
 use Rattle.protocol.specs.Machine.{sleepers}
@@ -9,7 +9,7 @@ use Rattle.protocol.specs.Headline.{seen}
 use Rattle.interleave.specs.Shown.{state_of}
 use Rattle.texts.specs.MutexLines.{mutex_start}
 use Rattle.texts.specs.Tables.{name_in, owner_word, queue_names}
-use Rattle.texts.proofs.Writers.{ends_at_first, ends_at_second, then_leaves}
+use Rattle.streams.proofs.Writers.{ends_at_first, ends_at_second, then_leaves}
 use Rattle.texts.proofs.table.write_mutex.Goals as goal
 
 pub returns-in_err-write_mutex_start : goal.returns-in_err-write_mutex_start

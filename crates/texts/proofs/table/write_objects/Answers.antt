@@ -1,6 +1,6 @@
 use Rattle.interleave.specs.Shown.{state_of}
 use Rattle.texts.specs.Tables.{mutex_lines, condition_lines}
-use Rattle.texts.proofs.Writers.{ends_at_first, then_leaves}
+use Rattle.streams.proofs.Writers.{ends_at_first, then_leaves}
 use Rattle.texts.proofs.table.write_objects.Goals as goal
 
 pub returns-in_err-write_mutexes : goal.returns-in_err-write_mutexes

@@ -1,7 +1,7 @@
 use Rattle.std.proofs.Common.{suc, ◌≡◌, ℕ, ◌+◌, ◌-◌, ◌∷◌, [], List, take, drop, map, codes, arith, subst, ap, sym, ◌∙◌}
 use Rattle.std.specs.List.{concat}
 use Rattle.std.specs.Io.KnownBytes.{Appends}
-use Rattle.texts.specs.Leaves.{AppendsFront}
+use Rattle.streams.specs.Leaves.{AppendsFront}
 use Rattle.std.specs.Prelude.{slice_get, Some}
 use Rattle.texts.specs.Tables.{comma_name}
 use Rattle.texts.proofs.Tables.{item_goes_on, item_stops, behind_first}

@@ -1,9 +1,9 @@
 use Rattle.std.proofs.Common.{◌∷◌, [], subst, sym, ◌∙◌}
 use Rattle.std.specs.List.{concat}
 use Rattle.std.specs.Io.KnownBytes.{Appends}
-use Rattle.texts.specs.Leaves.{AppendsFront, Leaves}
+use Rattle.streams.specs.Leaves.{AppendsFront, Leaves}
 use Rattle.texts.specs.Tables.{name_of, others_names}
-use Rattle.texts.proofs.Writers.{ends_at_first, then_leaves}
+use Rattle.streams.proofs.Writers.{ends_at_first, then_leaves}
 use Rattle.texts.proofs.Tables.{queue_starts}
 use Rattle.texts.proofs.table.write_queue.Goals as goal
 

@@ -1,9 +1,9 @@
 use Rattle.std.proofs.Common.{rules}
 use Rattle.std.specs.Io.KnownBytes.{Appends}
-use Rattle.texts.specs.Leaves.{AppendsFront}
+use Rattle.streams.specs.Leaves.{AppendsFront}
 use Rattle.interleave.specs.Shown.{state_of}
 use Rattle.texts.specs.Tables.{thread_lines, object_lines}
-use Rattle.texts.proofs.Writers.{ends_at_first, then_leaves}
+use Rattle.streams.proofs.Writers.{ends_at_first, then_leaves}
 use Rattle.texts.proofs.table.write_table.Goals as goal
 
 pub returns-in_err-write_threads : goal.returns-in_err-write_threads

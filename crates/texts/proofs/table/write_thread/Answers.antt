@@ -1,10 +1,10 @@
 use Rattle.std.proofs.Common.{rules, ◌≡◌, ◌∷◌, [], codes, decimal, subst, ap, ◌∙◌}
 use Rattle.std.specs.List.{concat}
 use Rattle.std.specs.Io.KnownBytes.{Appends}
-use Rattle.texts.specs.Leaves.{AppendsFront, Leaves}
+use Rattle.streams.specs.Leaves.{AppendsFront, Leaves}
 use Rattle.interleave.specs.Shown.{state_of}
 use Rattle.texts.specs.Tables.{name_of, deed, held_by, last_reply, reply_or_hyphen}
-use Rattle.texts.proofs.Writers.{ends_at_first, then_leaves}
+use Rattle.streams.proofs.Writers.{ends_at_first, then_leaves}
 use Rattle.texts.proofs.table.write_thread.Goals as goal
 
 pub returns-in_err-put : goal.returns-in_err-put

@@ -2,7 +2,7 @@ use Rattle.std.proofs.Common.{map}
 use Rattle.protocol.specs.Notes.{moves_to, return_facts}
 use Rattle.texts.specs.Text.{facts_text}
 use Rattle.texts.proofs.Events.{facts_text-append}
-use Rattle.texts.proofs.Writers.{ends_at_first, then_leaves}
+use Rattle.streams.proofs.Writers.{ends_at_first, then_leaves}
 use Rattle.texts.proofs.text.write_moves_and_return.Goals as goal
 
 pub returns-in_err-write_moved : goal.returns-in_err-write_moved

@@ -3,7 +3,7 @@ use Rattle.facts.specs.declared.fact.Fact.TheVariants.{Begin, Wake}
 use Rattle.protocol.specs.Notes.{moves_to, point_facts, sleep_facts, refusal_facts, return_facts, death_facts, reap_facts}
 use Rattle.texts.specs.Text.{fact_text, facts_text}
 use Rattle.texts.proofs.Events.{facts_text-append}
-use Rattle.texts.proofs.Writers.{ends_at_first, then_leaves}
+use Rattle.streams.proofs.Writers.{ends_at_first, then_leaves}
 use Rattle.texts.proofs.text.write_note.Goals as goal
 
 pub returns-in_err-write_fact-in-Began : goal.returns-in_err-write_fact-in-Began

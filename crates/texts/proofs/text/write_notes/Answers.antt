@@ -1,10 +1,10 @@
 use Rattle.std.proofs.Common.{◌+◌, take, sym, subst}
 use Rattle.std.specs.Io.KnownBytes.{Appends}
 use Rattle.protocol.specs.Notes.{facts_of}
-use Rattle.texts.specs.Leaves.{Leaves}
+use Rattle.streams.specs.Leaves.{Leaves}
 use Rattle.texts.specs.Text.{notes_text, facts_text}
 use Rattle.texts.proofs.Events.{notes_more, notes_as_far}
-use Rattle.texts.proofs.Writers.{ends_at_second, Appends-trans}
+use Rattle.streams.proofs.Writers.{ends_at_second, Appends-trans}
 use Rattle.texts.proofs.text.write_notes.Goals as goal
 
 pub returns-in_err-write_note : goal.returns-in_err-write_note

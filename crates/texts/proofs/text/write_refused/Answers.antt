@@ -2,7 +2,7 @@ use Rattle.std.proofs.Common.{[], ◌∷◌}
 use Rattle.facts.specs.declared.fact.Fact.TheVariants.{Return}
 use Rattle.texts.specs.Text.{facts_text}
 use Rattle.texts.proofs.Events.{leaves_fact}
-use Rattle.texts.proofs.Writers.{ends_at_first, then_leaves}
+use Rattle.streams.proofs.Writers.{ends_at_first, then_leaves}
 use Rattle.texts.proofs.text.write_refused.Goals as goal
 
 pub returns-in_err-write_fact : goal.returns-in_err-write_fact

@@ -3,7 +3,7 @@ use Rattle.facts.specs.declared.fact.Fact.TheVariants.{Wake}
 use Rattle.protocol.specs.Notes.{sleep_facts, moves_to, return_facts}
 use Rattle.texts.specs.Text.{facts_text}
 use Rattle.texts.proofs.Events.{facts_text-append}
-use Rattle.texts.proofs.Writers.{ends_at_first, then_leaves}
+use Rattle.streams.proofs.Writers.{ends_at_first, then_leaves}
 use Rattle.texts.proofs.text.write_step.Goals as goal
 
 pub returns-in_err-write_slept : goal.returns-in_err-write_slept

@@ -1,8 +1,8 @@
 use Rattle.std.proofs.Common.{rules, ◌++◌, length}
 use Rattle.std.specs.Io.KnownBytes.{Appends}
-use Rattle.texts.specs.Leaves.{AppendsFront, Leaves}
+use Rattle.streams.specs.Leaves.{AppendsFront, Leaves}
 use Rattle.texts.specs.Text.{head_line, notes_text, end_line}
-use Rattle.texts.proofs.Writers.{ends_at_first, ends_at_second, then_leaves}
+use Rattle.streams.proofs.Writers.{ends_at_first, ends_at_second, then_leaves}
 use Rattle.texts.proofs.text.write_trace.Goals as goal
 
 pub returns-in_err-write_head : goal.returns-in_err-write_head

@@ -1,10 +1,10 @@
 use Rattle.std.proofs.Common.{map, take, ◌∙◌, sym, subst}
 use Rattle.std.specs.Io.KnownBytes.{Appends}
 use Rattle.facts.specs.declared.fact.Fact.TheVariants.{Wake}
-use Rattle.texts.specs.Leaves.{Leaves}
+use Rattle.streams.specs.Leaves.{Leaves}
 use Rattle.texts.specs.Text.{fact_text, facts_text}
 use Rattle.texts.proofs.Events.{each_as_far, each_more}
-use Rattle.texts.proofs.Writers.{ends_at_second, Appends-trans}
+use Rattle.streams.proofs.Writers.{ends_at_second, Appends-trans}
 use Rattle.texts.proofs.text.write_woken.Goals as goal
 
 pub returns-in_err-write_fact : goal.returns-in_err-write_fact
