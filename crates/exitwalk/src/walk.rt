@@ -48,6 +48,14 @@ impl Walk {
         }
     }
 
+    /// Where the walk stands.
+    #[inline(always)]
+    pub fn row(&self) -> Row
+        ensures { result ≡ self.now.row }
+    {
+        self.row
+    }
+
     /// The access that comes next, of a walk that hasn't ended.
     pub fn next(&self) -> Access
         requires { IsGoing self.now.row }
