@@ -4,9 +4,9 @@ ghost use Rattle.mutex.specs.Calls.{mutex_of};
 
 use crate::steps::Made::{Exchanges, Finds, Flips, Is, Loads, Sleeps, Wakes};
 use crate::steps::Then::{Decides, Ends, Goes, Returns};
-use crate::steps::{ANSWERS, Step, Then, makes};
+use crate::steps::{ANSWERS, AtCell, Step, Then, makes, past_the_list};
 use keys::Operation::{Consistent, Lock, TryLock, Unlock};
-use keys::{Access, Answer, Layout, Operation};
+use keys::{Access, Answer, Layout, Operation, Progress};
 use lockword::Reply::{
     self, EBUSY, EDEADLK, EFAULT, EINVAL, ENOTRECOVERABLE, EOWNERDEAD, EPERM, OK, XHELD, XRACED,
 };
@@ -39,8 +39,11 @@ pub(crate) fn call(operation: Operation) -> Call
 fn takes(operation: Operation, parts: &[&[Step]]) -> Result<bool, Fail> {
     let thread = Tid::new(2).ok_or("no thread 2")?;
     let layout = Layout::new(2, 2, &[])?;
-    let program = Program::short(&layout, thread, 0, call(operation))?;
-    Ok(makes(program, thread, parts))
+    let mut program = Program::new(&layout, thread, 0, call(operation))?;
+    match past_the_list(&mut program, None) {
+        Progress::Goes { .. } => Ok(makes(AtCell { program }, thread, parts)),
+        Progress::Returns { .. } => Ok(false),
+    }
 }
 
 /// However a lock comes to know of a cell, by its load or by an exchange that fails, that leads it so far, and then it makes these accesses.
@@ -371,19 +374,17 @@ const LIMITS: [(Operation, u16, Option<Reply>); 6] = [
     (Consistent, 2048, None),
 ];
 
-/// How a thread that holds so many mutexes is refused the call, without its accesses to the list and with them.
-fn refusals(operation: Operation, held: u16) -> Result<(Option<Reply>, Option<Reply>), Fail> {
+/// How a thread that holds so many mutexes is refused the call.
+fn refusal(operation: Operation, held: u16) -> Result<Option<Reply>, Fail> {
     let thread = Tid::new(2).ok_or("no thread 2")?;
     let layout = Layout::new(2, 2, &[])?;
-    let short = Program::short(&layout, thread, held, call(operation)).err();
-    let whole = Program::new(&layout, thread, held, call(operation)).err();
-    Ok((short, whole))
+    Ok(Program::new(&layout, thread, held, call(operation)).err())
 }
 
 #[test]
 fn a_thread_holds_2048_mutexes_at_most(rt: HostRuntime) -> Result<(), Fail> {
     for (operation, held, refused) in LIMITS {
-        assert!(rt; refusals(operation, held)? == (refused, refused));
+        assert!(rt; refusal(operation, held)? == refused);
     }
     Ok(())
 }

@@ -1,4 +1,4 @@
-//! Calls on a condition variable, with their accesses to the thread's robust list and without them.
+//! Calls on a condition variable, and what a wait does at its thread's robust list.
 ghost use Rattle.std.specs.Prelude.{◌≡◌};
 ghost use Rattle.condvar.specs.Calls.{condition_of};
 
@@ -49,19 +49,6 @@ fn takes(operation: Operation, parts: &[&[Step]]) -> Result<bool, Fail> {
     let layout = Layout::new(2, 2, &[0, 1])?;
     let program = CondProgram::new(&layout, thread, call(operation));
     Ok(makes(program, thread, parts))
-}
-
-/// The same without the thread's robust list.
-fn takes_short(operation: Operation, parts: &[&[Step]]) -> Result<bool, Fail> {
-    let thread = Tid::new(2).ok_or("no thread 2")?;
-    let layout = Layout::new(2, 2, &[0, 1])?;
-    let program = CondProgram::short(&layout, thread, call(operation));
-    Ok(makes(program, thread, parts))
-}
-
-/// Both forms make these accesses, of a call that leaves the list alone.
-fn both_take(operation: Operation, parts: &[&[Step]]) -> Result<bool, Fail> {
-    Ok(takes(operation, parts)? && takes_short(operation, parts)?)
 }
 
 /// A wait goes so far as to release the mutex, the counter being 5.
@@ -128,18 +115,23 @@ fn a_wait_wakes_who_sleeps_on_the_mutex(rt: HostRuntime) -> Result<(), Fail> {
     Ok(())
 }
 
-const SHORT_WAIT: [Step; 6] = [
+/// A wait that found the counter full falls asleep as any other.
+const FULL: [Step; 10] = [
     Step(Loads(10, 2), Goes),
     Step(Loads(14, 0xffff_ffff), Goes),
+    Step(Stores(6, 11), Goes),
+    Step(Loads(11, 4), Goes),
+    Step(Loads(12, 4), Goes),
+    Step(Stores(4, 4), Goes),
     Step(Flips(2, 2), Decides(Unlock, OK)),
     Step(Sleeps(14, 0xffff_ffff, Answer::Again), Goes),
     Step(Loads(10, 0), Goes),
-    Step(Exchanges(0, 2), Ends(Lock, OK)),
+    Step(Exchanges(0, 2), Decides(Lock, OK)),
 ];
 
 #[test]
-fn a_wait_without_the_list(rt: HostRuntime) -> Result<(), Fail> {
-    assert!(rt; takes_short(Wait, &[&SHORT_WAIT])?);
+fn a_wait_is_not_refused_a_full_counter(rt: HostRuntime) -> Result<(), Fail> {
+    assert!(rt; takes(Wait, &[&FULL, &LINKED, &[Step(Stores(6, 0), Returns(OK))]])?);
     Ok(())
 }
 
@@ -155,7 +147,7 @@ const REFUSED: [(u64, Reply); 5] = [
 #[test]
 fn only_the_owner_of_a_consistent_mutex_waits(rt: HostRuntime) -> Result<(), Fail> {
     for (cell, reply) in REFUSED {
-        assert!(rt; both_take(Wait, &[&[Step(Loads(10, cell), Ends(Wait, reply))]])?);
+        assert!(rt; takes(Wait, &[&[Step(Loads(10, cell), Ends(Wait, reply))]])?);
     }
     Ok(())
 }
@@ -169,7 +161,7 @@ fn a_signal_counts_and_wakes_one(rt: HostRuntime) -> Result<(), Fail> {
             Step(Is(COUNT, Answer::Value(counter)), Decides(Signal, OK)),
             Step(Wakes(14, 1, 1), Returns(OK)),
         ];
-        assert!(rt; both_take(Signal, &[&steps])?);
+        assert!(rt; takes(Signal, &[&steps])?);
     }
     Ok(())
 }
@@ -188,7 +180,7 @@ const SETS: [Step; 1] = [Step(Is(SET_WAITERS, Answer::Value(2)), Goes)];
 fn a_broadcast_moves_all_to_the_mutex(rt: HostRuntime) -> Result<(), Fail> {
     for answer in [Answer::Counts(0, 3), Answer::Again] {
         let moved = [Step(Is(MOVE, answer), Returns(OK))];
-        assert!(rt; both_take(Broadcast, &[&COUNTED, &SETS, &moved])?);
+        assert!(rt; takes(Broadcast, &[&COUNTED, &SETS, &moved])?);
     }
     Ok(())
 }
@@ -200,10 +192,10 @@ fn only_the_owner_signals_and_a_full_counter_stays(rt: HostRuntime) -> Result<()
     for operation in [Signal, Broadcast] {
         for cell in [0, 1, 0x4000_0001] {
             let refused = [Step(Loads(10, cell), Ends(operation, EPERM))];
-            assert!(rt; both_take(operation, &[&refused])?);
+            assert!(rt; takes(operation, &[&refused])?);
         }
         let full = [Step(Loads(14, 0xffff_ffff), Ends(operation, XFULL))];
-        assert!(rt; both_take(operation, &[&HELD, &full])?);
+        assert!(rt; takes(operation, &[&HELD, &full])?);
     }
     Ok(())
 }
@@ -221,7 +213,7 @@ const COUNTED_AND_SET: [Step; 4] = [
     Step(Is(SET_WAITERS, Answer::Value(2)), Goes),
 ];
 
-/// An operation, how many accesses it has made in both forms, and the one that is answered a fault then.
+/// An operation, how many accesses it has made, and the one that is answered a fault then.
 const FAULTS: [(Operation, usize, Access); 10] = [
     (Wait, 0, LOAD_CELL),
     (Wait, 1, LOAD_COUNTER),
@@ -241,7 +233,7 @@ fn faults(operation: Operation, made: usize, access: Access, answer: Answer) -> 
         return Ok(false);
     }
     let fault = [Step(Is(access, answer), Returns(EFAULT))];
-    both_take(operation, &[&COUNTED_AND_SET[..made], &fault])
+    takes(operation, &[&COUNTED_AND_SET[..made], &fault])
 }
 
 const ANNOUNCEMENT: Access = Access::Store { at: 6, value: 11 };

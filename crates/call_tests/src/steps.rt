@@ -1,11 +1,12 @@
 //! Calls of thread 2 on mutex 1 of a small layout, and on condition variable 1, which keeps that mutex: what each access is answered, and where that leads. The mutex's cell is at 10,
 //! its entry at 11 and 12, the counter at 14, the thread's head at 4, its pending entry at 6.
 ghost use Rattle.call_tests.specs.Calls.{GoesOn};
+ghost use Rattle.mutex.specs.Whole as mutex;
 
-use condvar::{CondCellProgram, CondProgram};
+use condvar::CondProgram;
 use keys::{Access, Answer, Operation, Point, Progress};
 use lockword::{Reply, Tid};
-use mutex::{CellProgram, Program};
+use mutex::Program;
 
 /// An access and its answer.
 #[derive(Clone, Copy)]
@@ -71,24 +72,8 @@ pub(crate) trait Stepping {
         ensures { GoesOn result (is_under_way self.new) };
 }
 
-impl Stepping for CellProgram {
-    ghost use Rattle.mutex.specs.Rows.{IsGoing};
-
-    ghost is_under_way = { λ p. IsGoing p.row };
-
-    fn access(&self) -> Access {
-        self.next()
-    }
-
-    fn answered(&mut self, answer: Answer) -> Progress {
-        self.resume(answer)
-    }
-}
-
 impl Stepping for Program {
-    ghost use Rattle.mutex.specs.Whole.{IsUnderWay};
-
-    ghost is_under_way = { λ p. IsUnderWay p.phase };
+    ghost is_under_way = { λ p. mutex.IsUnderWay p.phase };
 
     fn access(&self) -> Access {
         self.next()
@@ -99,17 +84,55 @@ impl Stepping for Program {
     }
 }
 
-impl Stepping for CondCellProgram {
-    ghost use Rattle.condvar.specs.Programs.{IsShortUnderWay};
+/// A call on a mutex as the mutex's cell sees it: behind an access there come those to its thread's list, if any.
+#[derive(Clone, Copy)]
+pub(crate) struct AtCell {
+    pub(crate) program: Program,
+}
 
-    ghost is_under_way = { λ p. IsShortUnderWay p.phase };
+impl Stepping for AtCell {
+    ghost is_under_way = { λ p. mutex.IsUnderWay p.program.phase };
 
     fn access(&self) -> Access {
-        self.next()
+        self.program.next()
     }
 
     fn answered(&mut self, answer: Answer) -> Progress {
-        self.resume(answer)
+        match self.program.resume(answer) {
+            Progress::Goes { point } => past_the_list(&mut self.program, point),
+            returned => returned,
+        }
+    }
+}
+
+/// The call makes its accesses to its thread's list, up to one that is none, or to its return. They are to follow this point, where there is one, and to have none.
+pub(crate) fn past_the_list(program: &mut Program, point: Option<Point>) -> Progress
+    requires { mutex.IsUnderWay program.old.phase }
+    ensures { GoesOn result (mutex.IsUnderWay program.new.phase) }
+{
+    for _ in 0..8_u64 {
+        let answer = match listed(program.next()) {
+            Some(answer) => answer,
+            None => return Progress::Goes { point },
+        };
+        match program.resume(answer) {
+            Progress::Goes { point: None } => {}
+            Progress::Returns { reply, point: None } => return Progress::Returns { reply, point },
+            strange => return strange,
+        }
+    }
+    Progress::Goes { point }
+}
+
+/// What an access to the thread's list is answered, of which each word that is loaded leads to the head.
+fn listed(access: Access) -> Option<Answer> {
+    match access {
+        Access::Load { at: 4 | 11 | 12 } => Some(Answer::Value(4)),
+        Access::Store {
+            at: 4 | 6 | 11 | 12,
+            ..
+        } => Some(Answer::Stored),
+        _ => None,
     }
 }
 

@@ -1,14 +1,6 @@
 -- Calls in progress, as contracts see them.
 use Rattle.std.specs.Prelude.{ℕ}
-use Rattle.condvar.specs.declared.cell_program.CellPhase.{CellPhase}
 use Rattle.condvar.specs.declared.phase.CondPhase.{CondPhase}
-
--- what a call does at the cell and the counter: whose call it is, their addresses, and where it stands
-pub record CondShort : Type 0 where
-  pub thread : ℕ
-  pub cell : ℕ
-  pub counter : ℕ
-  pub phase : CellPhase
 
 -- a whole call: whose it is, the addresses of the thread's head, of the mutex's entry and cell and of the counter, and where it stands
 pub record CondWhole : Type 0 where

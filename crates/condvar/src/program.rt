@@ -1,15 +1,14 @@
 //! Calls in progress.
 ghost use Rattle.std.specs.Prelude.{◌≡◌, ◌<◌, ◌≤◌, length};
 ghost use Rattle.condvar.specs.Calls.{condition_of};
-ghost use Rattle.condvar.specs.Programs.{short_started};
+ghost use Rattle.condvar.specs.Programs.{point_of};
 ghost use Rattle.condvar.specs.Whole.{progress_in, onward, unlinked, from_lock, PhaseKnows};
 ghost use Rattle.mutex.specs.Whole as mutex;
 ghost use Rattle.robustlist.specs.Unlink.{unlink_moved, UnlinkGoes};
 
 use crate::call::CondCall;
-use crate::cell_program::{CondCellProgram, point};
 use crate::phase::{CondOnward, CondPhase};
-use crate::row::{CondLed, CondRow};
+use crate::row::{CondLed, CondRow, Decided};
 use crate::wait::WaitRow;
 use keys::{Access, Answer, Layout, Point, Progress};
 use lockword::{Reply, Tid};
@@ -60,15 +59,6 @@ impl CondProgram {
             counter: layout.address(thread, layout.counter(call.condition())),
             phase: CondPhase::AtWords(CondRow::first(call)),
         }
-    }
-
-    /// Such a call without its accesses to the thread's robust list. It names its words by their places, as it's made by threads of one process that maps the words at 0.
-    pub fn short(layout: &Layout, thread: Tid, call: CondCall) -> CondCellProgram
-        requires thread { thread ≤ layout.now.threads }
-        requires condition { condition_of call < length layout.now.conditions }
-        ensures { result ≡ short_started layout.now thread call }
-    {
-        CondCellProgram::new(layout, thread, call)
     }
 
     /// The access that comes next, of a call that hasn't returned.
@@ -200,6 +190,21 @@ fn from_lock(mut lock: Program, answer: Answer) -> CondOnward
             phase: CondPhase::Ended(reply),
             point,
         },
+    }
+}
+
+/// The point of a thread's call at its mutex's cell, where an access decided something.
+fn point(thread: Tid, cell: u64, decided: Option<Decided>) -> Option<Point>
+    ensures { result ≡ point_of thread cell decided }
+{
+    match decided {
+        Some(Decided { operation, reply }) => Some(Point {
+            thread,
+            at: cell,
+            operation,
+            reply,
+        }),
+        None => None,
     }
 }
 

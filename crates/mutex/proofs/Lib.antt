@@ -3,6 +3,10 @@ pub mod Races
 mod Replies
 mod Trims
 mod Wholes
+pub mod Addresses
+pub mod OwnPlaces
+mod AtTheCell
+pub mod WholeLists
 pub mod Steps
 pub mod Alone
 pub mod Once

@@ -10,6 +10,7 @@ pub mod Programs
 pub mod Whole
 pub mod Laws
 pub mod WholeLaws
+pub mod WholeLists
 pub mod Steps
 pub mod Alone
 pub mod Decisions

@@ -1,7 +1,6 @@
--- Step programs: the access of each row, where each answer leads, and the point.
-use Rattle.std.specs.Prelude.{ℕ, ◌&&◌, nat_le, Option, Some, None, Result, Ok, Err, if◌then◌else◌}
+-- At the cell: the access of each row, where each answer leads, and the point.
+use Rattle.std.specs.Prelude.{ℕ, Option, Some, None}
 use Rattle.lockword.specs.declared.reply.Reply.{Reply}
-use Rattle.lockword.specs.declared.reply.Reply.TheVariants.{XHELD}
 use Rattle.keys.specs.declared.access.Access.{Access}
 use Rattle.keys.specs.declared.access.Access.TheVariants as access
 use Rattle.keys.specs.declared.access.Answer.{Answer}
@@ -9,8 +8,6 @@ use Rattle.keys.specs.declared.point.Operation.{Operation}
 use Rattle.keys.specs.declared.point.Operation.TheVariants as operation
 use Rattle.keys.specs.declared.point.Point.{Point}
 use Rattle.keys.specs.declared.point.Progress.{Progress}
-use Rattle.keys.specs.Layouts.{Layout', cell_place}
-use Rattle.keys.specs.Objects.{held_limit, acquires}
 use Rattle.mutex.specs.declared.call.Call.{Call}
 use Rattle.mutex.specs.declared.call.Call.TheVariants as call
 use Rattle.mutex.specs.declared.lock.LockRow.TheVariants as lock
@@ -20,7 +17,6 @@ use Rattle.mutex.specs.declared.consistent.ConsistentRow.TheVariants as consiste
 use Rattle.mutex.specs.declared.row.Row.{Row}
 use Rattle.mutex.specs.declared.row.Row.TheVariants.{Lock, TryLock, Unlock, Consistent, Ended}
 use Rattle.mutex.specs.declared.row.Led.{Led}
-use Rattle.mutex.specs.Calls.{mutex_of, operation_of}
 use Rattle.mutex.specs.Progresses.{progress_at}
 use Rattle.mutex.specs.Rows.{goes}
 use Rattle.mutex.specs.Standings.{Standing}
@@ -34,18 +30,6 @@ first_row (call.Lock m) = Lock lock.Load
 first_row (call.TryLock m) = TryLock try.Load
 first_row (call.Unlock m) = Unlock unlock.Load
 first_row (call.Consistent m) = Consistent consistent.Load
-
--- a call's begin, at its mutex's cell, which it names by its place
-abbrev pub at_cell : Layout' → ℕ → Call → Standing
-at_cell l t c = record { thread = t; cell = cell_place l (mutex_of c); row = first_row c }
-
--- a lock that takes its mutex again
-abbrev pub retaking_at : ℕ → ℕ → Standing
-retaking_at t cell = record { thread = t; cell = cell; row = Lock lock.Load }
-
--- whoever holds as many mutexes as a thread may hold may not take another
-abbrev pub started : Layout' → ℕ → ℕ → Call → Result Standing Reply
-started l t held c = if acquires (operation_of c) && nat_le held_limit held then Err XHELD else Ok (at_cell l t c)
 
 abbrev pub row_access : ℕ → ℕ → Row → Access
 row_access t cell (Lock r) = lock_access t cell r

@@ -1,6 +1,7 @@
 //! What holds of every call.
 ghost use Rattle.mutex.specs.Laws.{ProgramsAreRight, WaitersAreKept, UnlocksTrim, RacedAfterFour, PointsArePermitted};
 ghost use Rattle.mutex.specs.WholeLaws.{WholeCallsAreRight, WholeUnlocksTrim};
+ghost use Rattle.mutex.specs.WholeLists.{WholeListsAreKept};
 ghost use Rattle.mutex.specs.Decisions.{WholeCallsAreDecided};
 
 /// Whatever word an access of a call meets, it is a step of the mutex as POSIX sees it, and leaves what the call's next access needs.
@@ -40,4 +41,10 @@ pub fn whole_calls_are_right()
 /// doesn't have.
 pub fn whole_calls_are_decided()
     ensures { WholeCallsAreDecided }
+{}
+
+/// At each access of a whole call, whatever other threads do at the cell: where it is one of its thread's own words, that alone writes them; these words stay a list of just the
+/// mutexes that the thread owns, whole or in change; and wherever the thread dies, the kernel finds in them all that it owns.
+pub fn whole_calls_keep_lists()
+    ensures { WholeListsAreKept }
 {}

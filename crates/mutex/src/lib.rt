@@ -1,13 +1,12 @@
 //! The calls on a mutex as step programs.
 //!
 //! A [`Program`] is a call in progress: a value that says which access comes next ([`Program::next`]) and goes on with its answer
-//! ([`Program::resume`]). Whoever runs it makes the accesses. What it does at its mutex's cell is a [`CellProgram`], which running threads make alone
-//! ([`Program::short`]); around that it keeps its thread's robust list. Whatever word an access meets, it is a step of the mutex as POSIX sees it
-//! (`programs_are_right`), which leaves `WAITERS` where it is set (`waiters_are_kept`), but for the trim of an unlock that woke nobody (`unlocks_trim_after_waking_nobody`).
+//! ([`Program::resume`]). Whoever runs it makes the accesses. It stands ([`Phase`]) at its mutex's cell, where a [`Row`] says what it does; around that it keeps
+//! its thread's robust list. Whatever word an access at the cell meets, it is a step of the mutex as POSIX sees it, or leaves it (`programs_are_right`), and it leaves
+//! `WAITERS` where it is set (`waiters_are_kept`), but for the trim of an unlock that woke nobody (`unlocks_trim_after_waking_nobody`).
 #![tactic(auto)]
 
 mod call;
-mod cell_program;
 mod consistent;
 mod laws;
 mod lock;
@@ -18,11 +17,10 @@ mod try_lock;
 mod unlock;
 
 pub use call::Call;
-pub use cell_program::CellProgram;
 pub use consistent::ConsistentRow;
 pub use laws::{
     points_are_permitted, programs_are_right, raced_after_four, unlocks_trim_after_waking_nobody,
-    waiters_are_kept, whole_calls_are_decided, whole_calls_are_right,
+    waiters_are_kept, whole_calls_are_decided, whole_calls_are_right, whole_calls_keep_lists,
 };
 pub use lock::LockRow;
 pub use phase::{Onward, Phase};

@@ -34,6 +34,7 @@ pub struct Onward {
 
 impl Onward {
     /// To a phase, without a point.
+    #[inline(always)]
     pub(crate) fn to(phase: Phase) -> Onward
         ensures { result ≡ onward phase }
     {
@@ -41,6 +42,7 @@ impl Onward {
     }
 
     /// The call returns, since it was answered a fault.
+    #[inline(always)]
     pub(crate) fn faults() -> Onward
         ensures { result ≡ faulted }
     {

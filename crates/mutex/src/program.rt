@@ -2,13 +2,11 @@
 ghost use Rattle.std.specs.Prelude.{◌≡◌, ◌<◌, ◌≤◌, ◌&&◌, nat_le};
 ghost use Rattle.keys.specs.Objects.{held_limit, acquires};
 ghost use Rattle.mutex.specs.Calls.{mutex_of, operation_of};
-ghost use Rattle.mutex.specs.Programs.{started};
 ghost use Rattle.mutex.specs.Whole.{first_phase, progress_in, onward, once_stored, linked, unlinked, PhaseKnows};
 ghost use Rattle.robustlist.specs.Link.{link_moved, LinkGoes};
 ghost use Rattle.robustlist.specs.Unlink.{unlink_moved, UnlinkGoes};
 
 use crate::call::Call;
-use crate::cell_program::CellProgram;
 use crate::lock::LockRow;
 use crate::phase::{Onward, Phase};
 use crate::row::{Led, Row};
@@ -49,6 +47,7 @@ impl Program {
     ghost use Rattle.mutex.specs.Whole.{whole_started, retaking, whole_access, whole_led, whole_moved, whole_point, whole_progress, announced, from_cell, after_cell, leaving, IsUnderWay, PhaseKnows};
 
     /// A call of a thread that holds so many mutexes. It speaks of words by their addresses in the thread's process. A lock or trylock by a thread that holds 2,048 is refused with `XHELD` before any access.
+    #[inline(always)]
     pub fn new(layout: &Layout, thread: Tid, held: u16, call: Call) -> Result<Program, Reply>
         requires thread { thread ≤ layout.now.threads }
         requires mutex { mutex_of call < layout.now.mutexes }
@@ -67,18 +66,6 @@ impl Program {
         })
     }
 
-    /// Such a call without its accesses to the thread's robust list. It names the cell by its place, as it's made by threads of one process that maps the words at 0.
-    pub fn short(layout: &Layout, thread: Tid, held: u16, call: Call) -> Result<CellProgram, Reply>
-        requires thread { thread ≤ layout.now.threads }
-        requires mutex { mutex_of call < layout.now.mutexes }
-        ensures { result ≡ started layout.now thread held call }
-    {
-        if is_refused(held, call) {
-            return Err(Reply::XHELD);
-        }
-        Ok(CellProgram::new(layout, thread, call))
-    }
-
     /// A lock that takes its mutex again, as a wait on a condition variable does once it is awake: from the load of the cell on, the mutex's entry being pending. It is given the
     /// addresses of the thread's head and of the mutex's entry and cell, and is never refused with `XHELD`: its thread held the mutex before.
     pub fn retaking(thread: Tid, head: u64, entry: u64, cell: u64) -> Program
@@ -94,7 +81,16 @@ impl Program {
         }
     }
 
+    /// Where the call stands.
+    #[inline(always)]
+    pub fn phase(&self) -> Phase
+        ensures { result ≡ self.now.phase }
+    {
+        self.phase
+    }
+
     /// The access that comes next, of a call that hasn't returned.
+    #[inline(always)]
     pub fn next(&self) -> Access
         requires { IsUnderWay self.now.phase }
         ensures { result ≡ whole_access self.now }
@@ -117,6 +113,7 @@ impl Program {
 
     /// Goes on with an answer. One that no such access has counts as `Fault`, after which the call returns `EFAULT`, and has left what its earlier
     /// accesses did.
+    #[inline(always)]
     pub fn resume(&mut self, answer: Answer) -> Progress
         requires { IsUnderWay self.old.phase }
         ensures phase { self.new ≡ whole_moved self.old (whole_led self.old answer) }
@@ -124,17 +121,11 @@ impl Program {
     {
         let onward = self.led(answer);
         let progress = progress(&onward.phase, self.point(onward.point));
-        *self = Program {
-            thread: self.thread,
-            operation: self.operation,
-            head: self.head,
-            entry: self.entry,
-            cell: self.cell,
-            phase: onward.phase,
-        };
+        self.phase = onward.phase;
         progress
     }
 
+    #[inline(always)]
     fn point(&self, decided: Option<Reply>) -> Option<Point>
         ensures { result ≡ whole_point self.now decided }
     {
@@ -150,6 +141,7 @@ impl Program {
     }
 
     /// Where an answer leads.
+    #[inline(always)]
     fn led(&self, answer: Answer) -> Onward
         requires { IsUnderWay self.now.phase }
         ensures value { result ≡ whole_led self.now answer }
@@ -166,6 +158,7 @@ impl Program {
     }
 
     /// Where a call goes once its entry is pending: one that is to release the mutex first takes the entry out of the list.
+    #[inline(always)]
     fn announced(&self, next: Row) -> Phase
         requires { PhaseKnows (AtCell next) }
         ensures value { result ≡ announced self.now next }
@@ -181,6 +174,7 @@ impl Program {
     }
 
     /// Where a call goes from its mutex's cell.
+    #[inline(always)]
     fn from_cell(&self, led: Led) -> Onward
         requires { Knows led.row }
         ensures value { result ≡ from_cell self.now led }
@@ -200,6 +194,7 @@ impl Program {
     }
 
     /// Where a call goes that is through with the cell: a mutex that was taken is put on the list, and an entry that is pending is cleared.
+    #[inline(always)]
     fn leaving(&self, reply: Reply) -> Phase
         ensures value { result ≡ leaving self.now self.now.operation reply }
         ensures knows { PhaseKnows result }
@@ -220,6 +215,7 @@ impl Program {
 }
 
 /// Where the answer of a store leads: on to a phase, once it is stored.
+#[inline(always)]
 fn stored(phase: Phase, answer: Answer) -> Onward
     requires { PhaseKnows phase }
     ensures value { result ≡ once_stored phase answer }
@@ -232,6 +228,7 @@ fn stored(phase: Phase, answer: Answer) -> Onward
 }
 
 /// Where an answer leads a link: the mutex is on the list, with the reply of its taking, once the link has returned.
+#[inline(always)]
 fn from_link(mut link: Link, reply: Reply, answer: Answer) -> Onward
     requires { LinkGoes link.row }
     ensures value { result ≡ onward (linked reply (link_moved link answer)) }
@@ -248,6 +245,7 @@ fn from_link(mut link: Link, reply: Reply, answer: Answer) -> Onward
 }
 
 /// Where an answer leads an unlink: the mutex is to be released, in which OWNER_DIED is as noted, once the unlink has returned.
+#[inline(always)]
 fn from_unlink(mut unlink: Unlink, died: bool, answer: Answer) -> Onward
     requires { UnlinkGoes unlink.row }
     ensures value { result ≡ onward (unlinked (unlink_moved unlink answer) died) }
@@ -264,6 +262,7 @@ fn from_unlink(mut unlink: Unlink, died: bool, answer: Answer) -> Onward
 }
 
 /// Whether a thread that holds so many mutexes may not make the call.
+#[inline(always)]
 fn is_refused(held: u16, call: Call) -> bool
     ensures { result ≡ (acquires (operation_of call) && nat_le held_limit held) }
 {
@@ -271,6 +270,7 @@ fn is_refused(held: u16, call: Call) -> bool
 }
 
 /// Where a call begins: a lock or trylock makes its entry pending first.
+#[inline(always)]
 fn first_phase(call: Call) -> Phase
     ensures value { result ≡ first_phase call }
     ensures knows { PhaseKnows result }
@@ -284,6 +284,7 @@ fn first_phase(call: Call) -> Phase
 }
 
 /// How far the call is in a phase, with the point where the access before it was one.
+#[inline(always)]
 fn progress(phase: &Phase, point: Option<Point>) -> Progress
     ensures { result ≡ progress_in point phase.now }
 {

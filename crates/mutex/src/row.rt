@@ -7,7 +7,7 @@ use crate::consistent::{self, ConsistentRow};
 use crate::lock::{self, LockRow};
 use crate::try_lock::{self, TryLockRow};
 use crate::unlock::{self, UnlockRow};
-use keys::{Access, Answer, Operation};
+use keys::{Access, Answer};
 use lockword::{Cell, Reply, Tid};
 
 /// The access that a call makes next of those at its mutex's cell, and what the call knows.
@@ -31,6 +31,7 @@ impl Row {
     ghost use Rattle.mutex.specs.Rows.{IsGoing, Knows};
 
     /// Where a call begins.
+    #[inline(always)]
     pub(crate) fn first(call: Call) -> Row
         ensures value { result ≡ first_row call }
         ensures knows { Knows result }
@@ -45,18 +46,8 @@ impl Row {
         }
     }
 
-    pub(crate) fn operation(&self) -> Operation
-        ensures { result ≡ row_operation self.now }
-    {
-        match *self {
-            Row::Lock(_) => Operation::Lock,
-            Row::Unlock(_) => Operation::Unlock,
-            Row::Consistent(_) => Operation::Consistent,
-            _ => Operation::TryLock,
-        }
-    }
-
     /// The access of a call of the thread on the cell at this address.
+    #[inline(always)]
     pub(crate) fn next(&self, thread: Tid, cell: u64) -> Access
         requires going { IsGoing self.now }
         requires knows { Knows self.now }

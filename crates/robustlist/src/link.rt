@@ -47,6 +47,7 @@ impl Link {
     ghost use Rattle.robustlist.specs.Link.{link_started, link_access_of, link_moved, link_resume, link_after_both, LinkGoes};
 
     /// The link of an entry, by its address, into the list whose head is at an address. Addresses count 64-bit words.
+    #[inline(always)]
     pub fn new(head: u64, entry: u64) -> Link
         ensures { result ≡ link_started head entry }
     {
@@ -58,6 +59,7 @@ impl Link {
     }
 
     /// The access that comes next, of a link that hasn't returned.
+    #[inline(always)]
     pub fn next(&self) -> Access
         requires { LinkGoes self.now.row }
         ensures { result ≡ link_access_of self.now }
@@ -86,21 +88,19 @@ impl Link {
 
     /// Goes on with an answer. One that no such access has counts as `Fault`, after which the link returns `EFAULT` and has left what its earlier
     /// accesses did. Else it returns `OK` in the end.
+    #[inline(always)]
     pub fn resume(&mut self, answer: Answer) -> Progress
         requires { LinkGoes self.old.row }
         ensures row { self.new ≡ link_moved self.old answer }
         ensures progress { result ≡ link_progress (link_moved self.old answer).row }
     {
         let row = self.led(answer);
-        *self = Link {
-            head: self.head,
-            entry: self.entry,
-            row,
-        };
+        self.row = row;
         progress(&row)
     }
 
     /// Where an answer leads.
+    #[inline(always)]
     fn led(&self, answer: Answer) -> LinkRow
         ensures { result ≡ link_resume self.now.head self.now.row answer }
     {
@@ -118,6 +118,7 @@ impl Link {
     }
 
     /// The row after the stores to the entry's own words: in an empty list no entry was first.
+    #[inline(always)]
     fn after_both(&self, first: u64) -> LinkRow
         ensures { result ≡ link_after_both self.now.head first }
     {
@@ -130,6 +131,7 @@ impl Link {
 }
 
 /// The row that a store leads to.
+#[inline(always)]
 fn stored(answer: Answer, row: LinkRow) -> LinkRow
     ensures { result ≡ link_stored answer row }
 {
@@ -140,6 +142,7 @@ fn stored(answer: Answer, row: LinkRow) -> LinkRow
 }
 
 /// How far the link is at a row.
+#[inline(always)]
 fn progress(row: &LinkRow) -> Progress
     ensures { result ≡ link_progress row.now }
 {

@@ -46,6 +46,7 @@ impl Unlink {
     ghost use Rattle.robustlist.specs.Unlink.{unlink_started, unlink_access_of, unlink_moved, unlink_resume, unlink_after_next, UnlinkGoes};
 
     /// The unlink of an entry, by its address, from the list whose head is at an address. Addresses count 64-bit words.
+    #[inline(always)]
     pub fn new(head: u64, entry: u64) -> Unlink
         ensures { result ≡ unlink_started head entry }
     {
@@ -57,6 +58,7 @@ impl Unlink {
     }
 
     /// The access that comes next, of an unlink that hasn't returned.
+    #[inline(always)]
     pub fn next(&self) -> Access
         requires { UnlinkGoes self.now.row }
         ensures { result ≡ unlink_access_of self.now }
@@ -80,21 +82,19 @@ impl Unlink {
 
     /// Goes on with an answer. One that no such access has counts as `Fault`, after which the unlink returns `EFAULT` and has left what its earlier
     /// accesses did. Else it returns `OK` in the end.
+    #[inline(always)]
     pub fn resume(&mut self, answer: Answer) -> Progress
         requires { UnlinkGoes self.old.row }
         ensures row { self.new ≡ unlink_moved self.old answer }
         ensures progress { result ≡ unlink_progress (unlink_moved self.old answer).row }
     {
         let row = self.led(answer);
-        *self = Unlink {
-            head: self.head,
-            entry: self.entry,
-            row,
-        };
+        self.row = row;
         progress(&row)
     }
 
     /// Where an answer leads.
+    #[inline(always)]
     fn led(&self, answer: Answer) -> UnlinkRow
         ensures { result ≡ unlink_resume self.now.head self.now.row answer }
     {
@@ -116,6 +116,7 @@ impl Unlink {
     }
 
     /// The row after the store that took the entry out: behind the last entry comes the head, which has no previous word.
+    #[inline(always)]
     fn after_next(&self, next: u64, previous: u64) -> UnlinkRow
         ensures { result ≡ unlink_after_next self.now.head next previous }
     {
@@ -128,6 +129,7 @@ impl Unlink {
 }
 
 /// The row that a store leads to.
+#[inline(always)]
 fn stored(answer: Answer, row: UnlinkRow) -> UnlinkRow
     ensures { result ≡ unlink_stored answer row }
 {
@@ -138,6 +140,7 @@ fn stored(answer: Answer, row: UnlinkRow) -> UnlinkRow
 }
 
 /// How far the unlink is at a row.
+#[inline(always)]
 fn progress(row: &UnlinkRow) -> Progress
     ensures { result ≡ unlink_progress row.now }
 {
