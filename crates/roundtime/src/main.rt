@@ -1,17 +1,15 @@
-//! How long an uncontended round of a robust mutex takes, beside what its two exchanges alone take.
+//! How long an uncontended round of a robust mutex takes, beside what its accesses and its two exchanges alone take.
 //!
 //! `roundtime N` makes N rounds of each, in one thread, and prints nanoseconds a round. Without N it measures nothing. The figures are the machine's; no test
 //! looks at them.
 #![tactic(auto)]
 
-ghost use Rattle.std.specs.Prelude.{◌≡◌, ◌<◌};
-ghost use Rattle.ruledwords.specs.declared.outcome.Wakes.TheVariants.{Nobody};
-ghost use Rattle.ruledwords.specs.Outcomes.{owed_pass, owed_wakes};
-ghost use Rattle.ruledwords.specs.Passes.{layout_of, IsPassOf};
+ghost use Rattle.std.specs.Prelude.{◌<◌, IfSome};
+ghost use Rattle.ruledwords.specs.Passes.{layout_of, IsLive};
 
-use keys::{Answer, Layout};
+use keys::Layout;
 use lockword::Reply;
-use ruledwords::{Live, Never, Outcome, Owed, Pass, Released, Running, Turn, Words};
+use ruledwords::{Live, Never, Outcome, Pass, Released, Words};
 use std::sync::atomic::{AtomicU64, Ordering};
 use std::time::{Duration, Instant};
 use std::{env, io};
@@ -21,40 +19,6 @@ fn plain_round(word: &AtomicU64) -> bool {
     let taken = word.compare_exchange(0, 1, Ordering::SeqCst, Ordering::SeqCst);
     let freed = word.swap(0, Ordering::SeqCst);
     taken.is_ok() && freed == 1
-}
-
-/// Ends an unlock whose sleepers nobody wakes, and which doesn't trim its word: one thread alone never sleeps.
-fn wake_nobody(owed: Owed) -> Pass<Live>
-    requires { ¬ (owed_wakes owed ≡ Nobody) }
-    ensures { result ≡ owed_pass owed }
-{
-    match Running::owed(owed).answer(Answer::Count(0)) {
-        Turn::Lives(pass, _) => pass,
-        Turn::Goes(trims) => match trims.answer(Answer::Trimmed(false)) {
-            Turn::Lives(pass, _) => pass,
-            Turn::Goes(_) => unreachable!(),
-        },
-    }
-}
-
-/// A trylock and an unlock, and whether both were answered OK.
-fn round(words: &Words, pass: Pass<Live>) -> (Pass<Live>, bool)
-    requires pass { IsPassOf words.now pass }
-    requires mutex { 0 < (layout_of words.now).mutexes }
-    ensures { IsPassOf words.now result.0 }
-{
-    let (pass, taken) = match words.try_lock(pass, 0, &mut Never) {
-        Outcome::Lives(pass, reply) => (pass, reply == Reply::OK),
-        Outcome::Dead(_) => unreachable!(),
-    };
-    match words.release(pass, 0, &mut Never) {
-        Released::Owes(owed) => match owed.settle(words) {
-            Ok(pass) => (pass, taken),
-            Err(owed) => (wake_nobody(owed), false),
-        },
-        Released::Refused(pass, _) => (pass, false),
-        Released::Dead(_) => unreachable!(),
-    }
 }
 
 /// Makes so many plain rounds, and tells how many went well.
@@ -67,17 +31,88 @@ fn plain_rounds(count: u64) -> u64 {
     well
 }
 
+/// The words that a round meets: its thread's head and pending entry, the cell, and the entry's two links.
+#[derive(Drop)]
+struct Met {
+    head: AtomicU64,
+    pending: AtomicU64,
+    cell: AtomicU64,
+    next: AtomicU64,
+    previous: AtomicU64,
+}
+
+/// The accesses of a trylock and an unlock by a thread that holds nothing else, one after the other and in the same memory order, and whether each found what it should.
+fn same_round(met: &Met) -> bool {
+    met.pending.store(8, Ordering::SeqCst);
+    let free = met.cell.load(Ordering::SeqCst);
+    let taken = met
+        .cell
+        .compare_exchange(free, 1, Ordering::SeqCst, Ordering::SeqCst);
+    let first = met.head.load(Ordering::SeqCst);
+    met.next.store(first, Ordering::SeqCst);
+    met.previous.store(1, Ordering::SeqCst);
+    met.head.store(8, Ordering::SeqCst);
+    met.pending.store(0, Ordering::SeqCst);
+    let owned = met.cell.load(Ordering::SeqCst);
+    met.pending.store(8, Ordering::SeqCst);
+    let behind = met.next.load(Ordering::SeqCst);
+    let before = met.previous.load(Ordering::SeqCst);
+    met.head.store(behind, Ordering::SeqCst);
+    let freed = met.cell.fetch_xor(1, Ordering::SeqCst);
+    met.pending.store(0, Ordering::SeqCst);
+    taken.is_ok() && owned == 1 && freed == 1 && before == 1
+}
+
+/// Makes so many rounds of the same accesses, and tells how many went well.
+fn same_rounds(count: u64) -> u64 {
+    let met = Met {
+        head: AtomicU64::new(1),
+        pending: AtomicU64::new(0),
+        cell: AtomicU64::new(0),
+        next: AtomicU64::new(0),
+        previous: AtomicU64::new(0),
+    };
+    let mut well = 0_u64;
+    for _ in 0..count {
+        well = well.wrapping_add(u64::from(same_round(&met)));
+    }
+    well
+}
+
+/// A trylock and an unlock. There is no pass where one of them wasn't answered OK, or somebody was to be woken: then the thread has stopped.
+fn round(words: &Words, pass: Pass<Live>) -> Option<Pass<Live>>
+    requires pass { IsLive words.now pass }
+    requires mutex { 0 < (layout_of words.now).mutexes }
+    ensures { IfSome result (λ p. IsLive words.now p) }
+{
+    let Outcome::Lives(pass, Reply::OK) = words.try_lock(pass, 0, &mut Never) else {
+        return None;
+    };
+    match words.release(pass, 0, &mut Never) {
+        Released::Owes(owed) => match owed.settle(words) {
+            Ok(pass) => Some(pass),
+            Err(owed) => {
+                owed.abandon();
+                None
+            }
+        },
+        Released::Refused(_, _) | Released::Dead(_) => None,
+    }
+}
+
 /// Makes so many rounds, and tells how many went well.
 fn rounds(words: &Words, first: Pass<Live>, count: u64) -> u64
-    requires pass { IsPassOf words.now first }
+    requires pass { IsLive words.now first }
     requires mutex { 0 < (layout_of words.now).mutexes }
 {
     let mut pass = first;
     let mut well = 0_u64;
     for _ in 0..count {
-        let (after, went) = round(words, pass);
+        let Some(after) = round(words, pass) else {
+            return well;
+        };
         pass = after;
-        well = well.wrapping_add(u64::from(went));
+        well = well.wrapping_add(1);
     }
     well
 }
@@ -100,6 +135,9 @@ fn measure(rt: &HostRuntime, count: u64) -> io::Result<()> {
     let start = Instant::now(rt)?;
     let well = plain_rounds(count);
     tell(rt, "plain exchanges", count, well, start.elapsed(rt)?)?;
+    let start = Instant::now(rt)?;
+    let well = same_rounds(count);
+    tell(rt, "the same accesses", count, well, start.elapsed(rt)?)?;
     let start = Instant::now(rt)?;
     let well = rounds(&words, pass, count);
     tell(rt, "robust mutex", count, well, start.elapsed(rt)?)

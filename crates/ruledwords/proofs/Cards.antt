@@ -6,30 +6,37 @@ use Rattle.lockword.specs.declared.reply.Reply.{Reply}
 use Rattle.keys.specs.declared.object.Object.{Object}
 use Rattle.keys.specs.declared.point.Operation.{Operation}
 use Rattle.keys.specs.declared.point.Point.{Point}
-use Rattle.keys.specs.Layouts.{Layout'}
+use Rattle.keys.specs.Layouts.{Layout', IsLayout, base_of, cell_place}
+use Rattle.mutex.proofs.Addresses.{same_place}
 use Rattle.keys.specs.Objects.{fresh, Run}
 use Rattle.facts.specs.Lives.{Complete}
 use Rattle.mutex.specs.Standings.{Standing}
 use Rattle.ruledwords.specs.declared.card.Card.{Card}
 use Rattle.ruledwords.specs.Calls.{acts, IsOnMutex}
+use Rattle.ruledwords.specs.Looks.{noted, KnowsTheSame}
 use Rattle.ruledwords.specs.Cards.{at}
 use Rattle.ruledwords.specs.Passes.{IsCardOf}
-use Rattle.ruledwords.specs.Rules.{base_of, first_card}
+use Rattle.ruledwords.specs.Rules.{first_card}
 use Rattle.ruledwords.specs.Seen.{by, points_of, EndsWith, Saw, Called, Died, Leaves, Sees, Joined}
 use Rattle.ruledwords.proofs.Lists.{told}
 
 -- a call is on one mutex
-pub same_mutex : (k : Layout') (p : Standing) (m l : ℕ) → IsOnMutex k p m → IsOnMutex k p l → l ≡ m
-same_mutex k p m l here there = let a = here.1 in let b = there.1 in omega arith
+pub same_mutex : (k : Layout') (p : Standing) (m l : ℕ) → IsLayout k → 1 ≤ p.thread → p.thread ≤ k.threads → IsOnMutex k p m → IsOnMutex k p l → l ≡ m
+same_mutex k p m l layout first known here there =
+    let a = here.0 in let b = there.0 in
+    let e = same_place k p.thread layout first known (cell_place k l) (cell_place k m) (omega arith) (omega arith) (sym there.1 ∙ here.1) in
+    omega (arith, e)
 
 -- ---- cards of a layout
 
-pub first_is : (k : Layout') (t : ℕ) → t ≤ k.threads → IsCardOf k (first_card k t)
-first_is k t low = record { threads = refl; thread = low; base = refl; legal = λ p. (fresh, (refl, tt)) }
+pub first_is : (k : Layout') (t : ℕ) → IsLayout k → 1 ≤ t → t ≤ k.threads → IsCardOf k (first_card k t)
+first_is k t layout first low = record { layout = layout; threads = refl; first = first; thread = low; base = refl; legal = λ p. (fresh, (refl, tt)) }
 
 pub still_card : (k : Layout') (c : Card) (p : ℕ) (new : List Point) (o : Object) (d : Card) → IsCardOf k c → Sees c p new o d → IsCardOf k d
 still_card k c p new o d is s = record {
+  layout = is.layout;
   threads = s.threads ∙ is.threads;
+  first = subst (λ (z : ℕ). 1 ≤ z) (sym s.thread) is.first;
   thread = subst (λ (z : ℕ). z ≤ k.threads) (sym s.thread) is.thread;
   base = s.base ∙ is.base ∙ ap (base_of k) (sym s.thread);
   legal = λ q. dite (ℕ_discrete q p)
@@ -38,11 +45,13 @@ still_card k c p new o d is s = record {
 }
 
 pub first_met : (k : Layout') (c d c' d' : Card) → IsCardOf k c → Joined c d c' d' → IsCardOf k c'
-first_met k c d c' d' is j = subst (IsCardOf k) (sym j.first) record { threads = is.threads; thread = is.thread; base = is.base; legal = j.legal }
+first_met k c d c' d' is j = subst (IsCardOf k) (sym j.first) record { layout = is.layout; threads = is.threads; first = is.first; thread = is.thread; base = is.base; legal = j.legal }
 
 pub second_met : (k : Layout') (c d c' d' : Card) → IsCardOf k c → IsCardOf k d → Joined c d c' d' → IsCardOf k d'
 second_met k c d c' d' first is j = subst (IsCardOf k) (sym j.second) record {
+  layout = is.layout;
   threads = is.threads;
+  first = is.first;
   thread = is.thread;
   base = is.base;
   legal = λ p. let l = j.legal p in (l.0, subst (λ (n : ℕ). Leaves n p (at j.seen p) l.0) (first.threads ∙ sym is.threads) l.1);
@@ -94,3 +103,15 @@ complete_one op x = refl
 pub dies : (c : Card) (p : ℕ) (op : Operation) (r : Option Reply) (d : Card) → Called c p (acts op r) d → Died c p op d
 dies c p op None d called = record { acts = []; beginning = ((op, Rattle.lockword.specs.declared.reply.Reply.TheVariants.OK) ∷ [], Rattle.lockword.specs.declared.reply.Reply.TheVariants.OK, complete_one op _); saw = called.saw }
 dies c p op (Some x) d called = record { acts = (op, x) ∷ []; beginning = ([], x, complete_one op x); saw = called.saw }
+
+-- ---- what a look notes
+
+pub is_noted : (k : Layout') (c : Card) (n t : ℕ) → IsCardOf k c → IsCardOf k (noted c n t)
+is_noted k c n t is = record { layout = is.layout; threads = is.threads; first = is.first; thread = is.thread; base = is.base; legal = is.legal }
+
+pub knows_same : (c d : Card) (n t : ℕ) → d ≡ noted c n t → KnowsTheSame c d
+knows_same c d n t e = subst (λ (z : Card). z ≡ noted c z.last z.trims) (sym e) refl
+
+-- the word that was found, and the trims
+pub last_noted : (c d : Card) (n t : ℕ) → d ≡ noted c n t → (d.last ≡ n) × (d.trims ≡ t)
+last_noted c d n t e = (ap (λ (z : Card). z.last) e, ap (λ (z : Card). z.trims) e)

@@ -18,12 +18,7 @@ use Rattle.mutex.specs.Standings.{Standing}
 use Rattle.mutex.specs.Steps.{IsStep}
 use Rattle.ruledwords.specs.declared.card.Card.{Card}
 use Rattle.ruledwords.specs.Calls.{Ready, Made, led_at}
-
--- behind its release an unlock has found a word that said its thread was the owner
-abbrev pub FoundOwn : Row → ℕ → ℕ → Type 0
-FoundOwn (Unlock (unlock.Wake a)) t v = (fields_of v).owner ≡ t
-FoundOwn (Ended OK) t v = (fields_of v).owner ≡ t
-FoundOwn r t v = Unit {0}
+use Rattle.ruledwords.specs.Owing.{FoundOwn}
 
 owner_told : (a t : ℕ) → owner_of a ≡ Some t → a ≡ t
 owner_told zero t e = absurd (cc e)

@@ -1,12 +1,12 @@
 -- Whose the words are.
-use Rattle.std.proofs.Common.{Bool, true, false, ◌≡◌, ◌≢◌, ℕ, ◌+◌, ◌-◌, ◌/◌, ◌%◌, ◌<◌, ◌≤◌, ◌==◌, ◌&&◌, ◌||◌, List, length, set, refl, sym, ap, ◌∙◌, arith, get_or-set_other, get_or-set_same}
+use Rattle.std.proofs.Common.{Bool, true, false, ◌≡◌, ◌≢◌, ◌⊎◌, ⊎_elim, ℕ, ◌+◌, ◌-◌, ◌/◌, ◌%◌, ◌<◌, ◌≤◌, ◌==◌, ◌&&◌, ◌||◌, List, length, set, refl, sym, ap, ◌∙◌, arith, get_or-set_other, get_or-set_same}
 use Rattle.std.specs.Prelude.{nat_lt, not, if◌then◌else◌}
 use Rattle.std.proofs.lemmas.Bool.Decides.{nat_tests}
 use Rattle.std.proofs.lemmas.Bool.{eqb-false}
 use mathlib.Core.Logic.{dite}
 use native.Mathlib.Decide.{ℕ_discrete}
 use Rattle.lockword.specs.Cells.{fields_of}
-use Rattle.keys.specs.Layouts.{Layout', head_place, cell_place, counter_place, words_of}
+use Rattle.keys.specs.Layouts.{Layout', head_place, cell_place, entry_place, counter_place, words_of}
 use Rattle.ruledwords.specs.Rules.{guard, owner_at, keeper}
 
 -- the two tests of a place
@@ -20,6 +20,22 @@ cell_keeper k ws m low = grind (arith, nat_tests)
 -- a head is its thread's
 pub head_keeper : (k : Layout') (ws : List ℕ) (t p : ℕ) → 1 ≤ t → t ≤ k.threads → head_place t ≤ p → p < head_place t + 3 → keeper k ws p ≡ t
 head_keeper k ws t p pos le low high = let here : (p + 2) / 3 ≡ t = omega arith in grind (arith, nat_tests)
+
+-- a link is its mutex's owner's
+abbrev pub IsLink : Layout' → ℕ → ℕ → Type 0
+IsLink k m p = (p ≡ entry_place k m) ⊎ (p ≡ entry_place k m + 1)
+
+pub link_keeper : (k : Layout') (ws : List ℕ) (m p : ℕ) → m < k.mutexes → IsLink k m p → keeper k ws p ≡ owner_at k ws m
+link_keeper k ws m p low link = ⊎_elim
+    (λ (e : p ≡ entry_place k m). by_place p (omega arith) (omega arith) (omega arith) (omega arith))
+    (λ (e : p ≡ entry_place k m + 1). by_place p (omega arith) (omega arith) (omega arith) (omega arith))
+    link
+  where
+    by_place : (p : ℕ) → cell_place k 0 ≤ p → p < counter_place k 0 → (p - cell_place k 0) % 3 ≢ 0 → (p - cell_place k 0) / 3 ≡ m → keeper k ws p ≡ owner_at k ws m
+    by_place p high low other is = grind (arith, nat_tests)
+
+pub link_no_cell : (k : Layout') (m l p : ℕ) → IsLink k m p → p ≢ cell_place k l
+link_no_cell k m l p link e = ⊎_elim (λ (f : p ≡ entry_place k m). absurd (omega arith)) (λ (f : p ≡ entry_place k m + 1). absurd (omega arith)) link
 
 -- words with the same owners have the same keepers
 pub keeper_same : (k : Layout') (ws ws' : List ℕ) (p : ℕ) → owner_at k ws' (guard k p) ≡ owner_at k ws (guard k p) → keeper k ws' p ≡ keeper k ws p

@@ -7,13 +7,30 @@ mod Hands
 mod Gathering
 mod Steps
 mod Turned
-mod Making
 mod Standing
+mod Phases
+mod Making
 mod Accesses
 mod Beginnings
 mod Looks
 mod Trims
+mod OwnWords
+mod Sections
+mod Walking
+mod Marking
+mod WalkSteps
+mod Listing
+pub mod Noted
+mod Finishing
 mod Freeing
 pub mod Fates
-mod Sections
 mod Turning
+mod OwnTurns
+mod CellTurns
+mod SectionPlaces
+mod Ranks
+mod Advancing
+mod Stepping
+mod StepsOfCalls
+mod Releasing
+mod ReleaseSteps

@@ -1,9 +1,10 @@
 -- A look at a cell keeps the rule.
-use Rattle.std.proofs.Common.{◌≡◌, ℕ, ◌<◌, List, [], ◌∷◌, ◌++◌, sym, ap, ◌∙◌, subst, get_or}
-use mathlib.Core.Option.{none}
+use Rattle.std.proofs.Common.{◌≡◌, ◌≢◌, ⊎_elim, ℕ, ◌<◌, List, [], ◌∷◌, ◌++◌, refl, sym, ap, ◌∙◌, subst, arith, get_or, set}
+use mathlib.Core.Option.{none, some}
+use lib.ListN.{get_elem?}
 use lib.Seq.{set-get_or}
 use Rattle.atomic_table.specs.Table.{step, keeps, Allows}
-use Rattle.atomic_table.proofs.Lists.{set_again}
+use Rattle.atomic_table.proofs.Lists.{at_set}
 use Rattle.lockword.specs.Cells.{fields_of}
 use Rattle.keys.specs.declared.point.Point.{Point}
 use Rattle.keys.specs.Layouts.{Layout', cell_place}
@@ -11,10 +12,10 @@ use Rattle.keys.specs.Objects.{object_of}
 use Rattle.ruledwords.specs.declared.card.Card.{Card}
 use Rattle.ruledwords.specs.Cards.{at}
 use Rattle.ruledwords.specs.Seen.{by, Leaves}
-use Rattle.ruledwords.specs.Rules.{Kept, Fits}
-use Rattle.ruledwords.specs.Looks.{Finds, looked}
-use Rattle.ruledwords.proofs.Lists.{by_append, no_more}
-use Rattle.ruledwords.proofs.Moves.{St, card_or}
+use Rattle.ruledwords.specs.Rules.{Kept, Fits, AllFit}
+use Rattle.ruledwords.specs.Looks.{Finds, noted, looked}
+use Rattle.ruledwords.proofs.Lists.{by_append, no_more, all_set}
+use Rattle.ruledwords.proofs.Moves.{St, turns}
 
 -- what a card's thread finds
 pub found : {o : List ℕ} (k : Layout') (s : St) (h : Kept k o s) (c : Card) (m : ℕ) → m < k.mutexes → Fits k s.words h.histories c → Finds c (cell_place k m) (get_or s.words (cell_place k m) 0)
@@ -29,13 +30,33 @@ found k s h c m low f =
       h.narrow m low,
     )
 
+-- a card that notes what it found
+pub kept_noted : {o : List ℕ} (k : Layout') (s : St) (h : Kept k o s) (id : ℕ) (c : Card) (n t : ℕ) → get_elem? s.views id ≡ some (c ∷ []) → Kept k o record { words = s.words; homes = s.homes; views = set s.views id (noted c n t ∷ []) }
+kept_noted k s h id c n t is = let f = (h.fits id (c ∷ []) is).0 in record {
+  layout = h.layout;
+  wide = h.wide;
+  histories = h.histories;
+  leaves = h.leaves;
+  legal = h.legal;
+  narrow = h.narrow;
+  counters = h.counters;
+  unchanged = h.unchanged;
+  fits = λ j w e. ⊎_elim
+      (λ (u : (j ≡ id) × (noted c n t ∷ [] ≡ w)). subst (AllFit k s.words h.histories) u.1 (record { thread = f.thread; threads = f.threads; begins = f.begins; own = f.own; values = f.values; marks = f.marks }, tt))
+      (λ (u : (j ≢ id) × (get_elem? s.views j ≡ some w)). h.fits j w u.1)
+      (at_set s.views id j (noted c n t ∷ []) w e);
+  once = λ u. let same = all_set u s.views id (c ∷ []) (noted c n t ∷ []) is in let once = h.once u in omega arith;
+}
+
 pub looks : {o : List ℕ} (k : Layout') (slots id : ℕ) (c : Card) (m : ℕ) → m < k.mutexes → Allows (Kept k o) slots id (c ∷ [], []) (cell_place k m) (λ n. n) (looked (step slots (cell_place k m) 0 0 none) (c ∷ [], []))
 looks {o} k slots id c m low s h deep is small =
     let p : ℕ = cell_place k m in
-    let f = (h.fits id (c ∷ []) is).0 in (
-      c ∷ [],
+    let n : ℕ = get_or s.words p 0 in
+    let f = (h.fits id (c ∷ []) is).0 in
+    let d : Card = noted c n c.trims in (
+      d ∷ [],
       keeps,
       tt,
-      subst (λ (z : List ℕ × List (List Card)). Kept k o record { words = z.0; homes = s.homes; views = z.1 }) (λ i. (sym (set-get_or s.words p 0) i, sym (set_again s.views id (c ∷ []) is) i)) h,
-      λ d e. (e, subst (λ (z : Card). Finds z p (get_or s.words p 0)) (ap (card_or c) e) (found k s h c m low f)),
+      subst (λ (z : List ℕ). Kept k o record { words = z; homes = s.homes; views = set s.views id (d ∷ []) }) (sym (set-get_or s.words p 0)) (kept_noted k s h id c n c.trims is),
+      turns c d (λ c d. (d ≡ noted c n c.trims) × Finds c p n) (refl, found k s h c m low f),
     )

@@ -1,5 +1,5 @@
 -- A step at a cell keeps the rule, and adds to what its card saw.
-use Rattle.std.proofs.Common.{Bool, true, ◌≡◌, ◌≢◌, ℕ, zero, suc, ◌<◌, ◌≤◌, Option, Some, List, [], ◌∷◌, ◌++◌, length, get_or, set, refl, sym, ap, ◌∙◌, subst, ⊎_elim, arith, append-nil, length-set, get_or-set_other, get_or-set_same, eqb-true, eq-eqb}
+use Rattle.std.proofs.Common.{Bool, true, ◌≡◌, ◌≢◌, ◌⊎◌, ℕ, zero, suc, ◌<◌, ◌≤◌, Option, Some, List, [], ◌∷◌, ◌++◌, length, get_or, set, refl, sym, ap, ◌∙◌, subst, ⊎_elim, arith, append-nil, length-set, get_or-set_other, get_or-set_same, eqb-true, eq-eqb}
 use mathlib.Core.Logic.{dite}
 use mathlib.Core.Option.{some}
 use mathlib.Core.List.{IsPrefix}
@@ -22,7 +22,7 @@ use Rattle.ruledwords.specs.Seen.{by, Leaves, Sees}
 use Rattle.ruledwords.specs.Rules.{guard, owner_at, keeper, Fits, AllFit, cards_of, Kept, Turns}
 use Rattle.ruledwords.proofs.Lists.{at_put, at_put_else, mark_put, mark_put_else, by_append, told, by_own, by_other, all_of_append, all_of_told, prefix_self, prefix_more, all_set, all_two, counted}
 use Rattle.ruledwords.proofs.Held.{others_run}
-use Rattle.ruledwords.proofs.Keepers.{cell_keeper, keeper_set, other_cell, inside, counter_no_cell, owner_here, owner_set}
+use Rattle.ruledwords.proofs.Keepers.{IsLink, link_keeper, link_no_cell, cell_keeper, keeper_set, other_cell, inside, counter_no_cell, owner_here, owner_set}
 
 abbrev pub St : Type 0
 St = State (Unit {0}) (List Card)
@@ -55,7 +55,7 @@ owner_was t v n xs pos none run own = owner_is t (fields_of v).owner (others_run
 
 -- the card after it saw the list xs at p
 abbrev pub after : Card → ℕ → List Point → ℕ → ℕ → List (Option ℕ) → Bool → Card
-after c p xs misses last vs mark = record { threads = c.threads; thread = c.thread; base = c.base; seen = put c.seen p xs; misses = misses; last = last; values = vs; marks = put_mark c.marks p mark }
+after c p xs misses last vs mark = record { threads = c.threads; thread = c.thread; base = c.base; seen = put c.seen p xs; misses = misses; last = last; trims = c.trims; values = vs; marks = put_mark c.marks p mark }
 
 abbrev pub Told : Layout' → List ℕ → ℕ → List (Option ℕ) → Type 0
 Told k ws t vs = (p x : ℕ) → value_at vs p ≡ Some x → (get_or ws p 0 ≡ x) × (keeper k ws p ≡ t)
@@ -63,9 +63,10 @@ Told k ws t vs = (p x : ℕ) → value_at vs p ≡ Some x → (get_or ws p 0 ≡
 abbrev pub Marked : Layout' → List ℕ → ℕ → List Bool → Type 0
 Marked k ws t bs = (m : ℕ) → m < k.mutexes → mark_at bs (cell_place k m) ≡ true → owner_at k ws m ≡ t → (fields_of (get_or ws (cell_place k m) 0)).waiters ≡ true
 
--- which of its values a card may keep when the word of m goes from v to n
-abbrev pub MayKeep : Layout' → ℕ → Card → ℕ → ℕ → List (Option ℕ) → Type 0
-MayKeep k m c v n vs = (p x : ℕ) → value_at vs p ≡ Some x → (value_at c.values p ≡ Some x) × (cell_place k 0 ≤ p → guard k p ≡ m → (fields_of v).owner ≡ c.thread → (fields_of n).owner ≡ c.thread)
+-- which values a card may have when the word of m goes from v to n: those that it had, as far as they stay its thread's own; and where its thread owns m then, what the words of its links are
+abbrev pub MayHave : Layout' → List ℕ → ℕ → Card → ℕ → ℕ → List (Option ℕ) → Type 0
+MayHave k ws m c v n vs = (p x : ℕ) → value_at vs p ≡ Some x
+    → ((value_at c.values p ≡ Some x) × (cell_place k 0 ≤ p → guard k p ≡ m → (fields_of v).owner ≡ c.thread → (fields_of n).owner ≡ c.thread)) ⊎ (IsLink k m p × (get_or ws p 0 ≡ x) × ((fields_of n).owner ≡ c.thread))
 
 -- WAITERS stays while the mutex is owned, and the bits above the flags stay clear
 abbrev pub Steady : ℕ → ℕ → Type 0
@@ -81,6 +82,16 @@ told_after k ws m n t vs vs' low pos within told keep p x e =
     let was = told p x kept.0 in
     (get_or-set_other ws (cell_place k m) p n 0 (no_cell k ws m t p low pos was.1) ∙ was.0, keeper_set k ws m n t p within was.1 kept.1)
 
+-- of one that may have learnt more
+own_told : (k : Layout') (ws : List ℕ) (m n : ℕ) (c : Card) (vs : List (Option ℕ)) → m < k.mutexes → 1 ≤ c.thread → cell_place k m < length ws → Told k ws c.thread c.values → MayHave k ws m c (get_or ws (cell_place k m) 0) n vs → Told k (set ws (cell_place k m) n) c.thread vs
+own_told k ws m n c vs low pos within told have p x e = ⊎_elim
+    (λ (kept : (value_at c.values p ≡ Some x) × (cell_place k 0 ≤ p → guard k p ≡ m → owner_at k ws m ≡ c.thread → (fields_of n).owner ≡ c.thread)).
+    let was = told p x kept.0 in
+    (get_or-set_other ws (cell_place k m) p n 0 (no_cell k ws m c.thread p low pos was.1) ∙ was.0, keeper_set k ws m n c.thread p within was.1 kept.1))
+    (λ (learnt : IsLink k m p × (get_or ws p 0 ≡ x) × ((fields_of n).owner ≡ c.thread)).
+    (get_or-set_other ws (cell_place k m) p n 0 (link_no_cell k m m p learnt.0) ∙ learnt.1, link_keeper k (set ws (cell_place k m) n) m p low learnt.0 ∙ owner_here k ws m n within ∙ learnt.2))
+    (have p x e)
+
 marked_other : (k : Layout') (ws : List ℕ) (m n t : ℕ) (bs : List Bool) → cell_place k m < length ws → 1 ≤ t → ((fields_of n).owner ≡ t → owner_at k ws m ≡ t) → Steady (get_or ws (cell_place k m) 0) n → Marked k ws t bs
     → Marked k (set ws (cell_place k m) n) t bs
 marked_other k ws m n t bs within pos was steady marked l low e own = dite (ℕ_discrete l m)
@@ -91,7 +102,7 @@ marked_other k ws m n t bs within pos was steady marked l low e own = dite (ℕ_
     (ap (λ (v : ℕ). (fields_of v).waiters) (get_or-set_same ws (cell_place k m) n 0 within) ∙ steady.0 (λ none. absurd (omega arith)) on))
     (λ other. ap (λ (v : ℕ). (fields_of v).waiters) (get_or-set_other ws (cell_place k m) (cell_place k l) n 0 (other_cell k m l other)) ∙ marked l low e (sym (owner_set k ws m n l other) ∙ own))
 
-marked_own : (k : Layout') (ws : List ℕ) (m n t : ℕ) (bs : List Bool) → cell_place k m < length ws → Marked k ws t bs → Marked k (set ws (cell_place k m) n) t (put_mark bs (cell_place k m) (fields_of n).waiters)
+pub marked_own : (k : Layout') (ws : List ℕ) (m n t : ℕ) (bs : List Bool) → cell_place k m < length ws → Marked k ws t bs → Marked k (set ws (cell_place k m) n) t (put_mark bs (cell_place k m) (fields_of n).waiters)
 marked_own k ws m n t bs within marked l low e own = dite (ℕ_discrete l m)
     (λ same.
     let here = subst (λ (z : ℕ). mark_at (put_mark bs (cell_place k m) (fields_of n).waiters) (cell_place k z) ≡ true) same e in
@@ -147,7 +158,7 @@ fits_own k ws ws' js p op r c misses last vs b f knows marked = let xs : List Po
 leaves_more : (k : Layout') (p t : ℕ) (xs : List Point) (o n : Object) (op : Operation) (r : Option Reply) → 1 ≤ t → t ≤ k.threads → Leaves k.threads p xs o → Run o (told t p op r) n → Leaves k.threads p (xs ++ told t p op r) n
 leaves_more k p t xs o n op r pos low l run = (run_append fresh o n xs (told t p op r) l.0 run, all_of_append k.threads p xs (told t p op r) l.1 (all_of_told k.threads t p op r pos low))
 
-kept_step : {o : List ℕ} (k : Layout') (s : St) (h : Kept k o s) (id : ℕ) (c : Card) (m : ℕ) (op : Operation) (r : Option Reply) (n misses last : ℕ) (vs : List (Option ℕ)) → get_elem? s.views id ≡ some (c ∷ []) → m < k.mutexes → MayKeep k m c (get_or s.words (cell_place k m) 0) n vs
+kept_step : {o : List ℕ} (k : Layout') (s : St) (h : Kept k o s) (id : ℕ) (c : Card) (m : ℕ) (op : Operation) (r : Option Reply) (n misses last : ℕ) (vs : List (Option ℕ)) → get_elem? s.views id ≡ some (c ∷ []) → m < k.mutexes → MayHave k s.words m c (get_or s.words (cell_place k m) 0) n vs
     → Steady (get_or s.words (cell_place k m) 0) n → Run (says s.words (cell_place k m)) (told c.thread (cell_place k m) op r) (object_of (fields_of n))
     → Kept k o record { words = set s.words (cell_place k m) n; homes = s.homes; views = set s.views id (after c (cell_place k m) (at h.histories (cell_place k m) ++ told c.thread (cell_place k m) op r) misses last vs (fields_of n).waiters ∷ []) }
 kept_step k s h id c m op r n misses last vs is low keep steady run =
@@ -179,7 +190,7 @@ kept_step k s h id c m op r n misses last vs is low keep steady run =
       fits = λ j v e. ⊎_elim
           (λ (t : (j ≡ id) × (w ≡ v)).
           subst (AllFit k ws' (put js p xs)) t.1
-          (fits_own k s.words ws' js p op r c misses last vs (fields_of n).waiters fit (told_after k s.words m n c.thread c.values vs low fit.thread.0 within fit.values keep) (marked_own k s.words m n c.thread c.marks within fit.marks), tt))
+          (fits_own k s.words ws' js p op r c misses last vs (fields_of n).waiters fit (own_told k s.words m n c vs low fit.thread.0 within fit.values keep) (marked_own k s.words m n c.thread c.marks within fit.marks), tt))
           (λ (t : (j ≢ id) × (get_elem? s.views j ≡ some v)).
           let two = all_two c.thread s.views id j (c ∷ []) v is t.1 t.0 in
           let once = h.once c.thread in
@@ -234,11 +245,11 @@ pub record Knowing (k : Layout') (c : Card) (p n : ℕ) : Type 0 where
   pub mark : mark_at c.marks p ≡ true → (fields_of n).owner ≡ c.thread → (fields_of n).waiters ≡ true
 
 -- a step at a cell may be made: what it does to the word is a step of the mutex as an object, WAITERS stays while it is owned, and what is to be kept of the values is so afterwards
-pub allows : {o : List ℕ} (k : Layout') (slots id : ℕ) (c : Card) (m : ℕ) (op : Operation) (f : ℕ → ℕ) (r : ℕ → Option Reply) (misses last : ℕ → ℕ) (vs : ℕ → List (Option ℕ)) (tells : ℕ → Sat → Type 0) → m < k.mutexes
-    → ((n : ℕ) → Knowing k c (cell_place k m) n → MayKeep k m c n (f n) (vs n))
+pub allows : {o : List ℕ} (k : Layout') (slots id : ℕ) (c : Card) (m : ℕ) (op : Operation) (f : ℕ → ℕ) (r : ℕ → Option Reply) (misses last : ℕ → ℕ) (vs : List ℕ → ℕ → List (Option ℕ)) (tells : ℕ → Sat → Type 0) → m < k.mutexes
+    → ((ws : List ℕ) (n : ℕ) → Knowing k c (cell_place k m) n → MayHave k ws m c n (f n) (vs ws n))
     → ((n : ℕ) → Knowing k c (cell_place k m) n → Steady n (f n))
     → ((n : ℕ) → Knowing k c (cell_place k m) n → Run (object_of (fields_of n)) (told c.thread (cell_place k m) op (r n)) (object_of (fields_of (f n))))
-    → ((n : ℕ) (d : Card) → Knowing k c (cell_place k m) n → Sees c (cell_place k m) (told c.thread (cell_place k m) op (r n)) (object_of (fields_of (f n))) d → d.misses ≡ misses n → d.last ≡ last n → mark_at d.marks (cell_place k m) ≡ (fields_of (f n)).waiters → tells n (d ∷ [], []))
+    → ((ws : List ℕ) (n : ℕ) (d : Card) → Knowing k c (cell_place k m) n → Sees c (cell_place k m) (told c.thread (cell_place k m) op (r n)) (object_of (fields_of (f n))) d → d.misses ≡ misses n → d.last ≡ last n → mark_at d.marks (cell_place k m) ≡ (fields_of (f n)).waiters → d.values ≡ vs ws n → tells n (d ∷ [], []))
     → Allows (Kept k o) slots id (c ∷ [], []) (cell_place k m) f tells
 allows k slots id c m op f r misses last vs tells low keeps_values steadies runs says_of s h deep is small =
     let p : ℕ = cell_place k m in
@@ -246,11 +257,11 @@ allows k slots id c m op f r misses last vs tells low keeps_values steadies runs
     let fit = (h.fits id (c ∷ []) is).0 in
     let knows : Knowing k c p n = record { xs = at h.histories p; leaves = h.leaves m low; begins = fit.begins p; own = fit.own p; thread = (fit.thread.0, fit.thread.1, h.layout.threads.1); narrow = h.narrow m low; mark = fit.marks m low } in
     let run = runs n knows in
-    let keep = keeps_values n knows in
+    let keep = keeps_values s.words n knows in
     let steady = steadies n knows in (
-      after c p (at h.histories p ++ told c.thread p op (r n)) (misses n) (last n) (vs n) (fields_of (f n)).waiters ∷ [],
+      after c p (at h.histories p ++ told c.thread p op (r n)) (misses n) (last n) (vs s.words n) (fields_of (f n)).waiters ∷ [],
       keeps,
       tt,
-      kept_step k s h id c m op (r n) (f n) (misses n) (last n) (vs n) is low keep steady run,
-      says_of n _ knows (sees_step k s h id c m op (r n) (f n) (misses n) (last n) (vs n) is low run) refl refl (mark_put c.marks p (fields_of (f n)).waiters),
+      kept_step k s h id c m op (r n) (f n) (misses n) (last n) (vs s.words n) is low keep steady run,
+      says_of s.words n _ knows (sees_step k s h id c m op (r n) (f n) (misses n) (last n) (vs s.words n) is low run) refl refl (mark_put c.marks p (fields_of (f n)).waiters) refl,
     )

@@ -1,8 +1,8 @@
 -- A section that a call's caller made.
-use Rattle.std.proofs.Common.{◌≡◌, ℕ, ◌≤◌, ◌==◌, Bool, true, false, not, Option, Some, [], ◌∷◌, ◌++◌, refl, sym, ap, ◌∙◌, subst, arith}
+use Rattle.std.proofs.Common.{◌≡◌, ◌≢◌, ℕ, ◌≤◌, ◌==◌, Bool, true, false, not, Option, Some, None, [], ◌∷◌, ◌++◌, refl, sym, ap, ◌∙◌, subst, arith}
 use Rattle.std.specs.Prelude.{◌&&◌, if◌then◌else◌}
 use Rattle.lockword.specs.declared.reply.Reply.{Reply}
-use Rattle.lockword.specs.declared.reply.Reply.TheVariants.{OK}
+use Rattle.lockword.specs.declared.reply.Reply.TheVariants.{OK, EFAULT}
 use Rattle.keys.specs.declared.access.Answer.{Answer}
 use Rattle.keys.specs.declared.access.Answer.TheVariants.{Again, Woken, Count, Trimmed}
 use Rattle.keys.specs.declared.point.Operation.{Operation}
@@ -22,6 +22,7 @@ use Rattle.mutex.specs.Laws.{Expects, decided, IsOf, tells_change}
 use Rattle.mutex.specs.Programs.{access_of, row_access, resume_of, row_operation, point_of, progress_of, led, moved}
 use Rattle.mutex.specs.Rows.{Knows, IsGoing}
 use Rattle.mutex.specs.Standings.{Standing}
+use Rattle.mutex.specs.WholeLists.{OwnsAt}
 use Rattle.mutex.proofs.Steps.{goes_on, returned}
 use Rattle.ruledwords.specs.declared.card.Card.{Card}
 use Rattle.ruledwords.specs.Seen.{Called}
@@ -37,6 +38,9 @@ pub record Passes (t : ℕ) (r : Row) (x : Answer) : Type 0 where
   pub of : (op : Operation) → IsOf op r → IsOf op (resume_of t r x).row
   pub change : tells_change x ≡ 0
   pub room : most r ≤ most (resume_of t r x).row
+  pub pointless : (resume_of t r x).point ≡ None
+  pub releases : (own : Bool) → OwnsAt own (resume_of t r x).row
+  pub faultless : (resume_of t r x).row ≢ Ended EFAULT
 
 -- behind a wake the unlock trims, or returns
 abbrev behind_wake : Bool → Row
@@ -62,19 +66,27 @@ behind_room : (b : Bool) → held_limit ≤ most (behind_wake b)
 behind_room true = omega arith
 behind_room false = omega arith
 
+behind_releases : (own b : Bool) → OwnsAt own (behind_wake b)
+behind_releases own true = tt
+behind_releases own false = tt
+
+behind_faultless : (b : Bool) → behind_wake b ≢ Ended EFAULT
+behind_faultless true e = cc
+behind_faultless false e = cc
+
 wake_passes : (t : ℕ) (a : Bool) (k : ℕ) → Passes t (Unlock (unlock.Wake a)) (Count k)
 wake_passes t a k =
     let b : Bool = not a && (k == 0) in
-    record { same = behind_decided b; knows = behind_knows b; expects = behind_expects t b; of = λ op is. behind_of op b is; change = refl; room = behind_room b }
+    record { same = behind_decided b; knows = behind_knows b; expects = behind_expects t b; of = λ op is. behind_of op b is; change = refl; room = behind_room b; pointless = refl; releases = λ own. behind_releases own b; faultless = behind_faultless b }
 
 pub passes : (t cell : ℕ) (r : Row) (x : Answer) → IsAnswerOf (row_access t cell r) x → Passes t r x
 passes t cell (Lock lock.Load) x fits = absurd fits
 passes t cell (Lock (lock.Take v)) x fits = absurd fits
 passes t cell (Lock (lock.SetWaiters v)) x fits = absurd fits
-passes t cell (Lock (lock.Sleep v)) Again fits = record { same = refl; knows = tt; expects = λ o. tt; of = λ op e. e; change = refl; room = omega arith }
-passes t cell (Lock (lock.Sleep v)) Woken fits = record { same = refl; knows = tt; expects = λ o. tt; of = λ op e. e; change = refl; room = omega arith }
+passes t cell (Lock (lock.Sleep v)) Again fits = record { same = refl; knows = tt; expects = λ o. tt; of = λ op e. e; change = refl; room = omega arith; pointless = refl; releases = λ own. tt; faultless = λ e. cc }
+passes t cell (Lock (lock.Sleep v)) Woken fits = record { same = refl; knows = tt; expects = λ o. tt; of = λ op e. e; change = refl; room = omega arith; pointless = refl; releases = λ own. tt; faultless = λ e. cc }
 passes t cell (Lock (lock.Sleep v)) x fits = absurd fits
-passes t cell (Lock lock.WakeAll) (Count k) fits = record { same = refl; knows = tt; expects = λ o. tt; of = λ op e. tt; change = refl; room = omega arith }
+passes t cell (Lock lock.WakeAll) (Count k) fits = record { same = refl; knows = tt; expects = λ o. tt; of = λ op e. tt; change = refl; room = omega arith; pointless = refl; releases = λ own. tt; faultless = λ e. cc }
 passes t cell (Lock lock.WakeAll) x fits = absurd fits
 passes t cell (TryLock try.Load) x fits = absurd fits
 passes t cell (TryLock (try.Take v k)) x fits = absurd fits
@@ -82,7 +94,7 @@ passes t cell (Unlock unlock.Load) x fits = absurd fits
 passes t cell (Unlock (unlock.Release d)) x fits = absurd fits
 passes t cell (Unlock (unlock.Wake a)) (Count k) fits = wake_passes t a k
 passes t cell (Unlock (unlock.Wake a)) x fits = absurd fits
-passes t cell (Unlock unlock.Trim) (Trimmed b) fits = record { same = refl; knows = tt; expects = λ o. tt; of = λ op e. tt; change = refl; room = omega arith }
+passes t cell (Unlock unlock.Trim) (Trimmed b) fits = record { same = refl; knows = tt; expects = λ o. tt; of = λ op e. tt; change = refl; room = omega arith; pointless = refl; releases = λ own. tt; faultless = λ e. cc }
 passes t cell (Unlock unlock.Trim) x fits = absurd fits
 passes t cell (Consistent consistent.Load) x fits = absurd fits
 passes t cell (Consistent consistent.Declare) x fits = absurd fits
@@ -91,7 +103,7 @@ passes t cell (Ended y) x fits = absurd fits
 pub ready_answered : (p : Standing) (c : Card) (x : Answer) → IsAnswerOf (access_of p) x → Ready p c → Ready (moved p (led p x)) c
 ready_answered p c x fits ready =
     let k = passes p.thread p.cell p.row x fits in
-    (ready.0, k.knows, λ q o there run. subst (λ (t : ℕ). Expects t (led p x).row o) ready.0 (k.expects o))
+    (ready.0, k.knows, λ q o small there run. subst (λ (t : ℕ). Expects t (led p x).row o) ready.0 (k.expects o))
 
 pub stands_answered : (op : Operation) (first : Row) (q : ℕ) (c : Card) (p : Standing) (d : Card) (x : Answer) → IsAnswerOf (access_of p) x → Ready p d → Stands op first q c p d → Stands op first q c (moved p (led p x)) d
 stands_answered op first q c p d x fits ready s =

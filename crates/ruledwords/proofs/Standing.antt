@@ -1,5 +1,5 @@
 -- A call, access by access.
-use Rattle.std.proofs.Common.{Bool, true, false, ◌≡◌, ◌≢◌, ℕ, ◌+◌, ◌<◌, ◌≤◌, ◌==◌, Option, Some, None, List, [], ◌∷◌, ◌++◌, refl, sym, ap, ◌∙◌, subst, arith}
+use Rattle.std.proofs.Common.{Bool, true, false, ◌≡◌, ◌≢◌, ℕ, ◌+◌, ◌^◌, ◌<◌, ◌≤◌, ◌==◌, Option, Some, None, List, [], ◌∷◌, ◌++◌, refl, sym, ap, ◌∙◌, subst, arith}
 use Rattle.std.specs.Prelude.{if◌then◌else◌}
 use Rattle.lockword.specs.Cells.{fields_of}
 use Rattle.lockword.specs.declared.reply.Reply.{Reply}
@@ -42,7 +42,7 @@ begins op q c p of none = record {
 }
 
 -- the laws of programs, of an access that was made
-made_right : (p : Standing) (q : ℕ) (c d : Card) (n : ℕ) → IsGoing p.row → IsStep (access_of p) → Ready p c → Made p q c n d → Right c.thread p.cell p.row (led_at p n) n (changed (access_of p) n)
+pub made_right : (p : Standing) (q : ℕ) (c d : Card) (n : ℕ) → IsGoing p.row → IsStep (access_of p) → Ready p c → Made p q c n d → Right c.thread p.cell p.row (led_at p n) n (changed (access_of p) n)
 made_right p q c d n going step ready m = subst (λ (t : ℕ). Right t p.cell p.row (led_at p n) n (changed (access_of p) n)) ready.0
     (right_step p.thread p.cell n p.row (subst (λ (z : ℕ). 1 ≤ z) (sym ready.0) m.thread.0) (subst (λ (z : ℕ). z ≤ 64) (sym ready.0) m.thread.1) going step ready.1 m.sound (subst (λ (z : ℕ). Expects z p.row (object_of (fields_of n))) (sym ready.0) m.met))
 
@@ -50,18 +50,18 @@ made_minds : (p : Standing) (q : ℕ) (c d : Card) (n : ℕ) → IsGoing p.row �
 made_minds p q c d n going step ready m = minds p.thread p.cell n p.row (subst (λ (z : ℕ). z ≤ 64) (sym ready.0) m.thread.1) going step ready.1 (subst (λ (z : ℕ). Expects z p.row (object_of (fields_of n))) (sym ready.0) m.met)
 
 -- the point that is made is the one that the next row tells
-made_point : (p : Standing) (q : ℕ) (c d : Card) (n : ℕ) → IsGoing p.row → IsStep (access_of p) → Ready p c → Made p q c n d → decided (led_at p n).row ≡ (led_at p n).point
+pub made_point : (p : Standing) (q : ℕ) (c d : Card) (n : ℕ) → IsGoing p.row → IsStep (access_of p) → Ready p c → Made p q c n d → decided (led_at p n).row ≡ (led_at p n).point
 made_point p q c d n going step ready m = subst (λ (z : Option Reply). Joins z (led_at p n).point (decided (led_at p n).row)) (undecided p.thread p.cell p.row going step) (made_right p q c d n going step ready m).tells
 
-pub ready_after : (p : Standing) (q : ℕ) (c d : Card) (n : ℕ) → p.cell ≡ address_at c q → IsGoing p.row → IsStep (access_of p) → Ready p c → Made p q c n d → Ready (moved p (led_at p n)) d
-ready_after p q c d n there going step ready m =
+pub ready_after : (p : Standing) (q : ℕ) (c d : Card) (n : ℕ) → q < 2 ^ 64 → p.cell ≡ address_at c q → IsGoing p.row → IsStep (access_of p) → Ready p c → Made p q c n d → Ready (moved p (led_at p n)) d
+ready_after p q c d n few there going step ready m =
     let r = made_right p q c d n going step ready m in
     let u : Object = object_of (fields_of (changed (access_of p) n)) in (
       ready.0 ∙ sym m.sees.thread,
       r.knows,
-      λ z o at' run.
+      λ z o small at' run.
           let base = m.sees.base in
-          let here : z ≡ q = omega arith in
+          let here : z ≡ q = omega (arith, few, small, at', there, base) in
           subst (λ (z : ℕ × Object). Expects z.0 (led_at p n).row z.1) (λ i. (sym m.sees.thread i, run_same fresh u o (at d.seen q) m.sees.leaves.0 (subst (λ (y : ℕ). Run fresh (at d.seen y) o) here run) i)) r.expects,
     )
 

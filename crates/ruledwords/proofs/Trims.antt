@@ -1,12 +1,11 @@
 -- A trim of a cell keeps the rule, and nothing is seen anew by it.
-use Rattle.std.proofs.Common.{Bool, true, false, ◌≡◌, ◌≢◌, ℕ, ◌<◌, ◌==◌, List, [], ◌∷◌, length, get_or, set, refl, sym, ap, ◌∙◌, subst, arith, eqb-true, length-set, get_or-set_other, get_or-set_same}
+use Rattle.std.proofs.Common.{Bool, true, false, ◌≡◌, ◌≢◌, ℕ, ◌+◌, ◌<◌, ◌==◌, List, [], ◌∷◌, length, get_or, set, refl, sym, ap, ◌∙◌, subst, arith, eqb-true, length-set, get_or-set_other, get_or-set_same}
 use mathlib.Core.Logic.{dite}
 use mathlib.Core.Option.{none}
 use native.Mathlib.Decide.{ℕ_discrete}
 use lib.Seq.{set-get_or}
 use prog.Atomic.{either}
 use Rattle.atomic_table.specs.Table.{step, keeps, Allows}
-use Rattle.atomic_table.proofs.Lists.{set_again}
 use Rattle.lockword.specs.Cells.{fields_of}
 use Rattle.keys.specs.Layouts.{Layout', cell_place, counter_place}
 use Rattle.keys.specs.Objects.{object_of}
@@ -14,10 +13,10 @@ use Rattle.ruledwords.specs.declared.card.Card.{Card}
 use Rattle.ruledwords.specs.Cards.{at}
 use Rattle.ruledwords.specs.Seen.{Leaves}
 use Rattle.ruledwords.specs.Rules.{guard, owner_at, keeper, Fits, AllFit, Kept}
-use Rattle.ruledwords.specs.Looks.{Finds, looked}
+use Rattle.ruledwords.specs.Looks.{Finds, noted, trimmed}
 use Rattle.ruledwords.proofs.Keepers.{cell_keeper, keeper_same, other_cell, inside, owner_set, counter_no_cell}
-use Rattle.ruledwords.proofs.Moves.{St, says, card_or}
-use Rattle.ruledwords.proofs.Looks.{found}
+use Rattle.ruledwords.proofs.Moves.{St, says, turns}
+use Rattle.ruledwords.proofs.Looks.{found, kept_noted}
 
 -- where WAITERS is all that the word of mutex m says
 module _ {o : List ℕ} (k : Layout') (s : St) (h : Kept k o s) (m : ℕ) (low : m < k.mutexes) (alone : get_or s.words (cell_place k m) 0 ≡ 0x8000_0000) where
@@ -90,14 +89,15 @@ kept_trim {o} k s h m low false is = subst (λ (z : List ℕ). Kept k o record {
 
 -- an exchange from WAITERS alone to 0
 pub trims : {o : List ℕ} (k : Layout') (slots id : ℕ) (c : Card) (m : ℕ) → m < k.mutexes
-    → Allows (Kept k o) slots id (c ∷ [], []) (cell_place k m) (λ n. either (n == 0x8000_0000) 0 n) (looked (step slots (cell_place k m) 0x8000_0000 0 none) (c ∷ [], []))
+    → Allows (Kept k o) slots id (c ∷ [], []) (cell_place k m) (λ n. either (n == 0x8000_0000) 0 n) (trimmed (step slots (cell_place k m) 0x8000_0000 0 none) (c ∷ [], []))
 trims {o} k slots id c m low s h deep is small =
     let p : ℕ = cell_place k m in
     let n : ℕ = get_or s.words p 0 in
-    let f = (h.fits id (c ∷ []) is).0 in (
-      c ∷ [],
+    let f = (h.fits id (c ∷ []) is).0 in
+    let d : Card = noted c n (c.trims + 1) in (
+      d ∷ [],
       keeps,
       tt,
-      subst (λ (z : List (List Card)). Kept k o record { words = set s.words p (either (n == 0x8000_0000) 0 n); homes = s.homes; views = z }) (sym (set_again s.views id (c ∷ []) is)) (kept_trim k s h m low (n == 0x8000_0000) refl),
-      λ d e. (e, subst (λ (z : Card). Finds z p n) (ap (card_or c) e) (found k s h c m low f)),
+      kept_noted k record { words = set s.words p (either (n == 0x8000_0000) 0 n); homes = s.homes; views = s.views } (kept_trim k s h m low (n == 0x8000_0000) refl) id c n (c.trims + 1) is,
+      turns c d (λ c d. (0x8000_0000 ≡ 0x8000_0000) × (0 ≡ 0) × (d ≡ noted c n (c.trims + 1)) × Finds c p n) (refl, refl, refl, found k s h c m low f),
     )

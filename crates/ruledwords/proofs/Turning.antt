@@ -1,19 +1,24 @@
 -- A call, turn by turn.
-use Rattle.std.proofs.Common.{◌≡◌, ℕ, None, Ok, [], ◌∷◌, refl, sym, ap, subst}
+use Rattle.std.proofs.Common.{false, ◌≡◌, ℕ, ◌≤◌, None, Ok, [], ◌∷◌, refl, sym, ap, ◌∙◌, subst, arith}
 use Rattle.std.specs.Prelude.{◌&&◌, nat_le}
+use Rattle.std.proofs.lemmas.Bool.Decides.{nat_tests}
 use Rattle.lockword.specs.declared.reply.Reply.{Reply}
 use Rattle.lockword.specs.declared.reply.Reply.TheVariants.{XRACED}
 use Rattle.keys.specs.declared.access.Answer.{Answer}
 use Rattle.keys.specs.declared.point.Operation.TheVariants as operation
-use Rattle.keys.specs.Layouts.{Layout', cell_place}
-use Rattle.keys.specs.Objects.{acquires}
+use Rattle.keys.specs.Layouts.{Layout', cell_place, address_in}
+use Rattle.keys.specs.declared.object.Object.{Object}
+use Rattle.keys.specs.Objects.{acquires, fresh}
 use Rattle.mutex.specs.declared.call.Call.{Call}
 use Rattle.mutex.specs.declared.call.Call.TheVariants.{Lock, TryLock, Unlock, Consistent}
 use Rattle.mutex.specs.declared.row.Row.TheVariants as row
 use Rattle.mutex.specs.Calls.{mutex_of, operation_of}
-use Rattle.mutex.specs.Laws.{decided, IsOf}
-use Rattle.mutex.specs.Programs.{access_of, first_row, at_cell, started, led, moved}
-use Rattle.mutex.specs.Standings.{Standing}
+use Rattle.mutex.specs.declared.row.Row.{Row}
+use Rattle.mutex.specs.Laws.{decided, Expects, IsOf}
+use Rattle.mutex.specs.Programs.{access_of, first_row, led, moved}
+use Rattle.mutex.specs.Rows.{IsGoing, Knows}
+use Rattle.mutex.specs.Whole.{first_phase, whole_started, begins as whole_begins, IsUnderWay as IsInProgress}
+use Rattle.mutex.specs.Standings.{Standing, Whole}
 use Rattle.mutex.specs.Steps.{IsStep}
 use Rattle.ruledwords.specs.declared.card.Card.{Card}
 use Rattle.ruledwords.specs.declared.pass.Words.{Words}
@@ -22,8 +27,8 @@ use Rattle.ruledwords.specs.declared.pass.Live.{Live}
 use Rattle.ruledwords.specs.declared.turn.Running.{Running}
 use Rattle.ruledwords.specs.Passes.{card, layout_of}
 use Rattle.ruledwords.specs.Seen.{Called, Died}
-use Rattle.ruledwords.specs.Calls.{IsOnMutex, Stands, Made, led_at}
-use Rattle.ruledwords.specs.Turns.{IsUnderWay, IsAnswerOf, IsRaced}
+use Rattle.ruledwords.specs.Calls.{IsOnMutex, Ready, Stands, Made, led_at, most, row_in, standing_of}
+use Rattle.ruledwords.specs.Turns.{running_program, IsUnderWay, IsAnswerOf, IsRaced}
 use Rattle.ruledwords.proofs.Beginnings.{by_test}
 use Rattle.ruledwords.proofs.Cards.{same_mutex, dies}
 use Rattle.ruledwords.proofs.Standing.{begins, stands_after, called, raced_four}
@@ -44,17 +49,58 @@ first_undecided (Unlock m) = refl
 first_undecided (Consistent m) = refl
 
 -- where a call stands that begins
-pub starts : (k : Layout') (t h : ℕ) (c : Call) (p : Standing) → started k t h c ≡ Ok p → p ≡ at_cell k t c
-starts k t h c p e = (by_test (acquires (operation_of c) && nat_le 2048 h) (at_cell k t c) p e).1
+pub starts : (k : Layout') (t h : ℕ) (c : Call) (p : Whole) → whole_started k t h c ≡ Ok p → p ≡ whole_begins k t c
+starts k t h c p e = (by_test (acquires (operation_of c) && nat_le 2048 h) (whole_begins k t c) p e).1
 
-pub begun : (k : Layout') (c : Card) (call : Call) (p : Standing) → p ≡ at_cell k c.thread call → Stands (operation_of call) (first_row call) (cell_place k (mutex_of call)) c p c
+-- as its mutex sees it, at the first row
+pub starts_so : (k : Layout') (t : ℕ) (c : Call) → standing_of (whole_begins k t c) ≡ record { thread = t; cell = address_in k t (cell_place k (mutex_of c)); row = first_row c }
+starts_so k t (Lock m) = refl
+starts_so k t (TryLock m) = refl
+starts_so k t (Unlock m) = refl
+starts_so k t (Consistent m) = refl
+
+pub begun : (k : Layout') (c : Card) (call : Call) (p : Whole) → p ≡ whole_begins k c.thread call → Stands (operation_of call) (first_row call) (cell_place k (mutex_of call)) c (standing_of p) c
 begun k c call p is =
-    subst (λ (q : Standing). Stands (operation_of call) (first_row call) (cell_place k (mutex_of call)) c q c) (sym is) (begins (operation_of call) (cell_place k (mutex_of call)) c (at_cell k c.thread call) (first_of call) (first_undecided call))
+    let at : Standing = record { thread = c.thread; cell = address_in k c.thread (cell_place k (mutex_of call)); row = first_row call } in
+    subst (λ (q : Standing). Stands (operation_of call) (first_row call) (cell_place k (mutex_of call)) c q c) (sym (ap standing_of is ∙ starts_so k c.thread call))
+    (begins (operation_of call) (cell_place k (mutex_of call)) c at (first_of call) (first_undecided call))
+
+first_knows : (t : ℕ) (c : Call) (o : Object) → Knows (first_row c) × Expects t (first_row c) o
+first_knows t (Lock m) o = (tt, tt)
+first_knows t (TryLock m) o = (tt, tt)
+first_knows t (Unlock m) o = (tt, tt)
+first_knows t (Consistent m) o = (tt, tt)
+
+pub begun_ready : (k : Layout') (c : Card) (call : Call) (p : Whole) → p ≡ whole_begins k c.thread call → Ready (standing_of p) c
+begun_ready k c call p is =
+    let at : Standing = record { thread = c.thread; cell = address_in k c.thread (cell_place k (mutex_of call)); row = first_row call } in
+    let ready : Ready at c = (refl, (first_knows c.thread call fresh).0, λ q o small there run. (first_knows c.thread call o).1) in
+    subst (λ (z : Standing). Ready z c) (sym (ap standing_of is ∙ starts_so k c.thread call)) ready
+
+first_room : (c : Call) (h : ℕ) → (acquires (operation_of c) && nat_le 2048 h) ≡ false → h ≤ 2048 → h ≤ most (first_row c)
+first_room (Lock m) h free few = grind (arith, nat_tests)
+first_room (TryLock m) h free few = grind (arith, nat_tests)
+first_room (Unlock m) h free few = omega arith
+first_room (Consistent m) h free few = omega arith
+
+first_under_way : (c : Call) → IsInProgress (first_phase c)
+first_under_way (Lock m) = tt
+first_under_way (TryLock m) = tt
+first_under_way (Unlock m) = tt
+first_under_way (Consistent m) = tt
+
+pub begun_room : (k : Layout') (t h : ℕ) (call : Call) (p : Whole) → whole_started k t h call ≡ Ok p → h ≤ 2048 → h ≤ most (row_in p.phase)
+begun_room k t h call p e few =
+    let b = by_test (acquires (operation_of call) && nat_le 2048 h) (whole_begins k t call) p e in
+    subst (λ (r : Row). h ≤ most r) (sym (ap (λ (z : Standing). z.row) (ap standing_of b.1 ∙ starts_so k t call))) (first_room call h b.0 few)
+
+pub begun_under_way : (k : Layout') (t h : ℕ) (call : Call) (p : Whole) → whole_started k t h call ≡ Ok p → IsInProgress p.phase
+begun_under_way k t h call p e = subst (λ (z : Whole). IsInProgress z.phase) (sym (starts k t h call p e)) (first_under_way call)
 
 -- ---- it goes on, or ends
 
 -- a trylock that gives up
-raced_at : (call : Call) (q : ℕ) (c : Card) (p : Standing) (d : Card) (x : Reply) → Stands (operation_of call) (first_row call) q c p d → p.row ≡ row.Ended x → IsRaced (operation_of call) x c d
+pub raced_at : (call : Call) (q : ℕ) (c : Card) (p : Standing) (d : Card) (x : Reply) → Stands (operation_of call) (first_row call) q c p d → p.row ≡ row.Ended x → IsRaced (operation_of call) x c d
 raced_at (Lock m) q c p d x s is = tt
 raced_at (TryLock m) q c p d XRACED s is = raced_four operation.TryLock q c p d s is
 raced_at (TryLock m) q c p d x s is = tt
@@ -72,34 +118,41 @@ module _ (w : Words) (a : Pass Live) (call : Call) (r : Running) (u : IsUnderWay
   abbrev place : ℕ
   place = cell_place (layout_of w) (mutex_of call)
 
+  abbrev z : Standing
+  z = running_program r
+
+  mine : z.thread ≡ (card r.pass).thread
+  mine = r.ready.0
+
   -- the access that was made, at the call's own mutex
-  there : (m n : ℕ) (d : Card) → IsOnMutex (layout_of w) r.program m → Made r.program (cell_place (layout_of w) m) (card r.pass) n d → Made r.program place (card r.pass) n d
-  there m n d here made = subst (λ (z : ℕ). Made r.program (cell_place (layout_of w) z) (card r.pass) n d) (sym (same_mutex (layout_of w) r.program m (mutex_of call) here u.1)) made
+  there : (m n : ℕ) (d : Card) → IsOnMutex (layout_of w) z m → Made z (cell_place (layout_of w) m) (card r.pass) n d → Made z place (card r.pass) n d
+  there m n d here made = subst (λ (l : ℕ). Made z (cell_place (layout_of w) l) (card r.pass) n d)
+      (sym (same_mutex (layout_of w) z m (mutex_of call) u.0.0.1.layout (subst (λ (t : ℕ). 1 ≤ t) (sym mine) u.0.0.1.first) (subst (λ (t : ℕ). t ≤ (layout_of w).threads) (sym mine) u.0.0.1.thread) here u.1)) made
 
-  stands_made : (m n : ℕ) (d : Card) → IsStep (access_of r.program) → IsOnMutex (layout_of w) r.program m → Made r.program (cell_place (layout_of w) m) (card r.pass) n d
-      → Stands (operation_of call) (first_row call) place (card a) (moved r.program (led_at r.program n)) d
-  stands_made m n d stepping here made = stands_after (operation_of call) (first_row call) place (card a) r.program (card r.pass) d n r.going stepping r.ready u.2 (there m n d here made)
+  stands_made : (m n : ℕ) (d : Card) → IsGoing z.row → IsStep (access_of z) → IsOnMutex (layout_of w) z m → Made z (cell_place (layout_of w) m) (card r.pass) n d
+      → Stands (operation_of call) (first_row call) place (card a) (moved z (led_at z n)) d
+  stands_made m n d going stepping here made = stands_after (operation_of call) (first_row call) place (card a) z (card r.pass) d n going stepping r.ready u.2 (there m n d here made)
 
-  pub goes_on_made : (m n : ℕ) (z : Standing) (d : Card) → IsStep (access_of r.program) → IsOnMutex (layout_of w) r.program m → Made r.program (cell_place (layout_of w) m) (card r.pass) n d → z ≡ moved r.program (led_at r.program n) → StandsIn w a call z d
-  goes_on_made m n z d stepping here made is = subst (λ (y : Standing). StandsIn w a call y d) (sym is) (u.1, stands_made m n d stepping here made)
+  pub goes_on_made : (m n : ℕ) (y : Standing) (d : Card) → IsGoing z.row → IsStep (access_of z) → IsOnMutex (layout_of w) z m → Made z (cell_place (layout_of w) m) (card r.pass) n d → y ≡ moved z (led_at z n) → StandsIn w a call y d
+  goes_on_made m n y d going stepping here made is = subst (λ (y : Standing). StandsIn w a call y d) (sym is) (u.1, stands_made m n d going stepping here made)
 
-  pub ends_made : (m n : ℕ) (x : Reply) (d : Card) → IsStep (access_of r.program) → IsOnMutex (layout_of w) r.program m → Made r.program (cell_place (layout_of w) m) (card r.pass) n d → (led_at r.program n).row ≡ row.Ended x → HasEnded w a call x d
-  ends_made m n x d stepping here made is =
-      let s = stands_made m n d stepping here made in
-      let end : Standing = moved r.program (led_at r.program n) in
+  pub ends_made : (m n : ℕ) (x : Reply) (d : Card) → IsGoing z.row → IsStep (access_of z) → IsOnMutex (layout_of w) z m → Made z (cell_place (layout_of w) m) (card r.pass) n d → (led_at z n).row ≡ row.Ended x → HasEnded w a call x d
+  ends_made m n x d going stepping here made is =
+      let s = stands_made m n d going stepping here made in
+      let end : Standing = moved z (led_at z n) in
       (called (operation_of call) (first_row call) place (card a) end d x s (ap decided is), raced_at call place (card a) end d x s is)
 
-  pub goes_on_answered : (x : Answer) (z : Standing) → IsAnswerOf (access_of r.program) x → z ≡ moved r.program (led r.program x) → StandsIn w a call z (card r.pass)
-  goes_on_answered x z fits is =
-      subst (λ (y : Standing). StandsIn w a call y (card r.pass)) (sym is) (u.1, stands_answered (operation_of call) (first_row call) place (card a) r.program (card r.pass) x fits r.ready u.2)
+  pub goes_on_answered : (x : Answer) (y : Standing) → IsAnswerOf (access_of z) x → y ≡ moved z (led z x) → StandsIn w a call y (card r.pass)
+  goes_on_answered x y fits is =
+      subst (λ (y : Standing). StandsIn w a call y (card r.pass)) (sym is) (u.1, stands_answered (operation_of call) (first_row call) place (card a) z (card r.pass) x fits r.ready u.2)
 
-  pub ends_answered : (x : Answer) (y : Reply) → IsAnswerOf (access_of r.program) x → (led r.program x).row ≡ row.Ended y → HasEnded w a call y (card r.pass)
+  pub ends_answered : (x : Answer) (y : Reply) → IsAnswerOf (access_of z) x → (led z x).row ≡ row.Ended y → HasEnded w a call y (card r.pass)
   ends_answered x y fits is =
-      let s = stands_answered (operation_of call) (first_row call) place (card a) r.program (card r.pass) x fits r.ready u.2 in
-      let end : Standing = moved r.program (led r.program x) in
+      let s = stands_answered (operation_of call) (first_row call) place (card a) z (card r.pass) x fits r.ready u.2 in
+      let end : Standing = moved z (led z x) in
       (called (operation_of call) (first_row call) place (card a) end (card r.pass) y s (ap decided is), raced_at call place (card a) end (card r.pass) y s is)
 
 -- a thread that dies in it
 pub died_in : (w : Words) (a : Pass Live) (call : Call) (r : Running) (d : Card) → IsUnderWay w a call r → d ≡ card r.pass → Died (card a) (cell_place (layout_of w) (mutex_of call)) (operation_of call) d
 died_in w a call r d u same =
-    subst (λ (z : Card). Died (card a) (cell_place (layout_of w) (mutex_of call)) (operation_of call) z) (sym same) (dies (card a) (cell_place (layout_of w) (mutex_of call)) (operation_of call) (decided r.program.row) (card r.pass) u.2.called)
+    subst (λ (z : Card). Died (card a) (cell_place (layout_of w) (mutex_of call)) (operation_of call) z) (sym same) (dies (card a) (cell_place (layout_of w) (mutex_of call)) (operation_of call) (decided (running_program r).row) (card r.pass) u.2.called)

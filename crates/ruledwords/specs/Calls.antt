@@ -1,5 +1,5 @@
 -- The accesses of a call, on what its pass knows.
-use Rattle.std.specs.Prelude.{◌≡◌, ℕ, ◌+◌, ◌-◌, ◌<◌, ◌≤◌, Bool, true, Option, Some, None, List, [], ◌∷◌}
+use Rattle.std.specs.Prelude.{◌≡◌, ℕ, ◌+◌, ◌-◌, ◌^◌, ◌<◌, ◌≤◌, Bool, true, Option, Some, None, List, [], ◌∷◌}
 use Rattle.lockword.specs.Cells.{fields_of}
 use Rattle.lockword.specs.declared.reply.Reply.{Reply}
 use Rattle.lockword.specs.declared.reply.Reply.TheVariants.{OK, EOWNERDEAD}
@@ -11,22 +11,40 @@ use Rattle.keys.specs.declared.point.Point.{Point}
 use Rattle.keys.specs.declared.object.Object.{Object}
 use Rattle.keys.specs.Accesses.{changed, answer_at}
 use Rattle.keys.specs.Histories.{is_thread}
-use Rattle.keys.specs.Layouts.{Layout', cell_place}
+use Rattle.keys.specs.Addresses.{address_from}
+use Rattle.keys.specs.Layouts.{Layout', cell_place, address_in}
 use Rattle.keys.specs.Objects.{held_limit, fresh, Run, object_of, acquires}
 use Rattle.facts.specs.Lives.{Act}
 use Rattle.mutex.specs.declared.row.Row.{Row}
 use Rattle.mutex.specs.declared.row.Row.TheVariants as row
 use Rattle.mutex.specs.declared.row.Led.{Led}
+use Rattle.mutex.specs.declared.phase.Phase.{Phase}
+use Rattle.mutex.specs.declared.phase.Phase.TheVariants as phase
+use Rattle.mutex.specs.declared.unlock.UnlockRow.TheVariants.{Release}
 use Rattle.mutex.specs.Laws.{Expects, Sound, points, decided, IsOf, reached, changes, tells_change}
 use Rattle.mutex.specs.Programs.{access_of, led, point_of, row_operation}
-use Rattle.mutex.specs.Rows.{Knows, IsGoing}
-use Rattle.mutex.specs.Standings.{Standing}
+use Rattle.mutex.specs.Rows.{Knows}
+use Rattle.mutex.specs.Standings.{Standing, Whole}
+use Rattle.mutex.specs.Whole.{IsUnderWay}
 use Rattle.mutex.specs.Steps.{Expects-prop, Knows-prop}
 use Rattle.ruledwords.specs.declared.card.Card.{Card}
-use Rattle.ruledwords.specs.Cards.{at}
+use Rattle.ruledwords.specs.Cards.{at, value_at}
 use Rattle.ruledwords.specs.Seen.{holds, Sees, Called}
-use Rattle.ruledwords.specs.Rules.{Sat, At, Turns, base_of}
+use Rattle.ruledwords.specs.OwnWords.{IsOwn, KnowsOwn}
+use Rattle.ruledwords.specs.Rules.{Sat, At, Turns}
 use Rattle.std.proofs.Props.{props}
+
+-- where a call stands as its mutex sees it: before a row, or at its end once it has been through with the cell
+abbrev pub row_in : Phase → Row
+row_in (phase.Announcing r) = r
+row_in (phase.AtCell r) = r
+row_in (phase.Linking l x) = row.Ended x
+row_in (phase.Unlinking u d) = row.Unlock (Release d)
+row_in (phase.Clearing x) = row.Ended x
+row_in (phase.Ended x) = row.Ended x
+
+abbrev pub standing_of : Whole → Standing
+standing_of p = record { thread = p.thread; cell = p.cell; row = row_in p.phase }
 
 -- where a call goes whose access meets this word
 abbrev pub led_at : Standing → ℕ → Led
@@ -38,18 +56,18 @@ fails a n = tells_change (answer_at a n)
 
 -- the address that the card's thread has for a place
 abbrev pub address_at : Card → ℕ → ℕ
-address_at c q = c.base + q
+address_at c q = address_from c.base q
 
 -- the call is on mutex m of the layout: that is the mutex whose cell its thread has at the call's address
 abbrev pub IsOnMutex : Layout' → Standing → ℕ → Type 0
-IsOnMutex k p m = (m < k.mutexes) × (p.cell ≡ base_of k p.thread + cell_place k m)
+IsOnMutex k p m = (m < k.mutexes) × (p.cell ≡ address_in k p.thread (cell_place k m))
 
 abbrev pub IsInLayout : Layout' → Standing → Type 0
 IsInLayout k p = (m : ℕ) × IsOnMutex k p m
 
 -- it is a call of the card's thread, and what its row needs of the mutex is so, as far as that thread has seen it
 abbrev pub Ready : Standing → Card → Type 0
-Ready p c = (p.thread ≡ c.thread) × Knows p.row × ((q : ℕ) (o : Object) → p.cell ≡ address_at c q → Run fresh (at c.seen q) o → Expects c.thread p.row o)
+Ready p c = (p.thread ≡ c.thread) × Knows p.row × ((q : ℕ) (o : Object) → q < 2 ^ 64 → p.cell ≡ address_at c q → Run fresh (at c.seen q) o → Expects c.thread p.row o)
 
 -- an access of a call, at the cell at q, whose word was n: its point, if it is one, is what the thread sees anew
 pub record Made (p : Standing) (q : ℕ) (c : Card) (n : ℕ) (d : Card) : Type 0 where
@@ -61,8 +79,14 @@ pub record Made (p : Standing) (q : ℕ) (c : Card) (n : ℕ) (d : Card) : Type 
   pub holder : holds c.thread (at c.seen q) ≡ is_thread c.thread (object_of (fields_of n)).owner
   pub thread : (1 ≤ c.thread) × (c.thread ≤ 64)
 
-abbrev pub made : Standing → At → Sat → ℕ → Sat → Type 0
-made p st me r me' = Turns me me' (λ c d. Made p st.word c r d)
+-- what the thread knows of its own words is as it was at those that stay its own; and it knows all, if it did
+pub record OwnKept (k : Layout') (c d : Card) : Type 0 where
+  pub agrees : (p : ℕ) → IsOwn k c p → IsOwn k d p → value_at d.values p ≡ value_at c.values p
+  pub knows : KnowsOwn k c → KnowsOwn k d
+  pub heads : (p : ℕ) → p < cell_place k 0 → value_at d.values p ≡ value_at c.values p
+
+abbrev pub made : Layout' → Standing → At → Sat → ℕ → Sat → Type 0
+made k p st me r me' = Turns me me' (λ c d. Made p st.word c r d × OwnKept k c d)
 
 abbrev pub count_by : ℕ → Operation → Reply → ℕ
 count_by n Lock OK = n + 1
@@ -102,9 +126,10 @@ pub record Stands (op : Operation) (first : Row) (q : ℕ) (c : Card) (p : Stand
 pub ready_prop : (p : Standing) (c : Card) → IsProp (Ready p c)
 ready_prop p c = Prim.hlevel (props, Expects-prop, Knows-prop)
 
-pub going_prop : (r : Row) → IsProp (IsGoing r)
-going_prop (row.Lock r) = Prim.hlevel props
-going_prop (row.TryLock r) = Prim.hlevel props
-going_prop (row.Unlock r) = Prim.hlevel props
-going_prop (row.Consistent r) = Prim.hlevel props
-going_prop (row.Ended x) = Prim.hlevel props
+pub under_way_prop : (f : Phase) → IsProp (IsUnderWay f)
+under_way_prop (phase.Announcing r) = Prim.hlevel props
+under_way_prop (phase.AtCell r) = Prim.hlevel props
+under_way_prop (phase.Linking l x) = Prim.hlevel props
+under_way_prop (phase.Unlinking u d) = Prim.hlevel props
+under_way_prop (phase.Clearing x) = Prim.hlevel props
+under_way_prop (phase.Ended x) = Prim.hlevel props

@@ -1,9 +1,15 @@
 pub mod Cards
 pub mod Seen
 pub mod Rules
+pub mod OwnWords
+pub mod Lists
 pub mod Passes
 pub mod Looks
 pub mod Gathered
 pub mod Calls
-pub mod Outcomes
+pub mod Walks
+pub mod Deaths
 pub mod Turns
+pub mod Owing
+pub mod Releases
+pub mod Outcomes

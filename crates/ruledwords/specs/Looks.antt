@@ -1,20 +1,29 @@
 -- What a look at a cell tells, by which nothing is seen anew.
-use Rattle.std.specs.Prelude.{◌≡◌, ◌↔◌, ℕ, Bool, true, List, [], ◌∷◌, ◌++◌}
+use Rattle.std.specs.Prelude.{◌≡◌, ℕ, ◌+◌, List, [], ◌++◌}
 use Rattle.lockword.specs.Cells.{fields_of}
 use Rattle.keys.specs.declared.point.Point.{Point}
 use Rattle.keys.specs.Objects.{object_of}
 use Rattle.ruledwords.specs.declared.card.Card.{Card}
 use Rattle.ruledwords.specs.Cards.{at}
 use Rattle.ruledwords.specs.Seen.{by, Leaves}
-use Rattle.ruledwords.specs.Rules.{Sat, At}
+use Rattle.ruledwords.specs.Rules.{Sat, At, Turns}
 
 -- the word n of the cell at p is that after a legal list of the mutex's points, which begins with what the card has seen and then has other threads' points alone; no bits above its flags are set
 abbrev pub Finds : Card → ℕ → ℕ → Type 0
 Finds c p n = (since : List Point) × Leaves c.threads p (at c.seen p ++ since) (object_of (fields_of n)) × (by c.thread since ≡ []) × ((fields_of n).rest ≡ 0)
 
--- of the word that it found there this tells whether WAITERS was all that it said
-abbrev pub FindsTrimmable : Card → ℕ → Bool → Type 0
-FindsTrimmable c p b = (n : ℕ) × Finds c p n × ((b ≡ true) ↔ (n ≡ 0x8000_0000))
+-- a thread that found the word n last, and has made so many trims, knows else what it knew
+abbrev pub noted : Card → ℕ → ℕ → Card
+noted c n t = record c { last = n; trims = t }
 
+-- the card knows what the other one does, but for the word that was found last and the trims that were made
+abbrev pub KnowsTheSame : Card → Card → Type 0
+KnowsTheSame c d = d ≡ noted c d.last d.trims
+
+-- it has looked at a cell, whose word was r
 abbrev pub looked : At → Sat → ℕ → Sat → Type 0
-looked st me r me' = (c : Card) → me ≡ (c ∷ [], []) → (me' ≡ (c ∷ [], [])) × Finds c st.word r
+looked st me r me' = Turns me me' (λ c d. (d ≡ noted c r c.trims) × Finds c st.word r)
+
+-- it has exchanged 0x80000000 for 0 there, if that was the word: a trim
+abbrev pub trimmed : At → Sat → ℕ → Sat → Type 0
+trimmed st me r me' = Turns me me' (λ c d. (st.first ≡ 0x8000_0000) × (st.second ≡ 0) × (d ≡ noted c r (c.trims + 1)) × Finds c st.word r)

@@ -1,5 +1,5 @@
 -- What the calls of a pass answer.
-use Rattle.std.specs.Prelude.{◌≡◌, ℕ, ◌+◌, ◌<◌, ◌≤◌, nat_le, false, MatchBool, Result, Ok, Err, [], ◌∷◌, if◌then◌else◌}
+use Rattle.std.specs.Prelude.{◌≡◌, ℕ, ◌+◌, ◌≤◌, nat_le, false, MatchBool, Result, Ok, Err, [], ◌∷◌, if◌then◌else◌}
 use Rattle.keys.specs.Objects.{held_limit}
 use Rattle.lockword.specs.declared.reply.Reply.{Reply}
 use Rattle.keys.specs.declared.point.Operation.{Operation}
@@ -17,13 +17,17 @@ use Rattle.ruledwords.specs.declared.outcome.Outcome.TheVariants as outcome
 use Rattle.ruledwords.specs.declared.outcome.Released.{Released}
 use Rattle.ruledwords.specs.declared.outcome.Released.TheVariants as released
 use Rattle.ruledwords.specs.declared.outcome.Owed.{Owed}
-use Rattle.ruledwords.specs.declared.outcome.Owing.{Owing}
-use Rattle.ruledwords.specs.declared.outcome.Owing.TheVariants as owing
 use Rattle.ruledwords.specs.declared.outcome.Wakes.{Wakes}
 use Rattle.ruledwords.specs.declared.outcome.Wakes.TheVariants.{Nobody, One, All}
+use Rattle.ruledwords.specs.declared.turn.Running.{Running}
+use Rattle.ruledwords.specs.declared.turn.Turn.TheVariants.{Lives}
+use Rattle.mutex.specs.declared.call.Call.{Call}
+use Rattle.mutex.specs.Standings.{Whole}
 use Rattle.ruledwords.specs.Seen.{Called, Died, held}
-use Rattle.ruledwords.specs.Passes.{card, layout_of, IsPassOf}
+use Rattle.ruledwords.specs.Passes.{card, layout_of, IsLive, IsDying}
 use Rattle.ruledwords.specs.Calls.{IsOnMutex}
+use Rattle.ruledwords.specs.Releases.{IsReleasing}
+use Rattle.ruledwords.specs.Turns.{running_program, GoesOn, HasDied, HasSeenTheSame, IsIn, IsRunningOf}
 
 -- a call that may take mutex m replied so: by a thread that holds 2,048 mutexes it is refused, with nothing seen anew. Otherwise it is decided by one point, whose reply it is
 abbrev pub Takes : Layout' → ℕ → Operation → Card → Reply → Card → Type 0
@@ -35,13 +39,18 @@ DiesTaking k m op c d = (nat_le held_limit (held c) ≡ false) × Died c (cell_p
 
 -- a trylock of mutex m gives up only after four exchanges that each found a changed cell, as the pass counts them
 abbrev pub Tried : Words → ℕ → Pass Live → Outcome → Type 0
-Tried w m a (outcome.Lives b r) = IsPassOf w b × Takes (layout_of w) m TryLock (card a) r (card b) × (r ≡ XRACED → (card a).misses + 4 ≤ (card b).misses)
-Tried w m a (outcome.Dead d) = IsPassOf w d × DiesTaking (layout_of w) m TryLock (card a) (card d)
+Tried w m a (outcome.Lives b r) = IsLive w b × Takes (layout_of w) m TryLock (card a) r (card b) × (r ≡ XRACED → (card a).misses + 4 ≤ (card b).misses)
+Tried w m a (outcome.Dead d) = IsDying w d × DiesTaking (layout_of w) m TryLock (card a) (card d)
 
 -- a declaration that mutex m is consistent: the reply is that of its point. So it is OK, EINVAL or EPERM, as the thread owned the mutex and found it inconsistent, owned it, or didn't own it
 abbrev pub Declared : Words → ℕ → Pass Live → Outcome → Type 0
-Declared w m a (outcome.Lives b r) = IsPassOf w b × Called (card a) (cell_place (layout_of w) m) ((Consistent, r) ∷ []) (card b)
-Declared w m a (outcome.Dead d) = IsPassOf w d × Died (card a) (cell_place (layout_of w) m) Consistent (card d)
+Declared w m a (outcome.Lives b r) = IsLive w b × Called (card a) (cell_place (layout_of w) m) ((Consistent, r) ∷ []) (card b)
+Declared w m a (outcome.Dead d) = IsDying w d × Died (card a) (cell_place (layout_of w) m) Consistent (card d)
+
+-- a call that stands at p with the pass a ends so, wherever it began
+abbrev pub Finishes : Words → Pass Live → Whole → Outcome → Type 0
+Finishes w a p (outcome.Lives b y) = (x : Pass Live) (call : Call) → IsIn w x call a p → GoesOn w x call (Lives b y)
+Finishes w a p (outcome.Dead d) = (x : Pass Live) (call : Call) → IsIn w x call a p → HasDied w x call d
 
 -- how often its thread was told to stop, in a call that ends so: once where it died, and else never
 abbrev pub stops_in : Outcome → ℕ
@@ -57,46 +66,37 @@ stops_releasing (released.Dead d) = 1
 abbrev pub wakes_of : ℕ → Wakes
 wakes_of w = if (fields_of w).waiters then (if (fields_of w).died then All else One) else Nobody
 
-abbrev pub pass_in : Owing → Pass Live
-pass_in (owing.Nobody b) = b
-pass_in (owing.Somebody v) = v.running.pass
-
-abbrev pub wakes_in : Owing → Wakes
-wakes_in (owing.Nobody b) = Nobody
-wakes_in (owing.Somebody v) = if v.all then All else One
-
-abbrev pub WakesOn : Layout' → Owing → ℕ → Type 0
-WakesOn k (owing.Nobody b) m = Unit {0}
-WakesOn k (owing.Somebody v) m = IsOnMutex k v.running.program m
+abbrev pub owed_running : Owed → Running
+owed_running o = o.running
 
 abbrev pub owed_pass : Owed → Pass Live
-owed_pass o = pass_in o.owing
+owed_pass o = o.running.pass
 
 abbrev pub owed_wakes : Owed → Wakes
-owed_wakes o = wakes_in o.owing
+owed_wakes o = o.wakes
 
--- whom it has to wake sleeps on mutex m
-abbrev pub OwesOn : Layout' → Owed → ℕ → Type 0
-OwesOn k o m = WakesOn k o.owing m
-
--- its pass is one of these words, and whom it has to wake sleeps on a mutex of theirs
+-- it is an unlock of these words
 abbrev pub IsOwedOf : Words → Owed → Type 0
-IsOwedOf w o = IsPassOf w (owed_pass o) × ((m : ℕ) × (m < (layout_of w).mutexes) × OwesOn (layout_of w) o m)
+IsOwedOf w o = IsRunningOf w (owed_running o)
 
 -- a release of mutex m: its point is an unlock with OK where the mutex is freed, and with EPERM where it is refused. Whom it has to wake is told by the word that it found,
 -- the last that the pass met, of which its thread was the owner
 abbrev pub Frees : Words → ℕ → Pass Live → Released → Type 0
 Frees w m a (released.Owes o) =
-    IsPassOf w (owed_pass o) × Called (card a) (cell_place (layout_of w) m) ((Unlock, OK) ∷ []) (card (owed_pass o))
-    × ((fields_of (card (owed_pass o)).last).owner ≡ (card a).thread) × (owed_wakes o ≡ wakes_of (card (owed_pass o)).last) × OwesOn (layout_of w) o m
-Frees w m a (released.Refused b r) = IsPassOf w b × (r ≡ EPERM) × Called (card a) (cell_place (layout_of w) m) ((Unlock, EPERM) ∷ []) (card b)
-Frees w m a (released.Dead d) = IsPassOf w d × Died (card a) (cell_place (layout_of w) m) Unlock (card d)
+    IsOwedOf w o × Called (card a) (cell_place (layout_of w) m) ((Unlock, OK) ∷ []) (card (owed_pass o))
+    × ((fields_of (card (owed_pass o)).last).owner ≡ (card a).thread) × (owed_wakes o ≡ wakes_of (card (owed_pass o)).last) × IsOnMutex (layout_of w) (running_program (owed_running o)) m
+Frees w m a (released.Refused b r) = IsLive w b × (r ≡ EPERM) × Called (card a) (cell_place (layout_of w) m) ((Unlock, EPERM) ∷ []) (card b)
+Frees w m a (released.Dead d) = IsDying w d × Died (card a) (cell_place (layout_of w) m) Unlock (card d)
 
--- an unlock ends exactly where nobody is to be woken. Nothing is seen anew
-abbrev pub Settles : Owed → Result (Pass Live) Owed → Type 0
-Settles w (Ok b) = (owed_wakes w ≡ Nobody) × (b ≡ owed_pass w)
-Settles w (Err v) = ¬ (owed_wakes w ≡ Nobody) × (v ≡ w)
+-- an unlock that stands at p with the pass a frees its mutex so, wherever it began
+abbrev pub FreesFrom : Words → Pass Live → Whole → Released → Type 0
+FreesFrom w a p o = (x : Pass Live) (m : ℕ) → IsReleasing w x m a p → Frees w m x o
+
+-- an unlock ends exactly where nobody is to be woken: then its entry is pending no more. Nothing is seen anew
+abbrev pub Settles : Words → Owed → Result (Pass Live) Owed → Type 0
+Settles w o (Ok b) = (owed_wakes o ≡ Nobody) × IsLive w b × HasSeenTheSame (card (owed_pass o)) (card b)
+Settles w o (Err v) = ¬ (owed_wakes o ≡ Nobody) × (v ≡ o)
 
 -- a thread that dies before the end of its unlock makes no point. What it has seen stays
 abbrev pub Abandons : Owed → Pass Dead → Type 0
-Abandons o d = (card d ≡ card (owed_pass o)) × ((w : Words) → IsPassOf w (owed_pass o) → IsPassOf w d)
+Abandons o d = (card d ≡ card (owed_pass o)) × ((w : Words) → IsOwedOf w o → IsDying w d)

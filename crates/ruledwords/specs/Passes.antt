@@ -1,13 +1,16 @@
 -- What clauses say of words and passes.
 use Rattle.std.specs.Prelude.{◌≡◌, ◌≤◌, ℕ, List}
 use Rattle.std.specs.Mem.Slots.{slots_items}
-use Rattle.keys.specs.Layouts.{Layout'}
+use Rattle.keys.specs.Layouts.{Layout', IsLayout, base_of}
 use Rattle.ruledwords.specs.declared.card.Card.{Card}
 use Rattle.ruledwords.specs.declared.pass.Words.{Words}
 use Rattle.ruledwords.specs.declared.pass.Pass.{Pass}
+use Rattle.ruledwords.specs.declared.pass.Live.{Live}
+use Rattle.ruledwords.specs.declared.pass.Dead.{Dead}
 use Rattle.ruledwords.specs.declared.pass.Last.{Last}
-use Rattle.ruledwords.specs.Rules.{card_of, base_of, presets_in}
+use Rattle.ruledwords.specs.Rules.{card_of, presets_in}
 use Rattle.ruledwords.specs.Seen.{IsLegal}
+use Rattle.ruledwords.specs.Lists.{IsAlive, IsMortal}
 
 abbrev pub layout_of : Words → Layout'
 layout_of w = w.layout
@@ -25,7 +28,9 @@ last_words l = slots_items l.closed.words
 
 -- it is of one of the layout's threads, and what that has seen of each mutex is legal
 pub record IsCardOf (k : Layout') (c : Card) : Type 0 where
+  pub layout : IsLayout k
   pub threads : c.threads ≡ k.threads
+  pub first : 1 ≤ c.thread
   pub thread : c.thread ≤ k.threads
   pub base : c.base ≡ base_of k c.thread
   pub legal : IsLegal c
@@ -38,3 +43,11 @@ module _ {A : Type 0} where
   -- it is a pass of these words, for one of their layout's threads
   abbrev pub IsPassOf : Words → Pass A → Type 0
   IsPassOf w p = (p.seat.table_id ≡ w.table.shared.table_id) × IsCardOf (layout_of w) (card p)
+
+-- it is a pass of these words whose thread is in no call: its list has just the mutexes that it holds
+abbrev pub IsLive : Words → Pass Live → Type 0
+IsLive w p = IsPassOf w p × IsAlive (layout_of w) (card p)
+
+-- it is a pass of these words whose thread has died, and will be found all that it holds
+abbrev pub IsDying : Words → Pass Dead → Type 0
+IsDying w p = IsPassOf w p × IsMortal (layout_of w) (card p)

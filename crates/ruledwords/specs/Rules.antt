@@ -11,18 +11,12 @@ use Rattle.atomic_table.specs.Table.{State, Me, Step}
 use Rattle.lockword.specs.Cells.{fields_of}
 use Rattle.keys.specs.declared.point.Point.{Point}
 use Rattle.keys.specs.declared.object.Object.{Object}
-use Rattle.keys.specs.Layouts.{Layout', IsLayout, head_place, cell_place, counter_place, words_of, address_in, cell_offset, first_word}
+use Rattle.keys.specs.Layouts.{Layout', IsLayout, head_place, cell_place, counter_place, words_of, base_of, address_in, cell_offset, first_word}
 use Rattle.keys.specs.Objects.{object_of}
 use Rattle.ruledwords.specs.declared.card.Card.{Card}
 use Rattle.ruledwords.specs.declared.opening.Opening.{Opening}
 use Rattle.ruledwords.specs.Cards.{at, value_at, put_value, mark_at}
 use Rattle.ruledwords.specs.Seen.{by, Leaves, Joined}
-
--- ---- addresses
-
--- where thread t sees the words begin: every thread has each word at its place
-abbrev pub base_of : Layout' → ℕ → ℕ
-base_of k t = 0
 
 -- ---- the beginning
 
@@ -36,7 +30,7 @@ first_values k t = put_value (put_value (put_value [] (head_place t) (Some (addr
 
 -- what thread t of a layout knows at first: its own head, and nothing of any mutex
 abbrev pub first_card : Layout' → ℕ → Card
-first_card k t = record { threads = k.threads; thread = t; base = base_of k t; seen = []; misses = 0; last = 0; values = first_values k t; marks = [] }
+first_card k t = record { threads = k.threads; thread = t; base = base_of k t; seen = []; misses = 0; last = 0; trims = 0; values = first_values k t; marks = [] }
 
 -- the cards of so many threads from t on
 abbrev pub hand : Layout' → ℕ → ℕ → List Card
@@ -111,7 +105,7 @@ At = Step (Unit {0})
 
 -- the one card of a pass
 abbrev pub card_of : List Card → Card
-card_of [] = record { threads = 0; thread = 0; base = 0; seen = []; misses = 0; last = 0; values = []; marks = [] }
+card_of [] = record { threads = 0; thread = 0; base = 0; seen = []; misses = 0; last = 0; trims = 0; values = []; marks = [] }
 card_of (c ∷ cs) = c
 
 abbrev pub IsOne : Sat → Type 0

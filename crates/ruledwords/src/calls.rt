@@ -1,14 +1,12 @@
 //! The calls on mutexes, which wait for nobody.
 ghost use Rattle.std.specs.Prelude.{◌≡◌, ◌<◌, ◌+◌};
 ghost use Rattle.ruledwords.specs.Outcomes.{Tried, Frees, Declared, stops_in, stops_releasing};
-ghost use Rattle.ruledwords.specs.Passes.{layout_of, IsPassOf};
+ghost use Rattle.ruledwords.specs.Passes.{layout_of, IsLive};
 
 use crate::fate::Fate;
-use crate::outcome::{Outcome, Owed, Owing, Released, Waking};
+use crate::outcome::{Outcome, Released};
 use crate::pass::{Live, Pass, Words};
-use crate::turn::{Running, Turn};
-use keys::{ALL, Access};
-use lockword::Reply;
+use crate::turn::Running;
 use mutex::Call;
 
 impl Words {
@@ -16,23 +14,14 @@ impl Words {
     /// ENOTRECOVERABLE where it can't be used any more; XRACED after four exchanges that each found a changed cell; XHELD, with no access, where the thread holds 2,048
     /// mutexes. The fate is asked before each access, and the thread dies where it says so.
     pub fn try_lock<F: Fate>(&self, pass: Pass<Live>, mutex: u16, fate: &mut F) -> Outcome
-        requires pass { IsPassOf self.now pass }
+        requires pass { IsLive self.now pass }
         requires mutex { mutex < (layout_of self.now).mutexes }
         ensures tried { Tried self.now mutex pass result }
         ensures fate { F.stopped fate.new ≡ F.stopped fate.old + stops_in result }
     {
-        let mut running = match Running::call(self, pass, Call::TryLock(mutex)) {
-            Ok(running) => running,
-            Err((pass, reply)) => return Outcome::Lives(pass, reply),
-        };
-        loop {
-            if fate.stops() {
-                return Outcome::Dead(running.die());
-            }
-            match running.access(self) {
-                Turn::Goes(next) => running = next,
-                Turn::Lives(pass, reply) => return Outcome::Lives(pass, reply),
-            }
+        match Running::call(self, pass, Call::TryLock(mutex)) {
+            Ok(running) => self.finish(running, fate),
+            Err((pass, reply)) => Outcome::Lives(pass, reply),
         }
     }
 
@@ -40,55 +29,28 @@ impl Words {
     /// EOWNERDEAD and hasn't declared consistent since; EINVAL to the owner of any other; EPERM where the thread doesn't own the mutex. Where it isn't OK, the mutex stays as
     /// it is. The fate is asked before each access, and the thread dies where it says so.
     pub fn consistent<F: Fate>(&self, pass: Pass<Live>, mutex: u16, fate: &mut F) -> Outcome
-        requires pass { IsPassOf self.now pass }
+        requires pass { IsLive self.now pass }
         requires mutex { mutex < (layout_of self.now).mutexes }
         ensures declared { Declared self.now mutex pass result }
         ensures fate { F.stopped fate.new ≡ F.stopped fate.old + stops_in result }
     {
-        let mut running = match Running::call(self, pass, Call::Consistent(mutex)) {
-            Ok(running) => running,
-            Err((pass, reply)) => return Outcome::Lives(pass, reply),
-        };
-        loop {
-            if fate.stops() {
-                return Outcome::Dead(running.die());
-            }
-            match running.access(self) {
-                Turn::Goes(next) => running = next,
-                Turn::Lives(after, reply) => return Outcome::Lives(after, reply),
-            }
+        match Running::call(self, pass, Call::Consistent(mutex)) {
+            Ok(running) => self.finish(running, fate),
+            Err((pass, reply)) => Outcome::Lives(pass, reply),
         }
     }
 
     /// Frees a mutex that the thread owns (pthread_mutex_unlock), up to the waking of sleepers. One that is inconsistent becomes unusable. Another's mutex is refused with EPERM.
     /// The fate is asked before each access, and the thread dies where it says so.
     pub fn release<F: Fate>(&self, pass: Pass<Live>, mutex: u16, fate: &mut F) -> Released
-        requires pass { IsPassOf self.now pass }
+        requires pass { IsLive self.now pass }
         requires mutex { mutex < (layout_of self.now).mutexes }
         ensures frees { Frees self.now mutex pass result }
         ensures fate { F.stopped fate.new ≡ F.stopped fate.old + stops_releasing result }
     {
-        let mut running = match Running::call(self, pass, Call::Unlock(mutex)) {
-            Ok(running) => running,
-            Err((pass, reply)) => return Released::Refused(pass, reply),
-        };
-        loop {
-            if let Access::Wake { most, .. } = running.next() {
-                let all = most == ALL;
-                let owing = Owing::Somebody(Waking { running, all });
-                return Released::Owes(Owed { owing });
-            }
-            if fate.stops() {
-                return Released::Dead(running.die());
-            }
-            match running.access(self) {
-                Turn::Goes(next) => running = next,
-                Turn::Lives(pass, Reply::OK) => {
-                    let owing = Owing::Nobody(pass);
-                    return Released::Owes(Owed { owing });
-                }
-                Turn::Lives(pass, reply) => return Released::Refused(pass, reply),
-            }
+        match Running::call(self, pass, Call::Unlock(mutex)) {
+            Ok(running) => self.release_to_wake(running, fate),
+            Err((pass, reply)) => Released::Refused(pass, reply),
         }
     }
 }

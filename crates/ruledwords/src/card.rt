@@ -16,6 +16,8 @@ pub struct Card {
     pub misses: u64,
     /// The cell's word that its last access to one found.
     pub last: u64,
+    /// How many trims it has made.
+    pub trims: u64,
     /// The words that only this thread writes, by place, where they are known.
     pub values: LinkedList<Option<u64>>,
     /// The cells in which it saw WAITERS, by place.

@@ -2,14 +2,37 @@
 ghost use Rattle.std.specs.Prelude.{◌≡◌, ◌<◌, List, [], ◌∷◌, ◌++◌, Some, All, IfSome, length, map, slice_index};
 ghost use Rattle.keys.specs.Layouts.{cell_place, counter_place, words_of};
 ghost use Rattle.ruledwords.specs.declared.card.Card.{Card};
+ghost use Rattle.ruledwords.specs.declared.pass.Words.{Words};
 ghost use Rattle.ruledwords.specs.Gathered.{HaveCome};
 ghost use Rattle.ruledwords.specs.Rules.{Ends};
 ghost use Rattle.ruledwords.specs.Passes.{layout_of, presets_of, last_layout, last_words, card, IsPassOf};
 
 use crate::card::View;
-use crate::pass::{Last, Pass, Words};
+use crate::pass::{Last, Pass, Spent, Words};
 use crate::rule::Gather;
 use atomic_table::Seat;
+use std::marker::PhantomData;
+
+impl<A> Pass<A> {
+    /// Puts the pass aside for the end of the words, where those of the living and of the reaped meet ([`Words::close_all`]). What it has seen stays.
+    pub fn spent(self) -> Pass<Spent>
+        ensures card { card result ≡ card self }
+        ensures words { (w : Words) → IsPassOf w self → IsPassOf w result }
+    {
+        let Pass {
+            seat,
+            thread,
+            held,
+            state: _,
+        } = self;
+        Pass {
+            seat,
+            thread,
+            held,
+            state: PhantomData,
+        }
+    }
+}
 
 impl Words {
     /// Ends the words. The history of each mutex begins with what the pass has seen, and each counter is as it began.

@@ -5,17 +5,17 @@ ghost use Rattle.ruledwords.specs.declared.pass.Live.{Live};
 ghost use Rattle.ruledwords.specs.declared.pass.Pass.{Pass};
 ghost use Rattle.ruledwords.specs.declared.pass.Words.{Words};
 ghost use Rattle.ruledwords.specs.Outcomes.{Abandons};
-ghost use Rattle.ruledwords.specs.Passes.{card, IsPassOf};
-ghost use Rattle.ruledwords.specs.Turns.{running_pass, IsUnderWay, HasDied};
+ghost use Rattle.ruledwords.specs.Passes.{card, IsDying, IsPassOf};
+ghost use Rattle.ruledwords.specs.Turns.{running_pass, IsRunningOf, IsUnderWay, HasDied};
 
-use crate::outcome::{Owed, Owing, Waking};
+use crate::outcome::Owed;
 use crate::pass::{Dead, Live, Pass};
 use crate::turn::Running;
 use std::marker::PhantomData;
 
 impl Pass<Live> {
     /// Its thread has died. What it has seen stays.
-    fn died(self) -> Pass<Dead>
+    pub(crate) fn died(self) -> Pass<Dead>
         ensures card { card result ≡ card self }
         ensures words { (w : Words) → IsPassOf w self → IsPassOf w result }
     {
@@ -35,10 +35,10 @@ impl Pass<Live> {
 }
 
 impl Running {
-    /// The thread dies before the access that comes next. What it has seen stays: of its call's points those that were made.
+    /// The thread dies before the access that comes next. What it has seen stays: of its call's points those that were made. What it holds will be found.
     pub fn die(self) -> Pass<Dead>
         ensures card { card result ≡ card (running_pass self) }
-        ensures words { (w : Words) → IsPassOf w (running_pass self) → IsPassOf w result }
+        ensures words { (w : Words) → IsRunningOf w self → IsDying w result }
         ensures died { (w : Words) (a : Pass Live) (call : Call) → IsUnderWay w a call self → HasDied w a call result }
     {
         let Running { pass, program: _ } = self;
@@ -51,14 +51,7 @@ impl Owed {
     pub fn abandon(self) -> Pass<Dead>
         ensures { Abandons self result }
     {
-        let Owed { owing } = self;
-        match owing {
-            Owing::Nobody(pass) => pass.died(),
-            Owing::Somebody(waking) => {
-                let Waking { running, all: _ } = waking;
-                let Running { pass, program: _ } = running;
-                pass.died()
-            }
-        }
+        let Owed { running, wakes: _ } = self;
+        running.die()
     }
 }

@@ -3,6 +3,7 @@
 //! Callers' own threads call these mutexes at the same time. [`Words`] are the shared words, and each thread steps on them with its one [`Pass`]. Contracts say
 //! what a pass has *seen*: of each mutex a legal history, which grows with each call by the call's own point, and by other threads' points before it. Two passes that
 //! meet have *joined* what they saw. The calls run the same step programs ([`mutex`]) as the machine does.
+//! Each thread keeps its robust list in words that it alone writes: between its calls, of just the mutexes that it holds; and wherever it dies, the kernel would find them all.
 //! Whoever lets threads sleep runs a call itself, turn by turn ([`Running`]).
 //!
 //! Nothing is claimed of the order between passes that never met, nor that a trylock is ever won.
@@ -20,15 +21,21 @@ mod open;
 mod opening;
 mod outcome;
 mod owed;
+mod own;
 mod owner;
 mod pass;
+mod reaping;
+mod release;
 mod rule;
 mod running;
 mod section;
+mod step;
 mod turn;
+mod walk;
 
 pub use card::Card;
 pub use fate::{Fate, Never};
 pub use outcome::{Outcome, Owed, Released, Wakes};
-pub use pass::{Dead, Last, Live, Pass, Words};
+pub use pass::{Dead, Last, Live, Pass, Reaped, Spent, Words};
+pub use reaping::{Reaping, Walked};
 pub use turn::{Running, Turn};

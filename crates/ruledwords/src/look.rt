@@ -1,11 +1,11 @@
 //! A look at a cell, and a trim of it, by which nothing is seen anew.
-ghost use Rattle.std.specs.Prelude.{◌≡◌, ◌<◌, ℕ};
+ghost use Rattle.std.specs.Prelude.{◌≡◌, ◌<◌, ◌+◌, ℕ};
 ghost use Rattle.keys.specs.Layouts.{cell_place};
-ghost use Rattle.ruledwords.specs.Looks.{Finds};
+ghost use Rattle.ruledwords.specs.Looks.{Finds, noted};
 ghost use Rattle.ruledwords.specs.Rules.{card_of};
 
 use crate::pass::{Live, Pass, Words};
-use crate::rule::Look;
+use crate::rule::{Look, Trim};
 use lockword::WAITERS;
 
 impl Words {
@@ -14,7 +14,7 @@ impl Words {
         requires table { pass.old.seat.table_id ≡ self.now.table.shared.table_id }
         requires place { (m : ℕ) × (m < self.now.layout.mutexes) × (at ≡ cell_place self.now.layout m) }
         ensures table { pass.new.seat.table_id ≡ pass.old.seat.table_id }
-        ensures card { card_of pass.new.seat.me.0 ≡ card_of pass.old.seat.me.0 }
+        ensures card { card_of pass.new.seat.me.0 ≡ noted (card_of pass.old.seat.me.0) result (card_of pass.old.seat.me.0).trims }
         ensures held { pass.new.held ≡ pass.old.held }
         ensures finds { Finds (card_of pass.old.seat.me.0) at result }
     {
@@ -27,13 +27,13 @@ impl Words {
         requires table { pass.old.seat.table_id ≡ self.now.table.shared.table_id }
         requires place { (m : ℕ) × (m < self.now.layout.mutexes) × (at ≡ cell_place self.now.layout m) }
         ensures table { pass.new.seat.table_id ≡ pass.old.seat.table_id }
-        ensures card { card_of pass.new.seat.me.0 ≡ card_of pass.old.seat.me.0 }
+        ensures card { card_of pass.new.seat.me.0 ≡ noted (card_of pass.old.seat.me.0) result ((card_of pass.old.seat.me.0).trims + 1) }
         ensures held { pass.new.held ≡ pass.old.held }
         ensures finds { Finds (card_of pass.old.seat.me.0) at result }
     {
         let _thread = pass.thread;
         self.table
             .shared
-            .compare_exchange::<Look>(&mut pass.seat, at as usize, WAITERS, 0)
+            .compare_exchange::<Trim>(&mut pass.seat, at as usize, WAITERS, 0)
     }
 }

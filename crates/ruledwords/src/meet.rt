@@ -1,7 +1,8 @@
 //! Passes that meet.
 ghost use Rattle.std.specs.Prelude.{◌≡◌};
 ghost use Rattle.ruledwords.specs.Seen.{Joined, AreExclusive};
-ghost use Rattle.ruledwords.specs.Passes.{card, IsPassOf};
+ghost use Rattle.ruledwords.specs.Lists.{StaysSo};
+ghost use Rattle.ruledwords.specs.Passes.{card, layout_of, IsPassOf};
 
 use crate::pass::{Pass, Words};
 use crate::rule::{Deal, Gather, Meet};
@@ -12,6 +13,7 @@ impl Words {
         requires first { IsPassOf self.now first }
         requires second { IsPassOf self.now second }
         ensures passes { IsPassOf self.now result.0 × IsPassOf self.now result.1 }
+        ensures lists { StaysSo (layout_of self.now) (card first) (card result.0) × StaysSo (layout_of self.now) (card second) (card result.1) }
         ensures joined { Joined (card first) (card second) (card result.0) (card result.1) }
         ensures exclusive { AreExclusive (card result.0) (card result.1) }
     {

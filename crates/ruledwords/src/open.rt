@@ -2,7 +2,7 @@
 ghost use Rattle.std.specs.Prelude.{◌≡◌, ℕ, ◌+◌, ◌<◌, Some, IfOk, All, length, slice_get, slice_index};
 ghost use Rattle.keys.specs.Layouts.{words_of, IsLayout};
 ghost use Rattle.ruledwords.specs.Rules.{first_card, opening_word};
-ghost use Rattle.ruledwords.specs.Passes.{layout_of, presets_of, card, IsPassOf};
+ghost use Rattle.ruledwords.specs.Passes.{layout_of, presets_of, card, IsLive};
 
 use crate::opening::Opening;
 use crate::pass::{Live, Pass, Words};
@@ -15,7 +15,7 @@ use std::marker::PhantomData;
 
 impl Words {
     /// Makes the words, with a value for each condition variable's counter in the order of their numbers, and a pass for each thread in the order of their ids. Each
-    /// list is empty, and nobody owns a mutex. The bases of the layout's processes aren't looked at: words are named by their places.
+    /// list is empty, and nobody owns a mutex.
     pub fn new(
         alloc: Global,
         layout: Layout,
@@ -25,7 +25,7 @@ impl Words {
         ensures layout { IfOk result (λ r. layout_of r.0 ≡ layout) }
         ensures presets { IfOk result (λ r. presets_of r.0 ≡ presets.now) }
         ensures passes { IfOk result (λ r. length r.1.items ≡ layout.threads) }
-        ensures each { IfOk result (λ r. All (λ p. IsPassOf r.0 p) r.1.items) }
+        ensures each { IfOk result (λ r. All (λ p. IsLive r.0 p) r.1.items) }
         ensures cards { IfOk result (λ r. (i : ℕ) (p : _) → slice_get r.1.items i ≡ Some p → card p ≡ first_card layout (i + 1)) }
     {
         match Words::made(alloc, layout, presets) {
@@ -43,7 +43,7 @@ impl Words {
         ensures layout { IfOk result (λ r. layout_of r.0 ≡ layout) }
         ensures presets { IfOk result (λ r. presets_of r.0 ≡ presets.now) }
         ensures passes { IfOk result (λ r. length r.1.items ≡ layout.threads) }
-        ensures each { IfOk result (λ r. All (λ p. IsPassOf r.0 p) r.1.items) }
+        ensures each { IfOk result (λ r. All (λ p. IsLive r.0 p) r.1.items) }
         ensures cards { IfOk result (λ r. (i : ℕ) (p : _) → slice_get r.1.items i ≡ Some p → card p ≡ first_card layout (i + 1)) }
     {
         let words = first_words(alloc, &layout, presets)?;

@@ -1,7 +1,6 @@
 //! What calls answer.
 ghost use Rattle.std.specs.Prelude.{◌≡◌};
-ghost use Rattle.mutex.specs.declared.row.Row.TheVariants.{Unlock};
-ghost use Rattle.mutex.specs.declared.unlock.UnlockRow.TheVariants.{Wake};
+ghost use Rattle.ruledwords.specs.Owing.{owing_at};
 
 use crate::pass::{Dead, Live, Pass};
 use crate::turn::Running;
@@ -25,25 +24,12 @@ pub enum Wakes {
     All,
 }
 
-/// A pass whose thread has freed a mutex, and has to wake so many of its sleepers before the unlock ends. It must be spent: [`Owed::settle`] where nobody is to be
-/// woken, else [`Running::owed`], or [`Owed::abandon`].
+/// An unlock whose thread has freed its mutex, and has to wake so many sleepers before it ends. It must be spent: [`Owed::settle`] where nobody is to be
+/// woken, [`Running::owed`], or [`Owed::abandon`].
 pub struct Owed {
-    pub(crate) owing: Owing,
-}
-
-/// Whom an unlock has to wake still.
-pub(crate) enum Owing {
-    /// Nobody: it has ended.
-    Nobody(Pass<Live>),
-    Somebody(Waking),
-}
-
-/// An unlock that stands before its wake.
-pub(crate) struct Waking {
     pub(crate) running: Running,
-    /// Whether it wakes all sleepers, or one.
-    pub(crate) all: bool,
-    pub ghost at: { running.program.row ≡ Unlock (Wake all) },
+    pub(crate) wakes: Wakes,
+    pub ghost at: { running.program.phase ≡ owing_at wakes },
 }
 
 /// What a release ends in.

@@ -1,33 +1,46 @@
 //! The end of an unlock.
 ghost use Rattle.std.specs.Prelude.{◌≡◌};
-ghost use Rattle.ruledwords.specs.Passes.{IsPassOf};
-ghost use Rattle.ruledwords.specs.Outcomes.{owed_pass, owed_wakes, Settles};
+ghost use Rattle.lockword.specs.declared.reply.Reply.TheVariants.{OK};
+ghost use Rattle.ruledwords.specs.declared.pass.Words.{Words};
+ghost use Rattle.ruledwords.specs.Passes.{card};
+ghost use Rattle.ruledwords.specs.Outcomes.{owed_pass, owed_running, owed_wakes, IsOwedOf, Settles};
+ghost use Rattle.ruledwords.specs.Turns.{IsDecided};
 
-use crate::outcome::{Owed, Owing, Wakes};
+use crate::outcome::{Owed, Wakes};
 use crate::pass::{Live, Pass, Words};
+use crate::turn::{Running, Turn};
 
 impl Owed {
     /// How many sleepers are to be woken.
     pub fn wakes(&self) -> Wakes
         ensures { result ≡ owed_wakes self.now }
     {
-        match &self.owing {
-            Owing::Nobody(_) => Wakes::Nobody,
-            Owing::Somebody(waking) => { if waking.all { Wakes::All } else { Wakes::One } }
-        }
+        self.wakes
     }
 
-    /// Ends the unlock where nobody is to be woken; else it is given back.
+    /// Ends the unlock where nobody is to be woken: clears the thread's pending entry. Else it is given back.
     pub fn settle(self, words: &Words) -> Result<Pass<Live>, Owed>
-        requires { IsPassOf words.now (owed_pass self) }
-        ensures { Settles self result }
+        requires { IsOwedOf words.now self }
+        ensures { Settles words.now self result }
     {
-        let Owed { owing } = self;
-        match owing {
-            Owing::Nobody(pass) => Ok(pass),
-            Owing::Somebody(waking) => Err(Owed {
-                owing: Owing::Somebody(waking),
-            }),
+        if self.wakes != Wakes::Nobody {
+            return Err(self);
         }
+        let Owed { running, wakes: _ } = self;
+        match running.access(words) {
+            Turn::Lives(pass, _) => Ok(pass),
+            Turn::Goes(_) => unreachable!(),
+        }
+    }
+}
+
+impl Running {
+    /// Goes on with an unlock that has freed its mutex: the access that comes next is its wake, or, where nobody is to be woken, clears the thread's pending entry.
+    pub fn owed(owed: Owed) -> Running
+        ensures value { result ≡ owed_running owed }
+        ensures decided { (w : Words) → IsOwedOf w owed → IsDecided w (card (owed_pass owed)) OK result }
+    {
+        let Owed { running, wakes: _ } = owed;
+        running
     }
 }

@@ -33,6 +33,14 @@ pub struct Live;
 #[derive(Drop)]
 pub struct Dead;
 
+/// The thread died, and the kernel has been through its list: it holds nothing.
+#[derive(Drop)]
+pub struct Reaped;
+
+/// The pass is put aside: whether its thread lives is forgotten. It can only be there at the end of the words.
+#[derive(Drop)]
+pub struct Spent;
+
 /// What one thread steps on the words with. It is used only with the words that it was made with.
 #[derive(Drop)]
 pub struct Pass<A> {

@@ -2,6 +2,7 @@
 use crate::card::View;
 use crate::opening::Opening;
 use atomic_table::{Join, Play, Split, TableRule};
+use std::marker::{Brand, PhantomData};
 
 /// Each mutex has one legal history, and each counter the value that it began with.
 pub struct History;
@@ -23,13 +24,73 @@ impl Play<(), View> for Meet {
     ghost then = { met };
 }
 
-/// A load of a cell, or a trim of it, by which nothing is seen anew.
+/// A load of a cell, by which nothing is seen anew.
 pub(crate) struct Look;
 
 impl Play<(), View> for Look {
     ghost use Rattle.ruledwords.specs.Looks.{looked};
 
     ghost then = { looked };
+}
+
+/// A trim of a cell: an exchange from WAITERS alone to 0. Nothing is seen anew by it.
+pub(crate) struct Trim;
+
+impl Play<(), View> for Trim {
+    ghost use Rattle.ruledwords.specs.Looks.{trimmed};
+
+    ghost then = { trimmed };
+}
+
+/// A load of a cell by which nothing is seen anew, but that the thread remembers whether WAITERS was set there.
+pub(crate) struct Examine;
+
+impl Play<(), View> for Examine {
+    ghost use Rattle.ruledwords.specs.Deaths.{examined};
+
+    ghost then = { examined };
+}
+
+/// The layout of the words, for the proofs.
+pub(crate) trait Placing {
+    ghost use Rattle.keys.specs.Layouts.{Layout'};
+
+    ghost layout: { Layout' };
+}
+
+impl Placing for Brand {
+    ghost use Rattle.std.specs.Prelude.{[]};
+
+    ghost layout = { record { threads = 0; mutexes = 0; conditions = []; bases = []; processes = [] } };
+}
+
+/// An exchange of a cell's word for the same one marked: the death of the mutex's owner.
+pub(crate) struct Mark<L> {
+    placing: PhantomData<L>,
+}
+
+impl<L: Placing> Play<(), View> for Mark<L> {
+    ghost use Rattle.ruledwords.specs.Deaths.{marked};
+
+    ghost then = { marked L.layout };
+}
+
+/// A load of one of the thread's own words.
+pub(crate) struct Recall;
+
+impl Play<(), View> for Recall {
+    ghost use Rattle.ruledwords.specs.OwnWords.{recalled};
+
+    ghost then = { recalled };
+}
+
+/// A store to one of the thread's own words.
+pub(crate) struct Store;
+
+impl Play<(), View> for Store {
+    ghost use Rattle.ruledwords.specs.OwnWords.{stored};
+
+    ghost then = { stored };
 }
 
 /// The first card goes to a seat of its own.

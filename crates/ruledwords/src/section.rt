@@ -1,46 +1,37 @@
 //! A call at a futex section, which its caller makes.
-ghost use Rattle.std.specs.Prelude.{◌≡◌, ℕ};
+ghost use Rattle.std.specs.Prelude.{◌≡◌, ◌+◌, ◌==◌, ℕ};
 ghost use Rattle.keys.specs.Accesses.{address_of};
 ghost use Rattle.keys.specs.declared.access.Access.TheVariants.{Trim as AtTrim};
 ghost use Rattle.keys.specs.Layouts.{cell_place};
-ghost use Rattle.mutex.specs.Programs.{access_of};
-ghost use Rattle.ruledwords.specs.declared.outcome.Wakes.TheVariants.{Nobody};
 ghost use Rattle.ruledwords.specs.declared.pass.Words.{Words};
 ghost use Rattle.ruledwords.specs.Calls.{IsOnMutex};
-ghost use Rattle.ruledwords.specs.Looks.{Finds, FindsTrimmable};
-ghost use Rattle.ruledwords.specs.Outcomes.{owed_wakes};
+ghost use Rattle.ruledwords.specs.Looks.{Finds};
 ghost use Rattle.ruledwords.specs.Passes.{card, layout_of};
-ghost use Rattle.ruledwords.specs.Turns.{running_pass, running_program, IsAnswerOf, IsRunningOf, IsTurnOf, Unmoved, Onward, Keeps, StandsAtWake};
+ghost use Rattle.ruledwords.specs.Turns.{access_in, place_at, running_call, running_pass, running_program, IsAnswerOf, IsOneStep, IsRunningOf, IsTurnOf, Unmoved, Onward, Keeps, KeepsDecided};
 
-use crate::outcome::{Owed, Owing, Waking};
 use crate::pass::Words;
 use crate::turn::{Running, Turn};
 use keys::{Access, Answer, Progress};
 use lockword::WAITERS;
 
 impl Running {
-    /// Goes on with an unlock that has somebody to wake: the access that comes next is its wake.
-    pub fn owed(owed: Owed) -> Running
-        requires { ¬ (owed_wakes owed ≡ Nobody) }
-        ensures { StandsAtWake owed result }
+    /// The place of the word that the access that comes next reads or changes.
+    pub fn place(&self, words: &Words) -> u64
+        requires { IsRunningOf words.now self.now }
+        ensures { result ≡ place_at (layout_of words.now) self.now }
     {
-        let Owed { owing } = owed;
-        match owing {
-            Owing::Somebody(waking) => {
-                let Waking { running, all: _ } = waking;
-                running
-            }
-            Owing::Nobody(_) => unreachable!(),
-        }
+        words.place(self.pass.thread, address(self.program.next()))
     }
 
     /// The word of the access that comes next, for a section that looks at it. Nothing is seen anew.
     pub fn load(&mut self, words: &Words) -> u64
-        requires { IsRunningOf words.now self.old }
+        requires words { IsRunningOf words.now self.old }
+        requires section { ¬ IsOneStep (access_in self.old) }
         ensures unmoved { Unmoved words.now self.old self.new }
         ensures finds { (m : ℕ) → IsOnMutex (layout_of words.now) (running_program self.old) m → Finds (card (running_pass self.old)) (cell_place (layout_of words.now) m) result }
+        ensures last { ((card (running_pass self.new)).last ≡ result) × ((card (running_pass self.new)).trims ≡ (card (running_pass self.old)).trims) }
     {
-        let at = address(self.program.next());
+        let at = self.place(words);
         words.look(&mut self.pass, at)
     }
 
@@ -48,20 +39,22 @@ impl Running {
     /// asleep on that word, and has seen that nobody sleeps there. Nothing is seen anew.
     pub fn trim(&mut self, words: &Words) -> bool
         requires words { IsRunningOf words.now self.old }
-        requires trim { (at : ℕ) × (access_of (running_program self.old) ≡ AtTrim at) }
+        requires trim { (at : ℕ) × (access_in self.old ≡ AtTrim at) }
         ensures unmoved { Unmoved words.now self.old self.new }
-        ensures trims { (m : ℕ) → IsOnMutex (layout_of words.now) (running_program self.old) m → FindsTrimmable (card (running_pass self.old)) (cell_place (layout_of words.now) m) result }
+        ensures finds { (m : ℕ) → IsOnMutex (layout_of words.now) (running_program self.old) m → Finds (card (running_pass self.old)) (cell_place (layout_of words.now) m) (card (running_pass self.new)).last }
+        ensures trims { (result ≡ ((card (running_pass self.new)).last == 0x8000_0000)) × ((card (running_pass self.new)).trims ≡ (card (running_pass self.old)).trims + 1) }
     {
-        let at = address(self.program.next());
+        let at = self.place(words);
         words.trim_cell(&mut self.pass, at) == WAITERS
     }
 
     /// Goes on with the answer of a section, which its caller has made. Nothing is seen anew.
     pub fn answer(self, answer: Answer) -> Turn
-        requires { IsAnswerOf (access_of (running_program self)) answer }
-        ensures turned { Onward (running_program self) answer (running_pass self) result }
+        requires { IsAnswerOf (access_in self) answer }
+        ensures turned { Onward (running_call self) answer (running_pass self) result }
         ensures words { (w : Words) → IsRunningOf w self → IsTurnOf w result }
         ensures keeps { (w : Words) → Keeps w self result }
+        ensures decided { (w : Words) → KeepsDecided w self result }
     {
         let Running { pass, mut program } = self;
         match program.resume(answer) {
@@ -72,7 +65,7 @@ impl Running {
 }
 
 /// The address of the word that an access reads or changes.
-fn address(access: Access) -> u64
+pub(crate) fn address(access: Access) -> u64
     ensures { result ≡ address_of access }
 {
     match access {

@@ -1,22 +1,22 @@
 //! A call in progress, with its pass.
 ghost use Rattle.std.specs.Prelude.{◌≤◌};
-ghost use Rattle.mutex.specs.Rows.{IsGoing};
-ghost use Rattle.ruledwords.specs.Calls.{Ready, ready_prop, going_prop, most};
+ghost use Rattle.mutex.specs.Whole.{IsUnderWay};
+ghost use Rattle.ruledwords.specs.Calls.{Ready, ready_prop, under_way_prop, most, row_in, standing_of};
 ghost use Rattle.ruledwords.specs.Rules.{card_of};
 
 use crate::pass::{Live, Pass};
 use lockword::Reply;
-use mutex::CellProgram;
+use mutex::Program;
 
 /// A pass, and the call that its thread makes, which hasn't returned. Whoever runs it makes its accesses in turn: a step by [`Running::access`]; a futex section
-/// under a lock of the caller's own, which reads its word by [`Running::load`], and whose answer goes to [`Running::answer`].
+/// under a lock of the caller's own, which reads its word by [`Running::load`] or trims it by [`Running::trim`], and whose answer goes to [`Running::answer`].
 #[derive(Drop)]
 pub struct Running {
     pub(crate) pass: Pass<Live>,
-    pub(crate) program: CellProgram,
-    pub ghost ready: { Ready program (card_of pass.seat.me.0) } by { ready_prop program (card_of pass.seat.me.0) },
-    pub ghost room: { pass.held ≤ most program.row },
-    pub ghost going: { IsGoing program.row } by { going_prop program.row },
+    pub(crate) program: Program,
+    pub ghost ready: { Ready (standing_of program) (card_of pass.seat.me.0) } by { ready_prop (standing_of program) (card_of pass.seat.me.0) },
+    pub ghost room: { pass.held ≤ most (row_in program.phase) },
+    pub ghost going: { IsUnderWay program.phase } by { under_way_prop program.phase },
 }
 
 /// What one access of a call leads to.

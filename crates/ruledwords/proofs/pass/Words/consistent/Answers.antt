@@ -1,12 +1,9 @@
 use Rattle.mutex.specs.declared.call.Call.TheVariants as call
-use Rattle.ruledwords.proofs.Fates.{not_stopped}
+use Rattle.ruledwords.proofs.Finishing.{stands_in, declared}
 use Rattle.ruledwords.proofs.pass.Words.consistent.Goals as goal
 
-pub loop-running-preserved : goal.loop-running-preserved
-loop-running-preserved g c = record {
-  under = c.in-Goes.ensures.keeps c.args.pass (call.Consistent c.args.mutex) c.loop-running.invariant.under;
-  fate = not_stopped _ _ _ _ c.stops.ensures c.if-stops.false c.loop-running.invariant.fate;
-}
+pub finish-requires : goal.finish-requires
+finish-requires g c = (c.args.pass, call.Consistent c.args.mutex, tt, stands_in c.args.self.now c.args.pass c.in-Ok.running (call.Consistent c.args.mutex) c.in-Ok.ensures.2)
 
-pub returns-in-Lives-clause-declared : goal.returns-in-Lives-clause-declared
-returns-in-Lives-clause-declared g c = let end = c.in-Lives.ensures.keeps c.args.pass (call.Consistent c.args.mutex) c.loop-running.invariant.under in (end.0, end.1)
+pub returns-in-Ok-clause-declared : goal.returns-in-Ok-clause-declared
+returns-in-Ok-clause-declared g c = declared c.args.self.now c.args.pass c.in-Ok.running c.args.mutex c.finish.result c.in-Ok.ensures.2 c.finish.ensures.finishes

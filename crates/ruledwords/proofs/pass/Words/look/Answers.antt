@@ -1,13 +1,13 @@
-use Rattle.std.proofs.Common.{ℕ, ◌<◌, ◌∙◌, sym, ap, subst}
+use Rattle.std.proofs.Common.{◌≡◌, ℕ, ◌<◌, ◌∙◌, sym, ap, subst}
 use mathlib.Core.Option.{none}
 use Rattle.atomic_table.specs.Table.{step}
 use Rattle.keys.specs.Layouts.{cell_place}
 use Rattle.ruledwords.specs.declared.card.Card.{Card}
 use Rattle.ruledwords.specs.Seen.{held}
-use Rattle.ruledwords.specs.Looks.{looked}
+use Rattle.ruledwords.specs.Looks.{Finds, noted, looked}
 use Rattle.ruledwords.proofs.Keepers.{inside}
 use Rattle.ruledwords.proofs.Looks.{looks}
-use Rattle.ruledwords.proofs.Turned.{at_one, is_one}
+use Rattle.ruledwords.proofs.Turned.{at_one, turned}
 use Rattle.ruledwords.proofs.pass.Words.look.Goals as goal
 
 pub load-requires : goal.load-requires
@@ -22,16 +22,16 @@ load-requires c =
 
 pub invariant_of-pass : goal.invariant_of-pass
 invariant_of-pass c =
-    let one = is_one _ _ (c.load.ensures.2 _ c.args.pass.now.one).0 in
+    let r = turned _ _ (λ a b. (b ≡ noted a c.load.result a.trims) × Finds a c.args.at c.load.result) c.args.pass.now.one (c.load.ensures.2) in
     record {
-      one = one.0;
-      own = ap (λ (z : Card). z.thread) one.1 ∙ c.args.pass.now.own;
-      count = c.args.pass.now.count ∙ sym (ap held one.1);
+      one = r.0;
+      own = ap (λ (z : Card). z.thread) r.1.0 ∙ c.args.pass.now.own;
+      count = c.args.pass.now.count ∙ sym (ap held r.1.0);
       few = c.args.pass.now.few;
     }
 
 pub returns-clause-card : goal.returns-clause-card
-returns-clause-card c = (is_one _ _ (c.load.ensures.2 _ c.args.pass.now.one).0).1
+returns-clause-card c = (turned _ _ (λ a b. (b ≡ noted a c.load.result a.trims) × Finds a c.args.at c.load.result) c.args.pass.now.one (c.load.ensures.2)).1.0
 
 pub returns-clause-finds : goal.returns-clause-finds
-returns-clause-finds c = (c.load.ensures.2 _ c.args.pass.now.one).1
+returns-clause-finds c = (turned _ _ (λ a b. (b ≡ noted a c.load.result a.trims) × Finds a c.args.at c.load.result) c.args.pass.now.one (c.load.ensures.2)).1.1

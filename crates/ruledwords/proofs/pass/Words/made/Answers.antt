@@ -9,7 +9,9 @@ use Rattle.ruledwords.specs.Rules.{Kept, presets_in, hand, first_card, card_of, 
 use Rattle.ruledwords.proofs.Lists.{get_snoc, slice_get_or}
 use Rattle.ruledwords.proofs.Moves.{Sat}
 use Rattle.ruledwords.proofs.Turned.{is_one}
+use Rattle.ruledwords.specs.Lists.{IsAlive}
 use Rattle.ruledwords.specs.Passes.{IsCardOf}
+use Rattle.ruledwords.proofs.Listing.{alive_first}
 use Rattle.ruledwords.proofs.Cards.{first_is}
 use Rattle.ruledwords.proofs.Hands.{opens_kept, presets_are, deals, dealt_first, dealt_rest}
 use Rattle.ruledwords.proofs.pass.Words.made.Goals as goal
@@ -71,7 +73,8 @@ returns-clause-each c i other low =
     let all = c.threads-threads.ensures.value in
     let end = c.loop-before.auto in
     let last : i + 1 ≤ c.args.layout.threads = omega arith in
-    (d.0, subst (IsCardOf c.args.layout) (sym d.1) (first_is c.args.layout (i + 1) last))
+    let layout = c.in_ok-words.ensures.layout in
+    ((d.0, subst (IsCardOf c.args.layout) (sym d.1) (first_is c.args.layout (i + 1) layout (omega arith) last)), subst (IsAlive c.args.layout) (sym d.1) (alive_first c.args.layout (i + 1) layout (omega arith) last))
 
 pub returns-clause-cards : goal.returns-clause-cards
 returns-clause-cards c i p e = (c.loop-before.invariant.dealt i p e).1

@@ -9,6 +9,7 @@ use Rattle.ruledwords.proofs.Moves.{Sat}
 use Rattle.ruledwords.proofs.Cards.{first_met, second_met}
 use Rattle.ruledwords.proofs.Turned.{paired, is_one, at_two, parted}
 use Rattle.ruledwords.proofs.Hands.{deals, gathers, meets, held_first, held_second, exclusive}
+use Rattle.ruledwords.proofs.Listing.{met_stays}
 use Rattle.ruledwords.proofs.pass.Words.meet.Goals as goal
 
 pub join_seat-requires : goal.join_seat-requires
@@ -73,3 +74,12 @@ returns-clause-exclusive g c =
     let one = is_one _ did.0 (c.split_seat-mine.ensures.4 ∙ ap (λ (m : Sat). (first_of m.0, [])) did.2) in
     let other = is_one _ did.1 (c.split_seat-mine.ensures.2 ∙ ap (λ (m : Sat). (rest_of m.0, m.1)) did.2) in
     subst (λ (z : Card × Card). AreExclusive z.0 z.1) (λ i. (sym one.1 i, sym other.1 i)) (exclusive _ _ did.0 did.1 did.3)
+
+pub returns-clause-lists : goal.returns-clause-lists
+returns-clause-lists g c =
+    let k = c.args.self.now.layout in
+    let two = paired _ _ _ c.args.first.one c.args.second.one c.join_seat.ensures.2 in
+    let did = c.load.ensures.2 _ _ two in
+    let one = is_one _ did.0 (c.split_seat-mine.ensures.4 ∙ ap (λ (m : Sat). (first_of m.0, [])) did.2) in
+    let other = is_one _ did.1 (c.split_seat-mine.ensures.2 ∙ ap (λ (m : Sat). (rest_of m.0, m.1)) did.2) in
+    (met_stays k _ _ did.3.seen (one.1 ∙ did.3.first) (λ p. (did.3.own p).0), met_stays k _ _ did.3.seen (other.1 ∙ did.3.second) (λ p. (did.3.own p).1))

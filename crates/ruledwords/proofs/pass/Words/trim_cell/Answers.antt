@@ -1,14 +1,14 @@
-use Rattle.std.proofs.Common.{ℕ, ◌<◌, ◌==◌, ◌∙◌, sym, ap, subst}
+use Rattle.std.proofs.Common.{◌≡◌, ◌+◌, ℕ, ◌<◌, ◌==◌, ◌∙◌, sym, ap, subst}
 use mathlib.Core.Option.{none}
 use prog.Atomic.{either}
 use Rattle.atomic_table.specs.Table.{step}
 use Rattle.keys.specs.Layouts.{cell_place}
 use Rattle.ruledwords.specs.declared.card.Card.{Card}
 use Rattle.ruledwords.specs.Seen.{held}
-use Rattle.ruledwords.specs.Looks.{looked}
+use Rattle.ruledwords.specs.Looks.{Finds, noted, trimmed}
 use Rattle.ruledwords.proofs.Keepers.{inside}
 use Rattle.ruledwords.proofs.Trims.{trims}
-use Rattle.ruledwords.proofs.Turned.{at_one, is_one}
+use Rattle.ruledwords.proofs.Turned.{at_one, turned}
 use Rattle.ruledwords.proofs.pass.Words.trim_cell.Goals as goal
 
 pub compare_exchange-requires : goal.compare_exchange-requires
@@ -18,21 +18,21 @@ compare_exchange-requires c =
     let m = c.requires.place.0 in (
       c.requires.table,
       subst (λ (z : ℕ × ℕ). z.0 < z.1) (λ i. (sym c.requires.place.2 i, sym c.args.self.now.wide i)) (inside k m c.requires.place.1),
-      at_one _ k slots _ _ (cell_place k m) c.args.pass.now.seat.me (λ n. either (n == 0x8000_0000) 0 n) (λ q. looked (step slots q 0x8000_0000 0 none)) c.args.self.now.key c.requires.place.2 c.args.pass.now.one (trims k slots _ _ m c.requires.place.1),
+      at_one _ k slots _ _ (cell_place k m) c.args.pass.now.seat.me (λ n. either (n == 0x8000_0000) 0 n) (λ q. trimmed (step slots q 0x8000_0000 0 none)) c.args.self.now.key c.requires.place.2 c.args.pass.now.one (trims k slots _ _ m c.requires.place.1),
     )
 
 pub invariant_of-pass : goal.invariant_of-pass
 invariant_of-pass c =
-    let one = is_one _ _ (c.compare_exchange.ensures.2 _ c.args.pass.now.one).0 in
+    let r = turned _ _ (λ a b. (0x8000_0000 ≡ 0x8000_0000) × (0 ≡ 0) × (b ≡ noted a c.compare_exchange.result (a.trims + 1)) × Finds a c.args.at c.compare_exchange.result) c.args.pass.now.one (c.compare_exchange.ensures.2) in
     record {
-      one = one.0;
-      own = ap (λ (z : Card). z.thread) one.1 ∙ c.args.pass.now.own;
-      count = c.args.pass.now.count ∙ sym (ap held one.1);
+      one = r.0;
+      own = ap (λ (z : Card). z.thread) r.1.2 ∙ c.args.pass.now.own;
+      count = c.args.pass.now.count ∙ sym (ap held r.1.2);
       few = c.args.pass.now.few;
     }
 
 pub returns-clause-card : goal.returns-clause-card
-returns-clause-card c = (is_one _ _ (c.compare_exchange.ensures.2 _ c.args.pass.now.one).0).1
+returns-clause-card c = (turned _ _ (λ a b. (0x8000_0000 ≡ 0x8000_0000) × (0 ≡ 0) × (b ≡ noted a c.compare_exchange.result (a.trims + 1)) × Finds a c.args.at c.compare_exchange.result) c.args.pass.now.one (c.compare_exchange.ensures.2)).1.2
 
 pub returns-clause-finds : goal.returns-clause-finds
-returns-clause-finds c = (c.compare_exchange.ensures.2 _ c.args.pass.now.one).1
+returns-clause-finds c = (turned _ _ (λ a b. (0x8000_0000 ≡ 0x8000_0000) × (0 ≡ 0) × (b ≡ noted a c.compare_exchange.result (a.trims + 1)) × Finds a c.args.at c.compare_exchange.result) c.args.pass.now.one (c.compare_exchange.ensures.2)).1.3

@@ -1,0 +1,93 @@
+-- Unlocks up to the waking, access by access.
+use Rattle.std.proofs.Common.{◌≡◌, ◌≢◌, ℕ, ◌<◌, Bool, true, false, Option, Some, None, Result, Ok, Err, [], ◌∷◌, is_some, sym, ◌∙◌, subst}
+use Rattle.std.specs.Result.{IsErrAnd}
+use Rattle.lockword.specs.Cells.{fields_of}
+use Rattle.lockword.specs.declared.reply.Reply.{Reply}
+use Rattle.keys.specs.Layouts.{cell_place}
+use Rattle.keys.specs.declared.point.Operation.TheVariants as operation
+use Rattle.mutex.specs.declared.call.Call.TheVariants as call
+use Rattle.mutex.specs.declared.phase.Phase.{Phase}
+use Rattle.mutex.specs.Standings.{Whole}
+use Rattle.mutex.specs.Steps.{Tells}
+use Rattle.ruledwords.specs.declared.pass.Words.{Words}
+use Rattle.ruledwords.specs.declared.pass.Pass.{Pass}
+use Rattle.ruledwords.specs.declared.pass.Live.{Live}
+use Rattle.ruledwords.specs.declared.outcome.Wakes.{Wakes}
+use Rattle.ruledwords.specs.declared.step.End.{End}
+use Rattle.ruledwords.specs.declared.step.End.TheVariants as end
+use Rattle.ruledwords.specs.declared.turn.Running.{Running}
+use Rattle.ruledwords.specs.Calls.{row_in}
+use Rattle.ruledwords.specs.Owing.{FoundOwn, OwesThere, owing_at}
+use Rattle.ruledwords.specs.Passes.{card, layout_of}
+use Rattle.ruledwords.specs.Releases.{IsReleasing, Refuses, ReleaseEnds, ReleasesAll, ReleasesTo, StaysReleasing}
+use Rattle.ruledwords.specs.Seen.{Called, held}
+use Rattle.ruledwords.specs.declared.turn.Turn.TheVariants.{Goes}
+use Rattle.ruledwords.specs.Turns.{running_call, running_of, running_pass, Advances, IsOneStep, IsUnderWay, Turned}
+use Rattle.mutex.specs.Whole.{whole_access, whole_started}
+use Rattle.ruledwords.proofs.Beginnings.{unlock_begins}
+use Rattle.ruledwords.proofs.Ranks.{rank_in, turn_falls}
+use Rattle.ruledwords.proofs.Releasing.{steps, told_on, refused_on}
+
+pub not_owing : (f g : Phase) (o : Option Wakes) (b : Bool) → b ≡ is_some o → b ≡ false → OwesThere g o → g ≡ f → (v : Wakes) → f ≢ owing_at v
+not_owing f g None b told none owes same v e = owes v (same ∙ e)
+not_owing f g (Some x) b told none owes same v e = let bad : true ≡ false = sym told ∙ none in absurd (cc bad)
+
+module _ (w : Words) (x : Pass Live) (m : ℕ) (a : Pass Live) (p : Whole) (rel : IsReleasing w x m a p) (not : (v : Wakes) → p.phase ≢ owing_at v) where
+  abbrev pub r : Running
+  r = running_of w a p rel.0
+
+  pub is_one : IsOneStep (whole_access p)
+  is_one = steps w x m r rel.1 rel.2 rel.3 not
+
+  module _ (b : Pass Live) where
+    pub goes_on : (q : Whole) → Advances w a p b q None → IsReleasing w x m b q
+    goes_on q adv =
+        let t = adv rel.0 in
+        let turned = t.1.1 in
+        let told = told_on w x m r rel.1 rel.2 rel.3 not (card b) turned.0 turned.1 in (
+          t.0,
+          t.1.2 x (call.Unlock m) rel.1,
+          subst (λ (z : Whole). Tells operation.Unlock (row_in z.phase) (fields_of (card b).last)) (sym turned.2) told.0,
+          subst (λ (z : Whole). FoundOwn (row_in z.phase) z.thread (card b).last) (sym turned.2) told.1,
+        )
+
+    pub is_refused : (y : Reply) (q : Whole) → Advances w a p b q (Some y) → Refuses w x m b y
+    is_refused y q adv =
+        let t = adv rel.0 in
+        let end = t.2 x (call.Unlock m) rel.1 in
+        let is = refused_on w x m r rel.1 rel.2 rel.3 not (card b) t.1.0 y t.1.1 t.1.2 in
+        (end.0, is, subst (λ (z : Reply). Called (card x) (cell_place (layout_of w) m) ((operation.Unlock, z) ∷ []) (card b)) is end.1)
+
+-- each access leaves fewer
+pub releases_fall : (w : Words) (x : Pass Live) (m : ℕ) (a : Pass Live) (p : Whole) (rel : IsReleasing w x m a p) → ((v : Wakes) → p.phase ≢ owing_at v) → (r' : Running) → Turned (layout_of w) p a (Goes r')
+    → rank_in (running_call r').phase < rank_in p.phase
+releases_fall w x m a p rel not r' turned = turn_falls w (running_of w a p rel.0) r' operation.Unlock rel.1.0 (λ e. cc) rel.1.2.of (is_one w x m a p rel not) turned
+
+-- what ends after accesses ends since before them
+pub after : (w : Words) (a : Pass Live) (p : Whole) (b : Pass Live) (q : Whole) (d : Pass Live) (e : End) → StaysReleasing w a p b q → ReleaseEnds w b q d e → ReleaseEnds w a p d e
+after w a p b q d end.Stopped so_far ends = λ x m is. ends x m (so_far x m is)
+after w a p b q d (end.Replied y) so_far ends = λ x m is. ends x m (so_far x m is)
+
+-- a `?` hands on how the unlock ended
+pub handed_on : (w : Words) (a : Pass Live) (p : Whole) (b : Pass Live) (r : Result Whole End) (e : End) → IsErrAnd r (λ y. y ≡ e) → ReleaseEnds w a p b e → ReleasesTo w a p b r
+handed_on w a p b (Ok q) e is ends = absurd is
+handed_on w a p b (Err y) e is ends = subst (ReleaseEnds w a p b) (sym is) ends
+
+pub all_handed_on : (w : Words) (a : Pass Live) (p : Whole) (b : Pass Live) (r : Result (Whole × Wakes) End) (e : End) → IsErrAnd r (λ y. y ≡ e) → ReleaseEnds w a p b e → ReleasesAll w a p b r
+all_handed_on w a p b (Ok q) e is ends = absurd is
+all_handed_on w a p b (Err y) e is ends = subst (ReleaseEnds w a p b) (sym is) ends
+
+pub all_after : (w : Words) (a : Pass Live) (p : Whole) (b : Pass Live) (q : Whole) (d : Pass Live) (r : Result (Whole × Wakes) End) → StaysReleasing w a p b q → ReleasesAll w b q d r → ReleasesAll w a p d r
+all_after w a p b q d (Ok s) so_far is = (is.0, λ x m rel. is.1 x m (so_far x m rel), is.2)
+all_after w a p b q d (Err e) so_far is = after w a p b q d e so_far is
+
+-- an unlock begins knowing nothing of the cell
+pub releases_begun : (w : Words) (x : Pass Live) (m : ℕ) (r : Running) → whole_started (layout_of w) (card x).thread (held (card x)) (call.Unlock m) ≡ Ok (running_call r) → IsUnderWay w x (call.Unlock m) r → IsReleasing w x m (running_pass r) (running_call r)
+releases_begun w x m r started u =
+    let begun = unlock_begins (layout_of w) (card x).thread (held (card x)) m (running_call r) started in
+    let last = (card (running_pass r)).last in (
+      record { ready = r.ready; room = r.room; going = r.going; words = u.0 },
+      u,
+      subst (λ (p : Whole). Tells operation.Unlock (row_in p.phase) (fields_of last)) (sym begun) tt,
+      subst (λ (p : Whole). FoundOwn (row_in p.phase) p.thread last) (sym begun) tt,
+    )

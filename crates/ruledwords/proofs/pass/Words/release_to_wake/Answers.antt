@@ -1,0 +1,30 @@
+use Rattle.std.proofs.Common.{sym, subst}
+use Rattle.mutex.specs.declared.call.Call.TheVariants as call
+use Rattle.ruledwords.specs.Lists.{IsMortal}
+use Rattle.ruledwords.specs.Passes.{card, layout_of}
+use Rattle.ruledwords.specs.Releases.{ReleaseEnds}
+use Rattle.ruledwords.specs.Turns.{running_of}
+use Rattle.ruledwords.proofs.Listing.{mortal}
+use Rattle.ruledwords.proofs.Releasing.{freed}
+use Rattle.ruledwords.proofs.Turning.{died_in}
+use Rattle.ruledwords.proofs.pass.Words.release_to_wake.Goals as goal
+
+pub returns-in-Ok-clause-frees : goal.returns-in-Ok-clause-frees
+returns-in-Ok-clause-frees g c = λ x m is.
+    let w = c.args.self.now in
+    let told = c.in-Ok.ensures.steps in
+    let rel = told.1 x m is in
+    let f = freed w x m (running_of w c.release_steps.new.pass c.in-Ok.freed.0 rel.0) rel.1 rel.2 rel.3 c.in-Ok.freed.1 told.2 in
+    (rel.1.0, f.0, f.1, f.2, rel.1.1)
+
+pub returns-in-Replied-clause-frees : goal.returns-in-Replied-clause-frees
+returns-in-Replied-clause-frees g c = λ x m is. (subst (ReleaseEnds c.args.self.now c.args.running.pass c.args.running.program c.release_steps.new.pass) c.in-Replied.is c.in-Err.ensures.steps) x m is
+
+pub returns-in-Stopped-clause-frees : goal.returns-in-Stopped-clause-frees
+returns-in-Stopped-clause-frees g c = λ x m is.
+    let w = c.args.self.now in
+    let b = c.release_steps.new.pass in
+    let t = (subst (ReleaseEnds c.args.self.now c.args.running.pass c.args.running.program c.release_steps.new.pass) c.in-Stopped.is c.in-Err.ensures.steps) x m is in
+    let u = t.1.1 in
+    let found = mortal (layout_of w) (card b) u.0.0.1 u.0.1.0 t.0 u.0.1.1 in
+    ((c.died.ensures.words w u.0.0, subst (IsMortal (layout_of w)) (sym c.died.ensures.card) found), died_in w x (call.Unlock m) (running_of w b t.0 t.1.0) (card c.died.result) u c.died.ensures.card)

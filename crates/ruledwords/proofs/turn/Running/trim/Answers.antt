@@ -1,0 +1,17 @@
+use Rattle.std.proofs.Common.{◌+◌, refl, sym, ◌∙◌, subst}
+use Rattle.ruledwords.specs.Lists.{IsInCall}
+use Rattle.ruledwords.specs.Passes.{IsCardOf}
+use Rattle.ruledwords.specs.Rules.{card_of}
+use Rattle.ruledwords.proofs.Cards.{is_noted, knows_same}
+use Rattle.ruledwords.proofs.Listing.{call_noted}
+use Rattle.ruledwords.proofs.turn.Running.trim.Goals as goal
+
+pub returns-clause-unmoved : goal.returns-clause-unmoved
+returns-clause-unmoved c =
+    let k = c.args.words.now.layout in
+    let was = card_of c.args.self.now.pass.seat.me.0 in
+    let of = c.requires.words in (
+      ((c.trim_cell.ensures.table ∙ of.0.0, subst (IsCardOf k) (sym c.trim_cell.ensures.card) (is_noted k was c.trim_cell.result ((card_of c.args.self.now.pass.seat.me.0).trims + 1) of.0.1)), (of.1.0, subst (λ d. IsInCall k d of.1.0 c.args.self.now.program) (sym c.trim_cell.ensures.card) (call_noted k was c.trim_cell.result ((card_of c.args.self.now.pass.seat.me.0).trims + 1) of.1.0 c.args.self.now.program of.1.1))),
+      refl,
+      knows_same was (card_of c.trim_cell.new.pass.seat.me.0) c.trim_cell.result ((card_of c.args.self.now.pass.seat.me.0).trims + 1) c.trim_cell.ensures.card,
+    )

@@ -1,0 +1,28 @@
+-- Where an unlock stands that has released its mutex.
+use Rattle.std.specs.Prelude.{◌≡◌, ◌≢◌, ℕ, Option, Some, None, false, true}
+use Rattle.lockword.specs.Cells.{fields_of}
+use Rattle.lockword.specs.declared.reply.Reply.TheVariants.{OK}
+use Rattle.mutex.specs.declared.phase.Phase.{Phase}
+use Rattle.mutex.specs.declared.phase.Phase.TheVariants.{AtCell, Clearing}
+use Rattle.mutex.specs.declared.row.Row.{Row}
+use Rattle.mutex.specs.declared.row.Row.TheVariants.{Unlock, Ended}
+use Rattle.mutex.specs.declared.unlock.UnlockRow.TheVariants.{Wake}
+use Rattle.ruledwords.specs.declared.outcome.Wakes.{Wakes}
+use Rattle.ruledwords.specs.declared.outcome.Wakes.TheVariants.{Nobody, One, All}
+
+-- where an unlock stands that has released its mutex, and has them to wake: before its wake, or before its entry is cleared
+abbrev pub owing_at : Wakes → Phase
+owing_at Nobody = Clearing OK
+owing_at One = AtCell (Unlock (Wake false))
+owing_at All = AtCell (Unlock (Wake true))
+
+-- it stands there, or it has not freed its mutex yet, or not ended so
+abbrev pub OwesThere : Phase → Option Wakes → Type 0
+OwesThere f (Some v) = f ≡ owing_at v
+OwesThere f None = (v : Wakes) → f ≢ owing_at v
+
+-- behind its release an unlock has found a word that said its thread was the owner
+abbrev pub FoundOwn : Row → ℕ → ℕ → Type 0
+FoundOwn (Unlock (Wake a)) t v = (fields_of v).owner ≡ t
+FoundOwn (Ended OK) t v = (fields_of v).owner ≡ t
+FoundOwn r t v = Unit {0}
