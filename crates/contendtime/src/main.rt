@@ -6,7 +6,7 @@
 
 ghost use Rattle.std.specs.Prelude.{◌≡◌, ◌<◌, ◌≤◌, All, length, IfOk};
 ghost use Rattle.mutex.specs.Calls.{mutex_of};
-ghost use Rattle.ruledwords.specs.Passes.{layout_of, IsPassOf};
+ghost use Rattle.ruledwords.specs.Passes.{layout_of, IsLive};
 ghost use Rattle.threadbench.specs.Jobs.{IsJobOf};
 
 use keys::Layout;
@@ -18,7 +18,7 @@ use std::sync::Wait;
 use std::thread::Threads;
 use std::time::{Clock, Duration, Instant};
 use std::{env, io};
-use threadbench::{Bench, Job, Open, Record};
+use threadbench::{Bench, Job, Open, Record, WorkerPass};
 
 /// What is measured: by how many threads, how many pairs each, and whether each has a mutex of its own.
 #[derive(Drop)]
@@ -60,12 +60,16 @@ fn job_on(
     mutex: u16,
     pairs: u32,
 ) -> Result<Job, AllocError>
-    requires pass { IsPassOf bench.now pass }
+    requires pass { IsLive bench.now pass }
     requires mutex { mutex < (layout_of bench.now).mutexes }
     ensures { IfOk result (IsJobOf bench.now) }
 {
     let calls = pairs_on(alloc, mutex, pairs)?;
-    Ok(Job { pass, calls })
+    Ok(Job {
+        pass: WorkerPass::Lives(pass),
+        calls,
+        die: None,
+    })
 }
 
 /// A job for each pass, of a bench with as many mutexes as threads.
@@ -75,7 +79,7 @@ fn jobs_of(
     passes: Vec<Pass<Live>>,
     load: &Load,
 ) -> Result<Vec<Job>, AllocError>
-    requires passes { All (λ p. IsPassOf bench.now p) passes.items }
+    requires passes { All (λ p. IsLive bench.now p) passes.items }
     requires threads { 0 < load.now.threads }
     requires mutexes { (layout_of bench.now).mutexes ≡ load.now.threads }
     ensures { IfOk result (λ jobs. All (IsJobOf bench.now) jobs.items) }

@@ -1,8 +1,8 @@
 //! Threads at the mutexes of one bench, phase by phase.
-ghost use Rattle.std.specs.Prelude.{◌≡◌, ◌<◌, [], All, IfOk, true, Some};
+ghost use Rattle.std.specs.Prelude.{◌≡◌, ◌<◌, [], All, IfOk, None};
 ghost use Rattle.mutex.specs.Calls.{mutex_of};
-ghost use Rattle.ruledwords.specs.Passes.{layout_of, IsPassOf};
-ghost use Rattle.threadbench.specs.Jobs.{IsJobOf, IsDone, AreDone};
+ghost use Rattle.ruledwords.specs.Passes.{layout_of, IsLive};
+ghost use Rattle.threadbench.specs.Jobs.{IsJobOf, IsDone, AreDone, LivesOn};
 
 use crate::hands::last_of;
 use keys::{Layout, NoMem};
@@ -13,18 +13,24 @@ use std::alloc::Global;
 use std::sync::Wait;
 use std::test::Fail;
 use std::thread::Threads;
-use threadbench::{Bench, Gate, Job, Open, Record};
+use threadbench::{Bench, Gate, Job, Open, Record, WorkerPass};
 
+mod dying;
 mod gates;
 mod sleepers;
 
 fn job(alloc: Global, bench: &Bench, pass: Pass<Live>, calls: &[Call]) -> Result<Job, NoMem>
-    requires pass { IsPassOf bench.now pass }
+    requires pass { IsLive bench.now pass }
     requires calls { All (λ c. mutex_of c < (layout_of bench.now).mutexes) calls.now }
-    ensures { IfOk result (λ j. IsJobOf bench.now j) }
+    ensures job { IfOk result (λ j. IsJobOf bench.now j) }
+    ensures lives { IfOk result (λ j. LivesOn bench.now j.pass × (j.die ≡ None)) }
 {
     match calls.to_vec(alloc) {
-        Ok(calls) => Ok(Job { pass, calls }),
+        Ok(calls) => Ok(Job {
+            pass: WorkerPass::Lives(pass),
+            calls,
+            die: None,
+        }),
         Err(_) => Err(NoMem),
     }
 }
@@ -36,7 +42,7 @@ fn jobs_of(
     passes: Vec<Pass<Live>>,
     calls: &[Call],
 ) -> Result<Vec<Job>, NoMem>
-    requires passes { All (λ p. IsPassOf bench.now p) passes.items }
+    requires passes { All (λ p. IsLive bench.now p) passes.items }
     requires calls { All (λ c. mutex_of c < (layout_of bench.now).mutexes) calls.now }
     ensures { IfOk result (λ jobs. All (λ j. IsJobOf bench.now j) jobs.items) }
 {
@@ -68,31 +74,71 @@ fn work<R: Threads + Wait + Sync, G: Gate + Sync>(
     }
 }
 
-/// A phase of two threads.
+/// The records of two jobs, whose workers begin at once.
+fn both<R: Threads + Wait + Sync, G: Gate + Sync>(
+    rt: &R,
+    alloc: Global,
+    bench: &Bench,
+    first: Job,
+    second: Job,
+    gate: &G,
+) -> Result<(Record, Record), NoMem>
+    requires first { IsJobOf bench.now first }
+    requires second { IsJobOf bench.now second }
+    ensures { IfOk result (λ r. IsDone bench.now (G.says gate.now) first r.0 × IsDone bench.now (G.says gate.now) second r.1) }
+{
+    let Ok(jobs) = Vec::from_array(alloc, [first, second]) else {
+        return Err(NoMem);
+    };
+    let mut records = work(rt, alloc, bench, jobs, gate)?;
+    let second = records.pop().unwrap();
+    let first = records.pop().unwrap();
+    Ok((first, second))
+}
+
+/// What came of a job whose thread lives.
+#[derive(Drop)]
+struct Living {
+    pass: Pass<Live>,
+    replies: Vec<Reply>,
+}
+
+/// The thread of a job without a number lives.
+fn alive(_bench: &Bench, record: Record) -> Living
+    requires { LivesOn _bench.now record.pass }
+    ensures { IsLive _bench.now result.pass }
+{
+    let Record {
+        pass,
+        replies,
+        die: _,
+    } = record;
+    match pass {
+        WorkerPass::Lives(pass) => Living { pass, replies },
+        WorkerPass::Reaped(_) => unreachable!(),
+    }
+}
+
+/// A phase of two threads that live.
 fn phase<R: Threads + Wait + Sync>(
     rt: &R,
     alloc: Global,
     bench: &Bench,
     first: Job,
     second: Job,
-) -> Result<(Record, Record), NoMem>
-    requires first { IsJobOf bench.now first }
-    requires second { IsJobOf bench.now second }
-    ensures { IfOk result (λ r. IsDone bench.now (λ t i. Some true) first r.0 × IsDone bench.now (λ t i. Some true) second r.1) }
+) -> Result<(Living, Living), NoMem>
+    requires first { IsJobOf bench.now first × LivesOn bench.now first.pass × (first.die ≡ None) }
+    requires second { IsJobOf bench.now second × LivesOn bench.now second.pass × (second.die ≡ None) }
+    ensures { IfOk result (λ r. IsLive bench.now r.0.pass × IsLive bench.now r.1.pass) }
 {
-    let Ok(jobs) = Vec::from_array(alloc, [first, second]) else {
-        return Err(NoMem);
-    };
-    let mut records = work(rt, alloc, bench, jobs, &Open)?;
-    let second = records.pop().unwrap();
-    let first = records.pop().unwrap();
-    Ok((first, second))
+    let (first, second) = both(rt, alloc, bench, first, second, &Open)?;
+    Ok((alive(bench, first), alive(bench, second)))
 }
 
 fn try_lock(words: &Words, pass: Pass<Live>, mutex: u16) -> (Pass<Live>, Reply)
-    requires pass { IsPassOf words.now pass }
+    requires pass { IsLive words.now pass }
     requires mutex { mutex < (layout_of words.now).mutexes }
-    ensures { IsPassOf words.now result.0 }
+    ensures { IsLive words.now result.0 }
 {
     match words.try_lock(pass, mutex, &mut Never) {
         Outcome::Lives(pass, reply) => (pass, reply),
@@ -101,6 +147,25 @@ fn try_lock(words: &Words, pass: Pass<Live>, mutex: u16) -> (Pass<Live>, Reply)
 }
 
 /// Thread 1 owns mutex 0 and thread 2 mutex 1; then thread 1 gives back its own, and thread 2 takes that too.
+/// A phase in which the first thread tries mutex 1, and unlocks both mutexes; the second one makes no call.
+fn three_calls_beside_none<R: Threads + Wait + Sync>(
+    rt: &R,
+    alloc: Global,
+    bench: &Bench,
+    first: Pass<Live>,
+    second: Pass<Live>,
+) -> Result<(Living, Living), NoMem>
+    requires first { IsLive bench.now first }
+    requires second { IsLive bench.now second }
+    requires mutexes { 1 < (layout_of bench.now).mutexes }
+    ensures { IfOk result (λ r. IsLive bench.now r.0.pass × IsLive bench.now r.1.pass) }
+{
+    let calls = [Call::TryLock(1), Call::Unlock(1), Call::Unlock(0)];
+    let first = job(alloc, bench, first, &calls)?;
+    let second = job(alloc, bench, second, &[])?;
+    phase(rt, alloc, bench, first, second)
+}
+
 #[test]
 fn phases_follow_each_other(rt: HostRuntime) -> Result<(), Fail> {
     let alloc = rt.alloc();
@@ -114,14 +179,7 @@ fn phases_follow_each_other(rt: HostRuntime) -> Result<(), Fail> {
     assert!(rt; first.replies.as_slice() == [Reply::OK, Reply::EBUSY].as_slice());
     assert!(rt; second.replies.as_slice() == [Reply::EPERM, Reply::OK].as_slice());
 
-    let first = job(
-        alloc,
-        &bench,
-        first.pass,
-        &[Call::TryLock(1), Call::Unlock(1), Call::Unlock(0)],
-    )?;
-    let second = job(alloc, &bench, second.pass, &[])?;
-    let (first, second) = phase(&rt, alloc, &bench, first, second)?;
+    let (first, second) = three_calls_beside_none(&rt, alloc, &bench, first.pass, second.pass)?;
     assert!(rt; first.replies.as_slice() == [Reply::EBUSY, Reply::EPERM, Reply::OK].as_slice());
     assert!(rt; second.replies.is_empty());
 
@@ -147,13 +205,31 @@ fn nothing_is_to_be_declared_consistent(rt: HostRuntime) -> Result<(), Fail> {
     let second = job(alloc, &bench, second, &[Call::Consistent(0)])?;
     let (first, second) = phase(&rt, alloc, &bench, first, second)?;
     assert!(rt; first.replies.as_slice() == [Reply::OK, Reply::EINVAL, Reply::OK].as_slice());
-    assert!(rt; has_replied(&second, Reply::EPERM));
+    assert!(rt; has_replied(second.replies.as_slice(), Reply::EPERM));
     assert_eq!(rt; bench.close(first.pass).cell(0), 0);
     Ok(())
 }
 
-fn has_replied(record: &Record, reply: Reply) -> bool {
-    record.replies.as_slice() == [reply].as_slice()
+fn has_replied(replies: &[Reply], reply: Reply) -> bool {
+    replies == [reply].as_slice()
+}
+
+/// A phase in which the first thread unlocks mutex 0, and the second one locks it.
+fn unlock_beside_a_lock<R: Threads + Wait + Sync>(
+    rt: &R,
+    alloc: Global,
+    bench: &Bench,
+    first: Pass<Live>,
+    second: Pass<Live>,
+) -> Result<(Living, Living), NoMem>
+    requires first { IsLive bench.now first }
+    requires second { IsLive bench.now second }
+    requires mutex { 0 < (layout_of bench.now).mutexes }
+    ensures { IfOk result (λ r. IsLive bench.now r.0.pass × IsLive bench.now r.1.pass) }
+{
+    let first = job(alloc, bench, first, &[Call::Unlock(0)])?;
+    let second = job(alloc, bench, second, &[Call::Lock(0)])?;
+    phase(rt, alloc, bench, first, second)
 }
 
 /// Locks and their refusals; thread 1 holds mutex 0 from one phase to the next.
@@ -167,10 +243,11 @@ fn locks_follow_each_other(rt: HostRuntime) -> Result<(), Fail> {
     let second = job(alloc, &bench, second, &[])?;
     let (first, second) = phase(&rt, alloc, &bench, first, second)?;
     assert!(rt; first.replies.as_slice() == [Reply::OK, Reply::EDEADLK].as_slice());
-    let first = job(alloc, &bench, first.pass, &[Call::Unlock(0)])?;
-    let second = job(alloc, &bench, second.pass, &[Call::Lock(0)])?;
-    let (first, second) = phase(&rt, alloc, &bench, first, second)?;
-    assert!(rt; has_replied(&first, Reply::OK) && has_replied(&second, Reply::OK));
+    let (first, second) = unlock_beside_a_lock(&rt, alloc, &bench, first.pass, second.pass)?;
+    assert!(rt;
+        has_replied(first.replies.as_slice(), Reply::OK)
+            && has_replied(second.replies.as_slice(), Reply::OK)
+    );
     let end = bench.close(second.pass).cell(0);
     assert!(rt; end == 2 || end == 0x8000_0002);
     Ok(())
@@ -186,8 +263,10 @@ fn one_of_two_takes(rt: HostRuntime) -> Result<(), Fail> {
     let first = job(alloc, &bench, first, &[Call::TryLock(0)])?;
     let second = job(alloc, &bench, second, &[Call::TryLock(0)])?;
     let (first, second) = phase(&rt, alloc, &bench, first, second)?;
-    let first_wins = has_replied(&first, Reply::OK) && has_replied(&second, Reply::EBUSY);
-    let second_wins = has_replied(&first, Reply::EBUSY) && has_replied(&second, Reply::OK);
+    let first_wins = has_replied(first.replies.as_slice(), Reply::OK)
+        && has_replied(second.replies.as_slice(), Reply::EBUSY);
+    let second_wins = has_replied(first.replies.as_slice(), Reply::EBUSY)
+        && has_replied(second.replies.as_slice(), Reply::OK);
     assert!(rt; first_wins || second_wins);
     let last = bench.close(second.pass);
     assert_eq!(rt; last.cell(0), if first_wins { 1 } else { 2 });
@@ -201,7 +280,7 @@ fn prepared(alloc: Global, layout: Layout) -> Result<(Bench, Vec<Job>, Pass<Live
     requires conditions { layout.conditions ≡ [] }
     ensures layout { IfOk result (λ r. layout_of r.0 ≡ layout) }
     ensures jobs { IfOk result (λ r. All (λ j. IsJobOf r.0 j) r.1.items) }
-    ensures third { IfOk result (λ r. IsPassOf r.0 r.2) }
+    ensures third { IfOk result (λ r. IsLive r.0 r.2) }
 {
     let (bench, mut passes) = Bench::new(alloc, layout, &[])?;
     let third = last_of(bench.words(), &mut passes);
@@ -217,7 +296,14 @@ fn jobs_are_as_they_were(bench: &Bench, jobs: Vec<Job>) -> bool
     let mut count = 0_u8;
     let mut well = true;
     for job in jobs {
-        let Job { pass, calls } = job;
+        let Job {
+            pass,
+            calls,
+            die: _,
+        } = job;
+        let WorkerPass::Lives(pass) = pass else {
+            return false;
+        };
         let (_pass, reply) = try_lock(bench.words(), pass, 0);
         let want = if count == 0 { Reply::OK } else { Reply::EBUSY };
         well = well && reply == want && calls.as_slice() == [Call::TryLock(0)].as_slice();

@@ -6,6 +6,8 @@
 #[cfg(test)]
 mod benches;
 #[cfg(test)]
+mod exits;
+#[cfg(test)]
 mod fates;
 #[cfg(test)]
 mod hands;

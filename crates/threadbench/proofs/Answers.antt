@@ -1,11 +1,39 @@
--- A call more.
-use Rattle.std.proofs.Common.{◌≡◌, ◌≢◌, ◌∙◌, ℕ, ◌+◌, ◌<◌, Bool, true, false, Option, Some, List, [], ◌∷◌, ◌++◌, length, take, get_or, refl, sym, subst}
+-- A call, and one more.
+use Rattle.std.proofs.Common.{◌≡◌, ◌≢◌, ◌∙◌, ℕ, ◌+◌, ◌<◌, Bool, true, false, Option, Some, List, [], ◌∷◌, ◌++◌, length, take, get_or, refl, sym, subst, arith}
 use Rattle.std.proofs.lemmas.List.{take_more}
 use Rattle.lockword.specs.declared.reply.Reply.{Reply}
-use Rattle.keys.specs.Layouts.{Layout'}
+use Rattle.lockword.specs.declared.reply.Reply.TheVariants.{OK}
+use Rattle.keys.specs.Layouts.{Layout', cell_place}
+use Rattle.keys.specs.declared.point.Operation.TheVariants as operation
 use Rattle.ruledwords.specs.declared.card.Card.{Card}
+use Rattle.ruledwords.specs.declared.outcome.Outcome.{Outcome}
+use Rattle.ruledwords.specs.declared.outcome.Outcome.TheVariants as outcome
+use Rattle.ruledwords.specs.declared.outcome.Owed.{Owed}
+use Rattle.ruledwords.specs.declared.outcome.Released.TheVariants.{Owes}
+use Rattle.ruledwords.specs.declared.pass.Live.{Live}
+use Rattle.ruledwords.specs.declared.pass.Pass.{Pass}
+use Rattle.ruledwords.specs.declared.pass.Words.{Words}
+use Rattle.ruledwords.specs.Outcomes.{owed_pass, Frees}
+use Rattle.ruledwords.specs.Passes.{card, layout_of}
+use Rattle.ruledwords.specs.Seen.{Called}
+use Rattle.ruledwords.proofs.Noted.{still_called}
 use Rattle.mutex.specs.declared.call.Call.{Call}
-use Rattle.threadbench.specs.Answered.{Replied, Answered}
+use Rattle.mutex.specs.declared.call.Call.TheVariants.{Unlock}
+use Rattle.threadbench.specs.Answered.{Replied, Answered, CallEnds}
+use Rattle.threadbench.specs.Calls.{Paid}
+
+-- an unlock whose mutex is freed, and whose sleepers are woken or not
+pub unlock_ends : (w : Words) (m : ℕ) (a : Pass Live) (o : Owed) (end : Outcome) → Frees w m a (Owes o) → Paid w o end → CallEnds w a (Unlock m) end
+unlock_ends w m a o (outcome.Lives b r) freed paid =
+    let called = still_called (card a) (cell_place (layout_of w) m) ((operation.Unlock, OK) ∷ []) (card (owed_pass o)) (card b) paid.2 freed.1 in (
+      paid.0,
+      subst (λ (x : Reply). Called (card a) (cell_place (layout_of w) m) ((operation.Unlock, x) ∷ []) (card b)) (sym paid.1) called,
+    )
+unlock_ends w m a o (outcome.Dead d) freed paid =
+    let called = still_called (card a) (cell_place (layout_of w) m) ((operation.Unlock, OK) ∷ []) (card (owed_pass o)) (card d) paid.1 freed.1 in (
+      paid.0,
+      record { acts = (operation.Unlock, OK) ∷ []; beginning = ([], OK, refl); saw = called.saw },
+    )
 
 -- the calls so far and then one more
 pub answered_more : (k : Layout') (a : Card) (cs : List Call) (rs : List Reply) (p : Card) (c : Call) (r : Reply) (b : Card) → Answered k a cs rs p → Replied k p c r b → Answered k a (cs ++ c ∷ []) (rs ++ r ∷ []) b
@@ -26,3 +54,7 @@ let_through says t u n k answer tells same at lets refuses =
     let said : answer ≡ false = tells false (subst (λ (z : ℕ × ℕ). says z.0 z.1 ≡ Some false) (λ i. (sym same i, sym at i)) refuses) in
     let bad : true ≡ false = sym lets ∙ said in
     absurd (cc bad)
+
+-- a fate that told nobody to stop
+pub still : (n m k : ℕ) → n ≡ m + 0 → m ≡ k → n ≡ k
+still n m k asked so_far = omega (arith, asked, so_far)

@@ -2,5 +2,6 @@ mod Each
 mod Hands
 mod Answers
 mod Sections
-mod Turning
 mod Beginnings
+mod Turning
+pub mod Living

@@ -1,4 +1,4 @@
--- What a thread's calls answered, one after the other.
+-- What a thread's calls answered, one after the other, and what it ended as.
 use Rattle.std.specs.Prelude.{◌≡◌, ℕ, ◌+◌, ◌≤◌, List, [], ◌∷◌}
 use Rattle.lockword.specs.declared.reply.Reply.{Reply}
 use Rattle.lockword.specs.declared.reply.Reply.TheVariants.{XRACED}
@@ -7,8 +7,16 @@ use Rattle.keys.specs.declared.point.Operation.TheVariants as operation
 use Rattle.mutex.specs.declared.call.Call.{Call}
 use Rattle.mutex.specs.declared.call.Call.TheVariants.{Lock, TryLock, Unlock, Consistent}
 use Rattle.ruledwords.specs.declared.card.Card.{Card}
-use Rattle.ruledwords.specs.Outcomes.{Takes}
-use Rattle.ruledwords.specs.Seen.{Called}
+use Rattle.ruledwords.specs.declared.outcome.Outcome.{Outcome}
+use Rattle.ruledwords.specs.declared.outcome.Outcome.TheVariants as outcome
+use Rattle.ruledwords.specs.declared.pass.Words.{Words}
+use Rattle.ruledwords.specs.declared.pass.Pass.{Pass}
+use Rattle.ruledwords.specs.declared.pass.Live.{Live}
+use Rattle.ruledwords.specs.Outcomes.{Takes, DiesTaking}
+use Rattle.ruledwords.specs.Passes.{card, layout_of, IsLive, IsDying, IsPassOf}
+use Rattle.ruledwords.specs.Seen.{Called, Died}
+use Rattle.threadbench.specs.declared.job.WorkerPass.{WorkerPass}
+use Rattle.threadbench.specs.declared.job.WorkerPass.TheVariants.{Lives, Reaped}
 
 -- a call of the thread whose card is c replied so, and left the card d: its point, if it has one, is the last that the thread has seen of the mutex
 abbrev pub Replied : Layout' → Card → Call → Reply → Card → Type 0
@@ -17,9 +25,36 @@ Replied k c (TryLock m) r d = Takes k m operation.TryLock c r d × (r ≡ XRACED
 Replied k c (Unlock m) r d = Called c (cell_place k m) ((operation.Unlock, r) ∷ []) d
 Replied k c (Consistent m) r d = Called c (cell_place k m) ((operation.Consistent, r) ∷ []) d
 
+-- the thread whose card was c died in the call: it had made all of the call's points, or some of the first
+abbrev pub DiesIn : Layout' → Card → Call → Card → Type 0
+DiesIn k c (Lock m) d = DiesTaking k m operation.Lock c d
+DiesIn k c (TryLock m) d = DiesTaking k m operation.TryLock c d
+DiesIn k c (Unlock m) d = Died c (cell_place k m) operation.Unlock d
+DiesIn k c (Consistent m) d = Died c (cell_place k m) operation.Consistent d
+
+-- a call that began at the pass a ended so
+abbrev pub CallEnds : Words → Pass Live → Call → Outcome → Type 0
+CallEnds w a call (outcome.Lives b r) = IsLive w b × Replied (layout_of w) (card a) call r (card b)
+CallEnds w a call (outcome.Dead d) = IsDying w d × DiesIn (layout_of w) (card a) call (card d)
+
 -- so many calls, a reply each
 abbrev pub Answered : Layout' → Card → List Call → List Reply → Card → Type 0
 Answered k c [] [] d = c ≡ d
 Answered k c (x ∷ xs) (r ∷ rs) d = (e : Card) × Replied k c x r e × Answered k e xs rs d
 Answered k c [] (r ∷ rs) d = ⊥
 Answered k c (x ∷ xs) [] d = ⊥
+
+-- what a worker's thread knows
+abbrev pub card_in : WorkerPass → Card
+card_in (Lives p) = card p
+card_in (Reaped p) = card p
+
+-- its pass is of these words
+abbrev pub IsWorkerOf : Words → WorkerPass → Type 0
+IsWorkerOf w (Lives p) = IsLive w p
+IsWorkerOf w (Reaped p) = IsPassOf w p
+
+-- how often it died
+abbrev pub deaths_in : WorkerPass → ℕ
+deaths_in (Lives p) = 0
+deaths_in (Reaped p) = 1

@@ -1,10 +1,11 @@
 -- Jobs on their way.
-use Rattle.std.specs.Prelude.{ℕ, Bool, false, Option, None, Some, ◌≡◌, []}
+use Rattle.std.specs.Prelude.{ℕ, Bool, false, Option, None, Some, ◌≡◌}
 use Rattle.std.specs.declared.sync.OnceToken.{OnceToken}
 use Rattle.threadbench.specs.declared.job.Job.{Job}
 use Rattle.threadbench.specs.declared.hand.Hand.{Hand}
 use Rattle.threadbench.specs.declared.hand.Hand.TheVariants.{There, Idle}
 use Rattle.threadbench.specs.declared.phase.Phase.{Phase}
+use Rattle.threadbench.specs.Jobs.{HasNoWork}
 
 -- workers were told not to begin, if they were told anything, by this lock
 abbrev pub IsStop : ℕ → Option (OnceToken Bool) → Type 0
@@ -22,7 +23,7 @@ module _ {G : Type 0} where
   IsHandIn f (There h) = h.promise.phase.now ≡ f
   IsHandIn f (Idle j) = Unit {0}
 
-  -- nothing is missing for its calls: it has a worker where it has calls
+  -- nothing is missing for its calls: it has a worker where it has calls to make
   abbrev pub MayBegin : Hand G → Type 0
   MayBegin (There h) = Unit {0}
-  MayBegin (Idle j) = j.calls.items ≡ []
+  MayBegin (Idle j) = HasNoWork j.pass j.calls.items

@@ -1,25 +1,69 @@
 -- Jobs and what came of them.
-use Rattle.std.specs.Prelude.{ℕ, ◌≡◌, ◌<◌, ◌≤◌, ◌+◌, ◌≢◌, ◌⊎◌, Bool, true, false, Option, Some, List, All, length, take}
+use Rattle.std.specs.Prelude.{ℕ, ◌≡◌, ◌<◌, ◌≤◌, ◌+◌, ◌≢◌, ◌⊎◌, Bool, true, false, Option, None, Some, List, [], All, length, slice_get, take}
+use Rattle.lockword.specs.declared.reply.Reply.{Reply}
+use Rattle.keys.specs.Layouts.{Layout'}
 use Rattle.mutex.specs.Calls.{mutex_of}
+use Rattle.mutex.specs.declared.call.Call.{Call}
+use Rattle.ruledwords.specs.declared.card.Card.{Card}
 use Rattle.ruledwords.specs.declared.pass.Words.{Words}
-use Rattle.ruledwords.specs.Passes.{card, layout_of, IsPassOf}
+use Rattle.ruledwords.specs.Deaths.{IsReaped}
+use Rattle.ruledwords.specs.Passes.{card, layout_of, IsLive, IsPassOf}
+use Rattle.threadbench.specs.declared.job.WorkerPass.{WorkerPass}
+use Rattle.threadbench.specs.declared.job.WorkerPass.TheVariants.{Lives, Reaped}
 use Rattle.threadbench.specs.declared.job.Job.{Job}
 use Rattle.threadbench.specs.declared.job.Record.{Record}
-use Rattle.threadbench.specs.Answered.{Answered}
+use Rattle.threadbench.specs.Answered.{Answered, DiesIn, IsWorkerOf}
 use Rattle.threadbench.specs.Each.{EachWith}
 
 -- the job's pass is one of these words, and its calls are on mutexes of their layout
 abbrev pub IsJobOf : Words → Job → Type 0
-IsJobOf w j = IsPassOf w j.pass × All (λ c. mutex_of c < (layout_of w).mutexes) j.calls.items
+IsJobOf w j = IsWorkerOf w j.pass × All (λ c. mutex_of c < (layout_of w).mutexes) j.calls.items
 
--- the calls of the job up to one were answered, in their order, and the pass is as the last of them left it: all calls, or those before one that the gate may have refused. Of none that was made
--- does the gate surely say no
-pub record IsDone (w : Words) (says : ℕ → ℕ → Option Bool) (j : Job) (r : Record) : Type 0 where
-  pub pass : IsPassOf w r.pass
-  pub few : length r.replies.items ≤ length j.calls.items
-  pub answered : Answered (layout_of w) (card j.pass) (take (length r.replies.items) j.calls.items) r.replies.items (card r.pass)
-  pub let_through : (i : ℕ) → i < length r.replies.items → says (card j.pass).thread (i + 1) ≢ Some false
-  pub stopped : (length r.replies.items ≡ length j.calls.items) ⊎ (says (card j.pass).thread (length r.replies.items + 1) ≢ Some true)
+-- a thread with these calls makes none: there is none, or the thread has died
+abbrev pub HasNoWork : WorkerPass → List Call → Type 0
+HasNoWork (Lives p) calls = calls ≡ []
+HasNoWork (Reaped p) calls = Unit {0}
+
+-- the thread whose card was c died in the call, and its list was walked: the death of its owner is told of each mutex that it held, and it holds nothing
+pub record WasLost (k : Layout') (c : Card) (call : Call) (d : Card) : Type 0 where
+  pub dead : Card
+  pub died : DiesIn k c call dead
+  pub reaped : IsReaped k dead d
+
+-- a thread that was answered n of these calls, and had the card c then, ended so. It lives: that is its pass, and all calls are answered, or the gate may have refused the next. Or
+-- it died in the next call, which the gate doesn't surely refuse
+abbrev pub StopsAs : Words → (ℕ → Option Bool) → List Call → ℕ → Card → WorkerPass → Type 0
+StopsAs w says calls n c (Lives p) = IsLive w p × (card p ≡ c) × ((n ≡ length calls) ⊎ (says (n + 1) ≢ Some true))
+StopsAs w says calls n c (Reaped p) = IsPassOf w p × (says (n + 1) ≢ Some false) × ((call : Call) × (slice_get calls n ≡ Some call) × WasLost (layout_of w) c call (card p))
+
+-- the thread whose card was a made these calls up to one, in their order, and they were answered so: all calls, or those before the one that the gate may have refused or in which the thread died. Of
+-- none that was made does the gate surely say no
+pub record Worked (w : Words) (says : ℕ → ℕ → Option Bool) (a : Card) (calls : List Call) (replies : List Reply) (pass : WorkerPass) : Type 0 where
+  pub few : length replies ≤ length calls
+  pub last : Card
+  pub answered : Answered (layout_of w) a (take (length replies) calls) replies last
+  pub let_through : (i : ℕ) → i < length replies → says a.thread (i + 1) ≢ Some false
+  pub stops : StopsAs w (says a.thread) calls (length replies) last pass
+
+-- only the thread of a job with a number dies; and where it lives, some of the number is left
+abbrev pub IsLeftOf : Option ℕ → WorkerPass → Option ℕ → Type 0
+IsLeftOf None (Lives p) left = left ≡ None
+IsLeftOf None (Reaped p) left = ⊥
+IsLeftOf (Some n) (Lives p) left = left ≢ None
+IsLeftOf (Some n) (Reaped p) left = left ≡ None
+
+-- what came of a job with this pass: the calls of a thread that lived were made and answered so. One that had died makes none
+abbrev pub IsDoneFrom : Words → (ℕ → ℕ → Option Bool) → Job → WorkerPass → Record → Type 0
+IsDoneFrom w says j (Lives a) r = Worked w says (card a) j.calls.items r.replies.items r.pass × IsLeftOf j.die r.pass r.die
+IsDoneFrom w says j (Reaped d) r = (r.pass ≡ Reaped d) × (r.replies.items ≡ []) × (r.die ≡ None)
+
+abbrev pub IsDone : Words → (ℕ → ℕ → Option Bool) → Job → Record → Type 0
+IsDone w says j r = IsDoneFrom w says j j.pass r
+
+-- the thread lives, and its pass is one of these words
+abbrev pub LivesOn : Words → WorkerPass → Type 0
+LivesOn w (Lives p) = IsLive w p
+LivesOn w (Reaped p) = ⊥
 
 -- each job has its record
 abbrev pub AreDone : Words → (ℕ → ℕ → Option Bool) → List Job → List Record → Type 0

@@ -1,6 +1,6 @@
 //! The bench.
 ghost use Rattle.std.specs.Prelude.{◌≡◌, ◌<◌, ◌≤◌, ◌+◌, ℕ, [], ◌∷◌, All, length, map, slice_get, Some, IfOk, IfErr};
-ghost use Rattle.ruledwords.specs.Passes.{card, layout_of, presets_of, last_layout, last_words, IsPassOf};
+ghost use Rattle.ruledwords.specs.Passes.{card, layout_of, presets_of, last_layout, last_words, IsLive, IsPassOf};
 ghost use Rattle.ruledwords.specs.Rules.{first_card, Ends};
 ghost use Rattle.threadbench.specs.Jobs.{IsJobOf, AreDone};
 
@@ -55,7 +55,7 @@ impl Bench {
         ensures layout { IfOk result (λ r. layout_of r.0 ≡ layout) }
         ensures presets { IfOk result (λ r. presets_of r.0 ≡ presets.now) }
         ensures passes { IfOk result (λ r. length r.1.items ≡ layout.threads) }
-        ensures each { IfOk result (λ r. All (λ p. IsPassOf r.0 p) r.1.items) }
+        ensures each { IfOk result (λ r. All (λ p. IsLive r.0 p) r.1.items) }
         ensures cards { IfOk result (λ r. (i : ℕ) (p : _) → slice_get r.1.items i ≡ Some p → card p ≡ first_card layout (i + 1)) }
     {
         let parkers = parkers(alloc, layout.threads())?;
@@ -79,7 +79,8 @@ impl Bench {
     }
 
     /// Runs a worker for each job that has calls, each in a thread of its own, and joins them: all begin at once, each makes its job's calls in their order, and stops where
-    /// the gate tells it to. A record has the replies, and the pass after them; records are in the order of their jobs, and one of a job without calls has its pass.
+    /// the gate tells it to, or where its thread dies; then its list is walked ([`Bench::exit`]). A record has the replies, and the pass after them; records are in the order of
+    /// their jobs, and one of a job without calls has its pass.
     /// Where memory or a thread is refused no call is made, and the jobs are given back.
     pub fn work<R: Threads + Wait + Sync, G: Gate + Sync>(
         &self,

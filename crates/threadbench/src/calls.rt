@@ -1,57 +1,138 @@
 //! The calls of a job, one after the other.
-ghost use Rattle.std.specs.Prelude.{◌≡◌, ◌<◌, ◌≤◌, [], ◌∷◌, All, length, vec_capacity};
-ghost use Rattle.keys.specs.Layouts.{cell_place};
+ghost use Rattle.std.specs.Prelude.{◌≡◌, ◌+◌, ◌<◌, ◌≤◌, [], All, length, vec_capacity};
 ghost use Rattle.keys.specs.declared.point.Operation.TheVariants as operation;
 ghost use Rattle.mutex.specs.Calls.{mutex_of};
-ghost use Rattle.ruledwords.specs.Passes.{card, layout_of, IsPassOf};
-ghost use Rattle.ruledwords.specs.Seen.{Called};
-ghost use Rattle.threadbench.specs.Answered.{Replied};
-ghost use Rattle.threadbench.specs.Jobs.{IsJobOf, IsDone};
+ghost use Rattle.mutex.specs.declared.call.Call.TheVariants.{Unlock as UnlockOf};
+ghost use Rattle.ruledwords.specs.Outcomes.{stops_in};
+ghost use Rattle.ruledwords.specs.Passes.{card, layout_of, IsLive};
+ghost use Rattle.threadbench.specs.Answered.{CallEnds, deaths_in};
+ghost use Rattle.threadbench.specs.Jobs.{IsJobOf, IsDone, IsLeftOf, Worked};
 
 use crate::bench::Bench;
+use crate::countdown::Countdown;
 use crate::gate::Gate;
-use crate::job::{Job, Record};
+use crate::job::{Job, Record, WorkerPass};
 use crate::room::push_in_room;
 use lockword::Reply;
 use mutex::Call;
-use ruledwords::{Live, Never, Outcome, Pass, Released};
+use ruledwords::{Fate, Live, Never, Outcome, Pass, Released};
 use std::sync::Wait;
 
-fn unlock<R: Wait>(rt: &R, bench: &Bench, pass: Pass<Live>, mutex: u16) -> (Pass<Live>, Reply)
-    requires pass { IsPassOf bench.now pass }
+fn unlock<R: Wait, F: Fate>(
+    rt: &R,
+    bench: &Bench,
+    pass: Pass<Live>,
+    mutex: u16,
+    fate: &mut F,
+) -> Outcome
+    requires pass { IsLive bench.now pass }
     requires mutex { mutex < (layout_of bench.now).mutexes }
-    ensures pass { IsPassOf bench.now result.0 }
-    ensures called { Called (card pass) (cell_place (layout_of bench.now) mutex) ((operation.Unlock, result.1) ∷ []) (card result.0) }
+    ensures ends { CallEnds bench.now pass (UnlockOf mutex) result }
+    ensures fate { F.stopped fate.new ≡ F.stopped fate.old + stops_in result }
 {
-    match bench.words().release(pass, mutex, &mut Never) {
-        Released::Owes(owed) => match bench.pay(rt, owed, &mut Never) {
-            Outcome::Lives(freed, reply) => (freed, reply),
-            Outcome::Dead(_) => unreachable!(),
-        },
-        Released::Refused(pass, reply) => (pass, reply),
-        Released::Dead(_) => unreachable!(),
+    match bench.words().release(pass, mutex, fate) {
+        Released::Owes(owed) => bench.pay(rt, owed, fate),
+        Released::Refused(pass, reply) => Outcome::Lives(pass, reply),
+        Released::Dead(pass) => Outcome::Dead(pass),
     }
 }
 
-fn answer<R: Wait>(rt: &R, bench: &Bench, pass: Pass<Live>, call: Call) -> (Pass<Live>, Reply)
-    requires pass { IsPassOf bench.now pass }
+fn answer<R: Wait, F: Fate>(
+    rt: &R,
+    bench: &Bench,
+    pass: Pass<Live>,
+    call: Call,
+    fate: &mut F,
+) -> Outcome
+    requires pass { IsLive bench.now pass }
     requires mutex { mutex_of call < (layout_of bench.now).mutexes }
-    ensures pass { IsPassOf bench.now result.0 }
-    ensures replied { Replied (layout_of bench.now) (card pass) call result.1 (card result.0) }
+    ensures ends { CallEnds bench.now pass call result }
+    ensures fate { F.stopped fate.new ≡ F.stopped fate.old + stops_in result }
 {
-    let outcome = match call {
-        Call::Unlock(mutex) => return unlock(rt, bench, pass, mutex),
-        Call::Lock(mutex) => bench.lock(rt, pass, mutex, &mut Never),
-        Call::TryLock(mutex) => bench.words().try_lock(pass, mutex, &mut Never),
-        Call::Consistent(mutex) => bench.words().consistent(pass, mutex, &mut Never),
-    };
-    match outcome {
-        Outcome::Lives(pass, reply) => (pass, reply),
-        Outcome::Dead(_) => unreachable!(),
+    match call {
+        Call::Unlock(mutex) => unlock(rt, bench, pass, mutex, fate),
+        Call::Lock(mutex) => bench.lock(rt, pass, mutex, fate),
+        Call::TryLock(mutex) => bench.words().try_lock(pass, mutex, fate),
+        Call::Consistent(mutex) => bench.words().consistent(pass, mutex, fate),
     }
 }
 
-/// Makes a job's calls, as far as the gate lets it. There is room for their replies.
+/// Makes calls one after the other, as far as the gate lets the thread and it lives. Where it dies its list is walked. There is room for the replies.
+fn make_calls<R: Wait, G: Gate, F: Fate>(
+    rt: &R,
+    bench: &Bench,
+    gate: &G,
+    pass: Pass<Live>,
+    calls: &[Call],
+    room: Vec<Reply>,
+    fate: &mut F,
+) -> (WorkerPass, Vec<Reply>)
+    requires pass { IsLive bench.now pass }
+    requires mutexes { All (λ c. mutex_of c < (layout_of bench.now).mutexes) calls.now }
+    requires empty { room.items ≡ [] }
+    requires room { length calls.now ≤ vec_capacity room }
+    ensures worked { Worked bench.now (G.says gate.now) (card pass) calls.now result.1.items result.0 }
+    ensures fate { F.stopped fate.new ≡ F.stopped fate.old + deaths_in result.0 }
+{
+    let mut pass = pass;
+    let mut replies = room;
+    let thread = pass.thread();
+    for call in calls {
+        let number = replies.len() + 1;
+        if !gate.before(thread, number) {
+            return (WorkerPass::Lives(pass), replies);
+        }
+        match answer(rt, bench, pass, *call, fate) {
+            Outcome::Lives(after, reply) => {
+                gate.after(thread, number);
+                pass = after;
+                push_in_room(&mut replies, reply);
+            }
+            Outcome::Dead(dead) => {
+                let reaped = bench.exit(rt, dead);
+                gate.after(thread, number);
+                return (WorkerPass::Reaped(reaped), replies);
+            }
+        }
+    }
+    (WorkerPass::Lives(pass), replies)
+}
+
+/// Makes calls, as far as the gate lets the thread, and until it dies before its access with the number, if there is one. There is room for the replies.
+fn make_all<R: Wait, G: Gate>(
+    rt: &R,
+    bench: &Bench,
+    gate: &G,
+    pass: Pass<Live>,
+    calls: &[Call],
+    die: Option<u32>,
+    room: Vec<Reply>,
+) -> Record
+    requires pass { IsLive bench.now pass }
+    requires mutexes { All (λ c. mutex_of c < (layout_of bench.now).mutexes) calls.now }
+    requires empty { room.items ≡ [] }
+    requires room { length calls.now ≤ vec_capacity room }
+    ensures worked { Worked bench.now (G.says gate.now) (card pass) calls.now result.replies.items result.pass }
+    ensures left { IsLeftOf die result.pass result.die }
+{
+    let Some(access) = die else {
+        let (pass, replies) = make_calls(rt, bench, gate, pass, calls, room, &mut Never);
+        return Record {
+            pass,
+            replies,
+            die: None,
+        };
+    };
+    let mut countdown = Countdown::before(access);
+    let (pass, replies) = make_calls(rt, bench, gate, pass, calls, room, &mut countdown);
+    let die = match pass {
+        WorkerPass::Lives(_) => Some(countdown.left()),
+        WorkerPass::Reaped(_) => None,
+    };
+    Record { pass, replies, die }
+}
+
+/// Makes a job's calls, as far as the gate lets it, and until its thread dies. There is room for their replies.
 pub(crate) fn make<R: Wait, G: Gate>(
     rt: &R,
     bench: &Bench,
@@ -64,18 +145,13 @@ pub(crate) fn make<R: Wait, G: Gate>(
     requires room { length job.calls.items ≤ vec_capacity room }
     ensures { IsDone bench.now (G.says gate.now) job result }
 {
-    let Job { mut pass, calls } = job;
-    let thread = pass.thread();
-    let mut replies = room;
-    for call in &calls {
-        let number = replies.len() + 1;
-        if !gate.before(thread, number) {
-            return Record { pass, replies };
-        }
-        let (after, reply) = answer(rt, bench, pass, *call);
-        gate.after(thread, number);
-        pass = after;
-        push_in_room(&mut replies, reply);
+    let Job { pass, calls, die } = job;
+    match pass {
+        WorkerPass::Lives(pass) => make_all(rt, bench, gate, pass, calls.as_slice(), die, room),
+        WorkerPass::Reaped(_) => Record {
+            pass,
+            replies: room,
+            die: None,
+        },
     }
-    Record { pass, replies }
 }

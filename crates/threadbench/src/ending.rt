@@ -37,11 +37,7 @@ impl<'a, G: Gate> Hand<'a, G> {
                     unreachable!()
                 }
             },
-            Hand::Idle(job) => {
-                let Job { pass, calls: _ } = job;
-                let replies = Vec::new(alloc);
-                Record { pass, replies }
-            }
+            Hand::Idle(job) => job.unworked(alloc),
         }
     }
 

@@ -12,7 +12,7 @@ pub trait Gate {
     fn before(&self, thread: Tid, call: usize) -> bool
         ensures { (b : Bool) → says self.now thread call ≡ Some b → result ≡ b };
 
-    /// Tells that the call was answered.
+    /// Tells that the call has ended: it was answered, or its thread died in it and its list was walked.
     fn after(&self, thread: Tid, call: usize);
 }
 

@@ -29,6 +29,6 @@ impl<'a, G: Gate> Promise<End<'a>> for Promised<'a, G> {
 pub(crate) enum Hand<'a, G: Gate> {
     /// Its worker waits in a thread of its own.
     There(PromisedHandle<End<'a>, Promised<'a, G>>),
-    /// It has no worker: it has no calls, or workers don't begin.
+    /// It has no worker: it has no calls to make, or workers don't begin.
     Idle(Job),
 }

@@ -2,11 +2,12 @@
 //!
 //! A [`Bench`] has the words of a layout, 256 futex hash buckets, each behind a lock of its own, and a place to sleep for each thread. [`Bench::lock`] sleeps while another thread owns the mutex, and
 //! [`Bench::pay`] wakes those that a release has to wake, and trims the word where there is nobody. Under a bucket's lock they do what the machine's kernel does there, as far as `docs/PROVED.md` says it is proved.
-//! A layout's bases aren't looked at: running threads are of one process, and speak of words by their places.
+//! A call speaks of words by the addresses that its thread's process has for them; sleepers meet by places.
 //!
 //! [`Bench::work`] runs one worker for each [`Job`] that has calls, all of them at once, and joins them: each makes its job's calls in
 //! their order, as far as a [`Gate`] lets it, and its [`Record`] has their replies. So a caller works a phase at a time. Workers begin once
-//! each has its thread; where one can't be made none begins, and the jobs are given back.
+//! each has its thread; where one can't be made none begins, and the jobs are given back. The thread of a job with a `die` number dies before its access with that number, and
+//! its list is walked as the kernel does it ([`Bench::exit`]).
 //!
 //! A call that may wait promises only what holds if it returns: nothing is claimed of when a sleeper is woken, nor that a mutex is ever had.
 #![tactic(auto)]
@@ -14,7 +15,9 @@
 mod begins;
 mod bench;
 mod calls;
+mod countdown;
 mod ending;
+mod exit;
 mod gate;
 mod hand;
 mod job;
@@ -29,4 +32,4 @@ mod worker;
 
 pub use bench::Bench;
 pub use gate::{Gate, Open};
-pub use job::{Job, Record};
+pub use job::{Job, Record, WorkerPass};

@@ -2,18 +2,18 @@
 ghost use Rattle.std.specs.Prelude.{◌≡◌, ℕ};
 ghost use Rattle.buckets.specs.Queues.{queue, IsOrderly, Takes};
 ghost use Rattle.keys.specs.Layouts.{cell_place};
-ghost use Rattle.keys.specs.declared.access.Access.TheVariants.{Wait as AtWait, Trim as AtTrim};
-ghost use Rattle.mutex.specs.Programs.{access_of};
+ghost use Rattle.keys.specs.declared.access.Access.TheVariants.{Wait as AtWait, Wake as AtWake, Trim as AtTrim};
 ghost use Rattle.ruledwords.specs.Calls.{IsOnMutex};
+ghost use Rattle.ruledwords.specs.Deaths.{reaping_access, reaping_place};
 ghost use Rattle.ruledwords.specs.Looks.{Finds};
 ghost use Rattle.ruledwords.specs.Passes.{card, layout_of};
-ghost use Rattle.ruledwords.specs.Turns.{running_pass, running_program, IsRunningOf, Unmoved};
+ghost use Rattle.ruledwords.specs.Turns.{access_in, place_at, running_pass, running_program, IsRunningOf, Unmoved};
 ghost use Rattle.threadbench.specs.Sections.{TrimsThere, Waits};
 
 use buckets::{Batch, Bucket};
 use keys::Key;
 use lockword::Tid;
-use ruledwords::{Running, Words};
+use ruledwords::{Reaping, Running, Words};
 
 /// Puts the thread at the end of the key's queue where the low half of the word that was seen is the expected one, and tells so. Nothing changes where it differs; nor where the
 /// thread stands in the bucket already or the bucket is full, which can't come up, but what lies under a lock doesn't say so.
@@ -35,9 +35,12 @@ pub(crate) fn wait_in(
     expected: u32,
 ) -> bool
     requires words { IsRunningOf words.now running.old }
-    requires wait { access_of (running_program running.old) ≡ AtWait key.0 expected }
+    requires wait { (at : ℕ) × (access_in running.old ≡ AtWait at expected) }
+    requires key { key.0 ≡ place_at (layout_of words.now) running.old }
     ensures unmoved { Unmoved words.now running.old running.new }
-    ensures waits { (m : ℕ) → IsOnMutex (layout_of words.now) (running_program running.old) m → (n : ℕ) × Finds (card (running_pass running.old)) (cell_place (layout_of words.now) m) n × Waits bucket.old bucket.new (running_program running.old).thread key.0 n expected result }
+    ensures finds { (m : ℕ) → IsOnMutex (layout_of words.now) (running_program running.old) m → Finds (card (running_pass running.old)) (cell_place (layout_of words.now) m) (card (running_pass running.new)).last }
+    ensures waits { Waits bucket.old bucket.new (running_program running.old).thread key.0 (card (running_pass running.new)).last expected result }
+    ensures untrimmed { (card (running_pass running.new)).trims ≡ (card (running_pass running.old)).trims }
 {
     let thread = running.thread();
     let seen = running.load(words);
@@ -45,19 +48,48 @@ pub(crate) fn wait_in(
 }
 
 /// A wake: takes at most so many threads out of the key's queue, those that stand first, in their order.
-pub(crate) fn wake_in(bucket: &mut Bucket, key: Key, most: u32) -> Batch
+pub(crate) fn wake_in(
+    bucket: &mut Bucket,
+    running: &Running,
+    words: &Words,
+    key: Key,
+    most: u32,
+) -> Batch
+    requires wake { (at : ℕ) × (access_in running.now ≡ AtWake at most) }
+    requires key { key.0 ≡ place_at (layout_of words.now) running.now }
     ensures takes { Takes bucket.old bucket.new key.0 most result }
     ensures orderly { IsOrderly bucket.new }
 {
+    let _running = running;
+    let _words = words;
+    bucket.take(key, most)
+}
+
+/// A wake by the walk over a dead thread's list: takes at most so many threads out of the key's queue, those that stand first, in their order.
+pub(crate) fn wake_for_dead(
+    bucket: &mut Bucket,
+    reaping: &Reaping,
+    words: &Words,
+    key: Key,
+    most: u32,
+) -> Batch
+    requires wake { (at : ℕ) × (reaping_access reaping.now ≡ AtWake at most) }
+    requires key { key.0 ≡ reaping_place (layout_of words.now) reaping.now }
+    ensures takes { Takes bucket.old bucket.new key.0 most result }
+    ensures orderly { IsOrderly bucket.new }
+{
+    let _reaping = reaping;
+    let _words = words;
     bucket.take(key, most)
 }
 
 /// A trim: where nobody stands in the key's queue, the call's word becomes 0 if WAITERS is all that it says, and it tells whether it did.
 pub(crate) fn trim_in(bucket: &Bucket, running: &mut Running, words: &Words, key: Key) -> bool
     requires words { IsRunningOf words.now running.old }
-    requires trim { access_of (running_program running.old) ≡ AtTrim key.0 }
+    requires trim { (at : ℕ) × (access_in running.old ≡ AtTrim at) }
+    requires key { key.0 ≡ place_at (layout_of words.now) running.old }
     ensures unmoved { Unmoved words.now running.old running.new }
-    ensures trims { (m : ℕ) → IsOnMutex (layout_of words.now) (running_program running.old) m → TrimsThere (card (running_pass running.old)) (cell_place (layout_of words.now) m) (queue bucket.now key.0) result }
+    ensures trims { TrimsThere (queue bucket.now key.0) (card (running_pass running.old)) (card (running_pass running.new)) result }
 {
     if bucket.count(key) != 0 {
         return false;

@@ -81,7 +81,7 @@ fn start<'a, E, R: Threads + Wait + Sync, G: Gate + Sync>(
     }
 }
 
-/// A hand for a job: a thread where it has calls, unless one was refused before.
+/// A hand for a job: a thread where it has calls to make, unless one was refused before.
 fn set_out<'a, E, R: Threads + Wait + Sync, G: Gate + Sync>(
     rt: &'a R,
     alloc: Global,
@@ -97,7 +97,7 @@ fn set_out<'a, E, R: Threads + Wait + Sync, G: Gate + Sync>(
     ensures stop { IsStop phase.now.begins.now.id result.1 }
     ensures begins { result.1 ≡ None → MayBegin result.0 × (stop.entry ≡ None) }
 {
-    if stop.is_some() || job.calls.is_empty() {
+    if stop.is_some() || !job.has_work() {
         return (Hand::Idle(job), stop);
     }
     match start(rt, alloc, scope, phase, job) {

@@ -2,7 +2,7 @@
 ghost use Rattle.std.specs.Prelude.{◌≤◌, All, IfOk, None};
 ghost use Rattle.threadbench.specs.Jobs.{IsJobOf};
 
-use super::{has_replied, job, jobs_of, try_lock, work};
+use super::{both, has_replied, job, jobs_of, try_lock, work};
 use crate::hands::last_of;
 use keys::{Layout, NoMem};
 use lockword::{Reply, Tid};
@@ -51,15 +51,15 @@ fn one_follows<R: Threads + Wait + Sync>(rt: &R, alloc: Global, last: u8) -> Res
     let first = last_of(bench.words(), &mut passes);
     let first = job(alloc, &bench, first, &[Call::TryLock(0)])?;
     let second = job(alloc, &bench, second, &[Call::TryLock(1)])?;
-    let jobs = Vec::from_array(alloc, [first, second])?;
     let gate = Follows {
         last,
         told: AtomicBool::new(false),
     };
-    let mut records = work(rt, alloc, &bench, jobs, &gate)?;
-    let second = records.pop().unwrap();
-    let first = records.pop().unwrap();
-    Ok(has_replied(&first, Reply::OK) && has_replied(&second, Reply::OK))
+    let (first, second) = both(rt, alloc, &bench, first, second, &gate)?;
+    Ok(
+        has_replied(first.replies.as_slice(), Reply::OK)
+            && has_replied(second.replies.as_slice(), Reply::OK),
+    )
 }
 
 #[test]
@@ -96,7 +96,11 @@ fn a_worker_that_is_refused_stops(rt: HostRuntime) -> Result<(), Fail> {
     let jobs = jobs_of(alloc, &bench, passes, &calls)?;
     let records = work(&rt, alloc, &bench, jobs, &Refuses(2))?;
     assert_eq!(rt; records.len(), 1);
-    assert!(rt; records.iter().all(|record| has_replied(record, Reply::OK)));
+    assert!(rt;
+        records
+            .iter()
+            .all(|record| has_replied(record.replies.as_slice(), Reply::OK))
+    );
     Ok(())
 }
 
@@ -211,7 +215,7 @@ fn all_have_it<R: Threads + Wait + Sync>(rt: &R, alloc: Global, others: u8) -> R
     let mut records = work(rt, alloc, &bench, jobs, &gate)?;
     let freed = records
         .pop()
-        .is_some_and(|record| has_replied(&record, Reply::OK));
+        .is_some_and(|record| has_replied(record.replies.as_slice(), Reply::OK));
     let all = records.iter().all(|record| record.replies.as_slice()
         == [Reply::OK, Reply::OK].as_slice());
     Ok(taken == Reply::OK && freed && all && bench.close(witness).cell(0) == 0)
@@ -274,15 +278,12 @@ fn a_trylock_between_a_lock_and_its_unlock_is_busy(rt: HostRuntime) -> Result<()
     let first = last_of(bench.words(), &mut passes);
     let first = job(alloc, &bench, first, &[Call::Lock(0), Call::Unlock(0)])?;
     let second = job(alloc, &bench, second, &[Call::TryLock(0)])?;
-    let jobs = Vec::from_array(alloc, [first, second])?;
     let gate = Between {
         locked: AtomicBool::new(false),
         tried: AtomicBool::new(false),
     };
-    let mut records = work(&rt, alloc, &bench, jobs, &gate)?;
-    let second = records.pop().unwrap();
-    let first = records.pop().unwrap();
+    let (first, second) = both(&rt, alloc, &bench, first, second, &gate)?;
     assert!(rt; first.replies.as_slice() == [Reply::OK, Reply::OK].as_slice());
-    assert!(rt; has_replied(&second, Reply::EBUSY));
+    assert!(rt; has_replied(second.replies.as_slice(), Reply::EBUSY));
     Ok(())
 }

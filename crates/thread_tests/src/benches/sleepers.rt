@@ -1,7 +1,7 @@
 //! Two threads that sleep for each other.
 ghost use Rattle.std.specs.Prelude.{◌≡◌, ◌<◌};
 ghost use Rattle.ruledwords.specs.Outcomes.{IsOwedOf};
-ghost use Rattle.ruledwords.specs.Passes.{layout_of, IsPassOf};
+ghost use Rattle.ruledwords.specs.Passes.{layout_of, IsLive};
 
 use crate::hands::last_of;
 use keys::Layout;
@@ -15,9 +15,9 @@ use threadbench::Bench;
 const ROUNDS: u32 = 5_000;
 
 fn lock<R: Wait>(rt: &R, bench: &Bench, pass: Pass<Live>) -> (Pass<Live>, Reply)
-    requires pass { IsPassOf bench.now pass }
+    requires pass { IsLive bench.now pass }
     requires mutex { 0 < (layout_of bench.now).mutexes }
-    ensures { IsPassOf bench.now result.0 }
+    ensures { IsLive bench.now result.0 }
 {
     match bench.lock(rt, pass, 0, &mut Never) {
         Outcome::Lives(pass, reply) => (pass, reply),
@@ -27,7 +27,7 @@ fn lock<R: Wait>(rt: &R, bench: &Bench, pass: Pass<Live>) -> (Pass<Live>, Reply)
 
 fn pay<R: Wait>(rt: &R, bench: &Bench, owed: Owed) -> (Pass<Live>, Reply)
     requires { IsOwedOf bench.now owed }
-    ensures { IsPassOf bench.now result.0 }
+    ensures { IsLive bench.now result.0 }
 {
     match bench.pay(rt, owed, &mut Never) {
         Outcome::Lives(pass, reply) => (pass, reply),
@@ -37,9 +37,9 @@ fn pay<R: Wait>(rt: &R, bench: &Bench, owed: Owed) -> (Pass<Live>, Reply)
 
 /// A lock and an unlock, and whether both were answered OK.
 fn round<R: Wait>(rt: &R, bench: &Bench, pass: Pass<Live>) -> (Pass<Live>, bool)
-    requires pass { IsPassOf bench.now pass }
+    requires pass { IsLive bench.now pass }
     requires mutex { 0 < (layout_of bench.now).mutexes }
-    ensures { IsPassOf bench.now result.0 }
+    ensures { IsLive bench.now result.0 }
 {
     let (pass, taken) = lock(rt, bench, pass);
     match bench.words().release(pass, 0, &mut Never) {
@@ -54,9 +54,9 @@ fn round<R: Wait>(rt: &R, bench: &Bench, pass: Pass<Live>) -> (Pass<Live>, bool)
 
 /// The rounds that went well, and the pass.
 fn rounds<R: Wait>(rt: &R, bench: &Bench, first: Pass<Live>) -> (u32, Pass<Live>)
-    requires pass { IsPassOf bench.now first }
+    requires pass { IsLive bench.now first }
     requires mutex { 0 < (layout_of bench.now).mutexes }
-    ensures { IsPassOf bench.entry.now result.1 }
+    ensures { IsLive bench.entry.now result.1 }
 {
     let mut pass = first;
     let mut well: u32 = 0;
@@ -78,12 +78,12 @@ fn two_threads_sleep_for_each_other(rt: HostRuntime) -> Result<(), Fail> {
     let (a, b) = thread::join(
         &rt,
         || -> (u32, Pass<Live>)
-            requires { IsPassOf shared.now first × (0 < (layout_of shared.now).mutexes) }
-            ensures { IsPassOf shared.entry.now result.1 }
+            requires { IsLive shared.now first × (0 < (layout_of shared.now).mutexes) }
+            ensures { IsLive shared.entry.now result.1 }
         { rounds(host, shared, first) },
         || -> (u32, Pass<Live>)
-            requires { IsPassOf shared.now second × (0 < (layout_of shared.now).mutexes) }
-            ensures { IsPassOf shared.entry.now result.1 }
+            requires { IsLive shared.now second × (0 < (layout_of shared.now).mutexes) }
+            ensures { IsLive shared.entry.now result.1 }
         { rounds(host, shared, second) },
     );
     assert!(rt; a.0 == ROUNDS && b.0 == ROUNDS);

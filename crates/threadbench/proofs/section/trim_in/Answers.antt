@@ -1,14 +1,16 @@
-use Rattle.std.proofs.Common.{sym, ◌∙◌}
+use Rattle.std.proofs.Common.{ℕ, List, length, sym, ap, ◌∙◌}
 use Rattle.std.proofs.lemmas.List.{nil_from_length}
 use Rattle.buckets.specs.Queues.{queue}
-use Rattle.keys.specs.Layouts.{cell_place}
-use Rattle.ruledwords.specs.Passes.{card, layout_of}
+use Rattle.ruledwords.specs.Passes.{card}
 use Rattle.ruledwords.specs.Turns.{running_pass}
-use Rattle.threadbench.proofs.Sections.{trims_there}
+use Rattle.threadbench.proofs.Sections.{trimmed_there, left_there}
 use Rattle.threadbench.proofs.section.trim_in.Goals as goal
 
+pub returns-then-count-ne0-clause-trims : goal.returns-then-count-ne0-clause-trims
+returns-then-count-ne0-clause-trims c = left_there (queue c.args.bucket.now c.args.key.0) (card (running_pass c.args.running.now)) (λ e. c.if-count-ne0.true (c.count.ensures ∙ ap (λ (xs : List ℕ). length xs) e))
+
 pub returns-clause-trims : goal.returns-clause-trims
-returns-clause-trims c = λ m on.
+returns-clause-trims c =
     let sleepers = queue c.args.bucket.now c.args.key.0 in
     let empty = nil_from_length sleepers (sym c.count.ensures ∙ c.if-count-ne0.false) in
-    trims_there (card (running_pass c.args.running.now)) (cell_place (layout_of c.args.words.now) m) sleepers c.trim.result empty (c.trim.ensures.trims m on)
+    trimmed_there sleepers (card (running_pass c.args.running.now)) (card (running_pass c.trim.new.self)) c.trim.result empty c.trim.ensures.trims.0 c.trim.ensures.trims.1

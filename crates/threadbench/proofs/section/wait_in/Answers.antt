@@ -1,9 +1,9 @@
-use Rattle.std.proofs.Common.{ℕ, subst}
-use Rattle.ruledwords.specs.Turns.{running_program}
-use Rattle.threadbench.specs.Sections.{Waits}
+use Rattle.std.proofs.Common.{ℕ, sym, subst}
+use Rattle.keys.specs.Layouts.{cell_place}
+use Rattle.ruledwords.specs.Looks.{Finds}
+use Rattle.ruledwords.specs.Passes.{card, layout_of}
+use Rattle.ruledwords.specs.Turns.{running_pass}
 use Rattle.threadbench.proofs.section.wait_in.Goals as goal
 
-pub returns-clause-waits : goal.returns-clause-waits
-returns-clause-waits c = λ m on.
-    let waits = subst (λ (t : ℕ). Waits c.args.bucket.now c.compare_and_enqueue.new.bucket t c.args.key.0 c.load-seen.result c.args.expected c.compare_and_enqueue.result) c.thread-thread.ensures c.compare_and_enqueue.ensures in
-    (c.load-seen.result, c.load-seen.ensures.finds m on, waits)
+pub returns-clause-finds : goal.returns-clause-finds
+returns-clause-finds c = λ m on. subst (λ (n : ℕ). Finds (card (running_pass c.args.running.now)) (cell_place (layout_of c.args.words.now) m) n) (sym c.load-seen.ensures.last.0) (c.load-seen.ensures.finds m on)

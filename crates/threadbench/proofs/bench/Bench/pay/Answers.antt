@@ -1,13 +1,11 @@
-use Rattle.std.proofs.Common.{◌≡◌, sym, ap, ◌∙◌, subst}
-use Rattle.ruledwords.specs.declared.pass.Pass.{Pass}
-use Rattle.ruledwords.specs.declared.pass.Live.{Live}
+use Rattle.lockword.specs.declared.reply.Reply.TheVariants.{OK}
 use Rattle.ruledwords.specs.Outcomes.{owed_pass}
-use Rattle.ruledwords.specs.Passes.{card, IsPassOf}
-use Rattle.ruledwords.specs.Turns.{running_pass}
+use Rattle.ruledwords.specs.Passes.{card}
+use Rattle.threadbench.proofs.Turning.{ran_paid}
 use Rattle.threadbench.proofs.bench.Bench.pay.Goals as goal
 
-pub returns-then-stops-2-clause-paid : goal.returns-then-stops-2-clause-paid
-returns-then-stops-2-clause-paid g c =
+pub returns-clause-paid : goal.returns-clause-paid
+returns-clause-paid g c =
     let w = c.args.self.now in
-    let same : running_pass c.in-Goes.running ≡ owed_pass c.args.owed = c.in-Goes.ensures.turned.0 ∙ c.owed-running.ensures.0 ∙ ap owed_pass c.in-Err.ensures.1 in
-    (c.die-then-stops-2.ensures.words w (subst (λ (b : Pass Live). IsPassOf w b) (sym same) c.requires.0), c.die-then-stops-2.ensures.card ∙ ap (λ (b : Pass Live). card b) same)
+    let decided = c.owed.ensures.decided w c.requires in
+    ran_paid w c.args.owed c.run.result (c.run.ensures.runs.1 (card (owed_pass c.args.owed)) OK decided)

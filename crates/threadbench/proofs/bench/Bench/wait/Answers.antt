@@ -1,7 +1,7 @@
 use Rattle.std.proofs.Common.{subst}
 use Rattle.ruledwords.specs.declared.pass.Words.{Words}
 use Rattle.ruledwords.specs.Turns.{Unmoved}
-use Rattle.threadbench.proofs.Turning.{still_under_way}
+use Rattle.threadbench.proofs.Turning.{still_under_way, still_decided}
 use Rattle.threadbench.proofs.bench.Bench.wait.Goals as goal
 
 pub returns-then-not-sleeps-clause-keeps : goal.returns-then-not-sleeps-clause-keeps
@@ -9,7 +9,17 @@ returns-then-not-sleeps-clause-keeps g c = λ a call u.
     let same = subst (λ (w : Words). Unmoved w c.args.running c.wait_in-sleeps.new.running) c.self.view_is c.wait_in-sleeps.ensures.unmoved in
     c.answer.ensures.keeps c.args.self.now a call (still_under_way c.args.self.now c.args.running c.wait_in-sleeps.new.running a call same u)
 
+pub returns-then-not-sleeps-clause-decided : goal.returns-then-not-sleeps-clause-decided
+returns-then-not-sleeps-clause-decided g c = λ e x was.
+    let same = subst (λ (w : Words). Unmoved w c.args.running c.wait_in-sleeps.new.running) c.self.view_is c.wait_in-sleeps.ensures.unmoved in
+    c.answer.ensures.decided c.args.self.now e x (still_decided c.args.self.now c.args.running c.wait_in-sleeps.new.running e x same was)
+
 pub returns-clause-keeps : goal.returns-clause-keeps
 returns-clause-keeps g c = λ a call u.
     let same = subst (λ (w : Words). Unmoved w c.args.running c.wait_in-sleeps.new.running) c.self.view_is c.wait_in-sleeps.ensures.unmoved in
     c.answer-2.ensures.keeps c.args.self.now a call (still_under_way c.args.self.now c.args.running c.wait_in-sleeps.new.running a call same u)
+
+pub returns-clause-decided : goal.returns-clause-decided
+returns-clause-decided g c = λ e x was.
+    let same = subst (λ (w : Words). Unmoved w c.args.running c.wait_in-sleeps.new.running) c.self.view_is c.wait_in-sleeps.ensures.unmoved in
+    c.answer-2.ensures.decided c.args.self.now e x (still_decided c.args.self.now c.args.running c.wait_in-sleeps.new.running e x same was)
