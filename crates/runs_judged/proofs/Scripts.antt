@@ -93,6 +93,7 @@ nothing_within k = record {
   conditions_at_most = omega arith;
   conditions_possible = All-nil (λ c. IsCondition 0 c.1);
   commands_possible = All-nil (λ c. IsPossible 0 0 0 0 c.action);
+  dies_once = λ t. omega arith;
 }
 
 read_well : (k : Mode) (bytes : List ℕ) → IfOk (script_read k bytes) IsWellFormed

@@ -1,8 +1,8 @@
 -- What the lines make stays within the limits.
-use Rattle.std.specs.Prelude.{decimal}
+use Rattle.std.specs.Prelude.{decimal, slice_get}
 use Rattle.std.specs.List.{list_any}
-use Rattle.std.proofs.Common.{◌≡◌, ℕ, zero, suc, ◌+◌, ◌<◌, ◌≤◌, ◌==◌, Bool, true, false, not, nat_le, nat_lt, ◌&&◌, List, [], ◌∷◌, ◌++◌, length, All, Option, Some, None, Result, Ok, Err, IfOk, IfSome, option_and_then, position, if◌then◌else◌, refl, arith, length-append}
-use Rattle.std.specs.Option.{ok_or}
+use Rattle.std.proofs.Common.{◌≡◌, ℕ, zero, suc, ◌+◌, ◌<◌, ◌≤◌, ◌==◌, Bool, true, false, not, nat_le, nat_lt, ◌&&◌, List, [], ◌∷◌, ◌++◌, length, All, Option, Some, None, Result, Ok, Err, IfOk, IfSome, option_and_then, position, if◌then◌else◌, refl, subst, arith, length-append, append-nil}
+use Rattle.std.specs.Option.{ok_or, is_some}
 use Rattle.std.specs.Str.{bytes_eq}
 use Rattle.std.specs.Str.Parse.{digits_value}
 use Rattle.std.proofs.lemmas.Bool.{leb-true}
@@ -13,11 +13,12 @@ use Rattle.protocol.specs.declared.event.Op.{Op}
 use Rattle.protocol.specs.declared.event.Op.TheVariants.{OnMutex, OnCondition}
 use Rattle.mutex.specs.declared.call.Call.TheVariants as call
 use Rattle.condvar.specs.declared.call.CondCall.TheVariants as on
-use Rattle.script.specs.Forms.{CallForm, lock, trylock, unlock, consistent, wait, signal, broadcast, Form, silent, process, thread, member, mutex, mutexes, cond, begins, steps, kills, kills_all, goes, calls, locks, phase, form_of, of_mode, has, words_form, or_else, name_form, step_form, mutexes_form, process_form, member_form, locks_form, cond_form, call_form, calling_form, is_silent, is_name, is_stem}
+use Rattle.script.specs.Forms.{CallForm, lock, trylock, unlock, consistent, wait, signal, broadcast, Form, silent, process, thread, member, mutex, mutexes, cond, begins, steps, kills, kills_all, goes, calls, locks, phase, dies, form_of, of_mode, has, words_form, or_else, name_form, step_form, die_form, mutexes_form, process_form, member_form, locks_form, cond_form, call_form, calling_form, is_silent, is_name, is_stem}
 use Rattle.lines.specs.Numbers.{is_number, within}
 use Rattle.lines.specs.Lines.{words_of}
+use Rattle.script.specs.Deaths.{death_by, deaths_by, death_of}
 use Rattle.script.specs.Scope.{Scope, Names, IsPossible, IsCondition, IsWithinLimits}
-use Rattle.script.specs.Reading.{refuse, place_of, process_of, is_declared, names_of, condition_names, with_entry, with_condition, with_thread, added, numbered, is_numbered, several, declares, process_declared, thread_declared, condition_declared, thread_of, call_of, first_of, begun, stepped, killed, all_killed, gone, made, locked, with_action, enter, line_read}
+use Rattle.script.specs.Reading.{refuse, place_of, process_of, is_declared, names_of, condition_names, with_entry, with_condition, with_thread, added, numbered, is_numbered, several, declares, process_declared, thread_declared, condition_declared, thread_of, call_of, first_of, begun, stepped, killed, all_killed, gone, made, locked, died, with_action, enter, line_read}
 use Rattle.lines.specs.Faults.{◌>>=◌}
 use Rattle.script.specs.declared.command.Mode.{Mode}
 use Rattle.script.specs.declared.command.Action.{Action}
@@ -25,8 +26,10 @@ use Rattle.script.specs.declared.command.Action.TheVariants as action
 use Rattle.script.specs.declared.fault.Fault.{Fault}
 use Rattle.script.specs.declared.fault.Fault.TheVariants.{UnknownWord, OutOfRange, NoSuchName, TooLong}
 use Rattle.script.specs.declared.command.Condition.{Condition}
-use Rattle.script.specs.Limits.{max_lines, max_processes, max_base, max_threads, max_mutexes, max_conditions, max_counter, max_steps}
+use Rattle.script.specs.Limits.{max_lines, max_processes, max_base, max_threads, max_mutexes, max_conditions, max_counter, max_steps, max_access}
+use Rattle.script.specs.declared.command.Command.{Command}
 use Rattle.script.proofs.Names.{length-map_of}
+use Rattle.script.proofs.Dying.{deaths_push}
 
 -- what holds of the first thing's value serves the second
 pub chain : {A B : Type 0} (r : Result A Fault) (f : A → Result B Fault) (P : A → Type 0) (Q : B → Type 0) → IfOk r P → ((x : A) → P x → IfOk (f x) Q) → IfOk (r >>= f) Q
@@ -87,8 +90,40 @@ reached : (s : Scope) (m : List ℕ) (n : ℕ) → IfOk (first_of s m n) (λ j. 
 reached s m n = chain (place_of m s.mutexes) (λ j. refuse (nat_lt (length s.mutexes) (j + n)) OutOfRange (Ok j)) (λ j. j < length s.mutexes) (λ j. j + n ≤ length s.mutexes) (placed m s.mutexes)
     (λ j h. refused (nat_lt (length s.mutexes) (j + n)) OutOfRange (Ok j) (λ i. i + n ≤ length s.mutexes) (λ room. grind (arith, nat_tests)))
 
+-- an action lets no thread die that dies at these commands
+abbrev IsAlone : List Command → Action → Type 0
+IsAlone cs (action.Die t n) = deaths_by t cs ≡ []
+IsAlone cs a = Unit {0}
+
+-- an action that the script may have
+abbrev May : Scope → Action → Type 0
+May s a = IsPossible (length s.processes) (length s.threads) (length s.mutexes) (length s.conditions) a × IsAlone s.commands a
+
+-- an action that isn't thread t's death
+spared : (n t : ℕ) (cs : List Command) (a : Action) → length (deaths_by t cs) ≤ 1 → death_by t a ≡ None → length (deaths_by t (cs ++ record { line = n; action = a } ∷ [])) ≤ 1
+spared n t cs a h none = rw (deaths_push t cs (record { line = n; action = a }), none, append-nil (deaths_by t cs)) h
+
+-- each thread still dies once at most
+once : (n t : ℕ) (cs : List Command) (a : Action) → length (deaths_by t cs) ≤ 1 → IsAlone cs a → length (deaths_by t (cs ++ record { line = n; action = a } ∷ [])) ≤ 1
+once n t cs (action.Begin u o) h alone = spared n t cs _ h refl
+once n t cs (action.Step u k) h alone = spared n t cs _ h refl
+once n t cs (action.Kill u) h alone = spared n t cs _ h refl
+once n t cs (action.KillAll p) h alone = spared n t cs _ h refl
+once n t cs (action.Go u) h alone = spared n t cs _ h refl
+once n t cs (action.Call u o) h alone = spared n t cs _ h refl
+once n t cs (action.Locks u m k) h alone = spared n t cs _ h refl
+once n t cs action.Phase h alone = spared n t cs _ h refl
+once n t cs (action.Die u k) h alone = go (u == t) refl
+  where
+    go : (b : Bool) → (u == t) ≡ b → length (deaths_by t (cs ++ record { line = n; action = action.Die u k } ∷ [])) ≤ 1
+    go false other = spared n t cs (action.Die u k) h (rw other refl)
+    go true same =
+        let its : u ≡ t = grind (arith, nat_tests) in
+        let none : deaths_by t cs ≡ [] = subst (λ (v : ℕ). deaths_by v cs ≡ []) its alone in
+        rw (deaths_push t cs (record { line = n; action = action.Die u k }), none, same) (omega arith)
+
 -- a possible action more
-appended : (n : ℕ) (s : Scope) (a : Action) → IsWithinLimits s → IsPossible (length s.processes) (length s.threads) (length s.mutexes) (length s.conditions) a → IsWithinLimits (with_action n s a)
+appended : (n : ℕ) (s : Scope) (a : Action) → IsWithinLimits s → May s a → IsWithinLimits (with_action n s a)
 appended n s a h p = record {
   processes_at_most = h.processes_at_most;
   bases_possible = h.bases_possible;
@@ -98,7 +133,8 @@ appended n s a h p = record {
   mutexes_at_most = h.mutexes_at_most;
   conditions_at_most = h.conditions_at_most;
   conditions_possible = h.conditions_possible;
-  commands_possible = All-push (λ c. IsPossible (length s.processes) (length s.threads) (length s.mutexes) (length s.conditions) c.action) s.commands (record { line = n; action = a }) h.commands_possible p;
+  commands_possible = All-push (λ c. IsPossible (length s.processes) (length s.threads) (length s.mutexes) (length s.conditions) c.action) s.commands (record { line = n; action = a }) h.commands_possible p.0;
+  dies_once = λ t. once n t s.commands a (h.dies_once t) p.1;
 }
 
 -- a count that a line gives is in its range
@@ -107,11 +143,8 @@ IsFit (process p base) = IfSome base (λ n. (0 ≤ n) × (n ≤ max_base))
 IsFit (steps t count) = IfSome count (λ n. (1 ≤ n) × (n ≤ max_steps))
 IsFit (cond c m count) = IfSome count (λ n. (0 ≤ n) × (n ≤ max_counter))
 IsFit (locks t m count) = IfSome count (λ n. (1 ≤ n) × (n ≤ max_mutexes))
+IsFit (dies t access) = IfSome access (λ n. (1 ≤ n) × (n ≤ max_access))
 IsFit f = Unit {0}
-
--- an action that the script may have
-abbrev May : Scope → Action → Type 0
-May s a = IsPossible (length s.processes) (length s.threads) (length s.mutexes) (length s.conditions) a
 
 -- what a command asks for: its parts were looked up among what the script has
 calling : (s : Scope) (t : List ℕ) (c : CallForm) (make : ℕ → Op → Action) → ((i : ℕ) (k : Op) → 1 ≤ i → i ≤ length s.threads → Names (length s.mutexes) (length s.conditions) k → May s (make i k))
@@ -124,16 +157,26 @@ of_thread : (s : Scope) (t : List ℕ) (make : ℕ → Action) → ((i : ℕ) �
 of_thread s t make possible = chain (thread_of s t) (λ i. Ok (make i)) (λ i. (1 ≤ i) × (i ≤ length s.threads)) (May s) (threaded s t) (λ i low. possible i low.0 low.1)
 
 of_process : (s : Scope) (p : List ℕ) → IfOk (all_killed s p) (May s)
-of_process s p = chain (process_of s p) (λ i. Ok (action.KillAll i)) (λ i. (1 ≤ i) × (i ≤ length s.processes)) (May s) (processed s p) (λ i low. low)
+of_process s p = chain (process_of s p) (λ i. Ok (action.KillAll i)) (λ i. (1 ≤ i) × (i ≤ length s.processes)) (May s) (processed s p) (λ i low. (low, tt))
 
 stepping : (s : Scope) (t : List ℕ) (count : Option ℕ) → IfSome count (λ k. (1 ≤ k) × (k ≤ max_steps)) → IfOk (stepped s t count) (May s)
 stepping s t None range = tt
-stepping s t (Some k) range = of_thread s t (λ i. action.Step i k) (λ i low high. (low, high, range.0, range.1))
+stepping s t (Some k) range = of_thread s t (λ i. action.Step i k) (λ i low high. ((low, high, range.0, range.1), tt))
+
+-- there is no first
+none_there : (xs : List ℕ) → is_some (slice_get xs 0) ≡ false → xs ≡ []
+none_there [] e = refl
+none_there (x ∷ xs) e = absurd cc
+
+dying : (s : Scope) (t : List ℕ) (access : Option ℕ) → IfSome access (λ k. (1 ≤ k) × (k ≤ max_access)) → IfOk (died s t access) (May s)
+dying s t None range = tt
+dying s t (Some k) range = chain (thread_of s t) (λ i. refuse (is_some (death_of i s.commands)) NoSuchName (Ok (action.Die i k))) (λ i. (1 ≤ i) × (i ≤ length s.threads)) (May s) (threaded s t)
+    (λ i low. refused (is_some (death_of i s.commands)) NoSuchName (Ok (action.Die i k)) (May s) (λ first_one. ((low.0, low.1, range.0, range.1), none_there (deaths_by i s.commands) first_one)))
 
 locking : (s : Scope) (t m : List ℕ) (count : Option ℕ) → IfSome count (λ k. (1 ≤ k) × (k ≤ max_mutexes)) → IfOk (locked s t m count) (May s)
 locking s t m None range = tt
 locking s t m (Some k) range = chain (first_of s m k) (λ j. thread_of s t >>= λ i. Ok (action.Locks i j k)) (λ j. j + k ≤ length s.mutexes) (May s) (reached s m k)
-    (λ j few. of_thread s t (λ i. action.Locks i j k) (λ i low high. (low, high, range.0, few)))
+    (λ j few. of_thread s t (λ i. action.Locks i j k) (λ i low high. ((low, high, range.0, few), tt)))
 
 -- a command more
 may_ask : (n : ℕ) (s : Scope) (r : Result Action Fault) → IsWithinLimits s → IfOk r (May s) → IfOk (r >>= λ a. Ok (with_action n s a)) IsWithinLimits
@@ -152,6 +195,7 @@ with_threads s names p h unused_yet few more known = record {
   conditions_at_most = h.conditions_at_most;
   conditions_possible = h.conditions_possible;
   commands_possible = unused (λ c. IsPossible (length s.processes) (length names) (length s.mutexes) (length s.conditions) c.action) s.commands unused_yet;
+  dies_once = h.dies_once;
 }
 
 with_mutexes : (s : Scope) (names : List (List ℕ)) → IsWithinLimits s → not (length s.commands == 0) ≡ false → length s.mutexes ≤ length names → length names ≤ max_mutexes → IsWithinLimits (record s { mutexes = names })
@@ -165,6 +209,7 @@ with_mutexes s names h unused_yet more few = record {
   conditions_at_most = h.conditions_at_most;
   conditions_possible = λ i c lt. let old = h.conditions_possible i c lt in let its = old.0 in (omega arith, old.1);
   commands_possible = unused (λ c. IsPossible (length s.processes) (length s.threads) (length names) (length s.conditions) c.action) s.commands unused_yet;
+  dies_once = h.dies_once;
 }
 
 declared : (s : Scope) → IfOk (declares s) (λ _. not (length s.commands == 0) ≡ false)
@@ -184,6 +229,7 @@ with_process s w b h unused_yet room small =
       conditions_at_most = h.conditions_at_most;
       conditions_possible = h.conditions_possible;
       commands_possible = unused (λ c. IsPossible (length (s.processes ++ (w, b) ∷ [])) (length s.threads) (length s.mutexes) (length s.conditions) c.action) s.commands unused_yet;
+      dies_once = h.dies_once;
     }
 
 declaring_process : (s : Scope) (w : List ℕ) (base : Option ℕ) → IsWithinLimits s → IfSome base (λ n. (0 ≤ n) × (n ≤ max_base)) → IfOk (process_declared s w base) IsWithinLimits
@@ -236,6 +282,7 @@ with_one s w m n h unused_yet room its small =
       conditions_at_most = rw (length-append s.conditions ((w, d) ∷ [])) (grind (arith, nat_tests));
       conditions_possible = All-push (λ c. IsCondition (length s.mutexes) c.1) s.conditions (w, d) h.conditions_possible (its, small);
       commands_possible = unused (λ c. IsPossible (length s.processes) (length s.threads) (length s.mutexes) (length (s.conditions ++ (w, d) ∷ [])) c.action) s.commands unused_yet;
+      dies_once = h.dies_once;
     }))
 
 declaring_condition : (s : Scope) (w m : List ℕ) (count : Option ℕ) → IsWithinLimits s → IfSome count (λ n. (0 ≤ n) × (n ≤ max_counter)) → IfOk (condition_declared s w m count) IsWithinLimits
@@ -258,14 +305,15 @@ entered n s (member w p) h k = declaring_thread s w (process_of s p) h (weaker (
 entered n s (mutex w) h k = declaring_mutex s w h
 entered n s (mutexes w count) h k = declaring_mutexes s w count h
 entered n s (cond w m count) h k = declaring_condition s w m count h k
-entered n s (begins t c) h k = may_ask n s (begun s t c) h (calling s t c (λ i x. action.Begin i x) (λ i x low high few. (low, high, few)))
+entered n s (begins t c) h k = may_ask n s (begun s t c) h (calling s t c (λ i x. action.Begin i x) (λ i x low high few. ((low, high, few), tt)))
 entered n s (steps t count) h k = may_ask n s (stepped s t count) h (stepping s t count k)
-entered n s (kills t) h k = may_ask n s (killed s t) h (of_thread s t (λ i. action.Kill i) (λ i low high. (low, high)))
+entered n s (kills t) h k = may_ask n s (killed s t) h (of_thread s t (λ i. action.Kill i) (λ i low high. ((low, high), tt)))
 entered n s (kills_all p) h k = may_ask n s (all_killed s p) h (of_process s p)
-entered n s (goes t) h k = may_ask n s (gone s t) h (of_thread s t (λ i. action.Go i) (λ i low high. (low, high)))
-entered n s (calls t c) h k = may_ask n s (made s t c) h (calling s t c (λ i x. action.Call i x) (λ i x low high few. (low, high, few)))
+entered n s (goes t) h k = may_ask n s (gone s t) h (of_thread s t (λ i. action.Go i) (λ i low high. ((low, high), tt)))
+entered n s (calls t c) h k = may_ask n s (made s t c) h (calling s t c (λ i x. action.Call i x) (λ i x low high few. ((low, high, few), tt)))
 entered n s (locks t m count) h k = may_ask n s (locked s t m count) h (locking s t m count k)
-entered n s phase h k = appended n s action.Phase h tt
+entered n s phase h k = appended n s action.Phase h (tt, tt)
+entered n s (dies t access) h k = may_ask n s (died s t access) h (dying s t access k)
 
 -- each form's count is in its range
 either : (b : Bool) (x y : Option Form) → IfSome x IsFit → IfSome y IsFit → IfSome (if b then x else y) IsFit
@@ -290,6 +338,9 @@ fit_name w a = either (not (is_name a)) None _ tt (either (bytes_eq w _) (Some (
 fit_step : (w t n : List ℕ) → IfSome (step_form w t n) IsFit
 fit_step w t n = either (bytes_eq w _ && is_name t && is_number n) (Some (steps t (within 1 max_steps (digits_value 10 n)))) None (in_range 1 max_steps (digits_value 10 n)) tt
 
+fit_die : (w t n : List ℕ) → IfSome (die_form w t n) IsFit
+fit_die w t n = either (bytes_eq w _ && is_name t && is_number n) (Some (dies t (within 1 max_access (digits_value 10 n)))) None (in_range 1 max_access (digits_value 10 n)) tt
+
 fit_mutexes : (w a n : List ℕ) → IfSome (mutexes_form w a n) IsFit
 fit_mutexes w a n = either (bytes_eq w _ && is_stem a && is_number n) (Some (mutexes a (within 1 max_mutexes (digits_value 10 n)))) None tt tt
 
@@ -313,8 +364,9 @@ fit_words : (ws : List (List ℕ)) → IfSome (words_form ws) IsFit
 fit_words [] = tt
 fit_words (w ∷ []) = either (bytes_eq w _) (Some phase) None tt tt
 fit_words (w ∷ a ∷ []) = fit_name w a
-fit_words (w ∷ a ∷ n ∷ []) = first (step_form w a n) (or_else (mutexes_form w a n) (or_else (process_form w a n) (member_form w a n))) (fit_step w a n)
-    (first (mutexes_form w a n) (or_else (process_form w a n) (member_form w a n)) (fit_mutexes w a n) (first (process_form w a n) (member_form w a n) (fit_process w a n) (fit_member w a n)))
+fit_words (w ∷ a ∷ n ∷ []) = first (step_form w a n) (or_else (die_form w a n) (or_else (mutexes_form w a n) (or_else (process_form w a n) (member_form w a n)))) (fit_step w a n)
+    (first (die_form w a n) (or_else (mutexes_form w a n) (or_else (process_form w a n) (member_form w a n))) (fit_die w a n)
+    (first (mutexes_form w a n) (or_else (process_form w a n) (member_form w a n)) (fit_mutexes w a n) (first (process_form w a n) (member_form w a n) (fit_process w a n) (fit_member w a n))))
 fit_words (w ∷ t ∷ c ∷ m ∷ []) = first (locks_form w t c m) (or_else (cond_form w t c m) (option_and_then (calling_form w t) (call_form c m))) (fit_locks w t c m)
     (first (cond_form w t c m) (option_and_then (calling_form w t) (call_form c m)) (fit_cond w t c m) (fit_call w t (call_form c m)))
 fit_words (w ∷ t ∷ c ∷ m ∷ x ∷ more) = tt

@@ -10,4 +10,5 @@ mod Plays
 mod Killing
 mod Told
 mod Rests
+mod Dying
 pub mod Phases

@@ -195,6 +195,7 @@ has_mutexes p n m k (action.Go t) few h = tt
 has_mutexes p n m k (action.Call t c) few h = tt
 has_mutexes p n m k (action.Locks t j i) few h = let last = h.3 in omega arith
 has_mutexes p n m k action.Phase few h = tt
+has_mutexes p n m k (action.Die t j) few h = tt
 
 pub locks_have : (s : Scope) (i : ℕ) (c : Command) → IsWellFormed s → i < length s.commands → c ≡ get_or s.commands i c → HasMutexes c.action
 locks_have s i c whole lt is =

@@ -1,17 +1,18 @@
 -- Lines read at other numbers say the same, and silent lines say nothing.
-use Rattle.std.proofs.Common.{◌≡◌, ℕ, ◌+◌, ◌<◌, ◌≤◌, ◌==◌, ◌||◌, Bool, false, true, not, nat_le, nat_lt, List, [], ◌∷◌, ◌++◌, length, map, Result, Ok, Err, refl, sym, ap, ◌∙◌, arith, length-append}
-use Rattle.std.specs.Option.{ok_or}
+use Rattle.std.proofs.Common.{◌≡◌, ℕ, ◌+◌, ◌<◌, ◌≤◌, ◌==◌, ◌||◌, Bool, false, true, not, nat_le, nat_lt, List, [], ◌∷◌, ◌++◌, length, map, Option, Some, None, Result, Ok, Err, refl, sym, ap, ◌∙◌, arith, length-append}
+use Rattle.std.specs.Option.{ok_or, is_some}
 use Rattle.std.proofs.lemmas.Bool.{le-ltb}
-use Rattle.script.specs.Forms.{CallForm, lock, trylock, unlock, consistent, wait, signal, broadcast, Form, silent, process, thread, member, mutex, mutexes, cond, begins, steps, kills, kills_all, goes, calls, locks, phase, form_of, is_silent}
+use Rattle.script.specs.Forms.{CallForm, lock, trylock, unlock, consistent, wait, signal, broadcast, Form, silent, process, thread, member, mutex, mutexes, cond, begins, steps, kills, kills_all, goes, calls, locks, phase, dies, form_of, is_silent}
+use Rattle.script.specs.Deaths.{deaths_by, death_of}
 use Rattle.script.specs.Scope.{Scope}
-use Rattle.script.specs.Reading.{refuse, place_of, process_of, added, several, declares, with_name, with_entry, thread_declared, call_of, begun, stepped, killed, all_killed, gone, made, locked, with_action, enter, met_at, line_read, finished, lines_read, nothing}
+use Rattle.script.specs.Reading.{refuse, place_of, process_of, thread_of, added, several, declares, died, with_name, with_entry, thread_declared, call_of, begun, stepped, killed, all_killed, gone, made, locked, with_action, enter, met_at, line_read, finished, lines_read, nothing}
 use Rattle.lines.specs.Faults.{◌>>=◌}
 use Rattle.script.specs.Silence.{unplaced, without_lines, outcome, SilentLinesSayNothing}
 use Rattle.script.specs.declared.command.Action.{Action}
 use Rattle.script.specs.declared.command.Action.TheVariants as action
 use Rattle.script.specs.declared.command.Command.{Command}
 use Rattle.script.specs.declared.fault.Fault.{Fault}
-use Rattle.script.specs.declared.fault.Fault.TheVariants.{UnknownWord, OutOfRange}
+use Rattle.script.specs.declared.fault.Fault.TheVariants.{UnknownWord, OutOfRange, NoSuchName}
 use Rattle.script.specs.declared.fault.ScriptFault.{ScriptFault}
 use Rattle.script.specs.Limits.{max_lines, max_processes, max_threads, max_mutexes, max_conditions}
 
@@ -63,6 +64,18 @@ same_begin s t c = rw (same_call s c) refl
 same_make : (s : Scope) (t : List ℕ) (c : CallForm) → made (without_lines s) t c ≡ made s t c
 same_make s t c = rw (same_call s c) refl
 
+same_deaths : (t : ℕ) (cs : List Command) → deaths_by t (map unplaced cs) ≡ deaths_by t cs
+same_deaths t [] = refl
+same_deaths t (c ∷ cs) = rw (same_deaths t cs) refl
+
+same_death : (s : Scope) (t : List ℕ) (access : Option ℕ) → died (without_lines s) t access ≡ died s t access
+same_death s t None = refl
+same_death s t (Some k) = go (thread_of s t)
+  where
+    go : (r : Result ℕ Fault) → (r >>= λ i. refuse (is_some (death_of i (map unplaced s.commands))) NoSuchName (Ok (action.Die i k))) ≡ (r >>= λ i. refuse (is_some (death_of i s.commands)) NoSuchName (Ok (action.Die i k)))
+    go (Ok i) = rw (same_deaths i s.commands) refl
+    go (Err f) = refl
+
 same_thread : (s : Scope) (w : List ℕ) (its : Result ℕ Fault) → meant (thread_declared s w its) ≡ meant (thread_declared (without_lines s) w its)
 same_thread s w its =
     rw (same_declares s) (alike (declares s) _ _ (λ _. tested (nat_le max_threads (length s.threads)) OutOfRange _ _ (alike its _ _ (λ p. alike (with_name s.threads w) _ _ (λ names. rw (twice s.commands) refl)))))
@@ -90,6 +103,7 @@ same_enter n s (goes t) = alike (gone s t) _ _ (λ a. acted n s a)
 same_enter n s (calls t c) = rw (same_make s t c) (alike (made s t c) _ _ (λ a. acted n s a))
 same_enter n s (locks t m count) = alike (locked s t m count) _ _ (λ a. acted n s a)
 same_enter n s phase = acted n s action.Phase
+same_enter n s (dies t access) = rw (same_death s t access) (alike (died s t access) _ _ (λ a. acted n s a))
 
 same_line : (n : ℕ) (s : Scope) (text : List ℕ) → n ≤ max_lines → meant (line_read n s text) ≡ meant (line_read 0 (without_lines s) text)
 same_line n s text few =

@@ -11,7 +11,7 @@ use Rattle.keys.specs.declared.point.Operation.TheVariants.{Lock, TryLock, Unloc
 use Rattle.keys.specs.Words.{operation_of}
 use Rattle.script.specs.declared.command.Mode.{Mode}
 use Rattle.script.specs.declared.command.Mode.TheVariants as mode
-use Rattle.script.specs.Limits.{max_name, max_stem, max_steps, max_mutexes, max_counter, max_base}
+use Rattle.script.specs.Limits.{max_name, max_stem, max_steps, max_access, max_mutexes, max_counter, max_base}
 
 -- a to z
 abbrev pub is_letter : ℕ → Bool
@@ -53,6 +53,7 @@ pub data Form : Type 0 where
   calls : List ℕ → CallForm → Form
   locks : List ℕ → List ℕ → Option ℕ → Form
   phase : Form
+  dies : List ℕ → Option ℕ → Form
 
 -- an empty line or a comment
 abbrev pub is_silent : List ℕ → Bool
@@ -72,6 +73,12 @@ name_form w a = if not (is_name a) then None
 abbrev pub step_form : List ℕ → List ℕ → List ℕ → Option Form
 step_form w t n = if bytes_eq w (codes "step") && is_name t && is_number n
     then Some (steps t (within 1 max_steps (digits_value 10 n)))
+    else None
+
+-- `die T N`
+abbrev pub die_form : List ℕ → List ℕ → List ℕ → Option Form
+die_form w t n = if bytes_eq w (codes "die") && is_name t && is_number n
+    then Some (dies t (within 1 max_access (digits_value 10 n)))
     else None
 
 -- a name to which a number is added, which leaves it the spelling of a name
@@ -140,7 +147,7 @@ phase_form w = if bytes_eq w (codes "phase") then Some phase else None
 abbrev pub words_form : List (List ℕ) → Option Form
 words_form (w ∷ []) = phase_form w
 words_form (w ∷ a ∷ []) = name_form w a
-words_form (w ∷ a ∷ n ∷ []) = or_else (step_form w a n) (or_else (mutexes_form w a n) (or_else (process_form w a n) (member_form w a n)))
+words_form (w ∷ a ∷ n ∷ []) = or_else (step_form w a n) (or_else (die_form w a n) (or_else (mutexes_form w a n) (or_else (process_form w a n) (member_form w a n))))
 words_form (w ∷ t ∷ c ∷ m ∷ []) = or_else (locks_form w t c m) (or_else (cond_form w t c m) (option_and_then (calling_form w t) (call_form c m)))
 words_form _ = None
 
@@ -171,10 +178,12 @@ threads_have (goes t) = false
 threads_have (calls t c) = is_on_mutex c
 threads_have (locks t m n) = false
 threads_have phase = true
+threads_have (dies t n) = true
 
--- and those of a run: phases are real threads' alone
+-- and those of a run: phases and deaths before an access are real threads' alone
 abbrev pub run_has : Form → Bool
 run_has phase = false
+run_has (dies t n) = false
 run_has f = true
 
 -- whether scripts of a mode have lines of this form

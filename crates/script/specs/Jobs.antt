@@ -1,9 +1,10 @@
 -- What a script asks of real threads.
-use Rattle.std.specs.Prelude.{ℕ, zero, suc, ◌≡◌, ◌+◌, ◌<◌, Bool, true, false, ◌==◌, List, [], ◌∷◌, ◌++◌, length, map, slice_index_or, Vec, if◌then◌else◌}
+use Rattle.std.specs.Prelude.{ℕ, zero, suc, ◌≡◌, ◌+◌, ◌<◌, Bool, true, false, ◌==◌, List, [], ◌∷◌, ◌++◌, length, map, slice_index_or, Option, Vec, if◌then◌else◌}
 use Rattle.std.specs.declared.alloc.Global.{Global}
-use Rattle.std.specs.List.{slice_split, flat_map}
+use Rattle.std.specs.List.{slice_split, flat_map, range_with_len}
 use Rattle.mutex.specs.declared.call.Call.{Call}
 use Rattle.protocol.specs.declared.event.Op.TheVariants.{OnMutex, OnCondition}
+use Rattle.script.specs.Deaths.{death_of}
 use Rattle.script.specs.Scope.{Scope}
 use Rattle.script.specs.declared.command.Action.{Action}
 use Rattle.script.specs.declared.command.Action.TheVariants as action
@@ -26,6 +27,7 @@ is_end (action.KillAll p) = false
 is_end (action.Go t) = false
 is_end (action.Call t c) = false
 is_end (action.Locks t m n) = false
+is_end (action.Die t n) = false
 
 abbrev pub ends_phase : Command → Bool
 ends_phase c = is_end c.action
@@ -41,6 +43,7 @@ call_by t (action.Kill u) = []
 call_by t (action.KillAll p) = []
 call_by t (action.Go u) = []
 call_by t (action.Locks u m n) = []
+call_by t (action.Die u n) = []
 
 -- the calls of thread t among commands, in their order
 abbrev pub calls_by : ℕ → List Command → List Call
@@ -63,6 +66,10 @@ phases_in s = slice_split ends_phase s.commands
 -- the jobs of each phase
 abbrev pub jobs_of : Scope → List (List Job')
 jobs_of s = map (jobs_up_to (length s.threads)) (phases_in s)
+
+-- of each thread, in the order of ids, the number in its `die` line: the access before which it dies, and None where it has no such line
+abbrev pub dies_of : Scope → List (Option ℕ)
+dies_of s = map (λ t. death_of t s.commands) (range_with_len 1 (length s.threads))
 
 -- values of the code as lists
 abbrev pub job_seen : Job → Job'

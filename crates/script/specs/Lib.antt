@@ -1,6 +1,7 @@
 pub mod Faults
 pub mod Limits
 pub mod Forms
+pub mod Deaths
 pub mod Scope
 pub mod Reading
 pub mod Outcome

@@ -45,6 +45,10 @@ max_stem = 12
 abbrev pub max_steps : ℕ
 max_steps = 100000
 
+-- the number of the access in a `die` line: chosen
+abbrev pub max_access : ℕ
+max_access = 100000
+
 -- the events of a script that is played: chosen; nothing that it asks for runs on without an end
 abbrev pub max_events : ℕ
 max_events = 100000

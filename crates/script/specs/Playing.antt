@@ -10,7 +10,7 @@ use Rattle.protocol.specs.declared.event.Event.TheVariants as event
 use Rattle.protocol.specs.declared.note.Note.{Note}
 use Rattle.protocol.specs.Machine.{State, start, happens, run, notes, is_busy, is_dying, is_asleep}
 use Rattle.script.specs.declared.command.Action.{Action}
-use Rattle.script.specs.declared.command.Action.TheVariants.{Begin, Step, Kill, KillAll, Go, Call, Locks, Phase}
+use Rattle.script.specs.declared.command.Action.TheVariants.{Begin, Step, Kill, KillAll, Go, Call, Locks, Phase, Die}
 use Rattle.script.specs.declared.command.Command.{Command}
 use Rattle.script.specs.declared.fault.Fault.{Fault}
 use Rattle.script.specs.declared.fault.Fault.TheVariants.{TooLong, OutOfMemory}
@@ -65,7 +65,7 @@ abbrev pub locking : State → ℕ → ℕ → ℕ → List Event
 locking s t m zero = []
 locking s t m (suc n) = calling s t (OnMutex (Lock m)) ++ locking (run s (calling s t (OnMutex (Lock m)))) t (suc m) n
 
--- the events of an action at a state of the machine; the end of a phase of real threads is no event
+-- the events of an action at a state of the machine; the end of a phase of real threads is no event, and no more is the death of one
 abbrev pub events_of : State → Action → List Event
 events_of s (Begin t c) = event.Begin t c ∷ []
 events_of s (Step t n) = replicate n (event.Step t)
@@ -75,6 +75,7 @@ events_of s (Go t) = going_on s t
 events_of s (Call t c) = calling s t c
 events_of s (Locks t m n) = locking s t m n
 events_of s Phase = []
+events_of s (Die t n) = []
 
 -- the mutexes of a `locks` are among those that there may be
 abbrev pub HasMutexes : Action → Type 0

@@ -52,6 +52,7 @@ killed_by (action.Go t) = []
 killed_by (action.Call t o) = []
 killed_by (action.Locks t m n) = []
 killed_by action.Phase = []
+killed_by (action.Die t n) = []
 
 abbrev pub killalls_of : List Command → List ℕ
 killalls_of cs = flat_map (λ c. killed_by c.action) cs

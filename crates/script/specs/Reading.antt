@@ -1,6 +1,6 @@
 -- What a script says, and its first fault: each line in turn, after those before it.
 use Rattle.std.specs.Prelude.{ℕ, map, zero, suc, ◌+◌, Bool, not, ◌&&◌, ◌||◌, ◌==◌, nat_le, nat_lt, List, [], ◌∷◌, ◌++◌, length, take, drop, position, Option, Result, Ok, Err, if◌then◌else◌, decimal}
-use Rattle.std.specs.Option.{ok_or}
+use Rattle.std.specs.Option.{ok_or, is_some}
 use Rattle.std.specs.List.{list_any}
 use Rattle.std.specs.Str.{bytes_eq, is_utf8}
 use Rattle.std.specs.Str.Parse.{digits_value}
@@ -8,10 +8,11 @@ use Rattle.mutex.specs.declared.call.Call.TheVariants as call
 use Rattle.condvar.specs.declared.call.CondCall.TheVariants as on
 use Rattle.protocol.specs.declared.event.Op.{Op}
 use Rattle.protocol.specs.declared.event.Op.TheVariants.{OnMutex, OnCondition}
-use Rattle.script.specs.Forms.{CallForm, lock, trylock, unlock, consistent, wait, signal, broadcast, Form, silent, process, thread, member, mutex, mutexes, cond, begins, steps, kills, kills_all, goes, calls, locks, phase, form_of}
+use Rattle.script.specs.Forms.{CallForm, lock, trylock, unlock, consistent, wait, signal, broadcast, Form, silent, process, thread, member, mutex, mutexes, cond, begins, steps, kills, kills_all, goes, calls, locks, phase, dies, form_of}
 use Rattle.lines.specs.Numbers.{is_number}
 use Rattle.lines.specs.Lines.{lines_of, bad_line}
 use Rattle.lines.specs.Faults.{◌>>=◌}
+use Rattle.script.specs.Deaths.{death_of}
 use Rattle.script.specs.Scope.{Scope}
 use Rattle.script.specs.declared.command.Mode.{Mode}
 use Rattle.script.specs.declared.command.Action.{Action}
@@ -151,6 +152,10 @@ made s t c = thread_of s t >>= λ i. call_of s c >>= λ k. Ok (action.Call i k)
 abbrev pub locked : Scope → List ℕ → List ℕ → Option ℕ → Result Action Fault
 locked s t m count = ok_or count OutOfRange >>= λ k. first_of s m k >>= λ j. thread_of s t >>= λ i. Ok (action.Locks i j k)
 
+-- a thread dies once at most: a second death of it is refused
+abbrev pub died : Scope → List ℕ → Option ℕ → Result Action Fault
+died s t access = ok_or access OutOfRange >>= λ k. thread_of s t >>= λ i. refuse (is_some (death_of i s.commands)) NoSuchName (Ok (action.Die i k))
+
 -- one more command, which stands at line n
 abbrev pub with_action : ℕ → Scope → Action → Scope
 with_action n s a = record s { commands = s.commands ++ record { line = n; action = a } ∷ [] }
@@ -176,6 +181,7 @@ enter n s (goes t) = asked n s (gone s t)
 enter n s (calls t c) = asked n s (made s t c)
 enter n s (locks t m count) = asked n s (locked s t m count)
 enter n s phase = Ok (with_action n s action.Phase)
+enter n s (dies t access) = asked n s (died s t access)
 
 -- a fault at line n
 abbrev pub fault_at : ℕ → Fault → ScriptFault

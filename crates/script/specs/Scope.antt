@@ -6,10 +6,11 @@ use Rattle.protocol.specs.declared.event.Op.{Op}
 use Rattle.protocol.specs.declared.event.Op.TheVariants.{OnMutex, OnCondition}
 use Rattle.script.specs.declared.command.Mode.{Mode}
 use Rattle.script.specs.declared.command.Action.{Action}
-use Rattle.script.specs.declared.command.Action.TheVariants.{Begin, Step, Kill, KillAll, Go, Call, Locks, Phase}
+use Rattle.script.specs.declared.command.Action.TheVariants.{Begin, Step, Kill, KillAll, Go, Call, Locks, Phase, Die}
 use Rattle.script.specs.declared.command.Command.{Command}
 use Rattle.script.specs.declared.command.Condition.{Condition}
-use Rattle.script.specs.Limits.{max_processes, max_base, max_threads, max_mutexes, max_conditions, max_counter, max_steps}
+use Rattle.script.specs.Deaths.{deaths_by}
+use Rattle.script.specs.Limits.{max_processes, max_base, max_threads, max_mutexes, max_conditions, max_counter, max_steps, max_access}
 
 -- what it is written for, the names in the order of declaration, each as its bytes, of processes each with its base, of condition variables each with what it was declared with; of each thread the
 -- number of its process; and the commands in the order of their lines. Process 0 is always there, with base 0 and no name; those with names have the numbers from 1 on
@@ -27,7 +28,7 @@ abbrev pub Names : ℕ → ℕ → Op → Type 0
 Names mutexes conditions (OnMutex c) = mutex_of c < mutexes
 Names mutexes conditions (OnCondition c) = condition_of c < conditions
 
--- an action of a script with this many named processes, threads, mutexes and condition variables: its numbers are of the script's, and it takes from one step to as many as may be, or one mutex or more
+-- an action of a script with this many named processes, threads, mutexes and condition variables: its numbers are of the script's, and it takes from one step to as many as may be, or one mutex or more, or is a death before an access that there may be
 abbrev pub IsPossible : ℕ → ℕ → ℕ → ℕ → Action → Type 0
 IsPossible processes threads mutexes conditions (Begin t o) = (1 ≤ t) × (t ≤ threads) × Names mutexes conditions o
 IsPossible processes threads mutexes conditions (Step t n) = (1 ≤ t) × (t ≤ threads) × (1 ≤ n) × (n ≤ max_steps)
@@ -37,12 +38,13 @@ IsPossible processes threads mutexes conditions (Go t) = (1 ≤ t) × (t ≤ thr
 IsPossible processes threads mutexes conditions (Call t o) = (1 ≤ t) × (t ≤ threads) × Names mutexes conditions o
 IsPossible processes threads mutexes conditions (Locks t m n) = (1 ≤ t) × (t ≤ threads) × (1 ≤ n) × (m + n ≤ mutexes)
 IsPossible processes threads mutexes conditions Phase = Unit {0}
+IsPossible processes threads mutexes conditions (Die t n) = (1 ≤ t) × (t ≤ threads) × (1 ≤ n) × (n ≤ max_access)
 
 -- a condition variable of one of so many mutexes, with a value that its counter may have
 abbrev pub IsCondition : ℕ → Condition → Type 0
 IsCondition mutexes c = (c.mutex < mutexes) × (c.counter ≤ max_counter)
 
--- what the lines so far can have made: no more names than may be, each thread in a process that is there, and possible commands
+-- what the lines so far can have made: no more names than may be, each thread in a process that is there, possible commands, and of each thread one death at most
 pub record IsWithinLimits (s : Scope) : Type 0 where
   pub processes_at_most : length s.processes ≤ max_processes
   pub bases_possible : All (λ p. p.1 ≤ max_base) s.processes
@@ -53,6 +55,7 @@ pub record IsWithinLimits (s : Scope) : Type 0 where
   pub conditions_at_most : length s.conditions ≤ max_conditions
   pub conditions_possible : All (λ c. IsCondition (length s.mutexes) c.1) s.conditions
   pub commands_possible : All (λ c. IsPossible (length s.processes) (length s.threads) (length s.mutexes) (length s.conditions) c.action) s.commands
+  pub dies_once : (t : ℕ) → length (deaths_by t s.commands) ≤ 1
 
 -- what a whole script is: it has a thread and a mutex too
 pub record IsWellFormed (s : Scope) : Type 0 where

@@ -42,6 +42,9 @@ pub enum Action {
     Locks { thread: Tid, mutex: u16, count: u16 },
     /// The end of a phase of real threads; for the machine nothing.
     Phase,
+    /// The death of a real thread, before its access with this number, from 1 to [`MAX_ACCESS`](crate::MAX_ACCESS), over all
+    /// phases; for the machine nothing. A script has one at most for each thread.
+    Die { thread: Tid, access: u32 },
 }
 
 /// A command of a script.

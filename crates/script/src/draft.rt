@@ -5,11 +5,12 @@ ghost use Rattle.std.specs.List.{list_any};
 ghost use Rattle.script.specs.Forms.{is_silent};
 ghost use Rattle.script.specs.Limits.{max_conditions, max_lines, max_mutexes, max_processes, max_threads};
 ghost use Rattle.script.specs.Outcome.{Gives};
-ghost use Rattle.script.specs.Reading.{added, all_killed, asked, begun, call_of, condition_declared, condition_names, declares, enter, first_of, gone, is_numbered, killed, line_read, locked, made, mutex_declared, mutexes_declared, names_of, nothing, place_of, process_declared, process_of, several, stepped, thread_declared, thread_of, with_action, with_entry, with_name, with_thread};
+ghost use Rattle.script.specs.Reading.{added, all_killed, asked, begun, call_of, condition_declared, condition_names, declares, died, enter, first_of, gone, is_numbered, killed, line_read, locked, made, mutex_declared, mutexes_declared, names_of, nothing, place_of, process_declared, process_of, several, stepped, thread_declared, thread_of, with_action, with_entry, with_name, with_thread};
 ghost use Rattle.script.specs.Scope.{IsWithinLimits};
 ghost use Rattle.script.specs.Seen.{entries_seen};
 
 use crate::command::{Action, Command, Condition, Mode};
+use crate::deaths::death_of;
 use crate::fault::Fault;
 use crate::limits::{MAX_CONDITIONS, MAX_LINES, MAX_MUTEXES, MAX_PROCESSES, MAX_THREADS};
 use crate::line::{Line, NamedCall, is_silent_line, line_of};
@@ -413,6 +414,20 @@ impl Draft {
         )
     }
 
+    /// A thread dies once: a second such line of it is refused.
+    fn die(&mut self, number: usize, thread: &str, access: Option<u32>) -> Result<(), Fault>
+        requires { IsWithinLimits (scope_of self.old) }
+        ensures gives { Gives (λ _. scope_of self.new) result (asked number (scope_of self.old) (died (scope_of self.old) thread.now access)) }
+        ensures mode { self.new.mode ≡ self.old.mode }
+    {
+        let access = access.ok_or(Fault::OutOfRange)?;
+        let thread = self.thread(thread)?;
+        if death_of(&self.commands, thread).is_some() {
+            return Err(Fault::NoSuchName);
+        }
+        self.ask(number, Action::Die { thread, access })
+    }
+
     fn enter(&mut self, alloc: Global, number: usize, line: Line<'_>) -> Result<(), Fault>
         requires { IsWithinLimits (scope_of self.old) }
         ensures gives { Gives (λ _. scope_of self.new) result
@@ -436,6 +451,7 @@ impl Draft {
             Line::Call(thread, call) => self.make(number, thread, call),
             Line::Locks(thread, mutex, count) => self.lock_several(number, thread, mutex, count),
             Line::Phase => self.ask(number, Action::Phase),
+            Line::Die(thread, access) => self.die(number, thread, access),
         }
     }
 

@@ -17,7 +17,7 @@ pub enum Fault {
     /// A number, or how many things are declared, is out of its range.
     #[error("number out of range")]
     OutOfRange,
-    /// A name isn't declared, or is declared twice.
+    /// A name isn't declared, or is declared twice, or a thread is to die a second time.
     #[error("no such name")]
     NoSuchName,
     /// There are too many bytes or lines.

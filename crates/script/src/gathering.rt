@@ -2,11 +2,13 @@
 
 ghost use Rattle.std.specs.Prelude.{◌≡◌, ◌<◌, ◌≤◌, ℕ, List, [], ◌∷◌, ◌++◌, length, OnOk, map, position, IfOk, IfErr, IfSome, MatchOption};
 ghost use Rattle.script.specs.declared.command.Command.{Command};
-ghost use Rattle.std.specs.List.{slice_split};
+ghost use Rattle.std.specs.List.{slice_split, range_with_len};
+ghost use Rattle.script.specs.Deaths.{death_of};
 ghost use Rattle.script.specs.Limits.{max_threads};
-ghost use Rattle.script.specs.Jobs.{AreCalls, ends_phase, jobs_up_to, jobs_seen, jobs_of, lists_seen};
+ghost use Rattle.script.specs.Jobs.{AreCalls, dies_of, ends_phase, jobs_up_to, jobs_seen, jobs_of, lists_seen};
 
 use crate::command::{Action, Command};
+use crate::deaths::death_of;
 use crate::fault::{Fault, ScriptFault};
 use crate::parsed::Script;
 use crate::workload::{Job, Jobs, Phase};
@@ -107,17 +109,41 @@ fn phases_of(alloc: Global, threads: u8, commands: &[Command]) -> Result<Vec<Pha
     Ok(phases)
 }
 
+/// Of each thread the access before which it dies, where the commands let it die.
+fn dies_of(alloc: Global, threads: u8, commands: &[Command]) -> Result<Vec<Option<u32>>, AllocError>
+    requires { threads ≤ max_threads }
+    ensures { IfOk result (λ dies. dies.items ≡ map (λ t. death_of t commands.now) (range_with_len 1 threads)) }
+{
+    let mut dies = Vec::new(alloc);
+    for earlier in 0..threads {
+        let thread = Tid::new(earlier + 1).unwrap();
+        dies.push(death_of(commands, thread))?;
+    }
+    Ok(dies)
+}
+
+/// What a script asks of real threads, unless no memory is left.
+fn gather(alloc: Global, script: &Script) -> Result<Jobs, AllocError>
+    ensures phases { IfOk result (λ jobs. map jobs_seen jobs.phases.items ≡ jobs_of script.now) }
+    ensures dies { IfOk result (λ jobs. jobs.dies.items ≡ dies_of script.now) }
+{
+    let phases = phases_of(alloc, script.threads(), script.commands())?;
+    let dies = dies_of(alloc, script.threads(), script.commands())?;
+    Ok(Jobs { phases, dies })
+}
+
 /// What a script asks of real threads: for each phase and each thread the calls, in the order of their lines. `begin` and `step`
-/// lines, which only the machine runs, ask for nothing here.
+/// lines, which only the machine runs, ask for nothing here. And for each thread the access before which its `die` line lets it die.
 ///
-/// Each command is looked at once, and at each end of a phase each thread's list; memory is taken for the calls, the phases and
-/// a list for each thread. Refused at line 1 where no memory is left, as [`Fault::OutOfMemory`], and for nothing else.
+/// Each command is looked at once for the calls and once for each thread's death, and at each end of a phase each thread's list;
+/// memory is taken for the calls, the phases, the deaths and a list for each thread. Refused at line 1 where no memory is left, as [`Fault::OutOfMemory`], and for nothing else.
 pub fn jobs(alloc: Global, script: &Script) -> Result<Jobs, ScriptFault>
     ensures ok { IfOk result (λ jobs. map jobs_seen jobs.phases.items ≡ jobs_of script.now) }
+    ensures dies { IfOk result (λ jobs. jobs.dies.items ≡ dies_of script.now) }
     ensures err { IfErr result (λ e. e ≡ record { line = 1; fault = Fault.OutOfMemory }) }
 {
-    match phases_of(alloc, script.threads(), script.commands()) {
-        Ok(phases) => Ok(Jobs { phases }),
+    match gather(alloc, script) {
+        Ok(jobs) => Ok(jobs),
         Err(_) => Err(ScriptFault {
             line: 1,
             fault: Fault::OutOfMemory,

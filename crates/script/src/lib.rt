@@ -2,6 +2,7 @@
 #![tactic(auto)]
 
 mod command;
+mod deaths;
 mod draft;
 mod fault;
 mod gathering;
@@ -22,8 +23,8 @@ pub use laws::{
     silent_lines_say_nothing, threads_come_to_rest,
 };
 pub use limits::{
-    MAX_BASE, MAX_BYTES, MAX_CONDITIONS, MAX_COUNTER, MAX_EVENTS, MAX_LINES, MAX_MUTEXES, MAX_NAME,
-    MAX_PROCESSES, MAX_STEM, MAX_STEPS, MAX_THREADS, REST_STEPS,
+    MAX_ACCESS, MAX_BASE, MAX_BYTES, MAX_CONDITIONS, MAX_COUNTER, MAX_EVENTS, MAX_LINES,
+    MAX_MUTEXES, MAX_NAME, MAX_PROCESSES, MAX_STEM, MAX_STEPS, MAX_THREADS, REST_STEPS,
 };
 pub use parsed::Script;
 pub use player::play;

@@ -33,6 +33,9 @@ pub const MAX_STEM: usize = 12;
 /// The steps of one `step` line.
 pub const MAX_STEPS: u32 = 100_000;
 
+/// The number of the access in a `die` line.
+pub const MAX_ACCESS: u32 = 100_000;
+
 /// The events of a script that is played.
 pub const MAX_EVENTS: usize = 100_000;
 

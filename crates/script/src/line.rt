@@ -1,12 +1,12 @@
 //! The kinds of line of a script.
 
 ghost use Rattle.std.specs.Prelude.{◌≡◌, true, false, option_map, option_and_then};
-ghost use Rattle.script.specs.Forms.{call_form, calling_form, cond_form, form_of, has, is_on_mutex, is_silent, is_stem, locks_form, member_form, mutexes_form, name_form, or_else, phase_form, process_form, run_has, step_form, threads_have};
+ghost use Rattle.script.specs.Forms.{call_form, calling_form, cond_form, die_form, form_of, has, is_on_mutex, is_silent, is_stem, locks_form, member_form, mutexes_form, name_form, or_else, phase_form, process_form, run_has, step_form, threads_have};
 ghost use Rattle.lines.specs.Numbers.{is_number, within};
 ghost use Rattle.script.specs.Seen.{call_seen, form_seen};
 
 use crate::command::Mode;
-use crate::limits::{MAX_BASE, MAX_COUNTER, MAX_MUTEXES, MAX_STEM, MAX_STEPS};
+use crate::limits::{MAX_ACCESS, MAX_BASE, MAX_COUNTER, MAX_MUTEXES, MAX_STEM, MAX_STEPS};
 use crate::words::is_word_name;
 use keys::Operation;
 use lines::{Words, is_number_word, number_in, words_in};
@@ -43,6 +43,8 @@ pub enum Line<'a> {
     Call(&'a str, NamedCall<'a>),
     Locks(&'a str, &'a str, Option<u32>),
     Phase,
+    /// A thread, and the number of the access before which it dies.
+    Die(&'a str, Option<u32>),
 }
 
 /// Whether the line is empty or a comment.
@@ -76,6 +78,15 @@ fn step<'a>(keyword: &'a str, thread: &'a str, number: &'a str) -> Option<Line<'
 {
     if keyword == "step" && is_word_name(thread) && is_number_word(number) {
         return Some(Line::Step(thread, number_in(number, 1, MAX_STEPS)));
+    }
+    None
+}
+
+fn die<'a>(keyword: &'a str, thread: &'a str, number: &'a str) -> Option<Line<'a>>
+    ensures { option_map form_seen result ≡ die_form keyword.now thread.now number.now }
+{
+    if keyword == "die" && is_word_name(thread) && is_number_word(number) {
+        return Some(Line::Die(thread, number_in(number, 1, MAX_ACCESS)));
     }
     None
 }
@@ -178,10 +189,14 @@ fn phase(keyword: &str) -> Option<Line<'_>>
 /// A line of three words.
 fn of_three<'a>(keyword: &'a str, second: &'a str, third: &'a str) -> Option<Line<'a>>
     ensures { option_map form_seen result ≡ or_else (step_form keyword.now second.now third.now)
+        (or_else (die_form keyword.now second.now third.now)
         (or_else (mutexes_form keyword.now second.now third.now)
-        (or_else (process_form keyword.now second.now third.now) (member_form keyword.now second.now third.now))) }
+        (or_else (process_form keyword.now second.now third.now) (member_form keyword.now second.now third.now)))) }
 {
     if let Some(line) = step(keyword, second, third) {
+        return Some(line);
+    }
+    if let Some(line) = die(keyword, second, third) {
         return Some(line);
     }
     if let Some(line) = mutexes(keyword, second, third) {
@@ -231,7 +246,7 @@ fn is_of_threads(line: &Line<'_>) -> bool
         Line::Process(..) | Line::Thread(_) | Line::Member(..) => true,
         Line::Mutex(_) | Line::Mutexes(..) => true,
         Line::Call(_, call) => is_on_mutex(call),
-        Line::Phase => true,
+        Line::Phase | Line::Die(..) => true,
         Line::Cond(..) => false,
         Line::Begin(..) | Line::Step(..) | Line::Kill(_) => false,
         Line::KillAll(_) | Line::Go(_) | Line::Locks(..) => false,
@@ -243,7 +258,7 @@ fn is_of(mode: Mode, line: &Line<'_>) -> bool
     ensures { result ≡ has mode (form_seen line.now) }
 {
     match mode {
-        Mode::Run => !matches!(line, Line::Phase),
+        Mode::Run => !matches!(line, Line::Phase | Line::Die(..)),
         Mode::Threads => is_of_threads(line),
     }
 }

@@ -140,6 +140,7 @@ fn play_action(machine: &mut Machine, notes: &mut Vec<Note>, action: Action) -> 
             count,
         } => play_locks(machine, notes, thread, mutex, count),
         Action::Phase => Ok(()),
+        Action::Die { .. } => Ok(()),
     }
 }
 

@@ -25,4 +25,7 @@ pub struct Phase {
 pub struct Jobs {
     /// The phases.
     pub phases: Vec<Phase>,
+    /// For each thread, in the order of the threads' ids, the number in its `die` line: it dies before this access of its,
+    /// from 1 to [`MAX_ACCESS`](crate::MAX_ACCESS), over all phases. None where it has no such line.
+    pub dies: Vec<Option<u32>>,
 }

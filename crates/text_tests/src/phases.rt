@@ -1,4 +1,4 @@
-//! Scripts for real threads, with the fault that each is refused for, and what each thread does in each phase, written out by hand.
+//! Scripts for real threads, with the fault that each is refused for, and what each thread does in each phase and when it dies, written out by hand.
 
 use crate::built::joined;
 use crate::events::playing;
@@ -16,7 +16,7 @@ const THIRD: Scripts = Scripts {
 };
 
 /// Third lines.
-static LINES: [(&str, Refusal); 40] = [
+static LINES: [(&str, Refusal); 56] = [
     ("", None),
     ("# phase", None),
     ("phase", None),
@@ -43,7 +43,23 @@ static LINES: [(&str, Refusal); 40] = [
     ("kill a", Some((2, 3))),
     ("go a", Some((2, 3))),
     ("locks a m 1", Some((2, 3))),
-    ("die a 4", Some((2, 3))),
+    ("die a 4", None),
+    ("die a 1", None),
+    ("die a 100000", None),
+    ("die a 0", Some((3, 3))),
+    ("die a 100001", Some((3, 3))),
+    ("die a 4294967297", Some((3, 3))),
+    ("die b 1", Some((4, 3))),
+    ("die b 0", Some((3, 3))),
+    ("die B 0", Some((2, 3))),
+    ("die m 1", Some((4, 3))),
+    ("die a 01", Some((2, 3))),
+    ("die a -1", Some((2, 3))),
+    ("die a", Some((2, 3))),
+    ("die 4", Some((2, 3))),
+    ("die", Some((2, 3))),
+    ("die a 4 4", Some((2, 3))),
+    ("dies a 4", Some((2, 3))),
     ("cond c m 0", Some((2, 3))),
     ("cond c n 4294967296", Some((2, 3))),
     ("call a wait c", Some((2, 3))),
@@ -72,7 +88,7 @@ const WHOLE: Scripts = Scripts {
 };
 
 /// Whole scripts.
-static SCRIPTS: [(&str, Refusal); 8] = [
+static SCRIPTS: [(&str, Refusal); 17] = [
     ("", Some((3, 1))),
     ("phase\n", Some((3, 2))),
     ("thread a\nphase\n", Some((3, 3))),
@@ -84,6 +100,23 @@ static SCRIPTS: [(&str, Refusal); 8] = [
         "thread a\nmutex m\ncall b unlock m\nbegin a unlock m\n",
         Some((4, 3)),
     ),
+    // A thread dies once.
+    ("thread a\nmutex m\ndie a 4\ndie a 4\n", Some((4, 4))),
+    ("thread a\nmutex m\ndie a 4\ndie a 0\n", Some((3, 4))),
+    ("thread a\nmutex m\ndie a 4\ndie a\n", Some((2, 4))),
+    (
+        "thread a\nthread b\nmutex m\ndie a 4\nphase\ndie b 4\n",
+        None,
+    ),
+    (
+        "thread a\nthread b\nmutex m\ndie a 4\nphase\ndie b 4\ndie a 5\n",
+        Some((4, 7)),
+    ),
+    // It is a command.
+    ("thread a\nmutex m\ndie a 4\nthread b\n", Some((2, 4))),
+    ("thread a\ndie a 4\nmutex m\n", Some((2, 3))),
+    ("thread a\ndie a 4\n", Some((3, 3))),
+    ("thread a\nmutex m\ndie a 4", Some((2, 3))),
 ];
 
 #[test]
@@ -99,6 +132,15 @@ fn scripts(rt: HostRuntime) -> Result<(), Fail> {
 fn phase_in_a_run(rt: HostRuntime) {
     let text = b"thread a\nmutex m\nphase\n";
     assert!(rt; refusal(rt.alloc(), text, Mode::Run) == Some((2, 3)));
+}
+
+/// So is the death of a thread before an access.
+#[test]
+fn death_in_a_run(rt: HostRuntime) {
+    let text = b"thread a\nmutex m\ndie a 4\n";
+    assert!(rt; refusal(rt.alloc(), text, Mode::Run) == Some((2, 3)));
+    let past_range = b"thread a\nmutex m\ndie b 0\n";
+    assert!(rt; refusal(rt.alloc(), past_range, Mode::Run) == Some((2, 3)));
 }
 
 const LOCK: Call = Call::Lock(0);
@@ -144,7 +186,7 @@ fn asks_for(alloc: Global, text: &str, mode: Mode, want: &[&[Calls]]) -> Result<
 }
 
 /// The commands of three threads, and the phases that they ask for.
-static PHASES: [(&str, &[&[Calls]]); 6] = [
+static PHASES: [(&str, &[&[Calls]]); 7] = [
     ("", &[&[]]),
     ("phase\n", &[&[], &[]]),
     (
@@ -173,6 +215,10 @@ static PHASES: [(&str, &[&[Calls]]); 6] = [
         "call b lock m\ncall b consistent m\nphase\ncall a lock m\n",
         &[&[(2, &[LOCK, CONSISTENT])], &[(1, &[LOCK])]],
     ),
+    (
+        "die b 4\ncall b lock m\nphase\ncall b unlock m\ndie a 1\n",
+        &[&[(2, &[LOCK])], &[(2, &[UNLOCK])]],
+    ),
 ];
 
 /// The place of the first commands that ask for other phases.
@@ -197,12 +243,51 @@ fn phases(rt: HostRuntime) -> Result<(), Fail> {
     Ok(())
 }
 
-/// What only the machine runs asks for nothing of real threads, and the end of a phase for nothing of the machine.
+/// The commands of three threads, and before which of its accesses each dies.
+static DEATHS: [(&str, [Option<u32>; 3]); 5] = [
+    ("", [None, None, None]),
+    ("die a 4\n", [Some(4), None, None]),
+    (
+        "die b 100000\ncall b lock m\nphase\n",
+        [None, Some(100_000), None],
+    ),
+    (
+        "call c lock m\ndie c 7\nphase\ncall a lock m\ndie a 1\n",
+        [Some(1), None, Some(7)],
+    ),
+    ("die c 3\ndie b 2\ndie a 3\n", [Some(3), Some(2), Some(3)]),
+];
+
+/// The place of the first commands by which threads die otherwise.
+fn first_wrong_death(alloc: Global) -> Result<Option<usize>, Fail> {
+    for (place, (commands, want)) in DEATHS.iter().enumerate() {
+        let text = joined(
+            alloc,
+            "thread a\nthread b\nthread c\nmutex m\n",
+            *commands,
+            "",
+        )?;
+        let script = parse(alloc, text.as_bytes(), Mode::Threads)?;
+        let jobs = jobs(alloc, &script)?;
+        if jobs.dies.as_slice() != want.as_slice() {
+            return Ok(Some(place));
+        }
+    }
+    Ok(None)
+}
+
+#[test]
+fn deaths(rt: HostRuntime) -> Result<(), Fail> {
+    assert!(rt; first_wrong_death(rt.alloc())?.is_none());
+    Ok(())
+}
+
+/// What only the machine runs asks for nothing of real threads, and the end of a phase and a thread's death before an access for nothing of the machine.
 #[test]
 fn other_modes(rt: HostRuntime) -> Result<(), Fail> {
     let run = "thread a\nmutex m\nbegin a trylock m\nstep a 2\ncall a unlock m\n";
     assert!(rt; asks_for(rt.alloc(), run, Mode::Run, &[&[(1, &[UNLOCK])]])?);
-    let threads = "thread a\nmutex m\ncall a trylock m\nphase\nphase\ncall a unlock m\n";
+    let threads = "thread a\nmutex m\ndie a 2\ncall a trylock m\nphase\nphase\ncall a unlock m\n";
     assert!(rt; playing(rt.alloc(), threads, Mode::Threads) == Ok(17));
     Ok(())
 }
@@ -222,11 +307,11 @@ fn phases_of(alloc: Global, text: &[u8]) -> Result<usize, (u8, usize)> {
 /// Passes too where any one allocation fails: the answer is then fault 6, at a line that says something or, once the script is read, at line 1.
 #[test]
 fn memory(rt: HostRuntime) {
-    let text = b"thread a\n#\nmutex m\ncall a trylock m\nphase\ncall a unlock m\n";
+    let text = b"thread a\n#\nmutex m\ncall a trylock m\nphase\ncall a unlock m\ndie a 4\n";
     match phases_of(rt.alloc(), text) {
         Ok(phases) => assert!(rt; phases == 2),
         Err((fault, line)) => {
-            assert!(rt; fault == 6 && line != 0 && line != 2 && line < 7);
+            assert!(rt; fault == 6 && line != 0 && line != 2 && line < 8);
         }
     }
 }
