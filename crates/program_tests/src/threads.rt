@@ -71,8 +71,58 @@ fn many_threads_are_told(rt: HostRuntime) {
     assert!(rt; threads(&rt, MANY).is(0, MANY_TEXT, ""));
 }
 
+/// Each of sixteen threads locks a mutex of its own and unlocks it, and dies before its access with its number: a lock makes eight and an unlock seven. Then another thread locks all mutexes.
+const DEATHS: &str = "thread t1\nthread t2\nthread t3\nthread t4\nthread t5\nthread t6\nthread t7\n\
+    thread t8\nthread t9\nthread t10\nthread t11\nthread t12\nthread t13\nthread t14\n\
+    thread t15\nthread t16\nthread z\nmutexes m 16\ndie t1 1\ndie t2 2\ndie t3 3\n\
+    die t4 4\ndie t5 5\ndie t6 6\ndie t7 7\ndie t8 8\ndie t9 9\ndie t10 10\ndie t11 11\n\
+    die t12 12\ndie t13 13\ndie t14 14\ndie t15 15\ndie t16 16\ncall t1 lock m0\n\
+    call t1 unlock m0\ncall t2 lock m1\ncall t2 unlock m1\ncall t3 lock m2\n\
+    call t3 unlock m2\ncall t4 lock m3\ncall t4 unlock m3\ncall t5 lock m4\n\
+    call t5 unlock m4\ncall t6 lock m5\ncall t6 unlock m5\ncall t7 lock m6\n\
+    call t7 unlock m6\ncall t8 lock m7\ncall t8 unlock m7\ncall t9 lock m8\n\
+    call t9 unlock m8\ncall t10 lock m9\ncall t10 unlock m9\ncall t11 lock m10\n\
+    call t11 unlock m10\ncall t12 lock m11\ncall t12 unlock m11\ncall t13 lock m12\n\
+    call t13 unlock m12\ncall t14 lock m13\ncall t14 unlock m13\ncall t15 lock m14\n\
+    call t15 unlock m14\ncall t16 lock m15\ncall t16 unlock m15\nphase\ncall z lock m0\n\
+    call z lock m1\ncall z lock m2\ncall z lock m3\ncall z lock m4\ncall z lock m5\n\
+    call z lock m6\ncall z lock m7\ncall z lock m8\ncall z lock m9\ncall z lock m10\n\
+    call z lock m11\ncall z lock m12\ncall z lock m13\ncall z lock m14\n\
+    call z lock m15\n";
+
+/// The first three die before they take their mutex; those after them as its owner, until it is released by the last access but one.
+const DEATHS_TEXT: &str = "replies t1 dead\nreplies t2 dead\nreplies t3 dead\nreplies t4 dead\n\
+    replies t5 dead\nreplies t6 dead\nreplies t7 dead\nreplies t8 dead\n\
+    replies t9 OK dead\nreplies t10 OK dead\nreplies t11 OK dead\nreplies t12 OK dead\n\
+    replies t13 OK dead\nreplies t14 OK dead\nreplies t15 OK dead\nreplies t16 OK OK\n\
+    replies z OK OK OK EOWNERDEAD EOWNERDEAD EOWNERDEAD EOWNERDEAD EOWNERDEAD EOWNERDEAD EOWNERDEAD EOWNERDEAD EOWNERDEAD EOWNERDEAD EOWNERDEAD OK OK\n\
+    mutex m0 0000000000000011 z -\nmutex m1 0000000000000011 z -\n\
+    mutex m2 0000000000000011 z -\nmutex m3 0000000040000011 z -\n\
+    mutex m4 0000000040000011 z -\nmutex m5 0000000040000011 z -\n\
+    mutex m6 0000000040000011 z -\nmutex m7 0000000040000011 z -\n\
+    mutex m8 0000000040000011 z -\nmutex m9 0000000040000011 z -\n\
+    mutex m10 0000000040000011 z -\nmutex m11 0000000040000011 z -\n\
+    mutex m12 0000000040000011 z -\nmutex m13 0000000040000011 z -\n\
+    mutex m14 0000000000000011 z -\nmutex m15 0000000000000011 z -\n";
+
+/// A thread that dies makes none of its later calls. The mutex that it held goes to the next one as a dead owner's.
+const SKIPPED: &str = "thread a\nthread b\nmutex m\ndie a 12\ncall a lock m\nphase\n\
+    call a unlock m\ncall a lock m\nphase\ncall a lock m\ncall b lock m\n";
+
+const SKIPPED_TEXT: &str =
+    "replies a OK dead\nreplies b EOWNERDEAD\nmutex m 0000000040000002 b -\n";
+
+#[test]
+fn deaths_are_told(rt: HostRuntime) {
+    let script = "thread a\nthread b\nmutex m\ndie a 4\ncall a lock m\nphase\ncall b lock m\n";
+    let text = "replies a dead\nreplies b EOWNERDEAD\nmutex m 0000000040000002 b -\n";
+    assert!(rt; threads(&rt, script).is(0, text, ""));
+    assert!(rt; threads(&rt, SKIPPED).is(0, SKIPPED_TEXT, ""));
+    assert!(rt; threads(&rt, DEATHS).is(0, DEATHS_TEXT, ""));
+}
+
 /// Scripts that are refused, and what is told of them.
-static REFUSED: [(&str, &str); 3] = [
+static REFUSED: [(&str, &str); 4] = [
     (
         "thread a\nmutex m\nstep a 1\n",
         "rfx: line 3: fault 2: unknown word\n",
@@ -84,6 +134,10 @@ static REFUSED: [(&str, &str); 3] = [
     (
         "thread a\nmutexes m 4096\nmutex n\n",
         "rfx: line 3: fault 3: number out of range\n",
+    ),
+    (
+        "thread a\nmutex m\ndie a 4\nphase\ndie a 5\n",
+        "rfx: line 5: fault 4: no such name\n",
     ),
 ];
 
@@ -132,6 +186,12 @@ fn is_told_or_wants_memory(
 #[test]
 fn memory(rt: HostRuntime) {
     assert!(rt; is_told_or_wants_memory(&rt, PHASES, PHASES_TEXT));
+}
+
+/// Passes too where any one allocation fails: the same for a thread that dies.
+#[test]
+fn memory_for_deaths(rt: HostRuntime) {
+    assert!(rt; is_told_or_wants_memory(&rt, SKIPPED, SKIPPED_TEXT));
 }
 
 /// Passes too where any one allocation fails: the same for five threads.

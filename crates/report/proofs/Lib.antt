@@ -1,4 +1,5 @@
 mod Names
+mod Working
 mod Phases
 mod Told
 mod Possible

@@ -48,6 +48,7 @@ by_action p n m d t (action.Step u k) fine = tt
 by_action p n m d t (action.Kill u) fine = tt
 by_action p n m d t (action.KillAll q) fine = tt
 by_action p n m d t (action.Go u) fine = tt
+by_action p n m d t (action.Die u k) fine = tt
 by_action p n m d t (action.Locks u j k) fine = tt
 by_action p n m d t action.Phase fine = tt
 by_action p n m d t (action.Call u (OnCondition k)) fine = tt

@@ -1,5 +1,5 @@
--- What threads were told stands in one history.
-use Rattle.std.proofs.Common.{◌≡◌, ◌≢◌, ◌⊎◌, inl, inr, ⊎_elim, ℕ, zero, suc, ◌+◌, ◌<◌, Bool, true, false, Some, List, [], ◌∷◌, ◌++◌, length, map, get_or, slice_get, Vec, refl, sym, ap, ◌∙◌, subst, arith, append_assoc, append-nil}
+-- What threads were told, and which of them died, stands in one history.
+use Rattle.std.proofs.Common.{◌≡◌, ◌≢◌, ◌⊎◌, inl, inr, ⊎_elim, ℕ, zero, suc, ◌+◌, ◌<◌, Bool, true, false, Option, Some, List, [], ◌∷◌, ◌++◌, length, map, take, get_or, slice_get, Vec, refl, sym, ap, ◌∙◌, subst, arith, append_assoc, append-nil}
 use Rattle.std.specs.Prelude.{nat_le, MatchBool}
 use Rattle.std.proofs.lemmas.Option.{slice_get_within}
 use mathlib.Core.Logic.{dite}
@@ -12,6 +12,7 @@ use Rattle.keys.specs.declared.point.Point.{Point}
 use Rattle.keys.specs.declared.point.Operation.{Operation}
 use Rattle.keys.specs.Layouts.{Layout', cell_place}
 use Rattle.keys.specs.Objects.{acquires, object_of}
+use Rattle.facts.specs.Lives.{Act, Beginning}
 use Rattle.mutex.specs.declared.call.Call.{Call}
 use Rattle.mutex.specs.declared.call.Call.TheVariants.{Lock, TryLock, Unlock, Consistent}
 use Rattle.mutex.specs.Calls.{mutex_of, operation_of}
@@ -20,14 +21,22 @@ use Rattle.ruledwords.specs.declared.pass.Words.{Words}
 use Rattle.ruledwords.specs.declared.pass.Live.{Live}
 use Rattle.ruledwords.specs.declared.pass.Pass.{Pass}
 use Rattle.ruledwords.specs.Cards.{at}
+use Rattle.ruledwords.specs.Deaths.{deaths, IsReaped}
+use Rattle.ruledwords.specs.OwnWords.{owns_in}
 use Rattle.ruledwords.specs.Passes.{card, layout_of, last_words}
 use Rattle.ruledwords.specs.Rules.{first_card, IsAmong}
-use Rattle.ruledwords.specs.Seen.{by, Called, Leaves, held}
+use Rattle.ruledwords.specs.Seen.{by, held, held_after, points_of, Called, Died, Leaves}
 use Rattle.script.specs.declared.workload.Phase.{Phase}
-use Rattle.threadbench.specs.Answered.{Replied, Answered}
-use Rattle.report.specs.Histories.{AreTold, StandTogether}
-use Rattle.report.specs.Threads.{calls_over, HaveMade, HasEnded}
-use Rattle.report.proofs.Phases.{some_at, all_at}
+use Rattle.threadbench.specs.declared.job.WorkerPass.{WorkerPass}
+use Rattle.threadbench.specs.declared.job.WorkerPass.TheVariants.{Lives, Reaped}
+use Rattle.threadbench.specs.Answered.{card_in, Answered, DiesIn, Replied}
+use Rattle.threadbench.specs.Jobs.{WasLost, Worked}
+use Rattle.report.specs.declared.threads.Worker.{Worker}
+use Rattle.report.specs.Histories.{AreTold, ArePointsOf, StandTogether}
+use Rattle.report.specs.Threads.{calls_over, is_reaped, open_gate, AreFirst, HaveMade, HasEnded, WorksFrom}
+use Rattle.report.proofs.Names.{mapped_at}
+use Rattle.report.proofs.Phases.{some_at, all_at, its_end}
+use Rattle.report.proofs.Working.{all_answered}
 
 -- what a call adds to the points that its own thread made at p: nothing, or its point
 abbrev Adds : Card → ℕ → ℕ → Operation → Reply → Card → Type 0
@@ -86,15 +95,93 @@ added k t m a (c ∷ cs) (r ∷ rs) b mine answered =
     let adds = replied_adds k a c r answered.0 (cell_place k m) answered.1 in
     first_added t k m c cs r rs a answered.0 b mine adds (added k t m answered.0 cs rs b (adds.0 ∙ mine) answered.2)
 
-mapped_at : {A B : Type 0} (f : A → B) (xs : List A) (i : ℕ) (x : A) → slice_get xs i ≡ Some x → slice_get (map f xs) i ≡ Some (f x)
-mapped_at f [] i x is = absurd (cc is)
-mapped_at f (y ∷ ys) zero x is = let one : y ≡ x = cc is in ap (λ z. Some (f z)) one
-mapped_at f (y ∷ ys) (suc i) x is = mapped_at f ys i x is
+-- ---- a thread that died
 
--- what all threads were told stands in the history of each mutex in which their passes met
-pub together : (w : Words) (ps : List Phase) (firsts passes : List (Pass Live)) (replies : List (Vec Reply Global)) (cells : List ℕ) (k : Layout') → ((i : ℕ) (a : Pass Live) → slice_get firsts i ≡ Some a → card a ≡ first_card k (i + 1)) → HaveMade w ps firsts passes replies → HasEnded w passes cells
-    → StandTogether (layout_of w) (λ t. calls_over t ps) replies cells
-together w ps firsts passes replies cells k cards made ended = record {
+-- a call in which a thread dies adds some of its first points, or all, where it is on the mutex
+died_of : (k : Layout') (c : Card) (call : Call) (d : Card) → DiesIn k c call d → Died c (cell_place k (mutex_of call)) (operation_of call) d
+died_of k c (Lock m) d dies = dies.1
+died_of k c (TryLock m) d dies = dies.1
+died_of k c (Unlock m) d dies = dies
+died_of k c (Consistent m) d dies = dies
+
+record AddsSome (k : Layout') (m : ℕ) (call : Call) (c d : Card) : Type 0 where
+  acts : List Act
+  begun : mutex_of call ≡ m → Beginning (operation_of call) acts
+  elsewhere : mutex_of call ≢ m → acts ≡ []
+  own : by c.thread (at d.seen (cell_place k m)) ≡ by c.thread (at c.seen (cell_place k m)) ++ points_of c.thread (cell_place k m) acts
+
+some_added : (k : Layout') (m : ℕ) (call : Call) (c d : Card) → Died c (cell_place k (mutex_of call)) (operation_of call) d → AddsSome k m call c d
+some_added k m call c d died = dite (ℕ_discrete (mutex_of call) m)
+    (λ (here : mutex_of call ≡ m). record {
+      acts = died.acts;
+      begun = λ same. died.beginning;
+      elsewhere = λ other. absurd (other here);
+      own = subst (λ (n : ℕ). by c.thread (at d.seen (cell_place k n)) ≡ by c.thread (at c.seen (cell_place k n)) ++ points_of c.thread (cell_place k n) died.acts) here died.saw.own;
+    })
+    (λ (other : mutex_of call ≢ m). record {
+      acts = [];
+      begun = λ same. absurd (other same);
+      elsewhere = λ apart. refl;
+      own = ap (by c.thread) (died.saw.elsewhere (cell_place k m) (λ same. other (let e = same in omega (arith, e)))) ∙ sym (append-nil (by c.thread (at c.seen (cell_place k m))));
+    })
+
+-- and the walk over its list adds its death, where it held the mutex
+by_walk : (k : Layout') (m : ℕ) (dead d : Card) → m < k.mutexes → IsReaped k dead d → by dead.thread (at d.seen (cell_place k m)) ≡ by dead.thread (at dead.seen (cell_place k m)) ++ deaths dead.thread (cell_place k m) (held_after false (by dead.thread (at dead.seen (cell_place k m))))
+by_walk k m dead d low reaped = go (owns_in k dead m) refl where
+  go : (b : Bool) → owns_in k dead m ≡ b → by dead.thread (at d.seen (cell_place k m)) ≡ by dead.thread (at dead.seen (cell_place k m)) ++ deaths dead.thread (cell_place k m) (owns_in k dead m)
+  go true owns = (reaped.told m low owns).saw.own ∙ ap (λ (b : Bool). by dead.thread (at dead.seen (cell_place k m)) ++ deaths dead.thread (cell_place k m) b) (sym owns)
+  go false owns = ap (by dead.thread) (reaped.stays m low owns) ∙ sym (append-nil (by dead.thread (at dead.seen (cell_place k m)))) ∙ ap (λ (b : Bool). by dead.thread (at dead.seen (cell_place k m)) ++ deaths dead.thread (cell_place k m) b) (sym owns)
+
+-- both
+pub lost : (k : Layout') (m : ℕ) (call : Call) (t : ℕ) (c d : Card) → c.thread ≡ t → m < k.mutexes → WasLost k c call d → (acts : List Act) × (mutex_of call ≡ m → Beginning (operation_of call) acts) × (mutex_of call ≢ m → acts ≡ []) × (d.thread ≡ t)
+    × (by t (at d.seen (cell_place k m)) ≡ (by t (at c.seen (cell_place k m)) ++ points_of t (cell_place k m) acts) ++ deaths t (cell_place k m) (held_after false (by t (at c.seen (cell_place k m)) ++ points_of t (cell_place k m) acts)))
+lost k m call t c d mine low was =
+    let died = died_of k c call was.dead was.died in
+    let some = some_added k m call c was.dead died in
+    let same : was.dead.thread ≡ t = died.saw.thread ∙ mine in
+    let p : ℕ = cell_place k m in
+    let own = subst (λ (u : ℕ). by u (at was.dead.seen p) ≡ by u (at c.seen p) ++ points_of u p some.acts) mine some.own in
+    let walk = subst (λ (u : ℕ). by u (at d.seen p) ≡ by u (at was.dead.seen p) ++ deaths u p (held_after false (by u (at was.dead.seen p)))) same (by_walk k m was.dead d low was.reaped) in (
+      some.acts,
+      some.begun,
+      some.elsewhere,
+      was.reaped.thread ∙ same,
+      walk ∙ ap (λ (l : List Point). l ++ deaths t p (held_after false l)) own,
+    )
+
+-- ---- all of them
+
+-- the points of a thread, as far as it came
+points_from : (w : Words) (t m : ℕ) (a : Card) (cs : List Call) (rs : List Reply) (pass : WorkerPass) → m < (layout_of w).mutexes → a.thread ≡ t → by t (at a.seen (cell_place (layout_of w) m)) ≡ [] → Worked w open_gate a cs rs pass
+    → ((card_in pass).thread ≡ t) × ArePointsOf t m (cell_place (layout_of w) m) cs rs (is_reaped pass) (by t (at (card_in pass).seen (cell_place (layout_of w) m)))
+points_from w t m a cs rs (Lives b) low mine none worked =
+    let p : ℕ = cell_place (layout_of w) m in
+    let did = added (layout_of w) t m a cs rs (card b) mine (all_answered w a cs rs b worked) in (
+      did.0,
+      subst (AreTold t m p cs rs) (sym (did.1.1 ∙ ap (λ (l : List Point). l ++ did.1.0) none)) did.1.2,
+    )
+points_from w t m a cs rs (Reaped d) low mine none worked =
+    let p : ℕ = cell_place (layout_of w) m in
+    let did = added (layout_of w) t m a (take (length rs) cs) rs worked.last mine worked.answered in
+    let own : by t (at worked.last.seen p) ≡ did.1.0 = did.1.1 ∙ ap (λ (l : List Point). l ++ did.1.0) none in
+    let next = worked.stops.2 in
+    let end = lost (layout_of w) m next.0 t worked.last (card d) did.0 low next.2 in (
+      end.3,
+      record {
+        call = next.0;
+        next = next.1;
+        answered = did.1.0;
+        told = did.1.2;
+        acts = end.0;
+        begun = end.1;
+        elsewhere = end.2;
+        all = end.4 ∙ ap (λ (l : List Point). (l ++ points_of t p end.0) ++ deaths t p (held_after false (l ++ points_of t p end.0))) own;
+      },
+    )
+
+pub together : (w : Words) (ps : List Phase) (passes : List (Pass Live)) (dies : List (Option ℕ)) (firsts workers : List Worker) (replies : List (Vec Reply Global)) (died : List Bool) (cells : List ℕ) (k : Layout') → ((i : ℕ) (a : Pass Live) → slice_get passes i ≡ Some a → card a ≡ first_card k (i + 1)) → AreFirst passes dies firsts → HaveMade w ps firsts workers replies → died ≡ map (λ v. is_reaped v.pass) workers → HasEnded w workers cells
+    → StandTogether (layout_of w) (λ t. calls_over t ps) replies died cells
+together w ps passes dies firsts workers replies died cells k cards numbers made same ended = record {
   histories = ended.ends.histories;
   legal = λ m low. subst (λ (v : ℕ). Leaves (layout_of w).threads (cell_place (layout_of w) m) (at ended.ends.histories (cell_place (layout_of w) m)) (object_of (fields_of v))) (sym (cell_is m low)) (ended.ends.leaves m low);
   told = told_at;
@@ -102,21 +189,24 @@ together w ps firsts passes replies cells k cards made ended = record {
   cell_is : (m : ℕ) → m < (layout_of w).mutexes → get_or cells m 0 ≡ get_or (last_words ended.last) (cell_place (layout_of w) m) 0
   cell_is m low = subst (λ (k : Layout'). m < k.mutexes → get_or cells m 0 ≡ get_or (last_words ended.last) (cell_place k m) 0) ended.same (ended.words.each m) low
 
-  told_at : (i : ℕ) (r : Vec Reply Global) (m : ℕ) → slice_get replies i ≡ Some r → m < (layout_of w).mutexes
-      → AreTold (i + 1) m (cell_place (layout_of w) m) (calls_over (i + 1) ps) r.items (by (i + 1) (at ended.ends.histories (cell_place (layout_of w) m)))
-  told_at i r m is low =
+  told_at : (i : ℕ) (r : Vec Reply Global) (d : Bool) (m : ℕ) → slice_get replies i ≡ Some r → slice_get died i ≡ Some d → m < (layout_of w).mutexes
+      → ArePointsOf (i + 1) m (cell_place (layout_of w) m) (calls_over (i + 1) ps) r.items d (by (i + 1) (at ended.ends.histories (cell_place (layout_of w) m)))
+  told_at i r d m is is_d low =
       let p : ℕ = cell_place (layout_of w) m in
       let js : List (List Point) = ended.ends.histories in
+      let cs : List Call = calls_over (i + 1) ps in
       let within : i < length replies = slice_get_within replies i r is in
       let many = made.as_many in
       let long = made.as_long in
-      let a = some_at firsts i (omega arith) in
-      let b = some_at passes i (omega arith) in
+      let few = numbers.as_many in
+      let a = some_at passes i (omega arith) in
+      let u = some_at firsts i (omega arith) in
+      let v = some_at workers i (omega arith) in
       let first = cards i a.0 a.1 in
-      let own = all_at (IsAmong js) (map (λ (z : Pass Live). card z) passes) i (card b.0) ended.ends.among (mapped_at (λ (z : Pass Live). card z) passes i b.0 b.1) in
-      let did = added (layout_of w) (i + 1) m (card a.0) (calls_over (i + 1) ps) r.items (card b.0) (ap (λ (c : Card). c.thread) first) (made.each i a.0 b.0 r a.1 b.1 is) in
+      let own = all_at (IsAmong js) (map (λ (z : Worker). card_in z.pass) workers) i (card_in v.0.pass) ended.ends.among (mapped_at (λ (z : Worker). card_in z.pass) workers i v.0 v.1) in
+      let works = subst (λ (z : WorkerPass). WorksFrom w cs u.0.die z r.items v.0) (numbers.each i a.0 u.0 a.1 u.1).0 (made.each i u.0 v.0 r u.1 v.1 is) in
       let none : by (i + 1) (at (card a.0).seen p) ≡ [] = ap (λ (c : Card). by (i + 1) (at c.seen p)) first in
-      let points : by (i + 1) (at js p) ≡ did.1.0 =
-      subst (λ (t : ℕ). by t (at js p) ≡ by t (at (card b.0).seen p)) did.0 (own.own p) ∙ did.1.1 ∙ ap (λ (l : List Point). l ++ did.1.0) none
-      in
-      subst (AreTold (i + 1) m p (calls_over (i + 1) ps) r.items) (sym points) did.1.2
+      let points = points_from w (i + 1) m (card a.0) cs r.items v.0.pass low (ap (λ (c : Card). c.thread) first) none works.0 in
+      let histories : by (i + 1) (at js p) ≡ by (i + 1) (at (card_in v.0.pass).seen p) = subst (λ (t : ℕ). by t (at js p) ≡ by t (at (card_in v.0.pass).seen p)) points.0 (own.own p) in
+      subst (λ (b : Bool). ArePointsOf (i + 1) m p cs r.items b (by (i + 1) (at js p))) (its_end workers died i v.0 d same v.1 is_d)
+      (subst (λ (xs : List Point). ArePointsOf (i + 1) m p cs r.items (is_reaped v.0.pass) xs) (sym histories) points.1)

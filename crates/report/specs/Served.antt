@@ -1,5 +1,5 @@
 -- What the program did with the bytes of its reader.
-use Rattle.std.specs.Prelude.{ℕ, ◌≡◌, ◌≤◌, ◌+◌, ◌⊎◌, false, All, List, ◌++◌, length, map, Option, None, MatchResult}
+use Rattle.std.specs.Prelude.{ℕ, ◌≡◌, ◌≤◌, ◌+◌, ◌⊎◌, List, ◌++◌, length, map, Option, None, MatchResult}
 use Rattle.std.specs.Io.KnownBytes.{Appends, Consumes, IsAtEnd}
 use Rattle.protocol.specs.declared.note.Note.{Note}
 use Rattle.protocol.specs.Machine.{run, notes}
@@ -15,9 +15,9 @@ use Rattle.cmdline.specs.declared.form.Form.TheVariants as form
 use Rattle.texts.specs.declared.replies.ThreadReplies.{ThreadReplies}
 use Rattle.texts.specs.declared.replies.MutexWord.{MutexWord}
 use Rattle.script.specs.declared.workload.Phase.{Phase}
-use Rattle.script.specs.Jobs.{jobs_seen, jobs_of}
+use Rattle.script.specs.Jobs.{jobs_seen, jobs_of, dies_of}
 use Rattle.report.specs.declared.threads.Answers.{Answers}
-use Rattle.report.specs.Threads.{HaveAnswered}
+use Rattle.report.specs.Threads.{HaveAnswered, OnlyNumberedDie}
 use Rattle.texts.specs.Replies.{replies_text}
 use Rattle.streams.specs.Leaves.{AppendsFront}
 use Rattle.texts.specs.Tables.{table_text}
@@ -33,19 +33,20 @@ told_of s = notes (first_state s) (events_in s)
 abbrev pub meaning : Scope → List ℕ
 meaning s = run_text (length s.threads) (length s.mutexes) (length s.conditions) (told_of s)
 
--- the lines tell of the script's threads and mutexes, by their names, what they were answered and what is left. Nobody dies yet
+-- the lines tell of the script's threads and mutexes, by their names, what they were answered, who died, and what is left
 pub record AreLines (s : Scope) (a : Answers) (threads : List ThreadReplies) (mutexes : List MutexWord) : Type 0 where
   pub thread_names : map (λ t. t.name.now) threads ≡ s.threads
   pub replies : map (λ t. t.replies.now) threads ≡ map (λ r. r.items) a.replies.items
-  pub alive : All (λ t. t.died ≡ false) threads
+  pub died : map (λ t. t.died) threads ≡ a.died.items
   pub mutex_names : map (λ m. m.name.now) mutexes ≡ s.mutexes
   pub cells : map (λ m. m.cell) mutexes ≡ a.cells.items
 
--- real threads made the script's calls, phase after phase, and were answered so
+-- real threads made the script's calls, phase after phase, as far as they lived, and were answered so. Only those die that the script says it of
 pub record Answer (s : Scope) (a : Answers) : Type 0 where
   pub phases : List Phase
   pub asked : map jobs_seen phases ≡ jobs_of s
-  pub answered : HaveAnswered (length s.threads) (length s.mutexes) phases a.replies.items a.cells.items
+  pub answered : HaveAnswered (length s.threads) (length s.mutexes) phases (dies_of s) a.replies.items a.died.items a.cells.items
+  pub numbered : OnlyNumberedDie (dies_of s) a.died.items
 
 -- how a script's events leave its threads, mutexes and condition variables
 abbrev pub meant_table : Scope → List ℕ

@@ -1,5 +1,5 @@
 -- A script's calls on real threads.
-use Rattle.std.specs.Prelude.{ℕ, ◌≡◌, ◌+◌, ◌<◌, List, [], ◌++◌, length, map, slice_index, All, Vec, Some, slice_get, ◌==◌, if◌then◌else◌}
+use Rattle.std.specs.Prelude.{ℕ, ◌≡◌, ◌+◌, ◌<◌, Bool, true, false, Option, None, Some, List, [], ◌++◌, length, map, slice_index, All, Vec, slice_get, ◌==◌, if◌then◌else◌}
 use Rattle.std.specs.declared.alloc.Global.{Global}
 use Rattle.std.specs.List.{flat_map}
 use Rattle.keys.specs.Layouts.{cell_place, one_process}
@@ -10,13 +10,17 @@ use Rattle.ruledwords.specs.declared.pass.Last.{Last}
 use Rattle.ruledwords.specs.declared.pass.Live.{Live}
 use Rattle.ruledwords.specs.declared.pass.Pass.{Pass}
 use Rattle.ruledwords.specs.declared.pass.Words.{Words}
-use Rattle.ruledwords.specs.Passes.{card, layout_of, presets_of, last_layout, last_words, IsPassOf}
+use Rattle.ruledwords.specs.Passes.{card, layout_of, presets_of, last_layout, last_words}
 use Rattle.ruledwords.specs.Rules.{first_card, Ends}
 use Rattle.script.specs.declared.workload.Job.{Job as Ordered}
 use Rattle.script.specs.declared.workload.Phase.{Phase}
 use Rattle.threadbench.specs.declared.job.Job.{Job}
 use Rattle.threadbench.specs.declared.job.Record.{Record}
-use Rattle.threadbench.specs.Answered.{Answered}
+use Rattle.threadbench.specs.declared.job.WorkerPass.{WorkerPass}
+use Rattle.threadbench.specs.declared.job.WorkerPass.TheVariants.{Lives, Reaped}
+use Rattle.threadbench.specs.Answered.{card_in, IsWorkerOf}
+use Rattle.threadbench.specs.Jobs.{IsLeftOf, Worked}
+use Rattle.report.specs.declared.threads.Worker.{Worker}
 use Rattle.report.specs.Histories.{StandTogether}
 
 -- calls on the first m mutexes
@@ -40,56 +44,88 @@ calls_in t p = flat_map (calls_at t) p.jobs.items
 abbrev pub calls_over : ℕ → List Phase → List Call
 calls_over t ps = flat_map (calls_in t) ps
 
--- the pass of each thread, that of thread 1 first, has its job in a phase: all calls of the thread
-pub record AreHired (p : Phase) (passes : List (Pass Live)) (jobs : List Job) : Type 0 where
-  pub as_many : length jobs ≡ length passes
-  pub each : (i : ℕ) (a : Pass Live) (j : Job) → slice_get passes i ≡ Some a → slice_get jobs i ≡ Some j → (j.pass ≡ a) × (j.calls.items ≡ calls_in (i + 1) p)
+-- the gate that lets every call through
+abbrev pub open_gate : ℕ → ℕ → Option Bool
+open_gate = λ t i. Some true
 
--- each record's pass, and its replies behind those of its thread
-pub record AreGathered (records : List Record) (passes : List (Pass Live)) (before after : List (Vec Reply Global)) : Type 0 where
-  pub as_many : length passes ≡ length records
+-- a thread with this pass and this number made these calls, as far as it lived, and was answered so. One that had died makes none
+abbrev pub WorksFrom : Words → List Call → Option ℕ → WorkerPass → List Reply → Worker → Type 0
+WorksFrom w calls die (Lives a) rs v = Worked w open_gate (card a) calls rs v.pass × IsLeftOf die v.pass v.die
+WorksFrom w calls die (Reaped d) rs v = (v.pass ≡ Reaped d) × (rs ≡ []) × (v.die ≡ None)
+
+abbrev pub Works : Words → List Call → Worker → List Reply → Worker → Type 0
+Works w calls u rs v = WorksFrom w calls u.die u.pass rs v
+
+abbrev pub is_reaped : WorkerPass → Bool
+is_reaped (Lives p) = false
+is_reaped (Reaped p) = true
+
+-- each pass and its thread's number, before the first phase
+pub record AreFirst (passes : List (Pass Live)) (dies : List (Option ℕ)) (workers : List Worker) : Type 0 where
+  pub as_many : length workers ≡ length passes
+  pub each : (i : ℕ) (a : Pass Live) (v : Worker) → slice_get passes i ≡ Some a → slice_get workers i ≡ Some v → (v.pass ≡ Lives a) × (slice_get dies i ≡ Some v.die)
+
+-- each thread, thread 1 first, has its job in a phase: all its calls, and what is left of its number
+pub record AreHired (p : Phase) (workers : List Worker) (jobs : List Job) : Type 0 where
+  pub as_many : length jobs ≡ length workers
+  pub each : (i : ℕ) (v : Worker) (j : Job) → slice_get workers i ≡ Some v → slice_get jobs i ≡ Some j → (j.pass ≡ v.pass) × (j.die ≡ v.die) × (j.calls.items ≡ calls_in (i + 1) p)
+
+-- what each record gives back, and its replies behind those of its thread
+pub record AreGathered (records : List Record) (workers : List Worker) (before after : List (Vec Reply Global)) : Type 0 where
+  pub as_many : length workers ≡ length records
   pub as_long : length after ≡ length before
-  pub each : (i : ℕ) (k : Record) (b : Pass Live) (r r' : Vec Reply Global) → slice_get records i ≡ Some k → slice_get passes i ≡ Some b → slice_get before i ≡ Some r → slice_get after i ≡ Some r' → (b ≡ k.pass) × (r'.items ≡ r.items ++ k.replies.items)
+  pub each : (i : ℕ) (k : Record) (v : Worker) (r r' : Vec Reply Global) → slice_get records i ≡ Some k → slice_get workers i ≡ Some v → slice_get before i ≡ Some r → slice_get after i ≡ Some r' → (v ≡ record { pass = k.pass; die = k.die }) × (r'.items ≡ r.items ++ k.replies.items)
 
 -- a phase: each thread made its calls in it, and their replies stand behind its others
-pub record HaveWorked (w : Words) (p : Phase) (passes after : List (Pass Live)) (replies replies' : List (Vec Reply Global)) : Type 0 where
-  pub as_many : length after ≡ length passes
+pub record HaveWorked (w : Words) (p : Phase) (workers after : List Worker) (replies replies' : List (Vec Reply Global)) : Type 0 where
+  pub as_many : length after ≡ length workers
   pub as_long : length replies' ≡ length replies
-  pub right : All (λ b. IsPassOf w b) after
-  pub each : (i : ℕ) (a b : Pass Live) (r r' : Vec Reply Global) → slice_get passes i ≡ Some a → slice_get after i ≡ Some b → slice_get replies i ≡ Some r → slice_get replies' i ≡ Some r' → (more : List Reply) × (r'.items ≡ r.items ++ more) × Answered (layout_of w) (card a) (calls_in (i + 1) p) more (card b)
+  pub right : All (λ v. IsWorkerOf w v.pass) after
+  pub each : (i : ℕ) (u v : Worker) (r r' : Vec Reply Global) → slice_get workers i ≡ Some u → slice_get after i ≡ Some v → slice_get replies i ≡ Some r → slice_get replies' i ≡ Some r' → (more : List Reply) × (r'.items ≡ r.items ++ more) × Works w (calls_in (i + 1) p) u more v
 
--- from their first passes on, the threads made their calls in these phases, and were answered so
-pub record HaveMade (w : Words) (ps : List Phase) (firsts passes : List (Pass Live)) (replies : List (Vec Reply Global)) : Type 0 where
-  pub as_many : length passes ≡ length firsts
+-- from the first phase on, the threads made their calls in these phases, and were answered so
+pub record HaveMade (w : Words) (ps : List Phase) (firsts workers : List Worker) (replies : List (Vec Reply Global)) : Type 0 where
+  pub as_many : length workers ≡ length firsts
   pub as_long : length replies ≡ length firsts
-  pub right : All (λ b. IsPassOf w b) passes
-  pub each : (i : ℕ) (a b : Pass Live) (r : Vec Reply Global) → slice_get firsts i ≡ Some a → slice_get passes i ≡ Some b → slice_get replies i ≡ Some r → Answered (layout_of w) (card a) (calls_over (i + 1) ps) r.items (card b)
+  pub right : All (λ v. IsWorkerOf w v.pass) workers
+  pub each : (i : ℕ) (u v : Worker) (r : Vec Reply Global) → slice_get firsts i ≡ Some u → slice_get workers i ≡ Some v → slice_get replies i ≡ Some r → Works w (calls_over (i + 1) ps) u r.items v
 
 -- the words of all cells, that of mutex 0 first
 pub record AreCells (l : Last) (cells : List ℕ) : Type 0 where
   pub as_many : length cells ≡ (last_layout l).mutexes
   pub each : (m : ℕ) → m < (last_layout l).mutexes → slice_index cells m ≡ slice_index (last_words l) (cell_place (last_layout l) m)
 
--- the end of words, where all these passes met; and these are the cells' words
-pub record HasEnded (w : Words) (passes : List (Pass Live)) (cells : List ℕ) : Type 0 where
+-- the end of words, where the passes of all these threads met; and these are the cells' words
+pub record HasEnded (w : Words) (workers : List Worker) (cells : List ℕ) : Type 0 where
   pub last : Last
   pub same : last_layout last ≡ layout_of w
-  pub ends : Ends (layout_of w) (presets_of w) (map (λ p. card p) passes) (last_words last)
+  pub ends : Ends (layout_of w) (presets_of w) (map (λ v. card_in v.pass) workers) (last_words last)
   pub words : AreCells last cells
 
--- what came of the calls of so many threads on so many mutexes: there were words, on which each thread made its calls in these phases from its first pass on and was answered so,
--- and what is left of the words' cells are these. All replies of all threads stand in one history of each mutex
-pub record HaveAnswered (threads mutexes : ℕ) (ps : List Phase) (replies : List (Vec Reply Global)) (cells : List ℕ) : Type 0 where
+-- what came of the calls of so many threads, each with its number or without, on so many mutexes: there were words, on which each thread made its calls in these phases from its first pass on, as far as it
+-- lived, and was answered so; these threads died; and what is left of the words' cells are these. All replies and deaths of all threads stand in one history of each mutex
+pub record HaveAnswered (threads mutexes : ℕ) (ps : List Phase) (dies : List (Option ℕ)) (replies : List (Vec Reply Global)) (died : List Bool) (cells : List ℕ) : Type 0 where
   pub words : Words
   pub layout : layout_of words ≡ one_process threads mutexes []
-  pub firsts : List (Pass Live)
-  pub as_many : length firsts ≡ threads
-  pub cards : (i : ℕ) (a : Pass Live) → slice_get firsts i ≡ Some a → card a ≡ first_card (layout_of words) (i + 1)
   pub passes : List (Pass Live)
-  pub made : HaveMade words ps firsts passes replies
-  pub ended : HasEnded words passes cells
-  pub together : StandTogether (layout_of words) (λ t. calls_over t ps) replies cells
+  pub as_many : length passes ≡ threads
+  pub cards : (i : ℕ) (a : Pass Live) → slice_get passes i ≡ Some a → card a ≡ first_card (layout_of words) (i + 1)
+  pub firsts : List Worker
+  pub numbers : AreFirst passes dies firsts
+  pub workers : List Worker
+  pub made : HaveMade words ps firsts workers replies
+  pub dead : died ≡ map (λ v. is_reaped v.pass) workers
+  pub ended : HasEnded words workers cells
+  pub together : StandTogether (layout_of words) (λ t. calls_over t ps) replies died cells
 
--- each thread has a reply for each of its calls
-abbrev pub HaveReplies : List Phase → List (Vec Reply Global) → Type 0
-HaveReplies ps replies = (i : ℕ) (r : Vec Reply Global) → slice_get replies i ≡ Some r → length r.items ≡ length (calls_over (i + 1) ps)
+-- how many replies a thread has for so many calls: as many where it lives, and fewer where it died
+abbrev pub IsCountOf : Bool → ℕ → ℕ → Type 0
+IsCountOf true replies calls = replies < calls
+IsCountOf false replies calls = replies ≡ calls
+
+abbrev pub HaveReplies : List Phase → List (Vec Reply Global) → List Bool → Type 0
+HaveReplies ps replies died = (i : ℕ) (r : Vec Reply Global) (d : Bool) → slice_get replies i ≡ Some r → slice_get died i ≡ Some d → IsCountOf d (length r.items) (length (calls_over (i + 1) ps))
+
+-- only threads with a number die
+abbrev pub OnlyNumberedDie : List (Option ℕ) → List Bool → Type 0
+OnlyNumberedDie dies died = (i : ℕ) → slice_get dies i ≡ Some None → slice_get died i ≡ Some true → ⊥

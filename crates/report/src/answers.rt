@@ -1,5 +1,5 @@
 //! What a script's threads were answered, by the names of the script.
-ghost use Rattle.std.specs.Prelude.{◌≡◌, false, All, length, map, IfOk};
+ghost use Rattle.std.specs.Prelude.{◌≡◌, length, map, IfOk};
 
 use crate::threads::Answers;
 use lockword::Tid;
@@ -7,16 +7,17 @@ use script::Script;
 use std::alloc::{AllocError, Global};
 use texts::{MutexWord, ThreadReplies};
 
-/// Each thread's name and replies, in the order of the threads' ids.
+/// Each thread's name, its replies and whether it died, in the order of the threads' ids.
 pub fn thread_replies<'a>(
     alloc: Global,
     script: &'a Script,
     answers: &'a Answers,
 ) -> Result<Vec<ThreadReplies<'a>>, AllocError>
-    requires { length answers.now.replies.items ≡ length script.now.threads }
+    requires replies { length answers.now.replies.items ≡ length script.now.threads }
+    requires died { length answers.now.died.items ≡ length script.now.threads }
     ensures names { IfOk result (λ v. map (λ t. t.name.now) v.items ≡ script.now.threads) }
     ensures replies { IfOk result (λ v. map (λ t. t.replies.now) v.items ≡ map (λ r. r.items) answers.now.replies.items) }
-    ensures alive { IfOk result (λ v. All (λ t. t.died ≡ false) v.items) }
+    ensures died { IfOk result (λ v. map (λ t. t.died) v.items ≡ answers.now.died.items) }
 {
     let mut lines = Vec::new(alloc);
     let threads = script.threads();
@@ -25,7 +26,7 @@ pub fn thread_replies<'a>(
         lines.push(ThreadReplies {
             name: script.thread_name(thread),
             replies: answers.replies[usize::from(index)].as_slice(),
-            died: false,
+            died: answers.died[usize::from(index)],
         })?;
     }
     Ok(lines)

@@ -163,6 +163,7 @@ fn tell_answers<W: Output>(
     out: &mut W,
 ) -> Result<u8, Failure>
     requires replies { length answers.now.replies.items ≡ length script.now.threads }
+    requires died { length answers.now.died.items ≡ length script.now.threads }
     requires cells { length answers.now.cells.items ≡ length script.now.mutexes }
     ensures ends { IfOk result (λ status. (status ≡ 0) × Tells (W.contents out.old) (W.contents out.new) script.now answers.now) }
     ensures let_go { OnOk result (W.is_let_go out.new) }

@@ -1,23 +1,53 @@
 //! A script's calls on real threads, phase by phase.
-ghost use Rattle.std.specs.Prelude.{◌≡◌, [], All, length, IfOk};
-ghost use Rattle.ruledwords.specs.Passes.{layout_of, last_layout, IsPassOf};
-ghost use Rattle.report.specs.Threads.{IsRightPhase, AreRightPhases, calls_in, AreHired, AreGathered, AreCells, HaveWorked, HaveMade, HasEnded, HaveAnswered, HaveReplies};
+ghost use Rattle.std.specs.Prelude.{◌≡◌, [], All, length, map, IfOk};
+ghost use Rattle.ruledwords.specs.Passes.{card, layout_of, last_layout, IsPassOf};
+ghost use Rattle.threadbench.specs.Answered.{card_in, IsWorkerOf};
+ghost use Rattle.threadbench.specs.Jobs.{LivesOn};
+ghost use Rattle.report.specs.Threads.{is_reaped, IsRightPhase, AreRightPhases, calls_in, AreFirst, AreHired, AreGathered, AreCells, HaveWorked, HaveMade, HasEnded, HaveAnswered, HaveReplies, OnlyNumberedDie};
 
 use keys::{Layout, NoMem};
 use lockword::Reply;
 use mutex::Call;
-use ruledwords::{Last, Live, Pass};
+use ruledwords::{Last, Live, Pass, Spent};
 use script::{Jobs, Phase, Script};
 use std::alloc::{AllocError, Global};
 use std::sync::Wait;
 use std::thread::Threads;
-use threadbench::{Bench, Job, Open, Record};
+use threadbench::{Bench, Job, Open, Record, WorkerPass};
 
-/// What each thread's calls were answered, in the order of their ids, and the word of each mutex's cell when all have ended.
+/// What each thread's calls were answered and whether it died, in the order of their ids, and the word of each mutex's cell when all have ended.
 #[derive(Drop)]
 pub(crate) struct Answers {
     pub(crate) replies: Vec<Vec<Reply>>,
+    pub(crate) died: Vec<bool>,
     pub(crate) cells: Vec<u64>,
+}
+
+/// A thread between two phases: its pass, and what is left of the number before which of its accesses it dies.
+#[derive(Drop)]
+pub(crate) struct Worker {
+    pass: WorkerPass,
+    die: Option<u32>,
+}
+
+/// The threads before the first phase.
+fn workers_of(
+    alloc: Global,
+    passes: Vec<Pass<Live>>,
+    dies: &[Option<u32>],
+) -> Result<Vec<Worker>, AllocError>
+    requires { length dies.now ≡ length passes.items }
+    ensures { IfOk result (λ workers. AreFirst passes.items dies.now workers.items) }
+{
+    let mut workers = Vec::new(alloc);
+    for pass in passes {
+        let die = dies[workers.len()];
+        workers.push(Worker {
+            pass: WorkerPass::Lives(pass),
+            die,
+        })?;
+    }
+    Ok(workers)
 }
 
 /// The calls of a thread in a phase.
@@ -34,33 +64,37 @@ fn calls_of(alloc: Global, phase: &Phase, thread: usize) -> Result<Vec<Call>, Al
 }
 
 /// A job in a phase for each thread, which has no calls where the phase has none for it.
-fn hire(alloc: Global, passes: Vec<Pass<Live>>, phase: &Phase) -> Result<Vec<Job>, AllocError>
-    ensures { IfOk result (λ jobs. AreHired phase.now passes.items jobs.items) }
+fn hire(alloc: Global, workers: Vec<Worker>, phase: &Phase) -> Result<Vec<Job>, AllocError>
+    ensures { IfOk result (λ jobs. AreHired phase.now workers.items jobs.items) }
 {
     let mut jobs = Vec::new(alloc);
-    for pass in passes {
+    for worker in workers {
+        let Worker { pass, die } = worker;
         let thread = jobs.len() + 1;
         let calls = calls_of(alloc, phase, thread)?;
-        jobs.push(Job { pass, calls })?;
+        jobs.push(Job { pass, calls, die })?;
     }
     Ok(jobs)
 }
 
-/// The passes after a phase. The replies of each thread are added to its others.
+/// The threads after a phase. The replies of each are added to its others.
 fn gather(
     alloc: Global,
     records: Vec<Record>,
     replies: &mut Vec<Vec<Reply>>,
-) -> Result<Vec<Pass<Live>>, AllocError>
+) -> Result<Vec<Worker>, AllocError>
     requires { length replies.old.items ≡ length records.items }
-    ensures { IfOk result (λ passes. AreGathered records.items passes.items replies.old.items replies.new.items) }
+    ensures { IfOk result (λ workers. AreGathered records.items workers.items replies.old.items replies.new.items) }
 {
-    let mut passes = Vec::new(alloc);
+    let mut workers = Vec::new(alloc);
     for record in records {
-        replies[passes.len()].extend_from_slice(record.replies.as_slice())?;
-        passes.push(record.pass)?;
+        replies[workers.len()].extend_from_slice(record.replies.as_slice())?;
+        workers.push(Worker {
+            pass: record.pass,
+            die: record.die,
+        })?;
     }
-    Ok(passes)
+    Ok(workers)
 }
 
 /// Works a phase.
@@ -69,22 +103,22 @@ fn run_phase<R: Threads + Wait + Sync>(
     alloc: Global,
     bench: &Bench,
     phase: &Phase,
-    passes: Vec<Pass<Live>>,
+    workers: Vec<Worker>,
     replies: &mut Vec<Vec<Reply>>,
-) -> Result<Vec<Pass<Live>>, NoMem>
+) -> Result<Vec<Worker>, NoMem>
     requires possible { IsRightPhase (layout_of bench.now).mutexes phase.now }
-    requires right { All (λ p. IsPassOf bench.now p) passes.items }
-    requires as_many { length replies.old.items ≡ length passes.items }
-    ensures { IfOk result (λ after. HaveWorked bench.now phase.now passes.items after.items replies.old.items replies.new.items) }
+    requires right { All (λ v. IsWorkerOf bench.now v.pass) workers.items }
+    requires as_many { length replies.old.items ≡ length workers.items }
+    ensures { IfOk result (λ after. HaveWorked bench.now phase.now workers.items after.items replies.old.items replies.new.items) }
 {
-    let Ok(jobs) = hire(alloc, passes, phase) else {
+    let Ok(jobs) = hire(alloc, workers, phase) else {
         return Err(NoMem);
     };
     let Ok(records) = bench.work(rt, alloc, jobs, &Open) else {
         return Err(NoMem);
     };
     match gather(alloc, records, replies) {
-        Ok(passes) => Ok(passes),
+        Ok(workers) => Ok(workers),
         Err(_) => Err(NoMem),
     }
 }
@@ -95,22 +129,22 @@ fn run_phases<R: Threads + Wait + Sync>(
     alloc: Global,
     bench: &Bench,
     phases: &[Phase],
-    passes: Vec<Pass<Live>>,
+    workers: Vec<Worker>,
     replies: &mut Vec<Vec<Reply>>,
-) -> Result<Vec<Pass<Live>>, NoMem>
+) -> Result<Vec<Worker>, NoMem>
     requires possible { AreRightPhases (layout_of bench.now).mutexes phases.now }
-    requires right { All (λ p. IsPassOf bench.now p) passes.items }
-    requires as_many { length replies.old.items ≡ length passes.items }
+    requires live { All (λ v. LivesOn bench.now v.pass) workers.items }
+    requires as_many { length replies.old.items ≡ length workers.items }
     requires empty { All (λ r. r.items ≡ []) replies.old.items }
-    ensures { IfOk result (λ after. HaveMade bench.now phases.now passes.items after.items replies.new.items) }
+    ensures { IfOk result (λ after. HaveMade bench.now phases.now workers.items after.items replies.new.items) }
 {
-    let mut passes = passes;
+    let mut workers = workers;
     for phase in phases {
         if !phase.jobs.is_empty() {
-            passes = run_phase(rt, alloc, bench, phase, passes, replies)?;
+            workers = run_phase(rt, alloc, bench, phase, workers, replies)?;
         }
     }
-    Ok(passes)
+    Ok(workers)
 }
 
 /// No replies yet, for each thread.
@@ -122,6 +156,34 @@ fn no_replies(alloc: Global, threads: u8) -> Result<Vec<Vec<Reply>>, AllocError>
         replies.push(Vec::new(alloc))?;
     }
     Ok(replies)
+}
+
+/// Which threads have died.
+fn deaths(alloc: Global, workers: &[Worker]) -> Result<Vec<bool>, AllocError>
+    ensures { IfOk result (λ died. died.items ≡ map (λ v. is_reaped v.pass) workers.now) }
+{
+    let mut died = Vec::new(alloc);
+    for worker in workers {
+        died.push(matches!(worker.pass, WorkerPass::Reaped(_)))?;
+    }
+    Ok(died)
+}
+
+/// The threads' passes, put aside for the end.
+fn spent(
+    alloc: Global,
+    _bench: &Bench,
+    workers: Vec<Worker>,
+) -> Result<Vec<Pass<Spent>>, AllocError>
+    requires { All (λ v. IsWorkerOf _bench.now v.pass) workers.items }
+    ensures passes { IfOk result (λ passes. All (λ p. IsPassOf _bench.now p) passes.items) }
+    ensures cards { IfOk result (λ passes. map (λ p. card p) passes.items ≡ map (λ v. card_in v.pass) workers.items) }
+{
+    let mut passes = Vec::new(alloc);
+    for worker in workers {
+        passes.push(worker.pass.spent())?;
+    }
+    Ok(passes)
 }
 
 /// The word of each mutex's cell.
@@ -140,18 +202,36 @@ fn cells_of(alloc: Global, last: &Last, mutexes: u16) -> Result<Vec<u64>, AllocE
 fn finish(
     alloc: Global,
     bench: Bench,
-    passes: Vec<Pass<Live>>,
+    workers: Vec<Worker>,
     mutexes: u16,
 ) -> Result<Vec<u64>, AllocError>
     requires mutexes { mutexes ≡ (layout_of bench).mutexes }
-    requires right { All (λ p. IsPassOf bench p) passes.items }
-    ensures { IfOk result (λ cells. HasEnded bench passes.items cells.items) }
+    requires right { All (λ v. IsWorkerOf bench v.pass) workers.items }
+    ensures { IfOk result (λ cells. HasEnded bench workers.items cells.items) }
 {
+    let passes = spent(alloc, &bench, workers)?;
     cells_of(alloc, &bench.close_all(passes), mutexes)
 }
 
-/// Lets real threads make the calls of a script, phase after phase, and tells what they were answered and what is left in the cells. A phase begins when
-/// all calls of the one before have been answered. Refused where no memory is left.
+/// Which threads have died; then ends the bench and reads the cells.
+fn end(
+    alloc: Global,
+    bench: Bench,
+    workers: Vec<Worker>,
+    mutexes: u16,
+) -> Result<(Vec<bool>, Vec<u64>), AllocError>
+    requires mutexes { mutexes ≡ (layout_of bench).mutexes }
+    requires right { All (λ v. IsWorkerOf bench v.pass) workers.items }
+    ensures died { IfOk result (λ r. r.0.items ≡ map (λ v. is_reaped v.pass) workers.items) }
+    ensures ended { IfOk result (λ r. HasEnded bench workers.items r.1.items) }
+{
+    let died = deaths(alloc, workers.as_slice())?;
+    let cells = finish(alloc, bench, workers, mutexes)?;
+    Ok((died, cells))
+}
+
+/// Lets real threads make the calls of a script, phase after phase, and tells what they were answered, which of them died, and what is left in the cells. A phase begins when
+/// all calls of the one before have been answered, or their threads have died and the walks over their lists have ended. Refused where no memory is left.
 pub(crate) fn answers_of<R: Threads + Wait + Sync>(
     rt: &R,
     alloc: Global,
@@ -159,20 +239,30 @@ pub(crate) fn answers_of<R: Threads + Wait + Sync>(
     jobs: Jobs,
 ) -> Result<Answers, NoMem>
     requires possible { AreRightPhases (length script.now.mutexes) jobs.phases.items }
+    requires numbers { length jobs.dies.items ≡ length script.now.threads }
     ensures replies { IfOk result (λ a. length a.replies.items ≡ length script.now.threads) }
+    ensures died { IfOk result (λ a. length a.died.items ≡ length script.now.threads) }
     ensures cells { IfOk result (λ a. length a.cells.items ≡ length script.now.mutexes) }
-    ensures answered { IfOk result (λ a. HaveAnswered (length script.now.threads) (length script.now.mutexes) jobs.phases.items a.replies.items a.cells.items) }
-    ensures each { IfOk result (λ a. HaveReplies jobs.phases.items a.replies.items) }
+    ensures answered { IfOk result (λ a. HaveAnswered (length script.now.threads) (length script.now.mutexes) jobs.phases.items jobs.dies.items a.replies.items a.died.items a.cells.items) }
+    ensures each { IfOk result (λ a. HaveReplies jobs.phases.items a.replies.items a.died.items) }
+    ensures numbered { IfOk result (λ a. OnlyNumberedDie jobs.dies.items a.died.items) }
 {
     let layout = Layout::new(script.threads(), script.mutexes(), &[]).unwrap();
     let (bench, passes) = Bench::new(alloc, layout, &[])?;
+    let Ok(workers) = workers_of(alloc, passes, jobs.dies.as_slice()) else {
+        return Err(NoMem);
+    };
     let Ok(mut replies) = no_replies(alloc, script.threads()) else {
         return Err(NoMem);
     };
     let phases = jobs.phases.as_slice();
-    let passes = run_phases(rt, alloc, &bench, phases, passes, &mut replies)?;
-    match finish(alloc, bench, passes, script.mutexes()) {
-        Ok(cells) => Ok(Answers { replies, cells }),
+    let workers = run_phases(rt, alloc, &bench, phases, workers, &mut replies)?;
+    match end(alloc, bench, workers, script.mutexes()) {
+        Ok((died, cells)) => Ok(Answers {
+            replies,
+            died,
+            cells,
+        }),
         Err(_) => Err(NoMem),
     }
 }

@@ -1,8 +1,8 @@
-use Rattle.std.proofs.Common.{◌≡◌, false, All, map, take}
+use Rattle.std.proofs.Common.{◌≡◌, map, take}
 use Rattle.report.proofs.answers.thread_replies.Given as goal
 
 abbrev pub invariant-loop-index : goal.invariant-loop-index
 invariant-loop-index l =
     (map (λ t. t.name.now) l.lines.items ≡ take l.index l.script.threads)
     × (map (λ t. t.replies.now) l.lines.items ≡ take l.index (map (λ r. r.items) l.answers.replies.items))
-    × All (λ t. t.died ≡ false) l.lines.items
+    × (map (λ t. t.died) l.lines.items ≡ take l.index l.answers.died.items)

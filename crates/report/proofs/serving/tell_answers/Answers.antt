@@ -11,7 +11,7 @@ returns-in-Ok-write_told-clause-ends g c =
     let lines : AreLines script answers c.in-Ok.threads.items c.in-Ok-mutex_words.mutexes.items = record {
       thread_names = c.in-Ok.ensures.names;
       replies = c.in-Ok.ensures.replies;
-      alive = c.in-Ok.ensures.alive;
+      died = c.in-Ok.ensures.died;
       mutex_names = c.in-Ok-mutex_words.ensures.names;
       cells = c.in-Ok-mutex_words.ensures.cells;
     } in (

@@ -1,4 +1,4 @@
-use Rattle.std.proofs.Common.{◌≡◌, ◌+◌, ℕ, [], length, sym, ap, ◌∙◌, subst, List, Ok, Some, slice_get}
+use Rattle.std.proofs.Common.{◌≡◌, ◌+◌, ℕ, [], length, sym, ap, ◌∙◌, subst, List, Ok, Option, Some, slice_get}
 use Rattle.keys.specs.Layouts.{Layout', one_process}
 use Rattle.keys.specs.Refusals.{Lays}
 use Rattle.ruledwords.specs.declared.pass.Live.{Live}
@@ -6,13 +6,16 @@ use Rattle.ruledwords.specs.declared.pass.Pass.{Pass}
 use Rattle.ruledwords.specs.Passes.{card, layout_of}
 use Rattle.ruledwords.specs.Rules.{first_card}
 use Rattle.script.specs.declared.workload.Phase.{Phase}
-use Rattle.report.specs.Threads.{HaveMade, HaveReplies}
-use Rattle.report.proofs.Phases.{have_replies}
+use Rattle.report.specs.Threads.{AreFirst, HaveMade, HaveReplies, OnlyNumberedDie}
+use Rattle.report.proofs.Phases.{firsts_live, have_replies, only_numbered}
 use Rattle.report.proofs.Told.{together}
 use Rattle.report.proofs.threads.answers_of.Goals as goal
 
-pub returns-in-Ok-finish-clause-answered : goal.returns-in-Ok-finish-clause-answered
-returns-in-Ok-finish-clause-answered g c =
+pub run_phases-requires-clause-live : goal.run_phases-requires-clause-live
+run_phases-requires-clause-live g c κs within = firsts_live c.in_ok-bench.bench c.in_ok-bench.passes.items c.as_slice.result.now c.in-Ok.workers.items c.in-Ok.ensures c.in_ok-bench.ensures.each
+
+pub returns-in-Ok-end-clause-answered : goal.returns-in-Ok-end-clause-answered
+returns-in-Ok-end-clause-answered g c =
     let bench = c.in_ok-bench.bench in
     let s = c.args.script.now in
     let lays : Lays c.threads.result c.mutexes.result [] (Ok c.unwrap-layout.result) = subst (Lays c.threads.result c.mutexes.result []) c.unwrap-layout.ensures c.new.ensures in
@@ -23,20 +26,31 @@ returns-in-Ok-finish-clause-answered g c =
     let cards : (i : ℕ) (a : Pass Live) → slice_get c.in_ok-bench.passes.items i ≡ Some a → card a ≡ first_card (layout_of bench) (i + 1) =
     λ i a is. c.in_ok-bench.ensures.cards i a is ∙ ap (λ (k : Layout'). first_card k (i + 1)) (sym c.in_ok-bench.ensures.layout)
     in
-    let made = subst (λ (ps : List Phase). HaveMade bench ps c.in_ok-bench.passes.items c.in_ok-passes.passes.items c.run_phases.new.replies.items) c.as_slice-phases.ensures.value c.in_ok-passes.ensures in
+    let numbers = subst (λ (ns : List (Option ℕ)). AreFirst c.in_ok-bench.passes.items ns c.in-Ok.workers.items) c.as_slice.ensures.value c.in-Ok.ensures in
+    let made = subst (λ (ps : List Phase). HaveMade bench ps c.in-Ok.workers.items c.in_ok-workers.workers.items c.run_phases.new.replies.items) c.as_slice-phases.ensures.value c.in_ok-workers.ensures in
     record {
       words = bench;
       layout = c.in_ok-bench.ensures.layout ∙ layout;
-      firsts = c.in_ok-bench.passes.items;
+      passes = c.in_ok-bench.passes.items;
       as_many = c.in_ok-bench.ensures.passes ∙ many;
       cards = cards;
-      passes = c.in_ok-passes.passes.items;
+      firsts = c.in-Ok.workers.items;
+      numbers = numbers;
+      workers = c.in_ok-workers.workers.items;
       made = made;
-      ended = c.in-Ok-finish.ensures;
-      together = together bench _ c.in_ok-bench.passes.items c.in_ok-passes.passes.items c.run_phases.new.replies.items _ (layout_of bench) cards made c.in-Ok-finish.ensures;
+      dead = c.in-Ok-end.ensures.died;
+      ended = c.in-Ok-end.ensures.ended;
+      together = together bench _ c.in_ok-bench.passes.items _ c.in-Ok.workers.items c.in_ok-workers.workers.items c.run_phases.new.replies.items _ _ (layout_of bench) cards numbers made c.in-Ok-end.ensures.died c.in-Ok-end.ensures.ended;
     }
 
-pub returns-in-Ok-finish-clause-each : goal.returns-in-Ok-finish-clause-each
-returns-in-Ok-finish-clause-each g c =
-    subst (λ (ps : List Phase). HaveReplies ps c.run_phases.new.replies.items) c.as_slice-phases.ensures.value
-    (have_replies c.in_ok-bench.bench c.as_slice-phases.result.now c.in_ok-bench.passes.items c.in_ok-passes.passes.items c.run_phases.new.replies.items c.in_ok-passes.ensures)
+pub returns-in-Ok-end-clause-each : goal.returns-in-Ok-end-clause-each
+returns-in-Ok-end-clause-each g c =
+    let live = firsts_live c.in_ok-bench.bench c.in_ok-bench.passes.items c.as_slice.result.now c.in-Ok.workers.items c.in-Ok.ensures c.in_ok-bench.ensures.each in
+    subst (λ (ps : List Phase). HaveReplies ps c.run_phases.new.replies.items c.in-Ok-end.died.items) c.as_slice-phases.ensures.value
+    (have_replies c.in_ok-bench.bench c.as_slice-phases.result.now c.in-Ok.workers.items c.in_ok-workers.workers.items c.run_phases.new.replies.items c.in-Ok-end.died.items live c.in_ok-workers.ensures c.in-Ok-end.ensures.died)
+
+pub returns-in-Ok-end-clause-numbered : goal.returns-in-Ok-end-clause-numbered
+returns-in-Ok-end-clause-numbered g c =
+    let live = firsts_live c.in_ok-bench.bench c.in_ok-bench.passes.items c.as_slice.result.now c.in-Ok.workers.items c.in-Ok.ensures c.in_ok-bench.ensures.each in
+    subst (λ (ns : List (Option ℕ)). OnlyNumberedDie ns c.in-Ok-end.died.items) c.as_slice.ensures.value
+    (only_numbered c.in_ok-bench.bench c.as_slice-phases.result.now c.in_ok-bench.passes.items c.as_slice.result.now c.in-Ok.workers.items c.in_ok-workers.workers.items c.run_phases.new.replies.items c.in-Ok-end.died.items c.in-Ok.ensures live c.in_ok-workers.ensures c.in-Ok-end.ensures.died)

@@ -9,9 +9,9 @@ loop-record-preserved c =
     let done = so_far.2.0 in
     let record' = c.in-Some.record in
     let first = c.in-Some.ensures.steps in
-    let ok = c.loop-record.passes.ok in
+    let ok = c.loop-record.workers.ok in
     let len = c.len.ensures in
-    let count : c.len.result ≡ length c.loop-record.passes.items = omega arith in
+    let count : c.len.result ≡ length c.loop-record.workers.items = omega arith in
     let fits : c.len.result < length c.loop-record.replies.items =
     let many = so_far.2.2.as_many in
     let long = so_far.2.2.as_long in
@@ -23,8 +23,8 @@ loop-record-preserved c =
         done ++ record' ∷ [],
         append_assoc done (record' ∷ []) (into_iter_items c.next.new.self) ∙ ap (λ rest. done ++ rest) (sym first.0) ∙ so_far.2.1,
         rw c.in_ok-push.ensures.items
-            (gathered_more done record' c.loop-record.passes.items record'.pass c.args.replies.now.items c.loop-record.replies.items c.len.result c.index_mut.result.now c.extend_from_slice.new.self so_far.2.2 so_far.3 count fits refl c.index_mut.ensures.value
+            (gathered_more done record' c.loop-record.workers.items (record { pass = record'.pass; die = record'.die }) c.args.replies.now.items c.loop-record.replies.items c.len.result c.index_mut.result.now c.extend_from_slice.new.self so_far.2.2 so_far.3 count fits refl c.index_mut.ensures.value
             (c.in_ok-extend_from_slice.ensures.items ∙ ap (λ more. c.index_mut.result.now.items ++ more) c.as_slice.ensures.value)),
       ),
-      rw c.in_ok-push.ensures.items (others_stay c.loop-record.passes.items record'.pass c.args.replies.now.items c.loop-record.replies.items c.len.result c.extend_from_slice.new.self so_far.3 count),
+      rw c.in_ok-push.ensures.items (others_stay c.loop-record.workers.items (record { pass = record'.pass; die = record'.die }) c.args.replies.now.items c.loop-record.replies.items c.len.result c.extend_from_slice.new.self so_far.3 count),
     )

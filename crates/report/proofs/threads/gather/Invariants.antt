@@ -9,5 +9,5 @@ abbrev pub invariant-loop-record : goal.invariant-loop-record
 invariant-loop-record l =
     (goal.iterator-loop-record).can_next l.record-iterator ×
     (goal.iterator-loop-record).is_finite l.record-iterator ×
-    ((done : List Record) × (done ++ into_iter_items l.record-iterator ≡ l.fn.records.items) × AreGathered done l.passes.items l.fn.replies.items l.replies.items) ×
-    ((i : ℕ) → length l.passes.items ≤ i → slice_get l.replies.items i ≡ slice_get l.fn.replies.items i)
+    ((done : List Record) × (done ++ into_iter_items l.record-iterator ≡ l.fn.records.items) × AreGathered done l.workers.items l.fn.replies.items l.replies.items) ×
+    ((i : ℕ) → length l.workers.items ≤ i → slice_get l.replies.items i ≡ slice_get l.fn.replies.items i)

@@ -1,13 +1,12 @@
 use Rattle.std.proofs.Common.{◌≡◌, ◌++◌, List}
 use Rattle.std.specs.Vec.Iter.{into_iter_items}
-use Rattle.ruledwords.specs.declared.pass.Live.{Live}
-use Rattle.ruledwords.specs.declared.pass.Pass.{Pass}
+use Rattle.report.specs.declared.threads.Worker.{Worker}
 use Rattle.report.specs.Threads.{AreHired}
 use Rattle.report.proofs.threads.hire.Given as goal
 
--- each pass so far has its job
-abbrev pub invariant-loop-pass : goal.invariant-loop-pass
-invariant-loop-pass l =
-    (goal.iterator-loop-pass).can_next l.pass-iterator ×
-    (goal.iterator-loop-pass).is_finite l.pass-iterator ×
-    ((done : List (Pass Live)) × (done ++ into_iter_items l.pass-iterator ≡ l.fn.passes.items) × AreHired l.phase done l.jobs.items)
+-- each thread so far has its job
+abbrev pub invariant-loop-worker : goal.invariant-loop-worker
+invariant-loop-worker l =
+    (goal.iterator-loop-worker).can_next l.worker-iterator ×
+    (goal.iterator-loop-worker).is_finite l.worker-iterator ×
+    ((done : List Worker) × (done ++ into_iter_items l.worker-iterator ≡ l.fn.workers.items) × AreHired l.phase done l.jobs.items)
