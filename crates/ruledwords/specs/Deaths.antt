@@ -181,9 +181,14 @@ abbrev pub WentOn : Standing → Answer → Walked → Type 0
 WentOn s x (walked.Goes r) = reaping_walk r ≡ moved s x
 WentOn s x (walked.Reaped p) = row_after s.thread s.head s.row x ≡ row.Ended
 
+-- what its thread knows then
+abbrev pub card_after : Walked → Card
+card_after (walked.Goes r) = card (reaping_pass r)
+card_after (walked.Reaped p) = card p
+
 -- its access was made, and the walk went on with what that found
-abbrev pub WentOnFound : Standing → Walked → Type 0
-WentOnFound s turn = (n : ℕ) × WentOn s (answer_at (access_of s) n) turn
+abbrev pub WentOnFound : Layout' → Reaping → Walked → Type 0
+WentOnFound k r turn = (n : ℕ) × FoundAt k (reaping_walk r) (reaping_walk r).row (card (reaping_pass r)) n (card_after turn) × WentOn (reaping_walk r) (answer_at (access_of (reaping_walk r)) n) turn
 
 -- what a wake is answered
 abbrev pub IsCount : Answer → Type 0

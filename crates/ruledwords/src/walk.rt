@@ -5,7 +5,7 @@ ghost use Rattle.keys.specs.Accesses.{answer_at};
 ghost use Rattle.keys.specs.Layouts.{cell_place};
 ghost use Rattle.keys.specs.Objects.{held_limit};
 ghost use Rattle.exitwalk.specs.Walks.{access_of, marked_word, moved, IsGoing};
-ghost use Rattle.ruledwords.specs.Deaths.{reaping_access, reaping_pass, reaping_place, reaping_walk, remembering, FoundByWalk, HasWalked, IsCount, IsReapingOf, IsSeatedWalk, IsWake, KeepsWalking, Marks, MindsWaiters, WentOn, WentOnFound};
+ghost use Rattle.ruledwords.specs.Deaths.{card_after, reaping_access, reaping_pass, reaping_place, reaping_walk, remembering, FoundByWalk, HasWalked, IsCount, IsReapingOf, IsSeatedWalk, IsWake, KeepsWalking, Marks, MindsWaiters, WentOn, WentOnFound};
 ghost use Rattle.ruledwords.specs.Looks.{Finds};
 ghost use Rattle.ruledwords.specs.Passes.{card, layout_of, IsDying, IsPassOf};
 ghost use Rattle.ruledwords.specs.Rules.{card_of, IsOne};
@@ -57,7 +57,7 @@ impl Reaping {
         requires words { IsReapingOf words.now self }
         requires step { ¬ IsWake (reaping_access self) }
         ensures keeps { KeepsWalking words.now self result }
-        ensures onward { WentOnFound (reaping_walk self) result }
+        ensures onward { WentOnFound (layout_of words.now) self result }
     {
         let Reaping { mut pass, mut walk } = self;
         let access = walk.next();
@@ -81,6 +81,7 @@ impl Reaping {
         requires count { IsCount answer }
         ensures keeps { (w : Words) → IsReapingOf w self → KeepsWalking w self result }
         ensures onward { WentOn (reaping_walk self) answer result }
+        ensures still { card_after result ≡ card (reaping_pass self) }
     {
         let Reaping { pass, mut walk } = self;
         match walk.resume(answer) {

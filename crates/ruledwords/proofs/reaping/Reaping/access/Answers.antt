@@ -6,7 +6,7 @@ use Rattle.exitwalk.specs.declared.row.Row.TheVariants.{Ended}
 use Rattle.exitwalk.specs.Standings.{Standing}
 use Rattle.exitwalk.specs.Walks.{point_of, row_after}
 use Rattle.ruledwords.specs.declared.card.Card.{Card}
-use Rattle.ruledwords.specs.Deaths.{IsReaped}
+use Rattle.ruledwords.specs.Deaths.{FoundAt, IsReaped}
 use Rattle.ruledwords.specs.Passes.{card, layout_of}
 use Rattle.ruledwords.specs.Rules.{card_of}
 use Rattle.ruledwords.proofs.WalkSteps.{count_then, few_then, walk_ends, walk_goes, walk_returns, walks_on, went, Went}
@@ -93,4 +93,4 @@ returns-in-Returns-clause-onward c =
     let x : Answer = c.answer.result in
     let w : Went k (card r.pass) d s x = subst (Went k (card r.pass) d s) (sym (c.answer.ensures ∙ ap (λ (a : Access). answer_at a f.result) c.next-access.ensures)) (went k (card r.pass) of.0.1 s of.1 r.going c.requires.step f.result d f.ensures.2) in
     let ended = (walk_returns (point_of s.thread s.row x) (row_after s.thread s.head s.row x) c.resume.result c.in-Returns.reply c.in-Returns.point c.in-Returns.is c.resume.ensures.progress).0 in
-    (f.result, subst (λ (y : Answer). row_after s.thread s.head s.row y ≡ Ended) (c.answer.ensures ∙ ap (λ (a : Access). answer_at a f.result) c.next-access.ensures) ended)
+    (f.result, subst (FoundAt k s s.row (card r.pass) f.result) (sym c.reaped.ensures.card) f.ensures.2, subst (λ (y : Answer). row_after s.thread s.head s.row y ≡ Ended) (c.answer.ensures ∙ ap (λ (a : Access). answer_at a f.result) c.next-access.ensures) ended)
