@@ -241,3 +241,48 @@ fn a_sleeper_is_told_that_the_owner_died(rt: HostRuntime) -> Result<(), Fail> {
     }
     Ok(())
 }
+
+/// The thread has freed its mutex, and dies before it wakes anybody.
+fn die_owing(words: &Words, pass: Pass<Live>) -> Pass<Dead>
+    requires pass { IsLive words.now pass }
+    requires mutex { 0 < (layout_of words.now).mutexes }
+    ensures { IsDying words.now result }
+{
+    match words.release(pass, 0, &mut Never) {
+        Released::Owes(owed) => owed.abandon(),
+        Released::Refused(pass, _) => die(words, pass),
+        Released::Dead(pass) => pass,
+    }
+}
+
+/// A thread locks a mutex, asleep or about to, while its owner frees it and dies before the wake that it owes: the walk makes it.
+#[test]
+fn a_sleeper_is_woken_for_a_dead_thread(rt: HostRuntime) -> Result<(), Fail> {
+    for _ in 0..20_u32 {
+        let (bench, mut passes) = Bench::new(rt.alloc(), Layout::new(2, 1, &[])?, &[])?;
+        let second = last_of(bench.words(), &mut passes);
+        let first = last_of(bench.words(), &mut passes);
+        let (first, taken) = try_lock(bench.words(), first, 0);
+        let shared = &bench;
+        let host = &rt;
+        let (dead, told) = thread::join(
+            &rt,
+            || -> (u32, Pass<Reaped>)
+                requires { IsLive shared.now first × (0 < (layout_of shared.now).mutexes) }
+                ensures { IsPassOf shared.entry.now result.1 }
+            {
+                let turned = idle(1_000_000);
+                (turned, shared.exit(host, die_owing(shared.words(), first)))
+            },
+            || -> (Pass<Live>, Reply)
+                requires { IsLive shared.now second × (0 < (layout_of shared.now).mutexes) }
+                ensures { IsLive shared.entry.now result.0 }
+            { lock(host, shared, second) },
+        );
+        assert!(rt; taken == Reply::OK && told.1 == Reply::OK);
+        let (_dead, second) = bench.words().meet(dead.1, told.0);
+        let last = bench.close(second);
+        assert!(rt; last.cell(0) == 2 || last.cell(0) == 0x8000_0002);
+    }
+    Ok(())
+}

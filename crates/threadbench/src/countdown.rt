@@ -29,6 +29,7 @@ impl Fate for Countdown {
     ghost stopped = { λ c. if c.died then 1 else 0 };
 
     fn stops(&mut self) -> bool {
+        // It is told to stop once.
         if self.died {
             return false;
         }

@@ -20,7 +20,8 @@ pub struct Job {
     pub pass: WorkerPass,
     /// On mutexes of the bench's layout. A thread that has died makes none of them.
     pub calls: Vec<Call>,
-    /// The thread dies before its access with this number, from 1: accesses are counted over all its calls, wait, wake and trim sections among them. 0 is read as 1; one without a number lives.
+    /// The thread dies before its access with this number, from 1, counted over all its calls: each wait, wake and trim section counts too. 0 is read as 1. One without
+    /// a number lives.
     pub die: Option<u32>,
 }
 

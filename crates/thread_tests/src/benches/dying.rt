@@ -1,5 +1,5 @@
 //! Workers whose threads die before an access.
-ghost use Rattle.std.specs.Prelude.{◌≡◌, ◌<◌, All, IfOk};
+ghost use Rattle.std.specs.Prelude.{◌≡◌, ◌<◌, None, All, IfOk};
 ghost use Rattle.mutex.specs.Calls.{mutex_of};
 ghost use Rattle.ruledwords.specs.Passes.{layout_of, IsLive};
 ghost use Rattle.threadbench.specs.Answered.{IsWorkerOf};
@@ -8,14 +8,15 @@ ghost use Rattle.threadbench.specs.Jobs.{IsJobOf};
 use super::{alive, both, job};
 use crate::hands::last_of;
 use keys::{Layout, NoMem};
-use lockword::Reply;
+use lockword::{Reply, Tid};
 use mutex::Call;
 use ruledwords::{Live, Never, Outcome, Pass};
 use std::alloc::Global;
 use std::sync::Wait;
+use std::sync::atomic::{AtomicU64, Ordering};
 use std::test::Fail;
 use std::thread::Threads;
-use threadbench::{Bench, Job, Open, Record, WorkerPass};
+use threadbench::{Bench, Gate, Job, Open, Record, WorkerPass};
 
 /// A job whose thread dies before its access with that number.
 fn dying(
@@ -156,5 +157,38 @@ fn accesses_are_counted_over_phases(rt: HostRuntime) -> Result<(), Fail> {
     assert!(rt; two_phases(&rt, rt.alloc(), 9)? == (1, 0, true));
     assert!(rt; two_phases(&rt, rt.alloc(), 15)? == (1, 0, true));
     assert!(rt; two_phases(&rt, rt.alloc(), 16)? == (1, 1, false));
+    Ok(())
+}
+
+/// Counts the calls of which it is told that they have ended.
+#[derive(Drop)]
+struct CountsEnds(AtomicU64);
+
+impl Gate for CountsEnds {
+    ghost says = { λ g t i. None };
+
+    fn before(&self, _thread: Tid, _call: usize) -> bool {
+        true
+    }
+
+    fn after(&self, _thread: Tid, _call: usize) {
+        self.0.fetch_add(1, Ordering::SeqCst);
+    }
+}
+
+/// A gate is told of each call that was answered, and of the one in which its thread died.
+#[test]
+fn a_gate_is_told_of_a_death(rt: HostRuntime) -> Result<(), Fail> {
+    let alloc = rt.alloc();
+    let (bench, mut passes) = Bench::new(alloc, Layout::new(2, 2, &[])?, &[])?;
+    let second = last_of(bench.words(), &mut passes);
+    let first = last_of(bench.words(), &mut passes);
+    let calls = [Call::Lock(0), Call::Unlock(0), Call::Lock(0)];
+    let first = dying(alloc, &bench, first, &calls, 12)?;
+    let second = job(alloc, &bench, second, &[Call::Lock(1)])?;
+    let gate = CountsEnds(AtomicU64::new(0));
+    let (first, _second) = both(&rt, alloc, &bench, first, second, &gate)?;
+    assert_eq!(rt; first.replies.len(), 1);
+    assert_eq!(rt; gate.0.load(Ordering::SeqCst), 3);
     Ok(())
 }
