@@ -23,6 +23,7 @@ pub enum LockRow {
     WakeAll,
 }
 
+#[inline(always)]
 pub(crate) fn next(thread: Tid, cell: u64, row: &LockRow) -> Access
     requires { Knows (Lock row.now) }
     ensures { result ≡ lock_access thread cell row.now }
@@ -71,6 +72,7 @@ pub(crate) fn resume(thread: Tid, row: &LockRow, answer: Answer) -> Led
     }
 }
 
+#[inline(always)]
 fn from_load(thread: Tid, answer: Answer) -> Led
     ensures value { result ≡ lock_resume thread LockRow.Load answer }
     ensures knows { Knows result.row }
@@ -82,6 +84,7 @@ fn from_load(thread: Tid, answer: Answer) -> Led
 }
 
 /// Where the exchange leads that takes the cell that was seen.
+#[inline(always)]
 fn from_take(thread: Tid, seen: Cell, answer: Answer) -> Led
     ensures value { result ≡ lock_resume thread (LockRow.Take seen) answer }
     ensures knows { Knows result.row }
@@ -109,6 +112,7 @@ fn from_set_waiters(thread: Tid, seen: Cell, answer: Answer) -> Led
 }
 
 /// Decides on a cell.
+#[inline(always)]
 fn sees(thread: Tid, cell: Cell) -> Led
     ensures value { result ≡ lock_sees thread cell }
     ensures knows { Knows result.row }

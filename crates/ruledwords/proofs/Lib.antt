@@ -31,6 +31,8 @@ mod SectionPlaces
 mod Ranks
 mod Advancing
 mod Stepping
+mod Stretching
+mod Settling
 mod StepsOfCalls
 mod Releasing
 mod ReleaseSteps

@@ -1,7 +1,8 @@
--- Calls that wait for nobody, access by access.
+-- Accesses of a call, one after the other.
 use Rattle.std.proofs.Common.{◌≡◌, ℕ, ◌+◌, ◌<◌, Result, Ok, Err, sym, ap, ◌∙◌, subst}
 use Rattle.keys.specs.declared.point.Operation.TheVariants as operation
 use Rattle.std.specs.Result.{IsErrAnd}
+use Rattle.lockword.specs.declared.reply.Reply.{Reply}
 use Rattle.mutex.specs.Standings.{Whole}
 use Rattle.mutex.specs.declared.call.Call.{Call}
 use Rattle.mutex.specs.declared.call.Call.TheVariants as call
@@ -13,25 +14,53 @@ use Rattle.ruledwords.specs.declared.step.End.TheVariants as end
 use Rattle.ruledwords.specs.declared.turn.Running.{Running}
 use Rattle.ruledwords.specs.declared.turn.Turn.TheVariants.{Goes}
 use Rattle.ruledwords.specs.Passes.{layout_of}
-use Rattle.ruledwords.specs.Turns.{running_call, running_pass, EndsIn, IsUnderWay, StaysIn, StepsTo, Turned, IsNonblocking, stops_with, stops_within}
+use Rattle.ruledwords.specs.Stretches.{ComesOn, ComesToEnd, StepsTo}
+use Rattle.ruledwords.specs.Turns.{access_in, running_call, running_pass, EndsIn, IsCallOf, IsInNonblocking, IsOneStep, IsUnderWay, Turned, IsNonblocking, stops_with, stops_within}
 use Rattle.ruledwords.proofs.Ranks.{rank_in, turn_falls}
 use Rattle.ruledwords.proofs.StepsOfCalls.{try_step, consistent_step}
 
+-- no access was made
+pub stays : (w : Words) (a : Pass Live) (p : Whole) → IsCallOf w a p → ComesOn w a p a p
+stays w a p of = (of, (λ x call is. is), (λ c y is. is))
+
+pub comes_further : (w : Words) (a : Pass Live) (p : Whole) (b : Pass Live) (q : Whole) (d : Pass Live) (r : Whole) → ComesOn w a p b q → ComesOn w b q d r → ComesOn w a p d r
+comes_further w a p b q d r first more = (more.0, (λ x call is. more.1 x call (first.1 x call is)), (λ c y is. more.2 c y (first.2 c y is)))
+
 -- what ends after accesses ends since before them
-pub after : (w : Words) (a : Pass Live) (p : Whole) (b : Pass Live) (q : Whole) (d : Pass Live) (e : End) → StaysIn w a p b q → EndsIn w b q d e → EndsIn w a p d e
-after w a p b q d end.Stopped so_far ends = λ x call is. ends x call (so_far x call is)
-after w a p b q d (end.Replied y) so_far ends = λ x call is. ends x call (so_far x call is)
+pub after : (w : Words) (a : Pass Live) (p : Whole) (b : Pass Live) (q : Whole) (d : Pass Live) (e : End) → ComesOn w a p b q → ComesToEnd w b q d e → ComesToEnd w a p d e
+after w a p b q d end.Stopped first ends = (ends.0, comes_further w a p b q d ends.0 first ends.1)
+after w a p b q d (end.Replied y) first ends = ((λ x call is. ends.0 x call (first.1 x call is)), (λ c z is. ends.1 c z (first.2 c z is)))
 
 -- a `?` hands on how the call ended
-pub handed_on : (w : Words) (a : Pass Live) (p : Whole) (b : Pass Live) (r : Result Whole End) (e : End) → IsErrAnd r (λ y. y ≡ e) → EndsIn w a p b e → StepsTo w a p b r
+pub handed_on : (w : Words) (a : Pass Live) (p : Whole) (b : Pass Live) (r : Result Whole End) (e : End) → IsErrAnd r (λ y. y ≡ e) → ComesToEnd w a p b e → StepsTo w a p b r
 handed_on w a p b (Ok q) e is ends = absurd is
-handed_on w a p b (Err y) e is ends = subst (EndsIn w a p b) (sym is) ends
+handed_on w a p b (Err y) e is ends = subst (ComesToEnd w a p b) (sym is) ends
 
 pub counts_on : {A : Type 0} (r : Result A End) (e : End) (n m : ℕ) → IsErrAnd r (λ y. y ≡ e) → n ≡ m + stops_with e → n ≡ m + stops_within r
 counts_on (Ok q) e n m is counted = absurd is
 counts_on (Err y) e n m is counted = counted ∙ ap (λ (z : End). m + stops_with z) (sym is)
 
--- each access leaves fewer
+-- ---- calls that wait for nobody
+
+pub ends_in : (w : Words) (a : Pass Live) (p : Whole) (b : Pass Live) (e : End) → ComesToEnd w a p b e → EndsIn w a p b e
+ends_in w a p b end.Stopped ends = λ x call is. (ends.0, ends.1.1 x call is)
+ends_in w a p b (end.Replied y) ends = ends.0
+
+pub ends_after : (w : Words) (a : Pass Live) (p : Whole) (b : Pass Live) (q : Whole) (d : Pass Live) (e : End) → ComesOn w a p b q → EndsIn w b q d e → EndsIn w a p d e
+ends_after w a p b q d end.Stopped first ends = λ x call is. ends x call (first.1 x call is)
+ends_after w a p b q d (end.Replied y) first ends = λ x call is. ends x call (first.1 x call is)
+
+pub still_nonblocking : (w : Words) (a : Pass Live) (p : Whole) (b : Pass Live) (q : Whole) → IsInNonblocking w a p → ComesOn w a p b q → IsInNonblocking w b q
+still_nonblocking w a p b q s on = (s.0, s.1, s.2, on.1 s.0 s.1 s.3)
+
+-- each of their accesses is a step
+pub is_step : (w : Words) (x : Pass Live) (call : Call) (r : Running) → IsNonblocking call → IsUnderWay w x call r → IsOneStep (access_in r)
+is_step w x (call.Lock m) r waits u = absurd waits
+is_step w x (call.TryLock m) r waits u = try_step w x m r u
+is_step w x (call.Unlock m) r waits u = absurd waits
+is_step w x (call.Consistent m) r waits u = consistent_step w x m r u
+
+-- and leaves fewer
 pub falls : (w : Words) (x : Pass Live) (call : Call) (r r' : Running) → IsNonblocking call → IsUnderWay w x call r → Turned (layout_of w) (running_call r) (running_pass r) (Goes r')
     → rank_in (running_call r').phase < rank_in (running_call r).phase
 falls w x (call.Lock m) r r' waits u turned = absurd waits

@@ -10,6 +10,7 @@ pub mod Calls
 pub mod Walks
 pub mod Deaths
 pub mod Turns
+pub mod Stretches
 pub mod Owing
 pub mod Releases
 pub mod Outcomes

@@ -220,21 +220,6 @@ abbrev pub EndsIn : Words → Pass Live → Whole → Pass Live → End → Type
 EndsIn w a p b end.Stopped = (x : Pass Live) (call : Call) → IsIn w x call a p → (q : Whole) × IsIn w x call b q
 EndsIn w a p b (end.Replied y) = (x : Pass Live) (call : Call) → IsIn w x call a p → GoesOn w x call (Lives b y)
 
--- an access was made, or it ended
-abbrev pub Steps : Words → Pass Live → Whole → Pass Live → Whole → Result Unit End → Type 0
-Steps w a p b q (Ok u) = StaysIn w a p b q
-Steps w a p b q (Err e) = EndsIn w a p b e
-
--- where it goes on, it went one access on
-abbrev pub StepsOnce : Words → Pass Live → Whole → Pass Live → Whole → Result Unit End → Type 0
-StepsOnce w a p b q (Ok u) = IsInNonblocking w b q × ((of : IsCallOf w a p) → (on : IsCallOf w b q) × Turned (layout_of w) p a (Goes (running_of w b q on)))
-StepsOnce w a p b q (Err e) = Unit {0}
-
--- so many accesses were made
-abbrev pub StepsTo : Words → Pass Live → Whole → Pass Live → Result Whole End → Type 0
-StepsTo w a p b (Ok q) = IsInNonblocking w b q × StaysIn w a p b q
-StepsTo w a p b (Err e) = EndsIn w a p b e
-
 abbrev pub stops_with : End → ℕ
 stops_with end.Stopped = 1
 stops_with (end.Replied y) = 0

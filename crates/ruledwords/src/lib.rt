@@ -38,4 +38,4 @@ pub use fate::{Fate, Never};
 pub use outcome::{Outcome, Owed, Released, Wakes};
 pub use pass::{Dead, Last, Live, Pass, Reaped, Spent, Words};
 pub use reaping::{Reaping, Walked};
-pub use turn::{Running, Turn};
+pub use turn::{Running, Stretch, Turn};

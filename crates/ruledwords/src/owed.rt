@@ -8,7 +8,7 @@ ghost use Rattle.ruledwords.specs.Turns.{IsDecided};
 
 use crate::outcome::{Owed, Wakes};
 use crate::pass::{Live, Pass, Words};
-use crate::turn::{Running, Turn};
+use crate::turn::Running;
 
 impl Owed {
     /// How many sleepers are to be woken.
@@ -19,17 +19,22 @@ impl Owed {
     }
 
     /// Ends the unlock where nobody is to be woken: clears the thread's pending entry. Else it is given back.
+    #[inline(always)]
     pub fn settle(self, words: &Words) -> Result<Pass<Live>, Owed>
         requires { IsOwedOf words.now self }
         ensures { Settles words.now self result }
     {
-        if self.wakes != Wakes::Nobody {
+        let Wakes::Nobody = self.wakes else {
             return Err(self);
-        }
+        };
         let Owed { running, wakes: _ } = self;
-        match running.access(words) {
-            Turn::Lives(pass, _) => Ok(pass),
-            Turn::Goes(_) => unreachable!(),
+        let Running {
+            mut pass,
+            mut program,
+        } = running;
+        match words.advance(&mut pass, &mut program) {
+            Some(_) => Ok(pass),
+            None => unreachable!(),
         }
     }
 }

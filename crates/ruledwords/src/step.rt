@@ -1,17 +1,22 @@
-//! Calls that wait for nobody, run to their end.
-ghost use Rattle.std.specs.Prelude.{◌≡◌, ◌+◌};
+//! Calls whose accesses are made one after the other, where the call stands: to their end, or up to a futex section.
+ghost use Rattle.std.specs.Prelude.{◌≡◌, ◌+◌, true, false};
 ghost use Rattle.mutex.specs.declared.call.Call.{Call};
 ghost use Rattle.ruledwords.specs.declared.pass.Live.{Live};
 ghost use Rattle.ruledwords.specs.declared.pass.Pass.{Pass};
 ghost use Rattle.ruledwords.specs.Outcomes.{Finishes, stops_in};
-ghost use Rattle.ruledwords.specs.Turns.{EndsIn, IsInNonblocking, Steps, StepsOnce, StepsTo, running_call, running_pass, stops_with, stops_within};
+ghost use Rattle.ruledwords.specs.Stretches.{StepsOn, StepsOnce, StepsTo, Stretches, stops_stretching};
+ghost use Rattle.ruledwords.specs.Turns.{EndsIn, IsCallOf, IsInNonblocking, IsOneStep, IsRunningOf, running_call, running_pass, stops_with, stops_within};
 
 use crate::fate::Fate;
 use crate::outcome::Outcome;
 use crate::pass::{Live, Pass, Words};
-use crate::turn::Running;
+use crate::turn::{Running, Stretch};
+use keys::Access;
 use lockword::Reply;
-use mutex::{Phase, Program, Row, TryLockRow};
+use mutex::{LockRow, Phase, Program, Row, TryLockRow};
+
+/// How many accesses a stretch has at most behind its first ones: what is left of a call that isn't crossed again and again.
+const STRETCH: u8 = 32;
 
 /// How a call ends whose thread may die in it.
 #[derive(Clone, Copy, Debug, PartialEq, Eq)]
@@ -22,8 +27,44 @@ pub(crate) enum End {
     Replied(Reply),
 }
 
+/// The calls of which the first accesses are made one after the other. A type of its own for each, so that the compiler knows where such a call begins.
+pub(crate) trait Begins {
+    /// Whether such a call begins there.
+    fn begins(phase: Phase) -> bool;
+}
+
+/// Locks.
+pub(crate) struct Locks;
+
+impl Begins for Locks {
+    #[inline(always)]
+    fn begins(phase: Phase) -> bool {
+        matches!(
+            phase,
+            Phase::Announcing {
+                next: Row::Lock(LockRow::Load)
+            }
+        )
+    }
+}
+
+/// Trylocks.
+pub(crate) struct TryLocks;
+
+impl Begins for TryLocks {
+    #[inline(always)]
+    fn begins(phase: Phase) -> bool {
+        matches!(
+            phase,
+            Phase::Announcing {
+                next: Row::TryLock(TryLockRow::Load)
+            }
+        )
+    }
+}
+
 impl Words {
-    /// Makes the call's next access, unless the thread's fate tells it to stop.
+    /// Makes the call's next access, unless the thread's fate tells it to stop. A call that comes to a futex section stays where it is.
     #[inline(always)]
     fn step<F: Fate>(
         &self,
@@ -31,11 +72,14 @@ impl Words {
         program: &mut Program,
         fate: &mut F,
     ) -> Result<(), End>
-        requires { IsInNonblocking self.now pass.old program.old }
-        ensures steps { Steps self.now pass.old program.old pass.new program.new result }
+        requires { IsCallOf self.now pass.old program.old }
+        ensures steps { StepsOn self.now pass.old program.old pass.new program.new result }
         ensures once { StepsOnce self.now pass.old program.old pass.new program.new result }
         ensures fate { F.stopped fate.new ≡ F.stopped fate.old + stops_within result }
     {
+        if !is_step(program.next()) {
+            return Ok(());
+        }
         if fate.stops() {
             return Err(End::Stopped);
         }
@@ -45,26 +89,23 @@ impl Words {
         }
     }
 
-    /// The accesses of a trylock that nobody crosses, one after the other: so the compiler knows at each where the call stands. Of a trylock that meets a changed cell some of them, of
-    /// other calls none. It is here for speed alone: its contract lets it make fewer.
+    /// The accesses of a lock or trylock that nobody crosses, one after the other: so the compiler knows at each where the call stands. Of one that meets an owned or a changed cell some of
+    /// them, of other calls none. It is here for speed alone: its contract lets it make fewer.
     #[inline(always)]
-    pub(crate) fn first_steps<F: Fate>(
+    pub(crate) fn first_steps<B: Begins, F: Fate>(
         &self,
         pass: &mut Pass<Live>,
         begun: Program,
         fate: &mut F,
     ) -> Result<Program, End>
-        requires { IsInNonblocking self.now pass.old begun }
+        requires { IsCallOf self.now pass.old begun }
         ensures steps { StepsTo self.now pass.old begun pass.new result }
         ensures fate { F.stopped fate.new ≡ F.stopped fate.old + stops_within result }
     {
         let mut program = begun;
-        let Phase::Announcing {
-            next: Row::TryLock(TryLockRow::Load),
-        } = program.phase()
-        else {
+        if !B::begins(program.phase()) {
             return Ok(program);
-        };
+        }
         self.step(pass, &mut program, fate)?;
         self.step(pass, &mut program, fate)?;
         self.step(pass, &mut program, fate)?;
@@ -106,7 +147,7 @@ impl Words {
         ensures ends { EndsIn self.now pass.old program pass.new result }
         ensures fate { F.stopped fate.new ≡ F.stopped fate.old + stops_with result }
     {
-        match self.first_steps(pass, program, fate) {
+        match self.first_steps::<TryLocks, F>(pass, program, fate) {
             Ok(program) => self.last_steps(pass, program, fate),
             Err(end) => end,
         }
@@ -125,4 +166,78 @@ impl Words {
             End::Stopped => Outcome::Dead(pass.died()),
         }
     }
+
+    /// Further accesses of the call, up to a futex section, and not too many of them, as a lock that is crossed again and again has no last one.
+    fn more_steps<F: Fate>(
+        &self,
+        pass: &mut Pass<Live>,
+        begun: Program,
+        fate: &mut F,
+    ) -> Result<Program, End>
+        requires { IsCallOf self.now pass.old begun }
+        ensures steps { StepsTo self.now pass.old begun pass.new result }
+        ensures fate { F.stopped fate.new ≡ F.stopped fate.old + stops_within result }
+    {
+        let mut program = begun;
+        for _ in 0..STRETCH {
+            if !is_step(program.next()) {
+                return Ok(program);
+            }
+            self.step(pass, &mut program, fate)?;
+        }
+        Ok(program)
+    }
+
+    /// Accesses of the call from where it stands, up to a futex section, and not too many of them.
+    #[inline(always)]
+    fn stretch<F: Fate>(
+        &self,
+        pass: &mut Pass<Live>,
+        begun: Program,
+        fate: &mut F,
+    ) -> Result<Program, End>
+        requires { IsCallOf self.now pass.old begun }
+        ensures steps { StepsTo self.now pass.old begun pass.new result }
+        ensures fate { F.stopped fate.new ≡ F.stopped fate.old + stops_within result }
+    {
+        let program = self.first_steps::<Locks, F>(pass, begun, fate)?;
+        self.more_steps(pass, program, fate)
+    }
+}
+
+impl Running {
+    /// Makes accesses that come next, one after the other where the call stands, up to a futex section, or its end, or its thread's death: the fate is asked before each. It may stop before that,
+    /// and goes on where it is called again or where the next access is made by [`Running::access`]. It is here for speed: an access by itself moves the call.
+    #[inline(always)]
+    pub fn stretch<F: Fate>(self, words: &Words, fate: &mut F) -> Stretch
+        requires words { IsRunningOf words.now self }
+        ensures stretches { Stretches words.now self result }
+        ensures fate { F.stopped fate.new ≡ F.stopped fate.old + stops_stretching result }
+    {
+        let Running { mut pass, program } = self;
+        match words.stretch(&mut pass, program, fate) {
+            Ok(program) => Stretch::Goes(Running { pass, program }),
+            Err(end) => match end {
+                End::Replied(reply) => Stretch::Lives(pass, reply),
+                End::Stopped => Stretch::Dead(pass.died()),
+            },
+        }
+    }
+}
+
+/// Whether an access is one step on one word, and no futex section.
+#[inline(always)]
+fn is_step(access: Access) -> bool
+    ensures step { result ≡ true → IsOneStep access }
+    ensures section { result ≡ false → ¬ IsOneStep access }
+{
+    matches!(
+        access,
+        Access::Load { .. }
+            | Access::Store { .. }
+            | Access::Exchange { .. }
+            | Access::FetchXor { .. }
+            | Access::FetchOr { .. }
+            | Access::FetchAnd { .. }
+    )
 }

@@ -4,7 +4,7 @@ ghost use Rattle.mutex.specs.Whole.{IsUnderWay};
 ghost use Rattle.ruledwords.specs.Calls.{Ready, ready_prop, under_way_prop, most, row_in, standing_of};
 ghost use Rattle.ruledwords.specs.Rules.{card_of};
 
-use crate::pass::{Live, Pass};
+use crate::pass::{Dead, Live, Pass};
 use lockword::Reply;
 use mutex::Program;
 
@@ -26,4 +26,15 @@ pub enum Turn {
     Goes(Running),
     /// The call has replied.
     Lives(Pass<Live>, Reply),
+}
+
+/// What accesses of a call that are made one after the other lead to.
+#[derive(Drop)]
+pub enum Stretch {
+    /// The call has further accesses.
+    Goes(Running),
+    /// The call has replied.
+    Lives(Pass<Live>, Reply),
+    /// The thread died in the call.
+    Dead(Pass<Dead>),
 }

@@ -12,9 +12,9 @@ use crate::section::{trim_in, wait_in, wake_in};
 use buckets::{Batch, Bucket};
 use crossbeam_utils::CachePadded;
 use keys::{Access, Answer, Key, bucket_of, key_of};
-use lockword::Tid;
+use lockword::{Reply, Tid};
 use mutex::Call;
-use ruledwords::{Fate, Live, Outcome, Owed, Pass, Running, Turn};
+use ruledwords::{Fate, Live, Outcome, Owed, Pass, Running, Stretch, Turn, Wakes};
 use std::sync::{Mutex, Wait};
 
 impl Bench {
@@ -46,10 +46,23 @@ impl Bench {
         ensures paid { Paid self.now owed result }
         ensures fate { F.stopped fate.new ≡ F.stopped fate.old + stops_in result }
     {
-        self.run(rt, Running::owed(owed), fate)
+        if owed.wakes() != Wakes::Nobody {
+            return self.run(rt, Running::owed(owed), fate);
+        }
+        if fate.stops() {
+            return Outcome::Dead(owed.abandon());
+        }
+        match owed.settle(&self.words) {
+            Ok(pass) => Outcome::Lives(pass, Reply::OK),
+            // it is given back only where somebody is to be woken
+            Err(owed) => {
+                owed.abandon();
+                unreachable!()
+            }
+        }
     }
 
-    /// Runs a call to its end, or until its thread dies.
+    /// Runs a call to its end, or until its thread dies: as far as it makes steps on words, where it stands, and each section by itself.
     fn run<R: Wait, F: Fate>(&self, rt: &R, running: Running, fate: &mut F) -> Outcome
         requires { IsRunningOf self.now running }
         ensures runs { Runs self.now running result }
@@ -57,10 +70,15 @@ impl Bench {
     {
         let mut running = running;
         for _ in rt.forever() {
+            let next = match running.stretch(&self.words, fate) {
+                Stretch::Goes(next) => next,
+                Stretch::Lives(pass, reply) => return Outcome::Lives(pass, reply),
+                Stretch::Dead(pass) => return Outcome::Dead(pass),
+            };
             if fate.stops() {
-                return Outcome::Dead(running.die());
+                return Outcome::Dead(next.die());
             }
-            match self.turn(rt, running) {
+            match self.turn(rt, next) {
                 Turn::Goes(next) => running = next,
                 Turn::Lives(pass, reply) => return Outcome::Lives(pass, reply),
             }

@@ -1,13 +1,11 @@
+use Rattle.ruledwords.proofs.Stepping.{stays}
 use Rattle.ruledwords.proofs.pass.Words.step.Goals as goal
 
 pub returns-in-None-clause-steps : goal.returns-in-None-clause-steps
-returns-in-None-clause-steps g c = λ x call is. let t = c.in-None.ensures is.0 in (t.0, t.1.2 x call is.1)
+returns-in-None-clause-steps g c = ((c.in-None.ensures c.requires).0, (λ x call is. let t = c.in-None.ensures is.0 in (t.0, t.1.2 x call is.1)), (λ e y is. let t = c.in-None.ensures is.0 in (t.0, t.1.3 e y is.1)))
 
 pub returns-in-None-clause-once : goal.returns-in-None-clause-once
-returns-in-None-clause-once g c =
-    let s = c.requires in
-    let goes = c.in-None.ensures s.3.0 in
-    ((s.0, s.1, s.2, (goes.0, goes.1.2 s.0 s.1 s.3.1)), λ of. let t = c.in-None.ensures of in (t.0, t.1.1))
+returns-in-None-clause-once g c = λ one of. let t = c.in-None.ensures of in (t.0, t.1.1)
 
 pub returns-in-Some-clause-steps : goal.returns-in-Some-clause-steps
-returns-in-Some-clause-steps g c = λ x call is. (c.in-Some.ensures is.0).2 x call is.1
+returns-in-Some-clause-steps g c = ((λ x call is. (c.in-Some.ensures is.0).2 x call is.1), (λ e y is. (c.in-Some.ensures is.0).3 e y is.1))

@@ -4,8 +4,8 @@ use Rattle.ruledwords.specs.Passes.{card}
 use Rattle.threadbench.proofs.Turning.{ran_paid}
 use Rattle.threadbench.proofs.bench.Bench.pay.Goals as goal
 
-pub returns-clause-paid : goal.returns-clause-paid
-returns-clause-paid g c =
+pub returns-then-ne-clause-paid : goal.returns-then-ne-clause-paid
+returns-then-ne-clause-paid g c =
     let w = c.args.self.now in
     let decided = c.owed.ensures.decided w c.requires in
     ran_paid w c.args.owed c.run.result (c.run.ensures.runs.1 (card (owed_pass c.args.owed)) OK decided)
