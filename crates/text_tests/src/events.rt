@@ -1,55 +1,69 @@
 //! Scripts that are played, with how many events each runs, counted by hand.
 
 use crate::built::joined;
-use interleave::Trace;
-use script::{Mode, parse, play};
-use std::alloc::{AllocError, Global};
-use std::test::Fail;
+use crate::faults::{Refused, read};
+use interleave::{Machine, Trace};
+use script::{Mode, play};
+use std::alloc::Global;
+
+/// The trace of a script, and the machine that it leaves. Tests play by this alone, since each function that calls `play` itself is dear to prove.
+pub fn outcome(alloc: Global, bytes: &[u8], mode: Mode) -> Result<(Trace, Machine), Refused> {
+    let script = read(alloc, bytes, mode)?;
+    match play(alloc, &script) {
+        Ok(played) => Ok(played),
+        Err(refused) => Err((refused.fault.number(), refused.line)),
+    }
+}
 
 /// Whether one thread and one mutex were played for 24 events.
 fn is_played(trace: &Trace) -> bool {
     trace.threads == 1 && trace.mutexes == 1 && trace.conditions == 0 && trace.notes.len() == 24
 }
 
+/// Whether nobody owns mutex 0, which every layout has.
+fn is_free(machine: &Machine) -> bool {
+    let _mutexes = machine.layout().mutexes();
+    machine.owner(0).is_none()
+}
+
 /// One mutex is refused, taken, refused and released by one thread, in 23 events; the last step finds it idle.
 #[test]
-fn played(rt: HostRuntime) -> Result<(), Fail> {
+fn played(rt: HostRuntime) {
     let text =
         b"thread a\nmutex m\ncall a unlock m\ncall a trylock m\ncall a trylock m\nbegin a unlock m\nstep a 8\n";
-    let script = parse(rt.alloc(), text, Mode::Run)?;
-    let (trace, machine) = play(rt.alloc(), &script)?;
-    assert!(rt; is_played(&trace));
-    assert!(rt; machine.owner(0).is_none());
-    Ok(())
+    let is_so = match outcome(rt.alloc(), text, Mode::Run) {
+        Ok((trace, machine)) => is_played(&trace) && is_free(&machine),
+        Err(_) => false,
+    };
+    assert!(rt; is_so);
 }
 
 /// How many events a script runs, or the number of its fault and its line.
-pub type Played = Result<usize, (u8, usize)>;
+pub type Played = Result<usize, Refused>;
 
 pub fn playing(alloc: Global, text: &str, mode: Mode) -> Played {
-    let script = match parse(alloc, text.as_bytes(), mode) {
-        Ok(script) => script,
-        Err(refused) => return Err((refused.fault.number(), refused.line)),
-    };
-    match play(alloc, &script) {
+    match outcome(alloc, text.as_bytes(), mode) {
         Ok((trace, _machine)) => Ok(trace.notes.len()),
-        Err(refused) => Err((refused.fault.number(), refused.line)),
+        Err(refused) => Err(refused),
+    }
+}
+
+/// Whether the commands behind these declarations run so.
+pub fn is_playing(alloc: Global, declarations: &str, commands: &str, want: Played) -> bool {
+    match joined(alloc, declarations, commands, "") {
+        Ok(text) => playing(alloc, text.as_str(), Mode::Run) == want,
+        Err(_) => false,
     }
 }
 
 /// The place of the first commands behind these declarations that run otherwise.
-fn first_wrong(
-    alloc: Global,
-    declarations: &str,
-    cases: &[(&str, Played)],
-) -> Result<Option<usize>, AllocError> {
+pub fn first_wrong(alloc: Global, declarations: &str, cases: &[(&str, Played)]) -> Option<usize> {
     for (place, (commands, want)) in cases.iter().enumerate() {
-        let text = joined(alloc, declarations, *commands, "")?;
-        if playing(alloc, text.as_str(), Mode::Run) != *want {
-            return Ok(Some(place));
+        if !is_playing(alloc, declarations, *commands, *want) {
+            return Some(place);
         }
     }
-    Ok(None)
+    None
 }
 
 /// A trylock that takes its thread's first mutex has nine events: its begin, three accesses to the pending entry and the cell, four that link the entry, and one
@@ -73,10 +87,9 @@ static TOO_MANY_EVENTS: [(&str, Played); 12] = [
 ];
 
 #[test]
-fn too_many_events(rt: HostRuntime) -> Result<(), Fail> {
+fn too_many_events(rt: HostRuntime) {
     let declarations = "thread a\nmutex m\n";
-    assert!(rt; first_wrong(rt.alloc(), declarations, &TOO_MANY_EVENTS)?.is_none());
-    Ok(())
+    assert!(rt; first_wrong(rt.alloc(), declarations, &TOO_MANY_EVENTS).is_none());
 }
 
 /// Counted by hand. A lock that takes its thread's first mutex has nine events, and ten where the thread has one. A walk has three, three more for
@@ -100,10 +113,9 @@ static EVENTS: [(&str, Played); 9] = [
 ];
 
 #[test]
-fn events(rt: HostRuntime) -> Result<(), Fail> {
+fn events(rt: HostRuntime) {
     let declarations = "thread a\nthread b\nmutexes m 3\n";
-    assert!(rt; first_wrong(rt.alloc(), declarations, &EVENTS)?.is_none());
-    Ok(())
+    assert!(rt; first_wrong(rt.alloc(), declarations, &EVENTS).is_none());
 }
 
 /// Passes too where any one allocation fails: memory for the machine is wanted at line 1, and for notes at a command.

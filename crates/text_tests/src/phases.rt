@@ -2,11 +2,10 @@
 
 use crate::built::joined;
 use crate::events::playing;
-use crate::faults::{Refusal, Scripts, refusal};
+use crate::faults::{Refusal, Refused, Scripts, read, refusal};
 use mutex::Call;
-use script::{Mode, Phase, jobs, parse};
+use script::{Jobs, Mode, Phase, jobs};
 use std::alloc::Global;
-use std::test::Fail;
 
 /// A line stands third in a script of its own, behind a thread `a` and a mutex `m`.
 const THIRD: Scripts = Scripts {
@@ -76,9 +75,8 @@ static LINES: [(&str, Refusal); 56] = [
 ];
 
 #[test]
-fn lines(rt: HostRuntime) -> Result<(), Fail> {
-    assert!(rt; THIRD.first_wrong(rt.alloc(), &LINES)?.is_none());
-    Ok(())
+fn lines(rt: HostRuntime) {
+    assert!(rt; THIRD.first_wrong(rt.alloc(), &LINES).is_none());
 }
 
 const WHOLE: Scripts = Scripts {
@@ -120,11 +118,10 @@ static SCRIPTS: [(&str, Refusal); 17] = [
 ];
 
 #[test]
-fn scripts(rt: HostRuntime) -> Result<(), Fail> {
-    assert!(rt; WHOLE.first_wrong(rt.alloc(), &SCRIPTS)?.is_none());
+fn scripts(rt: HostRuntime) {
+    assert!(rt; WHOLE.first_wrong(rt.alloc(), &SCRIPTS).is_none());
     let bytes = b"phase\n#\n\xff\n";
     assert!(rt; refusal(rt.alloc(), bytes, Mode::Threads) == Some((1, 3)));
-    Ok(())
 }
 
 /// A phase is a script's line for real threads alone.
@@ -178,12 +175,25 @@ fn has_phases(phases: &[Phase], want: &[&[Calls]]) -> bool {
     true
 }
 
-/// Whether a script asks for these phases.
-fn asks_for(alloc: Global, text: &str, mode: Mode, want: &[&[Calls]]) -> Result<bool, Fail> {
-    let script = parse(alloc, text.as_bytes(), mode)?;
-    let jobs = jobs(alloc, &script)?;
-    Ok(has_phases(&jobs.phases, want))
+/// What a script asks of real threads.
+fn jobs_of(alloc: Global, bytes: &[u8], mode: Mode) -> Result<Jobs, Refused> {
+    let script = read(alloc, bytes, mode)?;
+    match jobs(alloc, &script) {
+        Ok(jobs) => Ok(jobs),
+        Err(refused) => Err((refused.fault.number(), refused.line)),
+    }
 }
+
+/// Whether a script asks for these phases.
+fn asks_for(alloc: Global, text: &str, mode: Mode, want: &[&[Calls]]) -> bool {
+    match jobs_of(alloc, text.as_bytes(), mode) {
+        Ok(jobs) => has_phases(&jobs.phases, want),
+        Err(_) => false,
+    }
+}
+
+/// Stands in front of commands of three threads.
+const THREE_THREADS: &str = "thread a\nthread b\nthread c\nmutex m\n";
 
 /// The commands of three threads, and the phases that they ask for.
 static PHASES: [(&str, &[&[Calls]]); 7] = [
@@ -221,26 +231,26 @@ static PHASES: [(&str, &[&[Calls]]); 7] = [
     ),
 ];
 
+fn ask_for(alloc: Global, commands: &str, want: &[&[Calls]]) -> bool {
+    match joined(alloc, THREE_THREADS, commands, "") {
+        Ok(text) => asks_for(alloc, text.as_str(), Mode::Threads, want),
+        Err(_) => false,
+    }
+}
+
 /// The place of the first commands that ask for other phases.
-fn first_wrong(alloc: Global) -> Result<Option<usize>, Fail> {
+fn first_wrong(alloc: Global) -> Option<usize> {
     for (place, (commands, want)) in PHASES.iter().enumerate() {
-        let text = joined(
-            alloc,
-            "thread a\nthread b\nthread c\nmutex m\n",
-            *commands,
-            "",
-        )?;
-        if !asks_for(alloc, text.as_str(), Mode::Threads, *want)? {
-            return Ok(Some(place));
+        if !ask_for(alloc, *commands, *want) {
+            return Some(place);
         }
     }
-    Ok(None)
+    None
 }
 
 #[test]
-fn phases(rt: HostRuntime) -> Result<(), Fail> {
-    assert!(rt; first_wrong(rt.alloc())?.is_none());
-    Ok(())
+fn phases(rt: HostRuntime) {
+    assert!(rt; first_wrong(rt.alloc()).is_none());
 }
 
 /// The commands of three threads, and before which of its accesses each dies.
@@ -258,49 +268,45 @@ static DEATHS: [(&str, [Option<u32>; 3]); 5] = [
     ("die c 3\ndie b 2\ndie a 3\n", [Some(3), Some(2), Some(3)]),
 ];
 
+fn die_so(alloc: Global, commands: &str, want: &[Option<u32>]) -> bool {
+    let Ok(text) = joined(alloc, THREE_THREADS, commands, "") else {
+        return false;
+    };
+    match jobs_of(alloc, text.as_bytes(), Mode::Threads) {
+        Ok(jobs) => jobs.dies.as_slice() == want,
+        Err(_) => false,
+    }
+}
+
 /// The place of the first commands by which threads die otherwise.
-fn first_wrong_death(alloc: Global) -> Result<Option<usize>, Fail> {
+fn first_wrong_death(alloc: Global) -> Option<usize> {
     for (place, (commands, want)) in DEATHS.iter().enumerate() {
-        let text = joined(
-            alloc,
-            "thread a\nthread b\nthread c\nmutex m\n",
-            *commands,
-            "",
-        )?;
-        let script = parse(alloc, text.as_bytes(), Mode::Threads)?;
-        let jobs = jobs(alloc, &script)?;
-        if jobs.dies.as_slice() != want.as_slice() {
-            return Ok(Some(place));
+        if !die_so(alloc, *commands, want.as_slice()) {
+            return Some(place);
         }
     }
-    Ok(None)
+    None
 }
 
 #[test]
-fn deaths(rt: HostRuntime) -> Result<(), Fail> {
-    assert!(rt; first_wrong_death(rt.alloc())?.is_none());
-    Ok(())
+fn deaths(rt: HostRuntime) {
+    assert!(rt; first_wrong_death(rt.alloc()).is_none());
 }
 
 /// What only the machine runs asks for nothing of real threads, and the end of a phase and a thread's death before an access for nothing of the machine.
 #[test]
-fn other_modes(rt: HostRuntime) -> Result<(), Fail> {
+fn other_modes(rt: HostRuntime) {
     let run = "thread a\nmutex m\nbegin a trylock m\nstep a 2\ncall a unlock m\n";
-    assert!(rt; asks_for(rt.alloc(), run, Mode::Run, &[&[(1, &[UNLOCK])]])?);
+    assert!(rt; asks_for(rt.alloc(), run, Mode::Run, &[&[(1, &[UNLOCK])]]));
     let threads = "thread a\nmutex m\ndie a 2\ncall a trylock m\nphase\nphase\ncall a unlock m\n";
     assert!(rt; playing(rt.alloc(), threads, Mode::Threads) == Ok(17));
-    Ok(())
 }
 
 /// How many phases a script for real threads has, or the number of its fault and its line.
-fn phases_of(alloc: Global, text: &[u8]) -> Result<usize, (u8, usize)> {
-    let script = match parse(alloc, text, Mode::Threads) {
-        Ok(script) => script,
-        Err(refused) => return Err((refused.fault.number(), refused.line)),
-    };
-    match jobs(alloc, &script) {
+fn phases_of(alloc: Global, text: &[u8]) -> Result<usize, Refused> {
+    match jobs_of(alloc, text, Mode::Threads) {
         Ok(jobs) => Ok(jobs.phases.len()),
-        Err(refused) => Err((refused.fault.number(), refused.line)),
+        Err(refused) => Err(refused),
     }
 }
 

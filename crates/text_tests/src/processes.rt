@@ -1,13 +1,12 @@
 //! Scripts with processes: which are refused, and what those that are played leave, written out by hand from the format.
 
 use crate::built::joined;
-use crate::events::{Played, playing};
-use crate::faults::{Refusal, Scripts};
+use crate::events::{Played, first_wrong, outcome};
+use crate::faults::{Refusal, Scripts, read};
 use interleave::Machine;
 use lockword::Tid;
-use script::{Action, Command, Mode, parse, play};
-use std::alloc::{AllocError, Global};
-use std::test::Fail;
+use script::{Action, Command, Mode, Script};
+use std::alloc::Global;
 
 /// Lines stand behind a thread `a` and a mutex `m`, the first of them third.
 const FOR_A_RUN: Scripts = Scripts {
@@ -73,14 +72,9 @@ static DECLARATIONS: [(&str, Refusal); 34] = [
 ];
 
 #[test]
-fn declarations(rt: HostRuntime) -> Result<(), Fail> {
-    assert!(rt; FOR_A_RUN.first_wrong(rt.alloc(), &DECLARATIONS)?.is_none());
-    assert!(rt;
-        FOR_THREADS
-            .first_wrong(rt.alloc(), &DECLARATIONS)?
-            .is_none()
-    );
-    Ok(())
+fn declarations(rt: HostRuntime) {
+    assert!(rt; FOR_A_RUN.first_wrong(rt.alloc(), &DECLARATIONS).is_none());
+    assert!(rt; FOR_THREADS.first_wrong(rt.alloc(), &DECLARATIONS).is_none());
 }
 
 /// Lines that kill a process.
@@ -103,14 +97,13 @@ static KILLS_OF_THREADS: [(&str, Refusal); 2] = [
 ];
 
 #[test]
-fn kills(rt: HostRuntime) -> Result<(), Fail> {
-    assert!(rt; FOR_A_RUN.first_wrong(rt.alloc(), &KILLS)?.is_none());
+fn kills(rt: HostRuntime) {
+    assert!(rt; FOR_A_RUN.first_wrong(rt.alloc(), &KILLS).is_none());
     assert!(rt;
         FOR_THREADS
-            .first_wrong(rt.alloc(), &KILLS_OF_THREADS)?
+            .first_wrong(rt.alloc(), &KILLS_OF_THREADS)
             .is_none()
     );
-    Ok(())
 }
 
 /// Three processes beside process 0: `p` has two threads, `q` has one, `r` has none.
@@ -128,45 +121,40 @@ static EVENTS: [(&str, Played); 7] = [
     ("step a 100000\nkillall r\n", Ok(100_000)),
 ];
 
-fn first_wrong(alloc: Global) -> Result<Option<usize>, AllocError> {
-    for (place, (commands, want)) in EVENTS.iter().enumerate() {
-        let text = joined(alloc, DECLARED, *commands, "")?;
-        if playing(alloc, text.as_str(), Mode::Run) != *want {
-            return Ok(Some(place));
-        }
-    }
-    Ok(None)
+#[test]
+fn events(rt: HostRuntime) {
+    assert!(rt; first_wrong(rt.alloc(), DECLARED, &EVENTS).is_none());
 }
 
-#[test]
-fn events(rt: HostRuntime) -> Result<(), Fail> {
-    assert!(rt; first_wrong(rt.alloc())?.is_none());
-    Ok(())
+/// Whether the script's two processes have these bases, and its threads are of the processes with these numbers.
+fn has_processes(script: &Script, bases: (u64, u64), members: &[u8]) -> bool {
+    script.processes() == 2
+        && script.base(1) == bases.0
+        && script.base(2) == bases.1
+        && script.members() == members
 }
 
-/// Processes have the numbers from 1 on in the order of their lines, and threads are of those that their lines name.
-#[test]
-fn numbers(rt: HostRuntime) -> Result<(), Fail> {
-    let text =
-        b"process p 1000\nthread a p\nprocess q 2000\nthread b\nthread c q\nmutex m\nkillall q\n";
-    let script = parse(rt.alloc(), text, Mode::Run)?;
-    assert!(rt; script.processes() == 2);
-    assert!(rt; script.base(1) == 1000);
-    assert!(rt; script.base(2) == 2000);
-    assert!(rt; script.members() == [1, 0, 2].as_slice());
+/// Whether its only command, in line 7, kills the second process.
+fn kills_the_second(script: &Script) -> bool {
     let killed = [Command {
         line: 7,
         action: Action::KillAll(2),
     }];
-    assert!(rt; script.commands() == killed.as_slice());
-    Ok(())
+    script.commands() == killed.as_slice()
 }
 
-/// The machine of a script that was played.
-fn played(alloc: Global, text: &str) -> Result<Machine, Fail> {
-    let script = parse(alloc, text.as_bytes(), Mode::Run)?;
-    let (_trace, machine) = play(alloc, &script)?;
-    Ok(machine)
+/// Processes have the numbers from 1 on in the order of their lines, and threads are of those that their lines name.
+#[test]
+fn numbers(rt: HostRuntime) {
+    let text =
+        b"process p 1000\nthread a p\nprocess q 2000\nthread b\nthread c q\nmutex m\nkillall q\n";
+    let is_so = match read(rt.alloc(), text, Mode::Run) {
+        Ok(script) => {
+            has_processes(&script, (1000, 2000), &[1, 0, 2]) && kills_the_second(&script)
+        }
+        Err(_) => false,
+    };
+    assert!(rt; is_so);
 }
 
 /// Where the process of a thread maps the words.
@@ -189,22 +177,27 @@ fn has_words(machine: &Machine, words: [u64; 5]) -> bool {
         && machine.word(9) == Some(previous)
 }
 
-const TWO_PROCESSES: &str = "process p 1000\nprocess q 2000\nthread a p\nthread b q\nmutex m\n";
+/// Whether the machine that is left by these commands, behind two processes with a thread each, has these words.
+fn leaves(alloc: Global, commands: &str, words: [u64; 5]) -> bool {
+    let declared = "process p 1000\nprocess q 2000\nthread a p\nthread b q\nmutex m\n";
+    let Ok(text) = joined(alloc, declared, commands, "") else {
+        return false;
+    };
+    match outcome(alloc, text.as_bytes(), Mode::Run) {
+        Ok((_trace, machine)) => {
+            base_of(&machine, 1) == Some(1000)
+                && base_of(&machine, 2) == Some(2000)
+                && has_words(&machine, words)
+        }
+        Err(_) => false,
+    }
+}
 
 /// Each process has its own addresses in the words: a mutex whose owner dies leaves its list, and enters that of the next owner in the other process.
 #[test]
-fn words_hold_addresses_of_their_process(rt: HostRuntime) -> Result<(), Fail> {
-    let locked = joined(rt.alloc(), TWO_PROCESSES, "call a lock m\n", "")?;
-    let machine = played(rt.alloc(), locked.as_str())?;
-    assert!(rt; base_of(&machine, 1) == Some(1000) && base_of(&machine, 2) == Some(2000));
-    assert!(rt; has_words(&machine, [1008, 2004, 1, 1001, 1001]));
-    let died = joined(
-        rt.alloc(),
-        TWO_PROCESSES,
-        "call a lock m\nkillall p\ngo a\n",
-        "call b lock m\n",
-    )?;
-    let machine = played(rt.alloc(), died.as_str())?;
-    assert!(rt; has_words(&machine, [1008, 2008, 0x4000_0002, 2004, 2004]));
-    Ok(())
+fn words_hold_addresses_of_their_process(rt: HostRuntime) {
+    let locked = "call a lock m\n";
+    assert!(rt; leaves(rt.alloc(), locked, [1008, 2004, 1, 1001, 1001]));
+    let died = "call a lock m\nkillall p\ngo a\ncall b lock m\n";
+    assert!(rt; leaves(rt.alloc(), died, [1008, 2008, 0x4000_0002, 2004, 2004]));
 }

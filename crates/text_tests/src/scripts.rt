@@ -1,11 +1,11 @@
 //! Scripts of a run, with the fault that each is refused for, written out by hand from the format.
 
 use crate::built::joined;
-use crate::faults::Scripts;
+use crate::faults::{Refused, Scripts, read};
 use lockword::Tid;
 use mutex::Call;
 use protocol::Op;
-use script::{Action, Command, Fault, Mode, Script, ScriptFault, parse};
+use script::{Action, Command, Fault, Mode, Script, ScriptFault};
 use std::alloc::{AllocError, Global};
 use std::test::Fail;
 
@@ -79,8 +79,13 @@ fn a_script(rt: HostRuntime) -> Result<(), Fail> {
     let bob = Tid::new(2).ok_or("an id")?;
     let text =
         b"# two threads\nthread ada\nthread bob\n\nmutex bob\nbegin bob trylock bob\nstep bob 3\n# now the other\ncall ada unlock bob\nbegin ada unlock bob\ncall bob trylock bob\nstep ada 100000\n";
-    let script = parse(rt.alloc(), text, Mode::Run)?;
-    assert!(rt; is_of_ada_and_bob(&script, ada, bob) && are_commands(script.commands(), ada, bob));
+    let is_so = match read(rt.alloc(), text, Mode::Run) {
+        Ok(script) => {
+            is_of_ada_and_bob(&script, ada, bob) && are_commands(script.commands(), ada, bob)
+        }
+        Err(_) => false,
+    };
+    assert!(rt; is_so);
     Ok(())
 }
 
@@ -121,17 +126,21 @@ fn a_script_with_a_death(rt: HostRuntime) -> Result<(), Fail> {
     let b = Tid::new(2).ok_or("an id")?;
     let text =
         b"thread a\nthread b\nmutexes m 3\nlocks b m1 2\nkill b\ngo b\ncall a lock m2\nbegin a consistent m2\n";
-    let script = parse(rt.alloc(), text, Mode::Run)?;
-    let mode = script.mode();
-    assert!(rt; mode == Mode::Run && are_commands_with_a_death(script.commands(), a, b));
+    let is_so = match read(rt.alloc(), text, Mode::Run) {
+        Ok(script) => {
+            script.mode() == Mode::Run && are_commands_with_a_death(script.commands(), a, b)
+        }
+        Err(_) => false,
+    };
+    assert!(rt; is_so);
     Ok(())
 }
 
 /// How many commands a script has, or the fault that it is refused for and its line.
-fn commands_of(alloc: Global, text: &[u8]) -> Result<usize, (u8, usize)> {
-    match parse(alloc, text, Mode::Run) {
+fn commands_of(alloc: Global, text: &[u8]) -> Result<usize, Refused> {
+    match read(alloc, text, Mode::Run) {
         Ok(script) => Ok(script.commands().len()),
-        Err(refused) => Err((refused.fault.number(), refused.line)),
+        Err(refused) => Err(refused),
     }
 }
 

@@ -1,8 +1,8 @@
 //! Scripts that are as long as they may be, too long, or cut.
 
 use crate::built::{joined, repeated};
-use crate::faults::{Refusal, Scripts, refusal};
-use script::{MAX_BYTES, MAX_LINES, Mode, parse};
+use crate::faults::{Refusal, Scripts, read, refusal};
+use script::{MAX_BYTES, MAX_LINES, Mode};
 use std::alloc::{AllocError, Global};
 use std::test::Fail;
 
@@ -19,8 +19,11 @@ fn of_conditions(alloc: Global, count: usize) -> Result<String, AllocError> {
 #[test]
 fn many_conditions(rt: HostRuntime) -> Result<(), Fail> {
     let most = of_conditions(rt.alloc(), 256)?;
-    let script = parse(rt.alloc(), most.as_bytes(), Mode::Run)?;
-    assert!(rt; script.conditions() == 256);
+    let are_most = match read(rt.alloc(), most.as_bytes(), Mode::Run) {
+        Ok(script) => script.conditions() == 256,
+        Err(_) => false,
+    };
+    assert!(rt; are_most);
     let over = of_conditions(rt.alloc(), 257)?;
     assert!(rt; refusal(rt.alloc(), over.as_bytes(), Mode::Run) == Some((3, 259)));
     let again = joined(rt.alloc(), most.as_str(), "cond c0 m 0", "\n")?;
@@ -103,15 +106,17 @@ static ONE_MORE_THREAD: [(&str, Refusal); 4] = [
 ];
 
 #[test]
-fn many_threads(rt: HostRuntime) -> Result<(), Fail> {
-    let script = parse(rt.alloc(), MANY_THREADS.as_bytes(), Mode::Run)?;
-    assert!(rt; script.threads() == 64);
+fn many_threads(rt: HostRuntime) {
+    let are_most = match read(rt.alloc(), MANY_THREADS.as_bytes(), Mode::Run) {
+        Ok(script) => script.threads() == 64,
+        Err(_) => false,
+    };
+    assert!(rt; are_most);
     assert!(rt;
         BEHIND_MANY_THREADS
-            .first_wrong(rt.alloc(), &ONE_MORE_THREAD)?
+            .first_wrong(rt.alloc(), &ONE_MORE_THREAD)
             .is_none()
     );
-    Ok(())
 }
 
 /// A script that is cut: each beginning whose length is from the first number on and below the second is refused so.
