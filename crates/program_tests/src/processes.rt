@@ -84,7 +84,45 @@ fn processes_are_refused(rt: HostRuntime) {
     );
 }
 
-/// Real threads may be declared of processes too; a line that kills one is not for them.
+/// A real thread dies, and one of another process takes over what it held: in a lock, where its pending entry names the mutex, and behind it, where its list does.
+#[test]
+fn mutexes_go_from_a_dead_thread_to_another_process(rt: HostRuntime) {
+    assert!(rt;
+        threads(
+            &rt,
+            "process p 1000\nprocess q 2000\nthread a p\nthread b q\nmutex m\n\
+             die a 4\ncall a lock m\nphase\ncall b lock m\n"
+        )
+        .is(
+            0,
+            "replies a dead\nreplies b EOWNERDEAD\nmutex m 0000000040000002 b -\n",
+            ""
+        )
+    );
+    assert!(rt;
+        threads(
+            &rt,
+            "process p 1000\nprocess q 2000\nthread a p\nthread b q\nmutex m\nmutex n\n\
+             die a 9\ncall a lock m\ncall a lock n\nphase\ncall b lock m\ncall b lock n\n"
+        )
+        .is(
+            0,
+            "replies a OK dead\nreplies b EOWNERDEAD OK\nmutex m 0000000040000002 b -\nmutex n 0000000000000002 b -\n",
+            ""
+        )
+    );
+}
+
+/// Real threads of two processes lock at once, and sleep where they have to: they meet at the mutex, each by an address of its own.
+#[test]
+fn real_threads_of_two_processes_meet(rt: HostRuntime) {
+    let script = "process p 1000\nprocess q 2000\nthread a p\nthread b q\nmutex m\n\
+        call a lock m\ncall a unlock m\ncall b lock m\ncall b unlock m\n";
+    let text = "replies a OK OK\nreplies b OK OK\nmutex m 0000000000000000 - -\n";
+    assert!(rt; threads(&rt, script).is(0, text, ""));
+}
+
+/// Real threads are of processes too; a line that kills one is not for them.
 #[test]
 fn real_threads_are_of_processes(rt: HostRuntime) {
     assert!(rt;

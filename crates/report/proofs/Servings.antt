@@ -13,7 +13,7 @@ use Rattle.script.specs.declared.command.Mode.TheVariants.{Run, Threads}
 use Rattle.script.specs.declared.fault.ScriptFault.{ScriptFault}
 use Rattle.script.specs.Scope.{Scope}
 use Rattle.script.specs.Reading.{script_read}
-use Rattle.script.specs.Playing.{layout_of, first_state, events_in, overlong}
+use Rattle.script.specs.Playing.{layout_of, counters_of, first_state, events_in, overlong}
 use Rattle.script.specs.Played.{IsPlayed}
 use Rattle.script.proofs.Layouts.{run_layout}
 use Rattle.std.proofs.lemmas.List.FromFn.{length-map-range_with_len}
@@ -93,11 +93,11 @@ pub told_front : (old new : Option (List ℕ)) (bytes : List ℕ) (s : Scope) (a
 told_front old new bytes s a reads answer front = wrote_front replies old new bytes s (replies_text front.0 front.1) reads (a, answer, front.0, front.1, front.2, refl) front.3
 
 -- what real threads were answered is an answer to the script
-pub answered : (s : Scope) (a : Answers) (phases : List Phase) (dies : List (Option ℕ)) → map jobs_seen phases ≡ jobs_of s → dies ≡ dies_of s → HaveAnswered (length s.threads) (length s.mutexes) phases dies a.replies.items a.died.items a.cells.items → OnlyNumberedDie dies a.died.items → Answer s a
+pub answered : (s : Scope) (a : Answers) (phases : List Phase) (dies : List (Option ℕ)) → map jobs_seen phases ≡ jobs_of s → dies ≡ dies_of s → HaveAnswered (layout_of s) (counters_of s) phases dies a.replies.items a.died.items a.cells.items → OnlyNumberedDie dies a.died.items → Answer s a
 answered s a phases dies asked same had numbered = record {
   phases = phases;
   asked = asked;
-  answered = subst (λ (ns : List (Option ℕ)). HaveAnswered (length s.threads) (length s.mutexes) phases ns a.replies.items a.died.items a.cells.items) same had;
+  answered = subst (λ (ns : List (Option ℕ)). HaveAnswered (layout_of s) (counters_of s) phases ns a.replies.items a.died.items a.cells.items) same had;
   numbered = subst (λ (ns : List (Option ℕ)). OnlyNumberedDie ns a.died.items) same numbered;
 }
 

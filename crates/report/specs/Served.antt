@@ -9,7 +9,7 @@ use Rattle.script.specs.declared.command.Mode.TheVariants.{Run, Threads}
 use Rattle.script.specs.Limits.{max_bytes}
 use Rattle.script.specs.Scope.{Scope}
 use Rattle.script.specs.Reading.{script_read}
-use Rattle.script.specs.Playing.{first_state, events_in, overlong}
+use Rattle.script.specs.Playing.{layout_of, counters_of, first_state, events_in, overlong}
 use Rattle.cmdline.specs.declared.form.Form.{Form}
 use Rattle.cmdline.specs.declared.form.Form.TheVariants as form
 use Rattle.texts.specs.declared.replies.ThreadReplies.{ThreadReplies}
@@ -41,11 +41,11 @@ pub record AreLines (s : Scope) (a : Answers) (threads : List ThreadReplies) (mu
   pub mutex_names : map (λ m. m.name.now) mutexes ≡ s.mutexes
   pub cells : map (λ m. m.cell) mutexes ≡ a.cells.items
 
--- real threads made the script's calls, phase after phase, as far as they lived, and were answered so. Only those die that the script says it of
+-- real threads made the script's calls, each in the process that the script has it in, phase after phase, as far as they lived, and were answered so. Only those die that the script says it of
 pub record Answer (s : Scope) (a : Answers) : Type 0 where
   pub phases : List Phase
   pub asked : map jobs_seen phases ≡ jobs_of s
-  pub answered : HaveAnswered (length s.threads) (length s.mutexes) phases (dies_of s) a.replies.items a.died.items a.cells.items
+  pub answered : HaveAnswered (layout_of s) (counters_of s) phases (dies_of s) a.replies.items a.died.items a.cells.items
   pub numbered : OnlyNumberedDie (dies_of s) a.died.items
 
 -- how a script's events leave its threads, mutexes and condition variables

@@ -2,7 +2,7 @@
 use Rattle.std.specs.Prelude.{ℕ, ◌≡◌, ◌+◌, ◌<◌, Bool, true, false, Option, None, Some, List, [], ◌++◌, length, map, slice_index, All, Vec, slice_get, ◌==◌, if◌then◌else◌}
 use Rattle.std.specs.declared.alloc.Global.{Global}
 use Rattle.std.specs.List.{flat_map}
-use Rattle.keys.specs.Layouts.{cell_place, one_process}
+use Rattle.keys.specs.Layouts.{Layout', cell_place}
 use Rattle.lockword.specs.declared.reply.Reply.{Reply}
 use Rattle.mutex.specs.declared.call.Call.{Call}
 use Rattle.mutex.specs.Calls.{mutex_of}
@@ -102,13 +102,15 @@ pub record HasEnded (w : Words) (workers : List Worker) (cells : List ℕ) : Typ
   pub ends : Ends (layout_of w) (presets_of w) (map (λ v. card_in v.pass) workers) (last_words last)
   pub words : AreCells last cells
 
--- what came of the calls of so many threads, each with its number or without, on so many mutexes: there were words, on which each thread made its calls in these phases from its first pass on, as far as it
--- lived, and was answered so; these threads died; and what is left of the words' cells are these. All replies and deaths of all threads stand in one history of each mutex
-pub record HaveAnswered (threads mutexes : ℕ) (ps : List Phase) (dies : List (Option ℕ)) (replies : List (Vec Reply Global)) (died : List Bool) (cells : List ℕ) : Type 0 where
+-- what came of the calls of the threads of a layout, each with its number or without, where the condition variables' counters begin with these values: there were words of just that layout, each thread's
+-- process and each process's base as it says, on which each thread made its calls in these phases from its first pass on, as far as it lived, and was answered so; these threads died; and what is left of the
+-- words' cells are these. All replies and deaths of all threads stand in one history of each mutex
+pub record HaveAnswered (k : Layout') (counters : List ℕ) (ps : List Phase) (dies : List (Option ℕ)) (replies : List (Vec Reply Global)) (died : List Bool) (cells : List ℕ) : Type 0 where
   pub words : Words
-  pub layout : layout_of words ≡ one_process threads mutexes []
+  pub layout : layout_of words ≡ k
+  pub presets : presets_of words ≡ counters
   pub passes : List (Pass Live)
-  pub as_many : length passes ≡ threads
+  pub as_many : length passes ≡ k.threads
   pub cards : (i : ℕ) (a : Pass Live) → slice_get passes i ≡ Some a → card a ≡ first_card (layout_of words) (i + 1)
   pub firsts : List Worker
   pub numbers : AreFirst passes dies firsts

@@ -1,11 +1,12 @@
 //! A script's calls on real threads, phase by phase.
 ghost use Rattle.std.specs.Prelude.{◌≡◌, [], All, length, map, IfOk};
 ghost use Rattle.ruledwords.specs.Passes.{card, layout_of, last_layout, IsPassOf};
+ghost use Rattle.script.specs.Playing.{counters_of, layout_of as layout_in};
 ghost use Rattle.threadbench.specs.Answered.{card_in, IsWorkerOf};
 ghost use Rattle.threadbench.specs.Jobs.{LivesOn};
 ghost use Rattle.report.specs.Threads.{is_reaped, IsRightPhase, AreRightPhases, calls_in, AreFirst, AreHired, AreGathered, AreCells, HaveWorked, HaveMade, HasEnded, HaveAnswered, HaveReplies, OnlyNumberedDie};
 
-use keys::{Layout, NoMem};
+use keys::NoMem;
 use lockword::Reply;
 use mutex::Call;
 use ruledwords::{Last, Live, Pass, Spent};
@@ -230,8 +231,20 @@ fn end(
     Ok((died, cells))
 }
 
-/// Lets real threads make the calls of a script, phase after phase, and tells what they were answered, which of them died, and what is left in the cells. A phase begins when
-/// all calls of the one before have been answered, or their threads have died and the walks over their lists have ended. Refused where no memory is left.
+/// What the counters of a script's condition variables begin with.
+fn counters_of(alloc: Global, script: &Script) -> Result<Vec<u32>, AllocError>
+    ensures { IfOk result (λ counters. counters.items ≡ counters_of script.now) }
+{
+    let mut counters = Vec::new(alloc);
+    for condition in 0..script.conditions() {
+        counters.push(script.condition(condition).counter)?;
+    }
+    Ok(counters)
+}
+
+/// Lets real threads make the calls of a script, phase after phase, and tells what they were answered, which of them died, and what is left in the cells. Each thread has the words
+/// where its process maps them. A phase begins when all calls of the one before have been answered, or their threads have died and the walks over their lists have ended. Refused
+/// where no memory is left.
 pub(crate) fn answers_of<R: Threads + Wait + Sync>(
     rt: &R,
     alloc: Global,
@@ -243,12 +256,15 @@ pub(crate) fn answers_of<R: Threads + Wait + Sync>(
     ensures replies { IfOk result (λ a. length a.replies.items ≡ length script.now.threads) }
     ensures died { IfOk result (λ a. length a.died.items ≡ length script.now.threads) }
     ensures cells { IfOk result (λ a. length a.cells.items ≡ length script.now.mutexes) }
-    ensures answered { IfOk result (λ a. HaveAnswered (length script.now.threads) (length script.now.mutexes) jobs.phases.items jobs.dies.items a.replies.items a.died.items a.cells.items) }
+    ensures answered { IfOk result (λ a. HaveAnswered (layout_in script.now) (counters_of script.now) jobs.phases.items jobs.dies.items a.replies.items a.died.items a.cells.items) }
     ensures each { IfOk result (λ a. HaveReplies jobs.phases.items a.replies.items a.died.items) }
     ensures numbered { IfOk result (λ a. OnlyNumberedDie jobs.dies.items a.died.items) }
 {
-    let layout = Layout::new(script.threads(), script.mutexes(), &[]).unwrap();
-    let (bench, passes) = Bench::new(alloc, layout, &[])?;
+    let Ok(counters) = counters_of(alloc, script) else {
+        return Err(NoMem);
+    };
+    let layout = script.layout();
+    let (bench, passes) = Bench::new(alloc, layout, counters.as_slice())?;
     let Ok(workers) = workers_of(alloc, passes, jobs.dies.as_slice()) else {
         return Err(NoMem);
     };

@@ -18,7 +18,7 @@ use Rattle.script.specs.declared.fault.ScriptFault.{ScriptFault}
 use Rattle.script.specs.Limits.{max_events, max_mutexes, rest_steps}
 use Rattle.script.specs.Scope.{Scope}
 
--- the machine of a script: its threads, each of its process, its mutexes and condition variables. Process 0 maps the words at 0, and those with names map them at the bases that they were declared with
+-- the words of a script: its threads, each of its process, its mutexes and condition variables. Process 0 maps the words at 0, and those with names map them at the bases that they were declared with
 abbrev pub layout_of : Scope → Layout'
 layout_of s = record {
   threads = length s.threads;
@@ -28,9 +28,13 @@ layout_of s = record {
   bases = 0 ∷ map (λ p. p.1) s.processes;
 }
 
--- what the counters begin with, by the numbers of their condition variables
+-- what the counters begin with, in the order of their condition variables' numbers
+abbrev pub counters_of : Scope → List ℕ
+counters_of s = map (λ c. c.1.counter) s.conditions
+
+-- and by these numbers
 abbrev pub counter_of : Scope → ℕ → ℕ
-counter_of s k = slice_index_or (map (λ c. c.1.counter) s.conditions) k 0
+counter_of s k = slice_index_or (counters_of s) k 0
 
 abbrev pub first_state : Scope → State
 first_state s = start (layout_of s) (counter_of s)

@@ -7,6 +7,7 @@ mod draft;
 mod fault;
 mod gathering;
 mod laws;
+mod layout;
 mod limits;
 mod line;
 mod parsed;

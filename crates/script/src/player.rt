@@ -1,5 +1,5 @@
 //! Playing a script's commands on the machine.
-ghost use Rattle.std.specs.Prelude.{true, ◌≡◌, ◌≤◌, [], ◌∷◌, ◌++◌, length, replicate, take, ◌+◌, OnOk, IfOk, IfErr};
+ghost use Rattle.std.specs.Prelude.{true, ◌≡◌, ◌≤◌, [], ◌∷◌, ◌++◌, length, replicate, ◌+◌, OnOk, IfOk, IfErr};
 ghost use Rattle.protocol.specs.declared.event.Event.TheVariants.{Step};
 ghost use Rattle.protocol.specs.Machine.{start};
 ghost use Rattle.interleave.specs.Shown.{state_of};
@@ -12,7 +12,6 @@ use crate::fault::{Fault, ScriptFault};
 use crate::limits::{MAX_EVENTS, REST_STEPS};
 use crate::parsed::Script;
 use interleave::{Machine, Trace};
-use keys::{CONDITION_LIMIT, Layout, PROCESS_LIMIT};
 use lockword::Tid;
 use mutex::Call;
 use protocol::{Event, Note, Op};
@@ -180,44 +179,6 @@ fn play_commands(
     Ok(())
 }
 
-/// The bases of a script's processes, that of process 0 first.
-fn bases_of(script: &Script) -> [u64; PROCESS_LIMIT]
-    ensures { take (length script.now.processes + 1) result ≡ (layout_of script.now).bases }
-{
-    let mut bases = [0; PROCESS_LIMIT];
-    for earlier in 0..script.processes() {
-        let process = earlier + 1;
-        bases[usize::from(process)] = script.base(process);
-    }
-    bases
-}
-
-/// The mutexes of a script's condition variables.
-fn mutexes_of(script: &Script) -> [u16; CONDITION_LIMIT]
-    ensures { take (length script.now.conditions) result ≡ (layout_of script.now).conditions }
-{
-    let mut mutexes = [0; CONDITION_LIMIT];
-    for condition in 0..script.conditions() {
-        mutexes[usize::from(condition)] = script.condition(condition).mutex;
-    }
-    mutexes
-}
-
-/// The layout of a script's threads and processes, mutexes and condition variables.
-fn layout_of(script: &Script) -> Layout
-    ensures { result ≡ layout_of script.now }
-{
-    let bases = bases_of(script);
-    let mutexes = mutexes_of(script);
-    Layout::with_processes(
-        script.members(),
-        &bases[..usize::from(script.processes()) + 1],
-        script.mutexes(),
-        &mutexes[..usize::from(script.conditions())],
-    )
-    .unwrap()
-}
-
 /// Sets each counter to the value that the script begins it with.
 fn preset_all(machine: &mut Machine, script: &Script)
     requires starts { state_of machine.old ≡ start (layout_of script.now) (λ c. 0) }
@@ -234,7 +195,7 @@ fn first_machine(alloc: Global, script: &Script) -> Result<Machine, ScriptFault>
     ensures starts { IfOk result (λ machine. state_of machine ≡ first_state script.now) }
     ensures memory { IfErr result (λ e. e ≡ record { line = 1; fault = Fault.OutOfMemory }) }
 {
-    let Ok(mut machine) = Machine::new(alloc, layout_of(script)) else {
+    let Ok(mut machine) = Machine::new(alloc, script.layout()) else {
         return Err(ScriptFault {
             line: 1,
             fault: Fault::OutOfMemory,

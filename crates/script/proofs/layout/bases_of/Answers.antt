@@ -3,7 +3,7 @@ use Rattle.std.specs.Prelude.{option_map, slice_get}
 use Rattle.std.proofs.lemmas.List.{length-set}
 use Rattle.script.specs.Playing.{layout_of}
 use Rattle.script.proofs.Firsts.{base_more}
-use Rattle.script.proofs.player.bases_of.Goals as goal
+use Rattle.script.proofs.layout.bases_of.Goals as goal
 
 pub loop-earlier-preserved : goal.loop-earlier-preserved
 loop-earlier-preserved c =

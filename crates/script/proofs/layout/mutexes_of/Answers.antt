@@ -2,7 +2,7 @@ use Rattle.std.proofs.Common.{◌≡◌, ◌∙◌, ℕ, ◌+◌, ◌<◌, lengt
 use Rattle.std.proofs.lemmas.List.{length-set}
 use Rattle.script.specs.Playing.{layout_of}
 use Rattle.script.proofs.Firsts.{mutex_more}
-use Rattle.script.proofs.player.mutexes_of.Goals as goal
+use Rattle.script.proofs.layout.mutexes_of.Goals as goal
 
 pub loop-condition-preserved : goal.loop-condition-preserved
 loop-condition-preserved c =

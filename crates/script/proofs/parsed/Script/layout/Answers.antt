@@ -1,10 +1,10 @@
 use Rattle.std.proofs.Common.{◌≡◌, ◌∙◌, ℕ, ◌+◌, length, take, ap}
 use Rattle.script.proofs.Firsts.{lays}
-use Rattle.script.proofs.player.layout_of.Goals as goal
+use Rattle.script.proofs.parsed.Script.layout.Goals as goal
 
 pub unwrap-requires : goal.unwrap-requires
 unwrap-requires c =
-    let s = c.args.script.now in
+    let s = c.args.self.now in
     let bs = c.bases_of-bases.result in
     let ms = c.mutexes_of-mutexes.result in
     let processes : c.from.result + 1 ≡ length s.processes + 1 = ap (λ (n : ℕ). n + 1) (c.from.ensures ∙ c.processes.ensures.count) in
