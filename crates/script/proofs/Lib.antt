@@ -9,6 +9,7 @@ pub mod Silences
 mod Plays
 mod Killing
 mod Told
+mod DeathsTold
 mod Rests
 mod Dying
 pub mod Phases

@@ -44,7 +44,7 @@ grows_on s t u ps ps' ms ms' ks ks' a b = record {
 
 -- ---- numbers of processes
 
-found_early : {X : Type 0} (q : X → Bool) (xs more : List X) → position_or_len q xs < length xs → position_or_len q (xs ++ more) ≡ position_or_len q xs
+pub found_early : {X : Type 0} (q : X → Bool) (xs more : List X) → position_or_len q xs < length xs → position_or_len q (xs ++ more) ≡ position_or_len q xs
 found_early q [] more lt = absurd (omega arith)
 found_early {X} q (x ∷ xs) more lt = go (q x) lt (λ h. found_early q xs more h)
   where
@@ -98,7 +98,7 @@ stays s t processes members commands = record {
   killalls = commands ∙ sym (append-nil (killalls_of s.commands));
 }
 
-any : {A : Type 0} (r : Result A Fault) → IfOk r (λ _. Unit {0})
+pub any : {A : Type 0} (r : Result A Fault) → IfOk r (λ _. Unit {0})
 any (Ok x) = tt
 any (Err f) = tt
 
@@ -141,10 +141,10 @@ locking s t m None = tt
 locking s t m (Some k) = chain (first_of s m k) (λ j. thread_of s t >>= λ i. Ok (action.Locks i j k)) (λ _. Unit {0}) (λ a. killed_by a ≡ []) (any (first_of s m k)) (λ j _. of_thread s t (λ i. action.Locks i j k) (λ i. refl))
 
 -- a declaration
-after_all : {A : Type 0} (s : Scope) (r : Result A Fault) (f : A → Result Scope Fault) (P : Scope → Type 0) → ((x : A) → IfOk (f x) P) → IfOk (r >>= f) P
+pub after_all : {A : Type 0} (s : Scope) (r : Result A Fault) (f : A → Result Scope Fault) (P : Scope → Type 0) → ((x : A) → IfOk (f x) P) → IfOk (r >>= f) P
 after_all s r f P h = chain r f (λ _. Unit {0}) P (any r) (λ x _. h x)
 
-unless : (b : Bool) (f : Fault) (r : Result Scope Fault) (P : Scope → Type 0) → IfOk r P → IfOk (refuse b f r) P
+pub unless : (b : Bool) (f : Fault) (r : Result Scope Fault) (P : Scope → Type 0) → IfOk r P → IfOk (refuse b f r) P
 unless b f r P h = refused b f r P (λ _. h)
 
 of_process : (s : Scope) (w : List ℕ) (p : ℕ) (told : List ℕ) → p ∷ [] ≡ told → IfOk (with_thread s w p) (λ t. Grows s t [] told [])
@@ -192,10 +192,10 @@ abbrev Says : Form → List (List ℕ) → Type 0
 Says f ws = Given f → (told_process f ≡ process_in ws) × ((ps : List (List ℕ × ℕ)) → told_member ps f ≡ member_in ps ws) × ((ps : List (List ℕ × ℕ)) → told_killall ps f ≡ killall_in ps ws)
 
 -- words that are one are no other
-other : (w x y : List ℕ) → bytes_eq w x ≡ true → bytes_eq x y ≡ false → bytes_eq w y ≡ false
+pub other : (w x y : List ℕ) → bytes_eq w x ≡ true → bytes_eq x y ≡ false → bytes_eq w y ≡ false
 other w x y is apart = ap (λ (v : List ℕ). bytes_eq v y) ((bytes_eq-Decides w x).0 is) ∙ apart
 
-first_of_three : (b c d : Bool) → (b && c && d) ≡ true → b ≡ true
+pub first_of_three : (b c d : Bool) → (b && c && d) ≡ true → b ≡ true
 first_of_three true c d e = refl
 first_of_three false c d e = absurd cc
 
@@ -321,7 +321,7 @@ last_told n s text =
     go [] empty = stays s s refl refl refl
     go (x ∷ xs) empty = absurd (grind (arith, nat_tests))
 
-met : {A : Type 0} (n : ℕ) (r : Result A Fault) (P : A → Type 0) → IfOk r P → IfOk (met_at n r) P
+pub met : {A : Type 0} (n : ℕ) (r : Result A Fault) (P : A → Type 0) → IfOk r P → IfOk (met_at n r) P
 met n (Ok x) P h = h
 met n (Err f) P h = tt
 

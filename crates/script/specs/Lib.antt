@@ -12,5 +12,6 @@ pub mod Playing
 pub mod Resting
 pub mod Killing
 pub mod Processes
+pub mod Dying
 pub mod Played
 pub mod Jobs

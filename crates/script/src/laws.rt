@@ -1,5 +1,6 @@
 //! What holds of every script.
 
+ghost use Rattle.script.specs.Dying.{DeathsAreAsTold};
 ghost use Rattle.script.specs.Killing.{KillallKillsOneProcess};
 ghost use Rattle.script.specs.Processes.{OneProcessWithoutALine, ProcessesAreAsTold};
 ghost use Rattle.script.specs.Silence.{SilentLinesSayNothing};
@@ -34,4 +35,11 @@ pub fn one_process_without_a_line()
 /// of no other thread.
 pub fn killall_kills_one_process()
     ensures { KillallKillsOneProcess }
+{}
+
+/// Of every script that is read: the deaths that its commands ask for, in their order, are those that its `die` lines say, each of
+/// the thread that the line names, before the access that it gives. A thread's number is its place, from 1, among those that
+/// `thread` lines declare, in their order: these names too are taken from the lines' words.
+pub fn deaths_are_as_told()
+    ensures { DeathsAreAsTold }
 {}

@@ -20,8 +20,8 @@ pub use command::{Action, Command, Condition, Mode};
 pub use fault::{Fault, ScriptFault};
 pub use gathering::jobs;
 pub use laws::{
-    killall_kills_one_process, one_process_without_a_line, processes_are_as_told,
-    silent_lines_say_nothing, threads_come_to_rest,
+    deaths_are_as_told, killall_kills_one_process, one_process_without_a_line,
+    processes_are_as_told, silent_lines_say_nothing, threads_come_to_rest,
 };
 pub use limits::{
     MAX_ACCESS, MAX_BASE, MAX_BYTES, MAX_CONDITIONS, MAX_COUNTER, MAX_EVENTS, MAX_LINES,
