@@ -1,6 +1,19 @@
 //! What the words of a command line ask for.
 //!
-//! `clap` is asked first, and then the words are matched. It stands in a crate of its own, so that no other proof reads what `clap` promises.
+//! [`form_of_words`] answers the [`Form`] of a command line: of each that isn't one of the others, [`Form::Usage`]. `clap` is
+//! asked first, and then the words are matched. It stands in a crate of its own, so that no other proof reads what `clap`
+//! promises.
+//!
+//! Stands on `clap`, for commands, options and arguments, and on `keys`, for want of memory.
+//!
+//! ```text
+//! let table = form_of_words(rt.alloc(), &["rfx", "run", "--table", "a.rfx"])?;
+//! assert_eq!(rt; table, Form::Table("a.rfx"));
+//! assert_eq!(rt; form_of_words(rt.alloc(), &["rfx", "check", "a.trace"])?, Form::Check("a.trace"));
+//! // A file's name doesn't begin with a hyphen, and nothing stands behind it.
+//! assert_eq!(rt; form_of_words(rt.alloc(), &["rfx", "run", "-a.rfx"])?, Form::Usage);
+//! assert_eq!(rt; form_of_words(rt.alloc(), &["rfx", "run", "a.rfx", "b.rfx"])?, Form::Usage);
+//! ```
 #![tactic(auto)]
 
 mod form;

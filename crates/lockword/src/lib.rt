@@ -4,6 +4,19 @@
 //! OWNER_DIED, as futex(2) and the kernel's robust-futex-ABI have them. Each change of a cell is proved by its owner and its
 //! flags; the other bits stay. [`Tid`] is a thread's id, and [`Reply`] is how a call answers, whose name is read back as that
 //! reply (`replies_are_read_back`).
+//!
+//! Stands on `thiserror` alone, for the message of a text that is no reply's name.
+//!
+//! ```text
+//! // Nobody owns the mutex, and its last owner died. Thread 2 takes it.
+//! let thread = Tid::new(2).ok_or("no thread 2")?;
+//! let owned = Cell::new(OWNER_DIED).taken(thread);
+//! assert_eq!(rt; (owned.owner(), owned.owner_died()), (2, true));
+//! // It releases it without having declared it consistent, so that nobody can lock it any more.
+//! let spoiled = owned.spoiled(thread);
+//! assert_eq!(rt; (spoiled.word(), spoiled.owner()), (UNUSABLE, 0));
+//! assert_eq!(rt; Reply::ENOTRECOVERABLE.number(), 131);
+//! ```
 #![tactic(auto)]
 
 mod cell;

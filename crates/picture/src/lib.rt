@@ -1,7 +1,23 @@
-//! Pictures of traces: a lane for each thread, a band for each mutex, and each line of the trace drawn once, in the lane of its thread and at its event.
+//! Pictures of traces: a lane for each thread, a band for each mutex, and each line of the trace drawn once, in the lane of its
+//! thread and at its event.
 //!
-//! [`draw`] draws a trace as rows of text, [`draw_svg`] as scalable vector graphics. What a lane shows between the lines of its thread, and which mark a line has
-//! in it, stands in `specs/`.
+//! [`draw`] draws a trace as rows of text, [`draw_svg`] as scalable vector graphics, each byte for byte as `specs/` says: what a
+//! lane shows between the lines of its thread, and which mark a line has in it. A mark stands in its own thread's lane
+//! (`marks_stand_in_their_lanes`). At an error a beginning of the picture is written ([`Unwritten`]).
+//!
+//! Stands on `facts`, for the lines, on `keys`, for mutexes as objects and operations, on `lockword`, for thread ids and
+//! replies, on `streams`, for writing, on `itoa`, for numbers, and on `thiserror`, for messages.
+//!
+//! ```text
+//! // `verdict` reads the lines; they needn't be legal.
+//! let told = verdict::read_trace(rt.alloc(), b"trace 1 1 0\n1 begin t1 lock m0\nend 1\n")?;
+//! let mut text = Vec::new(rt.alloc());
+//! let (threads, mutexes) = (told.head.threads, told.head.mutexes);
+//! draw(rt.alloc(), threads, mutexes, &told.lines, told.last, &mut text)?;
+//! // " event  m0   t1"
+//! // "     1  -    ┌ lock m0"
+//! // "     1  end"
+//! ```
 #![tactic(auto)]
 
 mod drawing;

@@ -10,6 +10,9 @@
 //! [`explain`] answers why that line doesn't fit, beside the line: its event's number, its thread's life or its mutex forbids it, the
 //! first of these that does. [`read_trace`] gives the lines themselves, of a trace that needn't be legal.
 //!
+//! Stands on `facts`, for what lines say and how they follow each other, on `lines`, for words and numbers, on `keys`, for mutexes
+//! as objects and operations, on `lockword`, for thread ids and replies, and on `thiserror`, for messages.
+//!
 //! ```text
 //! let trace = b"trace 2 1 0\n1 begin t1 lock m0\n2 sleep t1 m0\n3 point t1 m0 lock OK\nend 3\n";
 //! match explain(rt.alloc(), trace) {
