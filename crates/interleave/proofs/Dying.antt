@@ -15,7 +15,7 @@ use Rattle.protocol.specs.declared.event.Event.TheVariants.{Step}
 use Rattle.protocol.specs.declared.thread.Thread.{Thread}
 use Rattle.protocol.specs.declared.thread.Stage.TheVariants.{Dying}
 use Rattle.protocol.specs.declared.note.Note.TheVariants.{Walked}
-use Rattle.protocol.specs.Machine.{State, After, put, answer_of, words_after, queues_after, woken, is_thread, nothing, mutex_at, death_at, told_of, has_ended, stage_walked, walked, stepped, held_after, happens}
+use Rattle.protocol.specs.Machine.{State, After, put, answer_of, words_after, queues_after, woken, has_thread, nothing, mutex_at, death_at, told_of, has_ended, stage_walked, walked, stepped, held_after, happens}
 use Rattle.protocol.proofs.WalkSteps.{mutex_at-cell}
 use Rattle.interleave.specs.declared.accesses.Performed.{Performed}
 use Rattle.interleave.specs.Shown.{thread_at, state_at}
@@ -122,7 +122,7 @@ module _ (l : Layout') (ws ws' : List ℕ) (kernel after : Kernel') (ts : List T
 
   ran : happens s (Step t) ≡ walked s t th.held w
   ran =
-      let is : is_thread s t ≡ true = grind (arith, nat_tests) in
+      let is : has_thread s t ≡ true = grind (arith, nat_tests) in
       ap (λ (b : Bool). if b then stepped s t (thread_at ts t).held (thread_at ts t).stage else nothing s) is ∙ ap (λ (z : Thread). stepped s t z.held z.stage) e ∙ ap (stepped s t th.held) dies
 
   goes : pr ≡ progress_at tells to

@@ -31,24 +31,24 @@ use Rattle.protocol.specs.declared.thread.Thread.{Thread}
 use Rattle.protocol.specs.declared.thread.Stage.{Stage}
 use Rattle.protocol.specs.declared.thread.Stage.TheVariants.{Idle, Calling, AtCondition, Dying, Reaped}
 use Rattle.protocol.specs.declared.note.Note.{Note}
-use Rattle.protocol.specs.Machine.{State, After, put, idle, start, is_valid, is_thread, may_begin, first_stage, begun, nothing, is_alive, killed, sleeps, led, went, stepped, answer_of, happens, run, notes}
-use Rattle.protocol.specs.Sleepers.{alone, GoesOn}
+use Rattle.protocol.specs.Machine.{State, After, put, idle, start, is_valid, has_thread, may_begin, first_stage, begun, nothing, is_alive, killed, sleeps, led, went, stepped, answer_of, happens, run, notes}
+use Rattle.protocol.specs.Sleepers.{alone, RunsAlone}
 use Rattle.protocol.proofs.Queued.{Queued, asleep_there}
 use Rattle.protocol.proofs.QueueRuns.{run_queued}
-use Rattle.protocol.proofs.Undivided.{going}
+use Rattle.protocol.proofs.Undivided.{runs_alone}
 use Rattle.protocol.proofs.Waking.{told_sleeps}
 use Rattle.keys.specs.declared.access.Access.TheVariants.{Store}
 use Rattle.syscalls.specs.Kernels.{Kernel'}
 use Rattle.syscalls.specs.Memories as memories
 use Rattle.syscalls.specs.Memories.{word_at, words_after}
-use Rattle.protocol.specs.Deaths.{AreMourned}
+use Rattle.protocol.specs.Deaths.{ReportsDeaths}
 use Rattle.protocol.specs.Headline.{IsHistory, NoReapedOwns, seen}
 use Rattle.protocol.specs.Wakings.{TellsSleepers}
 use Rattle.protocol.specs.PassedBy.{ArePresets}
 use Rattle.condvar.specs.Rows.{full}
 use Rattle.protocol.proofs.Puts.{by_put, put-same, put-other}
 use Rattle.protocol.proofs.Kept.{Kept, InPhase, AtPhase, Fits, Serves, Sits}
-use Rattle.protocol.proofs.Deaths.{are_mourned}
+use Rattle.protocol.proofs.Deaths.{reports_deaths}
 use Rattle.protocol.proofs.Reaped.{no_reaped_owns}
 use Rattle.protocol.proofs.Runs.{start_kept, run_kept, run_layout, legal}
 use Rattle.interleave.specs.Shown.{Shown, thread_at, state_at, state_of}
@@ -130,7 +130,7 @@ stays s (Begin t o) = go (may_begin s t o)
     go : (b : Bool) → is_nothing (if b then begun s t o (first_stage s.layout t (s.threads t).held o) else nothing s).note ≡ true → (if b then begun s t o (first_stage s.layout t (s.threads t).held o) else nothing s).state ≡ s
     go true h = begun_noted s t o (first_stage s.layout t (s.threads t).held o) h
     go false h = refl
-stays s (Step t) = go (is_thread s t) (s.threads t).stage
+stays s (Step t) = go (has_thread s t) (s.threads t).stage
   where
     access : (o : Op) (p : Whole) (a : Bool) → is_nothing (if a then nothing s else went s t (s.threads t).held (mutex_of s.layout o) (Mutex (mutex_of s.layout o)) (whole_access p) (led o p (whole_led p (answer_of s t (whole_access p))))).note ≡ true
         → (if a then nothing s else went s t (s.threads t).held (mutex_of s.layout o) (Mutex (mutex_of s.layout o)) (whole_access p) (led o p (whole_led p (answer_of s t (whole_access p))))).state ≡ s
@@ -144,7 +144,7 @@ stays s (Step t) = go (is_thread s t) (s.threads t).stage
     go true (Dying w) h = absurd cc
     go true Reaped h = refl
     go false g h = refl
-stays s (Kill t) = go (is_thread s t && is_alive (s.threads t).stage)
+stays s (Kill t) = go (has_thread s t && is_alive (s.threads t).stage)
   where
     go : (b : Bool) → is_nothing (if b then killed s t else nothing s).note ≡ true → (if b then killed s t else nothing s).state ≡ s
     go true h = absurd cc
@@ -357,18 +357,18 @@ run-append : (s : State) (es fs : List Event) → run s (es ++ fs) ≡ run (run 
 run-append s [] fs = refl
 run-append s (e ∷ es) fs = run-append (happens s e).state es fs
 
--- whatever happens to a machine that was reached, it goes on
-pub reached_goes_on : (m : Shown) (es : List Event) → IsReached m → GoesOn (run (state_of m) es)
-reached_goes_on m es r =
-    subst GoesOn (run-append (start m.layout r.counters) r.events es ∙ ap (λ (s : State). run s es) (sym r.is)) (going m.layout r.counters (r.events ++ es) r.layout)
+-- whatever happens to a machine that was reached, no sleeper is stranded, and what a thread does alone comes to an end
+pub reached_runs_alone : (m : Shown) (es : List Event) → IsReached m → RunsAlone (run (state_of m) es)
+reached_runs_alone m es r =
+    subst RunsAlone (run-append (start m.layout r.counters) r.events es ∙ ap (λ (s : State). run s es) (sym r.is)) (runs_alone m.layout r.counters (r.events ++ es) r.layout)
 
 -- and nobody who was reaped owns a mutex
 pub reached_reaped : (m : Shown) (es : List Event) → IsReached m → NoReapedOwns (run (state_of m) es)
 reached_reaped m es r = no_reaped_owns (run (state_of m) es) (run_kept (state_of m) es (reached_kept m r))
 
--- and whoever is killed is mourned
-pub reached_mourned : (m : Shown) (es : List Event) → IsReached m → AreMourned (state_of m) es
-reached_mourned m es r = are_mourned (state_of m) es (reached_kept m r)
+-- and whoever is killed, its death is told
+pub reached_deaths : (m : Shown) (es : List Event) → IsReached m → ReportsDeaths (state_of m) es
+reached_deaths m es r = reports_deaths (state_of m) es (reached_kept m r)
 
 -- ---- a thread alone
 
@@ -379,7 +379,7 @@ alone-more s t (suc n) = alone-more (happens s (Step t)).state t n
 
 -- at the beginning a step does nothing
 start_rests : (l : Layout') (counters : ℕ → ℕ) (t : ℕ) → happens (start l counters) (Step t) ≡ nothing (start l counters)
-start_rests l counters t = go (is_thread (start l counters) t)
+start_rests l counters t = go (has_thread (start l counters) t)
   where
     go : (b : Bool) → (if b then nothing (start l counters) else nothing (start l counters)) ≡ nothing (start l counters)
     go true = refl

@@ -6,12 +6,12 @@ use Rattle.protocol.specs.declared.event.Event.{Event}
 use Rattle.protocol.specs.declared.note.Note.{Note}
 use Rattle.protocol.specs.Machine.{State, start, run, notes}
 use Rattle.protocol.specs.PassedBy.{ArePresets}
-use Rattle.protocol.proofs.Deaths.{are_mourned}
+use Rattle.protocol.proofs.Deaths.{reports_deaths}
 use Rattle.protocol.proofs.Emptied.{nobody_passed}
 use Rattle.protocol.proofs.Lives.{explained}
 use Rattle.protocol.proofs.Reaped.{no_reaped_owns}
 use Rattle.protocol.proofs.Runs.{start_kept, run_kept}
-use Rattle.protocol.proofs.Undivided.{going}
+use Rattle.protocol.proofs.Undivided.{runs_alone}
 use Rattle.interleave.specs.Shown.{Shown, state_of}
 use Rattle.interleave.specs.Reached.{IsStart}
 use Rattle.interleave.specs.Runs.{IsLegalRun}
@@ -28,9 +28,9 @@ from_start l counters es is presets =
       explained = explained l counters es is;
       sleeps = tells_each_moment s l counters es is refl;
       passed = nobody_passed l counters es is presets;
-      goes_on = λ n. going l counters (take n es) is;
+      runs_alone = λ n. runs_alone l counters (take n es) is;
       reaped = λ n. no_reaped_owns (run s (take n es)) (run_kept s (take n es) kept);
-      deaths = are_mourned s es kept;
+      deaths = reports_deaths s es kept;
     }
 
 -- whatever happens to a machine at its start, what is noted of it is a legal run

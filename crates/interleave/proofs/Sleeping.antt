@@ -8,7 +8,7 @@ use Rattle.protocol.specs.declared.thread.Stage.{Stage}
 use Rattle.protocol.specs.declared.thread.Stage.TheVariants.{Idle, Calling, AtCondition, Dying, Reaped}
 use Rattle.facts.specs.declared.fact.Queue.TheVariants.{Mutex}
 use Rattle.protocol.specs.Ops.{mutex_of}
-use Rattle.protocol.specs.Machine.{State, nothing, is_thread, answer_of, led, went, stepped, stands_in, sleeps, is_asleep, happens}
+use Rattle.protocol.specs.Machine.{State, nothing, has_thread, answer_of, led, went, stepped, stands_in, sleeps, is_asleep, happens}
 use Rattle.protocol.proofs.Queued.{out_awake}
 use Rattle.interleave.specs.Steps.{SleepsInItsCall}
 
@@ -51,7 +51,7 @@ rests s t held Reaped e = refl
 rests s t held (Calling o p) e = ap (λ (b : Bool). if b then nothing s else went s t held (mutex_of s.layout o) (Mutex (mutex_of s.layout o)) (whole_access p) (led o p (whole_led p (answer_of s t (whole_access p))))) e
 
 pub asleep_step : (s : State) (t : ℕ) → is_asleep s t ≡ true → happens s (Step t) ≡ nothing s
-asleep_step s t e = go (is_thread s t)
+asleep_step s t e = go (has_thread s t)
   where
     go : (b : Bool) → (if b then stepped s t (s.threads t).held (s.threads t).stage else nothing s) ≡ nothing s
     go true = rests s t (s.threads t).held (s.threads t).stage e

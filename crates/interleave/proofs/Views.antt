@@ -38,7 +38,7 @@ use Rattle.protocol.specs.declared.thread.Stage.{Stage}
 use Rattle.protocol.specs.declared.thread.Stage.TheVariants.{Calling}
 use Rattle.protocol.specs.declared.note.Note.TheVariants.{Stepped}
 use Rattle.protocol.specs.Ops.{mutex_of, is_in}
-use Rattle.protocol.specs.Machine.{State, After, Led, put, idle, is_valid, place_met, is_met, joined, queue_after, woken_by, moved_by, answer_of, words_after, queues_after, falls_asleep, woken, moved, slept_in, is_thread, is_idle, places_of, stands_in, may_begin, first_stage, begun, nothing, went, stepped, stage_after, returned, led, stage_at, returned_at, led_at, decided_at, reply_at, held_after, decision, happens}
+use Rattle.protocol.specs.Machine.{State, After, Led, put, idle, is_valid, place_met, is_met, joined, queue_after, woken_by, moved_by, answer_of, words_after, queues_after, falls_asleep, woken, moved, slept_in, has_thread, is_idle, places_of, stands_in, may_begin, first_stage, begun, nothing, went, stepped, stage_after, returned, led, stage_at, returned_at, led_at, decided_at, reply_at, held_after, decision, happens}
 use Rattle.protocol.proofs.Puts.{by_put}
 use Rattle.protocol.proofs.Steps.{unmoved}
 use Rattle.protocol.proofs.Queues.{stands_none}
@@ -287,7 +287,7 @@ module _ (l : Layout') (ws ws' : List ℕ) (kernel after : Kernel') (ts : List T
 
   ran : happens s (Step t) ≡ went s t th.held m q a to
   ran =
-      let is : is_thread s t ≡ true = grind (arith, nat_tests) in
+      let is : has_thread s t ≡ true = grind (arith, nat_tests) in
       ap (λ (b : Bool). if b then stepped s t (thread_at ts t).held (thread_at ts t).stage else nothing s) is ∙ ap (λ (z : Thread). stepped s t z.held z.stage) e ∙ goes
 
   pub step_state : state_at l ws' after (slice_set ts k (record { stage = made.stage; held = made.held })) ≡ (happens s (Step t)).state

@@ -3,8 +3,8 @@ use Rattle.std.specs.Prelude.{ℕ, ◌≡◌, List, take}
 use Rattle.protocol.specs.declared.event.Event.{Event}
 use Rattle.protocol.specs.declared.note.Note.{Note}
 use Rattle.protocol.specs.Machine.{State, run, notes}
-use Rattle.protocol.specs.Sleepers.{GoesOn}
-use Rattle.protocol.specs.Deaths.{AreMourned}
+use Rattle.protocol.specs.Sleepers.{RunsAlone}
+use Rattle.protocol.specs.Deaths.{ReportsDeaths}
 use Rattle.protocol.specs.Headline.{NoReapedOwns}
 use Rattle.protocol.specs.Explained.{IsExplained}
 use Rattle.protocol.specs.PassedBy.{PassesNobody}
@@ -23,8 +23,8 @@ pub record IsLegalRun (s : State) (events : List Event) (told : List Note) : Typ
   -- no wait that released its mutex before a signal or a broadcast counted falls asleep there behind it, and a broadcast's move leaves nobody in its condition variable's queue
   pub passed : PassesNobody s events
   -- after each event some awake thread owes whoever sleeps on a mutex that nobody owns, whoever is awake and runs alone comes to rest, and a call that no other event divides returns what its object replies, or sleeps
-  pub goes_on : (n : ℕ) → GoesOn (run s (take n events))
+  pub runs_alone : (n : ℕ) → RunsAlone (run s (take n events))
   -- after each event a thread that was reaped owns no mutex
   pub reaped : (n : ℕ) → NoReapedOwns (run s (take n events))
   -- a killed thread's death is told, once, of each mutex that it owned then and has lost since, and of no other
-  pub deaths : AreMourned s events
+  pub deaths : ReportsDeaths s events

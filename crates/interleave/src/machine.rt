@@ -3,8 +3,8 @@ ghost use Rattle.std.specs.Prelude.{◌≡◌, ◌<◌, ◌≤◌, ◌^◌, ◌&
 ghost use Rattle.std.specs.List.{All, range_with_len};
 ghost use Rattle.keys.specs.Layouts.{IsLayout, counter_place, words_of, first_word};
 ghost use Rattle.protocol.specs.Machine.{start, idle, happens, put, run, notes, is_valid, is_busy, is_dying, is_asleep, stands_in};
-ghost use Rattle.protocol.specs.Sleepers.{alone, GoesOn};
-ghost use Rattle.protocol.specs.Deaths.{AreMourned};
+ghost use Rattle.protocol.specs.Sleepers.{alone, RunsAlone};
+ghost use Rattle.protocol.specs.Deaths.{ReportsDeaths};
 ghost use Rattle.protocol.specs.Headline.{seen, NoReapedOwns};
 ghost use Rattle.protocol.specs.Explained.{IsExplained};
 ghost use Rattle.interleave.specs.Notes.{is_nothing, are_nothing};
@@ -93,7 +93,7 @@ impl Machine {
         ensures layout { IfOk result (λ m. m.layout ≡ layout) }
         ensures start { IfOk result (λ m. state_of m ≡ start layout (λ c. 0)) }
         ensures fresh { IfOk result (λ m. m.fresh ≡ true) }
-        ensures goes_on { IfOk result (λ m. GoesOn (state_of m)) }
+        ensures runs_alone { IfOk result (λ m. RunsAlone (state_of m)) }
         ensures reaped { IfOk result (λ m. NoReapedOwns (state_of m)) }
     {
         let words = first_words(alloc, &layout)?;
@@ -143,7 +143,7 @@ impl Machine {
         ensures state { state_of self.new ≡ (happens (state_of self.old) event).state }
         ensures note { result ≡ (happens (state_of self.old) event).note }
         ensures fresh { self.new.fresh ≡ (self.old.fresh && is_nothing result) }
-        ensures goes_on { GoesOn (state_of self.new) }
+        ensures runs_alone { RunsAlone (state_of self.new) }
         ensures reaped { NoReapedOwns (state_of self.new) }
     {
         let note = apply(
@@ -167,7 +167,7 @@ impl Machine {
     /// variable that this names. No signal and no broadcast passes a wait by: a thread that released its mutex in a wait before such a call counted doesn't fall asleep on that condition
     /// variable behind it, and a broadcast's move leaves nobody there.
     ///
-    /// After each event the machine goes on: whenever a mutex that nobody owns has sleepers, some awake thread, run alone, takes it or wakes one of them within 9,000 steps;
+    /// After each event no sleeper is stranded: whenever a mutex that nobody owns has sleepers, some awake thread, run alone, takes it or wakes one of them within 9,000 steps;
     /// whoever is awake and runs alone ends its call, falls asleep or is reaped within as many; and a call that no other event divides returns within as many, or sleeps, and replies as
     /// the object does.
     ///
@@ -184,9 +184,9 @@ impl Machine {
         ensures explained { IfOk result (λ t. self.old.fresh ≡ true → IsExplained events.now t.notes.items) }
         ensures sleeps { IfOk result (λ t. self.old.fresh ≡ true → TellsAtEachMoment self.old.layout (state_of self.old) events.now t.notes.items) }
         ensures passed { IfOk result (λ t. self.old.fresh ≡ true → PassesNobody (state_of self.old) events.now) }
-        ensures goes_on { IfOk result (λ t. (n : ℕ) → GoesOn (run (state_of self.old) (take n events.now))) }
+        ensures runs_alone { IfOk result (λ t. (n : ℕ) → RunsAlone (run (state_of self.old) (take n events.now))) }
         ensures reaped { IfOk result (λ t. (n : ℕ) → NoReapedOwns (run (state_of self.old) (take n events.now))) }
-        ensures deaths { IfOk result (λ t. AreMourned (state_of self.old) events.now) }
+        ensures deaths { IfOk result (λ t. ReportsDeaths (state_of self.old) events.now) }
         ensures err { OnErr result (self.new ≡ self.old) }
     {
         let mut notes = Vec::with_capacity(alloc, events.len())?;
@@ -215,7 +215,7 @@ impl Machine {
         ensures layout { IfOk result (λ m. m.layout ≡ self.now.layout) }
         ensures state { IfOk result (λ m. state_of m ≡ alone (state_of self.now) thread n) }
         ensures fresh { IfOk result (λ m. m.fresh ≡ self.now.fresh) }
-        ensures goes_on { GoesOn (state_of self.now) }
+        ensures runs_alone { RunsAlone (state_of self.now) }
         ensures reaped { IfOk result (λ m. NoReapedOwns (state_of m)) }
     {
         self.reached();

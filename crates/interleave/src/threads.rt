@@ -6,7 +6,7 @@ ghost use Rattle.condvar.specs.Whole as condition;
 ghost use Rattle.protocol.specs.declared.event.Op.TheVariants.{OnCondition};
 ghost use Rattle.protocol.specs.declared.event.Event.TheVariants.{Begin, Step};
 ghost use Rattle.protocol.specs.declared.thread.Stage.TheVariants.{AtCondition, Calling};
-ghost use Rattle.protocol.specs.Machine.{happens, first_stage, is_idle, is_calling, is_walked, slept_in};
+ghost use Rattle.protocol.specs.Machine.{happens, first_stage, is_idle, is_calling, is_exiting, slept_in};
 ghost use Rattle.protocol.specs.declared.note.Note.TheVariants.{Stepped};
 ghost use Rattle.protocol.specs.Ops.{is_in};
 ghost use Rattle.syscalls.specs.Kernels.{IsAwake, Kernel', head_of};
@@ -133,7 +133,7 @@ pub(crate) fn is_calling(stage: &Stage) -> bool
 
 /// Whether a thread that is there was killed, and hasn't been reaped.
 pub(crate) fn is_dying(stage: &Stage) -> bool
-    ensures { result ≡ is_walked stage.now }
+    ensures { result ≡ is_exiting stage.now }
 {
     match *stage {
         Stage::Dying(_) => true,

@@ -11,7 +11,7 @@ use Rattle.exitwalk.specs.declared.row.Row as walk_row
 use Rattle.exitwalk.specs.declared.row.Row.TheVariants as walk
 use Rattle.exitwalk.specs.Standings as walks
 use Rattle.exitwalk.specs.Walks as exit
-use Rattle.protocol.specs.Machine.{is_thread, Led, death_at}
+use Rattle.protocol.specs.Machine.{has_thread, Led, death_at}
 use Rattle.protocol.specs.Machine.{moved as moved_then}
 use Rattle.protocol.specs.Machine.{told_of as told_of_death}
 use Rattle.protocol.proofs.Puts.{by_put}
@@ -146,7 +146,7 @@ both true false e f = f
 both false b e f = e
 
 module _ (s : State) (ns : List Note) (inv : Kept s) (queued : Queued s) (agrees : (t : ℕ) → Agrees (last_told t ns) (s.threads t).stage) where
-  known : (t : ℕ) → IsThread s.layout t → is_thread s t ≡ true
+  known : (t : ℕ) → IsThread s.layout t → has_thread s t ≡ true
   known t range = let first : 1 ≤ t = range.0 in let most : t ≤ s.layout.threads = range.1 in grind (arith, nat_tests)
 
   -- ---- begins
@@ -172,13 +172,13 @@ module _ (s : State) (ns : List Note) (inv : Kept s) (queued : Queued s) (agrees
       (step_noted t on.1 on.2)
 
   steps_else : (t : ℕ) → ¬ Applies s.layout s ns (Event.Step t) → happens s (Event.Step t) ≡ nothing s
-  steps_else t never = go (is_thread s t) refl
+  steps_else t never = go (has_thread s t) refl
     where
-      applies : is_thread s t ≡ true → is_asleep s t ≡ false → IsWorking (s.threads t).stage → ⊥
+      applies : has_thread s t ≡ true → is_asleep s t ≡ false → IsWorking (s.threads t).stage → ⊥
       applies inside awake working = let first : 1 ≤ t = grind (arith, nat_tests) in let last : t ≤ s.layout.threads = grind (arith, nat_tests) in
           never ((first, last), accesses (last_told t ns) (s.threads t).stage working (agrees t), in_none s t queued awake)
 
-      go : (b : Bool) → is_thread s t ≡ b → (if b then stepped s t (s.threads t).held (s.threads t).stage else nothing s) ≡ nothing s
+      go : (b : Bool) → has_thread s t ≡ b → (if b then stepped s t (s.threads t).held (s.threads t).stage else nothing s) ≡ nothing s
       go false outside = refl
       go true inside =
           by_stage s t (λ (a : After). a ≡ nothing s) (λ rests. refl)

@@ -19,7 +19,7 @@ use Rattle.protocol.proofs.WalkSteps.{walk_of, walk_no_move, by_walked, walk_acc
 use Rattle.protocol.proofs.Reaped.{no_reaped_owns}
 use Rattle.facts.specs.declared.fact.Fact.TheVariants.{Wake, Death}
 use Rattle.protocol.specs.Machine.{Led}
-use Rattle.protocol.specs.Deaths.{deaths, AreMourned, IsMourned, DeathsAreTold}
+use Rattle.protocol.specs.Deaths.{deaths, ReportsDeaths, ReportsDeath, DeathsAreTold}
 use Rattle.protocol.proofs.Objects.{one, one-none, one-own, others}
 use Rattle.protocol.proofs.Kept.{Kept}
 use Rattle.protocol.proofs.Runs.{sound, start_kept, run_kept, kill_kept}
@@ -149,8 +149,8 @@ module _ (t m : ℕ) where
       let both = deaths_later t m (facts_of (happens s e).note) (facts_among (notes (happens s e).state es)) in
       omega arith
 
-mourned_from : (s : State) (t : ℕ) (es : List Event) → Kept s → 1 ≤ t → t ≤ s.layout.threads → is_alive (s.threads t).stage ≡ true → IsMourned s t es
-mourned_from s t es inv pos known alive = record {
+reported_from : (s : State) (t : ℕ) (es : List Event) → Kept s → 1 ≤ t → t ≤ s.layout.threads → is_alive (s.threads t).stage ≡ true → ReportsDeath s t es
+reported_from s t es inv pos known alive = record {
   owned = λ m inside own. decide m (owner_or t (seen (run (killed s t).state es) m)) (one-own t (seen s m) own);
   others = λ m inside apart. none m (owner_or t (seen s m)) apart;
   reaped = λ m inside own gone. once m (owner_or t (seen (run (killed s t).state es) m)) (one-own t (seen s m) own) gone;
@@ -176,10 +176,10 @@ mourned_from s t es inv pos known alive = record {
     once m (inr lost) had gone = let all = total m in let has = lost.1 in omega arith
 
 -- so it is of every run from a state that keeps the invariant
-pub are_mourned : (s : State) (events : List Event) → Kept s → AreMourned s events
-are_mourned s events kept before after t is there alive =
+pub reports_deaths : (s : State) (events : List Event) → Kept s → ReportsDeaths s events
+reports_deaths s events kept before after t is there alive =
     let inv : Kept (run s before) = run_kept s before kept in
-    mourned_from (run s before) t after inv (grind (arith, nat_tests)) (grind (arith, nat_tests)) alive
+    reported_from (run s before) t after inv (grind (arith, nat_tests)) (grind (arith, nat_tests)) alive
 
 pub told_deaths : DeathsAreTold
-told_deaths l counters events is = are_mourned (start l counters) events (start_kept l counters is)
+told_deaths l counters events is = reports_deaths (start l counters) events (start_kept l counters is)

@@ -9,14 +9,14 @@ use Rattle.condvar.specs.Whole as condition
 use Rattle.exitwalk.specs.Standings as walks
 use Rattle.protocol.specs.declared.event.Event.TheVariants.{Begin, Kill}
 use Rattle.protocol.specs.Ops.{operation_of, is_in}
-use Rattle.protocol.specs.Machine.{is_thread, is_idle}
+use Rattle.protocol.specs.Machine.{has_thread, is_idle}
 
 -- whoever may begin is idle
 pub at_rest : (g : Stage) → is_idle g ≡ true → g ≡ Idle
 at_rest g e = grind (arith)
 
 -- a thread that is known
-pub is_known : (s : State) (t : ℕ) → 1 ≤ t → t ≤ s.layout.threads → is_thread s t ≡ true
+pub is_known : (s : State) (t : ℕ) → 1 ≤ t → t ≤ s.layout.threads → has_thread s t ≡ true
 is_known s t pos known = grind (arith, nat_tests)
 
 -- ---- calls that begin

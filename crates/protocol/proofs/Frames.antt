@@ -16,12 +16,12 @@ use Rattle.protocol.proofs.Puts.{by_put}
 use Rattle.protocol.proofs.Objects.{one, mine, others, owners}
 use Rattle.protocol.proofs.Counts.{held_by-changed, held_by-owns}
 use Rattle.protocol.proofs.Seeing.{head_in, entry_in, entry_again}
-use Rattle.protocol.proofs.Kept.{InPhase, Fits, AtPhase, FitsAt, ChainedAt, Sits, Owned, ChainedIn, Chained, left_out, Walks, Treats, Mourns, Listed, PendsAs, HasHead, Kept}
+use Rattle.protocol.proofs.Kept.{InPhase, Fits, AtPhase, FitsAt, ChainedAt, Sits, Owned, ChainedIn, Chained, left_out, Walks, Treats, LeftToWalk, Listed, PendsAs, HasHead, Kept}
 use Rattle.protocol.proofs.Kept.{view_of}
 use Rattle.protocol.proofs.Places.{IsMine, Links, list_links, more_links, links_mine, treated_at, both_same}
 use Rattle.protocol.proofs.Steps.{Tells, unmoved, seen-inside, done}
 use Rattle.protocol.proofs.Cases.{by_same, at_or_else}
-use Rattle.protocol.proofs.Mourning.{mourns_carries}
+use Rattle.protocol.proofs.WalksLeft.{left_to_walk_carries}
 
 -- what a call needs of its mutex stays, where that stays as long as the call's thread owns it
 in_phase_carries : (u held : ℕ) (q : Whole) (f : Phase) (o n : Object) → (o.owner ≡ Some u → n ≡ o) → InPhase u held q f o → InPhase u held q f n
@@ -183,9 +183,9 @@ module _ (s : State) (t m : ℕ) (a : Access) (th : Thread) (op : Operation) (po
         subst (λ (x : ℕ). OnlyWaits v again (s'.words x)) (sym place)
         (only_waits_on v again (s.words (cell_place s.layout k)) (s'.words (cell_place s.layout k)) (subst (λ (x : ℕ). OnlyWaits v again (s.words x)) place only) (waits u k first most apart treats.0 own))
 
-    their_walk : (r : walk_row.Row) → exit.Knows u (head_in s.layout u) r → Mourns s u r → Mourns s' u r
+    their_walk : (r : walk_row.Row) → exit.Knows u (head_in s.layout u) r → LeftToWalk s u r → LeftToWalk s' u r
     their_walk r knows l =
-        mourns_carries s s'.words s'.queues s'.threads u (λ x k below is own. spares u (place_in s.layout u x) first most apart (inr (inr (k, below, inl (ap (place_in s.layout u) is ∙ entry_again s.layout u inv.layout first most k below), own))))
+        left_to_walk_carries s s'.words s'.queues s'.threads u (λ x k below is own. spares u (place_in s.layout u x) first most apart (inr (inr (k, below, inl (ap (place_in s.layout u) is ∙ entry_again s.layout u inv.layout first most k below), own))))
         (spares u (head_place u) first most apart (inl refl)) (spares u (head_place u + 2) first most apart (inr (inl refl)))
         (λ k own. ap (λ (z : Object). z.owner) (keeps_theirs u k apart own) ∙ own) (λ k own. owned_before u k apart own)
         (λ k at v again treats owner only. still_waits v at k again treats (marks_own s u k at v again inv.layout treats first most owner only) only) r knows l

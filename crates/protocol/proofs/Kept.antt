@@ -201,19 +201,19 @@ LeftFrom s t first = (es : List ℕ) × Left s t first (s.words (head_place t + 
 abbrev pub Treats : State → ℕ → ℕ → ℕ → Type 0
 Treats s t at k = (k < s.layout.mutexes) × (at ≡ cell_in s.layout t k)
 
-abbrev pub Mourns : State → ℕ → walk_row.Row → Type 0
-Mourns s t walk.LoadFirst = LeftFrom s t (s.words (head_place t))
-Mourns s t (walk.LoadOffset first) = LeftFrom s t first
-Mourns s t (walk.LoadPending first offset) = LeftFrom s t first × (offset ≡ 18446744073709551615)
-Mourns s t (walk.LoadNext r) = LeftOf s t r None
-Mourns s t (walk.LoadWord at rest) = (k : ℕ) × Treats s t at k × LeftIn s t rest (Some k)
-Mourns s t (walk.Mark at v again rest) = (k : ℕ) × Treats s t at k × LeftIn s t rest (Some k) × OnlyWaits v again (s.words (place_in s.layout t at))
-Mourns s t (walk.WakeOne at rest) = (k : ℕ) × Treats s t at k × LeftIn s t rest None
-Mourns s t walk.Ended = ⊥
+abbrev pub LeftToWalk : State → ℕ → walk_row.Row → Type 0
+LeftToWalk s t walk.LoadFirst = LeftFrom s t (s.words (head_place t))
+LeftToWalk s t (walk.LoadOffset first) = LeftFrom s t first
+LeftToWalk s t (walk.LoadPending first offset) = LeftFrom s t first × (offset ≡ 18446744073709551615)
+LeftToWalk s t (walk.LoadNext r) = LeftOf s t r None
+LeftToWalk s t (walk.LoadWord at rest) = (k : ℕ) × Treats s t at k × LeftIn s t rest (Some k)
+LeftToWalk s t (walk.Mark at v again rest) = (k : ℕ) × Treats s t at k × LeftIn s t rest (Some k) × OnlyWaits v again (s.words (place_in s.layout t at))
+LeftToWalk s t (walk.WakeOne at rest) = (k : ℕ) × Treats s t at k × LeftIn s t rest None
+LeftToWalk s t walk.Ended = ⊥
 
 -- a thread's list: as it has it, or as the walk will find it; a thread that was reaped owns nothing
 abbrev pub Listed : State → ℕ → Stage → Type 0
-Listed s t (Dying w) = Mourns s t w.row
+Listed s t (Dying w) = LeftToWalk s t w.row
 Listed s t Reaped = (k : ℕ) → (seen s k).owner ≢ Some t
 Listed s t Idle = (es : List ℕ) × Owned s t None es × Chained s.layout s.words t es Idle
 Listed s t (Calling o p) = (es : List ℕ) × Owned s t (left_out s.layout (Calling o p)) es × Chained s.layout s.words t es (Calling o p)

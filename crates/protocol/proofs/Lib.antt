@@ -11,7 +11,7 @@ pub mod Places
 pub mod Steps
 pub mod Owning
 pub mod Arrivals
-mod Mourning
+mod WalksLeft
 pub mod Frames
 pub mod Stepping
 pub mod CallSteps

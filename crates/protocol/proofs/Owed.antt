@@ -2,7 +2,7 @@
 use Rattle.std.proofs.Common.{◌≡◌, ◌⊎◌, ⊎_elim, inl, inr, ℕ, zero, suc, ◌<◌, ◌≤◌, Bool, true, false, Option, Some, None, refl, sym, ap, ◌∙◌, subst, arith}
 use Rattle.protocol.proofs.Vocabulary.{Object, cell_place, counter_place, sleeps_at, Reply, Step, Stage, State, stands_in, sleepers, is_asleep, happens, seen, IsUnowned, nat_tests}
 use Rattle.protocol.proofs.Vocabulary.{place_in}
-use Rattle.protocol.specs.Machine.{is_thread, is_busy, is_dying}
+use Rattle.protocol.specs.Machine.{has_thread, is_busy, is_dying}
 use Rattle.protocol.specs.Sleepers.{Sleeps, alone, Owes, SomebodyOwes, IsAtRest, EndsAlone}
 use Rattle.protocol.proofs.Objects.{owners}
 use Rattle.protocol.proofs.Kept.{Kept}
@@ -75,20 +75,20 @@ module _ (s : State) (t m u : ℕ) (inv : Kept s) (queued : Queued s) (a : Answe
   Done = ((seen s' m).owner ≡ Some t) ⊎ ((x : ℕ) × Sleeps s x m × (stands_in x (sleepers s' m) ≡ false))
 
   -- it takes the mutex now, or wakes one, or goes on to do so with fewer steps left
-  pub record GoesOn : Type 0 where
+  pub record StillOwes : Type 0 where
     pub answers : Answering s' m t
     pub free : IsUnowned s' m
     pub slept : (x : ℕ) → Sleeps s' x m → Sleeps s x m
     pub still : Sleeps s' u m
     pub fewer : left_of s' (s'.threads t).stage < left_of s (s.threads t).stage
 
-  pub settles : Done ⊎ GoesOn
+  pub settles : Done ⊎ StillOwes
   settles = ⊎_elim (λ free. ⊎_elim (λ waits. go free (goes.step.settles m inside free waits)) (λ nobody. inl (inr (u, stands, ap (stands_in u) nobody.0))) (goes.step.waiters m inside (queued.bits m u inside stands))) (λ own. inl (inl own)) owner_is
     where
-      on : IsUnowned s' m → Continues s t v m → Done ⊎ GoesOn
+      on : IsUnowned s' m → Continues s t v m → Done ⊎ StillOwes
       on free c = pick (turn s t v goes.step a.first a.last goes.is queued awake u)
         where
-          pick : Turned s.layout u t v.access (place_of s t v) (met s t v) s.queues s'.queues → Done ⊎ GoesOn
+          pick : Turned s.layout u t v.access (place_of s t v) (met s t v) s.queues s'.queues → Done ⊎ StillOwes
           pick (As_before quiet unwoken unmoved same) = inr record {
             answers = this_answers s t v goes.step a.first a.last goes.is queued awake m c;
             free = free;
@@ -105,7 +105,7 @@ module _ (s : State) (t m u : ℕ) (inv : Kept s) (queued : Queued s) (a : Answe
               absurd (counter_is_no_cell s.layout m carried.from inside (sym (queued.one u (cell_place s.layout m) (counter_place s.layout carried.from) stands carried.left))))
               (λ apart. inl (inr (u, stands, elsewhere (cell_place s.layout m) apart)))
 
-      go : IsUnowned s' m → Settles s t v m → Done ⊎ GoesOn
+      go : IsUnowned s' m → Settles s t v m → Done ⊎ StillOwes
       go free (Wakes_there n some wakes) = let x = woken_one s t v goes.step a.first a.last goes.is queued awake m u n inside some wakes stands in inl (inr (x.0, x.1, x.2 (cell_place s.layout m)))
       go free (Answers_now c) = on free c
       go free (Found_free before more) = on free (more (subst (AnswersAs s.layout s.words m t) goes.is a.answers))
@@ -174,7 +174,7 @@ ends (suc n) s t inv queued pos known few =
 pub ends_alone : (s : State) → Kept s → Queued s → (t : ℕ) → EndsAlone s t
 ends_alone s inv queued t awake = ends 9000 s t inv queued pos last few
   where
-    there : is_thread s t ≡ true
+    there : has_thread s t ≡ true
     there = grind (arith)
 
     pos : 1 ≤ t

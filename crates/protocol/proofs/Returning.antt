@@ -2,7 +2,7 @@
 use Rattle.std.proofs.Common.{◌≡◌, ◌⊎◌, ⊎_elim, inl, inr, ℕ, zero, suc, Bool, true, false, Option, Some, List, [], ◌∷◌, ◌++◌, sym, ap, ◌∙◌, subst, refl}
 use Rattle.protocol.proofs.Vocabulary.{Queue, Fact, Return, Decision, Reply, Step, Stepped, Idle, State, After, is_asleep, nothing, stepped, happens, run, notes, facts_among}
 use Rattle.protocol.proofs.Vocabulary.{facts_of, if◌then◌else◌, replicate}
-use Rattle.protocol.specs.Machine.{is_thread}
+use Rattle.protocol.specs.Machine.{has_thread}
 use Rattle.protocol.specs.Sleepers.{IsAmong}
 use Rattle.protocol.proofs.Events.{by_stage}
 use Rattle.protocol.proofs.NoteFacts.{of_access}
@@ -25,10 +25,10 @@ either_way true s a e = e
 either_way false s a e = refl
 
 pub idle_still : (s : State) (t : ℕ) → (s.threads t).stage ≡ Idle → IsStill s t
-idle_still s t is = either_way (is_thread s t) s (stepped s t (s.threads t).held (s.threads t).stage) (ap (stepped s t (s.threads t).held) is)
+idle_still s t is = either_way (has_thread s t) s (stepped s t (s.threads t).held (s.threads t).stage) (ap (stepped s t (s.threads t).held) is)
 
 pub asleep_still : (s : State) (t : ℕ) → is_asleep s t ≡ true → IsStill s t
-asleep_still s t e = either_way (is_thread s t) s (stepped s t (s.threads t).held (s.threads t).stage) (by_stage s t (λ (a : After). a ≡ nothing s) (λ rests. refl) (λ o p is awake. absurd (cc (e, awake))) (λ c p is awake. absurd (cc (e, awake))) (λ w is awake. absurd (cc (e, awake))))
+asleep_still s t e = either_way (has_thread s t) s (stepped s t (s.threads t).held (s.threads t).stage) (by_stage s t (λ (a : After). a ≡ nothing s) (λ rests. refl) (λ o p is awake. absurd (cc (e, awake))) (λ c p is awake. absurd (cc (e, awake))) (λ w is awake. absurd (cc (e, awake))))
 
 -- ---- what a step tells that returns
 

@@ -11,7 +11,7 @@ use Rattle.protocol.specs.Ops.{operation_of}
 use Rattle.protocol.proofs.Puts.{by_put}
 use Rattle.protocol.proofs.Objects.{one}
 use Rattle.protocol.proofs.Counts.{held_by-same}
-use Rattle.protocol.proofs.Kept.{Sits, Listed, Walks, Mourns, PendsAs, Kept, Owned, left_out}
+use Rattle.protocol.proofs.Kept.{Sits, Listed, Walks, LeftToWalk, PendsAs, Kept, Owned, left_out}
 use Rattle.protocol.proofs.Steps.{Tells, Transition, after}
 use Rattle.protocol.proofs.Stepping.{Stepping}
 use Rattle.protocol.proofs.Events.{begins_at, names_mutex, by_event}
@@ -19,7 +19,7 @@ use Rattle.protocol.proofs.Working.{Noted, noted_points, point_of, by_step}
 use Rattle.protocol.proofs.Lists.{left_from}
 use Rattle.protocol.proofs.WalkSteps.{walk_of}
 use Rattle.protocol.proofs.Cases.{at_or_else}
-use Rattle.protocol.proofs.Mourning.{mourns_carries}
+use Rattle.protocol.proofs.WalksLeft.{left_to_walk_carries}
 use Rattle.protocol.proofs.Seeing.{head_in, words_in, head_again}
 use Rattle.keys.specs.Layouts.{thread_of, head_word, cell_offset}
 use Rattle.protocol.proofs.Frames.{knows_at}
@@ -77,7 +77,7 @@ module _ (s : State) (t : ℕ) (o : Op) (inv : Kept s) (pos : 1 ≤ t) (known : 
   listed_still u h (Calling c p) sits (es, owned, ch) = (es, owned_still u (left_out s.layout (Calling c p)) es owned, ch)
   listed_still u h (AtCondition c p) sits (es, owned, ch) = (es, owned_still u (left_out s.layout (AtCondition c p)) es owned, ch)
   listed_still u h (Dying w) sits l =
-      mourns_carries s s.words s.queues (with_call s t g).threads u (λ x k below is own. refl) refl refl (λ k own. own) (λ k own. own) (λ k at v again treats owner only. only) w.row (knows_at s.layout u w sits) l
+      left_to_walk_carries s s.words s.queues (with_call s t g).threads u (λ x k below is own. refl) refl refl (λ k own. own) (λ k own. own) (λ k at v again treats owner only. only) w.row (knows_at s.layout u w sits) l
   listed_still u h Reaped sits none = none
 
   begun_kept : (acquires (operation_of o) ≡ true → held < 2048) → Kept (with_call s t g)
@@ -150,8 +150,8 @@ module _ (s : State) (t : ℕ) (inv : Kept s) (pos : 1 ≤ t) (known : t ≤ s.l
         (λ is. subst (λ (v : ℕ). Walks s.layout v (walk_of s.layout t LoadFirst)) (sym is) (record { mine = refl; head = refl; going = tt; knows = tt }))
         (λ apart. dead_sits u (s.threads u).held (s.threads u).stage (inv.sits u first most));
     listed = λ u first most. by_put (λ (z : Thread). Listed s1 u z.stage) s.threads t dead u
-        (λ is. subst (λ (v : ℕ). Mourns s1 v LoadFirst) (sym is)
-        (mourns_carries s s1.words s1.queues s1.threads t (λ x k below is own. refl) refl refl (λ k own. own) (λ k own. own) (λ k at v again treats owner only. only) LoadFirst tt (left_from s t inv pos known alive)))
+        (λ is. subst (λ (v : ℕ). LeftToWalk s1 v LoadFirst) (sym is)
+        (left_to_walk_carries s s1.words s1.queues s1.threads t (λ x k below is own. refl) refl refl (λ k own. own) (λ k own. own) (λ k at v again treats owner only. only) LoadFirst tt (left_from s t inv pos known alive)))
         (λ apart. dead_listed u (s.threads u).stage (inv.listed u first most));
     heads = λ u first most. record {
       offset = (inv.heads u first most).offset;

@@ -1,5 +1,5 @@
 -- Calls that no other event divides.
-use Rattle.std.proofs.Common.{◌≡◌, ◌≢◌, ◌⊎◌, ⊎_elim, inl, inr, ℕ, zero, suc, ◌<◌, ◌≤◌, Bool, true, false, ◌&&◌, Option, Some, None, Result, Ok, Err, [], ◌∷◌, ◌++◌, refl, sym, ap, ◌∙◌, subst, arith}
+use Rattle.std.proofs.Common.{◌≡◌, ◌≢◌, ◌⊎◌, ⊎_elim, inl, inr, ℕ, zero, suc, ◌<◌, ◌≤◌, Bool, true, false, ◌&&◌, Option, Some, None, Result, Ok, Err, List, [], ◌∷◌, ◌++◌, refl, sym, ap, ◌∙◌, subst, arith}
 use Rattle.protocol.proofs.Vocabulary.{Return, Object, Operation, cell_place, sleeps_at, held_by, Does, Permits, acquires, owner_of, owner_of-some, Fields, fields_of, word_of}
 use Rattle.protocol.proofs.Vocabulary.{fields_of-word_of, Reply, XRACED, XHELD, Phase, Onward, Joins, Whole, whole_access, Op, OnMutex, OnCondition, Step, Thread, Stage, Idle}
 use Rattle.protocol.proofs.Vocabulary.{Calling, mutex_of, State, After, start, is_calling, sleeps, is_asleep, may_begin, begun, first_stage, nothing, stage_after, returned}
@@ -8,9 +8,11 @@ use Rattle.mutex.specs.declared.row.Row.TheVariants.{Lock}
 use Rattle.mutex.specs.Calls as calls
 use Rattle.mutex.specs.Whole.{begins, first_phase}
 use Rattle.condvar.specs.Whole as condition
+use Rattle.keys.specs.Layouts.{Layout', IsLayout}
+use Rattle.protocol.specs.declared.event.Event.{Event}
 use Rattle.protocol.specs.declared.event.Event.TheVariants.{Begin}
 use Rattle.protocol.specs.Ops.{operation_of, condition_of}
-use Rattle.protocol.specs.Sleepers.{IsAmong, IsKeptWaiting, IsWaiting, IsUndivided, GoesOn, MachineGoesOn}
+use Rattle.protocol.specs.Sleepers.{IsAmong, IsKeptWaiting, IsWaiting, IsUndivided, RunsAlone, NoSleeperIsStranded, LoneThreadsComeToRest, UndividedCallsReply}
 use Rattle.protocol.proofs.Puts.{put-same}
 use Rattle.protocol.proofs.Phases.{decided_at, SteadyAt}
 use Rattle.protocol.proofs.Kept.{AtRow, InPhase, Fits, Serves, Kept}
@@ -240,10 +242,19 @@ undivided s inv queued t c n may =
     go pos known idle true e = refused s t c n inv queued pos known may idle e
     go pos known idle false e = goes s t c n inv queued pos known may idle e
 
--- each state that events lead to goes on
-pub goes_on_from : (s : State) → Kept s → Queued s → GoesOn s
-goes_on_from s inv queued = record { owed = somebody_owes s inv queued; ends = ends_alone s inv queued; undivided = undivided s inv queued }
+-- each state that events lead to keeps the three
+runs_alone_from : (s : State) → Kept s → Queued s → RunsAlone s
+runs_alone_from s inv queued = record { owed = somebody_owes s inv queued; ends = ends_alone s inv queued; undivided = undivided s inv queued }
 
-pub going : MachineGoesOn
-going l counters events is =
-    goes_on_from (run (start l counters) events) (run_kept (start l counters) events (start_kept l counters is)) (run_queued l counters events is)
+pub runs_alone : (l : Layout') (counters : ℕ → ℕ) (events : List Event) → IsLayout l → RunsAlone (run (start l counters) events)
+runs_alone l counters events is =
+    runs_alone_from (run (start l counters) events) (run_kept (start l counters) events (start_kept l counters is)) (run_queued l counters events is)
+
+pub nobody_stranded : NoSleeperIsStranded
+nobody_stranded l counters events is = (runs_alone l counters events is).owed
+
+pub all_rest : LoneThreadsComeToRest
+all_rest l counters events is = (runs_alone l counters events is).ends
+
+pub all_reply : UndividedCallsReply
+all_reply l counters events is = (runs_alone l counters events is).undivided

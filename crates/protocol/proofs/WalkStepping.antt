@@ -10,7 +10,7 @@ use Rattle.exitwalk.specs.Ranks.{left_alone}
 use Rattle.exitwalk.specs.Steps.{Right, IsTrueOf}
 use Rattle.exitwalk.proofs.Steps.{steps}
 use Rattle.protocol.proofs.Puts.{by_put, put-same, put-other}
-use Rattle.protocol.proofs.Kept.{Mourns, Kept}
+use Rattle.protocol.proofs.Kept.{LeftToWalk, Kept}
 use Rattle.protocol.proofs.Places.{head_is_no_cell, treated_at}
 use Rattle.protocol.proofs.Steps.{Tells, Transition, met_no_move, met, seen-inside}
 use Rattle.protocol.proofs.WalkSteps.{walk_of, or_first, by_walked, walk_access, walk_answer, row_then, death_then, walk_no_move, walk_transition, walk_after, DeathTells, WalkStep, walk_step, walk_word}
@@ -52,9 +52,9 @@ true_answer s t r going = grind (arith)
 some_left : (words : ℕ → ℕ) (r : Row) → IsGoing r → 0 < left_alone words r
 some_left words r going = grind (arith)
 
-module _ (s : State) (t : ℕ) (r : Row) (inv : Kept s) (pos : 1 ≤ t) (known : t ≤ s.layout.threads) (going : IsGoing r) (knows : Knows t (head_in s.layout t) r) (mourns : Mourns s t r) where
+module _ (s : State) (t : ℕ) (r : Row) (inv : Kept s) (pos : 1 ≤ t) (known : t ≤ s.layout.threads) (going : IsGoing r) (knows : Knows t (head_in s.layout t) r) (left : LeftToWalk s t r) where
   abbrev step : WalkStep s t r
-  step = walk_step s t inv pos known r going knows mourns
+  step = walk_step s t inv pos known r going knows left
 
   abbrev v : Transition
   v = walk_transition s t r
@@ -74,7 +74,7 @@ module _ (s : State) (t : ℕ) (r : Row) (inv : Kept s) (pos : 1 ≤ t) (known :
       go true false some = ap (sum_of z.pending) offset ∙ ap (λ (e : ℕ). sum_of e 18446744073709551615) pends ∙ cell_before s.layout t inv.layout pos known m inside
       go false b e = pends
 
-  minds_then : (z : Row) → Mourns s t z → Knows t (head_in s.layout t) z → (m : ℕ) → m < s.layout.mutexes → IsUnowned s m → Minds s.layout s.words m t z → (IsWaking (cell_in s.layout t m) z → ⊥) → Minds s.layout s.words m t (row_then s t z)
+  minds_then : (z : Row) → LeftToWalk s t z → Knows t (head_in s.layout t) z → (m : ℕ) → m < s.layout.mutexes → IsUnowned s m → Minds s.layout s.words m t z → (IsWaking (cell_in s.layout t m) z → ⊥) → Minds s.layout s.words m t (row_then s t z)
   minds_then LoadFirst l k m inside none h silent = h
   minds_then (LoadOffset f) l k m inside none h silent = h
   minds_then (LoadPending f o) l k m inside none h silent =
@@ -130,7 +130,7 @@ module _ (s : State) (t : ℕ) (r : Row) (inv : Kept s) (pos : 1 ≤ t) (known :
   quiet k inside same none =
       let free : IsUnowned s k = sym (ap (λ (o : Object). o.owner) same) ∙ none in
       ⊎_elim (λ waking. Wakes_there 1 (omega arith) (waking_is (cell_in s.layout t k) (head_in s.layout t) r waking))
-      (λ silent. Found_free free (λ minds. minds_on k (same_minds s.layout s.words s'.words k t q (pending_stays t pos known) (minds_then r mourns knows k inside free minds silent))))
+      (λ silent. Found_free free (λ minds. minds_on k (same_minds s.layout s.words s'.words k t q (pending_stays t pos known) (minds_then r left knows k inside free minds silent))))
       (waking_or (cell_in s.layout t k) r)
 
   settled : (k : ℕ) → k < s.layout.mutexes → IsUnowned s' k → HasWaiters s' k → Settles s t v k

@@ -16,13 +16,13 @@ use Rattle.exitwalk.specs.Steps.{points, Right}
 use Rattle.exitwalk.specs.Walks.{Knows, IsGoing, row_access, row_after, point_of, marked_word, goes_on}
 use Rattle.exitwalk.proofs.Steps.{steps}
 use Rattle.protocol.proofs.Puts.{put-same, put-other, by_put}
-use Rattle.protocol.proofs.Kept.{Sits, Left, LeftFrom, LeftIn, Treats, Mourns, Listed, PendsAs, Kept}
+use Rattle.protocol.proofs.Kept.{Sits, Left, LeftFrom, LeftIn, Treats, LeftToWalk, Listed, PendsAs, Kept}
 use Rattle.protocol.proofs.Places.{mine_is_no_cell, head_is_no_cell, treated_at}
 use Rattle.protocol.proofs.Steps.{seen-inside, is_valid-cell, IsNoMove, Transition, done, thread_after, after, IsNoTrim, untrimmed}
 use Rattle.protocol.proofs.Frames.{kept_where, marks_own}
 use Rattle.protocol.proofs.Walking.{Arrived, OwnsNothing, forward_arrives, next_arrives, goes_on_arrives, looks_arrives}
 use Rattle.protocol.proofs.Cases.{some_same}
-use Rattle.protocol.proofs.Mourning.{mourns_carries}
+use Rattle.protocol.proofs.WalksLeft.{left_to_walk_carries}
 use Rattle.protocol.proofs.Seeing.{head_in, cell_in, words_in, head_again, entry_again, head_word_again}
 
 -- thread t's walk at a row
@@ -51,7 +51,7 @@ pub pends_walk : (x : ℕ) (w : Standing) (r : Row) → PendsAs x (stage_walked 
 pends_walk x w r = by_walked (PendsAs x) w r (λ ended. tt) (λ going. tt)
 
 -- where a walk has come, in another state
-arrived_by : (s s' : State) (t : ℕ) (r : Row) → (OwnsNothing s t → OwnsNothing s' t) → (Mourns s t r → Mourns s' t r) → Arrived s t r → Arrived s' t r
+arrived_by : (s s' : State) (t : ℕ) (r : Row) → (OwnsNothing s t → OwnsNothing s' t) → (LeftToWalk s t r → LeftToWalk s' t r) → Arrived s t r → Arrived s' t r
 arrived_by s s' t r gone on a = grind (arith)
 
 -- the mutex at a cell is found
@@ -89,7 +89,7 @@ module _ (s : State) (t : ℕ) (r : Row) (inv : Kept s) (pos : 1 ≤ t) (known :
     arrives_still : (changed a (s.words at) ≡ s.words at) → Knows t (head_in s.layout t) q → Arrived s t q → Arrived s' t q
     arrives_still reads knows =
         arrived_by s s' t q (λ none k below own. none k below (sym (ap (λ (o : Object). o.owner) (reads_seen reads k)) ∙ own))
-        (mourns_carries s s'.words s'.queues s'.threads t (λ x k below is own. read_words reads (place_in s.layout t x)) (read_words reads (head_place t)) (read_words reads (head_place t + 2))
+        (left_to_walk_carries s s'.words s'.queues s'.threads t (λ x k below is own. read_words reads (place_in s.layout t x)) (read_words reads (head_place t)) (read_words reads (head_place t + 2))
         (λ k own. ap (λ (o : Object). o.owner) (reads_seen reads k) ∙ own) (λ k own. sym (ap (λ (o : Object). o.owner) (reads_seen reads k)) ∙ own)
         (λ k at v again treats owner only. subst (OnlyWaits v again) (sym (read_words reads (place_in s.layout t at))) only) q knows)
 
@@ -260,7 +260,7 @@ head_is_valid : (l : Layout') (t i : ℕ) → IsLayout l → 1 ≤ t → t ≤ l
 head_is_valid l t i is pos known few = ap (is_valid l) (head_word_again l t is pos known i few) ∙ place_is_valid l (head_place t + i) (omega arith) (omega arith)
 
 module _ (s : State) (t : ℕ) (inv : Kept s) (pos : 1 ≤ t) (known : t ≤ s.layout.threads) where
-  pub walk_valid : (r : Row) → IsGoing r → Knows t (head_in s.layout t) r → Mourns s t r → is_valid s.layout (place_met s.layout t (row_access (head_in s.layout t) r)) ≡ true
+  pub walk_valid : (r : Row) → IsGoing r → Knows t (head_in s.layout t) r → LeftToWalk s t r → is_valid s.layout (place_met s.layout t (row_access (head_in s.layout t) r)) ≡ true
   walk_valid LoadFirst going knows l = ap (is_valid s.layout) (head_again s.layout t inv.layout pos known) ∙ place_is_valid s.layout (head_place t) (omega arith) (omega arith)
   walk_valid (LoadOffset f) going knows l = head_is_valid s.layout t 1 inv.layout pos known (omega arith)
   walk_valid (LoadPending f o) going knows l = head_is_valid s.layout t 2 inv.layout pos known (omega arith)
@@ -281,7 +281,7 @@ module _ (s : State) (t : ℕ) (inv : Kept s) (pos : 1 ≤ t) (known : t ≤ s.l
   knows_then r knows = steps.knows t (head_in s.layout t) r (walk_answer s t r) knows
 
   -- a row that reads, by which no death is told
-  reads_so : (r : Row) → IsGoing r → Knows t (head_in s.layout t) r → Mourns s t r → death_then s t r ≡ None → changed (walk_access s t r) (s.words (place_met s.layout t (walk_access s t r))) ≡ s.words (place_met s.layout t (walk_access s t r)) → Arrived s t (row_then s t r) → WalkStep s t r
+  reads_so : (r : Row) → IsGoing r → Knows t (head_in s.layout t) r → LeftToWalk s t r → death_then s t r ≡ None → changed (walk_access s t r) (s.words (place_met s.layout t (walk_access s t r))) ≡ s.words (place_met s.layout t (walk_access s t r)) → Arrived s t (row_then s t r) → WalkStep s t r
   reads_so r going knows l none reads arrived = record {
     valid = walk_valid r going knows l;
     kept = reads_kept s t r inv pos known (row_then s t r) (death_then s t r) (thread_after s t (walk_transition s t r)) refl none reads (knows_then r knows) arrived;
@@ -291,7 +291,7 @@ module _ (s : State) (t : ℕ) (inv : Kept s) (pos : 1 ≤ t) (known : t ≤ s.l
     reads = λ e. read_words s t r inv pos known (row_then s t r) (death_then s t r) (thread_after s t (walk_transition s t r)) refl reads;
   }
 
-  pub walk_step : (r : Row) → IsGoing r → Knows t (head_in s.layout t) r → Mourns s t r → WalkStep s t r
+  pub walk_step : (r : Row) → IsGoing r → Knows t (head_in s.layout t) r → LeftToWalk s t r → WalkStep s t r
   walk_step LoadFirst going knows l = reads_so LoadFirst going knows l refl refl (subst (λ (p : ℕ). LeftFrom s t (s.words p)) (sym (head_again s.layout t inv.layout pos known)) l)
   walk_step (LoadOffset f) going knows l = reads_so (LoadOffset f) going knows l refl refl (l, ap s.words (head_word_again s.layout t inv.layout pos known 1 (omega arith)) ∙ (inv.heads t pos known).offset)
   walk_step (LoadPending f o) going knows ((es, l, few), offset) =

@@ -8,7 +8,7 @@ use Rattle.exitwalk.specs.declared.row.Row.TheVariants.{Ended}
 use Rattle.exitwalk.specs.Words.{has_waiters}
 use Rattle.exitwalk.specs.Walks.{Knows, is_pending, to_pending, forward, goes_on, further, after_next, looks}
 use Rattle.protocol.proofs.Seeing.{head_in, entry_in, not_null, same_entry, cell_before}
-use Rattle.protocol.proofs.Kept.{LeftOf, LeftIn, Treats, Mourns, view_of}
+use Rattle.protocol.proofs.Kept.{LeftOf, LeftIn, Treats, LeftToWalk, view_of}
 use Rattle.protocol.proofs.Places.{treated_at}
 use Rattle.protocol.proofs.Steps.{seen-inside}
 
@@ -19,13 +19,13 @@ OwnsNothing s t = (k : ℕ) → k < s.layout.mutexes → (seen s k).owner ≢ So
 -- the walk has ended, and nothing is owned; or it is where it should be
 abbrev pub Arrived : State → ℕ → Row → Type 0
 Arrived s t Ended = OwnsNothing s t
-Arrived s t LoadFirst = Mourns s t LoadFirst
-Arrived s t (LoadOffset f) = Mourns s t (LoadOffset f)
-Arrived s t (LoadPending f o) = Mourns s t (LoadPending f o)
-Arrived s t (LoadNext r) = Mourns s t (LoadNext r)
-Arrived s t (LoadWord at rest) = Mourns s t (LoadWord at rest)
-Arrived s t (Mark at v again rest) = Mourns s t (Mark at v again rest)
-Arrived s t (WakeOne at rest) = Mourns s t (WakeOne at rest)
+Arrived s t LoadFirst = LeftToWalk s t LoadFirst
+Arrived s t (LoadOffset f) = LeftToWalk s t (LoadOffset f)
+Arrived s t (LoadPending f o) = LeftToWalk s t (LoadPending f o)
+Arrived s t (LoadNext r) = LeftToWalk s t (LoadNext r)
+Arrived s t (LoadWord at rest) = LeftToWalk s t (LoadWord at rest)
+Arrived s t (Mark at v again rest) = LeftToWalk s t (Mark at v again rest)
+Arrived s t (WakeOne at rest) = LeftToWalk s t (WakeOne at rest)
 
 some_same : (i j : ℕ) → Some i ≡ Some j → j ≡ i
 some_same i j e = cc

@@ -6,7 +6,7 @@ use Rattle.protocol.proofs.Vocabulary.{moves_to, return_facts, reap_facts, State
 use Rattle.protocol.proofs.Vocabulary.{led, led_at, went, walked, stepped, happens, if◌then◌else◌, queue_place, points_of}
 use Rattle.exitwalk.specs.Standings as walks
 use Rattle.protocol.specs.Wakings.{IsQueue}
-use Rattle.protocol.proofs.Kept.{Walks, Sits, Mourns, Listed, Kept}
+use Rattle.protocol.proofs.Kept.{Walks, Sits, LeftToWalk, Listed, Kept}
 use Rattle.protocol.proofs.Steps.{Transition, IsNoMove, after, place_of, met, met_queue, call_step, call_note, cond_step, cond_note, went-is}
 use Rattle.protocol.proofs.Frames.{knows_at}
 use Rattle.protocol.proofs.CallSteps.{call_stepping}
@@ -61,7 +61,7 @@ noted_points s t v n (Of_walk d y is m op point quiet stays) = ap (λ (z : Note)
 -- ---- a step
 
 -- a thread's walk is at a row
-pub walk_is : (s : State) (t : ℕ) (w : walks.Standing) → Kept s → 1 ≤ t → t ≤ s.layout.threads → (s.threads t).stage ≡ Dying w → Walks s.layout t w × (walk_of s.layout t w.row ≡ w) × Mourns s t w.row
+pub walk_is : (s : State) (t : ℕ) (w : walks.Standing) → Kept s → 1 ≤ t → t ≤ s.layout.threads → (s.threads t).stage ≡ Dying w → Walks s.layout t w × (walk_of s.layout t w.row ≡ w) × LeftToWalk s t w.row
 walk_is s t w inv pos known is =
     let f : Walks s.layout t w = subst (λ (g : Stage). Sits s t (s.threads t).held g) is (inv.sits t pos known) in
     (f, (λ i. record { thread = sym f.mine i; head = sym f.head i; row = w.row }), subst (Listed s t) is (inv.listed t pos known))

@@ -6,7 +6,7 @@ use Rattle.protocol.specs.declared.event.Event.TheVariants.{Kill}
 use Rattle.facts.specs.declared.fact.Fact.{Fact}
 use Rattle.facts.specs.declared.fact.Fact.TheVariants.{Death}
 use Rattle.protocol.specs.declared.thread.Stage.TheVariants.{Reaped}
-use Rattle.protocol.specs.Machine.{State, start, run, notes, is_thread, is_alive, killed}
+use Rattle.protocol.specs.Machine.{State, start, run, notes, has_thread, is_alive, killed}
 use Rattle.protocol.specs.Headline.{seen, facts_among}
 
 -- how often thread t's death is told of mutex m
@@ -16,7 +16,7 @@ deaths t m (Death u k ∷ fs) = (if (u == t) && (k == m) then 1 else 0) + deaths
 deaths t m (f ∷ fs) = deaths t m fs
 
 -- thread t is killed in state s, and then these events happen: its death is told, once, of each mutex that it owned and has lost since, and of no other; so once it is reaped, of each mutex that it owned
-pub record IsMourned (s : State) (t : ℕ) (events : List Event) : Type 0 where
+pub record ReportsDeath (s : State) (t : ℕ) (events : List Event) : Type 0 where
   pub owned : (m : ℕ) → m < s.layout.mutexes → (seen s m).owner ≡ Some t →
       ((deaths t m (facts_among (notes (killed s t).state events)) ≡ 1) × ((seen (run (killed s t).state events) m).owner ≢ Some t))
       ⊎ ((deaths t m (facts_among (notes (killed s t).state events)) ≡ 0) × ((seen (run (killed s t).state events) m).owner ≡ Some t))
@@ -24,10 +24,10 @@ pub record IsMourned (s : State) (t : ℕ) (events : List Event) : Type 0 where
   pub reaped : (m : ℕ) → m < s.layout.mutexes → (seen s m).owner ≡ Some t → ((run (killed s t).state events).threads t).stage ≡ Reaped → deaths t m (facts_among (notes (killed s t).state events)) ≡ 1
 
 -- it is so of each kill among the events, wherever it stands, of a thread that lives then
-abbrev pub AreMourned : State → List Event → Type 0
-AreMourned s events = (before after : List Event) (t : ℕ) → events ≡ before ++ Kill t ∷ after → is_thread (run s before) t ≡ true → is_alive ((run s before).threads t).stage ≡ true
-    → IsMourned (run s before) t after
+abbrev pub ReportsDeaths : State → List Event → Type 0
+ReportsDeaths s events = (before after : List Event) (t : ℕ) → events ≡ before ++ Kill t ∷ after → has_thread (run s before) t ≡ true → is_alive ((run s before).threads t).stage ≡ true
+    → ReportsDeath (run s before) t after
 
 -- whatever happens, with any values of the counters at the beginning
 abbrev pub DeathsAreTold : Type 0
-DeathsAreTold = (l : Layout') (counters : ℕ → ℕ) (events : List Event) → IsLayout l → AreMourned (start l counters) events
+DeathsAreTold = (l : Layout') (counters : ℕ → ℕ) (events : List Event) → IsLayout l → ReportsDeaths (start l counters) events

@@ -140,8 +140,8 @@ pub record After : Type 0 where
 abbrev pub nothing : State → After
 nothing s = record { state = s; note = Nothing }
 
-abbrev pub is_thread : State → ℕ → Bool
-is_thread s t = nat_le 1 t && nat_le t s.layout.threads
+abbrev pub has_thread : State → ℕ → Bool
+has_thread s t = nat_le 1 t && nat_le t s.layout.threads
 
 abbrev pub is_idle : Stage → Bool
 is_idle Idle = true
@@ -158,17 +158,17 @@ is_alive (Calling o p) = true
 is_alive (AtCondition c p) = true
 is_alive g = false
 
-abbrev pub is_walked : Stage → Bool
-is_walked (Dying w) = true
-is_walked g = false
+abbrev pub is_exiting : Stage → Bool
+is_exiting (Dying w) = true
+is_exiting g = false
 
 -- in a call
 abbrev pub is_busy : State → ℕ → Bool
-is_busy s t = is_thread s t && is_calling (s.threads t).stage
+is_busy s t = has_thread s t && is_calling (s.threads t).stage
 
 -- killed, and not reaped
 abbrev pub is_dying : State → ℕ → Bool
-is_dying s t = is_thread s t && is_walked (s.threads t).stage
+is_dying s t = has_thread s t && is_exiting (s.threads t).stage
 
 -- thread t is one of the queue
 abbrev pub stands_in : ℕ → List ℕ → Bool
@@ -198,7 +198,7 @@ abbrev pub is_asleep : State → ℕ → Bool
 is_asleep s t = sleeps s t (s.threads t).stage
 
 abbrev pub may_begin : State → ℕ → Op → Bool
-may_begin s t o = is_thread s t && is_idle (s.threads t).stage && is_in s.layout o
+may_begin s t o = has_thread s t && is_idle (s.threads t).stage && is_in s.layout o
 
 -- a thread that may not take another mutex stays where it is, and its call is refused
 abbrev pub stage_begun : Call → Result Whole Reply → Result Stage Reply
@@ -350,8 +350,8 @@ stepped s t held g = nothing s
 -- a begin of a busy, killed or unknown thread or of a call outside the layout, a step of an idle, sleeping, reaped or unknown thread, and a kill of a killed or unknown thread do nothing
 abbrev pub happens : State → Event → After
 happens s (Begin t o) = if may_begin s t o then begun s t o (first_stage s.layout t (s.threads t).held o) else nothing s
-happens s (Step t) = if is_thread s t then stepped s t (s.threads t).held (s.threads t).stage else nothing s
-happens s (Kill t) = if is_thread s t && is_alive (s.threads t).stage then killed s t else nothing s
+happens s (Step t) = if has_thread s t then stepped s t (s.threads t).held (s.threads t).stage else nothing s
+happens s (Kill t) = if has_thread s t && is_alive (s.threads t).stage then killed s t else nothing s
 
 -- ---- runs
 

@@ -78,12 +78,21 @@ pub record IsUndivided (s : State) (t : ℕ) (c : Op) (n : ℕ) : Type 0 where
   pub returns : (x : Reply) → IsAmong (Return t x) (facts_among (notes s (Begin t c ∷ replicate n (Step t)))) → (x ≢ XRACED) × Does (held_by t (seen s) s.layout.mutexes) (seen s (mutex_of s.layout c)) t (operation_of c) x (seen (run s (Begin t c ∷ replicate n (Step t))) (mutex_of s.layout c))
   pub sleeps : is_asleep (run s (Begin t c ∷ replicate n (Step t))) t ≡ true → IsKeptWaiting (seen s (mutex_of s.layout c)) t (operation_of c) ⊎ IsWaiting (seen s (mutex_of s.layout c)) t (operation_of c) (condition_of c) (run s (Begin t c ∷ replicate n (Step t)))
 
--- what every state keeps that events lead to
-pub record GoesOn (s : State) : Type 0 where
+-- what thread t can do alone in every state that events lead to: the three together
+pub record RunsAlone (s : State) : Type 0 where
   pub owed : SomebodyOwes s
   pub ends : (t : ℕ) → EndsAlone s t
   pub undivided : (t : ℕ) (c : Op) (n : ℕ) → may_begin s t c ≡ true → IsUndivided s t c n
 
--- whatever happens, with any values of the counters at the beginning
-abbrev pub MachineGoesOn : Type 0
-MachineGoesOn = (l : Layout') (counters : ℕ → ℕ) (events : List Event) → IsLayout l → GoesOn (run (start l counters) events)
+-- whatever happens, with any values of the counters at the beginning: whenever a mutex that nobody owns has sleepers, some awake thread owes them
+abbrev pub NoSleeperIsStranded : Type 0
+NoSleeperIsStranded = (l : Layout') (counters : ℕ → ℕ) (events : List Event) → IsLayout l → SomebodyOwes (run (start l counters) events)
+
+-- whatever happens, so: whoever is awake and runs alone comes to rest
+abbrev pub LoneThreadsComeToRest : Type 0
+LoneThreadsComeToRest = (l : Layout') (counters : ℕ → ℕ) (events : List Event) → IsLayout l → (t : ℕ) → EndsAlone (run (start l counters) events) t
+
+-- whatever happened before, so: a call that may begin, and that no other event divides, returns or sleeps as its mutex's object says
+abbrev pub UndividedCallsReply : Type 0
+UndividedCallsReply = (l : Layout') (counters : ℕ → ℕ) (events : List Event) → IsLayout l
+    → (t : ℕ) (c : Op) (n : ℕ) → may_begin (run (start l counters) events) t c ≡ true → IsUndivided (run (start l counters) events) t c n

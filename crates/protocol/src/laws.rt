@@ -1,7 +1,7 @@
 //! What holds of every run.
 ghost use Rattle.protocol.specs.Headline.{HistoryIsLegal, NoReapedOwner};
 ghost use Rattle.protocol.specs.Explained.{TraceIsExplained};
-ghost use Rattle.protocol.specs.Sleepers.{MachineGoesOn};
+ghost use Rattle.protocol.specs.Sleepers.{NoSleeperIsStranded, LoneThreadsComeToRest, UndividedCallsReply};
 ghost use Rattle.protocol.specs.Lists.{ListsAreKept};
 ghost use Rattle.protocol.specs.Deaths.{DeathsAreTold};
 ghost use Rattle.protocol.specs.Applies.{EventsApply};
@@ -32,11 +32,21 @@ pub fn trace_is_explained()
     ensures { TraceIsExplained }
 {}
 
-/// Whatever happens: whenever a mutex that nobody owns has sleepers, some awake thread, run alone, takes it or wakes one of them within 9,000 steps. Whoever is awake and runs
-/// alone ends its call or falls asleep within 9,000 steps. And a call that no other event divides returns within as many, or sleeps; it replies as the object does, never with
-/// `XRACED`, and sleeps only where it locks a mutex that another owns, or waits as the owner of a consistent one, and then on its condition variable.
-pub fn machine_goes_on()
-    ensures { MachineGoesOn }
+/// No wake is lost. Whatever happens: whenever a mutex that nobody owns has sleepers, some awake thread, in a call or dying, owes them: run alone, it takes the mutex or wakes one of them within
+/// 9,000 steps.
+pub fn no_sleeper_is_stranded()
+    ensures { NoSleeperIsStranded }
+{}
+
+/// Whatever happens: whoever is awake and runs alone ends its call, falls asleep or is reaped within 9,000 steps.
+pub fn lone_threads_come_to_rest()
+    ensures { LoneThreadsComeToRest }
+{}
+
+/// Whatever happened before: a call that no other event divides returns within 9,000 steps, or sleeps; it replies as the object does, never with `XRACED`, and sleeps only where it locks a mutex
+/// that another owns, or waits as the owner of a consistent one, and then on its condition variable.
+pub fn undivided_calls_reply()
+    ensures { UndividedCallsReply }
 {}
 
 /// Whatever happens, the words from each thread's head are a list of mutexes that it owns, 2,048 at most: of all of them, but for the one whose entry is pending. So the

@@ -9,7 +9,7 @@ use Rattle.protocol.specs.declared.event.Event.{Event}
 use Rattle.protocol.specs.declared.event.Event.TheVariants.{Begin, Step, Kill}
 use Rattle.protocol.specs.declared.thread.Stage.{Stage}
 use Rattle.protocol.specs.declared.thread.Stage.TheVariants.{Idle, Calling, AtCondition, Dying, Reaped}
-use Rattle.protocol.specs.Machine.{State, After, nothing, is_thread, is_alive, may_begin, first_stage, begun, killed, sleeps, led, went, answer_of, stepped, happens, run}
+use Rattle.protocol.specs.Machine.{State, After, nothing, has_thread, is_alive, may_begin, first_stage, begun, killed, sleeps, led, went, answer_of, stepped, happens, run}
 
 -- whichever of two states comes, both have the layout
 either : (s : State) (b : Bool) (a : After) → a.state.layout ≡ s.layout → (if b then a else nothing s).state.layout ≡ s.layout
@@ -34,8 +34,8 @@ stepped_layout s t held Reaped = refl
 
 happens_layout : (s : State) (e : Event) → (happens s e).state.layout ≡ s.layout
 happens_layout s (Begin t o) = either s (may_begin s t o) (begun s t o (first_stage s.layout t (s.threads t).held o)) (begun_layout s t o (first_stage s.layout t (s.threads t).held o))
-happens_layout s (Step t) = either s (is_thread s t) (stepped s t (s.threads t).held (s.threads t).stage) (stepped_layout s t (s.threads t).held (s.threads t).stage)
-happens_layout s (Kill t) = either s (is_thread s t && is_alive (s.threads t).stage) (killed s t) refl
+happens_layout s (Step t) = either s (has_thread s t) (stepped s t (s.threads t).held (s.threads t).stage) (stepped_layout s t (s.threads t).held (s.threads t).stage)
+happens_layout s (Kill t) = either s (has_thread s t && is_alive (s.threads t).stage) (killed s t) refl
 
 pub run_layout : (s : State) (es : List Event) → (run s es).layout ≡ s.layout
 run_layout s [] = refl

@@ -6,14 +6,14 @@ use Rattle.protocol.specs.Sleepers.{alone}
 use Rattle.protocol.specs.Headline.{NoReapedOwns}
 use Rattle.interleave.specs.Shown.{state_of}
 use Rattle.interleave.specs.Notes.{is_nothing}
-use Rattle.interleave.proofs.Reaches.{reached_goes_on, reached_reaped, alone-more, alone_layout, stays_fresh}
+use Rattle.interleave.proofs.Reaches.{reached_runs_alone, reached_reaped, alone-more, alone_layout, stays_fresh}
 use Rattle.interleave.proofs.machine.Machine.alone.Goals as goal
 
-pub returns-clause-goes_on : goal.returns-clause-goes_on
-returns-clause-goes_on c = reached_goes_on c.args.self.now [] c.reached.ensures
+pub returns-clause-runs_alone : goal.returns-clause-runs_alone
+returns-clause-runs_alone c = reached_runs_alone c.args.self.now [] c.reached.ensures
 
-pub returns-in_err-machine-clause-goes_on : goal.returns-in_err-machine-clause-goes_on
-returns-in_err-machine-clause-goes_on c = reached_goes_on c.args.self.now [] c.reached.ensures
+pub returns-in_err-machine-clause-runs_alone : goal.returns-in_err-machine-clause-runs_alone
+returns-in_err-machine-clause-runs_alone c = reached_runs_alone c.args.self.now [] c.reached.ensures
 
 pub loop-preserved : goal.loop-preserved
 loop-preserved c =

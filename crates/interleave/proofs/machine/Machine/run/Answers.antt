@@ -6,7 +6,7 @@ use Rattle.protocol.specs.Machine.{State, happens, run, notes}
 use Rattle.interleave.specs.Notes.{are_nothing}
 use Rattle.interleave.specs.Shown.{state_of}
 use Rattle.interleave.proofs.Freshness.{stays_fresh}
-use Rattle.interleave.proofs.Reaches.{run-more, notes-more, reached_goes_on, reached_reaped, reached_mourned}
+use Rattle.interleave.proofs.Reaches.{run-more, notes-more, reached_runs_alone, reached_reaped, reached_deaths}
 use Rattle.interleave.proofs.Runs.{whole_run}
 use Rattle.interleave.proofs.machine.Machine.run.Goals as goal
 
@@ -37,11 +37,11 @@ returns-clause-sleeps c = λ on. (whole_run c.args.self.now c.args.events.now c.
 pub returns-clause-passed : goal.returns-clause-passed
 returns-clause-passed c = λ on. (whole_run c.args.self.now c.args.events.now c.loop-event.notes.items c.loop-event.event-index (c.fresh-fresh.ensures.start on) (omega arith) c.loop-event.invariant.3).passed
 
-pub returns-clause-goes_on : goal.returns-clause-goes_on
-returns-clause-goes_on c = λ n. reached_goes_on c.args.self.now (take n c.args.events.now) c.reached.ensures
+pub returns-clause-runs_alone : goal.returns-clause-runs_alone
+returns-clause-runs_alone c = λ n. reached_runs_alone c.args.self.now (take n c.args.events.now) c.reached.ensures
 
 pub returns-clause-reaped : goal.returns-clause-reaped
 returns-clause-reaped c = λ n. reached_reaped c.args.self.now (take n c.args.events.now) c.reached.ensures
 
 pub returns-clause-deaths : goal.returns-clause-deaths
-returns-clause-deaths c = reached_mourned c.args.self.now c.args.events.now c.reached.ensures
+returns-clause-deaths c = reached_deaths c.args.self.now c.args.events.now c.reached.ensures

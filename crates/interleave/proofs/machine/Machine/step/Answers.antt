@@ -3,7 +3,7 @@ use Rattle.protocol.specs.declared.note.Note.{Note}
 use Rattle.protocol.specs.Machine.{happens}
 use Rattle.interleave.specs.Shown.{Shown, state_at, state_of}
 use Rattle.interleave.specs.Notes.{is_nothing}
-use Rattle.interleave.proofs.Reaches.{reached_step, may_step, sleeps_in_call, reached_goes_on, reached_reaped}
+use Rattle.interleave.proofs.Reaches.{reached_step, may_step, sleeps_in_call, reached_runs_alone, reached_reaped}
 use Rattle.interleave.proofs.machine.Machine.step.Goals as goal
 
 pub apply-note-requires-clause-goes : goal.apply-note-requires-clause-goes
@@ -31,10 +31,10 @@ returns-clause-state c = subst (λ (m : Shown). state_at c.self.inside.layout c.
 pub returns-clause-note : goal.returns-clause-note
 returns-clause-note c = subst (λ (m : Shown). c.apply-note.result ≡ (happens (state_of m) c.args.event).note) c.self.view_is c.apply-note.ensures.note
 
-pub returns-clause-goes_on : goal.returns-clause-goes_on
-returns-clause-goes_on c =
+pub returns-clause-runs_alone : goal.returns-clause-runs_alone
+returns-clause-runs_alone c =
     let m : Shown = record { layout = c.self.inside.layout; words = c.self.inside.memory; kernel = c.self.inside.kernel; threads = c.self.inside.threads.items; fresh = c.self.inside.fresh } in
-    reached_goes_on _ []
+    reached_runs_alone _ []
     (reached_step m c.apply-note.new.memory c.apply-note.new.kernel c.apply-note.new.threads.items c.args.event c.self.invariant c.apply-note.ensures.state c.apply-note.ensures.words c.apply-note.ensures.kernel c.apply-note.ensures.heads c.apply-note.ensures.threads
     c.stays_fresh-self-inside.result (c.stays_fresh-self-inside.ensures ∙ ap (λ (n : Note). m.fresh && is_nothing n) c.apply-note.ensures.note))
 

@@ -6,7 +6,7 @@ use Rattle.exitwalk.specs.declared.row.Row.{Row}
 use Rattle.exitwalk.specs.declared.row.Row.TheVariants.{Ended}
 use Rattle.exitwalk.specs.Walks.{Knows}
 use Rattle.protocol.proofs.Seeing.{head_in, entry_in, words_in}
-use Rattle.protocol.proofs.Kept.{Left, LeftOf, LeftIn, LeftFrom, Treats, Mourns}
+use Rattle.protocol.proofs.Kept.{Left, LeftOf, LeftIn, LeftFrom, Treats, LeftToWalk}
 
 abbrev pub changed_to : State → (ℕ → ℕ) → (ℕ → List ℕ) → (ℕ → Thread) → State
 changed_to s words queues threads = record { layout = s.layout; words = words; queues = queues; threads = threads }
@@ -40,12 +40,12 @@ module _ (s : State) (words : ℕ → ℕ) (queues : ℕ → List ℕ) (threads 
   from_carries : (e : ℕ) → LeftFrom s u e → LeftFrom s' u e
   from_carries e (es, l, few) = (es, subst (λ (p : ℕ). Left s' u e p es None) (sym pending) (left_carries e (s.words (head_place u + 2)) es None l), few)
 
-  pub mourns_carries : (r : Row) → Knows u (head_in s.layout u) r → Mourns s u r → Mourns s' u r
-  mourns_carries LoadFirst knows l = subst (LeftFrom s' u) (sym first) (from_carries (s.words (head_place u)) l)
-  mourns_carries (LoadOffset f) knows l = from_carries f l
-  mourns_carries (LoadPending f o) knows (l, offset) = (from_carries f l, offset)
-  mourns_carries (LoadNext r) knows l = rest_carries r None l
-  mourns_carries (LoadWord at rest) knows (k, treats, l) = (k, treats, part_carries rest (Some k) l)
-  mourns_carries (Mark at v again rest) knows (k, treats, l, only) = (k, treats, part_carries rest (Some k) l, marks k at v again treats knows.0 only)
-  mourns_carries (WakeOne at rest) knows (k, treats, l) = (k, treats, part_carries rest None l)
-  mourns_carries Ended knows l = l
+  pub left_to_walk_carries : (r : Row) → Knows u (head_in s.layout u) r → LeftToWalk s u r → LeftToWalk s' u r
+  left_to_walk_carries LoadFirst knows l = subst (LeftFrom s' u) (sym first) (from_carries (s.words (head_place u)) l)
+  left_to_walk_carries (LoadOffset f) knows l = from_carries f l
+  left_to_walk_carries (LoadPending f o) knows (l, offset) = (from_carries f l, offset)
+  left_to_walk_carries (LoadNext r) knows l = rest_carries r None l
+  left_to_walk_carries (LoadWord at rest) knows (k, treats, l) = (k, treats, part_carries rest (Some k) l)
+  left_to_walk_carries (Mark at v again rest) knows (k, treats, l, only) = (k, treats, part_carries rest (Some k) l, marks k at v again treats knows.0 only)
+  left_to_walk_carries (WakeOne at rest) knows (k, treats, l) = (k, treats, part_carries rest None l)
+  left_to_walk_carries Ended knows l = l
