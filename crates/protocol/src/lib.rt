@@ -1,8 +1,33 @@
 //! The protocol of robust mutexes as a pure machine, and what holds of every run of it.
 //!
-//! A state is the words, who sleeps on each, and for each thread the call that it is in. An event begins a call or makes its next access; `specs/`
-//! says what each event does and notes, and a trace is what the notes tell. `history_is_legal`, `events_apply`, `trace_is_explained`,
-//! `no_sleeper_is_stranded`, `lone_threads_come_to_rest`, `undivided_calls_reply`, `sleeps_are_told`, `lists_are_kept`, `nobody_is_passed_by`, `signals_are_right` and `waiters_are_kept` are the theorems about every run.
+//! A state is the words, who sleeps on each, and for each thread the call that it is in. An [`Event`] begins a call, makes its
+//! next access or kills a thread; `specs/` says what each event does and notes ([`Note`]), and a trace is what the notes tell.
+//! The theorems about every run, wherever threads are killed:
+//!
+//! - `history_is_legal`: the points and the deaths are one legal history of POSIX robust mutexes;
+//! - `trace_is_explained`, `events_apply`: each call has its points and returns their reply, and no event is passed over;
+//! - `no_reaped_owner`, `deaths_are_told`, `lists_are_kept`: what a dead thread owned is found, marked and told, once;
+//! - `no_sleeper_is_stranded`, `lone_threads_come_to_rest`, `undivided_calls_reply`: what threads do alone comes to an end;
+//! - `sleeps_are_told`, `waiters_are_kept`: who sleeps where, and WAITERS in the word while somebody does;
+//! - `nobody_is_passed_by`, `signals_are_right`: of condition variables.
+//!
+//! Stands on `mutex` and `condvar`, for the calls' programs, on `robustlist` and `exitwalk`, for lists and the walk over them,
+//! on `keys`, for layouts, accesses and histories, on `buckets`, for who is woken or moved, on `facts`, for what notes tell, and
+//! on `lockword`, for cells and replies.
+//!
+//! ```text
+//! // Thread 1 begins a lock, announces the mutex, loads its cell, takes it, and dies before it has linked the entry.
+//! let lock = Op::OnMutex(Call::Lock(0));
+//! let schedule = [
+//!     Event::Begin(first, lock),
+//!     Event::Step(first),
+//!     Event::Step(first),
+//!     Event::Step(first),
+//!     Event::Kill(first),
+//! ];
+//! // `interleave` runs it. The fourth note is a `Note::Stepped` whose point says that the lock was decided with OK, the fifth
+//! // `Note::Killed`. From then on the thread's steps are the kernel's walk, which finds the mutex pending: `Note::Walked`.
+//! ```
 #![tactic(auto)]
 
 mod event;

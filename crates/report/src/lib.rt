@@ -1,4 +1,28 @@
-//! The program but for opening its file: its command line, reading, a script's calls on real threads, judging a trace, and the messages.
+//! The program but for opening its file: its command line, reading, a script's calls on real threads, judging a trace, and the
+//! messages.
+//!
+//! [`serve`] does what a form of the command line asks for, the file being open, and answers the exit status. Where that is 0,
+//! all of the text was written: a trace or a table is that of a legal run, and a trace is one that [`check`] finds legal, unless
+//! it is refused memory. [`run`] does the same for the words of a command line and whatever opens files ([`Opener`]). What is
+//! told of a failure is in both contracts.
+//!
+//! Stands on `cmdline`, for the forms, on `streams`, for files, on `script`, `interleave` and `protocol`, for scripts and runs,
+//! on `threadbench`, `ruledwords` and `mutex`, for real threads, on `texts`, for what is written, on `verdict` and
+//! `runs_judged`, for judging it, on `facts`, `keys` and `lockword`, for lines, want of memory and replies, and on `itoa`, for
+//! numbers.
+//!
+//! ```text
+//! // `rfx run --table f`, where the file f has this script.
+//! let mut script: &[u8] = b"thread a\nmutex m\ncall a lock m\n";
+//! let mut printed = Vec::new(rt.alloc());
+//! let mut told = Vec::new(rt.alloc());
+//! let form = Form::Table("f");
+//! let status = serve(&rt, rt.alloc(), &form, &mut script, &mut printed, &mut told);
+//! // 0, and no message: thread a idle 1 OK / mutex m 0000000000000001 a -
+//! if status != 0 {
+//!     put_text(&mut err, &told)?;
+//! }
+//! ```
 #![tactic(auto)]
 
 mod answers;
