@@ -1,5 +1,5 @@
 -- A running call whose accesses are made one after the other.
-use Rattle.std.proofs.Common.{◌≡◌, ℕ, Result, Ok, Err, refl, sym, ap, ◌∙◌, subst}
+use Rattle.std.proofs.Common.{◌≡◌, Result, Ok, Err, sym, subst}
 use Rattle.lockword.specs.declared.reply.Reply.{Reply}
 use Rattle.mutex.specs.Standings.{Whole}
 use Rattle.mutex.specs.declared.call.Call.{Call}

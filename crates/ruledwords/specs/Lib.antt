@@ -1,3 +1,4 @@
+pub mod Fates
 pub mod Cards
 pub mod Seen
 pub mod Rules

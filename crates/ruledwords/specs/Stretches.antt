@@ -1,5 +1,5 @@
 -- Accesses of a call that are made one after the other, where the call stands.
-use Rattle.std.specs.Prelude.{◌≡◌, ℕ, Result, Ok, Err}
+use Rattle.std.specs.Prelude.{ℕ, Result, Ok, Err}
 use Rattle.lockword.specs.declared.reply.Reply.{Reply}
 use Rattle.mutex.specs.declared.call.Call.{Call}
 use Rattle.mutex.specs.Standings.{Whole}

@@ -1,5 +1,6 @@
 //! When a thread dies.
 ghost use Rattle.std.specs.Prelude.{◌≡◌, ℕ, ◌+◌, if◌then◌else◌};
+ghost use Rattle.ruledwords.specs.Fates.{Heeds};
 
 /// Tells a thread whether it stops now. A call asks it before each of its accesses.
 pub trait Fate {
@@ -20,4 +21,12 @@ impl Fate for Never {
     fn stops(&mut self) -> bool {
         false
     }
+}
+
+/// Asks two fates of one thread: its caller's, and where that lets it go on, one more. So one of them at most says that the thread stops.
+#[inline(always)]
+pub fn either_stops<F: Fate, N: Fate>(fate: &mut F, note: &mut N) -> bool
+    ensures { Heeds (F.stopped fate.old) (F.stopped fate.new) (N.stopped note.old) (N.stopped note.new) (if result then 1 else 0) }
+{
+    fate.stops() || note.stops()
 }

@@ -34,7 +34,7 @@ mod turn;
 mod walk;
 
 pub use card::Card;
-pub use fate::{Fate, Never};
+pub use fate::{Fate, Never, either_stops};
 pub use outcome::{Outcome, Owed, Released, Wakes};
 pub use pass::{Dead, Last, Live, Pass, Reaped, Spent, Words};
 pub use reaping::{Reaping, Walked};

@@ -34,6 +34,13 @@ impl Words {
         }
     }
 
+    /// The layout whose words they are.
+    pub fn layout(&self) -> &Layout
+        ensures { result.now ≡ layout_of self.now }
+    {
+        &self.layout
+    }
+
     fn made(
         alloc: Global,
         layout: Layout,

@@ -4,13 +4,21 @@ ghost use Rattle.lockword.specs.declared.reply.Reply.TheVariants.{OK};
 ghost use Rattle.ruledwords.specs.declared.pass.Words.{Words};
 ghost use Rattle.ruledwords.specs.Passes.{card};
 ghost use Rattle.ruledwords.specs.Outcomes.{owed_pass, owed_running, owed_wakes, IsOwedOf, Settles};
-ghost use Rattle.ruledwords.specs.Turns.{IsDecided};
+ghost use Rattle.ruledwords.specs.Turns.{running_program, IsDecided};
 
 use crate::outcome::{Owed, Wakes};
 use crate::pass::{Live, Pass, Words};
 use crate::turn::Running;
+use lockword::Tid;
 
 impl Owed {
+    /// The thread whose unlock it is.
+    pub fn thread(&self) -> Tid
+        ensures { result ≡ (running_program (owed_running self.now)).thread }
+    {
+        self.running.thread()
+    }
+
     /// How many sleepers are to be woken.
     pub fn wakes(&self) -> Wakes
         ensures { result ≡ owed_wakes self.now }

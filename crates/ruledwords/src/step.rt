@@ -3,11 +3,12 @@ ghost use Rattle.std.specs.Prelude.{◌≡◌, ◌+◌, true, false};
 ghost use Rattle.mutex.specs.declared.call.Call.{Call};
 ghost use Rattle.ruledwords.specs.declared.pass.Live.{Live};
 ghost use Rattle.ruledwords.specs.declared.pass.Pass.{Pass};
+ghost use Rattle.ruledwords.specs.Fates.{Heeds};
 ghost use Rattle.ruledwords.specs.Outcomes.{Finishes, stops_in};
 ghost use Rattle.ruledwords.specs.Stretches.{StepsOn, StepsOnce, StepsTo, Stretches, stops_stretching};
 ghost use Rattle.ruledwords.specs.Turns.{EndsIn, IsCallOf, IsInNonblocking, IsOneStep, IsRunningOf, running_call, running_pass, stops_with, stops_within};
 
-use crate::fate::Fate;
+use crate::fate::{Fate, Never, either_stops};
 use crate::outcome::Outcome;
 use crate::pass::{Live, Pass, Words};
 use crate::turn::{Running, Stretch};
@@ -64,23 +65,24 @@ impl Begins for TryLocks {
 }
 
 impl Words {
-    /// Makes the call's next access, unless the thread's fate tells it to stop. A call that comes to a futex section stays where it is.
+    /// Makes the call's next access, unless one of the thread's fates tells it to stop: its caller's, or the note of a kill. A call that comes to a futex section stays where it is.
     #[inline(always)]
-    fn step<F: Fate>(
+    fn step<F: Fate, N: Fate>(
         &self,
         pass: &mut Pass<Live>,
         program: &mut Program,
         fate: &mut F,
+        note: &mut N,
     ) -> Result<(), End>
         requires { IsCallOf self.now pass.old program.old }
         ensures steps { StepsOn self.now pass.old program.old pass.new program.new result }
         ensures once { StepsOnce self.now pass.old program.old pass.new program.new result }
-        ensures fate { F.stopped fate.new ≡ F.stopped fate.old + stops_within result }
+        ensures fate { Heeds (F.stopped fate.old) (F.stopped fate.new) (N.stopped note.old) (N.stopped note.new) (stops_within result) }
     {
         if !is_step(program.next()) {
             return Ok(());
         }
-        if fate.stops() {
+        if either_stops(fate, note) {
             return Err(End::Stopped);
         }
         match self.advance(pass, program) {
@@ -92,32 +94,33 @@ impl Words {
     /// The accesses of a lock or trylock that nobody crosses, one after the other: so the compiler knows at each where the call stands. Of one that meets an owned or a changed cell some of
     /// them, of other calls none. It is here for speed alone: its contract lets it make fewer.
     #[inline(always)]
-    pub(crate) fn first_steps<B: Begins, F: Fate>(
+    pub(crate) fn first_steps<B: Begins, F: Fate, N: Fate>(
         &self,
         pass: &mut Pass<Live>,
         begun: Program,
         fate: &mut F,
+        note: &mut N,
     ) -> Result<Program, End>
         requires { IsCallOf self.now pass.old begun }
         ensures steps { StepsTo self.now pass.old begun pass.new result }
-        ensures fate { F.stopped fate.new ≡ F.stopped fate.old + stops_within result }
+        ensures fate { Heeds (F.stopped fate.old) (F.stopped fate.new) (N.stopped note.old) (N.stopped note.new) (stops_within result) }
     {
         let mut program = begun;
         if !B::begins(program.phase()) {
             return Ok(program);
         }
-        self.step(pass, &mut program, fate)?;
-        self.step(pass, &mut program, fate)?;
-        self.step(pass, &mut program, fate)?;
+        self.step(pass, &mut program, fate, note)?;
+        self.step(pass, &mut program, fate, note)?;
+        self.step(pass, &mut program, fate, note)?;
         let Phase::Linking { .. } = program.phase() else {
             return Ok(program);
         };
-        self.step(pass, &mut program, fate)?;
-        self.step(pass, &mut program, fate)?;
-        self.step(pass, &mut program, fate)?;
-        self.step(pass, &mut program, fate)?;
-        self.step(pass, &mut program, fate)?;
-        self.step(pass, &mut program, fate)?;
+        self.step(pass, &mut program, fate, note)?;
+        self.step(pass, &mut program, fate, note)?;
+        self.step(pass, &mut program, fate, note)?;
+        self.step(pass, &mut program, fate, note)?;
+        self.step(pass, &mut program, fate, note)?;
+        self.step(pass, &mut program, fate, note)?;
         Ok(program)
     }
 
@@ -134,7 +137,7 @@ impl Words {
     {
         let mut program = begun;
         loop {
-            if let Err(end) = self.step(pass, &mut program, fate) {
+            if let Err(end) = self.step(pass, &mut program, fate, &mut Never) {
                 return end;
             }
         }
@@ -147,7 +150,7 @@ impl Words {
         ensures ends { EndsIn self.now pass.old program pass.new result }
         ensures fate { F.stopped fate.new ≡ F.stopped fate.old + stops_with result }
     {
-        match self.first_steps::<TryLocks, F>(pass, program, fate) {
+        match self.first_steps::<TryLocks, F, Never>(pass, program, fate, &mut Never) {
             Ok(program) => self.last_steps(pass, program, fate),
             Err(end) => end,
         }
@@ -168,54 +171,56 @@ impl Words {
     }
 
     /// Further accesses of the call, up to a futex section, and not too many of them, as a lock that is crossed again and again has no last one.
-    fn more_steps<F: Fate>(
+    fn more_steps<F: Fate, N: Fate>(
         &self,
         pass: &mut Pass<Live>,
         begun: Program,
         fate: &mut F,
+        note: &mut N,
     ) -> Result<Program, End>
         requires { IsCallOf self.now pass.old begun }
         ensures steps { StepsTo self.now pass.old begun pass.new result }
-        ensures fate { F.stopped fate.new ≡ F.stopped fate.old + stops_within result }
+        ensures fate { Heeds (F.stopped fate.old) (F.stopped fate.new) (N.stopped note.old) (N.stopped note.new) (stops_within result) }
     {
         let mut program = begun;
         for _ in 0..STRETCH {
             if !is_step(program.next()) {
                 return Ok(program);
             }
-            self.step(pass, &mut program, fate)?;
+            self.step(pass, &mut program, fate, note)?;
         }
         Ok(program)
     }
 
     /// Accesses of the call from where it stands, up to a futex section, and not too many of them.
     #[inline(always)]
-    fn stretch<F: Fate>(
+    fn stretch<F: Fate, N: Fate>(
         &self,
         pass: &mut Pass<Live>,
         begun: Program,
         fate: &mut F,
+        note: &mut N,
     ) -> Result<Program, End>
         requires { IsCallOf self.now pass.old begun }
         ensures steps { StepsTo self.now pass.old begun pass.new result }
-        ensures fate { F.stopped fate.new ≡ F.stopped fate.old + stops_within result }
+        ensures fate { Heeds (F.stopped fate.old) (F.stopped fate.new) (N.stopped note.old) (N.stopped note.new) (stops_within result) }
     {
-        let program = self.first_steps::<Locks, F>(pass, begun, fate)?;
-        self.more_steps(pass, program, fate)
+        let program = self.first_steps::<Locks, F, N>(pass, begun, fate, note)?;
+        self.more_steps(pass, program, fate, note)
     }
 }
 
 impl Running {
-    /// Makes accesses that come next, one after the other where the call stands, up to a futex section, or its end, or its thread's death: the fate is asked before each. It may stop before that,
-    /// and goes on where it is called again or where the next access is made by [`Running::access`]. It is here for speed: an access by itself moves the call.
+    /// Makes accesses that come next, one after the other where the call stands, up to a futex section, or its end, or its thread's death: the fate is asked before each, and then the
+    /// note, by which others can tell the thread to stop ([`Never`](crate::Never) where nobody can). It may stop before that, and goes on where it is called again or where the next access is made by [`Running::access`]. It is here for speed: an access by itself moves the call.
     #[inline(always)]
-    pub fn stretch<F: Fate>(self, words: &Words, fate: &mut F) -> Stretch
+    pub fn stretch<F: Fate, N: Fate>(self, words: &Words, fate: &mut F, note: &mut N) -> Stretch
         requires words { IsRunningOf words.now self }
         ensures stretches { Stretches words.now self result }
-        ensures fate { F.stopped fate.new ≡ F.stopped fate.old + stops_stretching result }
+        ensures fate { Heeds (F.stopped fate.old) (F.stopped fate.new) (N.stopped note.old) (N.stopped note.new) (stops_stretching result) }
     {
         let Running { mut pass, program } = self;
-        match words.stretch(&mut pass, program, fate) {
+        match words.stretch(&mut pass, program, fate, note) {
             Ok(program) => Stretch::Goes(Running { pass, program }),
             Err(end) => match end {
                 End::Replied(reply) => Stretch::Lives(pass, reply),

@@ -1,9 +1,8 @@
-use Rattle.std.proofs.Common.{refl, ◌∙◌, arith}
-use Rattle.ruledwords.proofs.Stepping.{after, comes_further, counts_on, handed_on, stays}
+use Rattle.ruledwords.proofs.Stepping.{after, comes_further, handed_on, heeds_nothing, heeds_on, heeds_out, stays}
 use Rattle.ruledwords.proofs.pass.Words.more_steps.Goals as goal
 
 pub loop-init : goal.loop-init
-loop-init g c = record { came = stays c.args.self.now c.args.pass.now c.args.begun c.requires; fate = refl }
+loop-init g c = record { came = stays c.args.self.now c.args.pass.now c.args.begun c.requires; fate = heeds_nothing _ _ }
 
 pub next-requires : goal.next-requires
 next-requires g c = c.loop.invariant.came.0.going
@@ -11,7 +10,7 @@ next-requires g c = c.loop.invariant.came.0.going
 pub loop-preserved : goal.loop-preserved
 loop-preserved g c = record {
   came = comes_further c.args.self.now c.args.pass.now c.args.begun c.loop.pass c.loop.program c.step.new.pass c.step.new.program c.loop.invariant.came c.in_ok-step.ensures.steps;
-  fate = let now = c.in_ok-step.ensures.fate in let so_far = c.loop.invariant.fate in omega arith;
+  fate = heeds_on _ _ _ _ _ _ _ c.loop.invariant.fate c.in_ok-step.ensures.fate;
 }
 
 pub returns-in_err-step-clause-steps : goal.returns-in_err-step-clause-steps
@@ -23,6 +22,5 @@ returns-in_err-step-clause-steps g c =
 
 pub returns-in_err-step-clause-fate : goal.returns-in_err-step-clause-fate
 returns-in_err-step-clause-fate g c =
-    let so_far = c.loop.invariant.fate in
-    let told = c.in_err-step.ensures.fate in
-    counts_on c.from_residual.result c.in_err-step.field-0.0 _ _ c.from_residual.ensures.1 (omega arith)
+    let told = heeds_on _ _ _ _ _ _ _ c.loop.invariant.fate c.in_err-step.ensures.fate in
+    heeds_out c.from_residual.result c.in_err-step.field-0.0 _ _ _ _ c.from_residual.ensures.1 told

@@ -1,4 +1,3 @@
-use Rattle.ruledwords.proofs.Stepping.{stays}
 use Rattle.ruledwords.proofs.pass.Words.step.Goals as goal
 
 pub returns-in-None-clause-steps : goal.returns-in-None-clause-steps
