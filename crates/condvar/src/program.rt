@@ -97,6 +97,13 @@ impl CondProgram {
         progress(&onward.phase, onward.point)
     }
 
+    /// Where the call stands.
+    pub fn phase(&self) -> CondPhase
+        ensures { result ≡ self.now.phase }
+    {
+        self.phase
+    }
+
     /// The mutex's lock that it is in, where it is a wait that is awake again.
     pub fn lock(&self) -> Option<Program>
         ensures { result ≡ lock_of self.now.phase }

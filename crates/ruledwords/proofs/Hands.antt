@@ -17,8 +17,10 @@ use Rattle.keys.specs.Layouts.{Layout', IsLayout, head_place, cell_place, counte
 use Rattle.keys.specs.Objects.{fresh, object_of}
 use Rattle.ruledwords.specs.declared.card.Card.{Card}
 use Rattle.ruledwords.specs.Cards.{at, value_at, put_value}
+use Rattle.ruledwords.specs.Counts.{counter_in, total_of, Counted}
 use Rattle.ruledwords.specs.Seen.{Leaves, Joined, AreExclusive, holds, held, held_after}
 use Rattle.ruledwords.specs.Rules.{opening_word, first_values, first_card, hand, Fits, AllFit, cards_of, Kept, first_of, rest_of, met, IsAmong, Ends}
+use Rattle.ruledwords.proofs.Counts.{total_same}
 use Rattle.ruledwords.proofs.Lists.{prefix_self, value_put, value_put_else, all_one, all_set, all_append, cards_append, one_or_none}
 use Rattle.ruledwords.proofs.Held.{count_same, owner_held, owns, owns_one}
 use Rattle.ruledwords.proofs.Keepers.{head_keeper}
@@ -50,7 +52,7 @@ deals k id v s h is = record {
   legal = h.legal;
   narrow = h.narrow;
   counters = h.counters;
-  unchanged = h.unchanged;
+  counted = h.counted;
   fits = λ j w e. ⊎_elim
       (λ (was : get_elem? (set s.views id (rest_of v)) j ≡ some w). ⊎_elim
       (λ (t : (j ≡ id) × (rest_of v ≡ w)). subst (AllFit k s.words h.histories) t.1 (fit_rest k s.words h.histories v (h.fits id v is)))
@@ -73,7 +75,7 @@ gathers k id v other w s h is apart there =
       legal = h.legal;
       narrow = h.narrow;
       counters = h.counters;
-      unchanged = h.unchanged;
+      counted = h.counted;
       fits = λ j u e. ⊎_elim
           (λ (t : (j ≡ other) × ([] ≡ u)). subst (AllFit k s.words h.histories) t.1 tt)
           (λ (t : (j ≢ other) × (get_elem? (set s.views id (v ++ w)) j ≡ some u)). ⊎_elim
@@ -125,7 +127,7 @@ meets {o} k slots id i c d s h deep is small =
         legal = h.legal;
         narrow = h.narrow;
         counters = h.counters;
-        unchanged = h.unchanged;
+        counted = h.counted;
         fits = λ j w e. ⊎_elim
             (λ (t : (j ≡ id) × (c' ∷ d' ∷ [] ≡ w)). subst (AllFit k s.words js) t.1 (fits_all k s.words js c f.0, (fits_all k s.words js d f.1.0, tt)))
             (λ (t : (j ≢ id) × (get_elem? s.views j ≡ some w)). h.fits j w t.1)
@@ -160,7 +162,7 @@ kept_ends k o words s h cards same fit = record {
   histories = h.histories;
   leaves = λ m low. subst (λ (ws : List ℕ). Leaves k.threads (cell_place k m) (at h.histories (cell_place k m)) (object_of (fields_of (get_or ws (cell_place k m) 0)))) same (h.leaves m low);
   narrow = λ m low. subst (λ (ws : List ℕ). (fields_of (get_or ws (cell_place k m) 0)).rest ≡ 0) same (h.narrow m low);
-  counters = λ q low. subst (λ (ws : List ℕ). get_or ws (counter_place k q) 0 ≡ get_or o q 0) same (h.unchanged q low);
+  counted = subst (λ (ws : List ℕ). Counted k o ws h.histories) same h.counted;
   among = all_among k s.words h.histories cards fit;
 }
 
@@ -274,12 +276,18 @@ opens_kept k counters ws layout small opens = record {
   leaves = λ m low. let zero_word : slice_index ws (cell_place k m) ≡ 0 = opens.1 (cell_place k m) (omega arith) ∙ cell_first k counters m low in (ap (λ (v : ℕ). object_of (fields_of v)) zero_word, tt);
   legal = λ p. (fresh, (refl, tt));
   narrow = λ m low. let zero_word : slice_index ws (cell_place k m) ≡ 0 = opens.1 (cell_place k m) (omega arith) ∙ cell_first k counters m low in ap (λ (v : ℕ). (fields_of v).rest) zero_word;
-  unchanged = λ q low. opens.1 (counter_place k q) (omega arith) ∙ counter_first k counters q low;
+  counted = record {
+    sums = λ m low. total_same m k.conditions (λ q. get_or counters q 0) (counter_in k ws) 0 (λ q above below. began q (omega arith)) ∙ (let none : total_of m k.conditions (λ q. get_or counters q 0) 0 ≡ total_of m k.conditions (λ q. get_or counters q 0) 0 + 0 = omega arith in none);
+    still = λ q low none. began q low;
+  };
   counters = λ q low. let is : slice_index ws (counter_place k q) ≡ slice_index counters q = opens.1 (counter_place k q) (omega arith) ∙ counter_first k counters q low in subst (λ (z : ℕ). z < 4294967296) (sym is) (small q);
   fits = λ j v e. only j v e;
   once = λ t. let a = hand_once k t 1 k.threads in omega arith;
 }
   where
+    began : (q : ℕ) → q < length k.conditions → counter_in k ws q ≡ get_or counters q 0
+    began q low = opens.1 (counter_place k q) (omega arith) ∙ counter_first k counters q low
+
     only : (j : ℕ) (v : List Card) → get_elem? (hand k 1 k.threads ∷ []) j ≡ some v → AllFit k ws [] v
     only zero v e = subst (AllFit k ws []) (some-injective _ _ e) (hand_fits k counters ws k.threads 1 opens (omega arith) (omega arith))
     only (suc j) v e = absurd (some-ne-none v (sym e))

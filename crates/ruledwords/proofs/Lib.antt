@@ -1,5 +1,6 @@
 mod Lists
 mod Cards
+mod Counts
 mod Held
 mod Keepers
 mod Moves

@@ -40,7 +40,7 @@ kept_noted k s h id c n t is = let f = (h.fits id (c ∷ []) is).0 in record {
   legal = h.legal;
   narrow = h.narrow;
   counters = h.counters;
-  unchanged = h.unchanged;
+  counted = h.counted;
   fits = λ j w e. ⊎_elim
       (λ (u : (j ≡ id) × (noted c n t ∷ [] ≡ w)). subst (AllFit k s.words h.histories) u.1 (record { thread = f.thread; threads = f.threads; begins = f.begins; own = f.own; values = f.values; marks = f.marks }, tt))
       (λ (u : (j ≢ id) × (get_elem? s.views j ≡ some w)). h.fits j w u.1)

@@ -30,6 +30,7 @@ use Rattle.ruledwords.specs.Deaths.{deaths, examined, left_by_mark, marked, reme
 use Rattle.ruledwords.specs.Looks.{Finds}
 use Rattle.ruledwords.specs.OwnWords.{owns_in}
 use Rattle.ruledwords.specs.Rules.{AllFit, Fits, Kept}
+use Rattle.ruledwords.proofs.Counts.{told_counts}
 use Rattle.ruledwords.proofs.Held.{owner_held}
 use Rattle.ruledwords.proofs.Keepers.{inside, other_cell}
 use Rattle.ruledwords.proofs.Lists.{all_set, told}
@@ -56,7 +57,7 @@ kept_remembering k s h id c m low is =
       legal = h.legal;
       narrow = h.narrow;
       counters = h.counters;
-      unchanged = h.unchanged;
+      counted = h.counted;
       fits = λ j w e. ⊎_elim
           (λ (u : (j ≡ id) × (d ∷ [] ≡ w)). subst (AllFit k s.words h.histories) u.1 (
             record {
@@ -98,6 +99,11 @@ pub told_death : (t q : ℕ) (b : Bool) → told t q Death (death_by b) ≡ deat
 told_death t q true = refl
 told_death t q false = refl
 
+-- no counter counts it
+deathless : (b : Bool) → told_counts Death (death_by b) ≡ 0
+deathless true = refl
+deathless false = refl
+
 -- the walk's own law, of an exchange of the word old, whose owner is t
 module _ (t old : ℕ) (pos : 1 ≤ t) (mine : (fields_of old).owner ≡ t) where
   law : (n : ℕ) → Right t (AtMark 0 old false Pending) (answer_at (row_access 0 (AtMark 0 old false Pending)) n) n (changed (row_access 0 (AtMark 0 old false Pending)) n)
@@ -119,9 +125,10 @@ module _ (t old : ℕ) (pos : 1 ≤ t) (mine : (fields_of old).owner ≡ t) wher
 pub marks_cell : {o : List ℕ} (k : Layout') (slots id : ℕ) (c : Card) (m old new : ℕ) → m < k.mutexes → (1 ≤ c.thread) × (c.thread ≤ k.threads) → (fields_of old).owner ≡ c.thread → new ≡ marked_word old
     → Allows (Kept k o) slots id (c ∷ [], []) (cell_place k m) (λ n. either (n == old) new n) (marked k (step slots (cell_place k m) old new none) (c ∷ [], []))
 marks_cell {o} k slots id c m old new low thread mine is = subst (λ (f : ℕ → ℕ). Allows (Kept k o) slots id (c ∷ [], []) q f (marked k (step slots q old new none) (c ∷ [], []))) (fun_ext (λ n. same (n == old) n))
-    (allows k slots id c m Death (left_by_mark old) (λ n. death_by (n == old)) (λ n. c.misses) (λ n. n) (λ ws n. values_after k m c ws (left_by_mark old n)) (marked k (step slots q old new none) (c ∷ [], [])) low
+    (allows k slots id c m (λ n. Death) (left_by_mark old) (λ n. death_by (n == old)) (λ n. c.misses) (λ n. n) (λ ws n. values_after k m c ws (left_by_mark old n)) (marked k (step slots q old new none) (c ∷ [], [])) low
     (λ ws n known. may_have k ws m c n (left_by_mark old n) _ _ refl)
     (λ n known. steady c.thread old thread.0 mine n)
+    (λ n. deathless (n == old))
     (λ n known. subst (λ (xs : List Point). Run (object_of (fields_of n)) xs (object_of (fields_of (left_by_mark old n)))) (sym (told_death c.thread q (n == old))) (runs c.thread old thread.0 mine n q))
     (λ ws n d known sees misses last mark values. turns c d (λ c d. Marks k q old c n d) record {
       sees = subst (λ (xs : List Point). Sees c q xs (object_of (fields_of (left_by_mark old n))) d) (told_death c.thread q (n == old)) sees;

@@ -1,5 +1,5 @@
 -- A step at a cell keeps the rule, and adds to what its card saw.
-use Rattle.std.proofs.Common.{Bool, true, ◌≡◌, ◌≢◌, ◌⊎◌, ℕ, zero, suc, ◌<◌, ◌≤◌, Option, Some, List, [], ◌∷◌, ◌++◌, length, get_or, set, refl, sym, ap, ◌∙◌, subst, ⊎_elim, arith, append-nil, length-set, get_or-set_other, get_or-set_same, eqb-true, eq-eqb}
+use Rattle.std.proofs.Common.{Bool, true, ◌≡◌, ◌≢◌, ◌⊎◌, ℕ, zero, suc, ◌+◌, ◌<◌, ◌≤◌, Option, Some, List, [], ◌∷◌, ◌++◌, length, get_or, set, refl, sym, ap, ◌∙◌, subst, ⊎_elim, arith, append-nil, length-set, get_or-set_other, get_or-set_same, eqb-true, eq-eqb}
 use mathlib.Core.Logic.{dite}
 use mathlib.Core.Option.{some}
 use mathlib.Core.List.{IsPrefix}
@@ -18,9 +18,11 @@ use Rattle.keys.specs.Objects.{fresh, Run, object_of, owner_of}
 use Rattle.keys.proofs.Objects.{run_append}
 use Rattle.ruledwords.specs.declared.card.Card.{Card}
 use Rattle.ruledwords.specs.Cards.{at, put, value_at, mark_at, put_mark}
+use Rattle.ruledwords.specs.Counts.{counts_in}
 use Rattle.ruledwords.specs.Seen.{by, Leaves, Sees}
 use Rattle.ruledwords.specs.Rules.{guard, owner_at, keeper, Fits, AllFit, cards_of, Kept, Turns}
 use Rattle.ruledwords.proofs.Lists.{at_put, at_put_else, mark_put, mark_put_else, by_append, told, by_own, by_other, all_of_append, all_of_told, prefix_self, prefix_more, all_set, all_two, counted}
+use Rattle.ruledwords.proofs.Counts.{counted_same, counts_more, told_counts}
 use Rattle.ruledwords.proofs.Held.{others_run}
 use Rattle.ruledwords.proofs.Keepers.{IsLink, link_keeper, link_no_cell, cell_keeper, keeper_set, other_cell, inside, counter_no_cell, owner_here, owner_set}
 
@@ -55,7 +57,7 @@ owner_was t v n xs pos none run own = owner_is t (fields_of v).owner (others_run
 
 -- the card after it saw the list xs at p
 abbrev pub after : Card → ℕ → List Point → ℕ → ℕ → List (Option ℕ) → Bool → Card
-after c p xs misses last vs mark = record { threads = c.threads; thread = c.thread; base = c.base; seen = put c.seen p xs; misses = misses; last = last; trims = c.trims; values = vs; marks = put_mark c.marks p mark }
+after c p xs misses last vs mark = record { threads = c.threads; thread = c.thread; base = c.base; seen = put c.seen p xs; misses = misses; last = last; trims = c.trims; counted = c.counted; values = vs; marks = put_mark c.marks p mark }
 
 abbrev pub Told : Layout' → List ℕ → ℕ → List (Option ℕ) → Type 0
 Told k ws t vs = (p x : ℕ) → value_at vs p ≡ Some x → (get_or ws p 0 ≡ x) × (keeper k ws p ≡ t)
@@ -130,12 +132,24 @@ fits_other k ws ws' js p t op r c apart f knows = record {
       (λ n. f.own q ∙ ap (by c.thread) (sym (at_put_else js p q (at js p ++ told t p op r) n)));
 }
 
-all_fit_other : (k : Layout') (ws ws' : List ℕ) (js : List (List Point)) (p t : ℕ) (op : Operation) (r : Option Reply) (cs : List Card) → ((c : Card) → t ≢ c.thread → Fits k ws js c → Told k ws' c.thread c.values × Marked k ws' c.thread c.marks)
+pub all_fit_other : (k : Layout') (ws ws' : List ℕ) (js : List (List Point)) (p t : ℕ) (op : Operation) (r : Option Reply) (cs : List Card) → ((c : Card) → t ≢ c.thread → Fits k ws js c → Told k ws' c.thread c.values × Marked k ws' c.thread c.marks)
     → cards_of t cs ≡ 0 → AllFit k ws js cs → AllFit k ws' (put js p (at js p ++ told t p op r)) cs
 all_fit_other k ws ws' js p t op r [] knows none f = tt
 all_fit_other k ws ws' js p t op r (c ∷ cs) knows none f =
     let apart : t ≢ c.thread = λ e. let some_card = counted t c cs e in absurd (omega arith) in
     (fits_other k ws ws' js p t op r c apart f.0 (knows c apart f.0), all_fit_other k ws ws' js p t op r cs knows (omega arith) f.1)
+
+-- who has seen all that happened to one mutex
+pub begins_told : (js seen : List (List Point)) (p : ℕ) (xs : List Point) → ((q : ℕ) → IsPrefix (at seen q) (at js q)) → (q : ℕ) → IsPrefix (at (put seen p xs) q) (at (put js p xs) q)
+begins_told js seen p xs begins q = dite (ℕ_discrete q p)
+    (λ e. subst (λ (z : ℕ). IsPrefix (at (put seen p xs) z) (at (put js p xs) z)) (sym e)
+    (subst (λ l. IsPrefix l (at (put js p xs) p)) (at_put js p xs ∙ sym (at_put seen p xs)) (prefix_self (at (put js p xs) p))))
+    (λ n. subst (λ l. IsPrefix l (at (put js p xs) q)) (sym (at_put_else seen p q xs n)) (subst (IsPrefix (at seen q)) (sym (at_put_else js p q xs n)) (begins q)))
+
+pub by_told : (t : ℕ) (js seen : List (List Point)) (p : ℕ) (xs : List Point) → ((q : ℕ) → by t (at seen q) ≡ by t (at js q)) → (q : ℕ) → by t (at (put seen p xs) q) ≡ by t (at (put js p xs) q)
+by_told t js seen p xs own q = dite (ℕ_discrete q p)
+    (λ e. subst (λ (z : ℕ). by t (at (put seen p xs) z) ≡ by t (at (put js p xs) z)) (sym e) (ap (by t) (at_put seen p xs ∙ sym (at_put js p xs))))
+    (λ n. ap (by t) (at_put_else seen p q xs n) ∙ own q ∙ ap (by t) (sym (at_put_else js p q xs n)))
 
 fits_own : (k : Layout') (ws ws' : List ℕ) (js : List (List Point)) (p : ℕ) (op : Operation) (r : Option Reply) (c : Card) (misses last : ℕ) (vs : List (Option ℕ)) (b : Bool) → Fits k ws js c → Told k ws' c.thread vs → Marked k ws' c.thread (put_mark c.marks p b)
     → Fits k ws' (put js p (at js p ++ told c.thread p op r)) (after c p (at js p ++ told c.thread p op r) misses last vs b)
@@ -144,24 +158,19 @@ fits_own k ws ws' js p op r c misses last vs b f knows marked = let xs : List Po
   marks = marked;
   thread = f.thread;
   threads = f.threads;
-  begins = λ q. dite (ℕ_discrete q p)
-      (λ e. subst (λ (z : ℕ). IsPrefix (at (put c.seen p xs) z) (at (put js p xs) z)) (sym e)
-      (subst (λ l. IsPrefix l (at (put js p xs) p)) (at_put js p xs ∙ sym (at_put c.seen p xs)) (prefix_self (at (put js p xs) p))))
-      (λ n. subst (λ l. IsPrefix l (at (put js p xs) q)) (sym (at_put_else c.seen p q xs n)) (subst (IsPrefix (at c.seen q)) (sym (at_put_else js p q xs n)) (f.begins q)));
-  own = λ q. dite (ℕ_discrete q p)
-      (λ e. subst (λ (z : ℕ). by c.thread (at (put c.seen p xs) z) ≡ by c.thread (at (put js p xs) z)) (sym e) (ap (by c.thread) (at_put c.seen p xs ∙ sym (at_put js p xs))))
-      (λ n. ap (by c.thread) (at_put_else c.seen p q xs n) ∙ f.own q ∙ ap (by c.thread) (sym (at_put_else js p q xs n)));
+  begins = begins_told js c.seen p xs f.begins;
+  own = by_told c.thread js c.seen p xs f.own;
 }
 
 -- ---- the rule
 
-leaves_more : (k : Layout') (p t : ℕ) (xs : List Point) (o n : Object) (op : Operation) (r : Option Reply) → 1 ≤ t → t ≤ k.threads → Leaves k.threads p xs o → Run o (told t p op r) n → Leaves k.threads p (xs ++ told t p op r) n
+pub leaves_more : (k : Layout') (p t : ℕ) (xs : List Point) (o n : Object) (op : Operation) (r : Option Reply) → 1 ≤ t → t ≤ k.threads → Leaves k.threads p xs o → Run o (told t p op r) n → Leaves k.threads p (xs ++ told t p op r) n
 leaves_more k p t xs o n op r pos low l run = (run_append fresh o n xs (told t p op r) l.0 run, all_of_append k.threads p xs (told t p op r) l.1 (all_of_told k.threads t p op r pos low))
 
-kept_step : {o : List ℕ} (k : Layout') (s : St) (h : Kept k o s) (id : ℕ) (c : Card) (m : ℕ) (op : Operation) (r : Option Reply) (n misses last : ℕ) (vs : List (Option ℕ)) → get_elem? s.views id ≡ some (c ∷ []) → m < k.mutexes → MayHave k s.words m c (get_or s.words (cell_place k m) 0) n vs
-    → Steady (get_or s.words (cell_place k m) 0) n → Run (says s.words (cell_place k m)) (told c.thread (cell_place k m) op r) (object_of (fields_of n))
+kept_step : (o : List ℕ) (k : Layout') (s : St) (h : Kept k o s) (id : ℕ) (c : Card) (m : ℕ) (op : Operation) (r : Option Reply) (n misses last : ℕ) (vs : List (Option ℕ)) → get_elem? s.views id ≡ some (c ∷ []) → m < k.mutexes → MayHave k s.words m c (get_or s.words (cell_place k m) 0) n vs
+    → Steady (get_or s.words (cell_place k m) 0) n → told_counts op r ≡ 0 → Run (says s.words (cell_place k m)) (told c.thread (cell_place k m) op r) (object_of (fields_of n))
     → Kept k o record { words = set s.words (cell_place k m) n; homes = s.homes; views = set s.views id (after c (cell_place k m) (at h.histories (cell_place k m) ++ told c.thread (cell_place k m) op r) misses last vs (fields_of n).waiters ∷ []) }
-kept_step k s h id c m op r n misses last vs is low keep steady run =
+kept_step o k s h id c m op r n misses last vs is low keep steady countless run =
     let p : ℕ = cell_place k m in
     let js = h.histories in
     let xs : List Point = at js p ++ told c.thread p op r in
@@ -186,7 +195,11 @@ kept_step k s h id c m op r n misses last vs is low keep steady run =
           (λ e. ap (λ (z : ℕ). (fields_of (get_or ws' (cell_place k z) 0)).rest) e ∙ ap (λ (v : ℕ). (fields_of v).rest) (get_or-set_same s.words p n 0 within) ∙ steady.1 (h.narrow m low))
           (λ other. ap (λ (v : ℕ). (fields_of v).rest) (get_or-set_other s.words p (cell_place k l) n 0 (other_cell k m l other)) ∙ h.narrow l lower);
       counters = λ q lower. subst (λ (z : ℕ). z < 4294967296) (sym (get_or-set_other s.words p (counter_place k q) n 0 (counter_no_cell k q m low))) (h.counters q lower);
-      unchanged = λ q lower. get_or-set_other s.words p (counter_place k q) n 0 (counter_no_cell k q m low) ∙ h.unchanged q lower;
+      counted = counted_same k o s.words ws' js (put js p xs) h.layout h.counted (λ q lower. get_or-set_other s.words p (counter_place k q) n 0 (counter_no_cell k q m low))
+          (λ l lower. dite (ℕ_discrete l m)
+          (λ e. subst (λ (z : ℕ). counts_in (at (put js p xs) (cell_place k z)) ≡ counts_in (at js (cell_place k z))) (sym e)
+          (ap counts_in (at_put js p xs) ∙ counts_more c.thread p op r (at js p) ∙ ap (λ (z : ℕ). counts_in (at js p) + z) countless ∙ (let none : counts_in (at js p) + 0 ≡ counts_in (at js p) = omega arith in none)))
+          (λ other. ap counts_in (at_put_else js p (cell_place k l) xs (other_cell k m l other))));
       fits = λ j v e. ⊎_elim
           (λ (t : (j ≡ id) × (w ≡ v)).
           subst (AllFit k ws' (put js p xs)) t.1
@@ -206,7 +219,7 @@ kept_step k s h id c m op r n misses last vs is low keep steady run =
       once = λ t. let same = all_set t s.views id (c ∷ []) w is in let once = h.once t in omega arith;
     }
 
-sees_step : {o : List ℕ} (k : Layout') (s : St) (h : Kept k o s) (id : ℕ) (c : Card) (m : ℕ) (op : Operation) (r : Option Reply) (n misses last : ℕ) (vs : List (Option ℕ)) → get_elem? s.views id ≡ some (c ∷ []) → m < k.mutexes
+pub sees_step : {o : List ℕ} (k : Layout') (s : St) (h : Kept k o s) (id : ℕ) (c : Card) (m : ℕ) (op : Operation) (r : Option Reply) (n misses last : ℕ) (vs : List (Option ℕ)) → get_elem? s.views id ≡ some (c ∷ []) → m < k.mutexes
     → Run (says s.words (cell_place k m)) (told c.thread (cell_place k m) op r) (object_of (fields_of n))
     → Sees c (cell_place k m) (told c.thread (cell_place k m) op r) (object_of (fields_of n)) (after c (cell_place k m) (at h.histories (cell_place k m) ++ told c.thread (cell_place k m) op r) misses last vs (fields_of n).waiters)
 sees_step k s h id c m op r n misses last vs is low run =
@@ -244,14 +257,15 @@ pub record Knowing (k : Layout') (c : Card) (p n : ℕ) : Type 0 where
   pub narrow : (fields_of n).rest ≡ 0
   pub mark : mark_at c.marks p ≡ true → (fields_of n).owner ≡ c.thread → (fields_of n).waiters ≡ true
 
--- a step at a cell may be made: what it does to the word is a step of the mutex as an object, WAITERS stays while it is owned, and what is to be kept of the values is so afterwards
-pub allows : {o : List ℕ} (k : Layout') (slots id : ℕ) (c : Card) (m : ℕ) (op : Operation) (f : ℕ → ℕ) (r : ℕ → Option Reply) (misses last : ℕ → ℕ) (vs : List ℕ → ℕ → List (Option ℕ)) (tells : ℕ → Sat → Type 0) → m < k.mutexes
+-- a step at a cell may be made: what it does to the word is a step of the mutex as an object that no counter counts, WAITERS stays while it is owned, and what is to be kept of the values is so afterwards
+pub allows : {o : List ℕ} (k : Layout') (slots id : ℕ) (c : Card) (m : ℕ) (op : ℕ → Operation) (f : ℕ → ℕ) (r : ℕ → Option Reply) (misses last : ℕ → ℕ) (vs : List ℕ → ℕ → List (Option ℕ)) (tells : ℕ → Sat → Type 0) → m < k.mutexes
     → ((ws : List ℕ) (n : ℕ) → Knowing k c (cell_place k m) n → MayHave k ws m c n (f n) (vs ws n))
     → ((n : ℕ) → Knowing k c (cell_place k m) n → Steady n (f n))
-    → ((n : ℕ) → Knowing k c (cell_place k m) n → Run (object_of (fields_of n)) (told c.thread (cell_place k m) op (r n)) (object_of (fields_of (f n))))
-    → ((ws : List ℕ) (n : ℕ) (d : Card) → Knowing k c (cell_place k m) n → Sees c (cell_place k m) (told c.thread (cell_place k m) op (r n)) (object_of (fields_of (f n))) d → d.misses ≡ misses n → d.last ≡ last n → mark_at d.marks (cell_place k m) ≡ (fields_of (f n)).waiters → d.values ≡ vs ws n → tells n (d ∷ [], []))
+    → ((n : ℕ) → told_counts (op n) (r n) ≡ 0)
+    → ((n : ℕ) → Knowing k c (cell_place k m) n → Run (object_of (fields_of n)) (told c.thread (cell_place k m) (op n) (r n)) (object_of (fields_of (f n))))
+    → ((ws : List ℕ) (n : ℕ) (d : Card) → Knowing k c (cell_place k m) n → Sees c (cell_place k m) (told c.thread (cell_place k m) (op n) (r n)) (object_of (fields_of (f n))) d → d.misses ≡ misses n → d.last ≡ last n → mark_at d.marks (cell_place k m) ≡ (fields_of (f n)).waiters → d.values ≡ vs ws n → tells n (d ∷ [], []))
     → Allows (Kept k o) slots id (c ∷ [], []) (cell_place k m) f tells
-allows k slots id c m op f r misses last vs tells low keeps_values steadies runs says_of s h deep is small =
+allows {o} k slots id c m op f r misses last vs tells low keeps_values steadies countless runs says_of s h deep is small =
     let p : ℕ = cell_place k m in
     let n : ℕ = get_or s.words p 0 in
     let fit = (h.fits id (c ∷ []) is).0 in
@@ -259,9 +273,9 @@ allows k slots id c m op f r misses last vs tells low keeps_values steadies runs
     let run = runs n knows in
     let keep = keeps_values s.words n knows in
     let steady = steadies n knows in (
-      after c p (at h.histories p ++ told c.thread p op (r n)) (misses n) (last n) (vs s.words n) (fields_of (f n)).waiters ∷ [],
+      after c p (at h.histories p ++ told c.thread p (op n) (r n)) (misses n) (last n) (vs s.words n) (fields_of (f n)).waiters ∷ [],
       keeps,
       tt,
-      kept_step k s h id c m op (r n) (f n) (misses n) (last n) (vs s.words n) is low keep steady run,
-      says_of s.words n _ knows (sees_step k s h id c m op (r n) (f n) (misses n) (last n) (vs s.words n) is low run) refl refl (mark_put c.marks p (fields_of (f n)).waiters) refl,
+      kept_step o k s h id c m (op n) (r n) (f n) (misses n) (last n) (vs s.words n) is low keep steady (countless n) run,
+      says_of s.words n _ knows (sees_step k s h id c m (op n) (r n) (f n) (misses n) (last n) (vs s.words n) is low run) refl refl (mark_put c.marks p (fields_of (f n)).waiters) refl,
     )

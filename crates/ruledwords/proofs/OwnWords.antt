@@ -16,6 +16,7 @@ use Rattle.ruledwords.specs.Seen.{holds, Leaves}
 use Rattle.ruledwords.specs.Rules.{guard, owner_at, keeper, Fits, AllFit, cards_of, Kept}
 use Rattle.ruledwords.specs.OwnWords.{IsOwn, knowing, stored, recalled}
 use Rattle.ruledwords.proofs.Lists.{value_put, value_put_else, all_two, all_set, counted}
+use Rattle.ruledwords.proofs.Counts.{counted_same}
 use Rattle.ruledwords.proofs.Keepers.{head_keeper, link_keeper, keeper_same, inside}
 use Rattle.ruledwords.proofs.Moves.{St, Knowing, owner_is, card_or, turns}
 use Rattle.ruledwords.proofs.Steps.{holder}
@@ -107,7 +108,7 @@ module _ {o : List ℕ} (k : Layout') (s : St) (h : Kept k o s) (c : Card) (p v 
     legal = h.legal;
     narrow = λ l low. ap (λ (n : ℕ). (fields_of n).rest) (cell_same l) ∙ h.narrow l low;
     counters = λ q low. subst (λ (n : ℕ). n < 4294967296) (sym (get_or-set_other s.words p (counter_place k q) v 0 ((own_place k c p f.thread own).1 q))) (h.counters q low);
-    unchanged = λ q low. get_or-set_other s.words p (counter_place k q) v 0 ((own_place k c p f.thread own).1 q) ∙ h.unchanged q low;
+    counted = counted_same k o s.words ws' h.histories h.histories h.layout h.counted (λ q low. get_or-set_other s.words p (counter_place k q) v 0 ((own_place k c p f.thread own).1 q)) (λ l low. refl);
     fits = λ j w e. ⊎_elim
         (λ (t : (j ≡ id) × (knowing c p v ∷ [] ≡ w)). subst (AllFit k ws' h.histories) t.1 (fits_stored, tt))
         (λ (t : (j ≢ id) × (get_elem? s.views j ≡ some w)).

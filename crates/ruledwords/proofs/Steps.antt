@@ -7,6 +7,7 @@ use mathlib.Core.Option.{none}
 use native.Mathlib.Decide.{ℕ_discrete}
 use Rattle.atomic_table.specs.Table.{step, Allows}
 use Rattle.lockword.specs.Cells.{fields_of}
+use Rattle.lockword.specs.declared.reply.Reply.{Reply}
 use Rattle.keys.specs.declared.access.Access.{Access}
 use Rattle.keys.specs.declared.point.Point.{Point}
 use Rattle.keys.specs.declared.object.Object.{Object}
@@ -15,6 +16,8 @@ use Rattle.keys.specs.Histories.{is_thread}
 use Rattle.keys.specs.Layouts.{Layout', head_place, cell_place, entry_place, counter_place}
 use Rattle.keys.specs.Objects.{fresh, Run, object_of, owner_of}
 use Rattle.keys.proofs.Objects.{run_split, run_sound, others_keep}
+use Rattle.mutex.specs.declared.row.Row.{Row}
+use Rattle.mutex.specs.declared.row.Row.TheVariants as row
 use Rattle.mutex.specs.Laws.{Expects, Sound, Right}
 use Rattle.mutex.specs.Programs.{access_of, row_operation}
 use Rattle.mutex.specs.Rows.{IsGoing}
@@ -28,6 +31,7 @@ use Rattle.ruledwords.specs.Calls.{address_at, Ready, Made, OwnKept, made, led_a
 use Rattle.ruledwords.specs.OwnWords.{owns_in, IsOwn, KnowsOwn}
 use Rattle.ruledwords.specs.Rules.{Kept}
 use Rattle.ruledwords.proofs.Cards.{run_at}
+use Rattle.ruledwords.proofs.Counts.{told_counts}
 use Rattle.ruledwords.proofs.Lists.{by_append, told, only, value_only, value_put, value_put_else, no_more}
 use Rattle.ruledwords.proofs.Held.{owner_held}
 use Rattle.ruledwords.proofs.Keepers.{IsLink, other_cell, stays, stays_not}
@@ -192,13 +196,23 @@ pub is_owner_by : (t o : ℕ) → 1 ≤ t → is_thread t (owner_of o) ≡ (o ==
 is_owner_by t zero pos = grind (arith, nat_tests)
 is_owner_by t (suc o) pos = refl
 
+-- no call of a mutex counts
+countless : (r : Row) (x : Option Reply) → told_counts (row_operation r) x ≡ 0
+countless r None = refl
+countless (row.Lock r) (Some x) = refl
+countless (row.TryLock r) (Some x) = refl
+countless (row.Unlock r) (Some x) = refl
+countless (row.Consistent r) (Some x) = refl
+countless (row.Ended y) (Some x) = refl
+
 -- the access of a call may be made
 pub makes : {o : List ℕ} (k : Layout') (slots id : ℕ) (c : Card) (m : ℕ) → m < k.mutexes → cell_place k m < 2 ^ 64 → (p : Standing) (a : Access) → access_of p ≡ a → p.cell ≡ address_at c (cell_place k m) → IsGoing p.row → IsStep (access_of p) → Ready p c → (x y : ℕ)
     → Allows (Kept k o) slots id (c ∷ [], []) (cell_place k m) (changed a) (made k p (step slots (cell_place k m) x y none) (c ∷ [], []))
 makes k slots id c m low few p a is there going stepping ready x y =
-    allows k slots id c m (row_operation p.row) (changed a) (λ n. (led_at p n).point) (λ n. c.misses + fails (access_of p) n) (λ n. n) (λ ws n. values_after k m c ws (changed a n)) (made k p (step slots (cell_place k m) x y none) (c ∷ [], [])) low
+    allows k slots id c m (λ n. row_operation p.row) (changed a) (λ n. (led_at p n).point) (λ n. c.misses + fails (access_of p) n) (λ n. n) (λ ws n. values_after k m c ws (changed a n)) (made k p (step slots (cell_place k m) x y none) (c ∷ [], [])) low
     (λ ws n known. may_have k ws m c n (changed a n) _ _ refl)
     (λ n known. (λ owned on. subst (λ (z : Access). (fields_of (changed z n)).waiters ≡ true) is ((mind n known).waiters on), λ clear. subst (λ (z : Access). (fields_of (changed z n)).rest ≡ 0) is ((mind n known).rest clear)))
+    (λ n. countless p.row (led_at p n).point)
     (λ n known. subst (λ (z : Access). Run (object_of (fields_of n)) (told c.thread q (row_operation p.row) (led_at p n).point) (object_of (fields_of (changed z n)))) is
     (run_at (object_of (fields_of n)) (object_of (fields_of (changed (access_of p) n))) c.thread p.cell q (row_operation p.row) (led_at p n).point (rights n known).runs))
     (λ ws n d known sees misses last mark values. turns c d (λ c d. Made p q c n d × OwnKept k c d) (

@@ -1,4 +1,4 @@
--- A trim of a cell keeps the rule, and nothing is seen anew by it.
+-- A change of a cell that leaves its mutex as it is keeps the rule; so does a trim. Nothing is seen anew by it.
 use Rattle.std.proofs.Common.{Bool, true, false, ◌≡◌, ◌≢◌, ℕ, ◌+◌, ◌<◌, ◌==◌, List, [], ◌∷◌, length, get_or, set, refl, sym, ap, ◌∙◌, subst, arith, eqb-true, length-set, get_or-set_other, get_or-set_same}
 use mathlib.Core.Logic.{dite}
 use mathlib.Core.Option.{none}
@@ -10,42 +10,42 @@ use Rattle.lockword.specs.Cells.{fields_of}
 use Rattle.keys.specs.Layouts.{Layout', cell_place, counter_place}
 use Rattle.keys.specs.Objects.{object_of}
 use Rattle.ruledwords.specs.declared.card.Card.{Card}
-use Rattle.ruledwords.specs.Cards.{at}
+use Rattle.ruledwords.specs.Cards.{at, mark_at}
 use Rattle.ruledwords.specs.Seen.{Leaves}
 use Rattle.ruledwords.specs.Rules.{guard, owner_at, keeper, Fits, AllFit, Kept}
 use Rattle.ruledwords.specs.Looks.{Finds, noted, trimmed}
+use Rattle.ruledwords.proofs.Counts.{counted_same}
 use Rattle.ruledwords.proofs.Keepers.{cell_keeper, keeper_same, other_cell, inside, owner_set, counter_no_cell}
-use Rattle.ruledwords.proofs.Moves.{St, says, turns}
+use Rattle.ruledwords.proofs.Moves.{St, Steady, says, turns}
 use Rattle.ruledwords.proofs.Looks.{found, kept_noted}
 
--- where WAITERS is all that the word of mutex m says
-module _ {o : List ℕ} (k : Layout') (s : St) (h : Kept k o s) (m : ℕ) (low : m < k.mutexes) (alone : get_or s.words (cell_place k m) 0 ≡ 0x8000_0000) where
+-- a change of the word of mutex m that leaves the mutex as it is
+module _ {o : List ℕ} (k : Layout') (s : St) (h : Kept k o s) (m : ℕ) (low : m < k.mutexes) (n : ℕ) (as_it_is : object_of (fields_of n) ≡ says s.words (cell_place k m)) (whose : (fields_of n).owner ≡ owner_at k s.words m) (steady : Steady (get_or s.words (cell_place k m) 0) n) where
   abbrev p : ℕ
   p = cell_place k m
 
   abbrev ws' : List ℕ
-  ws' = set s.words p 0
+  ws' = set s.words p n
 
   within : p < length s.words
   within = subst (λ (z : ℕ). p < z) (sym h.wide) (inside k m low)
 
-  cell_now : get_or ws' p 0 ≡ 0
-  cell_now = get_or-set_same s.words p 0 0 within
+  cell_now : get_or ws' p 0 ≡ n
+  cell_now = get_or-set_same s.words p n 0 within
 
-  -- the mutex is as it was, and nobody's
   same_object : says ws' p ≡ says s.words p
-  same_object = ap (λ (v : ℕ). object_of (fields_of v)) cell_now ∙ sym (ap (λ (v : ℕ). object_of (fields_of v)) alone)
+  same_object = ap (λ (v : ℕ). object_of (fields_of v)) cell_now ∙ as_it_is
 
   owner_same : (l : ℕ) → owner_at k ws' l ≡ owner_at k s.words l
   owner_same l = dite (ℕ_discrete l m)
-      (λ same. ap (owner_at k ws') same ∙ ap (λ (v : ℕ). (fields_of v).owner) cell_now ∙ sym (ap (λ (v : ℕ). (fields_of v).owner) alone) ∙ ap (owner_at k s.words) (sym same))
-      (λ other. owner_set k s.words m 0 l other)
+      (λ same. ap (owner_at k ws') same ∙ ap (λ (v : ℕ). (fields_of v).owner) cell_now ∙ whose ∙ ap (owner_at k s.words) (sym same))
+      (λ other. owner_set k s.words m n l other)
 
   keeper_stays : (q : ℕ) → keeper k ws' q ≡ keeper k s.words q
   keeper_stays q = keeper_same k s.words ws' q (owner_same (guard k q))
 
-  fits_trimmed : (c : Card) → Fits k s.words h.histories c → Fits k ws' h.histories c
-  fits_trimmed c f = record {
+  fits_left : (c : Card) → Fits k s.words h.histories c → Fits k ws' h.histories c
+  fits_left c f = record {
     thread = f.thread;
     threads = f.threads;
     begins = f.begins;
@@ -53,33 +53,44 @@ module _ {o : List ℕ} (k : Layout') (s : St) (h : Kept k o s) (m : ℕ) (low :
     values = λ q x e.
         let was = f.values q x e in
         let other : q ≢ p = λ here. let nobody : c.thread ≡ 0 = sym was.1 ∙ ap (keeper k s.words) here ∙ cell_keeper k s.words m low in let some = f.thread.0 in absurd (omega (arith, some, nobody)) in
-        (get_or-set_other s.words p q 0 0 other ∙ was.0, keeper_stays q ∙ was.1);
+        (get_or-set_other s.words p q n 0 other ∙ was.0, keeper_stays q ∙ was.1);
     marks = λ l lower e own. dite (ℕ_discrete l m)
-        (λ same. let nobody : c.thread ≡ 0 = sym own ∙ ap (owner_at k ws') same ∙ ap (λ (v : ℕ). (fields_of v).owner) cell_now in let some = f.thread.0 in absurd (omega (arith, some, nobody)))
-        (λ other. ap (λ (v : ℕ). (fields_of v).waiters) (get_or-set_other s.words p (cell_place k l) 0 0 (other_cell k m l other)) ∙ f.marks l lower e (sym (owner_same l) ∙ own));
+        (λ same.
+        let owned : owner_at k s.words m ≡ c.thread = ap (owner_at k s.words) (sym same) ∙ sym (owner_same l) ∙ own in
+        let some = f.thread.0 in
+        let on = f.marks m low (ap (λ (z : ℕ). mark_at c.marks (cell_place k z)) (sym same) ∙ e) owned in
+        ap (λ (z : ℕ). (fields_of (get_or ws' (cell_place k z) 0)).waiters) same ∙ ap (λ (v : ℕ). (fields_of v).waiters) cell_now ∙ steady.0 (λ nobody. absurd (omega (arith, owned, some, nobody))) on)
+        (λ other. ap (λ (v : ℕ). (fields_of v).waiters) (get_or-set_other s.words p (cell_place k l) n 0 (other_cell k m l other)) ∙ f.marks l lower e (sym (owner_same l) ∙ own));
   }
 
-  all_trimmed : (cs : List Card) → AllFit k s.words h.histories cs → AllFit k ws' h.histories cs
-  all_trimmed [] f = tt
-  all_trimmed (c ∷ cs) f = (fits_trimmed c f.0, all_trimmed cs f.1)
+  all_left : (cs : List Card) → AllFit k s.words h.histories cs → AllFit k ws' h.histories cs
+  all_left [] f = tt
+  all_left (c ∷ cs) f = (fits_left c f.0, all_left cs f.1)
 
-  kept_trimmed : Kept k o record { words = ws'; homes = s.homes; views = s.views }
-  kept_trimmed = record {
+  pub kept_left : Kept k o record { words = ws'; homes = s.homes; views = s.views }
+  kept_left = record {
     layout = h.layout;
-    wide = length-set s.words p 0 ∙ h.wide;
+    wide = length-set s.words p n ∙ h.wide;
     histories = h.histories;
     leaves = λ l lower. dite (ℕ_discrete l m)
         (λ same. subst (λ (z : ℕ). Leaves k.threads (cell_place k z) (at h.histories (cell_place k z)) (says ws' (cell_place k z))) (sym same) (subst (Leaves k.threads p (at h.histories p)) (sym same_object) (h.leaves m low)))
-        (λ other. subst (λ (v : ℕ). Leaves k.threads (cell_place k l) (at h.histories (cell_place k l)) (object_of (fields_of v))) (sym (get_or-set_other s.words p (cell_place k l) 0 0 (other_cell k m l other))) (h.leaves l lower));
+        (λ other. subst (λ (v : ℕ). Leaves k.threads (cell_place k l) (at h.histories (cell_place k l)) (object_of (fields_of v))) (sym (get_or-set_other s.words p (cell_place k l) n 0 (other_cell k m l other))) (h.leaves l lower));
     legal = h.legal;
     narrow = λ l lower. dite (ℕ_discrete l m)
-        (λ same. ap (λ (z : ℕ). (fields_of (get_or ws' (cell_place k z) 0)).rest) same ∙ ap (λ (v : ℕ). (fields_of v).rest) cell_now)
-        (λ other. ap (λ (v : ℕ). (fields_of v).rest) (get_or-set_other s.words p (cell_place k l) 0 0 (other_cell k m l other)) ∙ h.narrow l lower);
-    counters = λ q lower. subst (λ (v : ℕ). v < 4294967296) (sym (get_or-set_other s.words p (counter_place k q) 0 0 (counter_no_cell k q m low))) (h.counters q lower);
-    unchanged = λ q lower. get_or-set_other s.words p (counter_place k q) 0 0 (counter_no_cell k q m low) ∙ h.unchanged q lower;
-    fits = λ j v e. all_trimmed v (h.fits j v e);
+        (λ same. ap (λ (z : ℕ). (fields_of (get_or ws' (cell_place k z) 0)).rest) same ∙ ap (λ (v : ℕ). (fields_of v).rest) cell_now ∙ steady.1 (h.narrow m low))
+        (λ other. ap (λ (v : ℕ). (fields_of v).rest) (get_or-set_other s.words p (cell_place k l) n 0 (other_cell k m l other)) ∙ h.narrow l lower);
+    counters = λ q lower. subst (λ (v : ℕ). v < 4294967296) (sym (get_or-set_other s.words p (counter_place k q) n 0 (counter_no_cell k q m low))) (h.counters q lower);
+    counted = counted_same k o s.words ws' h.histories h.histories h.layout h.counted (λ q lower. get_or-set_other s.words p (counter_place k q) n 0 (counter_no_cell k q m low)) (λ l lower. refl);
+    fits = λ j v e. all_left v (h.fits j v e);
     once = h.once;
   }
+
+-- where WAITERS is all that the word says, it may be 0
+kept_trimmed : {o : List ℕ} (k : Layout') (s : St) (h : Kept k o s) (m : ℕ) → m < k.mutexes → get_or s.words (cell_place k m) 0 ≡ 0x8000_0000 → Kept k o record { words = set s.words (cell_place k m) 0; homes = s.homes; views = s.views }
+kept_trimmed k s h m low alone =
+    let nobody : owner_at k s.words m ≡ 0 = ap (λ (v : ℕ). (fields_of v).owner) alone in
+    let clear : (fields_of 0).rest ≡ 0 = refl in
+    kept_left k s h m low 0 (sym (ap (λ (v : ℕ). object_of (fields_of v)) alone)) (sym nobody) ((λ owned on. absurd (owned nobody)), λ was. clear)
 
 -- whatever the word is
 kept_trim : {o : List ℕ} (k : Layout') (s : St) (h : Kept k o s) (m : ℕ) → m < k.mutexes → (b : Bool) → (get_or s.words (cell_place k m) 0 == 0x8000_0000) ≡ b

@@ -1,6 +1,7 @@
 pub mod Fates
 pub mod Cards
 pub mod Seen
+pub mod Counts
 pub mod Rules
 pub mod OwnWords
 pub mod Lists

@@ -2,7 +2,7 @@
 --
 -- Histories: some legal list of points of each mutex leaves the mutex as its cell says. What a pass has seen begins it, and has all points of the pass's thread.
 -- Own words: a thread alone writes its head, the links of the mutexes that it owns and the counters of their condition variables. Its pass may know
--- their values. While it owns a mutex in which it saw WAITERS, that stays set.
+-- their values. While it owns a mutex in which it saw WAITERS, that stays set. Counters count the signals and the broadcasts that were answered OK.
 use Rattle.std.specs.Prelude.{◌≡◌, ℕ, zero, suc, ◌+◌, ◌-◌, ◌/◌, ◌%◌, ◌<◌, ◌≤◌, ◌==◌, ◌&&◌, nat_lt, true, Option, Some, List, [], ◌∷◌, All, length, drop, slice_index, if◌then◌else◌}
 use mathlib.Core.Option.{some}
 use mathlib.Core.List.{IsPrefix}
@@ -16,6 +16,7 @@ use Rattle.keys.specs.Objects.{object_of}
 use Rattle.ruledwords.specs.declared.card.Card.{Card}
 use Rattle.ruledwords.specs.declared.opening.Opening.{Opening}
 use Rattle.ruledwords.specs.Cards.{at, value_at, put_value, mark_at}
+use Rattle.ruledwords.specs.Counts.{Counted}
 use Rattle.ruledwords.specs.Seen.{by, Leaves, Joined}
 
 -- ---- the beginning
@@ -30,7 +31,7 @@ first_values k t = put_value (put_value (put_value [] (head_place t) (Some (addr
 
 -- what thread t of a layout knows at first: its own head, and nothing of any mutex
 abbrev pub first_card : Layout' → ℕ → Card
-first_card k t = record { threads = k.threads; thread = t; base = base_of k t; seen = []; misses = 0; last = 0; trims = 0; values = first_values k t; marks = [] }
+first_card k t = record { threads = k.threads; thread = t; base = base_of k t; seen = []; misses = 0; last = 0; trims = 0; counted = 0; values = first_values k t; marks = [] }
 
 -- the cards of so many threads from t on
 abbrev pub hand : Layout' → ℕ → ℕ → List Card
@@ -82,7 +83,7 @@ abbrev pub all_cards_of : ℕ → List (List Card) → ℕ
 all_cards_of t [] = 0
 all_cards_of t (v ∷ vs) = cards_of t v + all_cards_of t vs
 
--- the rule; the bits of a cell above its flags are 0, and a counter has 32 bits. No counter is changed yet, so each has the value that it began with
+-- the rule; the bits of a cell above its flags are 0, and a counter has 32 bits
 pub record Kept (k : Layout') (presets : List ℕ) (s : State (Unit {0}) (List Card)) : Type 0 where
   pub layout : IsLayout k
   pub wide : length s.words ≡ words_of k
@@ -91,7 +92,7 @@ pub record Kept (k : Layout') (presets : List ℕ) (s : State (Unit {0}) (List C
   pub legal : (p : ℕ) → (o : Object) × Leaves k.threads p (at histories p) o
   pub narrow : (m : ℕ) → m < k.mutexes → (fields_of (slice_index s.words (cell_place k m))).rest ≡ 0
   pub counters : (q : ℕ) → q < length k.conditions → slice_index s.words (counter_place k q) < 4294967296
-  pub unchanged : (q : ℕ) → q < length k.conditions → slice_index s.words (counter_place k q) ≡ slice_index presets q
+  pub counted : Counted k presets s.words histories
   pub fits : (id : ℕ) (v : List Card) → get_elem? s.views id ≡ some v → AllFit k s.words histories v
   pub once : (t : ℕ) → all_cards_of t s.views ≤ 1
 
@@ -105,7 +106,7 @@ At = Step (Unit {0})
 
 -- the one card of a pass
 abbrev pub card_of : List Card → Card
-card_of [] = record { threads = 0; thread = 0; base = 0; seen = []; misses = 0; last = 0; trims = 0; values = []; marks = [] }
+card_of [] = record { threads = 0; thread = 0; base = 0; seen = []; misses = 0; last = 0; trims = 0; counted = 0; values = []; marks = [] }
 card_of (c ∷ cs) = c
 
 abbrev pub IsOne : Sat → Type 0
@@ -133,10 +134,10 @@ pub record IsAmong (histories : List (List Point)) (c : Card) : Type 0 where
   pub begins : (p : ℕ) → IsPrefix (at c.seen p) (at histories p)
   pub own : (p : ℕ) → by c.thread (at histories p) ≡ by c.thread (at c.seen p)
 
--- the last words: each cell is as one legal list of its mutex says, in which is what these passes saw, all of them. A cell has no bits above its flags, and each counter has the value that it began with
+-- the last words: each cell is as one legal list of its mutex says, in which is what these passes saw, all of them. A cell has no bits above its flags. The counters count what counts in these lists
 pub record Ends (k : Layout') (presets : List ℕ) (cards : List Card) (words : List ℕ) : Type 0 where
   pub histories : List (List Point)
   pub leaves : (m : ℕ) → m < k.mutexes → Leaves k.threads (cell_place k m) (at histories (cell_place k m)) (object_of (fields_of (slice_index words (cell_place k m))))
   pub narrow : (m : ℕ) → m < k.mutexes → (fields_of (slice_index words (cell_place k m))).rest ≡ 0
-  pub counters : (q : ℕ) → q < length k.conditions → slice_index words (counter_place k q) ≡ slice_index presets q
+  pub counted : Counted k presets words histories
   pub among : All (IsAmong histories) cards

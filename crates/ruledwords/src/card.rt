@@ -18,6 +18,8 @@ pub struct Card {
     pub last: u64,
     /// How many trims it has made.
     pub trims: u64,
+    /// What its last load of a condition variable's counter found.
+    pub counted: u64,
     /// The words that only this thread writes, by place, where they are known.
     pub values: LinkedList<Option<u64>>,
     /// The cells in which it saw WAITERS, by place.

@@ -35,7 +35,7 @@ impl<A> Pass<A> {
 }
 
 impl Words {
-    /// Ends the words. The history of each mutex begins with what the pass has seen, and each counter is as it began.
+    /// Ends the words. The history of each mutex begins with what the pass has seen, and counters count what counts in it.
     pub fn close<A>(self, pass: Pass<A>) -> Last
         requires { IsPassOf self pass }
         ensures layout { last_layout result ≡ layout_of self }
@@ -53,7 +53,7 @@ impl Words {
     }
 
     /// Ends the words, and all these passes meet. One history of each mutex has what any of them has seen, with of each of their threads just the thread's own
-    /// points; and each counter is as it began.
+    /// points; and counters count what counts in it.
     pub fn close_all<A: Drop>(self, passes: Vec<Pass<A>>) -> Last
         requires { All (λ p. IsPassOf self p) passes.items }
         ensures layout { last_layout result ≡ layout_of self }

@@ -4,7 +4,7 @@ use crate::opening::Opening;
 use atomic_table::{Join, Play, Split, TableRule};
 use std::marker::{Brand, PhantomData};
 
-/// Each mutex has one legal history, and each counter the value that it began with.
+/// Each mutex has one legal history, and counters count the signals and the broadcasts in it that were answered OK.
 pub struct History;
 
 impl TableRule<(), View, Opening> for History {
