@@ -6,7 +6,7 @@ use Rattle.protocol.specs.Machine.{State, start, run, happens, is_busy, is_dying
 use Rattle.protocol.specs.Sleepers.{IsAwake, IsAtRest, EndsAlone, alone}
 use Rattle.protocol.proofs.Queued.{Queued, in_none}
 use Rattle.protocol.proofs.QueueRuns.{run_queued}
-use Rattle.protocol.proofs.Undivided.{going}
+use Rattle.protocol.proofs.Undivided.{all_rest}
 use Rattle.script.specs.Playing.{is_going, steps_to_rest}
 use Rattle.script.specs.Resting.{RestsAfter, ThreadsComeToRest}
 use Rattle.script.specs.Limits.{rest_steps}
@@ -63,4 +63,4 @@ comes s t queued ends = go (is_going s t) refl
     go true is = let end = ends (is_awake s t queued is) in counted rest_steps s t end.0 end.1 (not_going (alone s t end.0) t end.2)
 
 pub come_to_rest : ThreadsComeToRest
-come_to_rest l counters events t is = comes (run (start l counters) events) t (run_queued l counters events is) ((going l counters events is).ends t)
+come_to_rest l counters events t is = comes (run (start l counters) events) t (run_queued l counters events is) (all_rest l counters events is t)
