@@ -4,21 +4,20 @@ ghost use Rattle.mutex.specs.Calls.{mutex_of};
 
 use crate::steps::Made::{Exchanges, Finds, Flips, Is, Loads, Sleeps, Wakes};
 use crate::steps::Then::{Decides, Ends, Goes, Returns};
-use crate::steps::{ANSWERS, AtCell, Step, Then, makes, past_the_list};
+use crate::steps::{AtCell, Step, Then, makes, past_the_list};
 use keys::Operation::{Consistent, Lock, TryLock, Unlock};
 use keys::{Access, Answer, Layout, Operation, Progress};
 use lockword::Reply::{
-    self, EBUSY, EDEADLK, EFAULT, EINVAL, ENOTRECOVERABLE, EOWNERDEAD, EPERM, OK, XHELD, XRACED,
+    self, EBUSY, EDEADLK, EINVAL, ENOTRECOVERABLE, EOWNERDEAD, EPERM, OK, XHELD, XRACED,
 };
 use lockword::Tid;
 use mutex::{
     Call, Program, points_are_permitted, programs_are_right, raced_after_four,
     whole_calls_are_decided, whole_calls_are_right,
 };
-use std::test::Fail;
 
 /// It clears bit 30 alone.
-const DECLARATION: Access = Access::FetchAnd {
+pub(crate) const DECLARATION: Access = Access::FetchAnd {
     at: 10,
     operand: 0xffff_ffff_bfff_ffff,
 };
@@ -36,336 +35,371 @@ pub(crate) fn call(operation: Operation) -> Call
 }
 
 /// At the cell, the call makes these accesses, in these parts, and has returned after them.
-fn takes(operation: Operation, parts: &[&[Step]]) -> Result<bool, Fail> {
-    let thread = Tid::new(2).ok_or("no thread 2")?;
-    let layout = Layout::new(2, 2, &[])?;
-    let mut program = Program::new(&layout, thread, 0, call(operation))?;
+pub(crate) fn takes(operation: Operation, parts: &[&[Step]]) -> bool {
+    let Some(thread) = Tid::new(2) else {
+        return false;
+    };
+    let Ok(layout) = Layout::new(2, 2, &[]) else {
+        return false;
+    };
+    let Ok(mut program) = Program::new(&layout, thread, 0, call(operation)) else {
+        return false;
+    };
     match past_the_list(&mut program, None) {
-        Progress::Goes { .. } => Ok(makes(AtCell { program }, thread, parts)),
-        Progress::Returns { .. } => Ok(false),
+        Progress::Goes { .. } => makes(AtCell { program }, thread, parts),
+        Progress::Returns { .. } => false,
     }
 }
 
+/// An operation, and the accesses of its call at the cell, in parts.
+type Way = (Operation, &'static [&'static [Step]]);
+
+/// The place of the first call that makes others.
+fn first_wrong(calls: &[Way]) -> Option<usize> {
+    for (place, (operation, parts)) in calls.iter().enumerate() {
+        if !takes(*operation, *parts) {
+            return Some(place);
+        }
+    }
+    None
+}
+
 /// However a lock comes to know of a cell, by its load or by an exchange that fails, that leads it so far, and then it makes these accesses.
-fn lock_decides(cell: u64, then: Then, rest: &[Step]) -> Result<bool, Fail> {
+fn lock_decides(cell: u64, then: Then, rest: &[Step]) -> bool {
     let loads = [Step(Loads(10, cell), then)];
     let loses = [Step(Loads(10, 0), Goes), Step(Finds(0, 2, cell), then)];
     let waits = [
         Step(Loads(10, 1), Goes),
         Step(Finds(1, 0x8000_0001, cell), then),
     ];
-    let loaded = takes(Lock, &[&loads, rest])?;
-    let lost = takes(Lock, &[&loses, rest])?;
-    Ok(loaded && lost && takes(Lock, &[&waits, rest])?)
+    takes(Lock, &[&loads, rest]) && takes(Lock, &[&loses, rest]) && takes(Lock, &[&waits, rest])
 }
 
-/// A cell that is free, what it is once it was taken, and the reply.
-const FREE: [(u64, u64, Reply); 4] = [
-    (0, 2, OK),
-    (0x8000_0000, 0x8000_0002, OK),
-    (0x4000_0000, 0x4000_0002, EOWNERDEAD),
-    (0xc000_0000, 0xc000_0002, EOWNERDEAD),
+/// A cell that a lock comes to know of, where that leads, and the accesses behind.
+type Known = (u64, Then, &'static [Step]);
+
+/// The place of the first cell by which a lock decides otherwise.
+fn first_wrong_lock(cells: &[Known]) -> Option<usize> {
+    for (place, (cell, then, rest)) in cells.iter().enumerate() {
+        if !lock_decides(*cell, *then, *rest) {
+            return Some(place);
+        }
+    }
+    None
+}
+
+static FREE: [Known; 4] = [
+    (0, Goes, &[Step(Exchanges(0, 2), Ends(Lock, OK))]),
+    (
+        0x8000_0000,
+        Goes,
+        &[Step(Exchanges(0x8000_0000, 0x8000_0002), Ends(Lock, OK))],
+    ),
+    (
+        0x4000_0000,
+        Goes,
+        &[Step(Exchanges(0x4000_0000, 0x4000_0002), Ends(Lock, EOWNERDEAD))],
+    ),
+    (
+        0xc000_0000,
+        Goes,
+        &[Step(Exchanges(0xc000_0000, 0xc000_0002), Ends(Lock, EOWNERDEAD))],
+    ),
 ];
 
 #[test]
-fn a_lock_takes_a_free_mutex(rt: HostRuntime) -> Result<(), Fail> {
-    for (cell, new, reply) in FREE {
-        let taken = [Step(Exchanges(cell, new), Ends(Lock, reply))];
-        assert!(rt; lock_decides(cell, Goes, &taken)?);
-    }
-    Ok(())
+fn a_lock_takes_a_free_mutex(rt: HostRuntime) {
+    assert!(rt; first_wrong_lock(&FREE).is_none());
 }
 
-/// A cell that a lock is refused, and the reply.
-const REFUSED: [(u64, Reply); 4] = [
-    (2, EDEADLK),
-    (0x4000_0002, EDEADLK),
-    (0x8000_0002, EDEADLK),
-    (0x1_0000_0000, ENOTRECOVERABLE),
+static REFUSED: [Known; 4] = [
+    (2, Ends(Lock, EDEADLK), &[]),
+    (0x4000_0002, Ends(Lock, EDEADLK), &[]),
+    (0x8000_0002, Ends(Lock, EDEADLK), &[]),
+    (0x1_0000_0000, Ends(Lock, ENOTRECOVERABLE), &[]),
 ];
 
 #[test]
-fn a_lock_is_refused_its_own_mutex_and_an_unusable_one(rt: HostRuntime) -> Result<(), Fail> {
-    for (cell, reply) in REFUSED {
-        assert!(rt; lock_decides(cell, Ends(Lock, reply), &[])?);
-    }
-    Ok(())
+fn a_lock_is_refused_its_own_mutex_and_an_unusable_one(rt: HostRuntime) {
+    assert!(rt; first_wrong_lock(&REFUSED).is_none());
 }
 
-const WAKES_ALL: [Step; 1] = [Step(Wakes(10, 64, 3), Returns(ENOTRECOVERABLE))];
+static UNUSABLE: [Known; 1] = [(
+    0x1_8000_0000,
+    Decides(Lock, ENOTRECOVERABLE),
+    &[Step(Wakes(10, 64, 3), Returns(ENOTRECOVERABLE))],
+)];
 
 #[test]
-fn a_lock_of_an_unusable_mutex_wakes_all(rt: HostRuntime) -> Result<(), Fail> {
-    let lost = Decides(Lock, ENOTRECOVERABLE);
-    assert!(rt; lock_decides(0x1_8000_0000, lost, &WAKES_ALL)?);
-    Ok(())
+fn a_lock_of_an_unusable_mutex_wakes_all(rt: HostRuntime) {
+    assert!(rt; first_wrong_lock(&UNUSABLE).is_none());
 }
 
-/// A cell that another owns, and the same with WAITERS.
-const OWNED: [(u64, u32); 2] = [(1, 0x8000_0001), (0x4000_0001, 0xc000_0001)];
+/// WAITERS is set in a cell that another owns.
+const SETS: [Step; 2] = [
+    Step(Loads(10, 1), Goes),
+    Step(Exchanges(1, 0x8000_0001), Goes),
+];
 
-/// Whether a lock sleeps where it met the cell, has set WAITERS or finds it set, is answered so, and takes the mutex then.
-fn sleeps(cell: u64, waiting: u32, answer: Answer) -> Result<bool, Fail> {
-    let new = u64::from(waiting);
-    let sets = [
-        Step(Loads(10, cell), Goes),
-        Step(Exchanges(cell, new), Goes),
-    ];
-    let asleep = [
-        Step(Sleeps(10, waiting, answer), Goes),
-        Step(Loads(10, 0x8000_0000), Goes),
-        Step(Exchanges(0x8000_0000, 0x8000_0002), Ends(Lock, OK)),
-    ];
-    Ok(takes(Lock, &[&sets, &asleep])? && lock_decides(new, Goes, &asleep)?)
-}
+const SETS_INCONSISTENT: [Step; 2] = [
+    Step(Loads(10, 0x4000_0001), Goes),
+    Step(Exchanges(0x4000_0001, 0xc000_0001), Goes),
+];
 
-/// Whether a lock that met the cell, and couldn't set WAITERS, sees the cell that it found.
-fn sees_again(cell: u64, waiting: u32) -> Result<bool, Fail> {
-    let own = [Step(Finds(cell, u64::from(waiting), 2), Ends(Lock, EDEADLK))];
-    lock_decides(cell, Goes, &own)
-}
+/// A lock that is about to sleep doesn't, and takes the mutex then.
+const IS_TOLD_AGAIN: [Step; 3] = [
+    Step(Sleeps(10, 0x8000_0001, Answer::Again), Goes),
+    Step(Loads(10, 0x8000_0000), Goes),
+    Step(Exchanges(0x8000_0000, 0x8000_0002), Ends(Lock, OK)),
+];
 
-#[test]
-fn a_lock_sets_waiters_before_it_sleeps(rt: HostRuntime) -> Result<(), Fail> {
-    for (cell, waiting) in OWNED {
-        assert!(rt; sees_again(cell, waiting)?);
-        assert!(rt; sleeps(cell, waiting, Answer::Again)?);
-        assert!(rt; sleeps(cell, waiting, Answer::Woken)?);
-    }
-    Ok(())
-}
+const IS_TOLD_AGAIN_INCONSISTENT: [Step; 3] = [
+    Step(Sleeps(10, 0xc000_0001, Answer::Again), Goes),
+    Step(Loads(10, 0x8000_0000), Goes),
+    Step(Exchanges(0x8000_0000, 0x8000_0002), Ends(Lock, OK)),
+];
 
-/// A cell that a trylock takes, what it is then, and the reply.
-const TAKEN: [(u64, u64, Reply); 2] = [(0, 2, OK), (0x4000_0000, 0x4000_0002, EOWNERDEAD)];
+/// It sleeps, is woken, and takes the mutex then.
+const IS_WOKEN: [Step; 3] = [
+    Step(Sleeps(10, 0x8000_0001, Answer::Woken), Goes),
+    Step(Loads(10, 0x8000_0000), Goes),
+    Step(Exchanges(0x8000_0000, 0x8000_0002), Ends(Lock, OK)),
+];
 
-/// A cell that a trylock is refused, and the reply.
-const UNAVAILABLE: [(u64, Reply); 4] = [
-    (1, EBUSY),
-    (2, EBUSY),
-    (0x4000_0001, EBUSY),
-    (0x1_0000_0000, ENOTRECOVERABLE),
+const IS_WOKEN_INCONSISTENT: [Step; 3] = [
+    Step(Sleeps(10, 0xc000_0001, Answer::Woken), Goes),
+    Step(Loads(10, 0x8000_0000), Goes),
+    Step(Exchanges(0x8000_0000, 0x8000_0002), Ends(Lock, OK)),
+];
+
+static SLEEPING: [Way; 4] = [
+    (Lock, &[&SETS, &IS_TOLD_AGAIN]),
+    (Lock, &[&SETS, &IS_WOKEN]),
+    (Lock, &[&SETS_INCONSISTENT, &IS_TOLD_AGAIN_INCONSISTENT]),
+    (Lock, &[&SETS_INCONSISTENT, &IS_WOKEN_INCONSISTENT]),
+];
+
+/// Cells that another owns: first such as have WAITERS already, and then such in which a lock can't set it, since it finds another cell, which it sees.
+static OWNED: [Known; 6] = [
+    (0x8000_0001, Goes, &IS_TOLD_AGAIN),
+    (0x8000_0001, Goes, &IS_WOKEN),
+    (0xc000_0001, Goes, &IS_TOLD_AGAIN_INCONSISTENT),
+    (0xc000_0001, Goes, &IS_WOKEN_INCONSISTENT),
+    (
+        1,
+        Goes,
+        &[Step(Finds(1, 0x8000_0001, 2), Ends(Lock, EDEADLK))],
+    ),
+    (
+        0x4000_0001,
+        Goes,
+        &[Step(Finds(0x4000_0001, 0xc000_0001, 2), Ends(Lock, EDEADLK))],
+    ),
 ];
 
 #[test]
-fn a_trylock_replies_by_the_cell(rt: HostRuntime) -> Result<(), Fail> {
-    for (cell, new, reply) in TAKEN {
-        let steps = [
-            Step(Loads(10, cell), Goes),
-            Step(Exchanges(cell, new), Ends(TryLock, reply)),
-        ];
-        assert!(rt; takes(TryLock, &[&steps])?);
-    }
-    for (cell, reply) in UNAVAILABLE {
-        assert!(rt; takes(TryLock, &[&[Step(Loads(10, cell), Ends(TryLock, reply))]])?);
-    }
-    Ok(())
+fn a_lock_sets_waiters_before_it_sleeps(rt: HostRuntime) {
+    assert!(rt; first_wrong(&SLEEPING).is_none());
+    assert!(rt; first_wrong_lock(&OWNED).is_none());
 }
 
-const RACED: [Step; 5] = [
-    Step(Loads(10, 0), Goes),
-    Step(Finds(0, 2, 0x8000_0000), Goes),
-    Step(Finds(0x8000_0000, 0x8000_0002, 0), Goes),
-    Step(Finds(0, 2, 0x8000_0000), Goes),
-    Step(Finds(0x8000_0000, 0x8000_0002, 0), Ends(TryLock, XRACED)),
-];
-
-const BUSY: [Step; 2] = [
-    Step(Loads(10, 0), Goes),
-    Step(Finds(0, 2, 1), Ends(TryLock, EBUSY)),
-];
-
-#[test]
-fn a_trylock_gives_up_at_the_fourth_changed_cell(rt: HostRuntime) -> Result<(), Fail> {
-    assert!(rt; takes(TryLock, &[&RACED])?);
-    assert!(rt; takes(TryLock, &[&BUSY])?);
-    Ok(())
-}
-
-/// An own cell, and what a release flips in it.
-const OWN: [(u64, u64); 2] = [(2, 2), (0x4000_0002, 0x1_4000_0002)];
-
-#[test]
-fn an_unlock_replies_by_the_cell(rt: HostRuntime) -> Result<(), Fail> {
-    for cell in [0, 1, 0x1_0000_0000] {
-        assert!(rt; takes(Unlock, &[&[Step(Loads(10, cell), Ends(Unlock, EPERM))]])?);
-    }
-    for (cell, operand) in OWN {
-        let steps = [
-            Step(Loads(10, cell), Goes),
-            Step(Flips(operand, cell), Ends(Unlock, OK)),
-        ];
-        assert!(rt; takes(Unlock, &[&steps])?);
-    }
-    Ok(())
-}
-
-/// An own cell, what a release flips in it, the cell with WAITERS, and how many are woken at most.
-const AWAITED: [(u64, u64, u64, u32); 2] = [
-    (2, 2, 0x8000_0002, 1),
-    (0x4000_0002, 0x1_4000_0002, 0xc000_0002, 64),
+static TRYLOCKS: [Way; 6] = [
+    (
+        TryLock,
+        &[&[
+            Step(Loads(10, 0), Goes),
+            Step(Exchanges(0, 2), Ends(TryLock, OK)),
+        ]],
+    ),
+    (
+        TryLock,
+        &[&[
+            Step(Loads(10, 0x4000_0000), Goes),
+            Step(
+                Exchanges(0x4000_0000, 0x4000_0002),
+                Ends(TryLock, EOWNERDEAD),
+            ),
+        ]],
+    ),
+    (TryLock, &[&[Step(Loads(10, 1), Ends(TryLock, EBUSY))]]),
+    (TryLock, &[&[Step(Loads(10, 2), Ends(TryLock, EBUSY))]]),
+    (
+        TryLock,
+        &[&[Step(Loads(10, 0x4000_0001), Ends(TryLock, EBUSY))]],
+    ),
+    (
+        TryLock,
+        &[&[Step(Loads(10, 0x1_0000_0000), Ends(TryLock, ENOTRECOVERABLE))]],
+    ),
 ];
 
 #[test]
-fn an_unlock_wakes_who_waits(rt: HostRuntime) -> Result<(), Fail> {
-    for (cell, operand, found, most) in AWAITED {
-        let steps = [
-            Step(Loads(10, cell), Goes),
-            Step(Flips(operand, found), Decides(Unlock, OK)),
-            Step(Wakes(10, most, 1), Returns(OK)),
-        ];
-        assert!(rt; takes(Unlock, &[&steps])?);
-    }
-    Ok(())
+fn a_trylock_replies_by_the_cell(rt: HostRuntime) {
+    assert!(rt; first_wrong(&TRYLOCKS).is_none());
+}
+
+/// Its exchanges find changed cells, and, in the second, an owned one.
+static RACES: [Way; 2] = [
+    (
+        TryLock,
+        &[&[
+            Step(Loads(10, 0), Goes),
+            Step(Finds(0, 2, 0x8000_0000), Goes),
+            Step(Finds(0x8000_0000, 0x8000_0002, 0), Goes),
+            Step(Finds(0, 2, 0x8000_0000), Goes),
+            Step(Finds(0x8000_0000, 0x8000_0002, 0), Ends(TryLock, XRACED)),
+        ]],
+    ),
+    (
+        TryLock,
+        &[&[
+            Step(Loads(10, 0), Goes),
+            Step(Finds(0, 2, 1), Ends(TryLock, EBUSY)),
+        ]],
+    ),
+];
+
+#[test]
+fn a_trylock_gives_up_at_the_fourth_changed_cell(rt: HostRuntime) {
+    assert!(rt; first_wrong(&RACES).is_none());
+}
+
+static UNLOCKS: [Way; 5] = [
+    (Unlock, &[&[Step(Loads(10, 0), Ends(Unlock, EPERM))]]),
+    (Unlock, &[&[Step(Loads(10, 1), Ends(Unlock, EPERM))]]),
+    (
+        Unlock,
+        &[&[Step(Loads(10, 0x1_0000_0000), Ends(Unlock, EPERM))]],
+    ),
+    (
+        Unlock,
+        &[&[
+            Step(Loads(10, 2), Goes),
+            Step(Flips(2, 2), Ends(Unlock, OK)),
+        ]],
+    ),
+    (
+        Unlock,
+        &[&[
+            Step(Loads(10, 0x4000_0002), Goes),
+            Step(Flips(0x1_4000_0002, 0x4000_0002), Ends(Unlock, OK)),
+        ]],
+    ),
+];
+
+#[test]
+fn an_unlock_replies_by_the_cell(rt: HostRuntime) {
+    assert!(rt; first_wrong(&UNLOCKS).is_none());
 }
 
 /// A release of an own cell that has WAITERS.
-const RELEASED: [Step; 2] = [
+pub(crate) const RELEASED: [Step; 2] = [
     Step(Loads(10, 2), Goes),
     Step(Flips(2, 0x8000_0002), Decides(Unlock, OK)),
 ];
 
-const TRIM: Access = Access::Trim { at: 10 };
-
-#[test]
-fn an_unlock_trims_where_nobody_slept(rt: HostRuntime) -> Result<(), Fail> {
-    for trimmed in [true, false] {
-        let steps = [
-            Step(Wakes(10, 1, 0), Goes),
-            Step(Is(TRIM, Answer::Trimmed(trimmed)), Returns(OK)),
-        ];
-        assert!(rt; takes(Unlock, &[&RELEASED, &steps])?);
-    }
-    Ok(())
-}
-
-/// A release that makes the mutex unusable wakes all.
-const SPOILED: [Step; 3] = [
+/// A release that makes the mutex unusable.
+const SPOILED: [Step; 2] = [
     Step(Loads(10, 0x4000_0002), Goes),
     Step(Flips(0x1_4000_0002, 0xc000_0002), Decides(Unlock, OK)),
-    Step(Wakes(10, 64, 0), Returns(OK)),
 ];
 
-const NOBODY_TOLD: [Step; 1] = [Step(Wakes(10, 64, 0), Returns(ENOTRECOVERABLE))];
-
-#[test]
-fn who_wakes_all_never_trims(rt: HostRuntime) -> Result<(), Fail> {
-    assert!(rt; takes(Unlock, &[&SPOILED])?);
-    let lost = Decides(Lock, ENOTRECOVERABLE);
-    assert!(rt; lock_decides(0x1_8000_0000, lost, &NOBODY_TOLD)?);
-    Ok(())
-}
-
-/// A cell that can't be declared consistent, and the reply.
-const UNDECLARED: [(u64, Reply); 5] = [
-    (0x4000_0000, EPERM),
-    (0x4000_0001, EPERM),
-    (0x1_0000_0000, EPERM),
-    (2, EINVAL),
-    (0x8000_0002, EINVAL),
-];
-
-const DECLARED: [Step; 2] = [
-    Step(Loads(10, 0x4000_0002), Goes),
-    Step(
-        Is(DECLARATION, Answer::Value(0xc000_0002)),
-        Ends(Consistent, OK),
-    ),
+static AWAITED: [Way; 2] = [
+    (Unlock, &[&RELEASED, &[Step(Wakes(10, 1, 1), Returns(OK))]]),
+    (Unlock, &[&SPOILED, &[Step(Wakes(10, 64, 1), Returns(OK))]]),
 ];
 
 #[test]
-fn consistent_replies_by_the_cell(rt: HostRuntime) -> Result<(), Fail> {
-    for (cell, reply) in UNDECLARED {
-        assert!(rt;
-            takes(
-                Consistent,
-                &[&[Step(Loads(10, cell), Ends(Consistent, reply))]]
-            )?
-        );
-    }
-    assert!(rt; takes(Consistent, &[&DECLARED])?);
-    Ok(())
+fn an_unlock_wakes_who_waits(rt: HostRuntime) {
+    assert!(rt; first_wrong(&AWAITED).is_none());
 }
 
-/// Such an access may be answered so. Any may be answered `Fault` too.
-fn is_answer(access: Access, answer: Answer) -> bool {
-    match access {
-        Access::Exchange { .. } => matches!(answer, Answer::Exchanged | Answer::Changed(_)),
-        Access::Wait { .. } => matches!(answer, Answer::Again | Answer::Woken),
-        Access::Wake { .. } => matches!(answer, Answer::Count(_)),
-        Access::Trim { .. } => matches!(answer, Answer::Trimmed(_)),
-        _ => matches!(answer, Answer::Value(_)),
-    }
-}
+pub(crate) const TRIM: Access = Access::Trim { at: 10 };
 
-/// A call that makes this access after those, and is answered what such an access isn't, returns EFAULT.
-fn faults(operation: Operation, way: &[Step], access: Access) -> Result<bool, Fail> {
-    for answer in ANSWERS {
-        let fault = [Step(Is(access, answer), Returns(EFAULT))];
-        if !is_answer(access, answer) && !takes(operation, &[way, &fault])? {
-            return Ok(false);
-        }
-    }
-    Ok(true)
-}
-
-const LOAD: Access = Access::Load { at: 10 };
-
-/// An exchange of a free cell.
-const TAKE: Access = Access::Exchange {
-    at: 10,
-    expected: 0,
-    new: 2,
-};
-
-const SET_WAITERS: Access = Access::Exchange {
-    at: 10,
-    expected: 1,
-    new: 0x8000_0001,
-};
-
-const SLEEP: Access = Access::Wait {
-    at: 10,
-    expected: 0x8000_0001,
-};
-
-const RELEASE: Access = Access::FetchXor { at: 10, operand: 2 };
-
-/// An operation, the cell that its load meets, where that leads, and its next access.
-const AFTER_LOAD: [(Operation, u64, Then, Access); 7] = [
-    (Lock, 0, Goes, TAKE),
-    (Lock, 1, Goes, SET_WAITERS),
-    (Lock, 0x8000_0001, Goes, SLEEP),
-    (
-        Lock,
-        0x1_8000_0000,
-        Decides(Lock, ENOTRECOVERABLE),
-        Access::Wake { at: 10, most: 64 },
-    ),
-    (TryLock, 0, Goes, TAKE),
-    (Unlock, 2, Goes, RELEASE),
-    (Consistent, 0x4000_0002, Goes, DECLARATION),
-];
-
-const NOBODY_WOKEN: [Step; 3] = [
+/// A release that has woken nobody.
+pub(crate) const NOBODY_WOKEN: [Step; 3] = [
     Step(Loads(10, 2), Goes),
     Step(Flips(2, 0x8000_0002), Decides(Unlock, OK)),
     Step(Wakes(10, 1, 0), Goes),
 ];
 
+static TRIMS: [Way; 2] = [
+    (
+        Unlock,
+        &[
+            &NOBODY_WOKEN,
+            &[Step(Is(TRIM, Answer::Trimmed(true)), Returns(OK))],
+        ],
+    ),
+    (
+        Unlock,
+        &[
+            &NOBODY_WOKEN,
+            &[Step(Is(TRIM, Answer::Trimmed(false)), Returns(OK))],
+        ],
+    ),
+];
+
 #[test]
-fn an_answer_of_another_access_is_a_fault(rt: HostRuntime) -> Result<(), Fail> {
-    for (operation, cell, then, access) in AFTER_LOAD {
-        assert!(rt; faults(operation, &[], LOAD)?);
-        assert!(rt; faults(operation, &[Step(Loads(10, cell), then)], access)?);
-    }
-    let wake = Access::Wake { at: 10, most: 1 };
-    assert!(rt; faults(Unlock, &RELEASED, wake)?);
-    assert!(rt; faults(Unlock, &NOBODY_WOKEN, TRIM)?);
-    Ok(())
+fn an_unlock_trims_where_nobody_slept(rt: HostRuntime) {
+    assert!(rt; first_wrong(&TRIMS).is_none());
+}
+
+static NEVER_TRIMMED: [Way; 1] = [(Unlock, &[&SPOILED, &[Step(Wakes(10, 64, 0), Returns(OK))]])];
+
+static NOBODY_TOLD: [Known; 1] = [(
+    0x1_8000_0000,
+    Decides(Lock, ENOTRECOVERABLE),
+    &[Step(Wakes(10, 64, 0), Returns(ENOTRECOVERABLE))],
+)];
+
+#[test]
+fn who_wakes_all_never_trims(rt: HostRuntime) {
+    assert!(rt; first_wrong(&NEVER_TRIMMED).is_none());
+    assert!(rt; first_wrong_lock(&NOBODY_TOLD).is_none());
+}
+
+/// Of the first five the cell can't be declared consistent.
+static DECLARATIONS: [Way; 6] = [
+    (
+        Consistent,
+        &[&[Step(Loads(10, 0x4000_0000), Ends(Consistent, EPERM))]],
+    ),
+    (
+        Consistent,
+        &[&[Step(Loads(10, 0x4000_0001), Ends(Consistent, EPERM))]],
+    ),
+    (
+        Consistent,
+        &[&[Step(Loads(10, 0x1_0000_0000), Ends(Consistent, EPERM))]],
+    ),
+    (
+        Consistent,
+        &[&[Step(Loads(10, 2), Ends(Consistent, EINVAL))]],
+    ),
+    (
+        Consistent,
+        &[&[Step(Loads(10, 0x8000_0002), Ends(Consistent, EINVAL))]],
+    ),
+    (
+        Consistent,
+        &[&[
+            Step(Loads(10, 0x4000_0002), Goes),
+            Step(
+                Is(DECLARATION, Answer::Value(0xc000_0002)),
+                Ends(Consistent, OK),
+            ),
+        ]],
+    ),
+];
+
+#[test]
+fn consistent_replies_by_the_cell(rt: HostRuntime) {
+    assert!(rt; first_wrong(&DECLARATIONS).is_none());
 }
 
 /// An operation of a thread that holds so many mutexes, and how it is refused.
-const LIMITS: [(Operation, u16, Option<Reply>); 6] = [
+static LIMITS: [(Operation, u16, Option<Reply>); 6] = [
     (Lock, 2047, None),
     (Lock, 2048, Some(XHELD)),
     (TryLock, 2047, None),
@@ -374,22 +408,25 @@ const LIMITS: [(Operation, u16, Option<Reply>); 6] = [
     (Consistent, 2048, None),
 ];
 
-/// How a thread that holds so many mutexes is refused the call.
-fn refusal(operation: Operation, held: u16) -> Result<Option<Reply>, Fail> {
-    let thread = Tid::new(2).ok_or("no thread 2")?;
-    let layout = Layout::new(2, 2, &[])?;
-    Ok(Program::new(&layout, thread, held, call(operation)).err())
+/// Whether a thread that holds so many mutexes is refused the call so.
+fn is_refused(operation: Operation, held: u16, refused: Option<Reply>) -> bool {
+    let Some(thread) = Tid::new(2) else {
+        return false;
+    };
+    match Layout::new(2, 2, &[]) {
+        Ok(layout) => Program::new(&layout, thread, held, call(operation)).err() == refused,
+        Err(_) => false,
+    }
 }
 
 #[test]
-fn a_thread_holds_2048_mutexes_at_most(rt: HostRuntime) -> Result<(), Fail> {
-    for (operation, held, refused) in LIMITS {
-        assert!(rt; refusal(operation, held)? == refused);
+fn a_thread_holds_2048_mutexes_at_most(rt: HostRuntime) {
+    for (operation, held, refused) in &LIMITS {
+        assert!(rt; is_refused(*operation, *held, *refused));
     }
-    Ok(())
 }
 
-const CALLS: [(Call, Operation); 4] = [
+static CALLS: [(Call, Operation); 4] = [
     (Call::Lock(3), Lock),
     (Call::TryLock(3), TryLock),
     (Call::Unlock(3), Unlock),
@@ -398,8 +435,8 @@ const CALLS: [(Call, Operation); 4] = [
 
 #[test]
 fn calls_name_their_mutex_and_operation(rt: HostRuntime) {
-    for (call, operation) in CALLS {
-        assert!(rt; call.mutex() == 3 && call.operation() == operation);
+    for (call, operation) in &CALLS {
+        assert!(rt; call.mutex() == 3 && call.operation() == *operation);
     }
     programs_are_right();
     raced_after_four();

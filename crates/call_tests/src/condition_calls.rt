@@ -11,9 +11,8 @@ use condvar::{
 };
 use keys::Operation::{Broadcast, Lock, Signal, Unlock, Wait};
 use keys::{Access, Answer, Layout, Operation};
-use lockword::Reply::{self, EFAULT, ENOTRECOVERABLE, EOWNERDEAD, EPERM, OK, XFULL, XSTATE};
+use lockword::Reply::{EFAULT, ENOTRECOVERABLE, EOWNERDEAD, EPERM, OK, XFULL, XSTATE};
 use lockword::Tid;
-use std::test::Fail;
 
 /// It counts a wake.
 const COUNT: Access = Access::FetchAdd { at: 14, operand: 1 };
@@ -44,11 +43,30 @@ pub(crate) fn call(operation: Operation) -> CondCall
 }
 
 /// The call makes these accesses, in these parts, and has returned after them.
-fn takes(operation: Operation, parts: &[&[Step]]) -> Result<bool, Fail> {
-    let thread = Tid::new(2).ok_or("no thread 2")?;
-    let layout = Layout::new(2, 2, &[0, 1])?;
-    let program = CondProgram::new(&layout, thread, call(operation));
-    Ok(makes(program, thread, parts))
+fn takes(operation: Operation, parts: &[&[Step]]) -> bool {
+    let Some(thread) = Tid::new(2) else {
+        return false;
+    };
+    match Layout::new(2, 2, &[0, 1]) {
+        Ok(layout) => {
+            let program = CondProgram::new(&layout, thread, call(operation));
+            makes(program, thread, parts)
+        }
+        Err(_) => false,
+    }
+}
+
+/// An operation, and the accesses of its call, in parts.
+type Way = (Operation, &'static [&'static [Step]]);
+
+/// The place of the first call that makes others.
+fn first_wrong(calls: &[Way]) -> Option<usize> {
+    for (place, (operation, parts)) in calls.iter().enumerate() {
+        if !takes(*operation, *parts) {
+            return Some(place);
+        }
+    }
+    None
 }
 
 /// A wait goes so far as to release the mutex, the counter being 5.
@@ -64,6 +82,12 @@ const UNLINKED: [Step; 6] = [
 /// It has released it.
 const RELEASED: [Step; 1] = [Step(Flips(2, 2), Decides(Unlock, OK))];
 
+/// It takes the mutex again, which is free.
+const TAKEN: [Step; 2] = [
+    Step(Loads(10, 0), Goes),
+    Step(Exchanges(0, 2), Decides(Lock, OK)),
+];
+
 /// The mutex is put on the list again, which is empty.
 const LINKED: [Step; 4] = [
     Step(Loads(4, 4), Goes),
@@ -72,99 +96,145 @@ const LINKED: [Step; 4] = [
     Step(Stores(4, 11), Goes),
 ];
 
-/// What the sleep is answered, the cell that is met then, the same taken, and the reply.
-const AWAKE: [(Answer, u64, u64, Reply); 3] = [
-    (Answer::Woken, 0, 2, OK),
-    (Answer::Again, 0, 2, OK),
-    (Answer::Woken, 0x4000_0000, 0x4000_0002, EOWNERDEAD),
+const CLEARED: [Step; 1] = [Step(Stores(6, 0), Returns(OK))];
+
+/// The sleep is answered one way or the other, and at last the mutex is one whose owner died.
+static AWAKE: [Way; 3] = [
+    (
+        Wait,
+        &[
+            &UNLINKED,
+            &RELEASED,
+            &[Step(Sleeps(14, 5, Answer::Woken), Goes)],
+            &TAKEN,
+            &LINKED,
+            &CLEARED,
+        ],
+    ),
+    (
+        Wait,
+        &[
+            &UNLINKED,
+            &RELEASED,
+            &[Step(Sleeps(14, 5, Answer::Again), Goes)],
+            &TAKEN,
+            &LINKED,
+            &CLEARED,
+        ],
+    ),
+    (
+        Wait,
+        &[
+            &UNLINKED,
+            &RELEASED,
+            &[
+                Step(Sleeps(14, 5, Answer::Woken), Goes),
+                Step(Loads(10, 0x4000_0000), Goes),
+                Step(
+                    Exchanges(0x4000_0000, 0x4000_0002),
+                    Decides(Lock, EOWNERDEAD),
+                ),
+            ],
+            &LINKED,
+            &[Step(Stores(6, 0), Returns(EOWNERDEAD))],
+        ],
+    ),
 ];
 
 #[test]
-fn a_wait_sleeps_and_takes_its_mutex_again(rt: HostRuntime) -> Result<(), Fail> {
-    for (answer, cell, new, reply) in AWAKE {
-        let again = [
-            Step(Sleeps(14, 5, answer), Goes),
-            Step(Loads(10, cell), Goes),
-            Step(Exchanges(cell, new), Decides(Lock, reply)),
-        ];
-        let end = [Step(Stores(6, 0), Returns(reply))];
-        assert!(rt; takes(Wait, &[&UNLINKED, &RELEASED, &again, &LINKED, &end])?);
-    }
-    Ok(())
+fn a_wait_sleeps_and_takes_its_mutex_again(rt: HostRuntime) {
+    assert!(rt; first_wrong(&AWAKE).is_none());
 }
 
-const WAKES_A_SLEEPER: [Step; 5] = [
-    Step(Flips(2, 0x8000_0002), Decides(Unlock, OK)),
-    Step(Wakes(10, 1, 1), Goes),
-    Step(Sleeps(14, 5, Answer::Woken), Goes),
-    Step(Loads(10, 0x1_0000_0000), Decides(Lock, ENOTRECOVERABLE)),
-    Step(Stores(6, 0), Returns(ENOTRECOVERABLE)),
-];
-
-#[test]
-fn a_wait_wakes_who_sleeps_on_the_mutex(rt: HostRuntime) -> Result<(), Fail> {
-    let begun = [
+static WAKES_A_SLEEPER: [Way; 1] = [(
+    Wait,
+    &[&[
         Step(Loads(10, 0x8000_0002), Goes),
         Step(Loads(14, 5), Goes),
         Step(Stores(6, 11), Goes),
         Step(Loads(11, 4), Goes),
         Step(Loads(12, 4), Goes),
         Step(Stores(4, 4), Goes),
-    ];
-    assert!(rt; takes(Wait, &[&begun, &WAKES_A_SLEEPER])?);
-    Ok(())
+        Step(Flips(2, 0x8000_0002), Decides(Unlock, OK)),
+        Step(Wakes(10, 1, 1), Goes),
+        Step(Sleeps(14, 5, Answer::Woken), Goes),
+        Step(Loads(10, 0x1_0000_0000), Decides(Lock, ENOTRECOVERABLE)),
+        Step(Stores(6, 0), Returns(ENOTRECOVERABLE)),
+    ]],
+)];
+
+#[test]
+fn a_wait_wakes_who_sleeps_on_the_mutex(rt: HostRuntime) {
+    assert!(rt; first_wrong(&WAKES_A_SLEEPER).is_none());
 }
 
 /// A wait that found the counter full falls asleep as any other.
-const FULL: [Step; 10] = [
-    Step(Loads(10, 2), Goes),
-    Step(Loads(14, 0xffff_ffff), Goes),
-    Step(Stores(6, 11), Goes),
-    Step(Loads(11, 4), Goes),
-    Step(Loads(12, 4), Goes),
-    Step(Stores(4, 4), Goes),
-    Step(Flips(2, 2), Decides(Unlock, OK)),
-    Step(Sleeps(14, 0xffff_ffff, Answer::Again), Goes),
-    Step(Loads(10, 0), Goes),
-    Step(Exchanges(0, 2), Decides(Lock, OK)),
+static FULL: [Way; 1] = [(
+    Wait,
+    &[
+        &[
+            Step(Loads(10, 2), Goes),
+            Step(Loads(14, 0xffff_ffff), Goes),
+            Step(Stores(6, 11), Goes),
+            Step(Loads(11, 4), Goes),
+            Step(Loads(12, 4), Goes),
+            Step(Stores(4, 4), Goes),
+            Step(Flips(2, 2), Decides(Unlock, OK)),
+            Step(Sleeps(14, 0xffff_ffff, Answer::Again), Goes),
+        ],
+        &TAKEN,
+        &LINKED,
+        &CLEARED,
+    ],
+)];
+
+#[test]
+fn a_wait_is_not_refused_a_full_counter(rt: HostRuntime) {
+    assert!(rt; first_wrong(&FULL).is_none());
+}
+
+static REFUSED: [Way; 5] = [
+    (Wait, &[&[Step(Loads(10, 0), Ends(Wait, EPERM))]]),
+    (Wait, &[&[Step(Loads(10, 1), Ends(Wait, EPERM))]]),
+    (Wait, &[&[Step(Loads(10, 0x4000_0001), Ends(Wait, EPERM))]]),
+    (Wait, &[&[Step(Loads(10, 0x4000_0002), Ends(Wait, XSTATE))]]),
+    (Wait, &[&[Step(Loads(10, 0xc000_0002), Ends(Wait, XSTATE))]]),
 ];
 
 #[test]
-fn a_wait_is_not_refused_a_full_counter(rt: HostRuntime) -> Result<(), Fail> {
-    assert!(rt; takes(Wait, &[&FULL, &LINKED, &[Step(Stores(6, 0), Returns(OK))]])?);
-    Ok(())
+fn only_the_owner_of_a_consistent_mutex_waits(rt: HostRuntime) {
+    assert!(rt; first_wrong(&REFUSED).is_none());
 }
 
-/// A cell with which a wait is refused, and the reply.
-const REFUSED: [(u64, Reply); 5] = [
-    (0, EPERM),
-    (1, EPERM),
-    (0x4000_0001, EPERM),
-    (0x4000_0002, XSTATE),
-    (0xc000_0002, XSTATE),
-];
-
-#[test]
-fn only_the_owner_of_a_consistent_mutex_waits(rt: HostRuntime) -> Result<(), Fail> {
-    for (cell, reply) in REFUSED {
-        assert!(rt; takes(Wait, &[&[Step(Loads(10, cell), Ends(Wait, reply))]])?);
-    }
-    Ok(())
-}
-
-#[test]
-fn a_signal_counts_and_wakes_one(rt: HostRuntime) -> Result<(), Fail> {
-    for (cell, counter) in [(2, 0), (0x4000_0002, 0xffff_fffe)] {
-        let steps = [
-            Step(Loads(10, cell), Goes),
-            Step(Loads(14, counter), Goes),
-            Step(Is(COUNT, Answer::Value(counter)), Decides(Signal, OK)),
+static SIGNALS: [Way; 2] = [
+    (
+        Signal,
+        &[&[
+            Step(Loads(10, 2), Goes),
+            Step(Loads(14, 0), Goes),
+            Step(Is(COUNT, Answer::Value(0)), Decides(Signal, OK)),
             Step(Wakes(14, 1, 1), Returns(OK)),
-        ];
-        assert!(rt; takes(Signal, &[&steps])?);
-    }
-    Ok(())
+        ]],
+    ),
+    (
+        Signal,
+        &[&[
+            Step(Loads(10, 0x4000_0002), Goes),
+            Step(Loads(14, 0xffff_fffe), Goes),
+            Step(Is(COUNT, Answer::Value(0xffff_fffe)), Decides(Signal, OK)),
+            Step(Wakes(14, 1, 1), Returns(OK)),
+        ]],
+    ),
+];
+
+#[test]
+fn a_signal_counts_and_wakes_one(rt: HostRuntime) {
+    assert!(rt; first_wrong(&SIGNALS).is_none());
 }
+
+const HELD: [Step; 1] = [Step(Loads(10, 2), Goes)];
+
+const HELD_AND_LOADED: [Step; 2] = [Step(Loads(10, 2), Goes), Step(Loads(14, 5), Goes)];
 
 /// A broadcast goes so far as to have counted, the counter being 5.
 const COUNTED: [Step; 3] = [
@@ -173,39 +243,7 @@ const COUNTED: [Step; 3] = [
     Step(Is(COUNT, Answer::Value(5)), Decides(Broadcast, OK)),
 ];
 
-/// WAITERS is set.
-const SETS: [Step; 1] = [Step(Is(SET_WAITERS, Answer::Value(2)), Goes)];
-
-#[test]
-fn a_broadcast_moves_all_to_the_mutex(rt: HostRuntime) -> Result<(), Fail> {
-    for answer in [Answer::Counts(0, 3), Answer::Again] {
-        let moved = [Step(Is(MOVE, answer), Returns(OK))];
-        assert!(rt; takes(Broadcast, &[&COUNTED, &SETS, &moved])?);
-    }
-    Ok(())
-}
-
-const HELD: [Step; 1] = [Step(Loads(10, 2), Goes)];
-
-#[test]
-fn only_the_owner_signals_and_a_full_counter_stays(rt: HostRuntime) -> Result<(), Fail> {
-    for operation in [Signal, Broadcast] {
-        for cell in [0, 1, 0x4000_0001] {
-            let refused = [Step(Loads(10, cell), Ends(operation, EPERM))];
-            assert!(rt; takes(operation, &[&refused])?);
-        }
-        let full = [Step(Loads(14, 0xffff_ffff), Ends(operation, XFULL))];
-        assert!(rt; takes(operation, &[&HELD, &full])?);
-    }
-    Ok(())
-}
-
-const LOAD_CELL: Access = Access::Load { at: 10 };
-
-const LOAD_COUNTER: Access = Access::Load { at: 14 };
-
-const HELD_AND_LOADED: [Step; 2] = [Step(Loads(10, 2), Goes), Step(Loads(14, 5), Goes)];
-
+/// It has set WAITERS then.
 const COUNTED_AND_SET: [Step; 4] = [
     Step(Loads(10, 2), Goes),
     Step(Loads(14, 5), Goes),
@@ -213,28 +251,62 @@ const COUNTED_AND_SET: [Step; 4] = [
     Step(Is(SET_WAITERS, Answer::Value(2)), Goes),
 ];
 
-/// An operation, how many accesses it has made, and the one that is answered a fault then.
-const FAULTS: [(Operation, usize, Access); 10] = [
-    (Wait, 0, LOAD_CELL),
-    (Wait, 1, LOAD_COUNTER),
-    (Signal, 0, LOAD_CELL),
-    (Signal, 1, LOAD_COUNTER),
-    (Signal, 2, COUNT),
-    (Broadcast, 0, LOAD_CELL),
-    (Broadcast, 1, LOAD_COUNTER),
-    (Broadcast, 2, COUNT),
-    (Broadcast, 3, SET_WAITERS),
-    (Broadcast, 4, MOVE),
+static BROADCASTS: [Way; 2] = [
+    (
+        Broadcast,
+        &[
+            &COUNTED_AND_SET,
+            &[Step(Is(MOVE, Answer::Counts(0, 3)), Returns(OK))],
+        ],
+    ),
+    (
+        Broadcast,
+        &[
+            &COUNTED_AND_SET,
+            &[Step(Is(MOVE, Answer::Again), Returns(OK))],
+        ],
+    ),
 ];
 
-/// Whether a call that has made so many accesses, and is answered so by this one, returns EFAULT.
-fn faults(operation: Operation, made: usize, access: Access, answer: Answer) -> Result<bool, Fail> {
-    if made > COUNTED_AND_SET.len() {
-        return Ok(false);
-    }
-    let fault = [Step(Is(access, answer), Returns(EFAULT))];
-    takes(operation, &[&COUNTED_AND_SET[..made], &fault])
+#[test]
+fn a_broadcast_moves_all_to_the_mutex(rt: HostRuntime) {
+    assert!(rt; first_wrong(&BROADCASTS).is_none());
 }
+
+static SIGNALS_REFUSED: [Way; 8] = [
+    (Signal, &[&[Step(Loads(10, 0), Ends(Signal, EPERM))]]),
+    (Signal, &[&[Step(Loads(10, 1), Ends(Signal, EPERM))]]),
+    (
+        Signal,
+        &[&[Step(Loads(10, 0x4000_0001), Ends(Signal, EPERM))]],
+    ),
+    (
+        Signal,
+        &[&HELD, &[Step(Loads(14, 0xffff_ffff), Ends(Signal, XFULL))]],
+    ),
+    (Broadcast, &[&[Step(Loads(10, 0), Ends(Broadcast, EPERM))]]),
+    (Broadcast, &[&[Step(Loads(10, 1), Ends(Broadcast, EPERM))]]),
+    (
+        Broadcast,
+        &[&[Step(Loads(10, 0x4000_0001), Ends(Broadcast, EPERM))]],
+    ),
+    (
+        Broadcast,
+        &[
+            &HELD,
+            &[Step(Loads(14, 0xffff_ffff), Ends(Broadcast, XFULL))],
+        ],
+    ),
+];
+
+#[test]
+fn only_the_owner_signals_and_a_full_counter_stays(rt: HostRuntime) {
+    assert!(rt; first_wrong(&SIGNALS_REFUSED).is_none());
+}
+
+const LOAD_CELL: Access = Access::Load { at: 10 };
+
+const LOAD_COUNTER: Access = Access::Load { at: 14 };
 
 const ANNOUNCEMENT: Access = Access::Store { at: 6, value: 11 };
 
@@ -243,20 +315,38 @@ const SLEEP: Access = Access::Wait {
     expected: 5,
 };
 
-#[test]
-fn a_fault_ends_a_call_anywhere(rt: HostRuntime) -> Result<(), Fail> {
-    for (operation, made, access) in FAULTS {
-        assert!(rt; faults(operation, made, access, Answer::Fault)?);
-        assert!(rt; faults(operation, made, access, Answer::Exchanged)?);
+/// An operation, the accesses that its call has made, in two parts, and the one that is answered a fault then.
+type Fault = (Operation, &'static [Step], &'static [Step], Access);
+
+/// The place of the first call that doesn't return EFAULT where its access is answered no answer of it.
+fn first_without_fault(faults: &[Fault]) -> Option<usize> {
+    for (place, (operation, way, more, access)) in faults.iter().enumerate() {
+        for answer in [Answer::Fault, Answer::Exchanged] {
+            let fault = [Step(Is(*access, answer), Returns(EFAULT))];
+            if !takes(*operation, &[*way, *more, &fault]) {
+                return Some(place);
+            }
+        }
     }
-    Ok(())
+    None
 }
 
-/// Whether a wait that has made these accesses, and is answered so by this one, returns EFAULT.
-fn wait_faults(parts: &[Step], more: &[Step], access: Access) -> Result<bool, Fail> {
-    let fault = [Step(Is(access, Answer::Fault), Returns(EFAULT))];
-    let strange = [Step(Is(access, Answer::Exchanged), Returns(EFAULT))];
-    Ok(takes(Wait, &[parts, more, &fault])? && takes(Wait, &[parts, more, &strange])?)
+static FAULTS: [Fault; 10] = [
+    (Wait, &[], &[], LOAD_CELL),
+    (Wait, &HELD, &[], LOAD_COUNTER),
+    (Signal, &[], &[], LOAD_CELL),
+    (Signal, &HELD, &[], LOAD_COUNTER),
+    (Signal, &HELD_AND_LOADED, &[], COUNT),
+    (Broadcast, &[], &[], LOAD_CELL),
+    (Broadcast, &HELD, &[], LOAD_COUNTER),
+    (Broadcast, &HELD_AND_LOADED, &[], COUNT),
+    (Broadcast, &COUNTED, &[], SET_WAITERS),
+    (Broadcast, &COUNTED_AND_SET, &[], MOVE),
+];
+
+#[test]
+fn a_fault_ends_a_call_anywhere(rt: HostRuntime) {
+    assert!(rt; first_without_fault(&FAULTS).is_none());
 }
 
 /// A wait has released its mutex, and is awake again.
@@ -265,15 +355,18 @@ const WOKEN: [Step; 2] = [
     Step(Sleeps(14, 5, Answer::Woken), Goes),
 ];
 
+static FAULTS_OF_WAITS: [Fault; 3] = [
+    (Wait, &HELD_AND_LOADED, &[], ANNOUNCEMENT),
+    (Wait, &UNLINKED, &RELEASED, SLEEP),
+    (Wait, &UNLINKED, &WOKEN, LOAD_CELL),
+];
+
 #[test]
-fn a_fault_ends_a_wait_anywhere(rt: HostRuntime) -> Result<(), Fail> {
-    assert!(rt; wait_faults(&HELD_AND_LOADED, &[], ANNOUNCEMENT)?);
-    assert!(rt; wait_faults(&UNLINKED, &RELEASED, SLEEP)?);
-    assert!(rt; wait_faults(&UNLINKED, &WOKEN, LOAD_CELL)?);
-    Ok(())
+fn a_fault_ends_a_wait_anywhere(rt: HostRuntime) {
+    assert!(rt; first_without_fault(&FAULTS_OF_WAITS).is_none());
 }
 
-const CALLS: [(CondCall, Operation); 3] = [
+static CALLS: [(CondCall, Operation); 3] = [
     (CondCall::Wait(3), Wait),
     (CondCall::Signal(3), Signal),
     (CondCall::Broadcast(3), Broadcast),
@@ -281,8 +374,8 @@ const CALLS: [(CondCall, Operation); 3] = [
 
 #[test]
 fn calls_name_their_condition_and_operation(rt: HostRuntime) {
-    for (call, operation) in CALLS {
-        assert!(rt; call.condition() == 3 && call.operation() == operation);
+    for (call, operation) in &CALLS {
+        assert!(rt; call.condition() == 3 && call.operation() == *operation);
     }
     calls_are_right();
     faults_are_told();

@@ -6,7 +6,6 @@ use keys::Operation::{Broadcast, Signal, Wait};
 use keys::{Access, Answer, Layout, Operation, Progress};
 use lockword::Reply::{self, EPERM, OK, XFULL, XSTATE};
 use lockword::Tid;
-use std::test::Fail;
 
 /// The words where the mutex's cell and the counter are so: each head leads to itself, but thread 2's to its mutex's entry.
 fn held(cell: u64, counter: u64) -> [u64; 15] {
@@ -73,70 +72,76 @@ fn make(words: &mut [u64], access: Access) -> Answer {
     answer
 }
 
-/// Runs a call of thread 2 to its return, or to where it is about to sleep where that is wanted, and tells the accesses before that and the reply.
-fn runs(
-    words: &mut [u64],
-    operation: Operation,
-    asleep: bool,
-) -> Result<(u64, Option<Reply>), Fail> {
-    let thread = Tid::new(2).ok_or("no thread 2")?;
-    let layout = Layout::new(2, 2, &[0, 1])?;
+/// The accesses that a call makes to its return, and its reply.
+type Ran = (u64, Option<Reply>);
+
+/// Runs a call of thread 2 to its return, or to where it is about to sleep where that is wanted, and tells the accesses before that and the reply; None where it does neither.
+fn runs(words: &mut [u64], operation: Operation, asleep: bool) -> Option<Ran> {
+    let thread = Tid::new(2)?;
+    let layout = Layout::new(2, 2, &[0, 1]).ok()?;
     let mut program = CondProgram::new(&layout, thread, call(operation));
     for accesses in 0..32_u64 {
         let access = program.next();
         if asleep && matches!(access, Access::Wait { .. }) {
-            return Ok((accesses, None));
+            return Some((accesses, None));
         }
         if let Progress::Returns { reply, .. } = program.resume(make(words, access)) {
-            return Ok((accesses + 1, Some(reply)));
+            return Some((accesses + 1, Some(reply)));
         }
     }
-    Err("the call didn't return")?
+    None
 }
 
-/// The words, of which the cell and the counter are so, lead the call to its return with this reply after so many accesses, and leave the cell and the counter so, and all others
-/// as they were.
-fn leaves(
-    (cell, counter): (u64, u64),
-    operation: Operation,
-    accesses: u64,
-    reply: Reply,
-    (new_cell, new_counter): (u64, u64),
-) -> Result<bool, Fail> {
-    let mut words = held(cell, counter);
-    let ran = runs(&mut words, operation, false)?;
-    Ok(ran == (accesses, Some(reply)) && words == held(new_cell, new_counter))
-}
+/// A cell and a counter, a call with its accesses and its reply, and the cell and the counter that it leaves.
+type Row = ((u64, u64), Operation, u64, Reply, (u64, u64));
 
-#[test]
-fn the_entry_is_pending_while_a_wait_sleeps(rt: HostRuntime) -> Result<(), Fail> {
-    let mut words = held(2, 5);
-    assert!(rt; runs(&mut words, Wait, true)? == (7, None));
-    assert!(rt; words == [0, 1, 0, 0, 4, 0, 11, 0, 0, 0, 0, 4, 4, 0, 5]);
-    Ok(())
-}
-
-#[test]
-fn a_wait_that_was_woken_has_its_mutex_again(rt: HostRuntime) -> Result<(), Fail> {
-    assert!(rt; leaves((2, 5), Wait, 15, OK, (2, 5))?);
-    let inconsistent = (0x4000_0002, 5);
-    assert!(rt; leaves(inconsistent, Wait, 1, XSTATE, inconsistent)?);
-    Ok(())
-}
-
-#[test]
-fn a_signal_leaves_the_cell_and_a_broadcast_sets_waiters(rt: HostRuntime) -> Result<(), Fail> {
-    assert!(rt; leaves((2, 5), Signal, 4, OK, (2, 6))?);
-    assert!(rt; leaves((2, 6), Broadcast, 5, OK, (0x8000_0002, 7))?);
-    Ok(())
-}
-
-#[test]
-fn a_refused_call_changes_nothing(rt: HostRuntime) -> Result<(), Fail> {
-    for operation in [Signal, Broadcast] {
-        let full = (2, 0xffff_ffff);
-        assert!(rt; leaves(full, operation, 2, XFULL, full)?);
-        assert!(rt; leaves((1, 5), operation, 1, EPERM, (1, 5))?);
+/// The place of the first row whose words don't lead the call to its return so, or in which it changes another word.
+fn first_wrong(rows: &[Row]) -> Option<usize> {
+    for (place, (before, operation, accesses, reply, after)) in rows.iter().enumerate() {
+        let mut words = held(before.0, before.1);
+        let ran = runs(&mut words, *operation, false);
+        if ran != Some((*accesses, Some(*reply))) || words != held(after.0, after.1) {
+            return Some(place);
+        }
     }
-    Ok(())
+    None
+}
+
+#[test]
+fn the_entry_is_pending_while_a_wait_sleeps(rt: HostRuntime) {
+    let mut words = held(2, 5);
+    assert!(rt; runs(&mut words, Wait, true) == Some((7, None)));
+    assert!(rt; words == [0, 1, 0, 0, 4, 0, 11, 0, 0, 0, 0, 4, 4, 0, 5]);
+}
+
+static WAITS: [Row; 2] = [
+    ((2, 5), Wait, 15, OK, (2, 5)),
+    ((0x4000_0002, 5), Wait, 1, XSTATE, (0x4000_0002, 5)),
+];
+
+#[test]
+fn a_wait_that_was_woken_has_its_mutex_again(rt: HostRuntime) {
+    assert!(rt; first_wrong(&WAITS).is_none());
+}
+
+static SIGNALS: [Row; 2] = [
+    ((2, 5), Signal, 4, OK, (2, 6)),
+    ((2, 6), Broadcast, 5, OK, (0x8000_0002, 7)),
+];
+
+#[test]
+fn a_signal_leaves_the_cell_and_a_broadcast_sets_waiters(rt: HostRuntime) {
+    assert!(rt; first_wrong(&SIGNALS).is_none());
+}
+
+static REFUSED: [Row; 4] = [
+    ((2, 0xffff_ffff), Signal, 2, XFULL, (2, 0xffff_ffff)),
+    ((1, 5), Signal, 1, EPERM, (1, 5)),
+    ((2, 0xffff_ffff), Broadcast, 2, XFULL, (2, 0xffff_ffff)),
+    ((1, 5), Broadcast, 1, EPERM, (1, 5)),
+];
+
+#[test]
+fn a_refused_call_changes_nothing(rt: HostRuntime) {
+    assert!(rt; first_wrong(&REFUSED).is_none());
 }

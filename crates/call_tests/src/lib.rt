@@ -7,6 +7,8 @@
 #[cfg(test)]
 mod cell_calls;
 #[cfg(test)]
+mod cell_faults;
+#[cfg(test)]
 mod condition_calls;
 #[cfg(test)]
 mod condition_words;

@@ -6,12 +6,9 @@ use crate::steps::Then::{Decides, Ends, Goes, Returns};
 use crate::steps::{Step, makes};
 use keys::Operation::{Consistent, Lock, TryLock, Unlock};
 use keys::{Access, Answer, Layout, Operation};
-use lockword::Reply::{
-    self, EBUSY, EDEADLK, EFAULT, EINVAL, ENOTRECOVERABLE, EOWNERDEAD, EPERM, OK,
-};
+use lockword::Reply::{EBUSY, EDEADLK, EFAULT, EINVAL, ENOTRECOVERABLE, EOWNERDEAD, EPERM, OK};
 use lockword::Tid;
 use mutex::Program;
-use std::test::Fail;
 
 /// Its entry is made the pending one.
 const ANNOUNCED: Step = Step(Stores(6, 11), Goes);
@@ -56,121 +53,204 @@ const UNLINKED_IN_FRONT: [Step; 4] = [
 ];
 
 /// The pending entry is cleared, and the call returns.
-fn clears(reply: Reply) -> Step {
-    Step(Stores(6, 0), Returns(reply))
-}
+const CLEARED: Step = Step(Stores(6, 0), Returns(OK));
+
+const CLEARED_OWNER_DEAD: Step = Step(Stores(6, 0), Returns(EOWNERDEAD));
+
+/// An operation, and the accesses of its call, in parts.
+type Call = (Operation, &'static [&'static [Step]]);
 
 /// The call makes these accesses, in these parts, and has returned after them.
-fn takes(operation: Operation, parts: &[&[Step]]) -> Result<bool, Fail> {
-    let thread = Tid::new(2).ok_or("no thread 2")?;
-    let layout = Layout::new(2, 2, &[])?;
-    let program = Program::new(&layout, thread, 0, call(operation))?;
-    Ok(makes(program, thread, parts))
-}
-
-/// An operation that takes a cell, the cell before and after, and the reply.
-const TAKEN: [(Operation, u64, u64, Reply); 4] = [
-    (Lock, 0, 2, OK),
-    (Lock, 0x4000_0000, 0x4000_0002, EOWNERDEAD),
-    (TryLock, 0, 2, OK),
-    (TryLock, 0x4000_0000, 0x4000_0002, EOWNERDEAD),
-];
-
-#[test]
-fn who_takes_a_mutex_puts_it_on_the_list(rt: HostRuntime) -> Result<(), Fail> {
-    for (operation, cell, new, reply) in TAKEN {
-        let way = [
-            ANNOUNCED,
-            Step(Loads(10, cell), Goes),
-            Step(Exchanges(cell, new), Decides(operation, reply)),
-        ];
-        let end = [clears(reply)];
-        assert!(rt; takes(operation, &[&way, &LINKED_ALONE, &end])?);
-        assert!(rt; takes(operation, &[&way, &LINKED_IN_FRONT, &end])?);
+fn takes(operation: Operation, parts: &[&[Step]]) -> bool {
+    let Some(thread) = Tid::new(2) else {
+        return false;
+    };
+    let Ok(layout) = Layout::new(2, 2, &[]) else {
+        return false;
+    };
+    match Program::new(&layout, thread, 0, call(operation)) {
+        Ok(program) => makes(program, thread, parts),
+        Err(_) => false,
     }
-    Ok(())
 }
 
-/// An operation, the cell that it is refused, and the reply.
-const REFUSED: [(Operation, u64, Reply); 3] = [
-    (Lock, 2, EDEADLK),
-    (TryLock, 1, EBUSY),
-    (TryLock, 0x1_0000_0000, ENOTRECOVERABLE),
-];
+/// The place of the first call that makes others.
+fn first_wrong(calls: &[Call]) -> Option<usize> {
+    for (place, (operation, parts)) in calls.iter().enumerate() {
+        if !takes(*operation, *parts) {
+            return Some(place);
+        }
+    }
+    None
+}
 
-const LOST: [Step; 4] = [
+const LOCKS: [Step; 3] = [
     ANNOUNCED,
-    Step(Loads(10, 0x1_8000_0000), Decides(Lock, ENOTRECOVERABLE)),
-    Step(Wakes(10, 64, 3), Goes),
-    Step(Stores(6, 0), Returns(ENOTRECOVERABLE)),
+    Step(Loads(10, 0), Goes),
+    Step(Exchanges(0, 2), Decides(Lock, OK)),
+];
+
+const LOCKS_OWNER_DEAD: [Step; 3] = [
+    ANNOUNCED,
+    Step(Loads(10, 0x4000_0000), Goes),
+    Step(
+        Exchanges(0x4000_0000, 0x4000_0002),
+        Decides(Lock, EOWNERDEAD),
+    ),
+];
+
+const TRIES: [Step; 3] = [
+    ANNOUNCED,
+    Step(Loads(10, 0), Goes),
+    Step(Exchanges(0, 2), Decides(TryLock, OK)),
+];
+
+const TRIES_OWNER_DEAD: [Step; 3] = [
+    ANNOUNCED,
+    Step(Loads(10, 0x4000_0000), Goes),
+    Step(
+        Exchanges(0x4000_0000, 0x4000_0002),
+        Decides(TryLock, EOWNERDEAD),
+    ),
+];
+
+static TAKEN: [Call; 8] = [
+    (Lock, &[&LOCKS, &LINKED_ALONE, &[CLEARED]]),
+    (Lock, &[&LOCKS, &LINKED_IN_FRONT, &[CLEARED]]),
+    (
+        Lock,
+        &[&LOCKS_OWNER_DEAD, &LINKED_ALONE, &[CLEARED_OWNER_DEAD]],
+    ),
+    (
+        Lock,
+        &[&LOCKS_OWNER_DEAD, &LINKED_IN_FRONT, &[CLEARED_OWNER_DEAD]],
+    ),
+    (TryLock, &[&TRIES, &LINKED_ALONE, &[CLEARED]]),
+    (TryLock, &[&TRIES, &LINKED_IN_FRONT, &[CLEARED]]),
+    (
+        TryLock,
+        &[&TRIES_OWNER_DEAD, &LINKED_ALONE, &[CLEARED_OWNER_DEAD]],
+    ),
+    (
+        TryLock,
+        &[&TRIES_OWNER_DEAD, &LINKED_IN_FRONT, &[CLEARED_OWNER_DEAD]],
+    ),
 ];
 
 #[test]
-fn who_is_refused_a_mutex_only_clears_the_pending_entry(rt: HostRuntime) -> Result<(), Fail> {
-    for (operation, cell, reply) in REFUSED {
-        let steps = [
-            ANNOUNCED,
-            Step(Loads(10, cell), Decides(operation, reply)),
-            clears(reply),
-        ];
-        assert!(rt; takes(operation, &[&steps])?);
-    }
-    assert!(rt; takes(Lock, &[&LOST])?);
-    Ok(())
+fn who_takes_a_mutex_puts_it_on_the_list(rt: HostRuntime) {
+    assert!(rt; first_wrong(&TAKEN).is_none());
 }
 
-/// An own cell, and what a release flips in it.
-const OWN: [(u64, u64); 2] = [(2, 2), (0x4000_0002, 0x1_4000_0002)];
+static REFUSED: [Call; 4] = [
+    (
+        Lock,
+        &[&[
+            ANNOUNCED,
+            Step(Loads(10, 2), Decides(Lock, EDEADLK)),
+            Step(Stores(6, 0), Returns(EDEADLK)),
+        ]],
+    ),
+    (
+        TryLock,
+        &[&[
+            ANNOUNCED,
+            Step(Loads(10, 1), Decides(TryLock, EBUSY)),
+            Step(Stores(6, 0), Returns(EBUSY)),
+        ]],
+    ),
+    (
+        TryLock,
+        &[&[
+            ANNOUNCED,
+            Step(Loads(10, 0x1_0000_0000), Decides(TryLock, ENOTRECOVERABLE)),
+            Step(Stores(6, 0), Returns(ENOTRECOVERABLE)),
+        ]],
+    ),
+    (
+        Lock,
+        &[&[
+            ANNOUNCED,
+            Step(Loads(10, 0x1_8000_0000), Decides(Lock, ENOTRECOVERABLE)),
+            Step(Wakes(10, 64, 3), Goes),
+            Step(Stores(6, 0), Returns(ENOTRECOVERABLE)),
+        ]],
+    ),
+];
+
+#[test]
+fn who_is_refused_a_mutex_only_clears_the_pending_entry(rt: HostRuntime) {
+    assert!(rt; first_wrong(&REFUSED).is_none());
+}
+
+/// The mutex is the thread's own, as the unlock sees.
+const HOLDS: [Step; 2] = [Step(Loads(10, 2), Goes), ANNOUNCED];
+
+const HOLDS_INCONSISTENT: [Step; 2] = [Step(Loads(10, 0x4000_0002), Goes), ANNOUNCED];
+
+/// It is released, and nobody waits.
+const RELEASED: [Step; 2] = [Step(Flips(2, 2), Decides(Unlock, OK)), CLEARED];
+
+const RELEASED_INCONSISTENT: [Step; 2] = [
+    Step(Flips(0x1_4000_0002, 0x4000_0002), Decides(Unlock, OK)),
+    CLEARED,
+];
 
 const WOKEN: [Step; 3] = [
     Step(Flips(2, 0x8000_0002), Decides(Unlock, OK)),
     Step(Wakes(10, 1, 1), Goes),
-    Step(Stores(6, 0), Returns(OK)),
+    CLEARED,
 ];
 
-/// Nobody slept, and the cell was cleared, or not.
-const TRIMMED: [[Step; 4]; 2] = [
-    [
-        Step(Flips(2, 0x8000_0002), Decides(Unlock, OK)),
-        Step(Wakes(10, 1, 0), Goes),
-        Step(Is(Access::Trim { at: 10 }, Answer::Trimmed(true)), Goes),
-        Step(Stores(6, 0), Returns(OK)),
-    ],
-    [
-        Step(Flips(2, 0x8000_0002), Decides(Unlock, OK)),
-        Step(Wakes(10, 1, 0), Goes),
-        Step(Is(Access::Trim { at: 10 }, Answer::Trimmed(false)), Goes),
-        Step(Stores(6, 0), Returns(OK)),
-    ],
+/// Nobody slept, and the cell was cleared.
+const TRIMMED: [Step; 4] = [
+    Step(Flips(2, 0x8000_0002), Decides(Unlock, OK)),
+    Step(Wakes(10, 1, 0), Goes),
+    Step(Is(Access::Trim { at: 10 }, Answer::Trimmed(true)), Goes),
+    CLEARED,
 ];
 
-/// Whether an unlock of this cell unlinks the mutex so, and then releases it.
-fn unlinks(cell: u64, operand: u64, list: &[Step]) -> Result<bool, Fail> {
-    let way = [Step(Loads(10, cell), Goes), ANNOUNCED];
-    let rest = [Step(Flips(operand, cell), Decides(Unlock, OK)), clears(OK)];
-    takes(Unlock, &[&way, list, &rest])
-}
+/// Nobody slept, and the cell wasn't cleared.
+const NOT_TRIMMED: [Step; 4] = [
+    Step(Flips(2, 0x8000_0002), Decides(Unlock, OK)),
+    Step(Wakes(10, 1, 0), Goes),
+    Step(Is(Access::Trim { at: 10 }, Answer::Trimmed(false)), Goes),
+    CLEARED,
+];
+
+static UNLOCKED: [Call; 9] = [
+    (Unlock, &[&HOLDS, &UNLINKED_ALONE, &RELEASED]),
+    (Unlock, &[&HOLDS, &UNLINKED_BEHIND, &RELEASED]),
+    (Unlock, &[&HOLDS, &UNLINKED_IN_FRONT, &RELEASED]),
+    (
+        Unlock,
+        &[&HOLDS_INCONSISTENT, &UNLINKED_ALONE, &RELEASED_INCONSISTENT],
+    ),
+    (
+        Unlock,
+        &[
+            &HOLDS_INCONSISTENT,
+            &UNLINKED_BEHIND,
+            &RELEASED_INCONSISTENT,
+        ],
+    ),
+    (
+        Unlock,
+        &[
+            &HOLDS_INCONSISTENT,
+            &UNLINKED_IN_FRONT,
+            &RELEASED_INCONSISTENT,
+        ],
+    ),
+    (Unlock, &[&HOLDS, &UNLINKED_ALONE, &WOKEN]),
+    (Unlock, &[&HOLDS, &UNLINKED_ALONE, &TRIMMED]),
+    (Unlock, &[&HOLDS, &UNLINKED_ALONE, &NOT_TRIMMED]),
+];
 
 #[test]
-fn an_unlock_takes_the_entry_out_of_the_list_first(rt: HostRuntime) -> Result<(), Fail> {
-    for (cell, operand) in OWN {
-        assert!(rt; unlinks(cell, operand, &UNLINKED_ALONE)?);
-        assert!(rt; unlinks(cell, operand, &UNLINKED_BEHIND)?);
-        assert!(rt; unlinks(cell, operand, &UNLINKED_IN_FRONT)?);
-    }
-    assert!(rt; takes(Unlock, &[&HOLDS, &UNLINKED_ALONE, &WOKEN])?);
-    for trimmed in TRIMMED {
-        assert!(rt; takes(Unlock, &[&HOLDS, &UNLINKED_ALONE, &trimmed])?);
-    }
-    Ok(())
+fn an_unlock_takes_the_entry_out_of_the_list_first(rt: HostRuntime) {
+    assert!(rt; first_wrong(&UNLOCKED).is_none());
 }
-
-/// An operation that leaves the mutex with its owner, the cell that it meets, and the reply.
-const LEFT: [(Operation, u64, Reply); 3] = [
-    (Unlock, 1, EPERM),
-    (Consistent, 0x4000_0001, EPERM),
-    (Consistent, 2, EINVAL),
-];
 
 /// The declaration clears bit 30 alone.
 const DECLARED: [Step; 2] = [
@@ -187,53 +267,65 @@ const DECLARED: [Step; 2] = [
     ),
 ];
 
-#[test]
-fn who_neither_takes_nor_releases_leaves_the_list(rt: HostRuntime) -> Result<(), Fail> {
-    for (operation, cell, reply) in LEFT {
-        assert!(rt;
-            takes(
-                operation,
-                &[&[Step(Loads(10, cell), Ends(operation, reply))]]
-            )?
-        );
-    }
-    assert!(rt; takes(Consistent, &[&DECLARED])?);
-    Ok(())
-}
-
-const TOOK: [Step; 3] = [
-    ANNOUNCED,
-    Step(Loads(10, 0), Goes),
-    Step(Exchanges(0, 2), Decides(Lock, OK)),
+/// They leave the mutex with its owner.
+static LEFT: [Call; 4] = [
+    (Unlock, &[&[Step(Loads(10, 1), Ends(Unlock, EPERM))]]),
+    (
+        Consistent,
+        &[&[Step(Loads(10, 0x4000_0001), Ends(Consistent, EPERM))]],
+    ),
+    (
+        Consistent,
+        &[&[Step(Loads(10, 2), Ends(Consistent, EINVAL))]],
+    ),
+    (Consistent, &[&DECLARED]),
 ];
 
-const WAS_REFUSED: [Step; 2] = [ANNOUNCED, Step(Loads(10, 2), Decides(Lock, EDEADLK))];
+#[test]
+fn who_neither_takes_nor_releases_leaves_the_list(rt: HostRuntime) {
+    assert!(rt; first_wrong(&LEFT).is_none());
+}
 
-const HOLDS: [Step; 2] = [Step(Loads(10, 2), Goes), ANNOUNCED];
+const WAS_REFUSED: [Step; 2] = [ANNOUNCED, Step(Loads(10, 2), Decides(Lock, EDEADLK))];
 
 const ANNOUNCEMENT: Access = Access::Store { at: 6, value: 11 };
 
 const CLEARING: Access = Access::Store { at: 6, value: 0 };
 
-/// Whether a call that has made these accesses, and is answered no answer of this one, returns EFAULT.
-fn faults(operation: Operation, way: &[Step], access: Access) -> Result<bool, Fail> {
-    let fault = [Step(Is(access, Answer::Fault), Returns(EFAULT))];
-    let strange = [Step(Is(access, Answer::Exchanged), Returns(EFAULT))];
-    Ok(takes(operation, &[way, &fault])? && takes(operation, &[way, &strange])?)
+/// The accesses that a call has made, and the one that is answered a fault then.
+type Fault = (Operation, &'static [Step], Access);
+
+/// The place of the first call that doesn't return EFAULT where its access is answered no answer of it.
+fn first_without_fault(faults: &[Fault]) -> Option<usize> {
+    for (place, (operation, way, access)) in faults.iter().enumerate() {
+        for answer in [Answer::Fault, Answer::Exchanged] {
+            let fault = [Step(Is(*access, answer), Returns(EFAULT))];
+            if !takes(*operation, &[*way, &fault]) {
+                return Some(place);
+            }
+        }
+    }
+    None
 }
 
-#[test]
-fn a_fault_ends_a_lock_anywhere(rt: HostRuntime) -> Result<(), Fail> {
-    assert!(rt; faults(Lock, &[], ANNOUNCEMENT)?);
-    assert!(rt; faults(Lock, &[ANNOUNCED], Access::Load { at: 10 })?);
-    assert!(rt; faults(Lock, &TOOK, Access::Load { at: 4 })?);
-    assert!(rt; faults(Lock, &WAS_REFUSED, CLEARING)?);
-    Ok(())
-}
+static FAULTS_OF_LOCKS: [Fault; 4] = [
+    (Lock, &[], ANNOUNCEMENT),
+    (Lock, &[ANNOUNCED], Access::Load { at: 10 }),
+    (Lock, &LOCKS, Access::Load { at: 4 }),
+    (Lock, &WAS_REFUSED, CLEARING),
+];
 
 #[test]
-fn a_fault_ends_an_unlock_anywhere(rt: HostRuntime) -> Result<(), Fail> {
-    assert!(rt; faults(Unlock, &[Step(Loads(10, 2), Goes)], ANNOUNCEMENT)?);
-    assert!(rt; faults(Unlock, &HOLDS, Access::Load { at: 11 })?);
-    Ok(())
+fn a_fault_ends_a_lock_anywhere(rt: HostRuntime) {
+    assert!(rt; first_without_fault(&FAULTS_OF_LOCKS).is_none());
+}
+
+static FAULTS_OF_UNLOCKS: [Fault; 2] = [
+    (Unlock, &[Step(Loads(10, 2), Goes)], ANNOUNCEMENT),
+    (Unlock, &HOLDS, Access::Load { at: 11 }),
+];
+
+#[test]
+fn a_fault_ends_an_unlock_anywhere(rt: HostRuntime) {
+    assert!(rt; first_without_fault(&FAULTS_OF_UNLOCKS).is_none());
 }

@@ -1,0 +1,85 @@
+//! What calls do at their mutex's cell when an access is answered what it can't be answered.
+
+use crate::cell_calls::{DECLARATION, NOBODY_WOKEN, RELEASED, TRIM, takes};
+use crate::steps::Made::{Is, Loads};
+use crate::steps::Then::{Decides, Goes, Returns};
+use crate::steps::{ANSWERS, Step};
+use keys::Operation::{Consistent, Lock, TryLock, Unlock};
+use keys::{Access, Answer, Operation};
+use lockword::Reply::{EFAULT, ENOTRECOVERABLE};
+
+/// Such an access may be answered so. Any may be answered `Fault` too.
+fn is_answer(access: Access, answer: Answer) -> bool {
+    match access {
+        Access::Exchange { .. } => matches!(answer, Answer::Exchanged | Answer::Changed(_)),
+        Access::Wait { .. } => matches!(answer, Answer::Again | Answer::Woken),
+        Access::Wake { .. } => matches!(answer, Answer::Count(_)),
+        Access::Trim { .. } => matches!(answer, Answer::Trimmed(_)),
+        _ => matches!(answer, Answer::Value(_)),
+    }
+}
+
+/// A call that makes this access after those, and is answered what such an access isn't, returns EFAULT.
+fn faults(operation: Operation, way: &[Step], access: Access) -> bool {
+    for answer in ANSWERS {
+        let fault = [Step(Is(access, answer), Returns(EFAULT))];
+        if !is_answer(access, answer) && !takes(operation, &[way, &fault]) {
+            return false;
+        }
+    }
+    true
+}
+
+const LOAD: Access = Access::Load { at: 10 };
+
+/// An exchange of a free cell.
+const TAKE: Access = Access::Exchange {
+    at: 10,
+    expected: 0,
+    new: 2,
+};
+
+const SET_WAITERS: Access = Access::Exchange {
+    at: 10,
+    expected: 1,
+    new: 0x8000_0001,
+};
+
+const SLEEP: Access = Access::Wait {
+    at: 10,
+    expected: 0x8000_0001,
+};
+
+const RELEASE: Access = Access::FetchXor { at: 10, operand: 2 };
+
+/// An operation, the accesses that its call has made, and its next one.
+static NEXT_ACCESSES: [(Operation, &[Step], Access); 13] = [
+    (Lock, &[], LOAD),
+    (Lock, &[Step(Loads(10, 0), Goes)], TAKE),
+    (Lock, &[Step(Loads(10, 1), Goes)], SET_WAITERS),
+    (Lock, &[Step(Loads(10, 0x8000_0001), Goes)], SLEEP),
+    (
+        Lock,
+        &[Step(Loads(10, 0x1_8000_0000), Decides(Lock, ENOTRECOVERABLE))],
+        Access::Wake { at: 10, most: 64 },
+    ),
+    (TryLock, &[], LOAD),
+    (TryLock, &[Step(Loads(10, 0), Goes)], TAKE),
+    (Unlock, &[], LOAD),
+    (Unlock, &[Step(Loads(10, 2), Goes)], RELEASE),
+    (Unlock, &RELEASED, Access::Wake { at: 10, most: 1 }),
+    (Unlock, &NOBODY_WOKEN, TRIM),
+    (Consistent, &[], LOAD),
+    (
+        Consistent,
+        &[Step(Loads(10, 0x4000_0002), Goes)],
+        DECLARATION,
+    ),
+];
+
+#[test]
+fn an_answer_of_another_access_is_a_fault(rt: HostRuntime) {
+    for (operation, way, access) in &NEXT_ACCESSES {
+        assert!(rt; faults(*operation, *way, *access));
+    }
+}
