@@ -16,6 +16,9 @@ mod Beginnings
 mod Looks
 mod Trims
 mod OwnWords
+mod Counters
+mod ConditionSteps
+mod Acting
 mod Sections
 mod Walking
 mod Marking
@@ -37,3 +40,5 @@ mod Settling
 mod StepsOfCalls
 mod Releasing
 mod ReleaseSteps
+mod ConditionActs
+mod ConditionTurns

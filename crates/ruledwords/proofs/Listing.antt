@@ -67,7 +67,7 @@ keeps_on k t owns m op (Unlinking u d) w going came = came
 keeps_on k t owns m op (Clearing x) w going came = came
 keeps_on k t owns m op (Ended x) w going came = absurd going
 
-ends_so : (k : Layout') (t : ℕ) (owns : ℕ → Bool) (m : ℕ) (op : Operation) (f : Phase) (x : Reply) (w : ℕ → ℕ) → f ≡ Ended x → Arrives k t owns m op f w → HasList k t owns w
+pub ends_so : (k : Layout') (t : ℕ) (owns : ℕ → Bool) (m : ℕ) (op : Operation) (f : Phase) (x : Reply) (w : ℕ → ℕ) → f ≡ Ended x → Arrives k t owns m op f w → HasList k t owns w
 ends_so k t owns m op f x w is came = subst (λ (z : Phase). Arrives k t owns m op z w) is came
 
 -- ---- points
@@ -126,7 +126,7 @@ fault_never o n t operation.Signal permits = permits
 fault_never o n t operation.Broadcast permits = permits
 fault_never o n t operation.Death permits = permits
 
-owner_told : (t : ℕ) (o : Object) → o.owner ≡ Some t → is_thread t o.owner ≡ true
+pub owner_told : (t : ℕ) (o : Object) → o.owner ≡ Some t → is_thread t o.owner ≡ true
 owner_told t o e = ap (is_thread t) e ∙ eq-eqb t t refl
 
 -- ---- its own accesses

@@ -38,7 +38,7 @@ pub own_same : (k : Layout') (c : Card) (a : Access) → own_after k c a ≡ rec
 own_same k c (access.Store at v) = refl
 own_same k c a = refl
 
-card_own : (k : Layout') (c : Card) (a : Access) → IsCardOf k c → IsCardOf k (own_after k c a)
+pub card_own : (k : Layout') (c : Card) (a : Access) → IsCardOf k c → IsCardOf k (own_after k c a)
 card_own k c a is = subst (IsCardOf k) (sym (own_same k c a)) record { layout = is.layout; threads = is.threads; first = is.first; thread = is.thread; base = is.base; legal = is.legal }
 
 pub own_answers : (k : Layout') (p : Whole) (f : Phase) (c d : Card) (x : Answer) → IsOwnAccess f → d ≡ own_after k c (whole_access p) → x ≡ answer_on (whole_access p) (known k c) → Answers k p f c d x

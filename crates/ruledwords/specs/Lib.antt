@@ -9,9 +9,11 @@ pub mod Passes
 pub mod Looks
 pub mod Gathered
 pub mod Calls
+pub mod Conditions
 pub mod Walks
 pub mod Deaths
 pub mod Turns
+pub mod ConditionCalls
 pub mod Stretches
 pub mod Owing
 pub mod Releases

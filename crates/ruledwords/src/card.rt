@@ -14,7 +14,7 @@ pub struct Card {
     pub seen: LinkedList<LinkedList<Point>>,
     /// How many of its exchanges found a changed cell.
     pub misses: u64,
-    /// The cell's word that its last access to one found.
+    /// The word that its last access to a cell found, or its last look at a counter.
     pub last: u64,
     /// How many trims it has made.
     pub trims: u64,

@@ -4,14 +4,17 @@
 //! what a pass has *seen*: of each mutex a legal history, which grows with each call by the call's own point, and by other threads' points before it. Two passes that
 //! meet have *joined* what they saw. The calls run the same step programs ([`mutex`]) as the machine does.
 //! Each thread keeps its robust list in words that it alone writes: between its calls, of just the mutexes that it holds; and wherever it dies, the kernel would find them all.
-//! Whoever lets threads sleep runs a call itself, turn by turn ([`Running`]).
+//! Whoever lets threads sleep runs a call itself, turn by turn ([`Running`]; on a condition variable [`CondRunning`]).
 //!
 //! Nothing is claimed of the order between passes that never met, nor that a trylock is ever won.
 #![tactic(auto)]
 
+mod act;
 mod calls;
 mod card;
 mod close;
+mod condition_calls;
+mod condition_turn;
 mod death;
 mod fate;
 mod look;
@@ -34,6 +37,7 @@ mod turn;
 mod walk;
 
 pub use card::Card;
+pub use condition_turn::{CondRunning, CondTurn};
 pub use fate::{Fate, Never, either_stops};
 pub use outcome::{Outcome, Owed, Released, Wakes};
 pub use pass::{Dead, Last, Live, Pass, Reaped, Spent, Words};

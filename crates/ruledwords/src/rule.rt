@@ -33,6 +33,15 @@ impl Play<(), View> for Look {
     ghost then = { looked };
 }
 
+/// A load of a counter, by which nothing is seen anew.
+pub(crate) struct LookAtCounter;
+
+impl Play<(), View> for LookAtCounter {
+    ghost use Rattle.ruledwords.specs.Conditions.{looked_at_counter};
+
+    ghost then = { looked_at_counter };
+}
+
 /// A trim of a cell: an exchange from WAITERS alone to 0. Nothing is seen anew by it.
 pub(crate) struct Trim;
 

@@ -1,0 +1,615 @@
+-- What an access or a section of a call on a condition variable leaves: its thread's list, the count of what it holds, and what the next row needs.
+use Rattle.std.proofs.Common.{Bool, true, false, ◌≡◌, ◌≢◌, ◌⊎◌, ℕ, ◌+◌, ◌-◌, ◌^◌, ◌%◌, ◌<◌, ◌≤◌, ◌==◌, not, Option, Some, None, List, [], ◌∷◌, length, refl, sym, ap, ◌∙◌, subst, arith, eqb-true}
+use Rattle.std.specs.Prelude.{if◌then◌else◌, nat_lt}
+use Rattle.std.proofs.lemmas.Bool.{eqb-false}
+use mathlib.Core.Logic.{dite}
+use mathlib.Core.Path.{fun_ext}
+use native.Mathlib.Decide.{ℕ_discrete}
+use Rattle.lockword.specs.Cells.{fields_of}
+use Rattle.lockword.specs.declared.reply.Reply.{Reply}
+use Rattle.lockword.specs.declared.reply.Reply.TheVariants.{OK, EPERM, EFAULT, XFULL, XSTATE}
+use Rattle.keys.specs.declared.access.Access.{Access}
+use Rattle.keys.specs.declared.access.Access.TheVariants as access
+use Rattle.keys.specs.declared.access.Answer.{Answer}
+use Rattle.keys.specs.declared.access.Answer.TheVariants.{Again, Count, Counts as Moved, Stored, Value, Woken}
+use Rattle.keys.specs.declared.object.Object.{Object}
+use Rattle.keys.specs.declared.point.Operation.{Operation}
+use Rattle.keys.specs.declared.point.Operation.TheVariants as operation
+use Rattle.keys.specs.declared.point.Point.{Point}
+use Rattle.keys.specs.Accesses.{answer_at}
+use Rattle.keys.specs.Addresses.{address_from}
+use Rattle.keys.specs.Layouts.{Layout', base_of, address_in, cell_place, counter_place, place_in}
+use Rattle.keys.specs.Objects.{fresh, held_limit, object_of, Run}
+use Rattle.keys.proofs.Objects.{run_same}
+use Rattle.keys.proofs.Owners.{owner_of-some}
+use Rattle.mutex.proofs.Addresses.{again, few_words, low}
+use Rattle.robustlist.specs.declared.unlink.UnlinkRow.{UnlinkRow}
+use Rattle.robustlist.specs.declared.unlink.UnlinkRow.TheVariants as unlink_row
+use Rattle.robustlist.specs.Standings.{UnlinkStanding}
+use Rattle.robustlist.specs.Unlink.{unlink_access_of, unlink_moved, unlink_started}
+use Rattle.robustlist.specs.Words.{answer_on}
+use Rattle.mutex.specs.declared.consistent.ConsistentRow.TheVariants as consistent
+use Rattle.mutex.specs.declared.lock.LockRow.TheVariants as lock
+use Rattle.mutex.specs.declared.phase.Phase.{Phase}
+use Rattle.mutex.specs.declared.phase.Phase.TheVariants as phase
+use Rattle.mutex.specs.declared.row.Row.{Row}
+use Rattle.mutex.specs.declared.row.Row.TheVariants as row
+use Rattle.mutex.specs.declared.unlock.UnlockRow.TheVariants as unlock
+use Rattle.mutex.specs.Laws.{points}
+use Rattle.mutex.specs.Standings.{Standing, Whole}
+use Rattle.mutex.specs.Whole.{after_cell, retaking, whole_led, whole_moved, IsUnderWay, PhaseKnows as PhaseKnowsOf}
+use Rattle.mutex.specs.Whole.{unlinked_at as whole_unlinked_at}
+use Rattle.mutex.specs.WholeLists.{Arrives, AgreeOnOwn, HasList, IsCallOn, IsOwnPlace, IsThere, KeepsList}
+use Rattle.mutex.proofs.WholeLists.{right}
+use Rattle.condvar.specs.declared.broadcast.BroadcastRow.TheVariants as broadcast
+use Rattle.condvar.specs.declared.phase.CondOnward.{CondOnward}
+use Rattle.condvar.specs.declared.phase.CondPhase.{CondPhase}
+use Rattle.condvar.specs.declared.phase.CondPhase.TheVariants as condition
+use Rattle.condvar.specs.declared.row.CondRow.{CondRow}
+use Rattle.condvar.specs.declared.row.CondRow.TheVariants as cond
+use Rattle.condvar.specs.declared.row.Decided.{Decided}
+use Rattle.condvar.specs.declared.signal.SignalRow.TheVariants as signal
+use Rattle.condvar.specs.declared.wait.WaitRow.TheVariants as wait
+use Rattle.condvar.specs.Laws.{largest_counter}
+use Rattle.condvar.specs.Programs.{point_of}
+use Rattle.condvar.specs.Rows.{decides, ends, full, goes, IsGoing}
+use Rattle.condvar.specs.Standings.{CondWhole}
+use Rattle.condvar.specs.Whole.{cond_access, cond_led, from_words, onward, unlinked_at, PhaseKnows}
+use Rattle.ruledwords.specs.declared.card.Card.{Card}
+use Rattle.ruledwords.specs.Calls.{count_after, Made, OwnKept, Ready}
+use Rattle.ruledwords.specs.Cards.{at, value_at}
+use Rattle.ruledwords.specs.ConditionCalls.{CondFound, IsCondAnswerOf, IsCondStep, IsInCondCall}
+use Rattle.ruledwords.specs.Conditions.{cond_row_in, cond_standing, condition_at, list_phase, most_behind, release_of, unlock_of, CondReady, Counts, IsAtCondition, IsOnCondition, Meets, Needs}
+use Rattle.ruledwords.specs.Counts.{cell_at, mutex_at}
+use Rattle.ruledwords.specs.Lists.{known, or_zero, IsAlive, IsInCall}
+use Rattle.ruledwords.specs.Looks.{noted}
+use Rattle.ruledwords.specs.OwnWords.{own_after, owns_in}
+use Rattle.ruledwords.specs.Passes.{IsCardOf}
+use Rattle.ruledwords.specs.Seen.{by, count_held, held, held_after, holds, holds_after, Sees}
+use Rattle.ruledwords.specs.Turns.{IsLoadOrStore}
+use Rattle.ruledwords.proofs.Cards.{is_noted, still_card}
+use Rattle.ruledwords.proofs.Counts.{of_mutex}
+use Rattle.ruledwords.proofs.Held.{count_same, held_append, owner_held}
+use Rattle.ruledwords.proofs.Keepers.{other_cell}
+use Rattle.ruledwords.proofs.Listing.{call_noted, ends_so, goes_made, goes_own, owner_told}
+use Rattle.ruledwords.proofs.OwnTurns.{card_own, own_same}
+use Rattle.ruledwords.proofs.OwnWords.{own_place}
+use Rattle.ruledwords.proofs.Phases.{own_fits, own_moved, is_load_or_store}
+use Rattle.ruledwords.proofs.Standing.{held_made}
+use Rattle.ruledwords.specs.Calls.{row_in}
+
+-- ---- points by which its thread holds what it held
+
+abbrev IsNeutralOf : Operation → Type 0
+IsNeutralOf operation.Wait = Unit {0}
+IsNeutralOf operation.Signal = Unit {0}
+IsNeutralOf operation.Broadcast = Unit {0}
+IsNeutralOf op = ⊥
+
+abbrev IsNeutral : Option Decided → Type 0
+IsNeutral None = Unit {0}
+IsNeutral (Some d) = IsNeutralOf d.operation
+
+one_neutral : (b : Bool) (op : Operation) (x : Reply) → IsNeutralOf op → holds_after b op x ≡ b
+one_neutral b operation.Wait x neutral = refl
+one_neutral b operation.Signal x neutral = refl
+one_neutral b operation.Broadcast x neutral = refl
+one_neutral b operation.Lock x neutral = absurd neutral
+one_neutral b operation.TryLock x neutral = absurd neutral
+one_neutral b operation.Unlock x neutral = absurd neutral
+one_neutral b operation.Consistent x neutral = absurd neutral
+one_neutral b operation.Death x neutral = absurd neutral
+
+neutral_held : (b : Bool) (t z : ℕ) (d : Option Decided) → IsNeutral d → held_after b (points (point_of t z d)) ≡ b
+neutral_held b t z None neutral = refl
+neutral_held b t z (Some d) neutral = one_neutral b d.operation d.reply neutral
+
+one_counted : (n : ℕ) (op : Operation) (x : Reply) → IsNeutralOf op → Rattle.ruledwords.specs.Calls.count_by n op x ≡ n
+one_counted n operation.Wait x neutral = refl
+one_counted n operation.Signal x neutral = refl
+one_counted n operation.Broadcast x neutral = refl
+one_counted n operation.Lock x neutral = absurd neutral
+one_counted n operation.TryLock x neutral = absurd neutral
+one_counted n operation.Unlock x neutral = absurd neutral
+one_counted n operation.Consistent x neutral = absurd neutral
+one_counted n operation.Death x neutral = absurd neutral
+
+neutral_count : (n t z : ℕ) (d : Option Decided) → IsNeutral d → count_after n (point_of t z d) ≡ n
+neutral_count n t z None neutral = refl
+neutral_count n t z (Some d) neutral = one_counted n d.operation d.reply neutral
+
+-- what was seen of mutex m, without a point that changes what the thread holds
+module _ (k : Layout') (m : ℕ) (c d : Card) (new : List Point) (o : Object) (sees : Sees c (cell_place k m) new o d) (none : (b : Bool) → held_after b new ≡ b) where
+  holds_as : (p : ℕ) → holds d.thread (at d.seen p) ≡ holds c.thread (at c.seen p)
+  holds_as p = dite (ℕ_discrete p (cell_place k m))
+      (λ here.
+      ap (λ (t : ℕ). holds t (at d.seen p)) sees.thread
+      ∙ subst (λ (z : ℕ). holds c.thread (at d.seen z) ≡ holds c.thread (at c.seen z)) (sym here) (ap (held_after false) sees.own ∙ held_append false (by c.thread (at c.seen (cell_place k m))) new ∙ none _))
+      (λ other. ap (λ (t : ℕ). holds t (at d.seen p)) sees.thread ∙ ap (holds c.thread) (sees.elsewhere p other))
+
+  pub owns_as : (l : ℕ) → owns_in k d l ≡ owns_in k c l
+  owns_as l = holds_as (cell_place k l)
+
+  pub held_as : held d ≡ held c
+  held_as = ap (λ (t : ℕ). count_held t d.seen) sees.thread ∙ count_same c.thread d.seen c.seen (λ p. ap (λ (t : ℕ). holds t (at d.seen p)) (sym sees.thread) ∙ holds_as p)
+
+-- ---- its list
+
+-- who owns what it owned, and knows its own words as it knew them, is alive as it was
+module _ (k : Layout') (c d : Card) (is : IsCardOf k c) (m : ℕ) (inside : m < k.mutexes) (same : d.thread ≡ c.thread) (kept : OwnKept k c d) (owns : (l : ℕ) → owns_in k d l ≡ owns_in k c l) where
+  declaring : Whole
+  declaring = record { thread = c.thread; operation = operation.Consistent; head = Rattle.mutex.specs.WholeLists.head_in k c.thread; entry = Rattle.mutex.specs.WholeLists.entry_in k c.thread m; cell = address_in k c.thread (cell_place k m); phase = phase.AtCell (row.Consistent consistent.Declare) }
+
+  agree : AgreeOnOwn k c.thread (owns_in k c) (owns_in k d) (known k c) (known k d)
+  agree q own own' =
+      let below = (own_place k c q (is.first, is.thread) own).2 in
+      let back : place_in k c.thread (address_in k c.thread q) ≡ q = again k c.thread is.layout is.first is.thread q below in
+      ap (λ (v : Option ℕ). if nat_lt (address_in k c.thread q) (2 ^ 64) then or_zero v else 0)
+      (ap (value_at d.values) (ap (λ (u : ℕ). place_in k u (address_in k c.thread q)) same ∙ back) ∙ kept.agrees q own (subst (λ (u : ℕ). IsOwnPlace k u (owns_in k d) q) (sym same) own') ∙ ap (value_at c.values) (sym back))
+
+  pub alive_kept : IsAlive k c → IsAlive k d
+  alive_kept alive =
+      let list = alive.list in
+      let came : Arrives k c.thread (owns_in k d) m operation.Consistent (phase.Ended OK) (known k d) =
+      right.at_the_cell k c.thread (owns_in k c) (owns_in k d) m
+      record { thread = c.thread; operation = operation.Consistent; head = Rattle.mutex.specs.WholeLists.head_in k c.thread; entry = Rattle.mutex.specs.WholeLists.entry_in k c.thread m; cell = address_in k c.thread (cell_place k m); phase = phase.AtCell (row.Consistent consistent.Declare) }
+      (row.Consistent consistent.Declare) (Value 0) (known k c) (known k d) record { layout = is.layout; first = is.first; last = is.thread; mutex = inside } record { thread = refl; head = refl; entry = refl; cell = refl } refl
+      record { knows = (tt, tt); stands = (tt, refl); entries = list.entries; owned = list.owned; chain = list.chain; pending = list.pending }
+      record { here = owns m; elsewhere = λ l other. owns l; took = λ x some taken. absurd (cc taken); releases = tt; faultless = λ e. cc } agree in
+      record { knows = kept.knows alive.knows; list = subst (λ (t : ℕ). HasList k t (owns_in k d) (known k d)) (sym same) came }
+
+-- before its release a wait's list is as between calls, and so is a signal's and a broadcast's
+alive_at_load : (k : Layout') (c : Card) (m : ℕ) (p : Whole) → p.phase ≡ phase.AtCell (row.Unlock unlock.Load) → IsInCall k c m p → IsAlive k c
+alive_at_load k c m p is call =
+    let list = subst (λ (f : Phase). KeepsList k c.thread (owns_in k c) m p.operation f (known k c)) is call.list in
+    record { knows = call.knows; list = record { entries = list.entries; owned = list.owned; chain = list.chain; pending = list.pending } }
+
+-- ---- sections
+
+-- an own word has none
+no_section : (a : Access) (x : Answer) → IsLoadOrStore a → IsCondAnswerOf a x → ⊥
+no_section (access.Load at) x kind fits = fits
+no_section (access.Store at v) x kind fits = fits
+no_section a x kind fits = absurd kind
+
+pub unlink_no_section : (u : UnlinkStanding) (x : Answer) → IsCondAnswerOf (unlink_access_of u) x → ⊥
+unlink_no_section u x fits = no_section (unlink_access_of u) x (is_load_or_store (record { thread = 0; operation = operation.Unlock; head = 0; entry = 0; cell = 0; phase = phase.Unlinking u false }) tt) fits
+
+-- ---- where a call stands, by its parts
+
+module _ (k : Layout') (he en ce co t : ℕ) where
+  abbrev pub whole : CondPhase → CondWhole
+  whole f = record { thread = t; head = he; entry = en; cell = ce; counter = co; phase = f }
+
+  abbrev pub q : ℕ
+  q = condition_at k (whole (condition.Ended OK))
+
+  abbrev pub m : ℕ
+  m = mutex_at k q
+
+  -- where an answer leads from the card c to the card d: the call goes on, or its thread is as between calls
+  pub record Leads (c d : Card) (o : CondOnward) : Type 0 where
+    pub card : IsCardOf k d
+    pub thread : d.thread ≡ c.thread
+    pub count : held d ≡ count_after (held c) o.point
+    pub few : count_after (held c) o.point ≤ most_behind (cond_row_in o.phase)
+    pub goes : IsAtCondition o.phase → IsInCondCall k d (whole o.phase)
+    pub ends : (y : Reply) → o.phase ≡ condition.Ended y → IsAlive k d
+    pub locks : (l : Whole) → o.phase ≡ condition.Locking l → ⊥
+
+  module _ (c : Card) (is : IsCardOf k c) (on : IsOnCondition k q (cond_standing (whole (condition.Ended OK)))) (at_call : IsCallOn k c.thread m (unlock_of (whole (condition.Ended OK)))) (few : held c ≤ held_limit) where
+    in_layout : m < k.mutexes
+    in_layout = of_mutex k q is.layout on.inside
+
+    legal : (z : Object) × Run fresh (at c.seen (cell_at k q)) z
+    legal = let z = is.legal (cell_at k q) in (z.0, z.1.0)
+
+    calls : (d : Card) → d.thread ≡ c.thread → (f : CondPhase) → IsCallOn k d.thread m (unlock_of (whole f))
+    calls d same f = subst (λ (u : ℕ). IsCallOn k u m (unlock_of (whole f))) (sym same) record { thread = at_call.thread; head = at_call.head; entry = at_call.entry; cell = at_call.cell }
+
+    at_load : (d : Card) → d.thread ≡ c.thread → IsAlive k d → (f : CondPhase) → list_phase f ≡ phase.AtCell (row.Unlock unlock.Load) → IsInCall k d m (unlock_of (whole f))
+    at_load d same alive f is =
+        let list = alive.list in
+        record {
+          inside = in_layout;
+          knows = alive.knows;
+          of = calls d same f;
+          list = subst (λ (z : Phase). KeepsList k d.thread (owns_in k d) m operation.Unlock z (known k d)) (sym is)
+              record { knows = (tt, tt); stands = (tt, refl); entries = list.entries; owned = list.owned; chain = list.chain; pending = list.pending };
+        }
+
+    -- ---- a step by which the thread holds what it held, and whose list is as between calls before and after
+
+    module _ (d : Card) (card : IsCardOf k d) (same : d.thread ≡ c.thread) (held_same : held d ≡ held c) (alive : IsAlive k d) where
+      neutral_ends : (y : Reply) (by : Option Decided) → IsNeutral by → Leads c d record { phase = condition.Ended y; point = point_of t ce by }
+      neutral_ends y by neutral = record {
+        card = card;
+        thread = same;
+        count = held_same ∙ sym (neutral_count (held c) t ce by neutral);
+        few = subst (λ (n : ℕ). n ≤ held_limit) (sym (neutral_count (held c) t ce by neutral)) few;
+        goes = λ there. absurd there;
+        ends = λ z e. alive;
+        locks = λ l e. cc;
+      }
+
+      neutral_goes : (r : CondRow) (by : Option Decided) → IsNeutral by → IsGoing r → list_phase (condition.AtWords r) ≡ phase.AtCell (row.Unlock unlock.Load) → most_behind r ≡ held_limit → CondReady k q r d → Leads c d record { phase = condition.AtWords r; point = point_of t ce by }
+      neutral_goes r by neutral going at most ready = record {
+        card = card;
+        thread = same;
+        count = held_same ∙ sym (neutral_count (held c) t ce by neutral);
+        few = subst (λ (z : ℕ × ℕ). z.0 ≤ z.1) (λ i. (sym (neutral_count (held c) t ce by neutral) i, sym most i)) few;
+        goes = λ there. record { on = record { inside = on.inside; cell = on.cell; counter = on.counter }; knows = going; list = at_load d same alive (condition.AtWords r) at; ready = ready };
+        ends = λ z e. absurd (cc e);
+        locks = λ l e. cc;
+      }
+
+      announces : (seen : ℕ) → owns_in k d m ≡ true → CondReady k q (cond.Wait (wait.Release seen)) d → Leads c d record { phase = condition.Announcing seen; point = None }
+      announces seen own ready = let list = alive.list in record {
+        card = card;
+        thread = same;
+        count = held_same;
+        few = few;
+        goes = λ there. record {
+          on = record { inside = on.inside; cell = on.cell; counter = on.counter };
+          knows = tt;
+          list = record { inside = in_layout; knows = alive.knows; of = calls d same (condition.Announcing seen); list = record { knows = (tt, tt); stands = (tt, own, refl); entries = list.entries; owned = list.owned; chain = list.chain; pending = list.pending } };
+          ready = ready;
+        };
+        ends = λ z e. absurd (cc e);
+        locks = λ l e. cc;
+      }
+
+    -- ---- a step that sees more of the mutex
+
+    module _ (d : Card) (new : List Point) (o : Object) (sees : Sees c (cell_at k q) new o d) (none : (b : Bool) → held_after b new ≡ b) (kept : OwnKept k c d) (alive : IsAlive k c) where
+      card_then : IsCardOf k d
+      card_then = still_card k c (cell_at k q) new o d is sees
+
+      held_then : held d ≡ held c
+      held_then = held_as k m c d new o sees none
+
+      alive_then : IsAlive k d
+      alive_then = alive_kept k c d is m in_layout sees.thread kept (owns_as k m c d new o sees none) alive
+
+      seen_then : (z : Object) → Run fresh (at d.seen (cell_at k q)) z → z ≡ o
+      seen_then z run = run_same fresh z o (at d.seen (cell_at k q)) run sees.leaves.0
+
+      sees_ends : (y : Reply) (by : Option Decided) → IsNeutral by → Leads c d record { phase = condition.Ended y; point = point_of t ce by }
+      sees_ends y by neutral = neutral_ends d card_then sees.thread held_then alive_then y by neutral
+
+      sees_goes : (r : CondRow) (by : Option Decided) → IsNeutral by → IsGoing r → list_phase (condition.AtWords r) ≡ phase.AtCell (row.Unlock unlock.Load) → most_behind r ≡ held_limit → Needs d.thread r o (value_at d.values (counter_place k q)) → Leads c d record { phase = condition.AtWords r; point = point_of t ce by }
+      sees_goes r by neutral going at most needs = neutral_goes d card_then sees.thread held_then alive_then r by neutral going at most
+          (λ z run. subst (λ (x : Object). Needs d.thread r x (value_at d.values (counter_place k q))) (sym (seen_then z run)) needs)
+
+      sees_announces : (seen : ℕ) → o.owner ≡ Some d.thread → o.inconsistent ≡ false → Leads c d record { phase = condition.Announcing seen; point = None }
+      sees_announces seen own clean = announces d card_then sees.thread held_then alive_then seen
+          (owner_held d.thread fresh (at d.seen (cell_at k q)) o sees.leaves.0 ∙ owner_told d.thread o own)
+          (λ z run. subst (λ (x : Object). (x.owner ≡ Some d.thread) × (x.inconsistent ≡ false)) (sym (seen_then z run)) (own, clean))
+
+      -- the word said that its thread is the owner
+      owner_by_word : (w : ℕ) → o ≡ object_of (fields_of w) → (fields_of w).owner ≡ t → o.owner ≡ Some d.thread
+      owner_by_word w at_word own =
+          ap (λ (x : Object). x.owner) at_word ∙ ap Rattle.keys.specs.Objects.owner_of own ∙ owner_of-some t (subst (λ (u : ℕ). 1 ≤ u) (sym at_call.thread) is.first) ∙ ap Some (at_call.thread ∙ sym sees.thread)
+
+    -- ---- the first load
+
+    wait_neutral : (b e : Bool) → IsNeutral (if not b then ends operation.Wait EPERM else if e then ends operation.Wait XSTATE else goes (cond.Wait wait.LoadCounter)).decided
+    wait_neutral false e = tt
+    wait_neutral true true = tt
+    wait_neutral true false = tt
+
+    signal_neutral : (b : Bool) → IsNeutral (if not b then ends operation.Signal EPERM else goes (cond.Signal signal.LoadCounter)).decided
+    signal_neutral false = tt
+    signal_neutral true = tt
+
+    broadcast_neutral : (b : Bool) → IsNeutral (if not b then ends operation.Broadcast EPERM else goes (cond.Broadcast broadcast.LoadCounter)).decided
+    broadcast_neutral false = tt
+    broadcast_neutral true = tt
+
+    wait_meets : (n : ℕ) (d : Card) → IsAlive k c → Meets k q (cond_standing (whole (condition.AtWords (cond.Wait wait.LoadCell)))) c n d → Leads c d (cond_led (whole (condition.AtWords (cond.Wait wait.LoadCell))) (Value n))
+    wait_meets n d alive found = go ((fields_of n).owner == t) refl (fields_of n).died refl
+      where
+        none : (b : Bool) → held_after b (points (point_of c.thread (cell_at k q) (if not ((fields_of n).owner == t) then ends operation.Wait EPERM else if (fields_of n).died then ends operation.Wait XSTATE else goes (cond.Wait wait.LoadCounter)).decided)) ≡ b
+        none b = neutral_held b c.thread (cell_at k q) _ (wait_neutral ((fields_of n).owner == t) (fields_of n).died)
+
+        go : (b : Bool) → ((fields_of n).owner == t) ≡ b → (e : Bool) → (fields_of n).died ≡ e → Leads c d (from_words (whole (condition.AtWords (cond.Wait wait.LoadCell))) (if not b then ends operation.Wait EPERM else if e then ends operation.Wait XSTATE else goes (cond.Wait wait.LoadCounter)))
+        go false other e died = sees_ends d _ _ found.sees none found.kept alive EPERM (Some (record { operation = operation.Wait; reply = EPERM })) tt
+        go true own true died = sees_ends d _ _ found.sees none found.kept alive XSTATE (Some (record { operation = operation.Wait; reply = XSTATE })) tt
+        go true own false died = sees_goes d _ _ found.sees none found.kept alive (cond.Wait wait.LoadCounter) None tt tt refl refl (owner_by_word d _ _ found.sees none found.kept alive n refl (eqb-true (fields_of n).owner t own), died)
+
+    signal_meets : (n : ℕ) (d : Card) → IsAlive k c → Meets k q (cond_standing (whole (condition.AtWords (cond.Signal signal.LoadCell)))) c n d → Leads c d (cond_led (whole (condition.AtWords (cond.Signal signal.LoadCell))) (Value n))
+    signal_meets n d alive found = go ((fields_of n).owner == t) refl
+      where
+        none : (b : Bool) → held_after b (points (point_of c.thread (cell_at k q) (if not ((fields_of n).owner == t) then ends operation.Signal EPERM else goes (cond.Signal signal.LoadCounter)).decided)) ≡ b
+        none b = neutral_held b c.thread (cell_at k q) _ (signal_neutral ((fields_of n).owner == t))
+
+        go : (b : Bool) → ((fields_of n).owner == t) ≡ b → Leads c d (from_words (whole (condition.AtWords (cond.Signal signal.LoadCell))) (if not b then ends operation.Signal EPERM else goes (cond.Signal signal.LoadCounter)))
+        go false other = sees_ends d _ _ found.sees none found.kept alive EPERM (Some (record { operation = operation.Signal; reply = EPERM })) tt
+        go true own = sees_goes d _ _ found.sees none found.kept alive (cond.Signal signal.LoadCounter) None tt tt refl refl (owner_by_word d _ _ found.sees none found.kept alive n refl (eqb-true (fields_of n).owner t own))
+
+    broadcast_meets : (n : ℕ) (d : Card) → IsAlive k c → Meets k q (cond_standing (whole (condition.AtWords (cond.Broadcast broadcast.LoadCell)))) c n d → Leads c d (cond_led (whole (condition.AtWords (cond.Broadcast broadcast.LoadCell))) (Value n))
+    broadcast_meets n d alive found = go ((fields_of n).owner == t) refl
+      where
+        none : (b : Bool) → held_after b (points (point_of c.thread (cell_at k q) (if not ((fields_of n).owner == t) then ends operation.Broadcast EPERM else goes (cond.Broadcast broadcast.LoadCounter)).decided)) ≡ b
+        none b = neutral_held b c.thread (cell_at k q) _ (broadcast_neutral ((fields_of n).owner == t))
+
+        go : (b : Bool) → ((fields_of n).owner == t) ≡ b → Leads c d (from_words (whole (condition.AtWords (cond.Broadcast broadcast.LoadCell))) (if not b then ends operation.Broadcast EPERM else goes (cond.Broadcast broadcast.LoadCounter)))
+        go false other = sees_ends d _ _ found.sees none found.kept alive EPERM (Some (record { operation = operation.Broadcast; reply = EPERM })) tt
+        go true own = sees_goes d _ _ found.sees none found.kept alive (cond.Broadcast broadcast.LoadCounter) None tt tt refl refl (owner_by_word d _ _ found.sees none found.kept alive n refl (eqb-true (fields_of n).owner t own))
+
+    -- ---- at the counter
+
+    owner_then : (n : ℕ) (d : Card) (r : CondRow) (found : Counts k q (cond_standing (whole (condition.AtWords r))) c n d) → found.object.owner ≡ Some d.thread
+    owner_then n d r found = found.owner ∙ ap Some (sym found.sees.thread)
+
+    wait_counter : (n : ℕ) (d : Card) → IsAlive k c → CondReady k q (cond.Wait wait.LoadCounter) c → Counts k q (cond_standing (whole (condition.AtWords (cond.Wait wait.LoadCounter)))) c n d
+        → Leads c d (cond_led (whole (condition.AtWords (cond.Wait wait.LoadCounter))) (Value n))
+    wait_counter n d alive ready found = sees_announces d _ _ found.sees (λ b. refl) found.kept alive (n % 2 ^ 32) (owner_then n d (cond.Wait wait.LoadCounter) found)
+        (ap (λ (x : Object). x.inconsistent) (found.still legal.0 legal.1) ∙ (ready legal.0 legal.1).1)
+
+    signal_full : (b : Bool) → IsNeutral (if b then ends operation.Signal XFULL else goes (cond.Signal signal.Count)).decided
+    signal_full true = tt
+    signal_full false = tt
+
+    signal_counter : (n : ℕ) (d : Card) → IsAlive k c → Counts k q (cond_standing (whole (condition.AtWords (cond.Signal signal.LoadCounter)))) c n d → Leads c d (cond_led (whole (condition.AtWords (cond.Signal signal.LoadCounter))) (Value n))
+    signal_counter n d alive found = go (n == full) refl
+      where
+        none : (b : Bool) → held_after b (points (point_of c.thread (cell_at k q) (if n == full then ends operation.Signal XFULL else goes (cond.Signal signal.Count)).decided)) ≡ b
+        none b = neutral_held b c.thread (cell_at k q) _ (signal_full (n == full))
+
+        go : (b : Bool) → (n == full) ≡ b → Leads c d (from_words (whole (condition.AtWords (cond.Signal signal.LoadCounter))) (if b then ends operation.Signal XFULL else goes (cond.Signal signal.Count)))
+        go true is_full = sees_ends d _ _ found.sees none found.kept alive XFULL (Some (record { operation = operation.Signal; reply = XFULL })) tt
+        go false some_room = sees_goes d _ _ found.sees none found.kept alive (cond.Signal signal.Count) None tt tt refl refl (owner_then n d (cond.Signal signal.LoadCounter) found, (n, found.value, eqb-false n full some_room))
+
+    signal_count : (n : ℕ) (d : Card) → IsAlive k c → Counts k q (cond_standing (whole (condition.AtWords (cond.Signal signal.Count)))) c n d → Leads c d (cond_led (whole (condition.AtWords (cond.Signal signal.Count))) (Value n))
+    signal_count n d alive found = sees_goes d _ _ found.sees (λ b. refl) found.kept alive (cond.Signal signal.Wake) (Some (record { operation = operation.Signal; reply = OK })) tt tt refl refl tt
+
+    broadcast_full : (b : Bool) (seen : ℕ) → IsNeutral (if b then ends operation.Broadcast XFULL else goes (cond.Broadcast (broadcast.Count seen))).decided
+    broadcast_full true seen = tt
+    broadcast_full false seen = tt
+
+    broadcast_counter : (n : ℕ) (d : Card) → IsAlive k c → Counts k q (cond_standing (whole (condition.AtWords (cond.Broadcast broadcast.LoadCounter)))) c n d
+        → Leads c d (cond_led (whole (condition.AtWords (cond.Broadcast broadcast.LoadCounter))) (Value n))
+    broadcast_counter n d alive found = go (n == full) refl
+      where
+        little : n ≤ largest_counter
+        little = found.within
+
+        low : n % 2 ^ 32 ≡ n
+        low = let bound = little in omega arith
+
+        none : (b : Bool) → held_after b (points (point_of c.thread (cell_at k q) (if n == full then ends operation.Broadcast XFULL else goes (cond.Broadcast (broadcast.Count (n % 2 ^ 32)))).decided)) ≡ b
+        none b = neutral_held b c.thread (cell_at k q) _ (broadcast_full (n == full) (n % 2 ^ 32))
+
+        go : (b : Bool) → (n == full) ≡ b → Leads c d (from_words (whole (condition.AtWords (cond.Broadcast broadcast.LoadCounter))) (if b then ends operation.Broadcast XFULL else goes (cond.Broadcast (broadcast.Count (n % 2 ^ 32)))))
+        go true is_full = sees_ends d _ _ found.sees none found.kept alive XFULL (Some (record { operation = operation.Broadcast; reply = XFULL })) tt
+        go false some_room = sees_goes d _ _ found.sees none found.kept alive (cond.Broadcast (broadcast.Count (n % 2 ^ 32))) None tt tt refl refl
+            (owner_then n d (cond.Broadcast broadcast.LoadCounter) found, found.value ∙ ap Some (sym low), λ is_full. eqb-false n full some_room (sym low ∙ is_full))
+
+    broadcast_count : (seen n : ℕ) (d : Card) → IsAlive k c → CondReady k q (cond.Broadcast (broadcast.Count seen)) c → Counts k q (cond_standing (whole (condition.AtWords (cond.Broadcast (broadcast.Count seen))))) c n d
+        → Leads c d (cond_led (whole (condition.AtWords (cond.Broadcast (broadcast.Count seen)))) (Value n))
+    broadcast_count seen n d alive ready found =
+        let knew = (ready legal.0 legal.1).1 in
+        let is_seen : n ≡ seen = found.known seen knew in
+        let bound = found.within in
+        let next : (n + 1) % 18446744073709551616 ≡ seen + 1 = omega arith in
+        sees_goes d _ _ found.sees (λ b. refl) found.kept alive (cond.Broadcast (broadcast.SetWaiters seen)) (Some (record { operation = operation.Broadcast; reply = OK })) tt tt refl refl
+        (owner_then n d (cond.Broadcast (broadcast.Count seen)) found, found.value ∙ ap Some next)
+
+    -- ---- a setting of WAITERS
+
+    alive_noted : (n s : ℕ) → IsAlive k c → IsAlive k (noted c n s)
+    alive_noted n s alive = record { knows = record { each = alive.knows.each; offset = alive.knows.offset }; list = alive.list }
+
+    sets_waiters : (seen n : ℕ) (d : Card) → IsAlive k c → CondReady k q (cond.Broadcast (broadcast.SetWaiters seen)) c → d ≡ noted c n c.trims → Leads c d (cond_led (whole (condition.AtWords (cond.Broadcast (broadcast.SetWaiters seen)))) (Value n))
+    sets_waiters seen n d alive ready is_noted_so = subst (λ (z : Card). Leads c z (cond_led (whole (condition.AtWords (cond.Broadcast (broadcast.SetWaiters seen)))) (Value n))) (sym is_noted_so)
+        (neutral_goes (noted c n c.trims) (is_noted k c n c.trims is) refl refl (alive_noted n c.trims alive) (cond.Broadcast (broadcast.Move seen)) None tt tt refl refl ready)
+
+    -- ---- a release
+
+    abbrev pub releasing : ℕ → Standing
+    releasing seen = release_of (cond_standing (whole (condition.AtWords (cond.Wait (wait.Release seen)))))
+
+    abbrev behind_release : (seen : ℕ) (b : Bool) → Phase
+    behind_release seen b = after_cell (unlock_of (whole (condition.AtWords (cond.Wait (wait.Release seen))))) (if b then row.Unlock (unlock.Wake false) else row.Ended OK)
+
+    pub release_ready : (seen : ℕ) → CondReady k q (cond.Wait (wait.Release seen)) c → Ready (releasing seen) c
+    release_ready seen ready =
+        let there : ce ≡ Rattle.ruledwords.specs.Calls.address_at c (cell_at k q) = on.cell ∙ ap (λ (b : ℕ). address_from b (cell_at k q)) (ap (base_of k) at_call.thread ∙ sym is.base) in
+        let bound = few_words k c.thread is.layout is.first is.thread in
+        let inside = in_layout in
+        let small_cell : cell_at k q < 2 ^ 64 = omega arith in
+        let base : c.base ≤ 1000000000 = subst (λ (b : ℕ). b ≤ 1000000000) (sym is.base) (low k c.thread is.layout is.first is.thread) in
+        (at_call.thread, tt, λ z o small at_it run. let here : z ≡ cell_at k q = omega (arith, small_cell, small, at_it, there, base) in ready o (subst (λ (w : ℕ). Run fresh (at c.seen w) o) here run))
+
+    releases : (seen n : ℕ) (d : Card) → IsInCall k c m (unlock_of (whole (condition.AtWords (cond.Wait (wait.Release seen))))) → CondReady k q (cond.Wait (wait.Release seen)) c → Made (releasing seen) (cell_at k q) c n d → OwnKept k c d
+        → Leads c d (cond_led (whole (condition.AtWords (cond.Wait (wait.Release seen)))) (Value n))
+    releases seen n d call ready made kept = go (fields_of n).waiters refl
+      where
+        p : Whole
+        p = unlock_of (whole (condition.AtWords (cond.Wait (wait.Release seen))))
+
+        card_then' : IsCardOf k d
+        card_then' = still_card k c (cell_at k q) _ _ d is made.sees
+
+        clearing : (b : Bool) → IsInCall k d m (record { thread = t; operation = operation.Unlock; head = he; entry = en; cell = ce; phase = behind_release seen b }) → IsInCall k d m (unlock_of (whole (condition.AtWords (cond.Wait (wait.Sleep seen)))))
+        clearing true came = record {
+          inside = came.inside;
+          knows = came.knows;
+          of = record { thread = came.of.thread; head = came.of.head; entry = came.of.entry; cell = came.of.cell };
+          list = record { knows = tt; stands = tt; entries = came.list.entries; owned = came.list.owned; chain = came.list.chain; pending = came.list.pending };
+        }
+        clearing false came = came
+
+        under : (b : Bool) → IsUnderWay (behind_release seen b)
+        under true = tt
+        under false = tt
+
+        list_then : (b : Bool) → (fields_of n).waiters ≡ b → IsInCall k d m (unlock_of (whole (condition.AtWords (cond.Wait (wait.Sleep seen)))))
+        list_then b e = clearing b (subst (λ (z : Bool). IsInCall k d m (record { thread = t; operation = operation.Unlock; head = he; entry = en; cell = ce; phase = behind_release seen z })) e
+            (goes_made k c is m (unlock_of (whole (condition.AtWords (cond.Wait (wait.Release seen))))) call tt d n tt tt (release_ready seen ready) made kept (under (fields_of n).waiters)))
+
+        leads_to : (r : CondRow) → IsGoing r → list_phase (condition.AtWords r) ≡ phase.Clearing OK → most_behind r ≡ held_limit - 1 → ((o : Object) (v : Option ℕ) → Needs d.thread r o v) → (b : Bool) → (fields_of n).waiters ≡ b
+            → Leads c d record { phase = condition.AtWords r; point = point_of t ce (Some (record { operation = operation.Unlock; reply = OK })) }
+        leads_to r going at most needs b e = record {
+          card = card_then';
+          thread = made.sees.thread;
+          count = held_made (releasing seen) (cell_at k q) c d n tt tt (release_ready seen ready) made;
+          few = subst (λ (z : ℕ). held c - 1 ≤ z) (sym most) (omega arith);
+          goes = λ there. record {
+            on = record { inside = on.inside; cell = on.cell; counter = on.counter };
+            knows = going;
+            list = subst (λ (f : Phase). IsInCall k d m (record { thread = t; operation = operation.Unlock; head = he; entry = en; cell = ce; phase = f })) (sym at) (list_then b e);
+            ready = λ o run. needs o (value_at d.values (counter_place k q));
+          };
+          ends = λ z e. absurd (cc e);
+          locks = λ l e. cc;
+        }
+
+        go : (b : Bool) → (fields_of n).waiters ≡ b → Leads c d (from_words (whole (condition.AtWords (cond.Wait (wait.Release seen)))) (decides (if b then cond.Wait (wait.Wake seen) else cond.Wait (wait.Sleep seen)) operation.Unlock OK))
+        go true e = leads_to (cond.Wait (wait.Wake seen)) tt refl refl (λ o v. tt) true e
+        go false e = leads_to (cond.Wait (wait.Sleep seen)) tt refl refl (λ o v. tt) false e
+
+    -- ---- at its thread's own words
+
+    own_seen : (a : Access) (d : Card) → d ≡ own_after k c a → IsCardOf k d × (d.thread ≡ c.thread) × (held d ≡ held c) × (d.seen ≡ c.seen)
+    own_seen a d same =
+        let e : d ≡ record c { values = (own_after k c a).values } = same ∙ own_same k c a in
+        (subst (IsCardOf k) (sym same) (card_own k c a is), ap (λ (z : Card). z.thread) e, ap held e, ap (λ (z : Card). z.seen) e)
+
+    -- what a release needs is seen as before
+    release_still : (seen : ℕ) (a : Access) (d : Card) → d ≡ own_after k c a → CondReady k q (cond.Wait (wait.Release seen)) c → CondReady k q (cond.Wait (wait.Release seen)) d
+    release_still seen a d same ready o run =
+        let s = own_seen a d same in
+        subst (λ (u : ℕ). (o.owner ≡ Some u) × (o.inconsistent ≡ false)) (sym s.1) (ready o (subst (λ (x : List (List Point)). Run fresh (at x (cell_at k q)) o) s.3 run))
+
+    own_leads : (a : Access) (d : Card) (f : CondPhase) → d ≡ own_after k c a → most_behind (cond_row_in f) ≡ held_limit → (IsAtCondition f → IsInCondCall k d (whole f)) → IsAtCondition f → Leads c d (onward f)
+    own_leads a d f same most goes there = let s = own_seen a d same in record {
+      card = s.0;
+      thread = s.1;
+      count = s.2;
+      few = subst (λ (z : ℕ). held c ≤ z) (sym most) few;
+      goes = goes;
+      ends = λ y e. absurd (subst IsAtCondition e there);
+      locks = λ l e. subst IsAtCondition e there;
+    }
+
+    announced : (seen : ℕ) (d : Card) → IsInCall k c m (unlock_of (whole (condition.Announcing seen))) → CondReady k q (cond.Wait (wait.Release seen)) c → d ≡ own_after k c (cond_access (whole (condition.Announcing seen))) → Leads c d (cond_led (whole (condition.Announcing seen)) Stored)
+    announced seen d call ready same =
+        let came = subst (λ (z : Card). IsInCall k z m (unlock_of (whole (condition.Unlinking (unlink_started he en) seen)))) (sym same) (goes_own k c is m (unlock_of (whole (condition.Announcing seen))) call tt tt) in
+        own_leads (cond_access (whole (condition.Announcing seen))) d (condition.Unlinking (unlink_started he en) seen) same refl
+        (λ there. record { on = record { inside = on.inside; cell = on.cell; counter = on.counter }; knows = came.list.knows; list = came; ready = release_still seen (cond_access (whole (condition.Announcing seen))) d same ready }) tt
+
+    -- an unlink that is answered goes on, or is through
+    pub unlinks_on : (u : UnlinkStanding) (seen : ℕ) → IsInCall k c m (unlock_of (whole (condition.Unlinking u seen)))
+        → row_in (whole_unlinked_at (unlink_moved u (answer_on (unlink_access_of u) (known k c))) (unlink_moved u (answer_on (unlink_access_of u) (known k c))).row false) ≡ row.Unlock (unlock.Release false)
+    unlinks_on u seen call = ap (λ (z : Standing). z.row)
+        (own_moved (unlock_of (whole (condition.Unlinking u seen))) (answer_on (unlink_access_of u) (known k c)) tt call.list.knows (own_fits (unlink_access_of u) (known k c) (is_load_or_store (unlock_of (whole (condition.Unlinking u seen))) tt)))
+
+    unlinks : (u : UnlinkStanding) (seen : ℕ) (d : Card) → IsInCall k c m (unlock_of (whole (condition.Unlinking u seen))) → CondReady k q (cond.Wait (wait.Release seen)) c → d ≡ own_after k c (unlink_access_of u)
+        → Leads c d (cond_led (whole (condition.Unlinking u seen)) (answer_on (unlink_access_of u) (known k c)))
+    unlinks u seen d call ready same = by_row (unlink_moved u x).row (unlinks_on u seen call) came
+      where
+        p : Whole
+        p = unlock_of (whole (condition.Unlinking u seen))
+
+        x : Answer
+        x = answer_on (unlink_access_of u) (known k c)
+
+        came : IsUnderWay (whole_unlinked_at (unlink_moved u x) (unlink_moved u x).row false) → IsInCall k d m (record { thread = t; operation = operation.Unlock; head = he; entry = en; cell = ce; phase = whole_unlinked_at (unlink_moved u x) (unlink_moved u x).row false })
+        came under = subst (λ (z : Card). IsInCall k z m (record { thread = t; operation = operation.Unlock; head = he; entry = en; cell = ce; phase = whole_unlinked_at (unlink_moved u x) (unlink_moved u x).row false })) (sym same)
+            (goes_own k c is m (unlock_of (whole (condition.Unlinking u seen))) call tt under)
+
+        still : (v : UnlinkStanding) → IsInCall k d m (unlock_of (whole (condition.Unlinking v seen))) → Leads c d (onward (condition.Unlinking v seen))
+        still v list = own_leads (unlink_access_of u) d (condition.Unlinking v seen) same refl
+            (λ there. record { on = record { inside = on.inside; cell = on.cell; counter = on.counter }; knows = list.list.knows; list = list; ready = release_still seen (unlink_access_of u) d same ready }) tt
+
+        by_row : (r : UnlinkRow) → row_in (whole_unlinked_at (unlink_moved u x) r false) ≡ row.Unlock (unlock.Release false)
+            → (IsUnderWay (whole_unlinked_at (unlink_moved u x) r false) → IsInCall k d m (record { thread = t; operation = operation.Unlock; head = he; entry = en; cell = ce; phase = whole_unlinked_at (unlink_moved u x) r false }))
+            → Leads c d (onward (unlinked_at (unlink_moved u x) r seen))
+        by_row (unlink_row.Ended OK) at list = own_leads (unlink_access_of u) d (condition.AtWords (cond.Wait (wait.Release seen))) same refl
+            (λ there. record { on = record { inside = on.inside; cell = on.cell; counter = on.counter }; knows = tt; list = list tt; ready = release_still seen (unlink_access_of u) d same ready }) tt
+        by_row (unlink_row.Ended y) at list = absurd (cc at)
+        by_row unlink_row.LoadNext at list = still (unlink_moved u x) (list tt)
+        by_row (unlink_row.LoadPrevious a) at list = still (unlink_moved u x) (list tt)
+        by_row (unlink_row.StoreNext a b) at list = still (unlink_moved u x) (list tt)
+        by_row (unlink_row.StorePrevious a b) at list = still (unlink_moved u x) (list tt)
+
+    -- ---- any step
+
+    pub steps_on : (f : CondPhase) → IsAtCondition f → IsInCondCall k c (whole f) → IsCondStep (cond_access (whole f)) → (n : ℕ) (d : Card) → CondFound k (whole f) f c n d → Leads c d (cond_led (whole f) (answer_at (cond_access (whole f)) n))
+    steps_on (condition.AtWords (cond.Wait wait.LoadCell)) there call one n d found = wait_meets n d (alive_at_load k c m _ refl call.list) found
+    steps_on (condition.AtWords (cond.Wait wait.LoadCounter)) there call one n d found = wait_counter n d (alive_at_load k c m _ refl call.list) call.ready found
+    steps_on (condition.AtWords (cond.Wait (wait.Release seen))) there call one n d found = releases seen n d call.list call.ready found.0 found.1
+    steps_on (condition.AtWords (cond.Wait (wait.Wake seen))) there call one n d found = absurd one
+    steps_on (condition.AtWords (cond.Wait (wait.Sleep seen))) there call one n d found = absurd one
+    steps_on (condition.AtWords (cond.Signal signal.LoadCell)) there call one n d found = signal_meets n d (alive_at_load k c m _ refl call.list) found
+    steps_on (condition.AtWords (cond.Signal signal.LoadCounter)) there call one n d found = signal_counter n d (alive_at_load k c m _ refl call.list) found
+    steps_on (condition.AtWords (cond.Signal signal.Count)) there call one n d found = signal_count n d (alive_at_load k c m _ refl call.list) found
+    steps_on (condition.AtWords (cond.Signal signal.Wake)) there call one n d found = absurd one
+    steps_on (condition.AtWords (cond.Broadcast broadcast.LoadCell)) there call one n d found = broadcast_meets n d (alive_at_load k c m _ refl call.list) found
+    steps_on (condition.AtWords (cond.Broadcast broadcast.LoadCounter)) there call one n d found = broadcast_counter n d (alive_at_load k c m _ refl call.list) found
+    steps_on (condition.AtWords (cond.Broadcast (broadcast.Count seen))) there call one n d found = broadcast_count seen n d (alive_at_load k c m _ refl call.list) call.ready found
+    steps_on (condition.AtWords (cond.Broadcast (broadcast.SetWaiters seen))) there call one n d found = sets_waiters seen n d (alive_at_load k c m _ refl call.list) call.ready found.0
+    steps_on (condition.AtWords (cond.Broadcast (broadcast.Move seen))) there call one n d found = absurd one
+    steps_on (condition.AtWords cond.Awake) there call one n d found = absurd call.knows
+    steps_on (condition.AtWords (cond.Ended x)) there call one n d found = absurd call.knows
+    steps_on (condition.Announcing seen) there call one n d found = announced seen d call.list call.ready found.0
+    steps_on (condition.Unlinking u seen) there call one n d found = subst (λ (x : Answer). Leads c d (cond_led (whole (condition.Unlinking u seen)) x)) (sym found.1) (unlinks u seen d call.list call.ready found.0)
+    steps_on (condition.Locking w) there call one n d found = absurd there
+    steps_on (condition.Ended x) there call one n d found = absurd there
+
+    -- ---- any section
+
+    -- where its answer leads
+    pub record Answered (o : CondOnward) : Type 0 where
+      pub goes : IsAtCondition o.phase → IsInCondCall k c (whole o.phase)
+      pub locks : (l : Whole) → o.phase ≡ condition.Locking l → IsInCall k c m l
+      pub ends : (y : Reply) → o.phase ≡ condition.Ended y → IsAlive k c
+
+    replied : (y : Reply) → IsAlive k c → Answered (onward (condition.Ended y))
+    replied y alive = record { goes = λ there. absurd there; locks = λ l e. absurd (cc e); ends = λ z e. alive }
+
+    retakes : (seen : ℕ) → IsInCall k c m (unlock_of (whole (condition.AtWords (cond.Wait (wait.Sleep seen))))) → Answered (onward (condition.Locking (retaking t he en ce)))
+    retakes seen call = record {
+      goes = λ there. absurd there;
+      locks = λ l e. let same : retaking t he en ce ≡ l = cc e in subst (IsInCall k c m) same record {
+        inside = call.inside;
+        knows = call.knows;
+        of = record { thread = call.of.thread; head = call.of.head; entry = call.of.entry; cell = call.of.cell };
+        list = record { knows = (tt, tt); stands = (tt, refl); entries = call.list.entries; owned = call.list.owned; chain = call.list.chain; pending = call.list.pending };
+      };
+      ends = λ z e. absurd (cc e);
+    }
+
+    pub section_on : (f : CondPhase) → IsAtCondition f → IsInCondCall k c (whole f) → (x : Answer) → IsCondAnswerOf (cond_access (whole f)) x → Answered (cond_led (whole f) x)
+    section_on (condition.AtWords (cond.Wait wait.LoadCell)) there call x fits = absurd fits
+    section_on (condition.AtWords (cond.Wait wait.LoadCounter)) there call x fits = absurd fits
+    section_on (condition.AtWords (cond.Wait (wait.Release seen))) there call x fits = absurd fits
+    section_on (condition.AtWords (cond.Wait (wait.Wake seen))) there call (Count j) fits = record {
+      goes = λ there. record { on = record { inside = on.inside; cell = on.cell; counter = on.counter }; knows = tt; list = call.list; ready = λ o run. tt };
+      locks = λ l e. absurd (cc e);
+      ends = λ z e. absurd (cc e);
+    }
+    section_on (condition.AtWords (cond.Wait (wait.Wake seen))) there call x fits = absurd fits
+    section_on (condition.AtWords (cond.Wait (wait.Sleep seen))) there call Again fits = retakes seen call.list
+    section_on (condition.AtWords (cond.Wait (wait.Sleep seen))) there call Woken fits = retakes seen call.list
+    section_on (condition.AtWords (cond.Wait (wait.Sleep seen))) there call x fits = absurd fits
+    section_on (condition.AtWords (cond.Signal signal.LoadCell)) there call x fits = absurd fits
+    section_on (condition.AtWords (cond.Signal signal.LoadCounter)) there call x fits = absurd fits
+    section_on (condition.AtWords (cond.Signal signal.Count)) there call x fits = absurd fits
+    section_on (condition.AtWords (cond.Signal signal.Wake)) there call (Count j) fits = replied OK (alive_at_load k c m _ refl call.list)
+    section_on (condition.AtWords (cond.Signal signal.Wake)) there call x fits = absurd fits
+    section_on (condition.AtWords (cond.Broadcast broadcast.LoadCell)) there call x fits = absurd fits
+    section_on (condition.AtWords (cond.Broadcast broadcast.LoadCounter)) there call x fits = absurd fits
+    section_on (condition.AtWords (cond.Broadcast (broadcast.Count seen))) there call x fits = absurd fits
+    section_on (condition.AtWords (cond.Broadcast (broadcast.SetWaiters seen))) there call x fits = absurd fits
+    section_on (condition.AtWords (cond.Broadcast (broadcast.Move seen))) there call Again fits = replied OK (alive_at_load k c m _ refl call.list)
+    section_on (condition.AtWords (cond.Broadcast (broadcast.Move seen))) there call (Moved i j) fits = replied OK (alive_at_load k c m _ refl call.list)
+    section_on (condition.AtWords (cond.Broadcast (broadcast.Move seen))) there call x fits = absurd fits
+    section_on (condition.AtWords cond.Awake) there call x fits = absurd call.knows
+    section_on (condition.AtWords (cond.Ended y)) there call x fits = absurd call.knows
+    section_on (condition.Announcing seen) there call x fits = absurd fits
+    section_on (condition.Unlinking u seen) there call x fits = absurd (unlink_no_section u x fits)
+    section_on (condition.Locking w) there call x fits = absurd there
+    section_on (condition.Ended y) there call x fits = absurd there
