@@ -272,7 +272,7 @@ cond_noted k c n s p call = record { on = call.on; knows = call.knows; list = ca
 
 -- ---- a call begins
 
-condition_begun : (k : Layout') (c : Card) → IsCardOf k c → (cl : CondCall) → condition_of cl < length k.conditions → condition_at k (begins k c.thread cl) ≡ condition_of cl
+pub condition_begun : (k : Layout') (c : Card) → IsCardOf k c → (cl : CondCall) → condition_of cl < length k.conditions → condition_at k (begins k c.thread cl) ≡ condition_of cl
 condition_begun k c is cl low =
     let there : counter_place k (condition_of cl) < words_of k = omega arith in
     let back = again k c.thread is.layout is.first is.thread (counter_place k (condition_of cl)) there in

@@ -42,3 +42,5 @@ mod Releasing
 mod ReleaseSteps
 mod ConditionActs
 mod ConditionTurns
+mod ConditionStands
+mod ConditionKeeps

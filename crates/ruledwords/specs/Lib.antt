@@ -14,6 +14,7 @@ pub mod Walks
 pub mod Deaths
 pub mod Turns
 pub mod ConditionCalls
+pub mod ConditionStands
 pub mod Stretches
 pub mod Owing
 pub mod Releases

@@ -4,10 +4,14 @@ ghost use Rattle.keys.specs.Layouts.{cell_place, counter_place};
 ghost use Rattle.condvar.specs.Calls.{condition_of};
 ghost use Rattle.condvar.specs.Laws.{largest_counter};
 ghost use Rattle.condvar.specs.Whole.{begins};
+ghost use Rattle.condvar.specs.declared.call.CondCall.{CondCall};
+ghost use Rattle.ruledwords.specs.declared.pass.Live.{Live};
+ghost use Rattle.ruledwords.specs.declared.pass.Pass.{Pass};
 ghost use Rattle.ruledwords.specs.declared.pass.Words.{Words};
 ghost use Rattle.ruledwords.specs.Cards.{value_at};
 ghost use Rattle.ruledwords.specs.ConditionCalls.{cond_access_in, cond_call, cond_pass, cond_place_at, CondOnward, CondTurned, CondUnmoved, IsCondAnswerOf, IsCondRunningOf, IsCondStep, IsCondTurnOf};
 ghost use Rattle.ruledwords.specs.Conditions.{condition_at, Compares};
+ghost use Rattle.ruledwords.specs.ConditionStands.{CondKeeps, HasDiedInCondition, IsCondUnderWay};
 ghost use Rattle.ruledwords.specs.Counts.{cell_at};
 ghost use Rattle.ruledwords.specs.Passes.{card, layout_of, IsDying, IsLive};
 
@@ -28,6 +32,7 @@ impl CondRunning {
         ensures begins { cond_call result ≡ begins (layout_of words.now) (card pass).thread call }
         ensures pass { cond_pass result ≡ pass }
         ensures words { IsCondRunningOf words.now result }
+        ensures under_way { IsCondUnderWay words.now pass call result }
     {
         let program = CondProgram::new(&words.layout, pass.thread, call);
         CondRunning { pass, program }
@@ -61,6 +66,7 @@ impl CondRunning {
         requires step { IsCondStep (cond_access_in self) }
         ensures words { IsCondTurnOf words.now result }
         ensures turned { CondTurned (layout_of words.now) (cond_call self) (cond_pass self) result }
+        ensures keeps { CondKeeps words.now self result }
     {
         let CondRunning {
             mut pass,
@@ -99,6 +105,7 @@ impl CondRunning {
         requires { IsCondAnswerOf (cond_access_in self) answer }
         ensures onward { CondOnward (cond_call self) answer (cond_pass self) result }
         ensures words { (w : Words) → IsCondRunningOf w self → IsCondTurnOf w result }
+        ensures keeps { (w : Words) → CondKeeps w self result }
     {
         let CondRunning { pass, mut program } = self;
         match program.resume(answer) {
@@ -117,6 +124,7 @@ impl CondRunning {
     pub fn die(self) -> Pass<Dead>
         ensures card { card result ≡ card (cond_pass self) }
         ensures words { (w : Words) → IsCondRunningOf w self → IsDying w result }
+        ensures died { (w : Words) (a : Pass Live) (call : CondCall) → IsCondUnderWay w a call self → HasDiedInCondition w a call result }
     {
         let CondRunning { pass, program: _ } = self;
         pass.died()

@@ -10,6 +10,7 @@ use Rattle.ruledwords.specs.Conditions.{condition_at, IsAtCondition}
 use Rattle.ruledwords.specs.Counts.{mutex_at}
 use Rattle.ruledwords.specs.Passes.{card, layout_of}
 use Rattle.ruledwords.proofs.ConditionTurns.{at_condition, goes_answered, goes_under, has_lock, lives_answered, locks_answered, no_lock, returns_ended, section_room}
+use Rattle.ruledwords.proofs.ConditionKeeps.{ends_answered, keeps_answered, lock_answered, releases_answered}
 use Rattle.ruledwords.proofs.condition_turn.CondRunning.answer.Goals as goal
 
 pub invariant_of-result : goal.invariant_of-result
@@ -54,3 +55,33 @@ pub returns-in-Returns-clause-words : goal.returns-in-Returns-clause-words
 returns-in-Returns-clause-words c = λ w of.
     let led = cond_led c.args.self.program c.args.answer in
     (of.0, lives_answered w c.args.self of c.args.answer c.requires c.in-Returns.reply (returns_ended led.point led.phase c.resume.result c.in-Returns.reply c.in-Returns.point c.in-Returns.is c.resume.ensures.progress).0)
+
+pub returns-in-Some-clause-keeps : goal.returns-in-Some-clause-keeps
+returns-in-Some-clause-keeps c = λ w a cl u.
+    let r = c.args.self in
+    let p : CondWhole = r.program in
+    let led = cond_led p c.args.answer in
+    let locks : led.phase ≡ Locking c.in-Some.lock = ap (λ (z : CondWhole). z.phase) (sym c.resume.ensures.phase) ∙ has_lock c.resume.new.self.phase c.in-Some.lock (sym c.lock.ensures ∙ c.in-Some.is) in
+    let room = (section_room p.thread p.head p.entry p.cell p.counter p.phase r.there c.args.answer r.pass.held c.requires r.room).1 c.in-Some.lock locks in
+    let it = lock_answered w r u.0 a cl u c.args.answer c.requires c.in-Some.lock (sym room.1) in (
+      releases_answered w r u.0 a cl u c.args.answer c.requires c.in-Some.lock locks,
+      ((u.0.0, (mutex_at (layout_of w) (condition_at (layout_of w) p), locks_answered w r u.0 c.args.answer c.requires c.in-Some.lock locks)), it.0, it.1),
+    )
+
+pub returns-in-None-clause-keeps : goal.returns-in-None-clause-keeps
+returns-in-None-clause-keeps c = λ w a cl u.
+    let r = c.args.self in
+    let p : CondWhole = r.program in
+    let led = cond_led p c.args.answer in
+    let going = goes_under led.point led.phase c.resume.result c.in-Goes.point c.in-Goes.is c.resume.ensures.progress in
+    let to = c.resume.ensures.phase in
+    let same : led.phase ≡ c.resume.new.self.phase = ap (λ (z : CondWhole). z.phase) (sym to) in
+    let there = subst IsAtCondition same (at_condition led.phase going.0 (λ l e. no_lock c.resume.new.self.phase (sym c.lock.ensures ∙ c.in-None.is) l (sym same ∙ e))) in
+    let s = keeps_answered w r u.0 a cl u c.args.answer c.requires c.resume.new.self to there in
+    ((u.0.0, goes_answered w r u.0 c.args.answer c.requires c.resume.new.self to there), s.0, s.1)
+
+pub returns-in-Returns-clause-keeps : goal.returns-in-Returns-clause-keeps
+returns-in-Returns-clause-keeps c = λ w a cl u.
+    let led = cond_led c.args.self.program c.args.answer in
+    let ended = (returns_ended led.point led.phase c.resume.result c.in-Returns.reply c.in-Returns.point c.in-Returns.is c.resume.ensures.progress).0 in
+    ((u.0.0, lives_answered w c.args.self u.0 c.args.answer c.requires c.in-Returns.reply ended), ends_answered w c.args.self u.0 a cl u c.args.answer c.requires c.in-Returns.reply ended)
