@@ -1,5 +1,5 @@
 -- A call, and one more.
-use Rattle.std.proofs.Common.{◌≡◌, ◌≢◌, ◌∙◌, ℕ, ◌+◌, ◌<◌, Bool, true, false, Option, Some, List, [], ◌∷◌, ◌++◌, length, take, get_or, refl, sym, subst, arith}
+use Rattle.std.proofs.Common.{◌≡◌, ◌≢◌, ◌∙◌, ℕ, ◌+◌, ◌<◌, Bool, true, false, Option, Some, List, [], ◌∷◌, ◌++◌, length, take, get_or, refl, sym, subst}
 use Rattle.std.proofs.lemmas.List.{take_more}
 use Rattle.lockword.specs.declared.reply.Reply.{Reply}
 use Rattle.lockword.specs.declared.reply.Reply.TheVariants.{OK}
@@ -54,7 +54,3 @@ let_through says t u n k answer tells same at lets refuses =
     let said : answer ≡ false = tells false (subst (λ (z : ℕ × ℕ). says z.0 z.1 ≡ Some false) (λ i. (sym same i, sym at i)) refuses) in
     let bad : true ≡ false = sym lets ∙ said in
     absurd (cc bad)
-
--- a fate that told nobody to stop
-pub still : (n m k : ℕ) → n ≡ m + 0 → m ≡ k → n ≡ k
-still n m k asked so_far = omega (arith, asked, so_far)

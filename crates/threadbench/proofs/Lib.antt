@@ -4,4 +4,5 @@ mod Answers
 mod Sections
 mod Beginnings
 mod Turning
+mod Heeding
 pub mod Living

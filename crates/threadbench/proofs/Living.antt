@@ -1,4 +1,4 @@
--- Threads of jobs without a number.
+-- What becomes of the threads of jobs.
 use Rattle.std.proofs.Common.{◌≡◌, inl, ℕ, Bool, Option, None, Some, List, [], Vec, length, refl, sym, ap, subst, arith}
 use Rattle.std.specs.declared.alloc.Global.{Global}
 use Rattle.lockword.specs.declared.reply.Reply.{Reply}
@@ -12,18 +12,9 @@ use Rattle.threadbench.specs.declared.job.Record.{Record}
 use Rattle.threadbench.specs.declared.job.WorkerPass.{WorkerPass}
 use Rattle.threadbench.specs.declared.job.WorkerPass.TheVariants.{Lives, Reaped}
 use Rattle.threadbench.specs.Answered.{IsWorkerOf}
-use Rattle.threadbench.specs.Jobs.{HasNoWork, IsDone, IsDoneFrom, IsJobOf, IsLeftOf, LivesOn, Worked}
+use Rattle.threadbench.specs.Jobs.{HasNoWork, IsDone, IsDoneFrom, IsJobOf, IsLeftOf, Worked}
 
-unharmed : (w : Words) (says : ℕ → ℕ → Option Bool) (j : Job) (pass : WorkerPass) (r : Record) (after : WorkerPass) → IsDoneFrom w says j pass (record r { pass = after }) → LivesOn w pass → j.die ≡ None → LivesOn w after
-unharmed w says j (Lives a) r (Lives b) done lives none = done.0.stops.0
-unharmed w says j (Lives a) r (Reaped d) done lives none = absurd (subst (λ (n : Option ℕ). IsLeftOf n (Reaped d) r.die) none done.1)
-unharmed w says j (Reaped d) r after done lives none = absurd lives
-
--- they live
-pub lives_on : (w : Words) (says : ℕ → ℕ → Option Bool) (j : Job) (r : Record) → IsDone w says j r → LivesOn w j.pass → j.die ≡ None → LivesOn w r.pass
-lives_on w says j r done lives none = unharmed w says j j.pass r r.pass done lives none
-
--- and whoever lives or not, it is a worker of these words still
+-- whoever lives or not, it is a worker of these words still
 still_there : (w : Words) (says : ℕ → ℕ → Option Bool) (j : Job) (pass : WorkerPass) (r : Record) (after : WorkerPass) → IsDoneFrom w says j pass (record r { pass = after }) → IsWorkerOf w pass → IsWorkerOf w after
 still_there w says j (Lives a) r (Lives b) done of = done.0.stops.0
 still_there w says j (Lives a) r (Reaped d) done of = done.0.stops.0

@@ -1,5 +1,5 @@
 -- A call whose section was made.
-use Rattle.std.proofs.Common.{◌≡◌, ℕ, false, Some, sym, ap, ◌∙◌, subst}
+use Rattle.std.proofs.Common.{◌≡◌, ℕ, ◌+◌, false, sym, ap, ◌∙◌, subst, arith}
 use Rattle.std.specs.Prelude.{nat_le}
 use Rattle.lockword.specs.declared.reply.Reply.{Reply}
 use Rattle.lockword.specs.declared.reply.Reply.TheVariants.{OK}
@@ -14,17 +14,23 @@ use Rattle.ruledwords.specs.declared.card.Card.{Card}
 use Rattle.ruledwords.specs.declared.pass.Words.{Words}
 use Rattle.ruledwords.specs.declared.pass.Pass.{Pass}
 use Rattle.ruledwords.specs.declared.pass.Live.{Live}
+use Rattle.ruledwords.specs.declared.pass.Dead.{Dead}
 use Rattle.ruledwords.specs.declared.outcome.Outcome.{Outcome}
 use Rattle.ruledwords.specs.declared.outcome.Outcome.TheVariants as outcome
 use Rattle.ruledwords.specs.declared.outcome.Owed.{Owed}
 use Rattle.ruledwords.specs.declared.turn.Running.{Running}
+use Rattle.ruledwords.specs.declared.turn.Stretch.{Stretch}
+use Rattle.ruledwords.specs.declared.turn.Stretch.TheVariants as stretch
+use Rattle.ruledwords.specs.declared.turn.Turn.{Turn}
+use Rattle.ruledwords.specs.declared.turn.Turn.TheVariants as turn
 use Rattle.ruledwords.specs.Outcomes.{owed_pass}
 use Rattle.ruledwords.specs.Seen.{held}
-use Rattle.ruledwords.specs.Passes.{card, layout_of}
+use Rattle.ruledwords.specs.Passes.{card, layout_of, IsDying}
 use Rattle.ruledwords.specs.Calls.{IsOnMutex, Stands, row_in, standing_of}
-use Rattle.ruledwords.specs.Turns.{running_program, IsDecided, IsUnderWay, Unmoved}
+use Rattle.ruledwords.specs.Stretches.{Stretches, stops_stretching}
+use Rattle.ruledwords.specs.Turns.{running_pass, running_program, HasDied, HasSeenTheSame, IsDecided, IsRunningOf, IsTurnOf, IsUnderWay, Keeps, KeepsDecided, Unmoved}
 use Rattle.ruledwords.proofs.Noted.{seen_noted, seen_on, still_stands}
-use Rattle.threadbench.specs.Calls.{Locked, Paid, RanOut, RanOutDecided}
+use Rattle.threadbench.specs.Calls.{Locked, Paid, RanOut, RanOutDecided, Runs, stretch_of}
 use Rattle.threadbench.proofs.Beginnings.{picks_false}
 
 -- a call whose word was looked at is under way as it was
@@ -40,6 +46,38 @@ still_under_way w r r' a call m u =
 -- and decided as it was
 pub still_decided : (w : Words) (r r' : Running) (c : Card) (x : Reply) → Unmoved w r r' → IsDecided w c x r → IsDecided w c x r'
 still_decided w r r' c x m was = (m.0, ap (λ (p : Whole). decided (row_in p.phase)) m.1 ∙ was.1, seen_on c (card r.pass) (card r'.pass) was.2 (seen_noted (card r.pass) (card r'.pass) m.2))
+
+-- what it comes to from there it comes to from where it was
+pub stretches_still : (w : Words) (r r' : Running) (s : Stretch) → Unmoved w r r' → Stretches w r' s → Stretches w r s
+stretches_still w r r' s m on = (on.0, (λ a call u. on.1 a call (still_under_way w r r' a call m u)), (λ c x was. on.2 c x (still_decided w r r' c x m was)))
+
+-- ---- accesses, and more of them
+
+pub stretched_on : (w : Words) (r r' : Running) (s : Stretch) → Stretches w r (stretch.Goes r') → Stretches w r' s → Stretches w r s
+stretched_on w r r' s first more = (more.0, (λ a call u. more.1 a call (first.1 a call u)), (λ c x was. more.2 c x (first.2 c x was)))
+
+pub stays_there : (w : Words) (r : Running) → IsRunningOf w r → Stretches w r (stretch.Goes r)
+stays_there w r there = (there, (λ a call u. u), (λ c x was. was))
+
+-- an access in which nobody dies
+pub onward : (w : Words) (r : Running) (t : Turn) (s : Stretch) → s ≡ stretch_of t → IsTurnOf w t → Keeps w r t → KeepsDecided w r t → Stretches w r s
+onward w r (turn.Goes q) s is there keeps decided = subst (λ (z : Stretch). Stretches w r z) (sym is) (there, keeps, decided)
+onward w r (turn.Lives b x) s is there keeps decided = subst (λ (z : Stretch). Stretches w r z) (sym is) (tt, keeps, decided)
+
+pub nobody_told : (n : ℕ) (t : Turn) (s : Stretch) → s ≡ stretch_of t → n ≡ n + stops_stretching s
+nobody_told n (turn.Goes q) s is = subst (λ (z : Stretch). n ≡ n + stops_stretching z) (sym is) (omega arith)
+nobody_told n (turn.Lives b x) s is = subst (λ (z : Stretch). n ≡ n + stops_stretching z) (sym is) (omega arith)
+
+-- its thread dies there
+pub dies_there : (w : Words) (r : Running) (d : Pass Dead) → card d ≡ card (running_pass r) → ((w : Words) → IsRunningOf w r → IsDying w d) → ((w : Words) (a : Pass Live) (call : Call) → IsUnderWay w a call r → HasDied w a call d) → Stretches w r (stretch.Dead d)
+dies_there w r d same dying died = (tt, (λ a call u. died w a call u), (λ c x was. (dying w was.0, subst (λ (z : Card). HasSeenTheSame c z) (sym same) was.2)))
+
+-- a call that came to its end has run out
+pub ran_out : (w : Words) (r : Running) (b : Pass Live) (y : Reply) → Stretches w r (stretch.Lives b y) → Runs w r (outcome.Lives b y)
+ran_out w r b y came = (came.1, came.2)
+
+pub ran_dead : (w : Words) (r : Running) (d : Pass Dead) → Stretches w r (stretch.Dead d) → Runs w r (outcome.Dead d)
+ran_dead w r d came = (came.1, came.2)
 
 -- ---- calls that were run out
 

@@ -1,5 +1,5 @@
 -- What a thread's calls answered, one after the other, and what it ended as.
-use Rattle.std.specs.Prelude.{◌≡◌, ℕ, ◌+◌, ◌≤◌, List, [], ◌∷◌}
+use Rattle.std.specs.Prelude.{◌≡◌, ℕ, ◌+◌, ◌≤◌, ◌⊎◌, List, [], ◌∷◌}
 use Rattle.lockword.specs.declared.reply.Reply.{Reply}
 use Rattle.lockword.specs.declared.reply.Reply.TheVariants.{XRACED}
 use Rattle.keys.specs.Layouts.{Layout', cell_place}
@@ -54,7 +54,7 @@ abbrev pub IsWorkerOf : Words → WorkerPass → Type 0
 IsWorkerOf w (Lives p) = IsLive w p
 IsWorkerOf w (Reaped p) = IsPassOf w p
 
--- how often it died
-abbrev pub deaths_in : WorkerPass → ℕ
-deaths_in (Lives p) = 0
-deaths_in (Reaped p) = 1
+-- a worker's thread ended so, whose fate had said f times that it stops and has said it f' times now: it lives where the fate didn't say so, and died where it did, or where it was killed
+abbrev pub IsHeededIn : ℕ → ℕ → WorkerPass → Type 0
+IsHeededIn f f' (Lives p) = f' ≡ f
+IsHeededIn f f' (Reaped p) = (f' ≡ f + 1) ⊎ (f' ≡ f)

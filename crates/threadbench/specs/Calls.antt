@@ -1,5 +1,5 @@
 -- What calls answer that may sleep or wake.
-use Rattle.std.specs.Prelude.{ℕ, ◌≡◌}
+use Rattle.std.specs.Prelude.{ℕ, ◌≡◌, ◌+◌, ◌⊎◌}
 use Rattle.lockword.specs.declared.reply.Reply.{Reply}
 use Rattle.lockword.specs.declared.reply.Reply.TheVariants.{OK}
 use Rattle.keys.specs.declared.point.Operation.TheVariants as operation
@@ -12,7 +12,10 @@ use Rattle.ruledwords.specs.declared.outcome.Outcome.{Outcome}
 use Rattle.ruledwords.specs.declared.outcome.Outcome.TheVariants as outcome
 use Rattle.ruledwords.specs.declared.outcome.Owed.{Owed}
 use Rattle.ruledwords.specs.declared.turn.Running.{Running}
-use Rattle.ruledwords.specs.declared.turn.Turn.TheVariants.{Lives}
+use Rattle.ruledwords.specs.declared.turn.Stretch.{Stretch}
+use Rattle.ruledwords.specs.declared.turn.Stretch.TheVariants as stretch
+use Rattle.ruledwords.specs.declared.turn.Turn.{Turn}
+use Rattle.ruledwords.specs.declared.turn.Turn.TheVariants.{Goes, Lives}
 use Rattle.ruledwords.specs.Outcomes.{owed_pass, Takes, DiesTaking}
 use Rattle.ruledwords.specs.Passes.{card, layout_of, IsLive, IsDying}
 use Rattle.ruledwords.specs.Turns.{GoesOn, GoesOnDecided, HasDied, HasSeenTheSame, IsDecided, IsUnderWay}
@@ -40,3 +43,14 @@ RanOutDecided w c x (outcome.Dead d) = IsDying w d × HasSeenTheSame c (card d)
 -- wherever the call began, and whatever it was decided
 abbrev pub Runs : Words → Running → Outcome → Type 0
 Runs w r end = ((a : Pass Live) (call : Call) → IsUnderWay w a call r → RanOut w a call end) × ((c : Card) (x : Reply) → IsDecided w c x r → RanOutDecided w c x end)
+
+-- a call by the bench ended so, whose fate had said f times that the thread stops and has said it f' times now: the thread lives where the fate didn't say so, and dies where it did, or where the thread was
+-- killed
+abbrev pub IsHeeded : ℕ → ℕ → Outcome → Type 0
+IsHeeded f f' (outcome.Lives b r) = f' ≡ f
+IsHeeded f f' (outcome.Dead d) = (f' ≡ f + 1) ⊎ (f' ≡ f)
+
+-- an access in which nobody died
+abbrev pub stretch_of : Turn → Stretch
+stretch_of (Goes r) = stretch.Goes r
+stretch_of (Lives b x) = stretch.Lives b x

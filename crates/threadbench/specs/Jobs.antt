@@ -45,10 +45,9 @@ pub record Worked (w : Words) (says : ℕ → ℕ → Option Bool) (a : Card) (c
   pub let_through : (i : ℕ) → i < length replies → says a.thread (i + 1) ≢ Some false
   pub stops : StopsAs w (says a.thread) calls (length replies) last pass
 
--- only the thread of a job with a number dies; and where it lives, some of the number is left
+-- where a thread with a number lives, some of the number is left. Nothing is left where it died, by its number or by a kill, nor where there was none
 abbrev pub IsLeftOf : Option ℕ → WorkerPass → Option ℕ → Type 0
-IsLeftOf None (Lives p) left = left ≡ None
-IsLeftOf None (Reaped p) left = ⊥
+IsLeftOf None p left = left ≡ None
 IsLeftOf (Some n) (Lives p) left = left ≢ None
 IsLeftOf (Some n) (Reaped p) left = left ≡ None
 

@@ -5,3 +5,4 @@ pub mod Answered
 pub mod Jobs
 pub mod Ends
 pub mod Hands
+pub mod Kills

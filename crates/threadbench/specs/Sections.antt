@@ -3,6 +3,10 @@ use Rattle.std.specs.Prelude.{ℕ, ◌≡◌, ◌≢◌, ◌+◌, ◌%◌, ◌^�
 use Rattle.buckets.specs.Queues.{Sleepers, standing, Stands, StandsNowhere, Enqueues}
 use Rattle.keys.specs.Accesses.{Trims}
 use Rattle.ruledwords.specs.declared.card.Card.{Card}
+use Rattle.ruledwords.specs.declared.turn.Running.{Running}
+use Rattle.ruledwords.specs.Looks.{Finds}
+use Rattle.threadbench.specs.declared.section.Waited.{Waited}
+use Rattle.threadbench.specs.declared.section.Waited.TheVariants.{Asleep, Awake, Stopped}
 
 -- thread t falls asleep on key k: the word n that it saw has the expected low half, it stands in no queue, there is room, and it is put at the end of the key's queue
 pub record FallsAsleep (old new : Sleepers) (t k n e : ℕ) : Type 0 where
@@ -18,6 +22,27 @@ pub record StaysAwake (old new : Sleepers) (t n e : ℕ) : Type 0 where
 
 abbrev pub Waits : Sleepers → Sleepers → ℕ → ℕ → ℕ → ℕ → Bool → Type 0
 Waits old new t k n e slept = MatchBool slept (FallsAsleep old new t k n e) (StaysAwake old new t n e)
+
+-- a wait came to this. A thread that was told to stop doesn't wait, and nothing changes
+abbrev pub WaitsUnlessStopped : Sleepers → Sleepers → ℕ → ℕ → ℕ → ℕ → Waited → Type 0
+WaitsUnlessStopped old new t k n e Asleep = FallsAsleep old new t k n e
+WaitsUnlessStopped old new t k n e Awake = StaysAwake old new t n e
+WaitsUnlessStopped old new t k n e Stopped = new ≡ old
+
+-- it found the word n at the place q, unless it was told to stop
+abbrev pub FindsUnlessStopped : Card → ℕ → ℕ → Waited → Type 0
+FindsUnlessStopped c q n Stopped = Unit {0}
+FindsUnlessStopped c q n x = Finds c q n
+
+-- one that was told to stop has not looked at its word
+abbrev pub StaysIfStopped : Running → Running → Waited → Type 0
+StaysIfStopped r r' Stopped = r' ≡ r
+StaysIfStopped r r' x = Unit {0}
+
+-- how often its thread was told to stop
+abbrev pub stops_waiting : Waited → ℕ
+stops_waiting Stopped = 1
+stops_waiting x = 0
 
 -- a trim of a word on which these threads sleep, by a thread that knew c and knows d then: it is answered by the word that it found as a trim means it; it is made where nobody sleeps there, and
 -- else nothing was done

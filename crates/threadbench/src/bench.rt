@@ -6,6 +6,7 @@ ghost use Rattle.threadbench.specs.Jobs.{IsJobOf, AreDone};
 
 use crate::gate::Gate;
 use crate::job::{Job, Record};
+use crate::note::Note;
 use crate::parker::Parker;
 use crate::phase::Phase;
 use crate::room::push_in_room;
@@ -22,6 +23,9 @@ use std::thread::Threads;
 /// How many buckets a bench has. A word's key says in which of them its sleepers stand.
 pub(crate) const BUCKETS: usize = 256;
 
+/// How many ids a thread may have.
+const THREADS: usize = 64;
+
 /// The words of a layout's threads, and what their calls need to sleep and to wake.
 #[derive(Drop)]
 pub struct Bench {
@@ -30,6 +34,10 @@ pub struct Bench {
     pub(crate) buckets: Vec<CachePadded<Mutex<Bucket>>>,
     /// Where each thread sleeps, in the order of their ids.
     pub(crate) parkers: Vec<Parker>,
+    /// Who was killed: a note for each id that a thread may have.
+    pub(crate) notes: Vec<Note>,
+    /// Whoever looks for a sleeper in one bucket after the other holds it, so that nobody is moved meanwhile.
+    pub(crate) moves: Mutex<()>,
 }
 
 impl Model for Bench {
@@ -40,7 +48,7 @@ impl Model for Bench {
 
     ghost view = { λ b. b.words };
 
-    ghost invariant = { λ b. length b.buckets.items ≡ 256 };
+    ghost invariant = { λ b. (length b.buckets.items ≡ 256) × (length b.notes.items ≡ 64) };
 }
 
 impl Bench {
@@ -60,12 +68,15 @@ impl Bench {
     {
         let parkers = parkers(alloc, layout.threads())?;
         let buckets = buckets(alloc, layout.threads())?;
+        let notes = notes(alloc)?;
         let (words, passes) = Words::new(alloc, layout, presets)?;
         Ok((
             Bench {
                 words,
                 buckets,
                 parkers,
+                notes,
+                moves: Mutex::new(()),
             },
             passes,
         ))
@@ -122,6 +133,8 @@ impl Bench {
             words,
             buckets: _,
             parkers: _,
+            notes: _,
+            moves: _,
         } = self;
         words.close(pass)
     }
@@ -137,6 +150,8 @@ impl Bench {
             words,
             buckets: _,
             parkers: _,
+            notes: _,
+            moves: _,
         } = self;
         words.close_all(passes)
     }
@@ -151,6 +166,19 @@ fn parkers(alloc: Global, threads: u8) -> Result<Vec<Parker>, NoMem> {
         push_in_room(&mut parkers, Parker::new());
     }
     Ok(parkers)
+}
+
+/// A note for each id, by which nobody was killed.
+fn notes(alloc: Global) -> Result<Vec<Note>, NoMem>
+    ensures { IfOk result (λ v. length v.items ≡ 64) }
+{
+    let Ok(mut notes) = Vec::with_capacity(alloc, THREADS) else {
+        return Err(NoMem);
+    };
+    for _ in 0..THREADS {
+        push_in_room(&mut notes, Note::new());
+    }
+    Ok(notes)
 }
 
 /// Buckets where nobody stands, each with room for so many threads.

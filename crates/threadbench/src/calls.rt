@@ -3,9 +3,9 @@ ghost use Rattle.std.specs.Prelude.{◌≡◌, ◌+◌, ◌<◌, ◌≤◌, [], 
 ghost use Rattle.keys.specs.declared.point.Operation.TheVariants as operation;
 ghost use Rattle.mutex.specs.Calls.{mutex_of};
 ghost use Rattle.mutex.specs.declared.call.Call.TheVariants.{Unlock as UnlockOf};
-ghost use Rattle.ruledwords.specs.Outcomes.{stops_in};
 ghost use Rattle.ruledwords.specs.Passes.{card, layout_of, IsLive};
-ghost use Rattle.threadbench.specs.Answered.{CallEnds, deaths_in};
+ghost use Rattle.threadbench.specs.Answered.{CallEnds, IsHeededIn};
+ghost use Rattle.threadbench.specs.Calls.{IsHeeded};
 ghost use Rattle.threadbench.specs.Jobs.{IsJobOf, IsDone, IsLeftOf, Worked};
 
 use crate::bench::Bench;
@@ -28,7 +28,7 @@ fn unlock<R: Wait, F: Fate>(
     requires pass { IsLive bench.now pass }
     requires mutex { mutex < (layout_of bench.now).mutexes }
     ensures ends { CallEnds bench.now pass (UnlockOf mutex) result }
-    ensures fate { F.stopped fate.new ≡ F.stopped fate.old + stops_in result }
+    ensures fate { IsHeeded (F.stopped fate.old) (F.stopped fate.new) result }
 {
     match bench.words().release(pass, mutex, fate) {
         Released::Owes(owed) => bench.pay(rt, owed, fate),
@@ -47,7 +47,7 @@ fn answer<R: Wait, F: Fate>(
     requires pass { IsLive bench.now pass }
     requires mutex { mutex_of call < (layout_of bench.now).mutexes }
     ensures ends { CallEnds bench.now pass call result }
-    ensures fate { F.stopped fate.new ≡ F.stopped fate.old + stops_in result }
+    ensures fate { IsHeeded (F.stopped fate.old) (F.stopped fate.new) result }
 {
     match call {
         Call::Unlock(mutex) => unlock(rt, bench, pass, mutex, fate),
@@ -72,7 +72,7 @@ fn make_calls<R: Wait, G: Gate, F: Fate>(
     requires empty { room.items ≡ [] }
     requires room { length calls.now ≤ vec_capacity room }
     ensures worked { Worked bench.now (G.says gate.now) (card pass) calls.now result.1.items result.0 }
-    ensures fate { F.stopped fate.new ≡ F.stopped fate.old + deaths_in result.0 }
+    ensures fate { IsHeededIn (F.stopped fate.old) (F.stopped fate.new) result.0 }
 {
     let mut pass = pass;
     let mut replies = room;
@@ -98,7 +98,7 @@ fn make_calls<R: Wait, G: Gate, F: Fate>(
     (WorkerPass::Lives(pass), replies)
 }
 
-/// Makes calls, as far as the gate lets the thread, and until it dies before its access with the number, if there is one. There is room for the replies.
+/// Makes calls, as far as the gate lets the thread, and until it dies: before its access with the number, if there is one, or where it was killed. There is room for the replies.
 fn make_all<R: Wait, G: Gate>(
     rt: &R,
     bench: &Bench,

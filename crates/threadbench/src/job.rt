@@ -21,7 +21,7 @@ pub struct Job {
     /// On mutexes of the bench's layout. A thread that has died makes none of them.
     pub calls: Vec<Call>,
     /// The thread dies before its access with this number, from 1, counted over all its calls: each wait, wake and trim section counts too. 0 is read as 1. One without
-    /// a number lives.
+    /// a number lives, unless it is killed ([`Bench::kill`](crate::Bench::kill)).
     pub die: Option<u32>,
 }
 

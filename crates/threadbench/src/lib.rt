@@ -21,6 +21,8 @@ mod exit;
 mod gate;
 mod hand;
 mod job;
+mod kill;
+mod note;
 mod parker;
 mod phase;
 mod room;

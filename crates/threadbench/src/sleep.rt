@@ -1,26 +1,29 @@
 //! Calls that sleep, and those that wake.
 ghost use Rattle.std.specs.Prelude.{◌≡◌, ◌+◌, ◌<◌, ℕ};
 ghost use Rattle.keys.specs.declared.access.Access.TheVariants.{Wait as AtWait, Wake as AtWake, Trim as AtTrim};
+ghost use Rattle.ruledwords.specs.Fates.{Heeds};
 ghost use Rattle.ruledwords.specs.Outcomes.{IsOwedOf, stops_in};
 ghost use Rattle.ruledwords.specs.Passes.{layout_of, IsLive};
+ghost use Rattle.ruledwords.specs.Stretches.{Stretches, stops_stretching};
 ghost use Rattle.ruledwords.specs.Turns.{access_in, IsRunningOf, IsTurnOf, Keeps, KeepsDecided};
-ghost use Rattle.threadbench.specs.Calls.{Locked, Paid, Runs};
+ghost use Rattle.threadbench.specs.Calls.{Locked, Paid, Runs, IsHeeded, stretch_of};
 
 use crate::bench::{BUCKETS, Bench};
+use crate::note::Note;
 use crate::parker::Parker;
-use crate::section::{trim_in, wait_in, wake_in};
+use crate::section::{Waited, trim_in, wait_in, wake_in};
 use buckets::{Batch, Bucket};
 use crossbeam_utils::CachePadded;
 use keys::{Access, Answer, Key, bucket_of, key_of};
 use lockword::{Reply, Tid};
 use mutex::Call;
-use ruledwords::{Fate, Live, Outcome, Owed, Pass, Running, Stretch, Turn, Wakes};
+use ruledwords::{Fate, Live, Outcome, Owed, Pass, Running, Stretch, Turn, Wakes, either_stops};
 use std::sync::{Mutex, Wait};
 
 impl Bench {
     /// Takes a mutex, and sleeps while another thread owns it (pthread_mutex_lock). The reply is OK; EOWNERDEAD where its last owner died and nobody declared it consistent;
     /// ENOTRECOVERABLE where it can't be used any more; EDEADLK where the thread owns it already; XHELD, with no access, where the thread holds 2,048 mutexes. The fate is asked
-    /// before each access and each section, and the thread dies where it says so.
+    /// before each access and each section, and the thread dies where it says so, or where it was killed ([`Bench::kill`]).
     pub fn lock<R: Wait, F: Fate>(
         &self,
         rt: &R,
@@ -31,7 +34,7 @@ impl Bench {
         requires pass { IsLive self.now pass }
         requires mutex { mutex < (layout_of self.now).mutexes }
         ensures locked { Locked self.now mutex pass result }
-        ensures fate { F.stopped fate.new ≡ F.stopped fate.old + stops_in result }
+        ensures fate { IsHeeded (F.stopped fate.old) (F.stopped fate.new) result }
     {
         match Running::call(&self.words, pass, Call::Lock(mutex)) {
             Ok(running) => self.run(rt, running, fate),
@@ -40,16 +43,32 @@ impl Bench {
     }
 
     /// Ends an unlock: wakes whom it has to wake; where it finds nobody to wake, a word that says nothing but WAITERS becomes 0; and the thread's pending entry is cleared. The reply is OK. The fate is
-    /// asked before each access and each section, and the thread dies where it says so.
+    /// asked before each access and each section, and the thread dies where it says so, or where it was killed ([`Bench::kill`]).
     pub fn pay<R: Wait, F: Fate>(&self, rt: &R, owed: Owed, fate: &mut F) -> Outcome
         requires { IsOwedOf self.now owed }
         ensures paid { Paid self.now owed result }
-        ensures fate { F.stopped fate.new ≡ F.stopped fate.old + stops_in result }
+        ensures fate { IsHeeded (F.stopped fate.old) (F.stopped fate.new) result }
+    {
+        let mut note = self.note(owed.thread()).fate();
+        self.pay_on(rt, owed, fate, &mut note)
+    }
+
+    /// Ends an unlock. Its thread has two fates.
+    fn pay_on<R: Wait, F: Fate, N: Fate>(
+        &self,
+        rt: &R,
+        owed: Owed,
+        fate: &mut F,
+        note: &mut N,
+    ) -> Outcome
+        requires { IsOwedOf self.now owed }
+        ensures paid { Paid self.now owed result }
+        ensures fate { Heeds (F.stopped fate.old) (F.stopped fate.new) (N.stopped note.old) (N.stopped note.new) (stops_in result) }
     {
         if owed.wakes() != Wakes::Nobody {
-            return self.run(rt, Running::owed(owed), fate);
+            return self.run_on(rt, Running::owed(owed), fate, note);
         }
-        if fate.stops() {
+        if either_stops(fate, note) {
             return Outcome::Dead(owed.abandon());
         }
         match owed.settle(&self.words) {
@@ -62,63 +81,87 @@ impl Bench {
         }
     }
 
-    /// Runs a call to its end, or until its thread dies: as far as it makes steps on words, where it stands, and each section by itself.
+    /// Runs a call to its end, or until its thread dies.
     fn run<R: Wait, F: Fate>(&self, rt: &R, running: Running, fate: &mut F) -> Outcome
         requires { IsRunningOf self.now running }
         ensures runs { Runs self.now running result }
-        ensures fate { F.stopped fate.new ≡ F.stopped fate.old + stops_in result }
+        ensures fate { IsHeeded (F.stopped fate.old) (F.stopped fate.new) result }
+    {
+        let mut note = self.note(running.thread()).fate();
+        self.run_on(rt, running, fate, &mut note)
+    }
+
+    /// Runs a call to its end, or until one of its thread's fates ends it: as far as it makes steps on words, where it stands, and each section by itself.
+    fn run_on<R: Wait, F: Fate, N: Fate>(
+        &self,
+        rt: &R,
+        running: Running,
+        fate: &mut F,
+        note: &mut N,
+    ) -> Outcome
+        requires { IsRunningOf self.now running }
+        ensures runs { Runs self.now running result }
+        ensures fate { Heeds (F.stopped fate.old) (F.stopped fate.new) (N.stopped note.old) (N.stopped note.new) (stops_in result) }
     {
         let mut running = running;
         for _ in rt.forever() {
-            let next = match running.stretch(&self.words, fate) {
+            let next = match running.stretch(&self.words, fate, note) {
                 Stretch::Goes(next) => next,
                 Stretch::Lives(pass, reply) => return Outcome::Lives(pass, reply),
                 Stretch::Dead(pass) => return Outcome::Dead(pass),
             };
-            if fate.stops() {
+            if either_stops(fate, note) {
                 return Outcome::Dead(next.die());
             }
-            match self.turn(rt, next) {
-                Turn::Goes(next) => running = next,
-                Turn::Lives(pass, reply) => return Outcome::Lives(pass, reply),
+            match self.turn(rt, next, note) {
+                Stretch::Goes(next) => running = next,
+                Stretch::Lives(pass, reply) => return Outcome::Lives(pass, reply),
+                Stretch::Dead(pass) => return Outcome::Dead(pass),
             }
         }
         unreachable!()
     }
 
     /// Makes the access that comes next, a section under the bucket's lock or a step.
-    fn turn<R: Wait>(&self, rt: &R, running: Running) -> Turn
+    fn turn<R: Wait, N: Fate>(&self, rt: &R, running: Running, note: &mut N) -> Stretch
         requires { IsRunningOf self.now running }
-        ensures words { IsTurnOf self.now result }
-        ensures keeps { Keeps self.now running result }
-        ensures decided { KeepsDecided self.now running result }
+        ensures stretches { Stretches self.now running result }
+        ensures note { N.stopped note.new ≡ N.stopped note.old + stops_stretching result }
     {
         match running.next() {
-            Access::Wait { expected, .. } => self.wait(rt, running, expected),
-            Access::Wake { most, .. } => self.wake(rt, running, most),
-            Access::Trim { .. } => self.trim(rt, running),
-            _ => running.access(&self.words),
+            Access::Wait { expected, .. } => self.wait(rt, running, expected, note),
+            Access::Wake { most, .. } => onward(self.wake(rt, running, most)),
+            Access::Trim { .. } => onward(self.trim(rt, running)),
+            _ => onward(running.access(&self.words)),
         }
     }
 
-    /// Makes a wait, and sleeps where the word is the expected one.
-    fn wait<R: Wait>(&self, rt: &R, running: Running, expected: u32) -> Turn
+    /// Makes a wait, and sleeps where the word is the expected one. A thread whose note tells it to stop dies in place of that.
+    fn wait<R: Wait, N: Fate>(
+        &self,
+        rt: &R,
+        running: Running,
+        expected: u32,
+        note: &mut N,
+    ) -> Stretch
         requires words { IsRunningOf self.now running }
         requires wait { (at : ℕ) × (access_in running ≡ AtWait at expected) }
-        ensures words { IsTurnOf self.now result }
-        ensures keeps { Keeps self.now running result }
-        ensures decided { KeepsDecided self.now running result }
+        ensures stretches { Stretches self.now running result }
+        ensures note { N.stopped note.new ≡ N.stopped note.old + stops_stretching result }
     {
         let mut running = running;
         let key = key_of(running.place(&self.words));
         let mut bucket = self.bucket(key).lock(rt);
-        let sleeps = wait_in(&mut bucket, &mut running, &self.words, key, expected);
+        let waited = wait_in(&mut bucket, &mut running, &self.words, key, expected, note);
         drop(bucket);
-        if !sleeps {
-            return running.answer(Answer::Again);
+        match waited {
+            Waited::Asleep => {
+                self.sleep(rt, running.thread(), key);
+                onward(running.answer(Answer::Woken))
+            }
+            Waited::Awake => onward(running.answer(Answer::Again)),
+            Waited::Stopped => Stretch::Dead(running.die()),
         }
-        self.sleep(rt, running.thread(), key);
-        running.answer(Answer::Woken)
     }
 
     /// Makes a wake: wakes at most so many sleepers of the word.
@@ -180,8 +223,23 @@ impl Bench {
         &self.buckets[bucket_of(key, BUCKETS)]
     }
 
+    /// The note by which others kill the thread.
+    pub(crate) fn note(&self, thread: Tid) -> &Note {
+        &self.notes[usize::from(thread.get()) - 1]
+    }
+
     /// Where the thread sleeps; None where it isn't one of the bench's.
-    fn parker(&self, thread: Tid) -> Option<&Parker> {
+    pub(crate) fn parker(&self, thread: Tid) -> Option<&Parker> {
         self.parkers.get(usize::from(thread.get()) - 1)
+    }
+}
+
+/// What an access leads to in which nobody dies.
+fn onward(turn: Turn) -> Stretch
+    ensures { result ≡ stretch_of turn }
+{
+    match turn {
+        Turn::Goes(running) => Stretch::Goes(running),
+        Turn::Lives(pass, reply) => Stretch::Lives(pass, reply),
     }
 }

@@ -1,8 +1,9 @@
-use Rattle.std.proofs.Common.{rules, ◌+◌, vec_len, arith}
+use Rattle.std.proofs.Common.{rules, ◌+◌, ◌∙◌, vec_len, arith}
 use mathlib.Core.Logic.{dite}
 use native.Mathlib.Decide.{ℕ_discrete}
 use Rattle.ruledwords.specs.Passes.{card, layout_of}
-use Rattle.threadbench.proofs.Answers.{answered_next, let_through, still}
+use Rattle.threadbench.proofs.Answers.{answered_next, let_through}
+use Rattle.threadbench.proofs.Heeding.{heeded_in}
 use Rattle.threadbench.proofs.calls.make_calls.Goals as goal
 
 pub loop-call-preserved : goal.loop-call-preserved
@@ -20,5 +21,8 @@ loop-call-preserved g c =
       let_through = λ i low. dite (ℕ_discrete i (vec_len c.loop-call.replies))
           (λ here. let_through (g.G.Gate.says c.args.gate.now) _ (card c.args.pass).thread _ (i + 1) c.before-in-loop-call.result c.before-in-loop-call.ensures c.thread-thread.ensures (let n = c.len-number.ensures in omega (arith, n, here)) (search rules))
           (λ other. so_far.let_through i (omega (arith, len, low, other)));
-      fate = still _ _ _ c.in-Lives.ensures.fate so_far.fate;
+      fate = c.in-Lives.ensures.fate ∙ so_far.fate;
     }
+
+pub returns-in-Dead-clause-fate : goal.returns-in-Dead-clause-fate
+returns-in-Dead-clause-fate g c = heeded_in _ _ _ c.loop-call.invariant.fate c.in-Dead.ensures.fate

@@ -5,5 +5,8 @@ use Rattle.ruledwords.specs.Passes.{card, layout_of}
 use Rattle.ruledwords.specs.Turns.{running_pass}
 use Rattle.threadbench.proofs.section.wait_in.Goals as goal
 
-pub returns-clause-finds : goal.returns-clause-finds
-returns-clause-finds c = λ m on. subst (λ (n : ℕ). Finds (card (running_pass c.args.running.now)) (cell_place (layout_of c.args.words.now) m) n) (sym c.load-seen.ensures.last.0) (c.load-seen.ensures.finds m on)
+pub returns-then-compare_and_enqueue-clause-finds : goal.returns-then-compare_and_enqueue-clause-finds
+returns-then-compare_and_enqueue-clause-finds g c = λ m on. subst (λ (n : ℕ). Finds (card (running_pass c.args.running.now)) (cell_place (layout_of c.args.words.now) m) n) (sym c.load-seen.ensures.last.0) (c.load-seen.ensures.finds m on)
+
+pub returns-else-compare_and_enqueue-clause-finds : goal.returns-else-compare_and_enqueue-clause-finds
+returns-else-compare_and_enqueue-clause-finds g c = λ m on. subst (λ (n : ℕ). Finds (card (running_pass c.args.running.now)) (cell_place (layout_of c.args.words.now) m) n) (sym c.load-seen.ensures.last.0) (c.load-seen.ensures.finds m on)

@@ -1,11 +1,5 @@
-use Rattle.lockword.specs.declared.reply.Reply.TheVariants.{OK}
-use Rattle.ruledwords.specs.Outcomes.{owed_pass}
-use Rattle.ruledwords.specs.Passes.{card}
-use Rattle.threadbench.proofs.Turning.{ran_paid}
+use Rattle.threadbench.proofs.Heeding.{is_heeded}
 use Rattle.threadbench.proofs.bench.Bench.pay.Goals as goal
 
-pub returns-then-ne-clause-paid : goal.returns-then-ne-clause-paid
-returns-then-ne-clause-paid g c =
-    let w = c.args.self.now in
-    let decided = c.owed.ensures.decided w c.requires in
-    ran_paid w c.args.owed c.run.result (c.run.ensures.runs.1 (card (owed_pass c.args.owed)) OK decided)
+pub returns-clause-fate : goal.returns-clause-fate
+returns-clause-fate g c = is_heeded _ _ _ _ c.pay_on.result c.pay_on.ensures.fate

@@ -1,25 +1,29 @@
 use Rattle.std.proofs.Common.{subst}
 use Rattle.ruledwords.specs.declared.pass.Words.{Words}
+use Rattle.ruledwords.specs.declared.turn.Stretch.TheVariants as stretch
 use Rattle.ruledwords.specs.Turns.{Unmoved}
-use Rattle.threadbench.proofs.Turning.{still_under_way, still_decided}
+use Rattle.threadbench.proofs.Turning.{dies_there, onward, stretches_still}
 use Rattle.threadbench.proofs.bench.Bench.wait.Goals as goal
 
-pub returns-then-not-sleeps-clause-keeps : goal.returns-then-not-sleeps-clause-keeps
-returns-then-not-sleeps-clause-keeps g c = λ a call u.
-    let same = subst (λ (w : Words). Unmoved w c.args.running c.wait_in-sleeps.new.running) c.self.view_is c.wait_in-sleeps.ensures.unmoved in
-    c.answer.ensures.keeps c.args.self.now a call (still_under_way c.args.self.now c.args.running c.wait_in-sleeps.new.running a call same u)
+pub returns-in-Asleep-clause-stretches : goal.returns-in-Asleep-clause-stretches
+returns-in-Asleep-clause-stretches g c =
+    let w = c.args.self.now in
+    let r = c.wait_in-waited.new.running in
+    let same = subst (λ (w : Words). Unmoved w c.args.running r) c.self.view_is c.wait_in-waited.ensures.unmoved in
+    let on = onward w r c.answer.result c.onward.result c.onward.ensures (c.answer.ensures.words w same.0) (c.answer.ensures.keeps w) (c.answer.ensures.decided w) in
+    stretches_still w c.args.running r c.onward.result same on
 
-pub returns-then-not-sleeps-clause-decided : goal.returns-then-not-sleeps-clause-decided
-returns-then-not-sleeps-clause-decided g c = λ e x was.
-    let same = subst (λ (w : Words). Unmoved w c.args.running c.wait_in-sleeps.new.running) c.self.view_is c.wait_in-sleeps.ensures.unmoved in
-    c.answer.ensures.decided c.args.self.now e x (still_decided c.args.self.now c.args.running c.wait_in-sleeps.new.running e x same was)
+pub returns-in-Awake-clause-stretches : goal.returns-in-Awake-clause-stretches
+returns-in-Awake-clause-stretches g c =
+    let w = c.args.self.now in
+    let r = c.wait_in-waited.new.running in
+    let same = subst (λ (w : Words). Unmoved w c.args.running r) c.self.view_is c.wait_in-waited.ensures.unmoved in
+    let on = onward w r c.answer-in-Awake.result c.onward-in-Awake.result c.onward-in-Awake.ensures (c.answer-in-Awake.ensures.words w same.0) (c.answer-in-Awake.ensures.keeps w) (c.answer-in-Awake.ensures.decided w) in
+    stretches_still w c.args.running r c.onward-in-Awake.result same on
 
-pub returns-clause-keeps : goal.returns-clause-keeps
-returns-clause-keeps g c = λ a call u.
-    let same = subst (λ (w : Words). Unmoved w c.args.running c.wait_in-sleeps.new.running) c.self.view_is c.wait_in-sleeps.ensures.unmoved in
-    c.answer-2.ensures.keeps c.args.self.now a call (still_under_way c.args.self.now c.args.running c.wait_in-sleeps.new.running a call same u)
-
-pub returns-clause-decided : goal.returns-clause-decided
-returns-clause-decided g c = λ e x was.
-    let same = subst (λ (w : Words). Unmoved w c.args.running c.wait_in-sleeps.new.running) c.self.view_is c.wait_in-sleeps.ensures.unmoved in
-    c.answer-2.ensures.decided c.args.self.now e x (still_decided c.args.self.now c.args.running c.wait_in-sleeps.new.running e x same was)
+pub returns-in-Stopped-clause-stretches : goal.returns-in-Stopped-clause-stretches
+returns-in-Stopped-clause-stretches g c =
+    let w = c.args.self.now in
+    let r = c.wait_in-waited.new.running in
+    let same = subst (λ (w : Words). Unmoved w c.args.running r) c.self.view_is c.wait_in-waited.ensures.unmoved in
+    stretches_still w c.args.running r (stretch.Dead c.die.result) same (dies_there w r c.die.result c.die.ensures.card c.die.ensures.words c.die.ensures.died)
