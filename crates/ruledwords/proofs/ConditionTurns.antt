@@ -42,7 +42,7 @@ use Rattle.ruledwords.specs.declared.pass.Live.{Live}
 use Rattle.ruledwords.specs.Calls.{count_after}
 use Rattle.ruledwords.specs.ConditionCalls.{cond_access_in, cond_place_at, FindsCondWord, IsCondAnswerOf, IsCondRunningOf, IsCondStep, IsInCondCall}
 use Rattle.ruledwords.specs.Conditions.{cond_row_in, cond_standing, condition_at, most_behind, unlock_of, Compares, CondReady, IsAtCondition, IsOnCondition}
-use Rattle.ruledwords.specs.Counts.{mutex_at}
+use Rattle.ruledwords.specs.Counts.{cell_at, mutex_at}
 use Rattle.ruledwords.specs.Lists.{IsAlive, IsInCall}
 use Rattle.ruledwords.specs.Looks.{noted}
 use Rattle.ruledwords.specs.Passes.{card, layout_of, IsCardOf, IsPassOf, IsLive}
@@ -269,6 +269,55 @@ compared_at w r of compares =
 
 pub cond_noted : (k : Layout') (c : Card) (n s : ℕ) (p : CondWhole) → IsInCondCall k c p → IsInCondCall k (noted c n s) p
 cond_noted k c n s p call = record { on = call.on; knows = call.knows; list = call_noted k c n s (mutex_at k (condition_at k p)) (unlock_of p) call.list; ready = call.ready }
+
+-- ---- a move
+
+-- the address to which an access moves sleepers
+abbrev pub target_of : Access → Option ℕ
+target_of (access.CmpRequeue from e n to j) = Some to
+target_of a = None
+
+-- a move is to the mutex's cell
+row_moves : (t cell counter to : ℕ) (r : CondRow) → target_of (row_access t cell counter r) ≡ Some to → to ≡ cell
+row_moves t cell counter to (cond.Broadcast (broadcast.Move seen)) is = sym (cc is)
+row_moves t cell counter to (cond.Wait (wait.Sleep seen)) is = absurd (cc is)
+row_moves t cell counter to (cond.Wait wait.LoadCell) is = absurd (cc is)
+row_moves t cell counter to (cond.Wait wait.LoadCounter) is = absurd (cc is)
+row_moves t cell counter to (cond.Wait (wait.Release seen)) is = absurd (cc is)
+row_moves t cell counter to (cond.Wait (wait.Wake seen)) is = absurd (cc is)
+row_moves t cell counter to (cond.Signal signal.LoadCell) is = absurd (cc is)
+row_moves t cell counter to (cond.Signal signal.LoadCounter) is = absurd (cc is)
+row_moves t cell counter to (cond.Signal signal.Count) is = absurd (cc is)
+row_moves t cell counter to (cond.Signal signal.Wake) is = absurd (cc is)
+row_moves t cell counter to (cond.Broadcast broadcast.LoadCell) is = absurd (cc is)
+row_moves t cell counter to (cond.Broadcast broadcast.LoadCounter) is = absurd (cc is)
+row_moves t cell counter to (cond.Broadcast (broadcast.Count seen)) is = absurd (cc is)
+row_moves t cell counter to (cond.Broadcast (broadcast.SetWaiters seen)) is = absurd (cc is)
+row_moves t cell counter to cond.Awake is = absurd (cc is)
+row_moves t cell counter to (cond.Ended x) is = absurd (cc is)
+
+own_moves_none : (a : Access) → IsLoadOrStore a → target_of a ≡ None
+own_moves_none (access.Load at) kind = refl
+own_moves_none (access.Store at v) kind = refl
+own_moves_none a kind = absurd kind
+
+moves_there : (p : CondWhole) (f : CondPhase) (to : ℕ) → IsAtCondition f → target_of (phase_access p f) ≡ Some to → to ≡ p.cell
+moves_there p (condition.AtWords r) to there is = row_moves p.thread p.cell p.counter to r is
+moves_there p (condition.Announcing seen) to there is = absurd (cc is)
+moves_there p (condition.Unlinking u seen) to there is =
+    let none = own_moves_none (unlink_access_of u) (is_load_or_store (record { thread = 0; operation = operation.Unlock; head = 0; entry = 0; cell = 0; phase = phase.Unlinking u false }) tt) in
+    let bad : None ≡ Some to = sym none ∙ is in absurd (cc bad)
+moves_there p (condition.Locking w) to there is = absurd there
+moves_there p (condition.Ended x) to there is = absurd there
+
+pub moved_to : (w : Words) (r : CondRunning) → IsCondRunningOf w r → (to : ℕ) {from e n j : ℕ} → cond_access r.program ≡ access.CmpRequeue from e n to j → {place : ℕ} → place ≡ place_in (layout_of w) r.pass.thread to → place ≡ cell_at (layout_of w) (condition_at (layout_of w) r.program)
+moved_to w r of to is there =
+    let k = layout_of w in
+    let c : Card = card r.pass in
+    let z : ℕ = condition_at k r.program in
+    let inside = of_mutex k z of.0.1.layout of.1.on.inside in
+    let low : cell_at k z < words_of k = omega arith in
+    there ∙ (λ i. place_in k (sym r.pass.own i) ((moves_there r.program r.program.phase to r.there (ap target_of is) ∙ of.1.on.cell ∙ ap (λ (t : ℕ). address_in k t (cell_at k z)) r.mine) i)) ∙ again k c.thread of.0.1.layout of.0.1.first of.0.1.thread (cell_at k z) low
 
 -- ---- a call begins
 

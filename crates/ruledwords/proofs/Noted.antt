@@ -1,5 +1,5 @@
 -- Calls whose thread has seen no more of any mutex since.
-use Rattle.std.proofs.Common.{◌≡◌, ℕ, List, Option, refl, sym, ap, ◌∙◌, subst}
+use Rattle.std.proofs.Common.{◌≡◌, ℕ, List, [], ◌∷◌, ◌++◌, Option, refl, sym, ap, ◌∙◌, subst, append_assoc}
 use Rattle.facts.specs.Lives.{Act}
 use Rattle.keys.specs.declared.point.Operation.{Operation}
 use Rattle.mutex.specs.declared.row.Row.{Row}
@@ -8,7 +8,12 @@ use Rattle.mutex.specs.Standings.{Standing}
 use Rattle.ruledwords.specs.declared.card.Card.{Card}
 use Rattle.ruledwords.specs.Calls.{acts, Stands}
 use Rattle.ruledwords.specs.Looks.{KnowsTheSame}
-use Rattle.ruledwords.specs.Seen.{Called}
+use Rattle.lockword.specs.declared.reply.Reply.{Reply}
+use Rattle.lockword.specs.declared.reply.Reply.TheVariants.{OK}
+use Rattle.keys.specs.declared.point.Operation.TheVariants.{Lock, Unlock}
+use Rattle.keys.specs.declared.point.Point.{Point}
+use Rattle.ruledwords.specs.Cards.{at}
+use Rattle.ruledwords.specs.Seen.{by, points_of, EndsWith, Called, Saw}
 use Rattle.ruledwords.specs.Turns.{HasSeenTheSame}
 
 -- who has only noted a word, or a trim
@@ -33,4 +38,30 @@ still_stands op first q c p d e same s = record {
   answers = s.answers;
   reaches = s.reaches;
   misses = ap (λ (z : Card). z.misses) same ∙ s.misses;
+}
+
+-- ---- two calls of a thread on one mutex, one after the other
+
+points_append : (t p : ℕ) (xs ys : List Act) → points_of t p (xs ++ ys) ≡ points_of t p xs ++ points_of t p ys
+points_append t p [] ys = refl
+points_append t p (x ∷ xs) ys = ap (λ (l : List Point). record { thread = t; at = p; operation = x.0; reply = x.1 } ∷ l) (points_append t p xs ys)
+
+-- what it saw in both
+pub saw_on : (c : Card) (p : ℕ) (xs ys : List Act) (d e : Card) → Saw c p xs d → Saw d p ys e → Saw c p (xs ++ ys) e
+saw_on c p xs ys d e first more = record {
+  thread = more.thread ∙ first.thread;
+  threads = more.threads ∙ first.threads;
+  base = more.base ∙ first.base;
+  elsewhere = λ q other. more.elsewhere q other ∙ first.elsewhere q other;
+  since = first.since ++ more.since;
+  grows = more.grows ∙ ap (λ (l : List Point). l ++ more.since) first.grows ∙ append_assoc (at c.seen p) first.since more.since;
+  own = subst (λ (t : ℕ). by t (at e.seen p) ≡ by t (at d.seen p) ++ points_of t p ys) first.thread more.own ∙ ap (λ (l : List Point). l ++ points_of c.thread p ys) first.own
+      ∙ append_assoc (by c.thread (at c.seen p)) (points_of c.thread p xs) (points_of c.thread p ys) ∙ ap (λ (l : List Point). by c.thread (at c.seen p) ++ l) (sym (points_append c.thread p xs ys));
+}
+
+-- a wait that released its mutex and took it again: its two points, of which the second is the last that its thread has seen
+pub waited : (c : Card) (p : ℕ) (x : Reply) (d e : Card) → Called c p ((Unlock, OK) ∷ []) d → Called d p ((Lock, x) ∷ []) e → Called c p ((Unlock, OK) ∷ (Lock, x) ∷ []) e
+waited c p x d e first more = record {
+  saw = saw_on c p ((Unlock, OK) ∷ []) ((Lock, x) ∷ []) d e first.saw more.saw;
+  last = subst (λ (t : ℕ). EndsWith (at e.seen p) (points_of t p ((Lock, x) ∷ []))) first.saw.thread more.last;
 }

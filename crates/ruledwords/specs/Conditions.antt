@@ -182,3 +182,8 @@ abbrev pub Compares : Access → Type 0
 Compares (AtWait at e) = Unit {0}
 Compares (CmpRequeue from e n to m) = Unit {0}
 Compares a = ⊥
+
+-- a section that moves sleepers
+abbrev pub IsMove : Access → Type 0
+IsMove (CmpRequeue from e n to m) = Unit {0}
+IsMove a = ⊥

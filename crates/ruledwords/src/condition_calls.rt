@@ -1,6 +1,6 @@
 //! Calls on condition variables, access by access.
 ghost use Rattle.std.specs.Prelude.{◌≡◌, ◌<◌, ◌≤◌, ℕ, Some, length};
-ghost use Rattle.keys.specs.Layouts.{cell_place, counter_place};
+ghost use Rattle.keys.specs.Layouts.{counter_place};
 ghost use Rattle.condvar.specs.Calls.{condition_of};
 ghost use Rattle.condvar.specs.Laws.{largest_counter};
 ghost use Rattle.condvar.specs.Whole.{begins};
@@ -10,7 +10,7 @@ ghost use Rattle.ruledwords.specs.declared.pass.Pass.{Pass};
 ghost use Rattle.ruledwords.specs.declared.pass.Words.{Words};
 ghost use Rattle.ruledwords.specs.Cards.{value_at};
 ghost use Rattle.ruledwords.specs.ConditionCalls.{cond_access_in, cond_call, cond_pass, cond_place_at, CondOnward, CondTurned, CondUnmoved, IsCondAnswerOf, IsCondRunningOf, IsCondStep, IsCondTurnOf};
-ghost use Rattle.ruledwords.specs.Conditions.{condition_at, Compares};
+ghost use Rattle.ruledwords.specs.Conditions.{condition_at, Compares, IsMove};
 ghost use Rattle.ruledwords.specs.ConditionStands.{CondKeeps, HasDiedInCondition, IsCondUnderWay};
 ghost use Rattle.ruledwords.specs.Counts.{cell_at};
 ghost use Rattle.ruledwords.specs.Passes.{card, layout_of, IsDying, IsLive};
@@ -58,6 +58,18 @@ impl CondRunning {
         ensures { result ≡ cond_place_at (layout_of words.now) self.now }
     {
         words.place(self.pass.thread, address(self.program.next()))
+    }
+
+    /// The place of its mutex's cell, to which a broadcast moves sleepers.
+    pub fn target(&self, words: &Words) -> u64
+        requires words { IsCondRunningOf words.now self.now }
+        requires moves { IsMove (cond_access_in self.now) }
+        ensures { result ≡ cell_at (layout_of words.now) (condition_at (layout_of words.now) (cond_call self.now)) }
+    {
+        match self.program.next() {
+            Access::CmpRequeue { to, .. } => words.place(self.pass.thread, to),
+            _ => unreachable!(),
+        }
     }
 
     /// Makes the access that comes next, which is one step on one word. Its point, if it is one, is seen.
