@@ -28,12 +28,12 @@ name_of names (suc i) = name_in (slice_get names i)
 -- ---- a thread
 
 -- what thread t does at this stage
-abbrev pub deed : State → ℕ → Stage → List ℕ
-deed s t Idle = codes "idle"
-deed s t (Calling o p) = if sleeps s t (Calling o p) then codes "asleep" else codes "busy"
-deed s t (AtCondition c p) = if sleeps s t (AtCondition c p) then codes "asleep" else codes "busy"
-deed s t (Dying w) = codes "dying"
-deed s t Reaped = codes "reaped"
+abbrev pub state_word : State → ℕ → Stage → List ℕ
+state_word s t Idle = codes "idle"
+state_word s t (Calling o p) = if sleeps s t (Calling o p) then codes "asleep" else codes "busy"
+state_word s t (AtCondition c p) = if sleeps s t (AtCondition c p) then codes "asleep" else codes "busy"
+state_word s t (Dying w) = codes "dying"
+state_word s t Reaped = codes "reaped"
 
 abbrev pub is_owner : ℕ → Option ℕ → Bool
 is_owner t None = false
@@ -60,7 +60,7 @@ reply_or_hyphen (Some x) = reply_word x
 abbrev pub thread_line : List (List ℕ) → State → List Note → ℕ → List ℕ
 thread_line names s ns t =
     concat (codes "thread " ∷ name_of names t ∷ codes " " ∷ [])
-    ++ concat (deed s t (s.threads t).stage ∷ codes " " ∷ decimal (held_by s t) ∷ codes " " ∷ reply_or_hyphen (last_reply t ns) ∷ codes "\n" ∷ [])
+    ++ concat (state_word s t (s.threads t).stage ∷ codes " " ∷ decimal (held_by s t) ∷ codes " " ∷ reply_or_hyphen (last_reply t ns) ∷ codes "\n" ∷ [])
 
 -- ---- a mutex
 

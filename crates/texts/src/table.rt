@@ -5,7 +5,7 @@ ghost use Rattle.std.specs.List.{concat, flat_map};
 ghost use Rattle.protocol.specs.Notes.{facts_of, return_facts};
 ghost use Rattle.interleave.specs.Shown.{state_of};
 ghost use Rattle.streams.specs.Leaves.{Leaves};
-ghost use Rattle.texts.specs.Tables.{name_in, name_of, deed, held_by, told_to, last_reply, reply_or_hyphen, owner_word, others_names, queue_names, thread_line, mutex_line, condition_line, thread_lines, mutex_lines, condition_lines, object_lines, table_text};
+ghost use Rattle.texts.specs.Tables.{name_in, name_of, state_word, held_by, told_to, last_reply, reply_or_hyphen, owner_word, others_names, queue_names, thread_line, mutex_line, condition_line, thread_lines, mutex_lines, condition_lines, object_lines, table_text};
 
 use crate::mutex_start::write_mutex_start;
 use buckets::Batch;
@@ -28,10 +28,10 @@ fn name(script: &Script, thread: Tid) -> &str
     }
 }
 
-/// What a thread does.
-fn deed(machine: &Machine, thread: Tid) -> &'static str
+/// The word for the state that a thread is in.
+fn state_word(machine: &Machine, thread: Tid) -> &'static str
     requires { thread ≤ machine.now.layout.threads }
-    ensures { result.now ≡ deed (state_of machine.now) thread ((state_of machine.now).threads thread).stage }
+    ensures { result.now ≡ state_word (state_of machine.now) thread ((state_of machine.now).threads thread).stage }
 {
     if machine.asleep(thread) {
         "asleep"
@@ -119,10 +119,10 @@ fn write_thread<W: Write>(
 {
     let mut digits = Buffer::new();
     put(out, &["thread ", name(script, thread), " "])?;
-    let deed = deed(machine, thread);
+    let state = state_word(machine, thread);
     let held = digits.format(held(machine, thread));
     let last = reply_or_hyphen(last_reply(notes, thread));
-    put(out, &[deed, " ", held, " ", last, "\n"])
+    put(out, &[state, " ", held, " ", last, "\n"])
 }
 
 /// The name of an owner; a hyphen where there is none.

@@ -149,7 +149,7 @@ fn write_step<W: Write>(out: &mut W, event: usize, thread: Tid, effects: &Effect
 }
 
 /// The line of the mutex of which the thread's death was told, if it was.
-fn write_mourned<W: Write>(
+fn write_death_if<W: Write>(
     out: &mut W,
     event: usize,
     thread: Tid,
@@ -228,7 +228,7 @@ fn write_note<W: Write>(out: &mut W, event: usize, note: Note) -> io::Result<()>
             woken,
             reaped,
         } => {
-            write_mourned(out, event, thread, death)?;
+            write_death_if(out, event, thread, death)?;
             write_end_of_walk(out, event, thread, &woken, reaped)
         }
     }

@@ -31,17 +31,17 @@ returns-in_ok-write_decided-in-Stepped g c =
     rw (c.in-Stepped.is, facts_text-append c.args.event point later)
     (then_leaves _ _ _ c.write_step.result (facts_text c.args.event point) (facts_text c.args.event later) c.in_ok-write_decided-in-Stepped.ensures c.write_step.ensures)
 
-pub returns-in_err-write_mourned-in-Walked : goal.returns-in_err-write_mourned-in-Walked
-returns-in_err-write_mourned-in-Walked g c =
+pub returns-in_err-write_death_if-in-Walked : goal.returns-in_err-write_death_if-in-Walked
+returns-in_err-write_death_if-in-Walked g c =
     let death = death_facts c.in-Walked.thread c.in-Walked.death in
     let later = map Wake c.in-Walked.woken ++ reap_facts c.in-Walked.thread c.in-Walked.reaped in
     rw (c.in-Walked.is, facts_text-append c.args.event death later)
-    (ends_at_first _ _ c.from_residual-in_err-write_mourned-in-Walked.result (facts_text c.args.event death) (facts_text c.args.event later) c.from_residual-in_err-write_mourned-in-Walked.ensures.0
-    c.in_err-write_mourned-in-Walked.ensures)
+    (ends_at_first _ _ c.from_residual-in_err-write_death_if-in-Walked.result (facts_text c.args.event death) (facts_text c.args.event later) c.from_residual-in_err-write_death_if-in-Walked.ensures.0
+    c.in_err-write_death_if-in-Walked.ensures)
 
-pub returns-in_ok-write_mourned-in-Walked : goal.returns-in_ok-write_mourned-in-Walked
-returns-in_ok-write_mourned-in-Walked g c =
+pub returns-in_ok-write_death_if-in-Walked : goal.returns-in_ok-write_death_if-in-Walked
+returns-in_ok-write_death_if-in-Walked g c =
     let death = death_facts c.in-Walked.thread c.in-Walked.death in
     let later = map Wake c.in-Walked.woken ++ reap_facts c.in-Walked.thread c.in-Walked.reaped in
     rw (c.in-Walked.is, facts_text-append c.args.event death later)
-    (then_leaves _ _ _ c.write_end_of_walk.result (facts_text c.args.event death) (facts_text c.args.event later) c.in_ok-write_mourned-in-Walked.ensures c.write_end_of_walk.ensures)
+    (then_leaves _ _ _ c.write_end_of_walk.result (facts_text c.args.event death) (facts_text c.args.event later) c.in_ok-write_death_if-in-Walked.ensures c.write_end_of_walk.ensures)
