@@ -1,24 +1,27 @@
 //! The table of the object, the places of a small layout and each printed text.
 
+use crate::cases::all_hold;
 use keys::{
     HELD_LIMIT, Key, Layout, LayoutFault, NoMem, Object, Operation, ParseOperationError, bucket_of,
     key_of, operations_are_read_back, places_differ, trims_are_right,
 };
 use lockword::{Reply, Tid};
+use std::alloc::Global;
 use std::test::Fail;
 
-const OPERATIONS: [Operation; 8] = [
-    Operation::Lock,
-    Operation::TryLock,
-    Operation::Unlock,
-    Operation::Consistent,
-    Operation::Wait,
-    Operation::Signal,
-    Operation::Broadcast,
-    Operation::Death,
+/// Every operation, and its word.
+static OPERATIONS: [(Operation, &str); 8] = [
+    (Operation::Lock, "lock"),
+    (Operation::TryLock, "trylock"),
+    (Operation::Unlock, "unlock"),
+    (Operation::Consistent, "consistent"),
+    (Operation::Wait, "wait"),
+    (Operation::Signal, "signal"),
+    (Operation::Broadcast, "broadcast"),
+    (Operation::Death, "death"),
 ];
 
-const REPLIES: [Reply; 15] = [
+static REPLIES: [Reply; 15] = [
     Reply::OK,
     Reply::EPERM,
     Reply::ESRCH,
@@ -47,7 +50,7 @@ enum State {
     Unusable,
 }
 
-const STATES: [State; 6] = [
+static STATES: [State; 6] = [
     State::Free,
     State::Bereaved,
     State::Mine,
@@ -60,7 +63,7 @@ const STATES: [State; 6] = [
 #[derive(Clone, Copy)]
 struct Row(State, Operation, Reply, State);
 
-const TABLE: [Row; 48] = [
+static TABLE: [Row; 48] = [
     Row(State::Free, Operation::Lock, Reply::OK, State::Mine),
     Row(
         State::Bereaved,
@@ -290,29 +293,22 @@ fn told_at_limit(old: State, operation: Operation, reply: Reply) -> Option<State
     }
 }
 
+/// The object of a mutex that has this owner, and is inconsistent or not.
+fn held(owner: Option<Tid>, inconsistent: bool) -> Object {
+    Object {
+        owner,
+        inconsistent,
+        unusable: false,
+    }
+}
+
 fn object(state: State, thread: Tid, other: Tid) -> Object {
     match state {
         State::Free => Object::new(),
-        State::Bereaved => Object {
-            owner: None,
-            inconsistent: true,
-            unusable: false,
-        },
-        State::Mine => Object {
-            owner: Some(thread),
-            inconsistent: false,
-            unusable: false,
-        },
-        State::Inherited => Object {
-            owner: Some(thread),
-            inconsistent: true,
-            unusable: false,
-        },
-        State::Theirs => Object {
-            owner: Some(other),
-            inconsistent: false,
-            unusable: false,
-        },
+        State::Bereaved => held(None, true),
+        State::Mine => held(Some(thread), false),
+        State::Inherited => held(Some(thread), true),
+        State::Theirs => held(Some(other), false),
         State::Unusable => Object {
             owner: None,
             inconsistent: false,
@@ -321,139 +317,285 @@ fn object(state: State, thread: Tid, other: Tid) -> Object {
     }
 }
 
+/// A step of an object in the old state, of a thread that holds so many mutexes.
+#[derive(Clone, Copy)]
+struct Asked {
+    old: State,
+    held: u16,
+    operation: Operation,
+    reply: Reply,
+}
+
+/// Whether it leaves the new state, or isn't made where there is none.
+fn leaves(asked: Asked, new: Option<State>, thread: Tid, other: Tid) -> bool {
+    let old = object(asked.old, thread, other);
+    match (
+        old.step(asked.held, thread, asked.operation, asked.reply),
+        new,
+    ) {
+        (Some(left), Some(new)) => left == object(new, thread, other),
+        (None, None) => true,
+        _ => false,
+    }
+}
+
+/// Whether the object steps by its table where the thread holds so many mutexes.
+fn steps(old: State, operation: Operation, reply: Reply, thread: Tid, other: Tid) -> bool {
+    let below = told(old, operation, reply);
+    let at = told_at_limit(old, operation, reply);
+    let asked = Asked {
+        old,
+        held: 0,
+        operation,
+        reply,
+    };
+    leaves(asked, below, thread, other)
+        && leaves(
+            Asked {
+                held: 2047,
+                ..asked
+            },
+            below,
+            thread,
+            other,
+        )
+        && leaves(
+            Asked {
+                held: 2048,
+                ..asked
+            },
+            at,
+            thread,
+            other,
+        )
+}
+
+/// The place of the first reply that the operation doesn't have by the table.
+fn first_wrong_reply(old: State, operation: Operation, thread: Tid, other: Tid) -> Option<usize> {
+    for (place, reply) in REPLIES.iter().enumerate() {
+        if !steps(old, operation, *reply, thread, other) {
+            return Some(place);
+        }
+    }
+    None
+}
+
 #[test]
 fn an_object_steps_by_its_table(rt: HostRuntime) -> Result<(), Fail> {
     let thread = Tid::new(1).ok_or("no thread 1")?;
     let other = Tid::new(2).ok_or("no thread 2")?;
-    for state in STATES {
-        for operation in OPERATIONS {
-            for reply in REPLIES {
-                let below = told(state, operation, reply);
-                let at = told_at_limit(state, operation, reply);
-                for (held, row) in [(0, below), (2047, below), (2048, at)] {
-                    let old = object(state, thread, other);
-                    let new = row.map(|state| object(state, thread, other));
-                    assert_eq!(rt;
-                        old.step(held, thread, operation, reply),
-                        new,
-                        "{operation:?} {reply:?} of {state:?}, {held} held"
-                    );
-                }
-            }
+    for old in &STATES {
+        for (operation, word) in &OPERATIONS {
+            let wrong = first_wrong_reply(*old, *operation, thread, other);
+            assert_eq!(rt;
+                wrong,
+                None,
+                "the reply at this place, of {word} of {old:?}"
+            );
         }
     }
-    assert_eq!(rt; HELD_LIMIT, 2048);
+    assert!(rt; HELD_LIMIT == 2048);
     Ok(())
+}
+
+/// What has a place.
+#[derive(Clone, Copy)]
+enum Placed {
+    Head(u8),
+    Cell(u16),
+    Entry(u16),
+    Counter(u16),
+}
+
+/// Where it stands in a layout of two threads, two mutexes and a condition variable of the second one.
+static PLACES: [(Placed, u64); 7] = [
+    (Placed::Head(1), 1),
+    (Placed::Head(2), 4),
+    (Placed::Cell(0), 7),
+    (Placed::Cell(1), 10),
+    (Placed::Entry(0), 8),
+    (Placed::Entry(1), 11),
+    (Placed::Counter(0), 13),
+];
+
+/// The place of a thread's head; None where there is no such thread.
+fn head(layout: &Layout, id: u8) -> Option<u64> {
+    let thread = Tid::new(id)?;
+    if thread.get() <= layout.threads() {
+        Some(layout.head(thread))
+    } else {
+        None
+    }
+}
+
+fn place_of(layout: &Layout, placed: Placed) -> Option<u64> {
+    match placed {
+        Placed::Head(id) => head(layout, id),
+        Placed::Cell(mutex) if mutex < layout.mutexes() => Some(layout.cell(mutex)),
+        Placed::Entry(mutex) if mutex < layout.mutexes() => Some(layout.entry(mutex)),
+        Placed::Counter(number) if number < layout.conditions() => Some(layout.counter(number)),
+        _ => None,
+    }
+}
+
+fn first_wrong_place(layout: &Layout) -> Option<usize> {
+    for (place, (placed, at)) in PLACES.iter().enumerate() {
+        if place_of(layout, *placed) != Some(*at) {
+            return Some(place);
+        }
+    }
+    None
+}
+
+/// A place of that layout, and the mutex whose cell stands there.
+static CELLS: [(u64, Option<u16>); 5] = [
+    (7, Some(0)),
+    (10, Some(1)),
+    (4, None),
+    (8, None),
+    (13, None),
+];
+
+fn first_wrong_cell(layout: &Layout) -> Option<usize> {
+    for (place, (at, mutex)) in CELLS.iter().enumerate() {
+        if layout.mutex_of(*at) != *mutex {
+            return Some(place);
+        }
+    }
+    None
+}
+
+/// Whether there are so many threads, mutexes, condition variables and words, and the first condition variable keeps this mutex.
+fn has_counts(layout: &Layout, counts: [usize; 4], mutex: u16) -> bool {
+    let [threads, mutexes, conditions, words] = counts;
+    usize::from(layout.threads()) == threads
+        && usize::from(layout.mutexes()) == mutexes
+        && usize::from(layout.conditions()) == conditions
+        && layout.words() == words
+        && 0 < layout.conditions()
+        && layout.mutex_of_condition(0) == mutex
 }
 
 #[test]
 fn a_small_layout_has_its_places(rt: HostRuntime) -> Result<(), Fail> {
-    let first = Tid::new(1).ok_or("no thread 1")?;
-    let second = Tid::new(2).ok_or("no thread 2")?;
     let layout = Layout::new(2, 2, &[1])?;
-    assert_eq!(rt;
-        (layout.threads(), layout.mutexes(), layout.conditions()),
-        (2, 2, 1)
-    );
-    assert_eq!(rt; (layout.head(first), layout.head(second)), (1, 4));
-    assert_eq!(rt; (layout.cell(0), layout.cell(1)), (7, 10));
-    assert_eq!(rt; (layout.entry(0), layout.entry(1)), (8, 11));
-    assert_eq!(rt; (layout.counter(0), layout.mutex_of_condition(0)), (13, 1));
-    assert_eq!(rt; layout.words(), 14);
-    for (place, mutex) in [
-        (7, Some(0)),
-        (10, Some(1)),
-        (4, None),
-        (8, None),
-        (13, None),
-    ] {
-        assert_eq!(rt; layout.mutex_of(place), mutex, "at {place}");
-    }
+    assert!(rt; has_counts(&layout, [2, 2, 1, 14], 1));
+    all_hold(&rt, first_wrong_place(&layout));
+    all_hold(&rt, first_wrong_cell(&layout));
     places_differ();
     trims_are_right();
     Ok(())
 }
 
-#[test]
-fn the_first_fault_is_told(rt: HostRuntime) -> Result<(), Fail> {
-    let no_conditions: [u16; 0] = [];
-    let many = [0; 257];
-    for (threads, mutexes, conditions, fault) in [
-        (0, 0, many.as_slice(), Some(LayoutFault::Threads)),
-        (65, 4097, many.as_slice(), Some(LayoutFault::Threads)),
-        (64, 0, many.as_slice(), Some(LayoutFault::Mutexes)),
-        (1, 4097, many.as_slice(), Some(LayoutFault::Mutexes)),
-        (1, 1, many.as_slice(), Some(LayoutFault::Conditions)),
-        (1, 1, [0, 1].as_slice(), Some(LayoutFault::Conditions)),
-        (1, 1, no_conditions.as_slice(), None),
-        (64, 4096, [4095; 256].as_slice(), None),
-    ] {
-        assert_eq!(rt;
-            Layout::new(threads, mutexes, conditions).err(),
-            fault,
-            "{threads} {mutexes}"
-        );
+/// Threads, mutexes and the mutexes of condition variables, and the fault by which there is no layout of them.
+static FAULTS: [(u8, u16, &[u16], Option<LayoutFault>); 8] = [
+    (0, 0, &[0; 257], Some(LayoutFault::Threads)),
+    (65, 4097, &[0; 257], Some(LayoutFault::Threads)),
+    (64, 0, &[0; 257], Some(LayoutFault::Mutexes)),
+    (1, 4097, &[0; 257], Some(LayoutFault::Mutexes)),
+    (1, 1, &[0; 257], Some(LayoutFault::Conditions)),
+    (1, 1, &[0, 1], Some(LayoutFault::Conditions)),
+    (1, 1, &[], None),
+    (64, 4096, &[4095; 256], None),
+];
+
+fn fault(threads: u8, mutexes: u16, conditions: &[u16]) -> Option<LayoutFault> {
+    Layout::new(threads, mutexes, conditions).err()
+}
+
+fn first_wrong_fault() -> Option<usize> {
+    for (place, (threads, mutexes, conditions, want)) in FAULTS.iter().enumerate() {
+        if fault(*threads, *mutexes, *conditions) != *want {
+            return Some(place);
+        }
     }
-    Ok(())
+    None
+}
+
+#[test]
+fn the_first_fault_is_told(rt: HostRuntime) {
+    all_hold(&rt, first_wrong_fault());
+}
+
+static TEXTS: [(LayoutFault, &str); 6] = [
+    (LayoutFault::Threads, "not 1 to 64 threads"),
+    (LayoutFault::Mutexes, "not 1 to 4096 mutexes"),
+    (
+        LayoutFault::Conditions,
+        "more than 256 condition variables, or one of no such mutex",
+    ),
+    (LayoutFault::Processes, "not 1 to 8 processes"),
+    (LayoutFault::Bases, "a base above 1000000000"),
+    (LayoutFault::Members, "a thread of no such process"),
+];
+
+fn is_printed(alloc: Global, fault: LayoutFault, text: &str) -> bool {
+    match fault.to_string(alloc) {
+        Ok(printed) => printed.as_str() == text,
+        Err(_) => false,
+    }
+}
+
+fn first_wrong_text(alloc: Global) -> Option<usize> {
+    for (place, (fault, text)) in TEXTS.iter().enumerate() {
+        if !is_printed(alloc, *fault, *text) {
+            return Some(place);
+        }
+    }
+    None
 }
 
 #[test]
 fn faults_are_printed(rt: HostRuntime) -> Result<(), Fail> {
-    for (fault, text) in [
-        (LayoutFault::Threads, "not 1 to 64 threads"),
-        (LayoutFault::Mutexes, "not 1 to 4096 mutexes"),
-        (
-            LayoutFault::Conditions,
-            "more than 256 condition variables, or one of no such mutex",
-        ),
-        (LayoutFault::Processes, "not 1 to 8 processes"),
-        (LayoutFault::Bases, "a base above 1000000000"),
-        (LayoutFault::Members, "a thread of no such process"),
-    ] {
-        let printed = format!(in rt.alloc(); "{fault}")?;
-        assert_eq!(rt; printed.as_str(), text);
-    }
-    let printed = format!(in rt.alloc(); "{}", NoMem)?;
-    assert_eq!(rt; printed.as_str(), "out of memory");
+    all_hold(&rt, first_wrong_text(rt.alloc()));
+    let printed = NoMem.to_string(rt.alloc())?;
+    assert!(rt; printed.as_str() == "out of memory");
     Ok(())
+}
+
+/// What a text is read as.
+fn read(text: &str) -> Option<Operation> {
+    text.parse().ok()
+}
+
+fn first_wrong_word() -> Option<usize> {
+    for (place, (operation, word)) in OPERATIONS.iter().enumerate() {
+        if operation.word() != *word || read(*word) != Some(*operation) {
+            return Some(place);
+        }
+    }
+    None
 }
 
 #[test]
 fn words_of_operations(rt: HostRuntime) {
-    let words = [
-        "lock",
-        "trylock",
-        "unlock",
-        "consistent",
-        "wait",
-        "signal",
-        "broadcast",
-        "death",
-    ];
-    for (operation, word) in OPERATIONS.into_iter().zip(words) {
-        assert_eq!(rt; operation.word(), word);
-        assert_eq!(rt; word.parse(), Ok(operation));
-    }
+    all_hold(&rt, first_wrong_word());
     operations_are_read_back();
+}
+
+/// Texts that are no operation's word.
+static NO_OPERATIONS: [&str; 5] = ["", "Lock", "lock ", "try_lock", "begin"];
+
+fn first_operation() -> Option<usize> {
+    for (place, text) in NO_OPERATIONS.iter().enumerate() {
+        if read(*text).is_some() {
+            return Some(place);
+        }
+    }
+    None
 }
 
 #[test]
 fn other_texts_are_no_operations(rt: HostRuntime) -> Result<(), Fail> {
-    for text in ["", "Lock", "lock ", "try_lock", "begin"] {
-        assert_eq!(rt;
-            text.parse::<Operation>(),
-            Err(ParseOperationError),
-            "{text}"
-        );
-    }
-    let printed = format!(in rt.alloc(); "{}", ParseOperationError)?;
-    assert_eq!(rt; printed.as_str(), "no operation has this word");
+    all_hold(&rt, first_operation());
+    let printed = ParseOperationError.to_string(rt.alloc())?;
+    assert!(rt; printed.as_str() == "no operation has this word");
     Ok(())
 }
 
 #[test]
 fn keys_and_buckets(rt: HostRuntime) {
-    assert_eq!(rt; key_of(20), Key(20));
-    assert_eq!(rt; bucket_of(Key(20), 16), 4);
-    assert_eq!(rt; bucket_of(Key(u64::MAX), 64), 63);
+    assert!(rt; key_of(20) == Key(20));
+    assert!(rt; bucket_of(Key(20), 16) == 4);
+    assert!(rt; bucket_of(Key(u64::MAX), 64) == 63);
 }

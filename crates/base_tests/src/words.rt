@@ -1,7 +1,8 @@
 //! Each call once, with words written out by hand from the ABI's bits (robust-futex-ABI).
 
+use crate::cases::all_hold;
 use lockword::{Cell, ParseReplyError, Reply, Tid, replies_are_read_back};
-use std::test::Fail;
+use std::alloc::Global;
 
 const WAITERS: u64 = 0x8000_0000;
 
@@ -9,102 +10,244 @@ const OWNER_DIED: u64 = 0x4000_0000;
 
 const UNUSABLE: u64 = 0x1_0000_0000;
 
+/// An id, and whether a thread has it.
+static IDS: [(u8, bool); 5] = [(0, false), (1, true), (64, true), (65, false), (255, false)];
+
+/// Whether there is a thread with this id, if it should be, and it tells the id.
+fn is_id(id: u8, there: bool) -> bool {
+    match Tid::new(id) {
+        Some(thread) => there && thread.get() == id,
+        None => !there,
+    }
+}
+
+fn first_wrong_id() -> Option<usize> {
+    for (place, (id, there)) in IDS.iter().enumerate() {
+        if !is_id(*id, *there) {
+            return Some(place);
+        }
+    }
+    None
+}
+
 #[test]
 fn a_thread_has_an_id_from_1_to_64(rt: HostRuntime) {
-    for (id, there) in [(0, false), (1, true), (64, true), (65, false), (255, false)] {
-        assert_eq!(rt; Tid::new(id).is_some(), there);
+    all_hold(&rt, first_wrong_id());
+}
+
+/// A word, its owner, and its flags: WAITERS, OWNER_DIED, unusable.
+static CELLS: [(u64, u32, [bool; 3]); 6] = [
+    (0, 0, [false, false, false]),
+    (0x3fff_ffff, 0x3fff_ffff, [false, false, false]),
+    (WAITERS + 7, 7, [true, false, false]),
+    (OWNER_DIED + 7, 7, [false, true, false]),
+    (UNUSABLE, 0, [false, false, true]),
+    (u64::MAX, 0x3fff_ffff, [true, true, true]),
+];
+
+fn has_fields(word: u64, owner: u32, flags: [bool; 3]) -> bool {
+    let cell = Cell::new(word);
+    let [waiters, owner_died, unusable] = flags;
+    cell.word() == word
+        && cell.owner() == owner
+        && cell.waiters() == waiters
+        && cell.owner_died() == owner_died
+        && cell.unusable() == unusable
+}
+
+fn first_wrong_cell() -> Option<usize> {
+    for (place, (word, owner, flags)) in CELLS.iter().enumerate() {
+        if !has_fields(*word, *owner, *flags) {
+            return Some(place);
+        }
     }
-    assert_eq!(rt; Tid::new(64).map(|thread| thread.get()), Some(64));
+    None
 }
 
 #[test]
 fn a_cell_has_an_owner_and_three_flags(rt: HostRuntime) {
-    for (word, owner, flags) in [
-        (0, 0, (false, false, false)),
-        (0x3fff_ffff, 0x3fff_ffff, (false, false, false)),
-        (WAITERS + 7, 7, (true, false, false)),
-        (OWNER_DIED + 7, 7, (false, true, false)),
-        (UNUSABLE, 0, (false, false, true)),
-        (u64::MAX, 0x3fff_ffff, (true, true, true)),
-    ] {
-        let cell = Cell::new(word);
-        assert_eq!(rt; cell.word(), word);
-        assert_eq!(rt; cell.owner(), owner, "{word:x}");
-        assert_eq!(rt;
-            (cell.waiters(), cell.owner_died(), cell.unusable()),
-            flags,
-            "{word:x}"
-        );
+    all_hold(&rt, first_wrong_cell());
+    assert!(rt; Cell::new(UNUSABLE + WAITERS + 3).low() == 0x8000_0003);
+}
+
+/// A word, and whether it may be trimmed.
+static TRIMS: [(u64, bool); 6] = [
+    (WAITERS, true),
+    (0, false),
+    (WAITERS + 1, false),
+    (WAITERS + OWNER_DIED, false),
+    (WAITERS + UNUSABLE, false),
+    (WAITERS + (1 << 63), false),
+];
+
+fn first_wrong_trim() -> Option<usize> {
+    for (place, (word, trimmable)) in TRIMS.iter().enumerate() {
+        if Cell::new(*word).trimmable() != *trimmable {
+            return Some(place);
+        }
     }
-    assert_eq!(rt; Cell::new(UNUSABLE + WAITERS + 3).low(), 0x8000_0003);
+    None
 }
 
 #[test]
 fn a_free_cell_with_waiters_alone_is_trimmable(rt: HostRuntime) {
-    for (word, trimmable) in [
-        (WAITERS, true),
-        (0, false),
-        (WAITERS + 1, false),
-        (WAITERS + OWNER_DIED, false),
-        (WAITERS + UNUSABLE, false),
-        (WAITERS + (1 << 63), false),
-    ] {
-        assert_eq!(rt; Cell::new(word).trimmable(), trimmable, "{word:x}");
+    all_hold(&rt, first_wrong_trim());
+}
+
+/// How a cell changes.
+#[derive(Clone, Copy)]
+enum Change {
+    Waiting,
+    Marked,
+    /// It is taken by thread 5.
+    Taken,
+    /// It is released by thread 5.
+    Released,
+    /// It is spoiled by thread 5.
+    Spoiled,
+}
+
+/// A bit above all that have a meaning.
+const ABOVE: u64 = 1 << 63;
+
+/// A word, how it changes, and the word that it is then.
+static CHANGES: [(u64, Change, u64); 6] = [
+    (ABOVE + 5, Change::Waiting, ABOVE + WAITERS + 5),
+    (WAITERS + 5, Change::Waiting, WAITERS + 5),
+    (
+        OWNER_DIED + WAITERS,
+        Change::Taken,
+        OWNER_DIED + WAITERS + 5,
+    ),
+    (WAITERS + 5, Change::Marked, WAITERS + OWNER_DIED),
+    (ABOVE + WAITERS + 5, Change::Released, ABOVE + WAITERS),
+    (
+        OWNER_DIED + WAITERS + 5,
+        Change::Spoiled,
+        UNUSABLE + WAITERS,
+    ),
+];
+
+/// The cell that is left; None where it can't change so.
+fn changed(cell: Cell, change: Change) -> Option<Cell> {
+    match change {
+        Change::Waiting => Some(cell.waiting()),
+        Change::Marked => Some(cell.marked()),
+        Change::Taken => taken(cell),
+        Change::Released => released(cell),
+        Change::Spoiled => spoiled(cell),
     }
 }
 
+fn taken(cell: Cell) -> Option<Cell> {
+    let thread = Tid::new(5)?;
+    if cell.owner() == 0 {
+        Some(cell.taken(thread))
+    } else {
+        None
+    }
+}
+
+fn released(cell: Cell) -> Option<Cell> {
+    let thread = Tid::new(5)?;
+    if cell.owner() == u32::from(thread.get()) {
+        Some(cell.released(thread))
+    } else {
+        None
+    }
+}
+
+fn spoiled(cell: Cell) -> Option<Cell> {
+    let thread = Tid::new(5)?;
+    if cell.owner() == u32::from(thread.get()) && cell.owner_died() {
+        Some(cell.spoiled(thread))
+    } else {
+        None
+    }
+}
+
+fn becomes(word: u64, change: Change, new: u64) -> bool {
+    match changed(Cell::new(word), change) {
+        Some(cell) => cell.word() == new,
+        None => false,
+    }
+}
+
+fn first_wrong_change() -> Option<usize> {
+    for (place, (word, change, new)) in CHANGES.iter().enumerate() {
+        if !becomes(*word, *change, *new) {
+            return Some(place);
+        }
+    }
+    None
+}
+
 #[test]
-fn a_cell_changes_by_its_bits(rt: HostRuntime) -> Result<(), Fail> {
-    let thread = Tid::new(5).ok_or("no thread 5")?;
-    let above = 1 << 63;
-    assert_eq!(rt; Cell::new(above + 5).waiting().word(), above + WAITERS + 5);
-    assert_eq!(rt; Cell::new(WAITERS + 5).waiting().word(), WAITERS + 5);
-    let free = Cell::new(OWNER_DIED + WAITERS);
-    assert_eq!(rt; free.taken(thread).word(), OWNER_DIED + WAITERS + 5);
-    assert_eq!(rt;
-        Cell::new(WAITERS + 5).marked().word(),
-        WAITERS + OWNER_DIED
-    );
-    assert_eq!(rt;
-        Cell::new(above + WAITERS + 5).released(thread).word(),
-        above + WAITERS
-    );
-    let inherited = Cell::new(OWNER_DIED + WAITERS + 5);
-    assert_eq!(rt; inherited.spoiled(thread).word(), UNUSABLE + WAITERS);
-    Ok(())
+fn a_cell_changes_by_its_bits(rt: HostRuntime) {
+    all_hold(&rt, first_wrong_change());
+}
+
+/// A reply, its number and its name.
+static REPLIES: [(Reply, u16, &str); 15] = [
+    (Reply::OK, 0, "OK"),
+    (Reply::EPERM, 1, "EPERM"),
+    (Reply::ESRCH, 3, "ESRCH"),
+    (Reply::EAGAIN, 11, "EAGAIN"),
+    (Reply::EFAULT, 14, "EFAULT"),
+    (Reply::EBUSY, 16, "EBUSY"),
+    (Reply::EINVAL, 22, "EINVAL"),
+    (Reply::EDEADLK, 35, "EDEADLK"),
+    (Reply::EOWNERDEAD, 130, "EOWNERDEAD"),
+    (Reply::ENOTRECOVERABLE, 131, "ENOTRECOVERABLE"),
+    (Reply::XNOMEM, 1000, "X_NOMEM"),
+    (Reply::XRACED, 1001, "X_RACED"),
+    (Reply::XHELD, 1002, "X_HELD"),
+    (Reply::XFULL, 1003, "X_FULL"),
+    (Reply::XSTATE, 1004, "X_STATE"),
+];
+
+/// What a text is read as.
+fn read(text: &str) -> Option<Reply> {
+    text.parse().ok()
+}
+
+fn first_wrong_reply() -> Option<usize> {
+    for (place, (reply, number, name)) in REPLIES.iter().enumerate() {
+        if reply.number() != *number || reply.name() != *name || read(*name) != Some(*reply) {
+            return Some(place);
+        }
+    }
+    None
 }
 
 #[test]
 fn replies_have_numbers_and_names(rt: HostRuntime) {
-    for (reply, number, name) in [
-        (Reply::OK, 0, "OK"),
-        (Reply::EPERM, 1, "EPERM"),
-        (Reply::ESRCH, 3, "ESRCH"),
-        (Reply::EAGAIN, 11, "EAGAIN"),
-        (Reply::EFAULT, 14, "EFAULT"),
-        (Reply::EBUSY, 16, "EBUSY"),
-        (Reply::EINVAL, 22, "EINVAL"),
-        (Reply::EDEADLK, 35, "EDEADLK"),
-        (Reply::EOWNERDEAD, 130, "EOWNERDEAD"),
-        (Reply::ENOTRECOVERABLE, 131, "ENOTRECOVERABLE"),
-        (Reply::XNOMEM, 1000, "X_NOMEM"),
-        (Reply::XRACED, 1001, "X_RACED"),
-        (Reply::XHELD, 1002, "X_HELD"),
-        (Reply::XFULL, 1003, "X_FULL"),
-        (Reply::XSTATE, 1004, "X_STATE"),
-    ] {
-        assert_eq!(rt; (reply.number(), reply.name()), (number, name));
-        assert_eq!(rt; name.parse(), Ok(reply));
-    }
+    all_hold(&rt, first_wrong_reply());
     replies_are_read_back();
 }
 
-#[test]
-fn other_texts_are_no_replies(rt: HostRuntime) -> Result<(), Fail> {
-    for text in ["", "ok", "OK ", "XHELD", "EOWNERDIED", "0"] {
-        assert_eq!(rt; text.parse::<Reply>(), Err(ParseReplyError), "{text}");
+/// Texts that are no reply's name.
+static NO_REPLIES: [&str; 6] = ["", "ok", "OK ", "XHELD", "EOWNERDIED", "0"];
+
+fn first_reply() -> Option<usize> {
+    for (place, text) in NO_REPLIES.iter().enumerate() {
+        if read(*text).is_some() {
+            return Some(place);
+        }
     }
-    let printed = format!(in rt.alloc(); "{}", ParseReplyError)?;
-    assert_eq!(rt; printed.as_str(), "no reply has this name");
-    Ok(())
+    None
+}
+
+/// Whether the error is printed so.
+fn is_printed(alloc: Global, error: ParseReplyError, text: &str) -> bool {
+    match error.to_string(alloc) {
+        Ok(printed) => printed.as_str() == text,
+        Err(_) => false,
+    }
+}
+
+#[test]
+fn other_texts_are_no_replies(rt: HostRuntime) {
+    all_hold(&rt, first_reply());
+    assert!(rt; is_printed(rt.alloc(), ParseReplyError, "no reply has this name"));
 }
