@@ -339,7 +339,7 @@ fn leaves(asked: Asked, new: Option<State>, thread: Tid, other: Tid) -> bool {
     }
 }
 
-/// Whether the object steps by its table where the thread holds so many mutexes.
+/// Whether the object steps by its table, however many mutexes its thread holds.
 fn steps(old: State, operation: Operation, reply: Reply, thread: Tid, other: Tid) -> bool {
     let below = told(old, operation, reply);
     let at = told_at_limit(old, operation, reply);

@@ -8,7 +8,7 @@ use keys::{
 use lockword::Tid;
 use std::test::Fail;
 
-/// Where a thread stands: its process, and the base of that.
+/// Whether the thread is of this process, which has this base.
 fn is_of(layout: &Layout, id: u8, process: u8, base: u64) -> bool {
     let Some(thread) = Tid::new(id) else {
         return false;
