@@ -1,13 +1,12 @@
 -- What an access or a section of a call on a condition variable leaves: its thread's list, the count of what it holds, and what the next row needs.
-use Rattle.std.proofs.Common.{Bool, true, false, ◌≡◌, ◌≢◌, ◌⊎◌, ℕ, ◌+◌, ◌-◌, ◌^◌, ◌%◌, ◌<◌, ◌≤◌, ◌==◌, not, Option, Some, None, List, [], ◌∷◌, length, refl, sym, ap, ◌∙◌, subst, arith, eqb-true}
+use Rattle.std.proofs.Common.{Bool, true, false, ◌≡◌, ℕ, ◌+◌, ◌-◌, ◌^◌, ◌%◌, ◌<◌, ◌≤◌, ◌==◌, not, Option, Some, None, List, refl, sym, ap, ◌∙◌, subst, arith, eqb-true}
 use Rattle.std.specs.Prelude.{if◌then◌else◌, nat_lt}
 use Rattle.std.proofs.lemmas.Bool.{eqb-false}
 use mathlib.Core.Logic.{dite}
-use mathlib.Core.Path.{fun_ext}
 use native.Mathlib.Decide.{ℕ_discrete}
 use Rattle.lockword.specs.Cells.{fields_of}
 use Rattle.lockword.specs.declared.reply.Reply.{Reply}
-use Rattle.lockword.specs.declared.reply.Reply.TheVariants.{OK, EPERM, EFAULT, XFULL, XSTATE}
+use Rattle.lockword.specs.declared.reply.Reply.TheVariants.{OK, EPERM, XFULL, XSTATE}
 use Rattle.keys.specs.declared.access.Access.{Access}
 use Rattle.keys.specs.declared.access.Access.TheVariants as access
 use Rattle.keys.specs.declared.access.Answer.{Answer}
@@ -29,15 +28,13 @@ use Rattle.robustlist.specs.Standings.{UnlinkStanding}
 use Rattle.robustlist.specs.Unlink.{unlink_access_of, unlink_moved, unlink_started}
 use Rattle.robustlist.specs.Words.{answer_on}
 use Rattle.mutex.specs.declared.consistent.ConsistentRow.TheVariants as consistent
-use Rattle.mutex.specs.declared.lock.LockRow.TheVariants as lock
 use Rattle.mutex.specs.declared.phase.Phase.{Phase}
 use Rattle.mutex.specs.declared.phase.Phase.TheVariants as phase
-use Rattle.mutex.specs.declared.row.Row.{Row}
 use Rattle.mutex.specs.declared.row.Row.TheVariants as row
 use Rattle.mutex.specs.declared.unlock.UnlockRow.TheVariants as unlock
 use Rattle.mutex.specs.Laws.{points}
 use Rattle.mutex.specs.Standings.{Standing, Whole}
-use Rattle.mutex.specs.Whole.{after_cell, retaking, whole_led, whole_moved, IsUnderWay, PhaseKnows as PhaseKnowsOf}
+use Rattle.mutex.specs.Whole.{after_cell, retaking, IsUnderWay}
 use Rattle.mutex.specs.Whole.{unlinked_at as whole_unlinked_at}
 use Rattle.mutex.specs.WholeLists.{Arrives, AgreeOnOwn, HasList, IsCallOn, IsOwnPlace, IsThere, KeepsList}
 use Rattle.mutex.proofs.WholeLists.{right}
@@ -54,7 +51,7 @@ use Rattle.condvar.specs.Laws.{largest_counter}
 use Rattle.condvar.specs.Programs.{point_of}
 use Rattle.condvar.specs.Rows.{decides, ends, full, goes, IsGoing}
 use Rattle.condvar.specs.Standings.{CondWhole}
-use Rattle.condvar.specs.Whole.{cond_access, cond_led, from_words, onward, unlinked_at, PhaseKnows}
+use Rattle.condvar.specs.Whole.{cond_access, cond_led, from_words, onward, unlinked_at}
 use Rattle.ruledwords.specs.declared.card.Card.{Card}
 use Rattle.ruledwords.specs.Calls.{count_after, Made, OwnKept, Ready}
 use Rattle.ruledwords.specs.Cards.{at, value_at}
@@ -70,8 +67,7 @@ use Rattle.ruledwords.specs.Turns.{IsLoadOrStore}
 use Rattle.ruledwords.proofs.Cards.{is_noted, still_card}
 use Rattle.ruledwords.proofs.Counts.{of_mutex}
 use Rattle.ruledwords.proofs.Held.{count_same, held_append, owner_held}
-use Rattle.ruledwords.proofs.Keepers.{other_cell}
-use Rattle.ruledwords.proofs.Listing.{call_noted, ends_so, goes_made, goes_own, owner_told}
+use Rattle.ruledwords.proofs.Listing.{goes_made, goes_own, owner_told}
 use Rattle.ruledwords.proofs.OwnTurns.{card_own, own_same}
 use Rattle.ruledwords.proofs.OwnWords.{own_place}
 use Rattle.ruledwords.proofs.Phases.{own_fits, own_moved, is_load_or_store}

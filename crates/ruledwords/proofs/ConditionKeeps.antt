@@ -1,13 +1,12 @@
 -- A call on a condition variable, wherever it began: its turns, its beginning, and its thread's death in it.
-use Rattle.std.proofs.Common.{◌≡◌, true, ℕ, ◌<◌, ◌≤◌, Option, List, [], ◌∷◌, length, refl, sym, ap, ◌∙◌, subst}
+use Rattle.std.proofs.Common.{◌≡◌, true, ℕ, List, [], ◌∷◌, refl, sym, subst}
 use Rattle.atomic_table.specs.declared.shared.Seat.{Seat}
 use Rattle.lockword.specs.declared.reply.Reply.{Reply}
 use Rattle.lockword.specs.declared.reply.Reply.TheVariants.{OK}
 use Rattle.keys.specs.declared.access.Answer.{Answer}
 use Rattle.keys.specs.declared.point.Operation.TheVariants as operation
 use Rattle.keys.specs.Accesses.{answer_at}
-use Rattle.keys.specs.Layouts.{Layout', address_in, cell_place}
-use Rattle.mutex.specs.declared.call.Call.TheVariants as mutex_call
+use Rattle.keys.specs.Layouts.{Layout', cell_place}
 use Rattle.mutex.specs.declared.lock.LockRow.TheVariants as lock
 use Rattle.mutex.specs.declared.row.Row.TheVariants as row
 use Rattle.mutex.specs.Standings.{Standing, Whole}

@@ -1,5 +1,5 @@
 -- What a call on a condition variable has decided, from access to access.
-use Rattle.std.proofs.Common.{Bool, true, false, ◌≡◌, ◌≢◌, ℕ, ◌+◌, ◌%◌, ◌^◌, ◌<◌, ◌≤◌, ◌==◌, not, Option, Some, None, List, [], ◌∷◌, ◌++◌, refl, sym, ap, ◌∙◌, subst, arith, append-nil, eqb-true, ne_eqb}
+use Rattle.std.proofs.Common.{Bool, true, false, ◌≡◌, ◌≢◌, ℕ, ◌+◌, ◌%◌, ◌^◌, ◌≤◌, ◌==◌, not, Option, Some, None, [], ◌∷◌, refl, sym, ap, ◌∙◌, subst, arith, append-nil, ne_eqb}
 use Rattle.std.specs.Prelude.{◌||◌, if◌then◌else◌}
 use Rattle.std.proofs.lemmas.Bool.{eqb-false}
 use Rattle.lockword.specs.Cells.{fields_of}
@@ -12,16 +12,15 @@ use Rattle.keys.specs.declared.object.Object.{Object}
 use Rattle.keys.specs.declared.point.Operation.{Operation}
 use Rattle.keys.specs.declared.point.Operation.TheVariants as operation
 use Rattle.keys.specs.declared.point.Point.{Point}
-use Rattle.keys.specs.Accesses.{answer_at, changed}
+use Rattle.keys.specs.Accesses.{answer_at}
 use Rattle.keys.specs.Layouts.{Layout', counter_place}
-use Rattle.keys.specs.Objects.{fresh, object_of, owner_of, Run}
+use Rattle.keys.specs.Objects.{fresh, object_of}
 use Rattle.keys.proofs.Objects.{run_same}
 use Rattle.robustlist.specs.declared.unlink.UnlinkRow.{UnlinkRow}
 use Rattle.robustlist.specs.declared.unlink.UnlinkRow.TheVariants as unlink_row
 use Rattle.robustlist.specs.Standings.{UnlinkStanding}
 use Rattle.robustlist.specs.Unlink.{unlink_access_of, unlink_moved}
 use Rattle.mutex.specs.Laws.{points}
-use Rattle.mutex.specs.Programs.{access_of}
 use Rattle.mutex.specs.declared.row.Row.TheVariants as mutex_row
 use Rattle.mutex.specs.declared.unlock.UnlockRow.TheVariants as unlock
 use Rattle.mutex.specs.Standings.{Whole}
@@ -47,15 +46,13 @@ use Rattle.ruledwords.specs.Cards.{at, value_at}
 use Rattle.ruledwords.specs.ConditionCalls.{CondFound, IsCondAnswerOf, IsCondStep, IsInCondCall}
 use Rattle.ruledwords.specs.Conditions.{cond_row_in, cond_standing, release_of, CondReady, Counts, IsAtCondition, Meets}
 use Rattle.ruledwords.specs.ConditionStands.{cond_reply, cond_acts, CondEnded, CondStands, LeftUsable}
-use Rattle.ruledwords.specs.Counts.{cell_at, mutex_at}
+use Rattle.ruledwords.specs.Counts.{cell_at}
 use Rattle.ruledwords.specs.Lists.{known}
 use Rattle.ruledwords.specs.Looks.{noted}
 use Rattle.ruledwords.specs.OwnWords.{own_after, owns_in}
-use Rattle.ruledwords.specs.Seen.{by, held_after, holds, Called, Sees}
-use Rattle.ruledwords.specs.Turns.{HasSeenTheSame}
+use Rattle.ruledwords.specs.Seen.{held_after, holds, Called, Sees}
 use Rattle.ruledwords.proofs.Cards.{saw_more}
 use Rattle.ruledwords.proofs.ConditionActs.{q, m, unlink_no_section, whole}
-use Rattle.ruledwords.proofs.Lists.{told}
 use Rattle.ruledwords.proofs.Noted.{seen_noted, seen_stored, still_called}
 use Rattle.ruledwords.proofs.OwnTurns.{own_same}
 use Rattle.ruledwords.proofs.Standing.{made_right}

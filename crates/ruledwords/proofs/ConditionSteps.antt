@@ -1,5 +1,5 @@
 -- Each access of a call at its mutex's cell or at its condition variable's counter keeps the rule.
-use Rattle.std.proofs.Common.{Bool, true, false, ◌≡◌, ◌≢◌, ℕ, ◌+◌, ◌%◌, ◌^◌, ◌<◌, ◌≤◌, ◌==◌, get_or, Option, Some, None, List, [], ◌∷◌, ◌++◌, refl, sym, ap, ◌∙◌, subst, arith, bit_or}
+use Rattle.std.proofs.Common.{Bool, true, false, ◌≡◌, ℕ, ◌+◌, ◌^◌, ◌<◌, ◌≤◌, ◌==◌, get_or, Option, Some, None, List, [], ◌∷◌, ◌++◌, refl, sym, ap, ◌∙◌, subst, arith, bit_or}
 use Rattle.std.specs.Prelude.{if◌then◌else◌, length, not}
 use mathlib.Core.Option.{none}
 use Rattle.atomic_table.specs.Table.{step, keeps, Allows}
@@ -7,7 +7,6 @@ use Rattle.lockword.specs.Cells.{Fields, fields_of}
 use Rattle.lockword.specs.declared.reply.Reply.{Reply}
 use Rattle.lockword.specs.declared.reply.Reply.TheVariants.{EPERM, XSTATE}
 use Rattle.lockword.proofs.Bits.{or_waiting}
-use Rattle.keys.specs.declared.access.Access.{Access}
 use Rattle.keys.specs.declared.object.Object.{Object}
 use Rattle.keys.specs.declared.point.Operation.{Operation}
 use Rattle.keys.specs.declared.point.Operation.TheVariants as operation
@@ -30,13 +29,13 @@ use Rattle.condvar.specs.Programs.{point_of, row_access}
 use Rattle.condvar.specs.Rows.{ends, goes, IsGoing}
 use Rattle.condvar.proofs.Rights.{right}
 use Rattle.ruledwords.specs.declared.card.Card.{Card}
-use Rattle.ruledwords.specs.Calls.{address_at, OwnKept, Ready}
+use Rattle.ruledwords.specs.Calls.{address_at, OwnKept}
 use Rattle.ruledwords.specs.Cards.{at, value_at}
-use Rattle.ruledwords.specs.Conditions.{access_at, acted, cond_led_at, release_of, CondReady, CondStanding, Counts, Meets, Needs}
+use Rattle.ruledwords.specs.Conditions.{access_at, acted, cond_led_at, release_of, CondReady, CondStanding, Counts, Meets}
 use Rattle.ruledwords.specs.ConditionCalls.{IsCondStep}
 use Rattle.ruledwords.specs.Counts.{cell_at, counter_in, mutex_at}
-use Rattle.ruledwords.specs.Looks.{Finds, looked, noted}
-use Rattle.ruledwords.specs.OwnWords.{owns_in, IsOwn, KnowsOwn}
+use Rattle.ruledwords.specs.Looks.{Finds, noted}
+use Rattle.ruledwords.specs.OwnWords.{owns_in, IsOwn}
 use Rattle.ruledwords.specs.Rules.{owner_at, Kept, Turns}
 use Rattle.ruledwords.specs.Seen.{holds, Sees}
 use Rattle.ruledwords.proofs.Counters.{counting, counter_small, kept_counted, sees_counted}
@@ -45,7 +44,7 @@ use Rattle.ruledwords.proofs.Held.{owner_held}
 use Rattle.ruledwords.proofs.Keepers.{other_cell}
 use Rattle.ruledwords.proofs.Lists.{told, value_put, value_put_else}
 use Rattle.ruledwords.proofs.Looks.{found, kept_noted}
-use Rattle.ruledwords.proofs.Moves.{Knowing, Sat, allows, says, turns}
+use Rattle.ruledwords.proofs.Moves.{Knowing, allows, says, turns}
 use Rattle.ruledwords.proofs.OwnWords.{own_place}
 use Rattle.ruledwords.proofs.Steps.{holder, is_owner_by, makes, may_have, others_run_keep, own_kept, since_seen, sound, values_after}
 use Rattle.ruledwords.proofs.Trims.{kept_left}

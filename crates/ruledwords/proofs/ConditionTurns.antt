@@ -12,12 +12,10 @@ use Rattle.keys.specs.declared.point.Progress.TheVariants.{Goes, Returns}
 use Rattle.keys.specs.declared.point.Operation.TheVariants as operation
 use Rattle.keys.specs.Accesses.{address_of, answer_at}
 use Rattle.robustlist.specs.Unlink.{unlink_access_of}
-use Rattle.keys.specs.Layouts.{Layout', address_in, cell_place, counter_place, place_in, words_of}
+use Rattle.keys.specs.Layouts.{Layout', address_in, counter_place, place_in, words_of}
 use Rattle.keys.specs.Objects.{held_limit}
 use Rattle.mutex.proofs.Addresses.{again}
 use Rattle.mutex.specs.declared.phase.Phase.TheVariants as phase
-use Rattle.mutex.specs.declared.row.Row.TheVariants as row
-use Rattle.mutex.specs.declared.unlock.UnlockRow.TheVariants as unlock
 use Rattle.mutex.specs.Standings.{Whole}
 use Rattle.mutex.specs.Whole.{retaking}
 use Rattle.mutex.specs.WholeLists.{IsCallOn}

@@ -1,5 +1,5 @@
 -- A step at a counter, by the owner of its mutex, keeps the rule.
-use Rattle.std.proofs.Common.{Bool, true, false, ◌≡◌, ◌≢◌, ⊎_elim, ℕ, zero, suc, ◌+◌, ◌-◌, ◌/◌, ◌<◌, ◌≤◌, get_or, Option, Some, None, List, [], ◌∷◌, ◌++◌, length, set, refl, sym, ap, ◌∙◌, subst, arith, append-nil, length-set, get_or-set_other, get_or-set_same}
+use Rattle.std.proofs.Common.{Bool, true, false, ◌≡◌, ◌≢◌, ⊎_elim, ℕ, zero, suc, ◌+◌, ◌-◌, ◌/◌, ◌<◌, ◌≤◌, get_or, Option, Some, None, List, [], ◌∷◌, ◌++◌, length, set, refl, sym, ap, ◌∙◌, subst, arith, length-set, get_or-set_other, get_or-set_same}
 use Rattle.std.specs.Prelude.{nat_lt, if◌then◌else◌}
 use Rattle.std.proofs.lemmas.Bool.Decides.{nat_tests}
 use mathlib.Core.Logic.{dite}
@@ -12,13 +12,12 @@ use Rattle.atomic_table.proofs.Lists.{at_set}
 use Rattle.lockword.specs.Cells.{fields_of}
 use Rattle.lockword.specs.declared.reply.Reply.{Reply}
 use Rattle.lockword.specs.declared.reply.Reply.TheVariants.{OK}
-use Rattle.keys.specs.declared.object.Object.{Object}
 use Rattle.keys.specs.declared.point.Operation.{Operation}
 use Rattle.keys.specs.declared.point.Operation.TheVariants as operation
 use Rattle.keys.specs.declared.point.Point.{Point}
 use Rattle.keys.specs.Layouts.{Layout', IsLayout, cell_place, counter_place, words_of}
-use Rattle.keys.specs.Objects.{fresh, Run, object_of}
-use Rattle.condvar.specs.Laws.{largest_counter, reply_counts}
+use Rattle.keys.specs.Objects.{Run, object_of}
+use Rattle.condvar.specs.Laws.{largest_counter}
 use Rattle.ruledwords.specs.declared.card.Card.{Card}
 use Rattle.ruledwords.specs.Cards.{at, put, value_at, put_value, mark_at}
 use Rattle.ruledwords.specs.Conditions.{looked_at_counter}
@@ -27,8 +26,8 @@ use Rattle.ruledwords.specs.Looks.{noted}
 use Rattle.ruledwords.specs.Rules.{guard, owner_at, keeper, Fits, AllFit, Kept}
 use Rattle.ruledwords.specs.Seen.{Leaves, Sees}
 use Rattle.ruledwords.proofs.Counts.{counted_same, counted_more, counts_more, of_mutex, told_counts}
-use Rattle.ruledwords.proofs.Keepers.{counter_no_cell, inside, keeper_same, other_cell}
-use Rattle.ruledwords.proofs.Lists.{at_put, at_put_else, by_other, told, value_put, value_put_else, all_set, all_two, counted}
+use Rattle.ruledwords.proofs.Keepers.{counter_no_cell, keeper_same, other_cell}
+use Rattle.ruledwords.proofs.Lists.{at_put, at_put_else, told, value_put, value_put_else, all_set, all_two, counted}
 use Rattle.ruledwords.proofs.Looks.{kept_noted}
 use Rattle.ruledwords.proofs.Moves.{St, says, leaves_more, sees_step, all_fit_other, begins_told, by_told, turns}
 

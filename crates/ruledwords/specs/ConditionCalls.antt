@@ -1,6 +1,5 @@
 -- Calls on condition variables that are under way, and what their turns tell.
 use Rattle.std.specs.Prelude.{◌≡◌, ℕ, List}
-use Rattle.lockword.specs.declared.reply.Reply.{Reply}
 use Rattle.keys.specs.declared.access.Access.{Access}
 use Rattle.keys.specs.declared.access.Access.TheVariants.{FetchAdd, CmpRequeue}
 use Rattle.keys.specs.declared.access.Answer.{Answer}

@@ -3,14 +3,12 @@ use Rattle.std.specs.Prelude.{◌≡◌, ◌≢◌, ℕ, ◌+◌, ◌-◌, ◌<�
 use Rattle.lockword.specs.Cells.{fields_of}
 use Rattle.lockword.specs.declared.reply.Reply.TheVariants.{OK}
 use Rattle.keys.specs.declared.access.Access.{Access}
-use Rattle.keys.specs.declared.access.Access.TheVariants.{FetchAdd, Wait as AtWait, CmpRequeue}
-use Rattle.keys.specs.declared.access.Answer.{Answer}
-use Rattle.keys.specs.declared.access.Answer.TheVariants.{Counts as Moved, Again}
+use Rattle.keys.specs.declared.access.Access.TheVariants.{Wait as AtWait, CmpRequeue}
 use Rattle.keys.specs.declared.object.Object.{Object}
 use Rattle.keys.specs.declared.point.Operation.TheVariants as operation
 use Rattle.keys.specs.Accesses.{answer_at, changed}
 use Rattle.keys.specs.Histories.{is_thread}
-use Rattle.keys.specs.Layouts.{Layout', address_in, cell_place, counter_place, place_in}
+use Rattle.keys.specs.Layouts.{Layout', address_in, counter_place, place_in}
 use Rattle.keys.specs.Objects.{fresh, held_limit, object_of, Run}
 use Rattle.mutex.specs.declared.phase.Phase.{Phase}
 use Rattle.mutex.specs.declared.phase.Phase.TheVariants as phase

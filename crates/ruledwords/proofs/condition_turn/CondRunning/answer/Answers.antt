@@ -1,5 +1,4 @@
-use Rattle.std.proofs.Common.{◌≡◌, ◌-◌, ◌≤◌, ℕ, refl, sym, ap, ◌∙◌, subst}
-use Rattle.keys.specs.Objects.{held_limit}
+use Rattle.std.proofs.Common.{◌≡◌, ◌≤◌, refl, sym, ap, ◌∙◌, subst}
 use Rattle.mutex.specs.Standings.{Whole}
 use Rattle.mutex.specs.Whole.{retaking, IsUnderWay}
 use Rattle.condvar.specs.declared.phase.CondPhase.TheVariants.{Locking}

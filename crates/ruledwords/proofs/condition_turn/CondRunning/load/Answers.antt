@@ -1,5 +1,4 @@
-use Rattle.std.proofs.Common.{◌≡◌, ◌<◌, ℕ, length, refl, sym, ap, ◌∙◌, subst}
-use Rattle.keys.specs.Layouts.{counter_place}
+use Rattle.std.proofs.Common.{refl, sym, ap, ◌∙◌, subst}
 use Rattle.ruledwords.specs.ConditionCalls.{IsInCondCall}
 use Rattle.ruledwords.specs.Conditions.{condition_at}
 use Rattle.ruledwords.specs.Passes.{IsCardOf}

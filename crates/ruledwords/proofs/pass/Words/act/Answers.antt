@@ -1,4 +1,4 @@
-use Rattle.std.proofs.Common.{◌∙◌, refl, sym, ap, subst}
+use Rattle.std.proofs.Common.{◌∙◌, refl, sym, ap}
 use Rattle.keys.specs.declared.access.Access.TheVariants.{Load, FetchXor, FetchOr, FetchAdd}
 use Rattle.keys.specs.Layouts.{place_in}
 use Rattle.ruledwords.specs.Conditions.{CondStanding}

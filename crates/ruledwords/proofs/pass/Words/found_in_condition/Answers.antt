@@ -3,7 +3,6 @@ use Rattle.keys.specs.declared.access.Access.{Access}
 use Rattle.keys.specs.Accesses.{address_of}
 use Rattle.keys.specs.Layouts.{place_in}
 use Rattle.mutex.specs.Standings.{Whole}
-use Rattle.condvar.specs.declared.phase.CondPhase.TheVariants.{AtWords}
 use Rattle.condvar.specs.Standings.{CondWhole}
 use Rattle.ruledwords.specs.ConditionCalls.{IsCondStep}
 use Rattle.ruledwords.specs.Conditions.{condition_at, unlock_of}
