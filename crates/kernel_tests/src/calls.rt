@@ -1,7 +1,8 @@
 //! Each call of a kernel, by worked tables. The caller's process maps the words at 0, so that addresses are places.
 
-use crate::batches::{has_ids, thread};
-use buckets::Batch;
+use crate::kernels::{
+    RequeueCall, cmp_requeue, has_sleepers, is_asleep, remove, requeue, wait, wake,
+};
 use lockword::Reply;
 use std::alloc::Global;
 use std::process::Abort;
@@ -84,57 +85,6 @@ fn words(rt: &impl Abort, alloc: Global) -> Result<PlainMemory, Fail> {
     Ok(memory)
 }
 
-fn reply_of(answer: Result<(), Reply>) -> Reply {
-    match answer {
-        Ok(()) => Reply::OK,
-        Err(reply) => reply,
-    }
-}
-
-/// A wait of a thread that doesn't sleep.
-fn wait(
-    rt: &impl Abort,
-    kernel: &mut Kernel,
-    memory: &PlainMemory,
-    id: u8,
-    at: u64,
-    expected: u32,
-) -> Reply {
-    let thread = thread(rt, id);
-    assert!(rt; thread.get() <= kernel.threads());
-    assert!(rt; !kernel.asleep(thread));
-    reply_of(kernel.wait(0, memory, thread, at, expected))
-}
-
-/// A wake woke these, where the reply is `OK`.
-fn woke(rt: &impl Abort, answer: Result<Batch, Reply>, reply: Reply, ids: &[u8]) {
-    match answer {
-        Ok(woken) => {
-            assert!(rt; reply == Reply::OK);
-            has_ids(rt, &woken, ids);
-        }
-        Err(refused) => assert!(rt; reply == refused),
-    }
-}
-
-/// A requeue woke and moved these, where the reply is `OK`.
-fn requeued(
-    rt: &impl Abort,
-    answer: Result<(Batch, Batch), Reply>,
-    reply: Reply,
-    woken: &[u8],
-    moved: &[u8],
-) {
-    match answer {
-        Ok((first, second)) => {
-            assert!(rt; reply == Reply::OK);
-            has_ids(rt, &first, woken);
-            has_ids(rt, &second, moved);
-        }
-        Err(refused) => assert!(rt; reply == refused),
-    }
-}
-
 /// Makes a call.
 fn make(rt: &impl Abort, kernel: &mut Kernel, memory: &PlainMemory, call: Call) {
     match call {
@@ -144,19 +94,23 @@ fn make(rt: &impl Abort, kernel: &mut Kernel, memory: &PlainMemory, call: Call) 
             expected,
             reply,
         } => {
-            assert!(rt; wait(rt, kernel, memory, id, at, expected) == reply);
+            assert!(rt; wait(rt, kernel, 0, memory, id, at, expected) == reply);
         }
-        Call::Wake { at, n, ids } => woke(rt, kernel.wake(0, memory, at, n), Reply::OK, ids),
-        Call::WakeRefused { at, n, reply } => woke(rt, kernel.wake(0, memory, at, n), reply, &[]),
-        Call::Remove { id, slept } => assert!(rt; kernel.remove(thread(rt, id)) == slept),
-        Call::Asleep { id, asleep } => assert!(rt; kernel.asleep(thread(rt, id)) == asleep),
-        Call::Sleepers { at, ids } => has_ids(rt, &kernel.sleepers(at), ids),
-        _ => requeue(rt, kernel, memory, call),
+        Call::Wake { at, n, ids } => {
+            assert!(rt; wake(rt, kernel, 0, memory, at, n, ids) == Reply::OK);
+        }
+        Call::WakeRefused { at, n, reply } => {
+            assert!(rt; wake(rt, kernel, 0, memory, at, n, &[]) == reply);
+        }
+        Call::Remove { id, slept } => assert!(rt; remove(rt, kernel, id) == slept),
+        Call::Asleep { id, asleep } => assert!(rt; is_asleep(rt, kernel, id) == asleep),
+        Call::Sleepers { at, ids } => has_sleepers(rt, kernel, at, ids),
+        _ => move_sleepers(rt, kernel, memory, call),
     }
 }
 
 /// Makes a requeue.
-fn requeue(rt: &impl Abort, kernel: &mut Kernel, memory: &PlainMemory, call: Call) {
+fn move_sleepers(rt: &impl Abort, kernel: &mut Kernel, memory: &PlainMemory, call: Call) {
     match call {
         Call::Requeue {
             from,
@@ -166,22 +120,19 @@ fn requeue(rt: &impl Abort, kernel: &mut Kernel, memory: &PlainMemory, call: Cal
             woken,
             moved,
         } => {
-            requeued(
-                rt,
-                kernel.requeue(0, memory, from, wake, to, moves),
-                Reply::OK,
+            let call = RequeueCall {
+                from,
+                wake,
+                to,
+                moves,
                 woken,
                 moved,
-            );
+            };
+            assert!(rt; requeue(rt, kernel, 0, memory, call) == Reply::OK);
         }
         Call::RequeueRefused { from, to, reply } => {
-            requeued(
-                rt,
-                kernel.requeue(0, memory, from, 1, to, 1),
-                reply,
-                &[],
-                &[],
-            );
+            let call = RequeueCall::refused(from, to);
+            assert!(rt; requeue(rt, kernel, 0, memory, call) == reply);
         }
         Call::CmpRequeue {
             from,
@@ -192,8 +143,15 @@ fn requeue(rt: &impl Abort, kernel: &mut Kernel, memory: &PlainMemory, call: Cal
             woken,
             moved,
         } => {
-            let answer = kernel.cmp_requeue(0, memory, from, expected, wake, to, moves);
-            requeued(rt, answer, Reply::OK, woken, moved);
+            let call = RequeueCall {
+                from,
+                wake,
+                to,
+                moves,
+                woken,
+                moved,
+            };
+            assert!(rt; cmp_requeue(rt, kernel, 0, memory, expected, call) == Reply::OK);
         }
         Call::CmpRequeueRefused {
             from,
@@ -201,8 +159,8 @@ fn requeue(rt: &impl Abort, kernel: &mut Kernel, memory: &PlainMemory, call: Cal
             to,
             reply,
         } => {
-            let answer = kernel.cmp_requeue(0, memory, from, expected, 1, to, 1);
-            requeued(rt, answer, reply, &[], &[]);
+            let call = RequeueCall::refused(from, to);
+            assert!(rt; cmp_requeue(rt, kernel, 0, memory, expected, call) == reply);
         }
         _ => assert!(rt; false),
     }

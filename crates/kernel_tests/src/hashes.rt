@@ -1,7 +1,7 @@
 //! A kernel's buckets: which keys each has, and requeues between two.
 
-use crate::batches::{has_ids, thread};
-use buckets::Batch;
+use crate::batches::has_ids;
+use crate::kernels::{RequeueCall, is_asleep, remove, requeue, wait, wake};
 use keys::key_of;
 use lockword::Reply;
 use std::alloc::Global;
@@ -9,13 +9,12 @@ use std::process::Abort;
 use std::test::Fail;
 use syscalls::{Kernel, PlainMemory};
 
-/// A thread that doesn't sleep falls asleep on a word that is 0.
-fn sleep(rt: &impl Abort, kernel: &mut Kernel, memory: &PlainMemory, id: u8, at: u64) {
-    let thread = thread(rt, id);
-    assert!(rt; thread.get() <= kernel.threads());
-    assert!(rt; !kernel.asleep(thread));
-    assert!(rt; kernel.wait(0, memory, thread, at, 0) == Ok(()));
-    assert!(rt; kernel.asleep(thread));
+/// Threads fall asleep on words that are 0, each at an address.
+fn sleep(rt: &impl Abort, kernel: &mut Kernel, memory: &PlainMemory, sleepers: &[(u8, u64)]) {
+    for (id, at) in sleepers {
+        assert!(rt; wait(rt, kernel, 0, memory, *id, *at, 0) == Reply::OK);
+        assert!(rt; is_asleep(rt, kernel, *id));
+    }
 }
 
 /// These sleep on the key, in this order, as a bucket has it.
@@ -23,25 +22,25 @@ fn has_queue(rt: &impl Abort, kernel: &Kernel, bucket: u8, key: u64, ids: &[u8])
     has_ids(rt, &kernel.bucket(bucket).sleepers(key_of(key)), ids);
 }
 
-/// A requeue that wakes nobody moved these, in this order.
-fn moved(
+/// A requeue that wakes nobody moves these, in this order.
+fn moves(
     rt: &impl Abort,
     kernel: &mut Kernel,
     memory: &PlainMemory,
     from: u64,
     to: u64,
     moves: u32,
-) -> Batch {
-    match kernel.requeue(0, memory, from, 0, to, moves) {
-        Ok((woken, moved)) => {
-            assert!(rt; woken.is_empty());
-            moved
-        }
-        Err(_) => {
-            assert!(rt; false);
-            Batch::new()
-        }
-    }
+    moved: &'static [u8],
+) {
+    let call = RequeueCall {
+        from,
+        wake: 0,
+        to,
+        moves,
+        woken: &[],
+        moved,
+    };
+    assert!(rt; requeue(rt, kernel, 0, memory, call) == Reply::OK);
 }
 
 /// 1,024 words, all 0: each bucket has four of them.
@@ -50,23 +49,47 @@ fn words(alloc: Global) -> Result<PlainMemory, Fail> {
 }
 
 /// The words 10 and 778 have one bucket, and the words 10 and 11 have two.
+static SLEEPERS: [(u8, u64); 4] = [(1, 10), (2, 778), (3, 11), (4, 10)];
+
+/// A bucket, a key, and who sleeps on the key in that bucket.
+static QUEUES: [(u8, u64, &[u8]); 17] = [
+    (10, 10, &[1, 4]),
+    (10, 778, &[2]),
+    (10, 11, &[]),
+    (11, 11, &[3]),
+    (11, 10, &[]),
+    (0, 10, &[]),
+    (0, 11, &[]),
+    (0, 778, &[]),
+    (9, 10, &[]),
+    (9, 11, &[]),
+    (9, 778, &[]),
+    (12, 10, &[]),
+    (12, 11, &[]),
+    (12, 778, &[]),
+    (255, 10, &[]),
+    (255, 11, &[]),
+    (255, 778, &[]),
+];
+
 #[test]
 fn a_bucket_has_the_queues_of_its_keys(rt: HostRuntime) -> Result<(), Fail> {
     let memory = words(rt.alloc())?;
     let mut kernel = Kernel::new(rt.alloc(), 4)?;
-    for (id, at) in [(1, 10), (2, 778), (3, 11), (4, 10)] {
-        sleep(&rt, &mut kernel, &memory, id, at);
+    sleep(&rt, &mut kernel, &memory, &SLEEPERS);
+    for (bucket, key, ids) in &QUEUES {
+        has_queue(&rt, &kernel, *bucket, *key, *ids);
     }
-    has_queue(&rt, &kernel, 10, 10, &[1, 4]);
-    has_queue(&rt, &kernel, 10, 778, &[2]);
-    has_queue(&rt, &kernel, 10, 11, &[]);
-    has_queue(&rt, &kernel, 11, 11, &[3]);
-    has_queue(&rt, &kernel, 11, 10, &[]);
-    for bucket in [0, 9, 12, 255] {
-        for key in [10, 11, 778] {
-            has_queue(&rt, &kernel, bucket, key, &[]);
-        }
-    }
+    Ok(())
+}
+
+static FOUR_SLEEP: [(u8, u64); 4] = [(3, 10), (1, 10), (2, 10), (4, 255)];
+
+/// The thread is asleep, and leaves a copy of the kernel as a sleeper.
+fn can_be_removed(rt: &impl Abort, kernel: &Kernel, id: u8) -> Result<(), Fail> {
+    assert!(rt; is_asleep(rt, kernel, id));
+    let mut copy = kernel.clone()?;
+    assert!(rt; remove(rt, &mut copy, id));
     Ok(())
 }
 
@@ -75,27 +98,21 @@ fn a_bucket_has_the_queues_of_its_keys(rt: HostRuntime) -> Result<(), Fail> {
 fn a_requeue_moves_between_two_buckets(rt: HostRuntime) -> Result<(), Fail> {
     let memory = words(rt.alloc())?;
     let mut kernel = Kernel::new(rt.alloc(), 4)?;
-    for (id, at) in [(3, 10), (1, 10), (2, 10), (4, 255)] {
-        sleep(&rt, &mut kernel, &memory, id, at);
-    }
-    has_ids(&rt, &moved(&rt, &mut kernel, &memory, 10, 255, 2), &[3, 1]);
+    sleep(&rt, &mut kernel, &memory, &FOUR_SLEEP);
+    moves(&rt, &mut kernel, &memory, 10, 255, 2, &[3, 1]);
     has_queue(&rt, &kernel, 10, 10, &[2]);
     has_queue(&rt, &kernel, 255, 255, &[4, 3, 1]);
-    assert!(rt; kernel.remove(thread(&rt, 3)));
-    assert!(rt; !kernel.asleep(thread(&rt, 3)));
-    has_ids(&rt, &moved(&rt, &mut kernel, &memory, 255, 10, 64), &[4, 1]);
+    assert!(rt; remove(&rt, &mut kernel, 3));
+    assert!(rt; !is_asleep(&rt, &kernel, 3));
+    moves(&rt, &mut kernel, &memory, 255, 10, 64, &[4, 1]);
     has_queue(&rt, &kernel, 10, 10, &[2, 4, 1]);
-    has_ids(&rt, &moved(&rt, &mut kernel, &memory, 10, 778, 1), &[2]);
+    moves(&rt, &mut kernel, &memory, 10, 778, 1, &[2]);
     has_queue(&rt, &kernel, 10, 778, &[2]);
-    for id in [1, 2, 4] {
-        assert!(rt; kernel.asleep(thread(&rt, id)));
-        assert!(rt; kernel.clone()?.remove(thread(&rt, id)));
-    }
-    match kernel.wake(0, &memory, 10, 64) {
-        Ok(woken) => has_ids(&rt, &woken, &[4, 1]),
-        Err(reply) => assert!(rt; reply == Reply::OK),
-    }
-    assert!(rt; !kernel.asleep(thread(&rt, 4)));
+    can_be_removed(&rt, &kernel, 1)?;
+    can_be_removed(&rt, &kernel, 2)?;
+    can_be_removed(&rt, &kernel, 4)?;
+    assert!(rt; wake(&rt, &mut kernel, 0, &memory, 10, 64, &[4, 1]) == Reply::OK);
+    assert!(rt; !is_asleep(&rt, &kernel, 4));
     Ok(())
 }
 
@@ -103,7 +120,7 @@ fn a_requeue_moves_between_two_buckets(rt: HostRuntime) -> Result<(), Fail> {
 #[test]
 fn an_unknown_thread_does_not_sleep(rt: HostRuntime) -> Result<(), Fail> {
     let mut kernel = Kernel::new(rt.alloc(), 2)?;
-    assert!(rt; !kernel.asleep(thread(&rt, 3)));
-    assert!(rt; !kernel.remove(thread(&rt, 64)));
+    assert!(rt; !is_asleep(&rt, &kernel, 3));
+    assert!(rt; !remove(&rt, &mut kernel, 64));
     Ok(())
 }

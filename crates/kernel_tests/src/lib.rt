@@ -11,6 +11,8 @@ mod calls;
 #[cfg(test)]
 mod hashes;
 #[cfg(test)]
+mod kernels;
+#[cfg(test)]
 mod links;
 #[cfg(test)]
 mod memories;

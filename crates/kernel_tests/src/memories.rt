@@ -23,7 +23,7 @@ fn make<M: Memory>(memory: &mut M, access: Access) -> Option<u64> {
 }
 
 /// Accesses to words 1 and 2, which are 0, and what each tells.
-const VALID: [(Access, u64); 9] = [
+static VALID: [(Access, u64); 9] = [
     (Access::Store { at: 2, value: 12 }, 12),
     (
         Access::Exchange {
@@ -56,35 +56,36 @@ const VALID: [(Access, u64); 9] = [
 ];
 
 /// Addresses of no word.
-const INVALID: [u64; 3] = [0, 3, u64::MAX];
+static INVALID: [u64; 3] = [0, 3, u64::MAX];
 
 /// An access tells this word.
 fn tells<M: Memory>(rt: &impl Abort, memory: &mut M, access: Access, word: Option<u64>) {
     assert!(rt; make(memory, access) == word);
 }
 
+/// Each access to this address tells no word.
+fn tells_nothing<M: Memory>(rt: &impl Abort, memory: &mut M, at: u64) {
+    tells(rt, memory, Access::Load { at }, None);
+    tells(rt, memory, Access::Store { at, value: 1 }, None);
+    let exchange = Access::Exchange {
+        at,
+        expected: 0,
+        new: 1,
+    };
+    tells(rt, memory, exchange, None);
+    tells(rt, memory, Access::FetchXor { at, operand: 1 }, None);
+    tells(rt, memory, Access::FetchOr { at, operand: 1 }, None);
+    tells(rt, memory, Access::FetchAnd { at, operand: 1 }, None);
+    tells(rt, memory, Access::FetchAdd { at, operand: 1 }, None);
+}
+
 /// Each access to one word of any memory that has words 1 and 2 and no word 3, of which both are 0.
 fn accesses<M: Memory>(rt: &impl Abort, memory: &mut M) {
-    for (access, word) in VALID {
-        tells(rt, memory, access, Some(word));
+    for (access, word) in &VALID {
+        tells(rt, memory, *access, Some(*word));
     }
-    for at in INVALID {
-        tells(rt, memory, Access::Load { at }, None);
-        tells(rt, memory, Access::Store { at, value: 1 }, None);
-        tells(
-            rt,
-            memory,
-            Access::Exchange {
-                at,
-                expected: 0,
-                new: 1,
-            },
-            None,
-        );
-        tells(rt, memory, Access::FetchXor { at, operand: 1 }, None);
-        tells(rt, memory, Access::FetchOr { at, operand: 1 }, None);
-        tells(rt, memory, Access::FetchAnd { at, operand: 1 }, None);
-        tells(rt, memory, Access::FetchAdd { at, operand: 1 }, None);
+    for at in &INVALID {
+        tells_nothing(rt, memory, *at);
     }
 }
 

@@ -1,7 +1,6 @@
 //! Futex calls of processes that map the words at bases of their own: words meet by their places, whatever their addresses.
 
-use crate::batches::{has_ids, thread};
-use buckets::Batch;
+use crate::kernels::{RequeueCall, cmp_requeue, has_sleepers, requeue, trim, wait, wake};
 use lockword::Reply;
 use std::alloc::Global;
 use std::process::Abort;
@@ -13,38 +12,22 @@ fn words(alloc: Global) -> Result<PlainMemory, Fail> {
     Ok(PlainMemory::new(alloc, 16)?)
 }
 
-/// A wait of a thread that doesn't sleep, for a word that is 0.
-fn wait(
+/// The thread falls asleep on a word that is 0.
+fn sleeps(rt: &impl Abort, kernel: &mut Kernel, base: u64, memory: &PlainMemory, id: u8, at: u64) {
+    assert!(rt; wait(rt, kernel, base, memory, id, at, 0) == Reply::OK);
+}
+
+/// These are woken, in this order.
+fn wakes(
     rt: &impl Abort,
     kernel: &mut Kernel,
     base: u64,
     memory: &PlainMemory,
-    id: u8,
     at: u64,
-) -> Result<(), Reply> {
-    let thread = thread(rt, id);
-    assert!(rt; thread.get() <= kernel.threads());
-    assert!(rt; !kernel.asleep(thread));
-    kernel.wait(base, memory, thread, at, 0)
-}
-
-/// These were woken, in this order.
-fn woke(rt: &impl Abort, answer: Result<Batch, Reply>, ids: &[u8]) {
-    match answer {
-        Ok(woken) => has_ids(rt, &woken, ids),
-        Err(reply) => assert!(rt; reply == Reply::OK),
-    }
-}
-
-/// Nobody was woken, and these were moved, in this order.
-fn moved(rt: &impl Abort, answer: Result<(Batch, Batch), Reply>, ids: &[u8]) {
-    match answer {
-        Ok((woken, moved)) => {
-            assert!(rt; woken.is_empty());
-            has_ids(rt, &moved, ids);
-        }
-        Err(reply) => assert!(rt; reply == Reply::OK),
-    }
+    n: u32,
+    ids: &[u8],
+) {
+    assert!(rt; wake(rt, kernel, base, memory, at, n, ids) == Reply::OK);
 }
 
 /// The bases lie 5 apart: the address 1010 is that of place 10 in the one process and of place 5 in the other.
@@ -52,14 +35,26 @@ fn moved(rt: &impl Abort, answer: Result<(Batch, Batch), Reply>, ids: &[u8]) {
 fn one_address_is_two_places(rt: HostRuntime) -> Result<(), Fail> {
     let memory = words(rt.alloc())?;
     let mut kernel = Kernel::new(rt.alloc(), 2)?;
-    assert!(rt; wait(&rt, &mut kernel, 1000, &memory, 1, 1010) == Ok(()));
-    assert!(rt; wait(&rt, &mut kernel, 1005, &memory, 2, 1010) == Ok(()));
-    has_ids(&rt, &kernel.sleepers(10), &[1]);
-    has_ids(&rt, &kernel.sleepers(5), &[2]);
-    woke(&rt, kernel.wake(1005, &memory, 1010, 64), &[2]);
-    woke(&rt, kernel.wake(1005, &memory, 1010, 64), &[]);
-    woke(&rt, kernel.wake(1000, &memory, 1010, 64), &[1]);
+    sleeps(&rt, &mut kernel, 1000, &memory, 1, 1010);
+    sleeps(&rt, &mut kernel, 1005, &memory, 2, 1010);
+    has_sleepers(&rt, &kernel, 10, &[1]);
+    has_sleepers(&rt, &kernel, 5, &[2]);
+    wakes(&rt, &mut kernel, 1005, &memory, 1010, 64, &[2]);
+    wakes(&rt, &mut kernel, 1005, &memory, 1010, 64, &[]);
+    wakes(&rt, &mut kernel, 1000, &memory, 1010, 64, &[1]);
     Ok(())
+}
+
+/// A requeue of one that wakes nobody, and who is moved.
+fn of_one(from: u64, to: u64, moved: &'static [u8]) -> RequeueCall {
+    RequeueCall {
+        from,
+        wake: 0,
+        to,
+        moves: 1,
+        woken: &[],
+        moved,
+    }
 }
 
 /// Threads of four processes sleep on word 4, by the addresses 4, 5, 1004 and 1000000004; they are woken and moved in the order in which they fell asleep, from any process.
@@ -67,30 +62,30 @@ fn one_address_is_two_places(rt: HostRuntime) -> Result<(), Fail> {
 fn one_place_has_several_addresses(rt: HostRuntime) -> Result<(), Fail> {
     let memory = words(rt.alloc())?;
     let mut kernel = Kernel::new(rt.alloc(), 4)?;
-    for (id, base, at) in [
-        (3, 1000, 1004),
-        (1, 0, 4),
-        (4, 1_000_000_000, 1_000_000_004),
-        (2, 1, 5),
-    ] {
-        assert!(rt; wait(&rt, &mut kernel, base, &memory, id, at) == Ok(()));
-    }
-    has_ids(&rt, &kernel.sleepers(4), &[3, 1, 4, 2]);
-    has_ids(&rt, &kernel.sleepers(5), &[]);
-    woke(&rt, kernel.wake(1, &memory, 5, 1), &[3]);
-    moved(
-        &rt,
-        kernel.cmp_requeue(1000, &memory, 1004, 0, 0, 1006, 1),
-        &[1],
-    );
-    moved(
-        &rt,
-        kernel.requeue(1_000_000_000, &memory, 1_000_000_004, 0, 1_000_000_006, 1),
-        &[4],
-    );
-    has_ids(&rt, &kernel.sleepers(4), &[2]);
-    woke(&rt, kernel.wake(0, &memory, 6, 64), &[1, 4]);
+    sleeps(&rt, &mut kernel, 1000, &memory, 3, 1004);
+    sleeps(&rt, &mut kernel, 0, &memory, 1, 4);
+    sleeps(&rt, &mut kernel, 1_000_000_000, &memory, 4, 1_000_000_004);
+    sleeps(&rt, &mut kernel, 1, &memory, 2, 5);
+    has_sleepers(&rt, &kernel, 4, &[3, 1, 4, 2]);
+    has_sleepers(&rt, &kernel, 5, &[]);
+    wakes(&rt, &mut kernel, 1, &memory, 5, 1, &[3]);
+    let first = of_one(1004, 1006, &[1]);
+    assert!(rt; cmp_requeue(&rt, &mut kernel, 1000, &memory, 0, first) == Reply::OK);
+    let second = of_one(1_000_000_004, 1_000_000_006, &[4]);
+    assert!(rt; requeue(&rt, &mut kernel, 1_000_000_000, &memory, second) == Reply::OK);
+    has_sleepers(&rt, &kernel, 4, &[2]);
+    wakes(&rt, &mut kernel, 0, &memory, 6, 64, &[1, 4]);
     Ok(())
+}
+
+/// Writes the word at a place.
+fn put(rt: &impl Abort, memory: &mut PlainMemory, place: u64, word: u64) {
+    assert!(rt; memory.store(place, word).is_some());
+}
+
+/// The word at a place is this one.
+fn has_word(rt: &impl Abort, memory: &PlainMemory, place: u64, word: u64) {
+    assert!(rt; memory.load(place) == Some(word));
 }
 
 /// A trim by any process finds the sleeper of another one.
@@ -98,50 +93,66 @@ fn one_place_has_several_addresses(rt: HostRuntime) -> Result<(), Fail> {
 fn a_trim_looks_at_the_place(rt: HostRuntime) -> Result<(), Fail> {
     let mut memory = words(rt.alloc())?;
     let mut kernel = Kernel::new(rt.alloc(), 1)?;
-    assert!(rt; wait(&rt, &mut kernel, 1000, &memory, 1, 1008) == Ok(()));
-    for place in [7, 8, 9] {
-        assert!(rt; memory.store(place, 0x8000_0000).is_some());
-    }
-    assert!(rt; kernel.trim(2000, &mut memory, 2008) == Ok(false));
-    assert!(rt; kernel.trim(2000, &mut memory, 2009) == Ok(true));
-    assert!(rt; kernel.trim(1001, &mut memory, 1008) == Ok(true));
-    for (place, word) in [(7, 0), (8, 0x8000_0000), (9, 0)] {
-        assert!(rt; memory.load(place) == Some(word));
-    }
+    sleeps(&rt, &mut kernel, 1000, &memory, 1, 1008);
+    put(&rt, &mut memory, 7, 0x8000_0000);
+    put(&rt, &mut memory, 8, 0x8000_0000);
+    put(&rt, &mut memory, 9, 0x8000_0000);
+    assert!(rt; trim(&kernel, 2000, &mut memory, 2008) == Ok(false));
+    assert!(rt; trim(&kernel, 2000, &mut memory, 2009) == Ok(true));
+    assert!(rt; trim(&kernel, 1001, &mut memory, 1008) == Ok(true));
+    has_word(&rt, &memory, 7, 0);
+    has_word(&rt, &memory, 8, 0x8000_0000);
+    has_word(&rt, &memory, 9, 0);
     Ok(())
 }
 
-/// At base 1000 the valid addresses are 1001 to 1015; at 2^64 - 1 they are 0 to 14.
+/// A base, and an address of no place: at base 1000 the valid addresses are 1001 to 1015; at 2^64 - 1 they are 0 to 14.
+static NOWHERE: [(u64, u64); 8] = [
+    (1000, 0),
+    (1000, 4),
+    (1000, 999),
+    (1000, 1000),
+    (1000, 1016),
+    (1000, u64::MAX),
+    (u64::MAX, 15),
+    (u64::MAX, u64::MAX),
+];
+
+/// Requeues between these addresses have this reply, whether they compare or not.
+fn requeues(
+    rt: &impl Abort,
+    kernel: &mut Kernel,
+    base: u64,
+    memory: &PlainMemory,
+    call: RequeueCall,
+    reply: Reply,
+) {
+    assert!(rt; requeue(rt, kernel, base, memory, call) == reply);
+    assert!(rt; cmp_requeue(rt, kernel, base, memory, 7, call) == reply);
+}
+
+/// Each call of a process with this base refuses the address.
+fn is_refused(rt: &impl Abort, kernel: &mut Kernel, memory: &mut PlainMemory, base: u64, at: u64) {
+    let good = 5_u64.wrapping_add(base);
+    assert!(rt; wait(rt, kernel, base, memory, 1, at, 0) == Reply::EFAULT);
+    assert!(rt; wake(rt, kernel, base, memory, at, 1, &[]) == Reply::EFAULT);
+    assert!(rt; trim(kernel, base, memory, at) == Err(Reply::EFAULT));
+    let same = RequeueCall::refused(at, at);
+    let to = RequeueCall::refused(good, at);
+    let from = RequeueCall::refused(at, good);
+    requeues(rt, kernel, base, memory, same, Reply::EINVAL);
+    requeues(rt, kernel, base, memory, to, Reply::EFAULT);
+    requeues(rt, kernel, base, memory, from, Reply::EFAULT);
+}
+
 #[test]
 fn an_address_of_no_place_is_refused(rt: HostRuntime) -> Result<(), Fail> {
     let mut memory = words(rt.alloc())?;
     let mut kernel = Kernel::new(rt.alloc(), 1)?;
-    for (base, at) in [
-        (1000, 0),
-        (1000, 4),
-        (1000, 999),
-        (1000, 1000),
-        (1000, 1016),
-        (1000, u64::MAX),
-        (u64::MAX, 15),
-        (u64::MAX, u64::MAX),
-    ] {
-        let good = 5_u64.wrapping_add(base);
-        assert!(rt; wait(&rt, &mut kernel, base, &memory, 1, at) == Err(Reply::EFAULT));
-        assert!(rt; kernel.wake(base, &memory, at, 1).err() == Some(Reply::EFAULT));
-        assert!(rt; kernel.trim(base, &mut memory, at) == Err(Reply::EFAULT));
-        for (from, to, reply) in [
-            (at, at, Reply::EINVAL),
-            (good, at, Reply::EFAULT),
-            (at, good, Reply::EFAULT),
-        ] {
-            let plain = kernel.requeue(base, &memory, from, 1, to, 1);
-            assert!(rt; plain.err() == Some(reply));
-            let compared = kernel.cmp_requeue(base, &memory, from, 7, 1, to, 1);
-            assert!(rt; compared.err() == Some(reply));
-        }
+    for (base, at) in &NOWHERE {
+        is_refused(&rt, &mut kernel, &mut memory, *base, *at);
     }
-    assert!(rt; wait(&rt, &mut kernel, u64::MAX, &memory, 1, 14) == Ok(()));
-    has_ids(&rt, &kernel.sleepers(15), &[1]);
+    sleeps(&rt, &mut kernel, u64::MAX, &memory, 1, 14);
+    has_sleepers(&rt, &kernel, 15, &[1]);
     Ok(())
 }

@@ -68,10 +68,19 @@ fn wait(rt: &impl Abort, bucket: &mut Bucket, id: u8, seen: u64, expected: u32) 
     bucket.wait_section(thread, Key(7), seen, expected)
 }
 
-/// A requeue within the bucket, of keys that differ.
-fn move_within(rt: &impl Abort, bucket: &mut Bucket, key: u64, n: u32, to: u64) -> Batch {
+/// A wake takes these, in this order.
+fn take(rt: &impl Abort, bucket: &mut Bucket, key: u64, n: u32, ids: &[u8]) {
+    has_ids(rt, &bucket.take(Key(key), n), ids);
+}
+
+/// A requeue within the bucket, of keys that differ, moves these, in this order.
+fn move_within(rt: &impl Abort, bucket: &mut Bucket, key: u64, n: u32, to: u64, ids: &[u8]) {
     assert!(rt; key != to);
-    bucket.move_within(Key(key), n, Key(to))
+    has_ids(rt, &bucket.move_within(Key(key), n, Key(to)), ids);
+}
+
+fn remove(rt: &impl Abort, bucket: &mut Bucket, id: u8) -> bool {
+    bucket.remove(thread(rt, id))
 }
 
 /// Makes a call that changes the bucket.
@@ -86,11 +95,9 @@ fn make(rt: &impl Abort, bucket: &mut Bucket, call: Call) {
         } => {
             assert!(rt; wait(rt, bucket, id, seen, expected) == sleeps);
         }
-        Call::Take { key, n, ids } => has_ids(rt, &bucket.take(Key(key), n), ids),
-        Call::MoveWithin { key, n, to, ids } => {
-            has_ids(rt, &move_within(rt, bucket, key, n, to), ids);
-        }
-        Call::Remove { id, stood } => assert!(rt; bucket.remove(thread(rt, id)) == stood),
+        Call::Take { key, n, ids } => take(rt, bucket, key, n, ids),
+        Call::MoveWithin { key, n, to, ids } => move_within(rt, bucket, key, n, to, ids),
+        Call::Remove { id, stood } => assert!(rt; remove(rt, bucket, id) == stood),
         _ => look(rt, bucket, call),
     }
 }
@@ -112,7 +119,7 @@ fn make_all(rt: &impl Abort, bucket: &mut Bucket, calls: &[Call]) {
     }
 }
 
-const WAKES: [Call; 18] = [
+static WAKES: [Call; 18] = [
     Call::Enqueue { id: 3, key: 7 },
     Call::Enqueue { id: 1, key: 9 },
     Call::Enqueue { id: 2, key: 7 },
@@ -166,13 +173,13 @@ fn a_wake_takes_the_first_of_one_key(rt: HostRuntime) -> Result<(), Fail> {
     Ok(())
 }
 
-const THREE_SLEEP: [Call; 3] = [
+static THREE_SLEEP: [Call; 3] = [
     Call::Enqueue { id: 1, key: 5 },
     Call::Enqueue { id: 2, key: 5 },
     Call::Enqueue { id: 3, key: 5 },
 ];
 
-const REMOVALS: [Call; 4] = [
+static REMOVALS: [Call; 4] = [
     Call::Remove { id: 2, stood: true },
     Call::Remove {
         id: 2,
@@ -199,7 +206,7 @@ fn a_removal_takes_one_thread(rt: HostRuntime) -> Result<(), Fail> {
     Ok(())
 }
 
-const REQUEUES: [Call; 12] = [
+static REQUEUES: [Call; 12] = [
     Call::Enqueue { id: 1, key: 7 },
     Call::Enqueue { id: 5, key: 9 },
     Call::Enqueue { id: 2, key: 7 },
@@ -242,21 +249,21 @@ fn a_requeue_moves_the_first_of_one_key(rt: HostRuntime) -> Result<(), Fail> {
     Ok(())
 }
 
-const FOUR_SLEEP: [Call; 4] = [
+static FOUR_SLEEP: [Call; 4] = [
     Call::Enqueue { id: 1, key: 7 },
     Call::Enqueue { id: 2, key: 7 },
     Call::Enqueue { id: 3, key: 7 },
     Call::Enqueue { id: 4, key: 7 },
 ];
 
-const TWO_ARE_LEFT: [Call; 1] = [Call::Sleepers {
+static TWO_ARE_LEFT: [Call; 1] = [Call::Sleepers {
     key: 7,
     ids: &[3, 4],
 }];
 
-const ONE_SLEEPS: [Call; 1] = [Call::Enqueue { id: 5, key: 9 }];
+static ONE_SLEEPS: [Call; 1] = [Call::Enqueue { id: 5, key: 9 }];
 
-const TWO_CAME: [Call; 3] = [
+static TWO_CAME: [Call; 3] = [
     Call::Sleepers {
         key: 9,
         ids: &[5, 1, 2],
@@ -268,6 +275,11 @@ const TWO_CAME: [Call; 3] = [
     },
     Call::Enqueue { id: 4, key: 9 },
 ];
+
+/// Whether so many sleepers of a key fit into another bucket.
+fn fits(bucket: &Bucket, other: &Bucket, key: u64, n: u32) -> bool {
+    bucket.fits(other, Key(key), n)
+}
 
 /// A move from key 7 to key 9 of another bucket, which it fits into.
 fn move_two(rt: &impl Abort, bucket: &mut Bucket, other: &mut Bucket) {
@@ -281,17 +293,17 @@ fn a_requeue_moves_into_another_bucket(rt: HostRuntime) -> Result<(), Fail> {
     let mut other = Bucket::new(rt.alloc(), 3)?;
     make_all(&rt, &mut bucket, &FOUR_SLEEP);
     make_all(&rt, &mut other, &ONE_SLEEPS);
-    assert!(rt; bucket.fits(&other, Key(8), u32::MAX));
-    assert!(rt; !bucket.fits(&other, Key(7), 3));
+    assert!(rt; fits(&bucket, &other, 8, u32::MAX));
+    assert!(rt; !fits(&bucket, &other, 7, 3));
     move_two(&rt, &mut bucket, &mut other);
     make_all(&rt, &mut bucket, &TWO_ARE_LEFT);
     make_all(&rt, &mut other, &TWO_CAME);
-    assert!(rt; bucket.fits(&other, Key(7), 1));
-    assert!(rt; !bucket.fits(&other, Key(7), 2));
+    assert!(rt; fits(&bucket, &other, 7, 1));
+    assert!(rt; !fits(&bucket, &other, 7, 2));
     Ok(())
 }
 
-const WAITS: [Call; 7] = [
+static WAITS: [Call; 7] = [
     Call::Wait {
         id: 1,
         seen: 0xffff_ffff_0000_0002,

@@ -1,7 +1,7 @@
 //! Where each thread's robust list begins.
 
-use super::reply_of;
 use crate::batches::thread;
+use crate::kernels::reply_of;
 use lockword::Reply;
 use std::process::Abort;
 use std::test::Fail;

@@ -5,7 +5,7 @@ use lockword::Reply;
 use std::test::Fail;
 use syscalls::Kernel;
 
-const REQUEUES: [Call; 20] = [
+static REQUEUES: [Call; 20] = [
     Call::Wait {
         id: 1,
         at: 4,
@@ -131,7 +131,7 @@ fn requeues_of_five_threads(rt: HostRuntime) -> Result<(), Fail> {
     Ok(())
 }
 
-const WAKES_AND_MOVES: [Call; 9] = [
+static WAKES_AND_MOVES: [Call; 9] = [
     Call::Wait {
         id: 4,
         at: 6,

@@ -1,12 +1,12 @@
 //! Waits and wakes, and sleepers that die.
 
 use super::{Call, make_all, words};
-use crate::batches::has_ids;
+use crate::kernels::has_sleepers;
 use lockword::Reply;
 use std::test::Fail;
 use syscalls::Kernel;
 
-const WAITS_AND_WAKES: [Call; 15] = [
+static WAITS_AND_WAKES: [Call; 15] = [
     Call::Wait {
         id: 1,
         at: 4,
@@ -98,7 +98,7 @@ fn waits_and_wakes_of_four_threads(rt: HostRuntime) -> Result<(), Fail> {
     Ok(())
 }
 
-const FIVE_SLEEP: [Call; 6] = [
+static FIVE_SLEEP: [Call; 6] = [
     Call::Wait {
         id: 3,
         at: 15,
@@ -135,7 +135,7 @@ const FIVE_SLEEP: [Call; 6] = [
     },
 ];
 
-const ONE_DIES: [Call; 6] = [
+static ONE_DIES: [Call; 6] = [
     Call::Remove {
         id: 64,
         slept: true,
@@ -171,7 +171,7 @@ fn a_removal_takes_one_thread(rt: HostRuntime) -> Result<(), Fail> {
     make_all(&rt, &mut kernel, &memory, &FIVE_SLEEP);
     let copy = kernel.clone()?;
     make_all(&rt, &mut kernel, &memory, &ONE_DIES);
-    has_ids(&rt, &copy.sleepers(15), &[3, 64, 1, 2]);
+    has_sleepers(&rt, &copy, 15, &[3, 64, 1, 2]);
     assert!(rt; kernel.threads() == 64);
     Ok(())
 }
