@@ -2,13 +2,15 @@
 ghost use Rattle.std.specs.Prelude.{◌≡◌, ◌<◌, true, IfOk, IfErr};
 ghost use Rattle.ruledwords.specs.OwnWords.{owns_in};
 ghost use Rattle.ruledwords.specs.Passes.{card, layout_of, IsLive, IsPassOf};
+ghost use Rattle.threadbench.specs.Answered.{IsWorkerOf};
+ghost use Rattle.recovery.specs.NotOwned.{IsNotOwnedOf};
 
 use crate::accounts::Accounts;
 use lockword::Reply;
 use mutex::Call;
 use ruledwords::{Live, Never, Outcome, Pass, Reaped, Released, Running};
 use std::sync::Wait;
-use threadbench::Bench;
+use threadbench::{Bench, WorkerPass};
 
 /// Accounts behind a mutex of a bench.
 #[derive(Drop)]
@@ -24,6 +26,15 @@ pub(crate) struct Owner<'a> {
     pub(crate) accounts: &'a Accounts,
     mutex: u16,
     pass: Pass<Live>,
+}
+
+/// Why a thread doesn't own the mutex.
+#[derive(Drop)]
+pub(crate) enum NotOwned {
+    /// Its lock was answered so.
+    Refused(Pass<Live>, Reply),
+    /// Somebody killed it ([`Bench::kill`]), and the kernel went through its list.
+    Killed(Pass<Reaped>),
 }
 
 impl Guarded {
@@ -46,13 +57,13 @@ impl Guarded {
         rt: &R,
         bench: &Bench,
         pass: Pass<Live>,
-    ) -> Result<Owner<'a>, (Pass<Live>, Reply)>
+    ) -> Result<Owner<'a>, NotOwned>
         requires pass { IsLive bench.now pass }
         requires mutex { self.now.mutex < (layout_of bench.now).mutexes }
         ensures live { IfOk result (λ o. IsLive bench.now o.pass) }
         ensures mutex { IfOk result (λ o. o.mutex ≡ self.now.mutex) }
         ensures owns { IfOk result (λ o. owns_in (layout_of bench.now) (card o.pass) self.now.mutex ≡ true) }
-        ensures refused { IfErr result (λ e. IsLive bench.now e.0) }
+        ensures not { IfErr result (IsNotOwnedOf bench.now) }
     {
         match bench.lock(rt, pass, self.mutex, &mut Never) {
             Outcome::Lives(pass, Reply::OK) => Ok(self.owner(Reply::OK, pass)),
@@ -61,8 +72,8 @@ impl Guarded {
                 let pass = declared(bench, pass, self.mutex);
                 Ok(self.owner(Reply::EOWNERDEAD, pass))
             }
-            Outcome::Lives(pass, told) => Err((pass, told)),
-            Outcome::Dead(_) => unreachable!(),
+            Outcome::Lives(pass, told) => Err(NotOwned::Refused(pass, told)),
+            Outcome::Dead(dead) => Err(NotOwned::Killed(bench.exit(rt, dead))),
         }
     }
 
@@ -93,11 +104,11 @@ fn declared(bench: &Bench, pass: Pass<Live>, mutex: u16) -> Pass<Live>
 }
 
 impl Owner<'_> {
-    /// Frees the mutex, and wakes one who waits for it.
-    pub(crate) fn unlock<R: Wait>(self, rt: &R, bench: &Bench) -> Pass<Live>
+    /// Frees the mutex, and wakes one who waits for it. Where somebody kills its thread before that wake, the kernel makes it as it goes through the thread's list.
+    pub(crate) fn unlock<R: Wait>(self, rt: &R, bench: &Bench) -> WorkerPass
         requires pass { IsLive bench.now self.pass }
         requires mutex { self.mutex < (layout_of bench.now).mutexes }
-        ensures { IsLive bench.now result }
+        ensures { IsWorkerOf bench.now result }
     {
         let Owner {
             told: _,
@@ -107,10 +118,10 @@ impl Owner<'_> {
         } = self;
         match bench.words().release(pass, mutex, &mut Never) {
             Released::Owes(owed) => match bench.pay(rt, owed, &mut Never) {
-                Outcome::Lives(pass, _) => pass,
-                Outcome::Dead(_) => unreachable!(),
+                Outcome::Lives(pass, _) => WorkerPass::Lives(pass),
+                Outcome::Dead(dead) => WorkerPass::Reaped(bench.exit(rt, dead)),
             },
-            Released::Refused(pass, _) => pass,
+            Released::Refused(pass, _) => WorkerPass::Lives(pass),
             Released::Dead(_) => unreachable!(),
         }
     }

@@ -12,7 +12,7 @@ ghost use Rattle.std.specs.Prelude.{◌≡◌, ◌<◌};
 ghost use Rattle.ruledwords.specs.Passes.{layout_of, IsLive, IsPassOf};
 
 use crate::accounts::Accounts;
-use crate::guard::{Guarded, Owner};
+use crate::guard::{Guarded, NotOwned, Owner};
 use keys::Layout;
 use lockword::Reply;
 use ruledwords::{Live, Pass, Reaped};
@@ -31,8 +31,8 @@ fn die_in_a_transfer<R: Wait>(rt: &R, bench: &Bench, owner: Owner<'_>) -> Pass<R
     owner.die(rt, bench)
 }
 
-/// Takes the mutex, makes a transfer, and tells what the lock was answered.
-fn transfer<R: Wait>(rt: &R, bench: &Bench, guarded: &Guarded, pass: Pass<Live>) -> Reply
+/// Takes the mutex, makes a transfer, and tells what the lock was answered, unless the thread was killed in it.
+fn transfer<R: Wait>(rt: &R, bench: &Bench, guarded: &Guarded, pass: Pass<Live>) -> Option<Reply>
     requires pass { IsLive bench.now pass }
     requires mutex { guarded.now.mutex < (layout_of bench.now).mutexes }
 {
@@ -42,9 +42,10 @@ fn transfer<R: Wait>(rt: &R, bench: &Bench, guarded: &Guarded, pass: Pass<Live>)
             owner.accounts.begin_transfer(10);
             owner.accounts.end_transfer(10);
             let _pass = owner.unlock(rt, bench);
-            told
+            Some(told)
         }
-        Err((_, refused)) => refused,
+        Err(NotOwned::Refused(_, refused)) => Some(refused),
+        Err(NotOwned::Killed(_)) => None,
     }
 }
 
@@ -55,13 +56,13 @@ fn recover<R: Threads + Wait + Sync>(
     guarded: &Guarded,
     first: Pass<Live>,
     second: Pass<Live>,
-) -> Reply
+) -> Option<Reply>
     requires first { IsLive bench.now first }
     requires second { IsLive bench.now second }
     requires mutex { guarded.now.mutex < (layout_of bench.now).mutexes }
 {
     let Ok(owner) = guarded.lock(rt, bench, first) else {
-        return Reply::EBUSY;
+        return None;
     };
     let (_dead, told) = thread::join(
         rt,
@@ -69,7 +70,7 @@ fn recover<R: Threads + Wait + Sync>(
             requires { IsLive bench.now owner.pass × (owner.mutex < (layout_of bench.now).mutexes) }
             ensures { IsPassOf bench.entry.now result }
         { die_in_a_transfer(rt, bench, owner) },
-        || -> Reply
+        || -> Option<Reply>
             requires { IsLive bench.now second × (guarded.now.mutex < (layout_of bench.now).mutexes) }
         { transfer(rt, bench, guarded, second) },
     );
@@ -89,7 +90,10 @@ fn main(rt: HostRuntime) -> io::Result<()> {
     };
     let told = recover(&rt, &bench, &guarded, first, second);
     let (first, second) = guarded.into_accounts().balances();
-    let told = told.name();
+    let told = match told {
+        Some(reply) => reply.name(),
+        None => "nothing",
+    };
     println!(rt;
         "an owner died with 30 taken; the next one was told {told}, and left {first} and {second}"
     )
