@@ -26,7 +26,7 @@ use Rattle.threadbench.specs.Each.{EachWith}
 use Rattle.threadbench.specs.Jobs.{IsJobOf, IsDone, AreDone, IsLeftOf, LivesOn, Worked}
 use Rattle.threadbench.proofs.Living.{works_on as still_works}
 use Rattle.report.specs.declared.threads.Worker.{Worker}
-use Rattle.report.specs.Threads.{is_reaped, open_gate, ArePossible, IsRightPhase, calls_at, calls_in, calls_over, AreFirst, AreHired, AreGathered, HaveWorked, HaveMade, HaveReplies, IsCountOf, OnlyNumberedDie, Works, WorksFrom}
+use Rattle.report.specs.Threads.{is_reaped, open_gate, ArePossible, IsRightPhase, calls_at, calls_in, calls_over, AreFirst, AreHired, AreGathered, HaveWorked, HaveMade, HaveReplies, IsCountOf, Works, WorksFrom}
 use Rattle.report.proofs.Names.{mapped_at}
 use Rattle.report.proofs.Working.{as_many, done_works, works_none, works_on}
 
@@ -284,27 +284,6 @@ have_replies w ps firsts vs rs died live made same i r d is_r is_d =
     let cs = calls_over (i + 1) ps in
     subst (λ (b : Bool). IsCountOf b (length r.items) (length cs)) (its_end vs died i v.0 d same v.1 is_d)
     (count_from w cs u.0.die u.0.pass v.0.pass v.0.die r.items (all_at (λ v. LivesOn w v.pass) firsts i u.0 live u.1) (made.each i u.0 v.0 r u.1 v.1 is_r))
-
-spared_from : (w : Words) (cs : List Call) (die : Option ℕ) (first second : WorkerPass) (left : Option ℕ) (rs : List Reply) → LivesOn w first → WorksFrom w cs die first rs (record { pass = second; die = left }) → die ≡ None → is_reaped second ≡ true → ⊥
-spared_from w cs die (Lives a) (Lives b) left rs lives works none dead = absurd (cc dead)
-spared_from w cs die (Lives a) (Reaped d) left rs lives works none dead = subst (λ (n : Option ℕ). IsLeftOf n (Reaped d) left) none works.1
-spared_from w cs die (Reaped a) second left rs lives works none dead = absurd lives
-
--- and threads without a number live
-pub only_numbered : (w : Words) (ps : List Phase) (passes : List (Pass Live)) (dies : List (Option ℕ)) (firsts vs : List Worker) (rs : List (Vec Reply Global)) (died : List Bool) → AreFirst passes dies firsts → All (λ v. LivesOn w v.pass) firsts → HaveMade w ps firsts vs rs → died ≡ map (λ v. is_reaped v.pass) vs → OnlyNumberedDie dies died
-only_numbered w ps passes dies firsts vs rs died numbers live made same i none dead =
-    let there : i < length died = slice_get_within died i true dead in
-    let as_died = ap length same in
-    let mapped = length-map vs (λ v. is_reaped v.pass) in
-    let many = made.as_many in
-    let long = made.as_long in
-    let few = numbers.as_many in
-    let a = some_at passes i (omega arith) in
-    let u = some_at firsts i (omega arith) in
-    let v = some_at vs i (omega arith) in
-    let r = some_at rs i (omega arith) in
-    let die : u.0.die ≡ None = same_Some _ _ (sym (numbers.each i a.0 u.0 a.1 u.1).1 ∙ none) in
-    spared_from w (calls_over (i + 1) ps) u.0.die u.0.pass v.0.pass v.0.die r.0.items (all_at (λ v. LivesOn w v.pass) firsts i u.0 live u.1) (made.each i u.0 v.0 r.0 u.1 v.1 r.1) die (its_end vs died i v.0 true same v.1 dead)
 
 -- the first threads live
 pub firsts_live : (w : Words) (passes : List (Pass Live)) (dies : List (Option ℕ)) (firsts : List Worker) → AreFirst passes dies firsts → All (λ a. IsLive w a) passes → (i : ℕ) (d : Worker) → i < length firsts → LivesOn w (get_or firsts i d).pass

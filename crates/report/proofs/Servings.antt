@@ -21,7 +21,7 @@ use Rattle.script.specs.Deaths.{death_of}
 use Rattle.script.specs.Jobs.{jobs_seen, jobs_of, dies_of}
 use Rattle.script.specs.declared.workload.Phase.{Phase}
 use Rattle.report.specs.declared.threads.Answers.{Answers}
-use Rattle.report.specs.Threads.{HaveAnswered, OnlyNumberedDie}
+use Rattle.report.specs.Threads.{HaveAnswered}
 use Rattle.texts.specs.Replies.{replies_text}
 use Rattle.streams.specs.Leaves.{AppendsFront}
 use Rattle.texts.specs.Text.{head_line, line_text, end_line, trace_text}
@@ -93,12 +93,11 @@ pub told_front : (old new : Option (List ℕ)) (bytes : List ℕ) (s : Scope) (a
 told_front old new bytes s a reads answer front = wrote_front replies old new bytes s (replies_text front.0 front.1) reads (a, answer, front.0, front.1, front.2, refl) front.3
 
 -- what real threads were answered is an answer to the script
-pub answered : (s : Scope) (a : Answers) (phases : List Phase) (dies : List (Option ℕ)) → map jobs_seen phases ≡ jobs_of s → dies ≡ dies_of s → HaveAnswered (layout_of s) (counters_of s) phases dies a.replies.items a.died.items a.cells.items → OnlyNumberedDie dies a.died.items → Answer s a
-answered s a phases dies asked same had numbered = record {
+pub answered : (s : Scope) (a : Answers) (phases : List Phase) (dies : List (Option ℕ)) → map jobs_seen phases ≡ jobs_of s → dies ≡ dies_of s → HaveAnswered (layout_of s) (counters_of s) phases dies a.replies.items a.died.items a.cells.items → Answer s a
+answered s a phases dies asked same had = record {
   phases = phases;
   asked = asked;
   answered = subst (λ (ns : List (Option ℕ)). HaveAnswered (layout_of s) (counters_of s) phases ns a.replies.items a.died.items a.cells.items) same had;
-  numbered = subst (λ (ns : List (Option ℕ)). OnlyNumberedDie ns a.died.items) same numbered;
 }
 
 pub as_many_dies : (s : Scope) → length (dies_of s) ≡ length s.threads

@@ -99,7 +99,7 @@ left_on (Some n) (Some m) last b (Lives p) some left = left
 left_on (Some n) (Some m) last b (Reaped p) some left = left
 
 left_dead : (first left : Option ℕ) (d : Pass ReapedThread) → IsLeftOf first (Reaped d) left → IsLeftOf first (Reaped d) None
-left_dead None left d is = absurd is
+left_dead None left d is = refl
 left_dead (Some n) left d is = refl
 
 left_all : (n : Option ℕ) (a : Pass Live) → IsLeftOf n (Lives a) n

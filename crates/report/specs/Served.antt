@@ -17,7 +17,7 @@ use Rattle.texts.specs.declared.replies.MutexWord.{MutexWord}
 use Rattle.script.specs.declared.workload.Phase.{Phase}
 use Rattle.script.specs.Jobs.{jobs_seen, jobs_of, dies_of}
 use Rattle.report.specs.declared.threads.Answers.{Answers}
-use Rattle.report.specs.Threads.{HaveAnswered, OnlyNumberedDie}
+use Rattle.report.specs.Threads.{HaveAnswered}
 use Rattle.texts.specs.Replies.{replies_text}
 use Rattle.streams.specs.Leaves.{AppendsFront}
 use Rattle.texts.specs.Tables.{table_text}
@@ -41,12 +41,11 @@ pub record AreLines (s : Scope) (a : Answers) (threads : List ThreadReplies) (mu
   pub mutex_names : map (λ m. m.name.now) mutexes ≡ s.mutexes
   pub cells : map (λ m. m.cell) mutexes ≡ a.cells.items
 
--- real threads made the script's calls, each in the process that the script has it in, phase after phase, as far as they lived, and were answered so. Only those die that the script says it of
+-- real threads made the script's calls, each in the process that the script has it in, phase after phase, as far as they lived, and were answered so
 pub record Answer (s : Scope) (a : Answers) : Type 0 where
   pub phases : List Phase
   pub asked : map jobs_seen phases ≡ jobs_of s
   pub answered : HaveAnswered (layout_of s) (counters_of s) phases (dies_of s) a.replies.items a.died.items a.cells.items
-  pub numbered : OnlyNumberedDie (dies_of s) a.died.items
 
 -- how a script's events leave its threads, mutexes and condition variables
 abbrev pub meant_table : Scope → List ℕ

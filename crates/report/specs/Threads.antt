@@ -127,7 +127,3 @@ IsCountOf false replies calls = replies ≡ calls
 
 abbrev pub HaveReplies : List Phase → List (Vec Reply Global) → List Bool → Type 0
 HaveReplies ps replies died = (i : ℕ) (r : Vec Reply Global) (d : Bool) → slice_get replies i ≡ Some r → slice_get died i ≡ Some d → IsCountOf d (length r.items) (length (calls_over (i + 1) ps))
-
--- only threads with a number die
-abbrev pub OnlyNumberedDie : List (Option ℕ) → List Bool → Type 0
-OnlyNumberedDie dies died = (i : ℕ) → slice_get dies i ≡ Some None → slice_get died i ≡ Some true → ⊥

@@ -4,7 +4,7 @@ ghost use Rattle.ruledwords.specs.Passes.{card, layout_of, last_layout, IsPassOf
 ghost use Rattle.script.specs.Playing.{counters_of, layout_of as layout_in};
 ghost use Rattle.threadbench.specs.Answered.{card_in, IsWorkerOf};
 ghost use Rattle.threadbench.specs.Jobs.{LivesOn};
-ghost use Rattle.report.specs.Threads.{is_reaped, IsRightPhase, AreRightPhases, calls_in, AreFirst, AreHired, AreGathered, AreCells, HaveWorked, HaveMade, HasEnded, HaveAnswered, HaveReplies, OnlyNumberedDie};
+ghost use Rattle.report.specs.Threads.{is_reaped, IsRightPhase, AreRightPhases, calls_in, AreFirst, AreHired, AreGathered, AreCells, HaveWorked, HaveMade, HasEnded, HaveAnswered, HaveReplies};
 
 use keys::NoMem;
 use lockword::Reply;
@@ -258,7 +258,6 @@ pub(crate) fn answers_of<R: Threads + Wait + Sync>(
     ensures cells { IfOk result (λ a. length a.cells.items ≡ length script.now.mutexes) }
     ensures answered { IfOk result (λ a. HaveAnswered (layout_in script.now) (counters_of script.now) jobs.phases.items jobs.dies.items a.replies.items a.died.items a.cells.items) }
     ensures each { IfOk result (λ a. HaveReplies jobs.phases.items a.replies.items a.died.items) }
-    ensures numbered { IfOk result (λ a. OnlyNumberedDie jobs.dies.items a.died.items) }
 {
     let Ok(counters) = counters_of(alloc, script) else {
         return Err(NoMem);

@@ -12,14 +12,14 @@ pub returns-in-Ok-answers_of-clause-ends : goal.returns-in-Ok-answers_of-clause-
 returns-in-Ok-answers_of-clause-ends g c =
     let s = c.in-Ok.script in
     let a = c.in-Ok-answers_of.answers in
-    let answer = answered s a c.in-Ok-jobs.jobs.phases.items c.in-Ok-jobs.jobs.dies.items c.in-Ok-jobs.ensures.ok c.in-Ok-jobs.ensures.dies c.in-Ok-answers_of.ensures.answered c.in-Ok-answers_of.ensures.numbered in
+    let answer = answered s a c.in-Ok-jobs.jobs.phases.items c.in-Ok-jobs.jobs.dies.items c.in-Ok-jobs.ensures.ok c.in-Ok-jobs.ensures.dies c.in-Ok-answers_of.ensures.answered in
     IfOk-weaker c.tell_answers.result _ _ (λ status w. (w.0, told _ _ c.args.bytes.now s a c.in-Ok.ensures.reads answer w.1)) c.tell_answers.ensures.ends
 
 pub returns-in-Ok-answers_of-clause-fails : goal.returns-in-Ok-answers_of-clause-fails
 returns-in-Ok-answers_of-clause-fails g c =
     let s = c.in-Ok.script in
     let a = c.in-Ok-answers_of.answers in
-    let answer = answered s a c.in-Ok-jobs.jobs.phases.items c.in-Ok-jobs.jobs.dies.items c.in-Ok-jobs.ensures.ok c.in-Ok-jobs.ensures.dies c.in-Ok-answers_of.ensures.answered c.in-Ok-answers_of.ensures.numbered in
+    let answer = answered s a c.in-Ok-jobs.jobs.phases.items c.in-Ok-jobs.jobs.dies.items c.in-Ok-jobs.ensures.ok c.in-Ok-jobs.ensures.dies c.in-Ok-answers_of.ensures.answered in
     IfErr-weaker c.tell_answers.result _ _ (λ f h. told_fails _ _ c.args.bytes.now s a c.in-Ok.ensures.reads answer f h) c.tell_answers.ensures.fails
 
 pub answers_of-requires-clause-numbers : goal.answers_of-requires-clause-numbers

@@ -6,8 +6,8 @@ use Rattle.ruledwords.specs.Passes.{card, layout_of}
 use Rattle.ruledwords.specs.Rules.{first_card}
 use Rattle.script.specs.declared.workload.Phase.{Phase}
 use Rattle.script.proofs.Names.{length-map_of}
-use Rattle.report.specs.Threads.{AreFirst, HaveMade, HaveReplies, OnlyNumberedDie}
-use Rattle.report.proofs.Phases.{firsts_live, have_replies, only_numbered}
+use Rattle.report.specs.Threads.{AreFirst, HaveMade, HaveReplies}
+use Rattle.report.proofs.Phases.{firsts_live, have_replies}
 use Rattle.report.proofs.Told.{together}
 use Rattle.report.proofs.threads.answers_of.Goals as goal
 
@@ -48,9 +48,3 @@ returns-in-Ok-end-clause-each g c =
     let live = firsts_live c.in_ok-bench.bench c.in_ok-bench.passes.items c.as_slice-2.result.now c.in-Ok-workers_of.workers.items c.in-Ok-workers_of.ensures c.in_ok-bench.ensures.each in
     subst (λ (ps : List Phase). HaveReplies ps c.run_phases.new.replies.items c.in-Ok-end.died.items) c.as_slice-phases.ensures.value
     (have_replies c.in_ok-bench.bench c.as_slice-phases.result.now c.in-Ok-workers_of.workers.items c.in_ok-workers.workers.items c.run_phases.new.replies.items c.in-Ok-end.died.items live c.in_ok-workers.ensures c.in-Ok-end.ensures.died)
-
-pub returns-in-Ok-end-clause-numbered : goal.returns-in-Ok-end-clause-numbered
-returns-in-Ok-end-clause-numbered g c =
-    let live = firsts_live c.in_ok-bench.bench c.in_ok-bench.passes.items c.as_slice-2.result.now c.in-Ok-workers_of.workers.items c.in-Ok-workers_of.ensures c.in_ok-bench.ensures.each in
-    subst (λ (ns : List (Option ℕ)). OnlyNumberedDie ns c.in-Ok-end.died.items) c.as_slice-2.ensures.value
-    (only_numbered c.in_ok-bench.bench c.as_slice-phases.result.now c.in_ok-bench.passes.items c.as_slice-2.result.now c.in-Ok-workers_of.workers.items c.in_ok-workers.workers.items c.run_phases.new.replies.items c.in-Ok-end.died.items c.in-Ok-workers_of.ensures live c.in_ok-workers.ensures c.in-Ok-end.ensures.died)
