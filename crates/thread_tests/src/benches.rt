@@ -2,7 +2,8 @@
 ghost use Rattle.std.specs.Prelude.{◌≡◌, ◌<◌, [], All, IfOk, None};
 ghost use Rattle.mutex.specs.Calls.{mutex_of};
 ghost use Rattle.ruledwords.specs.Passes.{layout_of, IsLive};
-ghost use Rattle.threadbench.specs.Jobs.{IsJobOf, IsDone, AreDone, LivesOn};
+ghost use Rattle.threadbench.specs.Answered.{IsWorkerOf};
+ghost use Rattle.threadbench.specs.Jobs.{IsJobOf, IsDone, AreDone};
 
 use crate::hands::last_of;
 use keys::{Layout, NoMem};
@@ -10,6 +11,7 @@ use lockword::Reply;
 use mutex::Call;
 use ruledwords::{Live, Never, Outcome, Pass, Words};
 use std::alloc::Global;
+use std::process::Abort;
 use std::sync::Wait;
 use std::test::Fail;
 use std::thread::Threads;
@@ -17,13 +19,13 @@ use threadbench::{Bench, Gate, Job, Open, Record, WorkerPass};
 
 mod dying;
 mod gates;
+mod kills;
 mod sleepers;
 
 fn job(alloc: Global, bench: &Bench, pass: Pass<Live>, calls: &[Call]) -> Result<Job, NoMem>
     requires pass { IsLive bench.now pass }
     requires calls { All (λ c. mutex_of c < (layout_of bench.now).mutexes) calls.now }
-    ensures job { IfOk result (λ j. IsJobOf bench.now j) }
-    ensures lives { IfOk result (λ j. LivesOn bench.now j.pass × (j.die ≡ None)) }
+    ensures { IfOk result (λ j. IsJobOf bench.now j) }
 {
     match calls.to_vec(alloc) {
         Ok(calls) => Ok(Job {
@@ -103,9 +105,9 @@ struct Living {
     replies: Vec<Reply>,
 }
 
-/// The thread of a job without a number lives.
-fn alive(_bench: &Bench, record: Record) -> Living
-    requires { LivesOn _bench.now record.pass }
+/// The thread of a job without a number lives where nobody kills it.
+fn alive<R: Abort>(rt: &R, _bench: &Bench, record: Record) -> Living
+    requires { IsWorkerOf _bench.now record.pass }
     ensures { IsLive _bench.now result.pass }
 {
     let Record {
@@ -115,24 +117,24 @@ fn alive(_bench: &Bench, record: Record) -> Living
     } = record;
     match pass {
         WorkerPass::Lives(pass) => Living { pass, replies },
-        WorkerPass::Reaped(_) => unreachable!(),
+        WorkerPass::Reaped(_) => panic!(rt; "nobody was killed"),
     }
 }
 
 /// A phase of two threads that live.
-fn phase<R: Threads + Wait + Sync>(
+fn phase<R: Threads + Wait + Abort + Sync>(
     rt: &R,
     alloc: Global,
     bench: &Bench,
     first: Job,
     second: Job,
 ) -> Result<(Living, Living), NoMem>
-    requires first { IsJobOf bench.now first × LivesOn bench.now first.pass × (first.die ≡ None) }
-    requires second { IsJobOf bench.now second × LivesOn bench.now second.pass × (second.die ≡ None) }
+    requires first { IsJobOf bench.now first }
+    requires second { IsJobOf bench.now second }
     ensures { IfOk result (λ r. IsLive bench.now r.0.pass × IsLive bench.now r.1.pass) }
 {
     let (first, second) = both(rt, alloc, bench, first, second, &Open)?;
-    Ok((alive(bench, first), alive(bench, second)))
+    Ok((alive(rt, bench, first), alive(rt, bench, second)))
 }
 
 fn try_lock(words: &Words, pass: Pass<Live>, mutex: u16) -> (Pass<Live>, Reply)
@@ -148,7 +150,7 @@ fn try_lock(words: &Words, pass: Pass<Live>, mutex: u16) -> (Pass<Live>, Reply)
 
 /// Thread 1 owns mutex 0 and thread 2 mutex 1; then thread 1 gives back its own, and thread 2 takes that too.
 /// A phase in which the first thread tries mutex 1, and unlocks both mutexes; the second one makes no call.
-fn three_calls_beside_none<R: Threads + Wait + Sync>(
+fn three_calls_beside_none<R: Threads + Wait + Abort + Sync>(
     rt: &R,
     alloc: Global,
     bench: &Bench,
@@ -215,7 +217,7 @@ fn has_replied(replies: &[Reply], reply: Reply) -> bool {
 }
 
 /// A phase in which the first thread unlocks mutex 0, and the second one locks it.
-fn unlock_beside_a_lock<R: Threads + Wait + Sync>(
+fn unlock_beside_a_lock<R: Threads + Wait + Abort + Sync>(
     rt: &R,
     alloc: Global,
     bench: &Bench,

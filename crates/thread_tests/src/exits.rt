@@ -13,6 +13,7 @@ use mutex::Call;
 use ruledwords::{
     Dead, Live, Never, Outcome, Owed, Pass, Reaped, Reaping, Released, Running, Walked, Words,
 };
+use std::process::Abort;
 use std::sync::Wait;
 use std::test::Fail;
 use std::thread;
@@ -40,14 +41,14 @@ fn consistent(words: &Words, pass: Pass<Live>, mutex: u16) -> (Pass<Live>, Reply
     }
 }
 
-fn lock<R: Wait>(rt: &R, bench: &Bench, pass: Pass<Live>) -> (Pass<Live>, Reply)
+fn lock<R: Wait + Abort>(rt: &R, bench: &Bench, pass: Pass<Live>) -> (Pass<Live>, Reply)
     requires pass { IsLive bench.now pass }
     requires mutex { 0 < (layout_of bench.now).mutexes }
     ensures { IsLive bench.now result.0 }
 {
     match bench.lock(rt, pass, 0, &mut Never) {
         Outcome::Lives(pass, reply) => (pass, reply),
-        Outcome::Dead(_) => unreachable!(),
+        Outcome::Dead(_) => panic!(rt; "nobody was killed"),
     }
 }
 

@@ -5,13 +5,15 @@ ghost use Rattle.ruledwords.specs.Passes.{layout_of, IsLive};
 ghost use Rattle.threadbench.specs.Answered.{IsWorkerOf};
 ghost use Rattle.threadbench.specs.Jobs.{IsJobOf};
 
+use super::sleepers::lock;
 use super::{alive, both, job};
 use crate::hands::last_of;
 use keys::{Layout, NoMem};
 use lockword::{Reply, Tid};
 use mutex::Call;
-use ruledwords::{Live, Never, Outcome, Pass};
+use ruledwords::{Live, Pass};
 use std::alloc::Global;
+use std::process::Abort;
 use std::sync::Wait;
 use std::sync::atomic::{AtomicU64, Ordering};
 use std::test::Fail;
@@ -47,7 +49,7 @@ struct Story {
 }
 
 /// Thread 1 locks the mutex and unlocks it, and dies before its access with that number; then thread 2 locks it.
-fn lock_and_unlock<R: Threads + Wait + Sync>(
+fn lock_and_unlock<R: Threads + Wait + Abort + Sync>(
     rt: &R,
     alloc: Global,
     die: u32,
@@ -58,11 +60,8 @@ fn lock_and_unlock<R: Threads + Wait + Sync>(
     let first = dying(alloc, &bench, first, &[Call::Lock(0), Call::Unlock(0)], die)?;
     let second = job(alloc, &bench, second, &[])?;
     let (first, second) = both(rt, alloc, &bench, first, second, &Open)?;
-    let second = alive(&bench, second);
-    let (second, taken) = match bench.lock(rt, second.pass, 0, &mut Never) {
-        Outcome::Lives(pass, reply) => (pass, reply),
-        Outcome::Dead(_) => unreachable!(),
-    };
+    let second = alive(rt, &bench, second);
+    let (second, taken) = lock(rt, &bench, second.pass);
     let Record {
         pass,
         replies,

@@ -7,6 +7,7 @@ use crate::hands::last_of;
 use keys::Layout;
 use lockword::Reply;
 use ruledwords::{Fate, Live, Never, Outcome, Owed, Pass, Released};
+use std::process::Abort;
 use std::sync::Wait;
 use std::sync::atomic::{AtomicU64, Ordering};
 use std::test::Fail;
@@ -15,29 +16,31 @@ use threadbench::Bench;
 
 const ROUNDS: u32 = 5_000;
 
-fn lock<R: Wait>(rt: &R, bench: &Bench, pass: Pass<Live>) -> (Pass<Live>, Reply)
+/// A lock by a thread that nobody kills.
+pub(super) fn lock<R: Wait + Abort>(rt: &R, bench: &Bench, pass: Pass<Live>) -> (Pass<Live>, Reply)
     requires pass { IsLive bench.now pass }
     requires mutex { 0 < (layout_of bench.now).mutexes }
     ensures { IsLive bench.now result.0 }
 {
     match bench.lock(rt, pass, 0, &mut Never) {
         Outcome::Lives(pass, reply) => (pass, reply),
-        Outcome::Dead(_) => unreachable!(),
+        Outcome::Dead(_) => panic!(rt; "nobody was killed"),
     }
 }
 
-fn pay<R: Wait>(rt: &R, bench: &Bench, owed: Owed) -> (Pass<Live>, Reply)
+/// The end of an unlock by a thread that nobody kills.
+pub(super) fn pay<R: Wait + Abort>(rt: &R, bench: &Bench, owed: Owed) -> (Pass<Live>, Reply)
     requires { IsOwedOf bench.now owed }
     ensures { IsLive bench.now result.0 }
 {
     match bench.pay(rt, owed, &mut Never) {
         Outcome::Lives(pass, reply) => (pass, reply),
-        Outcome::Dead(_) => unreachable!(),
+        Outcome::Dead(_) => panic!(rt; "nobody was killed"),
     }
 }
 
 /// A lock and an unlock, and whether both were answered OK.
-fn round<R: Wait>(rt: &R, bench: &Bench, pass: Pass<Live>) -> (Pass<Live>, bool)
+fn round<R: Wait + Abort>(rt: &R, bench: &Bench, pass: Pass<Live>) -> (Pass<Live>, bool)
     requires pass { IsLive bench.now pass }
     requires mutex { 0 < (layout_of bench.now).mutexes }
     ensures { IsLive bench.now result.0 }
@@ -54,7 +57,7 @@ fn round<R: Wait>(rt: &R, bench: &Bench, pass: Pass<Live>) -> (Pass<Live>, bool)
 }
 
 /// The rounds that went well, and the pass.
-fn rounds<R: Wait>(rt: &R, bench: &Bench, first: Pass<Live>) -> (u32, Pass<Live>)
+fn rounds<R: Wait + Abort>(rt: &R, bench: &Bench, first: Pass<Live>) -> (u32, Pass<Live>)
     requires pass { IsLive bench.now first }
     requires mutex { 0 < (layout_of bench.now).mutexes }
     ensures { IsLive bench.entry.now result.1 }
@@ -94,7 +97,7 @@ fn two_threads_sleep_for_each_other(rt: HostRuntime) -> Result<(), Fail> {
 
 /// A fate that never stops its thread, and counts how often it was asked where others can see it.
 #[derive(Drop)]
-struct Counts<'a>(&'a AtomicU64);
+pub(super) struct Counts<'a>(pub(super) &'a AtomicU64);
 
 impl Fate for Counts<'_> {
     ghost stopped = { λ c. 0 };
@@ -106,7 +109,7 @@ impl Fate for Counts<'_> {
 }
 
 /// Waits until so much was counted, for a while.
-fn waits_for(count: &AtomicU64, much: u64) -> bool {
+pub(super) fn waits_for(count: &AtomicU64, much: u64) -> bool {
     for _ in 0..100_000_000_u64 {
         if count.load(Ordering::SeqCst) >= much {
             return true;
@@ -117,7 +120,7 @@ fn waits_for(count: &AtomicU64, much: u64) -> bool {
 }
 
 /// Does nothing, for a while.
-fn idle() -> u64 {
+pub(super) fn idle() -> u64 {
     let mut turned = 0_u64;
     for turn in 0..10_000_000_u64 {
         turned = turned.wrapping_add(turn);
@@ -134,7 +137,7 @@ struct Before {
 }
 
 /// The owner's part: it waits for the sleeper, frees the mutex, and looks at the count before it wakes anybody.
-fn free_and_look<R: Wait>(
+fn free_and_look<R: Wait + Abort>(
     rt: &R,
     bench: &Bench,
     pass: Pass<Live>,
@@ -162,7 +165,7 @@ fn free_and_look<R: Wait>(
     }
 }
 
-fn counted_lock<R: Wait>(
+fn counted_lock<R: Wait + Abort>(
     rt: &R,
     bench: &Bench,
     pass: Pass<Live>,
@@ -174,7 +177,7 @@ fn counted_lock<R: Wait>(
 {
     match bench.lock(rt, pass, 0, &mut Counts(count)) {
         Outcome::Lives(pass, reply) => (reply, pass),
-        Outcome::Dead(_) => unreachable!(),
+        Outcome::Dead(_) => panic!(rt; "nobody was killed"),
     }
 }
 
