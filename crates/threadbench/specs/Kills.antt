@@ -15,6 +15,6 @@ abbrev pub KillsAll : Layout' → ℕ → Result Unit Reply → Type 0
 KillsAll k p (Ok u) = p < length k.bases
 KillsAll k p (Err e) = (e ≡ ESRCH) × (length k.bases ≤ p)
 
--- the kill of thread t is over: it was noted, t was looked for in all 256 buckets after that, and was given a token then
+-- the kill of thread t is over: it was noted, then as many looks for t were made as there are buckets, and a token was given. (That each look was at another bucket, and whose token it was, isn't said.)
 abbrev pub IsKilled : ℕ → Kill → Type 0
 IsKilled t kill = (kill.killed.thread ≡ t) × (kill.looked ≡ 256) × (kill.roused ≡ true)

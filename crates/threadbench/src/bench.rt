@@ -23,7 +23,7 @@ use std::thread::Threads;
 /// How many buckets a bench has. A word's key says in which of them its sleepers stand.
 pub(crate) const BUCKETS: usize = 256;
 
-/// How many ids a thread may have.
+/// How many threads there may be.
 const THREADS: usize = 64;
 
 /// The words of a layout's threads, and what their calls need to sleep and to wake.
@@ -34,7 +34,7 @@ pub struct Bench {
     pub(crate) buckets: Vec<CachePadded<Mutex<Bucket>>>,
     /// Where each thread sleeps, in the order of their ids.
     pub(crate) parkers: Vec<Parker>,
-    /// Who was killed: a note for each id that a thread may have.
+    /// Who was killed: a note for each thread that there may be, in the order of their ids.
     pub(crate) notes: Vec<Note>,
     /// Whoever looks for a sleeper in one bucket after the other holds it, so that nobody is moved meanwhile.
     pub(crate) moves: Mutex<()>,
@@ -123,7 +123,8 @@ impl Bench {
         )
     }
 
-    /// Ends the bench. The history of each mutex begins with what the pass has seen, and each counter is as it began.
+    /// Ends the bench. The history of each mutex begins with what the pass has seen, and the counters of its condition variables, added up, are as they began and one more for each
+    /// signal or broadcast in it that was answered OK.
     pub fn close<A>(self, pass: Pass<A>) -> Last
         requires { IsPassOf self pass }
         ensures layout { last_layout result ≡ layout_of self }
@@ -140,7 +141,7 @@ impl Bench {
     }
 
     /// Ends the bench, and all these passes meet. One history of each mutex has what any of them has seen, with of each of their threads just the thread's own
-    /// points; and each counter is as it began.
+    /// points; and counters count as at the end of one pass.
     pub fn close_all<A: Drop>(self, passes: Vec<Pass<A>>) -> Last
         requires { All (λ p. IsPassOf self p) passes.items }
         ensures layout { last_layout result ≡ layout_of self }

@@ -6,7 +6,7 @@ use lockword::Tid;
 use ruledwords::Fate;
 use std::sync::atomic::{AtomicBool, Ordering};
 
-/// Whether a thread was killed. Whoever kills it writes it here, and its calls look here before each access.
+/// Whether a thread was killed. Whoever kills it writes it here, and its calls that take the bench look here before each access.
 #[derive(Drop)]
 pub(crate) struct Note {
     killed: CachePadded<AtomicBool>,
