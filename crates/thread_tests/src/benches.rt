@@ -134,7 +134,9 @@ fn phase<R: Threads + Wait + Abort + Sync>(
     ensures { IfOk result (λ r. IsLive bench.now r.0.pass × IsLive bench.now r.1.pass) }
 {
     let (first, second) = both(rt, alloc, bench, first, second, &Open)?;
-    Ok((alive(rt, bench, first), alive(rt, bench, second)))
+    let first = alive(rt, bench, first);
+    let second = alive(rt, bench, second);
+    Ok((first, second))
 }
 
 fn try_lock(words: &Words, pass: Pass<Live>, mutex: u16) -> (Pass<Live>, Reply)

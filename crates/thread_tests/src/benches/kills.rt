@@ -290,9 +290,10 @@ fn kill_a_sleeper<R: thread::Threads + Wait + Abort + Sync>(
 fn a_sleeper_is_killed(rt: HostRuntime) -> Result<(), Fail> {
     for _ in 0..20_u32 {
         let (bench, mut passes) = Bench::new(rt.alloc(), Layout::new(3, 1, &[])?, &[])?;
-        let third = last_of(bench.words(), &mut passes);
-        let second = last_of(bench.words(), &mut passes);
-        let first = last_of(bench.words(), &mut passes);
+        let words = bench.words();
+        let third = last_of(words, &mut passes);
+        let second = last_of(words, &mut passes);
+        let first = last_of(words, &mut passes);
         let (well, _first) = kill_a_sleeper(&rt, &bench, first, second, 0, 2);
         assert!(rt; well);
         let (third, told) = lock(&rt, &bench, third);
@@ -457,10 +458,11 @@ fn a_running_thread_is_killed(rt: HostRuntime) -> Result<(), Fail> {
 fn a_process_is_killed(rt: HostRuntime) -> Result<(), Fail> {
     let layout = Layout::with_processes(&[0, 1, 0, 1], &[0, 1000], 2, &[])?;
     let (bench, mut passes) = Bench::new(rt.alloc(), layout, &[])?;
-    let fourth = last_of(bench.words(), &mut passes);
-    let third = last_of(bench.words(), &mut passes);
-    let second = last_of(bench.words(), &mut passes);
-    let first = last_of(bench.words(), &mut passes);
+    let words = bench.words();
+    let fourth = last_of(words, &mut passes);
+    let third = last_of(words, &mut passes);
+    let second = last_of(words, &mut passes);
+    let first = last_of(words, &mut passes);
     let (second, taken) = lock(&rt, &bench, second);
     assert_eq!(rt; taken, Reply::OK);
     assert!(rt; bench.kill_process(&rt, 1) == Ok(()));

@@ -14,5 +14,5 @@ loop-pass-preserved c =
       tt,
       λ k d lt. all (suc k) d (omega (arith, lt)),
       subst (All (λ j. IsJobOf c.args.bench.now j)) (sym c.in-Ok.ensures.items)
-          (All-append (λ j. IsJobOf c.args.bench.now j) c.loop-pass.jobs.items (c.in_ok-one.one ∷ []) so_far.3 (all_one (λ j. IsJobOf c.args.bench.now j) c.in_ok-one.one c.in_ok-one.ensures.job)),
+          (All-append (λ j. IsJobOf c.args.bench.now j) c.loop-pass.jobs.items (c.in_ok-one.one ∷ []) so_far.3 (all_one (λ j. IsJobOf c.args.bench.now j) c.in_ok-one.one c.in_ok-one.ensures)),
     )

@@ -9,4 +9,4 @@ close_all-requires g c =
     let w = c.in_ok-bench.bench in
     let first = works_on w _ c.in_ok-first.first c.in_ok-first-2.first c.in_ok-first-2.ensures.0 c.in_ok-first.ensures.0 in
     subst (All (λ p. IsPassOf w p)) (sym c.in_ok-all.ensures.items)
-    (all_two (λ p. IsPassOf w p) c.spent.result c.spent-2.result (c.spent.ensures.words w first) (c.spent-2.ensures.words w c.lock.ensures.0))
+    (all_two (λ p. IsPassOf w p) c.spent.result c.spent-2.result (c.spent.ensures.words w first) (c.spent-2.ensures.words w c.lock-second.ensures.0))
