@@ -5,4 +5,5 @@ mod Sections
 mod Beginnings
 mod Turning
 mod Heeding
+mod Waiting
 pub mod Living

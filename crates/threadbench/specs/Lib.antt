@@ -6,3 +6,4 @@ pub mod Jobs
 pub mod Ends
 pub mod Hands
 pub mod Kills
+pub mod Conditions

@@ -15,6 +15,8 @@
 mod begins;
 mod bench;
 mod calls;
+mod condition;
+mod condition_section;
 mod countdown;
 mod ending;
 mod exit;

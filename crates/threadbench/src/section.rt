@@ -17,7 +17,13 @@ use ruledwords::{Fate, Reaping, Running, Words};
 
 /// Puts the thread at the end of the key's queue where the low half of the word that was seen is the expected one, and tells so. Nothing changes where it differs; nor where the
 /// thread stands in the bucket already or the bucket is full, which can't come up, but what lies under a lock doesn't say so.
-fn compare_and_enqueue(bucket: &mut Bucket, thread: Tid, key: Key, seen: u64, expected: u32) -> bool
+pub(crate) fn compare_and_enqueue(
+    bucket: &mut Bucket,
+    thread: Tid,
+    key: Key,
+    seen: u64,
+    expected: u32,
+) -> bool
     ensures { Waits bucket.old bucket.new thread key.0 seen expected result }
 {
     if bucket.full() || bucket.stands(thread) {

@@ -92,7 +92,7 @@ impl Bench {
     }
 
     /// Runs a call to its end, or until one of its thread's fates ends it: as far as it makes steps on words, where it stands, and each section by itself.
-    fn run_on<R: Wait, F: Fate, N: Fate>(
+    pub(crate) fn run_on<R: Wait, F: Fate, N: Fate>(
         &self,
         rt: &R,
         running: Running,
@@ -129,7 +129,7 @@ impl Bench {
         ensures note { N.stopped note.new ≡ N.stopped note.old + stops_stretching result }
     {
         match running.next() {
-            Access::Wait { expected, .. } => self.wait(rt, running, expected, note),
+            Access::Wait { expected, .. } => self.wait_on_cell(rt, running, expected, note),
             Access::Wake { most, .. } => onward(self.wake(rt, running, most)),
             Access::Trim { .. } => onward(self.trim(rt, running)),
             _ => onward(running.access(&self.words)),
@@ -137,7 +137,7 @@ impl Bench {
     }
 
     /// Makes a wait, and sleeps where the word is the expected one. A thread whose note tells it to stop dies in place of that.
-    fn wait<R: Wait, N: Fate>(
+    fn wait_on_cell<R: Wait, N: Fate>(
         &self,
         rt: &R,
         running: Running,

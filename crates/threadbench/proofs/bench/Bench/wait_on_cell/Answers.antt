@@ -3,7 +3,7 @@ use Rattle.ruledwords.specs.declared.pass.Words.{Words}
 use Rattle.ruledwords.specs.declared.turn.Stretch.TheVariants as stretch
 use Rattle.ruledwords.specs.Turns.{Unmoved}
 use Rattle.threadbench.proofs.Turning.{dies_there, onward, stretches_still}
-use Rattle.threadbench.proofs.bench.Bench.wait.Goals as goal
+use Rattle.threadbench.proofs.bench.Bench.wait_on_cell.Goals as goal
 
 pub returns-in-Asleep-clause-stretches : goal.returns-in-Asleep-clause-stretches
 returns-in-Asleep-clause-stretches g c =

@@ -1,0 +1,101 @@
+-- What calls on condition variables answer that may sleep or wake (pthread_cond_wait(3p), pthread_cond_signal(3p), pthread_cond_broadcast(3p)).
+use Rattle.std.specs.Prelude.{ℕ, ◌≡◌, ◌≢◌, ◌%◌, ◌^◌, ◌⊎◌, Option, None, Some, Result, Ok, Err, List, [], ◌∷◌}
+use Rattle.lockword.specs.declared.reply.Reply.{Reply}
+use Rattle.lockword.specs.declared.reply.Reply.TheVariants.{OK}
+use Rattle.keys.specs.declared.access.Access.{Access}
+use Rattle.keys.specs.declared.access.Access.TheVariants.{CmpRequeue}
+use Rattle.keys.specs.declared.point.Operation.TheVariants as operation
+use Rattle.keys.specs.Layouts.{Layout', counter_place}
+use Rattle.buckets.specs.Queues.{Sleepers, Fits, MovesTo, MovesWithin}
+use Rattle.condvar.specs.declared.call.CondCall.{CondCall}
+use Rattle.condvar.specs.declared.call.CondCall.TheVariants.{Wait, Signal, Broadcast}
+use Rattle.condvar.specs.Calls.{condition_of, operation_of}
+use Rattle.ruledwords.specs.declared.condition_turn.CondRunning.{CondRunning}
+use Rattle.ruledwords.specs.declared.condition_turn.CondTurn.{CondTurn}
+use Rattle.ruledwords.specs.declared.condition_turn.CondTurn.TheVariants.{Goes, Locks, Lives}
+use Rattle.ruledwords.specs.declared.outcome.Outcome.{Outcome}
+use Rattle.ruledwords.specs.declared.outcome.Outcome.TheVariants as outcome
+use Rattle.ruledwords.specs.declared.pass.Words.{Words}
+use Rattle.ruledwords.specs.declared.pass.Pass.{Pass}
+use Rattle.ruledwords.specs.declared.pass.Live.{Live}
+use Rattle.ruledwords.specs.declared.pass.Dead.{Dead}
+use Rattle.ruledwords.specs.Cards.{value_at}
+use Rattle.ruledwords.specs.ConditionCalls.{cond_call, cond_pass, IsCondTurnOf}
+use Rattle.ruledwords.specs.ConditionStands.{CondEnded, CondKeeps, HasDiedInCondition, HasReleased, IsCondUnderWay}
+use Rattle.ruledwords.specs.Conditions.{condition_at}
+use Rattle.ruledwords.specs.Counts.{cell_at}
+use Rattle.ruledwords.specs.Passes.{card, layout_of, IsLive}
+use Rattle.ruledwords.specs.Seen.{Called}
+use Rattle.threadbench.specs.declared.section.Waited.{Waited}
+use Rattle.threadbench.specs.declared.section.Waited.TheVariants.{Stopped}
+
+-- ---- calls
+
+-- a wait on condition variable q released its mutex, which was usable then, and took it again by a lock that was answered x: its two points stand in this order, and the second is the last that its thread has
+-- seen of the mutex
+pub record TookAgain (w : Words) (a : Pass Live) (q : ℕ) (x : Reply) (b : Pass Live) : Type 0 where
+  pub awake : Pass Live
+  pub released : HasReleased w a (Wait q) awake
+  pub took : Called (card awake) (cell_at (layout_of w) q) ((operation.Lock, x) ∷ []) (card b)
+  pub called : Called (card a) (cell_at (layout_of w) q) ((operation.Unlock, OK) ∷ (operation.Lock, x) ∷ []) (card b)
+
+-- a call that began at the pass a was answered x: by its one point; or it is a wait that took its mutex again
+abbrev pub CondReplied : Words → Pass Live → CondCall → Reply → Pass Live → Type 0
+CondReplied w a (Wait q) x b = CondEnded (layout_of w) q operation.Wait x (card a) (card b) ⊎ TookAgain w a q x b
+CondReplied w a (Signal q) x b = CondEnded (layout_of w) q operation.Signal x (card a) (card b)
+CondReplied w a (Broadcast q) x b = CondEnded (layout_of w) q operation.Broadcast x (card a) (card b)
+
+-- it was answered, or its thread died in it
+abbrev pub CondAnswered : Words → Pass Live → CondCall → Outcome → Type 0
+CondAnswered w a call (outcome.Lives b x) = IsLive w b × CondReplied w a call x b
+CondAnswered w a call (outcome.Dead d) = HasDiedInCondition w a call d
+
+-- wherever it began
+abbrev pub CondRuns : Words → CondRunning → Outcome → Type 0
+CondRuns w r end = (a : Pass Live) (call : CondCall) → IsCondUnderWay w a call r → CondAnswered w a call end
+
+-- ---- accesses of a call
+
+-- the key is that of the call's mutex's cell
+abbrev pub IsCellOf : Words → CondRunning → ℕ → Type 0
+IsCellOf w r key = key ≡ cell_at (layout_of w) (condition_at (layout_of w) (cond_call r))
+
+-- a turn leaves a call that goes on where it was: on its condition variable
+abbrev pub StaysOn : Words → CondRunning → CondTurn → Type 0
+StaysOn w r (Goes r') = condition_at (layout_of w) (cond_call r') ≡ condition_at (layout_of w) (cond_call r)
+StaysOn w r t = Unit {0}
+
+-- a running call came to this turn by the access that was next, or its thread died in place of that
+abbrev pub CondComesTo : Words → CondRunning → Result CondTurn (Pass Dead) → Type 0
+CondComesTo w r (Ok turn) = IsCondTurnOf w turn × CondKeeps w r turn × StaysOn w r turn
+CondComesTo w r (Err d) = (a : Pass Live) (call : CondCall) → IsCondUnderWay w a call r → HasDiedInCondition w a call d
+
+-- how often its thread was told to stop
+abbrev pub stops_turning : Result CondTurn (Pass Dead) → ℕ
+stops_turning (Ok turn) = 0
+stops_turning (Err d) = 1
+
+-- ---- sections
+
+-- one that was told to stop has not looked at its counter
+abbrev pub StaysCondIfStopped : CondRunning → CondRunning → Waited → Type 0
+StaysCondIfStopped r r' Stopped = r' ≡ r
+StaysCondIfStopped r r' x = Unit {0}
+
+-- it is a requeue that wakes nobody and moves at most m threads, where its word has this low half
+abbrev pub IsMoveOf : Access → ℕ → ℕ → Type 0
+IsMoveOf a e m = (from to : ℕ) × (a ≡ CmpRequeue from e 0 to m)
+
+-- the counter was found as the call's thread knew it, if it knew it
+abbrev pub FindsKnown : Layout' → CondRunning → CondRunning → Type 0
+FindsKnown k r r' = (x : ℕ) → value_at (card (cond_pass r)).values (counter_place k (condition_at k (cond_call r))) ≡ Some x → (card (cond_pass r')).last ≡ x
+
+-- a requeue within a bucket that saw the word n: where its low half is the expected one, at most m of the first threads of key k move to the end of key j's queue, and nobody is woken. Else nothing changes
+abbrev pub MovesInside : Sleepers → Sleepers → ℕ → ℕ → ℕ → ℕ → ℕ → Option (List ℕ) → Type 0
+MovesInside old new k n e j m (Some moved) = (n % 2 ^ 32 ≡ e) × MovesWithin old new k m j moved
+MovesInside old new k n e j m None = (n % 2 ^ 32 ≢ e) × (new ≡ old)
+
+-- the same from a bucket to another one. Nothing changes either where that has no room for them, or one of them stands there
+abbrev pub MovesAcross : Sleepers → Sleepers → Sleepers → Sleepers → ℕ → ℕ → ℕ → ℕ → ℕ → Option (List ℕ) → Type 0
+MovesAcross old new other other' k n e j m (Some moved) = (n % 2 ^ 32 ≡ e) × MovesTo old new other other' k m j moved
+MovesAcross old new other other' k n e j m None = ((n % 2 ^ 32 ≢ e) ⊎ (¬ Fits old other k m)) × (new ≡ old) × (other' ≡ other)
