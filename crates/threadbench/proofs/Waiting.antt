@@ -1,6 +1,6 @@
 -- A call on a condition variable whose section was made, and a wait that takes its mutex again.
-use Rattle.std.proofs.Common.{◌≡◌, inl, inr, ℕ, List, [], ◌∷◌, ◌++◌, refl, sym, ap, ◌∙◌, subst}
-use Rattle.std.specs.Prelude.{Result, Ok, Err}
+use Rattle.std.proofs.Common.{inl, inr, ℕ, List, [], ◌∷◌, ◌++◌, refl, sym, ap, ◌∙◌, subst}
+use Rattle.std.specs.Prelude.{Ok, Err}
 use Rattle.facts.specs.Lives.{Act, Beginning, Complete}
 use Rattle.lockword.specs.declared.reply.Reply.{Reply}
 use Rattle.lockword.specs.declared.reply.Reply.TheVariants.{OK}
@@ -28,13 +28,12 @@ use Rattle.ruledwords.specs.declared.pass.Live.{Live}
 use Rattle.ruledwords.specs.declared.pass.Dead.{Dead}
 use Rattle.ruledwords.specs.declared.turn.Running.{Running}
 use Rattle.ruledwords.specs.ConditionCalls.{cond_call, cond_pass, CondOnward, CondUnmoved, IsCondTurnOf}
-use Rattle.ruledwords.specs.ConditionStands.{cond_acts, CondEnded, CondGoesOn, CondKeeps, CondStands, UsableBehind, HasDiedInCondition, HasReleased, IsCondUnderWay}
+use Rattle.ruledwords.specs.ConditionStands.{cond_acts, CondEnded, CondKeeps, CondStands, UsableBehind, HasReleased, IsCondUnderWay}
 use Rattle.ruledwords.specs.Conditions.{cond_row_in, condition_at}
 use Rattle.ruledwords.specs.Counts.{cell_at, mutex_at}
-use Rattle.ruledwords.specs.Passes.{card, layout_of, IsLive}
-use Rattle.ruledwords.specs.Seen.{Called, Died}
-use Rattle.ruledwords.specs.Turns.{running_pass, HasSeenTheSame, IsUnderWay}
-use Rattle.ruledwords.proofs.Noted.{saw_on, seen_noted, still_called, waited}
+use Rattle.ruledwords.specs.Passes.{card, layout_of}
+use Rattle.ruledwords.specs.Turns.{running_pass}
+use Rattle.ruledwords.proofs.Noted.{saw_on, still_called, waited}
 use Rattle.threadbench.specs.Calls.{RanOut, Runs}
 use Rattle.threadbench.specs.Conditions.{CondAnswered, CondComesTo, CondReplied, CondRuns, IsCellOf, StaysOn}
 
@@ -59,7 +58,7 @@ cond_still_under_way w r r' a cl m u =
       ap (condition_at k) m.1 ∙ u.1,
       subst (λ (z : Card). CondStands k q (operation_of cl) (card a) (cond_row_in (cond_call r').phase) z) (sym m.2)
           (subst (λ (p : CondWhole). CondStands k q (operation_of cl) (card a) (cond_row_in p.phase) (record (card (cond_pass r)) { last = (card (cond_pass r')).last; trims = (card (cond_pass r')).trims })) (sym m.1)
-           record { of = u.2.of; called = still_called (card a) (cell_at k q) (cond_acts (cond_row_in (cond_call r).phase)) (card (cond_pass r)) _ refl u.2.called; owns = u.2.owns; counts = u.2.counts; usable = usable_noted k q (cond_row_in (cond_call r).phase) (card (cond_pass r)) (card (cond_pass r')).last (card (cond_pass r')).trims u.2.usable }),
+          record { of = u.2.of; called = still_called (card a) (cell_at k q) (cond_acts (cond_row_in (cond_call r).phase)) (card (cond_pass r)) _ refl u.2.called; owns = u.2.owns; counts = u.2.counts; usable = usable_noted k q (cond_row_in (cond_call r).phase) (card (cond_pass r)) (card (cond_pass r')).last (card (cond_pass r')).trims u.2.usable }),
     )
 
 -- a section that was answered leaves it on its condition variable

@@ -9,10 +9,9 @@ use Rattle.keys.specs.Layouts.{Layout', counter_place}
 use Rattle.buckets.specs.Queues.{Sleepers, Fits, MovesTo, MovesWithin}
 use Rattle.condvar.specs.declared.call.CondCall.{CondCall}
 use Rattle.condvar.specs.declared.call.CondCall.TheVariants.{Wait, Signal, Broadcast}
-use Rattle.condvar.specs.Calls.{condition_of, operation_of}
 use Rattle.ruledwords.specs.declared.condition_turn.CondRunning.{CondRunning}
 use Rattle.ruledwords.specs.declared.condition_turn.CondTurn.{CondTurn}
-use Rattle.ruledwords.specs.declared.condition_turn.CondTurn.TheVariants.{Goes, Locks, Lives}
+use Rattle.ruledwords.specs.declared.condition_turn.CondTurn.TheVariants.{Goes}
 use Rattle.ruledwords.specs.declared.outcome.Outcome.{Outcome}
 use Rattle.ruledwords.specs.declared.outcome.Outcome.TheVariants as outcome
 use Rattle.ruledwords.specs.declared.pass.Words.{Words}
