@@ -3,9 +3,10 @@
 use crate::machine_rows::Standing::{Asleep, Awake, Reaped, Resting};
 use crate::machine_rows::{LOCK, UNLOCK, has_words, play, standing_of, thread};
 use buckets::Batch;
+use condvar::Op;
 use interleave::Machine;
 use keys::Layout;
-use protocol::{Event, Note, Op};
+use protocol::{Event, Note};
 use std::alloc::Global;
 use std::test::Fail;
 

@@ -1,12 +1,13 @@
 //! Machines that go through tables of events.
 
 use buckets::Batch;
+use condvar::Op;
 use facts::{Begun, Queue};
 use interleave::Machine;
 use keys::{Decision, Layout, Operation};
 use lockword::{Reply, Tid};
 use mutex::Call;
-use protocol::{Event, Note, Op};
+use protocol::{Event, Note};
 use std::alloc::Global;
 use std::test::Fail;
 

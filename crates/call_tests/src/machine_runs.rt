@@ -7,12 +7,13 @@ use crate::machine_rows::{
     Does, LOCK, Noted, Row, TRY_LOCK, UNLOCK, first_owner, goes_through, gone_through, happens,
     has_words, id_of, is_noted, machine, play, standing_of, thread,
 };
+use condvar::Op;
 use interleave::{Machine, Trace};
 use keys::Operation::{TryLock, Unlock};
 use lockword::Reply::{EBUSY, EPERM, OK, XRACED};
 use lockword::Tid;
 use mutex::Call;
-use protocol::{Event, Op};
+use protocol::Event;
 use std::test::Fail;
 
 #[test]

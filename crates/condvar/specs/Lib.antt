@@ -5,6 +5,7 @@ pub mod Wait
 pub mod Signal
 pub mod Broadcast
 pub mod Programs
+pub mod Ops
 pub mod Whole
 pub mod Laws
 pub mod WholeLaws

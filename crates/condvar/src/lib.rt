@@ -8,6 +8,7 @@
 //! `accesses_are_there`, `points_are_permitted`). A broadcast moves sleepers only to a cell that its thread owns
 //! (`moves_are_right`), and what a call needs of the words stays while its thread owns the mutex (`needs_are_owned`). A whole
 //! call that returned, and not for a fault, had exactly its points (`whole_calls_are_right`, `faults_are_told`).
+//! An [`Op`] is what a thread may call, on a mutex or on a condition variable.
 //!
 //! Stands on `mutex`, for the lock that a wait ends with, on `robustlist`, for the entry's way out of the list, on `keys`, for
 //! layouts, accesses and points, and on `lockword`, for cells and replies.
@@ -30,6 +31,7 @@
 mod broadcast;
 mod call;
 mod laws;
+mod op;
 mod phase;
 mod program;
 mod row;
@@ -42,6 +44,7 @@ pub use laws::{
     accesses_are_there, calls_are_right, faults_are_told, moves_are_right, needs_are_owned,
     points_are_permitted, whole_calls_are_right,
 };
+pub use op::Op;
 pub use phase::{CondOnward, CondPhase};
 pub use program::CondProgram;
 pub use row::{CondLed, CondRow, Decided};

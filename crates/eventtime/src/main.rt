@@ -4,12 +4,12 @@
 //! The figures are the machine's; no test looks at them.
 #![tactic(auto)]
 
-use condvar::CondCall;
+use condvar::{CondCall, Op};
 use interleave::Machine;
 use keys::{CONDITION_LIMIT, Layout};
 use lockword::Tid;
 use mutex::Call;
-use protocol::{Event, Note, Op};
+use protocol::{Event, Note};
 use std::alloc::{AllocError, Global};
 use std::time::{Duration, Instant};
 use std::{env, io};

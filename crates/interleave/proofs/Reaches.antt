@@ -22,9 +22,9 @@ use Rattle.condvar.specs.declared.phase.CondPhase.TheVariants as cond
 use Rattle.condvar.specs.Standings.{CondWhole}
 use Rattle.condvar.specs.Whole as condition
 use Rattle.facts.specs.declared.fact.Queue.TheVariants.{Mutex}
-use Rattle.protocol.specs.declared.event.Op.{Op}
-use Rattle.protocol.specs.declared.event.Op.TheVariants.{OnMutex, OnCondition}
-use Rattle.protocol.specs.Ops.{mutex_of, is_in}
+use Rattle.condvar.specs.declared.op.Op.{Op}
+use Rattle.condvar.specs.declared.op.Op.TheVariants.{OnMutex, OnCondition}
+use Rattle.condvar.specs.Ops.{mutex_of, is_in}
 use Rattle.protocol.specs.declared.event.Event.{Event}
 use Rattle.protocol.specs.declared.event.Event.TheVariants.{Begin, Step, Kill}
 use Rattle.protocol.specs.declared.thread.Thread.{Thread}

@@ -7,7 +7,7 @@ use Rattle.protocol.specs.declared.event.Event.TheVariants.{Step}
 use Rattle.protocol.specs.declared.thread.Stage.{Stage}
 use Rattle.protocol.specs.declared.thread.Stage.TheVariants.{Idle, Calling, AtCondition, Dying, Reaped}
 use Rattle.facts.specs.declared.fact.Queue.TheVariants.{Mutex}
-use Rattle.protocol.specs.Ops.{mutex_of}
+use Rattle.condvar.specs.Ops.{mutex_of}
 use Rattle.protocol.specs.Machine.{State, nothing, has_thread, answer_of, led, went, stepped, stands_in, sleeps, is_asleep, happens}
 use Rattle.protocol.proofs.Queued.{out_awake}
 use Rattle.interleave.specs.Steps.{SleepsInItsCall}

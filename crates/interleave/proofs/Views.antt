@@ -31,13 +31,13 @@ use Rattle.facts.specs.declared.fact.Queue.{Queue}
 use Rattle.facts.specs.declared.fact.Queue.TheVariants.{Mutex}
 use Rattle.syscalls.specs.Kernels.{Kernel', queue_of}
 use Rattle.syscalls.specs.Memories as memories
-use Rattle.protocol.specs.declared.event.Op.{Op}
+use Rattle.condvar.specs.declared.op.Op.{Op}
 use Rattle.protocol.specs.declared.event.Event.TheVariants.{Begin, Step}
 use Rattle.protocol.specs.declared.thread.Thread.{Thread}
 use Rattle.protocol.specs.declared.thread.Stage.{Stage}
 use Rattle.protocol.specs.declared.thread.Stage.TheVariants.{Calling}
 use Rattle.protocol.specs.declared.note.Note.TheVariants.{Stepped}
-use Rattle.protocol.specs.Ops.{mutex_of, is_in}
+use Rattle.condvar.specs.Ops.{mutex_of, is_in}
 use Rattle.protocol.specs.Machine.{State, After, Led, put, idle, is_valid, place_met, is_met, joined, queue_after, woken_by, moved_by, answer_of, words_after, queues_after, falls_asleep, woken, moved, slept_in, has_thread, is_idle, places_of, stands_in, may_begin, first_stage, begun, nothing, went, stepped, stage_after, returned, led, stage_at, returned_at, led_at, decided_at, reply_at, held_after, decision, happens}
 use Rattle.protocol.proofs.Puts.{by_put}
 use Rattle.protocol.proofs.Steps.{unmoved}

@@ -7,8 +7,8 @@ use Rattle.protocol.specs.declared.thread.Thread.{Thread}
 use Rattle.protocol.specs.declared.thread.Stage.{Stage}
 use Rattle.protocol.specs.declared.thread.Stage.TheVariants.{Idle, Calling, AtCondition, Dying, Reaped}
 use Rattle.keys.specs.Layouts.{Layout'}
-use Rattle.protocol.specs.declared.event.Op.TheVariants.{OnCondition}
-use Rattle.protocol.specs.Ops.{is_in}
+use Rattle.condvar.specs.declared.op.Op.TheVariants.{OnCondition}
+use Rattle.condvar.specs.Ops.{is_in}
 use Rattle.protocol.specs.Machine.{State, stands_in, is_asleep}
 
 abbrev pub IsOnItsWay : Layout' → Stage → Type 0

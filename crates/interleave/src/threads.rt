@@ -3,12 +3,12 @@ ghost use Rattle.std.specs.Prelude.{◌≡◌, ◌<◌, ◌≤◌, ℕ, List, tr
 ghost use Rattle.keys.specs.Layouts.{words_of, head_place, address_in};
 ghost use Rattle.mutex.specs.Whole.{IsUnderWay};
 ghost use Rattle.condvar.specs.Whole as condition;
-ghost use Rattle.protocol.specs.declared.event.Op.TheVariants.{OnCondition};
+ghost use Rattle.condvar.specs.declared.op.Op.TheVariants.{OnCondition};
 ghost use Rattle.protocol.specs.declared.event.Event.TheVariants.{Begin, Step};
 ghost use Rattle.protocol.specs.declared.thread.Stage.TheVariants.{AtCondition, Calling};
 ghost use Rattle.protocol.specs.Machine.{happens, first_stage, is_idle, is_calling, is_exiting, slept_in};
 ghost use Rattle.protocol.specs.declared.note.Note.TheVariants.{Stepped};
-ghost use Rattle.protocol.specs.Ops.{is_in};
+ghost use Rattle.condvar.specs.Ops.{is_in};
 ghost use Rattle.syscalls.specs.Kernels.{IsAwake, Kernel', head_of};
 ghost use Rattle.interleave.specs.Perform.{decision_with, held_with, point_in, reply_in, stage_at_in, stage_in};
 ghost use Rattle.interleave.specs.Reapings.{has_ended};
@@ -17,13 +17,13 @@ ghost use Rattle.interleave.specs.Steps.{MayStep, SleepsInItsCall};
 
 use crate::accesses::{Performed, perform};
 use crate::deaths::{kill, walk_on};
-use crate::ops::{begun, is_in, mutex_of};
-use condvar::{CondCall, CondProgram};
+use crate::ops::begun;
+use condvar::{CondCall, CondProgram, Op};
 use facts::Queue;
 use keys::{Decision, Layout, Operation, Point, Progress};
 use lockword::{Reply, Tid};
 use mutex::Program;
-use protocol::{Event, Note, Op, Stage, Thread};
+use protocol::{Event, Note, Stage, Thread};
 use syscalls::{Kernel, PlainMemory};
 
 /// The point that the access was, if it was one.
@@ -176,7 +176,7 @@ fn begin(layout: &Layout, threads: &mut Vec<Thread>, thread: Tid, op: Op) -> Not
     ensures note { (ws : List ℕ) (k : Kernel') → result ≡ (happens (state_at layout.now ws k threads.old.items) (Begin thread op)).note }
     ensures threads { length threads.new.items ≡ length threads.old.items }
 {
-    if layout.threads() < thread.get() || !is_in(layout, op) {
+    if layout.threads() < thread.get() || !op.is_in(layout) {
         return Note::Nothing;
     }
     let index = usize::from(thread.get()) - 1;
@@ -253,7 +253,7 @@ fn go_on(
         stage: stage_after(op, &program, &progress),
         held: held_after(held, point(&progress)),
     };
-    let mutex = mutex_of(layout, op);
+    let mutex = op.mutex(layout);
     stepped(thread, mutex, Queue::Mutex(mutex), &done, &progress)
 }
 
@@ -293,7 +293,7 @@ fn go_on_at(
         stage: stage_at(call, &program, &progress),
         held: held_after(held, point(&progress)),
     };
-    let mutex = mutex_of(layout, Op::OnCondition(call));
+    let mutex = Op::OnCondition(call).mutex(layout);
     let queue = Queue::Condition(call.condition());
     stepped(thread, mutex, queue, &done, &progress)
 }

@@ -8,7 +8,7 @@ use Rattle.mutex.specs.declared.phase.Phase.TheVariants.{Ended}
 use Rattle.condvar.specs.Calls as condition
 use Rattle.facts.specs.declared.fact.Fact.TheVariants.{Begin}
 use Rattle.facts.specs.Lives.{Act, Complete, Beginning, made, Mourned, Life}
-use Rattle.protocol.specs.Ops.{operation_of}
+use Rattle.condvar.specs.Ops.{operation_of}
 use Rattle.protocol.specs.Machine.{Led}
 use Rattle.protocol.proofs.Phases.{decided_at}
 use Rattle.protocol.proofs.Arrivals.{ended_or_not}

@@ -11,7 +11,7 @@ use Rattle.condvar.specs.Calls.{operation_of}
 use Rattle.condvar.specs.Rows.{IsGoing}
 use Rattle.condvar.specs.Laws.{row_operation}
 use Rattle.condvar.specs.Programs.{row_access, resume_of}
-use Rattle.protocol.specs.Ops.{operation_of as operation_of_op}
+use Rattle.condvar.specs.Ops.{operation_of as operation_of_op}
 use Rattle.protocol.specs.Sleepers.{IsAmong}
 use Rattle.protocol.proofs.Puts.{put-same, put-other}
 use Rattle.protocol.proofs.Kept.{IsFor, Kept, FitsAt}

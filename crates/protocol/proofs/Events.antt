@@ -8,7 +8,7 @@ use Rattle.mutex.specs.Whole.{begins}
 use Rattle.condvar.specs.Whole as condition
 use Rattle.exitwalk.specs.Standings as walks
 use Rattle.protocol.specs.declared.event.Event.TheVariants.{Begin, Kill}
-use Rattle.protocol.specs.Ops.{operation_of, is_in}
+use Rattle.condvar.specs.Ops.{operation_of, is_in}
 use Rattle.protocol.specs.Machine.{has_thread, is_idle}
 
 -- whoever may begin is idle

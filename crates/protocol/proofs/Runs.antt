@@ -7,7 +7,7 @@ use Rattle.protocol.proofs.Vocabulary.{seen, if◌then◌else◌, nat_le, MatchB
 use Rattle.protocol.proofs.Vocabulary.{Calling, AtCondition, Reaped}
 use Rattle.keys.specs.Histories.{Legal, opening}
 use Rattle.robustlist.proofs.Lists.{begins_empty}
-use Rattle.protocol.specs.Ops.{operation_of}
+use Rattle.condvar.specs.Ops.{operation_of}
 use Rattle.protocol.proofs.Puts.{by_put}
 use Rattle.protocol.proofs.Objects.{one}
 use Rattle.protocol.proofs.Counts.{held_by-same}

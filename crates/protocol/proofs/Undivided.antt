@@ -11,7 +11,7 @@ use Rattle.condvar.specs.Whole as condition
 use Rattle.keys.specs.Layouts.{Layout', IsLayout}
 use Rattle.protocol.specs.declared.event.Event.{Event}
 use Rattle.protocol.specs.declared.event.Event.TheVariants.{Begin}
-use Rattle.protocol.specs.Ops.{operation_of, condition_of}
+use Rattle.condvar.specs.Ops.{operation_of, condition_of}
 use Rattle.protocol.specs.Sleepers.{IsAmong, IsKeptWaiting, IsWaiting, IsUndivided, RunsAlone, NoSleeperIsStranded, LoneThreadsComeToRest, UndividedCallsReply}
 use Rattle.protocol.proofs.Puts.{put-same}
 use Rattle.protocol.proofs.Phases.{decided_at, SteadyAt}

@@ -76,13 +76,14 @@ pub use Rattle.protocol.specs.Machine.{is_calling, is_met, is_valid, joined, kil
 pub use Rattle.protocol.specs.Machine.{returned, returned_at, run, sleepers, sleeps, slept_in, stage_after, stage_at, stage_walked, stands_in, start, stepped, told_of, walked}
 pub use Rattle.protocol.specs.Machine.{death_at, decided_at, mutex_at, stands_at, went, woken, woken_by}
 pub use Rattle.protocol.specs.Notes.{death_facts, facts_of, line_of, lines_from, moves_to, point_facts, reap_facts, return_facts, sleep_facts}
-pub use Rattle.protocol.specs.Ops.{begun_of, mutex_of, queue_place}
+pub use Rattle.condvar.specs.Ops.{mutex_of}
+pub use Rattle.protocol.specs.Ops.{begun_of, queue_place}
 pub use Rattle.protocol.specs.PassedBy.{ArePresets, BeginsNone, NobodyIsPassedBy, last_begun}
 pub use Rattle.protocol.specs.Sleepers.{IsUnowned, IsWaiting, Sleeps}
 pub use Rattle.protocol.specs.declared.event.Event.{Event}
 pub use Rattle.protocol.specs.declared.event.Event.TheVariants.{Step}
-pub use Rattle.protocol.specs.declared.event.Op.{Op}
-pub use Rattle.protocol.specs.declared.event.Op.TheVariants.{OnCondition, OnMutex}
+pub use Rattle.condvar.specs.declared.op.Op.{Op}
+pub use Rattle.condvar.specs.declared.op.Op.TheVariants.{OnCondition, OnMutex}
 pub use Rattle.protocol.specs.declared.note.Note.{Note}
 pub use Rattle.protocol.specs.declared.note.Note.TheVariants.{Began, Killed, Nothing, Stepped, Walked}
 pub use Rattle.protocol.specs.declared.thread.Stage.{Stage}

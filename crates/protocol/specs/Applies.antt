@@ -7,9 +7,10 @@ use Rattle.keys.specs.Histories.{held_by}
 use Rattle.keys.specs.Objects.{held_limit, acquires}
 use Rattle.mutex.specs.Calls as mutex
 use Rattle.condvar.specs.Calls as condition
-use Rattle.protocol.specs.Ops.{operation_of, begun_of}
-use Rattle.protocol.specs.declared.event.Op.{Op}
-use Rattle.protocol.specs.declared.event.Op.TheVariants.{OnMutex, OnCondition}
+use Rattle.condvar.specs.Ops.{operation_of}
+use Rattle.protocol.specs.Ops.{begun_of}
+use Rattle.condvar.specs.declared.op.Op.{Op}
+use Rattle.condvar.specs.declared.op.Op.TheVariants.{OnMutex, OnCondition}
 use Rattle.protocol.specs.declared.event.Event.{Event}
 use Rattle.protocol.specs.declared.event.Event.TheVariants as event
 use Rattle.protocol.specs.declared.note.Note.{Note}

@@ -11,7 +11,7 @@ use Rattle.condvar.specs.declared.call.CondCall.TheVariants.{Signal, Broadcast}
 use Rattle.condvar.specs.Laws.{largest_counter}
 use Rattle.facts.specs.declared.fact.Fact.{Fact}
 use Rattle.facts.specs.declared.fact.Fact.TheVariants.{Begin, Point, Wake, Return}
-use Rattle.protocol.specs.declared.event.Op.TheVariants.{OnCondition}
+use Rattle.condvar.specs.declared.op.Op.TheVariants.{OnCondition}
 use Rattle.protocol.specs.declared.event.Event.{Event}
 use Rattle.protocol.specs.declared.event.Event.TheVariants as event
 use Rattle.protocol.specs.Notes.{moves_to}

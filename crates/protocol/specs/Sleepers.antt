@@ -10,8 +10,9 @@ use Rattle.keys.specs.declared.object.Object.{Object}
 use Rattle.keys.specs.declared.point.Operation.{Operation}
 use Rattle.facts.specs.declared.fact.Queue.{Queue}
 use Rattle.facts.specs.declared.fact.Queue.TheVariants.{Condition}
-use Rattle.protocol.specs.declared.event.Op.{Op}
-use Rattle.protocol.specs.Ops.{mutex_of, operation_of, condition_of, queue_place}
+use Rattle.condvar.specs.declared.op.Op.{Op}
+use Rattle.condvar.specs.Ops.{mutex_of, operation_of, condition_of}
+use Rattle.protocol.specs.Ops.{queue_place}
 use Rattle.protocol.specs.declared.event.Event.{Event}
 use Rattle.protocol.specs.declared.event.Event.TheVariants.{Begin, Step}
 use Rattle.facts.specs.declared.fact.Fact.{Fact}

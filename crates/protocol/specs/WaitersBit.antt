@@ -7,7 +7,7 @@ use Rattle.mutex.specs.declared.row.Row.TheVariants as row
 use Rattle.mutex.specs.declared.unlock.UnlockRow.TheVariants.{Wake}
 use Rattle.mutex.specs.declared.phase.Phase.TheVariants.{AtCell}
 use Rattle.mutex.specs.Standings.{Whole}
-use Rattle.protocol.specs.declared.event.Op.TheVariants.{OnMutex}
+use Rattle.condvar.specs.declared.op.Op.TheVariants.{OnMutex}
 use Rattle.protocol.specs.declared.event.Event.{Event}
 use Rattle.protocol.specs.declared.event.Event.TheVariants.{Step}
 use Rattle.protocol.specs.declared.thread.Stage.TheVariants.{Calling}

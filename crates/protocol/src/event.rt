@@ -1,15 +1,7 @@
 //! What may happen to the machine.
 
-use condvar::CondCall;
+use condvar::Op;
 use lockword::Tid;
-use mutex::Call;
-
-/// What a thread may call.
-#[derive(Clone, Copy, Debug, PartialEq, Eq)]
-pub enum Op {
-    OnMutex(Call),
-    OnCondition(CondCall),
-}
 
 /// One event of a schedule.
 #[derive(Clone, Copy, Debug, PartialEq, Eq)]

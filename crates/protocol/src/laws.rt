@@ -32,8 +32,8 @@ pub fn trace_is_explained()
     ensures { TraceIsExplained }
 {}
 
-/// No wake is lost. Whatever happens: whenever a mutex that nobody owns has sleepers, some awake thread, in a call or dying, owes them: run alone, it takes the mutex or wakes one of them within
-/// 9,000 steps.
+/// No sleeper on a mutex is stranded. Whatever happens: whenever a mutex that nobody owns has sleepers, some awake thread, in a call or dying, owes them: run alone, it takes the mutex or wakes one
+/// of them within 9,000 steps. (Of those who wait on a condition variable speaks [`nobody_is_passed_by`].)
 pub fn no_sleeper_is_stranded()
     ensures { NoSleeperIsStranded }
 {}

@@ -35,7 +35,7 @@ mod laws;
 mod note;
 mod thread;
 
-pub use event::{Event, Op};
+pub use event::Event;
 pub use laws::{
     deaths_are_told, events_apply, history_is_legal, lists_are_kept, lone_threads_come_to_rest,
     no_reaped_owner, no_sleeper_is_stranded, nobody_is_passed_by, signals_are_right,

@@ -1,7 +1,6 @@
 //! What a thread is doing.
 
-use crate::event::Op;
-use condvar::{CondCall, CondProgram};
+use condvar::{CondCall, CondProgram, Op};
 use exitwalk::Walk;
 use mutex::Program;
 

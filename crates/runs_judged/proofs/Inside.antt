@@ -21,8 +21,8 @@ use Rattle.facts.specs.declared.fact.Line.{Line}
 use Rattle.facts.specs.Facts.{thread_of, decision_of, is_passive}
 use Rattle.facts.specs.Lives.{is_of_call, own}
 use Rattle.facts.specs.Orders.{Each}
-use Rattle.protocol.specs.declared.event.Op.{Op}
-use Rattle.protocol.specs.declared.event.Op.TheVariants.{OnMutex, OnCondition}
+use Rattle.condvar.specs.declared.op.Op.{Op}
+use Rattle.condvar.specs.declared.op.Op.TheVariants.{OnMutex, OnCondition}
 use Rattle.protocol.specs.declared.event.Event.{Event}
 use Rattle.protocol.specs.declared.note.Note.{Note}
 use Rattle.protocol.specs.declared.note.Note.TheVariants.{Stepped, Walked}

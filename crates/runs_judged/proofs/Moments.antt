@@ -4,7 +4,7 @@ use Rattle.std.specs.Prelude.{if◌then◌else◌}
 use Rattle.keys.specs.Layouts.{Layout', IsLayout}
 use Rattle.mutex.specs.declared.call.Call.TheVariants.{Lock}
 use Rattle.facts.specs.declared.fact.Queue.{Queue}
-use Rattle.protocol.specs.declared.event.Op.TheVariants.{OnMutex}
+use Rattle.condvar.specs.declared.op.Op.TheVariants.{OnMutex}
 use Rattle.protocol.specs.declared.event.Event.{Event}
 use Rattle.protocol.specs.declared.event.Event.TheVariants as event
 use Rattle.protocol.specs.declared.note.Note.{Note}

@@ -9,7 +9,7 @@ use Rattle.syscalls.specs.Kernels.{queue_of}
 use Rattle.protocol.specs.declared.thread.Thread.{Thread}
 use Rattle.protocol.specs.declared.thread.Stage.TheVariants.{Calling}
 use Rattle.protocol.specs.declared.note.Note.TheVariants.{Stepped}
-use Rattle.protocol.specs.Ops.{mutex_of}
+use Rattle.condvar.specs.Ops.{mutex_of}
 use Rattle.protocol.specs.Machine.{idle, stands_in, slept_in, led}
 use Rattle.interleave.specs.Shown.{state_at}
 use Rattle.interleave.specs.Perform.{list_words, Performs, decision_with, held_with, point_in, reply_in}
@@ -60,7 +60,7 @@ returns-clause-note c =
     subst (λ (x : ℕ × Access). Performs ws kernel c.perform-done.new.kernel x.0 t x.1 c.perform-done.result) (λ i. (c.base-base.ensures.value i, c.next.ensures i)) c.perform-done.ensures.performs in
     let wrote : c.perform-done.new.memory ≡ list_words ws kernel (base_of l t) (whole_access p) = c.perform-done.ensures.words ∙ (λ i. list_words ws kernel (c.base-base.ensures.value i) (c.next.ensures i)) in
     let made = made_called t (mutex_of l o) c.index.result.now.held o p c.resume-progress.new.self (whole_led p c.perform-done.result.answer) c.resume-progress.result c.resume-progress.ensures.phase c.resume-progress.ensures.progress in
-    let me : c.mutex_of-mutex.result ≡ mutex_of l o = c.mutex_of-mutex.ensures in
+    let me : c.mutex-mutex.result ≡ mutex_of l o = c.mutex-mutex.ensures in
     c.stepped.ensures
     ∙ (λ i. Stepped t (me i) (decision_with t (me i) (point_in c.resume-progress.result)) (slept_in (Mutex (me i)) c.perform-done.result.slept) c.perform-done.result.woken c.perform-done.result.moved (reply_in c.resume-progress.result))
     ∙ step_note l ws c.perform-done.new.memory kernel c.perform-done.new.kernel ts k t (mutex_of l o) (Mutex (mutex_of l o)) (whole_access p) (λ (x : Answer). led o p (whole_led p x)) c.index.result.now c.perform-done.result _

@@ -6,12 +6,12 @@ use Rattle.keys.specs.declared.access.Answer.{Answer}
 use Rattle.condvar.specs.Calls.{condition_of}
 use Rattle.condvar.specs.Whole.{cond_access, cond_led}
 use Rattle.facts.specs.declared.fact.Queue.TheVariants.{Condition}
-use Rattle.protocol.specs.declared.event.Op.{Op}
-use Rattle.protocol.specs.declared.event.Op.TheVariants.{OnCondition}
+use Rattle.condvar.specs.declared.op.Op.{Op}
+use Rattle.condvar.specs.declared.op.Op.TheVariants.{OnCondition}
 use Rattle.protocol.specs.declared.thread.Thread.{Thread}
 use Rattle.protocol.specs.declared.thread.Stage.TheVariants.{AtCondition}
 use Rattle.protocol.specs.declared.note.Note.TheVariants.{Stepped}
-use Rattle.protocol.specs.Ops.{mutex_of}
+use Rattle.condvar.specs.Ops.{mutex_of}
 use Rattle.protocol.specs.Machine.{idle, slept_in, led_at, stepped}
 use Rattle.interleave.specs.Shown.{state_at}
 use Rattle.interleave.specs.Perform.{list_words, Performs, decision_with, held_with, point_in, reply_in}
@@ -59,7 +59,7 @@ returns-clause-note c =
     subst (λ (x : ℕ × Access). Performs ws kernel c.perform-done.new.kernel x.0 t x.1 c.perform-done.result) (λ i. (c.base-base.ensures.value i, c.next.ensures i)) c.perform-done.ensures.performs in
     let wrote : c.perform-done.new.memory ≡ list_words ws kernel (base_of l t) (cond_access p) = c.perform-done.ensures.words ∙ (λ i. list_words ws kernel (c.base-base.ensures.value i) (c.next.ensures i)) in
     let made = made_at t (mutex_of l o) c.index.result.now.held c.args.call p c.resume-progress.new.self (cond_led p c.perform-done.result.answer) c.resume-progress.result c.resume-progress.ensures.phase c.resume-progress.ensures.progress in
-    let me : c.mutex_of-mutex.result ≡ mutex_of l o = c.mutex_of-mutex.ensures in
+    let me : c.mutex-mutex.result ≡ mutex_of l o = c.mutex-mutex.ensures in
     c.stepped.ensures
     ∙ (λ i. Stepped t (me i) (decision_with t (me i) (point_in c.resume-progress.result)) (slept_in (Condition (c.condition.ensures i)) c.perform-done.result.slept) c.perform-done.result.woken c.perform-done.result.moved (reply_in c.resume-progress.result))
     ∙ step_note l ws c.perform-done.new.memory kernel c.perform-done.new.kernel ts k t (mutex_of l o) (Condition (condition_of c.args.call)) (cond_access p) (λ (x : Answer). led_at c.args.call p (cond_led p x)) c.index.result.now c.perform-done.result _

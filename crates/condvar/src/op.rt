@@ -1,0 +1,57 @@
+//! Calls of both kinds.
+ghost use Rattle.std.specs.Prelude.{◌≡◌, true};
+ghost use Rattle.condvar.specs.Ops.{condition_of, is_in, mutex_of, operation_of};
+
+use crate::call::CondCall;
+use keys::{Layout, Operation};
+use mutex::Call;
+
+/// What a thread may call.
+#[derive(Clone, Copy, Debug, PartialEq, Eq)]
+pub enum Op {
+    OnMutex(Call),
+    OnCondition(CondCall),
+}
+
+impl Op {
+    /// Whether the mutex or the condition variable that it names is one of the layout's.
+    pub fn is_in(self, layout: &Layout) -> bool
+        ensures { result ≡ is_in layout.now self }
+    {
+        match self {
+            Op::OnMutex(call) => call.mutex() < layout.mutexes(),
+            Op::OnCondition(call) => call.condition() < layout.conditions(),
+        }
+    }
+
+    /// What it is called among the operations on its mutex.
+    pub fn operation(self) -> Operation
+        ensures { result ≡ operation_of self }
+    {
+        match self {
+            Op::OnMutex(call) => call.operation(),
+            Op::OnCondition(call) => call.operation(),
+        }
+    }
+
+    /// The number of its mutex: on a condition variable, of the one that the layout gives this.
+    pub fn mutex(self, layout: &Layout) -> u16
+        requires { is_in layout.now self ≡ true }
+        ensures { result ≡ mutex_of layout.now self }
+    {
+        match self {
+            Op::OnMutex(call) => call.mutex(),
+            Op::OnCondition(call) => layout.mutex_of_condition(call.condition()),
+        }
+    }
+
+    /// The number of its condition variable, if it is on one.
+    pub fn condition(self) -> Option<u16>
+        ensures { result ≡ condition_of self }
+    {
+        match self {
+            Op::OnMutex(_) => None,
+            Op::OnCondition(call) => Some(call.condition()),
+        }
+    }
+}
