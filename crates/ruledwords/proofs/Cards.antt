@@ -1,5 +1,5 @@
 -- What cards tell, from step to step.
-use Rattle.std.proofs.Common.{◌≡◌, ℕ, ◌≤◌, Option, Some, None, List, [], ◌∷◌, ◌++◌, refl, sym, ap, ◌∙◌, subst, arith, append-nil, append_assoc}
+use Rattle.std.proofs.Common.{Bool, ◌≡◌, ℕ, ◌≤◌, Option, Some, None, List, [], ◌∷◌, ◌++◌, refl, sym, ap, ◌∙◌, subst, arith, append-nil, append_assoc}
 use mathlib.Core.Logic.{dite}
 use native.Mathlib.Decide.{ℕ_discrete}
 use Rattle.lockword.specs.declared.reply.Reply.{Reply}
@@ -12,6 +12,7 @@ use Rattle.keys.specs.Objects.{fresh, Run}
 use Rattle.facts.specs.Lives.{Complete}
 use Rattle.mutex.specs.Standings.{Standing}
 use Rattle.ruledwords.specs.declared.card.Card.{Card}
+use Rattle.ruledwords.specs.declared.card.Change.{Change}
 use Rattle.ruledwords.specs.Calls.{acts, IsOnMutex}
 use Rattle.ruledwords.specs.Looks.{noted, KnowsTheSame}
 use Rattle.ruledwords.specs.Cards.{at}
@@ -106,12 +107,15 @@ dies c p op (Some x) d called = record { acts = (op, x) ∷ []; beginning = ([],
 
 -- ---- what a look notes
 
-pub is_noted : (k : Layout') (c : Card) (n t : ℕ) → IsCardOf k c → IsCardOf k (noted c n t)
-is_noted k c n t is = record { layout = is.layout; threads = is.threads; first = is.first; thread = is.thread; base = is.base; legal = is.legal }
+pub is_noted : (k : Layout') (c : Card) (n t : ℕ) (zs : List (List Change)) → IsCardOf k c → IsCardOf k (noted c n t zs)
+is_noted k c n t zs is = record { layout = is.layout; threads = is.threads; first = is.first; thread = is.thread; base = is.base; legal = is.legal }
 
-pub knows_same : (c d : Card) (n t : ℕ) → d ≡ noted c n t → KnowsTheSame c d
-knows_same c d n t e = subst (λ (z : Card). z ≡ noted c z.last z.trims) (sym e) refl
+pub is_marking : (k : Layout') (c : Card) (n : ℕ) (marks : List Bool) (zs : List (List Change)) → IsCardOf k c → IsCardOf k record c { last = n; marks = marks; changes = zs }
+is_marking k c n marks zs is = record { layout = is.layout; threads = is.threads; first = is.first; thread = is.thread; base = is.base; legal = is.legal }
+
+pub knows_same : (c d : Card) (n t : ℕ) (zs : List (List Change)) → d ≡ noted c n t zs → KnowsTheSame c d
+knows_same c d n t zs e = subst (λ (z : Card). z ≡ noted c z.last z.trims z.changes) (sym e) refl
 
 -- the word that was found, and the trims
-pub last_noted : (c d : Card) (n t : ℕ) → d ≡ noted c n t → (d.last ≡ n) × (d.trims ≡ t)
-last_noted c d n t e = (ap (λ (z : Card). z.last) e, ap (λ (z : Card). z.trims) e)
+pub last_noted : (c d : Card) (n t : ℕ) (zs : List (List Change)) → d ≡ noted c n t zs → (d.last ≡ n) × (d.trims ≡ t)
+last_noted c d n t zs e = (ap (λ (z : Card). z.last) e, ap (λ (z : Card). z.trims) e)

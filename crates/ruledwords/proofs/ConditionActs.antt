@@ -53,20 +53,21 @@ use Rattle.condvar.specs.Rows.{decides, ends, full, goes, IsGoing}
 use Rattle.condvar.specs.Standings.{CondWhole}
 use Rattle.condvar.specs.Whole.{cond_access, cond_led, from_words, onward, unlinked_at}
 use Rattle.ruledwords.specs.declared.card.Card.{Card}
+use Rattle.ruledwords.specs.declared.card.Change.{Change}
 use Rattle.ruledwords.specs.Calls.{count_after, Made, OwnKept, Ready}
-use Rattle.ruledwords.specs.Cards.{at, value_at}
+use Rattle.ruledwords.specs.Cards.{at, mark_at, value_at}
 use Rattle.ruledwords.specs.ConditionCalls.{CondFound, IsCondAnswerOf, IsCondStep, IsInCondCall}
-use Rattle.ruledwords.specs.Conditions.{cond_row_in, cond_standing, condition_at, list_phase, most_behind, release_of, unlock_of, CondReady, Counts, IsAtCondition, IsOnCondition, Meets, Needs}
+use Rattle.ruledwords.specs.Conditions.{cond_row_in, cond_standing, condition_at, list_phase, having_set, most_behind, release_of, unlock_of, CondReady, Counts, IsAtCondition, IsOnCondition, Meets, Needs}
 use Rattle.ruledwords.specs.Counts.{cell_at, mutex_at}
 use Rattle.ruledwords.specs.Lists.{known, or_zero, IsAlive, IsInCall}
-use Rattle.ruledwords.specs.Looks.{noted}
 use Rattle.ruledwords.specs.OwnWords.{own_after, owns_in}
 use Rattle.ruledwords.specs.Passes.{IsCardOf}
 use Rattle.ruledwords.specs.Seen.{by, count_held, held, held_after, holds, holds_after, Sees}
 use Rattle.ruledwords.specs.Turns.{IsLoadOrStore}
-use Rattle.ruledwords.proofs.Cards.{is_noted, still_card}
+use Rattle.ruledwords.proofs.Cards.{is_marking, still_card}
 use Rattle.ruledwords.proofs.Counts.{of_mutex}
 use Rattle.ruledwords.proofs.Held.{count_same, held_append, owner_held}
+use Rattle.ruledwords.proofs.Lists.{mark_put}
 use Rattle.ruledwords.proofs.Listing.{goes_made, goes_own, owner_told}
 use Rattle.ruledwords.proofs.OwnTurns.{card_own, own_same}
 use Rattle.ruledwords.proofs.OwnWords.{own_place}
@@ -273,9 +274,9 @@ module _ (k : Layout') (he en ce co t : ℕ) where
       sees_ends : (y : Reply) (by : Option Decided) → IsNeutral by → Leads c d record { phase = condition.Ended y; point = point_of t ce by }
       sees_ends y by neutral = neutral_ends d card_then sees.thread held_then alive_then y by neutral
 
-      sees_goes : (r : CondRow) (by : Option Decided) → IsNeutral by → IsGoing r → list_phase (condition.AtWords r) ≡ phase.AtCell (row.Unlock unlock.Load) → most_behind r ≡ held_limit → Needs d.thread r o (value_at d.values (counter_place k q)) → Leads c d record { phase = condition.AtWords r; point = point_of t ce by }
+      sees_goes : (r : CondRow) (by : Option Decided) → IsNeutral by → IsGoing r → list_phase (condition.AtWords r) ≡ phase.AtCell (row.Unlock unlock.Load) → most_behind r ≡ held_limit → Needs d.thread r o (value_at d.values (counter_place k q)) (mark_at d.marks (cell_at k q)) → Leads c d record { phase = condition.AtWords r; point = point_of t ce by }
       sees_goes r by neutral going at most needs = neutral_goes d card_then sees.thread held_then alive_then r by neutral going at most
-          (λ z run. subst (λ (x : Object). Needs d.thread r x (value_at d.values (counter_place k q))) (sym (seen_then z run)) needs)
+          (λ z run. subst (λ (x : Object). Needs d.thread r x (value_at d.values (counter_place k q)) (mark_at d.marks (cell_at k q))) (sym (seen_then z run)) needs)
 
       sees_announces : (seen : ℕ) → o.owner ≡ Some d.thread → o.inconsistent ≡ false → Leads c d record { phase = condition.Announcing seen; point = None }
       sees_announces seen own clean = announces d card_then sees.thread held_then alive_then seen
@@ -394,12 +395,13 @@ module _ (k : Layout') (he en ce co t : ℕ) where
 
     -- ---- a setting of WAITERS
 
-    alive_noted : (n s : ℕ) → IsAlive k c → IsAlive k (noted c n s)
-    alive_noted n s alive = record { knows = record { each = alive.knows.each; offset = alive.knows.offset }; list = alive.list }
+    alive_set : (n : ℕ) (zs : List (List Change)) → IsAlive k c → IsAlive k (having_set c (cell_at k q) n zs)
+    alive_set n zs alive = record { knows = record { each = alive.knows.each; offset = alive.knows.offset }; list = alive.list }
 
-    sets_waiters : (seen n : ℕ) (d : Card) → IsAlive k c → CondReady k q (cond.Broadcast (broadcast.SetWaiters seen)) c → d ≡ noted c n c.trims → Leads c d (cond_led (whole (condition.AtWords (cond.Broadcast (broadcast.SetWaiters seen)))) (Value n))
-    sets_waiters seen n d alive ready is_noted_so = subst (λ (z : Card). Leads c z (cond_led (whole (condition.AtWords (cond.Broadcast (broadcast.SetWaiters seen)))) (Value n))) (sym is_noted_so)
-        (neutral_goes (noted c n c.trims) (is_noted k c n c.trims is) refl refl (alive_noted n c.trims alive) (cond.Broadcast (broadcast.Move seen)) None tt tt refl refl ready)
+    sets_waiters : (seen n : ℕ) (d : Card) → IsAlive k c → CondReady k q (cond.Broadcast (broadcast.SetWaiters seen)) c → d ≡ having_set c (cell_at k q) n d.changes → Leads c d (cond_led (whole (condition.AtWords (cond.Broadcast (broadcast.SetWaiters seen)))) (Value n))
+    sets_waiters seen n d alive ready has_set = subst (λ (z : Card). Leads c z (cond_led (whole (condition.AtWords (cond.Broadcast (broadcast.SetWaiters seen)))) (Value n))) (sym has_set)
+        (neutral_goes (having_set c (cell_at k q) n d.changes) (is_marking k c n (having_set c (cell_at k q) n d.changes).marks d.changes is) refl refl (alive_set n d.changes alive) (cond.Broadcast (broadcast.Move seen)) None tt tt refl refl
+        (λ o run. let needs = ready o run in (needs.0, needs.1, mark_put c.marks (cell_at k q) true)))
 
     -- ---- a release
 
@@ -445,7 +447,7 @@ module _ (k : Layout') (he en ce co t : ℕ) where
         list_then b e = clearing b (subst (λ (z : Bool). IsInCall k d m (record { thread = t; operation = operation.Unlock; head = he; entry = en; cell = ce; phase = behind_release seen z })) e
             (goes_made k c is m (unlock_of (whole (condition.AtWords (cond.Wait (wait.Release seen))))) call tt d n tt tt (release_ready seen ready) made kept (under (fields_of n).waiters)))
 
-        leads_to : (r : CondRow) → IsGoing r → list_phase (condition.AtWords r) ≡ phase.Clearing OK → most_behind r ≡ held_limit - 1 → ((o : Object) (v : Option ℕ) → Needs d.thread r o v) → (b : Bool) → (fields_of n).waiters ≡ b
+        leads_to : (r : CondRow) → IsGoing r → list_phase (condition.AtWords r) ≡ phase.Clearing OK → most_behind r ≡ held_limit - 1 → ((o : Object) (v : Option ℕ) (w : Bool) → Needs d.thread r o v w) → (b : Bool) → (fields_of n).waiters ≡ b
             → Leads c d record { phase = condition.AtWords r; point = point_of t ce (Some (record { operation = operation.Unlock; reply = OK })) }
         leads_to r going at most needs b e = record {
           card = card_then';
@@ -456,15 +458,15 @@ module _ (k : Layout') (he en ce co t : ℕ) where
             on = record { inside = on.inside; cell = on.cell; counter = on.counter };
             knows = going;
             list = subst (λ (f : Phase). IsInCall k d m (record { thread = t; operation = operation.Unlock; head = he; entry = en; cell = ce; phase = f })) (sym at) (list_then b e);
-            ready = λ o run. needs o (value_at d.values (counter_place k q));
+            ready = λ o run. needs o (value_at d.values (counter_place k q)) (mark_at d.marks (cell_at k q));
           };
           ends = λ z e. absurd (cc e);
           locks = λ l e. cc;
         }
 
         go : (b : Bool) → (fields_of n).waiters ≡ b → Leads c d (from_words (whole (condition.AtWords (cond.Wait (wait.Release seen)))) (decides (if b then cond.Wait (wait.Wake seen) else cond.Wait (wait.Sleep seen)) operation.Unlock OK))
-        go true e = leads_to (cond.Wait (wait.Wake seen)) tt refl refl (λ o v. tt) true e
-        go false e = leads_to (cond.Wait (wait.Sleep seen)) tt refl refl (λ o v. tt) false e
+        go true e = leads_to (cond.Wait (wait.Wake seen)) tt refl refl (λ o v w. tt) true e
+        go false e = leads_to (cond.Wait (wait.Sleep seen)) tt refl refl (λ o v w. tt) false e
 
     -- ---- at its thread's own words
 

@@ -111,9 +111,9 @@ module _ (w : Words) (r : CondRunning) (of : IsCondRunningOf w r) where
 -- ---- a call begins
 
 stands_first : (k : Layout') (c : Card) (cl : CondCall) → CondStands k (condition_of cl) (operation_of cl) c (cond_row_in (begins k c.thread cl).phase) c
-stands_first k c (call.Wait q) = record { of = refl; called = saw_nothing c (cell_at k q); owns = tt; counts = tt; usable = tt }
-stands_first k c (call.Signal q) = record { of = refl; called = saw_nothing c (cell_at k q); owns = tt; counts = tt; usable = tt }
-stands_first k c (call.Broadcast q) = record { of = refl; called = saw_nothing c (cell_at k q); owns = tt; counts = tt; usable = tt }
+stands_first k c (call.Wait q) = record { of = refl; called = saw_nothing c (cell_at k q); owns = tt; counts = tt; waiters = tt; usable = tt }
+stands_first k c (call.Signal q) = record { of = refl; called = saw_nothing c (cell_at k q); owns = tt; counts = tt; waiters = tt; usable = tt }
+stands_first k c (call.Broadcast q) = record { of = refl; called = saw_nothing c (cell_at k q); owns = tt; counts = tt; waiters = tt; usable = tt }
 
 pub begun_stands : (w : Words) (a : Pass Live) (cl : CondCall) (p : CondWhole) → p ≡ begins (layout_of w) (card a).thread cl → condition_at (layout_of w) (begins (layout_of w) (card a).thread cl) ≡ condition_of cl → CondStandsIn w a cl p (card a)
 begun_stands w a cl p begun at = subst (λ (z : CondWhole). CondStandsIn w a cl z (card a)) (sym begun) (at, stands_first (layout_of w) (card a) cl)

@@ -42,22 +42,21 @@ use Rattle.ruledwords.specs.declared.card.Card.{Card}
 use Rattle.robustlist.specs.Words.{answer_on}
 use Rattle.facts.specs.Lives.{Beginning}
 use Rattle.ruledwords.specs.Calls.{row_in, Made, Ready}
-use Rattle.ruledwords.specs.Cards.{at, value_at}
+use Rattle.ruledwords.specs.Cards.{at, value_at, mark_at}
 use Rattle.ruledwords.specs.ConditionCalls.{CondFound, IsCondAnswerOf, IsCondStep, IsInCondCall}
-use Rattle.ruledwords.specs.Conditions.{cond_row_in, cond_standing, release_of, CondReady, Counts, IsAtCondition, Meets}
-use Rattle.ruledwords.specs.ConditionStands.{cond_reply, cond_acts, CondEnded, CondStands, LeftUsable}
+use Rattle.ruledwords.specs.Conditions.{cond_row_in, cond_standing, having_set, release_of, CondReady, Counts, IsAtCondition, Meets}
+use Rattle.ruledwords.specs.ConditionStands.{cond_reply, cond_acts, CondEnded, CondStands, LeftUsable, SetsWaiters}
 use Rattle.ruledwords.specs.Counts.{cell_at}
 use Rattle.ruledwords.specs.Lists.{known}
-use Rattle.ruledwords.specs.Looks.{noted}
 use Rattle.ruledwords.specs.OwnWords.{own_after, owns_in}
 use Rattle.ruledwords.specs.Seen.{held_after, holds, Called, Sees}
 use Rattle.ruledwords.proofs.Cards.{saw_more}
 use Rattle.ruledwords.proofs.ConditionActs.{q, m, unlink_no_section, whole}
-use Rattle.ruledwords.proofs.Noted.{seen_noted, seen_stored, still_called}
+use Rattle.ruledwords.proofs.Lists.{mark_put}
+use Rattle.ruledwords.proofs.Noted.{marked_called, seen_stored, still_called}
 use Rattle.ruledwords.proofs.OwnTurns.{own_same}
 use Rattle.ruledwords.proofs.Standing.{made_right}
 use Rattle.ruledwords.proofs.Steps.{is_owner_by}
-use Rattle.ruledwords.proofs.Cards.{knows_same}
 
 module _ (k : Layout') (he en ce co t : ℕ) where
   abbrev stage : CondPhase → CondWhole
@@ -103,9 +102,9 @@ module _ (k : Layout') (he en ce co t : ℕ) where
         seen b e bs es = subst (λ (u : Bool × Bool). Sees c z (points (point_of c.thread z (if not u.0 then ends operation.Wait EPERM else if u.1 then ends operation.Wait XSTATE else goes (cond.Wait wait.LoadCounter)).decided)) (object_of (fields_of n)) d) (λ i. (bs i, es i)) found.sees
 
         go : (b : Bool) → ((fields_of n).owner == t) ≡ b → (e : Bool) → (fields_of n).died ≡ e → Outcome operation.Wait c0 d (from_words (stage (condition.AtWords (cond.Wait wait.LoadCell))) (if not b then ends operation.Wait EPERM else if e then ends operation.Wait XSTATE else goes (cond.Wait wait.LoadCounter)))
-        go false bs e es = ended operation.Wait c0 d EPERM _ record { called = saw_more c0 z c operation.Wait (Some EPERM) _ d s.called (seen false e bs es); reply = sym (ap (λ (b : Bool). if b then XSTATE else EPERM) (own ∙ bs)); counts = tt }
-        go true bs true es = ended operation.Wait c0 d XSTATE _ record { called = saw_more c0 z c operation.Wait (Some XSTATE) _ d s.called (seen true true bs es); reply = sym (ap (λ (b : Bool). if b then XSTATE else EPERM) (own ∙ bs)); counts = tt }
-        go true bs false es = went operation.Wait c0 d (condition.AtWords (cond.Wait wait.LoadCounter)) None tt record { of = refl; called = saw_more c0 z c operation.Wait None _ d s.called (seen true false bs es); owns = own ∙ bs; counts = tt; usable = tt }
+        go false bs e es = ended operation.Wait c0 d EPERM _ record { called = saw_more c0 z c operation.Wait (Some EPERM) _ d s.called (seen false e bs es); reply = sym (ap (λ (b : Bool). if b then XSTATE else EPERM) (own ∙ bs)); counts = tt; waiters = tt }
+        go true bs true es = ended operation.Wait c0 d XSTATE _ record { called = saw_more c0 z c operation.Wait (Some XSTATE) _ d s.called (seen true true bs es); reply = sym (ap (λ (b : Bool). if b then XSTATE else EPERM) (own ∙ bs)); counts = tt; waiters = tt }
+        go true bs false es = went operation.Wait c0 d (condition.AtWords (cond.Wait wait.LoadCounter)) None tt record { of = refl; called = saw_more c0 z c operation.Wait None _ d s.called (seen true false bs es); owns = own ∙ bs; counts = tt; waiters = tt; usable = tt }
 
     signal_stands : (n : ℕ) (d : Card) → Stands operation.Signal c0 (cond.Signal signal.LoadCell) c → Meets k (q k he en ce co t) (cond_standing (stage (condition.AtWords (cond.Signal signal.LoadCell)))) c n d → Outcome operation.Signal c0 d (cond_led (stage (condition.AtWords (cond.Signal signal.LoadCell))) (Value n))
     signal_stands n d s found = go ((fields_of n).owner == t) refl
@@ -117,8 +116,8 @@ module _ (k : Layout') (he en ce co t : ℕ) where
         seen b bs = subst (λ (u : Bool). Sees c z (points (point_of c.thread z (if not u then ends operation.Signal EPERM else goes (cond.Signal signal.LoadCounter)).decided)) (object_of (fields_of n)) d) bs found.sees
 
         go : (b : Bool) → ((fields_of n).owner == t) ≡ b → Outcome operation.Signal c0 d (from_words (stage (condition.AtWords (cond.Signal signal.LoadCell))) (if not b then ends operation.Signal EPERM else goes (cond.Signal signal.LoadCounter)))
-        go false bs = ended operation.Signal c0 d EPERM _ record { called = saw_more c0 z c operation.Signal (Some EPERM) _ d s.called (seen false bs); reply = sym (ap (λ (b : Bool). if b then (if d.counted == largest_counter then XFULL else OK) else EPERM) (own ∙ bs)); counts = tt }
-        go true bs = went operation.Signal c0 d (condition.AtWords (cond.Signal signal.LoadCounter)) None tt record { of = refl; called = saw_more c0 z c operation.Signal None _ d s.called (seen true bs); owns = own ∙ bs; counts = tt; usable = tt }
+        go false bs = ended operation.Signal c0 d EPERM _ record { called = saw_more c0 z c operation.Signal (Some EPERM) _ d s.called (seen false bs); reply = sym (ap (λ (b : Bool). if b then (if d.counted == largest_counter then XFULL else OK) else EPERM) (own ∙ bs)); counts = tt; waiters = tt }
+        go true bs = went operation.Signal c0 d (condition.AtWords (cond.Signal signal.LoadCounter)) None tt record { of = refl; called = saw_more c0 z c operation.Signal None _ d s.called (seen true bs); owns = own ∙ bs; counts = tt; waiters = tt; usable = tt }
 
     broadcast_stands : (n : ℕ) (d : Card) → Stands operation.Broadcast c0 (cond.Broadcast broadcast.LoadCell) c → Meets k (q k he en ce co t) (cond_standing (stage (condition.AtWords (cond.Broadcast broadcast.LoadCell)))) c n d
         → Outcome operation.Broadcast c0 d (cond_led (stage (condition.AtWords (cond.Broadcast broadcast.LoadCell))) (Value n))
@@ -131,13 +130,13 @@ module _ (k : Layout') (he en ce co t : ℕ) where
         seen b bs = subst (λ (u : Bool). Sees c z (points (point_of c.thread z (if not u then ends operation.Broadcast EPERM else goes (cond.Broadcast broadcast.LoadCounter)).decided)) (object_of (fields_of n)) d) bs found.sees
 
         go : (b : Bool) → ((fields_of n).owner == t) ≡ b → Outcome operation.Broadcast c0 d (from_words (stage (condition.AtWords (cond.Broadcast broadcast.LoadCell))) (if not b then ends operation.Broadcast EPERM else goes (cond.Broadcast broadcast.LoadCounter)))
-        go false bs = ended operation.Broadcast c0 d EPERM _ record { called = saw_more c0 z c operation.Broadcast (Some EPERM) _ d s.called (seen false bs); reply = sym (ap (λ (b : Bool). if b then (if d.counted == largest_counter then XFULL else OK) else EPERM) (own ∙ bs)); counts = tt }
-        go true bs = went operation.Broadcast c0 d (condition.AtWords (cond.Broadcast broadcast.LoadCounter)) None tt record { of = refl; called = saw_more c0 z c operation.Broadcast None _ d s.called (seen true bs); owns = own ∙ bs; counts = tt; usable = tt }
+        go false bs = ended operation.Broadcast c0 d EPERM _ record { called = saw_more c0 z c operation.Broadcast (Some EPERM) _ d s.called (seen false bs); reply = sym (ap (λ (b : Bool). if b then (if d.counted == largest_counter then XFULL else OK) else EPERM) (own ∙ bs)); counts = tt; waiters = tt }
+        go true bs = went operation.Broadcast c0 d (condition.AtWords (cond.Broadcast broadcast.LoadCounter)) None tt record { of = refl; called = saw_more c0 z c operation.Broadcast None _ d s.called (seen true bs); owns = own ∙ bs; counts = tt; waiters = tt; usable = tt }
 
     -- ---- at the counter
 
     wait_loads : (n : ℕ) (d : Card) → Stands operation.Wait c0 (cond.Wait wait.LoadCounter) c → Counts k (q k he en ce co t) (cond_standing (stage (condition.AtWords (cond.Wait wait.LoadCounter)))) c n d → Outcome operation.Wait c0 d (cond_led (stage (condition.AtWords (cond.Wait wait.LoadCounter))) (Value n))
-    wait_loads n d s found = went operation.Wait c0 d (condition.Announcing (n % 2 ^ 32)) None tt record { of = refl; called = saw_more c0 z c operation.Wait None _ d s.called found.sees; owns = s.owns; counts = tt; usable = tt }
+    wait_loads n d s found = went operation.Wait c0 d (condition.Announcing (n % 2 ^ 32)) None tt record { of = refl; called = saw_more c0 z c operation.Wait None _ d s.called found.sees; owns = s.owns; counts = tt; waiters = tt; usable = tt }
 
     -- the reply of an owner, by the counter
     full_reply : (n : ℕ) (d : Card) → d.counted ≡ n → owns_in k c0 (m k he en ce co t) ≡ true → (b : Bool) → (n == full) ≡ b → (if b then XFULL else OK) ≡ (if owns_in k c0 (m k he en ce co t) then (if d.counted == largest_counter then XFULL else OK) else EPERM)
@@ -150,9 +149,9 @@ module _ (k : Layout') (he en ce co t : ℕ) where
         seen b bs = subst (λ (u : Bool). Sees c z (points (point_of c.thread z (if u then ends operation.Signal XFULL else goes (cond.Signal signal.Count)).decided)) found.object d) bs found.sees
 
         go : (b : Bool) → (n == full) ≡ b → Outcome operation.Signal c0 d (from_words (stage (condition.AtWords (cond.Signal signal.LoadCounter))) (if b then ends operation.Signal XFULL else goes (cond.Signal signal.Count)))
-        go true bs = ended operation.Signal c0 d XFULL _ record { called = saw_more c0 z c operation.Signal (Some XFULL) _ d s.called (seen true bs); reply = full_reply n d found.counted s.owns true bs; counts = found.value ∙ ap Some (sym found.counted) }
+        go true bs = ended operation.Signal c0 d XFULL _ record { called = saw_more c0 z c operation.Signal (Some XFULL) _ d s.called (seen true bs); reply = full_reply n d found.counted s.owns true bs; counts = found.value ∙ ap Some (sym found.counted); waiters = tt }
         go false bs = went operation.Signal c0 d (condition.AtWords (cond.Signal signal.Count)) None tt
-            record { of = refl; called = saw_more c0 z c operation.Signal None _ d s.called (seen false bs); owns = s.owns; counts = ((λ e. eqb-false n full bs (sym found.counted ∙ e)), found.value ∙ ap Some (sym found.counted)); usable = tt }
+            record { of = refl; called = saw_more c0 z c operation.Signal None _ d s.called (seen false bs); owns = s.owns; counts = ((λ e. eqb-false n full bs (sym found.counted ∙ e)), found.value ∙ ap Some (sym found.counted)); waiters = tt; usable = tt }
 
     broadcast_loads : (n : ℕ) (d : Card) → Stands operation.Broadcast c0 (cond.Broadcast broadcast.LoadCounter) c → Counts k (q k he en ce co t) (cond_standing (stage (condition.AtWords (cond.Broadcast broadcast.LoadCounter)))) c n d
         → Outcome operation.Broadcast c0 d (cond_led (stage (condition.AtWords (cond.Broadcast broadcast.LoadCounter))) (Value n))
@@ -162,9 +161,9 @@ module _ (k : Layout') (he en ce co t : ℕ) where
         seen b bs = subst (λ (u : Bool). Sees c z (points (point_of c.thread z (if u then ends operation.Broadcast XFULL else goes (cond.Broadcast (broadcast.Count (n % 2 ^ 32)))).decided)) found.object d) bs found.sees
 
         go : (b : Bool) → (n == full) ≡ b → Outcome operation.Broadcast c0 d (from_words (stage (condition.AtWords (cond.Broadcast broadcast.LoadCounter))) (if b then ends operation.Broadcast XFULL else goes (cond.Broadcast (broadcast.Count (n % 2 ^ 32)))))
-        go true bs = ended operation.Broadcast c0 d XFULL _ record { called = saw_more c0 z c operation.Broadcast (Some XFULL) _ d s.called (seen true bs); reply = full_reply n d found.counted s.owns true bs; counts = found.value ∙ ap Some (sym found.counted) }
+        go true bs = ended operation.Broadcast c0 d XFULL _ record { called = saw_more c0 z c operation.Broadcast (Some XFULL) _ d s.called (seen true bs); reply = full_reply n d found.counted s.owns true bs; counts = found.value ∙ ap Some (sym found.counted); waiters = tt }
         go false bs = went operation.Broadcast c0 d (condition.AtWords (cond.Broadcast (broadcast.Count (n % 2 ^ 32)))) None tt
-            record { of = refl; called = saw_more c0 z c operation.Broadcast None _ d s.called (seen false bs); owns = s.owns; counts = ((λ e. eqb-false n full bs (sym found.counted ∙ e)), found.value ∙ ap Some (sym found.counted)); usable = tt }
+            record { of = refl; called = saw_more c0 z c operation.Broadcast None _ d s.called (seen false bs); owns = s.owns; counts = ((λ e. eqb-false n full bs (sym found.counted ∙ e)), found.value ∙ ap Some (sym found.counted)); waiters = tt; usable = tt }
 
     -- the count, of the counter that was loaded
     counted_on : (n : ℕ) (d : Card) (r : CondRow) (v : ℕ) → n ≡ c.counted → d.counted ≡ n → c.counted ≢ largest_counter → n ≤ largest_counter → v ≡ (n + 1) % 18446744073709551616 → value_at d.values a ≡ Some v → (d.counted ≢ largest_counter) × (value_at d.values a ≡ Some (d.counted + 1))
@@ -176,6 +175,7 @@ module _ (k : Layout') (he en ce co t : ℕ) where
       called = saw_more c0 z c operation.Signal (Some OK) _ d s.called found.sees;
       owns = s.owns;
       counts = counted_on n d (cond.Signal signal.Count) _ (found.known c.counted s.counts.1) found.counted s.counts.0 found.within refl found.value;
+      waiters = tt;
       usable = tt;
     }
 
@@ -186,23 +186,25 @@ module _ (k : Layout') (he en ce co t : ℕ) where
       called = saw_more c0 z c operation.Broadcast (Some OK) _ d s.called found.sees;
       owns = s.owns;
       counts = counted_on n d (cond.Broadcast (broadcast.Count seen)) _ (found.known c.counted s.counts.1) found.counted s.counts.0 found.within refl found.value;
+      waiters = tt;
       usable = tt;
     }
 
     -- ---- where nothing is seen anew
 
-    broadcast_sets : (seen n : ℕ) (d : Card) → Stands operation.Broadcast c0 (cond.Broadcast (broadcast.SetWaiters seen)) c → d ≡ noted c n c.trims → Outcome operation.Broadcast c0 d (cond_led (stage (condition.AtWords (cond.Broadcast (broadcast.SetWaiters seen)))) (Value n))
+    broadcast_sets : (seen n : ℕ) (d : Card) → Stands operation.Broadcast c0 (cond.Broadcast (broadcast.SetWaiters seen)) c → d ≡ having_set c z n d.changes → Outcome operation.Broadcast c0 d (cond_led (stage (condition.AtWords (cond.Broadcast (broadcast.SetWaiters seen)))) (Value n))
     broadcast_sets seen n d s same = went operation.Broadcast c0 d (condition.AtWords (cond.Broadcast (broadcast.Move seen))) None tt record {
       of = refl;
-      called = still_called c0 z _ c d (seen_noted c d (knows_same c d n c.trims same)) s.called;
+      called = subst (Called c0 z ((operation.Broadcast, OK) ∷ [])) (sym same) (marked_called c0 z _ c n (having_set c z n d.changes).marks d.changes s.called);
       owns = s.owns;
       counts = subst (λ (e : Card). (e.counted ≢ largest_counter) × (value_at e.values a ≡ Some (e.counted + 1))) (sym same) s.counts;
+      waiters = subst (λ (e : Card). mark_at e.marks z ≡ true) (sym same) (mark_put c.marks z true);
       usable = tt;
     }
 
     own_stands : (seen : ℕ) (b : Access) (d : Card) (f : CondPhase) → IsAtCondition f → cond_row_in f ≡ cond.Wait (wait.Release seen) → Stands operation.Wait c0 (cond.Wait (wait.Release seen)) c → d ≡ own_after k c b → Outcome operation.Wait c0 d (onward f)
     own_stands seen b d f there row s same = went operation.Wait c0 d f None there (subst (λ (r : CondRow). Stands operation.Wait c0 r d) (sym row)
-        record { of = refl; called = still_called c0 z [] c d (seen_stored c d (own_after k c b).values (same ∙ own_same k c b)) s.called; owns = s.owns; counts = tt; usable = tt })
+        record { of = refl; called = still_called c0 z [] c d (seen_stored c d (own_after k c b).values (same ∙ own_same k c b)) s.called; owns = s.owns; counts = tt; waiters = tt; usable = tt })
 
     unlink_stands : (u : UnlinkStanding) (r : UnlinkRow) (seen : ℕ) (b : Access) (d : Card) → Stands operation.Wait c0 (cond.Wait (wait.Release seen)) c → d ≡ own_after k c b → row_in (whole_unlinked_at u r false) ≡ mutex_row.Unlock (unlock.Release false) → Outcome operation.Wait c0 d (onward (unlinked_at u r seen))
     unlink_stands u (unlink_row.Ended OK) seen b d s same at_row = own_stands seen b d (condition.AtWords (cond.Wait (wait.Release seen))) tt refl s same
@@ -232,8 +234,8 @@ module _ (k : Layout') (he en ce co t : ℕ) where
             by_unusable true e = let none = made.sound e in let own = made.met.0 in absurd (cc (none, own))
 
         go : (b : Bool) → Outcome operation.Wait c0 d (from_words (stage (condition.AtWords (cond.Wait (wait.Release seen)))) (decides (if b then cond.Wait (wait.Wake seen) else cond.Wait (wait.Sleep seen)) operation.Unlock OK))
-        go true = went operation.Wait c0 d (condition.AtWords (cond.Wait (wait.Wake seen))) _ tt record { of = refl; called = called; owns = s.owns; counts = tt; usable = usable }
-        go false = went operation.Wait c0 d (condition.AtWords (cond.Wait (wait.Sleep seen))) _ tt record { of = refl; called = called; owns = s.owns; counts = tt; usable = usable }
+        go true = went operation.Wait c0 d (condition.AtWords (cond.Wait (wait.Wake seen))) _ tt record { of = refl; called = called; owns = s.owns; counts = tt; waiters = tt; usable = usable }
+        go false = went operation.Wait c0 d (condition.AtWords (cond.Wait (wait.Sleep seen))) _ tt record { of = refl; called = called; owns = s.owns; counts = tt; waiters = tt; usable = usable }
 
     -- ---- any step
 
@@ -282,8 +284,8 @@ module _ (k : Layout') (he en ce co t : ℕ) where
       pub locks : (l : Whole) → o.phase ≡ condition.Locking l → Released op
 
     -- who has counted ends OK
-    counted_ends : (op : Operation) (x : Reply) → Called c0 z ((op, OK) ∷ []) c → OK ≡ cond_reply op (owns_in k c0 (m k he en ce co t)) c.counted → value_at c.values a ≡ Some (c.counted + 1) → SectionOutcome op (onward (condition.Ended OK))
-    counted_ends op x called reply counts = record { outcome = ended op c0 c OK None record { called = called; reply = reply; counts = counts }; locks = λ l e. absurd (cc e) }
+    counted_ends : (op : Operation) (x : Reply) → Called c0 z ((op, OK) ∷ []) c → OK ≡ cond_reply op (owns_in k c0 (m k he en ce co t)) c.counted → value_at c.values a ≡ Some (c.counted + 1) → SetsWaiters op OK (mark_at c.marks z) → SectionOutcome op (onward (condition.Ended OK))
+    counted_ends op x called reply counts sets = record { outcome = ended op c0 c OK None record { called = called; reply = reply; counts = counts; waiters = sets }; locks = λ l e. absurd (cc e) }
 
     ok_reply : owns_in k c0 (m k he en ce co t) ≡ true → c.counted ≢ largest_counter → OK ≡ (if owns_in k c0 (m k he en ce co t) then (if c.counted == largest_counter then XFULL else OK) else EPERM)
     ok_reply own free = sym (ap (λ (b : Bool). if b then (if c.counted == largest_counter then XFULL else OK) else EPERM) own ∙ ap (λ (b : Bool). if b then XFULL else OK) (ne_eqb c.counted largest_counter free))
@@ -295,7 +297,7 @@ module _ (k : Layout') (he en ce co t : ℕ) where
     section_stands op (condition.AtWords (cond.Wait wait.LoadCell)) there call x fits s = absurd fits
     section_stands op (condition.AtWords (cond.Wait wait.LoadCounter)) there call x fits s = absurd fits
     section_stands op (condition.AtWords (cond.Wait (wait.Release seen))) there call x fits s = absurd fits
-    section_stands op (condition.AtWords (cond.Wait (wait.Wake seen))) there call (Count j) fits s = record { outcome = went op c0 c (condition.AtWords (cond.Wait (wait.Sleep seen))) None tt record { of = s.of; called = s.called; owns = s.owns; counts = tt; usable = s.usable }; locks = λ l e. absurd (cc e) }
+    section_stands op (condition.AtWords (cond.Wait (wait.Wake seen))) there call (Count j) fits s = record { outcome = went op c0 c (condition.AtWords (cond.Wait (wait.Sleep seen))) None tt record { of = s.of; called = s.called; owns = s.owns; counts = tt; waiters = tt; usable = s.usable }; locks = λ l e. absurd (cc e) }
     section_stands op (condition.AtWords (cond.Wait (wait.Wake seen))) there call x fits s = absurd fits
     section_stands op (condition.AtWords (cond.Wait (wait.Sleep seen))) there call Again fits s = retakes seen op _ s
     section_stands op (condition.AtWords (cond.Wait (wait.Sleep seen))) there call Woken fits s = retakes seen op _ s
@@ -304,16 +306,16 @@ module _ (k : Layout') (he en ce co t : ℕ) where
     section_stands op (condition.AtWords (cond.Signal signal.LoadCounter)) there call x fits s = absurd fits
     section_stands op (condition.AtWords (cond.Signal signal.Count)) there call x fits s = absurd fits
     section_stands op (condition.AtWords (cond.Signal signal.Wake)) there call (Count j) fits s =
-        subst (λ (o : Operation). Stands o c0 (cond.Signal signal.Wake) c → SectionOutcome o (onward (condition.Ended OK))) s.of (λ s. counted_ends operation.Signal OK s.called (ok_reply s.owns s.counts.0) s.counts.1) s
+        subst (λ (o : Operation). Stands o c0 (cond.Signal signal.Wake) c → SectionOutcome o (onward (condition.Ended OK))) s.of (λ s. counted_ends operation.Signal OK s.called (ok_reply s.owns s.counts.0) s.counts.1 tt) s
     section_stands op (condition.AtWords (cond.Signal signal.Wake)) there call x fits s = absurd fits
     section_stands op (condition.AtWords (cond.Broadcast broadcast.LoadCell)) there call x fits s = absurd fits
     section_stands op (condition.AtWords (cond.Broadcast broadcast.LoadCounter)) there call x fits s = absurd fits
     section_stands op (condition.AtWords (cond.Broadcast (broadcast.Count seen))) there call x fits s = absurd fits
     section_stands op (condition.AtWords (cond.Broadcast (broadcast.SetWaiters seen))) there call x fits s = absurd fits
     section_stands op (condition.AtWords (cond.Broadcast (broadcast.Move seen))) there call Again fits s =
-        subst (λ (o : Operation). Stands o c0 (cond.Broadcast (broadcast.Move seen)) c → SectionOutcome o (onward (condition.Ended OK))) s.of (λ s. counted_ends operation.Broadcast OK s.called (ok_reply s.owns s.counts.0) s.counts.1) s
+        subst (λ (o : Operation). Stands o c0 (cond.Broadcast (broadcast.Move seen)) c → SectionOutcome o (onward (condition.Ended OK))) s.of (λ s. counted_ends operation.Broadcast OK s.called (ok_reply s.owns s.counts.0) s.counts.1 s.waiters) s
     section_stands op (condition.AtWords (cond.Broadcast (broadcast.Move seen))) there call (Moved i j) fits s =
-        subst (λ (o : Operation). Stands o c0 (cond.Broadcast (broadcast.Move seen)) c → SectionOutcome o (onward (condition.Ended OK))) s.of (λ s. counted_ends operation.Broadcast OK s.called (ok_reply s.owns s.counts.0) s.counts.1) s
+        subst (λ (o : Operation). Stands o c0 (cond.Broadcast (broadcast.Move seen)) c → SectionOutcome o (onward (condition.Ended OK))) s.of (λ s. counted_ends operation.Broadcast OK s.called (ok_reply s.owns s.counts.0) s.counts.1 s.waiters) s
     section_stands op (condition.AtWords (cond.Broadcast (broadcast.Move seen))) there call x fits s = absurd fits
     section_stands op (condition.AtWords cond.Awake) there call x fits s = absurd call.knows
     section_stands op (condition.AtWords (cond.Ended y)) there call x fits s = absurd call.knows

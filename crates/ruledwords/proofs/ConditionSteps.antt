@@ -1,5 +1,5 @@
 -- Each access of a call at its mutex's cell or at its condition variable's counter keeps the rule.
-use Rattle.std.proofs.Common.{Bool, true, false, ◌≡◌, ℕ, ◌+◌, ◌^◌, ◌<◌, ◌≤◌, ◌==◌, get_or, Option, Some, None, List, [], ◌∷◌, ◌++◌, refl, sym, ap, ◌∙◌, subst, arith, bit_or}
+use Rattle.std.proofs.Common.{Bool, true, false, ◌≡◌, ℕ, ◌+◌, ◌^◌, ◌<◌, ◌≤◌, ◌==◌, get_or, set, Option, Some, None, List, [], ◌∷◌, ◌++◌, refl, sym, ap, ◌∙◌, subst, arith, bit_or}
 use Rattle.std.specs.Prelude.{if◌then◌else◌, length, not}
 use mathlib.Core.Option.{none}
 use Rattle.atomic_table.specs.Table.{step, keeps, Allows}
@@ -30,24 +30,26 @@ use Rattle.condvar.specs.Rows.{ends, goes, IsGoing}
 use Rattle.condvar.proofs.Rights.{right}
 use Rattle.ruledwords.specs.declared.card.Card.{Card}
 use Rattle.ruledwords.specs.Calls.{address_at, OwnKept}
-use Rattle.ruledwords.specs.Cards.{at, value_at}
-use Rattle.ruledwords.specs.Conditions.{access_at, acted, cond_led_at, release_of, CondReady, CondStanding, Counts, Meets}
+use Rattle.ruledwords.specs.Cards.{at, value_at, put_mark}
+use Rattle.ruledwords.specs.Changes.{put_changes, Writes}
+use Rattle.ruledwords.specs.Conditions.{access_at, acted, cond_led_at, having_set, release_of, CondReady, CondStanding, Counts, Meets}
 use Rattle.ruledwords.specs.ConditionCalls.{IsCondStep}
 use Rattle.ruledwords.specs.Counts.{cell_at, counter_in, mutex_at}
-use Rattle.ruledwords.specs.Looks.{Finds, noted}
+use Rattle.ruledwords.specs.Looks.{Finds}
 use Rattle.ruledwords.specs.OwnWords.{owns_in, IsOwn}
 use Rattle.ruledwords.specs.Rules.{owner_at, Kept, Turns}
 use Rattle.ruledwords.specs.Seen.{holds, Sees}
+use Rattle.ruledwords.proofs.Changes.{writes_there}
 use Rattle.ruledwords.proofs.Counters.{counting, counter_small, kept_counted, sees_counted}
 use Rattle.ruledwords.proofs.Counts.{of_mutex, told_counts}
 use Rattle.ruledwords.proofs.Held.{owner_held}
-use Rattle.ruledwords.proofs.Keepers.{other_cell}
+use Rattle.ruledwords.proofs.Keepers.{inside, other_cell}
 use Rattle.ruledwords.proofs.Lists.{told, value_put, value_put_else}
-use Rattle.ruledwords.proofs.Looks.{found, kept_noted}
-use Rattle.ruledwords.proofs.Moves.{Knowing, allows, says, turns}
+use Rattle.ruledwords.proofs.Looks.{found}
+use Rattle.ruledwords.proofs.Moves.{Knowing, Marked, Steady, allows, changing, marked_own, says, turns}
 use Rattle.ruledwords.proofs.OwnWords.{own_place}
 use Rattle.ruledwords.proofs.Steps.{holder, is_owner_by, makes, may_have, others_run_keep, own_kept, since_seen, sound, values_after}
-use Rattle.ruledwords.proofs.Trims.{kept_left}
+use Rattle.ruledwords.proofs.Trims.{fits_left, kept_left}
 use mathlib.Core.Logic.{dite}
 use mathlib.Core.Path.{fun_ext}
 use native.Mathlib.Decide.{ℕ_discrete}
@@ -89,10 +91,11 @@ meets {o} k slots id c q low p runs countless =
     (λ n. told_count (cond_led_at p n).decided ∙ countless n)
     (λ n known. subst (λ (xs : List Point). Run (object_of (fields_of n)) xs (object_of (fields_of n))) (sym (told_decided c.thread z (cond_led_at p n).decided))
     (run_here (object_of (fields_of n)) (object_of (fields_of n)) c.thread p.cell z (cond_led_at p n).decided (runs n known.thread.0 (short n known) (sound k c z n known))))
-    (λ ws n d known sees misses last mark values. turns c d (λ c d. Meets k q p c n d) record {
+    (λ ws n d known sees writes misses last mark values. turns c d (λ c d. Meets k q p c n d) record {
       sees = subst (λ (xs : List Point). Sees c z xs (object_of (fields_of n)) d) (told_decided c.thread z (cond_led_at p n).decided) sees;
       misses = misses;
       last = last;
+      writes = writes;
       holder = holder k c z n known;
       kept = own_kept k m low ws c d ((fields_of n).owner == c.thread) (holds c.thread (at c.seen z)) sees.thread known.thread.0 known.thread.1 values (holds_then n d known sees) refl
           (λ l other. ap (holds d.thread) (sees.elsewhere (cell_place k l) (other_cell k m l other)) ∙ ap (λ (t : ℕ). holds t (at c.seen (cell_place k l))) sees.thread);
@@ -212,18 +215,25 @@ counts_at {o} k slots id c q low p f mine rights is_change s h deep is small =
 -- ---- a setting of WAITERS
 
 flags : {o : List ℕ} (k : Layout') (slots id : ℕ) (c : Card) (m : ℕ) → m < k.mutexes
-    → Allows (Kept k o) slots id (c ∷ [], []) (cell_place k m) (λ n. bit_or n waiters_bit) (λ n me'. Turns (c ∷ [], []) me' (λ c d. (d ≡ noted c n c.trims) × Finds c (cell_place k m) n))
+    → Allows (Kept k o) slots id (c ∷ [], []) (cell_place k m) (λ n. bit_or n waiters_bit) (λ n me'. Turns (c ∷ [], []) me' (λ c d. (d ≡ having_set c (cell_place k m) n d.changes) × Finds c (cell_place k m) n × Writes c (cell_place k m) n (bit_or n waiters_bit) d))
 flags {o} k slots id c m low s h deep is small =
     let p : ℕ = cell_place k m in
     let n : ℕ = get_or s.words p 0 in
     let f = (h.fits id (c ∷ []) is).0 in
-    let d : Card = noted c n c.trims in
-    let sets = or_waiting n in (
+    let v : ℕ = bit_or n waiters_bit in
+    let d : Card = having_set c p n (put_changes c.changes p (changing k s h c m v)) in
+    let sets = or_waiting n in
+    let within : p < length s.words = subst (λ (z : ℕ). p < z) (sym h.wide) (inside k m low) in
+    let object : object_of (fields_of v) ≡ says s.words p = ap object_of sets in
+    let owner : (fields_of v).owner ≡ owner_at k s.words m = ap (λ (x : Fields). x.owner) sets in
+    let steady : Steady n v = ((λ owned on. ap (λ (x : Fields). x.waiters) sets), λ clear. ap (λ (x : Fields). x.rest) sets ∙ clear) in
+    let left = fits_left k s h m low v object owner steady c f in
+    let marked = subst (λ (b : Bool). Marked k (set s.words p v) c.thread (put_mark c.marks p b)) (ap (λ (x : Fields). x.waiters) sets) (marked_own k s.words m v c.thread c.marks within f.marks) in (
       d ∷ [],
       keeps,
       tt,
-      kept_noted k _ (kept_left k s h m low (bit_or n waiters_bit) (ap object_of sets) (ap (λ (x : Fields). x.owner) sets) ((λ owned on. ap (λ (x : Fields). x.waiters) sets), λ clear. ap (λ (x : Fields). x.rest) sets ∙ clear)) id c n c.trims is,
-      turns c d (λ c d. (d ≡ noted c n c.trims) × Finds c p n) (refl, found k s h c m low f),
+      kept_left k s h m low v object owner steady id c d is refl refl record { thread = left.thread; threads = left.threads; begins = left.begins; own = left.own; values = left.values; marks = marked },
+      turns c d (λ c d. (d ≡ having_set c p n d.changes) × Finds c p n × Writes c p n v d) (refl, found k s h c m low f, writes_there k s.words s.views h.recorded id c d m v low is refl),
     )
 
 -- ---- any access

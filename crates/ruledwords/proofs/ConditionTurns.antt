@@ -33,6 +33,7 @@ use Rattle.condvar.specs.Programs.{row_access}
 use Rattle.condvar.specs.Standings.{CondWhole}
 use Rattle.condvar.specs.Whole.{begins, cond_access, cond_led, cond_moved, lock_of, phase_access, progress_in, IsUnderWay, PhaseKnows}
 use Rattle.ruledwords.specs.declared.card.Card.{Card}
+use Rattle.ruledwords.specs.declared.card.Change.{Change}
 use Rattle.ruledwords.specs.declared.condition_turn.CondRunning.{CondRunning}
 use Rattle.ruledwords.specs.declared.pass.Words.{Words}
 use Rattle.ruledwords.specs.declared.pass.Pass.{Pass}
@@ -265,8 +266,8 @@ compared_at w r of compares =
     let there : counter_place k q < words_of k = omega arith in
     ap (place_in k c.thread) (compares_there r.program r.program.phase r.there compares ∙ of.1.on.counter ∙ ap (λ (t : ℕ). address_in k t (counter_place k q)) r.mine) ∙ again k c.thread of.0.1.layout of.0.1.first of.0.1.thread (counter_place k q) there
 
-pub cond_noted : (k : Layout') (c : Card) (n s : ℕ) (p : CondWhole) → IsInCondCall k c p → IsInCondCall k (noted c n s) p
-cond_noted k c n s p call = record { on = call.on; knows = call.knows; list = call_noted k c n s (mutex_at k (condition_at k p)) (unlock_of p) call.list; ready = call.ready }
+pub cond_noted : (k : Layout') (c : Card) (n s : ℕ) (zs : List (List Change)) (p : CondWhole) → IsInCondCall k c p → IsInCondCall k (noted c n s zs) p
+cond_noted k c n s zs p call = record { on = call.on; knows = call.knows; list = call_noted k c n s zs (mutex_at k (condition_at k p)) (unlock_of p) call.list; ready = call.ready }
 
 -- ---- a move
 

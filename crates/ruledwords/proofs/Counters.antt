@@ -25,6 +25,7 @@ use Rattle.ruledwords.specs.Counts.{cell_at, counter_in, counts_in, mutex_at, Co
 use Rattle.ruledwords.specs.Looks.{noted}
 use Rattle.ruledwords.specs.Rules.{guard, owner_at, keeper, Fits, AllFit, Kept}
 use Rattle.ruledwords.specs.Seen.{Leaves, Sees}
+use Rattle.ruledwords.proofs.Changes.{recorded_set, recorded_words}
 use Rattle.ruledwords.proofs.Counts.{counted_same, counted_more, counts_more, of_mutex, told_counts}
 use Rattle.ruledwords.proofs.Keepers.{counter_no_cell, keeper_same, other_cell}
 use Rattle.ruledwords.proofs.Lists.{at_put, at_put_else, told, value_put, value_put_else, all_set, all_two, counted}
@@ -84,6 +85,7 @@ counting k q c xs n v = record {
   counted = n;
   values = put_value c.values (counter_place k q) (Some v);
   marks = c.marks;
+  changes = c.changes;
 }
 
 module _ (o : List ℕ) (k : Layout') (s : St) (h : Kept k o s) (id : ℕ) (c : Card) (q : ℕ) (op : Operation) (r : Option Reply) (n v : ℕ) (is : get_elem? s.views id ≡ some (c ∷ [])) (low : q < length k.conditions)
@@ -209,6 +211,7 @@ module _ (o : List ℕ) (k : Layout') (s : St) (h : Kept k o s) (id : ℕ) (c : 
         all_fit_other k s.words ws' js p c.thread op r w (λ d other f. (knows_else d other f, marked d f)) (omega arith) (h.fits j w t.1))
         (at_set s.views id j (behind ∷ []) w e);
     once = λ t. let same = all_set t s.views id (c ∷ []) (behind ∷ []) is in let once = h.once t in omega arith;
+    recorded = recorded_words k s.words ws' (set s.views id (behind ∷ [])) cell_same (recorded_set k s.words s.views id (c ∷ []) (behind ∷ []) is h.recorded (λ f. f));
   }
 
   pub sees_counted : Sees c p (told c.thread p op r) (says s.words p) behind
@@ -227,10 +230,10 @@ looks_at_counter {o} k slots id c q low s h deep is small =
     let a : ℕ = counter_place k q in
     let n : ℕ = get_or s.words a 0 in
     let f = (h.fits id (c ∷ []) is).0 in
-    let d : Card = noted c n c.trims in (
+    let d : Card = noted c n c.trims c.changes in (
       d ∷ [],
       keeps,
       tt,
       subst (λ (z : List ℕ). Kept k o record { words = z; homes = s.homes; views = set s.views id (d ∷ []) }) (sym (set-get_or s.words a 0)) (kept_noted k s h id c n c.trims is),
-      turns c d (λ c d. (d ≡ noted c n c.trims) × (n ≤ largest_counter) × ((x : ℕ) → value_at c.values a ≡ Some x → n ≡ x)) (refl, counter_small k s h q low, λ x e. (f.values a x e).0),
+      turns c d (λ c d. (d ≡ noted c n c.trims c.changes) × (n ≤ largest_counter) × ((x : ℕ) → value_at c.values a ≡ Some x → n ≡ x)) (refl, counter_small k s h q low, λ x e. (f.values a x e).0),
     )

@@ -1,11 +1,12 @@
 -- What a release found.
-use Rattle.std.proofs.Common.{Bool, true, false, ◌≡◌, ℕ, zero, suc, ◌==◌, Some, refl, subst, sym}
+use Rattle.std.proofs.Common.{Bool, true, false, ◌≡◌, ◌≢◌, ℕ, zero, suc, ◌≤◌, ◌==◌, Some, refl, ap, ◌∙◌, subst, sym, arith, bit_xor}
 use Rattle.std.specs.Prelude.{if◌then◌else◌}
-use Rattle.lockword.specs.Cells.{fields_of}
+use Rattle.lockword.specs.Cells.{Fields, fields_of}
 use Rattle.lockword.specs.declared.reply.Reply.TheVariants.{OK, EPERM}
 use Rattle.keys.specs.declared.access.Access.TheVariants as access
 use Rattle.keys.specs.declared.point.Operation.TheVariants as operation
-use Rattle.keys.specs.Accesses.{answer_at}
+use Rattle.lockword.proofs.Bits.{xor_released, xor_spoiled}
+use Rattle.keys.specs.Accesses.{answer_at, changed}
 use Rattle.keys.specs.Objects.{object_of, owner_of}
 use Rattle.mutex.specs.declared.row.Row.{Row}
 use Rattle.mutex.specs.declared.row.Row.TheVariants.{Lock, TryLock, Unlock, Consistent, Ended}
@@ -16,9 +17,12 @@ use Rattle.mutex.specs.Programs.{access_of, row_access, resume_of}
 use Rattle.mutex.specs.Rows.{IsGoing, goes, ends}
 use Rattle.mutex.specs.Standings.{Standing}
 use Rattle.mutex.specs.Steps.{IsStep}
+use Rattle.mutex.specs.Unlock.{released_bits}
 use Rattle.ruledwords.specs.declared.card.Card.{Card}
 use Rattle.ruledwords.specs.Calls.{Ready, Made, led_at}
-use Rattle.ruledwords.specs.Owing.{FoundOwn}
+use Rattle.ruledwords.specs.Changes.{ChangedNothing, ChangedOnce, Writes}
+use Rattle.ruledwords.specs.Owing.{ChangesThere, FoundOwn}
+use Rattle.ruledwords.proofs.Changes.{nothing_more, once_now}
 
 owner_told : (a t : ℕ) → owner_of a ≡ Some t → a ≡ t
 owner_told zero t e = absurd (cc e)
@@ -45,6 +49,41 @@ found_row t cell n (Ended x) going stepping of met = absurd going
 pub found_own : (p : Standing) (q : ℕ) (c d : Card) (n : ℕ) → IsGoing p.row → IsStep (access_of p) → Ready p c → IsOf operation.Unlock p.row → Made p q c n d → FoundOwn (led_at p n).row p.thread d.last
 found_own p q c d n going stepping ready of m =
     subst (FoundOwn (led_at p n).row p.thread) (sym m.last) (found_row p.thread p.cell n p.row going stepping of (subst (λ (t : ℕ). Expects t p.row (object_of (fields_of n))) (sym ready.0) m.met))
+
+-- a release changes the word
+released_differs : (t n : ℕ) (died : Bool) → 1 ≤ t → (fields_of n).owner ≡ t → (fields_of n).died ≡ died → bit_xor n (released_bits t died) ≢ n
+released_differs t n true pos own dead e =
+    let after : (fields_of (bit_xor n (released_bits t true))).owner ≡ 0 = ap (λ (f : Fields). f.owner) (xor_spoiled n t own dead) in
+    let none : 0 ≡ t = sym after ∙ ap (λ (v : ℕ). (fields_of v).owner) e ∙ own in
+    absurd (omega (arith, none, pos))
+released_differs t n false pos own alive e =
+    let after : (fields_of (bit_xor n (released_bits t false))).owner ≡ 0 = ap (λ (f : Fields). f.owner) (xor_released n t own) in
+    let none : 0 ≡ t = sym after ∙ ap (λ (v : ℕ). (fields_of v).owner) e ∙ own in
+    absurd (omega (arith, none, pos))
+
+nothing_seen : (c e : Card) (q : ℕ) (b died : Bool) → ChangedNothing c q e → ChangesThere (if◌then◌else◌ {A = Led} b (goes (Unlock (unlock.Release died))) (ends EPERM)).row c q e
+nothing_seen c e q true died so = so
+nothing_seen c e q false died so = so
+
+once_freed : (c e : Card) (q : ℕ) (died b : Bool) → ChangedOnce c q e → ChangesThere (if b then Unlock (unlock.Wake died) else Ended OK) c q e
+once_freed c e q died true so = so
+once_freed c e q died false so = so
+
+changes_row : (c d e : Card) (q t cell n : ℕ) (r : Row) → d.thread ≡ c.thread → 1 ≤ t → e.last ≡ n → IsGoing r → IsStep (row_access t cell r) → IsOf operation.Unlock r → Expects t r (object_of (fields_of n)) → Writes d q n (changed (row_access t cell r) n) e → ChangesThere r c q d
+    → ChangesThere (resume_of t r (answer_at (row_access t cell r) n)).row c q e
+changes_row c d e q t cell n (Lock r) same pos last going stepping of met writes so = absurd (cc of)
+changes_row c d e q t cell n (TryLock r) same pos last going stepping of met writes so = absurd (cc of)
+changes_row c d e q t cell n (Unlock unlock.Load) same pos last going stepping of met writes so = nothing_seen c e q ((fields_of n).owner == t) (fields_of n).died (nothing_more c d e q n same so writes)
+changes_row c d e q t cell n (Unlock (unlock.Release died)) same pos last going stepping of met writes so =
+    once_freed c e q died (fields_of n).waiters (once_now c d e q n (bit_xor n (released_bits t died)) same (released_differs t n died pos (owner_told (fields_of n).owner t met.0) met.1) last so writes)
+changes_row c d e q t cell n (Unlock (unlock.Wake a)) same pos last going stepping of met writes so = absurd stepping
+changes_row c d e q t cell n (Unlock unlock.Trim) same pos last going stepping of met writes so = absurd stepping
+changes_row c d e q t cell n (Consistent r) same pos last going stepping of met writes so = absurd (cc of)
+changes_row c d e q t cell n (Ended x) same pos last going stepping of met writes so = absurd going
+
+pub changes_on : (x : Card) (p : Standing) (q : ℕ) (c d : Card) (n : ℕ) → c.thread ≡ x.thread → IsGoing p.row → IsStep (access_of p) → Ready p c → IsOf operation.Unlock p.row → Made p q c n d → ChangesThere p.row x q c → ChangesThere (led_at p n).row x q d
+changes_on x p q c d n same going stepping ready of m so =
+    changes_row x c d q p.thread p.cell n p.row same (subst (λ (t : ℕ). 1 ≤ t) (sym ready.0) m.thread.0) m.last going stepping of (subst (λ (t : ℕ). Expects t p.row (object_of (fields_of n))) (sym ready.0) m.met) m.writes so
 
 -- an unlock that wakes stands behind its release
 pub at_wake : (t cell at n : ℕ) (r : Row) → IsGoing r → IsOf operation.Unlock r → row_access t cell r ≡ access.Wake at n → (a : Bool) × (r ≡ Unlock (unlock.Wake a)) × (n ≡ (if a then 64 else 1))

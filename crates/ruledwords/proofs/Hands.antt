@@ -16,10 +16,13 @@ use Rattle.keys.specs.declared.point.Point.{Point}
 use Rattle.keys.specs.Layouts.{Layout', IsLayout, head_place, cell_place, counter_place, words_of, address_in, thread_of, cell_offset, head_word}
 use Rattle.keys.specs.Objects.{fresh, object_of}
 use Rattle.ruledwords.specs.declared.card.Card.{Card}
+use Rattle.ruledwords.specs.declared.card.Change.{Change}
 use Rattle.ruledwords.specs.Cards.{at, value_at, put_value}
+use Rattle.ruledwords.specs.Changes.{AllTied}
 use Rattle.ruledwords.specs.Counts.{counter_in, total_of, Counted}
 use Rattle.ruledwords.specs.Seen.{Leaves, Joined, AreExclusive, holds, held, held_after}
 use Rattle.ruledwords.specs.Rules.{opening_word, first_values, first_card, hand, Fits, AllFit, cards_of, Kept, first_of, rest_of, met, IsAmong, Ends}
+use Rattle.ruledwords.proofs.Changes.{recorded_dealt, recorded_set, tied_append}
 use Rattle.ruledwords.proofs.Counts.{total_same}
 use Rattle.ruledwords.proofs.Lists.{prefix_self, value_put, value_put_else, all_one, all_set, all_append, cards_append, one_or_none}
 use Rattle.ruledwords.proofs.Held.{count_same, owner_held, owns, owns_one}
@@ -42,6 +45,10 @@ cut_cards : (t : ℕ) (cs : List Card) → cards_of t (rest_of cs) + cards_of t 
 cut_cards t [] = omega arith
 cut_cards t (c ∷ cs) = omega arith
 
+tied_cut : (cs : List Card) (xs : List (List Change)) → AllTied xs cs → AllTied xs (rest_of cs) × AllTied xs (first_of cs)
+tied_cut [] xs f = (tt, tt)
+tied_cut (c ∷ cs) xs f = (f.1, (f.0, tt))
+
 -- the first card is dealt
 pub deals : {o : List ℕ} (k : Layout') (id : ℕ) (v : List Card) → Splits (Kept k o) id v (rest_of v) (first_of v)
 deals k id v s h is = record {
@@ -61,6 +68,7 @@ deals k id v s h is = record {
       (λ (same : first_of v ≡ w). subst (AllFit k s.words h.histories) same (fit_first k s.words h.histories v (h.fits id v is)))
       (at_snoc (set s.views id (rest_of v)) (first_of v) w j e);
   once = λ t. let a = all_append t (set s.views id (rest_of v)) (first_of v ∷ []) in let b = all_set t s.views id v (rest_of v) is in let c = cut_cards t v in let d = h.once t in omega arith;
+  recorded = recorded_dealt k s.words s.views id v (rest_of v) (first_of v) is (tied_cut v) h.recorded;
 }
 
 -- two seats' cards come to one
@@ -84,6 +92,9 @@ gathers k id v other w s h is apart there =
           (at_set s.views id j (v ++ w) u t.1))
           (at_set (set s.views id (v ++ w)) other j [] u e);
       once = λ t. let a = all_set t s.views id v (v ++ w) is in let b = all_set t (set s.views id (v ++ w)) other w [] there in let c = cards_append t v w in let d = h.once t in omega arith;
+      recorded = recorded_set k s.words (set s.views id (v ++ w)) other w [] there
+          (recorded_set k s.words s.views id v (v ++ w) is h.recorded (λ f. tied_append h.recorded.changes v w f (h.recorded.tied other w theirs)))
+          (λ f. tt);
     }
 
 abbrev seeing : Card → List (List Point) → Card
@@ -133,6 +144,7 @@ meets {o} k slots id i c d s h deep is small =
             (λ (t : (j ≢ id) × (get_elem? s.views j ≡ some w)). h.fits j w t.1)
             (at_set s.views id j (c' ∷ d' ∷ []) w e);
         once = λ t. let a = all_set t s.views id (c ∷ d ∷ []) (c' ∷ d' ∷ []) is in let b = h.once t in omega arith;
+        recorded = recorded_set k s.words s.views id (c ∷ d ∷ []) (c' ∷ d' ∷ []) is h.recorded (λ f. f);
       },
       λ x y e. (
         c',
@@ -283,10 +295,19 @@ opens_kept k counters ws layout small opens = record {
   counters = λ q low. let is : slice_index ws (counter_place k q) ≡ slice_index counters q = opens.1 (counter_place k q) (omega arith) ∙ counter_first k counters q low in subst (λ (z : ℕ). z < 4294967296) (sym is) (small q);
   fits = λ j v e. only j v e;
   once = λ t. let a = hand_once k t 1 k.threads in omega arith;
+  recorded = record { changes = []; leave = λ m low. sym (opens.1 (cell_place k m) (omega arith) ∙ cell_first k counters m low); tied = λ j v e. tied_first j v e };
 }
   where
     began : (q : ℕ) → q < length k.conditions → counter_in k ws q ≡ get_or counters q 0
     began q low = opens.1 (counter_place k q) (omega arith) ∙ counter_first k counters q low
+
+    tied_hand : (t n : ℕ) → AllTied [] (hand k t n)
+    tied_hand t zero = tt
+    tied_hand t (suc n) = ((λ p. (([], refl), refl)), tied_hand (t + 1) n)
+
+    tied_first : (j : ℕ) (v : List Card) → get_elem? (hand k 1 k.threads ∷ []) j ≡ some v → AllTied [] v
+    tied_first zero v e = subst (AllTied []) (some-injective _ _ e) (tied_hand 1 k.threads)
+    tied_first (suc j) v e = absurd (some-ne-none v (sym e))
 
     only : (j : ℕ) (v : List Card) → get_elem? (hand k 1 k.threads ∷ []) j ≡ some v → AllFit k ws [] v
     only zero v e = subst (AllFit k ws []) (some-injective _ _ e) (hand_fits k counters ws k.threads 1 opens (omega arith) (omega arith))

@@ -1,4 +1,5 @@
 mod Lists
+mod Changes
 mod Cards
 mod Counts
 mod Held

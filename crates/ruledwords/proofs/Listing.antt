@@ -40,6 +40,7 @@ use Rattle.keys.specs.Chains.{address_sum}
 use Rattle.mutex.proofs.Addresses.{again, further_on, low, same_place}
 use Rattle.mutex.proofs.WholeLists.{right}
 use Rattle.ruledwords.specs.declared.card.Card.{Card}
+use Rattle.ruledwords.specs.declared.card.Change.{Change}
 use Rattle.ruledwords.specs.Cards.{value_at, put_value}
 use Rattle.ruledwords.specs.Passes.{IsCardOf}
 use Rattle.ruledwords.specs.OwnWords.{owns_in, IsOwn, KnowsOwn, knowing, own_after}
@@ -379,8 +380,8 @@ module _ (k : Layout') (c : Card) (is : IsCardOf k c) where
             (ends_so k t (owns_in k d) m p.operation (whole_led p (answer_at (access_of z) n)).phase y (known k d) ended stepped)
 
 -- a look or a trim leaves its words as it knows them
-pub call_noted : (k : Layout') (c : Card) (n s m : ℕ) (p : Whole) → IsInCall k c m p → IsInCall k (noted c n s) m p
-call_noted k c n s m p call = record { inside = call.inside; knows = record { each = call.knows.each; offset = call.knows.offset }; of = call.of; list = call.list }
+pub call_noted : (k : Layout') (c : Card) (n s : ℕ) (zs : List (List Change)) (m : ℕ) (p : Whole) → IsInCall k c m p → IsInCall k (noted c n s zs) m p
+call_noted k c n s zs m p call = record { inside = call.inside; knows = record { each = call.knows.each; offset = call.knows.offset }; of = call.of; list = call.list }
 
 -- a call that begins
 pub call_begins : (k : Layout') (c : Card) → IsCardOf k c → IsAlive k c → (call : Call) (p : Whole) → mutex_of call < k.mutexes → p ≡ begins k c.thread call → IsInCall k c (mutex_of call) p

@@ -14,6 +14,7 @@ use Rattle.ruledwords.specs.Cards.{at}
 use Rattle.ruledwords.specs.Seen.{by, Leaves}
 use Rattle.ruledwords.specs.Rules.{Kept, Fits, AllFit}
 use Rattle.ruledwords.specs.Looks.{Finds, noted, looked}
+use Rattle.ruledwords.proofs.Changes.{recorded_set}
 use Rattle.ruledwords.proofs.Lists.{by_append, no_more, all_set}
 use Rattle.ruledwords.proofs.Moves.{St, turns}
 
@@ -31,7 +32,7 @@ found k s h c m low f =
     )
 
 -- a card that notes what it found
-pub kept_noted : {o : List ℕ} (k : Layout') (s : St) (h : Kept k o s) (id : ℕ) (c : Card) (n t : ℕ) → get_elem? s.views id ≡ some (c ∷ []) → Kept k o record { words = s.words; homes = s.homes; views = set s.views id (noted c n t ∷ []) }
+pub kept_noted : {o : List ℕ} (k : Layout') (s : St) (h : Kept k o s) (id : ℕ) (c : Card) (n t : ℕ) → get_elem? s.views id ≡ some (c ∷ []) → Kept k o record { words = s.words; homes = s.homes; views = set s.views id (noted c n t c.changes ∷ []) }
 kept_noted k s h id c n t is = let f = (h.fits id (c ∷ []) is).0 in record {
   layout = h.layout;
   wide = h.wide;
@@ -42,10 +43,11 @@ kept_noted k s h id c n t is = let f = (h.fits id (c ∷ []) is).0 in record {
   counters = h.counters;
   counted = h.counted;
   fits = λ j w e. ⊎_elim
-      (λ (u : (j ≡ id) × (noted c n t ∷ [] ≡ w)). subst (AllFit k s.words h.histories) u.1 (record { thread = f.thread; threads = f.threads; begins = f.begins; own = f.own; values = f.values; marks = f.marks }, tt))
+      (λ (u : (j ≡ id) × (noted c n t c.changes ∷ [] ≡ w)). subst (AllFit k s.words h.histories) u.1 (record { thread = f.thread; threads = f.threads; begins = f.begins; own = f.own; values = f.values; marks = f.marks }, tt))
       (λ (u : (j ≢ id) × (get_elem? s.views j ≡ some w)). h.fits j w u.1)
-      (at_set s.views id j (noted c n t ∷ []) w e);
-  once = λ u. let same = all_set u s.views id (c ∷ []) (noted c n t ∷ []) is in let once = h.once u in omega arith;
+      (at_set s.views id j (noted c n t c.changes ∷ []) w e);
+  once = λ u. let same = all_set u s.views id (c ∷ []) (noted c n t c.changes ∷ []) is in let once = h.once u in omega arith;
+  recorded = recorded_set k s.words s.views id (c ∷ []) (noted c n t c.changes ∷ []) is h.recorded (λ f. f);
 }
 
 pub looks : {o : List ℕ} (k : Layout') (slots id : ℕ) (c : Card) (m : ℕ) → m < k.mutexes → Allows (Kept k o) slots id (c ∷ [], []) (cell_place k m) (λ n. n) (looked (step slots (cell_place k m) 0 0 none) (c ∷ [], []))
@@ -53,10 +55,10 @@ looks {o} k slots id c m low s h deep is small =
     let p : ℕ = cell_place k m in
     let n : ℕ = get_or s.words p 0 in
     let f = (h.fits id (c ∷ []) is).0 in
-    let d : Card = noted c n c.trims in (
+    let d : Card = noted c n c.trims c.changes in (
       d ∷ [],
       keeps,
       tt,
       subst (λ (z : List ℕ). Kept k o record { words = z; homes = s.homes; views = set s.views id (d ∷ []) }) (sym (set-get_or s.words p 0)) (kept_noted k s h id c n c.trims is),
-      turns c d (λ c d. (d ≡ noted c n c.trims) × Finds c p n) (refl, found k s h c m low f),
+      turns c d (λ c d. (d ≡ noted c n c.trims c.changes) × Finds c p n) (refl, found k s h c m low f),
     )

@@ -24,31 +24,29 @@ use Rattle.exitwalk.specs.Steps.{points, Right}
 use Rattle.exitwalk.specs.Walks.{marked_word, point_of, row_access}
 use Rattle.exitwalk.proofs.Steps.{steps}
 use Rattle.ruledwords.specs.declared.card.Card.{Card}
-use Rattle.ruledwords.specs.Cards.{at, mark_at}
+use Rattle.ruledwords.specs.Cards.{at}
 use Rattle.ruledwords.specs.Seen.{holds, Sees}
 use Rattle.ruledwords.specs.Deaths.{deaths, examined, left_by_mark, marked, remembering, Marks, MindsWaiters}
 use Rattle.ruledwords.specs.Looks.{Finds}
 use Rattle.ruledwords.specs.OwnWords.{owns_in}
-use Rattle.ruledwords.specs.Rules.{AllFit, Fits, Kept}
+use Rattle.ruledwords.specs.Rules.{AllFit, Kept}
+use Rattle.ruledwords.proofs.Changes.{recorded_set}
 use Rattle.ruledwords.proofs.Counts.{told_counts}
 use Rattle.ruledwords.proofs.Held.{owner_held}
 use Rattle.ruledwords.proofs.Keepers.{inside, other_cell}
 use Rattle.ruledwords.proofs.Lists.{all_set, told}
 use Rattle.ruledwords.proofs.Looks.{found}
-use Rattle.ruledwords.proofs.Moves.{St, Knowing, Steady, allows, marked_own, turns}
+use Rattle.ruledwords.proofs.Moves.{St, Knowing, Marked, Steady, allows, marked_own, turns}
 use Rattle.ruledwords.proofs.Steps.{holder, is_owner_by, may_have, own_kept, others_run_keep, since_seen, values_after}
 
 -- ---- a load
 
--- the words are as they were
-kept_remembering : {o : List ℕ} (k : Layout') (s : St) (h : Kept k o s) (id : ℕ) (c : Card) (m : ℕ) → m < k.mutexes → get_elem? s.views id ≡ some (c ∷ [])
-    → Kept k o record { words = s.words; homes = s.homes; views = set s.views id (remembering c (cell_place k m) (get_or s.words (cell_place k m) 0) ∷ []) }
-kept_remembering k s h id c m low is =
-    let p : ℕ = cell_place k m in
-    let n : ℕ = get_or s.words p 0 in
-    let d : Card = remembering c p n in
+-- a thread that found the word n, and remembers of cells what is so
+pub kept_marking : {o : List ℕ} (k : Layout') (s : St) (h : Kept k o s) (id : ℕ) (c : Card) (n : ℕ) (marks : List Bool) → get_elem? s.views id ≡ some (c ∷ []) → Marked k s.words c.thread marks
+    → Kept k o record { words = s.words; homes = s.homes; views = set s.views id (record c { last = n; marks = marks } ∷ []) }
+kept_marking k s h id c n marks is marked =
+    let d : Card = record c { last = n; marks = marks } in
     let f = (h.fits id (c ∷ []) is).0 in
-    let within : p < length s.words = subst (λ (z : ℕ). p < z) (sym h.wide) (inside k m low) in
     record {
       layout = h.layout;
       wide = h.wide;
@@ -59,22 +57,23 @@ kept_remembering k s h id c m low is =
       counters = h.counters;
       counted = h.counted;
       fits = λ j w e. ⊎_elim
-          (λ (u : (j ≡ id) × (d ∷ [] ≡ w)). subst (AllFit k s.words h.histories) u.1 (
-            record {
-              thread = f.thread;
-              threads = f.threads;
-              begins = f.begins;
-              own = f.own;
-              values = f.values;
-              marks = subst (λ (ws : List ℕ). (l : ℕ) → l < k.mutexes → mark_at d.marks (cell_place k l) ≡ true → Rattle.ruledwords.specs.Rules.owner_at k ws l ≡ c.thread → (fields_of (get_or ws (cell_place k l) 0)).waiters ≡ true)
-                  (set-get_or s.words p 0) (marked_own k s.words m n c.thread c.marks within f.marks);
-            },
-            tt,
-          ))
+          (λ (u : (j ≡ id) × (d ∷ [] ≡ w)). subst (AllFit k s.words h.histories) u.1 (record { thread = f.thread; threads = f.threads; begins = f.begins; own = f.own; values = f.values; marks = marked }, tt))
           (λ (u : (j ≢ id) × (get_elem? s.views j ≡ some w)). h.fits j w u.1)
           (at_set s.views id j (d ∷ []) w e);
       once = λ u. let same = all_set u s.views id (c ∷ []) (d ∷ []) is in let once = h.once u in omega arith;
+      recorded = recorded_set k s.words s.views id (c ∷ []) (d ∷ []) is h.recorded (λ f. f);
     }
+
+-- the words are as they were
+kept_remembering : {o : List ℕ} (k : Layout') (s : St) (h : Kept k o s) (id : ℕ) (c : Card) (m : ℕ) → m < k.mutexes → get_elem? s.views id ≡ some (c ∷ [])
+    → Kept k o record { words = s.words; homes = s.homes; views = set s.views id (remembering c (cell_place k m) (get_or s.words (cell_place k m) 0) ∷ []) }
+kept_remembering k s h id c m low is =
+    let p : ℕ = cell_place k m in
+    let n : ℕ = get_or s.words p 0 in
+    let d : Card = remembering c p n in
+    let f = (h.fits id (c ∷ []) is).0 in
+    let within : p < length s.words = subst (λ (z : ℕ). p < z) (sym h.wide) (inside k m low) in
+    kept_marking k s h id c n d.marks is (subst (λ (ws : List ℕ). Marked k ws c.thread d.marks) (set-get_or s.words p 0) (marked_own k s.words m n c.thread c.marks within f.marks))
 
 pub examines : {o : List ℕ} (k : Layout') (slots id : ℕ) (c : Card) (m : ℕ) → m < k.mutexes → Allows (Kept k o) slots id (c ∷ [], []) (cell_place k m) (λ n. n) (examined (step slots (cell_place k m) 0 0 none) (c ∷ [], []))
 examines {o} k slots id c m low s h deep is small =
@@ -130,10 +129,11 @@ marks_cell {o} k slots id c m old new low thread mine is = subst (λ (f : ℕ �
     (λ n known. steady c.thread old thread.0 mine n)
     (λ n. deathless (n == old))
     (λ n known. subst (λ (xs : List Point). Run (object_of (fields_of n)) xs (object_of (fields_of (left_by_mark old n)))) (sym (told_death c.thread q (n == old))) (runs c.thread old thread.0 mine n q))
-    (λ ws n d known sees misses last mark values. turns c d (λ c d. Marks k q old c n d) record {
+    (λ ws n d known sees writes misses last mark values. turns c d (λ c d. Marks k q old c n d) record {
       sees = subst (λ (xs : List Point). Sees c q xs (object_of (fields_of (left_by_mark old n))) d) (told_death c.thread q (n == old)) sees;
       misses = misses;
       last = last;
+      writes = writes;
       remembers = mark;
       minds = known.mark;
       narrow = known.narrow;

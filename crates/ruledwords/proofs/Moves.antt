@@ -17,11 +17,14 @@ use Rattle.keys.specs.Layouts.{Layout', cell_place, counter_place}
 use Rattle.keys.specs.Objects.{fresh, Run, object_of, owner_of}
 use Rattle.keys.proofs.Objects.{run_append}
 use Rattle.ruledwords.specs.declared.card.Card.{Card}
+use Rattle.ruledwords.specs.declared.card.Change.{Change}
 use Rattle.ruledwords.specs.Cards.{at, put, value_at, mark_at, put_mark}
+use Rattle.ruledwords.specs.Changes.{changes_at, put_changes, change_of, Writes}
 use Rattle.ruledwords.specs.Counts.{counts_in}
 use Rattle.ruledwords.specs.Seen.{by, Leaves, Sees}
 use Rattle.ruledwords.specs.Rules.{guard, owner_at, keeper, Fits, AllFit, cards_of, Kept, Turns}
 use Rattle.ruledwords.proofs.Lists.{at_put, at_put_else, mark_put, mark_put_else, by_append, told, by_own, by_other, all_of_append, all_of_told, prefix_self, prefix_more, all_set, all_two, counted}
+use Rattle.ruledwords.proofs.Changes.{recorded_change, writes_there}
 use Rattle.ruledwords.proofs.Counts.{counted_same, counts_more, told_counts}
 use Rattle.ruledwords.proofs.Held.{others_run}
 use Rattle.ruledwords.proofs.Keepers.{IsLink, link_keeper, link_no_cell, cell_keeper, keeper_set, other_cell, inside, counter_no_cell, owner_here, owner_set}
@@ -56,8 +59,8 @@ owner_was t v n xs pos none run own = owner_is t (fields_of v).owner (others_run
 -- ---- values and marks
 
 -- the card after it saw the list xs at p
-abbrev pub after : Card → ℕ → List Point → ℕ → ℕ → List (Option ℕ) → Bool → Card
-after c p xs misses last vs mark = record { threads = c.threads; thread = c.thread; base = c.base; seen = put c.seen p xs; misses = misses; last = last; trims = c.trims; counted = c.counted; values = vs; marks = put_mark c.marks p mark }
+abbrev pub after : Card → ℕ → List Point → ℕ → ℕ → List (Option ℕ) → Bool → List Change → Card
+after c p xs misses last vs mark zs = record { threads = c.threads; thread = c.thread; base = c.base; seen = put c.seen p xs; misses = misses; last = last; trims = c.trims; counted = c.counted; values = vs; marks = put_mark c.marks p mark; changes = put_changes c.changes p zs }
 
 abbrev pub Told : Layout' → List ℕ → ℕ → List (Option ℕ) → Type 0
 Told k ws t vs = (p x : ℕ) → value_at vs p ≡ Some x → (get_or ws p 0 ≡ x) × (keeper k ws p ≡ t)
@@ -151,9 +154,9 @@ by_told t js seen p xs own q = dite (ℕ_discrete q p)
     (λ e. subst (λ (z : ℕ). by t (at (put seen p xs) z) ≡ by t (at (put js p xs) z)) (sym e) (ap (by t) (at_put seen p xs ∙ sym (at_put js p xs))))
     (λ n. ap (by t) (at_put_else seen p q xs n) ∙ own q ∙ ap (by t) (sym (at_put_else js p q xs n)))
 
-fits_own : (k : Layout') (ws ws' : List ℕ) (js : List (List Point)) (p : ℕ) (op : Operation) (r : Option Reply) (c : Card) (misses last : ℕ) (vs : List (Option ℕ)) (b : Bool) → Fits k ws js c → Told k ws' c.thread vs → Marked k ws' c.thread (put_mark c.marks p b)
-    → Fits k ws' (put js p (at js p ++ told c.thread p op r)) (after c p (at js p ++ told c.thread p op r) misses last vs b)
-fits_own k ws ws' js p op r c misses last vs b f knows marked = let xs : List Point = at js p ++ told c.thread p op r in record {
+fits_own : (k : Layout') (ws ws' : List ℕ) (js : List (List Point)) (p : ℕ) (op : Operation) (r : Option Reply) (c : Card) (misses last : ℕ) (vs : List (Option ℕ)) (b : Bool) (zs : List Change) → Fits k ws js c → Told k ws' c.thread vs → Marked k ws' c.thread (put_mark c.marks p b)
+    → Fits k ws' (put js p (at js p ++ told c.thread p op r)) (after c p (at js p ++ told c.thread p op r) misses last vs b zs)
+fits_own k ws ws' js p op r c misses last vs b zs f knows marked = let xs : List Point = at js p ++ told c.thread p op r in record {
   values = knows;
   marks = marked;
   thread = f.thread;
@@ -167,15 +170,19 @@ fits_own k ws ws' js p op r c misses last vs b f knows marked = let xs : List Po
 pub leaves_more : (k : Layout') (p t : ℕ) (xs : List Point) (o n : Object) (op : Operation) (r : Option Reply) → 1 ≤ t → t ≤ k.threads → Leaves k.threads p xs o → Run o (told t p op r) n → Leaves k.threads p (xs ++ told t p op r) n
 leaves_more k p t xs o n op r pos low l run = (run_append fresh o n xs (told t p op r) l.0 run, all_of_append k.threads p xs (told t p op r) l.1 (all_of_told k.threads t p op r pos low))
 
+-- the changes of m's cell behind an access of the card's thread that leaves n there
+abbrev pub changing : {o : List ℕ} (k : Layout') (s : St) (h : Kept k o s) (c : Card) (m n : ℕ) → List Change
+changing k s h c m n = changes_at h.recorded.changes (cell_place k m) ++ change_of c.thread (get_or s.words (cell_place k m) 0) n
+
 kept_step : (o : List ℕ) (k : Layout') (s : St) (h : Kept k o s) (id : ℕ) (c : Card) (m : ℕ) (op : Operation) (r : Option Reply) (n misses last : ℕ) (vs : List (Option ℕ)) → get_elem? s.views id ≡ some (c ∷ []) → m < k.mutexes → MayHave k s.words m c (get_or s.words (cell_place k m) 0) n vs
     → Steady (get_or s.words (cell_place k m) 0) n → told_counts op r ≡ 0 → Run (says s.words (cell_place k m)) (told c.thread (cell_place k m) op r) (object_of (fields_of n))
-    → Kept k o record { words = set s.words (cell_place k m) n; homes = s.homes; views = set s.views id (after c (cell_place k m) (at h.histories (cell_place k m) ++ told c.thread (cell_place k m) op r) misses last vs (fields_of n).waiters ∷ []) }
+    → Kept k o record { words = set s.words (cell_place k m) n; homes = s.homes; views = set s.views id (after c (cell_place k m) (at h.histories (cell_place k m) ++ told c.thread (cell_place k m) op r) misses last vs (fields_of n).waiters (changing k s h c m n) ∷ []) }
 kept_step o k s h id c m op r n misses last vs is low keep steady countless run =
     let p : ℕ = cell_place k m in
     let js = h.histories in
     let xs : List Point = at js p ++ told c.thread p op r in
     let fit = (h.fits id (c ∷ []) is).0 in
-    let w : List Card = after c p xs misses last vs (fields_of n).waiters ∷ [] in
+    let w : List Card = after c p xs misses last vs (fields_of n).waiters (changing k s h c m n) ∷ [] in
     let within : p < length s.words = subst (λ (z : ℕ). p < z) (sym h.wide) (inside k m low) in
     let ws' = set s.words p n in
     let now = leaves_more k p c.thread (at js p) _ (object_of (fields_of n)) op r fit.thread.0 fit.thread.1 (h.leaves m low) run in
@@ -203,7 +210,7 @@ kept_step o k s h id c m op r n misses last vs is low keep steady countless run 
       fits = λ j v e. ⊎_elim
           (λ (t : (j ≡ id) × (w ≡ v)).
           subst (AllFit k ws' (put js p xs)) t.1
-          (fits_own k s.words ws' js p op r c misses last vs (fields_of n).waiters fit (own_told k s.words m n c vs low fit.thread.0 within fit.values keep) (marked_own k s.words m n c.thread c.marks within fit.marks), tt))
+          (fits_own k s.words ws' js p op r c misses last vs (fields_of n).waiters (changing k s h c m n) fit (own_told k s.words m n c vs low fit.thread.0 within fit.values keep) (marked_own k s.words m n c.thread c.marks within fit.marks), tt))
           (λ (t : (j ≢ id) × (get_elem? s.views j ≡ some v)).
           let two = all_two c.thread s.views id j (c ∷ []) v is t.1 t.0 in
           let once = h.once c.thread in
@@ -217,11 +224,12 @@ kept_step o k s h id c m op r n misses last vs is low keep steady countless run 
           (omega arith) (h.fits j v t.1))
           (at_set s.views id j w v e);
       once = λ t. let same = all_set t s.views id (c ∷ []) w is in let once = h.once t in omega arith;
+      recorded = recorded_change k s.words s.views h.recorded id c (after c p xs misses last vs (fields_of n).waiters (changing k s h c m n)) m n is within h.once refl refl low;
     }
 
 pub sees_step : {o : List ℕ} (k : Layout') (s : St) (h : Kept k o s) (id : ℕ) (c : Card) (m : ℕ) (op : Operation) (r : Option Reply) (n misses last : ℕ) (vs : List (Option ℕ)) → get_elem? s.views id ≡ some (c ∷ []) → m < k.mutexes
     → Run (says s.words (cell_place k m)) (told c.thread (cell_place k m) op r) (object_of (fields_of n))
-    → Sees c (cell_place k m) (told c.thread (cell_place k m) op r) (object_of (fields_of n)) (after c (cell_place k m) (at h.histories (cell_place k m) ++ told c.thread (cell_place k m) op r) misses last vs (fields_of n).waiters)
+    → Sees c (cell_place k m) (told c.thread (cell_place k m) op r) (object_of (fields_of n)) (after c (cell_place k m) (at h.histories (cell_place k m) ++ told c.thread (cell_place k m) op r) misses last vs (fields_of n).waiters (changing k s h c m n))
 sees_step k s h id c m op r n misses last vs is low run =
     let p : ℕ = cell_place k m in
     let new : List Point = told c.thread p op r in
@@ -263,7 +271,7 @@ pub allows : {o : List ℕ} (k : Layout') (slots id : ℕ) (c : Card) (m : ℕ) 
     → ((n : ℕ) → Knowing k c (cell_place k m) n → Steady n (f n))
     → ((n : ℕ) → told_counts (op n) (r n) ≡ 0)
     → ((n : ℕ) → Knowing k c (cell_place k m) n → Run (object_of (fields_of n)) (told c.thread (cell_place k m) (op n) (r n)) (object_of (fields_of (f n))))
-    → ((ws : List ℕ) (n : ℕ) (d : Card) → Knowing k c (cell_place k m) n → Sees c (cell_place k m) (told c.thread (cell_place k m) (op n) (r n)) (object_of (fields_of (f n))) d → d.misses ≡ misses n → d.last ≡ last n → mark_at d.marks (cell_place k m) ≡ (fields_of (f n)).waiters → d.values ≡ vs ws n → tells n (d ∷ [], []))
+    → ((ws : List ℕ) (n : ℕ) (d : Card) → Knowing k c (cell_place k m) n → Sees c (cell_place k m) (told c.thread (cell_place k m) (op n) (r n)) (object_of (fields_of (f n))) d → Writes c (cell_place k m) n (f n) d → d.misses ≡ misses n → d.last ≡ last n → mark_at d.marks (cell_place k m) ≡ (fields_of (f n)).waiters → d.values ≡ vs ws n → tells n (d ∷ [], []))
     → Allows (Kept k o) slots id (c ∷ [], []) (cell_place k m) f tells
 allows {o} k slots id c m op f r misses last vs tells low keeps_values steadies countless runs says_of s h deep is small =
     let p : ℕ = cell_place k m in
@@ -273,9 +281,9 @@ allows {o} k slots id c m op f r misses last vs tells low keeps_values steadies 
     let run = runs n knows in
     let keep = keeps_values s.words n knows in
     let steady = steadies n knows in (
-      after c p (at h.histories p ++ told c.thread p (op n) (r n)) (misses n) (last n) (vs s.words n) (fields_of (f n)).waiters ∷ [],
+      after c p (at h.histories p ++ told c.thread p (op n) (r n)) (misses n) (last n) (vs s.words n) (fields_of (f n)).waiters (changing k s h c m (f n)) ∷ [],
       keeps,
       tt,
       kept_step o k s h id c m (op n) (r n) (f n) (misses n) (last n) (vs s.words n) is low keep steady (countless n) run,
-      says_of s.words n _ knows (sees_step k s h id c m (op n) (r n) (f n) (misses n) (last n) (vs s.words n) is low run) refl refl (mark_put c.marks p (fields_of (f n)).waiters) refl,
+      says_of s.words n _ knows (sees_step k s h id c m (op n) (r n) (f n) (misses n) (last n) (vs s.words n) is low run) (writes_there k s.words s.views h.recorded id c _ m (f n) low is refl) refl refl (mark_put c.marks p (fields_of (f n)).waiters) refl,
     )

@@ -16,6 +16,7 @@ use Rattle.ruledwords.specs.Seen.{holds, Leaves}
 use Rattle.ruledwords.specs.Rules.{guard, owner_at, keeper, Fits, AllFit, cards_of, Kept}
 use Rattle.ruledwords.specs.OwnWords.{IsOwn, knowing, stored, recalled}
 use Rattle.ruledwords.proofs.Lists.{value_put, value_put_else, all_two, all_set, counted}
+use Rattle.ruledwords.proofs.Changes.{recorded_set, recorded_words}
 use Rattle.ruledwords.proofs.Counts.{counted_same}
 use Rattle.ruledwords.proofs.Keepers.{head_keeper, link_keeper, keeper_same, inside}
 use Rattle.ruledwords.proofs.Moves.{St, Knowing, owner_is, card_or, turns}
@@ -118,6 +119,7 @@ module _ {o : List ℕ} (k : Layout') (s : St) (h : Kept k o s) (c : Card) (p v 
         all_beside w (omega arith) (h.fits j w t.1))
         (at_set s.views id j (knowing c p v ∷ []) w e);
     once = λ t. let same = all_set t s.views id (c ∷ []) (knowing c p v ∷ []) is in let once = h.once t in omega arith;
+    recorded = recorded_words k s.words ws' (set s.views id (knowing c p v ∷ [])) (λ l low. cell_same l) (recorded_set k s.words s.views id (c ∷ []) (knowing c p v ∷ []) is h.recorded (λ f. f));
   }
 
 -- a store at an own place

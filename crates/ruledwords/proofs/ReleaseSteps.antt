@@ -17,7 +17,8 @@ use Rattle.ruledwords.specs.declared.step.End.{End}
 use Rattle.ruledwords.specs.declared.step.End.TheVariants as end
 use Rattle.ruledwords.specs.declared.turn.Running.{Running}
 use Rattle.ruledwords.specs.Calls.{row_in}
-use Rattle.ruledwords.specs.Owing.{FoundOwn, OwesThere, owing_at}
+use Rattle.ruledwords.specs.Changes.{ChangedNothing}
+use Rattle.ruledwords.specs.Owing.{ChangesThere, FoundOwn, OwesThere, owing_at}
 use Rattle.ruledwords.specs.Passes.{card, layout_of}
 use Rattle.ruledwords.specs.Releases.{IsReleasing, Refuses, ReleaseEnds, ReleasesAll, ReleasesTo, StaysReleasing}
 use Rattle.ruledwords.specs.Seen.{Called, held}
@@ -25,6 +26,7 @@ use Rattle.ruledwords.specs.declared.turn.Turn.TheVariants.{Goes}
 use Rattle.ruledwords.specs.Turns.{running_call, running_of, running_pass, Advances, IsOneStep, IsUnderWay, Turned}
 use Rattle.mutex.specs.Whole.{whole_access, whole_started}
 use Rattle.ruledwords.proofs.Beginnings.{unlock_begins}
+use Rattle.ruledwords.proofs.Changes.{nothing_yet}
 use Rattle.ruledwords.proofs.Ranks.{rank_in, turn_falls}
 use Rattle.ruledwords.proofs.Releasing.{steps, told_on, refused_on}
 
@@ -37,25 +39,26 @@ module _ (w : Words) (x : Pass Live) (m : ℕ) (a : Pass Live) (p : Whole) (rel 
   r = running_of w a p rel.0
 
   pub is_one : IsOneStep (whole_access p)
-  is_one = steps w x m r rel.1 rel.2 rel.3 not
+  is_one = steps w x m r rel.1 rel.2 rel.3 rel.4 not
 
   module _ (b : Pass Live) where
     pub goes_on : (q : Whole) → Advances w a p b q None → IsReleasing w x m b q
     goes_on q adv =
         let t = adv rel.0 in
         let turned = t.1.1 in
-        let told = told_on w x m r rel.1 rel.2 rel.3 not (card b) turned.0 turned.1 in (
+        let told = told_on w x m r rel.1 rel.2 rel.3 rel.4 not (card b) turned.0 turned.1 in (
           t.0,
           t.1.2 x (call.Unlock m) rel.1,
           subst (λ (z : Whole). Tells operation.Unlock (row_in z.phase) (fields_of (card b).last)) (sym turned.2) told.0,
           subst (λ (z : Whole). FoundOwn (row_in z.phase) z.thread (card b).last) (sym turned.2) told.1,
+          subst (λ (z : Whole). ChangesThere (row_in z.phase) (card x) (cell_place (layout_of w) m) (card b)) (sym turned.2) told.2,
         )
 
     pub is_refused : (y : Reply) (q : Whole) → Advances w a p b q (Some y) → Refuses w x m b y
     is_refused y q adv =
         let t = adv rel.0 in
         let end = t.2 x (call.Unlock m) rel.1 in
-        let is = refused_on w x m r rel.1 rel.2 rel.3 not (card b) t.1.0 y t.1.1 t.1.2 in
+        let is = refused_on w x m r rel.1 rel.2 rel.3 rel.4 not (card b) t.1.0 y t.1.1 t.1.2 in
         (end.0, is, subst (λ (z : Reply). Called (card x) (cell_place (layout_of w) m) ((operation.Unlock, z) ∷ []) (card b)) is end.1)
 
 -- each access leaves fewer
@@ -82,12 +85,14 @@ all_after w a p b q d (Ok s) so_far is = (is.0, λ x m rel. is.1 x m (so_far x m
 all_after w a p b q d (Err e) so_far is = after w a p b q d e so_far is
 
 -- an unlock begins knowing nothing of the cell
-pub releases_begun : (w : Words) (x : Pass Live) (m : ℕ) (r : Running) → whole_started (layout_of w) (card x).thread (held (card x)) (call.Unlock m) ≡ Ok (running_call r) → IsUnderWay w x (call.Unlock m) r → IsReleasing w x m (running_pass r) (running_call r)
-releases_begun w x m r started u =
+pub releases_begun : (w : Words) (x : Pass Live) (m : ℕ) (r : Running) → whole_started (layout_of w) (card x).thread (held (card x)) (call.Unlock m) ≡ Ok (running_call r) → running_pass r ≡ x → IsUnderWay w x (call.Unlock m) r → IsReleasing w x m (running_pass r) (running_call r)
+releases_begun w x m r started same u =
     let begun = unlock_begins (layout_of w) (card x).thread (held (card x)) m (running_call r) started in
     let last = (card (running_pass r)).last in (
       record { ready = r.ready; room = r.room; going = r.going; words = u.0 },
       u,
       subst (λ (p : Whole). Tells operation.Unlock (row_in p.phase) (fields_of last)) (sym begun) tt,
       subst (λ (p : Whole). FoundOwn (row_in p.phase) p.thread last) (sym begun) tt,
+      subst (λ (p : Whole). ChangesThere (row_in p.phase) (card x) (cell_place (layout_of w) m) (card (running_pass r))) (sym begun)
+          (subst (λ (a : Pass Live). ChangedNothing (card x) (cell_place (layout_of w) m) (card a)) (sym same) (nothing_yet (card x) (cell_place (layout_of w) m))),
     )

@@ -1,5 +1,5 @@
 -- A release, up to the waking of sleepers.
-use Rattle.std.proofs.Common.{Bool, true, false, ◌≡◌, ◌≢◌, ⊎_elim, ℕ, Option, Some, None, [], ◌∷◌, refl, sym, ap, ◌∙◌, subst}
+use Rattle.std.proofs.Common.{Bool, true, false, ◌≡◌, ◌≢◌, ⊎_elim, ℕ, Option, Some, None, List, [], ◌∷◌, refl, sym, ap, ◌∙◌, subst}
 use Rattle.std.specs.Prelude.{if◌then◌else◌}
 use Rattle.lockword.specs.Cells.{fields_of}
 use Rattle.lockword.specs.declared.reply.Reply.{Reply}
@@ -47,13 +47,16 @@ use Rattle.ruledwords.specs.Passes.{card, layout_of}
 use Rattle.ruledwords.specs.Seen.{Called}
 use Rattle.ruledwords.specs.Turns.{access_in, Answers, IsAtCell, IsOneStep, IsUnderWay}
 use Rattle.ruledwords.proofs.CellTurns.{going}
-use Rattle.ruledwords.specs.Owing.{FoundOwn}
-use Rattle.ruledwords.proofs.Freeing.{at_wake, found_own}
+use Rattle.ruledwords.specs.Changes.{ChangedNothing, ChangedOnce}
+use Rattle.ruledwords.specs.Owing.{ChangesThere, FoundOwn}
+use Rattle.ruledwords.specs.OwnWords.{own_after}
+use Rattle.ruledwords.proofs.Freeing.{at_wake, changes_on, found_own}
 use Rattle.ruledwords.proofs.OwnTurns.{own_same}
 use Rattle.ruledwords.proofs.Phases.{cell_access, cell_led, cell_phase, cell_steps, is_load_or_store, own_fits, own_moved, row_after}
 use Rattle.ruledwords.proofs.Ranks.{cell_told, own_or_at_cell, own_told}
 use Rattle.ruledwords.proofs.Standing.{called, tells_after}
 use Rattle.ruledwords.proofs.StepsOfCalls.{one_step}
+use Rattle.ruledwords.proofs.Turning.{there}
 
 -- ---- whom it has to wake
 
@@ -73,6 +76,32 @@ owner_found v f t n is found = go v (subst (λ (z : Phase). FoundOwn (row_in z) 
     go One own = own
     go All own = own
 
+once_there : (v : Wakes) (f : Phase) (c : Card) (q : ℕ) (d : Card) → f ≡ owing_at v → ChangesThere (row_in f) c q d → ChangedOnce c q d
+once_there v f c q d is so = go v (subst (λ (z : Phase). ChangesThere (row_in z) c q d) is so)
+  where
+    go : (v : Wakes) → ChangesThere (row_in (owing_at v)) c q d → ChangedOnce c q d
+    go Nobody once = once
+    go One once = once
+    go All once = once
+
+-- what a thread stores in its own words changes no cell
+still_nothing : (c : Card) (q : ℕ) (d : Card) (vs : List (Option ℕ)) → ChangedNothing c q d → ChangedNothing c q record d { values = vs }
+still_nothing c q d vs so = record { since = so.since; others = so.others; grows = so.grows }
+
+still_once : (c : Card) (q : ℕ) (d : Card) (vs : List (Option ℕ)) → ChangedOnce c q d → ChangedOnce c q record d { values = vs }
+still_once c q d vs so = record { since = so.since; others = so.others; word = so.word; grows = so.grows; found = so.found }
+
+still_changed : (r : Row) (c : Card) (q : ℕ) (d : Card) (vs : List (Option ℕ)) → ChangesThere r c q d → ChangesThere r c q record d { values = vs }
+still_changed (row.Lock r) c q d vs so = still_nothing c q d vs so
+still_changed (row.TryLock r) c q d vs so = still_nothing c q d vs so
+still_changed (row.Unlock unlock.Load) c q d vs so = still_nothing c q d vs so
+still_changed (row.Unlock (unlock.Release b)) c q d vs so = still_nothing c q d vs so
+still_changed (row.Unlock (unlock.Wake a)) c q d vs so = still_once c q d vs so
+still_changed (row.Unlock unlock.Trim) c q d vs so = still_nothing c q d vs so
+still_changed (row.Consistent r) c q d vs so = still_nothing c q d vs so
+still_changed (row.Ended OK) c q d vs so = still_once c q d vs so
+still_changed (row.Ended x) c q d vs so = still_nothing c q d vs so
+
 decided_there : (v : Wakes) → decided (row_in (owing_at v)) ≡ Some OK
 decided_there Nobody = refl
 decided_there One = refl
@@ -90,7 +119,7 @@ wakes_there true = refl
 wakes_there false = refl
 
 module _ (w : Words) (a : Pass Live) (m : ℕ) (r : Running) (u : IsUnderWay w a (call.Unlock m) r) (tells : Tells operation.Unlock (row_in r.program.phase) (fields_of (card r.pass).last))
-    (found : FoundOwn (row_in r.program.phase) r.program.thread (card r.pass).last) where
+    (found : FoundOwn (row_in r.program.phase) r.program.thread (card r.pass).last) (so : ChangesThere (row_in r.program.phase) (card a) (cell_place (layout_of w) m) (card r.pass)) where
   abbrev k : Layout'
   k = layout_of w
 
@@ -101,11 +130,12 @@ module _ (w : Words) (a : Pass Live) (m : ℕ) (r : Running) (u : IsUnderWay w a
   c = card r.pass
 
   -- where it owes its wakes
-  pub freed : (v : Wakes) → p.phase ≡ owing_at v → Called (card a) (cell_place k m) ((operation.Unlock, OK) ∷ []) c × ((fields_of c.last).owner ≡ (card a).thread) × (v ≡ wakes_of c.last)
+  pub freed : (v : Wakes) → p.phase ≡ owing_at v → Called (card a) (cell_place k m) ((operation.Unlock, OK) ∷ []) c × ((fields_of c.last).owner ≡ (card a).thread) × (v ≡ wakes_of c.last) × ChangedOnce (card a) (cell_place k m) c
   freed v is = (
     called operation.Unlock _ (cell_place k m) (card a) (standing_of p) c OK u.2 (ap (λ (f : Phase). decided (row_in f)) is ∙ decided_there v),
     owner_found v p.phase p.thread c.last is found ∙ r.ready.0 ∙ u.2.called.saw.thread,
     wakes_told v p.phase c.last is tells,
+    once_there v p.phase (card a) (cell_place k m) c is so,
   )
 
   module _ (owing_not : (v : Wakes) → p.phase ≢ owing_at v) where
@@ -116,14 +146,17 @@ module _ (w : Words) (a : Pass Live) (m : ℕ) (r : Running) (u : IsUnderWay w a
         owing_not (if wakes.0 then All else One) (cell_phase p at ∙ ap AtCell wakes.1 ∙ wakes_there wakes.0)))
 
     -- what is told of the word that was found
-    pub told_on : (d : Card) (x : Answer) → Answers k p p.phase c d x → Tells operation.Unlock (row_in (whole_led p x).phase) (fields_of d.last) × FoundOwn (row_in (whole_led p x).phase) p.thread d.last
+    pub told_on : (d : Card) (x : Answer) → Answers k p p.phase c d x
+        → Tells operation.Unlock (row_in (whole_led p x).phase) (fields_of d.last) × FoundOwn (row_in (whole_led p x).phase) p.thread d.last × ChangesThere (row_in (whole_led p x).phase) (card a) (cell_place k m) d
     told_on d x answers = ⊎_elim
         (λ (own : IsOwnAccess p.phase).
         let told = own_told k p p.phase c d x own answers in
         let fits = subst (FitsOwn (whole_access p)) (sym told.1) (own_fits (whole_access p) (known k c) (is_load_or_store p own)) in
         let same = ap (λ (z : Standing). z.row) (own_moved p x own u.0.1.1.list.knows fits) in
         let last : d.last ≡ c.last = ap (λ (z : Card). z.last) (told.0 ∙ own_same k c (whole_access p)) in
-        subst (λ (z : Row × ℕ). Tells operation.Unlock z.0 (fields_of z.1) × FoundOwn z.0 p.thread z.1) (λ i. (sym same i, sym last i)) (tells, found))
+        let still = subst (ChangesThere (row_in p.phase) (card a) (cell_place k m)) (sym (told.0 ∙ own_same k c (whole_access p))) (still_changed (row_in p.phase) (card a) (cell_place k m) c (own_after k c (whole_access p)).values so) in
+        let both = subst (λ (z : Row × ℕ). Tells operation.Unlock z.0 (fields_of z.1) × FoundOwn z.0 p.thread z.1) (λ i. (sym same i, sym last i)) (tells, found) in
+        (both.0, both.1, subst (λ (z : Row). ChangesThere z (card a) (cell_place k m) d) (sym same) still))
         (λ (at : IsAtCell p.phase).
         let told = cell_told k p p.phase c d x at answers in
         let z : Standing = standing_of p in
@@ -131,8 +164,11 @@ module _ (w : Words) (a : Pass Live) (m : ℕ) (r : Running) (u : IsUnderWay w a
         let goes = going w r u.0 at in
         let stepping = cell_steps p at steps in
         let row_is : row_in (whole_led p x).phase ≡ (led z (answer_at (access_of z) told.1)).row = ap (λ o. row_in o.phase) (cell_led p x at) ∙ row_after p (led z x).row ∙ ap (λ (y : Answer). (led z y).row) answered in
-        subst (λ (s : Row). Tells operation.Unlock s (fields_of d.last) × FoundOwn s p.thread d.last) (sym row_is)
-        (tells_after operation.Unlock z (cell_place k told.0) c d told.1 goes stepping r.ready u.2.of told.3, found_own z (cell_place k told.0) c d told.1 goes stepping r.ready u.2.of told.3))
+        subst (λ (s : Row). Tells operation.Unlock s (fields_of d.last) × FoundOwn s p.thread d.last × ChangesThere s (card a) (cell_place k m) d) (sym row_is) (
+          tells_after operation.Unlock z (cell_place k told.0) c d told.1 goes stepping r.ready u.2.of told.3,
+          found_own z (cell_place k told.0) c d told.1 goes stepping r.ready u.2.of told.3,
+          changes_on (card a) z (cell_place k m) c d told.1 u.2.called.saw.thread goes stepping r.ready u.2.of (there w a (call.Unlock m) r u told.0 told.1 d told.2 told.3) so,
+        ))
         (own_or_at_cell p.phase r.going)
 
     -- where it returns it is refused

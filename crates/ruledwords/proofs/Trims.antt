@@ -1,23 +1,28 @@
 -- A change of a cell that leaves its mutex as it is keeps the rule; so does a trim. Nothing is seen anew by it.
-use Rattle.std.proofs.Common.{Bool, true, false, ◌≡◌, ◌≢◌, ℕ, ◌+◌, ◌<◌, ◌==◌, List, [], ◌∷◌, length, get_or, set, refl, sym, ap, ◌∙◌, subst, arith, eqb-true, length-set, get_or-set_other, get_or-set_same}
+use Rattle.std.proofs.Common.{Bool, true, false, ◌≡◌, ◌≢◌, ⊎_elim, ℕ, ◌+◌, ◌<◌, ◌==◌, List, [], ◌∷◌, length, get_or, set, refl, sym, ap, ◌∙◌, subst, arith, eqb-true, length-set, get_or-set_other, get_or-set_same}
 use mathlib.Core.Logic.{dite}
-use mathlib.Core.Option.{none}
+use mathlib.Core.Option.{none, some}
 use native.Mathlib.Decide.{ℕ_discrete}
-use lib.Seq.{set-get_or}
+use lib.ListN.{get_elem?}
 use prog.Atomic.{either}
+use Rattle.std.specs.Prelude.{if◌then◌else◌}
 use Rattle.atomic_table.specs.Table.{step, keeps, Allows}
+use Rattle.atomic_table.proofs.Lists.{at_set}
 use Rattle.lockword.specs.Cells.{fields_of}
 use Rattle.keys.specs.Layouts.{Layout', cell_place, counter_place}
 use Rattle.keys.specs.Objects.{object_of}
 use Rattle.ruledwords.specs.declared.card.Card.{Card}
 use Rattle.ruledwords.specs.Cards.{at, mark_at}
+use Rattle.ruledwords.specs.Changes.{put_changes, Writes}
 use Rattle.ruledwords.specs.Seen.{Leaves}
-use Rattle.ruledwords.specs.Rules.{guard, owner_at, keeper, Fits, AllFit, Kept}
+use Rattle.ruledwords.specs.Rules.{guard, owner_at, keeper, Fits, AllFit, cards_of, Kept}
 use Rattle.ruledwords.specs.Looks.{Finds, noted, trimmed}
+use Rattle.ruledwords.proofs.Changes.{recorded_change, writes_there}
 use Rattle.ruledwords.proofs.Counts.{counted_same}
+use Rattle.ruledwords.proofs.Lists.{all_set}
 use Rattle.ruledwords.proofs.Keepers.{cell_keeper, keeper_same, other_cell, inside, owner_set, counter_no_cell}
-use Rattle.ruledwords.proofs.Moves.{St, Steady, says, turns}
-use Rattle.ruledwords.proofs.Looks.{found, kept_noted}
+use Rattle.ruledwords.proofs.Moves.{St, Steady, changing, says, turns}
+use Rattle.ruledwords.proofs.Looks.{found}
 
 -- a change of the word of mutex m that leaves the mutex as it is
 module _ {o : List ℕ} (k : Layout') (s : St) (h : Kept k o s) (m : ℕ) (low : m < k.mutexes) (n : ℕ) (as_it_is : object_of (fields_of n) ≡ says s.words (cell_place k m)) (whose : (fields_of n).owner ≡ owner_at k s.words m) (steady : Steady (get_or s.words (cell_place k m) 0) n) where
@@ -44,7 +49,7 @@ module _ {o : List ℕ} (k : Layout') (s : St) (h : Kept k o s) (m : ℕ) (low :
   keeper_stays : (q : ℕ) → keeper k ws' q ≡ keeper k s.words q
   keeper_stays q = keeper_same k s.words ws' q (owner_same (guard k q))
 
-  fits_left : (c : Card) → Fits k s.words h.histories c → Fits k ws' h.histories c
+  pub fits_left : (c : Card) → Fits k s.words h.histories c → Fits k ws' h.histories c
   fits_left c f = record {
     thread = f.thread;
     threads = f.threads;
@@ -67,8 +72,9 @@ module _ {o : List ℕ} (k : Layout') (s : St) (h : Kept k o s) (m : ℕ) (low :
   all_left [] f = tt
   all_left (c ∷ cs) f = (fits_left c f.0, all_left cs f.1)
 
-  pub kept_left : Kept k o record { words = ws'; homes = s.homes; views = s.views }
-  kept_left = record {
+  -- where the card of who made it is this one then
+  pub kept_left : (id : ℕ) (c d : Card) → get_elem? s.views id ≡ some (c ∷ []) → d.thread ≡ c.thread → d.changes ≡ put_changes c.changes p (changing k s h c m n) → Fits k ws' h.histories d → Kept k o record { words = ws'; homes = s.homes; views = set s.views id (d ∷ []) }
+  kept_left id c d is same grows fit = record {
     layout = h.layout;
     wide = length-set s.words p n ∙ h.wide;
     histories = h.histories;
@@ -81,22 +87,26 @@ module _ {o : List ℕ} (k : Layout') (s : St) (h : Kept k o s) (m : ℕ) (low :
         (λ other. ap (λ (v : ℕ). (fields_of v).rest) (get_or-set_other s.words p (cell_place k l) n 0 (other_cell k m l other)) ∙ h.narrow l lower);
     counters = λ q lower. subst (λ (v : ℕ). v < 4294967296) (sym (get_or-set_other s.words p (counter_place k q) n 0 (counter_no_cell k q m low))) (h.counters q lower);
     counted = counted_same k o s.words ws' h.histories h.histories h.layout h.counted (λ q lower. get_or-set_other s.words p (counter_place k q) n 0 (counter_no_cell k q m low)) (λ l lower. refl);
-    fits = λ j v e. all_left v (h.fits j v e);
-    once = h.once;
+    fits = λ j v e. ⊎_elim
+        (λ (u : (j ≡ id) × (d ∷ [] ≡ v)). subst (AllFit k ws' h.histories) u.1 (fit, tt))
+        (λ (u : (j ≢ id) × (get_elem? s.views j ≡ some v)). all_left v (h.fits j v u.1))
+        (at_set s.views id j (d ∷ []) v e);
+    once = λ u.
+        let cards = all_set u s.views id (c ∷ []) (d ∷ []) is in
+        let alike : cards_of u (d ∷ []) ≡ cards_of u (c ∷ []) = ap (λ (t : ℕ). if◌then◌else◌ {A = ℕ} (t == u) 1 0 + 0) same in
+        let once = h.once u in
+        omega arith;
+    recorded = recorded_change k s.words s.views h.recorded id c d m n is within h.once same grows low;
   }
 
 -- where WAITERS is all that the word says, it may be 0
-kept_trimmed : {o : List ℕ} (k : Layout') (s : St) (h : Kept k o s) (m : ℕ) → m < k.mutexes → get_or s.words (cell_place k m) 0 ≡ 0x8000_0000 → Kept k o record { words = set s.words (cell_place k m) 0; homes = s.homes; views = s.views }
-kept_trimmed k s h m low alone =
-    let nobody : owner_at k s.words m ≡ 0 = ap (λ (v : ℕ). (fields_of v).owner) alone in
+trimmed_right : (n : ℕ) (b : Bool) → (n == 0x8000_0000) ≡ b → (object_of (fields_of (either b 0 n)) ≡ object_of (fields_of n)) × ((fields_of (either b 0 n)).owner ≡ (fields_of n).owner) × Steady n (either b 0 n)
+trimmed_right n true is =
+    let alone : n ≡ 0x8000_0000 = eqb-true n 0x8000_0000 is in
+    let nobody : (fields_of n).owner ≡ 0 = ap (λ (v : ℕ). (fields_of v).owner) alone in
     let clear : (fields_of 0).rest ≡ 0 = refl in
-    kept_left k s h m low 0 (sym (ap (λ (v : ℕ). object_of (fields_of v)) alone)) (sym nobody) ((λ owned on. absurd (owned nobody)), λ was. clear)
-
--- whatever the word is
-kept_trim : {o : List ℕ} (k : Layout') (s : St) (h : Kept k o s) (m : ℕ) → m < k.mutexes → (b : Bool) → (get_or s.words (cell_place k m) 0 == 0x8000_0000) ≡ b
-    → Kept k o record { words = set s.words (cell_place k m) (either b 0 (get_or s.words (cell_place k m) 0)); homes = s.homes; views = s.views }
-kept_trim k s h m low true is = kept_trimmed k s h m low (eqb-true (get_or s.words (cell_place k m) 0) 0x8000_0000 is)
-kept_trim {o} k s h m low false is = subst (λ (z : List ℕ). Kept k o record { words = z; homes = s.homes; views = s.views }) (sym (set-get_or s.words (cell_place k m) 0)) h
+    (sym (ap (λ (v : ℕ). object_of (fields_of v)) alone), sym nobody, ((λ owned on. absurd (owned nobody)), λ was. clear))
+trimmed_right n false is = (refl, refl, ((λ owned on. on), λ clear. clear))
 
 -- an exchange from WAITERS alone to 0
 pub trims : {o : List ℕ} (k : Layout') (slots id : ℕ) (c : Card) (m : ℕ) → m < k.mutexes
@@ -104,11 +114,19 @@ pub trims : {o : List ℕ} (k : Layout') (slots id : ℕ) (c : Card) (m : ℕ) �
 trims {o} k slots id c m low s h deep is small =
     let p : ℕ = cell_place k m in
     let n : ℕ = get_or s.words p 0 in
+    let v : ℕ = either (n == 0x8000_0000) 0 n in
+    let right = trimmed_right n (n == 0x8000_0000) refl in
     let f = (h.fits id (c ∷ []) is).0 in
-    let d : Card = noted c n (c.trims + 1) in (
+    let d : Card = noted c n (c.trims + 1) (put_changes c.changes p (changing k s h c m v)) in
+    let left = fits_left k s h m low v right.0 right.1 right.2 c f in
+    let writes : Writes c p n (if n == 0x8000_0000 then 0 else n) d = subst (λ (w : ℕ). Writes c p n w d) (cleared (n == 0x8000_0000) n) (writes_there k s.words s.views h.recorded id c d m v low is refl) in (
       d ∷ [],
       keeps,
       tt,
-      kept_noted k record { words = set s.words p (either (n == 0x8000_0000) 0 n); homes = s.homes; views = s.views } (kept_trim k s h m low (n == 0x8000_0000) refl) id c n (c.trims + 1) is,
-      turns c d (λ c d. (0x8000_0000 ≡ 0x8000_0000) × (0 ≡ 0) × (d ≡ noted c n (c.trims + 1)) × Finds c p n) (refl, refl, refl, found k s h c m low f),
+      kept_left k s h m low v right.0 right.1 right.2 id c d is refl refl record { thread = left.thread; threads = left.threads; begins = left.begins; own = left.own; values = left.values; marks = left.marks },
+      turns c d (λ c d. (0x8000_0000 ≡ 0x8000_0000) × (0 ≡ 0) × (d ≡ noted c n (c.trims + 1) d.changes) × Finds c p n × Writes c p n (if n == 0x8000_0000 then 0 else n) d) (refl, refl, refl, found k s h c m low f, writes),
     )
+  where
+    cleared : (b : Bool) (n : ℕ) → either b 0 n ≡ (if b then 0 else n)
+    cleared true n = refl
+    cleared false n = refl

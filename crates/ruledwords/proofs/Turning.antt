@@ -125,7 +125,7 @@ module _ (w : Words) (a : Pass Live) (call : Call) (r : Running) (u : IsUnderWay
   mine = r.ready.0
 
   -- the access that was made, at the call's own mutex
-  there : (m n : ℕ) (d : Card) → IsOnMutex (layout_of w) z m → Made z (cell_place (layout_of w) m) (card r.pass) n d → Made z place (card r.pass) n d
+  pub there : (m n : ℕ) (d : Card) → IsOnMutex (layout_of w) z m → Made z (cell_place (layout_of w) m) (card r.pass) n d → Made z place (card r.pass) n d
   there m n d here made = subst (λ (l : ℕ). Made z (cell_place (layout_of w) l) (card r.pass) n d)
       (sym (same_mutex (layout_of w) z m (mutex_of call) u.0.0.1.layout (subst (λ (t : ℕ). 1 ≤ t) (sym mine) u.0.0.1.first) (subst (λ (t : ℕ). t ≤ (layout_of w).threads) (sym mine) u.0.0.1.thread) here u.1)) made
 

@@ -29,6 +29,7 @@ use Rattle.mutex.specs.Whole.{IsUnderWay}
 use Rattle.mutex.specs.Steps.{Expects-prop, Knows-prop}
 use Rattle.ruledwords.specs.declared.card.Card.{Card}
 use Rattle.ruledwords.specs.Cards.{at, value_at}
+use Rattle.ruledwords.specs.Changes.{Writes}
 use Rattle.ruledwords.specs.Seen.{holds, Sees, Called}
 use Rattle.ruledwords.specs.OwnWords.{IsOwn, KnowsOwn}
 use Rattle.ruledwords.specs.Rules.{Sat, At, Turns}
@@ -74,6 +75,7 @@ pub record Made (p : Standing) (q : ℕ) (c : Card) (n : ℕ) (d : Card) : Type 
   pub sees : Sees c q (points (point_of c.thread q (row_operation p.row) (led_at p n).point)) (object_of (fields_of (changed (access_of p) n))) d
   pub misses : d.misses ≡ c.misses + fails (access_of p) n
   pub last : d.last ≡ n
+  pub writes : Writes c q n (changed (access_of p) n) d
   pub sound : Sound (object_of (fields_of n))
   pub met : Expects c.thread p.row (object_of (fields_of n))
   pub holder : holds c.thread (at c.seen q) ≡ is_thread c.thread (object_of (fields_of n)).owner

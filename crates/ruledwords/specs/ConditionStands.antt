@@ -25,7 +25,7 @@ use Rattle.ruledwords.specs.declared.pass.Words.{Words}
 use Rattle.ruledwords.specs.declared.pass.Pass.{Pass}
 use Rattle.ruledwords.specs.declared.pass.Live.{Live}
 use Rattle.ruledwords.specs.declared.pass.Dead.{Dead}
-use Rattle.ruledwords.specs.Cards.{at, value_at}
+use Rattle.ruledwords.specs.Cards.{at, value_at, mark_at}
 use Rattle.ruledwords.specs.ConditionCalls.{cond_call, cond_pass, IsCondRunningOf}
 use Rattle.ruledwords.specs.Conditions.{cond_row_in, condition_at}
 use Rattle.ruledwords.specs.Counts.{cell_at, mutex_at}
@@ -59,6 +59,11 @@ CountsBehind (cond.Broadcast (broadcast.SetWaiters seen)) n v = (n ≢ largest_c
 CountsBehind (cond.Broadcast (broadcast.Move seen)) n v = (n ≢ largest_counter) × (v ≡ Some (n + 1))
 CountsBehind r n v = Unit {0}
 
+-- before it moves sleepers to the cell, it has set WAITERS there
+abbrev pub WaitersBehind : CondRow → Bool → Type 0
+WaitersBehind (cond.Broadcast (broadcast.Move seen)) b = b ≡ true
+WaitersBehind r b = Unit {0}
+
 -- the mutex is usable where the thread saw it last: its release didn't spoil it
 abbrev pub LeftUsable : Layout' → ℕ → Card → Type 0
 LeftUsable k q d = (o : Object) → Run fresh (at d.seen (cell_at k q)) o → o.unusable ≡ false
@@ -75,6 +80,7 @@ pub record CondStands (k : Layout') (q : ℕ) (op : Operation) (c : Card) (r : C
   pub called : Called c (cell_at k q) (cond_acts r) d
   pub owns : OwnsBehind r (owns_in k c (mutex_at k q))
   pub counts : CountsBehind r d.counted (value_at d.values (counter_place k q))
+  pub waiters : WaitersBehind r (mark_at d.marks (cell_at k q))
   pub usable : UsableBehind k q r d
 
 -- the reply of a call that ends: to whom doesn't own the mutex EPERM. A wait is refused with X_STATE where the last owner's death isn't declared; a signal and a broadcast with X_FULL exactly where the
@@ -89,11 +95,17 @@ CountsOnce OK n v = v ≡ Some (n + 1)
 CountsOnce XFULL n v = v ≡ Some n
 CountsOnce x n v = Unit {0}
 
+-- a broadcast that is answered OK has set WAITERS
+abbrev pub SetsWaiters : Operation → Reply → Bool → Type 0
+SetsWaiters operation.Broadcast OK b = b ≡ true
+SetsWaiters op x b = Unit {0}
+
 -- a call that has ended with this reply: of one point, which has the reply and is the last that its thread has seen of the mutex
 pub record CondEnded (k : Layout') (q : ℕ) (op : Operation) (x : Reply) (c d : Card) : Type 0 where
   pub called : Called c (cell_at k q) ((op, x) ∷ []) d
   pub reply : x ≡ cond_reply op (owns_in k c (mutex_at k q)) d.counted
   pub counts : CountsOnce x d.counted (value_at d.values (counter_place k q))
+  pub waiters : SetsWaiters op x (mark_at d.marks (cell_at k q))
 
 -- a call that began at the pass a is under way
 abbrev pub IsCondUnderWay : Words → Pass Live → CondCall → CondRunning → Type 0

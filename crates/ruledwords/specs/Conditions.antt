@@ -1,5 +1,5 @@
 -- Calls on condition variables, on what the passes of running threads know: where they stand, what they need, and what an access at the mutex's cell or at the counter tells.
-use Rattle.std.specs.Prelude.{◌≡◌, ◌≢◌, ℕ, ◌+◌, ◌-◌, ◌<◌, ◌≤◌, false, Option, Some, List, length}
+use Rattle.std.specs.Prelude.{◌≡◌, ◌≢◌, ℕ, ◌+◌, ◌-◌, ◌<◌, ◌≤◌, Bool, true, false, Option, Some, List, bit_or, length}
 use Rattle.lockword.specs.Cells.{fields_of}
 use Rattle.lockword.specs.declared.reply.Reply.TheVariants.{OK}
 use Rattle.keys.specs.declared.access.Access.{Access}
@@ -24,12 +24,15 @@ use Rattle.condvar.specs.declared.row.CondRow.{CondRow}
 use Rattle.condvar.specs.declared.row.CondRow.TheVariants as cond
 use Rattle.condvar.specs.declared.signal.SignalRow.TheVariants as signal
 use Rattle.condvar.specs.declared.wait.WaitRow.TheVariants as wait
+use Rattle.condvar.specs.Broadcast.{waiters_bit}
 use Rattle.condvar.specs.Laws.{largest_counter}
 use Rattle.condvar.specs.Programs.{point_of, resume_of, row_access}
 use Rattle.condvar.specs.Standings.{CondWhole}
 use Rattle.ruledwords.specs.declared.card.Card.{Card}
+use Rattle.ruledwords.specs.declared.card.Change.{Change}
 use Rattle.ruledwords.specs.Calls.{Made, OwnKept}
-use Rattle.ruledwords.specs.Cards.{at, value_at}
+use Rattle.ruledwords.specs.Cards.{at, value_at, mark_at, put_mark}
+use Rattle.ruledwords.specs.Changes.{Writes}
 use Rattle.ruledwords.specs.Counts.{cell_at}
 use Rattle.ruledwords.specs.Looks.{Finds, noted}
 use Rattle.ruledwords.specs.Rules.{Sat, At, Turns}
@@ -101,21 +104,21 @@ unlock_of p = record { thread = p.thread; operation = operation.Unlock; head = p
 
 -- ---- what it needs
 
--- what a row needs of the mutex, and of the counter's value as far as its thread knows that
-abbrev pub Needs : ℕ → CondRow → Object → Option ℕ → Type 0
-Needs t (cond.Wait wait.LoadCounter) o v = (o.owner ≡ Some t) × (o.inconsistent ≡ false)
-Needs t (cond.Wait (wait.Release seen)) o v = (o.owner ≡ Some t) × (o.inconsistent ≡ false)
-Needs t (cond.Signal signal.LoadCounter) o v = o.owner ≡ Some t
-Needs t (cond.Signal signal.Count) o v = (o.owner ≡ Some t) × ((x : ℕ) × (v ≡ Some x) × (x ≢ largest_counter))
-Needs t (cond.Broadcast broadcast.LoadCounter) o v = o.owner ≡ Some t
-Needs t (cond.Broadcast (broadcast.Count seen)) o v = (o.owner ≡ Some t) × (v ≡ Some seen) × (seen ≢ largest_counter)
-Needs t (cond.Broadcast (broadcast.SetWaiters seen)) o v = (o.owner ≡ Some t) × (v ≡ Some (seen + 1))
-Needs t (cond.Broadcast (broadcast.Move seen)) o v = (o.owner ≡ Some t) × (v ≡ Some (seen + 1))
-Needs t r o v = Unit {0}
+-- what a row needs of the mutex, of the counter's value as far as its thread knows that, and of what it remembers of WAITERS in the cell: a broadcast moves sleepers to a cell where they are set
+abbrev pub Needs : ℕ → CondRow → Object → Option ℕ → Bool → Type 0
+Needs t (cond.Wait wait.LoadCounter) o v b = (o.owner ≡ Some t) × (o.inconsistent ≡ false)
+Needs t (cond.Wait (wait.Release seen)) o v b = (o.owner ≡ Some t) × (o.inconsistent ≡ false)
+Needs t (cond.Signal signal.LoadCounter) o v b = o.owner ≡ Some t
+Needs t (cond.Signal signal.Count) o v b = (o.owner ≡ Some t) × ((x : ℕ) × (v ≡ Some x) × (x ≢ largest_counter))
+Needs t (cond.Broadcast broadcast.LoadCounter) o v b = o.owner ≡ Some t
+Needs t (cond.Broadcast (broadcast.Count seen)) o v b = (o.owner ≡ Some t) × (v ≡ Some seen) × (seen ≢ largest_counter)
+Needs t (cond.Broadcast (broadcast.SetWaiters seen)) o v b = (o.owner ≡ Some t) × (v ≡ Some (seen + 1))
+Needs t (cond.Broadcast (broadcast.Move seen)) o v b = (o.owner ≡ Some t) × (v ≡ Some (seen + 1)) × (b ≡ true)
+Needs t r o v b = Unit {0}
 
 -- it is so, as far as the card's thread has seen the mutex
 abbrev pub CondReady : Layout' → ℕ → CondRow → Card → Type 0
-CondReady k q r c = (o : Object) → Run fresh (at c.seen (cell_at k q)) o → Needs c.thread r o (value_at c.values (counter_place k q))
+CondReady k q r c = (o : Object) → Run fresh (at c.seen (cell_at k q)) o → Needs c.thread r o (value_at c.values (counter_place k q)) (mark_at c.marks (cell_at k q))
 
 -- ---- its accesses
 
@@ -135,6 +138,7 @@ pub record Meets (k : Layout') (q : ℕ) (p : CondStanding) (c : Card) (n : ℕ)
   pub sees : Sees c (cell_at k q) (decides_at k q p c n) (object_of (fields_of n)) d
   pub misses : d.misses ≡ c.misses
   pub last : d.last ≡ n
+  pub writes : Writes c (cell_at k q) n n d
   pub holder : holds c.thread (at c.seen (cell_at k q)) ≡ is_thread c.thread (object_of (fields_of n)).owner
   pub kept : OwnKept k c d
 
@@ -155,7 +159,11 @@ pub record Counts (k : Layout') (q : ℕ) (p : CondStanding) (c : Card) (n : ℕ
 abbrev pub release_of : CondStanding → Standing
 release_of p = record { thread = p.thread; cell = p.cell; row = row.Unlock (unlock.Release false) }
 
--- an access at the cell or at the counter, by its row. Where a broadcast sets WAITERS, nothing is seen anew
+-- a thread that found the word n in the cell at q and set WAITERS there, which it remembers
+abbrev pub having_set : Card → ℕ → ℕ → List (List Change) → Card
+having_set c q n zs = record c { last = n; marks = put_mark c.marks q true; changes = zs }
+
+-- an access at the cell or at the counter, by its row. Where a broadcast sets WAITERS, nothing is seen anew; they stay set while its thread owns the mutex
 abbrev pub Acted : Layout' → ℕ → CondStanding → CondRow → Card → ℕ → Card → Type 0
 Acted k q p (cond.Wait wait.LoadCounter) c n d = Counts k q p c n d
 Acted k q p (cond.Wait (wait.Release seen)) c n d = Made (release_of p) (cell_at k q) c n d × OwnKept k c d
@@ -163,7 +171,7 @@ Acted k q p (cond.Signal signal.LoadCounter) c n d = Counts k q p c n d
 Acted k q p (cond.Signal signal.Count) c n d = Counts k q p c n d
 Acted k q p (cond.Broadcast broadcast.LoadCounter) c n d = Counts k q p c n d
 Acted k q p (cond.Broadcast (broadcast.Count seen)) c n d = Counts k q p c n d
-Acted k q p (cond.Broadcast (broadcast.SetWaiters seen)) c n d = (d ≡ noted c n c.trims) × Finds c (cell_at k q) n
+Acted k q p (cond.Broadcast (broadcast.SetWaiters seen)) c n d = (d ≡ having_set c (cell_at k q) n d.changes) × Finds c (cell_at k q) n × Writes c (cell_at k q) n (bit_or n waiters_bit) d
 Acted k q p r c n d = Meets k q p c n d
 
 abbrev pub acted : Layout' → ℕ → CondStanding → At → Sat → ℕ → Sat → Type 0
@@ -173,7 +181,7 @@ acted k q p st me r me' = Turns me me' (λ c d. Acted k q p p.row c r d)
 
 -- the word was r. Nothing is seen anew
 abbrev pub looked_at_counter : At → Sat → ℕ → Sat → Type 0
-looked_at_counter st me r me' = Turns me me' (λ c d. (d ≡ noted c r c.trims) × (r ≤ largest_counter) × ((x : ℕ) → value_at c.values st.word ≡ Some x → r ≡ x))
+looked_at_counter st me r me' = Turns me me' (λ c d. (d ≡ noted c r c.trims c.changes) × (r ≤ largest_counter) × ((x : ℕ) → value_at c.values st.word ≡ Some x → r ≡ x))
 
 -- a section that compares a counter
 abbrev pub Compares : Access → Type 0

@@ -28,6 +28,7 @@ use Rattle.ruledwords.specs.declared.reaping.Walked.TheVariants as walked
 use Rattle.ruledwords.specs.Cards.{at, mark_at, put_mark}
 use Rattle.ruledwords.specs.Seen.{by, holds, EndsWith, Sees}
 use Rattle.ruledwords.specs.Calls.{OwnKept}
+use Rattle.ruledwords.specs.Changes.{Writes}
 use Rattle.ruledwords.specs.Lists.{known}
 use Rattle.ruledwords.specs.Looks.{Finds}
 use Rattle.ruledwords.specs.OwnWords.{owns_in, KnowsOwn}
@@ -63,6 +64,7 @@ pub record Marks (k : Layout') (q old : ℕ) (c : Card) (n : ℕ) (d : Card) : T
   pub sees : Sees c q (deaths c.thread q (n == old)) (object_of (fields_of (left_by_mark old n))) d
   pub misses : d.misses ≡ c.misses
   pub last : d.last ≡ n
+  pub writes : Writes c q n (left_by_mark old n) d
   pub remembers : mark_at d.marks q ≡ (fields_of (left_by_mark old n)).waiters
   pub minds : MindsWaiters c q n
   pub narrow : (fields_of n).rest ≡ 0

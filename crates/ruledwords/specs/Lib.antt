@@ -1,5 +1,6 @@
 pub mod Fates
 pub mod Cards
+pub mod Changes
 pub mod Seen
 pub mod Counts
 pub mod Rules

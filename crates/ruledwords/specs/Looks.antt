@@ -1,10 +1,12 @@
 -- What a look at a cell tells, by which nothing is seen anew.
-use Rattle.std.specs.Prelude.{◌≡◌, ℕ, ◌+◌, List, [], ◌++◌}
+use Rattle.std.specs.Prelude.{◌≡◌, ℕ, ◌+◌, ◌==◌, List, [], ◌++◌, if◌then◌else◌}
 use Rattle.lockword.specs.Cells.{fields_of}
 use Rattle.keys.specs.declared.point.Point.{Point}
 use Rattle.keys.specs.Objects.{object_of}
 use Rattle.ruledwords.specs.declared.card.Card.{Card}
+use Rattle.ruledwords.specs.declared.card.Change.{Change}
 use Rattle.ruledwords.specs.Cards.{at}
+use Rattle.ruledwords.specs.Changes.{Writes}
 use Rattle.ruledwords.specs.Seen.{by, Leaves}
 use Rattle.ruledwords.specs.Rules.{Sat, At, Turns}
 
@@ -12,18 +14,18 @@ use Rattle.ruledwords.specs.Rules.{Sat, At, Turns}
 abbrev pub Finds : Card → ℕ → ℕ → Type 0
 Finds c p n = (since : List Point) × Leaves c.threads p (at c.seen p ++ since) (object_of (fields_of n)) × (by c.thread since ≡ []) × ((fields_of n).rest ≡ 0)
 
--- a thread that found the word n last, and has made so many trims, knows else what it knew
-abbrev pub noted : Card → ℕ → ℕ → Card
-noted c n t = record c { last = n; trims = t }
+-- a thread that found the word n last, has made so many trims, and knows of these changes of cells, knows else what it knew
+abbrev pub noted : Card → ℕ → ℕ → List (List Change) → Card
+noted c n t zs = record c { last = n; trims = t; changes = zs }
 
--- the card knows what the other one does, but for the word that was found last and the trims that were made
+-- the card knows what the other one does, but for the word that was found last, the trims that were made, and changes of cells
 abbrev pub KnowsTheSame : Card → Card → Type 0
-KnowsTheSame c d = d ≡ noted c d.last d.trims
+KnowsTheSame c d = d ≡ noted c d.last d.trims d.changes
 
 -- it has looked at a cell, whose word was r
 abbrev pub looked : At → Sat → ℕ → Sat → Type 0
-looked st me r me' = Turns me me' (λ c d. (d ≡ noted c r c.trims) × Finds c st.word r)
+looked st me r me' = Turns me me' (λ c d. (d ≡ noted c r c.trims c.changes) × Finds c st.word r)
 
 -- it has exchanged 0x80000000 for 0 there, if that was the word: a trim
 abbrev pub trimmed : At → Sat → ℕ → Sat → Type 0
-trimmed st me r me' = Turns me me' (λ c d. (st.first ≡ 0x8000_0000) × (st.second ≡ 0) × (d ≡ noted c r (c.trims + 1)) × Finds c st.word r)
+trimmed st me r me' = Turns me me' (λ c d. (st.first ≡ 0x8000_0000) × (st.second ≡ 0) × (d ≡ noted c r (c.trims + 1) d.changes) × Finds c st.word r × Writes c st.word r (if r == 0x8000_0000 then 0 else r) d)

@@ -26,6 +26,7 @@ use Rattle.mutex.specs.Standings.{Whole}
 use Rattle.ruledwords.specs.Seen.{Called, Died, held}
 use Rattle.ruledwords.specs.Passes.{card, layout_of, IsLive, IsDying}
 use Rattle.ruledwords.specs.Calls.{IsOnMutex}
+use Rattle.ruledwords.specs.Changes.{ChangedOnce}
 use Rattle.ruledwords.specs.Releases.{IsReleasing}
 use Rattle.ruledwords.specs.Turns.{running_program, GoesOn, HasDied, HasSeenTheSame, IsIn, IsRunningOf}
 
@@ -80,11 +81,12 @@ abbrev pub IsOwedOf : Words → Owed → Type 0
 IsOwedOf w o = IsRunningOf w (owed_running o)
 
 -- a release of mutex m: its point is an unlock with OK where the mutex is freed, and with EPERM where it is refused. Whom it has to wake is told by the word that it found,
--- the last that the pass met, of which its thread was the owner
+-- the last that the pass met, of which its thread was the owner: the cell's right before the one change that the thread has made of it
 abbrev pub Frees : Words → ℕ → Pass Live → Released → Type 0
 Frees w m a (released.Owes o) =
     IsOwedOf w o × Called (card a) (cell_place (layout_of w) m) ((Unlock, OK) ∷ []) (card (owed_pass o))
     × ((fields_of (card (owed_pass o)).last).owner ≡ (card a).thread) × (owed_wakes o ≡ wakes_of (card (owed_pass o)).last) × IsOnMutex (layout_of w) (running_program (owed_running o)) m
+    × ChangedOnce (card a) (cell_place (layout_of w) m) (card (owed_pass o))
 Frees w m a (released.Refused b r) = IsLive w b × (r ≡ EPERM) × Called (card a) (cell_place (layout_of w) m) ((Unlock, EPERM) ∷ []) (card b)
 Frees w m a (released.Dead d) = IsDying w d × Died (card a) (cell_place (layout_of w) m) Unlock (card d)
 

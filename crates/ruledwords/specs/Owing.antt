@@ -7,8 +7,10 @@ use Rattle.mutex.specs.declared.phase.Phase.TheVariants.{AtCell, Clearing}
 use Rattle.mutex.specs.declared.row.Row.{Row}
 use Rattle.mutex.specs.declared.row.Row.TheVariants.{Unlock, Ended}
 use Rattle.mutex.specs.declared.unlock.UnlockRow.TheVariants.{Wake}
+use Rattle.ruledwords.specs.declared.card.Card.{Card}
 use Rattle.ruledwords.specs.declared.outcome.Wakes.{Wakes}
 use Rattle.ruledwords.specs.declared.outcome.Wakes.TheVariants.{Nobody, One, All}
+use Rattle.ruledwords.specs.Changes.{ChangedNothing, ChangedOnce}
 
 -- where an unlock stands that has released its mutex, and has them to wake: before its wake, or before its entry is cleared
 abbrev pub owing_at : Wakes → Phase
@@ -26,3 +28,9 @@ abbrev pub FoundOwn : Row → ℕ → ℕ → Type 0
 FoundOwn (Unlock (Wake a)) t v = (fields_of v).owner ≡ t
 FoundOwn (Ended OK) t v = (fields_of v).owner ≡ t
 FoundOwn r t v = Unit {0}
+
+-- an unlock that began at the card c has changed its mutex's cell never yet, or behind its release once, and that last of all
+abbrev pub ChangesThere : Row → Card → ℕ → Card → Type 0
+ChangesThere (Unlock (Wake a)) c q d = ChangedOnce c q d
+ChangesThere (Ended OK) c q d = ChangedOnce c q d
+ChangesThere r c q d = ChangedNothing c q d

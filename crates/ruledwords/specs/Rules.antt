@@ -3,6 +3,7 @@
 -- Histories: some legal list of points of each mutex leaves the mutex as its cell says. What a pass has seen begins it, and has all points of the pass's thread.
 -- Own words: a thread alone writes its head, the links of the mutexes that it owns and the counters of their condition variables. Its pass may know
 -- their values. While it owns a mutex in which it saw WAITERS, that stays set. Counters count the signals and the broadcasts that were answered OK.
+-- Changes: each cell's words, one after the other, and who wrote each. What a pass knows of them begins them, and has all that its thread wrote.
 use Rattle.std.specs.Prelude.{◌≡◌, ℕ, zero, suc, ◌+◌, ◌-◌, ◌/◌, ◌%◌, ◌<◌, ◌≤◌, ◌==◌, ◌&&◌, nat_lt, true, Option, Some, List, [], ◌∷◌, All, length, drop, slice_index, if◌then◌else◌}
 use mathlib.Core.Option.{some}
 use mathlib.Core.List.{IsPrefix}
@@ -16,6 +17,7 @@ use Rattle.keys.specs.Objects.{object_of}
 use Rattle.ruledwords.specs.declared.card.Card.{Card}
 use Rattle.ruledwords.specs.declared.opening.Opening.{Opening}
 use Rattle.ruledwords.specs.Cards.{at, value_at, put_value, mark_at}
+use Rattle.ruledwords.specs.Changes.{Recorded}
 use Rattle.ruledwords.specs.Counts.{Counted}
 use Rattle.ruledwords.specs.Seen.{by, Leaves, Joined}
 
@@ -31,7 +33,7 @@ first_values k t = put_value (put_value (put_value [] (head_place t) (Some (addr
 
 -- what thread t of a layout knows at first: its own head, and nothing of any mutex
 abbrev pub first_card : Layout' → ℕ → Card
-first_card k t = record { threads = k.threads; thread = t; base = base_of k t; seen = []; misses = 0; last = 0; trims = 0; counted = 0; values = first_values k t; marks = [] }
+first_card k t = record { threads = k.threads; thread = t; base = base_of k t; seen = []; misses = 0; last = 0; trims = 0; counted = 0; values = first_values k t; marks = []; changes = [] }
 
 -- the cards of so many threads from t on
 abbrev pub hand : Layout' → ℕ → ℕ → List Card
@@ -95,6 +97,7 @@ pub record Kept (k : Layout') (presets : List ℕ) (s : State (Unit {0}) (List C
   pub counted : Counted k presets s.words histories
   pub fits : (id : ℕ) (v : List Card) → get_elem? s.views id ≡ some v → AllFit k s.words histories v
   pub once : (t : ℕ) → all_cards_of t s.views ≤ 1
+  pub recorded : Recorded k s.words s.views
 
 -- ---- what steps tell
 
@@ -106,7 +109,7 @@ At = Step (Unit {0})
 
 -- the one card of a pass
 abbrev pub card_of : List Card → Card
-card_of [] = record { threads = 0; thread = 0; base = 0; seen = []; misses = 0; last = 0; trims = 0; counted = 0; values = []; marks = [] }
+card_of [] = record { threads = 0; thread = 0; base = 0; seen = []; misses = 0; last = 0; trims = 0; counted = 0; values = []; marks = []; changes = [] }
 card_of (c ∷ cs) = c
 
 abbrev pub IsOne : Sat → Type 0

@@ -170,9 +170,9 @@ Keeps w r turn = (a : Pass Live) (call : Call) → IsUnderWay w a call r → Goe
 
 -- ---- calls that are decided
 
--- the thread has seen no more of any mutex: what else it knows is of its own words, or of the word that it found last
+-- the thread has seen no more of any mutex: what else it knows is of its own words, of the word that it found last, or of changes of cells
 abbrev pub HasSeenTheSame : Card → Card → Type 0
-HasSeenTheSame c d = d ≡ record c { last = d.last; trims = d.trims; values = d.values }
+HasSeenTheSame c d = d ≡ record c { last = d.last; trims = d.trims; values = d.values; changes = d.changes }
 
 -- a call is decided, with this reply, by what its thread has seen at the card c: it has only to wake, to trim and to end its list's change
 abbrev pub IsDecided : Words → Card → Reply → Running → Type 0

@@ -2,6 +2,12 @@
 use keys::Point;
 use std::collections::LinkedList;
 
+/// A change of a mutex's cell: whose it was, and the word that it left. It stands in contracts and proofs alone.
+pub struct Change {
+    pub thread: u64,
+    pub word: u64,
+}
+
 /// What one thread knows of the shared words. It stands in contracts and proofs alone: no value of it is made.
 pub struct Card {
     /// How many threads there are.
@@ -24,6 +30,8 @@ pub struct Card {
     pub values: LinkedList<Option<u64>>,
     /// The cells in which it saw WAITERS, by place.
     pub marks: LinkedList<bool>,
+    /// What it knows of each cell's changes, by place: the first of them, one after the other, and all that it made itself.
+    pub changes: LinkedList<LinkedList<Change>>,
 }
 
 /// A pass has one card. While passes are dealt, or meet, one seat has several.

@@ -1,8 +1,9 @@
 //! A look at a cell or at a counter, and a trim of a cell, by which nothing is seen anew.
-ghost use Rattle.std.specs.Prelude.{◌≡◌, ◌<◌, ◌≤◌, ◌+◌, ℕ, Some, length};
+ghost use Rattle.std.specs.Prelude.{◌≡◌, ◌<◌, ◌≤◌, ◌+◌, ◌==◌, ℕ, Some, if◌then◌else◌, length};
 ghost use Rattle.keys.specs.Layouts.{cell_place, counter_place};
 ghost use Rattle.condvar.specs.Laws.{largest_counter};
 ghost use Rattle.ruledwords.specs.Cards.{value_at};
+ghost use Rattle.ruledwords.specs.Changes.{Writes};
 ghost use Rattle.ruledwords.specs.Looks.{Finds, noted};
 ghost use Rattle.ruledwords.specs.Rules.{card_of};
 
@@ -16,7 +17,7 @@ impl Words {
         requires table { pass.old.seat.table_id ≡ self.now.table.shared.table_id }
         requires place { (m : ℕ) × (m < self.now.layout.mutexes) × (at ≡ cell_place self.now.layout m) }
         ensures table { pass.new.seat.table_id ≡ pass.old.seat.table_id }
-        ensures card { card_of pass.new.seat.me.0 ≡ noted (card_of pass.old.seat.me.0) result (card_of pass.old.seat.me.0).trims }
+        ensures card { card_of pass.new.seat.me.0 ≡ noted (card_of pass.old.seat.me.0) result (card_of pass.old.seat.me.0).trims (card_of pass.old.seat.me.0).changes }
         ensures held { pass.new.held ≡ pass.old.held }
         ensures finds { Finds (card_of pass.old.seat.me.0) at result }
     {
@@ -29,7 +30,7 @@ impl Words {
         requires table { pass.old.seat.table_id ≡ self.now.table.shared.table_id }
         requires place { (q : ℕ) × (q < length self.now.layout.conditions) × (at ≡ counter_place self.now.layout q) }
         ensures table { pass.new.seat.table_id ≡ pass.old.seat.table_id }
-        ensures card { card_of pass.new.seat.me.0 ≡ noted (card_of pass.old.seat.me.0) result (card_of pass.old.seat.me.0).trims }
+        ensures card { card_of pass.new.seat.me.0 ≡ noted (card_of pass.old.seat.me.0) result (card_of pass.old.seat.me.0).trims (card_of pass.old.seat.me.0).changes }
         ensures held { pass.new.held ≡ pass.old.held }
         ensures small { result ≤ largest_counter }
         ensures known { (x : ℕ) → value_at (card_of pass.old.seat.me.0).values at ≡ Some x → result ≡ x }
@@ -45,9 +46,10 @@ impl Words {
         requires table { pass.old.seat.table_id ≡ self.now.table.shared.table_id }
         requires place { (m : ℕ) × (m < self.now.layout.mutexes) × (at ≡ cell_place self.now.layout m) }
         ensures table { pass.new.seat.table_id ≡ pass.old.seat.table_id }
-        ensures card { card_of pass.new.seat.me.0 ≡ noted (card_of pass.old.seat.me.0) result ((card_of pass.old.seat.me.0).trims + 1) }
+        ensures card { card_of pass.new.seat.me.0 ≡ noted (card_of pass.old.seat.me.0) result ((card_of pass.old.seat.me.0).trims + 1) (card_of pass.new.seat.me.0).changes }
         ensures held { pass.new.held ≡ pass.old.held }
         ensures finds { Finds (card_of pass.old.seat.me.0) at result }
+        ensures writes { Writes (card_of pass.old.seat.me.0) at result (if result == 0x8000_0000 then 0 else result) (card_of pass.new.seat.me.0) }
     {
         let _thread = pass.thread;
         self.table

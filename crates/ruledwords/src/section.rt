@@ -1,10 +1,11 @@
 //! A call at a futex section, which its caller makes.
-ghost use Rattle.std.specs.Prelude.{◌≡◌, ◌+◌, ◌==◌, ℕ};
+ghost use Rattle.std.specs.Prelude.{◌≡◌, ◌+◌, ◌==◌, ℕ, if◌then◌else◌};
 ghost use Rattle.keys.specs.Accesses.{address_of};
 ghost use Rattle.keys.specs.declared.access.Access.TheVariants.{Trim as AtTrim};
 ghost use Rattle.keys.specs.Layouts.{cell_place};
 ghost use Rattle.ruledwords.specs.declared.pass.Words.{Words};
 ghost use Rattle.ruledwords.specs.Calls.{IsOnMutex};
+ghost use Rattle.ruledwords.specs.Changes.{Writes};
 ghost use Rattle.ruledwords.specs.Looks.{Finds};
 ghost use Rattle.ruledwords.specs.Passes.{card, layout_of};
 ghost use Rattle.ruledwords.specs.Turns.{access_in, place_at, running_call, running_pass, running_program, IsAnswerOf, IsOneStep, IsRunningOf, IsTurnOf, Unmoved, Onward, Keeps, KeepsDecided};
@@ -42,6 +43,7 @@ impl Running {
         requires trim { (at : ℕ) × (access_in self.old ≡ AtTrim at) }
         ensures unmoved { Unmoved words.now self.old self.new }
         ensures finds { (m : ℕ) → IsOnMutex (layout_of words.now) (running_program self.old) m → Finds (card (running_pass self.old)) (cell_place (layout_of words.now) m) (card (running_pass self.new)).last }
+        ensures leaves { (m : ℕ) → IsOnMutex (layout_of words.now) (running_program self.old) m → Writes (card (running_pass self.old)) (cell_place (layout_of words.now) m) (card (running_pass self.new)).last (if (card (running_pass self.new)).last == 0x8000_0000 then 0 else (card (running_pass self.new)).last) (card (running_pass self.new)) }
         ensures trims { (result ≡ ((card (running_pass self.new)).last == 0x8000_0000)) × ((card (running_pass self.new)).trims ≡ (card (running_pass self.old)).trims + 1) }
     {
         let at = self.place(words);

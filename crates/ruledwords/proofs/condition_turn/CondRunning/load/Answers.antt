@@ -20,9 +20,9 @@ returns-clause-unmoved c =
     let was = card_of c.args.self.now.pass.seat.me.0 in
     let found = c.look_at_counter in
     let of = c.requires.words in (
-      ((found.ensures.table ∙ of.0.0, subst (IsCardOf k) (sym found.ensures.card) (is_noted k was found.result was.trims of.0.1)), subst (λ d. IsInCondCall k d c.args.self.now.program) (sym found.ensures.card) (cond_noted k was found.result was.trims c.args.self.now.program of.1)),
+      ((found.ensures.table ∙ of.0.0, subst (IsCardOf k) (sym found.ensures.card) (is_noted k was found.result was.trims was.changes of.0.1)), subst (λ d. IsInCondCall k d c.args.self.now.program) (sym found.ensures.card) (cond_noted k was found.result was.trims was.changes c.args.self.now.program of.1)),
       refl,
-      knows_same was (card_of found.new.pass.seat.me.0) found.result was.trims found.ensures.card,
+      knows_same was (card_of found.new.pass.seat.me.0) found.result was.trims was.changes found.ensures.card,
     )
 
 pub returns-clause-known : goal.returns-clause-known

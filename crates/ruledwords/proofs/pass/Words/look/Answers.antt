@@ -22,7 +22,7 @@ load-requires c =
 
 pub invariant_of-pass : goal.invariant_of-pass
 invariant_of-pass c =
-    let r = turned _ _ (λ a b. (b ≡ noted a c.load.result a.trims) × Finds a c.args.at c.load.result) c.args.pass.now.one (c.load.ensures.2) in
+    let r = turned _ _ (λ a b. (b ≡ noted a c.load.result a.trims a.changes) × Finds a c.args.at c.load.result) c.args.pass.now.one (c.load.ensures.2) in
     record {
       one = r.0;
       own = ap (λ (z : Card). z.thread) r.1.0 ∙ c.args.pass.now.own;
@@ -31,7 +31,7 @@ invariant_of-pass c =
     }
 
 pub returns-clause-card : goal.returns-clause-card
-returns-clause-card c = (turned _ _ (λ a b. (b ≡ noted a c.load.result a.trims) × Finds a c.args.at c.load.result) c.args.pass.now.one (c.load.ensures.2)).1.0
+returns-clause-card c = (turned _ _ (λ a b. (b ≡ noted a c.load.result a.trims a.changes) × Finds a c.args.at c.load.result) c.args.pass.now.one (c.load.ensures.2)).1.0
 
 pub returns-clause-finds : goal.returns-clause-finds
-returns-clause-finds c = (turned _ _ (λ a b. (b ≡ noted a c.load.result a.trims) × Finds a c.args.at c.load.result) c.args.pass.now.one (c.load.ensures.2)).1.1
+returns-clause-finds c = (turned _ _ (λ a b. (b ≡ noted a c.load.result a.trims a.changes) × Finds a c.args.at c.load.result) c.args.pass.now.one (c.load.ensures.2)).1.1

@@ -26,7 +26,7 @@ load-requires c =
 
 pub invariant_of-pass : goal.invariant_of-pass
 invariant_of-pass c =
-    let r = turned _ _ (λ a b. (b ≡ noted a c.load.result a.trims) × (c.load.result ≤ largest_counter) × ((x : ℕ) → value_at a.values c.args.at ≡ Some x → c.load.result ≡ x)) c.args.pass.now.one (c.load.ensures.2) in
+    let r = turned _ _ (λ a b. (b ≡ noted a c.load.result a.trims a.changes) × (c.load.result ≤ largest_counter) × ((x : ℕ) → value_at a.values c.args.at ≡ Some x → c.load.result ≡ x)) c.args.pass.now.one (c.load.ensures.2) in
     record {
       one = r.0;
       own = ap (λ (z : Card). z.thread) r.1.0 ∙ c.args.pass.now.own;
@@ -35,10 +35,10 @@ invariant_of-pass c =
     }
 
 pub returns-clause-card : goal.returns-clause-card
-returns-clause-card c = (turned _ _ (λ a b. (b ≡ noted a c.load.result a.trims) × (c.load.result ≤ largest_counter) × ((x : ℕ) → value_at a.values c.args.at ≡ Some x → c.load.result ≡ x)) c.args.pass.now.one (c.load.ensures.2)).1.0
+returns-clause-card c = (turned _ _ (λ a b. (b ≡ noted a c.load.result a.trims a.changes) × (c.load.result ≤ largest_counter) × ((x : ℕ) → value_at a.values c.args.at ≡ Some x → c.load.result ≡ x)) c.args.pass.now.one (c.load.ensures.2)).1.0
 
 pub returns-clause-small : goal.returns-clause-small
-returns-clause-small c = (turned _ _ (λ a b. (b ≡ noted a c.load.result a.trims) × (c.load.result ≤ largest_counter) × ((x : ℕ) → value_at a.values c.args.at ≡ Some x → c.load.result ≡ x)) c.args.pass.now.one (c.load.ensures.2)).1.1
+returns-clause-small c = (turned _ _ (λ a b. (b ≡ noted a c.load.result a.trims a.changes) × (c.load.result ≤ largest_counter) × ((x : ℕ) → value_at a.values c.args.at ≡ Some x → c.load.result ≡ x)) c.args.pass.now.one (c.load.ensures.2)).1.1
 
 pub returns-clause-known : goal.returns-clause-known
-returns-clause-known c = (turned _ _ (λ a b. (b ≡ noted a c.load.result a.trims) × (c.load.result ≤ largest_counter) × ((x : ℕ) → value_at a.values c.args.at ≡ Some x → c.load.result ≡ x)) c.args.pass.now.one (c.load.ensures.2)).1.2
+returns-clause-known c = (turned _ _ (λ a b. (b ≡ noted a c.load.result a.trims a.changes) × (c.load.result ≤ largest_counter) × ((x : ℕ) → value_at a.values c.args.at ≡ Some x → c.load.result ≡ x)) c.args.pass.now.one (c.load.ensures.2)).1.2

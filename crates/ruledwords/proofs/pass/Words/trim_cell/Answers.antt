@@ -1,10 +1,12 @@
 use Rattle.std.proofs.Common.{◌≡◌, ◌+◌, ℕ, ◌<◌, ◌==◌, ◌∙◌, sym, ap, subst}
+use Rattle.std.specs.Prelude.{if◌then◌else◌}
 use mathlib.Core.Option.{none}
 use prog.Atomic.{either}
 use Rattle.atomic_table.specs.Table.{step}
 use Rattle.keys.specs.Layouts.{cell_place}
 use Rattle.ruledwords.specs.declared.card.Card.{Card}
 use Rattle.ruledwords.specs.Seen.{held}
+use Rattle.ruledwords.specs.Changes.{Writes}
 use Rattle.ruledwords.specs.Looks.{Finds, noted, trimmed}
 use Rattle.ruledwords.proofs.Keepers.{inside}
 use Rattle.ruledwords.proofs.Trims.{trims}
@@ -23,7 +25,7 @@ compare_exchange-requires c =
 
 pub invariant_of-pass : goal.invariant_of-pass
 invariant_of-pass c =
-    let r = turned _ _ (λ a b. (0x8000_0000 ≡ 0x8000_0000) × (0 ≡ 0) × (b ≡ noted a c.compare_exchange.result (a.trims + 1)) × Finds a c.args.at c.compare_exchange.result) c.args.pass.now.one (c.compare_exchange.ensures.2) in
+    let r = turned _ _ (λ a b. (0x8000_0000 ≡ 0x8000_0000) × (0 ≡ 0) × (b ≡ noted a c.compare_exchange.result (a.trims + 1) b.changes) × Finds a c.args.at c.compare_exchange.result × Writes a c.args.at c.compare_exchange.result (if c.compare_exchange.result == 0x8000_0000 then 0 else c.compare_exchange.result) b) c.args.pass.now.one (c.compare_exchange.ensures.2) in
     record {
       one = r.0;
       own = ap (λ (z : Card). z.thread) r.1.2 ∙ c.args.pass.now.own;
@@ -32,7 +34,10 @@ invariant_of-pass c =
     }
 
 pub returns-clause-card : goal.returns-clause-card
-returns-clause-card c = (turned _ _ (λ a b. (0x8000_0000 ≡ 0x8000_0000) × (0 ≡ 0) × (b ≡ noted a c.compare_exchange.result (a.trims + 1)) × Finds a c.args.at c.compare_exchange.result) c.args.pass.now.one (c.compare_exchange.ensures.2)).1.2
+returns-clause-card c = (turned _ _ (λ a b. (0x8000_0000 ≡ 0x8000_0000) × (0 ≡ 0) × (b ≡ noted a c.compare_exchange.result (a.trims + 1) b.changes) × Finds a c.args.at c.compare_exchange.result × Writes a c.args.at c.compare_exchange.result (if c.compare_exchange.result == 0x8000_0000 then 0 else c.compare_exchange.result) b) c.args.pass.now.one (c.compare_exchange.ensures.2)).1.2
 
 pub returns-clause-finds : goal.returns-clause-finds
-returns-clause-finds c = (turned _ _ (λ a b. (0x8000_0000 ≡ 0x8000_0000) × (0 ≡ 0) × (b ≡ noted a c.compare_exchange.result (a.trims + 1)) × Finds a c.args.at c.compare_exchange.result) c.args.pass.now.one (c.compare_exchange.ensures.2)).1.3
+returns-clause-finds c = (turned _ _ (λ a b. (0x8000_0000 ≡ 0x8000_0000) × (0 ≡ 0) × (b ≡ noted a c.compare_exchange.result (a.trims + 1) b.changes) × Finds a c.args.at c.compare_exchange.result × Writes a c.args.at c.compare_exchange.result (if c.compare_exchange.result == 0x8000_0000 then 0 else c.compare_exchange.result) b) c.args.pass.now.one (c.compare_exchange.ensures.2)).1.3
+
+pub returns-clause-writes : goal.returns-clause-writes
+returns-clause-writes c = (turned _ _ (λ a b. (0x8000_0000 ≡ 0x8000_0000) × (0 ≡ 0) × (b ≡ noted a c.compare_exchange.result (a.trims + 1) b.changes) × Finds a c.args.at c.compare_exchange.result × Writes a c.args.at c.compare_exchange.result (if c.compare_exchange.result == 0x8000_0000 then 0 else c.compare_exchange.result) b) c.args.pass.now.one (c.compare_exchange.ensures.2)).1.4

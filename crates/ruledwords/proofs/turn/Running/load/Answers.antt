@@ -11,7 +11,7 @@ returns-clause-unmoved c =
     let k = c.args.words.now.layout in
     let was = card_of c.args.self.now.pass.seat.me.0 in
     let of = c.requires.words in (
-      ((c.look.ensures.table ∙ of.0.0, subst (IsCardOf k) (sym c.look.ensures.card) (is_noted k was c.look.result (card_of c.args.self.now.pass.seat.me.0).trims of.0.1)), (of.1.0, subst (λ d. IsInCall k d of.1.0 c.args.self.now.program) (sym c.look.ensures.card) (call_noted k was c.look.result (card_of c.args.self.now.pass.seat.me.0).trims of.1.0 c.args.self.now.program of.1.1))),
+      ((c.look.ensures.table ∙ of.0.0, subst (IsCardOf k) (sym c.look.ensures.card) (is_noted k was c.look.result was.trims was.changes of.0.1)), (of.1.0, subst (λ d. IsInCall k d of.1.0 c.args.self.now.program) (sym c.look.ensures.card) (call_noted k was c.look.result was.trims was.changes of.1.0 c.args.self.now.program of.1.1))),
       refl,
-      knows_same was (card_of c.look.new.pass.seat.me.0) c.look.result (card_of c.args.self.now.pass.seat.me.0).trims c.look.ensures.card,
+      knows_same was (card_of c.look.new.pass.seat.me.0) c.look.result was.trims was.changes c.look.ensures.card,
     )

@@ -1,0 +1,192 @@
+-- The record of the changes of cells, from step to step.
+use Rattle.std.proofs.Common.{Bool, true, false, ◌≡◌, ◌≢◌, ⊎_elim, ℕ, zero, suc, ◌<◌, ◌≤◌, ◌==◌, List, [], ◌∷◌, ◌++◌, length, get_or, set, refl, sym, ap, ◌∙◌, subst, arith, append_assoc, append-nil, eq-eqb, ne_eqb, eqb-true, get_or-set_other, get_or-set_same}
+use Rattle.std.specs.Prelude.{if◌then◌else◌}
+use Rattle.std.proofs.lemmas.List.Elements.{filter-append}
+use mathlib.Core.Logic.{dite}
+use mathlib.Core.List.{IsPrefix}
+use mathlib.Core.Option.{some}
+use native.Mathlib.Decide.{ℕ_discrete}
+use lib.ListN.{get_elem?}
+use Rattle.atomic_table.proofs.Lists.{at_set, at_snoc}
+use Rattle.keys.specs.Layouts.{Layout', cell_place}
+use Rattle.ruledwords.specs.declared.card.Card.{Card}
+use Rattle.ruledwords.specs.declared.card.Change.{Change}
+use Rattle.ruledwords.specs.Changes.{changes_at, put_changes, made_by, left_by, left_of, change_of, AllTied, ChangedNothing, ChangedOnce, Recorded, Tied, Writes}
+use Rattle.ruledwords.specs.Rules.{cards_of, all_cards_of}
+use Rattle.ruledwords.proofs.Keepers.{other_cell}
+use Rattle.ruledwords.proofs.Lists.{all_two, counted}
+
+-- ---- by place
+
+changes_put : (xs : List (List Change)) (p : ℕ) (y : List Change) → changes_at (put_changes xs p y) p ≡ y
+changes_put [] zero y = refl
+changes_put [] (suc p) y = changes_put [] p y
+changes_put (x ∷ xs) zero y = refl
+changes_put (x ∷ xs) (suc p) y = changes_put xs p y
+
+changes_put_else : (xs : List (List Change)) (p q : ℕ) (y : List Change) → q ≢ p → changes_at (put_changes xs p y) q ≡ changes_at xs q
+changes_put_else [] zero zero y n = absurd (n refl)
+changes_put_else [] zero (suc q) y n = refl
+changes_put_else [] (suc p) zero y n = refl
+changes_put_else [] (suc p) (suc q) y n = changes_put_else [] p q y (λ e. n (ap suc e))
+changes_put_else (x ∷ xs) zero zero y n = absurd (n refl)
+changes_put_else (x ∷ xs) zero (suc q) y n = refl
+changes_put_else (x ∷ xs) (suc p) zero y n = refl
+changes_put_else (x ∷ xs) (suc p) (suc q) y n = changes_put_else xs p q y (λ e. n (ap suc e))
+
+-- ---- of one cell
+
+made_append : (t : ℕ) (xs ys : List Change) → made_by t (xs ++ ys) ≡ made_by t xs ++ made_by t ys
+made_append t xs ys = filter-append (λ (x : Change). x.thread == t) xs ys
+
+none_made : (xs ys : List Change) → xs ++ ys ≡ xs → ys ≡ []
+none_made [] ys e = e
+none_made (x ∷ xs) ys e = none_made xs ys (cc e)
+
+other_made : (u t n v : ℕ) → t ≢ u → made_by u (change_of t n v) ≡ []
+other_made u t n v apart = go (v == n)
+  where
+    go : (b : Bool) → made_by u (if b then [] else record { thread = t; word = v } ∷ []) ≡ []
+    go true = refl
+    go false = rw (ne_eqb t u apart) refl
+
+left_append : (w : ℕ) (xs ys : List Change) → left_of w (xs ++ ys) ≡ left_of (left_of w xs) ys
+left_append w [] ys = refl
+left_append w (x ∷ xs) ys = left_append x.word xs ys
+
+left_changed : (t n v : ℕ) → left_of n (change_of t n v) ≡ v
+left_changed t n v = go (v == n) refl
+  where
+    go : (b : Bool) → (v == n) ≡ b → left_of n (if b then [] else record { thread = t; word = v } ∷ []) ≡ v
+    go true is = sym (eqb-true v n is)
+    go false is = refl
+
+-- what other cards know begins a longer list too
+grown : (xs ys zs : List Change) → IsPrefix xs ys → IsPrefix xs (ys ++ zs)
+grown xs ys zs p = (p.0 ++ zs, sym (append_assoc xs p.0 zs) ∙ ap (λ (l : List Change). l ++ zs) p.1)
+
+-- ---- a change
+
+tied_own : (xs ys : List (List Change)) (t p : ℕ) (zs : List Change) → Tied xs t ys → Tied (put_changes xs p zs) t (put_changes ys p zs)
+tied_own xs ys t p zs tied q = dite (ℕ_discrete q p)
+    (λ e.
+    let same : changes_at (put_changes ys p zs) q ≡ changes_at (put_changes xs p zs) q = ap (changes_at (put_changes ys p zs)) e ∙ changes_put ys p zs ∙ sym (changes_put xs p zs) ∙ ap (changes_at (put_changes xs p zs)) (sym e) in
+    (([], append-nil _ ∙ same), ap (made_by t) same))
+    (λ n. subst (λ (z : List Change × List Change). IsPrefix z.0 z.1 × (made_by t z.0 ≡ made_by t z.1)) (λ i. (sym (changes_put_else ys p q zs n) i, sym (changes_put_else xs p q zs n) i)) (tied q))
+
+tied_other : (xs ys : List (List Change)) (u t p n v : ℕ) → t ≢ u → Tied xs u ys → Tied (put_changes xs p (changes_at xs p ++ change_of t n v)) u ys
+tied_other xs ys u t p n v apart tied q =
+    let zs : List Change = changes_at xs p ++ change_of t n v in
+    let here : made_by u zs ≡ made_by u (changes_at xs p) = made_append u (changes_at xs p) (change_of t n v) ∙ ap (λ (l : List Change). made_by u (changes_at xs p) ++ l) (other_made u t n v apart) ∙ append-nil _ in
+    dite (ℕ_discrete q p)
+    (λ e. subst (λ (z : ℕ). IsPrefix (changes_at ys z) (changes_at (put_changes xs p zs) z) × (made_by u (changes_at ys z) ≡ made_by u (changes_at (put_changes xs p zs) z))) (sym e)
+    (subst (λ (l : List Change). IsPrefix (changes_at ys p) l × (made_by u (changes_at ys p) ≡ made_by u l)) (sym (changes_put xs p zs)) (grown (changes_at ys p) (changes_at xs p) (change_of t n v) (tied p).0, (tied p).1 ∙ sym here)))
+    (λ e. subst (λ (l : List Change). IsPrefix (changes_at ys q) l × (made_by u (changes_at ys q) ≡ made_by u l)) (sym (changes_put_else xs p q zs e)) (tied q))
+
+all_tied_other : (xs : List (List Change)) (t p n v : ℕ) (cs : List Card) → cards_of t cs ≡ 0 → AllTied xs cs → AllTied (put_changes xs p (changes_at xs p ++ change_of t n v)) cs
+all_tied_other xs t p n v [] nobody tied = tt
+all_tied_other xs t p n v (c ∷ cs) nobody tied =
+    let apart : t ≢ c.thread = λ e. let some_card = counted t c cs e in absurd (omega arith) in
+    (tied_other xs c.changes c.thread t p n v apart tied.0, all_tied_other xs t p n v cs (omega arith) tied.1)
+
+-- thread t found n in the cell of m, and left v
+pub recorded_change : (k : Layout') (ws : List ℕ) (vs : List (List Card)) (r : Recorded k ws vs) (id : ℕ) (c d : Card) (m v : ℕ) → get_elem? vs id ≡ some (c ∷ []) → cell_place k m < length ws → ((t : ℕ) → all_cards_of t vs ≤ 1)
+    → d.thread ≡ c.thread → d.changes ≡ put_changes c.changes (cell_place k m) (changes_at r.changes (cell_place k m) ++ change_of c.thread (get_or ws (cell_place k m) 0) v) → m < k.mutexes
+    → Recorded k (set ws (cell_place k m) v) (set vs id (d ∷ []))
+recorded_change k ws vs r id c d m v is within once same grows low =
+    let p : ℕ = cell_place k m in
+    let n : ℕ = get_or ws p 0 in
+    let zs : List Change = changes_at r.changes p ++ change_of c.thread n v in
+    let mine : Tied (put_changes r.changes p zs) d.thread d.changes = subst (λ (z : ℕ × List (List Change)). Tied (put_changes r.changes p zs) z.0 z.1) (λ i. (sym same i, sym grows i)) (tied_own r.changes c.changes c.thread p zs (r.tied id (c ∷ []) is).0) in
+    record {
+      changes = put_changes r.changes p zs;
+      leave = λ l lower. dite (ℕ_discrete l m)
+          (λ e. subst (λ (z : ℕ). left_by (changes_at (put_changes r.changes p zs) (cell_place k z)) ≡ get_or (set ws p v) (cell_place k z) 0) (sym e)
+          (ap left_by (changes_put r.changes p zs) ∙ left_append 0 (changes_at r.changes p) (change_of c.thread n v) ∙ ap (λ (w : ℕ). left_of w (change_of c.thread n v)) (r.leave m low) ∙ left_changed c.thread n v ∙ sym (get_or-set_same ws p v 0 within)))
+          (λ other. ap left_by (changes_put_else r.changes p (cell_place k l) zs (other_cell k m l other)) ∙ r.leave l lower ∙ sym (get_or-set_other ws p (cell_place k l) v 0 (other_cell k m l other)));
+      tied = λ j w e. ⊎_elim
+          (λ (t : (j ≡ id) × (d ∷ [] ≡ w)). subst (AllTied (put_changes r.changes p zs)) t.1 (mine, tt))
+          (λ (t : (j ≢ id) × (get_elem? vs j ≡ some w)).
+          let two = all_two c.thread vs id j (c ∷ []) w is t.1 t.0 in
+          let one = once c.thread in
+          let some_card = counted c.thread c [] refl in
+          all_tied_other r.changes c.thread p n v w (omega arith) (r.tied j w t.1))
+          (at_set vs id j (d ∷ []) w e);
+    }
+
+-- ---- where no cell is changed
+
+pub recorded_words : (k : Layout') (ws ws' : List ℕ) (vs : List (List Card)) → ((m : ℕ) → m < k.mutexes → get_or ws' (cell_place k m) 0 ≡ get_or ws (cell_place k m) 0) → Recorded k ws vs → Recorded k ws' vs
+recorded_words k ws ws' vs same r = record { changes = r.changes; leave = λ m low. r.leave m low ∙ sym (same m low); tied = r.tied }
+
+-- one seat's cards know of the changes what they knew
+pub recorded_set : (k : Layout') (ws : List ℕ) (vs : List (List Card)) (id : ℕ) (v w : List Card) → get_elem? vs id ≡ some v → (r : Recorded k ws vs) → (AllTied r.changes v → AllTied r.changes w) → Recorded k ws (set vs id w)
+recorded_set k ws vs id v w is r so = record {
+  changes = r.changes;
+  leave = r.leave;
+  tied = λ j u e. ⊎_elim
+      (λ (t : (j ≡ id) × (w ≡ u)). subst (AllTied r.changes) t.1 (so (r.tied id v is)))
+      (λ (t : (j ≢ id) × (get_elem? vs j ≡ some u)). r.tied j u t.1)
+      (at_set vs id j w u e);
+}
+
+-- cards are dealt to a new seat
+pub recorded_dealt : (k : Layout') (ws : List ℕ) (vs : List (List Card)) (id : ℕ) (v w u : List Card) → get_elem? vs id ≡ some v → ((xs : List (List Change)) → AllTied xs v → AllTied xs w × AllTied xs u) → Recorded k ws vs → Recorded k ws (set vs id w ++ u ∷ [])
+recorded_dealt k ws vs id v w u is so r = record {
+  changes = r.changes;
+  leave = r.leave;
+  tied = λ j x e. ⊎_elim
+      (λ (was : get_elem? (set vs id w) j ≡ some x). ⊎_elim
+      (λ (t : (j ≡ id) × (w ≡ x)). subst (AllTied r.changes) t.1 (so r.changes (r.tied id v is)).0)
+      (λ (t : (j ≢ id) × (get_elem? vs j ≡ some x)). r.tied j x t.1)
+      (at_set vs id j w x was))
+      (λ (same : u ≡ x). subst (AllTied r.changes) same (so r.changes (r.tied id v is)).1)
+      (at_snoc (set vs id w) u x j e);
+}
+
+pub tied_append : (xs : List (List Change)) (cs ds : List Card) → AllTied xs cs → AllTied xs ds → AllTied xs (cs ++ ds)
+tied_append xs [] ds f g = g
+tied_append xs (c ∷ cs) ds f g = (f.0, tied_append xs cs ds f.1 g)
+
+-- ---- what an access tells
+
+pub writes_there : (k : Layout') (ws : List ℕ) (vs : List (List Card)) (r : Recorded k ws vs) (id : ℕ) (c d : Card) (m v : ℕ) → m < k.mutexes → get_elem? vs id ≡ some (c ∷ [])
+    → d.changes ≡ put_changes c.changes (cell_place k m) (changes_at r.changes (cell_place k m) ++ change_of c.thread (get_or ws (cell_place k m) 0) v) → Writes c (cell_place k m) (get_or ws (cell_place k m) 0) v d
+writes_there k ws vs r id c d m v low is grows =
+    let p : ℕ = cell_place k m in
+    let tied = (r.tied id (c ∷ []) is).0 p in
+    let mine : List Change = changes_at c.changes p in
+    let alone : made_by c.thread mine ++ made_by c.thread tied.0.0 ≡ made_by c.thread mine = sym (made_append c.thread mine tied.0.0) ∙ ap (made_by c.thread) tied.0.1 ∙ sym tied.1 in
+    record {
+      since = tied.0.0;
+      others = none_made (made_by c.thread mine) (made_by c.thread tied.0.0) alone;
+      grows = ap (λ (l : List (List Change)). changes_at l p) grows ∙ changes_put c.changes p _ ∙ ap (λ (l : List Change). l ++ change_of c.thread (get_or ws p 0) v) (sym tied.0.1);
+      met = ap left_by tied.0.1 ∙ r.leave m low;
+    }
+
+-- ---- of a call
+
+pub nothing_yet : (c : Card) (p : ℕ) → ChangedNothing c p c
+nothing_yet c p = record { since = []; others = refl; grows = sym (append-nil (changes_at c.changes p)) }
+
+-- an access that changes nothing
+pub nothing_more : (c d e : Card) (p n : ℕ) → d.thread ≡ c.thread → ChangedNothing c p d → Writes d p n n e → ChangedNothing c p e
+nothing_more c d e p n same so w = record {
+  since = so.since ++ w.since;
+  others = made_append c.thread so.since w.since ∙ ap (λ (l : List Change). l ++ made_by c.thread w.since) so.others ∙ ap (λ (t : ℕ). made_by t w.since) (sym same) ∙ w.others;
+  grows = w.grows ∙ ap (λ (b : Bool). (changes_at d.changes p ++ w.since) ++ (if b then [] else record { thread = d.thread; word = n } ∷ [])) (eq-eqb n n refl) ∙ append-nil _ ∙ ap (λ (l : List Change). l ++ w.since) so.grows ∙ append_assoc (changes_at c.changes p) so.since w.since;
+}
+
+-- an access that changes the word, and that tells what it found
+pub once_now : (c d e : Card) (p n v : ℕ) → d.thread ≡ c.thread → v ≢ n → e.last ≡ n → ChangedNothing c p d → Writes d p n v e → ChangedOnce c p e
+once_now c d e p n v same differs last so w = record {
+  since = so.since ++ w.since;
+  others = made_append c.thread so.since w.since ∙ ap (λ (l : List Change). l ++ made_by c.thread w.since) so.others ∙ ap (λ (t : ℕ). made_by t w.since) (sym same) ∙ w.others;
+  word = v;
+  grows = w.grows ∙ ap (λ (b : Bool). (changes_at d.changes p ++ w.since) ++ (if b then [] else record { thread = d.thread; word = v } ∷ [])) (ne_eqb v n differs)
+      ∙ (λ i. (before i) ++ record { thread = same i; word = v } ∷ []);
+  found = ap left_by (sym before) ∙ w.met ∙ sym last;
+}
+  where
+    before : changes_at d.changes p ++ w.since ≡ changes_at c.changes p ++ (so.since ++ w.since)
+    before = ap (λ (l : List Change). l ++ w.since) so.grows ∙ append_assoc (changes_at c.changes p) so.since w.since

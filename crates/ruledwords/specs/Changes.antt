@@ -1,0 +1,80 @@
+-- Which words the cells of mutexes had, one after the other, and who wrote each.
+use Rattle.std.specs.Prelude.{◌≡◌, ℕ, zero, suc, ◌<◌, ◌==◌, List, [], ◌∷◌, ◌++◌, filter, slice_index, if◌then◌else◌}
+use mathlib.Core.Option.{some}
+use mathlib.Core.List.{IsPrefix}
+use lib.ListN.{get_elem?}
+use Rattle.keys.specs.Layouts.{Layout', cell_place}
+use Rattle.ruledwords.specs.declared.card.Card.{Card}
+use Rattle.ruledwords.specs.declared.card.Change.{Change}
+
+-- ---- by place
+
+-- the changes at p
+abbrev pub changes_at : List (List Change) → ℕ → List Change
+changes_at [] p = []
+changes_at (x ∷ xs) zero = x
+changes_at (x ∷ xs) (suc p) = changes_at xs p
+
+abbrev pub put_changes : List (List Change) → ℕ → List Change → List (List Change)
+put_changes [] zero y = y ∷ []
+put_changes [] (suc p) y = [] ∷ put_changes [] p y
+put_changes (x ∷ xs) zero y = y ∷ xs
+put_changes (x ∷ xs) (suc p) y = x ∷ put_changes xs p y
+
+-- ---- of one cell
+
+-- those that thread t made
+abbrev pub made_by : ℕ → List Change → List Change
+made_by t xs = filter (λ (x : Change). x.thread == t) xs
+
+-- the word that they leave of the word w
+abbrev pub left_of : ℕ → List Change → ℕ
+left_of w [] = w
+left_of w (x ∷ xs) = left_of x.word xs
+
+-- the word that they leave in a mutex's cell, which is 0 at first
+abbrev pub left_by : List Change → ℕ
+left_by xs = left_of 0 xs
+
+-- thread t found the word n and left v: a change, if they differ
+abbrev pub change_of : ℕ → ℕ → ℕ → List Change
+change_of t n v = if v == n then [] else record { thread = t; word = v } ∷ []
+
+-- ---- what holds
+
+-- what thread t knows of the changes begins them, and has all that the thread made
+abbrev pub Tied : List (List Change) → ℕ → List (List Change) → Type 0
+Tied xs t ys = (p : ℕ) → IsPrefix (changes_at ys p) (changes_at xs p) × (made_by t (changes_at ys p) ≡ made_by t (changes_at xs p))
+
+abbrev pub AllTied : List (List Change) → List Card → Type 0
+AllTied xs [] = Unit {0}
+AllTied xs (c ∷ cs) = Tied xs c.thread c.changes × AllTied xs cs
+
+-- of each cell the changes that were made, of which each card has a beginning: they leave the cell's word. So nobody can put in a change but at their end, as its own
+pub record Recorded (k : Layout') (ws : List ℕ) (vs : List (List Card)) : Type 0 where
+  pub changes : List (List Change)
+  pub leave : (m : ℕ) → m < k.mutexes → left_by (changes_at changes (cell_place k m)) ≡ slice_index ws (cell_place k m)
+  pub tied : (id : ℕ) (v : List Card) → get_elem? vs id ≡ some v → AllTied changes v
+
+-- ---- what an access tells
+
+-- an access at the cell at p met the word n and left v: behind what its thread knew of the cell's changes stand others', which left n, and then its own, if it made one
+pub record Writes (c : Card) (p n v : ℕ) (d : Card) : Type 0 where
+  pub since : List Change
+  pub others : made_by c.thread since ≡ []
+  pub grows : changes_at d.changes p ≡ (changes_at c.changes p ++ since) ++ change_of c.thread n v
+  pub met : left_by (changes_at c.changes p ++ since) ≡ n
+
+-- a thread has changed nothing there
+pub record ChangedNothing (c : Card) (p : ℕ) (d : Card) : Type 0 where
+  pub since : List Change
+  pub others : made_by c.thread since ≡ []
+  pub grows : changes_at d.changes p ≡ changes_at c.changes p ++ since
+
+-- a thread has changed the cell at p once, and that last of all: the word that was there is the last that it found
+pub record ChangedOnce (c : Card) (p : ℕ) (d : Card) : Type 0 where
+  pub since : List Change
+  pub others : made_by c.thread since ≡ []
+  pub word : ℕ
+  pub grows : changes_at d.changes p ≡ (changes_at c.changes p ++ since) ++ record { thread = c.thread; word = word } ∷ []
+  pub found : left_by (changes_at c.changes p ++ since) ≡ d.last
