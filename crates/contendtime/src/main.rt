@@ -4,11 +4,13 @@
 //! mutex of its own. It prints nanoseconds a pair, by the clock on the wall. Without words it measures nothing. The figures are the machine's; no test looks at them.
 #![tactic(auto)]
 
-ghost use Rattle.std.specs.Prelude.{◌≡◌, ◌<◌, ◌≤◌, All, length, IfOk};
-ghost use Rattle.mutex.specs.Calls.{mutex_of};
+ghost use Rattle.std.specs.Prelude.{◌≡◌, ◌<◌, ◌≤◌, nat_lt, All, length, IfOk};
+ghost use Rattle.condvar.specs.Ops.{is_in};
+ghost use Rattle.keys.specs.Layouts.{Layout'};
 ghost use Rattle.ruledwords.specs.Passes.{layout_of, IsLive};
 ghost use Rattle.threadbench.specs.Jobs.{IsJobOf};
 
+use condvar::Op;
 use keys::Layout;
 use lockword::Reply;
 use mutex::Call;
@@ -29,13 +31,13 @@ struct Load {
 }
 
 /// So many locks, each with its unlock.
-fn pairs_on(alloc: Global, mutex: u16, pairs: u32) -> Result<Vec<Call>, AllocError>
-    ensures { IfOk result (λ calls. All (λ c. mutex_of c ≡ mutex) calls.items) }
+fn pairs_on(alloc: Global, mutex: u16, pairs: u32) -> Result<Vec<Op>, AllocError>
+    ensures { IfOk result (λ calls. All (λ c. (k : Layout') → is_in k c ≡ nat_lt mutex k.mutexes) calls.items) }
 {
     let mut calls = Vec::new(alloc);
     for _pair in 0..pairs {
-        calls.push(Call::Lock(mutex))?;
-        calls.push(Call::Unlock(mutex))?;
+        calls.push(Op::OnMutex(Call::Lock(mutex)))?;
+        calls.push(Op::OnMutex(Call::Unlock(mutex)))?;
     }
     Ok(calls)
 }

@@ -1,6 +1,7 @@
 -- Hands, one after the other.
 use Rattle.std.proofs.Common.{◌≡◌, ℕ, zero, suc, ◌<◌, Bool, Option, List, [], ◌∷◌, ◌++◌, length, map, All, slice_index_or, sym, ap, ◌∙◌, subst, append_assoc, arith}
 use Rattle.std.proofs.lemmas.List.{map-append}
+use Rattle.condvar.specs.declared.op.Op.{Op}
 use Rattle.ruledwords.specs.declared.pass.Words.{Words}
 use Rattle.threadbench.specs.declared.hand.Hand.{Hand}
 use Rattle.threadbench.specs.declared.job.Job.{Job}
@@ -22,7 +23,7 @@ given_back left rest hand jobs jobs' all job first more is so_far =
     ap (λ (l : List Job). l ++ map job_of rest) more ∙ append_assoc jobs (job ∷ []) (map job_of rest) ∙ ap (λ (j : Job). jobs ++ j ∷ map job_of rest) is ∙ ap (λ (l : List (Hand _)). jobs ++ map job_of l) (sym first) ∙ so_far
 
 -- one job more has its record
-pub records_more : {G : Type 0} (w : Words) (says : ℕ → ℕ → Option Bool) (done : List (Hand G)) (hand : Hand G) (rs rs' : List Record) (r : Record) → AreDone w says (map job_of done) rs → IsDone w says (job_of hand) r → rs' ≡ rs ++ r ∷ [] → AreDone w says (map job_of (done ++ hand ∷ [])) rs'
+pub records_more : {G : Type 0} (w : Words) (says : ℕ → ℕ → Op → Option Bool) (done : List (Hand G)) (hand : Hand G) (rs rs' : List Record) (r : Record) → AreDone w says (map job_of done) rs → IsDone w says (job_of hand) r → rs' ≡ rs ++ r ∷ [] → AreDone w says (map job_of (done ++ hand ∷ [])) rs'
 records_more w says done hand rs rs' r so_far one more =
     subst (λ (js : List Job). EachWith (IsDone w says) js rs') (sym (map-append job_of done (hand ∷ []))) (subst (EachWith (IsDone w says) (map job_of done ++ job_of hand ∷ [])) (sym more) (snoc (IsDone w says) (map job_of done) rs (job_of hand) r so_far one))
 

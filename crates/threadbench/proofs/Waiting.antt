@@ -17,6 +17,7 @@ use Rattle.keys.specs.Layouts.{Layout'}
 use Rattle.ruledwords.specs.Looks.{noted}
 use Rattle.condvar.specs.Standings.{CondWhole}
 use Rattle.ruledwords.specs.declared.card.Card.{Card}
+use Rattle.ruledwords.specs.declared.card.Change.{Change}
 use Rattle.ruledwords.specs.declared.condition_turn.CondRunning.{CondRunning}
 use Rattle.ruledwords.specs.declared.condition_turn.CondTurn.{CondTurn}
 use Rattle.ruledwords.specs.declared.condition_turn.CondTurn.TheVariants.{Goes, Locks, Lives}
@@ -38,16 +39,16 @@ use Rattle.threadbench.specs.Calls.{RanOut, Runs}
 use Rattle.threadbench.specs.Conditions.{CondAnswered, CondComesTo, CondReplied, CondRuns, IsCellOf, StaysOn}
 
 -- a word that was noted leaves the mutex as it was seen
-usable_noted : (k : Layout') (q : ℕ) (r : CondRow) (c : Card) (n t : ℕ) → UsableBehind k q r c → UsableBehind k q r (noted c n t)
-usable_noted k q (cond.Wait wait.LoadCell) c n t u = tt
-usable_noted k q (cond.Wait wait.LoadCounter) c n t u = tt
-usable_noted k q (cond.Wait (wait.Release seen)) c n t u = tt
-usable_noted k q (cond.Wait (wait.Wake seen)) c n t u = u
-usable_noted k q (cond.Wait (wait.Sleep seen)) c n t u = u
-usable_noted k q (cond.Signal s) c n t u = tt
-usable_noted k q (cond.Broadcast b) c n t u = tt
-usable_noted k q cond.Awake c n t u = tt
-usable_noted k q (cond.Ended x) c n t u = tt
+usable_noted : (k : Layout') (q : ℕ) (r : CondRow) (c : Card) (n t : ℕ) (zs : List (List Change)) → UsableBehind k q r c → UsableBehind k q r (noted c n t zs)
+usable_noted k q (cond.Wait wait.LoadCell) c n t zs u = tt
+usable_noted k q (cond.Wait wait.LoadCounter) c n t zs u = tt
+usable_noted k q (cond.Wait (wait.Release seen)) c n t zs u = tt
+usable_noted k q (cond.Wait (wait.Wake seen)) c n t zs u = u
+usable_noted k q (cond.Wait (wait.Sleep seen)) c n t zs u = u
+usable_noted k q (cond.Signal s) c n t zs u = tt
+usable_noted k q (cond.Broadcast b) c n t zs u = tt
+usable_noted k q cond.Awake c n t zs u = tt
+usable_noted k q (cond.Ended x) c n t zs u = tt
 
 -- a call whose counter was looked at is under way as it was
 pub cond_still_under_way : (w : Words) (r r' : CondRunning) (a : Pass Live) (cl : CondCall) → CondUnmoved w r r' → IsCondUnderWay w a cl r → IsCondUnderWay w a cl r'
@@ -57,8 +58,8 @@ cond_still_under_way w r r' a cl m u =
       m.0,
       ap (condition_at k) m.1 ∙ u.1,
       subst (λ (z : Card). CondStands k q (operation_of cl) (card a) (cond_row_in (cond_call r').phase) z) (sym m.2)
-          (subst (λ (p : CondWhole). CondStands k q (operation_of cl) (card a) (cond_row_in p.phase) (record (card (cond_pass r)) { last = (card (cond_pass r')).last; trims = (card (cond_pass r')).trims })) (sym m.1)
-          record { of = u.2.of; called = still_called (card a) (cell_at k q) (cond_acts (cond_row_in (cond_call r).phase)) (card (cond_pass r)) _ refl u.2.called; owns = u.2.owns; counts = u.2.counts; usable = usable_noted k q (cond_row_in (cond_call r).phase) (card (cond_pass r)) (card (cond_pass r')).last (card (cond_pass r')).trims u.2.usable }),
+          (subst (λ (p : CondWhole). CondStands k q (operation_of cl) (card a) (cond_row_in p.phase) (record (card (cond_pass r)) { last = (card (cond_pass r')).last; trims = (card (cond_pass r')).trims; changes = (card (cond_pass r')).changes })) (sym m.1)
+          record { of = u.2.of; called = still_called (card a) (cell_at k q) (cond_acts (cond_row_in (cond_call r).phase)) (card (cond_pass r)) _ refl u.2.called; owns = u.2.owns; counts = u.2.counts; waiters = u.2.waiters; usable = usable_noted k q (cond_row_in (cond_call r).phase) (card (cond_pass r)) (card (cond_pass r')).last (card (cond_pass r')).trims (card (cond_pass r')).changes u.2.usable }),
     )
 
 -- a section that was answered leaves it on its condition variable
@@ -90,7 +91,14 @@ begins_retaking acts begins = begins_with acts begins.0 begins.1 begins.2
 pub took_again : (w : Words) (a e : Pass Live) (q : ℕ) (end : Outcome) → HasReleased w a (Wait q) e → RanOut w e (call.Lock (mutex_at (layout_of w) q)) end → CondAnswered w a (Wait q) end
 took_again w a e q (outcome.Lives b x) was ran = (
   ran.0,
-  inr record { awake = e; released = was; took = ran.1; called = waited (card a) (cell_at (layout_of w) q) x (card e) (card b) was.called ran.1 },
+  inr record {
+    awake = card e;
+    released = was.called;
+    owned = was.owns;
+    usable = was.usable;
+    took = ran.1;
+    called = waited (card a) (cell_at (layout_of w) q) x (card e) (card b) was.called ran.1;
+  },
 )
 took_again w a e q (outcome.Dead d) was ran = (
   ran.0,
@@ -124,13 +132,13 @@ locks_out w r r' l end far on runs = λ a cl u.
     let went = on.1 a cl (far a cl u) in
     took_again_in w a (running_pass l) cl end went.0 (runs.0 (running_pass l) (call.Lock (mutex_at (layout_of w) (condition_of cl))) went.1)
 
-replied : (w : Words) (a : Pass Live) (cl : CondCall) (x : Reply) (b : Pass Live) → CondEnded (layout_of w) (condition_of cl) (operation_of cl) x (card a) (card b) → CondReplied w a cl x b
-replied w a (Wait q) x b ended = inl ended
-replied w a (Signal q) x b ended = ended
-replied w a (Broadcast q) x b ended = ended
+replied : (k : Layout') (c : Card) (cl : CondCall) (x : Reply) (d : Card) → CondEnded k (condition_of cl) (operation_of cl) x c d → CondReplied k c cl x d
+replied k c (Wait q) x d ended = inl ended
+replied k c (Signal q) x d ended = ended
+replied k c (Broadcast q) x d ended = ended
 
 pub lives_out : (w : Words) (r r' : CondRunning) (b : Pass Live) (x : Reply) → ComesFar w r r' → CondComesTo w r' (Ok (Lives b x)) → CondRuns w r (outcome.Lives b x)
-lives_out w r r' b x far on = λ a cl u. let went = on.1 a cl (far a cl u) in (went.0, replied w a cl x b went.1)
+lives_out w r r' b x far on = λ a cl u. let went = on.1 a cl (far a cl u) in (went.0, replied (layout_of w) (card a) cl x (card b) went.1)
 
 pub dies_out : (w : Words) (r r' : CondRunning) (d : Pass Dead) → ComesFar w r r' → CondComesTo w r' (Err d) → CondRuns w r (outcome.Dead d)
 dies_out w r r' d far on = λ a cl u. on a cl (far a cl u)

@@ -4,8 +4,9 @@ use Rattle.lockword.specs.declared.reply.Reply.{Reply}
 use Rattle.lockword.specs.declared.reply.Reply.TheVariants.{XRACED}
 use Rattle.keys.specs.Layouts.{Layout', cell_place}
 use Rattle.keys.specs.declared.point.Operation.TheVariants as operation
-use Rattle.mutex.specs.declared.call.Call.{Call}
 use Rattle.mutex.specs.declared.call.Call.TheVariants.{Lock, TryLock, Unlock, Consistent}
+use Rattle.condvar.specs.declared.op.Op.{Op}
+use Rattle.condvar.specs.declared.op.Op.TheVariants.{OnMutex, OnCondition}
 use Rattle.ruledwords.specs.declared.card.Card.{Card}
 use Rattle.ruledwords.specs.declared.outcome.Outcome.{Outcome}
 use Rattle.ruledwords.specs.declared.outcome.Outcome.TheVariants as outcome
@@ -17,28 +18,31 @@ use Rattle.ruledwords.specs.Passes.{card, layout_of, IsLive, IsDying, IsPassOf}
 use Rattle.ruledwords.specs.Seen.{Called, Died}
 use Rattle.threadbench.specs.declared.job.WorkerPass.{WorkerPass}
 use Rattle.threadbench.specs.declared.job.WorkerPass.TheVariants.{Lives, Reaped}
+use Rattle.threadbench.specs.Conditions.{CondReplied, CondDies}
 
--- a call of the thread whose card is c replied so, and left the card d: its point, if it has one, is the last that the thread has seen of the mutex
-abbrev pub Replied : Layout' → Card → Call → Reply → Card → Type 0
-Replied k c (Lock m) r d = Takes k m operation.Lock c r d
-Replied k c (TryLock m) r d = Takes k m operation.TryLock c r d × (r ≡ XRACED → c.misses + 4 ≤ d.misses)
-Replied k c (Unlock m) r d = Called c (cell_place k m) ((operation.Unlock, r) ∷ []) d
-Replied k c (Consistent m) r d = Called c (cell_place k m) ((operation.Consistent, r) ∷ []) d
+-- a call of the thread whose card is c replied so, and left the card d: its point, if it has one, is the last that the thread has seen of the mutex. Of a wait that took its mutex again it is the second of two
+abbrev pub Replied : Layout' → Card → Op → Reply → Card → Type 0
+Replied k c (OnMutex (Lock m)) r d = Takes k m operation.Lock c r d
+Replied k c (OnMutex (TryLock m)) r d = Takes k m operation.TryLock c r d × (r ≡ XRACED → c.misses + 4 ≤ d.misses)
+Replied k c (OnMutex (Unlock m)) r d = Called c (cell_place k m) ((operation.Unlock, r) ∷ []) d
+Replied k c (OnMutex (Consistent m)) r d = Called c (cell_place k m) ((operation.Consistent, r) ∷ []) d
+Replied k c (OnCondition call) r d = CondReplied k c call r d
 
 -- the thread whose card was c died in the call: it had made all of the call's points, or some of the first
-abbrev pub DiesIn : Layout' → Card → Call → Card → Type 0
-DiesIn k c (Lock m) d = DiesTaking k m operation.Lock c d
-DiesIn k c (TryLock m) d = DiesTaking k m operation.TryLock c d
-DiesIn k c (Unlock m) d = Died c (cell_place k m) operation.Unlock d
-DiesIn k c (Consistent m) d = Died c (cell_place k m) operation.Consistent d
+abbrev pub DiesIn : Layout' → Card → Op → Card → Type 0
+DiesIn k c (OnMutex (Lock m)) d = DiesTaking k m operation.Lock c d
+DiesIn k c (OnMutex (TryLock m)) d = DiesTaking k m operation.TryLock c d
+DiesIn k c (OnMutex (Unlock m)) d = Died c (cell_place k m) operation.Unlock d
+DiesIn k c (OnMutex (Consistent m)) d = Died c (cell_place k m) operation.Consistent d
+DiesIn k c (OnCondition call) d = CondDies k c call d
 
 -- a call that began at the pass a ended so
-abbrev pub CallEnds : Words → Pass Live → Call → Outcome → Type 0
+abbrev pub CallEnds : Words → Pass Live → Op → Outcome → Type 0
 CallEnds w a call (outcome.Lives b r) = IsLive w b × Replied (layout_of w) (card a) call r (card b)
 CallEnds w a call (outcome.Dead d) = IsDying w d × DiesIn (layout_of w) (card a) call (card d)
 
 -- so many calls, a reply each
-abbrev pub Answered : Layout' → Card → List Call → List Reply → Card → Type 0
+abbrev pub Answered : Layout' → Card → List Op → List Reply → Card → Type 0
 Answered k c [] [] d = c ≡ d
 Answered k c (x ∷ xs) (r ∷ rs) d = (e : Card) × Replied k c x r e × Answered k e xs rs d
 Answered k c [] (r ∷ rs) d = ⊥

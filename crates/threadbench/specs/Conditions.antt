@@ -1,5 +1,5 @@
 -- What calls on condition variables answer that may sleep or wake (pthread_cond_wait(3p), pthread_cond_signal(3p), pthread_cond_broadcast(3p)).
-use Rattle.std.specs.Prelude.{ℕ, ◌≡◌, ◌≢◌, ◌%◌, ◌^◌, ◌⊎◌, Option, None, Some, Result, Ok, Err, List, [], ◌∷◌}
+use Rattle.std.specs.Prelude.{ℕ, ◌≡◌, ◌≢◌, ◌%◌, ◌^◌, ◌⊎◌, true, Option, None, Some, Result, Ok, Err, List, [], ◌∷◌}
 use Rattle.lockword.specs.declared.reply.Reply.{Reply}
 use Rattle.lockword.specs.declared.reply.Reply.TheVariants.{OK}
 use Rattle.keys.specs.declared.access.Access.{Access}
@@ -9,6 +9,8 @@ use Rattle.keys.specs.Layouts.{Layout', counter_place}
 use Rattle.buckets.specs.Queues.{Sleepers, Fits, MovesTo, MovesWithin}
 use Rattle.condvar.specs.declared.call.CondCall.{CondCall}
 use Rattle.condvar.specs.declared.call.CondCall.TheVariants.{Wait, Signal, Broadcast}
+use Rattle.condvar.specs.Calls.{condition_of, operation_of}
+use Rattle.ruledwords.specs.declared.card.Card.{Card}
 use Rattle.ruledwords.specs.declared.condition_turn.CondRunning.{CondRunning}
 use Rattle.ruledwords.specs.declared.condition_turn.CondTurn.{CondTurn}
 use Rattle.ruledwords.specs.declared.condition_turn.CondTurn.TheVariants.{Goes}
@@ -20,34 +22,41 @@ use Rattle.ruledwords.specs.declared.pass.Live.{Live}
 use Rattle.ruledwords.specs.declared.pass.Dead.{Dead}
 use Rattle.ruledwords.specs.Cards.{value_at}
 use Rattle.ruledwords.specs.ConditionCalls.{cond_call, cond_pass, IsCondTurnOf}
-use Rattle.ruledwords.specs.ConditionStands.{CondEnded, CondKeeps, HasDiedInCondition, HasReleased, IsCondUnderWay}
+use Rattle.ruledwords.specs.ConditionStands.{CondEnded, CondKeeps, HasDiedInCondition, IsCondUnderWay, LeftUsable}
 use Rattle.ruledwords.specs.Conditions.{condition_at}
-use Rattle.ruledwords.specs.Counts.{cell_at}
-use Rattle.ruledwords.specs.Passes.{card, layout_of, IsLive}
-use Rattle.ruledwords.specs.Seen.{Called}
+use Rattle.ruledwords.specs.Counts.{cell_at, mutex_at}
+use Rattle.ruledwords.specs.OwnWords.{owns_in}
+use Rattle.ruledwords.specs.Passes.{card, layout_of, IsDying, IsLive}
+use Rattle.ruledwords.specs.Seen.{Called, Died}
 use Rattle.threadbench.specs.declared.section.Waited.{Waited}
 use Rattle.threadbench.specs.declared.section.Waited.TheVariants.{Stopped}
 
 -- ---- calls
 
--- a wait on condition variable q released its mutex, which was usable then, and took it again by a lock that was answered x: its two points stand in this order, and the second is the last that its thread has
--- seen of the mutex
-pub record TookAgain (w : Words) (a : Pass Live) (q : ℕ) (x : Reply) (b : Pass Live) : Type 0 where
-  pub awake : Pass Live
-  pub released : HasReleased w a (Wait q) awake
-  pub took : Called (card awake) (cell_at (layout_of w) q) ((operation.Lock, x) ∷ []) (card b)
-  pub called : Called (card a) (cell_at (layout_of w) q) ((operation.Unlock, OK) ∷ (operation.Lock, x) ∷ []) (card b)
+-- a wait on condition variable q, by the thread whose card was c, released its mutex, which was usable then, and took it again by a lock that was answered x: its two points stand in this order, and the
+-- second is the last that its thread, whose card is d now, has seen of the mutex
+pub record TookAgain (k : Layout') (c : Card) (q : ℕ) (x : Reply) (d : Card) : Type 0 where
+  pub awake : Card
+  pub released : Called c (cell_at k q) ((operation.Unlock, OK) ∷ []) awake
+  pub owned : owns_in k c (mutex_at k q) ≡ true
+  pub usable : LeftUsable k q awake
+  pub took : Called awake (cell_at k q) ((operation.Lock, x) ∷ []) d
+  pub called : Called c (cell_at k q) ((operation.Unlock, OK) ∷ (operation.Lock, x) ∷ []) d
 
--- a call that began at the pass a was answered x: by its one point; or it is a wait that took its mutex again
-abbrev pub CondReplied : Words → Pass Live → CondCall → Reply → Pass Live → Type 0
-CondReplied w a (Wait q) x b = CondEnded (layout_of w) q operation.Wait x (card a) (card b) ⊎ TookAgain w a q x b
-CondReplied w a (Signal q) x b = CondEnded (layout_of w) q operation.Signal x (card a) (card b)
-CondReplied w a (Broadcast q) x b = CondEnded (layout_of w) q operation.Broadcast x (card a) (card b)
+-- a call of the thread whose card was c was answered x, and left the card d: by its one point; or it is a wait that took its mutex again
+abbrev pub CondReplied : Layout' → Card → CondCall → Reply → Card → Type 0
+CondReplied k c (Wait q) x d = CondEnded k q operation.Wait x c d ⊎ TookAgain k c q x d
+CondReplied k c (Signal q) x d = CondEnded k q operation.Signal x c d
+CondReplied k c (Broadcast q) x d = CondEnded k q operation.Broadcast x c d
+
+-- the thread died in it: it had made all of the call's points, or some of the first
+abbrev pub CondDies : Layout' → Card → CondCall → Card → Type 0
+CondDies k c call d = Died c (cell_at k (condition_of call)) (operation_of call) d
 
 -- it was answered, or its thread died in it
 abbrev pub CondAnswered : Words → Pass Live → CondCall → Outcome → Type 0
-CondAnswered w a call (outcome.Lives b x) = IsLive w b × CondReplied w a call x b
-CondAnswered w a call (outcome.Dead d) = HasDiedInCondition w a call d
+CondAnswered w a call (outcome.Lives b x) = IsLive w b × CondReplied (layout_of w) (card a) call x (card b)
+CondAnswered w a call (outcome.Dead d) = IsDying w d × CondDies (layout_of w) (card a) call (card d)
 
 -- wherever it began
 abbrev pub CondRuns : Words → CondRunning → Outcome → Type 0

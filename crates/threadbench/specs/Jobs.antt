@@ -2,8 +2,8 @@
 use Rattle.std.specs.Prelude.{ℕ, ◌≡◌, ◌<◌, ◌≤◌, ◌+◌, ◌≢◌, ◌⊎◌, Bool, true, false, Option, None, Some, List, [], All, length, slice_get, take}
 use Rattle.lockword.specs.declared.reply.Reply.{Reply}
 use Rattle.keys.specs.Layouts.{Layout'}
-use Rattle.mutex.specs.Calls.{mutex_of}
-use Rattle.mutex.specs.declared.call.Call.{Call}
+use Rattle.condvar.specs.declared.op.Op.{Op}
+use Rattle.condvar.specs.Ops.{is_in}
 use Rattle.ruledwords.specs.declared.card.Card.{Card}
 use Rattle.ruledwords.specs.declared.pass.Words.{Words}
 use Rattle.ruledwords.specs.Deaths.{IsReaped}
@@ -15,34 +15,34 @@ use Rattle.threadbench.specs.declared.job.Record.{Record}
 use Rattle.threadbench.specs.Answered.{Answered, DiesIn, IsWorkerOf}
 use Rattle.threadbench.specs.Each.{EachWith}
 
--- the job's pass is one of these words, and its calls are on mutexes of their layout
+-- the job's pass is one of these words, and its calls are on mutexes and condition variables of their layout
 abbrev pub IsJobOf : Words → Job → Type 0
-IsJobOf w j = IsWorkerOf w j.pass × All (λ c. mutex_of c < (layout_of w).mutexes) j.calls.items
+IsJobOf w j = IsWorkerOf w j.pass × All (λ c. is_in (layout_of w) c ≡ true) j.calls.items
 
 -- a thread with these calls makes none: there is none, or the thread has died
-abbrev pub HasNoWork : WorkerPass → List Call → Type 0
+abbrev pub HasNoWork : WorkerPass → List Op → Type 0
 HasNoWork (Lives p) calls = calls ≡ []
 HasNoWork (Reaped p) calls = Unit {0}
 
 -- the thread whose card was c died in the call, and its list was walked: the death of its owner is told of each mutex that it held, and it holds nothing
-pub record WasLost (k : Layout') (c : Card) (call : Call) (d : Card) : Type 0 where
+pub record WasLost (k : Layout') (c : Card) (call : Op) (d : Card) : Type 0 where
   pub dead : Card
   pub died : DiesIn k c call dead
   pub reaped : IsReaped k dead d
 
 -- a thread that was answered n of these calls, and had the card c then, ended so. It lives: that is its pass, and all calls are answered, or the gate may have refused the next. Or
 -- it died in the next call, which the gate doesn't surely refuse
-abbrev pub StopsAs : Words → (ℕ → Option Bool) → List Call → ℕ → Card → WorkerPass → Type 0
-StopsAs w says calls n c (Lives p) = IsLive w p × (card p ≡ c) × ((n ≡ length calls) ⊎ (says (n + 1) ≢ Some true))
-StopsAs w says calls n c (Reaped p) = IsPassOf w p × (says (n + 1) ≢ Some false) × ((call : Call) × (slice_get calls n ≡ Some call) × WasLost (layout_of w) c call (card p))
+abbrev pub StopsAs : Words → (ℕ → Op → Option Bool) → List Op → ℕ → Card → WorkerPass → Type 0
+StopsAs w says calls n c (Lives p) = IsLive w p × (card p ≡ c) × ((n ≡ length calls) ⊎ ((call : Op) × (slice_get calls n ≡ Some call) × (says (n + 1) call ≢ Some true)))
+StopsAs w says calls n c (Reaped p) = IsPassOf w p × ((call : Op) × (slice_get calls n ≡ Some call) × (says (n + 1) call ≢ Some false) × WasLost (layout_of w) c call (card p))
 
 -- the thread whose card was a made these calls up to one, in their order, and they were answered so: all calls, or those before the one that the gate may have refused or in which the thread died. Of
--- none that was made does the gate surely say no
-pub record Worked (w : Words) (says : ℕ → ℕ → Option Bool) (a : Card) (calls : List Call) (replies : List Reply) (pass : WorkerPass) : Type 0 where
+-- none that was made does the gate surely say no. (It says so of a thread's call by its number, from 1, and by what is called.)
+pub record Worked (w : Words) (says : ℕ → ℕ → Op → Option Bool) (a : Card) (calls : List Op) (replies : List Reply) (pass : WorkerPass) : Type 0 where
   pub few : length replies ≤ length calls
   pub last : Card
   pub answered : Answered (layout_of w) a (take (length replies) calls) replies last
-  pub let_through : (i : ℕ) → i < length replies → says a.thread (i + 1) ≢ Some false
+  pub let_through : (i : ℕ) (call : Op) → i < length replies → slice_get calls i ≡ Some call → says a.thread (i + 1) call ≢ Some false
   pub stops : StopsAs w (says a.thread) calls (length replies) last pass
 
 -- where a thread with a number lives, some of the number is left. Nothing is left where it died, by its number or by a kill, nor where there was none
@@ -52,11 +52,11 @@ IsLeftOf (Some n) (Lives p) left = left ≢ None
 IsLeftOf (Some n) (Reaped p) left = left ≡ None
 
 -- what came of a job with this pass: the calls of a thread that lived were made and answered so. One that had died makes none
-abbrev pub IsDoneFrom : Words → (ℕ → ℕ → Option Bool) → Job → WorkerPass → Record → Type 0
+abbrev pub IsDoneFrom : Words → (ℕ → ℕ → Op → Option Bool) → Job → WorkerPass → Record → Type 0
 IsDoneFrom w says j (Lives a) r = Worked w says (card a) j.calls.items r.replies.items r.pass × IsLeftOf j.die r.pass r.die
 IsDoneFrom w says j (Reaped d) r = (r.pass ≡ Reaped d) × (r.replies.items ≡ []) × (r.die ≡ None)
 
-abbrev pub IsDone : Words → (ℕ → ℕ → Option Bool) → Job → Record → Type 0
+abbrev pub IsDone : Words → (ℕ → ℕ → Op → Option Bool) → Job → Record → Type 0
 IsDone w says j r = IsDoneFrom w says j j.pass r
 
 -- the thread lives, and its pass is one of these words
@@ -65,5 +65,5 @@ LivesOn w (Lives p) = IsLive w p
 LivesOn w (Reaped p) = ⊥
 
 -- each job has its record
-abbrev pub AreDone : Words → (ℕ → ℕ → Option Bool) → List Job → List Record → Type 0
+abbrev pub AreDone : Words → (ℕ → ℕ → Op → Option Bool) → List Job → List Record → Type 0
 AreDone w says js rs = EachWith (IsDone w says) js rs

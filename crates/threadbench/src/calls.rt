@@ -1,6 +1,7 @@
 //! The calls of a job, one after the other.
-ghost use Rattle.std.specs.Prelude.{◌≡◌, ◌+◌, ◌<◌, ◌≤◌, [], All, length, vec_capacity};
-ghost use Rattle.keys.specs.declared.point.Operation.TheVariants as operation;
+ghost use Rattle.std.specs.Prelude.{◌≡◌, ◌+◌, ◌<◌, ◌≤◌, true, [], All, length, vec_capacity};
+ghost use Rattle.condvar.specs.declared.op.Op.TheVariants.{OnMutex as OnMutexOf};
+ghost use Rattle.condvar.specs.Ops.{is_in};
 ghost use Rattle.mutex.specs.Calls.{mutex_of};
 ghost use Rattle.mutex.specs.declared.call.Call.TheVariants.{Unlock as UnlockOf};
 ghost use Rattle.ruledwords.specs.Passes.{card, layout_of, IsLive};
@@ -10,9 +11,10 @@ ghost use Rattle.threadbench.specs.Jobs.{IsJobOf, IsDone, IsLeftOf, Worked};
 
 use crate::bench::Bench;
 use crate::countdown::Countdown;
-use crate::gate::Gate;
+use crate::gate::{Gate, WorkerCall};
 use crate::job::{Job, Record, WorkerPass};
 use crate::room::push_in_room;
+use condvar::Op;
 use lockword::Reply;
 use mutex::Call;
 use ruledwords::{Fate, Live, Never, Outcome, Pass, Released};
@@ -27,7 +29,7 @@ fn unlock<R: Wait, F: Fate>(
 ) -> Outcome
     requires pass { IsLive bench.now pass }
     requires mutex { mutex < (layout_of bench.now).mutexes }
-    ensures ends { CallEnds bench.now pass (UnlockOf mutex) result }
+    ensures ends { CallEnds bench.now pass (OnMutexOf (UnlockOf mutex)) result }
     ensures fate { IsHeeded (F.stopped fate.old) (F.stopped fate.new) result }
 {
     match bench.words().release(pass, mutex, fate) {
@@ -37,7 +39,7 @@ fn unlock<R: Wait, F: Fate>(
     }
 }
 
-fn answer<R: Wait, F: Fate>(
+fn answer_on_mutex<R: Wait, F: Fate>(
     rt: &R,
     bench: &Bench,
     pass: Pass<Live>,
@@ -46,7 +48,7 @@ fn answer<R: Wait, F: Fate>(
 ) -> Outcome
     requires pass { IsLive bench.now pass }
     requires mutex { mutex_of call < (layout_of bench.now).mutexes }
-    ensures ends { CallEnds bench.now pass call result }
+    ensures ends { CallEnds bench.now pass (OnMutexOf call) result }
     ensures fate { IsHeeded (F.stopped fate.old) (F.stopped fate.new) result }
 {
     match call {
@@ -57,18 +59,36 @@ fn answer<R: Wait, F: Fate>(
     }
 }
 
+fn answer<R: Wait, F: Fate>(
+    rt: &R,
+    bench: &Bench,
+    pass: Pass<Live>,
+    op: Op,
+    fate: &mut F,
+) -> Outcome
+    requires pass { IsLive bench.now pass }
+    requires inside { is_in (layout_of bench.now) op ≡ true }
+    ensures ends { CallEnds bench.now pass op result }
+    ensures fate { IsHeeded (F.stopped fate.old) (F.stopped fate.new) result }
+{
+    match op {
+        Op::OnMutex(call) => answer_on_mutex(rt, bench, pass, call, fate),
+        Op::OnCondition(call) => bench.run_condition(rt, pass, call, fate),
+    }
+}
+
 /// Makes calls one after the other, as far as the gate lets the thread and it lives. Where it dies its list is walked. There is room for the replies.
 fn make_calls<R: Wait, G: Gate, F: Fate>(
     rt: &R,
     bench: &Bench,
     gate: &G,
     pass: Pass<Live>,
-    calls: &[Call],
+    calls: &[Op],
     room: Vec<Reply>,
     fate: &mut F,
 ) -> (WorkerPass, Vec<Reply>)
     requires pass { IsLive bench.now pass }
-    requires mutexes { All (λ c. mutex_of c < (layout_of bench.now).mutexes) calls.now }
+    requires inside { All (λ c. is_in (layout_of bench.now) c ≡ true) calls.now }
     requires empty { room.items ≡ [] }
     requires room { length calls.now ≤ vec_capacity room }
     ensures worked { Worked bench.now (G.says gate.now) (card pass) calls.now result.1.items result.0 }
@@ -78,19 +98,22 @@ fn make_calls<R: Wait, G: Gate, F: Fate>(
     let mut replies = room;
     let thread = pass.thread();
     for call in calls {
-        let number = replies.len() + 1;
-        if !gate.before(thread, number) {
+        let asked = WorkerCall {
+            number: replies.len() + 1,
+            op: *call,
+        };
+        if !gate.before(thread, asked) {
             return (WorkerPass::Lives(pass), replies);
         }
         match answer(rt, bench, pass, *call, fate) {
             Outcome::Lives(after, reply) => {
-                gate.after(thread, number);
+                gate.after(thread, asked);
                 pass = after;
                 push_in_room(&mut replies, reply);
             }
             Outcome::Dead(dead) => {
                 let reaped = bench.exit(rt, dead);
-                gate.after(thread, number);
+                gate.after(thread, asked);
                 return (WorkerPass::Reaped(reaped), replies);
             }
         }
@@ -104,12 +127,12 @@ fn make_all<R: Wait, G: Gate>(
     bench: &Bench,
     gate: &G,
     pass: Pass<Live>,
-    calls: &[Call],
+    calls: &[Op],
     die: Option<u32>,
     room: Vec<Reply>,
 ) -> Record
     requires pass { IsLive bench.now pass }
-    requires mutexes { All (λ c. mutex_of c < (layout_of bench.now).mutexes) calls.now }
+    requires inside { All (λ c. is_in (layout_of bench.now) c ≡ true) calls.now }
     requires empty { room.items ≡ [] }
     requires room { length calls.now ≤ vec_capacity room }
     ensures worked { Worked bench.now (G.says gate.now) (card pass) calls.now result.replies.items result.pass }

@@ -78,7 +78,7 @@ impl Bench {
     }
 
     /// Makes a call.
-    fn run_condition<R: Wait, F: Fate>(
+    pub(crate) fn run_condition<R: Wait, F: Fate>(
         &self,
         rt: &R,
         pass: Pass<Live>,

@@ -1,6 +1,6 @@
 //! What a worker is given, and what it gives back.
+use condvar::Op;
 use lockword::Reply;
-use mutex::Call;
 use ruledwords::{Live, Pass, Reaped, Spent};
 use std::alloc::Global;
 
@@ -18,9 +18,9 @@ pub enum WorkerPass {
 pub struct Job {
     /// A pass of the bench's words.
     pub pass: WorkerPass,
-    /// On mutexes of the bench's layout. A thread that has died makes none of them.
-    pub calls: Vec<Call>,
-    /// The thread dies before its access with this number, from 1, counted over all its calls: each wait, wake and trim section counts too. 0 is read as 1. One without
+    /// On mutexes and condition variables of the bench's layout. A thread that has died makes none of them.
+    pub calls: Vec<Op>,
+    /// The thread dies before its access with this number, from 1, counted over all its calls: each wait, wake, requeue and trim section counts too. 0 is read as 1. One without
     /// a number lives, unless it is killed ([`Bench::kill`](crate::Bench::kill)).
     pub die: Option<u32>,
 }
@@ -38,6 +38,7 @@ pub struct Record {
 
 impl Job {
     ghost use Rattle.std.specs.Prelude.{◌≡◌, ℕ, Bool, Option, false};
+    ghost use Rattle.condvar.specs.declared.op.Op.{Op};
     ghost use Rattle.ruledwords.specs.declared.pass.Words.{Words};
     ghost use Rattle.threadbench.specs.Jobs.{HasNoWork, IsDone, IsJobOf};
 
@@ -54,7 +55,7 @@ impl Job {
     /// Its record, where it has no work.
     pub(crate) fn unworked(self, alloc: Global) -> Record
         requires { HasNoWork self.pass self.calls.items }
-        ensures { (w : Words) (says : ℕ → ℕ → Option Bool) → IsJobOf w self → IsDone w says self result }
+        ensures { (w : Words) (says : ℕ → ℕ → Op → Option Bool) → IsJobOf w self → IsDone w says self result }
     {
         let Job {
             pass,

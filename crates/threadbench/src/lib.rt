@@ -5,8 +5,8 @@
 //! [`Bench::broadcast`] moves them all to the mutex's cell. Under a bucket's lock they do what the machine's kernel does there, as far as `docs/PROVED.md` says it is proved.
 //! A call speaks of words by the addresses that its thread's process has for them; sleepers meet by places.
 //!
-//! [`Bench::work`] runs one worker for each [`Job`] that has calls, all of them at once, and joins them: each makes its job's calls in
-//! their order, as far as a [`Gate`] lets it, and its [`Record`] has their replies. So a caller works a phase at a time. Workers begin once
+//! [`Bench::work`] runs one worker for each [`Job`] that has calls, all of them at once, and joins them: each makes its job's calls, on mutexes and
+//! on condition variables, in their order, as far as a [`Gate`] lets it, and its [`Record`] has their replies. So a caller works a phase at a time. Workers begin once
 //! each has its thread; where one can't be made none begins, and the jobs are given back. The thread of a job with a `die` number dies before its access with that number, and
 //! its list is walked as the kernel does it ([`Bench::exit`]).
 //!
@@ -36,5 +36,5 @@ mod work;
 mod worker;
 
 pub use bench::Bench;
-pub use gate::{Gate, Open};
+pub use gate::{Gate, Open, WorkerCall};
 pub use job::{Job, Record, WorkerPass};

@@ -1,5 +1,5 @@
 use Rattle.threadbench.proofs.Heeding.{is_heeded_alone}
-use Rattle.threadbench.proofs.calls.answer.Goals as goal
+use Rattle.threadbench.proofs.calls.answer_on_mutex.Goals as goal
 
 pub returns-in-TryLock-clause-fate : goal.returns-in-TryLock-clause-fate
 returns-in-TryLock-clause-fate g c = is_heeded_alone _ _ c.try_lock.result c.try_lock.ensures.fate
