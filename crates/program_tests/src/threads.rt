@@ -121,8 +121,64 @@ fn deaths_are_told(rt: HostRuntime) {
     assert!(rt; threads(&rt, DEATHS).is(0, DEATHS_TEXT, ""));
 }
 
+/// A thread signals and broadcasts until the counter is at its end; one that isn't the owner, or hasn't declared the mutex consistent, is refused.
+static CONDITIONS: [(&str, &str); 5] = [
+    (
+        "thread a\nmutex m\ncond q m 4294967294\ncall a signal q\ncall a lock m\ncall a signal q\n\
+         call a broadcast q\ncall a unlock m\n",
+        "replies a EPERM OK OK X_FULL OK\nmutex m 0000000000000000 - -\ncond q 4294967295 -\n",
+    ),
+    (
+        "thread a\nmutexes m 2\ncond p m1 0\ncond q m0 7\ncall a lock m0\ncall a wait p\ncall a signal q\n\
+         call a signal p\ncall a signal q\n",
+        "replies a OK EPERM OK EPERM OK\nmutex m0 0000000000000001 a -\nmutex m1 0000000000000000 - -\n\
+         cond p 0 -\ncond q 9 -\n",
+    ),
+    (
+        "thread a\nthread b\nmutex m\ncond q m 0\ndie a 9\ncall a lock m\ncall a unlock m\nphase\n\
+         call b lock m\ncall b wait q\ncall b signal q\n",
+        "replies a OK dead\nreplies b EOWNERDEAD X_STATE OK\nmutex m 0000000040000002 b -\ncond q 1 -\n",
+    ),
+    // Behind the eight accesses of its lock a thread makes six in its wait, and the next one releases the mutex: before that it dies as the owner, behind it as none.
+    (
+        "thread a\nthread b\nmutex m\ncond q m 3\ndie a 15\ncall a lock m\ncall a wait q\nphase\ncall b lock m\n",
+        "replies a OK dead\nreplies b EOWNERDEAD\nmutex m 0000000040000002 b -\ncond q 3 -\n",
+    ),
+    (
+        "thread a\nthread b\nmutex m\ncond q m 3\ndie a 16\ncall a lock m\ncall a wait q\nphase\ncall b lock m\n",
+        "replies a OK dead\nreplies b OK\nmutex m 0000000000000002 b -\ncond q 3 -\n",
+    ),
+];
+
+/// The first thread waits, which lets the second one have the mutex: that lets it go on, and the first takes the mutex last.
+const SIGNALLED: &str = "thread a\nthread b\nmutex m\ncond q m 0\ncall a lock m\nphase\n\
+    call a wait q\ncall a unlock m\ncall b lock m\ncall b signal q\ncall b unlock m\n";
+
+const BROADCAST: &str = "thread a\nthread b\nmutex m\ncond q m 0\ncall a lock m\nphase\n\
+    call a wait q\ncall a unlock m\ncall b lock m\ncall b broadcast q\ncall b unlock m\n";
+
+const WAITED_TEXT: &str =
+    "replies a OK OK OK\nreplies b OK OK OK\nmutex m 0000000000000000 - -\ncond q 1 -\n";
+
+#[test]
+fn conditions_are_told(rt: HostRuntime) {
+    for (script, text) in &CONDITIONS {
+        assert!(rt; threads(&rt, *script).is(0, *text, ""));
+    }
+}
+
+#[test]
+fn waits_end(rt: HostRuntime) {
+    assert!(rt; threads(&rt, SIGNALLED).is(0, WAITED_TEXT, ""));
+    assert!(rt; threads(&rt, BROADCAST).is(0, WAITED_TEXT, ""));
+}
+
 /// Scripts that are refused, and what is told of them.
-static REFUSED: [(&str, &str); 4] = [
+static REFUSED: [(&str, &str); 5] = [
+    (
+        "thread a\nmutex m\ncond q m 0\ncall a wait m\n",
+        "rfx: line 4: fault 4: no such name\n",
+    ),
     (
         "thread a\nmutex m\nstep a 1\n",
         "rfx: line 3: fault 2: unknown word\n",

@@ -11,7 +11,7 @@ use lockword::{Reply, Tid};
 use mutex::Call;
 use protocol::Note;
 use std::alloc::{AllocError, Global};
-use texts::{MutexWord, ThreadReplies, write_replies, write_trace};
+use texts::{ConditionWord, MutexWord, ThreadReplies, write_replies, write_trace};
 
 fn tid(id: u8) -> Tid
     requires { (1 ≤ id) × (id ≤ 64) }
@@ -135,7 +135,9 @@ const REPLIES: &str = "replies a OK dead\n\
     replies c EBUSY EOWNERDEAD\n\
     mutex m 00000000c0000003 c -\n\
     mutex n 0000000100000000 - -\n\
-    mutex o fedcba9800000004 - -\n";
+    mutex o fedcba9800000004 - -\n\
+    cond p 4294967295 -\n\
+    cond q 0 -\n";
 
 /// What threads were answered.
 static THREADS: [ThreadReplies<'static>; 3] = [
@@ -172,11 +174,23 @@ static MUTEXES: [MutexWord<'static>; 3] = [
     },
 ];
 
+/// Condition variables: one whose counter is at its end, and one of which nobody has signalled.
+static CONDITIONS: [ConditionWord<'static>; 2] = [
+    ConditionWord {
+        name: "p",
+        counter: 4_294_967_295,
+    },
+    ConditionWord {
+        name: "q",
+        counter: 0,
+    },
+];
+
 /// The first room in which the replies aren't written as far as there is room.
 fn first_wrong_room_for_replies(alloc: Global) -> Option<usize> {
     for room in 0..REPLIES.len() + 2 {
         let mut out = Narrow::new(alloc, room, false);
-        let whole = write_replies(&THREADS, &MUTEXES, &mut out).is_ok();
+        let whole = write_replies(&THREADS, &MUTEXES, &CONDITIONS, &mut out).is_ok();
         if !is_filled(&out, room, whole, REPLIES.as_bytes()) {
             return Some(room);
         }

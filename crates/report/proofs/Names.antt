@@ -1,6 +1,6 @@
 -- Names, one after the other.
 use Rattle.std.proofs.Common.{◌≡◌, ℕ, zero, suc, ◌+◌, ◌<◌, length, slice_index_or, get_or, List, [], ◌∷◌, ◌++◌, map, take, Some, ap, arith, ◌∙◌, sym}
-use Rattle.std.specs.Prelude.{slice_get}
+use Rattle.std.specs.Prelude.{slice_get, option_map}
 use Rattle.std.proofs.lemmas.List.{map-append, take_more}
 
 -- so many items, and the next
@@ -20,6 +20,12 @@ pub mapped_at : {A B : Type 0} (f : A → B) (xs : List A) (i : ℕ) (x : A) →
 mapped_at f [] i x is = absurd cc
 mapped_at f (y ∷ xs) zero x is = let same : y ≡ x = cc in ap (λ z. Some (f z)) same
 mapped_at f (y ∷ xs) (suc i) x is = mapped_at f xs i x is
+
+-- what is said of an item
+pub named_at : {A B : Type 0} (f : A → B) (xs : List A) (i : ℕ) (y : B) → option_map f (slice_get xs i) ≡ Some y → slice_get (map f xs) i ≡ Some y
+named_at f [] i y is = absurd cc
+named_at f (x ∷ xs) zero y is = is
+named_at f (x ∷ xs) (suc i) y is = named_at f xs i y is
 
 -- what stands at a place
 pub at_place : {A : Type 0} (xs : List A) (i : ℕ) (x : A) → i < length xs → x ≡ slice_index_or xs i x → slice_get xs i ≡ Some x

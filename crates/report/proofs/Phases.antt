@@ -1,14 +1,15 @@
 -- Phases of real threads, thread by thread.
-use Rattle.std.proofs.Common.{◌≡◌, ◌≢◌, ◌⊎◌, inl, inr, ⊎_elim, ℕ, zero, suc, ◌+◌, ◌<◌, ◌≤◌, Some, None, List, [], ◌∷◌, ◌++◌, length, map, set, get_or, slice_get, Vec, refl, sym, ap, ◌∙◌, subst, arith, length-append, length-set, All, take, append-nil, append_assoc, Option, Bool, true, false, ◌==◌, if◌then◌else◌, Result, Ok, Err, IfOk}
-use Rattle.std.proofs.lemmas.List.{take_more, length-map, map-append}
+use Rattle.std.proofs.Common.{◌≡◌, ◌≢◌, ◌⊎◌, inl, inr, ⊎_elim, ℕ, zero, suc, ◌+◌, ◌<◌, ◌≤◌, Some, List, [], ◌∷◌, ◌++◌, length, map, set, get_or, slice_get, Vec, refl, sym, ap, ◌∙◌, subst, arith, length-append, length-set, All, take, append-nil, append_assoc, Option, Bool, true, false, ◌==◌, if◌then◌else◌, Result, Ok, Err, IfOk}
+use Rattle.std.proofs.lemmas.List.{take_more, map-append}
 use Rattle.std.proofs.lemmas.List.Concat.{flat_map-append}
 use Rattle.std.proofs.lemmas.List.Elements.{All-append, All-head, All-tail}
 use Rattle.std.proofs.lemmas.Option.{get_or_from_slice_get, slice_get_within, slice_get-get_or, same_Some}
 use Rattle.std.specs.List.{flat_map}
 use Rattle.std.specs.declared.alloc.Global.{Global}
 use Rattle.lockword.specs.declared.reply.Reply.{Reply}
-use Rattle.mutex.specs.declared.call.Call.{Call}
-use Rattle.mutex.specs.Calls.{mutex_of}
+use Rattle.keys.specs.Layouts.{Layout'}
+use Rattle.condvar.specs.declared.op.Op.{Op}
+use Rattle.condvar.specs.Ops.{is_in}
 use Rattle.ruledwords.specs.declared.pass.Live.{Live}
 use Rattle.ruledwords.specs.declared.pass.Pass.{Pass}
 use Rattle.ruledwords.specs.declared.pass.Spent.{Spent}
@@ -23,7 +24,7 @@ use Rattle.threadbench.specs.declared.job.WorkerPass.{WorkerPass}
 use Rattle.threadbench.specs.declared.job.WorkerPass.TheVariants.{Lives, Reaped}
 use Rattle.threadbench.specs.Answered.{card_in, IsWorkerOf}
 use Rattle.threadbench.specs.Each.{EachWith}
-use Rattle.threadbench.specs.Jobs.{IsJobOf, IsDone, AreDone, IsLeftOf, LivesOn, Worked}
+use Rattle.threadbench.specs.Jobs.{IsJobOf, IsDone, AreDone, LivesOn}
 use Rattle.threadbench.proofs.Living.{works_on as still_works}
 use Rattle.report.specs.declared.threads.Worker.{Worker}
 use Rattle.report.specs.Threads.{is_reaped, open_gate, ArePossible, IsRightPhase, calls_at, calls_in, calls_over, AreFirst, AreHired, AreGathered, HaveWorked, HaveMade, HaveReplies, IsCountOf, Works, WorksFrom}
@@ -136,26 +137,26 @@ as_long P [] (y ∷ ys) p = absurd p
 as_long P (x ∷ xs) [] p = absurd p
 as_long P (x ∷ xs) (y ∷ ys) p = ap suc (as_long P xs ys p.1)
 
--- its calls in a phase are on mutexes that there are
-right_calls : (m t : ℕ) (j : Ordered) → ArePossible m j.calls → All (λ c. mutex_of c < m) (calls_at t j)
-right_calls m t j all = go (j.thread == t) where
-  go : (b : Bool) → All (λ c. mutex_of c < m) (if b then j.calls.items else [])
+-- its calls in a phase are on mutexes and condition variables that there are
+right_calls : (k : Layout') (t : ℕ) (j : Ordered) → ArePossible k j.calls → All (λ c. is_in k c ≡ true) (calls_at t j)
+right_calls k t j all = go (j.thread == t) where
+  go : (b : Bool) → All (λ c. is_in k c ≡ true) (if b then j.calls.items else [])
   go true = all
-  go false = λ k d lt. absurd (omega (arith, lt))
+  go false = λ i d lt. absurd (omega (arith, lt))
 
-rights : (m t : ℕ) (jobs : List Ordered) → All (λ j. ArePossible m j.calls) jobs → All (λ c. mutex_of c < m) (flat_map (calls_at t) jobs)
-rights m t [] all = λ k d lt. absurd (omega (arith, lt))
-rights m t (j ∷ jobs) all =
-    All-append (λ c. mutex_of c < m) (calls_at t j) (flat_map (calls_at t) jobs) (right_calls m t j (All-head (λ x. ArePossible m x.calls) j jobs all)) (rights m t jobs (All-tail (λ x. ArePossible m x.calls) j jobs all))
+rights : (k : Layout') (t : ℕ) (jobs : List Ordered) → All (λ j. ArePossible k j.calls) jobs → All (λ c. is_in k c ≡ true) (flat_map (calls_at t) jobs)
+rights k t [] all = λ i d lt. absurd (omega (arith, lt))
+rights k t (j ∷ jobs) all =
+    All-append (λ c. is_in k c ≡ true) (calls_at t j) (flat_map (calls_at t) jobs) (right_calls k t j (All-head (λ x. ArePossible k x.calls) j jobs all)) (rights k t jobs (All-tail (λ x. ArePossible k x.calls) j jobs all))
 
 -- the jobs that bench and phase allow
-pub jobs_right : (w : Words) (p : Phase) (vs : List Worker) (js : List Job) → AreHired p vs js → All (λ v. IsWorkerOf w v.pass) vs → IsRightPhase (layout_of w).mutexes p → (k : ℕ) (d : Job) → k < length js → IsJobOf w (get_or js k d)
+pub jobs_right : (w : Words) (p : Phase) (vs : List Worker) (js : List Job) → AreHired p vs js → All (λ v. IsWorkerOf w v.pass) vs → IsRightPhase (layout_of w) p → (k : ℕ) (d : Job) → k < length js → IsJobOf w (get_or js k d)
 jobs_right w p vs js hired right possible k d lt =
     let many = hired.as_many in
     let mine = some_at vs k (omega arith) in
     let both = hired.each k mine.0 (get_or js k d) mine.1 (slice_get-get_or js k d lt) in (
       subst (λ (z : WorkerPass). IsWorkerOf w z) (sym both.0) (all_at (λ v. IsWorkerOf w v.pass) vs k mine.0 right mine.1),
-      subst (λ (cs : List Call). All (λ c. mutex_of c < (layout_of w).mutexes) cs) (sym both.2) (rights (layout_of w).mutexes (k + 1) p.jobs.items possible),
+      subst (λ (cs : List Op). All (λ c. is_in (layout_of w) c ≡ true) cs) (sym both.2) (rights (layout_of w) (k + 1) p.jobs.items possible),
     )
 
 -- a thread in a phase
@@ -196,7 +197,7 @@ worked w p vs vs' js ks rs rs' hired before done gathered same = record {
       (worked_at w p vs vs' js ks rs rs' hired before done gathered i u.0 (get_or vs' i d) r.0 r'.0 u.1 (slice_get-get_or vs' i d lt) r.1 r'.1).0
 
 over_more : (t : ℕ) (ps : List Phase) (p : Phase) → calls_over t (ps ++ p ∷ []) ≡ calls_over t ps ++ calls_in t p
-over_more t ps p = flat_map-append (calls_in t) ps (p ∷ []) ∙ ap (λ (cs : List Call). calls_over t ps ++ cs) (append-nil (calls_in t p))
+over_more t ps p = flat_map-append (calls_in t) ps (p ∷ []) ∙ ap (λ (cs : List Op). calls_over t ps ++ cs) (append-nil (calls_in t p))
 
 a_worker : (w : Words) (pass : WorkerPass) → LivesOn w pass → IsWorkerOf w pass
 a_worker w (Lives a) lives = lives
@@ -226,7 +227,7 @@ more_made w ps p firsts vs vs' rs rs' made worked = record {
       let q = some_at vs i (omega arith) in
       let r = some_at rs i (omega arith) in
       let more = worked.each i q.0 v r.0 r' q.1 is_v r.1 is_r' in
-      subst (λ (cs : List Call). Works w cs u r'.items v) (sym (over_more (i + 1) ps p)) (works_on w (calls_over (i + 1) ps) (calls_in (i + 1) p) u q.0 v r.0.items more.0 r'.items (made.each i u q.0 r.0 is_u q.1 r.1) more.1 more.2)
+      subst (λ (cs : List Op). Works w cs u r'.items v) (sym (over_more (i + 1) ps p)) (works_on w (calls_over (i + 1) ps) (calls_in (i + 1) p) u q.0 v r.0.items more.0 r'.items (made.each i u q.0 r.0 is_u q.1 r.1) more.1 more.2)
 
 -- one phase more
 pub made_next : (w : Words) (ps : List Phase) (i : ℕ) (p : Phase) (firsts vs vs' : List Worker) (rs rs' : List (Vec Reply Global)) → i < length ps → p ≡ get_or ps i p → HaveMade w (take i ps) firsts vs rs → HaveWorked w p vs vs' rs rs' → HaveMade w (take (i + 1) ps) firsts vs' rs'
@@ -243,7 +244,7 @@ made_still w ps i p firsts vs rs lt at made none = record {
   as_many = made.as_many;
   as_long = made.as_long;
   right = made.right;
-  each = λ t u v r is_u is_v is_r. subst (λ (cs : List Call). Works w cs u r.items v) (same (t + 1)) (made.each t u v r is_u is_v is_r);
+  each = λ t u v r is_u is_v is_r. subst (λ (cs : List Op). Works w cs u r.items v) (same (t + 1)) (made.each t u v r is_u is_v is_r);
 } where
   same : (t : ℕ) → calls_over t (take i ps) ≡ calls_over t (take (i + 1) ps)
   same t =
@@ -268,9 +269,9 @@ cards_more ps ps' p v left rest all more same first so_far =
 pub its_end : (vs : List Worker) (died : List Bool) (i : ℕ) (v : Worker) (d : Bool) → died ≡ map (λ v. is_reaped v.pass) vs → slice_get vs i ≡ Some v → slice_get died i ≡ Some d → is_reaped v.pass ≡ d
 its_end vs died i v d same is_v is_d = same_Some _ _ (sym (mapped_at (λ v. is_reaped v.pass) vs i v is_v) ∙ ap (λ (ds : List Bool). slice_get ds i) (sym same) ∙ is_d)
 
-count_from : (w : Words) (cs : List Call) (die : Option ℕ) (first second : WorkerPass) (left : Option ℕ) (rs : List Reply) → LivesOn w first → WorksFrom w cs die first rs (record { pass = second; die = left }) → IsCountOf (is_reaped second) (length rs) (length cs)
+count_from : (w : Words) (cs : List Op) (die : Option ℕ) (first second : WorkerPass) (left : Option ℕ) (rs : List Reply) → LivesOn w first → WorksFrom w cs die first rs (record { pass = second; die = left }) → IsCountOf (is_reaped second) (length rs) (length cs)
 count_from w cs die (Lives a) (Lives b) left rs lives works = as_many w (card a) cs rs b works.0
-count_from w cs die (Lives a) (Reaped d) left rs lives works = let last = works.0.stops.2 in slice_get_within cs (length rs) last.0 last.1
+count_from w cs die (Lives a) (Reaped d) left rs lives works = let last = works.0.stops.1 in slice_get_within cs (length rs) last.0 last.1
 count_from w cs die (Reaped a) second left rs lives works = absurd lives
 
 -- calls that were made have their replies

@@ -1,15 +1,19 @@
--- The calls of a script's phases are on its mutexes.
-use Rattle.std.proofs.Common.{◌≡◌, ℕ, zero, suc, ◌<◌, ◌==◌, Bool, true, false, List, [], ◌∷◌, ◌++◌, length, map, All, slice_index_or, sym, subst, arith}
+-- The calls of a script's phases are on its mutexes and condition variables.
+use Rattle.std.proofs.Common.{◌≡◌, ℕ, zero, suc, ◌<◌, ◌==◌, Bool, true, false, List, [], ◌∷◌, ◌++◌, length, map, All, slice_index_or, refl, sym, subst, arith}
 use Rattle.std.specs.Prelude.{if◌then◌else◌}
 use Rattle.std.specs.List.{slice_split, onto_first}
-use Rattle.mutex.specs.declared.call.Call.{Call}
-use Rattle.mutex.specs.Calls.{mutex_of}
-use Rattle.protocol.specs.declared.event.Op.TheVariants.{OnMutex, OnCondition}
+use Rattle.std.proofs.lemmas.Bool.Decides.{nat_tests}
+use Rattle.keys.specs.Layouts.{Layout'}
+use Rattle.condvar.specs.declared.op.Op.{Op}
+use Rattle.condvar.specs.declared.op.Op.TheVariants.{OnMutex, OnCondition}
+use Rattle.condvar.specs.Ops.{is_in}
 use Rattle.script.specs.declared.command.Action.{Action}
 use Rattle.script.specs.declared.command.Action.TheVariants as action
 use Rattle.script.specs.declared.command.Command.{Command}
 use Rattle.script.specs.declared.workload.Phase.{Phase}
-use Rattle.script.specs.Scope.{Scope, IsPossible, IsWellFormed}
+use Rattle.script.specs.Scope.{Scope, Names, IsPossible, IsWellFormed}
+use Rattle.script.specs.Playing.{layout_of}
+use Rattle.script.proofs.Names.{length-map_of}
 use Rattle.script.specs.Jobs.{Job', ends_phase, call_by, calls_by, job_of, jobs_up_to, jobs_of, job_seen, jobs_seen}
 use Rattle.report.specs.Threads.{ArePossible, AreRightPhases}
 
@@ -34,48 +38,53 @@ unfolding Each
 each-append P [] ys a b = b
 each-append P (x ∷ xs) ys a b = (a.0, each-append P xs ys a.1 b)
 
--- a call on the first m mutexes
-abbrev IsOn : ℕ → Call → Type 0
-IsOn m c = mutex_of c < m
+-- a call on what the layout has
+abbrev IsOn : Layout' → Op → Type 0
+IsOn k c = is_in k c ≡ true
 
 abbrev IsFine : ℕ → ℕ → ℕ → ℕ → Command → Type 0
-IsFine p n m k c = IsPossible p n m k c.action
+IsFine p n m d c = IsPossible p n m d c.action
 
-by_action : (p n m d t : ℕ) (a : Action) → IsPossible p n m d a → Each (IsOn m) (call_by t a)
+-- what a script names is in its layout
+named : (k : Layout') (m d : ℕ) (c : Op) → k.mutexes ≡ m → length k.conditions ≡ d → Names m d c → IsOn k c
+named k m d (OnMutex c) mutexes conditions low = grind (arith, nat_tests)
+named k m d (OnCondition c) mutexes conditions low = grind (arith, nat_tests)
+
+by_action : (k : Layout') (p n m d t : ℕ) (a : Action) → k.mutexes ≡ m → length k.conditions ≡ d → IsPossible p n m d a → Each (IsOn k) (call_by t a)
 unfolding Each
-by_action p n m d t (action.Begin u k) fine = tt
-by_action p n m d t (action.Step u k) fine = tt
-by_action p n m d t (action.Kill u) fine = tt
-by_action p n m d t (action.KillAll q) fine = tt
-by_action p n m d t (action.Go u) fine = tt
-by_action p n m d t (action.Die u k) fine = tt
-by_action p n m d t (action.Locks u j k) fine = tt
-by_action p n m d t action.Phase fine = tt
-by_action p n m d t (action.Call u (OnCondition k)) fine = tt
-by_action p n m d t (action.Call u (OnMutex k)) fine = go (u == t)
+by_action k p n m d t (action.Begin u o) mutexes conditions fine = tt
+by_action k p n m d t (action.Step u o) mutexes conditions fine = tt
+by_action k p n m d t (action.Kill u) mutexes conditions fine = tt
+by_action k p n m d t (action.KillAll q) mutexes conditions fine = tt
+by_action k p n m d t (action.Go u) mutexes conditions fine = tt
+by_action k p n m d t (action.Die u o) mutexes conditions fine = tt
+by_action k p n m d t (action.Locks u j o) mutexes conditions fine = tt
+by_action k p n m d t action.Phase mutexes conditions fine = tt
+by_action k p n m d t (action.Call u c) mutexes conditions fine = go (u == t)
   where
-    go : (b : Bool) → Each (IsOn m) (if b then k ∷ [] else [])
-    go true = (fine.2, tt)
+    go : (b : Bool) → Each (IsOn k) (if b then c ∷ [] else [])
+    go true = (named k m d c mutexes conditions fine.2, tt)
     go false = tt
 
-by_thread : (p n m d t : ℕ) (cs : List Command) → Each (IsFine p n m d) cs → Each (IsOn m) (calls_by t cs)
+by_thread : (k : Layout') (p n m d t : ℕ) (cs : List Command) → k.mutexes ≡ m → length k.conditions ≡ d → Each (IsFine p n m d) cs → Each (IsOn k) (calls_by t cs)
 unfolding Each
-by_thread p n m d t [] fine = tt
-by_thread p n m d t (c ∷ cs) fine = each-append (IsOn m) (call_by t c.action) (calls_by t cs) (by_action p n m d t c.action fine.0) (by_thread p n m d t cs fine.1)
+by_thread k p n m d t [] mutexes conditions fine = tt
+by_thread k p n m d t (c ∷ cs) mutexes conditions fine = each-append (IsOn k) (call_by t c.action) (calls_by t cs) (by_action k p n m d t c.action mutexes conditions fine.0) (by_thread k p n m d t cs mutexes conditions fine.1)
 
 -- a job's calls
-abbrev IsJobOn : ℕ → Job' → Type 0
-IsJobOn m j = Each (IsOn m) j.calls
+abbrev IsJobOn : Layout' → Job' → Type 0
+IsJobOn k j = Each (IsOn k) j.calls
 
-one_job : (m t : ℕ) (calls : List Call) → Each (IsOn m) calls → Each (IsJobOn m) (job_of t calls)
+one_job : (k : Layout') (t : ℕ) (calls : List Op) → Each (IsOn k) calls → Each (IsJobOn k) (job_of t calls)
 unfolding Each
-one_job m t [] fine = tt
-one_job m t (c ∷ cs) fine = (fine, tt)
+one_job k t [] fine = tt
+one_job k t (c ∷ cs) fine = (fine, tt)
 
-phase_jobs : (p n m d k : ℕ) (cs : List Command) → Each (IsFine p n m d) cs → Each (IsJobOn m) (jobs_up_to k cs)
+phase_jobs : (k : Layout') (p n m d j : ℕ) (cs : List Command) → k.mutexes ≡ m → length k.conditions ≡ d → Each (IsFine p n m d) cs → Each (IsJobOn k) (jobs_up_to j cs)
 unfolding Each
-phase_jobs p n m d zero cs fine = tt
-phase_jobs p n m d (suc k) cs fine = each-append (IsJobOn m) (jobs_up_to k cs) (job_of (suc k) (calls_by (suc k) cs)) (phase_jobs p n m d k cs fine) (one_job m (suc k) (calls_by (suc k) cs) (by_thread p n m d (suc k) cs fine))
+phase_jobs k p n m d zero cs mutexes conditions fine = tt
+phase_jobs k p n m d (suc j) cs mutexes conditions fine =
+    each-append (IsJobOn k) (jobs_up_to j cs) (job_of (suc j) (calls_by (suc j) cs)) (phase_jobs k p n m d j cs mutexes conditions fine) (one_job k (suc j) (calls_by (suc j) cs) (by_thread k p n m d (suc j) cs mutexes conditions fine))
 
 -- each part of a list
 first_too : {A : Type 0} (P : A → Type 0) (x : A) (parts : List (List A)) → P x → Each (Each P) parts → Each (Each P) (onto_first x parts)
@@ -102,15 +111,16 @@ unfolding Each
 each-unmap P Q f go [] each = tt
 each-unmap P Q f go (x ∷ xs) each = (go x each.0, each-unmap P Q f go xs each.1)
 
-pub right_phases : (s : Scope) (phases : List Phase) → IsWellFormed s → map jobs_seen phases ≡ jobs_of s → AreRightPhases (length s.mutexes) phases
+pub right_phases : (s : Scope) (phases : List Phase) → IsWellFormed s → map jobs_seen phases ≡ jobs_of s → AreRightPhases (layout_of s) phases
 right_phases s phases whole is =
     let p = length s.processes in
     let n = length s.threads in
     let m = length s.mutexes in
     let d = length s.conditions in
+    let k = layout_of s in
     let fine : Each (IsFine p n m d) s.commands = to_each (IsFine p n m d) s.commands whole.within.commands_possible in
-    let asked : Each (Each (IsJobOn m)) (jobs_of s) = each-map (Each (IsFine p n m d)) (Each (IsJobOn m)) (jobs_up_to n) (λ cs. phase_jobs p n m d n cs) (slice_split ends_phase s.commands) (parts_too (IsFine p n m d) ends_phase s.commands fine) in
-    let seen : Each (Each (IsJobOn m)) (map jobs_seen phases) = subst (Each (Each (IsJobOn m))) (sym is) asked in
-    from_each (λ p. All (λ j. ArePossible m j.calls) p.jobs.items) phases
-    (each-unmap (λ p. All (λ j. ArePossible m j.calls) p.jobs.items) (Each (IsJobOn m)) jobs_seen
-    (λ p jobs. from_each (λ j. ArePossible m j.calls) p.jobs.items (each-unmap (λ j. ArePossible m j.calls) (IsJobOn m) job_seen (λ j calls. from_each (IsOn m) j.calls.items calls) p.jobs.items jobs)) phases seen)
+    let asked : Each (Each (IsJobOn k)) (jobs_of s) = each-map (Each (IsFine p n m d)) (Each (IsJobOn k)) (jobs_up_to n) (λ cs. phase_jobs k p n m d n cs refl (length-map_of (λ c. c.1.mutex) s.conditions)) (slice_split ends_phase s.commands) (parts_too (IsFine p n m d) ends_phase s.commands fine) in
+    let seen : Each (Each (IsJobOn k)) (map jobs_seen phases) = subst (Each (Each (IsJobOn k))) (sym is) asked in
+    from_each (λ p. All (λ j. ArePossible k j.calls) p.jobs.items) phases
+    (each-unmap (λ p. All (λ j. ArePossible k j.calls) p.jobs.items) (Each (IsJobOn k)) jobs_seen
+    (λ p jobs. from_each (λ j. ArePossible k j.calls) p.jobs.items (each-unmap (λ j. ArePossible k j.calls) (IsJobOn k) job_seen (λ j calls. from_each (IsOn k) j.calls.items calls) p.jobs.items jobs)) phases seen)

@@ -87,17 +87,17 @@ tabled_front old new bytes s t m reads p a = wrote_front table old new bytes s (
 
 -- what was told of a script's threads is what it means
 pub told : (old new : Option (List ℕ)) (bytes : List ℕ) (s : Scope) (a : Answers) → script_read Threads bytes ≡ Ok s → Answer s a → Tells old new s a → Written replies old new bytes
-told old new bytes s a reads answer tells = wrote replies old new bytes s (replies_text tells.0 tells.1) reads (a, answer, tells.0, tells.1, tells.2, refl) tells.3
+told old new bytes s a reads answer tells = wrote replies old new bytes s (replies_text tells.0 tells.1 tells.2) reads (a, answer, tells.0, tells.1, tells.2, tells.3, refl) tells.4
 
 pub told_front : (old new : Option (List ℕ)) (bytes : List ℕ) (s : Scope) (a : Answers) → script_read Threads bytes ≡ Ok s → Answer s a → TellsFront old new s a → WrittenFront replies old new bytes
-told_front old new bytes s a reads answer front = wrote_front replies old new bytes s (replies_text front.0 front.1) reads (a, answer, front.0, front.1, front.2, refl) front.3
+told_front old new bytes s a reads answer front = wrote_front replies old new bytes s (replies_text front.0 front.1 front.2) reads (a, answer, front.0, front.1, front.2, front.3, refl) front.4
 
 -- what real threads were answered is an answer to the script
-pub answered : (s : Scope) (a : Answers) (phases : List Phase) (dies : List (Option ℕ)) → map jobs_seen phases ≡ jobs_of s → dies ≡ dies_of s → HaveAnswered (layout_of s) (counters_of s) phases dies a.replies.items a.died.items a.cells.items → Answer s a
+pub answered : (s : Scope) (a : Answers) (phases : List Phase) (dies : List (Option ℕ)) → map jobs_seen phases ≡ jobs_of s → dies ≡ dies_of s → HaveAnswered (layout_of s) (counters_of s) phases dies a.replies.items a.died.items a.cells.items a.counters.items → Answer s a
 answered s a phases dies asked same had = record {
   phases = phases;
   asked = asked;
-  answered = subst (λ (ns : List (Option ℕ)). HaveAnswered (layout_of s) (counters_of s) phases ns a.replies.items a.died.items a.cells.items) same had;
+  answered = subst (λ (ns : List (Option ℕ)). HaveAnswered (layout_of s) (counters_of s) phases ns a.replies.items a.died.items a.cells.items a.counters.items) same had;
 }
 
 pub as_many_dies : (s : Scope) → length (dies_of s) ≡ length s.threads

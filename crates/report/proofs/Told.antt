@@ -1,93 +1,106 @@
 -- What threads were told, and which of them died, stands in one history.
-use Rattle.std.proofs.Common.{◌≡◌, ◌≢◌, ◌⊎◌, inl, inr, ⊎_elim, ℕ, zero, suc, ◌+◌, ◌<◌, Bool, true, false, Option, Some, List, [], ◌∷◌, ◌++◌, length, map, take, get_or, slice_get, Vec, refl, sym, ap, ◌∙◌, subst, arith, append_assoc, append-nil}
-use Rattle.std.specs.Prelude.{nat_le, MatchBool}
+use Rattle.std.proofs.Common.{◌≡◌, ◌≢◌, ◌⊎◌, inl, inr, ⊎_elim, ℕ, ◌+◌, ◌<◌, Bool, true, false, Option, Some, List, [], ◌∷◌, ◌++◌, length, map, take, get_or, slice_get, Vec, refl, sym, ap, ◌∙◌, subst, arith, append_assoc, append-nil}
+use Rattle.std.specs.Prelude.{nat_le, MatchBool, ◌==◌, if◌then◌else◌}
 use Rattle.std.proofs.lemmas.Option.{slice_get_within}
 use mathlib.Core.Logic.{dite}
 use native.Mathlib.Decide.{ℕ_discrete}
 use Rattle.std.specs.declared.alloc.Global.{Global}
 use Rattle.lockword.specs.Cells.{fields_of}
 use Rattle.lockword.specs.declared.reply.Reply.{Reply}
-use Rattle.lockword.specs.declared.reply.Reply.TheVariants.{XHELD}
+use Rattle.lockword.specs.declared.reply.Reply.TheVariants.{OK, XHELD}
 use Rattle.keys.specs.declared.point.Point.{Point}
 use Rattle.keys.specs.declared.point.Operation.{Operation}
-use Rattle.keys.specs.Layouts.{Layout', cell_place}
+use Rattle.keys.specs.declared.point.Operation.TheVariants as operation
+use Rattle.keys.specs.Layouts.{Layout', cell_place, counter_place}
 use Rattle.keys.specs.Objects.{acquires, object_of}
-use Rattle.facts.specs.Lives.{Act, Beginning}
-use Rattle.mutex.specs.declared.call.Call.{Call}
+use Rattle.facts.specs.Lives.{Act, Beginning, Complete}
+use Rattle.condvar.specs.declared.op.Op.{Op}
+use Rattle.condvar.specs.declared.op.Op.TheVariants.{OnMutex, OnCondition}
+use Rattle.condvar.specs.declared.call.CondCall.TheVariants.{Wait, Signal, Broadcast}
+use Rattle.condvar.specs.Ops.{mutex_of, operation_of}
 use Rattle.mutex.specs.declared.call.Call.TheVariants.{Lock, TryLock, Unlock, Consistent}
-use Rattle.mutex.specs.Calls.{mutex_of, operation_of}
 use Rattle.ruledwords.specs.declared.card.Card.{Card}
 use Rattle.ruledwords.specs.declared.pass.Words.{Words}
 use Rattle.ruledwords.specs.declared.pass.Live.{Live}
 use Rattle.ruledwords.specs.declared.pass.Pass.{Pass}
 use Rattle.ruledwords.specs.Cards.{at}
+use Rattle.ruledwords.specs.ConditionStands.{CondEnded}
+use Rattle.ruledwords.specs.Counts.{cell_at, counter_in, total_of, Counted}
 use Rattle.ruledwords.specs.Deaths.{deaths, IsReaped}
 use Rattle.ruledwords.specs.OwnWords.{owns_in}
-use Rattle.ruledwords.specs.Passes.{card, layout_of, last_words}
+use Rattle.ruledwords.specs.Passes.{card, layout_of, last_words, presets_of}
 use Rattle.ruledwords.specs.Rules.{first_card, IsAmong}
 use Rattle.ruledwords.specs.Seen.{by, held, held_after, points_of, Called, Died, Leaves}
 use Rattle.script.specs.declared.workload.Phase.{Phase}
 use Rattle.threadbench.specs.declared.job.WorkerPass.{WorkerPass}
 use Rattle.threadbench.specs.declared.job.WorkerPass.TheVariants.{Lives, Reaped}
 use Rattle.threadbench.specs.Answered.{card_in, Answered, DiesIn, Replied}
+use Rattle.threadbench.specs.Conditions.{TookAgain}
 use Rattle.threadbench.specs.Jobs.{WasLost, Worked}
 use Rattle.report.specs.declared.threads.Worker.{Worker}
-use Rattle.report.specs.Histories.{AreTold, ArePointsOf, StandTogether}
+use Rattle.report.specs.Histories.{AreTold, ArePointsOf, CountUp, StandTogether}
 use Rattle.report.specs.Threads.{calls_over, is_reaped, open_gate, AreFirst, HaveMade, HasEnded, WorksFrom}
 use Rattle.report.proofs.Names.{mapped_at}
 use Rattle.report.proofs.Phases.{some_at, all_at, its_end}
 use Rattle.report.proofs.Working.{all_answered}
 
--- what a call adds to the points that its own thread made at p: nothing, or its point
+-- what a call adds to the points that its own thread made at p: nothing, or all that it has
 abbrev Adds : Card → ℕ → ℕ → Operation → Reply → Card → Type 0
 Adds c place p op r d =
     (d.thread ≡ c.thread) × (((place ≢ p) ⊎ ((acquires op ≡ true) × (r ≡ XHELD))) × (by c.thread (at d.seen p) ≡ by c.thread (at c.seen p))
-    ⊎ (place ≡ p) × (by c.thread (at d.seen p) ≡ by c.thread (at c.seen p) ++ record { thread = c.thread; at = p; operation = op; reply = r } ∷ []))
+    ⊎ (place ≡ p) × (acts : List Act) × Complete op acts r × (by c.thread (at d.seen p) ≡ by c.thread (at c.seen p) ++ points_of c.thread p acts))
 
-called_adds : (c d : Card) (place p : ℕ) (op : Operation) (r : Reply) → Called c place ((op, r) ∷ []) d → Adds c place p op r d
-called_adds c d place p op r called = let sees = called.saw in (
+called_adds : (c d : Card) (place p : ℕ) (op : Operation) (r : Reply) (acts : List Act) → Complete op acts r → Called c place acts d → Adds c place p op r d
+called_adds c d place p op r acts complete called = let sees = called.saw in (
   sees.thread,
   dite (ℕ_discrete p place)
-      (λ here. inr (sym here, subst (λ (z : ℕ). by c.thread (at d.seen z) ≡ by c.thread (at c.seen z) ++ record { thread = c.thread; at = z; operation = op; reply = r } ∷ []) (sym here) sees.own))
+      (λ here. inr (sym here, acts, complete, subst (λ (z : ℕ). by c.thread (at d.seen z) ≡ by c.thread (at c.seen z) ++ points_of c.thread z acts) (sym here) sees.own))
       (λ other. inl (inl (λ e. other (sym e)), ap (by c.thread) (sees.elsewhere p other))),
 )
 
 held_adds : (c d : Card) (place p : ℕ) (op : Operation) (r : Reply) → acquires op ≡ true → r ≡ XHELD → d ≡ c → Adds c place p op r d
 held_adds c d place p op r takes refused same = (ap (λ (z : Card). z.thread) same, inl (inr (takes, refused), ap (λ (z : Card). by c.thread (at z.seen p)) same))
 
-either_adds : (b : Bool) (c d : Card) (place p : ℕ) (op : Operation) (r : Reply) (P : Type 0) → acquires op ≡ true → (P → Called c place ((op, r) ∷ []) d) → MatchBool b ((r ≡ XHELD) × (d ≡ c)) P → Adds c place p op r d
-either_adds true c d place p op r P takes calls m = held_adds c d place p op r takes m.0 m.1
-either_adds false c d place p op r P takes calls m = called_adds c d place p op r (calls m)
+either_adds : (b : Bool) (c d : Card) (place p : ℕ) (op : Operation) (r : Reply) (P : Type 0) → acquires op ≡ true → Complete op ((op, r) ∷ []) r → (P → Called c place ((op, r) ∷ []) d) → MatchBool b ((r ≡ XHELD) × (d ≡ c)) P → Adds c place p op r d
+either_adds true c d place p op r P takes complete calls m = held_adds c d place p op r takes m.0 m.1
+either_adds false c d place p op r P takes complete calls m = called_adds c d place p op r ((op, r) ∷ []) complete (calls m)
 
-replied_adds : (k : Layout') (a : Card) (call : Call) (r : Reply) (b : Card) (p : ℕ) → Replied k a call r b → Adds a (cell_place k (mutex_of call)) p (operation_of call) r b
-replied_adds k a (Lock m) r b p t = either_adds (nat_le 2048 (held a)) a b (cell_place k m) p _ r _ refl (λ c. c) t
-replied_adds k a (TryLock m) r b p t = either_adds (nat_le 2048 (held a)) a b (cell_place k m) p _ r _ refl (λ c. c) t.0
-replied_adds k a (Unlock m) r b p t = called_adds a b (cell_place k m) p _ r t
-replied_adds k a (Consistent m) r b p t = called_adds a b (cell_place k m) p _ r t
+replied_adds : (k : Layout') (a : Card) (call : Op) (r : Reply) (b : Card) (p : ℕ) → Replied k a call r b → Adds a (cell_place k (mutex_of k call)) p (operation_of call) r b
+replied_adds k a (OnMutex (Lock m)) r b p t = either_adds (nat_le 2048 (held a)) a b (cell_place k m) p _ r _ refl refl (λ c. c) t
+replied_adds k a (OnMutex (TryLock m)) r b p t = either_adds (nat_le 2048 (held a)) a b (cell_place k m) p _ r _ refl refl (λ c. c) t.0
+replied_adds k a (OnMutex (Unlock m)) r b p t = called_adds a b (cell_place k m) p operation.Unlock r ((operation.Unlock, r) ∷ []) refl t
+replied_adds k a (OnMutex (Consistent m)) r b p t = called_adds a b (cell_place k m) p operation.Consistent r ((operation.Consistent, r) ∷ []) refl t
+replied_adds k a (OnCondition (Signal q)) r b p t = called_adds a b (cell_at k q) p operation.Signal r ((operation.Signal, r) ∷ []) refl t.called
+replied_adds k a (OnCondition (Broadcast q)) r b p t = called_adds a b (cell_at k q) p operation.Broadcast r ((operation.Broadcast, r) ∷ []) refl t.called
+replied_adds k a (OnCondition (Wait q)) r b p t = ⊎_elim
+    (λ (refused : CondEnded k q operation.Wait r a b). called_adds a b (cell_at k q) p operation.Wait r ((operation.Wait, r) ∷ []) refl refused.called)
+    (λ (took : TookAgain k a q r b). called_adds a b (cell_at k q) p operation.Wait r ((operation.Unlock, OK) ∷ (operation.Lock, r) ∷ []) (refl, refl) took.called)
+    t
 
 -- what calls add
-abbrev pub HaveAdded : ℕ → Layout' → ℕ → List Call → List Reply → Card → Card → Type 0
-HaveAdded t k m cs rs c d = (d.thread ≡ t) × ((xs : List Point) × (by t (at d.seen (cell_place k m)) ≡ by t (at c.seen (cell_place k m)) ++ xs) × AreTold t m (cell_place k m) cs rs xs)
+abbrev pub HaveAdded : ℕ → Layout' → ℕ → List Op → List Reply → Card → Card → Type 0
+HaveAdded t k m cs rs c d = (d.thread ≡ t) × ((xs : List Point) × (by t (at d.seen (cell_place k m)) ≡ by t (at c.seen (cell_place k m)) ++ xs) × AreTold k t m cs rs xs)
 
-first_added : (t : ℕ) (k : Layout') (m : ℕ) (call : Call) (cs : List Call) (r : Reply) (rs : List Reply) (c d e : Card) → c.thread ≡ t → Adds c (cell_place k (mutex_of call)) (cell_place k m) (operation_of call) r d → HaveAdded t k m cs rs d e → HaveAdded t k m (call ∷ cs) (r ∷ rs) c e
+first_added : (t : ℕ) (k : Layout') (m : ℕ) (call : Op) (cs : List Op) (r : Reply) (rs : List Reply) (c d e : Card) → c.thread ≡ t → Adds c (cell_place k (mutex_of k call)) (cell_place k m) (operation_of call) r d → HaveAdded t k m cs rs d e → HaveAdded t k m (call ∷ cs) (r ∷ rs) c e
 first_added t k m call cs r rs c d e mine adds rest =
     let p : ℕ = cell_place k m in
-    let there : ℕ = cell_place k (mutex_of call) in
+    let there : ℕ = cell_place k (mutex_of k call) in
+    let op : Operation = operation_of call in
     let xs = rest.1.0 in (
       rest.0,
       ⊎_elim
-          (λ (no : ((there ≢ p) ⊎ ((acquires (operation_of call) ≡ true) × (r ≡ XHELD))) × (by c.thread (at d.seen p) ≡ by c.thread (at c.seen p))).
-          (xs, rest.1.1 ∙ ap (λ l. l ++ xs) (subst (λ (z : ℕ). by z (at d.seen p) ≡ by z (at c.seen p)) mine no.1), inl (⊎_elim (λ (apart : there ≢ p). inl (λ same. apart (ap (cell_place k) same))) (λ (x : (acquires (operation_of call) ≡ true) × (r ≡ XHELD)). inr x) no.0, rest.1.2)))
-          (λ (yes : (there ≡ p) × (by c.thread (at d.seen p) ≡ by c.thread (at c.seen p) ++ record { thread = c.thread; at = p; operation = operation_of call; reply = r } ∷ [])).
-          let point : Point = record { thread = t; at = p; operation = operation_of call; reply = r } in (
-            point ∷ xs,
-            rest.1.1 ∙ ap (λ l. l ++ xs) (subst (λ (z : ℕ). by z (at d.seen p) ≡ by z (at c.seen p) ++ record { thread = z; at = p; operation = operation_of call; reply = r } ∷ []) mine yes.1) ∙ append_assoc (by t (at c.seen p)) (point ∷ []) xs,
-            inr ((let e = yes.0 in omega arith), xs, refl, rest.1.2),
+          (λ (no : ((there ≢ p) ⊎ ((acquires op ≡ true) × (r ≡ XHELD))) × (by c.thread (at d.seen p) ≡ by c.thread (at c.seen p))).
+          (xs, rest.1.1 ∙ ap (λ l. l ++ xs) (subst (λ (z : ℕ). by z (at d.seen p) ≡ by z (at c.seen p)) mine no.1), inl (⊎_elim (λ (apart : there ≢ p). inl (λ same. apart (ap (cell_place k) same))) (λ (x : (acquires op ≡ true) × (r ≡ XHELD)). inr x) no.0, rest.1.2)))
+          (λ (yes : (there ≡ p) × (acts : List Act) × Complete op acts r × (by c.thread (at d.seen p) ≡ by c.thread (at c.seen p) ++ points_of c.thread p acts)).
+          let points : List Point = points_of t p yes.1 in (
+            points ++ xs,
+            rest.1.1 ∙ ap (λ l. l ++ xs) (subst (λ (z : ℕ). by z (at d.seen p) ≡ by z (at c.seen p) ++ points_of z p yes.1) mine yes.3) ∙ append_assoc (by t (at c.seen p)) points xs,
+            inr ((let e = yes.0 in omega arith), yes.1, yes.2, xs, refl, rest.1.2),
           ))
           adds.1,
     )
 
-pub added : (k : Layout') (t m : ℕ) (a : Card) (cs : List Call) (rs : List Reply) (b : Card) → a.thread ≡ t → Answered k a cs rs b → HaveAdded t k m cs rs a b
+pub added : (k : Layout') (t m : ℕ) (a : Card) (cs : List Op) (rs : List Reply) (b : Card) → a.thread ≡ t → Answered k a cs rs b → HaveAdded t k m cs rs a b
 added k t m a [] [] b mine same = (ap (λ (z : Card). z.thread) (sym same) ∙ mine, ([], ap (λ (z : Card). by t (at z.seen (cell_place k m))) (sym same) ∙ sym (append-nil _), refl))
 added k t m a [] (r ∷ rs) b mine answered = absurd answered
 added k t m a (c ∷ cs) [] b mine answered = absurd answered
@@ -98,27 +111,28 @@ added k t m a (c ∷ cs) (r ∷ rs) b mine answered =
 -- ---- a thread that died
 
 -- a call in which a thread dies adds some of its first points, or all, where it is on the mutex
-died_of : (k : Layout') (c : Card) (call : Call) (d : Card) → DiesIn k c call d → Died c (cell_place k (mutex_of call)) (operation_of call) d
-died_of k c (Lock m) d dies = dies.1
-died_of k c (TryLock m) d dies = dies.1
-died_of k c (Unlock m) d dies = dies
-died_of k c (Consistent m) d dies = dies
+died_of : (k : Layout') (c : Card) (call : Op) (d : Card) → DiesIn k c call d → Died c (cell_place k (mutex_of k call)) (operation_of call) d
+died_of k c (OnMutex (Lock m)) d dies = dies.1
+died_of k c (OnMutex (TryLock m)) d dies = dies.1
+died_of k c (OnMutex (Unlock m)) d dies = dies
+died_of k c (OnMutex (Consistent m)) d dies = dies
+died_of k c (OnCondition call) d dies = dies
 
-record AddsSome (k : Layout') (m : ℕ) (call : Call) (c d : Card) : Type 0 where
+record AddsSome (k : Layout') (m : ℕ) (call : Op) (c d : Card) : Type 0 where
   acts : List Act
-  begun : mutex_of call ≡ m → Beginning (operation_of call) acts
-  elsewhere : mutex_of call ≢ m → acts ≡ []
+  begun : mutex_of k call ≡ m → Beginning (operation_of call) acts
+  elsewhere : mutex_of k call ≢ m → acts ≡ []
   own : by c.thread (at d.seen (cell_place k m)) ≡ by c.thread (at c.seen (cell_place k m)) ++ points_of c.thread (cell_place k m) acts
 
-some_added : (k : Layout') (m : ℕ) (call : Call) (c d : Card) → Died c (cell_place k (mutex_of call)) (operation_of call) d → AddsSome k m call c d
-some_added k m call c d died = dite (ℕ_discrete (mutex_of call) m)
-    (λ (here : mutex_of call ≡ m). record {
+some_added : (k : Layout') (m : ℕ) (call : Op) (c d : Card) → Died c (cell_place k (mutex_of k call)) (operation_of call) d → AddsSome k m call c d
+some_added k m call c d died = dite (ℕ_discrete (mutex_of k call) m)
+    (λ (here : mutex_of k call ≡ m). record {
       acts = died.acts;
       begun = λ same. died.beginning;
       elsewhere = λ other. absurd (other here);
       own = subst (λ (n : ℕ). by c.thread (at d.seen (cell_place k n)) ≡ by c.thread (at c.seen (cell_place k n)) ++ points_of c.thread (cell_place k n) died.acts) here died.saw.own;
     })
-    (λ (other : mutex_of call ≢ m). record {
+    (λ (other : mutex_of k call ≢ m). record {
       acts = [];
       begun = λ same. absurd (other same);
       elsewhere = λ apart. refl;
@@ -133,7 +147,7 @@ by_walk k m dead d low reaped = go (owns_in k dead m) refl where
   go false owns = ap (by dead.thread) (reaped.stays m low owns) ∙ sym (append-nil (by dead.thread (at dead.seen (cell_place k m)))) ∙ ap (λ (b : Bool). by dead.thread (at dead.seen (cell_place k m)) ++ deaths dead.thread (cell_place k m) b) (sym owns)
 
 -- both
-pub lost : (k : Layout') (m : ℕ) (call : Call) (t : ℕ) (c d : Card) → c.thread ≡ t → m < k.mutexes → WasLost k c call d → (acts : List Act) × (mutex_of call ≡ m → Beginning (operation_of call) acts) × (mutex_of call ≢ m → acts ≡ []) × (d.thread ≡ t)
+pub lost : (k : Layout') (m : ℕ) (call : Op) (t : ℕ) (c d : Card) → c.thread ≡ t → m < k.mutexes → WasLost k c call d → (acts : List Act) × (mutex_of k call ≡ m → Beginning (operation_of call) acts) × (mutex_of k call ≢ m → acts ≡ []) × (d.thread ≡ t)
     × (by t (at d.seen (cell_place k m)) ≡ (by t (at c.seen (cell_place k m)) ++ points_of t (cell_place k m) acts) ++ deaths t (cell_place k m) (held_after false (by t (at c.seen (cell_place k m)) ++ points_of t (cell_place k m) acts)))
 lost k m call t c d mine low was =
     let died = died_of k c call was.dead was.died in
@@ -152,20 +166,20 @@ lost k m call t c d mine low was =
 -- ---- all of them
 
 -- the points of a thread, as far as it came
-points_from : (w : Words) (t m : ℕ) (a : Card) (cs : List Call) (rs : List Reply) (pass : WorkerPass) → m < (layout_of w).mutexes → a.thread ≡ t → by t (at a.seen (cell_place (layout_of w) m)) ≡ [] → Worked w open_gate a cs rs pass
-    → ((card_in pass).thread ≡ t) × ArePointsOf t m (cell_place (layout_of w) m) cs rs (is_reaped pass) (by t (at (card_in pass).seen (cell_place (layout_of w) m)))
+points_from : (w : Words) (t m : ℕ) (a : Card) (cs : List Op) (rs : List Reply) (pass : WorkerPass) → m < (layout_of w).mutexes → a.thread ≡ t → by t (at a.seen (cell_place (layout_of w) m)) ≡ [] → Worked w open_gate a cs rs pass
+    → ((card_in pass).thread ≡ t) × ArePointsOf (layout_of w) t m cs rs (is_reaped pass) (by t (at (card_in pass).seen (cell_place (layout_of w) m)))
 points_from w t m a cs rs (Lives b) low mine none worked =
     let p : ℕ = cell_place (layout_of w) m in
     let did = added (layout_of w) t m a cs rs (card b) mine (all_answered w a cs rs b worked) in (
       did.0,
-      subst (AreTold t m p cs rs) (sym (did.1.1 ∙ ap (λ (l : List Point). l ++ did.1.0) none)) did.1.2,
+      subst (AreTold (layout_of w) t m cs rs) (sym (did.1.1 ∙ ap (λ (l : List Point). l ++ did.1.0) none)) did.1.2,
     )
 points_from w t m a cs rs (Reaped d) low mine none worked =
     let p : ℕ = cell_place (layout_of w) m in
     let did = added (layout_of w) t m a (take (length rs) cs) rs worked.last mine worked.answered in
     let own : by t (at worked.last.seen p) ≡ did.1.0 = did.1.1 ∙ ap (λ (l : List Point). l ++ did.1.0) none in
-    let next = worked.stops.2 in
-    let end = lost (layout_of w) m next.0 t worked.last (card d) did.0 low next.2 in (
+    let next = worked.stops.1 in
+    let end = lost (layout_of w) m next.0 t worked.last (card d) did.0 low next.3 in (
       end.3,
       record {
         call = next.0;
@@ -179,22 +193,41 @@ points_from w t m a cs rs (Reaped d) low mine none worked =
       },
     )
 
-pub together : (w : Words) (ps : List Phase) (passes : List (Pass Live)) (dies : List (Option ℕ)) (firsts workers : List Worker) (replies : List (Vec Reply Global)) (died : List Bool) (cells : List ℕ) (k : Layout') → ((i : ℕ) (a : Pass Live) → slice_get passes i ≡ Some a → card a ≡ first_card k (i + 1)) → AreFirst passes dies firsts → HaveMade w ps firsts workers replies → died ≡ map (λ v. is_reaped v.pass) workers → HasEnded w workers cells
-    → StandTogether (layout_of w) (λ t. calls_over t ps) replies died cells
-together w ps passes dies firsts workers replies died cells k cards numbers made same ended = record {
+-- ---- counters
+
+-- the same counters have the same sum
+same_total : (m : ℕ) (ns : List ℕ) (f g : ℕ → ℕ) (q : ℕ) → ((i : ℕ) → i < q + length ns → f i ≡ g i) → total_of m ns f q ≡ total_of m ns g q
+same_total m [] f g q same = refl
+same_total m (n ∷ ns) f g q same =
+    (λ i. (if n == m then same q (omega arith) i else 0) + total_of m ns f (q + 1))
+    ∙ ap (λ (x : ℕ). (if n == m then g q else 0) + x) (same_total m ns f g (q + 1) (λ i low. same i (omega (arith, low))))
+
+counted_up : (k : Layout') (presets ws counters : List ℕ) (js : List (List Point)) → ((q : ℕ) → q < length k.conditions → get_or counters q 0 ≡ get_or ws (counter_place k q) 0) → Counted k presets ws js → CountUp k presets counters js
+counted_up k presets ws counters js are counted = record {
+  sums = λ m low. same_total m k.conditions (λ q. get_or counters q 0) (counter_in k ws) 0 (λ i few. are i (omega (arith, few))) ∙ counted.sums m low;
+  still = λ q low none. are q low ∙ counted.still q low none;
+}
+
+pub together : (w : Words) (ps : List Phase) (passes : List (Pass Live)) (dies : List (Option ℕ)) (firsts workers : List Worker) (replies : List (Vec Reply Global)) (died : List Bool) (cells counters : List ℕ) (k : Layout') → ((i : ℕ) (a : Pass Live) → slice_get passes i ≡ Some a → card a ≡ first_card k (i + 1)) → AreFirst passes dies firsts → HaveMade w ps firsts workers replies → died ≡ map (λ v. is_reaped v.pass) workers → HasEnded w workers cells counters
+    → StandTogether (layout_of w) (λ t. calls_over t ps) (presets_of w) replies died cells counters
+together w ps passes dies firsts workers replies died cells counters k cards numbers made same ended = record {
   histories = ended.ends.histories;
   legal = λ m low. subst (λ (v : ℕ). Leaves (layout_of w).threads (cell_place (layout_of w) m) (at ended.ends.histories (cell_place (layout_of w) m)) (object_of (fields_of v))) (sym (cell_is m low)) (ended.ends.leaves m low);
   told = told_at;
+  counted = counted_up (layout_of w) (presets_of w) (last_words ended.last) counters ended.ends.histories counter_is ended.ends.counted;
 } where
   cell_is : (m : ℕ) → m < (layout_of w).mutexes → get_or cells m 0 ≡ get_or (last_words ended.last) (cell_place (layout_of w) m) 0
   cell_is m low = subst (λ (k : Layout'). m < k.mutexes → get_or cells m 0 ≡ get_or (last_words ended.last) (cell_place k m) 0) ended.same (ended.words.each m) low
 
+  counter_is : (q : ℕ) → q < length (layout_of w).conditions → get_or counters q 0 ≡ get_or (last_words ended.last) (counter_place (layout_of w) q) 0
+  counter_is q low = subst (λ (k : Layout'). q < length k.conditions → get_or counters q 0 ≡ get_or (last_words ended.last) (counter_place k q) 0) ended.same (ended.counts.each q) low
+
   told_at : (i : ℕ) (r : Vec Reply Global) (d : Bool) (m : ℕ) → slice_get replies i ≡ Some r → slice_get died i ≡ Some d → m < (layout_of w).mutexes
-      → ArePointsOf (i + 1) m (cell_place (layout_of w) m) (calls_over (i + 1) ps) r.items d (by (i + 1) (at ended.ends.histories (cell_place (layout_of w) m)))
+      → ArePointsOf (layout_of w) (i + 1) m (calls_over (i + 1) ps) r.items d (by (i + 1) (at ended.ends.histories (cell_place (layout_of w) m)))
   told_at i r d m is is_d low =
       let p : ℕ = cell_place (layout_of w) m in
       let js : List (List Point) = ended.ends.histories in
-      let cs : List Call = calls_over (i + 1) ps in
+      let cs : List Op = calls_over (i + 1) ps in
       let within : i < length replies = slice_get_within replies i r is in
       let many = made.as_many in
       let long = made.as_long in
@@ -208,5 +241,5 @@ together w ps passes dies firsts workers replies died cells k cards numbers made
       let none : by (i + 1) (at (card a.0).seen p) ≡ [] = ap (λ (c : Card). by (i + 1) (at c.seen p)) first in
       let points = points_from w (i + 1) m (card a.0) cs r.items v.0.pass low (ap (λ (c : Card). c.thread) first) none works.0 in
       let histories : by (i + 1) (at js p) ≡ by (i + 1) (at (card_in v.0.pass).seen p) = subst (λ (t : ℕ). by t (at js p) ≡ by t (at (card_in v.0.pass).seen p)) points.0 (own.own p) in
-      subst (λ (b : Bool). ArePointsOf (i + 1) m p cs r.items b (by (i + 1) (at js p))) (its_end workers died i v.0 d same v.1 is_d)
-      (subst (λ (xs : List Point). ArePointsOf (i + 1) m p cs r.items (is_reaped v.0.pass) xs) (sym histories) points.1)
+      subst (λ (b : Bool). ArePointsOf (layout_of w) (i + 1) m cs r.items b (by (i + 1) (at js p))) (its_end workers died i v.0 d same v.1 is_d)
+      (subst (λ (xs : List Point). ArePointsOf (layout_of w) (i + 1) m cs r.items (is_reaped v.0.pass) xs) (sym histories) points.1)

@@ -1,5 +1,5 @@
 -- What the program did with the bytes of its reader.
-use Rattle.std.specs.Prelude.{ℕ, ◌≡◌, ◌≤◌, ◌+◌, ◌⊎◌, List, ◌++◌, length, map, Option, None, MatchResult}
+use Rattle.std.specs.Prelude.{ℕ, ◌≡◌, ◌+◌, ◌⊎◌, List, length, map, Option, None, MatchResult}
 use Rattle.std.specs.Io.KnownBytes.{Appends, Consumes, IsAtEnd}
 use Rattle.protocol.specs.declared.note.Note.{Note}
 use Rattle.protocol.specs.Machine.{run, notes}
@@ -14,6 +14,7 @@ use Rattle.cmdline.specs.declared.form.Form.{Form}
 use Rattle.cmdline.specs.declared.form.Form.TheVariants as form
 use Rattle.texts.specs.declared.replies.ThreadReplies.{ThreadReplies}
 use Rattle.texts.specs.declared.replies.MutexWord.{MutexWord}
+use Rattle.texts.specs.declared.replies.ConditionWord.{ConditionWord}
 use Rattle.script.specs.declared.workload.Phase.{Phase}
 use Rattle.script.specs.Jobs.{jobs_seen, jobs_of, dies_of}
 use Rattle.report.specs.declared.threads.Answers.{Answers}
@@ -33,19 +34,21 @@ told_of s = notes (first_state s) (events_in s)
 abbrev pub meaning : Scope → List ℕ
 meaning s = run_text (length s.threads) (length s.mutexes) (length s.conditions) (told_of s)
 
--- the lines tell of the script's threads and mutexes, by their names, what they were answered, who died, and what is left
-pub record AreLines (s : Scope) (a : Answers) (threads : List ThreadReplies) (mutexes : List MutexWord) : Type 0 where
+-- the lines tell of the script's threads, mutexes and condition variables, by their names, what they were answered, who died, and what is left
+pub record AreLines (s : Scope) (a : Answers) (threads : List ThreadReplies) (mutexes : List MutexWord) (conditions : List ConditionWord) : Type 0 where
   pub thread_names : map (λ t. t.name.now) threads ≡ s.threads
   pub replies : map (λ t. t.replies.now) threads ≡ map (λ r. r.items) a.replies.items
   pub died : map (λ t. t.died) threads ≡ a.died.items
   pub mutex_names : map (λ m. m.name.now) mutexes ≡ s.mutexes
   pub cells : map (λ m. m.cell) mutexes ≡ a.cells.items
+  pub condition_names : map (λ c. c.name.now) conditions ≡ map (λ c. c.0) s.conditions
+  pub counters : map (λ c. c.counter) conditions ≡ a.counters.items
 
 -- real threads made the script's calls, each in the process that the script has it in, phase after phase, as far as they lived, and were answered so
 pub record Answer (s : Scope) (a : Answers) : Type 0 where
   pub phases : List Phase
   pub asked : map jobs_seen phases ≡ jobs_of s
-  pub answered : HaveAnswered (layout_of s) (counters_of s) phases (dies_of s) a.replies.items a.died.items a.cells.items
+  pub answered : HaveAnswered (layout_of s) (counters_of s) phases (dies_of s) a.replies.items a.died.items a.cells.items a.counters.items
 
 -- how a script's events leave its threads, mutexes and condition variables
 abbrev pub meant_table : Scope → List ℕ
@@ -76,14 +79,14 @@ IsFoundLegal s = IsJudgedLegal (script_head s) (told_of s)
 abbrev pub Means : Report → Scope → List ℕ → Type 0
 Means trace s text = (overlong s ≡ None) × RunsLegally s × IsFoundLegal s × (text ≡ meaning s)
 Means table s text = (overlong s ≡ None) × RunsLegally s × (text ≡ meant_table s)
-Means replies s text = (a : Answers) × Answer s a × (threads : List ThreadReplies) × (mutexes : List MutexWord) × AreLines s a threads mutexes × (text ≡ replies_text threads mutexes)
+Means replies s text = (a : Answers) × Answer s a × (threads : List ThreadReplies) × (mutexes : List MutexWord) × (conditions : List ConditionWord) × AreLines s a threads mutexes conditions × (text ≡ replies_text threads mutexes conditions)
 
 -- these lines were written, or a beginning of them
 abbrev pub Tells : Option (List ℕ) → Option (List ℕ) → Scope → Answers → Type 0
-Tells old new s a = (threads : List ThreadReplies) × (mutexes : List MutexWord) × AreLines s a threads mutexes × Appends old new (replies_text threads mutexes)
+Tells old new s a = (threads : List ThreadReplies) × (mutexes : List MutexWord) × (conditions : List ConditionWord) × AreLines s a threads mutexes conditions × Appends old new (replies_text threads mutexes conditions)
 
 abbrev pub TellsFront : Option (List ℕ) → Option (List ℕ) → Scope → Answers → Type 0
-TellsFront old new s a = (threads : List ThreadReplies) × (mutexes : List MutexWord) × AreLines s a threads mutexes × AppendsFront old new (replies_text threads mutexes)
+TellsFront old new s a = (threads : List ThreadReplies) × (mutexes : List MutexWord) × (conditions : List ConditionWord) × AreLines s a threads mutexes conditions × AppendsFront old new (replies_text threads mutexes conditions)
 
 -- these bytes are a script, and all of what is told of it was written
 abbrev pub Written : Report → Option (List ℕ) → Option (List ℕ) → List ℕ → Type 0

@@ -2,10 +2,10 @@
 use Rattle.std.specs.Prelude.{ℕ, ◌≡◌, ◌+◌, ◌<◌, Bool, true, false, Option, None, Some, List, [], ◌++◌, length, map, slice_index, All, Vec, slice_get, ◌==◌, if◌then◌else◌}
 use Rattle.std.specs.declared.alloc.Global.{Global}
 use Rattle.std.specs.List.{flat_map}
-use Rattle.keys.specs.Layouts.{Layout', cell_place}
+use Rattle.keys.specs.Layouts.{Layout', cell_place, counter_place}
 use Rattle.lockword.specs.declared.reply.Reply.{Reply}
-use Rattle.mutex.specs.declared.call.Call.{Call}
-use Rattle.mutex.specs.Calls.{mutex_of}
+use Rattle.condvar.specs.declared.op.Op.{Op}
+use Rattle.condvar.specs.Ops.{is_in}
 use Rattle.ruledwords.specs.declared.pass.Last.{Last}
 use Rattle.ruledwords.specs.declared.pass.Live.{Live}
 use Rattle.ruledwords.specs.declared.pass.Pass.{Pass}
@@ -23,37 +23,37 @@ use Rattle.threadbench.specs.Jobs.{IsLeftOf, Worked}
 use Rattle.report.specs.declared.threads.Worker.{Worker}
 use Rattle.report.specs.Histories.{StandTogether}
 
--- calls on the first m mutexes
-abbrev pub ArePossible : ℕ → Vec Call Global → Type 0
-ArePossible m calls = All (λ c. mutex_of c < m) calls.items
+-- calls on the layout's mutexes and condition variables
+abbrev pub ArePossible : Layout' → Vec Op Global → Type 0
+ArePossible k calls = All (λ c. is_in k c ≡ true) calls.items
 
-abbrev pub IsRightPhase : ℕ → Phase → Type 0
-IsRightPhase m p = All (λ j. ArePossible m j.calls) p.jobs.items
+abbrev pub IsRightPhase : Layout' → Phase → Type 0
+IsRightPhase k p = All (λ j. ArePossible k j.calls) p.jobs.items
 
-abbrev pub AreRightPhases : ℕ → List Phase → Type 0
-AreRightPhases m phases = All (IsRightPhase m) phases
+abbrev pub AreRightPhases : Layout' → List Phase → Type 0
+AreRightPhases k phases = All (IsRightPhase k) phases
 
 -- the calls of thread t in a phase, in their order
-abbrev pub calls_at : ℕ → Ordered → List Call
+abbrev pub calls_at : ℕ → Ordered → List Op
 calls_at t j = if j.thread == t then j.calls.items else []
 
-abbrev pub calls_in : ℕ → Phase → List Call
+abbrev pub calls_in : ℕ → Phase → List Op
 calls_in t p = flat_map (calls_at t) p.jobs.items
 
 -- and in all of these phases
-abbrev pub calls_over : ℕ → List Phase → List Call
+abbrev pub calls_over : ℕ → List Phase → List Op
 calls_over t ps = flat_map (calls_in t) ps
 
 -- the gate that lets every call through
-abbrev pub open_gate : ℕ → ℕ → Option Bool
-open_gate = λ t i. Some true
+abbrev pub open_gate : ℕ → ℕ → Op → Option Bool
+open_gate = λ t i c. Some true
 
 -- a thread with this pass and this number made these calls, as far as it lived, and was answered so. One that had died makes none
-abbrev pub WorksFrom : Words → List Call → Option ℕ → WorkerPass → List Reply → Worker → Type 0
+abbrev pub WorksFrom : Words → List Op → Option ℕ → WorkerPass → List Reply → Worker → Type 0
 WorksFrom w calls die (Lives a) rs v = Worked w open_gate (card a) calls rs v.pass × IsLeftOf die v.pass v.die
 WorksFrom w calls die (Reaped d) rs v = (v.pass ≡ Reaped d) × (rs ≡ []) × (v.die ≡ None)
 
-abbrev pub Works : Words → List Call → Worker → List Reply → Worker → Type 0
+abbrev pub Works : Words → List Op → Worker → List Reply → Worker → Type 0
 Works w calls u rs v = WorksFrom w calls u.die u.pass rs v
 
 abbrev pub is_reaped : WorkerPass → Bool
@@ -95,20 +95,26 @@ pub record AreCells (l : Last) (cells : List ℕ) : Type 0 where
   pub as_many : length cells ≡ (last_layout l).mutexes
   pub each : (m : ℕ) → m < (last_layout l).mutexes → slice_index cells m ≡ slice_index (last_words l) (cell_place (last_layout l) m)
 
--- the end of words, where the passes of all these threads met; and these are the cells' words
-pub record HasEnded (w : Words) (workers : List Worker) (cells : List ℕ) : Type 0 where
+-- the words of all counters, that of condition variable 0 first
+pub record AreCounters (l : Last) (counters : List ℕ) : Type 0 where
+  pub as_many : length counters ≡ length (last_layout l).conditions
+  pub each : (q : ℕ) → q < length (last_layout l).conditions → slice_index counters q ≡ slice_index (last_words l) (counter_place (last_layout l) q)
+
+-- the end of words, where the passes of all these threads met; and these are the cells' words and the counters
+pub record HasEnded (w : Words) (workers : List Worker) (cells counters : List ℕ) : Type 0 where
   pub last : Last
   pub same : last_layout last ≡ layout_of w
   pub ends : Ends (layout_of w) (presets_of w) (map (λ v. card_in v.pass) workers) (last_words last)
   pub words : AreCells last cells
+  pub counts : AreCounters last counters
 
 -- what came of the calls of the threads of a layout, each with its number or without, where the condition variables' counters begin with these values: there were words of just that layout, each thread's
 -- process and each process's base as it says, on which each thread made its calls in these phases from its first pass on, as far as it lived, and was answered so; these threads died; and what is left of the
--- words' cells are these. All replies and deaths of all threads stand in one history of each mutex
-pub record HaveAnswered (k : Layout') (counters : List ℕ) (ps : List Phase) (dies : List (Option ℕ)) (replies : List (Vec Reply Global)) (died : List Bool) (cells : List ℕ) : Type 0 where
+-- words' cells and counters are these. All replies and deaths of all threads stand in one history of each mutex, whose signals and broadcasts the counters count
+pub record HaveAnswered (k : Layout') (presets : List ℕ) (ps : List Phase) (dies : List (Option ℕ)) (replies : List (Vec Reply Global)) (died : List Bool) (cells counters : List ℕ) : Type 0 where
   pub words : Words
   pub layout : layout_of words ≡ k
-  pub presets : presets_of words ≡ counters
+  pub begins : presets_of words ≡ presets
   pub passes : List (Pass Live)
   pub as_many : length passes ≡ k.threads
   pub cards : (i : ℕ) (a : Pass Live) → slice_get passes i ≡ Some a → card a ≡ first_card (layout_of words) (i + 1)
@@ -117,8 +123,8 @@ pub record HaveAnswered (k : Layout') (counters : List ℕ) (ps : List Phase) (d
   pub workers : List Worker
   pub made : HaveMade words ps firsts workers replies
   pub dead : died ≡ map (λ v. is_reaped v.pass) workers
-  pub ended : HasEnded words workers cells
-  pub together : StandTogether (layout_of words) (λ t. calls_over t ps) replies died cells
+  pub ended : HasEnded words workers cells counters
+  pub together : StandTogether (layout_of words) (λ t. calls_over t ps) presets replies died cells counters
 
 -- how many replies a thread has for so many calls: as many where it lives, and fewer where it died
 abbrev pub IsCountOf : Bool → ℕ → ℕ → Type 0

@@ -5,7 +5,7 @@ use crate::threads::Answers;
 use lockword::Tid;
 use script::Script;
 use std::alloc::{AllocError, Global};
-use texts::{MutexWord, ThreadReplies};
+use texts::{ConditionWord, MutexWord, ThreadReplies};
 
 /// Each thread's name, its replies and whether it died, in the order of the threads' ids.
 pub fn thread_replies<'a>(
@@ -48,6 +48,27 @@ pub fn mutex_words<'a>(
         lines.push(MutexWord {
             name: script.mutex_name(mutex),
             cell: answers.cells[usize::from(mutex)],
+        })?;
+    }
+    Ok(lines)
+}
+
+/// Each condition variable's name and the word of its counter, in the order of the condition variables' numbers.
+pub fn condition_words<'a>(
+    alloc: Global,
+    script: &'a Script,
+    answers: &'a Answers,
+) -> Result<Vec<ConditionWord<'a>>, AllocError>
+    requires { length answers.now.counters.items ≡ length script.now.conditions }
+    ensures names { IfOk result (λ v. map (λ c. c.name.now) v.items ≡ map (λ c. c.0) script.now.conditions) }
+    ensures counters { IfOk result (λ v. map (λ c. c.counter) v.items ≡ answers.now.counters.items) }
+{
+    let mut lines = Vec::new(alloc);
+    let conditions = script.conditions();
+    for condition in 0..conditions {
+        lines.push(ConditionWord {
+            name: script.condition_name(condition),
+            counter: answers.counters[usize::from(condition)],
         })?;
     }
     Ok(lines)

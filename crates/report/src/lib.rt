@@ -7,7 +7,7 @@
 //! told of a failure is in both contracts.
 //!
 //! Stands on `cmdline`, for the forms, on `streams`, for files, on `script`, `interleave` and `protocol`, for scripts and runs,
-//! on `threadbench`, `ruledwords` and `mutex`, for real threads, on `texts`, for what is written, on `verdict` and
+//! on `threadbench`, `ruledwords`, `mutex` and `condvar`, for real threads, on `texts`, for what is written, on `verdict` and
 //! `runs_judged`, for judging it, on `facts`, `keys` and `lockword`, for lines, want of memory and replies, and on `itoa`, for
 //! numbers.
 //!
@@ -39,6 +39,6 @@ pub use program::run;
 pub use serving::serve;
 pub use streams::{Opener, Output};
 /// The writers of a trace, of a table and of threads' replies, over any writer.
-pub use texts::{MutexWord, ThreadReplies, write_replies, write_table, write_trace};
+pub use texts::{ConditionWord, MutexWord, ThreadReplies, write_replies, write_table, write_trace};
 /// The judge of traces.
 pub use verdict::{TraceFault, Verdict, check};

@@ -17,7 +17,7 @@ ghost use Rattle.report.specs.Verdicts.{Judged};
 ghost use Rattle.verdict.specs.Limits as traces;
 ghost use Rattle.cmdline.specs.declared.form.Form.TheVariants.{Usage};
 
-use crate::answers::{mutex_words, thread_replies};
+use crate::answers::{condition_words, mutex_words, thread_replies};
 use crate::judging::judge_bytes;
 use crate::messages::{Failure, status_after, tell};
 use crate::threads::{Answers, answers_of};
@@ -29,7 +29,7 @@ use std::io::{self, Read, Write};
 use std::sync::Wait;
 use std::thread::Threads;
 use streams::{Output, ReadFault, read_below};
-use texts::{MutexWord, ThreadReplies, write_replies, write_table, write_trace};
+use texts::{ConditionWord, MutexWord, ThreadReplies, write_replies, write_table, write_trace};
 
 /// What a fault of reading is told as.
 fn failure_of(fault: ReadFault) -> Failure
@@ -146,12 +146,13 @@ fn table_bytes<W: Output>(alloc: Global, bytes: &[u8], out: &mut W) -> Result<u8
 fn write_told<W: Output>(
     threads: &[ThreadReplies<'_>],
     mutexes: &[MutexWord<'_>],
+    conditions: &[ConditionWord<'_>],
     out: &mut W,
 ) -> io::Result<()>
-    ensures text { Leaves (W.contents out.old) (W.contents out.new) result (replies_text threads.now mutexes.now) }
+    ensures text { Leaves (W.contents out.old) (W.contents out.new) result (replies_text threads.now mutexes.now conditions.now) }
     ensures let_go { OnOk result (W.is_let_go out.new) }
 {
-    write_replies(threads, mutexes, out)?;
+    write_replies(threads, mutexes, conditions, out)?;
     out.let_go()
 }
 
@@ -165,6 +166,7 @@ fn tell_answers<W: Output>(
     requires replies { length answers.now.replies.items ≡ length script.now.threads }
     requires died { length answers.now.died.items ≡ length script.now.threads }
     requires cells { length answers.now.cells.items ≡ length script.now.mutexes }
+    requires counters { length answers.now.counters.items ≡ length script.now.conditions }
     ensures ends { IfOk result (λ status. (status ≡ 0) × Tells (W.contents out.old) (W.contents out.new) script.now answers.now) }
     ensures let_go { OnOk result (W.is_let_go out.new) }
     ensures fails { IfErr result (FailsTelling script.now answers.now (W.contents out.old) (W.contents out.new)) }
@@ -175,7 +177,10 @@ fn tell_answers<W: Output>(
     let Ok(mutexes) = mutex_words(alloc, script, answers) else {
         return Err(Failure::OutOfMemory);
     };
-    match write_told(&threads, &mutexes, out) {
+    let Ok(conditions) = condition_words(alloc, script, answers) else {
+        return Err(Failure::OutOfMemory);
+    };
+    match write_told(&threads, &mutexes, &conditions, out) {
         Ok(()) => Ok(0),
         Err(_failed) => Err(Failure::CannotWrite),
     }

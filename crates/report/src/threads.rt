@@ -4,11 +4,11 @@ ghost use Rattle.ruledwords.specs.Passes.{card, layout_of, last_layout, IsPassOf
 ghost use Rattle.script.specs.Playing.{counters_of, layout_of as layout_in};
 ghost use Rattle.threadbench.specs.Answered.{card_in, IsWorkerOf};
 ghost use Rattle.threadbench.specs.Jobs.{LivesOn};
-ghost use Rattle.report.specs.Threads.{is_reaped, IsRightPhase, AreRightPhases, calls_in, AreFirst, AreHired, AreGathered, AreCells, HaveWorked, HaveMade, HasEnded, HaveAnswered, HaveReplies};
+ghost use Rattle.report.specs.Threads.{is_reaped, IsRightPhase, AreRightPhases, calls_in, AreFirst, AreHired, AreGathered, AreCells, AreCounters, HaveWorked, HaveMade, HasEnded, HaveAnswered, HaveReplies};
 
+use condvar::Op;
 use keys::NoMem;
 use lockword::Reply;
-use mutex::Call;
 use ruledwords::{Last, Live, Pass, Spent};
 use script::{Jobs, Phase, Script};
 use std::alloc::{AllocError, Global};
@@ -16,12 +16,13 @@ use std::sync::Wait;
 use std::thread::Threads;
 use threadbench::{Bench, Job, Open, Record, WorkerPass};
 
-/// What each thread's calls were answered and whether it died, in the order of their ids, and the word of each mutex's cell when all have ended.
+/// What each thread's calls were answered and whether it died, in the order of their ids, and the words of each mutex's cell and of each condition variable's counter when all have ended.
 #[derive(Drop)]
 pub(crate) struct Answers {
     pub(crate) replies: Vec<Vec<Reply>>,
     pub(crate) died: Vec<bool>,
     pub(crate) cells: Vec<u64>,
+    pub(crate) counters: Vec<u64>,
 }
 
 /// A thread between two phases: its pass, and what is left of the number before which of its accesses it dies.
@@ -52,7 +53,7 @@ fn workers_of(
 }
 
 /// The calls of a thread in a phase.
-fn calls_of(alloc: Global, phase: &Phase, thread: usize) -> Result<Vec<Call>, AllocError>
+fn calls_of(alloc: Global, phase: &Phase, thread: usize) -> Result<Vec<Op>, AllocError>
     ensures { IfOk result (λ v. v.items ≡ calls_in thread phase.now) }
 {
     let mut calls = Vec::new(alloc);
@@ -107,7 +108,7 @@ fn run_phase<R: Threads + Wait + Sync>(
     workers: Vec<Worker>,
     replies: &mut Vec<Vec<Reply>>,
 ) -> Result<Vec<Worker>, NoMem>
-    requires possible { IsRightPhase (layout_of bench.now).mutexes phase.now }
+    requires possible { IsRightPhase (layout_of bench.now) phase.now }
     requires right { All (λ v. IsWorkerOf bench.now v.pass) workers.items }
     requires as_many { length replies.old.items ≡ length workers.items }
     ensures { IfOk result (λ after. HaveWorked bench.now phase.now workers.items after.items replies.old.items replies.new.items) }
@@ -133,7 +134,7 @@ fn run_phases<R: Threads + Wait + Sync>(
     workers: Vec<Worker>,
     replies: &mut Vec<Vec<Reply>>,
 ) -> Result<Vec<Worker>, NoMem>
-    requires possible { AreRightPhases (layout_of bench.now).mutexes phases.now }
+    requires possible { AreRightPhases (layout_of bench.now) phases.now }
     requires live { All (λ v. LivesOn bench.now v.pass) workers.items }
     requires as_many { length replies.old.items ≡ length workers.items }
     requires empty { All (λ r. r.items ≡ []) replies.old.items }
@@ -199,40 +200,62 @@ fn cells_of(alloc: Global, last: &Last, mutexes: u16) -> Result<Vec<u64>, AllocE
     Ok(cells)
 }
 
-/// Ends the bench, where all passes meet, and reads the cells.
+/// The word of each condition variable's counter.
+fn counters_of(alloc: Global, last: &Last, conditions: u16) -> Result<Vec<u64>, AllocError>
+    requires { conditions ≡ length (last_layout last.now).conditions }
+    ensures { IfOk result (λ counters. AreCounters last.now counters.items) }
+{
+    let mut counters = Vec::new(alloc);
+    for condition in 0..conditions {
+        counters.push(last.counter(condition))?;
+    }
+    Ok(counters)
+}
+
+/// Ends the bench, where all passes meet, and reads the cells and the counters.
 fn finish(
     alloc: Global,
     bench: Bench,
     workers: Vec<Worker>,
-    mutexes: u16,
-) -> Result<Vec<u64>, AllocError>
-    requires mutexes { mutexes ≡ (layout_of bench).mutexes }
+    script: &Script,
+) -> Result<(Vec<u64>, Vec<u64>), AllocError>
+    requires layout { layout_of bench ≡ layout_in script.now }
     requires right { All (λ v. IsWorkerOf bench v.pass) workers.items }
-    ensures { IfOk result (λ cells. HasEnded bench workers.items cells.items) }
+    ensures { IfOk result (λ r. HasEnded bench workers.items r.0.items r.1.items) }
 {
     let passes = spent(alloc, &bench, workers)?;
-    cells_of(alloc, &bench.close_all(passes), mutexes)
+    let last = bench.close_all(passes);
+    let cells = cells_of(alloc, &last, script.mutexes())?;
+    let counters = counters_of(alloc, &last, script.conditions())?;
+    Ok((cells, counters))
 }
 
-/// Which threads have died; then ends the bench and reads the cells.
+/// Which threads have died; then ends the bench and tells what came of all.
 fn end(
     alloc: Global,
     bench: Bench,
     workers: Vec<Worker>,
-    mutexes: u16,
-) -> Result<(Vec<bool>, Vec<u64>), AllocError>
-    requires mutexes { mutexes ≡ (layout_of bench).mutexes }
+    script: &Script,
+    replies: Vec<Vec<Reply>>,
+) -> Result<Answers, AllocError>
+    requires layout { layout_of bench ≡ layout_in script.now }
     requires right { All (λ v. IsWorkerOf bench v.pass) workers.items }
-    ensures died { IfOk result (λ r. r.0.items ≡ map (λ v. is_reaped v.pass) workers.items) }
-    ensures ended { IfOk result (λ r. HasEnded bench workers.items r.1.items) }
+    ensures replies { IfOk result (λ a. a.replies ≡ replies) }
+    ensures died { IfOk result (λ a. a.died.items ≡ map (λ v. is_reaped v.pass) workers.items) }
+    ensures ended { IfOk result (λ a. HasEnded bench workers.items a.cells.items a.counters.items) }
 {
     let died = deaths(alloc, workers.as_slice())?;
-    let cells = finish(alloc, bench, workers, mutexes)?;
-    Ok((died, cells))
+    let (cells, counters) = finish(alloc, bench, workers, script)?;
+    Ok(Answers {
+        replies,
+        died,
+        cells,
+        counters,
+    })
 }
 
 /// What the counters of a script's condition variables begin with.
-fn counters_of(alloc: Global, script: &Script) -> Result<Vec<u32>, AllocError>
+fn presets_of(alloc: Global, script: &Script) -> Result<Vec<u32>, AllocError>
     ensures { IfOk result (λ counters. counters.items ≡ counters_of script.now) }
 {
     let mut counters = Vec::new(alloc);
@@ -242,7 +265,7 @@ fn counters_of(alloc: Global, script: &Script) -> Result<Vec<u32>, AllocError>
     Ok(counters)
 }
 
-/// Lets real threads make the calls of a script, phase after phase, and tells what they were answered, which of them died, and what is left in the cells. Each thread has the words
+/// Lets real threads make the calls of a script, phase after phase, and tells what they were answered, which of them died, and what is left in the cells and in the counters. Each thread has the words
 /// where its process maps them. A phase begins when all calls of the one before have been answered, or their threads have died and the walks over their lists have ended. Refused
 /// where no memory is left.
 pub(crate) fn answers_of<R: Threads + Wait + Sync>(
@@ -251,19 +274,20 @@ pub(crate) fn answers_of<R: Threads + Wait + Sync>(
     script: &Script,
     jobs: Jobs,
 ) -> Result<Answers, NoMem>
-    requires possible { AreRightPhases (length script.now.mutexes) jobs.phases.items }
+    requires possible { AreRightPhases (layout_in script.now) jobs.phases.items }
     requires numbers { length jobs.dies.items ≡ length script.now.threads }
     ensures replies { IfOk result (λ a. length a.replies.items ≡ length script.now.threads) }
     ensures died { IfOk result (λ a. length a.died.items ≡ length script.now.threads) }
     ensures cells { IfOk result (λ a. length a.cells.items ≡ length script.now.mutexes) }
-    ensures answered { IfOk result (λ a. HaveAnswered (layout_in script.now) (counters_of script.now) jobs.phases.items jobs.dies.items a.replies.items a.died.items a.cells.items) }
+    ensures counters { IfOk result (λ a. length a.counters.items ≡ length script.now.conditions) }
+    ensures answered { IfOk result (λ a. HaveAnswered (layout_in script.now) (counters_of script.now) jobs.phases.items jobs.dies.items a.replies.items a.died.items a.cells.items a.counters.items) }
     ensures each { IfOk result (λ a. HaveReplies jobs.phases.items a.replies.items a.died.items) }
 {
-    let Ok(counters) = counters_of(alloc, script) else {
+    let Ok(presets) = presets_of(alloc, script) else {
         return Err(NoMem);
     };
     let layout = script.layout();
-    let (bench, passes) = Bench::new(alloc, layout, counters.as_slice())?;
+    let (bench, passes) = Bench::new(alloc, layout, presets.as_slice())?;
     let Ok(workers) = workers_of(alloc, passes, jobs.dies.as_slice()) else {
         return Err(NoMem);
     };
@@ -272,12 +296,8 @@ pub(crate) fn answers_of<R: Threads + Wait + Sync>(
     };
     let phases = jobs.phases.as_slice();
     let workers = run_phases(rt, alloc, &bench, phases, workers, &mut replies)?;
-    match end(alloc, bench, workers, script.mutexes()) {
-        Ok((died, cells)) => Ok(Answers {
-            replies,
-            died,
-            cells,
-        }),
+    match end(alloc, bench, workers, script, replies) {
+        Ok(answers) => Ok(answers),
         Err(_) => Err(NoMem),
     }
 }

@@ -10,7 +10,7 @@ use Rattle.std.proofs.lemmas.List.Concat.{flat_map-append}
 use Rattle.lines.specs.Faults.{◌>>=◌}
 use Rattle.lines.specs.Lines.{lines_of, words_of, bad_line}
 use Rattle.lines.specs.Numbers.{is_number, within}
-use Rattle.protocol.specs.declared.event.Op.{Op}
+use Rattle.condvar.specs.declared.op.Op.{Op}
 use Rattle.script.specs.Forms.{CallForm, Form, silent, process, thread, member, mutex, mutexes, begins, steps, kills, kills_all, goes, calls, locks, phase, dies, is_silent, is_name, is_stem, has, of_mode, or_else, step_form, die_form, mutexes_form, process_form, member_form, locks_form, cond_form, call_form, calling_form, words_form, form_of}
 use Rattle.script.specs.Forms as form
 use Rattle.script.specs.Deaths.{death_of}

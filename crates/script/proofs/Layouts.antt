@@ -3,8 +3,8 @@ use Rattle.std.proofs.Common.{◌≡◌, ◌&&◌, ℕ, Bool, true, false, List,
 use Rattle.std.specs.Prelude.{Result, Ok, Err}
 use Rattle.lockword.specs.declared.reply.Reply.{Reply}
 use Rattle.mutex.specs.Whole.{whole_access, whole_led}
-use Rattle.protocol.specs.Ops.{mutex_of}
-use Rattle.protocol.specs.declared.event.Op.{Op}
+use Rattle.condvar.specs.Ops.{mutex_of}
+use Rattle.condvar.specs.declared.op.Op.{Op}
 use Rattle.protocol.specs.declared.event.Event.{Event}
 use Rattle.protocol.specs.declared.event.Event.TheVariants.{Begin, Step, Kill}
 use Rattle.protocol.specs.declared.thread.Stage.{Stage}

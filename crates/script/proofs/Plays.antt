@@ -9,7 +9,7 @@ use Rattle.protocol.specs.declared.event.Event.TheVariants as event
 use Rattle.protocol.specs.declared.note.Note.{Note}
 use Rattle.protocol.specs.Machine.{State, happens, run, notes}
 use Rattle.mutex.specs.declared.call.Call.TheVariants.{Lock}
-use Rattle.protocol.specs.declared.event.Op.TheVariants.{OnMutex}
+use Rattle.condvar.specs.declared.op.Op.TheVariants.{OnMutex}
 use Rattle.script.specs.declared.command.Action.{Action}
 use Rattle.script.specs.declared.command.Action.TheVariants as action
 use Rattle.script.specs.declared.command.Command.{Command}

@@ -13,7 +13,7 @@ use Rattle.lines.specs.Lines.{lines_of, words_of, bad_line}
 use Rattle.lines.specs.Numbers.{is_number, within}
 use Rattle.script.specs.Forms.{CallForm, Form, silent, process, thread, member, mutex, mutexes, begins, steps, kills, kills_all, goes, calls, locks, phase, dies, is_silent, is_name, is_stem, has, of_mode, or_else, step_form, die_form, mutexes_form, process_form, member_form, locks_form, cond_form, call_form, calling_form, words_form, form_of}
 use Rattle.script.specs.Forms as form
-use Rattle.protocol.specs.declared.event.Op.{Op}
+use Rattle.condvar.specs.declared.op.Op.{Op}
 use Rattle.script.specs.Deaths.{death_of}
 use Rattle.script.specs.Scope.{Scope}
 use Rattle.script.specs.Reading.{refuse, place_of, process_of, names_of, with_name, with_entry, with_thread, added, several, declares, thread_of, call_of, first_of, begun, stepped, killed, all_killed, gone, made, locked, died, with_action, asked, enter, met_at, fault_at, line_read, finished, lines_read, text_read, nothing}

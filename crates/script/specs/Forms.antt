@@ -151,17 +151,7 @@ words_form (w ∷ a ∷ n ∷ []) = or_else (step_form w a n) (or_else (die_form
 words_form (w ∷ t ∷ c ∷ m ∷ []) = or_else (locks_form w t c m) (or_else (cond_form w t c m) (option_and_then (calling_form w t) (call_form c m)))
 words_form _ = None
 
--- a call on a mutex
-abbrev pub is_on_mutex : CallForm → Bool
-is_on_mutex (lock m) = true
-is_on_mutex (trylock m) = true
-is_on_mutex (unlock m) = true
-is_on_mutex (consistent m) = true
-is_on_mutex (wait c) = false
-is_on_mutex (signal c) = false
-is_on_mutex (broadcast c) = false
-
--- whether scripts of real threads have lines of this form: events are the machine's alone, and so far condition variables
+-- whether scripts of real threads have lines of this form: events are the machine's alone
 abbrev pub threads_have : Form → Bool
 threads_have silent = true
 threads_have (process p b) = true
@@ -169,13 +159,13 @@ threads_have (thread a) = true
 threads_have (member a p) = true
 threads_have (mutex a) = true
 threads_have (mutexes a n) = true
-threads_have (cond c m n) = false
+threads_have (cond c m n) = true
 threads_have (begins t c) = false
 threads_have (steps t n) = false
 threads_have (kills t) = false
 threads_have (kills_all p) = false
 threads_have (goes t) = false
-threads_have (calls t c) = is_on_mutex c
+threads_have (calls t c) = true
 threads_have (locks t m n) = false
 threads_have phase = true
 threads_have (dies t n) = true

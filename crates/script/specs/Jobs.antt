@@ -2,8 +2,7 @@
 use Rattle.std.specs.Prelude.{ℕ, zero, suc, ◌≡◌, ◌+◌, ◌<◌, Bool, true, false, ◌==◌, List, [], ◌∷◌, ◌++◌, length, map, slice_index_or, Option, Vec, if◌then◌else◌}
 use Rattle.std.specs.declared.alloc.Global.{Global}
 use Rattle.std.specs.List.{slice_split, flat_map, range_with_len}
-use Rattle.mutex.specs.declared.call.Call.{Call}
-use Rattle.protocol.specs.declared.event.Op.TheVariants.{OnMutex, OnCondition}
+use Rattle.condvar.specs.declared.op.Op.{Op}
 use Rattle.script.specs.Deaths.{death_of}
 use Rattle.script.specs.Scope.{Scope}
 use Rattle.script.specs.declared.command.Action.{Action}
@@ -15,7 +14,7 @@ use Rattle.script.specs.declared.workload.Phase.{Phase}
 -- what one thread does in a phase
 pub record Job' : Type 0 where
   pub thread : ℕ
-  pub calls : List Call
+  pub calls : List Op
 
 -- whether a command is the end of a phase
 abbrev pub is_end : Action → Bool
@@ -32,10 +31,9 @@ is_end (action.Die t n) = false
 abbrev pub ends_phase : Command → Bool
 ends_phase c = is_end c.action
 
--- what an action asks of thread t: its call, if it is one. Real threads make calls on mutexes alone so far
-abbrev pub call_by : ℕ → Action → List Call
-call_by t (action.Call u (OnMutex k)) = if u == t then k ∷ [] else []
-call_by t (action.Call u (OnCondition k)) = []
+-- what an action asks of thread t: its call, if it is one
+abbrev pub call_by : ℕ → Action → List Op
+call_by t (action.Call u k) = if u == t then k ∷ [] else []
 call_by t action.Phase = []
 call_by t (action.Begin u k) = []
 call_by t (action.Step u n) = []
@@ -46,11 +44,11 @@ call_by t (action.Locks u m n) = []
 call_by t (action.Die u n) = []
 
 -- the calls of thread t among commands, in their order
-abbrev pub calls_by : ℕ → List Command → List Call
+abbrev pub calls_by : ℕ → List Command → List Op
 calls_by t cs = flat_map (λ c. call_by t c.action) cs
 
 -- thread t's job, where it has a call
-abbrev pub job_of : ℕ → List Call → List Job'
+abbrev pub job_of : ℕ → List Op → List Job'
 job_of t [] = []
 job_of t (c ∷ cs) = record { thread = t; calls = c ∷ cs } ∷ []
 
@@ -78,10 +76,10 @@ job_seen j = record { thread = j.thread; calls = j.calls.items }
 abbrev pub jobs_seen : Phase → List Job'
 jobs_seen p = map job_seen p.jobs.items
 
-abbrev pub lists_seen : List (Vec Call Global) → List (List Call)
+abbrev pub lists_seen : List (Vec Op Global) → List (List Op)
 lists_seen vs = map (λ v. v.items) vs
 
 -- of each of n threads, the calls among these commands, that of thread 1 first
-pub record AreCalls (n : ℕ) (cs : List Command) (lists : List (List Call)) : Type 0 where
+pub record AreCalls (n : ℕ) (cs : List Command) (lists : List (List Op)) : Type 0 where
   pub as_many : length lists ≡ n
   pub each : (i : ℕ) → i < n → slice_index_or lists i [] ≡ calls_by (i + 1) cs

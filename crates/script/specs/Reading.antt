@@ -6,8 +6,8 @@ use Rattle.std.specs.Str.{bytes_eq, is_utf8}
 use Rattle.std.specs.Str.Parse.{digits_value}
 use Rattle.mutex.specs.declared.call.Call.TheVariants as call
 use Rattle.condvar.specs.declared.call.CondCall.TheVariants as on
-use Rattle.protocol.specs.declared.event.Op.{Op}
-use Rattle.protocol.specs.declared.event.Op.TheVariants.{OnMutex, OnCondition}
+use Rattle.condvar.specs.declared.op.Op.{Op}
+use Rattle.condvar.specs.declared.op.Op.TheVariants.{OnMutex, OnCondition}
 use Rattle.script.specs.Forms.{CallForm, lock, trylock, unlock, consistent, wait, signal, broadcast, Form, silent, process, thread, member, mutex, mutexes, cond, begins, steps, kills, kills_all, goes, calls, locks, phase, dies, form_of}
 use Rattle.lines.specs.Numbers.{is_number}
 use Rattle.lines.specs.Lines.{lines_of, bad_line}

@@ -2,8 +2,8 @@
 use Rattle.std.specs.Prelude.{ℕ, ◌≡◌, ◌+◌, ◌≤◌, ◌<◌, List, length, All}
 use Rattle.mutex.specs.Calls.{mutex_of}
 use Rattle.condvar.specs.Calls.{condition_of}
-use Rattle.protocol.specs.declared.event.Op.{Op}
-use Rattle.protocol.specs.declared.event.Op.TheVariants.{OnMutex, OnCondition}
+use Rattle.condvar.specs.declared.op.Op.{Op}
+use Rattle.condvar.specs.declared.op.Op.TheVariants.{OnMutex, OnCondition}
 use Rattle.script.specs.declared.command.Mode.{Mode}
 use Rattle.script.specs.declared.command.Action.{Action}
 use Rattle.script.specs.declared.command.Action.TheVariants.{Begin, Step, Kill, KillAll, Go, Call, Locks, Phase, Die}

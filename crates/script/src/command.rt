@@ -1,7 +1,7 @@
 //! What a script asks for.
 
+use condvar::Op;
 use lockword::Tid;
-use protocol::Op;
 
 /// What a script is written for, which says which commands it may have.
 #[derive(Clone, Copy, Debug, PartialEq, Eq)]

@@ -15,12 +15,11 @@ use crate::fault::Fault;
 use crate::limits::{MAX_CONDITIONS, MAX_LINES, MAX_MUTEXES, MAX_PROCESSES, MAX_THREADS};
 use crate::line::{Line, NamedCall, is_silent_line, line_of};
 use crate::words::is_below;
-use condvar::CondCall;
+use condvar::{CondCall, Op};
 use indexmap::{IndexMap, IndexSet};
 use lines::is_number_word;
 use lockword::Tid;
 use mutex::Call;
-use protocol::Op;
 use std::alloc::Global;
 
 /// What the lines so far declared and asked for.

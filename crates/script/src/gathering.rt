@@ -12,9 +12,8 @@ use crate::deaths::death_of;
 use crate::fault::{Fault, ScriptFault};
 use crate::parsed::Script;
 use crate::workload::{Job, Jobs, Phase};
+use condvar::Op;
 use lockword::Tid;
-use mutex::Call;
-use protocol::Op;
 use std::alloc::{AllocError, Global};
 
 /// Where the phase ends.
@@ -38,7 +37,7 @@ fn cut_phase(commands: &[Command]) -> Option<(&[Command], &[Command])>
 }
 
 /// An empty list for each thread.
-fn no_calls(alloc: Global, threads: u8) -> Result<Vec<Vec<Call>>, AllocError>
+fn no_calls(alloc: Global, threads: u8) -> Result<Vec<Vec<Op>>, AllocError>
     ensures { IfOk result (λ calls. AreCalls threads [] (lists_seen calls.items)) }
 {
     let mut calls = Vec::new(alloc);
@@ -49,13 +48,10 @@ fn no_calls(alloc: Global, threads: u8) -> Result<Vec<Vec<Call>>, AllocError>
 }
 
 /// Adds a command's call to the list of its thread, where that has one.
-fn add_call(calls: &mut Vec<Vec<Call>>, command: &Command) -> Result<(), AllocError>
+fn add_call(calls: &mut Vec<Vec<Op>>, command: &Command) -> Result<(), AllocError>
     ensures { OnOk result ((n : ℕ) (cs : List Command) → AreCalls n cs (lists_seen calls.old.items) → AreCalls n (cs ++ command.now ∷ []) (lists_seen calls.new.items)) }
 {
-    let Action::Call(thread, op) = command.action else {
-        return Ok(());
-    };
-    let Op::OnMutex(call) = op else {
+    let Action::Call(thread, call) = command.action else {
         return Ok(());
     };
     let index = usize::from(thread.get()) - 1;
@@ -66,7 +62,7 @@ fn add_call(calls: &mut Vec<Vec<Call>>, command: &Command) -> Result<(), AllocEr
 }
 
 /// A job of each thread that has calls.
-fn jobs_with(alloc: Global, calls: Vec<Vec<Call>>) -> Result<Phase, AllocError>
+fn jobs_with(alloc: Global, calls: Vec<Vec<Op>>) -> Result<Phase, AllocError>
     requires { length calls.items ≤ max_threads }
     ensures { IfOk result (λ phase. (n : ℕ) (cs : List Command) → AreCalls n cs (lists_seen calls.items) → jobs_seen phase ≡ jobs_up_to n cs) }
 {

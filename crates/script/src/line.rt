@@ -1,7 +1,7 @@
 //! The kinds of line of a script.
 
 ghost use Rattle.std.specs.Prelude.{◌≡◌, true, false, option_map, option_and_then};
-ghost use Rattle.script.specs.Forms.{call_form, calling_form, cond_form, die_form, form_of, has, is_on_mutex, is_silent, is_stem, locks_form, member_form, mutexes_form, name_form, or_else, phase_form, process_form, run_has, step_form, threads_have};
+ghost use Rattle.script.specs.Forms.{call_form, calling_form, cond_form, die_form, form_of, has, is_silent, is_stem, locks_form, member_form, mutexes_form, name_form, or_else, phase_form, process_form, run_has, step_form, threads_have};
 ghost use Rattle.lines.specs.Numbers.{is_number, within};
 ghost use Rattle.script.specs.Seen.{call_seen, form_seen};
 
@@ -228,26 +228,14 @@ fn of_four<'a>(
     }
 }
 
-fn is_on_mutex(call: &NamedCall<'_>) -> bool
-    ensures { result ≡ is_on_mutex (call_seen call.now) }
-{
-    match call {
-        NamedCall::Lock(_) | NamedCall::TryLock(_) => true,
-        NamedCall::Unlock(_) | NamedCall::Consistent(_) => true,
-        NamedCall::Wait(_) | NamedCall::Signal(_) | NamedCall::Broadcast(_) => false,
-    }
-}
-
 /// Whether scripts for real threads have such lines.
 fn is_of_threads(line: &Line<'_>) -> bool
     ensures { result ≡ threads_have (form_seen line.now) }
 {
     match line {
         Line::Process(..) | Line::Thread(_) | Line::Member(..) => true,
-        Line::Mutex(_) | Line::Mutexes(..) => true,
-        Line::Call(_, call) => is_on_mutex(call),
-        Line::Phase | Line::Die(..) => true,
-        Line::Cond(..) => false,
+        Line::Mutex(_) | Line::Mutexes(..) | Line::Cond(..) => true,
+        Line::Call(..) | Line::Phase | Line::Die(..) => true,
         Line::Begin(..) | Line::Step(..) | Line::Kill(_) => false,
         Line::KillAll(_) | Line::Go(_) | Line::Locks(..) => false,
     }

@@ -11,10 +11,11 @@ use crate::command::{Action, Command};
 use crate::fault::{Fault, ScriptFault};
 use crate::limits::{MAX_EVENTS, REST_STEPS};
 use crate::parsed::Script;
+use condvar::Op;
 use interleave::{Machine, Trace};
 use lockword::Tid;
 use mutex::Call;
-use protocol::{Event, Note, Op};
+use protocol::{Event, Note};
 use std::alloc::Global;
 
 /// Adds a copy to a list.

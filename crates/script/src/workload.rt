@@ -1,15 +1,15 @@
 //! What real threads have to do.
 
+use condvar::Op;
 use lockword::Tid;
-use mutex::Call;
 
 /// The calls of one thread in one phase, in the order of their lines. There is at least one.
 #[derive(Drop)]
 pub struct Job {
     /// The thread.
     pub thread: Tid,
-    /// Its calls.
-    pub calls: Vec<Call>,
+    /// Its calls, on mutexes and on condition variables.
+    pub calls: Vec<Op>,
 }
 
 /// What real threads do at once: a job for each thread that has a call in this phase, in the order of the threads' ids.

@@ -3,6 +3,7 @@
 use crate::built::joined;
 use crate::events::playing;
 use crate::faults::{Refusal, Refused, Scripts, read, refusal};
+use condvar::{CondCall, Op};
 use mutex::Call;
 use script::{Jobs, Mode, Phase, jobs};
 use std::alloc::Global;
@@ -15,7 +16,7 @@ const THIRD: Scripts = Scripts {
 };
 
 /// Third lines.
-static LINES: [(&str, Refusal); 56] = [
+static LINES: [(&str, Refusal); 59] = [
     ("", None),
     ("# phase", None),
     ("phase", None),
@@ -59,12 +60,15 @@ static LINES: [(&str, Refusal); 56] = [
     ("die", Some((2, 3))),
     ("die a 4 4", Some((2, 3))),
     ("dies a 4", Some((2, 3))),
-    ("cond c m 0", Some((2, 3))),
-    ("cond c n 4294967296", Some((2, 3))),
-    ("call a wait c", Some((2, 3))),
-    ("call a wait m", Some((2, 3))),
-    ("call b signal m", Some((2, 3))),
-    ("call a broadcast m", Some((2, 3))),
+    ("cond c m 0", None),
+    ("cond c m 4294967295", None),
+    ("cond c n 4294967296", Some((3, 3))),
+    ("cond c n 0", Some((4, 3))),
+    ("cond c m", Some((2, 3))),
+    ("call a wait c", Some((4, 3))),
+    ("call a wait m", Some((4, 3))),
+    ("call b signal m", Some((4, 3))),
+    ("call a broadcast m", Some((4, 3))),
     ("begin a signal c", Some((2, 3))),
     ("thread a", Some((4, 3))),
     ("mutex n", None),
@@ -86,7 +90,7 @@ const WHOLE: Scripts = Scripts {
 };
 
 /// Whole scripts.
-static SCRIPTS: [(&str, Refusal); 17] = [
+static SCRIPTS: [(&str, Refusal); 21] = [
     ("", Some((3, 1))),
     ("phase\n", Some((3, 2))),
     ("thread a\nphase\n", Some((3, 3))),
@@ -115,6 +119,14 @@ static SCRIPTS: [(&str, Refusal); 17] = [
     ("thread a\ndie a 4\nmutex m\n", Some((2, 3))),
     ("thread a\ndie a 4\n", Some((3, 3))),
     ("thread a\nmutex m\ndie a 4", Some((2, 3))),
+    // Calls name condition variables that are declared above, and these name mutexes.
+    ("thread a\nmutex m\ncond q m 0\ncall a wait q\n", None),
+    (
+        "thread a\nmutex m\ncond q m 0\ncall a signal m\n",
+        Some((4, 4)),
+    ),
+    ("thread a\ncond q m 0\nmutex m\n", Some((4, 2))),
+    ("thread a\nmutex m\nphase\ncond q m 0\n", Some((2, 4))),
 ];
 
 #[test]
@@ -140,16 +152,23 @@ fn death_in_a_run(rt: HostRuntime) {
     assert!(rt; refusal(rt.alloc(), past_range, Mode::Run) == Some((2, 3)));
 }
 
-const LOCK: Call = Call::Lock(0);
+const LOCK: Op = Op::OnMutex(Call::Lock(0));
 
-const TRY_LOCK: Call = Call::TryLock(0);
+const TRY_LOCK: Op = Op::OnMutex(Call::TryLock(0));
 
-const UNLOCK: Call = Call::Unlock(0);
+const UNLOCK: Op = Op::OnMutex(Call::Unlock(0));
 
-const CONSISTENT: Call = Call::Consistent(0);
+const CONSISTENT: Op = Op::OnMutex(Call::Consistent(0));
+
+/// Of the first condition variable and of the second one.
+const WAIT: Op = Op::OnCondition(CondCall::Wait(0));
+
+const SIGNAL: Op = Op::OnCondition(CondCall::Signal(1));
+
+const BROADCAST: Op = Op::OnCondition(CondCall::Broadcast(0));
 
 /// A job: the number of its thread, and its calls.
-type Calls = (u8, &'static [Call]);
+type Calls = (u8, &'static [Op]);
 
 fn has_jobs(phase: &Phase, want: &[Calls]) -> bool {
     if phase.jobs.len() != want.len() {
@@ -193,10 +212,10 @@ fn asks_for(alloc: Global, text: &str, mode: Mode, want: &[&[Calls]]) -> bool {
 }
 
 /// Stands in front of commands of three threads.
-const THREE_THREADS: &str = "thread a\nthread b\nthread c\nmutex m\n";
+const THREE_THREADS: &str = "thread a\nthread b\nthread c\nmutex m\ncond q m 0\ncond r m 7\n";
 
 /// The commands of three threads, and the phases that they ask for.
-static PHASES: [(&str, &[&[Calls]]); 7] = [
+static PHASES: [(&str, &[&[Calls]]); 8] = [
     ("", &[&[]]),
     ("phase\n", &[&[], &[]]),
     (
@@ -228,6 +247,13 @@ static PHASES: [(&str, &[&[Calls]]); 7] = [
     (
         "die b 4\ncall b lock m\nphase\ncall b unlock m\ndie a 1\n",
         &[&[(2, &[LOCK])], &[(2, &[UNLOCK])]],
+    ),
+    (
+        "call c lock m\nphase\ncall c wait q\ncall a signal r\ncall a lock m\ncall c unlock m\ncall a broadcast q\n",
+        &[
+            &[(3, &[LOCK])],
+            &[(1, &[SIGNAL, LOCK, BROADCAST]), (3, &[WAIT, UNLOCK])],
+        ],
     ),
 ];
 

@@ -2,9 +2,9 @@
 
 use crate::built::joined;
 use crate::faults::{Refused, Scripts, read};
+use condvar::Op;
 use lockword::Tid;
 use mutex::Call;
-use protocol::Op;
 use script::{Action, Command, Fault, Mode, Script, ScriptFault};
 use std::alloc::{AllocError, Global};
 use std::test::Fail;

@@ -1,5 +1,5 @@
--- The text that tells of real threads: the replies of each, and then each mutex.
-use Rattle.std.specs.Prelude.{ℕ, zero, suc, Bool, List, [], ◌∷◌, ◌++◌, map, codes, slice_get, Option, Some, None, if◌then◌else◌}
+-- The text that tells of real threads: the replies of each, then each mutex, and then each condition variable.
+use Rattle.std.specs.Prelude.{ℕ, zero, suc, Bool, List, [], ◌∷◌, ◌++◌, map, codes, decimal, slice_get, Option, Some, None, if◌then◌else◌}
 use Rattle.std.specs.List.{concat}
 use Rattle.lockword.specs.declared.reply.Reply.{Reply}
 use Rattle.lockword.specs.Replies.{reply_word}
@@ -7,6 +7,7 @@ use Rattle.lockword.specs.Cells.{fields_of}
 use Rattle.texts.specs.MutexLines.{mutex_start}
 use Rattle.texts.specs.declared.replies.ThreadReplies.{ThreadReplies}
 use Rattle.texts.specs.declared.replies.MutexWord.{MutexWord}
+use Rattle.texts.specs.declared.replies.ConditionWord.{ConditionWord}
 
 -- a reply, after a space
 abbrev pub reply_text : Reply → List ℕ
@@ -35,12 +36,22 @@ owner_name threads (suc i) = name_in (slice_get threads i)
 abbrev pub mutex_line : List ThreadReplies → MutexWord → List ℕ
 mutex_line threads m = mutex_start m.name.now m.cell (owner_name threads (fields_of m.cell).owner) ++ concat (codes "-\n" ∷ [])
 
--- the lines of the threads and those of the mutexes
+-- cond NAME COUNTER SLEEPERS
+abbrev pub condition_line : ConditionWord → List ℕ
+condition_line c = concat (codes "cond " ∷ c.name.now ∷ codes " " ∷ decimal c.counter ∷ codes " -\n" ∷ [])
+
+-- the lines of the threads, those of the mutexes and those of the condition variables
 abbrev pub threads_text : List ThreadReplies → List ℕ
 threads_text threads = concat (map replies_line threads)
 
 abbrev pub mutexes_text : List ThreadReplies → List MutexWord → List ℕ
 mutexes_text threads mutexes = concat (map (mutex_line threads) mutexes)
 
-abbrev pub replies_text : List ThreadReplies → List MutexWord → List ℕ
-replies_text threads mutexes = threads_text threads ++ mutexes_text threads mutexes
+abbrev pub conditions_text : List ConditionWord → List ℕ
+conditions_text conditions = concat (map condition_line conditions)
+
+abbrev pub objects_text : List ThreadReplies → List MutexWord → List ConditionWord → List ℕ
+objects_text threads mutexes conditions = mutexes_text threads mutexes ++ conditions_text conditions
+
+abbrev pub replies_text : List ThreadReplies → List MutexWord → List ConditionWord → List ℕ
+replies_text threads mutexes conditions = threads_text threads ++ objects_text threads mutexes conditions

@@ -25,6 +25,6 @@ mod table;
 mod text;
 mod trace_lines;
 
-pub use replies::{MutexWord, ThreadReplies, write_replies};
+pub use replies::{ConditionWord, MutexWord, ThreadReplies, write_replies};
 pub use table::write_table;
 pub use text::write_trace;

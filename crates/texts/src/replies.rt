@@ -1,10 +1,11 @@
-//! The text that tells of real threads: what each was answered, and how they left the mutexes.
+//! The text that tells of real threads: what each was answered, and how they left the mutexes and the condition variables.
 
 ghost use Rattle.std.specs.Prelude.{◌≡◌};
 ghost use Rattle.streams.specs.Leaves.{Leaves};
-ghost use Rattle.texts.specs.Replies.{reply_texts, ending, replies_line, owner_name, mutex_line, threads_text, mutexes_text, replies_text};
+ghost use Rattle.texts.specs.Replies.{reply_texts, ending, replies_line, owner_name, mutex_line, condition_line, threads_text, mutexes_text, conditions_text, objects_text, replies_text};
 
 use crate::mutex_start::write_mutex_start;
+use itoa::Buffer;
 use lockword::{Cell, Reply};
 use std::io::{self, Write};
 use streams::put;
@@ -25,6 +26,14 @@ pub struct MutexWord<'a> {
     pub name: &'a str,
     /// The word of its cell.
     pub cell: u64,
+}
+
+/// A condition variable as its threads left it.
+#[derive(Clone, Copy, Debug)]
+pub struct ConditionWord<'a> {
+    pub name: &'a str,
+    /// The word of its counter.
+    pub counter: u64,
 }
 
 fn write_words<W: Write>(out: &mut W, replies: &[Reply]) -> io::Result<()>
@@ -77,6 +86,15 @@ fn write_mutex<W: Write>(
     put(out, &["-\n"])
 }
 
+/// `cond NAME COUNTER SLEEPERS`. Nobody sleeps any more.
+fn write_condition<W: Write>(out: &mut W, condition: &ConditionWord<'_>) -> io::Result<()>
+    ensures { Leaves (W.contents out.old) (W.contents out.new) result (condition_line condition.now) }
+{
+    let mut digits = Buffer::new();
+    let counter = digits.format(condition.counter);
+    put(out, &["cond ", condition.name, " ", counter, " -\n"])
+}
+
 fn write_threads<W: Write>(out: &mut W, threads: &[ThreadReplies<'_>]) -> io::Result<()>
     ensures { Leaves (W.contents out.old) (W.contents out.new) result (threads_text threads.now) }
 {
@@ -99,15 +117,38 @@ fn write_mutexes<W: Write>(
     Ok(())
 }
 
-/// Writes what real threads were answered and how they left the mutexes: a line for each thread, in the order of their ids, and then one for each mutex.
-/// It takes no memory. At an error a beginning of the text is written.
+fn write_conditions<W: Write>(out: &mut W, conditions: &[ConditionWord<'_>]) -> io::Result<()>
+    ensures { Leaves (W.contents out.old) (W.contents out.new) result (conditions_text conditions.now) }
+{
+    for condition in conditions {
+        write_condition(out, condition)?;
+    }
+    Ok(())
+}
+
+/// The mutexes' lines, and then those of the condition variables.
+fn write_objects<W: Write>(
+    out: &mut W,
+    threads: &[ThreadReplies<'_>],
+    mutexes: &[MutexWord<'_>],
+    conditions: &[ConditionWord<'_>],
+) -> io::Result<()>
+    ensures { Leaves (W.contents out.old) (W.contents out.new) result (objects_text threads.now mutexes.now conditions.now) }
+{
+    write_mutexes(out, threads, mutexes)?;
+    write_conditions(out, conditions)
+}
+
+/// Writes what real threads were answered and how they left the mutexes and the condition variables: a line for each thread, in the order of their ids, then one for each mutex, then one for
+/// each condition variable. It takes no memory. At an error a beginning of the text is written.
 pub fn write_replies<W: Write>(
     threads: &[ThreadReplies<'_>],
     mutexes: &[MutexWord<'_>],
+    conditions: &[ConditionWord<'_>],
     out: &mut W,
 ) -> io::Result<()>
-    ensures { Leaves (W.contents out.old) (W.contents out.new) result (replies_text threads.now mutexes.now) }
+    ensures { Leaves (W.contents out.old) (W.contents out.new) result (replies_text threads.now mutexes.now conditions.now) }
 {
     write_threads(out, threads)?;
-    write_mutexes(out, threads, mutexes)
+    write_objects(out, threads, mutexes, conditions)
 }

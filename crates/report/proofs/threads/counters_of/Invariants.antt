@@ -1,6 +1,7 @@
-use Rattle.std.proofs.Common.{◌≡◌, take}
-use Rattle.script.specs.Playing.{counters_of}
+use Rattle.std.proofs.Common.{◌≡◌, ◌<◌, ℕ, length, get_or}
+use Rattle.keys.specs.Layouts.{counter_place}
+use Rattle.ruledwords.specs.Passes.{last_layout, last_words}
 use Rattle.report.proofs.threads.counters_of.Given as goal
 
 abbrev pub invariant-loop-condition : goal.invariant-loop-condition
-invariant-loop-condition l = l.counters.items ≡ take l.condition (counters_of l.script)
+invariant-loop-condition l = (length l.counters.items ≡ l.condition) × ((q : ℕ) → q < l.condition → get_or l.counters.items q 0 ≡ get_or (last_words l.last) (counter_place (last_layout l.last) q) 0)

@@ -1,13 +1,23 @@
-use Rattle.std.proofs.Common.{List, subst}
+use Rattle.std.proofs.Common.{List, length, ap, sym, ◌∙◌, subst}
+use Rattle.keys.specs.Layouts.{Layout'}
 use Rattle.ruledwords.specs.declared.card.Card.{Card}
 use Rattle.ruledwords.specs.Passes.{layout_of, presets_of, last_words}
 use Rattle.ruledwords.specs.Rules.{Ends}
-use Rattle.report.specs.Threads.{AreCells, HasEnded}
-use Rattle.report.proofs.Phases.{if_ok}
+use Rattle.script.proofs.Names.{length-map_of}
 use Rattle.report.proofs.threads.finish.Goals as goal
 
+pub cells_of-requires : goal.cells_of-requires
+cells_of-requires c = c.mutexes.ensures.count ∙ ap (λ (l : Layout'). l.mutexes) (sym (c.close_all-last.ensures.layout ∙ c.requires.layout))
+
+pub counters_of-requires : goal.counters_of-requires
+counters_of-requires c =
+    c.conditions.ensures.count ∙ sym (length-map_of (λ x. x.1.mutex) c.args.script.now.conditions) ∙ ap (λ (l : Layout'). length l.conditions) (sym (c.close_all-last.ensures.layout ∙ c.requires.layout))
+
 pub returns : goal.returns
-returns c =
-    let ends = subst (λ (cards : List Card). Ends (layout_of c.args.bench) (presets_of c.args.bench) cards (last_words c.close_all.result)) c.in_ok-passes.ensures.cards c.close_all.ensures.ends in
-    if_ok (λ cells. AreCells c.close_all.result cells.items) (λ cells. HasEnded c.args.bench c.args.workers.items cells.items) c.cells_of.result c.cells_of.ensures
-    (λ cells words. record { last = c.close_all.result; same = c.close_all.ensures.layout; ends = ends; words = words })
+returns c = record {
+  last = c.close_all-last.result;
+  same = c.close_all-last.ensures.layout;
+  ends = subst (λ (cards : List Card). Ends (layout_of c.args.bench) (presets_of c.args.bench) cards (last_words c.close_all-last.result)) c.in_ok-passes.ensures.cards c.close_all-last.ensures.ends;
+  words = c.in_ok-cells.ensures;
+  counts = c.in_ok-counters.ensures;
+}

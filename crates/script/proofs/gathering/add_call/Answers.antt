@@ -1,6 +1,4 @@
-use Rattle.std.proofs.Common.{◌≡◌, ◌∙◌, ap, ◌+◌, ◌-◌, ◌<◌, length, arith}
-use Rattle.protocol.specs.declared.event.Op.{Op}
-use Rattle.script.specs.declared.command.Action.TheVariants.{Call}
+use Rattle.std.proofs.Common.{◌≡◌, ◌+◌, ◌-◌, ◌<◌, length, arith}
 use Rattle.script.proofs.Phases.{call_pushed}
 use Rattle.script.proofs.gathering.add_call.Goals as goal
 
@@ -13,4 +11,4 @@ returns-in_ok-push c =
     let j = c.from-index.result - 1 in
     let inside : j < length c.args.calls.now.items = omega arith in
     let its : c.in-Call.thread ≡ j + 1 = omega arith in
-    λ n cs h. call_pushed n j c.in-Call.thread cs c.args.command.now c.in-OnMutex.call c.args.calls.now.items c.index_mut.result.now c.push.new.self inside c.index_mut.ensures.value c.in_ok-push.ensures.items its (c.in-Call.is ∙ ap (λ (o : Op). Call c.in-Call.thread o) c.in-OnMutex.is) h
+    λ n cs h. call_pushed n j c.in-Call.thread cs c.args.command.now c.in-Call.call c.args.calls.now.items c.index_mut.result.now c.push.new.self inside c.index_mut.ensures.value c.in_ok-push.ensures.items its c.in-Call.is h

@@ -4,7 +4,7 @@ use Rattle.std.proofs.lemmas.List.{take_more}
 use Rattle.script.specs.Playing.{counters_of}
 use Rattle.script.specs.declared.command.Condition.{Condition}
 use Rattle.script.proofs.Names.{length-map_of}
-use Rattle.report.proofs.threads.counters_of.Goals as goal
+use Rattle.report.proofs.threads.presets_of.Goals as goal
 
 counter_at : (cs : List (List ℕ × Condition)) (k : ℕ) (x : Condition) → option_map (λ c. c.1) (slice_get cs k) ≡ Some x → get_or (map (λ c. c.1.counter) cs) k 0 ≡ x.counter
 counter_at [] k x h = absurd cc
