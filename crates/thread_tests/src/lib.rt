@@ -1,15 +1,15 @@
-//! The tests of `ruledwords` and `threadbench`, by their public names alone.
-//!
-//! A crate that has tests is proved a second time for them. So tests stand in crates of their own, above what they call.
+//! The tests of phases of work at a bench, of gates and of sleepers, by public names alone.
 #![tactic(auto)]
 
 #[cfg(test)]
-mod benches;
+mod conditions;
 #[cfg(test)]
-mod exits;
+mod dying;
 #[cfg(test)]
-mod fates;
+mod gates;
 #[cfg(test)]
-mod hands;
+mod jobs;
 #[cfg(test)]
-mod passes;
+mod phases;
+#[cfg(test)]
+mod sleepers;

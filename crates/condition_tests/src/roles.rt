@@ -1,0 +1,262 @@
+//! What threads do beside others that wait.
+ghost use Rattle.std.specs.Prelude.{IfSome};
+ghost use Rattle.ruledwords.specs.Passes.{IsLive};
+
+use condvar::CondCall::{self, Broadcast, Signal};
+use condvar::Op::{self, OnCondition, OnMutex};
+use lockword::Reply;
+use mutex::Call::{Lock, Unlock};
+use ruledwords::{Live, Never, Pass};
+use std::sync::Wait;
+use std::sync::atomic::{AtomicU64, Ordering};
+use std::thread::{self, Threads};
+use std::time::Clock;
+use thread_fixtures::{Asked, makes, settles, waits_for};
+use threadbench::Bench;
+
+/// How often the fate of a waiter is asked until it sleeps: it loads the cell and the counter, announces the one mutex that it holds, takes it out of its list by 3, frees it, and falls asleep.
+const ASLEEP: u64 = 8;
+
+/// What threads tell each other.
+#[derive(Drop)]
+pub(crate) struct Board {
+    /// The condition variable, which belongs to mutex 0.
+    pub(crate) condition: u16,
+    /// How often each waiter's fate was asked in its wait.
+    asked: [AtomicU64; 3],
+    /// Which waiters' waits were answered, from 1, in that order, as digits.
+    pub(crate) order: AtomicU64,
+    /// Waiters that died.
+    deaths: AtomicU64,
+}
+
+/// What a thread does.
+#[derive(Clone, Copy, PartialEq, Eq)]
+pub(crate) enum Role {
+    Nothing,
+    /// Waits, as the one with this number, from 0, once those before it sleep.
+    Waits(usize),
+    /// Waits as the first one, at once.
+    WaitsAtOnce,
+    /// Takes the mutex, broadcasts and gives it back, until a wait was answered, and a million times at most.
+    Repeats,
+    /// Once three sleep: broadcasts to them.
+    Broadcasts,
+    /// Once three sleep: signals as often.
+    Signals,
+    /// Kills the thread with this id, which waits as the first, once that sleeps.
+    Kills(u8),
+    /// The same, once it has moved it to the mutex.
+    MovesAndKills(u8),
+    /// The same, once that was asked so often, asleep or not.
+    KillsAfter(u8, u64),
+}
+
+impl Board {
+    pub(crate) fn new(condition: u16) -> Board {
+        Board {
+            condition,
+            asked: [AtomicU64::new(0), AtomicU64::new(0), AtomicU64::new(0)],
+            order: AtomicU64::new(0),
+            deaths: AtomicU64::new(0),
+        }
+    }
+
+    /// Waits until so many waiters sleep, for a while.
+    fn sleep<R: Clock>(&self, rt: &R, waiters: usize) -> bool {
+        for asked in self.asked.iter().take(waiters) {
+            if !waits_for(rt, asked, ASLEEP) {
+                return false;
+            }
+        }
+        if waiters > 0 {
+            settles(rt);
+        }
+        true
+    }
+
+    /// The wait of this waiter was answered. Its thread owns the mutex.
+    fn answer(&self, waiter: usize) {
+        let order = self.order.load(Ordering::SeqCst);
+        let next = order
+            .wrapping_mul(10)
+            .wrapping_add(waiter as u64)
+            .wrapping_add(1);
+        self.order.store(next, Ordering::SeqCst);
+    }
+
+    fn order(&self) -> u64 {
+        self.order.load(Ordering::SeqCst)
+    }
+}
+
+/// Makes a call of a thread that is to live: its pass, if it was told OK.
+fn is_told_ok<R: Wait>(rt: &R, bench: &Bench, pass: Pass<Live>, op: Op) -> Option<Pass<Live>>
+    requires { IsLive bench.now pass }
+    ensures { IfSome result (λ p. IsLive bench.now p) }
+{
+    match makes(rt, bench, pass, op, &mut Never) {
+        Some((pass, Reply::OK)) => Some(pass),
+        _ => None,
+    }
+}
+
+/// Makes a call as the owner of the mutex: its pass, if all was told OK.
+fn as_owner<R: Wait>(rt: &R, bench: &Bench, pass: Pass<Live>, call: CondCall) -> Option<Pass<Live>>
+    requires { IsLive bench.now pass }
+    ensures { IfSome result (λ p. IsLive bench.now p) }
+{
+    let pass = is_told_ok(rt, bench, pass, OnMutex(Lock(0)))?;
+    let pass = is_told_ok(rt, bench, pass, OnCondition(call))?;
+    is_told_ok(rt, bench, pass, OnMutex(Unlock(0)))
+}
+
+/// Takes the mutex, waits, and gives it back; whether it lives and all was told OK.
+fn waits<R: Wait>(rt: &R, bench: &Bench, pass: Pass<Live>, board: &Board, waiter: usize) -> bool
+    requires { IsLive bench.now pass }
+{
+    let (Some(pass), Some(asked)) = (
+        is_told_ok(rt, bench, pass, OnMutex(Lock(0))),
+        board.asked.get(waiter),
+    ) else {
+        return false;
+    };
+    let call = OnCondition(CondCall::Wait(board.condition));
+    match makes(rt, bench, pass, call, &mut Asked::new(asked, 0)) {
+        Some((pass, reply)) => {
+            board.answer(waiter);
+            is_told_ok(rt, bench, pass, OnMutex(Unlock(0))).is_some() && reply == Reply::OK
+        }
+        None => {
+            board.deaths.fetch_add(1, Ordering::SeqCst);
+            false
+        }
+    }
+}
+
+fn repeats<R: Wait>(rt: &R, bench: &Bench, first: Pass<Live>, board: &Board) -> bool
+    requires { IsLive bench.now first }
+{
+    let mut pass = first;
+    for _ in 0..1_000_000_u32 {
+        if board.order() > 0 {
+            return true;
+        }
+        match as_owner(rt, bench, pass, Broadcast(board.condition)) {
+            Some(after) => pass = after,
+            None => return false,
+        }
+    }
+    false
+}
+
+/// Nobody's wait is answered before the mutex is free.
+fn broadcasts<R: Wait + Clock>(rt: &R, bench: &Bench, pass: Pass<Live>, board: &Board) -> bool
+    requires { IsLive bench.now pass }
+{
+    let Some(pass) = is_told_ok(rt, bench, pass, OnMutex(Lock(0))) else {
+        return false;
+    };
+    let Some(pass) = is_told_ok(rt, bench, pass, OnCondition(Broadcast(board.condition))) else {
+        return false;
+    };
+    settles(rt);
+    let nobody = board.order() == 0;
+    nobody && is_told_ok(rt, bench, pass, OnMutex(Unlock(0))).is_some()
+}
+
+/// Each signal wakes one.
+fn signals<R: Wait + Clock>(rt: &R, bench: &Bench, first: Pass<Live>, board: &Board) -> bool
+    requires { IsLive bench.now first }
+{
+    let mut pass = first;
+    for want in [1_u64, 12, 123] {
+        match as_owner(rt, bench, pass, Signal(board.condition)) {
+            Some(after) => pass = after,
+            None => return false,
+        }
+        let came = waits_for(rt, &board.order, want);
+        settles(rt);
+        if !came || board.order() != want {
+            return false;
+        }
+    }
+    true
+}
+
+/// Kills the first waiter as the owner of the mutex, which it gives back once that is dead.
+fn kills<R: Wait + Clock>(
+    rt: &R,
+    bench: &Bench,
+    pass: Pass<Live>,
+    board: &Board,
+    victim: u8,
+    moves: bool,
+) -> bool
+    requires { IsLive bench.now pass }
+{
+    let Some(mut pass) = is_told_ok(rt, bench, pass, OnMutex(Lock(0))) else {
+        return false;
+    };
+    if moves {
+        match is_told_ok(rt, bench, pass, OnCondition(Broadcast(board.condition))) {
+            Some(after) => pass = after,
+            None => return false,
+        }
+        settles(rt);
+    }
+    let killed = bench.kill(rt, victim) == Ok(());
+    let died = waits_for(rt, &board.deaths, 1);
+    let freed = is_told_ok(rt, bench, pass, OnMutex(Unlock(0))).is_some();
+    killed && died && freed
+}
+
+/// Does its part: whether all went as it should.
+fn acts<R: Wait + Clock>(rt: &R, bench: &Bench, pass: Pass<Live>, board: &Board, role: Role) -> bool
+    requires { IsLive bench.now pass }
+{
+    match role {
+        Role::Nothing => true,
+        Role::Waits(waiter) => board.sleep(rt, waiter) && waits(rt, bench, pass, board, waiter),
+        Role::WaitsAtOnce => waits(rt, bench, pass, board, 0),
+        Role::Repeats => repeats(rt, bench, pass, board),
+        Role::Broadcasts => board.sleep(rt, 3) && broadcasts(rt, bench, pass, board),
+        Role::Signals => board.sleep(rt, 3) && signals(rt, bench, pass, board),
+        Role::Kills(victim) => {
+            board.sleep(rt, 1) && kills(rt, bench, pass, board, victim, false)
+        }
+        Role::MovesAndKills(victim) => {
+            board.sleep(rt, 1) && kills(rt, bench, pass, board, victim, true)
+        }
+        Role::KillsAfter(victim, asked) => {
+            waits_for(rt, &board.asked[0], asked)
+                && bench.kill(rt, victim) == Ok(())
+                && waits_for(rt, &board.deaths, 1)
+        }
+    }
+}
+
+/// Two threads at once.
+pub(crate) fn two_act<R: Threads + Wait + Clock + Sync>(
+    rt: &R,
+    bench: &Bench,
+    first: Pass<Live>,
+    second: Pass<Live>,
+    board: &Board,
+    roles: [Role; 2],
+) -> [bool; 2]
+    requires first { IsLive bench.now first }
+    requires second { IsLive bench.now second }
+{
+    let [one, other] = roles;
+    let (one, other) = thread::join(
+        rt,
+        || -> bool
+            requires { IsLive bench.now first }
+        { acts(rt, bench, first, board, one) },
+        || -> bool
+            requires { IsLive bench.now second }
+        { acts(rt, bench, second, board, other) },
+    );
+    [one, other]
+}

@@ -1,0 +1,308 @@
+//! Threads that sleep on a mutex while its owner kills them, dies, or is killed.
+ghost use Rattle.ruledwords.specs.Passes.{IsLive};
+
+use condvar::Op::OnMutex;
+use keys::{Layout, bucket_of, key_of};
+use lockword::Reply::{self, EOWNERDEAD, OK};
+use mutex::Call::{Consistent, Lock, TryLock, Unlock};
+use ruledwords::{Live, Never, Pass};
+use std::alloc::Global;
+use std::sync::Wait;
+use std::sync::atomic::{AtomicU64, Ordering};
+use std::test::Fail;
+use std::thread::{self, Threads};
+use std::time::Clock;
+use thread_fixtures::{Asked, Left, Team, makes, settles, waits_for};
+use threadbench::Bench;
+
+/// How often the fate of a thread is asked that locks an owned mutex, until it sleeps.
+const ASLEEP: u64 = 4;
+
+/// What the owner does while another thread sleeps on its mutex.
+#[derive(Clone, Copy, PartialEq, Eq)]
+enum Act {
+    /// It kills the sleeper, waits for its death, and frees the mutex, so that whoever sleeps on still wakes.
+    Kills,
+    /// It does so once the other one was asked so often, and gives it no time to fall asleep.
+    KillsAfter(u64),
+    /// It kills the sleeper's process, which is 1, in place of the sleeper.
+    KillsItsProcess,
+    /// It dies before its next access.
+    Dies,
+    /// It frees the mutex, and dies before it wakes anybody.
+    DiesOwing,
+    /// It is killed, and dies in its next call.
+    IsKilled,
+}
+
+/// What two threads tell each other.
+#[derive(Drop)]
+struct Board {
+    /// How often the sleeper's fate was asked.
+    asked: AtomicU64,
+    /// Whether the sleeper's call has ended.
+    ended: AtomicU64,
+}
+
+/// A mutex, its sleeper, and what its owner does.
+#[derive(Clone, Copy)]
+struct Plan {
+    mutex: u16,
+    owner: u8,
+    sleeper: u8,
+    act: Act,
+}
+
+/// The sleeper's part: what its lock is told, if it lives.
+fn sleep<R: Wait>(
+    rt: &R,
+    bench: &Bench,
+    pass: Pass<Live>,
+    plan: Plan,
+    board: &Board,
+) -> Option<Reply>
+    requires { IsLive bench.now pass }
+{
+    let mut fate = Asked::new(&board.asked, 0);
+    let made = makes(rt, bench, pass, OnMutex(Lock(plan.mutex)), &mut fate);
+    board.ended.store(1, Ordering::SeqCst);
+    made.map(|made| made.1)
+}
+
+/// The owner kills the sleeper and frees the mutex once that is dead: whether it went so.
+fn kill_and_free<R: Wait + Clock>(
+    rt: &R,
+    bench: &Bench,
+    pass: Pass<Live>,
+    plan: Plan,
+    board: &Board,
+) -> bool
+    requires { IsLive bench.now pass }
+{
+    let killed = match plan.act {
+        Act::KillsItsProcess => bench.kill_process(rt, 1) == Ok(()),
+        _ => bench.kill(rt, plan.sleeper) == Ok(()),
+    };
+    let died = waits_for(rt, &board.ended, 1);
+    let made = makes(rt, bench, pass, OnMutex(Unlock(plan.mutex)), &mut Never);
+    killed && died && made.is_some()
+}
+
+/// The owner's part: whether it went so.
+fn acts<R: Wait + Clock>(rt: &R, bench: &Bench, pass: Pass<Live>, plan: Plan, board: &Board) -> bool
+    requires { IsLive bench.now pass }
+{
+    if let Act::KillsAfter(asked) = plan.act {
+        let came = waits_for(rt, &board.asked, asked);
+        return kill_and_free(rt, bench, pass, plan, board) && came;
+    }
+    let came = waits_for(rt, &board.asked, ASLEEP);
+    settles(rt);
+    let count = AtomicU64::new(0);
+    let (op, stops_at) = match plan.act {
+        Act::Kills | Act::KillsAfter(_) | Act::KillsItsProcess => {
+            return kill_and_free(rt, bench, pass, plan, board) && came;
+        }
+        Act::Dies => (Consistent(plan.mutex), 1),
+        // an unlock makes six accesses up to the one that frees the mutex
+        Act::DiesOwing => (Unlock(plan.mutex), 7),
+        Act::IsKilled => (Lock(plan.mutex), 0),
+    };
+    let killed = plan.act != Act::IsKilled || bench.kill(rt, plan.owner) == Ok(());
+    let made = makes(
+        rt,
+        bench,
+        pass,
+        OnMutex(op),
+        &mut Asked::new(&count, stops_at),
+    );
+    came && killed && made.is_none()
+}
+
+/// What came of a plan.
+#[derive(Clone, Copy, PartialEq, Eq)]
+struct Story {
+    /// Whether the owner took the mutex, and did its part.
+    well: bool,
+    /// What the sleeper's lock was told, if it lives.
+    sleeper: Option<Reply>,
+    /// What a third thread's trylock is told then.
+    next: Option<Reply>,
+    /// The id and the flags that it leaves in the cell, but for WAITERS, where that is the first one.
+    cell: u64,
+}
+
+/// The fourth of a team owns the mutex, and the fifth one sleeps on it; the third one comes after them.
+fn played<R: Threads + Wait + Clock + Sync>(
+    rt: &R,
+    alloc: Global,
+    layout: Layout,
+    mutex: u16,
+    act_of: Act,
+) -> Result<Story, Fail> {
+    let Team {
+        bench,
+        first: _,
+        second,
+        third,
+        fourth,
+        fifth,
+    } = Team::new(alloc, layout, &[])?;
+    let plan = Plan {
+        mutex,
+        owner: fourth.thread().get(),
+        sleeper: fifth.thread().get(),
+        act: act_of,
+    };
+    let Some((fourth, taken)) = makes(rt, &bench, fourth, OnMutex(Lock(mutex)), &mut Never) else {
+        return Ok(Story {
+            well: false,
+            sleeper: None,
+            next: None,
+            cell: 0,
+        });
+    };
+    let board = Board {
+        asked: AtomicU64::new(0),
+        ended: AtomicU64::new(0),
+    };
+    let shared = &bench;
+    let told = &board;
+    let (well, sleeper) = thread::join(
+        rt,
+        || -> bool
+            requires { IsLive shared.now fourth }
+        { acts(rt, shared, fourth, plan, told) },
+        || -> Option<Reply>
+            requires { IsLive shared.now fifth }
+        { sleep(rt, shared, fifth, plan, told) },
+    );
+    let next = makes(rt, &bench, third, OnMutex(TryLock(mutex)), &mut Never).map(|made| made.1);
+    Ok(Story {
+        well: well && taken == OK,
+        sleeper,
+        next,
+        cell: Left::of(bench, second).cells[0] & 0x7fff_ffff,
+    })
+}
+
+/// A sleeper is killed while the mutex is owned: its call ends, and the mutex can be had by a third thread.
+#[test]
+fn a_sleeper_is_killed(rt: HostRuntime) -> Result<(), Fail> {
+    let want = Story {
+        well: true,
+        sleeper: None,
+        next: Some(OK),
+        cell: 3,
+    };
+    for _ in 0..20_u32 {
+        let found = played(&rt, rt.alloc(), Layout::new(5, 1, &[])?, 0, Act::Kills)?;
+        assert!(rt; found == want);
+    }
+    Ok(())
+}
+
+/// A process is killed while its only thread sleeps on a mutex that a thread of another process owns.
+#[test]
+fn a_process_is_killed_asleep(rt: HostRuntime) -> Result<(), Fail> {
+    let want = Story {
+        well: true,
+        sleeper: None,
+        next: Some(OK),
+        cell: 3,
+    };
+    for _ in 0..20_u32 {
+        let layout = Layout::with_processes(&[0, 0, 0, 0, 1], &[0, 1000], 1, &[])?;
+        let found = played(&rt, rt.alloc(), layout, 0, Act::KillsItsProcess)?;
+        assert!(rt; found == want);
+    }
+    Ok(())
+}
+
+/// Killed before it sleeps, about to, or asleep, it dies in any case.
+#[test]
+fn whoever_is_about_to_sleep_is_killed(rt: HostRuntime) -> Result<(), Fail> {
+    let want = Story {
+        well: true,
+        sleeper: None,
+        next: Some(OK),
+        cell: 3,
+    };
+    for asked in 0..=ASLEEP {
+        for _ in 0..40_u32 {
+            let act = Act::KillsAfter(asked);
+            let found = played(&rt, rt.alloc(), Layout::new(5, 1, &[])?, 0, act)?;
+            assert!(rt; found == want);
+        }
+    }
+    Ok(())
+}
+
+/// The last of the mutexes whose sleepers stand in a bucket with a high number.
+fn in_a_high_bucket(layout: &Layout) -> u16 {
+    let mut found = 0;
+    for mutex in 0..layout.mutexes() {
+        if bucket_of(key_of(layout.cell(mutex)), 256) >= 250 {
+            found = mutex;
+        }
+    }
+    found
+}
+
+/// The last of 64 threads sleeps in one of the last buckets, and is killed.
+#[test]
+fn the_last_of_64_threads_is_killed_in_a_high_bucket(rt: HostRuntime) -> Result<(), Fail> {
+    let layout = Layout::new(64, 300, &[])?;
+    let mutex = in_a_high_bucket(&layout);
+    let want = Story {
+        well: true,
+        sleeper: None,
+        next: Some(OK),
+        cell: 0,
+    };
+    assert!(rt; mutex > 0 && played(&rt, rt.alloc(), layout, mutex, Act::Kills)? == want);
+    Ok(())
+}
+
+/// Twenty times: what the sleeper is told of its owner's fate, which has the mutex then.
+fn always<R: Threads + Wait + Clock + Sync>(
+    rt: &R,
+    alloc: Global,
+    act: Act,
+    sleeper: Reply,
+    cell: u64,
+) -> Result<bool, Fail> {
+    let want = Story {
+        well: true,
+        sleeper: Some(sleeper),
+        next: Some(Reply::EBUSY),
+        cell,
+    };
+    for _ in 0..20_u32 {
+        if played(rt, alloc, Layout::new(5, 1, &[])?, 0, act)? != want {
+            return Ok(false);
+        }
+    }
+    Ok(true)
+}
+
+/// A killed thread owns a mutex on which another sleeps: it is woken by the walk, and told EOWNERDEAD.
+#[test]
+fn a_killed_owner_strands_nobody(rt: HostRuntime) -> Result<(), Fail> {
+    assert!(rt; always(&rt, rt.alloc(), Act::IsKilled, EOWNERDEAD, 0x4000_0005)?);
+    Ok(())
+}
+
+/// The owner dies and exits.
+#[test]
+fn a_sleeper_is_told_that_the_owner_died(rt: HostRuntime) -> Result<(), Fail> {
+    assert!(rt; always(&rt, rt.alloc(), Act::Dies, EOWNERDEAD, 0x4000_0005)?);
+    Ok(())
+}
+
+/// The owner frees the mutex, and dies before the wake that it owes: the walk makes it.
+#[test]
+fn a_sleeper_is_woken_for_a_dead_thread(rt: HostRuntime) -> Result<(), Fail> {
+    assert!(rt; always(&rt, rt.alloc(), Act::DiesOwing, OK, 5)?);
+    Ok(())
+}

@@ -1,0 +1,3 @@
+-- What the fixtures promise.
+pub mod Outcomes
+pub mod Teams

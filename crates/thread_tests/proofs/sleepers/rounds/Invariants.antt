@@ -1,0 +1,5 @@
+use Rattle.ruledwords.specs.Passes.{IsLive}
+use Rattle.thread_tests.proofs.sleepers.rounds.Given as goal
+
+abbrev pub invariant-loop-turn : goal.invariant-loop-turn
+invariant-loop-turn g l = IsLive l.bench l.pass

@@ -1,0 +1,167 @@
+//! Workers whose threads die before an access.
+ghost use Rattle.std.specs.Prelude.{None};
+
+use crate::jobs::{fresh, phase};
+use condvar::Op::{self, OnMutex};
+use keys::Layout;
+use lockword::Reply::{self, EOWNERDEAD, OK};
+use lockword::Tid;
+use mutex::Call::{Lock, TryLock, Unlock};
+use ruledwords::Never;
+use std::alloc::Global;
+use std::sync::Wait;
+use std::sync::atomic::{AtomicU64, Ordering};
+use std::test::Fail;
+use std::thread::Threads;
+use thread_fixtures::{Left, Team, makes};
+use threadbench::{Gate, Open, WorkerCall, WorkerPass};
+
+/// What came of a thread that locks a mutex in one phase and unlocks it in the next, and dies before its access with a number.
+#[derive(Clone, Copy, PartialEq, Eq)]
+struct Story {
+    /// How many calls were told OK in each phase.
+    told: [usize; 2],
+    dead: bool,
+    /// What its number has left.
+    left: Option<u32>,
+    /// What another thread's trylock is told afterwards.
+    next: Option<Reply>,
+    cell: u64,
+}
+
+fn told_ok(replies: &[Reply]) -> usize {
+    replies.iter().filter(|reply| **reply == OK).count()
+}
+
+fn two_phases<R: Threads + Wait + Sync>(rt: &R, alloc: Global, die: u32) -> Result<Story, Fail> {
+    let Team {
+        bench,
+        first,
+        second,
+        third,
+        fourth,
+        fifth: _,
+    } = Team::new(alloc, Layout::new(5, 1, &[])?, &[])?;
+    let first = fresh(alloc, &bench, first, Some(die));
+    let second = fresh(alloc, &bench, second, None);
+    let (first, second) = phase(
+        rt,
+        alloc,
+        &bench,
+        first,
+        second,
+        [&[OnMutex(Lock(0))], &[]],
+        &Open,
+    )?;
+    let locked = told_ok(first.replies.as_slice());
+    let (first, _second) = phase(
+        rt,
+        alloc,
+        &bench,
+        first,
+        second,
+        [&[OnMutex(Unlock(0))], &[]],
+        &Open,
+    )?;
+    let unlocked = told_ok(first.replies.as_slice());
+    let dead = matches!(first.pass, WorkerPass::Reaped(_));
+    let next = makes(rt, &bench, third, OnMutex(TryLock(0)), &mut Never).map(|made| made.1);
+    Ok(Story {
+        told: [locked, unlocked],
+        dead,
+        left: first.die,
+        next,
+        cell: Left::of(bench, fourth).cells[0],
+    })
+}
+
+fn died(told: [usize; 2], next: Reply, cell: u64) -> Story {
+    Story {
+        told,
+        dead: true,
+        left: None,
+        next: Some(next),
+        cell,
+    }
+}
+
+/// A lock makes eight accesses and an unlock seven.
+#[test]
+fn a_worker_dies_before_its_access(rt: HostRuntime) -> Result<(), Fail> {
+    for die in 1..19 {
+        let want = match die {
+            1..=3 => died([0, 0], OK, 3),
+            4..=8 => died([0, 0], EOWNERDEAD, 0x4000_0003),
+            9..=14 => died([1, 0], EOWNERDEAD, 0x4000_0003),
+            15 => died([1, 0], OK, 3),
+            _ => Story {
+                told: [1, 1],
+                dead: false,
+                left: Some(die - 15),
+                next: Some(OK),
+                cell: 3,
+            },
+        };
+        assert!(rt; two_phases(&rt, rt.alloc(), die)? == want);
+    }
+    Ok(())
+}
+
+/// Counts the calls of which it is told that they have ended.
+#[derive(Drop)]
+struct CountsEnds(AtomicU64);
+
+impl Gate for CountsEnds {
+    ghost says = { λ g t i c. None };
+
+    fn before(&self, _thread: Tid, _call: WorkerCall) -> bool {
+        true
+    }
+
+    fn after(&self, _thread: Tid, _call: WorkerCall) {
+        self.0.fetch_add(1, Ordering::SeqCst);
+    }
+}
+
+/// A thread makes these calls, and dies before its access with that number, if it makes as many; another one locks mutex 1 beside it. How many of its calls were answered, and what its number
+/// has left.
+pub(crate) fn dies_at<R: Threads + Wait + Sync, G: Gate + Sync>(
+    rt: &R,
+    alloc: Global,
+    calls: &[Op],
+    die: u32,
+    gate: &G,
+) -> Result<(usize, Option<u32>), Fail> {
+    let Team {
+        bench,
+        first,
+        second,
+        third: _,
+        fourth: _,
+        fifth: _,
+    } = Team::new(alloc, Layout::new(5, 2, &[0])?, &[0])?;
+    let first = fresh(alloc, &bench, first, Some(die));
+    let second = fresh(alloc, &bench, second, None);
+    let other = [OnMutex(Lock(1))];
+    let (first, _second) = phase(rt, alloc, &bench, first, second, [calls, &other], gate)?;
+    Ok((first.replies.len(), first.die))
+}
+
+/// A gate is told of each call that was answered, and of the one in which its thread died.
+#[test]
+fn a_gate_is_told_of_a_death(rt: HostRuntime) -> Result<(), Fail> {
+    let calls = [OnMutex(Lock(0)), OnMutex(Unlock(0)), OnMutex(Lock(0))];
+    let gate = CountsEnds(AtomicU64::new(0));
+    assert!(rt; dies_at(&rt, rt.alloc(), &calls, 12, &gate)? == (1, None));
+    assert!(rt; gate.0.load(Ordering::SeqCst) == 3);
+    Ok(())
+}
+
+/// The same thread's number goes on from phase to phase.
+#[test]
+fn accesses_are_counted_over_phases(rt: HostRuntime) -> Result<(), Fail> {
+    assert!(rt; two_phases(&rt, rt.alloc(), 8)?.told == [0, 0]);
+    assert!(rt; two_phases(&rt, rt.alloc(), 9)?.told == [1, 0]);
+    assert!(rt; two_phases(&rt, rt.alloc(), 16)?.told == [1, 1]);
+    Ok(())
+}

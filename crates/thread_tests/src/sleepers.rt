@@ -1,0 +1,176 @@
+//! Threads that sleep for each other.
+ghost use Rattle.ruledwords.specs.Outcomes.{IsOwedOf};
+ghost use Rattle.ruledwords.specs.Passes.{IsLive};
+
+use condvar::Op::OnMutex;
+use keys::Layout;
+use lockword::Reply::{self, OK};
+use mutex::Call::{Lock, Unlock};
+use ruledwords::{Live, Never, Outcome, Owed, Pass, Released};
+use std::alloc::Global;
+use std::sync::Wait;
+use std::sync::atomic::{AtomicU64, Ordering};
+use std::test::Fail;
+use std::thread::{self, Threads};
+use std::time::Clock;
+use thread_fixtures::{Asked, Left, Team, makes, settles, waits_for};
+use threadbench::Bench;
+
+const ROUNDS: u32 = 5_000;
+
+/// Locks and unlocks: how many calls were told OK.
+fn rounds<R: Wait>(rt: &R, bench: &Bench, first: Pass<Live>) -> u32
+    requires { IsLive bench.now first }
+{
+    let mut pass = first;
+    let mut well: u32 = 0;
+    for turn in 0..2 * ROUNDS {
+        let call = if turn % 2 == 0 { Lock(0) } else { Unlock(0) };
+        match makes(rt, bench, pass, OnMutex(call), &mut Never) {
+            Some((after, reply)) => {
+                pass = after;
+                well = well.wrapping_add(u32::from(reply == OK));
+            }
+            None => return well,
+        }
+    }
+    well
+}
+
+#[test]
+fn two_threads_sleep_for_each_other(rt: HostRuntime) -> Result<(), Fail> {
+    let Team {
+        bench,
+        first,
+        second,
+        third,
+        fourth: _,
+        fifth: _,
+    } = Team::new(rt.alloc(), Layout::new(5, 1, &[])?, &[])?;
+    let shared = &bench;
+    let host = &rt;
+    let told = thread::join(
+        &rt,
+        || -> u32
+            requires { IsLive shared.now first }
+        { rounds(host, shared, first) },
+        || -> u32
+            requires { IsLive shared.now second }
+        { rounds(host, shared, second) },
+    );
+    assert!(rt; told == (2 * ROUNDS, 2 * ROUNDS));
+    assert!(rt; Left::of(bench, third).cells[0] == 0);
+    Ok(())
+}
+
+/// What was counted of a lock by another thread, before the mutex's owner paid for its release.
+#[derive(Clone, Copy)]
+struct Before {
+    came: bool,
+    count: u64,
+    paid: bool,
+}
+
+/// The end of an unlock: whether it was told OK.
+fn pays<R: Wait>(rt: &R, bench: &Bench, owed: Owed) -> bool
+    requires { IsOwedOf bench.now owed }
+{
+    match bench.pay(rt, owed, &mut Never) {
+        Outcome::Lives(_, reply) => reply == OK,
+        Outcome::Dead(_) => false,
+    }
+}
+
+/// The owner's part: it waits for the sleeper, frees the mutex, and looks at the count before it wakes anybody.
+fn free_and_look<R: Wait + Clock>(
+    rt: &R,
+    bench: &Bench,
+    pass: Pass<Live>,
+    count: &AtomicU64,
+) -> Before
+    requires { IsLive bench.now pass }
+{
+    let _mutexes = bench.words().layout().mutexes();
+    let came = waits_for(rt, count, 4);
+    settles(rt);
+    match bench.words().release(pass, 0, &mut Never) {
+        Released::Owes(owed) => {
+            settles(rt);
+            Before {
+                came,
+                count: count.load(Ordering::SeqCst),
+                paid: pays(rt, bench, owed),
+            }
+        }
+        Released::Refused(_, _) | Released::Dead(_) => Before {
+            came,
+            count: 0,
+            paid: false,
+        },
+    }
+}
+
+/// What a lock with this count is told.
+fn counted_lock<R: Wait>(
+    rt: &R,
+    bench: &Bench,
+    pass: Pass<Live>,
+    count: &AtomicU64,
+) -> Option<Reply>
+    requires { IsLive bench.now pass }
+{
+    makes(rt, bench, pass, OnMutex(Lock(0)), &mut Asked::new(count, 0)).map(|made| made.1)
+}
+
+/// One thread locks a mutex, and another one sleeps on it. How often that was asked before it was woken, and in all; None where not all went well.
+fn one_sleeps<R: Threads + Wait + Clock + Sync>(
+    rt: &R,
+    alloc: Global,
+) -> Result<Option<(u64, u64)>, Fail> {
+    let Team {
+        bench,
+        first,
+        second,
+        third,
+        fourth: _,
+        fifth: _,
+    } = Team::new(alloc, Layout::new(5, 1, &[])?, &[])?;
+    let Some((first, taken)) = makes(rt, &bench, first, OnMutex(Lock(0)), &mut Never) else {
+        return Ok(None);
+    };
+    let count = AtomicU64::new(0);
+    let shared = &bench;
+    let counter = &count;
+    let (freed, told) = thread::join(
+        rt,
+        || -> Before
+            requires { IsLive shared.now first }
+        { free_and_look(rt, shared, first, counter) },
+        || -> Option<Reply>
+            requires { IsLive shared.now second }
+        { counted_lock(rt, shared, second, counter) },
+    );
+    let owner = Left::of(bench, third).cells[0] & 0x3fff_ffff;
+    let well = taken == OK && freed.came && freed.paid && told == Some(OK) && owner == 2;
+    Ok(if well {
+        Some((freed.count, count.load(Ordering::SeqCst)))
+    } else {
+        None
+    })
+}
+
+/// A thread locks a mutex that another owns, and its fate is asked before each access and each section: four times until it sleeps, while the owner frees the mutex and wakes nobody for some
+/// time; then it is woken, and asked seven times more. In some rounds the release may come before it sleeps.
+#[test]
+fn a_sleeper_makes_no_access(rt: HostRuntime) -> Result<(), Fail> {
+    let mut slept = 0_u32;
+    for _ in 0..20_u32 {
+        let asked = one_sleeps(&rt, rt.alloc())?;
+        assert!(rt; asked.is_some());
+        if asked == Some((4, 11)) {
+            slept = slept.wrapping_add(1);
+        }
+    }
+    assert!(rt; slept >= 10);
+    Ok(())
+}
