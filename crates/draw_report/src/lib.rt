@@ -1,4 +1,20 @@
-//! `rfx-draw` but for opening its file: its command line, reading a trace, and the messages. The pictures are those of `picture`.
+//! `rfx-draw` but for opening its file: its command line, reading a trace, drawing it, and the messages.
+//!
+//! [`run`] is given the words of the command line, what opens files, and the two writers. Where it answers 0 it has read its
+//! input to the end, that is a trace, and has written all of the picture and let go of it; else it has written a beginning of it,
+//! and one message on `err` says why (`RunEnds`). It reads at most one byte more than a trace may have.
+//!
+//! Stands on `verdict`, for reading traces and their faults, on `picture`, for drawing them, on `streams`, for reading, writing and
+//! opening, and on `itoa`, for numbers in messages.
+//!
+//! ```text
+//! // The words of `rfx-draw --svg dead_owner.trace`, the program's name first; `files` opens what they name.
+//! let words = env::args(&rt).and_then(|words| Ok(words.collect(rt.alloc())?));
+//! let mut out = BufWriter::new(rt.alloc(), rt.stdout())?;
+//! let status = run(rt.alloc(), words, &files, &mut out, &mut rt.stderr());
+//! // 0: drawn; 1: a fault, which is told; 2: another command line, which is told its usage
+//! ExitCode::from(status)
+//! ```
 #![tactic(auto)]
 
 mod asking;
