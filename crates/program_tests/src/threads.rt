@@ -160,6 +160,15 @@ const BROADCAST: &str = "thread a\nthread b\nmutex m\ncond q m 0\ncall a lock m\
 const WAITED_TEXT: &str =
     "replies a OK OK OK\nreplies b OK OK OK\nmutex m 0000000000000000 - -\ncond q 1 -\n";
 
+/// Of two condition variables of one mutex the second one is waited on and signalled.
+const SIGNALLED_BESIDE: &str =
+    "thread a\nthread b\nmutex m\ncond p m 5\ncond q m 0\ncall a lock m\nphase\n\
+    call a wait q\ncall a unlock m\ncall b lock m\ncall b signal q\ncall b unlock m\n";
+
+const WAITED_BESIDE_TEXT: &str =
+    "replies a OK OK OK\nreplies b OK OK OK\nmutex m 0000000000000000 - -\n\
+    cond p 5 -\ncond q 1 -\n";
+
 #[test]
 fn conditions_are_told(rt: HostRuntime) {
     for (script, text) in &CONDITIONS {
@@ -171,6 +180,7 @@ fn conditions_are_told(rt: HostRuntime) {
 fn waits_end(rt: HostRuntime) {
     assert!(rt; threads(&rt, SIGNALLED).is(0, WAITED_TEXT, ""));
     assert!(rt; threads(&rt, BROADCAST).is(0, WAITED_TEXT, ""));
+    assert!(rt; threads(&rt, SIGNALLED_BESIDE).is(0, WAITED_BESIDE_TEXT, ""));
 }
 
 /// Scripts that are refused, and what is told of them.
