@@ -4,7 +4,7 @@ ghost use Rattle.condvar.specs.Calls.{condition_of};
 
 use crate::steps::Made::{Exchanges, Flips, Is, Loads, Sleeps, Stores, Wakes};
 use crate::steps::Then::{Decides, Ends, Goes, Returns};
-use crate::steps::{Step, makes};
+use crate::steps::{Step, Whole, makes};
 use condvar::{
     CondCall, CondProgram, accesses_are_there, calls_are_right, faults_are_told, moves_are_right,
     needs_are_owned, points_are_permitted, whole_calls_are_right,
@@ -50,7 +50,7 @@ fn takes(operation: Operation, parts: &[&[Step]]) -> bool {
     match Layout::new(2, 2, &[0, 1]) {
         Ok(layout) => {
             let program = CondProgram::new(&layout, thread, call(operation));
-            makes(program, thread, parts)
+            makes(Whole { program }, thread, parts)
         }
         Err(_) => false,
     }

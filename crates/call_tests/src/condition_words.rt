@@ -3,7 +3,7 @@
 use crate::condition_calls::call;
 use condvar::CondProgram;
 use keys::Operation::{Broadcast, Signal, Wait};
-use keys::{Access, Answer, Layout, Operation, Progress};
+use keys::{Access, Answer, Layout, Operation, Progress, StepProgram};
 use lockword::Reply::{self, EPERM, OK, XFULL, XSTATE};
 use lockword::Tid;
 

@@ -1,10 +1,9 @@
 //! Calls of thread 2 on mutex 1 of a small layout, and on condition variable 1, which keeps that mutex: what each access is answered, and where that leads. The mutex's cell is at 10,
 //! its entry at 11 and 12, the counter at 14, the thread's head at 4, its pending entry at 6.
-ghost use Rattle.call_tests.specs.Calls.{GoesOn};
+ghost use Rattle.keys.specs.Programs.{UnlessReturned};
 ghost use Rattle.mutex.specs.Whole as mutex;
 
-use condvar::CondProgram;
-use keys::{Access, Answer, Operation, Point, Progress};
+use keys::{Access, Answer, Operation, Point, Progress, StepProgram};
 use lockword::{Reply, Tid};
 use mutex::Program;
 
@@ -60,7 +59,7 @@ pub(crate) const ANSWERS: [Answer; 10] = [
     Answer::Fault,
 ];
 
-/// A call in progress.
+/// A call in progress, of which some accesses may be left out.
 pub(crate) trait Stepping {
     ghost is_under_way: { Self → Type 0 };
 
@@ -69,18 +68,24 @@ pub(crate) trait Stepping {
 
     fn answered(&mut self, answer: Answer) -> Progress
         requires { is_under_way self.old }
-        ensures { GoesOn result (is_under_way self.new) };
+        ensures { UnlessReturned result (is_under_way self.new) };
 }
 
-impl Stepping for Program {
-    ghost is_under_way = { λ p. mutex.IsUnderWay p.phase };
+/// A call with all its accesses.
+#[derive(Drop)]
+pub(crate) struct Whole<P> {
+    pub(crate) program: P,
+}
+
+impl<P: StepProgram> Stepping for Whole<P> {
+    ghost is_under_way = { λ w. P.is_under_way w.program };
 
     fn access(&self) -> Access {
-        self.next()
+        self.program.next()
     }
 
     fn answered(&mut self, answer: Answer) -> Progress {
-        self.resume(answer)
+        self.program.resume(answer)
     }
 }
 
@@ -108,7 +113,7 @@ impl Stepping for AtCell {
 /// The call makes its accesses to its thread's list, up to one that is none, or to its return. They are to follow this point, where there is one, and to have none.
 pub(crate) fn past_the_list(program: &mut Program, point: Option<Point>) -> Progress
     requires { mutex.IsUnderWay program.old.phase }
-    ensures { GoesOn result (mutex.IsUnderWay program.new.phase) }
+    ensures { UnlessReturned result (mutex.IsUnderWay program.new.phase) }
 {
     for _ in 0..8_u64 {
         let answer = match listed(program.next()) {
@@ -133,20 +138,6 @@ fn listed(access: Access) -> Option<Answer> {
             ..
         } => Some(Answer::Stored),
         _ => None,
-    }
-}
-
-impl Stepping for CondProgram {
-    ghost use Rattle.condvar.specs.Whole.{IsUnderWay};
-
-    ghost is_under_way = { λ p. IsUnderWay p.phase };
-
-    fn access(&self) -> Access {
-        self.next()
-    }
-
-    fn answered(&mut self, answer: Answer) -> Progress {
-        self.resume(answer)
     }
 }
 

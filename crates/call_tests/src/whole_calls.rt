@@ -3,7 +3,7 @@
 use crate::cell_calls::call;
 use crate::steps::Made::{Exchanges, Flips, Is, Loads, Stores, Wakes};
 use crate::steps::Then::{Decides, Ends, Goes, Returns};
-use crate::steps::{Step, makes};
+use crate::steps::{Step, Whole, makes};
 use keys::Operation::{Consistent, Lock, TryLock, Unlock};
 use keys::{Access, Answer, Layout, Operation};
 use lockword::Reply::{EBUSY, EDEADLK, EFAULT, EINVAL, ENOTRECOVERABLE, EOWNERDEAD, EPERM, OK};
@@ -69,7 +69,7 @@ fn takes(operation: Operation, parts: &[&[Step]]) -> bool {
         return false;
     };
     match Program::new(&layout, thread, 0, call(operation)) {
-        Ok(program) => makes(program, thread, parts),
+        Ok(program) => makes(Whole { program }, thread, parts),
         Err(_) => false,
     }
 }

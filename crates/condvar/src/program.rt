@@ -10,7 +10,7 @@ use crate::call::CondCall;
 use crate::phase::{CondOnward, CondPhase};
 use crate::row::{CondLed, CondRow, Decided};
 use crate::wait::WaitRow;
-use keys::{Access, Answer, Layout, Point, Progress};
+use keys::{Access, Answer, Layout, Point, Progress, StepProgram};
 use lockword::{Reply, Tid};
 use mutex::Program;
 use robustlist::Unlink;
@@ -59,42 +59,6 @@ impl CondProgram {
             counter: layout.address(thread, layout.counter(call.condition())),
             phase: CondPhase::AtWords(CondRow::first(call)),
         }
-    }
-
-    /// The access that comes next, of a call that hasn't returned.
-    pub fn next(&self) -> Access
-        requires { IsUnderWay self.now.phase }
-        ensures { result ≡ cond_access self.now }
-    {
-        match &self.phase {
-            CondPhase::AtWords(row) => row.next(self.thread, self.cell, self.counter),
-            CondPhase::Announcing { .. } => Access::Store {
-                at: self.head.wrapping_add(2),
-                value: self.entry,
-            },
-            CondPhase::Unlinking { unlink, .. } => unlink.next(),
-            CondPhase::Locking(lock) => lock.next(),
-            CondPhase::Ended(_) => unreachable!(),
-        }
-    }
-
-    /// Goes on with an answer. One that no such access has counts as `Fault`, after which the call returns `EFAULT`, and has left what its earlier
-    /// accesses did.
-    pub fn resume(&mut self, answer: Answer) -> Progress
-        requires { IsUnderWay self.old.phase }
-        ensures phase { self.new ≡ cond_moved self.old (cond_led self.old answer) }
-        ensures progress { result ≡ cond_progress (cond_led self.old answer) }
-    {
-        let onward = self.led(answer);
-        *self = CondProgram {
-            thread: self.thread,
-            head: self.head,
-            entry: self.entry,
-            cell: self.cell,
-            counter: self.counter,
-            phase: onward.phase,
-        };
-        progress(&onward.phase, onward.point)
     }
 
     /// Where the call stands.
@@ -163,6 +127,46 @@ impl CondProgram {
             phase,
             point: point(self.thread, self.cell, led.decided),
         }
+    }
+}
+
+impl StepProgram for CondProgram {
+    ghost use Rattle.condvar.specs.Whole.{cond_access, cond_led, cond_moved, cond_progress, IsUnderWay};
+
+    ghost is_under_way = { λ p. IsUnderWay p.phase };
+
+    ghost access = { λ p. cond_access p };
+
+    ghost moved = { λ p x. cond_moved p (cond_led p x) };
+
+    ghost progress = { λ p x. cond_progress (cond_led p x) };
+
+    fn next(&self) -> Access {
+        match &self.phase {
+            CondPhase::AtWords(row) => row.next(self.thread, self.cell, self.counter),
+            CondPhase::Announcing { .. } => Access::Store {
+                at: self.head.wrapping_add(2),
+                value: self.entry,
+            },
+            CondPhase::Unlinking { unlink, .. } => unlink.next(),
+            CondPhase::Locking(lock) => lock.next(),
+            CondPhase::Ended(_) => unreachable!(),
+        }
+    }
+
+    /// Goes on with an answer. One that no such access has counts as `Fault`, after which the call returns `EFAULT`, and has left what its earlier
+    /// accesses did.
+    fn resume(&mut self, answer: Answer) -> Progress {
+        let onward = self.led(answer);
+        *self = CondProgram {
+            thread: self.thread,
+            head: self.head,
+            entry: self.entry,
+            cell: self.cell,
+            counter: self.counter,
+            phase: onward.phase,
+        };
+        progress(&onward.phase, onward.point)
     }
 }
 

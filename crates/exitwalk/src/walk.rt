@@ -4,7 +4,7 @@ ghost use Rattle.keys.specs.Objects.{held_limit};
 ghost use Rattle.exitwalk.specs.Walks.{marked_word, to_pending, progress_at, Knows};
 
 use crate::row::{Part, Rest, Row};
-use keys::{Access, Answer, HELD_LIMIT, Operation, Point, Progress};
+use keys::{Access, Answer, HELD_LIMIT, Operation, Point, Progress, StepProgram};
 use lockword::{Cell, Reply, Tid};
 use std::marker::Model;
 
@@ -54,49 +54,6 @@ impl Walk {
         ensures { result ≡ self.now.row }
     {
         self.row
-    }
-
-    /// The access that comes next, of a walk that hasn't ended.
-    pub fn next(&self) -> Access
-        requires { IsGoing self.now.row }
-        ensures { result ≡ access_of self.now }
-    {
-        match self.row {
-            Row::LoadFirst => Access::Load { at: self.head },
-            Row::LoadOffset { .. } => Access::Load {
-                at: self.head.wrapping_add(1),
-            },
-            Row::LoadPending { .. } => Access::Load {
-                at: self.head.wrapping_add(2),
-            },
-            Row::LoadNext(rest) => Access::Load { at: rest.entry },
-            Row::LoadWord { at, .. } => Access::Load { at },
-            Row::Mark { at, seen, .. } => Access::Exchange {
-                at,
-                expected: seen,
-                new: marked(seen),
-            },
-            Row::WakeOne { at, .. } => Access::Wake { at, most: 1 },
-            Row::Ended => unreachable!(),
-        }
-    }
-
-    /// Goes on with an answer. `Fault`, or an answer that no such access has, ends the walk. At its end it returns `OK`. The exchange that marks a word is
-    /// the owner's death there.
-    pub fn resume(&mut self, answer: Answer) -> Progress
-        requires { IsGoing self.old.row }
-        ensures row { self.new ≡ moved self.old answer }
-        ensures progress { result ≡ progress_of self.old answer }
-    {
-        let point = self.point(answer);
-        let row = self.row_after(answer);
-        let progress = progress(&row, point);
-        *self = Walk {
-            thread: self.thread,
-            head: self.head,
-            row,
-        };
-        progress
     }
 
     /// The death that the answer tells of.
@@ -249,6 +206,53 @@ impl Walk {
         } else {
             Row::LoadNext(rest)
         }
+    }
+}
+
+impl StepProgram for Walk {
+    ghost use Rattle.exitwalk.specs.Walks.{access_of, moved, progress_of, IsGoing};
+
+    ghost is_under_way = { λ w. IsGoing w.row };
+
+    ghost access = { λ w. access_of w };
+
+    ghost moved = { λ w x. moved w x };
+
+    ghost progress = { λ w x. progress_of w x };
+
+    fn next(&self) -> Access {
+        match self.row {
+            Row::LoadFirst => Access::Load { at: self.head },
+            Row::LoadOffset { .. } => Access::Load {
+                at: self.head.wrapping_add(1),
+            },
+            Row::LoadPending { .. } => Access::Load {
+                at: self.head.wrapping_add(2),
+            },
+            Row::LoadNext(rest) => Access::Load { at: rest.entry },
+            Row::LoadWord { at, .. } => Access::Load { at },
+            Row::Mark { at, seen, .. } => Access::Exchange {
+                at,
+                expected: seen,
+                new: marked(seen),
+            },
+            Row::WakeOne { at, .. } => Access::Wake { at, most: 1 },
+            Row::Ended => unreachable!(),
+        }
+    }
+
+    /// Goes on with an answer. `Fault`, or an answer that no such access has, ends the walk. At its end it returns `OK`. The exchange that marks a word is
+    /// the owner's death there.
+    fn resume(&mut self, answer: Answer) -> Progress {
+        let point = self.point(answer);
+        let row = self.row_after(answer);
+        let progress = progress(&row, point);
+        *self = Walk {
+            thread: self.thread,
+            head: self.head,
+            row,
+        };
+        progress
     }
 }
 

@@ -12,7 +12,7 @@ ghost use Rattle.interleave.specs.Shown.{state_at, thread_at};
 
 use crate::accesses::perform;
 use exitwalk::Walk;
-use keys::{Layout, Progress};
+use keys::{Layout, Progress, StepProgram};
 use lockword::Tid;
 use protocol::{Note, Stage, Thread};
 use syscalls::{Kernel, PlainMemory};
@@ -46,7 +46,7 @@ pub(crate) fn kill(
     if layout.threads() < thread.get() {
         return Note::Nothing;
     }
-    let index = usize::from(thread.get()) - 1;
+    let index = thread.as_index();
     let Thread { stage, held } = threads[index];
     if !is_alive(&stage) {
         return Note::Nothing;
@@ -137,7 +137,7 @@ pub(crate) fn walk_on(
     let done = perform(memory, kernel, base, thread, &walk.next());
     let progress = walk.resume(done.answer);
     let death = death_told(layout, thread, &progress);
-    let index = usize::from(thread.get()) - 1;
+    let index = thread.as_index();
     let held = threads[index].held;
     threads[index] = Thread {
         stage: stage_walked(&walk, &progress),

@@ -265,7 +265,7 @@ impl Machine {
     pub fn busy(&self, thread: Tid) -> bool
         ensures { result ≡ is_busy (state_of self.now) thread }
     {
-        let index = usize::from(thread.get()) - 1;
+        let index = thread.as_index();
         index < self.threads.len() && is_calling(&self.threads[index].stage)
     }
 
@@ -273,7 +273,7 @@ impl Machine {
     pub fn dying(&self, thread: Tid) -> bool
         ensures { result ≡ is_dying (state_of self.now) thread }
     {
-        let index = usize::from(thread.get()) - 1;
+        let index = thread.as_index();
         index < self.threads.len() && is_dying(&self.threads[index].stage)
     }
 
@@ -281,7 +281,7 @@ impl Machine {
     pub fn reaped(&self, thread: Tid) -> bool
         ensures { result ≡ is_reaped (state_of self.now) thread }
     {
-        let index = usize::from(thread.get()) - 1;
+        let index = thread.as_index();
         index < self.threads.len() && is_reaped(&self.threads[index].stage)
     }
 

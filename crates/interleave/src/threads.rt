@@ -20,7 +20,7 @@ use crate::deaths::{kill, walk_on};
 use crate::ops::begun;
 use condvar::{CondCall, CondProgram, Op};
 use facts::Queue;
-use keys::{Decision, Layout, Operation, Point, Progress};
+use keys::{Decision, Layout, Operation, Point, Progress, StepProgram};
 use lockword::{Reply, Tid};
 use mutex::Program;
 use protocol::{Event, Note, Stage, Thread};
@@ -179,7 +179,7 @@ fn begin(layout: &Layout, threads: &mut Vec<Thread>, thread: Tid, op: Op) -> Not
     if layout.threads() < thread.get() || !op.is_in(layout) {
         return Note::Nothing;
     }
-    let index = usize::from(thread.get()) - 1;
+    let index = thread.as_index();
     let Thread { stage, held } = threads[index];
     if !is_idle(&stage) {
         return Note::Nothing;
@@ -247,7 +247,7 @@ fn go_on(
     let base = layout.base(thread);
     let done = perform(memory, kernel, base, thread, &program.next());
     let progress = program.resume(done.answer);
-    let index = usize::from(thread.get()) - 1;
+    let index = thread.as_index();
     let held = threads[index].held;
     threads[index] = Thread {
         stage: stage_after(op, &program, &progress),
@@ -287,7 +287,7 @@ fn go_on_at(
     let base = layout.base(thread);
     let done = perform(memory, kernel, base, thread, &program.next());
     let progress = program.resume(done.answer);
-    let index = usize::from(thread.get()) - 1;
+    let index = thread.as_index();
     let held = threads[index].held;
     threads[index] = Thread {
         stage: stage_at(call, &program, &progress),
@@ -324,7 +324,7 @@ fn step(
     if kernel.asleep(thread) {
         return Note::Nothing;
     }
-    let index = usize::from(thread.get()) - 1;
+    let index = thread.as_index();
     match threads[index].stage {
         Stage::Idle | Stage::Reaped => Note::Nothing,
         Stage::Calling(op, program) => {

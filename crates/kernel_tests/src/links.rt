@@ -1,7 +1,7 @@
 //! Links and unlinks over the words of one thread and two mutexes: its head at 1, the mutexes' entries at 5 and 8.
 
 use crate::words::{load, store};
-use keys::{Access, Answer, Progress};
+use keys::{Access, Answer, Progress, StepProgram};
 use lockword::Reply;
 use robustlist::{
     Link, Unlink, chains_are_unique, heads_begin_empty, links_alone, links_are_right,
@@ -58,12 +58,20 @@ fn make(words: &mut [u64], access: Access) -> Answer {
     }
 }
 
-/// The link of an entry makes so many accesses, and has this reply.
-fn links(rt: &impl Abort, words: &mut [u64], entry: u64, accesses: u64, reply: Reply) {
-    let mut link = Link::new(1, entry);
+/// A link or an unlink makes so many accesses, and has this reply.
+fn ends<P: StepProgram + Drop>(
+    rt: &impl Abort,
+    words: &mut [u64],
+    begun: P,
+    accesses: u64,
+    reply: Reply,
+)
+    requires { P.is_under_way begun }
+{
+    let mut program = begun;
     for made in 1..6_u64 {
-        let answer = make(words, link.next());
-        if let Progress::Returns { reply: told, .. } = link.resume(answer) {
+        let answer = make(words, program.next());
+        if let Progress::Returns { reply: told, .. } = program.resume(answer) {
             assert!(rt; made == accesses);
             assert!(rt; told == reply);
             return;
@@ -72,18 +80,14 @@ fn links(rt: &impl Abort, words: &mut [u64], entry: u64, accesses: u64, reply: R
     assert!(rt; false);
 }
 
+/// The link of an entry makes so many accesses, and has this reply.
+fn links(rt: &impl Abort, words: &mut [u64], entry: u64, accesses: u64, reply: Reply) {
+    ends(rt, words, Link::new(1, entry), accesses, reply);
+}
+
 /// The unlink of an entry makes so many accesses, and has this reply.
 fn unlinks(rt: &impl Abort, words: &mut [u64], entry: u64, accesses: u64, reply: Reply) {
-    let mut unlink = Unlink::new(1, entry);
-    for made in 1..5_u64 {
-        let answer = make(words, unlink.next());
-        if let Progress::Returns { reply: told, .. } = unlink.resume(answer) {
-            assert!(rt; made == accesses);
-            assert!(rt; told == reply);
-            return;
-        }
-    }
-    assert!(rt; false);
+    ends(rt, words, Unlink::new(1, entry), accesses, reply);
 }
 
 #[test]

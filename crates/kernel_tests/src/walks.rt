@@ -4,7 +4,7 @@ ghost use Rattle.exitwalk.specs.Walks.{IsGoing};
 use crate::batches::thread;
 use crate::words::{exchange, load};
 use exitwalk::{Walk, any_answers_end, steps_are_right, walks_are_right, whole_lists_are_treated};
-use keys::{Access, Answer, Operation, Point, Progress};
+use keys::{Access, Answer, Operation, Point, Progress, StepProgram};
 use lockword::{Reply, Tid};
 use std::alloc::Global;
 use std::process::Abort;

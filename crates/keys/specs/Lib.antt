@@ -7,3 +7,4 @@ pub mod Refusals
 pub mod Addresses
 pub mod Chains
 pub mod Mappings
+pub mod Programs

@@ -4,9 +4,9 @@
 //! variables. Valid places are pairwise different (`places_differ`). Threads belong to processes, each of which maps the words
 //! at a base of its own: programs speak of words by their addresses there (`addresses_are_sums`, `addresses_are_seen`,
 //! `writes_are_seen`). [`Access`] and [`Answer`] are the steps that programs take on words, a trim's with its meaning
-//! (`trims_are_right`); [`Point`] is the step at which an operation takes effect, and an [`Operation`]'s word is read back as
-//! that operation (`operations_are_read_back`). [`Object`] is the mutex with no bits: what POSIX says that each operation
-//! answers and leaves (`steps_are_determined`).
+//! (`trims_are_right`); a [`StepProgram`] is what takes them, whoever runs it. [`Point`] is the step at which an operation takes
+//! effect, and an [`Operation`]'s word is read back as that operation (`operations_are_read_back`). [`Object`] is the mutex with
+//! no bits: what POSIX says that each operation answers and leaves (`steps_are_determined`).
 //!
 //! Stands on `lockword`, for thread ids and replies, and on `thiserror`, for the messages of what is refused.
 //!
@@ -32,6 +32,7 @@ mod layout;
 mod memory;
 mod object;
 mod point;
+mod program;
 
 pub use access::{ALL, Access, Answer, trims_are_right};
 pub use address::{address_from, addresses_are_seen, addresses_are_sums, seen_at, writes_are_seen};
@@ -44,3 +45,4 @@ pub use object::{HELD_LIMIT, Object, steps_are_determined};
 pub use point::{
     Decision, Operation, ParseOperationError, Point, Progress, operations_are_read_back,
 };
+pub use program::StepProgram;

@@ -1,5 +1,5 @@
 //! Thread ids.
-ghost use Rattle.std.specs.Prelude.{◌≡◌, ◌≤◌};
+ghost use Rattle.std.specs.Prelude.{◌≡◌, ◌≤◌, ◌+◌};
 ghost use Rattle.std.specs.Option.{SomeIff};
 
 use std::marker::Model;
@@ -39,5 +39,12 @@ impl Tid {
         ensures last { result ≤ 64 }
     {
         self.0
+    }
+
+    /// Its place where threads are kept in the order of their ids, counted from 0.
+    pub fn as_index(self) -> usize
+        ensures { result + 1 ≡ self }
+    {
+        usize::from(self.get()) - 1
     }
 }

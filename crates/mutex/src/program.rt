@@ -11,7 +11,7 @@ use crate::lock::LockRow;
 use crate::phase::{Onward, Phase};
 use crate::row::{Led, Row};
 use crate::unlock::UnlockRow;
-use keys::{Access, Answer, HELD_LIMIT, Layout, Operation, Point, Progress};
+use keys::{Access, Answer, HELD_LIMIT, Layout, Operation, Point, Progress, StepProgram};
 use lockword::{Reply, Tid};
 use robustlist::{Link, Unlink};
 use std::marker::Model;
@@ -87,42 +87,6 @@ impl Program {
         ensures { result ≡ self.now.phase }
     {
         self.phase
-    }
-
-    /// The access that comes next, of a call that hasn't returned.
-    #[inline(always)]
-    pub fn next(&self) -> Access
-        requires { IsUnderWay self.now.phase }
-        ensures { result ≡ whole_access self.now }
-    {
-        match &self.phase {
-            Phase::Announcing { .. } => Access::Store {
-                at: self.head.wrapping_add(2),
-                value: self.entry,
-            },
-            Phase::AtCell(row) => row.next(self.thread, self.cell),
-            Phase::Linking { link, .. } => link.next(),
-            Phase::Unlinking { unlink, .. } => unlink.next(),
-            Phase::Clearing { .. } => Access::Store {
-                at: self.head.wrapping_add(2),
-                value: 0,
-            },
-            Phase::Ended(_) => unreachable!(),
-        }
-    }
-
-    /// Goes on with an answer. One that no such access has counts as `Fault`, after which the call returns `EFAULT`, and has left what its earlier
-    /// accesses did.
-    #[inline(always)]
-    pub fn resume(&mut self, answer: Answer) -> Progress
-        requires { IsUnderWay self.old.phase }
-        ensures phase { self.new ≡ whole_moved self.old (whole_led self.old answer) }
-        ensures progress { result ≡ whole_progress self.old (whole_led self.old answer) }
-    {
-        let onward = self.led(answer);
-        let progress = progress(&onward.phase, self.point(onward.point));
-        self.phase = onward.phase;
-        progress
     }
 
     #[inline(always)]
@@ -211,6 +175,46 @@ impl Program {
             (Operation::Unlock, Reply::OK) => Phase::Clearing { reply },
             _ => Phase::Ended(reply),
         }
+    }
+}
+
+impl StepProgram for Program {
+    ghost use Rattle.mutex.specs.Whole.{whole_access, whole_led, whole_moved, whole_progress, IsUnderWay};
+
+    ghost is_under_way = { λ p. IsUnderWay p.phase };
+
+    ghost access = { λ p. whole_access p };
+
+    ghost moved = { λ p x. whole_moved p (whole_led p x) };
+
+    ghost progress = { λ p x. whole_progress p (whole_led p x) };
+
+    #[inline(always)]
+    fn next(&self) -> Access {
+        match &self.phase {
+            Phase::Announcing { .. } => Access::Store {
+                at: self.head.wrapping_add(2),
+                value: self.entry,
+            },
+            Phase::AtCell(row) => row.next(self.thread, self.cell),
+            Phase::Linking { link, .. } => link.next(),
+            Phase::Unlinking { unlink, .. } => unlink.next(),
+            Phase::Clearing { .. } => Access::Store {
+                at: self.head.wrapping_add(2),
+                value: 0,
+            },
+            Phase::Ended(_) => unreachable!(),
+        }
+    }
+
+    /// Goes on with an answer. One that no such access has counts as `Fault`, after which the call returns `EFAULT`, and has left what its earlier
+    /// accesses did.
+    #[inline(always)]
+    fn resume(&mut self, answer: Answer) -> Progress {
+        let onward = self.led(answer);
+        let progress = progress(&onward.phase, self.point(onward.point));
+        self.phase = onward.phase;
+        progress
     }
 }
 

@@ -2,7 +2,7 @@
 ghost use Rattle.std.specs.Prelude.{◌≡◌};
 ghost use Rattle.robustlist.specs.Link.{link_progress, link_stored};
 
-use keys::{Access, Answer, Progress};
+use keys::{Access, Answer, Progress, StepProgram};
 use lockword::Reply;
 use std::marker::Model;
 
@@ -58,47 +58,6 @@ impl Link {
         }
     }
 
-    /// The access that comes next, of a link that hasn't returned.
-    #[inline(always)]
-    pub fn next(&self) -> Access
-        requires { LinkGoes self.now.row }
-        ensures { result ≡ link_access_of self.now }
-    {
-        match self.row {
-            LinkRow::LoadFirst => Access::Load { at: self.head },
-            LinkRow::StoreNext { first } => Access::Store {
-                at: self.entry,
-                value: first,
-            },
-            LinkRow::StorePrevious { .. } => Access::Store {
-                at: self.entry.wrapping_add(1),
-                value: self.head,
-            },
-            LinkRow::StoreBehind { first } => Access::Store {
-                at: first.wrapping_add(1),
-                value: self.entry,
-            },
-            LinkRow::StoreFirst => Access::Store {
-                at: self.head,
-                value: self.entry,
-            },
-            LinkRow::Ended(_) => unreachable!(),
-        }
-    }
-
-    /// Goes on with an answer. One that no such access has counts as `Fault`, after which the link returns `EFAULT` and has left what its earlier
-    /// accesses did. Else it returns `OK` in the end.
-    #[inline(always)]
-    pub fn resume(&mut self, answer: Answer) -> Progress
-        requires { LinkGoes self.old.row }
-        ensures row { self.new ≡ link_moved self.old answer }
-        ensures progress { result ≡ link_progress (link_moved self.old answer).row }
-    {
-        let row = self.led(answer);
-        self.row = row;
-        progress(&row)
-    }
-
     /// Where an answer leads.
     #[inline(always)]
     fn led(&self, answer: Answer) -> LinkRow
@@ -127,6 +86,51 @@ impl Link {
         } else {
             LinkRow::StoreBehind { first }
         }
+    }
+}
+
+impl StepProgram for Link {
+    ghost use Rattle.robustlist.specs.Link.{link_access_of, link_moved, link_progress, LinkGoes};
+
+    ghost is_under_way = { λ l. LinkGoes l.row };
+
+    ghost access = { λ l. link_access_of l };
+
+    ghost moved = { λ l x. link_moved l x };
+
+    ghost progress = { λ l x. link_progress (link_moved l x).row };
+
+    #[inline(always)]
+    fn next(&self) -> Access {
+        match self.row {
+            LinkRow::LoadFirst => Access::Load { at: self.head },
+            LinkRow::StoreNext { first } => Access::Store {
+                at: self.entry,
+                value: first,
+            },
+            LinkRow::StorePrevious { .. } => Access::Store {
+                at: self.entry.wrapping_add(1),
+                value: self.head,
+            },
+            LinkRow::StoreBehind { first } => Access::Store {
+                at: first.wrapping_add(1),
+                value: self.entry,
+            },
+            LinkRow::StoreFirst => Access::Store {
+                at: self.head,
+                value: self.entry,
+            },
+            LinkRow::Ended(_) => unreachable!(),
+        }
+    }
+
+    /// Goes on with an answer. One that no such access has counts as `Fault`, after which the link returns `EFAULT` and has left what its earlier
+    /// accesses did. Else it returns `OK` in the end.
+    #[inline(always)]
+    fn resume(&mut self, answer: Answer) -> Progress {
+        let row = self.led(answer);
+        self.row = row;
+        progress(&row)
     }
 }
 

@@ -2,7 +2,7 @@
 ghost use Rattle.std.specs.Prelude.{◌≡◌};
 ghost use Rattle.robustlist.specs.Unlink.{unlink_progress, unlink_stored};
 
-use keys::{Access, Answer, Progress};
+use keys::{Access, Answer, Progress, StepProgram};
 use lockword::Reply;
 use std::marker::Model;
 
@@ -57,42 +57,6 @@ impl Unlink {
         }
     }
 
-    /// The access that comes next, of an unlink that hasn't returned.
-    #[inline(always)]
-    pub fn next(&self) -> Access
-        requires { UnlinkGoes self.now.row }
-        ensures { result ≡ unlink_access_of self.now }
-    {
-        match self.row {
-            UnlinkRow::LoadNext => Access::Load { at: self.entry },
-            UnlinkRow::LoadPrevious { .. } => Access::Load {
-                at: self.entry.wrapping_add(1),
-            },
-            UnlinkRow::StoreNext { next, previous } => Access::Store {
-                at: previous,
-                value: next,
-            },
-            UnlinkRow::StorePrevious { next, previous } => Access::Store {
-                at: next.wrapping_add(1),
-                value: previous,
-            },
-            UnlinkRow::Ended(_) => unreachable!(),
-        }
-    }
-
-    /// Goes on with an answer. One that no such access has counts as `Fault`, after which the unlink returns `EFAULT` and has left what its earlier
-    /// accesses did. Else it returns `OK` in the end.
-    #[inline(always)]
-    pub fn resume(&mut self, answer: Answer) -> Progress
-        requires { UnlinkGoes self.old.row }
-        ensures row { self.new ≡ unlink_moved self.old answer }
-        ensures progress { result ≡ unlink_progress (unlink_moved self.old answer).row }
-    {
-        let row = self.led(answer);
-        self.row = row;
-        progress(&row)
-    }
-
     /// Where an answer leads.
     #[inline(always)]
     fn led(&self, answer: Answer) -> UnlinkRow
@@ -125,6 +89,46 @@ impl Unlink {
         } else {
             UnlinkRow::StorePrevious { next, previous }
         }
+    }
+}
+
+impl StepProgram for Unlink {
+    ghost use Rattle.robustlist.specs.Unlink.{unlink_access_of, unlink_moved, unlink_progress, UnlinkGoes};
+
+    ghost is_under_way = { λ u. UnlinkGoes u.row };
+
+    ghost access = { λ u. unlink_access_of u };
+
+    ghost moved = { λ u x. unlink_moved u x };
+
+    ghost progress = { λ u x. unlink_progress (unlink_moved u x).row };
+
+    #[inline(always)]
+    fn next(&self) -> Access {
+        match self.row {
+            UnlinkRow::LoadNext => Access::Load { at: self.entry },
+            UnlinkRow::LoadPrevious { .. } => Access::Load {
+                at: self.entry.wrapping_add(1),
+            },
+            UnlinkRow::StoreNext { next, previous } => Access::Store {
+                at: previous,
+                value: next,
+            },
+            UnlinkRow::StorePrevious { next, previous } => Access::Store {
+                at: next.wrapping_add(1),
+                value: previous,
+            },
+            UnlinkRow::Ended(_) => unreachable!(),
+        }
+    }
+
+    /// Goes on with an answer. One that no such access has counts as `Fault`, after which the unlink returns `EFAULT` and has left what its earlier
+    /// accesses did. Else it returns `OK` in the end.
+    #[inline(always)]
+    fn resume(&mut self, answer: Answer) -> Progress {
+        let row = self.led(answer);
+        self.row = row;
+        progress(&row)
     }
 }
 

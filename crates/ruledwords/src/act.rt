@@ -7,7 +7,7 @@ use crate::card::View;
 use crate::pass::Words;
 use atomic_table::{Play, Seat};
 use condvar::{CondPhase, CondProgram};
-use keys::Access;
+use keys::{Access, StepProgram};
 use lockword::Tid;
 use std::marker::{Brand, PhantomData};
 

@@ -21,7 +21,7 @@ use crate::running::{answer, count};
 use crate::section::address;
 use crate::turn::Running;
 use condvar::{CondCall, CondProgram};
-use keys::{Access, Answer, Progress};
+use keys::{Access, Answer, Progress, StepProgram};
 use lockword::Tid;
 
 impl CondRunning {

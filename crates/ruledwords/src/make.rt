@@ -12,7 +12,7 @@ ghost use Rattle.ruledwords.specs.Turns.{IsAtCell};
 use crate::card::View;
 use crate::pass::Words;
 use atomic_table::{Play, Seat};
-use keys::Access;
+use keys::{Access, StepProgram};
 use lockword::Tid;
 use mutex::Program;
 use std::marker::{Brand, PhantomData};

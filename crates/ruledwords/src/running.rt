@@ -12,7 +12,7 @@ use crate::card::View;
 use crate::pass::{Live, Pass, Words};
 use crate::turn::{Running, Turn};
 use atomic_table::Seat;
-use keys::{Access, Answer, Operation, Point, Progress};
+use keys::{Access, Answer, Operation, Point, Progress, StepProgram};
 use lockword::{Reply, Tid, WAITERS};
 use mutex::{Call, Phase, Program};
 use std::marker::Brand;

@@ -12,7 +12,7 @@ ghost use Rattle.ruledwords.specs.Turns.{access_in, place_at, running_call, runn
 
 use crate::pass::Words;
 use crate::turn::{Running, Turn};
-use keys::{Access, Answer, Progress};
+use keys::{Access, Answer, Progress, StepProgram};
 use lockword::WAITERS;
 
 impl Running {

@@ -12,7 +12,7 @@ use crate::fate::{Fate, Never, either_stops};
 use crate::outcome::Outcome;
 use crate::pass::{Live, Pass, Words};
 use crate::turn::{Running, Stretch};
-use keys::Access;
+use keys::{Access, StepProgram};
 use lockword::Reply;
 use mutex::{LockRow, Phase, Program, Row, TryLockRow};
 

@@ -18,7 +18,7 @@ use crate::running::{answer, count};
 use crate::section::address;
 use atomic_table::Seat;
 use exitwalk::{Row, Walk};
-use keys::{Access, Answer, Progress};
+use keys::{Access, Answer, Progress, StepProgram};
 use lockword::Tid;
 use std::marker::{Brand, PhantomData};
 

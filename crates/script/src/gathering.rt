@@ -54,7 +54,7 @@ fn add_call(calls: &mut Vec<Vec<Op>>, command: &Command) -> Result<(), AllocErro
     let Action::Call(thread, call) = command.action else {
         return Ok(());
     };
-    let index = usize::from(thread.get()) - 1;
+    let index = thread.as_index();
     if index < calls.len() {
         calls[index].push(call)?;
     }

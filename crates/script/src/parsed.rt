@@ -135,7 +135,7 @@ impl Script {
         ensures { slice_get self.now.threads (thread - 1) ≡ Some result.now }
     {
         self.threads
-            .get_index(usize::from(thread.get()) - 1)
+            .get_index(thread.as_index())
             .unwrap()
             .as_str()
     }

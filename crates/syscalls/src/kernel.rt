@@ -75,7 +75,7 @@ fn bucket_with(buckets: &[Bucket], stood_in: &[u8], thread: Tid) -> Option<usize
     ensures { MatchOption result ((i : ℕ) → i < length buckets.now → StandsNowhere (bucket_at buckets.now i) thread)
         (λ i. (i < length buckets.now) × Stands (bucket_at buckets.now i) thread) }
 {
-    let index = usize::from(thread.get()) - 1;
+    let index = thread.as_index();
     if stood_in.len() <= index {
         return None;
     }
@@ -96,7 +96,7 @@ fn remember(stood_in: &mut [u8], threads: &Batch, number: u8)
 {
     for place in 0..threads.len() {
         if let Some(thread) = threads.get(place) {
-            stood_in[usize::from(thread.get()) - 1] = number;
+            stood_in[thread.as_index()] = number;
         }
     }
 }
@@ -194,7 +194,7 @@ impl Kernel {
         if !self.buckets[number].wait_section(thread, key, word, expected) {
             return Err(Reply::EAGAIN);
         }
-        self.stood_in[usize::from(thread.get()) - 1] = number as u8;
+        self.stood_in[thread.as_index()] = number as u8;
         Ok(())
     }
 

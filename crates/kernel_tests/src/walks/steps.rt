@@ -4,7 +4,7 @@ ghost use Rattle.exitwalk.specs.Walks.{IsGoing};
 use super::{BACK, OWNER_DIED, WAITERS, death};
 use crate::batches::thread;
 use exitwalk::Walk;
-use keys::{Access, Answer, Progress};
+use keys::{Access, Answer, Progress, StepProgram};
 use lockword::{Reply, Tid};
 use std::process::Abort;
 

@@ -27,7 +27,7 @@ returns-clause-state c =
     let t = c.args.thread in
     let o : Op = OnCondition c.args.call in
     let p = c.args.program in
-    let k = c.from-index.result - 1 in
+    let k = c.as_index-index.result in
     let at : k + 1 ≡ t = omega arith in
     let read : c.index.result.now ≡ slice_index_or ts k idle = grind (arith, common_steps) in
     let is = thread_at-index ts k t at ∙ sym read in
@@ -35,7 +35,7 @@ returns-clause-state c =
     let performs : Performs ws kernel c.perform-done.new.kernel (base_of l t) t (cond_access p) c.perform-done.result =
     subst (λ (x : ℕ × Access). Performs ws kernel c.perform-done.new.kernel x.0 t x.1 c.perform-done.result) (λ i. (c.base-base.ensures.value i, c.next.ensures i)) c.perform-done.ensures.performs in
     let wrote : c.perform-done.new.memory ≡ list_words ws kernel (base_of l t) (cond_access p) = c.perform-done.ensures.words ∙ (λ i. list_words ws kernel (c.base-base.ensures.value i) (c.next.ensures i)) in
-    let made = made_at t (mutex_of l o) c.index.result.now.held c.args.call p c.resume-progress.new.self (cond_led p c.perform-done.result.answer) c.resume-progress.result c.resume-progress.ensures.phase c.resume-progress.ensures.progress in
+    let made = made_at t (mutex_of l o) c.index.result.now.held c.args.call p c.resume-progress.new.self (cond_led p c.perform-done.result.answer) c.resume-progress.result c.resume-progress.ensures.moved c.resume-progress.ensures.progress in
     let held : c.held_after.result ≡ held_with c.index.result.now.held (point_in c.resume-progress.result) = c.held_after.ensures ∙ ap (held_with c.index.result.now.held) c.point.ensures in
     (λ i. state_at l c.perform-done.new.memory c.perform-done.new.kernel (slice_set ts k (record { stage = c.stage_at.ensures i; held = held i })))
     ∙ step_state l ws c.perform-done.new.memory kernel c.perform-done.new.kernel ts k t (mutex_of l o) (Condition (condition_of c.args.call)) (cond_access p) (λ (x : Answer). led_at c.args.call p (cond_led p x)) c.index.result.now c.perform-done.result _
@@ -50,7 +50,7 @@ returns-clause-note c =
     let t = c.args.thread in
     let o : Op = OnCondition c.args.call in
     let p = c.args.program in
-    let k = c.from-index.result - 1 in
+    let k = c.as_index-index.result in
     let at : k + 1 ≡ t = omega arith in
     let read : c.index.result.now ≡ slice_index_or ts k idle = grind (arith, common_steps) in
     let is = thread_at-index ts k t at ∙ sym read in
@@ -58,7 +58,7 @@ returns-clause-note c =
     let performs : Performs ws kernel c.perform-done.new.kernel (base_of l t) t (cond_access p) c.perform-done.result =
     subst (λ (x : ℕ × Access). Performs ws kernel c.perform-done.new.kernel x.0 t x.1 c.perform-done.result) (λ i. (c.base-base.ensures.value i, c.next.ensures i)) c.perform-done.ensures.performs in
     let wrote : c.perform-done.new.memory ≡ list_words ws kernel (base_of l t) (cond_access p) = c.perform-done.ensures.words ∙ (λ i. list_words ws kernel (c.base-base.ensures.value i) (c.next.ensures i)) in
-    let made = made_at t (mutex_of l o) c.index.result.now.held c.args.call p c.resume-progress.new.self (cond_led p c.perform-done.result.answer) c.resume-progress.result c.resume-progress.ensures.phase c.resume-progress.ensures.progress in
+    let made = made_at t (mutex_of l o) c.index.result.now.held c.args.call p c.resume-progress.new.self (cond_led p c.perform-done.result.answer) c.resume-progress.result c.resume-progress.ensures.moved c.resume-progress.ensures.progress in
     let me : c.mutex-mutex.result ≡ mutex_of l o = c.mutex-mutex.ensures in
     c.stepped.ensures
     ∙ (λ i. Stepped t (me i) (decision_with t (me i) (point_in c.resume-progress.result)) (slept_in (Condition (c.condition.ensures i)) c.perform-done.result.slept) c.perform-done.result.woken c.perform-done.result.moved (reply_in c.resume-progress.result))

@@ -10,7 +10,7 @@ loop-place-init c = reminded_none c.args.stood_in.now c.args.number
 pub loop-place-preserved : goal.loop-place-preserved
 loop-place-preserved c = elim c.match-get.branch [
   | in-Some w ↦ subst (λ (xs : List ℕ). Reminded c.args.stood_in.now xs (take (c.loop-place.place + 1) c.args.threads.now) c.args.number) (sym w.stood_in-is)
-      (reminded_more c.args.stood_in.now c.loop-place.stood_in c.args.threads.now c.args.number c.loop-place.place w.in-Some.thread (w.from.result - 1) (sym c.get.ensures ∙ w.in-Some.is)
-      (omega (arith, w.from.ensures, w.get-in-Some.ensures.value, w.get-in-Some.ensures.first)) c.requires.known c.loop-place.invariant)
+      (reminded_more c.args.stood_in.now c.loop-place.stood_in c.args.threads.now c.args.number c.loop-place.place w.in-Some.thread w.as_index.result (sym c.get.ensures ∙ w.in-Some.is)
+      (omega (arith, w.as_index.ensures)) c.requires.known c.loop-place.invariant)
   | in_default w ↦ absurd (somebody c.args.threads.now c.loop-place.place c.get.result c.get.ensures (omega (arith, c.loop-place-test.true, c.len-place-end.ensures.value)) w.in_default.is)
 ]

@@ -50,9 +50,9 @@ invariant_of-result c =
     let going = goes_under led.point led.phase c.resume.result c.in-Goes.point c.in-Goes.is c.resume.ensures.progress in
     let h = c.count in
     record {
-      mine = mine_then w r of c.requires.step f.new.seat f.result f.ensures x is_x going.0 c.resume.new.self c.resume.ensures.phase;
-      room = room_then w r of c.requires.step f.new.seat f.result f.ensures x is_x going.0 c.resume.new.self c.resume.ensures.phase c.in-Goes.point h.result going.1 h.ensures;
-      there = there_then w r of c.requires.step f.new.seat f.result f.ensures x is_x going.0 c.resume.new.self c.resume.ensures.phase;
+      mine = mine_then w r of c.requires.step f.new.seat f.result f.ensures x is_x going.0 c.resume.new.self c.resume.ensures.moved;
+      room = room_then w r of c.requires.step f.new.seat f.result f.ensures x is_x going.0 c.resume.new.self c.resume.ensures.moved c.in-Goes.point h.result going.1 h.ensures;
+      there = there_then w r of c.requires.step f.new.seat f.result f.ensures x is_x going.0 c.resume.new.self c.resume.ensures.moved;
     }
 
 pub returns-in-Goes-clause-words : goal.returns-in-Goes-clause-words
@@ -68,7 +68,7 @@ returns-in-Goes-clause-words c =
     let going = goes_under led.point led.phase c.resume.result c.in-Goes.point c.in-Goes.is c.resume.ensures.progress in
     let h = c.count in
     let b : Pass Live = record { seat = f.new.seat; thread = r.pass.thread; held = h.result; state = r.pass.state; one = f.ensures.1; own = whose w r of c.requires.step f.new.seat f.result f.ensures x is_x; count = count w r of c.requires.step f.new.seat f.result f.ensures x is_x c.in-Goes.point h.result going.1 h.ensures; few = few_then w r of c.requires.step f.new.seat f.result f.ensures x is_x c.in-Goes.point h.result going.1 h.ensures } in
-    goes_then w r of c.requires.step f.new.seat f.result f.ensures x is_x going.0 c.resume.new.self c.resume.ensures.phase b f.ensures.0 refl
+    goes_then w r of c.requires.step f.new.seat f.result f.ensures x is_x going.0 c.resume.new.self c.resume.ensures.moved b f.ensures.0 refl
 
 pub returns-in-Goes-clause-turned : goal.returns-in-Goes-clause-turned
 returns-in-Goes-clause-turned c =
@@ -80,7 +80,7 @@ returns-in-Goes-clause-turned c =
     let x = c.answer.result in
     let is_x : x ≡ answer_at (cond_access p) f.result = c.answer.ensures ∙ ap (λ (a : Access). answer_at a f.result) c.next-access.ensures in
     let led = cond_led p x in
-    (f.result, f.ensures.2, c.resume.ensures.phase ∙ ap (λ y. Rattle.condvar.specs.Whole.cond_moved p (cond_led p y)) is_x)
+    (f.result, f.ensures.2, c.resume.ensures.moved ∙ ap (λ y. Rattle.condvar.specs.Whole.cond_moved p (cond_led p y)) is_x)
 
 pub returns-in-Returns-clause-words : goal.returns-in-Returns-clause-words
 returns-in-Returns-clause-words c =
@@ -124,8 +124,8 @@ returns-in-Goes-clause-keeps c = λ a cl u.
     let going = goes_under led.point led.phase c.resume.result c.in-Goes.point c.in-Goes.is c.resume.ensures.progress in
     let h = c.count in
     let b : Pass Live = record { seat = f.new.seat; thread = r.pass.thread; held = h.result; state = r.pass.state; one = f.ensures.1; own = whose w r of c.requires.step f.new.seat f.result f.ensures x is_x; count = count w r of c.requires.step f.new.seat f.result f.ensures x is_x c.in-Goes.point h.result going.1 h.ensures; few = few_then w r of c.requires.step f.new.seat f.result f.ensures x is_x c.in-Goes.point h.result going.1 h.ensures } in
-    let s = keeps_goes w r of a cl u c.requires.step f.new.seat f.result f.ensures x is_x going.0 c.resume.new.self c.resume.ensures.phase b refl in
-    (goes_then w r of c.requires.step f.new.seat f.result f.ensures x is_x going.0 c.resume.new.self c.resume.ensures.phase b f.ensures.0 refl, s.0, s.1)
+    let s = keeps_goes w r of a cl u c.requires.step f.new.seat f.result f.ensures x is_x going.0 c.resume.new.self c.resume.ensures.moved b refl in
+    (goes_then w r of c.requires.step f.new.seat f.result f.ensures x is_x going.0 c.resume.new.self c.resume.ensures.moved b f.ensures.0 refl, s.0, s.1)
 
 pub returns-in-Returns-clause-keeps : goal.returns-in-Returns-clause-keeps
 returns-in-Returns-clause-keeps c = λ a cl u.

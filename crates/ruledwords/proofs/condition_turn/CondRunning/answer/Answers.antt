@@ -17,7 +17,7 @@ invariant_of-result c =
     let r = c.args.self in
     let p : CondWhole = r.program in
     let led = cond_led p c.args.answer in
-    let locks : led.phase ≡ Locking c.in-Some.lock = ap (λ (z : CondWhole). z.phase) (sym c.resume.ensures.phase) ∙ has_lock c.resume.new.self.phase c.in-Some.lock (sym c.lock.ensures ∙ c.in-Some.is) in
+    let locks : led.phase ≡ Locking c.in-Some.lock = ap (λ (z : CondWhole). z.phase) (sym c.resume.ensures.moved) ∙ has_lock c.resume.new.self.phase c.in-Some.lock (sym c.lock.ensures ∙ c.in-Some.is) in
     let room = (section_room p.thread p.head p.entry p.cell p.counter p.phase r.there c.args.answer r.pass.held c.requires r.room).1 c.in-Some.lock locks in
     let is : retaking p.thread p.head p.entry p.cell ≡ c.in-Some.lock = sym room.1 in
     record {
@@ -31,7 +31,7 @@ returns-in-Some-clause-words c = λ w of.
     let r = c.args.self in
     let p : CondWhole = r.program in
     let led = cond_led p c.args.answer in
-    let locks : led.phase ≡ Locking c.in-Some.lock = ap (λ (z : CondWhole). z.phase) (sym c.resume.ensures.phase) ∙ has_lock c.resume.new.self.phase c.in-Some.lock (sym c.lock.ensures ∙ c.in-Some.is) in
+    let locks : led.phase ≡ Locking c.in-Some.lock = ap (λ (z : CondWhole). z.phase) (sym c.resume.ensures.moved) ∙ has_lock c.resume.new.self.phase c.in-Some.lock (sym c.lock.ensures ∙ c.in-Some.is) in
     (of.0, (mutex_at (layout_of w) (condition_at (layout_of w) p), locks_answered w r of c.args.answer c.requires c.in-Some.lock locks))
 
 pub returns-in-None-clause-words : goal.returns-in-None-clause-words
@@ -40,7 +40,7 @@ returns-in-None-clause-words c = λ w of.
     let p : CondWhole = r.program in
     let led = cond_led p c.args.answer in
     let going = goes_under led.point led.phase c.resume.result c.in-Goes.point c.in-Goes.is c.resume.ensures.progress in
-    let to = c.resume.ensures.phase in
+    let to = c.resume.ensures.moved in
     let same : led.phase ≡ c.resume.new.self.phase = ap (λ (z : CondWhole). z.phase) (sym to) in
     let there = subst IsAtCondition same (at_condition led.phase going.0 (λ l e. no_lock c.resume.new.self.phase (sym c.lock.ensures ∙ c.in-None.is) l (sym same ∙ e))) in
     (of.0, goes_answered w r of c.args.answer c.requires c.resume.new.self to there)
@@ -60,7 +60,7 @@ returns-in-Some-clause-keeps c = λ w a cl u.
     let r = c.args.self in
     let p : CondWhole = r.program in
     let led = cond_led p c.args.answer in
-    let locks : led.phase ≡ Locking c.in-Some.lock = ap (λ (z : CondWhole). z.phase) (sym c.resume.ensures.phase) ∙ has_lock c.resume.new.self.phase c.in-Some.lock (sym c.lock.ensures ∙ c.in-Some.is) in
+    let locks : led.phase ≡ Locking c.in-Some.lock = ap (λ (z : CondWhole). z.phase) (sym c.resume.ensures.moved) ∙ has_lock c.resume.new.self.phase c.in-Some.lock (sym c.lock.ensures ∙ c.in-Some.is) in
     let room = (section_room p.thread p.head p.entry p.cell p.counter p.phase r.there c.args.answer r.pass.held c.requires r.room).1 c.in-Some.lock locks in
     let it = lock_answered w r u.0 a cl u c.args.answer c.requires c.in-Some.lock (sym room.1) in (
       releases_answered w r u.0 a cl u c.args.answer c.requires c.in-Some.lock locks,
@@ -73,7 +73,7 @@ returns-in-None-clause-keeps c = λ w a cl u.
     let p : CondWhole = r.program in
     let led = cond_led p c.args.answer in
     let going = goes_under led.point led.phase c.resume.result c.in-Goes.point c.in-Goes.is c.resume.ensures.progress in
-    let to = c.resume.ensures.phase in
+    let to = c.resume.ensures.moved in
     let same : led.phase ≡ c.resume.new.self.phase = ap (λ (z : CondWhole). z.phase) (sym to) in
     let there = subst IsAtCondition same (at_condition led.phase going.0 (λ l e. no_lock c.resume.new.self.phase (sym c.lock.ensures ∙ c.in-None.is) l (sym same ∙ e))) in
     let s = keeps_answered w r u.0 a cl u c.args.answer c.requires c.resume.new.self to there in

@@ -67,7 +67,7 @@ returns-in-Goes-clause-keeps c = λ first was.
     let d : Card = card_of f.new.seat.me.0 in
     let x : Answer = c.answer.result in
     let w : Went k (card r.pass) d s x = subst (Went k (card r.pass) d s) (sym (c.answer.ensures ∙ ap (λ (a : Access). answer_at a f.result) c.next-access.ensures)) (went k (card r.pass) of.0.1 s of.1 r.going c.requires.step f.result d f.ensures.2) in
-    (((f.ensures.0 ∙ of.0.0, w.card), walks_on k (card r.pass) d s x of.1 w c.resume.new.self c.resume.ensures.row), w.walked first was)
+    (((f.ensures.0 ∙ of.0.0, w.card), walks_on k (card r.pass) d s x of.1 w c.resume.new.self c.resume.ensures.moved), w.walked first was)
 
 pub returns-in-Returns-clause-keeps : goal.returns-in-Returns-clause-keeps
 returns-in-Returns-clause-keeps c = λ first was.

@@ -11,7 +11,7 @@ returns-in-Goes-clause-keeps c = λ w of first was.
     let k = layout_of w in
     let r = c.args.self in
     let went : Went k (card r.pass) (card r.pass) r.walk c.args.answer = counts k (card r.pass) of.0.1 r.walk of.1 r.going c.requires.wake c.args.answer c.requires.count in
-    ((of.0, walks_on k (card r.pass) (card r.pass) r.walk c.args.answer of.1 went c.resume.new.self c.resume.ensures.row), was)
+    ((of.0, walks_on k (card r.pass) (card r.pass) r.walk c.args.answer of.1 went c.resume.new.self c.resume.ensures.moved), was)
 
 pub returns-in-Returns-clause-keeps : goal.returns-in-Returns-clause-keeps
 returns-in-Returns-clause-keeps c = λ w of first was.

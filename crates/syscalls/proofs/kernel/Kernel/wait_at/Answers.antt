@@ -30,7 +30,7 @@ invariant_of-self-2 g c =
     let after = sound_wait c.self.inside.threads c.self.inside.heads.items c.self.inside.buckets.items c.bucket_of-number.result c.index_mut.result.now c.wait_section.new.self c.args.thread c.args.at c.self.invariant.0 taken at (omega arith) (omega arith) awake
     c.if-not-wait_section.ensures.orderly enqueues in (
       after,
-      remembers_asleep c.self.inside.threads c.self.inside.heads.items c.self.inside.buckets.items (set c.self.inside.buckets.items c.bucket_of-number.result c.wait_section.new.self) c.self.inside.stood_in.items c.args.thread c.args.at (c.from.result - 1)
+      remembers_asleep c.self.inside.threads c.self.inside.heads.items c.self.inside.buckets.items (set c.self.inside.buckets.items c.bucket_of-number.result c.wait_section.new.self) c.self.inside.stood_in.items c.args.thread c.args.at c.as_index.result
           c.bucket_of-number.result c.self.invariant.0 after (length-set c.self.inside.buckets.items c.bucket_of-number.result c.wait_section.new.self) (omega arith) (omega arith) (omega arith) at awake
           (waits c.self.inside.threads c.self.inside.heads.items c.self.inside.buckets.items c.bucket_of-number.result c.index_mut.result.now c.wait_section.new.self c.args.thread c.args.at c.self.invariant.0 taken at enqueues) c.self.invariant.1,
     )

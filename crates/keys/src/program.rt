@@ -1,0 +1,37 @@
+//! What is run access by access.
+ghost use Rattle.std.specs.Prelude.{◌≡◌};
+ghost use Rattle.keys.specs.declared.access.Access.{Access};
+ghost use Rattle.keys.specs.declared.access.Answer.{Answer};
+ghost use Rattle.keys.specs.declared.point.Progress.{Progress};
+ghost use Rattle.keys.specs.Programs.{UnlessReturned};
+
+use crate::access::{Access, Answer};
+use crate::point::Progress;
+
+/// A call of a thread, a part of one, or the kernel's walk over a dead thread's list, as a value: it says which access it makes next, and is told what that was answered. Whoever runs it has the words, the
+/// queues and the locks. So one program runs on a plain memory, event by event, and on words that running threads share.
+pub trait StepProgram {
+    /// Whether it has accesses to make.
+    ghost is_under_way: { Self → Type 0 };
+
+    /// The access that comes next.
+    ghost access: { Self → Access };
+
+    /// The program as an answer leaves it.
+    ghost moved: { Self → Answer → Self };
+
+    /// How far an answer brings it.
+    ghost progress: { Self → Answer → Progress };
+
+    /// The access that comes next, of a program that hasn't returned.
+    fn next(&self) -> Access
+        requires { is_under_way self.now }
+        ensures { result ≡ access self.now };
+
+    /// Goes on with an answer. One that no such access has counts as `Fault`.
+    fn resume(&mut self, answer: Answer) -> Progress
+        requires { is_under_way self.old }
+        ensures moved { self.new ≡ moved self.old answer }
+        ensures progress { result ≡ progress self.old answer }
+        ensures goes { UnlessReturned result (is_under_way self.new) };
+}
