@@ -116,7 +116,7 @@ died_of k c (OnMutex (Lock m)) d dies = dies.1
 died_of k c (OnMutex (TryLock m)) d dies = dies.1
 died_of k c (OnMutex (Unlock m)) d dies = dies
 died_of k c (OnMutex (Consistent m)) d dies = dies
-died_of k c (OnCondition call) d dies = dies
+died_of k c (OnCondition call) d dies = dies.died
 
 record AddsSome (k : Layout') (m : ℕ) (call : Op) (c d : Card) : Type 0 where
   acts : List Act

@@ -178,7 +178,7 @@ module _ (w : Words) (r : Running) (of : IsRunningOf w r) (at : IsAtCell (runnin
         lives y ended = (
           alive y ended,
           (x, answered x told_here, sym (ap (λ (q : Whole). q.phase) to) ∙ ended),
-          (λ a call u. let s = subst (HasEnded w a call y) (sym is) (ended_on y ended a call u) in (alive y ended, s.0, s.1)),
+          (λ a call u. let s = subst (HasEnded w a call y) (sym is) (ended_on y ended a call u) in (alive y ended, s.0, s.1, s.2)),
           λ e z was. absurd (never_decided e z was),
         )
 

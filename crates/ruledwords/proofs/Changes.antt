@@ -1,5 +1,5 @@
--- The record of the changes of cells, from step to step.
-use Rattle.std.proofs.Common.{Bool, true, false, ◌≡◌, ◌≢◌, ⊎_elim, ℕ, zero, suc, ◌<◌, ◌≤◌, ◌==◌, List, [], ◌∷◌, ◌++◌, length, get_or, set, refl, sym, ap, ◌∙◌, subst, arith, append_assoc, append-nil, eq-eqb, ne_eqb, eqb-true, get_or-set_other, get_or-set_same}
+-- The record of the changes of cells and of counters, from step to step.
+use Rattle.std.proofs.Common.{Bool, true, false, ◌≡◌, ◌≢◌, ⊎_elim, ℕ, zero, suc, ◌<◌, ◌≤◌, ◌==◌, List, [], ◌∷◌, ◌++◌, length, map, get_or, set, refl, sym, ap, ◌∙◌, subst, arith, append_assoc, append-nil, eq-eqb, ne_eqb, eqb-true, get_or-set_other, get_or-set_same}
 use Rattle.std.specs.Prelude.{if◌then◌else◌}
 use Rattle.std.proofs.lemmas.List.Elements.{filter-append}
 use mathlib.Core.Logic.{dite}
@@ -8,12 +8,11 @@ use mathlib.Core.Option.{some}
 use native.Mathlib.Decide.{ℕ_discrete}
 use lib.ListN.{get_elem?}
 use Rattle.atomic_table.proofs.Lists.{at_set, at_snoc}
-use Rattle.keys.specs.Layouts.{Layout', cell_place}
+use Rattle.keys.specs.Layouts.{Layout', cell_place, counter_place}
 use Rattle.ruledwords.specs.declared.card.Card.{Card}
 use Rattle.ruledwords.specs.declared.card.Change.{Change}
-use Rattle.ruledwords.specs.Changes.{changes_at, put_changes, made_by, left_by, left_of, change_of, AllTied, ChangedNothing, ChangedOnce, Recorded, Tied, Writes}
+use Rattle.ruledwords.specs.Changes.{changes_at, put_changes, made_by, left_by, left_of, change_of, first_changes, AllTied, ChangedNothing, ChangedOnce, KnowsMoreAt, Loaded, Recorded, Tied, Writes}
 use Rattle.ruledwords.specs.Rules.{cards_of, all_cards_of}
-use Rattle.ruledwords.proofs.Keepers.{other_cell}
 use Rattle.ruledwords.proofs.Lists.{all_two, counted}
 
 -- ---- by place
@@ -34,7 +33,7 @@ changes_put_else (x ∷ xs) zero (suc q) y n = refl
 changes_put_else (x ∷ xs) (suc p) zero y n = refl
 changes_put_else (x ∷ xs) (suc p) (suc q) y n = changes_put_else xs p q y (λ e. n (ap suc e))
 
--- ---- of one cell
+-- ---- of one word
 
 made_append : (t : ℕ) (xs ys : List Change) → made_by t (xs ++ ys) ≡ made_by t xs ++ made_by t ys
 made_append t xs ys = filter-append (λ (x : Change). x.thread == t) xs ys
@@ -89,21 +88,29 @@ all_tied_other xs t p n v (c ∷ cs) nobody tied =
     let apart : t ≢ c.thread = λ e. let some_card = counted t c cs e in absurd (omega arith) in
     (tied_other xs c.changes c.thread t p n v apart tied.0, all_tied_other xs t p n v cs (omega arith) tied.1)
 
--- thread t found n in the cell of m, and left v
-pub recorded_change : (k : Layout') (ws : List ℕ) (vs : List (List Card)) (r : Recorded k ws vs) (id : ℕ) (c d : Card) (m v : ℕ) → get_elem? vs id ≡ some (c ∷ []) → cell_place k m < length ws → ((t : ℕ) → all_cards_of t vs ≤ 1)
-    → d.thread ≡ c.thread → d.changes ≡ put_changes c.changes (cell_place k m) (changes_at r.changes (cell_place k m) ++ change_of c.thread (get_or ws (cell_place k m) 0) v) → m < k.mutexes
-    → Recorded k (set ws (cell_place k m) v) (set vs id (d ∷ []))
-recorded_change k ws vs r id c d m v is within once same grows low =
-    let p : ℕ = cell_place k m in
+-- what the changes leave of any word then
+left_now : (ws : List ℕ) (xs : List (List Change)) (t p v : ℕ) → p < length ws → left_by (changes_at xs p) ≡ get_or ws p 0 → (q : ℕ) → left_by (changes_at xs q) ≡ get_or ws q 0
+    → left_by (changes_at (put_changes xs p (changes_at xs p ++ change_of t (get_or ws p 0) v)) q) ≡ get_or (set ws p v) q 0
+left_now ws xs t p v within had q was =
+    let n : ℕ = get_or ws p 0 in
+    let zs : List Change = changes_at xs p ++ change_of t n v in
+    dite (ℕ_discrete q p)
+    (λ e. subst (λ (z : ℕ). left_by (changes_at (put_changes xs p zs) z) ≡ get_or (set ws p v) z 0) (sym e)
+    (ap left_by (changes_put xs p zs) ∙ left_append 0 (changes_at xs p) (change_of t n v) ∙ ap (λ (w : ℕ). left_of w (change_of t n v)) had ∙ left_changed t n v ∙ sym (get_or-set_same ws p v 0 within)))
+    (λ other. ap left_by (changes_put_else xs p q zs other) ∙ was ∙ sym (get_or-set_other ws p q v 0 other))
+
+-- the thread of the card c found n in the word at p, of which the changes are recorded, and left v
+pub recorded_change : (k : Layout') (ws : List ℕ) (vs : List (List Card)) (r : Recorded k ws vs) (id : ℕ) (c d : Card) (p v : ℕ) → get_elem? vs id ≡ some (c ∷ []) → p < length ws → ((t : ℕ) → all_cards_of t vs ≤ 1)
+    → d.thread ≡ c.thread → d.changes ≡ put_changes c.changes p (changes_at r.changes p ++ change_of c.thread (get_or ws p 0) v) → left_by (changes_at r.changes p) ≡ get_or ws p 0
+    → Recorded k (set ws p v) (set vs id (d ∷ []))
+recorded_change k ws vs r id c d p v is within once same grows had =
     let n : ℕ = get_or ws p 0 in
     let zs : List Change = changes_at r.changes p ++ change_of c.thread n v in
     let mine : Tied (put_changes r.changes p zs) d.thread d.changes = subst (λ (z : ℕ × List (List Change)). Tied (put_changes r.changes p zs) z.0 z.1) (λ i. (sym same i, sym grows i)) (tied_own r.changes c.changes c.thread p zs (r.tied id (c ∷ []) is).0) in
     record {
       changes = put_changes r.changes p zs;
-      leave = λ l lower. dite (ℕ_discrete l m)
-          (λ e. subst (λ (z : ℕ). left_by (changes_at (put_changes r.changes p zs) (cell_place k z)) ≡ get_or (set ws p v) (cell_place k z) 0) (sym e)
-          (ap left_by (changes_put r.changes p zs) ∙ left_append 0 (changes_at r.changes p) (change_of c.thread n v) ∙ ap (λ (w : ℕ). left_of w (change_of c.thread n v)) (r.leave m low) ∙ left_changed c.thread n v ∙ sym (get_or-set_same ws p v 0 within)))
-          (λ other. ap left_by (changes_put_else r.changes p (cell_place k l) zs (other_cell k m l other)) ∙ r.leave l lower ∙ sym (get_or-set_other ws p (cell_place k l) v 0 (other_cell k m l other)));
+      leave = λ l lower. left_now ws r.changes c.thread p v within had (cell_place k l) (r.leave l lower);
+      count = λ q lower. left_now ws r.changes c.thread p v within had (counter_place k q) (r.count q lower);
       tied = λ j w e. ⊎_elim
           (λ (t : (j ≡ id) × (d ∷ [] ≡ w)). subst (AllTied (put_changes r.changes p zs)) t.1 (mine, tt))
           (λ (t : (j ≢ id) × (get_elem? vs j ≡ some w)).
@@ -114,16 +121,18 @@ recorded_change k ws vs r id c d m v is within once same grows low =
           (at_set vs id j (d ∷ []) w e);
     }
 
--- ---- where no cell is changed
+-- ---- where no cell and no counter is changed
 
-pub recorded_words : (k : Layout') (ws ws' : List ℕ) (vs : List (List Card)) → ((m : ℕ) → m < k.mutexes → get_or ws' (cell_place k m) 0 ≡ get_or ws (cell_place k m) 0) → Recorded k ws vs → Recorded k ws' vs
-recorded_words k ws ws' vs same r = record { changes = r.changes; leave = λ m low. r.leave m low ∙ sym (same m low); tied = r.tied }
+pub recorded_words : (k : Layout') (ws ws' : List ℕ) (vs : List (List Card)) → ((m : ℕ) → m < k.mutexes → get_or ws' (cell_place k m) 0 ≡ get_or ws (cell_place k m) 0)
+    → ((q : ℕ) → q < length k.conditions → get_or ws' (counter_place k q) 0 ≡ get_or ws (counter_place k q) 0) → Recorded k ws vs → Recorded k ws' vs
+recorded_words k ws ws' vs same as_well r = record { changes = r.changes; leave = λ m low. r.leave m low ∙ sym (same m low); count = λ q low. r.count q low ∙ sym (as_well q low); tied = r.tied }
 
 -- one seat's cards know of the changes what they knew
 pub recorded_set : (k : Layout') (ws : List ℕ) (vs : List (List Card)) (id : ℕ) (v w : List Card) → get_elem? vs id ≡ some v → (r : Recorded k ws vs) → (AllTied r.changes v → AllTied r.changes w) → Recorded k ws (set vs id w)
 recorded_set k ws vs id v w is r so = record {
   changes = r.changes;
   leave = r.leave;
+  count = r.count;
   tied = λ j u e. ⊎_elim
       (λ (t : (j ≡ id) × (w ≡ u)). subst (AllTied r.changes) t.1 (so (r.tied id v is)))
       (λ (t : (j ≢ id) × (get_elem? vs j ≡ some u)). r.tied j u t.1)
@@ -135,6 +144,7 @@ pub recorded_dealt : (k : Layout') (ws : List ℕ) (vs : List (List Card)) (id :
 recorded_dealt k ws vs id v w u is so r = record {
   changes = r.changes;
   leave = r.leave;
+  count = r.count;
   tied = λ j x e. ⊎_elim
       (λ (was : get_elem? (set vs id w) j ≡ some x). ⊎_elim
       (λ (t : (j ≡ id) × (w ≡ x)). subst (AllTied r.changes) t.1 (so r.changes (r.tied id v is)).0)
@@ -148,12 +158,30 @@ pub tied_append : (xs : List (List Change)) (cs ds : List Card) → AllTied xs c
 tied_append xs [] ds f g = g
 tied_append xs (c ∷ cs) ds f g = (f.0, tied_append xs cs ds f.1 g)
 
+-- ---- at first
+
+changes_first : (ws : List ℕ) (p : ℕ) → left_by (changes_at (first_changes ws) p) ≡ get_or ws p 0
+changes_first [] p = refl
+changes_first (w ∷ ws) zero = refl
+changes_first (w ∷ ws) (suc p) = changes_first ws p
+
+nobody_first : (ws : List ℕ) (t p : ℕ) → 1 ≤ t → [] ≡ made_by t (changes_at (first_changes ws) p)
+nobody_first [] t p pos = refl
+nobody_first (w ∷ ws) t zero pos = rw (ne_eqb 0 t (λ e. absurd (omega (arith, e, pos)))) refl
+nobody_first (w ∷ ws) t (suc p) pos = nobody_first ws t p pos
+
+-- of which nobody knows yet
+pub tied_at_first : (ws : List ℕ) (t : ℕ) → 1 ≤ t → Tied (first_changes ws) t []
+tied_at_first ws t pos p = ((changes_at (first_changes ws) p, refl), nobody_first ws t p pos)
+
+pub left_at_first : (ws : List ℕ) (p w : ℕ) → get_or ws p 0 ≡ w → left_by (changes_at (first_changes ws) p) ≡ w
+left_at_first ws p w is = changes_first ws p ∙ is
+
 -- ---- what an access tells
 
-pub writes_there : (k : Layout') (ws : List ℕ) (vs : List (List Card)) (r : Recorded k ws vs) (id : ℕ) (c d : Card) (m v : ℕ) → m < k.mutexes → get_elem? vs id ≡ some (c ∷ [])
-    → d.changes ≡ put_changes c.changes (cell_place k m) (changes_at r.changes (cell_place k m) ++ change_of c.thread (get_or ws (cell_place k m) 0) v) → Writes c (cell_place k m) (get_or ws (cell_place k m) 0) v d
-writes_there k ws vs r id c d m v low is grows =
-    let p : ℕ = cell_place k m in
+pub writes_there : (k : Layout') (ws : List ℕ) (vs : List (List Card)) (r : Recorded k ws vs) (id : ℕ) (c d : Card) (p v : ℕ) → left_by (changes_at r.changes p) ≡ get_or ws p 0 → get_elem? vs id ≡ some (c ∷ [])
+    → d.changes ≡ put_changes c.changes p (changes_at r.changes p ++ change_of c.thread (get_or ws p 0) v) → Writes c p (get_or ws p 0) v d
+writes_there k ws vs r id c d p v had is grows =
     let tied = (r.tied id (c ∷ []) is).0 p in
     let mine : List Change = changes_at c.changes p in
     let alone : made_by c.thread mine ++ made_by c.thread tied.0.0 ≡ made_by c.thread mine = sym (made_append c.thread mine tied.0.0) ∙ ap (made_by c.thread) tied.0.1 ∙ sym tied.1 in
@@ -161,7 +189,8 @@ writes_there k ws vs r id c d m v low is grows =
       since = tied.0.0;
       others = none_made (made_by c.thread mine) (made_by c.thread tied.0.0) alone;
       grows = ap (λ (l : List (List Change)). changes_at l p) grows ∙ changes_put c.changes p _ ∙ ap (λ (l : List Change). l ++ change_of c.thread (get_or ws p 0) v) (sym tied.0.1);
-      met = ap left_by tied.0.1 ∙ r.leave m low;
+      met = ap left_by tied.0.1 ∙ had;
+      elsewhere = λ q other. ap (λ (l : List (List Change)). changes_at l q) grows ∙ changes_put_else c.changes p q _ other;
     }
 
 -- ---- of a call
@@ -190,3 +219,35 @@ once_now c d e p n v same differs last so w = record {
   where
     before : changes_at d.changes p ++ w.since ≡ changes_at c.changes p ++ (so.since ++ w.since)
     before = ap (λ (l : List Change). l ++ w.since) so.grows ∙ append_assoc (changes_at c.changes p) so.since w.since
+
+pub more_yet : (c : Card) (p : ℕ) → KnowsMoreAt c p c
+more_yet c p = record { here = ([], append-nil _); elsewhere = λ q other. refl; counted = refl }
+
+-- an access at the word at p
+pub more_by : (c d : Card) (p n v : ℕ) → d.counted ≡ c.counted → Writes c p n v d → KnowsMoreAt c p d
+more_by c d p n v same w = record { here = (w.since ++ change_of c.thread n v, sym (append_assoc (changes_at c.changes p) w.since (change_of c.thread n v)) ∙ sym w.grows); elsewhere = w.elsewhere; counted = same }
+
+pub more_on : (c d e : Card) (p : ℕ) → KnowsMoreAt c p d → KnowsMoreAt d p e → KnowsMoreAt c p e
+more_on c d e p first more = record {
+  here = (first.here.0 ++ more.here.0, sym (append_assoc (changes_at c.changes p) first.here.0 more.here.0) ∙ ap (λ (l : List Change). l ++ more.here.0) first.here.1 ∙ more.here.1);
+  elsewhere = λ q other. more.elsewhere q other ∙ first.elsewhere q other;
+  counted = more.counted ∙ first.counted;
+}
+
+-- who knows what it knew of changes
+pub more_same : (c d : Card) (p : ℕ) → d.counted ≡ c.counted → d.changes ≡ c.changes → KnowsMoreAt c p d
+more_same c d p same alike = record { here = ([], append-nil _ ∙ ap (λ (l : List (List Change)). changes_at l p) (sym alike)); elsewhere = λ q other. ap (λ (l : List (List Change)). changes_at l q) alike; counted = same }
+
+-- where its changes are known as they were
+pub nothing_still : (c d e : Card) (p : ℕ) → changes_at e.changes p ≡ changes_at d.changes p → ChangedNothing c p d → ChangedNothing c p e
+nothing_still c d e p same so = record { since = so.since; others = so.others; grows = same ∙ so.grows }
+
+pub loaded_still : (c d e : Card) (p : ℕ) → changes_at e.changes p ≡ changes_at d.changes p → e.counted ≡ d.counted → Loaded c p d → Loaded c p e
+loaded_still c d e p same counted so = record { nothing = nothing_still c d e p same so.nothing; left = ap left_by same ∙ so.left ∙ sym counted }
+
+-- a load of a counter that found n
+pub loaded_now : (c d e : Card) (p n : ℕ) → d.thread ≡ c.thread → e.counted ≡ n → ChangedNothing c p d → Writes d p n n e → Loaded c p e
+loaded_now c d e p n same is so w = record {
+  nothing = nothing_more c d e p n same so w;
+  left = ap left_by (w.grows ∙ ap (λ (b : Bool). (changes_at d.changes p ++ w.since) ++ (if b then [] else record { thread = d.thread; word = n } ∷ [])) (eq-eqb n n refl) ∙ append-nil _) ∙ w.met ∙ sym is;
+}

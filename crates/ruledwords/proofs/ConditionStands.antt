@@ -1,5 +1,5 @@
 -- What a call on a condition variable has decided, from access to access.
-use Rattle.std.proofs.Common.{Bool, true, false, ◌≡◌, ◌≢◌, ℕ, ◌+◌, ◌%◌, ◌^◌, ◌≤◌, ◌==◌, not, Option, Some, None, [], ◌∷◌, refl, sym, ap, ◌∙◌, subst, arith, append-nil, ne_eqb}
+use Rattle.std.proofs.Common.{Bool, true, false, ◌≡◌, ◌≢◌, ℕ, ◌+◌, ◌%◌, ◌^◌, ◌<◌, ◌≤◌, ◌==◌, not, Option, Some, None, [], ◌∷◌, refl, sym, ap, ◌∙◌, subst, arith, append-nil, ne_eqb}
 use Rattle.std.specs.Prelude.{◌||◌, if◌then◌else◌}
 use Rattle.std.proofs.lemmas.Bool.{eqb-false}
 use Rattle.lockword.specs.Cells.{fields_of}
@@ -43,15 +43,18 @@ use Rattle.robustlist.specs.Words.{answer_on}
 use Rattle.facts.specs.Lives.{Beginning}
 use Rattle.ruledwords.specs.Calls.{row_in, Made, Ready}
 use Rattle.ruledwords.specs.Cards.{at, value_at, mark_at}
+use Rattle.ruledwords.specs.Changes.{Loaded}
 use Rattle.ruledwords.specs.ConditionCalls.{CondFound, IsCondAnswerOf, IsCondStep, IsInCondCall}
 use Rattle.ruledwords.specs.Conditions.{cond_row_in, cond_standing, having_set, release_of, CondReady, Counts, IsAtCondition, Meets}
-use Rattle.ruledwords.specs.ConditionStands.{cond_reply, cond_acts, CondEnded, CondStands, LeftUsable, SetsWaiters}
+use Rattle.ruledwords.specs.ConditionStands.{cond_reply, cond_acts, CondEnded, CondStands, LeftUsable, LoadedBehind, LoadsBehind, SetsWaiters}
 use Rattle.ruledwords.specs.Counts.{cell_at}
 use Rattle.ruledwords.specs.Lists.{known}
 use Rattle.ruledwords.specs.OwnWords.{own_after, owns_in}
 use Rattle.ruledwords.specs.Seen.{held_after, holds, Called, Sees}
 use Rattle.ruledwords.proofs.Cards.{saw_more}
+use Rattle.ruledwords.proofs.Changes.{loaded_now, loaded_still, nothing_still}
 use Rattle.ruledwords.proofs.ConditionActs.{q, m, unlink_no_section, whole}
+use Rattle.ruledwords.proofs.Keepers.{counter_no_cell}
 use Rattle.ruledwords.proofs.Lists.{mark_put}
 use Rattle.ruledwords.proofs.Noted.{marked_called, seen_stored, still_called}
 use Rattle.ruledwords.proofs.OwnTurns.{own_same}
@@ -82,7 +85,10 @@ module _ (k : Layout') (he en ce co t : ℕ) where
   went : (op : Operation) (c0 d : Card) (f : CondPhase) (p : Option Point) → IsAtCondition f → Stands op c0 (cond_row_in f) d → Outcome op c0 d record { phase = f; point = p }
   went op c0 d f p there s = record { goes = λ it. s; ends = λ y same. absurd (subst IsAtCondition same there) }
 
-  module _ (c0 c : Card) (mine : t ≡ c.thread) (pos : 1 ≤ c.thread) where
+  module _ (c0 c : Card) (mine : t ≡ c.thread) (pos : 1 ≤ c.thread) (low : m k he en ce co t < k.mutexes) where
+    apart : a ≢ z
+    apart = counter_no_cell k (q k he en ce co t) (m k he en ce co t) low
+
     -- before a call's point its thread owns what it owned as the call began
     owned_first : Called c0 z [] c → owns_in k c0 (m k he en ce co t) ≡ owns_in k c (m k he en ce co t)
     owned_first h = sym (ap (λ (u : ℕ). holds u (at c.seen z)) h.saw.thread ∙ ap (held_after false) (h.saw.own ∙ append-nil _))
@@ -104,7 +110,7 @@ module _ (k : Layout') (he en ce co t : ℕ) where
         go : (b : Bool) → ((fields_of n).owner == t) ≡ b → (e : Bool) → (fields_of n).died ≡ e → Outcome operation.Wait c0 d (from_words (stage (condition.AtWords (cond.Wait wait.LoadCell))) (if not b then ends operation.Wait EPERM else if e then ends operation.Wait XSTATE else goes (cond.Wait wait.LoadCounter)))
         go false bs e es = ended operation.Wait c0 d EPERM _ record { called = saw_more c0 z c operation.Wait (Some EPERM) _ d s.called (seen false e bs es); reply = sym (ap (λ (b : Bool). if b then XSTATE else EPERM) (own ∙ bs)); counts = tt; waiters = tt }
         go true bs true es = ended operation.Wait c0 d XSTATE _ record { called = saw_more c0 z c operation.Wait (Some XSTATE) _ d s.called (seen true true bs es); reply = sym (ap (λ (b : Bool). if b then XSTATE else EPERM) (own ∙ bs)); counts = tt; waiters = tt }
-        go true bs false es = went operation.Wait c0 d (condition.AtWords (cond.Wait wait.LoadCounter)) None tt record { of = refl; called = saw_more c0 z c operation.Wait None _ d s.called (seen true false bs es); owns = own ∙ bs; counts = tt; waiters = tt; usable = tt }
+        go true bs false es = went operation.Wait c0 d (condition.AtWords (cond.Wait wait.LoadCounter)) None tt record { of = refl; called = saw_more c0 z c operation.Wait None _ d s.called (seen true false bs es); owns = own ∙ bs; counts = tt; waiters = tt; usable = tt; loads = nothing_still c0 c d a (found.writes.elsewhere a apart) s.loads }
 
     signal_stands : (n : ℕ) (d : Card) → Stands operation.Signal c0 (cond.Signal signal.LoadCell) c → Meets k (q k he en ce co t) (cond_standing (stage (condition.AtWords (cond.Signal signal.LoadCell)))) c n d → Outcome operation.Signal c0 d (cond_led (stage (condition.AtWords (cond.Signal signal.LoadCell))) (Value n))
     signal_stands n d s found = go ((fields_of n).owner == t) refl
@@ -117,7 +123,7 @@ module _ (k : Layout') (he en ce co t : ℕ) where
 
         go : (b : Bool) → ((fields_of n).owner == t) ≡ b → Outcome operation.Signal c0 d (from_words (stage (condition.AtWords (cond.Signal signal.LoadCell))) (if not b then ends operation.Signal EPERM else goes (cond.Signal signal.LoadCounter)))
         go false bs = ended operation.Signal c0 d EPERM _ record { called = saw_more c0 z c operation.Signal (Some EPERM) _ d s.called (seen false bs); reply = sym (ap (λ (b : Bool). if b then (if d.counted == largest_counter then XFULL else OK) else EPERM) (own ∙ bs)); counts = tt; waiters = tt }
-        go true bs = went operation.Signal c0 d (condition.AtWords (cond.Signal signal.LoadCounter)) None tt record { of = refl; called = saw_more c0 z c operation.Signal None _ d s.called (seen true bs); owns = own ∙ bs; counts = tt; waiters = tt; usable = tt }
+        go true bs = went operation.Signal c0 d (condition.AtWords (cond.Signal signal.LoadCounter)) None tt record { of = refl; called = saw_more c0 z c operation.Signal None _ d s.called (seen true bs); owns = own ∙ bs; counts = tt; waiters = tt; usable = tt; loads = tt }
 
     broadcast_stands : (n : ℕ) (d : Card) → Stands operation.Broadcast c0 (cond.Broadcast broadcast.LoadCell) c → Meets k (q k he en ce co t) (cond_standing (stage (condition.AtWords (cond.Broadcast broadcast.LoadCell)))) c n d
         → Outcome operation.Broadcast c0 d (cond_led (stage (condition.AtWords (cond.Broadcast broadcast.LoadCell))) (Value n))
@@ -131,12 +137,20 @@ module _ (k : Layout') (he en ce co t : ℕ) where
 
         go : (b : Bool) → ((fields_of n).owner == t) ≡ b → Outcome operation.Broadcast c0 d (from_words (stage (condition.AtWords (cond.Broadcast broadcast.LoadCell))) (if not b then ends operation.Broadcast EPERM else goes (cond.Broadcast broadcast.LoadCounter)))
         go false bs = ended operation.Broadcast c0 d EPERM _ record { called = saw_more c0 z c operation.Broadcast (Some EPERM) _ d s.called (seen false bs); reply = sym (ap (λ (b : Bool). if b then (if d.counted == largest_counter then XFULL else OK) else EPERM) (own ∙ bs)); counts = tt; waiters = tt }
-        go true bs = went operation.Broadcast c0 d (condition.AtWords (cond.Broadcast broadcast.LoadCounter)) None tt record { of = refl; called = saw_more c0 z c operation.Broadcast None _ d s.called (seen true bs); owns = own ∙ bs; counts = tt; waiters = tt; usable = tt }
+        go true bs = went operation.Broadcast c0 d (condition.AtWords (cond.Broadcast broadcast.LoadCounter)) None tt record { of = refl; called = saw_more c0 z c operation.Broadcast None _ d s.called (seen true bs); owns = own ∙ bs; counts = tt; waiters = tt; usable = tt; loads = tt }
 
     -- ---- at the counter
 
     wait_loads : (n : ℕ) (d : Card) → Stands operation.Wait c0 (cond.Wait wait.LoadCounter) c → Counts k (q k he en ce co t) (cond_standing (stage (condition.AtWords (cond.Wait wait.LoadCounter)))) c n d → Outcome operation.Wait c0 d (cond_led (stage (condition.AtWords (cond.Wait wait.LoadCounter))) (Value n))
-    wait_loads n d s found = went operation.Wait c0 d (condition.Announcing (n % 2 ^ 32)) None tt record { of = refl; called = saw_more c0 z c operation.Wait None _ d s.called found.sees; owns = s.owns; counts = tt; waiters = tt; usable = tt }
+    wait_loads n d s found = went operation.Wait c0 d (condition.Announcing (n % 2 ^ 32)) None tt record {
+      of = refl;
+      called = saw_more c0 z c operation.Wait None _ d s.called found.sees;
+      owns = s.owns;
+      counts = tt;
+      waiters = tt;
+      usable = tt;
+      loads = (loaded_now c0 c d a n s.called.saw.thread found.counted s.loads found.writes, ap (λ (x : ℕ). x % 2 ^ 32) (sym found.counted));
+    }
 
     -- the reply of an owner, by the counter
     full_reply : (n : ℕ) (d : Card) → d.counted ≡ n → owns_in k c0 (m k he en ce co t) ≡ true → (b : Bool) → (n == full) ≡ b → (if b then XFULL else OK) ≡ (if owns_in k c0 (m k he en ce co t) then (if d.counted == largest_counter then XFULL else OK) else EPERM)
@@ -151,7 +165,7 @@ module _ (k : Layout') (he en ce co t : ℕ) where
         go : (b : Bool) → (n == full) ≡ b → Outcome operation.Signal c0 d (from_words (stage (condition.AtWords (cond.Signal signal.LoadCounter))) (if b then ends operation.Signal XFULL else goes (cond.Signal signal.Count)))
         go true bs = ended operation.Signal c0 d XFULL _ record { called = saw_more c0 z c operation.Signal (Some XFULL) _ d s.called (seen true bs); reply = full_reply n d found.counted s.owns true bs; counts = found.value ∙ ap Some (sym found.counted); waiters = tt }
         go false bs = went operation.Signal c0 d (condition.AtWords (cond.Signal signal.Count)) None tt
-            record { of = refl; called = saw_more c0 z c operation.Signal None _ d s.called (seen false bs); owns = s.owns; counts = ((λ e. eqb-false n full bs (sym found.counted ∙ e)), found.value ∙ ap Some (sym found.counted)); waiters = tt; usable = tt }
+            record { of = refl; called = saw_more c0 z c operation.Signal None _ d s.called (seen false bs); owns = s.owns; counts = ((λ e. eqb-false n full bs (sym found.counted ∙ e)), found.value ∙ ap Some (sym found.counted)); waiters = tt; usable = tt; loads = tt }
 
     broadcast_loads : (n : ℕ) (d : Card) → Stands operation.Broadcast c0 (cond.Broadcast broadcast.LoadCounter) c → Counts k (q k he en ce co t) (cond_standing (stage (condition.AtWords (cond.Broadcast broadcast.LoadCounter)))) c n d
         → Outcome operation.Broadcast c0 d (cond_led (stage (condition.AtWords (cond.Broadcast broadcast.LoadCounter))) (Value n))
@@ -163,7 +177,7 @@ module _ (k : Layout') (he en ce co t : ℕ) where
         go : (b : Bool) → (n == full) ≡ b → Outcome operation.Broadcast c0 d (from_words (stage (condition.AtWords (cond.Broadcast broadcast.LoadCounter))) (if b then ends operation.Broadcast XFULL else goes (cond.Broadcast (broadcast.Count (n % 2 ^ 32)))))
         go true bs = ended operation.Broadcast c0 d XFULL _ record { called = saw_more c0 z c operation.Broadcast (Some XFULL) _ d s.called (seen true bs); reply = full_reply n d found.counted s.owns true bs; counts = found.value ∙ ap Some (sym found.counted); waiters = tt }
         go false bs = went operation.Broadcast c0 d (condition.AtWords (cond.Broadcast (broadcast.Count (n % 2 ^ 32)))) None tt
-            record { of = refl; called = saw_more c0 z c operation.Broadcast None _ d s.called (seen false bs); owns = s.owns; counts = ((λ e. eqb-false n full bs (sym found.counted ∙ e)), found.value ∙ ap Some (sym found.counted)); waiters = tt; usable = tt }
+            record { of = refl; called = saw_more c0 z c operation.Broadcast None _ d s.called (seen false bs); owns = s.owns; counts = ((λ e. eqb-false n full bs (sym found.counted ∙ e)), found.value ∙ ap Some (sym found.counted)); waiters = tt; usable = tt; loads = tt }
 
     -- the count, of the counter that was loaded
     counted_on : (n : ℕ) (d : Card) (r : CondRow) (v : ℕ) → n ≡ c.counted → d.counted ≡ n → c.counted ≢ largest_counter → n ≤ largest_counter → v ≡ (n + 1) % 18446744073709551616 → value_at d.values a ≡ Some v → (d.counted ≢ largest_counter) × (value_at d.values a ≡ Some (d.counted + 1))
@@ -177,6 +191,7 @@ module _ (k : Layout') (he en ce co t : ℕ) where
       counts = counted_on n d (cond.Signal signal.Count) _ (found.known c.counted s.counts.1) found.counted s.counts.0 found.within refl found.value;
       waiters = tt;
       usable = tt;
+      loads = tt;
     }
 
     broadcast_counts : (seen n : ℕ) (d : Card) → Stands operation.Broadcast c0 (cond.Broadcast (broadcast.Count seen)) c → Counts k (q k he en ce co t) (cond_standing (stage (condition.AtWords (cond.Broadcast (broadcast.Count seen))))) c n d
@@ -188,6 +203,7 @@ module _ (k : Layout') (he en ce co t : ℕ) where
       counts = counted_on n d (cond.Broadcast (broadcast.Count seen)) _ (found.known c.counted s.counts.1) found.counted s.counts.0 found.within refl found.value;
       waiters = tt;
       usable = tt;
+      loads = tt;
     }
 
     -- ---- where nothing is seen anew
@@ -200,11 +216,15 @@ module _ (k : Layout') (he en ce co t : ℕ) where
       counts = subst (λ (e : Card). (e.counted ≢ largest_counter) × (value_at e.values a ≡ Some (e.counted + 1))) (sym same) s.counts;
       waiters = subst (λ (e : Card). mark_at e.marks z ≡ true) (sym same) (mark_put c.marks z true);
       usable = tt;
+      loads = tt;
     }
 
     own_stands : (seen : ℕ) (b : Access) (d : Card) (f : CondPhase) → IsAtCondition f → cond_row_in f ≡ cond.Wait (wait.Release seen) → Stands operation.Wait c0 (cond.Wait (wait.Release seen)) c → d ≡ own_after k c b → Outcome operation.Wait c0 d (onward f)
     own_stands seen b d f there row s same = went operation.Wait c0 d f None there (subst (λ (r : CondRow). Stands operation.Wait c0 r d) (sym row)
-        record { of = refl; called = still_called c0 z [] c d (seen_stored c d (own_after k c b).values (same ∙ own_same k c b)) s.called; owns = s.owns; counts = tt; waiters = tt; usable = tt })
+        record { of = refl; called = still_called c0 z [] c d (seen_stored c d (own_after k c b).values (same ∙ own_same k c b)) s.called; owns = s.owns; counts = tt; waiters = tt; usable = tt; loads = still_loaded d (same ∙ own_same k c b) })
+      where
+        still_loaded : (e : Card) → e ≡ record c { values = (own_after k c b).values } → Loaded c0 a e × (seen ≡ e.counted % 2 ^ 32)
+        still_loaded e is = subst (λ (x : Card). Loaded c0 a x × (seen ≡ x.counted % 2 ^ 32)) (sym is) (loaded_still c0 c record c { values = (own_after k c b).values } a refl refl s.loads.0, s.loads.1)
 
     unlink_stands : (u : UnlinkStanding) (r : UnlinkRow) (seen : ℕ) (b : Access) (d : Card) → Stands operation.Wait c0 (cond.Wait (wait.Release seen)) c → d ≡ own_after k c b → row_in (whole_unlinked_at u r false) ≡ mutex_row.Unlock (unlock.Release false) → Outcome operation.Wait c0 d (onward (unlinked_at u r seen))
     unlink_stands u (unlink_row.Ended OK) seen b d s same at_row = own_stands seen b d (condition.AtWords (cond.Wait (wait.Release seen))) tt refl s same
@@ -233,9 +253,12 @@ module _ (k : Layout') (he en ce co t : ℕ) where
             by_unusable false e = refl
             by_unusable true e = let none = made.sound e in let own = made.met.0 in absurd (cc (none, own))
 
+        loads : Loaded c0 a d × (seen ≡ d.counted % 2 ^ 32)
+        loads = (loaded_still c0 c d a (made.writes.elsewhere a apart) made.counted s.loads.0, s.loads.1 ∙ ap (λ (x : ℕ). x % 2 ^ 32) (sym made.counted))
+
         go : (b : Bool) → Outcome operation.Wait c0 d (from_words (stage (condition.AtWords (cond.Wait (wait.Release seen)))) (decides (if b then cond.Wait (wait.Wake seen) else cond.Wait (wait.Sleep seen)) operation.Unlock OK))
-        go true = went operation.Wait c0 d (condition.AtWords (cond.Wait (wait.Wake seen))) _ tt record { of = refl; called = called; owns = s.owns; counts = tt; waiters = tt; usable = usable }
-        go false = went operation.Wait c0 d (condition.AtWords (cond.Wait (wait.Sleep seen))) _ tt record { of = refl; called = called; owns = s.owns; counts = tt; waiters = tt; usable = usable }
+        go true = went operation.Wait c0 d (condition.AtWords (cond.Wait (wait.Wake seen))) _ tt record { of = refl; called = called; owns = s.owns; counts = tt; waiters = tt; usable = usable; loads = loads }
+        go false = went operation.Wait c0 d (condition.AtWords (cond.Wait (wait.Sleep seen))) _ tt record { of = refl; called = called; owns = s.owns; counts = tt; waiters = tt; usable = usable; loads = loads }
 
     -- ---- any step
 
@@ -277,7 +300,7 @@ module _ (k : Layout') (he en ce co t : ℕ) where
 
     -- a wait that is awake again has released its mutex
     abbrev pub Released : Operation → Type 0
-    Released op = (operation.Wait ≡ op) × Called c0 z ((operation.Unlock, OK) ∷ []) c × (owns_in k c0 (m k he en ce co t) ≡ true) × LeftUsable k (q k he en ce co t) c
+    Released op = (operation.Wait ≡ op) × Called c0 z ((operation.Unlock, OK) ∷ []) c × (owns_in k c0 (m k he en ce co t) ≡ true) × LeftUsable k (q k he en ce co t) c × Loaded c0 a c
 
     pub record SectionOutcome (op : Operation) (o : CondOnward) : Type 0 where
       pub outcome : Outcome op c0 c o
@@ -291,13 +314,13 @@ module _ (k : Layout') (he en ce co t : ℕ) where
     ok_reply own free = sym (ap (λ (b : Bool). if b then (if c.counted == largest_counter then XFULL else OK) else EPERM) own ∙ ap (λ (b : Bool). if b then XFULL else OK) (ne_eqb c.counted largest_counter free))
 
     retakes : (seen : ℕ) (op : Operation) (l : Whole) → Stands op c0 (cond.Wait (wait.Sleep seen)) c → SectionOutcome op (onward (condition.Locking l))
-    retakes seen op l s = record { outcome = record { goes = λ there. absurd there; ends = λ y e. absurd (cc e) }; locks = λ w e. (s.of, s.called, s.owns, s.usable) }
+    retakes seen op l s = record { outcome = record { goes = λ there. absurd there; ends = λ y e. absurd (cc e) }; locks = λ w e. (s.of, s.called, s.owns, s.usable, s.loads.0) }
 
     pub section_stands : (op : Operation) (f : CondPhase) → IsAtCondition f → IsInCondCall k c (stage f) → (x : Answer) → IsCondAnswerOf (cond_access (stage f)) x → Stands op c0 (cond_row_in f) c → SectionOutcome op (cond_led (stage f) x)
     section_stands op (condition.AtWords (cond.Wait wait.LoadCell)) there call x fits s = absurd fits
     section_stands op (condition.AtWords (cond.Wait wait.LoadCounter)) there call x fits s = absurd fits
     section_stands op (condition.AtWords (cond.Wait (wait.Release seen))) there call x fits s = absurd fits
-    section_stands op (condition.AtWords (cond.Wait (wait.Wake seen))) there call (Count j) fits s = record { outcome = went op c0 c (condition.AtWords (cond.Wait (wait.Sleep seen))) None tt record { of = s.of; called = s.called; owns = s.owns; counts = tt; waiters = tt; usable = s.usable }; locks = λ l e. absurd (cc e) }
+    section_stands op (condition.AtWords (cond.Wait (wait.Wake seen))) there call (Count j) fits s = record { outcome = went op c0 c (condition.AtWords (cond.Wait (wait.Sleep seen))) None tt record { of = s.of; called = s.called; owns = s.owns; counts = tt; waiters = tt; usable = s.usable; loads = s.loads }; locks = λ l e. absurd (cc e) }
     section_stands op (condition.AtWords (cond.Wait (wait.Wake seen))) there call x fits s = absurd fits
     section_stands op (condition.AtWords (cond.Wait (wait.Sleep seen))) there call Again fits s = retakes seen op _ s
     section_stands op (condition.AtWords (cond.Wait (wait.Sleep seen))) there call Woken fits s = retakes seen op _ s
@@ -346,3 +369,22 @@ begins_acts k n op c0 c (cond.Broadcast (broadcast.SetWaiters seen)) s = subst (
 begins_acts k n op c0 c (cond.Broadcast (broadcast.Move seen)) s = subst (λ (o : Operation). Beginning o ((operation.Broadcast, OK) ∷ [])) s.of ([], OK, refl)
 begins_acts k n op c0 c cond.Awake s = one_point op
 begins_acts k n op c0 c (cond.Ended x) s = one_point op
+
+-- behind its release a wait has loaded its counter
+pub loaded_behind : (c d : Card) (p : ℕ) (r : CondRow) → LoadsBehind r c p d → LoadedBehind (cond_acts r) c p d
+loaded_behind c d p (cond.Wait wait.LoadCell) loads = tt
+loaded_behind c d p (cond.Wait wait.LoadCounter) loads = tt
+loaded_behind c d p (cond.Wait (wait.Release seen)) loads = tt
+loaded_behind c d p (cond.Wait (wait.Wake seen)) loads = loads.0
+loaded_behind c d p (cond.Wait (wait.Sleep seen)) loads = loads.0
+loaded_behind c d p (cond.Signal signal.LoadCell) loads = tt
+loaded_behind c d p (cond.Signal signal.LoadCounter) loads = tt
+loaded_behind c d p (cond.Signal signal.Count) loads = tt
+loaded_behind c d p (cond.Signal signal.Wake) loads = tt
+loaded_behind c d p (cond.Broadcast broadcast.LoadCell) loads = tt
+loaded_behind c d p (cond.Broadcast broadcast.LoadCounter) loads = tt
+loaded_behind c d p (cond.Broadcast (broadcast.Count seen)) loads = tt
+loaded_behind c d p (cond.Broadcast (broadcast.SetWaiters seen)) loads = tt
+loaded_behind c d p (cond.Broadcast (broadcast.Move seen)) loads = tt
+loaded_behind c d p cond.Awake loads = tt
+loaded_behind c d p (cond.Ended x) loads = tt

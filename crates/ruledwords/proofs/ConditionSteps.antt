@@ -29,6 +29,7 @@ use Rattle.condvar.specs.Programs.{point_of, row_access}
 use Rattle.condvar.specs.Rows.{ends, goes, IsGoing}
 use Rattle.condvar.proofs.Rights.{right}
 use Rattle.ruledwords.specs.declared.card.Card.{Card}
+use Rattle.ruledwords.specs.declared.card.Change.{Change}
 use Rattle.ruledwords.specs.Calls.{address_at, OwnKept}
 use Rattle.ruledwords.specs.Cards.{at, value_at, put_mark}
 use Rattle.ruledwords.specs.Changes.{put_changes, Writes}
@@ -40,7 +41,7 @@ use Rattle.ruledwords.specs.OwnWords.{owns_in, IsOwn}
 use Rattle.ruledwords.specs.Rules.{owner_at, Kept, Turns}
 use Rattle.ruledwords.specs.Seen.{holds, Sees}
 use Rattle.ruledwords.proofs.Changes.{writes_there}
-use Rattle.ruledwords.proofs.Counters.{counting, counter_small, kept_counted, sees_counted}
+use Rattle.ruledwords.proofs.Counters.{behind, counting, counter_small, kept_counted, sees_counted, writes_counted}
 use Rattle.ruledwords.proofs.Counts.{of_mutex, told_counts}
 use Rattle.ruledwords.proofs.Held.{owner_held}
 use Rattle.ruledwords.proofs.Keepers.{inside, other_cell}
@@ -91,7 +92,7 @@ meets {o} k slots id c q low p runs countless =
     (λ n. told_count (cond_led_at p n).decided ∙ countless n)
     (λ n known. subst (λ (xs : List Point). Run (object_of (fields_of n)) xs (object_of (fields_of n))) (sym (told_decided c.thread z (cond_led_at p n).decided))
     (run_here (object_of (fields_of n)) (object_of (fields_of n)) c.thread p.cell z (cond_led_at p n).decided (runs n known.thread.0 (short n known) (sound k c z n known))))
-    (λ ws n d known sees writes misses last mark values. turns c d (λ c d. Meets k q p c n d) record {
+    (λ ws n d known sees writes misses last counted mark values. turns c d (λ c d. Meets k q p c n d) record {
       sees = subst (λ (xs : List Point). Sees c z xs (object_of (fields_of n)) d) (told_decided c.thread z (cond_led_at p n).decided) sees;
       misses = misses;
       last = last;
@@ -135,8 +136,8 @@ pub record CountsRight (t : ℕ) (p : CondStanding) (n w v : ℕ) : Type 0 where
   pub counts : v ≡ n + counts_by (cond_led_at p n).decided
   pub within : v ≤ largest_counter
 
-counts_kept : (k : Layout') (c : Card) (q : ℕ) (xs : List Point) (n v : ℕ) → (1 ≤ c.thread) × (c.thread ≤ k.threads) → owns_in k (counting k q c xs n v) (mutex_at k q) ≡ owns_in k c (mutex_at k q) → OwnKept k c (counting k q c xs n v)
-counts_kept k c q xs n v thread same = record {
+counts_kept : (k : Layout') (c : Card) (q : ℕ) (xs : List Point) (n v : ℕ) (zs : List Change) → (1 ≤ c.thread) × (c.thread ≤ k.threads) → owns_in k (counting k q c xs n v zs) (mutex_at k q) ≡ owns_in k c (mutex_at k q) → OwnKept k c (counting k q c xs n v zs)
+counts_kept k c q xs n v zs thread same = record {
   agrees = λ p own own'. else_same p own;
   knows = λ all. record { each = λ p own. let mine = subst (λ (f : ℕ → Bool). IsOwnPlace k c.thread f p) owns_same own in let x = all.each p mine in (x.0, else_same p mine ∙ x.1); offset = head_same _ (omega (arith, last)) ∙ all.offset };
   heads = head_same;
@@ -146,7 +147,7 @@ counts_kept k c q xs n v thread same = record {
     last = thread.1
 
     d : Card
-    d = counting k q c xs n v
+    d = counting k q c xs n v zs
 
     head_same : (p : ℕ) → p < cell_place k 0 → value_at d.values p ≡ value_at c.values p
     head_same p low = value_put_else c.values (counter_place k q) p (Some v) (λ e. absurd (omega arith))
@@ -191,7 +192,7 @@ counts_at {o} k slots id c q low p f mine rights is_change s h deep is small =
     let few : f n < 4294967296 = omega arith in
     let more : f n ≡ counter_in k s.words q + told_counts (op_in by) (reply_in by) = r.counts ∙ ap (λ (x : ℕ). n + x) (sym (told_count by)) in
     let xs : List Point = at h.histories z ++ told c.thread z (op_in by) (reply_in by) in
-    let d : Card = counting k q c xs n (f n) in
+    let d : Card = behind o k s h id c q (op_in by) (reply_in by) n (f n) is low owned run few more in
     let sees = sees_counted o k s h id c q (op_in by) (reply_in by) n (f n) is low owned run few more in
     let held_same : owns_in k d m ≡ owns_in k c m = owner_held c.thread fresh (at d.seen z) (object_of (fields_of w)) sees.leaves.0 ∙ sym (holder k c z w known) in (
       d ∷ [],
@@ -208,7 +209,8 @@ counts_at {o} k slots id c q low p f mine rights is_change s h deep is small =
         known = tells;
         value = value_put c.values a (Some (f n)) ∙ ap Some (is_change n);
         within = little;
-        kept = counts_kept k c q xs n (f n) fit.thread held_same;
+        writes = subst (λ (v : ℕ). Writes c a n v d) (is_change n) (writes_counted o k s h id c q (op_in by) (reply_in by) n (f n) is low owned run few more);
+        kept = counts_kept k c q xs n (f n) _ fit.thread held_same;
       },
     )
 
@@ -233,7 +235,7 @@ flags {o} k slots id c m low s h deep is small =
       keeps,
       tt,
       kept_left k s h m low v object owner steady id c d is refl refl record { thread = left.thread; threads = left.threads; begins = left.begins; own = left.own; values = left.values; marks = marked },
-      turns c d (λ c d. (d ≡ having_set c p n d.changes) × Finds c p n × Writes c p n v d) (refl, found k s h c m low f, writes_there k s.words s.views h.recorded id c d m v low is refl),
+      turns c d (λ c d. (d ≡ having_set c p n d.changes) × Finds c p n × Writes c p n v d) (refl, found k s h c m low f, writes_there k s.words s.views h.recorded id c d p v (h.recorded.leave m low) is refl),
     )
 
 -- ---- any access

@@ -21,11 +21,13 @@ use Rattle.condvar.specs.Laws.{largest_counter}
 use Rattle.ruledwords.specs.declared.card.Card.{Card}
 use Rattle.ruledwords.specs.Cards.{at, put, value_at, put_value, mark_at}
 use Rattle.ruledwords.specs.Conditions.{looked_at_counter}
+use Rattle.ruledwords.specs.Changes.{changes_at, change_of, put_changes, Writes}
+use Rattle.ruledwords.specs.declared.card.Change.{Change}
 use Rattle.ruledwords.specs.Counts.{cell_at, counter_in, counts_in, mutex_at, Counted}
 use Rattle.ruledwords.specs.Looks.{noted}
 use Rattle.ruledwords.specs.Rules.{guard, owner_at, keeper, Fits, AllFit, Kept}
 use Rattle.ruledwords.specs.Seen.{Leaves, Sees}
-use Rattle.ruledwords.proofs.Changes.{recorded_set, recorded_words}
+use Rattle.ruledwords.proofs.Changes.{recorded_change, writes_there}
 use Rattle.ruledwords.proofs.Counts.{counted_same, counted_more, counts_more, of_mutex, told_counts}
 use Rattle.ruledwords.proofs.Keepers.{counter_no_cell, keeper_same, other_cell}
 use Rattle.ruledwords.proofs.Lists.{at_put, at_put_else, told, value_put, value_put_else, all_set, all_two, counted}
@@ -72,9 +74,9 @@ at_most_one op (Some x) = omega arith
 
 -- ---- the card behind it
 
--- it saw the list xs of its mutex, found n, and the counter is v now
-abbrev pub counting : Layout' → ℕ → Card → List Point → ℕ → ℕ → Card
-counting k q c xs n v = record {
+-- it saw the list xs of its mutex, found n, and the counter is v now, of which it knows these changes
+abbrev pub counting : Layout' → ℕ → Card → List Point → ℕ → ℕ → List Change → Card
+counting k q c xs n v zs = record {
   threads = c.threads;
   thread = c.thread;
   base = c.base;
@@ -85,7 +87,7 @@ counting k q c xs n v = record {
   counted = n;
   values = put_value c.values (counter_place k q) (Some v);
   marks = c.marks;
-  changes = c.changes;
+  changes = put_changes c.changes (counter_place k q) zs;
 }
 
 module _ (o : List ℕ) (k : Layout') (s : St) (h : Kept k o s) (id : ℕ) (c : Card) (q : ℕ) (op : Operation) (r : Option Reply) (n v : ℕ) (is : get_elem? s.views id ≡ some (c ∷ [])) (low : q < length k.conditions)
@@ -108,8 +110,12 @@ module _ (o : List ℕ) (k : Layout') (s : St) (h : Kept k o s) (id : ℕ) (c : 
   abbrev ws' : List ℕ
   ws' = set s.words a v
 
+  -- what is known of its changes
+  abbrev pub zs : List Change
+  zs = changes_at h.recorded.changes a ++ change_of c.thread (get_or s.words a 0) v
+
   abbrev pub behind : Card
-  behind = counting k q c xs n v
+  behind = counting k q c xs n v zs
 
   fit : Fits k s.words js c
   fit = (h.fits id (c ∷ []) is).0
@@ -211,8 +217,11 @@ module _ (o : List ℕ) (k : Layout') (s : St) (h : Kept k o s) (id : ℕ) (c : 
         all_fit_other k s.words ws' js p c.thread op r w (λ d other f. (knows_else d other f, marked d f)) (omega arith) (h.fits j w t.1))
         (at_set s.views id j (behind ∷ []) w e);
     once = λ t. let same = all_set t s.views id (c ∷ []) (behind ∷ []) is in let once = h.once t in omega arith;
-    recorded = recorded_words k s.words ws' (set s.views id (behind ∷ [])) cell_same (recorded_set k s.words s.views id (c ∷ []) (behind ∷ []) is h.recorded (λ f. f));
+    recorded = recorded_change k s.words s.views h.recorded id c behind a v is within h.once refl refl (h.recorded.count q low);
   }
+
+  pub writes_counted : Writes c a (get_or s.words a 0) v behind
+  writes_counted = writes_there k s.words s.views h.recorded id c behind a v (h.recorded.count q low) is refl
 
   pub sees_counted : Sees c p (told c.thread p op r) (says s.words p) behind
   sees_counted = let s' = sees_step k s h id c m op r (get_or s.words p 0) 0 0 [] is in_layout run in

@@ -1,9 +1,9 @@
 mod Lists
-mod Changes
+pub mod Changes
 mod Cards
 mod Counts
 mod Held
-mod Keepers
+pub mod Keepers
 mod Moves
 mod Hands
 mod Gathering

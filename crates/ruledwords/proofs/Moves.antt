@@ -224,7 +224,7 @@ kept_step o k s h id c m op r n misses last vs is low keep steady countless run 
           (omega arith) (h.fits j v t.1))
           (at_set s.views id j w v e);
       once = λ t. let same = all_set t s.views id (c ∷ []) w is in let once = h.once t in omega arith;
-      recorded = recorded_change k s.words s.views h.recorded id c (after c p xs misses last vs (fields_of n).waiters (changing k s h c m n)) m n is within h.once refl refl low;
+      recorded = recorded_change k s.words s.views h.recorded id c (after c p xs misses last vs (fields_of n).waiters (changing k s h c m n)) p n is within h.once refl refl (h.recorded.leave m low);
     }
 
 pub sees_step : {o : List ℕ} (k : Layout') (s : St) (h : Kept k o s) (id : ℕ) (c : Card) (m : ℕ) (op : Operation) (r : Option Reply) (n misses last : ℕ) (vs : List (Option ℕ)) → get_elem? s.views id ≡ some (c ∷ []) → m < k.mutexes
@@ -271,7 +271,7 @@ pub allows : {o : List ℕ} (k : Layout') (slots id : ℕ) (c : Card) (m : ℕ) 
     → ((n : ℕ) → Knowing k c (cell_place k m) n → Steady n (f n))
     → ((n : ℕ) → told_counts (op n) (r n) ≡ 0)
     → ((n : ℕ) → Knowing k c (cell_place k m) n → Run (object_of (fields_of n)) (told c.thread (cell_place k m) (op n) (r n)) (object_of (fields_of (f n))))
-    → ((ws : List ℕ) (n : ℕ) (d : Card) → Knowing k c (cell_place k m) n → Sees c (cell_place k m) (told c.thread (cell_place k m) (op n) (r n)) (object_of (fields_of (f n))) d → Writes c (cell_place k m) n (f n) d → d.misses ≡ misses n → d.last ≡ last n → mark_at d.marks (cell_place k m) ≡ (fields_of (f n)).waiters → d.values ≡ vs ws n → tells n (d ∷ [], []))
+    → ((ws : List ℕ) (n : ℕ) (d : Card) → Knowing k c (cell_place k m) n → Sees c (cell_place k m) (told c.thread (cell_place k m) (op n) (r n)) (object_of (fields_of (f n))) d → Writes c (cell_place k m) n (f n) d → d.misses ≡ misses n → d.last ≡ last n → d.counted ≡ c.counted → mark_at d.marks (cell_place k m) ≡ (fields_of (f n)).waiters → d.values ≡ vs ws n → tells n (d ∷ [], []))
     → Allows (Kept k o) slots id (c ∷ [], []) (cell_place k m) f tells
 allows {o} k slots id c m op f r misses last vs tells low keeps_values steadies countless runs says_of s h deep is small =
     let p : ℕ = cell_place k m in
@@ -285,5 +285,5 @@ allows {o} k slots id c m op f r misses last vs tells low keeps_values steadies 
       keeps,
       tt,
       kept_step o k s h id c m (op n) (r n) (f n) (misses n) (last n) (vs s.words n) is low keep steady (countless n) run,
-      says_of s.words n _ knows (sees_step k s h id c m (op n) (r n) (f n) (misses n) (last n) (vs s.words n) is low run) (writes_there k s.words s.views h.recorded id c _ m (f n) low is refl) refl refl (mark_put c.marks p (fields_of (f n)).waiters) refl,
+      says_of s.words n _ knows (sees_step k s h id c m (op n) (r n) (f n) (misses n) (last n) (vs s.words n) is low run) (writes_there k s.words s.views h.recorded id c _ p (f n) (h.recorded.leave m low) is refl) refl refl refl (mark_put c.marks p (fields_of (f n)).waiters) refl,
     )

@@ -23,10 +23,12 @@ use Rattle.ruledwords.specs.declared.pass.Live.{Live}
 use Rattle.ruledwords.specs.declared.turn.Running.{Running}
 use Rattle.ruledwords.specs.declared.turn.Turn.TheVariants.{Goes, Lives}
 use Rattle.ruledwords.specs.Calls.{Ready, most, row_in, standing_of}
+use Rattle.ruledwords.specs.Changes.{KnowsMoreAt}
 use Rattle.ruledwords.specs.Lists.{known, IsAlive, IsInCall}
 use Rattle.ruledwords.specs.OwnWords.{own_after}
 use Rattle.ruledwords.specs.Passes.{card, layout_of, IsCardOf, IsPassOf, IsLive}
 use Rattle.ruledwords.specs.Turns.{running_call, running_of, Answers, ComesTo, HasSeenTheSame, IsCallOf, IsDecided, IsRunningOf, IsUnderWay as IsUnderWayFrom}
+use Rattle.ruledwords.proofs.Changes.{more_same}
 use Rattle.ruledwords.proofs.Listing.{goes_own, ends_own}
 use Rattle.ruledwords.proofs.Noted.{seen_stored, seen_on, still_stands}
 use Rattle.ruledwords.proofs.Phases.{is_load_or_store, own_fits, own_moved}
@@ -95,6 +97,10 @@ module _ (w : Words) (r : Running) (of : IsRunningOf w r) (own : IsOwnAccess (ru
     still : HasSeenTheSame c (card b)
     still = subst (HasSeenTheSame c) (sym is) seen_same
 
+    -- and of changes what it knew
+    knows_still : {z : ℕ} → KnowsMoreAt c z (card b)
+    knows_still {z} = subst (KnowsMoreAt c z) (sym is) (subst (KnowsMoreAt c z) (sym (own_same k c (whole_access p))) (more_same c _ z refl refl))
+
     is_pass : IsPassOf w b
     is_pass = (table ∙ of.0.0, subst (IsCardOf k) (sym is) own_card)
 
@@ -116,7 +122,7 @@ module _ (w : Words) (r : Running) (of : IsRunningOf w r) (own : IsOwnAccess (ru
 
     pub stands_on : (a : Pass Live) (call : Call) → IsUnderWayFrom w a call r → StandsIn w a call (standing_of p') (card b)
     stands_on a call u = subst (λ (z : Standing). StandsIn w a call z (card b)) (sym as_before)
-        (u.1, still_stands (operation_of call) (first_row call) (cell_place k (mutex_of call)) (card a) (standing_of p) c (card b) still u.2)
+        (u.1, still_stands (operation_of call) (first_row call) (cell_place k (mutex_of call)) (card a) (standing_of p) c (card b) still knows_still u.2)
 
     pub decided_on : (e : Card) (y : Reply) → IsDecided w e y r → (decided (row_in p'.phase) ≡ Some y) × HasSeenTheSame e (card b)
     decided_on e y was = (ap (λ (z : Standing). decided z.row) as_before ∙ was.1, seen_on e c (card b) was.2 still)
@@ -130,6 +136,7 @@ module _ (w : Words) (r : Running) (of : IsRunningOf w r) (own : IsOwnAccess (ru
           let s = (stands_on a call u).1 in (
             called (operation_of call) (first_row call) (cell_place k (mutex_of call)) (card a) (standing_of p') (card b) y s (ap (λ (f : Phase). decided (row_in f)) ended),
             raced_at call (cell_place k (mutex_of call)) (card a) (standing_of p') (card b) y s (ap row_in ended),
+            s.knows,
           )
 
       pub reply_on : (e : Card) (z : Reply) → IsDecided w e z r → y ≡ z
@@ -153,6 +160,6 @@ module _ (w : Words) (r : Running) (of : IsRunningOf w r) (own : IsOwnAccess (ru
       lives y ended = (
         lives_on y ended,
         (x, own_answers k p p.phase c (card b) x own is refl, sym (ap (λ (z : Whole). z.phase) to) ∙ ended),
-        (λ a call u. let s = ended_on y ended a call u in (lives_on y ended, s.0, s.1)),
+        (λ a call u. let s = ended_on y ended a call u in (lives_on y ended, s.0, s.1, s.2)),
         λ e z was. (lives_on y ended, reply_on y ended e z was, (decided_on e z was).1),
       )

@@ -119,7 +119,7 @@ module _ {o : List ℕ} (k : Layout') (s : St) (h : Kept k o s) (c : Card) (p v 
         all_beside w (omega arith) (h.fits j w t.1))
         (at_set s.views id j (knowing c p v ∷ []) w e);
     once = λ t. let same = all_set t s.views id (c ∷ []) (knowing c p v ∷ []) is in let once = h.once t in omega arith;
-    recorded = recorded_words k s.words ws' (set s.views id (knowing c p v ∷ [])) (λ l low. cell_same l) (recorded_set k s.words s.views id (c ∷ []) (knowing c p v ∷ []) is h.recorded (λ f. f));
+    recorded = recorded_words k s.words ws' (set s.views id (knowing c p v ∷ [])) (λ l low. cell_same l) (λ q low. get_or-set_other s.words p (counter_place k q) v 0 ((own_place k c p f.thread own).1 q)) (recorded_set k s.words s.views id (c ∷ []) (knowing c p v ∷ []) is h.recorded (λ f. f));
   }
 
 -- a store at an own place

@@ -118,6 +118,7 @@ stands_answered op first q c p d x fits ready s =
       answers = s.answers ++ x ∷ [];
       reaches = reached_more c.thread first s.answers x ∙ ap (λ (z : Row). (resume_of c.thread z x).row) s.reaches ∙ ap (λ (t : ℕ). (resume_of t p.row x).row) (sym (ready.0 ∙ thread));
       misses = omega arith;
+      knows = s.knows;
     }
 
 -- an answer after which the call goes on, and one after which it returns

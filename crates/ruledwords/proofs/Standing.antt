@@ -27,6 +27,7 @@ use Rattle.ruledwords.specs.Cards.{at}
 use Rattle.ruledwords.specs.Seen.{held, Sees, Called}
 use Rattle.ruledwords.specs.Calls.{address_at, acts, Ready, Made, Stands, led_at, count_by, count_after, most, most_of}
 use Rattle.ruledwords.specs.Outcomes.{wakes_of}
+use Rattle.ruledwords.proofs.Changes.{more_by, more_on, more_yet}
 use Rattle.ruledwords.proofs.Cards.{run_at, saw_nothing, saw_more}
 use Rattle.ruledwords.proofs.Lists.{told}
 use Rattle.ruledwords.proofs.Held.{held_sees}
@@ -39,6 +40,7 @@ begins op q c p of none = record {
   answers = [];
   reaches = refl;
   misses = (let e : c.misses ≡ c.misses + 0 = omega arith in e);
+  knows = more_yet c q;
 }
 
 -- the laws of programs, of an access that was made
@@ -94,6 +96,7 @@ stands_after op first q c p d e n going step ready s m =
       answers = s.answers ++ a ∷ [];
       reaches = reached_more c.thread first s.answers a ∙ ap (λ (z : Row). (resume_of c.thread z a).row) s.reaches ∙ ap (λ (t : ℕ). (resume_of t p.row a).row) (sym (ready.0 ∙ thread));
       misses = omega arith;
+      knows = more_on c d e q s.knows (more_by d e q n (changed (access_of p) n) m.counted m.writes);
     }
 
 -- what is told of the word that a release found

@@ -48,7 +48,8 @@ module _ (w : Words) (r : Running) (there : IsRunningOf w r) where
       tt,
       (λ a call u.
           let t = ends.1.1 a call (under_way a call u) in
-          (dying t.0, died_in w a call (running_of w b ends.0 t.0) (card d) t.1 same)),
+          let f = died_in w a call (running_of w b ends.0 t.0) (card d) t.1 same in
+          (dying t.0, f.0, f.1)),
       (λ c x was.
           let t = ends.1.2 c x (decided c x was) in
           (dying t.0, subst (λ (z : Card). HasSeenTheSame c z) (sym same) t.1.2)),

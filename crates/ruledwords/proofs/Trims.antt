@@ -96,7 +96,7 @@ module _ {o : List ℕ} (k : Layout') (s : St) (h : Kept k o s) (m : ℕ) (low :
         let alike : cards_of u (d ∷ []) ≡ cards_of u (c ∷ []) = ap (λ (t : ℕ). if◌then◌else◌ {A = ℕ} (t == u) 1 0 + 0) same in
         let once = h.once u in
         omega arith;
-    recorded = recorded_change k s.words s.views h.recorded id c d m n is within h.once same grows low;
+    recorded = recorded_change k s.words s.views h.recorded id c d p n is within h.once same grows (h.recorded.leave m low);
   }
 
 -- where WAITERS is all that the word says, it may be 0
@@ -119,7 +119,7 @@ trims {o} k slots id c m low s h deep is small =
     let f = (h.fits id (c ∷ []) is).0 in
     let d : Card = noted c n (c.trims + 1) (put_changes c.changes p (changing k s h c m v)) in
     let left = fits_left k s h m low v right.0 right.1 right.2 c f in
-    let writes : Writes c p n (if n == 0x8000_0000 then 0 else n) d = subst (λ (w : ℕ). Writes c p n w d) (cleared (n == 0x8000_0000) n) (writes_there k s.words s.views h.recorded id c d m v low is refl) in (
+    let writes : Writes c p n (if n == 0x8000_0000 then 0 else n) d = subst (λ (w : ℕ). Writes c p n w d) (cleared (n == 0x8000_0000) n) (writes_there k s.words s.views h.recorded id c d p v (h.recorded.leave m low) is refl) in (
       d ∷ [],
       keeps,
       tt,

@@ -26,6 +26,7 @@ use Rattle.ruledwords.specs.declared.pass.Pass.{Pass}
 use Rattle.ruledwords.specs.declared.pass.Live.{Live}
 use Rattle.ruledwords.specs.declared.turn.Running.{Running}
 use Rattle.ruledwords.specs.Passes.{card, layout_of}
+use Rattle.ruledwords.specs.Changes.{KnowsMoreAt}
 use Rattle.ruledwords.specs.Seen.{Called, Died}
 use Rattle.ruledwords.specs.Calls.{IsOnMutex, Ready, Stands, Made, led_at, most, row_in, standing_of}
 use Rattle.ruledwords.specs.Turns.{running_program, IsUnderWay, IsAnswerOf, IsRaced}
@@ -112,7 +113,7 @@ abbrev pub StandsIn : Words → Pass Live → Call → Standing → Card → Typ
 StandsIn w a call z d = IsOnMutex (layout_of w) z (mutex_of call) × Stands (operation_of call) (first_row call) (cell_place (layout_of w) (mutex_of call)) (card a) z d
 
 abbrev pub HasEnded : Words → Pass Live → Call → Reply → Card → Type 0
-HasEnded w a call x d = Called (card a) (cell_place (layout_of w) (mutex_of call)) ((operation_of call, x) ∷ []) d × IsRaced (operation_of call) x (card a) d
+HasEnded w a call x d = Called (card a) (cell_place (layout_of w) (mutex_of call)) ((operation_of call, x) ∷ []) d × IsRaced (operation_of call) x (card a) d × KnowsMoreAt (card a) (cell_place (layout_of w) (mutex_of call)) d
 
 module _ (w : Words) (a : Pass Live) (call : Call) (r : Running) (u : IsUnderWay w a call r) where
   abbrev place : ℕ
@@ -140,7 +141,7 @@ module _ (w : Words) (a : Pass Live) (call : Call) (r : Running) (u : IsUnderWay
   ends_made m n x d going stepping here made is =
       let s = stands_made m n d going stepping here made in
       let end : Standing = moved z (led_at z n) in
-      (called (operation_of call) (first_row call) place (card a) end d x s (ap decided is), raced_at call place (card a) end d x s is)
+      (called (operation_of call) (first_row call) place (card a) end d x s (ap decided is), raced_at call place (card a) end d x s is, s.knows)
 
   pub goes_on_answered : (x : Answer) (y : Standing) → IsAnswerOf (access_of z) x → y ≡ moved z (led z x) → StandsIn w a call y (card r.pass)
   goes_on_answered x y fits is =
@@ -150,9 +151,10 @@ module _ (w : Words) (a : Pass Live) (call : Call) (r : Running) (u : IsUnderWay
   ends_answered x y fits is =
       let s = stands_answered (operation_of call) (first_row call) place (card a) z (card r.pass) x fits r.ready u.2 in
       let end : Standing = moved z (led z x) in
-      (called (operation_of call) (first_row call) place (card a) end (card r.pass) y s (ap decided is), raced_at call place (card a) end (card r.pass) y s is)
+      (called (operation_of call) (first_row call) place (card a) end (card r.pass) y s (ap decided is), raced_at call place (card a) end (card r.pass) y s is, s.knows)
 
 -- a thread that dies in it
-pub died_in : (w : Words) (a : Pass Live) (call : Call) (r : Running) (d : Card) → IsUnderWay w a call r → d ≡ card r.pass → Died (card a) (cell_place (layout_of w) (mutex_of call)) (operation_of call) d
+pub died_in : (w : Words) (a : Pass Live) (call : Call) (r : Running) (d : Card) → IsUnderWay w a call r → d ≡ card r.pass → Died (card a) (cell_place (layout_of w) (mutex_of call)) (operation_of call) d × KnowsMoreAt (card a) (cell_place (layout_of w) (mutex_of call)) d
 died_in w a call r d u same =
-    subst (λ (z : Card). Died (card a) (cell_place (layout_of w) (mutex_of call)) (operation_of call) z) (sym same) (dies (card a) (cell_place (layout_of w) (mutex_of call)) (operation_of call) (decided (running_program r).row) (card r.pass) u.2.called)
+    subst (λ (z : Card). Died (card a) (cell_place (layout_of w) (mutex_of call)) (operation_of call) z × KnowsMoreAt (card a) (cell_place (layout_of w) (mutex_of call)) z) (sym same)
+    (dies (card a) (cell_place (layout_of w) (mutex_of call)) (operation_of call) (decided (running_program r).row) (card r.pass) u.2.called, u.2.knows)

@@ -29,7 +29,7 @@ use Rattle.mutex.specs.Whole.{IsUnderWay}
 use Rattle.mutex.specs.Steps.{Expects-prop, Knows-prop}
 use Rattle.ruledwords.specs.declared.card.Card.{Card}
 use Rattle.ruledwords.specs.Cards.{at, value_at}
-use Rattle.ruledwords.specs.Changes.{Writes}
+use Rattle.ruledwords.specs.Changes.{KnowsMoreAt, Writes}
 use Rattle.ruledwords.specs.Seen.{holds, Sees, Called}
 use Rattle.ruledwords.specs.OwnWords.{IsOwn, KnowsOwn}
 use Rattle.ruledwords.specs.Rules.{Sat, At, Turns}
@@ -75,6 +75,7 @@ pub record Made (p : Standing) (q : ℕ) (c : Card) (n : ℕ) (d : Card) : Type 
   pub sees : Sees c q (points (point_of c.thread q (row_operation p.row) (led_at p n).point)) (object_of (fields_of (changed (access_of p) n))) d
   pub misses : d.misses ≡ c.misses + fails (access_of p) n
   pub last : d.last ≡ n
+  pub counted : d.counted ≡ c.counted
   pub writes : Writes c q n (changed (access_of p) n) d
   pub sound : Sound (object_of (fields_of n))
   pub met : Expects c.thread p.row (object_of (fields_of n))
@@ -117,13 +118,14 @@ abbrev pub acts : Operation → Option Reply → List Act
 acts op None = []
 acts op (Some x) = (op, x) ∷ []
 
--- a call on the mutex whose cell is at q, begun at the card c, stands at the program p, and its pass has the card d: it is decided as its row tells, and of its exchanges those failed that its answers tell
+-- a call on the mutex whose cell is at q, begun at the card c, stands at the program p, and its pass has the card d: it is decided as its row tells, of its exchanges those failed that its answers tell, and it has come to know of no other word's changes
 pub record Stands (op : Operation) (first : Row) (q : ℕ) (c : Card) (p : Standing) (d : Card) : Type 0 where
   pub of : IsOf op p.row
   pub called : Called c q (acts op (decided p.row)) d
   pub answers : List Answer
   pub reaches : reached c.thread first answers ≡ p.row
   pub misses : d.misses ≡ c.misses + changes answers
+  pub knows : KnowsMoreAt c q d
 
 pub ready_prop : (p : Standing) (c : Card) → IsProp (Ready p c)
 ready_prop p c = Prim.hlevel (props, Expects-prop, Knows-prop)

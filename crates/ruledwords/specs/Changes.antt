@@ -1,9 +1,9 @@
--- Which words the cells of mutexes had, one after the other, and who wrote each.
-use Rattle.std.specs.Prelude.{◌≡◌, ℕ, zero, suc, ◌<◌, ◌==◌, List, [], ◌∷◌, ◌++◌, filter, slice_index, if◌then◌else◌}
+-- Which words the cells of mutexes and the counters of condition variables had, one after the other, and who wrote each.
+use Rattle.std.specs.Prelude.{◌≡◌, ◌≢◌, ℕ, zero, suc, ◌<◌, ◌==◌, List, [], ◌∷◌, ◌++◌, filter, length, map, slice_index, if◌then◌else◌}
 use mathlib.Core.Option.{some}
 use mathlib.Core.List.{IsPrefix}
 use lib.ListN.{get_elem?}
-use Rattle.keys.specs.Layouts.{Layout', cell_place}
+use Rattle.keys.specs.Layouts.{Layout', cell_place, counter_place}
 use Rattle.ruledwords.specs.declared.card.Card.{Card}
 use Rattle.ruledwords.specs.declared.card.Change.{Change}
 
@@ -21,7 +21,7 @@ put_changes [] (suc p) y = [] ∷ put_changes [] p y
 put_changes (x ∷ xs) zero y = y ∷ xs
 put_changes (x ∷ xs) (suc p) y = x ∷ put_changes xs p y
 
--- ---- of one cell
+-- ---- of one word
 
 -- those that thread t made
 abbrev pub made_by : ℕ → List Change → List Change
@@ -32,13 +32,17 @@ abbrev pub left_of : ℕ → List Change → ℕ
 left_of w [] = w
 left_of w (x ∷ xs) = left_of x.word xs
 
--- the word that they leave in a mutex's cell, which is 0 at first
+-- the word that they leave in place of the 0 that nobody has changed
 abbrev pub left_by : List Change → ℕ
 left_by xs = left_of 0 xs
 
 -- thread t found the word n and left v: a change, if they differ
 abbrev pub change_of : ℕ → ℕ → ℕ → List Change
 change_of t n v = if v == n then [] else record { thread = t; word = v } ∷ []
+
+-- at first each word is as it was given, which no thread did
+abbrev pub first_changes : List ℕ → List (List Change)
+first_changes ws = map (λ (w : ℕ). record { thread = 0; word = w } ∷ []) ws
 
 -- ---- what holds
 
@@ -50,20 +54,22 @@ abbrev pub AllTied : List (List Change) → List Card → Type 0
 AllTied xs [] = Unit {0}
 AllTied xs (c ∷ cs) = Tied xs c.thread c.changes × AllTied xs cs
 
--- of each cell the changes that were made, of which each card has a beginning: they leave the cell's word. So nobody can put in a change but at their end, as its own
+-- of each cell and of each counter the changes that were made, of which each card has a beginning: they leave its word. So nobody can put in a change but at their end, as its own
 pub record Recorded (k : Layout') (ws : List ℕ) (vs : List (List Card)) : Type 0 where
   pub changes : List (List Change)
   pub leave : (m : ℕ) → m < k.mutexes → left_by (changes_at changes (cell_place k m)) ≡ slice_index ws (cell_place k m)
+  pub count : (q : ℕ) → q < length k.conditions → left_by (changes_at changes (counter_place k q)) ≡ slice_index ws (counter_place k q)
   pub tied : (id : ℕ) (v : List Card) → get_elem? vs id ≡ some v → AllTied changes v
 
 -- ---- what an access tells
 
--- an access at the cell at p met the word n and left v: behind what its thread knew of the cell's changes stand others', which left n, and then its own, if it made one
+-- an access at the word at p met n and left v: behind what its thread knew of the word's changes stand others', which left n, and then its own, if it made one. Of other words' it knows what it knew
 pub record Writes (c : Card) (p n v : ℕ) (d : Card) : Type 0 where
   pub since : List Change
   pub others : made_by c.thread since ≡ []
   pub grows : changes_at d.changes p ≡ (changes_at c.changes p ++ since) ++ change_of c.thread n v
   pub met : left_by (changes_at c.changes p ++ since) ≡ n
+  pub elsewhere : (q : ℕ) → q ≢ p → changes_at d.changes q ≡ changes_at c.changes q
 
 -- a thread has changed nothing there
 pub record ChangedNothing (c : Card) (p : ℕ) (d : Card) : Type 0 where
@@ -78,3 +84,16 @@ pub record ChangedOnce (c : Card) (p : ℕ) (d : Card) : Type 0 where
   pub word : ℕ
   pub grows : changes_at d.changes p ≡ (changes_at c.changes p ++ since) ++ record { thread = c.thread; word = word } ∷ []
   pub found : left_by (changes_at c.changes p ++ since) ≡ d.last
+
+-- ---- of calls
+
+-- of the changes of the word at p a thread knows what it knew, and maybe more; of other words' it knows what it knew; and the counter that it loaded last is the same
+pub record KnowsMoreAt (c : Card) (p : ℕ) (d : Card) : Type 0 where
+  pub here : IsPrefix (changes_at c.changes p) (changes_at d.changes p)
+  pub elsewhere : (q : ℕ) → q ≢ p → changes_at d.changes q ≡ changes_at c.changes q
+  pub counted : d.counted ≡ c.counted
+
+-- a thread has loaded the counter at p: it has changed nothing there, and the changes of this counter that it knows of leave the value that it loaded
+pub record Loaded (c : Card) (p : ℕ) (d : Card) : Type 0 where
+  pub nothing : ChangedNothing c p d
+  pub left : left_by (changes_at d.changes p) ≡ d.counted

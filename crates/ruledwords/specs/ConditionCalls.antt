@@ -22,7 +22,7 @@ use Rattle.ruledwords.specs.declared.pass.Live.{Live}
 use Rattle.ruledwords.specs.Conditions.{access_at, cond_row_in, cond_standing, condition_at, unlock_of, Acted, CondReady, CondStanding, IsAtCondition, IsOnCondition}
 use Rattle.ruledwords.specs.Counts.{mutex_at}
 use Rattle.ruledwords.specs.Lists.{known, IsInCall}
-use Rattle.ruledwords.specs.Looks.{KnowsTheSame}
+use Rattle.ruledwords.specs.Looks.{noted}
 use Rattle.ruledwords.specs.OwnWords.{own_after}
 use Rattle.ruledwords.specs.Passes.{card, layout_of, IsCardOf, IsPassOf, IsLive}
 use Rattle.ruledwords.specs.Rules.{card_of, IsOne}
@@ -123,4 +123,4 @@ CondOnward p x a (Lives b y) = (b ≡ a) × ((cond_led p x).phase ≡ condition.
 
 -- the call is where it was, and its pass knows what it knew, but for the word that it found last
 abbrev pub CondUnmoved : Words → CondRunning → CondRunning → Type 0
-CondUnmoved w r r' = IsCondRunningOf w r' × (cond_call r' ≡ cond_call r) × KnowsTheSame (card (cond_pass r)) (card (cond_pass r'))
+CondUnmoved w r r' = IsCondRunningOf w r' × (cond_call r' ≡ cond_call r) × (card (cond_pass r') ≡ noted (card (cond_pass r)) (card (cond_pass r')).last (card (cond_pass r')).trims (card (cond_pass r)).changes)

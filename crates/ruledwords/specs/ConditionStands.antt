@@ -1,5 +1,5 @@
 -- What a call on a condition variable has decided, wherever it stands, and how it ends (pthread_cond_wait(3p), pthread_cond_signal(3p), pthread_cond_broadcast(3p)).
-use Rattle.std.specs.Prelude.{◌≡◌, ◌≢◌, ℕ, ◌+◌, ◌==◌, Bool, true, false, Option, Some, List, [], ◌∷◌, if◌then◌else◌}
+use Rattle.std.specs.Prelude.{◌≡◌, ◌≢◌, ℕ, ◌+◌, ◌^◌, ◌%◌, ◌==◌, Bool, true, false, Option, Some, List, [], ◌∷◌, if◌then◌else◌}
 use Rattle.lockword.specs.declared.reply.Reply.{Reply}
 use Rattle.lockword.specs.declared.reply.Reply.TheVariants.{OK, EPERM, XFULL, XSTATE}
 use Rattle.keys.specs.declared.object.Object.{Object}
@@ -27,6 +27,7 @@ use Rattle.ruledwords.specs.declared.pass.Live.{Live}
 use Rattle.ruledwords.specs.declared.pass.Dead.{Dead}
 use Rattle.ruledwords.specs.Cards.{at, value_at, mark_at}
 use Rattle.ruledwords.specs.ConditionCalls.{cond_call, cond_pass, IsCondRunningOf}
+use Rattle.ruledwords.specs.Changes.{ChangedNothing, Loaded}
 use Rattle.ruledwords.specs.Conditions.{cond_row_in, condition_at}
 use Rattle.ruledwords.specs.Counts.{cell_at, mutex_at}
 use Rattle.ruledwords.specs.OwnWords.{owns_in}
@@ -59,6 +60,15 @@ CountsBehind (cond.Broadcast (broadcast.SetWaiters seen)) n v = (n ≢ largest_c
 CountsBehind (cond.Broadcast (broadcast.Move seen)) n v = (n ≢ largest_counter) × (v ≡ Some (n + 1))
 CountsBehind r n v = Unit {0}
 
+-- a wait has changed nothing at its counter; and behind its load the changes of that counter that its thread knows of leave what it loaded, by whose low half it sleeps
+abbrev pub LoadsBehind : CondRow → Card → ℕ → Card → Type 0
+LoadsBehind (cond.Wait wait.LoadCell) c p d = ChangedNothing c p d
+LoadsBehind (cond.Wait wait.LoadCounter) c p d = ChangedNothing c p d
+LoadsBehind (cond.Wait (wait.Release seen)) c p d = Loaded c p d × (seen ≡ d.counted % 2 ^ 32)
+LoadsBehind (cond.Wait (wait.Wake seen)) c p d = Loaded c p d × (seen ≡ d.counted % 2 ^ 32)
+LoadsBehind (cond.Wait (wait.Sleep seen)) c p d = Loaded c p d × (seen ≡ d.counted % 2 ^ 32)
+LoadsBehind r c p d = Unit {0}
+
 -- before it moves sleepers to the cell, it has set WAITERS there
 abbrev pub WaitersBehind : CondRow → Bool → Type 0
 WaitersBehind (cond.Broadcast (broadcast.Move seen)) b = b ≡ true
@@ -82,6 +92,7 @@ pub record CondStands (k : Layout') (q : ℕ) (op : Operation) (c : Card) (r : C
   pub counts : CountsBehind r d.counted (value_at d.values (counter_place k q))
   pub waiters : WaitersBehind r (mark_at d.marks (cell_at k q))
   pub usable : UsableBehind k q r d
+  pub loads : LoadsBehind r c (counter_place k q) d
 
 -- the reply of a call that ends: to whom doesn't own the mutex EPERM. A wait is refused with X_STATE where the last owner's death isn't declared; a signal and a broadcast with X_FULL exactly where the
 -- counter that was loaded is full
@@ -113,12 +124,14 @@ IsCondUnderWay w a c r =
     IsCondRunningOf w r × (condition_at (layout_of w) (cond_call r) ≡ condition_of c)
     × CondStands (layout_of w) (condition_of c) (operation_of c) (card a) (cond_row_in (cond_call r).phase) (card (cond_pass r))
 
--- a wait has released its mutex, which is usable then, and takes it by a lock that begins now: of the two points the first is the last that its thread has seen
+-- a wait has released its mutex, which is usable then, and takes it by a lock that begins now: of the two points the first is the last that its thread has seen. It has loaded the counter of its own
+-- condition variable
 pub record HasReleased (w : Words) (a : Pass Live) (c : CondCall) (b : Pass Live) : Type 0 where
   pub of : operation_of c ≡ operation.Wait
   pub called : Called (card a) (cell_at (layout_of w) (condition_of c)) ((operation.Unlock, OK) ∷ []) (card b)
   pub owns : owns_in (layout_of w) (card a) (mutex_at (layout_of w) (condition_of c)) ≡ true
   pub usable : LeftUsable (layout_of w) (condition_of c) (card b)
+  pub loaded : Loaded (card a) (counter_place (layout_of w) (condition_of c)) (card b)
 
 -- it is under way still; or it is a wait that takes its mutex again; or it has replied
 abbrev pub CondGoesOn : Words → Pass Live → CondCall → CondTurn → Type 0
@@ -130,6 +143,16 @@ CondGoesOn w a c (Lives b x) = IsLive w b × CondEnded (layout_of w) (condition_
 abbrev pub CondKeeps : Words → CondRunning → CondTurn → Type 0
 CondKeeps w r turn = (a : Pass Live) (c : CondCall) → IsCondUnderWay w a c r → CondGoesOn w a c turn
 
--- its thread died in it: it had made all of the call's points, or some of the first
+-- a thread that has released its mutex in a wait has loaded the counter at p
+abbrev pub LoadedBehind : List Act → Card → ℕ → Card → Type 0
+LoadedBehind ((operation.Unlock, x) ∷ acts) c p d = Loaded c p d
+LoadedBehind acts c p d = Unit {0}
+
+-- a thread died in a call on condition variable q: it had made all of the call's points, or some of the first
+pub record DiesOn (k : Layout') (q : ℕ) (op : Operation) (c d : Card) : Type 0 where
+  pub died : Died c (cell_at k q) op d
+  pub loaded : LoadedBehind died.acts c (counter_place k q) d
+
+-- its thread died in it
 abbrev pub HasDiedInCondition : Words → Pass Live → CondCall → Pass Dead → Type 0
-HasDiedInCondition w a c d = IsDying w d × Died (card a) (cell_at (layout_of w) (condition_of c)) (operation_of c) (card d)
+HasDiedInCondition w a c d = IsDying w d × DiesOn (layout_of w) (condition_of c) (operation_of c) (card a) (card d)

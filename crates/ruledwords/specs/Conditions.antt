@@ -150,6 +150,7 @@ pub record Counts (k : Layout') (q : ℕ) (p : CondStanding) (c : Card) (n : ℕ
   pub still : (o : Object) → Run fresh (at c.seen (cell_at k q)) o → object ≡ o
   pub misses : d.misses ≡ c.misses
   pub counted : d.counted ≡ n
+  pub writes : Writes c (counter_place k q) n (changed (access_at p) n) d
   pub known : (x : ℕ) → value_at c.values (counter_place k q) ≡ Some x → n ≡ x
   pub value : value_at d.values (counter_place k q) ≡ Some (changed (access_at p) n)
   pub within : n ≤ largest_counter

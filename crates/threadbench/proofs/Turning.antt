@@ -40,7 +40,7 @@ still_under_way w r r' a call m u =
       m.0,
       subst (λ (q : Standing). IsOnMutex (layout_of w) q (mutex_of call)) (sym same) u.1,
       subst (λ (z : Standing). Stands (operation_of call) (first_row call) (cell_place (layout_of w) (mutex_of call)) (card a) z (card r'.pass)) (sym same)
-          (still_stands (operation_of call) (first_row call) (cell_place (layout_of w) (mutex_of call)) (card a) (running_program r) (card r.pass) (card r'.pass) (seen_noted (card r.pass) (card r'.pass) m.2) u.2),
+          (still_stands (operation_of call) (first_row call) (cell_place (layout_of w) (mutex_of call)) (card a) (running_program r) (card r.pass) (card r'.pass) (seen_noted (card r.pass) (card r'.pass) m.2) (m.4 (mutex_of call) u.1) u.2),
     )
 
 -- and decided as it was

@@ -1,5 +1,5 @@
 -- A call on a condition variable whose section was made, and a wait that takes its mutex again.
-use Rattle.std.proofs.Common.{inl, inr, ℕ, List, [], ◌∷◌, ◌++◌, refl, sym, ap, ◌∙◌, subst}
+use Rattle.std.proofs.Common.{inl, inr, ℕ, ◌<◌, List, [], ◌∷◌, ◌++◌, refl, sym, ap, ◌∙◌, subst}
 use Rattle.std.specs.Prelude.{Ok, Err}
 use Rattle.facts.specs.Lives.{Act, Beginning, Complete}
 use Rattle.lockword.specs.declared.reply.Reply.{Reply}
@@ -13,7 +13,7 @@ use Rattle.condvar.specs.declared.row.CondRow.{CondRow}
 use Rattle.condvar.specs.declared.row.CondRow.TheVariants as cond
 use Rattle.condvar.specs.declared.wait.WaitRow.TheVariants as wait
 use Rattle.condvar.specs.Calls.{condition_of, operation_of}
-use Rattle.keys.specs.Layouts.{Layout'}
+use Rattle.keys.specs.Layouts.{Layout', counter_place}
 use Rattle.ruledwords.specs.Looks.{noted}
 use Rattle.condvar.specs.Standings.{CondWhole}
 use Rattle.ruledwords.specs.declared.card.Card.{Card}
@@ -28,12 +28,15 @@ use Rattle.ruledwords.specs.declared.pass.Pass.{Pass}
 use Rattle.ruledwords.specs.declared.pass.Live.{Live}
 use Rattle.ruledwords.specs.declared.pass.Dead.{Dead}
 use Rattle.ruledwords.specs.declared.turn.Running.{Running}
+use Rattle.ruledwords.specs.Changes.{KnowsMoreAt, Loaded}
 use Rattle.ruledwords.specs.ConditionCalls.{cond_call, cond_pass, CondOnward, CondUnmoved, IsCondTurnOf}
-use Rattle.ruledwords.specs.ConditionStands.{cond_acts, CondEnded, CondKeeps, CondStands, UsableBehind, HasReleased, IsCondUnderWay}
+use Rattle.ruledwords.specs.ConditionStands.{cond_acts, CondEnded, CondKeeps, CondStands, LoadsBehind, UsableBehind, HasReleased, IsCondUnderWay}
 use Rattle.ruledwords.specs.Conditions.{cond_row_in, condition_at}
 use Rattle.ruledwords.specs.Counts.{cell_at, mutex_at}
 use Rattle.ruledwords.specs.Passes.{card, layout_of}
 use Rattle.ruledwords.specs.Turns.{running_pass}
+use Rattle.ruledwords.proofs.Changes.{loaded_still, nothing_still}
+use Rattle.ruledwords.proofs.Keepers.{counter_no_cell}
 use Rattle.ruledwords.proofs.Noted.{saw_on, still_called, waited}
 use Rattle.threadbench.specs.Calls.{RanOut, Runs}
 use Rattle.threadbench.specs.Conditions.{CondAnswered, CondComesTo, CondReplied, CondRuns, IsCellOf, StaysOn}
@@ -50,6 +53,17 @@ usable_noted k q (cond.Broadcast b) c n t zs u = tt
 usable_noted k q cond.Awake c n t zs u = tt
 usable_noted k q (cond.Ended x) c n t zs u = tt
 
+loads_noted : (r : CondRow) (a c : Card) (p n t : ℕ) → LoadsBehind r a p c → LoadsBehind r a p (noted c n t c.changes)
+loads_noted (cond.Wait wait.LoadCell) a c p n t l = nothing_still a c (noted c n t c.changes) p refl l
+loads_noted (cond.Wait wait.LoadCounter) a c p n t l = nothing_still a c (noted c n t c.changes) p refl l
+loads_noted (cond.Wait (wait.Release seen)) a c p n t l = (loaded_still a c (noted c n t c.changes) p refl refl l.0, l.1)
+loads_noted (cond.Wait (wait.Wake seen)) a c p n t l = (loaded_still a c (noted c n t c.changes) p refl refl l.0, l.1)
+loads_noted (cond.Wait (wait.Sleep seen)) a c p n t l = (loaded_still a c (noted c n t c.changes) p refl refl l.0, l.1)
+loads_noted (cond.Signal s) a c p n t l = tt
+loads_noted (cond.Broadcast b) a c p n t l = tt
+loads_noted cond.Awake a c p n t l = tt
+loads_noted (cond.Ended x) a c p n t l = tt
+
 -- a call whose counter was looked at is under way as it was
 pub cond_still_under_way : (w : Words) (r r' : CondRunning) (a : Pass Live) (cl : CondCall) → CondUnmoved w r r' → IsCondUnderWay w a cl r → IsCondUnderWay w a cl r'
 cond_still_under_way w r r' a cl m u =
@@ -58,8 +72,16 @@ cond_still_under_way w r r' a cl m u =
       m.0,
       ap (condition_at k) m.1 ∙ u.1,
       subst (λ (z : Card). CondStands k q (operation_of cl) (card a) (cond_row_in (cond_call r').phase) z) (sym m.2)
-          (subst (λ (p : CondWhole). CondStands k q (operation_of cl) (card a) (cond_row_in p.phase) (record (card (cond_pass r)) { last = (card (cond_pass r')).last; trims = (card (cond_pass r')).trims; changes = (card (cond_pass r')).changes })) (sym m.1)
-          record { of = u.2.of; called = still_called (card a) (cell_at k q) (cond_acts (cond_row_in (cond_call r).phase)) (card (cond_pass r)) _ refl u.2.called; owns = u.2.owns; counts = u.2.counts; waiters = u.2.waiters; usable = usable_noted k q (cond_row_in (cond_call r).phase) (card (cond_pass r)) (card (cond_pass r')).last (card (cond_pass r')).trims (card (cond_pass r')).changes u.2.usable }),
+          (subst (λ (p : CondWhole). CondStands k q (operation_of cl) (card a) (cond_row_in p.phase) (record (card (cond_pass r)) { last = (card (cond_pass r')).last; trims = (card (cond_pass r')).trims; changes = (card (cond_pass r)).changes })) (sym m.1)
+          record {
+            of = u.2.of;
+            called = still_called (card a) (cell_at k q) (cond_acts (cond_row_in (cond_call r).phase)) (card (cond_pass r)) _ refl u.2.called;
+            owns = u.2.owns;
+            counts = u.2.counts;
+            waiters = u.2.waiters;
+            usable = usable_noted k q (cond_row_in (cond_call r).phase) (card (cond_pass r)) (card (cond_pass r')).last (card (cond_pass r')).trims (card (cond_pass r)).changes u.2.usable;
+            loads = loads_noted (cond_row_in (cond_call r).phase) (card a) (card (cond_pass r)) (counter_place k q) (card (cond_pass r')).last (card (cond_pass r')).trims u.2.loads;
+          }),
     )
 
 -- a section that was answered leaves it on its condition variable
@@ -87,9 +109,13 @@ begins_with (p ∷ q ∷ r ∷ acts) rest x is = absurd is
 begins_retaking : (acts : List Act) → Beginning operation.Lock acts → Beginning operation.Wait ((operation.Unlock, OK) ∷ acts)
 begins_retaking acts begins = begins_with acts begins.0 begins.1 begins.2
 
+-- its lock leaves what it knows of its counter
+loaded_through : (k : Layout') (q : ℕ) (c d e : Card) → mutex_at k q < k.mutexes → Loaded c (counter_place k q) d → KnowsMoreAt d (cell_at k q) e → Loaded c (counter_place k q) e
+loaded_through k q c d e low loaded more = loaded_still c d e (counter_place k q) (more.elsewhere (counter_place k q) (counter_no_cell k q (mutex_at k q) low)) more.counted loaded
+
 -- its lock came to its end, or its thread died in that
-pub took_again : (w : Words) (a e : Pass Live) (q : ℕ) (end : Outcome) → HasReleased w a (Wait q) e → RanOut w e (call.Lock (mutex_at (layout_of w) q)) end → CondAnswered w a (Wait q) end
-took_again w a e q (outcome.Lives b x) was ran = (
+pub took_again : (w : Words) (a e : Pass Live) (q : ℕ) (end : Outcome) → mutex_at (layout_of w) q < (layout_of w).mutexes → HasReleased w a (Wait q) e → RanOut w e (call.Lock (mutex_at (layout_of w) q)) end → CondAnswered w a (Wait q) end
+took_again w a e q (outcome.Lives b x) low was ran = (
   ran.0,
   inr record {
     awake = card e;
@@ -98,21 +124,25 @@ took_again w a e q (outcome.Lives b x) was ran = (
     usable = was.usable;
     took = ran.1;
     called = waited (card a) (cell_at (layout_of w) q) x (card e) (card b) was.called ran.1;
+    loaded = loaded_through (layout_of w) q (card a) (card e) (card b) low was.loaded ran.3;
   },
 )
-took_again w a e q (outcome.Dead d) was ran = (
+took_again w a e q (outcome.Dead d) low was ran = (
   ran.0,
   record {
-    acts = (operation.Unlock, OK) ∷ ran.1.acts;
-    beginning = begins_retaking ran.1.acts ran.1.beginning;
-    saw = saw_on (card a) (cell_at (layout_of w) q) ((operation.Unlock, OK) ∷ []) ran.1.acts (card e) (card d) was.called.saw ran.1.saw;
+    died = record {
+      acts = (operation.Unlock, OK) ∷ ran.1.acts;
+      beginning = begins_retaking ran.1.acts ran.1.beginning;
+      saw = saw_on (card a) (cell_at (layout_of w) q) ((operation.Unlock, OK) ∷ []) ran.1.acts (card e) (card d) was.called.saw ran.1.saw;
+    };
+    loaded = loaded_through (layout_of w) q (card a) (card e) (card d) low was.loaded ran.2;
   },
 )
 
-took_again_in : (w : Words) (a e : Pass Live) (cl : CondCall) (end : Outcome) → HasReleased w a cl e → RanOut w e (call.Lock (mutex_at (layout_of w) (condition_of cl))) end → CondAnswered w a cl end
-took_again_in w a e (Wait q) end was ran = took_again w a e q end was ran
-took_again_in w a e (Signal q) end was ran = let bad = was.of in absurd (cc bad)
-took_again_in w a e (Broadcast q) end was ran = let bad = was.of in absurd (cc bad)
+took_again_in : (w : Words) (a e : Pass Live) (cl : CondCall) (end : Outcome) → mutex_at (layout_of w) (condition_of cl) < (layout_of w).mutexes → HasReleased w a cl e → RanOut w e (call.Lock (mutex_at (layout_of w) (condition_of cl))) end → CondAnswered w a cl end
+took_again_in w a e (Wait q) end low was ran = took_again w a e q end low was ran
+took_again_in w a e (Signal q) end low was ran = let bad = was.of in absurd (cc bad)
+took_again_in w a e (Broadcast q) end low was ran = let bad = was.of in absurd (cc bad)
 
 -- ---- a call that is run
 
@@ -130,7 +160,7 @@ same_cell w r r' key is on = is ∙ ap (cell_at (layout_of w)) (sym on.2)
 pub locks_out : (w : Words) (r r' : CondRunning) (l : Running) (end : Outcome) → ComesFar w r r' → CondComesTo w r' (Ok (Locks l)) → Runs w l end → CondRuns w r end
 locks_out w r r' l end far on runs = λ a cl u.
     let went = on.1 a cl (far a cl u) in
-    took_again_in w a (running_pass l) cl end went.0 (runs.0 (running_pass l) (call.Lock (mutex_at (layout_of w) (condition_of cl))) went.1)
+    took_again_in w a (running_pass l) cl end went.1.1.0 went.0 (runs.0 (running_pass l) (call.Lock (mutex_at (layout_of w) (condition_of cl))) went.1)
 
 replied : (k : Layout') (c : Card) (cl : CondCall) (x : Reply) (d : Card) → CondEnded k (condition_of cl) (operation_of cl) x c d → CondReplied k c cl x d
 replied k c (Wait q) x d ended = inl ended

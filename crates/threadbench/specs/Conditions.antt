@@ -11,6 +11,7 @@ use Rattle.condvar.specs.declared.call.CondCall.{CondCall}
 use Rattle.condvar.specs.declared.call.CondCall.TheVariants.{Wait, Signal, Broadcast}
 use Rattle.condvar.specs.Calls.{condition_of, operation_of}
 use Rattle.ruledwords.specs.declared.card.Card.{Card}
+use Rattle.ruledwords.specs.Changes.{Loaded}
 use Rattle.ruledwords.specs.declared.condition_turn.CondRunning.{CondRunning}
 use Rattle.ruledwords.specs.declared.condition_turn.CondTurn.{CondTurn}
 use Rattle.ruledwords.specs.declared.condition_turn.CondTurn.TheVariants.{Goes}
@@ -22,19 +23,19 @@ use Rattle.ruledwords.specs.declared.pass.Live.{Live}
 use Rattle.ruledwords.specs.declared.pass.Dead.{Dead}
 use Rattle.ruledwords.specs.Cards.{value_at}
 use Rattle.ruledwords.specs.ConditionCalls.{cond_call, cond_pass, IsCondTurnOf}
-use Rattle.ruledwords.specs.ConditionStands.{CondEnded, CondKeeps, HasDiedInCondition, IsCondUnderWay, LeftUsable}
+use Rattle.ruledwords.specs.ConditionStands.{CondEnded, CondKeeps, DiesOn, HasDiedInCondition, IsCondUnderWay, LeftUsable}
 use Rattle.ruledwords.specs.Conditions.{condition_at}
 use Rattle.ruledwords.specs.Counts.{cell_at, mutex_at}
 use Rattle.ruledwords.specs.OwnWords.{owns_in}
 use Rattle.ruledwords.specs.Passes.{card, layout_of, IsDying, IsLive}
-use Rattle.ruledwords.specs.Seen.{Called, Died}
+use Rattle.ruledwords.specs.Seen.{Called}
 use Rattle.threadbench.specs.declared.section.Waited.{Waited}
 use Rattle.threadbench.specs.declared.section.Waited.TheVariants.{Stopped}
 
 -- ---- calls
 
--- a wait on condition variable q, by the thread whose card was c, released its mutex, which was usable then, and took it again by a lock that was answered x: its two points stand in this order, and the
--- second is the last that its thread, whose card is d now, has seen of the mutex
+-- a wait on condition variable q, by the thread whose card was c, loaded the counter of q, released its mutex, which was usable then, and took it again by a lock that was answered x: its two points stand
+-- in this order, and the second is the last that its thread, whose card is d now, has seen of the mutex
 pub record TookAgain (k : Layout') (c : Card) (q : ℕ) (x : Reply) (d : Card) : Type 0 where
   pub awake : Card
   pub released : Called c (cell_at k q) ((operation.Unlock, OK) ∷ []) awake
@@ -42,6 +43,7 @@ pub record TookAgain (k : Layout') (c : Card) (q : ℕ) (x : Reply) (d : Card) :
   pub usable : LeftUsable k q awake
   pub took : Called awake (cell_at k q) ((operation.Lock, x) ∷ []) d
   pub called : Called c (cell_at k q) ((operation.Unlock, OK) ∷ (operation.Lock, x) ∷ []) d
+  pub loaded : Loaded c (counter_place k q) d
 
 -- a call of the thread whose card was c was answered x, and left the card d: by its one point; or it is a wait that took its mutex again
 abbrev pub CondReplied : Layout' → Card → CondCall → Reply → Card → Type 0
@@ -49,9 +51,9 @@ CondReplied k c (Wait q) x d = CondEnded k q operation.Wait x c d ⊎ TookAgain 
 CondReplied k c (Signal q) x d = CondEnded k q operation.Signal x c d
 CondReplied k c (Broadcast q) x d = CondEnded k q operation.Broadcast x c d
 
--- the thread died in it: it had made all of the call's points, or some of the first
+-- the thread died in it: it had made all of the call's points, or some of the first; behind the release of a wait it had loaded the counter of the call's condition variable
 abbrev pub CondDies : Layout' → Card → CondCall → Card → Type 0
-CondDies k c call d = Died c (cell_at k (condition_of call)) (operation_of call) d
+CondDies k c call d = DiesOn k (condition_of call) (operation_of call) c d
 
 -- it was answered, or its thread died in it
 abbrev pub CondAnswered : Words → Pass Live → CondCall → Outcome → Type 0

@@ -1,9 +1,11 @@
-use Rattle.std.proofs.Common.{refl, sym, ap, ◌∙◌, subst}
+use Rattle.std.proofs.Common.{◌≡◌, refl, sym, ap, ◌∙◌, subst}
+use Rattle.ruledwords.specs.declared.card.Card.{Card}
 use Rattle.ruledwords.specs.ConditionCalls.{IsInCondCall}
 use Rattle.ruledwords.specs.Conditions.{condition_at}
+use Rattle.ruledwords.specs.Looks.{noted}
 use Rattle.ruledwords.specs.Passes.{IsCardOf}
 use Rattle.ruledwords.specs.Rules.{card_of}
-use Rattle.ruledwords.proofs.Cards.{is_noted, knows_same}
+use Rattle.ruledwords.proofs.Cards.{is_noted}
 use Rattle.ruledwords.proofs.ConditionTurns.{cond_noted, compared_at}
 use Rattle.ruledwords.proofs.condition_turn.CondRunning.load.Goals as goal
 
@@ -22,7 +24,7 @@ returns-clause-unmoved c =
     let of = c.requires.words in (
       ((found.ensures.table ∙ of.0.0, subst (IsCardOf k) (sym found.ensures.card) (is_noted k was found.result was.trims was.changes of.0.1)), subst (λ d. IsInCondCall k d c.args.self.now.program) (sym found.ensures.card) (cond_noted k was found.result was.trims was.changes c.args.self.now.program of.1)),
       refl,
-      knows_same was (card_of found.new.pass.seat.me.0) found.result was.trims was.changes found.ensures.card,
+      subst (λ (z : Card). z ≡ noted was z.last z.trims was.changes) (sym found.ensures.card) refl,
     )
 
 pub returns-clause-known : goal.returns-clause-known

@@ -13,5 +13,6 @@ returns-in-Stopped-clause-finishes g c = λ x call is.
     let t = c.in-Stopped.ensures.ends x call is in
     let u = t.1.1 in
     let r = running_of w b t.0 t.1.0 in
+    let f = died_in w x call r (card c.died.result) u c.died.ensures.card in
     let found = mortal (layout_of w) (card b) u.0.0.1 u.0.1.0 t.0 u.0.1.1 in
-    ((c.died.ensures.words w u.0.0, subst (IsMortal (layout_of w)) (sym c.died.ensures.card) found), died_in w x call r (card c.died.result) u c.died.ensures.card)
+    ((c.died.ensures.words w u.0.0, subst (IsMortal (layout_of w)) (sym c.died.ensures.card) found), f.0, f.1)

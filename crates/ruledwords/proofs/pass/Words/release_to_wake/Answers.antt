@@ -27,4 +27,4 @@ returns-in-Stopped-clause-frees g c = λ x m is.
     let t = (subst (ReleaseEnds c.args.self.now c.args.running.pass c.args.running.program c.release_steps.new.pass) c.in-Stopped.is c.in-Err.ensures.steps) x m is in
     let u = t.1.1 in
     let found = mortal (layout_of w) (card b) u.0.0.1 u.0.1.0 t.0 u.0.1.1 in
-    ((c.died.ensures.words w u.0.0, subst (IsMortal (layout_of w)) (sym c.died.ensures.card) found), died_in w x (call.Unlock m) (running_of w b t.0 t.1.0) (card c.died.result) u c.died.ensures.card)
+    ((c.died.ensures.words w u.0.0, subst (IsMortal (layout_of w)) (sym c.died.ensures.card) found), (died_in w x (call.Unlock m) (running_of w b t.0 t.1.0) (card c.died.result) u c.died.ensures.card).0)

@@ -105,7 +105,7 @@ returns-in-Returns-clause-keeps c = λ w a call u.
     let back = returns_ended (whole_point p (whole_led p x).point) (whole_led p x).phase c.resume.result c.in-Returns.reply c.in-Returns.point c.in-Returns.is c.resume.ensures.progress in
     let ended : c.resume.new.self.phase ≡ Ended c.in-Returns.reply = ap (λ (q : Whole). q.phase) to ∙ back.0 in
     let s = ended_answered w r u.0 at x fits c.resume.new.self to c.in-Returns.reply ended a call u in
-    (lives_answered w r u.0 at x fits c.resume.new.self to c.in-Returns.reply ended, s.0, s.1)
+    (lives_answered w r u.0 at x fits c.resume.new.self to c.in-Returns.reply ended, s.0, s.1, s.2)
 
 pub returns-in-Returns-clause-decided : goal.returns-in-Returns-clause-decided
 returns-in-Returns-clause-decided c = λ w e y was.

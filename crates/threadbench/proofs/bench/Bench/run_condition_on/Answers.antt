@@ -34,3 +34,6 @@ returns-in-Ok-Locks-clause-runs g c =
 
 pub returns-in-Err-clause-runs : goal.returns-in-Err-clause-runs
 returns-in-Err-clause-runs g c = dies_out c.args.self.now c.args.running c.loop.running c.in-Err.pass c.loop.invariant.3 c.in-Err.ensures.comes
+
+pub returns-then-either_stops-clause-runs : goal.returns-then-either_stops-clause-runs
+returns-then-either_stops-clause-runs g c = λ a cl u. c.die.ensures.died c.args.self.now a cl (c.loop.invariant.3 a cl u)
