@@ -1,6 +1,7 @@
 -- What the calls of a pass answer.
-use Rattle.std.specs.Prelude.{◌≡◌, ℕ, ◌+◌, ◌≤◌, nat_le, false, MatchBool, Result, Ok, Err, [], ◌∷◌, if◌then◌else◌}
-use Rattle.keys.specs.Objects.{held_limit}
+use Rattle.std.specs.Prelude.{◌≡◌, ℕ, ◌+◌, ◌≤◌, nat_le, Bool, true, false, MatchBool, Result, Ok, Err, [], ◌∷◌, if◌then◌else◌}
+use Rattle.keys.specs.declared.object.Object.{Object}
+use Rattle.keys.specs.Objects.{fresh, held_limit, Run}
 use Rattle.lockword.specs.declared.reply.Reply.{Reply}
 use Rattle.keys.specs.declared.point.Operation.{Operation}
 use Rattle.lockword.specs.Cells.{fields_of}
@@ -26,6 +27,7 @@ use Rattle.mutex.specs.Standings.{Whole}
 use Rattle.ruledwords.specs.Seen.{Called, Died, held}
 use Rattle.ruledwords.specs.Passes.{card, layout_of, IsLive, IsDying}
 use Rattle.ruledwords.specs.Calls.{IsOnMutex}
+use Rattle.ruledwords.specs.Cards.{at}
 use Rattle.ruledwords.specs.Changes.{ChangedOnce}
 use Rattle.ruledwords.specs.Releases.{IsReleasing}
 use Rattle.ruledwords.specs.Turns.{running_program, GoesOn, HasDied, HasSeenTheSame, IsIn, IsRunningOf}
@@ -67,6 +69,13 @@ stops_releasing (released.Dead d) = 1
 abbrev pub wakes_of : ℕ → Wakes
 wakes_of w = if (fields_of w).waiters then (if (fields_of w).died then All else One) else Nobody
 
+-- whom a release owes, by the mutex as it left it and by WAITERS in the word that it found: nobody where nobody waits; one of those who wait where the mutex can be taken, who then wakes the next one as it
+-- unlocks; and all of them where it can't be taken any more (ENOTRECOVERABLE), as then nobody's unlock would wake the others
+pub record OwesAsLeft (wakes : Wakes) (waiters : Bool) (o : Object) : Type 0 where
+  pub nobody : waiters ≡ false → wakes ≡ Nobody
+  pub one : waiters ≡ true → o.unusable ≡ false → wakes ≡ One
+  pub all : waiters ≡ true → o.unusable ≡ true → wakes ≡ All
+
 abbrev pub owed_running : Owed → Running
 owed_running o = o.running
 
@@ -81,12 +90,13 @@ abbrev pub IsOwedOf : Words → Owed → Type 0
 IsOwedOf w o = IsRunningOf w (owed_running o)
 
 -- a release of mutex m: its point is an unlock with OK where the mutex is freed, and with EPERM where it is refused. Whom it has to wake is told by the word that it found,
--- the last that the pass met, of which its thread was the owner: the cell's right before the one change that the thread has made of it
+-- the last that the pass met, of which its thread was the owner: the cell's right before the one change that the thread has made of it. So it is those who wait for the mutex as the history leaves it
 abbrev pub Frees : Words → ℕ → Pass Live → Released → Type 0
 Frees w m a (released.Owes o) =
     IsOwedOf w o × Called (card a) (cell_place (layout_of w) m) ((Unlock, OK) ∷ []) (card (owed_pass o))
     × ((fields_of (card (owed_pass o)).last).owner ≡ (card a).thread) × (owed_wakes o ≡ wakes_of (card (owed_pass o)).last) × IsOnMutex (layout_of w) (running_program (owed_running o)) m
     × ChangedOnce (card a) (cell_place (layout_of w) m) (card (owed_pass o))
+    × ((x : Object) → Run fresh (at (card (owed_pass o)).seen (cell_place (layout_of w) m)) x → OwesAsLeft (owed_wakes o) (fields_of (card (owed_pass o)).last).waiters x)
 Frees w m a (released.Refused b r) = IsLive w b × (r ≡ EPERM) × Called (card a) (cell_place (layout_of w) m) ((Unlock, EPERM) ∷ []) (card b)
 Frees w m a (released.Dead d) = IsDying w d × Died (card a) (cell_place (layout_of w) m) Unlock (card d)
 

@@ -10,6 +10,9 @@ use Rattle.mutex.specs.declared.unlock.UnlockRow.TheVariants.{Wake}
 use Rattle.ruledwords.specs.declared.card.Card.{Card}
 use Rattle.ruledwords.specs.declared.outcome.Wakes.{Wakes}
 use Rattle.ruledwords.specs.declared.outcome.Wakes.TheVariants.{Nobody, One, All}
+use Rattle.keys.specs.declared.object.Object.{Object}
+use Rattle.keys.specs.Objects.{fresh, Run}
+use Rattle.ruledwords.specs.Cards.{at}
 use Rattle.ruledwords.specs.Changes.{ChangedNothing, ChangedOnce}
 
 -- where an unlock stands that has released its mutex, and has them to wake: before its wake, or before its entry is cleared
@@ -29,8 +32,12 @@ FoundOwn (Unlock (Wake a)) t v = (fields_of v).owner ≡ t
 FoundOwn (Ended OK) t v = (fields_of v).owner ≡ t
 FoundOwn r t v = Unit {0}
 
--- an unlock that began at the card c has changed its mutex's cell never yet, or behind its release once, and that last of all
+-- the thread saw the mutex whose cell is at q become unusable where the word that it found last said that an owner died, and stay usable where it didn't
+abbrev pub IsSpoiltAsFound : ℕ → Card → Type 0
+IsSpoiltAsFound q d = (o : Object) → Run fresh (at d.seen q) o → o.unusable ≡ (fields_of d.last).died
+
+-- an unlock that began at the card c has changed its mutex's cell never yet, or behind its release once, and that last of all; what that left of the mutex is as the word was that it found
 abbrev pub ChangesThere : Row → Card → ℕ → Card → Type 0
-ChangesThere (Unlock (Wake a)) c q d = ChangedOnce c q d
-ChangesThere (Ended OK) c q d = ChangedOnce c q d
+ChangesThere (Unlock (Wake a)) c q d = ChangedOnce c q d × IsSpoiltAsFound q d
+ChangesThere (Ended OK) c q d = ChangedOnce c q d × IsSpoiltAsFound q d
 ChangesThere r c q d = ChangedNothing c q d

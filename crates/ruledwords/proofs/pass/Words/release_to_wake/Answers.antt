@@ -15,7 +15,7 @@ returns-in-Ok-clause-frees g c = λ x m is.
     let told = c.in-Ok.ensures.steps in
     let rel = told.1 x m is in
     let f = freed w x m (running_of w c.release_steps.new.pass c.in-Ok.freed.0 rel.0) rel.1 rel.2 rel.3 rel.4 c.in-Ok.freed.1 told.2 in
-    (rel.1.0, f.0, f.1, f.2, rel.1.1, f.3)
+    (rel.1.0, f.0, f.1, f.2, rel.1.1, f.3, f.4)
 
 pub returns-in-Replied-clause-frees : goal.returns-in-Replied-clause-frees
 returns-in-Replied-clause-frees g c = λ x m is. (subst (ReleaseEnds c.args.self.now c.args.running.pass c.args.running.program c.release_steps.new.pass) c.in-Replied.is c.in-Err.ensures.steps) x m is
