@@ -1,4 +1,4 @@
--- What an access or a section of a call on a condition variable leaves: its thread's list, the count of what it holds, and what the next row needs.
+-- What an access of a call on a condition variable leaves by which its thread holds what it held, at the cell or at the counter: its thread's list, the count of what it holds, and what the next row needs.
 use Rattle.std.proofs.Common.{Bool, true, false, ◌≡◌, ℕ, ◌+◌, ◌-◌, ◌^◌, ◌%◌, ◌<◌, ◌≤◌, ◌==◌, not, Option, Some, None, List, refl, sym, ap, ◌∙◌, subst, arith, eqb-true}
 use Rattle.std.specs.Prelude.{if◌then◌else◌, nat_lt}
 use Rattle.std.proofs.lemmas.Bool.{eqb-false}
@@ -156,7 +156,7 @@ module _ (k : Layout') (c d : Card) (is : IsCardOf k c) (m : ℕ) (inside : m < 
       record { knows = kept.knows alive.knows; list = subst (λ (t : ℕ). HasList k t (owns_in k d) (known k d)) (sym same) came }
 
 -- before its release a wait's list is as between calls, and so is a signal's and a broadcast's
-alive_at_load : (k : Layout') (c : Card) (m : ℕ) (p : Whole) → p.phase ≡ phase.AtCell (row.Unlock unlock.Load) → IsInCall k c m p → IsAlive k c
+pub alive_at_load : (k : Layout') (c : Card) (m : ℕ) (p : Whole) → p.phase ≡ phase.AtCell (row.Unlock unlock.Load) → IsInCall k c m p → IsAlive k c
 alive_at_load k c m p is call =
     let list = subst (λ (f : Phase). KeepsList k c.thread (owns_in k c) m p.operation f (known k c)) is call.list in
     record { knows = call.knows; list = record { entries = list.entries; owned = list.owned; chain = list.chain; pending = list.pending } }
@@ -303,7 +303,7 @@ module _ (k : Layout') (he en ce co t : ℕ) where
     broadcast_neutral false = tt
     broadcast_neutral true = tt
 
-    wait_meets : (n : ℕ) (d : Card) → IsAlive k c → Meets k q (cond_standing (whole (condition.AtWords (cond.Wait wait.LoadCell)))) c n d → Leads c d (cond_led (whole (condition.AtWords (cond.Wait wait.LoadCell))) (Value n))
+    pub wait_meets : (n : ℕ) (d : Card) → IsAlive k c → Meets k q (cond_standing (whole (condition.AtWords (cond.Wait wait.LoadCell)))) c n d → Leads c d (cond_led (whole (condition.AtWords (cond.Wait wait.LoadCell))) (Value n))
     wait_meets n d alive found = go ((fields_of n).owner == t) refl (fields_of n).died refl
       where
         none : (b : Bool) → held_after b (points (point_of c.thread (cell_at k q) (if not ((fields_of n).owner == t) then ends operation.Wait EPERM else if (fields_of n).died then ends operation.Wait XSTATE else goes (cond.Wait wait.LoadCounter)).decided)) ≡ b
@@ -314,7 +314,7 @@ module _ (k : Layout') (he en ce co t : ℕ) where
         go true own true died = sees_ends d _ _ found.sees none found.kept alive XSTATE (Some (record { operation = operation.Wait; reply = XSTATE })) tt
         go true own false died = sees_goes d _ _ found.sees none found.kept alive (cond.Wait wait.LoadCounter) None tt tt refl refl (owner_by_word d _ _ found.sees none found.kept alive n refl (eqb-true (fields_of n).owner t own), died)
 
-    signal_meets : (n : ℕ) (d : Card) → IsAlive k c → Meets k q (cond_standing (whole (condition.AtWords (cond.Signal signal.LoadCell)))) c n d → Leads c d (cond_led (whole (condition.AtWords (cond.Signal signal.LoadCell))) (Value n))
+    pub signal_meets : (n : ℕ) (d : Card) → IsAlive k c → Meets k q (cond_standing (whole (condition.AtWords (cond.Signal signal.LoadCell)))) c n d → Leads c d (cond_led (whole (condition.AtWords (cond.Signal signal.LoadCell))) (Value n))
     signal_meets n d alive found = go ((fields_of n).owner == t) refl
       where
         none : (b : Bool) → held_after b (points (point_of c.thread (cell_at k q) (if not ((fields_of n).owner == t) then ends operation.Signal EPERM else goes (cond.Signal signal.LoadCounter)).decided)) ≡ b
@@ -324,7 +324,7 @@ module _ (k : Layout') (he en ce co t : ℕ) where
         go false other = sees_ends d _ _ found.sees none found.kept alive EPERM (Some (record { operation = operation.Signal; reply = EPERM })) tt
         go true own = sees_goes d _ _ found.sees none found.kept alive (cond.Signal signal.LoadCounter) None tt tt refl refl (owner_by_word d _ _ found.sees none found.kept alive n refl (eqb-true (fields_of n).owner t own))
 
-    broadcast_meets : (n : ℕ) (d : Card) → IsAlive k c → Meets k q (cond_standing (whole (condition.AtWords (cond.Broadcast broadcast.LoadCell)))) c n d → Leads c d (cond_led (whole (condition.AtWords (cond.Broadcast broadcast.LoadCell))) (Value n))
+    pub broadcast_meets : (n : ℕ) (d : Card) → IsAlive k c → Meets k q (cond_standing (whole (condition.AtWords (cond.Broadcast broadcast.LoadCell)))) c n d → Leads c d (cond_led (whole (condition.AtWords (cond.Broadcast broadcast.LoadCell))) (Value n))
     broadcast_meets n d alive found = go ((fields_of n).owner == t) refl
       where
         none : (b : Bool) → held_after b (points (point_of c.thread (cell_at k q) (if not ((fields_of n).owner == t) then ends operation.Broadcast EPERM else goes (cond.Broadcast broadcast.LoadCounter)).decided)) ≡ b
@@ -339,7 +339,7 @@ module _ (k : Layout') (he en ce co t : ℕ) where
     owner_then : (n : ℕ) (d : Card) (r : CondRow) (found : Counts k q (cond_standing (whole (condition.AtWords r))) c n d) → found.object.owner ≡ Some d.thread
     owner_then n d r found = found.owner ∙ ap Some (sym found.sees.thread)
 
-    wait_counter : (n : ℕ) (d : Card) → IsAlive k c → CondReady k q (cond.Wait wait.LoadCounter) c → Counts k q (cond_standing (whole (condition.AtWords (cond.Wait wait.LoadCounter)))) c n d
+    pub wait_counter : (n : ℕ) (d : Card) → IsAlive k c → CondReady k q (cond.Wait wait.LoadCounter) c → Counts k q (cond_standing (whole (condition.AtWords (cond.Wait wait.LoadCounter)))) c n d
         → Leads c d (cond_led (whole (condition.AtWords (cond.Wait wait.LoadCounter))) (Value n))
     wait_counter n d alive ready found = sees_announces d _ _ found.sees (λ b. refl) found.kept alive (n % 2 ^ 32) (owner_then n d (cond.Wait wait.LoadCounter) found)
         (ap (λ (x : Object). x.inconsistent) (found.still legal.0 legal.1) ∙ (ready legal.0 legal.1).1)
@@ -348,7 +348,7 @@ module _ (k : Layout') (he en ce co t : ℕ) where
     signal_full true = tt
     signal_full false = tt
 
-    signal_counter : (n : ℕ) (d : Card) → IsAlive k c → Counts k q (cond_standing (whole (condition.AtWords (cond.Signal signal.LoadCounter)))) c n d → Leads c d (cond_led (whole (condition.AtWords (cond.Signal signal.LoadCounter))) (Value n))
+    pub signal_counter : (n : ℕ) (d : Card) → IsAlive k c → Counts k q (cond_standing (whole (condition.AtWords (cond.Signal signal.LoadCounter)))) c n d → Leads c d (cond_led (whole (condition.AtWords (cond.Signal signal.LoadCounter))) (Value n))
     signal_counter n d alive found = go (n == full) refl
       where
         none : (b : Bool) → held_after b (points (point_of c.thread (cell_at k q) (if n == full then ends operation.Signal XFULL else goes (cond.Signal signal.Count)).decided)) ≡ b
@@ -358,14 +358,14 @@ module _ (k : Layout') (he en ce co t : ℕ) where
         go true is_full = sees_ends d _ _ found.sees none found.kept alive XFULL (Some (record { operation = operation.Signal; reply = XFULL })) tt
         go false some_room = sees_goes d _ _ found.sees none found.kept alive (cond.Signal signal.Count) None tt tt refl refl (owner_then n d (cond.Signal signal.LoadCounter) found, (n, found.value, eqb-false n full some_room))
 
-    signal_count : (n : ℕ) (d : Card) → IsAlive k c → Counts k q (cond_standing (whole (condition.AtWords (cond.Signal signal.Count)))) c n d → Leads c d (cond_led (whole (condition.AtWords (cond.Signal signal.Count))) (Value n))
+    pub signal_count : (n : ℕ) (d : Card) → IsAlive k c → Counts k q (cond_standing (whole (condition.AtWords (cond.Signal signal.Count)))) c n d → Leads c d (cond_led (whole (condition.AtWords (cond.Signal signal.Count))) (Value n))
     signal_count n d alive found = sees_goes d _ _ found.sees (λ b. refl) found.kept alive (cond.Signal signal.Wake) (Some (record { operation = operation.Signal; reply = OK })) tt tt refl refl tt
 
     broadcast_full : (b : Bool) (seen : ℕ) → IsNeutral (if b then ends operation.Broadcast XFULL else goes (cond.Broadcast (broadcast.Count seen))).decided
     broadcast_full true seen = tt
     broadcast_full false seen = tt
 
-    broadcast_counter : (n : ℕ) (d : Card) → IsAlive k c → Counts k q (cond_standing (whole (condition.AtWords (cond.Broadcast broadcast.LoadCounter)))) c n d
+    pub broadcast_counter : (n : ℕ) (d : Card) → IsAlive k c → Counts k q (cond_standing (whole (condition.AtWords (cond.Broadcast broadcast.LoadCounter)))) c n d
         → Leads c d (cond_led (whole (condition.AtWords (cond.Broadcast broadcast.LoadCounter))) (Value n))
     broadcast_counter n d alive found = go (n == full) refl
       where
@@ -383,7 +383,7 @@ module _ (k : Layout') (he en ce co t : ℕ) where
         go false some_room = sees_goes d _ _ found.sees none found.kept alive (cond.Broadcast (broadcast.Count (n % 2 ^ 32))) None tt tt refl refl
             (owner_then n d (cond.Broadcast broadcast.LoadCounter) found, found.value ∙ ap Some (sym low), λ is_full. eqb-false n full some_room (sym low ∙ is_full))
 
-    broadcast_count : (seen n : ℕ) (d : Card) → IsAlive k c → CondReady k q (cond.Broadcast (broadcast.Count seen)) c → Counts k q (cond_standing (whole (condition.AtWords (cond.Broadcast (broadcast.Count seen))))) c n d
+    pub broadcast_count : (seen n : ℕ) (d : Card) → IsAlive k c → CondReady k q (cond.Broadcast (broadcast.Count seen)) c → Counts k q (cond_standing (whole (condition.AtWords (cond.Broadcast (broadcast.Count seen))))) c n d
         → Leads c d (cond_led (whole (condition.AtWords (cond.Broadcast (broadcast.Count seen)))) (Value n))
     broadcast_count seen n d alive ready found =
         let knew = (ready legal.0 legal.1).1 in
@@ -398,216 +398,7 @@ module _ (k : Layout') (he en ce co t : ℕ) where
     alive_set : (n : ℕ) (zs : List (List Change)) → IsAlive k c → IsAlive k (having_set c (cell_at k q) n zs)
     alive_set n zs alive = record { knows = record { each = alive.knows.each; offset = alive.knows.offset }; list = alive.list }
 
-    sets_waiters : (seen n : ℕ) (d : Card) → IsAlive k c → CondReady k q (cond.Broadcast (broadcast.SetWaiters seen)) c → d ≡ having_set c (cell_at k q) n d.changes → Leads c d (cond_led (whole (condition.AtWords (cond.Broadcast (broadcast.SetWaiters seen)))) (Value n))
+    pub sets_waiters : (seen n : ℕ) (d : Card) → IsAlive k c → CondReady k q (cond.Broadcast (broadcast.SetWaiters seen)) c → d ≡ having_set c (cell_at k q) n d.changes → Leads c d (cond_led (whole (condition.AtWords (cond.Broadcast (broadcast.SetWaiters seen)))) (Value n))
     sets_waiters seen n d alive ready has_set = subst (λ (z : Card). Leads c z (cond_led (whole (condition.AtWords (cond.Broadcast (broadcast.SetWaiters seen)))) (Value n))) (sym has_set)
         (neutral_goes (having_set c (cell_at k q) n d.changes) (is_marking k c n (having_set c (cell_at k q) n d.changes).marks d.changes is) refl refl (alive_set n d.changes alive) (cond.Broadcast (broadcast.Move seen)) None tt tt refl refl
         (λ o run. let needs = ready o run in (needs.0, needs.1, mark_put c.marks (cell_at k q) true)))
-
-    -- ---- a release
-
-    abbrev pub releasing : ℕ → Standing
-    releasing seen = release_of (cond_standing (whole (condition.AtWords (cond.Wait (wait.Release seen)))))
-
-    abbrev behind_release : (seen : ℕ) (b : Bool) → Phase
-    behind_release seen b = after_cell (unlock_of (whole (condition.AtWords (cond.Wait (wait.Release seen))))) (if b then row.Unlock (unlock.Wake false) else row.Ended OK)
-
-    pub release_ready : (seen : ℕ) → CondReady k q (cond.Wait (wait.Release seen)) c → Ready (releasing seen) c
-    release_ready seen ready =
-        let there : ce ≡ Rattle.ruledwords.specs.Calls.address_at c (cell_at k q) = on.cell ∙ ap (λ (b : ℕ). address_from b (cell_at k q)) (ap (base_of k) at_call.thread ∙ sym is.base) in
-        let bound = few_words k c.thread is.layout is.first is.thread in
-        let inside = in_layout in
-        let small_cell : cell_at k q < 2 ^ 64 = omega arith in
-        let base : c.base ≤ 1000000000 = subst (λ (b : ℕ). b ≤ 1000000000) (sym is.base) (low k c.thread is.layout is.first is.thread) in
-        (at_call.thread, tt, λ z o small at_it run. let here : z ≡ cell_at k q = omega (arith, small_cell, small, at_it, there, base) in ready o (subst (λ (w : ℕ). Run fresh (at c.seen w) o) here run))
-
-    releases : (seen n : ℕ) (d : Card) → IsInCall k c m (unlock_of (whole (condition.AtWords (cond.Wait (wait.Release seen))))) → CondReady k q (cond.Wait (wait.Release seen)) c → Made (releasing seen) (cell_at k q) c n d → OwnKept k c d
-        → Leads c d (cond_led (whole (condition.AtWords (cond.Wait (wait.Release seen)))) (Value n))
-    releases seen n d call ready made kept = go (fields_of n).waiters refl
-      where
-        p : Whole
-        p = unlock_of (whole (condition.AtWords (cond.Wait (wait.Release seen))))
-
-        card_then' : IsCardOf k d
-        card_then' = still_card k c (cell_at k q) _ _ d is made.sees
-
-        clearing : (b : Bool) → IsInCall k d m (record { thread = t; operation = operation.Unlock; head = he; entry = en; cell = ce; phase = behind_release seen b }) → IsInCall k d m (unlock_of (whole (condition.AtWords (cond.Wait (wait.Sleep seen)))))
-        clearing true came = record {
-          inside = came.inside;
-          knows = came.knows;
-          of = record { thread = came.of.thread; head = came.of.head; entry = came.of.entry; cell = came.of.cell };
-          list = record { knows = tt; stands = tt; entries = came.list.entries; owned = came.list.owned; chain = came.list.chain; pending = came.list.pending };
-        }
-        clearing false came = came
-
-        under : (b : Bool) → IsUnderWay (behind_release seen b)
-        under true = tt
-        under false = tt
-
-        list_then : (b : Bool) → (fields_of n).waiters ≡ b → IsInCall k d m (unlock_of (whole (condition.AtWords (cond.Wait (wait.Sleep seen)))))
-        list_then b e = clearing b (subst (λ (z : Bool). IsInCall k d m (record { thread = t; operation = operation.Unlock; head = he; entry = en; cell = ce; phase = behind_release seen z })) e
-            (goes_made k c is m (unlock_of (whole (condition.AtWords (cond.Wait (wait.Release seen))))) call tt d n tt tt (release_ready seen ready) made kept (under (fields_of n).waiters)))
-
-        leads_to : (r : CondRow) → IsGoing r → list_phase (condition.AtWords r) ≡ phase.Clearing OK → most_behind r ≡ held_limit - 1 → ((o : Object) (v : Option ℕ) (w : Bool) → Needs d.thread r o v w) → (b : Bool) → (fields_of n).waiters ≡ b
-            → Leads c d record { phase = condition.AtWords r; point = point_of t ce (Some (record { operation = operation.Unlock; reply = OK })) }
-        leads_to r going at most needs b e = record {
-          card = card_then';
-          thread = made.sees.thread;
-          count = held_made (releasing seen) (cell_at k q) c d n tt tt (release_ready seen ready) made;
-          few = subst (λ (z : ℕ). held c - 1 ≤ z) (sym most) (omega arith);
-          goes = λ there. record {
-            on = record { inside = on.inside; cell = on.cell; counter = on.counter };
-            knows = going;
-            list = subst (λ (f : Phase). IsInCall k d m (record { thread = t; operation = operation.Unlock; head = he; entry = en; cell = ce; phase = f })) (sym at) (list_then b e);
-            ready = λ o run. needs o (value_at d.values (counter_place k q)) (mark_at d.marks (cell_at k q));
-          };
-          ends = λ z e. absurd (cc e);
-          locks = λ l e. cc;
-        }
-
-        go : (b : Bool) → (fields_of n).waiters ≡ b → Leads c d (from_words (whole (condition.AtWords (cond.Wait (wait.Release seen)))) (decides (if b then cond.Wait (wait.Wake seen) else cond.Wait (wait.Sleep seen)) operation.Unlock OK))
-        go true e = leads_to (cond.Wait (wait.Wake seen)) tt refl refl (λ o v w. tt) true e
-        go false e = leads_to (cond.Wait (wait.Sleep seen)) tt refl refl (λ o v w. tt) false e
-
-    -- ---- at its thread's own words
-
-    own_seen : (a : Access) (d : Card) → d ≡ own_after k c a → IsCardOf k d × (d.thread ≡ c.thread) × (held d ≡ held c) × (d.seen ≡ c.seen)
-    own_seen a d same =
-        let e : d ≡ record c { values = (own_after k c a).values } = same ∙ own_same k c a in
-        (subst (IsCardOf k) (sym same) (card_own k c a is), ap (λ (z : Card). z.thread) e, ap held e, ap (λ (z : Card). z.seen) e)
-
-    -- what a release needs is seen as before
-    release_still : (seen : ℕ) (a : Access) (d : Card) → d ≡ own_after k c a → CondReady k q (cond.Wait (wait.Release seen)) c → CondReady k q (cond.Wait (wait.Release seen)) d
-    release_still seen a d same ready o run =
-        let s = own_seen a d same in
-        subst (λ (u : ℕ). (o.owner ≡ Some u) × (o.inconsistent ≡ false)) (sym s.1) (ready o (subst (λ (x : List (List Point)). Run fresh (at x (cell_at k q)) o) s.3 run))
-
-    own_leads : (a : Access) (d : Card) (f : CondPhase) → d ≡ own_after k c a → most_behind (cond_row_in f) ≡ held_limit → (IsAtCondition f → IsInCondCall k d (whole f)) → IsAtCondition f → Leads c d (onward f)
-    own_leads a d f same most goes there = let s = own_seen a d same in record {
-      card = s.0;
-      thread = s.1;
-      count = s.2;
-      few = subst (λ (z : ℕ). held c ≤ z) (sym most) few;
-      goes = goes;
-      ends = λ y e. absurd (subst IsAtCondition e there);
-      locks = λ l e. subst IsAtCondition e there;
-    }
-
-    announced : (seen : ℕ) (d : Card) → IsInCall k c m (unlock_of (whole (condition.Announcing seen))) → CondReady k q (cond.Wait (wait.Release seen)) c → d ≡ own_after k c (cond_access (whole (condition.Announcing seen))) → Leads c d (cond_led (whole (condition.Announcing seen)) Stored)
-    announced seen d call ready same =
-        let came = subst (λ (z : Card). IsInCall k z m (unlock_of (whole (condition.Unlinking (unlink_started he en) seen)))) (sym same) (goes_own k c is m (unlock_of (whole (condition.Announcing seen))) call tt tt) in
-        own_leads (cond_access (whole (condition.Announcing seen))) d (condition.Unlinking (unlink_started he en) seen) same refl
-        (λ there. record { on = record { inside = on.inside; cell = on.cell; counter = on.counter }; knows = came.list.knows; list = came; ready = release_still seen (cond_access (whole (condition.Announcing seen))) d same ready }) tt
-
-    -- an unlink that is answered goes on, or is through
-    pub unlinks_on : (u : UnlinkStanding) (seen : ℕ) → IsInCall k c m (unlock_of (whole (condition.Unlinking u seen)))
-        → row_in (whole_unlinked_at (unlink_moved u (answer_on (unlink_access_of u) (known k c))) (unlink_moved u (answer_on (unlink_access_of u) (known k c))).row false) ≡ row.Unlock (unlock.Release false)
-    unlinks_on u seen call = ap (λ (z : Standing). z.row)
-        (own_moved (unlock_of (whole (condition.Unlinking u seen))) (answer_on (unlink_access_of u) (known k c)) tt call.list.knows (own_fits (unlink_access_of u) (known k c) (is_load_or_store (unlock_of (whole (condition.Unlinking u seen))) tt)))
-
-    unlinks : (u : UnlinkStanding) (seen : ℕ) (d : Card) → IsInCall k c m (unlock_of (whole (condition.Unlinking u seen))) → CondReady k q (cond.Wait (wait.Release seen)) c → d ≡ own_after k c (unlink_access_of u)
-        → Leads c d (cond_led (whole (condition.Unlinking u seen)) (answer_on (unlink_access_of u) (known k c)))
-    unlinks u seen d call ready same = by_row (unlink_moved u x).row (unlinks_on u seen call) came
-      where
-        p : Whole
-        p = unlock_of (whole (condition.Unlinking u seen))
-
-        x : Answer
-        x = answer_on (unlink_access_of u) (known k c)
-
-        came : IsUnderWay (whole_unlinked_at (unlink_moved u x) (unlink_moved u x).row false) → IsInCall k d m (record { thread = t; operation = operation.Unlock; head = he; entry = en; cell = ce; phase = whole_unlinked_at (unlink_moved u x) (unlink_moved u x).row false })
-        came under = subst (λ (z : Card). IsInCall k z m (record { thread = t; operation = operation.Unlock; head = he; entry = en; cell = ce; phase = whole_unlinked_at (unlink_moved u x) (unlink_moved u x).row false })) (sym same)
-            (goes_own k c is m (unlock_of (whole (condition.Unlinking u seen))) call tt under)
-
-        still : (v : UnlinkStanding) → IsInCall k d m (unlock_of (whole (condition.Unlinking v seen))) → Leads c d (onward (condition.Unlinking v seen))
-        still v list = own_leads (unlink_access_of u) d (condition.Unlinking v seen) same refl
-            (λ there. record { on = record { inside = on.inside; cell = on.cell; counter = on.counter }; knows = list.list.knows; list = list; ready = release_still seen (unlink_access_of u) d same ready }) tt
-
-        by_row : (r : UnlinkRow) → row_in (whole_unlinked_at (unlink_moved u x) r false) ≡ row.Unlock (unlock.Release false)
-            → (IsUnderWay (whole_unlinked_at (unlink_moved u x) r false) → IsInCall k d m (record { thread = t; operation = operation.Unlock; head = he; entry = en; cell = ce; phase = whole_unlinked_at (unlink_moved u x) r false }))
-            → Leads c d (onward (unlinked_at (unlink_moved u x) r seen))
-        by_row (unlink_row.Ended OK) at list = own_leads (unlink_access_of u) d (condition.AtWords (cond.Wait (wait.Release seen))) same refl
-            (λ there. record { on = record { inside = on.inside; cell = on.cell; counter = on.counter }; knows = tt; list = list tt; ready = release_still seen (unlink_access_of u) d same ready }) tt
-        by_row (unlink_row.Ended y) at list = absurd (cc at)
-        by_row unlink_row.LoadNext at list = still (unlink_moved u x) (list tt)
-        by_row (unlink_row.LoadPrevious a) at list = still (unlink_moved u x) (list tt)
-        by_row (unlink_row.StoreNext a b) at list = still (unlink_moved u x) (list tt)
-        by_row (unlink_row.StorePrevious a b) at list = still (unlink_moved u x) (list tt)
-
-    -- ---- any step
-
-    pub steps_on : (f : CondPhase) → IsAtCondition f → IsInCondCall k c (whole f) → IsCondStep (cond_access (whole f)) → (n : ℕ) (d : Card) → CondFound k (whole f) f c n d → Leads c d (cond_led (whole f) (answer_at (cond_access (whole f)) n))
-    steps_on (condition.AtWords (cond.Wait wait.LoadCell)) there call one n d found = wait_meets n d (alive_at_load k c m _ refl call.list) found
-    steps_on (condition.AtWords (cond.Wait wait.LoadCounter)) there call one n d found = wait_counter n d (alive_at_load k c m _ refl call.list) call.ready found
-    steps_on (condition.AtWords (cond.Wait (wait.Release seen))) there call one n d found = releases seen n d call.list call.ready found.0 found.1
-    steps_on (condition.AtWords (cond.Wait (wait.Wake seen))) there call one n d found = absurd one
-    steps_on (condition.AtWords (cond.Wait (wait.Sleep seen))) there call one n d found = absurd one
-    steps_on (condition.AtWords (cond.Signal signal.LoadCell)) there call one n d found = signal_meets n d (alive_at_load k c m _ refl call.list) found
-    steps_on (condition.AtWords (cond.Signal signal.LoadCounter)) there call one n d found = signal_counter n d (alive_at_load k c m _ refl call.list) found
-    steps_on (condition.AtWords (cond.Signal signal.Count)) there call one n d found = signal_count n d (alive_at_load k c m _ refl call.list) found
-    steps_on (condition.AtWords (cond.Signal signal.Wake)) there call one n d found = absurd one
-    steps_on (condition.AtWords (cond.Broadcast broadcast.LoadCell)) there call one n d found = broadcast_meets n d (alive_at_load k c m _ refl call.list) found
-    steps_on (condition.AtWords (cond.Broadcast broadcast.LoadCounter)) there call one n d found = broadcast_counter n d (alive_at_load k c m _ refl call.list) found
-    steps_on (condition.AtWords (cond.Broadcast (broadcast.Count seen))) there call one n d found = broadcast_count seen n d (alive_at_load k c m _ refl call.list) call.ready found
-    steps_on (condition.AtWords (cond.Broadcast (broadcast.SetWaiters seen))) there call one n d found = sets_waiters seen n d (alive_at_load k c m _ refl call.list) call.ready found.0
-    steps_on (condition.AtWords (cond.Broadcast (broadcast.Move seen))) there call one n d found = absurd one
-    steps_on (condition.AtWords cond.Awake) there call one n d found = absurd call.knows
-    steps_on (condition.AtWords (cond.Ended x)) there call one n d found = absurd call.knows
-    steps_on (condition.Announcing seen) there call one n d found = announced seen d call.list call.ready found.0
-    steps_on (condition.Unlinking u seen) there call one n d found = subst (λ (x : Answer). Leads c d (cond_led (whole (condition.Unlinking u seen)) x)) (sym found.1) (unlinks u seen d call.list call.ready found.0)
-    steps_on (condition.Locking w) there call one n d found = absurd there
-    steps_on (condition.Ended x) there call one n d found = absurd there
-
-    -- ---- any section
-
-    -- where its answer leads
-    pub record Answered (o : CondOnward) : Type 0 where
-      pub goes : IsAtCondition o.phase → IsInCondCall k c (whole o.phase)
-      pub locks : (l : Whole) → o.phase ≡ condition.Locking l → IsInCall k c m l
-      pub ends : (y : Reply) → o.phase ≡ condition.Ended y → IsAlive k c
-
-    replied : (y : Reply) → IsAlive k c → Answered (onward (condition.Ended y))
-    replied y alive = record { goes = λ there. absurd there; locks = λ l e. absurd (cc e); ends = λ z e. alive }
-
-    retakes : (seen : ℕ) → IsInCall k c m (unlock_of (whole (condition.AtWords (cond.Wait (wait.Sleep seen))))) → Answered (onward (condition.Locking (retaking t he en ce)))
-    retakes seen call = record {
-      goes = λ there. absurd there;
-      locks = λ l e. let same : retaking t he en ce ≡ l = cc e in subst (IsInCall k c m) same record {
-        inside = call.inside;
-        knows = call.knows;
-        of = record { thread = call.of.thread; head = call.of.head; entry = call.of.entry; cell = call.of.cell };
-        list = record { knows = (tt, tt); stands = (tt, refl); entries = call.list.entries; owned = call.list.owned; chain = call.list.chain; pending = call.list.pending };
-      };
-      ends = λ z e. absurd (cc e);
-    }
-
-    pub section_on : (f : CondPhase) → IsAtCondition f → IsInCondCall k c (whole f) → (x : Answer) → IsCondAnswerOf (cond_access (whole f)) x → Answered (cond_led (whole f) x)
-    section_on (condition.AtWords (cond.Wait wait.LoadCell)) there call x fits = absurd fits
-    section_on (condition.AtWords (cond.Wait wait.LoadCounter)) there call x fits = absurd fits
-    section_on (condition.AtWords (cond.Wait (wait.Release seen))) there call x fits = absurd fits
-    section_on (condition.AtWords (cond.Wait (wait.Wake seen))) there call (Count j) fits = record {
-      goes = λ there. record { on = record { inside = on.inside; cell = on.cell; counter = on.counter }; knows = tt; list = call.list; ready = λ o run. tt };
-      locks = λ l e. absurd (cc e);
-      ends = λ z e. absurd (cc e);
-    }
-    section_on (condition.AtWords (cond.Wait (wait.Wake seen))) there call x fits = absurd fits
-    section_on (condition.AtWords (cond.Wait (wait.Sleep seen))) there call Again fits = retakes seen call.list
-    section_on (condition.AtWords (cond.Wait (wait.Sleep seen))) there call Woken fits = retakes seen call.list
-    section_on (condition.AtWords (cond.Wait (wait.Sleep seen))) there call x fits = absurd fits
-    section_on (condition.AtWords (cond.Signal signal.LoadCell)) there call x fits = absurd fits
-    section_on (condition.AtWords (cond.Signal signal.LoadCounter)) there call x fits = absurd fits
-    section_on (condition.AtWords (cond.Signal signal.Count)) there call x fits = absurd fits
-    section_on (condition.AtWords (cond.Signal signal.Wake)) there call (Count j) fits = replied OK (alive_at_load k c m _ refl call.list)
-    section_on (condition.AtWords (cond.Signal signal.Wake)) there call x fits = absurd fits
-    section_on (condition.AtWords (cond.Broadcast broadcast.LoadCell)) there call x fits = absurd fits
-    section_on (condition.AtWords (cond.Broadcast broadcast.LoadCounter)) there call x fits = absurd fits
-    section_on (condition.AtWords (cond.Broadcast (broadcast.Count seen))) there call x fits = absurd fits
-    section_on (condition.AtWords (cond.Broadcast (broadcast.SetWaiters seen))) there call x fits = absurd fits
-    section_on (condition.AtWords (cond.Broadcast (broadcast.Move seen))) there call Again fits = replied OK (alive_at_load k c m _ refl call.list)
-    section_on (condition.AtWords (cond.Broadcast (broadcast.Move seen))) there call (Moved i j) fits = replied OK (alive_at_load k c m _ refl call.list)
-    section_on (condition.AtWords (cond.Broadcast (broadcast.Move seen))) there call x fits = absurd fits
-    section_on (condition.AtWords cond.Awake) there call x fits = absurd call.knows
-    section_on (condition.AtWords (cond.Ended y)) there call x fits = absurd call.knows
-    section_on (condition.Announcing seen) there call x fits = absurd fits
-    section_on (condition.Unlinking u seen) there call x fits = absurd (unlink_no_section u x fits)
-    section_on (condition.Locking w) there call x fits = absurd there
-    section_on (condition.Ended y) there call x fits = absurd there

@@ -34,7 +34,7 @@ use Rattle.ruledwords.specs.Rules.{card_of}
 use Rattle.ruledwords.specs.Seen.{Called}
 use Rattle.ruledwords.proofs.Cards.{saw_nothing}
 use Rattle.ruledwords.proofs.Changes.{nothing_yet}
-use Rattle.ruledwords.proofs.ConditionActs.{release_ready, unlinks_on}
+use Rattle.ruledwords.proofs.ConditionReleases.{release_ready, unlinks_on}
 use Rattle.ruledwords.proofs.ConditionStands.{begins_acts, loaded_behind, section_stands, step_stands, Outcome, SectionOutcome}
 use Rattle.ruledwords.proofs.ConditionTurns.{addressed, few, on, there_then}
 use Rattle.ruledwords.proofs.Counts.{of_mutex}

@@ -47,7 +47,8 @@ use Rattle.ruledwords.specs.Looks.{noted}
 use Rattle.ruledwords.specs.Passes.{card, layout_of, IsCardOf, IsPassOf, IsLive}
 use Rattle.ruledwords.specs.Rules.{card_of}
 use Rattle.ruledwords.specs.Seen.{held}
-use Rattle.ruledwords.proofs.ConditionActs.{unlink_no_section, steps_on, section_on, Answered, Leads}
+use Rattle.ruledwords.proofs.ConditionActs.{unlink_no_section, Leads}
+use Rattle.ruledwords.proofs.ConditionReleases.{steps_on, section_on, Answered}
 use Rattle.ruledwords.proofs.Counts.{of_mutex}
 use Rattle.ruledwords.specs.Turns.{IsLoadOrStore}
 use Rattle.ruledwords.proofs.Listing.{call_noted}

@@ -23,6 +23,8 @@ mod Acting
 mod Sections
 mod Walking
 mod Marking
+mod WalkBeginnings
+mod WalkPlaces
 mod WalkSteps
 mod Listing
 pub mod Noted
@@ -42,6 +44,7 @@ mod StepsOfCalls
 mod Releasing
 mod ReleaseSteps
 mod ConditionActs
+mod ConditionReleases
 mod ConditionTurns
 mod ConditionStands
 mod ConditionKeeps

@@ -10,7 +10,7 @@ use Rattle.ruledwords.specs.Cards.{value_at}
 use Rattle.ruledwords.specs.Deaths.{IsLeftAt}
 use Rattle.ruledwords.specs.Passes.{layout_of}
 use Rattle.ruledwords.specs.Rules.{card_of}
-use Rattle.ruledwords.proofs.WalkSteps.{cell_at_row, found_own_row, known_there, marking_row, own_row, IsOwnRow}
+use Rattle.ruledwords.proofs.WalkPlaces.{cell_at_row, found_own_row, known_there, marking_row, own_row, IsOwnRow}
 use Rattle.ruledwords.proofs.pass.Words.found_by_walk.Goals as goal
 
 pub mark-requires-clause-place : goal.mark-requires-clause-place
