@@ -1,5 +1,5 @@
 -- The record of the changes of cells and of counters, from step to step.
-use Rattle.std.proofs.Common.{Bool, true, false, ◌≡◌, ◌≢◌, ⊎_elim, ℕ, zero, suc, ◌<◌, ◌≤◌, ◌==◌, List, [], ◌∷◌, ◌++◌, length, map, get_or, set, refl, sym, ap, ◌∙◌, subst, arith, append_assoc, append-nil, eq-eqb, ne_eqb, eqb-true, get_or-set_other, get_or-set_same}
+use Rattle.std.proofs.Common.{Bool, true, false, ◌≡◌, ◌≢◌, ⊎_elim, ℕ, zero, suc, ◌+◌, ◌<◌, ◌≤◌, ◌==◌, not, List, [], ◌∷◌, ◌++◌, length, get_or, set, refl, sym, ap, ◌∙◌, subst, arith, append_assoc, append-nil, length-append, eq-eqb, ne_eqb, eqb-true, get_or-set_other, get_or-set_same}
 use Rattle.std.specs.Prelude.{if◌then◌else◌}
 use Rattle.std.proofs.lemmas.List.Elements.{filter-append}
 use mathlib.Core.Logic.{dite}
@@ -11,7 +11,7 @@ use Rattle.atomic_table.proofs.Lists.{at_set, at_snoc}
 use Rattle.keys.specs.Layouts.{Layout', cell_place, counter_place}
 use Rattle.ruledwords.specs.declared.card.Card.{Card}
 use Rattle.ruledwords.specs.declared.card.Change.{Change}
-use Rattle.ruledwords.specs.Changes.{changes_at, put_changes, made_by, left_by, left_of, change_of, first_changes, AllTied, ChangedNothing, ChangedOnce, KnowsMoreAt, Loaded, Recorded, Tied, Writes}
+use Rattle.ruledwords.specs.Changes.{changes_at, put_changes, made_by, made_by_others, left_by, left_of, change_of, first_changes, AllTied, ChangedNothing, ChangedOnce, KnowsMoreAt, Loaded, OthersChanged, Recorded, Tied, Writes}
 use Rattle.ruledwords.specs.Rules.{cards_of, all_cards_of}
 use Rattle.ruledwords.proofs.Lists.{all_two, counted}
 
@@ -220,14 +220,14 @@ once_now c d e p n v same differs last so w = record {
     before : changes_at d.changes p ++ w.since ≡ changes_at c.changes p ++ (so.since ++ w.since)
     before = ap (λ (l : List Change). l ++ w.since) so.grows ∙ append_assoc (changes_at c.changes p) so.since w.since
 
-pub more_yet : (c : Card) (p : ℕ) → KnowsMoreAt c p c
+abbrev pub more_yet : (c : Card) (p : ℕ) → KnowsMoreAt c p c
 more_yet c p = record { here = ([], append-nil _); elsewhere = λ q other. refl; counted = refl }
 
 -- an access at the word at p
-pub more_by : (c d : Card) (p n v : ℕ) → d.counted ≡ c.counted → Writes c p n v d → KnowsMoreAt c p d
+abbrev pub more_by : (c d : Card) (p n v : ℕ) → d.counted ≡ c.counted → Writes c p n v d → KnowsMoreAt c p d
 more_by c d p n v same w = record { here = (w.since ++ change_of c.thread n v, sym (append_assoc (changes_at c.changes p) w.since (change_of c.thread n v)) ∙ sym w.grows); elsewhere = w.elsewhere; counted = same }
 
-pub more_on : (c d e : Card) (p : ℕ) → KnowsMoreAt c p d → KnowsMoreAt d p e → KnowsMoreAt c p e
+abbrev pub more_on : (c d e : Card) (p : ℕ) → KnowsMoreAt c p d → KnowsMoreAt d p e → KnowsMoreAt c p e
 more_on c d e p first more = record {
   here = (first.here.0 ++ more.here.0, sym (append_assoc (changes_at c.changes p) first.here.0 more.here.0) ∙ ap (λ (l : List Change). l ++ more.here.0) first.here.1 ∙ more.here.1);
   elsewhere = λ q other. more.elsewhere q other ∙ first.elsewhere q other;
@@ -251,3 +251,43 @@ loaded_now c d e p n same is so w = record {
   nothing = nothing_more c d e p n same so w;
   left = ap left_by (w.grows ∙ ap (λ (b : Bool). (changes_at d.changes p ++ w.since) ++ (if b then [] else record { thread = d.thread; word = n } ∷ [])) (eq-eqb n n refl) ∙ append-nil _) ∙ w.met ∙ sym is;
 }
+
+-- ---- others' changes
+
+others_append : (t : ℕ) (xs ys : List Change) → made_by_others t (xs ++ ys) ≡ made_by_others t xs ++ made_by_others t ys
+others_append t xs ys = filter-append (λ (x : Change). not (x.thread == t)) xs ys
+
+-- more of them are known, if more is known
+others_more : (t : ℕ) (xs ys : List Change) → length (made_by_others t (xs ++ ys)) ≡ length (made_by_others t xs) + length (made_by_others t ys)
+others_more t xs ys = ap length (others_append t xs ys) ∙ length-append (made_by_others t xs) (made_by_others t ys)
+
+pub others_stay : (n t : ℕ) (xs ys : List Change) → n ≤ length (made_by_others t xs) → n ≤ length (made_by_others t (xs ++ ys))
+others_stay n t xs ys le = let sum = others_more t xs ys in omega arith
+
+-- whoever finds another word than the one that it knew to be there finds changes by others
+some_other : (t : ℕ) (xs : List Change) → made_by t xs ≡ [] → xs ≢ [] → 1 ≤ length (made_by_others t xs)
+some_other t [] none any = absurd (any refl)
+some_other t (x ∷ xs) none any = go (x.thread == t) refl
+  where
+    go : (b : Bool) → (x.thread == t) ≡ b → 1 ≤ length (made_by_others t (x ∷ xs))
+    go true is = absurd (let own : made_by t (x ∷ xs) ≡ x ∷ made_by t xs = rw is refl in cc (own, none))
+    go false is =
+        let other : made_by_others t (x ∷ xs) ≡ x ∷ made_by_others t xs = rw is refl in
+        let some_more : 1 ≤ suc (length (made_by_others t xs)) = omega arith in
+        subst (λ (l : List Change). 1 ≤ length l) (sym other) some_more
+
+pub others_found : (c d : Card) (p n v : ℕ) → left_by (changes_at c.changes p) ≢ n → (w : Writes c p n v d) → 1 ≤ length (made_by_others c.thread (w.since ++ change_of c.thread n v))
+others_found c d p n v other w =
+    others_stay 1 c.thread w.since (change_of c.thread n v)
+    (some_other c.thread w.since w.others (λ none. other (sym (ap left_by (append-nil (changes_at c.changes p))) ∙ ap (λ (l : List Change). left_by (changes_at c.changes p ++ l)) (sym none) ∙ w.met)))
+
+-- what a call knows of them
+pub others_on : (m n t : ℕ) (xs ys : List Change) → m ≤ length (made_by_others t xs) → n ≤ length (made_by_others t ys) → m + n ≤ length (made_by_others t (xs ++ ys))
+others_on m n t xs ys first more = let sum = others_more t xs ys in omega arith
+
+pub others_changed : (n k : ℕ) (c : Card) (p : ℕ) (d : Card) (knows : KnowsMoreAt c p d) → n ≤ k → k ≤ length (made_by_others c.thread knows.here.0) → OthersChanged n c p d
+others_changed n k c p d knows few le = record { since = knows.here.0; grows = sym knows.here.1; others = (omega arith) }
+
+-- what is known to be there behind an access
+pub left_behind : (c d : Card) (p n v : ℕ) → Writes c p n v d → left_by (changes_at d.changes p) ≡ v
+left_behind c d p n v w = ap left_by w.grows ∙ left_append 0 (changes_at c.changes p ++ w.since) (change_of c.thread n v) ∙ ap (λ (z : ℕ). left_of z (change_of c.thread n v)) w.met ∙ left_changed c.thread n v

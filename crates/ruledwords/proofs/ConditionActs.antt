@@ -1,5 +1,5 @@
 -- What an access of a call on a condition variable leaves by which its thread holds what it held, at the cell or at the counter: its thread's list, the count of what it holds, and what the next row needs.
-use Rattle.std.proofs.Common.{Bool, true, false, ◌≡◌, ℕ, ◌+◌, ◌-◌, ◌^◌, ◌%◌, ◌<◌, ◌≤◌, ◌==◌, not, Option, Some, None, List, refl, sym, ap, ◌∙◌, subst, arith, eqb-true}
+use Rattle.std.proofs.Common.{Bool, true, false, ◌≡◌, ℕ, ◌+◌, ◌^◌, ◌%◌, ◌<◌, ◌≤◌, ◌==◌, not, Option, Some, None, List, refl, sym, ap, ◌∙◌, subst, arith, eqb-true}
 use Rattle.std.specs.Prelude.{if◌then◌else◌, nat_lt}
 use Rattle.std.proofs.lemmas.Bool.{eqb-false}
 use mathlib.Core.Logic.{dite}
@@ -10,32 +10,25 @@ use Rattle.lockword.specs.declared.reply.Reply.TheVariants.{OK, EPERM, XFULL, XS
 use Rattle.keys.specs.declared.access.Access.{Access}
 use Rattle.keys.specs.declared.access.Access.TheVariants as access
 use Rattle.keys.specs.declared.access.Answer.{Answer}
-use Rattle.keys.specs.declared.access.Answer.TheVariants.{Again, Count, Counts as Moved, Stored, Value, Woken}
+use Rattle.keys.specs.declared.access.Answer.TheVariants.{Value}
 use Rattle.keys.specs.declared.object.Object.{Object}
 use Rattle.keys.specs.declared.point.Operation.{Operation}
 use Rattle.keys.specs.declared.point.Operation.TheVariants as operation
 use Rattle.keys.specs.declared.point.Point.{Point}
-use Rattle.keys.specs.Accesses.{answer_at}
-use Rattle.keys.specs.Addresses.{address_from}
-use Rattle.keys.specs.Layouts.{Layout', base_of, address_in, cell_place, counter_place, place_in}
+use Rattle.keys.specs.Layouts.{Layout', address_in, cell_place, counter_place, place_in}
 use Rattle.keys.specs.Objects.{fresh, held_limit, object_of, Run}
 use Rattle.keys.proofs.Objects.{run_same}
 use Rattle.keys.proofs.Owners.{owner_of-some}
-use Rattle.mutex.proofs.Addresses.{again, few_words, low}
-use Rattle.robustlist.specs.declared.unlink.UnlinkRow.{UnlinkRow}
-use Rattle.robustlist.specs.declared.unlink.UnlinkRow.TheVariants as unlink_row
+use Rattle.mutex.proofs.Addresses.{again}
 use Rattle.robustlist.specs.Standings.{UnlinkStanding}
-use Rattle.robustlist.specs.Unlink.{unlink_access_of, unlink_moved, unlink_started}
-use Rattle.robustlist.specs.Words.{answer_on}
+use Rattle.robustlist.specs.Unlink.{unlink_access_of}
 use Rattle.mutex.specs.declared.consistent.ConsistentRow.TheVariants as consistent
 use Rattle.mutex.specs.declared.phase.Phase.{Phase}
 use Rattle.mutex.specs.declared.phase.Phase.TheVariants as phase
 use Rattle.mutex.specs.declared.row.Row.TheVariants as row
 use Rattle.mutex.specs.declared.unlock.UnlockRow.TheVariants as unlock
 use Rattle.mutex.specs.Laws.{points}
-use Rattle.mutex.specs.Standings.{Standing, Whole}
-use Rattle.mutex.specs.Whole.{after_cell, retaking, IsUnderWay}
-use Rattle.mutex.specs.Whole.{unlinked_at as whole_unlinked_at}
+use Rattle.mutex.specs.Standings.{Whole}
 use Rattle.mutex.specs.WholeLists.{Arrives, AgreeOnOwn, HasList, IsCallOn, IsOwnPlace, IsThere, KeepsList}
 use Rattle.mutex.proofs.WholeLists.{right}
 use Rattle.condvar.specs.declared.broadcast.BroadcastRow.TheVariants as broadcast
@@ -49,18 +42,18 @@ use Rattle.condvar.specs.declared.signal.SignalRow.TheVariants as signal
 use Rattle.condvar.specs.declared.wait.WaitRow.TheVariants as wait
 use Rattle.condvar.specs.Laws.{largest_counter}
 use Rattle.condvar.specs.Programs.{point_of}
-use Rattle.condvar.specs.Rows.{decides, ends, full, goes, IsGoing}
+use Rattle.condvar.specs.Rows.{ends, full, goes, IsGoing}
 use Rattle.condvar.specs.Standings.{CondWhole}
-use Rattle.condvar.specs.Whole.{cond_access, cond_led, from_words, onward, unlinked_at}
+use Rattle.condvar.specs.Whole.{cond_led, from_words}
 use Rattle.ruledwords.specs.declared.card.Card.{Card}
 use Rattle.ruledwords.specs.declared.card.Change.{Change}
 use Rattle.ruledwords.specs.Calls.{count_after, Made, OwnKept, Ready}
 use Rattle.ruledwords.specs.Cards.{at, mark_at, value_at}
-use Rattle.ruledwords.specs.ConditionCalls.{CondFound, IsCondAnswerOf, IsCondStep, IsInCondCall}
-use Rattle.ruledwords.specs.Conditions.{cond_row_in, cond_standing, condition_at, list_phase, having_set, most_behind, release_of, unlock_of, CondReady, Counts, IsAtCondition, IsOnCondition, Meets, Needs}
+use Rattle.ruledwords.specs.ConditionCalls.{IsCondAnswerOf, IsInCondCall}
+use Rattle.ruledwords.specs.Conditions.{cond_row_in, cond_standing, condition_at, list_phase, having_set, most_behind, unlock_of, CondReady, Counts, IsAtCondition, IsOnCondition, Meets, Needs}
 use Rattle.ruledwords.specs.Counts.{cell_at, mutex_at}
 use Rattle.ruledwords.specs.Lists.{known, or_zero, IsAlive, IsInCall}
-use Rattle.ruledwords.specs.OwnWords.{own_after, owns_in}
+use Rattle.ruledwords.specs.OwnWords.{owns_in}
 use Rattle.ruledwords.specs.Passes.{IsCardOf}
 use Rattle.ruledwords.specs.Seen.{by, count_held, held, held_after, holds, holds_after, Sees}
 use Rattle.ruledwords.specs.Turns.{IsLoadOrStore}
@@ -68,11 +61,9 @@ use Rattle.ruledwords.proofs.Cards.{is_marking, still_card}
 use Rattle.ruledwords.proofs.Counts.{of_mutex}
 use Rattle.ruledwords.proofs.Held.{count_same, held_append, owner_held}
 use Rattle.ruledwords.proofs.Lists.{mark_put}
-use Rattle.ruledwords.proofs.Listing.{goes_made, goes_own, owner_told}
-use Rattle.ruledwords.proofs.OwnTurns.{card_own, own_same}
+use Rattle.ruledwords.proofs.Listing.{owner_told}
 use Rattle.ruledwords.proofs.OwnWords.{own_place}
-use Rattle.ruledwords.proofs.Phases.{own_fits, own_moved, is_load_or_store}
-use Rattle.ruledwords.proofs.Standing.{held_made}
+use Rattle.ruledwords.proofs.Phases.{is_load_or_store}
 use Rattle.ruledwords.specs.Calls.{row_in}
 
 -- ---- points by which its thread holds what it held

@@ -106,7 +106,7 @@ module _ (w : Words) (r : CondRunning) (of : IsCondRunningOf w r) where
       lock_answered l is =
           let at : Standing = record { thread = p.thread; cell = p.cell; row = row.Lock lock.Load } in
           subst (λ (z : ℕ × Whole). IsOnMutex k (standing_of z.1) (mutex_at k z.0) × Stands operation.Lock (row.Lock lock.Load) (cell_place k (mutex_at k z.0)) c (standing_of z.1) c) (λ i. (u.1 i, is i))
-          ((in_layout, of.1.on.cell), stands_begun operation.Lock (cell_place k (mutex_at k (condition_at k p))) c at refl refl)
+          ((in_layout, of.1.on.cell), stands_begun operation.Lock (cell_place k (mutex_at k (condition_at k p))) c at refl refl tt)
 
     -- its thread dies
     pub dies_here : (d : Card) → d ≡ c → DiesOn k (condition_of cl) (operation_of cl) (card a) d

@@ -12,7 +12,8 @@ use Rattle.ruledwords.specs.declared.outcome.Outcome.{Outcome}
 use Rattle.ruledwords.specs.declared.outcome.Outcome.TheVariants as outcome
 use Rattle.ruledwords.specs.declared.turn.Running.{Running}
 use Rattle.ruledwords.specs.Outcomes.{Declared, Finishes, Tried}
-use Rattle.ruledwords.specs.Passes.{card}
+use Rattle.keys.specs.Layouts.{cell_place}
+use Rattle.ruledwords.specs.Passes.{card, layout_of}
 use Rattle.ruledwords.specs.Seen.{held}
 use Rattle.ruledwords.specs.Turns.{running_call, running_pass, IsIn, IsRaced, IsUnderWay}
 use Rattle.ruledwords.proofs.Beginnings.{picks_false}
@@ -25,7 +26,7 @@ module _ (w : Words) (a : Pass Live) (r : Running) where
   pub tried : (m : ℕ) (o : Outcome) → IsUnderWay w a (call.TryLock m) r → nat_le 2048 (held (card a)) ≡ false → Finishes w (running_pass r) (running_call r) o → Tried w m a o
   tried m (outcome.Lives b y) u few finishes =
       let end = finishes a (call.TryLock m) (stands_in (call.TryLock m) u) in
-      (end.0, picks_false (nat_le 2048 (held (card a))) _ _ few end.1, λ raced. subst (λ (x : Reply). IsRaced operation.TryLock x (card a) (card b)) raced end.2)
+      (end.0, picks_false (nat_le 2048 (held (card a))) _ _ few end.1, λ raced. subst (λ (x : Reply). IsRaced operation.TryLock x (card a) (cell_place (layout_of w) m) (card b)) raced end.2)
   tried m (outcome.Dead d) u few finishes = let died = finishes a (call.TryLock m) (stands_in (call.TryLock m) u) in (died.0, (few, died.1))
 
   pub declared : (m : ℕ) (o : Outcome) → IsUnderWay w a (call.Consistent m) r → Finishes w (running_pass r) (running_call r) o → Declared w m a o

@@ -90,8 +90,9 @@ changes_row c d e q t cell n (TryLock r) same pos last going stepping of met wri
 changes_row c d e q t cell n (Unlock unlock.Load) same pos last going stepping of met writes sound left so = nothing_seen c e q ((fields_of n).owner == t) (fields_of n).died (nothing_more c d e q n same so writes)
 changes_row c d e q t cell n (Unlock (unlock.Release died)) same pos last going stepping of met writes sound left so =
     once_freed c e q died (fields_of n).waiters (
-    once_now c d e q n (bit_xor n (released_bits t died)) same (released_differs t n died pos (owner_told (fields_of n).owner t met.0) met.1) last so writes,
-    λ o run. ap (λ (x : Object). x.unusable) (left o run) ∙ spoilt n t died sound met.0 met.1 ∙ ap (λ (w : ℕ). (fields_of w).died) (sym last))
+      once_now c d e q n (bit_xor n (released_bits t died)) same (released_differs t n died pos (owner_told (fields_of n).owner t met.0) met.1) last so writes,
+      λ o run. ap (λ (x : Object). x.unusable) (left o run) ∙ spoilt n t died sound met.0 met.1 ∙ ap (λ (w : ℕ). (fields_of w).died) (sym last),
+    )
 changes_row c d e q t cell n (Unlock (unlock.Wake a)) same pos last going stepping of met writes sound left so = absurd stepping
 changes_row c d e q t cell n (Unlock unlock.Trim) same pos last going stepping of met writes sound left so = absurd stepping
 changes_row c d e q t cell n (Consistent r) same pos last going stepping of met writes sound left so = absurd (cc of)

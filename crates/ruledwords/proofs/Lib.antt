@@ -9,6 +9,7 @@ mod Hands
 mod Gathering
 mod Steps
 mod Turned
+pub mod Exchanges
 mod Standing
 mod Phases
 mod Making

@@ -3,11 +3,11 @@ use Rattle.std.proofs.Common.{Bool, ◌≡◌, ℕ, List, [], ◌∷◌, ◌++�
 use Rattle.facts.specs.Lives.{Act}
 use Rattle.keys.specs.declared.point.Operation.{Operation}
 use Rattle.mutex.specs.declared.row.Row.{Row}
-use Rattle.mutex.specs.Laws.{decided}
+use Rattle.mutex.specs.Laws.{changes, decided}
 use Rattle.mutex.specs.Standings.{Standing}
 use Rattle.ruledwords.specs.declared.card.Card.{Card}
 use Rattle.ruledwords.specs.declared.card.Change.{Change}
-use Rattle.ruledwords.specs.Calls.{acts, Stands}
+use Rattle.ruledwords.specs.Calls.{acts, ExpectsKnown, Stands}
 use Rattle.ruledwords.specs.Changes.{KnowsMoreAt}
 use Rattle.ruledwords.specs.Looks.{KnowsTheSame}
 use Rattle.lockword.specs.declared.reply.Reply.{Reply}
@@ -17,7 +17,7 @@ use Rattle.keys.specs.declared.point.Point.{Point}
 use Rattle.ruledwords.specs.Cards.{at}
 use Rattle.ruledwords.specs.Seen.{by, points_of, EndsWith, Called, Saw}
 use Rattle.ruledwords.specs.Turns.{HasSeenTheSame}
-use Rattle.ruledwords.proofs.Changes.{more_on}
+use Rattle.ruledwords.proofs.Changes.{more_on, others_stay}
 
 -- who has only noted a word, or a trim
 pub seen_noted : (c d : Card) → KnowsTheSame c d → HasSeenTheSame c d
@@ -38,14 +38,16 @@ still_called c p ds d e same h = subst (Called c p ds) (sym same) record { saw =
 pub marked_called : (c : Card) (p : ℕ) (ds : List Act) (d : Card) (n : ℕ) (marks : List Bool) (zs : List (List Change)) → Called c p ds d → Called c p ds record d { last = n; marks = marks; changes = zs }
 marked_called c p ds d n marks zs h = record { saw = record { thread = h.saw.thread; threads = h.saw.threads; base = h.saw.base; elsewhere = h.saw.elsewhere; since = h.saw.since; grows = h.saw.grows; own = h.saw.own }; last = h.last }
 
-pub still_stands : (op : Operation) (first : Row) (q : ℕ) (c : Card) (p : Standing) (d e : Card) → HasSeenTheSame d e → KnowsMoreAt d q e → Stands op first q c p d → Stands op first q c p e
-still_stands op first q c p d e same more s = record {
+pub still_stands : (op : Operation) (first : Row) (q : ℕ) (c : Card) (p : Standing) (d e : Card) → HasSeenTheSame d e → KnowsMoreAt d q e → ExpectsKnown p.row q e → Stands op first q c p d → Stands op first q c p e
+still_stands op first q c p d e same more expects s = record {
   of = s.of;
   called = still_called c q (acts op (decided p.row)) d e same s.called;
   answers = s.answers;
   reaches = s.reaches;
   misses = ap (λ (z : Card). z.misses) same ∙ s.misses;
   knows = more_on c d e q s.knows more;
+  expects = expects;
+  others = others_stay (changes s.answers) c.thread s.knows.here.0 more.here.0 s.others;
 }
 
 -- ---- two calls of a thread on one mutex, one after the other

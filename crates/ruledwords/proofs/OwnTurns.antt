@@ -1,5 +1,5 @@
 -- A call at one of its thread's own words.
-use Rattle.std.proofs.Common.{◌≡◌, ℕ, ◌≤◌, Some, refl, sym, ap, ◌∙◌, subst}
+use Rattle.std.proofs.Common.{◌≡◌, ℕ, ◌≤◌, List, Some, refl, sym, ap, ◌∙◌, subst}
 use Rattle.lockword.specs.declared.reply.Reply.{Reply}
 use Rattle.keys.specs.declared.access.Access.{Access}
 use Rattle.keys.specs.declared.access.Access.TheVariants as access
@@ -17,18 +17,20 @@ use Rattle.mutex.specs.Standings.{Standing, Whole}
 use Rattle.mutex.specs.Whole.{whole_access, whole_led, whole_moved, IsUnderWay}
 use Rattle.mutex.specs.WholeLists.{IsOwnAccess}
 use Rattle.ruledwords.specs.declared.card.Card.{Card}
+use Rattle.ruledwords.specs.declared.card.Change.{Change}
 use Rattle.ruledwords.specs.declared.pass.Words.{Words}
 use Rattle.ruledwords.specs.declared.pass.Pass.{Pass}
 use Rattle.ruledwords.specs.declared.pass.Live.{Live}
 use Rattle.ruledwords.specs.declared.turn.Running.{Running}
 use Rattle.ruledwords.specs.declared.turn.Turn.TheVariants.{Goes, Lives}
 use Rattle.ruledwords.specs.Calls.{Ready, most, row_in, standing_of}
-use Rattle.ruledwords.specs.Changes.{KnowsMoreAt}
+use Rattle.ruledwords.specs.Changes.{changes_at, KnowsMoreAt}
 use Rattle.ruledwords.specs.Lists.{known, IsAlive, IsInCall}
 use Rattle.ruledwords.specs.OwnWords.{own_after}
 use Rattle.ruledwords.specs.Passes.{card, layout_of, IsCardOf, IsPassOf, IsLive}
 use Rattle.ruledwords.specs.Turns.{running_call, running_of, Answers, ComesTo, HasSeenTheSame, IsCallOf, IsDecided, IsRunningOf, IsUnderWay as IsUnderWayFrom}
 use Rattle.ruledwords.proofs.Changes.{more_same}
+use Rattle.ruledwords.proofs.Exchanges.{expects_still}
 use Rattle.ruledwords.proofs.Listing.{goes_own, ends_own}
 use Rattle.ruledwords.proofs.Noted.{seen_stored, seen_on, still_stands}
 use Rattle.ruledwords.proofs.Phases.{is_load_or_store, own_fits, own_moved}
@@ -122,7 +124,7 @@ module _ (w : Words) (r : Running) (of : IsRunningOf w r) (own : IsOwnAccess (ru
 
     pub stands_on : (a : Pass Live) (call : Call) → IsUnderWayFrom w a call r → StandsIn w a call (standing_of p') (card b)
     stands_on a call u = subst (λ (z : Standing). StandsIn w a call z (card b)) (sym as_before)
-        (u.1, still_stands (operation_of call) (first_row call) (cell_place k (mutex_of call)) (card a) (standing_of p) c (card b) still knows_still u.2)
+        (u.1, still_stands (operation_of call) (first_row call) (cell_place k (mutex_of call)) (card a) (standing_of p) c (card b) still knows_still (expects_still (standing_of p).row (cell_place k (mutex_of call)) c (card b) (ap (λ (l : List (List Change)). changes_at l (cell_place k (mutex_of call))) (ap (λ (z : Card). z.changes) (is ∙ own_same k c (whole_access p)))) u.2.expects) u.2)
 
     pub decided_on : (e : Card) (y : Reply) → IsDecided w e y r → (decided (row_in p'.phase) ≡ Some y) × HasSeenTheSame e (card b)
     decided_on e y was = (ap (λ (z : Standing). decided z.row) as_before ∙ was.1, seen_on e c (card b) was.2 still)

@@ -1,5 +1,5 @@
 -- A section that a call's caller made.
-use Rattle.std.proofs.Common.{◌≡◌, ◌≢◌, ℕ, ◌≤◌, ◌==◌, Bool, true, false, not, Option, Some, None, [], ◌∷◌, ◌++◌, refl, sym, ap, ◌∙◌, subst, arith}
+use Rattle.std.proofs.Common.{◌≡◌, ◌≢◌, ℕ, ◌≤◌, ◌==◌, Bool, true, false, not, Option, Some, None, [], ◌∷◌, ◌++◌, length, refl, sym, ap, ◌∙◌, subst, arith}
 use Rattle.std.specs.Prelude.{◌&&◌, if◌then◌else◌}
 use Rattle.lockword.specs.declared.reply.Reply.{Reply}
 use Rattle.lockword.specs.declared.reply.Reply.TheVariants.{OK, EFAULT}
@@ -18,7 +18,7 @@ use Rattle.mutex.specs.declared.lock.LockRow.TheVariants as lock
 use Rattle.mutex.specs.declared.try_lock.TryLockRow.TheVariants as try
 use Rattle.mutex.specs.declared.unlock.UnlockRow.TheVariants as unlock
 use Rattle.mutex.specs.declared.consistent.ConsistentRow.TheVariants as consistent
-use Rattle.mutex.specs.Laws.{Expects, decided, IsOf, tells_change}
+use Rattle.mutex.specs.Laws.{Expects, changes, decided, IsOf, tells_change}
 use Rattle.mutex.specs.Programs.{access_of, row_access, resume_of, row_operation, point_of, progress_of, led, moved}
 use Rattle.mutex.specs.Rows.{Knows, IsGoing}
 use Rattle.mutex.specs.Standings.{Standing}
@@ -26,8 +26,10 @@ use Rattle.mutex.specs.WholeLists.{OwnsAt}
 use Rattle.mutex.proofs.Steps.{goes_on, returned}
 use Rattle.ruledwords.specs.declared.card.Card.{Card}
 use Rattle.ruledwords.specs.Seen.{Called}
-use Rattle.ruledwords.specs.Calls.{acts, Ready, Stands, most}
+use Rattle.ruledwords.specs.Calls.{acts, ExpectsKnown, Ready, Stands, most}
 use Rattle.ruledwords.specs.Turns.{IsAnswerOf}
+use Rattle.ruledwords.specs.Changes.{made_by_others}
+use Rattle.ruledwords.proofs.Exchanges.{plain_wake}
 use Rattle.ruledwords.proofs.Standing.{reached_more, changes_more}
 
 -- what a section's answer leaves as it is
@@ -41,6 +43,7 @@ pub record Passes (t : ℕ) (r : Row) (x : Answer) : Type 0 where
   pub pointless : (resume_of t r x).point ≡ None
   pub releases : (own : Bool) → OwnsAt own (resume_of t r x).row
   pub faultless : (resume_of t r x).row ≢ Ended EFAULT
+  pub expects_known : (q : ℕ) (d : Card) → ExpectsKnown (resume_of t r x).row q d
 
 -- behind a wake the unlock trims, or returns
 abbrev behind_wake : Bool → Row
@@ -77,16 +80,16 @@ behind_faultless false e = cc
 wake_passes : (t : ℕ) (a : Bool) (k : ℕ) → Passes t (Unlock (unlock.Wake a)) (Count k)
 wake_passes t a k =
     let b : Bool = not a && (k == 0) in
-    record { same = behind_decided b; knows = behind_knows b; expects = behind_expects t b; of = λ op is. behind_of op b is; change = refl; room = behind_room b; pointless = refl; releases = λ own. behind_releases own b; faultless = behind_faultless b }
+    record { same = behind_decided b; knows = behind_knows b; expects = behind_expects t b; of = λ op is. behind_of op b is; change = refl; room = behind_room b; pointless = refl; releases = λ own. behind_releases own b; faultless = behind_faultless b; expects_known = λ q d. plain_wake q d b }
 
 pub passes : (t cell : ℕ) (r : Row) (x : Answer) → IsAnswerOf (row_access t cell r) x → Passes t r x
 passes t cell (Lock lock.Load) x fits = absurd fits
 passes t cell (Lock (lock.Take v)) x fits = absurd fits
 passes t cell (Lock (lock.SetWaiters v)) x fits = absurd fits
-passes t cell (Lock (lock.Sleep v)) Again fits = record { same = refl; knows = tt; expects = λ o. tt; of = λ op e. e; change = refl; room = omega arith; pointless = refl; releases = λ own. tt; faultless = λ e. cc }
-passes t cell (Lock (lock.Sleep v)) Woken fits = record { same = refl; knows = tt; expects = λ o. tt; of = λ op e. e; change = refl; room = omega arith; pointless = refl; releases = λ own. tt; faultless = λ e. cc }
+passes t cell (Lock (lock.Sleep v)) Again fits = record { same = refl; knows = tt; expects = λ o. tt; of = λ op e. e; change = refl; room = omega arith; pointless = refl; releases = λ own. tt; faultless = λ e. cc; expects_known = λ q d. tt }
+passes t cell (Lock (lock.Sleep v)) Woken fits = record { same = refl; knows = tt; expects = λ o. tt; of = λ op e. e; change = refl; room = omega arith; pointless = refl; releases = λ own. tt; faultless = λ e. cc; expects_known = λ q d. tt }
 passes t cell (Lock (lock.Sleep v)) x fits = absurd fits
-passes t cell (Lock lock.WakeAll) (Count k) fits = record { same = refl; knows = tt; expects = λ o. tt; of = λ op e. tt; change = refl; room = omega arith; pointless = refl; releases = λ own. tt; faultless = λ e. cc }
+passes t cell (Lock lock.WakeAll) (Count k) fits = record { same = refl; knows = tt; expects = λ o. tt; of = λ op e. tt; change = refl; room = omega arith; pointless = refl; releases = λ own. tt; faultless = λ e. cc; expects_known = λ q d. tt }
 passes t cell (Lock lock.WakeAll) x fits = absurd fits
 passes t cell (TryLock try.Load) x fits = absurd fits
 passes t cell (TryLock (try.Take v k)) x fits = absurd fits
@@ -94,7 +97,7 @@ passes t cell (Unlock unlock.Load) x fits = absurd fits
 passes t cell (Unlock (unlock.Release d)) x fits = absurd fits
 passes t cell (Unlock (unlock.Wake a)) (Count k) fits = wake_passes t a k
 passes t cell (Unlock (unlock.Wake a)) x fits = absurd fits
-passes t cell (Unlock unlock.Trim) (Trimmed b) fits = record { same = refl; knows = tt; expects = λ o. tt; of = λ op e. tt; change = refl; room = omega arith; pointless = refl; releases = λ own. tt; faultless = λ e. cc }
+passes t cell (Unlock unlock.Trim) (Trimmed b) fits = record { same = refl; knows = tt; expects = λ o. tt; of = λ op e. tt; change = refl; room = omega arith; pointless = refl; releases = λ own. tt; faultless = λ e. cc; expects_known = λ q d. tt }
 passes t cell (Unlock unlock.Trim) x fits = absurd fits
 passes t cell (Consistent consistent.Load) x fits = absurd fits
 passes t cell (Consistent consistent.Declare) x fits = absurd fits
@@ -112,6 +115,7 @@ stands_answered op first q c p d x fits ready s =
     let had = s.misses in
     let sum = changes_more s.answers x in
     let thread = s.called.saw.thread in
+    let as_many : changes (s.answers ++ x ∷ []) ≡ changes s.answers = omega arith in
     record {
       of = k.of op s.of;
       called = subst (λ (z : Option Reply). Called c q (acts op z) d) (sym k.same) s.called;
@@ -119,6 +123,8 @@ stands_answered op first q c p d x fits ready s =
       reaches = reached_more c.thread first s.answers x ∙ ap (λ (z : Row). (resume_of c.thread z x).row) s.reaches ∙ ap (λ (t : ℕ). (resume_of t p.row x).row) (sym (ready.0 ∙ thread));
       misses = omega arith;
       knows = s.knows;
+      expects = k.expects_known q d;
+      others = subst (λ (z : ℕ). z ≤ length (made_by_others c.thread s.knows.here.0)) (sym as_many) s.others;
     }
 
 -- an answer after which the call goes on, and one after which it returns

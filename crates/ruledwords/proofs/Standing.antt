@@ -1,5 +1,5 @@
 -- A call, access by access.
-use Rattle.std.proofs.Common.{Bool, true, false, ◌≡◌, ◌≢◌, ℕ, ◌+◌, ◌^◌, ◌<◌, ◌≤◌, ◌==◌, Option, Some, None, List, [], ◌∷◌, ◌++◌, refl, sym, ap, ◌∙◌, subst, arith}
+use Rattle.std.proofs.Common.{Bool, true, false, ◌≡◌, ◌≢◌, ℕ, ◌+◌, ◌^◌, ◌<◌, ◌≤◌, ◌==◌, Option, Some, None, List, [], ◌∷◌, ◌++◌, length, refl, sym, ap, ◌∙◌, subst, arith}
 use Rattle.std.specs.Prelude.{if◌then◌else◌}
 use Rattle.lockword.specs.Cells.{fields_of}
 use Rattle.lockword.specs.declared.reply.Reply.{Reply}
@@ -25,22 +25,26 @@ use Rattle.ruledwords.specs.declared.card.Card.{Card}
 use Rattle.ruledwords.specs.declared.outcome.Wakes.TheVariants.{Nobody, One, All}
 use Rattle.ruledwords.specs.Cards.{at}
 use Rattle.ruledwords.specs.Seen.{held, Sees, Called}
-use Rattle.ruledwords.specs.Calls.{address_at, acts, Ready, Made, Stands, led_at, count_by, count_after, most, most_of}
+use Rattle.ruledwords.specs.Changes.{change_of, made_by_others, OthersChanged}
+use Rattle.ruledwords.specs.Calls.{address_at, acts, ExpectsKnown, Ready, Made, Stands, led_at, count_by, count_after, most, most_of}
 use Rattle.ruledwords.specs.Outcomes.{wakes_of}
-use Rattle.ruledwords.proofs.Changes.{more_by, more_on, more_yet}
+use Rattle.ruledwords.proofs.Changes.{left_behind, more_by, more_on, more_yet, others_changed, others_on}
+use Rattle.ruledwords.proofs.Exchanges.{expects_next, failed}
 use Rattle.ruledwords.proofs.Cards.{run_at, saw_nothing, saw_more}
 use Rattle.ruledwords.proofs.Lists.{told}
 use Rattle.ruledwords.proofs.Held.{held_sees}
 
 -- a call that begins
-pub begins : (op : Operation) (q : ℕ) (c : Card) (p : Standing) → IsOf op p.row → decided p.row ≡ None → Stands op p.row q c p c
-begins op q c p of none = record {
+pub begins : (op : Operation) (q : ℕ) (c : Card) (p : Standing) → IsOf op p.row → decided p.row ≡ None → ExpectsKnown p.row q c → Stands op p.row q c p c
+begins op q c p of none expects = record {
   of = of;
   called = subst (λ (z : Option Reply). Called c q (acts op z) c) (sym none) (saw_nothing c q);
   answers = [];
   reaches = refl;
   misses = (let e : c.misses ≡ c.misses + 0 = omega arith in e);
   knows = more_yet c q;
+  expects = expects;
+  others = (let none : 0 ≤ 0 = omega arith in none);
 }
 
 -- the laws of programs, of an access that was made
@@ -90,6 +94,10 @@ stands_after op first q c p d e n going step ready s m =
     let more = m.misses in
     let sum = changes_more s.answers a in
     let thread = s.called.saw.thread in
+    -- how many changes by others are known then
+    let found : tells_change a ≤ length (made_by_others c.thread (m.writes.since ++ change_of d.thread n (changed (access_of p) n))) =
+    subst (λ (t : ℕ). tells_change a ≤ length (made_by_others t (m.writes.since ++ change_of d.thread n (changed (access_of p) n)))) thread (failed q n (changed (access_of p) n) d e m.writes p.thread p.cell p.row s.expects) in
+    let all = others_on (changes s.answers) (tells_change a) c.thread s.knows.here.0 (m.writes.since ++ change_of d.thread n (changed (access_of p) n)) s.others found in
     record {
       of = subst (λ (z : Operation). IsOf z (led_at p n).row) is r.stays;
       called = saw_more c q d op next u e (subst (λ (z : Option Reply). Called c q (acts op z) d) none s.called) added;
@@ -97,6 +105,8 @@ stands_after op first q c p d e n going step ready s m =
       reaches = reached_more c.thread first s.answers a ∙ ap (λ (z : Row). (resume_of c.thread z a).row) s.reaches ∙ ap (λ (t : ℕ). (resume_of t p.row a).row) (sym (ready.0 ∙ thread));
       misses = omega arith;
       knows = more_on c d e q s.knows (more_by d e q n (changed (access_of p) n) m.counted m.writes);
+      expects = expects_next q e p.thread p.cell n p.row (left_behind d e q n (changed (access_of p) n) m.writes);
+      others = subst (λ (z : ℕ). z ≤ length (made_by_others c.thread (s.knows.here.0 ++ (m.writes.since ++ change_of d.thread n (changed (access_of p) n))))) (sym sum) all;
     }
 
 -- what is told of the word that a release found
@@ -168,8 +178,8 @@ few_after h r le = let m = most_le (decided r) (acquires (row_operation r)) in o
 pub called : (op : Operation) (first : Row) (q : ℕ) (c : Card) (p : Standing) (d : Card) (r : Reply) → Stands op first q c p d → decided p.row ≡ Some r → Called c q ((op, r) ∷ []) d
 called op first q c p d r s is = subst (λ (z : Option Reply). Called c q (acts op z) d) is s.called
 
-pub raced_four : (op : Operation) (q : ℕ) (c : Card) (p : Standing) (d : Card) → Stands op (row.TryLock try.Load) q c p d → p.row ≡ row.Ended XRACED → c.misses + 4 ≤ d.misses
-raced_four op q c p d s is = let four = raced c.thread s.answers (s.reaches ∙ is) in let m = s.misses in omega arith
+pub raced_four : (op : Operation) (q : ℕ) (c : Card) (p : Standing) (d : Card) → Stands op (row.TryLock try.Load) q c p d → p.row ≡ row.Ended XRACED → (c.misses + 4 ≤ d.misses) × OthersChanged 4 c q d
+raced_four op q c p d s is = let four = raced c.thread s.answers (s.reaches ∙ is) in let m = s.misses in ((omega arith), others_changed 4 (changes s.answers) c q d s.knows four s.others)
 
 pub wakes_nobody : (v : ℕ) → (fields_of v).waiters ≡ false → Nobody ≡ wakes_of v
 wakes_nobody v off = sym (ap (λ (b : Bool). if b then (if (fields_of v).died then All else One) else Nobody) off)

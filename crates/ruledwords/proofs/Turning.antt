@@ -28,7 +28,7 @@ use Rattle.ruledwords.specs.declared.turn.Running.{Running}
 use Rattle.ruledwords.specs.Passes.{card, layout_of}
 use Rattle.ruledwords.specs.Changes.{KnowsMoreAt}
 use Rattle.ruledwords.specs.Seen.{Called, Died}
-use Rattle.ruledwords.specs.Calls.{IsOnMutex, Ready, Stands, Made, led_at, most, row_in, standing_of}
+use Rattle.ruledwords.specs.Calls.{ExpectsKnown, IsOnMutex, Ready, Stands, Made, led_at, most, row_in, standing_of}
 use Rattle.ruledwords.specs.Turns.{running_program, IsUnderWay, IsAnswerOf, IsRaced}
 use Rattle.ruledwords.proofs.Beginnings.{by_test}
 use Rattle.ruledwords.proofs.Cards.{same_mutex, dies}
@@ -49,6 +49,12 @@ first_undecided (TryLock m) = refl
 first_undecided (Unlock m) = refl
 first_undecided (Consistent m) = refl
 
+first_expects : (q : ℕ) (c : Card) (call : Call) → ExpectsKnown (first_row call) q c
+first_expects q c (Lock m) = tt
+first_expects q c (TryLock m) = tt
+first_expects q c (Unlock m) = tt
+first_expects q c (Consistent m) = tt
+
 -- where a call stands that begins
 pub starts : (k : Layout') (t h : ℕ) (c : Call) (p : Whole) → whole_started k t h c ≡ Ok p → p ≡ whole_begins k t c
 starts k t h c p e = (by_test (acquires (operation_of c) && nat_le 2048 h) (whole_begins k t c) p e).1
@@ -64,7 +70,7 @@ pub begun : (k : Layout') (c : Card) (call : Call) (p : Whole) → p ≡ whole_b
 begun k c call p is =
     let at : Standing = record { thread = c.thread; cell = address_in k c.thread (cell_place k (mutex_of call)); row = first_row call } in
     subst (λ (q : Standing). Stands (operation_of call) (first_row call) (cell_place k (mutex_of call)) c q c) (sym (ap standing_of is ∙ starts_so k c.thread call))
-    (begins (operation_of call) (cell_place k (mutex_of call)) c at (first_of call) (first_undecided call))
+    (begins (operation_of call) (cell_place k (mutex_of call)) c at (first_of call) (first_undecided call) (first_expects (cell_place k (mutex_of call)) c call))
 
 first_knows : (t : ℕ) (c : Call) (o : Object) → Knows (first_row c) × Expects t (first_row c) o
 first_knows t (Lock m) o = (tt, tt)
@@ -101,7 +107,7 @@ begun_under_way k t h call p e = subst (λ (z : Whole). IsInProgress z.phase) (s
 -- ---- it goes on, or ends
 
 -- a trylock that gives up
-pub raced_at : (call : Call) (q : ℕ) (c : Card) (p : Standing) (d : Card) (x : Reply) → Stands (operation_of call) (first_row call) q c p d → p.row ≡ row.Ended x → IsRaced (operation_of call) x c d
+pub raced_at : (call : Call) (q : ℕ) (c : Card) (p : Standing) (d : Card) (x : Reply) → Stands (operation_of call) (first_row call) q c p d → p.row ≡ row.Ended x → IsRaced (operation_of call) x c q d
 raced_at (Lock m) q c p d x s is = tt
 raced_at (TryLock m) q c p d XRACED s is = raced_four operation.TryLock q c p d s is
 raced_at (TryLock m) q c p d x s is = tt
@@ -113,7 +119,7 @@ abbrev pub StandsIn : Words → Pass Live → Call → Standing → Card → Typ
 StandsIn w a call z d = IsOnMutex (layout_of w) z (mutex_of call) × Stands (operation_of call) (first_row call) (cell_place (layout_of w) (mutex_of call)) (card a) z d
 
 abbrev pub HasEnded : Words → Pass Live → Call → Reply → Card → Type 0
-HasEnded w a call x d = Called (card a) (cell_place (layout_of w) (mutex_of call)) ((operation_of call, x) ∷ []) d × IsRaced (operation_of call) x (card a) d × KnowsMoreAt (card a) (cell_place (layout_of w) (mutex_of call)) d
+HasEnded w a call x d = Called (card a) (cell_place (layout_of w) (mutex_of call)) ((operation_of call, x) ∷ []) d × IsRaced (operation_of call) x (card a) (cell_place (layout_of w) (mutex_of call)) d × KnowsMoreAt (card a) (cell_place (layout_of w) (mutex_of call)) d
 
 module _ (w : Words) (a : Pass Live) (call : Call) (r : Running) (u : IsUnderWay w a call r) where
   abbrev place : ℕ

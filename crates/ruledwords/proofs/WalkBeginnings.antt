@@ -1,55 +1,33 @@
 -- What a dead thread's pass knows as its walk begins: the word of a cell of a mutex that it owns, and a list that is no longer than the walk goes.
-use Rattle.std.proofs.Common.{Bool, true, false, ◌≡◌, ◌≢◌, ◌⊎◌, inl, inr, ⊎_elim, ℕ, zero, suc, ◌+◌, ◌^◌, ◌<◌, ◌≤◌, ◌==◌, Option, Some, None, List, [], ◌∷◌, ◌++◌, length, refl, sym, ap, ◌∙◌, subst, arith, append-nil, append_assoc, eqb-true, eq-eqb}
+use Rattle.std.proofs.Common.{Bool, true, false, ◌≡◌, ◌≢◌, ◌⊎◌, inl, inr, ⊎_elim, ℕ, zero, suc, ◌+◌, ◌^◌, ◌<◌, ◌≤◌, ◌==◌, Option, Some, None, List, [], ◌∷◌, ◌++◌, length, refl, sym, ap, ◌∙◌, subst, arith, append-nil, eqb-true}
 use Rattle.std.specs.Prelude.{if◌then◌else◌, nat_lt}
-use Rattle.std.proofs.lemmas.Bool.{eqb-false}
 use Rattle.std.proofs.lemmas.Bool.Decides.{nat_tests}
-use mathlib.Core.Logic.{dite}
-use native.Mathlib.Decide.{ℕ_discrete}
 use Rattle.lockword.specs.Cells.{fields_of, word_of}
-use Rattle.lockword.specs.declared.reply.Reply.{Reply}
-use Rattle.lockword.specs.declared.reply.Reply.TheVariants.{OK}
 use Rattle.lockword.specs.Coding.{word_of-fields_of}
-use Rattle.keys.specs.declared.access.Access.TheVariants.{Exchange, Load}
-use Rattle.keys.specs.declared.access.Answer.{Answer}
-use Rattle.keys.specs.declared.access.Answer.TheVariants.{Value, Exchanged, Changed, Count}
 use Rattle.keys.specs.declared.object.Object.{Object}
-use Rattle.keys.specs.declared.point.Operation.TheVariants.{Death}
 use Rattle.keys.specs.declared.point.Point.{Point}
-use Rattle.keys.specs.declared.point.Progress.{Progress}
-use Rattle.keys.specs.declared.point.Progress.TheVariants.{Goes, Returns}
-use Rattle.keys.specs.Accesses.{address_of, answer_at}
-use Rattle.keys.specs.Chains.{AreDifferent, IsAmong, IsApart, Leads, address_sum, without}
+use Rattle.keys.specs.Chains.{AreDifferent, IsAmong, IsApart, address_sum, without}
 use Rattle.keys.specs.Histories.{is_thread}
-use Rattle.keys.specs.Layouts.{Layout', cell_place, entry_place, head_place, place_in, words_of}
+use Rattle.keys.specs.Layouts.{Layout', cell_place, place_in}
 use Rattle.keys.specs.Objects.{fresh, object_of, owner_of, Run}
 use Rattle.keys.proofs.Objects.{run_same, run_split}
-use Rattle.exitwalk.specs.declared.row.Part.{Part}
-use Rattle.exitwalk.specs.declared.row.Row.{Row}
-use Rattle.exitwalk.specs.declared.row.Row.TheVariants.{LoadFirst, LoadOffset, LoadPending, LoadNext, LoadWord, Mark, WakeOne, Ended}
+use Rattle.exitwalk.specs.declared.row.Row.TheVariants.{LoadFirst}
 use Rattle.exitwalk.specs.Standings.{Standing}
-use Rattle.exitwalk.specs.Walks.{access_of, after_mark, after_miss, goes_on, looks, marked_word, moved, point_of, progress_at, row_access, row_after, IsGoing, Knows}
-use Rattle.exitwalk.proofs.Steps.{steps}
 use Rattle.mutex.specs.WholeLists.{head_in, entry_in}
 use Rattle.robustlist.proofs.Places.{without-among}
-use Rattle.mutex.proofs.Addresses.{again, head_word_again, same_entry}
+use Rattle.mutex.proofs.Addresses.{head_word_again, same_entry}
 use Rattle.mutex.proofs.OwnPlaces.{without_is_apart}
 use Rattle.ruledwords.specs.declared.card.Card.{Card}
-use Rattle.ruledwords.specs.Cards.{at, mark_at, value_at}
-use Rattle.ruledwords.specs.Seen.{by, count_held, held, held_after, holds, Leaves, Sees}
-use Rattle.ruledwords.specs.Calls.{count_after}
-use Rattle.ruledwords.specs.Deaths.{deaths, remembering, FoundAt, HasWalked, IsCount, IsLeftAt, IsReaped, IsWalking, IsWake, Marks, MindsWaiters, SawThere, TellsDeath, WasSeen}
+use Rattle.ruledwords.specs.Cards.{at, value_at}
+use Rattle.ruledwords.specs.Seen.{by, count_held, held, held_after, holds}
+use Rattle.ruledwords.specs.Deaths.{IsLeftAt, IsWalking}
 use Rattle.ruledwords.specs.Lists.{known, or_zero, IsMortal}
 use Rattle.ruledwords.specs.Looks.{Finds}
 use Rattle.ruledwords.specs.OwnWords.{owns_in, KnowsOwn}
 use Rattle.ruledwords.specs.Passes.{IsCardOf}
-use Rattle.ruledwords.specs.Walks.{LeftAt, LeftIn, IsTreated, OwnsNothing}
-use Rattle.ruledwords.proofs.Cards.{still_card}
-use Rattle.ruledwords.proofs.Held.{held_append, held_sees, owner_held}
-use Rattle.ruledwords.proofs.Keepers.{inside, other_cell}
-use Rattle.ruledwords.proofs.Lists.{by_append, mark_put}
-use Rattle.ruledwords.proofs.Marking.{runs}
+use Rattle.ruledwords.proofs.Held.{owner_held}
+use Rattle.ruledwords.proofs.Lists.{by_append}
 use Rattle.ruledwords.proofs.Steps.{is_owner_by, others_run_keep}
-use Rattle.ruledwords.proofs.Walking.{forward_arrives, goes_on_arrives, looks_arrives, next_arrives, part_same, part_then}
 
 -- ---- the word of a cell, as a thread that owns the mutex finds it
 

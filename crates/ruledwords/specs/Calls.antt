@@ -1,6 +1,6 @@
 -- The accesses of a call, on what its pass knows.
-use Rattle.std.specs.Prelude.{◌≡◌, ℕ, ◌+◌, ◌-◌, ◌^◌, ◌<◌, ◌≤◌, Bool, true, Option, Some, None, List, [], ◌∷◌}
-use Rattle.lockword.specs.Cells.{fields_of}
+use Rattle.std.specs.Prelude.{◌≡◌, ℕ, ◌+◌, ◌-◌, ◌^◌, ◌<◌, ◌≤◌, Bool, true, Option, Some, None, List, [], ◌∷◌, length}
+use Rattle.lockword.specs.Cells.{fields_of, word_of}
 use Rattle.lockword.specs.declared.reply.Reply.{Reply}
 use Rattle.lockword.specs.declared.reply.Reply.TheVariants.{OK, EOWNERDEAD}
 use Rattle.keys.specs.declared.access.Access.{Access}
@@ -18,6 +18,8 @@ use Rattle.facts.specs.Lives.{Act}
 use Rattle.mutex.specs.declared.row.Row.{Row}
 use Rattle.mutex.specs.declared.row.Row.TheVariants as row
 use Rattle.mutex.specs.declared.row.Led.{Led}
+use Rattle.mutex.specs.declared.lock.LockRow.TheVariants as lock
+use Rattle.mutex.specs.declared.try_lock.TryLockRow.TheVariants as try
 use Rattle.mutex.specs.declared.phase.Phase.{Phase}
 use Rattle.mutex.specs.declared.phase.Phase.TheVariants as phase
 use Rattle.mutex.specs.declared.unlock.UnlockRow.TheVariants.{Release}
@@ -29,7 +31,7 @@ use Rattle.mutex.specs.Whole.{IsUnderWay}
 use Rattle.mutex.specs.Steps.{Expects-prop, Knows-prop}
 use Rattle.ruledwords.specs.declared.card.Card.{Card}
 use Rattle.ruledwords.specs.Cards.{at, value_at}
-use Rattle.ruledwords.specs.Changes.{KnowsMoreAt, Writes}
+use Rattle.ruledwords.specs.Changes.{changes_at, left_by, made_by_others, KnowsMoreAt, Writes}
 use Rattle.ruledwords.specs.Seen.{holds, Sees, Called}
 use Rattle.ruledwords.specs.OwnWords.{IsOwn, KnowsOwn}
 use Rattle.ruledwords.specs.Rules.{Sat, At, Turns}
@@ -118,7 +120,14 @@ abbrev pub acts : Operation → Option Reply → List Act
 acts op None = []
 acts op (Some x) = (op, x) ∷ []
 
--- a call on the mutex whose cell is at q, begun at the card c, stands at the program p, and its pass has the card d: it is decided as its row tells, of its exchanges those failed that its answers tell, and it has come to know of no other word's changes
+-- an exchange of the cell at q is to find the word that the changes leave of which its thread knows
+abbrev pub ExpectsKnown : Row → ℕ → Card → Type 0
+ExpectsKnown (row.Lock (lock.Take seen)) q d = left_by (changes_at d.changes q) ≡ word_of seen
+ExpectsKnown (row.Lock (lock.SetWaiters seen)) q d = left_by (changes_at d.changes q) ≡ word_of seen
+ExpectsKnown (row.TryLock (try.Take seen failed)) q d = left_by (changes_at d.changes q) ≡ word_of seen
+ExpectsKnown r q d = Unit {0}
+
+-- a call on the mutex whose cell is at q, begun at the card c, stands at the program p, and its pass has the card d: it is decided as its row tells; of its exchanges those failed that its answers tell, and others have changed the cell as often at least; it has come to know of no other word's changes
 pub record Stands (op : Operation) (first : Row) (q : ℕ) (c : Card) (p : Standing) (d : Card) : Type 0 where
   pub of : IsOf op p.row
   pub called : Called c q (acts op (decided p.row)) d
@@ -126,6 +135,8 @@ pub record Stands (op : Operation) (first : Row) (q : ℕ) (c : Card) (p : Stand
   pub reaches : reached c.thread first answers ≡ p.row
   pub misses : d.misses ≡ c.misses + changes answers
   pub knows : KnowsMoreAt c q d
+  pub expects : ExpectsKnown p.row q d
+  pub others : changes answers ≤ length (made_by_others c.thread knows.here.0)
 
 pub ready_prop : (p : Standing) (c : Card) → IsProp (Ready p c)
 ready_prop p c = Prim.hlevel (props, Expects-prop, Knows-prop)

@@ -1,5 +1,5 @@
 -- Which words the cells of mutexes and the counters of condition variables had, one after the other, and who wrote each.
-use Rattle.std.specs.Prelude.{◌≡◌, ◌≢◌, ℕ, zero, suc, ◌<◌, ◌==◌, List, [], ◌∷◌, ◌++◌, filter, length, map, slice_index, if◌then◌else◌}
+use Rattle.std.specs.Prelude.{◌≡◌, ◌≢◌, ℕ, zero, suc, ◌<◌, ◌≤◌, ◌==◌, not, List, [], ◌∷◌, ◌++◌, filter, length, map, slice_index, if◌then◌else◌}
 use mathlib.Core.Option.{some}
 use mathlib.Core.List.{IsPrefix}
 use lib.ListN.{get_elem?}
@@ -26,6 +26,10 @@ put_changes (x ∷ xs) (suc p) y = x ∷ put_changes xs p y
 -- those that thread t made
 abbrev pub made_by : ℕ → List Change → List Change
 made_by t xs = filter (λ (x : Change). x.thread == t) xs
+
+-- those that other threads than t made
+abbrev pub made_by_others : ℕ → List Change → List Change
+made_by_others t xs = filter (λ (x : Change). not (x.thread == t)) xs
 
 -- the word that they leave of the word w
 abbrev pub left_of : ℕ → List Change → ℕ
@@ -97,3 +101,9 @@ pub record KnowsMoreAt (c : Card) (p : ℕ) (d : Card) : Type 0 where
 pub record Loaded (c : Card) (p : ℕ) (d : Card) : Type 0 where
   pub nothing : ChangedNothing c p d
   pub left : left_by (changes_at d.changes p) ≡ d.counted
+
+-- behind what a thread knew of the changes of the word at p it has come to know of n changes by others at least
+pub record OthersChanged (n : ℕ) (c : Card) (p : ℕ) (d : Card) : Type 0 where
+  pub since : List Change
+  pub grows : changes_at d.changes p ≡ changes_at c.changes p ++ since
+  pub others : n ≤ length (made_by_others c.thread since)

@@ -28,7 +28,7 @@ use Rattle.ruledwords.specs.Seen.{Called, Died, held}
 use Rattle.ruledwords.specs.Passes.{card, layout_of, IsLive, IsDying}
 use Rattle.ruledwords.specs.Calls.{IsOnMutex}
 use Rattle.ruledwords.specs.Cards.{at}
-use Rattle.ruledwords.specs.Changes.{ChangedOnce}
+use Rattle.ruledwords.specs.Changes.{ChangedOnce, OthersChanged}
 use Rattle.ruledwords.specs.Releases.{IsReleasing}
 use Rattle.ruledwords.specs.Turns.{running_program, GoesOn, HasDied, HasSeenTheSame, IsIn, IsRunningOf}
 
@@ -40,9 +40,9 @@ Takes k m op c r d = MatchBool (nat_le held_limit (held c)) ((r ≡ XHELD) × (d
 abbrev pub DiesTaking : Layout' → ℕ → Operation → Card → Card → Type 0
 DiesTaking k m op c d = (nat_le held_limit (held c) ≡ false) × Died c (cell_place k m) op d
 
--- a trylock of mutex m gives up only after four exchanges that each found a changed cell, as the pass counts them
+-- a trylock of mutex m gives up only after four exchanges that each found a changed cell, as the pass counts them, and as often others have changed it
 abbrev pub Tried : Words → ℕ → Pass Live → Outcome → Type 0
-Tried w m a (outcome.Lives b r) = IsLive w b × Takes (layout_of w) m TryLock (card a) r (card b) × (r ≡ XRACED → (card a).misses + 4 ≤ (card b).misses)
+Tried w m a (outcome.Lives b r) = IsLive w b × Takes (layout_of w) m TryLock (card a) r (card b) × (r ≡ XRACED → ((card a).misses + 4 ≤ (card b).misses) × OthersChanged 4 (card a) (cell_place (layout_of w) m) (card b))
 Tried w m a (outcome.Dead d) = IsDying w d × DiesTaking (layout_of w) m TryLock (card a) (card d)
 
 -- a declaration that mutex m is consistent: the reply is that of its point. So it is OK, EINVAL or EPERM, as the thread owned the mutex and found it inconsistent, owned it, or didn't own it

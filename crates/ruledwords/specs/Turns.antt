@@ -37,7 +37,7 @@ use Rattle.ruledwords.specs.Rules.{card_of, IsOne}
 use Rattle.ruledwords.specs.Passes.{card, layout_of, IsCardOf, IsPassOf, IsLive, IsDying}
 use Rattle.ruledwords.specs.Calls.{IsOnMutex, Made, OwnKept, Ready, Stands, most, row_in, standing_of}
 use Rattle.ruledwords.specs.Lists.{known, IsInCall}
-use Rattle.ruledwords.specs.Changes.{KnowsMoreAt}
+use Rattle.ruledwords.specs.Changes.{KnowsMoreAt, OthersChanged}
 use Rattle.ruledwords.specs.Looks.{KnowsTheSame}
 use Rattle.ruledwords.specs.OwnWords.{own_after}
 
@@ -153,15 +153,15 @@ Unmoved w r r' =
     IsRunningOf w r' × (running_call r' ≡ running_call r) × KnowsTheSame (card (running_pass r)) (card (running_pass r')) × ¬ IsOneStep (access_in r)
     × ((m : ℕ) → IsOnMutex (layout_of w) (running_program r) m → KnowsMoreAt (card (running_pass r)) (cell_place (layout_of w) m) (card (running_pass r')))
 
--- a trylock gives up only after four exchanges that each found a changed cell, as the pass counts them
-abbrev pub IsRaced : Operation → Reply → Card → Card → Type 0
-IsRaced TryLock XRACED c d = c.misses + 4 ≤ d.misses
-IsRaced op x c d = Unit {0}
+-- a trylock of the mutex whose cell is at p gives up only after four exchanges that each found a changed cell, as the pass counts them; and others have changed it as often, as the record of its changes tells
+abbrev pub IsRaced : Operation → Reply → Card → ℕ → Card → Type 0
+IsRaced TryLock XRACED c p d = (c.misses + 4 ≤ d.misses) × OthersChanged 4 c p d
+IsRaced op x c p d = Unit {0}
 
 -- a call that began at the pass a is under way still, or has ended: then its pass has seen its mutex's history up to its one point, which has the reply, and others' points before
 abbrev pub GoesOn : Words → Pass Live → Call → Turn → Type 0
 GoesOn w a call (Goes r) = IsUnderWay w a call r
-GoesOn w a call (Lives b x) = IsLive w b × Called (card a) (cell_place (layout_of w) (mutex_of call)) ((operation_of call, x) ∷ []) (card b) × IsRaced (operation_of call) x (card a) (card b) × KnowsMoreAt (card a) (cell_place (layout_of w) (mutex_of call)) (card b)
+GoesOn w a call (Lives b x) = IsLive w b × Called (card a) (cell_place (layout_of w) (mutex_of call)) ((operation_of call, x) ∷ []) (card b) × IsRaced (operation_of call) x (card a) (cell_place (layout_of w) (mutex_of call)) (card b) × KnowsMoreAt (card a) (cell_place (layout_of w) (mutex_of call)) (card b)
 
 -- a thread died in a call that began at the pass a
 abbrev pub HasDied : Words → Pass Live → Call → Pass Dead → Type 0

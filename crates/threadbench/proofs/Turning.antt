@@ -28,7 +28,8 @@ use Rattle.ruledwords.specs.Seen.{held}
 use Rattle.ruledwords.specs.Passes.{card, layout_of, IsDying}
 use Rattle.ruledwords.specs.Calls.{IsOnMutex, Stands, row_in, standing_of}
 use Rattle.ruledwords.specs.Stretches.{Stretches, stops_stretching}
-use Rattle.ruledwords.specs.Turns.{running_pass, running_program, HasDied, HasSeenTheSame, IsDecided, IsRunningOf, IsTurnOf, IsUnderWay, Keeps, KeepsDecided, Unmoved}
+use Rattle.ruledwords.specs.Turns.{running_call, running_pass, running_program, HasDied, HasSeenTheSame, IsDecided, IsRunningOf, IsTurnOf, IsUnderWay, Keeps, KeepsDecided, Unmoved}
+use Rattle.ruledwords.proofs.Exchanges.{expects_at_section}
 use Rattle.ruledwords.proofs.Noted.{seen_noted, seen_on, still_stands}
 use Rattle.threadbench.specs.Calls.{Locked, Paid, RanOut, RanOutDecided, Runs, stretch_of}
 use Rattle.threadbench.proofs.Beginnings.{picks_false}
@@ -40,7 +41,8 @@ still_under_way w r r' a call m u =
       m.0,
       subst (λ (q : Standing). IsOnMutex (layout_of w) q (mutex_of call)) (sym same) u.1,
       subst (λ (z : Standing). Stands (operation_of call) (first_row call) (cell_place (layout_of w) (mutex_of call)) (card a) z (card r'.pass)) (sym same)
-          (still_stands (operation_of call) (first_row call) (cell_place (layout_of w) (mutex_of call)) (card a) (running_program r) (card r.pass) (card r'.pass) (seen_noted (card r.pass) (card r'.pass) m.2) (m.4 (mutex_of call) u.1) u.2),
+          (still_stands (operation_of call) (first_row call) (cell_place (layout_of w) (mutex_of call)) (card a) (running_program r) (card r.pass) (card r'.pass) (seen_noted (card r.pass) (card r'.pass) m.2) (m.4 (mutex_of call) u.1)
+          (expects_at_section (running_call r) (running_call r).phase (cell_place (layout_of w) (mutex_of call)) (card r'.pass) m.3) u.2),
     )
 
 -- and decided as it was

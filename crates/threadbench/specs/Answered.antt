@@ -15,6 +15,7 @@ use Rattle.ruledwords.specs.declared.pass.Pass.{Pass}
 use Rattle.ruledwords.specs.declared.pass.Live.{Live}
 use Rattle.ruledwords.specs.Outcomes.{Takes, DiesTaking}
 use Rattle.ruledwords.specs.Passes.{card, layout_of, IsLive, IsDying, IsPassOf}
+use Rattle.ruledwords.specs.Changes.{OthersChanged}
 use Rattle.ruledwords.specs.Seen.{Called, Died}
 use Rattle.threadbench.specs.declared.job.WorkerPass.{WorkerPass}
 use Rattle.threadbench.specs.declared.job.WorkerPass.TheVariants.{Lives, Reaped}
@@ -23,7 +24,7 @@ use Rattle.threadbench.specs.Conditions.{CondReplied, CondDies}
 -- a call of the thread whose card is c replied so, and left the card d: its point, if it has one, is the last that the thread has seen of the mutex. Of a wait that took its mutex again it is the second of two
 abbrev pub Replied : Layout' → Card → Op → Reply → Card → Type 0
 Replied k c (OnMutex (Lock m)) r d = Takes k m operation.Lock c r d
-Replied k c (OnMutex (TryLock m)) r d = Takes k m operation.TryLock c r d × (r ≡ XRACED → c.misses + 4 ≤ d.misses)
+Replied k c (OnMutex (TryLock m)) r d = Takes k m operation.TryLock c r d × (r ≡ XRACED → (c.misses + 4 ≤ d.misses) × OthersChanged 4 c (cell_place k m) d)
 Replied k c (OnMutex (Unlock m)) r d = Called c (cell_place k m) ((operation.Unlock, r) ∷ []) d
 Replied k c (OnMutex (Consistent m)) r d = Called c (cell_place k m) ((operation.Consistent, r) ∷ []) d
 Replied k c (OnCondition call) r d = CondReplied k c call r d
