@@ -1,6 +1,5 @@
 -- A call, access by access.
-use Rattle.std.proofs.Common.{Bool, true, false, ◌≡◌, ◌≢◌, ℕ, ◌+◌, ◌^◌, ◌<◌, ◌≤◌, ◌==◌, Option, Some, None, List, [], ◌∷◌, ◌++◌, length, refl, sym, ap, ◌∙◌, subst, arith}
-use Rattle.std.specs.Prelude.{if◌then◌else◌}
+use Rattle.std.proofs.Common.{Bool, true, false, ◌≡◌, ◌≢◌, ℕ, ◌+◌, ◌^◌, ◌<◌, ◌≤◌, Option, Some, None, List, [], ◌∷◌, ◌++◌, length, refl, sym, ap, ◌∙◌, subst, arith}
 use Rattle.lockword.specs.Cells.{fields_of}
 use Rattle.lockword.specs.declared.reply.Reply.{Reply}
 use Rattle.lockword.specs.declared.reply.Reply.TheVariants.{OK, EOWNERDEAD, XRACED}
@@ -22,12 +21,10 @@ use Rattle.mutex.specs.Steps.{IsStep, Minds, Tells, rank}
 use Rattle.mutex.proofs.Races.{raced}
 use Rattle.mutex.proofs.Steps.{right_step, minds, undecided, of_going, undecided_going}
 use Rattle.ruledwords.specs.declared.card.Card.{Card}
-use Rattle.ruledwords.specs.declared.outcome.Wakes.TheVariants.{Nobody, One, All}
 use Rattle.ruledwords.specs.Cards.{at}
 use Rattle.ruledwords.specs.Seen.{held, Sees, Called}
 use Rattle.ruledwords.specs.Changes.{change_of, made_by_others, OthersChanged}
 use Rattle.ruledwords.specs.Calls.{address_at, acts, ExpectsKnown, Ready, Made, Stands, led_at, count_by, count_after, most, most_of}
-use Rattle.ruledwords.specs.Outcomes.{wakes_of}
 use Rattle.ruledwords.proofs.Changes.{left_behind, more_by, more_on, more_yet, others_changed, others_on}
 use Rattle.ruledwords.proofs.Exchanges.{expects_next, failed}
 use Rattle.ruledwords.proofs.Cards.{run_at, saw_nothing, saw_more}
@@ -180,15 +177,3 @@ called op first q c p d r s is = subst (λ (z : Option Reply). Called c q (acts 
 
 pub raced_four : (op : Operation) (q : ℕ) (c : Card) (p : Standing) (d : Card) → Stands op (row.TryLock try.Load) q c p d → p.row ≡ row.Ended XRACED → (c.misses + 4 ≤ d.misses) × OthersChanged 4 c q d
 raced_four op q c p d s is = let four = raced c.thread s.answers (s.reaches ∙ is) in let m = s.misses in ((omega arith), others_changed 4 (changes s.answers) c q d s.knows four s.others)
-
-pub wakes_nobody : (v : ℕ) → (fields_of v).waiters ≡ false → Nobody ≡ wakes_of v
-wakes_nobody v off = sym (ap (λ (b : Bool). if b then (if (fields_of v).died then All else One) else Nobody) off)
-
-pub wakes_some : (v : ℕ) (n : ℕ) → (fields_of v).waiters ≡ true → n ≡ (if (fields_of v).died then 64 else 1) → (b : Bool) → (n == 64) ≡ b → (if b then All else One) ≡ wakes_of v
-wakes_some v n on is b test = sym (ap (λ (b : Bool). if b then (if (fields_of v).died then All else One) else Nobody) on ∙ go (fields_of v).died is b test)
-  where
-    go : (died : Bool) → n ≡ (if died then 64 else 1) → (b : Bool) → (n == 64) ≡ b → (if died then All else One) ≡ (if b then All else One)
-    go true is true test = refl
-    go false is false test = refl
-    go true is false test = let bad : true ≡ false = sym (ap (λ (z : ℕ). z == 64) is) ∙ test in absurd (cc bad)
-    go false is true test = let bad : false ≡ true = sym (ap (λ (z : ℕ). z == 64) is) ∙ test in absurd (cc bad)
