@@ -7,6 +7,8 @@
 #[cfg(test)]
 mod cases;
 #[cfg(test)]
+mod layouts;
+#[cfg(test)]
 mod mutexes;
 #[cfg(test)]
 mod processes;

@@ -13,10 +13,10 @@ const UNUSABLE: u64 = 0x1_0000_0000;
 /// An id, and whether a thread has it.
 static IDS: [(u8, bool); 5] = [(0, false), (1, true), (64, true), (65, false), (255, false)];
 
-/// Whether there is a thread with this id, if it should be, and it tells the id.
+/// Whether there is a thread with this id, if it should be, and it tells the id, and its place among all threads.
 fn is_id(id: u8, there: bool) -> bool {
     match Tid::new(id) {
-        Some(thread) => there && thread.get() == id,
+        Some(thread) => there && thread.get() == id && thread.as_index() + 1 == usize::from(id),
         None => !there,
     }
 }

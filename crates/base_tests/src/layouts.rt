@@ -1,0 +1,169 @@
+//! The places of a small layout, the first fault of one that can't be, and each printed text of that; keys and buckets.
+
+use crate::cases::all_hold;
+use keys::{Key, Layout, LayoutFault, NoMem, bucket_of, key_of, places_differ, trims_are_right};
+use lockword::Tid;
+use std::alloc::Global;
+use std::test::Fail;
+
+/// What has a place.
+#[derive(Clone, Copy)]
+enum Placed {
+    Head(u8),
+    Cell(u16),
+    Entry(u16),
+    Counter(u16),
+}
+
+/// Where it stands in a layout of two threads, two mutexes and a condition variable of the second one.
+static PLACES: [(Placed, u64); 7] = [
+    (Placed::Head(1), 1),
+    (Placed::Head(2), 4),
+    (Placed::Cell(0), 7),
+    (Placed::Cell(1), 10),
+    (Placed::Entry(0), 8),
+    (Placed::Entry(1), 11),
+    (Placed::Counter(0), 13),
+];
+
+/// The place of a thread's head; None where there is no such thread.
+fn head(layout: &Layout, id: u8) -> Option<u64> {
+    let thread = Tid::new(id)?;
+    if thread.get() <= layout.threads() {
+        Some(layout.head(thread))
+    } else {
+        None
+    }
+}
+
+fn place_of(layout: &Layout, placed: Placed) -> Option<u64> {
+    match placed {
+        Placed::Head(id) => head(layout, id),
+        Placed::Cell(mutex) if mutex < layout.mutexes() => Some(layout.cell(mutex)),
+        Placed::Entry(mutex) if mutex < layout.mutexes() => Some(layout.entry(mutex)),
+        Placed::Counter(number) if number < layout.conditions() => Some(layout.counter(number)),
+        _ => None,
+    }
+}
+
+fn first_wrong_place(layout: &Layout) -> Option<usize> {
+    for (place, (placed, at)) in PLACES.iter().enumerate() {
+        if place_of(layout, *placed) != Some(*at) {
+            return Some(place);
+        }
+    }
+    None
+}
+
+/// A place of that layout, and the mutex whose cell stands there.
+static CELLS: [(u64, Option<u16>); 5] = [
+    (7, Some(0)),
+    (10, Some(1)),
+    (4, None),
+    (8, None),
+    (13, None),
+];
+
+fn first_wrong_cell(layout: &Layout) -> Option<usize> {
+    for (place, (at, mutex)) in CELLS.iter().enumerate() {
+        if layout.mutex_of(*at) != *mutex {
+            return Some(place);
+        }
+    }
+    None
+}
+
+/// Whether there are so many threads, mutexes, condition variables and words, and the first condition variable keeps this mutex.
+fn has_counts(layout: &Layout, counts: [usize; 4], mutex: u16) -> bool {
+    let [threads, mutexes, conditions, words] = counts;
+    usize::from(layout.threads()) == threads
+        && usize::from(layout.mutexes()) == mutexes
+        && usize::from(layout.conditions()) == conditions
+        && layout.words() == words
+        && 0 < layout.conditions()
+        && layout.mutex_of_condition(0) == mutex
+}
+
+#[test]
+fn a_small_layout_has_its_places(rt: HostRuntime) -> Result<(), Fail> {
+    let layout = Layout::new(2, 2, &[1])?;
+    assert!(rt; has_counts(&layout, [2, 2, 1, 14], 1));
+    all_hold(&rt, first_wrong_place(&layout));
+    all_hold(&rt, first_wrong_cell(&layout));
+    places_differ();
+    trims_are_right();
+    Ok(())
+}
+
+/// Threads, mutexes and the mutexes of condition variables, and the fault by which there is no layout of them.
+static FAULTS: [(u8, u16, &[u16], Option<LayoutFault>); 8] = [
+    (0, 0, &[0; 257], Some(LayoutFault::Threads)),
+    (65, 4097, &[0; 257], Some(LayoutFault::Threads)),
+    (64, 0, &[0; 257], Some(LayoutFault::Mutexes)),
+    (1, 4097, &[0; 257], Some(LayoutFault::Mutexes)),
+    (1, 1, &[0; 257], Some(LayoutFault::Conditions)),
+    (1, 1, &[0, 1], Some(LayoutFault::Conditions)),
+    (1, 1, &[], None),
+    (64, 4096, &[4095; 256], None),
+];
+
+fn fault(threads: u8, mutexes: u16, conditions: &[u16]) -> Option<LayoutFault> {
+    Layout::new(threads, mutexes, conditions).err()
+}
+
+fn first_wrong_fault() -> Option<usize> {
+    for (place, (threads, mutexes, conditions, want)) in FAULTS.iter().enumerate() {
+        if fault(*threads, *mutexes, *conditions) != *want {
+            return Some(place);
+        }
+    }
+    None
+}
+
+#[test]
+fn the_first_fault_is_told(rt: HostRuntime) {
+    all_hold(&rt, first_wrong_fault());
+}
+
+static TEXTS: [(LayoutFault, &str); 6] = [
+    (LayoutFault::Threads, "not 1 to 64 threads"),
+    (LayoutFault::Mutexes, "not 1 to 4096 mutexes"),
+    (
+        LayoutFault::Conditions,
+        "more than 256 condition variables, or one of no such mutex",
+    ),
+    (LayoutFault::Processes, "not 1 to 8 processes"),
+    (LayoutFault::Bases, "a base above 1000000000"),
+    (LayoutFault::Members, "a thread of no such process"),
+];
+
+fn is_printed(alloc: Global, fault: LayoutFault, text: &str) -> bool {
+    match fault.to_string(alloc) {
+        Ok(printed) => printed.as_str() == text,
+        Err(_) => false,
+    }
+}
+
+fn first_wrong_text(alloc: Global) -> Option<usize> {
+    for (place, (fault, text)) in TEXTS.iter().enumerate() {
+        if !is_printed(alloc, *fault, *text) {
+            return Some(place);
+        }
+    }
+    None
+}
+
+#[test]
+fn faults_are_printed(rt: HostRuntime) -> Result<(), Fail> {
+    all_hold(&rt, first_wrong_text(rt.alloc()));
+    let printed = NoMem.to_string(rt.alloc())?;
+    assert!(rt; printed.as_str() == "out of memory");
+    Ok(())
+}
+
+#[test]
+fn keys_and_buckets(rt: HostRuntime) {
+    assert!(rt; key_of(20) == Key(20));
+    assert!(rt; bucket_of(Key(20), 16) == 4);
+    assert!(rt; bucket_of(Key(u64::MAX), 64) == 63);
+}
