@@ -4,6 +4,8 @@
 #[cfg(test)]
 mod conditions;
 #[cfg(test)]
+mod crowds;
+#[cfg(test)]
 mod dying;
 #[cfg(test)]
 mod gates;

@@ -8,11 +8,13 @@ use lockword::Reply::{self, OK};
 use mutex::Call::{Lock, Unlock};
 use ruledwords::{Live, Never, Outcome, Owed, Pass, Released};
 use std::alloc::Global;
+use std::fs;
+use std::rt::Files;
 use std::sync::Wait;
 use std::sync::atomic::{AtomicU64, Ordering};
 use std::test::Fail;
 use std::thread::{self, Threads};
-use std::time::Clock;
+use std::time::{Clock, Duration};
 use thread_fixtures::{Asked, Left, Team, makes, settles, waits_for};
 use threadbench::Bench;
 
@@ -172,5 +174,91 @@ fn a_sleeper_makes_no_access(rt: HostRuntime) -> Result<(), Fail> {
         }
     }
     assert!(rt; slept >= 10);
+    Ok(())
+}
+
+/// How long an owner keeps each of its mutexes, in milliseconds.
+const KEPT: u64 = 500;
+
+/// The processor time that the calling thread has taken, in ticks of ten milliseconds, its own and the system's for it (proc(5), `stat`).
+fn ticks<R: Files + AllocGlobal>(rt: &R) -> Option<u64> {
+    let text = fs::read_to_string(rt, "/proc/thread-self/stat").ok()?;
+    let (_, fields) = text.as_str().rsplit_once(')')?;
+    let mut times = fields.split(' ').skip(12);
+    let user = times.next()?.parse::<u64>().ok()?;
+    let system = times.next()?.parse::<u64>().ok()?;
+    user.checked_add(system)
+}
+
+/// The owner's part: it frees its two mutexes, one after the other, each after some time. Whether both unlocks were told OK.
+fn frees_both<R: Wait + Clock>(rt: &R, bench: &Bench, first: Pass<Live>) -> bool
+    requires { IsLive bench.now first }
+{
+    let mut pass = first;
+    for mutex in 0..2_u16 {
+        thread::sleep(rt, Duration::from_millis(KEPT));
+        match makes(rt, bench, pass, OnMutex(Unlock(mutex)), &mut Never) {
+            Some((after, OK)) => pass = after,
+            _ => return false,
+        }
+    }
+    true
+}
+
+/// The ticks that a thread took to lock two mutexes, one after the other; None where not both locks were told OK.
+fn ticks_to_lock_both<R: Wait + Files + AllocGlobal>(
+    rt: &R,
+    bench: &Bench,
+    pass: Pass<Live>,
+) -> Option<u64>
+    requires { IsLive bench.now pass }
+{
+    let before = ticks(rt)?;
+    let (pass, taken) = makes(rt, bench, pass, OnMutex(Lock(0)), &mut Never)?;
+    let (_, taken_next) = makes(rt, bench, pass, OnMutex(Lock(1)), &mut Never)?;
+    let after = ticks(rt)?;
+    if taken == OK && taken_next == OK {
+        after.checked_sub(before)
+    } else {
+        None
+    }
+}
+
+/// A thread that sleeps takes no processor time: neither where it has never slept before, nor where it was woken before. It sleeps for a second in all, of which it may take a tenth.
+#[test]
+fn a_sleeper_takes_no_time(rt: HostRuntime) -> Result<(), Fail> {
+    let Team {
+        bench,
+        first,
+        second,
+        third: _,
+        fourth: _,
+        fifth: _,
+    } = Team::new(rt.alloc(), Layout::new(5, 2, &[])?, &[])?;
+    let owned = makes(&rt, &bench, first, OnMutex(Lock(0)), &mut Never).and_then(|made| makes(
+        &rt,
+        &bench,
+        made.0,
+        OnMutex(Lock(1)),
+        &mut Never,
+    ));
+    let Some((first, taken)) = owned else {
+        assert!(rt; false);
+        return Ok(());
+    };
+    assert!(rt; taken == OK);
+    let shared = &bench;
+    let host = &rt;
+    let (freed, took) = thread::join(
+        &rt,
+        || -> bool
+            requires { IsLive shared.now first }
+        { frees_both(host, shared, first) },
+        || -> Option<u64>
+            requires { IsLive shared.now second }
+        { ticks_to_lock_both(host, shared, second) },
+    );
+    assert!(rt; freed);
+    assert!(rt; took.is_some_and(|ticks| ticks <= 10));
     Ok(())
 }
