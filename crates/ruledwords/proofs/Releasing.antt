@@ -25,8 +25,6 @@ use Rattle.mutex.specs.declared.phase.Phase.TheVariants.{Announcing, AtCell, Lin
 use Rattle.mutex.specs.declared.row.Row.{Row}
 use Rattle.mutex.specs.declared.row.Row.TheVariants as row
 use Rattle.mutex.specs.declared.unlock.UnlockRow.TheVariants as unlock
-use Rattle.keys.specs.declared.object.Object.{Object}
-use Rattle.keys.specs.Objects.{fresh, Run}
 use Rattle.mutex.specs.Laws.{decided}
 use Rattle.mutex.specs.Programs.{access_of, led}
 use Rattle.mutex.specs.Standings.{Standing, Whole}
@@ -43,8 +41,7 @@ use Rattle.ruledwords.specs.declared.pass.Live.{Live}
 use Rattle.ruledwords.specs.declared.turn.Running.{Running}
 use Rattle.ruledwords.specs.Calls.{row_in, standing_of}
 use Rattle.ruledwords.specs.Lists.{known}
-use Rattle.ruledwords.specs.Cards.{at}
-use Rattle.ruledwords.specs.Outcomes.{wakes_of, OwesAsLeft}
+use Rattle.ruledwords.specs.Outcomes.{wakes_of}
 use Rattle.ruledwords.specs.Owing.{owing_at, OwesThere}
 use Rattle.ruledwords.specs.Passes.{card, layout_of}
 use Rattle.ruledwords.specs.Seen.{Called}
@@ -115,14 +112,6 @@ pub owes_nothing : (f g : Phase) (o : Option Wakes) → ((v : Wakes) → o ≡ S
 owes_nothing f g None other owes same v e = owes v (same ∙ e)
 owes_nothing f g (Some x) other owes same v e = other x refl
 
--- by the word that it found it owes whom the mutex as it left it tells
-owes_as_left : (n : ℕ) (v : Wakes) (o : Object) → v ≡ wakes_of n → o.unusable ≡ (fields_of n).died → OwesAsLeft v (fields_of n).waiters o
-owes_as_left n v o is spoilt = record {
-  nobody = λ off. is ∙ ap (λ (b : Bool). if b then (if (fields_of n).died then All else One) else Nobody) off;
-  one = λ on usable. is ∙ ap (λ (b : Bool). if b then (if (fields_of n).died then All else One) else Nobody) on ∙ ap (λ (b : Bool). if b then All else One) (sym spoilt ∙ usable);
-  all = λ on unusable. is ∙ ap (λ (b : Bool). if b then (if (fields_of n).died then All else One) else Nobody) on ∙ ap (λ (b : Bool). if b then All else One) (sym spoilt ∙ unusable);
-}
-
 -- ---- turn by turn
 
 wakes_there : (a : Bool) → AtCell (row.Unlock (unlock.Wake a)) ≡ owing_at (if a then All else One)
@@ -142,13 +131,13 @@ module _ (w : Words) (a : Pass Live) (m : ℕ) (r : Running) (u : IsUnderWay w a
 
   -- where it owes its wakes
   pub freed : (v : Wakes) → p.phase ≡ owing_at v → Called (card a) (cell_place k m) ((operation.Unlock, OK) ∷ []) c × ((fields_of c.last).owner ≡ (card a).thread) × (v ≡ wakes_of c.last) × ChangedOnce (card a) (cell_place k m) c
-      × ((o : Object) → Run fresh (at c.seen (cell_place k m)) o → OwesAsLeft v (fields_of c.last).waiters o)
+      × IsSpoiltAsFound (cell_place k m) c
   freed v is = (
     called operation.Unlock _ (cell_place k m) (card a) (standing_of p) c OK u.2 (ap (λ (f : Phase). decided (row_in f)) is ∙ decided_there v),
     owner_found v p.phase p.thread c.last is found ∙ r.ready.0 ∙ u.2.called.saw.thread,
     wakes_told v p.phase c.last is tells,
     (once_there v p.phase (card a) (cell_place k m) c is so).0,
-    (λ o run. owes_as_left c.last v o (wakes_told v p.phase c.last is tells) ((once_there v p.phase (card a) (cell_place k m) c is so).1 o run)),
+    (once_there v p.phase (card a) (cell_place k m) c is so).1,
   )
 
   module _ (owing_not : (v : Wakes) → p.phase ≢ owing_at v) where
