@@ -42,6 +42,7 @@ impl Words {
 
     /// Frees a mutex that the thread owns (pthread_mutex_unlock), up to the waking of sleepers. One that is inconsistent becomes unusable. Another's mutex is refused with EPERM.
     /// The fate is asked before each access, and the thread dies where it says so.
+    #[inline(always)]
     pub fn release<F: Fate>(&self, pass: Pass<Live>, mutex: u16, fate: &mut F) -> Released
         requires pass { IsLive self.now pass }
         requires mutex { mutex < (layout_of self.now).mutexes }
