@@ -2,6 +2,8 @@ mod Each
 mod Hands
 mod Answers
 mod Sections
+mod Whole
+mod Noting
 mod Beginnings
 mod Turning
 mod Heeding

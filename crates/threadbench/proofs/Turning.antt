@@ -81,6 +81,11 @@ ran_out w r b y came = (came.1, came.2)
 pub ran_dead : (w : Words) (r : Running) (d : Pass Dead) → Stretches w r (stretch.Dead d) → Runs w r (outcome.Dead d)
 ran_dead w r d came = (came.1, came.2)
 
+-- as does one that came so far and was run on from there
+pub ran_after : (w : Words) (r r' : Running) (end : Outcome) → Stretches w r (stretch.Goes r') → Runs w r' end → Runs w r end
+ran_after w r r' (outcome.Lives b y) first more = ((λ a call u. more.0 a call (first.1 a call u)), (λ c x was. more.1 c x (first.2 c x was)))
+ran_after w r r' (outcome.Dead d) first more = ((λ a call u. more.0 a call (first.1 a call u)), (λ c x was. more.1 c x (first.2 c x was)))
+
 -- ---- calls that were run out
 
 -- a lock that wasn't refused

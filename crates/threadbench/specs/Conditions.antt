@@ -1,12 +1,12 @@
 -- What calls on condition variables answer that may sleep or wake (pthread_cond_wait(3p), pthread_cond_signal(3p), pthread_cond_broadcast(3p)).
-use Rattle.std.specs.Prelude.{ℕ, ◌≡◌, ◌≢◌, ◌%◌, ◌^◌, ◌⊎◌, true, Option, None, Some, Result, Ok, Err, List, [], ◌∷◌}
+use Rattle.std.specs.Prelude.{ℕ, ◌≡◌, ◌≢◌, ◌%◌, ◌^◌, ◌⊎◌, true, Option, None, Some, Result, Ok, Err, List, [], ◌∷◌, ◌++◌}
 use Rattle.lockword.specs.declared.reply.Reply.{Reply}
 use Rattle.lockword.specs.declared.reply.Reply.TheVariants.{OK}
 use Rattle.keys.specs.declared.access.Access.{Access}
 use Rattle.keys.specs.declared.access.Access.TheVariants.{CmpRequeue}
 use Rattle.keys.specs.declared.point.Operation.TheVariants as operation
 use Rattle.keys.specs.Layouts.{Layout', counter_place}
-use Rattle.buckets.specs.Queues.{Sleepers, Fits, MovesTo, MovesWithin}
+use Rattle.buckets.specs.Queues.{Sleepers, queue, Fits, MovesTo, MovesWithin}
 use Rattle.condvar.specs.declared.call.CondCall.{CondCall}
 use Rattle.condvar.specs.declared.call.CondCall.TheVariants.{Wait, Signal, Broadcast}
 use Rattle.condvar.specs.Calls.{condition_of, operation_of}
@@ -88,7 +88,7 @@ stops_turning (Err d) = 1
 -- ---- sections
 
 -- one that was told to stop has not looked at its counter
-abbrev pub StaysCondIfStopped : CondRunning → CondRunning → Waited → Type 0
+abbrev pub StaysCondIfStopped : {N : Type 0} → CondRunning → CondRunning → Waited N → Type 0
 StaysCondIfStopped r r' Stopped = r' ≡ r
 StaysCondIfStopped r r' x = Unit {0}
 
@@ -109,3 +109,9 @@ MovesInside old new k n e j m None = (n % 2 ^ 32 ≢ e) × (new ≡ old)
 abbrev pub MovesAcross : Sleepers → Sleepers → Sleepers → Sleepers → ℕ → ℕ → ℕ → ℕ → ℕ → Option (List ℕ) → Type 0
 MovesAcross old new other other' k n e j m (Some moved) = (n % 2 ^ 32 ≡ e) × MovesTo old new other other' k m j moved
 MovesAcross old new other other' k n e j m None = ((n % 2 ^ 32 ≢ e) ⊎ (¬ Fits old other k m)) × (new ≡ old) × (other' ≡ other)
+
+-- a broadcast's move from key k's queue to the end of key j's, which may be in another bucket: where it is made, nobody is left on k, and those that stood there stand, in their order, behind those that
+-- stood on j
+abbrev pub MovesAll : Sleepers → Sleepers → Sleepers → Sleepers → ℕ → ℕ → Option (List ℕ) → Type 0
+MovesAll old new other other' k j (Some moved) = (queue new k ≡ []) × (queue other' j ≡ queue other j ++ queue old k)
+MovesAll old new other other' k j None = Unit {0}

@@ -6,4 +6,5 @@ pub mod Jobs
 pub mod Ends
 pub mod Hands
 pub mod Kills
+pub mod Notes
 pub mod Conditions

@@ -1,5 +1,5 @@
 -- What sections do under a bucket's lock (futex(2)).
-use Rattle.std.specs.Prelude.{ℕ, ◌≡◌, ◌≢◌, ◌+◌, ◌%◌, ◌^◌, ◌⊎◌, Bool, MatchBool, List, []}
+use Rattle.std.specs.Prelude.{ℕ, ◌≡◌, ◌≢◌, ◌+◌, ◌%◌, ◌^◌, ◌⊎◌, Bool, true, MatchBool, Option, None, Some, List, [], ◌∷◌}
 use Rattle.buckets.specs.Queues.{Sleepers, standing, Stands, StandsNowhere, Enqueues}
 use Rattle.keys.specs.Accesses.{Trims}
 use Rattle.ruledwords.specs.declared.card.Card.{Card}
@@ -24,25 +24,30 @@ abbrev pub Waits : Sleepers → Sleepers → ℕ → ℕ → ℕ → ℕ → Boo
 Waits old new t k n e slept = MatchBool slept (FallsAsleep old new t k n e) (StaysAwake old new t n e)
 
 -- a wait came to this. A thread that was told to stop doesn't wait, and nothing changes
-abbrev pub WaitsUnlessStopped : Sleepers → Sleepers → ℕ → ℕ → ℕ → ℕ → Waited → Type 0
-WaitsUnlessStopped old new t k n e Asleep = FallsAsleep old new t k n e
+abbrev pub WaitsUnlessStopped : {N : Type 0} → Sleepers → Sleepers → ℕ → ℕ → ℕ → ℕ → Waited N → Type 0
+WaitsUnlessStopped old new t k n e (Asleep a) = FallsAsleep old new t k n e
 WaitsUnlessStopped old new t k n e Awake = StaysAwake old new t n e
 WaitsUnlessStopped old new t k n e Stopped = new ≡ old
 
 -- it found the word n at the place q, unless it was told to stop
-abbrev pub FindsUnlessStopped : Card → ℕ → ℕ → Waited → Type 0
+abbrev pub FindsUnlessStopped : {N : Type 0} → Card → ℕ → ℕ → Waited N → Type 0
 FindsUnlessStopped c q n Stopped = Unit {0}
 FindsUnlessStopped c q n x = Finds c q n
 
 -- one that was told to stop has not looked at its word
-abbrev pub StaysIfStopped : Running → Running → Waited → Type 0
+abbrev pub StaysIfStopped : {N : Type 0} → Running → Running → Waited N → Type 0
 StaysIfStopped r r' Stopped = r' ≡ r
 StaysIfStopped r r' x = Unit {0}
 
 -- how often its thread was told to stop
-abbrev pub stops_waiting : Waited → ℕ
+abbrev pub stops_waiting : {N : Type 0} → Waited N → ℕ
 stops_waiting Stopped = 1
 stops_waiting x = 0
+
+-- how often it was told so where it has this to show
+abbrev pub stops_unless : {A : Type 0} → Option A → ℕ
+stops_unless None = 1
+stops_unless (Some x) = 0
 
 -- a trim of a word on which these threads sleep, by a thread that knew c and knows d then: it is answered by the word that it found as a trim means it; it is made where nobody sleeps there, and
 -- else nothing was done
@@ -50,3 +55,13 @@ pub record TrimsThere (queue : List ℕ) (c d : Card) (cleared : Bool) : Type 0 
   pub means : (after : ℕ) × Trims d.last queue after cleared
   pub made : queue ≡ [] → d.trims ≡ c.trims + 1
   pub still : queue ≢ [] → d ≡ c
+
+-- the same in fewer words: it is answered true only where nobody sleeps there and the word was found to say WAITERS and nothing else; and where somebody sleeps there, the word isn't touched
+pub record TrimsNobodys (queue : List ℕ) (c d : Card) (told : Bool) : Type 0 where
+  pub cleared : told ≡ true → (queue ≡ []) × (d.last ≡ 0x8000_0000)
+  pub spared : queue ≢ [] → d.trims ≡ c.trims
+
+-- a wake of n took these threads out of a queue: a wake of 64, as many as there are threads at most, takes all, and nobody is left; and one of 1 takes the first, where there is one, and leaves those behind it
+pub record WakesFirsts (old new : List ℕ) (n : ℕ) (woken : List ℕ) : Type 0 where
+  pub all : n ≡ 64 → (woken ≡ old) × (new ≡ [])
+  pub one : (t : ℕ) (behind : List ℕ) → n ≡ 1 → old ≡ t ∷ behind → (woken ≡ t ∷ []) × (new ≡ behind)

@@ -3,9 +3,11 @@ ghost use Rattle.std.specs.Prelude.{◌≡◌, ◌<◌, ◌≤◌, ◌+◌, ℕ,
 ghost use Rattle.ruledwords.specs.Passes.{card, layout_of, presets_of, last_layout, last_words, IsLive, IsPassOf};
 ghost use Rattle.ruledwords.specs.Rules.{first_card, Ends};
 ghost use Rattle.threadbench.specs.Jobs.{IsJobOf, AreDone};
+ghost use Rattle.threadbench.specs.Notes.{AreNotes};
 
 use crate::gate::Gate;
 use crate::job::{Job, Record};
+use crate::kill::thread_after;
 use crate::note::Note;
 use crate::parker::Parker;
 use crate::phase::Phase;
@@ -24,7 +26,7 @@ use std::thread::Threads;
 pub(crate) const BUCKETS: usize = 256;
 
 /// How many threads there may be.
-const THREADS: usize = 64;
+const THREADS: u8 = 64;
 
 /// The words of a layout's threads, and what their calls need to sleep and to wake.
 #[derive(Drop)]
@@ -43,12 +45,13 @@ pub struct Bench {
 impl Model for Bench {
     ghost use Rattle.std.specs.Prelude.{◌≡◌, length};
     ghost use Rattle.ruledwords.specs.declared.pass.Words.{Words};
+    ghost use Rattle.threadbench.specs.Notes.{AreNotes};
 
     ghost Value = { Words };
 
     ghost view = { λ b. b.words };
 
-    ghost invariant = { λ b. (length b.buckets.items ≡ 256) × (length b.notes.items ≡ 64) };
+    ghost invariant = { λ b. (length b.buckets.items ≡ 256) × (length b.notes.items ≡ 64) × AreNotes b.notes.items };
 }
 
 impl Bench {
@@ -171,13 +174,14 @@ fn parkers(alloc: Global, threads: u8) -> Result<Vec<Parker>, NoMem> {
 
 /// A note for each id, by which nobody was killed.
 fn notes(alloc: Global) -> Result<Vec<Note>, NoMem>
-    ensures { IfOk result (λ v. length v.items ≡ 64) }
+    ensures count { IfOk result (λ v. length v.items ≡ 64) }
+    ensures notes { IfOk result (λ v. AreNotes v.items) }
 {
-    let Ok(mut notes) = Vec::with_capacity(alloc, THREADS) else {
+    let Ok(mut notes) = Vec::with_capacity(alloc, usize::from(THREADS)) else {
         return Err(NoMem);
     };
-    for _ in 0..THREADS {
-        push_in_room(&mut notes, Note::new());
+    for before in 0..THREADS {
+        push_in_room(&mut notes, Note::new(thread_after(before)));
     }
     Ok(notes)
 }

@@ -20,6 +20,7 @@ use mutex::Call;
 use ruledwords::{Fate, Live, Never, Outcome, Pass, Released};
 use std::sync::Wait;
 
+#[inline(always)]
 fn unlock<R: Wait, F: Fate>(
     rt: &R,
     bench: &Bench,

@@ -12,10 +12,8 @@ ghost use Rattle.threadbench.specs.Calls.{IsHeeded};
 ghost use Rattle.threadbench.specs.Conditions.{stops_turning, CondAnswered, CondComesTo, CondRuns, IsCellOf, IsMoveOf};
 
 use crate::bench::{BUCKETS, Bench};
-use crate::condition_section::{
-    move_to_in, move_within_in, wait_on_counter_in, wake_for_condition,
-};
-use crate::section::Waited;
+use crate::condition_section::{move_to_in, move_within_in, wake_for_condition};
+use crate::section::{Waited, wait_on_counter_in};
 use buckets::Batch;
 use condvar::CondCall;
 use keys::{Access, Answer, Key, bucket_of, key_of};
@@ -180,9 +178,9 @@ impl Bench {
         );
         drop(bucket);
         match waited {
-            Waited::Asleep => {
+            Waited::Asleep(asleep) => {
                 self.sleep_through_moves(rt, running.thread(), key, cell);
-                Ok(running.answer(Answer::Woken))
+                Ok(asleep.woken_on_condition(running))
             }
             Waited::Awake => Ok(running.answer(Answer::Again)),
             Waited::Stopped => Err(running.die()),
@@ -199,7 +197,7 @@ impl Bench {
         let mut bucket = self.bucket(key).lock(rt);
         let woken = wake_for_condition(&mut bucket, &running, &self.words, key, most);
         drop(bucket);
-        self.rouse(rt, &woken);
+        self.rouse(&woken);
         running.answer(Answer::Count(woken.len() as u32))
     }
 

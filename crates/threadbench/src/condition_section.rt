@@ -1,47 +1,14 @@
-//! What calls on condition variables do under the locks of buckets. A section that compares a counter loads it there.
-ghost use Rattle.std.specs.Prelude.{◌≡◌, ◌+◌, ℕ};
+//! What signals and broadcasts do under the locks of buckets. A section that compares a counter loads it there.
+ghost use Rattle.std.specs.Prelude.{◌≡◌, ℕ};
 ghost use Rattle.buckets.specs.Queues.{IsOrderly, Takes};
-ghost use Rattle.keys.specs.declared.access.Access.TheVariants.{Wait as AtWait, Wake as AtWake};
+ghost use Rattle.keys.specs.declared.access.Access.TheVariants.{Wake as AtWake};
 ghost use Rattle.ruledwords.specs.ConditionCalls.{cond_access_in, cond_call, cond_pass, cond_place_at, CondUnmoved, IsCondRunningOf};
 ghost use Rattle.ruledwords.specs.Passes.{card, layout_of};
-ghost use Rattle.threadbench.specs.Conditions.{FindsKnown, IsCellOf, IsMoveOf, MovesAcross, MovesInside, StaysCondIfStopped};
-ghost use Rattle.threadbench.specs.Sections.{WaitsUnlessStopped, stops_waiting};
+ghost use Rattle.threadbench.specs.Conditions.{FindsKnown, IsCellOf, IsMoveOf, MovesAcross, MovesAll, MovesInside};
 
-use crate::section::{Waited, compare_and_enqueue};
 use buckets::{Batch, Bucket};
 use keys::Key;
-use ruledwords::{CondRunning, Fate, Words};
-
-/// A wait: loads the counter, and puts the call's thread to sleep on the key where the counter's low half is the expected one, unless the thread's note tells it to stop. The note is looked
-/// at under the bucket's lock, as that of a thread that sleeps on its mutex's cell is.
-pub(crate) fn wait_on_counter_in<N: Fate>(
-    bucket: &mut Bucket,
-    running: &mut CondRunning,
-    words: &Words,
-    key: Key,
-    expected: u32,
-    note: &mut N,
-) -> Waited
-    requires words { IsCondRunningOf words.now running.old }
-    requires wait { (at : ℕ) × (cond_access_in running.old ≡ AtWait at expected) }
-    requires key { key.0 ≡ cond_place_at (layout_of words.now) running.old }
-    ensures unmoved { CondUnmoved words.now running.old running.new }
-    ensures waits { WaitsUnlessStopped bucket.old bucket.new (card (cond_pass running.old)).thread key.0 (card (cond_pass running.new)).last expected result }
-    ensures untrimmed { (card (cond_pass running.new)).trims ≡ (card (cond_pass running.old)).trims }
-    ensures stays { StaysCondIfStopped running.old running.new result }
-    ensures note { N.stopped note.new ≡ N.stopped note.old + stops_waiting result }
-{
-    if note.stops() {
-        return Waited::Stopped;
-    }
-    let thread = running.thread();
-    let seen = running.load(words);
-    if compare_and_enqueue(bucket, thread, key, seen, expected) {
-        Waited::Asleep
-    } else {
-        Waited::Awake
-    }
-}
+use ruledwords::{CondRunning, Words};
 
 /// A wake: takes at most so many threads out of the key's queue, those that stand first, in their order.
 pub(crate) fn wake_for_condition(
@@ -79,7 +46,10 @@ pub(crate) fn move_within_in(
     ensures unmoved { CondUnmoved words.now running.old running.new }
     ensures known { FindsKnown (layout_of words.now) running.old running.new }
     ensures moves { MovesInside bucket.old bucket.new key.0 (card (cond_pass running.new)).last expected to.0 moves result }
+    ensures all { MovesAll bucket.old bucket.new bucket.old bucket.new key.0 to.0 result }
 {
+    // What a bucket always is, as that it has at most 64 sleepers, is known once it is asked for one.
+    let _stands = bucket.stands(running.thread());
     let seen = running.load(words);
     if (seen & 0xffff_ffff) as u32 != expected {
         return None;
@@ -106,7 +76,10 @@ pub(crate) fn move_to_in(
     ensures unmoved { CondUnmoved words.now running.old running.new }
     ensures known { FindsKnown (layout_of words.now) running.old running.new }
     ensures moves { MovesAcross bucket.old bucket.new other.old other.new key.0 (card (cond_pass running.new)).last expected to.0 moves result }
+    ensures all { MovesAll bucket.old bucket.new other.old other.new key.0 to.0 result }
 {
+    // As in `move_within_in`.
+    let _stands = bucket.stands(running.thread());
     let seen = running.load(words);
     if (seen & 0xffff_ffff) as u32 != expected || !bucket.fits(other, key, moves) {
         return None;

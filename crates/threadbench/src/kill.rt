@@ -45,12 +45,12 @@ impl Kill {
     }
 
     /// Gives the thread a token, so that it wakes where it sleeps.
-    fn rouse<R: Wait>(&mut self, rt: &R, parker: Option<&Parker>)
+    fn rouse(&mut self, parker: Option<&Parker>)
         ensures roused { self.new.roused ≡ true }
         ensures same { (self.new.killed ≡ self.old.killed) × (self.new.looked ≡ self.old.looked) }
     {
         if let Some(parker) = parker {
-            parker.unpark(rt);
+            parker.unpark();
         }
         self.roused = true;
     }
@@ -103,18 +103,18 @@ impl Bench {
     fn kill_thread<R: Wait>(&self, rt: &R, thread: Tid) -> Kill
         ensures { IsKilled thread result }
     {
-        let mut kill = Kill::begin(self.note(thread).kill(thread));
+        let mut kill = Kill::begin(self.note(thread).kill());
         for place in 0..BUCKETS {
             let mut bucket = self.buckets[place].lock(rt);
             kill.look(&mut bucket);
         }
-        kill.rouse(rt, self.parker(thread));
+        kill.rouse(self.parker(thread));
         kill
     }
 }
 
 /// The thread that comes after so many.
-fn thread_after(before: u8) -> Tid
+pub(crate) fn thread_after(before: u8) -> Tid
     requires { before < 64 }
     ensures { result ≡ before + 1 }
 {

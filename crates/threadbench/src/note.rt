@@ -1,14 +1,17 @@
 //! Notes of kills.
-ghost use Rattle.std.specs.Prelude.{◌≡◌, false, if◌then◌else◌};
+ghost use Rattle.std.specs.Prelude.{◌≡◌, ◌+◌, false, if◌then◌else◌};
+ghost use Rattle.threadbench.specs.Sections.{stops_unless};
 
 use crossbeam_utils::CachePadded;
 use lockword::Tid;
 use ruledwords::Fate;
+use std::marker::PhantomData;
 use std::sync::atomic::{AtomicBool, Ordering};
 
 /// Whether a thread was killed. Whoever kills it writes it here, and its calls that take the bench look here before each access.
 #[derive(Drop)]
 pub(crate) struct Note {
+    thread: Tid,
     killed: CachePadded<AtomicBool>,
 }
 
@@ -16,6 +19,11 @@ pub(crate) struct Note {
 #[derive(Drop)]
 pub(crate) struct Killed {
     thread: Tid,
+}
+
+/// That a thread's note told it to go on. Nothing makes one but [`ask`], which asks the note.
+pub(crate) struct Spared<N> {
+    note: PhantomData<N>,
 }
 
 /// What its note tells a thread: the fate that others have in their hands.
@@ -27,21 +35,27 @@ pub(crate) struct Noted<'a> {
 
 impl Note {
     /// The note of a thread that nobody has killed.
-    pub(crate) fn new() -> Note {
+    pub(crate) fn new(thread: Tid) -> Note
+        ensures { result.thread ≡ thread }
+    {
         Note {
+            thread,
             killed: CachePadded::new(AtomicBool::new(false)),
         }
     }
 
-    /// Notes that the thread, whose note it is, was killed.
-    pub(crate) fn kill(&self, thread: Tid) -> Killed
-        ensures { result.thread ≡ thread }
+    /// Notes that the thread was killed whose note it is.
+    pub(crate) fn kill(&self) -> Killed
+        ensures { result.thread ≡ self.now.thread }
     {
         self.killed.store(true, Ordering::SeqCst);
-        Killed { thread }
+        Killed {
+            thread: self.thread,
+        }
     }
 
     /// What it tells its thread, which it has told nothing yet.
+    #[inline(always)]
     pub(crate) fn fate(&self) -> Noted<'_>
         ensures { result.told ≡ false }
     {
@@ -61,9 +75,28 @@ impl Killed {
     }
 }
 
+impl<N> Spared<N> {
+    /// It has been shown.
+    pub(crate) fn spend(self) {
+        let Spared { note: _ } = self;
+    }
+}
+
+/// Asks a thread's note. None where it tells the thread to stop.
+pub(crate) fn ask<N: Fate>(note: &mut N) -> Option<Spared<N>>
+    ensures { N.stopped note.new ≡ N.stopped note.old + stops_unless result }
+{
+    if note.stops() {
+        None
+    } else {
+        Some(Spared { note: PhantomData })
+    }
+}
+
 impl Fate for Noted<'_> {
     ghost stopped = { λ n. if n.told then 1 else 0 };
 
+    #[inline(always)]
     fn stops(&mut self) -> bool {
         // It is told to stop once.
         if self.told {

@@ -1,29 +1,28 @@
-//! What calls do under the lock of a bucket. A section that needs its call's word loads it there.
+//! What calls do under the lock of a bucket. A section that needs its call's word loads it there. Whoever has a bucket holds its lock: the bench's buckets lie in their locks.
 ghost use Rattle.std.specs.Prelude.{◌≡◌, ◌+◌, ℕ};
 ghost use Rattle.buckets.specs.Queues.{queue, IsOrderly, Removes, Takes};
 ghost use Rattle.keys.specs.Layouts.{cell_place};
 ghost use Rattle.keys.specs.declared.access.Access.TheVariants.{Wait as AtWait, Wake as AtWake, Trim as AtTrim};
+ghost use Rattle.keys.specs.declared.access.Answer.TheVariants.{Woken, Trimmed as AnsweredTrim};
+ghost use Rattle.ruledwords.specs.declared.pass.Words.{Words};
 ghost use Rattle.ruledwords.specs.Calls.{IsOnMutex};
+ghost use Rattle.ruledwords.specs.ConditionCalls.{cond_access_in, cond_call, cond_pass, cond_place_at, CondOnward, CondUnmoved, IsCondAnswerOf, IsCondRunningOf, IsCondTurnOf};
+ghost use Rattle.ruledwords.specs.ConditionStands.{CondKeeps};
 ghost use Rattle.ruledwords.specs.Deaths.{reaping_access, reaping_place};
 ghost use Rattle.ruledwords.specs.Passes.{card, layout_of};
-ghost use Rattle.ruledwords.specs.Turns.{access_in, place_at, running_pass, running_program, IsRunningOf, Unmoved};
-ghost use Rattle.threadbench.specs.Sections.{FindsUnlessStopped, StaysIfStopped, TrimsThere, Waits, WaitsUnlessStopped, stops_waiting};
+ghost use Rattle.ruledwords.specs.Turns.{access_in, place_at, running_call, running_pass, running_program, IsAnswerOf, IsRunningOf, IsTurnOf, Keeps, KeepsDecided, Onward, Unmoved};
+ghost use Rattle.threadbench.specs.Conditions.{StaysCondIfStopped};
+ghost use Rattle.threadbench.specs.Sections.{FindsUnlessStopped, StaysIfStopped, TrimsNobodys, TrimsThere, Waits, WaitsUnlessStopped, WakesFirsts, stops_waiting};
 
-use crate::note::Killed;
+use crate::note::{Killed, Spared, ask};
 use buckets::{Batch, Bucket};
-use keys::Key;
+use keys::{Answer, Key};
 use lockword::Tid;
-use ruledwords::{Fate, Reaping, Running, Words};
+use ruledwords::{CondRunning, CondTurn, Fate, Reaping, Running, Turn, Words};
 
 /// Puts the thread at the end of the key's queue where the low half of the word that was seen is the expected one, and tells so. Nothing changes where it differs; nor where the
 /// thread stands in the bucket already or the bucket is full, which can't come up, but what lies under a lock doesn't say so.
-pub(crate) fn compare_and_enqueue(
-    bucket: &mut Bucket,
-    thread: Tid,
-    key: Key,
-    seen: u64,
-    expected: u32,
-) -> bool
+fn compare_and_enqueue(bucket: &mut Bucket, thread: Tid, key: Key, seen: u64, expected: u32) -> bool
     ensures { Waits bucket.old bucket.new thread key.0 seen expected result }
 {
     if bucket.full() || bucket.stands(thread) {
@@ -32,11 +31,43 @@ pub(crate) fn compare_and_enqueue(
     bucket.wait_section(thread, key, seen, expected)
 }
 
+/// That a thread stands in its word's queue, and that its note, asked under the lock of that queue's bucket, told it to go on. Nothing makes one but a wait's section, and nothing but this tells a call that its
+/// thread has slept.
+pub(crate) struct Asleep<N> {
+    spared: Spared<N>,
+}
+
+impl<N> Asleep<N> {
+    /// Goes on with the call of a thread that slept and was woken.
+    pub(crate) fn woken(self, running: Running) -> Turn
+        requires { IsAnswerOf (access_in running) Woken }
+        ensures turned { Onward (running_call running) Woken (running_pass running) result }
+        ensures words { (w : Words) → IsRunningOf w running → IsTurnOf w result }
+        ensures keeps { (w : Words) → Keeps w running result }
+        ensures decided { (w : Words) → KeepsDecided w running result }
+    {
+        let Asleep { spared } = self;
+        spared.spend();
+        running.answer(Answer::Woken)
+    }
+
+    /// The same of a call on a condition variable.
+    pub(crate) fn woken_on_condition(self, running: CondRunning) -> CondTurn
+        requires { IsCondAnswerOf (cond_access_in running) Woken }
+        ensures onward { CondOnward (cond_call running) Woken (cond_pass running) result }
+        ensures words { (w : Words) → IsCondRunningOf w running → IsCondTurnOf w result }
+        ensures keeps { (w : Words) → CondKeeps w running result }
+    {
+        let Asleep { spared } = self;
+        spared.spend();
+        running.answer(Answer::Woken)
+    }
+}
+
 /// What a wait comes to.
-#[derive(Clone, Copy, Debug, PartialEq, Eq)]
-pub(crate) enum Waited {
+pub(crate) enum Waited<N> {
     /// The thread stands in its word's queue.
-    Asleep,
+    Asleep(Asleep<N>),
     /// The word wasn't the expected one.
     Awake,
     /// The thread was told to stop.
@@ -52,7 +83,7 @@ pub(crate) fn wait_in<N: Fate>(
     key: Key,
     expected: u32,
     note: &mut N,
-) -> Waited
+) -> Waited<N>
     requires words { IsRunningOf words.now running.old }
     requires wait { (at : ℕ) × (access_in running.old ≡ AtWait at expected) }
     requires key { key.0 ≡ place_at (layout_of words.now) running.old }
@@ -63,14 +94,47 @@ pub(crate) fn wait_in<N: Fate>(
     ensures stays { StaysIfStopped running.old running.new result }
     ensures note { N.stopped note.new ≡ N.stopped note.old + stops_waiting result }
 {
-    if note.stops() {
+    let Some(spared) = ask(note) else {
         return Waited::Stopped;
-    }
+    };
     let thread = running.thread();
     let seen = running.load(words);
     if compare_and_enqueue(bucket, thread, key, seen, expected) {
-        Waited::Asleep
+        Waited::Asleep(Asleep { spared })
     } else {
+        spared.spend();
+        Waited::Awake
+    }
+}
+
+/// A wait: loads the counter, and puts the call's thread to sleep on the key where the counter's low half is the expected one, unless the thread's note tells it to stop. The note is looked
+/// at under the bucket's lock, as that of a thread that sleeps on its mutex's cell is.
+pub(crate) fn wait_on_counter_in<N: Fate>(
+    bucket: &mut Bucket,
+    running: &mut CondRunning,
+    words: &Words,
+    key: Key,
+    expected: u32,
+    note: &mut N,
+) -> Waited<N>
+    requires words { IsCondRunningOf words.now running.old }
+    requires wait { (at : ℕ) × (cond_access_in running.old ≡ AtWait at expected) }
+    requires key { key.0 ≡ cond_place_at (layout_of words.now) running.old }
+    ensures unmoved { CondUnmoved words.now running.old running.new }
+    ensures waits { WaitsUnlessStopped bucket.old bucket.new (card (cond_pass running.old)).thread key.0 (card (cond_pass running.new)).last expected result }
+    ensures untrimmed { (card (cond_pass running.new)).trims ≡ (card (cond_pass running.old)).trims }
+    ensures stays { StaysCondIfStopped running.old running.new result }
+    ensures note { N.stopped note.new ≡ N.stopped note.old + stops_waiting result }
+{
+    let Some(spared) = ask(note) else {
+        return Waited::Stopped;
+    };
+    let thread = running.thread();
+    let seen = running.load(words);
+    if compare_and_enqueue(bucket, thread, key, seen, expected) {
+        Waited::Asleep(Asleep { spared })
+    } else {
+        spared.spend();
         Waited::Awake
     }
 }
@@ -94,10 +158,21 @@ pub(crate) fn wake_in(
     requires wake { (at : ℕ) × (access_in running.now ≡ AtWake at most) }
     requires key { key.0 ≡ place_at (layout_of words.now) running.now }
     ensures takes { Takes bucket.old bucket.new key.0 most result }
+    ensures wakes { WakesFirsts (queue bucket.old key.0) (queue bucket.new key.0) most result }
     ensures orderly { IsOrderly bucket.new }
 {
-    let _running = running;
     let _words = words;
+    take_firsts(bucket, running.thread(), key, most)
+}
+
+/// Takes at most so many threads out of the key's queue for this thread, those that stand first, in their order.
+fn take_firsts(bucket: &mut Bucket, thread: Tid, key: Key, most: u32) -> Batch
+    ensures takes { Takes bucket.old bucket.new key.0 most result }
+    ensures wakes { WakesFirsts (queue bucket.old key.0) (queue bucket.new key.0) most result }
+    ensures orderly { IsOrderly bucket.new }
+{
+    // What a bucket always is, as that it has at most 64 sleepers, is known once it is asked for one.
+    let _stands = bucket.stands(thread);
     bucket.take(key, most)
 }
 
@@ -119,16 +194,37 @@ pub(crate) fn wake_for_dead(
     bucket.take(key, most)
 }
 
+/// What a trim came to: whether it cleared the word. Nothing makes one but [`trim_in`], which has the bucket, and nothing but this answers a call's trim.
+#[derive(Drop)]
+pub(crate) struct Trimmed {
+    cleared: bool,
+}
+
+impl Trimmed {
+    /// Goes on with the call whose trim it was.
+    pub(crate) fn answer(self, running: Running) -> Turn
+        requires { IsAnswerOf (access_in running) (AnsweredTrim self.cleared) }
+        ensures turned { Onward (running_call running) (AnsweredTrim self.cleared) (running_pass running) result }
+        ensures words { (w : Words) → IsRunningOf w running → IsTurnOf w result }
+        ensures keeps { (w : Words) → Keeps w running result }
+        ensures decided { (w : Words) → KeepsDecided w running result }
+    {
+        running.answer(Answer::Trimmed(self.cleared))
+    }
+}
+
 /// A trim: where nobody stands in the key's queue, the call's word becomes 0 if WAITERS is all that it says, and it tells whether it did.
-pub(crate) fn trim_in(bucket: &Bucket, running: &mut Running, words: &Words, key: Key) -> bool
+pub(crate) fn trim_in(bucket: &Bucket, running: &mut Running, words: &Words, key: Key) -> Trimmed
     requires words { IsRunningOf words.now running.old }
     requires trim { (at : ℕ) × (access_in running.old ≡ AtTrim at) }
     requires key { key.0 ≡ place_at (layout_of words.now) running.old }
     ensures unmoved { Unmoved words.now running.old running.new }
-    ensures trims { TrimsThere (queue bucket.now key.0) (card (running_pass running.old)) (card (running_pass running.new)) result }
+    ensures trims { TrimsThere (queue bucket.now key.0) (card (running_pass running.old)) (card (running_pass running.new)) result.cleared }
+    ensures nobodys { TrimsNobodys (queue bucket.now key.0) (card (running_pass running.old)) (card (running_pass running.new)) result.cleared }
 {
     if bucket.count(key) != 0 {
-        return false;
+        return Trimmed { cleared: false };
     }
-    running.trim(words)
+    let cleared = running.trim(words);
+    Trimmed { cleared }
 }

@@ -44,6 +44,7 @@ impl Bench {
 
     /// Ends an unlock: wakes whom it has to wake; where it finds nobody to wake, a word that says nothing but WAITERS becomes 0; and the thread's pending entry is cleared. The reply is OK. The fate is
     /// asked before each access and each section, and the thread dies where it says so, or where it was killed ([`Bench::kill`]).
+    #[inline(always)]
     pub fn pay<R: Wait, F: Fate>(&self, rt: &R, owed: Owed, fate: &mut F) -> Outcome
         requires { IsOwedOf self.now owed }
         ensures paid { Paid self.now owed result }
@@ -54,6 +55,7 @@ impl Bench {
     }
 
     /// Ends an unlock. Its thread has two fates.
+    #[inline(always)]
     fn pay_on<R: Wait, F: Fate, N: Fate>(
         &self,
         rt: &R,
@@ -82,16 +84,39 @@ impl Bench {
     }
 
     /// Runs a call to its end, or until its thread dies.
+    #[inline(always)]
     fn run<R: Wait, F: Fate>(&self, rt: &R, running: Running, fate: &mut F) -> Outcome
         requires { IsRunningOf self.now running }
         ensures runs { Runs self.now running result }
         ensures fate { IsHeeded (F.stopped fate.old) (F.stopped fate.new) result }
     {
         let mut note = self.note(running.thread()).fate();
-        self.run_on(rt, running, fate, &mut note)
+        self.run_begun(rt, running, fate, &mut note)
     }
 
-    /// Runs a call to its end, or until one of its thread's fates ends it: as far as it makes steps on words, where it stands, and each section by itself.
+    /// Runs a call to its end, or until one of its thread's fates ends it: first as far as it makes steps on words, where it stands. The compiler knows at which access that is, where it knows where the call
+    /// begins.
+    #[inline(always)]
+    fn run_begun<R: Wait, F: Fate, N: Fate>(
+        &self,
+        rt: &R,
+        running: Running,
+        fate: &mut F,
+        note: &mut N,
+    ) -> Outcome
+        requires { IsRunningOf self.now running }
+        ensures runs { Runs self.now running result }
+        ensures fate { Heeds (F.stopped fate.old) (F.stopped fate.new) (N.stopped note.old) (N.stopped note.new) (stops_in result) }
+    {
+        match running.stretch(&self.words, fate, note) {
+            Stretch::Goes(next) => self.run_on(rt, next, fate, note),
+            Stretch::Lives(pass, reply) => Outcome::Lives(pass, reply),
+            Stretch::Dead(pass) => Outcome::Dead(pass),
+        }
+    }
+
+    /// Runs a call to its end, or until one of its thread's fates ends it, access by access: what is left of a call that wasn't made in one stretch. (Stretches are made in [`Bench::run_begun`] alone: a
+    /// function that is called in one place is compiled there.)
     pub(crate) fn run_on<R: Wait, F: Fate, N: Fate>(
         &self,
         rt: &R,
@@ -105,15 +130,10 @@ impl Bench {
     {
         let mut running = running;
         for _ in rt.forever() {
-            let next = match running.stretch(&self.words, fate, note) {
-                Stretch::Goes(next) => next,
-                Stretch::Lives(pass, reply) => return Outcome::Lives(pass, reply),
-                Stretch::Dead(pass) => return Outcome::Dead(pass),
-            };
             if either_stops(fate, note) {
-                return Outcome::Dead(next.die());
+                return Outcome::Dead(running.die());
             }
-            match self.turn(rt, next, note) {
+            match self.turn(rt, running, note) {
                 Stretch::Goes(next) => running = next,
                 Stretch::Lives(pass, reply) => return Outcome::Lives(pass, reply),
                 Stretch::Dead(pass) => return Outcome::Dead(pass),
@@ -155,9 +175,9 @@ impl Bench {
         let waited = wait_in(&mut bucket, &mut running, &self.words, key, expected, note);
         drop(bucket);
         match waited {
-            Waited::Asleep => {
+            Waited::Asleep(asleep) => {
                 self.sleep(rt, running.thread(), key);
-                onward(running.answer(Answer::Woken))
+                onward(asleep.woken(running))
             }
             Waited::Awake => onward(running.answer(Answer::Again)),
             Waited::Stopped => Stretch::Dead(running.die()),
@@ -176,15 +196,15 @@ impl Bench {
         let mut bucket = self.bucket(key).lock(rt);
         let woken = wake_in(&mut bucket, &running, &self.words, key, most);
         drop(bucket);
-        self.rouse(rt, &woken);
+        self.rouse(&woken);
         running.answer(Answer::Count(woken.len() as u32))
     }
 
     /// Gives a token to each of these threads.
-    pub(crate) fn rouse<R: Wait>(&self, rt: &R, woken: &Batch) {
+    pub(crate) fn rouse(&self, woken: &Batch) {
         for place in 0..woken.len() {
             if let Some(parker) = woken.get(place).and_then(|thread| self.parker(thread)) {
-                parker.unpark(rt);
+                parker.unpark();
             }
         }
     }
@@ -200,9 +220,9 @@ impl Bench {
         let mut running = running;
         let key = key_of(running.place(&self.words));
         let bucket = self.bucket(key).lock(rt);
-        let cleared = trim_in(&bucket, &mut running, &self.words, key);
+        let trimmed = trim_in(&bucket, &mut running, &self.words, key);
         drop(bucket);
-        running.answer(Answer::Trimmed(cleared))
+        trimmed.answer(running)
     }
 
     /// Sleeps until the thread stands no more in the bucket of the key on which it fell asleep.
@@ -224,7 +244,10 @@ impl Bench {
     }
 
     /// The note by which others kill the thread.
-    pub(crate) fn note(&self, thread: Tid) -> &Note {
+    #[inline(always)]
+    pub(crate) fn note(&self, thread: Tid) -> &Note
+        ensures { result.now.thread ≡ thread }
+    {
         &self.notes[usize::from(thread.get()) - 1]
     }
 

@@ -3,7 +3,7 @@ use Rattle.std.proofs.lemmas.List.{nil_from_length}
 use Rattle.buckets.specs.Queues.{queue}
 use Rattle.ruledwords.specs.Passes.{card}
 use Rattle.ruledwords.specs.Turns.{running_pass}
-use Rattle.threadbench.proofs.Sections.{trimmed_there, left_there}
+use Rattle.threadbench.proofs.Sections.{trimmed_there, left_there, trimmed_nobodys, left_nobodys}
 use Rattle.threadbench.proofs.section.trim_in.Goals as goal
 
 pub returns-then-count-ne0-clause-trims : goal.returns-then-count-ne0-clause-trims
@@ -13,4 +13,13 @@ pub returns-clause-trims : goal.returns-clause-trims
 returns-clause-trims c =
     let sleepers = queue c.args.bucket.now c.args.key.0 in
     let empty = nil_from_length sleepers (sym c.count.ensures ∙ c.if-count-ne0.false) in
-    trimmed_there sleepers (card (running_pass c.args.running.now)) (card (running_pass c.trim.new.self)) c.trim.result empty c.trim.ensures.trims.0 c.trim.ensures.trims.1
+    trimmed_there sleepers (card (running_pass c.args.running.now)) (card (running_pass c.trim-cleared.new.self)) c.trim-cleared.result empty c.trim-cleared.ensures.trims.0 c.trim-cleared.ensures.trims.1
+
+pub returns-then-count-ne0-clause-nobodys : goal.returns-then-count-ne0-clause-nobodys
+returns-then-count-ne0-clause-nobodys c = left_nobodys (queue c.args.bucket.now c.args.key.0) (card (running_pass c.args.running.now))
+
+pub returns-clause-nobodys : goal.returns-clause-nobodys
+returns-clause-nobodys c =
+    let sleepers = queue c.args.bucket.now c.args.key.0 in
+    let empty = nil_from_length sleepers (sym c.count.ensures ∙ c.if-count-ne0.false) in
+    trimmed_nobodys sleepers (card (running_pass c.args.running.now)) (card (running_pass c.trim-cleared.new.self)) c.trim-cleared.result empty c.trim-cleared.ensures.trims.0

@@ -6,10 +6,10 @@ use Rattle.threadbench.proofs.bench.Bench.trim.Goals as goal
 
 pub returns-clause-keeps : goal.returns-clause-keeps
 returns-clause-keeps g c = λ a call u.
-    let same = subst (λ (w : Words). Unmoved w c.args.running c.trim_in-cleared.new.running) c.self.view_is c.trim_in-cleared.ensures.unmoved in
-    c.answer.ensures.keeps c.args.self.now a call (still_under_way c.args.self.now c.args.running c.trim_in-cleared.new.running a call same u)
+    let same = subst (λ (w : Words). Unmoved w c.args.running c.trim_in-trimmed.new.running) c.self.view_is c.trim_in-trimmed.ensures.unmoved in
+    c.answer.ensures.keeps c.args.self.now a call (still_under_way c.args.self.now c.args.running c.trim_in-trimmed.new.running a call same u)
 
 pub returns-clause-decided : goal.returns-clause-decided
 returns-clause-decided g c = λ e x was.
-    let same = subst (λ (w : Words). Unmoved w c.args.running c.trim_in-cleared.new.running) c.self.view_is c.trim_in-cleared.ensures.unmoved in
-    c.answer.ensures.decided c.args.self.now e x (still_decided c.args.self.now c.args.running c.trim_in-cleared.new.running e x same was)
+    let same = subst (λ (w : Words). Unmoved w c.args.running c.trim_in-trimmed.new.running) c.self.view_is c.trim_in-trimmed.ensures.unmoved in
+    c.answer.ensures.decided c.args.self.now e x (still_decided c.args.self.now c.args.running c.trim_in-trimmed.new.running e x same was)

@@ -10,7 +10,7 @@ returns-in-Asleep-clause-stretches g c =
     let w = c.args.self.now in
     let r = c.wait_in-waited.new.running in
     let same = subst (λ (w : Words). Unmoved w c.args.running r) c.self.view_is c.wait_in-waited.ensures.unmoved in
-    let on = onward w r c.answer.result c.onward.result c.onward.ensures (c.answer.ensures.words w same.0) (c.answer.ensures.keeps w) (c.answer.ensures.decided w) in
+    let on = onward w r c.woken.result c.onward.result c.onward.ensures (c.woken.ensures.words w same.0) (c.woken.ensures.keeps w) (c.woken.ensures.decided w) in
     stretches_still w c.args.running r c.onward.result same on
 
 pub returns-in-Awake-clause-stretches : goal.returns-in-Awake-clause-stretches
@@ -18,7 +18,7 @@ returns-in-Awake-clause-stretches g c =
     let w = c.args.self.now in
     let r = c.wait_in-waited.new.running in
     let same = subst (λ (w : Words). Unmoved w c.args.running r) c.self.view_is c.wait_in-waited.ensures.unmoved in
-    let on = onward w r c.answer-in-Awake.result c.onward-in-Awake.result c.onward-in-Awake.ensures (c.answer-in-Awake.ensures.words w same.0) (c.answer-in-Awake.ensures.keeps w) (c.answer-in-Awake.ensures.decided w) in
+    let on = onward w r c.answer.result c.onward-in-Awake.result c.onward-in-Awake.ensures (c.answer.ensures.words w same.0) (c.answer.ensures.keeps w) (c.answer.ensures.decided w) in
     stretches_still w c.args.running r c.onward-in-Awake.result same on
 
 pub returns-in-Stopped-clause-stretches : goal.returns-in-Stopped-clause-stretches

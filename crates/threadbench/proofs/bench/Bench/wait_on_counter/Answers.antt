@@ -9,11 +9,11 @@ returns-in-Asleep-clause-comes g c =
     let w = c.args.self.now in
     let r = c.wait_on_counter_in-waited.new.running in
     let same = subst (λ (w : Words). CondUnmoved w c.args.running r) c.self.view_is c.wait_on_counter_in-waited.ensures.unmoved in
-    comes_still w c.args.running r c.answer.result same (c.answer.ensures.words w same.0) (c.answer.ensures.keeps w) (stays_answered w c.args.running r _ c.answer.result same c.answer.ensures.onward)
+    comes_still w c.args.running r c.woken_on_condition.result same (c.woken_on_condition.ensures.words w same.0) (c.woken_on_condition.ensures.keeps w) (stays_answered w c.args.running r _ c.woken_on_condition.result same c.woken_on_condition.ensures.onward)
 
 pub returns-in-Awake-clause-comes : goal.returns-in-Awake-clause-comes
 returns-in-Awake-clause-comes g c =
     let w = c.args.self.now in
     let r = c.wait_on_counter_in-waited.new.running in
     let same = subst (λ (w : Words). CondUnmoved w c.args.running r) c.self.view_is c.wait_on_counter_in-waited.ensures.unmoved in
-    comes_still w c.args.running r c.answer-in-Awake.result same (c.answer-in-Awake.ensures.words w same.0) (c.answer-in-Awake.ensures.keeps w) (stays_answered w c.args.running r _ c.answer-in-Awake.result same c.answer-in-Awake.ensures.onward)
+    comes_still w c.args.running r c.answer.result same (c.answer.ensures.words w same.0) (c.answer.ensures.keeps w) (stays_answered w c.args.running r _ c.answer.result same c.answer.ensures.onward)

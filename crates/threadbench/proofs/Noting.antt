@@ -1,0 +1,24 @@
+-- One note more.
+use Rattle.std.proofs.Common.{◌≡◌, ℕ, ◌+◌, ◌<◌, ◌≤◌, Option, Some, List, [], ◌∷◌, ◌++◌, length, get_or, slice_get, refl, sym, ap, ◌∙◌, subst, arith}
+use mathlib.Core.Logic.{dite}
+use native.Mathlib.Decide.{ℕ_discrete}
+use Rattle.std.proofs.Math.ListN.{get_or-append}
+use Rattle.std.proofs.Math.Seq.{get_or-append_seam}
+use Rattle.std.proofs.lemmas.List.{length-append}
+use Rattle.std.proofs.lemmas.Option.{get_or_from_slice_get, slice_get-get_or, slice_get_within}
+use Rattle.threadbench.specs.declared.note.Note.{Note}
+use Rattle.threadbench.specs.Notes.{AreNotes}
+
+pub one_more_note : (notes : List Note) (n : Note) → AreNotes notes → n.thread ≡ length notes + 1 → AreNotes (notes ++ n ∷ [])
+one_more_note notes n are is = λ i m there.
+    let within = slice_get_within (notes ++ n ∷ []) i m there in
+    let long = length-append notes (n ∷ []) in
+    let found = get_or_from_slice_get (notes ++ n ∷ []) i m m there in
+    dite (ℕ_discrete i (length notes))
+    (λ (last : i ≡ length notes).
+    let same : n ≡ m = sym (get_or-append_seam notes n [] m) ∙ ap (λ (j : ℕ). get_or (notes ++ n ∷ []) j m) (sym last) ∙ found in
+    ap (λ (x : Note). x.thread) (sym same) ∙ is ∙ ap (λ (j : ℕ). j + 1) (sym last))
+    (λ other.
+    let low : i < length notes = omega (arith, within, long, other) in
+    let before : get_or notes i m ≡ m = sym (get_or-append notes (n ∷ []) m i low) ∙ found in
+    are i m (slice_get-get_or notes i m low ∙ ap (λ (x : Note). Some x) before))
