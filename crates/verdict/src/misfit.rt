@@ -101,18 +101,22 @@ pub struct TraceMisfit {
 #[derive(Clone, Copy)]
 struct State(Object);
 
+/// What else is said of a mutex, behind who owns it.
+fn marks_of(object: &Object) -> &'static str {
+    match (object.inconsistent, object.unusable) {
+        (false, false) => "",
+        (true, false) => ", it is inconsistent",
+        (false, true) => ", it is unusable",
+        (true, true) => ", it is inconsistent, it is unusable",
+    }
+}
+
 impl fmt::Display for State {
     fn fmt<W: fmt::Write>(&self, f: &mut fmt::Formatter<W>) -> fmt::Result {
+        let marks = marks_of(&self.0);
         match self.0.owner {
-            None => f.write_str("nobody owns it")?,
-            Some(owner) => write!(f, "t{} owns it", owner.get())?,
+            None => write!(f, "nobody owns it{marks}"),
+            Some(owner) => write!(f, "t{} owns it{marks}", owner.get()),
         }
-        if self.0.inconsistent {
-            f.write_str(", it is inconsistent")?;
-        }
-        if self.0.unusable {
-            f.write_str(", it is unusable")?;
-        }
-        Ok(())
     }
 }
