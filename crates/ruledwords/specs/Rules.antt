@@ -3,7 +3,7 @@
 -- Histories: some legal list of points of each mutex leaves the mutex as its cell says. What a pass has seen begins it, and has all points of the pass's thread.
 -- Own words: a thread alone writes its head, the links of the mutexes that it owns and the counters of their condition variables. Its pass may know
 -- their values. While it owns a mutex in which it saw WAITERS, that stays set. Counters count the signals and the broadcasts that were answered OK.
--- Changes: each cell's words, one after the other, and who wrote each. What a pass knows of them begins them, and has all that its thread wrote.
+-- Changes: each cell's words and each counter's, one after the other, and who wrote each. What a pass knows of them begins them, and has all that its thread wrote.
 use Rattle.std.specs.Prelude.{◌≡◌, ℕ, zero, suc, ◌+◌, ◌-◌, ◌/◌, ◌%◌, ◌<◌, ◌≤◌, ◌==◌, ◌&&◌, nat_lt, true, Option, Some, List, [], ◌∷◌, All, length, drop, slice_index, if◌then◌else◌}
 use mathlib.Core.Option.{some}
 use mathlib.Core.List.{IsPrefix}
