@@ -1,5 +1,5 @@
 -- Whole queues: of at most 64, as all are.
-use Rattle.std.proofs.Common.{◌≡◌, ◌≢◌, ℕ, ◌+◌, ◌≤◌, ◌==◌, Bool, true, false, Option, None, Some, List, [], ◌∷◌, ◌++◌, length, refl, sym, ap, ◌∙◌, subst, arith}
+use Rattle.std.proofs.Common.{◌≡◌, ℕ, ◌≤◌, ◌==◌, Bool, true, false, Option, None, Some, List, ◌++◌, length, sym, ap, ◌∙◌, subst, arith}
 use Rattle.std.specs.Prelude.{take, drop, if◌then◌else◌}
 use Rattle.std.proofs.lemmas.Bool.Decides.{nat_tests}
 use Rattle.std.proofs.lemmas.List.{take_all, drop_all}
@@ -8,7 +8,7 @@ use Rattle.keys.specs.declared.access.Access.TheVariants as access
 use Rattle.robustlist.specs.declared.unlink.UnlinkRow.{UnlinkRow}
 use Rattle.robustlist.specs.declared.unlink.UnlinkRow.TheVariants as unlink
 use Rattle.robustlist.specs.Unlink.{unlink_access}
-use Rattle.buckets.specs.Queues.{Sleepers, queue, standing, IsOrderly, MovesTo, MovesWithin, Takes}
+use Rattle.buckets.specs.Queues.{Sleepers, queue, IsOrderly, MovesTo, MovesWithin, Takes}
 use Rattle.condvar.specs.declared.broadcast.BroadcastRow.TheVariants as broadcast
 use Rattle.condvar.specs.declared.phase.CondPhase.{CondPhase}
 use Rattle.condvar.specs.declared.phase.CondPhase.TheVariants as condition
