@@ -1,0 +1,8 @@
+use Rattle.std.proofs.Common.{arith}
+use Rattle.lockword.proofs.tid.Tid.new.Goals as goal
+
+pub invariant_of-result : goal.invariant_of-result
+invariant_of-result c = omega arith
+
+pub returns-then-id-le64 : goal.returns-then-id-le64
+returns-then-id-le64 c = omega arith
