@@ -1,0 +1,4 @@
+use Rattle.script.proofs.parsed.Script.commands.Goals as goal
+
+pub returns-clause-value : goal.returns-clause-value
+returns-clause-value c = cc
