@@ -134,10 +134,7 @@ impl Script {
         requires { thread ≤ length self.now.threads }
         ensures { slice_get self.now.threads (thread - 1) ≡ Some result.now }
     {
-        self.threads
-            .get_index(thread.as_index())
-            .unwrap()
-            .as_str()
+        self.threads.get_index(thread.as_index()).unwrap().as_str()
     }
 
     /// The name of a mutex that it declares.
