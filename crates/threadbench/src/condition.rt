@@ -197,7 +197,7 @@ impl Bench {
         let mut bucket = self.bucket(key).lock(rt);
         let woken = wake_for_condition(&mut bucket, &running, &self.words, key, most);
         drop(bucket);
-        self.rouse(&woken);
+        self.rouse(rt, &woken);
         running.answer(Answer::Count(woken.len() as u32))
     }
 

@@ -45,12 +45,12 @@ impl Kill {
     }
 
     /// Gives the thread a token, so that it wakes where it sleeps.
-    fn rouse(&mut self, parker: Option<&Parker>)
+    fn rouse<R: Wait>(&mut self, rt: &R, parker: Option<&Parker>)
         ensures roused { self.new.roused ≡ true }
         ensures same { (self.new.killed ≡ self.old.killed) × (self.new.looked ≡ self.old.looked) }
     {
         if let Some(parker) = parker {
-            parker.unpark();
+            parker.unpark(rt);
         }
         self.roused = true;
     }
@@ -108,7 +108,7 @@ impl Bench {
             let mut bucket = self.buckets[place].lock(rt);
             kill.look(&mut bucket);
         }
-        kill.rouse(self.parker(thread));
+        kill.rouse(rt, self.parker(thread));
         kill
     }
 }

@@ -196,15 +196,15 @@ impl Bench {
         let mut bucket = self.bucket(key).lock(rt);
         let woken = wake_in(&mut bucket, &running, &self.words, key, most);
         drop(bucket);
-        self.rouse(&woken);
+        self.rouse(rt, &woken);
         running.answer(Answer::Count(woken.len() as u32))
     }
 
     /// Gives a token to each of these threads.
-    pub(crate) fn rouse(&self, woken: &Batch) {
+    pub(crate) fn rouse<R: Wait>(&self, rt: &R, woken: &Batch) {
         for place in 0..woken.len() {
             if let Some(parker) = woken.get(place).and_then(|thread| self.parker(thread)) {
-                parker.unpark();
+                parker.unpark(rt);
             }
         }
     }
@@ -248,12 +248,12 @@ impl Bench {
     pub(crate) fn note(&self, thread: Tid) -> &Note
         ensures { result.now.thread ≡ thread }
     {
-        &self.notes[usize::from(thread.get()) - 1]
+        &self.notes[thread.as_index()]
     }
 
     /// Where the thread sleeps; None where it isn't one of the bench's.
     pub(crate) fn parker(&self, thread: Tid) -> Option<&Parker> {
-        self.parkers.get(usize::from(thread.get()) - 1)
+        self.parkers.get(thread.as_index())
     }
 }
 
