@@ -238,6 +238,26 @@ fn whoever_is_about_to_sleep_is_killed(rt: HostRuntime) -> Result<(), Fail> {
     Ok(())
 }
 
+/// How many buckets a bench has. As many mutexes have their sleepers in as many buckets, since 3 words lie between two cells.
+const BUCKETS: u16 = 256;
+
+/// A sleeper is found, whichever bucket it stands in.
+#[test]
+fn a_sleeper_is_killed_in_each_bucket(rt: HostRuntime) -> Result<(), Fail> {
+    for mutex in 0..BUCKETS {
+        let layout = Layout::new(5, BUCKETS, &[])?;
+        let want = Story {
+            well: true,
+            sleeper: None,
+            next: Some(OK),
+            cell: if mutex == 0 { 3 } else { 0 },
+        };
+        let found = played(&rt, rt.alloc(), layout, mutex, Act::Kills)?;
+        assert!(rt; found == want);
+    }
+    Ok(())
+}
+
 /// The last of the mutexes whose sleepers stand in a bucket with a high number.
 fn in_a_high_bucket(layout: &Layout) -> u16 {
     let mut found = 0;

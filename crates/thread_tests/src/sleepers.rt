@@ -1,4 +1,5 @@
 //! Threads that sleep for each other.
+ghost use Rattle.std.specs.Prelude.{IfSome};
 ghost use Rattle.ruledwords.specs.Outcomes.{IsOwedOf};
 ghost use Rattle.ruledwords.specs.Passes.{IsLive};
 
@@ -205,6 +206,20 @@ fn frees_both<R: Wait + Clock>(rt: &R, bench: &Bench, first: Pass<Live>) -> bool
     true
 }
 
+/// Locks both mutexes: the pass then, if both calls were told OK.
+fn takes_both<R: Wait>(rt: &R, bench: &Bench, first: Pass<Live>) -> Option<Pass<Live>>
+    requires { IsLive bench.now first }
+    ensures { IfSome result (λ p. IsLive bench.now p) }
+{
+    let (pass, taken) = makes(rt, bench, first, OnMutex(Lock(0)), &mut Never)?;
+    let (pass, taken_next) = makes(rt, bench, pass, OnMutex(Lock(1)), &mut Never)?;
+    if taken == OK && taken_next == OK {
+        Some(pass)
+    } else {
+        None
+    }
+}
+
 /// The ticks that a thread took to lock two mutexes, one after the other; None where not both locks were told OK.
 fn ticks_to_lock_both<R: Wait + Files + AllocGlobal>(
     rt: &R,
@@ -214,14 +229,8 @@ fn ticks_to_lock_both<R: Wait + Files + AllocGlobal>(
     requires { IsLive bench.now pass }
 {
     let before = ticks(rt)?;
-    let (pass, taken) = makes(rt, bench, pass, OnMutex(Lock(0)), &mut Never)?;
-    let (_, taken_next) = makes(rt, bench, pass, OnMutex(Lock(1)), &mut Never)?;
-    let after = ticks(rt)?;
-    if taken == OK && taken_next == OK {
-        after.checked_sub(before)
-    } else {
-        None
-    }
+    let _pass = takes_both(rt, bench, pass)?;
+    ticks(rt)?.checked_sub(before)
 }
 
 /// A thread that sleeps takes no processor time: neither where it has never slept before, nor where it was woken before. It sleeps for a second in all, of which it may take a tenth.
@@ -235,18 +244,10 @@ fn a_sleeper_takes_no_time(rt: HostRuntime) -> Result<(), Fail> {
         fourth: _,
         fifth: _,
     } = Team::new(rt.alloc(), Layout::new(5, 2, &[])?, &[])?;
-    let owned = makes(&rt, &bench, first, OnMutex(Lock(0)), &mut Never).and_then(|made| makes(
-        &rt,
-        &bench,
-        made.0,
-        OnMutex(Lock(1)),
-        &mut Never,
-    ));
-    let Some((first, taken)) = owned else {
+    let Some(first) = takes_both(&rt, &bench, first) else {
         assert!(rt; false);
         return Ok(());
     };
-    assert!(rt; taken == OK);
     let shared = &bench;
     let host = &rt;
     let (freed, took) = thread::join(

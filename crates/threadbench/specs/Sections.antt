@@ -1,10 +1,11 @@
 -- What sections do under a bucket's lock (futex(2)).
-use Rattle.std.specs.Prelude.{ℕ, ◌≡◌, ◌≢◌, ◌+◌, ◌%◌, ◌^◌, ◌⊎◌, Bool, true, MatchBool, Option, None, Some, List, [], ◌∷◌}
+use Rattle.std.specs.Prelude.{ℕ, ◌≡◌, ◌≢◌, ◌+◌, ◌%◌, ◌^◌, ◌⊎◌, ◌==◌, if◌then◌else◌, Bool, true, MatchBool, Option, None, Some, List, [], ◌∷◌}
 use Rattle.buckets.specs.Queues.{Sleepers, standing, Stands, StandsNowhere, Enqueues}
 use Rattle.keys.specs.Accesses.{Trims}
 use Rattle.ruledwords.specs.declared.card.Card.{Card}
 use Rattle.ruledwords.specs.declared.turn.Running.{Running}
 use Rattle.ruledwords.specs.Looks.{Finds}
+use Rattle.ruledwords.specs.Changes.{Writes}
 use Rattle.threadbench.specs.declared.section.Waited.{Waited}
 use Rattle.threadbench.specs.declared.section.Waited.TheVariants.{Asleep, Awake, Stopped}
 
@@ -60,6 +61,10 @@ pub record TrimsThere (queue : List ℕ) (c d : Card) (cleared : Bool) : Type 0 
 pub record TrimsNobodys (queue : List ℕ) (c d : Card) (told : Bool) : Type 0 where
   pub cleared : told ≡ true → (queue ≡ []) × (d.last ≡ 0x8000_0000)
   pub spared : queue ≢ [] → d.trims ≡ c.trims
+
+-- where nobody sleeps there, the word at p that the trim found, by which it is answered, is 0 behind it if it said WAITERS and nothing else, and else as it was
+abbrev pub TrimLeaves : List ℕ → Card → ℕ → Card → Type 0
+TrimLeaves queue c p d = queue ≡ [] → Writes c p d.last (if d.last == 0x8000_0000 then 0 else d.last) d
 
 -- a wake of n took these threads out of a queue: a wake of 64, as many as there are threads at most, takes all, and nobody is left; and one of 1 takes the first, where there is one, and leaves those behind it
 pub record WakesFirsts (old new : List ℕ) (n : ℕ) (woken : List ℕ) : Type 0 where

@@ -15,7 +15,7 @@ pub(crate) struct Note {
     killed: CachePadded<AtomicBool>,
 }
 
-/// A thread that was killed, as its note says. Nothing makes one but [`Note::kill`], so whoever has one has written the note before.
+/// A thread that was killed, as a note of its own says. Nothing makes one but [`Note::kill`], so whoever has one has written such a note before.
 #[derive(Drop)]
 pub(crate) struct Killed {
     thread: Tid,

@@ -12,7 +12,7 @@ ghost use Rattle.ruledwords.specs.Deaths.{reaping_access, reaping_place};
 ghost use Rattle.ruledwords.specs.Passes.{card, layout_of};
 ghost use Rattle.ruledwords.specs.Turns.{access_in, place_at, running_call, running_pass, running_program, IsAnswerOf, IsRunningOf, IsTurnOf, Keeps, KeepsDecided, Onward, Unmoved};
 ghost use Rattle.threadbench.specs.Conditions.{StaysCondIfStopped};
-ghost use Rattle.threadbench.specs.Sections.{FindsUnlessStopped, StaysIfStopped, TrimsNobodys, TrimsThere, Waits, WaitsUnlessStopped, WakesFirsts, stops_waiting};
+ghost use Rattle.threadbench.specs.Sections.{FindsUnlessStopped, StaysIfStopped, TrimLeaves, TrimsNobodys, TrimsThere, Waits, WaitsUnlessStopped, WakesFirsts, stops_waiting};
 
 use crate::note::{Killed, Spared, ask};
 use buckets::{Batch, Bucket};
@@ -31,8 +31,8 @@ fn compare_and_enqueue(bucket: &mut Bucket, thread: Tid, key: Key, seen: u64, ex
     bucket.wait_section(thread, key, seen, expected)
 }
 
-/// That a thread stands in its word's queue, and that its note, asked under the lock of that queue's bucket, told it to go on. Nothing makes one but a wait's section, and nothing but this tells a call that its
-/// thread has slept.
+/// That a thread stands in its word's queue, and that its note, asked under the lock of that queue's bucket, told it to go on. Nothing makes one but a wait's section; a bench's
+/// calls go on by it as those that have slept.
 pub(crate) struct Asleep<N> {
     spared: Spared<N>,
 }
@@ -194,7 +194,7 @@ pub(crate) fn wake_for_dead(
     bucket.take(key, most)
 }
 
-/// What a trim came to: whether it cleared the word. Nothing makes one but [`trim_in`], which has the bucket, and nothing but this answers a call's trim.
+/// What a trim came to: whether it cleared the word. Nothing makes one but [`trim_in`], which has the bucket; a bench's calls go on by it.
 #[derive(Drop)]
 pub(crate) struct Trimmed {
     cleared: bool,
@@ -221,6 +221,7 @@ pub(crate) fn trim_in(bucket: &Bucket, running: &mut Running, words: &Words, key
     ensures unmoved { Unmoved words.now running.old running.new }
     ensures trims { TrimsThere (queue bucket.now key.0) (card (running_pass running.old)) (card (running_pass running.new)) result.cleared }
     ensures nobodys { TrimsNobodys (queue bucket.now key.0) (card (running_pass running.old)) (card (running_pass running.new)) result.cleared }
+    ensures leaves { (m : ℕ) → IsOnMutex (layout_of words.now) (running_program running.old) m → TrimLeaves (queue bucket.now key.0) (card (running_pass running.old)) (cell_place (layout_of words.now) m) (card (running_pass running.new)) }
 {
     if bucket.count(key) != 0 {
         return Trimmed { cleared: false };

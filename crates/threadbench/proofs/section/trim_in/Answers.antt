@@ -23,3 +23,9 @@ returns-clause-nobodys c =
     let sleepers = queue c.args.bucket.now c.args.key.0 in
     let empty = nil_from_length sleepers (sym c.count.ensures ∙ c.if-count-ne0.false) in
     trimmed_nobodys sleepers (card (running_pass c.args.running.now)) (card (running_pass c.trim-cleared.new.self)) c.trim-cleared.result empty c.trim-cleared.ensures.trims.0
+
+pub returns-then-count-ne0-clause-leaves : goal.returns-then-count-ne0-clause-leaves
+returns-then-count-ne0-clause-leaves c m on e = absurd (c.if-count-ne0.true (c.count.ensures ∙ ap (λ (xs : List ℕ). length xs) e))
+
+pub returns-clause-leaves : goal.returns-clause-leaves
+returns-clause-leaves c m on e = c.trim-cleared.ensures.leaves m on
