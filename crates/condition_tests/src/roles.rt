@@ -28,6 +28,8 @@ pub(crate) struct Board {
     pub(crate) order: AtomicU64,
     /// Waiters that died.
     deaths: AtomicU64,
+    /// How often the fate of a broadcast was asked beside which the waiter is killed.
+    broadcast: AtomicU64,
 }
 
 /// What a thread does.
@@ -50,6 +52,10 @@ pub(crate) enum Role {
     MovesAndKills(u8),
     /// The same, once that was asked so often, asleep or not.
     KillsAfter(u8, u64),
+    /// Once the first waiter sleeps: takes the mutex, broadcasts, and gives it back once the waiter is dead, whom another thread kills meanwhile.
+    MovesBesideAKill,
+    /// Kills the thread with this id, which waits as the first, once the fate of the broadcast that moves it was asked so often.
+    KillsBesideAMove(u8, u64),
 }
 
 impl Board {
@@ -59,6 +65,7 @@ impl Board {
             asked: [AtomicU64::new(0), AtomicU64::new(0), AtomicU64::new(0)],
             order: AtomicU64::new(0),
             deaths: AtomicU64::new(0),
+            broadcast: AtomicU64::new(0),
         }
     }
 
@@ -211,6 +218,32 @@ fn kills<R: Wait + Clock>(
     killed && died && freed
 }
 
+/// Moves the first waiter to the mutex as its owner, while another thread kills the waiter, and gives the mutex back once that is dead.
+fn moves<R: Wait + Clock>(rt: &R, bench: &Bench, pass: Pass<Live>, board: &Board) -> bool
+    requires { IsLive bench.now pass }
+{
+    let Some(pass) = is_told_ok(rt, bench, pass, OnMutex(Lock(0))) else {
+        return false;
+    };
+    let call = OnCondition(Broadcast(board.condition));
+    let mut fate = Asked::new(&board.broadcast, 0);
+    let Some((pass, Reply::OK)) = makes(rt, bench, pass, call, &mut fate) else {
+        return false;
+    };
+    let died = waits_for(rt, &board.deaths, 1);
+    is_told_ok(rt, bench, pass, OnMutex(Unlock(0))).is_some() && died
+}
+
+/// Kills the thread with this id beside a broadcast whose fate was asked so often: it waits for that awake, as the time of a sleep is long beside that of a kill.
+fn kills_beside<R: Wait>(rt: &R, bench: &Bench, board: &Board, victim: u8, asked: u64) -> bool {
+    for _ in 0..1_000_000_000_u32 {
+        if board.broadcast.load(Ordering::SeqCst) >= asked {
+            return bench.kill(rt, victim) == Ok(());
+        }
+    }
+    false
+}
+
 /// Does its part: whether all went as it should.
 fn acts<R: Wait + Clock>(rt: &R, bench: &Bench, pass: Pass<Live>, board: &Board, role: Role) -> bool
     requires { IsLive bench.now pass }
@@ -233,6 +266,8 @@ fn acts<R: Wait + Clock>(rt: &R, bench: &Bench, pass: Pass<Live>, board: &Board,
                 && bench.kill(rt, victim) == Ok(())
                 && waits_for(rt, &board.deaths, 1)
         }
+        Role::MovesBesideAKill => board.sleep(rt, 1) && moves(rt, bench, pass, board),
+        Role::KillsBesideAMove(victim, asked) => kills_beside(rt, bench, board, victim, asked),
     }
 }
 

@@ -2,8 +2,8 @@
 ghost use Rattle.ruledwords.specs.Passes.{IsLive};
 
 use crate::roles::Role::{
-    self, Broadcasts, Kills, KillsAfter, MovesAndKills, Nothing, Repeats, Signals, Waits,
-    WaitsAtOnce,
+    self, Broadcasts, Kills, KillsAfter, KillsBesideAMove, MovesAndKills, MovesBesideAKill,
+    Nothing, Repeats, Signals, Waits, WaitsAtOnce,
 };
 use crate::roles::{Board, two_act};
 use condvar::Op::OnMutex;
@@ -214,6 +214,35 @@ fn a_waiter_is_killed_about_to_sleep(rt: HostRuntime) -> Result<(), Fail> {
     for place in &PLACES {
         for _ in 0..40_u32 {
             assert!(rt; dies_by(&rt, rt.alloc(), place, WaitsAtOnce, KillsAfter(1, 8))?);
+        }
+    }
+    Ok(())
+}
+
+/// The counter's bucket has a much higher number than that of the mutex's cell.
+static FAR: Place = Place {
+    mutexes: 75,
+    condition: 0,
+};
+
+/// How often the fate of a broadcast is asked: before it loads the cell and the counter, adds 1 to the counter, sets WAITERS, and moves its sleepers.
+const BROADCAST: u64 = 5;
+
+/// A broadcast moves the waiter while it is looked for in one bucket after the other, in the order of their numbers: it is found all the same, since nobody is moved during a kill.
+#[test]
+fn a_waiter_is_killed_while_it_is_moved(rt: HostRuntime) -> Result<(), Fail> {
+    let buckets = FAR.buckets()?;
+    assert!(rt; buckets.0 < 20 && buckets.1 > 220);
+    for asked in 1..=BROADCAST {
+        for _ in 0..20_u32 {
+            let roles = [
+                WaitsAtOnce,
+                MovesBesideAKill,
+                KillsBesideAMove(1, asked),
+                Nothing,
+            ];
+            let found = played(&rt, rt.alloc(), &FAR, roles)?;
+            assert!(rt; found.well == [false, true, true, true] && found.order == 0);
         }
     }
     Ok(())

@@ -128,7 +128,7 @@ struct Story {
     sleeper: Option<Reply>,
     /// What a third thread's trylock is told then.
     next: Option<Reply>,
-    /// The id and the flags that it leaves in the cell, but for WAITERS, where that is the first one.
+    /// What it leaves in the cell of the first mutex.
     cell: u64,
 }
 
@@ -182,11 +182,11 @@ fn played<R: Threads + Wait + Clock + Sync>(
         well: well && taken == OK,
         sleeper,
         next,
-        cell: Left::of(bench, second).cells[0] & 0x7fff_ffff,
+        cell: Left::of(bench, second).cells[0],
     })
 }
 
-/// A sleeper is killed while the mutex is owned: its call ends, and the mutex can be had by a third thread.
+/// A sleeper is killed while the mutex is owned: its call ends, and the mutex can be had by a third thread. The owner's unlock found nobody to wake, and trimmed the cell: WAITERS isn't there any more.
 #[test]
 fn a_sleeper_is_killed(rt: HostRuntime) -> Result<(), Fail> {
     let want = Story {
@@ -284,7 +284,7 @@ fn the_last_of_64_threads_is_killed_in_a_high_bucket(rt: HostRuntime) -> Result<
     Ok(())
 }
 
-/// Twenty times: what the sleeper is told of its owner's fate, which has the mutex then.
+/// Twenty times: what the sleeper is told of its owner's fate, which has the mutex then. Whoever takes a mutex leaves WAITERS where it stands.
 fn always<R: Threads + Wait + Clock + Sync>(
     rt: &R,
     alloc: Global,
@@ -309,20 +309,20 @@ fn always<R: Threads + Wait + Clock + Sync>(
 /// A killed thread owns a mutex on which another sleeps: it is woken by the walk, and told EOWNERDEAD.
 #[test]
 fn a_killed_owner_strands_nobody(rt: HostRuntime) -> Result<(), Fail> {
-    assert!(rt; always(&rt, rt.alloc(), Act::IsKilled, EOWNERDEAD, 0x4000_0005)?);
+    assert!(rt; always(&rt, rt.alloc(), Act::IsKilled, EOWNERDEAD, 0xc000_0005)?);
     Ok(())
 }
 
 /// The owner dies and exits.
 #[test]
 fn a_sleeper_is_told_that_the_owner_died(rt: HostRuntime) -> Result<(), Fail> {
-    assert!(rt; always(&rt, rt.alloc(), Act::Dies, EOWNERDEAD, 0x4000_0005)?);
+    assert!(rt; always(&rt, rt.alloc(), Act::Dies, EOWNERDEAD, 0xc000_0005)?);
     Ok(())
 }
 
 /// The owner frees the mutex, and dies before the wake that it owes: the walk makes it.
 #[test]
 fn a_sleeper_is_woken_for_a_dead_thread(rt: HostRuntime) -> Result<(), Fail> {
-    assert!(rt; always(&rt, rt.alloc(), Act::DiesOwing, OK, 5)?);
+    assert!(rt; always(&rt, rt.alloc(), Act::DiesOwing, OK, 0x8000_0005)?);
     Ok(())
 }

@@ -1,4 +1,4 @@
-//! The tests of phases of work at a bench, of gates and of sleepers, by public names alone.
+//! The tests of phases of work at a bench, of gates, of sleepers and of trims, by public names alone.
 #![tactic(auto)]
 
 #[cfg(test)]
@@ -15,3 +15,5 @@ mod jobs;
 mod phases;
 #[cfg(test)]
 mod sleepers;
+#[cfg(test)]
+mod trims;

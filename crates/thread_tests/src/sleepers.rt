@@ -75,7 +75,7 @@ struct Before {
 }
 
 /// The end of an unlock: whether it was told OK.
-fn pays<R: Wait>(rt: &R, bench: &Bench, owed: Owed) -> bool
+pub(crate) fn pays<R: Wait>(rt: &R, bench: &Bench, owed: Owed) -> bool
     requires { IsOwedOf bench.now owed }
 {
     match bench.pay(rt, owed, &mut Never) {
