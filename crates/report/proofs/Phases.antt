@@ -13,7 +13,7 @@ use Rattle.condvar.specs.Ops.{is_in}
 use Rattle.ruledwords.specs.declared.pass.Live.{Live}
 use Rattle.ruledwords.specs.declared.pass.Pass.{Pass}
 use Rattle.ruledwords.specs.declared.pass.Spent.{Spent}
-use Rattle.ruledwords.specs.declared.card.Card.{Card}
+use Rattle.ruledwords.specs.declared.pass.Card.{Card}
 use Rattle.ruledwords.specs.declared.pass.Words.{Words}
 use Rattle.ruledwords.specs.Passes.{card, layout_of, IsLive}
 use Rattle.script.specs.declared.workload.Job.{Job as Ordered}
@@ -27,7 +27,7 @@ use Rattle.threadbench.specs.Each.{EachWith}
 use Rattle.threadbench.specs.Jobs.{IsJobOf, IsDone, AreDone, LivesOn}
 use Rattle.threadbench.proofs.Living.{works_on as still_works}
 use Rattle.report.specs.declared.threads.Worker.{Worker}
-use Rattle.report.specs.Threads.{is_reaped, open_gate, ArePossible, IsRightPhase, calls_at, calls_in, calls_over, AreFirst, AreHired, AreGathered, HaveWorked, HaveMade, HaveReplies, IsCountOf, Works, WorksFrom}
+use Rattle.report.specs.Threads.{is_reaped, open_gate, ArePossible, IsRightPhase, calls_at, calls_in, calls_over, AreFirst, AreAssigned, AreGathered, HaveWorked, HaveMade, HaveReplies, IsCountOf, Works, WorksFrom}
 use Rattle.report.proofs.Names.{mapped_at}
 use Rattle.report.proofs.Working.{as_many, done_works, works_none, works_on}
 
@@ -69,8 +69,8 @@ first_more bs dies vs b v so_far its die = record {
 
 -- ---- a job for each thread
 
-pub hired_more : (p : Phase) (vs : List Worker) (js : List Job) (v : Worker) (j : Job) → AreHired p vs js → j.pass ≡ v.pass → j.die ≡ v.die → j.calls.items ≡ calls_in (length js + 1) p → AreHired p (vs ++ v ∷ []) (js ++ j ∷ [])
-hired_more p vs js v j so_far pass die calls = record {
+pub one_more_assigned : (p : Phase) (vs : List Worker) (js : List Job) (v : Worker) (j : Job) → AreAssigned p vs js → j.pass ≡ v.pass → j.die ≡ v.die → j.calls.items ≡ calls_in (length js + 1) p → AreAssigned p (vs ++ v ∷ []) (js ++ j ∷ [])
+one_more_assigned p vs js v j so_far pass die calls = record {
   as_many = let many = so_far.as_many in omega (arith, length-append vs (v ∷ []), length-append js (j ∷ []));
   each = λ i u k is is'. both i u k (at_snoc vs v u i is) (at_snoc js j k i is');
 } where
@@ -150,25 +150,25 @@ rights k t (j ∷ jobs) all =
     All-append (λ c. is_in k c ≡ true) (calls_at t j) (flat_map (calls_at t) jobs) (right_calls k t j (All-head (λ x. ArePossible k x.calls) j jobs all)) (rights k t jobs (All-tail (λ x. ArePossible k x.calls) j jobs all))
 
 -- the jobs that bench and phase allow
-pub jobs_right : (w : Words) (p : Phase) (vs : List Worker) (js : List Job) → AreHired p vs js → All (λ v. IsWorkerOf w v.pass) vs → IsRightPhase (layout_of w) p → (k : ℕ) (d : Job) → k < length js → IsJobOf w (get_or js k d)
-jobs_right w p vs js hired right possible k d lt =
-    let many = hired.as_many in
+pub jobs_right : (w : Words) (p : Phase) (vs : List Worker) (js : List Job) → AreAssigned p vs js → All (λ v. IsWorkerOf w v.pass) vs → IsRightPhase (layout_of w) p → (k : ℕ) (d : Job) → k < length js → IsJobOf w (get_or js k d)
+jobs_right w p vs js assigned right possible k d lt =
+    let many = assigned.as_many in
     let mine = some_at vs k (omega arith) in
-    let both = hired.each k mine.0 (get_or js k d) mine.1 (slice_get-get_or js k d lt) in (
+    let both = assigned.each k mine.0 (get_or js k d) mine.1 (slice_get-get_or js k d lt) in (
       subst (λ (z : WorkerPass). IsWorkerOf w z) (sym both.0) (all_at (λ v. IsWorkerOf w v.pass) vs k mine.0 right mine.1),
       subst (λ (cs : List Op). All (λ c. is_in (layout_of w) c ≡ true) cs) (sym both.2) (rights (layout_of w) (k + 1) p.jobs.items possible),
     )
 
 -- a thread in a phase
-worked_at : (w : Words) (p : Phase) (vs vs' : List Worker) (js : List Job) (ks : List Record) (rs rs' : List (Vec Reply Global)) → AreHired p vs js → All (λ v. IsWorkerOf w v.pass) vs → AreDone w open_gate js ks → AreGathered ks vs' rs rs' → (i : ℕ) (u v : Worker) (r r' : Vec Reply Global) → slice_get vs i ≡ Some u → slice_get vs' i ≡ Some v → slice_get rs i ≡ Some r → slice_get rs' i ≡ Some r'
+worked_at : (w : Words) (p : Phase) (vs vs' : List Worker) (js : List Job) (ks : List Record) (rs rs' : List (Vec Reply Global)) → AreAssigned p vs js → All (λ v. IsWorkerOf w v.pass) vs → AreDone w open_gate js ks → AreGathered ks vs' rs rs' → (i : ℕ) (u v : Worker) (r r' : Vec Reply Global) → slice_get vs i ≡ Some u → slice_get vs' i ≡ Some v → slice_get rs i ≡ Some r → slice_get rs' i ≡ Some r'
     → IsWorkerOf w v.pass × ((more : List Reply) × (r'.items ≡ r.items ++ more) × Works w (calls_in (i + 1) p) u more v)
-worked_at w p vs vs' js ks rs rs' hired right done gathered i u v r r' is_u is_v is_r is_r' =
+worked_at w p vs vs' js ks rs rs' assigned right done gathered i u v r r' is_u is_v is_r is_r' =
     let low : i < length vs = slice_get_within vs i u is_u in
-    let many = hired.as_many in
+    let many = assigned.as_many in
     let j : (j : Job) × (slice_get js i ≡ Some j) = some_at js i (omega arith) in
     let long = as_long (IsDone w open_gate) js ks done in
     let k : (k : Record) × (slice_get ks i ≡ Some k) = some_at ks i (omega arith) in
-    let its = hired.each i u j.0 is_u j.1 in
+    let its = assigned.each i u j.0 is_u j.1 in
     let did = each_at (IsDone w open_gate) js ks i j.0 k.0 done j.1 k.1 in
     let left = gathered.each i k.0 v r r' k.1 is_v is_r is_r' in
     let was = subst (λ (z : WorkerPass). IsWorkerOf w z) (sym its.0) (all_at (λ v. IsWorkerOf w v.pass) vs i u right is_u) in (
@@ -177,15 +177,15 @@ worked_at w p vs vs' js ks rs rs' hired right done gathered i u v r r' is_u is_v
     )
 
 -- and all of them
-pub worked : (w : Words) (p : Phase) (vs vs' : List Worker) (js : List Job) (ks : List Record) (rs rs' : List (Vec Reply Global)) → AreHired p vs js → All (λ v. IsWorkerOf w v.pass) vs → AreDone w open_gate js ks → AreGathered ks vs' rs rs' → length rs ≡ length vs → HaveWorked w p vs vs' rs rs'
-worked w p vs vs' js ks rs rs' hired before done gathered same = record {
+pub worked : (w : Words) (p : Phase) (vs vs' : List Worker) (js : List Job) (ks : List Record) (rs rs' : List (Vec Reply Global)) → AreAssigned p vs js → All (λ v. IsWorkerOf w v.pass) vs → AreDone w open_gate js ks → AreGathered ks vs' rs rs' → length rs ≡ length vs → HaveWorked w p vs vs' rs rs'
+worked w p vs vs' js ks rs rs' assigned before done gathered same = record {
   as_many = many;
   as_long = gathered.as_long;
   right = right;
-  each = λ i u v r r' is_u is_v is_r is_r'. (worked_at w p vs vs' js ks rs rs' hired before done gathered i u v r r' is_u is_v is_r is_r').1;
+  each = λ i u v r r' is_u is_v is_r is_r'. (worked_at w p vs vs' js ks rs rs' assigned before done gathered i u v r r' is_u is_v is_r is_r').1;
 } where
   many : length vs' ≡ length vs
-  many = gathered.as_many ∙ as_long (IsDone w open_gate) js ks done ∙ hired.as_many
+  many = gathered.as_many ∙ as_long (IsDone w open_gate) js ks done ∙ assigned.as_many
 
   right : (i : ℕ) (d : Worker) → i < length vs' → IsWorkerOf w (get_or vs' i d).pass
   right i d lt =
@@ -194,7 +194,7 @@ worked w p vs vs' js ks rs rs' hired before done gathered same = record {
       let u = some_at vs i (omega arith) in
       let r = some_at rs i (omega arith) in
       let r' = some_at rs' i (omega arith) in
-      (worked_at w p vs vs' js ks rs rs' hired before done gathered i u.0 (get_or vs' i d) r.0 r'.0 u.1 (slice_get-get_or vs' i d lt) r.1 r'.1).0
+      (worked_at w p vs vs' js ks rs rs' assigned before done gathered i u.0 (get_or vs' i d) r.0 r'.0 u.1 (slice_get-get_or vs' i d lt) r.1 r'.1).0
 
 over_more : (t : ℕ) (ps : List Phase) (p : Phase) → calls_over t (ps ++ p ∷ []) ≡ calls_over t ps ++ calls_in t p
 over_more t ps p = flat_map-append (calls_in t) ps (p ∷ []) ∙ ap (λ (cs : List Op). calls_over t ps ++ cs) (append-nil (calls_in t p))

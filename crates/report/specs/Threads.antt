@@ -66,7 +66,7 @@ pub record AreFirst (passes : List (Pass Live)) (dies : List (Option ℕ)) (work
   pub each : (i : ℕ) (a : Pass Live) (v : Worker) → slice_get passes i ≡ Some a → slice_get workers i ≡ Some v → (v.pass ≡ Lives a) × (slice_get dies i ≡ Some v.die)
 
 -- each thread, thread 1 first, has its job in a phase: all its calls, and what is left of its number
-pub record AreHired (p : Phase) (workers : List Worker) (jobs : List Job) : Type 0 where
+pub record AreAssigned (p : Phase) (workers : List Worker) (jobs : List Job) : Type 0 where
   pub as_many : length jobs ≡ length workers
   pub each : (i : ℕ) (v : Worker) (j : Job) → slice_get workers i ≡ Some v → slice_get jobs i ≡ Some j → (j.pass ≡ v.pass) × (j.die ≡ v.die) × (j.calls.items ≡ calls_in (i + 1) p)
 

@@ -4,7 +4,7 @@ ghost use Rattle.ruledwords.specs.Passes.{card, layout_of, last_layout, IsPassOf
 ghost use Rattle.script.specs.Playing.{counters_of, layout_of as layout_in};
 ghost use Rattle.threadbench.specs.Answered.{card_in, IsWorkerOf};
 ghost use Rattle.threadbench.specs.Jobs.{LivesOn};
-ghost use Rattle.report.specs.Threads.{is_reaped, IsRightPhase, AreRightPhases, calls_in, AreFirst, AreHired, AreGathered, AreCells, AreCounters, HaveWorked, HaveMade, HasEnded, HaveAnswered, HaveReplies};
+ghost use Rattle.report.specs.Threads.{is_reaped, IsRightPhase, AreRightPhases, calls_in, AreFirst, AreAssigned, AreGathered, AreCells, AreCounters, HaveWorked, HaveMade, HasEnded, HaveAnswered, HaveReplies};
 
 use condvar::Op;
 use keys::NoMem;
@@ -66,8 +66,8 @@ fn calls_of(alloc: Global, phase: &Phase, thread: usize) -> Result<Vec<Op>, Allo
 }
 
 /// A job in a phase for each thread, which has no calls where the phase has none for it.
-fn hire(alloc: Global, workers: Vec<Worker>, phase: &Phase) -> Result<Vec<Job>, AllocError>
-    ensures { IfOk result (λ jobs. AreHired phase.now workers.items jobs.items) }
+fn assign(alloc: Global, workers: Vec<Worker>, phase: &Phase) -> Result<Vec<Job>, AllocError>
+    ensures { IfOk result (λ jobs. AreAssigned phase.now workers.items jobs.items) }
 {
     let mut jobs = Vec::new(alloc);
     for worker in workers {
@@ -113,16 +113,11 @@ fn run_phase<R: Threads + Wait + Sync>(
     requires as_many { length replies.old.items ≡ length workers.items }
     ensures { IfOk result (λ after. HaveWorked bench.now phase.now workers.items after.items replies.old.items replies.new.items) }
 {
-    let Ok(jobs) = hire(alloc, workers, phase) else {
-        return Err(NoMem);
-    };
+    let jobs = assign(alloc, workers, phase)?;
     let Ok(records) = bench.work(rt, alloc, jobs, &Open) else {
         return Err(NoMem);
     };
-    match gather(alloc, records, replies) {
-        Ok(workers) => Ok(workers),
-        Err(_) => Err(NoMem),
-    }
+    Ok(gather(alloc, records, replies)?)
 }
 
 /// Works all phases. One without jobs is passed over.
@@ -283,21 +278,12 @@ pub(crate) fn answers_of<R: Threads + Wait + Sync>(
     ensures answered { IfOk result (λ a. HaveAnswered (layout_in script.now) (counters_of script.now) jobs.phases.items jobs.dies.items a.replies.items a.died.items a.cells.items a.counters.items) }
     ensures each { IfOk result (λ a. HaveReplies jobs.phases.items a.replies.items a.died.items) }
 {
-    let Ok(presets) = presets_of(alloc, script) else {
-        return Err(NoMem);
-    };
+    let presets = presets_of(alloc, script)?;
     let layout = script.layout();
     let (bench, passes) = Bench::new(alloc, layout, presets.as_slice())?;
-    let Ok(workers) = workers_of(alloc, passes, jobs.dies.as_slice()) else {
-        return Err(NoMem);
-    };
-    let Ok(mut replies) = no_replies(alloc, script.threads()) else {
-        return Err(NoMem);
-    };
+    let workers = workers_of(alloc, passes, jobs.dies.as_slice())?;
+    let mut replies = no_replies(alloc, script.threads())?;
     let phases = jobs.phases.as_slice();
     let workers = run_phases(rt, alloc, &bench, phases, workers, &mut replies)?;
-    match end(alloc, bench, workers, script, replies) {
-        Ok(answers) => Ok(answers),
-        Err(_) => Err(NoMem),
-    }
+    Ok(end(alloc, bench, workers, script, replies)?)
 }

@@ -163,9 +163,7 @@ impl Bench {
 
 /// A parker for each of so many threads.
 fn parkers(alloc: Global, threads: u8) -> Result<Vec<Parker>, NoMem> {
-    let Ok(mut parkers) = Vec::with_capacity(alloc, usize::from(threads)) else {
-        return Err(NoMem);
-    };
+    let mut parkers = Vec::with_capacity(alloc, usize::from(threads))?;
     for _ in 0..threads {
         push_in_room(&mut parkers, Parker::new());
     }
@@ -177,9 +175,7 @@ fn notes(alloc: Global) -> Result<Vec<Note>, NoMem>
     ensures count { IfOk result (λ v. length v.items ≡ 64) }
     ensures notes { IfOk result (λ v. AreNotes v.items) }
 {
-    let Ok(mut notes) = Vec::with_capacity(alloc, usize::from(THREADS)) else {
-        return Err(NoMem);
-    };
+    let mut notes = Vec::with_capacity(alloc, usize::from(THREADS))?;
     for before in 0..THREADS {
         push_in_room(&mut notes, Note::new(thread_after(before)));
     }
@@ -192,9 +188,7 @@ fn buckets(alloc: Global, threads: u8) -> Result<Vec<CachePadded<Mutex<Bucket>>>
     requires last { threads ≤ 64 }
     ensures { IfOk result (λ v. length v.items ≡ 256) }
 {
-    let Ok(mut buckets) = Vec::with_capacity(alloc, BUCKETS) else {
-        return Err(NoMem);
-    };
+    let mut buckets = Vec::with_capacity(alloc, BUCKETS)?;
     for _ in 0..BUCKETS {
         let bucket = Bucket::new(alloc, usize::from(threads))?;
         push_in_room(&mut buckets, CachePadded::new(Mutex::new(bucket)));

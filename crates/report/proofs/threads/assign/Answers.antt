@@ -1,8 +1,8 @@
 use Rattle.std.proofs.Common.{◌≡◌, ◌+◌, ◌∷◌, [], ◌++◌, ◌∙◌, length, refl, ap, sym, append_assoc, arith}
 use Rattle.std.specs.Vec.Iter.{into_iter_items}
 use Rattle.report.specs.Threads.{calls_in}
-use Rattle.report.proofs.Phases.{hired_more}
-use Rattle.report.proofs.threads.hire.Goals as goal
+use Rattle.report.proofs.Phases.{one_more_assigned}
+use Rattle.report.proofs.threads.assign.Goals as goal
 
 pub loop-worker-preserved : goal.loop-worker-preserved
 loop-worker-preserved c =
@@ -18,6 +18,6 @@ loop-worker-preserved c =
       (
         done ++ worker ∷ [],
         append_assoc done (worker ∷ []) (into_iter_items c.next.new.self) ∙ ap (λ rest. done ++ rest) (sym first.0) ∙ so_far.2.1,
-        rw c.in_ok-push.ensures.items (hired_more c.args.phase.now done c.loop-worker.jobs.items worker _ so_far.2.2 refl refl (c.in_ok-calls.ensures ∙ ap (λ n. calls_in (n + 1) c.args.phase.now) count)),
+        rw c.in_ok-push.ensures.items (one_more_assigned c.args.phase.now done c.loop-worker.jobs.items worker _ so_far.2.2 refl refl (c.in_ok-calls.ensures ∙ ap (λ n. calls_in (n + 1) c.args.phase.now) count)),
       ),
     )
