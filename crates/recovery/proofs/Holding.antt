@@ -8,7 +8,7 @@ use Rattle.keys.specs.Objects.{held_limit}
 use Rattle.keys.specs.declared.point.Operation.{Operation}
 use Rattle.keys.specs.declared.point.Operation.TheVariants.{Lock, Consistent}
 use Rattle.keys.specs.declared.point.Point.{Point}
-use Rattle.ruledwords.specs.declared.card.Card.{Card}
+use Rattle.ruledwords.specs.declared.pass.Card.{Card}
 use Rattle.ruledwords.specs.Cards.{at}
 use Rattle.ruledwords.specs.Outcomes.{Takes}
 use Rattle.ruledwords.specs.OwnWords.{owns_in}

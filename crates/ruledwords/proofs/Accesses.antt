@@ -5,7 +5,7 @@ use Rattle.mutex.specs.Programs.{access_of, row_operation, point_of}
 use Rattle.mutex.specs.Rows.{IsGoing}
 use Rattle.mutex.specs.Standings.{Standing}
 use Rattle.mutex.specs.Steps.{IsStep}
-use Rattle.ruledwords.specs.declared.card.Card.{Card}
+use Rattle.ruledwords.specs.declared.pass.Card.{Card}
 use Rattle.ruledwords.specs.Seen.{held}
 use Rattle.ruledwords.specs.Calls.{Ready, Made, led_at, count_after, most}
 use Rattle.ruledwords.proofs.Standing.{held_made, room_after, few_after}

@@ -19,7 +19,7 @@ use Rattle.condvar.specs.Rows.{IsGoing}
 use Rattle.condvar.specs.Standings.{CondWhole}
 use Rattle.condvar.specs.Whole.{cond_access, phase_access, IsUnderWay, PhaseKnows}
 use Rattle.condvar.proofs.Rights.{there}
-use Rattle.ruledwords.specs.declared.card.Card.{Card}
+use Rattle.ruledwords.specs.declared.pass.Card.{Card}
 use Rattle.ruledwords.specs.Calls.{address_at}
 use Rattle.ruledwords.specs.ConditionCalls.{CondFound, IsCondStep}
 use Rattle.ruledwords.specs.Conditions.{access_at, acted, cond_row_in, cond_standing, condition_at, list_phase, unlock_of, Acted, CondReady, CondStanding, IsAtCondition, IsOnCondition}
@@ -114,15 +114,15 @@ found_there k p (condition.Ended x) r c n d at found = absurd (cc at)
 
 -- elsewhere it is at its thread's own words, as an unlock is
 pub own_there : (p : CondWhole) (f : CondPhase) → IsAtCondition f → ((r : CondRow) → f ≡ condition.AtWords r → ⊥) → IsOwnAccess (list_phase f) × (phase_access p f ≡ phase_access_of (unlock_of p) (list_phase f))
-own_there p (condition.AtWords r) there other = absurd (other r refl)
-own_there p (condition.Announcing seen) there other = (tt, refl)
-own_there p (condition.Unlinking u seen) there other = (tt, refl)
-own_there p (condition.Locking w) there other = absurd there
-own_there p (condition.Ended x) there other = absurd there
+own_there p (condition.AtWords r) at other = absurd (other r refl)
+own_there p (condition.Announcing seen) at other = (tt, refl)
+own_there p (condition.Unlinking u seen) at other = (tt, refl)
+own_there p (condition.Locking w) at other = absurd at
+own_there p (condition.Ended x) at other = absurd at
 
 pub under_there : (f : CondPhase) → IsAtCondition f → IsUnderWay f
-under_there (condition.AtWords r) there = tt
-under_there (condition.Announcing seen) there = tt
-under_there (condition.Unlinking u seen) there = tt
-under_there (condition.Locking w) there = absurd there
-under_there (condition.Ended x) there = absurd there
+under_there (condition.AtWords r) at = tt
+under_there (condition.Announcing seen) at = tt
+under_there (condition.Unlinking u seen) at = tt
+under_there (condition.Locking w) at = absurd at
+under_there (condition.Ended x) at = absurd at

@@ -15,7 +15,7 @@ use Rattle.mutex.specs.Programs.{access_of}
 use Rattle.mutex.specs.Standings.{Whole}
 use Rattle.mutex.specs.Whole.{phase_led, once_stored, whole_access, whole_led, whole_moved, whole_point, IsUnderWay}
 use Rattle.mutex.specs.WholeLists.{IsOwnAccess}
-use Rattle.ruledwords.specs.declared.card.Card.{Card}
+use Rattle.ruledwords.specs.declared.pass.Card.{Card}
 use Rattle.ruledwords.specs.declared.pass.Words.{Words}
 use Rattle.ruledwords.specs.declared.pass.Pass.{Pass}
 use Rattle.ruledwords.specs.declared.pass.Live.{Live}

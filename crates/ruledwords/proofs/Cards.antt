@@ -11,8 +11,8 @@ use Rattle.mutex.proofs.Addresses.{same_place}
 use Rattle.keys.specs.Objects.{fresh, Run}
 use Rattle.facts.specs.Lives.{Complete}
 use Rattle.mutex.specs.Standings.{Standing}
-use Rattle.ruledwords.specs.declared.card.Card.{Card}
-use Rattle.ruledwords.specs.declared.card.Change.{Change}
+use Rattle.ruledwords.specs.declared.pass.Card.{Card}
+use Rattle.ruledwords.specs.declared.pass.Change.{Change}
 use Rattle.ruledwords.specs.Calls.{acts, IsOnMutex}
 use Rattle.ruledwords.specs.Looks.{noted, KnowsTheSame}
 use Rattle.ruledwords.specs.Cards.{at}

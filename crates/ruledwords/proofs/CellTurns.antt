@@ -18,7 +18,7 @@ use Rattle.mutex.specs.Steps.{IsStep}
 use Rattle.mutex.specs.Whole.{whole_access, whole_led, whole_moved, whole_point, IsUnderWay}
 use Rattle.mutex.proofs.Addresses.{few_words}
 use Rattle.mutex.proofs.Steps.{undecided}
-use Rattle.ruledwords.specs.declared.card.Card.{Card}
+use Rattle.ruledwords.specs.declared.pass.Card.{Card}
 use Rattle.ruledwords.specs.declared.pass.Words.{Words}
 use Rattle.ruledwords.specs.declared.pass.Pass.{Pass}
 use Rattle.ruledwords.specs.declared.pass.Live.{Live}

@@ -9,8 +9,8 @@ use native.Mathlib.Decide.{ℕ_discrete}
 use lib.ListN.{get_elem?}
 use Rattle.atomic_table.proofs.Lists.{at_set, at_snoc}
 use Rattle.keys.specs.Layouts.{Layout', cell_place, counter_place}
-use Rattle.ruledwords.specs.declared.card.Card.{Card}
-use Rattle.ruledwords.specs.declared.card.Change.{Change}
+use Rattle.ruledwords.specs.declared.pass.Card.{Card}
+use Rattle.ruledwords.specs.declared.pass.Change.{Change}
 use Rattle.ruledwords.specs.Changes.{changes_at, put_changes, made_by, made_by_others, left_by, left_of, change_of, first_changes, AllTied, ChangedNothing, ChangedOnce, KnowsMoreAt, Loaded, OthersChanged, Recorded, Tied, Writes}
 use Rattle.ruledwords.specs.Rules.{cards_of, all_cards_of}
 use Rattle.ruledwords.proofs.Lists.{all_two, counted}

@@ -45,8 +45,8 @@ use Rattle.condvar.specs.Programs.{point_of}
 use Rattle.condvar.specs.Rows.{ends, full, goes, IsGoing}
 use Rattle.condvar.specs.Standings.{CondWhole}
 use Rattle.condvar.specs.Whole.{cond_led, from_words}
-use Rattle.ruledwords.specs.declared.card.Card.{Card}
-use Rattle.ruledwords.specs.declared.card.Change.{Change}
+use Rattle.ruledwords.specs.declared.pass.Card.{Card}
+use Rattle.ruledwords.specs.declared.pass.Change.{Change}
 use Rattle.ruledwords.specs.Calls.{count_after, Made, OwnKept, Ready}
 use Rattle.ruledwords.specs.Cards.{at, mark_at, value_at}
 use Rattle.ruledwords.specs.ConditionCalls.{IsCondAnswerOf, IsInCondCall}

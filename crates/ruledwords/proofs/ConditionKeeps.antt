@@ -17,8 +17,8 @@ use Rattle.condvar.specs.declared.phase.CondPhase.TheVariants as condition
 use Rattle.condvar.specs.Calls.{condition_of, operation_of}
 use Rattle.condvar.specs.Standings.{CondWhole}
 use Rattle.condvar.specs.Whole.{begins, cond_access, cond_led, cond_moved, IsUnderWay}
-use Rattle.ruledwords.specs.declared.card.Card.{Card}
-use Rattle.ruledwords.specs.declared.condition_turn.CondRunning.{CondRunning}
+use Rattle.ruledwords.specs.declared.pass.Card.{Card}
+use Rattle.ruledwords.specs.declared.turn.CondRunning.{CondRunning}
 use Rattle.ruledwords.specs.declared.pass.Words.{Words}
 use Rattle.ruledwords.specs.declared.pass.Pass.{Pass}
 use Rattle.ruledwords.specs.declared.pass.Live.{Live}

@@ -40,7 +40,7 @@ use Rattle.condvar.specs.Programs.{point_of}
 use Rattle.condvar.specs.Rows.{decides, goes, IsGoing}
 use Rattle.condvar.specs.Standings.{CondWhole}
 use Rattle.condvar.specs.Whole.{cond_access, cond_led, from_words, onward, unlinked_at}
-use Rattle.ruledwords.specs.declared.card.Card.{Card}
+use Rattle.ruledwords.specs.declared.pass.Card.{Card}
 use Rattle.ruledwords.specs.Calls.{count_after, Made, OwnKept, Ready}
 use Rattle.ruledwords.specs.Cards.{at, mark_at, value_at}
 use Rattle.ruledwords.specs.ConditionCalls.{CondFound, IsCondAnswerOf, IsCondStep, IsInCondCall}

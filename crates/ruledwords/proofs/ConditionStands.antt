@@ -38,7 +38,7 @@ use Rattle.condvar.specs.Programs.{point_of}
 use Rattle.condvar.specs.Rows.{decides, ends, full, goes}
 use Rattle.condvar.specs.Standings.{CondWhole}
 use Rattle.condvar.specs.Whole.{cond_access, cond_led, from_words, onward, unlinked_at}
-use Rattle.ruledwords.specs.declared.card.Card.{Card}
+use Rattle.ruledwords.specs.declared.pass.Card.{Card}
 use Rattle.robustlist.specs.Words.{answer_on}
 use Rattle.facts.specs.Lives.{Beginning}
 use Rattle.ruledwords.specs.Calls.{row_in, Made, Ready}

@@ -28,8 +28,8 @@ use Rattle.condvar.specs.Laws.{counts_by, is_at_counter, largest_counter}
 use Rattle.condvar.specs.Programs.{point_of, row_access}
 use Rattle.condvar.specs.Rows.{ends, goes, IsGoing}
 use Rattle.condvar.proofs.Rights.{right}
-use Rattle.ruledwords.specs.declared.card.Card.{Card}
-use Rattle.ruledwords.specs.declared.card.Change.{Change}
+use Rattle.ruledwords.specs.declared.pass.Card.{Card}
+use Rattle.ruledwords.specs.declared.pass.Change.{Change}
 use Rattle.ruledwords.specs.Calls.{address_at, OwnKept}
 use Rattle.ruledwords.specs.Cards.{at, value_at, put_mark}
 use Rattle.ruledwords.specs.Changes.{put_changes, Writes}

@@ -32,9 +32,9 @@ use Rattle.condvar.specs.Calls.{condition_of}
 use Rattle.condvar.specs.Programs.{row_access}
 use Rattle.condvar.specs.Standings.{CondWhole}
 use Rattle.condvar.specs.Whole.{begins, cond_access, cond_led, cond_moved, lock_of, phase_access, progress_in, IsUnderWay, PhaseKnows}
-use Rattle.ruledwords.specs.declared.card.Card.{Card}
-use Rattle.ruledwords.specs.declared.card.Change.{Change}
-use Rattle.ruledwords.specs.declared.condition_turn.CondRunning.{CondRunning}
+use Rattle.ruledwords.specs.declared.pass.Card.{Card}
+use Rattle.ruledwords.specs.declared.pass.Change.{Change}
+use Rattle.ruledwords.specs.declared.turn.CondRunning.{CondRunning}
 use Rattle.ruledwords.specs.declared.pass.Words.{Words}
 use Rattle.ruledwords.specs.declared.pass.Pass.{Pass}
 use Rattle.ruledwords.specs.declared.pass.Live.{Live}

@@ -18,11 +18,11 @@ use Rattle.keys.specs.declared.point.Point.{Point}
 use Rattle.keys.specs.Layouts.{Layout', IsLayout, cell_place, counter_place, words_of}
 use Rattle.keys.specs.Objects.{Run, object_of}
 use Rattle.condvar.specs.Laws.{largest_counter}
-use Rattle.ruledwords.specs.declared.card.Card.{Card}
+use Rattle.ruledwords.specs.declared.pass.Card.{Card}
 use Rattle.ruledwords.specs.Cards.{at, put, value_at, put_value, mark_at}
 use Rattle.ruledwords.specs.Conditions.{looked_at_counter}
 use Rattle.ruledwords.specs.Changes.{changes_at, change_of, put_changes, Writes}
-use Rattle.ruledwords.specs.declared.card.Change.{Change}
+use Rattle.ruledwords.specs.declared.pass.Change.{Change}
 use Rattle.ruledwords.specs.Counts.{cell_at, counter_in, counts_in, mutex_at, Counted}
 use Rattle.ruledwords.specs.Looks.{noted}
 use Rattle.ruledwords.specs.Rules.{guard, owner_at, keeper, Fits, AllFit, Kept}

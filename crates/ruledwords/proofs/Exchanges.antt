@@ -23,7 +23,7 @@ use Rattle.mutex.specs.Rows.{decides, ends, goes}
 use Rattle.mutex.specs.Standings.{Whole}
 use Rattle.mutex.specs.TryLock.{try_resume, try_sees}
 use Rattle.mutex.specs.Whole.{phase_access}
-use Rattle.ruledwords.specs.declared.card.Card.{Card}
+use Rattle.ruledwords.specs.declared.pass.Card.{Card}
 use Rattle.ruledwords.specs.Calls.{row_in, ExpectsKnown}
 use Rattle.ruledwords.specs.Changes.{change_of, changes_at, left_by, made_by_others, Writes}
 use Rattle.ruledwords.specs.Turns.{IsOneStep}

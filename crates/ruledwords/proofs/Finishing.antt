@@ -8,8 +8,8 @@ use Rattle.mutex.specs.declared.call.Call.TheVariants as call
 use Rattle.ruledwords.specs.declared.pass.Words.{Words}
 use Rattle.ruledwords.specs.declared.pass.Pass.{Pass}
 use Rattle.ruledwords.specs.declared.pass.Live.{Live}
-use Rattle.ruledwords.specs.declared.outcome.Outcome.{Outcome}
-use Rattle.ruledwords.specs.declared.outcome.Outcome.TheVariants as outcome
+use Rattle.ruledwords.specs.declared.turn.Outcome.{Outcome}
+use Rattle.ruledwords.specs.declared.turn.Outcome.TheVariants as outcome
 use Rattle.ruledwords.specs.declared.turn.Running.{Running}
 use Rattle.ruledwords.specs.Outcomes.{Declared, Finishes, Tried}
 use Rattle.keys.specs.Layouts.{cell_place}

@@ -20,7 +20,7 @@ use Rattle.mutex.specs.Rows.{IsGoing, goes, ends}
 use Rattle.mutex.specs.Standings.{Standing}
 use Rattle.mutex.specs.Steps.{IsStep}
 use Rattle.mutex.specs.Unlock.{released_bits}
-use Rattle.ruledwords.specs.declared.card.Card.{Card}
+use Rattle.ruledwords.specs.declared.pass.Card.{Card}
 use Rattle.ruledwords.specs.Calls.{Ready, Made, led_at}
 use Rattle.ruledwords.specs.Changes.{ChangedNothing, ChangedOnce, Writes}
 use Rattle.ruledwords.specs.Cards.{at}

@@ -1,7 +1,7 @@
 -- Seats that come together.
 use Rattle.std.proofs.Common.{◌≡◌, List, Option, None, Some, IfSome}
 use Rattle.atomic_table.specs.declared.shared.Seat.{Seat}
-use Rattle.ruledwords.specs.declared.card.Card.{Card}
+use Rattle.ruledwords.specs.declared.pass.Card.{Card}
 use Rattle.ruledwords.specs.declared.pass.Words.{Words}
 use Rattle.ruledwords.specs.Gathered.{HaveCome}
 

@@ -15,8 +15,8 @@ use Rattle.keys.specs.declared.object.Object.{Object}
 use Rattle.keys.specs.declared.point.Point.{Point}
 use Rattle.keys.specs.Layouts.{Layout', IsLayout, head_place, cell_place, counter_place, words_of, address_in, thread_of, cell_offset, head_word}
 use Rattle.keys.specs.Objects.{fresh, object_of}
-use Rattle.ruledwords.specs.declared.card.Card.{Card}
-use Rattle.ruledwords.specs.declared.card.Change.{Change}
+use Rattle.ruledwords.specs.declared.pass.Card.{Card}
+use Rattle.ruledwords.specs.declared.pass.Change.{Change}
 use Rattle.ruledwords.specs.Cards.{at, value_at, put_value}
 use Rattle.ruledwords.specs.Changes.{first_changes, AllTied}
 use Rattle.ruledwords.specs.Counts.{counter_in, total_of, Counted}

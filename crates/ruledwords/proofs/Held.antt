@@ -10,7 +10,7 @@ use Rattle.keys.specs.declared.point.Point.{Point}
 use Rattle.keys.specs.declared.object.Object.{Object}
 use Rattle.keys.specs.Histories.{is_thread}
 use Rattle.keys.specs.Objects.{Permits, Run}
-use Rattle.ruledwords.specs.declared.card.Card.{Card}
+use Rattle.ruledwords.specs.declared.pass.Card.{Card}
 use Rattle.ruledwords.specs.Cards.{at}
 use Rattle.ruledwords.specs.Seen.{by, holds_after, held_after, holds, count_held, held, Sees}
 use Rattle.ruledwords.specs.Calls.{count_by, count_after}

@@ -39,8 +39,8 @@ use Rattle.mutex.specs.WholeLists.{HasList, KeepsList, Arrives, AgreeOnOwn, IsCa
 use Rattle.keys.specs.Chains.{address_sum}
 use Rattle.mutex.proofs.Addresses.{again, further_on, low, same_place}
 use Rattle.mutex.proofs.WholeLists.{right}
-use Rattle.ruledwords.specs.declared.card.Card.{Card}
-use Rattle.ruledwords.specs.declared.card.Change.{Change}
+use Rattle.ruledwords.specs.declared.pass.Card.{Card}
+use Rattle.ruledwords.specs.declared.pass.Change.{Change}
 use Rattle.ruledwords.specs.Cards.{value_at, put_value}
 use Rattle.ruledwords.specs.Passes.{IsCardOf}
 use Rattle.ruledwords.specs.OwnWords.{owns_in, IsOwn, KnowsOwn, knowing, own_after}

@@ -15,7 +15,7 @@ use Rattle.keys.specs.declared.point.Operation.{Operation}
 use Rattle.keys.specs.declared.point.Point.{Point}
 use Rattle.mutex.specs.Laws.{points}
 use Rattle.mutex.specs.Programs.{point_of}
-use Rattle.ruledwords.specs.declared.card.Card.{Card}
+use Rattle.ruledwords.specs.declared.pass.Card.{Card}
 use Rattle.ruledwords.specs.Cards.{at, put, value_at, put_value, mark_at, put_mark}
 use Rattle.ruledwords.specs.Seen.{by, AllOf}
 use Rattle.ruledwords.specs.Rules.{cards_of, all_cards_of, first_card}

@@ -15,7 +15,7 @@ use Rattle.mutex.specs.Rows.{IsGoing}
 use Rattle.mutex.specs.Standings.{Standing}
 use Rattle.mutex.specs.Steps.{IsStep}
 use Rattle.mutex.proofs.Steps.{at_cell}
-use Rattle.ruledwords.specs.declared.card.Card.{Card}
+use Rattle.ruledwords.specs.declared.pass.Card.{Card}
 use Rattle.ruledwords.specs.Calls.{address_at, Ready, IsOnMutex, IsInLayout, Made, OwnKept, made}
 use Rattle.ruledwords.specs.Passes.{IsCardOf}
 use Rattle.ruledwords.specs.Rules.{Kept, card_of, IsOne}

@@ -23,7 +23,7 @@ use Rattle.exitwalk.specs.declared.row.Row.TheVariants.{Mark as AtMark}
 use Rattle.exitwalk.specs.Steps.{points, Right}
 use Rattle.exitwalk.specs.Walks.{marked_word, point_of, row_access}
 use Rattle.exitwalk.proofs.Steps.{steps}
-use Rattle.ruledwords.specs.declared.card.Card.{Card}
+use Rattle.ruledwords.specs.declared.pass.Card.{Card}
 use Rattle.ruledwords.specs.Cards.{at}
 use Rattle.ruledwords.specs.Seen.{holds, Sees}
 use Rattle.ruledwords.specs.Deaths.{deaths, examined, left_by_mark, marked, remembering, Marks, MindsWaiters}

@@ -16,8 +16,8 @@ use Rattle.keys.specs.Histories.{is_thread}
 use Rattle.keys.specs.Layouts.{Layout', cell_place, counter_place}
 use Rattle.keys.specs.Objects.{fresh, Run, object_of, owner_of}
 use Rattle.keys.proofs.Objects.{run_append}
-use Rattle.ruledwords.specs.declared.card.Card.{Card}
-use Rattle.ruledwords.specs.declared.card.Change.{Change}
+use Rattle.ruledwords.specs.declared.pass.Card.{Card}
+use Rattle.ruledwords.specs.declared.pass.Change.{Change}
 use Rattle.ruledwords.specs.Cards.{at, put, value_at, mark_at, put_mark}
 use Rattle.ruledwords.specs.Changes.{changes_at, put_changes, change_of, Writes}
 use Rattle.ruledwords.specs.Counts.{counts_in}

@@ -5,8 +5,8 @@ use Rattle.keys.specs.declared.point.Operation.{Operation}
 use Rattle.mutex.specs.declared.row.Row.{Row}
 use Rattle.mutex.specs.Laws.{changes, decided}
 use Rattle.mutex.specs.Standings.{Standing}
-use Rattle.ruledwords.specs.declared.card.Card.{Card}
-use Rattle.ruledwords.specs.declared.card.Change.{Change}
+use Rattle.ruledwords.specs.declared.pass.Card.{Card}
+use Rattle.ruledwords.specs.declared.pass.Change.{Change}
 use Rattle.ruledwords.specs.Calls.{acts, ExpectsKnown, Stands}
 use Rattle.ruledwords.specs.Changes.{KnowsMoreAt}
 use Rattle.ruledwords.specs.Looks.{KnowsTheSame}

@@ -10,7 +10,7 @@ use Rattle.atomic_table.proofs.Lists.{at_set, set_again}
 use Rattle.lockword.specs.Cells.{fields_of}
 use Rattle.keys.specs.Layouts.{Layout', cell_place, counter_place, words_of}
 use Rattle.keys.specs.Objects.{object_of}
-use Rattle.ruledwords.specs.declared.card.Card.{Card}
+use Rattle.ruledwords.specs.declared.pass.Card.{Card}
 use Rattle.ruledwords.specs.Cards.{at, value_at, put_value, mark_at}
 use Rattle.ruledwords.specs.Seen.{holds, Leaves}
 use Rattle.ruledwords.specs.Rules.{guard, owner_at, keeper, Fits, AllFit, cards_of, Kept}

@@ -31,7 +31,7 @@ use Rattle.mutex.specs.Standings.{Standing, Whole}
 use Rattle.mutex.specs.Steps.{rank}
 use Rattle.mutex.specs.Whole.{phase_access, phase_led, whole_access, whole_led, whole_moved, leaving, after_cell, linked_at, unlinked_at, IsUnderWay, PhaseKnows}
 use Rattle.mutex.specs.WholeLists.{IsOwnAccess}
-use Rattle.ruledwords.specs.declared.card.Card.{Card}
+use Rattle.ruledwords.specs.declared.pass.Card.{Card}
 use Rattle.ruledwords.specs.declared.pass.Words.{Words}
 use Rattle.ruledwords.specs.declared.turn.Running.{Running}
 use Rattle.ruledwords.specs.declared.turn.Turn.TheVariants.{Goes}
@@ -121,12 +121,12 @@ cell_falls p r n less = omega (arith, less)
 -- ---- turns
 
 pub own_or_at_cell : (f : Phase) → IsUnderWay f → IsOwnAccess f ⊎ IsAtCell f
-own_or_at_cell (Announcing r) going = inl tt
-own_or_at_cell (AtCell r) going = inr tt
-own_or_at_cell (Linking l x) going = inl tt
-own_or_at_cell (Unlinking u d) going = inl tt
-own_or_at_cell (Clearing x) going = inl tt
-own_or_at_cell (Ended x) going = absurd going
+own_or_at_cell (Announcing r) under = inl tt
+own_or_at_cell (AtCell r) under = inr tt
+own_or_at_cell (Linking l x) under = inl tt
+own_or_at_cell (Unlinking u d) under = inl tt
+own_or_at_cell (Clearing x) under = inl tt
+own_or_at_cell (Ended x) under = absurd under
 
 pub own_told : (k : Layout') (p : Whole) (f : Phase) (c d : Card) (x : Answer) → IsOwnAccess f → Answers k p f c d x → (d ≡ own_after k c (whole_access p)) × (x ≡ answer_on (whole_access p) (known k c))
 own_told k p (Announcing r) c d x own told = told

@@ -32,9 +32,9 @@ use Rattle.mutex.specs.Steps.{Tells}
 use Rattle.mutex.specs.Whole.{phase_led, announced, leaving, after_cell, linked_at, unlinked_at, whole_access, whole_led}
 use Rattle.mutex.specs.WholeLists.{IsOwnAccess}
 use Rattle.mutex.proofs.Steps.{of_going, unlock_steps, unlock_refused}
-use Rattle.ruledwords.specs.declared.card.Card.{Card}
-use Rattle.ruledwords.specs.declared.outcome.Wakes.{Wakes}
-use Rattle.ruledwords.specs.declared.outcome.Wakes.TheVariants.{Nobody, One, All}
+use Rattle.ruledwords.specs.declared.pass.Card.{Card}
+use Rattle.ruledwords.specs.declared.turn.Wakes.{Wakes}
+use Rattle.ruledwords.specs.declared.turn.Wakes.TheVariants.{Nobody, One, All}
 use Rattle.ruledwords.specs.declared.pass.Words.{Words}
 use Rattle.ruledwords.specs.declared.pass.Pass.{Pass}
 use Rattle.ruledwords.specs.declared.pass.Live.{Live}

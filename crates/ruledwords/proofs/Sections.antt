@@ -24,7 +24,7 @@ use Rattle.mutex.specs.Rows.{Knows, IsGoing}
 use Rattle.mutex.specs.Standings.{Standing}
 use Rattle.mutex.specs.WholeLists.{OwnsAt}
 use Rattle.mutex.proofs.Steps.{goes_on, returned}
-use Rattle.ruledwords.specs.declared.card.Card.{Card}
+use Rattle.ruledwords.specs.declared.pass.Card.{Card}
 use Rattle.ruledwords.specs.Seen.{Called}
 use Rattle.ruledwords.specs.Calls.{acts, ExpectsKnown, Ready, Stands, most}
 use Rattle.ruledwords.specs.Turns.{IsAnswerOf}

@@ -20,7 +20,7 @@ use Rattle.mutex.specs.Standings.{Standing}
 use Rattle.mutex.specs.Steps.{IsStep, Minds, Tells, rank}
 use Rattle.mutex.proofs.Races.{raced}
 use Rattle.mutex.proofs.Steps.{right_step, minds, undecided, of_going, undecided_going}
-use Rattle.ruledwords.specs.declared.card.Card.{Card}
+use Rattle.ruledwords.specs.declared.pass.Card.{Card}
 use Rattle.ruledwords.specs.Cards.{at}
 use Rattle.ruledwords.specs.Seen.{held, Sees, Called}
 use Rattle.ruledwords.specs.Changes.{change_of, made_by_others, OthersChanged}

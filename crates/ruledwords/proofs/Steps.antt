@@ -24,7 +24,7 @@ use Rattle.mutex.specs.Rows.{IsGoing}
 use Rattle.mutex.specs.Standings.{Standing}
 use Rattle.mutex.specs.Steps.{IsStep, Minds}
 use Rattle.mutex.proofs.Steps.{right_step, minds, carries}
-use Rattle.ruledwords.specs.declared.card.Card.{Card}
+use Rattle.ruledwords.specs.declared.pass.Card.{Card}
 use Rattle.ruledwords.specs.Cards.{at, value_at, put_value}
 use Rattle.ruledwords.specs.Changes.{Writes}
 use Rattle.ruledwords.specs.Seen.{by, holds, Sees}

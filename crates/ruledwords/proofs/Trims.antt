@@ -11,7 +11,7 @@ use Rattle.atomic_table.proofs.Lists.{at_set}
 use Rattle.lockword.specs.Cells.{fields_of}
 use Rattle.keys.specs.Layouts.{Layout', cell_place, counter_place}
 use Rattle.keys.specs.Objects.{object_of}
-use Rattle.ruledwords.specs.declared.card.Card.{Card}
+use Rattle.ruledwords.specs.declared.pass.Card.{Card}
 use Rattle.ruledwords.specs.Cards.{at, mark_at}
 use Rattle.ruledwords.specs.Changes.{put_changes, Writes}
 use Rattle.ruledwords.specs.Seen.{Leaves}

@@ -2,7 +2,7 @@
 use Rattle.std.proofs.Common.{◌≡◌, ℕ, List, [], ◌∷◌, ◌++◌, sym, ap, ◌∙◌, subst}
 use Rattle.atomic_table.specs.Table.{Allows}
 use Rattle.keys.specs.Layouts.{Layout'}
-use Rattle.ruledwords.specs.declared.card.Card.{Card}
+use Rattle.ruledwords.specs.declared.pass.Card.{Card}
 use Rattle.ruledwords.specs.Seen.{Joined}
 use Rattle.ruledwords.specs.Rules.{Kept, Turns, card_of, IsOne}
 use Rattle.ruledwords.proofs.Moves.{Sat}

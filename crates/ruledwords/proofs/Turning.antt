@@ -20,7 +20,7 @@ use Rattle.mutex.specs.Rows.{IsGoing, Knows}
 use Rattle.mutex.specs.Whole.{first_phase, whole_started, begins as whole_begins, IsUnderWay as IsInProgress}
 use Rattle.mutex.specs.Standings.{Standing, Whole}
 use Rattle.mutex.specs.Steps.{IsStep}
-use Rattle.ruledwords.specs.declared.card.Card.{Card}
+use Rattle.ruledwords.specs.declared.pass.Card.{Card}
 use Rattle.ruledwords.specs.declared.pass.Words.{Words}
 use Rattle.ruledwords.specs.declared.pass.Pass.{Pass}
 use Rattle.ruledwords.specs.declared.pass.Live.{Live}

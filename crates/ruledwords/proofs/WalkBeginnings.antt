@@ -17,7 +17,7 @@ use Rattle.mutex.specs.WholeLists.{head_in, entry_in}
 use Rattle.robustlist.proofs.Places.{without-among}
 use Rattle.mutex.proofs.Addresses.{head_word_again, same_entry}
 use Rattle.mutex.proofs.OwnPlaces.{without_is_apart}
-use Rattle.ruledwords.specs.declared.card.Card.{Card}
+use Rattle.ruledwords.specs.declared.pass.Card.{Card}
 use Rattle.ruledwords.specs.Cards.{at, value_at}
 use Rattle.ruledwords.specs.Seen.{by, count_held, held, held_after, holds}
 use Rattle.ruledwords.specs.Deaths.{IsLeftAt, IsWalking}

@@ -14,7 +14,7 @@ use Rattle.exitwalk.specs.Standings.{Standing}
 use Rattle.exitwalk.specs.Walks.{access_of, marked_word, row_access, IsGoing, Knows}
 use Rattle.mutex.specs.WholeLists.{head_in, entry_in}
 use Rattle.mutex.proofs.Addresses.{again, head_word_again}
-use Rattle.ruledwords.specs.declared.card.Card.{Card}
+use Rattle.ruledwords.specs.declared.pass.Card.{Card}
 use Rattle.ruledwords.specs.Cards.{value_at}
 use Rattle.ruledwords.specs.Deaths.{FoundAt, IsWalking, WasSeen}
 use Rattle.ruledwords.specs.Lists.{known, or_zero}

@@ -26,7 +26,7 @@ use Rattle.exitwalk.specs.Walks.{access_of, after_mark, after_miss, goes_on, loo
 use Rattle.exitwalk.proofs.Steps.{steps}
 use Rattle.mutex.specs.WholeLists.{head_in, entry_in}
 use Rattle.mutex.proofs.Addresses.{again}
-use Rattle.ruledwords.specs.declared.card.Card.{Card}
+use Rattle.ruledwords.specs.declared.pass.Card.{Card}
 use Rattle.ruledwords.specs.Cards.{at, mark_at, value_at}
 use Rattle.ruledwords.specs.Seen.{by, held, held_after, holds, Leaves, Sees}
 use Rattle.ruledwords.specs.Calls.{count_after}

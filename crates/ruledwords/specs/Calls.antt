@@ -29,7 +29,7 @@ use Rattle.mutex.specs.Rows.{Knows}
 use Rattle.mutex.specs.Standings.{Standing, Whole}
 use Rattle.mutex.specs.Whole.{IsUnderWay}
 use Rattle.mutex.specs.Steps.{Expects-prop, Knows-prop}
-use Rattle.ruledwords.specs.declared.card.Card.{Card}
+use Rattle.ruledwords.specs.declared.pass.Card.{Card}
 use Rattle.ruledwords.specs.Cards.{at, value_at}
 use Rattle.ruledwords.specs.Changes.{changes_at, left_by, made_by_others, KnowsMoreAt, Writes}
 use Rattle.ruledwords.specs.Seen.{holds, Sees, Called}

@@ -12,10 +12,10 @@ use Rattle.condvar.specs.declared.phase.CondPhase.TheVariants as condition
 use Rattle.condvar.specs.Rows.{IsGoing}
 use Rattle.condvar.specs.Standings.{CondWhole}
 use Rattle.condvar.specs.Whole.{cond_access, cond_led, cond_moved, PhaseKnows}
-use Rattle.ruledwords.specs.declared.card.Card.{Card}
-use Rattle.ruledwords.specs.declared.condition_turn.CondRunning.{CondRunning}
-use Rattle.ruledwords.specs.declared.condition_turn.CondTurn.{CondTurn}
-use Rattle.ruledwords.specs.declared.condition_turn.CondTurn.TheVariants.{Goes, Locks, Lives}
+use Rattle.ruledwords.specs.declared.pass.Card.{Card}
+use Rattle.ruledwords.specs.declared.turn.CondRunning.{CondRunning}
+use Rattle.ruledwords.specs.declared.turn.CondTurn.{CondTurn}
+use Rattle.ruledwords.specs.declared.turn.CondTurn.TheVariants.{Goes, Locks, Lives}
 use Rattle.ruledwords.specs.declared.pass.Words.{Words}
 use Rattle.ruledwords.specs.declared.pass.Pass.{Pass}
 use Rattle.ruledwords.specs.declared.pass.Live.{Live}

@@ -17,10 +17,10 @@ use Rattle.condvar.specs.declared.signal.SignalRow.TheVariants as signal
 use Rattle.condvar.specs.declared.wait.WaitRow.TheVariants as wait
 use Rattle.condvar.specs.Calls.{condition_of, operation_of}
 use Rattle.condvar.specs.Laws.{largest_counter, IsOf}
-use Rattle.ruledwords.specs.declared.card.Card.{Card}
-use Rattle.ruledwords.specs.declared.condition_turn.CondRunning.{CondRunning}
-use Rattle.ruledwords.specs.declared.condition_turn.CondTurn.{CondTurn}
-use Rattle.ruledwords.specs.declared.condition_turn.CondTurn.TheVariants.{Goes, Locks, Lives}
+use Rattle.ruledwords.specs.declared.pass.Card.{Card}
+use Rattle.ruledwords.specs.declared.turn.CondRunning.{CondRunning}
+use Rattle.ruledwords.specs.declared.turn.CondTurn.{CondTurn}
+use Rattle.ruledwords.specs.declared.turn.CondTurn.TheVariants.{Goes, Locks, Lives}
 use Rattle.ruledwords.specs.declared.pass.Words.{Words}
 use Rattle.ruledwords.specs.declared.pass.Pass.{Pass}
 use Rattle.ruledwords.specs.declared.pass.Live.{Live}

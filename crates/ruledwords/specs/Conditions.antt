@@ -28,8 +28,8 @@ use Rattle.condvar.specs.Broadcast.{waiters_bit}
 use Rattle.condvar.specs.Laws.{largest_counter}
 use Rattle.condvar.specs.Programs.{point_of, resume_of, row_access}
 use Rattle.condvar.specs.Standings.{CondWhole}
-use Rattle.ruledwords.specs.declared.card.Card.{Card}
-use Rattle.ruledwords.specs.declared.card.Change.{Change}
+use Rattle.ruledwords.specs.declared.pass.Card.{Card}
+use Rattle.ruledwords.specs.declared.pass.Change.{Change}
 use Rattle.ruledwords.specs.Calls.{Made, OwnKept}
 use Rattle.ruledwords.specs.Cards.{at, value_at, mark_at, put_mark}
 use Rattle.ruledwords.specs.Changes.{Writes}

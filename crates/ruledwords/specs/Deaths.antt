@@ -18,13 +18,13 @@ use Rattle.exitwalk.specs.declared.row.Row.TheVariants as row
 use Rattle.exitwalk.specs.Standings.{Standing}
 use Rattle.exitwalk.specs.Walks.{access_of, marked_word, moved, row_after, IsGoing, Knows}
 use Rattle.mutex.specs.WholeLists.{head_in}
-use Rattle.ruledwords.specs.declared.card.Card.{Card}
+use Rattle.ruledwords.specs.declared.pass.Card.{Card}
 use Rattle.ruledwords.specs.declared.pass.Words.{Words}
 use Rattle.ruledwords.specs.declared.pass.Pass.{Pass}
 use Rattle.ruledwords.specs.declared.pass.Dead.{Dead}
-use Rattle.ruledwords.specs.declared.reaping.Reaping.{Reaping}
-use Rattle.ruledwords.specs.declared.reaping.Walked.{Walked}
-use Rattle.ruledwords.specs.declared.reaping.Walked.TheVariants as walked
+use Rattle.ruledwords.specs.declared.turn.Reaping.{Reaping}
+use Rattle.ruledwords.specs.declared.turn.Walked.{Walked}
+use Rattle.ruledwords.specs.declared.turn.Walked.TheVariants as walked
 use Rattle.ruledwords.specs.Cards.{at, mark_at, put_mark}
 use Rattle.ruledwords.specs.Seen.{by, holds, EndsWith, Sees}
 use Rattle.ruledwords.specs.Calls.{OwnKept}

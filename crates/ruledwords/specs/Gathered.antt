@@ -1,7 +1,7 @@
 -- Seats that come together.
 use Rattle.std.specs.Prelude.{◌≡◌, List, [], Option, None, Some}
 use Rattle.atomic_table.specs.declared.shared.Seat.{Seat}
-use Rattle.ruledwords.specs.declared.card.Card.{Card}
+use Rattle.ruledwords.specs.declared.pass.Card.{Card}
 use Rattle.ruledwords.specs.declared.pass.Words.{Words}
 
 -- one seat of these words has the cards, or there are none

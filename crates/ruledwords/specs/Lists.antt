@@ -3,7 +3,7 @@ use Rattle.std.specs.Prelude.{◌<◌, ℕ, ◌^◌, nat_lt, Option, None, Some,
 use Rattle.keys.specs.Layouts.{Layout', place_in}
 use Rattle.mutex.specs.Standings.{Whole}
 use Rattle.mutex.specs.WholeLists.{HasList, KeepsList, IsCallOn, CanBeWalked}
-use Rattle.ruledwords.specs.declared.card.Card.{Card}
+use Rattle.ruledwords.specs.declared.pass.Card.{Card}
 use Rattle.ruledwords.specs.Cards.{value_at}
 use Rattle.ruledwords.specs.OwnWords.{owns_in, KnowsOwn}
 

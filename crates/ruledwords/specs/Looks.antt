@@ -3,8 +3,8 @@ use Rattle.std.specs.Prelude.{◌≡◌, ℕ, ◌+◌, ◌==◌, List, [], ◌++
 use Rattle.lockword.specs.Cells.{fields_of}
 use Rattle.keys.specs.declared.point.Point.{Point}
 use Rattle.keys.specs.Objects.{object_of}
-use Rattle.ruledwords.specs.declared.card.Card.{Card}
-use Rattle.ruledwords.specs.declared.card.Change.{Change}
+use Rattle.ruledwords.specs.declared.pass.Card.{Card}
+use Rattle.ruledwords.specs.declared.pass.Change.{Change}
 use Rattle.ruledwords.specs.Cards.{at}
 use Rattle.ruledwords.specs.Changes.{Writes}
 use Rattle.ruledwords.specs.Seen.{by, Leaves}

@@ -8,18 +8,18 @@ use Rattle.lockword.specs.Cells.{fields_of}
 use Rattle.lockword.specs.declared.reply.Reply.TheVariants.{OK, EPERM, XRACED, XHELD}
 use Rattle.keys.specs.declared.point.Operation.TheVariants.{TryLock, Unlock, Consistent}
 use Rattle.keys.specs.Layouts.{Layout', cell_place}
-use Rattle.ruledwords.specs.declared.card.Card.{Card}
+use Rattle.ruledwords.specs.declared.pass.Card.{Card}
 use Rattle.ruledwords.specs.declared.pass.Words.{Words}
 use Rattle.ruledwords.specs.declared.pass.Pass.{Pass}
 use Rattle.ruledwords.specs.declared.pass.Live.{Live}
 use Rattle.ruledwords.specs.declared.pass.Dead.{Dead}
-use Rattle.ruledwords.specs.declared.outcome.Outcome.{Outcome}
-use Rattle.ruledwords.specs.declared.outcome.Outcome.TheVariants as outcome
-use Rattle.ruledwords.specs.declared.outcome.Released.{Released}
-use Rattle.ruledwords.specs.declared.outcome.Released.TheVariants as released
-use Rattle.ruledwords.specs.declared.outcome.Owed.{Owed}
-use Rattle.ruledwords.specs.declared.outcome.Wakes.{Wakes}
-use Rattle.ruledwords.specs.declared.outcome.Wakes.TheVariants.{Nobody, One, All}
+use Rattle.ruledwords.specs.declared.turn.Outcome.{Outcome}
+use Rattle.ruledwords.specs.declared.turn.Outcome.TheVariants as outcome
+use Rattle.ruledwords.specs.declared.turn.Released.{Released}
+use Rattle.ruledwords.specs.declared.turn.Released.TheVariants as released
+use Rattle.ruledwords.specs.declared.turn.Owed.{Owed}
+use Rattle.ruledwords.specs.declared.turn.Wakes.{Wakes}
+use Rattle.ruledwords.specs.declared.turn.Wakes.TheVariants.{Nobody, One, All}
 use Rattle.ruledwords.specs.declared.turn.Running.{Running}
 use Rattle.ruledwords.specs.declared.turn.Turn.TheVariants.{Lives}
 use Rattle.mutex.specs.declared.call.Call.{Call}

@@ -7,9 +7,9 @@ use Rattle.mutex.specs.declared.phase.Phase.TheVariants.{AtCell, Clearing}
 use Rattle.mutex.specs.declared.row.Row.{Row}
 use Rattle.mutex.specs.declared.row.Row.TheVariants.{Unlock, Ended}
 use Rattle.mutex.specs.declared.unlock.UnlockRow.TheVariants.{Wake}
-use Rattle.ruledwords.specs.declared.card.Card.{Card}
-use Rattle.ruledwords.specs.declared.outcome.Wakes.{Wakes}
-use Rattle.ruledwords.specs.declared.outcome.Wakes.TheVariants.{Nobody, One, All}
+use Rattle.ruledwords.specs.declared.pass.Card.{Card}
+use Rattle.ruledwords.specs.declared.turn.Wakes.{Wakes}
+use Rattle.ruledwords.specs.declared.turn.Wakes.TheVariants.{Nobody, One, All}
 use Rattle.keys.specs.declared.object.Object.{Object}
 use Rattle.keys.specs.Objects.{fresh, Run}
 use Rattle.ruledwords.specs.Cards.{at}

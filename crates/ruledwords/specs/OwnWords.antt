@@ -4,7 +4,7 @@ use Rattle.keys.specs.declared.access.Access.{Access}
 use Rattle.keys.specs.declared.access.Access.TheVariants as access
 use Rattle.keys.specs.Layouts.{Layout', head_place, cell_place, cell_offset, place_in}
 use Rattle.mutex.specs.WholeLists.{IsOwnPlace}
-use Rattle.ruledwords.specs.declared.card.Card.{Card}
+use Rattle.ruledwords.specs.declared.pass.Card.{Card}
 use Rattle.ruledwords.specs.Cards.{at, value_at, put_value}
 use Rattle.ruledwords.specs.Seen.{holds}
 use Rattle.ruledwords.specs.Rules.{Sat, At, Turns}

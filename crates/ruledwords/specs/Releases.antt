@@ -11,7 +11,7 @@ use Rattle.mutex.specs.Steps.{Tells}
 use Rattle.ruledwords.specs.declared.pass.Words.{Words}
 use Rattle.ruledwords.specs.declared.pass.Pass.{Pass}
 use Rattle.ruledwords.specs.declared.pass.Live.{Live}
-use Rattle.ruledwords.specs.declared.outcome.Wakes.{Wakes}
+use Rattle.ruledwords.specs.declared.turn.Wakes.{Wakes}
 use Rattle.ruledwords.specs.declared.step.End.{End}
 use Rattle.ruledwords.specs.declared.step.End.TheVariants as end
 use Rattle.ruledwords.specs.declared.turn.Turn.TheVariants.{Goes}

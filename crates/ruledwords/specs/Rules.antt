@@ -14,8 +14,8 @@ use Rattle.keys.specs.declared.point.Point.{Point}
 use Rattle.keys.specs.declared.object.Object.{Object}
 use Rattle.keys.specs.Layouts.{Layout', IsLayout, head_place, cell_place, counter_place, words_of, base_of, address_in, cell_offset, first_word}
 use Rattle.keys.specs.Objects.{object_of}
-use Rattle.ruledwords.specs.declared.card.Card.{Card}
-use Rattle.ruledwords.specs.declared.opening.Opening.{Opening}
+use Rattle.ruledwords.specs.declared.pass.Card.{Card}
+use Rattle.ruledwords.specs.declared.pass.Opening.{Opening}
 use Rattle.ruledwords.specs.Cards.{at, value_at, put_value, mark_at}
 use Rattle.ruledwords.specs.Changes.{Recorded}
 use Rattle.ruledwords.specs.Counts.{Counted}

@@ -12,7 +12,7 @@ use Rattle.keys.specs.declared.point.Point.{Point}
 use Rattle.keys.specs.declared.object.Object.{Object}
 use Rattle.keys.specs.Objects.{fresh, Run}
 use Rattle.facts.specs.Lives.{Act, Beginning}
-use Rattle.ruledwords.specs.declared.card.Card.{Card}
+use Rattle.ruledwords.specs.declared.pass.Card.{Card}
 use Rattle.ruledwords.specs.Cards.{at}
 
 -- the points that thread t made

@@ -21,7 +21,7 @@ use Rattle.mutex.specs.Programs.{first_row}
 use Rattle.mutex.specs.Standings.{Standing, Whole}
 use Rattle.mutex.specs.Steps.{IsStep}
 use Rattle.mutex.specs.Whole.{whole_started, whole_access, whole_led, whole_moved, IsUnderWay as IsInProgress}
-use Rattle.ruledwords.specs.declared.card.Card.{Card}
+use Rattle.ruledwords.specs.declared.pass.Card.{Card}
 use Rattle.ruledwords.specs.declared.pass.Words.{Words}
 use Rattle.ruledwords.specs.declared.pass.Pass.{Pass}
 use Rattle.ruledwords.specs.declared.pass.Live.{Live}

@@ -1,17 +1,61 @@
-//! The end of the words.
+//! Passes that meet, and the end of the words.
 ghost use Rattle.std.specs.Prelude.{◌≡◌, ◌<◌, List, [], ◌∷◌, ◌++◌, Some, All, IfSome, length, map, slice_index};
-ghost use Rattle.keys.specs.Layouts.{cell_place, counter_place, words_of};
-ghost use Rattle.ruledwords.specs.declared.card.Card.{Card};
+ghost use Rattle.keys.specs.Layouts.{cell_place, counter_place};
+ghost use Rattle.ruledwords.specs.Seen.{Joined, AreExclusive};
+ghost use Rattle.ruledwords.specs.Lists.{StaysSo};
+ghost use Rattle.ruledwords.specs.Passes.{card, layout_of, IsPassOf, presets_of, last_layout, last_words};
+ghost use Rattle.ruledwords.specs.declared.pass.Card.{Card};
 ghost use Rattle.ruledwords.specs.declared.pass.Words.{Words};
 ghost use Rattle.ruledwords.specs.Gathered.{HaveCome};
 ghost use Rattle.ruledwords.specs.Rules.{Ends};
-ghost use Rattle.ruledwords.specs.Passes.{layout_of, presets_of, last_layout, last_words, card, IsPassOf};
 
-use crate::card::View;
-use crate::pass::{Last, Pass, Spent, Words};
-use crate::rule::Gather;
+use crate::pass::{Last, Pass, Spent, View, Words};
+use crate::rule::{Deal, Gather, Meet};
 use atomic_table::Seat;
 use std::marker::PhantomData;
+
+impl Words {
+    /// Joins what two passes have seen. After it no mutex is held by both their threads.
+    pub fn meet<A, B>(&self, first: Pass<A>, second: Pass<B>) -> (Pass<A>, Pass<B>)
+        requires first { IsPassOf self.now first }
+        requires second { IsPassOf self.now second }
+        ensures passes { IsPassOf self.now result.0 × IsPassOf self.now result.1 }
+        ensures lists { StaysSo (layout_of self.now) (card first) (card result.0) × StaysSo (layout_of self.now) (card second) (card result.1) }
+        ensures joined { Joined (card first) (card second) (card result.0) (card result.1) }
+        ensures exclusive { AreExclusive (card result.0) (card result.1) }
+    {
+        let Pass {
+            mut seat,
+            thread,
+            held,
+            state,
+        } = first;
+        let Pass {
+            seat: other_seat,
+            thread: other_thread,
+            held: other_held,
+            state: other_state,
+        } = second;
+        let shared = &self.table.shared;
+        shared.join_seat::<Gather>(&mut seat, other_seat);
+        shared.load::<Meet>(&mut seat, 0);
+        let mine = shared.split_seat::<Deal>(&mut seat);
+        (
+            Pass {
+                seat: mine,
+                thread,
+                held,
+                state,
+            },
+            Pass {
+                seat,
+                thread: other_thread,
+                held: other_held,
+                state: other_state,
+            },
+        )
+    }
+}
 
 impl<A> Pass<A> {
     /// Puts the pass aside for the end of the words, where those of the living and of the reaped meet ([`Words::close_all`]). What it has seen stays.

@@ -9,37 +9,21 @@
 //! Nothing is claimed of the order between passes that never met, nor that a trylock is ever won.
 #![tactic(auto)]
 
-mod act;
+mod access;
 mod calls;
-mod card;
 mod close;
-mod condition_calls;
-mod condition_turn;
-mod death;
+mod condition;
 mod fate;
-mod look;
-mod make;
-mod meet;
 mod open;
-mod opening;
-mod outcome;
-mod owed;
-mod own;
-mod owner;
 mod pass;
-mod reaping;
-mod release;
 mod rule;
 mod running;
-mod section;
 mod step;
 mod turn;
 mod walk;
 
-pub use card::Card;
-pub use condition_turn::{CondRunning, CondTurn};
 pub use fate::{Fate, Never, either_stops};
-pub use outcome::{Outcome, Owed, Released, Wakes};
-pub use pass::{Dead, Last, Live, Pass, Reaped, Spent, Words};
-pub use reaping::{Reaping, Walked};
-pub use turn::{Running, Stretch, Turn};
+pub use pass::{Card, Dead, Last, Live, Pass, Reaped, Spent, Words};
+pub use turn::{
+    CondRunning, CondTurn, Outcome, Owed, Reaping, Released, Running, Stretch, Turn, Wakes, Walked,
+};

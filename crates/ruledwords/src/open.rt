@@ -1,11 +1,10 @@
-//! The beginning of the words.
+//! The beginning of the words, and whose passes are.
 ghost use Rattle.std.specs.Prelude.{◌≡◌, ℕ, ◌+◌, ◌<◌, Some, IfOk, All, length, slice_get, slice_index};
 ghost use Rattle.keys.specs.Layouts.{words_of, IsLayout};
 ghost use Rattle.ruledwords.specs.Rules.{first_card, opening_word};
 ghost use Rattle.ruledwords.specs.Passes.{layout_of, presets_of, card, IsLive};
 
-use crate::opening::Opening;
-use crate::pass::{Live, Pass, Words};
+use crate::pass::{Live, Opening, Pass, Words};
 use crate::rule::Deal;
 use atomic_table::Table;
 use keys::{Layout, NoMem};
@@ -110,5 +109,14 @@ fn first_word(layout: &Layout, presets: &[u32], place: usize) -> u64
         layout.first_word(place as u64)
     } else {
         u64::from(presets[place - counters])
+    }
+}
+
+impl<A> Pass<A> {
+    /// The thread whose pass it is.
+    pub fn thread(&self) -> Tid
+        ensures { result ≡ (card self.now).thread }
+    {
+        self.thread
     }
 }

@@ -1,18 +1,17 @@
-//! Words, and what threads step on them with.
+//! Words, what threads step on them with, and what they know.
 ghost use Rattle.std.specs.Prelude.{◌≡◌, ◌≤◌};
-ghost use Rattle.std.specs.Mem.Slots.{slots_items, slots_len, IsFull};
+ghost use Rattle.std.specs.Mem.Slots.{slots_len, IsFull};
 ghost use Rattle.keys.specs.Layouts.{words_of};
 ghost use Rattle.keys.specs.Objects.{held_limit};
 ghost use Rattle.ruledwords.specs.Rules.{card_of, IsOne};
 ghost use Rattle.ruledwords.specs.Seen.{held as holding};
 
-use crate::card::View;
-use crate::opening::Opening;
 use crate::rule::History;
 use atomic_table::{Closed, Seat, Table};
-use keys::Layout;
+use keys::{Layout, Point};
 use lockword::Tid;
 use std::alloc::Global;
+use std::collections::LinkedList;
 use std::marker::PhantomData;
 
 /// The shared words of a layout's threads, mutexes and condition variables.
@@ -69,4 +68,46 @@ impl Drop for Last {
         let Last { closed, layout: _ } = self;
         closed.free();
     }
+}
+
+/// A change of a mutex's cell or of a condition variable's counter: whose it was, 0 for what was there at first, and the word that it left. It stands in contracts and proofs alone.
+pub struct Change {
+    pub thread: u64,
+    pub word: u64,
+}
+
+/// What one thread knows of the shared words. It stands in contracts and proofs alone: no value of it is made.
+pub struct Card {
+    /// How many threads there are.
+    pub threads: u64,
+    /// Whose card it is.
+    pub thread: u64,
+    /// The address that the thread has for place 0 of the words.
+    pub base: u64,
+    /// What it has seen of each mutex, by the place of its cell.
+    pub seen: LinkedList<LinkedList<Point>>,
+    /// How many of its exchanges found a changed cell.
+    pub misses: u64,
+    /// The word that its last access to a cell found, or its last look at a counter.
+    pub last: u64,
+    /// How many trims it has made.
+    pub trims: u64,
+    /// What its last load of a condition variable's counter found.
+    pub counted: u64,
+    /// The words that only this thread writes, by place, where they are known.
+    pub values: LinkedList<Option<u64>>,
+    /// The cells in which it saw WAITERS, by place.
+    pub marks: LinkedList<bool>,
+    /// What it knows of the changes of each cell and each counter, by place: the first of them, one after the other, and all that it made itself.
+    pub changes: LinkedList<LinkedList<Change>>,
+}
+
+/// A pass has one card. While passes are dealt, or meet, one seat has several.
+pub type View = LinkedList<Card>;
+
+/// The layout of the words, and each word before the first step. It's the key of their rule.
+#[derive(Drop)]
+pub struct Opening {
+    pub(crate) layout: Layout,
+    pub(crate) words: Vec<u64>,
 }

@@ -1,6 +1,5 @@
 //! The rule of the words, and what each kind of step tells its pass.
-use crate::card::View;
-use crate::opening::Opening;
+use crate::pass::{Opening, View};
 use atomic_table::{Join, Play, Split, TableRule};
 use std::marker::{Brand, PhantomData};
 

@@ -9,9 +9,8 @@ ghost use Rattle.ruledwords.specs.Stretches.{StepsOn, StepsOnce, StepsTo, Stretc
 ghost use Rattle.ruledwords.specs.Turns.{EndsIn, IsCallOf, IsInNonblocking, IsOneStep, IsRunningOf, running_call, running_pass, stops_with, stops_within};
 
 use crate::fate::{Fate, Never, either_stops};
-use crate::outcome::Outcome;
 use crate::pass::{Live, Pass, Words};
-use crate::turn::{Running, Stretch};
+use crate::turn::{Outcome, Running, Stretch};
 use keys::{Access, StepProgram};
 use lockword::Reply;
 use mutex::{LockRow, Phase, Program, Row, TryLockRow};

@@ -1,21 +1,17 @@
-//! The kernel's walk for a thread that died.
+//! The kernel's walk over a dead thread's list.
 ghost use Rattle.std.specs.Prelude.{◌≡◌, ◌<◌, ◌≤◌, ℕ};
 ghost use Rattle.lockword.specs.Cells.{fields_of};
-ghost use Rattle.keys.specs.Accesses.{answer_at};
 ghost use Rattle.keys.specs.Layouts.{cell_place};
-ghost use Rattle.keys.specs.Objects.{held_limit};
-ghost use Rattle.exitwalk.specs.Walks.{access_of, marked_word, moved, IsGoing};
+ghost use Rattle.exitwalk.specs.Walks.{access_of, marked_word};
 ghost use Rattle.ruledwords.specs.Deaths.{card_after, reaping_access, reaping_pass, reaping_place, reaping_walk, remembering, FoundByWalk, HasWalked, IsCount, IsReapingOf, IsSeatedWalk, IsWake, KeepsWalking, Marks, MindsWaiters, WentOn, WentOnFound};
 ghost use Rattle.ruledwords.specs.Looks.{Finds};
 ghost use Rattle.ruledwords.specs.Passes.{card, layout_of, IsDying, IsPassOf};
 ghost use Rattle.ruledwords.specs.Rules.{card_of, IsOne};
 
-use crate::card::View;
-use crate::pass::{Dead, Pass, Reaped, Words};
-use crate::reaping::{Reaping, Walked};
+use crate::pass::{Dead, Pass, Reaped, View, Words};
 use crate::rule::{Examine, Mark, Placing};
-use crate::running::{answer, count};
-use crate::section::address;
+use crate::running::{address, answer, count};
+use crate::turn::{Reaping, Walked};
 use atomic_table::Seat;
 use exitwalk::{Row, Walk};
 use keys::{Access, Answer, Progress, StepProgram};

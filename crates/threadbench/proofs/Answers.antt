@@ -6,11 +6,11 @@ use Rattle.lockword.specs.declared.reply.Reply.{Reply}
 use Rattle.lockword.specs.declared.reply.Reply.TheVariants.{OK}
 use Rattle.keys.specs.Layouts.{Layout', cell_place}
 use Rattle.keys.specs.declared.point.Operation.TheVariants as operation
-use Rattle.ruledwords.specs.declared.card.Card.{Card}
-use Rattle.ruledwords.specs.declared.outcome.Outcome.{Outcome}
-use Rattle.ruledwords.specs.declared.outcome.Outcome.TheVariants as outcome
-use Rattle.ruledwords.specs.declared.outcome.Owed.{Owed}
-use Rattle.ruledwords.specs.declared.outcome.Released.TheVariants.{Owes}
+use Rattle.ruledwords.specs.declared.pass.Card.{Card}
+use Rattle.ruledwords.specs.declared.turn.Outcome.{Outcome}
+use Rattle.ruledwords.specs.declared.turn.Outcome.TheVariants as outcome
+use Rattle.ruledwords.specs.declared.turn.Owed.{Owed}
+use Rattle.ruledwords.specs.declared.turn.Released.TheVariants.{Owes}
 use Rattle.ruledwords.specs.declared.pass.Live.{Live}
 use Rattle.ruledwords.specs.declared.pass.Pass.{Pass}
 use Rattle.ruledwords.specs.declared.pass.Words.{Words}

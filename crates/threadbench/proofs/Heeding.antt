@@ -4,8 +4,8 @@ use mathlib.Core.Logic.{dite}
 use native.Mathlib.Decide.{ℕ_discrete}
 use Rattle.ruledwords.specs.Fates.{Heeds}
 use Rattle.ruledwords.specs.Outcomes.{stops_in}
-use Rattle.ruledwords.specs.declared.outcome.Outcome.{Outcome}
-use Rattle.ruledwords.specs.declared.outcome.Outcome.TheVariants as outcome
+use Rattle.ruledwords.specs.declared.turn.Outcome.{Outcome}
+use Rattle.ruledwords.specs.declared.turn.Outcome.TheVariants as outcome
 use Rattle.threadbench.specs.Calls.{IsHeeded}
 
 pub heeds_on : (f f' f'' n n' n'' k : ℕ) → Heeds f f' n n' 0 → Heeds f' f'' n' n'' k → Heeds f f'' n n'' k

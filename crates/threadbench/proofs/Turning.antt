@@ -10,14 +10,14 @@ use Rattle.mutex.specs.Calls.{mutex_of, operation_of}
 use Rattle.mutex.specs.Laws.{decided}
 use Rattle.mutex.specs.Programs.{first_row}
 use Rattle.mutex.specs.Standings.{Standing, Whole}
-use Rattle.ruledwords.specs.declared.card.Card.{Card}
+use Rattle.ruledwords.specs.declared.pass.Card.{Card}
 use Rattle.ruledwords.specs.declared.pass.Words.{Words}
 use Rattle.ruledwords.specs.declared.pass.Pass.{Pass}
 use Rattle.ruledwords.specs.declared.pass.Live.{Live}
 use Rattle.ruledwords.specs.declared.pass.Dead.{Dead}
-use Rattle.ruledwords.specs.declared.outcome.Outcome.{Outcome}
-use Rattle.ruledwords.specs.declared.outcome.Outcome.TheVariants as outcome
-use Rattle.ruledwords.specs.declared.outcome.Owed.{Owed}
+use Rattle.ruledwords.specs.declared.turn.Outcome.{Outcome}
+use Rattle.ruledwords.specs.declared.turn.Outcome.TheVariants as outcome
+use Rattle.ruledwords.specs.declared.turn.Owed.{Owed}
 use Rattle.ruledwords.specs.declared.turn.Running.{Running}
 use Rattle.ruledwords.specs.declared.turn.Stretch.{Stretch}
 use Rattle.ruledwords.specs.declared.turn.Stretch.TheVariants as stretch

@@ -16,13 +16,13 @@ use Rattle.condvar.specs.Calls.{condition_of, operation_of}
 use Rattle.keys.specs.Layouts.{Layout', counter_place}
 use Rattle.ruledwords.specs.Looks.{noted}
 use Rattle.condvar.specs.Standings.{CondWhole}
-use Rattle.ruledwords.specs.declared.card.Card.{Card}
-use Rattle.ruledwords.specs.declared.card.Change.{Change}
-use Rattle.ruledwords.specs.declared.condition_turn.CondRunning.{CondRunning}
-use Rattle.ruledwords.specs.declared.condition_turn.CondTurn.{CondTurn}
-use Rattle.ruledwords.specs.declared.condition_turn.CondTurn.TheVariants.{Goes, Locks, Lives}
-use Rattle.ruledwords.specs.declared.outcome.Outcome.{Outcome}
-use Rattle.ruledwords.specs.declared.outcome.Outcome.TheVariants as outcome
+use Rattle.ruledwords.specs.declared.pass.Card.{Card}
+use Rattle.ruledwords.specs.declared.pass.Change.{Change}
+use Rattle.ruledwords.specs.declared.turn.CondRunning.{CondRunning}
+use Rattle.ruledwords.specs.declared.turn.CondTurn.{CondTurn}
+use Rattle.ruledwords.specs.declared.turn.CondTurn.TheVariants.{Goes, Locks, Lives}
+use Rattle.ruledwords.specs.declared.turn.Outcome.{Outcome}
+use Rattle.ruledwords.specs.declared.turn.Outcome.TheVariants as outcome
 use Rattle.ruledwords.specs.declared.pass.Words.{Words}
 use Rattle.ruledwords.specs.declared.pass.Pass.{Pass}
 use Rattle.ruledwords.specs.declared.pass.Live.{Live}

@@ -19,7 +19,7 @@ use Rattle.condvar.specs.declared.wait.WaitRow.TheVariants as wait
 use Rattle.condvar.specs.Programs.{row_access}
 use Rattle.condvar.specs.Standings.{CondWhole}
 use Rattle.condvar.specs.Whole.{phase_access}
-use Rattle.ruledwords.specs.declared.condition_turn.CondRunning.{CondRunning}
+use Rattle.ruledwords.specs.declared.turn.CondRunning.{CondRunning}
 use Rattle.ruledwords.specs.ConditionCalls.{cond_access_in}
 use Rattle.ruledwords.specs.Conditions.{IsAtCondition}
 use Rattle.threadbench.specs.Conditions.{IsMoveOf, MovesAll}

@@ -10,13 +10,13 @@ use Rattle.buckets.specs.Queues.{Sleepers, queue, Fits, MovesTo, MovesWithin}
 use Rattle.condvar.specs.declared.call.CondCall.{CondCall}
 use Rattle.condvar.specs.declared.call.CondCall.TheVariants.{Wait, Signal, Broadcast}
 use Rattle.condvar.specs.Calls.{condition_of, operation_of}
-use Rattle.ruledwords.specs.declared.card.Card.{Card}
+use Rattle.ruledwords.specs.declared.pass.Card.{Card}
 use Rattle.ruledwords.specs.Changes.{Loaded}
-use Rattle.ruledwords.specs.declared.condition_turn.CondRunning.{CondRunning}
-use Rattle.ruledwords.specs.declared.condition_turn.CondTurn.{CondTurn}
-use Rattle.ruledwords.specs.declared.condition_turn.CondTurn.TheVariants.{Goes}
-use Rattle.ruledwords.specs.declared.outcome.Outcome.{Outcome}
-use Rattle.ruledwords.specs.declared.outcome.Outcome.TheVariants as outcome
+use Rattle.ruledwords.specs.declared.turn.CondRunning.{CondRunning}
+use Rattle.ruledwords.specs.declared.turn.CondTurn.{CondTurn}
+use Rattle.ruledwords.specs.declared.turn.CondTurn.TheVariants.{Goes}
+use Rattle.ruledwords.specs.declared.turn.Outcome.{Outcome}
+use Rattle.ruledwords.specs.declared.turn.Outcome.TheVariants as outcome
 use Rattle.ruledwords.specs.declared.pass.Words.{Words}
 use Rattle.ruledwords.specs.declared.pass.Pass.{Pass}
 use Rattle.ruledwords.specs.declared.pass.Live.{Live}

@@ -4,7 +4,7 @@ use Rattle.lockword.specs.declared.reply.Reply.{Reply}
 use Rattle.keys.specs.Layouts.{Layout'}
 use Rattle.condvar.specs.declared.op.Op.{Op}
 use Rattle.condvar.specs.Ops.{is_in}
-use Rattle.ruledwords.specs.declared.card.Card.{Card}
+use Rattle.ruledwords.specs.declared.pass.Card.{Card}
 use Rattle.ruledwords.specs.declared.pass.Words.{Words}
 use Rattle.ruledwords.specs.Deaths.{IsReaped}
 use Rattle.ruledwords.specs.Passes.{card, layout_of, IsLive, IsPassOf}

@@ -1,6 +1,6 @@
 //! Threads that die, and what the walk over their lists leaves.
 ghost use Rattle.std.specs.Prelude.{◌<◌, IfSome};
-ghost use Rattle.ruledwords.specs.declared.card.Card.{Card};
+ghost use Rattle.ruledwords.specs.declared.pass.Card.{Card};
 ghost use Rattle.ruledwords.specs.Deaths.{reaping_pass, HasWalked, IsReapingOf, WalksOn};
 ghost use Rattle.ruledwords.specs.Passes.{card, layout_of, IsDying, IsLive, IsPassOf};
 

@@ -2,7 +2,7 @@
 ghost use Rattle.std.specs.Prelude.{◌<◌, ◌≡◌, ◌+◌, All, IfOk, length};
 ghost use Rattle.lockword.specs.declared.reply.Reply.TheVariants.{OK};
 ghost use Rattle.mutex.specs.declared.phase.Phase.TheVariants.{Clearing};
-ghost use Rattle.ruledwords.specs.declared.outcome.Wakes.TheVariants.{Nobody};
+ghost use Rattle.ruledwords.specs.declared.turn.Wakes.TheVariants.{Nobody};
 ghost use Rattle.ruledwords.specs.Outcomes.{owed_wakes, IsOwedOf};
 ghost use Rattle.ruledwords.specs.Passes.{layout_of, last_layout, IsLive, IsPassOf};
 ghost use Rattle.ruledwords.specs.Turns.{running_call, IsRunningOf};

@@ -1,6 +1,6 @@
 use Rattle.std.proofs.Common.{List, length, ap, sym, ◌∙◌, subst}
 use Rattle.keys.specs.Layouts.{Layout'}
-use Rattle.ruledwords.specs.declared.card.Card.{Card}
+use Rattle.ruledwords.specs.declared.pass.Card.{Card}
 use Rattle.ruledwords.specs.Passes.{layout_of, presets_of, last_words}
 use Rattle.ruledwords.specs.Rules.{Ends}
 use Rattle.script.proofs.Names.{length-map_of}

@@ -1,5 +1,5 @@
 use Rattle.std.proofs.Common.{inl, subst}
-use Rattle.ruledwords.specs.declared.outcome.Released.TheVariants.{Owes}
+use Rattle.ruledwords.specs.declared.turn.Released.TheVariants.{Owes}
 use Rattle.ruledwords.specs.declared.pass.Words.{Words}
 use Rattle.ruledwords.specs.Outcomes.{Frees}
 use Rattle.threadbench.proofs.Answers.{unlock_ends}

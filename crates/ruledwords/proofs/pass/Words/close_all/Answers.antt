@@ -1,5 +1,5 @@
 use Rattle.std.proofs.Common.{List, map, sym, ap, subst}
-use Rattle.ruledwords.specs.declared.card.Card.{Card}
+use Rattle.ruledwords.specs.declared.pass.Card.{Card}
 use Rattle.ruledwords.specs.Gathered.{HaveCome}
 use Rattle.ruledwords.specs.Passes.{card, last_words, presets_of}
 use Rattle.ruledwords.specs.Rules.{Ends}

@@ -5,7 +5,7 @@ use Rattle.keys.specs.declared.access.Access.{Access}
 use Rattle.exitwalk.specs.declared.row.Part.{Part}
 use Rattle.exitwalk.specs.declared.row.Row.TheVariants.{LoadWord}
 use Rattle.exitwalk.specs.Standings.{Standing}
-use Rattle.ruledwords.specs.declared.card.Card.{Card}
+use Rattle.ruledwords.specs.declared.pass.Card.{Card}
 use Rattle.ruledwords.specs.Cards.{value_at}
 use Rattle.ruledwords.specs.Deaths.{IsLeftAt}
 use Rattle.ruledwords.specs.Passes.{layout_of}

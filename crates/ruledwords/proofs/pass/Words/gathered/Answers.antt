@@ -1,7 +1,7 @@
 use Rattle.std.proofs.Common.{rules, suc, List, [], ◌∷◌, ◌++◌, ◌∙◌, All, Some, map, refl, sym, ap, subst, append_assoc, arith}
 use Rattle.std.proofs.lemmas.List.{map-append}
 use Rattle.std.specs.Vec.Iter.{into_iter_items}
-use Rattle.ruledwords.specs.declared.card.Card.{Card}
+use Rattle.ruledwords.specs.declared.pass.Card.{Card}
 use Rattle.ruledwords.specs.Gathered.{HaveCome}
 use Rattle.ruledwords.specs.Passes.{card, IsPassOf}
 use Rattle.ruledwords.proofs.Gathering.{at_home}

@@ -3,7 +3,7 @@ use mathlib.Core.Option.{none}
 use Rattle.atomic_table.specs.Table.{step}
 use Rattle.keys.specs.Layouts.{counter_place, words_of}
 use Rattle.condvar.specs.Laws.{largest_counter}
-use Rattle.ruledwords.specs.declared.card.Card.{Card}
+use Rattle.ruledwords.specs.declared.pass.Card.{Card}
 use Rattle.ruledwords.specs.Cards.{value_at}
 use Rattle.ruledwords.specs.Conditions.{looked_at_counter}
 use Rattle.ruledwords.specs.Looks.{noted}

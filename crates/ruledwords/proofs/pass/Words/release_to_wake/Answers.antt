@@ -3,8 +3,8 @@ use Rattle.std.specs.Prelude.{if◌then◌else◌}
 use Rattle.lockword.specs.Cells.{fields_of}
 use Rattle.keys.specs.declared.object.Object.{Object}
 use Rattle.mutex.specs.declared.call.Call.TheVariants as call
-use Rattle.ruledwords.specs.declared.outcome.Wakes.{Wakes}
-use Rattle.ruledwords.specs.declared.outcome.Wakes.TheVariants.{Nobody, One, All}
+use Rattle.ruledwords.specs.declared.turn.Wakes.{Wakes}
+use Rattle.ruledwords.specs.declared.turn.Wakes.TheVariants.{Nobody, One, All}
 use Rattle.ruledwords.specs.Lists.{IsMortal}
 use Rattle.ruledwords.specs.Outcomes.{wakes_of, OwesAsLeft}
 use Rattle.ruledwords.specs.Passes.{card, layout_of}

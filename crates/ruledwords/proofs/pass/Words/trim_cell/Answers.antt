@@ -4,7 +4,7 @@ use mathlib.Core.Option.{none}
 use prog.Atomic.{either}
 use Rattle.atomic_table.specs.Table.{step}
 use Rattle.keys.specs.Layouts.{cell_place}
-use Rattle.ruledwords.specs.declared.card.Card.{Card}
+use Rattle.ruledwords.specs.declared.pass.Card.{Card}
 use Rattle.ruledwords.specs.Seen.{held}
 use Rattle.ruledwords.specs.Changes.{Writes}
 use Rattle.ruledwords.specs.Looks.{Finds, noted, trimmed}

@@ -7,7 +7,7 @@ use Rattle.ruledwords.specs.declared.pass.Pass.{Pass}
 use Rattle.ruledwords.specs.declared.pass.Live.{Live}
 use Rattle.ruledwords.proofs.ConditionTurns.{goes_under, returns_ended, whose, count, few_then, there_then, mine_then, room_then, goes_then, lives_then}
 use Rattle.ruledwords.proofs.ConditionKeeps.{keeps_goes, keeps_lives}
-use Rattle.ruledwords.proofs.condition_turn.CondRunning.access.Goals as goal
+use Rattle.ruledwords.proofs.turn.CondRunning.access.Goals as goal
 
 pub invariant_of-pass : goal.invariant_of-pass
 invariant_of-pass c =

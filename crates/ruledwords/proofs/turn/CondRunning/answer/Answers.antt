@@ -10,7 +10,7 @@ use Rattle.ruledwords.specs.Counts.{mutex_at}
 use Rattle.ruledwords.specs.Passes.{card, layout_of}
 use Rattle.ruledwords.proofs.ConditionTurns.{at_condition, goes_answered, goes_under, has_lock, lives_answered, locks_answered, no_lock, returns_ended, section_room}
 use Rattle.ruledwords.proofs.ConditionKeeps.{ends_answered, keeps_answered, lock_answered, releases_answered}
-use Rattle.ruledwords.proofs.condition_turn.CondRunning.answer.Goals as goal
+use Rattle.ruledwords.proofs.turn.CondRunning.answer.Goals as goal
 
 pub invariant_of-result : goal.invariant_of-result
 invariant_of-result c =

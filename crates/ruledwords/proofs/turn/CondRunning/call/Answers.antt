@@ -5,7 +5,7 @@ use Rattle.ruledwords.specs.Conditions.{cond_row_in, most_behind, IsAtCondition}
 use Rattle.ruledwords.specs.Passes.{card, layout_of}
 use Rattle.ruledwords.proofs.ConditionTurns.{begun_room, begun_there, cond_begins, condition_begun}
 use Rattle.ruledwords.proofs.ConditionKeeps.{begun_stands}
-use Rattle.ruledwords.proofs.condition_turn.CondRunning.call.Goals as goal
+use Rattle.ruledwords.proofs.turn.CondRunning.call.Goals as goal
 
 pub invariant_of-result : goal.invariant_of-result
 invariant_of-result c =

@@ -5,7 +5,7 @@ use Rattle.ruledwords.specs.Lists.{IsMortal}
 use Rattle.ruledwords.specs.Passes.{card, layout_of}
 use Rattle.ruledwords.proofs.Listing.{mortal}
 use Rattle.ruledwords.proofs.ConditionKeeps.{dies_here}
-use Rattle.ruledwords.proofs.condition_turn.CondRunning.die.Goals as goal
+use Rattle.ruledwords.proofs.turn.CondRunning.die.Goals as goal
 
 pub returns-clause-words : goal.returns-clause-words
 returns-clause-words c = λ w of.

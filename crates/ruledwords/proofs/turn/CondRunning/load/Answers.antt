@@ -1,5 +1,5 @@
 use Rattle.std.proofs.Common.{◌≡◌, refl, sym, ap, ◌∙◌, subst}
-use Rattle.ruledwords.specs.declared.card.Card.{Card}
+use Rattle.ruledwords.specs.declared.pass.Card.{Card}
 use Rattle.ruledwords.specs.ConditionCalls.{IsInCondCall}
 use Rattle.ruledwords.specs.Conditions.{condition_at}
 use Rattle.ruledwords.specs.Looks.{noted}
@@ -7,7 +7,7 @@ use Rattle.ruledwords.specs.Passes.{IsCardOf}
 use Rattle.ruledwords.specs.Rules.{card_of}
 use Rattle.ruledwords.proofs.Cards.{is_noted}
 use Rattle.ruledwords.proofs.ConditionTurns.{cond_noted, compared_at}
-use Rattle.ruledwords.proofs.condition_turn.CondRunning.load.Goals as goal
+use Rattle.ruledwords.proofs.turn.CondRunning.load.Goals as goal
 
 pub look_at_counter-requires : goal.look_at_counter-requires
 look_at_counter-requires c =

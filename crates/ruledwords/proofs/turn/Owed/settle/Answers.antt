@@ -4,7 +4,7 @@ use Rattle.ruledwords.specs.Owing.{owing_at}
 use Rattle.ruledwords.specs.Passes.{card}
 use Rattle.ruledwords.proofs.Settling.{settles_at_once, decided_there}
 use Rattle.ruledwords.proofs.Stretching.{in_place}
-use Rattle.ruledwords.proofs.outcome.Owed.settle.Goals as goal
+use Rattle.ruledwords.proofs.turn.Owed.settle.Goals as goal
 
 pub unreachable-requires : goal.unreachable-requires
 unreachable-requires c =

@@ -5,12 +5,12 @@ use Rattle.keys.specs.Accesses.{answer_at}
 use Rattle.exitwalk.specs.declared.row.Row.TheVariants.{Ended}
 use Rattle.exitwalk.specs.Standings.{Standing}
 use Rattle.exitwalk.specs.Walks.{point_of, row_after}
-use Rattle.ruledwords.specs.declared.card.Card.{Card}
+use Rattle.ruledwords.specs.declared.pass.Card.{Card}
 use Rattle.ruledwords.specs.Deaths.{FoundAt, IsReaped}
 use Rattle.ruledwords.specs.Passes.{card, layout_of}
 use Rattle.ruledwords.specs.Rules.{card_of}
 use Rattle.ruledwords.proofs.WalkSteps.{count_then, few_then, walk_ends, walk_goes, walk_returns, walks_on, went, Went}
-use Rattle.ruledwords.proofs.reaping.Reaping.access.Goals as goal
+use Rattle.ruledwords.proofs.turn.Reaping.access.Goals as goal
 
 pub found_by_walk-found-requires : goal.found_by_walk-found-requires
 found_by_walk-found-requires c =

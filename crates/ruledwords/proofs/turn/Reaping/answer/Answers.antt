@@ -4,7 +4,7 @@ use Rattle.exitwalk.specs.Walks.{point_of, row_after}
 use Rattle.ruledwords.specs.Deaths.{IsReaped}
 use Rattle.ruledwords.specs.Passes.{card, layout_of}
 use Rattle.ruledwords.proofs.WalkSteps.{counts, walk_ends, walk_returns, walks_on, Went}
-use Rattle.ruledwords.proofs.reaping.Reaping.answer.Goals as goal
+use Rattle.ruledwords.proofs.turn.Reaping.answer.Goals as goal
 
 pub returns-in-Goes-clause-keeps : goal.returns-in-Goes-clause-keeps
 returns-in-Goes-clause-keeps c = λ w of first was.

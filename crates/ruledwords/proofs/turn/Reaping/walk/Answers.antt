@@ -1,11 +1,11 @@
 use Rattle.std.proofs.Common.{◌≤◌, ℕ, sym, ap, ◌∙◌, subst}
 use Rattle.keys.specs.Layouts.{address_in, head_place}
-use Rattle.ruledwords.specs.declared.card.Card.{Card}
+use Rattle.ruledwords.specs.declared.pass.Card.{Card}
 use Rattle.ruledwords.specs.Deaths.{IsWalking}
 use Rattle.ruledwords.specs.Passes.{card, layout_of}
 use Rattle.ruledwords.proofs.WalkBeginnings.{walk_begins}
 use Rattle.ruledwords.proofs.WalkSteps.{walked_nothing}
-use Rattle.ruledwords.proofs.reaping.Reaping.walk.Goals as goal
+use Rattle.ruledwords.proofs.turn.Reaping.walk.Goals as goal
 
 pub returns-clause-words : goal.returns-clause-words
 returns-clause-words c =

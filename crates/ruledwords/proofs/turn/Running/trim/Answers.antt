@@ -1,7 +1,7 @@
 use Rattle.std.proofs.Common.{◌≡◌, ◌+◌, ◌==◌, ℕ, ap, refl, sym, ◌∙◌, subst}
 use Rattle.std.specs.Prelude.{if◌then◌else◌}
 use Rattle.keys.specs.Layouts.{cell_place}
-use Rattle.ruledwords.specs.declared.card.Card.{Card}
+use Rattle.ruledwords.specs.declared.pass.Card.{Card}
 use Rattle.ruledwords.specs.Changes.{Writes}
 use Rattle.ruledwords.specs.Lists.{IsInCall}
 use Rattle.ruledwords.specs.Passes.{IsCardOf}

@@ -1,7 +1,7 @@
 use Rattle.std.proofs.Common.{ap, subst}
 use Rattle.std.specs.Prelude.{ℕ, Bool, Ok, if◌then◌else◌}
-use Rattle.ruledwords.specs.declared.condition_turn.CondTurn.{CondTurn}
-use Rattle.ruledwords.specs.declared.condition_turn.CondTurn.TheVariants.{Goes, Locks}
+use Rattle.ruledwords.specs.declared.turn.CondTurn.{CondTurn}
+use Rattle.ruledwords.specs.declared.turn.CondTurn.TheVariants.{Goes, Locks}
 use Rattle.threadbench.specs.Conditions.{CondComesTo}
 use Rattle.threadbench.proofs.Heeding.{heeds_as, heeds_note, heeds_on}
 use Rattle.threadbench.proofs.Waiting.{came_on, dies_out, locks_out, same_cell}

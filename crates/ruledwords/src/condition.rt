@@ -15,11 +15,9 @@ ghost use Rattle.ruledwords.specs.ConditionStands.{CondKeeps, HasDiedInCondition
 ghost use Rattle.ruledwords.specs.Counts.{cell_at};
 ghost use Rattle.ruledwords.specs.Passes.{card, layout_of, IsDying, IsLive};
 
-use crate::condition_turn::{CondRunning, CondTurn};
 use crate::pass::{Dead, Live, Pass, Words};
-use crate::running::{answer, count};
-use crate::section::address;
-use crate::turn::Running;
+use crate::running::{address, answer, count};
+use crate::turn::{CondRunning, CondTurn, Running};
 use condvar::{CondCall, CondProgram};
 use keys::{Access, Answer, Progress, StepProgram};
 use lockword::Tid;
