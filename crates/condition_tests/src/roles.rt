@@ -267,7 +267,9 @@ fn acts<R: Wait + Clock>(rt: &R, bench: &Bench, pass: Pass<Live>, board: &Board,
                 && waits_for(rt, &board.deaths, 1)
         }
         Role::MovesBesideAKill => board.sleep(rt, 1) && moves(rt, bench, pass, board),
-        Role::KillsBesideAMove(victim, asked) => kills_beside(rt, bench, board, victim, asked),
+        Role::KillsBesideAMove(victim, asked) => {
+            waits_for(rt, &board.asked[0], ASLEEP) && kills_beside(rt, bench, board, victim, asked)
+        }
     }
 }
 
