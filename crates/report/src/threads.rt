@@ -113,11 +113,16 @@ fn run_phase<R: Threads + Wait + Sync>(
     requires as_many { length replies.old.items ≡ length workers.items }
     ensures { IfOk result (λ after. HaveWorked bench.now phase.now workers.items after.items replies.old.items replies.new.items) }
 {
-    let jobs = assign(alloc, workers, phase)?;
+    let Ok(jobs) = assign(alloc, workers, phase) else {
+        return Err(NoMem);
+    };
     let Ok(records) = bench.work(rt, alloc, jobs, &Open) else {
         return Err(NoMem);
     };
-    Ok(gather(alloc, records, replies)?)
+    match gather(alloc, records, replies) {
+        Ok(workers) => Ok(workers),
+        Err(_) => Err(NoMem),
+    }
 }
 
 /// Works all phases. One without jobs is passed over.
@@ -278,12 +283,21 @@ pub(crate) fn answers_of<R: Threads + Wait + Sync>(
     ensures answered { IfOk result (λ a. HaveAnswered (layout_in script.now) (counters_of script.now) jobs.phases.items jobs.dies.items a.replies.items a.died.items a.cells.items a.counters.items) }
     ensures each { IfOk result (λ a. HaveReplies jobs.phases.items a.replies.items a.died.items) }
 {
-    let presets = presets_of(alloc, script)?;
+    let Ok(presets) = presets_of(alloc, script) else {
+        return Err(NoMem);
+    };
     let layout = script.layout();
     let (bench, passes) = Bench::new(alloc, layout, presets.as_slice())?;
-    let workers = workers_of(alloc, passes, jobs.dies.as_slice())?;
-    let mut replies = no_replies(alloc, script.threads())?;
+    let Ok(workers) = workers_of(alloc, passes, jobs.dies.as_slice()) else {
+        return Err(NoMem);
+    };
+    let Ok(mut replies) = no_replies(alloc, script.threads()) else {
+        return Err(NoMem);
+    };
     let phases = jobs.phases.as_slice();
     let workers = run_phases(rt, alloc, &bench, phases, workers, &mut replies)?;
-    Ok(end(alloc, bench, workers, script, replies)?)
+    match end(alloc, bench, workers, script, replies) {
+        Ok(answers) => Ok(answers),
+        Err(_) => Err(NoMem),
+    }
 }
