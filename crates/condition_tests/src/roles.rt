@@ -40,10 +40,14 @@ pub(crate) enum Role {
     Waits(usize),
     /// Waits as the first one, at once.
     WaitsAtOnce,
+    /// The same, and dies where the fate of its wait is asked for the time with this number.
+    DiesInItsWait(u64),
     /// Takes the mutex, broadcasts and gives it back, until a wait was answered, and a million times at most.
     Repeats,
     /// Once three sleep: broadcasts to them.
     Broadcasts,
+    /// Once one sleeps: broadcasts to it.
+    BroadcastsToOne,
     /// Once three sleep: signals as often.
     Signals,
     /// Kills the thread with this id, which waits as the first, once that sleeps.
@@ -56,6 +60,8 @@ pub(crate) enum Role {
     MovesBesideAKill,
     /// Kills the thread with this id, which waits as the first, once the fate of the broadcast that moves it was asked so often.
     KillsBesideAMove(u8, u64),
+    /// Likewise the process with this number.
+    KillsProcessBesideAMove(u8, u64),
 }
 
 impl Board {
@@ -92,6 +98,16 @@ impl Board {
         self.order.store(next, Ordering::SeqCst);
     }
 
+    /// How often each waiter's fate was asked.
+    pub(crate) fn asked(&self) -> [u64; 3] {
+        let [first, second, third] = &self.asked;
+        [
+            first.load(Ordering::SeqCst),
+            second.load(Ordering::SeqCst),
+            third.load(Ordering::SeqCst),
+        ]
+    }
+
     fn order(&self) -> u64 {
         self.order.load(Ordering::SeqCst)
     }
@@ -118,8 +134,15 @@ fn as_owner<R: Wait>(rt: &R, bench: &Bench, pass: Pass<Live>, call: CondCall) ->
     is_told_ok(rt, bench, pass, OnMutex(Unlock(0)))
 }
 
-/// Takes the mutex, waits, and gives it back; whether it lives and all was told OK.
-fn waits<R: Wait>(rt: &R, bench: &Bench, pass: Pass<Live>, board: &Board, waiter: usize) -> bool
+/// Takes the mutex, waits, and gives it back; whether it lives and all was told OK. It dies where the fate of its wait is asked for the time with that number, from 1.
+fn waits<R: Wait>(
+    rt: &R,
+    bench: &Bench,
+    pass: Pass<Live>,
+    board: &Board,
+    waiter: usize,
+    stops_at: u64,
+) -> bool
     requires { IsLive bench.now pass }
 {
     let (Some(pass), Some(asked)) = (
@@ -129,7 +152,7 @@ fn waits<R: Wait>(rt: &R, bench: &Bench, pass: Pass<Live>, board: &Board, waiter
         return false;
     };
     let call = OnCondition(CondCall::Wait(board.condition));
-    match makes(rt, bench, pass, call, &mut Asked::new(asked, 0)) {
+    match makes(rt, bench, pass, call, &mut Asked::new(asked, stops_at)) {
         Some((pass, reply)) => {
             board.answer(waiter);
             is_told_ok(rt, bench, pass, OnMutex(Unlock(0))).is_some() && reply == Reply::OK
@@ -234,11 +257,11 @@ fn moves<R: Wait + Clock>(rt: &R, bench: &Bench, pass: Pass<Live>, board: &Board
     is_told_ok(rt, bench, pass, OnMutex(Unlock(0))).is_some() && died
 }
 
-/// Kills the thread with this id beside a broadcast whose fate was asked so often: it waits for that awake, as the time of a sleep is long beside that of a kill.
-fn kills_beside<R: Wait>(rt: &R, bench: &Bench, board: &Board, victim: u8, asked: u64) -> bool {
+/// Waits, awake, until the fate of the broadcast was asked so often: the time of a sleep is long beside that of a kill.
+fn meets_a_move(board: &Board, asked: u64) -> bool {
     for _ in 0..1_000_000_000_u32 {
         if board.broadcast.load(Ordering::SeqCst) >= asked {
-            return bench.kill(rt, victim) == Ok(());
+            return true;
         }
     }
     false
@@ -250,10 +273,16 @@ fn acts<R: Wait + Clock>(rt: &R, bench: &Bench, pass: Pass<Live>, board: &Board,
 {
     match role {
         Role::Nothing => true,
-        Role::Waits(waiter) => board.sleep(rt, waiter) && waits(rt, bench, pass, board, waiter),
-        Role::WaitsAtOnce => waits(rt, bench, pass, board, 0),
+        Role::Waits(waiter) => {
+            board.sleep(rt, waiter) && waits(rt, bench, pass, board, waiter, 0)
+        }
+        Role::WaitsAtOnce => waits(rt, bench, pass, board, 0, 0),
+        Role::DiesInItsWait(asked) => waits(rt, bench, pass, board, 0, asked),
         Role::Repeats => repeats(rt, bench, pass, board),
         Role::Broadcasts => board.sleep(rt, 3) && broadcasts(rt, bench, pass, board),
+        Role::BroadcastsToOne => {
+            board.sleep(rt, 1) && as_owner(rt, bench, pass, Broadcast(board.condition)).is_some()
+        }
         Role::Signals => board.sleep(rt, 3) && signals(rt, bench, pass, board),
         Role::Kills(victim) => {
             board.sleep(rt, 1) && kills(rt, bench, pass, board, victim, false)
@@ -268,7 +297,14 @@ fn acts<R: Wait + Clock>(rt: &R, bench: &Bench, pass: Pass<Live>, board: &Board,
         }
         Role::MovesBesideAKill => board.sleep(rt, 1) && moves(rt, bench, pass, board),
         Role::KillsBesideAMove(victim, asked) => {
-            waits_for(rt, &board.asked[0], ASLEEP) && kills_beside(rt, bench, board, victim, asked)
+            waits_for(rt, &board.asked[0], ASLEEP)
+                && meets_a_move(board, asked)
+                && bench.kill(rt, victim) == Ok(())
+        }
+        Role::KillsProcessBesideAMove(process, asked) => {
+            waits_for(rt, &board.asked[0], ASLEEP)
+                && meets_a_move(board, asked)
+                && bench.kill_process(rt, process) == Ok(())
         }
     }
 }

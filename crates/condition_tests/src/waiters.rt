@@ -2,8 +2,9 @@
 ghost use Rattle.ruledwords.specs.Passes.{IsLive};
 
 use crate::roles::Role::{
-    self, Broadcasts, Kills, KillsAfter, KillsBesideAMove, MovesAndKills, MovesBesideAKill,
-    Nothing, Repeats, Signals, Waits, WaitsAtOnce,
+    self, Broadcasts, BroadcastsToOne, DiesInItsWait, Kills, KillsAfter, KillsBesideAMove,
+    KillsProcessBesideAMove, MovesAndKills, MovesBesideAKill, Nothing, Repeats, Signals, Waits,
+    WaitsAtOnce,
 };
 use crate::roles::{Board, two_act};
 use condvar::Op::OnMutex;
@@ -77,6 +78,8 @@ struct Story {
     /// What the fifth's trylock of the mutex is told then.
     told: Option<Reply>,
     counter: u64,
+    /// How often the fate of each waiter's wait was asked.
+    asked: [u64; 3],
 }
 
 /// The first four of a team play these roles at once, on mutex 0 and the place's condition variable.
@@ -86,6 +89,17 @@ fn played<R: Threads + Wait + Clock + Sync>(
     place: &Place,
     roles: [Role; 4],
 ) -> Result<Story, Fail> {
+    played_on(rt, alloc, place.layout()?, place.condition, roles)
+}
+
+/// The same on one of the two condition variables of a layout.
+fn played_on<R: Threads + Wait + Clock + Sync>(
+    rt: &R,
+    alloc: Global,
+    layout: Layout,
+    condition: u16,
+    roles: [Role; 4],
+) -> Result<Story, Fail> {
     let Team {
         bench,
         first,
@@ -93,8 +107,8 @@ fn played<R: Threads + Wait + Clock + Sync>(
         third,
         fourth,
         fifth,
-    } = Team::new(alloc, place.layout()?, &[0, 0])?;
-    let board = Board::new(place.condition);
+    } = Team::new(alloc, layout, &[0, 0])?;
+    let board = Board::new(condition);
     let shared = &bench;
     let told = &board;
     let [a, b, c, d] = roles;
@@ -115,13 +129,17 @@ fn played<R: Threads + Wait + Clock + Sync>(
         well: [one[0], one[1], other[0], other[1]],
         order: board.order.load(Ordering::SeqCst),
         told: Some(reply),
-        counter: if place.condition == 0 {
+        counter: if condition == 0 {
             counters[0]
         } else {
             counters[1]
         },
+        asked: board.asked(),
     })
 }
+
+/// How often the fate of a waiter is asked in all whom a broadcast moves and an unlock wakes: eight times until it sleeps, and seven times more.
+const MOVED: u64 = 15;
 
 /// A broadcast moves the sleepers to the mutex: nobody wakes before it is free, and then each when the one before gives it back.
 #[test]
@@ -131,14 +149,11 @@ fn a_broadcast_wakes_three_in_order(rt: HostRuntime) -> Result<(), Fail> {
         order: 123,
         told: Some(Reply::OK),
         counter: 1,
+        asked: [MOVED; 3],
     };
     for place in &PLACES {
-        let found = played(
-            &rt,
-            rt.alloc(),
-            place,
-            [Waits(0), Waits(1), Waits(2), Broadcasts],
-        )?;
+        let roles = [Waits(0), Waits(1), Waits(2), Broadcasts];
+        let found = played(&rt, rt.alloc(), place, roles)?;
         assert!(rt; found == want);
     }
     Ok(())
@@ -147,20 +162,41 @@ fn a_broadcast_wakes_three_in_order(rt: HostRuntime) -> Result<(), Fail> {
 /// Each signal wakes one, who fell asleep first of those that still sleep.
 #[test]
 fn signals_wake_one_each_in_order(rt: HostRuntime) -> Result<(), Fail> {
-    let want = Story {
-        well: [true; 4],
-        order: 123,
-        told: Some(Reply::OK),
-        counter: 3,
-    };
     for place in &PLACES {
-        let found = played(
-            &rt,
-            rt.alloc(),
-            place,
-            [Waits(0), Waits(1), Waits(2), Signals],
-        )?;
+        let roles = [Waits(0), Waits(1), Waits(2), Signals];
+        let found = played(&rt, rt.alloc(), place, roles)?;
+        let want = Story {
+            well: [true; 4],
+            order: 123,
+            told: Some(Reply::OK),
+            counter: 3,
+            asked: found.asked,
+        };
         assert!(rt; found == want);
+    }
+    Ok(())
+}
+
+/// A waiter that was moved and woken dies before each access of the lock that ends its wait: before the load and the exchange it hasn't the mutex yet, and before the five further ones it owns it.
+#[test]
+fn a_woken_waiter_dies_before_each_access(rt: HostRuntime) -> Result<(), Fail> {
+    for place in &PLACES {
+        for asked in 9..=MOVED {
+            let roles = [DiesInItsWait(asked), BroadcastsToOne, Nothing, Nothing];
+            let found = played(&rt, rt.alloc(), place, roles)?;
+            let want = Story {
+                well: [false, true, true, true],
+                order: 0,
+                told: Some(if asked <= 10 {
+                    Reply::OK
+                } else {
+                    Reply::EOWNERDEAD
+                }),
+                counter: 1,
+                asked: [asked, 0, 0],
+            };
+            assert!(rt; found == want);
+        }
     }
     Ok(())
 }
@@ -228,21 +264,45 @@ static FAR: Place = Place {
 /// How often the fate of a broadcast is asked: before it loads the cell and the counter, adds 1 to the counter, sets WAITERS, and moves its sleepers.
 const BROADCAST: u64 = 5;
 
-/// A broadcast moves the waiter while it is looked for in one bucket after the other, in the order of their numbers: it is found all the same, since nobody is moved during a kill.
+/// The first thread waits, and is killed in this role of the third one's beside the second one's broadcast: whether it died without its mutex, which can be had then.
+fn dies_beside_a_move<R: Threads + Wait + Clock + Sync>(
+    rt: &R,
+    alloc: Global,
+    layout: Layout,
+    kills: Role,
+) -> Result<bool, Fail> {
+    let roles = [WaitsAtOnce, MovesBesideAKill, kills, Nothing];
+    let found = played_on(rt, alloc, layout, FAR.condition, roles)?;
+    Ok(found.well == [false, true, true, true] && found.order == 0 && found.told == Some(Reply::OK))
+}
+
+/// A broadcast comes to its move while the waiter is looked for in one bucket after the other, in the order of their numbers: it is found all the same, since nobody is moved during a kill.
 #[test]
 fn a_waiter_is_killed_while_it_is_moved(rt: HostRuntime) -> Result<(), Fail> {
     let buckets = FAR.buckets()?;
     assert!(rt; buckets.0 < 20 && buckets.1 > 220);
     for asked in 1..=BROADCAST {
         for _ in 0..20_u32 {
-            let roles = [
-                WaitsAtOnce,
-                MovesBesideAKill,
-                KillsBesideAMove(1, asked),
-                Nothing,
-            ];
-            let found = played(&rt, rt.alloc(), &FAR, roles)?;
-            assert!(rt; found.well == [false, true, true, true] && found.order == 0);
+            let kills = KillsBesideAMove(1, asked);
+            assert!(rt; dies_beside_a_move(&rt, rt.alloc(), FAR.layout()?, kills)?);
+        }
+    }
+    Ok(())
+}
+
+/// The same where its process is killed, in which it is alone.
+#[test]
+fn a_process_is_killed_while_its_thread_is_moved(rt: HostRuntime) -> Result<(), Fail> {
+    for asked in 1..=BROADCAST {
+        for _ in 0..20_u32 {
+            let layout = Layout::with_processes(
+                &[1, 0, 0, 0, 0],
+                &[0, 1000],
+                FAR.mutexes,
+                &[0, 0],
+            )?;
+            let kills = KillsProcessBesideAMove(1, asked);
+            assert!(rt; dies_beside_a_move(&rt, rt.alloc(), layout, kills)?);
         }
     }
     Ok(())

@@ -170,7 +170,7 @@ fn all_work<R: Threads + Wait + Sync, G: Gate + Sync>(
         return Ok(0);
     }
     let (bench, passes) = Bench::new(alloc, layout, &[])?;
-    let jobs = jobs_of(alloc, &bench, passes, calls)?;
+    let jobs = jobs_of(alloc, &bench, passes, calls, None)?;
     let records = work(rt, alloc, &bench, jobs, gate)?;
     Ok(
         records
@@ -278,6 +278,9 @@ fn with_owner(jobs: Vec<Job>, bench: &Bench, owner: Job) -> Result<Vec<Job>, NoM
     }
 }
 
+/// So many accesses a thread may make that sleeps for its turn: far more than it needs, and far fewer than one that doesn't sleep.
+const ACCESSES: u32 = 2_000;
+
 /// What became of a mutex's last owner but one.
 #[derive(Clone, Copy, PartialEq, Eq)]
 enum Before {
@@ -328,6 +331,7 @@ fn all_have_it<R: Threads + Wait + Sync>(
         &bench,
         passes,
         &[OnMutex(Lock(0)), OnMutex(Unlock(0))],
+        Some(ACCESSES),
     )?;
     let last = job(
         alloc,

@@ -57,19 +57,20 @@ pub(crate) fn job(
     Ok(Job { pass, calls, die })
 }
 
-/// A job with these calls for each pass.
+/// A job with these calls for each pass, whose thread dies before its access with that number, if there is one.
 pub(crate) fn jobs_of(
     alloc: Global,
     bench: &Bench,
     passes: Vec<Pass<Live>>,
     calls: &[Op],
+    die: Option<u32>,
 ) -> Result<Vec<Job>, NoMem>
     requires { All (λ p. IsLive bench.now p) passes.items }
     ensures { IfOk result (λ jobs. All (λ j. IsJobOf bench.now j) jobs.items) }
 {
     let mut jobs = Vec::new(alloc);
     for pass in passes {
-        let one = job(alloc, bench, WorkerPass::Lives(pass), calls, None)?;
+        let one = job(alloc, bench, WorkerPass::Lives(pass), calls, die)?;
         match jobs.push(one) {
             Ok(()) => {}
             Err(_) => return Err(NoMem),

@@ -195,7 +195,7 @@ fn prepared(alloc: Global) -> Result<(Bench, Vec<Job>, Pass<Live>), NoMem>
     };
     let (bench, mut passes) = Bench::new(alloc, layout, &[])?;
     let third = last_of(bench.words(), &mut passes);
-    let jobs = jobs_of(alloc, &bench, passes, &[OnMutex(TryLock(0))])?;
+    let jobs = jobs_of(alloc, &bench, passes, &[OnMutex(TryLock(0))], None)?;
     Ok((bench, jobs, third))
 }
 

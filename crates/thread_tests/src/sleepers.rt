@@ -125,11 +125,19 @@ fn counted_lock<R: Wait>(
     makes(rt, bench, pass, OnMutex(Lock(0)), &mut Asked::new(count, 0)).map(|made| made.1)
 }
 
-/// One thread locks a mutex, and another one sleeps on it. How often that was asked before it was woken, and in all; None where not all went well.
+/// How often the fate of a lock was asked before its thread was woken, and in all; and what it leaves in the cell.
+#[derive(Clone, Copy)]
+struct Counted {
+    before: u64,
+    all: u64,
+    cell: u64,
+}
+
+/// One thread locks a mutex, and another one sleeps on it. What was counted of that one; None where not all went well.
 fn one_sleeps<R: Threads + Wait + Clock + Sync>(
     rt: &R,
     alloc: Global,
-) -> Result<Option<(u64, u64)>, Fail> {
+) -> Result<Option<Counted>, Fail> {
     let Team {
         bench,
         first,
@@ -153,26 +161,29 @@ fn one_sleeps<R: Threads + Wait + Clock + Sync>(
             requires { IsLive shared.now second }
         { counted_lock(rt, shared, second, counter) },
     );
-    let owner = Left::of(bench, third).cells[0] & 0x3fff_ffff;
-    let well = taken == OK && freed.came && freed.paid && told == Some(OK) && owner == 2;
-    Ok(if well {
-        Some((freed.count, count.load(Ordering::SeqCst)))
-    } else {
-        None
-    })
+    let counted = Counted {
+        before: freed.count,
+        all: count.load(Ordering::SeqCst),
+        cell: Left::of(bench, third).cells[0],
+    };
+    let well = taken == OK && freed.came && freed.paid && told == Some(OK);
+    Ok(if well { Some(counted) } else { None })
 }
 
 /// A thread locks a mutex that another owns, and its fate is asked before each access and each section: four times until it sleeps, while the owner frees the mutex and wakes nobody for some
-/// time; then it is woken, and asked seven times more. In some rounds the release may come before it sleeps.
+/// time; then it is woken, and asked seven times more. WAITERS stays, since the wake found somebody. In some rounds the release may come before it sleeps.
 #[test]
 fn a_sleeper_makes_no_access(rt: HostRuntime) -> Result<(), Fail> {
     let mut slept = 0_u32;
     for _ in 0..20_u32 {
-        let asked = one_sleeps(&rt, rt.alloc())?;
-        assert!(rt; asked.is_some());
-        if asked == Some((4, 11)) {
+        let Some(counted) = one_sleeps(&rt, rt.alloc())? else {
+            return Err(Fail::new("all are told OK"));
+        };
+        if counted.before == 4 {
             slept = slept.wrapping_add(1);
+            assert!(rt; counted.all == 11 && counted.cell == 0x8000_0002);
         }
+        assert!(rt; counted.cell & 0x3fff_ffff == 2);
     }
     assert!(rt; slept >= 10);
     Ok(())
