@@ -255,7 +255,7 @@ impl Gate for OwnerLast {
             }
             thread::yield_now();
         }
-        for _ in 0..20_000 {
+        for _ in 0..200_000 {
             thread::yield_now();
         }
         true
@@ -278,8 +278,8 @@ fn with_owner(jobs: Vec<Job>, bench: &Bench, owner: Job) -> Result<Vec<Job>, NoM
     }
 }
 
-/// So many accesses a thread may make that sleeps for its turn: far more than it needs, and far fewer than one that doesn't sleep.
-const ACCESSES: u32 = 2_000;
+/// So many accesses a thread may make that sleeps for its turn: far more than it needs, and far fewer than one makes meanwhile that doesn't sleep.
+const ACCESSES: u32 = 200;
 
 /// What became of a mutex's last owner but one.
 #[derive(Clone, Copy, PartialEq, Eq)]
