@@ -1,7 +1,6 @@
 //! The calls on mutexes, which wait for nobody; unlocks up to the waking of sleepers, and their end.
 ghost use Rattle.std.specs.Prelude.{◌≡◌, ◌<◌, ◌+◌};
 ghost use Rattle.lockword.specs.declared.reply.Reply.TheVariants.{OK};
-ghost use Rattle.mutex.specs.declared.call.Call.{Call};
 ghost use Rattle.ruledwords.specs.Outcomes.{Tried, Frees, Declared, stops_in, stops_releasing, FreesFrom, owed_pass, owed_running, owed_wakes, IsOwedOf, Settles, Abandons};
 ghost use Rattle.ruledwords.specs.Passes.{layout_of, IsLive, card};
 ghost use Rattle.ruledwords.specs.declared.pass.Live.{Live};

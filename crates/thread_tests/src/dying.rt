@@ -85,12 +85,12 @@ fn died(told: [usize; 2], next: Reply, cell: u64) -> Story {
     }
 }
 
-/// A lock makes eight accesses and an unlock seven.
+/// A lock makes eight accesses and an unlock seven. 0 is read as 1.
 #[test]
 fn a_worker_dies_before_its_access(rt: HostRuntime) -> Result<(), Fail> {
-    for die in 1..19 {
+    for die in 0..19 {
         let want = match die {
-            1..=3 => died([0, 0], OK, 3),
+            0..=3 => died([0, 0], OK, 3),
             4..=8 => died([0, 0], EOWNERDEAD, 0x4000_0003),
             9..=14 => died([1, 0], EOWNERDEAD, 0x4000_0003),
             15 => died([1, 0], OK, 3),
