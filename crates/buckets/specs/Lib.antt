@@ -1,3 +1,4 @@
 pub mod Batches
+pub mod BucketCount
 pub mod Queues
 pub mod Rings

@@ -3,6 +3,7 @@
 //! A [`Bucket`] keeps who sleeps on which key (futex(2)). Each key has a queue: a wait appends to the queue of its key, a wake
 //! takes the first ones, a requeue moves the first ones to the end of another queue, of this bucket or of another one, and a
 //! removal takes one thread out of the queue it stands in. A thread stands in one queue at most, once.
+//! How many buckets there are is [`BUCKETS`].
 //! The queues are rings through one array of rows, one for each thread, which [`Bucket::rows`] lends ([`Row`]).
 //! A [`Batch`] is threads in order, as one wake or one requeue takes them. All the room is made by `Bucket::new` and by a
 //! clone; no other call takes memory.
@@ -25,10 +26,12 @@
 
 mod batch;
 mod bucket;
+mod bucket_count;
 mod ring;
 mod row;
 mod sleeper;
 
 pub use batch::Batch;
 pub use bucket::Bucket;
+pub use bucket_count::BUCKETS;
 pub use row::Row;

@@ -8,7 +8,8 @@ use Rattle.std.proofs.lemmas.Grind.{common_steps}
 use Rattle.std.proofs.lemmas.List.Elements.{All-weaker, All-drop, All-filter, All-contains, All-contains_itself, Contains-push_cases}
 use Rattle.buckets.specs.Queues.{Sleepers, queue, Stands, StandsNowhere, without, IsOrderly, IsEmptied, Enqueues, Takes, Removes}
 use Rattle.buckets.proofs.Places.{without-none}
-use Rattle.syscalls.specs.Kernels.{bucket_count, nobody, bucket_at, queue_in, IsAsleep, IsAwake, IsKernel, HasBuckets, IsIdle, FallsAsleep, Wakes, Leaves, SetsHead}
+use Rattle.buckets.specs.BucketCount.{bucket_count}
+use Rattle.syscalls.specs.Kernels.{nobody, bucket_at, queue_in, IsAsleep, IsAwake, IsKernel, HasBuckets, IsIdle, FallsAsleep, Wakes, Leaves, SetsHead}
 use Rattle.syscalls.proofs.Buckets.{kernel, at_same, at_other, number_same, queue_here, queue_there, queues_set, stands_home, inside}
 
 -- what a kernel is, and what its buckets are

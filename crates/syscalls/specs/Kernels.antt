@@ -1,5 +1,6 @@
 -- The sleepers of every key and the robust list's head of every thread, as a kernel keeps them (futex(2), get_robust_list(2)).
 use Rattle.std.specs.Prelude.{ℕ, ◌≡◌, ◌≢◌, ◌<◌, ◌≤◌, ◌%◌, ◌-◌, ◌==◌, Bool, List, [], ◌∷◌, ◌++◌, length, take, drop, slice_index, slice_index_or, slice_get, Some, if◌then◌else◌, AllPairs, Contains, MatchBool}
+use Rattle.buckets.specs.BucketCount.{bucket_count}
 use Rattle.buckets.specs.Queues.{Sleepers, queue, without, IsOrderly}
 
 -- hash buckets and heads for so many threads. What calls speak of is each key's queue, `queue_of`, and each thread's head, `head_of`
@@ -7,10 +8,6 @@ pub record Kernel' : Type 0 where
   pub threads : ℕ
   pub buckets : List Sleepers
   pub heads : List ℕ
-
--- how many hash buckets a kernel has
-abbrev pub bucket_count : ℕ
-bucket_count = 256
 
 abbrev pub nobody : Sleepers
 nobody = record { capacity = 0; sleeping = [] }

@@ -3,18 +3,16 @@ ghost use Rattle.std.specs.Prelude.{◌≡◌, ◌≢◌, ◌<◌, ◌≤◌, �
 ghost use Rattle.keys.specs.Accesses.{is_nobody};
 ghost use Rattle.std.specs.List.{All};
 ghost use Rattle.buckets.specs.Queues.{Stands, StandsNowhere, IsOrderly, IsEmptied, Fits, MovesTo};
-ghost use Rattle.syscalls.specs.Kernels.{bucket_count, bucket_at, queue_of, StandWhereTold, HasQueuesOf, IsAsleep, IsAwake, IsKernel, IsIdle, FallsAsleep, Wakes, Moves, Requeues, Leaves, SetsHead};
+ghost use Rattle.buckets.specs.BucketCount.{bucket_count};
+ghost use Rattle.syscalls.specs.Kernels.{bucket_at, queue_of, StandWhereTold, HasQueuesOf, IsAsleep, IsAwake, IsKernel, IsIdle, FallsAsleep, Wakes, Moves, Requeues, Leaves, SetsHead};
 ghost use Rattle.syscalls.specs.Answers.{WaitAnswers, WakeAnswers, TrimAnswers, TrimsAt, RequeueAnswers, CmpRequeueAnswers, SetHeadAnswers, GetHeadAnswers};
 
 use crate::memory::Memory;
-use buckets::{Batch, Bucket};
+use buckets::{BUCKETS, Batch, Bucket};
 use keys::{HEAD_SIZE, Key, NoMem, bucket_of, key_of};
 use lockword::{Cell, Reply, Tid, WAITERS};
 use std::alloc::{AllocError, Global};
 use std::marker::Model;
-
-/// How many hash buckets a kernel has.
-const BUCKETS: usize = 256;
 
 /// Who sleeps on which word, of threads whose ids go from 1 to a number (futex(2), shared futexes), and where each one's robust list begins (get_robust_list(2)).
 ///

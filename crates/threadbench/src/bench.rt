@@ -13,7 +13,7 @@ use crate::parker::Parker;
 use crate::phase::Phase;
 use crate::room::push_in_room;
 use crate::work::{in_scope, work_on};
-use buckets::Bucket;
+use buckets::{BUCKETS, Bucket};
 use crossbeam_utils::CachePadded;
 use keys::{Layout, NoMem};
 use ruledwords::{Last, Live, Pass, Words};
@@ -22,9 +22,6 @@ use std::marker::Model;
 use std::sync::{Mutex, OnceLock, Wait};
 use std::thread::Threads;
 
-/// How many buckets a bench has. A word's key says in which of them its sleepers stand.
-pub(crate) const BUCKETS: usize = 256;
-
 /// How many threads there may be.
 const THREADS: u8 = 64;
 
@@ -32,7 +29,7 @@ const THREADS: u8 = 64;
 #[derive(Drop)]
 pub struct Bench {
     pub(crate) words: Words,
-    /// Who sleeps. Each bucket has a lock of its own.
+    /// Who sleeps. Each bucket has a lock of its own; a word's key says in which its sleepers stand.
     pub(crate) buckets: Vec<CachePadded<Mutex<Bucket>>>,
     /// Where each thread sleeps, in the order of their ids.
     pub(crate) parkers: Vec<Parker>,

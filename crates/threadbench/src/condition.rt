@@ -11,10 +11,10 @@ ghost use Rattle.ruledwords.specs.Passes.{layout_of, IsLive};
 ghost use Rattle.threadbench.specs.Calls.{IsHeeded};
 ghost use Rattle.threadbench.specs.Conditions.{stops_turning, CondAnswered, CondComesTo, CondRuns, IsCellOf, IsMoveOf};
 
-use crate::bench::{BUCKETS, Bench};
+use crate::bench::Bench;
 use crate::condition_section::{move_to_in, move_within_in, wake_for_condition};
 use crate::section::{Waited, wait_on_counter_in};
-use buckets::Batch;
+use buckets::{BUCKETS, Batch};
 use condvar::CondCall;
 use keys::{Access, Answer, Key, bucket_of, key_of};
 use lockword::Tid;

@@ -4,11 +4,11 @@ ghost use Rattle.buckets.specs.Queues.{IsOrderly, Removes};
 ghost use Rattle.ruledwords.specs.Passes.{layout_of};
 ghost use Rattle.threadbench.specs.Kills.{Kills, KillsAll, IsKilled};
 
-use crate::bench::{BUCKETS, Bench};
+use crate::bench::Bench;
 use crate::note::Killed;
 use crate::parker::Parker;
 use crate::section::remove_in;
-use buckets::Bucket;
+use buckets::{BUCKETS, Bucket};
 use lockword::{Reply, Tid};
 use std::sync::Wait;
 

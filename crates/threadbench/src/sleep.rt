@@ -8,11 +8,11 @@ ghost use Rattle.ruledwords.specs.Stretches.{Stretches, stops_stretching};
 ghost use Rattle.ruledwords.specs.Turns.{access_in, IsRunningOf, IsTurnOf, Keeps, KeepsDecided};
 ghost use Rattle.threadbench.specs.Calls.{Locked, Paid, Runs, IsHeeded, stretch_of};
 
-use crate::bench::{BUCKETS, Bench};
+use crate::bench::Bench;
 use crate::note::Note;
 use crate::parker::Parker;
 use crate::section::{Waited, trim_in, wait_in, wake_in};
-use buckets::{Batch, Bucket};
+use buckets::{BUCKETS, Batch, Bucket};
 use crossbeam_utils::CachePadded;
 use keys::{Access, Answer, Key, bucket_of, key_of};
 use lockword::{Reply, Tid};

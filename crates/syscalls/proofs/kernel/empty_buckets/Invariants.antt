@@ -2,7 +2,7 @@ use Rattle.std.proofs.Common.{◌≡◌}
 use Rattle.std.specs.List.{All}
 use Rattle.std.specs.Prelude.{vec_len, vec_capacity, ◌≤◌}
 use Rattle.buckets.specs.Queues.{IsOrderly, IsEmptied}
-use Rattle.syscalls.specs.declared.kernel.TheConstants.{BUCKETS}
+use Rattle.buckets.specs.declared.bucket_count.TheConstants.{BUCKETS}
 use Rattle.syscalls.proofs.kernel.empty_buckets.Given as goal
 
 abbrev pub invariant-loop : goal.invariant-loop
