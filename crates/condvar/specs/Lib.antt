@@ -7,6 +7,7 @@ pub mod Broadcast
 pub mod Programs
 pub mod Ops
 pub mod Whole
+pub mod Codings
 pub mod Laws
 pub mod WholeLaws
 pub mod Faults

@@ -58,15 +58,15 @@ PhaseKnows f = Unit {0}
 
 -- ---- the beginning
 
+-- a call of a thread whose head, whose mutex's entry and cell, and whose counter are at these addresses
+abbrev pub cond_at : ℕ → ℕ → ℕ → ℕ → ℕ → CondPhase → CondWhole
+cond_at t h e cell counter f = record { thread = t; head = h; entry = e; cell = cell; counter = counter; phase = f }
+
+abbrev pub begun_at : ℕ → ℕ → ℕ → ℕ → ℕ → CondCall → CondWhole
+begun_at t h e cell counter c = cond_at t h e cell counter (AtWords (first_row c))
+
 abbrev pub begins : Layout' → ℕ → CondCall → CondWhole
-begins l t c = record {
-  thread = t;
-  head = address_in l t (head_place t);
-  entry = address_in l t (entry_place l (mutex_of l c));
-  cell = address_in l t (cell_place l (mutex_of l c));
-  counter = address_in l t (counter_place l (condition_of c));
-  phase = AtWords (first_row c);
-}
+begins l t c = begun_at t (address_in l t (head_place t)) (address_in l t (entry_place l (mutex_of l c))) (address_in l t (cell_place l (mutex_of l c))) (address_in l t (counter_place l (condition_of c))) c
 
 -- ---- the access of each phase
 

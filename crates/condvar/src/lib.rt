@@ -30,6 +30,7 @@
 
 mod broadcast;
 mod call;
+mod coding;
 mod laws;
 mod op;
 mod phase;
@@ -40,6 +41,7 @@ mod wait;
 
 pub use broadcast::BroadcastRow;
 pub use call::CondCall;
+pub use coding::CodedCondPhase;
 pub use laws::{
     accesses_are_there, calls_are_right, faults_are_told, moves_are_right, needs_are_owned,
     points_are_permitted, whole_calls_are_right,

@@ -42,7 +42,7 @@ impl Model for CondProgram {
 }
 
 impl CondProgram {
-    ghost use Rattle.condvar.specs.Whole.{begins, cond_access, cond_led, cond_moved, cond_progress, from_words, lock_of, phase_led, IsUnderWay};
+    ghost use Rattle.condvar.specs.Whole.{begins, begun_at, cond_at, cond_access, cond_led, cond_moved, cond_progress, from_words, lock_of, phase_led, IsUnderWay};
 
     /// A call of a thread, which speaks of words by their addresses in the thread's process. What it may be refused for is seen in the mutex's cell and in the counter.
     pub fn new(layout: &Layout, thread: Tid, call: CondCall) -> CondProgram
@@ -51,13 +51,56 @@ impl CondProgram {
         ensures { result ≡ begins layout.now thread call }
     {
         let mutex = layout.mutex_of_condition(call.condition());
+        CondProgram::begin(
+            thread,
+            layout.address(thread, layout.head(thread)),
+            layout.address(thread, layout.entry(mutex)),
+            layout.address(thread, layout.cell(mutex)),
+            layout.address(thread, layout.counter(call.condition())),
+            call,
+        )
+    }
+
+    /// A call of a thread whose head, whose mutex's entry and cell, and whose counter are at these addresses; the condition variable's number isn't looked at.
+    pub fn begin(
+        thread: Tid,
+        head: u64,
+        entry: u64,
+        cell: u64,
+        counter: u64,
+        call: CondCall,
+    ) -> CondProgram
+        ensures { result ≡ begun_at thread head entry cell counter call }
+    {
         CondProgram {
             thread,
-            head: layout.address(thread, layout.head(thread)),
-            entry: layout.address(thread, layout.entry(mutex)),
-            cell: layout.address(thread, layout.cell(mutex)),
-            counter: layout.address(thread, layout.counter(call.condition())),
+            head,
+            entry,
+            cell,
+            counter,
             phase: CondPhase::AtWords(CondRow::first(call)),
+        }
+    }
+
+    /// A call that stands at a phase: one that was kept elsewhere, as [`CodedCondPhase`](crate::CodedCondPhase) say, goes on from there.
+    pub fn at(
+        thread: Tid,
+        head: u64,
+        entry: u64,
+        cell: u64,
+        counter: u64,
+        phase: CondPhase,
+    ) -> CondProgram
+        requires { PhaseKnows phase }
+        ensures { result ≡ cond_at thread head entry cell counter phase }
+    {
+        CondProgram {
+            thread,
+            head,
+            entry,
+            cell,
+            counter,
+            phase,
         }
     }
 

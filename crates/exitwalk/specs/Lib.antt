@@ -1,6 +1,7 @@
 pub mod Words
 pub mod Standings
 pub mod Walks
+pub mod Codings
 pub mod Meanings
 pub mod Runs
 pub mod Ranks

@@ -120,8 +120,11 @@ Knows t h (Mark at seen again part) = ((fields_of seen).owner ≡ t) × IsCounte
 Knows t h (WakeOne at part) = IsCounted part
 Knows t h r = Unit {0}
 
+abbrev pub walk_at : ℕ → ℕ → Row → Standing
+walk_at t h r = record { thread = t; head = h; row = r }
+
 abbrev pub begun : ℕ → ℕ → Standing
-begun t h = record { thread = t; head = h; row = LoadFirst }
+begun t h = walk_at t h LoadFirst
 
 abbrev pub access_of : Standing → Access
 access_of s = row_access s.head s.row

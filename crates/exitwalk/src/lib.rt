@@ -28,10 +28,12 @@
 //! ```
 #![tactic(auto)]
 
+mod coding;
 mod laws;
 mod row;
 mod walk;
 
+pub use coding::CodedRow;
 pub use laws::{any_answers_end, steps_are_right, walks_are_right, whole_lists_are_treated};
 pub use row::{Part, Rest, Row};
 pub use walk::Walk;

@@ -34,7 +34,7 @@ impl Model for Walk {
 }
 
 impl Walk {
-    ghost use Rattle.exitwalk.specs.Walks.{begun, access_of, row_after, point_of, moved, progress_of, IsGoing, IsCounted, Knows};
+    ghost use Rattle.exitwalk.specs.Walks.{begun, walk_at, access_of, row_after, point_of, moved, progress_of, IsGoing, IsCounted, Knows};
     ghost use Rattle.exitwalk.specs.Walks.{forward, goes_on, looks, after_next, after_mark, after_miss};
 
     /// The walk of a dead thread's list whose head is at an address. That may be any number, and so may the words there.
@@ -46,6 +46,14 @@ impl Walk {
             head,
             row: Row::LoadFirst,
         }
+    }
+
+    /// The walk that stands at a row: one that was kept elsewhere, as [`CodedRow`](crate::CodedRow) say, goes on from there.
+    pub fn at(thread: Tid, head: u64, row: Row) -> Walk
+        requires { Knows thread head row }
+        ensures { result ≡ walk_at thread head row }
+    {
+        Walk { thread, head, row }
     }
 
     /// Where the walk stands.

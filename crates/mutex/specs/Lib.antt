@@ -8,6 +8,7 @@ pub mod Unlock
 pub mod Consistent
 pub mod Programs
 pub mod Whole
+pub mod Codings
 pub mod Laws
 pub mod WholeLaws
 pub mod WholeLists

@@ -75,16 +75,17 @@ first_phase (call.Lock m) = Announcing (first_row (call.Lock m))
 first_phase (call.TryLock m) = Announcing (first_row (call.TryLock m))
 first_phase c = AtCell (first_row c)
 
+-- a call of a thread whose head, whose mutex's entry and whose cell are at these addresses
+abbrev pub whole_at : ℕ → Operation → ℕ → ℕ → ℕ → Phase → Whole
+whole_at t op h e cell f = record { thread = t; operation = op; head = h; entry = e; cell = cell; phase = f }
+
+-- where it begins
+abbrev pub begun_at : ℕ → ℕ → ℕ → ℕ → Call → Whole
+begun_at t h e cell c = whole_at t (operation_of c) h e cell (first_phase c)
+
 -- it speaks of its head, its entry and its cell by their addresses in the thread's process
 abbrev pub begins : Layout' → ℕ → Call → Whole
-begins l t c = record {
-  thread = t;
-  operation = operation_of c;
-  head = address_in l t (head_place t);
-  entry = address_in l t (entry_place l (mutex_of c));
-  cell = address_in l t (cell_place l (mutex_of c));
-  phase = first_phase c;
-}
+begins l t c = begun_at t (address_in l t (head_place t)) (address_in l t (entry_place l (mutex_of c))) (address_in l t (cell_place l (mutex_of c))) c
 
 -- whoever holds as many mutexes as a thread may hold may not take another
 abbrev pub whole_started : Layout' → ℕ → ℕ → Call → Result Whole Reply
@@ -92,7 +93,7 @@ whole_started l t held c = if acquires (operation_of c) && nat_le held_limit hel
 
 -- a lock that takes its mutex again: its entry is pending
 abbrev pub retaking : ℕ → ℕ → ℕ → ℕ → Whole
-retaking t h e cell = record { thread = t; operation = operation.Lock; head = h; entry = e; cell = cell; phase = AtCell (row.Lock lock.Load) }
+retaking t h e cell = whole_at t operation.Lock h e cell (AtCell (row.Lock lock.Load))
 
 -- ---- the access of each phase
 

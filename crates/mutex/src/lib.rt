@@ -30,6 +30,7 @@
 #![tactic(auto)]
 
 mod call;
+mod coding;
 mod consistent;
 mod laws;
 mod lock;
@@ -40,6 +41,7 @@ mod try_lock;
 mod unlock;
 
 pub use call::Call;
+pub use coding::CodedPhase;
 pub use consistent::ConsistentRow;
 pub use laws::{
     points_are_permitted, programs_are_right, raced_after_four, unlocks_trim_after_waking_nobody,

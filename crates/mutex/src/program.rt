@@ -44,7 +44,7 @@ impl Model for Program {
 impl Program {
     ghost use Rattle.mutex.specs.Rows.{Knows};
     ghost use Rattle.mutex.specs.declared.phase.Phase.TheVariants.{AtCell};
-    ghost use Rattle.mutex.specs.Whole.{whole_started, retaking, whole_access, whole_led, whole_moved, whole_point, whole_progress, announced, from_cell, after_cell, leaving, IsUnderWay, PhaseKnows};
+    ghost use Rattle.mutex.specs.Whole.{whole_started, whole_at, begun_at, retaking, whole_access, whole_led, whole_moved, whole_point, whole_progress, announced, from_cell, after_cell, leaving, IsUnderWay, PhaseKnows};
 
     /// A call of a thread that holds so many mutexes. It speaks of words by their addresses in the thread's process. A lock or trylock by a thread that holds 2,048 is refused with `XHELD` before any access.
     #[inline(always)]
@@ -56,14 +56,52 @@ impl Program {
         if is_refused(held, call) {
             return Err(Reply::XHELD);
         }
-        Ok(Program {
+        Ok(Program::begin(
+            thread,
+            layout.address(thread, layout.head(thread)),
+            layout.address(thread, layout.entry(call.mutex())),
+            layout.address(thread, layout.cell(call.mutex())),
+            call,
+        ))
+    }
+
+    /// A call of a thread whose head, and whose mutex's entry and cell, are at these addresses; the mutex's number isn't looked at. Whoever begins a call so has to refuse it where its thread
+    /// holds 2,048 mutexes.
+    #[inline(always)]
+    pub fn begin(thread: Tid, head: u64, entry: u64, cell: u64, call: Call) -> Program
+        ensures { result ≡ begun_at thread head entry cell call }
+    {
+        Program {
             thread,
             operation: call.operation(),
-            head: layout.address(thread, layout.head(thread)),
-            entry: layout.address(thread, layout.entry(call.mutex())),
-            cell: layout.address(thread, layout.cell(call.mutex())),
+            head,
+            entry,
+            cell,
             phase: first_phase(call),
-        })
+        }
+    }
+
+    /// A call that stands at a phase: one that was kept elsewhere, as [`CodedPhase`](crate::CodedPhase) say, goes on from there.
+    #[inline(always)]
+    pub fn at(
+        thread: Tid,
+        operation: Operation,
+        head: u64,
+        entry: u64,
+        cell: u64,
+        phase: Phase,
+    ) -> Program
+        requires { PhaseKnows phase }
+        ensures { result ≡ whole_at thread operation head entry cell phase }
+    {
+        Program {
+            thread,
+            operation,
+            head,
+            entry,
+            cell,
+            phase,
+        }
     }
 
     /// A lock that takes its mutex again, as a wait on a condition variable does once it is awake: from the load of the cell on, the mutex's entry being pending. It is given the

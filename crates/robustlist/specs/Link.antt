@@ -57,8 +57,11 @@ abbrev pub link_progress : LinkRow → Progress
 link_progress (Ended x) = Returns x None
 link_progress r = Goes None
 
+abbrev pub link_at : ℕ → ℕ → LinkRow → LinkStanding
+link_at h e r = record { head = h; entry = e; row = r }
+
 abbrev pub link_started : ℕ → ℕ → LinkStanding
-link_started h e = record { head = h; entry = e; row = LoadFirst }
+link_started h e = link_at h e LoadFirst
 
 abbrev pub link_access_of : LinkStanding → Access
 link_access_of l = link_access l.head l.entry l.row

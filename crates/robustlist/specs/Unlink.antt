@@ -55,8 +55,11 @@ abbrev pub unlink_progress : UnlinkRow → Progress
 unlink_progress (Ended x) = Returns x None
 unlink_progress r = Goes None
 
+abbrev pub unlink_at : ℕ → ℕ → UnlinkRow → UnlinkStanding
+unlink_at h e r = record { head = h; entry = e; row = r }
+
 abbrev pub unlink_started : ℕ → ℕ → UnlinkStanding
-unlink_started h e = record { head = h; entry = e; row = LoadNext }
+unlink_started h e = unlink_at h e LoadNext
 
 abbrev pub unlink_access_of : UnlinkStanding → Access
 unlink_access_of u = unlink_access u.head u.entry u.row

@@ -44,7 +44,7 @@ impl Model for Link {
 }
 
 impl Link {
-    ghost use Rattle.robustlist.specs.Link.{link_started, link_access_of, link_moved, link_resume, link_after_both, LinkGoes};
+    ghost use Rattle.robustlist.specs.Link.{link_started, link_at, link_access_of, link_moved, link_resume, link_after_both, LinkGoes};
 
     /// The link of an entry, by its address, into the list whose head is at an address. Addresses count 64-bit words.
     #[inline(always)]
@@ -56,6 +56,22 @@ impl Link {
             entry,
             row: LinkRow::LoadFirst,
         }
+    }
+
+    /// The link that stands at a row: one that was kept elsewhere goes on from there.
+    #[inline(always)]
+    pub fn at(head: u64, entry: u64, row: LinkRow) -> Link
+        ensures { result ≡ link_at head entry row }
+    {
+        Link { head, entry, row }
+    }
+
+    /// Where the link stands.
+    #[inline(always)]
+    pub fn row(&self) -> LinkRow
+        ensures { result ≡ self.now.row }
+    {
+        self.row
     }
 
     /// Where an answer leads.

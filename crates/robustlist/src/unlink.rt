@@ -43,7 +43,7 @@ impl Model for Unlink {
 }
 
 impl Unlink {
-    ghost use Rattle.robustlist.specs.Unlink.{unlink_started, unlink_access_of, unlink_moved, unlink_resume, unlink_after_next, UnlinkGoes};
+    ghost use Rattle.robustlist.specs.Unlink.{unlink_started, unlink_at, unlink_access_of, unlink_moved, unlink_resume, unlink_after_next, UnlinkGoes};
 
     /// The unlink of an entry, by its address, from the list whose head is at an address. Addresses count 64-bit words.
     #[inline(always)]
@@ -55,6 +55,22 @@ impl Unlink {
             entry,
             row: UnlinkRow::LoadNext,
         }
+    }
+
+    /// The unlink that stands at a row: one that was kept elsewhere goes on from there.
+    #[inline(always)]
+    pub fn at(head: u64, entry: u64, row: UnlinkRow) -> Unlink
+        ensures { result ≡ unlink_at head entry row }
+    {
+        Unlink { head, entry, row }
+    }
+
+    /// Where the unlink stands.
+    #[inline(always)]
+    pub fn row(&self) -> UnlinkRow
+        ensures { result ≡ self.now.row }
+    {
+        self.row
     }
 
     /// Where an answer leads.
