@@ -8,5 +8,6 @@ pub mod Programs
 pub mod Ops
 pub mod Whole
 pub mod Laws
+pub mod Wakes
 pub mod WholeLaws
 pub mod Faults

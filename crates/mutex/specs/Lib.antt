@@ -9,6 +9,7 @@ pub mod Consistent
 pub mod Programs
 pub mod Whole
 pub mod Laws
+pub mod Wakes
 pub mod WholeLaws
 pub mod WholeLists
 pub mod Steps
