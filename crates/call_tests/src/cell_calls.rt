@@ -12,7 +12,7 @@ use lockword::Reply::{
 };
 use lockword::Tid;
 use mutex::{
-    Call, Program, points_are_permitted, programs_are_right, raced_after_four,
+    Call, Program, points_are_permitted, programs_are_right, raced_after_four, wakes_are_right,
     whole_calls_are_decided, whole_calls_are_right,
 };
 
@@ -439,6 +439,7 @@ fn calls_name_their_mutex_and_operation(rt: HostRuntime) {
         assert!(rt; call.mutex() == 3 && call.operation() == *operation);
     }
     programs_are_right();
+    wakes_are_right();
     raced_after_four();
     points_are_permitted();
     whole_calls_are_right();

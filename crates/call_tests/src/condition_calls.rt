@@ -7,7 +7,7 @@ use crate::steps::Then::{Decides, Ends, Goes, Returns};
 use crate::steps::{Step, Whole, makes};
 use condvar::{
     CondCall, CondProgram, accesses_are_there, calls_are_right, faults_are_told, moves_are_right,
-    needs_are_owned, points_are_permitted, whole_calls_are_right,
+    needs_are_owned, points_are_permitted, wakes_are_right, whole_calls_are_right,
 };
 use keys::Operation::{Broadcast, Lock, Signal, Unlock, Wait};
 use keys::{Access, Answer, Layout, Operation};
@@ -381,6 +381,7 @@ fn calls_name_their_condition_and_operation(rt: HostRuntime) {
     faults_are_told();
     accesses_are_there();
     moves_are_right();
+    wakes_are_right();
     needs_are_owned();
     points_are_permitted();
     whole_calls_are_right();

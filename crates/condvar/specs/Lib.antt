@@ -9,5 +9,6 @@ pub mod Ops
 pub mod Whole
 pub mod Codings
 pub mod Laws
+pub mod Wakes
 pub mod WholeLaws
 pub mod Faults

@@ -1,5 +1,6 @@
 //! What holds of every call.
 ghost use Rattle.condvar.specs.Laws.{CallsAreRight, AccessesAreThere, MovesAreRight, NeedsAreOwned, PointsArePermitted};
+ghost use Rattle.condvar.specs.Wakes.{WakesAreRight};
 ghost use Rattle.condvar.specs.Faults.{FaultsAreTold};
 ghost use Rattle.condvar.specs.WholeLaws.{WholeCallsAreRight};
 
@@ -17,6 +18,12 @@ pub fn accesses_are_there()
 /// A broadcast moves sleepers only to a cell that its thread owns and that has WAITERS, and finds the counter as it left it.
 pub fn moves_are_right()
     ensures { MovesAreRight }
+{}
+
+/// Whatever a call is answered, it wakes one sleeper of its mutex behind a wait's release that found `WAITERS`, and one of its condition variable where a signal counted; else it
+/// wakes nobody, a broadcast in particular, which moves. (The lock that ends a wait is a call of `mutex`.)
+pub fn wakes_are_right()
+    ensures { WakesAreRight }
 {}
 
 /// What a call needs of the words stays while its thread owns the mutex, whatever other threads do that leave an owned mutex alone.

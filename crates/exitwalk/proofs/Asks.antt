@@ -6,14 +6,14 @@ use Rattle.keys.specs.declared.access.Access.{Access}
 use Rattle.keys.specs.declared.access.Access.TheVariants.{Exchange, Wake}
 use Rattle.keys.specs.declared.access.Answer.{Answer}
 use Rattle.keys.specs.declared.access.Answer.TheVariants.{Value, Exchanged, Changed, Count}
-use Rattle.keys.specs.Accesses.{address_of}
+use Rattle.keys.specs.Accesses.{address_of, IsAnswerOf}
 use Rattle.exitwalk.specs.declared.row.Rest.{Rest}
 use Rattle.exitwalk.specs.declared.row.Part.{Part}
 use Rattle.exitwalk.specs.declared.row.Part.TheVariants as part
 use Rattle.exitwalk.specs.declared.row.Row.{Row}
 use Rattle.exitwalk.specs.declared.row.Row.TheVariants.{LoadFirst, LoadOffset, LoadPending, LoadNext, LoadWord, Mark, WakeOne, Ended}
 use Rattle.exitwalk.specs.Words.{sum_of, owner_in, has_waiters, died_word}
-use Rattle.exitwalk.specs.Walks.{marked_word, row_access, row_after, is_pending, to_pending, forward, goes_on, further, after_next, looks}
+use Rattle.exitwalk.specs.Walks.{marked_word, row_access, row_after, is_pending, to_pending, forward, goes_on, further, after_next, looks, IsGoing}
 use Rattle.exitwalk.specs.AnyAnswers.{IsExchange, told, Asks, WakesFor, AnyAnswersEnd}
 use Rattle.exitwalk.proofs.Treatments.{marked_died}
 use Rattle.exitwalk.proofs.Ends.{stays, ends, loads}
@@ -178,6 +178,25 @@ module _ (t h : ℕ) where
   twice (WakeOne at p) a b one two three = one
   twice Ended a b one two three = one
 
+  -- an answer that isn't one of its access
+  faults : (r : Row) (a : Answer) → IsGoing r → ¬ IsAnswerOf (row_access h r) a → row_after t h r a ≡ Ended
+  faults LoadFirst (Value v) going other = absurd (other tt)
+  faults LoadFirst a going other = refl
+  faults (LoadOffset first) (Value v) going other = absurd (other tt)
+  faults (LoadOffset first) a going other = refl
+  faults (LoadPending first offset) (Value v) going other = absurd (other tt)
+  faults (LoadPending first offset) a going other = refl
+  faults (LoadNext r) (Value v) going other = absurd (other tt)
+  faults (LoadNext r) a going other = refl
+  faults (LoadWord at p) (Value v) going other = absurd (other tt)
+  faults (LoadWord at p) a going other = refl
+  faults (Mark at seen again p) Exchanged going other = absurd (other tt)
+  faults (Mark at seen again p) (Changed v) going other = absurd (other tt)
+  faults (Mark at seen again p) a going other = refl
+  faults (WakeOne at p) (Count n) going other = absurd (other tt)
+  faults (WakeOne at p) a going other = refl
+  faults Ended a going other = absurd going
+
 pub end : AnyAnswersEnd
 end = record {
   ends = ends;
@@ -185,4 +204,5 @@ end = record {
   asks = λ t h r a. (after t h r a).asks;
   twice = twice;
   wakes = λ t h r a. (after t h r a).wakes;
+  faults = faults;
 }

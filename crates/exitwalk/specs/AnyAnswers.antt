@@ -5,11 +5,11 @@ use Rattle.keys.specs.declared.access.Access.{Access}
 use Rattle.keys.specs.declared.access.Access.TheVariants.{Load, Exchange, Wake}
 use Rattle.keys.specs.declared.access.Answer.{Answer}
 use Rattle.keys.specs.declared.access.Answer.TheVariants.{Value, Exchanged, Changed}
-use Rattle.keys.specs.Accesses.{address_of}
+use Rattle.keys.specs.Accesses.{address_of, IsAnswerOf}
 use Rattle.exitwalk.specs.declared.row.Row.{Row}
 use Rattle.exitwalk.specs.declared.row.Row.TheVariants.{LoadFirst, LoadNext, Ended}
 use Rattle.exitwalk.specs.Words.{owner_in, has_waiters, died_word}
-use Rattle.exitwalk.specs.Walks.{row_access, row_after}
+use Rattle.exitwalk.specs.Walks.{row_access, row_after, IsGoing}
 
 -- where a walk stands after some answers, whatever they are
 abbrev pub reached : ℕ → ℕ → Row → List Answer → Row
@@ -53,10 +53,12 @@ WakesFor x a = ⊥
 -- Whatever a walk is answered:
 -- it ends after 10,247 accesses at most, of which 2,048 at most load an entry of the list;
 -- each exchange has its reason in the answer before it, so a word that is treated is loaded first, and then exchanged at most twice, three exchanges never following one another;
--- each wake has its reason there too, and is of one sleeper.
+-- each wake has its reason there too, and is of one sleeper;
+-- an answer that isn't one of its access, a fault among them, is the end.
 pub record AnyAnswersEnd : Type 0 where
   pub ends : (t h : ℕ) (answers : List Answer) → 10247 ≤ length answers → reached t h LoadFirst answers ≡ Ended
   pub loads : (t h : ℕ) (answers : List Answer) → entry_loads t h LoadFirst answers ≤ held_limit
   pub asks : (t h : ℕ) (r : Row) (a : Answer) (at old new : ℕ) → row_access h (row_after t h r a) ≡ Exchange at old new → Asks t (row_access h r) a at old new
   pub twice : (t h : ℕ) (r : Row) (a b : Answer) → IsExchange (row_access h r) → IsExchange (row_access h (row_after t h r a)) → IsExchange (row_access h (row_after t h (row_after t h r a) b)) → ⊥
   pub wakes : (t h : ℕ) (r : Row) (a : Answer) (at n : ℕ) → row_access h (row_after t h r a) ≡ Wake at n → (address_of (row_access h r) ≡ at) × (n ≡ 1) × WakesFor (row_access h r) a
+  pub faults : (t h : ℕ) (r : Row) (a : Answer) → IsGoing r → ¬ IsAnswerOf (row_access h r) a → row_after t h r a ≡ Ended

@@ -44,6 +44,6 @@ pub record IsReached (m : Shown) : Type 0 where
 abbrev pub AtEachMoment : State → List Event → List Note → Type 0
 AtEachMoment s events told = (n : ℕ) → IsHistory (run s (take n events)) (take n told)
 
--- after each event the notes so far tell who sleeps, and on which mutex
+-- after each event the notes so far tell who sleeps, on which mutex or condition variable, and in which order they came
 abbrev pub TellsAtEachMoment : Layout' → State → List Event → List Note → Type 0
 TellsAtEachMoment l s events told = (n : ℕ) → TellsSleepers l (run s (take n events)) (take n told)

@@ -164,8 +164,9 @@ impl Machine {
     /// returned, between its begin and its return, at events of its own thread, but that a wait which isn't refused had an unlock and then a lock; one that hasn't returned had a beginning of
     /// its points; and no point belongs to any other call.
     /// After each event a thread stands in a queue exactly where the last of its sleeps, moves, wakes and kills told so far is a sleep or a move, in that of the mutex or condition
-    /// variable that this names. No signal and no broadcast passes a wait by: a thread that released its mutex in a wait before such a call counted doesn't fall asleep on that condition
-    /// variable behind it, and a broadcast's move leaves nobody there.
+    /// variable that this names; in each queue they stand in the order in which they came, as it was told, and whoever is woken or moved is the front. No signal and no broadcast passes a
+    /// wait by: a thread that released its mutex in a wait before such a call counted doesn't fall asleep on that condition variable behind it. The event at which a signal returns OK wakes
+    /// the first of its queue, and nobody only where that is empty; the one at which a broadcast does moves all of its queue, and leaves nobody there.
     ///
     /// After each event no sleeper is stranded: whenever a mutex that nobody owns has sleepers, some awake thread, run alone, takes it or wakes one of them within 9,000 steps;
     /// whoever is awake and runs alone ends its call, falls asleep or is reaped within as many; and a call that no other event divides returns within as many, or sleeps, and replies as
@@ -215,7 +216,7 @@ impl Machine {
         ensures layout { IfOk result (λ m. m.layout ≡ self.now.layout) }
         ensures state { IfOk result (λ m. state_of m ≡ alone (state_of self.now) thread n) }
         ensures fresh { IfOk result (λ m. m.fresh ≡ self.now.fresh) }
-        ensures runs_alone { RunsAlone (state_of self.now) }
+        ensures runs_alone { IfOk result (λ m. RunsAlone (state_of m)) }
         ensures reaped { IfOk result (λ m. NoReapedOwns (state_of m)) }
     {
         self.reached();

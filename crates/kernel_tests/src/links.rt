@@ -22,7 +22,7 @@ const FAULTED: Progress = Progress::Returns {
 };
 
 /// What neither a load nor a store is answered, but for a fault.
-const STRANGE: [Answer; 7] = [
+const STRANGE: [Answer; 8] = [
     Answer::Fault,
     Answer::Exchanged,
     Answer::Changed(8),
@@ -30,6 +30,7 @@ const STRANGE: [Answer; 7] = [
     Answer::Woken,
     Answer::Count(0),
     Answer::Counts(0, 0),
+    Answer::Trimmed(true),
 ];
 
 /// The right answers of a link that finds the entry at 8 first, and beside each one that belongs to the other kind of access.

@@ -2,6 +2,7 @@ pub mod Rights
 pub mod Races
 mod Replies
 mod Trims
+mod Wakes
 mod Wholes
 pub mod Addresses
 pub mod OwnPlaces

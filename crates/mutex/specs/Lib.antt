@@ -10,6 +10,7 @@ pub mod Programs
 pub mod Whole
 pub mod Codings
 pub mod Laws
+pub mod Wakes
 pub mod WholeLaws
 pub mod WholeLists
 pub mod Steps

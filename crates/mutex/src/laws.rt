@@ -1,5 +1,6 @@
 //! What holds of every call.
 ghost use Rattle.mutex.specs.Laws.{ProgramsAreRight, WaitersAreKept, UnlocksTrim, RacedAfterFour, PointsArePermitted};
+ghost use Rattle.mutex.specs.Wakes.{WakesAreRight};
 ghost use Rattle.mutex.specs.WholeLaws.{WholeCallsAreRight, WholeUnlocksTrim};
 ghost use Rattle.mutex.specs.WholeLists.{WholeListsAreKept};
 ghost use Rattle.mutex.specs.Decisions.{WholeCallsAreDecided};
@@ -18,6 +19,12 @@ pub fn waiters_are_kept()
 pub fn unlocks_trim_after_waking_nobody()
     ensures at_the_cell { UnlocksTrim }
     ensures whole { WholeUnlocksTrim }
+{}
+
+/// A call wakes sleepers exactly behind a release, and where a lock finds the mutex unusable, if the cell that it met had `WAITERS`: one where that leaves the mutex usable, and
+/// all of one that is unusable. A trylock and a declaration wake nobody.
+pub fn wakes_are_right()
+    ensures { WakesAreRight }
 {}
 
 /// Whatever it is answered, a trylock gives up only after four exchanges that each found a changed cell.

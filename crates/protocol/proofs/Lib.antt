@@ -46,6 +46,7 @@ pub mod Comings
 pub mod CondAlone
 pub mod Undivided
 pub mod Applying
+pub mod InTurn
 pub mod Waking
 pub mod Counters
 pub mod Passing

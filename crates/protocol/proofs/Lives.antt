@@ -21,7 +21,7 @@ use Rattle.protocol.proofs.Acts.{acts_by, acts_in, acts_begin, acts_in_begin, ac
 use Rattle.protocol.proofs.CondAccesses.{cond_stepping, fits_at}
 use Rattle.protocol.proofs.Accesses as accesses
 use Rattle.protocol.proofs.Runs.{sound, start_kept}
-use Rattle.protocol.proofs.LineOrder.{Fine, access_fine, walked_fine, KillsAlone, no_kill_alone, access_no_kill, walked_no_kill, Called, each, InOrder, placed}
+use Rattle.protocol.proofs.LineOrder.{Fine, access_fine, walked_fine, KillsAlone, no_kill_alone, access_no_kill, walked_no_kill, Called, each, InOrder, placed, within}
 use Rattle.exitwalk.specs.declared.row.Row as walk_row
 use Rattle.exitwalk.specs.declared.row.Row.TheVariants as walk
 use Rattle.exitwalk.specs.Standings as walks
@@ -304,6 +304,7 @@ explained_from s events inv resting =
     let order = ordered s events 1 inv in
     record {
       orderly = order.0;
+      within = within 1 (notes s events);
       callers = each (Called 1 events) (λ l. is_passive l.fact ≡ false → thread_of l.fact ≡ caller_of 1 events l.event) (λ l c. c.1) (lines_from 1 (notes s events)) order.1;
       lives = λ t. subst (λ g. Goes s.layout t g (own t (lines_from 1 (notes s events)))) (resting t) (lives s events 1 inv t);
     }

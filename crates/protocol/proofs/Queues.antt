@@ -72,6 +72,11 @@ without_stands t u (v ∷ vs) e = grind (arith, without_stands t u vs)
 pub without_gone : (t : ℕ) (q : List ℕ) → stands_in t (without t q) ≡ false
 without_gone t q = not_true (stands_in t (without t q)) (λ e. (without_stands t t q e).1 refl)
 
+-- whoever doesn't stand there isn't taken out
+pub without_same : (t : ℕ) (q : List ℕ) → stands_in t q ≡ false → without t q ≡ q
+without_same t [] out = refl
+without_same t (u ∷ us) out = grind (arith, without_same t us)
+
 pub once_without : (t : ℕ) (q : List ℕ) → Once q → Once (without t q)
 once_without t [] once = tt
 once_without t (v ∷ vs) once = go (v == t) (once_without t vs once.1)

@@ -7,7 +7,7 @@ use Rattle.protocol.proofs.Vocabulary.{place_in, place_met}
 use Rattle.buckets.specs.Queues.{without}
 use Rattle.facts.specs.declared.fact.Fact.TheVariants.{Sleep, Wake, Move, Kill}
 use Rattle.protocol.specs.Sleepers.{StandsIn, IsAmong}
-use Rattle.protocol.specs.Wakings.{asleep_next, asleep_after, told_asleep, Alternates, IsQueue, FallsAsleep, LeavesQueue, IsMoved, TellsTurns, TellsSleepers, SleepsAreTold}
+use Rattle.protocol.specs.Wakings.{asleep_next, asleep_after, told_asleep, Alternates, IsQueue, nobody, FallsAsleep, LeavesQueue, IsMoved, TellsTurns, TellsSleepers, SleepsAreTold}
 use Rattle.protocol.proofs.Kept.{Kept}
 use Rattle.protocol.proofs.Places.{counter_is_no_cell}
 use Rattle.protocol.proofs.Steps.{Transition, IsNoMove, after, place_of, met, met_queue}
@@ -19,6 +19,7 @@ use Rattle.protocol.proofs.Queued.{Queued, in_none}
 use Rattle.protocol.proofs.Queued.{turn as turn_at}
 use Rattle.protocol.proofs.QueueRuns.{queued_on, start_queued, run_queued}
 use Rattle.protocol.proofs.Runs.{sound, start_kept, run_kept, run_layout}
+use Rattle.protocol.proofs.InTurn.{same_queue, TellsOn, told_in_turn}
 use Rattle.protocol.proofs.Cases.{by_equal}
 use Rattle.protocol.proofs.Seeing.{cell_again, counter_again, cell_in}
 
@@ -249,10 +250,6 @@ only : (f g : Fact) → IsAmong f (g ∷ []) → g ≡ f
 only f g (inl e) = e
 only f g (inr h) = absurd h
 
--- queues of the layout have places of their own
-same_queue : (l : Layout') (q r : Queue) → IsQueue l q → IsQueue l r → queue_place l q ≡ queue_place l r → q ≡ r
-same_queue l q r inside below place = grind (arith)
-
 module _ (s : State) (e : Event) (inv : Kept s) (queued : Queued s) (t : ℕ) where
   abbrev s' : State
   s' = (happens s e).state
@@ -346,11 +343,14 @@ run_alternates s (e ∷ es) inv queued t w stood =
     alternates-append t w (facts_of (happens s e).note) (facts_among (notes (happens s e).state es)) (alternates_on s e inv queued t w stood)
     (run_alternates (happens s e).state es (sound s e inv).kept (queued_on s e inv queued) t (asleep_after t w (facts_of (happens s e).note)) (stood_on s e inv queued t w stood))
 
-tells_sleepers : (s : State) (ns : List Note) → Kept s → Queued s → ((t : ℕ) → Stood s.layout s.queues t (told_asleep t ns)) → ((t : ℕ) → Alternates t None (facts_among ns)) → TellsSleepers s.layout s ns
-tells_sleepers s ns inv queued stood alternate = record {
+tells_sleepers : (s : State) (ns : List Note) → Kept s → Queued s → ((t : ℕ) → Stood s.layout s.queues t (told_asleep t ns)) → ((t : ℕ) → Alternates t None (facts_among ns)) → TellsOn s.layout s.queues nobody (facts_among ns)
+    → TellsSleepers s.layout s ns
+tells_sleepers s ns inv queued stood alternate turns = record {
   stands = λ t key on. found t key on (told_asleep t ns) refl (stood t);
   sleeps = λ t q e. subst (Stood s.layout s.queues t) e (stood t);
   alternate = alternate;
+  queues = turns.0;
+  fronts = turns.1;
   next = λ e t. tells_turns s e inv queued t;
 }
   where
@@ -365,4 +365,5 @@ told_sleeps l counters events is =
     subst (λ (k : Layout'). TellsSleepers k (run (start l counters) events) (notes (start l counters) events)) (run_layout (start l counters) events inv)
     (tells_sleepers (run (start l counters) events) (notes (start l counters) events) (run_kept (start l counters) events inv) (run_queued l counters events is)
     (λ t. run_stood (start l counters) events inv queued t None (λ key. refl))
-    (λ t. run_alternates (start l counters) events inv queued t None (λ key. refl)))
+    (λ t. run_alternates (start l counters) events inv queued t None (λ key. refl))
+    (subst (λ (k : Layout'). TellsOn k (run (start l counters) events).queues nobody (facts_among (notes (start l counters) events))) (sym (run_layout (start l counters) events inv)) (told_in_turn l counters events inv)))

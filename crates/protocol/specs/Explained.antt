@@ -1,7 +1,10 @@
 -- What a trace tells of each thread, and how its lines follow each other.
-use Rattle.std.specs.Prelude.{ℕ, ◌≡◌, ◌+◌, ◌==◌, false, List, [], ◌∷◌, if◌then◌else◌}
+use Rattle.std.specs.Prelude.{ℕ, ◌≡◌, ◌+◌, ◌==◌, Bool, true, false, List, [], ◌∷◌, if◌then◌else◌}
 use Rattle.keys.specs.Layouts.{Layout', IsLayout}
-use Rattle.facts.specs.Facts.{thread_of, is_passive}
+use Rattle.facts.specs.declared.fact.Fact.{Fact}
+use Rattle.facts.specs.declared.fact.Fact.TheVariants.{Begin, Return, Reap}
+use Rattle.facts.specs.declared.fact.Line.{Line}
+use Rattle.facts.specs.Facts.{thread_of, is_passive, decides}
 use Rattle.facts.specs.Lives.{own, Life}
 use Rattle.facts.specs.Orders.{Each, Orderly}
 use Rattle.protocol.specs.declared.event.Event.{Event}
@@ -21,10 +24,36 @@ abbrev pub caller_of : ℕ → List Event → ℕ → ℕ
 caller_of i [] n = 0
 caller_of i (e ∷ es) n = if n == i then caller e else caller_of (i + 1) es n
 
+-- ---- the lines of one event
+
+-- a call begins
+abbrev pub is_begin : Fact → Bool
+is_begin (Begin t c) = true
+is_begin f = false
+
+-- a call, or the walk of a dead thread's list, has ended
+abbrev pub is_last : Fact → Bool
+is_last (Return t x) = true
+is_last (Reap t) = true
+is_last f = false
+
+-- how line b may stand behind line a, near or far, where both are of one event: a begin is its first line, a return and a reaping are its last, and whom it wakes or moves stands behind its point, or the death that it tells
+pub record Within (a b : Line) : Type 0 where
+  pub first : a.event ≡ b.event → is_begin b.fact ≡ false
+  pub last : a.event ≡ b.event → is_last a.fact ≡ false
+  pub decided : a.event ≡ b.event → is_passive a.fact ≡ true → decides b.fact ≡ false
+
+abbrev pub AreWithin : List Line → Type 0
+AreWithin [] = Unit {0}
+AreWithin (l ∷ ls) = Each (Within l) ls × AreWithin ls
+
+-- ---- all lines
+
 -- what the notes tell is in order, each line but a wake or a move is of an event of its own thread, and each thread's begins, points and returns belong together: a call has one point at most, of its own
 -- operation and mutex, whose reply it returns; but a wait that isn't refused has an unlock and then a lock, whose reply it returns
 pub record IsExplained (events : List Event) (told : List Note) : Type 0 where
   pub orderly : Orderly (lines_from 1 told)
+  pub within : AreWithin (lines_from 1 told)
   pub callers : Each (λ l. is_passive l.fact ≡ false → thread_of l.fact ≡ caller_of 1 events l.event) (lines_from 1 told)
   pub lives : (t : ℕ) → Life t (own t (lines_from 1 told))
 

@@ -1,5 +1,5 @@
 -- Whom a signal or a broadcast passes by: nobody (pthread_cond_signal(3p), pthread_cond_broadcast(3p)).
-use Rattle.std.specs.Prelude.{ℕ, ◌≡◌, ◌≢◌, ◌≤◌, ◌==◌, Option, Some, None, List, [], ◌∷◌, ◌++◌, if◌then◌else◌}
+use Rattle.std.specs.Prelude.{ℕ, ◌≡◌, ◌≢◌, ◌≤◌, ◌==◌, Option, Some, None, List, [], ◌∷◌, ◌++◌, map, take, if◌then◌else◌}
 use Rattle.lockword.specs.declared.reply.Reply.{Reply}
 use Rattle.lockword.specs.declared.reply.Reply.TheVariants.{OK}
 use Rattle.keys.specs.declared.point.Operation.{Operation}
@@ -10,11 +10,11 @@ use Rattle.condvar.specs.Laws.{largest_counter}
 use Rattle.facts.specs.declared.fact.Begun.{Begun}
 use Rattle.facts.specs.declared.fact.Queue.TheVariants.{Condition}
 use Rattle.facts.specs.declared.fact.Fact.{Fact}
-use Rattle.facts.specs.declared.fact.Fact.TheVariants.{Begin, Point, Sleep, Return}
+use Rattle.facts.specs.declared.fact.Fact.TheVariants.{Begin, Point, Sleep, Wake, Return}
 use Rattle.protocol.specs.declared.event.Event.{Event}
 use Rattle.protocol.specs.declared.event.Event.TheVariants.{Step}
 use Rattle.protocol.specs.declared.note.Note.{Note}
-use Rattle.protocol.specs.Notes.{facts_of}
+use Rattle.protocol.specs.Notes.{facts_of, moves_to}
 use Rattle.protocol.specs.Ops.{queue_place}
 use Rattle.protocol.specs.Machine.{State, start, happens, run, notes}
 use Rattle.protocol.specs.Headline.{facts_among}
@@ -68,17 +68,35 @@ pub record IsPassedBy (t k : ℕ) (told : List Note) : Type 0 where
   pub sleeps : IsAmong (Sleep t (Condition k)) (facts_of sleep)
   pub same_call : BeginsNone t (facts_among (between ++ count ∷ later))
 
--- ---- moves
+-- ---- wakes and moves
 
--- where a broadcast on condition variable k returns OK, nobody stands in its queue directly after that event: all were moved
+-- at this event a call of thread t, as it was told, of this operation on condition variable k, returns OK
+pub record ReturnsOk (s : State) (events before after : List Event) (t k : ℕ) (b : Begun) (op : Operation) : Type 0 where
+  pub happened : events ≡ before ++ Step t ∷ after
+  pub told : call_told t (notes s before) ≡ Some b
+  pub operation : b.operation ≡ op
+  pub condition : b.condition ≡ Some k
+  pub returns : IsAmong (Return t OK) (facts_of (happens (run s before) (Step t)).note)
+
+-- who stood in the queue of condition variable k after these events
+abbrev pub waiters_of : State → List Event → ℕ → List ℕ
+waiters_of s before k = (run s before).queues (queue_place s.layout (Condition k))
+
+-- the event at which a signal returns OK woke the first of its condition variable's queue, as that was before it, and nobody only where it was empty; nothing else is told of the event
+abbrev pub WakesFirst : State → List Event → Type 0
+WakesFirst s events = (before after : List Event) (t k : ℕ) (b : Begun) → ReturnsOk s events before after t k b Signal
+    → facts_of (happens (run s before) (Step t)).note ≡ map Wake (take 1 (waiters_of s before k)) ++ Return t OK ∷ []
+
+-- the event at which a broadcast returns OK moved, in their order, all who stood in its condition variable's queue before it; nothing else is told of the event, and nobody stands there directly after it
 abbrev pub MovesAll : State → List Event → Type 0
-MovesAll s events = (before after : List Event) (t k : ℕ) (b : Begun) → events ≡ before ++ Step t ∷ after → call_told t (notes s before) ≡ Some b → b.operation ≡ Broadcast → b.condition ≡ Some k
-    → IsAmong (Return t OK) (facts_of (happens (run s before) (Step t)).note) → (happens (run s before) (Step t)).state.queues (queue_place s.layout (Condition k)) ≡ []
+MovesAll s events = (before after : List Event) (t k : ℕ) (b : Begun) → ReturnsOk s events before after t k b Broadcast
+    → (facts_of (happens (run s before) (Step t)).note ≡ map (moves_to b.mutex) (waiters_of s before k) ++ Return t OK ∷ []) × ((happens (run s before) (Step t)).state.queues (queue_place s.layout (Condition k)) ≡ [])
 
 -- ---- runs
 
 pub record PassesNobody (s : State) (events : List Event) : Type 0 where
   pub counted : (t k : ℕ) → ¬ IsPassedBy t k (notes s events)
+  pub woken : WakesFirst s events
   pub moved : MovesAll s events
 
 -- no counter is above its largest value at the beginning

@@ -1,5 +1,6 @@
 -- What a trace tells of who falls asleep and who is woken (futex(2)).
-use Rattle.std.specs.Prelude.{ℕ, length, slice_index, ◌≡◌, ◌≢◌, ◌<◌, ◌==◌, ◌↔◌, true, Option, Some, None, List, [], ◌∷◌, if◌then◌else◌}
+use Rattle.std.specs.Prelude.{ℕ, length, slice_index, ◌≡◌, ◌≢◌, ◌<◌, ◌==◌, ◌↔◌, Bool, true, false, Option, Some, None, List, [], ◌∷◌, ◌++◌, if◌then◌else◌}
+use Rattle.buckets.specs.Queues.{without}
 use Rattle.keys.specs.Layouts.{Layout', IsLayout}
 use Rattle.protocol.specs.declared.event.Event.{Event}
 use Rattle.protocol.specs.declared.event.Event.TheVariants as event
@@ -45,12 +46,55 @@ abbrev pub Alternates : ℕ → Option Queue → List Fact → Type 0
 Alternates t w [] = Unit {0}
 Alternates t w (f ∷ fs) = MayFollow t w f × Alternates t (asleep_next t w f) fs
 
--- ---- one event more
+-- ---- what lines tell of the queues
 
 -- a queue of the layout
 abbrev pub IsQueue : Layout' → Queue → Type 0
 IsQueue l (Mutex m) = m < l.mutexes
 IsQueue l (Condition k) = k < length l.conditions
+
+abbrev pub is_queue : Queue → Queue → Bool
+is_queue (Mutex m) (Mutex n) = m == n
+is_queue (Condition k) (Condition j) = k == j
+is_queue q r = false
+
+-- who sleeps in each queue, in the order in which they came, with one fact more: whoever falls asleep comes to the end of the queue that this names, and whoever is moved to that of the mutex, out of any
+-- other; a wake and a kill take it out
+abbrev pub queues_next : Fact → (Queue → List ℕ) → Queue → List ℕ
+queues_next (Sleep t q) w = λ r. if is_queue q r then w r ++ t ∷ [] else w r
+queues_next (Move t m) w = λ r. if is_queue (Mutex m) r then without t (w r) ++ t ∷ [] else without t (w r)
+queues_next (Wake t) w = λ r. without t (w r)
+queues_next (Kill t) w = λ r. without t (w r)
+queues_next f w = w
+
+abbrev pub queues_after : (Queue → List ℕ) → List Fact → Queue → List ℕ
+queues_after w [] = w
+queues_after w (f ∷ fs) = queues_after (queues_next f w) fs
+
+-- nobody sleeps before anything is told
+abbrev pub nobody : Queue → List ℕ
+nobody q = []
+
+abbrev pub queues_told : List Note → Queue → List ℕ
+queues_told ns = queues_after nobody (facts_among ns)
+
+-- thread t came first of those who sleep there
+abbrev pub IsFront : ℕ → List ℕ → Type 0
+IsFront t [] = ⊥
+IsFront t (u ∷ us) = u ≡ t
+
+-- a wake names the front of a queue, and a move that of a condition variable of the mutex
+abbrev pub NamesFront : Layout' → (Queue → List ℕ) → Fact → Type 0
+NamesFront l w (Wake t) = (q : Queue) × IsQueue l q × IsFront t (w q)
+NamesFront l w (Move t m) = (k : ℕ) × (k < length l.conditions) × (slice_index l.conditions k ≡ m) × IsFront t (w (Condition k))
+NamesFront l w f = Unit {0}
+
+-- by the facts before it
+abbrev pub NameFronts : Layout' → (Queue → List ℕ) → List Fact → Type 0
+NameFronts l w [] = Unit {0}
+NameFronts l w (f ∷ fs) = NamesFront l w f × NameFronts l (queues_next f w) fs
+
+-- ---- one event more
 
 -- it stood in no queue, and stands in this one then
 abbrev pub FallsAsleep : State → State → ℕ → Queue → Type 0
@@ -74,11 +118,13 @@ pub record TellsTurns (s : State) (e : Event) (t : ℕ) : Type 0 where
 -- ---- runs
 
 -- of a state that events lead to that were noted so: a thread stands in a queue exactly where the last of its lines among sleep, move, wake and kill is a sleep or a move, in the one that this names, and
--- in no other
+-- in no other; in each queue they stand as they came, by what was told; and who is woken or moved is the front
 pub record TellsSleepers (l : Layout') (s : State) (ns : List Note) : Type 0 where
   pub stands : (t key : ℕ) → stands_in t (s.queues key) ≡ true → (q : Queue) × (told_asleep t ns ≡ Some q) × (key ≡ queue_place l q)
   pub sleeps : (t : ℕ) (q : Queue) → told_asleep t ns ≡ Some q → IsQueue l q × StandsIn s t q
   pub alternate : (t : ℕ) → Alternates t None (facts_among ns)
+  pub queues : (q : Queue) → IsQueue l q → s.queues (queue_place l q) ≡ queues_told ns q
+  pub fronts : NameFronts l nobody (facts_among ns)
   pub next : (e : Event) (t : ℕ) → TellsTurns s e t
 
 -- whatever happens, with any values of the counters at the beginning; so after each event

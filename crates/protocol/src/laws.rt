@@ -27,7 +27,8 @@ pub fn deaths_are_told()
 {}
 
 /// Whatever happens, the trace explains itself: each thread's calls begin, have their one point and return its reply, each at an event of that thread, and no point belongs to any
-/// other call. But a wait that isn't refused has two: it unlocks its mutex, and later locks it again, with the reply that it returns.
+/// other call. But a wait that isn't refused has two: it unlocks its mutex, and later locks it again, with the reply that it returns. Of the lines of one event a begin is the first, a return or
+/// a reaping the last, and whom it wakes or moves stands behind its point.
 pub fn trace_is_explained()
     ensures { TraceIsExplained }
 {}
@@ -64,13 +65,14 @@ pub fn events_apply()
 
 /// Whatever happens: a thread stands in a queue exactly where the last of its lines among sleep, move, wake and kill is a sleep or a move, in that of the mutex or condition variable that this
 /// names. So its sleeps and wakes alternate; a sleep is told exactly where it comes to stand in a queue, a wake exactly where it leaves one and stands in none, but by its kill, and a move
-/// exactly where it leaves that of a condition variable for its mutex's.
+/// exactly where it leaves that of a condition variable for its mutex's. In each queue they stand in the order in which they came, as it was told, and whoever is woken or moved is the front.
 pub fn sleeps_are_told()
     ensures { SleepsAreTold }
 {}
 
 /// Whatever happens, with counters that are at most 2^32 - 1 at the beginning: a thread that released its mutex in a wait before a signal or a broadcast counted doesn't fall asleep on that condition
-/// variable behind it. And directly after a broadcast's move nobody stands in its queue.
+/// variable behind it. And the event at which a signal returns OK wakes the first of its condition variable's queue, and nobody only where that is empty; the one at which a broadcast does moves
+/// all of that queue, in its order, and directly after it nobody stands there.
 pub fn nobody_is_passed_by()
     ensures { NobodyIsPassedBy }
 {}

@@ -239,19 +239,20 @@ fn a_changed_word_is_looked_at_once(rt: HostRuntime) {
     follows(&rt, Whose::Pending, &FREED_PENDING);
 }
 
-/// A walk with an access of each kind.
-const EACH_ACCESS: [Step; 7] = [
+/// A walk with an access of each kind; the word of its pending entry, at 11, is another thread's.
+const EACH_ACCESS: [Step; 8] = [
     Step::Load(1, 8, Then::Goes),
     Step::Load(2, BACK, Then::Goes),
-    Step::Load(3, 0, Then::Goes),
+    Step::Load(3, 12, Then::Goes),
     Step::Load(8, 1, Then::Goes),
     Step::Load(7, WAITS, Then::Goes),
     Step::Mark(WAITS, WAITING_MARKED, Answer::Exchanged, Then::Dies),
-    Step::Wake(Then::Ends),
+    Step::Wake(Then::Goes),
+    Step::Load(11, 2, Then::Ends),
 ];
 
 /// What is no answer of a load.
-const OTHERS_OF_LOADS: [Answer; 8] = [
+const OTHERS_OF_LOADS: [Answer; 9] = [
     Answer::Stored,
     Answer::Exchanged,
     Answer::Changed(1),
@@ -259,22 +260,24 @@ const OTHERS_OF_LOADS: [Answer; 8] = [
     Answer::Woken,
     Answer::Count(1),
     Answer::Counts(0, 0),
+    Answer::Trimmed(true),
     Answer::Fault,
 ];
 
 /// What is no answer of an exchange.
-const OTHERS_OF_MARKS: [Answer; 7] = [
+const OTHERS_OF_MARKS: [Answer; 8] = [
     Answer::Value(1),
     Answer::Stored,
     Answer::Again,
     Answer::Woken,
     Answer::Count(1),
     Answer::Counts(0, 0),
+    Answer::Trimmed(true),
     Answer::Fault,
 ];
 
 /// What is no answer of a wake.
-const OTHERS_OF_WAKES: [Answer; 8] = [
+const OTHERS_OF_WAKES: [Answer; 9] = [
     Answer::Value(1),
     Answer::Stored,
     Answer::Exchanged,
@@ -282,6 +285,7 @@ const OTHERS_OF_WAKES: [Answer; 8] = [
     Answer::Again,
     Answer::Woken,
     Answer::Counts(0, 0),
+    Answer::Trimmed(true),
     Answer::Fault,
 ];
 
@@ -313,7 +317,7 @@ fn an_answer_of_another_access_ends_the_walk(rt: HostRuntime) {
         assert!(rt; walk.next() == step.access());
         others_end(&rt, walk, step);
         if let Progress::Returns { .. } = walk.resume(step.answer()) {
-            assert!(rt; matches!(step, Step::Wake(_)));
+            assert!(rt; matches!(step, Step::Load(11, _, _)));
             return;
         }
     }

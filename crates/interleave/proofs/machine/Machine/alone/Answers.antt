@@ -1,8 +1,8 @@
 use Rattle.std.specs.Prelude.{replicate}
-use Rattle.std.proofs.Common.{◌≡◌, ◌&&◌, ◌+◌, suc, [], ◌∙◌, ap, sym, subst, arith}
+use Rattle.std.proofs.Common.{◌≡◌, ◌&&◌, ◌+◌, suc, ◌∙◌, ap, sym, subst, arith}
 use Rattle.protocol.specs.declared.event.Event.TheVariants.{Step}
 use Rattle.protocol.specs.Machine.{State, happens}
-use Rattle.protocol.specs.Sleepers.{alone}
+use Rattle.protocol.specs.Sleepers.{alone, RunsAlone}
 use Rattle.protocol.specs.Headline.{NoReapedOwns}
 use Rattle.interleave.specs.Shown.{state_of}
 use Rattle.interleave.specs.Notes.{is_nothing}
@@ -10,10 +10,7 @@ use Rattle.interleave.proofs.Reaches.{reached_runs_alone, reached_reaped, alone-
 use Rattle.interleave.proofs.machine.Machine.alone.Goals as goal
 
 pub returns-clause-runs_alone : goal.returns-clause-runs_alone
-returns-clause-runs_alone c = reached_runs_alone c.args.self.now [] c.reached.ensures
-
-pub returns-in_err-machine-clause-runs_alone : goal.returns-in_err-machine-clause-runs_alone
-returns-in_err-machine-clause-runs_alone c = reached_runs_alone c.args.self.now [] c.reached.ensures
+returns-clause-runs_alone c = subst RunsAlone (sym c.loop.invariant.state) (reached_runs_alone c.args.self.now (replicate c.loop.counter (Step c.args.thread)) c.reached.ensures)
 
 pub loop-preserved : goal.loop-preserved
 loop-preserved c =
