@@ -1,0 +1,5 @@
+pub mod Structs
+pub mod Accesses
+pub mod Running
+pub mod Walks
+pub mod Plans

@@ -1,0 +1,13 @@
+//! What holds of the plans.
+ghost use Rattle.pazdrig_c.specs.Plans.{LocksByPlan, UnlocksByPlan};
+
+/// The lock, or the trylock, of a free mutex that is answered as it expects makes just the accesses of its plan, returns the reply of whoever takes such a cell, and makes its exchange where it takes.
+pub fn locks_by_plan()
+    ensures { LocksByPlan }
+{}
+
+/// The unlock of a consistent mutex by its owner makes just the accesses of its plan up to its release, stands there at the row that releases, and returns OK, where somebody may wait and nobody
+/// was woken too.
+pub fn unlocks_by_plan()
+    ensures { UnlocksByPlan }
+{}
