@@ -55,3 +55,4 @@ pub mod PassedBy
 pub mod Emptied
 pub mod Signalling
 mod WaitersBit
+mod WalksOn

@@ -11,3 +11,4 @@ pub mod Wakings
 pub mod PassedBy
 pub mod Signals
 pub mod WaitersBit
+pub mod WalksOn

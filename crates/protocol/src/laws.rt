@@ -9,6 +9,7 @@ ghost use Rattle.protocol.specs.Wakings.{SleepsAreTold};
 ghost use Rattle.protocol.specs.PassedBy.{NobodyIsPassedBy};
 ghost use Rattle.protocol.specs.Signals.{SignalsAreRight};
 ghost use Rattle.protocol.specs.WaitersBit.{WaitersAreKept};
+ghost use Rattle.protocol.specs.WalksOn.{WalksGoOn};
 
 /// Whatever happens, the points are one legal history of POSIX robust mutexes, which says at each moment what every cell says.
 pub fn history_is_legal()
@@ -87,4 +88,10 @@ pub fn signals_are_right()
 /// nobody sleeps on a mutex that an unlock has released and is to wake one sleeper of, the next two steps of its thread, the wake and the trim, leave the word 0 if WAITERS is all that it says.
 pub fn waiters_are_kept()
     ensures { WaitersAreKept }
+{}
+
+/// Whatever happens: as long as the kernel's walk over a dead thread's list is to mark a word, that word's owner is the dead thread. So where a walk is kept behind each access, and its walker dies before
+/// it has kept the last one, whoever goes on with it sees by another owner that this mark was made.
+pub fn walks_go_on()
+    ensures { WalksGoOn }
 {}

@@ -39,7 +39,7 @@ pub use event::Event;
 pub use laws::{
     deaths_are_told, events_apply, history_is_legal, lists_are_kept, lone_threads_come_to_rest,
     no_reaped_owner, no_sleeper_is_stranded, nobody_is_passed_by, signals_are_right,
-    sleeps_are_told, trace_is_explained, undivided_calls_reply, waiters_are_kept,
+    sleeps_are_told, trace_is_explained, undivided_calls_reply, waiters_are_kept, walks_go_on,
 };
 pub use note::Note;
 pub use thread::{Stage, Thread};

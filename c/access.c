@@ -1,0 +1,98 @@
+/* Each access that a step program asks for, made on the shared words and answered (futex(2)). */
+#include "driver.h"
+#include <errno.h>
+#include <linux/futex.h>
+#include <sys/syscall.h>
+#include <unistd.h>
+
+/* One instruction each, so that tries can yield between any two. The cell and the counters are changed by sequentially consistent
+ * instructions; a thread's own words are stored by it alone and read by who walks its list, for whom a release is enough. */
+#define LOAD(w) (PZ_BETWEEN(), atomic_load_explicit(w, memory_order_acquire))
+#define STORE(w, v) (PZ_BETWEEN(), atomic_store_explicit(w, v, memory_order_release))
+#define XOR(w, v) (PZ_BETWEEN(), atomic_fetch_xor(w, v))
+#define OR(w, v) (PZ_BETWEEN(), atomic_fetch_or(w, v))
+#define AND(w, v) (PZ_BETWEEN(), atomic_fetch_and(w, v))
+#define ADD(w, v) (PZ_BETWEEN(), atomic_fetch_add(w, v))
+#define EXCHANGE(w, seen, v) (PZ_BETWEEN(), atomic_compare_exchange_strong(w, seen, v))
+
+static int is_there(const pz *p, uint64_t at) { return at >= LINE && at < p->places; }
+
+/* The futex word is the low half. */
+static long futex(word *w, int operation, uint32_t value, unsigned long most, word *other, uint32_t expected)
+{
+    return syscall(SYS_futex, (uint32_t *)w, operation, value, most, (uint32_t *)other, expected);
+}
+
+static uint32_t exchange(word *w, const struct pz_access *x, uint64_t *value)
+{
+    uint64_t seen = x->a;
+    if (EXCHANGE(w, &seen, x->b))
+        return PZ_EXCHANGED;
+    *value = seen;
+    return PZ_CHANGED;
+}
+
+/* Nobody has a bit: nobody sleeps there, and whoever is about to will find the word changed. */
+static uint32_t wake(const pz *p, const struct pz_access *x, uint64_t *value)
+{
+    long n = 0;
+    if (LOAD(sleepers(p, x->at)))
+        n = futex(&p->words[x->at], FUTEX_WAKE, x->most, 0, NULL, 0);
+    *value = n > 0 ? (uint64_t)n : 0;
+    return PZ_COUNT;
+}
+
+/* Whoever is moved sleeps on the other word then, so has its bit there before. */
+static uint32_t requeue(const pz *p, const struct pz_access *x, uint64_t *value)
+{
+    *value = 0;
+    uint64_t who = LOAD(sleepers(p, x->at));
+    if (!who)
+        return PZ_COUNTS;
+    if (!is_there(p, x->b))
+        return PZ_FAULT;
+    OR(sleepers(p, x->b), who);
+    long n = futex(&p->words[x->at], FUTEX_CMP_REQUEUE, x->wakes, x->most, &p->words[x->b], (uint32_t)x->a);
+    if (n < 0)
+        return errno == EAGAIN ? PZ_AGAIN : PZ_FAULT;
+    *value = (uint64_t)n;       /* all were moved, as this program's requeues wake nobody */
+    return PZ_COUNTS;
+}
+
+uint32_t pz_make(pz *p, const struct pz_access *x, uint64_t *value)
+{
+    if (!is_there(p, x->at))
+        return PZ_FAULT;
+    word *w = &p->words[x->at];
+    switch (x->kind) {
+    case PZ_LOAD:
+        *value = LOAD(w);
+        return PZ_VALUE;
+    case PZ_STORE:
+        STORE(w, x->a);
+        return PZ_STORED;
+    case PZ_EXCHANGE:
+        return exchange(w, x, value);
+    case PZ_XOR:
+        *value = XOR(w, x->a);
+        return PZ_VALUE;
+    case PZ_OR:
+        *value = OR(w, x->a);
+        return PZ_VALUE;
+    case PZ_AND:
+        *value = AND(w, x->a);
+        return PZ_VALUE;
+    case PZ_ADD:
+        *value = ADD(w, x->a);
+        return PZ_VALUE;
+    case PZ_WAKE:
+        return wake(p, x, value);
+    case PZ_CMP_REQUEUE:
+        return requeue(p, x, value);
+    case PZ_TRIM:               /* needs the kernel's bucket lock, so is declined: WAITERS stays, and the sleepers' bits make that cheap */
+        *value = 0;
+        return PZ_TRIMMED;
+    default:
+        return PZ_FAULT;
+    }
+}

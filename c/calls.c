@@ -1,0 +1,261 @@
+/* The calls: each runs its step program, or a plan of it where nobody is in the way. */
+#include "driver.h"
+#include <errno.h>
+#include <sched.h>
+#include <string.h>
+
+/* Where a call goes on by its steps whose access at the cell was made by a plan (crates/mutex/specs/Codings.antt). */
+enum { AT_LOCK_TAKE = 17, AT_TRYLOCK_TAKE = 22, AT_RELEASE = 24 };
+enum { NO_PLAN = 0xffff };
+
+static const uint64_t WAITERS = 0x80000000;
+
+static int number_of(uint32_t reply)
+{
+    switch (reply) {
+    case PZ_X_NOMEM:
+        return ENOMEM;
+    case PZ_X_RACED:            /* lost four races: others are at it */
+        return EBUSY;
+    case PZ_X_HELD:
+        return EAGAIN;
+    case PZ_X_FULL:
+        return EOVERFLOW;
+    case PZ_X_STATE:
+        return EINVAL;
+    default:
+        return (int)reply;
+    }
+}
+
+/* ---- By steps. */
+
+static uint32_t answer_of(pz *p, unsigned t, const struct pz_access *x, uint64_t *value)
+{
+    *value = 0;
+    if (x->kind != PZ_WAIT)
+        return pz_make(p, x, value);
+    PZ_TELL(pz_trace_sleep(p, t, x->at));
+    pz_trace_unlock();
+    uint32_t answer = pz_sleep(p, t, x->at, (uint32_t)x->a);
+    pz_trace_lock();
+    PZ_TELL(pz_trace_wake(t));
+    return answer;
+}
+
+static void tell(unsigned t, const struct pz_call *call, const struct pz_access *x, uint32_t state)
+{
+    (void)t, (void)call, (void)x, (void)state;
+    if (x->point != PZ_NO_POINT)
+        PZ_TELL(pz_trace_point(t, x->operation, mutex_at(call->cell), x->point));
+    if (state == PZ_RETURNED)
+        PZ_TELL(pz_trace_return(t, call->phase.lock.reply));
+}
+
+/* Goes on with an answer until the call has returned. Out of line: it is the slow path. */
+static __attribute__((noinline)) uint32_t run_on(pz *p, unsigned t, struct pz_call *call, uint32_t answer, uint64_t value)
+{
+    struct pz_access x;
+    uint32_t state;
+    while ((state = pz_step(call, &x, answer, value)) == PZ_GOES) {
+        tell(t, call, &x, state);
+        pz_trace_unlock();
+        pz_trace_lock();
+        answer = answer_of(p, t, &x, &value);
+    }
+    if (state == PZ_RETURNED)
+        tell(t, call, &x, state);
+    return state == PZ_RETURNED ? call->phase.lock.reply : EINVAL;
+}
+
+static __attribute__((noinline)) uint32_t run(pz *p, struct pz_call *call, unsigned operation, int c)
+{
+    struct pz_access x;
+    uint64_t value;
+    unsigned t = call->thread;
+    (void)c;
+    pz_trace_lock();
+    PZ_TELL(pz_trace_begin(t, operation, mutex_at(call->cell), c));
+    uint32_t reply = EINVAL;
+    if (pz_begin(call, &x, operation) == PZ_GOES) {
+        uint32_t answer = answer_of(p, t, &x, &value);
+        reply = run_on(p, t, call, answer, value);
+    }
+    pz_trace_unlock();
+    return reply;
+}
+
+static struct pz_call call_of(unsigned t, uint64_t cell)
+{
+    return (struct pz_call){.head = head_place(t), .entry = cell + 1, .cell = cell, .thread = (uint8_t)t};
+}
+
+/* ---- By plan. The thread's own words are stored by it alone; what it loads of them may have been spoiled, so nothing is stored where it doesn't lie in the file. */
+
+static void store(pz *p, const struct pz_plan *plan, unsigned i)
+{
+    atomic_store_explicit(&p->words[plan->at[i]], plan->value[i], memory_order_release);
+}
+
+static uint64_t own(const pz *p, uint64_t at) { return atomic_load_explicit(&p->words[at], memory_order_relaxed); }
+static int is_entry(const pz *p, uint64_t at) { return at >= LINE && at < p->places - 2; }
+
+static uint32_t planned_lock(pz *p, unsigned t, uint64_t cell, unsigned operation)
+{
+    struct pz_plan plan;
+    word *w = &p->words[cell];
+    uint64_t seen = atomic_load_explicit(w, memory_order_acquire), found = seen, first = own(p, head_place(t));
+    if (!is_entry(p, first) || !pz_plan_lock(&plan, (uint8_t)t, head_place(t), cell + 1, seen, first))
+        return NO_PLAN;
+    store(p, &plan, 0);                                 /* the pending entry, before the cell is taken */
+    if (!atomic_compare_exchange_strong(w, &found, plan.operand)) {
+        struct pz_call call = call_of(t, cell);
+        call.program = (uint8_t)operation;
+        call.phase.lock = (struct pz_phase){.kind = operation == PZ_OP_LOCK ? AT_LOCK_TAKE : AT_TRYLOCK_TAKE, .x = seen};
+        return run_on(p, t, &call, PZ_CHANGED, found);
+    }
+    for (unsigned i = 1; i < plan.stores; i++)
+        store(p, &plan, i);
+    return plan.reply;
+}
+
+static uint32_t planned_unlock(pz *p, unsigned t, uint64_t cell)
+{
+    struct pz_plan plan;
+    word *w = &p->words[cell];
+    uint64_t seen = atomic_load_explicit(w, memory_order_acquire), next = own(p, cell + 1), previous = own(p, cell + 2);
+    if (!is_entry(p, next) || !is_entry(p, previous) || !pz_plan_unlock(&plan, (uint8_t)t, head_place(t), cell + 1, seen, next, previous))
+        return NO_PLAN;
+    for (unsigned i = 0; i < plan.before; i++)
+        store(p, &plan, i);
+    uint64_t found = atomic_fetch_xor(w, plan.operand);
+    /* WAITERS alone is no sleeper: where none has a bit, the wake of nobody and the trim that is declined are left out. */
+    if ((found & WAITERS) && atomic_load(sleepers(p, cell))) {
+        struct pz_call call = call_of(t, cell);
+        call.program = PZ_OP_UNLOCK;
+        call.phase.lock = (struct pz_phase){.kind = AT_RELEASE};
+        return run_on(p, t, &call, PZ_VALUE, found);
+    }
+    for (unsigned i = plan.before; i < plan.stores; i++)
+        store(p, &plan, i);
+    return plan.reply;
+}
+
+static uint32_t planned(pz *p, unsigned t, uint64_t cell, unsigned operation)
+{
+    if (PZ_TRACE)
+        return NO_PLAN;                                 /* a trace tells each step */
+    if (operation == PZ_OP_LOCK || operation == PZ_OP_TRYLOCK)
+        return planned_lock(p, t, cell, operation);
+    return operation == PZ_OP_UNLOCK ? planned_unlock(p, t, cell) : NO_PLAN;
+}
+
+/* ---- The calls. */
+
+/* The calling thread's id, taking part if it doesn't yet. 0, and why not. */
+static unsigned self_in(pz *p, int *why)
+{
+    unsigned t = pz_self[p->number].id;
+    if (t)
+        return t;
+    *why = pz_thread_begin(p);
+    return pz_self[p->number].id;
+}
+
+static int on_mutex(pz *p, unsigned m, unsigned operation)
+{
+    int why = 0;
+    if (m >= p->mutexes)
+        return EINVAL;
+    unsigned t = self_in(p, &why);
+    if (!t)
+        return why;
+    uint16_t *held = &pz_self[p->number].held;
+    int takes = operation == PZ_OP_LOCK || operation == PZ_OP_TRYLOCK;
+    if (takes && *held >= HELD)
+        return EAGAIN;                                  /* the walk goes over so many */
+    uint32_t reply = planned(p, t, cell_place(m), operation);
+    if (reply == NO_PLAN) {
+        struct pz_call call = call_of(t, cell_place(m));
+        reply = run(p, &call, operation, -1);
+    }
+    if (takes && (reply == 0 || reply == EOWNERDEAD))
+        ++*held;
+    else if (operation == PZ_OP_UNLOCK && reply == 0)
+        --*held;
+    return number_of(reply);
+}
+
+int pz_mutex_lock(pz *p, unsigned m) { return on_mutex(p, m, PZ_OP_LOCK); }
+int pz_mutex_unlock(pz *p, unsigned m) { return on_mutex(p, m, PZ_OP_UNLOCK); }
+int pz_mutex_consistent(pz *p, unsigned m) { return on_mutex(p, m, PZ_OP_CONSISTENT); }
+
+/* It is busy only where its owner lives: a dead one is reaped, by this thread or by whoever is at it, and then it is tried again. */
+int pz_mutex_trylock(pz *p, unsigned m)
+{
+    for (;;) {
+        int r = on_mutex(p, m, PZ_OP_TRYLOCK);
+        if (r != EBUSY)
+            return r;
+        unsigned owner = owner_of(atomic_load(&p->words[cell_place(m)]));
+        if (!owner || owner > THREADS || owner == pz_self[p->number].id || pz_fate(p, owner) != DYING)
+            return EBUSY;
+        if (pz_reap_one(p, owner) == DYING)
+            sched_yield();
+    }
+}
+
+static int on_condition(pz *p, unsigned c, unsigned operation)
+{
+    int why = 0;
+    if (c >= p->conds)
+        return EINVAL;
+    unsigned t = self_in(p, &why);
+    if (!t)
+        return why;
+    struct pz_call call = call_of(t, p->cell_of[c]);
+    call.counter = counter_place(p, c);
+    uint32_t reply = run(p, &call, operation, (int)c);
+    if (operation == PZ_OP_WAIT && reply == ENOTRECOVERABLE)
+        pz_self[p->number].held--;                      /* it was released, and isn't held again */
+    return number_of(reply);
+}
+
+int pz_cond_wait(pz *p, unsigned c) { return on_condition(p, c, PZ_OP_WAIT); }
+int pz_cond_signal(pz *p, unsigned c) { return on_condition(p, c, PZ_OP_SIGNAL); }
+int pz_cond_broadcast(pz *p, unsigned c) { return on_condition(p, c, PZ_OP_BROADCAST); }
+
+/* ---- Threads take part and leave. */
+
+static pthread_key_t at_end;
+static pthread_once_t once = PTHREAD_ONCE_INIT;
+
+static void leave_all(void *unused)
+{
+    (void)unused;
+    for (unsigned n = 0; n < FILES; n++)
+        if (pz_self[n].id)
+            pz_leave(pz_opened(n));
+}
+
+static void make_key(void) { pthread_key_create(&at_end, leave_all); }
+
+int pz_thread_begin(pz *p)
+{
+    if (pz_self[p->number].id)
+        return EBUSY;
+    pthread_once(&once, make_key);
+    int r = pthread_setspecific(at_end, p);             /* any value: a thread that has one is looked at when it ends */
+    return r ? r : pz_take_part(p);
+}
+
+int pz_thread_end(pz *p)
+{
+    if (!pz_self[p->number].id)
+        return EPERM;
+    pz_leave(p);
+    return 0;
+}
+
+unsigned pz_thread_id(pz *p) { return pz_self[p->number].id; }
+void *pz_data(pz *p) { return p->data; }

@@ -1,0 +1,128 @@
+/* What the rooms of the driver share: the file as it is mapped, its words' places, and the accesses that step programs ask for. */
+#ifndef PZ_DRIVER_H
+#define PZ_DRIVER_H
+#define _GNU_SOURCE
+#include "pazdrig.h"
+#include "pz_steps.h"
+#include <pthread.h>
+#include <stdatomic.h>
+
+/* Built with PZ_TRACE=1 the driver tells what it does, as a trace that `rfx check` judges (trace.c). */
+#ifndef PZ_TRACE
+#define PZ_TRACE 0
+#endif
+/* How many looks a thread takes at a mutex's word before it sleeps, at most. */
+#ifndef PZ_SPIN
+#define PZ_SPIN 2000
+#endif
+/* How many of those that sleep on a mutex already a sleeper watches, beside its owner. */
+#ifndef PZ_WATCH
+#define PZ_WATCH 8
+#endif
+/* Seconds until a sleeper that watches looks by itself; tries make it large, so that a lost wake hangs. */
+#ifndef PZ_POLL_S
+#define PZ_POLL_S 1
+#endif
+/* Tries stop a reaper, or yield, where these stand. */
+#ifndef PZ_AT_WALK
+#define PZ_AT_WALK() ((void)0)
+#endif
+#ifndef PZ_BETWEEN
+#define PZ_BETWEEN() ((void)0)
+#endif
+
+enum { THREADS = 64, LINE = 8, HELD = 2048, FILES = 16, MUTEXES = 4096, CONDS = 256 };
+
+typedef _Atomic uint64_t word;
+
+/* Which record of a thread's walk is valid: one of the two, or none yet, or the walk has ended. */
+enum { WALK_NONE = 2, WALK_ENDED = 3 };
+
+/* Of a thread's id: whether somebody lives by it, and the walk over its list. */
+struct life {
+    pthread_mutex_t token;          /* robust: held while the thread lives, so the kernel tells its death */
+    _Atomic uint32_t tid;           /* who holds it while alive; 0 once dead: then a holder is its reaper */
+    _Atomic uint32_t valid;         /* which record is */
+    struct pz_walk record[2];       /* the walk behind each access: a walker that dies leaves it to the next */
+} __attribute__((aligned(64)));
+
+struct header {
+    _Atomic uint64_t magic;
+    uint32_t mutexes, conds;
+    uint64_t data, size;
+    char boot[40];                  /* the system that the tokens are of */
+};
+
+/* An open file, of one process. */
+struct pz {
+    struct header *header;
+    struct life *life;              /* 1 to THREADS */
+    word *words;
+    uint64_t places;
+    unsigned mutexes, conds;
+    unsigned number;                /* its place in `opened`, and in each thread's `pz_self` */
+    _Atomic unsigned users;         /* its opener, and each thread of the process that takes part */
+    size_t size;
+    void *data;
+    uint64_t cell_of[CONDS];        /* of condition variables: kept here, as the file's words may be spoiled */
+};
+
+/* What a thread is in a file: its id, 0 for none, and how many mutexes it holds. */
+struct self {
+    uint8_t id;
+    uint16_t held;
+};
+extern _Thread_local struct self pz_self[FILES] __attribute__((tls_model("initial-exec")));
+
+/* ---- Places. A line of 8 words for each head, mutex and condition variable: no two of them share a cache line. Links hold places
+ * and no addresses, so whoever walks a list needs no translation. */
+static inline uint64_t head_place(unsigned t) { return LINE * (uint64_t)t; }
+static inline uint64_t cell_place(unsigned m) { return LINE * (uint64_t)(1 + THREADS + m); }
+static inline uint64_t counter_place(const pz *p, unsigned c) { return LINE * (uint64_t)(1 + THREADS + p->mutexes + c); }
+static inline int is_counter(const pz *p, uint64_t at) { return at >= counter_place(p, 0); }
+static inline unsigned mutex_at(uint64_t cell) { return (unsigned)(cell / LINE) - 1 - THREADS; }
+
+/* Word 3 of a line: the threads that may sleep on its first word, a bit each. The kernel's queue has no others: a bit is set before
+ * the sleep and cleared behind it. So a wake of nobody costs no system call. */
+static inline word *sleepers(const pz *p, uint64_t at) { return &p->words[(at | (LINE - 1)) - 4]; }
+static inline uint64_t bit_of(unsigned t) { return 1ull << (t - 1); }
+static inline uint32_t owner_of(uint64_t cell) { return (uint32_t)cell & 0x3fffffff; }
+
+/* ---- access.c */
+uint32_t pz_make(pz *p, const struct pz_access *x, uint64_t *value);
+
+/* ---- sleep.c */
+uint32_t pz_sleep(pz *p, unsigned t, uint64_t at, uint32_t expected);
+
+/* ---- reap.c */
+enum fate { LIVES, DYING, GONE };
+enum fate pz_fate(pz *p, unsigned t);
+enum fate pz_reap_one(pz *p, unsigned t);
+void pz_walk_on(pz *p, unsigned t);
+int pz_take_part(pz *p);
+void pz_leave(pz *p);
+uint32_t *pz_token_word(pz *p, unsigned t);
+
+/* ---- file.c */
+void pz_let_go(pz *p);
+pz *pz_opened(unsigned number);
+
+/* ---- trace.c */
+#if PZ_TRACE
+void pz_trace_lock(void);
+void pz_trace_unlock(void);
+void pz_trace_begin(unsigned t, unsigned operation, unsigned m, int c);
+void pz_trace_point(unsigned t, unsigned operation, unsigned m, unsigned reply);
+void pz_trace_sleep(const pz *p, unsigned t, uint64_t at);
+void pz_trace_wake(unsigned t);
+void pz_trace_return(unsigned t, unsigned reply);
+void pz_trace_death(unsigned t, unsigned m);
+void pz_trace_reaped(unsigned t);
+unsigned pz_trace_fresh_id(void);
+#define PZ_TELL(call) (call)
+#else
+#define PZ_TELL(call) ((void)0)
+static inline void pz_trace_lock(void) {}
+static inline void pz_trace_unlock(void) {}
+#endif
+#endif

@@ -1,0 +1,286 @@
+/* The file: its layout, how it is made and opened, and which files this process has open. */
+#include "driver.h"
+#include <errno.h>
+#include <fcntl.h>
+#include <stdio.h>
+#include <stdlib.h>
+#include <string.h>
+#include <sys/file.h>
+#include <sys/mman.h>
+#include <sys/stat.h>
+#include <unistd.h>
+
+/* The first word of a file: while it is made, and once it is whole. One of another's program has neither, and is left alone. */
+static const uint64_t MAKING = 0x30676972647a6170ull, WHOLE = 0x31676972647a6170ull;
+
+/* What an opener asks for, and where it stands in the file, in bytes. */
+struct asked {
+    unsigned mutexes, conds;
+    const uint16_t *mutex_of;
+    size_t data;
+};
+struct layout {
+    uint64_t places;
+    size_t life, words, data, size;
+};
+
+static pthread_mutex_t table = PTHREAD_MUTEX_INITIALIZER;
+static pz *opened[FILES];
+static pthread_once_t once = PTHREAD_ONCE_INIT;
+
+static size_t up(size_t n, size_t to) { return (n + to - 1) / to * to; }
+
+static int is_asked_well(const struct asked *a)
+{
+    for (unsigned c = 0; a->mutex_of && a->conds <= CONDS && c < a->conds; c++)
+        if (a->mutex_of[c] >= a->mutexes)
+            return 0;
+    return a->mutexes >= 1 && a->mutexes <= MUTEXES && a->conds <= CONDS && a->data <= SIZE_MAX / 4;
+}
+
+static struct layout layout_of(const struct asked *a)
+{
+    struct layout l = {.places = LINE * (uint64_t)(1 + THREADS + a->mutexes + a->conds), .life = up(sizeof(struct header), 64)};
+    size_t page = (size_t)sysconf(_SC_PAGESIZE);
+    l.words = l.life + (THREADS + 1) * sizeof(struct life);
+    l.data = up(l.words + l.places * sizeof(word), 64);
+    l.size = up(l.data + a->data, page);
+    return l;
+}
+
+static void boot_id(char id[40])
+{
+    memset(id, 0, 40);
+    int fd = open("/proc/sys/kernel/random/boot_id", O_RDONLY | O_CLOEXEC);
+    if (fd >= 0 && read(fd, id, 36) < 0)
+        id[0] = 0;
+    if (fd >= 0)
+        close(fd);
+#ifdef PZ_TRY_BOOT
+    if (getenv("PZ_BOOT"))
+        strncpy(id, getenv("PZ_BOOT"), 39);
+#endif
+}
+
+/* ---- Making it, with the file's lock in hand. A maker that is killed leaves MAKING, and the next opener makes it anew. */
+
+/* Room for all of it, so that no store meets a full disk. */
+static int make_room(int fd, size_t size)
+{
+    if (ftruncate(fd, 0) < 0)
+        return errno;
+    if (pwrite(fd, &MAKING, sizeof MAKING, 0) != (ssize_t)sizeof MAKING)
+        return errno ? errno : ENOSPC;
+    return posix_fallocate(fd, 0, (off_t)size);
+}
+
+/* Whether it is whole, is to be made, or isn't such a file (EINVAL). */
+static int look_at(int fd, size_t size, int *whole)
+{
+    struct stat st;
+    uint64_t magic = 0;
+    if (fstat(fd, &st) < 0)
+        return errno;
+    if (st.st_size && pread(fd, &magic, sizeof magic, 0) < 0)
+        return errno;
+    *whole = magic == WHOLE;
+    if (*whole)
+        return (size_t)st.st_size == size ? 0 : EINVAL;
+    return st.st_size == 0 || magic == MAKING ? 0 : EINVAL;
+}
+
+static void make_tokens(pz *p)
+{
+    pthread_mutexattr_t a;
+    pthread_mutexattr_init(&a);
+    pthread_mutexattr_setpshared(&a, PTHREAD_PROCESS_SHARED);
+    pthread_mutexattr_setrobust(&a, PTHREAD_MUTEX_ROBUST);
+    for (unsigned t = 1; t <= THREADS; t++) {
+        pthread_mutex_init(&p->life[t].token, &a);
+        atomic_store(&p->life[t].tid, 0);
+    }
+    pthread_mutexattr_destroy(&a);
+}
+
+static uint64_t cell_asked(const struct asked *a, unsigned c) { return cell_place(a->mutex_of ? a->mutex_of[c] : c % a->mutexes); }
+
+static void make(pz *p, const struct asked *a)
+{
+    struct header *h = p->header;
+    h->mutexes = a->mutexes;
+    h->conds = a->conds;
+    h->data = a->data;
+    h->size = p->size;
+    boot_id(h->boot);
+    make_tokens(p);
+    for (unsigned t = 1; t <= THREADS; t++)
+        atomic_store(&p->life[t].valid, WALK_ENDED);
+    for (unsigned c = 0; c < a->conds; c++)
+        atomic_store(&p->words[counter_place(p, c) + 2], cell_asked(a, c));
+    atomic_store(&h->magic, WHOLE);
+}
+
+/* The system was started anew: whoever lived by a token died with the old one, and no kernel told it. */
+static void renew(pz *p)
+{
+    make_tokens(p);
+    for (unsigned t = 1; t <= THREADS; t++)
+        pz_walk_on(p, t);
+    for (uint64_t at = cell_place(0); at < p->places; at += LINE)
+        atomic_store(sleepers(p, at), 0);
+    boot_id(p->header->boot);
+}
+
+static int is_as_asked(const pz *p, const struct asked *a)
+{
+    const struct header *h = p->header;
+    return h->mutexes == a->mutexes && h->conds == a->conds && h->data == a->data && h->size == p->size;
+}
+
+/* Whole, of this boot, and with each condition variable of the mutex that was asked for. */
+static int ready(pz *p, const struct asked *a, int whole)
+{
+    char boot[40];
+    boot_id(boot);
+    if (!whole)
+        make(p, a);
+    else if (!is_as_asked(p, a))
+        return EINVAL;
+    else if (memcmp(p->header->boot, boot, sizeof boot))
+        renew(p);
+    for (unsigned c = 0; c < a->conds; c++) {
+        p->cell_of[c] = cell_asked(a, c);
+        if (atomic_load(&p->words[counter_place(p, c) + 2]) != p->cell_of[c])
+            return EINVAL;
+    }
+    return 0;
+}
+
+/* ---- Opening. */
+
+static int map(int fd, const struct asked *a, const struct layout *l, pz *p)
+{
+    char *base = mmap(NULL, l->size, PROT_READ | PROT_WRITE, MAP_SHARED, fd, 0);
+    if (base == MAP_FAILED)
+        return errno;
+    p->header = (struct header *)base;
+    p->life = (struct life *)(base + l->life);
+    p->words = (word *)(base + l->words);
+    p->data = base + l->data;
+    p->places = l->places;
+    p->size = l->size;
+    p->mutexes = a->mutexes;
+    p->conds = a->conds;
+    atomic_store(&p->users, 1);
+    return 0;
+}
+
+static int open_locked(int fd, const struct asked *a, pz *p)
+{
+    struct layout l = layout_of(a);
+    int whole = 0, r = look_at(fd, l.size, &whole);
+    if (!r && !whole)
+        r = make_room(fd, l.size);
+    if (!r)
+        r = map(fd, a, &l, p);
+    if (r)
+        return r;
+    r = ready(p, a, whole);
+    if (r)
+        munmap(p->header, p->size);
+    return r;
+}
+
+/* One opener at a time, of all processes by the file's lock, which a maker that dies lets go of. */
+static int open_alone(int fd, const struct asked *a, pz *p)
+{
+    while (flock(fd, LOCK_EX) < 0)
+        if (errno != EINTR)
+            return errno;
+    int r = open_locked(fd, a, p);
+    flock(fd, LOCK_UN);
+    return r;
+}
+
+/* Threads of the child are none of the parent's: each takes part anew. */
+static void in_child(void)
+{
+    for (unsigned n = 0; n < FILES; n++) {
+        pz_self[n] = (struct self){0};
+        if (opened[n])
+            atomic_store(&opened[n]->users, 1);
+    }
+    pthread_mutex_unlock(&table);
+}
+static void before_fork(void) { pthread_mutex_lock(&table); }
+static void in_parent(void) { pthread_mutex_unlock(&table); }
+static void at_fork(void) { pthread_atfork(before_fork, in_parent, in_child); }
+
+static int open_file(int fd, const struct asked *a, pz **out)
+{
+    unsigned number = 0;
+    pthread_once(&once, at_fork);
+    pz *p = calloc(1, sizeof *p);
+    if (!p)
+        return ENOMEM;
+    pthread_mutex_lock(&table);
+    while (number < FILES && opened[number])
+        number++;
+    int r = number == FILES ? EMFILE : open_alone(fd, a, p);
+    if (!r) {
+        p->number = number;
+        opened[number] = *out = p;
+    }
+    pthread_mutex_unlock(&table);
+    if (r)
+        free(p);
+    return r;
+}
+
+static int open_then_close(const char *path, int flags, mode_t mode, const struct asked *a, pz **out)
+{
+    if (!is_asked_well(a))
+        return EINVAL;
+    int fd = open(path, flags | O_RDWR | O_CLOEXEC, mode);
+    if (fd < 0)
+        return errno;
+    int r = open_file(fd, a, out);
+    close(fd);
+    return r;
+}
+
+int pz_open(const char *path, mode_t mode, unsigned mutexes, unsigned conds, const uint16_t *mutex_of, size_t data, pz **out)
+{
+    struct asked a = {mutexes, conds, mutex_of, data};
+    return open_then_close(path, O_CREAT, mode, &a, out);
+}
+
+/* By a description of its own, since the file's lock is one's of a description: a child that shares the caller's would not be kept out. */
+int pz_open_fd(int fd, unsigned mutexes, unsigned conds, const uint16_t *mutex_of, size_t data, pz **out)
+{
+    struct asked a = {mutexes, conds, mutex_of, data};
+    char path[32];
+    snprintf(path, sizeof path, "/proc/self/fd/%d", fd);
+    return open_then_close(path, 0, 0, &a, out);
+}
+
+pz *pz_opened(unsigned number) { return opened[number]; }
+
+/* The last user of this process unmaps it. */
+void pz_let_go(pz *p)
+{
+    if (atomic_fetch_sub(&p->users, 1) != 1)
+        return;
+    pthread_mutex_lock(&table);
+    opened[p->number] = NULL;
+    pthread_mutex_unlock(&table);
+    munmap(p->header, p->size);
+    free(p);
+}
+
+void pz_close(pz *p)
+{
+    if (pz_self[p->number].id)
+        pz_leave(p);
+    pz_let_go(p);
+}

@@ -1,0 +1,186 @@
+/* A sleep on a word: it ends when the thread is woken, when the word differs, and when the mutex's owner turns out to be dead, since then nobody but this thread may be there to reap it. */
+#include "driver.h"
+#include <errno.h>
+#include <linux/futex.h>
+#include <sys/syscall.h>
+#include <time.h>
+#include <unistd.h>
+
+#ifndef SYS_futex_waitv
+#define SYS_futex_waitv 449
+#endif
+
+enum { ASLEEP = 0, FIRST_LOOK_MS = 20, LAST_LOOK_MS = 500, FEWEST_LOOKS = 100, TRY_ALL = 16 };
+
+struct sleeper {
+    pz *p;
+    unsigned thread;
+    uint64_t at;
+    uint32_t expected;
+    uint64_t before;            /* who slept there already: they are woken first, and one that is killed then hands nothing on */
+    long look_ms;
+};
+
+/* An older kernel has no futex_waitv: then a sleeper looks now and then. */
+static _Atomic int no_waitv;
+
+/* How long it pays to look before a sleep: half as long after each time that it didn't, twice as long after each that it did, and now and then as long as may be. */
+static _Thread_local struct {
+    uint16_t looks;
+    uint16_t sleeps;
+} patience = {PZ_SPIN, 0};
+
+static int changes_soon(word *w, uint32_t expected)
+{
+    unsigned most = ++patience.sleeps % TRY_ALL ? patience.looks : PZ_SPIN;
+    for (unsigned i = 0; i < most; i++) {
+        if ((uint32_t)atomic_load_explicit(w, memory_order_relaxed) != expected) {
+            patience.looks = patience.looks < PZ_SPIN / 2 ? patience.looks * 2 : PZ_SPIN;
+            return 1;
+        }
+        __builtin_ia32_pause();
+    }
+    if (patience.looks > FEWEST_LOOKS)
+        patience.looks /= 2;
+    return 0;
+}
+
+static uint32_t low_half(const struct sleeper *s) { return (uint32_t)atomic_load(&s->p->words[s->at]); }
+static uint32_t unless_changed(const struct sleeper *s, uint32_t answer) { return low_half(s) == s->expected ? answer : PZ_AGAIN; }
+
+/* The kernel has marked its token. */
+static int has_died(pz *p, unsigned t) { return (__atomic_load_n(pz_token_word(p, t), __ATOMIC_SEQ_CST) & FUTEX_OWNER_DIED) != 0; }
+
+/* What a sleeper waits for: the word first, then the ends of threads. */
+struct watched {
+    struct futex_waitv v[2 + PZ_WATCH];
+    unsigned thread[2 + PZ_WATCH];
+    unsigned n;
+};
+
+/* Waits for the end of a thread too: FUTEX_WAITERS in its token has the kernel, or its unlock, wake whoever watches. 0: it died. */
+static int watch(pz *p, unsigned t, struct watched *all)
+{
+    uint32_t *token = pz_token_word(p, t), seen = __atomic_load_n(token, __ATOMIC_SEQ_CST);
+    do {
+        if (seen & FUTEX_OWNER_DIED)
+            return 0;
+        if (!(seen & FUTEX_TID_MASK))
+            return 1;                   /* nobody lives by it: nobody to watch */
+    } while (!(seen & FUTEX_WAITERS) &&
+             !__atomic_compare_exchange_n(token, &seen, seen | FUTEX_WAITERS, 0, __ATOMIC_SEQ_CST, __ATOMIC_SEQ_CST));
+    all->v[all->n] = (struct futex_waitv){.val = seen | FUTEX_WAITERS, .uaddr = (uintptr_t)token, .flags = FUTEX_32};
+    all->thread[all->n++] = t;
+    return 1;
+}
+
+/* The word, its owner's token, and those of some who slept there before. The id of one that died; 0: all are watched. */
+static unsigned watch_all(const struct sleeper *s, unsigned owner, struct watched *all)
+{
+    all->v[0] = (struct futex_waitv){.val = s->expected, .uaddr = (uintptr_t)&s->p->words[s->at], .flags = FUTEX_32};
+    all->n = 1;
+    if (!watch(s->p, owner, all))
+        return owner;
+    uint64_t others = s->before & atomic_load(sleepers(s->p, s->at)) & ~bit_of(owner);
+    for (; others && all->n < 2 + PZ_WATCH; others &= others - 1) {
+        unsigned t = (unsigned)__builtin_ctzll(others) + 1;
+        if (!watch(s->p, t, all))
+            return t;
+    }
+    return 0;
+}
+
+static struct timespec from_now(long ms)
+{
+    struct timespec now;
+    clock_gettime(CLOCK_MONOTONIC, &now);
+    now.tv_sec += ms / 1000 + (now.tv_nsec + ms % 1000 * 1000000) / 1000000000;
+    now.tv_nsec = (now.tv_nsec + ms % 1000 * 1000000) % 1000000000;
+    return now;
+}
+
+/* What a wait's end says: ASLEEP, to wait again. */
+static uint32_t ended(const struct sleeper *s, unsigned owner, int error)
+{
+    switch (error) {
+    case 0:
+        return PZ_WOKEN;
+    case EAGAIN:                        /* the word differs, or a token does */
+        return unless_changed(s, PZ_WOKEN);
+    case ETIMEDOUT:
+        if (owner)
+            pz_reap_one(s->p, owner);
+        return unless_changed(s, ASLEEP);
+    case EINTR:
+        return ASLEEP;
+    default:
+        return PZ_FAULT;
+    }
+}
+
+static uint32_t wait_watching(const struct sleeper *s, unsigned owner)
+{
+    struct watched all;
+    unsigned dead = watch_all(s, owner, &all);
+    if (dead) {
+        pz_reap_one(s->p, dead);
+        return PZ_WOKEN;
+    }
+    struct timespec until = from_now(PZ_POLL_S * 1000l);
+    long r = syscall(SYS_futex_waitv, all.v, all.n, 0, &until, CLOCK_MONOTONIC);
+    int error = r < 0 ? errno : 0;
+    for (unsigned i = 1; i < all.n; i++)
+        if (has_died(s->p, all.thread[i]))
+            pz_reap_one(s->p, all.thread[i]);
+    if (error == ENOSYS) {
+        atomic_store(&no_waitv, 1);
+        return ASLEEP;
+    }
+    return ended(s, owner, error);
+}
+
+/* A requeue can't move whoever sleeps by futex_waitv, so on a counter a thread looks now and then. */
+static uint32_t wait_looking(struct sleeper *s, unsigned owner)
+{
+    long ms = PZ_POLL_S > 1000 ? PZ_POLL_S * 1000l : s->look_ms;
+    struct timespec most = {.tv_sec = ms / 1000, .tv_nsec = ms % 1000 * 1000000};
+    if (s->look_ms < LAST_LOOK_MS)
+        s->look_ms *= 2;
+    long r = syscall(SYS_futex, (uint32_t *)&s->p->words[s->at], FUTEX_WAIT, s->expected, &most, NULL, 0);
+    return ended(s, owner, r < 0 ? errno : 0);
+}
+
+static uint32_t sleep_once(struct sleeper *s)
+{
+    unsigned owner = is_counter(s->p, s->at) ? 0 : owner_of(s->expected);
+    if (owner > THREADS || owner == s->thread)
+        owner = 0;                      /* a word that was spoiled */
+    return owner && !atomic_load(&no_waitv) ? wait_watching(s, owner) : wait_looking(s, owner);
+}
+
+/* Before the word is loaded again: its owner may be dead, and nobody else there to see to it. */
+static void see_to_owner(const struct sleeper *s)
+{
+    unsigned owner = owner_of(atomic_load(&s->p->words[s->at]));
+    if (owner && owner <= THREADS && owner != s->thread && has_died(s->p, owner))
+        pz_reap_one(s->p, owner);
+}
+
+uint32_t pz_sleep(pz *p, unsigned t, uint64_t at, uint32_t expected)
+{
+    int counter = is_counter(p, at);
+    if (!counter && changes_soon(&p->words[at], expected))
+        return PZ_AGAIN;
+    struct sleeper s = {.p = p, .thread = t, .at = at, .expected = expected, .look_ms = FIRST_LOOK_MS};
+    s.before = atomic_fetch_or(sleepers(p, at), bit_of(t)) & ~bit_of(t);
+    uint32_t answer;
+    do
+        answer = sleep_once(&s);
+    while (answer == ASLEEP);
+    if (!counter)
+        see_to_owner(&s);
+    atomic_fetch_and(sleepers(p, at), ~bit_of(t));
+    if (counter)                        /* a broadcast may have moved it to the mutex */
+        atomic_fetch_and(sleepers(p, p->cell_of[(at - counter_place(p, 0)) / LINE]), ~bit_of(t));
+    return answer;
+}
