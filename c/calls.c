@@ -94,6 +94,7 @@ static struct pz_call call_of(unsigned t, uint64_t cell)
 
 static void store(pz *p, const struct pz_plan *plan, unsigned i)
 {
+    PZ_BETWEEN();
     atomic_store_explicit(&p->words[plan->at[i]], plan->value[i], memory_order_release);
 }
 
@@ -108,6 +109,7 @@ static uint32_t planned_lock(pz *p, unsigned t, uint64_t cell, unsigned operatio
     if (!is_entry(p, first) || !pz_plan_lock(&plan, (uint8_t)t, head_place(t), cell + 1, seen, first))
         return NO_PLAN;
     store(p, &plan, 0);                                 /* the pending entry, before the cell is taken */
+    PZ_BETWEEN();
     if (!atomic_compare_exchange_strong(w, &found, plan.operand)) {
         struct pz_call call = call_of(t, cell);
         call.program = (uint8_t)operation;
@@ -128,6 +130,7 @@ static uint32_t planned_unlock(pz *p, unsigned t, uint64_t cell)
         return NO_PLAN;
     for (unsigned i = 0; i < plan.before; i++)
         store(p, &plan, i);
+    PZ_BETWEEN();
     uint64_t found = atomic_fetch_xor(w, plan.operand);
     /* WAITERS alone is no sleeper: where none has a bit, the wake of nobody and the trim that is declined are left out. */
     if ((found & WAITERS) && atomic_load(sleepers(p, cell))) {

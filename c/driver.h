@@ -1,7 +1,6 @@
 /* What the rooms of the driver share: the file as it is mapped, its words' places, and the accesses that step programs ask for. */
 #ifndef PZ_DRIVER_H
 #define PZ_DRIVER_H
-#define _GNU_SOURCE
 #include "pazdrig.h"
 #include "pz_steps.h"
 #include <pthread.h>
@@ -31,7 +30,7 @@
 #define PZ_BETWEEN() ((void)0)
 #endif
 
-enum { THREADS = 64, LINE = 8, HELD = 2048, FILES = 16, MUTEXES = 4096, CONDS = 256 };
+enum { THREADS = 64, LINE = 8, HELD = 2048, FILES = 16, MOST_MUTEXES = 4096, MOST_CONDS = 256 };
 
 typedef _Atomic uint64_t word;
 
@@ -64,7 +63,7 @@ struct pz {
     _Atomic unsigned users;         /* its opener, and each thread of the process that takes part */
     size_t size;
     void *data;
-    uint64_t cell_of[CONDS];        /* of condition variables: kept here, as the file's words may be spoiled */
+    uint64_t cell_of[MOST_CONDS];        /* of condition variables: kept here, as the file's words may be spoiled */
 };
 
 /* What a thread is in a file: its id, 0 for none, and how many mutexes it holds. */

@@ -32,10 +32,10 @@ static size_t up(size_t n, size_t to) { return (n + to - 1) / to * to; }
 
 static int is_asked_well(const struct asked *a)
 {
-    for (unsigned c = 0; a->mutex_of && a->conds <= CONDS && c < a->conds; c++)
+    for (unsigned c = 0; a->mutex_of && a->conds <= MOST_CONDS && c < a->conds; c++)
         if (a->mutex_of[c] >= a->mutexes)
             return 0;
-    return a->mutexes >= 1 && a->mutexes <= MUTEXES && a->conds <= CONDS && a->data <= SIZE_MAX / 4;
+    return a->mutexes >= 1 && a->mutexes <= MOST_MUTEXES && a->conds <= MOST_CONDS && a->data <= SIZE_MAX / 4;
 }
 
 static struct layout layout_of(const struct asked *a)

@@ -26,16 +26,16 @@ static _Atomic int no_waitv;
 
 /* How long it pays to look before a sleep: half as long after each time that it didn't, twice as long after each that it did, and now and then as long as may be. */
 static _Thread_local struct {
-    uint16_t looks;
-    uint16_t sleeps;
+    int looks;
+    unsigned sleeps;
 } patience = {PZ_SPIN, 0};
 
 static int changes_soon(word *w, uint32_t expected)
 {
-    unsigned most = ++patience.sleeps % TRY_ALL ? patience.looks : PZ_SPIN;
-    for (unsigned i = 0; i < most; i++) {
+    int most = ++patience.sleeps % TRY_ALL ? patience.looks : PZ_SPIN;
+    for (int i = 0; i < most; i++) {
         if ((uint32_t)atomic_load_explicit(w, memory_order_relaxed) != expected) {
-            patience.looks = patience.looks < PZ_SPIN / 2 ? patience.looks * 2 : PZ_SPIN;
+            patience.looks = 2 * patience.looks < PZ_SPIN ? 2 * patience.looks : PZ_SPIN;
             return 1;
         }
         __builtin_ia32_pause();

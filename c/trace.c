@@ -1,0 +1,106 @@
+/* What the driver does, told as a trace that `rfx check` judges (docs/FORMATS.md): only where it is built with PZ_TRACE=1. An access and the lines that tell of it are made under one
+ * lock, and whoever kills a thread takes that lock too: so nobody dies between the two. */
+#include "trace.h"
+#include <pthread.h>
+#include <signal.h>
+#include <stdarg.h>
+#include <stdio.h>
+#include <stdlib.h>
+#include <sys/mman.h>
+
+enum { ROOM = 64 << 20 };
+
+struct trace {
+    pthread_mutex_t lock;
+    unsigned threads;                   /* ids that were given: a trace uses none again */
+    long event;
+    size_t length;
+    char text[ROOM];
+};
+static struct trace *trace;
+
+static const char *const operations[] = {"lock", "trylock", "unlock", "consistent", "wait", "signal", "broadcast", "death"};
+
+static const char *word_of(unsigned reply)
+{
+    static const struct { unsigned number; const char *word; } replies[] = {
+        {0, "OK"}, {1, "EPERM"}, {3, "ESRCH"}, {11, "EAGAIN"}, {14, "EFAULT"}, {16, "EBUSY"}, {22, "EINVAL"}, {35, "EDEADLK"},
+        {130, "EOWNERDEAD"}, {131, "ENOTRECOVERABLE"}, {PZ_X_NOMEM, "X_NOMEM"}, {PZ_X_RACED, "X_RACED"}, {PZ_X_HELD, "X_HELD"},
+        {PZ_X_FULL, "X_FULL"}, {PZ_X_STATE, "X_STATE"}};
+    for (size_t i = 0; i < sizeof replies / sizeof *replies; i++)
+        if (replies[i].number == reply)
+            return replies[i].word;
+    return "?";
+}
+
+__attribute__((format(printf, 1, 2))) static void tell(const char *form, ...)
+{
+    va_list words;
+    va_start(words, form);
+    trace->length += (size_t)sprintf(trace->text + trace->length, "%ld ", ++trace->event);
+    trace->length += (size_t)vsprintf(trace->text + trace->length, form, words);
+    va_end(words);
+    if (trace->length > ROOM - 256)
+        abort();
+}
+
+void pz_trace_start(void)
+{
+    pthread_mutexattr_t a;
+    trace = mmap(NULL, sizeof *trace, PROT_READ | PROT_WRITE, MAP_SHARED | MAP_ANONYMOUS, -1, 0);
+    if (trace == MAP_FAILED)
+        abort();
+    pthread_mutexattr_init(&a);
+    pthread_mutexattr_setpshared(&a, PTHREAD_PROCESS_SHARED);
+    pthread_mutex_init(&trace->lock, &a);
+}
+
+void pz_trace_write(FILE *to, unsigned mutexes, unsigned conds)
+{
+    fprintf(to, "trace %u %u %u\n", (unsigned)THREADS, mutexes, conds);
+    fwrite(trace->text, 1, trace->length, to);
+    fprintf(to, "end %ld\n", trace->event);
+}
+
+/* Kills the process whose one thread has this id. */
+void pz_trace_kill(pid_t process, unsigned t)
+{
+    pz_trace_lock();
+    tell("kill t%u\n", t);
+    kill(process, SIGKILL);
+    pz_trace_unlock();
+}
+
+void pz_trace_lock(void) { pthread_mutex_lock(&trace->lock); }
+void pz_trace_unlock(void) { pthread_mutex_unlock(&trace->lock); }
+
+unsigned pz_trace_fresh_id(void)
+{
+    pz_trace_lock();
+    unsigned t = ++trace->threads;
+    pz_trace_unlock();
+    return t;
+}
+
+void pz_trace_begin(unsigned t, unsigned operation, unsigned m, int c)
+{
+    if (c < 0)
+        tell("begin t%u %s m%u\n", t, operations[operation], m);
+    else
+        tell("begin t%u %s c%d m%u\n", t, operations[operation], c, m);
+}
+
+void pz_trace_point(unsigned t, unsigned operation, unsigned m, unsigned reply) { tell("point t%u m%u %s %s\n", t, m, operations[operation], word_of(reply)); }
+
+void pz_trace_sleep(const pz *p, unsigned t, uint64_t at)
+{
+    if (is_counter(p, at))
+        tell("sleep t%u c%u\n", t, (unsigned)((at - counter_place(p, 0)) / LINE));
+    else
+        tell("sleep t%u m%u\n", t, mutex_at(at));
+}
+
+void pz_trace_wake(unsigned t) { tell("wake t%u\n", t); }
+void pz_trace_return(unsigned t, unsigned reply) { tell("return t%u %s\n", t, word_of(reply)); }
+void pz_trace_death(unsigned t, unsigned m) { tell("death t%u m%u\n", t, m); }
+void pz_trace_reaped(unsigned t) { tell("reaped t%u\n", t); }

@@ -1,0 +1,170 @@
+/* Processes that lock, wait, signal and are killed at random. Of each mutex the data says who is inside and is written twice, so a second owner or a
+ * lost write is seen; each process has to get on, so a lost wake is. usage: deaths DEATHS PROCESSES THREADS [storm] */
+#include "try.h"
+#include <pthread.h>
+#include <sys/time.h>
+
+enum { MUTEXES = 4, CONDS = 2, MOST = 64, QUIET_S = 60 };
+
+struct guarded {
+    _Atomic int inside;                 /* the pid of who is, 0 for nobody */
+    volatile long first, second;        /* the same number, but while somebody is inside */
+};
+struct board {
+    struct guarded of[MUTEXES];
+    _Atomic long told, repaired, locks;
+    _Atomic long got_on[MOST];          /* by process */
+    _Atomic long items[CONDS];          /* what waits wait for: at most a few */
+};
+
+static pz *p;
+static struct board *b;
+static int threads;
+
+static void storm(int unused) { (void)unused; }
+
+/* Inside: alone, and with whole data, unless the last owner died there. */
+static void enter(unsigned m, int r)
+{
+    struct guarded *g = &b->of[m];
+    int was = atomic_exchange(&g->inside, (int)getpid());
+    if (r == EOWNERDEAD) {
+        atomic_fetch_add(&b->told, 1);
+        if (g->first != g->second)
+            atomic_fetch_add(&b->repaired, 1);
+        g->second = g->first;
+        SAME(pz_mutex_consistent(p, m), 0);
+    } else {
+        SAME(r, 0);
+        CHECK(was == 0);
+        CHECK(g->first == g->second);
+    }
+}
+
+static void leave(unsigned m)
+{
+    struct guarded *g = &b->of[m];
+    g->first++;
+    for (volatile int i = 0; i < 50; i++)
+        ;
+    g->second++;
+    CHECK(atomic_exchange(&g->inside, 0) == (int)getpid());
+}
+
+/* Takes an item, or waits for one while fewer than half of the threads do. */
+static void wait_or_give(unsigned c, unsigned *random)
+{
+    unsigned m = c % MUTEXES;
+    enter(m, pz_mutex_lock(p, m));
+    if (rand_r(random) % 2 && atomic_load(&b->items[c]) == 0) {
+        leave(m);
+        int r = pz_cond_wait(p, c);
+        enter(m, r);
+        if (atomic_load(&b->items[c]) > 0)
+            atomic_fetch_sub(&b->items[c], 1);
+    } else {
+        atomic_store(&b->items[c], 1);
+        SAME(rand_r(random) % 4 ? pz_cond_signal(p, c) : pz_cond_broadcast(p, c), 0);
+    }
+    leave(m);
+    SAME(pz_mutex_unlock(p, m), 0);
+}
+
+static void *work(void *of)
+{
+    int slot = (int)(intptr_t)of;
+    unsigned random = (unsigned)getpid() * 31 + (unsigned)(uintptr_t)pthread_self();
+    for (;;) {
+        unsigned m = (unsigned)rand_r(&random) % MUTEXES, n = m + 1 < MUTEXES ? m + 1 : m;
+        if (rand_r(&random) % 4 == 0 && slot != 0)
+            wait_or_give((unsigned)rand_r(&random) % CONDS, &random);
+        else {
+            int r = rand_r(&random) % 3 ? pz_mutex_lock(p, m) : pz_mutex_trylock(p, m);
+            if (r == EBUSY)
+                continue;
+            enter(m, r);
+            if (n != m && rand_r(&random) % 3 == 0) {
+                enter(n, pz_mutex_lock(p, n));
+                leave(n);
+                SAME(pz_mutex_unlock(p, n), 0);
+            }
+            leave(m);
+            SAME(pz_mutex_unlock(p, m), 0);
+        }
+        atomic_fetch_add(&b->got_on[slot], 1);
+        atomic_fetch_add(&b->locks, 1);
+        if (slot == 0)                  /* gives to whoever waits, so that nobody waits for good */
+            for (unsigned c = 0; c < CONDS; c++) {
+                enter(c, pz_mutex_lock(p, c));
+                atomic_store(&b->items[c], 1);
+                SAME(pz_cond_broadcast(p, c), 0);
+                leave(c);
+                SAME(pz_mutex_unlock(p, c), 0);
+            }
+    }
+    return NULL;
+}
+
+static pid_t begin(int slot, int stormy)
+{
+    pid_t child = fork();
+    if (child)
+        return child;
+    if (stormy) {
+        signal(SIGALRM, storm);
+        struct itimerval each = {{0, 700}, {0, 700}};
+        setitimer(ITIMER_REAL, &each, NULL);
+    }
+    for (int i = 1; i < threads; i++) {
+        pthread_t thread;
+        if (pthread_create(&thread, NULL, work, (void *)(intptr_t)slot))
+            _exit(1);
+    }
+    work((void *)(intptr_t)slot);
+    _exit(1);
+}
+
+/* Whether each process got on since it was last looked at; a process that ended by itself failed. */
+static void look(const pid_t *child, int n)
+{
+    static long last[MOST];
+    static double since[MOST];
+    for (int i = 0; i < n; i++) {
+        CHECK(waitpid(child[i], NULL, WNOHANG) == 0);
+        long is = atomic_load(&b->got_on[i]);
+        if (is != last[i] || !since[i]) {
+            last[i] = is;
+            since[i] = now();
+        } else if (now() - since[i] > QUIET_S)
+            fail(__FILE__, __LINE__, "a process doesn't get on");
+    }
+}
+
+int main(int argc, char **argv)
+{
+    int deaths = argc > 1 ? atoi(argv[1]) : 1000, n = argc > 2 ? atoi(argv[2]) : 8;
+    threads = argc > 3 ? atoi(argv[3]) : 1;
+    pid_t child[MOST];
+    const char *path = a_file("deaths");
+    CHECK(n >= 2 && n <= MOST && n * threads <= 64);
+    SAME(pz_open(path, 0600, MUTEXES, CONDS, NULL, sizeof *b, &p), 0);
+    b = pz_data(p);
+    srand(argc > 5 ? (unsigned)atoi(argv[5]) : 1);
+    for (int i = 0; i < n; i++)
+        child[i] = begin(i, argc > 4 && !strcmp(argv[4], "storm"));
+    for (int k = 0; k < deaths; k++) {
+        int i = rand() % n;
+        rest(rand() % 1500);
+        look(child, n);
+        kill_and_wait(child[i]);
+        child[i] = begin(i, argc > 4 && !strcmp(argv[4], "storm"));
+    }
+    for (int i = 0; i < n; i++)
+        kill_and_wait(child[i]);
+    pz_reap(p);
+    printf("deaths: %d, %ld times EOWNERDEAD, %ld repairs, %ld rounds\n", deaths, atomic_load(&b->told), atomic_load(&b->repaired), atomic_load(&b->locks));
+    CHECK(atomic_load(&b->told) > 0);
+    pz_close(p);
+    unlink(path);
+    return 0;
+}

@@ -1,0 +1,392 @@
+/* Each case of an edge once: who dies, forks, execs, reopens or asks for what isn't there, and what the next one is told. */
+#include "try.h"
+#include <fcntl.h>
+#include <pthread.h>
+#include <sys/resource.h>
+#include <sys/stat.h>
+
+static pz *open_new(const char *name, unsigned mutexes, unsigned conds)
+{
+    pz *p;
+    const char *path = a_file(name);
+    unlink(path);
+    SAME(pz_open(path, 0600, mutexes, conds, NULL, 64, &p), 0);
+    CHECK(unlink(path) == 0);
+    return p;
+}
+
+static pid_t holder(pz *p, unsigned m)
+{
+    int *ready = shared(sizeof *ready);
+    pid_t child = fork();
+    if (child)
+        while (!__atomic_load_n(ready, __ATOMIC_SEQ_CST))
+            rest(100);
+    else {
+        if (pz_mutex_lock(p, m))
+            _exit(1);
+        __atomic_store_n(ready, 1, __ATOMIC_SEQ_CST);
+        for (;;)
+            pause();
+    }
+    munmap(ready, sizeof *ready);
+    return child;
+}
+
+static void calls_and_refusals(void)
+{
+    pz *p = open_new("calls", 2, 1);
+    SAME(pz_mutex_unlock(p, 0), EPERM);
+    SAME(pz_mutex_consistent(p, 0), EPERM);
+    SAME(pz_mutex_lock(p, 0), 0);
+    SAME(pz_mutex_lock(p, 0), EDEADLK);
+    SAME(pz_mutex_trylock(p, 0), EBUSY);
+    SAME(pz_mutex_consistent(p, 0), EINVAL);
+    SAME(pz_cond_signal(p, 0), 0);
+    SAME(pz_cond_broadcast(p, 0), 0);
+    SAME(pz_mutex_unlock(p, 0), 0);
+    SAME(pz_mutex_unlock(p, 0), EPERM);
+    SAME(pz_cond_wait(p, 0), EPERM);
+    SAME(pz_cond_signal(p, 0), EPERM);
+    SAME(pz_mutex_lock(p, 2), EINVAL);
+    SAME(pz_cond_wait(p, 1), EINVAL);
+    SAME(pz_thread_begin(p), EBUSY);
+    SAME(pz_thread_end(p), 0);
+    SAME(pz_thread_end(p), EPERM);
+    pz_close(p);
+}
+
+static void an_owner_dies(void)
+{
+    pz *p = open_new("death", 1, 1);
+    kill_and_wait(holder(p, 0));
+    SAME(pz_mutex_lock(p, 0), EOWNERDEAD);
+    SAME(pz_cond_wait(p, 0), EINVAL);
+    SAME(pz_mutex_consistent(p, 0), 0);
+    SAME(pz_mutex_unlock(p, 0), 0);
+    kill_and_wait(holder(p, 0));
+    SAME(pz_mutex_trylock(p, 0), EOWNERDEAD);
+    SAME(pz_mutex_unlock(p, 0), 0);
+    SAME(pz_mutex_lock(p, 0), ENOTRECOVERABLE);
+    SAME(pz_mutex_trylock(p, 0), ENOTRECOVERABLE);
+    SAME(pz_mutex_trylock(p, 0), ENOTRECOVERABLE);
+    SAME(pz_mutex_unlock(p, 0), EPERM);
+    pz_close(p);
+}
+
+/* Five sleep on a mutex that becomes unusable: each is told so. */
+static void spoiled_with_sleepers(void)
+{
+    pz *p = open_new("spoiled", 1, 0);
+    pid_t sleeper[5];
+    kill_and_wait(holder(p, 0));
+    SAME(pz_mutex_lock(p, 0), EOWNERDEAD);
+    for (int i = 0; i < 5; i++)
+        if (!(sleeper[i] = fork()))
+            _exit(pz_mutex_lock(p, 0) != ENOTRECOVERABLE);
+    for (int i = 0; i < 5; i++)
+        until_asleep(sleeper[i]);
+    SAME(pz_mutex_unlock(p, 0), 0);
+    for (int i = 0; i < 5; i++) {
+        int status;
+        CHECK(waitpid(sleeper[i], &status, 0) == sleeper[i] && status == 0);
+    }
+    pz_close(p);
+}
+
+static void a_sleeper_is_told_of_a_death(void)
+{
+    pz *p = open_new("sleeper", 1, 0);
+    pid_t owner = holder(p, 0), sleeper = fork();
+    if (!sleeper)
+        _exit(pz_mutex_lock(p, 0) != EOWNERDEAD);
+    until_asleep(sleeper);
+    kill_and_wait(owner);
+    int status;
+    CHECK(waitpid(sleeper, &status, 0) == sleeper && status == 0);
+    pz_close(p);
+}
+
+/* Killed asleep, it hands nothing on: the next sleeper is told all the same. */
+static void a_first_sleeper_is_killed(void)
+{
+    pz *p = open_new("first", 1, 0);
+    SAME(pz_mutex_lock(p, 0), 0);
+    pid_t first = fork();
+    if (!first)
+        _exit(pz_mutex_lock(p, 0));
+    until_asleep(first);
+    pid_t second = fork();
+    if (!second)
+        _exit(pz_mutex_lock(p, 0));
+    until_asleep(second);
+    kill_and_wait(first);
+    SAME(pz_mutex_unlock(p, 0), 0);
+    int status;
+    CHECK(waitpid(second, &status, 0) == second && status == 0);
+    SAME(pz_mutex_lock(p, 0), EOWNERDEAD);
+    pz_close(p);
+}
+
+static void *dies_holding(void *p)
+{
+    SAME(pz_mutex_lock(p, 0), 0);
+    return NULL;
+}
+
+static void a_thread_ends_alone(void)
+{
+    pz *p = open_new("thread", 1, 0);
+    pthread_t thread;
+    CHECK(!pthread_create(&thread, NULL, dies_holding, p));
+    CHECK(!pthread_join(thread, NULL));
+    SAME(pz_mutex_lock(p, 0), EOWNERDEAD);
+    pz_close(p);
+}
+
+/* A child owns nothing of its parent's, and a parent keeps what it had. */
+static void a_fork(void)
+{
+    pz *p = open_new("fork", 1, 0);
+    SAME(pz_mutex_lock(p, 0), 0);
+    pid_t child = fork();
+    if (!child)
+        _exit(pz_mutex_unlock(p, 0) != EPERM || pz_mutex_trylock(p, 0) != EBUSY);
+    int status;
+    CHECK(waitpid(child, &status, 0) == child && status == 0);
+    SAME(pz_mutex_unlock(p, 0), 0);
+    pz_close(p);
+}
+
+static void an_exec(void)
+{
+    pz *p = open_new("exec", 1, 0);
+    pid_t child = fork();
+    if (!child) {
+        if (pz_mutex_lock(p, 0) == 0)
+            execl("/bin/true", "true", (char *)NULL);
+        _exit(1);
+    }
+    int status;
+    CHECK(waitpid(child, &status, 0) == child && status == 0);
+    SAME(pz_mutex_lock(p, 0), EOWNERDEAD);
+    pz_close(p);
+}
+
+static void the_2049th_mutex(void)
+{
+    pz *p = open_new("held", 2100, 0);
+    for (unsigned m = 0; m < 2048; m++)
+        SAME(pz_mutex_lock(p, m), 0);
+    SAME(pz_mutex_lock(p, 2048), EAGAIN);
+    SAME(pz_mutex_trylock(p, 2048), EAGAIN);
+    SAME(pz_mutex_unlock(p, 5), 0);
+    SAME(pz_mutex_lock(p, 2048), 0);
+    pid_t child = fork();
+    if (!child)
+        _exit(pz_mutex_trylock(p, 7) != EBUSY);
+    int status;
+    CHECK(waitpid(child, &status, 0) == child && status == 0);
+    SAME(pz_thread_end(p), 0);
+    for (unsigned m = 0; m < 2049; m++)
+        if (m != 5) {
+            SAME(pz_mutex_lock(p, m), EOWNERDEAD);
+            SAME(pz_mutex_consistent(p, m), 0);
+            SAME(pz_mutex_unlock(p, m), 0);
+        }
+    pz_close(p);
+}
+
+/* At the 65th there is no id; one that has died makes room. */
+static void the_65th_thread(void)
+{
+    pz *p = open_new("ids", 1, 0);
+    pid_t child[64];
+    int *parts = shared(sizeof *parts);
+    for (int i = 0; i < 64; i++)
+        if (!(child[i] = fork())) {
+            if (pz_thread_begin(p))
+                _exit(1);
+            __atomic_fetch_add(parts, 1, __ATOMIC_SEQ_CST);
+            for (;;)
+                pause();
+        }
+    while (__atomic_load_n(parts, __ATOMIC_SEQ_CST) < 64)
+        rest(200);
+    SAME(pz_mutex_lock(p, 0), EAGAIN);
+    kill_and_wait(child[13]);
+    SAME(pz_mutex_lock(p, 0), 0);
+    CHECK(pz_thread_id(p) >= 1 && pz_thread_id(p) <= 64);
+    for (int i = 0; i < 64; i++)
+        if (i != 13)
+            kill_and_wait(child[i]);
+    CHECK(pz_reap(p) == 63);
+    pz_close(p);
+}
+
+static void a_file_of_another_layout(void)
+{
+    const char *path = a_file("layout");
+    pz *p, *q;
+    uint16_t other[1] = {1};
+    unlink(path);
+    SAME(pz_open(path, 0600, 2, 1, NULL, 8, &p), 0);
+    SAME(pz_open(path, 0600, 3, 1, NULL, 8, &q), EINVAL);
+    SAME(pz_open(path, 0600, 2, 1, NULL, 9, &q), EINVAL);
+    SAME(pz_open(path, 0600, 2, 1, other, 8, &q), EINVAL);
+    SAME(pz_open(path, 0600, 0, 0, NULL, 8, &q), EINVAL);
+    SAME(pz_open(path, 0600, 4097, 0, NULL, 8, &q), EINVAL);
+    SAME(pz_open(path, 0600, 2, 257, NULL, 8, &q), EINVAL);
+    SAME(pz_open(path, 0600, 2, 1, NULL, 8, &q), 0);
+    SAME(pz_mutex_lock(q, 0), 0);
+    SAME(pz_mutex_trylock(p, 0), EBUSY);
+    pz_close(q);
+    SAME(pz_mutex_lock(p, 0), EOWNERDEAD);
+    pz_close(p);
+    CHECK(truncate(path, 4096) == 0);
+    SAME(pz_open(path, 0600, 2, 1, NULL, 8, &p), EINVAL);
+    unlink(path);
+}
+
+/* A file that isn't one is left alone. */
+static void a_file_of_another_program(void)
+{
+    const char *path = a_file("foreign");
+    char text[] = "not ours, and not to be overwritten", is[sizeof text];
+    int fd = open(path, O_RDWR | O_CREAT | O_TRUNC, 0600);
+    pz *p;
+    CHECK(fd >= 0 && write(fd, text, sizeof text) == sizeof text);
+    SAME(pz_open(path, 0600, 1, 0, NULL, 0, &p), EINVAL);
+    SAME(pz_open_fd(fd, 1, 0, NULL, 0, &p), EINVAL);
+    CHECK(pread(fd, is, sizeof is, 0) == sizeof is && !memcmp(is, text, sizeof is));
+    CHECK(ftruncate(fd, 0) == 0);
+    SAME(pz_open_fd(fd, 1, 0, NULL, 0, &p), 0);
+    pz_close(p);
+    close(fd);
+    unlink(path);
+    SAME(pz_open("/no such folder/file", 0600, 1, 0, NULL, 0, &p), ENOENT);
+    SAME(pz_open_fd(-1, 1, 0, NULL, 0, &p), ENOENT);
+}
+
+static void a_file_that_cannot_be_written(void)
+{
+    const char *path = a_file("readonly");
+    pz *p;
+    SAME(pz_open(path, 0400, 1, 0, NULL, 0, &p), 0);
+    pz_close(p);
+    pid_t child = fork();
+    if (!child) {
+        if (setuid(65534))
+            _exit(1);
+        _exit(pz_open(path, 0600, 1, 0, NULL, 0, &p) != EACCES);
+    }
+    int status;
+    CHECK(waitpid(child, &status, 0) == child);
+    CHECK(geteuid() != 0 || status == 0);
+    unlink(path);
+}
+
+/* Too large for what a process may write: refused before anything is mapped, as on a full disk. */
+static void no_room(void)
+{
+    const char *path = a_file("room");
+    pid_t child = fork();
+    if (!child) {
+        pz *p;
+        struct rlimit most = {4096, 4096};
+        signal(SIGXFSZ, SIG_IGN);
+        setrlimit(RLIMIT_FSIZE, &most);
+        _exit(pz_open(path, 0600, 1, 0, NULL, 1 << 20, &p) != EFBIG);
+    }
+    int status;
+    pz *p;
+    CHECK(waitpid(child, &status, 0) == child && status == 0);
+    SAME(pz_open(path, 0600, 1, 0, NULL, 1 << 20, &p), 0);
+    pz_close(p);
+    unlink(path);
+}
+
+/* Makers that are killed somewhere in pz_open leave a file that the next one makes. */
+static void makers_are_killed(void)
+{
+    for (int i = 0; i < 200; i++) {
+        const char *path = a_file("maker");
+        pz *p;
+        pid_t child = fork();
+        if (!child) {
+            pz_open(path, 0600, 64, 4, NULL, 4096, &p);
+            _exit(0);
+        }
+        rest(i * 5);
+        kill_and_wait(child);
+        SAME(pz_open(path, 0600, 64, 4, NULL, 4096, &p), 0);
+        SAME(pz_mutex_lock(p, 63), 0);
+        pz_close(p);
+        unlink(path);
+    }
+}
+
+static _Atomic int calling;
+static void *calls(void *of)
+{
+    pz *p = of;
+    for (int i = 0; i < 100000; i++) {
+        SAME(pz_mutex_lock(p, 1), 0);
+        SAME(pz_mutex_unlock(p, 1), 0);
+        calling = 1;
+    }
+    return NULL;
+}
+
+static void closed_beside_calls(void)
+{
+    pz *p = open_new("close", 2, 0);
+    pthread_t thread;
+    calling = 0;
+    CHECK(!pthread_create(&thread, NULL, calls, p));
+    while (!calling)
+        rest(10);
+    pz_close(p);
+    CHECK(!pthread_join(thread, NULL));
+}
+
+static void sixteen_files(void)
+{
+    pz *p[16], *q;
+    const char *path = a_file("many");
+    for (int i = 0; i < 16; i++)
+        SAME(pz_open(path, 0600, 1, 0, NULL, 0, &p[i]), 0);
+    SAME(pz_open(path, 0600, 1, 0, NULL, 0, &q), EMFILE);
+    SAME(pz_mutex_lock(p[3], 0), 0);
+    SAME(pz_mutex_trylock(p[15], 0), EBUSY);
+    for (int i = 0; i < 16; i++)
+        pz_close(p[i]);
+    SAME(pz_open(path, 0600, 1, 0, NULL, 0, &q), 0);
+    SAME(pz_mutex_lock(q, 0), EOWNERDEAD);
+    pz_close(q);
+    unlink(path);
+}
+
+int main(void)
+{
+    alarm(120);
+    calls_and_refusals();
+    an_owner_dies();
+    spoiled_with_sleepers();
+    a_sleeper_is_told_of_a_death();
+    a_first_sleeper_is_killed();
+    a_thread_ends_alone();
+    a_fork();
+    an_exec();
+    the_2049th_mutex();
+    the_65th_thread();
+    a_file_of_another_layout();
+    a_file_of_another_program();
+    a_file_that_cannot_be_written();
+    no_room();
+    makers_are_killed();
+    closed_beside_calls();
+    sixteen_files();
+    puts("edges: each told what it should be");
+    return 0;
+}

@@ -1,0 +1,81 @@
+/* Stray writes into the words while calls run: a call may then be refused (EFAULT, EINVAL, ..) or sleep for good, but it writes nowhere outside of the words and their records, and nobody crashes.
+ * usage: fuzz ROUNDS */
+#include "driver.h"
+#include "try.h"
+#include <fcntl.h>
+
+enum { CALLERS = 4, ROUND_US = 8000, DATA = 1 << 16 };
+
+static void call_at_random(pz *p)
+{
+    unsigned random = (unsigned)getpid();
+    for (;;) {
+        unsigned m = (unsigned)rand_r(&random) % 8;
+        switch (rand_r(&random) % 8) {
+        case 0:
+            pz_mutex_consistent(p, m);
+            break;
+        case 1:
+            pz_cond_signal(p, m % 2);
+            break;
+        case 2:
+            pz_cond_broadcast(p, m % 2);
+            break;
+        case 3:
+        case 4:
+            pz_mutex_trylock(p, m);
+            break;
+        default:
+            pz_mutex_unlock(p, m);
+        }
+    }
+}
+
+/* A word, or one of another's; a small number, a place, or any bits. */
+static void spoil(pz *p, unsigned *random)
+{
+    uint64_t at = LINE + (uint64_t)rand_r(random) % (p->places - LINE);
+    uint64_t any = (uint64_t)rand_r(random) << 33 ^ (uint64_t)rand_r(random) << 11 ^ (uint64_t)rand_r(random);
+    uint64_t values[] = {0, any % 70, any % 70 | 0x40000000, any % 70 | 0x80000000, any % p->places, any, UINT64_MAX, p->words[LINE + any % (p->places - LINE)]};
+    atomic_store(&p->words[at], values[rand_r(random) % 8]);
+}
+
+static void round_of(int k)
+{
+    const char *path = a_file("fuzz");
+    pz *p;
+    pid_t caller[CALLERS];
+    struct header before;
+    unsigned random = (unsigned)k;
+    SAME(pz_open(path, 0600, 8, 2, NULL, DATA, &p), 0);
+    unsigned char *data = pz_data(p);
+    memset(data, 0xa5, DATA);
+    memcpy(&before, p->header, sizeof before);
+    for (int i = 0; i < CALLERS; i++)
+        if (!(caller[i] = fork()))
+            call_at_random(p);
+    for (double end = now() + ROUND_US * 1e-6; now() < end;)
+        spoil(p, &random);
+    for (int i = 0; i < CALLERS; i++) {
+        int status;
+        kill(caller[i], SIGKILL);
+        CHECK(waitpid(caller[i], &status, 0) == caller[i]);
+        CHECK(WIFSIGNALED(status) && WTERMSIG(status) == SIGKILL);
+    }
+    pz_reap(p);
+    CHECK(!memcmp(&before, p->header, sizeof before));
+    for (int i = 0; i < DATA; i++)
+        CHECK(data[i] == 0xa5);
+    pz_close(p);
+    unlink(path);
+}
+
+int main(int argc, char **argv)
+{
+    int rounds = argc > 1 ? atoi(argv[1]) : 150;
+    alarm(120);
+    for (int k = 0; k < rounds; k++)
+        round_of(k);
+    printf("fuzz: %d rounds, nothing written elsewhere\n", rounds);
+    return 0;
+}

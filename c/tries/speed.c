@@ -1,0 +1,131 @@
+/* Locks and unlocks beside the C library's robust, process-shared, error-checking mutex, in one run and in turn: alone, by 2 and by 4 processes; and the time from a SIGKILL until
+ * a sleeper has EOWNERDEAD. Prints a row a case: ours, the C library's, the quotient, in ns or us, the middle of RUNS. usage: speed RUNS */
+#include "try.h"
+#include <pthread.h>
+
+enum { MOST_RUNS = 101, PAIRS = 200000 };
+
+struct both {
+    pthread_mutex_t libc;
+    long padding[64];
+    _Atomic int go, ready;
+    _Atomic long at;                    /* when the sleeper had it */
+    volatile long counter[8];
+};
+static pz *p;
+static struct both *b;
+
+static void make_libc(pthread_mutex_t *m)
+{
+    pthread_mutexattr_t a;
+    pthread_mutexattr_init(&a);
+    pthread_mutexattr_setpshared(&a, PTHREAD_PROCESS_SHARED);
+    pthread_mutexattr_setrobust(&a, PTHREAD_MUTEX_ROBUST);
+    pthread_mutexattr_settype(&a, PTHREAD_MUTEX_ERRORCHECK);
+    pthread_mutex_init(m, &a);
+}
+
+static void pairs(int ours, long n)
+{
+    for (long i = 0; i < n; i++) {
+        if (ours ? pz_mutex_lock(p, 0) : pthread_mutex_lock(&b->libc))
+            _exit(1);
+        b->counter[0]++;
+        if (ours ? pz_mutex_unlock(p, 0) : pthread_mutex_unlock(&b->libc))
+            _exit(1);
+    }
+}
+
+/* ns a pair, of all processes together. */
+static double contended(int processes, int ours)
+{
+    pid_t child[8];
+    atomic_store(&b->go, 0);
+    atomic_store(&b->ready, 0);
+    for (int i = 0; i < processes; i++)
+        if (!(child[i] = fork())) {
+            pairs(ours, 1);
+            atomic_fetch_add(&b->ready, 1);
+            while (!atomic_load(&b->go))
+                ;
+            pairs(ours, PAIRS);
+            _exit(0);
+        }
+    while (atomic_load(&b->ready) < processes)
+        rest(100);
+    double since = now();
+    atomic_store(&b->go, 1);
+    for (int i = 0; i < processes; i++) {
+        int status;
+        CHECK(waitpid(child[i], &status, 0) == child[i] && status == 0);
+    }
+    return (now() - since) * 1e9 / ((double)PAIRS * processes);
+}
+
+/* us from the kill of an owner to its sleeper's EOWNERDEAD. */
+static double death(int unused, int ours)
+{
+    (void)unused;
+    atomic_store(&b->ready, 0);
+    pid_t owner = fork();
+    if (!owner) {
+        if (ours ? pz_mutex_lock(p, 1) : pthread_mutex_lock(&b->libc))
+            _exit(1);
+        atomic_store(&b->ready, 1);
+        for (;;)
+            pause();
+    }
+    while (!atomic_load(&b->ready))
+        rest(50);
+    pid_t sleeper = fork();
+    if (!sleeper) {
+        int r = ours ? pz_mutex_lock(p, 1) : pthread_mutex_lock(&b->libc);
+        atomic_store(&b->at, (long)(now() * 1e9));
+        if (r != EOWNERDEAD)
+            _exit(1);
+        r = ours ? pz_mutex_consistent(p, 1) : pthread_mutex_consistent(&b->libc);
+        _exit(r || (ours ? pz_mutex_unlock(p, 1) : pthread_mutex_unlock(&b->libc)));
+    }
+    until_asleep(sleeper);
+    double since = now();
+    int status;
+    kill_and_wait(owner);
+    CHECK(waitpid(sleeper, &status, 0) == sleeper && status == 0);
+    return (double)atomic_load(&b->at) / 1e3 - since * 1e6;
+}
+
+static int below(const void *x, const void *y)
+{
+    double a = *(const double *)x, c = *(const double *)y;
+    return (a > c) - (a < c);
+}
+
+static void row(const char *name, double (*take)(int, int), int processes, int runs, double goal)
+{
+    static double is[2][MOST_RUNS];
+    for (int k = 0; k < runs; k++)
+        for (int ours = 0; ours < 2; ours++)
+            is[ours][k] = take(processes, ours);
+    for (int ours = 0; ours < 2; ours++)
+        qsort(is[ours], (size_t)runs, sizeof(double), below);
+    double a = is[1][runs / 2], c = is[0][runs / 2];
+    printf("%-34s %9.1f %9.1f %6.2f%s\n", name, a, c, a / c, goal && a / c > goal ? "  past its goal" : "");
+}
+
+int main(int argc, char **argv)
+{
+    int runs = argc > 1 ? atoi(argv[1]) : 9;
+    const char *path = a_file("speed");
+    CHECK(runs >= 1 && runs <= MOST_RUNS);
+    SAME(pz_open(path, 0600, 2, 0, NULL, sizeof *b, &p), 0);
+    b = pz_data(p);
+    make_libc(&b->libc);
+    puts("                                        ours   libc's  times");
+    row("lock and unlock alone, ns", contended, 1, runs, 1.8);
+    row("one mutex, 2 processes, ns", contended, 2, runs, 2.2);
+    row("one mutex, 4 processes, ns", contended, 4, runs, 2.2);
+    row("SIGKILL to EOWNERDEAD, us", death, 0, runs * 3, 0);
+    pz_close(p);
+    unlink(path);
+    return 0;
+}

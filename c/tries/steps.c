@@ -1,0 +1,153 @@
+/* A thread dies before each of its instructions, one run for each, in calls of which some go by a plan and some by their steps; and its reaper dies behind each access of its walk, and before
+ * the record of it. Whatever the thread held is told to the next one as such, and whatever it didn't isn't; and nobody is left asleep. */
+#include "try.h"
+
+enum { MUTEXES = 3, FREE = 0, UNSURE = 1, HELD_BY_IT = 2 };
+
+struct seen {
+    _Atomic int state[MUTEXES];         /* what the owner had, as it knew */
+    _Atomic int done, walked;
+};
+static pz *p;
+static struct seen *seen;
+static long dies_before, dies_in_walk;  /* counts down to 0; -1 for never */
+
+void pz_between(void)
+{
+    if (dies_before > 0 && --dies_before == 0)
+        kill(getpid(), SIGKILL);
+}
+
+void pz_at_walk(void)
+{
+    atomic_fetch_add(&seen->walked, 1);
+    if (dies_in_walk > 0 && --dies_in_walk == 0)
+        kill(getpid(), SIGKILL);
+}
+
+static void take(unsigned m, int by_trying)
+{
+    atomic_store(&seen->state[m], UNSURE);
+    SAME(by_trying ? pz_mutex_trylock(p, m) : pz_mutex_lock(p, m), 0);
+    atomic_store(&seen->state[m], HELD_BY_IT);
+}
+
+static void give(unsigned m)
+{
+    atomic_store(&seen->state[m], UNSURE);
+    SAME(pz_mutex_unlock(p, m), 0);
+    atomic_store(&seen->state[m], FREE);
+}
+
+/* Three mutexes are on the list at once; one is taken from the middle of it; a condition variable's mutex is released by a wait. */
+static void calls(int waits)
+{
+    take(0, 0);
+    take(1, 1);
+    take(2, 0);
+    give(1);
+    take(1, 0);
+    give(2);
+    SAME(pz_cond_signal(p, 0), 0);
+    if (waits) {
+        atomic_store(&seen->state[0], UNSURE);
+        pz_cond_wait(p, 0);
+    }
+    give(0);
+    give(1);
+    atomic_store(&seen->done, 1);
+}
+
+static pid_t child(long before, long in_walk)
+{
+    pid_t is = fork();
+    dies_before = is ? 0 : before;
+    dies_in_walk = is ? 0 : in_walk;
+    return is;
+}
+
+/* Each mutex is told as it was left, or either way where the owner wasn't sure. */
+static void look(void)
+{
+    for (unsigned m = 0; m < MUTEXES; m++) {
+        int r = pz_mutex_lock(p, m), state = atomic_load(&seen->state[m]);
+        CHECK(r == 0 || r == EOWNERDEAD);
+        CHECK(state != HELD_BY_IT || r == EOWNERDEAD);
+        CHECK(state != FREE || r == 0);
+        if (r == EOWNERDEAD)
+            SAME(pz_mutex_consistent(p, m), 0);
+        SAME(pz_mutex_unlock(p, m), 0);
+        atomic_store(&seen->state[m], FREE);
+    }
+}
+
+/* Somebody sleeps on the first mutex, and gets it. */
+static pid_t a_sleeper(void)
+{
+    pid_t is = child(0, 0);
+    if (is)
+        return is;
+    int r = pz_mutex_lock(p, 0);
+    if (r == EOWNERDEAD)
+        r = pz_mutex_consistent(p, 0);
+    _exit(r || pz_mutex_unlock(p, 0));
+}
+
+static int one(long before, int waits, int with_sleeper, long in_walk)
+{
+    int status;
+    atomic_store(&seen->done, 0);
+    pid_t owner = child(before, 0);
+    if (!owner) {
+        calls(waits);
+        _exit(0);
+    }
+    pid_t sleeper = with_sleeper ? a_sleeper() : 0;
+    if (waits && before < 0) {
+        until_asleep(owner);
+        kill(owner, SIGKILL);
+    }
+    CHECK(waitpid(owner, &status, 0) == owner);
+    CHECK(WIFSIGNALED(status) || WEXITSTATUS(status) == 0);
+    for (; in_walk; in_walk = 0) {
+        pid_t reaper = child(0, in_walk);
+        if (!reaper) {
+            pz_reap(p);
+            _exit(0);
+        }
+        CHECK(waitpid(reaper, &status, 0) == reaper);
+    }
+    if (sleeper) {
+        CHECK(waitpid(sleeper, &status, 0) == sleeper && status == 0);
+        atomic_store(&seen->state[0], UNSURE);      /* the sleeper was told of it */
+    }
+    look();
+    return atomic_load(&seen->done);
+}
+
+int main(void)
+{
+    const char *path = a_file("steps");
+    long instructions = 0, walks = 0;
+    alarm(200);
+    SAME(pz_open(path, 0600, MUTEXES, 1, NULL, 0, &p), 0);
+    seen = shared(sizeof *seen);
+    for (long n = 1; !one(n, 0, 0, 0); n++)
+        instructions = n;
+    for (long n = 1; n <= instructions; n += 3)
+        one(n, 0, 1, 0);
+    one(-1, 1, 0, 0);
+    for (long n = 1; n <= instructions; n++)        /* what the walk finds differs from row to row */
+        for (long k = 1;; k++) {
+            int before = atomic_load(&seen->walked);
+            one(n, 0, 0, k);
+            walks++;
+            if (atomic_load(&seen->walked) - before < k)
+                break;                              /* it had ended before */
+        }
+    printf("steps: dead before each of %ld instructions, and %ld times amid the walk\n", instructions, walks);
+    CHECK(instructions >= 50 && walks > 500);
+    pz_close(p);
+    unlink(path);
+    return 0;
+}

@@ -1,0 +1,87 @@
+/* What tries share: a file of their own, processes that are killed, and an end that says what failed. */
+#ifndef TRY_H
+#define TRY_H
+#include "pazdrig.h"
+#include <errno.h>
+#include <signal.h>
+#include <stdatomic.h>
+#include <stdint.h>
+#include <stdio.h>
+#include <stdlib.h>
+#include <string.h>
+#include <sys/mman.h>
+#include <sys/wait.h>
+#include <time.h>
+#include <unistd.h>
+
+#define CHECK(what) ((what) ? (void)0 : fail(__FILE__, __LINE__, #what))
+#define SAME(is, wanted) same(__FILE__, __LINE__, #is, is, wanted)
+
+static inline _Noreturn void fail(const char *file, int line, const char *what)
+{
+    fprintf(stderr, "%s:%d: %s\n", file, line, what);
+    exit(1);
+}
+
+static inline void same(const char *file, int line, const char *what, int is, int wanted)
+{
+    if (is == wanted)
+        return;
+    fprintf(stderr, "%s:%d: %s is %d (%s), not %d (%s)\n", file, line, what, is, strerror(is), wanted, strerror(wanted));
+    exit(1);
+}
+
+static inline double now(void)
+{
+    struct timespec t;
+    clock_gettime(CLOCK_MONOTONIC, &t);
+    return (double)t.tv_sec + (double)t.tv_nsec * 1e-9;
+}
+
+static inline void rest(long us) { nanosleep(&(struct timespec){us / 1000000, us % 1000000 * 1000}, NULL); }
+
+/* A name for a file of this try, in the folder that the runner made. */
+static inline const char *a_file(const char *name)
+{
+    static char path[4][256];
+    static int next;
+    const char *folder = getenv("TRY_FOLDER");
+    char *p = path[next++ % 4];
+    snprintf(p, sizeof path[0], "%s/%s.%d", folder ? folder : "/dev/shm", name, (int)getpid());
+    return p;
+}
+
+static inline void kill_and_wait(pid_t child)
+{
+    kill(child, SIGKILL);
+    CHECK(waitpid(child, NULL, 0) == child);
+}
+
+/* Memory that children share with their parent. */
+static inline void *shared(size_t size)
+{
+    void *p = mmap(NULL, size, PROT_READ | PROT_WRITE, MAP_SHARED | MAP_ANONYMOUS, -1, 0);
+    CHECK(p != MAP_FAILED);
+    return p;
+}
+
+/* Whether a process sleeps in a system call, as the kernel tells it: what a try waits for, in place of a time. */
+static inline int sleeps(pid_t thread)
+{
+    char path[64], state = 0;
+    snprintf(path, sizeof path, "/proc/%d/stat", (int)thread);
+    FILE *f = fopen(path, "r");
+    if (!f)
+        return 0;
+    if (fscanf(f, "%*d %*[^)]) %c", &state) != 1)
+        state = 0;
+    fclose(f);
+    return state == 'S';
+}
+
+static inline void until_asleep(pid_t thread)
+{
+    for (int quiet = 0; quiet < 20; quiet = sleeps(thread) ? quiet + 1 : 0)
+        rest(500);
+}
+#endif
