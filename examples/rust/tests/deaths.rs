@@ -1,0 +1,132 @@
+//! Owners die, by SIGKILL and by a panic, and the next one can't use what they left before it is repaired.
+use pazdrig::{Locked, Shared};
+use std::fs;
+use std::io::{BufRead, BufReader};
+use std::path::PathBuf;
+use std::process::{id, Command, Stdio};
+use std::thread;
+
+const EDEADLK: i32 = 35;
+const ENOTRECOVERABLE: i32 = 131;
+
+type Pair = [u64; 2];
+
+/// A file of a test's own.
+struct Scratch(PathBuf);
+
+impl Scratch {
+    fn new(name: &str) -> Self {
+        Scratch(std::env::temp_dir().join(format!("pazdrig-{name}-{}", id())))
+    }
+
+    fn open(&self) -> Shared<Pair> {
+        Shared::open(&self.0).expect("a new file can be opened")
+    }
+}
+
+impl Drop for Scratch {
+    fn drop(&mut self) {
+        let _ = fs::remove_file(&self.0);
+    }
+}
+
+/// A process that has changed one half of the pair is killed.
+fn kill_amid_a_change(file: &Scratch) {
+    let mut child = Command::new(env!("CARGO_BIN_EXE_holder"))
+        .arg(&file.0)
+        .stdin(Stdio::piped())
+        .stdout(Stdio::piped())
+        .spawn()
+        .expect("the holder can be started");
+    let mut line = String::new();
+    let out = child.stdout.take().expect("it is piped");
+    BufReader::new(out)
+        .read_line(&mut line)
+        .expect("it says what it did");
+    assert_eq!(line, "half\n");
+    child.kill().expect("it can be killed");
+    child.wait().expect("it is a child");
+}
+
+fn whole(pair: &Shared<Pair>) -> Pair {
+    match pair.lock() {
+        Ok(Locked::Whole(both)) => *both,
+        Ok(Locked::OwnerDied(_)) => panic!("its owner died"),
+        Err(error) => panic!("{error}"),
+    }
+}
+
+fn repaired(pair: &Shared<Pair>) -> Pair {
+    match pair.lock() {
+        Ok(Locked::OwnerDied(broken)) => {
+            *broken.repair(|both| both[1] = both[0]).expect("it is ours")
+        }
+        Ok(Locked::Whole(_)) => panic!("nobody died"),
+        Err(error) => panic!("{error}"),
+    }
+}
+
+fn refused(pair: &Shared<Pair>) -> Option<i32> {
+    pair.lock().err().and_then(|error| error.raw_os_error())
+}
+
+#[test]
+fn what_a_killed_owner_left_is_repaired_first() {
+    let file = Scratch::new("killed");
+    let pair = file.open();
+    assert_eq!(whole(&pair), [0, 0]);
+    kill_amid_a_change(&file);
+    assert_eq!(repaired(&pair), [1, 1]);
+    assert_eq!(whole(&pair), [1, 1]);
+}
+
+#[test]
+fn what_nobody_repairs_is_lost() {
+    let file = Scratch::new("lost");
+    let pair = file.open();
+    kill_amid_a_change(&file);
+    drop(pair.lock());
+    assert_eq!(refused(&pair), Some(ENOTRECOVERABLE));
+}
+
+#[test]
+fn a_panic_leaves_it_as_a_death() {
+    let file = Scratch::new("panic");
+    let pair = file.open();
+    thread::scope(|s| {
+        let panicked = s.spawn(|| {
+            let Ok(Locked::Whole(mut both)) = pair.lock() else {
+                return;
+            };
+            both[0] = 7;
+            panic!("amid a change");
+        });
+        assert!(panicked.join().is_err());
+    });
+    assert_eq!(repaired(&pair), [7, 7]);
+}
+
+#[test]
+fn a_repair_that_panics_is_left_to_the_next() {
+    let file = Scratch::new("again");
+    let pair = file.open();
+    kill_amid_a_change(&file);
+    thread::scope(|s| {
+        let panicked = s.spawn(|| match pair.lock() {
+            Ok(Locked::OwnerDied(broken)) => drop(broken.repair(|_| panic!("amid the repair"))),
+            _ => (),
+        });
+        assert!(panicked.join().is_err());
+    });
+    assert_eq!(repaired(&pair), [1, 1]);
+}
+
+#[test]
+fn its_owner_cant_lock_it_twice() {
+    let file = Scratch::new("twice");
+    let pair = file.open();
+    let both = pair.lock();
+    assert_eq!(refused(&pair), Some(EDEADLK));
+    drop(both);
+    assert_eq!(whole(&pair), [0, 0]);
+}
