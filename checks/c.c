@@ -1,126 +1,109 @@
-/* Calls each function of pazdrig_cell.h, for checks/c: where its change may be made and where it may not. What is wanted is said by
- * the bits of futex(2), as the kernel's own header has them, and by UNUSABLE above them. It prints what differs, and how many
- * calls were looked at.
- */
-#include "pazdrig_cell.h"
+/* For checks/c: whether pz_steps.h has each field of each struct where the proved archive has it. pz_fill writes a number of its
+ * own into each; they are wanted here in the order in which the header declares them. It prints what differs. */
+#include "pz_steps.h"
 
 #include <inttypes.h>
-#include <linux/futex.h>
 #include <stdio.h>
+#include <string.h>
 
-#define UNUSABLE UINT64_C(0x100000000)
-#define ABOVE UINT64_C(0xfffffffe00000000)
-#define WAITERS ((uint64_t)FUTEX_WAITERS)
-#define DIED ((uint64_t)FUTEX_OWNER_DIED)
-#define EXPECT(call, wanted) expect(__LINE__, #call, call, wanted)
+#define FIELD(field) same(#field, field, ++count)
 
-struct change {
-    const char *name;
-    bool (*may)(uint64_t cell, uint32_t thread);
-    uint64_t (*changed)(uint64_t cell, uint32_t thread);
-};
+static int failed;
 
-static const struct change TAKE = {"take", pazdrig_cell_may_take, pazdrig_cell_taken};
-static const struct change MARK = {"mark", pazdrig_cell_may_mark, pazdrig_cell_marked};
-static const struct change RELEASE = {"release", pazdrig_cell_may_release, pazdrig_cell_released};
-static const struct change DECLARE = {"declare", pazdrig_cell_may_declare, pazdrig_cell_declared};
-static const struct change SPOIL = {"spoil", pazdrig_cell_may_spoil, pazdrig_cell_spoiled};
-
-static int calls, failed;
-
-static void expect(int line, const char *call, uint64_t got, uint64_t wanted)
+static void same(const char *field, uint64_t is, uint64_t wanted)
 {
-    calls++;
-    if (got != wanted) {
-        printf("line %d: %s is %#" PRIx64 ", not %#" PRIx64 "\n", line, call, got, wanted);
-        failed = 1;
-    }
+    if (is == wanted)
+        return;
+    printf("%s is %" PRIu64 ", not %" PRIu64 "\n", field, is, wanted);
+    failed = 1;
 }
 
-static void becomes(const struct change *change, uint64_t cell, uint32_t thread, uint64_t wanted)
+static unsigned in_call(const struct pz_call *call)
 {
-    expect(__LINE__, change->name, change->may(cell, thread), true);
-    expect(__LINE__, change->name, change->changed(cell, thread), wanted);
+    unsigned count = 0;
+    FIELD(call->head);
+    FIELD(call->entry);
+    FIELD(call->cell);
+    FIELD(call->counter);
+    FIELD(call->phase.lock.x);
+    FIELD(call->phase.lock.y);
+    FIELD(call->phase.lock.reply);
+    FIELD(call->phase.lock.kind);
+    FIELD(call->phase.lock.flag);
+    FIELD(call->phase.seen);
+    FIELD(call->phase.kind);
+    FIELD(call->program);
+    FIELD(call->thread);
+    return count;
 }
 
-static void stays(const struct change *change, uint64_t cell, uint32_t thread)
+static unsigned in_walk(const struct pz_walk *walk)
 {
-    expect(__LINE__, change->name, change->may(cell, thread), false);
-    expect(__LINE__, change->name, change->changed(cell, thread), cell);
+    unsigned count = 0;
+    FIELD(walk->head);
+    FIELD(walk->row.at);
+    FIELD(walk->row.seen);
+    FIELD(walk->row.entry);
+    FIELD(walk->row.offset);
+    FIELD(walk->row.pending);
+    FIELD(walk->row.loaded);
+    FIELD(walk->row.kind);
+    FIELD(walk->row.again);
+    FIELD(walk->row.of_pending);
+    FIELD(walk->thread);
+    return count;
 }
 
-static void fields(void)
+static unsigned in_access(const struct pz_access *access)
 {
-    EXPECT(pazdrig_cell_owner(UINT64_MAX), FUTEX_TID_MASK);
-    EXPECT(pazdrig_cell_owner(~(uint64_t)FUTEX_TID_MASK), 0);
-    EXPECT(pazdrig_cell_has_waiters(WAITERS), true);
-    EXPECT(pazdrig_cell_has_waiters(~WAITERS), false);
-    EXPECT(pazdrig_cell_owner_died(DIED), true);
-    EXPECT(pazdrig_cell_owner_died(~DIED), false);
-    EXPECT(pazdrig_cell_is_unusable(UNUSABLE), true);
-    EXPECT(pazdrig_cell_is_unusable(~UNUSABLE), false);
-    EXPECT(pazdrig_cell_is_trimmable(WAITERS), true);
-    EXPECT(pazdrig_cell_is_trimmable(WAITERS | 1), false);
-    EXPECT(pazdrig_cell_is_trimmable(UNUSABLE | WAITERS), false);
-    EXPECT(pazdrig_cell_futex_word(ABOVE | UNUSABLE | WAITERS | 5), WAITERS | 5);
-    EXPECT(pazdrig_cell_waiting(ABOVE | 5), ABOVE | WAITERS | 5);
-    EXPECT(pazdrig_cell_waiting(WAITERS), WAITERS);
+    unsigned count = 0;
+    FIELD(access->at);
+    FIELD(access->a);
+    FIELD(access->b);
+    FIELD(access->kind);
+    FIELD(access->most);
+    FIELD(access->wakes);
+    FIELD(access->point);
+    FIELD(access->operation);
+    return count;
 }
 
-static void decisions(void)
+static unsigned in_plan(const struct pz_plan *plan)
 {
-    EXPECT(pazdrig_cell_lock_decision(0, 0), PAZDRIG_LOCK_NO_THREAD);
-    EXPECT(pazdrig_cell_lock_decision(65, 65), PAZDRIG_LOCK_NO_THREAD);
-    EXPECT(pazdrig_cell_lock_decision(0, 64), PAZDRIG_LOCK_TAKE);
-    EXPECT(pazdrig_cell_lock_decision(DIED | WAITERS, 5), PAZDRIG_LOCK_TAKE);
-    EXPECT(pazdrig_cell_lock_decision(7, 5), PAZDRIG_LOCK_SET_WAITERS);
-    EXPECT(pazdrig_cell_lock_decision(WAITERS | 7, 5), PAZDRIG_LOCK_SLEEP);
-    EXPECT(pazdrig_cell_lock_decision(WAITERS | 5, 5), PAZDRIG_LOCK_DEADLOCK);
-    EXPECT(pazdrig_cell_lock_decision(UNUSABLE, 5), PAZDRIG_LOCK_NOT_RECOVERABLE);
-    EXPECT(pazdrig_cell_lock_decision(UNUSABLE | WAITERS, 5), PAZDRIG_LOCK_WAKE_ALL);
+    unsigned count = 0;
+    for (int i = 0; i < 6; i++)
+        FIELD(plan->at[i]);
+    for (int i = 0; i < 6; i++)
+        FIELD(plan->value[i]);
+    FIELD(plan->operand);
+    FIELD(plan->before);
+    FIELD(plan->stores);
+    FIELD(plan->reply);
+    return count;
 }
 
-static void changes(void)
-{
-    becomes(&TAKE, ABOVE | DIED | WAITERS, 5, ABOVE | DIED | WAITERS | 5);
-    stays(&TAKE, 5, 5);
-    stays(&TAKE, 7, 5);
-    stays(&TAKE, UNUSABLE, 5);
-    becomes(&MARK, ABOVE | WAITERS | 5, 5, ABOVE | DIED | WAITERS);
-    stays(&MARK, WAITERS | 7, 5);
-    stays(&MARK, WAITERS, 5);
-    becomes(&RELEASE, ABOVE | WAITERS | 64, 64, ABOVE | WAITERS);
-    stays(&RELEASE, DIED | 5, 5);
-    stays(&RELEASE, 7, 5);
-    becomes(&DECLARE, ABOVE | DIED | WAITERS | 5, 5, ABOVE | WAITERS | 5);
-    stays(&DECLARE, 5, 5);
-    stays(&DECLARE, DIED | 7, 5);
-    becomes(&SPOIL, ABOVE | DIED | WAITERS | 1, 1, ABOVE | UNUSABLE | WAITERS);
-    stays(&SPOIL, 5, 5);
-    stays(&SPOIL, DIED | 7, 5);
-    stays(&SPOIL, UNUSABLE | DIED | 5, 5);
-}
-
-/* No thread has the ids that are 0, too large, or too large but 5 in their low byte. */
-static void ids(void)
-{
-    static const uint32_t none[] = {0, 65, 0x105, FUTEX_TID_MASK, UINT32_MAX};
-    for (int i = 0; i < 5; i++) {
-        uint64_t own = none[i] & FUTEX_TID_MASK;
-        stays(&TAKE, 0, none[i]);
-        stays(&MARK, own, none[i]);
-        stays(&RELEASE, own, none[i]);
-        stays(&DECLARE, DIED | own, none[i]);
-        stays(&SPOIL, DIED | own, none[i]);
-    }
-}
+/* A room around each, so that a struct that is larger there than here is seen: what lies behind it stays. */
+static struct {
+    struct pz_call call;
+    uint64_t behind_call;
+    struct pz_walk walk;
+    uint64_t behind_walk;
+    struct pz_access access;
+    uint64_t behind_access;
+    struct pz_plan plan;
+    uint64_t behind_plan;
+} filled;
 
 int main(void)
 {
-    fields();
-    decisions();
-    changes();
-    ids();
-    printf("%d calls, %s\n", calls, failed ? "FAILED" : "all as wanted");
+    const uint64_t kept = UINT64_C(0x5555555555555555);
+    memset(&filled, 0x55, sizeof filled);
+    pz_fill(&filled.call, &filled.walk, &filled.access, &filled.plan);
+    unsigned count = in_call(&filled.call) + in_walk(&filled.walk) + in_access(&filled.access) + in_plan(&filled.plan);
+    same("what lies behind a call", filled.behind_call, kept);
+    same("what lies behind a walk", filled.behind_walk, kept);
+    same("what lies behind an access", filled.behind_access, kept);
+    same("what lies behind a plan", filled.behind_plan, kept);
+    printf("%u fields stand where the archive has them\n", failed ? 0 : count);
     return failed;
 }
