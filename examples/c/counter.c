@@ -1,4 +1,4 @@
-/* A count and its copy in a file that processes share. Whoever comes after one that was killed repairs them. */
+/* A count and its copy in a file that processes share. If one is killed, the next one repairs them. */
 #include <errno.h>
 #include <pazdrig.h>
 #include <stdio.h>
