@@ -1,16 +1,17 @@
-/* A thread dies before each of its instructions, one run for each, in calls of which some go by a plan and some by their steps; and its reaper dies behind each access of its walk, and before
- * the record of it. Whatever the thread held is told to the next one as such, and whatever it didn't isn't; and nobody is left asleep. */
+/* A thread dies before each of its instructions, one run for each, in calls of which some go by a plan and some by
+ * their steps; and its reaper dies behind each access of its walk, and before the record of it. Whatever the thread
+ * held is told to the next one as such, and whatever it didn't isn't; and nobody is left asleep. */
 #include "try.h"
 
 enum { MUTEXES = 3, FREE = 0, UNSURE = 1, HELD_BY_IT = 2 };
 
 struct seen {
-    _Atomic int state[MUTEXES];         /* what the owner had, as it knew */
+    _Atomic int state[MUTEXES]; /* what the owner had, as it knew */
     _Atomic int done, walked;
 };
 static pz *p;
 static struct seen *seen;
-static long dies_before, dies_in_walk;  /* counts down to 0; -1 for never */
+static long dies_before, dies_in_walk; /* counts down to 0; -1 for never */
 
 void pz_between(void)
 {
@@ -39,7 +40,8 @@ static void give(unsigned m)
     atomic_store(&seen->state[m], FREE);
 }
 
-/* Three mutexes are on the list at once; one is taken from the middle of it; a condition variable's mutex is released by a wait. */
+/* Three mutexes are on the list at once; one is taken from the middle of it; a condition variable's mutex is released
+ * by a wait. */
 static void calls(int waits)
 {
     take(0, 0);
@@ -119,7 +121,7 @@ static int one(long before, int waits, int with_sleeper, long in_walk)
     }
     if (sleeper) {
         CHECK(waitpid(sleeper, &status, 0) == sleeper && status == 0);
-        atomic_store(&seen->state[0], UNSURE);      /* the sleeper was told of it */
+        atomic_store(&seen->state[0], UNSURE); /* the sleeper was told of it */
     }
     look();
     return atomic_load(&seen->done);
@@ -137,13 +139,13 @@ int main(void)
     for (long n = 1; n <= instructions; n += 3)
         one(n, 0, 1, 0);
     one(-1, 1, 0, 0);
-    for (long n = 1; n <= instructions; n++)        /* what the walk finds differs from row to row */
+    for (long n = 1; n <= instructions; n++) /* what the walk finds differs from row to row */
         for (long k = 1;; k++) {
             int before = atomic_load(&seen->walked);
             one(n, 0, 0, k);
             walks++;
             if (atomic_load(&seen->walked) - before < k)
-                break;                              /* it had ended before */
+                break; /* it had ended before */
         }
     printf("steps: dead before each of %ld instructions, and %ld times amid the walk\n", instructions, walks);
     CHECK(instructions >= 50 && walks > 500);
