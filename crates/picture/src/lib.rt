@@ -36,5 +36,5 @@ mod svg_drawing;
 mod words;
 
 pub use drawing::{Unwritten, draw};
-pub use laws::marks_stand_in_their_lanes;
+pub use laws::{marks_stand_in_their_lanes, shown_lanes_stand_in_their_columns, texts_have_room};
 pub use svg_drawing::draw_svg;
