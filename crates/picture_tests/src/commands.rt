@@ -103,7 +103,7 @@ const TEXT: &str = " event  m0   t1\n     1  -    ┌ lock m0\n     1  end\n";
 const USAGE: &str = "usage: rfx-draw [--svg] [FILE]\n";
 
 /// A file, a command line, what comes of it, and how often a file is opened.
-static LINES: [(&[u8], &[&str], u8, &str, &str, usize); 19] = [
+static LINES: [(&[u8], &[&str], u8, &str, &str, usize); 20] = [
     (TRACE, &["rfx-draw"], 0, TEXT, "", 1),
     (TRACE, &["rfx-draw", "f"], 0, TEXT, "", 1),
     (TRACE, &["rfx-draw", "/dev/stdin"], 0, TEXT, "", 1),
@@ -164,6 +164,15 @@ static LINES: [(&[u8], &[&str], u8, &str, &str, usize); 19] = [
         "rfx-draw: cannot read no file\n",
         1,
     ),
+    // A name without a letter, in a message that is written all the same.
+    (
+        TRACE,
+        &["rfx-draw", ""],
+        1,
+        "",
+        "rfx-draw: cannot read \n",
+        1,
+    ),
     (
         TRACE,
         &["rfx-draw", "broken"],
@@ -200,6 +209,39 @@ fn svg_is_drawn(rt: HostRuntime) {
                 && answered.printed.ends_with(SVG_END.as_bytes())
         );
     }
+}
+
+/// A trace of 64 threads with 5,000 lines.
+fn many_lines(alloc: Global) -> Result<Vec<u8>, AllocError> {
+    let mut trace = Vec::new(alloc);
+    trace.extend_from_slice(b"trace 64 1 0\n")?;
+    for _ in 0..5_000 {
+        trace.extend_from_slice(b"1 begin t64 lock m0\n")?;
+    }
+    trace.extend_from_slice(b"end 1\n")?;
+    Ok(trace)
+}
+
+fn line_feeds(text: &[u8]) -> usize {
+    text.iter().filter(|byte| **byte == b'\n').count()
+}
+
+/// A large trace as text, two rows of heads, one for each line, and the end; and as SVG, five lines up to the band, one for each lane, one for each call, one for each mark, and two.
+#[test]
+fn many_lines_are_drawn(rt: HostRuntime) -> Result<(), AllocError> {
+    let trace = many_lines(rt.alloc())?;
+    let files = files_of(&trace);
+    let text = answer_of(rt.alloc(), words(rt.alloc(), &["rfx-draw", "f"]), &files);
+    assert!(rt; text.status == 0 && text.told.is_empty());
+    assert!(rt; line_feeds(&text.printed) == 2 + 5_000 + 1);
+    let svg = answer_of(
+        rt.alloc(),
+        words(rt.alloc(), &["rfx-draw", "--svg", "f"]),
+        &files,
+    );
+    assert!(rt; svg.status == 0 && svg.told.is_empty());
+    assert!(rt; line_feeds(&svg.printed) == 5 + 64 + 5_000 + 5_000 + 2);
+    Ok(())
 }
 
 /// Words that are no text are another command line; memory is told where it was refused, for the words or for a file.

@@ -182,7 +182,7 @@ static FAULTY: [&str; 6] = [
     "trace 2 1 0\nend 1\nend 1\n",
 ];
 
-/// Passes too where memory is refused, at line 1.
+/// Passes too where memory is refused.
 #[test]
 fn faults_are_those_of_the_judge(rt: HostRuntime) {
     for text in &FAULTY {
