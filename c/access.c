@@ -5,14 +5,15 @@
 #include <sys/syscall.h>
 #include <unistd.h>
 
-/* One instruction each, so that tries can yield between any two. The cell and the counters are changed by sequentially consistent
- * instructions; a thread's own words are stored by it alone and read by who walks its list, for whom a release is enough. */
-#define LOAD(w) (PZ_BETWEEN(), atomic_load_explicit(w, memory_order_acquire))
-#define STORE(w, v) (PZ_BETWEEN(), atomic_store_explicit(w, v, memory_order_release))
-#define XOR(w, v) (PZ_BETWEEN(), atomic_fetch_xor(w, v))
-#define OR(w, v) (PZ_BETWEEN(), atomic_fetch_or(w, v))
-#define AND(w, v) (PZ_BETWEEN(), atomic_fetch_and(w, v))
-#define ADD(w, v) (PZ_BETWEEN(), atomic_fetch_add(w, v))
+/* One instruction each, so that tries can yield between any two. The cell and the counters are changed by sequentially
+ * consistent instructions; a thread's own words are stored by it alone and read by who walks its list, for whom a
+ * release is enough. */
+#define LOAD(w)              (PZ_BETWEEN(), atomic_load_explicit(w, memory_order_acquire))
+#define STORE(w, v)          (PZ_BETWEEN(), atomic_store_explicit(w, v, memory_order_release))
+#define XOR(w, v)            (PZ_BETWEEN(), atomic_fetch_xor(w, v))
+#define OR(w, v)             (PZ_BETWEEN(), atomic_fetch_or(w, v))
+#define AND(w, v)            (PZ_BETWEEN(), atomic_fetch_and(w, v))
+#define ADD(w, v)            (PZ_BETWEEN(), atomic_fetch_add(w, v))
 #define EXCHANGE(w, seen, v) (PZ_BETWEEN(), atomic_compare_exchange_strong(w, seen, v))
 
 static int is_there(const pz *p, uint64_t at) { return at >= LINE && at < p->places; }
@@ -55,7 +56,7 @@ static uint32_t requeue(const pz *p, const struct pz_access *x, uint64_t *value)
     long n = futex(&p->words[x->at], FUTEX_CMP_REQUEUE, x->wakes, x->most, &p->words[x->b], (uint32_t)x->a);
     if (n < 0)
         return errno == EAGAIN ? PZ_AGAIN : PZ_FAULT;
-    *value = (uint64_t)n;       /* all were moved, as this program's requeues wake nobody */
+    *value = (uint64_t)n; /* all were moved, as this program's requeues wake nobody */
     return PZ_COUNTS;
 }
 
@@ -89,7 +90,8 @@ uint32_t pz_make(pz *p, const struct pz_access *x, uint64_t *value)
         return wake(p, x, value);
     case PZ_CMP_REQUEUE:
         return requeue(p, x, value);
-    case PZ_TRIM:               /* needs the kernel's bucket lock, so is declined: WAITERS stays, and the sleepers' bits make that cheap */
+    case PZ_TRIM: /* needs the kernel's bucket lock, so is declined: WAITERS stays, and the sleepers' bits make that
+                     cheap */
         *value = 0;
         return PZ_TRIMMED;
     default:

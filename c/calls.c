@@ -15,7 +15,7 @@ static int number_of(uint32_t reply)
     switch (reply) {
     case PZ_X_NOMEM:
         return ENOMEM;
-    case PZ_X_RACED:            /* lost four races: others are at it */
+    case PZ_X_RACED: /* lost four races: others are at it */
         return EBUSY;
     case PZ_X_HELD:
         return EAGAIN;
@@ -53,7 +53,8 @@ static void tell(unsigned t, const struct pz_call *call, const struct pz_access 
 }
 
 /* Goes on with an answer until the call has returned. Out of line: it is the slow path. */
-static __attribute__((noinline)) uint32_t run_on(pz *p, unsigned t, struct pz_call *call, uint32_t answer, uint64_t value)
+static __attribute__((noinline)) uint32_t run_on(pz *p, unsigned t, struct pz_call *call, uint32_t answer,
+                                                 uint64_t value)
 {
     struct pz_access x;
     uint32_t state;
@@ -90,7 +91,8 @@ static struct pz_call call_of(unsigned t, uint64_t cell)
     return (struct pz_call){.head = head_place(t), .entry = cell + 1, .cell = cell, .thread = (uint8_t)t};
 }
 
-/* ---- By plan. The thread's own words are stored by it alone; what it loads of them may have been spoiled, so nothing is stored where it doesn't lie in the file. */
+/* ---- By plan. The thread's own words are stored by it alone; what it loads of them may have been spoiled, so nothing
+ * is stored where it doesn't lie in the file. */
 
 static void store(pz *p, const struct pz_plan *plan, unsigned i)
 {
@@ -108,12 +110,13 @@ static uint32_t planned_lock(pz *p, unsigned t, uint64_t cell, unsigned operatio
     uint64_t seen = atomic_load_explicit(w, memory_order_acquire), found = seen, first = own(p, head_place(t));
     if (!is_entry(p, first) || !pz_plan_lock(&plan, (uint8_t)t, head_place(t), cell + 1, seen, first))
         return NO_PLAN;
-    store(p, &plan, 0);                                 /* the pending entry, before the cell is taken */
+    store(p, &plan, 0); /* the pending entry, before the cell is taken */
     PZ_BETWEEN();
     if (!atomic_compare_exchange_strong(w, &found, plan.operand)) {
         struct pz_call call = call_of(t, cell);
         call.program = (uint8_t)operation;
-        call.phase.lock = (struct pz_phase){.kind = operation == PZ_OP_LOCK ? AT_LOCK_TAKE : AT_TRYLOCK_TAKE, .x = seen};
+        call.phase.lock =
+            (struct pz_phase){.kind = operation == PZ_OP_LOCK ? AT_LOCK_TAKE : AT_TRYLOCK_TAKE, .x = seen};
         return run_on(p, t, &call, PZ_CHANGED, found);
     }
     for (unsigned i = 1; i < plan.stores; i++)
@@ -126,13 +129,15 @@ static uint32_t planned_unlock(pz *p, unsigned t, uint64_t cell)
     struct pz_plan plan;
     word *w = &p->words[cell];
     uint64_t seen = atomic_load_explicit(w, memory_order_acquire), next = own(p, cell + 1), previous = own(p, cell + 2);
-    if (!is_entry(p, next) || !is_entry(p, previous) || !pz_plan_unlock(&plan, (uint8_t)t, head_place(t), cell + 1, seen, next, previous))
+    if (!is_entry(p, next) || !is_entry(p, previous) ||
+        !pz_plan_unlock(&plan, (uint8_t)t, head_place(t), cell + 1, seen, next, previous))
         return NO_PLAN;
     for (unsigned i = 0; i < plan.before; i++)
         store(p, &plan, i);
     PZ_BETWEEN();
     uint64_t found = atomic_fetch_xor(w, plan.operand);
-    /* WAITERS alone is no sleeper: where none has a bit, the wake of nobody and the trim that is declined are left out. */
+    /* WAITERS alone is no sleeper: where none has a bit, the wake of nobody and the trim that is declined are left out.
+     */
     if ((found & WAITERS) && atomic_load(sleepers(p, cell))) {
         struct pz_call call = call_of(t, cell);
         call.program = PZ_OP_UNLOCK;
@@ -147,7 +152,7 @@ static uint32_t planned_unlock(pz *p, unsigned t, uint64_t cell)
 static uint32_t planned(pz *p, unsigned t, uint64_t cell, unsigned operation)
 {
     if (PZ_TRACE)
-        return NO_PLAN;                                 /* a trace tells each step */
+        return NO_PLAN; /* a trace tells each step */
     if (operation == PZ_OP_LOCK || operation == PZ_OP_TRYLOCK)
         return planned_lock(p, t, cell, operation);
     return operation == PZ_OP_UNLOCK ? planned_unlock(p, t, cell) : NO_PLAN;
@@ -176,7 +181,7 @@ static int on_mutex(pz *p, unsigned m, unsigned operation)
     uint16_t *held = &pz_self[p->number].held;
     int takes = operation == PZ_OP_LOCK || operation == PZ_OP_TRYLOCK;
     if (takes && *held >= HELD)
-        return EAGAIN;                                  /* the walk goes over so many */
+        return EAGAIN; /* the walk goes over so many */
     uint32_t reply = planned(p, t, cell_place(m), operation);
     if (reply == NO_PLAN) {
         struct pz_call call = call_of(t, cell_place(m));
@@ -193,7 +198,8 @@ int pz_mutex_lock(pz *p, unsigned m) { return on_mutex(p, m, PZ_OP_LOCK); }
 int pz_mutex_unlock(pz *p, unsigned m) { return on_mutex(p, m, PZ_OP_UNLOCK); }
 int pz_mutex_consistent(pz *p, unsigned m) { return on_mutex(p, m, PZ_OP_CONSISTENT); }
 
-/* It is busy only where its owner lives: a dead one is reaped, by this thread or by whoever is at it, and then it is tried again. */
+/* It is busy only where its owner lives: a dead one is reaped, by this thread or by whoever is at it, and then it is
+ * tried again. */
 int pz_mutex_trylock(pz *p, unsigned m)
 {
     for (;;) {
@@ -220,7 +226,7 @@ static int on_condition(pz *p, unsigned c, unsigned operation)
     call.counter = counter_place(p, c);
     uint32_t reply = run(p, &call, operation, (int)c);
     if (operation == PZ_OP_WAIT && reply == ENOTRECOVERABLE)
-        pz_self[p->number].held--;                      /* it was released, and isn't held again */
+        pz_self[p->number].held--; /* it was released, and isn't held again */
     return number_of(reply);
 }
 
@@ -248,7 +254,7 @@ int pz_thread_begin(pz *p)
     if (pz_self[p->number].id)
         return EBUSY;
     pthread_once(&once, make_key);
-    int r = pthread_setspecific(at_end, p);             /* any value: a thread that has one is looked at when it ends */
+    int r = pthread_setspecific(at_end, p); /* any value: a thread that has one is looked at when it ends */
     return r ? r : pz_take_part(p);
 }
 

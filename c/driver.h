@@ -1,4 +1,5 @@
-/* What the rooms of the driver share: the file as it is mapped, its words' places, and the accesses that step programs ask for. */
+/* What the rooms of the driver share: the file as it is mapped, its words' places, and the accesses that step programs
+ * ask for. */
 #ifndef PZ_DRIVER_H
 #define PZ_DRIVER_H
 #include "pazdrig.h"
@@ -39,31 +40,31 @@ enum { WALK_NONE = 2, WALK_ENDED = 3 };
 
 /* Of a thread's id: whether somebody lives by it, and the walk over its list. */
 struct life {
-    pthread_mutex_t token;          /* robust: held while the thread lives, so the kernel tells its death */
-    _Atomic uint32_t tid;           /* who holds it while alive; 0 once dead: then a holder is its reaper */
-    _Atomic uint32_t valid;         /* which record is */
-    struct pz_walk record[2];       /* the walk behind each access: a walker that dies leaves it to the next */
+    pthread_mutex_t token;    /* robust: held while the thread lives, so the kernel tells its death */
+    _Atomic uint32_t tid;     /* who holds it while alive; 0 once dead: then a holder is its reaper */
+    _Atomic uint32_t valid;   /* which record is */
+    struct pz_walk record[2]; /* the walk behind each access: a walker that dies leaves it to the next */
 } __attribute__((aligned(64)));
 
 struct header {
     _Atomic uint64_t magic;
     uint32_t mutexes, conds;
     uint64_t data, size;
-    char boot[40];                  /* the system that the tokens are of */
+    char boot[40]; /* the system that the tokens are of */
 };
 
 /* An open file, of one process. */
 struct pz {
     struct header *header;
-    struct life *life;              /* 1 to THREADS */
+    struct life *life; /* 1 to THREADS */
     word *words;
     uint64_t places;
     unsigned mutexes, conds;
-    unsigned number;                /* its place in `opened`, and in each thread's `pz_self` */
-    _Atomic unsigned users;         /* its opener, and each thread of the process that takes part */
+    unsigned number;        /* its place in `opened`, and in each thread's `pz_self` */
+    _Atomic unsigned users; /* its opener, and each thread of the process that takes part */
     size_t size;
     void *data;
-    uint64_t cell_of[MOST_CONDS];        /* of condition variables: kept here, as the file's words may be spoiled */
+    uint64_t cell_of[MOST_CONDS]; /* of condition variables: kept here, as the file's words may be spoiled */
 };
 
 /* What a thread is in a file: its id, 0 for none, and how many mutexes it holds. */
@@ -73,16 +74,19 @@ struct self {
 };
 extern _Thread_local struct self pz_self[FILES] __attribute__((tls_model("initial-exec")));
 
-/* ---- Places. A line of 8 words for each head, mutex and condition variable: no two of them share a cache line. Links hold places
- * and no addresses, so whoever walks a list needs no translation. */
+/* ---- Places. A line of 8 words for each head, mutex and condition variable: no two of them share a cache line. Links
+ * hold places and no addresses, so whoever walks a list needs no translation. */
 static inline uint64_t head_place(unsigned t) { return LINE * (uint64_t)t; }
 static inline uint64_t cell_place(unsigned m) { return LINE * (uint64_t)(1 + THREADS + m); }
-static inline uint64_t counter_place(const pz *p, unsigned c) { return LINE * (uint64_t)(1 + THREADS + p->mutexes + c); }
+static inline uint64_t counter_place(const pz *p, unsigned c)
+{
+    return LINE * (uint64_t)(1 + THREADS + p->mutexes + c);
+}
 static inline int is_counter(const pz *p, uint64_t at) { return at >= counter_place(p, 0); }
 static inline unsigned mutex_at(uint64_t cell) { return (unsigned)(cell / LINE) - 1 - THREADS; }
 
-/* Word 3 of a line: the threads that may sleep on its first word, a bit each. The kernel's queue has no others: a bit is set before
- * the sleep and cleared behind it. So a wake of nobody costs no system call. */
+/* Word 3 of a line: the threads that may sleep on its first word, a bit each. The kernel's queue has no others: a bit
+ * is set before the sleep and cleared behind it. So a wake of nobody costs no system call. */
 static inline word *sleepers(const pz *p, uint64_t at) { return &p->words[(at | (LINE - 1)) - 4]; }
 static inline uint64_t bit_of(unsigned t) { return 1ull << (t - 1); }
 static inline uint32_t owner_of(uint64_t cell) { return (uint32_t)cell & 0x3fffffff; }

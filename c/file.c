@@ -10,7 +10,8 @@
 #include <sys/stat.h>
 #include <unistd.h>
 
-/* The first word of a file: while it is made, and once it is whole. One of another's program has neither, and is left alone. */
+/* The first word of a file: while it is made, and once it is whole. One of another's program has neither, and is left
+ * alone. */
 static const uint64_t MAKING = 0x30676972647a6170ull, WHOLE = 0x31676972647a6170ull;
 
 /* What an opener asks for, and where it stands in the file, in bytes. */
@@ -40,7 +41,8 @@ static int is_asked_well(const struct asked *a)
 
 static struct layout layout_of(const struct asked *a)
 {
-    struct layout l = {.places = LINE * (uint64_t)(1 + THREADS + a->mutexes + a->conds), .life = up(sizeof(struct header), 64)};
+    struct layout l = {.places = LINE * (uint64_t)(1 + THREADS + a->mutexes + a->conds),
+                       .life = up(sizeof(struct header), 64)};
     size_t page = (size_t)sysconf(_SC_PAGESIZE);
     l.words = l.life + (THREADS + 1) * sizeof(struct life);
     l.data = up(l.words + l.places * sizeof(word), 64);
@@ -62,7 +64,8 @@ static void boot_id(char id[40])
 #endif
 }
 
-/* ---- Making it, with the file's lock in hand. A maker that is killed leaves MAKING, and the next opener makes it anew. */
+/* ---- Making it, with the file's lock in hand. A maker that is killed leaves MAKING, and the next opener makes it
+ * anew. */
 
 /* Room for all of it, so that no store meets a full disk. */
 static int make_room(int fd, size_t size)
@@ -102,7 +105,10 @@ static void make_tokens(pz *p)
     pthread_mutexattr_destroy(&a);
 }
 
-static uint64_t cell_asked(const struct asked *a, unsigned c) { return cell_place(a->mutex_of ? a->mutex_of[c] : c % a->mutexes); }
+static uint64_t cell_asked(const struct asked *a, unsigned c)
+{
+    return cell_place(a->mutex_of ? a->mutex_of[c] : c % a->mutexes);
+}
 
 static void make(pz *p, const struct asked *a)
 {
@@ -249,13 +255,15 @@ static int open_then_close(const char *path, int flags, mode_t mode, const struc
     return r;
 }
 
-int pz_open(const char *path, mode_t mode, unsigned mutexes, unsigned conds, const uint16_t *mutex_of, size_t data, pz **out)
+int pz_open(const char *path, mode_t mode, unsigned mutexes, unsigned conds, const uint16_t *mutex_of, size_t data,
+            pz **out)
 {
     struct asked a = {mutexes, conds, mutex_of, data};
     return open_then_close(path, O_CREAT, mode, &a, out);
 }
 
-/* By a description of its own, since the file's lock is one's of a description: a child that shares the caller's would not be kept out. */
+/* By a description of its own, since the file's lock is one's of a description: a child that shares the caller's would
+ * not be kept out. */
 int pz_open_fd(int fd, unsigned mutexes, unsigned conds, const uint16_t *mutex_of, size_t data, pz **out)
 {
     struct asked a = {mutexes, conds, mutex_of, data};

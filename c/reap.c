@@ -1,5 +1,5 @@
-/* Lives and deaths. An id's token is a robust mutex that its thread holds as long as it lives: the kernel marks it at any death, and a
- * trylock of it names one reaper, which walks the dead thread's list as the proved walk says. */
+/* Lives and deaths. An id's token is a robust mutex that its thread holds as long as it lives: the kernel marks it at
+ * any death, and a trylock of it names one reaper, which walks the dead thread's list as the proved walk says. */
 #include "driver.h"
 #include <errno.h>
 #include <linux/futex.h>
@@ -9,10 +9,12 @@
 
 _Thread_local struct self pz_self[FILES];
 
-/* The futex word of the C library's robust mutex, its first: TID of the holder, FUTEX_WAITERS, FUTEX_OWNER_DIED (pthread_mutex_t of the GNU C library). */
+/* The futex word of the C library's robust mutex, its first: TID of the holder, FUTEX_WAITERS, FUTEX_OWNER_DIED
+ * (pthread_mutex_t of the GNU C library). */
 uint32_t *pz_token_word(pz *p, unsigned t) { return (uint32_t *)&p->life[t].token; }
 
-/* Whether its thread lives; or died, and somebody is to walk, or walks already; or the id is free. While a reaper holds the token its TID isn't the one kept. */
+/* Whether its thread lives; or died, and somebody is to walk, or walks already; or the id is free. While a reaper holds
+ * the token its TID isn't the one kept. */
 enum fate pz_fate(pz *p, unsigned t)
 {
     uint32_t token = __atomic_load_n(pz_token_word(p, t), __ATOMIC_SEQ_CST);
@@ -23,7 +25,8 @@ enum fate pz_fate(pz *p, unsigned t)
     return (token & FUTEX_TID_MASK) == atomic_load(&p->life[t].tid) ? LIVES : DYING;
 }
 
-/* One access of a walk, and the record of it. The first access of a walk that was kept may have been made: at a mark the word shows it. */
+/* One access of a walk, and the record of it. The first access of a walk that was kept may have been made: at a mark
+ * the word shows it. */
 static uint32_t walk_once(pz *p, struct pz_walk *w, struct pz_access *x, int kept)
 {
     uint64_t value = 0;
@@ -36,7 +39,8 @@ static uint32_t walk_once(pz *p, struct pz_walk *w, struct pz_access *x, int kep
     return pz_walk_step(w, x, answer, value);
 }
 
-/* Goes on with the walk over the list of a thread that died, from where its last walker was, to the end. It never begins anew: a marked entry may be on another's list by then. */
+/* Goes on with the walk over the list of a thread that died, from where its last walker was, to the end. It never
+ * begins anew: a marked entry may be on another's list by then. */
 void pz_walk_on(pz *p, unsigned t)
 {
     struct life *life = &p->life[t];
@@ -53,7 +57,7 @@ void pz_walk_on(pz *p, unsigned t)
         pz_trace_lock();
         state = walk_once(p, &w, &x, kept);
         kept = 0;
-        valid = valid == 0;                     /* into the other record, which is valid once it is whole */
+        valid = valid == 0; /* into the other record, which is valid once it is whole */
         life->record[valid] = w;
         atomic_store(&life->valid, valid);
         pz_trace_unlock();
@@ -91,7 +95,7 @@ enum fate pz_reap_one(pz *p, unsigned t)
     if (r == EOWNERDEAD)
         bury(p, t);
     else if (r)
-        return LIVES;                           /* a token that was spoiled: nothing can be said of it */
+        return LIVES; /* a token that was spoiled: nothing can be said of it */
     pthread_mutex_unlock(&p->life[t].token);
     return GONE;
 }
@@ -105,12 +109,13 @@ int pz_reap(pz *p)
     return n;
 }
 
-/* The list is emptied first, and then the walk is none: who is killed between the two leaves a walk that has ended, and nothing to walk over. */
+/* The list is emptied first, and then the walk is none: who is killed between the two leaves a walk that has ended, and
+ * nothing to walk over. */
 static void begin_life(pz *p, unsigned t)
 {
     uint64_t head = head_place(t);
     atomic_store(&p->words[head], head);
-    atomic_store(&p->words[head + 1], UINT64_MAX);      /* from an entry back to its cell */
+    atomic_store(&p->words[head + 1], UINT64_MAX); /* from an entry back to its cell */
     atomic_store(&p->words[head + 2], 0);
     atomic_store(&p->life[t].valid, WALK_NONE);
     atomic_store(&p->life[t].tid, (uint32_t)syscall(SYS_gettid));
@@ -121,7 +126,7 @@ int pz_take_part(pz *p)
 {
     unsigned first = 1;
 #if PZ_TRACE
-    first = pz_trace_fresh_id();                /* a trace uses no id again */
+    first = pz_trace_fresh_id(); /* a trace uses no id again */
 #endif
     for (unsigned t = first; t <= THREADS; t++) {
         int r = pthread_mutex_trylock(&p->life[t].token);

@@ -1,4 +1,5 @@
-/* A sleep on a word: it ends when the thread is woken, when the word differs, and when the mutex's owner turns out to be dead, since then nobody but this thread may be there to reap it. */
+/* A sleep on a word: it ends when the thread is woken, when the word differs, and when the mutex's owner turns out to
+ * be dead, since then nobody but this thread may be there to reap it. */
 #include "driver.h"
 #include <errno.h>
 #include <linux/futex.h>
@@ -17,14 +18,15 @@ struct sleeper {
     unsigned thread;
     uint64_t at;
     uint32_t expected;
-    uint64_t before;            /* who slept there already: they are woken first, and one that is killed then hands nothing on */
+    uint64_t before; /* who slept there already: they are woken first, and one that is killed then hands nothing on */
     long look_ms;
 };
 
 /* An older kernel has no futex_waitv: then a sleeper looks now and then. */
 static _Atomic int no_waitv;
 
-/* How long it pays to look before a sleep: half as long after each time that it didn't, twice as long after each that it did, and now and then as long as may be. */
+/* How long it pays to look before a sleep: half as long after each time that it didn't, twice as long after each that
+ * it did, and now and then as long as may be. */
 static _Thread_local struct {
     int looks;
     unsigned sleeps;
@@ -46,10 +48,16 @@ static int changes_soon(word *w, uint32_t expected)
 }
 
 static uint32_t low_half(const struct sleeper *s) { return (uint32_t)atomic_load(&s->p->words[s->at]); }
-static uint32_t unless_changed(const struct sleeper *s, uint32_t answer) { return low_half(s) == s->expected ? answer : PZ_AGAIN; }
+static uint32_t unless_changed(const struct sleeper *s, uint32_t answer)
+{
+    return low_half(s) == s->expected ? answer : PZ_AGAIN;
+}
 
 /* The kernel has marked its token. */
-static int has_died(pz *p, unsigned t) { return (__atomic_load_n(pz_token_word(p, t), __ATOMIC_SEQ_CST) & FUTEX_OWNER_DIED) != 0; }
+static int has_died(pz *p, unsigned t)
+{
+    return (__atomic_load_n(pz_token_word(p, t), __ATOMIC_SEQ_CST) & FUTEX_OWNER_DIED) != 0;
+}
 
 /* What a sleeper waits for: the word first, then the ends of threads. */
 struct watched {
@@ -58,7 +66,8 @@ struct watched {
     unsigned n;
 };
 
-/* Waits for the end of a thread too: FUTEX_WAITERS in its token has the kernel, or its unlock, wake whoever watches. 0: it died. */
+/* Waits for the end of a thread too: FUTEX_WAITERS in its token has the kernel, or its unlock, wake whoever watches. 0:
+ * it died. */
 static int watch(pz *p, unsigned t, struct watched *all)
 {
     uint32_t *token = pz_token_word(p, t), seen = __atomic_load_n(token, __ATOMIC_SEQ_CST);
@@ -66,7 +75,7 @@ static int watch(pz *p, unsigned t, struct watched *all)
         if (seen & FUTEX_OWNER_DIED)
             return 0;
         if (!(seen & FUTEX_TID_MASK))
-            return 1;                   /* nobody lives by it: nobody to watch */
+            return 1; /* nobody lives by it: nobody to watch */
     } while (!(seen & FUTEX_WAITERS) &&
              !__atomic_compare_exchange_n(token, &seen, seen | FUTEX_WAITERS, 0, __ATOMIC_SEQ_CST, __ATOMIC_SEQ_CST));
     all->v[all->n] = (struct futex_waitv){.val = seen | FUTEX_WAITERS, .uaddr = (uintptr_t)token, .flags = FUTEX_32};
@@ -74,7 +83,8 @@ static int watch(pz *p, unsigned t, struct watched *all)
     return 1;
 }
 
-/* The word, its owner's token, and those of some who slept there before. The id of one that died; 0: all are watched. */
+/* The word, its owner's token, and those of some who slept there before. The id of one that died; 0: all are watched.
+ */
 static unsigned watch_all(const struct sleeper *s, unsigned owner, struct watched *all)
 {
     all->v[0] = (struct futex_waitv){.val = s->expected, .uaddr = (uintptr_t)&s->p->words[s->at], .flags = FUTEX_32};
@@ -105,7 +115,7 @@ static uint32_t ended(const struct sleeper *s, unsigned owner, int error)
     switch (error) {
     case 0:
         return PZ_WOKEN;
-    case EAGAIN:                        /* the word differs, or a token does */
+    case EAGAIN: /* the word differs, or a token does */
         return unless_changed(s, PZ_WOKEN);
     case ETIMEDOUT:
         if (owner)
@@ -154,7 +164,7 @@ static uint32_t sleep_once(struct sleeper *s)
 {
     unsigned owner = is_counter(s->p, s->at) ? 0 : owner_of(s->expected);
     if (owner > THREADS || owner == s->thread)
-        owner = 0;                      /* a word that was spoiled */
+        owner = 0; /* a word that was spoiled */
     return owner && !atomic_load(&no_waitv) ? wait_watching(s, owner) : wait_looking(s, owner);
 }
 
@@ -180,7 +190,7 @@ uint32_t pz_sleep(pz *p, unsigned t, uint64_t at, uint32_t expected)
     if (!counter)
         see_to_owner(&s);
     atomic_fetch_and(sleepers(p, at), ~bit_of(t));
-    if (counter)                        /* a broadcast may have moved it to the mutex */
+    if (counter) /* a broadcast may have moved it to the mutex */
         atomic_fetch_and(sleepers(p, p->cell_of[(at - counter_place(p, 0)) / LINE]), ~bit_of(t));
     return answer;
 }

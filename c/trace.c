@@ -1,5 +1,6 @@
-/* What the driver does, told as a trace that `rfx check` judges (docs/FORMATS.md): only where it is built with PZ_TRACE=1. An access and the lines that tell of it are made under one
- * lock, and whoever kills a thread takes that lock too: so nobody dies between the two. */
+/* What the driver does, told as a trace that `rfx check` judges (docs/FORMATS.md): only where it is built with
+ * PZ_TRACE=1. An access and the lines that tell of it are made under one lock, and whoever kills a thread takes that
+ * lock too: so nobody dies between the two. */
 #include "trace.h"
 #include <pthread.h>
 #include <signal.h>
@@ -12,21 +13,36 @@ enum { ROOM = 64 << 20 };
 
 struct trace {
     pthread_mutex_t lock;
-    unsigned threads;                   /* ids that were given: a trace uses none again */
+    unsigned threads; /* ids that were given: a trace uses none again */
     long event;
     size_t length;
     char text[ROOM];
 };
 static struct trace *trace;
 
-static const char *const operations[] = {"lock", "trylock", "unlock", "consistent", "wait", "signal", "broadcast", "death"};
+static const char *const operations[] = {"lock", "trylock", "unlock",    "consistent",
+                                         "wait", "signal",  "broadcast", "death"};
 
 static const char *word_of(unsigned reply)
 {
-    static const struct { unsigned number; const char *word; } replies[] = {
-        {0, "OK"}, {1, "EPERM"}, {3, "ESRCH"}, {11, "EAGAIN"}, {14, "EFAULT"}, {16, "EBUSY"}, {22, "EINVAL"}, {35, "EDEADLK"},
-        {130, "EOWNERDEAD"}, {131, "ENOTRECOVERABLE"}, {PZ_X_NOMEM, "X_NOMEM"}, {PZ_X_RACED, "X_RACED"}, {PZ_X_HELD, "X_HELD"},
-        {PZ_X_FULL, "X_FULL"}, {PZ_X_STATE, "X_STATE"}};
+    static const struct {
+        unsigned number;
+        const char *word;
+    } replies[] = {{0, "OK"},
+                   {1, "EPERM"},
+                   {3, "ESRCH"},
+                   {11, "EAGAIN"},
+                   {14, "EFAULT"},
+                   {16, "EBUSY"},
+                   {22, "EINVAL"},
+                   {35, "EDEADLK"},
+                   {130, "EOWNERDEAD"},
+                   {131, "ENOTRECOVERABLE"},
+                   {PZ_X_NOMEM, "X_NOMEM"},
+                   {PZ_X_RACED, "X_RACED"},
+                   {PZ_X_HELD, "X_HELD"},
+                   {PZ_X_FULL, "X_FULL"},
+                   {PZ_X_STATE, "X_STATE"}};
     for (size_t i = 0; i < sizeof replies / sizeof *replies; i++)
         if (replies[i].number == reply)
             return replies[i].word;
@@ -90,7 +106,10 @@ void pz_trace_begin(unsigned t, unsigned operation, unsigned m, int c)
         tell("begin t%u %s c%d m%u\n", t, operations[operation], c, m);
 }
 
-void pz_trace_point(unsigned t, unsigned operation, unsigned m, unsigned reply) { tell("point t%u m%u %s %s\n", t, m, operations[operation], word_of(reply)); }
+void pz_trace_point(unsigned t, unsigned operation, unsigned m, unsigned reply)
+{
+    tell("point t%u m%u %s %s\n", t, m, operations[operation], word_of(reply));
+}
 
 void pz_trace_sleep(const pz *p, unsigned t, uint64_t at)
 {

@@ -1,5 +1,6 @@
-/* The accesses of the driver, instruction by instruction: built with a driver that yields before each instruction. Two threads change one word, in every order of their
- * instructions, and neither change may be lost: so a store in place of an exchange, or a load and a store in place of one instruction, is seen. */
+/* The accesses of the driver, instruction by instruction: built with a driver that yields before each instruction. Two
+ * threads change one word, in every order of their instructions, and neither change may be lost: so a store in place of
+ * an exchange, or a load and a store in place of one instruction, is seen. */
 #define PZ_BETWEEN() pz_between()
 static void pz_between(void);
 #include "../access.c"
@@ -24,7 +25,11 @@ static void pz_between(void)
 
 static struct pz file;
 static word words[80 * LINE];
-static struct { struct pz_access access; uint64_t value; uint32_t answer; } of[2];
+static struct {
+    struct pz_access access;
+    uint64_t value;
+    uint32_t answer;
+} of[2];
 
 static void *make_one(void *which)
 {
@@ -90,9 +95,11 @@ int main(void)
     alarm(60);
     file = (struct pz){.words = words, .places = 80 * LINE, .mutexes = 8, .conds = 2};
     struct pz_access take = {.kind = PZ_EXCHANGE, .a = 0, .b = 1}, also = {.kind = PZ_EXCHANGE, .a = 0, .b = 2};
-    struct pz_access release = {.kind = PZ_XOR, .a = 1}, flip = {.kind = PZ_XOR, .a = 2}, waiters = {.kind = PZ_OR, .a = 0x80000000};
+    struct pz_access release = {.kind = PZ_XOR, .a = 1}, flip = {.kind = PZ_XOR, .a = 2},
+                     waiters = {.kind = PZ_OR, .a = 0x80000000};
     struct pz_access declare = {.kind = PZ_AND, .a = ~0x40000000ull}, count = {.kind = PZ_ADD, .a = 1};
-    struct pz_access mark = {.kind = PZ_EXCHANGE, .a = 1, .b = 0x40000000}, waits = {.kind = PZ_EXCHANGE, .a = 1, .b = 0x80000001};
+    struct pz_access mark = {.kind = PZ_EXCHANGE, .a = 1, .b = 0x40000000},
+                     waits = {.kind = PZ_EXCHANGE, .a = 1, .b = 0x80000001};
     one_after_the_other(0, take, also);
     one_after_the_other(1, mark, waits);
     one_after_the_other(1, release, waits);

@@ -1,5 +1,6 @@
-/* Processes that lock, wait, signal and are killed at random. Of each mutex the data says who is inside and is written twice, so a second owner or a
- * lost write is seen; each process has to get on, so a lost wake is. usage: deaths DEATHS PROCESSES THREADS [storm] */
+/* Processes that lock, wait, signal and are killed at random. Of each mutex the data says who is inside and is written
+ * twice, so a second owner or a lost write is seen; each process has to get on, so a lost wake is. usage: deaths DEATHS
+ * PROCESSES THREADS [storm] */
 #include "try.h"
 #include <pthread.h>
 #include <sys/time.h>
@@ -7,14 +8,14 @@
 enum { MUTEXES = 4, CONDS = 2, MOST = 64, QUIET_S = 60 };
 
 struct guarded {
-    _Atomic int inside;                 /* the pid of who is, 0 for nobody */
-    volatile long first, second;        /* the same number, but while somebody is inside */
+    _Atomic int inside;          /* the pid of who is, 0 for nobody */
+    volatile long first, second; /* the same number, but while somebody is inside */
 };
 struct board {
     struct guarded of[MUTEXES];
     _Atomic long told, repaired, locks;
-    _Atomic long got_on[MOST];          /* by process */
-    _Atomic long items[CONDS];          /* what waits wait for: at most a few */
+    _Atomic long got_on[MOST]; /* by process */
+    _Atomic long items[CONDS]; /* what waits wait for: at most a few */
 };
 
 static pz *p;
@@ -93,7 +94,7 @@ static void *work(void *of)
         }
         atomic_fetch_add(&b->got_on[slot], 1);
         atomic_fetch_add(&b->locks, 1);
-        if (slot == 0)                  /* gives to whoever waits, so that nobody waits for good */
+        if (slot == 0) /* gives to whoever waits, so that nobody waits for good */
             for (unsigned c = 0; c < CONDS; c++) {
                 enter(c, pz_mutex_lock(p, c));
                 atomic_store(&b->items[c], 1);
@@ -162,7 +163,8 @@ int main(int argc, char **argv)
     for (int i = 0; i < n; i++)
         kill_and_wait(child[i]);
     pz_reap(p);
-    printf("deaths: %d, %ld times EOWNERDEAD, %ld repairs, %ld rounds\n", deaths, atomic_load(&b->told), atomic_load(&b->repaired), atomic_load(&b->locks));
+    printf("deaths: %d, %ld times EOWNERDEAD, %ld repairs, %ld rounds\n", deaths, atomic_load(&b->told),
+           atomic_load(&b->repaired), atomic_load(&b->locks));
     CHECK(atomic_load(&b->told) > 0);
     pz_close(p);
     unlink(path);

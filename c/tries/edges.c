@@ -1,7 +1,9 @@
-/* Each case of an edge once: who dies, forks, execs, reopens or asks for what isn't there, and what the next one is told. */
+/* Each case of an edge once: who dies, forks, execs, reopens or asks for what isn't there, and what the next one is
+ * told. */
 #include "try.h"
 #include <fcntl.h>
 #include <pthread.h>
+#include <sched.h>
 #include <sys/resource.h>
 #include <sys/stat.h>
 
@@ -367,6 +369,104 @@ static void sixteen_files(void)
     unlink(path);
 }
 
+/* The system was started anew, with the file on disk: no kernel told these deaths. (The driver takes PZ_BOOT for the
+ * boot's id.) */
+static void a_reboot(void)
+{
+    const char *path = a_file("boot");
+    pz *p;
+    unlink(path);
+    setenv("PZ_BOOT", "the first boot", 1);
+    pid_t child = fork();
+    if (!child) {
+        if (pz_open(path, 0600, 2, 0, NULL, 8, &p) || pz_mutex_lock(p, 1))
+            _exit(1);
+        *(long *)pz_data(p) = 42;
+        _exit(0);
+    }
+    int status;
+    CHECK(waitpid(child, &status, 0) == child && status == 0);
+    setenv("PZ_BOOT", "the second boot", 1);
+    SAME(pz_open(path, 0600, 2, 0, NULL, 8, &p), 0);
+    CHECK(*(long *)pz_data(p) == 42);
+    SAME(pz_mutex_lock(p, 0), 0);
+    SAME(pz_mutex_lock(p, 1), EOWNERDEAD);
+    SAME(pz_mutex_consistent(p, 1), 0);
+    SAME(pz_mutex_unlock(p, 1), 0);
+    pz_close(p);
+    unsetenv("PZ_BOOT");
+    unlink(path);
+}
+
+/* An owner in a PID namespace of its own, where it is process 1, dies: a sleeper here is told, and nobody takes the
+ * numbers of the two for one. */
+static void another_namespace(void)
+{
+    pz *p = open_new("namespace", 1, 0);
+    _Atomic int *ready = shared(sizeof *ready);
+    pid_t child = fork();
+    if (!child) {
+        if (unshare(CLONE_NEWPID))
+            _exit(77);
+        if (fork())
+            for (;;)
+                pause();
+        if (pz_mutex_lock(p, 0))
+            _exit(1);
+        atomic_store(ready, 1);
+        while (atomic_load(ready) == 1)
+            rest(100);
+        _exit(0);
+    }
+    int status;
+    while (!atomic_load(ready))
+        if (waitpid(child, &status, WNOHANG) == child) {
+            CHECK(WIFEXITED(status) && WEXITSTATUS(status) == 77);
+            puts("edges: no PID namespace to be had here");
+            return;
+        }
+    SAME(pz_mutex_trylock(p, 0), EBUSY);
+    pid_t sleeper = fork();
+    if (!sleeper)
+        _exit(pz_mutex_lock(p, 0) != EOWNERDEAD);
+    until_asleep(sleeper);
+    kill_and_wait(child); /* the namespace's first process goes on alone */
+    atomic_store(ready, 2);
+    CHECK(waitpid(sleeper, &status, 0) == sleeper && status == 0);
+    pz_close(p);
+}
+
+/* Two reap one dead thread at once, ten times: its mutexes are told once each. */
+static void two_reapers(void)
+{
+    pz *p = open_new("reapers", 64, 0);
+    for (int k = 0; k < 10; k++) {
+        pid_t owner = fork();
+        if (!owner) {
+            for (unsigned m = 0; m < 64; m++)
+                if (pz_mutex_lock(p, m))
+                    _exit(1);
+            for (;;)
+                pause();
+        }
+        while (pz_mutex_trylock(p, 63) == 0)
+            SAME(pz_mutex_unlock(p, 63), 0);
+        kill_and_wait(owner);
+        pid_t other = fork();
+        if (!other)
+            _exit(pz_reap(p) > 1);
+        CHECK(pz_reap(p) <= 1);
+        int status;
+        CHECK(waitpid(other, &status, 0) == other && status == 0);
+        for (unsigned m = 0; m < 64; m++) {
+            SAME(pz_mutex_trylock(p, m), EOWNERDEAD);
+            SAME(pz_mutex_consistent(p, m), 0);
+            SAME(pz_mutex_unlock(p, m), 0);
+        }
+    }
+    pz_close(p);
+}
+
 int main(void)
 {
     alarm(120);
@@ -387,6 +487,9 @@ int main(void)
     makers_are_killed();
     closed_beside_calls();
     sixteen_files();
+    a_reboot();
+    another_namespace();
+    two_reapers();
     puts("edges: each told what it should be");
     return 0;
 }

@@ -1,5 +1,5 @@
-/* Stray writes into the words while calls run: a call may then be refused (EFAULT, EINVAL, ..) or sleep for good, but it writes nowhere outside of the words and their records, and nobody crashes.
- * usage: fuzz ROUNDS */
+/* Stray writes into the words while calls run: a call may then be refused (EFAULT, EINVAL, ..) or sleep for good, but
+ * it writes nowhere outside of the words and their records, and nobody crashes. usage: fuzz ROUNDS */
 #include "driver.h"
 #include "try.h"
 #include <fcntl.h>
@@ -36,7 +36,14 @@ static void spoil(pz *p, unsigned *random)
 {
     uint64_t at = LINE + (uint64_t)rand_r(random) % (p->places - LINE);
     uint64_t any = (uint64_t)rand_r(random) << 33 ^ (uint64_t)rand_r(random) << 11 ^ (uint64_t)rand_r(random);
-    uint64_t values[] = {0, any % 70, any % 70 | 0x40000000, any % 70 | 0x80000000, any % p->places, any, UINT64_MAX, p->words[LINE + any % (p->places - LINE)]};
+    uint64_t values[] = {0,
+                         any % 70,
+                         any % 70 | 0x40000000,
+                         any % 70 | 0x80000000,
+                         any % p->places,
+                         any,
+                         UINT64_MAX,
+                         p->words[LINE + any % (p->places - LINE)]};
     atomic_store(&p->words[at], values[rand_r(random) % 8]);
 }
 

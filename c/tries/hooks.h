@@ -1,4 +1,5 @@
-/* What tries have the driver do between its instructions and behind each access of a walk: built with `-include tries/hooks.h`. */
+/* What tries have the driver do between its instructions and behind each access of a walk: built with `-include
+ * tries/hooks.h`. */
 #ifndef PZ_HOOKS_H
 #define PZ_HOOKS_H
 void pz_between(void);

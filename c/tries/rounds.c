@@ -1,5 +1,6 @@
-/* Rounds that stop for good where a wake is lost: built with a driver that looks so seldom by itself that it would be seen. Two play ping-pong by signals,
- * three by broadcasts, and some contend for one mutex. usage: rounds TURNS CONTENDED */
+/* Rounds that stop for good where a wake is lost: built with a driver that looks so seldom by itself that it would be
+ * seen. Two play ping-pong by signals, three by broadcasts, and some contend for one mutex. usage: rounds TURNS
+ * CONTENDED */
 #include "try.h"
 
 static pz *p;
@@ -56,10 +57,12 @@ int main(int argc, char **argv)
     while (n--) {
         CHECK(waitpid(child[n], &status, 0) == child[n]);
         if (status)
-            fail(__FILE__, __LINE__, WIFSIGNALED(status) ? "a round stopped for good: a wake was lost" : "a round failed");
+            fail(__FILE__, __LINE__,
+                 WIFSIGNALED(status) ? "a round stopped for good: a wake was lost" : "a round failed");
     }
     CHECK(turn[0] == turns && turn[1] == turns && turn[2] == 4 * contended);
-    printf("rounds: %ld turns by signals and by broadcasts, 4 times %ld contended: no wake was lost\n", turns, contended);
+    printf("rounds: %ld turns by signals and by broadcasts, 4 times %ld contended: no wake was lost\n", turns,
+           contended);
     pz_close(p);
     unlink(path);
     return 0;

@@ -1,5 +1,6 @@
-/* Locks and unlocks beside the C library's robust, process-shared, error-checking mutex, in one run and in turn: alone, by 2 and by 4 processes; and the time from a SIGKILL until
- * a sleeper has EOWNERDEAD. Prints a row a case: ours, the C library's, the quotient, in ns or us, the middle of RUNS. usage: speed RUNS */
+/* Locks and unlocks beside the C library's robust, process-shared, error-checking mutex, in one run and in turn: alone,
+ * by 2 and by 4 processes; and the time from a SIGKILL until a sleeper has EOWNERDEAD. Prints a row a case: ours, the C
+ * library's, the quotient, in ns or us, the middle of RUNS. usage: speed RUNS */
 #include "try.h"
 #include <pthread.h>
 
@@ -9,7 +10,7 @@ struct both {
     pthread_mutex_t libc;
     long padding[64];
     _Atomic int go, ready;
-    _Atomic long at;                    /* when the sleeper had it */
+    _Atomic long at; /* when the sleeper had it */
     volatile long counter[8];
 };
 static pz *p;

@@ -1,20 +1,23 @@
-/* A thread dies before each of its instructions, one run for each, in calls of which some go by a plan and some by their steps; and its reaper dies behind each access of its walk, and before
- * the record of it. Whatever the thread held is told to the next one as such, and whatever it didn't isn't; and nobody is left asleep. */
+/* A thread dies before each of its instructions, one run for each, in calls of which some go by a plan and some by
+ * their steps; and its reaper dies behind each access of its walk, and before the record of it. Whatever the thread
+ * held is told to the next one as such, and whatever it didn't isn't; and nobody is left asleep. */
 #include "try.h"
 
 enum { MUTEXES = 3, FREE = 0, UNSURE = 1, HELD_BY_IT = 2 };
 
 struct seen {
-    _Atomic int state[MUTEXES];         /* what the owner had, as it knew */
+    _Atomic int state[MUTEXES]; /* what the owner had, as it knew */
     _Atomic int done, walked;
+    _Atomic int woken_dies; /* whoever is marked dies once it is woken */
 };
 static pz *p;
 static struct seen *seen;
-static long dies_before, dies_in_walk;  /* counts down to 0; -1 for never */
+static long dies_before, dies_in_walk; /* counts down to 0; -1 for never */
+static int is_marked;
 
 void pz_between(void)
 {
-    if (dies_before > 0 && --dies_before == 0)
+    if ((dies_before > 0 && --dies_before == 0) || (is_marked && atomic_load(&seen->woken_dies)))
         kill(getpid(), SIGKILL);
 }
 
@@ -39,7 +42,8 @@ static void give(unsigned m)
     atomic_store(&seen->state[m], FREE);
 }
 
-/* Three mutexes are on the list at once; one is taken from the middle of it; a condition variable's mutex is released by a wait. */
+/* Three mutexes are on the list at once; one is taken from the middle of it; a condition variable's mutex is released
+ * by a wait. */
 static void calls(int waits)
 {
     take(0, 0);
@@ -119,10 +123,29 @@ static int one(long before, int waits, int with_sleeper, long in_walk)
     }
     if (sleeper) {
         CHECK(waitpid(sleeper, &status, 0) == sleeper && status == 0);
-        atomic_store(&seen->state[0], UNSURE);      /* the sleeper was told of it */
+        atomic_store(&seen->state[0], UNSURE); /* the sleeper was told of it */
     }
     look();
     return atomic_load(&seen->done);
+}
+
+/* The first of two sleepers is woken, and dies before it takes the mutex: the wake was its own, and the second is told
+ * all the same. */
+static void woken_and_dead(void)
+{
+    int status;
+    atomic_store(&seen->woken_dies, 0);
+    SAME(pz_mutex_lock(p, 0), 0);
+    is_marked = 1;
+    pid_t first = a_sleeper();
+    is_marked = 0;
+    until_asleep(first);
+    pid_t second = a_sleeper();
+    until_asleep(second);
+    atomic_store(&seen->woken_dies, 1);
+    SAME(pz_mutex_unlock(p, 0), 0);
+    CHECK(waitpid(first, &status, 0) == first && WIFSIGNALED(status));
+    CHECK(waitpid(second, &status, 0) == second && status == 0);
 }
 
 int main(void)
@@ -137,13 +160,14 @@ int main(void)
     for (long n = 1; n <= instructions; n += 3)
         one(n, 0, 1, 0);
     one(-1, 1, 0, 0);
-    for (long n = 1; n <= instructions; n++)        /* what the walk finds differs from row to row */
+    woken_and_dead();
+    for (long n = 1; n <= instructions; n++) /* what the walk finds differs from row to row */
         for (long k = 1;; k++) {
             int before = atomic_load(&seen->walked);
             one(n, 0, 0, k);
             walks++;
             if (atomic_load(&seen->walked) - before < k)
-                break;                              /* it had ended before */
+                break; /* it had ended before */
         }
     printf("steps: dead before each of %ld instructions, and %ld times amid the walk\n", instructions, walks);
     CHECK(instructions >= 50 && walks > 500);

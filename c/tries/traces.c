@@ -1,11 +1,12 @@
-/* A trace of processes that lock, wait and are killed, for `rfx check`. Each thread has an id of its own, as traces use none again. usage: traces SEED >TRACE */
+/* A trace of processes that lock, wait and are killed, for `rfx check`. Each thread has an id of its own, as traces use
+ * none again. usage: traces SEED >TRACE */
 #include "trace.h"
 #include "try.h"
 
 enum { MUTEXES = 3, CONDS = 1, AT_ONCE = 5, IN_ALL = 40 };
 
 static pz *p;
-static _Atomic unsigned *ids;           /* by child */
+static _Atomic unsigned *ids; /* by child */
 
 static void settle(unsigned m, int r)
 {
@@ -51,7 +52,7 @@ int main(int argc, char **argv)
         int victim = i - AT_ONCE;
         rest(rand() % 1000);
         if (victim < 1)
-            continue;                   /* the first, which never waits, lives on */
+            continue; /* the first, which never waits, lives on */
         pz_trace_kill(child[victim], atomic_load(&ids[victim]));
         CHECK(waitpid(child[victim], NULL, 0) == child[victim]);
     }

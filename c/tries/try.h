@@ -14,7 +14,7 @@
 #include <time.h>
 #include <unistd.h>
 
-#define CHECK(what) ((what) ? (void)0 : fail(__FILE__, __LINE__, #what))
+#define CHECK(what)      ((what) ? (void)0 : fail(__FILE__, __LINE__, #what))
 #define SAME(is, wanted) same(__FILE__, __LINE__, #is, is, wanted)
 
 static inline _Noreturn void fail(const char *file, int line, const char *what)
@@ -27,7 +27,8 @@ static inline void same(const char *file, int line, const char *what, int is, in
 {
     if (is == wanted)
         return;
-    fprintf(stderr, "%s:%d: %s is %d (%s), not %d (%s)\n", file, line, what, is, strerror(is), wanted, strerror(wanted));
+    fprintf(stderr, "%s:%d: %s is %d (%s), not %d (%s)\n", file, line, what, is, strerror(is), wanted,
+            strerror(wanted));
     exit(1);
 }
 

@@ -5,7 +5,7 @@ use Rattle.std.proofs.lemmas.List.{map-append, take_more}
 use Rattle.streams.proofs.Writers.{one_more}
 use Rattle.picture.specs.Pieces.{each, less}
 
-repeat-suc : (n : ℕ) (xs : List ℕ) → repeat (suc n) xs ≡ repeat n xs ++ xs
+pub repeat-suc : (n : ℕ) (xs : List ℕ) → repeat (suc n) xs ≡ repeat n xs ++ xs
 repeat-suc zero xs = append-nil xs
 repeat-suc (suc n) xs = ap (λ l. xs ++ l) (repeat-suc n xs) ∙ sym (append_assoc xs (repeat n xs) xs)
 

@@ -1,3 +1,6 @@
 pub mod Columns
 pub mod Going
 pub mod Own
+pub mod Letters
+pub mod Shown
+pub mod Room

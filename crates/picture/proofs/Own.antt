@@ -20,41 +20,41 @@ use Rattle.picture.specs.Signs.{dash, to_right}
 
 -- ---- columns
 
-columns-append : (a b : List ℕ) → columns (a ++ b) ≡ columns a + columns b
+pub columns-append : (a b : List ℕ) → columns (a ++ b) ≡ columns a + columns b
 columns-append [] b = omega arith
 columns-append (x ∷ a) b = let rest = columns-append a b in omega (arith, rest)
 
-columns-repeat : (n : ℕ) (a : List ℕ) → columns a ≡ 1 → columns (repeat n a) ≡ n
+pub columns-repeat : (n : ℕ) (a : List ℕ) → columns a ≡ 1 → columns (repeat n a) ≡ n
 columns-repeat zero a one = refl
 columns-repeat (suc n) a one =
     let both = columns-append a (repeat n a) in
     let rest = columns-repeat n a one in
     omega (arith, both, rest, one)
 
-columns-stays : (l : Lane) → columns (stays l) ≡ 1
+pub columns-stays : (l : Lane) → columns (stays l) ≡ 1
 columns-stays Idle = refl
 columns-stays (Calling op) = refl
 columns-stays (Asleep op) = refl
 columns-stays Dying = refl
 columns-stays Reaped = refl
 
-width_some : (threads : ℕ) → 1 ≤ width threads
+pub width_some : (threads : ℕ) → 1 ≤ width threads
 width_some threads = grind (arith, nat_tests)
 
 -- ---- what stands in the lanes before the line's own
 
 -- a sign, and blanks or dashes up to the next lane
-sign_wide : (threads n : ℕ) (s a : List ℕ) → columns s ≡ 1 → columns a ≡ 1 → n ≡ width threads - 1 → columns (s ++ repeat n a) ≡ width threads
+pub sign_wide : (threads n : ℕ) (s a : List ℕ) → columns s ≡ 1 → columns a ≡ 1 → n ≡ width threads - 1 → columns (s ++ repeat n a) ≡ width threads
 sign_wide threads n s a one single is =
     let both = columns-append s (repeat n a) in
     let rest = columns-repeat n a single in
     let some = width_some threads in
     omega (arith, both, rest, one, is, some)
 
-gap_before : (threads u : ℕ) → u < threads → gap threads u ≡ width threads - 1
+pub gap_before : (threads u : ℕ) → u < threads → gap threads u ≡ width threads - 1
 gap_before threads u lt = grind (arith, nat_tests)
 
-stays_wide : (threads u : ℕ) (l : Lane) → u < threads → columns (stays_so threads l u) ≡ width threads
+pub stays_wide : (threads u : ℕ) (l : Lane) → u < threads → columns (stays_so threads l u) ≡ width threads
 stays_wide threads u l lt = sign_wide threads (gap threads u) (stays l) (codes " ") (columns-stays l) refl (gap_before threads u lt)
 
 middle_false : (a b d : Bool) → (a && b && false && d) ≡ false
@@ -87,21 +87,21 @@ module _ (threads t : ℕ) (s : List ℕ) (ws : List (List ℕ)) (shown : Lane) 
   in_arrow_wide None = beside_wide None
   in_arrow_wide (Some a) = arrow_wide a (u == a) (nat_lt (min t a) u && nat_lt u (max t a)) refl
 
-  cell_wide : (from : Option ℕ) → columns (cell threads t from s ws shown u) ≡ width threads
+  pub cell_wide : (from : Option ℕ) → columns (cell threads t from s ws shown u) ≡ width threads
   cell_wide from =
       let other : (u == t) ≡ false = grind (arith, nat_tests) in
       rw other (in_arrow_wide from)
 
 -- ---- all lanes
 
-each_wide : (f : ℕ → List ℕ) (w n : ℕ) → ((i : ℕ) → i < n → columns (f i) ≡ w) → columns (each f n) ≡ n * w
+pub each_wide : (f : ℕ → List ℕ) (w n : ℕ) → ((i : ℕ) → i < n → columns (f i) ≡ w) → columns (each f n) ≡ n * w
 each_wide f w zero wide = omega arith
 each_wide f w (suc n) wide =
     let so_far = each_wide f w n (λ i lt. wide i (omega (arith, lt))) in
     let one = wide n (omega arith) in
     columns-append (each f n) (f n) ∙ grind (arith, so_far, one, suc-mul n w)
 
-each_at : (f : ℕ → List ℕ) (n m : ℕ) → m < n → (rest : List ℕ) × (each f n ≡ each f m ++ (f m ++ rest))
+pub each_at : (f : ℕ → List ℕ) (n m : ℕ) → m < n → (rest : List ℕ) × (each f n ≡ each f m ++ (f m ++ rest))
 each_at f zero m lt = absurd (omega (arith, lt))
 each_at f (suc n) m lt = elim (cases_lt m n) [
   | inl less ↦
@@ -114,7 +114,7 @@ each_at f (suc n) m lt = elim (cases_lt m n) [
 
 -- ---- the line's own lane
 
-own_mark : (threads t : ℕ) (from : Option ℕ) (s : List ℕ) (ws : List (List ℕ)) (shown : Lane) (u : ℕ) → u ≡ t → cell threads t from s ws shown u ≡ mark threads t from s ws
+pub own_mark : (threads t : ℕ) (from : Option ℕ) (s : List ℕ) (ws : List (List ℕ)) (shown : Lane) (u : ℕ) → u ≡ t → cell threads t from s ws shown u ≡ mark threads t from s ws
 own_mark threads t from s ws shown u is =
     let own : (u == t) ≡ true = grind (arith, nat_tests) in
     rw own refl

@@ -2,9 +2,9 @@
 use Rattle.std.specs.Prelude.{ℕ, ◌+◌, ◌-◌, ◌*◌, nat_le, min, if◌then◌else◌}
 use Rattle.picture.specs.Scenes.{most_bands}
 
--- how far lane u is from lane 1: the more lanes, the nearer
+-- how far lane u is from lane 1: the more lanes, the nearer; up to five have room for the words of each line
 abbrev pub along : ℕ → ℕ → ℕ
-along threads u = if nat_le threads 5 then 180 * (u - 1) else (if nat_le threads 8 then 120 * (u - 1) else (if nat_le threads 16 then 60 * (u - 1) else 30 * (u - 1)))
+along threads u = if nat_le threads 5 then 260 * (u - 1) else (if nat_le threads 8 then 120 * (u - 1) else (if nat_le threads 16 then 60 * (u - 1) else 30 * (u - 1)))
 
 -- the left end of a band
 abbrev pub band_x : ℕ → ℕ
@@ -13,6 +13,10 @@ band_x m = 64 + 26 * m
 -- the middle of a lane, the first being number 1
 abbrev pub lane_x : ℕ → ℕ → ℕ → ℕ
 lane_x threads count u = band_x count + 20 + along threads u
+
+-- how much room there is behind the middle of the last lane: enough for the words of each line
+abbrev pub margin : ℕ
+margin = 260
 
 -- the middle of a line's row, the first line being number 1
 abbrev pub row_y : ℕ → ℕ

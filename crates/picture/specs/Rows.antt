@@ -58,10 +58,14 @@ is_from_right t (Some a) = nat_lt t a
 abbrev pub blanks : ℕ → ℕ → List (List ℕ) → ℕ
 blanks threads t ws = if nat_le (threads - t) (reach threads ws) then 0 else width threads - (taken ws % width threads)
 
+-- the end of an arrow from the right, in so many columns behind its words: a blank where there is one, and the arrow in the others
+abbrev pub arrow_end : ℕ → List ℕ
+arrow_end n = repeat (min n 1) (codes " ") ++ repeat (n - 1) dash
+
 -- sign and words; an arrow from the right begins behind them
 abbrev pub wide_mark : ℕ → ℕ → Option ℕ → List ℕ → List (List ℕ) → List ℕ
 wide_mark threads t from s ws = (s ++ codes " ") ++ (concat ws ++ (if is_from_right t from
-    then codes " " ++ repeat (less (width threads - 3) ws) dash
+    then arrow_end (less (width threads - 2) ws)
     else repeat (blanks threads t ws) (codes " ")))
 
 abbrev pub narrow_mark : ℕ → ℕ → Option ℕ → List ℕ → List ℕ
@@ -118,10 +122,10 @@ tail threads t ws = if is_wide threads then [] else concat (codes "  t" ∷ deci
 
 -- ---- a band
 
--- the owner, `-` or `lost`; and `!` where an owner died and nobody has declared the mutex consistent
+-- the owner or `-`, and `!` where an owner died and nobody has declared the mutex consistent; or `lost`, and nothing beside it
 abbrev pub owner_name : Option ℕ → Bool → List ℕ → List (List ℕ)
 owner_name (Some t) unusable m = codes "t" ∷ decimal t ∷ m ∷ []
-owner_name None unusable m = if unusable then codes "lost" ∷ [] ∷ m ∷ [] else codes "-" ∷ [] ∷ m ∷ []
+owner_name None unusable m = if unusable then codes "lost" ∷ [] ∷ [] ∷ [] else codes "-" ∷ [] ∷ m ∷ []
 
 abbrev pub owner_pieces : Object → List (List ℕ)
 owner_pieces o = owner_name o.owner o.unusable (if o.inconsistent then codes "!" else [])

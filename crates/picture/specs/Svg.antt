@@ -13,7 +13,7 @@ use Rattle.picture.specs.declared.scene.Scene.{Scene}
 use Rattle.picture.specs.declared.svg.Since.{Since}
 use Rattle.picture.specs.declared.svg.Extent.{Extent}
 use Rattle.picture.specs.Drawn.{lanes_of}
-use Rattle.picture.specs.Places.{band_x, bands_of, lane_x, row_y}
+use Rattle.picture.specs.Places.{band_x, bands_of, lane_x, margin, row_y}
 use Rattle.picture.specs.Rows.{from_at, is_from_right, words_at}
 use Rattle.picture.specs.Scenes.{behind, first_scene, lane_at, most_bands}
 use Rattle.picture.specs.Shapes.{arrow_shape, band_shape, lane_shape, mark_shape, number_label, words_label}
@@ -125,10 +125,17 @@ abbrev pub svg_lanes : Extent → ℕ → List ℕ
 svg_lanes x bottom = each (svg_lane_behind x bottom) x.threads
 
 abbrev pub svg_tag : List ℕ → List ℕ → List ℕ → List ℕ
-svg_tag wide high shown = concat (codes "<svg xmlns=\"http://www.w3.org/2000/svg\" width=\"" ∷ wide ∷ codes "\" height=\"" ∷ high ∷ codes "\">\n" ∷ shown ∷ [])
+svg_tag wide high shown = concat (codes "<svg xmlns=\"http://www.w3.org/2000/svg\" width=\"" ∷ wide ∷ codes "\" height=\"" ∷ high ∷ codes "\" viewBox=\"0 0 " ∷ wide ∷ codes " " ∷ high ∷ codes "\">\n" ∷ shown ∷ [])
+
+-- how wide and how high a picture is
+abbrev pub svg_width : Extent → ℕ
+svg_width x = lane_x x.threads x.bands x.threads + margin
+
+abbrev pub svg_height : ℕ → ℕ
+svg_height lines = row_y lines + 36
 
 abbrev pub svg_open : Extent → ℕ → List ℕ
-svg_open x lines = svg_tag (decimal (lane_x x.threads x.bands x.threads + 160)) (decimal (row_y lines + 36)) style
+svg_open x lines = svg_tag (decimal (svg_width x)) (decimal (svg_height lines)) style
 
 abbrev pub svg_heads : Extent → ℕ → List ℕ
 svg_heads x lines = svg_open x lines ++ (svg_bands x.bands ++ svg_lanes x (row_y lines + 18))

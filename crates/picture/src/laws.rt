@@ -1,8 +1,19 @@
-//! What holds of every row of a picture in text.
+//! What holds of every picture.
 
-ghost use Rattle.picture.specs.Laws.{MarksStandInTheirLanes};
+ghost use Rattle.picture.specs.Laws.{MarksStandInTheirLanes, ShownLanesStandInTheirColumns, TextsHaveRoom};
 
 /// A line's mark stands in its own thread's lane, behind as many columns as the lanes before that one have, and in no other lane.
 pub fn marks_stand_in_their_lanes()
     ensures { MarksStandInTheirLanes }
+{}
+
+/// Each lane that shows something at a row stands behind as many columns as the event, the bands and the lanes before it have, and a blank stands behind each band.
+pub fn shown_lanes_stand_in_their_columns()
+    ensures { ShownLanesStandInTheirColumns }
+{}
+
+/// The words of a line in an SVG picture end within it, and up to five lanes before the next one's marks, in a font whose letters take 7.5 pixels at most;
+/// the names of two bands don't touch.
+pub fn texts_have_room()
+    ensures { TextsHaveRoom }
 {}

@@ -3,7 +3,9 @@
 //!
 //! [`draw`] draws a trace as rows of text, [`draw_svg`] as scalable vector graphics, each byte for byte as `specs/` says: what a
 //! lane shows between the lines of its thread, and which mark a line has in it. A mark stands in its own thread's lane
-//! (`marks_stand_in_their_lanes`). At an error a beginning of the picture is written ([`Unwritten`]).
+//! (`marks_stand_in_their_lanes`), each lane in its own columns at every row (`shown_lanes_stand_in_their_columns`), and in SVG the
+//! words of a line have room (`texts_have_room`). At an error, a failed write or want of memory, a beginning of the picture is
+//! written ([`Unwritten`]).
 //!
 //! Stands on `facts`, for the lines, on `keys`, for mutexes as objects and operations, on `lockword`, for thread ids and
 //! replies, on `streams`, for writing, on `itoa`, for numbers, and on `thiserror`, for messages.
@@ -36,5 +38,5 @@ mod svg_drawing;
 mod words;
 
 pub use drawing::{Unwritten, draw};
-pub use laws::marks_stand_in_their_lanes;
+pub use laws::{marks_stand_in_their_lanes, shown_lanes_stand_in_their_columns, texts_have_room};
 pub use svg_drawing::draw_svg;

@@ -3,14 +3,17 @@
 ghost use Rattle.std.specs.Prelude.{◌≡◌, ◌≤◌, ◌<◌, ◌*◌, ◌^◌};
 ghost use Rattle.picture.specs.Places.{along, band_x, lane_x, row_y};
 
-/// How far a lane is from the first one: the more lanes, the nearer.
+/// How much room there is behind the middle of the last lane: enough for the words of each line.
+pub const MARGIN: u32 = 260;
+
+/// How far a lane is from the first one: the more lanes, the nearer. Up to five have room for the words of each line.
 fn along(threads: u8, lane: u8) -> u32
     ensures value { result ≡ along threads lane }
-    ensures few { result ≤ 180 * 255 }
+    ensures few { result ≤ 260 * 255 }
 {
     let before = u32::from(lane.saturating_sub(1));
     match threads {
-        0..=5 => 180 * before,
+        0..=5 => 260 * before,
         6..=8 => 120 * before,
         9..=16 => 60 * before,
         _ => 30 * before,

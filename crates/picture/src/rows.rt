@@ -1,7 +1,7 @@
 //! The rows of a picture in text.
 
 ghost use Rattle.std.specs.Prelude.{◌≡◌, ◌++◌, ◌≤◌, map, string_bytes, IfOk};
-ghost use Rattle.picture.specs.Rows.{arrow_from, arrow_sign, bands_text, blanks, cell, cells, end_text, event_text, is_covered, is_from_right, mark, narrow_mark, origin, owner_pieces, part_of, reach, row_of, row_text, sign, stays_so, tail, taken, wide_mark};
+ghost use Rattle.picture.specs.Rows.{arrow_end, arrow_from, arrow_sign, bands_text, blanks, cell, cells, end_text, event_text, is_covered, is_from_right, mark, narrow_mark, origin, owner_pieces, part_of, reach, row_of, row_text, sign, stays_so, tail, taken, wide_mark};
 
 use crate::lane::Lane;
 use crate::layout::{BAND, EVENT, gap, is_wide, width};
@@ -149,6 +149,14 @@ fn blanks(row: &Row<'_>) -> usize
     width.saturating_sub(taken(row.words) % width)
 }
 
+/// The end of an arrow from the right, in so many columns behind its words: a blank where there is one, and the arrow in the others.
+fn add_arrow_end(text: &mut String, columns: usize) -> Result<(), AllocError>
+    ensures { IfOk result (λ _. string_bytes text.new ≡ string_bytes text.old ++ arrow_end columns) }
+{
+    fill(text, " ", columns.min(1))?;
+    fill(text, "─", columns.saturating_sub(1))
+}
+
 /// The mark of a line, with its words.
 fn add_wide_mark(text: &mut String, row: &Row<'_>) -> Result<(), AllocError>
     ensures { IfOk result (λ _. string_bytes text.new ≡ string_bytes text.old ++ wide_mark row.now.threads row.now.thread row.now.from row.now.sign.now (map (λ w. w.now) row.now.words.now)) }
@@ -156,12 +164,7 @@ fn add_wide_mark(text: &mut String, row: &Row<'_>) -> Result<(), AllocError>
     add(text, &[row.sign, " "])?;
     add(text, row.words)?;
     if is_right_of(row.thread, row.from) {
-        add(text, &[" "])?;
-        fill(
-            text,
-            "─",
-            room(width(row.threads).saturating_sub(3), row.words),
-        )
+        add_arrow_end(text, room(width(row.threads).saturating_sub(2), row.words))
     } else {
         fill(text, " ", blanks(row))
     }
@@ -244,7 +247,7 @@ fn add_tail(text: &mut String, row: &Row<'_>) -> Result<(), AllocError>
     add(text, row.words)
 }
 
-/// The name of a mutex's owner.
+/// The name of a mutex's owner; nothing is told of a lost one beside that it is lost.
 fn owner_pieces(digits: &mut Buffer, object: Object) -> [&str; 3]
     ensures { map (λ p. p.now) result ≡ owner_pieces object }
 {
@@ -253,7 +256,7 @@ fn owner_pieces(digits: &mut Buffer, object: Object) -> [&str; 3]
         Some(owner) => ["t", digits.format(owner.get()), mark],
         None => {
             if object.unusable {
-                ["lost", "", mark]
+                ["lost", "", ""]
             } else {
                 ["-", "", mark]
             }

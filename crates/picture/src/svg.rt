@@ -5,7 +5,7 @@ ghost use Rattle.facts.specs.Facts.{decision_of};
 ghost use Rattle.picture.specs.Svg.{band_part, band_rests, begins_at, ends_lane, extent_of, first_since, foot_text, lane_part, lane_rests, line_marks, line_parts, mark_of, marks_of, rests, since_band, since_lane, svg_band, svg_bands, svg_heads, svg_lane, svg_lanes, svg_open};
 
 use crate::pieces::add;
-use crate::places::{band_x, lane_x, row_y};
+use crate::places::{MARGIN, band_x, lane_x, row_y};
 use crate::rows::{arrow_from, is_right_of};
 use crate::scene::{BANDS, Scene};
 use crate::shapes::{add_arrow, add_band, add_lane, add_mark, add_number, add_words};
@@ -369,7 +369,7 @@ fn add_open(text: &mut String, extent: Extent, lines: usize) -> Result<(), Alloc
 {
     let mut widths = Buffer::new();
     let mut heights = Buffer::new();
-    let width = widths.format(lane_x(extent.threads, extent.bands, extent.threads) + 160);
+    let width = widths.format(lane_x(extent.threads, extent.bands, extent.threads) + MARGIN);
     let height = heights.format(row_y(lines) + 36);
     add(
         text,
@@ -377,6 +377,10 @@ fn add_open(text: &mut String, extent: Extent, lines: usize) -> Result<(), Alloc
             "<svg xmlns=\"http://www.w3.org/2000/svg\" width=\"",
             width,
             "\" height=\"",
+            height,
+            "\" viewBox=\"0 0 ",
+            width,
+            " ",
             height,
             "\">\n",
             style(),

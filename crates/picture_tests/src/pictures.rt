@@ -1,10 +1,12 @@
 //! Pictures in text, drawn by hand.
 
-use picture::{draw, marks_stand_in_their_lanes};
+use picture::{
+    draw, marks_stand_in_their_lanes, shown_lanes_stand_in_their_columns, texts_have_room,
+};
 use std::alloc::Global;
 use verdict::{check, read_trace};
 
-/// Whether the trace is drawn so. It passes too where memory is refused.
+/// Whether the trace is drawn so.
 fn is_drawn(alloc: Global, trace: &str, picture: &str) -> bool {
     let Ok(told) = read_trace(alloc, trace.as_bytes()) else {
         return false;
@@ -82,6 +84,82 @@ fn seven_threads(rt: HostRuntime) {
     );
 }
 
+/// Traces and their pictures: lanes of each width, and what else has a place of its own in a row.
+static LANES: [(&str, &str); 13] = [
+    // Four lanes of 18 columns, and bands for four of five mutexes.
+    (
+        "trace 4 5 0\n1 begin t2 lock m0\nend 1\n",
+        " event  m0   m1   m2   m3   t1                t2                t3                t4\n     1  -    -    -    -    ·                 ┌ lock m0         ·                 ·\n     1  end\n",
+    ),
+    // Five of 14.
+    (
+        "trace 5 1 0\n1 begin t2 lock m0\nend 1\n",
+        " event  m0   t1            t2            t3            t4            t5\n     1  -    ·             ┌ lock m0     ·             ·             ·\n     1  end\n",
+    ),
+    // Six of 12.
+    (
+        "trace 6 1 0\n1 begin t2 lock m0\nend 1\n",
+        " event  m0   t1          t2          t3          t4          t5          t6\n     1  -    ·           ┌ lock m0   ·           ·           ·           ·\n     1  end\n",
+    ),
+    // Words behind an arrow from the right that fill their lane: the next one begins where it should.
+    (
+        "trace 7 1001 1\n1 begin t3 lock m0\n1 move t2 m1000\n2 begin t1 lock m1\nend 2\n",
+        " event  m0   m1   m2   m3   t1        t2        t3        t4        t5        t6        t7\n     1  -    -    -    -    ·         ·         ┌ lock m0 ·         ·         ·         ·\n     1  -    -    -    -    ·         < to m1000┤         ·         ·         ·         ·\n     2  -    -    -    -    ┌ lock m1 ·         │         ·         ·         ·         ·\n     2  end\n",
+    ),
+    // Sixteen lanes of 4 columns.
+    (
+        "trace 16 1 0\n1 begin t16 lock m0\nend 1\n",
+        " event  m0   t   t   t   t   t   t   t   t   t   1   1   1   1   1   1   1\n             1   2   3   4   5   6   7   8   9   0   1   2   3   4   5   6\n     1  -    ·   ·   ·   ·   ·   ·   ·   ·   ·   ·   ·   ·   ·   ·   ·   ┌  t16 lock m0\n     1  end\n",
+    ),
+    // Seventeen of 2.
+    (
+        "trace 17 1 0\n1 begin t17 lock m0\nend 1\n",
+        " event  m0   t t t t t t t t t 1 1 1 1 1 1 1 1\n             1 2 3 4 5 6 7 8 9 0 1 2 3 4 5 6 7\n     1  -    · · · · · · · · · · · · · · · · ┌  t17 lock m0\n     1  end\n",
+    ),
+    // Twenty, and an arrow from the right.
+    (
+        "trace 20 1 0\n1 begin t3 lock m0\n2 sleep t3 m0\n3 begin t18 unlock m0\n4 point t18 m0 unlock EPERM\n4 wake t3\nend 4\n",
+        " event  m0   t t t t t t t t t 1 1 1 1 1 1 1 1 1 1 2\n             1 2 3 4 5 6 7 8 9 0 1 2 3 4 5 6 7 8 9 0\n     1  -    · · ┌ · · · · · · · · · · · · · · · · ·  t3 lock m0\n     2  -    · · z · · · · · · · · · · · · · · · · ·  t3 on m0\n     3  -    · · z · · · · · · · · · · · · · · ┌ · ·  t18 unlock m0\n     4  -    · · z · · · · · · · · · · · · · · ● · ·  t18 m0 EPERM\n     4  -    · · <─────────────────────────────┤ · ·  t3 woken\n     4  end\n",
+    ),
+    // Thirty-two.
+    (
+        "trace 32 1 0\n1 begin t32 lock m0\nend 1\n",
+        " event  m0   t t t t t t t t t 1 1 1 1 1 1 1 1 1 1 2 2 2 2 2 2 2 2 2 2 3 3 3\n             1 2 3 4 5 6 7 8 9 0 1 2 3 4 5 6 7 8 9 0 1 2 3 4 5 6 7 8 9 0 1 2\n     1  -    · · · · · · · · · · · · · · · · · · · · · · · · · · · · · · · ┌  t32 lock m0\n     1  end\n",
+    ),
+    // Thirty-three of one.
+    (
+        "trace 33 1 0\n1 begin t33 lock m0\nend 1\n",
+        " event  m0   ttttttttt111111111122222222223333\n             123456789012345678901234567890123\n     1  -    ································┌  t33 lock m0\n     1  end\n",
+    ),
+    // Sixty-four.
+    (
+        "trace 64 1 0\n1 begin t64 lock m0\n2 point t64 m0 lock OK\n3 kill t64\n4 death t64 m0\nend 4\n",
+        " event  m0   ttttttttt1111111111222222222233333333334444444444555555555566666\n             1234567890123456789012345678901234567890123456789012345678901234\n     1  -    ·······························································┌  t64 lock m0\n     2  t64  ·······························································●  t64 m0 OK\n     3  t64  ·······························································╳  t64 killed\n     4  -!   ·······························································!  t64 m0 owner died\n     4  end\n",
+    ),
+    // Eight of nine mutexes.
+    (
+        "trace 1 9 0\n1 begin t1 lock m7\n2 point t1 m7 lock OK\n3 return t1 OK\n4 begin t1 lock m8\n5 point t1 m8 lock OK\nend 5\n",
+        " event  m0   m1   m2   m3   m4   m5   m6   m7   t1\n     1  -    -    -    -    -    -    -    -    ┌ lock m7\n     2  -    -    -    -    -    -    -    t1   ● m7 OK\n     3  -    -    -    -    -    -    -    t1   └ OK\n     4  -    -    -    -    -    -    -    t1   ┌ lock m8\n     5  -    -    -    -    -    -    -    t1   ● m8 OK\n     5  end\n",
+    ),
+    // A sleeper is killed.
+    (
+        "trace 2 1 0\n1 begin t1 lock m0\n2 point t1 m0 lock OK\n3 return t1 OK\n4 begin t2 lock m0\n5 sleep t2 m0\n6 kill t2\n7 begin t1 unlock m0\n8 reaped t2\n9 point t1 m0 unlock OK\n9 return t1 OK\nend 9\n",
+        " event  m0   t1                      t2\n     1  -    ┌ lock m0               ·\n     2  t1   ● m0 OK                 ·\n     3  t1   └ OK                    ·\n     4  t1   ·                       ┌ lock m0\n     5  t1   ·                       z on m0\n     6  t1   ·                       ╳ killed\n     7  t1   ┌ unlock m0             ╎\n     8  t1   │                       † reaped\n     9  -    ● m0 OK                 †\n     9  -    └ OK                    †\n     9  end\n",
+    ),
+    // A mutex that is lost stays so, whatever dies.
+    (
+        "trace 2 2 0\n1 death t1 m0\n2 point t1 m0 unlock OK\n3 death t1 m0\nend 3\n",
+        " event  m0   m1   t1                      t2\n     1  -!   -    ! m0 owner died         ·\n     2  lost -    ● m0 unlock OK          ·\n     3  lost -    ! m0 owner died         ·\n     3  end\n",
+    ),
+];
+
+#[test]
+fn lanes_of_each_width(rt: HostRuntime) {
+    for (trace, picture) in &LANES {
+        assert!(rt; is_drawn(rt.alloc(), *trace, *picture));
+    }
+}
+
 /// A trace that is not legal is drawn as it stands, and one that is no trace is refused as the judge of traces refuses it.
 #[test]
 fn illegal_and_faulty_traces(rt: HostRuntime) {
@@ -104,7 +182,7 @@ static FAULTY: [&str; 6] = [
     "trace 2 1 0\nend 1\nend 1\n",
 ];
 
-/// Passes too where memory is refused, at line 1.
+/// Passes too where memory is refused.
 #[test]
 fn faults_are_those_of_the_judge(rt: HostRuntime) {
     for text in &FAULTY {
@@ -124,4 +202,6 @@ fn faults_are_those_of_the_judge(rt: HostRuntime) {
 #[test]
 fn laws_can_be_called(_rt: HostRuntime) {
     marks_stand_in_their_lanes();
+    shown_lanes_stand_in_their_columns();
+    texts_have_room();
 }

@@ -1,39 +1,83 @@
-//! A picture in SVG, worked out by hand from the places and shapes that docs/FORMATS.md tells.
+//! Pictures in SVG, worked out by hand from the places and shapes that docs/FORMATS.md tells.
 
 use picture::draw_svg;
 use std::alloc::Global;
 use verdict::read_trace;
 
-/// Behind the style: the names of the band and of both lanes; what the lanes and the band showed, by the line that ended it; and the lines.
-const SHAPES: &str =
-    "<text class=\"h\" x=\"75\" y=\"20\">m0</text>\n<text class=\"h\" x=\"110\" y=\"20\">t1</text><path class=\"l\" d=\"M110 28V156\"/>\n<text class=\"h\" x=\"290\" y=\"20\">t2</text><path class=\"l\" d=\"M290 28V156\"/>\n<rect class=\"c\" x=\"285\" y=\"66\" width=\"10\" height=\"18\"/>\n<rect class=\"s\" x=\"285\" y=\"84\" width=\"10\" height=\"36\"/>\n<rect class=\"c\" x=\"105\" y=\"48\" width=\"10\" height=\"90\"/>\n<rect class=\"c\" x=\"285\" y=\"120\" width=\"10\" height=\"36\"/>\n<rect class=\"o\" x=\"64\" y=\"93\" width=\"22\" height=\"54\"/>\n<text class=\"h\" x=\"75\" y=\"106\">t1</text>\n<text class=\"n\" x=\"48\" y=\"52\">1</text><path class=\"b\" d=\"M110 48m-7 0h14\"/><text class=\"t\" x=\"120\" y=\"52\">lock m0</text>\n<text class=\"n\" x=\"48\" y=\"70\">2</text><path class=\"b\" d=\"M290 66m-7 0h14\"/><text class=\"t\" x=\"300\" y=\"70\">lock m0</text>\n<text class=\"n\" x=\"48\" y=\"88\">3</text><path class=\"b\" d=\"M290 84m-4-4h8l-8 8h8\"/><text class=\"t\" x=\"300\" y=\"88\">on m0</text>\n<text class=\"n\" x=\"48\" y=\"106\">4</text><path class=\"p\" d=\"M110 102m-4 0a4 4 0 1 0 8 0a4 4 0 1 0-8 0\"/><text class=\"t\" x=\"120\" y=\"106\">m0 OK</text>\n<text class=\"n\" x=\"48\" y=\"124\">5</text><path class=\"a\" d=\"M110 120H284\"/><text class=\"t\" x=\"300\" y=\"124\">woken</text>\n<text class=\"n\" x=\"48\" y=\"142\">5</text><path class=\"b\" d=\"M110 138m-7 0h14\"/><text class=\"t\" x=\"120\" y=\"142\">OK</text>\n<text class=\"n\" x=\"48\" y=\"160\">9</text><text x=\"54\" y=\"160\">end</text>\n</svg>\n";
+/// A trace, what its picture begins with, and what it ends with. Behind the style stand the names of bands and lanes; what the lanes and the bands showed, by the line that ended
+/// it; and the lines.
+static SVG_PICTURES: [(&str, &str, &str); 10] = [
+    // Two lanes, a wake from the left.
+    (
+        "trace 2 1 0\n1 begin t1 lock m0\n2 begin t2 lock m0\n3 sleep t2 m0\n4 point t1 m0 lock OK\n5 wake t2\n5 return t1 OK\nend 9\n",
+        "<svg xmlns=\"http://www.w3.org/2000/svg\" width=\"630\" height=\"174\" viewBox=\"0 0 630 174\">\n<style>",
+        "<text class=\"h\" x=\"75\" y=\"20\">m0</text>\n<text class=\"h\" x=\"110\" y=\"20\">t1</text><path class=\"l\" d=\"M110 28V156\"/>\n<text class=\"h\" x=\"370\" y=\"20\">t2</text><path class=\"l\" d=\"M370 28V156\"/>\n<rect class=\"c\" x=\"365\" y=\"66\" width=\"10\" height=\"18\"/>\n<rect class=\"s\" x=\"365\" y=\"84\" width=\"10\" height=\"36\"/>\n<rect class=\"c\" x=\"105\" y=\"48\" width=\"10\" height=\"90\"/>\n<rect class=\"c\" x=\"365\" y=\"120\" width=\"10\" height=\"36\"/>\n<rect class=\"o\" x=\"64\" y=\"93\" width=\"22\" height=\"54\"/>\n<text class=\"h\" x=\"75\" y=\"106\">t1</text>\n<text class=\"n\" x=\"48\" y=\"52\">1</text><path class=\"b\" d=\"M110 48m-7 0h14\"/><text class=\"t\" x=\"120\" y=\"52\">lock m0</text>\n<text class=\"n\" x=\"48\" y=\"70\">2</text><path class=\"b\" d=\"M370 66m-7 0h14\"/><text class=\"t\" x=\"380\" y=\"70\">lock m0</text>\n<text class=\"n\" x=\"48\" y=\"88\">3</text><path class=\"b\" d=\"M370 84m-4-4h8l-8 8h8\"/><text class=\"t\" x=\"380\" y=\"88\">on m0</text>\n<text class=\"n\" x=\"48\" y=\"106\">4</text><path class=\"p\" d=\"M110 102m-4 0a4 4 0 1 0 8 0a4 4 0 1 0-8 0\"/><text class=\"t\" x=\"120\" y=\"106\">m0 OK</text>\n<text class=\"n\" x=\"48\" y=\"124\">5</text><path class=\"a\" d=\"M110 120H364\"/><text class=\"t\" x=\"380\" y=\"124\">woken</text>\n<text class=\"n\" x=\"48\" y=\"142\">5</text><path class=\"b\" d=\"M110 138m-7 0h14\"/><text class=\"t\" x=\"120\" y=\"142\">OK</text>\n<text class=\"n\" x=\"48\" y=\"160\">9</text><text x=\"54\" y=\"160\">end</text>\n</svg>\n",
+    ),
+    // Nine lanes: a killed sleeper, a band that is pale, orange and grey, and words on an arrow from the right.
+    (
+        "trace 9 1 0\n1 begin t2 lock m0\n2 point t2 m0 lock OK\n2 return t2 OK\n3 begin t3 lock m0\n4 sleep t3 m0\n5 kill t3\n6 reaped t3\n7 kill t2\n8 death t2 m0\n8 reaped t2\n9 begin t1 lock m0\n10 point t1 m0 lock EOWNERDEAD\n10 return t1 EOWNERDEAD\n11 begin t1 unlock m0\n12 point t1 m0 unlock OK\n12 return t1 OK\n13 begin t9 lock m0\n14 wake t4\n14 return t9 ENOTRECOVERABLE\nend 15\n",
+        "<svg xmlns=\"http://www.w3.org/2000/svg\" width=\"850\" height=\"408\" viewBox=\"0 0 850 408\">\n<style>",
+        "<text class=\"h\" x=\"75\" y=\"20\">m0</text>\n<text class=\"h\" x=\"110\" y=\"20\">t1</text><path class=\"l\" d=\"M110 28V390\"/>\n<text class=\"h\" x=\"170\" y=\"20\">t2</text><path class=\"l\" d=\"M170 28V390\"/>\n<text class=\"h\" x=\"230\" y=\"20\">t3</text><path class=\"l\" d=\"M230 28V390\"/>\n<text class=\"h\" x=\"290\" y=\"20\">t4</text><path class=\"l\" d=\"M290 28V390\"/>\n<text class=\"h\" x=\"350\" y=\"20\">t5</text><path class=\"l\" d=\"M350 28V390\"/>\n<text class=\"h\" x=\"410\" y=\"20\">t6</text><path class=\"l\" d=\"M410 28V390\"/>\n<text class=\"h\" x=\"470\" y=\"20\">t7</text><path class=\"l\" d=\"M470 28V390\"/>\n<text class=\"h\" x=\"530\" y=\"20\">t8</text><path class=\"l\" d=\"M530 28V390\"/>\n<text class=\"h\" x=\"590\" y=\"20\">t9</text><path class=\"l\" d=\"M590 28V390\"/>\n<rect class=\"c\" x=\"165\" y=\"48\" width=\"10\" height=\"36\"/>\n<rect class=\"c\" x=\"225\" y=\"102\" width=\"10\" height=\"18\"/>\n<rect class=\"s\" x=\"225\" y=\"120\" width=\"10\" height=\"18\"/>\n<rect class=\"d\" x=\"225\" y=\"138\" width=\"10\" height=\"18\"/>\n<rect class=\"o\" x=\"64\" y=\"57\" width=\"22\" height=\"126\"/>\n<text class=\"h\" x=\"75\" y=\"70\">t2</text>\n<rect class=\"d\" x=\"165\" y=\"174\" width=\"10\" height=\"36\"/>\n<rect class=\"w\" x=\"64\" y=\"183\" width=\"22\" height=\"54\"/>\n<rect class=\"c\" x=\"105\" y=\"228\" width=\"10\" height=\"36\"/>\n<rect class=\"i\" x=\"64\" y=\"237\" width=\"22\" height=\"54\"/>\n<text class=\"h\" x=\"75\" y=\"250\">t1</text>\n<rect class=\"c\" x=\"105\" y=\"282\" width=\"10\" height=\"36\"/>\n<rect class=\"c\" x=\"585\" y=\"336\" width=\"10\" height=\"36\"/>\n<rect class=\"u\" x=\"64\" y=\"291\" width=\"22\" height=\"90\"/>\n<text class=\"n\" x=\"48\" y=\"52\">1</text><path class=\"b\" d=\"M170 48m-7 0h14\"/><text class=\"t\" x=\"180\" y=\"52\">lock m0</text>\n<text class=\"n\" x=\"48\" y=\"70\">2</text><path class=\"p\" d=\"M170 66m-4 0a4 4 0 1 0 8 0a4 4 0 1 0-8 0\"/><text class=\"t\" x=\"180\" y=\"70\">m0 OK</text>\n<text class=\"n\" x=\"48\" y=\"88\">2</text><path class=\"b\" d=\"M170 84m-7 0h14\"/><text class=\"t\" x=\"180\" y=\"88\">OK</text>\n<text class=\"n\" x=\"48\" y=\"106\">3</text><path class=\"b\" d=\"M230 102m-7 0h14\"/><text class=\"t\" x=\"240\" y=\"106\">lock m0</text>\n<text class=\"n\" x=\"48\" y=\"124\">4</text><path class=\"b\" d=\"M230 120m-4-4h8l-8 8h8\"/><text class=\"t\" x=\"240\" y=\"124\">on m0</text>\n<text class=\"n\" x=\"48\" y=\"142\">5</text><path class=\"k\" d=\"M230 138m-5-5l10 10m0-10l-10 10\"/><text class=\"t\" x=\"240\" y=\"142\">killed</text>\n<text class=\"n\" x=\"48\" y=\"160\">6</text><path class=\"k\" d=\"M230 156m0-6v12m-4-8h8\"/><text class=\"t\" x=\"240\" y=\"160\">reaped</text>\n<text class=\"n\" x=\"48\" y=\"178\">7</text><path class=\"k\" d=\"M170 174m-5-5l10 10m0-10l-10 10\"/><text class=\"t\" x=\"180\" y=\"178\">killed</text>\n<text class=\"n\" x=\"48\" y=\"196\">8</text><path class=\"k\" d=\"M170 192m0-6v7m0 3v2\"/><text class=\"t\" x=\"180\" y=\"196\">m0 owner died</text>\n<text class=\"n\" x=\"48\" y=\"214\">8</text><path class=\"k\" d=\"M170 210m0-6v12m-4-8h8\"/><text class=\"t\" x=\"180\" y=\"214\">reaped</text>\n<text class=\"n\" x=\"48\" y=\"232\">9</text><path class=\"b\" d=\"M110 228m-7 0h14\"/><text class=\"t\" x=\"120\" y=\"232\">lock m0</text>\n<text class=\"n\" x=\"48\" y=\"250\">10</text><path class=\"p\" d=\"M110 246m-4 0a4 4 0 1 0 8 0a4 4 0 1 0-8 0\"/><text class=\"t\" x=\"120\" y=\"250\">m0 EOWNERDEAD</text>\n<text class=\"n\" x=\"48\" y=\"268\">10</text><path class=\"b\" d=\"M110 264m-7 0h14\"/><text class=\"t\" x=\"120\" y=\"268\">EOWNERDEAD</text>\n<text class=\"n\" x=\"48\" y=\"286\">11</text><path class=\"b\" d=\"M110 282m-7 0h14\"/><text class=\"t\" x=\"120\" y=\"286\">unlock m0</text>\n<text class=\"n\" x=\"48\" y=\"304\">12</text><path class=\"p\" d=\"M110 300m-4 0a4 4 0 1 0 8 0a4 4 0 1 0-8 0\"/><text class=\"t\" x=\"120\" y=\"304\">m0 OK</text>\n<text class=\"n\" x=\"48\" y=\"322\">12</text><path class=\"b\" d=\"M110 318m-7 0h14\"/><text class=\"t\" x=\"120\" y=\"322\">OK</text>\n<text class=\"n\" x=\"48\" y=\"340\">13</text><path class=\"b\" d=\"M590 336m-7 0h14\"/><text class=\"t\" x=\"600\" y=\"340\">lock m0</text>\n<text class=\"n\" x=\"48\" y=\"358\">14</text><path class=\"a\" d=\"M590 354H296\"/><text class=\"t\" x=\"300\" y=\"351\">woken</text>\n<text class=\"n\" x=\"48\" y=\"376\">14</text><path class=\"b\" d=\"M590 372m-7 0h14\"/><text class=\"t\" x=\"600\" y=\"376\">ENOTRECOVERABLE</text>\n<text class=\"n\" x=\"48\" y=\"394\">15</text><text x=\"54\" y=\"394\">end</text>\n</svg>\n",
+    ),
+    // Sixteen bands of seventeen mutexes.
+    (
+        "trace 1 17 0\n1 begin t1 lock m16\nend 1\n",
+        "<svg xmlns=\"http://www.w3.org/2000/svg\" width=\"760\" height=\"84\" viewBox=\"0 0 760 84\">\n<style>",
+        "<text class=\"h\" x=\"75\" y=\"20\">m0</text>\n<text class=\"h\" x=\"101\" y=\"20\">m1</text>\n<text class=\"h\" x=\"127\" y=\"20\">m2</text>\n<text class=\"h\" x=\"153\" y=\"20\">m3</text>\n<text class=\"h\" x=\"179\" y=\"20\">m4</text>\n<text class=\"h\" x=\"205\" y=\"20\">m5</text>\n<text class=\"h\" x=\"231\" y=\"20\">m6</text>\n<text class=\"h\" x=\"257\" y=\"20\">m7</text>\n<text class=\"h\" x=\"283\" y=\"20\">m8</text>\n<text class=\"h\" x=\"309\" y=\"20\">m9</text>\n<text class=\"h\" x=\"335\" y=\"20\">m10</text>\n<text class=\"h\" x=\"361\" y=\"20\">m11</text>\n<text class=\"h\" x=\"387\" y=\"20\">m12</text>\n<text class=\"h\" x=\"413\" y=\"20\">m13</text>\n<text class=\"h\" x=\"439\" y=\"20\">m14</text>\n<text class=\"h\" x=\"465\" y=\"20\">m15</text>\n<text class=\"h\" x=\"500\" y=\"20\">t1</text><path class=\"l\" d=\"M500 28V66\"/>\n<rect class=\"c\" x=\"495\" y=\"48\" width=\"10\" height=\"18\"/>\n<text class=\"n\" x=\"48\" y=\"52\">1</text><path class=\"b\" d=\"M500 48m-7 0h14\"/><text class=\"t\" x=\"510\" y=\"52\">lock m16</text>\n<text class=\"n\" x=\"48\" y=\"70\">1</text><text x=\"54\" y=\"70\">end</text>\n</svg>\n",
+    ),
+    // The last lane of 3, 5, 6, 8, 16, 17 and 64, the only one with a mark.
+    (
+        "trace 3 1 0\n1 begin t3 lock m0\nend 1\n",
+        "<svg xmlns=\"http://www.w3.org/2000/svg\" width=\"890\" height=\"84\" viewBox=\"0 0 890 84\">\n<style>",
+        "<text class=\"n\" x=\"48\" y=\"52\">1</text><path class=\"b\" d=\"M630 48m-7 0h14\"/><text class=\"t\" x=\"640\" y=\"52\">lock m0</text>\n<text class=\"n\" x=\"48\" y=\"70\">1</text><text x=\"54\" y=\"70\">end</text>\n</svg>\n",
+    ),
+    (
+        "trace 5 1 0\n1 begin t5 lock m0\nend 1\n",
+        "<svg xmlns=\"http://www.w3.org/2000/svg\" width=\"1410\" height=\"84\" viewBox=\"0 0 1410 84\">\n<style>",
+        "<text class=\"n\" x=\"48\" y=\"52\">1</text><path class=\"b\" d=\"M1150 48m-7 0h14\"/><text class=\"t\" x=\"1160\" y=\"52\">lock m0</text>\n<text class=\"n\" x=\"48\" y=\"70\">1</text><text x=\"54\" y=\"70\">end</text>\n</svg>\n",
+    ),
+    (
+        "trace 6 1 0\n1 begin t6 lock m0\nend 1\n",
+        "<svg xmlns=\"http://www.w3.org/2000/svg\" width=\"970\" height=\"84\" viewBox=\"0 0 970 84\">\n<style>",
+        "<text class=\"n\" x=\"48\" y=\"52\">1</text><path class=\"b\" d=\"M710 48m-7 0h14\"/><text class=\"t\" x=\"720\" y=\"52\">lock m0</text>\n<text class=\"n\" x=\"48\" y=\"70\">1</text><text x=\"54\" y=\"70\">end</text>\n</svg>\n",
+    ),
+    (
+        "trace 8 1 0\n1 begin t8 lock m0\nend 1\n",
+        "<svg xmlns=\"http://www.w3.org/2000/svg\" width=\"1210\" height=\"84\" viewBox=\"0 0 1210 84\">\n<style>",
+        "<text class=\"n\" x=\"48\" y=\"52\">1</text><path class=\"b\" d=\"M950 48m-7 0h14\"/><text class=\"t\" x=\"960\" y=\"52\">lock m0</text>\n<text class=\"n\" x=\"48\" y=\"70\">1</text><text x=\"54\" y=\"70\">end</text>\n</svg>\n",
+    ),
+    (
+        "trace 16 1 0\n1 begin t16 lock m0\nend 1\n",
+        "<svg xmlns=\"http://www.w3.org/2000/svg\" width=\"1270\" height=\"84\" viewBox=\"0 0 1270 84\">\n<style>",
+        "<text class=\"n\" x=\"48\" y=\"52\">1</text><path class=\"b\" d=\"M1010 48m-7 0h14\"/><text class=\"t\" x=\"1020\" y=\"52\">lock m0</text>\n<text class=\"n\" x=\"48\" y=\"70\">1</text><text x=\"54\" y=\"70\">end</text>\n</svg>\n",
+    ),
+    (
+        "trace 17 1 0\n1 begin t17 lock m0\nend 1\n",
+        "<svg xmlns=\"http://www.w3.org/2000/svg\" width=\"850\" height=\"84\" viewBox=\"0 0 850 84\">\n<style>",
+        "<text class=\"n\" x=\"48\" y=\"52\">1</text><path class=\"b\" d=\"M590 48m-7 0h14\"/><text class=\"t\" x=\"600\" y=\"52\">lock m0</text>\n<text class=\"n\" x=\"48\" y=\"70\">1</text><text x=\"54\" y=\"70\">end</text>\n</svg>\n",
+    ),
+    (
+        "trace 64 1 0\n1 begin t64 lock m0\nend 1\n",
+        "<svg xmlns=\"http://www.w3.org/2000/svg\" width=\"2260\" height=\"84\" viewBox=\"0 0 2260 84\">\n<style>",
+        "<text class=\"n\" x=\"48\" y=\"52\">1</text><path class=\"b\" d=\"M2000 48m-7 0h14\"/><text class=\"t\" x=\"2010\" y=\"52\">lock m0</text>\n<text class=\"n\" x=\"48\" y=\"70\">1</text><text x=\"54\" y=\"70\">end</text>\n</svg>\n",
+    ),
+];
 
-fn ends_with(whole: &[u8], end: &[u8]) -> bool {
-    whole.ends_with(end)
+/// Whether the trace's picture begins and ends so.
+fn is_drawn(alloc: Global, trace: &str, front: &str, end: &str) -> bool {
+    let Ok(told) = read_trace(alloc, trace.as_bytes()) else {
+        return false;
+    };
+    let mut drawn = Vec::new(alloc);
+    let (threads, mutexes) = (told.head.threads, told.head.mutexes);
+    draw_svg(alloc, threads, mutexes, &told.lines, told.last, &mut drawn).is_ok()
+        && drawn.as_slice().starts_with(front.as_bytes())
+        && drawn.as_slice().ends_with(end.as_bytes())
 }
 
-/// Passes too where memory is refused.
 #[test]
-fn a_wake(rt: HostRuntime) {
-    let trace =
-        "trace 2 1 0\n1 begin t1 lock m0\n2 begin t2 lock m0\n3 sleep t2 m0\n4 point t1 m0 lock OK\n5 wake t2\n5 return t1 OK\nend 9\n";
-    let Ok(told) = read_trace(rt.alloc(), trace.as_bytes()) else {
-        return;
-    };
-    let mut drawn = Vec::new(rt.alloc());
-    let done = draw_svg(
-        rt.alloc(),
-        told.head.threads,
-        told.head.mutexes,
-        &told.lines,
-        told.last,
-        &mut drawn,
-    );
-    assert!(rt; done.is_err() || ends_with(&drawn, SHAPES.as_bytes()));
-    assert!(rt;
-        done.is_err()
-            || drawn.as_slice().starts_with(
-                b"<svg xmlns=\"http://www.w3.org/2000/svg\" width=\"450\" height=\"174\">\n<style>"
-            )
-    );
+fn svg_pictures_are_drawn(rt: HostRuntime) {
+    for (trace, front, end) in &SVG_PICTURES {
+        assert!(rt; is_drawn(rt.alloc(), *trace, *front, *end));
+    }
 }

@@ -1,5 +1,5 @@
 -- Reading line after line, as a loop does.
-use Rattle.std.proofs.Common.{◌≡◌, ℕ, ◌+◌, ◌<◌, ◌≤◌, ◌==◌, Bool, true, false, List, [], ◌∷◌, length, Result, Ok, Err, IfErr, refl, sym, ap, subst, ◌∙◌, arith, cond}
+use Rattle.std.proofs.Common.{◌≡◌, ℕ, ◌+◌, ◌<◌, ◌≤◌, ◌==◌, Bool, true, false, List, [], ◌∷◌, length, Result, Ok, Err, IfErr, IfOk, refl, sym, ap, subst, ◌∙◌, arith, cond}
 use Rattle.std.specs.List.{slice_split, onto_first}
 use Rattle.std.proofs.lemmas.Bool.Decides.{nat_tests}
 use Rattle.lines.specs.Lines.{lines_of}
@@ -82,3 +82,27 @@ unfolding lines_read
 faults_from n h told [] = omega arith
 faults_from n h told (text ∷ []) = omega arith
 faults_from n h told (text ∷ next ∷ more) = from_line n h told (next ∷ more) (line_read h text) (λ e. lines_read (n + 1) h (e ∷ told) (next ∷ more)) (λ e. faults_from (n + 1) h (e ∷ told) (next ∷ more))
+
+-- ---- what lines before told is kept
+
+fewer : (told : List Line) (e : Line) (r : Result Trace TraceFault) → IfOk r (λ t. length (e ∷ told) ≤ length t.told) → IfOk r (λ t. length told ≤ length t.told)
+fewer told e (Ok t) h = omega (arith, h)
+fewer told e (Err f) h = tt
+
+ended_all : (n : ℕ) (h : Head) (told : List Line) (i : ℕ) (ls : List (List ℕ)) → IfOk (ended n h told i ls) (λ t. length told ≤ length t.told)
+ended_all n h told i [] = tt
+ended_all n h told i ([] ∷ []) = omega arith
+ended_all n h told i ((b ∷ bs) ∷ []) = tt
+ended_all n h told i ([] ∷ l ∷ ls) = tt
+ended_all n h told i ((b ∷ bs) ∷ l ∷ ls) = tt
+
+all_line : (n : ℕ) (h : Head) (told : List Line) (ls : List (List ℕ)) (r : Result Read Fault) (more : Line → Result Trace TraceFault) → ((e : Line) → IfOk (more e) (λ t. length (e ∷ told) ≤ length t.told)) → IfOk (met_at n r >>= goes_on (n + 1) h told ls more) (λ t. length told ≤ length t.told)
+all_line n h told ls (Ok (Told e)) more later = fewer told e (more e) (later e)
+all_line n h told ls (Ok (End i)) more later = ended_all (n + 1) h told i ls
+all_line n h told ls (Err f) more later = tt
+
+pub all_from : (n : ℕ) (h : Head) (told : List Line) (ls : List (List ℕ)) → IfOk (lines_read n h told ls) (λ t. length told ≤ length t.told)
+unfolding lines_read
+all_from n h told [] = tt
+all_from n h told (text ∷ []) = tt
+all_from n h told (text ∷ next ∷ more) = all_line n h told (next ∷ more) (line_read h text) (λ e. lines_read (n + 1) h (e ∷ told) (next ∷ more)) (λ e. all_from (n + 1) h (e ∷ told) (next ∷ more))

@@ -1,12 +1,12 @@
 -- What was read of a trace.
-use Rattle.std.specs.Prelude.{◌≡◌, ◌+◌, ◌<◌, ◌≤◌, ◌⊎◌, All, reverse, Result, Ok, Err, IfErr}
+use Rattle.std.specs.Prelude.{ℕ, ◌≡◌, ◌+◌, ◌<◌, ◌≤◌, ◌⊎◌, All, length, reverse, Result, Ok, Err}
 use Rattle.facts.specs.declared.fact.Line.{Line}
 use Rattle.verdict.specs.declared.head.Head.{Head}
 use Rattle.verdict.specs.declared.fault.Fault.TheVariants.{OutOfMemory}
 use Rattle.verdict.specs.declared.fault.TraceFault.{TraceFault}
 use Rattle.verdict.specs.declared.told.Told.{Told}
 use Rattle.verdict.specs.Judges.{IsInside}
-use Rattle.verdict.specs.Reading.{IsHead, Trace, fault_at}
+use Rattle.verdict.specs.Reading.{IsHead, Trace}
 
 -- the trace that it is
 abbrev pub trace_of : Told → Trace
@@ -21,12 +21,12 @@ pub record IsWithin (t : Told) : Type 0 where
   pub head : IsHead t.head
   pub lines : All (IsOf t.head) t.lines.items
 
--- what is given where lines behind a head say this: the trace; its first fault; or want of memory
-abbrev pub GivesLines : Result Trace TraceFault → Result Told TraceFault → Type 0
-GivesLines said (Ok t) = said ≡ Ok (trace_of t)
-GivesLines said (Err e) = (said ≡ Err e) ⊎ (e ≡ fault_at 1 OutOfMemory)
+-- line n tells of an event: it stands behind the first line, before the last one of a trace, and before the first fault of what is none
+abbrev pub IsTelling : ℕ → Result Trace TraceFault → Type 0
+IsTelling n (Ok t) = (2 ≤ n) × (n < length t.told + 2)
+IsTelling n (Err first) = (2 ≤ n) × (n < first.line)
 
--- what is given where the bytes say this: the trace that they are; their first fault; or want of memory at line 1, where that line has no fault
+-- what is given where the bytes say this: the trace that they are; their first fault; or want of memory for what a line tells, at that line
 abbrev pub Gives : Result Trace TraceFault → Result Told TraceFault → Type 0
 Gives said (Ok t) = said ≡ Ok (trace_of t)
-Gives said (Err e) = (said ≡ Err e) ⊎ ((e ≡ fault_at 1 OutOfMemory) × IfErr said (λ first. 1 < first.line))
+Gives said (Err e) = (said ≡ Err e) ⊎ ((e.fault ≡ OutOfMemory) × IsTelling e.line said)

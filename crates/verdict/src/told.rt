@@ -5,7 +5,7 @@ ghost use Rattle.lines.specs.Lines.{lines_of};
 ghost use Rattle.verdict.specs.Limits.{max_bytes};
 ghost use Rattle.verdict.specs.declared.fault.Fault.TheVariants.{OutOfMemory};
 ghost use Rattle.verdict.specs.Reading.{fault_at, IsHead, lines_read, text_read, trace_read};
-ghost use Rattle.verdict.specs.Told.{IsWithin, Gives, GivesLines};
+ghost use Rattle.verdict.specs.Told.{IsWithin, Gives};
 
 use crate::checking::unended_by;
 use crate::fault::{Fault, TraceFault};
@@ -27,15 +27,15 @@ pub struct Told {
     pub last: u32,
 }
 
-/// Keeps a copy of a line behind the others.
-fn keep<T: Copy>(lines: &mut Vec<T>, line: &T) -> Result<(), TraceFault>
-    ensures kept { IfOk result (λ _. lines.new.items ≡ lines.old.items ++ line.now ∷ []) }
-    ensures wanted { IfErr result (λ e. e ≡ fault_at 1 OutOfMemory) }
+/// Keeps a copy of what this line tells behind the others.
+fn keep<T: Copy>(lines: &mut Vec<T>, line: usize, entry: &T) -> Result<(), TraceFault>
+    ensures kept { IfOk result (λ _. lines.new.items ≡ lines.old.items ++ entry.now ∷ []) }
+    ensures wanted { IfErr result (λ e. e ≡ fault_at line OutOfMemory) }
 {
-    match lines.push(*line) {
+    match lines.push(*entry) {
         Ok(()) => Ok(()),
         Err(_refused) => Err(TraceFault {
-            line: 1,
+            line,
             fault: Fault::OutOfMemory,
         }),
     }
@@ -44,7 +44,7 @@ fn keep<T: Copy>(lines: &mut Vec<T>, line: &T) -> Result<(), TraceFault>
 fn read_lines(alloc: Global, head: Head, text: &str) -> Result<Told, TraceFault>
     requires head { IsHead head }
     requires small { length text.now ≤ max_bytes }
-    ensures gives { GivesLines (lines_read 2 head [] (lines_of text.now)) result }
+    ensures gives { Gives (lines_read 2 head [] (lines_of text.now)) result }
     ensures within { IfOk result IsWithin }
 {
     let mut lines = Vec::new(alloc);
@@ -57,7 +57,7 @@ fn read_lines(alloc: Global, head: Head, text: &str) -> Result<Told, TraceFault>
         };
         match read {
             Read::Told(entry) => {
-                if let Err(wanted) = keep(&mut lines, &entry) {
+                if let Err(wanted) = keep(&mut lines, line, &entry) {
                     return Err(wanted);
                 }
             }
@@ -97,8 +97,8 @@ fn read_text(alloc: Global, text: &str) -> Result<Told, TraceFault>
     }
 }
 
-/// Reads a trace, legal or not: what its lines tell; or, as [`check`](crate::check) does, its first fault. Only want of memory, at line 1, may
-/// come in the place of the trace or of a later line's fault.
+/// Reads a trace, legal or not: what its lines tell; or, as [`check`](crate::check) does, its first fault. Only want of memory for what a line tells,
+/// at that line, may come in the place of the trace or of a later line's fault.
 pub fn read_trace(alloc: Global, bytes: &[u8]) -> Result<Told, TraceFault>
     ensures gives { Gives (trace_read bytes.now) result }
     ensures within { IfOk result IsWithin }

@@ -11,6 +11,7 @@ abbrev pub invariant-loop-first : goal.invariant-loop-first
 invariant-loop-first l = record {
   is_text : shadow (Utf8 l.rest);
   room : l.line + length l.rest ≤ length l.text + 2;
+  count : l.line ≡ length l.lines.items + 2;
   so_far : lines_read l.line l.head (reverse l.lines.items) (lines_of l.rest) ≡ lines_read 2 l.head [] (lines_of l.text);
   within : All (IsOf l.head) l.lines.items;
 }

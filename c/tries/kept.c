@@ -1,0 +1,118 @@
+/* A walk whose walker dies behind each of its accesses, before the record of it and behind that, and which is gone on
+ * with: each mutex that the dead thread owned is marked once, and behind each mark of one with WAITERS somebody is
+ * woken on it. The accesses are made on an array, and told; a death is a jump. */
+#include <setjmp.h>
+static void maybe_die(void);
+#define PZ_AT_WALK() maybe_die()
+#include "../reap.c"
+#include "try.h"
+
+enum { DEAD = 7, MUTEXES = 4, NEVER = 1 << 20 };
+static const uint64_t WAITERS = 0x80000000, OWNER_DIED = 0x40000000;
+
+static struct pz file;
+static word words[(1 + THREADS + MUTEXES) * LINE];
+static struct life lives[1 + THREADS];
+static jmp_buf death;
+static int lives_for;
+static int marks[MUTEXES], wakes[MUTEXES], wakes_at_mark[MUTEXES];
+
+static void maybe_die(void)
+{
+    if (--lives_for == 0)
+        longjmp(death, 1);
+}
+
+void pz_let_go(pz *p) { (void)p; }
+
+uint32_t pz_make(pz *p, const struct pz_access *x, uint64_t *value)
+{
+    word *w = &p->words[x->at];
+    unsigned m = mutex_at(x->at);
+    uint64_t seen = x->a;
+    switch (x->kind) {
+    case PZ_LOAD:
+        *value = atomic_load(w);
+        return PZ_VALUE;
+    case PZ_EXCHANGE:
+        if (!atomic_compare_exchange_strong(w, &seen, x->b)) {
+            *value = seen;
+            return PZ_CHANGED;
+        }
+        marks[m]++;
+        wakes_at_mark[m] = wakes[m];
+        return PZ_EXCHANGED;
+    case PZ_WAKE:
+        wakes[m]++;
+        *value = 1;
+        return PZ_COUNT;
+    default:
+        fail(__FILE__, __LINE__, "no access of a walk");
+    }
+}
+
+/* The dead thread's list is mutexes 2, 0 and 1; it was about to release 3, and has. Nobody else writes. */
+static void begin(void)
+{
+    static const unsigned list[] = {2, 0, 1};
+    file = (struct pz){.words = words, .life = lives, .places = (1 + THREADS + MUTEXES) * LINE, .mutexes = MUTEXES};
+    memset(words, 0, sizeof words);
+    memset(lives, 0, sizeof lives);
+    memset(marks, 0, sizeof marks);
+    memset(wakes, 0, sizeof wakes);
+    uint64_t at = head_place(DEAD);
+    for (unsigned i = 0; i < 3; i++) {
+        words[at] = cell_place(list[i]) + 1;
+        words[cell_place(list[i])] = DEAD | (list[i] == 1 ? 0 : WAITERS);
+        at = cell_place(list[i]) + 1;
+    }
+    words[at] = head_place(DEAD);
+    words[head_place(DEAD) + 1] = UINT64_MAX;
+    words[head_place(DEAD) + 2] = cell_place(3) + 1;
+    words[cell_place(3)] = WAITERS;
+    lives[DEAD].valid = WALK_NONE;
+}
+
+/* Whether the walker dies so early. */
+static int walk_until(int steps)
+{
+    lives_for = steps;
+    if (setjmp(death))
+        return 1;
+    pz_walk_on(&file, DEAD);
+    return 0;
+}
+
+static void look(void)
+{
+    for (unsigned m = 0; m < 3; m++) {
+        CHECK(marks[m] == 1);
+        CHECK(words[cell_place(m)] == (OWNER_DIED | (m == 1 ? 0 : WAITERS)));
+        CHECK(m == 1 || wakes[m] > wakes_at_mark[m]);
+    }
+    CHECK(marks[3] == 0 && wakes[3] >= 1);
+    CHECK(lives[DEAD].valid == WALK_ENDED);
+}
+
+int main(void)
+{
+    int deaths = 0;
+    for (int first = 1;; first++) {
+        begin();
+        if (!walk_until(first))
+            break;
+        for (int second = 1;; second++, deaths++) {
+            begin();
+            walk_until(first);
+            int died = walk_until(second);
+            if (died)
+                walk_until(NEVER);
+            look();
+            if (!died)
+                break;
+        }
+    }
+    printf("kept: gone on with behind each access, twice: %d deaths\n", deaths);
+    CHECK(deaths > 200);
+    return 0;
+}

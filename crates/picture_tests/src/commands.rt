@@ -1,0 +1,320 @@
+//! `rfx-draw` from the words of its command line on: its forms, each fault, files that are there or not, readers and writers that fail.
+
+use crate::writers::{Few, Fixed};
+use draw_report::{OUT_OF_MEMORY, run};
+use std::alloc::{AllocError, Global};
+use std::cell::Cell;
+use std::io::{self, ErrorKind, Read};
+use streams::Opener;
+
+/// An open file: its bytes; one without end; or one whose reads fail.
+#[derive(Drop)]
+enum File<'a> {
+    Bytes(&'a [u8]),
+    Endless,
+    Broken,
+}
+
+impl Read for File<'_> {
+    fn read(&mut self, buf: &mut [u8]) -> io::Result<usize> {
+        match self {
+            File::Bytes(bytes) => bytes.read(buf),
+            File::Endless => {
+                buf.fill(b'#');
+                Ok(buf.len())
+            }
+            File::Broken => Err(io::Error::from(ErrorKind::BrokenPipe)),
+        }
+    }
+}
+
+/// Has the file `f` and the standard input, of the same bytes, one that is `endless` and one that is `broken`. It counts what is opened.
+#[derive(Drop)]
+struct Folder<'a> {
+    text: &'a [u8],
+    opened: Cell<usize>,
+}
+
+impl<'a> Opener for Folder<'a> {
+    type Input = File<'a>;
+
+    fn open(&self, file: &str) -> io::Result<File<'a>> {
+        self.opened.set(self.opened.get().saturating_add(1));
+        match file {
+            "f" | "/dev/stdin" => Ok(File::Bytes(self.text)),
+            "endless" => Ok(File::Endless),
+            "broken" => Ok(File::Broken),
+            "refused" => Err(io::Error::from(ErrorKind::OutOfMemory)),
+            _ => Err(io::Error::from(ErrorKind::NotFound)),
+        }
+    }
+}
+
+fn files_of(text: &[u8]) -> Folder<'_> {
+    Folder {
+        text,
+        opened: Cell::new(0),
+    }
+}
+
+/// The words of a command line.
+fn words(alloc: Global, line: &[&str]) -> io::Result<Vec<String>> {
+    let mut words = Vec::new(alloc);
+    for word in line {
+        words.push(String::from_str(alloc, word)?)?;
+    }
+    Ok(words)
+}
+
+/// What the program answered, printed and told, and how often it opened a file.
+#[derive(Drop)]
+struct Answered {
+    status: u8,
+    printed: Vec<u8>,
+    told: Vec<u8>,
+    opened: usize,
+}
+
+impl Answered {
+    fn is(&self, status: u8, printed: &str, told: &str) -> bool {
+        self.status == status
+            && self.printed.as_slice() == printed.as_bytes()
+            && self.told.as_slice() == told.as_bytes()
+    }
+}
+
+/// What the program answers these words, or the error of having them, among these files.
+fn answer_of(alloc: Global, words: io::Result<Vec<String>>, files: &Folder<'_>) -> Answered {
+    let mut printed = Vec::new(alloc);
+    let mut told = Vec::new(alloc);
+    let status = run(alloc, words, files, &mut printed, &mut told);
+    Answered {
+        status,
+        printed,
+        told,
+        opened: files.opened.get(),
+    }
+}
+
+const TRACE: &[u8] = b"trace 1 1 0\n1 begin t1 lock m0\nend 1\n";
+
+const TEXT: &str = " event  m0   t1\n     1  -    ┌ lock m0\n     1  end\n";
+
+const USAGE: &str = "usage: rfx-draw [--svg] [FILE]\n";
+
+/// A file, a command line, what comes of it, and how often a file is opened.
+static LINES: [(&[u8], &[&str], u8, &str, &str, usize); 20] = [
+    (TRACE, &["rfx-draw"], 0, TEXT, "", 1),
+    (TRACE, &["rfx-draw", "f"], 0, TEXT, "", 1),
+    (TRACE, &["rfx-draw", "/dev/stdin"], 0, TEXT, "", 1),
+    (TRACE, &["rfx-draw", "-f"], 2, "", USAGE, 0),
+    (TRACE, &["rfx-draw", "-"], 2, "", USAGE, 0),
+    (TRACE, &["rfx-draw", "--help"], 2, "", USAGE, 0),
+    (TRACE, &["rfx-draw", "f", "f"], 2, "", USAGE, 0),
+    (TRACE, &["rfx-draw", "f", "--svg"], 2, "", USAGE, 0),
+    (TRACE, &["rfx-draw", "--svg", "-f"], 2, "", USAGE, 0),
+    (TRACE, &["rfx-draw", "--svg", "--svg"], 2, "", USAGE, 0),
+    (TRACE, &["rfx-draw", "--svg", "f", "f"], 2, "", USAGE, 0),
+    (TRACE, &[], 2, "", USAGE, 0),
+    (
+        b"trace 1 1 0\n\xff\nend 1\n",
+        &["rfx-draw", "f"],
+        1,
+        "",
+        "rfx-draw: line 2: fault 1: not UTF-8\n",
+        1,
+    ),
+    (
+        b"trace 1 1 0\n1 begin t1\nend 1\n",
+        &["rfx-draw", "--svg", "f"],
+        1,
+        "",
+        "rfx-draw: line 2: fault 2: unknown word\n",
+        1,
+    ),
+    (
+        b"trace 1 1 0\n1 begin t2 lock m0\nend 1\n",
+        &["rfx-draw", "f"],
+        1,
+        "",
+        "rfx-draw: line 2: fault 3: number out of range\n",
+        1,
+    ),
+    (
+        b"trace 1 1 0\n1 begin t1 lock m0\n",
+        &["rfx-draw"],
+        1,
+        "",
+        "rfx-draw: line 3: fault 5: cut\n",
+        1,
+    ),
+    (
+        TRACE,
+        &["rfx-draw", "endless"],
+        1,
+        "",
+        "rfx-draw: line 1: fault 4: too long\n",
+        1,
+    ),
+    (
+        TRACE,
+        &["rfx-draw", "--svg", "no file"],
+        1,
+        "",
+        "rfx-draw: cannot read no file\n",
+        1,
+    ),
+    // A name without a letter, in a message that is written all the same.
+    (
+        TRACE,
+        &["rfx-draw", ""],
+        1,
+        "",
+        "rfx-draw: cannot read \n",
+        1,
+    ),
+    (
+        TRACE,
+        &["rfx-draw", "broken"],
+        1,
+        "",
+        "rfx-draw: cannot read broken\n",
+        1,
+    ),
+];
+
+#[test]
+fn command_lines_are_served(rt: HostRuntime) {
+    for (file, line, status, printed, told, opened) in &LINES {
+        let answered = answer_of(rt.alloc(), words(rt.alloc(), *line), &files_of(*file));
+        assert!(rt; answered.is(*status, *printed, *told));
+        assert!(rt; answered.opened == *opened);
+    }
+}
+
+/// Behind the style.
+const SVG_END: &str =
+    "<text class=\"n\" x=\"48\" y=\"52\">1</text><path class=\"b\" d=\"M110 48m-7 0h14\"/><text class=\"t\" x=\"120\" y=\"52\">lock m0</text>\n<text class=\"n\" x=\"48\" y=\"70\">1</text><text x=\"54\" y=\"70\">end</text>\n</svg>\n";
+
+/// Command lines that ask for SVG.
+static SVG_LINES: [&[&str]; 2] = [&["rfx-draw", "--svg"], &["rfx-draw", "--svg", "f"]];
+
+#[test]
+fn svg_is_drawn(rt: HostRuntime) {
+    for line in &SVG_LINES {
+        let answered = answer_of(rt.alloc(), words(rt.alloc(), *line), &files_of(TRACE));
+        assert!(rt; answered.status == 0 && answered.told.is_empty() && answered.opened == 1);
+        assert!(rt;
+            answered.printed.starts_with(b"<svg xmlns")
+                && answered.printed.ends_with(SVG_END.as_bytes())
+        );
+    }
+}
+
+/// A trace of 64 threads with 5,000 lines.
+fn many_lines(alloc: Global) -> Result<Vec<u8>, AllocError> {
+    let mut trace = Vec::new(alloc);
+    trace.extend_from_slice(b"trace 64 1 0\n")?;
+    for _ in 0..5_000 {
+        trace.extend_from_slice(b"1 begin t64 lock m0\n")?;
+    }
+    trace.extend_from_slice(b"end 1\n")?;
+    Ok(trace)
+}
+
+fn line_feeds(text: &[u8]) -> usize {
+    text.iter().filter(|byte| **byte == b'\n').count()
+}
+
+/// A large trace as text, two rows of heads, one for each line, and the end; and as SVG, five lines up to the band, one for each lane, one for each call, one for each mark, and two.
+#[test]
+fn many_lines_are_drawn(rt: HostRuntime) -> Result<(), AllocError> {
+    let trace = many_lines(rt.alloc())?;
+    let files = files_of(&trace);
+    let text = answer_of(rt.alloc(), words(rt.alloc(), &["rfx-draw", "f"]), &files);
+    assert!(rt; text.status == 0 && text.told.is_empty());
+    assert!(rt; line_feeds(&text.printed) == 2 + 5_000 + 1);
+    let svg = answer_of(
+        rt.alloc(),
+        words(rt.alloc(), &["rfx-draw", "--svg", "f"]),
+        &files,
+    );
+    assert!(rt; svg.status == 0 && svg.told.is_empty());
+    assert!(rt; line_feeds(&svg.printed) == 5 + 64 + 5_000 + 5_000 + 2);
+    Ok(())
+}
+
+/// Words that are no text are another command line; memory is told where it was refused, for the words or for a file.
+#[test]
+fn refused_words_and_files_are_told(rt: HostRuntime) {
+    let files = files_of(TRACE);
+    let no_text = Err(io::Error::from(ErrorKind::InvalidData));
+    assert!(rt; answer_of(rt.alloc(), no_text, &files).is(2, "", USAGE));
+    let none = Err(io::Error::from(AllocError));
+    assert!(rt; answer_of(rt.alloc(), none, &files).is(1, "", OUT_OF_MEMORY));
+    assert!(rt; files.opened.get() == 0);
+    let line = words(rt.alloc(), &["rfx-draw", "refused"]);
+    assert!(rt; answer_of(rt.alloc(), line, &files).is(1, "", "rfx-draw: out of memory\n"));
+}
+
+/// Whether a picture that a writer with this room can't hold is told, and its beginning written.
+fn is_told_of_room(alloc: Global, room: usize) -> bool {
+    let mut out = Few::new(alloc, room, false);
+    let mut err = Vec::new(alloc);
+    let line = words(alloc, &["rfx-draw", "f"]);
+    let status = run(alloc, line, &files_of(TRACE), &mut out, &mut err);
+    let front = TEXT.as_bytes().get(..room).unwrap_or(b"");
+    status == 1
+        && out.held.as_slice() == front
+        && err.as_slice() == "rfx-draw: cannot write\n".as_bytes()
+}
+
+#[test]
+fn a_picture_that_cannot_be_written_is_told(rt: HostRuntime) {
+    for room in 0..TEXT.len() {
+        assert!(rt; is_told_of_room(rt.alloc(), room));
+    }
+}
+
+/// What was written and isn't let go of is told; and a message that can't be written changes no status.
+#[test]
+fn writers_that_fail_are_told(rt: HostRuntime) {
+    let files = files_of(TRACE);
+    let mut out = Few::new(rt.alloc(), 4_096, true);
+    let mut err = Few::new(rt.alloc(), 9, false);
+    let line = words(rt.alloc(), &["rfx-draw", "f"]);
+    let status = run(rt.alloc(), line, &files, &mut out, &mut err);
+    assert!(rt; status == 1 && out.held.as_slice() == TEXT.as_bytes());
+    assert!(rt; err.held.as_slice() == "rfx-draw:".as_bytes());
+}
+
+/// Whether the picture was drawn and nothing told; or nothing was printed, and want of memory told.
+fn is_drawn_or_wants_memory(status: u8, out: &Fixed, err: &Fixed, end: &str) -> bool {
+    if status == 0 {
+        return out.bytes().ends_with(end.as_bytes()) && err.bytes().is_empty();
+    }
+    status == 1
+        && out.bytes().is_empty()
+        && err.bytes().starts_with(b"rfx-draw: ")
+        && err.bytes().ends_with(b"out of memory\n")
+}
+
+fn draws_or_wants_memory(alloc: Global, line: &[&str], end: &str) -> bool {
+    let mut out = Fixed::new();
+    let mut err = Fixed::new();
+    let files = files_of(TRACE);
+    let status = run(alloc, words(alloc, line), &files, &mut out, &mut err);
+    is_drawn_or_wants_memory(status, &out, &err, end)
+}
+
+/// Passes too where any one allocation fails: nothing is printed then, and want of memory is told.
+#[test]
+fn memory_for_a_picture(rt: HostRuntime) {
+    assert!(rt; draws_or_wants_memory(rt.alloc(), &["rfx-draw", "f"], TEXT));
+}
+
+/// Passes too where any one allocation fails: nothing is printed then, and want of memory is told.
+#[test]
+fn memory_for_an_svg_picture(rt: HostRuntime) {
+    assert!(rt; draws_or_wants_memory(rt.alloc(), &["rfx-draw", "--svg", "f"], SVG_END));
+}
