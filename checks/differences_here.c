@@ -1,0 +1,191 @@
+/* What libpazdrig does where docs/DIFFERENCES.md says that the C library does something else, for checks/c: the rows of its first
+ * table that a caller of libpazdrig can see. It prints what was seen, and what is wanted where that differs.
+ * usage: differences_here FOLDER */
+#define _GNU_SOURCE
+#include "processes.h"
+
+#include <pazdrig.h>
+#include <sys/mman.h>
+
+/* How many mutexes a thread may hold. */
+enum { LIMIT = 2048, SLEEPERS = 3 };
+
+static pz *p;
+
+static int lock(void) { return pz_mutex_lock(p, 0); }
+static int trylock(void) { return pz_mutex_trylock(p, 0); }
+static int unlock(void) { return pz_mutex_unlock(p, 0); }
+static int consistent(void) { return pz_mutex_consistent(p, 0); }
+static int wait_there(void) { return pz_cond_wait(p, 0); }
+static int signal_it(void) { return pz_cond_signal(p, 0); }
+static int lock_and_sleep(void) { return lock() ?: pause(); }
+static int wait_for_a_signal(void) { return lock() ?: wait_there() ?: unlock(); }
+static int signal_as_the_owner(void) { return lock() ?: signal_it() ?: unlock(); }
+
+/* Another thread dies, and owned the mutex; this one takes it. */
+static void inherit(void)
+{
+    pid_t owner = begin(lock_and_sleep);
+    settle(owner);
+    kill_it(owner);
+    if (lock() != EOWNERDEAD)
+        say("lock isn't EOWNERDEAD, ");
+}
+
+static void spoil(void)
+{
+    inherit();
+    unlock();
+}
+
+static void sleepers_of_a_spoiled_mutex(void)
+{
+    pid_t sleepers[SLEEPERS];
+    int told = 0, asleep = 0;
+    inherit();
+    for (int i = 0; i < SLEEPERS; i++)
+        settle(sleepers[i] = begin(lock));
+    unlock();
+    for (int i = 0; i < SLEEPERS; i++) {
+        int answer = came_of(sleepers[i]);
+        told += answer == ENOTRECOVERABLE;
+        asleep += answer == SLEEPS;
+    }
+    say("%d told ENOTRECOVERABLE, %d sleep on", told, asleep);
+}
+
+static void trylock_of_a_spoiled_mutex(void)
+{
+    spoil();
+    say("%s, ", name(trylock()));
+    say("then %s, ", name(trylock()));
+    say("of another %s, ", name(came_of(begin(trylock))));
+    say("its lock %s, ", name(came_of(begin(lock))));
+    say("unlock %s", name(unlock()));
+}
+
+static void consistent_of_another(void)
+{
+    inherit();
+    say("%s, ", name(came_of(begin(consistent))));
+    unlock();
+    say("then lock %s", name(lock()));
+}
+
+static void lock_all_but_one(void)
+{
+    for (unsigned m = 0; m < LIMIT; m++)
+        if (pz_mutex_lock(p, m))
+            _exit(1);
+}
+
+static int lock_all_and_sleep(void)
+{
+    lock_all_but_one();
+    return pz_mutex_lock(p, LIMIT) == EAGAIN ? pause() : 1;
+}
+
+static void one_mutex_too_many(void)
+{
+    pid_t owner = begin(lock_all_and_sleep);
+    int died = 0;
+    settle(owner);
+    say("%s, ", is_asleep(owner) ? "EAGAIN" : "something else");
+    kill_it(owner);
+    for (unsigned m = 0; m < LIMIT; m++)
+        died += pz_mutex_lock(p, m) == EOWNERDEAD && pz_mutex_unlock(p, m) == 0;
+    say("%d tell the death", died);
+}
+
+static void wait_with_an_inconsistent_mutex(void)
+{
+    inherit();
+    say("%s, ", name(wait_there()));
+    say("trylock of another %s", name(came_of(begin(trylock))));
+}
+
+static void killed_waiter(void)
+{
+    pid_t waiter = begin(wait_for_a_signal);
+    settle(waiter);
+    kill_it(waiter);
+    for (int i = 0; i < 3; i++) {
+        waiter = begin(wait_for_a_signal);
+        settle(waiter);
+        int signal = came_of(begin(signal_as_the_owner));
+        say("%ssignal %s, ", i ? "; " : "", name(signal));
+        say("waiter %s", name(came_of(waiter)));
+    }
+}
+
+static int broadcast_it(void) { return pz_cond_broadcast(p, 0); }
+
+static void signal_of_another(void)
+{
+    say("%s, ", name(signal_it()));
+    say("broadcast %s", name(broadcast_it()));
+}
+
+static void trylock_of_the_owner(void)
+{
+    lock();
+    say("%s", name(trylock()));
+}
+
+static void lock_again_at_the_limit(void)
+{
+    lock_all_but_one();
+    say("%s", name(lock()));
+}
+
+static const struct row {
+    const char *name;
+    void (*see)(void);
+    const char *seen;
+} rows[] = {
+    { "several threads sleep on a mutex that becomes unusable", sleepers_of_a_spoiled_mutex, "3 told ENOTRECOVERABLE, 0 sleep on" },
+    { "a second trylock of an unusable mutex", trylock_of_a_spoiled_mutex,
+      "ENOTRECOVERABLE, then ENOTRECOVERABLE, of another ENOTRECOVERABLE, its lock ENOTRECOVERABLE, unlock EPERM" },
+    { "consistent by a thread that doesn't own the mutex", consistent_of_another, "EPERM, then lock ENOTRECOVERABLE" },
+    { "the 2,049th mutex of a thread", one_mutex_too_many, "EAGAIN, 2048 tell the death" },
+    { "a wait on a condition variable whose mutex is inconsistent", wait_with_an_inconsistent_mutex, "EINVAL, trylock of another EBUSY" },
+    { "a waiter of a condition variable is killed", killed_waiter, "signal OK, waiter OK; signal OK, waiter OK; signal OK, waiter OK" },
+    { "a signal by a thread that doesn't own the mutex", signal_of_another, "EPERM, broadcast EPERM" },
+    { "trylock by the owner", trylock_of_the_owner, "EBUSY" },
+    { "lock by the owner, who holds 2,048 mutexes", lock_again_at_the_limit, "EAGAIN" },
+};
+
+/* A row of a file of its own. */
+static int differs(const struct row *row, const char *path)
+{
+    seen[0] = 0;
+    unlink(path);
+    errno = pz_open(path, 0600, LIMIT + 1, 1, NULL, 0, &p);
+    if (errno)
+        fail(path);
+    see(row->see);
+    pz_close(p);
+    unlink(path);
+    printf("%s: %s\n", row->name, seen);
+    if (strcmp(seen, row->seen) == 0)
+        return 0;
+    printf("    wanted: %s\n", row->seen);
+    return 1;
+}
+
+int main(int argc, char **argv)
+{
+    char path[256];
+    int differ = 0;
+    snprintf(path, sizeof path, "%s/differences", argc > 1 ? argv[1] : ".");
+    seen = mmap(NULL, MOST_SEEN, PROT_READ | PROT_WRITE, MAP_SHARED | MAP_ANONYMOUS, -1, 0);
+    if (seen == MAP_FAILED)
+        fail("mmap");
+    /* what a row leaves comes to this process */
+    prctl(PR_SET_CHILD_SUBREAPER, 1);
+    for (const struct row *row = rows; row < rows + sizeof rows / sizeof *rows; row++) {
+        differ += differs(row, path);
+        fflush(stdout);
+    }
+    return differ > 0;
+}
