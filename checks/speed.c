@@ -45,10 +45,12 @@ static void *work(void *of)
 {
     struct worker *w = of;
     pthread_barrier_wait(w->start);
-    for (long i = 0; i < w->pairs; i++) {
-        w->well += pthread_mutex_lock(&w->place->mutex) == 0;
-        w->well += pthread_mutex_unlock(&w->place->mutex) == 0;
+    long well = 0; long pairs = w->pairs;
+    for (long i = 0; i < pairs; i++) {
+        well += pthread_mutex_lock(&w->place->mutex) == 0;
+        well += pthread_mutex_unlock(&w->place->mutex) == 0;
     }
+    w->well = well;
     return NULL;
 }
 
