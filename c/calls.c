@@ -94,10 +94,10 @@ static struct pz_call call_of(unsigned t, uint64_t cell)
 /* ---- By plan. The thread's own words are stored by it alone; what it loads of them may have been spoiled, so nothing
  * is stored where it doesn't lie in the file. */
 
-static void store(pz *p, const struct pz_plan *plan, unsigned i)
+static inline void store(word *words, const struct pz_plan *plan, unsigned i)
 {
     PZ_BETWEEN();
-    atomic_store_explicit(&p->words[plan->at[i]], plan->value[i], memory_order_release);
+    atomic_store_explicit(&words[plan->at[i]], plan->value[i], memory_order_release);
 }
 
 static uint64_t own(const pz *p, uint64_t at) { return atomic_load_explicit(&p->words[at], memory_order_relaxed); }
@@ -106,11 +106,11 @@ static int is_entry(const pz *p, uint64_t at) { return at >= LINE && at < p->pla
 static uint32_t planned_lock(pz *p, unsigned t, uint64_t cell, unsigned operation)
 {
     struct pz_plan plan;
-    word *w = &p->words[cell];
+    word *words = p->words, *w = &words[cell];
     uint64_t seen = atomic_load_explicit(w, memory_order_acquire), found = seen, first = own(p, head_place(t));
     if (!is_entry(p, first) || !pz_plan_lock(&plan, (uint8_t)t, head_place(t), cell + 1, seen, first))
         return NO_PLAN;
-    store(p, &plan, 0); /* the pending entry, before the cell is taken */
+    store(words, &plan, 0); /* the pending entry, before the cell is taken */
     PZ_BETWEEN();
     if (!atomic_compare_exchange_strong(w, &found, plan.operand)) {
         struct pz_call call = call_of(t, cell);
@@ -120,20 +120,20 @@ static uint32_t planned_lock(pz *p, unsigned t, uint64_t cell, unsigned operatio
         return run_on(p, t, &call, PZ_CHANGED, found);
     }
     for (unsigned i = 1; i < plan.stores; i++)
-        store(p, &plan, i);
+        store(words, &plan, i);
     return plan.reply;
 }
 
 static uint32_t planned_unlock(pz *p, unsigned t, uint64_t cell)
 {
     struct pz_plan plan;
-    word *w = &p->words[cell];
+    word *words = p->words, *w = &words[cell];
     uint64_t seen = atomic_load_explicit(w, memory_order_acquire), next = own(p, cell + 1), previous = own(p, cell + 2);
     if (!is_entry(p, next) || !is_entry(p, previous) ||
         !pz_plan_unlock(&plan, (uint8_t)t, head_place(t), cell + 1, seen, next, previous))
         return NO_PLAN;
     for (unsigned i = 0; i < plan.before; i++)
-        store(p, &plan, i);
+        store(words, &plan, i);
     PZ_BETWEEN();
     uint64_t found = atomic_fetch_xor(w, plan.operand);
     /* WAITERS alone is no sleeper: where none has a bit, the wake of nobody and the trim that is declined are left out.
@@ -145,7 +145,7 @@ static uint32_t planned_unlock(pz *p, unsigned t, uint64_t cell)
         return run_on(p, t, &call, PZ_VALUE, found);
     }
     for (unsigned i = plan.before; i < plan.stores; i++)
-        store(p, &plan, i);
+        store(words, &plan, i);
     return plan.reply;
 }
 

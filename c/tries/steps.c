@@ -157,7 +157,7 @@ int main(void)
     seen = shared(sizeof *seen);
     for (long n = 1; !one(n, 0, 0, 0); n++)
         instructions = n;
-    for (long n = 1; n <= instructions; n += 3)
+    for (long n = 1; n <= instructions; n++)
         one(n, 0, 1, 0);
     one(-1, 1, 0, 0);
     woken_and_dead();

@@ -11,7 +11,7 @@ use std::sync::Wait;
 use std::sync::atomic::{AtomicU64, Ordering};
 use std::thread::{self, Threads};
 use std::time::Clock;
-use thread_fixtures::{Asked, makes, settles, waits_for};
+use thread_fixtures::{Asked, are_asleep, ends_unless, fall_asleep, makes, waits_for};
 use threadbench::Bench;
 
 /// How often the fate of a waiter is asked until it sleeps: it loads the cell and the counter, announces the one mutex that it holds, takes it out of its list by 3, frees it, and falls asleep.
@@ -30,6 +30,36 @@ pub(crate) struct Board {
     deaths: AtomicU64,
     /// How often the fate of a broadcast was asked beside which the waiter is killed.
     broadcast: AtomicU64,
+    /// Whether the first waiter owns the mutex on which another thread is to sleep.
+    owned: AtomicU64,
+}
+
+/// The threads that wait, in the order of their numbers.
+static WAITERS: [u8; 3] = [1, 2, 3];
+
+/// The first so many of them.
+fn first_waiters(waiters: usize) -> &'static [u8] {
+    match waiters {
+        0 => &[],
+        1 => &WAITERS[..1],
+        2 => &WAITERS[..2],
+        _ => &WAITERS,
+    }
+}
+
+/// Those behind the first so many.
+fn last_waiters(waiters: usize) -> &'static [u8] {
+    match waiters {
+        0 => &WAITERS,
+        1 => &WAITERS[1..],
+        2 => &WAITERS[2..],
+        _ => &[],
+    }
+}
+
+/// Waits until the first so many waiters stand in the condition variable's queue.
+fn sleep<R: Wait + Clock>(rt: &R, bench: &Bench, waiters: usize) -> bool {
+    fall_asleep(rt, bench, first_waiters(waiters))
 }
 
 /// What a thread does.
@@ -44,6 +74,12 @@ pub(crate) enum Role {
     DiesInItsWait(u64),
     /// Takes the mutex, broadcasts and gives it back, until a wait was answered, and a million times at most.
     Repeats,
+    /// Takes the mutex, and waits as the first one once the second thread sleeps on the mutex.
+    WaitsAboveASleeper,
+    /// Once the first thread owns the mutex: takes it, and broadcasts to the first waiter, once that sleeps.
+    ComesAndBroadcasts,
+    /// Waits until a wait was answered.
+    Watches,
     /// Once three sleep: broadcasts to them.
     Broadcasts,
     /// Once one sleeps: broadcasts to it.
@@ -72,20 +108,8 @@ impl Board {
             order: AtomicU64::new(0),
             deaths: AtomicU64::new(0),
             broadcast: AtomicU64::new(0),
+            owned: AtomicU64::new(0),
         }
-    }
-
-    /// Waits until so many waiters sleep, for a while.
-    fn sleep<R: Clock>(&self, rt: &R, waiters: usize) -> bool {
-        for asked in self.asked.iter().take(waiters) {
-            if !waits_for(rt, asked, ASLEEP) {
-                return false;
-            }
-        }
-        if waiters > 0 {
-            settles(rt);
-        }
-        true
     }
 
     /// The wait of this waiter was answered. Its thread owns the mutex.
@@ -134,6 +158,46 @@ fn as_owner<R: Wait>(rt: &R, bench: &Bench, pass: Pass<Live>, call: CondCall) ->
     is_told_ok(rt, bench, pass, OnMutex(Unlock(0)))
 }
 
+/// Takes the mutex and waits, with the second thread asleep on the mutex by then: whether all was told OK.
+fn waits_above_a_sleeper<R: Wait + Clock>(
+    rt: &R,
+    bench: &Bench,
+    pass: Pass<Live>,
+    board: &Board,
+) -> bool
+    requires { IsLive bench.now pass }
+{
+    let Some(pass) = is_told_ok(rt, bench, pass, OnMutex(Lock(0))) else {
+        return false;
+    };
+    board.owned.store(1, Ordering::SeqCst);
+    fall_asleep(rt, bench, &WAITERS[1..2]) && waits_as_owner(rt, bench, pass, board, 0, 0)
+}
+
+/// Comes for the mutex that the first thread owns, which frees it by its wait, and broadcasts once that sleeps.
+fn comes_and_broadcasts<R: Wait + Clock>(
+    rt: &R,
+    bench: &Bench,
+    pass: Pass<Live>,
+    board: &Board,
+) -> bool
+    requires { IsLive bench.now pass }
+{
+    if !waits_for(rt, &board.owned, 1) {
+        return false;
+    }
+    let Some(pass) = is_told_ok(rt, bench, pass, OnMutex(Lock(0))) else {
+        return false;
+    };
+    if !sleep(rt, bench, 1) {
+        return false;
+    }
+    let Some(pass) = is_told_ok(rt, bench, pass, OnCondition(Broadcast(board.condition))) else {
+        return false;
+    };
+    is_told_ok(rt, bench, pass, OnMutex(Unlock(0))).is_some()
+}
+
 /// Takes the mutex, waits, and gives it back; whether it lives and all was told OK. It dies where the fate of its wait is asked for the time with that number, from 1.
 fn waits<R: Wait>(
     rt: &R,
@@ -145,10 +209,24 @@ fn waits<R: Wait>(
 ) -> bool
     requires { IsLive bench.now pass }
 {
-    let (Some(pass), Some(asked)) = (
-        is_told_ok(rt, bench, pass, OnMutex(Lock(0))),
-        board.asked.get(waiter),
-    ) else {
+    match is_told_ok(rt, bench, pass, OnMutex(Lock(0))) {
+        Some(pass) => waits_as_owner(rt, bench, pass, board, waiter, stops_at),
+        None => false,
+    }
+}
+
+/// The same of a thread that has the mutex.
+fn waits_as_owner<R: Wait>(
+    rt: &R,
+    bench: &Bench,
+    pass: Pass<Live>,
+    board: &Board,
+    waiter: usize,
+    stops_at: u64,
+) -> bool
+    requires { IsLive bench.now pass }
+{
+    let Some(asked) = board.asked.get(waiter) else {
         return false;
     };
     let call = OnCondition(CondCall::Wait(board.condition));
@@ -180,7 +258,7 @@ fn repeats<R: Wait>(rt: &R, bench: &Bench, first: Pass<Live>, board: &Board) -> 
     false
 }
 
-/// Nobody's wait is answered before the mutex is free.
+/// Nobody wakes before the mutex is free.
 fn broadcasts<R: Wait + Clock>(rt: &R, bench: &Bench, pass: Pass<Live>, board: &Board) -> bool
     requires { IsLive bench.now pass }
 {
@@ -190,24 +268,21 @@ fn broadcasts<R: Wait + Clock>(rt: &R, bench: &Bench, pass: Pass<Live>, board: &
     let Some(pass) = is_told_ok(rt, bench, pass, OnCondition(Broadcast(board.condition))) else {
         return false;
     };
-    settles(rt);
-    let nobody = board.order() == 0;
-    nobody && is_told_ok(rt, bench, pass, OnMutex(Unlock(0))).is_some()
+    are_asleep(rt, bench, &WAITERS) && is_told_ok(rt, bench, pass, OnMutex(Unlock(0))).is_some()
 }
 
-/// Each signal wakes one.
+/// Each signal wakes one, and those behind it sleep on.
 fn signals<R: Wait + Clock>(rt: &R, bench: &Bench, first: Pass<Live>, board: &Board) -> bool
     requires { IsLive bench.now first }
 {
     let mut pass = first;
-    for want in [1_u64, 12, 123] {
+    for (woken, want) in [(1, 1_u64), (2, 12), (3, 123)] {
         match as_owner(rt, bench, pass, Signal(board.condition)) {
             Some(after) => pass = after,
             None => return false,
         }
-        let came = waits_for(rt, &board.order, want);
-        settles(rt);
-        if !came || board.order() != want {
+        let came = waits_for(rt, &board.order, want) && board.order() == want;
+        if !came || !are_asleep(rt, bench, last_waiters(woken)) {
             return false;
         }
     }
@@ -233,12 +308,12 @@ fn kills<R: Wait + Clock>(
             Some(after) => pass = after,
             None => return false,
         }
-        settles(rt);
     }
+    let sleeps = are_asleep(rt, bench, &[victim]);
     let killed = bench.kill(rt, victim) == Ok(());
     let died = waits_for(rt, &board.deaths, 1);
     let freed = is_told_ok(rt, bench, pass, OnMutex(Unlock(0))).is_some();
-    killed && died && freed
+    sleeps && killed && died && freed
 }
 
 /// Moves the first waiter to the mutex as its owner, while another thread kills the waiter, and gives the mutex back once that is dead.
@@ -267,35 +342,54 @@ fn meets_a_move(board: &Board, asked: u64) -> bool {
     false
 }
 
-/// Does its part: whether all went as it should.
+/// Does its part: whether all went as it should. Where that of a thread which doesn't wait itself didn't, all are killed, so that nobody sleeps on.
 fn acts<R: Wait + Clock>(rt: &R, bench: &Bench, pass: Pass<Live>, board: &Board, role: Role) -> bool
+    requires { IsLive bench.now pass }
+{
+    let well = does_its_part(rt, bench, pass, board, role);
+    match role {
+        Role::Waits(_) | Role::WaitsAtOnce | Role::DiesInItsWait(_) => well,
+        _ => ends_unless(rt, bench, well),
+    }
+}
+
+fn does_its_part<R: Wait + Clock>(
+    rt: &R,
+    bench: &Bench,
+    pass: Pass<Live>,
+    board: &Board,
+    role: Role,
+) -> bool
     requires { IsLive bench.now pass }
 {
     match role {
         Role::Nothing => true,
         Role::Waits(waiter) => {
-            board.sleep(rt, waiter) && waits(rt, bench, pass, board, waiter, 0)
+            sleep(rt, bench, waiter) && waits(rt, bench, pass, board, waiter, 0)
         }
         Role::WaitsAtOnce => waits(rt, bench, pass, board, 0, 0),
         Role::DiesInItsWait(asked) => waits(rt, bench, pass, board, 0, asked),
         Role::Repeats => repeats(rt, bench, pass, board),
-        Role::Broadcasts => board.sleep(rt, 3) && broadcasts(rt, bench, pass, board),
+        Role::WaitsAboveASleeper => waits_above_a_sleeper(rt, bench, pass, board),
+        Role::ComesAndBroadcasts => comes_and_broadcasts(rt, bench, pass, board),
+        Role::Watches => waits_for(rt, &board.order, 1),
+        Role::Broadcasts => sleep(rt, bench, 3) && broadcasts(rt, bench, pass, board),
         Role::BroadcastsToOne => {
-            board.sleep(rt, 1) && as_owner(rt, bench, pass, Broadcast(board.condition)).is_some()
+            sleep(rt, bench, 1) && as_owner(rt, bench, pass, Broadcast(board.condition)).is_some()
         }
-        Role::Signals => board.sleep(rt, 3) && signals(rt, bench, pass, board),
+        Role::Signals => sleep(rt, bench, 3) && signals(rt, bench, pass, board),
         Role::Kills(victim) => {
-            board.sleep(rt, 1) && kills(rt, bench, pass, board, victim, false)
+            sleep(rt, bench, 1) && kills(rt, bench, pass, board, victim, false)
         }
         Role::MovesAndKills(victim) => {
-            board.sleep(rt, 1) && kills(rt, bench, pass, board, victim, true)
+            sleep(rt, bench, 1) && kills(rt, bench, pass, board, victim, true)
         }
         Role::KillsAfter(victim, asked) => {
             waits_for(rt, &board.asked[0], asked)
                 && bench.kill(rt, victim) == Ok(())
                 && waits_for(rt, &board.deaths, 1)
         }
-        Role::MovesBesideAKill => board.sleep(rt, 1) && moves(rt, bench, pass, board),
+        Role::MovesBesideAKill => sleep(rt, bench, 1) && moves(rt, bench, pass, board),
         Role::KillsBesideAMove(victim, asked) => {
             waits_for(rt, &board.asked[0], ASLEEP)
                 && meets_a_move(board, asked)

@@ -6,7 +6,7 @@ use lockword::Reply::{EOWNERDEAD, EPERM, OK, XFULL, XSTATE};
 use mutex::Call::{Consistent, Lock, TryLock, Unlock};
 use std::test::Fail;
 use thread_fixtures::Step::{Calls, Kills};
-use thread_fixtures::Who::{First, Second};
+use thread_fixtures::Who::{First, Fourth, Second, Third};
 use thread_fixtures::{Step, plays};
 
 /// Nobody owns the mutex, and then another thread does.
@@ -50,6 +50,28 @@ fn a_wait_behind_a_death_is_refused(rt: HostRuntime) -> Result<(), Fail> {
         &BEHIND_A_DEATH,
     )?;
     assert!(rt; left.is_some_and(|left| left.cells[0] == 0x8000_0002 && left.counters[0] == 3));
+    Ok(())
+}
+
+/// Owners of the mutex are killed, one after the other: one whose unlock has somebody to wake, as a broadcast has set WAITERS, and which frees it all the same; one that signals; and one that broadcasts.
+static KILLED: [Step; 11] = [
+    Calls(First, OnMutex(Lock(0)), Some(OK)),
+    Calls(First, OnCondition(Broadcast(0)), Some(OK)),
+    Kills(1),
+    Calls(First, OnMutex(Unlock(0)), None),
+    Calls(Second, OnMutex(TryLock(0)), Some(OK)),
+    Kills(2),
+    Calls(Second, OnCondition(Signal(0)), None),
+    Calls(Third, OnMutex(TryLock(0)), Some(EOWNERDEAD)),
+    Kills(3),
+    Calls(Third, OnCondition(Broadcast(0)), None),
+    Calls(Fourth, OnMutex(TryLock(0)), Some(EOWNERDEAD)),
+];
+
+#[test]
+fn killed_owners_die_in_their_next_calls(rt: HostRuntime) -> Result<(), Fail> {
+    let left = plays(&rt, rt.alloc(), Layout::new(5, 1, &[0])?, &[0], &KILLED)?;
+    assert!(rt; left.is_some_and(|left| left.cells[0] == 0xc000_0004 && left.counters[0] == 1));
     Ok(())
 }
 

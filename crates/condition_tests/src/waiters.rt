@@ -2,9 +2,9 @@
 ghost use Rattle.ruledwords.specs.Passes.{IsLive};
 
 use crate::roles::Role::{
-    self, Broadcasts, BroadcastsToOne, DiesInItsWait, Kills, KillsAfter, KillsBesideAMove,
-    KillsProcessBesideAMove, MovesAndKills, MovesBesideAKill, Nothing, Repeats, Signals, Waits,
-    WaitsAtOnce,
+    self, Broadcasts, BroadcastsToOne, ComesAndBroadcasts, DiesInItsWait, Kills, KillsAfter,
+    KillsBesideAMove, KillsProcessBesideAMove, MovesAndKills, MovesBesideAKill, Nothing, Repeats,
+    Signals, Waits, WaitsAboveASleeper, WaitsAtOnce, Watches,
 };
 use crate::roles::{Board, two_act};
 use condvar::Op::OnMutex;
@@ -177,6 +177,18 @@ fn signals_wake_one_each_in_order(rt: HostRuntime) -> Result<(), Fail> {
     Ok(())
 }
 
+/// A wait wakes whoever sleeps on its mutex, and its fate is asked before that, too: once more than that of a wait which finds nobody there.
+#[test]
+fn a_wait_wakes_a_sleeper_of_its_mutex(rt: HostRuntime) -> Result<(), Fail> {
+    for place in &PLACES {
+        let roles = [WaitsAboveASleeper, ComesAndBroadcasts, Watches, Nothing];
+        let found = played(&rt, rt.alloc(), place, roles)?;
+        assert!(rt; found.well == [true; 4] && found.told == Some(Reply::OK));
+        assert!(rt; found.order == 1 && found.counter == 1 && found.asked == [MOVED + 1, 0, 0]);
+    }
+    Ok(())
+}
+
 /// A waiter that was moved and woken dies before each access of the lock that ends its wait: before the load and the exchange it hasn't the mutex yet, and before the five further ones it owns it.
 #[test]
 fn a_woken_waiter_dies_before_each_access(rt: HostRuntime) -> Result<(), Fail> {
@@ -208,7 +220,7 @@ fn a_wait_is_answered_beside_broadcasts(rt: HostRuntime) -> Result<(), Fail> {
             &rt,
             rt.alloc(),
             place,
-            [WaitsAtOnce, Repeats, Nothing, Nothing],
+            [WaitsAtOnce, Repeats, Watches, Nothing],
         )?;
         assert!(rt; found.well == [true; 4] && found.order == 1 && found.told == Some(Reply::OK));
     }

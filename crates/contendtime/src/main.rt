@@ -1,162 +1,173 @@
-//! How long a lock and an unlock of a robust mutex take where several threads make them at once.
+//! How long calls on a robust mutex and its condition variables take where several threads make them at once.
 //!
-//! `contendtime THREADS PAIRS` lets 1 to 64 threads make so many pairs of lock and unlock on one mutex, as many each; `contendtime THREADS PAIRS own` lets each make them on a
-//! mutex of its own. It prints nanoseconds a pair, by the clock on the wall. Without words it measures nothing. The figures are the machine's; no test looks at them.
+//! `contendtime THREADS TIMES CASE` lets 1 to 64 threads make calls, and prints nanoseconds by the clock on the wall, of which case:
+//!
+//! ```text
+//! one        TIMES pairs of lock and unlock of one mutex, as many by each thread: a pair
+//! own        the same, each thread of a mutex of its own: a pair
+//! pingpong   two threads signal each other and wait for each other by turns, TIMES rounds: a round
+//! broadcast  one thread wakes all others by a broadcast, TIMES times: a broadcast, until all of them wait again
+//! death      a thread takes a mutex from a dead owner, declares it consistent and dies as its owner, and the next one begins: a thread
+//! ```
+//!
+//! Without words it measures nothing. The figures are the machine's; no test looks at them.
 #![tactic(auto)]
 
-ghost use Rattle.std.specs.Prelude.{◌≡◌, ◌<◌, ◌≤◌, nat_lt, All, length, IfOk};
-ghost use Rattle.condvar.specs.Ops.{is_in};
-ghost use Rattle.keys.specs.Layouts.{Layout'};
-ghost use Rattle.ruledwords.specs.Passes.{layout_of, IsLive};
+mod calls;
+mod load;
+mod meets;
+
+ghost use Rattle.std.specs.Prelude.{◌≡◌, All, IfOk};
+ghost use Rattle.ruledwords.specs.Passes.{IsLive};
 ghost use Rattle.threadbench.specs.Jobs.{IsJobOf};
 
-use condvar::Op;
+use crate::calls::calls_for;
+use crate::load::{Case, Load};
+use crate::meets::Meets;
 use keys::Layout;
 use lockword::Reply;
-use mutex::Call;
 use ruledwords::{Live, Pass};
 use std::alloc::{AllocError, Global};
 use std::sync::Wait;
 use std::thread::Threads;
 use std::time::{Clock, Duration, Instant};
 use std::{env, io};
-use threadbench::{Bench, Job, Open, Record, WorkerPass};
+use threadbench::{Bench, Gate, Job, Open, Record, WorkerPass};
 
-/// What is measured: by how many threads, how many pairs each, and whether each has a mutex of its own.
-#[derive(Drop)]
-struct Load {
-    threads: u8,
-    pairs: u32,
-    own: bool,
-}
-
-/// So many locks, each with its unlock.
-fn pairs_on(alloc: Global, mutex: u16, pairs: u32) -> Result<Vec<Op>, AllocError>
-    ensures { IfOk result (λ calls. All (λ c. (k : Layout') → is_in k c ≡ nat_lt mutex k.mutexes) calls.items) }
-{
-    let mut calls = Vec::new(alloc);
-    for _pair in 0..pairs {
-        calls.push(Op::OnMutex(Call::Lock(mutex)))?;
-        calls.push(Op::OnMutex(Call::Unlock(mutex)))?;
-    }
-    Ok(calls)
-}
-
-/// The mutex of the thread that comes so many after the first.
-fn mutex_for(load: &Load, thread: u16) -> u16
-    requires { 0 < load.now.threads }
-    ensures { result < load.now.threads }
-{
-    if load.own {
-        thread % u16::from(load.threads)
-    } else {
-        0
-    }
-}
-
-/// A pass's job: its pairs on this mutex.
-fn job_on(
+/// The job of the thread that comes so many after the first.
+fn job_for(
     alloc: Global,
     bench: &Bench,
     pass: Pass<Live>,
-    mutex: u16,
-    pairs: u32,
+    load: &Load,
+    thread: u16,
 ) -> Result<Job, AllocError>
-    requires pass { IsLive bench.now pass }
-    requires mutex { mutex < (layout_of bench.now).mutexes }
+    requires { IsLive bench.now pass }
     ensures { IfOk result (IsJobOf bench.now) }
 {
-    let calls = pairs_on(alloc, mutex, pairs)?;
+    let calls = calls_for(alloc, bench, load, thread)?;
     Ok(Job {
         pass: WorkerPass::Lives(pass),
         calls,
-        die: None,
+        die: load.dies_before(),
     })
 }
 
-/// A job for each pass, of a bench with as many mutexes as threads.
+/// A job for each pass.
 fn jobs_of(
     alloc: Global,
     bench: &Bench,
     passes: Vec<Pass<Live>>,
     load: &Load,
 ) -> Result<Vec<Job>, AllocError>
-    requires passes { All (λ p. IsLive bench.now p) passes.items }
-    requires threads { 0 < load.now.threads }
-    requires mutexes { (layout_of bench.now).mutexes ≡ load.now.threads }
+    requires { All (λ p. IsLive bench.now p) passes.items }
     ensures { IfOk result (λ jobs. All (IsJobOf bench.now) jobs.items) }
 {
     let mut jobs = Vec::new(alloc);
     let mut thread = 0_u16;
     for pass in passes {
-        let job = job_on(alloc, bench, pass, mutex_for(load, thread), load.pairs)?;
+        let job = job_for(alloc, bench, pass, load, thread)?;
         jobs.push(job)?;
         thread = thread.wrapping_add(1);
     }
     Ok(jobs)
 }
 
-/// How many calls were answered OK.
+/// How many calls went well: were answered OK, or that the mutex's owner had died.
 fn went_well(records: &[Record]) -> u64 {
     let mut well = 0_u64;
     for record in records {
         for reply in &record.replies {
-            well = well.wrapping_add(u64::from(*reply == Reply::OK));
+            let is_well = matches!(*reply, Reply::OK | Reply::EOWNERDEAD);
+            well = well.wrapping_add(u64::from(is_well));
         }
     }
     well
 }
 
-fn tell(rt: &HostRuntime, load: &Load, well: u64, took: Duration) -> io::Result<()> {
-    let pairs = u64::from(load.pairs).wrapping_mul(u64::from(load.threads));
-    let each = took.as_nanos() / u128::from(pairs.max(1));
-    let whose = if load.own {
-        "each its own"
-    } else {
-        "one mutex"
-    };
-    let threads = load.threads;
-    println!(rt;
-        "{threads} threads, {whose}: {each} ns a pair, {well} calls of {pairs} pairs went well"
-    )
+/// All jobs at once: how many calls went well; none where threads can't be had.
+fn at_once<R: Threads + Wait + Sync, G: Gate + Sync>(
+    rt: &R,
+    alloc: Global,
+    bench: &Bench,
+    jobs: Vec<Job>,
+    gate: &G,
+) -> Option<u64>
+    requires { All (IsJobOf bench.now) jobs.items }
+{
+    match bench.work(rt, alloc, jobs, gate) {
+        Ok(records) => Some(went_well(records.as_slice())),
+        Err(_) => None,
+    }
 }
 
-/// How long the load's calls took, and how many were answered OK; none where the threads can't be had.
+/// The jobs one after the other.
+fn by_turns<R: Threads + Wait + Sync>(
+    rt: &R,
+    alloc: Global,
+    bench: &Bench,
+    jobs: Vec<Job>,
+) -> Option<u64>
+    requires { All (IsJobOf bench.now) jobs.items }
+{
+    let mut well = 0_u64;
+    for job in jobs {
+        let Ok(one) = Vec::from_array(alloc, [job]) else {
+            return None;
+        };
+        well = well.wrapping_add(at_once(rt, alloc, bench, one, &Open)?);
+    }
+    Some(well)
+}
+
+/// The load's calls: how many went well.
+fn made<R: Threads + Wait + Sync>(
+    rt: &R,
+    alloc: Global,
+    bench: &Bench,
+    jobs: Vec<Job>,
+    load: &Load,
+) -> Option<u64>
+    requires { All (IsJobOf bench.now) jobs.items }
+{
+    match load.case {
+        Case::One | Case::Own => at_once(rt, alloc, bench, jobs, &Open),
+        Case::PingPong | Case::Broadcast => {
+            let gate = Meets::new(load);
+            at_once(rt, alloc, bench, jobs, &gate)
+        }
+        Case::Death => by_turns(rt, alloc, bench, jobs),
+    }
+}
+
+/// How long the load's calls took, and how many went well; none where memory or threads can't be had.
 fn measure<R: Threads + Wait + Clock + Sync>(
     rt: &R,
     alloc: Global,
     load: &Load,
 ) -> io::Result<Option<(Duration, u64)>> {
-    let Ok(layout) = Layout::new(load.threads, u16::from(load.threads), &[]) else {
+    let Ok(layout) = Layout::new(load.threads, u16::from(load.threads), &[0, 0]) else {
         return Ok(None);
     };
-    let Ok((bench, passes)) = Bench::new(alloc, layout, &[]) else {
+    let Ok((bench, passes)) = Bench::new(alloc, layout, &[0, 0]) else {
         return Ok(None);
     };
     let Ok(jobs) = jobs_of(alloc, &bench, passes, load) else {
         return Ok(None);
     };
     let start = Instant::now(rt)?;
-    let Ok(records) = bench.work(rt, alloc, jobs, &Open) else {
+    let Some(well) = made(rt, alloc, &bench, jobs, load) else {
         return Ok(None);
     };
     let took = start.elapsed(rt)?;
-    Ok(Some((took, went_well(records.as_slice()))))
+    Ok(Some((took, well)))
 }
 
-/// The load that these words ask for.
-fn load_of(words: &[String]) -> Option<Load> {
-    let [threads, pairs, rest @ ..] = words else {
-        return None;
-    };
-    let threads = threads.parse::<u8>().ok()?;
-    let pairs = pairs.parse::<u32>().ok()?;
-    let own = !rest.is_empty();
-    Some(Load {
-        threads,
-        pairs: pairs / u32::from(threads.max(1)),
-        own,
-    })
+fn tell(rt: &HostRuntime, load: &Load, well: u64, took: Duration) -> io::Result<()> {
+    let each = took.as_nanos() / u128::from(load.units().max(1));
+    let threads = load.threads;
+    let case = load.case.name();
+    println!(rt; "{threads} {case}: {each} ns, {well} calls went well")
 }
 
 fn main(rt: HostRuntime) -> io::Result<()> {
@@ -166,7 +177,7 @@ fn main(rt: HostRuntime) -> io::Result<()> {
             return Ok(());
         }
     }
-    let Some(load) = load_of(words.as_slice()) else {
+    let Some(load) = Load::of(words.as_slice()) else {
         return Ok(());
     };
     if let Some((took, well)) = measure(&rt, rt.alloc(), &load)? {

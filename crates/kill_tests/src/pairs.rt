@@ -1,10 +1,11 @@
-//! Two threads that sleep on the mutex of an owner that dies.
+//! Two threads that sleep on mutexes of an owner that dies, or that kills them.
+ghost use Rattle.std.specs.Prelude.{IfSome};
 ghost use Rattle.ruledwords.specs.Passes.{IsLive};
 
 use condvar::Op::OnMutex;
 use keys::Layout;
 use lockword::Reply::{self, ENOTRECOVERABLE, EOWNERDEAD, OK};
-use mutex::Call::{Consistent, Lock, Unlock};
+use mutex::Call::{self, Consistent, Lock, Unlock};
 use ruledwords::{Live, Never, Pass};
 use std::alloc::Global;
 use std::sync::Wait;
@@ -12,53 +13,83 @@ use std::sync::atomic::{AtomicU64, Ordering};
 use std::test::Fail;
 use std::thread::{self, Threads};
 use std::time::Clock;
-use thread_fixtures::{Asked, Team, makes, settles, waits_for};
+use thread_fixtures::{Asked, Team, are_asleep, ends_unless, fall_asleep, makes, waits_for};
 use threadbench::Bench;
 
-/// How often the fates of two threads are asked at least that lock an owned mutex, until both sleep: four times of the one that sets WAITERS, three times of the one that finds it set.
-const BOTH_ASLEEP: u64 = 7;
-
-/// How often the fate of a thread is asked that was woken, until it has the mutex.
-const WOKEN: u64 = 7;
+/// The threads that sleep.
+static SLEEPERS: [u8; 2] = [4, 5];
 
 /// What the threads tell each other.
 #[derive(Drop)]
 struct Board {
-    /// How often the fates of the two that lock were asked.
-    asked: AtomicU64,
-    /// So often when both slept.
-    slept: AtomicU64,
-    /// So often when one of them was told that the owner had died, and some time more.
-    told: AtomicU64,
+    /// How many of the sleepers have ended their parts.
+    ended: AtomicU64,
+    /// How many were told that the owner had died while the other one slept on.
+    alone: AtomicU64,
 }
 
-/// How the owner leaves two sleepers.
+/// How the owner leaves two sleepers. It had the mutex from a dead owner where it spoils it: it frees it without declaring it consistent.
 #[derive(Clone, Copy, PartialEq, Eq)]
 enum End {
     /// It dies before its next access.
     Dies,
-    /// It had the mutex from a dead owner, and frees it without declaring it consistent.
+    /// The same, and each of the two sleeps on a mutex of its own.
+    DiesWithBoth,
     Spoils,
+    /// It spoils it, and dies before it wakes anybody.
+    SpoilsAndDies,
+    /// It kills their process, which is 1, waits until both have ended, and frees the mutex.
+    KillsTheirProcess,
+    /// Likewise that of a layout in which theirs is 0.
+    KillsProcess0,
 }
 
-/// A sleeper's part: it locks, declares what it repaired consistent, and unlocks. What its lock was told.
-fn follows<R: Wait + Clock>(rt: &R, bench: &Bench, pass: Pass<Live>, board: &Board) -> Option<Reply>
+impl End {
+    /// The process of the sleepers.
+    fn process(self) -> u8 {
+        if self == End::KillsProcess0 { 0 } else { 1 }
+    }
+
+    fn layout(self) -> Result<Layout, Fail> {
+        let theirs = self.process();
+        let other = if theirs == 0 { 1 } else { 0 };
+        Ok(Layout::with_processes(&[other, other, other, theirs, theirs], &[0, 1000], 2, &[])?)
+    }
+
+    fn spoils(self) -> bool {
+        matches!(self, End::Spoils | End::SpoilsAndDies)
+    }
+
+    /// On which mutex the other one of the two sleeps.
+    fn other_mutex(self) -> u16 {
+        if self == End::DiesWithBoth { 1 } else { 0 }
+    }
+}
+
+/// A sleeper's part: it locks, looks whether the other one sleeps on if the owner has died, declares what it repaired consistent, and unlocks. What its lock was told.
+fn follows<R: Wait + Clock>(
+    rt: &R,
+    bench: &Bench,
+    pass: Pass<Live>,
+    mutex: u16,
+    other: u8,
+    board: &Board,
+) -> Option<Reply>
     requires { IsLive bench.now pass }
 {
-    let mut fate = Asked::new(&board.asked, 0);
-    let (pass, told) = makes(rt, bench, pass, OnMutex(Lock(0)), &mut fate)?;
-    if told == EOWNERDEAD {
-        settles(rt);
-        let asked = board.asked.load(Ordering::SeqCst);
-        board.told.store(asked, Ordering::SeqCst);
+    let locked = makes(rt, bench, pass, OnMutex(Lock(mutex)), &mut Never);
+    if matches!(locked, Some((_, EOWNERDEAD))) && are_asleep(rt, bench, &[other]) {
+        board.alone.fetch_add(1, Ordering::SeqCst);
     }
-    let (pass, _) = makes(rt, bench, pass, OnMutex(Consistent(0)), &mut Never)?;
-    let (_pass, _) = makes(rt, bench, pass, OnMutex(Unlock(0)), &mut Never)?;
+    board.ended.fetch_add(1, Ordering::SeqCst);
+    let (pass, told) = locked?;
+    let (pass, _) = makes(rt, bench, pass, OnMutex(Consistent(mutex)), &mut Never)?;
+    let (_pass, _) = makes(rt, bench, pass, OnMutex(Unlock(mutex)), &mut Never)?;
     Some(told)
 }
 
-/// Makes a call in which the thread dies before its first access: whether it did.
-fn dies<R: Wait>(rt: &R, bench: &Bench, pass: Pass<Live>) -> bool
+/// Makes a call in which the thread dies before its access with that number: whether it did.
+fn dies<R: Wait>(rt: &R, bench: &Bench, pass: Pass<Live>, call: Call, access: u64) -> bool
     requires { IsLive bench.now pass }
 {
     let count = AtomicU64::new(0);
@@ -66,8 +97,8 @@ fn dies<R: Wait>(rt: &R, bench: &Bench, pass: Pass<Live>) -> bool
         rt,
         bench,
         pass,
-        OnMutex(Consistent(0)),
-        &mut Asked::new(&count, 1),
+        OnMutex(call),
+        &mut Asked::new(&count, access),
     )
     .is_none()
 }
@@ -77,23 +108,34 @@ fn has_and_dies<R: Wait>(rt: &R, bench: &Bench, pass: Pass<Live>) -> bool
     requires { IsLive bench.now pass }
 {
     match makes(rt, bench, pass, OnMutex(Lock(0)), &mut Never) {
-        Some((pass, _)) => dies(rt, bench, pass),
+        Some((pass, _)) => dies(rt, bench, pass, Consistent(0), 1),
         None => false,
     }
 }
 
-/// The owner's part, once both sleep: whether it went so.
+/// The owner kills the sleepers' process, and frees the mutex once both have ended: whether it went so.
+fn kills<R: Wait + Clock>(rt: &R, bench: &Bench, pass: Pass<Live>, end: End, board: &Board) -> bool
+    requires { IsLive bench.now pass }
+{
+    let killed = bench.kill_process(rt, end.process()) == Ok(());
+    let ended = waits_for(rt, &board.ended, 2);
+    killed && ended && makes(rt, bench, pass, OnMutex(Unlock(0)), &mut Never).is_some()
+}
+
+/// The owner's part, once both sleep, and then until both have ended: whether it went so.
 fn ends<R: Wait + Clock>(rt: &R, bench: &Bench, pass: Pass<Live>, end: End, board: &Board) -> bool
     requires { IsLive bench.now pass }
 {
-    let came = waits_for(rt, &board.asked, BOTH_ASLEEP);
-    settles(rt);
-    let asked = board.asked.load(Ordering::SeqCst);
-    board.slept.store(asked, Ordering::SeqCst);
-    came && match end {
-        End::Dies => dies(rt, bench, pass),
+    let came = fall_asleep(rt, bench, &SLEEPERS);
+    let went = match end {
+        End::Dies | End::DiesWithBoth => dies(rt, bench, pass, Consistent(0), 1),
         End::Spoils => makes(rt, bench, pass, OnMutex(Unlock(0)), &mut Never).is_some(),
-    }
+        // an unlock makes six accesses up to the one that frees the mutex
+        End::SpoilsAndDies => dies(rt, bench, pass, Unlock(0), 7),
+        End::KillsTheirProcess | End::KillsProcess0 => kills(rt, bench, pass, end, board),
+    };
+    let ended = waits_for(rt, &board.ended, 2);
+    ends_unless(rt, bench, came && went && ended)
 }
 
 /// Two sleepers at once: what each was told.
@@ -102,6 +144,7 @@ fn both_follow<R: Threads + Wait + Clock + Sync>(
     bench: &Bench,
     one: Pass<Live>,
     other: Pass<Live>,
+    mutex: u16,
     board: &Board,
 ) -> (Option<Reply>, Option<Reply>)
     requires one { IsLive bench.now one }
@@ -111,25 +154,33 @@ fn both_follow<R: Threads + Wait + Clock + Sync>(
         rt,
         || -> Option<Reply>
             requires { IsLive bench.now one }
-        { follows(rt, bench, one, board) },
+        { follows(rt, bench, one, 0, SLEEPERS[1], board) },
         || -> Option<Reply>
             requires { IsLive bench.now other }
-        { follows(rt, bench, other, board) },
+        { follows(rt, bench, other, mutex, SLEEPERS[0], board) },
     )
 }
 
 /// What came of it.
 #[derive(Clone, Copy)]
 struct Story {
-    /// Whether the owner did its part.
+    /// Whether the owner did its part, and both sleepers ended theirs.
     well: bool,
     /// What the two were told.
     told: [Option<Reply>; 2],
-    /// How often their fates were asked between their sleep and the time behind the first one's lock, in which it hadn't unlocked yet, where that was told that the owner had died.
-    woken: u64,
+    /// How many were told that the owner had died while the other one slept on.
+    alone: u64,
 }
 
-/// The third of a team owns the mutex, which its first had and died with if it is to be spoiled, and the last two sleep on it.
+/// Locks this mutex: the pass then.
+fn has<R: Wait>(rt: &R, bench: &Bench, pass: Pass<Live>, mutex: u16) -> Option<Pass<Live>>
+    requires { IsLive bench.now pass }
+    ensures { IfSome result (λ p. IsLive bench.now p) }
+{
+    makes(rt, bench, pass, OnMutex(Lock(mutex)), &mut Never).map(|made| made.0)
+}
+
+/// The third of a team owns both mutexes, the first of which its first had and died with if it is to be spoiled, and the last two sleep.
 fn played<R: Threads + Wait + Clock + Sync>(
     rt: &R,
     alloc: Global,
@@ -142,17 +193,19 @@ fn played<R: Threads + Wait + Clock + Sync>(
         third,
         fourth,
         fifth,
-    } = Team::new(alloc, Layout::new(5, 1, &[])?, &[])?;
-    if end == End::Spoils && !has_and_dies(rt, &bench, first) {
+    } = Team::new(alloc, end.layout()?, &[])?;
+    if end.spoils() && !has_and_dies(rt, &bench, first) {
         return Ok(None);
     }
-    let Some((third, _)) = makes(rt, &bench, third, OnMutex(Lock(0)), &mut Never) else {
+    let Some(third) = has(rt, &bench, third, 0) else {
+        return Ok(None);
+    };
+    let Some(third) = has(rt, &bench, third, 1) else {
         return Ok(None);
     };
     let board = Board {
-        asked: AtomicU64::new(0),
-        slept: AtomicU64::new(0),
-        told: AtomicU64::new(0),
+        ended: AtomicU64::new(0),
+        alone: AtomicU64::new(0),
     };
     let shared = &bench;
     let between = &board;
@@ -164,43 +217,61 @@ fn played<R: Threads + Wait + Clock + Sync>(
         || -> (Option<Reply>, Option<Reply>)
             requires one { IsLive shared.now fourth }
             requires other { IsLive shared.now fifth }
-        { both_follow(rt, shared, fourth, fifth, between) },
+        { both_follow(rt, shared, fourth, fifth, end.other_mutex(), between) },
     );
-    let slept = board.slept.load(Ordering::SeqCst);
     Ok(Some(Story {
         well,
         told: [told.0, told.1],
-        woken: board.told.load(Ordering::SeqCst).wrapping_sub(slept),
+        alone: board.alone.load(Ordering::SeqCst),
     }))
 }
 
-/// The owner dies while two sleep: the walk wakes one of them, which is told so, declares the mutex consistent and frees it, and only then the other one is woken. In some rounds they may fall asleep late.
+/// The owner dies while two sleep: the walk wakes one of them, which is told so, declares the mutex consistent and frees it, and only then the other one is woken.
 #[test]
 fn both_sleepers_of_a_dead_owner_wake(rt: HostRuntime) -> Result<(), Fail> {
-    let mut one_by_one = 0_u32;
-    for _ in 0..20_u32 {
+    for _ in 0..5_u32 {
         let Some(story) = played(&rt, rt.alloc(), End::Dies)? else {
             return Err(Fail::new("the owner has it"));
         };
         let first = story.told == [Some(EOWNERDEAD), Some(OK)];
         assert!(rt; story.well && (first || story.told == [Some(OK), Some(EOWNERDEAD)]));
-        if story.woken == WOKEN {
-            one_by_one = one_by_one.wrapping_add(1);
-        }
+        assert!(rt; story.alone == 1);
     }
-    assert!(rt; one_by_one >= 10);
     Ok(())
 }
 
-/// The mutex becomes unusable while two sleep on it: both are woken, and told so.
+/// Whether each of the two was told so.
+fn both_are_told<R: Threads + Wait + Clock + Sync>(
+    rt: &R,
+    alloc: Global,
+    end: End,
+    told: Option<Reply>,
+) -> Result<bool, Fail> {
+    let story = played(rt, alloc, end)?;
+    Ok(story.is_some_and(|story| story.well && story.told == [told, told]))
+}
+
+/// The owner of two mutexes dies: the walk wakes the sleeper of each.
+#[test]
+fn sleepers_of_both_mutexes_wake(rt: HostRuntime) -> Result<(), Fail> {
+    assert!(rt; both_are_told(&rt, rt.alloc(), End::DiesWithBoth, Some(EOWNERDEAD))?);
+    Ok(())
+}
+
+/// The mutex becomes unusable while two sleep on it: both are woken, and told so. Where its owner dies before it wakes them, the walk wakes one, whose lock finds the mutex unusable and wakes the other.
 #[test]
 fn both_sleepers_of_a_spoiled_mutex_are_told(rt: HostRuntime) -> Result<(), Fail> {
-    for _ in 0..20_u32 {
-        let story = played(&rt, rt.alloc(), End::Spoils)?;
-        assert!(rt;
-            story.is_some_and(|story| story.well
-                && story.told == [Some(ENOTRECOVERABLE), Some(ENOTRECOVERABLE)])
-        );
+    for end in [End::Spoils, End::SpoilsAndDies] {
+        assert!(rt; both_are_told(&rt, rt.alloc(), end, Some(ENOTRECOVERABLE))?);
+    }
+    Ok(())
+}
+
+/// A process is killed, the first or another one, while two of its threads sleep: both end.
+#[test]
+fn both_sleepers_of_a_process_are_killed(rt: HostRuntime) -> Result<(), Fail> {
+    for end in [End::KillsTheirProcess, End::KillsProcess0] {
+        assert!(rt; both_are_told(&rt, rt.alloc(), end, None)?);
     }
     Ok(())
 }

@@ -12,7 +12,7 @@ use std::sync::atomic::{AtomicU64, Ordering};
 use std::test::Fail;
 use std::thread::{self, Threads};
 use std::time::Clock;
-use thread_fixtures::{Asked, Left, Team, makes, settles, waits_for};
+use thread_fixtures::{Asked, Left, Team, ends_unless, fall_asleep, makes, waits_for};
 use threadbench::Bench;
 
 /// How often the fate of a thread is asked that locks an owned mutex, until it sleeps.
@@ -85,7 +85,7 @@ fn kill_and_free<R: Wait + Clock>(
     };
     let died = waits_for(rt, &board.ended, 1);
     let made = makes(rt, bench, pass, OnMutex(Unlock(plan.mutex)), &mut Never);
-    killed && died && made.is_some()
+    ends_unless(rt, bench, killed && died && made.is_some())
 }
 
 /// The owner's part: whether it went so.
@@ -96,8 +96,7 @@ fn acts<R: Wait + Clock>(rt: &R, bench: &Bench, pass: Pass<Live>, plan: Plan, bo
         let came = waits_for(rt, &board.asked, asked);
         return kill_and_free(rt, bench, pass, plan, board) && came;
     }
-    let came = waits_for(rt, &board.asked, ASLEEP);
-    settles(rt);
+    let came = fall_asleep(rt, bench, &[plan.sleeper]);
     let count = AtomicU64::new(0);
     let (op, stops_at) = match plan.act {
         Act::Kills | Act::KillsAfter(_) | Act::KillsItsProcess => {
@@ -116,7 +115,7 @@ fn acts<R: Wait + Clock>(rt: &R, bench: &Bench, pass: Pass<Live>, plan: Plan, bo
         OnMutex(op),
         &mut Asked::new(&count, stops_at),
     );
-    came && killed && made.is_none()
+    ends_unless(rt, bench, came && killed && made.is_none())
 }
 
 /// What came of a plan.

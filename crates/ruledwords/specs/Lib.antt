@@ -8,6 +8,7 @@ pub mod OwnWords
 pub mod Lists
 pub mod Passes
 pub mod Looks
+pub mod Found
 pub mod Gathered
 pub mod Calls
 pub mod Conditions

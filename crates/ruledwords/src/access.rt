@@ -17,8 +17,10 @@ ghost use Rattle.ruledwords.specs.Calls.{Ready, IsOnMutex, IsInLayout, Made, Own
 ghost use Rattle.ruledwords.specs.Passes.{IsCardOf};
 ghost use Rattle.ruledwords.specs.ConditionCalls.{CanAct, HasActed, IsSeatedCondCall, FindsCondWord, IsCondStep};
 ghost use Rattle.ruledwords.specs.Changes.{Writes};
+ghost use Rattle.ruledwords.specs.Found.{place_found, word_found};
 ghost use Rattle.ruledwords.specs.Looks.{Finds, noted};
 
+use crate::counter::CounterWord;
 use crate::pass::{Live, Pass, View, Words};
 use crate::rule::{Look, LookAtCounter, Recall, Store, Trim};
 use atomic_table::{Play, Seat};
@@ -275,19 +277,24 @@ impl Words {
     }
 
     /// The word of a condition variable's counter, as it is.
-    pub(crate) fn look_at_counter(&self, pass: &mut Pass<Live>, at: u64) -> u64
+    pub(crate) fn look_at_counter(&self, pass: &mut Pass<Live>, at: u64) -> CounterWord
         requires table { pass.old.seat.table_id ≡ self.now.table.shared.table_id }
         requires place { (q : ℕ) × (q < length self.now.layout.conditions) × (at ≡ counter_place self.now.layout q) }
         ensures table { pass.new.seat.table_id ≡ pass.old.seat.table_id }
-        ensures card { card_of pass.new.seat.me.0 ≡ noted (card_of pass.old.seat.me.0) result (card_of pass.old.seat.me.0).trims (card_of pass.old.seat.me.0).changes }
+        ensures place { place_found result ≡ at }
+        ensures card { card_of pass.new.seat.me.0 ≡ noted (card_of pass.old.seat.me.0) (word_found result) (card_of pass.old.seat.me.0).trims (card_of pass.old.seat.me.0).changes }
         ensures held { pass.new.held ≡ pass.old.held }
-        ensures small { result ≤ largest_counter }
-        ensures known { (x : ℕ) → value_at (card_of pass.old.seat.me.0).values at ≡ Some x → result ≡ x }
+        ensures small { word_found result ≤ largest_counter }
+        ensures known { (x : ℕ) → value_at (card_of pass.old.seat.me.0).values at ≡ Some x → word_found result ≡ x }
     {
         let _thread = pass.thread;
-        self.table
-            .shared
-            .load::<LookAtCounter>(&mut pass.seat, at as usize)
+        CounterWord {
+            at,
+            word: self
+                .table
+                .shared
+                .load::<LookAtCounter>(&mut pass.seat, at as usize),
+        }
     }
 
     /// Makes the word of a mutex's cell 0 where WAITERS is all that it says, and gives the word that it found.

@@ -13,8 +13,10 @@ ghost use Rattle.ruledwords.specs.ConditionCalls.{cond_access_in, cond_call, con
 ghost use Rattle.ruledwords.specs.Conditions.{condition_at, Compares, IsMove};
 ghost use Rattle.ruledwords.specs.ConditionStands.{CondKeeps, HasDiedInCondition, IsCondUnderWay};
 ghost use Rattle.ruledwords.specs.Counts.{cell_at};
+ghost use Rattle.ruledwords.specs.Found.{place_found, word_found};
 ghost use Rattle.ruledwords.specs.Passes.{card, layout_of, IsDying, IsLive};
 
+use crate::counter::CounterWord;
 use crate::pass::{Dead, Live, Pass, Words};
 use crate::running::{address, answer, count};
 use crate::turn::{CondRunning, CondTurn, Running};
@@ -97,14 +99,15 @@ impl CondRunning {
         }
     }
 
-    /// The word of the counter, for a section that compares it: a wait's sleep, or a broadcast's move. Nothing is seen anew.
-    pub fn load(&mut self, words: &Words) -> u64
+    /// The word of its condition variable's counter, for a section that compares it: a wait's sleep, or a broadcast's move. Nothing is seen anew.
+    pub fn load(&mut self, words: &Words) -> CounterWord
         requires words { IsCondRunningOf words.now self.old }
         requires section { Compares (cond_access_in self.old) }
         ensures unmoved { CondUnmoved words.now self.old self.new }
-        ensures last { ((card (cond_pass self.new)).last ≡ result) × ((card (cond_pass self.new)).trims ≡ (card (cond_pass self.old)).trims) }
-        ensures small { result ≤ largest_counter }
-        ensures known { (x : ℕ) → value_at (card (cond_pass self.old)).values (counter_place (layout_of words.now) (condition_at (layout_of words.now) (cond_call self.old))) ≡ Some x → result ≡ x }
+        ensures counter { place_found result ≡ counter_place (layout_of words.now) (condition_at (layout_of words.now) (cond_call self.old)) }
+        ensures last { ((card (cond_pass self.new)).last ≡ word_found result) × ((card (cond_pass self.new)).trims ≡ (card (cond_pass self.old)).trims) }
+        ensures small { word_found result ≤ largest_counter }
+        ensures known { (x : ℕ) → value_at (card (cond_pass self.old)).values (counter_place (layout_of words.now) (condition_at (layout_of words.now) (cond_call self.old))) ≡ Some x → word_found result ≡ x }
     {
         let at = self.place(words);
         words.look_at_counter(&mut self.pass, at)

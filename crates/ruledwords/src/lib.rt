@@ -13,6 +13,7 @@ mod access;
 mod calls;
 mod close;
 mod condition;
+mod counter;
 mod fate;
 mod open;
 mod pass;
@@ -22,6 +23,7 @@ mod step;
 mod turn;
 mod walk;
 
+pub use counter::CounterWord;
 pub use fate::{Fate, Never, either_stops};
 pub use pass::{Card, Dead, Last, Live, Pass, Reaped, Spent, Words};
 pub use turn::{

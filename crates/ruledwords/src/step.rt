@@ -31,6 +31,9 @@ pub(crate) enum End {
 pub(crate) trait Begins {
     /// Whether such a call begins there.
     fn begins(phase: Phase) -> bool;
+
+    /// Whether such a call takes its mutex there.
+    fn takes(phase: Phase) -> bool;
 }
 
 /// Locks.
@@ -46,6 +49,11 @@ impl Begins for Locks {
             }
         )
     }
+
+    #[inline(always)]
+    fn takes(phase: Phase) -> bool {
+        matches!(phase, Phase::AtCell(Row::Lock(LockRow::Take { .. })))
+    }
 }
 
 /// Trylocks.
@@ -60,6 +68,11 @@ impl Begins for TryLocks {
                 next: Row::TryLock(TryLockRow::Load)
             }
         )
+    }
+
+    #[inline(always)]
+    fn takes(phase: Phase) -> bool {
+        matches!(phase, Phase::AtCell(Row::TryLock(TryLockRow::Take { .. })))
     }
 }
 
@@ -110,6 +123,9 @@ impl Words {
         }
         self.step(pass, &mut program, fate, note)?;
         self.step(pass, &mut program, fate, note)?;
+        if !B::takes(program.phase()) {
+            return Ok(program);
+        }
         self.step(pass, &mut program, fate, note)?;
         let Phase::Linking { .. } = program.phase() else {
             return Ok(program);
@@ -223,6 +239,22 @@ impl Running {
             Ok(program) => Stretch::Goes(Running { pass, program }),
             Err(end) => match end {
                 End::Replied(reply) => Stretch::Lives(pass, reply),
+                End::Stopped => Stretch::Dead(pass.died()),
+            },
+        }
+    }
+
+    /// As [`Running::stretch`], of a call that goes on behind a section: the compiler can't know where it stands, and needn't.
+    pub fn more<F: Fate, N: Fate>(self, words: &Words, fate: &mut F, note: &mut N) -> Stretch
+        requires words { IsRunningOf words.now self }
+        ensures stretches { Stretches words.now self result }
+        ensures fate { Heeds (F.stopped fate.old) (F.stopped fate.new) (N.stopped note.old) (N.stopped note.new) (stops_stretching result) }
+    {
+        let Running { mut pass, program } = self;
+        match words.more_steps(&mut pass, program, fate, note) {
+            Ok(program) => Stretch::Goes(Running { pass, program }),
+            Err(end) => match end {
+                End::Replied(said) => Stretch::Lives(pass, said),
                 End::Stopped => Stretch::Dead(pass.died()),
             },
         }

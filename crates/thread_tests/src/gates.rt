@@ -16,7 +16,8 @@ use std::sync::Wait;
 use std::sync::atomic::{AtomicBool, AtomicU64, Ordering};
 use std::test::Fail;
 use std::thread::{self, Threads};
-use thread_fixtures::{Asked, Left, Team, last_of, makes};
+use std::time::Clock;
+use thread_fixtures::{Asked, Left, Team, fall_asleep, last_of, makes};
 use threadbench::{Bench, Gate, Job, Record, WorkerCall, WorkerPass};
 
 /// Two threads make these calls under this gate: what is left, if they were told so. The counter begins at 5.
@@ -231,34 +232,24 @@ fn all_64_workers_are_at_work_at_once(rt: HostRuntime) -> Result<(), Fail> {
     Ok(())
 }
 
-/// The owner's call waits until all others have come to their first one, and some time more, in which they fall asleep.
-#[derive(Drop)]
-struct OwnerLast {
+/// The owner's call waits until all others sleep, who have the ids below its own.
+struct OwnerLast<'a, R: Wait + Clock> {
+    rt: &'a R,
+    bench: &'a Bench,
     owner: u8,
-    others: u64,
-    come: AtomicU64,
 }
 
-impl Gate for OwnerLast {
+impl<R: Wait + Clock> Gate for OwnerLast<'_, R> {
     ghost says = { λ g t i c. None };
 
-    fn before(&self, thread: Tid, call: WorkerCall) -> bool {
-        if thread.get() != self.owner {
-            if call.number == 1 {
-                self.come.fetch_add(1, Ordering::SeqCst);
+    fn before(&self, thread: Tid, _call: WorkerCall) -> bool {
+        let mut asleep = true;
+        if thread.get() == self.owner {
+            for other in 1..self.owner {
+                asleep = asleep && fall_asleep(self.rt, self.bench, &[other]);
             }
-            return true;
         }
-        for _ in 0..100_000_000_u64 {
-            if self.come.load(Ordering::SeqCst) == self.others {
-                break;
-            }
-            thread::yield_now();
-        }
-        for _ in 0..200_000 {
-            thread::yield_now();
-        }
-        true
+        asleep
     }
 
     fn after(&self, _thread: Tid, _call: WorkerCall) {}
@@ -309,7 +300,7 @@ fn dies_as_owner<R: Wait>(rt: &R, bench: &Bench, pass: Pass<Live>) -> bool
 
 /// A thread owns the mutex while so many others come for it; it unlocks, and each of them has it in turn, or is told that it can't be used any more. Whether all were told so, and what is left in the
 /// cell.
-fn all_have_it<R: Threads + Wait + Sync>(
+fn all_have_it<R: Threads + Wait + Clock + Sync>(
     rt: &R,
     alloc: Global,
     others: u8,
@@ -342,11 +333,17 @@ fn all_have_it<R: Threads + Wait + Sync>(
     )?;
     let jobs = with_owner(jobs, &bench, last)?;
     let gate = OwnerLast {
+        rt,
+        bench: &bench,
         owner,
-        others: u64::from(others),
-        come: AtomicU64::new(0),
     };
-    let records = work(rt, alloc, &bench, jobs, &gate)?;
+    let worked = work(rt, alloc, &bench, jobs, &gate);
+    let OwnerLast {
+        rt: _,
+        bench: _,
+        owner: _,
+    } = gate;
+    let records = worked?;
     let (taking, told) = match before {
         Before::Nobody => (OK, [OK, OK]),
         Before::Died => (EOWNERDEAD, [ENOTRECOVERABLE, EPERM]),
@@ -383,7 +380,7 @@ fn sixty_one_sleepers_are_woken_in_turn(rt: HostRuntime) -> Result<(), Fail> {
 
 /// All of them are woken at once, since nobody will take the mutex and wake the next one.
 #[test]
-fn three_sleepers_are_told_that_a_mutex_is_unusable(rt: HostRuntime) -> Result<(), Fail> {
-    assert!(rt; all_have_it(&rt, rt.alloc(), 3, Before::Died)?.is_some());
+fn sixty_one_sleepers_are_told_that_a_mutex_is_unusable(rt: HostRuntime) -> Result<(), Fail> {
+    assert!(rt; all_have_it(&rt, rt.alloc(), 61, Before::Died)?.is_some());
     Ok(())
 }

@@ -16,7 +16,7 @@ use std::sync::atomic::{AtomicU64, Ordering};
 use std::test::Fail;
 use std::thread::{self, Threads};
 use std::time::{Clock, Duration};
-use thread_fixtures::{Asked, Left, Team, makes, settles, waits_for};
+use thread_fixtures::{Asked, Left, Team, are_asleep, ends_unless, fall_asleep, makes};
 use threadbench::Bench;
 
 const ROUNDS: u32 = 5_000;
@@ -66,13 +66,16 @@ fn two_threads_sleep_for_each_other(rt: HostRuntime) -> Result<(), Fail> {
     Ok(())
 }
 
-/// What was counted of a lock by another thread, before the mutex's owner paid for its release.
+/// What was seen of a lock by another thread, before the mutex's owner paid for its release: how often its fate was asked, and whether it slept.
 #[derive(Clone, Copy)]
 struct Before {
-    came: bool,
+    slept: bool,
     count: u64,
     paid: bool,
 }
+
+/// The id of the thread that sleeps.
+const SLEEPER: u8 = 2;
 
 /// The end of an unlock: whether it was told OK.
 pub(crate) fn pays<R: Wait>(rt: &R, bench: &Bench, owed: Owed) -> bool
@@ -94,23 +97,21 @@ fn free_and_look<R: Wait + Clock>(
     requires { IsLive bench.now pass }
 {
     let _mutexes = bench.words().layout().mutexes();
-    let came = waits_for(rt, count, 4);
-    settles(rt);
-    match bench.words().release(pass, 0, &mut Never) {
-        Released::Owes(owed) => {
-            settles(rt);
-            Before {
-                came,
-                count: count.load(Ordering::SeqCst),
-                paid: pays(rt, bench, owed),
-            }
-        }
+    let came = fall_asleep(rt, bench, &[SLEEPER]);
+    let before = match bench.words().release(pass, 0, &mut Never) {
+        Released::Owes(owed) => Before {
+            slept: came && are_asleep(rt, bench, &[SLEEPER]),
+            count: count.load(Ordering::SeqCst),
+            paid: pays(rt, bench, owed),
+        },
         Released::Refused(_, _) | Released::Dead(_) => Before {
-            came,
+            slept: false,
             count: 0,
             paid: false,
         },
-    }
+    };
+    ends_unless(rt, bench, before.slept && before.paid);
+    before
 }
 
 /// What a lock with this count is told.
@@ -166,49 +167,86 @@ fn one_sleeps<R: Threads + Wait + Clock + Sync>(
         all: count.load(Ordering::SeqCst),
         cell: Left::of(bench, third).cells[0],
     };
-    let well = taken == OK && freed.came && freed.paid && told == Some(OK);
+    let well = taken == OK && freed.slept && freed.paid && told == Some(OK);
     Ok(if well { Some(counted) } else { None })
 }
 
-/// A thread locks a mutex that another owns, and its fate is asked before each access and each section: four times until it sleeps, while the owner frees the mutex and wakes nobody for some
-/// time; then it is woken, and asked seven times more. WAITERS stays, since the wake found somebody. In some rounds the release may come before it sleeps.
+/// A thread locks a mutex that another owns, and its fate is asked before each access and each section: four times until it sleeps, while the owner frees the mutex and wakes nobody yet;
+/// then it is woken, and asked seven times more. WAITERS stays, since the wake found somebody.
 #[test]
 fn a_sleeper_makes_no_access(rt: HostRuntime) -> Result<(), Fail> {
-    let mut slept = 0_u32;
-    for _ in 0..20_u32 {
+    for _ in 0..5_u32 {
         let Some(counted) = one_sleeps(&rt, rt.alloc())? else {
             return Err(Fail::new("all are told OK"));
         };
-        if counted.before == 4 {
-            slept = slept.wrapping_add(1);
-            assert!(rt; counted.all == 11 && counted.cell == 0x8000_0002);
-        }
-        assert!(rt; counted.cell & 0x3fff_ffff == 2);
+        assert!(rt; counted.before == 4 && counted.all == 11 && counted.cell == 0x8000_0002);
     }
-    assert!(rt; slept >= 10);
     Ok(())
 }
 
-/// How long an owner keeps each of its mutexes, in milliseconds.
-const KEPT: u64 = 500;
+/// How often in a row the owner of a mutex finds that a thread sleeps which waits for it, some 200 microseconds apart.
+const ASLEEP: u32 = 50;
 
-/// The processor time that the calling thread has taken, in ticks of ten milliseconds, its own and the system's for it (proc(5), `stat`).
-fn ticks<R: Files + AllocGlobal>(rt: &R) -> Option<u64> {
-    let text = fs::read_to_string(rt, "/proc/thread-self/stat").ok()?;
-    let (_, fields) = text.as_str().rsplit_once(')')?;
-    let mut times = fields.split(' ').skip(12);
-    let user = times.next()?.parse::<u64>().ok()?;
-    let system = times.next()?.parse::<u64>().ok()?;
-    user.checked_add(system)
+/// A file of proc(5); None where it can't be read.
+fn read<R: Files + AllocGlobal>(rt: &R, name: &str) -> Option<String> {
+    fs::read_to_string(rt, name).ok()
 }
 
-/// The owner's part: it frees its two mutexes, one after the other, each after some time. Whether both unlocks were told OK.
-fn frees_both<R: Wait + Clock>(rt: &R, bench: &Bench, first: Pass<Live>) -> bool
+/// The id that the system has for the calling thread, by which others find it (proc(5), `stat`).
+fn own_id<R: Files + AllocGlobal>(rt: &R) -> Option<u64> {
+    let text = read(rt, "/proc/thread-self/stat")?;
+    let (id, _) = text.as_str().split_once(' ')?;
+    id.parse::<u64>().ok()
+}
+
+/// Whether the thread of this process with this id sleeps just now, and doesn't even wait for a processor (proc(5), `stat`: its state, behind its name).
+fn is_at_rest<R: Files + AllocGlobal>(rt: &R, id: u64) -> bool {
+    let Ok(name) = format!(in rt.alloc(); "/proc/self/task/{id}/stat") else {
+        return false;
+    };
+    match read(rt, name.as_str()) {
+        Some(text) => text
+            .as_str()
+            .rsplit_once(')')
+            .is_some_and(|parts| parts.1.starts_with(" S")),
+        None => false,
+    }
+}
+
+/// Waits until the thread stands in a queue, and then until it is found at rest so often in a row; false where that doesn't come.
+fn rests<R: Wait + Clock + Files + AllocGlobal>(rt: &R, bench: &Bench, id: &AtomicU64) -> bool {
+    if !fall_asleep(rt, bench, &[SLEEPER]) {
+        return false;
+    }
+    let mut found = 0_u32;
+    for _ in 0..50_000_u32 {
+        if found == ASLEEP {
+            return true;
+        }
+        found = if is_at_rest(rt, id.load(Ordering::SeqCst)) {
+            found.wrapping_add(1)
+        } else {
+            0
+        };
+        thread::sleep(rt, Duration::from_micros(200));
+    }
+    false
+}
+
+/// The owner's part: it frees its two mutexes, one after the other, each once the other thread rests. Whether all went so.
+fn frees_both<R: Wait + Clock + Files + AllocGlobal>(
+    rt: &R,
+    bench: &Bench,
+    first: Pass<Live>,
+    id: &AtomicU64,
+) -> bool
     requires { IsLive bench.now first }
 {
     let mut pass = first;
     for mutex in 0..2_u16 {
-        thread::sleep(rt, Duration::from_millis(KEPT));
+        if !rests(rt, bench, id) {
+            return false;
+        }
         match makes(rt, bench, pass, OnMutex(Unlock(mutex)), &mut Never) {
             Some((after, OK)) => pass = after,
             _ => return false,
@@ -231,20 +269,20 @@ fn takes_both<R: Wait>(rt: &R, bench: &Bench, first: Pass<Live>) -> Option<Pass<
     }
 }
 
-/// The ticks that a thread took to lock two mutexes, one after the other; None where not both locks were told OK.
-fn ticks_to_lock_both<R: Wait + Files + AllocGlobal>(
+/// The sleeper's part: it tells its id, and locks both mutexes.
+fn sleeps_for_both<R: Wait + Files + AllocGlobal>(
     rt: &R,
     bench: &Bench,
     pass: Pass<Live>,
-) -> Option<u64>
+    id: &AtomicU64,
+) -> bool
     requires { IsLive bench.now pass }
 {
-    let before = ticks(rt)?;
-    let _pass = takes_both(rt, bench, pass)?;
-    ticks(rt)?.checked_sub(before)
+    id.store(own_id(rt).unwrap_or(0), Ordering::SeqCst);
+    takes_both(rt, bench, pass).is_some()
 }
 
-/// A thread that sleeps takes no processor time: neither where it has never slept before, nor where it was woken before. It sleeps for a second in all, of which it may take a tenth.
+/// A thread that sleeps asks for no processor: neither where it has never slept before, nor where it was woken before.
 #[test]
 fn a_sleeper_takes_no_time(rt: HostRuntime) -> Result<(), Fail> {
     let Team {
@@ -259,18 +297,19 @@ fn a_sleeper_takes_no_time(rt: HostRuntime) -> Result<(), Fail> {
         assert!(rt; false);
         return Ok(());
     };
+    let id = AtomicU64::new(0);
     let shared = &bench;
     let host = &rt;
+    let told = &id;
     let (freed, took) = thread::join(
         &rt,
         || -> bool
             requires { IsLive shared.now first }
-        { frees_both(host, shared, first) },
-        || -> Option<u64>
+        { ends_unless(host, shared, frees_both(host, shared, first, told)) },
+        || -> bool
             requires { IsLive shared.now second }
-        { ticks_to_lock_both(host, shared, second) },
+        { sleeps_for_both(host, shared, second, told) },
     );
-    assert!(rt; freed);
-    assert!(rt; took.is_some_and(|ticks| ticks <= 10));
+    assert!(rt; freed && took);
     Ok(())
 }

@@ -15,11 +15,14 @@ use std::sync::atomic::{AtomicU64, Ordering};
 use std::test::Fail;
 use std::thread::{self, Threads};
 use std::time::Clock;
-use thread_fixtures::{Asked, Left, Team, makes, settles, waits_for};
+use thread_fixtures::{Asked, Left, Team, ends_unless, fall_asleep, makes, waits_for};
 use threadbench::Bench;
 
-/// How often the fate of a thread is asked that locks an owned mutex, until it sleeps: three times where it finds WAITERS set, else once more.
-const ASLEEP: u64 = 3;
+/// How often the fate of a thread is asked that locks an owned mutex until it sleeps: four times, where it doesn't find WAITERS set.
+const ASLEEP: u64 = 4;
+
+/// The id of the thread that falls asleep while an unlock is kept back.
+const SLEEPER: u8 = 4;
 
 /// How often the fate of an unlock is asked until it trims the cell: before its six accesses up to the one that frees the mutex, before its wake, and before the trim.
 const TRIMS: u64 = 8;
@@ -31,8 +34,6 @@ struct Board {
     unlock: AtomicU64,
     /// Whether another thread has taken the mutex since.
     taken: AtomicU64,
-    /// How often the fate of the lock was asked that falls asleep then.
-    lock: AtomicU64,
     /// Whether the trim may be made.
     may_trim: AtomicU64,
     /// Whether the unlock has ended.
@@ -73,8 +74,7 @@ fn sleep<R: Wait + Clock>(rt: &R, bench: &Bench, pass: Pass<Live>, board: &Board
     requires { IsLive bench.now pass }
 {
     let _came = waits_for(rt, &board.taken, 1);
-    let mut fate = Asked::new(&board.lock, 0);
-    makes(rt, bench, pass, OnMutex(Lock(0)), &mut fate).map(|made| made.1)
+    makes(rt, bench, pass, OnMutex(Lock(0)), &mut Never).map(|made| made.1)
 }
 
 /// Takes the mutex, if it is free: the pass then.
@@ -134,8 +134,7 @@ fn take_by_turns<R: Wait + Clock>(
     let came = waits_for(rt, &board.unlock, TRIMS);
     let taken = takes(rt, bench, one);
     board.taken.store(1, Ordering::SeqCst);
-    let slept = waits_for(rt, &board.lock, ASLEEP);
-    settles(rt);
+    let slept = fall_asleep(rt, bench, &[SLEEPER]);
     let freed = frees(bench, taken);
     board.may_trim.store(1, Ordering::SeqCst);
     let ended = waits_for(rt, &board.ended, 1);
@@ -144,7 +143,7 @@ fn take_by_turns<R: Wait + Clock>(
     let wakes = wakes_of(&freed_later);
     let paid_later = ends(rt, bench, freed_later);
     let paid = ends(rt, bench, freed);
-    if came && slept && ended && paid_later && paid {
+    if ends_unless(rt, bench, came && slept && ended && paid_later && paid) {
         wakes
     } else {
         None
@@ -175,7 +174,7 @@ fn owns_with_waiters<R: Wait>(
 {
     let owner = takes(rt, bench, owner)?;
     let count = AtomicU64::new(0);
-    let mut dies = Asked::new(&count, ASLEEP + 1);
+    let mut dies = Asked::new(&count, ASLEEP);
     match makes(rt, bench, other, OnMutex(Lock(0)), &mut dies) {
         Some(_) => None,
         None => Some(owner),
@@ -198,7 +197,6 @@ fn played<R: Threads + Wait + Clock + Sync>(rt: &R, alloc: Global) -> Result<Opt
     let board = Board {
         unlock: AtomicU64::new(0),
         taken: AtomicU64::new(0),
-        lock: AtomicU64::new(0),
         may_trim: AtomicU64::new(0),
         ended: AtomicU64::new(0),
     };
@@ -230,20 +228,16 @@ fn played<R: Threads + Wait + Clock + Sync>(rt: &R, alloc: Global) -> Result<Opt
     }))
 }
 
-/// WAITERS stays where a thread has fallen asleep between an unlock's wake, which found nobody, and its trim: the next unlock owes it a wake. In some rounds the trim may come before it sleeps.
+/// WAITERS stays where a thread has fallen asleep between an unlock's wake, which found nobody, and its trim: the next unlock owes it a wake.
 #[test]
 fn a_trim_leaves_waiters_to_a_sleeper(rt: HostRuntime) -> Result<(), Fail> {
-    let mut left = 0_u32;
-    for _ in 0..10_u32 {
+    for _ in 0..5_u32 {
         let story = played(&rt, rt.alloc())?;
         assert!(rt;
             story.is_some_and(|story| story.unlocked == Some(OK) && story.slept == Some(OK))
         );
-        if story.is_some_and(|story| story.wakes == Some(Wakes::One)) {
-            left = left.wrapping_add(1);
-        }
+        assert!(rt; story.is_some_and(|story| story.wakes == Some(Wakes::One)));
     }
-    assert!(rt; left >= 5);
     Ok(())
 }
 

@@ -1,20 +1,28 @@
 -- Kills of a bench's threads (kill(2), with SIGKILL).
-use Rattle.std.specs.Prelude.{ℕ, ◌≡◌, ◌≤◌, ◌<◌, ◌⊎◌, true, Result, Ok, Err, length}
+use Rattle.std.specs.Prelude.{ℕ, ◌≡◌, ◌≤◌, ◌<◌, ◌⊎◌, ◌-◌, true, Result, Ok, Err, length, slice_index}
 use Rattle.lockword.specs.declared.reply.Reply.{Reply}
 use Rattle.lockword.specs.declared.reply.Reply.TheVariants.{ESRCH}
 use Rattle.keys.specs.Layouts.{Layout'}
 use Rattle.threadbench.specs.declared.kill.Kill.{Kill}
 
--- a kill of the thread with id t is answered so: ESRCH where the layout has no such thread
+-- a call about the thread with id t is answered so: ESRCH where the layout has no such thread
+abbrev pub IsOfThread : {A : Type 0} → Layout' → ℕ → Result A Reply → Type 0
+IsOfThread k t (Ok a) = (1 ≤ t) × (t ≤ k.threads)
+IsOfThread k t (Err e) = (e ≡ ESRCH) × ((t ≡ 0) ⊎ (k.threads < t))
+
+-- a kill of that thread
 abbrev pub Kills : Layout' → ℕ → Result Unit Reply → Type 0
-Kills k t (Ok u) = (1 ≤ t) × (t ≤ k.threads)
-Kills k t (Err e) = (e ≡ ESRCH) × ((t ≡ 0) ⊎ (k.threads < t))
+Kills k t r = IsOfThread k t r
 
 -- a kill of the threads of process p: ESRCH where the layout has no such process
 abbrev pub KillsAll : Layout' → ℕ → Result Unit Reply → Type 0
 KillsAll k p (Ok u) = p < length k.bases
 KillsAll k p (Err e) = (e ≡ ESRCH) × (length k.bases ≤ p)
 
--- the kill of thread t is over: it was noted, then as many looks for t were made as there are buckets, and a token was given. (That each look was at another bucket, and whose token it was, isn't said.)
+-- the thread with id t is of process p
+abbrev pub IsMember : Layout' → ℕ → ℕ → Type 0
+IsMember k p t = slice_index k.processes (t - 1) ≡ p
+
+-- the kill of thread t is over: it was noted, then as many looks for t were made as there are buckets, and it was given a token. (That each look was at another bucket isn't said.)
 abbrev pub IsKilled : ℕ → Kill → Type 0
 IsKilled t kill = (kill.killed.thread ≡ t) × (kill.looked ≡ 256) × (kill.roused ≡ true)

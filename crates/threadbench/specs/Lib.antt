@@ -7,4 +7,5 @@ pub mod Ends
 pub mod Hands
 pub mod Kills
 pub mod Notes
+pub mod Parkers
 pub mod Conditions

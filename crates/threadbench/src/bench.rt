@@ -1,9 +1,11 @@
 //! The bench.
 ghost use Rattle.std.specs.Prelude.{◌≡◌, ◌<◌, ◌≤◌, ◌+◌, ℕ, [], ◌∷◌, All, length, map, slice_get, Some, IfOk, IfErr};
+ghost use Rattle.buckets.specs.Queues.{IsEmptied};
 ghost use Rattle.ruledwords.specs.Passes.{card, layout_of, presets_of, last_layout, last_words, IsLive, IsPassOf};
 ghost use Rattle.ruledwords.specs.Rules.{first_card, Ends};
 ghost use Rattle.threadbench.specs.Jobs.{IsJobOf, AreDone};
 ghost use Rattle.threadbench.specs.Notes.{AreNotes};
+ghost use Rattle.threadbench.specs.Parkers.{AreParkers};
 
 use crate::gate::Gate;
 use crate::job::{Job, Record};
@@ -31,7 +33,7 @@ pub struct Bench {
     pub(crate) words: Words,
     /// Who sleeps. Each bucket has a lock of its own; a word's key says in which its sleepers stand.
     pub(crate) buckets: Vec<CachePadded<Mutex<Bucket>>>,
-    /// Where each thread sleeps, in the order of their ids.
+    /// Where each thread sleeps that there may be, in the order of their ids.
     pub(crate) parkers: Vec<Parker>,
     /// Who was killed: a note for each thread that there may be, in the order of their ids.
     pub(crate) notes: Vec<Note>,
@@ -43,12 +45,13 @@ impl Model for Bench {
     ghost use Rattle.std.specs.Prelude.{◌≡◌, length};
     ghost use Rattle.ruledwords.specs.declared.pass.Words.{Words};
     ghost use Rattle.threadbench.specs.Notes.{AreNotes};
+    ghost use Rattle.threadbench.specs.Parkers.{AreParkers};
 
     ghost Value = { Words };
 
     ghost view = { λ b. b.words };
 
-    ghost invariant = { λ b. (length b.buckets.items ≡ 256) × (length b.notes.items ≡ 64) × AreNotes b.notes.items };
+    ghost invariant = { λ b. (length b.buckets.items ≡ 256) × (length b.notes.items ≡ 64) × AreNotes b.notes.items × (length b.parkers.items ≡ 64) × AreParkers b.parkers.items };
 }
 
 impl Bench {
@@ -66,7 +69,7 @@ impl Bench {
         ensures each { IfOk result (λ r. All (λ p. IsLive r.0 p) r.1.items) }
         ensures cards { IfOk result (λ r. (i : ℕ) (p : _) → slice_get r.1.items i ≡ Some p → card p ≡ first_card layout (i + 1)) }
     {
-        let parkers = parkers(alloc, layout.threads())?;
+        let parkers = parkers(alloc)?;
         let buckets = buckets(alloc, layout.threads())?;
         let notes = notes(alloc)?;
         let (words, passes) = Words::new(alloc, layout, presets)?;
@@ -158,11 +161,14 @@ impl Bench {
     }
 }
 
-/// A parker for each of so many threads.
-fn parkers(alloc: Global, threads: u8) -> Result<Vec<Parker>, NoMem> {
-    let mut parkers = Vec::with_capacity(alloc, usize::from(threads))?;
-    for _ in 0..threads {
-        push_in_room(&mut parkers, Parker::new());
+/// A parker for each id, without a token.
+fn parkers(alloc: Global) -> Result<Vec<Parker>, NoMem>
+    ensures count { IfOk result (λ v. length v.items ≡ 64) }
+    ensures parkers { IfOk result (λ v. AreParkers v.items) }
+{
+    let mut parkers = Vec::with_capacity(alloc, usize::from(THREADS))?;
+    for before in 0..THREADS {
+        push_in_room(&mut parkers, Parker::new(thread_after(before)));
     }
     Ok(parkers)
 }
@@ -188,7 +194,15 @@ fn buckets(alloc: Global, threads: u8) -> Result<Vec<CachePadded<Mutex<Bucket>>>
     let mut buckets = Vec::with_capacity(alloc, BUCKETS)?;
     for _ in 0..BUCKETS {
         let bucket = Bucket::new(alloc, usize::from(threads))?;
-        push_in_room(&mut buckets, CachePadded::new(Mutex::new(bucket)));
+        push_in_room(&mut buckets, under_a_lock(bucket, threads));
     }
     Ok(buckets)
+}
+
+/// The lock of a bucket where nobody stands, which has room for so many threads.
+fn under_a_lock(bucket: Bucket, threads: u8) -> CachePadded<Mutex<Bucket>>
+    requires { IsEmptied bucket threads }
+{
+    let _threads = threads;
+    CachePadded::new(Mutex::new(bucket))
 }

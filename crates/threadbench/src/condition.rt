@@ -197,8 +197,8 @@ impl Bench {
         let mut bucket = self.bucket(key).lock(rt);
         let woken = wake_for_condition(&mut bucket, &running, &self.words, key, most);
         drop(bucket);
-        self.rouse(rt, &woken);
-        running.answer(Answer::Count(woken.len() as u32))
+        let roused = self.rouse(rt, &woken);
+        running.answer(Answer::Count(roused.count()))
     }
 
     /// Makes a broadcast's requeue: moves at most so many sleepers of the counter to the end of those of the mutex's cell, where the counter is the expected one.
@@ -278,11 +278,9 @@ impl Bench {
 
     /// Sleeps until the thread, which fell asleep on a counter, stands in no bucket any more.
     fn sleep_through_moves<R: Wait>(&self, rt: &R, thread: Tid, counter: Key, cell: Key) {
-        let Some(parker) = self.parker(thread) else {
-            return;
-        };
+        let parker = self.parker(thread);
         for _ in rt.forever() {
-            parker.park(rt);
+            let _taken = parker.park(rt);
             // A move goes from the counter to the cell, under both locks, and never back: whoever stands in neither, looked at in this order, was woken or killed.
             let waits = self.bucket(counter).lock(rt).stands(thread);
             if !waits && !self.bucket(cell).lock(rt).stands(thread) {

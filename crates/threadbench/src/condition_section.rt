@@ -50,7 +50,7 @@ pub(crate) fn move_within_in(
 {
     // What a bucket always is, as that it has at most 64 sleepers, is known once it is asked for one.
     let _stands = bucket.stands(running.thread());
-    let seen = running.load(words);
+    let seen = running.load(words).get();
     if (seen & 0xffff_ffff) as u32 != expected {
         return None;
     }
@@ -80,7 +80,7 @@ pub(crate) fn move_to_in(
 {
     // As in `move_within_in`.
     let _stands = bucket.stands(running.thread());
-    let seen = running.load(words);
+    let seen = running.load(words).get();
     if (seen & 0xffff_ffff) as u32 != expected || !bucket.fits(other, key, moves) {
         return None;
     }

@@ -50,7 +50,7 @@ impl Bench {
         let mut bucket = self.bucket(key).lock(rt);
         let woken = wake_for_dead(&mut bucket, &reaping, &self.words, key, most);
         drop(bucket);
-        self.rouse(rt, &woken);
-        reaping.answer(Answer::Count(woken.len() as u32))
+        let roused = self.rouse(rt, &woken);
+        reaping.answer(Answer::Count(roused.count()))
     }
 }

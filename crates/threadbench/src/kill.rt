@@ -2,13 +2,14 @@
 ghost use Rattle.std.specs.Prelude.{◌≡◌, ◌≤◌, ◌<◌, ◌+◌, true, false};
 ghost use Rattle.buckets.specs.Queues.{IsOrderly, Removes};
 ghost use Rattle.ruledwords.specs.Passes.{layout_of};
-ghost use Rattle.threadbench.specs.Kills.{Kills, KillsAll, IsKilled};
+ghost use Rattle.threadbench.specs.Kills.{IsOfThread, Kills, KillsAll, IsKilled, IsMember};
 
 use crate::bench::Bench;
 use crate::note::Killed;
-use crate::parker::Parker;
+use crate::parker::Given;
 use crate::section::remove_in;
 use buckets::{BUCKETS, Bucket};
+use keys::Layout;
 use lockword::{Reply, Tid};
 use std::sync::Wait;
 
@@ -44,15 +45,50 @@ impl Kill {
         self.looked += 1;
     }
 
-    /// Gives the thread a token, so that it wakes where it sleeps.
-    fn rouse<R: Wait>(&mut self, rt: &R, parker: Option<&Parker>)
+    /// The thread was given a token, so that it wakes where it sleeps.
+    fn rouse(&mut self, given: Given)
+        requires { given.thread ≡ self.old.killed.thread }
         ensures roused { self.new.roused ≡ true }
         ensures same { (self.new.killed ≡ self.old.killed) × (self.new.looked ≡ self.old.looked) }
     {
-        if let Some(parker) = parker {
-            parker.unpark(rt);
-        }
+        let _given = given;
         self.roused = true;
+    }
+}
+
+/// The kill of a process on its way: it came to so many threads, in the order of their ids, and each of these that is of the process was killed.
+#[derive(Drop)]
+struct Sweep {
+    process: u8,
+    come: u8,
+}
+
+impl Sweep {
+    /// It came to nobody yet.
+    fn begin(process: u8) -> Sweep
+        ensures { (result.process ≡ process) × (result.come ≡ 0) }
+    {
+        Sweep { process, come: 0 }
+    }
+
+    /// The next thread was killed.
+    fn kills(&mut self, kill: Kill)
+        requires few { self.old.come < 64 }
+        requires next { IsKilled (self.old.come + 1) kill }
+        ensures { (self.new.process ≡ self.old.process) × (self.new.come ≡ self.old.come + 1) }
+    {
+        let _kill = kill;
+        self.come += 1;
+    }
+
+    /// The next thread is spared, as it is of another process.
+    fn spares(&mut self, layout: &Layout)
+        requires few { self.old.come < 64 }
+        requires next { ¬ IsMember layout.now self.old.process (self.old.come + 1) }
+        ensures { (self.new.process ≡ self.old.process) × (self.new.come ≡ self.old.come + 1) }
+    {
+        let _layout = layout;
+        self.come += 1;
     }
 }
 
@@ -88,15 +124,46 @@ impl Bench {
         Ok(())
     }
 
-    /// Kills the threads of a process.
-    fn kill_members<R: Wait>(&self, rt: &R, process: u8) {
+    /// Whether a thread sleeps: it stands in the queue of a mutex or of a condition variable, and makes no access until it is woken or killed. It may have been so a moment ago alone. ESRCH where the
+    /// bench has no thread with this id.
+    pub fn sleeps<R: Wait>(&self, rt: &R, thread: u8) -> Result<bool, Reply>
+        ensures { IsOfThread (layout_of self.now) thread result }
+    {
+        let threads = self.words.layout().threads();
+        if thread == 0 || thread > threads {
+            return Err(Reply::ESRCH);
+        }
+        let moves = self.moves.lock(rt);
+        let stands = self.stands(rt, thread_after(thread - 1));
+        drop(moves);
+        Ok(stands)
+    }
+
+    /// Whether the thread stands in a bucket. Whoever calls it holds the lock of moves.
+    fn stands<R: Wait>(&self, rt: &R, thread: Tid) -> bool {
+        for place in 0..BUCKETS {
+            if self.buckets[place].lock(rt).stands(thread) {
+                return true;
+            }
+        }
+        false
+    }
+
+    /// Kills the threads of a process: it comes to each thread of the bench.
+    fn kill_members<R: Wait>(&self, rt: &R, process: u8) -> Sweep
+        ensures { (result.process ≡ process) × (result.come ≡ (layout_of self.now).threads) }
+    {
         let layout = self.words.layout();
+        let mut sweep = Sweep::begin(process);
         for before in 0..layout.threads() {
             let thread = thread_after(before);
             if layout.process_of(thread) == process {
-                self.kill_thread(rt, thread);
+                sweep.kills(self.kill_thread(rt, thread));
+            } else {
+                sweep.spares(layout);
             }
         }
+        sweep
     }
 
     /// Kills the thread. Whoever calls it holds the lock of moves: nobody is moved from one bucket to another while it is looked for.
@@ -108,7 +175,7 @@ impl Bench {
             let mut bucket = self.buckets[place].lock(rt);
             kill.look(&mut bucket);
         }
-        kill.rouse(rt, self.parker(thread));
+        kill.rouse(self.parker(thread).unpark(rt));
         kill
     }
 }

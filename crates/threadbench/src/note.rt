@@ -102,7 +102,9 @@ impl Fate for Noted<'_> {
         if self.told {
             return false;
         }
-        self.told = self.note.killed.load(Ordering::SeqCst);
+        if self.note.killed.load(Ordering::SeqCst) {
+            self.told = true;
+        }
         self.told
     }
 }

@@ -107,7 +107,7 @@ pub(crate) fn wait_in<N: Fate>(
     }
 }
 
-/// A wait: loads the counter, and puts the call's thread to sleep on the key where the counter's low half is the expected one, unless the thread's note tells it to stop. The note is looked
+/// A wait: loads its condition variable's counter ([`CondRunning::load`]), and puts the call's thread to sleep on the key where the counter's low half is the expected one, unless the thread's note tells it to stop. The note is looked
 /// at under the bucket's lock, as that of a thread that sleeps on its mutex's cell is.
 pub(crate) fn wait_on_counter_in<N: Fate>(
     bucket: &mut Bucket,
@@ -131,7 +131,7 @@ pub(crate) fn wait_on_counter_in<N: Fate>(
     };
     let thread = running.thread();
     let seen = running.load(words);
-    if compare_and_enqueue(bucket, thread, key, seen, expected) {
+    if compare_and_enqueue(bucket, thread, key, seen.get(), expected) {
         Waited::Asleep(Asleep { spared })
     } else {
         spared.spend();

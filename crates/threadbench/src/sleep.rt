@@ -1,5 +1,5 @@
 //! Calls that sleep, and those that wake.
-ghost use Rattle.std.specs.Prelude.{◌≡◌, ◌+◌, ◌<◌, ℕ};
+ghost use Rattle.std.specs.Prelude.{◌≡◌, ◌+◌, ◌<◌, ℕ, length};
 ghost use Rattle.keys.specs.declared.access.Access.TheVariants.{Wait as AtWait, Wake as AtWake, Trim as AtTrim};
 ghost use Rattle.ruledwords.specs.Fates.{Heeds};
 ghost use Rattle.ruledwords.specs.Outcomes.{IsOwedOf, stops_in};
@@ -10,7 +10,7 @@ ghost use Rattle.threadbench.specs.Calls.{Locked, Paid, Runs, IsHeeded, stretch_
 
 use crate::bench::Bench;
 use crate::note::Note;
-use crate::parker::Parker;
+use crate::parker::{Parker, Roused};
 use crate::section::{Waited, trim_in, wait_in, wake_in};
 use buckets::{BUCKETS, Batch, Bucket};
 use crossbeam_utils::CachePadded;
@@ -18,6 +18,7 @@ use keys::{Access, Answer, Key, bucket_of, key_of};
 use lockword::{Reply, Tid};
 use mutex::Call;
 use ruledwords::{Fate, Live, Outcome, Owed, Pass, Running, Stretch, Turn, Wakes, either_stops};
+use std::hint::spin_loop;
 use std::sync::{Mutex, Wait};
 
 impl Bench {
@@ -130,16 +131,50 @@ impl Bench {
     {
         let mut running = running;
         for _ in rt.forever() {
-            if either_stops(fate, note) {
-                return Outcome::Dead(running.die());
-            }
-            match self.turn(rt, running, note) {
+            match self.steps_and_section(rt, running, fate, note) {
                 Stretch::Goes(next) => running = next,
                 Stretch::Lives(pass, reply) => return Outcome::Lives(pass, reply),
                 Stretch::Dead(pass) => return Outcome::Dead(pass),
             }
         }
         unreachable!()
+    }
+
+    /// Makes the steps on words that come next, where the call stands, and the section behind them.
+    fn steps_and_section<R: Wait, F: Fate, N: Fate>(
+        &self,
+        rt: &R,
+        running: Running,
+        fate: &mut F,
+        note: &mut N,
+    ) -> Stretch
+        requires { IsRunningOf self.now running }
+        ensures stretches { Stretches self.now running result }
+        ensures fate { Heeds (F.stopped fate.old) (F.stopped fate.new) (N.stopped note.old) (N.stopped note.new) (stops_stretching result) }
+    {
+        match running.more(&self.words, fate, note) {
+            Stretch::Goes(next) => self.heeded_turn(rt, next, fate, note),
+            Stretch::Lives(pass, reply) => Stretch::Lives(pass, reply),
+            Stretch::Dead(pass) => Stretch::Dead(pass),
+        }
+    }
+
+    /// Makes the access that comes next, unless one of the thread's fates ends the call.
+    fn heeded_turn<R: Wait, F: Fate, N: Fate>(
+        &self,
+        rt: &R,
+        running: Running,
+        fate: &mut F,
+        note: &mut N,
+    ) -> Stretch
+        requires { IsRunningOf self.now running }
+        ensures stretches { Stretches self.now running result }
+        ensures fate { Heeds (F.stopped fate.old) (F.stopped fate.new) (N.stopped note.old) (N.stopped note.new) (stops_stretching result) }
+    {
+        if either_stops(fate, note) {
+            return Stretch::Dead(running.die());
+        }
+        self.turn(rt, running, note)
     }
 
     /// Makes the access that comes next, a section under the bucket's lock or a step.
@@ -171,6 +206,7 @@ impl Bench {
     {
         let mut running = running;
         let key = key_of(running.place(&self.words));
+        hesitate();
         let mut bucket = self.bucket(key).lock(rt);
         let waited = wait_in(&mut bucket, &mut running, &self.words, key, expected, note);
         drop(bucket);
@@ -196,17 +232,22 @@ impl Bench {
         let mut bucket = self.bucket(key).lock(rt);
         let woken = wake_in(&mut bucket, &running, &self.words, key, most);
         drop(bucket);
-        self.rouse(rt, &woken);
-        running.answer(Answer::Count(woken.len() as u32))
+        let roused = self.rouse(rt, &woken);
+        running.answer(Answer::Count(roused.count()))
     }
 
     /// Gives a token to each of these threads.
-    pub(crate) fn rouse<R: Wait>(&self, rt: &R, woken: &Batch) {
+    pub(crate) fn rouse<R: Wait>(&self, rt: &R, woken: &Batch) -> Roused
+        ensures { result.count ≡ length woken.now }
+    {
+        let mut roused = Roused::nobody();
         for place in 0..woken.len() {
-            if let Some(parker) = woken.get(place).and_then(|thread| self.parker(thread)) {
-                parker.unpark(rt);
+            match woken.get(place) {
+                Some(thread) => roused.one_more(woken, self.parker(thread).unpark(rt)),
+                None => unreachable!(),
             }
         }
+        roused
     }
 
     /// Makes the trim of an unlock that found nobody to wake.
@@ -227,11 +268,9 @@ impl Bench {
 
     /// Sleeps until the thread stands no more in the bucket of the key on which it fell asleep.
     fn sleep<R: Wait>(&self, rt: &R, thread: Tid, key: Key) {
-        let Some(parker) = self.parker(thread) else {
-            return;
-        };
+        let parker = self.parker(thread);
         for _ in rt.forever() {
-            parker.park(rt);
+            let _taken = parker.park(rt);
             if !self.bucket(key).lock(rt).stands(thread) {
                 return;
             }
@@ -251,9 +290,22 @@ impl Bench {
         &self.notes[thread.as_index()]
     }
 
-    /// Where the thread sleeps; None where it isn't one of the bench's.
-    pub(crate) fn parker(&self, thread: Tid) -> Option<&Parker> {
-        self.parkers.get(thread.as_index())
+    /// Where the thread sleeps.
+    pub(crate) fn parker(&self, thread: Tid) -> &Parker
+        ensures { result.now.thread ≡ thread }
+    {
+        &self.parkers[thread.as_index()]
+    }
+}
+
+/// How many turns a thread lets pass before it comes to sleep on a cell: some 11 microseconds, about what a sleep and a wake take. Half as many lost a quarter of the speed of four threads at one mutex, and twice
+/// as many gained a tenth, while the longest wait was three times as long (docs/COSTS.md).
+const PATIENCE: u32 = 2_000;
+
+/// Lets some time pass, and looks at nothing. Whoever owns the mutex has mostly freed it by then, and perhaps taken it anew: so the thread goes on and tries again, and needn't be woken.
+fn hesitate() {
+    for _ in 0..PATIENCE {
+        spin_loop();
     }
 }
 

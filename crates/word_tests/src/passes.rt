@@ -96,7 +96,7 @@ fn mutexes_are_released_in_any_order(rt: HostRuntime) -> Result<(), Fail> {
     Ok(())
 }
 
-const ROUNDS: u32 = 100_000;
+const ROUNDS: u32 = 10_000;
 
 /// The rounds that were won, and the pass.
 fn rounds(words: &Words, first: Pass<Live>) -> (u32, Pass<Live>)

@@ -226,3 +226,10 @@ returns-clause-fate g c =
     let h8 = heeds_on _ _ _ _ _ _ _ h7 c.in_ok-step-8.ensures.fate in
     let h9 = heeds_on _ _ _ _ _ _ _ h8 c.in_ok-step-9.ensures.fate in
     h9
+
+pub returns-then-not-takes-clause-steps : goal.returns-then-not-takes-clause-steps
+returns-then-not-takes-clause-steps g c =
+    let w = c.args.self.now in
+    let a = c.args.pass.now in
+    let p = c.args.begun in
+    comes_further w a p c.step.new.pass c.step.new.program c.step-2.new.pass c.step-2.new.program c.in_ok-step.ensures.steps c.in_ok-step-2.ensures.steps

@@ -22,10 +22,13 @@ returns-clause-unmoved c =
     let was = card_of c.args.self.now.pass.seat.me.0 in
     let found = c.look_at_counter in
     let of = c.requires.words in (
-      ((found.ensures.table ∙ of.0.0, subst (IsCardOf k) (sym found.ensures.card) (is_noted k was found.result was.trims was.changes of.0.1)), subst (λ d. IsInCondCall k d c.args.self.now.program) (sym found.ensures.card) (cond_noted k was found.result was.trims was.changes c.args.self.now.program of.1)),
+      ((found.ensures.table ∙ of.0.0, subst (IsCardOf k) (sym found.ensures.card) (is_noted k was found.result.word was.trims was.changes of.0.1)), subst (λ d. IsInCondCall k d c.args.self.now.program) (sym found.ensures.card) (cond_noted k was found.result.word was.trims was.changes c.args.self.now.program of.1)),
       refl,
       subst (λ (z : Card). z ≡ noted was z.last z.trims was.changes) (sym found.ensures.card) refl,
     )
 
 pub returns-clause-known : goal.returns-clause-known
 returns-clause-known c = λ x e. c.look_at_counter.ensures.known x (ap (Rattle.ruledwords.specs.Cards.value_at (card_of c.args.self.now.pass.seat.me.0).values) (c.place-at.ensures ∙ compared_at c.args.words.now c.args.self.now c.requires.words c.requires.section) ∙ e)
+
+pub returns-clause-counter : goal.returns-clause-counter
+returns-clause-counter c = c.look_at_counter.ensures.place ∙ c.place-at.ensures ∙ compared_at c.args.words.now c.args.self.now c.requires.words c.requires.section

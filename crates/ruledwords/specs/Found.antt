@@ -1,0 +1,11 @@
+-- What a look at a counter finds.
+use Rattle.std.specs.Prelude.{ℕ}
+use Rattle.ruledwords.specs.declared.counter.CounterWord.{CounterWord}
+
+-- the word
+abbrev pub word_found : CounterWord → ℕ
+word_found w = w.word
+
+-- the place at which it was loaded
+abbrev pub place_found : CounterWord → ℕ
+place_found w = w.at
