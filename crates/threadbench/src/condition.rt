@@ -13,6 +13,7 @@ ghost use Rattle.threadbench.specs.Conditions.{stops_turning, CondAnswered, Cond
 
 use crate::bench::Bench;
 use crate::condition_section::{move_to_in, move_within_in, wake_for_condition};
+use crate::note::ByOthers;
 use crate::section::{Waited, wait_on_counter_in};
 use buckets::{BUCKETS, Batch};
 use condvar::CondCall;
@@ -95,7 +96,7 @@ impl Bench {
     }
 
     /// Runs a call to its end, or until one of its thread's fates ends it. The key is that of its mutex's cell.
-    fn run_condition_on<R: Wait, F: Fate, N: Fate>(
+    fn run_condition_on<R: Wait, F: Fate, N: ByOthers>(
         &self,
         rt: &R,
         running: CondRunning,
@@ -124,7 +125,7 @@ impl Bench {
     }
 
     /// Makes the access that comes next, a section under locks of buckets or a step. The thread dies where its note tells it to, in place of falling asleep.
-    fn condition_turn<R: Wait, N: Fate>(
+    fn condition_turn<R: Wait, N: ByOthers>(
         &self,
         rt: &R,
         running: CondRunning,
@@ -151,7 +152,7 @@ impl Bench {
     }
 
     /// Makes a wait, and sleeps where the counter is the expected one. A thread whose note tells it to stop dies in place of that.
-    fn wait_on_counter<R: Wait, N: Fate>(
+    fn wait_on_counter<R: Wait, N: ByOthers>(
         &self,
         rt: &R,
         running: CondRunning,

@@ -1,8 +1,9 @@
-//! What becomes of jobs, once their workers were told whether they begin.
+//! What becomes of jobs: their workers are told to begin, or were told not to.
 ghost use Rattle.std.specs.Prelude.{◌≡◌, ◌≤◌, [], true, false, All, length, map, vec_capacity};
 ghost use Rattle.threadbench.specs.Hands.{IsHandIn, MayBegin, job_of};
 ghost use Rattle.threadbench.specs.Jobs.{IsJobOf, IsDone, AreDone};
 
+use crate::begins::tell;
 use crate::gate::Gate;
 use crate::hand::Hand;
 use crate::job::{Job, Record};
@@ -10,7 +11,7 @@ use crate::phase::Phase;
 use crate::room::push_in_room;
 use crate::worker::End;
 use std::alloc::Global;
-use std::sync::OnceToken;
+use std::sync::{OnceToken, Wait};
 use std::thread::Threads;
 
 impl<'a, G: Gate> Hand<'a, G> {
@@ -61,16 +62,14 @@ impl<'a, G: Gate> Hand<'a, G> {
     }
 }
 
-/// The records of all jobs, where workers begin.
-pub(crate) fn records_of<'a, R: Threads, G: Gate>(
+/// Tells workers to begin, and gives the records of all jobs. Nothing else tells them so; and whoever has these hands has a thread for each job with calls to make.
+pub(crate) fn records_of<'a, R: Threads + Wait, G: Gate>(
     rt: &R,
     alloc: Global,
     phase: &Phase<'a, G>,
-    told: &OnceToken<'a, bool>,
     hands: Vec<Hand<'a, G>>,
     room: Vec<Record>,
 ) -> Vec<Record>
-    requires told { (told.now.of ≡ phase.now.begins.now.id) × (told.now.value ≡ true) }
     requires jobs { All (λ h. IsJobOf phase.now.bench.now (job_of h)) hands.items }
     requires hands { All (IsHandIn phase.now) hands.items }
     requires begins { All MayBegin hands.items }
@@ -78,9 +77,10 @@ pub(crate) fn records_of<'a, R: Threads, G: Gate>(
     requires room { length hands.items ≤ vec_capacity room }
     ensures { AreDone phase.now.bench.now (G.says phase.now.gate.now) (map job_of hands.entry.items) result.items }
 {
+    let told = tell(rt, phase.begins, true);
     let mut records = room;
     for hand in hands {
-        push_in_room(&mut records, hand.done(rt, alloc, phase, told));
+        push_in_room(&mut records, hand.done(rt, alloc, phase, &told));
     }
     records
 }

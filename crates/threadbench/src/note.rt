@@ -2,6 +2,7 @@
 ghost use Rattle.std.specs.Prelude.{◌≡◌, ◌+◌, false, if◌then◌else◌};
 ghost use Rattle.threadbench.specs.Sections.{stops_unless};
 
+use buckets::Bucket;
 use crossbeam_utils::CachePadded;
 use lockword::Tid;
 use ruledwords::Fate;
@@ -21,10 +22,13 @@ pub(crate) struct Killed {
     thread: Tid,
 }
 
-/// That a thread's note told it to go on. Nothing makes one but [`ask`], which asks the note.
+/// That a thread's note told it to go on, under the lock of a bucket. Nothing makes one but [`ask`], which asks the note.
 pub(crate) struct Spared<N> {
     note: PhantomData<N>,
 }
+
+/// A fate that others have in their hands. What a note tells is the only one: no other fate, as one that never stops its thread, can be asked in the note's place.
+pub(crate) trait ByOthers: Fate {}
 
 /// What its note tells a thread: the fate that others have in their hands.
 #[derive(Drop)]
@@ -82,16 +86,19 @@ impl<N> Spared<N> {
     }
 }
 
-/// Asks a thread's note. None where it tells the thread to stop.
-pub(crate) fn ask<N: Fate>(note: &mut N) -> Option<Spared<N>>
+/// Asks a thread's note, under the lock of this bucket: whoever has a bucket holds its lock. None where it tells the thread to stop.
+pub(crate) fn ask<N: ByOthers>(note: &mut N, bucket: &Bucket) -> Option<Spared<N>>
     ensures { N.stopped note.new ≡ N.stopped note.old + stops_unless result }
 {
+    let _bucket = bucket;
     if note.stops() {
         None
     } else {
         Some(Spared { note: PhantomData })
     }
 }
+
+impl ByOthers for Noted<'_> {}
 
 impl Fate for Noted<'_> {
     ghost stopped = { λ n. if n.told then 1 else 0 };

@@ -14,11 +14,11 @@ ghost use Rattle.ruledwords.specs.Turns.{access_in, place_at, running_call, runn
 ghost use Rattle.threadbench.specs.Conditions.{StaysCondIfStopped};
 ghost use Rattle.threadbench.specs.Sections.{FindsUnlessStopped, StaysIfStopped, TrimLeaves, TrimsNobodys, TrimsThere, Waits, WaitsUnlessStopped, WakesFirsts, stops_waiting};
 
-use crate::note::{Killed, Spared, ask};
+use crate::note::{ByOthers, Killed, Spared, ask};
 use buckets::{Batch, Bucket};
 use keys::{Answer, Key};
 use lockword::Tid;
-use ruledwords::{CondRunning, CondTurn, Fate, Reaping, Running, Turn, Words};
+use ruledwords::{CondRunning, CondTurn, Reaping, Running, Turn, Words};
 
 /// Puts the thread at the end of the key's queue where the low half of the word that was seen is the expected one, and tells so. Nothing changes where it differs; nor where the
 /// thread stands in the bucket already or the bucket is full, which can't come up, but what lies under a lock doesn't say so.
@@ -76,7 +76,7 @@ pub(crate) enum Waited<N> {
 
 /// A wait: loads the word, and puts the call's thread to sleep on the key where the word's low half is the expected one, unless the thread's note tells it to stop. The note is looked at
 /// under the bucket's lock: a kill that comes later finds the thread in the bucket.
-pub(crate) fn wait_in<N: Fate>(
+pub(crate) fn wait_in<N: ByOthers>(
     bucket: &mut Bucket,
     running: &mut Running,
     words: &Words,
@@ -94,7 +94,7 @@ pub(crate) fn wait_in<N: Fate>(
     ensures stays { StaysIfStopped running.old running.new result }
     ensures note { N.stopped note.new ≡ N.stopped note.old + stops_waiting result }
 {
-    let Some(spared) = ask(note) else {
+    let Some(spared) = ask(note, bucket) else {
         return Waited::Stopped;
     };
     let thread = running.thread();
@@ -109,7 +109,7 @@ pub(crate) fn wait_in<N: Fate>(
 
 /// A wait: loads its condition variable's counter ([`CondRunning::load`]), and puts the call's thread to sleep on the key where the counter's low half is the expected one, unless the thread's note tells it to stop. The note is looked
 /// at under the bucket's lock, as that of a thread that sleeps on its mutex's cell is.
-pub(crate) fn wait_on_counter_in<N: Fate>(
+pub(crate) fn wait_on_counter_in<N: ByOthers>(
     bucket: &mut Bucket,
     running: &mut CondRunning,
     words: &Words,
@@ -126,7 +126,7 @@ pub(crate) fn wait_on_counter_in<N: Fate>(
     ensures stays { StaysCondIfStopped running.old running.new result }
     ensures note { N.stopped note.new ≡ N.stopped note.old + stops_waiting result }
 {
-    let Some(spared) = ask(note) else {
+    let Some(spared) = ask(note, bucket) else {
         return Waited::Stopped;
     };
     let thread = running.thread();

@@ -9,7 +9,7 @@ ghost use Rattle.ruledwords.specs.Turns.{access_in, IsRunningOf, IsTurnOf, Keeps
 ghost use Rattle.threadbench.specs.Calls.{Locked, Paid, Runs, IsHeeded, stretch_of};
 
 use crate::bench::Bench;
-use crate::note::Note;
+use crate::note::{ByOthers, Note};
 use crate::parker::{Parker, Roused};
 use crate::section::{Waited, trim_in, wait_in, wake_in};
 use buckets::{BUCKETS, Batch, Bucket};
@@ -57,7 +57,7 @@ impl Bench {
 
     /// Ends an unlock. Its thread has two fates.
     #[inline(always)]
-    fn pay_on<R: Wait, F: Fate, N: Fate>(
+    fn pay_on<R: Wait, F: Fate, N: ByOthers>(
         &self,
         rt: &R,
         owed: Owed,
@@ -98,7 +98,7 @@ impl Bench {
     /// Runs a call to its end, or until one of its thread's fates ends it: first as far as it makes steps on words, where it stands. The compiler knows at which access that is, where it knows where the call
     /// begins.
     #[inline(always)]
-    fn run_begun<R: Wait, F: Fate, N: Fate>(
+    fn run_begun<R: Wait, F: Fate, N: ByOthers>(
         &self,
         rt: &R,
         running: Running,
@@ -118,7 +118,7 @@ impl Bench {
 
     /// Runs a call to its end, or until one of its thread's fates ends it, access by access: what is left of a call that wasn't made in one stretch. (Stretches are made in [`Bench::run_begun`] alone: a
     /// function that is called in one place is compiled there.)
-    pub(crate) fn run_on<R: Wait, F: Fate, N: Fate>(
+    pub(crate) fn run_on<R: Wait, F: Fate, N: ByOthers>(
         &self,
         rt: &R,
         running: Running,
@@ -141,7 +141,7 @@ impl Bench {
     }
 
     /// Makes the steps on words that come next, where the call stands, and the section behind them.
-    fn steps_and_section<R: Wait, F: Fate, N: Fate>(
+    fn steps_and_section<R: Wait, F: Fate, N: ByOthers>(
         &self,
         rt: &R,
         running: Running,
@@ -160,7 +160,7 @@ impl Bench {
     }
 
     /// Makes the access that comes next, unless one of the thread's fates ends the call.
-    fn heeded_turn<R: Wait, F: Fate, N: Fate>(
+    fn heeded_turn<R: Wait, F: Fate, N: ByOthers>(
         &self,
         rt: &R,
         running: Running,
@@ -178,7 +178,7 @@ impl Bench {
     }
 
     /// Makes the access that comes next, a section under the bucket's lock or a step.
-    fn turn<R: Wait, N: Fate>(&self, rt: &R, running: Running, note: &mut N) -> Stretch
+    fn turn<R: Wait, N: ByOthers>(&self, rt: &R, running: Running, note: &mut N) -> Stretch
         requires { IsRunningOf self.now running }
         ensures stretches { Stretches self.now running result }
         ensures note { N.stopped note.new ≡ N.stopped note.old + stops_stretching result }
@@ -192,7 +192,7 @@ impl Bench {
     }
 
     /// Makes a wait, and sleeps where the word is the expected one. A thread whose note tells it to stop dies in place of that.
-    fn wait_on_cell<R: Wait, N: Fate>(
+    fn wait_on_cell<R: Wait, N: ByOthers>(
         &self,
         rt: &R,
         running: Running,

@@ -2,7 +2,6 @@
 ghost use Rattle.std.specs.Prelude.{◌≡◌, All, IfOk, IfErr};
 ghost use Rattle.threadbench.specs.Jobs.{IsJobOf, AreDone};
 
-use crate::begins::tell;
 use crate::ending::{jobs_in, records_of};
 use crate::gate::Gate;
 use crate::job::{Job, Record};
@@ -38,10 +37,7 @@ fn work_at_once<'a, E, R: Threads + Wait + Sync, G: Gate + Sync>(
     };
     let (hands, stop) = set_all_out(rt, alloc, scope, phase, jobs, hands);
     match stop {
-        None => {
-            let told = tell(rt, phase.begins, true);
-            Ok(records_of(rt, alloc, phase, &told, hands, records))
-        }
+        None => Ok(records_of(rt, alloc, phase, hands, records)),
         Some(told) => Err((jobs_in(rt, phase, &told, hands, kept), NoMem)),
     }
 }
