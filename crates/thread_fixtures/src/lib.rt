@@ -25,4 +25,4 @@ pub use left::Left;
 pub use made::makes;
 pub use played::{Step, Who, plays};
 pub use team::{Team, last_of};
-pub use waits::{are_asleep, ends_unless, fall_asleep, settles, waits_for};
+pub use waits::{are_asleep, ends_unless, fall_asleep, waits_for};

@@ -50,11 +50,6 @@ pub fn are_asleep<R: Wait>(rt: &R, bench: &Bench, threads: &[u8]) -> bool {
         .all(|thread| bench.sleeps(rt, *thread) == Ok(true))
 }
 
-/// Lets other threads go on for some milliseconds, in which whoever is about to sleep falls asleep, and whoever is awake ends.
-pub fn settles<R: Clock>(rt: &R) {
-    thread::sleep(rt, Duration::from_millis(5));
-}
-
 /// Kills all threads, so that a test in which one sleeps for good ends. Where all went well it kills nobody.
 pub fn ends_unless<R: Wait>(rt: &R, bench: &Bench, well: bool) -> bool {
     if !well {

@@ -4,13 +4,12 @@ ghost use Rattle.buckets.specs.Queues.{IsEmptied};
 ghost use Rattle.ruledwords.specs.Passes.{card, layout_of, presets_of, last_layout, last_words, IsLive, IsPassOf};
 ghost use Rattle.ruledwords.specs.Rules.{first_card, Ends};
 ghost use Rattle.threadbench.specs.Jobs.{IsJobOf, AreDone};
-ghost use Rattle.threadbench.specs.Notes.{AreNotes};
 ghost use Rattle.threadbench.specs.Parkers.{AreParkers};
 
 use crate::gate::Gate;
 use crate::job::{Job, Record};
 use crate::kill::thread_after;
-use crate::note::Note;
+use crate::note::{Note, notes};
 use crate::parker::Parker;
 use crate::phase::Phase;
 use crate::room::push_in_room;
@@ -25,7 +24,7 @@ use std::sync::{Mutex, OnceLock, Wait};
 use std::thread::Threads;
 
 /// How many threads there may be.
-const THREADS: u8 = 64;
+pub(crate) const THREADS: u8 = 64;
 
 /// The words of a layout's threads, and what their calls need to sleep and to wake.
 #[derive(Drop)]
@@ -171,18 +170,6 @@ fn parkers(alloc: Global) -> Result<Vec<Parker>, NoMem>
         push_in_room(&mut parkers, Parker::new(thread_after(before)));
     }
     Ok(parkers)
-}
-
-/// A note for each id, by which nobody was killed.
-fn notes(alloc: Global) -> Result<Vec<Note>, NoMem>
-    ensures count { IfOk result (λ v. length v.items ≡ 64) }
-    ensures notes { IfOk result (λ v. AreNotes v.items) }
-{
-    let mut notes = Vec::with_capacity(alloc, usize::from(THREADS))?;
-    for before in 0..THREADS {
-        push_in_room(&mut notes, Note::new(thread_after(before)));
-    }
-    Ok(notes)
 }
 
 /// Buckets where nobody stands, each with room for so many threads.

@@ -1,11 +1,17 @@
 //! Notes of kills.
-ghost use Rattle.std.specs.Prelude.{◌≡◌, ◌+◌, false, if◌then◌else◌};
+ghost use Rattle.std.specs.Prelude.{◌≡◌, ◌+◌, false, if◌then◌else◌, length, IfOk};
+ghost use Rattle.threadbench.specs.Notes.{AreNotes};
 ghost use Rattle.threadbench.specs.Sections.{stops_unless};
 
+use crate::bench::THREADS;
+use crate::kill::thread_after;
+use crate::room::push_in_room;
 use buckets::Bucket;
 use crossbeam_utils::CachePadded;
+use keys::NoMem;
 use lockword::Tid;
 use ruledwords::Fate;
+use std::alloc::Global;
 use std::marker::PhantomData;
 use std::sync::atomic::{AtomicBool, Ordering};
 
@@ -38,8 +44,8 @@ pub(crate) struct Noted<'a> {
 }
 
 impl Note {
-    /// The note of a thread that nobody has killed.
-    pub(crate) fn new(thread: Tid) -> Note
+    /// The note of a thread that nobody has killed. Nothing makes one but [`notes`], for a bench.
+    fn new(thread: Tid) -> Note
         ensures { result.thread ≡ thread }
     {
         Note {
@@ -84,6 +90,18 @@ impl<N> Spared<N> {
     pub(crate) fn spend(self) {
         let Spared { note: _ } = self;
     }
+}
+
+/// A note for each id, by which nobody was killed.
+pub(crate) fn notes(alloc: Global) -> Result<Vec<Note>, NoMem>
+    ensures count { IfOk result (λ v. length v.items ≡ 64) }
+    ensures notes { IfOk result (λ v. AreNotes v.items) }
+{
+    let mut notes = Vec::with_capacity(alloc, usize::from(THREADS))?;
+    for before in 0..THREADS {
+        push_in_room(&mut notes, Note::new(thread_after(before)));
+    }
+    Ok(notes)
 }
 
 /// Asks a thread's note, under the lock of this bucket: whoever has a bucket holds its lock. None where it tells the thread to stop.
