@@ -5,7 +5,7 @@ use Rattle.script.specs.declared.fault.Fault.TheVariants as fault
 use Rattle.script.specs.declared.fault.ScriptFault.{ScriptFault}
 use Rattle.script.specs.Limits.{max_bytes}
 use Rattle.script.specs.Outcome.{TellsAt, SpeaksAt}
-use Rattle.script.specs.Played.{Refuses}
+use Rattle.script.specs.Played.{RefusesCommand}
 use Rattle.script.specs.Reading.{script_read}
 use Rattle.script.specs.Scope.{Scope}
 use Rattle.verdict.specs.Limits as traces
@@ -37,11 +37,15 @@ IsUnread OutOfMemory = ⊤
 IsUnread (Script e) = ⊥
 IsUnread (Trace e) = ⊥
 
--- what stops a script that was read: a command that can't be played; or want of memory for what real threads are asked
+-- memory is wanted before a script's first command: for its machine, or for what real threads are asked
+abbrev pub WantsAtFirst : ScriptFault → Type 0
+WantsAtFirst e = e ≡ record { line = 1; fault = fault.OutOfMemory }
+
+-- what stops a script that was read: a command that can't be played, or want of memory before the first one
 abbrev pub Stops : Report → Scope → ScriptFault → Type 0
-Stops trace s e = Refuses s e.line e.fault
-Stops table s e = Refuses s e.line e.fault
-Stops replies s e = e ≡ record { line = 1; fault = fault.OutOfMemory }
+Stops trace s e = RefusesCommand s e.line e.fault ⊎ WantsAtFirst e
+Stops table s e = RefusesCommand s e.line e.fault ⊎ WantsAtFirst e
+Stops replies s e = WantsAtFirst e
 
 -- what is wrong with these bytes as a script: their first fault, or want of memory at a line before it that says something; or what stops the script that they are
 abbrev pub IsFaultOf : Report → List ℕ → ScriptFault → Type 0

@@ -23,7 +23,7 @@ use crate::messages::{Failure, status_after, tell};
 use crate::threads::{Answers, answers_of};
 use cmdline::Form;
 use interleave::{Machine, Trace};
-use script::{MAX_BYTES, Mode, Script, ScriptFault, jobs, parse, play};
+use script::{Fault, MAX_BYTES, Mode, Script, ScriptFault, first_machine, jobs, parse, play};
 use std::alloc::Global;
 use std::io::{self, Read, Write};
 use std::sync::Wait;
@@ -63,14 +63,20 @@ struct Played {
     machine: Machine,
 }
 
-/// Reads a script's bytes and plays them.
+/// Reads a script's bytes and plays them. Where its machine can't be had, that is told at line 1.
 fn play_bytes(alloc: Global, bytes: &[u8]) -> Result<Played, ScriptFault>
     ensures reads { IfOk result (λ p. script_read Run bytes.now ≡ Ok p.script) }
     ensures plays { IfOk result (λ p. IsPlayed p.script p.trace p.machine) }
     ensures fails { IfErr result (IsFaultOf trace bytes.now) }
 {
     let script = parse(alloc, bytes, Mode::Run)?;
-    match play(alloc, &script) {
+    let Ok(first) = first_machine(alloc, &script) else {
+        return Err(ScriptFault {
+            line: 1,
+            fault: Fault::OutOfMemory,
+        });
+    };
+    match play(alloc, &script, first) {
         Ok((trace, machine)) => Ok(Played {
             script,
             trace,

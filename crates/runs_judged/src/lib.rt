@@ -10,7 +10,8 @@
 //! code but the laws: whoever checks what was written relies on them, as `report` does.
 //!
 //! ```text
-//! let (trace, _machine) = play(rt.alloc(), &script)?;
+//! let machine = first_machine(rt.alloc(), &script)?;
+//! let (trace, _machine) = play(rt.alloc(), &script, machine)?;
 //! let mut text = Vec::new(rt.alloc());
 //! write_trace(&trace, &mut text)?;
 //! match check(rt.alloc(), &text) {

@@ -1,5 +1,5 @@
 -- What playing a script gives.
-use Rattle.std.specs.Prelude.{ℕ, ◌≡◌, ◌<◌, ◌⊎◌, List, ◌∷◌, ◌++◌, length, Some, None, Result, Ok, Err}
+use Rattle.std.specs.Prelude.{ℕ, ◌≡◌, ◌<◌, List, ◌∷◌, ◌++◌, length, Some, None, Result, Ok, Err}
 use Rattle.protocol.specs.declared.note.Note.{Note}
 use Rattle.protocol.specs.Machine.{State, run, notes}
 use Rattle.interleave.specs.declared.trace.Trace.{Trace}
@@ -44,10 +44,7 @@ abbrev pub PlaysOn : Scope → State → List Note → Result (Unit {0}) ScriptF
 PlaysOn s now ns (Ok u) = (overlong s ≡ None) × (ns ≡ notes (first_state s) (events_in s)) × (now ≡ run (first_state s) (events_in s))
 PlaysOn s now ns (Err e) = RefusesCommand s e.line e.fault
 
--- a command is refused; or memory is wanted before the first command, at line 1
-abbrev pub Refuses : Scope → ℕ → Fault → Type 0
-Refuses s line f = RefusesCommand s line f ⊎ ((line ≡ 1) × (f ≡ OutOfMemory))
-
+-- all of it, on the first machine; or a command is refused
 abbrev pub PlaysTo : Scope → Result (Trace × Shown) ScriptFault → Type 0
 PlaysTo s (Ok p) = IsPlayed s p.0 p.1
-PlaysTo s (Err e) = Refuses s e.line e.fault
+PlaysTo s (Err e) = RefusesCommand s e.line e.fault

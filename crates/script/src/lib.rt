@@ -1,6 +1,6 @@
 //! Scripts: what a list of bytes asks for, and the first fault of one that asks for nothing.
 //!
-//! [`parse`] reads a [`Script`], or tells its first fault with its line ([`ScriptFault`]); [`play`] runs one on the machine, and
+//! [`parse`] reads a [`Script`], or tells its first fault with its line ([`ScriptFault`]); [`play`] runs one on its [`first_machine`], and
 //! [`jobs`] gives what one asks of real threads. Each is proved equal to the definition of what lines mean: silent lines say
 //! nothing (`silent_lines_say_nothing`), processes, kills and deaths are as their lines say (`processes_are_as_told`,
 //! `one_process_without_a_line`, `killall_kills_one_process`, `deaths_are_as_told`), and `go` cuts no call off
@@ -12,7 +12,8 @@
 //! ```text
 //! let text = b"thread a\nthread b\nmutex m\ncall a lock m\nkill a\ngo a\ncall b lock m\n";
 //! let script = parse(rt.alloc(), text, Mode::Run)?;
-//! let (trace, machine) = play(rt.alloc(), &script)?;
+//! let machine = first_machine(rt.alloc(), &script)?;
+//! let (trace, machine) = play(rt.alloc(), &script, machine)?;
 //! // Thread 2, which the script calls b, has the mutex after the death of its owner.
 //! assert_eq!(rt; (script.threads(), trace.threads), (2, 2));
 //! assert_eq!(rt; machine.owner(0), Tid::new(2));
@@ -50,6 +51,6 @@ pub use limits::{
     MAX_MUTEXES, MAX_NAME, MAX_PROCESSES, MAX_STEM, MAX_STEPS, MAX_THREADS, REST_STEPS,
 };
 pub use parsed::Script;
-pub use player::play;
+pub use player::{first_machine, play};
 pub use reading::parse;
 pub use workload::{Job, Jobs, Phase};

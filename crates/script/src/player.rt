@@ -13,6 +13,7 @@ use crate::limits::{MAX_EVENTS, REST_STEPS};
 use crate::parsed::Script;
 use condvar::Op;
 use interleave::{Machine, Trace};
+use keys::NoMem;
 use lockword::Tid;
 use mutex::Call;
 use protocol::{Event, Note};
@@ -192,29 +193,27 @@ fn preset_all(machine: &mut Machine, script: &Script)
 }
 
 /// A machine with a script's threads, mutexes and condition variables, before its first event.
-fn first_machine(alloc: Global, script: &Script) -> Result<Machine, ScriptFault>
-    ensures starts { IfOk result (λ machine. state_of machine ≡ first_state script.now) }
-    ensures memory { IfErr result (λ e. e ≡ record { line = 1; fault = Fault.OutOfMemory }) }
+pub fn first_machine(alloc: Global, script: &Script) -> Result<Machine, NoMem>
+    ensures { IfOk result (λ machine. state_of machine ≡ first_state script.now) }
 {
-    let Ok(mut machine) = Machine::new(alloc, script.layout()) else {
-        return Err(ScriptFault {
-            line: 1,
-            fault: Fault::OutOfMemory,
-        });
-    };
+    let mut machine = Machine::new(alloc, script.layout())?;
     preset_all(&mut machine, script);
     Ok(machine)
 }
 
-/// What a script's commands do on a new machine: the trace, and the machine afterwards. The trace tells a legal run: of its notes and of the machine after each event all holds that
+/// What a script's commands do on its first machine: the trace, and the machine afterwards. The trace tells a legal run: of its notes and of the machine after each event all holds that
 /// [`Machine::run`] promises of a list of events.
 ///
-/// Refused at the line of the first command that would run event 100,001, as [`Fault::TooLong`]; or, where no memory is left, at the line being played,
-/// or at line 1 before the first.
-pub fn play(alloc: Global, script: &Script) -> Result<(Trace, Machine), ScriptFault>
+/// Refused at the line of the first command that would run event 100,001, as [`Fault::TooLong`]; or, where no memory is left for an event, at the line being played.
+pub fn play(
+    alloc: Global,
+    script: &Script,
+    machine: Machine,
+) -> Result<(Trace, Machine), ScriptFault>
+    requires starts { state_of machine ≡ first_state script.now }
     ensures { PlaysTo script.now result }
 {
-    let mut machine = first_machine(alloc, script)?;
+    let mut machine = machine;
     let mut notes = Vec::new(alloc);
     play_commands(&mut machine, &mut notes, script)?;
     let trace = Trace {

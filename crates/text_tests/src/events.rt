@@ -3,13 +3,16 @@
 use crate::built::joined;
 use crate::faults::{Refused, read};
 use interleave::{Machine, Trace};
-use script::{Mode, play};
+use script::{Mode, first_machine, play};
 use std::alloc::Global;
 
 /// The trace of a script, and the machine that it leaves. Tests play by this alone, since each function that calls `play` itself is dear to prove.
 pub fn outcome(alloc: Global, bytes: &[u8], mode: Mode) -> Result<(Trace, Machine), Refused> {
     let script = read(alloc, bytes, mode)?;
-    match play(alloc, &script) {
+    let Ok(machine) = first_machine(alloc, &script) else {
+        return Err((6, 1));
+    };
+    match play(alloc, &script, machine) {
         Ok(played) => Ok(played),
         Err(refused) => Err((refused.fault.number(), refused.line)),
     }

@@ -9,7 +9,8 @@
 //!
 //! ```text
 //! let script = parse(rt.alloc(), b"thread a\nmutex m\ncall a unlock m\n", Mode::Run)?;
-//! let (trace, machine) = play(rt.alloc(), &script)?;
+//! let machine = first_machine(rt.alloc(), &script)?;
+//! let (trace, machine) = play(rt.alloc(), &script, machine)?;
 //! let mut text = Vec::new(rt.alloc());
 //! // trace 1 1 0 / 1 begin t1 unlock m0 / 2 point t1 m0 unlock EPERM / 2 return t1 EPERM / end 2
 //! write_trace(&trace, &mut text)?;

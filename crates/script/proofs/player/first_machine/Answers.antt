@@ -4,4 +4,4 @@ use Rattle.protocol.specs.Machine.{start}
 use Rattle.script.proofs.player.first_machine.Goals as goal
 
 pub preset_all-requires-clause-starts : goal.preset_all-requires-clause-starts
-preset_all-requires-clause-starts c = c.in-Ok.ensures.start ∙ ap (λ (l : Layout'). start l (λ k. 0)) c.layout.ensures
+preset_all-requires-clause-starts c = c.in_ok-machine.ensures.start ∙ ap (λ (l : Layout'). start l (λ k. 0)) c.layout.ensures
