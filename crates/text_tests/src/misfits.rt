@@ -430,6 +430,51 @@ fn reason_at_the_limit(rt: HostRuntime) -> Result<(), Fail> {
     Ok(())
 }
 
+/// Whether a mutex that nobody owns is inconsistent, whether it is unusable, and the text of a death in it.
+static STATES: [(bool, bool, &str); 4] = [
+    (
+        false,
+        false,
+        "line 3: the thread doesn't own the mutex: nobody owns it",
+    ),
+    (
+        true,
+        false,
+        "line 3: the thread doesn't own the mutex: nobody owns it, it is inconsistent",
+    ),
+    (
+        false,
+        true,
+        "line 3: the thread doesn't own the mutex: nobody owns it, it is unusable",
+    ),
+    (
+        true,
+        true,
+        "line 3: the thread doesn't own the mutex: nobody owns it, it is inconsistent, it is unusable",
+    ),
+];
+
+/// A death in such a mutex, at line 3.
+fn death_in(inconsistent: bool, unusable: bool) -> TraceMisfit {
+    TraceMisfit {
+        line: 3,
+        misfit: Misfit::NotOwner {
+            object: Object {
+                owner: None,
+                inconsistent,
+                unusable,
+            },
+        },
+    }
+}
+
+#[test]
+fn texts_of_states(rt: HostRuntime) {
+    for (inconsistent, unusable, text) in &STATES {
+        assert!(rt; is_told(rt.alloc(), death_in(*inconsistent, *unusable), *text));
+    }
+}
+
 /// Where there is no reason, `explain` answers as `check` does.
 #[test]
 fn no_reason(rt: HostRuntime) {

@@ -232,7 +232,7 @@ fn a_thread_holds_2048_mutexes(rt: HostRuntime) -> Result<(), Fail> {
 }
 
 /// Numbers of events that fall, or that two lines share.
-static NUMBERS_OF_EVENTS: [(&str, Answer); 8] = [
+static NUMBERS_OF_EVENTS: [(&str, Answer); 11] = [
     ("2 begin t1 lock m0\n1 kill t2\nend 2", Illegal(3)),
     ("1 begin t1 lock m0\n1 begin t2 lock m0\nend 1", Illegal(3)),
     (
@@ -250,6 +250,21 @@ static NUMBERS_OF_EVENTS: [(&str, Answer); 8] = [
         Legal(0),
     ),
     ("2 begin t1 lock m0\nend 1", Illegal(3)),
+    // Two deaths.
+    (
+        "1 begin t1 lock m0\n2 point t1 m0 lock OK\n3 return t1 OK\n4 begin t1 lock m1\n5 point t1 m1 lock OK\n6 kill t1\n7 death t1 m0\n7 death t1 m1\nend 7",
+        Illegal(9),
+    ),
+    // A kill behind a wake.
+    (
+        "1 begin t1 lock m0\n2 sleep t1 m0\n3 wake t1\n3 kill t2\nend 3",
+        Illegal(5),
+    ),
+    // A wake doesn't part what two threads did.
+    (
+        "1 begin t1 lock m0\n2 sleep t1 m0\n3 begin t2 lock m1\n3 wake t1\n3 point t1 m0 lock OK\nend 3",
+        Illegal(6),
+    ),
 ];
 
 #[test]
