@@ -4,27 +4,38 @@ use crate::faulty::{Fixed, is_printed_or_wants_memory};
 use crate::served::Answered;
 use report::{CANNOT_READ, OUT_OF_MEMORY, Opener, USAGE, run};
 use std::alloc::{AllocError, Global};
+use std::cell::Cell;
 use std::fs;
 use std::io::{self, ErrorKind};
 use std::sync::Wait;
 use std::thread::Threads;
 
-/// Has the one file `f`; to open any other fails so.
+/// Has the one file `f`; to open any other fails so. It counts what is opened.
 #[derive(Drop)]
 struct Folder<'a> {
     text: &'a [u8],
     fails: ErrorKind,
+    opened: Cell<usize>,
 }
 
 impl<'a> Opener for Folder<'a> {
     type Input = &'a [u8];
 
     fn open(&self, file: &str) -> io::Result<&'a [u8]> {
+        self.opened.set(self.opened.get().saturating_add(1));
         if file == "f" {
             Ok(self.text)
         } else {
             Err(io::Error::from(self.fails))
         }
+    }
+}
+
+fn a_folder(text: &[u8], fails: ErrorKind) -> Folder<'_> {
+    Folder {
+        text,
+        fails,
+        opened: Cell::new(0),
     }
 }
 
@@ -72,15 +83,16 @@ const TRACE: &str = "trace 1 1 0\n1 begin t1 unlock m0\n2 point t1 m0 unlock EPE
 
 const ILLEGAL: &str = "trace 1 1 0\n1 return t1 OK\nend 1\n";
 
-/// A file, a command line, and what comes of it.
-static LINES: [(&str, &[&str], u8, &str, &str); 10] = [
-    (SCRIPT, &["rfx", "run", "f"], 0, TRACE, ""),
+/// A file, a command line, what comes of it, and how often a file is opened.
+static LINES: [(&str, &[&str], u8, &str, &str, usize); 11] = [
+    (SCRIPT, &["rfx", "run", "f"], 0, TRACE, "", 1),
     (
         SCRIPT,
         &["rfx", "run", "--table", "f"],
         0,
         "thread a idle 0 EPERM\nmutex m 0000000000000000 - -\n",
         "",
+        1,
     ),
     (
         SCRIPT,
@@ -88,14 +100,16 @@ static LINES: [(&str, &[&str], u8, &str, &str); 10] = [
         0,
         "replies a EPERM\nmutex m 0000000000000000 - -\n",
         "",
+        1,
     ),
-    (TRACE, &["rfx", "check", "f"], 0, "legal 1 points\n", ""),
+    (TRACE, &["rfx", "check", "f"], 0, "legal 1 points\n", "", 1),
     (
         ILLEGAL,
         &["rfx", "check", "f"],
         1,
         "illegal at line 2\n",
         "",
+        1,
     ),
     (
         ILLEGAL,
@@ -103,6 +117,7 @@ static LINES: [(&str, &[&str], u8, &str, &str); 10] = [
         1,
         "",
         "rfx: line 1: fault 2: unknown word\n",
+        1,
     ),
     (
         SCRIPT,
@@ -110,30 +125,28 @@ static LINES: [(&str, &[&str], u8, &str, &str); 10] = [
         1,
         "",
         "rfx: cannot read no file\n",
+        1,
     ),
-    (SCRIPT, &["rfx", "run"], 2, "", USAGE),
-    (SCRIPT, &["rfx", "--help"], 2, "", USAGE),
-    (SCRIPT, &[], 2, "", USAGE),
+    // A name without a letter, in a message that is written all the same.
+    (SCRIPT, &["rfx", "run", ""], 1, "", "rfx: cannot read \n", 1),
+    (SCRIPT, &["rfx", "run"], 2, "", USAGE, 0),
+    (SCRIPT, &["rfx", "--help"], 2, "", USAGE, 0),
+    (SCRIPT, &[], 2, "", USAGE, 0),
 ];
 
 #[test]
 fn command_lines_are_served(rt: HostRuntime) {
-    for (file, line, status, printed, told) in &LINES {
-        let files = Folder {
-            text: file.as_bytes(),
-            fails: ErrorKind::NotFound,
-        };
+    for (file, line, status, printed, told, opened) in &LINES {
+        let files = a_folder(file.as_bytes(), ErrorKind::NotFound);
         let answered = answered(&rt, words(rt.alloc(), *line), &files);
         assert!(rt; answered.is(*status, *printed, *told));
+        assert!(rt; files.opened.get() == *opened);
     }
 }
 
 #[test]
 fn words_that_are_no_text_are_another_command_line(rt: HostRuntime) {
-    let files = Folder {
-        text: SCRIPT.as_bytes(),
-        fails: ErrorKind::NotFound,
-    };
+    let files = a_folder(SCRIPT.as_bytes(), ErrorKind::NotFound);
     let words = Err(io::Error::from(ErrorKind::InvalidData));
     assert!(rt; answered(&rt, words, &files).is(2, "", USAGE));
 }
@@ -141,10 +154,7 @@ fn words_that_are_no_text_are_another_command_line(rt: HostRuntime) {
 /// Memory is told where it was refused, for the words or for a file.
 #[test]
 fn refused_words_and_files_are_told(rt: HostRuntime) {
-    let files = Folder {
-        text: SCRIPT.as_bytes(),
-        fails: ErrorKind::OutOfMemory,
-    };
+    let files = a_folder(SCRIPT.as_bytes(), ErrorKind::OutOfMemory);
     let line = words(rt.alloc(), &["rfx", "run", "g"]);
     assert!(rt; answered(&rt, line, &files).is(1, "", OUT_OF_MEMORY));
     let none = Err(io::Error::from(AllocError));
@@ -171,10 +181,7 @@ fn files_are_opened(rt: HostRuntime) {
 /// Passes too where any one allocation fails: nothing is printed then, and want of memory is told.
 #[test]
 fn memory_for_a_command_line(rt: HostRuntime) {
-    let files = Folder {
-        text: SCRIPT.as_bytes(),
-        fails: ErrorKind::NotFound,
-    };
+    let files = a_folder(SCRIPT.as_bytes(), ErrorKind::NotFound);
     let mut out = Fixed::new();
     let mut err = Fixed::new();
     let line = words(rt.alloc(), &["rfx", "run", "f"]);

@@ -157,6 +157,53 @@ pub fn slow_reader(bytes: &[u8], fails: bool) -> Slow<'_> {
     }
 }
 
+/// Is interrupted so many times before it gives its bytes.
+#[derive(Drop)]
+pub struct Late<'a> {
+    pub left: &'a [u8],
+    pub interruptions: u32,
+}
+
+impl<'a> Read for Late<'a> {
+    fn read(&mut self, buf: &mut [u8]) -> io::Result<usize> {
+        if self.interruptions > 0 {
+            self.interruptions -= 1;
+            return Err(io::Error::from(ErrorKind::Interrupted));
+        }
+        self.left.read(buf)
+    }
+}
+
+/// Is interrupted so many times before it takes what it is given.
+#[derive(Drop)]
+pub struct LateWriter {
+    pub held: Vec<u8>,
+    pub interruptions: u32,
+}
+
+impl Write for LateWriter {
+    fn write(&mut self, buf: &[u8]) -> io::Result<usize> {
+        if self.interruptions > 0 {
+            self.interruptions -= 1;
+            return Err(io::Error::from(ErrorKind::Interrupted));
+        }
+        self.held.extend_from_slice(buf)?;
+        Ok(buf.len())
+    }
+
+    fn flush(&mut self) -> io::Result<()> {
+        Ok(())
+    }
+}
+
+impl Output for LateWriter {
+    ghost is_let_go = { λ _. ⊤ };
+
+    fn let_go(&mut self) -> io::Result<()> {
+        self.flush()
+    }
+}
+
 /// Whether the program printed this and told nothing; or printed nothing, and told that memory was refused.
 pub fn is_printed_or_wants_memory(status: u8, out: &Fixed, err: &Fixed, printed: &str) -> bool {
     if status == 0 {

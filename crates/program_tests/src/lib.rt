@@ -10,6 +10,8 @@ mod conditions;
 #[cfg(test)]
 mod faulty;
 #[cfg(test)]
+mod large;
+#[cfg(test)]
 mod processes;
 #[cfg(test)]
 mod program;

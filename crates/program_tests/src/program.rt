@@ -1,6 +1,8 @@
 //! The program: command lines, readers, writers, and what is written of a script.
 
-use crate::faulty::{Fixed, Narrow, Stuck, is_printed_or_wants_memory, slow_reader};
+use crate::faulty::{
+    Fixed, Late, LateWriter, Narrow, Stuck, is_printed_or_wants_memory, slow_reader,
+};
 use crate::served::{Answered, served};
 use keys::NoMem;
 use report::{CANNOT_READ, CANNOT_WRITE, Form, OUT_OF_MEMORY, USAGE, form_of_words, serve};
@@ -195,6 +197,23 @@ fn a_trace_that_cannot_be_written_is_told(rt: HostRuntime) {
     for room in 0..ROW_TEXT.len() {
         assert!(rt; is_told_of_room(&rt, room));
     }
+}
+
+/// Each of more than a million interruptions is tried again, of a read and of a write.
+#[test]
+fn interruptions_are_tried_again(rt: HostRuntime) {
+    let mut input = Late {
+        left: ROW.as_bytes(),
+        interruptions: 1_000_001,
+    };
+    let mut out = LateWriter {
+        held: Vec::new(rt.alloc()),
+        interruptions: 1_000_001,
+    };
+    let mut err = Vec::new(rt.alloc());
+    let form = Form::Run("f");
+    let status = serve(&rt, rt.alloc(), &form, &mut input, &mut out, &mut err);
+    assert!(rt; status == 0 && out.held.as_slice() == ROW_TEXT.as_bytes() && err.is_empty());
 }
 
 #[test]
