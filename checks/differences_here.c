@@ -2,13 +2,13 @@
  * table that a caller of libpazdrig can see. It prints what was seen, and what is wanted where that differs.
  * usage: differences_here FOLDER */
 #define _GNU_SOURCE
-#include "processes.h"
+#include "rows.h"
 
 #include <pazdrig.h>
 #include <sys/mman.h>
 
 /* How many mutexes a thread may hold. */
-enum { LIMIT = 2048, SLEEPERS = 3 };
+enum { LIMIT = 2048 };
 
 static pz *p;
 
@@ -18,59 +18,7 @@ static int unlock(void) { return pz_mutex_unlock(p, 0); }
 static int consistent(void) { return pz_mutex_consistent(p, 0); }
 static int wait_there(void) { return pz_cond_wait(p, 0); }
 static int signal_it(void) { return pz_cond_signal(p, 0); }
-static int lock_and_sleep(void) { return lock() ?: pause(); }
-static int wait_for_a_signal(void) { return lock() ?: wait_there() ?: unlock(); }
 static int signal_as_the_owner(void) { return lock() ?: signal_it() ?: unlock(); }
-
-/* Another thread dies, and owned the mutex; this one takes it. */
-static void inherit(void)
-{
-    pid_t owner = begin(lock_and_sleep);
-    settle(owner);
-    kill_it(owner);
-    if (lock() != EOWNERDEAD)
-        say("lock isn't EOWNERDEAD, ");
-}
-
-static void spoil(void)
-{
-    inherit();
-    unlock();
-}
-
-static void sleepers_of_a_spoiled_mutex(void)
-{
-    pid_t sleepers[SLEEPERS];
-    int told = 0, asleep = 0;
-    inherit();
-    for (int i = 0; i < SLEEPERS; i++)
-        settle(sleepers[i] = begin(lock));
-    unlock();
-    for (int i = 0; i < SLEEPERS; i++) {
-        int answer = came_of(sleepers[i]);
-        told += answer == ENOTRECOVERABLE;
-        asleep += answer == SLEEPS;
-    }
-    say("%d told ENOTRECOVERABLE, %d sleep on", told, asleep);
-}
-
-static void trylock_of_a_spoiled_mutex(void)
-{
-    spoil();
-    say("%s, ", name(trylock()));
-    say("then %s, ", name(trylock()));
-    say("of another %s, ", name(came_of(begin(trylock))));
-    say("its lock %s, ", name(came_of(begin(lock))));
-    say("unlock %s", name(unlock()));
-}
-
-static void consistent_of_another(void)
-{
-    inherit();
-    say("%s, ", name(came_of(begin(consistent))));
-    unlock();
-    say("then lock %s", name(lock()));
-}
 
 static void lock_all_but_one(void)
 {
@@ -124,12 +72,6 @@ static void signal_of_another(void)
 {
     say("%s, ", name(signal_it()));
     say("broadcast %s", name(broadcast_it()));
-}
-
-static void trylock_of_the_owner(void)
-{
-    lock();
-    say("%s", name(trylock()));
 }
 
 static void lock_again_at_the_limit(void)

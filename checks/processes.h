@@ -1,4 +1,4 @@
-/* What checks/differences.c and checks/differences_here.c have in common: threads are processes, which are begun, looked at and
+/* What checks/differences.c and checks/differences_here.c have in common, beside the rows of rows.h: threads are processes, which are begun, looked at and
  * killed; a row of docs/DIFFERENCES.md is a function that runs in a process of its own. What it sees it says. */
 #ifndef PROCESSES_H
 #define PROCESSES_H

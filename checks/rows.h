@@ -1,0 +1,73 @@
+/* Rows of docs/DIFFERENCES.md that are asked of the C library and of libpazdrig alike. Who includes this brings the calls. */
+#ifndef ROWS_H
+#define ROWS_H
+#include "processes.h"
+
+static int lock(void);
+static int trylock(void);
+static int unlock(void);
+static int consistent(void);
+static int wait_there(void);
+
+enum { SLEEPERS = 3 };
+
+static int lock_and_sleep(void) { return lock() ?: pause(); }
+static int wait_for_a_signal(void) { return lock() ?: wait_there() ?: unlock(); }
+
+/* Another thread dies, and owned the mutex; this one takes it. */
+static void inherit(void)
+{
+    pid_t owner = begin(lock_and_sleep);
+    settle(owner);
+    kill_it(owner);
+    if (lock() != EOWNERDEAD)
+        say("lock isn't EOWNERDEAD, ");
+}
+
+static void spoil(void)
+{
+    inherit();
+    unlock();
+}
+
+static void sleepers_of_a_spoiled_mutex(void)
+{
+    pid_t sleepers[SLEEPERS];
+    int told = 0, asleep = 0;
+    inherit();
+    for (int i = 0; i < SLEEPERS; i++)
+        settle(sleepers[i] = begin(lock));
+    unlock();
+    for (int i = 0; i < SLEEPERS; i++) {
+        int answer = came_of(sleepers[i]);
+        told += answer == ENOTRECOVERABLE;
+        asleep += answer == SLEEPS;
+    }
+    say("%d told ENOTRECOVERABLE, %d sleep on", told, asleep);
+}
+
+static void trylock_of_a_spoiled_mutex(void)
+{
+    spoil();
+    say("%s, ", name(trylock()));
+    say("then %s, ", name(trylock()));
+    say("of another %s, ", name(came_of(begin(trylock))));
+    say("its lock %s, ", name(came_of(begin(lock))));
+    say("unlock ");
+    say("%s", name(unlock()));
+}
+
+static void consistent_of_another(void)
+{
+    inherit();
+    say("%s, ", name(came_of(begin(consistent))));
+    unlock();
+    say("then lock %s", name(lock()));
+}
+
+static void trylock_of_the_owner(void)
+{
+    lock();
+    say("%s", name(trylock()));
+}
+#endif
