@@ -35,6 +35,7 @@ room x s l numbers some few =
 
 pub have_room : TextsHaveRoom
 have_room = record {
+  font = refl;
   lines = room;
   bands = λ m small.
       let name = then_letters (codes "m") (decimal m) 1 2 (record { single = refl; few = omega arith }) (number_letters m 2 (omega arith) (omega (arith, small)) (omega (arith, small))) in

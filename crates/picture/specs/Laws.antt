@@ -8,8 +8,9 @@ use Rattle.picture.specs.declared.rows.Part.TheVariants as part
 use Rattle.picture.specs.declared.scene.Scene.{Scene}
 use Rattle.picture.specs.declared.svg.Extent.{Extent}
 use Rattle.picture.specs.Layouts.{width}
-use Rattle.picture.specs.Places.{band_x, lane_x}
+use Rattle.picture.specs.Places.{band_x, lane_x, number_x, words_x}
 use Rattle.picture.specs.Rows.{band_at, cell_at, cells, from_at, mark, part_of, row_text, sign, words_at}
+use Rattle.picture.specs.Style.{shapes_style, style}
 use Rattle.picture.specs.Svg.{svg_width}
 use Rattle.picture.specs.Words.{first_number, second_number}
 
@@ -85,15 +86,16 @@ pixels letters = 15 * letters / 2
 
 -- how far to the right the words of a line reach
 abbrev pub words_end : Extent → Scene → Line → ℕ
-words_end x s l = lane_x x.threads x.bands (thread_of l.fact) + 10 + pixels (length (concat (words_at s l)))
+words_end x s l = words_x (lane_x x.threads x.bands (thread_of l.fact)) + pixels (length (concat (words_at s l)))
 
 -- the words of a line end within the picture; up to five lanes have room for them, up to the next lane's marks, which begin 7 before its middle; and the number of its event begins within the picture
 pub record HasRoom (x : Extent) (s : Scene) (l : Line) : Type 0 where
   pub inside : words_end x s l ≤ svg_width x
   pub apart : x.threads ≤ 5 → words_end x s l ≤ lane_x x.threads x.bands (thread_of l.fact + 1) - 7
-  pub event : pixels (length (decimal l.event)) ≤ 48
+  pub event : pixels (length (decimal l.event)) ≤ number_x
 
--- so it is of every line of one of a picture's threads; and the names of two bands don't touch
+-- so it is of every line of one of a picture's threads; the names of two bands don't touch; and the texts are of a font whose letters are equally wide, at 11 pixels, and the numbers of events end where they stand
 pub record TextsHaveRoom : Type 0 where
+  pub font : style ≡ codes "<style>text{font:11px monospace}.n{text-anchor:end;fill:#777}" ++ shapes_style
   pub lines : (x : Extent) (s : Scene) (l : Line) → HasNumbersOfATrace s l → 1 ≤ thread_of l.fact → thread_of l.fact ≤ x.threads → HasRoom x s l
   pub bands : (m : ℕ) → m < 16 → band_x m + pixels (length (codes "m" ++ decimal m)) < band_x (m + 1)

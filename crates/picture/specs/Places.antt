@@ -14,6 +14,14 @@ band_x m = 64 + 26 * m
 abbrev pub lane_x : ℕ → ℕ → ℕ → ℕ
 lane_x threads count u = band_x count + 20 + along threads u
 
+-- where the words of a line begin, by the middle of its lane
+abbrev pub words_x : ℕ → ℕ
+words_x middle = middle + 10
+
+-- where the number of an event ends
+abbrev pub number_x : ℕ
+number_x = 48
+
 -- how much room there is behind the middle of the last lane: enough for the words of each line
 abbrev pub margin : ℕ
 margin = 260

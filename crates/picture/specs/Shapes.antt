@@ -6,7 +6,7 @@ use Rattle.facts.specs.declared.fact.Fact.{Fact}
 use Rattle.facts.specs.declared.fact.Fact.TheVariants as fact
 use Rattle.picture.specs.declared.lane.Lane.{Lane}
 use Rattle.picture.specs.declared.lane.Lane.TheVariants as lane
-use Rattle.picture.specs.Places.{band_x, row_y}
+use Rattle.picture.specs.Places.{band_x, number_x, row_y, words_x}
 
 -- ---- what lanes and bands show, from one line to another one
 
@@ -86,7 +86,7 @@ arrow_shape from to k = concat (codes "<path class=\"a\" d=\"M" ∷ decimal from
 -- ---- a line's texts
 
 abbrev pub number_label : ℕ → ℕ → List ℕ
-number_label i k = concat (codes "<text class=\"n\" x=\"48\" y=\"" ∷ decimal (row_y k + 4) ∷ codes "\">" ∷ decimal i ∷ codes "</text>" ∷ [])
+number_label i k = concat (codes "<text class=\"n\" x=\"" ∷ decimal number_x ∷ codes "\" y=\"" ∷ decimal (row_y k + 4) ∷ codes "\">" ∷ decimal i ∷ codes "</text>" ∷ [])
 
 -- beside the mark; above an arrow from the right
 abbrev pub words_y : ℕ → Bool → ℕ
@@ -96,4 +96,4 @@ abbrev pub words_at_pixel : List ℕ → List ℕ → List ℕ
 words_at_pixel left y = concat (codes "<text class=\"t\" x=\"" ∷ left ∷ codes "\" y=\"" ∷ y ∷ codes "\">" ∷ [])
 
 abbrev pub words_label : List (List ℕ) → ℕ → ℕ → Bool → List ℕ
-words_label ws middle k above = words_at_pixel (decimal (middle + 10)) (decimal (words_y k above)) ++ (concat ws ++ codes "</text>\n")
+words_label ws middle k above = words_at_pixel (decimal (words_x middle)) (decimal (words_y k above)) ++ (concat ws ++ codes "</text>\n")

@@ -1,10 +1,13 @@
 //! Where things stand in an SVG picture, in its pixels. Time runs downwards, a line of the trace after the other.
 
 ghost use Rattle.std.specs.Prelude.{◌≡◌, ◌≤◌, ◌<◌, ◌*◌, ◌^◌};
-ghost use Rattle.picture.specs.Places.{along, band_x, lane_x, row_y};
+ghost use Rattle.picture.specs.Places.{along, band_x, lane_x, row_y, words_x};
 
 /// How much room there is behind the middle of the last lane: enough for the words of each line.
 pub const MARGIN: u32 = 260;
+
+/// Where the number of an event ends.
+pub const NUMBER_X: u32 = 48;
 
 /// How far a lane is from the first one: the more lanes, the nearer. Up to five have room for the words of each line.
 fn along(threads: u8, lane: u8) -> u32
@@ -36,6 +39,14 @@ pub fn lane_x(threads: u8, bands: usize, lane: u8) -> u32
     ensures high { result < 2 ^ 20 }
 {
     band_x(bands) + 20 + along(threads, lane)
+}
+
+/// Where the words of a line begin, by the middle of its lane.
+pub fn words_x(middle: u32) -> u32
+    requires { middle < 2 ^ 20 }
+    ensures { result ≡ words_x middle }
+{
+    middle + 10
 }
 
 /// The middle of a line's row, the first line being number 1.

@@ -5,7 +5,7 @@ ghost use Rattle.picture.specs.Shapes.{arrow_shape, band_class, band_shape, lane
 
 use crate::lane::Lane;
 use crate::pieces::add;
-use crate::places::{band_x, row_y};
+use crate::places::{NUMBER_X, band_x, row_y, words_x};
 use facts::Fact;
 use itoa::Buffer;
 use keys::Object;
@@ -263,14 +263,18 @@ pub fn add_arrow(text: &mut String, from: u32, to: u32, line: usize) -> Result<(
 pub fn add_number(text: &mut String, event: u32, line: usize) -> Result<(), AllocError>
     ensures { IfOk result (λ _. string_bytes text.new ≡ string_bytes text.old ++ number_label event line) }
 {
+    let mut ends = Buffer::new();
     let mut rows = Buffer::new();
     let mut events = Buffer::new();
+    let end = ends.format(NUMBER_X);
     let row = rows.format(row_y(line) + 4);
     let event = events.format(event);
     add(
         text,
         &[
-            "<text class=\"n\" x=\"48\" y=\"",
+            "<text class=\"n\" x=\"",
+            end,
+            "\" y=\"",
             row,
             "\">",
             event,
@@ -300,7 +304,7 @@ pub fn add_words(
 {
     let mut lefts = Buffer::new();
     let mut rows = Buffer::new();
-    let left = lefts.format(middle + 10);
+    let left = lefts.format(words_x(middle));
     let row = rows.format(words_y(line, is_above));
     add(
         text,

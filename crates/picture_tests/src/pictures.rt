@@ -85,7 +85,17 @@ fn seven_threads(rt: HostRuntime) {
 }
 
 /// Traces and their pictures: lanes of each width, and what else has a place of its own in a row.
-static LANES: [(&str, &str); 13] = [
+static LANES: [(&str, &str); 15] = [
+    // Two lanes of 24 columns, and bands for eight of nine mutexes.
+    (
+        "trace 2 9 0\n1 begin t1 lock m0\nend 1\n",
+        " event  m0   m1   m2   m3   m4   m5   m6   m7   t1                      t2\n     1  -    -    -    -    -    -    -    -    ┌ lock m0               ·\n     1  end\n",
+    ),
+    // Three, and bands for four.
+    (
+        "trace 3 9 0\n1 begin t1 lock m0\nend 1\n",
+        " event  m0   m1   m2   m3   t1                      t2                      t3\n     1  -    -    -    -    ┌ lock m0               ·                       ·\n     1  end\n",
+    ),
     // Four lanes of 18 columns, and bands for four of five mutexes.
     (
         "trace 4 5 0\n1 begin t2 lock m0\nend 1\n",
