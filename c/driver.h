@@ -11,7 +11,7 @@
 #ifndef PZ_TRACE
 #define PZ_TRACE 0
 #endif
-/* How many looks a thread takes at a mutex's word before it sleeps, at most. */
+/* How many pauses a thread makes before it sleeps on a mutex's word, at most; some more, so that a look comes last. */
 #ifndef PZ_SPIN
 #define PZ_SPIN 2000
 #endif

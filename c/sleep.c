@@ -11,7 +11,7 @@
 #define SYS_futex_waitv 449
 #endif
 
-enum { ASLEEP = 0, FIRST_LOOK_MS = 20, LAST_LOOK_MS = 500, FEWEST_LOOKS = 100, TRY_ALL = 16 };
+enum { ASLEEP = 0, FIRST_LOOK_MS = 20, LAST_LOOK_MS = 500, FIRST_PAUSES = 256, TRY_ALL = 16 };
 
 struct sleeper {
     pz *p;
@@ -25,25 +25,33 @@ struct sleeper {
 /* An older kernel has no futex_waitv: then a sleeper looks now and then. */
 static _Atomic int no_waitv;
 
-/* How long it pays to look before a sleep: half as long after each time that it didn't, twice as long after each that
+/* How long it pays to pause before a sleep: half as long after each time that it didn't, twice as long after each that
  * it did, and now and then as long as may be. */
 static _Thread_local struct {
-    int looks;
+    int pauses;
     unsigned sleeps;
 } patience = {PZ_SPIN, 0};
 
+static void pause_for(int pauses)
+{
+    for (int i = 0; i < pauses; i++)
+        __builtin_ia32_pause();
+}
+
+/* Looks are few, each after twice as many pauses: one takes the word's line from its owner, who is about to change it.
+ */
 static int changes_soon(word *w, uint32_t expected)
 {
-    int most = ++patience.sleeps % TRY_ALL ? patience.looks : PZ_SPIN;
-    for (int i = 0; i < most; i++) {
+    int most = ++patience.sleeps % TRY_ALL ? patience.pauses : PZ_SPIN;
+    for (int made = 0, next = FIRST_PAUSES; made < most; made += next, next *= 2) {
+        pause_for(next);
         if ((uint32_t)atomic_load_explicit(w, memory_order_relaxed) != expected) {
-            patience.looks = 2 * patience.looks < PZ_SPIN ? 2 * patience.looks : PZ_SPIN;
+            patience.pauses = 2 * patience.pauses < PZ_SPIN ? 2 * patience.pauses : PZ_SPIN;
             return 1;
         }
-        __builtin_ia32_pause();
     }
-    if (patience.looks > FEWEST_LOOKS)
-        patience.looks /= 2;
+    if (patience.pauses > FIRST_PAUSES)
+        patience.pauses /= 2;
     return 0;
 }
 
