@@ -1,6 +1,7 @@
 pub mod Rights
 mod Replies
-mod Wakes
+pub mod Wakes
 mod Firsts
 mod Wholes
+pub mod WholeWakes
 mod Faults

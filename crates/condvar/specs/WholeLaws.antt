@@ -1,8 +1,9 @@
 -- Which points a whole call has, whatever it is answered.
-use Rattle.std.specs.Prelude.{ℕ, ◌≡◌, ◌≢◌, ◌≤◌, ◌⊎◌, Option, Some, None, List, [], ◌∷◌, ◌++◌, All}
+use Rattle.std.specs.Prelude.{ℕ, ◌≡◌, ◌≢◌, ◌≤◌, ◌↔◌, ◌⊎◌, Bool, Option, Some, None, List, [], ◌∷◌, ◌++◌, All}
 use Rattle.lockword.specs.Cells.{Fields, fields_of}
 use Rattle.lockword.specs.declared.reply.Reply.{Reply}
 use Rattle.lockword.specs.declared.reply.Reply.TheVariants.{OK, EPERM, EFAULT, XSTATE}
+use Rattle.keys.specs.declared.access.Access.TheVariants as access
 use Rattle.keys.specs.declared.access.Answer.{Answer}
 use Rattle.keys.specs.declared.access.Answer.TheVariants.{Value}
 use Rattle.keys.specs.declared.point.Operation.{Operation}
@@ -11,13 +12,18 @@ use Rattle.keys.specs.declared.point.Point.{Point}
 use Rattle.keys.specs.Layouts.{Layout', cell_place, head_place, entry_place, address_in}
 use Rattle.mutex.specs.Laws.{points, IsPermitted}
 use Rattle.mutex.specs.Standings.{Whole}
+use Rattle.mutex.specs.WholeLaws as mutex
 use Rattle.mutex.specs.WholeLaws.{IsWhole}
 use Rattle.condvar.specs.declared.call.CondCall.{CondCall}
-use Rattle.condvar.specs.declared.phase.CondPhase.TheVariants.{Locking, Ended}
+use Rattle.condvar.specs.declared.row.CondRow.{CondRow}
+use Rattle.condvar.specs.declared.phase.CondPhase.{CondPhase}
+use Rattle.condvar.specs.declared.phase.CondPhase.TheVariants.{AtWords, Locking, Ended}
 use Rattle.condvar.specs.Calls.{operation_of}
+use Rattle.condvar.specs.Rows.{IsGoing}
 use Rattle.condvar.specs.Programs.{mutex_of}
 use Rattle.condvar.specs.Standings.{CondWhole}
-use Rattle.condvar.specs.Whole.{begins, cond_led, cond_moved}
+use Rattle.condvar.specs.Wakes.{tells_waiters, WakesBehind}
+use Rattle.condvar.specs.Whole.{begins, cond_access, cond_led, cond_moved}
 
 -- where some answers lead a call, whatever they are
 abbrev pub cond_reached : CondWhole → List Answer → CondWhole
@@ -62,6 +68,31 @@ first_met answers = None
 abbrev pub IsPermittedFirst : ℕ → Option Fields → Point → Type 0
 IsPermittedFirst t (Some c) q = (q.operation ≡ operation.Lock) ⊎ IsPermitted c t q.operation q.reply
 IsPermittedFirst t None q = ⊥
+
+-- after this answer its next access is a wake of n sleepers of the word at this address
+abbrev pub WakesNext : CondWhole → Answer → ℕ → ℕ → Type 0
+WakesNext p a at n = cond_access (cond_moved p (cond_led p a)) ≡ access.Wake at n
+
+-- behind this point it is to wake n sleepers of the word at this address
+abbrev pub IsToWake : CondWhole → Option Point → Bool → ℕ → ℕ → Type 0
+IsToWake p None b at n = ⊥
+IsToWake p (Some q) b at n = WakesBehind p.cell p.counter q.operation q.reply b at n
+
+-- it stands at its mutex's cell or its condition variable's counter
+abbrev pub IsAtWords : CondPhase → Type 0
+IsAtWords (AtWords r) = Unit {0}
+IsAtWords (Locking w) = mutex.IsAtCell w.phase
+IsAtWords f = ⊥
+
+-- how many sleepers a whole call wakes, and where: as `Wakes` says of its rows
+pub record WholeCallsWake : Type 0 where
+  -- after an access at the cell or the counter, whatever that is answered, the next one is a wake exactly where its point asks for one, of so many, and of those on that word
+  pub at_the_words : (p : CondWhole) (r : CondRow) (a : Answer) (at n : ℕ) → p.phase ≡ AtWords r → IsGoing r → WakesNext p a at n ↔ IsToWake p (cond_led p a).point (tells_waiters a) at n
+  -- in the lock that ends a wait exactly where the lock's next access is one, of which all holds that the mutex's laws say
+  pub in_its_lock : (p : CondWhole) (w : Whole) (a : Answer) (at n : ℕ) → p.phase ≡ Locking w → WakesNext p a at n ↔ mutex.WakesNext w a at n
+  -- a call doesn't begin by a wake, and whatever it is answered, none follows an access of its thread's list
+  pub first : (l : Layout') (t : ℕ) (c : CondCall) (at n : ℕ) → cond_access (begins l t c) ≢ access.Wake at n
+  pub at_the_list : (l : Layout') (t : ℕ) (c : CondCall) (answers : List Answer) (a : Answer) (at n : ℕ) → ¬ IsAtWords (cond_reached (begins l t c) answers).phase → ¬ WakesNext (cond_reached (begins l t c) answers) a at n
 
 -- whatever a call is answered
 pub record WholeCallsAreRight : Type 0 where

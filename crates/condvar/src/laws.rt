@@ -2,7 +2,7 @@
 ghost use Rattle.condvar.specs.Laws.{CallsAreRight, AccessesAreThere, MovesAreRight, NeedsAreOwned, PointsArePermitted};
 ghost use Rattle.condvar.specs.Wakes.{WakesAreRight};
 ghost use Rattle.condvar.specs.Faults.{FaultsAreTold};
-ghost use Rattle.condvar.specs.WholeLaws.{WholeCallsAreRight};
+ghost use Rattle.condvar.specs.WholeLaws.{WholeCallsAreRight, WholeCallsWake};
 
 /// Whatever words an access of a call meets, it is a step of the mutex as POSIX sees it; the counter goes up by one exactly where a signal or a broadcast
 /// is OK; and the words are as the call's next access needs them.
@@ -24,6 +24,12 @@ pub fn moves_are_right()
 /// wakes nobody, a broadcast in particular, which moves. (The lock that ends a wait is a call of `mutex`.)
 pub fn wakes_are_right()
     ensures { WakesAreRight }
+{}
+
+/// So does a whole call, which wakes nobody elsewhere: after an access at the cell or the counter its next one is a wake exactly where its point asks for that, of one sleeper on that word; in the
+/// lock that ends a wait exactly where that lock's is; and whatever it is answered, it doesn't begin by a wake, and none follows an access of its thread's robust list.
+pub fn whole_calls_wake()
+    ensures { WholeCallsWake }
 {}
 
 /// What a call needs of the words stays while its thread owns the mutex, whatever other threads do that leave an owned mutex alone.

@@ -45,7 +45,7 @@ pub use call::CondCall;
 pub use coding::CodedCondPhase;
 pub use laws::{
     accesses_are_there, calls_are_right, faults_are_told, moves_are_right, needs_are_owned,
-    points_are_permitted, wakes_are_right, whole_calls_are_right,
+    points_are_permitted, wakes_are_right, whole_calls_are_right, whole_calls_wake,
 };
 pub use op::Op;
 pub use phase::{CondOnward, CondPhase};

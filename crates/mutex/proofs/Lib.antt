@@ -4,6 +4,7 @@ mod Replies
 mod Trims
 mod Wakes
 mod Wholes
+pub mod WholeWakes
 pub mod Addresses
 pub mod OwnPlaces
 mod AtTheCell

@@ -1,24 +1,27 @@
 -- What every whole call keeps, whatever it is answered.
-use Rattle.std.specs.Prelude.{ℕ, ◌≡◌, ◌≤◌, ◌⊎◌, Bool, false, Option, Some, None, List, [], ◌∷◌}
-use Rattle.lockword.specs.Cells.{Fields}
+use Rattle.std.specs.Prelude.{ℕ, ◌≡◌, ◌≢◌, ◌≤◌, ◌↔◌, ◌⊎◌, Bool, false, Option, Some, None, List, [], ◌∷◌}
+use Rattle.lockword.specs.Cells.{Fields, fields_of}
 use Rattle.lockword.specs.declared.reply.Reply.{Reply}
 use Rattle.lockword.specs.declared.reply.Reply.TheVariants.{OK, XRACED}
 use Rattle.keys.specs.declared.access.Access.TheVariants as access
 use Rattle.keys.specs.declared.access.Answer.{Answer}
 use Rattle.keys.specs.declared.access.Answer.TheVariants.{Count}
 use Rattle.keys.specs.declared.point.Operation.TheVariants as operation
+use Rattle.keys.specs.Accesses.{word_among, answer_among}
 use Rattle.keys.specs.Layouts.{Layout'}
+use Rattle.keys.specs.Objects.{object_of}
 use Rattle.mutex.specs.declared.call.Call.{Call}
 use Rattle.mutex.specs.declared.row.Row.{Row}
 use Rattle.mutex.specs.declared.row.Row.TheVariants as row
 use Rattle.mutex.specs.declared.unlock.UnlockRow.TheVariants.{Release, Wake}
 use Rattle.mutex.specs.declared.phase.Phase.{Phase}
 use Rattle.mutex.specs.declared.phase.Phase.TheVariants.{Announcing, AtCell, Unlinking, Ended}
-use Rattle.mutex.specs.Rows.{Knows}
+use Rattle.mutex.specs.Rows.{Knows, IsGoing}
 use Rattle.mutex.specs.Standings.{Whole}
 use Rattle.mutex.specs.Programs.{row_operation}
 use Rattle.mutex.specs.Whole.{begins, whole_access, whole_led, whole_moved}
-use Rattle.mutex.specs.Laws.{met, changes, IsPermitted, PermitsAt}
+use Rattle.mutex.specs.Laws.{Sound, Expects, met, changes, IsPermitted, PermitsAt}
+use Rattle.mutex.specs.Wakes.{Wakes}
 
 -- a call whose row is of its operation; only an unlock takes its entry out of the list
 abbrev pub IsAt : Whole → Phase → Type 0
@@ -45,6 +48,25 @@ about_to_release f = None
 -- a whole unlock that was to wake one thread and woke nobody goes on to its trim
 abbrev pub WholeUnlocksTrim : Type 0
 WholeUnlocksTrim = (p : Whole) → p.phase ≡ AtCell (row.Unlock (Wake false)) → whole_access (whole_moved p (whole_led p (Count 0))) ≡ access.Trim p.cell
+
+-- after this answer its next access is a wake of n sleepers of the word at this address
+abbrev pub WakesNext : Whole → Answer → ℕ → ℕ → Type 0
+WakesNext p a at n = whole_access (whole_moved p (whole_led p a)) ≡ access.Wake at n
+
+-- it stands at its mutex's cell
+abbrev pub IsAtCell : Phase → Type 0
+IsAtCell (AtCell r) = Unit {0}
+IsAtCell f = ⊥
+
+-- how many sleepers a whole call wakes, and where: as `Wakes` says of its rows
+pub record WholeCallsWake : Type 0 where
+  -- after an access at its mutex's cell, whatever word that meets and whoever sleeps there, the next one is a wake exactly where its point asks for one, of so many, and of those on the mutex's cell
+  pub at_the_cell : (p : Whole) (r : Row) (w at n : ℕ) (queue : List ℕ) → IsWhole p → p.thread ≤ 64 → p.phase ≡ AtCell r → IsGoing r → Sound (object_of (fields_of w)) → Expects p.thread r (object_of (fields_of w))
+      → WakesNext p (answer_among (whole_access p) w queue) at n
+      ↔ ((at ≡ p.cell) × Wakes p.operation (whole_led p (answer_among (whole_access p) w queue)).point (fields_of w).waiters (object_of (fields_of (word_among (whole_access p) w queue))) n)
+  -- a call doesn't begin by a wake, and whatever it is answered, none follows an access of its thread's list
+  pub first : (l : Layout') (t : ℕ) (c : Call) (at n : ℕ) → whole_access (begins l t c) ≢ access.Wake at n
+  pub at_the_list : (l : Layout') (t : ℕ) (c : Call) (answers : List Answer) (a : Answer) (at n : ℕ) → ¬ IsAtCell (whole_reached (begins l t c) answers).phase → ¬ WakesNext (whole_reached (begins l t c) answers) a at n
 
 -- whatever a call is answered
 pub record WholeCallsAreRight : Type 0 where

@@ -1,7 +1,7 @@
 //! What holds of every call.
 ghost use Rattle.mutex.specs.Laws.{ProgramsAreRight, WaitersAreKept, UnlocksTrim, RacedAfterFour, PointsArePermitted};
 ghost use Rattle.mutex.specs.Wakes.{WakesAreRight};
-ghost use Rattle.mutex.specs.WholeLaws.{WholeCallsAreRight, WholeUnlocksTrim};
+ghost use Rattle.mutex.specs.WholeLaws.{WholeCallsAreRight, WholeCallsWake, WholeUnlocksTrim};
 ghost use Rattle.mutex.specs.WholeLists.{WholeListsAreKept};
 ghost use Rattle.mutex.specs.Decisions.{WholeCallsAreDecided};
 
@@ -25,6 +25,12 @@ pub fn unlocks_trim_after_waking_nobody()
 /// all of one that is unusable. A trylock and a declaration wake nobody.
 pub fn wakes_are_right()
     ensures { WakesAreRight }
+{}
+
+/// So does a whole call, which wakes nobody elsewhere: after an access at its mutex's cell its next one is a wake exactly where its point asks for that, of so many sleepers on that cell; and
+/// whatever it is answered, it doesn't begin by a wake, and none follows an access of its thread's robust list.
+pub fn whole_calls_wake()
+    ensures { WholeCallsWake }
 {}
 
 /// Whatever it is answered, a trylock gives up only after four exchanges that each found a changed cell.

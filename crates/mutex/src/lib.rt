@@ -48,7 +48,7 @@ pub use consistent::ConsistentRow;
 pub use laws::{
     points_are_permitted, programs_are_right, raced_after_four, unlocks_trim_after_waking_nobody,
     waiters_are_kept, wakes_are_right, whole_calls_are_decided, whole_calls_are_right,
-    whole_calls_keep_lists,
+    whole_calls_keep_lists, whole_calls_wake,
 };
 pub use lock::LockRow;
 pub use phase::{Onward, Phase};
