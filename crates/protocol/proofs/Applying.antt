@@ -25,7 +25,7 @@ use Rattle.protocol.proofs.NoteFacts.{IsOfSleep, of_access, of_walk}
 
 -- ---- what the trace told of a thread is where it stands
 
-abbrev Agrees : Told → Stage → Type 0
+abbrev pub Agrees : Told → Stage → Type 0
 Agrees AtRest Idle = Unit {0}
 Agrees InCall (Calling o p) = Unit {0}
 Agrees InCall (AtCondition c p) = Unit {0}
@@ -131,7 +131,7 @@ next_agrees s e t w a =
     (λ u pos known alive. moved s u t w Dead _ a tt)
     e
 
-run_agrees : (s : State) (es : List Event) (t : ℕ) (w : Told) → Agrees w (s.threads t).stage → Agrees (told_after t w (facts_among (notes s es))) ((run s es).threads t).stage
+pub run_agrees : (s : State) (es : List Event) (t : ℕ) (w : Told) → Agrees w (s.threads t).stage → Agrees (told_after t w (facts_among (notes s es))) ((run s es).threads t).stage
 run_agrees s [] t w a = a
 run_agrees s (e ∷ es) t w a =
     let n = (happens s e).note in

@@ -53,6 +53,8 @@ pub mod Passing
 pub mod Splits
 pub mod PassedBy
 pub mod Emptied
+pub mod Learnt
+pub mod Woken
 pub mod Signalling
 mod WaitersBit
 mod WalksOn

@@ -1,14 +1,13 @@
 -- The word that a walk is to mark is the dead thread's.
-use Rattle.std.proofs.Common.{◌≡◌, ◌⊎◌, inl, inr, ℕ, ◌<◌, ◌≤◌, Bool, refl, sym, ap, ◌∙◌, subst, arith}
+use Rattle.std.proofs.Common.{◌≡◌, ◌⊎◌, inl, inr, ℕ, ◌≤◌, ap, ◌∙◌, subst, arith}
 use Rattle.lockword.specs.Cells.{Fields, fields_of, word_of, waiting}
 use Rattle.lockword.specs.Coding.{fields_of-word_of}
-use Rattle.exitwalk.specs.Steps.{OnlyWaits, waiting_word}
+use Rattle.exitwalk.specs.Steps.{waiting_word}
 use Rattle.exitwalk.specs.Walks.{Knows}
 use Rattle.exitwalk.specs.Standings.{Standing}
 use Rattle.protocol.proofs.Vocabulary.{Layout', State, start, run, LoadFirst, LoadOffset, LoadPending, LoadNext, LoadWord, Mark, WakeOne, place_in}
 use Rattle.exitwalk.specs.declared.row.Row.{Row}
 use Rattle.exitwalk.specs.declared.row.Row.TheVariants.{Ended}
-use Rattle.protocol.specs.declared.thread.Stage.{Stage}
 use Rattle.protocol.specs.declared.thread.Stage.TheVariants.{Dying}
 use Rattle.protocol.specs.WalksOn.{StaysOwned, WalksGoOn}
 use Rattle.protocol.proofs.Kept.{Listed, Sits, Walks, LeftToWalk, Kept, last_thread}

@@ -9,6 +9,7 @@ pub mod Deaths
 pub mod Applies
 pub mod Wakings
 pub mod PassedBy
+pub mod Wakes
 pub mod Signals
 pub mod WaitersBit
 pub mod WalksOn

@@ -83,7 +83,7 @@ abbrev pub IsFront : ℕ → List ℕ → Type 0
 IsFront t [] = ⊥
 IsFront t (u ∷ us) = u ≡ t
 
--- a wake names the front of a queue, and a move that of a condition variable of the mutex
+-- a wake names the front of a queue, and a move that of a condition variable of the mutex; which queue that is, and how many of it are told, is said in `Wakes.antt`
 abbrev pub NamesFront : Layout' → (Queue → List ℕ) → Fact → Type 0
 NamesFront l w (Wake t) = (q : Queue) × IsQueue l q × IsFront t (w q)
 NamesFront l w (Move t m) = (k : ℕ) × (k < length l.conditions) × (slice_index l.conditions k ≡ m) × IsFront t (w (Condition k))

@@ -7,6 +7,7 @@ ghost use Rattle.protocol.specs.Deaths.{DeathsAreTold};
 ghost use Rattle.protocol.specs.Applies.{EventsApply};
 ghost use Rattle.protocol.specs.Wakings.{SleepsAreTold};
 ghost use Rattle.protocol.specs.PassedBy.{NobodyIsPassedBy};
+ghost use Rattle.protocol.specs.Wakes.{WakesAreRight};
 ghost use Rattle.protocol.specs.Signals.{SignalsAreRight};
 ghost use Rattle.protocol.specs.WaitersBit.{WaitersAreKept};
 ghost use Rattle.protocol.specs.WalksOn.{WalksGoOn};
@@ -66,9 +67,17 @@ pub fn events_apply()
 
 /// Whatever happens: a thread stands in a queue exactly where the last of its lines among sleep, move, wake and kill is a sleep or a move, in that of the mutex or condition variable that this
 /// names. So its sleeps and wakes alternate; a sleep is told exactly where it comes to stand in a queue, a wake exactly where it leaves one and stands in none, but by its kill, and a move
-/// exactly where it leaves that of a condition variable for its mutex's. In each queue they stand in the order in which they came, as it was told, and whoever is woken or moved is the front.
+/// exactly where it leaves that of a condition variable for its mutex's. In each queue they stand in the order in which they came, as it was told, and whoever is woken or moved is the front of a queue (of which one, says
+/// [`wakes_are_right`]).
 pub fn sleeps_are_told()
     ensures { SleepsAreTold }
+{}
+
+/// Whatever happens: a step wakes or moves nobody, or just those whom its thread's call, as it was told, is to: the first of the queue of its mutex, or all of them, in their order, where the call's
+/// last point left that mutex unusable; where the call is a signal, the first of its condition variable's queue; a broadcast moves all of its condition variable's, in their order, to its mutex's. The walk
+/// of a dead thread's list wakes the first of a mutex's queue. No begin and no kill wakes or moves anybody.
+pub fn wakes_are_right()
+    ensures { WakesAreRight }
 {}
 
 /// Whatever happens, with counters that are at most 2^32 - 1 at the beginning: a thread that released its mutex in a wait before a signal or a broadcast counted doesn't fall asleep on that condition
@@ -90,8 +99,8 @@ pub fn waiters_are_kept()
     ensures { WaitersAreKept }
 {}
 
-/// Whatever happens: as long as the kernel's walk over a dead thread's list is to mark a word, that word's owner is the dead thread. So where a walk is kept behind each access, and its walker dies before
-/// it has kept the last one, whoever goes on with it sees by another owner that this mark was made.
+/// Whatever happens: as long as the kernel's walk over a dead thread's list is to mark a word, that word's owner is the dead thread. So a walk that was kept, and is to mark a word that another owns by now,
+/// or nobody, has gone on since.
 pub fn walks_go_on()
     ensures { WalksGoOn }
 {}
