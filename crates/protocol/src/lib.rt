@@ -8,8 +8,8 @@
 //! - `trace_is_explained`, `events_apply`: each call has its points and returns their reply, and no event is passed over;
 //! - `no_reaped_owner`, `deaths_are_told`, `lists_are_kept`: what a dead thread owned is found, marked and told, once;
 //! - `no_sleeper_is_stranded`, `lone_threads_come_to_rest`, `undivided_calls_reply`: what threads do alone comes to an end;
-//! - `sleeps_are_told`, `wakes_are_right`, `waiters_are_kept`: who sleeps where, whom an event wakes or moves, and WAITERS in the word while
-//!   somebody sleeps;
+//! - `sleeps_are_told`, `waiters_are_kept`: who sleeps where, and WAITERS in the word while somebody does;
+//! - `wakes_are_right`: whom an event wakes or moves;
 //! - `nobody_is_passed_by`, `signals_are_right`: of condition variables.
 //!
 //! Stands on `mutex` and `condvar`, for the calls' programs, on `robustlist` and `exitwalk`, for lists and the walk over them,
