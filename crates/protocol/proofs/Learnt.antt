@@ -86,7 +86,7 @@ Asks a o = (at n : ℕ) → a ≡ Access.Wake at n → (x : Object) × (o ≡ So
 
 -- of a call on a condition variable one where it is a signal
 abbrev pub AsksFor : Operation → ℕ → ℕ → Option Object → ℕ → ℕ → Type 0
-AsksFor Operation.Signal cell counter o at n = (at ≡ counter) × (n ≡ 1)
+AsksFor Operation.Signal cell counter o at n = (at ≡ counter) × (n ≡ 1) × (x : Object) × (o ≡ Some x)
 AsksFor Operation.Wait cell counter o at n = (at ≡ cell) × (x : Object) × (o ≡ Some x) × (n ≡ mutex.to_wake x)
 AsksFor op cell counter o at n = ⊥
 
@@ -183,7 +183,7 @@ before_awake p seen f at n is = grind (arith)
 -- behind which row it is to wake
 wakes_behind : (t cell counter w n : ℕ) (r : CondRow) (x : Option Decided) → (cond_rows.resume_of t r (answer_at (cond_rows.row_access t cell counter r) (met_word r w n))).decided ≡ x → IsGoing r
     → (b : Bool) (at k : ℕ) → cond_wakes.Wakes cell counter x b at k
-    → ((cond_laws.row_operation r ≡ Operation.Signal) × (at ≡ counter) × (k ≡ 1)) ⊎ ((cond_laws.row_operation r ≡ Operation.Wait) × (at ≡ cell) × (k ≡ 1) × ((d : Decided) × (x ≡ Some d) × (d.operation ≡ Operation.Unlock) × (d.reply ≡ OK)) × ((seen : ℕ) × (r ≡ CondRow.Wait (WaitRow.Release seen))))
+    → ((cond_laws.row_operation r ≡ Operation.Signal) × (at ≡ counter) × (k ≡ 1) × ((d : Decided) × (x ≡ Some d))) ⊎ ((cond_laws.row_operation r ≡ Operation.Wait) × (at ≡ cell) × (k ≡ 1) × ((d : Decided) × (x ≡ Some d) × (d.operation ≡ Operation.Unlock) × (d.reply ≡ OK)) × ((seen : ℕ) × (r ≡ CondRow.Wait (WaitRow.Release seen))))
 wakes_behind t cell counter w n r x is going b at k h = grind (arith)
 
 stage_before : (c : CondCall) (p : CondWhole) (seen : ℕ) (f : CondPhase) → IsBefore seen f → stage_at c p f ≡ AtCondition c (record p { phase = f })
@@ -244,13 +244,20 @@ module _ (s : State) (t : ℕ) (c : CondCall) (p : CondWhole) (inv : Kept s) (po
       let consistent : (seen s its).inconsistent ≡ false = ap (λ (z : Object). z.inconsistent) (seen-inside s its fits_here.inside) ∙ needs_so.1 in
       (pointed t its then_state o (decided_at (operation_of c) onto_it.point) (reply_at onto_it.point) OK point, one_to_wake t (seen s its) (seen then_state its) (inv.sound its) permits.0 permits.1 consistent)
 
+  -- whatever a row decides is a point of the mutex
+  pointed_by : (r : CondRow) → onto_it ≡ from_words p (row_led r) → (d : Decided) → (row_led r).decided ≡ Some d → (o : Option Object) → left_then o ≡ Some (seen then_state its)
+  pointed_by r leads d is_d o =
+      pointed t its then_state o (decided_at (operation_of c) onto_it.point) (reply_at onto_it.point) d.reply (ap (λ (z : CondOnward). reply_at z.point) leads ∙ ap (λ (x : Option Decided). reply_at (cond_rows.point_of p.thread p.cell x)) is_d)
+
   asks_behind : (r : CondRow) → IsGoing r → cond_laws.row_operation r ≡ operation_of c → Needs t r (fields_of (s.words (its_cell s c))) → onto_it ≡ from_words p (row_led r) → (o : Option Object)
       → (at n : ℕ) → cond_rows.row_access p.thread p.cell p.counter (row_led r).row ≡ Access.Wake at n → AsksFor (operation_of c) p.cell p.counter (left_then o) at n
   asks_behind r going of needs leads o at n wakes =
       let there : cond_rows.row_access t (cell_at s t c) (counter_at s t c) (row_led r).row ≡ Access.Wake at n = (λ i. cond_rows.row_access (sym fits_here.mine i) (sym fits_here.cell i) (sym fits_here.counter i) (row_led r).row) ∙ wakes in
       let so = (cond_woken.woken_right t (cell_at s t c) (counter_at s t c) at n r _ going).0 there in
       ⊎_elim
-      (λ signals. subst (λ (op : Operation). AsksFor op p.cell p.counter (left_then o) at n) (sym signals.0 ∙ of) (signals.1 ∙ sym fits_here.counter, signals.2))
+      (λ signals.
+      let decided = signals.3 in
+      subst (λ (op : Operation). AsksFor op p.cell p.counter (left_then o) at n) (sym signals.0 ∙ of) (signals.1 ∙ sym fits_here.counter, signals.2, seen then_state its, pointed_by r leads decided.0 decided.1 o))
       (λ waits.
       let row_is = waits.4 in
       let left = released r leads waits.3 row_is.0 row_is.1 needs o in
@@ -350,15 +357,15 @@ begin_teaches s u c idle true = record {
   layout = refl;
   own = λ b o h. subst (λ (g : Stage). Learnt s.layout g (last_begun u b (facts_of (begun s u c (Err XHELD)).note)) (left_next u s o (facts_of (begun s u c (Err XHELD)).note))) (sym idle) tt;
   theirs = λ t apart. refl;
-  others = λ t b o apart. (of_another u t (Some (begun_of s.layout c)) b apart, of_another u t (Some (seen s (mutex_of s.layout c))) o apart);
+  others = λ t b o apart. (of_another u t (Some (begun_of s.layout c)) b apart, of_another u t (Some (seen s (mutex_of s.layout c))) (if u == t then None else o) apart ∙ of_another u t None o apart);
 }
 begin_teaches s u c idle false = record {
   layout = refl;
   own = λ b o h.
-      subst (λ (z : Thread). Learnt s.layout z.stage (if u == u then Some (begun_of s.layout c) else b) o) (sym (put-same s.threads u _))
-      (subst (λ (x : Bool). Learnt s.layout (begins_at s.layout u c) (if x then Some (begun_of s.layout c) else b) o) (sym (eq-eqb u u refl)) (first_learns s.layout u c o));
+      subst (λ (z : Thread). Learnt s.layout z.stage (if u == u then Some (begun_of s.layout c) else b) (if u == u then None else o)) (sym (put-same s.threads u _))
+      (subst (λ (x : Bool). Learnt s.layout (begins_at s.layout u c) (if x then Some (begun_of s.layout c) else b) (if x then None else o)) (sym (eq-eqb u u refl)) (first_learns s.layout u c None));
   theirs = λ t apart. ap (λ (z : Thread). z.stage) (put-other s.threads u _ t (λ e. apart (sym e)));
-  others = λ t b o apart. (of_another u t (Some (begun_of s.layout c)) b apart, refl);
+  others = λ t b o apart. (of_another u t (Some (begun_of s.layout c)) b apart, of_another u t None o apart);
 }
 
 teaches : (s : State) (e : Event) → Kept s → Teaches s (caller e) (happens s e)

@@ -15,7 +15,7 @@ use Rattle.exitwalk.specs.Standings as walks
 use Rattle.exitwalk.specs.declared.row.Row as walk_row
 use Rattle.exitwalk.specs.Walks as exit
 use Rattle.protocol.specs.PassedBy.{call_told}
-use Rattle.protocol.specs.Wakes.{wakes_in, moves_in, left_by, to_tell, whom_it_wakes, whom_it_moves, WakesWhom, WakesSo, WakesAreRight}
+use Rattle.protocol.specs.Wakes.{wakes_in, moves_in, left_by, to_tell, the_first, whom_it_wakes, whom_it_moves, WakesWhom, WakesSo, WakesAreRight}
 use Rattle.protocol.proofs.Kept.{IsFor, InPhase, FitsAt, AtPhase, Kept, LeftToWalk}
 use Rattle.protocol.proofs.Places.{treated_at}
 use Rattle.protocol.proofs.Seeing.{cell_in, cell_again, counter_again}
@@ -176,8 +176,8 @@ module _ (s : State) (t : ℕ) (c : Op) (p : Whole) (inv : Kept s) (queued : Que
 moves_or_not : (t held : ℕ) (op : Operation) (p : CondWhole) (f : CondPhase) (w : Fields) → AtPhase t held op p f w → IsNoMove (condition.phase_access p f) ⊎ ((seen : ℕ) × (f ≡ CondPhase.AtWords (CondRow.Broadcast (BroadcastRow.Move seen))) × (op ≡ Operation.Broadcast))
 moves_or_not t held op p f w stands = grind (arith)
 
-of_signal : (s : State) (c : CondCall) (o : Option Object) → operation_of c ≡ Operation.Signal → whom_it_wakes s o (operation_of c) (its_mutex s c) (Some (condition_of c)) ≡ take 1 (s.queues (its_counter s c))
-of_signal s c o is = ap (λ (op : Operation). whom_it_wakes s o op (its_mutex s c) (Some (condition_of c))) is
+of_signal : (s : State) (c : CondCall) (o : Option Object) (x : Object) → o ≡ Some x → operation_of c ≡ Operation.Signal → whom_it_wakes s o (operation_of c) (its_mutex s c) (Some (condition_of c)) ≡ take 1 (s.queues (its_counter s c))
+of_signal s c o x left is = ap (λ (op : Operation). whom_it_wakes s o op (its_mutex s c) (Some (condition_of c))) is ∙ ap (λ (y : Option Object). the_first y (s.queues (its_counter s c))) left
 
 of_wait : (s : State) (c : CondCall) (o : Option Object) → operation_of c ≡ Operation.Wait → whom_it_wakes s o (operation_of c) (its_mutex s c) (Some (condition_of c)) ≡ to_tell o (sleepers s (its_mutex s c))
 of_wait s c o is = ap (λ (op : Operation). whom_it_wakes s o op (its_mutex s c) (Some (condition_of c))) is
@@ -209,9 +209,9 @@ module _ (s : State) (t : ℕ) (c : CondCall) (p : CondWhole) (inv : Kept s) (qu
 
   -- where it is a wake
   wakes_so : (at n : ℕ) → cond_access p ≡ Access.Wake at n → (op : Operation) → operation_of c ≡ op → AsksFor op p.cell p.counter o at n → woken_here ≡ they
-  wakes_so at n shape Operation.Signal of (is_at, one) =
+  wakes_so at n shape Operation.Signal of (is_at, one, x, left) =
       ap (λ (a : Access). woken_by a (s.words (place_met s.layout t a)) (s.queues (place_met s.layout t a))) shape
-      ∙ (λ i. take (one i) (s.queues (place_in s.layout t (is_at i)))) ∙ ap (λ (x : ℕ). take 1 (s.queues x)) counter_is ∙ sym (of_signal s c o of)
+      ∙ (λ i. take (one i) (s.queues (place_in s.layout t (is_at i)))) ∙ ap (λ (x : ℕ). take 1 (s.queues x)) counter_is ∙ sym (of_signal s c o x left of)
   wakes_so at n shape Operation.Wait of (is_at, x, left, some) =
       ap (λ (a : Access). woken_by a (s.words (place_met s.layout t a)) (s.queues (place_met s.layout t a))) shape
       ∙ (λ i. take (some i) (s.queues (place_in s.layout t (is_at i)))) ∙ ap (λ (y : ℕ). take (mutex.to_wake x) (s.queues y)) cell_is

@@ -7,7 +7,7 @@ use Rattle.keys.specs.Layouts.{Layout', IsLayout}
 use Rattle.facts.specs.declared.fact.Begun.{Begun}
 use Rattle.facts.specs.declared.fact.Queue.TheVariants.{Condition}
 use Rattle.facts.specs.declared.fact.Fact.{Fact}
-use Rattle.facts.specs.declared.fact.Fact.TheVariants.{Point, Wake, Move}
+use Rattle.facts.specs.declared.fact.Fact.TheVariants.{Begin, Point, Wake, Move}
 use Rattle.protocol.specs.declared.event.Event.{Event}
 use Rattle.protocol.specs.declared.event.Event.TheVariants as event
 use Rattle.protocol.specs.Notes.{facts_of, moves_to}
@@ -32,9 +32,10 @@ moves_in (f ∷ fs) = moves_in fs
 
 -- ---- how a call left its mutex
 
--- the mutex of thread t's last point, as it was directly behind the event of that; by these facts of an event that led to state s, and before them it was o
+-- the mutex of the last point of thread t's call, as it was directly behind the event of that, and none where the call has had none; by these facts of an event that led to state s, and before them it was o
 abbrev pub left_next : ℕ → State → Option Object → List Fact → Option Object
 left_next t s o [] = o
+left_next t s o (Begin u b ∷ fs) = left_next t s (if u == t then None else o) fs
 left_next t s o (Point d ∷ fs) = left_next t s (if d.thread == t then Some (seen s d.mutex) else o) fs
 left_next t s o (f ∷ fs) = left_next t s o fs
 
@@ -50,10 +51,15 @@ abbrev pub to_tell : Option Object → List ℕ → List ℕ
 to_tell None q = []
 to_tell (Some o) q = if o.unusable then q else take 1 q
 
--- in state s a call of this operation, on mutex m and condition variable k, whose last point left its mutex so: a signal wakes the first of the condition variable's queue; a lock, an unlock and a wait wake
--- those of the mutex's who are to learn of it
+-- the first of a queue, once a call has had a point
+abbrev pub the_first : Option Object → List ℕ → List ℕ
+the_first None q = []
+the_first (Some o) q = take 1 q
+
+-- in state s a call of this operation, on mutex m and condition variable k, whose last point left its mutex so, and nobody where it has had none: a signal wakes the first of the condition variable's queue; a
+-- lock, an unlock and a wait wake those of the mutex's who are to learn of it
 abbrev pub whom_it_wakes : State → Option Object → Operation → ℕ → Option ℕ → List ℕ
-whom_it_wakes s o Signal m (Some k) = take 1 (s.queues (queue_place s.layout (Condition k)))
+whom_it_wakes s o Signal m (Some k) = the_first o (s.queues (queue_place s.layout (Condition k)))
 whom_it_wakes s o Lock m k = to_tell o (sleepers s m)
 whom_it_wakes s o Unlock m k = to_tell o (sleepers s m)
 whom_it_wakes s o Wait m k = to_tell o (sleepers s m)

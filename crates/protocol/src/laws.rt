@@ -73,8 +73,8 @@ pub fn sleeps_are_told()
     ensures { SleepsAreTold }
 {}
 
-/// Whatever happens: a step wakes or moves nobody, or just those whom its thread's call, as it was told, is to: the first of the queue of its mutex, or all of them, in their order, where the call's
-/// last point left that mutex unusable; where the call is a signal, the first of its condition variable's queue; a broadcast moves all of its condition variable's, in their order, to its mutex's. The walk
+/// Whatever happens: a step wakes or moves nobody, or just those whom its thread's call, as it was told, is to: once it has had a point, the first of the queue of its mutex, or all of them, in their
+/// order, where its last point left that mutex unusable; where the call is a signal, the first of its condition variable's queue; a broadcast moves all of its condition variable's, in their order, to its mutex's. The walk
 /// of a dead thread's list wakes the first of a mutex's queue. No begin and no kill wakes or moves anybody.
 pub fn wakes_are_right()
     ensures { WakesAreRight }
