@@ -1,4 +1,4 @@
--- One note more, or one parker.
+-- One note more, one parker, or one bucket.
 use Rattle.std.proofs.Common.{◌≡◌, ℕ, ◌+◌, ◌<◌, Some, List, [], ◌∷◌, ◌++◌, length, get_or, sym, ap, ◌∙◌, arith}
 use mathlib.Core.Logic.{dite}
 use native.Mathlib.Decide.{ℕ_discrete}
@@ -7,7 +7,9 @@ use Rattle.std.proofs.Math.Seq.{get_or-append_seam}
 use Rattle.std.proofs.lemmas.List.{length-append}
 use Rattle.std.proofs.lemmas.Option.{get_or_from_slice_get, slice_get-get_or, slice_get_within}
 use Rattle.threadbench.specs.declared.note.Note.{Note}
+use Rattle.threadbench.specs.declared.numbered.Numbered.{Numbered}
 use Rattle.threadbench.specs.declared.parker.Parker.{Parker}
+use Rattle.threadbench.specs.Buckets.{AreNumbered}
 use Rattle.threadbench.specs.Notes.{AreNotes}
 use Rattle.threadbench.specs.Parkers.{AreParkers}
 
@@ -38,3 +40,17 @@ one_more_parker parkers n are is = λ i m there.
     let low : i < length parkers = omega (arith, within, long, other) in
     let before : get_or parkers i m ≡ m = sym (get_or-append parkers (n ∷ []) m i low) ∙ found in
     are i m (slice_get-get_or parkers i m low ∙ ap (λ (x : Parker). Some x) before))
+
+pub one_more_bucket : (buckets : List Numbered) (n : Numbered) → AreNumbered buckets → n.number ≡ length buckets → AreNumbered (buckets ++ n ∷ [])
+one_more_bucket buckets n are is = λ i m there.
+    let within = slice_get_within (buckets ++ n ∷ []) i m there in
+    let long = length-append buckets (n ∷ []) in
+    let found = get_or_from_slice_get (buckets ++ n ∷ []) i m m there in
+    dite (ℕ_discrete i (length buckets))
+    (λ (last : i ≡ length buckets).
+    let same : n ≡ m = sym (get_or-append_seam buckets n [] m) ∙ ap (λ (j : ℕ). get_or (buckets ++ n ∷ []) j m) (sym last) ∙ found in
+    ap (λ (x : Numbered). x.number) (sym same) ∙ is ∙ sym last)
+    (λ other.
+    let low : i < length buckets = omega (arith, within, long, other) in
+    let before : get_or buckets i m ≡ m = sym (get_or-append buckets (n ∷ []) m i low) ∙ found in
+    are i m (slice_get-get_or buckets i m low ∙ ap (λ (x : Numbered). Some x) before))

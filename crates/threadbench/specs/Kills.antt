@@ -1,9 +1,8 @@
 -- Kills of a bench's threads (kill(2), with SIGKILL).
-use Rattle.std.specs.Prelude.{ℕ, ◌≡◌, ◌≤◌, ◌<◌, ◌⊎◌, ◌-◌, true, Result, Ok, Err, length, slice_index}
+use Rattle.std.specs.Prelude.{ℕ, ◌≡◌, ◌≤◌, ◌<◌, ◌⊎◌, ◌-◌, Result, Ok, Err, length, slice_index}
 use Rattle.lockword.specs.declared.reply.Reply.{Reply}
 use Rattle.lockword.specs.declared.reply.Reply.TheVariants.{ESRCH}
 use Rattle.keys.specs.Layouts.{Layout'}
-use Rattle.threadbench.specs.declared.kill.Kill.{Kill}
 
 -- a call about the thread with id t is answered so: ESRCH where the layout has no such thread
 abbrev pub IsOfThread : {A : Type 0} → Layout' → ℕ → Result A Reply → Type 0
@@ -22,7 +21,3 @@ KillsAll k p (Err e) = (e ≡ ESRCH) × (length k.bases ≤ p)
 -- the thread with id t is of process p
 abbrev pub IsMember : Layout' → ℕ → ℕ → Type 0
 IsMember k p t = slice_index k.processes (t - 1) ≡ p
-
--- the kill of thread t is over: it was noted, then as many looks for t were made as there are buckets, and it was given a token. (That each look was at another bucket isn't said.)
-abbrev pub IsKilled : ℕ → Kill → Type 0
-IsKilled t kill = (kill.killed.thread ≡ t) × (kill.looked ≡ 256) × (kill.roused ≡ true)

@@ -9,3 +9,4 @@ pub mod Kills
 pub mod Notes
 pub mod Parkers
 pub mod Conditions
+pub mod Buckets

@@ -1,21 +1,19 @@
 //! The bench.
 ghost use Rattle.std.specs.Prelude.{◌≡◌, ◌<◌, ◌≤◌, ◌+◌, ℕ, [], ◌∷◌, All, length, map, slice_get, Some, IfOk, IfErr};
-ghost use Rattle.buckets.specs.Queues.{IsEmptied};
 ghost use Rattle.ruledwords.specs.Passes.{card, layout_of, presets_of, last_layout, last_words, IsLive, IsPassOf};
 ghost use Rattle.ruledwords.specs.Rules.{first_card, Ends};
+ghost use Rattle.threadbench.specs.Buckets.{AreNumbered};
 ghost use Rattle.threadbench.specs.Jobs.{IsJobOf, AreDone};
-ghost use Rattle.threadbench.specs.Parkers.{AreParkers};
 
 use crate::gate::Gate;
 use crate::job::{Job, Record};
-use crate::kill::thread_after;
 use crate::note::{Note, notes};
-use crate::parker::Parker;
+use crate::numbered::Numbered;
+use crate::parker::{Parker, parkers};
 use crate::phase::Phase;
 use crate::room::push_in_room;
 use crate::work::{in_scope, work_on};
 use buckets::{BUCKETS, Bucket};
-use crossbeam_utils::CachePadded;
 use keys::{Layout, NoMem};
 use ruledwords::{Last, Live, Pass, Words};
 use std::alloc::Global;
@@ -31,7 +29,7 @@ pub(crate) const THREADS: u8 = 64;
 pub struct Bench {
     pub(crate) words: Words,
     /// Who sleeps. Each bucket has a lock of its own; a word's key says in which its sleepers stand.
-    pub(crate) buckets: Vec<CachePadded<Mutex<Bucket>>>,
+    pub(crate) buckets: Vec<Numbered>,
     /// Where each thread sleeps that there may be, in the order of their ids.
     pub(crate) parkers: Vec<Parker>,
     /// Who was killed: a note for each thread that there may be, in the order of their ids.
@@ -43,6 +41,7 @@ pub struct Bench {
 impl Model for Bench {
     ghost use Rattle.std.specs.Prelude.{◌≡◌, length};
     ghost use Rattle.ruledwords.specs.declared.pass.Words.{Words};
+    ghost use Rattle.threadbench.specs.Buckets.{AreNumbered};
     ghost use Rattle.threadbench.specs.Notes.{AreNotes};
     ghost use Rattle.threadbench.specs.Parkers.{AreParkers};
 
@@ -50,7 +49,7 @@ impl Model for Bench {
 
     ghost view = { λ b. b.words };
 
-    ghost invariant = { λ b. (length b.buckets.items ≡ 256) × (length b.notes.items ≡ 64) × AreNotes b.notes.items × (length b.parkers.items ≡ 64) × AreParkers b.parkers.items };
+    ghost invariant = { λ b. (length b.buckets.items ≡ 256) × AreNumbered b.buckets.items × (length b.notes.items ≡ 64) × AreNotes b.notes.items × (length b.parkers.items ≡ 64) × AreParkers b.parkers.items };
 }
 
 impl Bench {
@@ -160,36 +159,17 @@ impl Bench {
     }
 }
 
-/// A parker for each id, without a token.
-fn parkers(alloc: Global) -> Result<Vec<Parker>, NoMem>
-    ensures count { IfOk result (λ v. length v.items ≡ 64) }
-    ensures parkers { IfOk result (λ v. AreParkers v.items) }
-{
-    let mut parkers = Vec::with_capacity(alloc, usize::from(THREADS))?;
-    for before in 0..THREADS {
-        push_in_room(&mut parkers, Parker::new(thread_after(before)));
-    }
-    Ok(parkers)
-}
-
-/// Buckets where nobody stands, each with room for so many threads.
-fn buckets(alloc: Global, threads: u8) -> Result<Vec<CachePadded<Mutex<Bucket>>>, NoMem>
+/// Buckets where nobody stands, each with room for so many threads, in the order of their numbers.
+fn buckets(alloc: Global, threads: u8) -> Result<Vec<Numbered>, NoMem>
     requires first { 1 ≤ threads }
     requires last { threads ≤ 64 }
-    ensures { IfOk result (λ v. length v.items ≡ 256) }
+    ensures count { IfOk result (λ v. length v.items ≡ 256) }
+    ensures numbers { IfOk result (λ v. AreNumbered v.items) }
 {
     let mut buckets = Vec::with_capacity(alloc, BUCKETS)?;
-    for _ in 0..BUCKETS {
+    for number in 0..BUCKETS {
         let bucket = Bucket::new(alloc, usize::from(threads))?;
-        push_in_room(&mut buckets, under_a_lock(bucket, threads));
+        push_in_room(&mut buckets, Numbered::new(number, bucket, threads));
     }
     Ok(buckets)
-}
-
-/// The lock of a bucket where nobody stands, which has room for so many threads.
-fn under_a_lock(bucket: Bucket, threads: u8) -> CachePadded<Mutex<Bucket>>
-    requires { IsEmptied bucket threads }
-{
-    let _threads = threads;
-    CachePadded::new(Mutex::new(bucket))
 }

@@ -1,64 +1,105 @@
 //! Kills: a thread is told to die, and is woken where it sleeps.
-ghost use Rattle.std.specs.Prelude.{◌≡◌, ◌≤◌, ◌<◌, ◌+◌, true, false};
+ghost use Rattle.std.specs.Prelude.{◌≡◌, ◌≤◌, ◌<◌, ◌+◌};
+ghost use Rattle.std.specs.Sync.Mutex.{mutex_guard_value};
 ghost use Rattle.buckets.specs.Queues.{IsOrderly, Removes};
 ghost use Rattle.ruledwords.specs.Passes.{layout_of};
-ghost use Rattle.threadbench.specs.Kills.{IsOfThread, Kills, KillsAll, IsKilled, IsMember};
+ghost use Rattle.threadbench.specs.Kills.{IsOfThread, Kills, KillsAll, IsMember};
 
 use crate::bench::Bench;
+use crate::killing::{BenchKiller, kill_members};
 use crate::note::Killed;
+use crate::numbered::Held;
 use crate::parker::Given;
 use crate::section::remove_in;
-use buckets::{BUCKETS, Bucket};
+use buckets::BUCKETS;
 use keys::Layout;
 use lockword::{Reply, Tid};
 use std::sync::Wait;
 
-/// A kill on its way: it is noted, its thread was looked for in so many buckets, from the first on, and was given a token, or wasn't yet.
-#[derive(Drop)]
-pub(crate) struct Kill {
+/// A kill that is noted: its thread was looked for in so many buckets, from the first on. The note comes before the search, so that a thread which comes to sleep in a bucket behind the search finds it
+/// there.
+///
+/// Neither this nor what is made of it, [`Searched`] and [`Kill`], can be let go: whoever has written a note goes on to the end of the kill.
+pub(crate) struct Search {
     killed: Killed,
     looked: usize,
-    roused: bool,
 }
 
-impl Kill {
-    /// A kill that is noted. The note comes before the search, so that a thread which comes to sleep in a bucket behind the search finds it there.
-    fn begin(killed: Killed) -> Kill
-        ensures { (result.killed ≡ killed) × (result.looked ≡ 0) × (result.roused ≡ false) }
+/// A kill whose thread was looked for in each bucket. Nothing makes one but [`Search::end`].
+pub(crate) struct Searched {
+    killed: Killed,
+}
+
+/// A kill that came to its end: it was noted, its thread was looked for in each bucket, and then it was given a token, so that it wakes where it sleeps. Nothing makes one but [`Searched::rouse`], and
+/// nothing lets one go but a [`Sweep`] or [`Bench::kill`].
+pub(crate) struct Kill {
+    thread: Tid,
+}
+
+impl Search {
+    /// A kill that is noted.
+    pub(crate) fn begin(killed: Killed) -> Search
+        ensures { (result.killed ≡ killed) × (result.looked ≡ 0) }
     {
-        Kill {
-            killed,
-            looked: 0,
-            roused: false,
-        }
+        Search { killed, looked: 0 }
     }
 
     /// Takes the thread out of the next bucket's queues.
-    fn look(&mut self, bucket: &mut Bucket)
-        requires { self.old.looked < 256 }
-        ensures removes { (stood : _) × Removes bucket.old bucket.new self.old.killed.thread stood }
-        ensures orderly { IsOrderly bucket.new }
+    pub(crate) fn look(&mut self, held: &mut Held<'_>)
+        requires few { self.old.looked < 256 }
+        requires next { held.old.number ≡ self.old.looked }
+        ensures removes { (stood : _) × Removes (mutex_guard_value held.old.bucket) (mutex_guard_value held.new.bucket) self.old.killed.thread stood }
+        ensures orderly { IsOrderly (mutex_guard_value held.new.bucket) }
         ensures looked { self.new.looked ≡ self.old.looked + 1 }
-        ensures same { (self.new.killed ≡ self.old.killed) × (self.new.roused ≡ self.old.roused) }
+        ensures same { self.new.killed ≡ self.old.killed }
     {
-        remove_in(bucket, &self.killed);
+        remove_in(&mut held.bucket, &self.killed);
         self.looked += 1;
     }
 
-    /// The thread was given a token, so that it wakes where it sleeps.
-    fn rouse(&mut self, given: Given)
-        requires { given.thread ≡ self.old.killed.thread }
-        ensures roused { self.new.roused ≡ true }
-        ensures same { (self.new.killed ≡ self.old.killed) × (self.new.looked ≡ self.old.looked) }
+    /// Each bucket was looked at.
+    pub(crate) fn end(self) -> Searched
+        requires { self.looked ≡ 256 }
+        ensures { result.killed ≡ self.killed }
     {
-        let _given = given;
-        self.roused = true;
+        let Search { killed, looked: _ } = self;
+        Searched { killed }
     }
 }
 
-/// The kill of a process on its way: it came to so many threads, in the order of their ids, and each of these that is of the process was killed.
-#[derive(Drop)]
-struct Sweep {
+impl Searched {
+    /// The thread.
+    pub(crate) fn thread(&self) -> Tid
+        ensures { result ≡ self.now.killed.thread }
+    {
+        self.killed.thread()
+    }
+
+    /// The thread was given a token.
+    pub(crate) fn rouse(self, given: Given) -> Kill
+        requires { given.thread ≡ self.killed.thread }
+        ensures { result.thread ≡ self.killed.thread }
+    {
+        let Searched { killed } = self;
+        Kill {
+            thread: killed.roused(given),
+        }
+    }
+}
+
+impl Kill {
+    /// It is the kill of this thread.
+    fn over(self, thread: Tid)
+        requires { self.thread ≡ thread }
+    {
+        let _thread = thread;
+        let Kill { thread: _ } = self;
+    }
+}
+
+/// The kill of a process on its way: it came to so many threads, in the order of their ids, and each of these that is of the process was killed, and no other. Nothing begins or ends one but
+/// [`Bench::kill_process`].
+pub(crate) struct Sweep {
     process: u8,
     come: u8,
 }
@@ -71,24 +112,46 @@ impl Sweep {
         Sweep { process, come: 0 }
     }
 
-    /// The next thread was killed.
-    fn kills(&mut self, kill: Kill)
+    /// The process.
+    pub(crate) fn process(&self) -> u8
+        ensures { result ≡ self.now.process }
+    {
+        self.process
+    }
+
+    /// The next thread was killed, as it is of the process.
+    pub(crate) fn kills(&mut self, layout: &Layout, kill: Kill)
         requires few { self.old.come < 64 }
-        requires next { IsKilled (self.old.come + 1) kill }
+        requires next { kill.thread ≡ self.old.come + 1 }
+        requires member { IsMember layout.now self.old.process (self.old.come + 1) }
         ensures { (self.new.process ≡ self.old.process) × (self.new.come ≡ self.old.come + 1) }
     {
-        let _kill = kill;
+        let _layout = layout;
+        let Kill { thread: _ } = kill;
         self.come += 1;
     }
 
     /// The next thread is spared, as it is of another process.
-    fn spares(&mut self, layout: &Layout)
+    pub(crate) fn spares(&mut self, layout: &Layout)
         requires few { self.old.come < 64 }
         requires next { ¬ IsMember layout.now self.old.process (self.old.come + 1) }
         ensures { (self.new.process ≡ self.old.process) × (self.new.come ≡ self.old.come + 1) }
     {
         let _layout = layout;
         self.come += 1;
+    }
+
+    /// It came to each thread.
+    fn over(self, process: u8, layout: &Layout)
+        requires process { self.process ≡ process }
+        requires come { self.come ≡ layout.now.threads }
+    {
+        let _process = process;
+        let _layout = layout;
+        let Sweep {
+            process: _,
+            come: _,
+        } = self;
     }
 }
 
@@ -105,9 +168,11 @@ impl Bench {
         if thread > self.words.layout().threads() {
             return Err(Reply::ESRCH);
         }
+        let thread = thread_after(thread - 1);
         let moves = self.moves.lock(rt);
-        self.kill_thread(rt, thread_after(thread - 1));
+        let kill = self.kill_thread(rt, thread);
         drop(moves);
+        kill.over(thread);
         Ok(())
     }
 
@@ -118,9 +183,13 @@ impl Bench {
         if process >= self.words.layout().processes() {
             return Err(Reply::ESRCH);
         }
+        let layout = self.words.layout();
+        let killer = BenchKiller { bench: self, rt };
+        let mut sweep = Sweep::begin(process);
         let moves = self.moves.lock(rt);
-        self.kill_members(rt, process);
+        kill_members(&killer, layout, &mut sweep);
         drop(moves);
+        sweep.over(process, layout);
         Ok(())
     }
 
@@ -147,36 +216,6 @@ impl Bench {
             }
         }
         false
-    }
-
-    /// Kills the threads of a process: it comes to each thread of the bench.
-    fn kill_members<R: Wait>(&self, rt: &R, process: u8) -> Sweep
-        ensures { (result.process ≡ process) × (result.come ≡ (layout_of self.now).threads) }
-    {
-        let layout = self.words.layout();
-        let mut sweep = Sweep::begin(process);
-        for before in 0..layout.threads() {
-            let thread = thread_after(before);
-            if layout.process_of(thread) == process {
-                sweep.kills(self.kill_thread(rt, thread));
-            } else {
-                sweep.spares(layout);
-            }
-        }
-        sweep
-    }
-
-    /// Kills the thread. Whoever calls it holds the lock of moves: nobody is moved from one bucket to another while it is looked for.
-    fn kill_thread<R: Wait>(&self, rt: &R, thread: Tid) -> Kill
-        ensures { IsKilled thread result }
-    {
-        let mut kill = Kill::begin(self.note(thread).kill());
-        for place in 0..BUCKETS {
-            let mut bucket = self.buckets[place].lock(rt);
-            kill.look(&mut bucket);
-        }
-        kill.rouse(self.parker(thread).unpark(rt));
-        kill
     }
 }
 

@@ -5,6 +5,7 @@ ghost use Rattle.threadbench.specs.Sections.{stops_unless};
 
 use crate::bench::THREADS;
 use crate::kill::thread_after;
+use crate::parker::Given;
 use crate::room::push_in_room;
 use buckets::Bucket;
 use crossbeam_utils::CachePadded;
@@ -22,8 +23,8 @@ pub(crate) struct Note {
     killed: CachePadded<AtomicBool>,
 }
 
-/// A thread that was killed, as a note of its own says. Nothing makes one but [`Note::kill`], so whoever has one has written such a note before.
-#[derive(Drop)]
+/// A thread that was killed, as a note of its own says. Nothing makes one but [`Note::kill`], so whoever has one has written such a note before. It can't be let go: nothing takes it but
+/// [`Killed::roused`].
 pub(crate) struct Killed {
     thread: Tid,
 }
@@ -82,6 +83,16 @@ impl Killed {
         ensures { result ≡ self.now.thread }
     {
         self.thread
+    }
+
+    /// The thread was given a token, so that it wakes where it sleeps.
+    pub(crate) fn roused(self, given: Given) -> Tid
+        requires { given.thread ≡ self.thread }
+        ensures { result ≡ self.thread }
+    {
+        let _given = given;
+        let Killed { thread } = self;
+        thread
     }
 }
 

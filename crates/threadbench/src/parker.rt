@@ -1,34 +1,146 @@
-//! Where a thread sleeps.
-ghost use Rattle.std.specs.Prelude.{◌≡◌, ◌<◌, ◌+◌, true, false, Some, slice_get};
+//! Where threads sleep: tokens, and the bells by which sleepers are told of them. What a sleep and a wake have to show is made here alone.
+ghost use Rattle.std.specs.Prelude.{◌≡◌, ◌<◌, ◌+◌, true, false, Some, length, slice_get, IfOk};
+ghost use Rattle.std.specs.Sync.Mutex.{mutex_guard_value};
+ghost use Rattle.threadbench.specs.Parkers.{AreParkers};
 
+use crate::bench::THREADS;
+use crate::kill::{Searched, thread_after};
+use crate::room::push_in_room;
 use buckets::Batch;
+use keys::NoMem;
 use lockword::Tid;
-use std::sync::{Condvar, Mutex, Wait};
+use std::alloc::Global;
+use std::sync::{Condvar, Mutex, MutexGuard, Wait};
 
-/// A token that one thread waits for and others give it. It keeps one token at most, so a thread that was given one before it parks goes on at once.
+/// Where one thread waits for a token and others give it one. A thread that was given one before it parks goes on at once.
 #[derive(Drop)]
 pub(crate) struct Parker {
-    thread: Tid,
-    token: Mutex<bool>,
-    given: Condvar,
+    pub(crate) thread: Tid,
+    pub(crate) token: Mutex<Token>,
+    pub(crate) bell: Bell,
 }
 
-/// That a thread was given a token. Nothing makes one but [`give`].
+/// Whether there is a token. Nothing makes one but [`parkers`], for a bench.
 #[derive(Drop)]
-pub(crate) struct Given {
-    thread: Tid,
+pub(crate) struct Token {
+    there: bool,
 }
 
-/// That a thread took its token, so that it sleeps anew where it parks again. Nothing makes one but [`take`].
+/// What tells a sleeper that there is a token.
+#[derive(Drop)]
+pub(crate) struct Bell {
+    rung: Condvar,
+}
+
+/// That a thread took its token, so that it sleeps anew where it parks again. Nothing makes one but [`Token::take`].
 #[derive(Drop)]
 pub(crate) struct Taken {
     left: bool,
+}
+
+/// That a thread is out of the queue in which it slept, if it did, and is to be given a token. It is of a thread that a wake took ([`Due::woken`]), or that a kill has looked for in each bucket
+/// ([`Due::searched`]). It can't be let go: whoever has one gives the token.
+pub(crate) struct Due {
+    thread: Tid,
+}
+
+/// That a thread was given a token. Nothing makes one but [`Bell::ring`].
+#[derive(Drop)]
+pub(crate) struct Given {
+    thread: Tid,
 }
 
 /// Those of a batch who were given tokens, so many from its first on.
 #[derive(Drop)]
 pub(crate) struct Roused {
     count: u32,
+}
+
+impl Parker {
+    /// The parker of a thread, without a token.
+    fn new(thread: Tid) -> Parker
+        ensures { result.thread ≡ thread }
+    {
+        Parker {
+            thread,
+            token: Mutex::new(Token { there: false }),
+            bell: Bell {
+                rung: Condvar::new(),
+            },
+        }
+    }
+}
+
+impl Token {
+    /// Puts a token there. There is one at most.
+    pub(crate) fn put(&mut self)
+        ensures { self.new.there ≡ true }
+    {
+        self.there = true;
+    }
+
+    /// Takes the token away.
+    pub(crate) fn take(&mut self) -> Taken
+        requires { self.old.there ≡ true }
+        ensures token { self.new.there ≡ false }
+        ensures left { result.left ≡ false }
+    {
+        self.there = false;
+        Taken { left: false }
+    }
+}
+
+impl Bell {
+    /// Waits until there is a token.
+    pub(crate) fn wait<'a, R: Wait>(
+        &self,
+        rt: &R,
+        token: MutexGuard<'a, Token>,
+    ) -> MutexGuard<'a, Token>
+        ensures { (mutex_guard_value result).there ≡ true }
+    {
+        self.rung.wait_while(rt, token, |token| !token.there)
+    }
+
+    /// Tells the thread of the token that was put there.
+    pub(crate) fn ring(&self, token: MutexGuard<'_, Token>, due: Due) -> Given
+        requires { (mutex_guard_value token).there ≡ true }
+        ensures { result.thread ≡ due.thread }
+    {
+        drop(token);
+        self.rung.notify_one();
+        let Due { thread } = due;
+        Given { thread }
+    }
+}
+
+impl Due {
+    /// The one at that place among those that a wake took.
+    pub(crate) fn woken(woken: &Batch, place: usize) -> Due
+        requires { place < length woken.now }
+        ensures { slice_get woken.now place ≡ Some result.thread }
+    {
+        match woken.get(place) {
+            Some(thread) => Due { thread },
+            None => unreachable!(),
+        }
+    }
+
+    /// The one who is to die, once it was looked for in each bucket.
+    pub(crate) fn searched(searched: &Searched) -> Due
+        ensures { result.thread ≡ searched.now.killed.thread }
+    {
+        Due {
+            thread: searched.thread(),
+        }
+    }
+
+    /// The thread.
+    pub(crate) fn thread(&self) -> Tid
+        ensures { result ≡ self.now.thread }
+    {
+        self.thread
+    }
 }
 
 impl Roused {
@@ -58,52 +170,14 @@ impl Roused {
     }
 }
 
-/// Puts a token there for the thread.
-fn give(token: &mut bool, thread: Tid) -> Given
-    ensures token { token.new ≡ true }
-    ensures thread { result.thread ≡ thread }
+/// A parker for each id, without a token.
+pub(crate) fn parkers(alloc: Global) -> Result<Vec<Parker>, NoMem>
+    ensures count { IfOk result (λ v. length v.items ≡ 64) }
+    ensures parkers { IfOk result (λ v. AreParkers v.items) }
 {
-    *token = true;
-    Given { thread }
-}
-
-/// Takes the token away.
-fn take(token: &mut bool) -> Taken
-    ensures token { token.new ≡ false }
-    ensures left { result.left ≡ false }
-{
-    *token = false;
-    Taken { left: false }
-}
-
-impl Parker {
-    /// The parker of a thread, without a token.
-    pub(crate) fn new(thread: Tid) -> Parker
-        ensures { result.thread ≡ thread }
-    {
-        Parker {
-            thread,
-            token: Mutex::new(false),
-            given: Condvar::new(),
-        }
+    let mut parkers = Vec::with_capacity(alloc, usize::from(THREADS))?;
+    for before in 0..THREADS {
+        push_in_room(&mut parkers, Parker::new(thread_after(before)));
     }
-
-    /// Sleeps until there is a token, and takes it.
-    pub(crate) fn park<R: Wait>(&self, rt: &R) -> Taken {
-        let mut token = self
-            .given
-            .wait_while(rt, self.token.lock(rt), |token| !*token);
-        take(&mut token)
-    }
-
-    /// Gives a token.
-    pub(crate) fn unpark<R: Wait>(&self, rt: &R) -> Given
-        ensures { result.thread ≡ self.now.thread }
-    {
-        let mut token = self.token.lock(rt);
-        let given = give(&mut token, self.thread);
-        drop(token);
-        self.given.notify_one();
-        given
-    }
+    Ok(parkers)
 }

@@ -10,16 +10,16 @@ ghost use Rattle.threadbench.specs.Calls.{Locked, Paid, Runs, IsHeeded, stretch_
 
 use crate::bench::Bench;
 use crate::note::{ByOthers, Note};
-use crate::parker::{Parker, Roused};
+use crate::numbered::Numbered;
+use crate::parker::{Due, Parker, Roused};
 use crate::section::{Waited, trim_in, wait_in, wake_in};
-use buckets::{BUCKETS, Batch, Bucket};
-use crossbeam_utils::CachePadded;
+use buckets::{BUCKETS, Batch};
 use keys::{Access, Answer, Key, bucket_of, key_of};
 use lockword::{Reply, Tid};
 use mutex::Call;
 use ruledwords::{Fate, Live, Outcome, Owed, Pass, Running, Stretch, Turn, Wakes, either_stops};
 use std::hint::spin_loop;
-use std::sync::{Mutex, Wait};
+use std::sync::Wait;
 
 impl Bench {
     /// Takes a mutex, and sleeps while another thread owns it (pthread_mutex_lock). The reply is OK; EOWNERDEAD where its last owner died and nobody declared it consistent;
@@ -242,10 +242,8 @@ impl Bench {
     {
         let mut roused = Roused::nobody();
         for place in 0..woken.len() {
-            match woken.get(place) {
-                Some(thread) => roused.one_more(woken, self.parker(thread).unpark(rt)),
-                None => unreachable!(),
-            }
+            let due = Due::woken(woken, place);
+            roused.one_more(woken, self.parker(due.thread()).unpark(rt, due));
         }
         roused
     }
@@ -278,7 +276,7 @@ impl Bench {
     }
 
     /// The bucket in which those stand who sleep on the key.
-    pub(crate) fn bucket(&self, key: Key) -> &CachePadded<Mutex<Bucket>> {
+    pub(crate) fn bucket(&self, key: Key) -> &Numbered {
         &self.buckets[bucket_of(key, BUCKETS)]
     }
 

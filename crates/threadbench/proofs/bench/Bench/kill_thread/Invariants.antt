@@ -3,4 +3,4 @@ use Rattle.threadbench.proofs.bench.Bench.kill_thread.Given as goal
 
 -- so many buckets were looked through
 abbrev pub invariant-loop-place : goal.invariant-loop-place
-invariant-loop-place g l = (l.kill.looked ≡ l.place) × (l.kill.killed.thread ≡ l.thread)
+invariant-loop-place g l = (l.search.looked ≡ l.place) × (l.search.killed.thread ≡ l.thread)

@@ -4,6 +4,11 @@ use Rattle.ruledwords.specs.Turns.{Unmoved}
 use Rattle.threadbench.proofs.Turning.{still_under_way, still_decided}
 use Rattle.threadbench.proofs.bench.Bench.trim.Goals as goal
 
+pub returns-clause-words : goal.returns-clause-words
+returns-clause-words g c =
+    let same = subst (λ (w : Words). Unmoved w c.args.running c.trim_in-trimmed.new.running) c.self.view_is c.trim_in-trimmed.ensures.unmoved in
+    c.answer.ensures.words c.args.self.now same.0
+
 pub returns-clause-keeps : goal.returns-clause-keeps
 returns-clause-keeps g c = λ a call u.
     let same = subst (λ (w : Words). Unmoved w c.args.running c.trim_in-trimmed.new.running) c.self.view_is c.trim_in-trimmed.ensures.unmoved in

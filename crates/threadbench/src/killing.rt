@@ -1,0 +1,66 @@
+//! How threads are killed. Nothing here begins or ends a kill of a process, or lets a kill go: that stands in `kill`.
+ghost use Rattle.std.specs.Prelude.{◌≡◌};
+
+use crate::bench::Bench;
+use crate::kill::{Kill, Search, Sweep, thread_after};
+use crate::parker::Due;
+use buckets::BUCKETS;
+use keys::Layout;
+use lockword::Tid;
+use std::sync::Wait;
+
+/// What kills a thread. Whoever has nothing but one kills nobody whose kill it doesn't get.
+pub(crate) trait Killer {
+    /// Kills the thread.
+    fn kill(&self, thread: Tid) -> Kill
+        ensures { result.thread ≡ thread };
+}
+
+/// Kills threads of a bench. Whoever has one holds the bench's lock of moves.
+pub(crate) struct BenchKiller<'a, R> {
+    pub(crate) bench: &'a Bench,
+    pub(crate) rt: &'a R,
+}
+
+impl<R> Drop for BenchKiller<'_, R> {
+    fn drop(self) {
+        let Self { bench: _, rt: _ } = self;
+    }
+}
+
+impl<R: Wait> Killer for BenchKiller<'_, R> {
+    fn kill(&self, thread: Tid) -> Kill {
+        self.bench.kill_thread(self.rt, thread)
+    }
+}
+
+/// Kills the threads of the sweep's process and no other: it comes to each thread of the bench. It has no bench, so each kill that it makes is in its hands, and the sweep takes none but those.
+pub(crate) fn kill_members<K: Killer>(killer: &K, layout: &Layout, sweep: &mut Sweep)
+    requires { sweep.old.come ≡ 0 }
+    ensures process { sweep.new.process ≡ sweep.old.process }
+    ensures come { sweep.new.come ≡ layout.now.threads }
+{
+    for before in 0..layout.threads() {
+        let thread = thread_after(before);
+        if layout.process_of(thread) == sweep.process() {
+            sweep.kills(layout, killer.kill(thread));
+        } else {
+            sweep.spares(layout);
+        }
+    }
+}
+
+impl Bench {
+    /// Kills the thread. Whoever calls it holds the lock of moves: nobody is moved from one bucket to another while it is looked for.
+    pub(crate) fn kill_thread<R: Wait>(&self, rt: &R, thread: Tid) -> Kill
+        ensures { result.thread ≡ thread }
+    {
+        let mut search = Search::begin(self.note(thread).kill());
+        for place in 0..BUCKETS {
+            search.look(&mut self.buckets[place].hold(rt));
+        }
+        let searched = search.end();
+        let given = self.parker(thread).unpark(rt, Due::searched(&searched));
+        searched.rouse(given)
+    }
+}
