@@ -72,10 +72,11 @@ impl Parker {
 }
 
 impl Token {
-    /// Puts a token there. There is one at most.
-    pub(crate) fn put(&mut self)
+    /// Puts a token there, for a thread that is to be given one. There is one at most.
+    pub(crate) fn put(&mut self, due: &Due)
         ensures { self.new.there ≡ true }
     {
+        let _due = due;
         self.there = true;
     }
 

@@ -17,7 +17,7 @@ impl Parker {
         ensures { result.thread ≡ self.now.thread }
     {
         let mut token = self.token.lock(rt);
-        token.put();
+        token.put(&due);
         self.bell.ring(token, due)
     }
 }

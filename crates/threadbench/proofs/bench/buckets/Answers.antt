@@ -1,4 +1,4 @@
-use Rattle.std.proofs.Common.{rules, ◌≡◌, ◌+◌, ◌∷◌, [], ◌++◌, length, vec_len, sym, subst, List}
+use Rattle.std.proofs.Common.{rules, ◌≡◌, ◌∷◌, [], ◌++◌, length, sym, subst, List}
 use Rattle.threadbench.specs.Buckets.{AreNumbered}
 use Rattle.threadbench.specs.declared.numbered.Numbered.{Numbered}
 use Rattle.threadbench.proofs.Noting.{one_more_bucket}
@@ -7,7 +7,7 @@ use Rattle.threadbench.proofs.bench.buckets.Goals as goal
 -- src/bench.rt:170:5
 pub loop-number-preserved : goal.loop-number-preserved
 loop-number-preserved c =
-  let number : c.new-in-loop-number.result.number ≡ length c.loop-number.buckets.items = search rules in
-  let longer : AreNumbered (c.loop-number.buckets.items ++ c.new-in-loop-number.result ∷ []) = one_more_bucket c.loop-number.buckets.items c.new-in-loop-number.result c.loop-number.invariant.2 number in
-  let are : AreNumbered c.push_in_room.new.list.items = subst (λ (xs : List Numbered). AreNumbered xs) (sym c.push_in_room.ensures.items) longer in
-  (search rules, search rules, are)
+    let number : c.new-in-loop-number.result.number ≡ length c.loop-number.buckets.items = search rules in
+    let longer : AreNumbered (c.loop-number.buckets.items ++ c.new-in-loop-number.result ∷ []) = one_more_bucket c.loop-number.buckets.items c.new-in-loop-number.result c.loop-number.invariant.2 number in
+    let are : AreNumbered c.push_in_room.new.list.items = subst (λ (xs : List Numbered). AreNumbered xs) (sym c.push_in_room.ensures.items) longer in
+    (search rules, search rules, are)
