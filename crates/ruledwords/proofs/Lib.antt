@@ -33,6 +33,7 @@ mod Finishing
 mod Freeing
 pub mod Fates
 mod Turning
+mod Calling
 mod OwnTurns
 mod CellTurns
 mod SectionPlaces
@@ -44,6 +45,7 @@ mod Settling
 mod StepsOfCalls
 mod Releasing
 mod ReleaseSteps
+mod Unlocking
 mod ConditionActs
 mod ConditionReleases
 mod ConditionTurns
