@@ -9,8 +9,9 @@ use Rattle.picture.specs.declared.scene.Scene.{Scene}
 use Rattle.picture.specs.declared.svg.Extent.{Extent}
 use Rattle.picture.specs.Laws.{HasNumbersOfATrace, HasRoom, TextsHaveRoom, pixels}
 use Rattle.picture.specs.Places.{along, band_x, lane_x}
-use Rattle.picture.specs.Rows.{words_at}
+use Rattle.picture.specs.Rows.{from_at, is_from_right, words_at}
 use Rattle.picture.specs.Scenes.{lane_at}
+use Rattle.picture.specs.Svg.{mark_of}
 use Rattle.picture.proofs.Letters.{Letters, number_letters, then_letters, words_letters}
 
 pixels_of : (n k : ℕ) → n ≤ k → pixels n ≤ 15 * k / 2
@@ -35,7 +36,8 @@ room x s l numbers some few =
 
 pub have_room : TextsHaveRoom
 have_room = record {
-  font = refl;
+  font = record { first = refl; fonts = refl; anchors = refl };
+  drawn = λ x s l k. record { mark = mark_of x l.fact (from_at s l) k; above = is_from_right (thread_of l.fact) (from_at s l); whole = refl };
   lines = room;
   bands = λ m small.
       let name = then_letters (codes "m") (decimal m) 1 2 (record { single = refl; few = omega arith }) (number_letters m 2 (omega arith) (omega (arith, small)) (omega (arith, small))) in

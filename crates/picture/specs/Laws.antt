@@ -1,5 +1,5 @@
 -- What holds of every picture.
-use Rattle.std.specs.Prelude.{ℕ, ◌≡◌, ◌≢◌, ◌≤◌, ◌<◌, ◌+◌, ◌-◌, ◌*◌, ◌/◌, ◌^◌, nat_lt, List, [], ◌∷◌, ◌++◌, length, codes, decimal, slice_index_or, Option, IfSome, if◌then◌else◌}
+use Rattle.std.specs.Prelude.{ℕ, ◌≡◌, ◌≢◌, ◌≤◌, ◌<◌, ◌+◌, ◌-◌, ◌*◌, ◌/◌, ◌^◌, ◌==◌, nat_lt, Bool, true, false, List, [], ◌∷◌, ◌++◌, length, codes, decimal, slice_index_or, Option, IfSome, if◌then◌else◌}
 use Rattle.std.specs.List.{concat}
 use Rattle.keys.specs.Objects.{fresh}
 use Rattle.facts.specs.declared.fact.Line.{Line}
@@ -8,10 +8,11 @@ use Rattle.picture.specs.declared.rows.Part.TheVariants as part
 use Rattle.picture.specs.declared.scene.Scene.{Scene}
 use Rattle.picture.specs.declared.svg.Extent.{Extent}
 use Rattle.picture.specs.Layouts.{width}
-use Rattle.picture.specs.Places.{band_x, lane_x, number_x, words_x}
+use Rattle.picture.specs.Places.{band_x, lane_x, number_x, row_y, words_x}
 use Rattle.picture.specs.Rows.{band_at, cell_at, cells, from_at, mark, part_of, row_text, sign, words_at}
+use Rattle.picture.specs.Shapes.{words_y}
 use Rattle.picture.specs.Style.{shapes_style, style}
-use Rattle.picture.specs.Svg.{svg_width}
+use Rattle.picture.specs.Svg.{line_marks, svg_width}
 use Rattle.picture.specs.Words.{first_number, second_number}
 
 -- ---- in text: a line's mark
@@ -94,8 +95,35 @@ pub record HasRoom (x : Extent) (s : Scene) (l : Line) : Type 0 where
   pub apart : x.threads ≤ 5 → words_end x s l ≤ lane_x x.threads x.bands (thread_of l.fact + 1) - 7
   pub event : pixels (length (decimal l.event)) ≤ number_x
 
--- so it is of every line of one of a picture's threads; the names of two bands don't touch; and the texts are of a font whose letters are equally wide, at 11 pixels, and the numbers of events end where they stand
+-- a line is drawn as the number of its event, which ends there, its mark, and its words, which begin there
+pub record IsDrawnSo (x : Extent) (s : Scene) (l : Line) (k : ℕ) : Type 0 where
+  pub mark : List ℕ
+  pub above : Bool
+  pub whole : line_marks x s l k
+      ≡ (codes "<text class=\"n\" x=\"" ++ (decimal number_x ++ (codes "\" y=\"" ++ (decimal (row_y k + 4) ++ (codes "\">" ++ (decimal l.event ++ codes "</text>"))))))
+      ++ (mark
+      ++ ((codes "<text class=\"t\" x=\"" ++ (decimal (words_x (lane_x x.threads x.bands (thread_of l.fact))) ++ (codes "\" y=\"" ++ (decimal (words_y k above) ++ codes "\">"))))
+      ++ (concat (words_at s l) ++ codes "</text>\n")))
+
+-- whether a text begins so, and whether such a word stands in it
+abbrev pub begins_with : List ℕ → List ℕ → Bool
+begins_with [] text = true
+begins_with (b ∷ bs) [] = false
+begins_with (b ∷ bs) (c ∷ cs) = if b == c then begins_with bs cs else false
+
+abbrev pub mentions : List ℕ → List ℕ → Bool
+mentions word [] = false
+mentions word (c ∷ cs) = if begins_with word (c ∷ cs) then true else mentions word cs
+
+-- all texts are of one font, whose letters are equally wide, at 11 pixels. The numbers of events end where they stand, the names of bands and lanes have their middle there, and all other texts begin there
+pub record HasOneFont : Type 0 where
+  pub first : style ≡ codes "<style>text{font:11px monospace}.n{text-anchor:end;fill:#777}.h{text-anchor:middle;font-weight:bold}" ++ shapes_style
+  pub fonts : mentions (codes "font") shapes_style ≡ false
+  pub anchors : mentions (codes "text-anchor") shapes_style ≡ false
+
+-- so it is of every line of one of a picture's threads, and the names of two bands don't touch
 pub record TextsHaveRoom : Type 0 where
-  pub font : style ≡ codes "<style>text{font:11px monospace}.n{text-anchor:end;fill:#777}" ++ shapes_style
+  pub font : HasOneFont
+  pub drawn : (x : Extent) (s : Scene) (l : Line) (k : ℕ) → IsDrawnSo x s l k
   pub lines : (x : Extent) (s : Scene) (l : Line) → HasNumbersOfATrace s l → 1 ≤ thread_of l.fact → thread_of l.fact ≤ x.threads → HasRoom x s l
   pub bands : (m : ℕ) → m < 16 → band_x m + pixels (length (codes "m" ++ decimal m)) < band_x (m + 1)

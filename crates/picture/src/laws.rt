@@ -12,7 +12,7 @@ pub fn shown_lanes_stand_in_their_columns()
     ensures { ShownLanesStandInTheirColumns }
 {}
 
-/// The words of a line in an SVG picture end within it, and up to five lanes before the next one's marks, in a font whose letters take 7.5 pixels at most;
+/// The words of a line in an SVG picture begin beside its mark and end within it, and up to five lanes before the next one's marks, in a font whose letters take 7.5 pixels at most;
 /// the names of two bands don't touch. All texts are of a monospaced font at 11 pixels.
 pub fn texts_have_room()
     ensures { TextsHaveRoom }
