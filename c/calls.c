@@ -8,7 +8,7 @@
 enum { AT_LOCK_TAKE = 17, AT_TRYLOCK_TAKE = 22, AT_RELEASE = 24 };
 enum { NO_PLAN = 0xffff };
 
-static const uint64_t WAITERS = 0x80000000;
+static const uint64_t WAITERS = 0x80000000, UNUSABLE = 0x100000000;
 
 static int number_of(uint32_t reply)
 {
@@ -212,6 +212,34 @@ int pz_mutex_trylock(pz *p, unsigned m)
         if (pz_reap_one(p, owner) == DYING)
             sched_yield();
     }
+}
+
+/* Somebody may sleep there. Of those that were killed asleep nobody has told yet. */
+static int has_sleepers(pz *p, uint64_t cell)
+{
+    if (atomic_load(sleepers(p, cell)))
+        pz_reap(p);
+    return atomic_load(sleepers(p, cell)) != 0;
+}
+
+/* Unusable, it is made free by one exchange of its word: nobody owns it, nobody's list has it, and who looks at it
+ * then finds it one or the other. What a dead owner left is taken and declared. */
+int pz_mutex_renew(pz *p, unsigned m)
+{
+    if (m >= p->mutexes)
+        return EINVAL;
+    word *w = &p->words[cell_place(m)];
+    if (has_sleepers(p, cell_place(m)))
+        return EBUSY;
+    uint64_t seen = atomic_load(w);
+    if (seen == 0 || ((seen & UNUSABLE) && atomic_compare_exchange_strong(w, &seen, 0)))
+        return 0;
+    int r = pz_mutex_trylock(p, m);
+    if (r == ENOTRECOVERABLE)
+        return EBUSY; /* it became so just now */
+    if (r == EOWNERDEAD)
+        r = pz_mutex_consistent(p, m);
+    return r ? r : pz_mutex_unlock(p, m);
 }
 
 static int on_condition(pz *p, unsigned c, unsigned operation)

@@ -23,6 +23,10 @@
 #ifndef PZ_POLL_S
 #define PZ_POLL_S 1
 #endif
+/* How many files a process has open at once. */
+#ifndef PZ_FILES
+#define PZ_FILES 16
+#endif
 /* Tries stop a reaper, or yield, where these stand. */
 #ifndef PZ_AT_WALK
 #define PZ_AT_WALK() ((void)0)
@@ -31,7 +35,7 @@
 #define PZ_BETWEEN() ((void)0)
 #endif
 
-enum { THREADS = 64, LINE = 8, HELD = 2048, FILES = 16, MOST_MUTEXES = 4096, MOST_CONDS = 256 };
+enum { THREADS = 64, LINE = 8, HELD = 2048, FILES = PZ_FILES, MOST_MUTEXES = 4096, MOST_CONDS = 256 };
 
 typedef _Atomic uint64_t word;
 
@@ -63,13 +67,14 @@ struct pz {
     unsigned number;        /* its place in `opened`, and in each thread's `pz_self` */
     _Atomic unsigned users; /* its opener, and each thread of the process that takes part */
     size_t size;
+    size_t mapped; /* what the last user unmaps: 0 of memory that its caller mapped */
     void *data;
     uint64_t cell_of[MOST_CONDS]; /* of condition variables: kept here, as the file's words may be spoiled */
 };
 
-/* What a thread is in a file: its id, 0 for none, and how many mutexes it holds. */
+/* What a thread is in a file: its id, 0 for none, the one that it had last, and how many mutexes it holds. */
 struct self {
-    uint8_t id;
+    uint8_t id, last;
     uint16_t held;
 };
 extern _Thread_local struct self pz_self[FILES] __attribute__((tls_model("initial-exec")));
@@ -104,11 +109,14 @@ enum fate pz_reap_one(pz *p, unsigned t);
 void pz_walk_on(pz *p, unsigned t);
 int pz_take_part(pz *p);
 void pz_leave(pz *p);
+void pz_give_back(pz *p);
 uint32_t *pz_token_word(pz *p, unsigned t);
 
 /* ---- file.c */
 void pz_let_go(pz *p);
 pz *pz_opened(unsigned number);
+size_t pz_size_in(unsigned mutexes);
+int pz_open_in(void *memory, int whole, unsigned mutexes, pz **out);
 
 /* ---- trace.c */
 #if PZ_TRACE

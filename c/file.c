@@ -164,11 +164,8 @@ static int ready(pz *p, const struct asked *a, int whole)
 
 /* ---- Opening. */
 
-static int map(int fd, const struct asked *a, const struct layout *l, pz *p)
+static void lay_out(char *base, const struct asked *a, const struct layout *l, pz *p)
 {
-    char *base = mmap(NULL, l->size, PROT_READ | PROT_WRITE, MAP_SHARED, fd, 0);
-    if (base == MAP_FAILED)
-        return errno;
     p->header = (struct header *)base;
     p->life = (struct life *)(base + l->life);
     p->words = (word *)(base + l->words);
@@ -178,6 +175,15 @@ static int map(int fd, const struct asked *a, const struct layout *l, pz *p)
     p->mutexes = a->mutexes;
     p->conds = a->conds;
     atomic_store(&p->users, 1);
+}
+
+static int map(int fd, const struct asked *a, const struct layout *l, pz *p)
+{
+    char *base = mmap(NULL, l->size, PROT_READ | PROT_WRITE, MAP_SHARED, fd, 0);
+    if (base == MAP_FAILED)
+        return errno;
+    lay_out(base, a, l, p);
+    p->mapped = l->size;
     return 0;
 }
 
@@ -193,7 +199,7 @@ static int open_locked(int fd, const struct asked *a, pz *p)
         return r;
     r = ready(p, a, whole);
     if (r)
-        munmap(p->header, p->size);
+        munmap(p->header, p->mapped);
     return r;
 }
 
@@ -222,7 +228,16 @@ static void before_fork(void) { pthread_mutex_lock(&table); }
 static void in_parent(void) { pthread_mutex_unlock(&table); }
 static void at_fork(void) { pthread_atfork(before_fork, in_parent, in_child); }
 
-static int open_file(int fd, const struct asked *a, pz **out)
+/* Memory that is mapped already: its caller has seen to it that nobody else makes it now. */
+static int open_memory(void *memory, const struct asked *a, int whole, pz *p)
+{
+    struct layout l = layout_of(a);
+    lay_out(memory, a, &l, p);
+    return ready(p, a, whole);
+}
+
+/* By a file, or where fd is -1 in memory. */
+static int open_one(int fd, void *memory, int whole, const struct asked *a, pz **out)
 {
     unsigned number = 0;
     pthread_once(&once, at_fork);
@@ -232,7 +247,7 @@ static int open_file(int fd, const struct asked *a, pz **out)
     pthread_mutex_lock(&table);
     while (number < FILES && opened[number])
         number++;
-    int r = number == FILES ? EMFILE : open_alone(fd, a, p);
+    int r = number == FILES ? EMFILE : fd < 0 ? open_memory(memory, a, whole, p) : open_alone(fd, a, p);
     if (!r) {
         p->number = number;
         opened[number] = *out = p;
@@ -250,7 +265,7 @@ static int open_then_close(const char *path, int flags, mode_t mode, const struc
     int fd = open(path, flags | O_RDWR | O_CLOEXEC, mode);
     if (fd < 0)
         return errno;
-    int r = open_file(fd, a, out);
+    int r = open_one(fd, NULL, 0, a, out);
     close(fd);
     return r;
 }
@@ -272,6 +287,15 @@ int pz_open_fd(int fd, unsigned mutexes, unsigned conds, const uint16_t *mutex_o
     return open_then_close(path, 0, 0, &a, out);
 }
 
+/* For whoever has room of its own for what a file has: so many bytes from a page's beginning, of which nobody unmaps
+ * any while it is open. Where it isn't whole yet they are zeros, or were left by a maker that was killed. */
+size_t pz_size_in(unsigned mutexes) { return layout_of(&(struct asked){.mutexes = mutexes}).size; }
+int pz_open_in(void *memory, int whole, unsigned mutexes, pz **out)
+{
+    struct asked a = {.mutexes = mutexes};
+    return open_one(-1, memory, whole, &a, out);
+}
+
 pz *pz_opened(unsigned number) { return opened[number]; }
 
 /* The last user of this process unmaps it. */
@@ -282,7 +306,8 @@ void pz_let_go(pz *p)
     pthread_mutex_lock(&table);
     opened[p->number] = NULL;
     pthread_mutex_unlock(&table);
-    munmap(p->header, p->size);
+    if (p->mapped)
+        munmap(p->header, p->mapped);
     free(p);
 }
 

@@ -29,6 +29,7 @@ int pz_mutex_lock(pz *, unsigned m);        /* 0, EOWNERDEAD, ENOTRECOVERABLE, E
 int pz_mutex_trylock(pz *, unsigned m);     /* 0, EOWNERDEAD, ENOTRECOVERABLE, EBUSY */
 int pz_mutex_unlock(pz *, unsigned m);      /* 0, EPERM */
 int pz_mutex_consistent(pz *, unsigned m);  /* 0, EPERM, EINVAL */
+int pz_mutex_renew(pz *, unsigned m);       /* 0: free again, unusable or not; EBUSY: somebody owns it, or sleeps on it */
 int pz_cond_wait(pz *, unsigned c);         /* as lock; EPERM; EINVAL: the mutex is to be declared consistent first */
 int pz_cond_signal(pz *, unsigned c);       /* 0, EPERM, EOVERFLOW */
 int pz_cond_broadcast(pz *, unsigned c);

@@ -121,24 +121,33 @@ static void begin_life(pz *p, unsigned t)
     atomic_store(&p->life[t].tid, (uint32_t)syscall(SYS_gettid));
 }
 
-/* The calling thread lives by the first id whose token it gets. */
+/* Whether the calling thread lives by it from here. */
+static int live_by(pz *p, unsigned t)
+{
+    int r = pthread_mutex_trylock(&p->life[t].token);
+    if (r == EOWNERDEAD)
+        bury(p, t);
+    else if (r)
+        return 0;
+    begin_life(p, t);
+    pz_self[p->number] = (struct self){.id = (uint8_t)t};
+    atomic_fetch_add(&p->users, 1);
+    return 1;
+}
+
+/* The calling thread lives by the first id whose token it gets; by the one that it gave back, where nobody has it. */
 int pz_take_part(pz *p)
 {
+    unsigned last = pz_self[p->number].last;
+    if (last && live_by(p, last))
+        return 0;
     unsigned first = 1;
 #if PZ_TRACE
     first = pz_trace_fresh_id(); /* a trace uses no id again */
 #endif
-    for (unsigned t = first; t <= THREADS; t++) {
-        int r = pthread_mutex_trylock(&p->life[t].token);
-        if (r == EOWNERDEAD)
-            bury(p, t);
-        else if (r)
-            continue;
-        begin_life(p, t);
-        pz_self[p->number] = (struct self){.id = (uint8_t)t};
-        atomic_fetch_add(&p->users, 1);
-        return 0;
-    }
+    for (unsigned t = first; t <= THREADS; t++)
+        if (live_by(p, t))
+            return 0;
     return EAGAIN;
 }
 
@@ -150,6 +159,17 @@ void pz_leave(pz *p)
     atomic_store(&p->life[t].tid, 0);
     pz_walk_on(p, t);
     forget(p, t);
+    pthread_mutex_unlock(&p->life[t].token);
+    pz_let_go(p);
+}
+
+/* It owns nothing and sleeps nowhere, so there is nothing to walk over: its id is another's to have. */
+void pz_give_back(pz *p)
+{
+    unsigned t = pz_self[p->number].id;
+    pz_self[p->number] = (struct self){.last = (uint8_t)t};
+    atomic_store(&p->life[t].tid, 0);
+    atomic_store(&p->life[t].valid, WALK_ENDED);
     pthread_mutex_unlock(&p->life[t].token);
     pz_let_go(p);
 }

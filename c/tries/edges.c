@@ -76,6 +76,61 @@ static void an_owner_dies(void)
     pz_close(p);
 }
 
+/* An unusable mutex is made free again, and one whose owner died; not while somebody has it or sleeps on it. */
+static void a_renewal(void)
+{
+    pz *p = open_new("renewal", 2, 0);
+    SAME(pz_mutex_renew(p, 2), EINVAL);
+    SAME(pz_mutex_renew(p, 0), 0);
+    SAME(pz_mutex_lock(p, 0), 0);
+    SAME(pz_mutex_renew(p, 0), EBUSY);
+    SAME(pz_mutex_unlock(p, 0), 0);
+    pid_t owner = holder(p, 0);
+    SAME(pz_mutex_renew(p, 0), EBUSY);
+    kill_and_wait(owner);
+    SAME(pz_mutex_renew(p, 0), 0);
+    SAME(pz_mutex_trylock(p, 0), 0);
+    pid_t sleeper = fork();
+    if (!sleeper)
+        _exit(pz_mutex_lock(p, 0));
+    until_asleep(sleeper);
+    SAME(pz_mutex_renew(p, 0), EBUSY);
+    kill_and_wait(sleeper);
+    SAME(pz_mutex_unlock(p, 0), 0);
+    kill_and_wait(holder(p, 0));
+    SAME(pz_mutex_lock(p, 0), EOWNERDEAD);
+    SAME(pz_mutex_unlock(p, 0), 0);
+    SAME(pz_mutex_lock(p, 0), ENOTRECOVERABLE);
+    SAME(pz_mutex_renew(p, 0), 0);
+    SAME(pz_mutex_lock(p, 0), 0);
+    kill_and_wait(holder(p, 1));
+    SAME(pz_mutex_unlock(p, 0), 0);
+    SAME(pz_mutex_lock(p, 1), EOWNERDEAD);
+    pz_close(p);
+}
+
+/* Whoever sleeps while it becomes unusable, and is stopped there, is told so: until then it isn't renewed. */
+static void a_renewal_waits_for_sleepers(void)
+{
+    pz *p = open_new("stopped", 1, 0);
+    kill_and_wait(holder(p, 0));
+    SAME(pz_mutex_lock(p, 0), EOWNERDEAD);
+    pid_t sleeper = fork();
+    int status;
+    if (!sleeper)
+        _exit(pz_mutex_lock(p, 0) != ENOTRECOVERABLE);
+    until_asleep(sleeper);
+    kill(sleeper, SIGSTOP);
+    CHECK(waitpid(sleeper, &status, WUNTRACED) == sleeper && WIFSTOPPED(status));
+    SAME(pz_mutex_unlock(p, 0), 0);
+    SAME(pz_mutex_renew(p, 0), EBUSY);
+    kill(sleeper, SIGCONT);
+    CHECK(waitpid(sleeper, &status, 0) == sleeper && status == 0);
+    SAME(pz_mutex_renew(p, 0), 0);
+    SAME(pz_mutex_lock(p, 0), 0);
+    pz_close(p);
+}
+
 /* Five sleep on a mutex that becomes unusable: each is told so. */
 static void spoiled_with_sleepers(void)
 {
@@ -472,6 +527,8 @@ int main(void)
     alarm(120);
     calls_and_refusals();
     an_owner_dies();
+    a_renewal();
+    a_renewal_waits_for_sleepers();
     spoiled_with_sleepers();
     a_sleeper_is_told_of_a_death();
     a_first_sleeper_is_killed();
