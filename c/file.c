@@ -227,6 +227,7 @@ static void in_child(void)
 static void before_fork(void) { pthread_mutex_lock(&table); }
 static void in_parent(void) { pthread_mutex_unlock(&table); }
 static void at_fork(void) { pthread_atfork(before_fork, in_parent, in_child); }
+void pz_ready_for_forks(void) { pthread_once(&once, at_fork); }
 
 /* Memory that is mapped already: its caller has seen to it that nobody else makes it now. */
 static int open_memory(void *memory, const struct asked *a, int whole, pz *p)
@@ -240,7 +241,7 @@ static int open_memory(void *memory, const struct asked *a, int whole, pz *p)
 static int open_one(int fd, void *memory, int whole, const struct asked *a, pz **out)
 {
     unsigned number = 0;
-    pthread_once(&once, at_fork);
+    pz_ready_for_forks();
     pz *p = calloc(1, sizeof *p);
     if (!p)
         return ENOMEM;

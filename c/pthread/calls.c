@@ -1,0 +1,320 @@
+/* The functions that programs call. A mutex that isn't libpazdrig's goes to the C library's. */
+#include "shim.h"
+#include <errno.h>
+#include <string.h>
+
+#define SHOWN __attribute__((visibility("default")))
+enum { FIRST_NAP_NS = 50000, LAST_NAP_NS = 5000000, SECOND_NS = 1000000000 };
+
+/* A mutex of libpazdrig, as this process has it. */
+struct mutex {
+    struct ours *bytes;
+    struct companion *c;
+    pz *p;
+    unsigned bank, m;
+};
+
+static inline struct ours *ours(pthread_mutex_t *m)
+{
+    struct ours *o = (void *)m;
+    return __builtin_expect(atomic_load_explicit(&o->kind, memory_order_acquire) == KIND, 0) ? o : NULL;
+}
+
+/* What files and folders are opened in may be cancelled, and these functions aren't. */
+static __attribute__((noinline)) int find_first(struct mutex *x)
+{
+    int state;
+    pthread_setcancelstate(PTHREAD_CANCEL_DISABLE, &state);
+    sh_begin();
+    x->c = sh_find(x->bytes->nonce);
+    if (!x->c)
+        x->c = sh_attach(x->bytes, x->bytes->nonce);
+    x->p = x->c ? bank_in(x->c, x->bank) : NULL;
+    pthread_setcancelstate(state, NULL);
+    return x->p ? 0 : EINVAL;
+}
+
+static inline int find(struct ours *o, struct mutex *x)
+{
+    uint32_t number = o->number;
+    x->bytes = o;
+    x->bank = bank_of(number);
+    if (x->bank >= BANKS)
+        return EINVAL;
+    x->m = number - first_of(x->bank);
+    x->c = sh_find(o->nonce);
+    x->p = x->c ? atomic_load_explicit(&x->c->bank[x->bank], memory_order_acquire) : NULL;
+    return __builtin_expect(x->p != NULL, 1) ? 0 : find_first(x);
+}
+
+static unsigned owner(const struct mutex *x) { return owner_of(atomic_load(&x->p->words[cell_place(x->m)])); }
+static int owns(const struct mutex *x)
+{
+    unsigned self = pz_self[x->p->number].id;
+    return self && owner(x) == self;
+}
+
+/* Taken once more by its owner: by its type. */
+static int again(struct ours *o, int otherwise)
+{
+    if (o->type == PTHREAD_MUTEX_RECURSIVE) {
+        if (o->count == UINT32_MAX)
+            return EAGAIN;
+        o->count++;
+        return 0;
+    }
+    return o->type == PTHREAD_MUTEX_ERRORCHECK ? EDEADLK : otherwise;
+}
+
+/* How a lock ends. */
+static int taken(const struct mutex *x, int r)
+{
+    if (r == EOWNERDEAD)
+        x->bytes->count = 0;
+    else if (r)
+        sh_give(x->c, x->bank, x->p);
+    return r;
+}
+
+static int lock(struct ours *o)
+{
+    struct mutex x;
+    int r = find(o, &x);
+    if (r || (r = sh_borrow(x.c, x.bank, x.p)))
+        return r;
+    r = pz_mutex_lock(x.p, x.m);
+    if (__builtin_expect(r == 0, 1))
+        return 0;
+    return r == EDEADLK ? again(o, EDEADLK) : taken(&x, r);
+}
+
+/* Without an id a thread can't try; but where somebody lives and owns it the answer is there. */
+static int is_owned(const struct mutex *x)
+{
+    unsigned w = owner(x);
+    return w && w <= THREADS && pz_fate(x->p, w) == LIVES && owner(x) == w;
+}
+
+/* libpazdrig's is busy too where others changed the word in between. */
+static int try(struct ours *o)
+{
+    struct mutex x;
+    int r = find(o, &x);
+    if (r)
+        return r;
+    for (;;) {
+        r = sh_borrow_now(x.p);
+        if (r == EAGAIN && is_owned(&x))
+            return EBUSY;
+        if (r == EAGAIN) {
+            sh_wait_for_id(x.c, x.bank, x.p);
+            continue;
+        }
+        if (r)
+            return r;
+        r = pz_mutex_trylock(x.p, x.m);
+        if (r != EBUSY)
+            return r ? taken(&x, r) : 0;
+        if (owns(&x))
+            return again(o, EBUSY);
+        if (owner(&x))
+            return taken(&x, EBUSY);
+    }
+}
+
+static int unlock(struct ours *o)
+{
+    struct mutex x;
+    int r = find(o, &x);
+    if (r)
+        return r;
+    if (!pz_self[x.p->number].id)
+        return EPERM;
+    if (o->count && o->type == PTHREAD_MUTEX_RECURSIVE && owns(&x)) {
+        o->count--;
+        return 0;
+    }
+    r = pz_mutex_unlock(x.p, x.m);
+    sh_give(x.c, x.bank, x.p);
+    return r;
+}
+
+/* POSIX and the C library say EINVAL, whoever calls. */
+static int consistent(struct ours *o)
+{
+    struct mutex x;
+    int r = find(o, &x);
+    if (!r)
+        r = pz_self[x.p->number].id ? pz_mutex_consistent(x.p, x.m) : EINVAL;
+    return r == EPERM ? EINVAL : r;
+}
+
+static int is_past(clockid_t clock, const struct timespec *until)
+{
+    struct timespec now;
+    clock_gettime(clock, &now);
+    return now.tv_sec > until->tv_sec || (now.tv_sec == until->tv_sec && now.tv_nsec >= until->tv_nsec);
+}
+
+/* libpazdrig has no time limits: it tries, and naps in between, each time longer. */
+static int timed(struct ours *o, clockid_t clock, const struct timespec *until)
+{
+    if (clock != CLOCK_REALTIME && clock != CLOCK_MONOTONIC)
+        return EINVAL;
+    struct timespec nap = {.tv_nsec = FIRST_NAP_NS};
+    int r, state;
+    while ((r = try(o)) == EBUSY) {
+        if (until->tv_nsec < 0 || until->tv_nsec >= SECOND_NS)
+            return EINVAL;
+        if (is_past(clock, until))
+            return ETIMEDOUT;
+        pthread_setcancelstate(PTHREAD_CANCEL_DISABLE, &state);
+        nanosleep(&nap, NULL);
+        pthread_setcancelstate(state, NULL);
+        if (nap.tv_nsec < LAST_NAP_NS)
+            nap.tv_nsec *= 2;
+    }
+    return r;
+}
+
+/* ---- Made and destroyed. */
+
+static int is_for_us(const pthread_mutexattr_t *a, int *type)
+{
+    int robust, shared, protocol;
+    return a && !pthread_mutexattr_getrobust(a, &robust) && robust == PTHREAD_MUTEX_ROBUST &&
+           !pthread_mutexattr_getpshared(a, &shared) && shared == PTHREAD_PROCESS_SHARED &&
+           !pthread_mutexattr_getprotocol(a, &protocol) && protocol == PTHREAD_PRIO_NONE &&
+           !pthread_mutexattr_gettype(a, type);
+}
+
+/* The bytes are whole once `kind` is there. */
+static void write_bytes(pthread_mutex_t *m, const struct companion *c, uint32_t number, int type)
+{
+    struct ours *o = (void *)m;
+    memset(m, 0, sizeof *m);
+    o->number = number;
+    o->nonce = atomic_load(&c->nonce);
+    o->type = (uint32_t)type;
+    atomic_store(&o->kind, KIND);
+}
+
+static int init(pthread_mutex_t *m, const struct object *o, int type)
+{
+    int why;
+    uint32_t number;
+    struct companion *c = sh_attach_object(o, &why);
+    if (!c)
+        return why == EPERM || why == ENOMEM ? why : EAGAIN;
+    sh_lock_table(c);
+    if (!o->anonymous && strcmp(c->table->path, o->path) && strlen(o->path) < PATHS)
+        strcpy(c->table->path, o->path);
+    int r = sh_number_for(c, o, &number);
+    if (!r)
+        write_bytes(m, c, number, type);
+    sh_unlock_table(c);
+    return r;
+}
+
+static int destroy(struct ours *o)
+{
+    struct mutex x;
+    int r = find(o, &x);
+    if (r)
+        return r;
+    sh_lock_table(x.c);
+    r = sh_give_number(x.c, o->number);
+    if (!r)
+        atomic_store(&o->kind, (uint32_t)-1);
+    sh_unlock_table(x.c);
+    return r;
+}
+
+/* ---- What is shown. errno stays what it was. */
+
+SHOWN int pthread_mutex_init(pthread_mutex_t *m, const pthread_mutexattr_t *a)
+{
+    struct object o;
+    int type, saved = errno, state, r;
+    if (!is_for_us(a, &type))
+        return sh_real_init(m, a);
+    pthread_setcancelstate(PTHREAD_CANCEL_DISABLE, &state);
+    sh_begin();
+    r = sh_object_at(m, &o) ? sh_real_init(m, a) : init(m, &o, type);
+    pthread_setcancelstate(state, NULL);
+    errno = saved;
+    return r;
+}
+
+SHOWN int pthread_mutex_destroy(pthread_mutex_t *m)
+{
+    struct ours *o = ours(m);
+    int saved = errno, state;
+    if (!o)
+        return sh_real_destroy(m);
+    pthread_setcancelstate(PTHREAD_CANCEL_DISABLE, &state);
+    int r = destroy(o);
+    pthread_setcancelstate(state, NULL);
+    errno = saved;
+    return r;
+}
+
+SHOWN int pthread_mutex_lock(pthread_mutex_t *m)
+{
+    struct ours *o = ours(m);
+    if (!o)
+        return sh_real_lock(m);
+    int saved = errno, r = lock(o);
+    errno = saved;
+    return r;
+}
+
+SHOWN int pthread_mutex_trylock(pthread_mutex_t *m)
+{
+    struct ours *o = ours(m);
+    if (!o)
+        return sh_real_trylock(m);
+    int saved = errno, r = try(o);
+    errno = saved;
+    return r;
+}
+
+SHOWN int pthread_mutex_timedlock(pthread_mutex_t *m, const struct timespec *until)
+{
+    struct ours *o = ours(m);
+    if (!o)
+        return sh_real_timedlock(m, until);
+    int saved = errno, r = timed(o, CLOCK_REALTIME, until);
+    errno = saved;
+    return r;
+}
+
+SHOWN int pthread_mutex_clocklock(pthread_mutex_t *m, clockid_t clock, const struct timespec *until)
+{
+    struct ours *o = ours(m);
+    if (!o)
+        return sh_real_clocklock(m, clock, until);
+    int saved = errno, r = timed(o, clock, until);
+    errno = saved;
+    return r;
+}
+
+SHOWN int pthread_mutex_unlock(pthread_mutex_t *m)
+{
+    struct ours *o = ours(m);
+    if (!o)
+        return sh_real_unlock(m);
+    int saved = errno, r = unlock(o);
+    errno = saved;
+    return r;
+}
+
+SHOWN int pthread_mutex_consistent(pthread_mutex_t *m)
+{
+    struct ours *o = ours(m);
+    if (!o)
+        return sh_real_consistent(m);
+    int saved = errno, r = consistent(o);
+    errno = saved;
+    return r;
+}

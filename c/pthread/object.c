@@ -1,0 +1,131 @@
+/* Which object a mutex lies in: a file, or memory without a name, by what the process has mapped there (proc(5)). */
+#include "shim.h"
+#include <errno.h>
+#include <fcntl.h>
+#include <stdio.h>
+#include <stdlib.h>
+#include <string.h>
+#include <sys/ioctl.h>
+#include <sys/stat.h>
+#include <sys/sysmacros.h>
+#include <unistd.h>
+
+/* struct procmap_query of linux/fs.h, which older headers haven't. */
+struct query {
+    uint64_t size, flags, at;
+    uint64_t begin, end, vma_flags, page_size, offset, inode;
+    uint32_t dev_major, dev_minor, name_size, build_id_size;
+    uint64_t name, build_id;
+};
+#define QUERY        _IOWR('f', 17, struct query)
+#define QUERY_SHARED 8
+
+struct region {
+    uint64_t begin, end, offset, ino;
+    unsigned dev_major, dev_minor;
+    int shared;
+    char path[PATH_MAX + 16];
+};
+
+/* One question to the kernel, since Linux 6.11. */
+static int asked(int fd, uint64_t at, struct region *r)
+{
+    struct query q = {.size = sizeof q, .at = at, .name = (uintptr_t)r->path, .name_size = sizeof r->path};
+    r->path[0] = 0;
+    if (ioctl(fd, QUERY, &q) < 0)
+        return errno == ENOENT ? ENOENT : ENOTTY;
+    r->begin = q.begin;
+    r->end = q.end;
+    r->offset = q.offset;
+    r->ino = q.inode;
+    r->dev_major = q.dev_major;
+    r->dev_minor = q.dev_minor;
+    r->shared = (q.vma_flags & QUERY_SHARED) != 0;
+    return 0;
+}
+
+static int read_line(const char *line, struct region *r)
+{
+    unsigned long begin, end, offset, ino;
+    char mode[8];
+    int path = 0;
+    if (sscanf(line, "%lx-%lx %7s %lx %x:%x %lu %n", &begin, &end, mode, &offset, &r->dev_major, &r->dev_minor, &ino,
+               &path) != 7)
+        return 0;
+    r->begin = begin;
+    r->end = end;
+    r->offset = offset;
+    r->ino = ino;
+    r->shared = mode[3] == 's';
+    snprintf(r->path, sizeof r->path, "%.*s", (int)strcspn(line + path, "\n"), line + path);
+    return 1;
+}
+
+/* The region that `fits` says, among all. */
+static int among_all(int (*fits)(const struct region *, const void *), const void *what, struct region *r)
+{
+    FILE *f = fopen("/proc/self/maps", "re");
+    char *line = NULL;
+    size_t room = 0;
+    int found = 0;
+    while (f && !found && getline(&line, &room, f) > 0)
+        found = read_line(line, r) && fits(r, what);
+    free(line);
+    if (f)
+        fclose(f);
+    return found ? 0 : ENOENT;
+}
+
+static int has_address(const struct region *r, const void *at)
+{
+    return (uintptr_t)at >= r->begin && (uintptr_t)at < r->end;
+}
+
+static int region_of(const void *at, struct region *r)
+{
+    int answer = ENOTTY, fd = open("/proc/self/maps", O_RDONLY | O_CLOEXEC);
+    if (fd >= 0) {
+        answer = asked(fd, (uintptr_t)at, r);
+        close(fd);
+    }
+    return answer == ENOTTY ? among_all(has_address, at, r) : answer;
+}
+
+/* By the name that it is mapped by, where that is still the name of it. Some file systems tell another device there. */
+static void find_owner(struct object *o)
+{
+    struct stat st;
+    o->known = o->path[0] == '/' && stat(o->path, &st) == 0 && st.st_ino == o->ino;
+    o->uid = o->known ? st.st_uid : geteuid();
+    o->gid = o->known ? st.st_gid : getegid();
+    o->mode = o->known ? st.st_mode & 0666 : 0600;
+}
+
+/* ENOENT: nothing that other processes share is mapped there. */
+int sh_object_at(const void *at, struct object *o)
+{
+    struct region r;
+    int answer = region_of(at, &r);
+    if (answer || !r.shared)
+        return ENOENT;
+    *o = (struct object){.dev = makedev(r.dev_major, r.dev_minor),
+                         .ino = r.ino,
+                         .offset = r.offset + ((uintptr_t)at - r.begin),
+                         .anonymous = !strcmp(r.path, "/dev/zero (deleted)")};
+    memcpy(o->path, r.path, sizeof o->path);
+    if (!o->anonymous)
+        find_owner(o);
+    return 0;
+}
+
+static int is_of(const struct region *r, const void *what)
+{
+    const uint64_t *id = what;
+    return r->shared && makedev(r->dev_major, r->dev_minor) == id[0] && r->ino == id[1];
+}
+
+int sh_is_mapped(uint64_t dev, uint64_t ino)
+{
+    struct region r;
+    return among_all(is_of, (uint64_t[]){dev, ino}, &r) == 0;
+}

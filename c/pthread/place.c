@@ -1,0 +1,311 @@
+/* Where companions are: a file for each object, in a folder of their own. It comes into its folder whole, and whoever
+ * has it mapped has a shared lock of it (flock(2)): so who gets it exclusively knows that nobody has. */
+#include "shim.h"
+#include <dirent.h>
+#include <errno.h>
+#include <fcntl.h>
+#include <stdio.h>
+#include <stdlib.h>
+#include <string.h>
+#include <sys/file.h>
+#include <sys/mman.h>
+#include <sys/shm.h>
+#include <sys/stat.h>
+#include <sys/syscall.h>
+#include <unistd.h>
+
+static const uint64_t MAGIC = 0x31737a6170616e;
+static const char COMMON[] = "/run/pazdrig", DELETED[] = " (deleted)";
+
+/* The folder that was used last: it is looked over at the process's end. */
+static char used[PATHS];
+
+size_t sh_bank_at(unsigned bank)
+{
+    size_t at = PAGE;
+    for (unsigned k = 0; k < bank; k++)
+        at += (count_of(k) * sizeof(struct slot) + PAGE - 1) / PAGE * PAGE + pz_size_in(count_of(k));
+    return at;
+}
+
+size_t sh_size(void) { return sh_bank_at(BANKS); }
+
+static void read_boot_id(char id[40])
+{
+    memset(id, 0, 40);
+    int fd = open("/proc/sys/kernel/random/boot_id", O_RDONLY | O_CLOEXEC);
+    if (fd >= 0 && read(fd, id, 36) < 0)
+        id[0] = 0;
+    if (fd >= 0)
+        close(fd);
+}
+
+static uint64_t namespace(void)
+{
+    struct stat st;
+    return stat("/proc/self/ns/mnt", &st) ? 0 : st.st_ino;
+}
+
+static uint64_t new_nonce(void)
+{
+    uint64_t n = 0;
+    while (!(n >> 32))
+        if (syscall(SYS_getrandom, &n, sizeof n, 0) != sizeof n)
+            n = 0;
+    return n & ~(uint64_t)1;
+}
+
+/* Of a new one, in zeros. */
+int sh_make_table(struct table *t, const struct object *o)
+{
+    pthread_mutexattr_t a;
+    pthread_mutexattr_init(&a);
+    pthread_mutexattr_setpshared(&a, PTHREAD_PROCESS_SHARED);
+    pthread_mutexattr_setrobust(&a, PTHREAD_MUTEX_ROBUST);
+    int r = sh_real_init(&t->lock, &a);
+    pthread_mutexattr_destroy(&a);
+    t->magic = MAGIC;
+    t->nonce = new_nonce();
+    t->dev = o->dev;
+    t->ino = o->ino;
+    t->namespace = namespace();
+    read_boot_id(t->boot);
+    if (strlen(o->path) < sizeof t->path)
+        strcpy(t->path, o->path);
+    return r;
+}
+
+/* ---- The folder: the one that is given, or the one for all users, or the one of the object's owner. */
+
+static int is_folder(const char *path) { return access(path, X_OK) == 0; }
+
+static int make_folder(const struct object *o, const char *path)
+{
+    struct stat st;
+    if (mkdir(path, 0711) == 0 && geteuid() != o->uid && chown(path, o->uid, o->gid) < 0)
+        return errno;
+    if (lstat(path, &st) < 0)
+        return errno;
+    return S_ISDIR(st.st_mode) && (st.st_uid == o->uid || st.st_uid == 0) ? 0 : EPERM;
+}
+
+static int find_folder(const struct object *o, int make, char path[PATHS])
+{
+    const char *given = secure_getenv("PAZDRIG_DIR");
+    if (!given && is_folder(COMMON))
+        given = COMMON;
+    if (given)
+        snprintf(path, PATHS, "%s", given);
+    else
+        snprintf(path, PATHS, "/dev/shm/pazdrig-%u", (unsigned)o->uid);
+    return given || !make ? 0 : make_folder(o, path);
+}
+
+static int find_place(const struct object *o, int make, char folder[PATHS], char path[PATHS + 48])
+{
+    int r = find_folder(o, make, folder);
+    snprintf(path, PATHS + 48, "%s/%llx-%llx", folder, (unsigned long long)o->dev, (unsigned long long)o->ino);
+    return r;
+}
+
+/* ---- Making one: without a name until it is whole. */
+
+static int fill(int fd, const struct object *o)
+{
+    if (geteuid() == 0 || o->uid == geteuid()) {
+        if (fchown(fd, o->uid, o->gid) < 0)
+            return errno;
+    } else if (fchown(fd, (uid_t)-1, o->gid) < 0 && (o->mode & 060))
+        return errno; /* others of the object's group couldn't open it */
+    if (fchmod(fd, o->mode) < 0 || ftruncate(fd, (off_t)sh_size()) < 0)
+        return errno;
+    int r = posix_fallocate(fd, 0, PAGE);
+    if (r)
+        return r;
+    struct table *t = mmap(NULL, PAGE, PROT_READ | PROT_WRITE, MAP_SHARED, fd, 0);
+    if (t == MAP_FAILED)
+        return errno;
+    r = sh_make_table(t, o);
+    munmap(t, PAGE);
+    return r;
+}
+
+/* EEXIST: somebody else has made one. */
+static int make_one(const char *folder, const char *path, const struct object *o)
+{
+    char by[32];
+    int fd = open(folder, O_TMPFILE | O_RDWR | O_CLOEXEC, 0600);
+    if (fd < 0)
+        return errno;
+    int r = fill(fd, o);
+    snprintf(by, sizeof by, "/proc/self/fd/%d", fd);
+    if (!r && linkat(AT_FDCWD, by, AT_FDCWD, path, AT_SYMLINK_FOLLOW) < 0)
+        r = errno;
+    close(fd);
+    return r;
+}
+
+/* ---- Opening one. */
+
+static int lock_shared(int fd)
+{
+    while (flock(fd, LOCK_SH) < 0)
+        if (errno != EINTR)
+            return errno;
+    return 0;
+}
+
+static int is_of_this_boot(const struct table *t)
+{
+    char boot[40];
+    read_boot_id(boot);
+    return !memcmp(t->boot, boot, sizeof boot);
+}
+
+/* Whoever may write the object could spoil its mutexes anyway. */
+static int is_trusted(const struct stat *st, const struct object *o)
+{
+    return st->st_uid == o->uid || st->st_uid == 0 || st->st_uid == geteuid() || (o->mode & 02) ||
+           ((o->mode & 020) && st->st_gid == o->gid);
+}
+
+/* EAGAIN: it was removed meanwhile, or is of an earlier boot, where nobody lives any more. */
+static int look_at(int fd, const char *path, const struct object *o, uint64_t nonce, struct companion *c)
+{
+    struct stat st;
+    struct table t;
+    int r = lock_shared(fd);
+    if (r)
+        return r;
+    if (fstat(fd, &st) < 0)
+        return errno;
+    if (st.st_nlink == 0)
+        return EAGAIN;
+    if (!S_ISREG(st.st_mode) || (size_t)st.st_size != sh_size() || !is_trusted(&st, o))
+        return EPERM;
+    if (pread(fd, &t, sizeof t, 0) != sizeof t || t.magic != MAGIC || !t.nonce)
+        return EPERM;
+    if (!is_of_this_boot(&t)) {
+        if (!nonce && flock(fd, LOCK_EX | LOCK_NB) == 0 && fstat(fd, &st) == 0 && st.st_nlink)
+            unlink(path);
+        return nonce ? EINVAL : EAGAIN;
+    }
+    c->dev = st.st_dev;
+    c->ino = st.st_ino;
+    atomic_store(&c->nonce, t.nonce);
+    return nonce && nonce != t.nonce ? EINVAL : 0;
+}
+
+/* The page that is mapped by fd keeps its lock when fd is closed. The rest is mapped by another description, so that
+ * the lock can be let go while late calls still use it. */
+static int map(int fd, struct companion *c)
+{
+    char by[32];
+    snprintf(by, sizeof by, "/proc/self/fd/%d", fd);
+    int other = open(by, O_RDWR | O_CLOEXEC);
+    if (other < 0)
+        return errno;
+    void *table = mmap(NULL, sh_size(), PROT_READ | PROT_WRITE, MAP_SHARED, other, 0);
+    int r = table == MAP_FAILED ? errno : 0;
+    close(other);
+    if (r)
+        return r;
+    c->presence = mmap(NULL, PAGE, PROT_READ, MAP_SHARED, fd, 0);
+    if (c->presence == MAP_FAILED) {
+        r = errno;
+        munmap(table, sh_size());
+        return r;
+    }
+    c->table = table;
+    return 0;
+}
+
+/* The object's companion. nonce 0: a first opener asks, and it is made where there is none. Else the one of this nonce,
+ * or EINVAL: by a mutex's bytes none is made, since those who had the old one would own them too. */
+int sh_open_place(const struct object *o, uint64_t nonce, struct companion *c)
+{
+    char folder[PATHS], path[PATHS + 48];
+    int r = find_place(o, !nonce, folder, path), made = 0;
+    if (r)
+        return r;
+    for (;;) {
+        int fd = open(path, O_RDWR | O_CLOEXEC | O_NOFOLLOW);
+        if (fd < 0 && (errno != ENOENT || nonce))
+            return errno == EACCES ? EPERM : errno == ENOENT ? EINVAL : errno;
+        r = fd < 0 ? make_one(folder, path, o) : look_at(fd, path, o, nonce, c);
+        if (fd < 0) {
+            made = 1;
+            if (r && r != EEXIST)
+                return r;
+            continue;
+        }
+        if (!r)
+            r = map(fd, c);
+        close(fd);
+        if (r != EAGAIN)
+            break;
+    }
+    if (!r)
+        memcpy(used, folder, sizeof used);
+    if (made)
+        sh_sweep(folder);
+    return r;
+}
+
+/* Whether a first opener would find this one. */
+int sh_is_in_place(const struct object *o, const struct companion *c)
+{
+    char folder[PATHS], path[PATHS + 48];
+    struct stat st;
+    return find_place(o, 0, folder, path) == 0 && lstat(path, &st) == 0 && st.st_dev == c->dev && st.st_ino == c->ino;
+}
+
+/* ---- Cleaning up. */
+
+/* Nobody can come to the object any more. What isn't of these namespaces can't be told; a memfd's is gone with those
+ * who had it mapped; memory of shmget(2) has its id as inode. */
+static int is_gone(const struct table *t)
+{
+    struct stat st;
+    struct shmid_ds ds;
+    if (!is_of_this_boot(t))
+        return 1;
+    if (t->namespace != namespace() || t->path[0] != '/')
+        return 0;
+    if (!strncmp(t->path, "/SYSV", 5))
+        return shmctl((int)t->ino, IPC_STAT, &ds) < 0 && (errno == EINVAL || errno == EIDRM);
+    size_t n = strnlen(t->path, sizeof t->path), tail = sizeof DELETED - 1;
+    if (n > tail && !memcmp(t->path + n - tail, DELETED, tail))
+        return 1;
+    return stat(t->path, &st) < 0 ? errno == ENOENT || errno == ENOTDIR : st.st_ino != t->ino;
+}
+
+static void look_over(int folder, const char *name)
+{
+    struct table t;
+    struct stat st;
+    int fd = openat(folder, name, O_RDWR | O_CLOEXEC | O_NOFOLLOW | O_NONBLOCK);
+    if (fd < 0)
+        return;
+    if (flock(fd, LOCK_EX | LOCK_NB) == 0 && fstat(fd, &st) == 0 && st.st_nlink &&
+        pread(fd, &t, sizeof t, 0) == sizeof t && t.magic == MAGIC && is_gone(&t))
+        unlinkat(folder, name, 0);
+    close(fd);
+}
+
+void sh_sweep(const char *folder)
+{
+    DIR *d = opendir(folder);
+    struct dirent *e;
+    while (d && (e = readdir(d)))
+        if (e->d_name[0] != '.')
+            look_over(dirfd(d), e->d_name);
+    if (d)
+        closedir(d);
+}
+
+void sh_sweep_all(void)
+{
+    if (used[0])
+        sh_sweep(used);
+}

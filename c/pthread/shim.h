@@ -1,0 +1,120 @@
+/* What the rooms of libpazdrig_pthread.so share: the 40 bytes of a mutex, the companions in which libpazdrig keeps what
+ * it is, and the C library's own functions. */
+#ifndef PZ_SHIM_H
+#define PZ_SHIM_H
+#include "../driver.h"
+#include <limits.h>
+#include <sys/types.h>
+#include <time.h>
+
+/* ---- The 40 bytes of a mutex name it. `kind` stands where the C library has the type, and is none of its types, so a
+ * process without the shim is told EINVAL: its low 7 bits are none that it lists, and have neither the bit of a robust
+ * nor of a priority's mutex. A nonce is even, and not 0 in its high half, so that its consistent and its destroy refuse
+ * as well. */
+enum { KIND = 0x7a61700c };
+struct ours {
+    uint32_t number, count; /* in its companion; how often its owner has it besides the first time */
+    uint64_t nonce;         /* of its companion */
+    _Atomic uint32_t kind;
+    uint32_t type;
+    uint64_t unused[2];
+};
+_Static_assert(sizeof(struct ours) == sizeof(pthread_mutex_t), "a mutex has 40 bytes");
+_Static_assert(offsetof(struct ours, kind) == offsetof(pthread_mutex_t, __data.__kind), "the type's place");
+
+/* ---- Banks: a companion has room for 32,768 mutexes, in files of libpazdrig one behind the other; of them as many are
+ * made as are used. Numbers count through all. */
+enum { BANKS = 10, PAGE = 4096, PATHS = 3072, KEPT = 48 };
+static inline unsigned first_of(unsigned bank) { return bank < 3 ? (unsigned[]){0, 16, 256}[bank] : 4096 * (bank - 2); }
+static inline unsigned count_of(unsigned bank) { return first_of(bank + 1) - first_of(bank); }
+static inline unsigned bank_of(uint32_t n) { return n < 16 ? 0 : n < 256 ? 1 : 2 + n / 4096; }
+
+/* Which mutex has a number: the one at this place of the object. Killed amid a change, somebody leaves it as it was or
+ * as it is to be, since `offset` decides. */
+struct slot {
+    _Atomic uint64_t memory; /* of anonymous memory its inode, 0 of a file's; LOST: not yet free again */
+    _Atomic uint64_t offset; /* of its first byte, and one more; 0: the number is free */
+};
+#define LOST UINT64_MAX
+
+/* The first page of a companion. */
+struct table {
+    uint64_t magic, nonce, dev, ino;
+    char boot[40];
+    uint64_t namespace; /* in which `path` is one */
+    pthread_mutex_t lock;
+    _Atomic uint32_t banks;
+    struct {
+        _Atomic uint32_t wanted,
+            returned; /* ids: somebody waits for one; how often one was given back to whoever waits */
+    } ids[BANKS];
+    char path[PATHS]; /* of the object */
+};
+_Static_assert(sizeof(struct table) <= PAGE, "a page");
+
+/* A companion, as this process has it; of none while `nonce` is 0. It is used again, and never freed. */
+struct companion {
+    _Atomic uint64_t nonce;
+    dev_t dev; /* of the companion's file */
+    ino_t ino;
+    struct table *table; /* and the banks behind it */
+    void *presence;      /* a page mapped by the description that has the shared lock, which stays as long as it */
+    _Atomic(pz *) bank[BANKS];
+};
+
+/* ---- object.c */
+struct object {
+    int anonymous, known; /* known: its owner and mode are */
+    uint64_t dev, ino, offset;
+    uid_t uid;
+    gid_t gid;
+    mode_t mode;
+    char path[PATH_MAX + 16];
+};
+int sh_object_at(const void *at, struct object *o);
+int sh_is_mapped(uint64_t dev, uint64_t ino);
+
+/* ---- place.c */
+size_t sh_size(void);
+size_t sh_bank_at(unsigned bank);
+int sh_make_table(struct table *t, const struct object *o);
+int sh_open_place(const struct object *o, uint64_t nonce, struct companion *c);
+int sh_is_in_place(const struct object *o, const struct companion *c);
+void sh_sweep(const char *directory);
+void sh_sweep_all(void);
+
+/* ---- companion.c */
+void sh_begin(void);
+struct companion *sh_attach(const void *mutex, uint64_t nonce);
+struct companion *sh_attach_object(const struct object *o, int *why);
+struct companion *sh_find(uint64_t nonce);
+pz *sh_open_bank(struct companion *c, unsigned bank, int whole);
+static inline pz *bank_in(struct companion *c, unsigned bank)
+{
+    pz *p = atomic_load_explicit(&c->bank[bank], memory_order_acquire);
+    return p ? p : sh_open_bank(c, bank, 1);
+}
+
+/* ---- number.c */
+void sh_lock_table(struct companion *c);
+void sh_unlock_table(struct companion *c);
+int sh_number_for(struct companion *c, const struct object *o, uint32_t *number);
+int sh_give_number(struct companion *c, uint32_t number);
+
+/* ---- ids.c */
+int sh_borrow_now(pz *p);
+int sh_borrow(struct companion *c, unsigned bank, pz *p);
+void sh_wait_for_id(struct companion *c, unsigned bank, pz *p);
+void sh_give(struct companion *c, unsigned bank, pz *p);
+
+/* ---- real.c: the C library's. libpazdrig's own calls are linked to these. */
+void sh_resolve(void);
+int sh_real_init(pthread_mutex_t *, const pthread_mutexattr_t *);
+int sh_real_destroy(pthread_mutex_t *);
+int sh_real_lock(pthread_mutex_t *);
+int sh_real_trylock(pthread_mutex_t *);
+int sh_real_unlock(pthread_mutex_t *);
+int sh_real_consistent(pthread_mutex_t *);
+int sh_real_timedlock(pthread_mutex_t *, const struct timespec *);
+int sh_real_clocklock(pthread_mutex_t *, clockid_t, const struct timespec *);
+#endif

@@ -1,0 +1,160 @@
+/* LMDB as it is, over libpazdrig: writers move money between accounts and a reader adds them up, while they are killed,
+ * now and then all at once, so that the next opener makes both mutexes anew. usage: lmdb FOLDER DEATHS PROCESSES
+ * [plain] plain: no mdb_stat, mdb_dump and mdb_copy beside. */
+#include "deaths.h"
+#include <lmdb.h>
+#include <sys/stat.h>
+
+enum { ACCOUNTS = 64, EACH = 1000 };
+
+static const char *folder;
+
+static void good(int r, int line)
+{
+    if (r == 0)
+        return;
+    fprintf(stderr, "lmdb.c:%d: %s\n", line, mdb_strerror(r));
+    atomic_fetch_add(&board->errors, 1);
+    _exit(1);
+}
+#define GOOD(call) good(call, __LINE__)
+
+static MDB_env *open_it(void)
+{
+    MDB_env *env;
+    int dead;
+    GOOD(mdb_env_create(&env));
+    GOOD(mdb_env_set_mapsize(env, 512 << 20));
+    GOOD(mdb_env_set_maxreaders(env, 1000));
+    GOOD(mdb_env_open(env, folder, MDB_NOSYNC, 0600));
+    GOOD(mdb_reader_check(env, &dead));
+    return env;
+}
+
+static long get(MDB_txn *txn, MDB_dbi db, unsigned account)
+{
+    MDB_val key = {sizeof account, &account}, value;
+    long sum;
+    GOOD(mdb_get(txn, db, &key, &value));
+    memcpy(&sum, value.mv_data, sizeof sum);
+    return sum;
+}
+
+/* 0: there is no room, as a reader that sleeps or died keeps old pages. */
+static int put(MDB_txn *txn, MDB_dbi db, unsigned account, long sum)
+{
+    MDB_val key = {sizeof account, &account}, value = {sizeof sum, &sum};
+    int r = mdb_put(txn, db, &key, &value, 0);
+    if (r != MDB_MAP_FULL)
+        GOOD(r);
+    return r == 0;
+}
+
+static void make(int unused)
+{
+    MDB_env *env = open_it();
+    MDB_txn *txn;
+    MDB_dbi db;
+    (void)unused;
+    GOOD(mdb_txn_begin(env, NULL, 0, &txn));
+    GOOD(mdb_dbi_open(txn, NULL, MDB_INTEGERKEY, &db));
+    for (unsigned a = 0; a < ACCOUNTS; a++)
+        CHECK(put(txn, db, a, EACH));
+    GOOD(mdb_txn_commit(txn));
+    mdb_env_close(env);
+}
+
+static void add_up(MDB_txn *txn, MDB_dbi db)
+{
+    long sum = 0;
+    for (unsigned a = 0; a < ACCOUNTS; a++)
+        sum += get(txn, db, a);
+    if (sum != (long)ACCOUNTS * EACH) {
+        fprintf(stderr, "the accounts are %ld, not %d\n", sum, ACCOUNTS * EACH);
+        atomic_fetch_add(&board->errors, 1);
+    }
+}
+
+static int move(MDB_txn *txn, MDB_dbi db, unsigned *random)
+{
+    unsigned from = (unsigned)rand_r(random) % ACCOUNTS, to = (unsigned)rand_r(random) % ACCOUNTS;
+    return put(txn, db, from, get(txn, db, from) - 7) && put(txn, db, to, get(txn, db, to) + 7);
+}
+
+static void end(MDB_env *env, MDB_txn *txn, int whole)
+{
+    int dead, r = MDB_MAP_FULL;
+    if (whole)
+        r = mdb_txn_commit(txn);
+    else
+        mdb_txn_abort(txn);
+    if (r == MDB_MAP_FULL)
+        r = mdb_reader_check(env, &dead);
+    GOOD(r);
+}
+
+static void work(int slot)
+{
+    MDB_env *env = open_it();
+    MDB_txn *txn;
+    MDB_dbi db;
+    unsigned random = (unsigned)getpid();
+    GOOD(mdb_txn_begin(env, NULL, slot ? 0 : MDB_RDONLY, &txn));
+    GOOD(mdb_dbi_open(txn, NULL, MDB_INTEGERKEY, &db));
+    GOOD(mdb_txn_commit(txn));
+    for (;;) {
+        GOOD(mdb_txn_begin(env, NULL, slot ? 0 : MDB_RDONLY, &txn));
+        if (!slot)
+            add_up(txn, db);
+        end(env, txn, !slot || move(txn, db, &random));
+        atomic_fetch_add(&board->got_on[slot], 1);
+    }
+}
+
+static void run_beside(int k)
+{
+    char command[1024];
+    static const char *const forms[] = {"mdb_stat -e %1$s >%2$s.out", "mdb_dump %1$s >%2$s.out",
+                                        "rm -rf %2$s.copy && mkdir %2$s.copy && mdb_copy %1$s %2$s.copy && mdb_stat "
+                                        "%2$s.copy >%2$s.out && rm -rf %2$s.copy"};
+    snprintf(command, sizeof command, forms[k % 3], folder, folder);
+    if (run(command))
+        fail(__FILE__, __LINE__, command);
+}
+
+int main(int argc, char **argv)
+{
+    CHECK(argc > 3);
+    folder = argv[1];
+    int deaths = atoi(argv[2]), n = atoi(argv[3]), plain = argc > 4;
+    CHECK(n >= 2 && n <= SLOTS && mkdir(folder, 0700) == 0);
+    begin_counts();
+    CHECK(waitpid(begin(0, make), NULL, 0) > 0);
+    for (int i = 0; i < n; i++)
+        child[i] = begin(i, work);
+    for (int k = 0; k < deaths;) {
+        rest(rand() % 2000);
+        look(n);
+        int all = rand() % 50 == 0, one = rand() % n;
+        for (int i = 0; i < n; i++)
+            if (all || i == one)
+                kill(child[i], SIGKILL);
+        for (int i = 0; i < n; i++)
+            if (all || i == one) {
+                CHECK(waitpid(child[i], NULL, 0) == child[i]);
+                child[i] = begin(i, work);
+                k++;
+            }
+        if (!plain && rand() % 100 == 0)
+            run_beside(rand());
+    }
+    until_all_got_on(n);
+    for (int i = 0; i < n; i++)
+        kill_and_wait(child[i]);
+    CHECK(atomic_load(&board->errors) == 0);
+    printf("lmdb: %d deaths, %d processes: EOWNERDEAD %ld, consistent %ld, %ld inits, %ld calls\n", deaths, n,
+           atomic_load(&counts->died), atomic_load(&counts->consistent), atomic_load(&counts->inits),
+           atomic_load(&counts->calls));
+    CHECK(atomic_load(&counts->calls) > 0 && atomic_load(&counts->unusable) == 0 && atomic_load(&counts->refused) == 0);
+    return 0;
+}
