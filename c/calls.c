@@ -52,12 +52,13 @@ static void tell(unsigned t, const struct pz_call *call, const struct pz_access 
         PZ_TELL(pz_trace_return(t, call->phase.lock.reply));
 }
 
-/* Goes on with an answer until the call has returned. Out of line: it is the slow path. */
+/* Goes on with an answer until the call has returned. Out of line: it is the slow path. errno stays what it was. */
 static __attribute__((noinline)) uint32_t run_on(pz *p, unsigned t, struct pz_call *call, uint32_t answer,
                                                  uint64_t value)
 {
     struct pz_access x;
     uint32_t state;
+    int saved = errno;
     while ((state = pz_step(call, &x, answer, value)) == PZ_GOES) {
         tell(t, call, &x, state);
         pz_trace_unlock();
@@ -66,6 +67,7 @@ static __attribute__((noinline)) uint32_t run_on(pz *p, unsigned t, struct pz_ca
     }
     if (state == PZ_RETURNED)
         tell(t, call, &x, state);
+    errno = saved;
     return state == PZ_RETURNED ? call->phase.lock.reply : EINVAL;
 }
 
@@ -78,10 +80,12 @@ static __attribute__((noinline)) uint32_t run(pz *p, struct pz_call *call, unsig
     pz_trace_lock();
     PZ_TELL(pz_trace_begin(t, operation, mutex_at(call->cell), c));
     uint32_t reply = EINVAL;
+    int saved = errno;
     if (pz_begin(call, &x, operation) == PZ_GOES) {
         uint32_t answer = answer_of(p, t, &x, &value);
         reply = run_on(p, t, call, answer, value);
     }
+    errno = saved;
     pz_trace_unlock();
     return reply;
 }

@@ -42,7 +42,7 @@ static inline int find(struct ours *o, struct mutex *x)
     if (x->bank >= BANKS)
         return EINVAL;
     x->m = number - first_of(x->bank);
-    x->c = sh_find(o->nonce);
+    x->c = had(o->nonce);
     x->p = x->c ? atomic_load_explicit(&x->c->bank[x->bank], memory_order_acquire) : NULL;
     return __builtin_expect(x->p != NULL, 1) ? 0 : find_first(x);
 }
@@ -219,18 +219,57 @@ static int init(pthread_mutex_t *m, const struct object *o, int type)
 static int destroy(struct ours *o)
 {
     struct mutex x;
-    int r = find(o, &x);
+    int r = find(o, &x), state;
     if (r)
         return r;
+    pthread_setcancelstate(PTHREAD_CANCEL_DISABLE, &state);
     sh_lock_table(x.c);
     r = sh_give_number(x.c, o->number);
     if (!r)
         atomic_store(&o->kind, (uint32_t)-1);
     sh_unlock_table(x.c);
+    pthread_setcancelstate(state, NULL);
     return r;
 }
 
-/* ---- What is shown. errno stays what it was. */
+/* ---- The way of most calls: the bank is had, and the thread has an id. */
+
+static inline int at_hand(struct ours *o, struct mutex *x)
+{
+    uint32_t number = o->number;
+    x->bytes = o;
+    x->bank = bank_of(number);
+    x->m = number - first_of(x->bank);
+    x->c = &sh_all[at_of(o->nonce)];
+    if (x->bank >= BANKS || atomic_load_explicit(&x->c->nonce, memory_order_acquire) != o->nonce)
+        return 0;
+    x->p = atomic_load_explicit(&x->c->bank[x->bank], memory_order_acquire);
+    return x->p && pz_self[x->p->number].id;
+}
+
+static __attribute__((noinline)) int locked(struct ours *o, struct companion *c, pz *p, int r)
+{
+    struct mutex x = {.bytes = o, .c = c, .p = p, .bank = bank_of(o->number)};
+    return r == EDEADLK ? again(o, EDEADLK) : taken(&x, r);
+}
+
+/* ---- Others, in which errno stays what it was too. */
+
+static __attribute__((noinline)) int kept(int (*call)(struct ours *), struct ours *o)
+{
+    int saved = errno, r = call(o);
+    errno = saved;
+    return r;
+}
+
+static __attribute__((noinline)) int kept_timed(struct ours *o, clockid_t clock, const struct timespec *until)
+{
+    int saved = errno, r = timed(o, clock, until);
+    errno = saved;
+    return r;
+}
+
+/* ---- What is shown. */
 
 SHOWN int pthread_mutex_init(pthread_mutex_t *m, const pthread_mutexattr_t *a)
 {
@@ -249,14 +288,7 @@ SHOWN int pthread_mutex_init(pthread_mutex_t *m, const pthread_mutexattr_t *a)
 SHOWN int pthread_mutex_destroy(pthread_mutex_t *m)
 {
     struct ours *o = ours(m);
-    int saved = errno, state;
-    if (!o)
-        return sh_real_destroy(m);
-    pthread_setcancelstate(PTHREAD_CANCEL_DISABLE, &state);
-    int r = destroy(o);
-    pthread_setcancelstate(state, NULL);
-    errno = saved;
-    return r;
+    return o ? kept(destroy, o) : sh_real_destroy(m);
 }
 
 SHOWN int pthread_mutex_lock(pthread_mutex_t *m)
@@ -264,39 +296,11 @@ SHOWN int pthread_mutex_lock(pthread_mutex_t *m)
     struct ours *o = ours(m);
     if (!o)
         return sh_real_lock(m);
-    int saved = errno, r = lock(o);
-    errno = saved;
-    return r;
-}
-
-SHOWN int pthread_mutex_trylock(pthread_mutex_t *m)
-{
-    struct ours *o = ours(m);
-    if (!o)
-        return sh_real_trylock(m);
-    int saved = errno, r = try(o);
-    errno = saved;
-    return r;
-}
-
-SHOWN int pthread_mutex_timedlock(pthread_mutex_t *m, const struct timespec *until)
-{
-    struct ours *o = ours(m);
-    if (!o)
-        return sh_real_timedlock(m, until);
-    int saved = errno, r = timed(o, CLOCK_REALTIME, until);
-    errno = saved;
-    return r;
-}
-
-SHOWN int pthread_mutex_clocklock(pthread_mutex_t *m, clockid_t clock, const struct timespec *until)
-{
-    struct ours *o = ours(m);
-    if (!o)
-        return sh_real_clocklock(m, clock, until);
-    int saved = errno, r = timed(o, clock, until);
-    errno = saved;
-    return r;
+    struct mutex x;
+    if (!at_hand(o, &x))
+        return kept(lock, o);
+    int r = pz_mutex_lock(x.p, x.m);
+    return __builtin_expect(r == 0, 1) ? 0 : locked(o, x.c, x.p, r);
 }
 
 SHOWN int pthread_mutex_unlock(pthread_mutex_t *m)
@@ -304,17 +308,34 @@ SHOWN int pthread_mutex_unlock(pthread_mutex_t *m)
     struct ours *o = ours(m);
     if (!o)
         return sh_real_unlock(m);
-    int saved = errno, r = unlock(o);
-    errno = saved;
+    struct mutex x;
+    if (o->count || !at_hand(o, &x))
+        return kept(unlock, o);
+    int r = pz_mutex_unlock(x.p, x.m); /* from here on others may unmap its bytes */
+    sh_give(x.c, x.bank, x.p);
     return r;
+}
+
+SHOWN int pthread_mutex_trylock(pthread_mutex_t *m)
+{
+    struct ours *o = ours(m);
+    return o ? kept(try, o) : sh_real_trylock(m);
+}
+
+SHOWN int pthread_mutex_timedlock(pthread_mutex_t *m, const struct timespec *until)
+{
+    struct ours *o = ours(m);
+    return o ? kept_timed(o, CLOCK_REALTIME, until) : sh_real_timedlock(m, until);
+}
+
+SHOWN int pthread_mutex_clocklock(pthread_mutex_t *m, clockid_t clock, const struct timespec *until)
+{
+    struct ours *o = ours(m);
+    return o ? kept_timed(o, clock, until) : sh_real_clocklock(m, clock, until);
 }
 
 SHOWN int pthread_mutex_consistent(pthread_mutex_t *m)
 {
     struct ours *o = ours(m);
-    if (!o)
-        return sh_real_consistent(m);
-    int saved = errno, r = consistent(o);
-    errno = saved;
-    return r;
+    return o ? kept(consistent, o) : sh_real_consistent(m);
 }

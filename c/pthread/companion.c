@@ -4,10 +4,8 @@
 #include <string.h>
 #include <sys/mman.h>
 
-enum { COMPANIONS = 64 };
-
-/* Each stands at the place that its nonce says, or behind that. Under `adding` alone they change. */
-static struct companion all[COMPANIONS];
+/* Under `adding` alone they change. */
+struct companion sh_all[COMPANIONS];
 static struct companion *anonymous;
 static pthread_mutex_t adding = PTHREAD_MUTEX_INITIALIZER;
 static pthread_once_t once = PTHREAD_ONCE_INIT;
@@ -15,7 +13,7 @@ static pthread_once_t once = PTHREAD_ONCE_INIT;
 struct companion *sh_find(uint64_t nonce)
 {
     for (unsigned i = 0; i < COMPANIONS && nonce; i++) {
-        struct companion *c = &all[((nonce >> 58) + i) % COMPANIONS];
+        struct companion *c = &sh_all[(at_of(nonce) + i) % COMPANIONS];
         if (atomic_load_explicit(&c->nonce, memory_order_acquire) == nonce)
             return c;
     }
@@ -25,7 +23,7 @@ struct companion *sh_find(uint64_t nonce)
 static struct companion *free_place(uint64_t nonce)
 {
     for (unsigned i = 0; i < COMPANIONS; i++) {
-        struct companion *c = &all[((nonce >> 58) + i) % COMPANIONS];
+        struct companion *c = &sh_all[(at_of(nonce) + i) % COMPANIONS];
         if (!atomic_load(&c->nonce))
             return c;
     }
@@ -56,7 +54,7 @@ static void unmap(struct companion *c)
 static void let_go_of_unused(void)
 {
     for (unsigned i = 0; i < COMPANIONS; i++) {
-        struct companion *c = &all[i];
+        struct companion *c = &sh_all[i];
         if (!atomic_load(&c->nonce) || c == anonymous || sh_is_mapped(c->table->dev, c->table->ino) || !is_idle(c))
             continue;
         atomic_store(&c->nonce, 0);
@@ -120,7 +118,7 @@ struct companion *sh_attach(const void *mutex, uint64_t nonce)
 static struct companion *had_of(const struct object *o)
 {
     for (unsigned i = 0; i < COMPANIONS; i++) {
-        struct companion *c = &all[i];
+        struct companion *c = &sh_all[i];
         if (atomic_load(&c->nonce) && c->table->dev == o->dev && c->table->ino == o->ino && sh_is_in_place(o, c))
             return c;
     }
@@ -199,9 +197,9 @@ static __attribute__((destructor)) void unloaded(void)
     if (sh_real_trylock(&adding))
         return;
     for (unsigned i = 0; i < COMPANIONS; i++)
-        if (atomic_load(&all[i].nonce) && all[i].presence) {
-            munmap(all[i].presence, PAGE);
-            all[i].presence = NULL;
+        if (atomic_load(&sh_all[i].nonce) && sh_all[i].presence) {
+            munmap(sh_all[i].presence, PAGE);
+            sh_all[i].presence = NULL;
             any = 1;
         }
     if (any)

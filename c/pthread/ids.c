@@ -33,7 +33,7 @@ void sh_wait_for_id(struct companion *c, unsigned bank, pz *p)
         atomic_store(wanted, 1); /* others may wait still */
 }
 
-int sh_borrow(struct companion *c, unsigned bank, pz *p)
+int sh_borrow_slowly(struct companion *c, unsigned bank, pz *p)
 {
     int r;
     while ((r = sh_borrow_now(p)) == EAGAIN)
@@ -41,22 +41,15 @@ int sh_borrow(struct companion *c, unsigned bank, pz *p)
     return r;
 }
 
-static __attribute__((noinline)) void give_back(struct companion *c, unsigned bank, pz *p)
+/* errno stays what it was. */
+void sh_give_back(struct companion *c, unsigned bank, pz *p)
 {
+    int saved = errno;
     _Atomic uint32_t *wanted = &c->table->ids[bank].wanted, *returned = &c->table->ids[bank].returned;
     pz_give_back(p);
     if (atomic_load(wanted) && atomic_exchange(wanted, 0)) {
         atomic_fetch_add(returned, 1);
         syscall(SYS_futex, returned, FUTEX_WAKE, 1, NULL, NULL, 0);
     }
-}
-
-/* At the end of a call. */
-void sh_give(struct companion *c, unsigned bank, pz *p)
-{
-    struct self *self = &pz_self[p->number];
-    if (self->held || !self->id)
-        return;
-    if (self->id > KEPT || atomic_load_explicit(&c->table->ids[bank].wanted, memory_order_relaxed))
-        give_back(c, bank, p);
+    errno = saved;
 }

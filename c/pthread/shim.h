@@ -25,7 +25,10 @@ _Static_assert(offsetof(struct ours, kind) == offsetof(pthread_mutex_t, __data._
 /* ---- Banks: a companion has room for 32,768 mutexes, in files of libpazdrig one behind the other; of them as many are
  * made as are used. Numbers count through all. */
 enum { BANKS = 10, PAGE = 4096, PATHS = 3072, KEPT = 48 };
-static inline unsigned first_of(unsigned bank) { return bank < 3 ? (unsigned[]){0, 16, 256}[bank] : 4096 * (bank - 2); }
+static inline unsigned first_of(unsigned bank)
+{
+    return bank == 0 ? 0 : bank == 1 ? 16 : bank == 2 ? 256 : 4096 * (bank - 2);
+}
 static inline unsigned count_of(unsigned bank) { return first_of(bank + 1) - first_of(bank); }
 static inline unsigned bank_of(uint32_t n) { return n < 16 ? 0 : n < 256 ? 1 : 2 + n / 4096; }
 
@@ -83,11 +86,19 @@ int sh_is_in_place(const struct object *o, const struct companion *c);
 void sh_sweep(const char *directory);
 void sh_sweep_all(void);
 
-/* ---- companion.c */
+/* ---- companion.c: each stands at the place that its nonce says, or behind that. */
+enum { COMPANIONS = 64 };
+extern struct companion sh_all[COMPANIONS];
 void sh_begin(void);
 struct companion *sh_attach(const void *mutex, uint64_t nonce);
 struct companion *sh_attach_object(const struct object *o, int *why);
 struct companion *sh_find(uint64_t nonce);
+static inline unsigned at_of(uint64_t nonce) { return (unsigned)(nonce >> 58); }
+static inline struct companion *had(uint64_t nonce)
+{
+    struct companion *c = &sh_all[at_of(nonce)];
+    return atomic_load_explicit(&c->nonce, memory_order_acquire) == nonce ? c : sh_find(nonce);
+}
 pz *sh_open_bank(struct companion *c, unsigned bank, int whole);
 static inline pz *bank_in(struct companion *c, unsigned bank)
 {
@@ -103,9 +114,21 @@ int sh_give_number(struct companion *c, uint32_t number);
 
 /* ---- ids.c */
 int sh_borrow_now(pz *p);
-int sh_borrow(struct companion *c, unsigned bank, pz *p);
+int sh_borrow_slowly(struct companion *c, unsigned bank, pz *p);
+static inline int sh_borrow(struct companion *c, unsigned bank, pz *p)
+{
+    return __builtin_expect(pz_self[p->number].id != 0, 1) ? 0 : sh_borrow_slowly(c, bank, p);
+}
 void sh_wait_for_id(struct companion *c, unsigned bank, pz *p);
-void sh_give(struct companion *c, unsigned bank, pz *p);
+void sh_give_back(struct companion *c, unsigned bank, pz *p);
+/* At the end of a call. */
+static inline void sh_give(struct companion *c, unsigned bank, pz *p)
+{
+    struct self *self = &pz_self[p->number];
+    if (!self->held && self->id &&
+        (self->id > KEPT || atomic_load_explicit(&c->table->ids[bank].wanted, memory_order_relaxed)))
+        sh_give_back(c, bank, p);
+}
 
 /* ---- real.c: the C library's. libpazdrig's own calls are linked to these. */
 void sh_resolve(void);
