@@ -24,7 +24,7 @@ _Static_assert(offsetof(struct ours, kind) == offsetof(pthread_mutex_t, __data._
 
 /* ---- Banks: a companion has room for 32,768 mutexes, in files of libpazdrig one behind the other; of them as many are
  * made as are used. Numbers count through all. */
-enum { BANKS = 10, PAGE = 4096, PATHS = 3072, KEPT = 48 };
+enum { BANKS = 10, PAGE = 4096, PATHS = 3072, KEPT = 16 };
 static inline unsigned first_of(unsigned bank)
 {
     return bank == 0 ? 0 : bank == 1 ? 16 : bank == 2 ? 256 : 4096 * (bank - 2);

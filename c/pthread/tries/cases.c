@@ -1,0 +1,577 @@
+/* Each case of a companion once: who comes, forks, execs, closes all descriptors, removes it, or is killed while it is
+ * made. usage: cases FOLDER; libpazdrig_pthread.so is loaded in front, and PAZDRIG_DIR is a folder of its own. */
+#include "../../tries/try.h"
+#include <dirent.h>
+#include <fcntl.h>
+#include <pthread.h>
+#include <sched.h>
+#include <sys/mount.h>
+#include <sys/prctl.h>
+#include <sys/shm.h>
+#include <sys/stat.h>
+
+enum { OURS = 0x7a61700c, MOST = 32768, IDS = 64 };
+
+static const char *folder, *self;
+
+static int is_ours(const pthread_mutex_t *m) { return m->__data.__kind == OURS; }
+
+static int init(pthread_mutex_t *m)
+{
+    pthread_mutexattr_t a;
+    pthread_mutexattr_init(&a);
+    pthread_mutexattr_setpshared(&a, PTHREAD_PROCESS_SHARED);
+    pthread_mutexattr_setrobust(&a, PTHREAD_MUTEX_ROBUST);
+    pthread_mutexattr_settype(&a, PTHREAD_MUTEX_ERRORCHECK);
+    memset(m, 0, sizeof *m);
+    return pthread_mutex_init(m, &a);
+}
+
+static const char *file(const char *name)
+{
+    static char path[4][512];
+    static int next;
+    char *p = path[next++ % 4];
+    snprintf(p, sizeof path[0], "%s/%s", folder, name);
+    return p;
+}
+
+static void *map_fd(int fd, size_t size, int how)
+{
+    void *p = mmap(NULL, size, PROT_READ | PROT_WRITE, how, fd, 0);
+    CHECK(p != MAP_FAILED);
+    close(fd);
+    return p;
+}
+
+static pthread_mutex_t *map(const char *path, size_t mutexes)
+{
+    int fd = open(path, O_RDWR | O_CREAT, 0600);
+    size_t size = mutexes * sizeof(pthread_mutex_t);
+    struct stat st;
+    CHECK(fd >= 0 && fstat(fd, &st) == 0 && ((size_t)st.st_size >= size || ftruncate(fd, (off_t)size) == 0));
+    return map_fd(fd, size, MAP_SHARED);
+}
+
+/* How many companions there are. */
+static int companions(void)
+{
+    DIR *d = opendir(getenv("PAZDRIG_DIR"));
+    struct dirent *e;
+    int n = 0;
+    CHECK(d);
+    while ((e = readdir(d)))
+        n += e->d_name[0] != '.';
+    closedir(d);
+    return n;
+}
+
+static void remove_companions(void)
+{
+    DIR *d = opendir(getenv("PAZDRIG_DIR"));
+    struct dirent *e;
+    CHECK(d);
+    while ((e = readdir(d)))
+        if (e->d_name[0] != '.')
+            CHECK(unlinkat(dirfd(d), e->d_name, 0) == 0);
+    closedir(d);
+}
+
+/* ---- Another process, which comes by exec: what its call answers. */
+static int one_call(const char *call, pthread_mutex_t *m)
+{
+    struct timespec past = {1, 0};
+    pthread_cond_t c = PTHREAD_COND_INITIALIZER;
+    if (!strcmp(call, "lock") || !strcmp(call, "die"))
+        return pthread_mutex_lock(m);
+    if (!strcmp(call, "trylock"))
+        return pthread_mutex_trylock(m);
+    if (!strcmp(call, "timedlock"))
+        return pthread_mutex_timedlock(m, &past);
+    if (!strcmp(call, "unlock"))
+        return pthread_mutex_unlock(m);
+    if (!strcmp(call, "consistent"))
+        return pthread_mutex_consistent(m);
+    if (!strcmp(call, "destroy"))
+        return pthread_mutex_destroy(m);
+    if (!strcmp(call, "init"))
+        return init(m);
+    return pthread_cond_timedwait(&c, m, &past);
+}
+
+static int newcomer(int argc, char **argv)
+{
+    CHECK(argc > 4);
+    pthread_mutex_t *m = map(argv[2], (size_t)atoi(argv[3]) + 1) + atoi(argv[3]);
+    int r = one_call(argv[4], m);
+    if (!strcmp(argv[4], "die"))
+        return r;
+    if (r == EOWNERDEAD)
+        pthread_mutex_consistent(m);
+    if (strstr(argv[4], "lock") && (r == 0 || r == EOWNERDEAD))
+        pthread_mutex_unlock(m);
+    return r;
+}
+
+static int comes(const char *path, int index, const char *call, int with)
+{
+    char number[16];
+    snprintf(number, sizeof number, "%d", index);
+    pid_t it = fork();
+    int status;
+    CHECK(it >= 0);
+    if (!it) {
+        if (!with)
+            unsetenv("LD_PRELOAD");
+        execl(self, self, "newcomer", path, number, call, (char *)NULL);
+        _exit(126);
+    }
+    CHECK(waitpid(it, &status, 0) == it && WIFEXITED(status));
+    return WEXITSTATUS(status);
+}
+
+/* A child that does it and ends well. */
+static void in_child(void (*what)(void))
+{
+    pid_t it = fork();
+    int status;
+    CHECK(it >= 0);
+    if (!it) {
+        prctl(PR_SET_PDEATHSIG, SIGKILL);
+        what();
+        _exit(0);
+    }
+    CHECK(waitpid(it, &status, 0) == it && status == 0);
+}
+
+static void newcomers(void)
+{
+    const char *path = file("newcomers");
+    pthread_mutex_t *m = map(path, 2);
+    SAME(init(m), 0);
+    CHECK(is_ours(m));
+    SAME(comes(path, 0, "lock", 1), 0);
+    SAME(comes(path, 0, "die", 1), 0);
+    SAME(comes(path, 0, "trylock", 1), EOWNERDEAD);
+    SAME(pthread_mutex_lock(m), 0);
+    SAME(comes(path, 0, "trylock", 1), EBUSY);
+    SAME(comes(path, 0, "unlock", 1), EPERM);
+    SAME(pthread_mutex_unlock(m), 0);
+    unlink(path);
+}
+
+/* Who hasn't it loaded is refused, and leaves the bytes as they are. */
+static void without_it(void)
+{
+    static const char *const calls[] = {"lock", "trylock", "timedlock", "unlock", "consistent", "wait"};
+    const char *path = file("without");
+    pthread_mutex_t *m = map(path, 1), was;
+    SAME(init(m), 0);
+    was = *m;
+    for (size_t i = 0; i < sizeof calls / sizeof *calls; i++)
+        SAME(comes(path, 0, calls[i], 0), EINVAL);
+    SAME(comes(path, 0, "destroy", 0), EBUSY);
+    CHECK(!memcmp(&was, m, sizeof was));
+    SAME(comes(path, 0, "wait", 1), EINVAL);
+    SAME(pthread_mutex_lock(m), 0);
+    SAME(pthread_mutex_unlock(m), 0);
+    unlink(path);
+}
+
+/* Who has it goes on with it; who comes is refused, until a first opener makes the mutexes anew. */
+static void a_companion_is_removed(void)
+{
+    const char *path = file("removed");
+    pthread_mutex_t *m = map(path, 1);
+    SAME(init(m), 0);
+    SAME(pthread_mutex_lock(m), 0);
+    remove_companions();
+    SAME(comes(path, 0, "lock", 1), EINVAL);
+    CHECK(companions() == 0);
+    SAME(pthread_mutex_unlock(m), 0);
+    SAME(pthread_mutex_lock(m), 0);
+    SAME(pthread_mutex_unlock(m), 0);
+    SAME(comes(path, 0, "init", 1), 0);
+    SAME(comes(path, 0, "lock", 1), 0);
+    SAME(pthread_mutex_lock(m), 0);
+    SAME(comes(path, 0, "trylock", 1), EBUSY);
+    SAME(pthread_mutex_unlock(m), 0);
+    unlink(path);
+}
+
+/* ---- Descriptors are closed: nothing depends on one. */
+static void closes_all(void)
+{
+    const char *path = file("closed"), *another = file("another");
+    pthread_mutex_t *m = map(path, 600);
+    SAME(init(m), 0);
+    close_range(3, ~0u, 0);
+    SAME(pthread_mutex_lock(m), 0);
+    SAME(comes(path, 0, "trylock", 1), EBUSY);
+    for (int i = 1; i < 600; i++)
+        SAME(init(&m[i]), 0);
+    unlink(path);
+    int n = companions();
+    SAME(comes(another, 0, "init", 1), 0); /* looks over the folder, where this one's companion is in use */
+    CHECK(companions() == n + 1);
+    unlink(another);
+    SAME(pthread_mutex_unlock(m), 0);
+}
+
+/* Without a name, shared by fork: closed descriptors do no harm, a death is told, and numbers come back. */
+static void memory_without_a_name(void)
+{
+    pthread_mutex_t *m = map_fd(-1, 4096, MAP_SHARED | MAP_ANONYMOUS);
+    close_range(3, ~0u, 0);
+    SAME(init(m), 0);
+    CHECK(is_ours(m));
+    pid_t it = fork();
+    if (!it)
+        _exit(pthread_mutex_lock(m));
+    CHECK(waitpid(it, NULL, 0) == it);
+    SAME(pthread_mutex_trylock(m), EOWNERDEAD);
+    SAME(pthread_mutex_consistent(m), 0);
+    SAME(pthread_mutex_unlock(m), 0);
+    SAME(pthread_mutex_destroy(m), 0);
+    for (int i = 0; i < 50000; i++) {
+        SAME(init(&m[i % 100]), 0);
+        SAME(pthread_mutex_destroy(&m[i % 100]), 0);
+    }
+}
+
+/* Memory that no other process has is the C library's. */
+static void private_memory(void)
+{
+    static pthread_mutex_t here;
+    int fd = open(file("private"), O_RDWR | O_CREAT, 0600);
+    CHECK(fd >= 0 && ftruncate(fd, 4096) == 0);
+    pthread_mutex_t *m = map_fd(fd, 4096, MAP_PRIVATE);
+    SAME(init(&here), 0);
+    SAME(init(m), 0);
+    CHECK(!is_ours(&here) && !is_ours(m));
+    SAME(pthread_mutex_lock(&here), 0);
+    SAME(pthread_mutex_lock(&here), EDEADLK);
+    SAME(pthread_mutex_unlock(&here), 0);
+    unlink(file("private"));
+}
+
+static void dies_with(pthread_mutex_t *m)
+{
+    SAME(init(m), 0);
+    CHECK(is_ours(m));
+    pid_t it = fork();
+    if (!it)
+        _exit(pthread_mutex_lock(m));
+    CHECK(waitpid(it, NULL, 0) == it);
+    SAME(pthread_mutex_lock(m), EOWNERDEAD);
+    SAME(pthread_mutex_consistent(m), 0);
+    SAME(pthread_mutex_unlock(m), 0);
+}
+
+static void other_memory(void)
+{
+    int fd = memfd_create("try", 0);
+    CHECK(fd >= 0 && ftruncate(fd, 4096) == 0);
+    dies_with(map_fd(fd, 4096, MAP_SHARED));
+    int id = shmget(IPC_PRIVATE, 4096, 0600);
+    pthread_mutex_t *m = shmat(id, NULL, 0);
+    CHECK(id >= 0 && m != (void *)-1);
+    dies_with(m);
+    CHECK(shmdt(m) == 0 && (m = shmat(id, NULL, 0)) != (void *)-1);
+    SAME(pthread_mutex_lock(m), 0);
+    SAME(pthread_mutex_unlock(m), 0);
+    CHECK(shmctl(id, IPC_RMID, NULL) == 0);
+    fd = open(file("nameless"), O_RDWR | O_CREAT, 0600);
+    CHECK(fd >= 0 && ftruncate(fd, 4096) == 0 && unlink(file("nameless")) == 0);
+    dies_with(map_fd(fd, 4096, MAP_SHARED));
+}
+
+/* ---- More threads than ids. */
+static pthread_mutex_t *crowd;
+static long count;
+
+static void *counts(void *unused)
+{
+    (void)unused;
+    for (int i = 0; i < 500; i++) {
+        SAME(pthread_mutex_lock(crowd), 0);
+        count++;
+        SAME(pthread_mutex_unlock(crowd), 0);
+    }
+    return NULL;
+}
+
+static void make_crowd(void)
+{
+    for (int i = 0; i < 100; i++)
+        SAME(init(&crowd[i]), 0);
+}
+
+static void many_threads(void)
+{
+    pthread_t t[120];
+    crowd = map(file("crowd"), 100);
+    in_child(make_crowd); /* so that this thread has no id in the second bank */
+    for (int i = 0; i < 120; i++)
+        CHECK(!pthread_create(&t[i], NULL, counts, NULL));
+    for (int i = 0; i < 120; i++)
+        CHECK(!pthread_join(t[i], NULL));
+    CHECK(count == 120 * 500);
+}
+
+static void many_processes(void)
+{
+    _Atomic long *got = shared(sizeof *got);
+    pid_t it[100];
+    for (int i = 0; i < 100; i++)
+        if (!(it[i] = fork())) {
+            for (int k = 0; k < 200; k++) {
+                SAME(pthread_mutex_lock(crowd), 0);
+                atomic_store(got, atomic_load(got) + 1);
+                SAME(pthread_mutex_unlock(crowd), 0);
+            }
+            pause(); /* it may keep its id: others get on */
+        }
+    while (atomic_load(got) < 100 * 200) {
+        for (int i = 0; i < 100; i++)
+            CHECK(waitpid(it[i], NULL, WNOHANG) == 0);
+        rest(1000);
+    }
+    for (int i = 0; i < 100; i++)
+        kill_and_wait(it[i]);
+}
+
+static _Atomic int owning, let_go;
+static void *owns_one(void *m)
+{
+    SAME(pthread_mutex_lock(m), 0);
+    atomic_fetch_add(&owning, 1);
+    while (!atomic_load(&let_go))
+        rest(1000);
+    SAME(pthread_mutex_unlock(m), 0);
+    return NULL;
+}
+
+/* All ids are had by threads that own: who comes is told what is busy, and waits for what is free. Of the mutexes that
+ * it may lock each is in the second bank, where there are as many ids. */
+static void all_ids_are_had(void)
+{
+    pthread_t t[IDS];
+    for (int i = 0; i < IDS; i++)
+        CHECK(!pthread_create(&t[i], NULL, owns_one, &crowd[30 + i]));
+    while (atomic_load(&owning) < IDS)
+        rest(1000);
+    SAME(comes(file("crowd"), 31, "trylock", 1), EBUSY);
+    SAME(comes(file("crowd"), 31, "timedlock", 1), ETIMEDOUT);
+    pid_t it = fork();
+    if (!it)
+        _exit(comes(file("crowd"), 96, "lock", 1));
+    until_asleep(it);
+    atomic_store(&let_go, 1);
+    int status;
+    CHECK(waitpid(it, &status, 0) == it && status == 0);
+    for (int i = 0; i < IDS; i++)
+        CHECK(!pthread_join(t[i], NULL));
+    unlink(file("crowd"));
+}
+
+/* ---- First openers are killed while they make mutexes: the next one makes them all. */
+static void first_openers_are_killed(void)
+{
+    enum { MUTEXES = 300, DEATHS = 300 };
+    const char *path = file("openers");
+    for (int k = 0; k < DEATHS; k++) {
+        if (k % 3 == 0)
+            unlink(path);
+        pid_t it = fork();
+        if (!it)
+            for (pthread_mutex_t *m = map(path, MUTEXES);;)
+                for (int i = 0; i < MUTEXES; i++) {
+                    SAME(init(&m[i]), 0);
+                    SAME(pthread_mutex_lock(&m[i]), 0);
+                    if (i % 2)
+                        SAME(pthread_mutex_unlock(&m[i]), 0);
+                    else if (k % 2)
+                        pthread_mutex_unlock(&m[i]);
+                }
+        rest(k * 13 % 1000);
+        kill_and_wait(it);
+        pthread_mutex_t *m = map(path, MUTEXES);
+        for (int i = 0; i < MUTEXES; i++) {
+            SAME(init(&m[i]), 0);
+            SAME(pthread_mutex_lock(&m[i]), 0);
+            SAME(pthread_mutex_unlock(&m[i]), 0);
+        }
+        munmap(m, MUTEXES * sizeof *m);
+    }
+    unlink(path);
+}
+
+/* ---- Room. */
+static void as_many_as_there_are(void)
+{
+    const char *path = file("most");
+    pthread_mutex_t *m = map(path, MOST + 1);
+    int n = 0, r;
+    while ((r = init(&m[n])) == 0)
+        n++;
+    SAME(r, EAGAIN);
+    CHECK(n > 10009 && n <= MOST);
+    SAME(pthread_mutex_destroy(&m[77]), 0);
+    SAME(pthread_mutex_lock(&m[77]), EINVAL);
+    SAME(init(&m[78]), 0);
+    SAME(pthread_mutex_lock(&m[n - 1]), 0);
+    SAME(pthread_mutex_unlock(&m[n - 1]), 0);
+    printf("cases: %d mutexes in one object\n", n);
+    unlink(path);
+}
+
+/* Of those that it has unmapped a process lets go. */
+static void many_objects(void)
+{
+    for (int i = 0; i < 300; i++) {
+        char name[32];
+        snprintf(name, sizeof name, "object%d", i);
+        pthread_mutex_t *m = map(file(name), 20);
+        for (int k = 0; k < 20; k++) {
+            SAME(init(&m[k]), 0);
+            SAME(pthread_mutex_lock(&m[k]), 0);
+            SAME(pthread_mutex_unlock(&m[k]), 0);
+        }
+        munmap(m, 20 * sizeof *m);
+        unlink(file(name));
+    }
+}
+
+/* Somebody lives and owns it: the mutex that is made over it is another one. */
+static void made_over_one_that_is_owned(void)
+{
+    const char *path = file("over");
+    pthread_mutex_t *m = map(path, 1);
+    SAME(init(m), 0);
+    SAME(pthread_mutex_lock(m), 0);
+    SAME(comes(path, 0, "init", 1), 0);
+    SAME(comes(path, 0, "lock", 1), 0);
+    SAME(pthread_mutex_unlock(m), EPERM);
+    SAME(pthread_mutex_lock(m), 0);
+    SAME(pthread_mutex_unlock(m), 0);
+    unlink(path);
+}
+
+/* ---- A fork while another thread of the process comes to objects. */
+static _Atomic int stop;
+static void *comes_to_objects(void *unused)
+{
+    char name[32];
+    (void)unused;
+    for (int i = 0; !atomic_load(&stop); i++) {
+        snprintf(name, sizeof name, "forks%d", i % 100);
+        char path[512];
+        snprintf(path, sizeof path, "%s/%s", folder, name);
+        pthread_mutex_t *m = map(path, 1);
+        SAME(init(m), 0);
+        munmap(m, sizeof *m);
+        unlink(path);
+    }
+    return NULL;
+}
+
+static void forks_meanwhile(void)
+{
+    pthread_t t;
+    const char *path = file("child");
+    pthread_mutex_t *m = map(path, 1);
+    SAME(init(m), 0);
+    CHECK(!pthread_create(&t, NULL, comes_to_objects, NULL));
+    for (int i = 0; i < 200; i++) {
+        pid_t it = fork();
+        int status;
+        if (!it) {
+            pthread_mutex_t *other = map(path, 2);
+            _exit(init(&other[1]) || pthread_mutex_lock(m) || pthread_mutex_unlock(m));
+        }
+        CHECK(waitpid(it, &status, 0) == it && status == 0);
+    }
+    atomic_store(&stop, 1);
+    CHECK(!pthread_join(t, NULL));
+    unlink(path);
+}
+
+/* A folder of companions that is full: told, and no SIGBUS. */
+static void no_room(void)
+{
+    char small[512];
+    snprintf(small, sizeof small, "%s/small", folder);
+    CHECK(mkdir(small, 0700) == 0);
+    if (unshare(CLONE_NEWNS) < 0 || mount("none", "/", NULL, MS_REC | MS_PRIVATE, NULL) < 0 ||
+        mount("try", small, "tmpfs", 0, "size=64k") < 0) {
+        puts("cases: a full folder isn't tried, as nothing may be mounted here");
+        return;
+    }
+    setenv("PAZDRIG_DIR", small, 1);
+    pthread_mutex_t *m = map(file("full"), 300);
+    int n = 0, r;
+    while (n < 300 && (r = init(&m[n])) == 0)
+        n++;
+    SAME(r, EAGAIN);
+    CHECK(n >= 1);
+    SAME(pthread_mutex_lock(m), 0);
+    SAME(pthread_mutex_unlock(m), 0);
+}
+
+/* Another user, who may write the object, comes to its companion. */
+static void another_user(void)
+{
+    const char *path = file("user");
+    if (geteuid() != 0) {
+        puts("cases: another user isn't tried, as this one isn't root");
+        return;
+    }
+    CHECK(chmod(folder, 0777) == 0 && chmod(getenv("PAZDRIG_DIR"), 01777) == 0);
+    pthread_mutex_t *m = map(path, 1);
+    CHECK(chmod(path, 0666) == 0);
+    SAME(init(m), 0);
+    pid_t it = fork();
+    int status;
+    if (!it) {
+        CHECK(setgid(65534) == 0 && setuid(65534) == 0);
+        SAME(comes(path, 0, "lock", 1), 0);
+        SAME(comes(file("own"), 0, "init", 1), 0);
+        SAME(comes(file("own"), 0, "die", 1), 0);
+        _exit(0);
+    }
+    CHECK(waitpid(it, &status, 0) == it && status == 0);
+    SAME(comes(file("own"), 0, "lock", 1), EOWNERDEAD);
+    unlink(file("own"));
+    unlink(path);
+}
+
+int main(int argc, char **argv)
+{
+    if (argc > 1 && !strcmp(argv[1], "newcomer"))
+        return newcomer(argc, argv);
+    CHECK(argc > 1 && getenv("LD_PRELOAD") && getenv("PAZDRIG_DIR"));
+    setlinebuf(stdout);
+    alarm(300);
+    self = argv[0];
+    folder = argv[1];
+    in_child(newcomers);
+    in_child(without_it);
+    in_child(a_companion_is_removed);
+    in_child(closes_all);
+    in_child(memory_without_a_name);
+    in_child(private_memory);
+    in_child(other_memory);
+    many_threads();
+    many_processes();
+    all_ids_are_had();
+    in_child(first_openers_are_killed);
+    in_child(as_many_as_there_are);
+    in_child(many_objects);
+    in_child(made_over_one_that_is_owned);
+    in_child(forks_meanwhile);
+    in_child(no_room);
+    in_child(another_user);
+    puts("cases: each told what it should be");
+    return 0;
+}
