@@ -220,6 +220,9 @@ static int map(int fd, struct companion *c)
     return 0;
 }
 
+/* How often it may change under the opener's hands: others get on each time. */
+enum { MOST_TIMES = 10000 };
+
 /* The object's companion. nonce 0: a first opener asks, and it is made where there is none. Else the one of this nonce,
  * or EINVAL: by a mutex's bytes none is made, since those who had the old one would own them too. */
 int sh_open_place(const struct object *o, uint64_t nonce, struct companion *c)
@@ -228,7 +231,7 @@ int sh_open_place(const struct object *o, uint64_t nonce, struct companion *c)
     int r = find_place(o, !nonce, folder, path), made = 0;
     if (r)
         return r;
-    for (;;) {
+    for (int times = 0; times < MOST_TIMES; times++) {
         int fd = open(path, O_RDWR | O_CLOEXEC | O_NOFOLLOW);
         if (fd < 0 && (errno != ENOENT || nonce))
             return errno == EACCES ? EPERM : errno == ENOENT ? EINVAL : errno;

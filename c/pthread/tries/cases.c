@@ -94,7 +94,7 @@ static int one_call(const char *call, pthread_mutex_t *m)
         return pthread_mutex_consistent(m);
     if (!strcmp(call, "destroy"))
         return pthread_mutex_destroy(m);
-    if (!strcmp(call, "init"))
+    if (!strcmp(call, "init") || !strcmp(call, "last"))
         return init(m);
     return pthread_cond_timedwait(&c, m, &past);
 }
@@ -104,6 +104,8 @@ static int newcomer(int argc, char **argv)
     CHECK(argc > 4);
     pthread_mutex_t *m = map(argv[2], (size_t)atoi(argv[3]) + 1) + atoi(argv[3]);
     int r = one_call(argv[4], m);
+    if (!strcmp(argv[4], "last"))
+        unlink(argv[2]); /* so that its own companion goes with it */
     if (!strcmp(argv[4], "die"))
         return r;
     if (r == EOWNERDEAD)
@@ -199,6 +201,23 @@ static void a_companion_is_removed(void)
     unlink(path);
 }
 
+/* The system was started anew, as its companion says: nobody lives by it. */
+static void an_earlier_boot(void)
+{
+    const char *path = file("boot");
+    struct stat st;
+    char companion[600];
+    CHECK(comes(path, 0, "init", 1) == 0 && stat(path, &st) == 0);
+    snprintf(companion, sizeof companion, "%s/%llx-%llx", getenv("PAZDRIG_DIR"), (unsigned long long)st.st_dev,
+             (unsigned long long)st.st_ino);
+    int fd = open(companion, O_RDWR);
+    CHECK(fd >= 0 && pwrite(fd, "earlier", 7, 32) == 7 && close(fd) == 0);
+    SAME(comes(path, 0, "lock", 1), EINVAL);
+    SAME(comes(path, 0, "init", 1), 0);
+    SAME(comes(path, 0, "lock", 1), 0);
+    unlink(path);
+}
+
 /* ---- Descriptors are closed: nothing depends on one. */
 static void closes_all(void)
 {
@@ -221,7 +240,8 @@ static void closes_all(void)
 /* Without a name, shared by fork: closed descriptors do no harm, a death is told, and numbers come back. */
 static void memory_without_a_name(void)
 {
-    pthread_mutex_t *m = map_fd(-1, 4096, MAP_SHARED | MAP_ANONYMOUS);
+    enum { TIMES = 2 * MOST };
+    pthread_mutex_t *m = map_fd(-1, TIMES * sizeof *m, MAP_SHARED | MAP_ANONYMOUS);
     close_range(3, ~0u, 0);
     SAME(init(m), 0);
     CHECK(is_ours(m));
@@ -233,9 +253,9 @@ static void memory_without_a_name(void)
     SAME(pthread_mutex_consistent(m), 0);
     SAME(pthread_mutex_unlock(m), 0);
     SAME(pthread_mutex_destroy(m), 0);
-    for (int i = 0; i < 50000; i++) {
-        SAME(init(&m[i % 100]), 0);
-        SAME(pthread_mutex_destroy(&m[i % 100]), 0);
+    for (int i = 0; i < TIMES; i++) {
+        SAME(init(&m[i]), 0);
+        SAME(pthread_mutex_destroy(&m[i]), 0);
     }
 }
 
@@ -558,6 +578,7 @@ int main(int argc, char **argv)
     in_child(newcomers);
     in_child(without_it);
     in_child(a_companion_is_removed);
+    in_child(an_earlier_boot);
     in_child(closes_all);
     in_child(memory_without_a_name);
     in_child(private_memory);
