@@ -95,8 +95,20 @@ static int is_owned(const struct mutex *x)
     return w && w <= THREADS && pz_fate(x->p, w) == LIVES && owner(x) == w;
 }
 
+/* Without an id. `waits`: it may sleep until one is free. EAGAIN: it is to try again. */
+static int without_id(const struct mutex *x, int waits)
+{
+    if (is_owned(x))
+        return EBUSY;
+    if (waits)
+        sh_wait_for_id(x->c, x->bank, x->p);
+    else
+        sh_ask_for_id(x->c, x->bank);
+    return waits ? EAGAIN : EBUSY;
+}
+
 /* libpazdrig's is busy too where others changed the word in between. */
-static int try(struct ours *o)
+static int try(struct ours *o, int waits)
 {
     struct mutex x;
     int r = find(o, &x);
@@ -104,12 +116,8 @@ static int try(struct ours *o)
         return r;
     for (;;) {
         r = sh_borrow_now(x.p);
-        if (r == EAGAIN && is_owned(&x))
-            return EBUSY;
-        if (r == EAGAIN) {
-            sh_wait_for_id(x.c, x.bank, x.p);
+        if (r == EAGAIN && (r = without_id(&x, waits)) == EAGAIN)
             continue;
-        }
         if (r)
             return r;
         r = pz_mutex_trylock(x.p, x.m);
@@ -121,6 +129,7 @@ static int try(struct ours *o)
             return taken(&x, EBUSY);
     }
 }
+static int try_once(struct ours *o) { return try(o, 1); }
 
 static int unlock(struct ours *o)
 {
@@ -163,7 +172,7 @@ static int timed(struct ours *o, clockid_t clock, const struct timespec *until)
         return EINVAL;
     struct timespec nap = {.tv_nsec = FIRST_NAP_NS};
     int r, state;
-    while ((r = try(o)) == EBUSY) {
+    while ((r = try(o, 0)) == EBUSY) {
         if (until->tv_nsec < 0 || until->tv_nsec >= SECOND_NS)
             return EINVAL;
         if (is_past(clock, until))
@@ -319,7 +328,7 @@ SHOWN int pthread_mutex_unlock(pthread_mutex_t *m)
 SHOWN int pthread_mutex_trylock(pthread_mutex_t *m)
 {
     struct ours *o = ours(m);
-    return o ? kept(try, o) : sh_real_trylock(m);
+    return o ? kept(try_once, o) : sh_real_trylock(m);
 }
 
 SHOWN int pthread_mutex_timedlock(pthread_mutex_t *m, const struct timespec *until)

@@ -169,9 +169,8 @@ static void behind_fork(void) { sh_real_unlock(&adding); }
  * who closes all descriptors does no harm. */
 static void map_anonymous(void)
 {
-    static const struct object none;
     struct table *t = mmap(NULL, sh_size(), PROT_READ | PROT_WRITE, MAP_SHARED | MAP_ANONYMOUS | MAP_NORESERVE, -1, 0);
-    if (t == MAP_FAILED || sh_make_table(t, &none))
+    if (t == MAP_FAILED || sh_make_table(t))
         return;
     anonymous = free_place(t->nonce);
     anonymous->table = t;

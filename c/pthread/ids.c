@@ -20,17 +20,19 @@ int sh_borrow_now(pz *p)
     return pz_thread_begin(p);
 }
 
+void sh_ask_for_id(struct companion *c, unsigned bank) { atomic_store(&c->table->ids[bank].wanted, 1); }
+
 /* Until one was given back, or for a while: nobody tells of the death of one who had one. */
 void sh_wait_for_id(struct companion *c, unsigned bank, pz *p)
 {
-    _Atomic uint32_t *wanted = &c->table->ids[bank].wanted, *returned = &c->table->ids[bank].returned;
+    _Atomic uint32_t *returned = &c->table->ids[bank].returned;
     struct timespec most = {.tv_nsec = LOOK_NS};
     uint32_t seen = atomic_load(returned);
-    atomic_store(wanted, 1);
+    sh_ask_for_id(c, bank);
     if (sh_borrow_now(p) == EAGAIN)
         syscall(SYS_futex, returned, FUTEX_WAIT, seen, &most, NULL, 0);
     else
-        atomic_store(wanted, 1); /* others may wait still */
+        sh_ask_for_id(c, bank); /* others may wait still */
 }
 
 int sh_borrow_slowly(struct companion *c, unsigned bank, pz *p)

@@ -56,7 +56,7 @@ static uint64_t new_nonce(void)
 }
 
 /* Of a new one, in zeros. */
-int sh_make_table(struct table *t, const struct object *o)
+int sh_make_table(struct table *t)
 {
     pthread_mutexattr_t a;
     pthread_mutexattr_init(&a);
@@ -66,13 +66,17 @@ int sh_make_table(struct table *t, const struct object *o)
     pthread_mutexattr_destroy(&a);
     t->magic = MAGIC;
     t->nonce = new_nonce();
+    return r;
+}
+
+static void name(struct table *t, const struct object *o)
+{
     t->dev = o->dev;
     t->ino = o->ino;
     t->namespace = namespace();
     read_boot_id(t->boot);
     if (strlen(o->path) < sizeof t->path)
         strcpy(t->path, o->path);
-    return r;
 }
 
 /* ---- The folder: the one that is given, or the one for all users, or the one of the object's owner. */
@@ -82,7 +86,8 @@ static int is_folder(const char *path) { return access(path, X_OK) == 0; }
 static int make_folder(const struct object *o, const char *path)
 {
     struct stat st;
-    if (mkdir(path, 0711) == 0 && geteuid() != o->uid && chown(path, o->uid, o->gid) < 0)
+    int may = geteuid() == 0 || geteuid() == o->uid; /* else the owner wouldn't trust it */
+    if (may && mkdir(path, 0711) == 0 && geteuid() != o->uid && chown(path, o->uid, o->gid) < 0)
         return errno;
     if (lstat(path, &st) < 0)
         return errno;
@@ -125,7 +130,8 @@ static int fill(int fd, const struct object *o)
     struct table *t = mmap(NULL, PAGE, PROT_READ | PROT_WRITE, MAP_SHARED, fd, 0);
     if (t == MAP_FAILED)
         return errno;
-    r = sh_make_table(t, o);
+    r = sh_make_table(t);
+    name(t, o);
     munmap(t, PAGE);
     return r;
 }

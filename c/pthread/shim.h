@@ -80,7 +80,7 @@ int sh_is_mapped(uint64_t dev, uint64_t ino);
 /* ---- place.c */
 size_t sh_size(void);
 size_t sh_bank_at(unsigned bank);
-int sh_make_table(struct table *t, const struct object *o);
+int sh_make_table(struct table *t);
 int sh_open_place(const struct object *o, uint64_t nonce, struct companion *c);
 int sh_is_in_place(const struct object *o, const struct companion *c);
 void sh_sweep(const char *directory);
@@ -119,6 +119,7 @@ static inline int sh_borrow(struct companion *c, unsigned bank, pz *p)
 {
     return __builtin_expect(pz_self[p->number].id != 0, 1) ? 0 : sh_borrow_slowly(c, bank, p);
 }
+void sh_ask_for_id(struct companion *c, unsigned bank);
 void sh_wait_for_id(struct companion *c, unsigned bank, pz *p);
 void sh_give_back(struct companion *c, unsigned bank, pz *p);
 /* At the end of a call. */

@@ -383,6 +383,7 @@ static void all_ids_are_had(void)
         rest(1000);
     SAME(comes(file("crowd"), 31, "trylock", 1), EBUSY);
     SAME(comes(file("crowd"), 31, "timedlock", 1), ETIMEDOUT);
+    SAME(comes(file("crowd"), 96, "timedlock", 1), ETIMEDOUT);
     pid_t it = fork();
     if (!it)
         _exit(comes(file("crowd"), 96, "lock", 1));

@@ -57,17 +57,19 @@ static void store(struct tdb_context *tdb, unsigned i, struct record r)
     GOOD(tdb_store(tdb, key_of(&i), is, TDB_REPLACE) == 0);
 }
 
-/* No process, or one that the kernel takes apart. */
+/* No process, or one that runs no more: the kernel frees what it owned while it takes it apart, before it is a zombie
+ * (PF_EXITING, flag 4 of proc(5)). */
 static int has_ended(pid_t it)
 {
     char at[64], state = 'Z';
+    unsigned flags = 0;
     snprintf(at, sizeof at, "/proc/%d/stat", (int)it);
     FILE *f = fopen(at, "r");
-    if (f && fscanf(f, "%*d %*[^)]) %c", &state) != 1)
+    if (f && fscanf(f, "%*d %*[^)]) %c %*d %*d %*d %*d %*d %u", &state, &flags) != 2)
         state = 'Z';
     if (f)
         fclose(f);
-    return state == 'Z' || state == 'X';
+    return state == 'Z' || state == 'X' || (flags & 4);
 }
 
 /* Whoever was inside and didn't leave is dead. */
