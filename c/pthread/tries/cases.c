@@ -77,6 +77,24 @@ static void remove_companions(void)
     closedir(d);
 }
 
+static const char *companion_of(const char *path)
+{
+    static char at[600];
+    struct stat st;
+    CHECK(stat(path, &st) == 0);
+    snprintf(at, sizeof at, "%s/%llx-%llx", getenv("PAZDRIG_DIR"), (unsigned long long)st.st_dev,
+             (unsigned long long)st.st_ino);
+    return at;
+}
+
+/* It has the owner and the mode of its object. */
+static void looks_like(const char *path)
+{
+    struct stat a, b;
+    CHECK(stat(path, &a) == 0 && stat(companion_of(path), &b) == 0);
+    CHECK(a.st_mode == b.st_mode && a.st_uid == b.st_uid && a.st_gid == b.st_gid);
+}
+
 /* ---- Another process, which comes by exec: what its call answers. */
 static int one_call(const char *call, pthread_mutex_t *m)
 {
@@ -152,6 +170,7 @@ static void newcomers(void)
     pthread_mutex_t *m = map(path, 2);
     SAME(init(m), 0);
     CHECK(is_ours(m));
+    looks_like(path);
     SAME(comes(path, 0, "lock", 1), 0);
     SAME(comes(path, 0, "die", 1), 0);
     SAME(comes(path, 0, "trylock", 1), EOWNERDEAD);
@@ -205,12 +224,8 @@ static void a_companion_is_removed(void)
 static void an_earlier_boot(void)
 {
     const char *path = file("boot");
-    struct stat st;
-    char companion[600];
-    CHECK(comes(path, 0, "init", 1) == 0 && stat(path, &st) == 0);
-    snprintf(companion, sizeof companion, "%s/%llx-%llx", getenv("PAZDRIG_DIR"), (unsigned long long)st.st_dev,
-             (unsigned long long)st.st_ino);
-    int fd = open(companion, O_RDWR);
+    SAME(comes(path, 0, "init", 1), 0);
+    int fd = open(companion_of(path), O_RDWR);
     CHECK(fd >= 0 && pwrite(fd, "earlier", 7, 32) == 7 && close(fd) == 0);
     SAME(comes(path, 0, "lock", 1), EINVAL);
     SAME(comes(path, 0, "init", 1), 0);
@@ -563,6 +578,8 @@ static void another_user(void)
     }
     CHECK(waitpid(it, &status, 0) == it && status == 0);
     SAME(comes(file("own"), 0, "lock", 1), EOWNERDEAD);
+    looks_like(path);
+    looks_like(file("own"));
     unlink(file("own"));
     unlink(path);
 }

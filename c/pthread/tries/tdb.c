@@ -27,6 +27,7 @@ static void tell(struct tdb_context *tdb, enum tdb_debug_level level, const char
 /* One process keeps it open throughout, as whoever opens it first clears it. */
 static struct tdb_context *open_it(void)
 {
+    GOOD(tdb_runtime_check_for_robust_mutexes());
     struct tdb_logging_context log = {tell, NULL};
     struct tdb_context *tdb =
         tdb_open_ex(path, HASH, TDB_MUTEX_LOCKING | TDB_CLEAR_IF_FIRST | TDB_INCOMPATIBLE_HASH | TDB_NOSYNC,
@@ -108,6 +109,12 @@ static void work(int slot)
     }
 }
 
+static void test_itself(int unused)
+{
+    (void)unused;
+    GOOD(tdb_runtime_check_for_robust_mutexes());
+}
+
 /* Has it open throughout. */
 static void keep(int slot)
 {
@@ -124,7 +131,9 @@ int main(int argc, char **argv)
     int deaths = atoi(argv[2]), n = atoi(argv[3]);
     CHECK(n >= 2 && n < SLOTS - 1);
     begin_counts();
-    CHECK(tdb_runtime_check_for_robust_mutexes());
+    /* by a child, as what it finds is kept: so each process tries it anew */
+    int status;
+    CHECK(waitpid(begin(n + 1, test_itself), &status, 0) > 0 && status == 0);
     pid_t keeper = begin(n, keep);
     while (!atomic_load(&board->got_on[n]) && !waitpid(keeper, NULL, WNOHANG))
         rest(1000);
