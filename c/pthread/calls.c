@@ -285,10 +285,10 @@ SHOWN int pthread_mutex_init(pthread_mutex_t *m, const pthread_mutexattr_t *a)
     struct object o;
     int type, saved = errno, state, r;
     if (!is_for_us(a, &type))
-        return sh_real_init(m, a);
+        return sh_real.init(m, a);
     pthread_setcancelstate(PTHREAD_CANCEL_DISABLE, &state);
     sh_begin();
-    r = sh_object_at(m, &o) ? sh_real_init(m, a) : init(m, &o, type);
+    r = sh_object_at(m, &o) ? sh_real.init(m, a) : init(m, &o, type);
     pthread_setcancelstate(state, NULL);
     errno = saved;
     return r;
@@ -297,14 +297,14 @@ SHOWN int pthread_mutex_init(pthread_mutex_t *m, const pthread_mutexattr_t *a)
 SHOWN int pthread_mutex_destroy(pthread_mutex_t *m)
 {
     struct ours *o = ours(m);
-    return o ? kept(destroy, o) : sh_real_destroy(m);
+    return o ? kept(destroy, o) : sh_real.destroy(m);
 }
 
 SHOWN int pthread_mutex_lock(pthread_mutex_t *m)
 {
     struct ours *o = ours(m);
     if (!o)
-        return sh_real_lock(m);
+        return sh_real.lock(m);
     struct mutex x;
     if (!at_hand(o, &x))
         return kept(lock, o);
@@ -316,7 +316,7 @@ SHOWN int pthread_mutex_unlock(pthread_mutex_t *m)
 {
     struct ours *o = ours(m);
     if (!o)
-        return sh_real_unlock(m);
+        return sh_real.unlock(m);
     struct mutex x;
     if (o->count || !at_hand(o, &x))
         return kept(unlock, o);
@@ -328,23 +328,23 @@ SHOWN int pthread_mutex_unlock(pthread_mutex_t *m)
 SHOWN int pthread_mutex_trylock(pthread_mutex_t *m)
 {
     struct ours *o = ours(m);
-    return o ? kept(try_once, o) : sh_real_trylock(m);
+    return o ? kept(try_once, o) : sh_real.trylock(m);
 }
 
 SHOWN int pthread_mutex_timedlock(pthread_mutex_t *m, const struct timespec *until)
 {
     struct ours *o = ours(m);
-    return o ? kept_timed(o, CLOCK_REALTIME, until) : sh_real_timedlock(m, until);
+    return o ? kept_timed(o, CLOCK_REALTIME, until) : sh_real.timedlock(m, until);
 }
 
 SHOWN int pthread_mutex_clocklock(pthread_mutex_t *m, clockid_t clock, const struct timespec *until)
 {
     struct ours *o = ours(m);
-    return o ? kept_timed(o, clock, until) : sh_real_clocklock(m, clock, until);
+    return o ? kept_timed(o, clock, until) : sh_real.clocklock(m, clock, until);
 }
 
 SHOWN int pthread_mutex_consistent(pthread_mutex_t *m)
 {
     struct ours *o = ours(m);
-    return o ? kept(consistent, o) : sh_real_consistent(m);
+    return o ? kept(consistent, o) : sh_real.consistent(m);
 }

@@ -180,7 +180,6 @@ static void map_anonymous(void)
 /* The driver's own lock is taken behind `adding`, by fork too: so its handlers are named first. */
 static void begin(void)
 {
-    sh_resolve();
     pz_ready_for_forks();
     pthread_atfork(before_fork, behind_fork, behind_fork);
     map_anonymous();

@@ -131,14 +131,17 @@ static inline void sh_give(struct companion *c, unsigned bank, pz *p)
         sh_give_back(c, bank, p);
 }
 
-/* ---- real.c: the C library's. libpazdrig's own calls are linked to these. */
-void sh_resolve(void);
+/* ---- real.c: the C library's. libpazdrig's own calls are linked to the functions below. */
+typedef int one(pthread_mutex_t *);
+extern struct real {
+    int (*init)(pthread_mutex_t *, const pthread_mutexattr_t *);
+    one *destroy, *lock, *trylock, *unlock, *consistent;
+    int (*timedlock)(pthread_mutex_t *, const struct timespec *);
+    int (*clocklock)(pthread_mutex_t *, clockid_t, const struct timespec *);
+} sh_real;
 int sh_real_init(pthread_mutex_t *, const pthread_mutexattr_t *);
-int sh_real_destroy(pthread_mutex_t *);
 int sh_real_lock(pthread_mutex_t *);
 int sh_real_trylock(pthread_mutex_t *);
 int sh_real_unlock(pthread_mutex_t *);
 int sh_real_consistent(pthread_mutex_t *);
-int sh_real_timedlock(pthread_mutex_t *, const struct timespec *);
-int sh_real_clocklock(pthread_mutex_t *, clockid_t, const struct timespec *);
 #endif
