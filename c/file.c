@@ -92,14 +92,17 @@ static int look_at(int fd, size_t size, int *whole)
     return st.st_size == 0 || magic == MAKING ? 0 : EINVAL;
 }
 
+/* Made in memory of this thread's own, and copied: so they are the C library's beside libpazdrig_pthread.so too. */
 static void make_tokens(pz *p)
 {
     pthread_mutexattr_t a;
+    pthread_mutex_t token;
     pthread_mutexattr_init(&a);
     pthread_mutexattr_setpshared(&a, PTHREAD_PROCESS_SHARED);
     pthread_mutexattr_setrobust(&a, PTHREAD_MUTEX_ROBUST);
+    pthread_mutex_init(&token, &a);
     for (unsigned t = 1; t <= THREADS; t++) {
-        pthread_mutex_init(&p->life[t].token, &a);
+        p->life[t].token = token;
         atomic_store(&p->life[t].tid, 0);
     }
     pthread_mutexattr_destroy(&a);

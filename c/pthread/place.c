@@ -81,7 +81,11 @@ static void name(struct table *t, const struct object *o)
 
 /* ---- The folder: the one that is given, or the one for all users, or the one of the object's owner. */
 
-static int is_folder(const char *path) { return access(path, X_OK) == 0; }
+static int is_folder(const char *path)
+{
+    struct stat st;
+    return stat(path, &st) == 0 && S_ISDIR(st.st_mode);
+}
 
 static int make_folder(const struct object *o, const char *path)
 {
