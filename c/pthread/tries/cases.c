@@ -590,7 +590,7 @@ int main(int argc, char **argv)
         return newcomer(argc, argv);
     CHECK(argc > 1 && getenv("LD_PRELOAD") && getenv("PAZDRIG_DIR"));
     setlinebuf(stdout);
-    alarm(300);
+    alarm(1800);
     self = argv[0];
     folder = argv[1];
     in_child(newcomers);
