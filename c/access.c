@@ -9,6 +9,7 @@
  * consistent instructions; a thread's own words are stored by it alone and read by who walks its list, for whom a
  * release is enough. */
 #define LOAD(w)              (PZ_BETWEEN(), atomic_load_explicit(w, memory_order_acquire))
+#define SEE(w)               (PZ_BETWEEN(), atomic_load(w)) /* of sleepers, behind the change of a word */
 #define STORE(w, v)          (PZ_BETWEEN(), atomic_store_explicit(w, v, memory_order_release))
 #define XOR(w, v)            (PZ_BETWEEN(), atomic_fetch_xor(w, v))
 #define OR(w, v)             (PZ_BETWEEN(), atomic_fetch_or(w, v))
@@ -37,7 +38,7 @@ static uint32_t exchange(word *w, const struct pz_access *x, uint64_t *value)
 static uint32_t wake(const pz *p, const struct pz_access *x, uint64_t *value)
 {
     long n = 0;
-    if (LOAD(sleepers(p, x->at)))
+    if (SEE(sleepers(p, x->at)))
         n = futex(&p->words[x->at], FUTEX_WAKE, x->most, 0, NULL, 0);
     *value = n > 0 ? (uint64_t)n : 0;
     return PZ_COUNT;
@@ -47,7 +48,7 @@ static uint32_t wake(const pz *p, const struct pz_access *x, uint64_t *value)
 static uint32_t requeue(const pz *p, const struct pz_access *x, uint64_t *value)
 {
     *value = 0;
-    uint64_t who = LOAD(sleepers(p, x->at));
+    uint64_t who = SEE(sleepers(p, x->at));
     if (!who)
         return PZ_COUNTS;
     if (!is_there(p, x->b))

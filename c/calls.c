@@ -1,8 +1,8 @@
 /* The calls: each runs its step program, or a plan of it where nobody is in the way. */
 #include "driver.h"
 #include <errno.h>
-#include <sched.h>
 #include <string.h>
+#include <time.h>
 
 /* Where a call goes on by its steps whose access at the cell was made by a plan (crates/mutex/specs/Codings.antt). */
 enum { AT_LOCK_TAKE = 17, AT_TRYLOCK_TAKE = 22, AT_RELEASE = 24 };
@@ -202,19 +202,29 @@ int pz_mutex_lock(pz *p, unsigned m) { return on_mutex(p, m, PZ_OP_LOCK); }
 int pz_mutex_unlock(pz *p, unsigned m) { return on_mutex(p, m, PZ_OP_UNLOCK); }
 int pz_mutex_consistent(pz *p, unsigned m) { return on_mutex(p, m, PZ_OP_CONSISTENT); }
 
-/* It is busy only where its owner lives: a dead one is reaped, by this thread or by whoever is at it, and then it is
- * tried again. */
+/* A dead thread is reaped, by this one or by whoever is at it. */
+static void wait_for_its_walk(pz *p, unsigned owner)
+{
+    if (pz_reap_one(p, owner) == DYING)
+        nanosleep(&(struct timespec){.tv_nsec = 50000}, NULL);
+}
+
+/* It is busy only where an owner lives: a dead one's walk is waited for; and where the word was marked meanwhile, or
+ * has another owner, it is tried again. */
 int pz_mutex_trylock(pz *p, unsigned m)
 {
     for (;;) {
         int r = on_mutex(p, m, PZ_OP_TRYLOCK);
         if (r != EBUSY)
             return r;
-        unsigned owner = owner_of(atomic_load(&p->words[cell_place(m)]));
-        if (!owner || owner > THREADS || owner == pz_self[p->number].id || pz_fate(p, owner) != DYING)
+        uint64_t seen = atomic_load(&p->words[cell_place(m)]);
+        unsigned owner = owner_of(seen);
+        if (owner > THREADS || (owner && owner == pz_self[p->number].id))
             return EBUSY;
-        if (pz_reap_one(p, owner) == DYING)
-            sched_yield();
+        if (owner && pz_fate(p, owner) == DYING)
+            wait_for_its_walk(p, owner);
+        else if (owner && atomic_load(&p->words[cell_place(m)]) == seen)
+            return EBUSY;
     }
 }
 
@@ -279,14 +289,16 @@ static void leave_all(void *unused)
             pz_leave(pz_opened(n));
 }
 
-static void make_key(void) { pthread_key_create(&at_end, leave_all); }
+static int no_key; /* why ends of threads can't be told */
+static void make_key(void) { no_key = pthread_key_create(&at_end, leave_all); }
 
 int pz_thread_begin(pz *p)
 {
     if (pz_self[p->number].id)
         return EBUSY;
     pthread_once(&once, make_key);
-    int r = pthread_setspecific(at_end, p); /* any value: a thread that has one is looked at when it ends */
+    int r = no_key ? no_key
+                   : pthread_setspecific(at_end, p); /* any value: a thread that has one is looked at when it ends */
     return r ? r : pz_take_part(p);
 }
 

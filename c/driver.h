@@ -115,7 +115,7 @@ uint32_t *pz_token_word(pz *p, unsigned t);
 /* ---- file.c */
 void pz_let_go(pz *p);
 pz *pz_opened(unsigned number);
-void pz_ready_for_forks(void);
+int pz_ready_for_forks(void);
 size_t pz_size_in(unsigned mutexes);
 int pz_open_in(void *memory, int whole, unsigned mutexes, pz **out);
 

@@ -25,9 +25,18 @@ struct layout {
     size_t life, words, data, size;
 };
 
+/* A file that a thread of this process is about to open, with its lock. A forked child closes it: else the lock would
+ * stay as long as the child lives. */
+struct opening {
+    int fd;
+    struct opening *next;
+};
+
 static pthread_mutex_t table = PTHREAD_MUTEX_INITIALIZER;
 static pz *opened[FILES];
+static struct opening *openings;
 static pthread_once_t once = PTHREAD_ONCE_INIT;
+static int no_forks; /* why forks can't be told */
 
 static size_t up(size_t n, size_t to) { return (n + to - 1) / to * to; }
 
@@ -50,18 +59,21 @@ static struct layout layout_of(const struct asked *a)
     return l;
 }
 
-static void boot_id(char id[40])
+/* Which start of the system this is. Where that can't be read nothing is taken for a new one: that would end lives. */
+static int boot_id(char id[40])
 {
     memset(id, 0, 40);
-    int fd = open("/proc/sys/kernel/random/boot_id", O_RDONLY | O_CLOEXEC);
-    if (fd >= 0 && read(fd, id, 36) < 0)
-        id[0] = 0;
-    if (fd >= 0)
-        close(fd);
 #ifdef PZ_TRY_BOOT
     if (getenv("PZ_BOOT"))
-        strncpy(id, getenv("PZ_BOOT"), 39);
+        return strncpy(id, getenv("PZ_BOOT"), 39) ? 0 : EIO;
 #endif
+    int fd = open("/proc/sys/kernel/random/boot_id", O_RDONLY | O_CLOEXEC);
+    if (fd < 0)
+        return errno;
+    ssize_t n = read(fd, id, 36);
+    int r = n == 36 ? 0 : n < 0 ? errno : EIO;
+    close(fd);
+    return r;
 }
 
 /* ---- Making it, with the file's lock in hand. A maker that is killed leaves MAKING, and the next opener makes it
@@ -113,14 +125,14 @@ static uint64_t cell_asked(const struct asked *a, unsigned c)
     return cell_place(a->mutex_of ? a->mutex_of[c] : c % a->mutexes);
 }
 
-static void make(pz *p, const struct asked *a)
+static void make(pz *p, const struct asked *a, const char boot[40])
 {
     struct header *h = p->header;
     h->mutexes = a->mutexes;
     h->conds = a->conds;
     h->data = a->data;
     h->size = p->size;
-    boot_id(h->boot);
+    memcpy(h->boot, boot, sizeof h->boot);
     make_tokens(p);
     for (unsigned t = 1; t <= THREADS; t++)
         atomic_store(&p->life[t].valid, WALK_ENDED);
@@ -130,14 +142,14 @@ static void make(pz *p, const struct asked *a)
 }
 
 /* The system was started anew: whoever lived by a token died with the old one, and no kernel told it. */
-static void renew(pz *p)
+static void renew(pz *p, const char boot[40])
 {
     make_tokens(p);
     for (unsigned t = 1; t <= THREADS; t++)
         pz_walk_on(p, t);
     for (uint64_t at = cell_place(0); at < p->places; at += LINE)
         atomic_store(sleepers(p, at), 0);
-    boot_id(p->header->boot);
+    memcpy(p->header->boot, boot, sizeof p->header->boot);
 }
 
 static int is_as_asked(const pz *p, const struct asked *a)
@@ -150,13 +162,15 @@ static int is_as_asked(const pz *p, const struct asked *a)
 static int ready(pz *p, const struct asked *a, int whole)
 {
     char boot[40];
-    boot_id(boot);
+    int r = boot_id(boot);
+    if (r)
+        return r;
     if (!whole)
-        make(p, a);
+        make(p, a, boot);
     else if (!is_as_asked(p, a))
         return EINVAL;
     else if (memcmp(p->header->boot, boot, sizeof boot))
-        renew(p);
+        renew(p, boot);
     for (unsigned c = 0; c < a->conds; c++) {
         p->cell_of[c] = cell_asked(a, c);
         if (atomic_load(&p->words[counter_place(p, c) + 2]) != p->cell_of[c])
@@ -225,12 +239,18 @@ static void in_child(void)
         if (opened[n])
             atomic_store(&opened[n]->users, 1);
     }
+    for (; openings; openings = openings->next)
+        close(openings->fd);
     pthread_mutex_unlock(&table);
 }
 static void before_fork(void) { pthread_mutex_lock(&table); }
 static void in_parent(void) { pthread_mutex_unlock(&table); }
-static void at_fork(void) { pthread_atfork(before_fork, in_parent, in_child); }
-void pz_ready_for_forks(void) { pthread_once(&once, at_fork); }
+static void at_fork(void) { no_forks = pthread_atfork(before_fork, in_parent, in_child); }
+int pz_ready_for_forks(void)
+{
+    pthread_once(&once, at_fork);
+    return no_forks;
+}
 
 /* Memory that is mapped already: its caller has seen to it that nobody else makes it now. */
 static int open_memory(void *memory, const struct asked *a, int whole, pz *p)
@@ -240,37 +260,73 @@ static int open_memory(void *memory, const struct asked *a, int whole, pz *p)
     return ready(p, a, whole);
 }
 
-/* By a file, or where fd is -1 in memory. */
-static int open_one(int fd, void *memory, int whole, const struct asked *a, pz **out)
+/* It has a place among this process's files. */
+static int enter(pz *p)
 {
     unsigned number = 0;
-    pz_ready_for_forks();
-    pz *p = calloc(1, sizeof *p);
-    if (!p)
-        return ENOMEM;
     pthread_mutex_lock(&table);
     while (number < FILES && opened[number])
         number++;
-    int r = number == FILES ? EMFILE : fd < 0 ? open_memory(memory, a, whole, p) : open_alone(fd, a, p);
-    if (!r) {
+    if (number < FILES) {
         p->number = number;
-        opened[number] = *out = p;
+        opened[number] = p;
     }
     pthread_mutex_unlock(&table);
+    return number < FILES ? 0 : EMFILE;
+}
+
+/* By a file, or where fd is -1 in memory. Others may fork meanwhile, so nothing of the process's is locked. */
+static int open_one(int fd, void *memory, int whole, const struct asked *a, pz **out)
+{
+    pz *p = calloc(1, sizeof *p);
+    if (!p)
+        return ENOMEM;
+    int r = fd < 0 ? open_memory(memory, a, whole, p) : open_alone(fd, a, p);
+    if (!r && (r = enter(p)) && p->mapped)
+        munmap(p->header, p->mapped);
     if (r)
         free(p);
+    else
+        *out = p;
     return r;
+}
+
+static int begin_opening(struct opening *o, const char *path, int flags, mode_t mode)
+{
+    pthread_mutex_lock(&table);
+    o->fd = open(path, flags | O_RDWR | O_CLOEXEC, mode);
+    int r = o->fd < 0 ? errno : 0;
+    if (!r) {
+        o->next = openings;
+        openings = o;
+    }
+    pthread_mutex_unlock(&table);
+    return r;
+}
+
+static void end_opening(struct opening *o)
+{
+    struct opening **at = &openings;
+    pthread_mutex_lock(&table);
+    while (*at != o)
+        at = &(*at)->next;
+    *at = o->next;
+    close(o->fd);
+    pthread_mutex_unlock(&table);
 }
 
 static int open_then_close(const char *path, int flags, mode_t mode, const struct asked *a, pz **out)
 {
+    struct opening o;
     if (!is_asked_well(a))
         return EINVAL;
-    int fd = open(path, flags | O_RDWR | O_CLOEXEC, mode);
-    if (fd < 0)
-        return errno;
-    int r = open_one(fd, NULL, 0, a, out);
-    close(fd);
+    int r = pz_ready_for_forks();
+    if (!r)
+        r = begin_opening(&o, path, flags, mode);
+    if (r)
+        return r;
+    r = open_one(o.fd, NULL, 0, a, out);
+    end_opening(&o);
     return r;
 }
 
@@ -297,7 +353,8 @@ size_t pz_size_in(unsigned mutexes) { return layout_of(&(struct asked){.mutexes 
 int pz_open_in(void *memory, int whole, unsigned mutexes, pz **out)
 {
     struct asked a = {.mutexes = mutexes};
-    return open_one(-1, memory, whole, &a, out);
+    int r = pz_ready_for_forks();
+    return r ? r : open_one(-1, memory, whole, &a, out);
 }
 
 pz *pz_opened(unsigned number) { return opened[number]; }

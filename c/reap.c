@@ -86,18 +86,29 @@ static void bury(pz *p, unsigned t)
     pthread_mutex_consistent(&p->life[t].token);
 }
 
+/* 0: its id is free; EOWNERDEAD: it had died, and is reaped now. */
+static int try_to_reap(pz *p, unsigned t)
+{
+    int r = pthread_mutex_trylock(&p->life[t].token);
+    if (r == EOWNERDEAD)
+        bury(p, t);
+    if (r == EOWNERDEAD || r == 0)
+        pthread_mutex_unlock(&p->life[t].token);
+    return r;
+}
+
 /* Reaps it if it died and nobody else does. DYING: somebody else does. */
 enum fate pz_reap_one(pz *p, unsigned t)
 {
-    int r = pthread_mutex_trylock(&p->life[t].token);
-    if (r == EBUSY)
+    switch (try_to_reap(p, t)) {
+    case 0:
+    case EOWNERDEAD:
+        return GONE;
+    case EBUSY:
         return pz_fate(p, t);
-    if (r == EOWNERDEAD)
-        bury(p, t);
-    else if (r)
-        return LIVES; /* a token that was spoiled: nothing can be said of it */
-    pthread_mutex_unlock(&p->life[t].token);
-    return GONE;
+    default: /* a token that was spoiled: nothing can be said of it */
+        return LIVES;
+    }
 }
 
 int pz_reap(pz *p)
@@ -105,7 +116,7 @@ int pz_reap(pz *p)
     int n = 0;
     for (unsigned t = 1; t <= THREADS; t++)
         if (__atomic_load_n(pz_token_word(p, t), __ATOMIC_SEQ_CST) & FUTEX_OWNER_DIED)
-            n += pz_reap_one(p, t) == GONE;
+            n += try_to_reap(p, t) == EOWNERDEAD;
     return n;
 }
 

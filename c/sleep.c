@@ -18,7 +18,7 @@ struct sleeper {
     unsigned thread;
     uint64_t at;
     uint32_t expected;
-    uint64_t before; /* who slept there already: they are woken first, and one that is killed then hands nothing on */
+    uint64_t before; /* who sleeps there already: they are woken first, and one that is killed then hands nothing on */
     long look_ms;
 };
 
@@ -136,7 +136,20 @@ static uint32_t ended(const struct sleeper *s, unsigned owner, int error)
     }
 }
 
-static uint32_t wait_watching(const struct sleeper *s, unsigned owner)
+/* A requeue can't move whoever sleeps by futex_waitv, so on a counter a thread looks now and then. */
+static uint32_t wait_looking(struct sleeper *s, unsigned owner)
+{
+    long ms = PZ_POLL_S > 1000 ? PZ_POLL_S * 1000l : s->look_ms;
+    struct timespec most = {.tv_sec = ms / 1000, .tv_nsec = ms % 1000 * 1000000};
+    if (s->look_ms < LAST_LOOK_MS)
+        s->look_ms *= 2;
+    long r = syscall(SYS_futex, (uint32_t *)&s->p->words[s->at], FUTEX_WAIT, s->expected, &most, NULL, 0);
+    return ended(s, owner, r < 0 ? errno : 0);
+}
+
+static int is_known(int error) { return error == 0 || error == EAGAIN || error == ETIMEDOUT || error == EINTR; }
+
+static uint32_t wait_watching(struct sleeper *s, unsigned owner)
 {
     struct watched all;
     unsigned dead = watch_all(s, owner, &all);
@@ -150,22 +163,11 @@ static uint32_t wait_watching(const struct sleeper *s, unsigned owner)
     for (unsigned i = 1; i < all.n; i++)
         if (has_died(s->p, all.thread[i]))
             pz_reap_one(s->p, all.thread[i]);
-    if (error == ENOSYS) {
+    if (is_known(error))
+        return ended(s, owner, error);
+    if (error == ENOSYS || error == EPERM) /* an older kernel, or a filter of calls that doesn't know it */
         atomic_store(&no_waitv, 1);
-        return ASLEEP;
-    }
-    return ended(s, owner, error);
-}
-
-/* A requeue can't move whoever sleeps by futex_waitv, so on a counter a thread looks now and then. */
-static uint32_t wait_looking(struct sleeper *s, unsigned owner)
-{
-    long ms = PZ_POLL_S > 1000 ? PZ_POLL_S * 1000l : s->look_ms;
-    struct timespec most = {.tv_sec = ms / 1000, .tv_nsec = ms % 1000 * 1000000};
-    if (s->look_ms < LAST_LOOK_MS)
-        s->look_ms *= 2;
-    long r = syscall(SYS_futex, (uint32_t *)&s->p->words[s->at], FUTEX_WAIT, s->expected, &most, NULL, 0);
-    return ended(s, owner, r < 0 ? errno : 0);
+    return wait_looking(s, owner);
 }
 
 static uint32_t sleep_once(struct sleeper *s)
@@ -173,6 +175,8 @@ static uint32_t sleep_once(struct sleeper *s)
     unsigned owner = is_counter(s->p, s->at) ? 0 : owner_of(s->expected);
     if (owner > THREADS || owner == s->thread)
         owner = 0; /* a word that was spoiled */
+    /* anew each time: the kernel has it stand behind those that came while it looked */
+    s->before = atomic_load(sleepers(s->p, s->at)) & ~bit_of(s->thread);
     return owner && !atomic_load(&no_waitv) ? wait_watching(s, owner) : wait_looking(s, owner);
 }
 
@@ -190,7 +194,7 @@ uint32_t pz_sleep(pz *p, unsigned t, uint64_t at, uint32_t expected)
     if (!counter && changes_soon(&p->words[at], expected))
         return PZ_AGAIN;
     struct sleeper s = {.p = p, .thread = t, .at = at, .expected = expected, .look_ms = FIRST_LOOK_MS};
-    s.before = atomic_fetch_or(sleepers(p, at), bit_of(t)) & ~bit_of(t);
+    atomic_fetch_or(sleepers(p, at), bit_of(t));
     uint32_t answer;
     do
         answer = sleep_once(&s);

@@ -15,6 +15,7 @@ struct board {
     struct guarded of[MUTEXES];
     _Atomic long told, repaired, locks;
     _Atomic long got_on[MOST]; /* by process */
+    _Atomic long waits;        /* that came to their end */
     _Atomic long items[CONDS]; /* what waits wait for: at most a few */
 };
 
@@ -52,17 +53,25 @@ static void leave(unsigned m)
     CHECK(atomic_exchange(&g->inside, 0) == (int)getpid());
 }
 
-/* Takes an item, or waits for one while fewer than half of the threads do. */
+static void take(unsigned c, unsigned m)
+{
+    if (atomic_load(&b->items[c]) == 0) {
+        leave(m);
+        int r = pz_cond_wait(p, c);
+        enter(m, r);
+        atomic_fetch_add(&b->waits, 1);
+    }
+    if (atomic_load(&b->items[c]) > 0)
+        atomic_fetch_sub(&b->items[c], 1);
+}
+
+/* Takes an item, and waits for one where there is none; or gives one. */
 static void wait_or_give(unsigned c, unsigned *random)
 {
     unsigned m = c % MUTEXES;
     enter(m, pz_mutex_lock(p, m));
-    if (rand_r(random) % 2 && atomic_load(&b->items[c]) == 0) {
-        leave(m);
-        int r = pz_cond_wait(p, c);
-        enter(m, r);
-        if (atomic_load(&b->items[c]) > 0)
-            atomic_fetch_sub(&b->items[c], 1);
+    if (rand_r(random) % 2) {
+        take(c, m);
     } else {
         atomic_store(&b->items[c], 1);
         SAME(rand_r(random) % 4 ? pz_cond_signal(p, c) : pz_cond_broadcast(p, c), 0);
@@ -112,7 +121,7 @@ static pid_t begin(int slot, int stormy)
     if (child)
         return child;
     if (stormy) {
-        signal(SIGALRM, storm);
+        sigaction(SIGALRM, &(struct sigaction){.sa_handler = storm}, NULL); /* so that sleeps end by EINTR */
         struct itimerval each = {{0, 700}, {0, 700}};
         setitimer(ITIMER_REAL, &each, NULL);
     }
@@ -163,9 +172,9 @@ int main(int argc, char **argv)
     for (int i = 0; i < n; i++)
         kill_and_wait(child[i]);
     pz_reap(p);
-    printf("deaths: %d, %ld times EOWNERDEAD, %ld repairs, %ld rounds\n", deaths, atomic_load(&b->told),
-           atomic_load(&b->repaired), atomic_load(&b->locks));
-    CHECK(atomic_load(&b->told) > 0);
+    printf("deaths: %d, %ld times EOWNERDEAD, %ld repairs, %ld rounds, %ld waits\n", deaths, atomic_load(&b->told),
+           atomic_load(&b->repaired), atomic_load(&b->locks), atomic_load(&b->waits));
+    CHECK(atomic_load(&b->told) > 0 && atomic_load(&b->waits) > 0);
     pz_close(p);
     unlink(path);
     return 0;

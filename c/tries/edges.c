@@ -364,6 +364,60 @@ static void no_room(void)
 }
 
 /* Makers that are killed somewhere in pz_open leave a file that the next one makes. */
+/* Which boot it is can't be read: then nobody is taken for dead. */
+static void no_descriptor_left(void)
+{
+    const char *path = a_file("boot-id");
+    pz *p;
+    SAME(pz_open(path, 0600, 1, 0, NULL, 0, &p), 0);
+    SAME(pz_mutex_lock(p, 0), 0);
+    pid_t child = fork();
+    if (!child) {
+        int next = dup(0);
+        struct rlimit one_more = {(rlim_t)next + 1, (rlim_t)next + 1};
+        CHECK(close(next) == 0 && setrlimit(RLIMIT_NOFILE, &one_more) == 0);
+        SAME(pz_open(path, 0600, 1, 0, NULL, 0, &p), EMFILE);
+        SAME(pz_mutex_trylock(p, 0), EBUSY);
+        _exit(0);
+    }
+    int status;
+    CHECK(waitpid(child, &status, 0) == child && status == 0);
+    SAME(pz_mutex_unlock(p, 0), 0);
+    pz_close(p);
+    unlink(path);
+}
+
+/* One of them makes the file, and nobody counts in another one. */
+static void many_open_at_once(void)
+{
+    enum { OPENERS = 12 };
+    const char *path = a_file("openers");
+    _Atomic int *go = shared(sizeof *go);
+    for (int k = 0; k < 50; k++) {
+        pid_t child[OPENERS];
+        pz *p;
+        atomic_store(go, 0);
+        for (int i = 0; i < OPENERS; i++)
+            if (!(child[i] = fork())) {
+                while (!atomic_load(go))
+                    ;
+                SAME(pz_open(path, 0600, 64, 4, NULL, sizeof(long), &p), 0);
+                SAME(pz_mutex_lock(p, 7), 0);
+                ++*(long *)pz_data(p);
+                _exit(pz_mutex_unlock(p, 7));
+            }
+        atomic_store(go, 1);
+        int status;
+        for (int i = 0; i < OPENERS; i++)
+            CHECK(waitpid(child[i], &status, 0) == child[i] && status == 0);
+        SAME(pz_open(path, 0600, 64, 4, NULL, sizeof(long), &p), 0);
+        CHECK(*(long *)pz_data(p) == OPENERS);
+        pz_close(p);
+        unlink(path);
+    }
+    munmap(go, sizeof *go);
+}
+
 static void makers_are_killed(void)
 {
     for (int i = 0; i < 200; i++) {
@@ -445,6 +499,10 @@ static void a_reboot(void)
     SAME(pz_open(path, 0600, 2, 0, NULL, 8, &p), 0);
     CHECK(*(long *)pz_data(p) == 42);
     SAME(pz_mutex_lock(p, 0), 0);
+    child = fork(); /* who opens it behind the first one leaves that one its mutex */
+    if (!child)
+        _exit(pz_open(path, 0600, 2, 0, NULL, 8, &p) || pz_mutex_trylock(p, 0) != EBUSY);
+    CHECK(waitpid(child, &status, 0) == child && status == 0);
     SAME(pz_mutex_lock(p, 1), EOWNERDEAD);
     SAME(pz_mutex_consistent(p, 1), 0);
     SAME(pz_mutex_unlock(p, 1), 0);
@@ -541,6 +599,8 @@ int main(void)
     a_file_of_another_program();
     a_file_that_cannot_be_written();
     no_room();
+    no_descriptor_left();
+    many_open_at_once();
     makers_are_killed();
     closed_beside_calls();
     sixteen_files();

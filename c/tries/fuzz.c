@@ -31,6 +31,24 @@ static void call_at_random(pz *p)
     }
 }
 
+/* A place at the end of the words, or of the first ones. */
+static void spoil_nearly(pz *p, uint64_t at, unsigned *random)
+{
+    uint64_t near[] = {p->places - 3, p->places - 2,  p->places - 1, p->places, p->places + 1,
+                       p->places + 7, p->places + 64, LINE - 1,      LINE,      1};
+    atomic_store(&p->words[at], near[rand_r(random) % 10]);
+}
+
+/* The record of a walk, and which of the two is valid. */
+static void spoil_record(pz *p, uint64_t value, unsigned *random)
+{
+    struct life *life = &p->life[1 + rand_r(random) % 8];
+    uint64_t *parts = (uint64_t *)life->record;
+    parts[(unsigned)rand_r(random) % (sizeof life->record / sizeof(uint64_t))] = value;
+    if (rand_r(random) % 8 == 0)
+        atomic_store(&life->valid, (unsigned)rand_r(random) % 9);
+}
+
 /* A word, or one of another's; a small number, a place, or any bits. */
 static void spoil(pz *p, unsigned *random)
 {
@@ -44,7 +62,17 @@ static void spoil(pz *p, unsigned *random)
                          any,
                          UINT64_MAX,
                          p->words[LINE + any % (p->places - LINE)]};
-    atomic_store(&p->words[at], values[rand_r(random) % 8]);
+    uint64_t value = values[rand_r(random) % 8];
+    switch (rand_r(random) % 4) {
+    case 0:
+        spoil_nearly(p, at, random);
+        break;
+    case 1:
+        spoil_record(p, value, random);
+        break;
+    default:
+        atomic_store(&p->words[at], value);
+    }
 }
 
 static void round_of(int k)

@@ -17,10 +17,24 @@ static jmp_buf death;
 static int lives_for;
 static int marks[MUTEXES], wakes[MUTEXES], wakes_at_mark[MUTEXES];
 
+/* Called before an access is recorded, and behind that: the record that is valid stays whole meanwhile. */
 static void maybe_die(void)
 {
-    if (--lives_for == 0)
+    static struct pz_walk was;
+    static unsigned valid;
+    static int is_recorded = 1;
+    struct life *life = &lives[DEAD];
+    is_recorded = !is_recorded;
+    if (!is_recorded) {
+        valid = life->valid;
+        if (valid < WALK_NONE)
+            was = life->record[valid];
+    } else if (valid < WALK_NONE)
+        CHECK(!memcmp(&was, &life->record[valid], sizeof was));
+    if (--lives_for == 0) {
+        is_recorded = 1;
         longjmp(death, 1);
+    }
 }
 
 void pz_let_go(pz *p) { (void)p; }

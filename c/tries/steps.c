@@ -6,6 +6,7 @@
 enum { MUTEXES = 3, FREE = 0, UNSURE = 1, HELD_BY_IT = 2 };
 
 struct seen {
+    _Atomic long made;          /* accesses of a thread that is counted */
     _Atomic int state[MUTEXES]; /* what the owner had, as it knew */
     _Atomic int done, walked;
     _Atomic int woken_dies; /* whoever is marked dies once it is woken */
@@ -13,10 +14,13 @@ struct seen {
 static pz *p;
 static struct seen *seen;
 static long dies_before, dies_in_walk; /* counts down to 0; -1 for never */
-static int is_marked;
+static int is_marked, is_counted;
+static long stops_in_walk;
 
 void pz_between(void)
 {
+    if (is_counted)
+        atomic_fetch_add(&seen->made, 1);
     if ((dies_before > 0 && --dies_before == 0) || (is_marked && atomic_load(&seen->woken_dies)))
         kill(getpid(), SIGKILL);
 }
@@ -26,6 +30,8 @@ void pz_at_walk(void)
     atomic_fetch_add(&seen->walked, 1);
     if (dies_in_walk > 0 && --dies_in_walk == 0)
         kill(getpid(), SIGKILL);
+    if (stops_in_walk > 0 && --stops_in_walk == 0)
+        raise(SIGSTOP);
 }
 
 static void take(unsigned m, int by_trying)
@@ -148,6 +154,38 @@ static void woken_and_dead(void)
     CHECK(waitpid(second, &status, 0) == second && status == 0);
 }
 
+/* While a reaper stands still amid its walk, a trylock of what the dead thread owned waits for it: nobody alive owns
+ * it.
+ */
+static void a_trylock_beside_a_reaper(void)
+{
+    int status;
+    pid_t owner = fork();
+    if (!owner) {
+        for (unsigned m = 0; m < MUTEXES; m++)
+            pz_mutex_lock(p, m);
+        kill(getpid(), SIGKILL);
+    }
+    CHECK(waitpid(owner, &status, 0) == owner && WIFSIGNALED(status));
+    pid_t reaper = fork();
+    if (!reaper) {
+        stops_in_walk = 6;
+        _exit(pz_reap(p) != 1);
+    }
+    CHECK(waitpid(reaper, &status, WUNTRACED) == reaper && WIFSTOPPED(status));
+    pid_t tries = fork();
+    if (!tries) {
+        is_counted = 1;
+        _exit(pz_mutex_trylock(p, 0));
+    }
+    while (atomic_load(&seen->made) < 1000)
+        CHECK(waitpid(tries, &status, WNOHANG) == 0);
+    kill(reaper, SIGCONT);
+    CHECK(waitpid(reaper, &status, 0) == reaper && status == 0);
+    CHECK(waitpid(tries, &status, 0) == tries);
+    SAME(WEXITSTATUS(status), EOWNERDEAD);
+}
+
 int main(void)
 {
     const char *path = a_file("steps");
@@ -169,6 +207,7 @@ int main(void)
             if (atomic_load(&seen->walked) - before < k)
                 break; /* it had ended before */
         }
+    a_trylock_beside_a_reaper();
     printf("steps: dead before each of %ld instructions, and %ld times amid the walk\n", instructions, walks);
     CHECK(instructions >= 50 && walks > 500);
     pz_close(p);

@@ -63,9 +63,17 @@ static SVG_PICTURES: [(&str, &str, &str); 10] = [
     ),
 ];
 
-/// How shapes are drawn in examples/dead_owner.svg.
+/// How shapes are drawn in examples/dead_owner.svg, behind `<style>`.
 static STYLE: &str =
-    "<style>text{font:11px monospace}.n{text-anchor:end;fill:#777}.h{text-anchor:middle;font-weight:bold}.t{stroke:#fff;stroke-width:3px;paint-order:stroke}path{fill:none;stroke:#222;stroke-width:2px}.l{stroke:#ccc;stroke-width:1px}.a{stroke:#07c;marker-end:url(#h)}.g{stroke:#07c}.k{stroke:#c00}.p{fill:#222}.q{fill:#fff;stroke:#07c}.c{fill:#9bd}.s{fill:#ddd}.d{fill:#fbb}.o{fill:#8c8}.i{fill:#fb6}.w{fill:#fdb}.u{fill:#888}</style>\n<defs><marker id=\"h\" viewBox=\"0 0 8 8\" refX=\"8\" refY=\"4\" markerWidth=\"4\" markerHeight=\"4\" orient=\"auto\"><path class=\"g\" d=\"M0 0 8 4 0 8\"/></marker></defs>\n<rect width=\"100%\" height=\"100%\" fill=\"#fff\"/>\n";
+    "text{font:11px monospace}.n{text-anchor:end;fill:#777}.h{text-anchor:middle;font-weight:bold}.t{stroke:#fff;stroke-width:3px;paint-order:stroke}path{fill:none;stroke:#222;stroke-width:2px}.l{stroke:#ccc;stroke-width:1px}.a{stroke:#07c;marker-end:url(#h)}.g{stroke:#07c}.k{stroke:#c00}.p{fill:#222}.q{fill:#fff;stroke:#07c}.c{fill:#9bd}.s{fill:#ddd}.d{fill:#fbb}.o{fill:#8c8}.i{fill:#fb6}.w{fill:#fdb}.u{fill:#888}</style>\n<defs><marker id=\"h\" viewBox=\"0 0 8 8\" refX=\"8\" refY=\"4\" markerWidth=\"4\" markerHeight=\"4\" orient=\"auto\"><path class=\"g\" d=\"M0 0 8 4 0 8\"/></marker></defs>\n<rect width=\"100%\" height=\"100%\" fill=\"#fff\"/>\n";
+
+/// Whether the style stands behind this, which ends with its `<style>`.
+fn is_styled(drawn: &[u8], front: &str) -> bool {
+    let Some(behind) = drawn.get(front.len()..) else {
+        return false;
+    };
+    behind.starts_with(STYLE.as_bytes())
+}
 
 /// Whether the trace's picture begins and ends so.
 fn is_drawn(alloc: Global, trace: &str, front: &str, end: &str) -> bool {
@@ -76,7 +84,7 @@ fn is_drawn(alloc: Global, trace: &str, front: &str, end: &str) -> bool {
     let (threads, mutexes) = (told.head.threads, told.head.mutexes);
     draw_svg(alloc, threads, mutexes, &told.lines, told.last, &mut drawn).is_ok()
         && drawn.as_slice().starts_with(front.as_bytes())
-        && drawn.as_slice()[front.len() - "<style>".len()..].starts_with(STYLE.as_bytes())
+        && is_styled(drawn.as_slice(), front)
         && drawn.as_slice().ends_with(end.as_bytes())
 }
 

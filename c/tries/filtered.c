@@ -1,0 +1,58 @@
+/* A kernel, or a container's filter of system calls, without futex_waitv: a sleeper looks by itself, and is told. */
+#include "try.h"
+#include <linux/filter.h>
+#include <linux/seccomp.h>
+#include <stddef.h>
+#include <sys/prctl.h>
+
+/* The calling process has no futex_waitv any more: it fails so. */
+static void lose_futex_waitv(int error)
+{
+    struct sock_filter rules[] = {BPF_STMT(BPF_LD | BPF_W | BPF_ABS, offsetof(struct seccomp_data, nr)),
+                                  BPF_JUMP(BPF_JMP | BPF_JEQ | BPF_K, 449, 0, 1),
+                                  BPF_STMT(BPF_RET | BPF_K, SECCOMP_RET_ERRNO | (unsigned)error),
+                                  BPF_STMT(BPF_RET | BPF_K, SECCOMP_RET_ALLOW)};
+    struct sock_fprog program = {sizeof rules / sizeof *rules, rules};
+    CHECK(prctl(PR_SET_NO_NEW_PRIVS, 1, 0, 0, 0) == 0);
+    CHECK(prctl(PR_SET_SECCOMP, SECCOMP_MODE_FILTER, &program) == 0);
+}
+
+/* An older kernel, and a container whose filter doesn't know the call: then a sleeper looks by itself. */
+static void without_futex_waitv(int error)
+{
+    const char *path = a_file("waitv");
+    _Atomic int *is_held = shared(sizeof *is_held);
+    pz *p;
+    SAME(pz_open(path, 0600, 1, 0, NULL, 0, &p), 0);
+    pid_t owner = fork();
+    if (!owner) {
+        SAME(pz_mutex_lock(p, 0), 0);
+        atomic_store(is_held, 1);
+        for (;;)
+            pause();
+    }
+    while (!atomic_load(is_held))
+        rest(100);
+    pid_t sleeper = fork();
+    if (!sleeper) {
+        lose_futex_waitv(error);
+        _exit(pz_mutex_lock(p, 0) != EOWNERDEAD);
+    }
+    until_asleep(sleeper);
+    kill_and_wait(owner);
+    int status;
+    CHECK(waitpid(sleeper, &status, 0) == sleeper && status == 0);
+    pz_close(p);
+    unlink(path);
+    munmap(is_held, sizeof *is_held);
+}
+
+int main(void)
+{
+    alarm(120);
+    without_futex_waitv(ENOSYS);
+    without_futex_waitv(EPERM);
+    without_futex_waitv(ENOMEM);
+    puts("filtered: told without futex_waitv");
+    return 0;
+}
