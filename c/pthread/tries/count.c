@@ -59,6 +59,14 @@ int pthread_mutex_trylock(pthread_mutex_t *m)
     return told(m, call("pthread_mutex_trylock", &real, m));
 }
 
+int pthread_mutex_timedlock(pthread_mutex_t *m, const struct timespec *until)
+{
+    static int (*real)(pthread_mutex_t *, const struct timespec *);
+    if (!real)
+        *(void **)&real = dlsym(RTLD_NEXT, "pthread_mutex_timedlock");
+    return told(m, real(m, until));
+}
+
 int pthread_mutex_consistent(pthread_mutex_t *m)
 {
     static one *real;

@@ -1,0 +1,140 @@
+/* A program of our own, with more threads than there are ids: mutexes of three types are locked, tried, and locked with
+ * a time limit; threads end while they own one, and processes are killed. Of each mutex the data says who is inside and
+ * is written twice. usage: own FILE DEATHS PROCESSES THREADS */
+#include "deaths.h"
+#include <pthread.h>
+
+enum { MUTEXES = 9 };
+
+struct guarded {
+    pthread_mutex_t mutex;
+    _Atomic int inside;
+    volatile long first, second;
+};
+static struct guarded *all;
+static int threads, at_slot;
+
+static void bad(int line)
+{
+    fprintf(stderr, "own.c:%d\n", line);
+    atomic_fetch_add(&board->errors, 1);
+    _exit(1);
+}
+#define GOOD(what) ((what) ? (void)0 : bad(__LINE__))
+
+static int acquire(pthread_mutex_t *m, unsigned how)
+{
+    struct timespec until;
+    if (how % 4 < 2)
+        return pthread_mutex_lock(m);
+    if (how % 4 == 2)
+        return pthread_mutex_trylock(m);
+    clock_gettime(CLOCK_REALTIME, &until);
+    until.tv_sec += (until.tv_nsec + 300000) / 1000000000;
+    until.tv_nsec = (until.tv_nsec + 300000) % 1000000000;
+    return pthread_mutex_timedlock(m, &until);
+}
+
+/* Alone, and with whole data, unless the last owner died there. */
+static void enter(struct guarded *g, int r)
+{
+    int was = atomic_exchange(&g->inside, (int)getpid());
+    if (r == EOWNERDEAD) {
+        g->second = g->first;
+        GOOD(pthread_mutex_consistent(&g->mutex) == 0);
+    } else
+        GOOD(r == 0 && was == 0 && g->first == g->second);
+}
+
+static void change(struct guarded *g)
+{
+    g->first++;
+    for (volatile int i = 0; i < 30; i++)
+        ;
+    g->second++;
+    GOOD(atomic_exchange(&g->inside, 0) == (int)getpid());
+}
+
+static void twice(struct guarded *g, int i)
+{
+    int r = pthread_mutex_trylock(&g->mutex);
+    GOOD(r == (i % 3 == PTHREAD_MUTEX_RECURSIVE ? 0 : i % 3 == PTHREAD_MUTEX_ERRORCHECK ? EDEADLK : EBUSY));
+    if (r == 0)
+        GOOD(pthread_mutex_unlock(&g->mutex) == 0);
+}
+
+static void *work_on(void *unused)
+{
+    static _Atomic unsigned threads_begun;
+    unsigned random = (unsigned)getpid() * 131 + atomic_fetch_add(&threads_begun, 1);
+    for (;;) {
+        int i = rand_r(&random) % MUTEXES;
+        struct guarded *g = &all[i];
+        int r = acquire(&g->mutex, (unsigned)rand_r(&random));
+        if (r == EBUSY || r == ETIMEDOUT)
+            continue;
+        enter(g, r);
+        twice(g, i);
+        if (rand_r(&random) % 300 == 0) { /* ends while it owns it; another thread takes its place */
+            pthread_t t;
+            GOOD(!pthread_create(&t, NULL, work_on, unused) && !pthread_detach(t));
+            return NULL;
+        }
+        change(g);
+        GOOD(pthread_mutex_unlock(&g->mutex) == 0);
+        atomic_fetch_add(&board->got_on[at_slot], 1);
+    }
+}
+
+static void work(int slot)
+{
+    at_slot = slot;
+    for (int i = 0; i < threads; i++) {
+        pthread_t t;
+        GOOD(!pthread_create(&t, NULL, work_on, NULL) && !pthread_detach(t));
+    }
+    for (;;)
+        pause();
+}
+
+static void make(int unused)
+{
+    pthread_mutexattr_t a;
+    (void)unused;
+    pthread_mutexattr_init(&a);
+    pthread_mutexattr_setpshared(&a, PTHREAD_PROCESS_SHARED);
+    pthread_mutexattr_setrobust(&a, PTHREAD_MUTEX_ROBUST);
+    for (int i = 0; i < MUTEXES; i++) {
+        pthread_mutexattr_settype(&a, i % 3);
+        GOOD(pthread_mutex_init(&all[i].mutex, &a) == 0);
+    }
+}
+
+int main(int argc, char **argv)
+{
+    CHECK(argc > 4);
+    int deaths = atoi(argv[2]), n = atoi(argv[3]), fd = open(argv[1], O_RDWR | O_CREAT, 0600);
+    threads = atoi(argv[4]);
+    CHECK(n >= 2 && n <= SLOTS && fd >= 0 && ftruncate(fd, sizeof *all * MUTEXES) == 0);
+    all = mmap(NULL, sizeof *all * MUTEXES, PROT_READ | PROT_WRITE, MAP_SHARED, fd, 0);
+    CHECK(all != MAP_FAILED);
+    begin_counts();
+    CHECK(waitpid(begin(0, make), NULL, 0) > 0);
+    for (int i = 0; i < n; i++)
+        child[i] = begin(i, work);
+    for (int k = 0; k < deaths; k++) {
+        int i = rand() % n;
+        rest(rand() % 3000);
+        look(n);
+        kill_and_wait(child[i]);
+        child[i] = begin(i, work);
+    }
+    until_all_got_on(n);
+    for (int i = 0; i < n; i++)
+        kill_and_wait(child[i]);
+    CHECK(atomic_load(&board->errors) == 0);
+    printf("own: %d deaths, %d processes of %d threads: EOWNERDEAD %ld, consistent %ld, %ld calls\n", deaths, n,
+           threads, atomic_load(&counts->died), atomic_load(&counts->consistent), atomic_load(&counts->calls));
+    CHECK(atomic_load(&counts->died) > 0 && atomic_load(&counts->unusable) == 0 && atomic_load(&counts->refused) == 0);
+    return 0;
+}
