@@ -44,7 +44,7 @@ static void spoil_record(pz *p, uint64_t value, unsigned *random)
 {
     struct life *life = &p->life[1 + rand_r(random) % 8];
     uint64_t *parts = (uint64_t *)life->record;
-    parts[(unsigned)rand_r(random) % (sizeof life->record / sizeof(uint64_t))] = value;
+    parts[(unsigned)rand_r(random) % (sizeof life->record / (sizeof(uint64_t)))] = value;
     if (rand_r(random) % 8 == 0)
         atomic_store(&life->valid, (unsigned)rand_r(random) % 9);
 }
