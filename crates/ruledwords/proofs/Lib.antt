@@ -33,7 +33,6 @@ mod Finishing
 mod Freeing
 pub mod Fates
 mod Turning
-mod Calling
 mod OwnTurns
 mod CellTurns
 mod SectionPlaces
@@ -45,7 +44,6 @@ mod Settling
 mod StepsOfCalls
 mod Releasing
 mod ReleaseSteps
-mod Unlocking
 mod ConditionActs
 mod ConditionReleases
 mod ConditionTurns

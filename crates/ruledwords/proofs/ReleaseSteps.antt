@@ -72,9 +72,9 @@ after w a p b q d end.Stopped so_far ends = λ x m is. ends x m (so_far x m is)
 after w a p b q d (end.Replied y) so_far ends = λ x m is. ends x m (so_far x m is)
 
 -- a `?` hands on how the unlock ended
-pub handed_on : (w : Words) (a : Pass Live) (p : Whole) (b : Pass Live) (q : Whole) (r : Result Unit End) (e : End) → IsErrAnd r (λ y. y ≡ e) → ReleaseEnds w a p b e → ReleasesTo w a p b q r
-handed_on w a p b q (Ok u) e is ends = absurd is
-handed_on w a p b q (Err y) e is ends = subst (ReleaseEnds w a p b) (sym is) ends
+pub handed_on : (w : Words) (a : Pass Live) (p : Whole) (b : Pass Live) (r : Result Whole End) (e : End) → IsErrAnd r (λ y. y ≡ e) → ReleaseEnds w a p b e → ReleasesTo w a p b r
+handed_on w a p b (Ok q) e is ends = absurd is
+handed_on w a p b (Err y) e is ends = subst (ReleaseEnds w a p b) (sym is) ends
 
 pub all_handed_on : (w : Words) (a : Pass Live) (p : Whole) (b : Pass Live) (r : Result (Whole × Wakes) End) (e : End) → IsErrAnd r (λ y. y ≡ e) → ReleaseEnds w a p b e → ReleasesAll w a p b r
 all_handed_on w a p b (Ok q) e is ends = absurd is

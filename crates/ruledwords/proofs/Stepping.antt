@@ -14,7 +14,7 @@ use Rattle.ruledwords.specs.declared.turn.Running.{Running}
 use Rattle.ruledwords.specs.declared.turn.Turn.TheVariants.{Goes}
 use Rattle.ruledwords.specs.Fates.{Heeds}
 use Rattle.ruledwords.specs.Passes.{layout_of}
-use Rattle.ruledwords.specs.Stretches.{ComesOn, ComesToEnd, StepsOn, StepsTo}
+use Rattle.ruledwords.specs.Stretches.{ComesOn, ComesToEnd, StepsTo}
 use Rattle.ruledwords.specs.Turns.{access_in, running_call, running_pass, EndsIn, IsCallOf, IsInNonblocking, IsOneStep, IsUnderWay, Turned, IsNonblocking, stops_with, stops_within}
 use Rattle.ruledwords.proofs.Ranks.{rank_in, turn_falls}
 use Rattle.ruledwords.proofs.StepsOfCalls.{try_step, consistent_step}
@@ -35,10 +35,6 @@ after w a p b q d (end.Replied y) first ends = ((λ x call is. ends.0 x call (fi
 pub handed_on : (w : Words) (a : Pass Live) (p : Whole) (b : Pass Live) (r : Result Whole End) (e : End) → IsErrAnd r (λ y. y ≡ e) → ComesToEnd w a p b e → StepsTo w a p b r
 handed_on w a p b (Ok q) e is ends = absurd is
 handed_on w a p b (Err y) e is ends = subst (ComesToEnd w a p b) (sym is) ends
-
-pub steps_handed_on : (w : Words) (a : Pass Live) (p : Whole) (b : Pass Live) (q : Whole) (r : Result Unit End) (e : End) → IsErrAnd r (λ y. y ≡ e) → ComesToEnd w a p b e → StepsOn w a p b q r
-steps_handed_on w a p b q (Ok u) e is ends = absurd is
-steps_handed_on w a p b q (Err y) e is ends = subst (ComesToEnd w a p b) (sym is) ends
 
 pub counts_on : {A : Type 0} (r : Result A End) (e : End) (n m : ℕ) → IsErrAnd r (λ y. y ≡ e) → n ≡ m + stops_with e → n ≡ m + stops_within r
 counts_on (Ok q) e n m is counted = absurd is
@@ -61,10 +57,6 @@ heeds_nothing f n = record { fate = omega arith; note = omega arith; once = omeg
 pub heeds_out : {A : Type 0} (r : Result A End) (e : End) (f f' n n' : ℕ) → IsErrAnd r (λ y. y ≡ e) → Heeds f f' n n' (stops_with e) → Heeds f f' n n' (stops_within r)
 heeds_out (Ok q) e f f' n n' is heeded = absurd is
 heeds_out (Err y) e f f' n n' is heeded = subst (λ (z : End). Heeds f f' n n' (stops_with z)) (sym is) heeded
-
--- one fate alone was asked
-pub heeds_fate : (f f' n k : ℕ) → f' ≡ f + k → Heeds f f' n n k
-heeds_fate f f' n k told = record { fate = omega (arith, told); note = omega arith; once = omega (arith, told) }
 
 -- ---- calls that wait for nobody
 

@@ -1,5 +1,5 @@
 -- A running call whose accesses are made one after the other.
-use Rattle.std.proofs.Common.{◌≡◌, sym, subst}
+use Rattle.std.proofs.Common.{◌≡◌, Result, Ok, Err, sym, subst}
 use Rattle.lockword.specs.declared.reply.Reply.{Reply}
 use Rattle.mutex.specs.Standings.{Whole}
 use Rattle.mutex.specs.declared.call.Call.{Call}
@@ -11,14 +11,19 @@ use Rattle.ruledwords.specs.declared.pass.Dead.{Dead}
 use Rattle.ruledwords.specs.declared.step.End.{End}
 use Rattle.ruledwords.specs.declared.step.End.TheVariants as end
 use Rattle.ruledwords.specs.declared.turn.Running.{Running}
-use Rattle.ruledwords.specs.declared.turn.Stretch.{Stretch}
 use Rattle.ruledwords.specs.declared.turn.Stretch.TheVariants as stretch
 use Rattle.ruledwords.specs.Lists.{IsMortal}
 use Rattle.ruledwords.specs.Passes.{card, layout_of, IsDying, IsPassOf}
-use Rattle.ruledwords.specs.Stretches.{ComesOn, ComesToEnd, IsDecidedIn, Stretches}
+use Rattle.ruledwords.specs.Stretches.{ComesOn, ComesToEnd, IsDecidedIn, StepsTo, Stretches}
 use Rattle.ruledwords.specs.Turns.{running_call, running_of, running_pass, HasSeenTheSame, IsCallOf, IsDecided, IsIn, IsRunningOf, IsUnderWay}
 use Rattle.ruledwords.proofs.Listing.{mortal}
+use Rattle.ruledwords.proofs.Stepping.{after, comes_further}
 use Rattle.ruledwords.proofs.Turning.{died_in}
+
+-- accesses, and more of them
+pub stretched_on : (w : Words) (a : Pass Live) (p : Whole) (b : Pass Live) (q : Whole) (d : Pass Live) (r : Result Whole End) → ComesOn w a p b q → StepsTo w b q d r → StepsTo w a p d r
+stretched_on w a p b q d (Ok s) first more = comes_further w a p b q d s first more
+stretched_on w a p b q d (Err e) first more = after w a p b q d e first more
 
 module _ (w : Words) (r : Running) (there : IsRunningOf w r) where
   -- where it stands
@@ -51,7 +56,3 @@ module _ (w : Words) (r : Running) (there : IsRunningOf w r) where
     ) where
       dying : IsCallOf w b ends.0 → IsDying w d
       dying on = (of on.words.0, subst (IsMortal (layout_of w)) (sym same) (mortal (layout_of w) (card b) on.words.0.1 on.words.1.0 ends.0 on.words.1.1))
-
--- and further on, from where it came to
-pub stretched_on : (w : Words) (a : Pass Live) (p : Whole) (of : IsCallOf w a p) (b : Pass Live) (q : Whole) (on : ComesOn w a p b q) (s : Stretch) → Stretches w (running_of w b q on.0) s → Stretches w (running_of w a p of) s
-stretched_on w a p of b q on s more = (more.0, (λ x call u. more.1 x call (on.1 x call (of, u)).1), (λ c y was. more.2 c y (on.2 c y (of, was)).1))

@@ -17,8 +17,6 @@ use Rattle.ruledwords.specs.declared.turn.Outcome.{Outcome}
 use Rattle.ruledwords.specs.declared.turn.Outcome.TheVariants as outcome
 use Rattle.ruledwords.specs.declared.turn.Released.{Released}
 use Rattle.ruledwords.specs.declared.turn.Released.TheVariants as released
-use Rattle.ruledwords.specs.declared.turn.Unlocked.{Unlocked}
-use Rattle.ruledwords.specs.declared.turn.Unlocked.TheVariants as unlocked
 use Rattle.ruledwords.specs.declared.turn.Owed.{Owed}
 use Rattle.ruledwords.specs.declared.turn.Wakes.{Wakes}
 use Rattle.ruledwords.specs.declared.turn.Wakes.TheVariants.{Nobody, One, All}
@@ -114,25 +112,3 @@ Settles w o (Err v) = ¬ (owed_wakes o ≡ Nobody) × (v ≡ o)
 -- a thread that dies before the end of its unlock makes no point. What it has seen stays
 abbrev pub Abandons : Owed → Pass Dead → Type 0
 Abandons o d = (card d ≡ card (owed_pass o)) × ((w : Words) → IsOwedOf w o → IsDying w d)
-
--- a release comes to this where the unlock ends itself if nobody is to be woken, or its thread dies before that; and where somebody is, it is owed still
-abbrev pub UnlocksAs : Words → Released → Unlocked → Type 0
-UnlocksAs w (released.Owes o) (unlocked.Owes v) = Settles w o (Err v)
-UnlocksAs w (released.Owes o) (unlocked.Lives b y) = Settles w o (Ok b) × (y ≡ OK)
-UnlocksAs w (released.Owes o) (unlocked.Dead d) = (owed_wakes o ≡ Nobody) × Abandons o d
-UnlocksAs w (released.Refused b x) (unlocked.Lives c y) = (c ≡ b) × (y ≡ x)
-UnlocksAs w (released.Dead d) (unlocked.Dead e) = e ≡ d
-UnlocksAs w r u = ⊥
-
--- an unlock of mutex m: its release, and its end where nobody is to be woken
-abbrev pub Unlocks : Words → ℕ → Pass Live → Unlocked → Type 0
-Unlocks w m a u = (r : Released) × Frees w m a r × UnlocksAs w r u
-
--- an unlock that stands at p with the pass a comes to this, wherever it began
-abbrev pub UnlocksFrom : Words → Pass Live → Whole → Unlocked → Type 0
-UnlocksFrom w a p u = (x : Pass Live) (m : ℕ) → IsReleasing w x m a p → Unlocks w m x u
-
-abbrev pub stops_unlocking : Unlocked → ℕ
-stops_unlocking (unlocked.Owes o) = 0
-stops_unlocking (unlocked.Lives b y) = 0
-stops_unlocking (unlocked.Dead d) = 1

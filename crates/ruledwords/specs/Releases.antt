@@ -58,9 +58,9 @@ ReleasesOnce w a p b q (Ok u) =
 ReleasesOnce w a p b q (Err e) = Unit {0}
 
 -- so many accesses were made
-abbrev pub ReleasesTo : Words → Pass Live → Whole → Pass Live → Whole → Result Unit End → Type 0
-ReleasesTo w a p b q (Ok u) = IsInRelease w b q × StaysReleasing w a p b q
-ReleasesTo w a p b q (Err e) = ReleaseEnds w a p b e
+abbrev pub ReleasesTo : Words → Pass Live → Whole → Pass Live → Result Whole End → Type 0
+ReleasesTo w a p b (Ok q) = IsInRelease w b q × StaysReleasing w a p b q
+ReleasesTo w a p b (Err e) = ReleaseEnds w a p b e
 
 -- it has released its mutex, and owes them to be woken
 abbrev pub ReleasesAll : Words → Pass Live → Whole → Pass Live → Result (Whole × Wakes) End → Type 0

@@ -1,5 +1,5 @@
 -- Accesses of a call that are made one after the other, where the call stands.
-use Rattle.std.specs.Prelude.{◌≡◌, ℕ, Result, Ok, Err}
+use Rattle.std.specs.Prelude.{ℕ, Result, Ok, Err}
 use Rattle.lockword.specs.declared.reply.Reply.{Reply}
 use Rattle.mutex.specs.declared.call.Call.{Call}
 use Rattle.mutex.specs.Standings.{Whole}
@@ -15,7 +15,7 @@ use Rattle.ruledwords.specs.declared.turn.Stretch.{Stretch}
 use Rattle.ruledwords.specs.declared.turn.Stretch.TheVariants as stretch
 use Rattle.ruledwords.specs.declared.turn.Turn.TheVariants.{Goes, Lives}
 use Rattle.ruledwords.specs.Passes.{card, layout_of, IsDying}
-use Rattle.ruledwords.specs.Turns.{running_of, Begun, EndsIn, GoesOn, GoesOnDecided, HasDied, HasSeenTheSame, IsCallOf, IsDecided, IsOneStep, IsRunningOf, IsUnderWay, StaysIn, Turned}
+use Rattle.ruledwords.specs.Turns.{running_of, EndsIn, GoesOn, GoesOnDecided, HasDied, HasSeenTheSame, IsCallOf, IsDecided, IsOneStep, IsRunningOf, IsUnderWay, StaysIn, Turned}
 
 -- a call that was decided, with the reply x at the card c, stands at p, with the pass a
 abbrev pub IsDecidedIn : Words → Card → Reply → Pass Live → Whole → Type 0
@@ -33,7 +33,7 @@ abbrev pub ComesToEnd : Words → Pass Live → Whole → Pass Live → End → 
 ComesToEnd w a p b end.Stopped = (q : Whole) × ComesOn w a p b q
 ComesToEnd w a p b (end.Replied y) = EndsIn w a p b (end.Replied y) × ((c : Card) (x : Reply) → IsDecidedIn w c x a p → GoesOnDecided w c x (Lives b y))
 
--- accesses were made, or the call stays at its section, or it ended
+-- an access was made, or the call stays at its section, or it ended
 abbrev pub StepsOn : Words → Pass Live → Whole → Pass Live → Whole → Result Unit End → Type 0
 StepsOn w a p b q (Ok u) = ComesOn w a p b q
 StepsOn w a p b q (Err e) = ComesToEnd w a p b e
@@ -71,16 +71,6 @@ GoesOnThere w s = Unit {0}
 abbrev pub Stretches : Words → Running → Stretch → Type 0
 Stretches w r s =
     GoesOnThere w s × ((a : Pass Live) (call : Call) → IsUnderWay w a call r → StretchesFrom w a call s) × ((c : Card) (x : Reply) → IsDecided w c x r → StretchesDecided w c x s)
-
--- a call that begins so has come to this: one that is refused has made no access
-abbrev pub StretchesOn : Words → Result Running (Pass Live × Reply) → Stretch → Type 0
-StretchesOn w (Ok r) s = Stretches w r s
-StretchesOn w (Err e) (stretch.Lives b x) = (b ≡ e.0) × (x ≡ e.1)
-StretchesOn w (Err e) s = ⊥
-
--- a call that begins with the pass a has come to this, by accesses that were made one after the other
-abbrev pub StretchesBegun : Words → Pass Live → Call → Stretch → Type 0
-StretchesBegun w a call s = (b : Result Running (Pass Live × Reply)) × Begun w a call b × StretchesOn w b s
 
 -- how often its thread was told to stop
 abbrev pub stops_stretching : Stretch → ℕ

@@ -1,22 +1,19 @@
 //! The calls on mutexes, which wait for nobody; unlocks up to the waking of sleepers, and their end.
 ghost use Rattle.std.specs.Prelude.{◌≡◌, ◌<◌, ◌+◌};
 ghost use Rattle.lockword.specs.declared.reply.Reply.TheVariants.{OK};
-ghost use Rattle.ruledwords.specs.Outcomes.{Tried, Frees, Declared, stops_in, stops_releasing, FreesFrom, owed_pass, owed_running, owed_wakes, IsOwedOf, Settles, Abandons, Unlocks, UnlocksAs, UnlocksFrom, stops_unlocking};
-ghost use Rattle.ruledwords.specs.declared.turn.Released.TheVariants.{Owes as OwesOf};
-ghost use Rattle.ruledwords.specs.declared.turn.Wakes.TheVariants.{Nobody as NobodyOf};
-ghost use Rattle.ruledwords.specs.Fates.{Heeds};
+ghost use Rattle.ruledwords.specs.Outcomes.{Tried, Frees, Declared, stops_in, stops_releasing, FreesFrom, owed_pass, owed_running, owed_wakes, IsOwedOf, Settles, Abandons};
 ghost use Rattle.ruledwords.specs.Passes.{layout_of, IsLive, card};
 ghost use Rattle.ruledwords.specs.declared.pass.Live.{Live};
 ghost use Rattle.ruledwords.specs.declared.pass.Pass.{Pass};
-ghost use Rattle.ruledwords.specs.Owing.{OwesThere, owing_at};
+ghost use Rattle.ruledwords.specs.Owing.{OwesThere};
 ghost use Rattle.ruledwords.specs.Releases.{IsInRelease, ReleaseSteps, ReleasesAll, ReleasesOnce, ReleasesTo};
-ghost use Rattle.ruledwords.specs.Turns.{running_call, running_pass, stops_within, running_program, HasSeenTheSame, IsCallOf, IsDecided};
+ghost use Rattle.ruledwords.specs.Turns.{running_call, running_pass, stops_within, running_program, IsDecided};
 ghost use Rattle.ruledwords.specs.declared.pass.Words.{Words};
 
-use crate::fate::{Fate, either_stops};
+use crate::fate::Fate;
 use crate::pass::{Dead, Live, Pass, Words};
 use crate::step::End;
-use crate::turn::{Outcome, Owed, Released, Running, Unlocked, Wakes};
+use crate::turn::{Outcome, Owed, Released, Running, Wakes};
 use lockword::{Reply, Tid};
 use mutex::{Call, Phase, Program, Row, UnlockRow};
 
@@ -94,38 +91,38 @@ impl Words {
     }
 
     /// The accesses of an unlock whose mutex stands last in its thread's list, which is the one taken first, one after the other: so the compiler knows at each where the call stands.
-    /// Of any other, some of them. The call is changed where it stands: no register holds what is left free in it, so each move would go through memory. It is here for speed alone: its contract
-    /// lets it make fewer.
+    /// Of any other, some of them. It is here for speed alone: its contract lets it make fewer.
     #[inline(always)]
     fn first_release_steps<F: Fate>(
         &self,
         pass: &mut Pass<Live>,
-        program: &mut Program,
+        begun: Program,
         fate: &mut F,
-    ) -> Result<(), End>
-        requires { IsInRelease self.now pass.old program.old }
-        ensures steps { ReleasesTo self.now pass.old program.old pass.new program.new result }
+    ) -> Result<Program, End>
+        requires { IsInRelease self.now pass.old begun }
+        ensures steps { ReleasesTo self.now pass.old begun pass.new result }
         ensures fate { F.stopped fate.new ≡ F.stopped fate.old + stops_within result }
     {
+        let mut program = begun;
         let Phase::AtCell(Row::Unlock(UnlockRow::Load)) = program.phase() else {
-            return Ok(());
+            return Ok(program);
         };
-        self.release_step(pass, program, fate)?;
+        self.release_step(pass, &mut program, fate)?;
         let Phase::Announcing {
             next: Row::Unlock(UnlockRow::Release { .. }),
         } = program.phase()
         else {
-            return Ok(());
+            return Ok(program);
         };
-        self.release_step(pass, program, fate)?;
-        self.release_step(pass, program, fate)?;
-        self.release_step(pass, program, fate)?;
-        self.release_step(pass, program, fate)?;
+        self.release_step(pass, &mut program, fate)?;
+        self.release_step(pass, &mut program, fate)?;
+        self.release_step(pass, &mut program, fate)?;
+        self.release_step(pass, &mut program, fate)?;
         let Phase::AtCell(Row::Unlock(UnlockRow::Release { .. })) = program.phase() else {
-            return Ok(());
+            return Ok(program);
         };
-        self.release_step(pass, program, fate)?;
-        Ok(())
+        self.release_step(pass, &mut program, fate)?;
+        Ok(program)
     }
 
     /// All further accesses of the unlock up to the waking, and whom it has to wake.
@@ -160,8 +157,7 @@ impl Words {
         ensures steps { ReleasesAll self.now pass.old begun pass.new result }
         ensures fate { F.stopped fate.new ≡ F.stopped fate.old + stops_within result }
     {
-        let mut program = begun;
-        self.first_release_steps(pass, &mut program, fate)?;
+        let program = self.first_release_steps(pass, begun, fate)?;
         match owing(program.phase()) {
             Some(wakes) => Ok((program, wakes)),
             None => self.last_release_steps(pass, program, fate),
@@ -234,109 +230,9 @@ impl Owed {
             mut pass,
             mut program,
         } = running;
-        words.clear_pending(&mut pass, &mut program);
-        Ok(pass)
-    }
-
-    /// Ends the unlock where nobody is to be woken, unless one of its thread's fates tells it to stop. Else it is handed on.
-    fn settle_or_die<F: Fate, N: Fate>(self, words: &Words, fate: &mut F, note: &mut N) -> Unlocked
-        requires { IsOwedOf words.now self }
-        ensures unlocks { UnlocksAs words.now (OwesOf self) result }
-        ensures fate { Heeds (F.stopped fate.old) (F.stopped fate.new) (N.stopped note.old) (N.stopped note.new) (stops_unlocking result) }
-    {
-        if self.wakes != Wakes::Nobody {
-            return Unlocked::Owes(self);
-        }
-        if either_stops(fate, note) {
-            return Unlocked::Dead(self.abandon());
-        }
-        match self.settle(words) {
-            Ok(pass) => Unlocked::Lives(pass, Reply::OK),
-            Err(owed) => Unlocked::Owes(owed),
-        }
-    }
-}
-
-impl Words {
-    /// Frees a mutex that the thread owns (pthread_mutex_unlock), and ends the unlock where nobody is to be woken: what [`Words::release`] and [`Owed::settle`] do, in one place and so faster. One that is
-    /// inconsistent becomes unusable. Another's mutex is refused with EPERM. The fate is asked before each access up to the waking; before the last access, which clears the thread's pending entry, the note
-    /// is asked too, by which others can tell the thread to stop ([`Never`](crate::Never) where nobody can).
-    #[inline(always)]
-    pub fn unlock<F: Fate, N: Fate>(
-        &self,
-        pass: Pass<Live>,
-        mutex: u16,
-        fate: &mut F,
-        note: &mut N,
-    ) -> Unlocked
-        requires pass { IsLive self.now pass }
-        requires mutex { mutex < (layout_of self.now).mutexes }
-        ensures unlocks { Unlocks self.now mutex pass result }
-        ensures fate { Heeds (F.stopped fate.old) (F.stopped fate.new) (N.stopped note.old) (N.stopped note.new) (stops_unlocking result) }
-    {
-        match Program::new(&self.layout, pass.thread, pass.held, Call::Unlock(mutex)) {
-            Ok(begun) => {
-                let mut pass = pass;
-                let mut program = begun;
-                match self.first_release_steps(&mut pass, &mut program, fate) {
-                    Ok(()) => match owing(program.phase()) {
-                        Some(Wakes::Nobody) => self.end_unlock(pass, &mut program, fate, note),
-                        _ => self.unlock_on(Running { pass, program }, fate, note),
-                    },
-                    Err(end) => match end {
-                        End::Replied(reply) => Unlocked::Lives(pass, reply),
-                        End::Stopped => Unlocked::Dead(pass.died()),
-                    },
-                }
-            }
-            Err(refusal) => Unlocked::Lives(pass, refusal),
-        }
-    }
-
-    /// Ends an unlock that has nobody to wake, unless one of its thread's fates tells it to stop.
-    #[inline(always)]
-    fn end_unlock<F: Fate, N: Fate>(
-        &self,
-        pass: Pass<Live>,
-        program: &mut Program,
-        fate: &mut F,
-        note: &mut N,
-    ) -> Unlocked
-        requires releases { IsInRelease self.now pass program.old }
-        requires nobody { program.old.phase ≡ owing_at NobodyOf }
-        ensures unlocks { UnlocksFrom self.now pass program.old result }
-        ensures fate { Heeds (F.stopped fate.old) (F.stopped fate.new) (N.stopped note.old) (N.stopped note.new) (stops_unlocking result) }
-    {
-        if either_stops(fate, note) {
-            return Unlocked::Dead(pass.died());
-        }
-        let mut pass = pass;
-        self.clear_pending(&mut pass, program);
-        Unlocked::Lives(pass, Reply::OK)
-    }
-
-    /// The last access of an unlock that has nobody to wake: clears the thread's pending entry.
-    #[inline(always)]
-    fn clear_pending(&self, pass: &mut Pass<Live>, program: &mut Program)
-        requires call { IsCallOf self.now pass.old program.old }
-        requires nobody { program.old.phase ≡ owing_at NobodyOf }
-        ensures live { IsLive self.now pass.new }
-        ensures same { HasSeenTheSame (card pass.old) (card pass.new) }
-    {
-        // it replies OK, which its caller knows
-        let _reply = self.advance(pass, program);
-    }
-
-    /// The unlock from where it stands, of which the compiler can't know where that is.
-    fn unlock_on<F: Fate, N: Fate>(&self, running: Running, fate: &mut F, note: &mut N) -> Unlocked
-        requires { IsInRelease self.now (running_pass running) (running_call running) }
-        ensures unlocks { UnlocksFrom self.now (running_pass running) (running_call running) result }
-        ensures fate { Heeds (F.stopped fate.old) (F.stopped fate.new) (N.stopped note.old) (N.stopped note.new) (stops_unlocking result) }
-    {
-        match self.release_to_wake(running, fate) {
-            Released::Owes(owed) => owed.settle_or_die(self, fate, note),
-            Released::Refused(pass, reply) => Unlocked::Lives(pass, reply),
-            Released::Dead(pass) => Unlocked::Dead(pass),
+        match words.advance(&mut pass, &mut program) {
+            Some(_) => Ok(pass),
+            None => unreachable!(),
         }
     }
 }

@@ -27,6 +27,5 @@ pub use counter::CounterWord;
 pub use fate::{Fate, Never, either_stops};
 pub use pass::{Card, Dead, Last, Live, Pass, Reaped, Spent, Words};
 pub use turn::{
-    CondRunning, CondTurn, Outcome, Owed, Reaping, Released, Running, Stretch, Turn, Unlocked,
-    Wakes, Walked,
+    CondRunning, CondTurn, Outcome, Owed, Reaping, Released, Running, Stretch, Turn, Wakes, Walked,
 };

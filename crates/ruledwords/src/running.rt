@@ -5,8 +5,7 @@ ghost use Rattle.keys.specs.Accesses.{answer_at, address_of};
 ghost use Rattle.keys.specs.declared.access.Access.TheVariants.{Trim as AtTrim};
 ghost use Rattle.keys.specs.Layouts.{cell_place};
 ghost use Rattle.mutex.specs.Calls.{mutex_of};
-ghost use Rattle.mutex.specs.Whole.{whole_access, whole_led, whole_moved, whole_progress, IsUnderWay as IsInProgress};
-ghost use Rattle.keys.specs.Programs.{UnlessReturned};
+ghost use Rattle.mutex.specs.Whole.{whole_access};
 ghost use Rattle.mutex.specs.declared.call.Call.{Call};
 ghost use Rattle.ruledwords.specs.Calls.{count_after, count_by as count_after_by, IsOnMutex};
 ghost use Rattle.ruledwords.specs.Passes.{layout_of, IsLive, card, IsDying, IsPassOf};
@@ -78,7 +77,7 @@ impl Words {
         let access = program.next();
         let thread = pass.thread;
         let found = self.found(&mut pass.seat, thread, program, access);
-        match resumed(program, answer(access, found)) {
+        match program.resume(answer(access, found)) {
             Progress::Goes { point } => {
                 pass.held = count(pass.held, point);
                 None
@@ -108,21 +107,6 @@ impl Words {
             Phase::AtCell(_) => self.make::<Brand>(seat, thread, program),
             _ => self.access_own(seat, thread, access),
         }
-    }
-}
-
-/// Goes on with the call by an answer. The call goes by the answer's kind, and which one comes is known only behind an exchange: whether that took effect. So there are two ways from here on, and on each of
-/// them the compiler knows where the call leads.
-#[inline(always)]
-fn resumed(program: &mut Program, answer: Answer) -> Progress
-    requires { IsInProgress program.old.phase }
-    ensures moved { program.new ≡ whole_moved program.old (whole_led program.old answer) }
-    ensures progress { result ≡ whole_progress program.old (whole_led program.old answer) }
-    ensures goes { UnlessReturned result (IsInProgress program.new.phase) }
-{
-    match answer {
-        Answer::Exchanged => program.resume(Answer::Exchanged),
-        other => program.resume(other),
     }
 }
 

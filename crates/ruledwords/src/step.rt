@@ -1,13 +1,11 @@
 //! Calls whose accesses are made one after the other, where the call stands: to their end, or up to a futex section.
-ghost use Rattle.std.specs.Prelude.{◌≡◌, ◌+◌, ◌<◌, true, false};
+ghost use Rattle.std.specs.Prelude.{◌≡◌, ◌+◌, true, false};
 ghost use Rattle.mutex.specs.declared.call.Call.{Call};
-ghost use Rattle.mutex.specs.declared.call.Call.TheVariants.{Lock as LockOf};
 ghost use Rattle.ruledwords.specs.declared.pass.Live.{Live};
 ghost use Rattle.ruledwords.specs.declared.pass.Pass.{Pass};
 ghost use Rattle.ruledwords.specs.Fates.{Heeds};
 ghost use Rattle.ruledwords.specs.Outcomes.{Finishes, stops_in};
-ghost use Rattle.ruledwords.specs.Passes.{layout_of, IsLive};
-ghost use Rattle.ruledwords.specs.Stretches.{StepsOn, StepsOnce, StepsTo, Stretches, StretchesBegun, stops_stretching};
+ghost use Rattle.ruledwords.specs.Stretches.{StepsOn, StepsOnce, StepsTo, Stretches, stops_stretching};
 ghost use Rattle.ruledwords.specs.Turns.{EndsIn, IsCallOf, IsInNonblocking, IsOneStep, IsRunningOf, running_call, running_pass, stops_with, stops_within};
 
 use crate::fate::{Fate, Never, either_stops};
@@ -15,7 +13,7 @@ use crate::pass::{Live, Pass, Words};
 use crate::turn::{Outcome, Running, Stretch};
 use keys::{Access, StepProgram};
 use lockword::Reply;
-use mutex::{Call, LockRow, Phase, Program, Row, TryLockRow};
+use mutex::{LockRow, Phase, Program, Row, TryLockRow};
 
 /// How many accesses a stretch has at most behind its first ones: what is left of a call that isn't crossed again and again.
 const STRETCH: u8 = 32;
@@ -106,39 +104,39 @@ impl Words {
     }
 
     /// The accesses of a lock or trylock that nobody crosses, one after the other: so the compiler knows at each where the call stands. Of one that meets an owned or a changed cell some of
-    /// them, of other calls none. The call is changed where it stands: no register holds what is left free in it, so each move would go through memory. It is here for speed alone: its contract lets it
-    /// make fewer.
+    /// them, of other calls none. It is here for speed alone: its contract lets it make fewer.
     #[inline(always)]
     pub(crate) fn first_steps<B: Begins, F: Fate, N: Fate>(
         &self,
         pass: &mut Pass<Live>,
-        program: &mut Program,
+        begun: Program,
         fate: &mut F,
         note: &mut N,
-    ) -> Result<(), End>
-        requires { IsCallOf self.now pass.old program.old }
-        ensures steps { StepsOn self.now pass.old program.old pass.new program.new result }
+    ) -> Result<Program, End>
+        requires { IsCallOf self.now pass.old begun }
+        ensures steps { StepsTo self.now pass.old begun pass.new result }
         ensures fate { Heeds (F.stopped fate.old) (F.stopped fate.new) (N.stopped note.old) (N.stopped note.new) (stops_within result) }
     {
+        let mut program = begun;
         if !B::begins(program.phase()) {
-            return Ok(());
+            return Ok(program);
         }
-        self.step(pass, program, fate, note)?;
-        self.step(pass, program, fate, note)?;
+        self.step(pass, &mut program, fate, note)?;
+        self.step(pass, &mut program, fate, note)?;
         if !B::takes(program.phase()) {
-            return Ok(());
+            return Ok(program);
         }
-        self.step(pass, program, fate, note)?;
+        self.step(pass, &mut program, fate, note)?;
         let Phase::Linking { .. } = program.phase() else {
-            return Ok(());
+            return Ok(program);
         };
-        self.step(pass, program, fate, note)?;
-        self.step(pass, program, fate, note)?;
-        self.step(pass, program, fate, note)?;
-        self.step(pass, program, fate, note)?;
-        self.step(pass, program, fate, note)?;
-        self.step(pass, program, fate, note)?;
-        Ok(())
+        self.step(pass, &mut program, fate, note)?;
+        self.step(pass, &mut program, fate, note)?;
+        self.step(pass, &mut program, fate, note)?;
+        self.step(pass, &mut program, fate, note)?;
+        self.step(pass, &mut program, fate, note)?;
+        self.step(pass, &mut program, fate, note)?;
+        Ok(program)
     }
 
     /// All further accesses of the call.
@@ -162,14 +160,13 @@ impl Words {
 
     /// All accesses of the call, from where it stands.
     #[inline(always)]
-    fn all_steps<F: Fate>(&self, pass: &mut Pass<Live>, begun: Program, fate: &mut F) -> End
-        requires { IsInNonblocking self.now pass.old begun }
-        ensures ends { EndsIn self.now pass.old begun pass.new result }
+    fn all_steps<F: Fate>(&self, pass: &mut Pass<Live>, program: Program, fate: &mut F) -> End
+        requires { IsInNonblocking self.now pass.old program }
+        ensures ends { EndsIn self.now pass.old program pass.new result }
         ensures fate { F.stopped fate.new ≡ F.stopped fate.old + stops_with result }
     {
-        let mut program = begun;
-        match self.first_steps::<TryLocks, F, Never>(pass, &mut program, fate, &mut Never) {
-            Ok(()) => self.last_steps(pass, program, fate),
+        match self.first_steps::<TryLocks, F, Never>(pass, program, fate, &mut Never) {
+            Ok(program) => self.last_steps(pass, program, fate),
             Err(end) => end,
         }
     }
@@ -209,46 +206,45 @@ impl Words {
         }
         Ok(program)
     }
-}
 
-impl Words {
-    /// Begins a lock (pthread_mutex_lock) and makes its accesses one after the other, where it stands: up to a futex section, or its end, or its thread's death. Without an access it is refused with XHELD
-    /// where the thread holds 2,048 mutexes. The fate is asked before each access, and then the note, by which others can tell the thread to stop ([`Never`](crate::Never) where nobody can). It may
-    /// stop before a section, and goes on by [`Running::more`] or [`Running::access`]. It is here for speed: what it does, [`Running::call`] and [`Running::more`] do too.
+    /// Accesses of the call from where it stands, up to a futex section, and not too many of them.
     #[inline(always)]
-    pub fn begin_lock<F: Fate, N: Fate>(
+    fn stretch<F: Fate, N: Fate>(
         &self,
-        pass: Pass<Live>,
-        mutex: u16,
+        pass: &mut Pass<Live>,
+        begun: Program,
         fate: &mut F,
         note: &mut N,
-    ) -> Stretch
-        requires pass { IsLive self.now pass }
-        requires mutex { mutex < (layout_of self.now).mutexes }
-        ensures begins { StretchesBegun self.now pass (LockOf mutex) result }
-        ensures fate { Heeds (F.stopped fate.old) (F.stopped fate.new) (N.stopped note.old) (N.stopped note.new) (stops_stretching result) }
+    ) -> Result<Program, End>
+        requires { IsCallOf self.now pass.old begun }
+        ensures steps { StepsTo self.now pass.old begun pass.new result }
+        ensures fate { Heeds (F.stopped fate.old) (F.stopped fate.new) (N.stopped note.old) (N.stopped note.new) (stops_within result) }
     {
-        match Program::new(&self.layout, pass.thread, pass.held, Call::Lock(mutex)) {
-            Ok(begun) => {
-                let mut pass = pass;
-                let mut program = begun;
-                match self.first_steps::<Locks, F, N>(&mut pass, &mut program, fate, note) {
-                    Ok(()) => Running { pass, program }.more(self, fate, note),
-                    Err(end) => match end {
-                        End::Replied(reply) => Stretch::Lives(pass, reply),
-                        End::Stopped => Stretch::Dead(pass.died()),
-                    },
-                }
-            }
-            Err(refusal) => Stretch::Lives(pass, refusal),
-        }
+        let program = self.first_steps::<Locks, F, N>(pass, begun, fate, note)?;
+        self.more_steps(pass, program, fate, note)
     }
 }
 
 impl Running {
     /// Makes accesses that come next, one after the other where the call stands, up to a futex section, or its end, or its thread's death: the fate is asked before each, and then the
-    /// note, by which others can tell the thread to stop ([`Never`](crate::Never) where nobody can). It may stop before that, and goes on where it is called again or where the next access is made by
-    /// [`Running::access`]. It is here for speed: an access by itself moves the call.
+    /// note, by which others can tell the thread to stop ([`Never`](crate::Never) where nobody can). It may stop before that, and goes on where it is called again or where the next access is made by [`Running::access`]. It is here for speed: an access by itself moves the call.
+    #[inline(always)]
+    pub fn stretch<F: Fate, N: Fate>(self, words: &Words, fate: &mut F, note: &mut N) -> Stretch
+        requires words { IsRunningOf words.now self }
+        ensures stretches { Stretches words.now self result }
+        ensures fate { Heeds (F.stopped fate.old) (F.stopped fate.new) (N.stopped note.old) (N.stopped note.new) (stops_stretching result) }
+    {
+        let Running { mut pass, program } = self;
+        match words.stretch(&mut pass, program, fate, note) {
+            Ok(program) => Stretch::Goes(Running { pass, program }),
+            Err(end) => match end {
+                End::Replied(reply) => Stretch::Lives(pass, reply),
+                End::Stopped => Stretch::Dead(pass.died()),
+            },
+        }
+    }
+
+    /// As [`Running::stretch`], of a call that goes on behind a section: the compiler can't know where it stands, and needn't.
     pub fn more<F: Fate, N: Fate>(self, words: &Words, fate: &mut F, note: &mut N) -> Stretch
         requires words { IsRunningOf words.now self }
         ensures stretches { Stretches words.now self result }

@@ -103,16 +103,6 @@ pub enum Released {
     Dead(Pass<Dead>),
 }
 
-/// What an unlock comes to that ends itself where nobody is to be woken.
-pub enum Unlocked {
-    /// It has replied: OK where it freed the mutex and nobody was to be woken; EPERM where the thread doesn't own the mutex.
-    Lives(Pass<Live>, Reply),
-    /// The mutex is freed, and somebody is to be woken.
-    Owes(Owed),
-    /// The thread died in the call.
-    Dead(Pass<Dead>),
-}
-
 /// The pass of a thread that died, and the kernel's walk over its list, which hasn't ended (robust-futexes; get_robust_list(2)). Whoever runs it makes its accesses in
 /// turn: a step by [`Reaping::access`]; a wake under a lock of the caller's own, at [`Reaping::place`], whose count goes to [`Reaping::answer`].
 #[derive(Drop)]

@@ -10,18 +10,14 @@ use Rattle.ruledwords.specs.declared.pass.Card.{Card}
 use Rattle.ruledwords.specs.declared.turn.Outcome.{Outcome}
 use Rattle.ruledwords.specs.declared.turn.Outcome.TheVariants as outcome
 use Rattle.ruledwords.specs.declared.turn.Owed.{Owed}
-use Rattle.ruledwords.specs.declared.turn.Released.{Released}
-use Rattle.ruledwords.specs.declared.turn.Released.TheVariants.{Owes, Refused, Dead}
-use Rattle.ruledwords.specs.declared.turn.Unlocked.TheVariants as unlocked
-use Rattle.ruledwords.specs.declared.pass.Dead.{Dead as Gone}
+use Rattle.ruledwords.specs.declared.turn.Released.TheVariants.{Owes}
 use Rattle.ruledwords.specs.declared.pass.Live.{Live}
 use Rattle.ruledwords.specs.declared.pass.Pass.{Pass}
 use Rattle.ruledwords.specs.declared.pass.Words.{Words}
 use Rattle.ruledwords.specs.Deaths.{IsReaped}
-use Rattle.ruledwords.specs.Outcomes.{owed_pass, Frees, Unlocks, UnlocksAs}
-use Rattle.ruledwords.specs.Passes.{card, layout_of, IsLive}
+use Rattle.ruledwords.specs.Outcomes.{owed_pass, Frees}
+use Rattle.ruledwords.specs.Passes.{card, layout_of}
 use Rattle.ruledwords.specs.Seen.{Called}
-use Rattle.ruledwords.specs.Turns.{HasSeenTheSame}
 use Rattle.ruledwords.proofs.Noted.{still_called}
 use Rattle.mutex.specs.declared.call.Call.TheVariants.{Unlock}
 use Rattle.condvar.specs.declared.op.Op.{Op}
@@ -43,35 +39,6 @@ unlock_ends w m a o (outcome.Dead d) freed paid =
       paid.0,
       record { acts = (operation.Unlock, OK) ∷ []; beginning = ([], OK, refl); saw = called.saw },
     )
-
--- one that ended itself, as it was released
-module _ (w : Words) (m : ℕ) (a : Pass Live) where
-  ended : (r : Released) (b : Pass Live) (y : Reply) → Frees w m a r → UnlocksAs w r (unlocked.Lives b y) → CallEnds w a (OnMutex (Unlock m)) (outcome.Lives b y)
-  ended (Owes o) b y frees so = unlock_ends w m a o (outcome.Lives b y) frees (so.0.1, so.1, so.0.2)
-  ended (Refused e x) b y frees so = (
-    subst (λ (z : Pass Live). IsLive w z) (sym so.0) frees.0,
-    subst (λ (z : Pass Live × Reply). Called (card a) (cell_place (layout_of w) m) ((operation.Unlock, z.1) ∷ []) (card z.0)) (λ i. (sym so.0 i, sym (so.1 ∙ frees.1) i)) frees.2,
-  )
-  ended (Dead d) b y frees so = absurd so
-
-  lost : (r : Released) (d : Pass Gone) → Frees w m a r → UnlocksAs w r (unlocked.Dead d) → CallEnds w a (OnMutex (Unlock m)) (outcome.Dead d)
-  lost (Owes o) d frees so = unlock_ends w m a o (outcome.Dead d) frees (so.1.1 w frees.0, subst (λ (z : Card). HasSeenTheSame (card (owed_pass o)) z) (sym so.1.0) refl)
-  lost (Refused e x) d frees so = absurd so
-  lost (Dead e) d frees so = subst (λ (z : Pass Gone). CallEnds w a (OnMutex (Unlock m)) (outcome.Dead z)) (sym so) frees
-
-  owes : (r : Released) (v : Owed) → Frees w m a r → UnlocksAs w r (unlocked.Owes v) → Frees w m a (Owes v)
-  owes (Owes o) v frees so = subst (λ (z : Owed). Frees w m a (Owes z)) (sym so.1) frees
-  owes (Refused e x) v frees so = absurd so
-  owes (Dead e) v frees so = absurd so
-
-  pub unlock_replies : (b : Pass Live) (y : Reply) → Unlocks w m a (unlocked.Lives b y) → CallEnds w a (OnMutex (Unlock m)) (outcome.Lives b y)
-  unlock_replies b y u = ended u.0 b y u.1 u.2
-
-  pub unlock_dies : (d : Pass Gone) → Unlocks w m a (unlocked.Dead d) → CallEnds w a (OnMutex (Unlock m)) (outcome.Dead d)
-  unlock_dies d u = lost u.0 d u.1 u.2
-
-  pub unlock_owes : (v : Owed) → Unlocks w m a (unlocked.Owes v) → Frees w m a (Owes v)
-  unlock_owes v u = owes u.0 v u.1 u.2
 
 -- the calls so far and then one more
 pub answered_more : (k : Layout') (a : Card) (cs : List Op) (rs : List Reply) (p : Card) (c : Op) (r : Reply) (b : Card) → Answered k a cs rs p → Replied k p c r b → Answered k a (cs ++ c ∷ []) (rs ++ r ∷ []) b

@@ -49,7 +49,3 @@ heeded_after f g f' o same heeded = let e : g ≡ f = omega (arith, same) in sub
 
 pub heeded_in : (f g f' : ℕ) → g ≡ f → (f' ≡ g + 1) ⊎ (f' ≡ g) → (f' ≡ f + 1) ⊎ (f' ≡ f)
 heeded_in f g f' same told = subst (λ (n : ℕ). (f' ≡ n + 1) ⊎ (f' ≡ n)) same told
-
--- two fates that let the thread go on: the call's own said no more than before
-pub heeds_none : (f f' n n' : ℕ) → Heeds f f' n n' 0 → f' ≡ f + 0
-heeds_none f f' n n' heeded = let x = heeded.fate in let y = heeded.note in let once = heeded.once in omega (arith, x, y, once)

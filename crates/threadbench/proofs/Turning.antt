@@ -1,5 +1,5 @@
 -- A call whose section was made.
-use Rattle.std.proofs.Common.{◌≡◌, ℕ, ◌+◌, false, Result, Ok, Err, sym, ap, ◌∙◌, subst, arith}
+use Rattle.std.proofs.Common.{◌≡◌, ℕ, ◌+◌, false, sym, ap, ◌∙◌, subst, arith}
 use Rattle.std.specs.Prelude.{nat_le}
 use Rattle.lockword.specs.declared.reply.Reply.{Reply}
 use Rattle.lockword.specs.declared.reply.Reply.TheVariants.{OK}
@@ -25,14 +25,14 @@ use Rattle.ruledwords.specs.declared.turn.Turn.{Turn}
 use Rattle.ruledwords.specs.declared.turn.Turn.TheVariants as turn
 use Rattle.ruledwords.specs.Outcomes.{owed_pass}
 use Rattle.ruledwords.specs.Seen.{held}
-use Rattle.ruledwords.specs.Passes.{card, layout_of, IsDying, IsLive}
+use Rattle.ruledwords.specs.Passes.{card, layout_of, IsDying}
 use Rattle.ruledwords.specs.Calls.{IsOnMutex, Stands, row_in, standing_of}
-use Rattle.ruledwords.specs.Stretches.{Stretches, StretchesBegun, StretchesOn, stops_stretching}
-use Rattle.ruledwords.specs.Turns.{running_call, running_pass, running_program, Begun, HasDied, HasSeenTheSame, IsDecided, IsRunningOf, IsTurnOf, IsUnderWay, Keeps, KeepsDecided, Unmoved}
+use Rattle.ruledwords.specs.Stretches.{Stretches, stops_stretching}
+use Rattle.ruledwords.specs.Turns.{running_call, running_pass, running_program, HasDied, HasSeenTheSame, IsDecided, IsRunningOf, IsTurnOf, IsUnderWay, Keeps, KeepsDecided, Unmoved}
 use Rattle.ruledwords.proofs.Exchanges.{expects_at_section}
 use Rattle.ruledwords.proofs.Noted.{seen_noted, seen_on, still_stands}
 use Rattle.threadbench.specs.Calls.{Locked, Paid, RanOut, RanOutDecided, Runs, stretch_of}
-use Rattle.threadbench.proofs.Beginnings.{lock_begins, lock_refused, picks_false, picks_true}
+use Rattle.threadbench.proofs.Beginnings.{picks_false}
 
 -- a call whose word was looked at is under way as it was
 pub still_under_way : (w : Words) (r r' : Running) (a : Pass Live) (call : Call) → Unmoved w r r' → IsUnderWay w a call r → IsUnderWay w a call r'
@@ -92,44 +92,6 @@ ran_after w r r' (outcome.Dead d) first more = ((λ a call u. more.0 a call (fir
 pub ran_locked : (w : Words) (a : Pass Live) (m : ℕ) (end : Outcome) → nat_le 2048 (held (card a)) ≡ false → RanOut w a (call.Lock m) end → Locked w m a end
 ran_locked w a m (outcome.Lives b r) few ran = (ran.0, picks_false (nat_le 2048 (held (card a))) _ _ few ran.1)
 ran_locked w a m (outcome.Dead d) few ran = (ran.0, (few, ran.1))
-
-module _ (w : Words) (a : Pass Live) (m : ℕ) where
-  locked_by : (r : Running) (end : Outcome) → Begun w a (call.Lock m) (Ok r) → Runs w r end → Locked w m a end
-  locked_by r end begun runs = ran_locked w a m end (lock_begins (layout_of w) (card a).thread (held (card a)) m (running_call r) begun.0) (runs.0 a (call.Lock m) begun.2)
-
-  goes_there : (b : Result Running (Pass Live × Reply)) (next : Running) → StretchesOn w b (stretch.Goes next) → IsRunningOf w next
-  goes_there (Ok r) next on = on.0
-  goes_there (Err e) next on = absurd on
-
-  goes_on : (b : Result Running (Pass Live × Reply)) (next : Running) (end : Outcome) → Begun w a (call.Lock m) b → StretchesOn w b (stretch.Goes next) → Runs w next end → Locked w m a end
-  goes_on (Ok r) next end begun on runs = locked_by r end begun (ran_after w r next end on runs)
-  goes_on (Err e) next end begun on runs = absurd on
-
-  replies : (b : Result Running (Pass Live × Reply)) (c : Pass Live) (y : Reply) → IsLive w a → Begun w a (call.Lock m) b → StretchesOn w b (stretch.Lives c y) → Locked w m a (outcome.Lives c y)
-  replies (Ok r) c y live begun on = locked_by r (outcome.Lives c y) begun (ran_out w r c y on)
-  replies (Err e) c y live begun on =
-      let many = lock_refused (layout_of w) (card a).thread (held (card a)) m e.1 begun.0 in
-      let same = on.0 ∙ begun.1 in (
-        subst (λ (z : Pass Live). IsLive w z) (sym same) live,
-        picks_true (nat_le 2048 (held (card a))) _ _ many.0 (on.1 ∙ many.1, ap (λ (z : Pass Live). card z) same),
-      )
-
-  dies : (b : Result Running (Pass Live × Reply)) (d : Pass Dead) → Begun w a (call.Lock m) b → StretchesOn w b (stretch.Dead d) → Locked w m a (outcome.Dead d)
-  dies (Ok r) d begun on = locked_by r (outcome.Dead d) begun (ran_dead w r d on)
-  dies (Err e) d begun on = absurd on
-
-  -- a lock that went on behind its first accesses, or ended in them
-  pub lock_there : (next : Running) → StretchesBegun w a (call.Lock m) (stretch.Goes next) → IsRunningOf w next
-  lock_there next came = goes_there came.0 next came.2
-
-  pub lock_goes : (next : Running) (end : Outcome) → StretchesBegun w a (call.Lock m) (stretch.Goes next) → Runs w next end → Locked w m a end
-  lock_goes next end came runs = goes_on came.0 next end came.1 came.2 runs
-
-  pub lock_replies : (c : Pass Live) (y : Reply) → IsLive w a → StretchesBegun w a (call.Lock m) (stretch.Lives c y) → Locked w m a (outcome.Lives c y)
-  lock_replies c y live came = replies came.0 c y live came.1 came.2
-
-  pub lock_dies : (d : Pass Dead) → StretchesBegun w a (call.Lock m) (stretch.Dead d) → Locked w m a (outcome.Dead d)
-  lock_dies d came = dies came.0 d came.1 came.2
 
 pub ran_paid : (w : Words) (o : Owed) (end : Outcome) → RanOutDecided w (card (owed_pass o)) OK end → Paid w o end
 ran_paid w o (outcome.Lives b r) ran = ran

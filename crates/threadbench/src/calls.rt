@@ -17,7 +17,7 @@ use crate::room::push_in_room;
 use condvar::Op;
 use lockword::Reply;
 use mutex::Call;
-use ruledwords::{Fate, Live, Never, Outcome, Pass, Unlocked};
+use ruledwords::{Fate, Live, Never, Outcome, Pass, Released};
 use std::sync::Wait;
 
 #[inline(always)]
@@ -33,11 +33,10 @@ fn unlock<R: Wait, F: Fate>(
     ensures ends { CallEnds bench.now pass (OnMutexOf (UnlockOf mutex)) result }
     ensures fate { IsHeeded (F.stopped fate.old) (F.stopped fate.new) result }
 {
-    let mut note = bench.note(pass.thread()).fate();
-    match bench.words().unlock(pass, mutex, fate, &mut note) {
-        Unlocked::Lives(pass, reply) => Outcome::Lives(pass, reply),
-        Unlocked::Owes(owed) => bench.pay(rt, owed, fate),
-        Unlocked::Dead(pass) => Outcome::Dead(pass),
+    match bench.words().release(pass, mutex, fate) {
+        Released::Owes(owed) => bench.pay(rt, owed, fate),
+        Released::Refused(pass, reply) => Outcome::Lives(pass, reply),
+        Released::Dead(pass) => Outcome::Dead(pass),
     }
 }
 

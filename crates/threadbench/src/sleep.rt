@@ -16,6 +16,7 @@ use crate::section::{Waited, trim_in, wait_in, wake_in};
 use buckets::{BUCKETS, Batch};
 use keys::{Access, Answer, Key, bucket_of, key_of};
 use lockword::{Reply, Tid};
+use mutex::Call;
 use ruledwords::{Fate, Live, Outcome, Owed, Pass, Running, Stretch, Turn, Wakes, either_stops};
 use std::hint::spin_loop;
 use std::sync::Wait;
@@ -36,11 +37,9 @@ impl Bench {
         ensures locked { Locked self.now mutex pass result }
         ensures fate { IsHeeded (F.stopped fate.old) (F.stopped fate.new) result }
     {
-        let mut note = self.note(pass.thread()).fate();
-        match self.words.begin_lock(pass, mutex, fate, &mut note) {
-            Stretch::Goes(next) => self.run_on(rt, next, fate, &mut note),
-            Stretch::Lives(pass, reply) => Outcome::Lives(pass, reply),
-            Stretch::Dead(pass) => Outcome::Dead(pass),
+        match Running::call(&self.words, pass, Call::Lock(mutex)) {
+            Ok(running) => self.run(rt, running, fate),
+            Err((pass, reply)) => Outcome::Lives(pass, reply),
         }
     }
 
@@ -85,7 +84,40 @@ impl Bench {
         }
     }
 
-    /// Runs a call to its end, or until one of its thread's fates ends it, access by access: what is left of a call that wasn't made in one stretch.
+    /// Runs a call to its end, or until its thread dies.
+    #[inline(always)]
+    fn run<R: Wait, F: Fate>(&self, rt: &R, running: Running, fate: &mut F) -> Outcome
+        requires { IsRunningOf self.now running }
+        ensures runs { Runs self.now running result }
+        ensures fate { IsHeeded (F.stopped fate.old) (F.stopped fate.new) result }
+    {
+        let mut note = self.note(running.thread()).fate();
+        self.run_begun(rt, running, fate, &mut note)
+    }
+
+    /// Runs a call to its end, or until one of its thread's fates ends it: first as far as it makes steps on words, where it stands. The compiler knows at which access that is, where it knows where the call
+    /// begins.
+    #[inline(always)]
+    fn run_begun<R: Wait, F: Fate, N: ByOthers>(
+        &self,
+        rt: &R,
+        running: Running,
+        fate: &mut F,
+        note: &mut N,
+    ) -> Outcome
+        requires { IsRunningOf self.now running }
+        ensures runs { Runs self.now running result }
+        ensures fate { Heeds (F.stopped fate.old) (F.stopped fate.new) (N.stopped note.old) (N.stopped note.new) (stops_in result) }
+    {
+        match running.stretch(&self.words, fate, note) {
+            Stretch::Goes(next) => self.run_on(rt, next, fate, note),
+            Stretch::Lives(pass, reply) => Outcome::Lives(pass, reply),
+            Stretch::Dead(pass) => Outcome::Dead(pass),
+        }
+    }
+
+    /// Runs a call to its end, or until one of its thread's fates ends it, access by access: what is left of a call that wasn't made in one stretch. (Stretches are made in [`Bench::run_begun`] alone: a
+    /// function that is called in one place is compiled there.)
     pub(crate) fn run_on<R: Wait, F: Fate, N: ByOthers>(
         &self,
         rt: &R,

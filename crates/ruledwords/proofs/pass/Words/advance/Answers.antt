@@ -15,13 +15,13 @@ invariant_of-pass c =
     let f = c.found-found in
     let x = c.answer.result in
     let led = whole_led p x in
-    let point = (goes_under_way (whole_point p led.point) led.phase c.resumed.result c.in-Goes.point c.in-Goes.is c.resumed.ensures.progress).1 in
+    let point = (goes_under_way (whole_point p led.point) led.phase c.resume.result c.in-Goes.point c.in-Goes.is c.resume.ensures.progress).1 in
     let h = c.count-pass in
     record {
       one = f.ensures.1;
-      own = of_thread w a p c.requires.call c.requires.step f.new.seat f.result f.ensures c.next-access.result c.next-access.ensures x c.answer.ensures c.resumed.new.program c.resumed.ensures.moved c.in-Goes.point point h.result h.ensures;
-      count = count w a p c.requires.call c.requires.step f.new.seat f.result f.ensures c.next-access.result c.next-access.ensures x c.answer.ensures c.resumed.new.program c.resumed.ensures.moved c.in-Goes.point point h.result h.ensures;
-      few = few w a p c.requires.call c.requires.step f.new.seat f.result f.ensures c.next-access.result c.next-access.ensures x c.answer.ensures c.resumed.new.program c.resumed.ensures.moved c.in-Goes.point point h.result h.ensures;
+      own = of_thread w a p c.requires.call c.requires.step f.new.seat f.result f.ensures c.next-access.result c.next-access.ensures x c.answer.ensures c.resume.new.self c.resume.ensures.moved c.in-Goes.point point h.result h.ensures;
+      count = count w a p c.requires.call c.requires.step f.new.seat f.result f.ensures c.next-access.result c.next-access.ensures x c.answer.ensures c.resume.new.self c.resume.ensures.moved c.in-Goes.point point h.result h.ensures;
+      few = few w a p c.requires.call c.requires.step f.new.seat f.result f.ensures c.next-access.result c.next-access.ensures x c.answer.ensures c.resume.new.self c.resume.ensures.moved c.in-Goes.point point h.result h.ensures;
     }
 
 pub invariant_of-pass-in-Returns : goal.invariant_of-pass-in-Returns
@@ -32,13 +32,13 @@ invariant_of-pass-in-Returns c =
     let f = c.found-found in
     let x = c.answer.result in
     let led = whole_led p x in
-    let point = (returns_ended (whole_point p led.point) led.phase c.resumed.result c.in-Returns.reply c.in-Returns.point c.in-Returns.is c.resumed.ensures.progress).1 in
+    let point = (returns_ended (whole_point p led.point) led.phase c.resume.result c.in-Returns.reply c.in-Returns.point c.in-Returns.is c.resume.ensures.progress).1 in
     let h = c.count-pass-in-Returns in
     record {
       one = f.ensures.1;
-      own = of_thread w a p c.requires.call c.requires.step f.new.seat f.result f.ensures c.next-access.result c.next-access.ensures x c.answer.ensures c.resumed.new.program c.resumed.ensures.moved c.in-Returns.point point h.result h.ensures;
-      count = count w a p c.requires.call c.requires.step f.new.seat f.result f.ensures c.next-access.result c.next-access.ensures x c.answer.ensures c.resumed.new.program c.resumed.ensures.moved c.in-Returns.point point h.result h.ensures;
-      few = few w a p c.requires.call c.requires.step f.new.seat f.result f.ensures c.next-access.result c.next-access.ensures x c.answer.ensures c.resumed.new.program c.resumed.ensures.moved c.in-Returns.point point h.result h.ensures;
+      own = of_thread w a p c.requires.call c.requires.step f.new.seat f.result f.ensures c.next-access.result c.next-access.ensures x c.answer.ensures c.resume.new.self c.resume.ensures.moved c.in-Returns.point point h.result h.ensures;
+      count = count w a p c.requires.call c.requires.step f.new.seat f.result f.ensures c.next-access.result c.next-access.ensures x c.answer.ensures c.resume.new.self c.resume.ensures.moved c.in-Returns.point point h.result h.ensures;
+      few = few w a p c.requires.call c.requires.step f.new.seat f.result f.ensures c.next-access.result c.next-access.ensures x c.answer.ensures c.resume.new.self c.resume.ensures.moved c.in-Returns.point point h.result h.ensures;
     }
 
 pub returns-in-Goes : goal.returns-in-Goes
@@ -49,11 +49,11 @@ returns-in-Goes c = λ of.
     let f = c.found-found in
     let x = c.answer.result in
     let led = whole_led p x in
-    let going = goes_under_way (whole_point p led.point) led.phase c.resumed.result c.in-Goes.point c.in-Goes.is c.resumed.ensures.progress in
+    let going = goes_under_way (whole_point p led.point) led.phase c.resume.result c.in-Goes.point c.in-Goes.is c.resume.ensures.progress in
     let h = c.count-pass in
     let b : Pass Live = record { seat = f.new.seat; thread = a.thread; held = h.result; state = a.state; one = _; own = _; count = _; few = _ } in
-    let under = subst (λ (q : Whole). IsUnderWay q.phase) (sym c.resumed.ensures.moved) going.0 in
-    goes w a p of c.requires.step f.new.seat f.result f.ensures c.next-access.result c.next-access.ensures x c.answer.ensures c.resumed.new.program c.resumed.ensures.moved c.in-Goes.point going.1 h.result h.ensures b f.ensures.0 refl refl under
+    let under = subst (λ (q : Whole). IsUnderWay q.phase) (sym c.resume.ensures.moved) going.0 in
+    goes w a p of c.requires.step f.new.seat f.result f.ensures c.next-access.result c.next-access.ensures x c.answer.ensures c.resume.new.self c.resume.ensures.moved c.in-Goes.point going.1 h.result h.ensures b f.ensures.0 refl refl under
 
 pub returns-in-Returns : goal.returns-in-Returns
 returns-in-Returns c = λ of.
@@ -63,17 +63,17 @@ returns-in-Returns c = λ of.
     let f = c.found-found in
     let x = c.answer.result in
     let led = whole_led p x in
-    let back = returns_ended (whole_point p led.point) led.phase c.resumed.result c.in-Returns.reply c.in-Returns.point c.in-Returns.is c.resumed.ensures.progress in
+    let back = returns_ended (whole_point p led.point) led.phase c.resume.result c.in-Returns.reply c.in-Returns.point c.in-Returns.is c.resume.ensures.progress in
     let h = c.count-pass-in-Returns in
-    let ended = ap (λ (q : Whole). q.phase) c.resumed.ensures.moved ∙ back.0 in
+    let ended = ap (λ (q : Whole). q.phase) c.resume.ensures.moved ∙ back.0 in
     let b : Pass Live = record {
       seat = f.new.seat;
       thread = a.thread;
       held = h.result;
       state = a.state;
       one = f.ensures.1;
-      own = of_thread w a p of c.requires.step f.new.seat f.result f.ensures c.next-access.result c.next-access.ensures x c.answer.ensures c.resumed.new.program c.resumed.ensures.moved c.in-Returns.point back.1 h.result h.ensures;
-      count = count w a p of c.requires.step f.new.seat f.result f.ensures c.next-access.result c.next-access.ensures x c.answer.ensures c.resumed.new.program c.resumed.ensures.moved c.in-Returns.point back.1 h.result h.ensures;
-      few = few w a p of c.requires.step f.new.seat f.result f.ensures c.next-access.result c.next-access.ensures x c.answer.ensures c.resumed.new.program c.resumed.ensures.moved c.in-Returns.point back.1 h.result h.ensures;
+      own = of_thread w a p of c.requires.step f.new.seat f.result f.ensures c.next-access.result c.next-access.ensures x c.answer.ensures c.resume.new.self c.resume.ensures.moved c.in-Returns.point back.1 h.result h.ensures;
+      count = count w a p of c.requires.step f.new.seat f.result f.ensures c.next-access.result c.next-access.ensures x c.answer.ensures c.resume.new.self c.resume.ensures.moved c.in-Returns.point back.1 h.result h.ensures;
+      few = few w a p of c.requires.step f.new.seat f.result f.ensures c.next-access.result c.next-access.ensures x c.answer.ensures c.resume.new.self c.resume.ensures.moved c.in-Returns.point back.1 h.result h.ensures;
     } in
-    lives w a p of c.requires.step f.new.seat f.result f.ensures c.next-access.result c.next-access.ensures x c.answer.ensures c.resumed.new.program c.resumed.ensures.moved c.in-Returns.point back.1 h.result h.ensures b f.ensures.0 refl refl c.in-Returns.reply ended
+    lives w a p of c.requires.step f.new.seat f.result f.ensures c.next-access.result c.next-access.ensures x c.answer.ensures c.resume.new.self c.resume.ensures.moved c.in-Returns.point back.1 h.result h.ensures b f.ensures.0 refl refl c.in-Returns.reply ended

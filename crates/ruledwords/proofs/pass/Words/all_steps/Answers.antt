@@ -2,10 +2,10 @@ use Rattle.ruledwords.proofs.Stepping.{ends_after, ends_in, still_nonblocking}
 use Rattle.ruledwords.proofs.pass.Words.all_steps.Goals as goal
 
 pub last_steps-requires : goal.last_steps-requires
-last_steps-requires g c = still_nonblocking c.args.self.now c.args.pass.now c.args.begun c.first_steps.new.pass c.first_steps.new.program c.requires c.in-Ok.ensures.steps
+last_steps-requires g c = still_nonblocking c.args.self.now c.args.pass.now c.args.program c.first_steps.new.pass c.in-Ok.program c.requires c.in-Ok.ensures.steps
 
 pub returns-in-Ok-clause-ends : goal.returns-in-Ok-clause-ends
-returns-in-Ok-clause-ends g c = ends_after c.args.self.now c.args.pass.now c.args.begun c.first_steps.new.pass c.first_steps.new.program c.last_steps.new.pass c.last_steps.result c.in-Ok.ensures.steps c.last_steps.ensures.ends
+returns-in-Ok-clause-ends g c = ends_after c.args.self.now c.args.pass.now c.args.program c.first_steps.new.pass c.in-Ok.program c.last_steps.new.pass c.last_steps.result c.in-Ok.ensures.steps c.last_steps.ensures.ends
 
 pub returns-in-Err-clause-ends : goal.returns-in-Err-clause-ends
-returns-in-Err-clause-ends g c = ends_in c.args.self.now c.args.pass.now c.args.begun c.first_steps.new.pass c.in-Err.end c.in-Err.ensures.steps
+returns-in-Err-clause-ends g c = ends_in c.args.self.now c.args.pass.now c.args.program c.first_steps.new.pass c.in-Err.end c.in-Err.ensures.steps

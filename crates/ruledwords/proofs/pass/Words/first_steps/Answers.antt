@@ -1,15 +1,15 @@
-use Rattle.ruledwords.proofs.Stepping.{after, comes_further, heeds_on, heeds_out, steps_handed_on}
+use Rattle.ruledwords.proofs.Stepping.{after, comes_further, handed_on, heeds_on, heeds_out}
 use Rattle.ruledwords.proofs.pass.Words.first_steps.Goals as goal
 
 pub returns-in_err-step-2-clause-steps : goal.returns-in_err-step-2-clause-steps
 returns-in_err-step-2-clause-steps g c =
     let w = c.args.self.now in
     let a = c.args.pass.now in
-    let p = c.args.program.now in
+    let p = c.args.begun in
     let s1 = c.in_ok-step.ensures.steps in
     let e = c.in_err-step-2.field-0.0 in
     let ends = after w a p c.step.new.pass c.step.new.program c.step-2.new.pass e s1 c.in_err-step-2.ensures.steps in
-    steps_handed_on w a p c.step-2.new.pass c.step-2.new.program c.from_residual-in_err-step-2.result e c.from_residual-in_err-step-2.ensures.1 ends
+    handed_on w a p c.step-2.new.pass c.from_residual-in_err-step-2.result e c.from_residual-in_err-step-2.ensures.1 ends
 
 pub returns-in_err-step-2-clause-fate : goal.returns-in_err-step-2-clause-fate
 returns-in_err-step-2-clause-fate g c =
@@ -21,12 +21,12 @@ pub returns-in_err-step-3-clause-steps : goal.returns-in_err-step-3-clause-steps
 returns-in_err-step-3-clause-steps g c =
     let w = c.args.self.now in
     let a = c.args.pass.now in
-    let p = c.args.program.now in
+    let p = c.args.begun in
     let s1 = c.in_ok-step.ensures.steps in
     let s2 = comes_further w a p c.step.new.pass c.step.new.program c.step-2.new.pass c.step-2.new.program s1 c.in_ok-step-2.ensures.steps in
     let e = c.in_err-step-3.field-0.0 in
     let ends = after w a p c.step-2.new.pass c.step-2.new.program c.step-3.new.pass e s2 c.in_err-step-3.ensures.steps in
-    steps_handed_on w a p c.step-3.new.pass c.step-3.new.program c.from_residual-in_err-step-3.result e c.from_residual-in_err-step-3.ensures.1 ends
+    handed_on w a p c.step-3.new.pass c.from_residual-in_err-step-3.result e c.from_residual-in_err-step-3.ensures.1 ends
 
 pub returns-in_err-step-3-clause-fate : goal.returns-in_err-step-3-clause-fate
 returns-in_err-step-3-clause-fate g c =
@@ -39,13 +39,13 @@ pub returns-in_err-step-4-clause-steps : goal.returns-in_err-step-4-clause-steps
 returns-in_err-step-4-clause-steps g c =
     let w = c.args.self.now in
     let a = c.args.pass.now in
-    let p = c.args.program.now in
+    let p = c.args.begun in
     let s1 = c.in_ok-step.ensures.steps in
     let s2 = comes_further w a p c.step.new.pass c.step.new.program c.step-2.new.pass c.step-2.new.program s1 c.in_ok-step-2.ensures.steps in
     let s3 = comes_further w a p c.step-2.new.pass c.step-2.new.program c.step-3.new.pass c.step-3.new.program s2 c.in_ok-step-3.ensures.steps in
     let e = c.in_err-step-4.field-0.0 in
     let ends = after w a p c.step-3.new.pass c.step-3.new.program c.step-4.new.pass e s3 c.in_err-step-4.ensures.steps in
-    steps_handed_on w a p c.step-4.new.pass c.step-4.new.program c.from_residual-in_err-step-4.result e c.from_residual-in_err-step-4.ensures.1 ends
+    handed_on w a p c.step-4.new.pass c.from_residual-in_err-step-4.result e c.from_residual-in_err-step-4.ensures.1 ends
 
 pub returns-in_err-step-4-clause-fate : goal.returns-in_err-step-4-clause-fate
 returns-in_err-step-4-clause-fate g c =
@@ -59,14 +59,14 @@ pub returns-in_err-step-5-clause-steps : goal.returns-in_err-step-5-clause-steps
 returns-in_err-step-5-clause-steps g c =
     let w = c.args.self.now in
     let a = c.args.pass.now in
-    let p = c.args.program.now in
+    let p = c.args.begun in
     let s1 = c.in_ok-step.ensures.steps in
     let s2 = comes_further w a p c.step.new.pass c.step.new.program c.step-2.new.pass c.step-2.new.program s1 c.in_ok-step-2.ensures.steps in
     let s3 = comes_further w a p c.step-2.new.pass c.step-2.new.program c.step-3.new.pass c.step-3.new.program s2 c.in_ok-step-3.ensures.steps in
     let s4 = comes_further w a p c.step-3.new.pass c.step-3.new.program c.step-4.new.pass c.step-4.new.program s3 c.in_ok-step-4.ensures.steps in
     let e = c.in_err-step-5.field-0.0 in
     let ends = after w a p c.step-4.new.pass c.step-4.new.program c.step-5.new.pass e s4 c.in_err-step-5.ensures.steps in
-    steps_handed_on w a p c.step-5.new.pass c.step-5.new.program c.from_residual-in_err-step-5.result e c.from_residual-in_err-step-5.ensures.1 ends
+    handed_on w a p c.step-5.new.pass c.from_residual-in_err-step-5.result e c.from_residual-in_err-step-5.ensures.1 ends
 
 pub returns-in_err-step-5-clause-fate : goal.returns-in_err-step-5-clause-fate
 returns-in_err-step-5-clause-fate g c =
@@ -81,7 +81,7 @@ pub returns-in_err-step-6-clause-steps : goal.returns-in_err-step-6-clause-steps
 returns-in_err-step-6-clause-steps g c =
     let w = c.args.self.now in
     let a = c.args.pass.now in
-    let p = c.args.program.now in
+    let p = c.args.begun in
     let s1 = c.in_ok-step.ensures.steps in
     let s2 = comes_further w a p c.step.new.pass c.step.new.program c.step-2.new.pass c.step-2.new.program s1 c.in_ok-step-2.ensures.steps in
     let s3 = comes_further w a p c.step-2.new.pass c.step-2.new.program c.step-3.new.pass c.step-3.new.program s2 c.in_ok-step-3.ensures.steps in
@@ -89,7 +89,7 @@ returns-in_err-step-6-clause-steps g c =
     let s5 = comes_further w a p c.step-4.new.pass c.step-4.new.program c.step-5.new.pass c.step-5.new.program s4 c.in_ok-step-5.ensures.steps in
     let e = c.in_err-step-6.field-0.0 in
     let ends = after w a p c.step-5.new.pass c.step-5.new.program c.step-6.new.pass e s5 c.in_err-step-6.ensures.steps in
-    steps_handed_on w a p c.step-6.new.pass c.step-6.new.program c.from_residual-in_err-step-6.result e c.from_residual-in_err-step-6.ensures.1 ends
+    handed_on w a p c.step-6.new.pass c.from_residual-in_err-step-6.result e c.from_residual-in_err-step-6.ensures.1 ends
 
 pub returns-in_err-step-6-clause-fate : goal.returns-in_err-step-6-clause-fate
 returns-in_err-step-6-clause-fate g c =
@@ -105,7 +105,7 @@ pub returns-in_err-step-7-clause-steps : goal.returns-in_err-step-7-clause-steps
 returns-in_err-step-7-clause-steps g c =
     let w = c.args.self.now in
     let a = c.args.pass.now in
-    let p = c.args.program.now in
+    let p = c.args.begun in
     let s1 = c.in_ok-step.ensures.steps in
     let s2 = comes_further w a p c.step.new.pass c.step.new.program c.step-2.new.pass c.step-2.new.program s1 c.in_ok-step-2.ensures.steps in
     let s3 = comes_further w a p c.step-2.new.pass c.step-2.new.program c.step-3.new.pass c.step-3.new.program s2 c.in_ok-step-3.ensures.steps in
@@ -114,7 +114,7 @@ returns-in_err-step-7-clause-steps g c =
     let s6 = comes_further w a p c.step-5.new.pass c.step-5.new.program c.step-6.new.pass c.step-6.new.program s5 c.in_ok-step-6.ensures.steps in
     let e = c.in_err-step-7.field-0.0 in
     let ends = after w a p c.step-6.new.pass c.step-6.new.program c.step-7.new.pass e s6 c.in_err-step-7.ensures.steps in
-    steps_handed_on w a p c.step-7.new.pass c.step-7.new.program c.from_residual-in_err-step-7.result e c.from_residual-in_err-step-7.ensures.1 ends
+    handed_on w a p c.step-7.new.pass c.from_residual-in_err-step-7.result e c.from_residual-in_err-step-7.ensures.1 ends
 
 pub returns-in_err-step-7-clause-fate : goal.returns-in_err-step-7-clause-fate
 returns-in_err-step-7-clause-fate g c =
@@ -131,7 +131,7 @@ pub returns-in_err-step-8-clause-steps : goal.returns-in_err-step-8-clause-steps
 returns-in_err-step-8-clause-steps g c =
     let w = c.args.self.now in
     let a = c.args.pass.now in
-    let p = c.args.program.now in
+    let p = c.args.begun in
     let s1 = c.in_ok-step.ensures.steps in
     let s2 = comes_further w a p c.step.new.pass c.step.new.program c.step-2.new.pass c.step-2.new.program s1 c.in_ok-step-2.ensures.steps in
     let s3 = comes_further w a p c.step-2.new.pass c.step-2.new.program c.step-3.new.pass c.step-3.new.program s2 c.in_ok-step-3.ensures.steps in
@@ -141,7 +141,7 @@ returns-in_err-step-8-clause-steps g c =
     let s7 = comes_further w a p c.step-6.new.pass c.step-6.new.program c.step-7.new.pass c.step-7.new.program s6 c.in_ok-step-7.ensures.steps in
     let e = c.in_err-step-8.field-0.0 in
     let ends = after w a p c.step-7.new.pass c.step-7.new.program c.step-8.new.pass e s7 c.in_err-step-8.ensures.steps in
-    steps_handed_on w a p c.step-8.new.pass c.step-8.new.program c.from_residual-in_err-step-8.result e c.from_residual-in_err-step-8.ensures.1 ends
+    handed_on w a p c.step-8.new.pass c.from_residual-in_err-step-8.result e c.from_residual-in_err-step-8.ensures.1 ends
 
 pub returns-in_err-step-8-clause-fate : goal.returns-in_err-step-8-clause-fate
 returns-in_err-step-8-clause-fate g c =
@@ -159,7 +159,7 @@ pub returns-in_err-step-9-clause-steps : goal.returns-in_err-step-9-clause-steps
 returns-in_err-step-9-clause-steps g c =
     let w = c.args.self.now in
     let a = c.args.pass.now in
-    let p = c.args.program.now in
+    let p = c.args.begun in
     let s1 = c.in_ok-step.ensures.steps in
     let s2 = comes_further w a p c.step.new.pass c.step.new.program c.step-2.new.pass c.step-2.new.program s1 c.in_ok-step-2.ensures.steps in
     let s3 = comes_further w a p c.step-2.new.pass c.step-2.new.program c.step-3.new.pass c.step-3.new.program s2 c.in_ok-step-3.ensures.steps in
@@ -170,7 +170,7 @@ returns-in_err-step-9-clause-steps g c =
     let s8 = comes_further w a p c.step-7.new.pass c.step-7.new.program c.step-8.new.pass c.step-8.new.program s7 c.in_ok-step-8.ensures.steps in
     let e = c.in_err-step-9.field-0.0 in
     let ends = after w a p c.step-8.new.pass c.step-8.new.program c.step-9.new.pass e s8 c.in_err-step-9.ensures.steps in
-    steps_handed_on w a p c.step-9.new.pass c.step-9.new.program c.from_residual-in_err-step-9.result e c.from_residual-in_err-step-9.ensures.1 ends
+    handed_on w a p c.step-9.new.pass c.from_residual-in_err-step-9.result e c.from_residual-in_err-step-9.ensures.1 ends
 
 pub returns-in_err-step-9-clause-fate : goal.returns-in_err-step-9-clause-fate
 returns-in_err-step-9-clause-fate g c =
@@ -189,7 +189,7 @@ pub returns-in_default : goal.returns-in_default
 returns-in_default g c =
     let w = c.args.self.now in
     let a = c.args.pass.now in
-    let p = c.args.program.now in
+    let p = c.args.begun in
     let s1 = c.in_ok-step.ensures.steps in
     let s2 = comes_further w a p c.step.new.pass c.step.new.program c.step-2.new.pass c.step-2.new.program s1 c.in_ok-step-2.ensures.steps in
     let s3 = comes_further w a p c.step-2.new.pass c.step-2.new.program c.step-3.new.pass c.step-3.new.program s2 c.in_ok-step-3.ensures.steps in
@@ -202,7 +202,7 @@ pub returns-clause-steps : goal.returns-clause-steps
 returns-clause-steps g c =
     let w = c.args.self.now in
     let a = c.args.pass.now in
-    let p = c.args.program.now in
+    let p = c.args.begun in
     let s1 = c.in_ok-step.ensures.steps in
     let s2 = comes_further w a p c.step.new.pass c.step.new.program c.step-2.new.pass c.step-2.new.program s1 c.in_ok-step-2.ensures.steps in
     let s3 = comes_further w a p c.step-2.new.pass c.step-2.new.program c.step-3.new.pass c.step-3.new.program s2 c.in_ok-step-3.ensures.steps in
@@ -231,5 +231,5 @@ pub returns-then-not-takes-clause-steps : goal.returns-then-not-takes-clause-ste
 returns-then-not-takes-clause-steps g c =
     let w = c.args.self.now in
     let a = c.args.pass.now in
-    let p = c.args.program.now in
+    let p = c.args.begun in
     comes_further w a p c.step.new.pass c.step.new.program c.step-2.new.pass c.step-2.new.program c.in_ok-step.ensures.steps c.in_ok-step-2.ensures.steps

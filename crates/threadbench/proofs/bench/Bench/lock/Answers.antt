@@ -1,38 +1,28 @@
-use Rattle.std.proofs.Common.{subst}
+use Rattle.std.proofs.Common.{sym, ap, subst}
+use Rattle.std.specs.Prelude.{nat_le}
 use Rattle.mutex.specs.declared.call.Call.TheVariants as call
 use Rattle.ruledwords.specs.declared.pass.Words.{Words}
-use Rattle.ruledwords.specs.declared.turn.Outcome.TheVariants as outcome
-use Rattle.ruledwords.specs.declared.turn.Stretch.TheVariants as stretch
-use Rattle.ruledwords.specs.Stretches.{StretchesBegun}
-use Rattle.threadbench.proofs.Heeding.{heeds_on, is_heeded}
-use Rattle.threadbench.proofs.Turning.{lock_dies, lock_goes, lock_replies, lock_there}
+use Rattle.ruledwords.specs.declared.pass.Pass.{Pass}
+use Rattle.ruledwords.specs.declared.pass.Live.{Live}
+use Rattle.ruledwords.specs.Passes.{card, layout_of, IsLive}
+use Rattle.ruledwords.specs.Seen.{held}
+use Rattle.ruledwords.specs.Turns.{IsUnderWay}
+use Rattle.threadbench.proofs.Beginnings.{lock_begins, lock_refused, picks_true}
+use Rattle.threadbench.proofs.Turning.{ran_locked}
 use Rattle.threadbench.proofs.bench.Bench.lock.Goals as goal
 
-pub run_on-requires : goal.run_on-requires
-run_on-requires g c =
-    let came = subst (λ (w : Words). StretchesBegun w c.args.pass (call.Lock c.args.mutex) (stretch.Goes c.in-Goes.next)) c.self.view_is c.in-Goes.ensures.begins in
-    lock_there c.args.self.now c.args.pass c.args.mutex c.in-Goes.next came
+pub returns-in-Ok-clause-locked : goal.returns-in-Ok-clause-locked
+returns-in-Ok-clause-locked g c =
+    let a = c.args.pass in
+    let few = lock_begins (layout_of c.self.inside.words) (card a).thread (held (card a)) c.args.mutex c.in-Ok.running.program c.in-Ok.ensures.0 in
+    let under = subst (λ (w : Words). IsUnderWay w a (call.Lock c.args.mutex) c.in-Ok.running) c.self.view_is c.in-Ok.ensures.2 in
+    ran_locked c.args.self.now a c.args.mutex c.run.result few (c.run.ensures.runs.0 a (call.Lock c.args.mutex) under)
 
-pub returns-in-Goes-clause-locked : goal.returns-in-Goes-clause-locked
-returns-in-Goes-clause-locked g c =
-    let came = subst (λ (w : Words). StretchesBegun w c.args.pass (call.Lock c.args.mutex) (stretch.Goes c.in-Goes.next)) c.self.view_is c.in-Goes.ensures.begins in
-    lock_goes c.args.self.now c.args.pass c.args.mutex c.in-Goes.next c.run_on.result came c.run_on.ensures.runs
-
-pub returns-in-Lives-clause-locked : goal.returns-in-Lives-clause-locked
-returns-in-Lives-clause-locked g c =
-    let came = subst (λ (w : Words). StretchesBegun w c.args.pass (call.Lock c.args.mutex) (stretch.Lives c.in-Lives.pass c.in-Lives.reply)) c.self.view_is c.in-Lives.ensures.begins in
-    lock_replies c.args.self.now c.args.pass c.args.mutex c.in-Lives.pass c.in-Lives.reply c.requires.pass came
-
-pub returns-in-Dead-clause-locked : goal.returns-in-Dead-clause-locked
-returns-in-Dead-clause-locked g c =
-    let came = subst (λ (w : Words). StretchesBegun w c.args.pass (call.Lock c.args.mutex) (stretch.Dead c.in-Dead.pass)) c.self.view_is c.in-Dead.ensures.begins in
-    lock_dies c.args.self.now c.args.pass c.args.mutex c.in-Dead.pass came
-
-pub returns-in-Goes-clause-fate : goal.returns-in-Goes-clause-fate
-returns-in-Goes-clause-fate g c = is_heeded _ _ _ _ c.run_on.result (heeds_on _ _ _ _ _ _ _ c.in-Goes.ensures.fate c.run_on.ensures.fate)
-
-pub returns-in-Lives-clause-fate : goal.returns-in-Lives-clause-fate
-returns-in-Lives-clause-fate g c = is_heeded _ _ _ _ (outcome.Lives c.in-Lives.pass c.in-Lives.reply) c.in-Lives.ensures.fate
-
-pub returns-in-Dead-clause-fate : goal.returns-in-Dead-clause-fate
-returns-in-Dead-clause-fate g c = is_heeded _ _ _ _ (outcome.Dead c.in-Dead.pass) c.in-Dead.ensures.fate
+pub returns-in-Err-clause-locked : goal.returns-in-Err-clause-locked
+returns-in-Err-clause-locked g c =
+    let a = c.args.pass in
+    let many = lock_refused (layout_of c.self.inside.words) (card a).thread (held (card a)) c.args.mutex c.in-Err.reply c.in-Err.ensures.0 in
+    let same = c.in-Err.ensures.1 in (
+      subst (λ (b : Pass Live). IsLive c.args.self.now b) (sym same) c.requires.pass,
+      picks_true (nat_le 2048 (held (card a))) _ _ many.0 (many.1, ap (λ (b : Pass Live). card b) same),
+    )
