@@ -5,18 +5,6 @@
 #include <sys/syscall.h>
 #include <unistd.h>
 
-/* One instruction each, so that tries can yield between any two. The cell and the counters are changed by sequentially
- * consistent instructions; a thread's own words are stored by it alone and read by who walks its list, for whom a
- * release is enough. */
-#define LOAD(w)              (PZ_BETWEEN(), atomic_load_explicit(w, memory_order_acquire))
-#define SEE(w)               (PZ_BETWEEN(), atomic_load(w)) /* of sleepers, behind the change of a word */
-#define STORE(w, v)          (PZ_BETWEEN(), atomic_store_explicit(w, v, memory_order_release))
-#define XOR(w, v)            (PZ_BETWEEN(), atomic_fetch_xor(w, v))
-#define OR(w, v)             (PZ_BETWEEN(), atomic_fetch_or(w, v))
-#define AND(w, v)            (PZ_BETWEEN(), atomic_fetch_and(w, v))
-#define ADD(w, v)            (PZ_BETWEEN(), atomic_fetch_add(w, v))
-#define EXCHANGE(w, seen, v) (PZ_BETWEEN(), atomic_compare_exchange_strong(w, seen, v))
-
 static int is_there(const pz *p, uint64_t at) { return at >= LINE && at < p->places; }
 
 /* The futex word is the low half. */

@@ -100,8 +100,7 @@ static struct pz_call call_of(unsigned t, uint64_t cell)
 
 static inline void store(word *words, const struct pz_plan *plan, unsigned i)
 {
-    PZ_BETWEEN();
-    atomic_store_explicit(&words[plan->at[i]], plan->value[i], memory_order_release);
+    STORE(&words[plan->at[i]], plan->value[i]);
 }
 
 static uint64_t own(const pz *p, uint64_t at) { return atomic_load_explicit(&p->words[at], memory_order_relaxed); }
@@ -115,8 +114,7 @@ static uint32_t planned_lock(pz *p, unsigned t, uint64_t cell, unsigned operatio
     if (!is_entry(p, first) || !pz_plan_lock(&plan, (uint8_t)t, head_place(t), cell + 1, seen, first))
         return NO_PLAN;
     store(words, &plan, 0); /* the pending entry, before the cell is taken */
-    PZ_BETWEEN();
-    if (!atomic_compare_exchange_strong(w, &found, plan.operand)) {
+    if (!EXCHANGE(w, &found, plan.operand)) {
         struct pz_call call = call_of(t, cell);
         call.program = (uint8_t)operation;
         call.phase.lock =
@@ -138,11 +136,10 @@ static uint32_t planned_unlock(pz *p, unsigned t, uint64_t cell)
         return NO_PLAN;
     for (unsigned i = 0; i < plan.before; i++)
         store(words, &plan, i);
-    PZ_BETWEEN();
-    uint64_t found = atomic_fetch_xor(w, plan.operand);
+    uint64_t found = XOR(w, plan.operand);
     /* WAITERS alone is no sleeper: where none has a bit, the wake of nobody and the trim that is declined are left out.
      */
-    if ((found & WAITERS) && atomic_load(sleepers(p, cell))) {
+    if ((found & WAITERS) && SEE(sleepers(p, cell))) {
         struct pz_call call = call_of(t, cell);
         call.program = PZ_OP_UNLOCK;
         call.phase.lock = (struct pz_phase){.kind = AT_RELEASE};
@@ -266,9 +263,13 @@ static int on_condition(pz *p, unsigned c, unsigned operation)
         return why;
     struct pz_call call = call_of(t, p->cell_of[c]);
     call.counter = counter_place(p, c);
+    word *w = &p->words[p->cell_of[c]];
+    int owned = owner_of(atomic_load(w)) == t;
     uint32_t reply = run(p, &call, operation, (int)c);
-    if (operation == PZ_OP_WAIT && reply == ENOTRECOVERABLE)
-        pz_self[p->number].held--; /* it was released, and isn't held again */
+    if (owned && owner_of(atomic_load(w)) != t)
+        pz_self[p->number].held--; /* a wait released it, and hasn't it again */
+    if (operation == PZ_OP_WAIT)
+        pz_awake(p, t, p->cell_of[c]);
     return number_of(reply);
 }
 

@@ -39,6 +39,18 @@ enum { THREADS = 64, LINE = 8, HELD = 2048, FILES = PZ_FILES, MOST_MUTEXES = 409
 
 typedef _Atomic uint64_t word;
 
+/* One instruction each, so that tries can yield, or die, before any. The cell and the counters are changed by
+ * sequentially consistent instructions; a thread's own words are stored by it alone and read by who walks its list, for
+ * whom a release is enough. */
+#define LOAD(w)              (PZ_BETWEEN(), atomic_load_explicit(w, memory_order_acquire))
+#define SEE(w)               (PZ_BETWEEN(), atomic_load(w)) /* of sleepers, behind the change of a word */
+#define STORE(w, v)          (PZ_BETWEEN(), atomic_store_explicit(w, v, memory_order_release))
+#define XOR(w, v)            (PZ_BETWEEN(), atomic_fetch_xor(w, v))
+#define OR(w, v)             (PZ_BETWEEN(), atomic_fetch_or(w, v))
+#define AND(w, v)            (PZ_BETWEEN(), atomic_fetch_and(w, v))
+#define ADD(w, v)            (PZ_BETWEEN(), atomic_fetch_add(w, v))
+#define EXCHANGE(w, seen, v) (PZ_BETWEEN(), atomic_compare_exchange_strong(w, seen, v))
+
 /* Which record of a thread's walk is valid: one of the two, or none yet, or the walk has ended. */
 enum { WALK_NONE = 2, WALK_ENDED = 3 };
 
@@ -101,6 +113,7 @@ uint32_t pz_make(pz *p, const struct pz_access *x, uint64_t *value);
 
 /* ---- sleep.c */
 uint32_t pz_sleep(pz *p, unsigned t, uint64_t at, uint32_t expected);
+void pz_awake(pz *p, unsigned t, uint64_t cell);
 
 /* ---- reap.c */
 enum fate { LIVES, DYING, GONE };

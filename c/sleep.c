@@ -55,7 +55,7 @@ static int changes_soon(word *w, uint32_t expected)
     return 0;
 }
 
-static uint32_t low_half(const struct sleeper *s) { return (uint32_t)atomic_load(&s->p->words[s->at]); }
+static uint32_t low_half(const struct sleeper *s) { return (uint32_t)SEE(&s->p->words[s->at]); }
 static uint32_t unless_changed(const struct sleeper *s, uint32_t answer)
 {
     return low_half(s) == s->expected ? answer : PZ_AGAIN;
@@ -99,7 +99,7 @@ static unsigned watch_all(const struct sleeper *s, unsigned owner, struct watche
     all->n = 1;
     if (!watch(s->p, owner, all))
         return owner;
-    uint64_t others = s->before & atomic_load(sleepers(s->p, s->at)) & ~bit_of(owner);
+    uint64_t others = s->before & SEE(sleepers(s->p, s->at)) & ~bit_of(owner);
     for (; others && all->n < 2 + PZ_WATCH; others &= others - 1) {
         unsigned t = (unsigned)__builtin_ctzll(others) + 1;
         if (!watch(s->p, t, all))
@@ -176,14 +176,14 @@ static uint32_t sleep_once(struct sleeper *s)
     if (owner > THREADS || owner == s->thread)
         owner = 0; /* a word that was spoiled */
     /* anew each time: the kernel has it stand behind those that came while it looked */
-    s->before = atomic_load(sleepers(s->p, s->at)) & ~bit_of(s->thread);
+    s->before = SEE(sleepers(s->p, s->at)) & ~bit_of(s->thread);
     return owner && !atomic_load(&no_waitv) ? wait_watching(s, owner) : wait_looking(s, owner);
 }
 
 /* Before the word is loaded again: its owner may be dead, and nobody else there to see to it. */
 static void see_to_owner(const struct sleeper *s)
 {
-    unsigned owner = owner_of(atomic_load(&s->p->words[s->at]));
+    unsigned owner = owner_of(SEE(&s->p->words[s->at]));
     if (owner && owner <= THREADS && owner != s->thread && has_died(s->p, owner))
         pz_reap_one(s->p, owner);
 }
@@ -194,15 +194,21 @@ uint32_t pz_sleep(pz *p, unsigned t, uint64_t at, uint32_t expected)
     if (!counter && changes_soon(&p->words[at], expected))
         return PZ_AGAIN;
     struct sleeper s = {.p = p, .thread = t, .at = at, .expected = expected, .look_ms = FIRST_LOOK_MS};
-    atomic_fetch_or(sleepers(p, at), bit_of(t));
+    OR(sleepers(p, at), bit_of(t));
     uint32_t answer;
     do
         answer = sleep_once(&s);
     while (answer == ASLEEP);
     if (!counter)
         see_to_owner(&s);
-    atomic_fetch_and(sleepers(p, at), ~bit_of(t));
-    if (counter) /* a broadcast may have moved it to the mutex */
-        atomic_fetch_and(sleepers(p, p->cell_of[(at - counter_place(p, 0)) / LINE]), ~bit_of(t));
+    AND(sleepers(p, at), ~bit_of(t));
     return answer;
+}
+
+/* Behind a wait, with its mutex in hand: a broadcast has noted it there, if it moved it, and if it only overtook it. So
+ * not before: whoever broadcasts owns the mutex meanwhile. */
+void pz_awake(pz *p, unsigned t, uint64_t cell)
+{
+    if (SEE(sleepers(p, cell)) & bit_of(t))
+        AND(sleepers(p, cell), ~bit_of(t));
 }

@@ -1,27 +1,8 @@
 /* The accesses of the driver, instruction by instruction: built with a driver that yields before each instruction. Two
  * threads change one word, in every order of their instructions, and neither change may be lost: so a store in place of
  * an exchange, or a load and a store in place of one instruction, is seen. */
-#define PZ_BETWEEN() pz_between()
-static void pz_between(void);
+#include "turns.h"
 #include "../access.c"
-#include "try.h"
-#include <sched.h>
-
-/* Whose turn it is at each step, bit by bit; threads that have ended give theirs away. */
-static _Atomic int turn, ended[2];
-static unsigned schedule;
-static _Atomic unsigned step;
-static _Thread_local int me = -1;
-
-static void pz_between(void)
-{
-    if (me < 0)
-        return;
-    unsigned s = atomic_fetch_add(&step, 1);
-    atomic_store(&turn, (int)(schedule >> s % 16 & 1));
-    while (atomic_load(&turn) != me && !atomic_load(&ended[!me]))
-        sched_yield();
-}
 
 static struct pz file;
 static word words[80 * LINE];
@@ -31,29 +12,18 @@ static struct {
     uint32_t answer;
 } of[2];
 
-static void *make_one(void *which)
-{
-    me = (int)(intptr_t)which;
-    of[me].answer = pz_make(&file, &of[me].access, &of[me].value);
-    atomic_store(&ended[me], 1);
-    me = -1;
-    return NULL;
-}
+static void make(int which) { of[which].answer = pz_make(&file, &of[which].access, &of[which].value); }
+static void make_first(void) { make(0); }
+static void make_second(void) { make(1); }
 
-/* Both accesses, in the order that a schedule gives: what the word is then. */
-static uint64_t both(uint64_t was, struct pz_access a, struct pz_access b, unsigned by)
+/* Both accesses, in the order that is chosen: what the word is then. */
+static uint64_t both(uint64_t was, struct pz_access a, struct pz_access b)
 {
-    pthread_t thread[2];
     a.at = b.at = cell_place(0);
     words[a.at] = was;
     of[0].access = a;
     of[1].access = b;
-    schedule = by;
-    step = turn = ended[0] = ended[1] = 0;
-    for (intptr_t i = 0; i < 2; i++)
-        CHECK(!pthread_create(&thread[i], NULL, make_one, (void *)i));
-    for (int i = 0; i < 2; i++)
-        CHECK(!pthread_join(thread[i], NULL));
+    CHECK(take_turns(make_first, make_second));
     return words[a.at];
 }
 
@@ -79,20 +49,19 @@ static uint64_t alone(const struct pz_access *x, uint64_t was)
 /* Whatever the order, one was made wholly before the other, and each was told what it found. */
 static void one_after_the_other(uint64_t was, struct pz_access a, struct pz_access b)
 {
-    for (unsigned by = 0; by < 256; by++) {
-        uint64_t is = both(was, a, b, by), ab = alone(&b, alone(&a, was)), ba = alone(&a, alone(&b, was));
+    do {
+        uint64_t is = both(was, a, b), ab = alone(&b, alone(&a, was)), ba = alone(&a, alone(&b, was));
         if (is != ab && is != ba)
             fail(__FILE__, __LINE__, "a change was lost");
         if (a.kind == PZ_XOR && b.kind == PZ_XOR)
             CHECK((of[0].value == was) != (of[1].value == was));
         if (a.kind == PZ_EXCHANGE && b.kind == PZ_EXCHANGE)
             CHECK((of[0].answer == PZ_EXCHANGED) != (of[1].answer == PZ_EXCHANGED));
-    }
+    } while (next_order());
 }
 
 int main(void)
 {
-    alarm(60);
     file = (struct pz){.words = words, .places = 80 * LINE, .mutexes = 8, .conds = 2};
     struct pz_access take = {.kind = PZ_EXCHANGE, .a = 0, .b = 1}, also = {.kind = PZ_EXCHANGE, .a = 0, .b = 2};
     struct pz_access release = {.kind = PZ_XOR, .a = 1}, flip = {.kind = PZ_XOR, .a = 2},

@@ -1,5 +1,4 @@
-/* Each case of an edge once: who dies, forks, execs, reopens or asks for what isn't there, and what the next one is
- * told. */
+/* Each case of an edge once: who dies, forks, execs or asks for what isn't there, and what the next one is told. */
 #include "try.h"
 #include <fcntl.h>
 #include <pthread.h>
@@ -281,162 +280,6 @@ static void the_65th_thread(void)
     pz_close(p);
 }
 
-static void a_file_of_another_layout(void)
-{
-    const char *path = a_file("layout");
-    pz *p, *q;
-    uint16_t other[1] = {1};
-    unlink(path);
-    SAME(pz_open(path, 0600, 2, 1, NULL, 8, &p), 0);
-    SAME(pz_open(path, 0600, 3, 1, NULL, 8, &q), EINVAL);
-    SAME(pz_open(path, 0600, 2, 1, NULL, 9, &q), EINVAL);
-    SAME(pz_open(path, 0600, 2, 1, other, 8, &q), EINVAL);
-    SAME(pz_open(path, 0600, 0, 0, NULL, 8, &q), EINVAL);
-    SAME(pz_open(path, 0600, 4097, 0, NULL, 8, &q), EINVAL);
-    SAME(pz_open(path, 0600, 2, 257, NULL, 8, &q), EINVAL);
-    SAME(pz_open(path, 0600, 2, 1, NULL, 8, &q), 0);
-    SAME(pz_mutex_lock(q, 0), 0);
-    SAME(pz_mutex_trylock(p, 0), EBUSY);
-    pz_close(q);
-    SAME(pz_mutex_lock(p, 0), EOWNERDEAD);
-    pz_close(p);
-    CHECK(truncate(path, 4096) == 0);
-    SAME(pz_open(path, 0600, 2, 1, NULL, 8, &p), EINVAL);
-    unlink(path);
-}
-
-/* A file that isn't one is left alone. */
-static void a_file_of_another_program(void)
-{
-    const char *path = a_file("foreign");
-    char text[] = "not ours, and not to be overwritten", is[sizeof text];
-    int fd = open(path, O_RDWR | O_CREAT | O_TRUNC, 0600);
-    pz *p;
-    CHECK(fd >= 0 && write(fd, text, sizeof text) == sizeof text);
-    SAME(pz_open(path, 0600, 1, 0, NULL, 0, &p), EINVAL);
-    SAME(pz_open_fd(fd, 1, 0, NULL, 0, &p), EINVAL);
-    CHECK(pread(fd, is, sizeof is, 0) == sizeof is && !memcmp(is, text, sizeof is));
-    CHECK(ftruncate(fd, 0) == 0);
-    SAME(pz_open_fd(fd, 1, 0, NULL, 0, &p), 0);
-    pz_close(p);
-    close(fd);
-    unlink(path);
-    SAME(pz_open("/no such folder/file", 0600, 1, 0, NULL, 0, &p), ENOENT);
-    SAME(pz_open_fd(-1, 1, 0, NULL, 0, &p), ENOENT);
-}
-
-static void a_file_that_cannot_be_written(void)
-{
-    const char *path = a_file("readonly");
-    pz *p;
-    SAME(pz_open(path, 0400, 1, 0, NULL, 0, &p), 0);
-    pz_close(p);
-    pid_t child = fork();
-    if (!child) {
-        if (setuid(65534))
-            _exit(1);
-        _exit(pz_open(path, 0600, 1, 0, NULL, 0, &p) != EACCES);
-    }
-    int status;
-    CHECK(waitpid(child, &status, 0) == child);
-    CHECK(geteuid() != 0 || status == 0);
-    unlink(path);
-}
-
-/* Too large for what a process may write: refused before anything is mapped, as on a full disk. */
-static void no_room(void)
-{
-    const char *path = a_file("room");
-    pid_t child = fork();
-    if (!child) {
-        pz *p;
-        struct rlimit most = {4096, 4096};
-        signal(SIGXFSZ, SIG_IGN);
-        setrlimit(RLIMIT_FSIZE, &most);
-        _exit(pz_open(path, 0600, 1, 0, NULL, 1 << 20, &p) != EFBIG);
-    }
-    int status;
-    pz *p;
-    CHECK(waitpid(child, &status, 0) == child && status == 0);
-    SAME(pz_open(path, 0600, 1, 0, NULL, 1 << 20, &p), 0);
-    pz_close(p);
-    unlink(path);
-}
-
-/* Makers that are killed somewhere in pz_open leave a file that the next one makes. */
-/* Which boot it is can't be read: then nobody is taken for dead. */
-static void no_descriptor_left(void)
-{
-    const char *path = a_file("boot-id");
-    pz *p;
-    SAME(pz_open(path, 0600, 1, 0, NULL, 0, &p), 0);
-    SAME(pz_mutex_lock(p, 0), 0);
-    pid_t child = fork();
-    if (!child) {
-        int next = dup(0);
-        struct rlimit one_more = {(rlim_t)next + 1, (rlim_t)next + 1};
-        CHECK(close(next) == 0 && setrlimit(RLIMIT_NOFILE, &one_more) == 0);
-        SAME(pz_open(path, 0600, 1, 0, NULL, 0, &p), EMFILE);
-        SAME(pz_mutex_trylock(p, 0), EBUSY);
-        _exit(0);
-    }
-    int status;
-    CHECK(waitpid(child, &status, 0) == child && status == 0);
-    SAME(pz_mutex_unlock(p, 0), 0);
-    pz_close(p);
-    unlink(path);
-}
-
-/* One of them makes the file, and nobody counts in another one. */
-static void many_open_at_once(void)
-{
-    enum { OPENERS = 12 };
-    const char *path = a_file("openers");
-    _Atomic int *go = shared(sizeof *go);
-    for (int k = 0; k < 50; k++) {
-        pid_t child[OPENERS];
-        pz *p;
-        atomic_store(go, 0);
-        for (int i = 0; i < OPENERS; i++)
-            if (!(child[i] = fork())) {
-                while (!atomic_load(go))
-                    ;
-                SAME(pz_open(path, 0600, 64, 4, NULL, sizeof(long), &p), 0);
-                SAME(pz_mutex_lock(p, 7), 0);
-                ++*(long *)pz_data(p);
-                _exit(pz_mutex_unlock(p, 7));
-            }
-        atomic_store(go, 1);
-        int status;
-        for (int i = 0; i < OPENERS; i++)
-            CHECK(waitpid(child[i], &status, 0) == child[i] && status == 0);
-        SAME(pz_open(path, 0600, 64, 4, NULL, sizeof(long), &p), 0);
-        CHECK(*(long *)pz_data(p) == OPENERS);
-        pz_close(p);
-        unlink(path);
-    }
-    munmap(go, sizeof *go);
-}
-
-static void makers_are_killed(void)
-{
-    for (int i = 0; i < 200; i++) {
-        const char *path = a_file("maker");
-        pz *p;
-        pid_t child = fork();
-        if (!child) {
-            pz_open(path, 0600, 64, 4, NULL, 4096, &p);
-            _exit(0);
-        }
-        rest(i * 5);
-        kill_and_wait(child);
-        SAME(pz_open(path, 0600, 64, 4, NULL, 4096, &p), 0);
-        SAME(pz_mutex_lock(p, 63), 0);
-        pz_close(p);
-        unlink(path);
-    }
-}
-
 static _Atomic int calling;
 static void *calls(void *of)
 {
@@ -459,56 +302,6 @@ static void closed_beside_calls(void)
         rest(10);
     pz_close(p);
     CHECK(!pthread_join(thread, NULL));
-}
-
-static void sixteen_files(void)
-{
-    pz *p[16], *q;
-    const char *path = a_file("many");
-    for (int i = 0; i < 16; i++)
-        SAME(pz_open(path, 0600, 1, 0, NULL, 0, &p[i]), 0);
-    SAME(pz_open(path, 0600, 1, 0, NULL, 0, &q), EMFILE);
-    SAME(pz_mutex_lock(p[3], 0), 0);
-    SAME(pz_mutex_trylock(p[15], 0), EBUSY);
-    for (int i = 0; i < 16; i++)
-        pz_close(p[i]);
-    SAME(pz_open(path, 0600, 1, 0, NULL, 0, &q), 0);
-    SAME(pz_mutex_lock(q, 0), EOWNERDEAD);
-    pz_close(q);
-    unlink(path);
-}
-
-/* The system was started anew, with the file on disk: no kernel told these deaths. (The driver takes PZ_BOOT for the
- * boot's id.) */
-static void a_reboot(void)
-{
-    const char *path = a_file("boot");
-    pz *p;
-    unlink(path);
-    setenv("PZ_BOOT", "the first boot", 1);
-    pid_t child = fork();
-    if (!child) {
-        if (pz_open(path, 0600, 2, 0, NULL, 8, &p) || pz_mutex_lock(p, 1))
-            _exit(1);
-        *(long *)pz_data(p) = 42;
-        _exit(0);
-    }
-    int status;
-    CHECK(waitpid(child, &status, 0) == child && status == 0);
-    setenv("PZ_BOOT", "the second boot", 1);
-    SAME(pz_open(path, 0600, 2, 0, NULL, 8, &p), 0);
-    CHECK(*(long *)pz_data(p) == 42);
-    SAME(pz_mutex_lock(p, 0), 0);
-    child = fork(); /* who opens it behind the first one leaves that one its mutex */
-    if (!child)
-        _exit(pz_open(path, 0600, 2, 0, NULL, 8, &p) || pz_mutex_trylock(p, 0) != EBUSY);
-    CHECK(waitpid(child, &status, 0) == child && status == 0);
-    SAME(pz_mutex_lock(p, 1), EOWNERDEAD);
-    SAME(pz_mutex_consistent(p, 1), 0);
-    SAME(pz_mutex_unlock(p, 1), 0);
-    pz_close(p);
-    unsetenv("PZ_BOOT");
-    unlink(path);
 }
 
 /* An owner in a PID namespace of its own, where it is process 1, dies: a sleeper here is told, and nobody takes the
@@ -595,16 +388,7 @@ int main(void)
     an_exec();
     the_2049th_mutex();
     the_65th_thread();
-    a_file_of_another_layout();
-    a_file_of_another_program();
-    a_file_that_cannot_be_written();
-    no_room();
-    no_descriptor_left();
-    many_open_at_once();
-    makers_are_killed();
     closed_beside_calls();
-    sixteen_files();
-    a_reboot();
     another_namespace();
     two_reapers();
     puts("edges: each told what it should be");
