@@ -2,7 +2,8 @@
  * archive libpazdrig_c.a has, proved. A call in progress is a plain struct. pz_begin tells its first access; whoever runs it makes
  * that access and hands its answer to pz_step, which tells the next one, or that the call has returned. Nothing here touches
  * memory but the structs that it is given. Each function that returns a state answers PZ_NO_SUCH, and writes nothing, where no
- * call or walk in progress has the numbers that it is given. Addresses count 64-bit words. */
+ * call or walk in progress has the numbers that it is given. Pointers point to a struct each, no two of them to the same; no
+ * other argument is wrong. Addresses count 64-bit words. */
 #ifndef PZ_STEPS_H
 #define PZ_STEPS_H
 #include <stdbool.h>

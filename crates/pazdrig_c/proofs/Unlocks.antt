@@ -1,5 +1,5 @@
 -- An unlock of a consistent mutex by its owner.
-use Rattle.std.proofs.Common.{◌≡◌, ℕ, ◌==◌, Bool, true, false, not, List, ◌∷◌, refl, sym, ap, subst}
+use Rattle.std.proofs.Common.{◌≡◌, ℕ, ◌==◌, Bool, true, false, not, List, [], ◌∷◌, ◌++◌, refl, sym, ap, ◌∙◌, subst}
 use Rattle.std.specs.Prelude.{◌&&◌, if◌then◌else◌}
 use Rattle.lockword.specs.Cells.{Fields, fields_of}
 use Rattle.lockword.specs.declared.reply.Reply.TheVariants.{OK, EPERM}
@@ -19,8 +19,8 @@ use Rattle.mutex.specs.declared.phase.Phase.TheVariants.{AtCell, Ended}
 use Rattle.mutex.specs.Rows.{goes, decides, ends}
 use Rattle.mutex.specs.Unlock.{unlock_sees}
 use Rattle.mutex.specs.Standings.{Whole}
-use Rattle.mutex.specs.Whole.{whole_at, unlinked_at, from_cell, pending_place}
-use Rattle.pazdrig_c.specs.Plans.{run, asked, behind_answers, behind_plan, unlock_begun, unlink_answers, unlink_plan, wake_answers, wake_plan, release_answers, release_plan, release_row, is_held, UnlocksByPlan}
+use Rattle.mutex.specs.Whole.{whole_at, whole_access, whole_led, whole_moved, unlinked_at, from_cell, pending_place}
+use Rattle.pazdrig_c.specs.Plans.{run, asked, behind_answers, behind_plan, unlock_begun, unlink_answers, unlink_plan, unlock_plan, wake_answers, wake_plan, release_answers, release_plan, release_row, is_held, UnlocksByPlan}
 
 abbrev at : ℕ → ℕ → ℕ → ℕ → Phase → Whole
 at t h e c p = whole_at t operation.Unlock h e c p
@@ -62,8 +62,14 @@ behind_stands : (b : Bool) (t h e c n p : ℕ) → run (at t h e c (unlinking b 
 behind_stands true t h e c n p = refl
 behind_stands false t h e c n p = refl
 
+-- ---- the whole of it
+
+asked_further : (p : Whole) (xs ys : List Answer) → asked p (xs ++ ys) ≡ asked p xs ++ asked (run p xs) ys
+asked_further p [] ys = refl
+asked_further p (a ∷ xs) ys = ap (λ (l : List Access). whole_access p ∷ l) (asked_further (whole_moved p (whole_led p a)) xs ys)
+
 pub by_plan : UnlocksByPlan
-by_plan t h e c w n p v pos held = record { unlinks = unlinks; stands = stands; releases = releases_cell; returns = returns }
+by_plan t h e c w n p v pos held = record { unlinks = unlinks; stands = stands; releases = releases_cell; returns = returns; asks = asks }
   where
     loading : Phase
     loading = AtCell (row.Unlock unlock.Load)
@@ -91,3 +97,17 @@ by_plan t h e c w n p v pos held = record { unlinks = unlinks; stands = stands; 
 
     returns : (run (at t h e c (AtCell release_row)) (release_answers v)).phase ≡ Ended OK
     returns = wake_returns (fields_of v).waiters t h e c
+
+    up_to : List Access
+    up_to = unlink_plan h e c n p (n == h)
+
+    -- with nobody to wake, the accesses up to the release and those from it on are the plan's
+    behind_it : (fields_of v).waiters ≡ false → up_to ++ asked (at t h e c (AtCell release_row)) (release_answers v) ≡ unlock_plan t h e c n p (n == h)
+    behind_it none = ap (λ (l : List Access). up_to ++ l) releases_cell ∙ ap (λ (b : Bool). up_to ++ access.FetchXor c t ∷ wake_plan b h c) none
+
+    asks : (fields_of v).waiters ≡ false → asked (unlock_begun t h e c) (unlink_answers w n p (n == h) ++ release_answers v) ≡ unlock_plan t h e c n p (n == h)
+    asks none =
+        asked_further (unlock_begun t h e c) (unlink_answers w n p (n == h)) (release_answers v)
+        ∙ ap (λ (l : List Access). l ++ asked (run (unlock_begun t h e c) (unlink_answers w n p (n == h))) (release_answers v)) unlinks
+        ∙ ap (λ (q : Whole). up_to ++ asked q (release_answers v)) stands
+        ∙ behind_it none

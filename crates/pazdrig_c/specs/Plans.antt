@@ -125,6 +125,7 @@ pub record UnlockByPlan (t h e c w n p v : ℕ) : Type 0 where
   pub stands : run (unlock_begun t h e c) (unlink_answers w n p (n == h)) ≡ whole_at t operation.Unlock h e c (AtCell release_row)
   pub releases : asked (whole_at t operation.Unlock h e c (AtCell release_row)) (release_answers v) ≡ release_plan t h c v
   pub returns : (run (whole_at t operation.Unlock h e c (AtCell release_row)) (release_answers v)).phase ≡ Ended OK
+  pub asks : (fields_of v).waiters ≡ false → asked (unlock_begun t h e c) (unlink_answers w n p (n == h) ++ release_answers v) ≡ unlock_plan t h e c n p (n == h)
 
 -- whether a thread finds a cell that it may release so
 abbrev pub is_held : Fields → ℕ → Bool

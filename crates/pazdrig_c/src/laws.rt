@@ -6,8 +6,8 @@ pub fn locks_by_plan()
     ensures { LocksByPlan }
 {}
 
-/// The unlock of a consistent mutex by its owner makes just the accesses of its plan up to its release, stands there at the row that releases, and returns OK, where somebody may wait and nobody
-/// was woken too.
+/// The unlock of a consistent mutex by its owner makes just the accesses of its plan, where its release finds that nobody waits. Up to the release it does so in any case, and stands there at the row
+/// that releases; and it returns OK, where somebody may wait and nobody was woken too.
 pub fn unlocks_by_plan()
     ensures { UnlocksByPlan }
 {}
