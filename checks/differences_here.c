@@ -52,19 +52,7 @@ static void wait_with_an_inconsistent_mutex(void)
     say("trylock of another %s", name(came_of(begin(trylock))));
 }
 
-static void killed_waiter(void)
-{
-    pid_t waiter = begin(wait_for_a_signal);
-    settle(waiter);
-    kill_it(waiter);
-    for (int i = 0; i < 3; i++) {
-        waiter = begin(wait_for_a_signal);
-        settle(waiter);
-        int signal = came_of(begin(signal_as_the_owner));
-        say("%ssignal %s, ", i ? "; " : "", name(signal));
-        say("waiter %s", name(came_of(waiter)));
-    }
-}
+static void killed_waiter(void) { signals_behind_a_killed_waiter(signal_as_the_owner); }
 
 static int broadcast_it(void) { return pz_cond_broadcast(p, 0); }
 

@@ -57,6 +57,21 @@ static void trylock_of_a_spoiled_mutex(void)
     say("%s", name(unlock()));
 }
 
+/* A waiter of a condition variable is killed; then one after the other waits there and is signalled. */
+static void signals_behind_a_killed_waiter(int (*signal_once)(void))
+{
+    pid_t waiter = begin(wait_for_a_signal);
+    settle(waiter);
+    kill_it(waiter);
+    for (int i = 0; i < 3; i++) {
+        waiter = begin(wait_for_a_signal);
+        settle(waiter);
+        int signal = came_of(begin(signal_once));
+        say("%ssignal %s, ", i ? "; " : "", name(signal));
+        say("waiter %s", name(came_of(waiter)));
+    }
+}
+
 static void consistent_of_another(void)
 {
     inherit();

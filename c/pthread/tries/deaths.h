@@ -68,6 +68,23 @@ static inline void until_all_got_on(int n)
     }
 }
 
+/* So many deaths among n processes at work, each begun anew a while later, and an end of all once each has got on. */
+static inline void kill_at_random(int deaths, int n, void (*work)(int), int most_us)
+{
+    for (int i = 0; i < n; i++)
+        child[i] = begin(i, work);
+    for (int k = 0; k < deaths; k++) {
+        int i = rand() % n;
+        rest(rand() % most_us);
+        look(n);
+        kill_and_wait(child[i]);
+        child[i] = begin(i, work);
+    }
+    until_all_got_on(n);
+    for (int i = 0; i < n; i++)
+        kill_and_wait(child[i]);
+}
+
 /* Runs a program beside: it has to end well. */
 static inline int run(const char *command)
 {

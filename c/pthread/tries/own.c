@@ -120,18 +120,7 @@ int main(int argc, char **argv)
     CHECK(all != MAP_FAILED);
     begin_counts();
     CHECK(waitpid(begin(0, make), NULL, 0) > 0);
-    for (int i = 0; i < n; i++)
-        child[i] = begin(i, work);
-    for (int k = 0; k < deaths; k++) {
-        int i = rand() % n;
-        rest(rand() % 3000);
-        look(n);
-        kill_and_wait(child[i]);
-        child[i] = begin(i, work);
-    }
-    until_all_got_on(n);
-    for (int i = 0; i < n; i++)
-        kill_and_wait(child[i]);
+    kill_at_random(deaths, n, work, 3000);
     CHECK(atomic_load(&board->errors) == 0);
     printf("own: %d deaths, %d processes of %d threads: EOWNERDEAD %ld, consistent %ld, %ld calls\n", deaths, n,
            threads, atomic_load(&counts->died), atomic_load(&counts->consistent), atomic_load(&counts->calls));

@@ -137,18 +137,7 @@ int main(int argc, char **argv)
     pid_t keeper = begin(n, keep);
     while (!atomic_load(&board->got_on[n]) && !waitpid(keeper, NULL, WNOHANG))
         rest(1000);
-    for (int i = 0; i < n; i++)
-        child[i] = begin(i, work);
-    for (int k = 0; k < deaths; k++) {
-        int i = rand() % n;
-        rest(rand() % 2000);
-        look(n);
-        kill_and_wait(child[i]);
-        child[i] = begin(i, work);
-    }
-    until_all_got_on(n);
-    for (int i = 0; i < n; i++)
-        kill_and_wait(child[i]);
+    kill_at_random(deaths, n, work, 2000);
     struct tdb_context *tdb = open_it();
     CHECK(tdb && tdb_lockall(tdb) == 0 && tdb_unlockall(tdb) == 0);
     int records = tdb_check(tdb, NULL, NULL) == 0 ? tdb_traverse_read(tdb, NULL, NULL) : -1;
