@@ -6,3 +6,4 @@ pub mod Runs
 mod Sleeping
 mod Requeues
 mod Trims
+mod Leaving

@@ -1,6 +1,7 @@
 -- Machines stay reached.
 use Rattle.std.proofs.Common.{◌≡◌, ◌≢◌, ℕ, zero, suc, ◌<◌, ◌≤◌, Bool, true, false, ◌&&◌, List, [], ◌∷◌, ◌++◌, length, take, Result, Ok, Err, Option, Some, None, ◌-◌, refl, sym, ap, ◌∙◌, subst, arith, slice_index_or, slice_set}
-use Rattle.std.specs.Prelude.{if◌then◌else◌, slice_index, map, nat_lt, nat_le, replicate}
+use Rattle.std.specs.Prelude.{if◌then◌else◌, slice_index, map, nat_lt, nat_le, not, replicate}
+use Rattle.keys.specs.declared.access.Answer.TheVariants.{Trimmed}
 use Rattle.std.specs.List.{range_with_len}
 use mathlib.Core.Path.{fun_ext}
 use Rattle.std.proofs.lemmas.Grind.{common_steps}
@@ -26,12 +27,12 @@ use Rattle.condvar.specs.declared.op.Op.{Op}
 use Rattle.condvar.specs.declared.op.Op.TheVariants.{OnMutex, OnCondition}
 use Rattle.condvar.specs.Ops.{mutex_of, is_in}
 use Rattle.protocol.specs.declared.event.Event.{Event}
-use Rattle.protocol.specs.declared.event.Event.TheVariants.{Begin, Step, Kill}
+use Rattle.protocol.specs.declared.event.Event.TheVariants.{Begin, Step, Kill, Leave, Decline}
 use Rattle.protocol.specs.declared.thread.Thread.{Thread}
 use Rattle.protocol.specs.declared.thread.Stage.{Stage}
 use Rattle.protocol.specs.declared.thread.Stage.TheVariants.{Idle, Calling, AtCondition, Dying, Reaped}
 use Rattle.protocol.specs.declared.note.Note.{Note}
-use Rattle.protocol.specs.Machine.{State, After, put, idle, start, is_valid, has_thread, may_begin, first_stage, begun, nothing, is_alive, killed, sleeps, led, went, stepped, answer_of, happens, run, notes}
+use Rattle.protocol.specs.Machine.{State, After, put, idle, start, is_valid, has_thread, may_begin, first_stage, begun, nothing, is_alive, killed, departed, declined, spared, is_asleep, is_trim, sleeps, led, went, stepped, answer_of, happens, run, notes}
 use Rattle.protocol.specs.Sleepers.{alone, RunsAlone}
 use Rattle.protocol.proofs.Queued.{Queued, asleep_there}
 use Rattle.protocol.proofs.QueueRuns.{run_queued}
@@ -149,6 +150,22 @@ stays s (Kill t) = go (has_thread s t && is_alive (s.threads t).stage)
     go : (b : Bool) → is_nothing (if b then killed s t else nothing s).note ≡ true → (if b then killed s t else nothing s).state ≡ s
     go true h = absurd cc
     go false h = refl
+stays s (Leave t) = go (has_thread s t && is_asleep s t)
+  where
+    go : (b : Bool) → is_nothing (if b then departed s t else nothing s).note ≡ true → (if b then departed s t else nothing s).state ≡ s
+    go true h = absurd cc
+    go false h = refl
+stays s (Decline t) = go (has_thread s t) (s.threads t).stage
+  where
+    trims : (o : Op) (p : Whole) (a : Bool) → is_nothing (if a then spared s t (s.threads t).held (mutex_of s.layout o) (led o p (whole_led p (Trimmed false))) else nothing s).note ≡ true
+        → (if a then spared s t (s.threads t).held (mutex_of s.layout o) (led o p (whole_led p (Trimmed false))) else nothing s).state ≡ s
+    trims o p true h = absurd cc
+    trims o p false h = refl
+
+    go : (b : Bool) (g : Stage) → is_nothing (if b then declined s t (s.threads t).held g else nothing s).note ≡ true → (if b then declined s t (s.threads t).held g else nothing s).state ≡ s
+    go true (Calling o p) h = trims o p (is_trim (whole_access p) && not (sleeps s t (Calling o p))) h
+    go true g h = refl
+    go false g h = refl
 
 -- both hold where both together hold
 both : (a b : Bool) → (a && b) ≡ true → (a ≡ true) × (b ≡ true)

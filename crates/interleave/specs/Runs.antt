@@ -20,7 +20,7 @@ pub record IsLegalRun (s : State) (events : List Event) (told : List Note) : Typ
   -- of an event stands behind its return or its reaping, nor before a begin, and whom it wakes or moves stands behind its point
   pub explained : IsExplained events told
   -- after each event a thread stands in a queue exactly where the last of its sleeps, moves, wakes and kills told so far is a sleep or a move, in the one that this names; each queue is in the order in which
-  -- they came, as it was told, and whoever is woken or moved is its front
+  -- they came, as it was told, and whoever another's event wakes, or moves, is its front
   pub sleeps : TellsAtEachMoment s.layout s events told
   -- no wait that released its mutex before a signal or a broadcast counted falls asleep there behind it; where a signal returns OK it wakes the first of its condition variable's queue, if any, and where a
   -- broadcast does it moves all of it and leaves nobody there

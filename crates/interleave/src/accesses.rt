@@ -20,7 +20,7 @@ pub(crate) struct Performed {
 }
 
 /// Of an access by which nobody falls asleep, is woken or is moved.
-fn quiet(answer: Answer) -> Performed
+pub(crate) fn quiet(answer: Answer) -> Performed
     ensures { result ≡ record { answer = answer; slept = false; woken = []; moved = [] } }
 {
     Performed {

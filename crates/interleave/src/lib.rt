@@ -28,6 +28,7 @@
 mod accesses;
 mod copies;
 mod deaths;
+mod leaves;
 mod machine;
 mod ops;
 mod threads;

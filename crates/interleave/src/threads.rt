@@ -17,6 +17,7 @@ ghost use Rattle.interleave.specs.Steps.{MayStep, SleepsInItsCall};
 
 use crate::accesses::{Performed, perform};
 use crate::deaths::{kill, walk_on};
+use crate::leaves::{decline, leave};
 use crate::ops::begun;
 use condvar::{CondCall, CondProgram, Op};
 use facts::Queue;
@@ -27,7 +28,7 @@ use protocol::{Event, Note, Stage, Thread};
 use syscalls::{Kernel, PlainMemory};
 
 /// The point that the access was, if it was one.
-fn point(progress: &Progress) -> Option<Point>
+pub(crate) fn point(progress: &Progress) -> Option<Point>
     ensures { result ≡ point_in progress.now }
 {
     match *progress {
@@ -45,7 +46,7 @@ fn returned(progress: &Progress) -> Option<Reply>
 }
 
 /// Where a thread stands after an access of a mutex's program.
-fn stage_after(op: Op, program: &Program, progress: &Progress) -> Stage
+pub(crate) fn stage_after(op: Op, program: &Program, progress: &Progress) -> Stage
     ensures { result ≡ stage_in op program.now progress.now }
 {
     match *progress {
@@ -66,7 +67,7 @@ fn stage_at(call: CondCall, program: &CondProgram, progress: &Progress) -> Stage
 }
 
 /// How many mutexes a thread owns after an access of its call, which may have been a point.
-fn held_after(held: u16, point: Option<Point>) -> u16
+pub(crate) fn held_after(held: u16, point: Option<Point>) -> u16
     requires { held < 65535 }
     ensures { result ≡ held_with held point }
 {
@@ -203,7 +204,13 @@ fn begin(layout: &Layout, threads: &mut Vec<Thread>, thread: Tid, op: Op) -> Not
 }
 
 /// What is noted of an access of a call about a mutex, which sleeps in that queue if it does.
-fn stepped(thread: Tid, mutex: u16, queue: Queue, done: &Performed, progress: &Progress) -> Note
+pub(crate) fn stepped(
+    thread: Tid,
+    mutex: u16,
+    queue: Queue,
+    done: &Performed,
+    progress: &Progress,
+) -> Note
     ensures { result ≡ Stepped thread mutex (decision_with thread mutex (point_in progress.now)) (slept_in queue done.now.slept) done.now.woken done.now.moved (reply_in progress.now) }
 {
     Note::Stepped {
@@ -362,5 +369,7 @@ pub(crate) fn apply(
         Event::Begin(thread, op) => begin(layout, threads, thread, op),
         Event::Step(thread) => step(layout, memory, kernel, threads, thread),
         Event::Kill(thread) => kill(layout, kernel, threads, thread),
+        Event::Leave(thread) => leave(layout, kernel, thread),
+        Event::Decline(thread) => decline(layout, kernel, threads, thread),
     }
 }

@@ -12,6 +12,8 @@ mod faulty;
 #[cfg(test)]
 mod large;
 #[cfg(test)]
+mod leaves;
+#[cfg(test)]
 mod processes;
 #[cfg(test)]
 mod program;

@@ -1,5 +1,12 @@
 -- Which events apply.
-use Rattle.std.proofs.Common.{◌≡◌, ◌≢◌, ℕ, ◌≤◌, ◌==◌, Bool, true, false, ◌&&◌, Option, Ok, Err, List, [], ◌∷◌, ◌++◌, refl, sym, ap, ◌∙◌, subst, arith, eq-eqb}
+use Rattle.std.proofs.Common.{◌≡◌, ◌≢◌, ℕ, ◌≤◌, ◌==◌, Bool, true, false, ◌&&◌, Option, None, Ok, Err, List, [], ◌∷◌, ◌++◌, refl, sym, ap, ◌∙◌, subst, arith, eq-eqb}
+use Rattle.protocol.proofs.Vocabulary.{Left, Trimmed, spared, departed}
+use Rattle.protocol.proofs.Departures.{asleep_where}
+use Rattle.protocol.proofs.Declines.{decline_goes, decline_rests}
+use Rattle.protocol.proofs.Queued.{asleep_there}
+use Rattle.protocol.proofs.Events.{trims_at}
+use Rattle.protocol.specs.Machine.{is_trim}
+use Rattle.protocol.specs.Applies.{IsQuietAccessOf}
 use Rattle.protocol.proofs.Vocabulary.{cond_access, cond_led, Mutex, Condition, Queue, Fact, Decision, Layout', Access, Reply, XHELD, whole_access, whole_led, Op, OnMutex}
 use Rattle.protocol.proofs.Vocabulary.{OnCondition, mutex_of, begun_of, Event, Note, Began, Stepped, Walked, Thread, Stage, Idle, Calling, AtCondition, Dying, Reaped, facts_of}
 use Rattle.protocol.proofs.Vocabulary.{return_facts, reap_facts, State, After, put, start, answer_of, is_calling, is_alive, begun, nothing, decision, slept_in, falls_asleep, woken}
@@ -107,6 +114,12 @@ went_agrees s u t held m k x g w calls ends a =
     subst (λ (y : Told). Agrees y ((went s u held m k x g).state.threads t).stage) (sym (told_stepped t w u m (decision u m g.operation g.point) (slept_in k (falls_asleep s u x)) (woken s u x) (moved_then s u x) g.returned))
     (returned_agrees s u t (held_after held g.operation g.point) w g.stage g.returned calls ends a)
 
+spared_agrees : (s : State) (u t held m : ℕ) (g : Led) (w : Told) → is_calling (s.threads u).stage ≡ true → EndsOrGoes g.stage g.returned → Agrees w (s.threads t).stage
+    → Agrees (told_after t w (facts_of (spared s u held m g).note)) ((spared s u held m g).state.threads t).stage
+spared_agrees s u t held m g w calls ends a =
+    subst (λ (y : Told). Agrees y ((spared s u held m g).state.threads t).stage) (sym (told_stepped t w u m (decision u m g.operation g.point) None [] [] g.returned))
+    (returned_agrees s u t (held_after held g.operation g.point) w g.stage g.returned calls ends a)
+
 on_a_walk_agrees : (s : State) (u t : ℕ) (w : Told) → Agrees w (s.threads t).stage → (v : walks.Standing) → (s.threads u).stage ≡ Dying v
     → Agrees (told_after t w (facts_of (walked s u (s.threads u).held v).note)) ((walked s u (s.threads u).held v).state.threads t).stage
 on_a_walk_agrees s u t w a v is =
@@ -129,6 +142,8 @@ next_agrees s e t w a =
     (cond_ends c p (cond_led p (answer_of s u (cond_access p)))) a)
     (λ v is awake. on_a_walk_agrees s u t w a v is))
     (λ u pos known alive. moved s u t w Dead _ a tt)
+    (λ u pos known asleep. a)
+    (λ u o p pos known is awake trims. spared_agrees s u t (s.threads u).held (mutex_of s.layout o) (led o p (whole_led p (Trimmed false))) w (ap is_calling is) (call_ends o p (whole_led p (Trimmed false))) a)
     e
 
 pub run_agrees : (s : State) (es : List Event) (t : ℕ) (w : Told) → Agrees w (s.threads t).stage → Agrees (told_after t w (facts_among (notes s es))) ((run s es).threads t).stage
@@ -193,15 +208,43 @@ module _ (s : State) (ns : List Note) (inv : Kept s) (queued : Queued s) (agrees
   kills_else : (t : ℕ) → ¬ Applies s.layout s ns (Event.Kill t) → happens s (Event.Kill t) ≡ nothing s
   kills_else t never = grind (arith)
 
+  -- ---- leaves
+  leaves_so : (t : ℕ) → Applies s.layout s ns (Event.Leave t) → (happens s (Event.Leave t)).note ≡ Left t
+  leaves_so t on = ap (λ (b : Bool). (if b then departed s t else nothing s).note) (both _ _ (known t on.0) (asleep_there s t on.1.0 queued on.1.1))
+
+  leaves_else : (t : ℕ) → ¬ Applies s.layout s ns (Event.Leave t) → happens s (Event.Leave t) ≡ nothing s
+  leaves_else t never = go (has_thread s t && is_asleep s t) refl
+    where
+      go : (b : Bool) → (has_thread s t && is_asleep s t) ≡ b → (if b then departed s t else nothing s) ≡ nothing s
+      go false e = refl
+      go true e =
+          let first : 1 ≤ t = grind (arith, nat_tests) in
+          let last : t ≤ s.layout.threads = grind (arith, nat_tests) in
+          let asleep : is_asleep s t ≡ true = grind (arith, nat_tests) in
+          absurd (never ((first, last), asleep_where s t asleep))
+
+  -- ---- declines
+  declines_so : (t : ℕ) → Applies s.layout s ns (Event.Decline t) → IsQuietAccessOf t (happens s (Event.Decline t)).note
+  declines_so t ((first, last), (o, p, at, is, a)) =
+      let trims = trims_at p p.phase (ap is_trim a) in
+      subst (λ (z : After). IsQuietAccessOf t z.note) (sym (decline_goes s t o p is trims queued inv first last)) (refl, refl)
+
+  declines_else : (t : ℕ) → ¬ Applies s.layout s ns (Event.Decline t) → happens s (Event.Decline t) ≡ nothing s
+  declines_else t never = decline_rests s t (λ first last about. never ((first, last), about))
+
   so : (e : Event) → Applies s.layout s ns e → IsNotedAs s.layout s e (happens s e).note
   so (Event.Begin t o) on = begins_so t o on
   so (Event.Step t) on = steps_so t on
   so (Event.Kill t) on = kills_so t on
+  so (Event.Leave t) on = leaves_so t on
+  so (Event.Decline t) on = declines_so t on
 
   idles : (e : Event) → ¬ Applies s.layout s ns e → happens s e ≡ nothing s
   idles (Event.Begin t o) never = begins_else t o never
   idles (Event.Step t) never = steps_else t never
   idles (Event.Kill t) never = kills_else t never
+  idles (Event.Leave t) never = leaves_else t never
+  idles (Event.Decline t) never = declines_else t never
 
   next_applies : NextApplies s.layout s ns
   next_applies = record {

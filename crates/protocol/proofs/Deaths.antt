@@ -1,5 +1,6 @@
 -- How often a thread's death is told.
 use Rattle.std.proofs.Common.{eqb-true, ◌≡◌, ◌≢◌, ◌⊎◌, inl, inr, ℕ, ◌+◌, ◌≤◌, ◌==◌, Bool, true, false, ◌&&◌, Option, Some, None, List, [], ◌∷◌, ◌++◌, map, refl, sym, ap, ◌∙◌, subst, arith}
+use Rattle.protocol.proofs.Declines.{spared_is}
 use Rattle.protocol.proofs.Vocabulary.{Operation, OK, eqb-false, Reply, CondCall, condition_of, CondWhole, cond_access, cond_led, Queue, Mutex, Condition, Fact, Access, sleeps_at, Object, XHELD}
 use Rattle.protocol.proofs.Vocabulary.{Whole, whole_access, whole_led, Op, OnCondition, mutex_of, Thread, Event, Stage, Idle, Calling, AtCondition, Reaped, facts_of, death_facts}
 use Rattle.protocol.proofs.Vocabulary.{reap_facts, State, After, place_met, start, run, notes, is_alive, begun, led, led_at, went, answer_of, decision, slept_in, woken_by}
@@ -117,7 +118,8 @@ module _ (t m : ℕ) where
         (walk_lost u w.row (walk_step s u inv pos known w.row there.0.going (knows_at s.layout u w there.0) there.2)))
 
     event_lost : (e : Event) → Lost s (happens s e)
-    event_lost e = by_event s (λ (x : Event) (a : After). Lost s a) (λ x. omega arith) (λ u o pos known inside idle b full. begun_lost u o b) step_lost (λ u pos known alive. omega arith) e
+    event_lost e = by_event s (λ (x : Event) (a : After). Lost s a) (λ x. omega arith) (λ u o pos known inside idle b full. begun_lost u o b) step_lost (λ u pos known alive. omega arith) (λ u pos known asleep. omega arith)
+        (λ u o p pos known is awake trims. subst (Lost s) (sym (spared_is s u o p is trims inv pos known)) (omega arith)) e
       where
         begun_lost : (u : ℕ) (o : Op) (b : Bool) → Lost s (begun s u o (if b then Err XHELD else Ok (begins_at s.layout u o)))
         begun_lost u o true = omega arith
@@ -126,7 +128,8 @@ module _ (t m : ℕ) where
     -- it stays dead
     event_dead : (e : Event) → is_alive ((happens s e).state.threads t).stage ≡ false
     event_dead e = by_event s (λ (x : Event) (a : After). is_alive (a.state.threads t).stage ≡ false) (λ x. dead) (λ u o pos known inside idle b full. begun_dead u o idle b) (λ u pos known. stepped_dead u)
-        (λ u pos known alive. by_put (λ (z : Thread). is_alive z.stage ≡ false) s.threads u _ t (λ e. refl) (λ apart. dead)) e
+        (λ u pos known alive. by_put (λ (z : Thread). is_alive z.stage ≡ false) s.threads u _ t (λ e. refl) (λ apart. dead)) (λ u pos known asleep. dead)
+        (λ u o p pos known is awake trims. ap (λ (z : Thread). is_alive z.stage) (put-other s.threads u _ t (λ e. apart_from u (Calling o p) is refl (sym e))) ∙ dead) e
       where
         begun_dead : (u : ℕ) (o : Op) → (s.threads u).stage ≡ Idle → (b : Bool) → is_alive ((begun s u o (if b then Err XHELD else Ok (begins_at s.layout u o))).state.threads t).stage ≡ false
         begun_dead u o idle true = dead

@@ -1,5 +1,5 @@
 -- What an event does, case by case.
-use Rattle.std.proofs.Common.{◌≡◌, ℕ, ◌<◌, ◌≤◌, Bool, true, false, ◌&&◌, Result, Ok, Err, refl, sym, subst, arith}
+use Rattle.std.proofs.Common.{◌≡◌, ℕ, ◌<◌, ◌≤◌, Bool, true, false, ◌&&◌, Result, Ok, Err, refl, sym, ap, ◌∙◌, subst, arith}
 use Rattle.protocol.proofs.Vocabulary.{CondCall, condition_of, CondWhole, Mutex, Condition, Layout', IsLayout, acquires, Reply, XHELD, Whole, whole_access, whole_led, Op, OnMutex}
 use Rattle.protocol.proofs.Vocabulary.{OnCondition, Event, Step, Stage, Idle, Calling, AtCondition, Dying, mutex_of, Names, State, After, is_alive, killed, may_begin, begun}
 use Rattle.protocol.proofs.Vocabulary.{first_stage, nothing, answer_of, is_asleep, led, led_at, went, walked, stepped, happens, if◌then◌else◌, nat_le, nat_tests}
@@ -7,9 +7,11 @@ use Rattle.std.proofs.lemmas.List.Elements.{All-get_or}
 use Rattle.mutex.specs.Whole.{begins}
 use Rattle.condvar.specs.Whole as condition
 use Rattle.exitwalk.specs.Standings as walks
-use Rattle.protocol.specs.declared.event.Event.TheVariants.{Begin, Kill}
+use Rattle.protocol.specs.declared.event.Event.TheVariants.{Begin, Kill, Leave, Decline}
+use Rattle.mutex.specs.declared.row.Row.TheVariants.{Unlock}
+use Rattle.protocol.proofs.Vocabulary.{departed, spared, sleeps, Trimmed, Phase, AtCell, UnlockRow, not}
 use Rattle.condvar.specs.Ops.{operation_of, is_in}
-use Rattle.protocol.specs.Machine.{has_thread, is_idle}
+use Rattle.protocol.specs.Machine.{has_thread, is_idle, is_trim, declined}
 
 -- whoever may begin is idle
 pub at_rest : (g : Stage) → is_idle g ≡ true → g ≡ Idle
@@ -40,15 +42,27 @@ begins_at l t (OnCondition c) = AtCondition c (condition.begins l t c)
 pub first_is : (l : Layout') (t held : ℕ) (o : Op) → first_stage l t held o ≡ (if acquires (operation_of o) && nat_le 2048 held then Err XHELD else Ok (begins_at l t o))
 first_is l t held o = grind (arith)
 
+-- ---- trims
+
+-- an unlock is about to make one
+abbrev pub IsTrimming : Whole → Type 0
+IsTrimming p = p.phase ≡ AtCell (Unlock UnlockRow.Trim)
+
+pub trims_at : (p : Whole) (f : Phase) → is_trim (whole_access (record p { phase = f })) ≡ true → f ≡ AtCell (Unlock UnlockRow.Trim)
+trims_at p f e = grind (arith)
+
 -- ---- events
 
--- what holds where nothing happens, of a begin that isn't refused and of one that is, of a step and of a death, holds of each event
+-- what holds where nothing happens, of a begin that isn't refused and of one that is, of a step, of a death, of a sleeper's leave and of a trim that is declined, holds of each event
 pub by_event : (s : State) (P : Event → After → Type 0) → ((e : Event) → P e (nothing s))
     → ((t : ℕ) (o : Op) → 1 ≤ t → t ≤ s.layout.threads → Names s.layout o → (s.threads t).stage ≡ Idle → (b : Bool) → (acquires (operation_of o) && nat_le 2048 (s.threads t).held) ≡ b → P (Begin t o) (begun s t o (if b then Err XHELD else Ok (begins_at s.layout t o))))
     → ((t : ℕ) → 1 ≤ t → t ≤ s.layout.threads → P (Step t) (stepped s t (s.threads t).held (s.threads t).stage))
     → ((t : ℕ) → 1 ≤ t → t ≤ s.layout.threads → is_alive (s.threads t).stage ≡ true → P (Kill t) (killed s t))
+    → ((t : ℕ) → 1 ≤ t → t ≤ s.layout.threads → is_asleep s t ≡ true → P (Leave t) (departed s t))
+    → ((t : ℕ) (o : Op) (p : Whole) → 1 ≤ t → t ≤ s.layout.threads → (s.threads t).stage ≡ Calling o p → is_asleep s t ≡ false → IsTrimming p
+    → P (Decline t) (spared s t (s.threads t).held (mutex_of s.layout o) (led o p (whole_led p (Trimmed false)))))
     → (e : Event) → P e (happens s e)
-by_event s P none begins_so steps_so kills_so (Begin t o) = go (may_begin s t o) refl
+by_event s P none begins_so steps_so kills_so leaves_so declines_so (Begin t o) = go (may_begin s t o) refl
   where
     go : (b : Bool) → may_begin s t o ≡ b → P (Begin t o) (if b then begun s t o (first_stage s.layout t (s.threads t).held o) else nothing s)
     go true e =
@@ -58,8 +72,27 @@ by_event s P none begins_so steps_so kills_so (Begin t o) = go (may_begin s t o)
         subst (λ (r : Result Stage Reply). P (Begin t o) (begun s t o r)) (sym (first_is s.layout t (s.threads t).held o))
         (begins_so t o pos known (names_so s.layout o inside) (at_rest (s.threads t).stage (grind (arith, nat_tests))) (acquires (operation_of o) && nat_le 2048 (s.threads t).held) refl)
     go false e = none (Begin t o)
-by_event s P none begins_so steps_so kills_so (Step t) = grind (arith)
-by_event s P none begins_so steps_so kills_so (Kill t) = grind (arith)
+by_event s P none begins_so steps_so kills_so leaves_so declines_so (Step t) = grind (arith)
+by_event s P none begins_so steps_so kills_so leaves_so declines_so (Kill t) = grind (arith)
+by_event s P none begins_so steps_so kills_so leaves_so declines_so (Leave t) = grind (arith)
+by_event s P none begins_so steps_so kills_so leaves_so declines_so (Decline t) = go (has_thread s t) refl
+  where
+    trims : (o : Op) (p : Whole) → has_thread s t ≡ true → (s.threads t).stage ≡ Calling o p → (a : Bool) → is_trim (whole_access p) ≡ a → (b : Bool) → sleeps s t (Calling o p) ≡ b
+        → P (Decline t) (if a && not b then spared s t (s.threads t).held (mutex_of s.layout o) (led o p (whole_led p (Trimmed false))) else nothing s)
+    trims o p there is true trim false awake =
+        let pos : 1 ≤ t = grind (arith, nat_tests) in
+        let known : t ≤ s.layout.threads = grind (arith, nat_tests) in
+        declines_so t o p pos known is (ap (sleeps s t) is ∙ awake) (trims_at p p.phase trim)
+    trims o p there is true trim true asleep = none (Decline t)
+    trims o p there is false other b e = none (Decline t)
+
+    at : has_thread s t ≡ true → (g : Stage) → (s.threads t).stage ≡ g → P (Decline t) (declined s t (s.threads t).held g)
+    at there (Calling o p) is = trims o p there is (is_trim (whole_access p)) refl (sleeps s t (Calling o p)) refl
+    at there g is = none (Decline t)
+
+    go : (b : Bool) → has_thread s t ≡ b → P (Decline t) (if b then declined s t (s.threads t).held (s.threads t).stage else nothing s)
+    go true there = at there (s.threads t).stage refl
+    go false e = none (Decline t)
 
 -- ---- steps
 

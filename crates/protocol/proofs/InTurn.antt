@@ -10,7 +10,12 @@ use Rattle.facts.specs.declared.fact.Begun.{Begun}
 use Rattle.facts.specs.declared.fact.Fact.TheVariants.{Sleep, Wake, Move}
 use Rattle.protocol.specs.Machine.{places_of}
 use Rattle.protocol.specs.Notes.{refusal_facts}
-use Rattle.protocol.specs.Wakings.{IsQueue, is_queue, queues_next, queues_after, nobody, IsFront, NameFronts}
+use Rattle.protocol.specs.Wakings.{IsQueue, is_queue, queues_next, queues_after, nobody, IsFront, NameFronts, NotesFronts, AllNoteFronts}
+use Rattle.protocol.specs.Leaves.{NobodyLeaves, FrontsAreWoken}
+use Rattle.protocol.specs.Applies.{IsInAQueue}
+use Rattle.protocol.proofs.Vocabulary.{Nothing, Began, Killed, Left}
+use Rattle.protocol.proofs.Departures.{asleep_where}
+use Rattle.protocol.proofs.Declines.{spared_is}
 use Rattle.protocol.proofs.Puts.{put-same, put-other}
 use Rattle.protocol.proofs.Cases.{by_same}
 use Rattle.protocol.proofs.Kept.{IsFor, Kept}
@@ -18,12 +23,12 @@ use Rattle.protocol.proofs.Places.{counter_is_no_cell}
 use Rattle.protocol.proofs.Accesses.{fits_in}
 use Rattle.protocol.proofs.Steps.{Transition, IsNoMove, moves_none, joined_none, after, place_of, met, met_queue}
 use Rattle.protocol.proofs.Stepping.{SleepsAs, Stepping, Moving, Moves_none, Moves_to}
-use Rattle.protocol.proofs.Events.{begins_at, by_event}
+use Rattle.protocol.proofs.Events.{begins_at, by_event, by_stage}
 use Rattle.protocol.proofs.Working.{Noted, Of_call, Of_walk, by_step}
 use Rattle.protocol.proofs.Queues.{Once, first_stands, stands_append, without_same}
 use Rattle.protocol.proofs.Queued.{Queued}
 use Rattle.protocol.proofs.QueueRuns.{queued_on, start_queued}
-use Rattle.protocol.proofs.Runs.{sound}
+use Rattle.protocol.proofs.Runs.{sound, start_kept}
 use Rattle.protocol.proofs.Seeing.{cell_again, counter_again, cell_in, counter_in}
 
 -- ---- queues
@@ -451,8 +456,21 @@ module _ (s : State) (u : ℕ) (v : Transition) (g : Stepping s u v) (inv : Kept
 
 -- ---- events
 
+-- who leaves by itself stands somewhere; so does the front of a queue
+front_stands : (t : ℕ) (q : List ℕ) → IsFront t q → stands_in t q ≡ true
+front_stands t [] h = absurd h
+front_stands t (u ∷ us) h = subst (λ (v : ℕ). stands_in t (v ∷ us) ≡ true) (sym h) (first_stands t us)
+
+note_fronts : (l : Layout') (w : Queue → List ℕ) (n : Note) → NameFronts l w (facts_of n) → NotesFronts l w n
+note_fronts l w (Left t) h = (h.0.0, h.0.1, front_stands t (w h.0.0) h.0.2)
+note_fronts l w Nothing h = h
+note_fronts l w (Began t c x) h = h
+note_fronts l w (Stepped t m d z us vs y) h = h
+note_fronts l w (Killed t) h = h
+note_fronts l w (Walked t d us y) h = h
+
 abbrev Tells : State → (Queue → List ℕ) → After → Type 0
-Tells s w z = TellsOn s.layout z.state.queues w (facts_of z.note)
+Tells s w z = AsTold s.layout z.state.queues (queues_after w (facts_of z.note)) × NotesFronts s.layout w z.note
 
 refused_tells : (l : Layout') (qs : ℕ → List ℕ) (w : Queue → List ℕ) (t : ℕ) (b : Begun) (x : Option Reply) → AsTold l qs w → TellsOn l qs w (refusal_facts t b x)
 refused_tells l qs w t b None said = (said, tt)
@@ -463,27 +481,85 @@ event_tells s e w inv queued said =
     by_event s (λ (x : Event) (z : After). Tells s w z)
     (λ x. (said, tt))
     (λ u o pos known inside idle b full. begins_so u o b)
-    (λ u pos known. by_step s u inv pos known (Tells s w) (λ rests. (said, tt)) (λ v n is awake g noted. step_tells s u v g inv queued pos known w said n noted))
+    (λ u pos known. by_step s u inv pos known (Tells s w) (λ rests. (said, tt)) (λ v n is awake g noted. let told = step_tells s u v g inv queued pos known w said n noted in (told.0, note_fronts s.layout w n told.1)))
     (λ u pos known alive. ((λ q inside. ap (without u) (said q inside)), (tt, tt)))
+    (λ u pos known asleep. ((λ q inside. ap (without u) (said q inside)), leaves_so u (asleep_where s u asleep)))
+    (λ u o p pos known is awake trims. subst (Tells s w) (sym (spared_is s u o p is trims inv pos known)) (said, tt))
     e
   where
     begins_so : (u : ℕ) (o : Op) (b : Bool) → Tells s w (begun s u o (if b then Err XHELD else Ok (begins_at s.layout u o)))
     begins_so u o true = (said, (tt, (tt, (tt, tt))))
     begins_so u o false = (said, (tt, tt))
 
+    leaves_so : (u : ℕ) → IsInAQueue s u → (q : Queue) × IsQueue s.layout q × (stands_in u (w q) ≡ true)
+    leaves_so u (key, stands) =
+        let there = placed s key u inv queued stands in
+        (there.0, there.1, ap (stands_in u) (sym (said there.0 there.1)) ∙ (ap (λ (x : ℕ). stands_in u (s.queues x)) (sym there.2) ∙ stands))
+
 -- ---- runs
 
-run_tells : (s : State) (es : List Event) (w : Queue → List ℕ) → Kept s → Queued s → AsTold s.layout s.queues w → TellsOn s.layout (run s es).queues w (facts_among (notes s es))
+-- after these notes too, and they name fronts
+abbrev pub TellsAll : Layout' → (ℕ → List ℕ) → (Queue → List ℕ) → List Note → Type 0
+TellsAll l qs w ns = AsTold l qs (queues_after w (facts_among ns)) × AllNoteFronts l w ns
+
+run_tells : (s : State) (es : List Event) (w : Queue → List ℕ) → Kept s → Queued s → AsTold s.layout s.queues w → TellsAll s.layout (run s es).queues w (notes s es)
 run_tells s [] w inv queued said = (said, tt)
 run_tells s (e ∷ es) w inv queued said =
     let one = event_tells s e w inv queued said in
     let same : (happens s e).state.layout ≡ s.layout = (sound s e inv).same in
     let w' = queues_after w (facts_of (happens s e).note) in
-    let more = subst (λ (l : Layout'). TellsOn l (run (happens s e).state es).queues w' (facts_among (notes (happens s e).state es))) same
+    let more = subst (λ (l : Layout'). TellsAll l (run (happens s e).state es).queues w' (notes (happens s e).state es)) same
     (run_tells (happens s e).state es w' (sound s e inv).kept (queued_on s e inv queued) (subst (λ (l : Layout'). AsTold l (happens s e).state.queues w') (sym same) one.0)) in (
       (λ q inside. more.0 q inside ∙ sym (ap (λ (f : Queue → List ℕ). f q) (after-append w (facts_of (happens s e).note) (facts_among (notes (happens s e).state es))))),
-      fronts-append s.layout w (facts_of (happens s e).note) (facts_among (notes (happens s e).state es)) one.1 more.1,
+      (one.1, more.1),
     )
 
-pub told_in_turn : (l : Layout') (counters : ℕ → ℕ) (events : List Event) → Kept (start l counters) → TellsOn l (run (start l counters) events).queues nobody (facts_among (notes (start l counters) events))
+pub told_in_turn : (l : Layout') (counters : ℕ → ℕ) (events : List Event) → Kept (start l counters) → TellsAll l (run (start l counters) events).queues nobody (notes (start l counters) events)
 told_in_turn l counters events inv = run_tells (start l counters) events nobody inv (start_queued l counters) (λ q inside. refl)
+
+-- ---- runs in which nobody leaves
+
+abbrev IsNoLeave : Note → Type 0
+IsNoLeave (Left t) = ⊥
+IsNoLeave n = Unit {0}
+
+abbrev NoneLeaves : List Note → Type 0
+NoneLeaves [] = Unit {0}
+NoneLeaves (n ∷ ns) = IsNoLeave n × NoneLeaves ns
+
+abbrev IsNoLeaving : Event → Type 0
+IsNoLeaving (Event.Leave t) = ⊥
+IsNoLeaving e = Unit {0}
+
+no_leave : (s : State) (e : Event) → IsNoLeaving e → IsNoLeave (happens s e).note
+no_leave s e =
+    by_event s (λ (x : Event) (a : After). IsNoLeaving x → IsNoLeave a.note) (λ x none. tt) (λ u o pos known inside idle b full none. begins_so u o b)
+    (λ u pos known none. by_stage s u (λ (a : After). IsNoLeave a.note) (λ rests. tt) (λ o p is awake. tt) (λ c p is awake. tt) (λ v is awake. tt)) (λ u pos known alive none. tt) (λ u pos known asleep none. absurd none)
+    (λ u o p pos known is awake trims none. tt) e
+  where
+    begins_so : (u : ℕ) (o : Op) (b : Bool) → IsNoLeave (begun s u o (if b then Err XHELD else Ok (begins_at s.layout u o))).note
+    begins_so u o true = tt
+    begins_so u o false = tt
+
+noted_none : (s : State) (es : List Event) → NobodyLeaves es → NoneLeaves (notes s es)
+noted_none s [] none = tt
+noted_none s (Event.Leave t ∷ es) none = absurd none
+noted_none s (Event.Begin t o ∷ es) none = (no_leave s (Event.Begin t o) tt, noted_none (happens s (Event.Begin t o)).state es none)
+noted_none s (Event.Step t ∷ es) none = (no_leave s (Event.Step t) tt, noted_none (happens s (Event.Step t)).state es none)
+noted_none s (Event.Kill t ∷ es) none = (no_leave s (Event.Kill t) tt, noted_none (happens s (Event.Kill t)).state es none)
+noted_none s (Event.Decline t ∷ es) none = (no_leave s (Event.Decline t) tt, noted_none (happens s (Event.Decline t)).state es none)
+
+fronts_of : (l : Layout') (w : Queue → List ℕ) (n : Note) → IsNoLeave n → NotesFronts l w n → NameFronts l w (facts_of n)
+fronts_of l w (Left t) none h = absurd none
+fronts_of l w Nothing none h = h
+fronts_of l w (Began t c x) none h = h
+fronts_of l w (Stepped t m d z us vs y) none h = h
+fronts_of l w (Killed t) none h = h
+fronts_of l w (Walked t d us y) none h = h
+
+all_fronts : (l : Layout') (w : Queue → List ℕ) (ns : List Note) → NoneLeaves ns → AllNoteFronts l w ns → NameFronts l w (facts_among ns)
+all_fronts l w [] none h = tt
+all_fronts l w (n ∷ ns) none h = fronts-append l w (facts_of n) (facts_among ns) (fronts_of l w n none.0 h.0) (all_fronts l (queues_after w (facts_of n)) ns none.1 h.1)
+
+pub fronts_are_woken : FrontsAreWoken
+fronts_are_woken l counters events is none = all_fronts l nobody (notes (start l counters) events) (noted_none (start l counters) events none) (told_in_turn l counters events (start_kept l counters is)).1

@@ -1,5 +1,6 @@
 -- How a call that is about to wake somebody has left its mutex.
 use Rattle.std.proofs.Common.{⊎_elim, ◌≡◌, ◌≢◌, ◌⊎◌, ℕ, ◌≤◌, ◌==◌, Bool, true, false, Option, Some, None, Ok, Err, List, [], ◌∷◌, refl, sym, ap, ◌∙◌, subst, arith, eq-eqb, eqb-true}
+use Rattle.protocol.proofs.Vocabulary.{departed}
 use Rattle.protocol.proofs.Vocabulary.{Access, Answer, answer_among, answer_at, word_among, Fact, Decision, Begun, Queue, Mutex, Condition, Layout', cell_place, place_in, place_met, fields_of, object_of, Object, Operation}
 use Rattle.protocol.proofs.Vocabulary.{Reply, OK, XHELD, Phase, AtCell, Whole, whole_access, whole_led, CondCall, CondRow, CondLed, CondPhase, CondOnward, CondWhole, cond_access, cond_led, condition_of, after_words, from_words, met_word, WaitRow}
 use Rattle.protocol.proofs.Vocabulary.{Op, OnMutex, OnCondition, mutex_of, begun_of, Event, caller, Stepped, Walked, Thread, Stage, Idle, Calling, AtCondition, State, After, put, run, notes, happens, nothing, begun, killed, walked}
@@ -37,7 +38,8 @@ use Rattle.protocol.proofs.Arrivals.{ended_or_not}
 use Rattle.protocol.proofs.CondAccesses.{IsBefore, cond_stepping, fits_at}
 use Rattle.protocol.proofs.Counters.{CondMove, By_row, Before_release, cond_moves}
 use Rattle.protocol.proofs.WalkSteps.{by_walked}
-use Rattle.protocol.proofs.Events.{begins_at, by_event, by_stage}
+use Rattle.protocol.proofs.Declines.{declined_state, quiet, spared_is}
+use Rattle.protocol.proofs.Events.{begins_at, by_event, by_stage, IsTrimming}
 use Rattle.protocol.proofs.Runs.{sound}
 use Rattle.protocol.proofs.NoteFacts.{IsOfSleep, behind_point, of_walk}
 use Rattle.protocol.proofs.Passing.{Begins_nothing, begins_stepped, begins_walked, last_begun-append}
@@ -337,6 +339,21 @@ kill_teaches s u = record {
   others = λ t b o apart. (refl, refl);
 }
 
+leave_teaches : (s : State) (u : ℕ) → Teaches s u (departed s u)
+leave_teaches s u = record { layout = refl; own = λ b o h. h; theirs = λ t apart. refl; others = λ t b o apart. (refl, refl) }
+
+-- behind a trim no wake comes next
+decline_teaches : (s : State) (u : ℕ) (c : Op) (p : Whole) (is : (s.threads u).stage ≡ Calling c p) (trims : IsTrimming p) → Teaches s u (record { state = declined_state s u c p is trims; note = quiet s u c p is trims })
+decline_teaches s u c p is trims = record {
+  layout = refl;
+  own = λ b o h. subst (λ (z : Thread). Learnt s.layout z.stage b o) (sym (put-same s.threads u _)) (learns b o (subst (λ (g : Stage). Learnt s.layout g b o) is h));
+  theirs = λ t apart. ap (λ (z : Thread). z.stage) (put-other s.threads u _ t (λ e. apart (sym e)));
+  others = λ t b o apart. (refl, refl);
+}
+  where
+    learns : (b : Option Begun) (o : Option Object) → Learnt s.layout (Calling c p) b o → Learnt s.layout (Calling c (record p { phase = Clearing OK })) b o
+    learns b o h = (h.0, tt, λ at n e. absurd cc)
+
 -- a call that begins
 first_learns : (l : Layout') (t : ℕ) (c : Op) (o : Option Object) → Learnt l (begins_at l t c) (Some (begun_of l c)) o
 first_learns l t (OnMutex (Call.Lock m)) o = (refl, tt, λ k n e. absurd (whole.whole_wakes.first l t (Call.Lock m) k n e))
@@ -383,6 +400,8 @@ teaches s e inv =
     (step_teaches s t (cond_step s t c p) _ _ _ _ (λ b o h. cond_learns s t c p inv pos known is b o (subst (λ (g : Stage). Learnt s.layout g b o) is h))))
     (λ w is awake. walk_teaches s t w))
     (λ t pos known alive. kill_teaches s t)
+    (λ t pos known asleep. leave_teaches s t)
+    (λ t o p pos known is awake trims. subst (Teaches s t) (sym (spared_is s t o p is trims inv pos known)) (decline_teaches s t o p is trims))
     e
 
 learnt_on : (s : State) (e : Event) → Kept s → (t : ℕ) (b : Option Begun) (o : Option Object) → Learnt s.layout (s.threads t).stage b o

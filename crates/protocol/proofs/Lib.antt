@@ -31,6 +31,8 @@ pub mod Events
 pub mod Working
 pub mod Queues
 pub mod Queued
+mod Departures
+pub mod Declines
 pub mod Lists
 pub mod Runs
 pub mod QueueRuns
@@ -57,4 +59,5 @@ pub mod Learnt
 pub mod Woken
 pub mod Signalling
 mod WaitersBit
+mod Lone
 mod WalksOn

@@ -1,5 +1,6 @@
 -- In which order the facts of an event, and those of one event after the other, are told.
 use Rattle.std.proofs.Common.{◌≡◌, ℕ, ◌+◌, ◌≤◌, Bool, true, false, Option, Some, None, List, [], ◌∷◌, ◌++◌, map, refl, sym, ◌∙◌, arith}
+use Rattle.protocol.proofs.Vocabulary.{Left}
 use Rattle.protocol.proofs.Vocabulary.{Fact, Queue, Operation, Reply, Stepped, Event, facts_of, sleep_facts, moves_to, return_facts, death_facts, reap_facts, decision, caller}
 use Rattle.protocol.proofs.Vocabulary.{line_of, caller_of, lines_from, Note, Nothing, Began, Killed, Walked}
 use Rattle.facts.specs.declared.fact.Line.{Line}
@@ -201,6 +202,7 @@ told_inside (Began t c (Some x)) = ((refl, refl, (λ e. absurd cc), (refl, refl,
 told_inside (Stepped u m None z ws ms y) = (slept_ordered u m z ws ms y).1
 told_inside (Stepped u m (Some d) z ws ms y) = let later = slept_ordered u m z ws ms y in (behind (Fact.Point d) refl _ later.0, later.1)
 told_inside (Killed t) = (tt, tt)
+told_inside (Left t) = (tt, tt)
 told_inside (Walked u None ws y) = (woken_ordered u ws y).1
 told_inside (Walked u (Some m) ws y) = let later = woken_ordered u ws y in (behind (Fact.Death u m) refl _ later.0, later.1)
 

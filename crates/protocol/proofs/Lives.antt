@@ -1,5 +1,6 @@
 -- What each event adds to its thread's life, and that its lines are in order.
 use Rattle.std.proofs.Common.{◌≡◌, ◌≢◌, inl, inr, append-nil, ℕ, ◌+◌, ◌≤◌, ◌==◌, Bool, true, false, Option, Some, None, Ok, Err, List, [], ◌∷◌, ◌++◌, map, refl, sym, ap, ◌∙◌, subst, arith}
+use Rattle.protocol.proofs.Vocabulary.{departed, Left, Phase}
 use Rattle.protocol.proofs.Vocabulary.{CondCall, condition_of, CondWhole, cond_access, cond_led, Begun, Queue, Mutex, Condition, Fact, Return, Operation, Access, Answer, Layout'}
 use Rattle.protocol.proofs.Vocabulary.{Reply, XHELD, Whole, whole_access, whole_led, Op, OnCondition, mutex_of, begun_of, Event, Thread, Stage, Idle, Calling, AtCondition, Dying}
 use Rattle.protocol.proofs.Vocabulary.{Reaped, Note, Began, Stepped, Walked, facts_of, sleep_facts, moves_to, return_facts, death_facts, reap_facts, State, After, start, nothing}
@@ -15,7 +16,8 @@ use Rattle.protocol.proofs.Phases.{decided_at}
 use Rattle.protocol.proofs.Kept.{Kept}
 use Rattle.protocol.proofs.Steps.{met_no_move, answer-is, onto}
 use Rattle.protocol.proofs.CallSteps.{CallStep}
-use Rattle.protocol.proofs.Events.{begins_at, by_event, by_stage}
+use Rattle.protocol.proofs.Declines.{declined_state, quiet, spared_is}
+use Rattle.protocol.proofs.Events.{begins_at, by_event, by_stage, IsTrimming}
 use Rattle.protocol.proofs.Endings.{EndsOrGoes, call_ends, cond_ends}
 use Rattle.protocol.proofs.Acts.{acts_by, acts_in, acts_begin, acts_in_begin, acts_of, Doing, Goes, Follows, call_follows, cond_follows}
 use Rattle.protocol.proofs.CondAccesses.{cond_stepping, fits_at}
@@ -66,6 +68,7 @@ own-other t i f ls apart = grind (arith)
 abbrev calls_of : Note → List Fact
 calls_of (Stepped t m point slept woken moved returned) = point_facts point ++ return_facts t returned
 calls_of (Walked t death woken reaped) = death_facts t death ++ reap_facts t reaped
+calls_of (Left t) = []
 calls_of n = facts_of n
 
 -- who sleeps, who is woken and who is moved is told of no call
@@ -83,6 +86,7 @@ own-calls : (t i : ℕ) (n : Note) (ls : List Line) → own t (map (line_of i) (
 own-calls t i Nothing ls = refl
 own-calls t i (Began u c x) ls = refl
 own-calls t i (Killed u) ls = refl
+own-calls t i (Left u) ls = refl
 own-calls t i (Walked u None ws y) ls = reaped_own t i u ws y ls
 own-calls t i (Walked u (Some m) ws y) ls = ap (λ (v : List Fact). if u == t then Death u m ∷ v else v) (reaped_own t i u ws y ls)
 own-calls t i (Stepped u m None z ws ms y) ls = slept_own t i u m z ws ms y ls
@@ -240,6 +244,22 @@ dies_so s u alive = record {
     cut (Dying w) e fs mourns = absurd cc
     cut Reaped e fs mourns = absurd cc
 
+-- a sleeper leaves its queue
+leaves_so : (s : State) (u : ℕ) → Adds s u (departed s u)
+leaves_so s u = record { fine = ((λ e. refl), (λ e. tt), tt); alone = tt; says = nothing_new; mine = λ i ls later. later; others = λ t apart. refl }
+
+-- a trim is declined: the call has had its point
+declines_so : (s : State) (u : ℕ) (o : Op) (p : Whole) (is : (s.threads u).stage ≡ Calling o p) (trims : IsTrimming p) → Adds s u (record { state = declined_state s u o p is trims; note = quiet s u o p is trims })
+declines_so s u o p is trims = record {
+  fine = tt;
+  alone = tt;
+  says = nothing_new;
+  mine = λ i ls later.
+      subst (λ (g : Stage). Goes s.layout u g (own u ls)) (sym is)
+      (subst (λ (f : Phase). Goes s.layout u (Calling o (record p { phase = f })) (own u ls)) (sym trims) (subst (λ (z : Thread). Goes s.layout u z.stage (own u ls)) (put-same s.threads u _) later));
+  others = λ t apart. ap (λ (z : Thread). z.stage) (put-other s.threads u _ t (λ same. apart (sym same)));
+}
+
 -- its death is told of, and it is reaped
 mourned_on : (l : Layout') (u i : ℕ) (w : walks.Standing) (d : Option ℕ) (r : walk_row.Row) (ls : List Line) → Goes l u (stage_walked w r) (own u ls) → Mourned u (own u (map (line_of i) (death_facts u d ++ reap_facts u (has_ended r)) ++ ls))
 mourned_on l u i w d r ls later = go d (has_ended r) (at_end r later)
@@ -273,6 +293,8 @@ adds s e inv =
     (λ u o pos known inside idle full e. begins_call s u o idle full)
     (λ u pos known. by_stage s u (Adds s u) (λ rests. idles s u) (λ o p is awake. goes s u inv pos known o p is) (λ c p is awake. goes_at s u inv pos known c p is) (λ w is awake. walks_on s u inv pos known w is))
     (λ u pos known alive. dies_so s u alive)
+    (λ u pos known asleep. leaves_so s u)
+    (λ u o p pos known is awake trims. subst (Adds s u) (sym (spared_is s u o p is trims inv pos known)) (declines_so s u o p is trims))
     e
 
 -- ---- whole runs

@@ -1,5 +1,6 @@
 -- No wait is passed by.
 use Rattle.std.proofs.Common.{◌≡◌, ◌≢◌, ⊎_elim, ℕ, ◌+◌, ◌<◌, ◌≤◌, Bool, true, false, Option, Some, None, Ok, Err, List, [], ◌∷◌, ◌++◌, refl, sym, ap, ◌∙◌, subst, arith}
+use Rattle.protocol.proofs.Vocabulary.{departed, Clearing}
 use Rattle.protocol.proofs.Vocabulary.{CondCall, CondRow, CondLed, CondPhase, condition_of, full, met_word, counter_after, CondWhole, cond_access, cond_led, after_words}
 use Rattle.protocol.proofs.Vocabulary.{from_words, CondOnward, Begun, Mutex, Condition, Fact, Operation, Decision, answer_at, sleeps_at, Layout', counter_place, Reply}
 use Rattle.protocol.proofs.Vocabulary.{OK, XHELD, Phase, Whole, whole_access, whole_led, Op, OnCondition, Thread, Stage, Idle, Calling, AtCondition, Dying, Reaped, Event, caller}
@@ -22,7 +23,8 @@ use Rattle.protocol.proofs.Arrivals.{ended_or_not}
 use Rattle.protocol.proofs.Accesses.{fits_in}
 use Rattle.protocol.proofs.Passing.{point_noted, sleep_noted, none_walked, Begins_nothing, begins_stepped, begins_walked, last_begun-append, begins_first, begins_later}
 use Rattle.protocol.proofs.WalkSteps.{by_walked}
-use Rattle.protocol.proofs.Events.{begins_at, by_event, by_stage}
+use Rattle.protocol.proofs.Declines.{declined_state, quiet, spared_is}
+use Rattle.protocol.proofs.Events.{begins_at, by_event, by_stage, IsTrimming}
 use Rattle.protocol.proofs.Counters.{CondMove, By_row, Before_release, CondGoes, cond_moves, KnowsCount, KnowsAt, KnowsIn, Counted, Passes, never_falls, passes, counted_on, run_counted}
 use Rattle.protocol.proofs.CondSteps.{cond_of}
 use Rattle.protocol.proofs.CondAccesses.{IsBefore, cond_stepping}
@@ -296,6 +298,24 @@ module _ (s : State) (u : ℕ) (o : Op) (pos : 1 ≤ u) (known : u ≤ s.layout.
 kill_makes : (s : State) (u : ℕ) → Makes s u (killed s u)
 kill_makes s u = grind (arith)
 
+leave_makes : (s : State) (u : ℕ) → Makes s u (departed s u)
+leave_makes s u = grind (arith)
+
+decline_makes : (s : State) (u : ℕ) (o : Op) (p : Whole) (is : (s.threads u).stage ≡ Calling o p) (trims : IsTrimming p) → Makes s u (record { state = declined_state s u o p is trims; note = quiet s u o p is trims })
+decline_makes s u o p is trims = record {
+  points = λ d h. absurd h;
+  unlocks = λ d h op x. absurd h;
+  past = λ none h. subst IsPast (sym stage_is) tt;
+  behind = λ k none h. subst (IsBehind s.layout s.words k) (sym stage_is) tt;
+  counts = λ d h c. absurd h;
+  sleeps = λ t k h b. h;
+  told = λ b h. subst (λ (g : Stage). IsTold s.layout g b) (sym stage_is) (subst (λ (g : Stage). IsTold s.layout g b) is h);
+  others = λ t b apart. refl;
+}
+  where
+    stage_is : ((declined_state s u o p is trims).threads u).stage ≡ Calling o (record p { phase = Clearing OK })
+    stage_is = ap (λ (z : Thread). z.stage) (put-same s.threads u _)
+
 -- a walk
 module _ (s : State) (u : ℕ) (v : walks.Standing) where
   abbrev after_walk : After
@@ -332,6 +352,8 @@ makes s e inv counted =
     (cond_makes s t c p inv counted pos known is))
     (λ w is awake. walk_makes s t w))
     (λ t pos known alive. kill_makes s t)
+    (λ t pos known asleep. leave_makes s t)
+    (λ t o p pos known is awake trims. subst (Makes s t) (sym (spared_is s t o p is trims inv pos known)) (decline_makes s t o p is trims))
     e
 
 -- ---- what one event is to any thread

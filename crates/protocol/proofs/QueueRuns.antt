@@ -11,6 +11,8 @@ use Rattle.protocol.proofs.Events.{begins_at, by_event}
 use Rattle.protocol.proofs.Working.{by_step}
 use Rattle.protocol.proofs.Queues.{without_stands, without_gone, once_without, not_true}
 use Rattle.protocol.proofs.Queued.{Answering, Queued, went_queued}
+use Rattle.protocol.proofs.Departures.{leave_queued}
+use Rattle.protocol.proofs.Declines.{spared_is, decline_queued}
 use Rattle.protocol.proofs.Runs.{sound, start_kept}
 use Rattle.protocol.proofs.Cases.{at_or_else}
 use Rattle.protocol.proofs.Seeing.{entry_in}
@@ -83,6 +85,8 @@ queued_on s e inv queued =
     (λ t o pos known named idle b full. begins_queued s t o queued idle b)
     (λ t pos known. by_step s t inv pos known (λ (a : After). Queued a.state) (λ rests. queued) (λ v n is awake g noted. went_queued s t v g pos known is queued awake))
     (λ t pos known alive. kill_queued s t inv queued pos known alive)
+    (λ t pos known asleep. leave_queued s t queued)
+    (λ t o p pos known is awake trims. subst (λ (a : After). Queued a.state) (sym (spared_is s t o p is trims inv pos known)) (decline_queued s t o p is trims queued))
     e
 
 pub start_queued : (l : Layout') (counters : ℕ → ℕ) → Queued (start l counters)

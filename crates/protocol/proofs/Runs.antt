@@ -4,7 +4,7 @@ use Rattle.std.proofs.Common.{eq-eqb, ◌%◌, ◌==◌}
 use Rattle.protocol.proofs.Vocabulary.{LoadFirst, Object, Operation, Decision, Layout', IsLayout, head_place, Does, Permits, acquires, fresh, held_by, Reply, XHELD, Op, mutex_of}
 use Rattle.protocol.proofs.Vocabulary.{Names, Event, Thread, Stage, Idle, Dying, Note, facts_of, State, After, put, start, nothing, is_alive, killed, begun, happens, run, notes}
 use Rattle.protocol.proofs.Vocabulary.{seen, if◌then◌else◌, nat_le, MatchBool, nat_tests, first_word, points_of, points_among, HistoryIsLegal, address_in}
-use Rattle.protocol.proofs.Vocabulary.{Calling, AtCondition, Reaped}
+use Rattle.protocol.proofs.Vocabulary.{Calling, AtCondition, Reaped, departed, Whole}
 use Rattle.keys.specs.Histories.{Legal, opening}
 use Rattle.robustlist.proofs.Lists.{begins_empty}
 use Rattle.condvar.specs.Ops.{operation_of}
@@ -14,7 +14,7 @@ use Rattle.protocol.proofs.Counts.{held_by-same}
 use Rattle.protocol.proofs.Kept.{Sits, Listed, Walks, LeftToWalk, PendsAs, Kept, Owned, left_out}
 use Rattle.protocol.proofs.Steps.{Tells, Transition, after}
 use Rattle.protocol.proofs.Stepping.{Stepping}
-use Rattle.protocol.proofs.Events.{begins_at, names_mutex, by_event}
+use Rattle.protocol.proofs.Events.{begins_at, names_mutex, by_event, IsTrimming}
 use Rattle.protocol.proofs.Working.{Noted, noted_points, point_of, by_step}
 use Rattle.protocol.proofs.Lists.{left_from}
 use Rattle.protocol.proofs.WalkSteps.{walk_of}
@@ -23,6 +23,9 @@ use Rattle.protocol.proofs.WalksLeft.{left_to_walk_carries}
 use Rattle.protocol.proofs.Seeing.{head_in, words_in, head_again}
 use Rattle.keys.specs.Layouts.{thread_of, head_word, cell_offset}
 use Rattle.protocol.proofs.Frames.{knows_at}
+use Rattle.protocol.proofs.Departures.{queues_kept}
+use Rattle.protocol.proofs.Declines.{declined_state, quiet, spared_is, decline_kept}
+use Rattle.buckets.specs.Queues.{without}
 
 -- the decisions take the mutexes from what the one state's cells say to what the other's do
 abbrev pub Told : State → List Decision → State → Type 0
@@ -169,6 +172,15 @@ module _ (s : State) (t : ℕ) (inv : Kept s) (pos : 1 ≤ t) (known : t ≤ s.l
 kill_sound : (s : State) (t : ℕ) → Kept s → 1 ≤ t → t ≤ s.layout.threads → is_alive (s.threads t).stage ≡ true → Sound' s (killed s t)
 kill_sound s t inv pos known alive = record { kept = kill_kept s t inv pos known alive; same = refl; told = λ k. refl }
 
+-- so is a leave, which changes the queues alone
+leave_sound : (s : State) (t : ℕ) → Kept s → Sound' s (departed s t)
+leave_sound s t inv = record { kept = queues_kept s (λ key. without t (s.queues key)) inv; same = refl; told = λ k. refl }
+
+-- and a trim that is declined
+decline_sound : (s : State) (t : ℕ) (o : Op) (p : Whole) (is : (s.threads t).stage ≡ Calling o p) (trims : IsTrimming p) → Kept s → 1 ≤ t → t ≤ s.layout.threads
+    → Sound' s (record { state = declined_state s t o p is trims; note = quiet s t o p is trims })
+decline_sound s t o p is trims inv pos known = record { kept = decline_kept s t o p is trims inv pos known; same = refl; told = λ k. refl }
+
 -- each event is sound
 pub sound : (s : State) (e : Event) → Kept s → Sound' s (happens s e)
 sound s e inv =
@@ -177,6 +189,8 @@ sound s e inv =
     (λ t o pos known named idle b full. begins_call s t o inv pos known named idle b full)
     (λ t pos known. by_step s t inv pos known (Sound' s) (λ rests. idles s inv) (λ v n is awake g noted. access_sound s t v n inv pos known g noted))
     (λ t pos known alive. kill_sound s t inv pos known alive)
+    (λ t pos known asleep. leave_sound s t inv)
+    (λ t o p pos known is awake trims. subst (Sound' s) (sym (spared_is s t o p is trims inv pos known)) (decline_sound s t o p is trims inv pos known))
     e
 
 -- ---- the beginning

@@ -34,6 +34,8 @@ stay_on s e inv =
     (λ t o pos known named idle b full. begins_stay s t o b)
     (λ t pos known. by_step s t inv pos known (λ (a : After). WaitersStay s a.state) (λ rests m below on. inl on) (λ v n is awake g noted. g.waiters))
     (λ t pos known alive m below on. inl on)
+    (λ t pos known asleep m below on. inl on)
+    (λ t o p pos known is awake trims m below on. inl on)
     e
 
 -- ---- an unlock that finds nobody to wake

@@ -19,7 +19,11 @@ use Rattle.protocol.proofs.Queued.{Queued, in_none}
 use Rattle.protocol.proofs.Queued.{turn as turn_at}
 use Rattle.protocol.proofs.QueueRuns.{queued_on, start_queued, run_queued}
 use Rattle.protocol.proofs.Runs.{sound, start_kept, run_kept, run_layout}
-use Rattle.protocol.proofs.InTurn.{same_queue, TellsOn, told_in_turn}
+use Rattle.protocol.proofs.InTurn.{same_queue, TellsAll, told_in_turn}
+use Rattle.protocol.proofs.Departures.{asleep_where}
+use Rattle.protocol.proofs.Declines.{spared_is}
+use Rattle.protocol.specs.Applies.{IsInAQueue}
+use Rattle.protocol.proofs.Vocabulary.{departed}
 use Rattle.protocol.proofs.Cases.{by_equal}
 use Rattle.protocol.proofs.Seeing.{cell_again, counter_again, cell_in}
 
@@ -219,6 +223,14 @@ kill_turn s u t =
     (λ same. Dies (ap (λ (v : ℕ). Kill v ∷ []) same) (ap Event.Kill same) (λ key. ap (λ (v : ℕ). stands_in v (without u (s.queues key))) (sym same) ∙ without_gone u (s.queues key)))
     (λ apart. Stays refl (λ key. stands_without t u (s.queues key) (grind (arith))))
 
+leave_turn : (s : State) (u t : ℕ) → is_asleep s u ≡ true → TurnOf s t (Event.Leave u) (departed s u)
+leave_turn s u t asleep =
+    by_equal (Turn s (λ key. without u (s.queues key)) t (Event.Leave u)) u t (Wake u ∷ []) []
+    (λ same.
+    let stood = subst (λ (v : ℕ). IsInAQueue s v) same (asleep_where s u asleep) in
+    Is_woken stood.0 (ap (λ (v : ℕ). Wake v ∷ []) same) stood.1 (λ key. ap (λ (v : ℕ). stands_in v (without u (s.queues key))) (sym same) ∙ without_gone u (s.queues key)) (λ e. cc))
+    (λ apart. Stays refl (λ key. stands_without t u (s.queues key) (grind (arith))))
+
 turn : (s : State) (e : Event) → Kept s → Queued s → (t : ℕ) → TurnOf s t e (happens s e)
 turn s e inv queued t =
     by_event s (λ (x : Event) (z : After). TurnOf s t x z)
@@ -226,6 +238,8 @@ turn s e inv queued t =
     (λ u o pos known inside idle b full. begins_so u o b)
     (λ u pos known. by_step s u inv pos known (TurnOf s t (Event.Step u)) (λ rests. idle_turn s t (Event.Step u)) (λ v n is awake g noted. step_turn s u t v g pos known is queued awake (λ same. cc same) n noted))
     (λ u pos known alive. kill_turn s u t)
+    (λ u pos known asleep. leave_turn s u t asleep)
+    (λ u o p pos known is awake trims. subst (TurnOf s t (Event.Decline u)) (sym (spared_is s u o p is trims inv pos known)) (Stays refl (λ key. refl)))
     e
   where
     begins_so : (u : ℕ) (o : Op) (b : Bool) → TurnOf s t (Event.Begin u o) (begun s u o (if b then Err XHELD else Ok (begins_at s.layout u o)))
@@ -343,7 +357,7 @@ run_alternates s (e ∷ es) inv queued t w stood =
     alternates-append t w (facts_of (happens s e).note) (facts_among (notes (happens s e).state es)) (alternates_on s e inv queued t w stood)
     (run_alternates (happens s e).state es (sound s e inv).kept (queued_on s e inv queued) t (asleep_after t w (facts_of (happens s e).note)) (stood_on s e inv queued t w stood))
 
-tells_sleepers : (s : State) (ns : List Note) → Kept s → Queued s → ((t : ℕ) → Stood s.layout s.queues t (told_asleep t ns)) → ((t : ℕ) → Alternates t None (facts_among ns)) → TellsOn s.layout s.queues nobody (facts_among ns)
+tells_sleepers : (s : State) (ns : List Note) → Kept s → Queued s → ((t : ℕ) → Stood s.layout s.queues t (told_asleep t ns)) → ((t : ℕ) → Alternates t None (facts_among ns)) → TellsAll s.layout s.queues nobody ns
     → TellsSleepers s.layout s ns
 tells_sleepers s ns inv queued stood alternate turns = record {
   stands = λ t key on. found t key on (told_asleep t ns) refl (stood t);
@@ -366,4 +380,4 @@ told_sleeps l counters events is =
     (tells_sleepers (run (start l counters) events) (notes (start l counters) events) (run_kept (start l counters) events inv) (run_queued l counters events is)
     (λ t. run_stood (start l counters) events inv queued t None (λ key. refl))
     (λ t. run_alternates (start l counters) events inv queued t None (λ key. refl))
-    (subst (λ (k : Layout'). TellsOn k (run (start l counters) events).queues nobody (facts_among (notes (start l counters) events))) (sym (run_layout (start l counters) events inv)) (told_in_turn l counters events inv)))
+    (subst (λ (k : Layout'). TellsAll k (run (start l counters) events).queues nobody (notes (start l counters) events)) (sym (run_layout (start l counters) events inv)) (told_in_turn l counters events inv)))

@@ -1,6 +1,7 @@
 -- Whom an event wakes or moves.
 use Rattle.std.proofs.Common.{⊎_elim, ◌≡◌, ◌⊎◌, inl, inr, ℕ, ◌+◌, ◌%◌, ◌^◌, ◌<◌, ◌≤◌, ◌==◌, Bool, true, false, Option, Some, None, Ok, Err, List, [], ◌∷◌, ◌++◌, map, take, drop, length, refl, sym, ap, ◌∙◌, subst, arith}
 use Rattle.std.proofs.lemmas.List.{take_all}
+use Rattle.protocol.proofs.Declines.{spared_is}
 use Rattle.protocol.proofs.Vocabulary.{Access, is_wake, Fact, Decision, Begun, Queue, Mutex, Condition, cell_place, place_in, place_met, sleeps_at, Fields, Object, Operation}
 use Rattle.protocol.proofs.Vocabulary.{Reply, XHELD, Phase, Whole, whole_access, whole_led, CondCall, CondRow, CondPhase, CondWhole, cond_access, cond_led, condition_of, BroadcastRow}
 use Rattle.protocol.proofs.Vocabulary.{Op, OnCondition, mutex_of, begun_of, Event, Stepped, Walked, Stage, Calling, AtCondition, Dying, State, After, start, run, notes, happens, nothing, begun, walked}
@@ -15,7 +16,7 @@ use Rattle.exitwalk.specs.Standings as walks
 use Rattle.exitwalk.specs.declared.row.Row as walk_row
 use Rattle.exitwalk.specs.Walks as exit
 use Rattle.protocol.specs.PassedBy.{call_told}
-use Rattle.protocol.specs.Wakes.{wakes_in, moves_in, left_by, to_tell, the_first, whom_it_wakes, whom_it_moves, WakesWhom, WakesSo, WakesAreRight}
+use Rattle.protocol.specs.Wakes.{wakes_in, moves_in, left_by, to_tell, the_first, whom_it_wakes, whom_it_moves, WakesWhom, WakesItself, WakesSo, WakesAreRight}
 use Rattle.protocol.proofs.Kept.{IsFor, InPhase, FitsAt, AtPhase, Kept, LeftToWalk}
 use Rattle.protocol.proofs.Places.{treated_at}
 use Rattle.protocol.proofs.Seeing.{cell_in, cell_again, counter_again}
@@ -307,12 +308,15 @@ told_dead x w h = absurd h
 module _ (s : State) (inv : Kept s) (queued : Queued s) (told : ℕ → Told) (b : ℕ → Option Begun) (o : ℕ → Option Object) (agrees : (t : ℕ) → Agrees (told t) (s.threads t).stage) (learnt : (t : ℕ) → Learnt s.layout (s.threads t).stage (b t) (o t)) where
   abbrev WhomAt : Event → After → Type 0
   WhomAt (Event.Step t) a = WakesWhom s (told t) (b t) (o t) (facts_of a.note)
+  WhomAt (Event.Leave t) a = WakesItself t (facts_of a.note)
   WhomAt e a = (wakes_in (facts_of a.note) ≡ []) × (moves_in (facts_of a.note) ≡ [])
 
   nothing_whom : (e : Event) → WhomAt e (nothing s)
   nothing_whom (Event.Step t) = whom_none s (told t) (b t) (o t) [] refl refl
   nothing_whom (Event.Begin t c) = (refl, refl)
   nothing_whom (Event.Kill t) = (refl, refl)
+  nothing_whom (Event.Leave t) = (inl refl, refl)
+  nothing_whom (Event.Decline t) = (refl, refl)
 
   begin_whom : (t : ℕ) (c : Op) (full : Bool) → WhomAt (Event.Begin t c) (begun s t c (if full then Err XHELD else Ok (begins_at s.layout t c)))
   begin_whom t c true = (refl, refl)
@@ -349,6 +353,8 @@ module _ (s : State) (inv : Kept s) (queued : Queued s) (told : ℕ → Told) (b
       (conditions_whom t c p pos known is))
       (λ w is awake. walks_whom t w pos known is))
       (λ t pos known alive. (refl, refl))
+      (λ t pos known asleep. (inr refl, refl))
+      (λ t c p pos known is awake trims. subst (WhomAt (Event.Decline t)) (sym (spared_is s t c p is trims inv pos known)) (refl, refl))
       e
 
 -- ---- every run
@@ -367,3 +373,5 @@ woken_right l counters events is e = go e (next_whom (run s0 events) (run_kept s
     go (Event.Step t) h = h
     go (Event.Begin t c) h = h
     go (Event.Kill t) h = h
+    go (Event.Leave t) h = h
+    go (Event.Decline t) h = h

@@ -1,5 +1,5 @@
 -- Which events apply, by what the trace has told so far.
-use Rattle.std.specs.Prelude.{ℕ, length, ◌≡◌, ◌<◌, ◌≤◌, ◌==◌, ◌&&◌, nat_le, false, Option, Some, None, List, [], ◌∷◌, if◌then◌else◌}
+use Rattle.std.specs.Prelude.{ℕ, length, ◌≡◌, ◌<◌, ◌≤◌, ◌==◌, ◌&&◌, nat_le, true, false, Option, Some, None, List, [], ◌∷◌, if◌then◌else◌}
 use Rattle.lockword.specs.declared.reply.Reply.{Reply}
 use Rattle.lockword.specs.declared.reply.Reply.TheVariants.{XHELD}
 use Rattle.keys.specs.Layouts.{Layout', IsLayout}
@@ -14,10 +14,15 @@ use Rattle.condvar.specs.declared.op.Op.TheVariants.{OnMutex, OnCondition}
 use Rattle.protocol.specs.declared.event.Event.{Event}
 use Rattle.protocol.specs.declared.event.Event.TheVariants as event
 use Rattle.protocol.specs.declared.note.Note.{Note}
-use Rattle.protocol.specs.declared.note.Note.TheVariants.{Nothing, Began, Stepped, Killed, Walked}
+use Rattle.protocol.specs.declared.note.Note.TheVariants.{Nothing, Began, Stepped, Killed, Walked, Left}
 use Rattle.facts.specs.declared.fact.Fact.{Fact}
 use Rattle.facts.specs.declared.fact.Fact.TheVariants.{Begin, Return, Kill, Reap}
+use Rattle.keys.specs.declared.access.Access.TheVariants.{Trim}
+use Rattle.mutex.specs.Standings.{Whole}
+use Rattle.mutex.specs.Whole.{whole_access}
+use Rattle.protocol.specs.declared.thread.Stage.TheVariants.{Calling}
 use Rattle.protocol.specs.Machine.{State, start, happens, run, notes, stands_in}
+use Rattle.protocol.specs.Notes.{facts_of}
 use Rattle.protocol.specs.Headline.{seen, facts_among}
 
 -- ---- what a trace told of a thread
@@ -70,12 +75,21 @@ abbrev pub Names : Layout' → Op → Type 0
 Names l (OnMutex c) = mutex.mutex_of c < l.mutexes
 Names l (OnCondition c) = condition.condition_of c < length l.conditions
 
+abbrev pub IsInAQueue : State → ℕ → Type 0
+IsInAQueue s t = (key : ℕ) × (stands_in t (s.queues key) ≡ true)
+
+-- the next access of thread t's call is a trim
+abbrev pub IsAboutToTrim : State → ℕ → Type 0
+IsAboutToTrim s t = (o : Op) × (p : Whole) × (at : ℕ) × ((s.threads t).stage ≡ Calling o p) × (whole_access p ≡ Trim at)
+
 -- a begin applies where its thread lives, is in no call, and what it calls is in the layout; a step where its thread is in a call, or was killed and not reaped, and sleeps on nothing; a kill where its
--- thread lives
+-- thread lives; a leave where it sleeps; a decline where it is about to trim
 abbrev pub Applies : Layout' → State → List Note → Event → Type 0
 Applies l s ns (event.Begin t o) = IsThread l t × Names l o × (last_told t ns ≡ AtRest)
 Applies l s ns (event.Step t) = IsThread l t × HasAccess (last_told t ns) × IsInNoQueue s t
 Applies l s ns (event.Kill t) = IsThread l t × IsLiving (last_told t ns)
+Applies l s ns (event.Leave t) = IsThread l t × IsInAQueue s t
+Applies l s ns (event.Decline t) = IsThread l t × IsAboutToTrim s t
 
 -- a call that takes a mutex is refused at once where its thread owns 2,048
 abbrev pub refusal : Layout' → State → ℕ → Op → Option Reply
@@ -87,11 +101,17 @@ IsAccessOf t (Stepped u m point slept woken moved returned) = u ≡ t
 IsAccessOf t (Walked u death woken reaped) = u ≡ t
 IsAccessOf t n = ⊥
 
+-- an access that decided nothing, returned nothing, and by which nobody fell asleep, was woken or was moved
+abbrev pub IsQuietAccessOf : ℕ → Note → Type 0
+IsQuietAccessOf t n = IsAccessOf t n × (facts_of n ≡ [])
+
 -- an event that applies is noted as what it is
 abbrev pub IsNotedAs : Layout' → State → Event → Note → Type 0
 IsNotedAs l s (event.Begin t o) n = n ≡ Began t (begun_of l o) (refusal l s t o)
 IsNotedAs l s (event.Step t) n = IsAccessOf t n
 IsNotedAs l s (event.Kill t) n = n ≡ Killed t
+IsNotedAs l s (event.Leave t) n = n ≡ Left t
+IsNotedAs l s (event.Decline t) n = IsQuietAccessOf t n
 
 -- of a state that events lead to that were noted so: whatever event comes next, it happens where it applies, and else it does nothing
 pub record NextApplies (l : Layout') (s : State) (ns : List Note) : Type 0 where

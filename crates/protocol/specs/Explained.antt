@@ -18,6 +18,8 @@ abbrev pub caller : Event → ℕ
 caller (event.Begin t o) = t
 caller (event.Step t) = t
 caller (event.Kill t) = t
+caller (event.Leave t) = t
+caller (event.Decline t) = t
 
 -- the thread of event n, the first of the events having number i; 0 where there is no such event
 abbrev pub caller_of : ℕ → List Event → ℕ → ℕ

@@ -13,3 +13,4 @@ pub mod Wakes
 pub mod Signals
 pub mod WaitersBit
 pub mod WalksOn
+pub mod Leaves

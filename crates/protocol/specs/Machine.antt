@@ -5,7 +5,7 @@ use Rattle.lockword.specs.declared.reply.Reply.TheVariants.{OK, EOWNERDEAD}
 use Rattle.keys.specs.declared.access.Access.{Access}
 use Rattle.keys.specs.declared.access.Answer.{Answer}
 use Rattle.keys.specs.declared.access.Access.TheVariants as access
-use Rattle.keys.specs.declared.access.Answer.TheVariants.{Fault}
+use Rattle.keys.specs.declared.access.Answer.TheVariants.{Fault, Trimmed}
 use Rattle.keys.specs.declared.point.Operation.{Operation}
 use Rattle.keys.specs.declared.point.Operation.TheVariants as operation
 use Rattle.keys.specs.declared.point.Decision.{Decision}
@@ -37,12 +37,12 @@ use Rattle.protocol.specs.Ops.{begun_of}
 use Rattle.condvar.specs.declared.op.Op.{Op}
 use Rattle.condvar.specs.declared.op.Op.TheVariants.{OnMutex, OnCondition}
 use Rattle.protocol.specs.declared.event.Event.{Event}
-use Rattle.protocol.specs.declared.event.Event.TheVariants.{Begin, Step, Kill}
+use Rattle.protocol.specs.declared.event.Event.TheVariants.{Begin, Step, Kill, Leave, Decline}
 use Rattle.protocol.specs.declared.thread.Thread.{Thread}
 use Rattle.protocol.specs.declared.thread.Stage.{Stage}
 use Rattle.protocol.specs.declared.thread.Stage.TheVariants.{Idle, Calling, AtCondition, Dying, Reaped}
 use Rattle.protocol.specs.declared.note.Note.{Note}
-use Rattle.protocol.specs.declared.note.Note.TheVariants.{Nothing, Began, Stepped, Killed, Walked}
+use Rattle.protocol.specs.declared.note.Note.TheVariants.{Nothing, Began, Stepped, Killed, Walked, Left}
 
 -- the words by place, who sleeps on each, also by place, in the order in which they are to be woken, and the threads by id
 pub record State : Type 0 where
@@ -288,6 +288,26 @@ went s t held m q a g =
       note = Stepped t m (decision t m g.operation g.point) (slept_in q (falls_asleep s t a)) (woken s t a) (moved s t a) g.returned;
     }
 
+-- ---- sleeps that end by themselves
+
+-- thread t leaves its queue, woken by nobody, as where a signal handler ran (futex(2), EINTR): it stands where it goes on when it is woken, and so nothing else changes
+abbrev pub departed : State → ℕ → After
+departed s t = record { state = record s { queues = λ key. without t (s.queues key) }; note = Left t }
+
+-- ---- trims that are declined
+
+abbrev pub is_trim : Access → Bool
+is_trim (access.Trim at) = true
+is_trim a = false
+
+-- a trim may be declined: it is answered that the word wasn't cleared, whatever that says, and no word and no queue changes
+abbrev pub spared : State → ℕ → ℕ → ℕ → Led → After
+spared s t held m g =
+    record {
+      state = record s { threads = put s.threads t (record { stage = g.stage; held = held_after held g.operation g.point }) };
+      note = Stepped t m (decision t m g.operation g.point) None [] [] g.returned;
+    }
+
 -- ---- deaths
 
 -- the thread dies: it leaves its queue, its call ends there, and the kernel begins to walk its list (get_robust_list(2))
@@ -348,11 +368,20 @@ stepped s t held (AtCondition c p) =
 stepped s t held (Dying w) = walked s t held w
 stepped s t held g = nothing s
 
--- a begin of a busy, killed or unknown thread or of a call outside the layout, a step of an idle, sleeping, reaped or unknown thread, and a kill of a killed or unknown thread do nothing
+-- where a thread that doesn't sleep is about to trim, that is declined
+abbrev pub declined : State → ℕ → ℕ → Stage → After
+declined s t held (Calling o p) =
+    if is_trim (whole_access p) && not (sleeps s t (Calling o p)) then spared s t held (mutex_of s.layout o) (led o p (whole_led p (Trimmed false))) else nothing s
+declined s t held g = nothing s
+
+-- a begin of a busy, killed or unknown thread or of a call outside the layout, a step of an idle, sleeping, reaped or unknown thread, a kill of a killed or unknown thread, a leave of a thread that doesn't
+-- sleep and a decline of one that isn't about to trim do nothing
 abbrev pub happens : State → Event → After
 happens s (Begin t o) = if may_begin s t o then begun s t o (first_stage s.layout t (s.threads t).held o) else nothing s
 happens s (Step t) = if has_thread s t then stepped s t (s.threads t).held (s.threads t).stage else nothing s
 happens s (Kill t) = if has_thread s t && is_alive (s.threads t).stage then killed s t else nothing s
+happens s (Leave t) = if has_thread s t && is_asleep s t then departed s t else nothing s
+happens s (Decline t) = if has_thread s t then declined s t (s.threads t).held (s.threads t).stage else nothing s
 
 -- ---- runs
 

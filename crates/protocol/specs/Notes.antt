@@ -3,7 +3,7 @@ use Rattle.std.specs.Prelude.{ℕ, ◌+◌, Bool, true, false, Option, Some, Non
 use Rattle.lockword.specs.declared.reply.Reply.{Reply}
 use Rattle.keys.specs.declared.point.Decision.{Decision}
 use Rattle.protocol.specs.declared.note.Note.{Note}
-use Rattle.protocol.specs.declared.note.Note.TheVariants.{Nothing, Began, Stepped, Killed, Walked}
+use Rattle.protocol.specs.declared.note.Note.TheVariants.{Nothing, Began, Stepped, Killed, Walked, Left}
 use Rattle.facts.specs.declared.fact.Begun.{Begun}
 use Rattle.facts.specs.declared.fact.Queue.{Queue}
 use Rattle.facts.specs.declared.fact.Fact.{Fact}
@@ -45,6 +45,7 @@ facts_of Nothing = []
 facts_of (Began t c refused) = Begin t c ∷ refusal_facts t c refused
 facts_of (Stepped t m point slept woken moved returned) = point_facts point ++ (sleep_facts t slept ++ (map Wake woken ++ (map (moves_to m) moved ++ return_facts t returned)))
 facts_of (Killed t) = Kill t ∷ []
+facts_of (Left t) = Wake t ∷ []
 facts_of (Walked t death woken reaped) = death_facts t death ++ (map Wake woken ++ reap_facts t reaped)
 
 abbrev pub line_of : ℕ → Fact → Line

@@ -5,6 +5,7 @@ use Rattle.keys.specs.Layouts.{Layout', IsLayout}
 use Rattle.protocol.specs.declared.event.Event.{Event}
 use Rattle.protocol.specs.declared.event.Event.TheVariants as event
 use Rattle.protocol.specs.declared.note.Note.{Note}
+use Rattle.protocol.specs.declared.note.Note.TheVariants.{Left}
 use Rattle.facts.specs.declared.fact.Queue.{Queue}
 use Rattle.facts.specs.declared.fact.Queue.TheVariants.{Mutex, Condition}
 use Rattle.facts.specs.declared.fact.Fact.{Fact}
@@ -94,6 +95,16 @@ abbrev pub NameFronts : Layout' → (Queue → List ℕ) → List Fact → Type 
 NameFronts l w [] = Unit {0}
 NameFronts l w (f ∷ fs) = NamesFront l w f × NameFronts l (queues_next f w) fs
 
+-- of what an event tells: who leaves by itself stands in a queue, wherever in it; all others who are woken or moved are fronts
+abbrev pub NotesFronts : Layout' → (Queue → List ℕ) → Note → Type 0
+NotesFronts l w (Left t) = (q : Queue) × IsQueue l q × (stands_in t (w q) ≡ true)
+NotesFronts l w n = NameFronts l w (facts_of n)
+
+-- by what the events before it told
+abbrev pub AllNoteFronts : Layout' → (Queue → List ℕ) → List Note → Type 0
+AllNoteFronts l w [] = Unit {0}
+AllNoteFronts l w (n ∷ ns) = NotesFronts l w n × AllNoteFronts l (queues_after w (facts_of n)) ns
+
 -- ---- one event more
 
 -- it stood in no queue, and stands in this one then
@@ -124,7 +135,7 @@ pub record TellsSleepers (l : Layout') (s : State) (ns : List Note) : Type 0 whe
   pub sleeps : (t : ℕ) (q : Queue) → told_asleep t ns ≡ Some q → IsQueue l q × StandsIn s t q
   pub alternate : (t : ℕ) → Alternates t None (facts_among ns)
   pub queues : (q : Queue) → IsQueue l q → s.queues (queue_place l q) ≡ queues_told ns q
-  pub fronts : NameFronts l nobody (facts_among ns)
+  pub fronts : AllNoteFronts l nobody ns
   pub next : (e : Event) (t : ℕ) → TellsTurns s e t
 
 -- whatever happens, with any values of the counters at the beginning; so after each event

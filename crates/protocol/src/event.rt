@@ -12,4 +12,8 @@ pub enum Event {
     Step(Tid),
     /// The thread dies.
     Kill(Tid),
+    /// The thread leaves the queue in which it sleeps, woken by nobody, and goes on as if it had been: a signal handler ran (futex(2), EINTR), say.
+    Leave(Tid),
+    /// The next access of the thread's call, a trim, is declined: whatever the word is, it stays, and the thread is answered so.
+    Decline(Tid),
 }

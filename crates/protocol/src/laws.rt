@@ -11,6 +11,7 @@ ghost use Rattle.protocol.specs.Wakes.{WakesAreRight};
 ghost use Rattle.protocol.specs.Signals.{SignalsAreRight};
 ghost use Rattle.protocol.specs.WaitersBit.{WaitersAreKept};
 ghost use Rattle.protocol.specs.WalksOn.{WalksGoOn};
+ghost use Rattle.protocol.specs.Leaves.{LeavesAreLone, FrontsAreWoken};
 
 /// Whatever happens, the points are one legal history of POSIX robust mutexes, which says at each moment what every cell says.
 pub fn history_is_legal()
@@ -60,22 +61,22 @@ pub fn lists_are_kept()
 
 /// Whatever happens, by what the trace has told so far: a begin by a thread in no call, on a mutex or condition variable of the layout, is noted as a begin, which is refused only where it is
 /// to take a mutex and the thread owns 2,048; a kill of a thread that lives is noted; a step is an access of its thread where that is in a call, or was killed and not reaped, and sleeps on
-/// nothing. Every other event is noted as nothing, and changes nothing.
+/// nothing; a leave is its thread's where that sleeps; and a decline is an access that tells nothing, of a thread whose next access is a trim. Every other event is noted as nothing, and changes nothing.
 pub fn events_apply()
     ensures { EventsApply }
 {}
 
 /// Whatever happens: a thread stands in a queue exactly where the last of its lines among sleep, move, wake and kill is a sleep or a move, in that of the mutex or condition variable that this
 /// names. So its sleeps and wakes alternate; a sleep is told exactly where it comes to stand in a queue, a wake exactly where it leaves one and stands in none, but by its kill, and a move
-/// exactly where it leaves that of a condition variable for its mutex's. In each queue they stand in the order in which they came, as it was told, and whoever is woken or moved is the front of a queue (of which one, says
-/// [`wakes_are_right`]).
+/// exactly where it leaves that of a condition variable for its mutex's. In each queue they stand in the order in which they came, as it was told, and whoever another's event wakes, or moves, is the front of a queue (of
+/// which one, says [`wakes_are_right`]); who leaves by itself stands anywhere in one.
 pub fn sleeps_are_told()
     ensures { SleepsAreTold }
 {}
 
 /// Whatever happens: a step wakes or moves nobody, or just those whom its thread's call, as it was told, is to: once it has had a point, the first of the queue of its mutex, or all of them, in their
 /// order, where its last point left that mutex unusable; where the call is a signal, the first of its condition variable's queue; a broadcast moves all of its condition variable's, in their order, to its mutex's. The walk
-/// of a dead thread's list wakes the first of a mutex's queue. No begin and no kill wakes or moves anybody.
+/// of a dead thread's list wakes the first of a mutex's queue. A leave wakes its own thread or nobody, and moves nobody. No begin, no kill and no decline wakes or moves anybody.
 pub fn wakes_are_right()
     ensures { WakesAreRight }
 {}
@@ -94,7 +95,8 @@ pub fn signals_are_right()
 {}
 
 /// Whatever happens: where a thread sleeps on a mutex, the mutex's word has WAITERS; no event takes WAITERS from a word but one that nobody owned and on which nobody sleeps; and where
-/// nobody sleeps on a mutex that an unlock has released and is to wake one sleeper of, the next two steps of its thread, the wake and the trim, leave the word 0 if WAITERS is all that it says.
+/// nobody sleeps on a mutex that an unlock has released and is to wake one sleeper of, the next two steps of its thread, the wake and the trim, leave the word 0 if WAITERS is all that it says. (Where the trim is declined,
+/// the word stays as it was.)
 pub fn waiters_are_kept()
     ensures { WaitersAreKept }
 {}
@@ -103,4 +105,15 @@ pub fn waiters_are_kept()
 /// or nobody, has gone on since.
 pub fn walks_go_on()
     ensures { WalksGoOn }
+{}
+
+/// Whatever happened before: a thread that leaves its queue changes no word, no thread and no place of another in a queue, and its wake is told, once, and nothing else; so it goes on as one that was woken. A trim that is
+/// declined changes no word and no queue and tells nothing, and its thread goes on as where the trim is made.
+pub fn leaves_and_declines_are_lone()
+    ensures { LeavesAreLone }
+{}
+
+/// Whatever happens, where nobody leaves by itself, trims declined or not: each wake names the front of a queue, by all that was told before it.
+pub fn without_leaves_as_before()
+    ensures { FrontsAreWoken }
 {}

@@ -32,6 +32,10 @@ pub enum Note {
     Killed {
         thread: Tid,
     },
+    /// A thread left its queue, woken by nobody.
+    Left {
+        thread: Tid,
+    },
     /// The kernel made an access for a thread that died: of which mutex it told the owner's death, whom it woke, and whether it has reaped the thread.
     Walked {
         thread: Tid,

@@ -23,12 +23,15 @@ use Rattle.facts.specs.Lives.{is_of_call, own}
 use Rattle.facts.specs.Orders.{Each}
 use Rattle.condvar.specs.declared.op.Op.{Op}
 use Rattle.condvar.specs.declared.op.Op.TheVariants.{OnMutex, OnCondition}
+use Rattle.keys.specs.declared.access.Answer.TheVariants.{Trimmed}
+use Rattle.mutex.specs.Whole.{whole_led}
+use Rattle.condvar.specs.Ops.{mutex_of}
 use Rattle.protocol.specs.declared.event.Event.{Event}
 use Rattle.protocol.specs.declared.note.Note.{Note}
 use Rattle.protocol.specs.declared.note.Note.TheVariants.{Stepped, Walked}
 use Rattle.protocol.specs.Notes.{facts_of, line_of, lines_from}
 use Rattle.protocol.specs.Ops.{begun_of, queue_place}
-use Rattle.protocol.specs.Machine.{State, After, start, begun, killed, decision, happens, run, notes}
+use Rattle.protocol.specs.Machine.{State, After, start, begun, killed, departed, decision, happens, run, notes, led}
 use Rattle.protocol.specs.Headline.{facts_among, seen}
 use Rattle.protocol.specs.Sleepers.{IsAmong}
 use Rattle.protocol.specs.Applies.{IsThread, Names}
@@ -72,6 +75,10 @@ module _ (s : State) where
   killed_own u first most f (inl e) active = its_own u f first most (ap thread_of e)
   killed_own u first most f (inr h) active = absurd h
 
+  left_own : (u : ℕ) → OwnThreads (departed s u)
+  left_own u f (inl e) active = let never : true ≡ false = ap is_passive e ∙ active in absurd cc
+  left_own u f (inr h) active = absurd h
+
   stepped_own : (u k : ℕ) (op : Operation) (x : Option Reply) (z : Option Queue) (us vs : List ℕ) (y : Option Reply) → 1 ≤ u → u ≤ s.layout.threads
       → (f : Fact) → IsAmong f (facts_of (Stepped u k (decision u k op x) z us vs y)) → is_passive f ≡ false → IsThread s.layout (thread_of f)
   stepped_own u k op x z us vs y first most f h active = go x (of_step u k (decision u k op x) z us vs y f h)
@@ -103,6 +110,8 @@ module _ (s : State) where
       by_stage s u OwnThreads (λ rests f h active. absurd h) (λ o p is awake. stepped_own u _ _ _ _ _ _ _ first most) (λ c p is awake. stepped_own u _ _ _ _ _ _ _ first most)
       (λ w is awake. walked_own u _ _ _ first most))
       (λ u first most alive. killed_own u first most)
+      (λ u first most asleep. left_own u)
+      (λ u o p first most is awake trims. let g = led o p (whole_led p (Trimmed false)) in stepped_own u (mutex_of s.layout o) g.operation g.point None [] [] g.returned first most)
       e
 
   -- a call that begins is on what the layout has
@@ -154,6 +163,10 @@ module _ (s : State) where
   killed_inside u t c (inl e) = absurd cc
   killed_inside u t c (inr h) = absurd h
 
+  left_inside : (u : ℕ) → CallsInside (departed s u)
+  left_inside u t c (inl e) = absurd cc
+  left_inside u t c (inr h) = absurd h
+
   calls_inside : (e : Event) → IsLayout s.layout → CallsInside (happens s e)
   calls_inside e is =
       by_event s (λ x a. CallsInside a) (λ x t c h. absurd h) (λ u o first most inside idle b full. begun_inside u o is inside b)
@@ -161,6 +174,8 @@ module _ (s : State) where
       by_stage s u CallsInside (λ rests t c h. absurd h) (λ o p at awake t c h. absurd (step_begins_none t u _ c _ _ _ _ _ h)) (λ k p at awake t c h. absurd (step_begins_none t u _ c _ _ _ _ _ h))
       (λ w at awake t c h. absurd (walk_begins_none t u c _ _ _ h)))
       (λ u first most alive. killed_inside u)
+      (λ u first most asleep. left_inside u)
+      (λ u o p first most at awake trims t c h. let g = led o p (whole_led p (Trimmed false)) in absurd (step_begins_none t u (mutex_of s.layout o) c (decision u (mutex_of s.layout o) g.operation g.point) None [] [] g.returned h))
       e
 
 -- ---- facts, one by one

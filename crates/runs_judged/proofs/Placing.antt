@@ -11,12 +11,15 @@ use Rattle.facts.specs.declared.fact.Fact.{Fact}
 use Rattle.facts.specs.declared.fact.Fact.TheVariants.{Point, Sleep, Wake, Move, Return, Kill}
 use Rattle.facts.specs.Facts.{thread_of}
 use Rattle.condvar.specs.declared.op.Op.{Op}
+use Rattle.keys.specs.declared.access.Answer.TheVariants.{Trimmed}
+use Rattle.mutex.specs.Whole.{whole_led}
+use Rattle.condvar.specs.Ops.{mutex_of}
 use Rattle.protocol.specs.declared.event.Event.{Event}
 use Rattle.protocol.specs.declared.note.Note.{Note}
-use Rattle.protocol.specs.declared.note.Note.TheVariants.{Nothing, Began, Stepped, Killed, Walked}
+use Rattle.protocol.specs.declared.note.Note.TheVariants.{Nothing, Began, Stepped, Killed, Left, Walked}
 use Rattle.protocol.specs.declared.thread.Stage.TheVariants.{Idle}
 use Rattle.protocol.specs.Notes.{facts_of, point_facts, sleep_facts, moves_to, return_facts, death_facts, reap_facts}
-use Rattle.protocol.specs.Machine.{State, After, start, stands_in, begun, decision, is_asleep, happens, run, notes}
+use Rattle.protocol.specs.Machine.{State, After, start, stands_in, begun, decision, is_asleep, happens, run, notes, led}
 use Rattle.protocol.specs.Headline.{facts_among}
 use Rattle.protocol.specs.Sleepers.{IsAmong}
 use Rattle.protocol.specs.Applies.{Told, AtRest, InCall, told_next, told_after, last_told, IsInNoQueue}
@@ -165,6 +168,7 @@ module _ (t : ℕ) (o : Told) (w : Option Queue) where
   placed_note (Began u c None) k = (tt, tt)
   placed_note (Began u c (Some x)) k = (tt, ((λ is. k.points _ (inr (inl refl)) is), ((λ is. k.returns x (inr (inr (inl (ap (λ (v : ℕ). Return v x) is))))), tt)))
   placed_note (Killed u) k = (tt, tt)
+  placed_note (Left u) k = wakes_placed t o w (u ∷ []) k.wakes
   placed_note (Walked u d us b) k = walk_placed u d us b k.wakes
   placed_note (Stepped u m p z us vs y) k = step_placed u m p z us vs y k
 
@@ -181,6 +185,8 @@ slept_in_call t o (Began u c (Some x)) q (inr (inr (inl f))) e = absurd cc
 slept_in_call t o (Began u c (Some x)) q (inr (inr (inr h))) e = absurd h
 slept_in_call t o (Killed u) q (inl f) e = absurd cc
 slept_in_call t o (Killed u) q (inr h) e = absurd h
+slept_in_call t o (Left u) q (inl f) e = absurd cc
+slept_in_call t o (Left u) q (inr h) e = absurd h
 slept_in_call t o (Walked u d us b) q h e = never (of_walk u d us b (Sleep t q) h)
   where
     never : OfWalk u (Sleep t q) → o ≡ InCall
@@ -208,6 +214,8 @@ returned_rests t o (Began u c (Some r)) x (inr (inr (inl f))) = ap (λ (b : Bool
 returned_rests t o (Began u c (Some r)) x (inr (inr (inr h))) = absurd h
 returned_rests t o (Killed u) x (inl f) = absurd cc
 returned_rests t o (Killed u) x (inr h) = absurd h
+returned_rests t o (Left u) x (inl f) = absurd cc
+returned_rests t o (Left u) x (inr h) = absurd h
 returned_rests t o (Walked u d us b) x h = never (of_walk u d us b (Return t x) h)
   where
     never : OfWalk u (Return t x) → told_after t o (facts_of (Walked u d us b)) ≡ AtRest
@@ -272,6 +280,8 @@ module _ (l : Layout') (s : State) (ns : List Note) (m : Moment l s ns) (t : ℕ
       (λ c p is awake. stepped_awake u _ _ _ _ _ _ _ awake)
       (λ w is awake d h same. never u (of_walk u _ _ _ (Point d) h)))
       (λ u first most alive d h is. died u d h)
+      (λ u first most asleep d h is. left u d h)
+      (λ u o p first most is awake trims. let g = led o p (whole_led p (Trimmed false)) in stepped_awake u (mutex_of s.layout o) g.operation g.point None [] [] g.returned awake)
       e
     where
       never : {d : Decision} (u : ℕ) → OfWalk u (Point d) → told_asleep t ns ≡ None
@@ -282,6 +292,10 @@ module _ (l : Layout') (s : State) (ns : List Note) (m : Moment l s ns) (t : ℕ
       died : (u : ℕ) (d : Decision) → (Kill u ≡ Point d) ⊎ ⊥ → told_asleep t ns ≡ None
       died u d (inl f) = absurd cc
       died u d (inr h) = absurd h
+
+      left : (u : ℕ) (d : Decision) → (Wake u ≡ Point d) ⊎ ⊥ → told_asleep t ns ≡ None
+      left u d (inl f) = absurd cc
+      left u d (inr h) = absurd h
 
 -- ---- runs
 

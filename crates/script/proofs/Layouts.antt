@@ -1,15 +1,16 @@
 -- No event changes the layout.
 use Rattle.std.proofs.Common.{◌≡◌, ◌&&◌, ℕ, Bool, true, false, List, [], ◌∷◌, refl, ◌∙◌, if◌then◌else◌}
-use Rattle.std.specs.Prelude.{Result, Ok, Err}
+use Rattle.std.specs.Prelude.{Result, Ok, Err, not}
+use Rattle.keys.specs.declared.access.Answer.TheVariants.{Trimmed}
 use Rattle.lockword.specs.declared.reply.Reply.{Reply}
 use Rattle.mutex.specs.Whole.{whole_access, whole_led}
 use Rattle.condvar.specs.Ops.{mutex_of}
 use Rattle.condvar.specs.declared.op.Op.{Op}
 use Rattle.protocol.specs.declared.event.Event.{Event}
-use Rattle.protocol.specs.declared.event.Event.TheVariants.{Begin, Step, Kill}
+use Rattle.protocol.specs.declared.event.Event.TheVariants.{Begin, Step, Kill, Leave, Decline}
 use Rattle.protocol.specs.declared.thread.Stage.{Stage}
 use Rattle.protocol.specs.declared.thread.Stage.TheVariants.{Idle, Calling, AtCondition, Dying, Reaped}
-use Rattle.protocol.specs.Machine.{State, After, nothing, has_thread, is_alive, may_begin, first_stage, begun, killed, sleeps, led, went, answer_of, stepped, happens, run}
+use Rattle.protocol.specs.Machine.{State, After, nothing, has_thread, is_alive, may_begin, first_stage, begun, killed, departed, declined, spared, is_asleep, is_trim, sleeps, led, went, answer_of, stepped, happens, run}
 
 -- whichever of two states comes, both have the layout
 either : (s : State) (b : Bool) (a : After) → a.state.layout ≡ s.layout → (if b then a else nothing s).state.layout ≡ s.layout
@@ -32,10 +33,17 @@ stepped_layout s t held (AtCondition c p) = refl
 stepped_layout s t held (Dying w) = refl
 stepped_layout s t held Reaped = refl
 
+declined_layout : (s : State) (t held : ℕ) (g : Stage) → (declined s t held g).state.layout ≡ s.layout
+declined_layout s t held (Calling o p) =
+    either s (is_trim (whole_access p) && not (sleeps s t (Calling o p))) (spared s t held (mutex_of s.layout o) (led o p (whole_led p (Trimmed false)))) refl
+declined_layout s t held g = refl
+
 happens_layout : (s : State) (e : Event) → (happens s e).state.layout ≡ s.layout
 happens_layout s (Begin t o) = either s (may_begin s t o) (begun s t o (first_stage s.layout t (s.threads t).held o)) (begun_layout s t o (first_stage s.layout t (s.threads t).held o))
 happens_layout s (Step t) = either s (has_thread s t) (stepped s t (s.threads t).held (s.threads t).stage) (stepped_layout s t (s.threads t).held (s.threads t).stage)
 happens_layout s (Kill t) = either s (has_thread s t && is_alive (s.threads t).stage) (killed s t) refl
+happens_layout s (Leave t) = either s (has_thread s t && is_asleep s t) (departed s t) refl
+happens_layout s (Decline t) = either s (has_thread s t) (declined s t (s.threads t).held (s.threads t).stage) (declined_layout s t (s.threads t).held (s.threads t).stage)
 
 pub run_layout : (s : State) (es : List Event) → (run s es).layout ≡ s.layout
 run_layout s [] = refl

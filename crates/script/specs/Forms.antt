@@ -50,6 +50,8 @@ pub data Form : Type 0 where
   kills : List ℕ → Form
   kills_all : List ℕ → Form
   goes : List ℕ → Form
+  leaves : List ℕ → Form
+  declines : List ℕ → Form
   calls : List ℕ → CallForm → Form
   locks : List ℕ → List ℕ → Option ℕ → Form
   phase : Form
@@ -60,14 +62,16 @@ abbrev pub is_silent : List ℕ → Bool
 is_silent [] = true
 is_silent (b ∷ bs) = b == 35
 
--- `thread NAME` and `mutex NAME`, `kill T`, `killall PROCESS` and `go T`
+-- `thread NAME` and `mutex NAME`, `kill T`, `killall PROCESS`, `go T`, `leave T` and `decline T`
 abbrev pub name_form : List ℕ → List ℕ → Option Form
 name_form w a = if not (is_name a) then None
     else (if bytes_eq w (codes "thread") then Some (thread a)
     else (if bytes_eq w (codes "mutex") then Some (mutex a)
     else (if bytes_eq w (codes "kill") then Some (kills a)
     else (if bytes_eq w (codes "killall") then Some (kills_all a)
-    else (if bytes_eq w (codes "go") then Some (goes a) else None)))))
+    else (if bytes_eq w (codes "go") then Some (goes a)
+    else (if bytes_eq w (codes "leave") then Some (leaves a)
+    else (if bytes_eq w (codes "decline") then Some (declines a) else None)))))))
 
 -- `step T N`
 abbrev pub step_form : List ℕ → List ℕ → List ℕ → Option Form
@@ -165,6 +169,8 @@ threads_have (steps t n) = false
 threads_have (kills t) = false
 threads_have (kills_all p) = false
 threads_have (goes t) = false
+threads_have (leaves t) = false
+threads_have (declines t) = false
 threads_have (calls t c) = true
 threads_have (locks t m n) = false
 threads_have phase = true

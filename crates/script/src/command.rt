@@ -33,6 +33,10 @@ pub enum Action {
     Kill(Tid),
     /// One kill event for each thread of the process with this number, in the order of the threads' ids.
     KillAll(u8),
+    /// One leave event.
+    Leave(Tid),
+    /// One decline event.
+    Decline(Tid),
     /// Step events until the thread rests: until it is in no call and not dying, or sleeps.
     Go(Tid),
     /// A begin event, and then step events until the thread rests; for real threads one call.

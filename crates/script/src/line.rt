@@ -39,6 +39,8 @@ pub enum Line<'a> {
     Step(&'a str, Option<u32>),
     Kill(&'a str),
     KillAll(&'a str),
+    Leave(&'a str),
+    Decline(&'a str),
     Go(&'a str),
     Call(&'a str, NamedCall<'a>),
     Locks(&'a str, &'a str, Option<u32>),
@@ -69,6 +71,8 @@ fn of_a_name<'a>(keyword: &'a str, name: &'a str) -> Option<Line<'a>>
         "kill" => Some(Line::Kill(name)),
         "killall" => Some(Line::KillAll(name)),
         "go" => Some(Line::Go(name)),
+        "leave" => Some(Line::Leave(name)),
+        "decline" => Some(Line::Decline(name)),
         _ => None,
     }
 }
@@ -238,6 +242,7 @@ fn is_of_threads(line: &Line<'_>) -> bool
         Line::Call(..) | Line::Phase | Line::Die(..) => true,
         Line::Begin(..) | Line::Step(..) | Line::Kill(_) => false,
         Line::KillAll(_) | Line::Go(_) | Line::Locks(..) => false,
+        Line::Leave(_) | Line::Decline(_) => false,
     }
 }
 

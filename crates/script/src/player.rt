@@ -133,6 +133,8 @@ fn play_action(machine: &mut Machine, notes: &mut Vec<Note>, action: Action) -> 
         Action::Step { thread, count } => play_steps(machine, notes, thread, count),
         Action::Kill(thread) => play_event(machine, notes, Event::Kill(thread)),
         Action::KillAll(process) => play_kills(machine, notes, process),
+        Action::Leave(thread) => play_event(machine, notes, Event::Leave(thread)),
+        Action::Decline(thread) => play_event(machine, notes, Event::Decline(thread)),
         Action::Go(thread) => play_to_rest(machine, notes, thread),
         Action::Call(thread, op) => play_call(machine, notes, thread, op),
         Action::Locks {

@@ -96,8 +96,8 @@ fn too_many_events(rt: HostRuntime) {
 }
 
 /// Counted by hand. A lock that takes its thread's first mutex has nine events, and ten where the thread has one. A walk has three, three more for
-/// each mutex of the list, and one for a pending entry whose mutex another owns. A lock of a mutex that another owns sleeps after five.
-static EVENTS: [(&str, Played); 9] = [
+/// each mutex of the list, and one for a pending entry whose mutex another owns. A lock of a mutex that another owns sleeps after five, and after two more where its sleeper left its queue.
+static EVENTS: [(&str, Played); 11] = [
     ("go a\n", Ok(0)),
     ("locks a m0 3\n", Ok(29)),
     ("locks a m1 2\nkill a\ngo a\n", Ok(29)),
@@ -105,6 +105,8 @@ static EVENTS: [(&str, Played); 9] = [
     ("begin a lock m0\nstep a 2\ngo a\ngo a\n", Ok(9)),
     ("call a lock m0\ncall b lock m0\ngo b\n", Ok(14)),
     ("call a lock m0\ncall b lock m0\nkill b\ngo b\n", Ok(19)),
+    ("leave a\ndecline a\n", Ok(2)),
+    ("call a lock m0\ncall b lock m0\nleave b\nleave b\ngo b\n", Ok(18)),
     (
         "call a lock m0\ncall b lock m0\ncall a unlock m0\ngo b\n",
         Ok(30),

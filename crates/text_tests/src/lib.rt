@@ -11,6 +11,8 @@ mod events;
 #[cfg(test)]
 mod faults;
 #[cfg(test)]
+mod leaves;
+#[cfg(test)]
 mod many_mutexes;
 #[cfg(test)]
 mod misfits;

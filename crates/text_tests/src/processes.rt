@@ -9,13 +9,13 @@ use script::{Action, Command, Mode, Script};
 use std::alloc::Global;
 
 /// Lines stand behind a thread `a` and a mutex `m`, the first of them third.
-const FOR_A_RUN: Scripts = Scripts {
+pub const FOR_A_RUN: Scripts = Scripts {
     mode: Mode::Run,
     front: "thread a\nmutex m\n",
     end: "\n",
 };
 
-const FOR_THREADS: Scripts = Scripts {
+pub const FOR_THREADS: Scripts = Scripts {
     mode: Mode::Threads,
     front: "thread a\nmutex m\n",
     end: "\n",

@@ -222,6 +222,7 @@ fn write_note<W: Write>(out: &mut W, event: usize, note: Note) -> io::Result<()>
             write_step(out, event, thread, &effects)
         }
         Note::Killed { thread } => write_fact(out, event, Fact::Kill(thread)),
+        Note::Left { thread } => write_fact(out, event, Fact::Wake(thread)),
         Note::Walked {
             thread,
             death,

@@ -15,3 +15,23 @@ returns-in-Kill-clause-state c = c.kill.ensures.state c.args.memory.now ∙ ap (
 
 pub returns-in-Kill-clause-note : goal.returns-in-Kill-clause-note
 returns-in-Kill-clause-note c = c.kill.ensures.note c.args.memory.now ∙ ap (λ (e : Event). (happens (state_at c.args.layout.now c.args.memory.now c.args.kernel.now c.args.threads.now.items) e).note) (sym c.in-Kill.is)
+
+pub returns-in-Leave-clause-state : goal.returns-in-Leave-clause-state
+returns-in-Leave-clause-state c =
+    c.leave.ensures.state c.args.memory.now c.args.threads.now.items (c.requires.sleeps c.in-Leave.thread)
+    ∙ ap (λ (e : Event). (happens (state_at c.args.layout.now c.args.memory.now c.args.kernel.now c.args.threads.now.items) e).state) (sym c.in-Leave.is)
+
+pub returns-in-Leave-clause-note : goal.returns-in-Leave-clause-note
+returns-in-Leave-clause-note c =
+    c.leave.ensures.note c.args.memory.now c.args.threads.now.items (c.requires.sleeps c.in-Leave.thread)
+    ∙ ap (λ (e : Event). (happens (state_at c.args.layout.now c.args.memory.now c.args.kernel.now c.args.threads.now.items) e).note) (sym c.in-Leave.is)
+
+pub returns-in-Decline-clause-state : goal.returns-in-Decline-clause-state
+returns-in-Decline-clause-state c =
+    c.decline.ensures.state c.args.memory.now (c.requires.sleeps c.in-Decline.thread)
+    ∙ ap (λ (e : Event). (happens (state_at c.args.layout.now c.args.memory.now c.args.kernel.now c.args.threads.now.items) e).state) (sym c.in-Decline.is)
+
+pub returns-in-Decline-clause-note : goal.returns-in-Decline-clause-note
+returns-in-Decline-clause-note c =
+    c.decline.ensures.note c.args.memory.now (c.requires.sleeps c.in-Decline.thread)
+    ∙ ap (λ (e : Event). (happens (state_at c.args.layout.now c.args.memory.now c.args.kernel.now c.args.threads.now.items) e).note) (sym c.in-Decline.is)

@@ -1,4 +1,4 @@
-use Rattle.std.proofs.Common.{◌≡◌, ◌+◌, ◌-◌, Ok, Some, arith, sym, ap, ◌∙◌, slice_index_or}
+use Rattle.std.proofs.Common.{◌≡◌, ◌+◌, Ok, Some, arith, sym, ap, ◌∙◌, slice_index_or}
 use Rattle.std.proofs.lemmas.Grind.{common_steps}
 use Rattle.protocol.specs.declared.note.Note.TheVariants.{Began}
 use Rattle.protocol.specs.Machine.{After, idle}

@@ -1,4 +1,4 @@
-use Rattle.std.proofs.Common.{◌≡◌, ◌+◌, ◌-◌, false, ℕ, arith, sym, ap, ◌∙◌, subst, slice_index_or, slice_set}
+use Rattle.std.proofs.Common.{◌≡◌, ◌+◌, false, ℕ, arith, sym, ap, ◌∙◌, subst, slice_index_or, slice_set}
 use Rattle.std.proofs.lemmas.Grind.{common_steps}
 use Rattle.keys.specs.declared.access.Access.{Access}
 use Rattle.keys.specs.Layouts.{base_of}

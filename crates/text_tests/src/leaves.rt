@@ -1,0 +1,32 @@
+//! Lines of sleepers that leave and of trims that are declined: which are refused, written out by hand from the format.
+
+use crate::faults::Refusal;
+use crate::processes::{FOR_A_RUN, FOR_THREADS};
+
+static LINES: [(&str, Refusal); 9] = [
+    ("leave a", None),
+    ("decline a", None),
+    ("leave b", Some((4, 3))),
+    ("decline m", Some((4, 3))),
+    ("leave", Some((2, 3))),
+    ("leave a 1", Some((2, 3))),
+    ("leaves a", Some((2, 3))),
+    ("Decline a", Some((2, 3))),
+    ("decline a\nthread b", Some((2, 4))),
+];
+
+/// They are a run's alone.
+static LINES_FOR_THREADS: [(&str, Refusal); 2] = [
+    ("leave a", Some((2, 3))),
+    ("decline a", Some((2, 3))),
+];
+
+#[test]
+fn lines(rt: HostRuntime) {
+    assert!(rt; FOR_A_RUN.first_wrong(rt.alloc(), &LINES).is_none());
+    assert!(rt;
+        FOR_THREADS
+            .first_wrong(rt.alloc(), &LINES_FOR_THREADS)
+            .is_none()
+    );
+}
