@@ -6,6 +6,6 @@ use Rattle.ruledwords.specs.declared.pass.Words.{Words}
 use Rattle.ruledwords.specs.Gathered.{HaveCome}
 
 -- the seat is one of these words
-pub at_home : (w : Words) (cards : List Card) (s : Option (Seat (Unit {0}) (List Card))) → HaveCome w cards s → IfSome s (λ z. z.table_id ≡ w.table.shared.table_id)
+pub at_home : (w : Words) (cards : List Card) (s : Option (Seat (Unit {0}) (List Card))) → HaveCome w cards s → IfSome s (λ z. z.table_id ≡ w.places.table.shared.table_id)
 at_home w cards None come = tt
 at_home w cards (Some s) come = come.0

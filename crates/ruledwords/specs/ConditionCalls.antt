@@ -70,7 +70,7 @@ IsCondRunningOf w r = IsPassOf w (cond_pass r) × IsInCondCall (layout_of w) (ca
 
 -- the seat of thread t, whose call makes the access a: it stands at z, on condition variable q
 pub record CanAct (w : Words) (s : Seat (Unit {0}) (List Card)) (t : ℕ) (k : Layout') (q : ℕ) (z : CondStanding) (a : Access) : Type 0 where
-  pub table : s.table_id ≡ w.table.shared.table_id
+  pub table : s.table_id ≡ w.places.table.shared.table_id
   pub one : IsOne s.me
   pub is : t ≡ (card_of s.me.0).thread
   pub card : IsCardOf (layout_of w) (card_of s.me.0)
@@ -87,7 +87,7 @@ HasActed w s s' q z n = (s'.table_id ≡ s.table_id) × IsOne s'.me × Acted (la
 
 -- the seat of thread t, whose call stands at p
 pub record IsSeatedCondCall (w : Words) (s : Seat (Unit {0}) (List Card)) (t : ℕ) (p : CondWhole) : Type 0 where
-  pub table : s.table_id ≡ w.table.shared.table_id
+  pub table : s.table_id ≡ w.places.table.shared.table_id
   pub one : IsOne s.me
   pub is : t ≡ (card_of s.me.0).thread
   pub card : IsCardOf (layout_of w) (card_of s.me.0)

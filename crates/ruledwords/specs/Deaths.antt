@@ -128,7 +128,7 @@ pub record IsReaped (k : Layout') (c d : Card) : Type 0 where
 
 -- the seat of thread t, which died, and the walk of its list
 pub record IsSeatedWalk (w : Words) (z : Seat (Unit {0}) (List Card)) (t : ℕ) (s : Standing) : Type 0 where
-  pub table : z.table_id ≡ w.table.shared.table_id
+  pub table : z.table_id ≡ w.places.table.shared.table_id
   pub one : IsOne z.me
   pub is : t ≡ (card_of z.me.0).thread
   pub card : IsCardOf (layout_of w) (card_of z.me.0)

@@ -7,4 +7,4 @@ use Rattle.ruledwords.specs.declared.pass.Words.{Words}
 -- one seat of these words has the cards, or there are none
 abbrev pub HaveCome : Words → List Card → Option (Seat (Unit {0}) (List Card)) → Type 0
 HaveCome w cards None = cards ≡ []
-HaveCome w cards (Some s) = (s.table_id ≡ w.table.shared.table_id) × (s.me ≡ (cards, []))
+HaveCome w cards (Some s) = (s.table_id ≡ w.places.table.shared.table_id) × (s.me ≡ (cards, []))

@@ -1,6 +1,6 @@
 -- What clauses say of words and passes.
 use Rattle.std.specs.Prelude.{◌≡◌, ◌≤◌, ℕ, List}
-use Rattle.std.specs.Mem.Slots.{slots_items}
+use Rattle.cachelines.specs.Closings.{words_at}
 use Rattle.keys.specs.Layouts.{Layout', IsLayout, base_of}
 use Rattle.ruledwords.specs.declared.pass.Card.{Card}
 use Rattle.ruledwords.specs.declared.pass.Words.{Words}
@@ -20,11 +20,11 @@ last_layout l = l.layout
 
 -- the values that the counters of condition variables began with, in the order of their numbers
 abbrev pub presets_of : Words → List ℕ
-presets_of w = presets_in w.table.shared.key
+presets_of w = presets_in w.places.table.shared.key
 
 -- the words after the last step
 abbrev pub last_words : Last → List ℕ
-last_words l = slots_items l.closed.words
+last_words l = words_at l.closed
 
 -- it is of one of the layout's threads, and what that has seen of each mutex is legal
 pub record IsCardOf (k : Layout') (c : Card) : Type 0 where
@@ -42,7 +42,7 @@ module _ {A : Type 0} where
 
   -- it is a pass of these words, for one of their layout's threads
   abbrev pub IsPassOf : Words → Pass A → Type 0
-  IsPassOf w p = (p.seat.table_id ≡ w.table.shared.table_id) × IsCardOf (layout_of w) (card p)
+  IsPassOf w p = (p.seat.table_id ≡ w.places.table.shared.table_id) × IsCardOf (layout_of w) (card p)
 
 -- it is a pass of these words whose thread is in no call: its list has just the mutexes that it holds
 abbrev pub IsLive : Words → Pass Live → Type 0

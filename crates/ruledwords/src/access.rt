@@ -34,7 +34,7 @@ impl Words {
     /// Makes a load or a store of one of the thread's own words, by its address in the thread's process, and gives the word of a load.
     #[inline(always)]
     pub(crate) fn access_own(&self, seat: &mut Seat<(), View>, thread: Tid, access: Access) -> u64
-        requires table { seat.old.table_id ≡ self.now.table.shared.table_id }
+        requires table { seat.old.table_id ≡ self.now.places.table.shared.table_id }
         requires one { IsOne seat.old.me }
         requires is { thread ≡ (card_of seat.old.me.0).thread }
         requires thread { (1 ≤ (card_of seat.old.me.0).thread) × ((card_of seat.old.me.0).thread ≤ self.now.layout.threads) }
@@ -64,20 +64,20 @@ impl Words {
     /// The word at a place, which is the one that the thread knows there, if it knows one.
     #[inline(always)]
     pub(crate) fn recall(&self, seat: &mut Seat<(), View>, at: u64) -> u64
-        requires table { seat.old.table_id ≡ self.now.table.shared.table_id }
+        requires table { seat.old.table_id ≡ self.now.places.table.shared.table_id }
         requires one { IsOne seat.old.me }
         requires place { at < words_of self.now.layout }
         ensures table { seat.new.table_id ≡ seat.old.table_id }
         ensures me { seat.new.me ≡ seat.old.me }
         ensures value { (x : ℕ) → value_at (card_of seat.old.me.0).values at ≡ Some x → result ≡ x }
     {
-        self.table.shared.load::<Recall>(seat, at as usize)
+        self.places.load::<Recall>(seat, at as usize)
     }
 
     /// Stores a word at one of the thread's own places, and knows it from then on.
     #[inline(always)]
     pub(crate) fn store(&self, seat: &mut Seat<(), View>, at: u64, value: u64)
-        requires table { seat.old.table_id ≡ self.now.table.shared.table_id }
+        requires table { seat.old.table_id ≡ self.now.places.table.shared.table_id }
         requires one { IsOne seat.old.me }
         requires thread { (1 ≤ (card_of seat.old.me.0).thread) × ((card_of seat.old.me.0).thread ≤ self.now.layout.threads) }
         requires own { IsOwn self.now.layout (card_of seat.old.me.0) at }
@@ -85,7 +85,7 @@ impl Words {
         ensures one { IsOne seat.new.me }
         ensures card { card_of seat.new.me.0 ≡ knowing (card_of seat.old.me.0) at value }
     {
-        self.table.shared.store::<Store>(seat, at as usize, value);
+        self.places.store::<Store>(seat, at as usize, value);
     }
 }
 
@@ -139,7 +139,7 @@ impl Words {
         thread: Tid,
         program: &Program,
     ) -> u64
-        requires table { seat.old.table_id ≡ self.now.table.shared.table_id }
+        requires table { seat.old.table_id ≡ self.now.places.table.shared.table_id }
         requires one { IsOne seat.old.me }
         requires thread { (thread ≡ M.program.thread) × (thread ≤ self.now.layout.threads) }
         requires place { IsInLayout self.now.layout M.program }
@@ -155,11 +155,11 @@ impl Words {
         ensures own { OwnKept self.now.layout (card_of seat.old.me.0) (card_of seat.new.me.0) }
         ensures made { (m : ℕ) × IsOnMutex self.now.layout M.program m × Made M.program (cell_place self.now.layout m) (card_of seat.old.me.0) result (card_of seat.new.me.0) }
     {
-        let shared = &self.table.shared;
+        let places = &self.places;
         match program.next() {
-            Access::Load { at } => { shared.load::<Make<M>>(seat, self.place(thread, at) as usize) }
+            Access::Load { at } => { places.load::<Make<M>>(seat, self.place(thread, at) as usize) }
             Access::Exchange { at, expected, new } => {
-                shared.compare_exchange::<Make<M>>(
+                places.compare_exchange::<Make<M>>(
                     seat,
                     self.place(thread, at) as usize,
                     expected,
@@ -167,13 +167,13 @@ impl Words {
                 )
             }
             Access::FetchXor { at, operand } => {
-                shared.fetch_xor::<Make<M>>(seat, self.place(thread, at) as usize, operand)
+                places.fetch_xor::<Make<M>>(seat, self.place(thread, at) as usize, operand)
             }
             Access::FetchOr { at, operand } => {
-                shared.fetch_or::<Make<M>>(seat, self.place(thread, at) as usize, operand)
+                places.fetch_or::<Make<M>>(seat, self.place(thread, at) as usize, operand)
             }
             Access::FetchAnd { at, operand } => {
-                shared.fetch_and::<Make<M>>(seat, self.place(thread, at) as usize, operand)
+                places.fetch_and::<Make<M>>(seat, self.place(thread, at) as usize, operand)
             }
             _ => unreachable!(),
         }
@@ -226,17 +226,17 @@ impl Words {
         requires going { IsUnderWay program.now.phase }
         ensures { HasActed self.now seat.old seat.new A.condition A.standing result }
     {
-        let shared = &self.table.shared;
+        let places = &self.places;
         match program.next() {
-            Access::Load { at } => shared.load::<Act<A>>(seat, self.place(thread, at) as usize),
+            Access::Load { at } => places.load::<Act<A>>(seat, self.place(thread, at) as usize),
             Access::FetchXor { at, operand } => {
-                shared.fetch_xor::<Act<A>>(seat, self.place(thread, at) as usize, operand)
+                places.fetch_xor::<Act<A>>(seat, self.place(thread, at) as usize, operand)
             }
             Access::FetchOr { at, operand } => {
-                shared.fetch_or::<Act<A>>(seat, self.place(thread, at) as usize, operand)
+                places.fetch_or::<Act<A>>(seat, self.place(thread, at) as usize, operand)
             }
             Access::FetchAdd { at, operand } => {
-                shared.fetch_add::<Act<A>>(seat, self.place(thread, at) as usize, operand)
+                places.fetch_add::<Act<A>>(seat, self.place(thread, at) as usize, operand)
             }
             _ => unreachable!(),
         }
@@ -265,7 +265,7 @@ impl Words {
 impl Words {
     /// The word of a mutex's cell, as it is.
     pub(crate) fn look(&self, pass: &mut Pass<Live>, at: u64) -> u64
-        requires table { pass.old.seat.table_id ≡ self.now.table.shared.table_id }
+        requires table { pass.old.seat.table_id ≡ self.now.places.table.shared.table_id }
         requires place { (m : ℕ) × (m < self.now.layout.mutexes) × (at ≡ cell_place self.now.layout m) }
         ensures table { pass.new.seat.table_id ≡ pass.old.seat.table_id }
         ensures card { card_of pass.new.seat.me.0 ≡ noted (card_of pass.old.seat.me.0) result (card_of pass.old.seat.me.0).trims (card_of pass.old.seat.me.0).changes }
@@ -273,12 +273,12 @@ impl Words {
         ensures finds { Finds (card_of pass.old.seat.me.0) at result }
     {
         let _thread = pass.thread;
-        self.table.shared.load::<Look>(&mut pass.seat, at as usize)
+        self.places.load::<Look>(&mut pass.seat, at as usize)
     }
 
     /// The word of a condition variable's counter, as it is.
     pub(crate) fn look_at_counter(&self, pass: &mut Pass<Live>, at: u64) -> CounterWord
-        requires table { pass.old.seat.table_id ≡ self.now.table.shared.table_id }
+        requires table { pass.old.seat.table_id ≡ self.now.places.table.shared.table_id }
         requires place { (q : ℕ) × (q < length self.now.layout.conditions) × (at ≡ counter_place self.now.layout q) }
         ensures table { pass.new.seat.table_id ≡ pass.old.seat.table_id }
         ensures place { place_found result ≡ at }
@@ -291,15 +291,14 @@ impl Words {
         CounterWord {
             at,
             word: self
-                .table
-                .shared
+                .places
                 .load::<LookAtCounter>(&mut pass.seat, at as usize),
         }
     }
 
     /// Makes the word of a mutex's cell 0 where WAITERS is all that it says, and gives the word that it found.
     pub(crate) fn trim_cell(&self, pass: &mut Pass<Live>, at: u64) -> u64
-        requires table { pass.old.seat.table_id ≡ self.now.table.shared.table_id }
+        requires table { pass.old.seat.table_id ≡ self.now.places.table.shared.table_id }
         requires place { (m : ℕ) × (m < self.now.layout.mutexes) × (at ≡ cell_place self.now.layout m) }
         ensures table { pass.new.seat.table_id ≡ pass.old.seat.table_id }
         ensures card { card_of pass.new.seat.me.0 ≡ noted (card_of pass.old.seat.me.0) result ((card_of pass.old.seat.me.0).trims + 1) (card_of pass.new.seat.me.0).changes }
@@ -308,8 +307,7 @@ impl Words {
         ensures writes { Writes (card_of pass.old.seat.me.0) at result (if result == 0x8000_0000 then 0 else result) (card_of pass.new.seat.me.0) }
     {
         let _thread = pass.thread;
-        self.table
-            .shared
+        self.places
             .compare_exchange::<Trim>(&mut pass.seat, at as usize, WAITERS, 0)
     }
 }

@@ -36,10 +36,10 @@ impl Words {
             held: other_held,
             state: other_state,
         } = second;
-        let shared = &self.table.shared;
-        shared.join_seat::<Gather>(&mut seat, other_seat);
-        shared.load::<Meet>(&mut seat, 0);
-        let mine = shared.split_seat::<Deal>(&mut seat);
+        let places = &self.places;
+        places.join_seat::<Gather>(&mut seat, other_seat);
+        places.load::<Meet>(&mut seat, 0);
+        let mine = places.split_seat::<Deal>(&mut seat);
         (
             Pass {
                 seat: mine,
@@ -85,14 +85,14 @@ impl Words {
         ensures layout { last_layout result ≡ layout_of self }
         ensures ends { Ends (layout_of self) (presets_of self) (card pass ∷ []) (last_words result) }
     {
-        let Words { table, layout } = self;
+        let Words { places, layout } = self;
         let Pass {
             seat,
             thread: _,
             held: _,
             state: _,
         } = pass;
-        let closed = table.close_with(seat);
+        let closed = places.close_with(seat);
         Last { closed, layout }
     }
 
@@ -112,12 +112,12 @@ impl Words {
 
     /// The end of the words, with a seat that has the cards of all passes.
     fn ended_with(self, seat: Seat<(), View>) -> Last
-        requires { seat.table_id ≡ self.table.shared.table_id }
+        requires { seat.table_id ≡ self.places.table.shared.table_id }
         ensures layout { last_layout result ≡ layout_of self }
         ensures ends { Ends (layout_of self) (presets_of self) seat.me.0 (last_words result) }
     {
-        let Words { table, layout } = self;
-        let last = table.close_with(seat);
+        let Words { places, layout } = self;
+        let last = places.close_with(seat);
         Last {
             closed: last,
             layout,
@@ -129,8 +129,8 @@ impl Words {
         ensures layout { last_layout result ≡ layout_of self }
         ensures ends { Ends (layout_of self) (presets_of self) [] (last_words result) }
     {
-        let Words { table, layout } = self;
-        let closed = table.close();
+        let Words { places, layout } = self;
+        let closed = places.close();
         Last { closed, layout }
     }
 
@@ -148,7 +148,7 @@ impl Words {
 
     /// One seat more.
     fn joined<A>(&self, seat: Option<Seat<(), View>>, pass: Pass<A>) -> Seat<(), View>
-        requires seat { IfSome seat (λ s. s.table_id ≡ self.now.table.shared.table_id) }
+        requires seat { IfSome seat (λ s. s.table_id ≡ self.now.places.table.shared.table_id) }
         requires pass { IsPassOf self.now pass }
         ensures { (cards : List Card) → HaveCome self.now cards seat → HaveCome self.now (cards ++ card pass ∷ []) (Some result) }
     {
@@ -160,7 +160,7 @@ impl Words {
         } = pass;
         match seat {
             Some(mut seat) => {
-                self.table.shared.join_seat::<Gather>(&mut seat, other);
+                self.places.join_seat::<Gather>(&mut seat, other);
                 seat
             }
             None => other,

@@ -6,7 +6,7 @@ ghost use Rattle.ruledwords.specs.Passes.{layout_of, presets_of, card, IsLive};
 
 use crate::pass::{Live, Opening, Pass, Words};
 use crate::rule::Deal;
-use atomic_table::Table;
+use cachelines::Places;
 use keys::{Layout, NoMem};
 use lockword::Tid;
 use std::alloc::{AllocError, Global};
@@ -56,9 +56,9 @@ impl Words {
         let threads = layout.threads();
         let mut passes = Vec::with_capacity(alloc, threads as usize)?;
         let opening = Opening { layout, words };
-        let (table, mut seat) = Table::of_words(alloc, opening.words.as_slice(), &opening)?;
+        let (places, mut seat) = Places::of_words(alloc, opening.words.as_slice(), &opening)?;
         for before in 0..threads {
-            let mine = table.shared.split_seat::<Deal>(&mut seat);
+            let mine = places.split_seat::<Deal>(&mut seat);
             let pass = Pass {
                 seat: mine,
                 thread: thread_after(before),
@@ -68,7 +68,7 @@ impl Words {
             passes.push(pass)?;
         }
         let Opening { layout, words: _ } = opening;
-        Ok((Words { table, layout }, passes))
+        Ok((Words { places, layout }, passes))
     }
 }
 

@@ -1,27 +1,26 @@
 //! Words, what threads step on them with, and what they know.
 ghost use Rattle.std.specs.Prelude.{◌≡◌, ◌≤◌};
-ghost use Rattle.std.specs.Mem.Slots.{slots_len, IsFull};
 ghost use Rattle.keys.specs.Layouts.{words_of};
 ghost use Rattle.keys.specs.Objects.{held_limit};
 ghost use Rattle.ruledwords.specs.Rules.{card_of, IsOne};
 ghost use Rattle.ruledwords.specs.Seen.{held as holding};
 
 use crate::rule::History;
-use atomic_table::{Closed, Seat, Table};
+use atomic_table::Seat;
+use cachelines::{Closed, Places};
 use keys::{Layout, Point};
 use lockword::Tid;
-use std::alloc::Global;
 use std::collections::LinkedList;
 use std::marker::PhantomData;
 
 /// The shared words of a layout's threads, mutexes and condition variables.
 #[derive(Drop)]
 pub struct Words {
-    pub(crate) table: Table<(), View, Opening, History, Global>,
+    pub(crate) places: Places<View, Opening, History>,
     pub(crate) layout: Layout,
-    pub ghost key: { table.shared.key.layout ≡ layout },
-    pub ghost wide: { table.shared.table_id.words ≡ words_of layout },
-    pub ghost bare: { table.shared.table_id.slots ≡ 0 },
+    pub ghost key: { places.table.shared.key.layout ≡ layout },
+    pub ghost all: { places.count ≡ words_of places.table.shared.key.layout },
+    pub ghost wide: { places.count ≡ words_of layout },
 }
 
 /// The thread lives.
@@ -55,19 +54,11 @@ pub struct Pass<A> {
 }
 
 /// The words after the last step.
+#[derive(Drop)]
 pub struct Last {
-    pub(crate) closed: Closed<(), Global>,
+    pub(crate) closed: Closed,
     pub(crate) layout: Layout,
-    pub ghost full: { IsFull closed.words },
-    pub ghost wide: { slots_len closed.words ≡ words_of layout },
-    pub ghost bare: { slots_len closed.slots ≡ 0 },
-}
-
-impl Drop for Last {
-    fn drop(self) {
-        let Last { closed, layout: _ } = self;
-        closed.free();
-    }
+    pub ghost wide: { closed.count ≡ words_of layout },
 }
 
 /// A change of a mutex's cell or of a condition variable's counter: whose it was, 0 for what was there at first, and the word that it left. It stands in contracts and proofs alone.

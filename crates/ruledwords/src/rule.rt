@@ -1,17 +1,21 @@
 //! The rule of the words, and what each kind of step tells its pass.
 use crate::pass::{Opening, View};
-use atomic_table::{Join, Play, Split, TableRule};
+use atomic_table::{Join, Play, Split};
+use cachelines::PlaceRule;
 use std::marker::{Brand, PhantomData};
 
 /// Each mutex has one legal history, and counters count the signals and the broadcasts in it that were answered OK.
 pub struct History;
 
-impl TableRule<(), View, Opening> for History {
+impl PlaceRule<View, Opening> for History {
+    ghost use Rattle.keys.specs.Layouts.{words_of};
     ghost use Rattle.ruledwords.specs.Rules.{Kept, presets_in, hand};
 
     ghost holds = { λ o. Kept o.layout (presets_in o) };
 
     ghost first = { λ o. hand o.layout 1 o.layout.threads };
+
+    ghost how_many = { λ o. words_of o.layout };
 }
 
 /// A load by a seat that has the cards of two threads.

@@ -132,7 +132,7 @@ impl Words {
 
     /// The word of a mutex's cell, as it is. The thread remembers whether WAITERS was set in it.
     fn examine(&self, seat: &mut Seat<(), View>, at: u64) -> u64
-        requires table { seat.old.table_id ≡ self.now.table.shared.table_id }
+        requires table { seat.old.table_id ≡ self.now.places.table.shared.table_id }
         requires one { IsOne seat.old.me }
         requires place { (m : ℕ) × (m < self.now.layout.mutexes) × (at ≡ cell_place self.now.layout m) }
         ensures table { seat.new.table_id ≡ seat.old.table_id }
@@ -141,12 +141,12 @@ impl Words {
         ensures finds { Finds (card_of seat.old.me.0) at result }
         ensures minds { MindsWaiters (card_of seat.old.me.0) at result }
     {
-        self.table.shared.load::<Examine>(seat, at as usize)
+        self.places.load::<Examine>(seat, at as usize)
     }
 
     /// Marks the word of a mutex's cell, if it is the one expected, whose owner is the thread: the owner's death. Gives the word that it found.
     fn mark<L: Placing>(&self, seat: &mut Seat<(), View>, at: u64, expected: u64, new: u64) -> u64
-        requires table { seat.old.table_id ≡ self.now.table.shared.table_id }
+        requires table { seat.old.table_id ≡ self.now.places.table.shared.table_id }
         requires one { IsOne seat.old.me }
         requires place { (m : ℕ) × (m < self.now.layout.mutexes) × (at ≡ cell_place self.now.layout m) }
         requires thread { (1 ≤ (card_of seat.old.me.0).thread) × ((card_of seat.old.me.0).thread ≤ self.now.layout.threads) }
@@ -157,8 +157,7 @@ impl Words {
         ensures one { IsOne seat.new.me }
         ensures marks { Marks self.now.layout at expected (card_of seat.old.me.0) result (card_of seat.new.me.0) }
     {
-        self.table
-            .shared
+        self.places
             .compare_exchange::<Mark<L>>(seat, at as usize, expected, new)
     }
 }

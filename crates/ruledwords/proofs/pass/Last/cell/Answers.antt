@@ -1,7 +1,6 @@
 use Rattle.std.proofs.Common.{ℕ, ap, ◌∙◌, get_or}
-use Rattle.std.specs.Mem.Slots.{slots_items}
-use Rattle.ruledwords.proofs.Lists.{found_at}
+use Rattle.cachelines.specs.Closings.{words_at}
 use Rattle.ruledwords.proofs.pass.Last.cell.Goals as goal
 
 pub returns : goal.returns
-returns c = found_at (slots_items c.args.self.now.closed.words) c.cell.result _ c.word.ensures ∙ ap (λ (p : ℕ). get_or (slots_items c.args.self.now.closed.words) p 0) c.cell.ensures.value
+returns c = c.word.ensures ∙ ap (λ (p : ℕ). get_or (words_at c.args.self.now.closed) p 0) c.cell.ensures.value

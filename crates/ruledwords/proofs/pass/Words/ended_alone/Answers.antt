@@ -1,5 +1,6 @@
 use Rattle.std.proofs.Common.{subst}
 use Rattle.std.specs.Mem.Slots.{slots_items}
+use Rattle.cachelines.specs.Closings.{words_at}
 use Rattle.atomic_table.specs.Table.{Final}
 use Rattle.keys.specs.Layouts.{Layout'}
 use Rattle.ruledwords.specs.Passes.{presets_of}
@@ -10,6 +11,6 @@ use Rattle.ruledwords.proofs.pass.Words.ended_alone.Goals as goal
 pub returns-clause-ends : goal.returns-clause-ends
 returns-clause-ends c =
     let w = c.args.self in
-    let words = slots_items c.close-closed.result.words in
-    let slots = slots_items c.close-closed.result.slots in
-    ends_alone w.layout (presets_of w) words slots (subst (λ (k : Layout'). Final (Kept k (presets_of w)) words slots) w.key c.close-closed.ensures.values.2)
+    let words = words_at c.close-closed.result in
+    let slots = slots_items c.close-closed.result.closed.slots in
+    ends_alone w.layout (presets_of w) words slots (subst (λ (k : Layout'). Final (Kept k (presets_of w)) words slots) w.key c.close-closed.ensures.last)

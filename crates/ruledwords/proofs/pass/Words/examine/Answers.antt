@@ -9,10 +9,10 @@ use Rattle.ruledwords.proofs.Marking.{examines}
 use Rattle.ruledwords.proofs.Turned.{at_one, turned}
 use Rattle.ruledwords.proofs.pass.Words.examine.Goals as goal
 
-pub load-requires : goal.load-requires
-load-requires c =
+pub load-requires-clause-step : goal.load-requires-clause-step
+load-requires-clause-step c =
     let k = c.args.self.now.layout in
-    let slots = c.args.self.now.table.shared.table_id.slots in
+    let slots = c.args.self.now.places.table.shared.table_id.slots in
     let m = c.requires.place.0 in (
       c.requires.table,
       subst (λ (z : ℕ × ℕ). z.0 < z.1) (λ i. (sym c.requires.place.2 i, sym c.args.self.now.wide i)) (inside k m c.requires.place.1),

@@ -7,10 +7,10 @@ use Rattle.ruledwords.proofs.Hands.{gathers}
 use Rattle.ruledwords.proofs.Moves.{Sat}
 use Rattle.ruledwords.proofs.pass.Words.joined.Goals as goal
 
-pub join_seat-requires : goal.join_seat-requires
-join_seat-requires g c =
-    let home = subst (λ (s : Option (Seat (Unit {0}) (List Card))). IfSome s (λ z. z.table_id ≡ c.args.self.now.table.shared.table_id)) c.in-Some.is c.requires.seat in
-    (home, c.requires.pass.0, ap (λ (m : Sat). m.1) c.args.pass.one, search rules, gathers _ _ _ _ _)
+pub join_seat-requires-clause-step : goal.join_seat-requires-clause-step
+join_seat-requires-clause-step g c =
+    let home = subst (λ (s : Option (Seat (Unit {0}) (List Card))). IfSome s (λ z. z.table_id ≡ c.args.self.now.places.table.shared.table_id)) c.in-Some.is c.requires.seat in
+    (home, c.requires.pass.0, ap (λ (m : Sat). m.1) c.args.pass.one, gathers _ _ _ _ _)
 
 pub returns-in-Some : goal.returns-in-Some
 returns-in-Some g c = λ cards come.

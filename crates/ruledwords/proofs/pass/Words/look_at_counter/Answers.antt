@@ -12,10 +12,10 @@ use Rattle.ruledwords.proofs.Counters.{looks_at_counter}
 use Rattle.ruledwords.proofs.Turned.{at_one, turned}
 use Rattle.ruledwords.proofs.pass.Words.look_at_counter.Goals as goal
 
-pub load-requires : goal.load-requires
-load-requires c =
+pub load-requires-clause-step : goal.load-requires-clause-step
+load-requires-clause-step c =
     let k = c.args.self.now.layout in
-    let slots = c.args.self.now.table.shared.table_id.slots in
+    let slots = c.args.self.now.places.table.shared.table_id.slots in
     let q = c.requires.place.0 in
     let low : q < length k.conditions = c.requires.place.1 in
     let there : counter_place k q < words_of k = omega arith in (

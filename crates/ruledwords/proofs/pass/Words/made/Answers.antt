@@ -16,8 +16,8 @@ use Rattle.ruledwords.proofs.Cards.{first_is}
 use Rattle.ruledwords.proofs.Hands.{opens_kept, presets_are, deals, dealt_first, dealt_rest}
 use Rattle.ruledwords.proofs.pass.Words.made.Goals as goal
 
-pub of_words-requires : goal.of_words-requires
-of_words-requires c =
+pub of_words-requires-clause-holds : goal.of_words-requires-clause-holds
+of_words-requires-clause-holds c =
     let k = c.args.layout in
     let words : c.as_slice.result.now ≡ c.in_ok-words.words.items = c.as_slice.ensures.value in
     let small : (q : ℕ) → slice_index c.args.presets.now q < 4294967296 = λ q. search rules in
@@ -25,8 +25,8 @@ of_words-requires c =
     subst (λ (z : List ℕ × List ℕ). Kept k z.0 (opening z.1 [] (hand k 1 k.threads))) (λ i. (sym presets i, sym words i))
     (opens_kept k c.args.presets.now c.in_ok-words.words.items c.in_ok-words.ensures.layout small (c.in_ok-words.ensures.count, c.in_ok-words.ensures.each))
 
-pub split_seat-mine-requires : goal.split_seat-mine-requires
-split_seat-mine-requires c = (c.loop-before.invariant.table, search rules, deals _ _ _)
+pub split_seat-mine-requires-clause-step : goal.split_seat-mine-requires-clause-step
+split_seat-mine-requires-clause-step c = (c.loop-before.invariant.table, deals _ _ _)
 
 pub invariant_of-pass : goal.invariant_of-pass
 invariant_of-pass c =
@@ -55,7 +55,7 @@ loop-before-preserved c =
       dealt = λ j p e. ⊎_elim
           (λ was. c.loop-before.invariant.dealt j p was)
           (λ (t : (j ≡ length c.loop-before.passes.items) × (_ ≡ p)).
-          subst (λ (z : ℕ × Pass Live). (z.1.seat.table_id ≡ c.in_ok-table.table.shared.table_id) × (card_of z.1.seat.me.0 ≡ first_card c.args.layout (z.0 + 1)))
+          subst (λ (z : ℕ × Pass Live). (z.1.seat.table_id ≡ c.in_ok-places.places.table.shared.table_id) × (card_of z.1.seat.me.0 ≡ first_card c.args.layout (z.0 + 1)))
           (λ i. (sym (t.0 ∙ c.loop-before.invariant.count) i, t.1 i))
           (c.split_seat-mine.ensures.3 ∙ c.loop-before.invariant.table, one.1))
           (get_snoc c.loop-before.passes.items _ p j (subst (λ l. slice_get l j ≡ Some p) c.in_ok-push.ensures.items e));
@@ -63,7 +63,7 @@ loop-before-preserved c =
 
 pub returns-clause-presets : goal.returns-clause-presets
 returns-clause-presets c =
-    ap presets_in c.in_ok-table.ensures.5 ∙ presets_are c.args.layout c.args.presets.now c.in_ok-words.words.items c.requires (c.in_ok-words.ensures.count, c.in_ok-words.ensures.each)
+    ap presets_in c.in_ok-places.ensures.0 ∙ presets_are c.args.layout c.args.presets.now c.in_ok-words.words.items c.requires (c.in_ok-words.ensures.count, c.in_ok-words.ensures.each)
 
 pub returns-clause-each : goal.returns-clause-each
 returns-clause-each c i other low =

@@ -12,17 +12,17 @@ use Rattle.ruledwords.proofs.Hands.{deals, gathers, meets, held_first, held_seco
 use Rattle.ruledwords.proofs.Listing.{met_stays}
 use Rattle.ruledwords.proofs.pass.Words.meet.Goals as goal
 
-pub join_seat-requires : goal.join_seat-requires
-join_seat-requires g c = (search rules, search rules, ap (λ (m : Sat). m.1) c.args.second.one, search rules, gathers _ _ _ _ _)
+pub join_seat-requires-clause-step : goal.join_seat-requires-clause-step
+join_seat-requires-clause-step g c = (search rules, search rules, ap (λ (m : Sat). m.1) c.args.second.one, gathers _ _ _ _ _)
 
-pub load-requires : goal.load-requires
-load-requires g c =
+pub load-requires-clause-step : goal.load-requires-clause-step
+load-requires-clause-step g c =
     let two = paired _ _ _ c.args.first.one c.args.second.one c.join_seat.ensures.2 in
-    let slots = c.args.self.now.table.shared.table_id.slots in
+    let slots = c.args.self.now.places.table.shared.table_id.slots in
     (search rules, search rules, at_two _ slots _ 0 _ _ _ (λ n. n) (met (step slots 0 0 0 none)) two (meets _ slots _ 0 _ _))
 
-pub split_seat-mine-requires : goal.split_seat-mine-requires
-split_seat-mine-requires g c = (search rules, search rules, deals _ _ _)
+pub split_seat-mine-requires-clause-step : goal.split_seat-mine-requires-clause-step
+split_seat-mine-requires-clause-step g c = (search rules, deals _ _ _)
 
 pub invariant_of-result : goal.invariant_of-result
 invariant_of-result g c =

@@ -7,10 +7,10 @@ use Rattle.ruledwords.proofs.OwnWords.{own_place, stores}
 use Rattle.ruledwords.proofs.Turned.{at_one, turned}
 use Rattle.ruledwords.proofs.pass.Words.store.Goals as goal
 
-pub store-requires : goal.store-requires
-store-requires c =
+pub store-requires-clause-step : goal.store-requires-clause-step
+store-requires-clause-step c =
     let k = c.args.self.now.layout in
-    let slots = c.args.self.now.table.shared.table_id.slots in
+    let slots = c.args.self.now.places.table.shared.table_id.slots in
     let own = c.requires.own in (
       c.requires.table,
       subst (λ (n : ℕ). c.args.at < n) (sym c.args.self.now.wide) (own_place k (card_of c.args.seat.now.me.0) c.args.at c.requires.thread own).2,

@@ -13,10 +13,10 @@ use Rattle.ruledwords.proofs.Trims.{trims}
 use Rattle.ruledwords.proofs.Turned.{at_one, turned}
 use Rattle.ruledwords.proofs.pass.Words.trim_cell.Goals as goal
 
-pub compare_exchange-requires : goal.compare_exchange-requires
-compare_exchange-requires c =
+pub compare_exchange-requires-clause-step : goal.compare_exchange-requires-clause-step
+compare_exchange-requires-clause-step c =
     let k = c.args.self.now.layout in
-    let slots = c.args.self.now.table.shared.table_id.slots in
+    let slots = c.args.self.now.places.table.shared.table_id.slots in
     let m = c.requires.place.0 in (
       c.requires.table,
       subst (λ (z : ℕ × ℕ). z.0 < z.1) (λ i. (sym c.requires.place.2 i, sym c.args.self.now.wide i)) (inside k m c.requires.place.1),
