@@ -26,7 +26,7 @@ int pz_thread_end(pz *);
 unsigned pz_thread_id(pz *);
 
 int pz_mutex_lock(pz *, unsigned m);        /* 0, EOWNERDEAD, ENOTRECOVERABLE, EDEADLK, EAGAIN (2,048 held) */
-int pz_mutex_trylock(pz *, unsigned m);     /* 0, EOWNERDEAD, ENOTRECOVERABLE, EBUSY */
+int pz_mutex_trylock(pz *, unsigned m);     /* 0, EOWNERDEAD, ENOTRECOVERABLE, EBUSY, EAGAIN (2,048 held) */
 int pz_mutex_unlock(pz *, unsigned m);      /* 0, EPERM */
 int pz_mutex_consistent(pz *, unsigned m);  /* 0, EPERM, EINVAL */
 int pz_mutex_renew(pz *, unsigned m);       /* 0: free again, unusable or not; EBUSY: somebody owns it, or sleeps on it */

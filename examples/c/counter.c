@@ -12,13 +12,13 @@ static int lock(pz *p, struct counter *c)
     if (r != EOWNERDEAD)
         return r;
     c->copy = c->count;                 /* its owner was killed, perhaps between the two */
-    return pz_mutex_consistent(p, 0);   /* repaired: without this nobody gets it any more */
+    return pz_mutex_consistent(p, 0);   /* repaired: else the unlock makes it ENOTRECOVERABLE */
 }
 
 int main(int argc, char **argv)
 {
     pz *p;
-    errno = pz_open(argc > 1 ? argv[1] : "counter", 0600, 1, 0, NULL, sizeof(struct counter), &p);
+    errno = pz_open(argc > 1 ? argv[1] : "counter.pz", 0600, 1, 0, NULL, sizeof(struct counter), &p);
     if (errno || (errno = lock(p, pz_data(p))))
         return perror("counter"), 1;
     struct counter *c = pz_data(p);
