@@ -225,12 +225,17 @@ int pz_mutex_trylock(pz *p, unsigned m)
     }
 }
 
-/* Somebody may sleep there. Of those that were killed asleep nobody has told yet. */
+/* Somebody who lives may sleep there. Of those that were killed asleep nobody has told yet; and one that is reaped
+ * already may be noted by a broadcast that looked before. */
 static int has_sleepers(pz *p, uint64_t cell)
 {
-    if (atomic_load(sleepers(p, cell)))
-        pz_reap(p);
-    return atomic_load(sleepers(p, cell)) != 0;
+    if (!atomic_load(sleepers(p, cell)))
+        return 0;
+    pz_reap(p);
+    for (uint64_t who = atomic_load(sleepers(p, cell)); who; who &= who - 1)
+        if (pz_fate(p, (unsigned)__builtin_ctzll(who) + 1) != GONE)
+            return 1;
+    return 0;
 }
 
 /* Unusable, it is made free by one exchange of its word: nobody owns it, nobody's list has it, and who looks at it

@@ -73,8 +73,8 @@ void pz_walk_on(pz *p, unsigned t)
 static void forget(pz *p, unsigned t)
 {
     for (uint64_t at = cell_place(0); at < p->places; at += LINE)
-        if (atomic_load(sleepers(p, at)) & bit_of(t))
-            atomic_fetch_and(sleepers(p, at), ~bit_of(t));
+        if (SEE(sleepers(p, at)) & bit_of(t))
+            AND(sleepers(p, at), ~bit_of(t));
 }
 
 /* With the token of a dead thread in hand. */

@@ -205,8 +205,10 @@ uint32_t pz_sleep(pz *p, unsigned t, uint64_t at, uint32_t expected)
     return answer;
 }
 
-/* Behind a wait, with its mutex in hand: a broadcast has noted it there, if it moved it, and if it only overtook it. So
- * not before: whoever broadcasts owns the mutex meanwhile. */
+/* At a wait's end: a broadcast has noted the thread at the mutex, if it moved it, and if it only overtook it. Not
+ * before the lock that ends the wait: whoever broadcasts owns the mutex meanwhile. (A wait that is refused has no bit
+ * there.)
+ */
 void pz_awake(pz *p, unsigned t, uint64_t cell)
 {
     if (SEE(sleepers(p, cell)) & bit_of(t))

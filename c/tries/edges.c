@@ -150,6 +150,32 @@ static void spoiled_with_sleepers(void)
     pz_close(p);
 }
 
+/* Woken and at work again it sleeps nowhere, so what it waited for can be renewed. */
+static void a_waiter_that_was_moved(void)
+{
+    pz *p = open_new("moved", 1, 1);
+    _Atomic int *is_back = shared(sizeof *is_back);
+    pid_t waiter = fork();
+    if (!waiter) {
+        SAME(pz_mutex_lock(p, 0), 0);
+        SAME(pz_cond_wait(p, 0), 0);
+        SAME(pz_mutex_unlock(p, 0), 0);
+        atomic_store(is_back, 1);
+        for (;;)
+            pause();
+    }
+    until_asleep(waiter);
+    SAME(pz_mutex_lock(p, 0), 0);
+    SAME(pz_cond_broadcast(p, 0), 0);
+    SAME(pz_mutex_unlock(p, 0), 0);
+    while (!atomic_load(is_back))
+        rest(100);
+    SAME(pz_mutex_renew(p, 0), 0);
+    kill_and_wait(waiter);
+    pz_close(p);
+    munmap(is_back, sizeof *is_back);
+}
+
 static void a_sleeper_is_told_of_a_death(void)
 {
     pz *p = open_new("sleeper", 1, 0);
@@ -381,6 +407,7 @@ int main(void)
     a_renewal();
     a_renewal_waits_for_sleepers();
     spoiled_with_sleepers();
+    a_waiter_that_was_moved();
     a_sleeper_is_told_of_a_death();
     a_first_sleeper_is_killed();
     a_thread_ends_alone();

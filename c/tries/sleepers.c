@@ -11,24 +11,38 @@ static long played_call(long number, ...);
 #include "../access.c"
 #include "../sleep.c"
 #undef syscall
+#include "../calls.c"
 
-enum { OWNER = 1, SLEEPER = 2, WAITERS = 0x80000000, TID = 77 };
+enum { OWNER = 1, SLEEPER = 2, TID = 77 };
 
 static struct pz file;
 static word words[80 * LINE];
 static uint32_t tokens[1 + THREADS];
 static uint32_t *asleep_on; /* the one futex queue with somebody in it */
 
+/* ---- The rest of the driver: both take part, and nobody dies. */
+
+_Thread_local struct self pz_self[FILES];
 uint32_t *pz_token_word(pz *p, unsigned t) { return (void)p, &tokens[t]; }
+enum fate pz_fate(pz *p, unsigned t) { return (void)p, (void)t, LIVES; }
 enum fate pz_reap_one(pz *p, unsigned t) { return (void)p, (void)t, fail(__FILE__, __LINE__, "nobody died"), GONE; }
+int pz_reap(pz *p) { return (void)p, 0; }
+int pz_take_part(pz *p) { return (void)p, 0; }
+void pz_leave(pz *p) { (void)p; }
+pz *pz_opened(unsigned number) { return (void)number, &file; }
 
 /* ---- The kernel (futex(2)): each call is a step. */
 
 static long refused(int why) { return errno = why, -1; }
 static int is_awake(void) { return !asleep_on; }
 
+/* How many of the next sleeps a signal's handler ends (EINTR). */
+static int interruptions;
+
 static long fall_asleep(uint32_t *on)
 {
+    if (interruptions-- > 0)
+        return refused(EINTR);
     asleep_on = on;
     wait_until(is_awake);
     return 0;
@@ -106,26 +120,45 @@ static void makes_them(void)
         pz_make(&file, x, &value);
 }
 
+/* The short way, without accesses of its own. */
+static void unlocks(void) { SAME((int)planned_unlock(&file, OWNER, cell_place(0)), 0); }
+
 static long orders;
 
-static void nobody_is_left(uint64_t at, const struct pz_access *accesses, size_t size)
+/* The owner's list has the mutex alone. */
+static void begin_words(void)
+{
+    uint64_t cell = cell_place(0), head = head_place(OWNER);
+    memset(words, 0, sizeof words);
+    words[cell] = OWNER | WAITERS;
+    words[cell + 1] = words[cell + 2] = head;
+    words[head] = cell + 1;
+    words[head + 1] = UINT64_MAX;
+    words[counter_place(&file, 0)] = 7;
+    tokens[OWNER] = TID;
+}
+
+static void in_every_order(uint64_t at, void (*wakes)(void), int interrupted)
 {
     uint64_t cell = cell_place(0), counter = counter_place(&file, 0);
-    memset(made, 0, sizeof made);
-    memcpy(made, accesses, size);
     do {
-        memset(words, 0, sizeof words);
-        words[cell] = OWNER | WAITERS;
-        words[counter] = 7;
-        tokens[OWNER] = TID;
+        begin_words();
+        interruptions = interrupted;
         slept_at = at;
         slept_while = (uint32_t)words[at];
-        if (!take_turns(makes_them, sleeps_there))
+        if (!take_turns(wakes, sleeps_there))
             fail(__FILE__, __LINE__, "left asleep");
         CHECK(answer == PZ_WOKEN || answer == PZ_AGAIN);
         CHECK(*sleepers(&file, cell) == 0 && *sleepers(&file, counter) == 0);
         orders++;
     } while (next_order());
+}
+
+static void nobody_is_left(uint64_t at, const struct pz_access *accesses, size_t size)
+{
+    memset(made, 0, sizeof made);
+    memcpy(made, accesses, size);
+    in_every_order(at, makes_them, 0);
 }
 
 int main(void)
@@ -139,13 +172,14 @@ int main(void)
                      waiters = {.kind = PZ_OR, .at = cell, .a = WAITERS};
     struct pz_access signal = {.kind = PZ_WAKE, .at = counter, .most = 1};
     struct pz_access move_all = {.kind = PZ_CMP_REQUEUE, .at = counter, .a = 8, .b = cell, .most = 64};
-    for (int i = 0; i < 2; i++) { /* the second time without futex_waitv */
+    nobody_is_left(counter, (struct pz_access[]){count, signal, release}, 3 * sizeof wake);
+    nobody_is_left(counter, (struct pz_access[]){count, waiters, move_all, release, wake}, 5 * sizeof wake);
+    for (no_waitv = 0; no_waitv < 2; no_waitv++) {
         nobody_is_left(cell, (struct pz_access[]){release, wake}, 2 * sizeof wake);
-        nobody_is_left(counter, (struct pz_access[]){count, signal, release}, 3 * sizeof wake);
-        nobody_is_left(counter, (struct pz_access[]){count, waiters, move_all, release, wake}, 5 * sizeof wake);
-        no_waitv = 1;
+        in_every_order(cell, unlocks, 0);
+        in_every_order(cell, unlocks, 1);
     }
     printf("sleepers: nobody was left asleep in any of %ld orders of instructions\n", orders);
-    CHECK(orders > 1000);
+    CHECK(orders > 20000);
     return 0;
 }
