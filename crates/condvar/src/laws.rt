@@ -15,13 +15,13 @@ pub fn accesses_are_there()
     ensures { AccessesAreThere }
 {}
 
-/// A broadcast moves sleepers, all of them, only to a cell that its thread owns and that has WAITERS, wakes none as it does, and finds the counter as it left it.
+/// A broadcast moves sleepers only to a cell that its thread owns and that has WAITERS, and finds the counter as it left it.
 pub fn moves_are_right()
     ensures { MovesAreRight }
 {}
 
 /// Whatever a call is answered, it wakes one sleeper of its mutex behind a wait's release that found `WAITERS`, and one of its condition variable where a signal counted; else it
-/// makes no wake, a broadcast in particular, which moves (and wakes nobody so: [`moves_are_right`]). (The lock that ends a wait is a call of `mutex`.)
+/// wakes nobody, a broadcast in particular, which moves. (The lock that ends a wait is a call of `mutex`.)
 pub fn wakes_are_right()
     ensures { WakesAreRight }
 {}

@@ -6,9 +6,9 @@
 //! robust list. A wait that is awake again takes its mutex by the program of a lock ([`mutex::Program::retaking`]). Whatever
 //! words an access at the cell or at the counter meets, it is a step of the mutex as POSIX sees it, or leaves it
 //! (`calls_are_right`, `accesses_are_there`, `points_are_permitted`). A broadcast moves sleepers only to a cell that its
-//! thread owns, and wakes none (`moves_are_right`), and what a call needs of the words stays while its thread owns the
-//! mutex (`needs_are_owned`). A wait's release and a signal make a wake of one sleeper, a broadcast makes none
-//! (`wakes_are_right`, `whole_calls_wake`). A whole call that returned, and not for a fault, had exactly its points (`whole_calls_are_right`,
+//! thread owns (`moves_are_right`), and what a call needs of the words stays while its thread owns the mutex
+//! (`needs_are_owned`). A wait's release and a signal wake one sleeper, a broadcast none (`wakes_are_right`,
+//! `whole_calls_wake`). A whole call that returned, and not for a fault, had exactly its points (`whole_calls_are_right`,
 //! `faults_are_told`).
 //! An [`Op`] is what a thread may call, on a mutex or on a condition variable.
 //!

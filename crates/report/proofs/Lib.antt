@@ -1,7 +1,11 @@
 mod Names
 mod Working
 mod Phases
+mod AllMeet
 mod Told
+mod Parts
+mod Passed
+mod Together
 mod Possible
 mod Servings
 mod Judged

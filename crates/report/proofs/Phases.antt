@@ -1,7 +1,6 @@
 -- Phases of real threads, thread by thread.
-use Rattle.std.proofs.Common.{◌≡◌, ◌≢◌, ◌⊎◌, inl, inr, ⊎_elim, ℕ, zero, suc, ◌+◌, ◌<◌, ◌≤◌, Some, List, [], ◌∷◌, ◌++◌, length, map, set, get_or, slice_get, Vec, refl, sym, ap, ◌∙◌, subst, arith, length-append, length-set, All, take, append-nil, append_assoc, Option, Bool, true, false, ◌==◌, if◌then◌else◌, Result, Ok, Err, IfOk}
+use Rattle.std.proofs.Common.{◌≡◌, ◌≢◌, ◌⊎◌, inl, inr, ⊎_elim, ℕ, zero, suc, ◌+◌, ◌<◌, ◌≤◌, Some, List, [], ◌∷◌, ◌++◌, length, map, set, get_or, slice_get, Vec, refl, sym, ap, ◌∙◌, subst, arith, length-append, length-set, All, take, append_assoc, Option, Bool, true, false, ◌==◌, if◌then◌else◌, Result, Ok, Err, IfOk}
 use Rattle.std.proofs.lemmas.List.{take_more, map-append}
-use Rattle.std.proofs.lemmas.List.Concat.{flat_map-append}
 use Rattle.std.proofs.lemmas.List.Elements.{All-append, All-head, All-tail}
 use Rattle.std.proofs.lemmas.Option.{get_or_from_slice_get, slice_get_within, slice_get-get_or, same_Some}
 use Rattle.std.specs.List.{flat_map}
@@ -27,9 +26,10 @@ use Rattle.threadbench.specs.Each.{EachWith}
 use Rattle.threadbench.specs.Jobs.{IsJobOf, IsDone, AreDone, LivesOn}
 use Rattle.threadbench.proofs.Living.{works_on as still_works}
 use Rattle.report.specs.declared.threads.Worker.{Worker}
-use Rattle.report.specs.Threads.{is_reaped, open_gate, ArePossible, IsRightPhase, calls_at, calls_in, calls_over, AreFirst, AreAssigned, AreGathered, HaveWorked, HaveMade, HaveReplies, IsCountOf, Works, WorksFrom}
+use Rattle.report.specs.Meetings.{is_reaped, HaveMet}
+use Rattle.report.specs.Threads.{open_gate, ArePossible, IsRightPhase, calls_at, calls_in, AreFirst, AreAssigned, AreGathered, HasPassed, HavePassed, HaveWorked, HaveMade, Works}
 use Rattle.report.proofs.Names.{mapped_at}
-use Rattle.report.proofs.Working.{as_many, done_works, works_none, works_on}
+use Rattle.report.proofs.Working.{done_works}
 
 -- ---- what stands at a place of a list
 
@@ -117,6 +117,10 @@ others_stay bs b before after n r' others count i past =
 
 -- ---- a phase, and all phases
 
+pub length_mapped : {A B : Type 0} (f : A → B) (xs : List A) → length (map f xs) ≡ length xs
+length_mapped f [] = refl
+length_mapped f (x ∷ xs) = ap suc (length_mapped f xs)
+
 pub some_at : {A : Type 0} (xs : List A) (i : ℕ) → i < length xs → (x : A) × (slice_get xs i ≡ Some x)
 some_at [] i lt = absurd (omega arith)
 some_at (x ∷ xs) zero lt = (x, refl)
@@ -196,9 +200,6 @@ worked w p vs vs' js ks rs rs' assigned before done gathered same = record {
       let r' = some_at rs' i (omega arith) in
       (worked_at w p vs vs' js ks rs rs' assigned before done gathered i u.0 (get_or vs' i d) r.0 r'.0 u.1 (slice_get-get_or vs' i d lt) r.1 r'.1).0
 
-over_more : (t : ℕ) (ps : List Phase) (p : Phase) → calls_over t (ps ++ p ∷ []) ≡ calls_over t ps ++ calls_in t p
-over_more t ps p = flat_map-append (calls_in t) ps (p ∷ []) ∙ ap (λ (cs : List Op). calls_over t ps ++ cs) (append-nil (calls_in t p))
-
 a_worker : (w : Words) (pass : WorkerPass) → LivesOn w pass → IsWorkerOf w pass
 a_worker w (Lives a) lives = lives
 a_worker w (Reaped d) lives = absurd lives
@@ -209,47 +210,31 @@ none_made w firsts rs live same empty = record {
   as_many = refl;
   as_long = same;
   right = λ i d lt. a_worker w (get_or firsts i d).pass (live i d lt);
-  each = λ i u v r is_u is_v is_r. let one : u ≡ v = same_Some u v (sym is_u ∙ is_v) in subst (λ (z : Worker). Works w [] u r.items z) one (subst (λ (xs : List Reply). Works w [] u xs u) (sym (all_at (λ x. x.items ≡ []) rs i r empty is_r)) (works_none w u (all_at (λ v. LivesOn w v.pass) firsts i u live is_u)));
+  none = rs;
+  each = same;
+  empty = empty;
+  passed = (refl, refl);
 }
 
-more_made : (w : Words) (ps : List Phase) (p : Phase) (firsts vs vs' : List Worker) (rs rs' : List (Vec Reply Global)) → HaveMade w ps firsts vs rs → HaveWorked w p vs vs' rs rs' → HaveMade w (ps ++ p ∷ []) firsts vs' rs'
-more_made w ps p firsts vs vs' rs rs' made worked = record {
-  as_many = worked.as_many ∙ made.as_many;
-  as_long = worked.as_long ∙ made.as_long;
-  right = worked.right;
-  each = each;
-} where
-  each : (i : ℕ) (u v : Worker) (r' : Vec Reply Global) → slice_get firsts i ≡ Some u → slice_get vs' i ≡ Some v → slice_get rs' i ≡ Some r' → Works w (calls_over (i + 1) (ps ++ p ∷ [])) u r'.items v
-  each i u v r' is_u is_v is_r' =
-      let low : i < length firsts = slice_get_within firsts i u is_u in
-      let many = made.as_many in
-      let long = made.as_long in
-      let q = some_at vs i (omega arith) in
-      let r = some_at rs i (omega arith) in
-      let more = worked.each i q.0 v r.0 r' q.1 is_v r.1 is_r' in
-      subst (λ (cs : List Op). Works w cs u r'.items v) (sym (over_more (i + 1) ps p)) (works_on w (calls_over (i + 1) ps) (calls_in (i + 1) p) u q.0 v r.0.items more.0 r'.items (made.each i u q.0 r.0 is_u q.1 r.1) more.1 more.2)
+passed_more : (w : Words) (ps : List Phase) (p : Phase) (us vs vs' : List Worker) (rs rs' rs'' : List (Vec Reply Global)) → HavePassed w ps us rs vs rs' → HasPassed w p vs vs' rs' rs'' → HavePassed w (ps ++ p ∷ []) us rs vs' rs''
+passed_more w [] p us vs vs' rs rs' rs'' passed h =
+    (vs', rs'', subst (λ (z : List Worker × List (Vec Reply Global)). HasPassed w p z.0 vs' z.1 rs'') (λ i. (sym passed.0 i, sym passed.1 i)) h, (refl, refl))
+passed_more w (q ∷ ps) p us vs vs' rs rs' rs'' passed h = (passed.0, passed.1, passed.2, passed_more w ps p passed.0 vs vs' passed.1 rs' rs'' passed.3 h)
+
+many_met : (w : Words) (vs met : List Worker) → HaveMet w vs met → length met ≡ length vs
+many_met w vs met m = sym (length_mapped (λ (z : Worker). z.die) met) ∙ ap length m.numbers ∙ length_mapped (λ (z : Worker). z.die) vs
 
 -- one phase more
-pub made_next : (w : Words) (ps : List Phase) (i : ℕ) (p : Phase) (firsts vs vs' : List Worker) (rs rs' : List (Vec Reply Global)) → i < length ps → p ≡ get_or ps i p → HaveMade w (take i ps) firsts vs rs → HaveWorked w p vs vs' rs rs' → HaveMade w (take (i + 1) ps) firsts vs' rs'
-made_next w ps i p firsts vs vs' rs rs' lt at made worked =
-    subst (λ (qs : List Phase). HaveMade w qs firsts vs' rs') (ap (λ (q : Phase). take i ps ++ q ∷ []) at ∙ sym (take_more ps i p lt)) (more_made w (take i ps) p firsts vs vs' rs rs' made worked)
-
-empty : {A : Type 0} (xs : List A) → length xs ≡ 0 → xs ≡ []
-empty [] none = refl
-empty (x ∷ xs) none = absurd (omega (arith, none))
-
--- one phase more, in which nobody has a job
-pub made_still : (w : Words) (ps : List Phase) (i : ℕ) (p : Phase) (firsts vs : List Worker) (rs : List (Vec Reply Global)) → i < length ps → p ≡ get_or ps i p → HaveMade w (take i ps) firsts vs rs → length p.jobs.items ≡ 0 → HaveMade w (take (i + 1) ps) firsts vs rs
-made_still w ps i p firsts vs rs lt at made none = record {
-  as_many = made.as_many;
-  as_long = made.as_long;
-  right = made.right;
-  each = λ t u v r is_u is_v is_r. subst (λ (cs : List Op). Works w cs u r.items v) (same (t + 1)) (made.each t u v r is_u is_v is_r);
-} where
-  same : (t : ℕ) → calls_over t (take i ps) ≡ calls_over t (take (i + 1) ps)
-  same t =
-      sym (append-nil (calls_over t (take i ps))) ∙ ap (λ (js : List Ordered). calls_over t (take i ps) ++ flat_map (calls_at t) js) (sym (empty p.jobs.items none)) ∙ sym (over_more t (take i ps) p)
-      ∙ ap (calls_over t) (ap (λ (q : Phase). take i ps ++ q ∷ []) at ∙ sym (take_more ps i p lt))
+pub made_next : (w : Words) (ps : List Phase) (i : ℕ) (p : Phase) (firsts vs vs' : List Worker) (rs rs' : List (Vec Reply Global)) → i < length ps → p ≡ get_or ps i p → HaveMade w (take i ps) firsts vs rs → HasPassed w p vs vs' rs rs' → HaveMade w (take (i + 1) ps) firsts vs' rs'
+made_next w ps i p firsts vs vs' rs rs' lt at made h = record {
+  as_many = many_met w h.worked vs' h.meeting ∙ h.work.as_many ∙ made.as_many;
+  as_long = h.work.as_long ∙ made.as_long;
+  right = h.meeting.right;
+  none = made.none;
+  each = made.each;
+  empty = made.empty;
+  passed = subst (λ (qs : List Phase). HavePassed w qs firsts made.none vs' rs') (ap (λ (q : Phase). take i ps ++ q ∷ []) at ∙ sym (take_more ps i p lt)) (passed_more w (take i ps) p firsts vs vs' made.none rs rs' made.passed h);
+}
 
 -- ---- the end
 
@@ -268,23 +253,6 @@ cards_more ps ps' p v left rest all more same first so_far =
 -- whether a thread died
 pub its_end : (vs : List Worker) (died : List Bool) (i : ℕ) (v : Worker) (d : Bool) → died ≡ map (λ v. is_reaped v.pass) vs → slice_get vs i ≡ Some v → slice_get died i ≡ Some d → is_reaped v.pass ≡ d
 its_end vs died i v d same is_v is_d = same_Some _ _ (sym (mapped_at (λ v. is_reaped v.pass) vs i v is_v) ∙ ap (λ (ds : List Bool). slice_get ds i) (sym same) ∙ is_d)
-
-count_from : (w : Words) (cs : List Op) (die : Option ℕ) (first second : WorkerPass) (left : Option ℕ) (rs : List Reply) → LivesOn w first → WorksFrom w cs die first rs (record { pass = second; die = left }) → IsCountOf (is_reaped second) (length rs) (length cs)
-count_from w cs die (Lives a) (Lives b) left rs lives works = as_many w (card a) cs rs b works.0
-count_from w cs die (Lives a) (Reaped d) left rs lives works = let last = works.0.stops.1 in slice_get_within cs (length rs) last.0 last.1
-count_from w cs die (Reaped a) second left rs lives works = absurd lives
-
--- calls that were made have their replies
-pub have_replies : (w : Words) (ps : List Phase) (firsts vs : List Worker) (rs : List (Vec Reply Global)) (died : List Bool) → All (λ v. LivesOn w v.pass) firsts → HaveMade w ps firsts vs rs → died ≡ map (λ v. is_reaped v.pass) vs → HaveReplies ps rs died
-have_replies w ps firsts vs rs died live made same i r d is_r is_d =
-    let low : i < length rs = slice_get_within rs i r is_r in
-    let many = made.as_many in
-    let long = made.as_long in
-    let u = some_at firsts i (omega arith) in
-    let v = some_at vs i (omega arith) in
-    let cs = calls_over (i + 1) ps in
-    subst (λ (b : Bool). IsCountOf b (length r.items) (length cs)) (its_end vs died i v.0 d same v.1 is_d)
-    (count_from w cs u.0.die u.0.pass v.0.pass v.0.die r.items (all_at (λ v. LivesOn w v.pass) firsts i u.0 live u.1) (made.each i u.0 v.0 r u.1 v.1 is_r))
 
 -- the first threads live
 pub firsts_live : (w : Words) (passes : List (Pass Live)) (dies : List (Option ℕ)) (firsts : List Worker) → AreFirst passes dies firsts → All (λ a. IsLive w a) passes → (i : ℕ) (d : Worker) → i < length firsts → LivesOn w (get_or firsts i d).pass

@@ -1,18 +1,15 @@
 -- What threads were told, and which of them died, stands in one history.
-use Rattle.std.proofs.Common.{◌≡◌, ◌≢◌, ◌⊎◌, inl, inr, ⊎_elim, ℕ, ◌+◌, ◌<◌, Bool, true, false, Option, Some, List, [], ◌∷◌, ◌++◌, length, map, take, get_or, slice_get, Vec, refl, sym, ap, ◌∙◌, subst, arith, append_assoc, append-nil}
+use Rattle.std.proofs.Common.{◌≡◌, ◌≢◌, ◌⊎◌, inl, inr, ⊎_elim, ℕ, ◌+◌, ◌<◌, Bool, true, false, Option, List, [], ◌∷◌, ◌++◌, length, take, get_or, refl, sym, ap, ◌∙◌, subst, arith, append_assoc, append-nil}
 use Rattle.std.specs.Prelude.{nat_le, MatchBool, ◌==◌, if◌then◌else◌}
-use Rattle.std.proofs.lemmas.Option.{slice_get_within}
 use mathlib.Core.Logic.{dite}
 use native.Mathlib.Decide.{ℕ_discrete}
-use Rattle.std.specs.declared.alloc.Global.{Global}
-use Rattle.lockword.specs.Cells.{fields_of}
 use Rattle.lockword.specs.declared.reply.Reply.{Reply}
 use Rattle.lockword.specs.declared.reply.Reply.TheVariants.{OK, XHELD}
 use Rattle.keys.specs.declared.point.Point.{Point}
 use Rattle.keys.specs.declared.point.Operation.{Operation}
 use Rattle.keys.specs.declared.point.Operation.TheVariants as operation
 use Rattle.keys.specs.Layouts.{Layout', cell_place, counter_place}
-use Rattle.keys.specs.Objects.{acquires, object_of}
+use Rattle.keys.specs.Objects.{acquires}
 use Rattle.facts.specs.Lives.{Act, Beginning, Complete}
 use Rattle.condvar.specs.declared.op.Op.{Op}
 use Rattle.condvar.specs.declared.op.Op.TheVariants.{OnMutex, OnCondition}
@@ -21,27 +18,22 @@ use Rattle.condvar.specs.Ops.{mutex_of, operation_of}
 use Rattle.mutex.specs.declared.call.Call.TheVariants.{Lock, TryLock, Unlock, Consistent}
 use Rattle.ruledwords.specs.declared.pass.Card.{Card}
 use Rattle.ruledwords.specs.declared.pass.Words.{Words}
-use Rattle.ruledwords.specs.declared.pass.Live.{Live}
-use Rattle.ruledwords.specs.declared.pass.Pass.{Pass}
 use Rattle.ruledwords.specs.Cards.{at}
 use Rattle.ruledwords.specs.ConditionStands.{CondEnded}
 use Rattle.ruledwords.specs.Counts.{cell_at, counter_in, total_of, Counted}
 use Rattle.ruledwords.specs.Deaths.{deaths, IsReaped}
 use Rattle.ruledwords.specs.OwnWords.{owns_in}
-use Rattle.ruledwords.specs.Passes.{card, layout_of, last_words, presets_of}
-use Rattle.ruledwords.specs.Rules.{first_card, IsAmong}
-use Rattle.ruledwords.specs.Seen.{by, held, held_after, points_of, Called, Died, Leaves}
-use Rattle.script.specs.declared.workload.Phase.{Phase}
+use Rattle.ruledwords.specs.Passes.{card, layout_of}
+use Rattle.ruledwords.specs.Seen.{by, held, held_after, points_of, Called, Died, Saw}
 use Rattle.threadbench.specs.declared.job.WorkerPass.{WorkerPass}
 use Rattle.threadbench.specs.declared.job.WorkerPass.TheVariants.{Lives, Reaped}
 use Rattle.threadbench.specs.Answered.{card_in, Answered, DiesIn, Replied}
 use Rattle.threadbench.specs.Conditions.{TookAgain}
 use Rattle.threadbench.specs.Jobs.{WasLost, Worked}
 use Rattle.report.specs.declared.threads.Worker.{Worker}
-use Rattle.report.specs.Histories.{AreTold, ArePointsOf, CountUp, StandTogether}
-use Rattle.report.specs.Threads.{calls_over, is_reaped, open_gate, AreFirst, HaveMade, HasEnded, WorksFrom}
-use Rattle.report.proofs.Names.{mapped_at}
-use Rattle.report.proofs.Phases.{some_at, all_at, its_end}
+use Rattle.report.specs.Histories.{AreTold, ArePointsBehind, CountUp}
+use Rattle.report.specs.Meetings.{is_reaped}
+use Rattle.report.specs.Threads.{open_gate, Works, WorksFrom}
 use Rattle.report.proofs.Working.{all_answered}
 
 -- what a call adds to the points that its own thread made at p: nothing, or all that it has
@@ -163,33 +155,110 @@ lost k m call t c d mine low was =
       walk ∙ ap (λ (l : List Point). l ++ deaths t p (held_after false l)) own,
     )
 
+-- ---- what a thread came to see
+
+-- behind what it had seen of the mutex whose cell is at p it has seen more
+abbrev pub Grew : Card → ℕ → Card → Type 0
+Grew c p d = (since : List Point) × (at d.seen p ≡ at c.seen p ++ since)
+
+saw_grew : (c d : Card) (place p : ℕ) (acts : List Act) → Saw c place acts d → Grew c p d
+saw_grew c d place p acts saw = dite (ℕ_discrete p place)
+    (λ here. subst (λ (z : ℕ). Grew c z d) (sym here) (saw.since, saw.grows))
+    (λ other. ([], saw.elsewhere p other ∙ sym (append-nil (at c.seen p))))
+
+same_grew : (c d : Card) (p : ℕ) → d ≡ c → Grew c p d
+same_grew c d p same = ([], ap (λ (z : Card). at z.seen p) same ∙ sym (append-nil (at c.seen p)))
+
+then_grew : (c d e : Card) (p : ℕ) → Grew c p d → Grew d p e → Grew c p e
+then_grew c d e p first later = (first.0 ++ later.0, later.1 ∙ ap (λ (l : List Point). l ++ later.0) first.1 ∙ append_assoc (at c.seen p) first.0 later.0)
+
+either_grew : (b : Bool) (c d : Card) (place p : ℕ) (r : Reply) (acts : List Act) → MatchBool b ((r ≡ XHELD) × (d ≡ c)) (Called c place acts d) → Grew c p d
+either_grew true c d place p r acts m = same_grew c d p m.1
+either_grew false c d place p r acts m = saw_grew c d place p acts m.saw
+
+replied_grew : (k : Layout') (a : Card) (call : Op) (r : Reply) (b : Card) (p : ℕ) → Replied k a call r b → Grew a p b
+replied_grew k a (OnMutex (Lock m)) r b p t = either_grew (nat_le 2048 (held a)) a b (cell_place k m) p r ((operation.Lock, r) ∷ []) t
+replied_grew k a (OnMutex (TryLock m)) r b p t = either_grew (nat_le 2048 (held a)) a b (cell_place k m) p r ((operation.TryLock, r) ∷ []) t.0
+replied_grew k a (OnMutex (Unlock m)) r b p t = saw_grew a b (cell_place k m) p ((operation.Unlock, r) ∷ []) t.saw
+replied_grew k a (OnMutex (Consistent m)) r b p t = saw_grew a b (cell_place k m) p ((operation.Consistent, r) ∷ []) t.saw
+replied_grew k a (OnCondition (Signal q)) r b p t = saw_grew a b (cell_at k q) p ((operation.Signal, r) ∷ []) t.called.saw
+replied_grew k a (OnCondition (Broadcast q)) r b p t = saw_grew a b (cell_at k q) p ((operation.Broadcast, r) ∷ []) t.called.saw
+replied_grew k a (OnCondition (Wait q)) r b p t = ⊎_elim
+    (λ (refused : CondEnded k q operation.Wait r a b). saw_grew a b (cell_at k q) p ((operation.Wait, r) ∷ []) refused.called.saw)
+    (λ (took : TookAgain k a q r b). saw_grew a b (cell_at k q) p ((operation.Unlock, OK) ∷ (operation.Lock, r) ∷ []) took.called.saw)
+    t
+
+answered_grew : (k : Layout') (p : ℕ) (a : Card) (cs : List Op) (rs : List Reply) (b : Card) → Answered k a cs rs b → Grew a p b
+answered_grew k p a [] [] b same = same_grew a b p (sym same)
+answered_grew k p a [] (r ∷ rs) b answered = absurd answered
+answered_grew k p a (c ∷ cs) [] b answered = absurd answered
+answered_grew k p a (c ∷ cs) (r ∷ rs) b answered = then_grew a answered.0 b p (replied_grew k a c r answered.0 p answered.1) (answered_grew k p answered.0 cs rs b answered.2)
+
+reaped_grew : (k : Layout') (m : ℕ) (dead d : Card) → m < k.mutexes → IsReaped k dead d → Grew dead (cell_place k m) d
+reaped_grew k m dead d low reaped = go (owns_in k dead m) refl where
+  go : (b : Bool) → owns_in k dead m ≡ b → Grew dead (cell_place k m) d
+  go true owns = let saw = (reaped.told m low owns).saw in (saw.since, saw.grows)
+  go false owns = ([], reaped.stays m low owns ∙ sym (append-nil (at dead.seen (cell_place k m))))
+
+pub worked_grew : (w : Words) (m : ℕ) (a : Card) (cs : List Op) (rs : List Reply) (pass : WorkerPass) → m < (layout_of w).mutexes → Worked w open_gate a cs rs pass → Grew a (cell_place (layout_of w) m) (card_in pass)
+worked_grew w m a cs rs (Lives b) low worked =
+    let p : ℕ = cell_place (layout_of w) m in
+    answered_grew (layout_of w) p a cs rs (card b) (all_answered w a cs rs b worked)
+worked_grew w m a cs rs (Reaped d) low worked =
+    let k : Layout' = layout_of w in
+    let p : ℕ = cell_place k m in
+    let next = worked.stops.1 in
+    let was = next.3 in
+    let died = died_of k worked.last next.0 was.dead was.died in
+    then_grew a worked.last (card d) p (answered_grew k p a (take (length rs) cs) rs worked.last worked.answered)
+    (then_grew worked.last was.dead (card d) p (saw_grew worked.last was.dead (cell_place k (mutex_of k next.0)) p died.acts died.saw) (reaped_grew k m was.dead (card d) low was.reaped))
+
+-- whose card it is
+thread_on : (w : Words) (t : ℕ) (a : Card) (cs : List Op) (rs : List Reply) (pass : WorkerPass) → a.thread ≡ t → Worked w open_gate a cs rs pass → (card_in pass).thread ≡ t
+thread_on w t a cs rs (Lives b) mine worked = (added (layout_of w) t 0 a cs rs (card b) mine (all_answered w a cs rs b worked)).0
+thread_on w t a cs rs (Reaped d) mine worked =
+    let next = worked.stops.1 in
+    let was = next.3 in
+    let died = died_of (layout_of w) worked.last next.0 was.dead was.died in
+    was.reaped.thread ∙ died.saw.thread ∙ (added (layout_of w) t 0 a (take (length rs) cs) rs worked.last mine worked.answered).0
+
+pub thread_stays : (w : Words) (calls : List Op) (u : Worker) (more : List Reply) (v : Worker) → Works w calls u more v → (card_in v.pass).thread ≡ (card_in u.pass).thread
+thread_stays w calls u more v works = from u.pass u.die works where
+  from : (pass : WorkerPass) (die : Option ℕ) → WorksFrom w calls die pass more v → (card_in v.pass).thread ≡ (card_in pass).thread
+  from (Lives a) die works = thread_on w (card a).thread (card a) calls more v.pass refl works.0
+  from (Reaped d) die works = ap (λ (z : WorkerPass). (card_in z).thread) works.0
+
 -- ---- all of them
 
--- the points of a thread, as far as it came
-points_from : (w : Words) (t m : ℕ) (a : Card) (cs : List Op) (rs : List Reply) (pass : WorkerPass) → m < (layout_of w).mutexes → a.thread ≡ t → by t (at a.seen (cell_place (layout_of w) m)) ≡ [] → Worked w open_gate a cs rs pass
-    → ((card_in pass).thread ≡ t) × ArePointsOf (layout_of w) t m cs rs (is_reaped pass) (by t (at (card_in pass).seen (cell_place (layout_of w) m)))
-points_from w t m a cs rs (Lives b) low mine none worked =
-    let p : ℕ = cell_place (layout_of w) m in
-    let did = added (layout_of w) t m a cs rs (card b) mine (all_answered w a cs rs b worked) in (
-      did.0,
-      subst (AreTold (layout_of w) t m cs rs) (sym (did.1.1 ∙ ap (λ (l : List Point). l ++ did.1.0) none)) did.1.2,
-    )
-points_from w t m a cs rs (Reaped d) low mine none worked =
-    let p : ℕ = cell_place (layout_of w) m in
-    let did = added (layout_of w) t m a (take (length rs) cs) rs worked.last mine worked.answered in
-    let own : by t (at worked.last.seen p) ≡ did.1.0 = did.1.1 ∙ ap (λ (l : List Point). l ++ did.1.0) none in
+-- the points of a thread, as far as it came, behind those that it had made
+pub points_behind : (w : Words) (t m : ℕ) (before : List Point) (a : Card) (cs : List Op) (rs : List Reply) (pass : WorkerPass) → m < (layout_of w).mutexes → a.thread ≡ t → by t (at a.seen (cell_place (layout_of w) m)) ≡ before → Worked w open_gate a cs rs pass
+    → ((card_in pass).thread ≡ t) × (xs : List Point) × (by t (at (card_in pass).seen (cell_place (layout_of w) m)) ≡ before ++ xs) × ArePointsBehind (layout_of w) t m before cs rs (is_reaped pass) xs
+points_behind w t m before a cs rs (Lives b) low mine had worked =
+    let did = added (layout_of w) t m a cs rs (card b) mine (all_answered w a cs rs b worked) in
+    (did.0, did.1.0, did.1.1 ∙ ap (λ (l : List Point). l ++ did.1.0) had, did.1.2)
+points_behind w t m before a cs rs (Reaped d) low mine had worked =
+    let k : Layout' = layout_of w in
+    let p : ℕ = cell_place k m in
+    let did = added k t m a (take (length rs) cs) rs worked.last mine worked.answered in
+    let answered : List Point = did.1.0 in
+    let own : by t (at worked.last.seen p) ≡ before ++ answered = did.1.1 ∙ ap (λ (l : List Point). l ++ answered) had in
     let next = worked.stops.1 in
-    let end = lost (layout_of w) m next.0 t worked.last (card d) did.0 low next.3 in (
+    let end = lost k m next.0 t worked.last (card d) did.0 low next.3 in
+    let some : List Point = points_of t p end.0 in
+    let dead : List Point → List Point = λ l. deaths t p (held_after false l) in
+    let on : by t (at worked.last.seen p) ++ some ≡ before ++ (answered ++ some) = ap (λ (l : List Point). l ++ some) own ∙ append_assoc before answered some in (
       end.3,
+      (answered ++ some) ++ dead (before ++ (answered ++ some)),
+      end.4 ∙ ap (λ (l : List Point). l ++ dead l) on ∙ append_assoc before (answered ++ some) (dead (before ++ (answered ++ some))),
       record {
         call = next.0;
         next = next.1;
-        answered = did.1.0;
+        answered = answered;
         told = did.1.2;
         acts = end.0;
         begun = end.1;
         elsewhere = end.2;
-        all = end.4 ∙ ap (λ (l : List Point). (l ++ points_of t p end.0) ++ deaths t p (held_after false (l ++ points_of t p end.0))) own;
+        all = refl;
       },
     )
 
@@ -202,44 +271,8 @@ same_total m (n ∷ ns) f g q same =
     (λ i. (if n == m then same q (omega arith) i else 0) + total_of m ns f (q + 1))
     ∙ ap (λ (x : ℕ). (if n == m then g q else 0) + x) (same_total m ns f g (q + 1) (λ i low. same i (omega (arith, low))))
 
-counted_up : (k : Layout') (presets ws counters : List ℕ) (js : List (List Point)) → ((q : ℕ) → q < length k.conditions → get_or counters q 0 ≡ get_or ws (counter_place k q) 0) → Counted k presets ws js → CountUp k presets counters js
+pub counted_up : (k : Layout') (presets ws counters : List ℕ) (js : List (List Point)) → ((q : ℕ) → q < length k.conditions → get_or counters q 0 ≡ get_or ws (counter_place k q) 0) → Counted k presets ws js → CountUp k presets counters js
 counted_up k presets ws counters js are counted = record {
   sums = λ m low. same_total m k.conditions (λ q. get_or counters q 0) (counter_in k ws) 0 (λ i few. are i (omega (arith, few))) ∙ counted.sums m low;
   still = λ q low none. are q low ∙ counted.still q low none;
 }
-
-pub together : (w : Words) (ps : List Phase) (passes : List (Pass Live)) (dies : List (Option ℕ)) (firsts workers : List Worker) (replies : List (Vec Reply Global)) (died : List Bool) (cells counters : List ℕ) (k : Layout') → ((i : ℕ) (a : Pass Live) → slice_get passes i ≡ Some a → card a ≡ first_card k (i + 1)) → AreFirst passes dies firsts → HaveMade w ps firsts workers replies → died ≡ map (λ v. is_reaped v.pass) workers → HasEnded w workers cells counters
-    → StandTogether (layout_of w) (λ t. calls_over t ps) (presets_of w) replies died cells counters
-together w ps passes dies firsts workers replies died cells counters k cards numbers made same ended = record {
-  histories = ended.ends.histories;
-  legal = λ m low. subst (λ (v : ℕ). Leaves (layout_of w).threads (cell_place (layout_of w) m) (at ended.ends.histories (cell_place (layout_of w) m)) (object_of (fields_of v))) (sym (cell_is m low)) (ended.ends.leaves m low);
-  told = told_at;
-  counted = counted_up (layout_of w) (presets_of w) (last_words ended.last) counters ended.ends.histories counter_is ended.ends.counted;
-} where
-  cell_is : (m : ℕ) → m < (layout_of w).mutexes → get_or cells m 0 ≡ get_or (last_words ended.last) (cell_place (layout_of w) m) 0
-  cell_is m low = subst (λ (k : Layout'). m < k.mutexes → get_or cells m 0 ≡ get_or (last_words ended.last) (cell_place k m) 0) ended.same (ended.words.each m) low
-
-  counter_is : (q : ℕ) → q < length (layout_of w).conditions → get_or counters q 0 ≡ get_or (last_words ended.last) (counter_place (layout_of w) q) 0
-  counter_is q low = subst (λ (k : Layout'). q < length k.conditions → get_or counters q 0 ≡ get_or (last_words ended.last) (counter_place k q) 0) ended.same (ended.counts.each q) low
-
-  told_at : (i : ℕ) (r : Vec Reply Global) (d : Bool) (m : ℕ) → slice_get replies i ≡ Some r → slice_get died i ≡ Some d → m < (layout_of w).mutexes
-      → ArePointsOf (layout_of w) (i + 1) m (calls_over (i + 1) ps) r.items d (by (i + 1) (at ended.ends.histories (cell_place (layout_of w) m)))
-  told_at i r d m is is_d low =
-      let p : ℕ = cell_place (layout_of w) m in
-      let js : List (List Point) = ended.ends.histories in
-      let cs : List Op = calls_over (i + 1) ps in
-      let within : i < length replies = slice_get_within replies i r is in
-      let many = made.as_many in
-      let long = made.as_long in
-      let few = numbers.as_many in
-      let a = some_at passes i (omega arith) in
-      let u = some_at firsts i (omega arith) in
-      let v = some_at workers i (omega arith) in
-      let first = cards i a.0 a.1 in
-      let own = all_at (IsAmong js) (map (λ (z : Worker). card_in z.pass) workers) i (card_in v.0.pass) ended.ends.among (mapped_at (λ (z : Worker). card_in z.pass) workers i v.0 v.1) in
-      let works = subst (λ (z : WorkerPass). WorksFrom w cs u.0.die z r.items v.0) (numbers.each i a.0 u.0 a.1 u.1).0 (made.each i u.0 v.0 r u.1 v.1 is) in
-      let none : by (i + 1) (at (card a.0).seen p) ≡ [] = ap (λ (c : Card). by (i + 1) (at c.seen p)) first in
-      let points = points_from w (i + 1) m (card a.0) cs r.items v.0.pass low (ap (λ (c : Card). c.thread) first) none works.0 in
-      let histories : by (i + 1) (at js p) ≡ by (i + 1) (at (card_in v.0.pass).seen p) = subst (λ (t : ℕ). by t (at js p) ≡ by t (at (card_in v.0.pass).seen p)) points.0 (own.own p) in
-      subst (λ (b : Bool). ArePointsOf (layout_of w) (i + 1) m cs r.items b (by (i + 1) (at js p))) (its_end workers died i v.0 d same v.1 is_d)
-      (subst (λ (xs : List Point). ArePointsOf (layout_of w) (i + 1) m cs r.items (is_reaped v.0.pass) xs) (sym histories) points.1)

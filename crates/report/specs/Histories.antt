@@ -1,6 +1,7 @@
 -- One history of each mutex, in which all threads' replies stand.
-use Rattle.std.specs.Prelude.{ℕ, Bool, true, false, ◌≡◌, ◌≢◌, ◌+◌, ◌<◌, ◌⊎◌, List, [], ◌∷◌, ◌++◌, Vec, Some, length, slice_get, slice_index, take}
+use Rattle.std.specs.Prelude.{ℕ, Bool, true, false, ◌≡◌, ◌≢◌, ◌+◌, ◌<◌, ◌⊎◌, ◌||◌, List, [], ◌∷◌, ◌++◌, Vec, Some, length, slice_get, slice_index, take}
 use Rattle.std.specs.declared.alloc.Global.{Global}
+use Rattle.std.specs.List.{flat_map}
 use Rattle.lockword.specs.Cells.{fields_of}
 use Rattle.lockword.specs.declared.reply.Reply.{Reply}
 use Rattle.lockword.specs.declared.reply.Reply.TheVariants.{XHELD}
@@ -25,9 +26,9 @@ AreTold k t m (c ∷ cs) (r ∷ rs) xs =
 AreTold k t m [] (r ∷ rs) xs = ⊥
 AreTold k t m (c ∷ cs) [] xs = ⊥
 
--- the points that thread t made of mutex m and that died before it answered all its calls: those of the calls that were answered, and then, if the next call is on this mutex or on a condition variable of it, all that it has or
--- some of the first. If the thread held the mutex then, its death as the mutex's owner comes last
-pub record AreLastWords (k : Layout') (t m : ℕ) (calls : List Op) (replies : List Reply) (xs : List Point) : Type 0 where
+-- the points that thread t made of mutex m, behind its earlier ones, and that died before it answered all these calls: those of the calls that were answered, and then, if the next call is on this mutex or on a condition variable of
+-- it, all that it has or some of the first. If the thread held the mutex then, its death as the mutex's owner comes last
+pub record AreLastWordsBehind (k : Layout') (t m : ℕ) (earlier : List Point) (calls : List Op) (replies : List Reply) (xs : List Point) : Type 0 where
   pub call : Op
   pub next : slice_get calls (length replies) ≡ Some call
   pub answered : List Point
@@ -35,12 +36,16 @@ pub record AreLastWords (k : Layout') (t m : ℕ) (calls : List Op) (replies : L
   pub acts : List Act
   pub begun : mutex_of k call ≡ m → Beginning (operation_of call) acts
   pub elsewhere : mutex_of k call ≢ m → acts ≡ []
-  pub all : xs ≡ (answered ++ points_of t (cell_place k m) acts) ++ deaths t (cell_place k m) (held_after false (answered ++ points_of t (cell_place k m) acts))
+  pub all : xs ≡ (answered ++ points_of t (cell_place k m) acts) ++ deaths t (cell_place k m) (held_after false (earlier ++ (answered ++ points_of t (cell_place k m) acts)))
 
 -- whether the thread died or not
+abbrev pub ArePointsBehind : Layout' → ℕ → ℕ → List Point → List Op → List Reply → Bool → List Point → Type 0
+ArePointsBehind k t m earlier calls replies true xs = AreLastWordsBehind k t m earlier calls replies xs
+ArePointsBehind k t m earlier calls replies false xs = AreTold k t m calls replies xs
+
+-- all points that it made
 abbrev pub ArePointsOf : Layout' → ℕ → ℕ → List Op → List Reply → Bool → List Point → Type 0
-ArePointsOf k t m calls replies true xs = AreLastWords k t m calls replies xs
-ArePointsOf k t m calls replies false xs = AreTold k t m calls replies xs
+ArePointsOf k t m calls replies died xs = ArePointsBehind k t m [] calls replies died xs
 
 -- the counters of condition variables that began with these values: those of a mutex, added up, are what they were at first, and one more for each signal or broadcast of its history that was answered OK. Where there is none, each
 -- is what it was
@@ -48,11 +53,55 @@ pub record CountUp (k : Layout') (presets counters : List ℕ) (histories : List
   pub sums : (m : ℕ) → m < k.mutexes → total_of m k.conditions (slice_index counters) 0 ≡ total_of m k.conditions (slice_index presets) 0 + counts_in (at histories (cell_place k m))
   pub still : (q : ℕ) → q < length k.conditions → counts_in (at histories (cell_at k q)) ≡ 0 → slice_index counters q ≡ slice_index presets q
 
+-- ---- phases
+
+-- how many replies a thread has for so many calls: as many where it lives, and fewer where it died
+abbrev pub IsCountOf : Bool → ℕ → ℕ → Type 0
+IsCountOf true replies calls = replies < calls
+IsCountOf false replies calls = replies ≡ calls
+
+-- what a phase adds: what thread i + 1 was replied in it, and whether it died in it; and the points of each mutex
+pub record Part : Type 0 where
+  pub replies : ℕ → List Reply
+  pub died : ℕ → Bool
+  pub points : ℕ → List Point
+
+-- what a phase adds of thread i + 1, with these calls in it, where these points of each mutex stand before the phase: the points of its calls, in their order and with the replies that it was given. One that had died adds nothing
+abbrev pub TakesPart : Layout' → ℕ → Bool → (ℕ → List Point) → List Op → List Reply → Bool → (ℕ → List Point) → Type 0
+TakesPart k i true earlier calls replies died points = (replies ≡ []) × (died ≡ false) × ((m : ℕ) → m < k.mutexes → by (i + 1) (points m) ≡ [])
+TakesPart k i false earlier calls replies died points =
+    IsCountOf died (length replies) (length calls)
+    × ((m : ℕ) → m < k.mutexes → ArePointsBehind k (i + 1) m (by (i + 1) (earlier m)) calls replies died (by (i + 1) (points m)))
+
+-- what phases add, one after the other, in which threads have these calls. Some had died before, and these points stand before the first phase
+abbrev pub AreParts : Layout' → (ℕ → Bool) → (ℕ → List Point) → List (ℕ → List Op) → List Part → Type 0
+AreParts k gone earlier [] [] = Unit {0}
+AreParts k gone earlier (calls ∷ phases) (q ∷ parts) =
+    ((i : ℕ) → i < k.threads → TakesPart k i (gone i) earlier (calls (i + 1)) (q.replies i) (q.died i) q.points)
+    × AreParts k (λ i. gone i || q.died i) (λ m. earlier m ++ q.points m) phases parts
+AreParts k gone earlier [] (q ∷ parts) = ⊥
+AreParts k gone earlier (calls ∷ phases) [] = ⊥
+
+abbrev pub some_died : ℕ → List Part → Bool
+some_died i [] = false
+some_died i (q ∷ parts) = q.died i || some_died i parts
+
+-- the phases stand in their order: the history of each mutex has all points of a phase before those of the next, and each thread's replies are those of the phases, one after the other
+pub record StandInOrder (k : Layout') (phases : List (ℕ → List Op)) (replies : List (Vec Reply Global)) (died : List Bool) (histories : List (List Point)) : Type 0 where
+  pub parts : List Part
+  pub are : AreParts k (λ i. false) (λ m. []) phases parts
+  pub history : (m : ℕ) → m < k.mutexes → at histories (cell_place k m) ≡ flat_map (λ q. q.points m) parts
+  pub answered : (i : ℕ) (r : Vec Reply Global) → slice_get replies i ≡ Some r → r.items ≡ flat_map (λ q. q.replies i) parts
+  pub dead : (i : ℕ) (d : Bool) → slice_get died i ≡ Some d → d ≡ some_died i parts
+
+-- ---- all of it
+
 -- what threads with these calls were told, which of them died, and what is left: each mutex has one legal history of points of these threads, after which it is as its word says, and of each thread it has just
 -- the points of that thread's calls, and its death where it died as the owner. The counters count the signals and the broadcasts of these histories
-pub record StandTogether (k : Layout') (calls : ℕ → List Op) (presets : List ℕ) (replies : List (Vec Reply Global)) (died : List Bool) (cells counters : List ℕ) : Type 0 where
+pub record StandTogether (k : Layout') (calls : ℕ → List Op) (phases : List (ℕ → List Op)) (presets : List ℕ) (replies : List (Vec Reply Global)) (died : List Bool) (cells counters : List ℕ) : Type 0 where
   pub histories : List (List Point)
   pub legal : (m : ℕ) → m < k.mutexes → Leaves k.threads (cell_place k m) (at histories (cell_place k m)) (object_of (fields_of (slice_index cells m)))
   pub told : (i : ℕ) (r : Vec Reply Global) (d : Bool) (m : ℕ) → slice_get replies i ≡ Some r → slice_get died i ≡ Some d → m < k.mutexes
       → ArePointsOf k (i + 1) m (calls (i + 1)) r.items d (by (i + 1) (at histories (cell_place k m)))
   pub counted : CountUp k presets counters histories
+  pub in_order : StandInOrder k phases replies died histories

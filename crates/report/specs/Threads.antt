@@ -1,5 +1,5 @@
 -- A script's calls on real threads.
-use Rattle.std.specs.Prelude.{ℕ, ◌≡◌, ◌+◌, ◌<◌, Bool, true, false, Option, None, Some, List, [], ◌++◌, length, map, slice_index, All, Vec, slice_get, ◌==◌, if◌then◌else◌}
+use Rattle.std.specs.Prelude.{ℕ, ◌≡◌, ◌+◌, ◌<◌, Bool, true, Option, None, Some, List, [], ◌∷◌, ◌++◌, length, map, slice_index, All, Vec, slice_get, ◌==◌, if◌then◌else◌}
 use Rattle.std.specs.declared.alloc.Global.{Global}
 use Rattle.std.specs.List.{flat_map}
 use Rattle.keys.specs.Layouts.{Layout', cell_place, counter_place}
@@ -21,7 +21,8 @@ use Rattle.threadbench.specs.declared.job.WorkerPass.TheVariants.{Lives, Reaped}
 use Rattle.threadbench.specs.Answered.{card_in, IsWorkerOf}
 use Rattle.threadbench.specs.Jobs.{IsLeftOf, Worked}
 use Rattle.report.specs.declared.threads.Worker.{Worker}
-use Rattle.report.specs.Histories.{StandTogether}
+use Rattle.report.specs.Histories.{IsCountOf, StandTogether}
+use Rattle.report.specs.Meetings.{is_reaped, HaveMet}
 
 -- calls on the layout's mutexes and condition variables
 abbrev pub ArePossible : Layout' → Vec Op Global → Type 0
@@ -56,10 +57,6 @@ WorksFrom w calls die (Reaped d) rs v = (v.pass ≡ Reaped d) × (rs ≡ []) × 
 abbrev pub Works : Words → List Op → Worker → List Reply → Worker → Type 0
 Works w calls u rs v = WorksFrom w calls u.die u.pass rs v
 
-abbrev pub is_reaped : WorkerPass → Bool
-is_reaped (Lives p) = false
-is_reaped (Reaped p) = true
-
 -- each pass and its thread's number, before the first phase
 pub record AreFirst (passes : List (Pass Live)) (dies : List (Option ℕ)) (workers : List Worker) : Type 0 where
   pub as_many : length workers ≡ length passes
@@ -83,12 +80,26 @@ pub record HaveWorked (w : Words) (p : Phase) (workers after : List Worker) (rep
   pub right : All (λ v. IsWorkerOf w v.pass) after
   pub each : (i : ℕ) (u v : Worker) (r r' : Vec Reply Global) → slice_get workers i ≡ Some u → slice_get after i ≡ Some v → slice_get replies i ≡ Some r → slice_get replies' i ≡ Some r' → (more : List Reply) × (r'.items ≡ r.items ++ more) × Works w (calls_in (i + 1) p) u more v
 
+-- a phase: the threads made their calls in it, and were answered so, and then all met
+pub record HasPassed (w : Words) (p : Phase) (workers met : List Worker) (replies replies' : List (Vec Reply Global)) : Type 0 where
+  pub worked : List Worker
+  pub work : HaveWorked w p workers worked replies replies'
+  pub meeting : HaveMet w worked met
+
+-- phases, one after the other, from threads with these replies on
+abbrev pub HavePassed : Words → List Phase → List Worker → List (Vec Reply Global) → List Worker → List (Vec Reply Global) → Type 0
+HavePassed w [] workers replies after replies' = (workers ≡ after) × (replies ≡ replies')
+HavePassed w (p ∷ ps) workers replies after replies' = (met : List Worker) × (more : List (Vec Reply Global)) × HasPassed w p workers met replies more × HavePassed w ps met more after replies'
+
 -- from the first phase on, the threads made their calls in these phases, and were answered so
 pub record HaveMade (w : Words) (ps : List Phase) (firsts workers : List Worker) (replies : List (Vec Reply Global)) : Type 0 where
   pub as_many : length workers ≡ length firsts
   pub as_long : length replies ≡ length firsts
   pub right : All (λ v. IsWorkerOf w v.pass) workers
-  pub each : (i : ℕ) (u v : Worker) (r : Vec Reply Global) → slice_get firsts i ≡ Some u → slice_get workers i ≡ Some v → slice_get replies i ≡ Some r → Works w (calls_over (i + 1) ps) u r.items v
+  pub none : List (Vec Reply Global)
+  pub each : length none ≡ length firsts
+  pub empty : All (λ r. r.items ≡ []) none
+  pub passed : HavePassed w ps firsts none workers replies
 
 -- the words of all cells, that of mutex 0 first
 pub record AreCells (l : Last) (cells : List ℕ) : Type 0 where
@@ -124,12 +135,7 @@ pub record HaveAnswered (k : Layout') (presets : List ℕ) (ps : List Phase) (di
   pub made : HaveMade words ps firsts workers replies
   pub dead : died ≡ map (λ v. is_reaped v.pass) workers
   pub ended : HasEnded words workers cells counters
-  pub together : StandTogether (layout_of words) (λ t. calls_over t ps) presets replies died cells counters
-
--- how many replies a thread has for so many calls: as many where it lives, and fewer where it died
-abbrev pub IsCountOf : Bool → ℕ → ℕ → Type 0
-IsCountOf true replies calls = replies < calls
-IsCountOf false replies calls = replies ≡ calls
+  pub together : StandTogether (layout_of words) (λ t. calls_over t ps) (map (λ p. λ t. calls_in t p) ps) presets replies died cells counters
 
 abbrev pub HaveReplies : List Phase → List (Vec Reply Global) → List Bool → Type 0
 HaveReplies ps replies died = (i : ℕ) (r : Vec Reply Global) (d : Bool) → slice_get replies i ≡ Some r → slice_get died i ≡ Some d → IsCountOf d (length r.items) (length (calls_over (i + 1) ps))

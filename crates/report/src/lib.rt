@@ -27,6 +27,7 @@
 
 mod answers;
 mod judging;
+mod meeting;
 mod messages;
 mod program;
 mod serving;

@@ -4,8 +4,10 @@ ghost use Rattle.ruledwords.specs.Passes.{card, layout_of, last_layout, IsPassOf
 ghost use Rattle.script.specs.Playing.{counters_of, layout_of as layout_in};
 ghost use Rattle.threadbench.specs.Answered.{card_in, IsWorkerOf};
 ghost use Rattle.threadbench.specs.Jobs.{LivesOn};
-ghost use Rattle.report.specs.Threads.{is_reaped, IsRightPhase, AreRightPhases, calls_in, AreFirst, AreAssigned, AreGathered, AreCells, AreCounters, HaveWorked, HaveMade, HasEnded, HaveAnswered, HaveReplies};
+ghost use Rattle.report.specs.Meetings.{is_reaped};
+ghost use Rattle.report.specs.Threads.{IsRightPhase, AreRightPhases, calls_in, AreFirst, AreAssigned, AreGathered, AreCells, AreCounters, HaveWorked, HasPassed, HaveMade, HasEnded, HaveAnswered, HaveReplies};
 
+use crate::meeting::meet;
 use condvar::Op;
 use keys::NoMem;
 use lockword::Reply;
@@ -28,8 +30,8 @@ pub(crate) struct Answers {
 /// A thread between two phases: its pass, and what is left of the number before which of its accesses it dies.
 #[derive(Drop)]
 pub(crate) struct Worker {
-    pass: WorkerPass,
-    die: Option<u32>,
+    pub(crate) pass: WorkerPass,
+    pub(crate) die: Option<u32>,
 }
 
 /// The threads before the first phase.
@@ -125,7 +127,28 @@ fn run_phase<R: Threads + Wait + Sync>(
     }
 }
 
-/// Works all phases. One without jobs is passed over.
+/// Works a phase, at whose end all threads meet.
+fn pass_phase<R: Threads + Wait + Sync>(
+    rt: &R,
+    alloc: Global,
+    bench: &Bench,
+    phase: &Phase,
+    workers: Vec<Worker>,
+    replies: &mut Vec<Vec<Reply>>,
+) -> Result<Vec<Worker>, NoMem>
+    requires possible { IsRightPhase (layout_of bench.now) phase.now }
+    requires right { All (λ v. IsWorkerOf bench.now v.pass) workers.items }
+    requires as_many { length replies.old.items ≡ length workers.items }
+    ensures { IfOk result (λ met. HasPassed bench.now phase.now workers.items met.items replies.old.items replies.new.items) }
+{
+    let worked = run_phase(rt, alloc, bench, phase, workers, replies)?;
+    match meet(alloc, bench, worked) {
+        Ok(met) => Ok(met),
+        Err(_) => Err(NoMem),
+    }
+}
+
+/// Works all phases.
 fn run_phases<R: Threads + Wait + Sync>(
     rt: &R,
     alloc: Global,
@@ -142,9 +165,7 @@ fn run_phases<R: Threads + Wait + Sync>(
 {
     let mut workers = workers;
     for phase in phases {
-        if !phase.jobs.is_empty() {
-            workers = run_phase(rt, alloc, bench, phase, workers, replies)?;
-        }
+        workers = pass_phase(rt, alloc, bench, phase, workers, replies)?;
     }
     Ok(workers)
 }

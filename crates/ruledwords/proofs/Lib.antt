@@ -7,6 +7,8 @@ pub mod Keepers
 mod Moves
 mod Hands
 mod Gathering
+mod AllMeet
+mod Behind
 mod Steps
 mod Turned
 pub mod Exchanges

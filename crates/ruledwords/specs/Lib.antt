@@ -10,6 +10,8 @@ pub mod Passes
 pub mod Looks
 pub mod Found
 pub mod Gathered
+pub mod Meetings
+pub mod Aways
 pub mod Calls
 pub mod Conditions
 pub mod Walks

@@ -147,7 +147,7 @@ impl Words {
     }
 
     /// One seat more.
-    fn joined<A>(&self, seat: Option<Seat<(), View>>, pass: Pass<A>) -> Seat<(), View>
+    pub(crate) fn joined<A>(&self, seat: Option<Seat<(), View>>, pass: Pass<A>) -> Seat<(), View>
         requires seat { IfSome seat (λ s. s.table_id ≡ self.now.places.table.shared.table_id) }
         requires pass { IsPassOf self.now pass }
         ensures { (cards : List Card) → HaveCome self.now cards seat → HaveCome self.now (cards ++ card pass ∷ []) (Some result) }

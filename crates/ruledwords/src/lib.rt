@@ -10,11 +10,14 @@
 #![tactic(auto)]
 
 mod access;
+mod away;
 mod calls;
 mod close;
 mod condition;
 mod counter;
 mod fate;
+mod laws;
+mod meeting;
 mod open;
 mod pass;
 mod rule;
@@ -25,7 +28,8 @@ mod walk;
 
 pub use counter::CounterWord;
 pub use fate::{Fate, Never, either_stops};
-pub use pass::{Card, Dead, Last, Live, Pass, Reaped, Spent, Words};
+pub use laws::meetings_order_calls;
+pub use pass::{Card, Dead, EitherPass, Last, Live, Pass, Reaped, Spent, Words};
 pub use turn::{
     CondRunning, CondTurn, Outcome, Owed, Reaping, Released, Running, Stretch, Turn, Wakes, Walked,
 };

@@ -53,6 +53,13 @@ pub struct Pass<A> {
     pub ghost few: { held ≤ held_limit },
 }
 
+/// A pass of one of two kinds, as of a thread that lives and of one that was reaped.
+#[derive(Drop)]
+pub enum EitherPass<A, B> {
+    First(Pass<A>),
+    Second(Pass<B>),
+}
+
 /// The words after the last step.
 #[derive(Drop)]
 pub struct Last {

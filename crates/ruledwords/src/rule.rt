@@ -27,6 +27,15 @@ impl Play<(), View> for Meet {
     ghost then = { met };
 }
 
+/// A load by a seat that has the cards of all threads that meet.
+pub(crate) struct MeetAll;
+
+impl Play<(), View> for MeetAll {
+    ghost use Rattle.ruledwords.specs.Meetings.{met_all};
+
+    ghost then = { met_all };
+}
+
 /// A load of a cell, by which nothing is seen anew.
 pub(crate) struct Look;
 

@@ -8,6 +8,8 @@ mod exits;
 #[cfg(test)]
 mod fates;
 #[cfg(test)]
+mod meetings;
+#[cfg(test)]
 mod passes;
 #[cfg(test)]
 mod two;

@@ -1,4 +1,4 @@
-use Rattle.std.proofs.Common.{◌≡◌, ◌+◌, ℕ, length, sym, ap, ◌∙◌, subst, List, Option, Some, Vec, slice_get}
+use Rattle.std.proofs.Common.{◌≡◌, ◌≤◌, ◌+◌, ℕ, length, map, sym, ap, ◌∙◌, subst, List, Option, Some, Vec, slice_get}
 use Rattle.std.specs.declared.alloc.Global.{Global}
 use Rattle.lockword.specs.declared.reply.Reply.{Reply}
 use Rattle.keys.specs.Layouts.{Layout'}
@@ -10,9 +10,9 @@ use Rattle.script.specs.declared.workload.Phase.{Phase}
 use Rattle.script.specs.Playing.{counters_of}
 use Rattle.script.proofs.Names.{length-map_of}
 use Rattle.report.specs.Histories.{StandTogether}
-use Rattle.report.specs.Threads.{calls_over, AreFirst, HaveMade, HaveReplies}
-use Rattle.report.proofs.Phases.{firsts_live, have_replies}
-use Rattle.report.proofs.Told.{together}
+use Rattle.report.specs.Threads.{calls_in, calls_over, AreFirst, HaveMade}
+use Rattle.report.proofs.Phases.{firsts_live}
+use Rattle.report.proofs.Together.{together, replied}
 use Rattle.report.proofs.threads.answers_of.Goals as goal
 
 pub new-requires : goal.new-requires
@@ -44,7 +44,9 @@ returns-in-Ok-end-clause-answered g c =
     let numbers = subst (λ (ns : List (Option ℕ)). AreFirst c.in_ok-bench.passes.items ns c.in-Ok-workers_of.workers.items) c.as_slice-2.ensures.value c.in-Ok-workers_of.ensures in
     let phased = subst (λ (ps : List Phase). HaveMade bench ps c.in-Ok-workers_of.workers.items c.in_ok-workers.workers.items c.run_phases.new.replies.items) c.as_slice-phases.ensures.value c.in_ok-workers.ensures in
     let made = subst (λ (rs : List (Vec Reply Global)). HaveMade bench c.args.jobs.phases.items c.in-Ok-workers_of.workers.items c.in_ok-workers.workers.items rs) (sym same) phased in
-    let stand = together bench _ c.in_ok-bench.passes.items _ c.in-Ok-workers_of.workers.items c.in_ok-workers.workers.items a.replies.items a.died.items a.cells.items a.counters.items (layout_of bench) cards numbers made c.in-Ok-end.ensures.died c.in-Ok-end.ensures.ended in
+    let well = c.threads.ensures.well_formed in
+    let some : 1 ≤ (layout_of bench).threads = subst (λ (l : Layout'). 1 ≤ l.threads) (sym (c.in_ok-bench.ensures.layout ∙ c.layout-layout.ensures)) well.some_thread in
+    let stand = together bench _ c.in_ok-bench.passes.items _ c.in-Ok-workers_of.workers.items c.in_ok-workers.workers.items a.replies.items a.died.items a.cells.items a.counters.items (layout_of bench) cards numbers made c.in-Ok-end.ensures.died c.in-Ok-end.ensures.ended (c.in_ok-bench.ensures.passes ∙ ap (λ (l : Layout'). l.threads) (sym c.in_ok-bench.ensures.layout)) some in
     record {
       words = bench;
       layout = c.in_ok-bench.ensures.layout ∙ c.layout-layout.ensures;
@@ -58,13 +60,21 @@ returns-in-Ok-end-clause-answered g c =
       made = made;
       dead = c.in-Ok-end.ensures.died;
       ended = c.in-Ok-end.ensures.ended;
-      together = subst (λ (ns : List ℕ). StandTogether (layout_of bench) (λ t. calls_over t c.args.jobs.phases.items) ns a.replies.items a.died.items a.cells.items a.counters.items) begins stand;
+      together = subst (λ (ns : List ℕ). StandTogether (layout_of bench) (λ t. calls_over t c.args.jobs.phases.items) (map (λ p. λ t. calls_in t p) c.args.jobs.phases.items) ns a.replies.items a.died.items a.cells.items a.counters.items) begins stand;
     }
 
 pub returns-in-Ok-end-clause-each : goal.returns-in-Ok-end-clause-each
 returns-in-Ok-end-clause-each g c =
-    let live = firsts_live c.in_ok-bench.bench c.in_ok-bench.passes.items c.as_slice-2.result.now c.in-Ok-workers_of.workers.items c.in-Ok-workers_of.ensures c.in_ok-bench.ensures.each in
+    let bench = c.in_ok-bench.bench in
     let a = c.in-Ok-end.answers in
     let same : a.replies.items ≡ c.run_phases.new.replies.items = ap (λ (v : Vec (Vec Reply Global) Global). v.items) c.in-Ok-end.ensures.replies in
-    let each = have_replies c.in_ok-bench.bench c.as_slice-phases.result.now c.in-Ok-workers_of.workers.items c.in_ok-workers.workers.items c.run_phases.new.replies.items a.died.items live c.in_ok-workers.ensures c.in-Ok-end.ensures.died in
-    subst (λ (rs : List (Vec Reply Global)). HaveReplies c.args.jobs.phases.items rs a.died.items) (sym same) (subst (λ (ps : List Phase). HaveReplies ps c.run_phases.new.replies.items a.died.items) c.as_slice-phases.ensures.value each)
+    let cards : (i : ℕ) (a : Pass Live) → slice_get c.in_ok-bench.passes.items i ≡ Some a → card a ≡ first_card (layout_of bench) (i + 1) =
+    λ i a is. c.in_ok-bench.ensures.cards i a is ∙ ap (λ (k : Layout'). first_card k (i + 1)) (sym c.in_ok-bench.ensures.layout)
+    in
+    let numbers = subst (λ (ns : List (Option ℕ)). AreFirst c.in_ok-bench.passes.items ns c.in-Ok-workers_of.workers.items) c.as_slice-2.ensures.value c.in-Ok-workers_of.ensures in
+    let phased = subst (λ (ps : List Phase). HaveMade bench ps c.in-Ok-workers_of.workers.items c.in_ok-workers.workers.items c.run_phases.new.replies.items) c.as_slice-phases.ensures.value c.in_ok-workers.ensures in
+    let made = subst (λ (rs : List (Vec Reply Global)). HaveMade bench c.args.jobs.phases.items c.in-Ok-workers_of.workers.items c.in_ok-workers.workers.items rs) (sym same) phased in
+    let well = c.threads.ensures.well_formed in
+    let some : 1 ≤ (layout_of bench).threads = subst (λ (l : Layout'). 1 ≤ l.threads) (sym (c.in_ok-bench.ensures.layout ∙ c.layout-layout.ensures)) well.some_thread in
+    replied bench c.args.jobs.phases.items c.in_ok-bench.passes.items _ c.in-Ok-workers_of.workers.items c.in_ok-workers.workers.items a.replies.items a.died.items a.cells.items a.counters.items (layout_of bench) cards numbers made c.in-Ok-end.ensures.died c.in-Ok-end.ensures.ended
+    (c.in_ok-bench.ensures.passes ∙ ap (λ (l : Layout'). l.threads) (sym c.in_ok-bench.ensures.layout)) some

@@ -1,5 +1,5 @@
 use Rattle.std.proofs.Common.{◌≡◌, map, take}
-use Rattle.report.specs.Threads.{is_reaped}
+use Rattle.report.specs.Meetings.{is_reaped}
 use Rattle.report.proofs.threads.deaths.Given as goal
 
 abbrev pub invariant-loop-worker : goal.invariant-loop-worker
