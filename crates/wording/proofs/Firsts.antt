@@ -4,6 +4,7 @@ use Rattle.std.specs.Prelude.{◌↔◌, sum_by, slice_get}
 use Rattle.std.specs.Option.{option_map_or}
 use Rattle.std.proofs.lemmas.List.{take_all}
 use Rattle.std.proofs.lemmas.List.Sums.{sum_by-cons}
+use Rattle.lines.specs.Lines.{words_of}
 use Rattle.wording.specs.declared.next.Next.{Next}
 use Rattle.wording.specs.declared.wrong.Kind.{Kind}
 use Rattle.wording.specs.declared.wrong.Wrong.{Wrong}
@@ -158,3 +159,13 @@ first k ws x f = record {
     none : {A : Type 0} (o : Option A) → o ≡ None → IsSome o → ⊥
     none None e h = cc
     none (Some x) e h = cc
+
+-- ---- where a word stands behind one that is cut off
+
+pub offset_on : (i j : ℕ) (w : List ℕ) (text more : List ℕ) → words_of text ≡ w ∷ words_of more → i ≡ j + 1 → offset_of i (words_of text) ≡ (length w + 1) + offset_of j (words_of more)
+offset_on i j w text more e is = ap (λ n. offset_of n (words_of text)) (is ∙ add-one j) ∙ ap (offset_of (suc j)) e ∙ offset-suc j w (words_of more)
+
+pub end_on : (i j : ℕ) (w : List ℕ) (text more : List ℕ) → words_of text ≡ w ∷ words_of more → i ≡ j + 1 → ends_at i (words_of text) ≡ (length w + 1) + ends_at j (words_of more)
+end_on i j w text more e is =
+    let end = ap (λ n. ends_at n (words_of text)) (is ∙ add-one j) ∙ ap (ends_at (suc j)) e ∙ ends_at-suc j w (words_of more) in
+    omega (arith, end, offset-suc j w (words_of more))

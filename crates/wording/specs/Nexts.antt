@@ -139,3 +139,7 @@ abbrev pub is_over : Next → Bool
 is_over End = true
 is_over ProcessOrEnd = true
 is_over n = false
+
+-- the mode whose scripts alone have lines with this first word
+abbrev pub mode_of_word : List ℕ → Option Mode
+mode_of_word w = if is_some (of_run w) then Some mode.Run else (if is_some (of_threads w) then Some mode.Threads else None)

@@ -22,9 +22,11 @@
 mod known;
 mod near;
 mod next;
+mod place;
 mod wrong;
 
 pub use known::known_words;
 pub use near::nearest;
-pub use next::Next;
+pub use next::{Next, mode_of_word};
+pub use place::{place_of, word_at};
 pub use wrong::{Kind, Wrong, first_wrong};

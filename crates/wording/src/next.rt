@@ -3,7 +3,7 @@
 ghost use Rattle.std.specs.Prelude.{◌≡◌, ◌<◌};
 ghost use Rattle.std.specs.List.{list_all};
 ghost use Rattle.script.specs.Forms.{is_name, is_name_byte, is_stem};
-ghost use Rattle.wording.specs.Nexts.{deed, event, fitting, is_call, is_lettered, is_reply, keyword, of_run, of_threads, operation, shared};
+ghost use Rattle.wording.specs.Nexts.{deed, event, fitting, is_call, is_lettered, is_reply, keyword, mode_of_word, of_run, of_threads, operation, shared};
 
 use keys::Operation;
 use lines::is_number_word;
@@ -284,4 +284,17 @@ impl Next {
             _ => false,
         }
     }
+}
+
+/// The mode whose scripts alone have lines with this first word.
+pub fn mode_of_word(word: &str) -> Option<Mode>
+    ensures { result ≡ mode_of_word word.now }
+{
+    if of_run(word).is_some() {
+        return Some(Mode::Run);
+    }
+    if of_threads(word).is_some() {
+        return Some(Mode::Threads);
+    }
+    None
 }
