@@ -1,8 +1,10 @@
 -- The word that is told is the first that is wrong.
-use Rattle.std.proofs.Common.{◌≡◌, ℕ, zero, suc, ◌+◌, ◌<◌, ◌≤◌, Bool, true, false, List, [], ◌∷◌, ◌++◌, length, take, Option, Some, None, IsSome, option_and_then, if◌then◌else◌, refl, sym, subst, ap, ◌∙◌, arith, add-one}
+use Rattle.std.proofs.Common.{◌≡◌, ℕ, zero, suc, ◌+◌, ◌<◌, ◌≤◌, Bool, true, false, List, [], ◌∷◌, ◌++◌, length, take, drop, Option, Some, None, IsSome, option_and_then, if◌then◌else◌, refl, sym, subst, ap, ◌∙◌, arith, add-one}
 use Rattle.std.specs.Prelude.{◌↔◌, sum_by, slice_get}
 use Rattle.std.specs.Option.{option_map_or}
-use Rattle.std.proofs.lemmas.List.{take_all}
+use Rattle.std.specs.Prelude.{nat_lt as ltb}
+use Rattle.std.proofs.lemmas.Bool.Decides.{nat_tests}
+use Rattle.std.proofs.lemmas.List.{take_all, take-append-drop}
 use Rattle.std.proofs.lemmas.List.Sums.{sum_by-cons}
 use Rattle.lines.specs.Lines.{words_of}
 use Rattle.wording.specs.declared.next.Next.{Next}
@@ -145,6 +147,21 @@ unfolding wrong_in
 right n i at [] some e = absurd (omega (arith, some))
 right n i at (w ∷ []) some e = last_right n i at w (after n w) e
 right n i at (w ∷ v ∷ ws) some e = more_right n i at w (v ∷ ws) (λ m. wrong_in m (i + 1) (at + length w + 1) (v ∷ ws)) (λ m h. right m (i + 1) (at + length w + 1) (v ∷ ws) (omega arith) h) (after n w) e
+
+-- and where something is, no line ends
+none_ends : (o : Option Next) → o ≡ None → ends o ≡ false
+none_ends None e = refl
+none_ends (Some n) e = absurd cc
+
+take_rest : (n : Next) (ws : List (List ℕ)) (i : ℕ) → run n (take i ws) ≡ None → run n ws ≡ None
+take_rest n ws i e = ap (run n) (sym (take-append-drop i ws)) ∙ run-append n (take i ws) (drop i ws) ∙ ap (λ (o : Option Next). option_and_then (λ m. run m (drop i ws)) o) e
+
+pub unended : (n : Next) (i at : ℕ) (ws : List (List ℕ)) (x : Wrong) → Found n i at ws x → ends (run n ws) ≡ false
+unended n i at ws x f = by_end (ltb f.many (length ws)) refl
+  where
+    by_end : (b : Bool) → ltb f.many (length ws) ≡ b → ends (run n ws) ≡ false
+    by_end true e = none_ends (run n ws) (take_rest n ws (suc f.many) (f.stops (grind (arith, nat_tests))))
+    by_end false e = let all : f.many ≡ length ws = let h : length ws ≤ f.many = grind (arith, nat_tests) in omega (arith, h, f.within) in ap (λ l. ends (run n l)) (sym (take_all f.many ws (omega (arith, all)))) ∙ ap ends f.front ∙ f.short all
 
 -- ---- of a line
 

@@ -29,4 +29,4 @@ pub use known::known_words;
 pub use near::nearest;
 pub use next::{Next, mode_of_word};
 pub use place::{place_of, word_at};
-pub use wrong::{Kind, Wrong, first_wrong};
+pub use wrong::{Kind, Wrong, first_wrong, is_line};

@@ -25,7 +25,6 @@ pub fn word_at(text: &str, index: usize) -> Option<&str>
 /// Where word `index` of a line begins and ends, in bytes. Where the line has fewer words, one behind its last would begin one byte behind
 /// its end, and it has no width.
 pub fn place_of(text: &str, index: usize) -> (usize, usize)
-    requires { length text.now < 2 ^ 32 }
     ensures start { result.0 ≡ offset_of index (words_of text.now) }
     ensures end { result.1 ≡ ends_at index (words_of text.now) }
 {

@@ -59,8 +59,8 @@ fn wrong_at(word: usize, start: usize, part: &str, next: Next) -> Wrong
 
 /// What is wrong at the last word or behind it, if anything is.
 fn wrong_last(word: usize, start: usize, part: &str, next: Next) -> Option<Wrong>
-    requires small { start + length part.now < 2 ^ 60 }
-    requires few { word < 2 ^ 60 }
+    requires small { start + length part.now < 2 ^ 63 }
+    requires few { word < 2 ^ 63 }
     ensures { result ≡ wrong_last word start part.now next (after next part.now) }
 {
     match next.after(part) {
@@ -72,7 +72,6 @@ fn wrong_last(word: usize, start: usize, part: &str, next: Next) -> Option<Wrong
 
 /// The first word that is wrong.
 fn scan(kind: Kind, text: &str) -> Option<Wrong>
-    requires { length text.now < 2 ^ 32 }
     ensures { result ≡ wrong_in (first_of kind) 0 0 (words_of text.now) }
 {
     let mut next = first_of(kind);
@@ -94,7 +93,6 @@ fn scan(kind: Kind, text: &str) -> Option<Wrong>
 /// The first word at which no line of the kind can go on: some begins with the words before it, and none with these and it. None where
 /// the line is one of the kind.
 pub fn first_wrong(kind: Kind, text: &str) -> Option<Wrong>
-    requires { length text.now < 2 ^ 32 }
     ensures none { IfNone result (is_line kind (words_of text.now) ≡ true) }
     ensures first { IfSome result (λ w. IsFirstWrong kind (words_of text.now) w.word) }
     ensures start { IfSome result (λ w. w.start ≡ offset_of w.word (words_of text.now)) }
@@ -102,4 +100,11 @@ pub fn first_wrong(kind: Kind, text: &str) -> Option<Wrong>
     ensures next { IfSome result (λ w. Awaits kind (take w.word (words_of text.now)) w.next) }
 {
     scan(kind, text)
+}
+
+/// Whether a line is one of the kind.
+pub fn is_line(kind: Kind, text: &str) -> bool
+    ensures { result ≡ is_line kind (words_of text.now) }
+{
+    scan(kind, text).is_none()
 }
