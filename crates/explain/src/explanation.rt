@@ -89,14 +89,6 @@ pub enum Things {
     Conditions,
 }
 
-/// A line that another one goes back to.
-#[derive(Clone, Copy, Debug, PartialEq, Eq)]
-pub struct Origin<'a> {
-    /// Its number, from 1.
-    pub line: usize,
-    pub text: &'a str,
-}
-
 /// A word of a line, and what is wrong with it.
 #[derive(Clone, Copy, Debug, PartialEq, Eq)]
 pub struct Mark<'a> {
@@ -108,15 +100,51 @@ pub struct Mark<'a> {
     pub near: Option<&'a str>,
 }
 
-/// All that is told of a file.
+/// What is marked of a line, what is said of it, and which earlier line it goes back to.
+#[derive(Clone, Copy, Debug, PartialEq, Eq)]
+pub struct Advice<'a> {
+    pub mark: Option<Mark<'a>>,
+    pub note: Option<Note>,
+    /// From 1.
+    pub origin: Option<usize>,
+}
+
+impl Advice<'_> {
+    /// Nothing is told.
+    pub fn none() -> Advice<'static> {
+        Advice {
+            mark: None,
+            note: None,
+            origin: None,
+        }
+    }
+
+    /// Something is said, and nothing marked.
+    pub fn only(note: Note) -> Advice<'static> {
+        Advice {
+            mark: None,
+            note: Some(note),
+            origin: None,
+        }
+    }
+
+    /// A word is marked that is of the right kind, and something said of it.
+    pub fn at(word: usize, note: Note) -> Advice<'static> {
+        Advice {
+            mark: Some(Mark {
+                word,
+                expected: None,
+                near: None,
+            }),
+            note: Some(note),
+            origin: None,
+        }
+    }
+}
+
+/// All that is told of a file: what it is, and what is told of the line that this names.
 #[derive(Clone, Copy, Debug, PartialEq, Eq)]
 pub struct Explanation<'a> {
     pub title: Title,
-    /// The line that the title names.
-    pub text: Option<&'a str>,
-    /// What of that line is marked.
-    pub mark: Option<Mark<'a>>,
-    pub note: Option<Note>,
-    /// An earlier line that it goes back to.
-    pub origin: Option<Origin<'a>>,
+    pub advice: Advice<'a>,
 }
