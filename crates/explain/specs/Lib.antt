@@ -4,3 +4,10 @@ pub mod Origins
 pub mod Words
 pub mod Shown
 pub mod Misfits
+pub mod Notes
+pub mod Texts
+pub mod Asked
+pub mod Messages
+pub mod Explains
+pub mod Served
+pub mod Programs

@@ -2,6 +2,7 @@
 use Rattle.std.specs.Prelude.{ℕ, ◌≡◌, ◌-◌, Bool, true, false, not, ◌||◌, ◌==◌, List, [], ◌∷◌, length, take, slice_get, Option, Some, None, option_map, unwrap_or, if◌then◌else◌}
 use Rattle.std.specs.Option.{is_some}
 use Rattle.std.specs.List.{list_any}
+use Rattle.std.specs.Str.{is_utf8}
 use Rattle.lines.specs.Lines.{lines_of, words_of}
 use Rattle.script.specs.declared.command.Mode.TheVariants.{Run, Threads}
 use Rattle.script.specs.declared.command.Mode.{Mode}
@@ -85,3 +86,7 @@ is_last ls n = not (is_some (slice_get ls n))
 -- line n, from 1, which is empty where there is none
 abbrev pub line_of : List ℕ → ℕ → List ℕ
 line_of text n = unwrap_or (slice_get (lines_of text) (n - 1)) []
+
+-- the text that the bytes are, and none where they are no text
+abbrev pub lines_in : List ℕ → List ℕ
+lines_in bytes = if is_utf8 bytes then bytes else []

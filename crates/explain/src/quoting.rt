@@ -1,10 +1,10 @@
 //! The lines of a file.
 
-ghost use Rattle.std.specs.Prelude.{◌≡◌, ◌-◌, option_map, slice_get};
+ghost use Rattle.std.specs.Prelude.{◌≡◌, ◌-◌, ◌<◌, ◌^◌, length, option_map, slice_get};
 ghost use Rattle.lines.specs.Lines.{lines_of};
-ghost use Rattle.explain.specs.Stray.{is_last, line_of};
+ghost use Rattle.explain.specs.Stray.{is_last, line_of, lines_in};
 
-use lines::cut;
+use lines::{cut, text_of};
 
 /// The line at this index, from 0. Behind the last line feed stands a line too, which may be empty.
 fn nth_line(text: &str, index: usize) -> Option<&str>
@@ -41,4 +41,15 @@ pub fn is_last(text: &str, number: usize) -> bool
     ensures { result ≡ is_last (lines_of text.now) number }
 {
     nth_line(text, number).is_none()
+}
+
+/// The text that the bytes are, and none where they are no text.
+pub fn lines_in(bytes: &[u8]) -> &str
+    requires { length bytes.now < 2 ^ 32 }
+    ensures { result.now ≡ lines_in bytes.now }
+{
+    match text_of(bytes) {
+        Ok(text) => text,
+        Err(_line) => "",
+    }
 }

@@ -1,13 +1,14 @@
 //! What is told of a script.
 
-ghost use Rattle.std.specs.Prelude.{◌<◌, ◌^◌, length};
+ghost use Rattle.std.specs.Prelude.{◌≡◌, ◌≢◌, ◌<◌, ◌^◌, false, length, Some, IfOk};
+ghost use Rattle.explain.specs.Explains.{IsFaultOf, IsOfKind, IsTitle};
 
 use crate::explanation::{Advice, Explanation, Note, Things, Title};
 use crate::names::unknown_name;
-use crate::quoting::{is_last, line_of};
+use crate::quoting::{is_last, line_of, lines_in};
 use crate::sought::{Sought, first_before, things_of, word_of};
 use crate::stray::{stray_mark, stray_note};
-use lines::{cut, is_number_word, number_in, text_of};
+use lines::{cut, is_number_word, number_in};
 use script::{
     Fault, MAX_ACCESS, MAX_BASE, MAX_BYTES, MAX_CONDITIONS, MAX_COUNTER, MAX_EVENTS, MAX_LINES,
     MAX_MUTEXES, MAX_PROCESSES, MAX_STEPS, MAX_THREADS, Mode, ScriptFault, first_machine, parse,
@@ -118,15 +119,25 @@ fn advice<'a>(
     }
 }
 
-/// The first fault of the bytes as a script of this mode, if there is one; one for the machine is played too.
-fn first_fault(alloc: Global, bytes: &[u8], mode: Mode) -> Result<Option<ScriptFault>, AllocError> {
-    let script = match parse(alloc, bytes, mode) {
+/// The first fault of the bytes as a script for real threads, if there is one.
+fn threads_fault(alloc: Global, bytes: &[u8]) -> Result<Option<ScriptFault>, AllocError>
+    ensures { IfOk result (λ o. IsFaultOf Mode.Threads bytes.now o) }
+{
+    let _script = match parse(alloc, bytes, Mode::Threads) {
         Ok(script) => script,
         Err(fault) => return known(fault),
     };
-    if mode == Mode::Threads {
-        return Ok(None);
-    }
+    Ok(None)
+}
+
+/// The first fault of the bytes as a script for the machine, if there is one. It is played too.
+fn run_fault(alloc: Global, bytes: &[u8]) -> Result<Option<ScriptFault>, AllocError>
+    ensures { IfOk result (λ o. IsFaultOf Mode.Run bytes.now o) }
+{
+    let script = match parse(alloc, bytes, Mode::Run) {
+        Ok(script) => script,
+        Err(fault) => return known(fault),
+    };
     let Ok(machine) = first_machine(alloc, &script) else {
         return Err(AllocError);
     };
@@ -137,7 +148,9 @@ fn first_fault(alloc: Global, bytes: &[u8], mode: Mode) -> Result<Option<ScriptF
 }
 
 /// The fault, where it isn't want of memory.
-fn known(fault: ScriptFault) -> Result<Option<ScriptFault>, AllocError> {
+fn known(fault: ScriptFault) -> Result<Option<ScriptFault>, AllocError>
+    ensures { IfOk result (λ o. (o ≡ Some fault) × (fault.fault ≢ Fault.OutOfMemory)) }
+{
     match fault.fault {
         Fault::OutOfMemory => Err(AllocError),
         _ => Ok(Some(fault)),
@@ -159,10 +172,12 @@ fn mode_of(text: &str) -> Mode {
 /// What is told of bytes that are no trace.
 pub fn explain_script<'a>(alloc: Global, bytes: &'a [u8]) -> Result<Explanation<'a>, AllocError>
     requires { length bytes.now < 2 ^ 32 }
+    ensures kind { IfOk result (λ x. IsOfKind false x.title) }
+    ensures title { IfOk result (λ x. IsTitle bytes.entry.now x.title) }
 {
-    let run = first_fault(alloc, bytes, Mode::Run)?;
-    let threads = first_fault(alloc, bytes, Mode::Threads)?;
-    let text = text_of(bytes).unwrap_or("");
+    let run = run_fault(alloc, bytes)?;
+    let threads = threads_fault(alloc, bytes)?;
+    let text = lines_in(bytes);
     let (mode, fault) = match (run, threads) {
         (Some(run), Some(threads)) => match mode_of(text) {
             Mode::Run => (Mode::Run, run),

@@ -1,13 +1,14 @@
 //! What is told of a trace.
 
-ghost use Rattle.std.specs.Prelude.{◌<◌, ◌^◌, length};
+ghost use Rattle.std.specs.Prelude.{◌≡◌, ◌≢◌, ◌<◌, ◌^◌, true, length, IfOk};
+ghost use Rattle.explain.specs.Explains.{IsOfKind, IsTitle, title_of};
 
 use crate::explanation::{Advice, Explanation, Note, Things, Title};
 use crate::origins::origin_of;
-use crate::quoting::{is_last, line_of};
+use crate::quoting::{is_last, line_of, lines_in};
 use crate::sought::word_of;
 use crate::stray::{stray_mark, stray_note};
-use lines::{is_number_word, number_in, text_of};
+use lines::{is_number_word, number_in};
 use std::alloc::{AllocError, Global};
 use verdict::{
     Fault, Finding, MAX_BYTES, MAX_CONDITIONS, MAX_EVENTS, MAX_MUTEXES, MAX_THREADS, TraceFault,
@@ -163,23 +164,50 @@ fn illegal(alloc: Global, bytes: &[u8], why: TraceMisfit) -> Result<Advice<'stat
     })
 }
 
-/// What is told of bytes that are to be a trace.
-pub fn explain_trace<'a>(alloc: Global, bytes: &'a [u8]) -> Result<Explanation<'a>, AllocError>
-    requires { length bytes.now < 2 ^ 32 }
+/// The fault, where it isn't want of memory.
+fn known(fault: TraceFault) -> Result<TraceFault, AllocError>
+    ensures { IfOk result (λ f. (f ≡ fault) × (fault.fault ≢ Fault.OutOfMemory)) }
 {
-    match explain(alloc, bytes) {
-        Ok(Finding::Legal { points }) => Ok(Explanation {
+    match fault.fault {
+        Fault::OutOfMemory => Err(AllocError),
+        _ => Ok(fault),
+    }
+}
+
+/// What is told of a trace without fault.
+fn found<'a>(
+    alloc: Global,
+    bytes: &'a [u8],
+    finding: Finding,
+) -> Result<Explanation<'a>, AllocError>
+    ensures { IfOk result (λ x. x.title ≡ title_of finding) }
+{
+    match finding {
+        Finding::Legal { points } => Ok(Explanation {
             title: Title::Legal { points },
             advice: Advice::none(),
         }),
-        Ok(Finding::Illegal(why)) => Ok(Explanation {
+        Finding::Illegal(why) => Ok(Explanation {
             title: Title::Illegal(why),
             advice: illegal(alloc, bytes, why)?,
         }),
-        Err(fault) if fault.fault == Fault::OutOfMemory => Err(AllocError),
-        Err(fault) => Ok(Explanation {
-            title: Title::Trace(fault),
-            advice: advice(alloc, text_of(bytes).unwrap_or(""), fault)?,
-        }),
+    }
+}
+
+/// What is told of bytes that are to be a trace.
+pub fn explain_trace<'a>(alloc: Global, bytes: &'a [u8]) -> Result<Explanation<'a>, AllocError>
+    requires { length bytes.now < 2 ^ 32 }
+    ensures kind { IfOk result (λ x. IsOfKind true x.title) }
+    ensures title { IfOk result (λ x. IsTitle bytes.entry.now x.title) }
+{
+    match explain(alloc, bytes) {
+        Ok(finding) => found(alloc, bytes, finding),
+        Err(fault) => {
+            let fault = known(fault)?;
+            Ok(Explanation {
+                title: Title::Trace(fault),
+                advice: advice(alloc, lines_in(bytes), fault)?,
+            })
+        }
     }
 }
