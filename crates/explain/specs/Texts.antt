@@ -77,7 +77,7 @@ carets line start end =
     let front = min start (length line) in
     let back = min end (length line) in
     concat (codes "  | " ∷ []) ++ (replicate (columns (take front line)) 32 ++ (replicate (start - front) 32
-        ++ (replicate (max (columns (take (back - front) (drop front line))) 1) 94 ++ concat (codes "\n" ∷ []))))
+    ++ (replicate (max (columns (take (back - front) (drop front line))) 1) 94 ++ concat (codes "\n" ∷ []))))
 
 -- word i of the line is marked
 abbrev pub caret_text : List ℕ → ℕ → List ℕ

@@ -87,16 +87,54 @@ pub fn add_note(text: &mut Vec<u8>, note: Option<Note>) -> Result<(), AllocError
 {
     match note {
         None => Ok(()),
-        Some(Note::OtherMode(mode)) => add(text, &["  = a script for ", mode_words(mode), " has such lines\n"]),
+        Some(Note::OtherMode(mode)) => add(
+            text,
+            &["  = a script for ", mode_words(mode), " has such lines\n"],
+        ),
         Some(Note::Range { low, high }) => add_range(text, low, high),
-        Some(Note::TooMany(things, limit)) => add_counted(text, "a script has at most ", limit, things),
-        Some(Note::NothingDeclared(things)) => add_things(text, "the script declares no ", things, ""),
-        Some(Note::Undeclared(things)) => add_things(text, "no line before declares a ", things, " of this name"),
-        Some(Note::DeclaredTwice(things)) => add_things(text, "a line before declares a ", things, " of this name"),
-        Some(Note::Bytes(limit)) => add_many(text, "a file of this kind has at most ", limit, " bytes"),
+        Some(Note::TooMany(things, limit)) => add_counted(
+            text,
+            "a script has at most ",
+            limit,
+            things,
+        ),
+        Some(Note::NothingDeclared(things)) => add_things(
+            text,
+            "the script declares no ",
+            things,
+            "",
+        ),
+        Some(Note::Undeclared(things)) => add_things(
+            text,
+            "no line before declares a ",
+            things,
+            " of this name",
+        ),
+        Some(Note::DeclaredTwice(things)) => add_things(
+            text,
+            "a line before declares a ",
+            things,
+            " of this name",
+        ),
+        Some(Note::Bytes(limit)) => add_many(
+            text,
+            "a file of this kind has at most ",
+            limit,
+            " bytes",
+        ),
         Some(Note::Lines(limit)) => add_many(text, "a script has at most ", limit, " lines"),
-        Some(Note::Events(limit)) => add_many(text, "with this line it runs more than ", limit, " events"),
-        Some(Note::Uncounted(things, count)) => add_counted(text, "the first line counts ", count, things),
+        Some(Note::Events(limit)) => add_many(
+            text,
+            "with this line it runs more than ",
+            limit,
+            " events",
+        ),
+        Some(Note::Uncounted(things, count)) => add_counted(
+            text,
+            "the first line counts ",
+            count,
+            things,
+        ),
         Some(other) => add(text, &["  = ", said_of(&other), "\n"]),
     }
 }

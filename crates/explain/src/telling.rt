@@ -80,7 +80,15 @@ fn add_legal(text: &mut Vec<u8>, file: &str, points: usize) -> Result<(), AllocE
     ensures { OnOk result (text.new.items ≡ text.old.items ++ legal_text file.now points) }
 {
     let mut numbers = Buffer::new();
-    add(text, &[file, ": a legal trace, of ", numbers.format(points), " points\n"])
+    add(
+        text,
+        &[
+            file,
+            ": a legal trace, of ",
+            numbers.format(points),
+            " points\n",
+        ],
+    )
 }
 
 /// A line of a trace that doesn't fit.
@@ -251,7 +259,12 @@ pub fn explanation_text(
 {
     let mut text = Vec::new(alloc);
     add_title(&mut text, file, &explanation.title)?;
-    add_quote(&mut text, lines, &explanation.title, explanation.advice.mark)?;
+    add_quote(
+        &mut text,
+        lines,
+        &explanation.title,
+        explanation.advice.mark,
+    )?;
     add_note(&mut text, explanation.advice.note)?;
     add_origin(&mut text, lines, explanation.advice.origin)?;
     Ok(text)

@@ -8,7 +8,8 @@ use std::io::{self, ErrorKind};
 
 const SCRIPT: &[u8] = b"tread a\n";
 
-const TEXT: &str = "f: line 1: fault 2: unknown word (a script for `rfx run`)\n  | tread a\n  | ^^^^^\n  = expected one of `process` `thread` `mutex` `mutexes` `cond` `call` `begin` `step` `kill` `killall` `go` `locks`\n  = did you mean `thread`?\n";
+const TEXT: &str =
+    "f: line 1: fault 2: unknown word (a script for `rfx run`)\n  | tread a\n  | ^^^^^\n  = expected one of `process` `thread` `mutex` `mutexes` `cond` `call` `begin` `step` `kill` `killall` `go` `locks`\n  = did you mean `thread`?\n";
 
 const USAGE: &str = "usage: rfx-explain FILE\n";
 
@@ -20,8 +21,18 @@ static LINES: [(&[&str], u8, &str, &str); 8] = [
     (&["rfx-explain", "-f"], 2, "", USAGE),
     (&["rfx-explain", "--help"], 2, "", USAGE),
     (&["rfx-explain", "f", "f"], 2, "", USAGE),
-    (&["rfx-explain", "none"], 1, "", "rfx-explain: cannot read none\n"),
-    (&["rfx-explain", "broken"], 1, "", "rfx-explain: cannot read broken\n"),
+    (
+        &["rfx-explain", "none"],
+        1,
+        "",
+        "rfx-explain: cannot read none\n",
+    ),
+    (
+        &["rfx-explain", "broken"],
+        1,
+        "",
+        "rfx-explain: cannot read broken\n",
+    ),
 ];
 
 #[test]

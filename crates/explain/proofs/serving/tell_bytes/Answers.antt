@@ -13,4 +13,4 @@ pub returns-clause-fails : goal.returns-clause-fails
 returns-clause-fails g c =
     let old = g.W.Write.contents c.args.out.now in
     let new = g.W.Write.contents c.write_out.new.out in
-    (c.in-Ok.told.text.items, (c.in-Ok.told.status, (c.in-Ok.ensures, subst (AppendsFront old new) c.deref.ensures.value c.in-Err-write_out.ensures.text)))
+    (c.in-Ok.told.text.items, (c.in-Ok.told.status, (c.in-Ok.ensures, subst (AppendsFront old new) c.deref.ensures.value c.in-Err.ensures.text)))
