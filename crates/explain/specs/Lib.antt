@@ -1,0 +1,13 @@
+pub mod Stray
+pub mod Sought
+pub mod Origins
+pub mod Words
+pub mod Shown
+pub mod Misfits
+pub mod Notes
+pub mod Texts
+pub mod Asked
+pub mod Messages
+pub mod Explains
+pub mod Served
+pub mod Programs

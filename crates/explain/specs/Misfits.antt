@@ -1,0 +1,45 @@
+-- The words for why a line of a trace doesn't fit.
+use Rattle.std.specs.Prelude.{ℕ, Bool, true, false, List, [], ◌∷◌, ◌++◌, Option, Some, None, codes, decimal}
+use Rattle.std.specs.List.{concat}
+use Rattle.lockword.specs.Replies.{reply_word}
+use Rattle.keys.specs.declared.object.Object.{Object}
+use Rattle.keys.specs.Words.{operation_word}
+use Rattle.verdict.specs.declared.misfit.Misfit.{Misfit}
+use Rattle.verdict.specs.declared.misfit.Misfit.TheVariants.{EventFalls, AnothersEvent, EventDecided, KillShares, EventKilled, InCall, NoCall, Asleep, Awake, Killed, Reaped, Alive, OtherMutex, OtherOperation, ReleaseRefused, Released, Decided, Undecided, OtherReply, NotAllowed, AtLimit, NotOwner, StillOwns, EndFalls}
+
+abbrev pub with_number : List ℕ → ℕ → List ℕ → List ℕ
+with_number before n behind = concat (before ∷ decimal n ∷ behind ∷ [])
+
+abbrev pub owner_text : Option ℕ → Bool → List ℕ
+owner_text o true = concat (codes "it is unusable" ∷ [])
+owner_text None false = concat (codes "nobody owns it" ∷ [])
+owner_text (Some t) false = with_number (codes "t") t (codes " owns it")
+
+abbrev pub object_text : Object → List ℕ
+object_text o = owner_text o.owner o.unusable
+
+abbrev pub misfit_text : Misfit → List ℕ
+misfit_text (EventFalls i) = with_number (codes "its event is before event ") i (codes ", of which a line was told")
+misfit_text (AnothersEvent t) = with_number (codes "the event is one of thread t") t []
+misfit_text EventDecided = concat (codes "the event has a point or a death already" ∷ [])
+misfit_text KillShares = concat (codes "a kill is an event of its own, and this event has a line already" ∷ [])
+misfit_text EventKilled = concat (codes "the event is a kill, and has no other line" ∷ [])
+misfit_text (InCall c) = concat (codes "the thread is in a call already: " ∷ operation_word c.operation ∷ []) ++ with_number (codes " of m") c.mutex []
+misfit_text NoCall = concat (codes "the thread is in no call" ∷ [])
+misfit_text Asleep = concat (codes "the thread is asleep" ∷ [])
+misfit_text Awake = concat (codes "the thread isn't asleep" ∷ [])
+misfit_text Killed = concat (codes "the thread was killed" ∷ [])
+misfit_text Reaped = concat (codes "the thread was reaped" ∷ [])
+misfit_text Alive = concat (codes "the thread wasn't killed" ∷ [])
+misfit_text (OtherMutex m) = with_number (codes "the thread's call is on m") m []
+misfit_text (OtherOperation o) = concat (codes "a call of " ∷ operation_word o ∷ codes " has no such point" ∷ [])
+misfit_text ReleaseRefused = concat (codes "the unlock of a wait replies OK" ∷ [])
+misfit_text Released = concat (codes "the wait has released its mutex, and locks it next" ∷ [])
+misfit_text (Decided x) = concat (codes "the call has its points already, and returns " ∷ reply_word x ∷ [])
+misfit_text Undecided = concat (codes "the call has had no point yet" ∷ [])
+misfit_text (OtherReply x) = concat (codes "the call's point replied " ∷ reply_word x ∷ [])
+misfit_text (NotAllowed o x) = concat (codes "the mutex doesn't allow the reply " ∷ reply_word x ∷ codes ": " ∷ []) ++ object_text o
+misfit_text (AtLimit k) = with_number (codes "the thread holds ") k (codes " mutexes, so that the reply is X_HELD")
+misfit_text (NotOwner o) = concat (codes "the thread doesn't own the mutex: " ∷ []) ++ object_text o
+misfit_text (StillOwns m) = with_number (codes "the thread still owns m") m []
+misfit_text (EndFalls i) = with_number (codes "the end is before event ") i (codes ", of which a line was told")

@@ -1,0 +1,78 @@
+-- What is said of a line beside its fault.
+use Rattle.std.specs.Prelude.{ℕ, List, [], ◌∷◌, ◌++◌, Option, Some, None, codes, decimal}
+use Rattle.std.specs.List.{concat}
+use Rattle.explain.specs.declared.explanation.Things.{Things}
+use Rattle.explain.specs.declared.explanation.Note.{Note}
+use Rattle.explain.specs.declared.explanation.Note.TheVariants.{NoLineFeed, CarriageReturn, LeadingBlank, TwoBlanks, TrailingBlank, Tab, Remark, OtherMode, OfTrace, OfScript, BehindCommand, Range, TooMany, PastLast, NothingDeclared, Undeclared, DeclaredTwice, DiesTwice, Bytes, Lines, Events, Uncounted, NoEnd, BehindEnd}
+use Rattle.explain.specs.Words.{mode_words, things_words}
+
+abbrev pub with_things : List ℕ → Things → List ℕ → List ℕ
+with_things before things behind = concat (codes "  = " ∷ before ∷ []) ++ (concat (things_words things ∷ []) ++ concat (behind ∷ codes "\n" ∷ []))
+
+abbrev pub many_text : List ℕ → ℕ → List ℕ → List ℕ
+many_text before limit behind = concat (codes "  = " ∷ before ∷ decimal limit ∷ behind ∷ codes "\n" ∷ [])
+
+abbrev pub range_text : ℕ → ℕ → List ℕ
+range_text low high = concat (codes "  = the number is from " ∷ decimal low ∷ codes " to " ∷ decimal high ∷ codes "\n" ∷ [])
+
+unfoldable pub counted_text : List ℕ → ℕ → Things → List ℕ
+counted_text before count things = concat (codes "  = " ∷ before ∷ []) ++ (concat (decimal count ∷ codes " of this kind: " ∷ []) ++ concat (things_words things ∷ codes "\n" ∷ []))
+
+abbrev pub said_text : Note → List ℕ
+said_text NoLineFeed = codes "the last line has no line feed at its end"
+said_text CarriageReturn = codes "the line ends with CR LF: a line ends with a line feed alone"
+said_text LeadingBlank = codes "a blank stands before the first word"
+said_text TwoBlanks = codes "two blanks stand here: words have one between them"
+said_text TrailingBlank = codes "a blank stands behind the last word"
+said_text Tab = codes "a tab stands here: words have one blank between them"
+said_text Remark = codes "a remark is a line of its own"
+said_text OfTrace = codes "this is a line of a trace, which begins with `trace T M C`"
+said_text OfScript = codes "this is a line of a script, which doesn't begin with `trace `"
+said_text BehindCommand = codes "declarations stand before the first command"
+said_text PastLast = codes "there aren't so many mutexes from this one on"
+said_text DiesTwice = codes "a thread dies once at most"
+said_text NoEnd = codes "the last line of a trace is `end N`"
+said_text BehindEnd = codes "nothing stands behind the `end` line"
+said_text (OtherMode k) = []
+said_text (Range low high) = []
+said_text (TooMany things limit) = []
+said_text (NothingDeclared things) = []
+said_text (Undeclared things) = []
+said_text (DeclaredTwice things) = []
+said_text (Bytes limit) = []
+said_text (Lines limit) = []
+said_text (Events limit) = []
+said_text (Uncounted things count) = []
+
+abbrev pub said : Note → List ℕ
+said n = concat (codes "  = " ∷ said_text n ∷ codes "\n" ∷ [])
+
+abbrev pub one_note : Note → List ℕ
+one_note (OtherMode k) = concat (codes "  = a script for " ∷ mode_words k ∷ codes " has such lines\n" ∷ [])
+one_note (Range low high) = range_text low high
+one_note (TooMany things limit) = counted_text (codes "a script has at most ") limit things
+one_note (NothingDeclared things) = with_things (codes "the script declares no ") things []
+one_note (Undeclared things) = with_things (codes "no line before declares a ") things (codes " of this name")
+one_note (DeclaredTwice things) = with_things (codes "a line before declares a ") things (codes " of this name")
+one_note (Bytes limit) = many_text (codes "a file of this kind has at most ") limit (codes " bytes")
+one_note (Lines limit) = many_text (codes "a script has at most ") limit (codes " lines")
+one_note (Events limit) = many_text (codes "with this line it runs more than ") limit (codes " events")
+one_note (Uncounted things count) = counted_text (codes "the first line counts ") count things
+one_note NoLineFeed = said NoLineFeed
+one_note CarriageReturn = said CarriageReturn
+one_note LeadingBlank = said LeadingBlank
+one_note TwoBlanks = said TwoBlanks
+one_note TrailingBlank = said TrailingBlank
+one_note Tab = said Tab
+one_note Remark = said Remark
+one_note OfTrace = said OfTrace
+one_note OfScript = said OfScript
+one_note BehindCommand = said BehindCommand
+one_note PastLast = said PastLast
+one_note DiesTwice = said DiesTwice
+one_note NoEnd = said NoEnd
+one_note BehindEnd = said BehindEnd
+
+abbrev pub note_text : Option Note → List ℕ
+note_text None = []
+note_text (Some n) = one_note n

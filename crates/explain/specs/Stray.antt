@@ -1,0 +1,92 @@
+-- What is said of words at which no line of a kind can go on.
+use Rattle.std.specs.Prelude.{ℕ, ◌≡◌, ◌-◌, Bool, true, false, not, ◌||◌, ◌==◌, List, [], ◌∷◌, length, take, slice_get, Option, Some, None, option_map, unwrap_or, if◌then◌else◌}
+use Rattle.std.specs.Option.{is_some}
+use Rattle.std.specs.List.{list_any}
+use Rattle.std.specs.Str.{is_utf8}
+use Rattle.lines.specs.Lines.{lines_of, words_of}
+use Rattle.script.specs.declared.command.Mode.TheVariants.{Run, Threads}
+use Rattle.script.specs.declared.command.Mode.{Mode}
+use Rattle.wording.specs.declared.wrong.Kind.{Kind}
+use Rattle.wording.specs.declared.wrong.Kind.TheVariants.{Script, Head, Trace}
+use Rattle.wording.specs.declared.next.Next.{Next}
+use Rattle.wording.specs.Nexts.{mode_of_word}
+use Rattle.wording.specs.Known.{known_words}
+use Rattle.wording.specs.Near.{IsNearest}
+use Rattle.wording.specs.Wrongs.{Awaits, IsFirstWrong, ends_at, is_line}
+use Rattle.explain.specs.declared.explanation.Mark.{Mark}
+use Rattle.explain.specs.declared.explanation.Note.{Note}
+use Rattle.explain.specs.declared.explanation.Note.TheVariants.{CarriageReturn, LeadingBlank, TwoBlanks, TrailingBlank, Tab, Remark, OtherMode, OfTrace, OfScript}
+
+-- ---- what is said
+
+-- a word without a letter stands before the first blank, behind the last one, or between two
+abbrev pub blank_note : List ℕ → ℕ → Note
+blank_note text i = if i == 0 then LeadingBlank else (if ends_at i (words_of text) == length text then TrailingBlank else TwoBlanks)
+
+abbrev pub is_return : Option ℕ → Bool
+is_return None = false
+is_return (Some b) = b == 13
+
+-- the last byte is a carriage return
+abbrev pub ends_in_return : List ℕ → Bool
+ends_in_return text = is_return (slice_get text (length text - 1))
+
+abbrev pub has_tab : List ℕ → Bool
+has_tab w = list_any (λ b. b == 9) w
+
+abbrev pub is_remark : List ℕ → Bool
+is_remark [] = false
+is_remark (b ∷ bs) = b == 35
+
+abbrev pub mode_note : Option Mode → Option Note → Option Note
+mode_note (Some k) n = Some (OtherMode k)
+mode_note None n = n
+
+-- the line is one of the other mode, or of a trace; or it is one of scripts
+abbrev pub kind_note : Kind → List (List ℕ) → List ℕ → Option Note
+kind_note (Script k) ws w = mode_note (mode_of_word w) (if is_line Trace ws || is_line Head ws then Some OfTrace else None)
+kind_note Head ws w = if is_line (Script Run) ws || is_line (Script Threads) ws then Some OfScript else None
+kind_note Trace ws w = if is_line (Script Run) ws || is_line (Script Threads) ws then Some OfScript else None
+
+abbrev pub word_note : Kind → List ℕ → ℕ → List ℕ → Option Note
+word_note k text i w = if ends_in_return text then Some CarriageReturn
+    else (if has_tab w then Some Tab
+    else (if is_remark w then Some Remark
+    else (if i == 0 then kind_note k (words_of text) w else None)))
+
+abbrev pub note_of : Kind → List ℕ → ℕ → Option (List ℕ) → Option Note
+note_of k text i None = None
+note_of k text i (Some []) = Some (blank_note text i)
+note_of k text i (Some (b ∷ bs)) = word_note k text i (b ∷ bs)
+
+-- beside word i of the line, at which no line of the kind can go on
+abbrev pub stray_note : Kind → List ℕ → ℕ → Option Note
+stray_note k text i = note_of k text i (slice_get (words_of text) i)
+
+-- ---- what is marked
+
+-- word i, which is empty where the line has fewer
+abbrev pub word_of : List (List ℕ) → ℕ → List ℕ
+word_of ws i = unwrap_or (slice_get ws i) []
+
+-- the word has to be one of those that n takes; of the words known there v is the one that it is nearest to
+abbrev pub IsExpected : Kind → List (List ℕ) → ℕ → Option Next → Option (List ℕ) → Type 0
+IsExpected k ws i None v = ⊥
+IsExpected k ws i (Some n) v = Awaits k (take i ws) n × IsNearest (word_of ws i) (known_words n) v
+
+-- the line is one of the kind; or this is its first word at which none can go on
+abbrev pub IsMarked : Kind → List (List ℕ) → Option Mark → Type 0
+IsMarked k ws None = is_line k ws ≡ true
+IsMarked k ws (Some m) = IsFirstWrong k ws m.word × IsExpected k ws m.word m.expected (option_map (λ w. w.now) m.near)
+
+-- no line stands behind line n
+abbrev pub is_last : List (List ℕ) → ℕ → Bool
+is_last ls n = not (is_some (slice_get ls n))
+
+-- line n, from 1, which is empty where there is none
+abbrev pub line_of : List ℕ → ℕ → List ℕ
+line_of text n = unwrap_or (slice_get (lines_of text) (n - 1)) []
+
+-- the text that the bytes are, and none where they are no text
+abbrev pub lines_in : List ℕ → List ℕ
+lines_in bytes = if is_utf8 bytes then bytes else []

@@ -1,0 +1,150 @@
+//! What is told of a file.
+
+use script::{Mode, ScriptFault};
+use verdict::{TraceFault, TraceMisfit};
+use wording::Next;
+
+/// What a file is.
+#[derive(Clone, Copy, Debug, PartialEq, Eq)]
+pub enum Title {
+    /// A script without fault, for one of the modes or for both.
+    Good {
+        /// `rfx run` plays it.
+        run: bool,
+        /// `rfx threads` plays it.
+        threads: bool,
+    },
+    /// A script that is refused, for this mode.
+    Script(Mode, ScriptFault),
+    /// A legal trace.
+    Legal {
+        /// How many of its lines tell of a point.
+        points: usize,
+    },
+    /// A trace that isn't legal.
+    Illegal(TraceMisfit),
+    /// A trace that is refused.
+    Trace(TraceFault),
+}
+
+/// What is said of a line beside its fault.
+#[derive(Clone, Copy, Debug, PartialEq, Eq)]
+pub enum Note {
+    /// No line feed ends the last line.
+    NoLineFeed,
+    /// The line ends with CR LF.
+    CarriageReturn,
+    /// A blank stands before the first word.
+    LeadingBlank,
+    /// Two blanks stand one behind the other.
+    TwoBlanks,
+    /// A blank stands behind the last word.
+    TrailingBlank,
+    /// A tab stands in a word.
+    Tab,
+    /// A remark stands behind words.
+    Remark,
+    /// The line is one of scripts of this mode alone.
+    OtherMode(Mode),
+    /// The line is one of traces.
+    OfTrace,
+    /// The line is one of scripts.
+    OfScript,
+    /// A declaration stands behind a command.
+    BehindCommand,
+    /// The number isn't from the first to the last of these.
+    Range { low: u32, high: u32 },
+    /// There are more of them than there may be.
+    TooMany(Things, u32),
+    /// There aren't so many mutexes from this one on.
+    PastLast,
+    /// The script declares none.
+    NothingDeclared(Things),
+    /// No line before declares the name.
+    Undeclared(Things),
+    /// A line before declares the name.
+    DeclaredTwice(Things),
+    /// A line before has the thread die.
+    DiesTwice,
+    /// The file has more bytes than it may have.
+    Bytes(u32),
+    /// The file has more lines than it may have.
+    Lines(u32),
+    /// The script runs more events than it may run.
+    Events(u32),
+    /// The first line of the trace counts fewer.
+    Uncounted(Things, u32),
+    /// No `end` line ends the trace.
+    NoEnd,
+    /// Something stands behind the `end` line.
+    BehindEnd,
+}
+
+/// What names and numbers are of.
+#[derive(Clone, Copy, Debug, PartialEq, Eq)]
+pub enum Things {
+    Processes,
+    Threads,
+    Mutexes,
+    Conditions,
+}
+
+/// A word of a line, and what is wrong with it.
+#[derive(Clone, Copy, Debug, PartialEq, Eq)]
+pub struct Mark<'a> {
+    /// The word, from 0; as many as the line has where one is missing behind the last.
+    pub word: usize,
+    /// What it has to be, where it is of another kind.
+    pub expected: Option<Next>,
+    /// The known word that it is next to, which may have been meant.
+    pub near: Option<&'a str>,
+}
+
+/// What is marked of a line, what is said of it, and which earlier line it goes back to.
+#[derive(Clone, Copy, Debug, PartialEq, Eq)]
+pub struct Advice<'a> {
+    pub mark: Option<Mark<'a>>,
+    pub note: Option<Note>,
+    /// From 1.
+    pub origin: Option<usize>,
+}
+
+impl Advice<'_> {
+    /// Nothing is told.
+    pub fn none() -> Advice<'static> {
+        Advice {
+            mark: None,
+            note: None,
+            origin: None,
+        }
+    }
+
+    /// Something is said, and nothing marked.
+    pub fn only(note: Note) -> Advice<'static> {
+        Advice {
+            mark: None,
+            note: Some(note),
+            origin: None,
+        }
+    }
+
+    /// A word is marked that is of the right kind, and something said of it.
+    pub fn at(word: usize, note: Note) -> Advice<'static> {
+        Advice {
+            mark: Some(Mark {
+                word,
+                expected: None,
+                near: None,
+            }),
+            note: Some(note),
+            origin: None,
+        }
+    }
+}
+
+/// All that is told of a file: what it is, and what is told of the line that this names.
+#[derive(Clone, Copy, Debug, PartialEq, Eq)]
+pub struct Explanation<'a> {
+    pub title: Title,
+    pub advice: Advice<'a>,
+}

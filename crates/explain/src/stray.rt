@@ -1,0 +1,127 @@
+//! Words at which no line of a kind can go on.
+
+ghost use Rattle.std.specs.Prelude.{◌≡◌, IfOk};
+ghost use Rattle.lines.specs.Lines.{words_of};
+ghost use Rattle.explain.specs.Stray.{IsMarked, blank_note, ends_in_return, has_tab, is_remark, kind_note, stray_note, word_note};
+
+use crate::explanation::{Mark, Note};
+use script::Mode;
+use std::alloc::{AllocError, Global};
+use wording::{Kind, first_wrong, is_line, known_words, mode_of_word, nearest, place_of, word_at};
+
+/// What is said of a word without a letter: a blank too many.
+fn blank_note(text: &str, word: usize) -> Note
+    ensures { result ≡ blank_note text.now word }
+{
+    if word == 0 {
+        return Note::LeadingBlank;
+    }
+    let (_, end) = place_of(text, word);
+    if end == text.len() {
+        Note::TrailingBlank
+    } else {
+        Note::TwoBlanks
+    }
+}
+
+/// Whether a carriage return ends the line.
+fn ends_in_return(text: &str) -> bool
+    ensures { result ≡ ends_in_return text.now }
+{
+    match text.as_bytes().last() {
+        Some(last) => *last == b'\r',
+        None => false,
+    }
+}
+
+fn has_tab(word: &str) -> bool
+    ensures { result ≡ has_tab word.now }
+{
+    word.as_bytes().iter().any(|b| *b == b'\t')
+}
+
+fn is_remark(word: &str) -> bool
+    ensures { result ≡ is_remark word.now }
+{
+    match word.as_bytes() {
+        [first, ..] => *first == b'#',
+        [] => false,
+    }
+}
+
+/// What is said of a line that is of another kind.
+fn kind_note(kind: Kind, text: &str, word: &str) -> Option<Note>
+    ensures { result ≡ kind_note kind (words_of text.now) word.now }
+{
+    match kind {
+        Kind::Script(_) => {
+            if let Some(mode) = mode_of_word(word) {
+                return Some(Note::OtherMode(mode));
+            }
+            if is_line(Kind::Trace, text) || is_line(Kind::Head, text) {
+                return Some(Note::OfTrace);
+            }
+            None
+        }
+        Kind::Head | Kind::Trace => {
+            if is_line(Kind::Script(Mode::Run), text)
+                || is_line(Kind::Script(Mode::Threads), text)
+            {
+                return Some(Note::OfScript);
+            }
+            None
+        }
+    }
+}
+
+/// What is said of a wrong word that has letters.
+fn word_note(kind: Kind, text: &str, index: usize, word: &str) -> Option<Note>
+    ensures { result ≡ word_note kind text.now index word.now }
+{
+    if ends_in_return(text) {
+        return Some(Note::CarriageReturn);
+    }
+    if has_tab(word) {
+        return Some(Note::Tab);
+    }
+    if is_remark(word) {
+        return Some(Note::Remark);
+    }
+    if index == 0 {
+        kind_note(kind, text, word)
+    } else {
+        None
+    }
+}
+
+/// What is said beside a word at which no line of the kind can go on.
+pub fn stray_note(kind: Kind, text: &str, index: usize) -> Option<Note>
+    ensures { result ≡ stray_note kind text.now index }
+{
+    let word = word_at(text, index)?;
+    if word.is_empty() {
+        return Some(blank_note(text, index));
+    }
+    word_note(kind, text, index, word)
+}
+
+/// The first word at which no line of the kind can go on, what it has to be, and the known word that it is next to; None where the line is one
+/// of the kind.
+pub fn stray_mark(
+    alloc: Global,
+    kind: Kind,
+    text: &str,
+) -> Result<Option<Mark<'static>>, AllocError>
+    ensures { IfOk result (IsMarked kind (words_of text.now)) }
+{
+    let Some(wrong) = first_wrong(kind, text) else {
+        return Ok(None);
+    };
+    let word = word_at(text, wrong.word).unwrap_or("");
+    let near = nearest(alloc, word, known_words(wrong.next))?;
+    Ok(Some(Mark {
+        word: wrong.word,
+        expected: Some(wrong.next),
+        near,
+    }))
+}

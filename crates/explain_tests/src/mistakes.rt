@@ -1,0 +1,203 @@
+//! What is told of each mistake.
+
+use crate::files::{answer_of, words};
+
+/// Bytes of a file, and what is told of them.
+static MISTAKES: [(&[u8], u8, &str); 35] = [
+    // scripts and traces without fault
+    (
+        b"thread a\nmutex m\ncall a lock m\n",
+        0,
+        "f: a good script for `rfx run` and `rfx threads`\n",
+    ),
+    (
+        b"thread a\nmutex m\nstep a 1\n",
+        0,
+        "f: a good script for `rfx run`\n",
+    ),
+    (
+        b"thread a\nmutex m\nphase\n",
+        0,
+        "f: a good script for `rfx threads`\n",
+    ),
+    (
+        b"trace 1 1 0\n1 begin t1 lock m0\n2 point t1 m0 lock OK\nend 2\n",
+        0,
+        "f: a legal trace, of 1 points\n",
+    ),
+    // a misspelt word
+    (
+        b"thread a\nmutx m\n",
+        1,
+        "f: line 2: fault 2: unknown word (a script for `rfx run`)\n  | mutx m\n  | ^^^^\n  = expected one of `process` `thread` `mutex` `mutexes` `cond` `call` `begin` `step` `kill` `killall` `leave` `decline` `go` `locks`\n  = did you mean `mutex`?\n",
+    ),
+    (
+        b"thread a\nmutex m\nphase\ncall a trylok m\n",
+        1,
+        "f: line 4: fault 2: unknown word (a script for `rfx threads`)\n  | call a trylok m\n  |        ^^^^^^\n  = expected one of `lock` `trylock` `unlock` `consistent` `wait` `signal` `broadcast`\n  = did you mean `trylock`?\n",
+    ),
+    // a word that is missing, and one too many
+    (
+        b"thread a\nmutex m\nstep a\n",
+        1,
+        "f: line 3: fault 2: unknown word (a script for `rfx run`)\n  | step a\n  |        ^\n  = expected a number: decimal digits without leading zeros\n",
+    ),
+    (
+        b"thread a\nmutex m\nkill a a\n",
+        1,
+        "f: line 3: fault 2: unknown word (a script for `rfx run`)\n  | kill a a\n  |        ^\n  = expected the end of the line\n",
+    ),
+    (
+        b"thread a\nmutex m\ngo a # on\n",
+        1,
+        "f: line 3: fault 2: unknown word (a script for `rfx run`)\n  | go a # on\n  |      ^\n  = expected the end of the line\n  = a remark is a line of its own\n",
+    ),
+    // no name
+    (
+        b"thread A\n",
+        1,
+        "f: line 1: fault 2: unknown word (a script for `rfx run`)\n  | thread A\n  |        ^\n  = expected a name: 1 to 16 of a to z, 0 to 9 and _, the first a letter\n",
+    ),
+    // characters that take several bytes
+    (
+        b"thread \xc3\xa4\xc3\xb6\n",
+        1,
+        "f: line 1: fault 2: unknown word (a script for `rfx run`)\n  | thread \u{e4}\u{f6}\n  |        ^^\n  = expected a name: 1 to 16 of a to z, 0 to 9 and _, the first a letter\n",
+    ),
+    // blanks, tabs, ends of lines
+    (
+        b"  thread a\n",
+        1,
+        "f: line 1: fault 2: unknown word (a script for `rfx run`)\n  |   thread a\n  | ^\n  = expected one of `process` `thread` `mutex` `mutexes` `cond` `call` `begin` `step` `kill` `killall` `leave` `decline` `go` `locks`\n  = a blank stands before the first word\n",
+    ),
+    (
+        b"thread  a\n",
+        1,
+        "f: line 1: fault 2: unknown word (a script for `rfx run`)\n  | thread  a\n  |        ^\n  = expected a name: 1 to 16 of a to z, 0 to 9 and _, the first a letter\n  = two blanks stand here: words have one between them\n",
+    ),
+    (
+        b"mutex m \n",
+        1,
+        "f: line 1: fault 2: unknown word (a script for `rfx run`)\n  | mutex m \n  |         ^\n  = expected the end of the line\n  = a blank stands behind the last word\n",
+    ),
+    (
+        b"thread\ta\n",
+        1,
+        "f: line 1: fault 2: unknown word (a script for `rfx run`)\n  | thread\u{2409}a\n  | ^^^^^^^^\n  = expected one of `process` `thread` `mutex` `mutexes` `cond` `call` `begin` `step` `kill` `killall` `leave` `decline` `go` `locks`\n  = did you mean `thread`?\n  = a tab stands here: words have one blank between them\n",
+    ),
+    (
+        b"mutex m\r\n",
+        1,
+        "f: line 1: fault 2: unknown word (a script for `rfx run`)\n  | mutex m\u{240d}\n  |       ^^\n  = expected a name: 1 to 16 of a to z, 0 to 9 and _, the first a letter\n  = the line ends with CR LF: a line ends with a line feed alone\n",
+    ),
+    (
+        b"thread a\nmutex m",
+        1,
+        "f: line 2: fault 2: unknown word (a script for `rfx run`)\n  | mutex m\n  = the last line has no line feed at its end\n",
+    ),
+    // lines of the other mode, and of the other kind of file
+    (
+        b"thread a\nmutex m\nstep a 1\nphase\n",
+        1,
+        "f: line 4: fault 2: unknown word (a script for `rfx run`)\n  | phase\n  | ^^^^^\n  = expected one of `process` `thread` `mutex` `mutexes` `cond` `call` `begin` `step` `kill` `killall` `leave` `decline` `go` `locks`\n  = a script for `rfx threads` has such lines\n",
+    ),
+    (
+        b"1 kill t1\n",
+        1,
+        "f: line 1: fault 2: unknown word (a script for `rfx run`)\n  | 1 kill t1\n  | ^\n  = expected one of `process` `thread` `mutex` `mutexes` `cond` `call` `begin` `step` `kill` `killall` `leave` `decline` `go` `locks`\n  = this is a line of a trace, which begins with `trace T M C`\n",
+    ),
+    (
+        b"trace 1 1 0\nthread a\nend 1\n",
+        1,
+        "f: line 2: fault 2: unknown word (a trace)\n  | thread a\n  | ^^^^^^\n  = expected the number of an event, or `end`\n  = this is a line of a script, which doesn't begin with `trace `\n",
+    ),
+    // a declaration behind a command
+    (
+        b"thread a\nmutex m\ngo a\nthread b\n",
+        1,
+        "f: line 4: fault 2: unknown word (a script for `rfx run`)\n  | thread b\n  | ^^^^^^\n  = declarations stand before the first command\n  = see line 3:\n  | go a\n",
+    ),
+    // numbers
+    (
+        b"thread a\nmutex m\nstep a 0\n",
+        1,
+        "f: line 3: fault 3: number out of range (a script for `rfx run`)\n  | step a 0\n  |        ^\n  = the number is from 1 to 100000\n",
+    ),
+    (
+        b"thread a\nmutex m\nlocks a m 2\n",
+        1,
+        "f: line 3: fault 3: number out of range (a script for `rfx run`)\n  | locks a m 2\n  |           ^\n  = there aren't so many mutexes from this one on\n",
+    ),
+    (
+        b"mutex m\n",
+        1,
+        "f: line 2: fault 3: number out of range (a script for `rfx run`)\n  = the script declares no thread\n",
+    ),
+    (
+        b"thread a\nmutexes m 4096\nmutex n\n",
+        1,
+        "f: line 3: fault 3: number out of range (a script for `rfx run`)\n  | mutex n\n  | ^^^^^\n  = a script has at most 4096 of this kind: mutex\n",
+    ),
+    // names
+    (
+        b"thread writer\nmutex m\ngo writre\n",
+        1,
+        "f: line 3: fault 4: no such name (a script for `rfx run`)\n  | go writre\n  |    ^^^^^^\n  = did you mean `writer`?\n  = no line before declares a thread of this name\n",
+    ),
+    (
+        b"thread a\nmutexes m 3\nmutex m2\n",
+        1,
+        "f: line 3: fault 4: no such name (a script for `rfx run`)\n  | mutex m2\n  |       ^^\n  = a line before declares a mutex of this name\n  = see line 2:\n  | mutexes m 3\n",
+    ),
+    (
+        b"thread a\nmutex m\ndie a 1\nphase\ndie a 2\n",
+        1,
+        "f: line 5: fault 4: no such name (a script for `rfx threads`)\n  | die a 2\n  |     ^\n  = a thread dies once at most\n  = see line 3:\n  | die a 1\n",
+    ),
+    // too much
+    (
+        b"thread a\nmutex m\nstep a 100000\ngo a\nstep a 1\n",
+        1,
+        "f: line 5: fault 5: too long (a script for `rfx run`)\n  | step a 1\n  | ^^^^\n  = with this line it runs more than 100000 events\n",
+    ),
+    (
+        b"thread a\n\xff\n",
+        1,
+        "f: line 2: fault 1: not UTF-8 (a script for `rfx run`)\n",
+    ),
+    // traces
+    (
+        b"trace 1 1 0\n1 begin t2 lock m0\nend 1\n",
+        1,
+        "f: line 2: fault 3: number out of range (a trace)\n  | 1 begin t2 lock m0\n  |         ^^\n  = the first line counts 1 of this kind: thread\n",
+    ),
+    (
+        b"trace 1 1 0\n1 kill t1\n",
+        1,
+        "f: line 3: fault 5: cut (a trace)\n  = the last line of a trace is `end N`\n",
+    ),
+    // traces that aren't legal, and the lines that they go back to
+    (
+        b"trace 2 1 0\n1 begin t1 lock m0\n2 point t1 m0 lock OK\n3 begin t2 lock m0\n4 point t2 m0 lock OK\nend 4\n",
+        1,
+        "f: line 5: illegal: the mutex doesn't allow the reply OK: t1 owns it\n  | 4 point t2 m0 lock OK\n  = see line 3:\n  | 2 point t1 m0 lock OK\n",
+    ),
+    (
+        b"trace 1 1 0\n1 begin t1 lock m0\n2 begin t1 lock m0\nend 2\n",
+        1,
+        "f: line 3: illegal: the thread is in a call already: lock of m0\n  | 2 begin t1 lock m0\n  = see line 2:\n  | 1 begin t1 lock m0\n",
+    ),
+    (
+        b"trace 1 1 0\n5 begin t1 lock m0\nend 2\n",
+        1,
+        "f: line 3: illegal: the end is before event 5, of which a line was told\n  | end 2\n  = see line 2:\n  | 5 begin t1 lock m0\n",
+    ),
+];
+
+#[test]
+fn mistakes_are_told(rt: HostRuntime) {
+    for (file, status, printed) in &MISTAKES {
+        let answered = answer_of(rt.alloc(), words(rt.alloc(), &["rfx-explain", "f"]), *file);
+        assert!(rt; answered.is(*status, *printed, ""));
+    }
+}

@@ -1,0 +1,10 @@
+pub mod Running
+pub mod Words
+pub mod Fitting
+pub mod Scripts
+pub mod Traces
+pub mod Laws
+pub mod Scanning
+pub mod Firsts
+pub mod Told
+pub mod Nearness

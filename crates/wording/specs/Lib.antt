@@ -1,0 +1,4 @@
+pub mod Nexts
+pub mod Wrongs
+pub mod Known
+pub mod Near

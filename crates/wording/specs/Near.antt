@@ -1,0 +1,17 @@
+-- The nearest of several words.
+use Rattle.std.specs.Prelude.{ℕ, ◌+◌, ◌/◌, ◌<◌, ◌≤◌, max, List, length, All, Contains, Option, Some, None}
+use Rattle.std.specs.Str.{chars}
+use Rattle.strsim.specs.Edits.{osa_table}
+
+-- how many edits lead from one word to the other: a letter more, a letter less, another letter, or two neighbours swapped
+abbrev pub edits : List ℕ → List ℕ → ℕ
+edits w v = (osa_table (chars w) (chars v)).last_row (length (chars v))
+
+-- how many edits a misspelt word has at most: a third of its letters, and one at least
+abbrev pub most_edits : List ℕ → ℕ
+most_edits w = max (length w) 3 / 3
+
+-- of these words, one that is as near as any, and not too far; or all are too far
+abbrev pub IsNearest : List ℕ → List (List ℕ) → Option (List ℕ) → Type 0
+IsNearest w vs None = All (λ v. most_edits w < edits w v) vs
+IsNearest w vs (Some v) = Contains vs v × (edits w v ≤ most_edits w) × All (λ u. edits w v ≤ edits w u) vs

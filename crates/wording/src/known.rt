@@ -1,0 +1,84 @@
+//! The words that may stand at a place.
+
+ghost use Rattle.std.specs.Prelude.{◌≡◌, map};
+ghost use Rattle.wording.specs.Known.{call_words, deeds, keywords, known_words, reply_words};
+
+use crate::next::Next;
+use script::Mode;
+
+/// The words of calls.
+fn call_words() -> &'static [&'static str]
+    ensures { map (λ w. w.now) result.now ≡ call_words }
+{
+    &[
+        "lock",
+        "trylock",
+        "unlock",
+        "consistent",
+        "wait",
+        "signal",
+        "broadcast",
+    ]
+}
+
+/// The words of replies.
+fn reply_words() -> &'static [&'static str]
+    ensures { map (λ w. w.now) result.now ≡ reply_words }
+{
+    &[
+        "OK",
+        "EPERM",
+        "ESRCH",
+        "EAGAIN",
+        "EFAULT",
+        "EBUSY",
+        "EINVAL",
+        "EDEADLK",
+        "EOWNERDEAD",
+        "ENOTRECOVERABLE",
+        "X_NOMEM",
+        "X_RACED",
+        "X_HELD",
+        "X_FULL",
+        "X_STATE",
+    ]
+}
+
+/// The words of lines of a script.
+fn keywords(mode: Mode) -> &'static [&'static str]
+    ensures { map (λ w. w.now) result.now ≡ keywords mode }
+{
+    match mode {
+        Mode::Run => &[
+            "process", "thread", "mutex", "mutexes", "cond", "call", "begin", "step", "kill",
+            "killall", "leave", "decline", "go", "locks",
+        ],
+        Mode::Threads => &[
+            "process", "thread", "mutex", "mutexes", "cond", "call", "phase", "die",
+        ],
+    }
+}
+
+/// The words of what events do.
+fn deeds() -> &'static [&'static str]
+    ensures { map (λ w. w.now) result.now ≡ deeds }
+{
+    &[
+        "begin", "kill", "point", "death", "sleep", "wake", "move", "return", "reaped",
+    ]
+}
+
+/// The words that may stand at this place, but for names, numbers, and numbers behind a letter.
+pub fn known_words(next: Next) -> &'static [&'static str]
+    ensures { map (λ w. w.now) result.now ≡ known_words next }
+{
+    match next {
+        Next::Keyword(mode) => keywords(mode),
+        Next::Head => &["trace"],
+        Next::Event => &["end"],
+        Next::Deed => deeds(),
+        Next::Call | Next::Operation | Next::CallReply => call_words(),
+        Next::Reply => reply_words(),
+        _ => &[],
+    }
+}
