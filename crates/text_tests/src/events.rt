@@ -106,7 +106,10 @@ static EVENTS: [(&str, Played); 11] = [
     ("call a lock m0\ncall b lock m0\ngo b\n", Ok(14)),
     ("call a lock m0\ncall b lock m0\nkill b\ngo b\n", Ok(19)),
     ("leave a\ndecline a\n", Ok(2)),
-    ("call a lock m0\ncall b lock m0\nleave b\nleave b\ngo b\n", Ok(18)),
+    (
+        "call a lock m0\ncall b lock m0\nleave b\nleave b\ngo b\n",
+        Ok(18),
+    ),
     (
         "call a lock m0\ncall b lock m0\ncall a unlock m0\ngo b\n",
         Ok(30),
