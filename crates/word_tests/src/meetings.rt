@@ -45,11 +45,19 @@ fn locks_before_a_meeting_are_seen_behind_it(rt: HostRuntime) -> Result<(), Fail
         first,
         second,
     } = of_two(rt.alloc(), Layout::new(2, 2, &[])?, &[])?;
-    let ((first, one), (second, other)) =
-        at_once(&rt, &words, (first, TryLock(0)), (second, TryLock(1)));
+    let ((first, one), (second, other)) = at_once(
+        &rt,
+        &words,
+        (first, TryLock(0)),
+        (second, TryLock(1)),
+    );
     let (first, second) = words.meet(first, second);
-    let ((first, third), (second, fourth)) =
-        at_once(&rt, &words, (first, TryLock(1)), (second, TryLock(0)));
+    let ((first, third), (second, fourth)) = at_once(
+        &rt,
+        &words,
+        (first, TryLock(1)),
+        (second, TryLock(0)),
+    );
     assert!(rt; (one, other, third, fourth) == (OK, OK, EBUSY, EBUSY));
     let two = Two {
         words,
