@@ -6,7 +6,15 @@
 //! groups. A rule, steps and what they tell speak of places alone, as those of a table speak of its words.
 //!
 //! What is proved: each step by a place makes just the step of that name on the list of the words by place, from [`Places::of_words`] to [`Places::close`]. How far
-//! apart they lie is the definition `slot_of`, and the law `groups_are_apart`.
+//! apart they lie is the definition `slot_of`, and the law [`groups_are_apart`]. It stands on `atomic_table`, for the words and their steps.
+//!
+//! ```text
+//! // `Law` is a PlaceRule of four words, and `Take` a Play.
+//! let (places, mut seat) = Places::<View, Key, Law>::of_words(alloc, &[0; 4], &key)?;
+//! let met = places.compare_exchange::<Take>(&mut seat, 1, 0, 7);
+//! let last = places.close_with(seat);
+//! let word = last.word(1);
+//! ```
 #![tactic(auto)]
 
 mod closed;
