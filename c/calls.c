@@ -106,7 +106,7 @@ static inline void store(word *words, const struct pz_plan *plan, unsigned i)
 static uint64_t own(const pz *p, uint64_t at) { return atomic_load_explicit(&p->words[at], memory_order_relaxed); }
 static int is_entry(const pz *p, uint64_t at) { return at >= LINE && at < p->places - 2; }
 
-static uint32_t planned_lock(pz *p, unsigned t, uint64_t cell, unsigned operation)
+static inline uint32_t planned_lock(pz *p, unsigned t, uint64_t cell, unsigned operation)
 {
     struct pz_plan plan;
     word *words = p->words, *w = &words[cell];
@@ -126,7 +126,7 @@ static uint32_t planned_lock(pz *p, unsigned t, uint64_t cell, unsigned operatio
     return plan.reply;
 }
 
-static uint32_t planned_unlock(pz *p, unsigned t, uint64_t cell)
+static inline uint32_t planned_unlock(pz *p, unsigned t, uint64_t cell)
 {
     struct pz_plan plan;
     word *words = p->words, *w = &words[cell];
@@ -150,7 +150,7 @@ static uint32_t planned_unlock(pz *p, unsigned t, uint64_t cell)
     return plan.reply;
 }
 
-static uint32_t planned(pz *p, unsigned t, uint64_t cell, unsigned operation)
+static inline uint32_t planned(pz *p, unsigned t, uint64_t cell, unsigned operation)
 {
     if (PZ_TRACE)
         return NO_PLAN; /* a trace tells each step */
@@ -171,7 +171,8 @@ static unsigned self_in(pz *p, int *why)
     return pz_self[p->number].id;
 }
 
-static int on_mutex(pz *p, unsigned m, unsigned operation)
+/* Each call by itself, its operation known. */
+static inline __attribute__((always_inline)) int on_mutex(pz *p, unsigned m, unsigned operation)
 {
     int why = 0;
     if (m >= p->mutexes)
