@@ -143,7 +143,7 @@ void pz_trace_wake(unsigned t);
 void pz_trace_return(unsigned t, unsigned reply);
 void pz_trace_death(unsigned t, unsigned m);
 void pz_trace_reaped(unsigned t);
-unsigned pz_trace_fresh_id(void);
+void pz_trace_life(unsigned t);
 #define PZ_TELL(call) (call)
 #else
 #define PZ_TELL(call) ((void)0)

@@ -140,7 +140,10 @@ static int live_by(pz *p, unsigned t)
         bury(p, t);
     else if (r)
         return 0;
+    pz_trace_lock();
     begin_life(p, t);
+    PZ_TELL(pz_trace_life(t));
+    pz_trace_unlock();
     pz_self[p->number] = (struct self){.id = (uint8_t)t};
     atomic_fetch_add(&p->users, 1);
     return 1;
@@ -152,11 +155,7 @@ int pz_take_part(pz *p)
     unsigned last = pz_self[p->number].last;
     if (last && live_by(p, last))
         return 0;
-    unsigned first = 1;
-#if PZ_TRACE
-    first = pz_trace_fresh_id(); /* a trace uses no id again */
-#endif
-    for (unsigned t = first; t <= THREADS; t++)
+    for (unsigned t = 1; t <= THREADS; t++)
         if (live_by(p, t))
             return 0;
     return EAGAIN;

@@ -13,7 +13,7 @@ enum { ROOM = 64 << 20 };
 
 struct trace {
     pthread_mutex_t lock;
-    unsigned threads; /* ids that were given: a trace uses none again */
+    uint8_t lived[THREADS + 1]; /* ids that had a life: their next one is a renewal */
     long event;
     size_t length;
     char text[ROOM];
@@ -78,6 +78,14 @@ void pz_trace_write(FILE *to, unsigned mutexes, unsigned conds)
     fprintf(to, "end %ld\n", trace->event);
 }
 
+long pz_trace_events(void)
+{
+    pz_trace_lock();
+    long events = trace->event;
+    pz_trace_unlock();
+    return events;
+}
+
 /* Kills the process whose one thread has this id. */
 void pz_trace_kill(pid_t process, unsigned t)
 {
@@ -89,14 +97,6 @@ void pz_trace_kill(pid_t process, unsigned t)
 
 void pz_trace_lock(void) { pthread_mutex_lock(&trace->lock); }
 void pz_trace_unlock(void) { pthread_mutex_unlock(&trace->lock); }
-
-unsigned pz_trace_fresh_id(void)
-{
-    pz_trace_lock();
-    unsigned t = ++trace->threads;
-    pz_trace_unlock();
-    return t;
-}
 
 void pz_trace_begin(unsigned t, unsigned operation, unsigned m, int c)
 {
@@ -123,3 +123,11 @@ void pz_trace_wake(unsigned t) { tell("wake t%u\n", t); }
 void pz_trace_return(unsigned t, unsigned reply) { tell("return t%u %s\n", t, word_of(reply)); }
 void pz_trace_death(unsigned t, unsigned m) { tell("death t%u m%u\n", t, m); }
 void pz_trace_reaped(unsigned t) { tell("reaped t%u\n", t); }
+
+/* The first life of an id isn't told. */
+void pz_trace_life(unsigned t)
+{
+    if (trace->lived[t])
+        tell("renew t%u\n", t);
+    trace->lived[t] = 1;
+}

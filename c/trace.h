@@ -8,5 +8,6 @@
 /* Before any file is opened, by the parent of all that take part. */
 void pz_trace_start(void);
 void pz_trace_kill(pid_t process, unsigned t);
+long pz_trace_events(void);
 void pz_trace_write(FILE *to, unsigned mutexes, unsigned conds);
 #endif

@@ -1,9 +1,11 @@
-/* A trace of processes that lock, wait and are killed, for `rfx check`. Each thread has an id of its own, as traces use
- * none again. usage: traces SEED >TRACE */
+/* A trace of processes that lock, wait and are killed, for `rfx check`: 200 of them, six at a time, so each id has many
+ * lives. usage: traces SEED >TRACE */
 #include "trace.h"
 #include "try.h"
 
-enum { MUTEXES = 3, CONDS = 1, AT_ONCE = 5, IN_ALL = 40 };
+/* A trace has 100,000 events at most: from ENOUGH on nobody is begun any more, and who had HASTE rounds makes one a
+ * millisecond. */
+enum { MUTEXES = 3, CONDS = 1, AT_ONCE = 5, IN_ALL = 200, HASTE = 20, ENOUGH = 80000 };
 
 static pz *p;
 static _Atomic unsigned *ids; /* by child */
@@ -21,7 +23,9 @@ static void work(int slot)
     unsigned random = (unsigned)getpid();
     SAME(pz_thread_begin(p), 0);
     atomic_store(&ids[slot], pz_thread_id(p));
-    for (;;) {
+    for (int round = 0;; round++) {
+        if (round >= HASTE)
+            rest(1000);
         unsigned m = (unsigned)rand_r(&random) % MUTEXES;
         int r = rand_r(&random) % 2 ? pz_mutex_lock(p, m) : pz_mutex_trylock(p, m);
         if (r == EBUSY)
@@ -35,6 +39,12 @@ static void work(int slot)
     }
 }
 
+static void end(pid_t child, int slot)
+{
+    pz_trace_kill(child, atomic_load(&ids[slot]));
+    CHECK(waitpid(child, NULL, 0) == child);
+}
+
 int main(int argc, char **argv)
 {
     pid_t child[IN_ALL];
@@ -44,23 +54,20 @@ int main(int argc, char **argv)
     pz_trace_start();
     SAME(pz_open(path, 0600, MUTEXES, CONDS, NULL, 0, &p), 0);
     ids = shared(IN_ALL * sizeof *ids);
-    for (int i = 0; i < IN_ALL; i++) {
-        if (!(child[i] = fork()))
-            work(i);
-        while (!atomic_load(&ids[i]))
+    int n = 0;
+    for (; n < IN_ALL && pz_trace_events() < ENOUGH; n++) {
+        if (!(child[n] = fork()))
+            work(n);
+        while (!atomic_load(&ids[n]))
             rest(50);
-        int victim = i - AT_ONCE;
-        rest(rand() % 1000);
-        if (victim < 1)
-            continue; /* the first, which never waits, lives on */
-        pz_trace_kill(child[victim], atomic_load(&ids[victim]));
-        CHECK(waitpid(child[victim], NULL, 0) == child[victim]);
+        rest(rand() % 100);
+        if (n > AT_ONCE) /* the first, which never waits, lives on */
+            end(child[n - AT_ONCE], n - AT_ONCE);
     }
-    for (int i = 0; i < IN_ALL; i++)
-        if (i == 0 || i >= IN_ALL - AT_ONCE) {
-            pz_trace_kill(child[i], atomic_load(&ids[i]));
-            CHECK(waitpid(child[i], NULL, 0) == child[i]);
-        }
+    CHECK(n > AT_ONCE);
+    end(child[0], 0);
+    for (int i = n - AT_ONCE; i < n; i++)
+        end(child[i], i);
     pz_reap(p);
     pz_trace_write(stdout, MUTEXES, CONDS);
     unlink(path);
