@@ -49,7 +49,9 @@ fn a_thread_lives_200_times(rt: HostRuntime) -> Result<(), Fail> {
             (Lock(1), OK),
             (Unlock(1), OK),
         ] {
-            let (after, told) = makes(&rt, &bench, pass, OnMutex(op), &mut Never).expect(&rt, "it lives");
+            let (after, told) = makes(&rt, &bench, pass, OnMutex(op), &mut Never).expect(
+                &rt, "it lives",
+            );
             assert!(rt; told == reply);
             pass = after;
         }
