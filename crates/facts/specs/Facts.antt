@@ -5,7 +5,7 @@ use Rattle.lockword.specs.declared.reply.Reply.TheVariants.{OK}
 use Rattle.keys.specs.declared.point.Operation.TheVariants as operation
 use Rattle.keys.specs.declared.point.Decision.{Decision}
 use Rattle.facts.specs.declared.fact.Fact.{Fact}
-use Rattle.facts.specs.declared.fact.Fact.TheVariants.{Begin, Point, Death, Sleep, Wake, Move, Return, Kill, Reap}
+use Rattle.facts.specs.declared.fact.Fact.TheVariants.{Begin, Point, Death, Sleep, Wake, Move, Return, Kill, Reap, Renew}
 
 -- whose fact it is
 abbrev pub thread_of : Fact → ℕ
@@ -18,6 +18,7 @@ thread_of (Move t m) = t
 thread_of (Return t x) = t
 thread_of (Kill t) = t
 thread_of (Reap t) = t
+thread_of (Renew t) = t
 
 -- the step of a mutex's object: a point or an owner's death
 abbrev pub decision_of : Fact → Option Decision
@@ -42,3 +43,8 @@ is_kill f = false
 abbrev pub is_point : Fact → Bool
 is_point (Point d) = true
 is_point f = false
+
+-- a reaped thread lives anew
+abbrev pub is_renewal : Fact → Bool
+is_renewal (Renew t) = true
+is_renewal f = false

@@ -6,7 +6,7 @@ use Rattle.keys.specs.declared.point.Operation.{Operation}
 use Rattle.keys.specs.declared.point.Operation.TheVariants.{Lock, Unlock, Wait}
 use Rattle.facts.specs.declared.fact.Begun.{Begun}
 use Rattle.facts.specs.declared.fact.Fact.{Fact}
-use Rattle.facts.specs.declared.fact.Fact.TheVariants.{Begin, Point, Death, Sleep, Wake, Move, Return, Kill, Reap}
+use Rattle.facts.specs.declared.fact.Fact.TheVariants.{Begin, Point, Death, Sleep, Wake, Move, Return, Kill, Reap, Renew}
 use Rattle.facts.specs.declared.fact.Line.{Line}
 use Rattle.facts.specs.Facts.{thread_of}
 
@@ -55,7 +55,7 @@ pub data Mourned (t : ℕ) : List Fact → Type 0 where
   Tells_of : (m : ℕ) (later : List Fact) → Mourned t later → Mourned t (Death t m ∷ later)
   Buried : Mourned t (Reap t ∷ [])
 
--- all that thread t does: calls that returned, each with exactly its points, the last of which has the reply that it returned; perhaps one that hasn't returned, with a beginning of such points; and
+-- all that thread t does in one life: calls that returned, each with exactly its points, the last of which has the reply that it returned; perhaps one that hasn't returned, with a beginning of such points; and
 -- perhaps a kill, which ends that call. No point belongs to any other call, and no death comes before the kill
 pub data Life (t : ℕ) : List Fact → Type 0 where
   Rests : Life t []
@@ -63,3 +63,14 @@ pub data Life (t : ℕ) : List Fact → Type 0 where
   Stays : (c : Begun) (ps : List Act) → Beginning c.operation ps → Life t (Begin t c ∷ made t c ps)
   Cut : (c : Begun) (ps : List Act) (later : List Fact) → Beginning c.operation ps → Mourned t later → Life t (Begin t c ∷ (made t c ps ++ Kill t ∷ later))
   Dies : (later : List Fact) → Mourned t later → Life t (Kill t ∷ later)
+
+-- ---- lives
+
+-- the last of them tells that thread t was reaped
+abbrev pub EndsReaped : ℕ → List Fact → Type 0
+EndsReaped t fs = (before : List Fact) × (fs ≡ before ++ Reap t ∷ [])
+
+-- all that is told of thread t, whose id is used again: one life, or several, each but the last ended by its reaping, behind which t lives anew. So a call, a point or a death belongs to one of them
+pub data Lives (t : ℕ) : List Fact → Type 0 where
+  Last : (life : List Fact) → Life t life → Lives t life
+  Earlier : (life later : List Fact) → Life t life → EndsReaped t life → Lives t later → Lives t (life ++ Renew t ∷ later)

@@ -41,6 +41,8 @@ pub enum Fact {
     Kill(Tid),
     /// The walk of the thread's list has ended.
     Reap(Tid),
+    /// The thread, which was reaped, lives anew: its id is used again.
+    Renew(Tid),
 }
 
 /// A fact and the number of its event, from 1.
@@ -65,6 +67,7 @@ impl Fact {
             Fact::Return(thread, _) => thread,
             Fact::Kill(thread) => thread,
             Fact::Reap(thread) => thread,
+            Fact::Renew(thread) => thread,
         }
     }
 

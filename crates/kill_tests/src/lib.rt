@@ -8,4 +8,6 @@ mod kills;
 #[cfg(test)]
 mod pairs;
 #[cfg(test)]
+mod renewals;
+#[cfg(test)]
 mod sleepers;

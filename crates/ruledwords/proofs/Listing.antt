@@ -48,7 +48,9 @@ use Rattle.ruledwords.specs.Lists.{or_zero, known, IsAlive, IsInCall, IsMortal, 
 use Rattle.ruledwords.specs.Rules.{first_card, first_values}
 use Rattle.ruledwords.specs.Calls.{Ready, Made, OwnKept, led_at, standing_of}
 use Rattle.ruledwords.specs.Looks.{noted}
+use Rattle.ruledwords.specs.Renewals.{renewed}
 use Rattle.ruledwords.specs.Seen.{by, held_after, holds, holds_after}
+use Rattle.ruledwords.specs.Walks.{OwnsNothing}
 use Rattle.ruledwords.specs.Turns.{IsAnswerOf, IsAtCell, IsLoadOrStore}
 use Rattle.ruledwords.proofs.Lists.{value_put, value_put_else}
 use Rattle.ruledwords.proofs.Held.{held_append, owner_held}
@@ -392,15 +394,16 @@ call_begins k c is alive call p inside begun = subst (IsInCall k c (mutex_of cal
   list = right.begins_so k c.thread (owns_in k c) call (known k c) record { layout = is.layout; first = is.first; last = is.thread; mutex = inside } alive.list;
 }
 
--- ---- at first
+-- ---- empty lists
 
--- nobody owns a mutex, and each head is an empty list
-pub alive_first : (k : Layout') (t : ℕ) → IsLayout k → 1 ≤ t → t ≤ k.threads → IsAlive k (first_card k t)
-alive_first k t layout first inside = record {
-  knows = knows;
+-- a thread that owns nothing, and whose head leads to itself with nothing pending, has an empty list
+pub alive_empty : (k : Layout') (c : Card) → IsLayout k → 1 ≤ c.thread → c.thread ≤ k.threads → OwnsNothing k (owns_in k c)
+    → value_at c.values (head_place c.thread) ≡ Some (address_in k c.thread (head_place c.thread)) → value_at c.values (head_place c.thread + 1) ≡ Some cell_offset → value_at c.values (head_place c.thread + 2) ≡ Some 0 → IsAlive k c
+alive_empty k c layout first inside none at_head at_offset at_pending = record {
+  knows = record { each = each; offset = at_offset };
   list = record {
     entries = [];
-    owned = record { each = λ x among. absurd among; all = λ m low own out. absurd (cc own) };
+    owned = record { each = λ x among. absurd among; all = λ m low own out. absurd (let nobody = none m low in cc (nobody, own)) };
     chain = record {
       chain = record { leads = here (head_place t) (omega arith) (address_in k t (head_place t)) at_head; different = (tt, tt) };
       back = tt;
@@ -409,9 +412,12 @@ alive_first k t layout first inside = record {
         (((λ e. differ 1 2 (omega arith) (omega arith) (λ bad. cc) (sym (word 1 (omega arith)) ∙ e ∙ word 2 (omega arith))), tt), (tt, tt)),
       );
     };
-    pending = ap (known k (first_card k t)) (further_on k t layout first inside (head_place t) 2 (omega arith)) ∙ here (head_place t + 2) (omega arith) 0 at_pending;
+    pending = ap (known k c) (further_on k t layout first inside (head_place t) 2 (omega arith)) ∙ here (head_place t + 2) (omega arith) 0 at_pending;
   };
 } where
+  t : ℕ
+  t = c.thread
+
   word : (n : ℕ) → n < 3 → address_sum (address_in k t (head_place t)) n ≡ address_in k t (head_place t + n)
   word n few = further_on k t layout first inside (head_place t) n (omega arith)
 
@@ -421,36 +427,57 @@ alive_first k t layout first inside = record {
   differ : (i j : ℕ) → i < 3 → j < 3 → i ≢ j → address_in k t (head_place t + i) ≢ address_in k t (head_place t + j)
   differ i j few less other e = let same = same_place k t layout first inside (head_place t + i) (head_place t + j) (omega arith) (omega arith) e in other (omega (arith, same))
 
+  here : (p : ℕ) → p < words_of k → (x : ℕ) → value_at c.values p ≡ Some x → known k c (address_in k t p) ≡ x
+  here p below x is =
+      let small : nat_lt (address_in k t p) (2 ^ 64) ≡ true = lower (address_in k t p) (omega arith) in
+      ap (λ (b : Bool). if b then or_zero (value_at c.values (place_in k t (address_in k t p))) else 0) small
+      ∙ ap (λ (q : ℕ). or_zero (value_at c.values q)) (again k t layout first inside p below) ∙ ap or_zero is
+    where
+      lower : (n : ℕ) → n < 2 ^ 64 → nat_lt n (2 ^ 64) ≡ true
+      lower n small = grind (arith, nat_tests)
+
+  each : (p : ℕ) → IsOwn k c p → (x : ℕ) × (value_at c.values p ≡ Some x)
+  each p (inl e) = (address_in k t (head_place t), ap (value_at c.values) e ∙ at_head)
+  each p (inr (inl e)) = (0, ap (value_at c.values) e ∙ at_pending)
+  each p (inr (inr (m, low, link, own))) = absurd (let nobody = none m low in cc (nobody, own))
+
+-- at first nobody owns a mutex, and each head is an empty list
+pub alive_first : (k : Layout') (t : ℕ) → IsLayout k → 1 ≤ t → t ≤ k.threads → IsAlive k (first_card k t)
+alive_first k t layout first inside = alive_empty k (first_card k t) layout first inside (λ m low. refl) at_head at_offset at_pending where
   at_head : value_at (first_values k t) (head_place t) ≡ Some (address_in k t (head_place t))
   at_head =
       value_put_else (put_value (put_value [] (head_place t) (Some (address_in k t (head_place t)))) (head_place t + 1) (Some cell_offset)) (head_place t + 2) (head_place t) (Some 0) (λ e. absurd (omega arith))
       ∙ value_put_else (put_value [] (head_place t) (Some (address_in k t (head_place t)))) (head_place t + 1) (head_place t) (Some cell_offset) (λ e. absurd (omega arith))
       ∙ value_put [] (head_place t) (Some (address_in k t (head_place t)))
 
-  at_pending : value_at (first_values k t) (head_place t + 2) ≡ Some 0
-  at_pending = value_put (put_value (put_value [] (head_place t) (Some (address_in k t (head_place t)))) (head_place t + 1) (Some cell_offset)) (head_place t + 2) (Some 0)
-
-  here : (p : ℕ) → p < words_of k → (x : ℕ) → value_at (first_values k t) p ≡ Some x → known k (first_card k t) (address_in k t p) ≡ x
-  here p below x is =
-      let small : nat_lt (address_in k t p) (2 ^ 64) ≡ true = lower (address_in k t p) (omega arith) in
-      ap (λ (b : Bool). if b then or_zero (value_at (first_values k t) (place_in k t (address_in k t p))) else 0) small
-      ∙ ap (λ (q : ℕ). or_zero (value_at (first_values k t) q)) (again k t layout first inside p below) ∙ ap or_zero is
-    where
-      lower : (n : ℕ) → n < 2 ^ 64 → nat_lt n (2 ^ 64) ≡ true
-      lower n small = grind (arith, nat_tests)
-
   at_offset : value_at (first_values k t) (head_place t + 1) ≡ Some cell_offset
   at_offset =
       value_put_else (put_value (put_value [] (head_place t) (Some (address_in k t (head_place t)))) (head_place t + 1) (Some cell_offset)) (head_place t + 2) (head_place t + 1) (Some 0) (λ e. absurd (omega arith))
       ∙ value_put (put_value [] (head_place t) (Some (address_in k t (head_place t)))) (head_place t + 1) (Some cell_offset)
 
-  each : (p : ℕ) → IsOwn k (first_card k t) p → (x : ℕ) × (value_at (first_card k t).values p ≡ Some x)
-  each p (inl e) = (address_in k t (head_place t), ap (value_at (first_values k t)) e ∙ at_head)
-  each p (inr (inl e)) = (0, ap (value_at (first_values k t)) e ∙ at_pending)
-  each p (inr (inr (m, low, link, own))) = absurd (cc own)
+  at_pending : value_at (first_values k t) (head_place t + 2) ≡ Some 0
+  at_pending = value_put (put_value (put_value [] (head_place t) (Some (address_in k t (head_place t)))) (head_place t + 1) (Some cell_offset)) (head_place t + 2) (Some 0)
 
-  knows : KnowsOwn k (first_card k t)
-  knows = record { each = each; offset = at_offset }
+-- who lives anew
+pub card_anew : (k : Layout') (c : Card) → IsCardOf k c → IsCardOf k (renewed k c)
+card_anew k c is = record { layout = is.layout; threads = is.threads; first = is.first; thread = is.thread; base = is.base; legal = is.legal }
+
+pub alive_anew : (k : Layout') (c : Card) → IsCardOf k c → KnowsOwn k c → OwnsNothing k (owns_in k c) → IsAlive k (renewed k c)
+alive_anew k c is knows none = alive_empty k (renewed k c) is.layout is.first is.thread none at_head at_offset at_pending where
+  h : ℕ
+  h = head_place c.thread
+
+  first : List (Option ℕ)
+  first = put_value c.values h (Some (address_in k c.thread h))
+
+  at_head : value_at (put_value first (h + 2) (Some 0)) h ≡ Some (address_in k c.thread h)
+  at_head = value_put_else first (h + 2) h (Some 0) (λ e. absurd (omega arith)) ∙ value_put c.values h (Some (address_in k c.thread h))
+
+  at_offset : value_at (put_value first (h + 2) (Some 0)) (h + 1) ≡ Some cell_offset
+  at_offset = value_put_else first (h + 2) (h + 1) (Some 0) (λ e. absurd (omega arith)) ∙ value_put_else c.values h (h + 1) (Some (address_in k c.thread h)) (λ e. absurd (omega arith)) ∙ knows.offset
+
+  at_pending : value_at (put_value first (h + 2) (Some 0)) (h + 2) ≡ Some 0
+  at_pending = value_put first (h + 2) (Some 0)
 
 -- ---- who met another
 

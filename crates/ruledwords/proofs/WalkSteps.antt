@@ -323,14 +323,15 @@ counts k c is s walking going wake (Count j) count = went_on k c is s walking go
 counts k c is s walking going wake x count = absurd count
 
 -- the end
-pub walked_to_end : (k : Layout') (first d : Card) → HasWalked k first d → OwnsNothing k (owns_in k d) → IsReaped k first d
-walked_to_end k first d was none = record {
+pub walked_to_end : (k : Layout') (first d : Card) → HasWalked k first d → OwnsNothing k (owns_in k d) → KnowsOwn k d → IsReaped k first d
+walked_to_end k first d was none knows = record {
   thread = was.thread;
   threads = was.threads;
   base = was.base;
   told = λ m below own. ⊎_elim (λ still. absurd (let nobody = none m below in let somebody = still.0 in cc (nobody, somebody))) (λ told. told) (was.told m below own);
   stays = was.stays;
   none = none;
+  knows = knows;
 }
 
 -- ---- how far an answer brought the walk
@@ -373,7 +374,7 @@ module _ (k : Layout') (c d : Card) (s : Standing) (x : Answer) (walking : IsWal
 
   -- it has ended
   pub walk_ends : row_after s.thread s.head s.row x ≡ Ended → (first : Card) → HasWalked k first c → IsReaped k first d
-  walk_ends ended first was = walked_to_end k first d (w.walked first was) (subst (IsLeftAt k d) ended w.left)
+  walk_ends ended first was = walked_to_end k first d (w.walked first was) (subst (IsLeftAt k d) ended w.left) w.knows
 
   pub count_then : (h h' : ℕ) (point : Option Point) → h ≡ held c → h' ≡ count_after h point → point ≡ point_of s.thread s.row x → h' ≡ held d
   count_then h h' point was is told = is ∙ ap (count_after h) told ∙ ap (λ (n : ℕ). count_after n (point_of s.thread s.row x)) was ∙ sym w.count

@@ -115,7 +115,7 @@ pub record HasWalked (k : Layout') (c d : Card) : Type 0 where
   pub told : (m : ℕ) → m < k.mutexes → owns_in k c m ≡ true → ((owns_in k d m ≡ true) × SawThere c (cell_place k m) [] d) ⊎ TellsDeath c (cell_place k m) d
   pub stays : (m : ℕ) → m < k.mutexes → owns_in k c m ≡ false → at d.seen (cell_place k m) ≡ at c.seen (cell_place k m)
 
--- at its end: of each mutex that the thread held when it died, its death is told, and it holds nothing any more; what it has seen of any other mutex stays
+-- at its end: of each mutex that the thread held when it died, its death is told, and it holds nothing any more; what it has seen of any other mutex stays. It knows its own words still
 pub record IsReaped (k : Layout') (c d : Card) : Type 0 where
   pub thread : d.thread ≡ c.thread
   pub threads : d.threads ≡ c.threads
@@ -123,6 +123,7 @@ pub record IsReaped (k : Layout') (c d : Card) : Type 0 where
   pub told : (m : ℕ) → m < k.mutexes → owns_in k c m ≡ true → TellsDeath c (cell_place k m) d
   pub stays : (m : ℕ) → m < k.mutexes → owns_in k c m ≡ false → at d.seen (cell_place k m) ≡ at c.seen (cell_place k m)
   pub none : OwnsNothing k (owns_in k d)
+  pub knows : KnowsOwn k d
 
 -- ---- an access at a seat
 

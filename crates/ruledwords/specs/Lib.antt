@@ -16,6 +16,7 @@ pub mod Calls
 pub mod Conditions
 pub mod Walks
 pub mod Deaths
+pub mod Renewals
 pub mod Turns
 pub mod ConditionCalls
 pub mod ConditionStands

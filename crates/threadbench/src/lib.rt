@@ -8,7 +8,7 @@
 //! [`Bench::work`] runs one worker for each [`Job`] that has calls, all of them at once, and joins them: each makes its job's calls, on mutexes and
 //! on condition variables, in their order, as far as a [`Gate`] lets it, and its [`Record`] has their replies. So a caller works a phase at a time. Workers begin once
 //! each has its thread; where one can't be made none begins, and the jobs are given back. The thread of a job with a `die` number dies before its access with that number, and
-//! its list is walked as the kernel does it ([`Bench::exit`]).
+//! its list is walked as the kernel does it ([`Bench::exit`]). A thread that was reaped may live anew ([`Bench::renew`]).
 //!
 //! A call that may wait promises only what holds if it returns: nothing is claimed of when a sleeper is woken, nor that a mutex is ever had.
 #![tactic(auto)]
@@ -31,6 +31,7 @@ mod numbered;
 mod parker;
 mod parking;
 mod phase;
+mod renewal;
 mod room;
 mod section;
 mod sleep;

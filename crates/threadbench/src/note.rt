@@ -1,5 +1,7 @@
 //! Notes of kills.
 ghost use Rattle.std.specs.Prelude.{◌≡◌, ◌+◌, false, if◌then◌else◌, length, IfOk};
+ghost use Rattle.ruledwords.specs.Passes.{card, layout_of, IsLive};
+ghost use Rattle.ruledwords.specs.Renewals.{IsGone, renewed};
 ghost use Rattle.threadbench.specs.Notes.{AreNotes};
 ghost use Rattle.threadbench.specs.Sections.{stops_unless};
 
@@ -11,7 +13,7 @@ use buckets::Bucket;
 use crossbeam_utils::CachePadded;
 use keys::NoMem;
 use lockword::Tid;
-use ruledwords::Fate;
+use ruledwords::{Fate, Live, Pass, Reaped, Words};
 use std::alloc::Global;
 use std::marker::PhantomData;
 use std::sync::atomic::{AtomicBool, Ordering};
@@ -26,6 +28,13 @@ pub(crate) struct Note {
 /// A thread that was killed, as a note of its own says. Nothing makes one but [`Note::kill`], so whoever has one has written such a note before. It can't be let go: nothing takes it but
 /// [`Killed::roused`].
 pub(crate) struct Killed {
+    thread: Tid,
+}
+
+/// That a thread's note says no more that it was killed, so that the thread may live anew. Nothing makes one but
+/// [`Note::clear`].
+#[derive(Drop)]
+pub(crate) struct Cleared {
     thread: Tid,
 }
 
@@ -65,6 +74,17 @@ impl Note {
         }
     }
 
+    /// Takes back that the thread was killed, whose note it is. Whoever calls it holds the lock of moves, as no kill is
+    /// under way then.
+    pub(crate) fn clear(&self) -> Cleared
+        ensures { result.thread ≡ self.now.thread }
+    {
+        self.killed.store(false, Ordering::SeqCst);
+        Cleared {
+            thread: self.thread,
+        }
+    }
+
     /// What it tells its thread, which it has told nothing yet.
     #[inline(always)]
     pub(crate) fn fate(&self) -> Noted<'_>
@@ -93,6 +113,19 @@ impl Killed {
         let _given = given;
         let Killed { thread } = self;
         thread
+    }
+}
+
+impl Cleared {
+    /// The thread whose note it was lives anew.
+    pub(crate) fn begin(self, words: &Words, pass: Pass<Reaped>) -> Pass<Live>
+        requires thread { self.thread ≡ (card pass).thread }
+        requires pass { IsGone words.now pass }
+        ensures live { IsLive words.now result }
+        ensures card { card result ≡ renewed (layout_of words.now) (card pass) }
+    {
+        let Cleared { thread: _ } = self;
+        pass.renew(words)
     }
 }
 
