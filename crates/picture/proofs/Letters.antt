@@ -1,5 +1,5 @@
 -- How much room words take: each of their bytes is a character.
-use Rattle.std.proofs.Common.{◌≡◌, ℕ, zero, suc, ◌+◌, ◌-◌, ◌*◌, ◌<◌, ◌≤◌, ◌^◌, ◌&&◌, Bool, true, false, Option, Some, None, List, [], ◌∷◌, ◌++◌, length, refl, sym, ap, ◌∙◌, arith, append-nil}
+use Rattle.std.proofs.Common.{◌≡◌, ℕ, ◌+◌, ◌-◌, ◌<◌, ◌≤◌, ◌^◌, ◌&&◌, Bool, true, false, Option, Some, None, List, [], ◌∷◌, ◌++◌, length, refl, arith}
 use Rattle.std.specs.Prelude.{codes, decimal}
 use Rattle.std.specs.List.{concat}
 use Rattle.std.specs.Char.{is_ascii_digit}
@@ -19,7 +19,7 @@ use Rattle.keys.specs.Words.{operation_word}
 use Rattle.facts.specs.declared.fact.Queue.{Queue}
 use Rattle.facts.specs.declared.fact.Queue.TheVariants.{Mutex, Condition}
 use Rattle.facts.specs.declared.fact.Fact.{Fact}
-use Rattle.facts.specs.declared.fact.Fact.TheVariants.{Begin, Point, Death, Sleep, Wake, Move, Return, Kill, Reap}
+use Rattle.facts.specs.declared.fact.Fact.TheVariants.{Begin, Point, Death, Sleep, Wake, Move, Return, Kill, Reap, Renew}
 use Rattle.picture.specs.declared.lane.Lane.{Lane}
 use Rattle.picture.specs.Lanes.{called}
 use Rattle.picture.specs.Laws.{columns}
@@ -148,6 +148,7 @@ words_letters lane (Move t m) first second = at_most _ 8 32 (omega arith) (move_
 words_letters lane (Return t x) first second = at_most _ 15 32 (omega arith) (six (reply_word x) [] [] [] [] [] 15 0 0 0 0 0 (reply_letters x) none none none none none)
 words_letters lane (Kill t) first second = record { single = refl; few = omega arith }
 words_letters lane (Reap t) first second = record { single = refl; few = omega arith }
+words_letters lane (Renew t) first second = record { single = refl; few = omega arith }
 
 -- ---- what pieces leave
 

@@ -1,5 +1,5 @@
 -- The texts of an SVG picture have room.
-use Rattle.std.proofs.Common.{◌≡◌, ℕ, zero, suc, ◌+◌, ◌-◌, ◌*◌, ◌/◌, ◌<◌, ◌≤◌, ◌^◌, List, ◌++◌, length, refl, arith}
+use Rattle.std.proofs.Common.{ℕ, ◌*◌, ◌/◌, ◌≤◌, length, refl, arith}
 use Rattle.std.specs.Prelude.{codes, decimal}
 use Rattle.std.specs.List.{concat}
 use Rattle.std.proofs.lemmas.Bool.Decides.{nat_tests}
@@ -8,11 +8,11 @@ use Rattle.facts.specs.Facts.{thread_of}
 use Rattle.picture.specs.declared.scene.Scene.{Scene}
 use Rattle.picture.specs.declared.svg.Extent.{Extent}
 use Rattle.picture.specs.Laws.{HasNumbersOfATrace, HasRoom, TextsHaveRoom, pixels}
-use Rattle.picture.specs.Places.{along, band_x, lane_x}
+use Rattle.picture.specs.Places.{along}
 use Rattle.picture.specs.Rows.{from_at, is_from_right, words_at}
 use Rattle.picture.specs.Scenes.{lane_at}
 use Rattle.picture.specs.Svg.{mark_of}
-use Rattle.picture.proofs.Letters.{Letters, number_letters, then_letters, words_letters}
+use Rattle.picture.proofs.Letters.{number_letters, then_letters, words_letters}
 
 pixels_of : (n k : ℕ) → n ≤ k → pixels n ≤ 15 * k / 2
 pixels_of n k le = omega (arith, le)

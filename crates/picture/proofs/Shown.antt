@@ -1,24 +1,23 @@
 -- Each lane that shows something stands in its own columns.
-use Rattle.std.proofs.Common.{◌≡◌, ℕ, zero, suc, ◌+◌, ◌-◌, ◌*◌, ◌/◌, ◌%◌, ◌<◌, ◌≤◌, ◌^◌, ◌==◌, Bool, true, false, Option, Some, None, List, [], ◌∷◌, ◌++◌, length, refl, sym, ap, ◌∙◌, append_assoc, arith, cond, inl, inr, min, max, not, IfSome}
-use Rattle.std.specs.Prelude.{nat_lt, nat_le, codes, decimal, ◌≢◌, ◌&&◌, slice_index_or, if◌then◌else◌}
+use Rattle.std.proofs.Common.{◌≡◌, ℕ, zero, suc, ◌+◌, ◌-◌, ◌*◌, ◌/◌, ◌%◌, ◌<◌, ◌≤◌, ◌^◌, ◌==◌, Bool, true, false, Option, Some, None, List, [], ◌∷◌, ◌++◌, length, refl, sym, ap, ◌∙◌, append_assoc, arith, cond, inl, inr, min, max, IfSome}
+use Rattle.std.specs.Prelude.{nat_lt, nat_le, codes, decimal, ◌&&◌, slice_index_or, if◌then◌else◌}
 use Rattle.std.specs.List.{concat, repeat}
 use Rattle.std.proofs.lemmas.Bool.{cases_lt}
 use Rattle.std.proofs.lemmas.Bool.Decides.{nat_tests}
 use Rattle.std.proofs.Math.Nat.{add-mul, mod-add-div, suc-mul}
-use Rattle.std.proofs.lemmas.List.{length-append}
 use Rattle.keys.specs.declared.object.Object.{Object}
 use Rattle.keys.specs.Objects.{fresh}
 use Rattle.facts.specs.declared.fact.Fact.{Fact}
-use Rattle.facts.specs.declared.fact.Fact.TheVariants.{Begin, Point, Death, Sleep, Wake, Move, Return, Kill, Reap}
+use Rattle.facts.specs.declared.fact.Fact.TheVariants.{Begin, Point, Death, Sleep, Wake, Move, Return, Kill, Reap, Renew}
 use Rattle.facts.specs.declared.fact.Line.{Line}
-use Rattle.facts.specs.Facts.{is_passive, thread_of}
+use Rattle.facts.specs.Facts.{thread_of}
 use Rattle.picture.specs.declared.lane.Lane.{Lane}
 use Rattle.picture.specs.declared.rows.Part.TheVariants as part
 use Rattle.picture.specs.declared.scene.Scene.{Scene}
 use Rattle.picture.specs.Laws.{EndsWithABlank, HasNumbersOfATrace, ShownLanesStandInTheirColumns, Shows, StandsInItsColumns, columns}
 use Rattle.picture.specs.Layouts.{gap, is_wide, width}
 use Rattle.picture.specs.Pieces.{each, less, padded}
-use Rattle.picture.specs.Rows.{arrow_end, arrow_from, arrow_sign, band_at, bands_text, beside, blanks, cell, cell_at, event_text, from_at, in_arrow, is_covered, is_from_right, mark, narrow_mark, owner_name, owner_pieces, part_of, part_text, reach, sign, tail, taken, words_at, wide_mark}
+use Rattle.picture.specs.Rows.{arrow_end, arrow_from, arrow_sign, band_at, bands_text, beside, blanks, cell, cell_at, event_text, from_at, is_covered, is_from_right, mark, narrow_mark, owner_name, owner_pieces, part_of, part_text, reach, sign, tail, taken, words_at, wide_mark}
 use Rattle.picture.specs.Scenes.{lane_at}
 use Rattle.picture.specs.Signs.{dash, to_left}
 use Rattle.picture.specs.Words.{first_number, words}
@@ -200,6 +199,8 @@ arrow_words None lane (Kill t) small right = absurd cc
 arrow_words (Some a) lane (Kill t) small right = absurd cc
 arrow_words None lane (Reap t) small right = absurd cc
 arrow_words (Some a) lane (Reap t) small right = absurd cc
+arrow_words None lane (Renew t) small right = absurd cc
+arrow_words (Some a) lane (Renew t) small right = absurd cc
 
 arrow_one : (t : ℕ) (from : Option ℕ) → columns (arrow_sign t from) ≡ 1
 arrow_one t None = refl
@@ -219,6 +220,7 @@ sign_one (Move t m) from = arrow_one t from
 sign_one (Return t x) from = refl
 sign_one (Kill t) from = refl
 sign_one (Reap t) from = refl
+sign_one (Renew t) from = refl
 
 -- a padded text of fewer letters than columns takes these, and a blank is the last
 padded_columns : (n m : ℕ) (ps : List (List ℕ)) → Letters (concat ps) m → m < n → columns (padded n ps) ≡ n

@@ -2,7 +2,7 @@
 use Rattle.std.specs.Prelude.{ℕ, List, codes, Option, Some, None}
 use Rattle.keys.specs.declared.point.Operation.{Operation}
 use Rattle.facts.specs.declared.fact.Fact.{Fact}
-use Rattle.facts.specs.declared.fact.Fact.TheVariants.{Begin, Kill, Sleep, Wake, Return, Reap}
+use Rattle.facts.specs.declared.fact.Fact.TheVariants.{Begin, Kill, Sleep, Wake, Return, Reap, Renew}
 use Rattle.picture.specs.declared.lane.Lane.{Lane}
 use Rattle.picture.specs.declared.lane.Lane.TheVariants.{Idle, Calling, Asleep, Dying, Reaped}
 use Rattle.picture.specs.Signs.{dot, bar, dashes, dagger}
@@ -21,7 +21,7 @@ abbrev pub woken : Lane → Lane
 woken (Asleep op) = Calling op
 woken lane = lane
 
--- what it shows behind a line of its thread: a call from its begin to its return or its kill, sleep until a wake, and death
+-- what it shows behind a line of its thread: a call from its begin to its return or its kill, sleep until a wake, and death until the thread lives anew
 abbrev pub after : Lane → Fact → Lane
 after lane (Begin t c) = Calling c.operation
 after lane (Sleep t q) = slept lane
@@ -29,6 +29,7 @@ after lane (Wake t) = woken lane
 after lane (Return t x) = Idle
 after lane (Kill t) = Dying
 after lane (Reap t) = Reaped
+after lane (Renew t) = Idle
 after lane f = lane
 
 -- its sign in a row of text

@@ -4,7 +4,7 @@ use Rattle.std.specs.List.{concat, repeat}
 use Rattle.keys.specs.declared.object.Object.{Object}
 use Rattle.keys.specs.Objects.{fresh}
 use Rattle.facts.specs.declared.fact.Fact.{Fact}
-use Rattle.facts.specs.declared.fact.Fact.TheVariants.{Begin, Point, Death, Sleep, Wake, Move, Return, Kill, Reap}
+use Rattle.facts.specs.declared.fact.Fact.TheVariants.{Begin, Point, Death, Sleep, Wake, Move, Return, Kill, Reap, Renew}
 use Rattle.facts.specs.declared.fact.Line.{Line}
 use Rattle.facts.specs.Facts.{is_passive, thread_of}
 use Rattle.std.specs.Prelude.{slice_index_or}
@@ -41,6 +41,7 @@ sign (Move t m) from = arrow_sign t from
 sign (Return t x) from = bottom
 sign (Kill t) from = cross
 sign (Reap t) from = dagger
+sign (Renew t) from = codes "*"
 
 -- how many columns a sign, a blank and the words behind it take; all words have fewer than 62
 abbrev pub taken : List (List ℕ) → ℕ

@@ -62,10 +62,11 @@ mark_class (fact.Point d) = codes "p"
 mark_class (fact.Death t m) = codes "k"
 mark_class (fact.Kill t) = codes "k"
 mark_class (fact.Reap t) = codes "k"
+mark_class (fact.Renew t) = codes "b"
 mark_class (fact.Wake t) = codes "q"
 mark_class (fact.Move t m) = codes "q"
 
--- a stroke, a disc, a z, a cross and so on, from the middle of the lane
+-- a stroke, a disc, a z, a cross, a star and so on, from the middle of the lane
 abbrev pub mark_path : Fact → List ℕ
 mark_path (fact.Begin t c) = codes "m-7 0h14"
 mark_path (fact.Return t x) = codes "m-7 0h14"
@@ -74,6 +75,7 @@ mark_path (fact.Point d) = codes "m-4 0a4 4 0 1 0 8 0a4 4 0 1 0-8 0"
 mark_path (fact.Death t m) = codes "m0-6v7m0 3v2"
 mark_path (fact.Kill t) = codes "m-5-5l10 10m0-10l-10 10"
 mark_path (fact.Reap t) = codes "m0-6v12m-4-8h8"
+mark_path (fact.Renew t) = codes "m0-6v12m-5-9l10 6m0-6l-10 6"
 mark_path (fact.Wake t) = codes "m-4 0a4 4 0 1 0 8 0a4 4 0 1 0-8 0"
 mark_path (fact.Move t m) = codes "m-4 0a4 4 0 1 0 8 0a4 4 0 1 0-8 0"
 

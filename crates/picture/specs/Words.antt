@@ -8,7 +8,7 @@ use Rattle.keys.specs.Words.{operation_word}
 use Rattle.facts.specs.declared.fact.Queue.{Queue}
 use Rattle.facts.specs.declared.fact.Queue.TheVariants.{Mutex, Condition}
 use Rattle.facts.specs.declared.fact.Fact.{Fact}
-use Rattle.facts.specs.declared.fact.Fact.TheVariants.{Begin, Point, Death, Sleep, Wake, Move, Return, Kill, Reap}
+use Rattle.facts.specs.declared.fact.Fact.TheVariants.{Begin, Point, Death, Sleep, Wake, Move, Return, Kill, Reap, Renew}
 use Rattle.picture.specs.declared.lane.Lane.{Lane}
 use Rattle.picture.specs.Lanes.{called}
 
@@ -69,3 +69,4 @@ words lane (Move t m) = codes "to m" ∷ decimal m ∷ [] ∷ [] ∷ [] ∷ [] �
 words lane (Return t x) = reply_word x ∷ [] ∷ [] ∷ [] ∷ [] ∷ [] ∷ []
 words lane (Kill t) = codes "killed" ∷ [] ∷ [] ∷ [] ∷ [] ∷ [] ∷ []
 words lane (Reap t) = codes "reaped" ∷ [] ∷ [] ∷ [] ∷ [] ∷ [] ∷ []
+words lane (Renew t) = codes "renewed" ∷ [] ∷ [] ∷ [] ∷ [] ∷ [] ∷ []

@@ -61,6 +61,7 @@ impl Lane {
             Fact::Return(..) => Lane::Idle,
             Fact::Kill(_) => Lane::Dying,
             Fact::Reap(_) => Lane::Reaped,
+            Fact::Renew(_) => Lane::Idle,
             Fact::Point(_) | Fact::Death(..) | Fact::Move(..) => self,
         }
     }

@@ -78,6 +78,7 @@ fn sign(fact: &Fact, from: Option<u8>) -> &'static str
         Fact::Return(..) => "└",
         Fact::Kill(_) => "╳",
         Fact::Reap(_) => "†",
+        Fact::Renew(_) => "*",
     }
 }
 

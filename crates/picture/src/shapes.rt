@@ -194,7 +194,7 @@ fn mark_class(fact: &Fact) -> &'static str
     ensures { result.now ≡ mark_class fact.now }
 {
     match *fact {
-        Fact::Begin(..) | Fact::Return(..) | Fact::Sleep(..) => "b",
+        Fact::Begin(..) | Fact::Return(..) | Fact::Sleep(..) | Fact::Renew(_) => "b",
         Fact::Point(_) => "p",
         Fact::Death(..) | Fact::Kill(_) | Fact::Reap(_) => "k",
         Fact::Wake(_) | Fact::Move(..) => "q",
@@ -212,6 +212,7 @@ fn mark_path(fact: &Fact) -> &'static str
         Fact::Sleep(..) => "m-4-4h8l-8 8h8",
         Fact::Kill(_) => "m-5-5l10 10m0-10l-10 10",
         Fact::Reap(_) => "m0-6v12m-4-8h8",
+        Fact::Renew(_) => "m0-6v12m-5-9l10 6m0-6l-10 6",
     }
 }
 

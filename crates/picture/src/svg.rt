@@ -36,7 +36,8 @@ fn ends_lane(fact: &Fact) -> bool
         | Fact::Wake(_)
         | Fact::Return(..)
         | Fact::Kill(_)
-        | Fact::Reap(_) => true,
+        | Fact::Reap(_)
+        | Fact::Renew(_) => true,
     }
 }
 

@@ -33,7 +33,7 @@ pub fn first_number(fact: &Fact) -> u16
         Fact::Death(_, mutex) => mutex,
         Fact::Sleep(_, queue) => queue_number(queue),
         Fact::Move(_, mutex) => mutex,
-        Fact::Wake(_) | Fact::Return(..) | Fact::Kill(_) | Fact::Reap(_) => 0,
+        Fact::Wake(_) | Fact::Return(..) | Fact::Kill(_) | Fact::Reap(_) | Fact::Renew(_) => 0,
     }
 }
 
@@ -120,5 +120,6 @@ pub fn words<'a>(lane: Lane, fact: &Fact, first: &'a str, second: &'a str) -> Wo
         }
         Fact::Kill(_) => ["killed", "", "", "", "", ""],
         Fact::Reap(_) => ["reaped", "", "", "", "", ""],
+        Fact::Renew(_) => ["renewed", "", "", "", "", ""],
     }
 }

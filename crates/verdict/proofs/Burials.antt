@@ -12,7 +12,7 @@ use Rattle.keys.specs.Objects.{Does, stepped}
 use Rattle.keys.specs.Histories.{Legal, held_by, is_thread, opening}
 use Rattle.facts.specs.declared.fact.Begun.{Begun}
 use Rattle.facts.specs.declared.fact.Fact.{Fact}
-use Rattle.facts.specs.declared.fact.Fact.TheVariants.{Begin, Kill, Point, Death, Sleep, Wake, Move, Return, Reap}
+use Rattle.facts.specs.declared.fact.Fact.TheVariants.{Begin, Kill, Point, Death, Sleep, Wake, Move, Return, Reap, Renew}
 use Rattle.facts.specs.declared.fact.Line.{Line}
 use Rattle.verdict.specs.declared.stage.Stage.{Stage}
 use Rattle.verdict.specs.declared.stage.Stage.TheVariants.{Resting, Calling, Dying, Reaped}
@@ -22,7 +22,7 @@ use Rattle.facts.specs.Orders.{Later, Each, Orderly}
 use Rattle.verdict.specs.Fits.{Fits, FitsThread, Allows, OwnsNothing}
 use Rattle.verdict.specs.Judges.{IsMutex, one}
 use Rattle.verdict.specs.Verdicts.{AllFit}
-use Rattle.verdict.specs.Explained.{with_decision, decisions, is_death, deaths, is_reaping, reaped, Buries, Explains}
+use Rattle.verdict.specs.Explained.{with_decision, decisions, is_death, deaths, is_reaping, reaped, is_renewing, renewed, in_this_life, Buries, Explains}
 use Rattle.keys.proofs.Steps.{determined}
 use Rattle.verdict.proofs.Owners.{does_owners, not_owner, others_own, owns_itself}
 use Rattle.verdict.proofs.Stages.{Kept}
@@ -66,6 +66,7 @@ legal n (e ∷ es) fit inside = subst (λ ds. Legal n opening ds (objects_after 
     mutex_in (Move t k) i d is = absurd cc
     mutex_in (Return t x) i d is = absurd cc
     mutex_in (Reap t) i d is = absurd cc
+    mutex_in (Renew t) i d is = absurd cc
 
     by_decision : (o : Option Decision) → ((d : Decision) → o ≡ Some d → d.mutex < n) → Allows n (objects_after es) o → Legal n opening (decisions (reverse es) ++ with_decision o []) (moved (objects_after es) o)
     by_decision None i a = subst (λ ds. Legal n opening ds (objects_after es)) (sym (append_nil (decisions (reverse es)))) h
@@ -138,6 +139,7 @@ balance n t m es (Wake u) free fits a = nothing_else t (objects_after es m) (obj
 balance n t m es (Move u k) free fits a = nothing_else t (objects_after es m) (objects_after es m) refl
 balance n t m es (Return u x) free fits a = nothing_else t (objects_after es m) (objects_after es m) refl
 balance n t m es (Reap u) free fits a = nothing_else t (objects_after es m) (objects_after es m) refl
+balance n t m es (Renew u) free fits a = nothing_else t (objects_after es m) (objects_after es m) refl
 balance n t m es (Point d) free fits a = go (d.thread == t) refl where
   go : (b : Bool) → (d.thread == t) ≡ b → 0 + owns t (moved (objects_after es) (decision_of (Point d)) m) ≡ owns t (objects_after es m)
   go true is =
@@ -157,23 +159,24 @@ balance n t m es (Death u k) free fits a = go (u == t) refl where
 
 -- ---- from a kill on
 
--- what is told after the kill of thread t, the newest first, upon what was told with and before it
-still_killed : (t : ℕ) (f : Fact) (fs : List Fact) → is_killed fs ≡ true → is_killed (f ∷ fs) ≡ true
-still_killed t (Begin u c) fs k = k
-still_killed t (Kill u) fs k = refl
-still_killed t (Point d) fs k = k
-still_killed t (Death u m) fs k = k
-still_killed t (Sleep u q) fs k = k
-still_killed t (Wake u) fs k = k
-still_killed t (Move u m) fs k = k
-still_killed t (Return u x) fs k = k
-still_killed t (Reap u) fs k = k
+-- what is told after the kill of thread t, before it lives anew, the newest first, upon what was told with and before it
+still_killed : (t : ℕ) (f : Fact) (fs : List Fact) → (thread_of f == t) ≡ true → is_renewing t f ≡ false → is_killed fs ≡ true → is_killed (f ∷ fs) ≡ true
+still_killed t (Begin u c) fs is old k = k
+still_killed t (Kill u) fs is old k = refl
+still_killed t (Point d) fs is old k = k
+still_killed t (Death u m) fs is old k = k
+still_killed t (Sleep u q) fs is old k = k
+still_killed t (Wake u) fs is old k = k
+still_killed t (Move u m) fs is old k = k
+still_killed t (Return u x) fs is old k = k
+still_killed t (Reap u) fs is old k = k
+still_killed t (Renew u) fs is old k = let both : true ≡ false = sym is ∙ old in absurd cc
 
-killed_after : (t : ℕ) (e : Line) (es : List Line) → is_killed (told_of t es) ≡ true → is_killed (told_of t (e ∷ es)) ≡ true
-killed_after t e es k = go (thread_of e.fact == t) where
-  go : (b : Bool) → is_killed (if b then e.fact ∷ told_of t es else told_of t es) ≡ true
-  go true = still_killed t e.fact (told_of t es) k
-  go false = k
+killed_after : (t : ℕ) (e : Line) (es : List Line) → is_renewing t e.fact ≡ false → is_killed (told_of t es) ≡ true → is_killed (told_of t (e ∷ es)) ≡ true
+killed_after t e es old k = go (thread_of e.fact == t) refl where
+  go : (b : Bool) → (thread_of e.fact == t) ≡ b → is_killed (if b then e.fact ∷ told_of t es else told_of t es) ≡ true
+  go true is = still_killed t e.fact (told_of t es) is old k
+  go false is = k
 
 killed_now : (t : ℕ) (i : ℕ) (es : List Line) → is_killed (told_of t ((record { event = i; fact = Kill t }) ∷ es)) ≡ true
 killed_now t i es = let yes : (t == t) ≡ true = grind (arith, nat_tests) in ap (λ b. is_killed (if b then Kill t ∷ told_of t es else told_of t es)) yes
@@ -194,10 +197,11 @@ reap_owns t n os (Sleep u q) o is m lt = absurd cc
 reap_owns t n os (Wake u) o is m lt = absurd cc
 reap_owns t n os (Move u k) o is m lt = absurd cc
 reap_owns t n os (Return u x) o is m lt = absurd cc
+reap_owns t n os (Renew u) o is m lt = absurd cc
 
-settle : (t n : ℕ) (earlier newer told : List Line) (e : Line) → AllFit n told → Fits n told e → Settled t n earlier newer told → Settled t n earlier (e ∷ newer) (e ∷ told)
-settle t n earlier newer told e fit fits s = record {
-  killed = killed_after t e told s.killed;
+settle : (t n : ℕ) (earlier newer told : List Line) (e : Line) → is_renewing t e.fact ≡ false → AllFit n told → Fits n told e → Settled t n earlier newer told → Settled t n earlier (e ∷ newer) (e ∷ told)
+settle t n earlier newer told e old fit fits s = record {
+  killed = killed_after t e told old s.killed;
   each = λ m. let a = s.each m in let b = one_more m in omega (arith, a, b);
   gone = λ is m lt. go (is_reaping t e.fact) refl is m lt;
 }
@@ -212,13 +216,20 @@ settle t n earlier newer told e fit fits s = record {
     go true is w m lt = let was = reap_owns t n (objects_after told) e.fact fits.reaped is m lt in let b = one_more m in omega (arith, was, b)
     go false is w m lt = let was = s.gone w m lt in let b = one_more m in omega (arith, was, b)
 
-settled : (t n i : ℕ) (earlier newer : List Line) → AllFit n (newer ++ (record { event = i; fact = Kill t }) ∷ earlier) → Settled t n earlier newer (newer ++ (record { event = i; fact = Kill t }) ∷ earlier)
-settled t n i earlier [] fit = record {
+-- none of these lines tells that t lives anew
+not_yet : (b c : Bool) → (if b then true else c) ≡ false → (b ≡ false) × (c ≡ false)
+not_yet false c e = (refl, e)
+not_yet true c e = absurd cc
+
+settled : (t n i : ℕ) (earlier newer : List Line) → renewed t newer ≡ false → AllFit n (newer ++ (record { event = i; fact = Kill t }) ∷ earlier) → Settled t n earlier newer (newer ++ (record { event = i; fact = Kill t }) ∷ earlier)
+settled t n i earlier [] old fit = record {
   killed = killed_now t i earlier;
   each = λ m. omega arith;
   gone = λ is. absurd cc;
 }
-settled t n i earlier (e ∷ newer) fit = settle t n earlier newer (newer ++ (record { event = i; fact = Kill t }) ∷ earlier) e fit.1 fit.0 (settled t n i earlier newer fit.1)
+settled t n i earlier (e ∷ newer) old fit =
+    let none = not_yet (is_renewing t e.fact) (renewed t newer) old in
+    settle t n earlier newer (newer ++ (record { event = i; fact = Kill t }) ∷ earlier) e none.0 fit.1 fit.0 (settled t n i earlier newer none.1 fit.1)
 
 at_most_one : (b : Bool) → one b ≤ 1
 at_most_one true = omega arith
@@ -231,13 +242,21 @@ buries t n earlier newer told s = record {
   no_other = λ m lt owner. let a = s.each m in let c = ap one (not_owner t (objects_after earlier m).owner owner) in omega (arith, a, c);
 }
 
+-- behind the first line that tells that t lives anew nothing counts
+buries_life : (t n i : ℕ) (earlier newer : List Line) → AllFit n (newer ++ (record { event = i; fact = Kill t }) ∷ earlier) → Buries t n (objects_after earlier) (in_this_life t newer)
+buries_life t n i earlier [] fit = buries t n earlier [] ((record { event = i; fact = Kill t }) ∷ earlier) (settled t n i earlier [] refl fit)
+buries_life t n i earlier (e ∷ newer) fit = go (renewed t (e ∷ newer)) refl (buries_life t n i earlier newer fit.1) where
+  go : (b : Bool) → renewed t (e ∷ newer) ≡ b → Buries t n (objects_after earlier) (in_this_life t newer) → Buries t n (objects_after earlier) (if b then in_this_life t newer else e ∷ newer)
+  go true is rest = rest
+  go false old rest = buries t n earlier (e ∷ newer) (e ∷ (newer ++ (record { event = i; fact = Kill t }) ∷ earlier)) (settled t n i earlier (e ∷ newer) old fit)
+
 -- ---- all of it
 
 each_append : (P : Line → Type 0) (xs ys : List Line) → Each P xs → Each P ys → Each P (xs ++ ys)
 each_append P [] ys all more = more
 each_append P (x ∷ xs) ys all more = (all.0, each_append P xs ys all.1 more)
 
-each_reverse : (P : Line → Type 0) (es : List Line) → Each P es → Each P (reverse es)
+pub each_reverse : (P : Line → Type 0) (es : List Line) → Each P es → Each P (reverse es)
 each_reverse P [] all = tt
 each_reverse P (e ∷ es) all = subst (Each P) (sym (reverse-append (e ∷ []) es)) (each_append P (reverse es) (e ∷ []) (each_reverse P es all.1) (all.0, tt))
 
@@ -268,5 +287,5 @@ explains n told fit inside = record {
       let k : Line = record { event = i; fact = Kill t } in
       let fit_all = subst (AllFit n) all fit in
       let inside_all = subst (Each (λ e. IsMutex n e.fact)) all inside in
-      (objects_after earlier, legal n earlier (fit_before n newer k earlier fit_all) (inside_before n newer k earlier inside_all), buries t n earlier newer (newer ++ k ∷ earlier) (settled t n i earlier newer fit_all));
+      (objects_after earlier, legal n earlier (fit_before n newer k earlier fit_all) (inside_before n newer k earlier inside_all), buries_life t n i earlier newer fit_all);
 }

@@ -9,3 +9,4 @@ pub mod Whole
 pub mod Lives
 pub mod Burials
 pub mod Collecting
+pub mod OneLife

@@ -13,7 +13,7 @@ use Rattle.facts.specs.declared.fact.Fact.{Fact}
 use Rattle.facts.specs.declared.fact.Fact.TheVariants as fact
 use Rattle.facts.specs.declared.fact.Line.{Line}
 use Rattle.facts.specs.Lives.{Beginning, Complete}
-use Rattle.facts.specs.Facts.{decides, is_kill}
+use Rattle.facts.specs.Facts.{decides, is_kill, is_renewal}
 use Rattle.facts.specs.Orders.{Later, Each}
 use Rattle.verdict.specs.declared.stage.Made.{Made}
 use Rattle.verdict.specs.declared.stage.Made.TheVariants.{Nothing, Released, Decided}
@@ -23,7 +23,7 @@ use Rattle.verdict.specs.declared.misfit.Misfit.{Misfit}
 use Rattle.verdict.specs.declared.misfit.Misfit.TheVariants as misfit
 use Rattle.verdict.specs.Earlier.{call_in, points_in, is_reaped}
 use Rattle.verdict.specs.Fits.{Fits, FitsThread, Allows, OwnsNothing}
-use Rattle.verdict.specs.Misfits.{IsAwakeIn, IsDoneBy, IsEnded, IsMisfit, IsOutOfLife, IsOutOfOrder, OwnsSome, Refuses, RefusesStep, Told, mourns}
+use Rattle.verdict.specs.Misfits.{IsAwakeIn, IsDoneBy, IsEnded, IsMisfit, IsOutOfLife, IsOutOfOrder, OwnsSome, Refuses, RefusesStep, Told, needs_kill}
 use Rattle.verdict.specs.Stages.{Forbids, ForbidsPoint, MayPoint}
 use Rattle.verdict.proofs.Stages.{Of, Kept, all_made, may_first, may_point, nobody_calls, same_call, unkilled}
 
@@ -43,10 +43,11 @@ forbids_out misfit.NoCall Resting f fs kept h = (h, kept.0, kept.2)
 forbids_out misfit.Asleep (Calling c made z) f fs kept h = (h.0, kept.1 ∙ h.1)
 forbids_out misfit.Awake Resting f fs kept h = (h, kept.1, kept.2)
 forbids_out misfit.Awake (Calling c made z) f fs kept h = (h.0, kept.1 ∙ h.1, kept.2)
-forbids_out misfit.Alive Resting f fs kept h = (h, kept.2)
-forbids_out misfit.Alive (Calling c made z) f fs kept h = (h, kept.2)
+forbids_out misfit.Alive Resting f fs kept h = (h, kept.2, kept.3)
+forbids_out misfit.Alive (Calling c made z) f fs kept h = (h, kept.2, kept.3)
 forbids_out misfit.Killed Dying f fs kept h = (h, record { killed = kept.2; no_call = kept.0; awake = kept.1 }, kept.3)
-forbids_out misfit.Reaped Reaped f fs kept h = (record { killed = kept.2; no_call = kept.0; awake = kept.1 }, kept.3)
+forbids_out misfit.NotReaped Dying f fs kept h = (h, record { killed = kept.2; no_call = kept.0; awake = kept.1 }, kept.3)
+forbids_out misfit.Reaped Reaped f fs kept h = (h, record { killed = kept.2; no_call = kept.0; awake = kept.1 }, kept.3)
 forbids_out (misfit.OtherMutex n) (Calling c made z) (fact.Point d) fs kept h = (c, record { call = kept.0; awake = kept.1 ∙ h.0 }, h.1, h.2)
 forbids_out misfit.Undecided (Calling c made z) (fact.Return t x) fs kept h = (c, record { call = kept.0; awake = kept.1 ∙ h.0 }, subst (Of c.operation (points_in fs)) h.1 kept.4)
 forbids_out misfit.Released (Calling c made z) (fact.Return t x) fs kept h =
@@ -58,17 +59,18 @@ forbids_out m s f fs kept h = absurd h
 
 -- ---- such a line breaks its clause of Fits
 
--- of a killed thread nothing fits but what mourns it
-ended_breaks : (fs : List Fact) (f : Fact) → IsEnded fs → (mourns f ≡ true → is_reaped fs ≡ false → ⊥) → FitsThread fs f → ⊥
-ended_breaks fs (fact.Begin t c) e mourned fits = unkilled _ e.killed fits.1
-ended_breaks fs (fact.Kill t) e mourned fits = unkilled _ e.killed fits
-ended_breaks fs (fact.Point d) e mourned fits = nobody_calls _ e.no_call fits.1.1
-ended_breaks fs (fact.Death t m) e mourned fits = mourned refl fits.1
-ended_breaks fs (fact.Sleep t q) e mourned fits = nobody_calls _ e.no_call fits.1.1
-ended_breaks fs (fact.Wake t) e mourned fits = unkilled _ fits e.awake
-ended_breaks fs (fact.Move t m) e mourned fits = unkilled _ fits e.awake
-ended_breaks fs (fact.Return t x) e mourned fits = nobody_calls _ e.no_call fits.1.1
-ended_breaks fs (fact.Reap t) e mourned fits = mourned refl fits.1
+-- of a killed thread nothing fits but its death and its reaping, and then that it lives anew
+ended_breaks : (fs : List Fact) (f : Fact) → IsEnded fs → (needs_kill f ≡ true → is_reaped fs ≡ false → ⊥) → (is_renewal f ≡ true → is_reaped fs ≡ true → ⊥) → FitsThread fs f → ⊥
+ended_breaks fs (fact.Begin t c) e mourned renewed fits = unkilled _ e.killed fits.1
+ended_breaks fs (fact.Kill t) e mourned renewed fits = unkilled _ e.killed fits
+ended_breaks fs (fact.Point d) e mourned renewed fits = nobody_calls _ e.no_call fits.1.1
+ended_breaks fs (fact.Death t m) e mourned renewed fits = mourned refl fits.1
+ended_breaks fs (fact.Sleep t q) e mourned renewed fits = nobody_calls _ e.no_call fits.1.1
+ended_breaks fs (fact.Wake t) e mourned renewed fits = unkilled _ fits e.awake
+ended_breaks fs (fact.Move t m) e mourned renewed fits = unkilled _ fits e.awake
+ended_breaks fs (fact.Return t x) e mourned renewed fits = nobody_calls _ e.no_call fits.1.1
+ended_breaks fs (fact.Reap t) e mourned renewed fits = mourned refl fits.1
+ended_breaks fs (fact.Renew t) e mourned renewed fits = renewed refl fits
 
 -- the points of the call with this one
 points_with : (fs : List Fact) (d : Decision) (c : Begun) → call_in fs ≡ Some c → FitsThread fs (fact.Point d) → Beginning c.operation (points_in fs ++ (d.operation, d.reply) ∷ [])
@@ -87,10 +89,12 @@ life_breaks misfit.Asleep fs (fact.Sleep t q) h fits = unkilled _ h.1 fits.0
 life_breaks misfit.Asleep fs (fact.Return t x) h fits = unkilled _ h.1 fits.0
 life_breaks misfit.Awake fs (fact.Wake t) h fits = unkilled _ fits h.1
 life_breaks misfit.Awake fs (fact.Move t m) h fits = unkilled _ fits h.1
-life_breaks misfit.Killed fs f h fits = ended_breaks fs f h.1 (λ yes not. unkilled _ yes h.0) fits
-life_breaks misfit.Reaped fs f h fits = ended_breaks fs f h.0 (λ yes not. unkilled _ h.1 not) fits
+life_breaks misfit.Killed fs f h fits = ended_breaks fs f h.1 (λ yes not. unkilled _ yes h.0) (λ is yes. unkilled _ yes h.2) fits
+life_breaks misfit.NotReaped fs (fact.Renew t) h fits = unkilled _ fits h.2
+life_breaks misfit.Reaped fs f h fits = ended_breaks fs f h.1 (λ yes not. unkilled _ h.2 not) (λ is yes. unkilled _ is h.0) fits
 life_breaks misfit.Alive fs (fact.Death t m) h fits = unkilled _ fits.0 h.1
 life_breaks misfit.Alive fs (fact.Reap t) h fits = unkilled _ fits.0 h.1
+life_breaks misfit.Alive fs (fact.Renew t) h fits = unkilled _ fits h.2
 life_breaks (misfit.OtherMutex m) fs (fact.Point d) h fits = h.3 (fits.1.2 ∙ ap (λ (k : Begun). k.mutex) (same_call _ h.0 fits.1.0 h.1.call fits.1.1) ∙ sym h.2)
 life_breaks (misfit.OtherOperation op) fs (fact.Point d) h fits =
     h.4 d.reply (subst (λ a. Beginning a ((d.operation, d.reply) ∷ [])) (sym h.2) (subst (λ ps. Beginning h.0.operation (ps ++ (d.operation, d.reply) ∷ [])) h.3 (points_with fs d h.0 h.1.call fits)))
@@ -106,6 +110,7 @@ life_breaks (misfit.InCall c) fs f h fits = let e : false ≡ true = h.0 in absu
 life_breaks misfit.NoCall fs f h fits = let e : false ≡ true = h.0 in absurd cc
 life_breaks misfit.Asleep fs f h fits = let e : false ≡ true = h.0 in absurd cc
 life_breaks misfit.Awake fs f h fits = let e : false ≡ true = h.0 in absurd cc
+life_breaks misfit.NotReaped fs f h fits = let e : false ≡ true = h.0 in absurd cc
 life_breaks misfit.Alive fs f h fits = let e : false ≡ true = h.0 in absurd cc
 life_breaks m fs f h fits = h
 

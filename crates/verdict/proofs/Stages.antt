@@ -6,7 +6,7 @@ use Rattle.keys.specs.declared.point.Operation.{Operation}
 use Rattle.keys.specs.declared.point.Operation.TheVariants.{Lock, Unlock, Wait}
 use Rattle.facts.specs.declared.fact.Begun.{Begun}
 use Rattle.facts.specs.declared.fact.Fact.{Fact}
-use Rattle.facts.specs.declared.fact.Fact.TheVariants.{Begin, Kill, Point, Death, Sleep, Wake, Move, Return, Reap}
+use Rattle.facts.specs.declared.fact.Fact.TheVariants.{Begin, Kill, Point, Death, Sleep, Wake, Move, Return, Reap, Renew}
 use Rattle.verdict.specs.declared.stage.Made.{Made}
 use Rattle.verdict.specs.declared.stage.Made.TheVariants.{Nothing, Released, Decided}
 use Rattle.verdict.specs.declared.stage.Stage.{Stage}
@@ -92,6 +92,7 @@ may_fits (Calling c made z) (Move t m') fs k m = k.1 ∙ m
 may_fits (Calling c made z) (Return t x) fs k m = (k.1 ∙ m.0, (c, k.0, subst (Of c.operation (points_in fs)) m.1 k.4))
 may_fits Dying (Death t m') fs k m = (k.2, k.3)
 may_fits Dying (Reap t) fs k m = (k.2, k.3)
+may_fits Reaped (Renew t) fs k m = k.3
 may_fits s f fs k m = absurd m
 
 pub nobody_calls : {A : Type 0} {x : A} (o : Option A) → o ≡ None → o ≡ Some x → ⊥
@@ -125,6 +126,7 @@ fits_may Resting (Wake t) fs k h = unkilled _ h k.1
 fits_may Resting (Move t m') fs k h = unkilled _ h k.1
 fits_may Resting (Return t x) fs k h = nobody_calls _ k.0 h.1.1
 fits_may Resting (Reap t) fs k h = unkilled _ h.0 k.2
+fits_may Resting (Renew t) fs k h = unkilled _ h k.3
 fits_may (Calling c made z) (Begin t d) fs k h = nobody_calls _ h.0 k.0
 fits_may (Calling c made z) (Kill t) fs k h = tt
 fits_may (Calling c made z) (Point d) fs k h =
@@ -138,6 +140,7 @@ fits_may (Calling c made z) (Return t x) fs k h =
     let e = same_call _ c h.1.0 k.0 h.1.1 in
     (sym k.1 ∙ h.0, all_made c.operation (points_in fs) made x k.4 (subst (λ (q : Begun). Complete q.operation (points_in fs) x) e h.1.2))
 fits_may (Calling c made z) (Reap t) fs k h = unkilled _ h.0 k.2
+fits_may (Calling c made z) (Renew t) fs k h = unkilled _ h k.3
 fits_may Dying (Begin t c) fs k h = unkilled _ k.2 h.1
 fits_may Dying (Kill t) fs k h = unkilled _ k.2 h
 fits_may Dying (Point d) fs k h = nobody_calls _ k.0 h.1.1
@@ -147,6 +150,7 @@ fits_may Dying (Wake t) fs k h = unkilled _ h k.1
 fits_may Dying (Move t m') fs k h = unkilled _ h k.1
 fits_may Dying (Return t x) fs k h = nobody_calls _ k.0 h.1.1
 fits_may Dying (Reap t) fs k h = tt
+fits_may Dying (Renew t) fs k h = unkilled _ h k.3
 fits_may Reaped (Begin t c) fs k h = unkilled _ k.2 h.1
 fits_may Reaped (Kill t) fs k h = unkilled _ k.2 h
 fits_may Reaped (Point d) fs k h = nobody_calls _ k.0 h.1.1
@@ -156,6 +160,7 @@ fits_may Reaped (Wake t) fs k h = unkilled _ h k.1
 fits_may Reaped (Move t m') fs k h = unkilled _ h k.1
 fits_may Reaped (Return t x) fs k h = nobody_calls _ k.0 h.1.1
 fits_may Reaped (Reap t) fs k h = unkilled _ k.3 h.1
+fits_may Reaped (Renew t) fs k h = tt
 
 pub next_kept : (s : Stage) (f : Fact) (fs : List Fact) → Kept s fs → May s f → Kept (next s f) (f ∷ fs)
 next_kept Resting (Begin t c) fs k m = (refl, k.1, k.2, k.3, refl)
@@ -168,4 +173,5 @@ next_kept (Calling c made z) (Move t m') fs k m = k
 next_kept (Calling c made z) (Return t x) fs k m = (refl, k.1 ∙ m.0, k.2, k.3)
 next_kept Dying (Death t m') fs k m = k
 next_kept Dying (Reap t) fs k m = (k.0, k.1, k.2, refl)
+next_kept Reaped (Renew t) fs k m = (k.0, k.1, refl, refl)
 next_kept s f fs k m = absurd m

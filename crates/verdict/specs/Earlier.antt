@@ -6,7 +6,7 @@ use Rattle.keys.specs.Objects.{stepped}
 use Rattle.keys.specs.Histories.{opening}
 use Rattle.facts.specs.declared.fact.Begun.{Begun}
 use Rattle.facts.specs.declared.fact.Fact.{Fact}
-use Rattle.facts.specs.declared.fact.Fact.TheVariants.{Begin, Kill, Point, Sleep, Wake, Return, Reap}
+use Rattle.facts.specs.declared.fact.Fact.TheVariants.{Begin, Kill, Point, Sleep, Wake, Return, Reap, Renew}
 use Rattle.facts.specs.declared.fact.Line.{Line}
 use Rattle.facts.specs.Facts.{thread_of, decision_of}
 use Rattle.facts.specs.Lives.{Act}
@@ -41,14 +41,18 @@ is_asleep (Wake t ∷ fs) = false
 is_asleep (Kill t ∷ fs) = false
 is_asleep (f ∷ fs) = is_asleep fs
 
+-- it was killed, and hasn't lived anew since
 abbrev pub is_killed : List Fact → Bool
 is_killed [] = false
 is_killed (Kill t ∷ fs) = true
+is_killed (Renew t ∷ fs) = false
 is_killed (f ∷ fs) = is_killed fs
 
+-- it was reaped, and hasn't lived anew since
 abbrev pub is_reaped : List Fact → Bool
 is_reaped [] = false
 is_reaped (Reap t ∷ fs) = true
+is_reaped (Renew t ∷ fs) = false
 is_reaped (f ∷ fs) = is_reaped fs
 
 -- ---- the mutexes

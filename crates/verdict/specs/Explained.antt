@@ -4,9 +4,9 @@ use Rattle.keys.specs.declared.object.Object.{Object}
 use Rattle.keys.specs.declared.point.Decision.{Decision}
 use Rattle.keys.specs.Histories.{Legal, opening}
 use Rattle.facts.specs.declared.fact.Fact.{Fact}
-use Rattle.facts.specs.declared.fact.Fact.TheVariants.{Begin, Kill, Death, Sleep, Wake, Move, Return, Reap}
+use Rattle.facts.specs.declared.fact.Fact.TheVariants.{Begin, Kill, Death, Sleep, Wake, Move, Return, Reap, Renew}
 use Rattle.facts.specs.declared.fact.Line.{Line}
-use Rattle.facts.specs.Lives.{own, Life}
+use Rattle.facts.specs.Lives.{own, Lives}
 use Rattle.facts.specs.Facts.{decision_of}
 use Rattle.facts.specs.Orders.{Orderly}
 use Rattle.verdict.specs.Earlier.{told_of}
@@ -40,7 +40,22 @@ abbrev pub reaped : ℕ → List Line → Bool
 reaped t [] = false
 reaped t (e ∷ es) = if is_reaping t e.fact then true else reaped t es
 
--- of each mutex that thread t owned when it was killed its death is told at most once, and exactly once if it was reaped; of no other is it told; n is the number of mutexes
+-- whether these lines tell that thread t lives anew
+abbrev pub is_renewing : ℕ → Fact → Bool
+is_renewing t (Renew u) = u == t
+is_renewing t f = false
+
+abbrev pub renewed : ℕ → List Line → Bool
+renewed t [] = false
+renewed t (e ∷ es) = if is_renewing t e.fact then true else renewed t es
+
+-- of these lines, the newest first, those before the first that tells that thread t lives anew; all of them where none does
+abbrev pub in_this_life : ℕ → List Line → List Line
+in_this_life t [] = []
+in_this_life t (e ∷ es) = if renewed t (e ∷ es) then in_this_life t es else e ∷ es
+
+-- of each mutex that thread t owned when it was killed its death is told at most once, and exactly once if it was reaped; of no other is it told; n is the number of mutexes, and the lines are those of this
+-- life of t
 pub record Buries (t n : ℕ) (held : ℕ → Object) (later : List Line) : Type 0 where
   pub at_most_once : (m : ℕ) → m < n → (held m).owner ≡ Some t → deaths t m later ≤ 1
   pub once_reaped : (m : ℕ) → m < n → (held m).owner ≡ Some t → reaped t later ≡ true → deaths t m later ≡ 1
@@ -77,9 +92,9 @@ pub record Explains (n : ℕ) (told : List Line) : Type 0 where
   pub orderly : Orderly (reverse told)
   -- the points and deaths are a legal history
   pub legal : (new : ℕ → Object) × Legal n opening (decisions (reverse told)) new
-  pub lives : (t : ℕ) → Life t (own t (reverse told))
+  pub lives : (t : ℕ) → Lives t (own t (reverse told))
   -- nobody sleeps but in a call, until it is woken or killed
   pub sleeps : (t : ℕ) → Alternates Idle (told_of t (reverse told))
-  -- at each kill
+  -- at each kill, until the thread lives anew
   pub deaths_told : (newer earlier : List Line) (i t : ℕ) → told ≡ newer ++ (record { event = i; fact = Kill t }) ∷ earlier →
-      (held : ℕ → Object) × Legal n opening (decisions (reverse earlier)) held × Buries t n held newer
+      (held : ℕ → Object) × Legal n opening (decisions (reverse earlier)) held × Buries t n held (in_this_life t newer)

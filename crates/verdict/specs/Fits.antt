@@ -6,7 +6,7 @@ use Rattle.keys.specs.Objects.{Does}
 use Rattle.keys.specs.Histories.{held_by}
 use Rattle.facts.specs.declared.fact.Begun.{Begun}
 use Rattle.facts.specs.declared.fact.Fact.{Fact}
-use Rattle.facts.specs.declared.fact.Fact.TheVariants.{Begin, Kill, Point, Death, Sleep, Wake, Move, Return, Reap}
+use Rattle.facts.specs.declared.fact.Fact.TheVariants.{Begin, Kill, Point, Death, Sleep, Wake, Move, Return, Reap, Renew}
 use Rattle.facts.specs.declared.fact.Line.{Line}
 use Rattle.facts.specs.Lives.{Complete, Beginning}
 use Rattle.facts.specs.Facts.{thread_of, decision_of}
@@ -24,6 +24,7 @@ FitsThread fs (Wake t) = is_asleep fs ≡ true
 FitsThread fs (Move t m) = is_asleep fs ≡ true
 FitsThread fs (Return t x) = (is_asleep fs ≡ false) × ((k : Begun) × (call_in fs ≡ Some k) × Complete k.operation (points_in fs) x)
 FitsThread fs (Reap t) = (is_killed fs ≡ true) × (is_reaped fs ≡ false)
+FitsThread fs (Renew t) = is_reaped fs ≡ true
 
 -- the mutex's object allows the step; n is the number of mutexes
 abbrev pub Allows : ℕ → (ℕ → Object) → Option Decision → Type 0

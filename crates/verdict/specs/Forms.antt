@@ -79,12 +79,13 @@ head_form _ = None
 abbrev pub end_form : List ℕ → List ℕ → Option Form
 end_form w n = if bytes_eq w (codes "end") then (number_of n >>= λ i. Some (End i)) else None
 
--- `i kill tT`, `i wake tT` and `i reaped tT`
+-- `i kill tT`, `i wake tT`, `i reaped tT` and `i renew tT`
 abbrev pub mark_form : List ℕ → List ℕ → List ℕ → Option Form
 mark_form e w t = number_of e >>= λ i. thread_word t >>= λ u.
     if bytes_eq w (codes "kill") then Some (Told i (said.Kill u))
     else (if bytes_eq w (codes "wake") then Some (Told i (said.Wake u))
-    else (if bytes_eq w (codes "reaped") then Some (Told i (said.Reap u)) else None))
+    else (if bytes_eq w (codes "reaped") then Some (Told i (said.Reap u))
+    else (if bytes_eq w (codes "renew") then Some (Told i (said.Renew u)) else None)))
 
 -- asleep on a mutex or on a condition variable
 abbrev pub sleeps : Option ℕ → Option (Option ℕ) → Option (Option ℕ) → Option Said

@@ -12,3 +12,4 @@ pub mod Verdicts
 pub mod Passes
 pub mod Explained
 pub mod Told
+pub mod Laws

@@ -9,13 +9,13 @@ use Rattle.keys.specs.Objects.{Permits, acquires, held_limit}
 use Rattle.keys.specs.Histories.{held_by}
 use Rattle.facts.specs.declared.fact.Begun.{Begun}
 use Rattle.facts.specs.declared.fact.Fact.{Fact}
-use Rattle.facts.specs.declared.fact.Fact.TheVariants.{Begin, Point, Death, Sleep, Return, Reap}
+use Rattle.facts.specs.declared.fact.Fact.TheVariants.{Begin, Point, Death, Sleep, Return, Reap, Renew}
 use Rattle.facts.specs.declared.fact.Line.{Line}
 use Rattle.facts.specs.Lives.{Complete, Beginning}
-use Rattle.facts.specs.Facts.{thread_of, decision_of, decides, is_passive, is_kill}
+use Rattle.facts.specs.Facts.{thread_of, decision_of, decides, is_passive, is_kill, is_renewal}
 use Rattle.facts.specs.Orders.{Later, Each}
 use Rattle.verdict.specs.declared.misfit.Misfit.{Misfit}
-use Rattle.verdict.specs.declared.misfit.Misfit.TheVariants.{EventFalls, AnothersEvent, EventDecided, KillShares, EventKilled, InCall, NoCall, Asleep, Awake, Killed, Reaped, Alive, OtherMutex, OtherOperation, ReleaseRefused, Released, Decided, Undecided, OtherReply, NotAllowed, AtLimit, NotOwner, StillOwns}
+use Rattle.verdict.specs.declared.misfit.Misfit.TheVariants.{EventFalls, AnothersEvent, EventDecided, KillShares, EventKilled, InCall, NoCall, Asleep, Awake, Killed, NotReaped, Reaped, Alive, OtherMutex, OtherOperation, ReleaseRefused, Released, Decided, Undecided, OtherReply, NotAllowed, AtLimit, NotOwner, StillOwns}
 use Rattle.verdict.specs.Earlier.{told_of, call_in, points_in, is_asleep, is_killed, is_reaped, objects_after, latest}
 use Rattle.verdict.specs.Fits.{FitsThread, Allows, OwnsNothing}
 
@@ -53,12 +53,13 @@ acts (Return t x) = true
 acts f = false
 
 -- only of a thread that was killed it is told
-abbrev pub mourns : Fact → Bool
-mourns (Death t m) = true
-mourns (Reap t) = true
-mourns f = false
+abbrev pub needs_kill : Fact → Bool
+needs_kill (Death t m) = true
+needs_kill (Reap t) = true
+needs_kill (Renew t) = true
+needs_kill f = false
 
--- the thread was killed, which ended its call and its sleep
+-- the thread was killed, which ended its call and its sleep, and hasn't lived anew since
 pub record IsEnded (fs : List Fact) : Type 0 where
   pub killed : is_killed fs ≡ true
   pub no_call : call_in fs ≡ None
@@ -75,9 +76,10 @@ IsOutOfLife (InCall c) fs f = (begins f ≡ true) × (call_in fs ≡ Some c)
 IsOutOfLife NoCall fs f = (acts f ≡ true) × (call_in fs ≡ None) × (is_killed fs ≡ false)
 IsOutOfLife Asleep fs f = (acts f ≡ true) × (is_asleep fs ≡ true)
 IsOutOfLife Awake fs f = (is_passive f ≡ true) × (is_asleep fs ≡ false) × (is_killed fs ≡ false)
-IsOutOfLife Killed fs f = (mourns f ≡ false) × IsEnded fs × (is_reaped fs ≡ false)
-IsOutOfLife Reaped fs f = IsEnded fs × (is_reaped fs ≡ true)
-IsOutOfLife Alive fs f = (mourns f ≡ true) × (is_killed fs ≡ false)
+IsOutOfLife Killed fs f = (needs_kill f ≡ false) × IsEnded fs × (is_reaped fs ≡ false)
+IsOutOfLife NotReaped fs f = (is_renewal f ≡ true) × IsEnded fs × (is_reaped fs ≡ false)
+IsOutOfLife Reaped fs f = (is_renewal f ≡ false) × IsEnded fs × (is_reaped fs ≡ true)
+IsOutOfLife Alive fs f = (needs_kill f ≡ true) × (is_killed fs ≡ false) × (is_reaped fs ≡ false)
 IsOutOfLife (OtherMutex m) fs (Point d) = (c : Begun) × IsAwakeIn fs c × (m ≡ c.mutex) × (d.mutex ≢ m)
 IsOutOfLife (OtherOperation op) fs (Point d) = (c : Begun) × IsAwakeIn fs c × (op ≡ c.operation) × (points_in fs ≡ []) × ((x : Reply) → Beginning op ((d.operation, x) ∷ []) → ⊥)
 IsOutOfLife ReleaseRefused fs (Point d) = (c : Begun) × IsAwakeIn fs c × (c.operation ≡ operation.Wait) × (points_in fs ≡ []) × (d.operation ≡ operation.Unlock) × (d.reply ≢ OK)

@@ -94,6 +94,7 @@ fact_in h (said.Wake t) = thread_in h t >>? λ u. Some (fact.Wake u)
 fact_in h (said.Move t m) = move_in h t m
 fact_in h (said.Return t x) = thread_in h t >>? λ u. Some (fact.Return u x)
 fact_in h (said.Reap t) = thread_in h t >>? λ u. Some (fact.Reap u)
+fact_in h (said.Renew t) = thread_in h t >>? λ u. Some (fact.Renew u)
 
 abbrev pub line_in : Head → Form → Option Read
 line_in h (form.Told n s) = number_in 1 max_events n >>? λ i. fact_in h s >>? λ f. Some (read.Told (record { event = i; fact = f }))

@@ -5,15 +5,15 @@ use Rattle.lockword.specs.declared.reply.Reply.TheVariants.{OK}
 use Rattle.keys.specs.declared.point.Operation.{Operation}
 use Rattle.keys.specs.declared.point.Operation.TheVariants.{Lock, Unlock, Wait}
 use Rattle.facts.specs.declared.fact.Fact.{Fact}
-use Rattle.facts.specs.declared.fact.Fact.TheVariants.{Begin, Kill, Point, Death, Sleep, Wake, Move, Return, Reap}
+use Rattle.facts.specs.declared.fact.Fact.TheVariants.{Begin, Kill, Point, Death, Sleep, Wake, Move, Return, Reap, Renew}
 use Rattle.verdict.specs.declared.stage.Made.{Made}
 use Rattle.verdict.specs.declared.stage.Made.TheVariants.{Nothing, Released, Decided}
 use Rattle.verdict.specs.declared.stage.Stage.{Stage}
 use Rattle.verdict.specs.declared.stage.Stage.TheVariants.{Resting, Calling, Dying, Reaped}
-use Rattle.facts.specs.Facts.{is_passive}
+use Rattle.facts.specs.Facts.{is_passive, is_renewal}
 use Rattle.verdict.specs.declared.misfit.Misfit.{Misfit}
 use Rattle.verdict.specs.declared.misfit.Misfit.TheVariants as misfit
-use Rattle.verdict.specs.Misfits.{acts, begins, mourns}
+use Rattle.verdict.specs.Misfits.{acts, begins, needs_kill}
 
 -- the next point of a call of which these are made
 abbrev pub MayPoint : Operation → Made → Operation → Reply → Type 0
@@ -48,6 +48,7 @@ May (Calling c made asleep) (Move t m) = asleep ≡ true
 May (Calling c made asleep) (Return t x) = (asleep ≡ false) × (made ≡ Decided x)
 May Dying (Death t m) = Unit {0}
 May Dying (Reap t) = Unit {0}
+May Reaped (Renew t) = Unit {0}
 May stage f = ⊥
 
 -- why a fact may not be told of a thread at a stage
@@ -57,10 +58,11 @@ Forbids misfit.NoCall Resting f = acts f ≡ true
 Forbids misfit.Asleep (Calling c made asleep) f = (acts f ≡ true) × (asleep ≡ true)
 Forbids misfit.Awake Resting f = is_passive f ≡ true
 Forbids misfit.Awake (Calling c made asleep) f = (is_passive f ≡ true) × (asleep ≡ false)
-Forbids misfit.Alive Resting f = mourns f ≡ true
-Forbids misfit.Alive (Calling c made asleep) f = mourns f ≡ true
-Forbids misfit.Killed Dying f = mourns f ≡ false
-Forbids misfit.Reaped Reaped f = Unit {0}
+Forbids misfit.Alive Resting f = needs_kill f ≡ true
+Forbids misfit.Alive (Calling c made asleep) f = needs_kill f ≡ true
+Forbids misfit.Killed Dying f = needs_kill f ≡ false
+Forbids misfit.NotReaped Dying f = is_renewal f ≡ true
+Forbids misfit.Reaped Reaped f = is_renewal f ≡ false
 Forbids (misfit.OtherMutex n) (Calling c made asleep) (Point d) = (asleep ≡ false) × (n ≡ c.mutex) × (d.mutex ≢ n)
 Forbids misfit.Undecided (Calling c made asleep) (Return t x) = (asleep ≡ false) × (made ≡ Nothing)
 Forbids misfit.Released (Calling c made asleep) (Return t x) = (asleep ≡ false) × (made ≡ Released)
@@ -74,6 +76,7 @@ next stage (Begin t c) = Calling c Nothing false
 next stage (Kill t) = Dying
 next stage (Return t x) = Resting
 next stage (Reap t) = Reaped
+next stage (Renew t) = Resting
 next (Calling c made asleep) (Point d) = Calling c (pointed c.operation d.operation d.reply) asleep
 next (Calling c made asleep) (Sleep t q) = Calling c made true
 next (Calling c made asleep) (Wake t) = Calling c made false

@@ -32,6 +32,7 @@ pub enum Said {
     Move(Spelled, Spelled),
     Return(Spelled, Reply),
     Reap(Spelled),
+    Renew(Spelled),
 }
 
 /// What a line behind the first spells.
@@ -130,6 +131,7 @@ fn mark(event: &str, keyword: &str, thread: &str) -> Option<Form>
         "kill" => Some(Form::Told(event, Said::Kill(thread))),
         "wake" => Some(Form::Told(event, Said::Wake(thread))),
         "reaped" => Some(Form::Told(event, Said::Reap(thread))),
+        "renew" => Some(Form::Told(event, Said::Renew(thread))),
         _ => None,
     }
 }

@@ -5,7 +5,8 @@
 //! behind the first line. A trace that is found legal explains itself: its points and deaths, in their order, are a legal history of
 //! robust mutexes, each call that returned has exactly its points and the last one's reply, a call that was cut has a beginning of
 //! them, a thread sleeps only in a call, until it is woken or killed, and a killed thread's death is told of what it owned and of
-//! nothing else (pthread_mutex_lock, pthread_cond_wait, robust-futexes).
+//! nothing else (pthread_mutex_lock, pthread_cond_wait, robust-futexes). A reaped thread may live anew: its id is used again, and all
+//! of this is so of each of its lives.
 //!
 //! [`explain`] answers why that line doesn't fit, beside the line: its event's number, its thread's life or its mutex forbids it, the
 //! first of these that does. [`read_trace`] gives the lines themselves, of a trace that needn't be legal.
@@ -30,6 +31,7 @@ mod fault;
 mod form;
 mod head;
 mod judge;
+mod laws;
 mod limits;
 mod misfit;
 mod place;
@@ -41,6 +43,7 @@ mod words;
 pub use checking::{Finding, Verdict, check, explain};
 pub use fault::{Fault, TraceFault};
 pub use head::Head;
+pub use laws::without_renewals_as_before;
 pub use limits::{MAX_BYTES, MAX_CONDITIONS, MAX_EVENTS, MAX_MUTEXES, MAX_THREADS};
 pub use misfit::{Misfit, TraceMisfit};
 pub use told::{Told, read_trace};

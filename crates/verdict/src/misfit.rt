@@ -37,13 +37,16 @@ pub enum Misfit {
     /// The thread is awake, and so is neither woken nor moved.
     #[error("the thread isn't asleep")]
     Awake,
-    /// The thread was killed, and does nothing more.
+    /// The thread was killed, and does nothing more in this life.
     #[error("the thread was killed")]
     Killed,
-    /// The thread was reaped, and nothing is told of it any more.
+    /// The thread was killed, isn't reaped yet, and so doesn't live anew.
+    #[error("the thread was killed, and isn't reaped yet")]
+    NotReaped,
+    /// The thread was reaped, and nothing is told of it before it lives anew.
     #[error("the thread was reaped")]
     Reaped,
-    /// The thread wasn't killed, and so its death isn't told, and it isn't reaped.
+    /// The thread wasn't killed, and so its death isn't told, it isn't reaped and it doesn't live anew.
     #[error("the thread wasn't killed")]
     Alive,
 

@@ -187,6 +187,7 @@ fn fact_in(head: &Head, said: &Said) -> Option<Fact>
             Some(Fact::Return(thread, reply))
         }
         Said::Reap(thread) => thread_in(head, thread).map(Fact::Reap),
+        Said::Renew(thread) => thread_in(head, thread).map(Fact::Renew),
     }
 }
 

@@ -25,6 +25,7 @@ pub enum Stage {
     Calling(Begun, Made, bool),
     /// Killed, and not reaped yet.
     Dying,
+    /// Reaped, and not renewed yet.
     Reaped,
 }
 
@@ -82,9 +83,13 @@ impl Stage {
             Stage::Dying => match *fact {
                 Fact::Death(..) => Ok(Stage::Dying),
                 Fact::Reap(_) => Ok(Stage::Reaped),
+                Fact::Renew(_) => Err(Misfit::NotReaped),
                 _ => Err(Misfit::Killed),
             },
-            Stage::Reaped => Err(Misfit::Reaped),
+            Stage::Reaped => match *fact {
+                Fact::Renew(_) => Ok(Stage::Resting),
+                _ => Err(Misfit::Reaped),
+            },
         }
     }
 }
@@ -97,7 +102,7 @@ fn resting(fact: &Fact) -> Result<Stage, Misfit>
         Fact::Begin(_, call) => Ok(Stage::Calling(call, Made::Nothing, false)),
         Fact::Kill(_) => Ok(Stage::Dying),
         Fact::Wake(_) | Fact::Move(..) => Err(Misfit::Awake),
-        Fact::Death(..) | Fact::Reap(_) => Err(Misfit::Alive),
+        Fact::Death(..) | Fact::Reap(_) | Fact::Renew(_) => Err(Misfit::Alive),
         Fact::Point(_) | Fact::Sleep(..) | Fact::Return(..) => Err(Misfit::NoCall),
     }
 }
@@ -122,7 +127,7 @@ fn sleeping(call: Begun, made: Made, fact: &Fact) -> Result<Stage, Misfit>
         Fact::Kill(_) => Ok(Stage::Dying),
         Fact::Wake(_) => Ok(Stage::Calling(call, made, false)),
         Fact::Move(..) => Ok(Stage::Calling(call, made, true)),
-        Fact::Death(..) | Fact::Reap(_) => Err(Misfit::Alive),
+        Fact::Death(..) | Fact::Reap(_) | Fact::Renew(_) => Err(Misfit::Alive),
         Fact::Point(_) | Fact::Sleep(..) | Fact::Return(..) => Err(Misfit::Asleep),
     }
 }
@@ -135,7 +140,7 @@ fn awake(call: Begun, made: Made, fact: &Fact) -> Result<Stage, Misfit>
         Fact::Begin(..) => Err(Misfit::InCall { call }),
         Fact::Kill(_) => Ok(Stage::Dying),
         Fact::Wake(_) | Fact::Move(..) => Err(Misfit::Awake),
-        Fact::Death(..) | Fact::Reap(_) => Err(Misfit::Alive),
+        Fact::Death(..) | Fact::Reap(_) | Fact::Renew(_) => Err(Misfit::Alive),
         Fact::Sleep(..) => Ok(Stage::Calling(call, made, true)),
         Fact::Point(point) => {
             if point.mutex == call.mutex {
