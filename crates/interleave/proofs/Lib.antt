@@ -7,3 +7,4 @@ mod Sleeping
 mod Requeues
 mod Trims
 mod Leaving
+mod Renewing

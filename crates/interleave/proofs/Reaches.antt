@@ -27,12 +27,12 @@ use Rattle.condvar.specs.declared.op.Op.{Op}
 use Rattle.condvar.specs.declared.op.Op.TheVariants.{OnMutex, OnCondition}
 use Rattle.condvar.specs.Ops.{mutex_of, is_in}
 use Rattle.protocol.specs.declared.event.Event.{Event}
-use Rattle.protocol.specs.declared.event.Event.TheVariants.{Begin, Step, Kill, Leave, Decline}
+use Rattle.protocol.specs.declared.event.Event.TheVariants.{Begin, Step, Kill, Leave, Decline, Renew}
 use Rattle.protocol.specs.declared.thread.Thread.{Thread}
 use Rattle.protocol.specs.declared.thread.Stage.{Stage}
 use Rattle.protocol.specs.declared.thread.Stage.TheVariants.{Idle, Calling, AtCondition, Dying, Reaped}
 use Rattle.protocol.specs.declared.note.Note.{Note}
-use Rattle.protocol.specs.Machine.{State, After, put, idle, start, is_valid, has_thread, may_begin, first_stage, begun, nothing, is_alive, killed, departed, declined, spared, is_asleep, is_trim, sleeps, led, went, stepped, answer_of, happens, run, notes}
+use Rattle.protocol.specs.Machine.{State, After, put, idle, start, is_valid, has_thread, may_begin, first_stage, begun, nothing, is_alive, is_gone, killed, renewed, departed, declined, spared, is_asleep, is_trim, sleeps, led, went, stepped, answer_of, happens, run, notes}
 use Rattle.protocol.specs.Sleepers.{alone, RunsAlone}
 use Rattle.protocol.proofs.Queued.{Queued, asleep_there}
 use Rattle.protocol.proofs.QueueRuns.{run_queued}
@@ -166,6 +166,11 @@ stays s (Decline t) = go (has_thread s t) (s.threads t).stage
     go true (Calling o p) h = trims o p (is_trim (whole_access p) && not (sleeps s t (Calling o p))) h
     go true g h = refl
     go false g h = refl
+stays s (Renew t) = go (has_thread s t && is_gone (s.threads t).stage)
+  where
+    go : (b : Bool) → is_nothing (if b then renewed s t else nothing s).note ≡ true → (if b then renewed s t else nothing s).state ≡ s
+    go true h = absurd cc
+    go false h = refl
 
 -- both hold where both together hold
 both : (a b : Bool) → (a && b) ≡ true → (a ≡ true) × (b ≡ true)
@@ -285,7 +290,7 @@ reached_counter m c v small r on inside =
     }
 
 -- a write at a valid place is a write into the list
-stored : (ws : List ℕ) (at v : ℕ) → 1 ≤ at → at < length ws → words_after (Store at v) ws ≡ slice_set ws at v
+pub stored : (ws : List ℕ) (at v : ℕ) → 1 ≤ at → at < length ws → words_after (Store at v) ws ≡ slice_set ws at v
 stored ws at v first last = let valid : memories.is_valid ws at ≡ true = grind (arith, nat_tests) in ap (λ (b : Bool). if b then slice_set ws at v else ws) valid
 
 -- what a store of the counter leaves

@@ -1,4 +1,4 @@
--- What holds of every run of the machine, wherever threads are killed.
+-- What holds of every run of the machine, wherever threads are killed and renewed.
 use Rattle.std.specs.Prelude.{ℕ, ◌≡◌, List, take}
 use Rattle.protocol.specs.declared.event.Event.{Event}
 use Rattle.protocol.specs.declared.note.Note.{Note}
@@ -17,7 +17,9 @@ pub record IsLegalRun (s : State) (events : List Event) (told : List Note) : Typ
   -- after each event the points and deaths told so far are one legal history: they lead from free mutexes to what each cell says of its owner, OWNER_DIED and UNUSABLE
   pub history : AtEachMoment s events told
   -- a call that returned had one point, between its begin and its return, and returned that point's reply; a wait that isn't refused had an unlock and then a lock; no point belongs to any other call; nothing
-  -- of an event stands behind its return or its reaping, nor before a begin, and whom it wakes or moves stands behind its point
+  -- of an event stands behind its return or its reaping, nor before a begin, and whom it wakes or moves stands behind
+  -- its point. What is told of a thread is one life after the other, each but the last ended by its reaping and its
+  -- renewal
   pub explained : IsExplained events told
   -- after each event a thread stands in a queue exactly where the last of its sleeps, moves, wakes and kills told so far is a sleep or a move, in the one that this names; each queue is in the order in which
   -- they came, as it was told, and whoever another's event wakes, or moves, is its front
@@ -27,7 +29,8 @@ pub record IsLegalRun (s : State) (events : List Event) (told : List Note) : Typ
   pub passed : PassesNobody s events
   -- after each event some awake thread owes whoever sleeps on a mutex that nobody owns, whoever is awake and runs alone comes to rest, and a call that no other event divides returns what its object replies, or sleeps
   pub runs_alone : (n : ℕ) → RunsAlone (run s (take n events))
-  -- after each event a thread that was reaped owns no mutex
+  -- after each event a thread that was reaped, and isn't renewed yet, owns no mutex
   pub reaped : (n : ℕ) → NoReapedOwns (run s (take n events))
-  -- a killed thread's death is told, once, of each mutex that it owned then and has lost since, and of no other
+  -- until it is renewed, a killed thread's death is told, once, of each mutex that it owned then and has lost since,
+  -- and of no other
   pub deaths : ReportsDeaths s events

@@ -1,10 +1,11 @@
 //! The machine of robust mutexes: a schedule of events run over shared words.
 //!
-//! [`Machine::step`] does what the protocol's definition says that an event does, for every event. Its words are a plain memory,
-//! and its threads sleep in a kernel's queues. What holds of every run is the contract of [`Machine::run`]: its points are one
-//! legal history of POSIX robust mutexes. Threads may be killed at any event, and the kernel then walks their robust lists
-//! (get_robust_list(2)): a thread whose walk has ended owns no mutex. [`Machine::alone`] is what one thread would do if no other
-//! stepped: after each event no sleeper is stranded, and whoever is awake comes to rest (`runs_alone`).
+//! [`Machine::step`] does what the protocol's definition says that an event does, for every event. Its words are a plain
+//! memory, and its threads sleep in a kernel's queues. What holds of every run is the contract of [`Machine::run`]: its points
+//! are one legal history of POSIX robust mutexes. Threads may be killed at any event, and the kernel then walks their robust
+//! lists (get_robust_list(2)): a thread whose walk has ended owns no mutex, and may be renewed, with the same id.
+//! [`Machine::alone`] is what one thread would do if no other stepped: after each event no sleeper is stranded, and whoever is
+//! awake comes to rest (`runs_alone`).
 //!
 //! Stands on `protocol`, for events, notes and the laws, on `syscalls`, for the memory and the kernel, on `mutex`, `condvar`,
 //! `robustlist` and `exitwalk`, for the programs that it runs, on `buckets`, for who is woken, on `facts` and `keys`, for notes
@@ -31,6 +32,7 @@ mod deaths;
 mod leaves;
 mod machine;
 mod ops;
+mod renewals;
 mod threads;
 mod trace;
 

@@ -6,12 +6,11 @@ ghost use Rattle.condvar.specs.Whole as condition;
 ghost use Rattle.condvar.specs.declared.op.Op.TheVariants.{OnCondition};
 ghost use Rattle.protocol.specs.declared.event.Event.TheVariants.{Begin, Step};
 ghost use Rattle.protocol.specs.declared.thread.Stage.TheVariants.{AtCondition, Calling};
-ghost use Rattle.protocol.specs.Machine.{happens, first_stage, is_idle, is_calling, is_exiting, slept_in};
+ghost use Rattle.protocol.specs.Machine.{happens, first_stage, is_idle, is_calling, is_exiting, is_gone, slept_in};
 ghost use Rattle.protocol.specs.declared.note.Note.TheVariants.{Stepped};
 ghost use Rattle.condvar.specs.Ops.{is_in};
 ghost use Rattle.syscalls.specs.Kernels.{IsAwake, Kernel', head_of};
 ghost use Rattle.interleave.specs.Perform.{decision_with, held_with, point_in, reply_in, stage_at_in, stage_in};
-ghost use Rattle.interleave.specs.Reapings.{has_ended};
 ghost use Rattle.interleave.specs.Shown.{state_at, thread_at};
 ghost use Rattle.interleave.specs.Steps.{MayStep, SleepsInItsCall};
 
@@ -19,6 +18,7 @@ use crate::accesses::{Performed, perform};
 use crate::deaths::{kill, walk_on};
 use crate::leaves::{decline, leave};
 use crate::ops::begun;
+use crate::renewals::renew;
 use condvar::{CondCall, CondProgram, Op};
 use facts::Queue;
 use keys::{Decision, Layout, Operation, Point, Progress, StepProgram};
@@ -142,9 +142,9 @@ pub(crate) fn is_dying(stage: &Stage) -> bool
     }
 }
 
-/// Whether a thread that is there was killed, and has been reaped.
+/// Whether a thread that is there was killed, and has been reaped, and not been renewed since.
 pub(crate) fn is_reaped(stage: &Stage) -> bool
-    ensures { result ≡ has_ended stage.now }
+    ensures { result ≡ is_gone stage.now }
 {
     match *stage {
         Stage::Reaped => true,
@@ -371,5 +371,6 @@ pub(crate) fn apply(
         Event::Kill(thread) => kill(layout, kernel, threads, thread),
         Event::Leave(thread) => leave(layout, kernel, thread),
         Event::Decline(thread) => decline(layout, kernel, threads, thread),
+        Event::Renew(thread) => renew(layout, memory, threads, thread),
     }
 }

@@ -6,8 +6,8 @@ use Rattle.protocol.proofs.Vocabulary.{led_at, WaitRow, SignalRow, BroadcastRow}
 use Rattle.mutex.specs.Calls as mutex
 use Rattle.mutex.specs.declared.phase.Phase.TheVariants.{Ended}
 use Rattle.condvar.specs.Calls as condition
-use Rattle.facts.specs.declared.fact.Fact.TheVariants.{Begin}
-use Rattle.facts.specs.Lives.{Act, Complete, Beginning, made, Mourned, Life}
+use Rattle.facts.specs.declared.fact.Fact.TheVariants.{Begin, Renew}
+use Rattle.facts.specs.Lives.{Act, Complete, Beginning, made, Mourned, Lives, EndsReaped}
 use Rattle.condvar.specs.Ops.{operation_of}
 use Rattle.protocol.specs.Machine.{Led}
 use Rattle.protocol.proofs.Phases.{decided_at}
@@ -89,16 +89,26 @@ completed l o op x is = grind (arith)
 
 -- ---- what a thread does from now on
 
--- with what its call did before, a life
+-- with what its call did before, a life, and perhaps others behind it
 abbrev pub Doing : ℕ → Begun → List Act → List Fact → Type 0
-Doing t b ps fs = Life t (Begin t b ∷ (made t b ps ++ fs))
+Doing t b ps fs = Lives t (Begin t b ∷ (made t b ps ++ fs))
+
+-- behind its kill: the rest of that life, and perhaps its renewal and further lives
+pub data AfterKill (t : ℕ) : List Fact → Type 0 where
+  In_that_life : (fs : List Fact) → Mourned t fs → AfterKill t fs
+  And_anew : (first later : List Fact) → Mourned t first → EndsReaped t first → Lives t later → AfterKill t (first ++ Renew t ∷ later)
+
+-- behind its reaping: nothing, or its renewal and further lives
+pub data AfterReaping (t : ℕ) : List Fact → Type 0 where
+  Stays_reaped : AfterReaping t []
+  Renewed_then : (later : List Fact) → Lives t later → AfterReaping t (Renew t ∷ later)
 
 abbrev pub Goes : Layout' → ℕ → Stage → List Fact → Type 0
-Goes l t Idle fs = Life t fs
+Goes l t Idle fs = Lives t fs
 Goes l t (Calling o p) fs = Doing t (begun_of l o) (acts_by o (decided_at p.phase)) fs
 Goes l t (AtCondition c p) fs = Doing t (begun_of l (OnCondition c)) (acts_in c p.phase) fs
-Goes l t (Dying w) fs = Mourned t fs
-Goes l t Reaped fs = fs ≡ []
+Goes l t (Dying w) fs = AfterKill t fs
+Goes l t Reaped fs = AfterReaping t fs
 
 -- an access of call o, with these points so far, and where it leads
 pub record Follows (l : Layout') (t : ℕ) (o : Op) (ps : List Act) (g : Led) : Type 0 where

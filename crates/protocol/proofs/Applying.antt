@@ -1,6 +1,7 @@
 -- Which events apply.
 use Rattle.std.proofs.Common.{◌≡◌, ◌≢◌, ℕ, ◌≤◌, ◌==◌, Bool, true, false, ◌&&◌, Option, None, Ok, Err, List, [], ◌∷◌, ◌++◌, refl, sym, ap, ◌∙◌, subst, arith, eq-eqb}
-use Rattle.protocol.proofs.Vocabulary.{Left, Trimmed, spared, departed}
+use Rattle.protocol.proofs.Vocabulary.{Left, Renewed, Trimmed, spared, departed, renewed, Whole}
+use Rattle.protocol.specs.Machine.{is_gone}
 use Rattle.protocol.proofs.Departures.{asleep_where}
 use Rattle.protocol.proofs.Declines.{decline_goes, decline_rests}
 use Rattle.protocol.proofs.Queued.{asleep_there}
@@ -42,6 +43,12 @@ Agrees w g = ⊥
 
 living_agrees : (w : Told) (g : Stage) → Agrees w g → IsLiving w → is_alive g ≡ true
 living_agrees w g a living = grind (arith)
+
+reaped_agrees : (w : Told) (g : Stage) → Agrees w g → w ≡ Gone → is_gone g ≡ true
+reaped_agrees w g a gone = grind (arith)
+
+told_reaped : (w : Told) (g : Stage) → Agrees w g → is_gone g ≡ true → w ≡ Gone
+told_reaped w g a gone = grind (arith)
 
 walks_on : (w : Told) (v x : walks.Standing) → Agrees w (Dying v) → Agrees w (Dying x)
 walks_on Dead v x a = tt
@@ -144,6 +151,7 @@ next_agrees s e t w a =
     (λ u pos known alive. moved s u t w Dead _ a tt)
     (λ u pos known asleep. a)
     (λ u o p pos known is awake trims. spared_agrees s u t (s.threads u).held (mutex_of s.layout o) (led o p (whole_led p (Trimmed false))) w (ap is_calling is) (call_ends o p (whole_led p (Trimmed false))) a)
+    (λ u pos known gone. moved s u t w AtRest _ a tt)
     e
 
 pub run_agrees : (s : State) (es : List Event) (t : ℕ) (w : Told) → Agrees w (s.threads t).stage → Agrees (told_after t w (facts_among (notes s es))) ((run s es).threads t).stage
@@ -224,13 +232,32 @@ module _ (s : State) (ns : List Note) (inv : Kept s) (queued : Queued s) (agrees
           absurd (never ((first, last), asleep_where s t asleep))
 
   -- ---- declines
-  declines_so : (t : ℕ) → Applies s.layout s ns (Event.Decline t) → IsQuietAccessOf t (happens s (Event.Decline t)).note
+  same_call : (o c : Op) (p q : Whole) → Calling o p ≡ Calling c q → o ≡ c
+  same_call o c p q e = cc
+
+  declines_so : (t : ℕ) → Applies s.layout s ns (Event.Decline t) → IsQuietAccessOf s.layout s t (happens s (Event.Decline t)).note
   declines_so t ((first, last), (o, p, at, is, a)) =
       let trims = trims_at p p.phase (ap is_trim a) in
-      subst (λ (z : After). IsQuietAccessOf t z.note) (sym (decline_goes s t o p is trims queued inv first last)) (refl, refl)
+      subst (λ (z : After). IsQuietAccessOf s.layout s t z.note) (sym (decline_goes s t o p is trims queued inv first last))
+      (λ c q stands. ap (λ (y : Op). Stepped t (mutex_of s.layout y) None None [] [] None) (same_call o c p q (sym is ∙ stands)))
 
   declines_else : (t : ℕ) → ¬ Applies s.layout s ns (Event.Decline t) → happens s (Event.Decline t) ≡ nothing s
   declines_else t never = decline_rests s t (λ first last about. never ((first, last), about))
+
+  -- ---- renewals
+  renews_so : (t : ℕ) → Applies s.layout s ns (Event.Renew t) → (happens s (Event.Renew t)).note ≡ Renewed t
+  renews_so t on = ap (λ (b : Bool). (if b then renewed s t else nothing s).note) (both _ _ (known t on.0) (reaped_agrees (last_told t ns) (s.threads t).stage (agrees t) on.1))
+
+  renews_else : (t : ℕ) → ¬ Applies s.layout s ns (Event.Renew t) → happens s (Event.Renew t) ≡ nothing s
+  renews_else t never = go (has_thread s t && is_gone (s.threads t).stage) refl
+    where
+      go : (b : Bool) → (has_thread s t && is_gone (s.threads t).stage) ≡ b → (if b then renewed s t else nothing s) ≡ nothing s
+      go false e = refl
+      go true e =
+          let first : 1 ≤ t = grind (arith, nat_tests) in
+          let last : t ≤ s.layout.threads = grind (arith, nat_tests) in
+          let gone : is_gone (s.threads t).stage ≡ true = grind (arith, nat_tests) in
+          absurd (never ((first, last), told_reaped (last_told t ns) (s.threads t).stage (agrees t) gone))
 
   so : (e : Event) → Applies s.layout s ns e → IsNotedAs s.layout s e (happens s e).note
   so (Event.Begin t o) on = begins_so t o on
@@ -238,6 +265,7 @@ module _ (s : State) (ns : List Note) (inv : Kept s) (queued : Queued s) (agrees
   so (Event.Kill t) on = kills_so t on
   so (Event.Leave t) on = leaves_so t on
   so (Event.Decline t) on = declines_so t on
+  so (Event.Renew t) on = renews_so t on
 
   idles : (e : Event) → ¬ Applies s.layout s ns e → happens s e ≡ nothing s
   idles (Event.Begin t o) never = begins_else t o never
@@ -245,6 +273,7 @@ module _ (s : State) (ns : List Note) (inv : Kept s) (queued : Queued s) (agrees
   idles (Event.Kill t) never = kills_else t never
   idles (Event.Leave t) never = leaves_else t never
   idles (Event.Decline t) never = declines_else t never
+  idles (Event.Renew t) never = renews_else t never
 
   next_applies : NextApplies s.layout s ns
   next_applies = record {

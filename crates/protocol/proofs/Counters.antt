@@ -24,6 +24,8 @@ use Rattle.protocol.proofs.Accesses as accesses
 use Rattle.protocol.proofs.WalkSteps.{walk_of, by_walked, walk_no_move, walk_access, row_then, death_then, walk_transition, walk_after, walked-is, DeathTells, WalkStep, walk_step}
 use Rattle.protocol.proofs.Declines.{declined_state, spared_is}
 use Rattle.protocol.proofs.Events.{begins_at, by_event, by_stage, IsTrimming}
+use Rattle.protocol.proofs.Vocabulary.{renewed}
+use Rattle.protocol.proofs.Renewals.{renewed_counter, renewed_thread, renewed_other}
 use Rattle.protocol.proofs.Working.{walk_is}
 use Rattle.protocol.proofs.Runs.{sound}
 use Rattle.protocol.proofs.CondSteps.{cond_of, at_either, counter_here, leads}
@@ -261,6 +263,12 @@ passes s e inv counted =
     })
     (λ t pos known asleep. record { layout = refl; rises = λ k. inl refl; knows = λ first last. counted.knows t first last; theirs = λ u other. refl })
     (λ t o p pos known is awake trims. subst (λ (a : After). Passes s t a.state) (sym (spared_is s t o p is trims inv pos known)) (declines t o p is trims))
+    (λ t pos known gone. record {
+      layout = refl;
+      rises = λ k. inl (renewed_counter s t pos known k);
+      knows = λ first last. subst (λ (z : Thread). KnowsIn s.layout (renewed s t).state.words z.stage) (sym (renewed_thread s t pos known)) tt;
+      theirs = λ u other. ap (λ (z : Thread). z.stage) (renewed_other s t pos known u other);
+    })
     e
   where
     declines : (t : ℕ) (o : Op) (p : Whole) (is : (s.threads t).stage ≡ Calling o p) (trims : IsTrimming p) → Passes s t (declined_state s t o p is trims)

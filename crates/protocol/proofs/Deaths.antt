@@ -1,10 +1,11 @@
 -- How often a thread's death is told.
 use Rattle.std.proofs.Common.{eqb-true, ◌≡◌, ◌≢◌, ◌⊎◌, inl, inr, ℕ, ◌+◌, ◌≤◌, ◌==◌, Bool, true, false, ◌&&◌, Option, Some, None, List, [], ◌∷◌, ◌++◌, map, refl, sym, ap, ◌∙◌, subst, arith}
 use Rattle.protocol.proofs.Declines.{spared_is}
+use Rattle.protocol.proofs.Renewals.{renewed_seen, renewed_other}
 use Rattle.protocol.proofs.Vocabulary.{Operation, OK, eqb-false, Reply, CondCall, condition_of, CondWhole, cond_access, cond_led, Queue, Mutex, Condition, Fact, Access, sleeps_at, Object, XHELD}
 use Rattle.protocol.proofs.Vocabulary.{Whole, whole_access, whole_led, Op, OnCondition, mutex_of, Thread, Event, Stage, Idle, Calling, AtCondition, Reaped, facts_of, death_facts}
 use Rattle.protocol.proofs.Vocabulary.{reap_facts, State, After, place_met, start, run, notes, is_alive, begun, led, led_at, went, answer_of, decision, slept_in, woken_by}
-use Rattle.protocol.proofs.Vocabulary.{moved_by, walked, has_ended, stepped, happens, killed, seen, facts_among, if◌then◌else◌, nat_tests, Ok, Err}
+use Rattle.protocol.proofs.Vocabulary.{moved_by, renewed, walked, has_ended, stepped, happens, killed, seen, facts_among, if◌then◌else◌, nat_tests, Ok, Err}
 use Rattle.protocol.proofs.CondAccesses.{cond_stepping}
 use Rattle.exitwalk.specs.declared.row.Row.{Row}
 use Rattle.exitwalk.specs.Standings as walks
@@ -18,15 +19,23 @@ use Rattle.protocol.proofs.Events.{begins_at, by_event, by_stage}
 use Rattle.protocol.proofs.Working.{walk_is}
 use Rattle.protocol.proofs.WalkSteps.{walk_of, walk_no_move, by_walked, walk_access, row_then, death_then, walk_after, walked-is, DeathTells, WalkStep, walk_step}
 use Rattle.protocol.proofs.Reaped.{no_reaped_owns}
-use Rattle.facts.specs.declared.fact.Fact.TheVariants.{Wake, Death}
+use Rattle.facts.specs.declared.fact.Fact.TheVariants.{Wake, Death, Renew}
 use Rattle.protocol.specs.Machine.{Led}
-use Rattle.protocol.specs.Deaths.{deaths, ReportsDeaths, ReportsDeath, DeathsAreTold}
+use Rattle.protocol.specs.Deaths.{deaths, IsNotRenewed, ReportsDeaths, ReportsDeath, DeathsAreTold}
 use Rattle.protocol.proofs.Objects.{one, one-none, one-own, others}
 use Rattle.protocol.proofs.Kept.{Kept}
 use Rattle.protocol.proofs.Runs.{sound, start_kept, run_kept, kill_kept}
 use Rattle.protocol.proofs.NoteFacts.{IsOfSleep, behind_woken, of_access}
 use Rattle.protocol.proofs.Cases.{at_or_else}
 use Rattle.protocol.proofs.Seeing.{head_in}
+
+-- ---- renewals
+
+-- a renewal is told neither by the one facts nor by the others
+pub not_renewed_apart : (t : ℕ) (fs gs : List Fact) → IsNotRenewed t (fs ++ gs) → IsNotRenewed t fs × IsNotRenewed t gs
+not_renewed_apart t [] gs none = (tt, none)
+not_renewed_apart t (Renew u ∷ fs) gs none = let rest = not_renewed_apart t fs gs none.1 in ((none.0, rest.0), rest.1)
+not_renewed_apart t (f ∷ fs) gs none = not_renewed_apart t fs gs none
 
 -- ---- counting
 
@@ -119,17 +128,20 @@ module _ (t m : ℕ) where
 
     event_lost : (e : Event) → Lost s (happens s e)
     event_lost e = by_event s (λ (x : Event) (a : After). Lost s a) (λ x. omega arith) (λ u o pos known inside idle b full. begun_lost u o b) step_lost (λ u pos known alive. omega arith) (λ u pos known asleep. omega arith)
-        (λ u o p pos known is awake trims. subst (Lost s) (sym (spared_is s u o p is trims inv pos known)) (omega arith)) e
+        (λ u o p pos known is awake trims. subst (Lost s) (sym (spared_is s u o p is trims inv pos known)) (omega arith))
+        (λ u pos known gone. let kept : one t (seen (renewed s u).state m) ≡ one t (seen s m) = ap (one t) (renewed_seen s u pos known m) in omega arith) e
       where
         begun_lost : (u : ℕ) (o : Op) (b : Bool) → Lost s (begun s u o (if b then Err XHELD else Ok (begins_at s.layout u o)))
         begun_lost u o true = omega arith
         begun_lost u o false = omega arith
 
-    -- it stays dead
-    event_dead : (e : Event) → is_alive ((happens s e).state.threads t).stage ≡ false
-    event_dead e = by_event s (λ (x : Event) (a : After). is_alive (a.state.threads t).stage ≡ false) (λ x. dead) (λ u o pos known inside idle b full. begun_dead u o idle b) (λ u pos known. stepped_dead u)
-        (λ u pos known alive. by_put (λ (z : Thread). is_alive z.stage ≡ false) s.threads u _ t (λ e. refl) (λ apart. dead)) (λ u pos known asleep. dead)
-        (λ u o p pos known is awake trims. ap (λ (z : Thread). is_alive z.stage) (put-other s.threads u _ t (λ e. apart_from u (Calling o p) is refl (sym e))) ∙ dead) e
+    -- it stays dead, unless it is renewed
+    event_dead : (e : Event) → IsNotRenewed t (facts_of (happens s e).note) → is_alive ((happens s e).state.threads t).stage ≡ false
+    event_dead e =
+        by_event s (λ (x : Event) (a : After). IsNotRenewed t (facts_of a.note) → is_alive (a.state.threads t).stage ≡ false) (λ x none. dead) (λ u o pos known inside idle b full none. begun_dead u o idle b) (λ u pos known none. stepped_dead u)
+        (λ u pos known alive none. by_put (λ (z : Thread). is_alive z.stage ≡ false) s.threads u _ t (λ e. refl) (λ apart. dead)) (λ u pos known asleep none. dead)
+        (λ u o p pos known is awake trims none. ap (λ (z : Thread). is_alive z.stage) (put-other s.threads u _ t (λ e. apart_from u (Calling o p) is refl (sym e))) ∙ dead)
+        (λ u pos known gone none. ap (λ (z : Thread). is_alive z.stage) (renewed_other s u pos known t (λ e. none.0 (sym e))) ∙ dead) e
       where
         begun_dead : (u : ℕ) (o : Op) → (s.threads u).stage ≡ Idle → (b : Bool) → is_alive ((begun s u o (if b then Err XHELD else Ok (begins_at s.layout u o))).state.threads t).stage ≡ false
         begun_dead u o idle true = dead
@@ -144,16 +156,17 @@ module _ (t m : ℕ) where
 
   -- ---- whole runs
 
-  all_lost : (s : State) (es : List Event) → Kept s → is_alive (s.threads t).stage ≡ false → deaths t m (facts_among (notes s es)) + one t (seen (run s es) m) ≡ one t (seen s m)
-  all_lost s [] inv dead = omega arith
-  all_lost s (e ∷ es) inv dead =
+  all_lost : (s : State) (es : List Event) → Kept s → is_alive (s.threads t).stage ≡ false → IsNotRenewed t (facts_among (notes s es)) → deaths t m (facts_among (notes s es)) + one t (seen (run s es) m) ≡ one t (seen s m)
+  all_lost s [] inv dead none = omega arith
+  all_lost s (e ∷ es) inv dead none =
+      let apart = not_renewed_apart t (facts_of (happens s e).note) (facts_among (notes (happens s e).state es)) none in
       let first = event_lost s inv dead e in
-      let rest = all_lost (happens s e).state es (sound s e inv).kept (event_dead s inv dead e) in
+      let rest = all_lost (happens s e).state es (sound s e inv).kept (event_dead s inv dead e apart.0) apart.1 in
       let both = deaths_later t m (facts_of (happens s e).note) (facts_among (notes (happens s e).state es)) in
       omega arith
 
-reported_from : (s : State) (t : ℕ) (es : List Event) → Kept s → 1 ≤ t → t ≤ s.layout.threads → is_alive (s.threads t).stage ≡ true → ReportsDeath s t es
-reported_from s t es inv pos known alive = record {
+reported_from : (s : State) (t : ℕ) (es : List Event) → Kept s → 1 ≤ t → t ≤ s.layout.threads → is_alive (s.threads t).stage ≡ true → IsNotRenewed t (facts_among (notes (killed s t).state es)) → ReportsDeath s t es
+reported_from s t es inv pos known alive none_told = record {
   owned = λ m inside own. decide m (owner_or t (seen (run (killed s t).state es) m)) (one-own t (seen s m) own);
   others = λ m inside apart. none m (owner_or t (seen s m)) apart;
   reaped = λ m inside own gone. once m (owner_or t (seen (run (killed s t).state es) m)) (one-own t (seen s m) own) gone;
@@ -163,7 +176,7 @@ reported_from s t es inv pos known alive = record {
     kept_then = kill_kept s t inv pos known alive
 
     total : (m : ℕ) → deaths t m (facts_among (notes (killed s t).state es)) + one t (seen (run (killed s t).state es) m) ≡ one t (seen s m)
-    total m = all_lost t m (killed s t).state es kept_then (ap (λ (z : Thread). is_alive z.stage) (put-same s.threads t _))
+    total m = all_lost t m (killed s t).state es kept_then (ap (λ (z : Thread). is_alive z.stage) (put-same s.threads t _)) none_told
 
     decide : (m : ℕ) → ((seen (run (killed s t).state es) m).owner ≡ Some t) ⊎ (((seen (run (killed s t).state es) m).owner ≢ Some t) × (one t (seen (run (killed s t).state es) m) ≡ 0)) → one t (seen s m) ≡ 1
         → ((deaths t m (facts_among (notes (killed s t).state es)) ≡ 1) × ((seen (run (killed s t).state es) m).owner ≢ Some t)) ⊎ ((deaths t m (facts_among (notes (killed s t).state es)) ≡ 0) × ((seen (run (killed s t).state es) m).owner ≡ Some t))
@@ -180,9 +193,9 @@ reported_from s t es inv pos known alive = record {
 
 -- so it is of every run from a state that keeps the invariant
 pub reports_deaths : (s : State) (events : List Event) → Kept s → ReportsDeaths s events
-reports_deaths s events kept before after t is there alive =
+reports_deaths s events kept before after rest t is there alive none =
     let inv : Kept (run s before) = run_kept s before kept in
-    reported_from (run s before) t after inv (grind (arith, nat_tests)) (grind (arith, nat_tests)) alive
+    reported_from (run s before) t after inv (grind (arith, nat_tests)) (grind (arith, nat_tests)) alive none
 
 pub told_deaths : DeathsAreTold
 told_deaths l counters events is = reports_deaths (start l counters) events (start_kept l counters is)

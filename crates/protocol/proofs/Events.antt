@@ -7,15 +7,19 @@ use Rattle.std.proofs.lemmas.List.Elements.{All-get_or}
 use Rattle.mutex.specs.Whole.{begins}
 use Rattle.condvar.specs.Whole as condition
 use Rattle.exitwalk.specs.Standings as walks
-use Rattle.protocol.specs.declared.event.Event.TheVariants.{Begin, Kill, Leave, Decline}
+use Rattle.protocol.specs.declared.event.Event.TheVariants.{Begin, Kill, Leave, Decline, Renew}
 use Rattle.mutex.specs.declared.row.Row.TheVariants.{Unlock}
-use Rattle.protocol.proofs.Vocabulary.{departed, spared, sleeps, Trimmed, Phase, AtCell, UnlockRow, not}
+use Rattle.protocol.proofs.Vocabulary.{departed, renewed, spared, sleeps, Reaped, Trimmed, Phase, AtCell, UnlockRow, not}
 use Rattle.condvar.specs.Ops.{operation_of, is_in}
-use Rattle.protocol.specs.Machine.{has_thread, is_idle, is_trim, declined}
+use Rattle.protocol.specs.Machine.{has_thread, is_gone, is_idle, is_trim, declined}
 
 -- whoever may begin is idle
 pub at_rest : (g : Stage) → is_idle g ≡ true → g ≡ Idle
 at_rest g e = grind (arith)
+
+-- whoever was reaped stands so
+reaped_is : (g : Stage) → is_gone g ≡ true → g ≡ Reaped
+reaped_is g e = grind (arith)
 
 -- a thread that is known
 pub is_known : (s : State) (t : ℕ) → 1 ≤ t → t ≤ s.layout.threads → has_thread s t ≡ true
@@ -53,7 +57,8 @@ trims_at p f e = grind (arith)
 
 -- ---- events
 
--- what holds where nothing happens, of a begin that isn't refused and of one that is, of a step, of a death, of a sleeper's leave and of a trim that is declined, holds of each event
+-- what holds where nothing happens, of a begin that isn't refused and of one that is, of a step, of a death, of a
+-- sleeper's leave, of a trim that is declined and of a renewal, holds of each event
 pub by_event : (s : State) (P : Event → After → Type 0) → ((e : Event) → P e (nothing s))
     → ((t : ℕ) (o : Op) → 1 ≤ t → t ≤ s.layout.threads → Names s.layout o → (s.threads t).stage ≡ Idle → (b : Bool) → (acquires (operation_of o) && nat_le 2048 (s.threads t).held) ≡ b → P (Begin t o) (begun s t o (if b then Err XHELD else Ok (begins_at s.layout t o))))
     → ((t : ℕ) → 1 ≤ t → t ≤ s.layout.threads → P (Step t) (stepped s t (s.threads t).held (s.threads t).stage))
@@ -61,8 +66,9 @@ pub by_event : (s : State) (P : Event → After → Type 0) → ((e : Event) →
     → ((t : ℕ) → 1 ≤ t → t ≤ s.layout.threads → is_asleep s t ≡ true → P (Leave t) (departed s t))
     → ((t : ℕ) (o : Op) (p : Whole) → 1 ≤ t → t ≤ s.layout.threads → (s.threads t).stage ≡ Calling o p → is_asleep s t ≡ false → IsTrimming p
     → P (Decline t) (spared s t (s.threads t).held (mutex_of s.layout o) (led o p (whole_led p (Trimmed false)))))
+    → ((t : ℕ) → 1 ≤ t → t ≤ s.layout.threads → (s.threads t).stage ≡ Reaped → P (Renew t) (renewed s t))
     → (e : Event) → P e (happens s e)
-by_event s P none begins_so steps_so kills_so leaves_so declines_so (Begin t o) = go (may_begin s t o) refl
+by_event s P none begins_so steps_so kills_so leaves_so declines_so renews_so (Begin t o) = go (may_begin s t o) refl
   where
     go : (b : Bool) → may_begin s t o ≡ b → P (Begin t o) (if b then begun s t o (first_stage s.layout t (s.threads t).held o) else nothing s)
     go true e =
@@ -72,10 +78,10 @@ by_event s P none begins_so steps_so kills_so leaves_so declines_so (Begin t o) 
         subst (λ (r : Result Stage Reply). P (Begin t o) (begun s t o r)) (sym (first_is s.layout t (s.threads t).held o))
         (begins_so t o pos known (names_so s.layout o inside) (at_rest (s.threads t).stage (grind (arith, nat_tests))) (acquires (operation_of o) && nat_le 2048 (s.threads t).held) refl)
     go false e = none (Begin t o)
-by_event s P none begins_so steps_so kills_so leaves_so declines_so (Step t) = grind (arith)
-by_event s P none begins_so steps_so kills_so leaves_so declines_so (Kill t) = grind (arith)
-by_event s P none begins_so steps_so kills_so leaves_so declines_so (Leave t) = grind (arith)
-by_event s P none begins_so steps_so kills_so leaves_so declines_so (Decline t) = go (has_thread s t) refl
+by_event s P none begins_so steps_so kills_so leaves_so declines_so renews_so (Step t) = grind (arith)
+by_event s P none begins_so steps_so kills_so leaves_so declines_so renews_so (Kill t) = grind (arith)
+by_event s P none begins_so steps_so kills_so leaves_so declines_so renews_so (Leave t) = grind (arith)
+by_event s P none begins_so steps_so kills_so leaves_so declines_so renews_so (Decline t) = go (has_thread s t) refl
   where
     trims : (o : Op) (p : Whole) → has_thread s t ≡ true → (s.threads t).stage ≡ Calling o p → (a : Bool) → is_trim (whole_access p) ≡ a → (b : Bool) → sleeps s t (Calling o p) ≡ b
         → P (Decline t) (if a && not b then spared s t (s.threads t).held (mutex_of s.layout o) (led o p (whole_led p (Trimmed false))) else nothing s)
@@ -93,6 +99,14 @@ by_event s P none begins_so steps_so kills_so leaves_so declines_so (Decline t) 
     go : (b : Bool) → has_thread s t ≡ b → P (Decline t) (if b then declined s t (s.threads t).held (s.threads t).stage else nothing s)
     go true there = at there (s.threads t).stage refl
     go false e = none (Decline t)
+by_event s P none begins_so steps_so kills_so leaves_so declines_so renews_so (Renew t) = go (has_thread s t && is_gone (s.threads t).stage) refl
+  where
+    go : (b : Bool) → (has_thread s t && is_gone (s.threads t).stage) ≡ b → P (Renew t) (if b then renewed s t else nothing s)
+    go true e =
+        let pos : 1 ≤ t = grind (arith, nat_tests) in
+        let known : t ≤ s.layout.threads = grind (arith, nat_tests) in
+        renews_so t pos known (reaped_is (s.threads t).stage (grind (arith, nat_tests)))
+    go false e = none (Renew t)
 
 -- ---- steps
 

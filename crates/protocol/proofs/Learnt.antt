@@ -1,6 +1,7 @@
 -- How a call that is about to wake somebody has left its mutex.
 use Rattle.std.proofs.Common.{⊎_elim, ◌≡◌, ◌≢◌, ◌⊎◌, ℕ, ◌≤◌, ◌==◌, Bool, true, false, Option, Some, None, Ok, Err, List, [], ◌∷◌, refl, sym, ap, ◌∙◌, subst, arith, eq-eqb, eqb-true}
-use Rattle.protocol.proofs.Vocabulary.{departed}
+use Rattle.protocol.proofs.Vocabulary.{departed, renewed}
+use Rattle.protocol.proofs.Renewals.{renewed_thread, renewed_other}
 use Rattle.protocol.proofs.Vocabulary.{Access, Answer, answer_among, answer_at, word_among, Fact, Decision, Begun, Queue, Mutex, Condition, Layout', cell_place, place_in, place_met, fields_of, object_of, Object, Operation}
 use Rattle.protocol.proofs.Vocabulary.{Reply, OK, XHELD, Phase, AtCell, Whole, whole_access, whole_led, CondCall, CondRow, CondLed, CondPhase, CondOnward, CondWhole, cond_access, cond_led, condition_of, after_words, from_words, met_word, WaitRow}
 use Rattle.protocol.proofs.Vocabulary.{Op, OnMutex, OnCondition, mutex_of, begun_of, Event, caller, Stepped, Walked, Thread, Stage, Idle, Calling, AtCondition, State, After, put, run, notes, happens, nothing, begun, killed, walked}
@@ -354,6 +355,15 @@ decline_teaches s u c p is trims = record {
     learns : (b : Option Begun) (o : Option Object) → Learnt s.layout (Calling c p) b o → Learnt s.layout (Calling c (record p { phase = Clearing OK })) b o
     learns b o h = (h.0, tt, λ at n e. absurd cc)
 
+-- a thread that lives anew is in no call
+renew_teaches : (s : State) (u : ℕ) → 1 ≤ u → u ≤ s.layout.threads → Teaches s u (renewed s u)
+renew_teaches s u pos known = record {
+  layout = refl;
+  own = λ b o h. subst (λ (z : Thread). Learnt s.layout z.stage b o) (sym (renewed_thread s u pos known)) tt;
+  theirs = λ t apart. ap (λ (z : Thread). z.stage) (renewed_other s u pos known t (λ e. apart (sym e)));
+  others = λ t b o apart. (refl, refl);
+}
+
 -- a call that begins
 first_learns : (l : Layout') (t : ℕ) (c : Op) (o : Option Object) → Learnt l (begins_at l t c) (Some (begun_of l c)) o
 first_learns l t (OnMutex (Call.Lock m)) o = (refl, tt, λ k n e. absurd (whole.whole_wakes.first l t (Call.Lock m) k n e))
@@ -402,6 +412,7 @@ teaches s e inv =
     (λ t pos known alive. kill_teaches s t)
     (λ t pos known asleep. leave_teaches s t)
     (λ t o p pos known is awake trims. subst (Teaches s t) (sym (spared_is s t o p is trims inv pos known)) (decline_teaches s t o p is trims))
+    (λ t pos known gone. renew_teaches s t pos known)
     e
 
 learnt_on : (s : State) (e : Event) → Kept s → (t : ℕ) (b : Option Begun) (o : Option Object) → Learnt s.layout (s.threads t).stage b o

@@ -33,6 +33,7 @@ pub mod Queues
 pub mod Queued
 mod Departures
 pub mod Declines
+pub mod Renewals
 pub mod Lists
 pub mod Runs
 pub mod QueueRuns
@@ -60,4 +61,5 @@ pub mod Woken
 pub mod Signalling
 mod WaitersBit
 mod Lone
+mod Anew
 mod WalksOn

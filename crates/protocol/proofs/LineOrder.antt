@@ -1,10 +1,10 @@
 -- In which order the facts of an event, and those of one event after the other, are told.
 use Rattle.std.proofs.Common.{◌≡◌, ℕ, ◌+◌, ◌≤◌, Bool, true, false, Option, Some, None, List, [], ◌∷◌, ◌++◌, map, refl, sym, ◌∙◌, arith}
-use Rattle.protocol.proofs.Vocabulary.{Left}
+use Rattle.protocol.proofs.Vocabulary.{Left, Renewed}
 use Rattle.protocol.proofs.Vocabulary.{Fact, Queue, Operation, Reply, Stepped, Event, facts_of, sleep_facts, moves_to, return_facts, death_facts, reap_facts, decision, caller}
 use Rattle.protocol.proofs.Vocabulary.{line_of, caller_of, lines_from, Note, Nothing, Began, Killed, Walked}
 use Rattle.facts.specs.declared.fact.Line.{Line}
-use Rattle.facts.specs.Facts.{thread_of, decides, is_passive, is_kill}
+use Rattle.facts.specs.Facts.{thread_of, decides, is_passive, is_kill, is_renewal}
 use Rattle.facts.specs.Orders.{Later, Each, Orderly}
 use Rattle.protocol.specs.Explained.{is_begin, is_last, Within, AreWithin}
 use Rattle.protocol.proofs.NoteFacts.{IsOfSleep, behind_woken, behind_point, of_access, of_walk}
@@ -154,57 +154,58 @@ placed i e es (f ∷ fs) ls fine alone (order, called) =
 
 abbrev Inside : Fact → List Fact → Type 0
 Inside f [] = Unit {0}
-Inside f (g ∷ gs) = (is_begin g ≡ false) × (is_last f ≡ false) × (is_passive f ≡ true → decides g ≡ false) × Inside f gs
+Inside f (g ∷ gs) = (is_begin g ≡ false) × (is_last f ≡ false) × (is_passive f ≡ true → decides g ≡ false) × ((is_renewal f ≡ false) × (is_renewal g ≡ false)) × Inside f gs
 
 abbrev pub AreInside : List Fact → Type 0
 AreInside [] = Unit {0}
 AreInside (f ∷ fs) = Inside f fs × AreInside fs
 
--- facts none of which begins a call or decides anything
+-- facts none of which begins a call, decides anything or is a renewal
 abbrev Plain : List Fact → Type 0
 Plain [] = Unit {0}
-Plain (f ∷ fs) = (is_begin f ≡ false) × (decides f ≡ false) × Plain fs
+Plain (f ∷ fs) = (is_begin f ≡ false) × (decides f ≡ false) × (is_renewal f ≡ false) × Plain fs
 
--- they may stand behind whatever isn't the last
-behind : (f : Fact) → is_last f ≡ false → (fs : List Fact) → Plain fs → Inside f fs
-behind f goes_on [] plain = tt
-behind f goes_on (g ∷ gs) plain = (plain.0, goes_on, (λ e. plain.1), behind f goes_on gs plain.2)
+-- they may stand behind whatever isn't the last, and no renewal
+behind : (f : Fact) → is_last f ≡ false → is_renewal f ≡ false → (fs : List Fact) → Plain fs → Inside f fs
+behind f goes_on old [] plain = tt
+behind f goes_on old (g ∷ gs) plain = (plain.0, goes_on, (λ e. plain.1), (old, plain.2), behind f goes_on old gs plain.3)
 
 -- facts, one behind the other, that are no last ones, and before a last one
 abbrev Ordered : List Fact → Type 0
 Ordered fs = Plain fs × AreInside fs
 
-ahead : (f : Fact) → is_begin f ≡ false → decides f ≡ false → is_last f ≡ false → (fs : List Fact) → Ordered fs → Ordered (f ∷ fs)
-ahead f begins decided goes_on fs h = ((begins, decided, h.0), (behind f goes_on fs h.0, h.1))
+ahead : (f : Fact) → is_begin f ≡ false → decides f ≡ false → is_last f ≡ false → is_renewal f ≡ false → (fs : List Fact) → Ordered fs → Ordered (f ∷ fs)
+ahead f begins decided goes_on old fs h = ((begins, decided, old, h.0), (behind f goes_on old fs h.0, h.1))
 
-of_sleep : (u : ℕ) (f : Fact) → IsOfSleep u f → (is_begin f ≡ false) × (decides f ≡ false) × (is_last f ≡ false)
+of_sleep : (u : ℕ) (f : Fact) → IsOfSleep u f → (is_begin f ≡ false) × (decides f ≡ false) × (is_last f ≡ false) × (is_renewal f ≡ false)
 of_sleep u f of = grind (arith)
 
 returned_ordered : (u : ℕ) (y : Option Reply) → Ordered (return_facts u y)
 returned_ordered u None = (tt, tt)
-returned_ordered u (Some x) = ((refl, refl, tt), (tt, tt))
+returned_ordered u (Some x) = ((refl, refl, refl, tt), (tt, tt))
 
 reaped_ordered : (u : ℕ) (y : Bool) → Ordered (reap_facts u y)
 reaped_ordered u false = (tt, tt)
-reaped_ordered u true = ((refl, refl, tt), (tt, tt))
+reaped_ordered u true = ((refl, refl, refl, tt), (tt, tt))
 
 slept_ordered : (u m : ℕ) (z : Option Queue) (ws ms : List ℕ) (y : Option Reply) → Ordered (sleep_facts u z ++ (map Fact.Wake ws ++ (map (moves_to m) ms ++ return_facts u y)))
-slept_ordered u m z ws ms y = behind_point Ordered u m z ws ms (return_facts u y) (λ f of fs rest. let is = of_sleep u f of in ahead f is.0 is.1 is.2 fs rest) (returned_ordered u y)
+slept_ordered u m z ws ms y = behind_point Ordered u m z ws ms (return_facts u y) (λ f of fs rest. let is = of_sleep u f of in ahead f is.0 is.1 is.2 is.3 fs rest) (returned_ordered u y)
 
 woken_ordered : (u : ℕ) (ws : List ℕ) (y : Bool) → Ordered (map Fact.Wake ws ++ reap_facts u y)
-woken_ordered u ws y = behind_woken Ordered ws (reap_facts u y) (λ w fs rest. ahead (Fact.Wake w) refl refl refl fs rest) (reaped_ordered u y)
+woken_ordered u ws y = behind_woken Ordered ws (reap_facts u y) (λ w fs rest. ahead (Fact.Wake w) refl refl refl refl fs rest) (reaped_ordered u y)
 
 -- each note tells them so
 pub told_inside : (n : Note) → AreInside (facts_of n)
 told_inside Nothing = tt
 told_inside (Began t c None) = (tt, tt)
-told_inside (Began t c (Some x)) = ((refl, refl, (λ e. absurd cc), (refl, refl, (λ e. absurd cc), tt)), ((refl, refl, (λ e. absurd cc), tt), (tt, tt)))
+told_inside (Began t c (Some x)) = ((refl, refl, (λ e. absurd cc), (refl, refl), (refl, refl, (λ e. absurd cc), (refl, refl), tt)), ((refl, refl, (λ e. absurd cc), (refl, refl), tt), (tt, tt)))
 told_inside (Stepped u m None z ws ms y) = (slept_ordered u m z ws ms y).1
-told_inside (Stepped u m (Some d) z ws ms y) = let later = slept_ordered u m z ws ms y in (behind (Fact.Point d) refl _ later.0, later.1)
+told_inside (Stepped u m (Some d) z ws ms y) = let later = slept_ordered u m z ws ms y in (behind (Fact.Point d) refl refl _ later.0, later.1)
 told_inside (Killed t) = (tt, tt)
 told_inside (Left t) = (tt, tt)
+told_inside (Renewed t) = (tt, tt)
 told_inside (Walked u None ws y) = (woken_ordered u ws y).1
-told_inside (Walked u (Some m) ws y) = let later = woken_ordered u ws y in (behind (Fact.Death u m) refl _ later.0, later.1)
+told_inside (Walked u (Some m) ws y) = let later = woken_ordered u ws y in (behind (Fact.Death u m) refl refl _ later.0, later.1)
 
 -- events from i on
 abbrev From : ℕ → List Line → Type 0
@@ -223,11 +224,11 @@ lines_after i (n ∷ ns) = from_map i (facts_of n) (lines_from (i + 1) ns) (from
 
 -- lines of later events are of none of these
 apart : (i : ℕ) (f : Fact) (ls : List Line) → From (i + 1) ls → Each (Within (line_of i f)) ls
-apart i f ls h = each (λ l. i + 1 ≤ l.event) (Within (line_of i f)) (λ l at. record { first = λ e. absurd (omega (arith, at)); last = λ e. absurd (omega (arith, at)); decided = λ e. absurd (omega (arith, at)) }) ls h
+apart i f ls h = each (λ l. i + 1 ≤ l.event) (Within (line_of i f)) (λ l at. record { first = λ e. absurd (omega (arith, at)); last = λ e. absurd (omega (arith, at)); decided = λ e. absurd (omega (arith, at)); alone = λ e. absurd (omega (arith, at)) }) ls h
 
 beside_those : (i : ℕ) (f : Fact) (fs : List Fact) (ls : List Line) → Inside f fs → Each (Within (line_of i f)) ls → Each (Within (line_of i f)) (map (line_of i) fs ++ ls)
 beside_those i f [] ls inside later = later
-beside_those i f (g ∷ gs) ls inside later = (record { first = λ e. inside.0; last = λ e. inside.1; decided = λ e. inside.2 }, beside_those i f gs ls inside.3 later)
+beside_those i f (g ∷ gs) ls inside later = (record { first = λ e. inside.0; last = λ e. inside.1; decided = λ e. inside.2; alone = λ e. inside.3 }, beside_those i f gs ls inside.4 later)
 
 within_one : (i : ℕ) (fs : List Fact) (ls : List Line) → AreInside fs → From (i + 1) ls → AreWithin ls → AreWithin (map (line_of i) fs ++ ls)
 within_one i [] ls inside later rest = rest

@@ -1,15 +1,15 @@
 -- What each event adds to its thread's life, and that its lines are in order.
-use Rattle.std.proofs.Common.{◌≡◌, ◌≢◌, inl, inr, append-nil, ℕ, ◌+◌, ◌≤◌, ◌==◌, Bool, true, false, Option, Some, None, Ok, Err, List, [], ◌∷◌, ◌++◌, map, refl, sym, ap, ◌∙◌, subst, arith}
-use Rattle.protocol.proofs.Vocabulary.{departed, Left, Phase}
+use Rattle.std.proofs.Common.{◌≡◌, ◌≢◌, inl, inr, append-nil, append_assoc, ℕ, ◌+◌, ◌≤◌, ◌==◌, Bool, true, false, Option, Some, None, Ok, Err, List, [], ◌∷◌, ◌++◌, map, refl, sym, ap, ◌∙◌, subst, arith}
+use Rattle.protocol.proofs.Vocabulary.{departed, renewed, Left, Phase, Renewed}
 use Rattle.protocol.proofs.Vocabulary.{CondCall, condition_of, CondWhole, cond_access, cond_led, Begun, Queue, Mutex, Condition, Fact, Return, Operation, Access, Answer, Layout'}
 use Rattle.protocol.proofs.Vocabulary.{Reply, XHELD, Whole, whole_access, whole_led, Op, OnCondition, mutex_of, begun_of, Event, Thread, Stage, Idle, Calling, AtCondition, Dying}
 use Rattle.protocol.proofs.Vocabulary.{Reaped, Note, Began, Stepped, Walked, facts_of, sleep_facts, moves_to, return_facts, death_facts, reap_facts, State, After, start, nothing}
 use Rattle.protocol.proofs.Vocabulary.{is_alive, has_ended, stage_walked, killed, walked, begun, decision, slept_in, falls_asleep, woken, answer_of, led, led_at, went, happens}
 use Rattle.protocol.proofs.Vocabulary.{notes, caller, if◌then◌else◌, MatchBool, Nothing, Killed, line_of, point_facts, lines_from, caller_of, IsExplained, TraceIsExplained}
-use Rattle.facts.specs.declared.fact.Fact.TheVariants.{Begin, Point, Wake, Kill, Death, Reap}
+use Rattle.facts.specs.declared.fact.Fact.TheVariants.{Begin, Point, Wake, Kill, Death, Reap, Renew}
 use Rattle.facts.specs.declared.fact.Line.{Line}
 use Rattle.facts.specs.Facts.{thread_of, is_passive}
-use Rattle.facts.specs.Lives.{Act, Beginning, made_by, made, is_of_call, own, Mourned, Unburied, Tells_of, Buried, Life, Rests, Returns, Stays, Cut, Dies}
+use Rattle.facts.specs.Lives.{Act, Beginning, made_by, made, is_of_call, own, Complete, Unburied, Tells_of, Buried, Rests, Returns, Stays, Cut, Dies, EndsReaped, Lives, Last, Earlier}
 use Rattle.protocol.specs.Machine.{moved, Led}
 use Rattle.protocol.proofs.Puts.{put-same, put-other}
 use Rattle.protocol.proofs.Phases.{decided_at}
@@ -19,7 +19,8 @@ use Rattle.protocol.proofs.CallSteps.{CallStep}
 use Rattle.protocol.proofs.Declines.{declined_state, quiet, spared_is}
 use Rattle.protocol.proofs.Events.{begins_at, by_event, by_stage, IsTrimming}
 use Rattle.protocol.proofs.Endings.{EndsOrGoes, call_ends, cond_ends}
-use Rattle.protocol.proofs.Acts.{acts_by, acts_in, acts_begin, acts_in_begin, acts_of, Doing, Goes, Follows, call_follows, cond_follows}
+use Rattle.protocol.proofs.Acts.{acts_by, acts_in, acts_begin, acts_in_begin, acts_of, Doing, AfterKill, In_that_life, And_anew, AfterReaping, Stays_reaped, Renewed_then, Goes, Follows, call_follows, cond_follows}
+use Rattle.protocol.proofs.Renewals.{renewed_thread, renewed_other}
 use Rattle.protocol.proofs.CondAccesses.{cond_stepping, fits_at}
 use Rattle.protocol.proofs.Accesses as accesses
 use Rattle.protocol.proofs.Runs.{sound, start_kept}
@@ -36,16 +37,57 @@ use Rattle.protocol.proofs.Cases.{by_same}
 abbrev point_by : ℕ → ℕ → Operation → Reply → Fact
 point_by t m op x = Point (record { thread = t; mutex = m; operation = op; reply = x })
 
+-- a call's begin, its points, and then this
+abbrev called : ℕ → Begun → List Act → List Fact → List Fact
+called t b ps fs = Begin t b ∷ (made t b ps ++ fs)
+
+-- more may follow
+called_more : (t : ℕ) (b : Begun) (ps : List Act) (fs gs : List Fact) → called t b ps fs ++ gs ≡ called t b ps (fs ++ gs)
+called_more t b ps fs gs = ap (λ (zs : List Fact). Begin t b ∷ zs) (append_assoc (made t b ps) fs gs)
+
+called_reaped : (t : ℕ) (b : Begun) (ps : List Act) (f : Fact) (fs : List Fact) → EndsReaped t fs → EndsReaped t (called t b ps (f ∷ fs))
+called_reaped t b ps f fs e = (called t b ps (f ∷ e.0), ap (λ (zs : List Fact). called t b ps (f ∷ zs)) e.1 ∙ sym (called_more t b ps (f ∷ e.0) (Reap t ∷ [])))
+
+-- a call that returned, and then what follows it
+returns_on : (t : ℕ) (b : Begun) (ps : List Act) (x : Reply) (fs : List Fact) → Complete b.operation ps x → Lives t fs → Lives t (called t b ps (Return t x ∷ fs))
+returns_on t b ps x fs all (Last life l) = Last (called t b ps (Return t x ∷ life)) (Returns b ps x life all l)
+returns_on t b ps x fs all (Earlier life later l e more) =
+    subst (Lives t) (called_more t b ps (Return t x ∷ life) (Renew t ∷ later))
+    (Earlier (called t b ps (Return t x ∷ life)) later (Returns b ps x life all l) (called_reaped t b ps (Return t x) life e) more)
+
+-- a kill in a call, and one in none
+cut_on : (t : ℕ) (b : Begun) (ps : List Act) (fs : List Fact) → Beginning b.operation ps → AfterKill t fs → Lives t (called t b ps (Kill t ∷ fs))
+cut_on t b ps fs begins (In_that_life gs m) = Last (called t b ps (Kill t ∷ gs)) (Cut b ps gs begins m)
+cut_on t b ps fs begins (And_anew first later m e more) =
+    subst (Lives t) (called_more t b ps (Kill t ∷ first) (Renew t ∷ later))
+    (Earlier (called t b ps (Kill t ∷ first)) later (Cut b ps first begins m) (called_reaped t b ps (Kill t) first e) more)
+
+one_more_reaped : (t : ℕ) (f : Fact) (fs : List Fact) → EndsReaped t fs → EndsReaped t (f ∷ fs)
+one_more_reaped t f fs e = (f ∷ e.0, ap (λ (zs : List Fact). f ∷ zs) e.1)
+
+dies_on : (t : ℕ) (fs : List Fact) → AfterKill t fs → Lives t (Kill t ∷ fs)
+dies_on t fs (In_that_life gs m) = Last (Kill t ∷ gs) (Dies gs m)
+dies_on t fs (And_anew first later m e more) = Earlier (Kill t ∷ first) later (Dies first m) (one_more_reaped t (Kill t) first e) more
+
+-- its death, and its reaping
+death_on : (t m : ℕ) (fs : List Fact) → AfterKill t fs → AfterKill t (Death t m ∷ fs)
+death_on t m fs (In_that_life gs mourned) = In_that_life (Death t m ∷ gs) (Tells_of m gs mourned)
+death_on t m fs (And_anew first later mourned e more) = And_anew (Death t m ∷ first) later (Tells_of m first mourned) (one_more_reaped t (Death t m) first e) more
+
+reap_on : (t : ℕ) (fs : List Fact) → AfterReaping t fs → AfterKill t (Reap t ∷ fs)
+reap_on t fs Stays_reaped = In_that_life (Reap t ∷ []) Buried
+reap_on t fs (Renewed_then later more) = And_anew (Reap t ∷ []) later Buried ([], refl) more
+
 -- it may do nothing more
 stays : (t : ℕ) (b : Begun) (ps : List Act) → Beginning b.operation ps → Doing t b ps []
-stays t b ps begins = subst (λ (fs : List Fact). Life t (Begin t b ∷ fs)) (sym (append-nil (made t b ps))) (Stays b ps begins)
+stays t b ps begins = subst (λ (fs : List Fact). Lives t (Begin t b ∷ fs)) (sym (append-nil (made t b ps))) (Last (Begin t b ∷ made t b ps) (Stays b ps begins))
 
 ends : (l : Layout') (t : ℕ) (g : Stage) → Goes l t g []
-ends l t Idle = Rests
+ends l t Idle = Last [] Rests
 ends l t (Calling o p) = stays t (begun_of l o) (acts_by o (decided_at p.phase)) (acts_begin o (decided_at p.phase))
 ends l t (AtCondition c p) = stays t (begun_of l (OnCondition c)) (acts_in c p.phase) (acts_in_begin c p.phase)
-ends l t (Dying w) = Unburied
-ends l t Reaped = refl
+ends l t (Dying w) = In_that_life [] Unburied
+ends l t Reaped = Stays_reaped
 
 -- its points, and one more
 made_later : (t : ℕ) (b : Begun) (ps : List Act) (a : Act) (fs : List Fact) → made t b (ps ++ a ∷ []) ++ fs ≡ made t b ps ++ made_by t b a ∷ fs
@@ -54,7 +96,7 @@ made_later t b (p ∷ ps) a fs = ap (λ (zs : List Fact). made_by t b p ∷ zs) 
 
 point_then : (t : ℕ) (b : Begun) (ps : List Act) (op : Operation) (x : Option Reply) (fs : List Fact) → Doing t b (ps ++ acts_of op x) fs → Doing t b ps (point_facts (decision t b.mutex op x) ++ fs)
 point_then t b ps op None fs later = subst (λ (qs : List Act). Doing t b qs fs) (append-nil ps) later
-point_then t b ps op (Some x) fs later = subst (λ (zs : List Fact). Life t (Begin t b ∷ zs)) (made_later t b ps (op, x) fs) later
+point_then t b ps op (Some x) fs later = subst (λ (zs : List Fact). Lives t (Begin t b ∷ zs)) (made_later t b ps (op, x) fs) later
 
 -- ---- a thread's lines
 
@@ -87,12 +129,14 @@ own-calls t i Nothing ls = refl
 own-calls t i (Began u c x) ls = refl
 own-calls t i (Killed u) ls = refl
 own-calls t i (Left u) ls = refl
+own-calls t i (Renewed u) ls = refl
 own-calls t i (Walked u None ws y) ls = reaped_own t i u ws y ls
 own-calls t i (Walked u (Some m) ws y) ls = ap (λ (v : List Fact). if u == t then Death u m ∷ v else v) (reaped_own t i u ws y ls)
 own-calls t i (Stepped u m None z ws ms y) ls = slept_own t i u m z ws ms y ls
 own-calls t i (Stepped u m (Some d) z ws ms y) ls = ap (λ (v : List Fact). if d.thread == t then Point d ∷ v else v) (slept_own t i u m z ws ms y ls)
 
--- what one event tells: nothing; that its thread began a call, or was refused at once; that it decided something, or returned, or both; that it died; or of its death
+-- what one event tells: nothing; that its thread began a call, or was refused at once; that it decided something, or
+-- returned, or both; that it died; of its death; or that it lives anew
 data Says (t : ℕ) : List Fact → Type 0 where
   nothing_new : Says t []
   begins_one : (b : Begun) → Says t (Begin t b ∷ [])
@@ -102,6 +146,7 @@ data Says (t : ℕ) : List Fact → Type 0 where
   ends_with : (m : ℕ) (op : Operation) (x y : Reply) → Says t (point_by t m op x ∷ (Return t y ∷ []))
   dies : Says t (Kill t ∷ [])
   mourned : (d : Option ℕ) (y : Bool) → Says t (death_facts t d ++ reap_facts t y)
+  anew : Says t (Renew t ∷ [])
 
 -- another thread's event adds nothing to this thread's lines
 own-apart : (t u i : ℕ) (fs : List Fact) (ls : List Line) → Says u fs → u ≢ t → own t (map (line_of i) fs ++ ls) ≡ own t ls
@@ -111,6 +156,7 @@ own-apart t u i fs ls (refused b x) apart = own-other t i (Begin u b) (line_of i
 own-apart t u i fs ls (decided m op x) apart = own-other t i (point_by u m op x) ls apart
 own-apart t u i fs ls (returns x) apart = own-other t i (Return u x) ls apart
 own-apart t u i fs ls dies apart = own-other t i (Kill u) ls apart
+own-apart t u i fs ls anew apart = own-other t i (Renew u) ls apart
 own-apart t u i fs ls (mourned None false) apart = refl
 own-apart t u i fs ls (mourned None true) apart = own-other t i (Reap u) ls apart
 own-apart t u i fs ls (mourned (Some m) false) apart = own-other t i (Death u m) ls apart
@@ -140,7 +186,7 @@ access l t i o ps g ls follows (inl (on, none)) later =
 access l t i o ps g ls follows (inr (idle, x, back)) later =
     subst (Doing t (begun_of l o) ps) (sym (own-facts t i (mutex_of l o) g.operation g.point g.returned ls ∙ ap (λ (y : Option Reply). point_facts (decision t (mutex_of l o) g.operation g.point) ++ (return_facts t y ++ own t ls)) back))
     (point_then t (begun_of l o) ps g.operation g.point (Return t x ∷ own t ls)
-    (Returns (begun_of l o) (ps ++ acts_of g.operation g.point) x (own t ls) (follows.back x back) (subst (λ (z : Stage). Goes l t z (own t ls)) idle later)))
+    (returns_on t (begun_of l o) (ps ++ acts_of g.operation g.point) x (own t ls) (follows.back x back) (subst (λ (z : Stage). Goes l t z (own t ls)) idle later)))
 
 -- what an access tells is its thread's
 says_of : (t m : ℕ) (op : Operation) (x y : Option Reply) → Says t (facts_at t m op x y)
@@ -178,8 +224,8 @@ module _ (s : State) (u : ℕ) (o : Op) (idle : (s.threads u).stage ≡ Idle) wh
         let second = own-mine u i (point_by u b.mutex b.operation XHELD) (line_of i (Return u XHELD) ∷ ls) refl refl in
         let third = own-mine u i (Return u XHELD) ls refl refl in
         subst (λ g. Goes s.layout u g (own u (line_of i (Begin u b) ∷ (line_of i (point_by u b.mutex b.operation XHELD) ∷ (line_of i (Return u XHELD) ∷ ls))))) (sym idle)
-        (subst (Life u) (sym (first ∙ ap (λ fs. Begin u b ∷ fs) (second ∙ ap (λ fs. point_by u b.mutex b.operation XHELD ∷ fs) third)))
-        (Returns b ((b.operation, XHELD) ∷ []) XHELD (own u ls) refl (subst (λ g. Goes s.layout u g (own u ls)) idle later)));
+        (subst (Lives u) (sym (first ∙ ap (λ fs. Begin u b ∷ fs) (second ∙ ap (λ fs. point_by u b.mutex b.operation XHELD ∷ fs) third)))
+        (returns_on u b ((b.operation, XHELD) ∷ []) XHELD (own u ls) refl (subst (λ g. Goes s.layout u g (own u ls)) idle later)));
     others = λ t apart. refl;
   }
   begins_call false = record {
@@ -188,7 +234,7 @@ module _ (s : State) (u : ℕ) (o : Op) (idle : (s.threads u).stage ≡ Idle) wh
     says = begins_one b;
     mine = λ i ls later.
         let begun_there : Goes s.layout u (begins_at s.layout u o) (own u ls) = subst (λ (z : Thread). Goes s.layout u z.stage (own u ls)) (put-same s.threads u (record (s.threads u) { stage = begins_at s.layout u o })) later in
-        subst (λ g. Goes s.layout u g (own u (line_of i (Begin u b) ∷ ls))) (sym idle) (subst (Life u) (sym (own-mine u i (Begin u b) ls refl refl)) (first_acts s.layout u o (own u ls) begun_there));
+        subst (λ g. Goes s.layout u g (own u (line_of i (Begin u b) ∷ ls))) (sym idle) (subst (Lives u) (sym (own-mine u i (Begin u b) ls refl refl)) (first_acts s.layout u o (own u ls) begun_there));
     others = λ t apart. ap (λ (z : Thread). z.stage) (put-other s.threads u (record (s.threads u) { stage = begins_at s.layout u o }) t (λ is. apart (sym is)));
   }
 
@@ -232,15 +278,15 @@ dies_so s u alive = record {
   alone = tt;
   says = dies;
   mine = λ i ls later.
-      let mourns : Mourned u (own u ls) = subst (λ (z : Thread). Goes s.layout u z.stage (own u ls)) (put-same s.threads u _) later in
+      let mourns : AfterKill u (own u ls) = subst (λ (z : Thread). Goes s.layout u z.stage (own u ls)) (put-same s.threads u _) later in
       subst (Goes s.layout u (s.threads u).stage) (sym (own-mine u i (Kill u) ls refl refl)) (cut (s.threads u).stage alive (own u ls) mourns);
   others = λ t apart. ap (λ (z : Thread). z.stage) (put-other s.threads u _ t (λ same. apart (sym same)));
 }
   where
-    cut : (g : Stage) → is_alive g ≡ true → (fs : List Fact) → Mourned u fs → Goes s.layout u g (Kill u ∷ fs)
-    cut Idle e fs mourns = Dies fs mourns
-    cut (Calling o p) e fs mourns = Cut (begun_of s.layout o) (acts_by o (decided_at p.phase)) fs (acts_begin o (decided_at p.phase)) mourns
-    cut (AtCondition c p) e fs mourns = Cut (begun_of s.layout (OnCondition c)) (acts_in c p.phase) fs (acts_in_begin c p.phase) mourns
+    cut : (g : Stage) → is_alive g ≡ true → (fs : List Fact) → AfterKill u fs → Goes s.layout u g (Kill u ∷ fs)
+    cut Idle e fs mourns = dies_on u fs mourns
+    cut (Calling o p) e fs mourns = cut_on u (begun_of s.layout o) (acts_by o (decided_at p.phase)) fs (acts_begin o (decided_at p.phase)) mourns
+    cut (AtCondition c p) e fs mourns = cut_on u (begun_of s.layout (OnCondition c)) (acts_in c p.phase) fs (acts_in_begin c p.phase) mourns
     cut (Dying w) e fs mourns = absurd cc
     cut Reaped e fs mourns = absurd cc
 
@@ -261,19 +307,19 @@ declines_so s u o p is trims = record {
 }
 
 -- its death is told of, and it is reaped
-mourned_on : (l : Layout') (u i : ℕ) (w : walks.Standing) (d : Option ℕ) (r : walk_row.Row) (ls : List Line) → Goes l u (stage_walked w r) (own u ls) → Mourned u (own u (map (line_of i) (death_facts u d ++ reap_facts u (has_ended r)) ++ ls))
+mourned_on : (l : Layout') (u i : ℕ) (w : walks.Standing) (d : Option ℕ) (r : walk_row.Row) (ls : List Line) → Goes l u (stage_walked w r) (own u ls) → AfterKill u (own u (map (line_of i) (death_facts u d ++ reap_facts u (has_ended r)) ++ ls))
 mourned_on l u i w d r ls later = go d (has_ended r) (at_end r later)
   where
-    at_end : (r : walk_row.Row) → Goes l u (stage_walked w r) (own u ls) → MatchBool (has_ended r) (own u ls ≡ []) (Mourned u (own u ls))
+    at_end : (r : walk_row.Row) → Goes l u (stage_walked w r) (own u ls) → MatchBool (has_ended r) (AfterReaping u (own u ls)) (AfterKill u (own u ls))
     at_end walk.Ended e = e
     at_end r m = m
 
-    go : (d : Option ℕ) (b : Bool) → MatchBool b (own u ls ≡ []) (Mourned u (own u ls)) → Mourned u (own u (map (line_of i) (death_facts u d ++ reap_facts u b) ++ ls))
+    go : (d : Option ℕ) (b : Bool) → MatchBool b (AfterReaping u (own u ls)) (AfterKill u (own u ls)) → AfterKill u (own u (map (line_of i) (death_facts u d ++ reap_facts u b) ++ ls))
     go None false m = m
-    go None true e = subst (Mourned u) (sym (own-mine u i (Reap u) ls refl refl ∙ ap (λ fs. Reap u ∷ fs) e)) Buried
-    go (Some k) false m = subst (Mourned u) (sym (own-mine u i (Death u k) ls refl refl)) (Tells_of k (own u ls) m)
+    go None true e = subst (AfterKill u) (sym (own-mine u i (Reap u) ls refl refl)) (reap_on u (own u ls) e)
+    go (Some k) false m = subst (AfterKill u) (sym (own-mine u i (Death u k) ls refl refl)) (death_on u k (own u ls) m)
     go (Some k) true e =
-        subst (Mourned u) (sym (own-mine u i (Death u k) (line_of i (Reap u) ∷ ls) refl refl ∙ ap (λ fs. Death u k ∷ fs) (own-mine u i (Reap u) ls refl refl ∙ ap (λ fs. Reap u ∷ fs) e))) (Tells_of k (Reap u ∷ []) Buried)
+        subst (AfterKill u) (sym (own-mine u i (Death u k) (line_of i (Reap u) ∷ ls) refl refl ∙ ap (λ fs. Death u k ∷ fs) (own-mine u i (Reap u) ls refl refl))) (death_on u k (Reap u ∷ own u ls) (reap_on u (own u ls) e))
 
 walks_on : (s : State) (u : ℕ) → Kept s → 1 ≤ u → u ≤ s.layout.threads → (w : walks.Standing) → (s.threads u).stage ≡ Dying w → Adds s u (walked s u (s.threads u).held w)
 walks_on s u inv pos known w is = record {
@@ -283,6 +329,18 @@ walks_on s u inv pos known w is = record {
   mine = λ i ls later. subst (λ g. Goes s.layout u g (own u (map (line_of i) (calls_of (walked s u (s.threads u).held w).note) ++ ls))) (sym is)
       (mourned_on s.layout u i w _ _ ls (subst (λ (z : Thread). Goes s.layout u z.stage (own u ls)) (put-same s.threads u _) later));
   others = λ t apart. ap (λ (z : Thread). z.stage) (put-other s.threads u _ t (λ same. apart (sym same)));
+}
+
+-- it lives anew
+renews_so : (s : State) (u : ℕ) → 1 ≤ u → u ≤ s.layout.threads → (s.threads u).stage ≡ Reaped → Adds s u (renewed s u)
+renews_so s u pos known gone = record {
+  fine = ((λ e. refl), (λ e. tt), tt);
+  alone = tt;
+  says = anew;
+  mine = λ i ls later.
+      subst (λ (g : Stage). Goes s.layout u g (own u (line_of i (Renew u) ∷ ls))) (sym gone)
+      (subst (AfterReaping u) (sym (own-mine u i (Renew u) ls refl refl)) (Renewed_then (own u ls) (subst (λ (z : Thread). Goes s.layout u z.stage (own u ls)) (renewed_thread s u pos known) later)));
+  others = λ t apart. ap (λ (z : Thread). z.stage) (renewed_other s u pos known t (λ same. apart (sym same)));
 }
 
 -- each event
@@ -295,6 +353,7 @@ adds s e inv =
     (λ u pos known alive. dies_so s u alive)
     (λ u pos known asleep. leaves_so s u)
     (λ u o p pos known is awake trims. subst (Adds s u) (sym (spared_is s u o p is trims inv pos known)) (declines_so s u o p is trims))
+    (λ u pos known gone. renews_so s u pos known gone)
     e
 
 -- ---- whole runs

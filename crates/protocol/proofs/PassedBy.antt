@@ -1,6 +1,7 @@
 -- No wait is passed by.
 use Rattle.std.proofs.Common.{◌≡◌, ◌≢◌, ⊎_elim, ℕ, ◌+◌, ◌<◌, ◌≤◌, Bool, true, false, Option, Some, None, Ok, Err, List, [], ◌∷◌, ◌++◌, refl, sym, ap, ◌∙◌, subst, arith}
-use Rattle.protocol.proofs.Vocabulary.{departed, Clearing}
+use Rattle.protocol.proofs.Vocabulary.{departed, renewed, Clearing}
+use Rattle.protocol.proofs.Renewals.{renewed_thread}
 use Rattle.protocol.proofs.Vocabulary.{CondCall, CondRow, CondLed, CondPhase, condition_of, full, met_word, counter_after, CondWhole, cond_access, cond_led, after_words}
 use Rattle.protocol.proofs.Vocabulary.{from_words, CondOnward, Begun, Mutex, Condition, Fact, Operation, Decision, answer_at, sleeps_at, Layout', counter_place, Reply}
 use Rattle.protocol.proofs.Vocabulary.{OK, XHELD, Phase, Whole, whole_access, whole_led, Op, OnCondition, Thread, Stage, Idle, Calling, AtCondition, Dying, Reaped, Event, caller}
@@ -316,6 +317,21 @@ decline_makes s u o p is trims = record {
     stage_is : ((declined_state s u o p is trims).threads u).stage ≡ Calling o (record p { phase = Clearing OK })
     stage_is = ap (λ (z : Thread). z.stage) (put-same s.threads u _)
 
+renew_makes : (s : State) (u : ℕ) → 1 ≤ u → u ≤ s.layout.threads → Makes s u (renewed s u)
+renew_makes s u pos known = record {
+  points = λ d h. absurd (no_point d h);
+  unlocks = λ d h op x. absurd (no_point d h);
+  past = λ none h. subst (λ (z : Thread). IsPast z.stage) (sym (renewed_thread s u pos known)) tt;
+  behind = λ k none h. subst (λ (z : Thread). IsBehind s.layout (renewed s u).state.words k z.stage) (sym (renewed_thread s u pos known)) tt;
+  counts = λ d h c. absurd (no_point d h);
+  sleeps = λ t k h b. ⊎_elim (λ e. cc e) (λ none. none) h;
+  told = λ b h. subst (λ (z : Thread). IsTold s.layout z.stage b) (sym (renewed_thread s u pos known)) tt;
+  others = λ t b apart. refl;
+}
+  where
+    no_point : (d : Decision) → IsAmong (Fact.Point d) (facts_of (renewed s u).note) → ⊥
+    no_point d h = ⊎_elim (λ e. cc e) (λ none. none) h
+
 -- a walk
 module _ (s : State) (u : ℕ) (v : walks.Standing) where
   abbrev after_walk : After
@@ -354,6 +370,7 @@ makes s e inv counted =
     (λ t pos known alive. kill_makes s t)
     (λ t pos known asleep. leave_makes s t)
     (λ t o p pos known is awake trims. subst (Makes s t) (sym (spared_is s t o p is trims inv pos known)) (decline_makes s t o p is trims))
+    (λ t pos known gone. renew_makes s t pos known)
     e
 
 -- ---- what one event is to any thread

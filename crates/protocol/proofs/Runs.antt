@@ -4,7 +4,8 @@ use Rattle.std.proofs.Common.{eq-eqb, ◌%◌, ◌==◌}
 use Rattle.protocol.proofs.Vocabulary.{LoadFirst, Object, Operation, Decision, Layout', IsLayout, head_place, Does, Permits, acquires, fresh, held_by, Reply, XHELD, Op, mutex_of}
 use Rattle.protocol.proofs.Vocabulary.{Names, Event, Thread, Stage, Idle, Dying, Note, facts_of, State, After, put, start, nothing, is_alive, killed, begun, happens, run, notes}
 use Rattle.protocol.proofs.Vocabulary.{seen, if◌then◌else◌, nat_le, MatchBool, nat_tests, first_word, points_of, points_among, HistoryIsLegal, address_in}
-use Rattle.protocol.proofs.Vocabulary.{Calling, AtCondition, Reaped, departed, Whole}
+use Rattle.protocol.proofs.Vocabulary.{Calling, AtCondition, Reaped, departed, renewed, Whole}
+use Rattle.protocol.proofs.Renewals.{renewed_seen, renew_kept}
 use Rattle.keys.specs.Histories.{Legal, opening}
 use Rattle.robustlist.proofs.Lists.{begins_empty}
 use Rattle.condvar.specs.Ops.{operation_of}
@@ -181,6 +182,10 @@ decline_sound : (s : State) (t : ℕ) (o : Op) (p : Whole) (is : (s.threads t).s
     → Sound' s (record { state = declined_state s t o p is trims; note = quiet s t o p is trims })
 decline_sound s t o p is trims inv pos known = record { kept = decline_kept s t o p is trims inv pos known; same = refl; told = λ k. refl }
 
+-- and a renewal, which changes no mutex
+renew_sound : (s : State) (t : ℕ) → Kept s → 1 ≤ t → t ≤ s.layout.threads → (s.threads t).stage ≡ Reaped → Sound' s (renewed s t)
+renew_sound s t inv pos known gone = record { kept = renew_kept s t pos known inv gone; same = refl; told = renewed_seen s t pos known }
+
 -- each event is sound
 pub sound : (s : State) (e : Event) → Kept s → Sound' s (happens s e)
 sound s e inv =
@@ -191,6 +196,7 @@ sound s e inv =
     (λ t pos known alive. kill_sound s t inv pos known alive)
     (λ t pos known asleep. leave_sound s t inv)
     (λ t o p pos known is awake trims. subst (Sound' s) (sym (spared_is s t o p is trims inv pos known)) (decline_sound s t o p is trims inv pos known))
+    (λ t pos known gone. renew_sound s t inv pos known gone)
     e
 
 -- ---- the beginning

@@ -1,7 +1,7 @@
 -- The WAITERS bit, event by event.
 use Rattle.std.proofs.Common.{◌≡◌, inl, ℕ, ◌≤◌, ◌==◌, ◌&&◌, Bool, true, false, List, [], drop, Ok, Err, refl, ap, ◌∙◌, subst}
 use Rattle.protocol.proofs.Vocabulary.{XHELD, Op, Event, Step, State, After, begun, happens, run, start, if◌then◌else◌, cell_place, Phase, AtCell, Whole, OnMutex, Calling, is_asleep}
-use Rattle.protocol.proofs.Vocabulary.{Access, answer_among, word_among, Onward, stands_in, UnlockRow, put, stage_after}
+use Rattle.protocol.proofs.Vocabulary.{Access, answer_among, fields_of, word_among, Onward, stands_in, UnlockRow, put, stage_after}
 use Rattle.protocol.specs.Machine.{sleepers}
 use Rattle.mutex.specs.Programs.{row_access, resume_of}
 use Rattle.mutex.specs.Whole.{from_cell}
@@ -16,6 +16,7 @@ use Rattle.protocol.proofs.CallSteps.{CallStep, call_stepping}
 use Rattle.protocol.proofs.CellSteps as cell
 use Rattle.protocol.proofs.Accesses.{fits_in, goes}
 use Rattle.protocol.proofs.Events.{begins_at, by_event}
+use Rattle.protocol.proofs.Renewals.{renewed_cell}
 use Rattle.protocol.proofs.Working.{by_step, call_goes}
 use Rattle.protocol.proofs.Queued.{Queued, mine, out_awake}
 use Rattle.protocol.proofs.Queues.{not_true}
@@ -36,6 +37,7 @@ stay_on s e inv =
     (λ t pos known alive m below on. inl on)
     (λ t pos known asleep m below on. inl on)
     (λ t o p pos known is awake trims m below on. inl on)
+    (λ t pos known gone m below on. inl (ap (λ (w : ℕ). (fields_of w).waiters) (renewed_cell s t pos known m) ∙ on))
     e
 
 -- ---- an unlock that finds nobody to wake

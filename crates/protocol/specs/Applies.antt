@@ -7,22 +7,21 @@ use Rattle.keys.specs.Histories.{held_by}
 use Rattle.keys.specs.Objects.{held_limit, acquires}
 use Rattle.mutex.specs.Calls as mutex
 use Rattle.condvar.specs.Calls as condition
-use Rattle.condvar.specs.Ops.{operation_of}
+use Rattle.condvar.specs.Ops.{operation_of, mutex_of}
 use Rattle.protocol.specs.Ops.{begun_of}
 use Rattle.condvar.specs.declared.op.Op.{Op}
 use Rattle.condvar.specs.declared.op.Op.TheVariants.{OnMutex, OnCondition}
 use Rattle.protocol.specs.declared.event.Event.{Event}
 use Rattle.protocol.specs.declared.event.Event.TheVariants as event
 use Rattle.protocol.specs.declared.note.Note.{Note}
-use Rattle.protocol.specs.declared.note.Note.TheVariants.{Nothing, Began, Stepped, Killed, Walked, Left}
+use Rattle.protocol.specs.declared.note.Note.TheVariants.{Nothing, Began, Stepped, Killed, Walked, Left, Renewed}
 use Rattle.facts.specs.declared.fact.Fact.{Fact}
-use Rattle.facts.specs.declared.fact.Fact.TheVariants.{Begin, Return, Kill, Reap}
+use Rattle.facts.specs.declared.fact.Fact.TheVariants.{Begin, Return, Kill, Reap, Renew}
 use Rattle.keys.specs.declared.access.Access.TheVariants.{Trim}
 use Rattle.mutex.specs.Standings.{Whole}
 use Rattle.mutex.specs.Whole.{whole_access}
 use Rattle.protocol.specs.declared.thread.Stage.TheVariants.{Calling}
 use Rattle.protocol.specs.Machine.{State, start, happens, run, notes, stands_in}
-use Rattle.protocol.specs.Notes.{facts_of}
 use Rattle.protocol.specs.Headline.{seen, facts_among}
 
 -- ---- what a trace told of a thread
@@ -40,13 +39,14 @@ told_next t w (Begin u c) = if u == t then InCall else w
 told_next t w (Return u x) = if u == t then AtRest else w
 told_next t w (Kill u) = if u == t then Dead else w
 told_next t w (Reap u) = if u == t then Gone else w
+told_next t w (Renew u) = if u == t then AtRest else w
 told_next t w f = w
 
 abbrev pub told_after : ℕ → Told → List Fact → Told
 told_after t w [] = w
 told_after t w (f ∷ fs) = told_after t (told_next t w f) fs
 
--- of a thread of which nothing is told it is at rest
+-- of a thread of which nothing is told it is at rest, and behind its renewal too
 abbrev pub last_told : ℕ → List Note → Told
 last_told t ns = told_after t AtRest (facts_among ns)
 
@@ -83,13 +83,14 @@ abbrev pub IsAboutToTrim : State → ℕ → Type 0
 IsAboutToTrim s t = (o : Op) × (p : Whole) × (at : ℕ) × ((s.threads t).stage ≡ Calling o p) × (whole_access p ≡ Trim at)
 
 -- a begin applies where its thread lives, is in no call, and what it calls is in the layout; a step where its thread is in a call, or was killed and not reaped, and sleeps on nothing; a kill where its
--- thread lives; a leave where it sleeps; a decline where it is about to trim
+-- thread lives; a leave where it sleeps; a decline where it is about to trim; a renewal where its thread was reaped
 abbrev pub Applies : Layout' → State → List Note → Event → Type 0
 Applies l s ns (event.Begin t o) = IsThread l t × Names l o × (last_told t ns ≡ AtRest)
 Applies l s ns (event.Step t) = IsThread l t × HasAccess (last_told t ns) × IsInNoQueue s t
 Applies l s ns (event.Kill t) = IsThread l t × IsLiving (last_told t ns)
 Applies l s ns (event.Leave t) = IsThread l t × IsInAQueue s t
 Applies l s ns (event.Decline t) = IsThread l t × IsAboutToTrim s t
+Applies l s ns (event.Renew t) = IsThread l t × (last_told t ns ≡ Gone)
 
 -- a call that takes a mutex is refused at once where its thread owns 2,048
 abbrev pub refusal : Layout' → State → ℕ → Op → Option Reply
@@ -101,9 +102,10 @@ IsAccessOf t (Stepped u m point slept woken moved returned) = u ≡ t
 IsAccessOf t (Walked u death woken reaped) = u ≡ t
 IsAccessOf t n = ⊥
 
--- an access that decided nothing, returned nothing, and by which nobody fell asleep, was woken or was moved
-abbrev pub IsQuietAccessOf : ℕ → Note → Type 0
-IsQuietAccessOf t n = IsAccessOf t n × (facts_of n ≡ [])
+-- an access of the call in which thread t stands, on that call's mutex, that decided nothing, returned nothing, and by
+-- which nobody fell asleep, was woken or was moved
+abbrev pub IsQuietAccessOf : Layout' → State → ℕ → Note → Type 0
+IsQuietAccessOf l s t n = (o : Op) (p : Whole) → (s.threads t).stage ≡ Calling o p → n ≡ Stepped t (mutex_of l o) None None [] [] None
 
 -- an event that applies is noted as what it is
 abbrev pub IsNotedAs : Layout' → State → Event → Note → Type 0
@@ -111,7 +113,8 @@ IsNotedAs l s (event.Begin t o) n = n ≡ Began t (begun_of l o) (refusal l s t 
 IsNotedAs l s (event.Step t) n = IsAccessOf t n
 IsNotedAs l s (event.Kill t) n = n ≡ Killed t
 IsNotedAs l s (event.Leave t) n = n ≡ Left t
-IsNotedAs l s (event.Decline t) n = IsQuietAccessOf t n
+IsNotedAs l s (event.Decline t) n = IsQuietAccessOf l s t n
+IsNotedAs l s (event.Renew t) n = n ≡ Renewed t
 
 -- of a state that events lead to that were noted so: whatever event comes next, it happens where it applies, and else it does nothing
 pub record NextApplies (l : Layout') (s : State) (ns : List Note) : Type 0 where

@@ -4,7 +4,7 @@ use Rattle.keys.specs.Layouts.{Layout', IsLayout}
 use Rattle.protocol.specs.declared.event.Event.{Event}
 use Rattle.protocol.specs.declared.event.Event.TheVariants.{Kill}
 use Rattle.facts.specs.declared.fact.Fact.{Fact}
-use Rattle.facts.specs.declared.fact.Fact.TheVariants.{Death}
+use Rattle.facts.specs.declared.fact.Fact.TheVariants.{Death, Renew}
 use Rattle.protocol.specs.declared.thread.Stage.TheVariants.{Reaped}
 use Rattle.protocol.specs.Machine.{State, start, run, notes, has_thread, is_alive, killed}
 use Rattle.protocol.specs.Headline.{seen, facts_among}
@@ -15,6 +15,12 @@ deaths t m [] = 0
 deaths t m (Death u k ∷ fs) = (if (u == t) && (k == m) then 1 else 0) + deaths t m fs
 deaths t m (f ∷ fs) = deaths t m fs
 
+-- no renewal of thread t is told
+abbrev pub IsNotRenewed : ℕ → List Fact → Type 0
+IsNotRenewed t [] = Unit {0}
+IsNotRenewed t (Renew u ∷ fs) = (u ≢ t) × IsNotRenewed t fs
+IsNotRenewed t (f ∷ fs) = IsNotRenewed t fs
+
 -- thread t is killed in state s, and then these events happen: its death is told, once, of each mutex that it owned and has lost since, and of no other; so once it is reaped, of each mutex that it owned
 pub record ReportsDeath (s : State) (t : ℕ) (events : List Event) : Type 0 where
   pub owned : (m : ℕ) → m < s.layout.mutexes → (seen s m).owner ≡ Some t →
@@ -23,10 +29,11 @@ pub record ReportsDeath (s : State) (t : ℕ) (events : List Event) : Type 0 whe
   pub others : (m : ℕ) → m < s.layout.mutexes → (seen s m).owner ≢ Some t → deaths t m (facts_among (notes (killed s t).state events)) ≡ 0
   pub reaped : (m : ℕ) → m < s.layout.mutexes → (seen s m).owner ≡ Some t → ((run (killed s t).state events).threads t).stage ≡ Reaped → deaths t m (facts_among (notes (killed s t).state events)) ≡ 1
 
--- it is so of each kill among the events, wherever it stands, of a thread that lives then
+-- it is so of each kill among the events, wherever it stands, of a thread that lives then, at each moment behind it
+-- before the thread is renewed: of each life of a thread its own mutexes are told
 abbrev pub ReportsDeaths : State → List Event → Type 0
-ReportsDeaths s events = (before after : List Event) (t : ℕ) → events ≡ before ++ Kill t ∷ after → has_thread (run s before) t ≡ true → is_alive ((run s before).threads t).stage ≡ true
-    → ReportsDeath (run s before) t after
+ReportsDeaths s events = (before after rest : List Event) (t : ℕ) → events ≡ before ++ Kill t ∷ (after ++ rest) → has_thread (run s before) t ≡ true → is_alive ((run s before).threads t).stage ≡ true
+    → IsNotRenewed t (facts_among (notes (killed (run s before) t).state after)) → ReportsDeath (run s before) t after
 
 -- whatever happens, with any values of the counters at the beginning
 abbrev pub DeathsAreTold : Type 0

@@ -4,8 +4,8 @@ use Rattle.keys.specs.Layouts.{Layout', IsLayout}
 use Rattle.facts.specs.declared.fact.Fact.{Fact}
 use Rattle.facts.specs.declared.fact.Fact.TheVariants.{Begin, Return, Reap}
 use Rattle.facts.specs.declared.fact.Line.{Line}
-use Rattle.facts.specs.Facts.{thread_of, is_passive, decides}
-use Rattle.facts.specs.Lives.{own, Life}
+use Rattle.facts.specs.Facts.{thread_of, is_passive, decides, is_renewal}
+use Rattle.facts.specs.Lives.{own, Lives}
 use Rattle.facts.specs.Orders.{Each, Orderly}
 use Rattle.protocol.specs.declared.event.Event.{Event}
 use Rattle.protocol.specs.declared.event.Event.TheVariants as event
@@ -20,6 +20,7 @@ caller (event.Step t) = t
 caller (event.Kill t) = t
 caller (event.Leave t) = t
 caller (event.Decline t) = t
+caller (event.Renew t) = t
 
 -- the thread of event n, the first of the events having number i; 0 where there is no such event
 abbrev pub caller_of : ℕ → List Event → ℕ → ℕ
@@ -39,11 +40,14 @@ is_last (Return t x) = true
 is_last (Reap t) = true
 is_last f = false
 
--- how line b may stand behind line a, near or far, where both are of one event: a begin is its first line, a return and a reaping are its last, and whom it wakes or moves stands behind its point, or the death that it tells
+-- how line b may stand behind line a, near or far, where both are of one event: a begin is its first line, a return and
+-- a reaping are its last, whom it wakes or moves stands behind its point, or the death that it tells, and a renewal is
+-- its only line
 pub record Within (a b : Line) : Type 0 where
   pub first : a.event ≡ b.event → is_begin b.fact ≡ false
   pub last : a.event ≡ b.event → is_last a.fact ≡ false
   pub decided : a.event ≡ b.event → is_passive a.fact ≡ true → decides b.fact ≡ false
+  pub alone : a.event ≡ b.event → (is_renewal a.fact ≡ false) × (is_renewal b.fact ≡ false)
 
 abbrev pub AreWithin : List Line → Type 0
 AreWithin [] = Unit {0}
@@ -51,13 +55,15 @@ AreWithin (l ∷ ls) = Each (Within l) ls × AreWithin ls
 
 -- ---- all lines
 
--- what the notes tell is in order, each line but a wake or a move is of an event of its own thread, and each thread's begins, points and returns belong together: a call has one point at most, of its own
--- operation and mutex, whose reply it returns; but a wait that isn't refused has an unlock and then a lock, whose reply it returns
+-- what the notes tell is in order, each line but a wake or a move is of an event of its own thread, and what is told of
+-- each thread is its lives, each but the last ended by its reaping and followed by its renewal. In each life its
+-- begins, points and returns belong together: a call has one point at most, of its own operation and mutex, whose reply
+-- it returns; but a wait that isn't refused has an unlock and then a lock, whose reply it returns
 pub record IsExplained (events : List Event) (told : List Note) : Type 0 where
   pub orderly : Orderly (lines_from 1 told)
   pub within : AreWithin (lines_from 1 told)
   pub callers : Each (λ l. is_passive l.fact ≡ false → thread_of l.fact ≡ caller_of 1 events l.event) (lines_from 1 told)
-  pub lives : (t : ℕ) → Life t (own t (lines_from 1 told))
+  pub lives : (t : ℕ) → Lives t (own t (lines_from 1 told))
 
 -- whatever happens, with any values of the counters at the beginning
 abbrev pub TraceIsExplained : Type 0

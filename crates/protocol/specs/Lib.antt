@@ -14,3 +14,4 @@ pub mod Signals
 pub mod WaitersBit
 pub mod WalksOn
 pub mod Leaves
+pub mod Renewals

@@ -9,7 +9,7 @@ use Rattle.keys.specs.declared.access.Answer.TheVariants.{Fault, Trimmed}
 use Rattle.keys.specs.declared.point.Operation.{Operation}
 use Rattle.keys.specs.declared.point.Operation.TheVariants as operation
 use Rattle.keys.specs.declared.point.Decision.{Decision}
-use Rattle.keys.specs.Layouts.{Layout', head_place, cell_place, counter_place, words_of, address_in, place_in, first_word}
+use Rattle.keys.specs.Layouts.{Layout', head_place, cell_place, counter_place, words_of, address_in, place_in, head_word, first_word}
 use Rattle.buckets.specs.Queues.{without}
 use Rattle.keys.specs.Accesses.{address_of, word_among, answer_among, sleeps_at}
 use Rattle.mutex.specs.declared.call.Call.{Call}
@@ -37,12 +37,12 @@ use Rattle.protocol.specs.Ops.{begun_of}
 use Rattle.condvar.specs.declared.op.Op.{Op}
 use Rattle.condvar.specs.declared.op.Op.TheVariants.{OnMutex, OnCondition}
 use Rattle.protocol.specs.declared.event.Event.{Event}
-use Rattle.protocol.specs.declared.event.Event.TheVariants.{Begin, Step, Kill, Leave, Decline}
+use Rattle.protocol.specs.declared.event.Event.TheVariants.{Begin, Step, Kill, Leave, Decline, Renew}
 use Rattle.protocol.specs.declared.thread.Thread.{Thread}
 use Rattle.protocol.specs.declared.thread.Stage.{Stage}
 use Rattle.protocol.specs.declared.thread.Stage.TheVariants.{Idle, Calling, AtCondition, Dying, Reaped}
 use Rattle.protocol.specs.declared.note.Note.{Note}
-use Rattle.protocol.specs.declared.note.Note.TheVariants.{Nothing, Began, Stepped, Killed, Walked, Left}
+use Rattle.protocol.specs.declared.note.Note.TheVariants.{Nothing, Began, Stepped, Killed, Walked, Left, Renewed}
 
 -- the words by place, who sleeps on each, also by place, in the order in which they are to be woken, and the threads by id
 pub record State : Type 0 where
@@ -162,6 +162,10 @@ is_alive g = false
 abbrev pub is_exiting : Stage → Bool
 is_exiting (Dying w) = true
 is_exiting g = false
+
+abbrev pub is_gone : Stage → Bool
+is_gone Reaped = true
+is_gone g = false
 
 -- in a call
 abbrev pub is_busy : State → ℕ → Bool
@@ -357,6 +361,21 @@ walked s t held w =
       note = Walked t death (woken s t a) (has_ended row);
     }
 
+-- ---- renewals
+
+-- one of the three words of thread t's head
+abbrev pub is_in_head : ℕ → ℕ → Bool
+is_in_head t p = nat_le (head_place t) p && nat_lt p (head_place t + 3)
+
+-- a thread that was reaped lives anew: its head is as at first, an empty list, which points at itself
+-- (get_robust_list(2)), and no pending entry; and it is in no call and owns nothing
+abbrev pub renewed : State → ℕ → After
+renewed s t =
+    record {
+      state = record s { words = λ p. if is_in_head t p then head_word s.layout p else s.words p; threads = put s.threads t idle };
+      note = Renewed t;
+    }
+
 -- ---- events
 
 abbrev pub stepped : State → ℕ → ℕ → Stage → After
@@ -375,13 +394,14 @@ declined s t held (Calling o p) =
 declined s t held g = nothing s
 
 -- a begin of a busy, killed or unknown thread or of a call outside the layout, a step of an idle, sleeping, reaped or unknown thread, a kill of a killed or unknown thread, a leave of a thread that doesn't
--- sleep and a decline of one that isn't about to trim do nothing
+-- sleep, a decline of one that isn't about to trim and a renewal of one that wasn't reaped do nothing
 abbrev pub happens : State → Event → After
 happens s (Begin t o) = if may_begin s t o then begun s t o (first_stage s.layout t (s.threads t).held o) else nothing s
 happens s (Step t) = if has_thread s t then stepped s t (s.threads t).held (s.threads t).stage else nothing s
 happens s (Kill t) = if has_thread s t && is_alive (s.threads t).stage then killed s t else nothing s
 happens s (Leave t) = if has_thread s t && is_asleep s t then departed s t else nothing s
 happens s (Decline t) = if has_thread s t then declined s t (s.threads t).held (s.threads t).stage else nothing s
+happens s (Renew t) = if has_thread s t && is_gone (s.threads t).stage then renewed s t else nothing s
 
 -- ---- runs
 

@@ -3,11 +3,11 @@ use Rattle.std.specs.Prelude.{ℕ, ◌+◌, Bool, true, false, Option, Some, Non
 use Rattle.lockword.specs.declared.reply.Reply.{Reply}
 use Rattle.keys.specs.declared.point.Decision.{Decision}
 use Rattle.protocol.specs.declared.note.Note.{Note}
-use Rattle.protocol.specs.declared.note.Note.TheVariants.{Nothing, Began, Stepped, Killed, Walked, Left}
+use Rattle.protocol.specs.declared.note.Note.TheVariants.{Nothing, Began, Stepped, Killed, Walked, Left, Renewed}
 use Rattle.facts.specs.declared.fact.Begun.{Begun}
 use Rattle.facts.specs.declared.fact.Queue.{Queue}
 use Rattle.facts.specs.declared.fact.Fact.{Fact}
-use Rattle.facts.specs.declared.fact.Fact.TheVariants.{Begin, Point, Sleep, Wake, Move, Return, Kill, Death, Reap}
+use Rattle.facts.specs.declared.fact.Fact.TheVariants.{Begin, Point, Sleep, Wake, Move, Return, Kill, Death, Reap, Renew}
 use Rattle.facts.specs.declared.fact.Line.{Line}
 
 abbrev pub return_facts : ℕ → Option Reply → List Fact
@@ -46,6 +46,7 @@ facts_of (Began t c refused) = Begin t c ∷ refusal_facts t c refused
 facts_of (Stepped t m point slept woken moved returned) = point_facts point ++ (sleep_facts t slept ++ (map Wake woken ++ (map (moves_to m) moved ++ return_facts t returned)))
 facts_of (Killed t) = Kill t ∷ []
 facts_of (Left t) = Wake t ∷ []
+facts_of (Renewed t) = Renew t ∷ []
 facts_of (Walked t death woken reaped) = death_facts t death ++ (map Wake woken ++ reap_facts t reaped)
 
 abbrev pub line_of : ℕ → Fact → Line

@@ -16,4 +16,7 @@ pub enum Event {
     Leave(Tid),
     /// The next access of the thread's call, a trim, is declined: whatever the word is, it stays, and the thread is answered so.
     Decline(Tid),
+    /// The thread, which was reaped, lives anew, with the same id: in no call, with an empty list and nothing pending,
+    /// the owner of nothing.
+    Renew(Tid),
 }

@@ -12,26 +12,32 @@ ghost use Rattle.protocol.specs.Signals.{SignalsAreRight};
 ghost use Rattle.protocol.specs.WaitersBit.{WaitersAreKept};
 ghost use Rattle.protocol.specs.WalksOn.{WalksGoOn};
 ghost use Rattle.protocol.specs.Leaves.{LeavesAreLone, FrontsAreWoken};
+ghost use Rattle.protocol.specs.Renewals.{RenewalsBeginAnew, LivesAreOne};
 
 /// Whatever happens, the points are one legal history of POSIX robust mutexes, which says at each moment what every cell says.
 pub fn history_is_legal()
     ensures { HistoryIsLegal }
 {}
 
-/// Whatever happens, wherever threads are killed: a thread whose walk has ended owns no mutex.
+/// Whatever happens, wherever threads are killed: a thread whose walk has ended owns no mutex, as long as it isn't
+/// renewed.
 pub fn no_reaped_owner()
     ensures { NoReapedOwner }
 {}
 
-/// Whatever happens, wherever a thread is killed: its death is told, once, of each mutex that it owned and has lost since, and of no other; once it is reaped, of each that
-/// it owned.
+/// Whatever happens, wherever a thread is killed, at each moment until it is renewed: its death is told, once, of each
+/// mutex that it owned and has lost since, and of no other; once it is reaped, of each that it owned. So of each life
+/// of a thread its own mutexes are told.
 pub fn deaths_are_told()
     ensures { DeathsAreTold }
 {}
 
-/// Whatever happens, the trace explains itself: each thread's calls begin, have their one point and return its reply, each at an event of that thread, and no point belongs to any
-/// other call. But a wait that isn't refused has two: it unlocks its mutex, and later locks it again, with the reply that it returns. Of the lines of one event a begin is the first, a return or
-/// a reaping the last, and whom it wakes or moves stands behind its point.
+/// Whatever happens, the trace explains itself: what it tells of a thread is one life after the other, each but the
+/// last ended by its reaping, and then its renewal; in each life the thread's calls begin, have their one point and
+/// return its reply, each at an event of that thread, and no point belongs to any other call. But a wait that isn't
+/// refused has two: it unlocks its mutex, and later locks it again, with the reply that it returns. Of the lines of one
+/// event a begin is the first, a return or a reaping the last, a renewal the only one, and whom it wakes or moves
+/// stands behind its point.
 pub fn trace_is_explained()
     ensures { TraceIsExplained }
 {}
@@ -61,7 +67,9 @@ pub fn lists_are_kept()
 
 /// Whatever happens, by what the trace has told so far: a begin by a thread in no call, on a mutex or condition variable of the layout, is noted as a begin, which is refused only where it is
 /// to take a mutex and the thread owns 2,048; a kill of a thread that lives is noted; a step is an access of its thread where that is in a call, or was killed and not reaped, and sleeps on
-/// nothing; a leave is its thread's where that sleeps; and a decline is an access that tells nothing, of a thread whose next access is a trim. Every other event is noted as nothing, and changes nothing.
+/// nothing; a leave is its thread's where that sleeps; a decline is an access of its thread's call, and of that call's
+/// mutex, that tells nothing, where the thread's next access is a trim; and a renewal is its thread's where that was
+/// reaped, and hasn't been renewed since. Every other event is noted as nothing, and changes nothing.
 pub fn events_apply()
     ensures { EventsApply }
 {}
@@ -76,7 +84,8 @@ pub fn sleeps_are_told()
 
 /// Whatever happens: a step wakes or moves nobody, or just those whom its thread's call, as it was told, is to: once it has had a point, the first of the queue of its mutex, or all of them, in their
 /// order, where its last point left that mutex unusable; where the call is a signal, the first of its condition variable's queue; a broadcast moves all of its condition variable's, in their order, to its mutex's. The walk
-/// of a dead thread's list wakes the first of a mutex's queue. A leave wakes its own thread or nobody, and moves nobody. No begin, no kill and no decline wakes or moves anybody.
+/// of a dead thread's list wakes the first of a mutex's queue. A leave wakes its own thread or nobody, and moves
+/// nobody. No begin, no kill, no decline and no renewal wakes or moves anybody.
 pub fn wakes_are_right()
     ensures { WakesAreRight }
 {}
@@ -116,4 +125,17 @@ pub fn leaves_and_declines_are_lone()
 /// Whatever happens, where nobody leaves by itself, trims declined or not: each wake names the front of a queue, by all that was told before it.
 pub fn without_leaves_as_before()
     ensures { FrontsAreWoken }
+{}
+
+/// Whatever happened before: a thread that was reaped begins anew where it is renewed, and only that is told. It is in
+/// no call and in no queue, its list is empty, nothing is pending, and it owns no mutex and counts none as its own; no
+/// other word, no other thread and no queue changes.
+pub fn renewals_begin_anew()
+    ensures { RenewalsBeginAnew }
+{}
+
+/// Whatever else happens, where nobody is renewed: each thread has one life, and its death is told of the mutexes that
+/// it owned, however much happens behind it.
+pub fn without_renewals_as_before()
+    ensures { LivesAreOne }
 {}

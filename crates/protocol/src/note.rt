@@ -43,4 +43,8 @@ pub enum Note {
         woken: Batch,
         reaped: bool,
     },
+    /// A thread that was reaped lives anew.
+    Renewed {
+        thread: Tid,
+    },
 }

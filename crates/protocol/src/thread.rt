@@ -15,7 +15,7 @@ pub enum Stage {
     AtCondition(CondCall, CondProgram),
     /// Killed: the kernel walks its robust list.
     Dying(Walk),
-    /// Killed, and the walk has ended.
+    /// Killed, and the walk has ended; unless it is renewed.
     Reaped,
 }
 

@@ -11,11 +11,11 @@ use Rattle.lines.specs.Faults.{◌>>=◌}
 use Rattle.lines.specs.Lines.{lines_of, words_of, bad_line}
 use Rattle.lines.specs.Numbers.{is_number, within}
 use Rattle.condvar.specs.declared.op.Op.{Op}
-use Rattle.script.specs.Forms.{CallForm, Form, silent, process, thread, member, mutex, mutexes, begins, steps, kills, kills_all, goes, leaves, declines, calls, locks, phase, dies, is_silent, is_name, is_stem, has, of_mode, or_else, step_form, die_form, mutexes_form, process_form, member_form, locks_form, cond_form, call_form, calling_form, words_form, form_of}
+use Rattle.script.specs.Forms.{CallForm, Form, silent, process, thread, member, mutex, mutexes, begins, steps, kills, kills_all, goes, leaves, declines, renews, calls, locks, phase, dies, is_silent, is_name, is_stem, has, of_mode, or_else, step_form, die_form, mutexes_form, process_form, member_form, locks_form, cond_form, call_form, calling_form, words_form, form_of}
 use Rattle.script.specs.Forms as form
 use Rattle.script.specs.Deaths.{death_of}
 use Rattle.script.specs.Scope.{Scope}
-use Rattle.script.specs.Reading.{refuse, place_of, process_of, is_declared, with_name, with_entry, with_thread, added, several, declares, thread_of, call_of, first_of, begun, stepped, killed, all_killed, gone, left, declined, made, locked, died, with_action, asked, enter, fault_at, met_at, line_read, finished, lines_read, text_read, nothing}
+use Rattle.script.specs.Reading.{refuse, place_of, process_of, is_declared, with_name, with_entry, with_thread, added, several, declares, thread_of, call_of, first_of, begun, stepped, killed, all_killed, gone, left, declined, renewed, made, locked, died, with_action, asked, enter, fault_at, met_at, line_read, finished, lines_read, text_read, nothing}
 use Rattle.script.specs.Processes.{said}
 use Rattle.script.specs.Dying.{thread_in, threads_in, thread_among, die_in, death_asked, deaths_asked, DeathsAreAsTold}
 use Rattle.script.specs.declared.command.Action.{Action}
@@ -141,6 +141,7 @@ entered n s (kills_all p) = quiet s _ (asks n s (all_killed s p) (killing_all s 
 entered n s (goes t) = quiet s _ (asks n s (gone s t) (of_thread s t (λ i. action.Go i) (λ i. refl)))
 entered n s (leaves t) = quiet s _ (asks n s (left s t) (of_thread s t (λ i. action.Leave i) (λ i. refl)))
 entered n s (declines t) = quiet s _ (asks n s (declined s t) (of_thread s t (λ i. action.Decline i) (λ i. refl)))
+entered n s (renews t) = quiet s _ (asks n s (renewed s t) (of_thread s t (λ i. action.Renew i) (λ i. refl)))
 entered n s (calls t c) = quiet s _ (asks n s (made s t c) (calling s t c (λ i x. action.Call i x) (λ i x. refl)))
 entered n s (locks t m count) = quiet s _ (asks n s (locked s t m count) (locking s t m count))
 entered n s phase = (tt, λ more. acts n s action.Phase [] refl)
@@ -161,23 +162,24 @@ abbrev Says : Form → List (List ℕ) → Type 0
 Says f ws = Given f → (told_thread f ≡ thread_in ws) × ((names : List (List ℕ)) → told_death names f ≡ die_in names ws)
 
 name_says : (w a : List ℕ) → IfSome (form.name_form w a) (λ f. Says f (w ∷ a ∷ []))
-name_says w a = go (is_name a) (bytes_eq w (codes "thread")) (bytes_eq w (codes "mutex")) (bytes_eq w (codes "kill")) (bytes_eq w (codes "killall")) (bytes_eq w (codes "go")) (bytes_eq w (codes "leave")) (bytes_eq w (codes "decline")) refl refl refl refl refl refl refl
+name_says w a = go (is_name a) (bytes_eq w (codes "thread")) (bytes_eq w (codes "mutex")) (bytes_eq w (codes "kill")) (bytes_eq w (codes "killall")) (bytes_eq w (codes "go")) (bytes_eq w (codes "leave")) (bytes_eq w (codes "decline")) (bytes_eq w (codes "renew")) refl refl refl refl refl refl refl refl
   where
     -- what is said of threads
     told : (x : Bool) → bytes_eq w (codes "thread") ≡ x → (if x then a ∷ [] else []) ≡ thread_in (w ∷ a ∷ [])
     told x e = ap (λ (b : Bool). if b then a ∷ [] else []) (sym e)
 
-    go : (n t m k l g v d : Bool) → bytes_eq w (codes "thread") ≡ t → bytes_eq w (codes "mutex") ≡ m → bytes_eq w (codes "kill") ≡ k → bytes_eq w (codes "killall") ≡ l → bytes_eq w (codes "go") ≡ g → bytes_eq w (codes "leave") ≡ v → bytes_eq w (codes "decline") ≡ d
-        → IfSome (if not n then None else (if t then Some (thread a) else (if m then Some (mutex a) else (if k then Some (kills a) else (if l then Some (kills_all a) else (if g then Some (goes a) else (if v then Some (leaves a) else (if d then Some (declines a) else None)))))))) (λ f. Says f (w ∷ a ∷ []))
-    go false t m k l g v d et em ek el eg ev ed = tt
-    go true true m k l g v d et em ek el eg ev ed = λ _. (told true et, λ names. refl)
-    go true false true k l g v d et em ek el eg ev ed = λ _. (told false et, λ names. refl)
-    go true false false true l g v d et em ek el eg ev ed = λ _. (told false et, λ names. refl)
-    go true false false false true g v d et em ek el eg ev ed = λ _. (told false et, λ names. refl)
-    go true false false false false true v d et em ek el eg ev ed = λ _. (told false et, λ names. refl)
-    go true false false false false false true d et em ek el eg ev ed = λ _. (told false et, λ names. refl)
-    go true false false false false false false true et em ek el eg ev ed = λ _. (told false et, λ names. refl)
-    go true false false false false false false false et em ek el eg ev ed = tt
+    go : (n t m k l g v d r : Bool) → bytes_eq w (codes "thread") ≡ t → bytes_eq w (codes "mutex") ≡ m → bytes_eq w (codes "kill") ≡ k → bytes_eq w (codes "killall") ≡ l → bytes_eq w (codes "go") ≡ g → bytes_eq w (codes "leave") ≡ v → bytes_eq w (codes "decline") ≡ d → bytes_eq w (codes "renew") ≡ r
+        → IfSome (if not n then None else (if t then Some (thread a) else (if m then Some (mutex a) else (if k then Some (kills a) else (if l then Some (kills_all a) else (if g then Some (goes a) else (if v then Some (leaves a) else (if d then Some (declines a) else (if r then Some (renews a) else None))))))))) (λ f. Says f (w ∷ a ∷ []))
+    go false t m k l g v d r et em ek el eg ev ed er = tt
+    go true true m k l g v d r et em ek el eg ev ed er = λ _. (told true et, λ names. refl)
+    go true false true k l g v d r et em ek el eg ev ed er = λ _. (told false et, λ names. refl)
+    go true false false true l g v d r et em ek el eg ev ed er = λ _. (told false et, λ names. refl)
+    go true false false false true g v d r et em ek el eg ev ed er = λ _. (told false et, λ names. refl)
+    go true false false false false true v d r et em ek el eg ev ed er = λ _. (told false et, λ names. refl)
+    go true false false false false false true d r et em ek el eg ev ed er = λ _. (told false et, λ names. refl)
+    go true false false false false false false true r et em ek el eg ev ed er = λ _. (told false et, λ names. refl)
+    go true false false false false false false false true et em ek el eg ev ed er = λ _. (told false et, λ names. refl)
+    go true false false false false false false false false et em ek el eg ev ed er = tt
 
 three_say : (w a n : List ℕ) → IfSome (or_else (step_form w a n) (or_else (die_form w a n) (or_else (mutexes_form w a n) (or_else (process_form w a n) (member_form w a n))))) (λ f. Says f (w ∷ a ∷ n ∷ []))
 three_say w a n = go (bytes_eq w (codes "step") && is_name a && is_number n) (bytes_eq w (codes "die") && is_name a && is_number n) (bytes_eq w (codes "mutexes") && is_stem a && is_number n) (bytes_eq w (codes "process") && is_name a && is_number n) (bytes_eq w (codes "thread") && is_name a && is_name n) refl refl refl refl refl

@@ -52,6 +52,7 @@ pub data Form : Type 0 where
   goes : List ℕ → Form
   leaves : List ℕ → Form
   declines : List ℕ → Form
+  renews : List ℕ → Form
   calls : List ℕ → CallForm → Form
   locks : List ℕ → List ℕ → Option ℕ → Form
   phase : Form
@@ -62,7 +63,7 @@ abbrev pub is_silent : List ℕ → Bool
 is_silent [] = true
 is_silent (b ∷ bs) = b == 35
 
--- `thread NAME` and `mutex NAME`, `kill T`, `killall PROCESS`, `go T`, `leave T` and `decline T`
+-- `thread NAME` and `mutex NAME`, `kill T`, `killall PROCESS`, `go T`, `leave T`, `decline T` and `renew T`
 abbrev pub name_form : List ℕ → List ℕ → Option Form
 name_form w a = if not (is_name a) then None
     else (if bytes_eq w (codes "thread") then Some (thread a)
@@ -71,7 +72,8 @@ name_form w a = if not (is_name a) then None
     else (if bytes_eq w (codes "killall") then Some (kills_all a)
     else (if bytes_eq w (codes "go") then Some (goes a)
     else (if bytes_eq w (codes "leave") then Some (leaves a)
-    else (if bytes_eq w (codes "decline") then Some (declines a) else None)))))))
+    else (if bytes_eq w (codes "decline") then Some (declines a)
+    else (if bytes_eq w (codes "renew") then Some (renews a) else None))))))))
 
 -- `step T N`
 abbrev pub step_form : List ℕ → List ℕ → List ℕ → Option Form
@@ -171,6 +173,7 @@ threads_have (kills_all p) = false
 threads_have (goes t) = false
 threads_have (leaves t) = false
 threads_have (declines t) = false
+threads_have (renews t) = false
 threads_have (calls t c) = true
 threads_have (locks t m n) = false
 threads_have phase = true

@@ -26,6 +26,7 @@ is_end (action.KillAll p) = false
 is_end (action.Go t) = false
 is_end (action.Leave t) = false
 is_end (action.Decline t) = false
+is_end (action.Renew t) = false
 is_end (action.Call t c) = false
 is_end (action.Locks t m n) = false
 is_end (action.Die t n) = false
@@ -44,6 +45,7 @@ call_by t (action.KillAll p) = []
 call_by t (action.Go u) = []
 call_by t (action.Leave u) = []
 call_by t (action.Decline u) = []
+call_by t (action.Renew u) = []
 call_by t (action.Locks u m n) = []
 call_by t (action.Die u n) = []
 

@@ -37,6 +37,8 @@ pub enum Action {
     Leave(Tid),
     /// One decline event.
     Decline(Tid),
+    /// One renew event.
+    Renew(Tid),
     /// Step events until the thread rests: until it is in no call and not dying, or sleeps.
     Go(Tid),
     /// A begin event, and then step events until the thread rests; for real threads one call.

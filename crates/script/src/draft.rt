@@ -5,7 +5,7 @@ ghost use Rattle.std.specs.List.{list_any};
 ghost use Rattle.script.specs.Forms.{is_silent};
 ghost use Rattle.script.specs.Limits.{max_conditions, max_lines, max_mutexes, max_processes, max_threads};
 ghost use Rattle.script.specs.Outcome.{Gives};
-ghost use Rattle.script.specs.Reading.{added, all_killed, asked, begun, call_of, condition_declared, condition_names, declares, declined, died, enter, first_of, gone, is_numbered, killed, left, line_read, locked, made, mutex_declared, mutexes_declared, names_of, nothing, place_of, process_declared, process_of, several, stepped, thread_declared, thread_of, with_action, with_entry, with_name, with_thread};
+ghost use Rattle.script.specs.Reading.{added, all_killed, asked, begun, call_of, condition_declared, condition_names, declares, declined, died, enter, first_of, gone, is_numbered, killed, left, line_read, locked, made, mutex_declared, mutexes_declared, names_of, nothing, place_of, process_declared, process_of, renewed, several, stepped, thread_declared, thread_of, with_action, with_entry, with_name, with_thread};
 ghost use Rattle.script.specs.Scope.{IsWithinLimits};
 ghost use Rattle.script.specs.Seen.{entries_seen};
 
@@ -388,6 +388,15 @@ impl Draft {
         self.ask(number, Action::Decline(thread))
     }
 
+    fn renew(&mut self, number: usize, thread: &str) -> Result<(), Fault>
+        requires { IsWithinLimits (scope_of self.old) }
+        ensures gives { Gives (λ _. scope_of self.new) result (asked number (scope_of self.old) (renewed (scope_of self.old) thread.now)) }
+        ensures mode { self.new.mode ≡ self.old.mode }
+    {
+        let thread = self.thread(thread)?;
+        self.ask(number, Action::Renew(thread))
+    }
+
     fn go(&mut self, number: usize, thread: &str) -> Result<(), Fault>
         requires { IsWithinLimits (scope_of self.old) }
         ensures gives { Gives (λ _. scope_of self.new) result (asked number (scope_of self.old) (gone (scope_of self.old) thread.now)) }
@@ -466,6 +475,7 @@ impl Draft {
             Line::KillAll(process) => self.kill_all(number, process),
             Line::Leave(thread) => self.leave(number, thread),
             Line::Decline(thread) => self.decline(number, thread),
+            Line::Renew(thread) => self.renew(number, thread),
             Line::Go(thread) => self.go(number, thread),
             Line::Call(thread, call) => self.make(number, thread, call),
             Line::Locks(thread, mutex, count) => self.lock_several(number, thread, mutex, count),

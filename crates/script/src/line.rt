@@ -41,6 +41,7 @@ pub enum Line<'a> {
     KillAll(&'a str),
     Leave(&'a str),
     Decline(&'a str),
+    Renew(&'a str),
     Go(&'a str),
     Call(&'a str, NamedCall<'a>),
     Locks(&'a str, &'a str, Option<u32>),
@@ -73,6 +74,7 @@ fn of_a_name<'a>(keyword: &'a str, name: &'a str) -> Option<Line<'a>>
         "go" => Some(Line::Go(name)),
         "leave" => Some(Line::Leave(name)),
         "decline" => Some(Line::Decline(name)),
+        "renew" => Some(Line::Renew(name)),
         _ => None,
     }
 }
@@ -243,6 +245,7 @@ fn is_of_threads(line: &Line<'_>) -> bool
         Line::Begin(..) | Line::Step(..) | Line::Kill(_) => false,
         Line::KillAll(_) | Line::Go(_) | Line::Locks(..) => false,
         Line::Leave(_) | Line::Decline(_) => false,
+        Line::Renew(_) => false,
     }
 }
 

@@ -35,3 +35,9 @@ pub returns-in-Decline-clause-note : goal.returns-in-Decline-clause-note
 returns-in-Decline-clause-note c =
     c.decline.ensures.note c.args.memory.now (c.requires.sleeps c.in-Decline.thread)
     ∙ ap (λ (e : Event). (happens (state_at c.args.layout.now c.args.memory.now c.args.kernel.now c.args.threads.now.items) e).note) (sym c.in-Decline.is)
+
+pub returns-in-Renew-clause-state : goal.returns-in-Renew-clause-state
+returns-in-Renew-clause-state c = c.renew.ensures.state c.args.kernel.now ∙ ap (λ (e : Event). (happens (state_at c.args.layout.now c.args.memory.now c.args.kernel.now c.args.threads.now.items) e).state) (sym c.in-Renew.is)
+
+pub returns-in-Renew-clause-note : goal.returns-in-Renew-clause-note
+returns-in-Renew-clause-note c = c.renew.ensures.note c.args.kernel.now ∙ ap (λ (e : Event). (happens (state_at c.args.layout.now c.args.memory.now c.args.kernel.now c.args.threads.now.items) e).note) (sym c.in-Renew.is)
