@@ -1,6 +1,6 @@
 -- The word that is told is the first that is wrong.
-use Rattle.std.proofs.Common.{◌≡◌, ℕ, zero, suc, ◌+◌, ◌<◌, ◌≤◌, Bool, true, false, List, [], ◌∷◌, ◌++◌, length, take, drop, Option, Some, None, IsSome, option_and_then, if◌then◌else◌, refl, sym, subst, ap, ◌∙◌, arith, add-one}
-use Rattle.std.specs.Prelude.{◌↔◌, sum_by, slice_get}
+use Rattle.std.proofs.Common.{◌≡◌, ℕ, suc, ◌+◌, ◌<◌, ◌≤◌, Bool, true, false, List, [], ◌∷◌, ◌++◌, length, take, drop, Option, Some, None, IsSome, option_and_then, if◌then◌else◌, refl, sym, subst, ap, ◌∙◌, arith, add-one}
+use Rattle.std.specs.Prelude.{slice_get}
 use Rattle.std.specs.Option.{option_map_or}
 use Rattle.std.specs.Prelude.{nat_lt as ltb}
 use Rattle.std.proofs.lemmas.Bool.Decides.{nat_tests}
@@ -11,7 +11,7 @@ use Rattle.wording.specs.declared.next.Next.{Next}
 use Rattle.wording.specs.declared.wrong.Kind.{Kind}
 use Rattle.wording.specs.declared.wrong.Wrong.{Wrong}
 use Rattle.wording.specs.Nexts.{after, is_over}
-use Rattle.wording.specs.Wrongs.{Awaits, CanGoOn, IsFirstWrong, ends_at, first_of, is_line, offset_of, met, wrong_at, wrong_in, wrong_last}
+use Rattle.wording.specs.Wrongs.{Awaits, CanGoOn, IsFirstWrong, ends_at, first_of, offset_of, met, wrong_at, wrong_in, wrong_last}
 use Rattle.wording.proofs.Running.{ends, finish, finishes, run, run-append}
 use Rattle.wording.proofs.Laws.{lines_are_run}
 

@@ -1,5 +1,5 @@
 -- The lines of each kind are those that are gone through.
-use Rattle.std.proofs.Common.{◌≡◌, ℕ, Bool, List}
+use Rattle.std.proofs.Common.{◌≡◌, ℕ, List}
 use Rattle.wording.specs.declared.wrong.Kind.{Kind}
 use Rattle.wording.specs.declared.wrong.Kind.TheVariants.{Script, Head, Trace}
 use Rattle.wording.specs.Wrongs.{first_of, is_line}

@@ -1,12 +1,11 @@
 -- The words of a text, cut off one by one.
-use Rattle.std.proofs.Common.{◌≡◌, ℕ, ◌+◌, ◌<◌, ◌==◌, Bool, true, false, cond, List, [], ◌∷◌, length, Option, Some, None, refl, sym, ap, ◌∙◌, arith}
+use Rattle.std.proofs.Common.{◌≡◌, ℕ, ◌+◌, ◌<◌, ◌==◌, Bool, true, false, cond, List, [], ◌∷◌, length, Some, None, refl, ap, ◌∙◌, arith}
 use Rattle.std.specs.Prelude.{sum_by}
-use Rattle.std.specs.List.{onto_first, slice_split}
+use Rattle.std.specs.List.{onto_first}
 use Rattle.std.proofs.lemmas.List.Sums.{sum_by-cons}
 use Rattle.std.proofs.lemmas.List.Splits.{length-slice_split}
 use Rattle.lines.specs.Lines.{words_of}
 use Rattle.wording.specs.declared.next.Next.{Next}
-use Rattle.wording.specs.declared.wrong.Wrong.{Wrong}
 use Rattle.wording.specs.Nexts.{after}
 use Rattle.wording.specs.Wrongs.{met, wrong_at, wrong_in, wrong_last}
 

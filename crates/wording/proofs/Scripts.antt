@@ -11,7 +11,7 @@ use Rattle.keys.specs.Words.{operation_of}
 use Rattle.script.specs.declared.command.Mode.{Mode}
 use Rattle.script.specs.declared.command.Mode.TheVariants.{Run, Threads}
 use Rattle.script.specs.Limits.{max_steps, max_access, max_mutexes, max_base, max_counter}
-use Rattle.script.specs.Forms.{CallForm, lock, trylock, unlock, consistent, wait, signal, broadcast, Form, process, thread, member, mutex, mutexes, cond, begins, steps, kills, kills_all, goes, leaves, declines, calls, locks, phase, dies, is_name, is_stem, has, of_mode, or_else, call_on, call_form, calling_form, words_form}
+use Rattle.script.specs.Forms.{CallForm, lock, trylock, unlock, consistent, wait, signal, broadcast, Form, process, thread, member, mutex, mutexes, cond, begins, steps, kills, kills_all, goes, renews, leaves, declines, calls, locks, phase, dies, is_name, is_stem, has, of_mode, or_else, call_on, call_form, calling_form, words_form}
 use Rattle.verdict.specs.Forms.{of_call, ◌>>=◌}
 use Rattle.wording.specs.declared.next.Next.{Next}
 use Rattle.wording.specs.declared.next.Next.TheVariants.{End, Keyword, Name, NewThread, ProcessOrEnd, NameNumber, NameNameNumber, StemNumber, Number, NameCall, Call}
@@ -194,6 +194,17 @@ law_killall : (k : Mode) (ws : List (List ℕ)) → said k (words_form (codes "k
 law_killall Run ws = ap (said Run) (shape_killall ws) ∙ named Run kills_all true (λ a. refl) ws
 law_killall Threads ws = ap (said Threads) (shape_killall ws) ∙ named Threads kills_all false (λ a. refl) ws
 
+shape_renew : (ws : List (List ℕ)) → words_form (codes "renew" ∷ ws) ≡ one_name renews ws
+shape_renew [] = refl
+shape_renew (a ∷ []) = flipped (is_name a) (renews a)
+shape_renew (a ∷ n ∷ []) = refl
+shape_renew (t ∷ c ∷ m ∷ []) = no_call (is_name t) (call_form c m)
+shape_renew (t ∷ c ∷ m ∷ b ∷ ws) = refl
+
+law_renew : (k : Mode) (ws : List (List ℕ)) → said k (words_form (codes "renew" ∷ ws)) ≡ ends (run (Keyword k) (codes "renew" ∷ ws))
+law_renew Run ws = ap (said Run) (shape_renew ws) ∙ named Run renews true (λ a. refl) ws
+law_renew Threads ws = ap (said Threads) (shape_renew ws) ∙ named Threads renews false (λ a. refl) ws
+
 shape_leave : (ws : List (List ℕ)) → words_form (codes "leave" ∷ ws) ≡ one_name leaves ws
 shape_leave [] = refl
 shape_leave (a ∷ []) = flipped (is_name a) (leaves a)
@@ -354,6 +365,7 @@ record Unknown (w : List ℕ) : Type 0 where
   step_isnt : bytes_eq w (codes "step") ≡ false
   kill_isnt : bytes_eq w (codes "kill") ≡ false
   killall_isnt : bytes_eq w (codes "killall") ≡ false
+  renew_isnt : bytes_eq w (codes "renew") ≡ false
   leave_isnt : bytes_eq w (codes "leave") ≡ false
   decline_isnt : bytes_eq w (codes "decline") ≡ false
   go_isnt : bytes_eq w (codes "go") ≡ false
@@ -367,13 +379,13 @@ no_calling w t b c (Some x) = simp (b, c) (flipped_none (is_name t))
 
 unknown_line : (w : List ℕ) (ws : List (List ℕ)) → Unknown w → words_form (w ∷ ws) ≡ None
 unknown_line w [] u = simp (u.phase_isnt)
-unknown_line w (a ∷ []) u = simp (u.thread_isnt, u.mutex_isnt, u.kill_isnt, u.killall_isnt, u.go_isnt, u.leave_isnt, u.decline_isnt) (flipped_none (is_name a))
+unknown_line w (a ∷ []) u = simp (u.thread_isnt, u.mutex_isnt, u.kill_isnt, u.killall_isnt, u.go_isnt, u.renew_isnt, u.leave_isnt, u.decline_isnt) (flipped_none (is_name a))
 unknown_line w (a ∷ n ∷ []) u = simp (u.step_isnt, u.die_isnt, u.mutexes_isnt, u.process_isnt, u.thread_isnt)
 unknown_line w (t ∷ c ∷ m ∷ []) u = simp (u.locks_isnt, u.cond_isnt) (no_calling w t u.begin_isnt u.call_isnt (call_form c m))
 unknown_line w (t ∷ c ∷ m ∷ b ∷ ws) u = refl
 
 unknown_word : (k : Mode) (w : List ℕ) → Unknown w → keyword k w ≡ None
-unknown_word Run w u = simp (u.process_isnt, u.thread_isnt, u.mutex_isnt, u.mutexes_isnt, u.cond_isnt, u.call_isnt, u.begin_isnt, u.step_isnt, u.kill_isnt, u.killall_isnt, u.leave_isnt, u.decline_isnt, u.go_isnt, u.locks_isnt)
+unknown_word Run w u = simp (u.process_isnt, u.thread_isnt, u.mutex_isnt, u.mutexes_isnt, u.cond_isnt, u.call_isnt, u.begin_isnt, u.step_isnt, u.kill_isnt, u.killall_isnt, u.renew_isnt, u.leave_isnt, u.decline_isnt, u.go_isnt, u.locks_isnt)
 unknown_word Threads w u = simp (u.process_isnt, u.thread_isnt, u.mutex_isnt, u.mutexes_isnt, u.cond_isnt, u.call_isnt, u.phase_isnt, u.die_isnt)
 
 unknown : (k : Mode) (w : List ℕ) (ws : List (List ℕ)) → Unknown w → said k (words_form (w ∷ ws)) ≡ ends (run (Keyword k) (w ∷ ws))
@@ -397,10 +409,11 @@ scripts_are_run k (w ∷ ws) =
     pick (Agree k ws) w (codes "step") (law_step k ws) (λ e7.
     pick (Agree k ws) w (codes "kill") (law_kill k ws) (λ e8.
     pick (Agree k ws) w (codes "killall") (law_killall k ws) (λ e9.
+    pick (Agree k ws) w (codes "renew") (law_renew k ws) (λ e16.
     pick (Agree k ws) w (codes "leave") (law_leave k ws) (λ e10.
     pick (Agree k ws) w (codes "decline") (law_decline k ws) (λ e11.
     pick (Agree k ws) w (codes "go") (law_go k ws) (λ e12.
     pick (Agree k ws) w (codes "locks") (law_locks k ws) (λ e13.
     pick (Agree k ws) w (codes "phase") (law_phase k ws) (λ e14.
     pick (Agree k ws) w (codes "die") (law_die k ws) (λ e15.
-    unknown k w ws (record { process_isnt = e0; thread_isnt = e1; mutex_isnt = e2; mutexes_isnt = e3; cond_isnt = e4; call_isnt = e5; begin_isnt = e6; step_isnt = e7; kill_isnt = e8; killall_isnt = e9; leave_isnt = e10; decline_isnt = e11; go_isnt = e12; locks_isnt = e13; phase_isnt = e14; die_isnt = e15 })))))))))))))))))
+    unknown k w ws (record { process_isnt = e0; thread_isnt = e1; mutex_isnt = e2; mutexes_isnt = e3; cond_isnt = e4; call_isnt = e5; begin_isnt = e6; step_isnt = e7; kill_isnt = e8; killall_isnt = e9; leave_isnt = e10; decline_isnt = e11; go_isnt = e12; locks_isnt = e13; phase_isnt = e14; die_isnt = e15; renew_isnt = e16 }))))))))))))))))))

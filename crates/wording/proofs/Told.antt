@@ -1,9 +1,8 @@
 -- What a scan tells of a line.
-use Rattle.std.proofs.Common.{◌≡◌, ℕ, ◌+◌, Bool, not, true, false, List, length, take, Option, Some, None, refl, sym, subst, ◌∙◌, arith}
+use Rattle.std.proofs.Common.{◌≡◌, ℕ, Bool, not, true, false, List, take, Option, Some, None, sym, subst, ◌∙◌, arith}
 use Rattle.std.specs.Prelude.{IfSome, IfNone}
 use Rattle.std.specs.Option.{is_some}
 use Rattle.lines.specs.Lines.{words_of}
-use Rattle.wording.specs.declared.next.Next.{Next}
 use Rattle.wording.specs.declared.wrong.Kind.{Kind}
 use Rattle.wording.specs.declared.wrong.Wrong.{Wrong}
 use Rattle.wording.specs.Wrongs.{Awaits, IsFirstWrong, ends_at, first_of, is_line, offset_of, wrong_in}

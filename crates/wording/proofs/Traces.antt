@@ -1,24 +1,22 @@
 -- The lines of traces are those that the table goes through.
-use Rattle.std.proofs.Common.{◌≡◌, ℕ, Bool, true, false, ◌&&◌, ◌||◌, List, [], ◌∷◌, Option, Some, None, option_and_then, if◌then◌else◌, refl, sym, ap, ◌∙◌}
+use Rattle.std.proofs.Common.{◌≡◌, ℕ, Bool, false, ◌&&◌, ◌||◌, List, [], ◌∷◌, Option, Some, None, option_and_then, if◌then◌else◌, refl, sym, ap, ◌∙◌}
 use Rattle.std.specs.Prelude.{codes}
 use Rattle.std.specs.Option.{is_some}
 use Rattle.std.specs.Str.{bytes_eq}
-use Rattle.std.specs.Str.Parse.{digits_value}
-use Rattle.lines.specs.Numbers.{is_number, within}
+use Rattle.lines.specs.Numbers.{is_number}
 use Rattle.lockword.specs.Replies.{reply_of}
 use Rattle.keys.specs.declared.point.Operation.{Operation as Op}
 use Rattle.keys.specs.declared.point.Operation.TheVariants as op
 use Rattle.keys.specs.Words.{operation_of}
-use Rattle.verdict.specs.Limits.{max_events}
 use Rattle.verdict.specs.declared.form.Said.{Said}
 use Rattle.verdict.specs.declared.form.Said.TheVariants as said
 use Rattle.verdict.specs.declared.form.Form.{Form}
 use Rattle.verdict.specs.declared.form.Form.TheVariants.{Told, End as form_end}
-use Rattle.verdict.specs.Forms.{◌>>=◌, number_of, thread_word, mutex_word, condition_word, of_mutex, mutex_operation, of_condition, condition_operation, of_call, call_operation, head_form, end_form, sleeps, object_said, begin_on_said, point_said, words_form}
+use Rattle.verdict.specs.Forms.{◌>>=◌, number_of, thread_word, mutex_word, condition_word, of_mutex, mutex_operation, of_condition, call_operation, head_form, sleeps, object_said, begin_on_said, point_said, words_form}
 use Rattle.verdict.specs.declared.form.HeadForm.{HeadForm}
 use Rattle.wording.specs.declared.next.Next.{Next}
 use Rattle.wording.specs.declared.next.Next.TheVariants.{End, Number, TwoNumbers, ThreeNumbers, Head, Event, Deed, Thread, ThreadMutex, ThreadPlace, ThreadReply, ThreadCall, ThreadPoint, Mutex, Place, Reply, Operation, ConditionMutex, MutexCallReply, CallReply}
-use Rattle.wording.specs.Nexts.{after, deed, event, fitting, is_call, is_lettered, is_reply, made_on}
+use Rattle.wording.specs.Nexts.{after, deed, fitting, is_call, is_lettered, is_reply, made_on}
 use Rattle.wording.proofs.Running.{ends, run}
 use Rattle.wording.proofs.Fitting.{both, fits_end, fits_last, fits_then}
 use Rattle.wording.proofs.Words.{number_is_some, pick}
@@ -45,7 +43,8 @@ bound_none B (Some x) = refl
 abbrev behind : Option ℕ → List ℕ → List (List ℕ) → Option ℕ → Option Form
 behind i w [] u = if bytes_eq w (codes "kill") then Some (Told i (said.Kill u))
     else (if bytes_eq w (codes "wake") then Some (Told i (said.Wake u))
-    else (if bytes_eq w (codes "reaped") then Some (Told i (said.Reap u)) else None))
+    else (if bytes_eq w (codes "reaped") then Some (Told i (said.Reap u))
+    else (if bytes_eq w (codes "renew") then Some (Told i (said.Renew u)) else None)))
 behind i w (o ∷ []) u = object_said w u o >>= λ s. Some (Told i s)
 behind i w (a ∷ m ∷ []) u = mutex_operation a >>= λ operation. mutex_word m >>= λ mutex. if bytes_eq w (codes "begin") then Some (Told i (said.Begin u operation mutex)) else None
 behind i w (a ∷ b ∷ c ∷ []) u = if bytes_eq w (codes "begin") then (begin_on_said u a b c >>= λ s. Some (Told i s))
@@ -81,6 +80,13 @@ behind_reaped i (o ∷ []) u = refl
 behind_reaped i (a ∷ m ∷ []) u = two_none Form (mutex_operation a) (mutex_word m)
 behind_reaped i (a ∷ b ∷ c ∷ []) u = refl
 behind_reaped i (a ∷ b ∷ c ∷ d ∷ ws) u = refl
+
+behind_renew : (i : Option ℕ) (ws : List (List ℕ)) (u : Option ℕ) → is_some (behind i (codes "renew") ws u) ≡ ends (run End ws)
+behind_renew i [] u = refl
+behind_renew i (o ∷ []) u = refl
+behind_renew i (a ∷ m ∷ []) u = two_none Form (mutex_operation a) (mutex_word m)
+behind_renew i (a ∷ b ∷ c ∷ []) u = refl
+behind_renew i (a ∷ b ∷ c ∷ d ∷ ws) u = refl
 
 behind_death : (i : Option ℕ) (ws : List (List ℕ)) (u : Option ℕ) → is_some (behind i (codes "death") ws u) ≡ ends (run Mutex ws)
 behind_death i [] u = refl
@@ -222,17 +228,18 @@ record Unknown (w : List ℕ) : Type 0 where
   move_isnt : bytes_eq w (codes "move") ≡ false
   return_isnt : bytes_eq w (codes "return") ≡ false
   reaped_isnt : bytes_eq w (codes "reaped") ≡ false
+  renew_isnt : bytes_eq w (codes "renew") ≡ false
 
 -- a word that no event has
 behind_unknown : (w : List ℕ) → Unknown w → (i : Option ℕ) (ws : List (List ℕ)) (u : Option ℕ) → is_some (behind i w ws u) ≡ false
-behind_unknown w k i [] u = simp (k.kill_isnt, k.wake_isnt, k.reaped_isnt)
+behind_unknown w k i [] u = simp (k.kill_isnt, k.wake_isnt, k.reaped_isnt, k.renew_isnt)
 behind_unknown w k i (o ∷ []) u = simp (k.death_isnt, k.sleep_isnt, k.move_isnt, k.return_isnt)
 behind_unknown w k i (a ∷ m ∷ []) u = simp (k.begin_isnt) (two_none Form (mutex_operation a) (mutex_word m))
 behind_unknown w k i (a ∷ b ∷ c ∷ []) u = simp (k.begin_isnt, k.point_isnt)
 behind_unknown w k i (a ∷ b ∷ c ∷ d ∷ ws) u = refl
 
 no_deed : (w : List ℕ) → Unknown w → deed w ≡ None
-no_deed w k = simp (k.begin_isnt, k.kill_isnt, k.point_isnt, k.death_isnt, k.sleep_isnt, k.wake_isnt, k.move_isnt, k.return_isnt, k.reaped_isnt)
+no_deed w k = simp (k.begin_isnt, k.kill_isnt, k.point_isnt, k.death_isnt, k.sleep_isnt, k.wake_isnt, k.move_isnt, k.return_isnt, k.reaped_isnt, k.renew_isnt)
 
 unknown : (e w : List ℕ) (i : Option ℕ) (ws : List (List ℕ)) → bytes_eq e (codes "end") ≡ false → number_of e ≡ Some i → Unknown w → Agree e i ws w
 unknown e w i [] isnt n k = ap (λ (b : Bool). is_some (if b then (number_of w >>= λ j. Some (form_end j)) else None)) isnt ∙ sym (ap (λ (q : Option Next). ends (option_and_then (λ m. run m []) q)) (no_deed w k))
@@ -251,7 +258,8 @@ numbered_line e w i ws isnt n =
     pick (Agree e i ws) w (codes "move") (agree e (codes "move") i ws ThreadMutex Mutex isnt n refl (λ t. refl) refl (behind_move i)) (λ e6.
     pick (Agree e i ws) w (codes "return") (agree e (codes "return") i ws ThreadReply Reply isnt n refl (λ t. refl) refl (behind_return i)) (λ e7.
     pick (Agree e i ws) w (codes "reaped") (agree e (codes "reaped") i ws Thread End isnt n refl (λ t. refl) refl (behind_reaped i)) (λ e8.
-    unknown e w i ws isnt n (record { begin_isnt = e0; kill_isnt = e1; point_isnt = e2; death_isnt = e3; sleep_isnt = e4; wake_isnt = e5; move_isnt = e6; return_isnt = e7; reaped_isnt = e8 }))))))))))
+    pick (Agree e i ws) w (codes "renew") (agree e (codes "renew") i ws Thread End isnt n refl (λ t. refl) refl (behind_renew i)) (λ e9.
+    unknown e w i ws isnt n (record { begin_isnt = e0; kill_isnt = e1; point_isnt = e2; death_isnt = e3; sleep_isnt = e4; wake_isnt = e5; move_isnt = e6; return_isnt = e7; reaped_isnt = e8; renew_isnt = e9 })))))))))))
 
 -- no number, and no `end`
 unnumbered : (e w : List ℕ) (ws : List (List ℕ)) → bytes_eq e (codes "end") ≡ false → number_of e ≡ None → is_some (words_form (e ∷ w ∷ ws)) ≡ false

@@ -1,8 +1,5 @@
 -- The words that may stand at a place.
-use Rattle.std.specs.Prelude.{ℕ, ◌≡◌, List, [], ◌∷◌, ◌++◌, map, codes}
-use Rattle.std.specs.Option.{is_some}
-use Rattle.std.specs.List.{list_any}
-use Rattle.std.specs.Str.{bytes_eq}
+use Rattle.std.specs.Prelude.{ℕ, List, [], ◌∷◌, map, codes}
 use Rattle.keys.specs.declared.point.Operation.TheVariants.{Lock, TryLock, Unlock, Consistent, Wait, Signal, Broadcast}
 use Rattle.keys.specs.Words.{operation_word}
 use Rattle.lockword.specs.Replies.{all_replies, reply_word}
@@ -10,7 +7,6 @@ use Rattle.script.specs.declared.command.Mode.{Mode}
 use Rattle.script.specs.declared.command.Mode.TheVariants.{Run, Threads}
 use Rattle.wording.specs.declared.next.Next.{Next}
 use Rattle.wording.specs.declared.next.Next.TheVariants.{Keyword, Call, Head, Event, Deed, Reply, Operation, CallReply}
-use Rattle.wording.specs.Nexts.{after}
 
 -- the words of calls
 abbrev pub call_words : List (List ℕ)
@@ -21,12 +17,12 @@ reply_words = map reply_word all_replies
 
 -- of a script's lines, those first that scripts of both modes have
 abbrev pub keywords : Mode → List (List ℕ)
-keywords Run = codes "process" ∷ codes "thread" ∷ codes "mutex" ∷ codes "mutexes" ∷ codes "cond" ∷ codes "call" ∷ codes "begin" ∷ codes "step" ∷ codes "kill" ∷ codes "killall" ∷ codes "leave" ∷ codes "decline" ∷ codes "go" ∷ codes "locks" ∷ []
+keywords Run = codes "process" ∷ codes "thread" ∷ codes "mutex" ∷ codes "mutexes" ∷ codes "cond" ∷ codes "call" ∷ codes "begin" ∷ codes "step" ∷ codes "kill" ∷ codes "killall" ∷ codes "renew" ∷ codes "leave" ∷ codes "decline" ∷ codes "go" ∷ codes "locks" ∷ []
 keywords Threads = codes "process" ∷ codes "thread" ∷ codes "mutex" ∷ codes "mutexes" ∷ codes "cond" ∷ codes "call" ∷ codes "phase" ∷ codes "die" ∷ []
 
 -- of what events do
 abbrev pub deeds : List (List ℕ)
-deeds = codes "begin" ∷ codes "kill" ∷ codes "point" ∷ codes "death" ∷ codes "sleep" ∷ codes "wake" ∷ codes "move" ∷ codes "return" ∷ codes "reaped" ∷ []
+deeds = codes "begin" ∷ codes "kill" ∷ codes "point" ∷ codes "death" ∷ codes "sleep" ∷ codes "wake" ∷ codes "move" ∷ codes "return" ∷ codes "reaped" ∷ codes "renew" ∷ []
 
 -- the words that can stand there, but for names, numbers, and numbers behind a letter
 abbrev pub known_words : Next → List (List ℕ)

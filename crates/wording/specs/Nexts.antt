@@ -1,5 +1,5 @@
 -- How a line goes on behind each of its words.
-use Rattle.std.specs.Prelude.{ℕ, Bool, true, false, ◌||◌, List, [], ◌∷◌, Option, Some, None, option_and_then, if◌then◌else◌, codes}
+use Rattle.std.specs.Prelude.{ℕ, Bool, true, false, ◌||◌, List, Option, Some, None, option_and_then, if◌then◌else◌, codes}
 use Rattle.std.specs.Option.{is_some}
 use Rattle.std.specs.Str.{bytes_eq}
 use Rattle.lines.specs.Numbers.{is_number}
@@ -47,10 +47,11 @@ of_run w = if bytes_eq w (codes "begin") then Some NameCall
     else (if bytes_eq w (codes "step") then Some NameNumber
     else (if bytes_eq w (codes "kill") then Some Name
     else (if bytes_eq w (codes "killall") then Some Name
+    else (if bytes_eq w (codes "renew") then Some Name
     else (if bytes_eq w (codes "leave") then Some Name
     else (if bytes_eq w (codes "decline") then Some Name
     else (if bytes_eq w (codes "go") then Some Name
-    else (if bytes_eq w (codes "locks") then Some NameNameNumber else None)))))))
+    else (if bytes_eq w (codes "locks") then Some NameNameNumber else None))))))))
 
 -- that only scripts for real threads have
 abbrev pub of_threads : List ℕ → Option Next
@@ -82,7 +83,8 @@ deed w = if bytes_eq w (codes "begin") then Some ThreadCall
     else (if bytes_eq w (codes "wake") then Some Thread
     else (if bytes_eq w (codes "move") then Some ThreadMutex
     else (if bytes_eq w (codes "return") then Some ThreadReply
-    else (if bytes_eq w (codes "reaped") then Some Thread else None))))))))
+    else (if bytes_eq w (codes "reaped") then Some Thread
+    else (if bytes_eq w (codes "renew") then Some Thread else None)))))))))
 
 -- behind the word of a call that begins
 abbrev pub made_on : Op → Option Next

@@ -51,7 +51,7 @@ fn keywords(mode: Mode) -> &'static [&'static str]
     match mode {
         Mode::Run => &[
             "process", "thread", "mutex", "mutexes", "cond", "call", "begin", "step", "kill",
-            "killall", "leave", "decline", "go", "locks",
+            "killall", "renew", "leave", "decline", "go", "locks",
         ],
         Mode::Threads => &[
             "process", "thread", "mutex", "mutexes", "cond", "call", "phase", "die",
@@ -64,7 +64,7 @@ fn deeds() -> &'static [&'static str]
     ensures { map (λ w. w.now) result.now ≡ deeds }
 {
     &[
-        "begin", "kill", "point", "death", "sleep", "wake", "move", "return", "reaped",
+        "begin", "kill", "point", "death", "sleep", "wake", "move", "return", "reaped", "renew",
     ]
 }
 

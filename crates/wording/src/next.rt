@@ -153,6 +153,7 @@ fn of_run(word: &str) -> Option<Next>
         "step" => Some(Next::NameNumber),
         "kill" => Some(Next::Name),
         "killall" => Some(Next::Name),
+        "renew" => Some(Next::Name),
         "leave" => Some(Next::Name),
         "decline" => Some(Next::Name),
         "go" => Some(Next::Name),
@@ -199,6 +200,7 @@ fn deed(word: &str) -> Option<Next>
         "move" => Some(Next::ThreadMutex),
         "return" => Some(Next::ThreadReply),
         "reaped" => Some(Next::Thread),
+        "renew" => Some(Next::Thread),
         _ => None,
     }
 }

@@ -1,4 +1,4 @@
-use Rattle.std.proofs.Common.{◌≡◌, map, take}
+use Rattle.std.proofs.Common.{map, take}
 use Rattle.std.specs.Prelude.{option_map}
 use Rattle.wording.proofs.Nearness.{IsBest}
 use Rattle.wording.proofs.near.nearest.Given as goal

@@ -1,5 +1,3 @@
-use Rattle.std.proofs.Common.{sym, subst}
-use Rattle.lines.specs.Lines.{words_of}
 use Rattle.wording.proofs.wrong.first_wrong.Goals as goal
 use Rattle.wording.proofs.Told.{awaited, begins, finishes_at, is_first, is_right}
 
