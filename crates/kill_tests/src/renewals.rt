@@ -1,23 +1,37 @@
 //! Threads that live anew after they were killed.
-ghost use Rattle.std.specs.Prelude.{IfSome};
 ghost use Rattle.ruledwords.specs.Passes.{IsLive};
+ghost use Rattle.std.specs.Prelude.{IfSome};
 
 use condvar::Op::OnMutex;
 use keys::Layout;
-use lockword::Reply::{EOWNERDEAD, OK};
-use mutex::Call::{Consistent, Lock, Unlock};
+use lockword::Reply::{self, EOWNERDEAD, OK};
+use mutex::Call::{self, Consistent, Lock, Unlock};
 use ruledwords::{Live, Never, Outcome, Pass};
 use std::sync::Wait;
 use std::test::Fail;
 use thread_fixtures::{Left, Team, makes};
 use threadbench::Bench;
 
-/// Takes mutex 0 and is killed; dies in its next call, is reaped and lives anew. None where it doesn't die.
-fn one_life<R: Wait>(rt: &R, bench: &Bench, pass: Pass<Live>, thread: u8) -> Option<Pass<Live>>
+/// Makes a call. None where its thread dies in it, or it is answered otherwise.
+fn is_told<R: Wait>(
+    rt: &R,
+    bench: &Bench,
+    pass: Pass<Live>,
+    call: Call,
+    reply: Reply,
+) -> Option<Pass<Live>>
     requires { IsLive bench.now pass }
     ensures { IfSome result (λ p. IsLive bench.now p) }
 {
-    let (pass, _) = makes(rt, bench, pass, OnMutex(Lock(0)), &mut Never)?;
+    let (pass, told) = makes(rt, bench, pass, OnMutex(call), &mut Never)?;
+    if told == reply { Some(pass) } else { None }
+}
+
+/// Is killed, dies in its next call, is reaped and lives anew. None where it doesn't die.
+fn begins_anew<R: Wait>(rt: &R, bench: &Bench, pass: Pass<Live>, thread: u8) -> Option<Pass<Live>>
+    requires { IsLive bench.now pass }
+    ensures { IfSome result (λ p. IsLive bench.now p) }
+{
     if bench.kill(rt, thread) != Ok(()) || bench.words().layout().mutexes() < 2 {
         return None;
     }
@@ -27,10 +41,34 @@ fn one_life<R: Wait>(rt: &R, bench: &Bench, pass: Pass<Live>, thread: u8) -> Opt
     }
 }
 
-/// A server's worker dies 200 times, and each time its id is used again: it isn't killed a second time by the kill of
-/// an earlier life, it owns nothing at first, and its next life is told of what the last one left.
+/// Dies as the owner of mutex 0, and is told of that in its next life, which isn't killed again.
+fn one_life<R: Wait>(rt: &R, bench: &Bench, pass: Pass<Live>) -> Option<Pass<Live>>
+    requires { IsLive bench.now pass }
+    ensures { IfSome result (λ p. IsLive bench.now p) }
+{
+    let pass = is_told(rt, bench, pass, Lock(0), OK)?;
+    let pass = begins_anew(rt, bench, pass, 1)?;
+    let pass = is_told(rt, bench, pass, Lock(0), EOWNERDEAD)?;
+    let pass = is_told(rt, bench, pass, Consistent(0), OK)?;
+    let pass = is_told(rt, bench, pass, Unlock(0), OK)?;
+    let pass = is_told(rt, bench, pass, Lock(1), OK)?;
+    is_told(rt, bench, pass, Unlock(1), OK)
+}
+
+/// Three lives.
+fn three_lives<R: Wait>(rt: &R, bench: &Bench, pass: Pass<Live>) -> Option<Pass<Live>>
+    requires { IsLive bench.now pass }
+    ensures { IfSome result (λ p. IsLive bench.now p) }
+{
+    let pass = one_life(rt, bench, pass)?;
+    let pass = one_life(rt, bench, pass)?;
+    one_life(rt, bench, pass)
+}
+
+/// A server's worker dies three times, and each time its id is used again: the kill of an earlier life doesn't end the
+/// next one, it owns nothing at first, and it is told of what the last one left.
 #[test]
-fn a_thread_lives_200_times(rt: HostRuntime) -> Result<(), Fail> {
+fn a_thread_lives_four_times(rt: HostRuntime) -> Result<(), Fail> {
     let Team {
         bench,
         first,
@@ -39,23 +77,7 @@ fn a_thread_lives_200_times(rt: HostRuntime) -> Result<(), Fail> {
         fourth: _,
         fifth: _,
     } = Team::new(rt.alloc(), Layout::new(5, 2, &[])?, &[])?;
-    let mut pass = first;
-    for _ in 0..200_u32 {
-        pass = one_life(&rt, &bench, pass, 1).expect(&rt, "it dies and lives anew");
-        for (op, reply) in [
-            (Lock(0), EOWNERDEAD),
-            (Consistent(0), OK),
-            (Unlock(0), OK),
-            (Lock(1), OK),
-            (Unlock(1), OK),
-        ] {
-            let (after, told) = makes(&rt, &bench, pass, OnMutex(op), &mut Never).expect(
-                &rt, "it lives",
-            );
-            assert!(rt; told == reply);
-            pass = after;
-        }
-    }
-    assert!(rt; Left::of(bench, pass).cells == [0, 0]);
+    let last = three_lives(&rt, &bench, first).expect(&rt, "each life is told what it should be");
+    assert!(rt; Left::of(bench, last).cells == [0, 0]);
     Ok(())
 }
