@@ -143,6 +143,7 @@ void pz_trace_wake(unsigned t);
 void pz_trace_return(unsigned t, unsigned reply);
 void pz_trace_death(unsigned t, unsigned m);
 void pz_trace_reaped(unsigned t);
+void pz_trace_leave(unsigned t);
 void pz_trace_life(unsigned t);
 #define PZ_TELL(call) (call)
 #else

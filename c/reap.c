@@ -166,6 +166,9 @@ void pz_leave(pz *p)
 {
     unsigned t = pz_self[p->number].id;
     pz_self[p->number] = (struct self){0};
+    pz_trace_lock();
+    PZ_TELL(pz_trace_leave(t));
+    pz_trace_unlock();
     atomic_store(&p->life[t].tid, 0);
     pz_walk_on(p, t);
     forget(p, t);
@@ -178,8 +181,12 @@ void pz_give_back(pz *p)
 {
     unsigned t = pz_self[p->number].id;
     pz_self[p->number] = (struct self){.last = (uint8_t)t};
+    pz_trace_lock();
+    PZ_TELL(pz_trace_leave(t));
     atomic_store(&p->life[t].tid, 0);
     atomic_store(&p->life[t].valid, WALK_ENDED);
+    PZ_TELL(pz_trace_reaped(t));
+    pz_trace_unlock();
     pthread_mutex_unlock(&p->life[t].token);
     pz_let_go(p);
 }

@@ -124,6 +124,9 @@ void pz_trace_return(unsigned t, unsigned reply) { tell("return t%u %s\n", t, wo
 void pz_trace_death(unsigned t, unsigned m) { tell("death t%u m%u\n", t, m); }
 void pz_trace_reaped(unsigned t) { tell("reaped t%u\n", t); }
 
+/* A thread that leaves is told as one that dies. */
+void pz_trace_leave(unsigned t) { tell("kill t%u\n", t); }
+
 /* The first life of an id isn't told. */
 void pz_trace_life(unsigned t)
 {

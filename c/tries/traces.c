@@ -69,6 +69,9 @@ int main(int argc, char **argv)
     for (int i = n - AT_ONCE; i < n; i++)
         end(child[i], i);
     pz_reap(p);
+    SAME(pz_thread_begin(p), 0);
+    settle(1, pz_mutex_lock(p, 1));
+    SAME(pz_thread_end(p), 0); /* as its owner: by a death */
     pz_trace_write(stdout, MUTEXES, CONDS);
     unlink(path);
     return 0;
