@@ -7,7 +7,7 @@ use Rattle.protocol.proofs.Declines.{decline_goes, decline_rests}
 use Rattle.protocol.proofs.Queued.{asleep_there}
 use Rattle.protocol.proofs.Events.{trims_at}
 use Rattle.protocol.specs.Machine.{is_trim}
-use Rattle.protocol.specs.Applies.{IsQuietAccessOf}
+use Rattle.protocol.specs.Applies.{Agrees, IsQuietAccessOf}
 use Rattle.protocol.proofs.Vocabulary.{cond_access, cond_led, Mutex, Condition, Queue, Fact, Decision, Layout', Access, Reply, XHELD, whole_access, whole_led, Op, OnMutex}
 use Rattle.protocol.proofs.Vocabulary.{OnCondition, mutex_of, begun_of, Event, Note, Began, Stepped, Walked, Thread, Stage, Idle, Calling, AtCondition, Dying, Reaped, facts_of}
 use Rattle.protocol.proofs.Vocabulary.{return_facts, reap_facts, State, After, put, start, answer_of, is_calling, is_alive, begun, nothing, decision, slept_in, falls_asleep, woken}
@@ -32,14 +32,6 @@ use Rattle.protocol.proofs.QueueRuns.{run_queued}
 use Rattle.protocol.proofs.NoteFacts.{IsOfSleep, of_access, of_walk}
 
 -- ---- what the trace told of a thread is where it stands
-
-abbrev pub Agrees : Told → Stage → Type 0
-Agrees AtRest Idle = Unit {0}
-Agrees InCall (Calling o p) = Unit {0}
-Agrees InCall (AtCondition c p) = Unit {0}
-Agrees Dead (Dying w) = Unit {0}
-Agrees Gone Reaped = Unit {0}
-Agrees w g = ⊥
 
 living_agrees : (w : Told) (g : Stage) → Agrees w g → IsLiving w → is_alive g ≡ true
 living_agrees w g a living = grind (arith)
@@ -277,6 +269,8 @@ module _ (s : State) (ns : List Note) (inv : Kept s) (queued : Queued s) (agrees
 
   next_applies : NextApplies s.layout s ns
   next_applies = record {
+    layout = refl;
+    stands = λ t there. agrees t;
     happens_so = so;
     else_nothing = λ e never. (ap (λ (a : After). a.note) (idles e never), ap (λ (a : After). a.state) (idles e never));
   }

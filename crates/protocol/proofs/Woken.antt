@@ -31,7 +31,8 @@ use Rattle.protocol.proofs.Queued.{Queued}
 use Rattle.protocol.proofs.QueueRuns.{run_queued}
 use Rattle.protocol.proofs.Runs.{start_kept, run_kept}
 use Rattle.protocol.proofs.NoteFacts.{behind_woken, behind_moved, of_walk}
-use Rattle.protocol.proofs.Applying.{Agrees, run_agrees}
+use Rattle.protocol.specs.Applies.{Agrees}
+use Rattle.protocol.proofs.Applying.{run_agrees}
 use Rattle.protocol.proofs.Emptied.{no_more}
 use Rattle.protocol.proofs.Learnt.{Asks, AsksFor, AsksAt, Learnt, run_learnt}
 

@@ -20,7 +20,8 @@ use Rattle.facts.specs.declared.fact.Fact.TheVariants.{Begin, Return, Kill, Reap
 use Rattle.keys.specs.declared.access.Access.TheVariants.{Trim}
 use Rattle.mutex.specs.Standings.{Whole}
 use Rattle.mutex.specs.Whole.{whole_access}
-use Rattle.protocol.specs.declared.thread.Stage.TheVariants.{Calling}
+use Rattle.protocol.specs.declared.thread.Stage.{Stage}
+use Rattle.protocol.specs.declared.thread.Stage.TheVariants.{Idle, Calling, AtCondition, Dying, Reaped}
 use Rattle.protocol.specs.Machine.{State, start, happens, run, notes, stands_in}
 use Rattle.protocol.specs.Headline.{seen, facts_among}
 
@@ -61,6 +62,15 @@ abbrev pub HasAccess : Told → Type 0
 HasAccess InCall = Unit {0}
 HasAccess Dead = Unit {0}
 HasAccess w = ⊥
+
+-- where a thread stands of which that was told
+abbrev pub Agrees : Told → Stage → Type 0
+Agrees AtRest Idle = Unit {0}
+Agrees InCall (Calling o p) = Unit {0}
+Agrees InCall (AtCondition c p) = Unit {0}
+Agrees Dead (Dying w) = Unit {0}
+Agrees Gone Reaped = Unit {0}
+Agrees w g = ⊥
 
 -- ---- events
 
@@ -116,8 +126,10 @@ IsNotedAs l s (event.Leave t) n = n ≡ Left t
 IsNotedAs l s (event.Decline t) n = IsQuietAccessOf l s t n
 IsNotedAs l s (event.Renew t) n = n ≡ Renewed t
 
--- of a state that events lead to that were noted so: whatever event comes next, it happens where it applies, and else it does nothing
+-- of a state that events lead to that were noted so: its layout is as it was, and each thread stands where it was told to stand; whatever event comes next, it happens where it applies, and else it does nothing
 pub record NextApplies (l : Layout') (s : State) (ns : List Note) : Type 0 where
+  pub layout : s.layout ≡ l
+  pub stands : (t : ℕ) → IsThread l t → Agrees (last_told t ns) (s.threads t).stage
   pub happens_so : (e : Event) → Applies l s ns e → IsNotedAs l s e (happens s e).note
   pub else_nothing : (e : Event) → ¬ Applies l s ns e → ((happens s e).note ≡ Nothing) × ((happens s e).state ≡ s)
 

@@ -65,7 +65,8 @@ pub fn lists_are_kept()
     ensures { ListsAreKept }
 {}
 
-/// Whatever happens, by what the trace has told so far: a begin by a thread in no call, on a mutex or condition variable of the layout, is noted as a begin, which is refused only where it is
+/// Whatever happens, by what the trace has told so far: each thread stands where that says, in no call, in one, killed
+/// or reaped; a begin by a thread in no call, on a mutex or condition variable of the layout, is noted as a begin, which is refused only where it is
 /// to take a mutex and the thread owns 2,048; a kill of a thread that lives is noted; a step is an access of its thread where that is in a call, or was killed and not reaped, and sleeps on
 /// nothing; a leave is its thread's where that sleeps; a decline is an access of its thread's call, and of that call's
 /// mutex, that tells nothing, where the thread's next access is a trim; and a renewal is its thread's where that was

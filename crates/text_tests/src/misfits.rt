@@ -172,13 +172,13 @@ const OF_THREADS: [Case; 16] = [
         behind: "1 death t1 m0\nend 1",
         line: 2,
         misfit: Misfit::Alive,
-        text: "line 2: the thread wasn't killed",
+        text: "line 2: the thread lives",
     },
     Case {
         behind: "1 begin t1 lock m0\n2 reaped t1\nend 2",
         line: 3,
         misfit: Misfit::Alive,
-        text: "line 3: the thread wasn't killed",
+        text: "line 3: the thread lives",
     },
 ];
 

@@ -46,8 +46,8 @@ pub enum Misfit {
     /// The thread was reaped, and nothing is told of it before it lives anew.
     #[error("the thread was reaped")]
     Reaped,
-    /// The thread wasn't killed, and so its death isn't told, it isn't reaped and it doesn't live anew.
-    #[error("the thread wasn't killed")]
+    /// The thread lives, and so its death isn't told, it isn't reaped and it doesn't live anew.
+    #[error("the thread lives")]
     Alive,
 
     /// The thread's call is on this mutex, and the point is on another.
