@@ -23,3 +23,4 @@ pub mod Stretches
 pub mod Owing
 pub mod Releases
 pub mod Outcomes
+pub mod Apart
