@@ -4,7 +4,14 @@ mod Phases
 mod AllMeet
 mod Told
 mod Parts
+mod Permitted
+mod Holding
+mod LoneCalls
 mod Passed
+mod LonePhases
+mod InOrder
+mod Within
+mod Determined
 mod Together
 mod Possible
 mod Servings

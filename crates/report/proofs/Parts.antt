@@ -16,7 +16,8 @@ use Rattle.condvar.specs.declared.op.Op.{Op}
 use Rattle.condvar.specs.Ops.{mutex_of, operation_of}
 use Rattle.ruledwords.specs.Deaths.{deaths}
 use Rattle.ruledwords.specs.Seen.{by, held_after, points_of}
-use Rattle.report.specs.Histories.{AreLastWordsBehind, AreParts, ArePointsBehind, AreTold, IsCountOf, Part, TakesPart, some_died}
+use Rattle.report.specs.Histories.{AreLastWordsBehind, AreParts, ArePointsBehind, AreTold, IsCountOf, TakesPart, some_died}
+use Rattle.report.specs.Parts.{Part}
 
 -- ---- lists
 

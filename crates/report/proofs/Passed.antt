@@ -1,5 +1,5 @@
 -- Phases, one after the other, at whose ends all threads meet.
-use Rattle.std.proofs.Common.{◌≡◌, ℕ, zero, suc, ◌+◌, ◌<◌, ◌≤◌, Bool, true, false, not, Option, Some, List, [], ◌∷◌, ◌++◌, length, map, drop, slice_get, Vec, refl, sym, ap, ◌∙◌, subst, arith, append_assoc, append-nil}
+use Rattle.std.proofs.Common.{◌≡◌, ℕ, zero, suc, ◌+◌, ◌<◌, Bool, true, false, not, Option, Some, List, [], ◌∷◌, ◌++◌, length, map, drop, slice_get, Vec, refl, sym, ap, ◌∙◌, subst, arith, append_assoc, append-nil}
 use Rattle.std.specs.Prelude.{◌||◌, ◌&&◌}
 use Rattle.std.proofs.lemmas.Option.{slice_get_within, same_Some}
 use Rattle.std.specs.declared.alloc.Global.{Global}
@@ -21,22 +21,23 @@ use Rattle.threadbench.specs.declared.job.WorkerPass.TheVariants.{Lives, Reaped}
 use Rattle.threadbench.specs.Answered.{card_in}
 use Rattle.threadbench.specs.Jobs.{Worked}
 use Rattle.report.specs.declared.threads.Worker.{Worker}
-use Rattle.report.specs.Histories.{ArePointsBehind, AreParts, IsCountOf, Part, TakesPart, some_died}
+use Rattle.report.specs.Histories.{ArePointsBehind, IsCountOf, TakesPart}
+use Rattle.report.specs.Parts.{Part}
 use Rattle.report.specs.Meetings.{is_reaped, HaveMet}
-use Rattle.report.specs.Threads.{calls_in, open_gate, HasPassed, HavePassed, Works, WorksFrom}
+use Rattle.report.specs.Threads.{calls_in, open_gate, HasPassed, Works, WorksFrom}
 use Rattle.report.proofs.Names.{mapped_at}
-use Rattle.report.proofs.Parts.{by_append, points_through, replies_through}
+use Rattle.report.proofs.Parts.{by_append}
 use Rattle.report.proofs.Phases.{all_at, length_mapped, some_at}
 use Rattle.report.proofs.Told.{Grew, points_behind, thread_stays, worked_grew}
 use Rattle.report.proofs.Working.{as_many}
 
 -- ---- lists
 
-drop_past : {A : Type 0} (xs ys : List A) → drop (length xs) (xs ++ ys) ≡ ys
+pub drop_past : {A : Type 0} (xs ys : List A) → drop (length xs) (xs ++ ys) ≡ ys
 drop_past [] ys = refl
 drop_past (x ∷ xs) ys = drop_past xs ys
 
-same_rest : (xs ys zs : List Point) → xs ++ ys ≡ xs ++ zs → ys ≡ zs
+pub same_rest : (xs ys zs : List Point) → xs ++ ys ≡ xs ++ zs → ys ≡ zs
 same_rest [] ys zs e = e
 same_rest (x ∷ xs) ys zs e = same_rest xs ys zs (cc e)
 
@@ -60,14 +61,14 @@ gone_is [] i v is = absurd (cc is)
 gone_is (x ∷ vs) zero v is = let same : x ≡ v = cc is in ap (λ (z : Worker). is_reaped z.pass) same
 gone_is (x ∷ vs) (suc i) v is = gone_is vs i v is
 
-gone_same : (us vs : List Worker) (i : ℕ) → map (λ (v : Worker). is_reaped v.pass) us ≡ map (λ (v : Worker). is_reaped v.pass) vs → gone_at us i ≡ gone_at vs i
+pub gone_same : (us vs : List Worker) (i : ℕ) → map (λ (v : Worker). is_reaped v.pass) us ≡ map (λ (v : Worker). is_reaped v.pass) vs → gone_at us i ≡ gone_at vs i
 gone_same [] [] i same = refl
 gone_same [] (v ∷ vs) i same = absurd (cc same)
 gone_same (u ∷ us) [] i same = absurd (cc same)
 gone_same (u ∷ us) (v ∷ vs) zero same = cc same
 gone_same (u ∷ us) (v ∷ vs) (suc i) same = gone_same us vs i (cc same)
 
-and_true : (a : Bool) → (a && true) ≡ a
+pub and_true : (a : Bool) → (a && true) ≡ a
 and_true true = refl
 and_true false = refl
 
@@ -75,7 +76,7 @@ and_false : (a : Bool) → (a && false) ≡ false
 and_false true = refl
 and_false false = refl
 
-or_assoc : (a b c : Bool) → ((a || b) || c) ≡ (a || (b || c))
+pub or_assoc : (a b c : Bool) → ((a || b) || c) ≡ (a || (b || c))
 or_assoc true b c = refl
 or_assoc false b c = refl
 
@@ -90,7 +91,7 @@ part_of k seen seen' us vs rs rs' = record {
 }
 
 -- a thread whose calls were made, or that had died
-did : (w : Words) (m : ℕ) (calls : List Op) (u : Worker) (more : List Reply) (v : Worker) → m < (layout_of w).mutexes → Works w calls u more v → Grew (card_in u.pass) (cell_place (layout_of w) m) (card_in v.pass)
+pub did : (w : Words) (m : ℕ) (calls : List Op) (u : Worker) (more : List Reply) (v : Worker) → m < (layout_of w).mutexes → Works w calls u more v → Grew (card_in u.pass) (cell_place (layout_of w) m) (card_in v.pass)
 did w m calls u more v low works = from u.pass u.die works where
   from : (pass : WorkerPass) (die : Option ℕ) → WorksFrom w calls die pass more v → Grew (card_in pass) (cell_place (layout_of w) m) (card_in v.pass)
   from (Lives a) die works = worked_grew w m (card a) calls more v.pass low works.0
@@ -161,7 +162,7 @@ pub record AreAbreast (n : ℕ) (seen : List (List Point)) (us : List Worker) : 
   pub each : (i : ℕ) (u : Worker) → slice_get us i ≡ Some u → ((card_in u.pass).seen ≡ seen) × ((card_in u.pass).thread ≡ i + 1)
 
 -- all that a thread met with, by what it knew
-known_at : (w : Words) (vs met : List Worker) (m : HaveMet w vs met) (i : ℕ) (v : Worker) → slice_get vs i ≡ Some v → ComesToKnow m.know.seen m.know.changes (card_in v.pass)
+pub known_at : (w : Words) (vs met : List Worker) (m : HaveMet w vs met) (i : ℕ) (v : Worker) → slice_get vs i ≡ Some v → ComesToKnow m.know.seen m.know.changes (card_in v.pass)
 known_at w vs met m i v is = all_at (ComesToKnow m.know.seen m.know.changes) (map (λ (z : Worker). card_in z.pass) vs) i (card_in v.pass) m.know.each (mapped_at (λ (z : Worker). card_in z.pass) vs i v is)
 
 met_at : (w : Words) (vs met : List Worker) (m : HaveMet w vs met) (i : ℕ) (v x : Worker) → slice_get vs i ≡ Some v → slice_get met i ≡ Some x → card_in x.pass ≡ behind_meeting m.know.seen m.know.changes (card_in v.pass)
@@ -169,10 +170,10 @@ met_at w vs met m i v x is is' =
     let cards : List Card = map (λ (z : Worker). card_in z.pass) vs in
     same_Some _ _ (sym (mapped_at (λ (z : Worker). card_in z.pass) met i x is') ∙ ap (λ (cs : List Card). slice_get cs i) m.know.after ∙ mapped_at (behind_meeting m.know.seen m.know.changes) cards i (card_in v.pass) (mapped_at (λ (z : Worker). card_in z.pass) vs i v is))
 
-many_met : (w : Words) (vs met : List Worker) → HaveMet w vs met → length met ≡ length vs
+pub many_met : (w : Words) (vs met : List Worker) → HaveMet w vs met → length met ≡ length vs
 many_met w vs met m = sym (length_mapped (λ (z : Worker). z.die) met) ∙ ap length m.numbers ∙ length_mapped (λ (z : Worker). z.die) vs
 
-abbrev calls_of : Phase → ℕ → List Op
+abbrev pub calls_of : Phase → ℕ → List Op
 calls_of p = λ t. calls_in t p
 
 -- a thread in a phase
@@ -182,7 +183,7 @@ pub record PassesAs (w : Words) (i : ℕ) (seen : List (List Point)) (p : Phase)
   pub answered : items_at rs' i ≡ items_at rs i ++ (part_of (layout_of w) seen seen' us vs rs rs').replies i
   pub dead : gone_at met i ≡ (gone_at us i || (part_of (layout_of w) seen seen' us vs rs rs').died i)
 
-passes_as : (w : Words) (n i : ℕ) (seen : List (List Point)) (p : Phase) (us met : List Worker) (rs rs' : List (Vec Reply Global)) (h : HasPassed w p us met rs rs') → AreAbreast n seen us → length rs ≡ n → i < n → PassesAs w i seen p us h.worked met rs rs' h.meeting.know.seen
+pub passes_as : (w : Words) (n i : ℕ) (seen : List (List Point)) (p : Phase) (us met : List Worker) (rs rs' : List (Vec Reply Global)) (h : HasPassed w p us met rs rs') → AreAbreast n seen us → length rs ≡ n → i < n → PassesAs w i seen p us h.worked met rs rs' h.meeting.know.seen
 passes_as w n i seen p us met rs rs' h abreast long low =
     let vs : List Worker = h.worked in
     let seen' : List (List Point) = h.meeting.know.seen in
@@ -209,7 +210,7 @@ passes_as w n i seen p us met rs rs' h abreast long low =
     }
 
 -- they are abreast again
-abreast_again : (w : Words) (n : ℕ) (seen : List (List Point)) (p : Phase) (us met : List Worker) (rs rs' : List (Vec Reply Global)) (h : HasPassed w p us met rs rs') → AreAbreast n seen us → length rs ≡ n → AreAbreast n h.meeting.know.seen met
+pub abreast_again : (w : Words) (n : ℕ) (seen : List (List Point)) (p : Phase) (us met : List Worker) (rs rs' : List (Vec Reply Global)) (h : HasPassed w p us met rs rs') → AreAbreast n seen us → length rs ≡ n → AreAbreast n h.meeting.know.seen met
 abreast_again w n seen p us met rs rs' h abreast long = record {
   as_many = many_met w h.worked met h.meeting ∙ h.work.as_many ∙ abreast.as_many;
   each = λ i x is.
@@ -226,63 +227,3 @@ abreast_again w n seen p us met rs rs' h abreast long = record {
       let knows = met_at w h.worked met h.meeting i v.0 x v.1 is in
       (ap (λ (c : Card). c.seen) knows, ap (λ (c : Card). c.thread) knows ∙ thread_stays w (calls_in (i + 1) p) u.0 more.0 v.0 more.2 ∙ (abreast.each i u.0 u.1).1);
 }
-
--- the parts of phases, from what threads had seen and were replied before them
-pub record Through (w : Words) (n : ℕ) (ps : List Phase) (us vs : List Worker) (rs rs' : List (Vec Reply Global)) (seen : List (List Point)) : Type 0 where
-  pub parts : List Part
-  pub last : List (List Point)
-  pub are : AreParts (layout_of w) (gone_at us) (λ m. at seen (cell_place (layout_of w) m)) (map calls_of ps) parts
-  pub history : (m : ℕ) → m < (layout_of w).mutexes → at last (cell_place (layout_of w) m) ≡ at seen (cell_place (layout_of w) m) ++ points_through m parts
-  pub answered : (i : ℕ) → i < n → items_at rs' i ≡ items_at rs i ++ replies_through i parts
-  pub dead : (i : ℕ) → i < n → gone_at vs i ≡ (gone_at us i || some_died i parts)
-  pub abreast : AreAbreast n last vs
-
-or_none : (a : Bool) → a ≡ (a || false)
-or_none true = refl
-or_none false = refl
-
-takes_same : (k : Layout') (i : ℕ) (g : Bool) (e e' : ℕ → List Point) (calls : List Op) (replies : List Reply) (died : Bool) (points : ℕ → List Point) → ((m : ℕ) → m < k.mutexes → e m ≡ e' m) → TakesPart k i g e calls replies died points → TakesPart k i g e' calls replies died points
-takes_same k i true e e' calls replies died points same part = part
-takes_same k i false e e' calls replies died points same part = (part.0, λ m low. subst (λ (l : List Point). ArePointsBehind k (i + 1) m (by (i + 1) l) calls replies died (by (i + 1) (points m))) (same m low) (part.1 m low))
-
-pub parts_same : (k : Layout') (g g' : ℕ → Bool) (e e' : ℕ → List Point) (phases : List (ℕ → List Op)) (parts : List Part) → ((i : ℕ) → i < k.threads → g i ≡ g' i) → ((m : ℕ) → m < k.mutexes → e m ≡ e' m) → AreParts k g e phases parts → AreParts k g' e' phases parts
-parts_same k g g' e e' [] [] gs es are = tt
-parts_same k g g' e e' [] (q ∷ parts) gs es are = absurd are
-parts_same k g g' e e' (calls ∷ phases) [] gs es are = absurd are
-parts_same k g g' e e' (calls ∷ phases) (q ∷ parts) gs es are = (
-  λ i low. subst (λ (b : Bool). TakesPart k i b e' (calls (i + 1)) (q.replies i) (q.died i) q.points) (gs i low) (takes_same k i (g i) e e' (calls (i + 1)) (q.replies i) (q.died i) q.points es (are.0 i low)),
-  parts_same k (λ i. g i || q.died i) (λ i. g' i || q.died i) (λ m. e m ++ q.points m) (λ m. e' m ++ q.points m) phases parts (λ i low. ap (λ (b : Bool). b || q.died i) (gs i low)) (λ m low. ap (λ (l : List Point). l ++ q.points m) (es m low)) are.1,
-)
-
-pub through : (w : Words) (n : ℕ) (ps : List Phase) (us vs : List Worker) (rs rs' : List (Vec Reply Global)) (seen : List (List Point)) → (layout_of w).threads ≡ n → 1 ≤ n → AreAbreast n seen us → length rs ≡ n → HavePassed w ps us rs vs rs' → Through w n ps us vs rs rs' seen
-through w n [] us vs rs rs' seen all some abreast long passed = record {
-  parts = [];
-  last = seen;
-  are = tt;
-  history = λ m low. sym (append-nil (at seen (cell_place (layout_of w) m)));
-  answered = λ i low. ap (λ (l : List (Vec Reply Global)). items_at l i) (sym passed.1) ∙ sym (append-nil (items_at rs i));
-  dead = λ i low. ap (λ (l : List Worker). gone_at l i) (sym passed.0) ∙ or_none (gone_at us i);
-  abreast = subst (AreAbreast n seen) passed.0 abreast;
-}
-through w n (p ∷ ps) us vs rs rs' seen all some abreast long passed =
-    let k : Layout' = layout_of w in
-    let met : List Worker = passed.0 in
-    let more : List (Vec Reply Global) = passed.1 in
-    let h : HasPassed w p us met rs more = passed.2 in
-    let seen' : List (List Point) = h.meeting.know.seen in
-    let q : Part = part_of k seen seen' us h.worked rs more in
-    let again = abreast_again w n seen p us met rs more h abreast long in
-    let rest = through w n ps met vs more rs' seen' all some again (h.work.as_long ∙ long) passed.3 in
-    let first = passes_as w n 0 seen p us met rs more h abreast long (omega arith) in record {
-      parts = q ∷ rest.parts;
-      last = rest.last;
-      are = (
-        λ i low. (passes_as w n i seen p us met rs more h abreast long (omega (arith, low, all))).part,
-        parts_same k (gone_at met) (λ i. gone_at us i || q.died i) (λ m. at seen' (cell_place k m)) (λ m. at seen (cell_place k m) ++ q.points m) (map calls_of ps) rest.parts
-            (λ i low. (passes_as w n i seen p us met rs more h abreast long (omega (arith, low, all))).dead) first.on rest.are,
-      );
-      history = λ m low. rest.history m low ∙ ap (λ (l : List Point). l ++ points_through m rest.parts) (first.on m low) ∙ append_assoc (at seen (cell_place k m)) (q.points m) (points_through m rest.parts);
-      answered = λ i low. rest.answered i low ∙ ap (λ (l : List Reply). l ++ replies_through i rest.parts) (passes_as w n i seen p us met rs more h abreast long low).answered ∙ append_assoc (items_at rs i) (q.replies i) (replies_through i rest.parts);
-      dead = λ i low. rest.dead i low ∙ ap (λ (b : Bool). b || some_died i rest.parts) (passes_as w n i seen p us met rs more h abreast long low).dead ∙ or_assoc (gone_at us i) (q.died i) (some_died i rest.parts);
-      abreast = rest.abreast;
-    }

@@ -148,7 +148,7 @@ right_calls k t j all = go (j.thread == t) where
   go true = all
   go false = λ i d lt. absurd (omega (arith, lt))
 
-rights : (k : Layout') (t : ℕ) (jobs : List Ordered) → All (λ j. ArePossible k j.calls) jobs → All (λ c. is_in k c ≡ true) (flat_map (calls_at t) jobs)
+pub rights : (k : Layout') (t : ℕ) (jobs : List Ordered) → All (λ j. ArePossible k j.calls) jobs → All (λ c. is_in k c ≡ true) (flat_map (calls_at t) jobs)
 rights k t [] all = λ i d lt. absurd (omega (arith, lt))
 rights k t (j ∷ jobs) all =
     All-append (λ c. is_in k c ≡ true) (calls_at t j) (flat_map (calls_at t) jobs) (right_calls k t j (All-head (λ x. ArePossible k x.calls) j jobs all)) (rights k t jobs (All-tail (λ x. ArePossible k x.calls) j jobs all))

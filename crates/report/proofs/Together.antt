@@ -6,8 +6,10 @@ use Rattle.std.specs.declared.alloc.Global.{Global}
 use Rattle.lockword.specs.Cells.{fields_of}
 use Rattle.lockword.specs.declared.reply.Reply.{Reply}
 use Rattle.keys.specs.declared.point.Point.{Point}
-use Rattle.keys.specs.Layouts.{Layout', cell_place, counter_place}
-use Rattle.keys.specs.Objects.{object_of}
+use Rattle.keys.specs.Layouts.{Layout', IsLayout, cell_place, counter_place}
+use Rattle.keys.specs.declared.object.Object.{Object}
+use Rattle.keys.specs.Histories.{opening}
+use Rattle.keys.specs.Objects.{fresh, object_of, Run}
 use Rattle.condvar.specs.declared.op.Op.{Op}
 use Rattle.ruledwords.specs.declared.pass.Card.{Card}
 use Rattle.ruledwords.specs.declared.pass.Words.{Words}
@@ -18,16 +20,21 @@ use Rattle.ruledwords.specs.Passes.{card, layout_of, last_words, presets_of}
 use Rattle.ruledwords.specs.Rules.{first_card, IsAmong}
 use Rattle.ruledwords.specs.Seen.{by, AllOf, Leaves}
 use Rattle.script.specs.declared.workload.Phase.{Phase}
-use Rattle.threadbench.specs.Answered.{card_in}
+use Rattle.threadbench.specs.declared.job.WorkerPass.{WorkerPass}
+use Rattle.threadbench.specs.declared.job.WorkerPass.TheVariants.{Lives, Reaped}
+use Rattle.threadbench.specs.Answered.{card_in, IsWorkerOf}
 use Rattle.report.specs.declared.threads.Worker.{Worker}
 use Rattle.report.specs.Histories.{ArePointsBehind, AreParts, IsCountOf, StandInOrder, StandTogether, some_died}
+use Rattle.report.specs.Lone.{AreLone, ArePlayed}
 use Rattle.report.specs.Meetings.{is_reaped}
-use Rattle.report.specs.Threads.{calls_in, calls_over, AreFirst, HaveMade, HasEnded, HaveReplies}
+use Rattle.report.specs.Threads.{AreRightPhases, calls_in, calls_over, AreFirst, HaveMade, HasEnded, HaveReplies}
 use Rattle.report.proofs.Names.{mapped_at}
 use Rattle.report.proofs.Parts.{by_append, calls_through, counted, lived, points_through, replies_through}
-use Rattle.report.proofs.Passed.{AreAbreast, Through, gone_at, gone_is, items_are, items_at, parts_same, through}
+use Rattle.report.proofs.InOrder.{AreWithin, Through, parts_same, played_same, through}
+use Rattle.report.proofs.Passed.{AreAbreast, gone_at, gone_is, items_are, items_at}
 use Rattle.report.proofs.Phases.{all_at, its_end, length_mapped, some_at}
 use Rattle.report.proofs.Told.{counted_up}
+use Rattle.report.proofs.Within.{all_within}
 
 abbrev phases_of : List Phase → List (ℕ → List Op)
 phases_of ps = map (λ (p : Phase). λ (t : ℕ). calls_in t p) ps
@@ -53,7 +60,7 @@ empty_items rs i empty = go rs i (λ j r is. all_at (λ (r : Vec Reply Global). 
 
 module _ (w : Words) (ps : List Phase) (passes : List (Pass Live)) (dies : List (Option ℕ)) (firsts workers : List Worker) (replies : List (Vec Reply Global)) (died : List Bool) (cells counters : List ℕ) (k : Layout')
     (cards : (i : ℕ) (a : Pass Live) → slice_get passes i ≡ Some a → card a ≡ first_card k (i + 1)) (numbers : AreFirst passes dies firsts) (made : HaveMade w ps firsts workers replies) (same : died ≡ map (λ v. is_reaped v.pass) workers)
-    (ended : HasEnded w workers cells counters) (all : length passes ≡ (layout_of w).threads) (some : 1 ≤ (layout_of w).threads) where
+    (ended : HasEnded w workers cells counters) (all : length passes ≡ (layout_of w).threads) (some : 1 ≤ (layout_of w).threads) (possible : AreRightPhases (layout_of w) ps) where
   n : ℕ
   n = (layout_of w).threads
 
@@ -85,8 +92,8 @@ module _ (w : Words) (ps : List Phase) (passes : List (Pass Live)) (dies : List 
   are = parts_same (layout_of w) (gone_at firsts) (λ i. false) (λ m. []) (λ m. []) (phases_of ps) th.parts nobody_gone (λ m low. refl) th.are
 
   -- the last history is just what all have seen behind the last phase
-  whole : (m : ℕ) → m < (layout_of w).mutexes → at ended.ends.histories (cell_place (layout_of w) m) ≡ points_through m th.parts
-  whole m low =
+  last_is : (m : ℕ) → m < (layout_of w).mutexes → at ended.ends.histories (cell_place (layout_of w) m) ≡ at th.last (cell_place (layout_of w) m)
+  last_is m low =
       let p : ℕ = cell_place (layout_of w) m in
       let js : List (List Point) = ended.ends.histories in
       let among : (i : ℕ) (v : Worker) → slice_get workers i ≡ Some v → IsAmong js (card_in v.pass) = λ i v is. all_at (IsAmong js) (map (λ (z : Worker). card_in z.pass) workers) i (card_in v.pass) ended.ends.among (mapped_at (λ (z : Worker). card_in z.pass) workers i v is) in
@@ -105,11 +112,33 @@ module _ (w : Words) (ps : List Phase) (passes : List (Pass Live)) (dies : List 
       in
       let legal = (ended.ends.leaves m low).1 in
       let nothing = nobodys (layout_of w).threads p (at th.last p) begins.0 (subst (AllOf (layout_of w).threads p) on legal) none in
-      on ∙ ap (λ (l : List Point). at th.last p ++ l) nothing ∙ append-nil (at th.last p) ∙ th.history m low
+      on ∙ ap (λ (l : List Point). at th.last p ++ l) nothing ∙ append-nil (at th.last p)
     where
       rest_none : (xs ys : List Point) → xs ++ ys ≡ xs → ys ≡ []
       rest_none [] ys e = e
       rest_none (x ∷ xs) ys e = rest_none xs ys (cc e)
+
+  whole : (m : ℕ) → m < (layout_of w).mutexes → at ended.ends.histories (cell_place (layout_of w) m) ≡ points_through m th.parts
+  whole m low = last_is m low ∙ th.history m low
+
+  layout_is : (pass : WorkerPass) → IsWorkerOf w pass → IsLayout (layout_of w)
+  layout_is (Lives a) is = is.0.1.layout
+  layout_is (Reaped d) is = is.1.layout
+
+  within : AreWithin (layout_of w) ps
+  within =
+      let many = th.abreast.as_many in
+      let v = some_at workers 0 (omega (arith, some, many)) in
+      all_within (layout_of w) ps (layout_is v.0.pass (all_at (λ (z : Worker). IsWorkerOf w z.pass) workers 0 v.0 made.right v.1)) possible
+
+  -- where each phase has one thread's calls
+  lone : (is : List ℕ) → AreLone (layout_of w).threads (phases_of ps) is → (os : ℕ → Object) × ArePlayed (layout_of w) (λ i. false) opening (phases_of ps) is th.parts os × ((m : ℕ) → m < (layout_of w).mutexes → Run fresh (at ended.ends.histories (cell_place (layout_of w) m)) (os m))
+  lone is each =
+      let played = th.lone is each within opening (λ m low. refl) (λ j low lives x none. refl) in (
+        played.0,
+        played_same (layout_of w) (layout_of w).threads (gone_at firsts) (λ i. false) opening (phases_of ps) is th.parts played.0 nobody_gone each played.1,
+        λ m low. subst (λ (l : List Point). Run fresh l (played.0 m)) (sym (last_is m low)) (played.2 m low),
+      )
 
   long : length replies ≡ (layout_of w).threads
   long = made.as_long ∙ numbers.as_many ∙ all
@@ -129,7 +158,7 @@ module _ (w : Words) (ps : List Phase) (passes : List (Pass Live)) (dies : List 
       sym (its_end workers died i v.0 d same v.1 is) ∙ sym (gone_is workers i v.0 v.1) ∙ th.dead i low ∙ ap (λ (b : Bool). b || some_died i th.parts) (nobody_gone i low)
 
   in_order : StandInOrder (layout_of w) (phases_of ps) replies died ended.ends.histories
-  in_order = record { parts = th.parts; are = are; history = whole; answered = answered; dead = dead }
+  in_order = record { parts = th.parts; are = are; history = whole; answered = answered; dead = dead; lone = lone }
 
   cell_is : (m : ℕ) → m < (layout_of w).mutexes → get_or cells m 0 ≡ get_or (last_words ended.last) (cell_place (layout_of w) m) 0
   cell_is m low = subst (λ (k : Layout'). m < k.mutexes → get_or cells m 0 ≡ get_or (last_words ended.last) (cell_place k m) 0) ended.same (ended.words.each m) low

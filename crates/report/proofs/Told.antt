@@ -103,7 +103,7 @@ added k t m a (c ∷ cs) (r ∷ rs) b mine answered =
 -- ---- a thread that died
 
 -- a call in which a thread dies adds some of its first points, or all, where it is on the mutex
-died_of : (k : Layout') (c : Card) (call : Op) (d : Card) → DiesIn k c call d → Died c (cell_place k (mutex_of k call)) (operation_of call) d
+pub died_of : (k : Layout') (c : Card) (call : Op) (d : Card) → DiesIn k c call d → Died c (cell_place k (mutex_of k call)) (operation_of call) d
 died_of k c (OnMutex (Lock m)) d dies = dies.1
 died_of k c (OnMutex (TryLock m)) d dies = dies.1
 died_of k c (OnMutex (Unlock m)) d dies = dies
@@ -161,7 +161,7 @@ lost k m call t c d mine low was =
 abbrev pub Grew : Card → ℕ → Card → Type 0
 Grew c p d = (since : List Point) × (at d.seen p ≡ at c.seen p ++ since)
 
-saw_grew : (c d : Card) (place p : ℕ) (acts : List Act) → Saw c place acts d → Grew c p d
+pub saw_grew : (c d : Card) (place p : ℕ) (acts : List Act) → Saw c place acts d → Grew c p d
 saw_grew c d place p acts saw = dite (ℕ_discrete p place)
     (λ here. subst (λ (z : ℕ). Grew c z d) (sym here) (saw.since, saw.grows))
     (λ other. ([], saw.elsewhere p other ∙ sym (append-nil (at c.seen p))))
@@ -169,7 +169,7 @@ saw_grew c d place p acts saw = dite (ℕ_discrete p place)
 same_grew : (c d : Card) (p : ℕ) → d ≡ c → Grew c p d
 same_grew c d p same = ([], ap (λ (z : Card). at z.seen p) same ∙ sym (append-nil (at c.seen p)))
 
-then_grew : (c d e : Card) (p : ℕ) → Grew c p d → Grew d p e → Grew c p e
+pub then_grew : (c d e : Card) (p : ℕ) → Grew c p d → Grew d p e → Grew c p e
 then_grew c d e p first later = (first.0 ++ later.0, later.1 ∙ ap (λ (l : List Point). l ++ later.0) first.1 ∙ append_assoc (at c.seen p) first.0 later.0)
 
 either_grew : (b : Bool) (c d : Card) (place p : ℕ) (r : Reply) (acts : List Act) → MatchBool b ((r ≡ XHELD) × (d ≡ c)) (Called c place acts d) → Grew c p d
@@ -188,13 +188,13 @@ replied_grew k a (OnCondition (Wait q)) r b p t = ⊎_elim
     (λ (took : TookAgain k a q r b). saw_grew a b (cell_at k q) p ((operation.Unlock, OK) ∷ (operation.Lock, r) ∷ []) took.called.saw)
     t
 
-answered_grew : (k : Layout') (p : ℕ) (a : Card) (cs : List Op) (rs : List Reply) (b : Card) → Answered k a cs rs b → Grew a p b
+pub answered_grew : (k : Layout') (p : ℕ) (a : Card) (cs : List Op) (rs : List Reply) (b : Card) → Answered k a cs rs b → Grew a p b
 answered_grew k p a [] [] b same = same_grew a b p (sym same)
 answered_grew k p a [] (r ∷ rs) b answered = absurd answered
 answered_grew k p a (c ∷ cs) [] b answered = absurd answered
 answered_grew k p a (c ∷ cs) (r ∷ rs) b answered = then_grew a answered.0 b p (replied_grew k a c r answered.0 p answered.1) (answered_grew k p answered.0 cs rs b answered.2)
 
-reaped_grew : (k : Layout') (m : ℕ) (dead d : Card) → m < k.mutexes → IsReaped k dead d → Grew dead (cell_place k m) d
+pub reaped_grew : (k : Layout') (m : ℕ) (dead d : Card) → m < k.mutexes → IsReaped k dead d → Grew dead (cell_place k m) d
 reaped_grew k m dead d low reaped = go (owns_in k dead m) refl where
   go : (b : Bool) → owns_in k dead m ≡ b → Grew dead (cell_place k m) d
   go true owns = let saw = (reaped.told m low owns).saw in (saw.since, saw.grows)

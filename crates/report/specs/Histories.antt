@@ -7,7 +7,9 @@ use Rattle.lockword.specs.declared.reply.Reply.{Reply}
 use Rattle.lockword.specs.declared.reply.Reply.TheVariants.{XHELD}
 use Rattle.keys.specs.declared.point.Point.{Point}
 use Rattle.keys.specs.Layouts.{Layout', cell_place}
-use Rattle.keys.specs.Objects.{acquires, object_of}
+use Rattle.keys.specs.declared.object.Object.{Object}
+use Rattle.keys.specs.Histories.{opening}
+use Rattle.keys.specs.Objects.{acquires, fresh, object_of, Run}
 use Rattle.condvar.specs.declared.op.Op.{Op}
 use Rattle.condvar.specs.Ops.{mutex_of, operation_of}
 use Rattle.facts.specs.Lives.{Act, Beginning, Complete}
@@ -15,6 +17,8 @@ use Rattle.ruledwords.specs.Cards.{at}
 use Rattle.ruledwords.specs.Counts.{cell_at, counts_in, total_of}
 use Rattle.ruledwords.specs.Deaths.{deaths}
 use Rattle.ruledwords.specs.Seen.{by, held_after, points_of, Leaves}
+use Rattle.report.specs.Lone.{AreLone, ArePlayed}
+use Rattle.report.specs.Parts.{Part}
 
 -- the points that calls of thread t made of mutex m: of each call on it, or on a condition variable of it, all its points, in the order of the calls, the last with the reply that the call was given. That is one point, and of a
 -- wait that wasn't refused an unlock and then a lock. A lock or trylock that is refused as the thread holds 2,048 mutexes has none
@@ -60,12 +64,6 @@ abbrev pub IsCountOf : Bool → ℕ → ℕ → Type 0
 IsCountOf true replies calls = replies < calls
 IsCountOf false replies calls = replies ≡ calls
 
--- what a phase adds: what thread i + 1 was replied in it, and whether it died in it; and the points of each mutex
-pub record Part : Type 0 where
-  pub replies : ℕ → List Reply
-  pub died : ℕ → Bool
-  pub points : ℕ → List Point
-
 -- what a phase adds of thread i + 1, with these calls in it, where these points of each mutex stand before the phase: the points of its calls, in their order and with the replies that it was given. One that had died adds nothing
 abbrev pub TakesPart : Layout' → ℕ → Bool → (ℕ → List Point) → List Op → List Reply → Bool → (ℕ → List Point) → Type 0
 TakesPart k i true earlier calls replies died points = (replies ≡ []) × (died ≡ false) × ((m : ℕ) → m < k.mutexes → by (i + 1) (points m) ≡ [])
@@ -86,13 +84,15 @@ abbrev pub some_died : ℕ → List Part → Bool
 some_died i [] = false
 some_died i (q ∷ parts) = q.died i || some_died i parts
 
--- the phases stand in their order: the history of each mutex has all points of a phase before those of the next, and each thread's replies are those of the phases, one after the other
+-- the phases stand in their order: the history of each mutex has all points of a phase before those of the next, and each thread's replies are those of the phases, one after the other. Where each phase has one thread's calls alone,
+-- each of its replies is the answer of the mutexes as they are then
 pub record StandInOrder (k : Layout') (phases : List (ℕ → List Op)) (replies : List (Vec Reply Global)) (died : List Bool) (histories : List (List Point)) : Type 0 where
   pub parts : List Part
   pub are : AreParts k (λ i. false) (λ m. []) phases parts
   pub history : (m : ℕ) → m < k.mutexes → at histories (cell_place k m) ≡ flat_map (λ q. q.points m) parts
   pub answered : (i : ℕ) (r : Vec Reply Global) → slice_get replies i ≡ Some r → r.items ≡ flat_map (λ q. q.replies i) parts
   pub dead : (i : ℕ) (d : Bool) → slice_get died i ≡ Some d → d ≡ some_died i parts
+  pub lone : (is : List ℕ) → AreLone k.threads phases is → (os : ℕ → Object) × ArePlayed k (λ i. false) opening phases is parts os × ((m : ℕ) → m < k.mutexes → Run fresh (at histories (cell_place k m)) (os m))
 
 -- ---- all of it
 

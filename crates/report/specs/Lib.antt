@@ -2,6 +2,8 @@ pub mod Failed
 pub mod Messages
 pub mod Programs
 pub mod Served
+pub mod Parts
+pub mod Lone
 pub mod Histories
 pub mod Meetings
 pub mod Threads

@@ -10,7 +10,7 @@ use Rattle.script.specs.declared.workload.Phase.{Phase}
 use Rattle.script.specs.Playing.{counters_of}
 use Rattle.script.proofs.Names.{length-map_of}
 use Rattle.report.specs.Histories.{StandTogether}
-use Rattle.report.specs.Threads.{calls_in, calls_over, AreFirst, HaveMade}
+use Rattle.report.specs.Threads.{AreRightPhases, calls_in, calls_over, AreFirst, HaveMade}
 use Rattle.report.proofs.Phases.{firsts_live}
 use Rattle.report.proofs.Together.{together, replied}
 use Rattle.report.proofs.threads.answers_of.Goals as goal
@@ -46,7 +46,8 @@ returns-in-Ok-end-clause-answered g c =
     let made = subst (λ (rs : List (Vec Reply Global)). HaveMade bench c.args.jobs.phases.items c.in-Ok-workers_of.workers.items c.in_ok-workers.workers.items rs) (sym same) phased in
     let well = c.threads.ensures.well_formed in
     let some : 1 ≤ (layout_of bench).threads = subst (λ (l : Layout'). 1 ≤ l.threads) (sym (c.in_ok-bench.ensures.layout ∙ c.layout-layout.ensures)) well.some_thread in
-    let stand = together bench _ c.in_ok-bench.passes.items _ c.in-Ok-workers_of.workers.items c.in_ok-workers.workers.items a.replies.items a.died.items a.cells.items a.counters.items (layout_of bench) cards numbers made c.in-Ok-end.ensures.died c.in-Ok-end.ensures.ended (c.in_ok-bench.ensures.passes ∙ ap (λ (l : Layout'). l.threads) (sym c.in_ok-bench.ensures.layout)) some in
+    let possible = subst (λ (l : Layout'). AreRightPhases l c.args.jobs.phases.items) (sym (c.in_ok-bench.ensures.layout ∙ c.layout-layout.ensures)) c.requires.possible in
+    let stand = together bench _ c.in_ok-bench.passes.items _ c.in-Ok-workers_of.workers.items c.in_ok-workers.workers.items a.replies.items a.died.items a.cells.items a.counters.items (layout_of bench) cards numbers made c.in-Ok-end.ensures.died c.in-Ok-end.ensures.ended (c.in_ok-bench.ensures.passes ∙ ap (λ (l : Layout'). l.threads) (sym c.in_ok-bench.ensures.layout)) some possible in
     record {
       words = bench;
       layout = c.in_ok-bench.ensures.layout ∙ c.layout-layout.ensures;
@@ -76,5 +77,6 @@ returns-in-Ok-end-clause-each g c =
     let made = subst (λ (rs : List (Vec Reply Global)). HaveMade bench c.args.jobs.phases.items c.in-Ok-workers_of.workers.items c.in_ok-workers.workers.items rs) (sym same) phased in
     let well = c.threads.ensures.well_formed in
     let some : 1 ≤ (layout_of bench).threads = subst (λ (l : Layout'). 1 ≤ l.threads) (sym (c.in_ok-bench.ensures.layout ∙ c.layout-layout.ensures)) well.some_thread in
+    let possible = subst (λ (l : Layout'). AreRightPhases l c.args.jobs.phases.items) (sym (c.in_ok-bench.ensures.layout ∙ c.layout-layout.ensures)) c.requires.possible in
     replied bench c.args.jobs.phases.items c.in_ok-bench.passes.items _ c.in-Ok-workers_of.workers.items c.in_ok-workers.workers.items a.replies.items a.died.items a.cells.items a.counters.items (layout_of bench) cards numbers made c.in-Ok-end.ensures.died c.in-Ok-end.ensures.ended
-    (c.in_ok-bench.ensures.passes ∙ ap (λ (l : Layout'). l.threads) (sym c.in_ok-bench.ensures.layout)) some
+    (c.in_ok-bench.ensures.passes ∙ ap (λ (l : Layout'). l.threads) (sym c.in_ok-bench.ensures.layout)) some possible

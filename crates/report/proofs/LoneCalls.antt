@@ -1,0 +1,334 @@
+-- Calls that a thread makes while no other one is in a call: each is answered as its mutex is.
+use Rattle.std.proofs.Common.{◌≡◌, ◌≢◌, ⊎_elim, ℕ, ◌<◌, ◌≤◌, ◌==◌, Bool, true, false, nat_le, Some, None, List, [], ◌∷◌, ◌++◌, refl, sym, ap, ◌∙◌, subst, arith, append_assoc, eq-eqb, ne_eqb}
+use Rattle.std.specs.Prelude.{◌&&◌, if◌then◌else◌, MatchBool}
+use Rattle.std.proofs.lemmas.List.Elements.{filter-append}
+use mathlib.Core.Logic.{dite}
+use native.Mathlib.Decide.{ℕ_discrete}
+use Rattle.lockword.specs.declared.reply.Reply.{Reply}
+use Rattle.lockword.specs.declared.reply.Reply.TheVariants.{OK, XHELD}
+use Rattle.keys.specs.declared.object.Object.{Object}
+use Rattle.keys.specs.declared.point.Operation.{Operation}
+use Rattle.keys.specs.declared.point.Operation.TheVariants as operation
+use Rattle.keys.specs.declared.point.Point.{Point}
+use Rattle.keys.specs.Histories.{is_thread, held_by}
+use Rattle.keys.specs.Layouts.{Layout', cell_place}
+use Rattle.keys.specs.Objects.{acquires, bereaved, fresh, held_limit, stepped, Permits, Run}
+use Rattle.keys.proofs.Objects.{run_same, run_sound, run_split}
+use Rattle.keys.proofs.Steps.{determined}
+use Rattle.mutex.specs.declared.call.Call.TheVariants.{Lock, TryLock, Unlock, Consistent}
+use Rattle.condvar.specs.declared.op.Op.{Op}
+use Rattle.condvar.specs.declared.op.Op.TheVariants.{OnMutex, OnCondition}
+use Rattle.condvar.specs.declared.call.CondCall.TheVariants.{Wait, Signal, Broadcast}
+use Rattle.condvar.specs.Ops.{mutex_of, operation_of}
+use Rattle.facts.specs.Lives.{Act, Beginning}
+use Rattle.ruledwords.specs.declared.pass.Card.{Card}
+use Rattle.ruledwords.specs.Cards.{at}
+use Rattle.ruledwords.specs.ConditionStands.{CondEnded}
+use Rattle.ruledwords.specs.Counts.{cell_at}
+use Rattle.ruledwords.specs.Deaths.{deaths}
+use Rattle.ruledwords.specs.OwnWords.{owns_in}
+use Rattle.ruledwords.specs.Seen.{by, count_held, held, held_after, holds, points_of, AllOf, Called, Died, Saw}
+use Rattle.threadbench.specs.Answered.{Answered, Replied}
+use Rattle.threadbench.specs.Conditions.{TookAgain}
+use Rattle.threadbench.specs.Jobs.{WasLost}
+use Rattle.report.specs.Lone.{answer, behind, bereft, AreAnswered, IsAnswer}
+use Rattle.report.proofs.Holding.{counts_owned, owner_held}
+use Rattle.report.proofs.Permitted.{full_taking, permits_answer, waited_answer}
+use Rattle.report.proofs.Told.{answered_grew, died_of, reaped_grew, saw_grew, Grew}
+
+-- ---- points of one thread
+
+-- thread t made all of them
+abbrev pub OnlyBy : ℕ → List Point → Type 0
+OnlyBy t [] = Unit {0}
+OnlyBy t (x ∷ xs) = (x.thread ≡ t) × OnlyBy t xs
+
+pub by_only : (t : ℕ) (xs : List Point) → OnlyBy t xs → by t xs ≡ xs
+by_only t [] only = refl
+by_only t (x ∷ xs) only = ap (λ (b : Bool). if b then x ∷ by t xs else by t xs) (eq-eqb x.thread t only.0) ∙ ap (λ (l : List Point). x ∷ l) (by_only t xs only.1)
+
+only_front : (t : ℕ) (xs ys : List Point) → OnlyBy t (xs ++ ys) → OnlyBy t xs
+only_front t [] ys only = tt
+only_front t (x ∷ xs) ys only = (only.0, only_front t xs ys only.1)
+
+pub only_rest : (t : ℕ) (xs ys : List Point) → OnlyBy t (xs ++ ys) → OnlyBy t ys
+only_rest t [] ys only = only
+only_rest t (x ∷ xs) ys only = only_rest t xs ys only.1
+
+-- where no other thread made any of the last ones
+pub only_from : (n p t : ℕ) (ys xs : List Point) → AllOf n p (ys ++ xs) → ((u : ℕ) → 1 ≤ u → u ≤ n → u ≢ t → by u xs ≡ []) → OnlyBy t xs
+only_from n p t (y ∷ ys) xs of none = only_from n p t ys xs of.1 none
+only_from n p t [] [] of none = tt
+only_from n p t [] (x ∷ xs) of none = (mine, only_from n p t [] xs of.1 (λ u pos most other. sym (passes u other) ∙ none u pos most other)) where
+  first : by x.thread (x ∷ xs) ≡ x ∷ by x.thread xs
+  first = ap (λ (b : Bool). if b then x ∷ by x.thread xs else by x.thread xs) (eq-eqb x.thread x.thread refl)
+
+  mine : x.thread ≡ t
+  mine = dite (ℕ_discrete x.thread t) (λ e. e) (λ other. absurd (let e : x ∷ by x.thread xs ≡ [] = sym first ∙ none x.thread of.0.1 of.0.2 other in cc e))
+
+  passes : (u : ℕ) → u ≢ t → by u (x ∷ xs) ≡ by u xs
+  passes u other = ap (λ (b : Bool). if b then x ∷ by u xs else by u xs) (ne_eqb x.thread u (λ e. other (sym e ∙ mine)))
+
+same_rest : (xs ys zs : List Point) → xs ++ ys ≡ xs ++ zs → ys ≡ zs
+same_rest [] ys zs e = e
+same_rest (x ∷ xs) ys zs e = same_rest xs ys zs (cc e)
+
+by_append : (t : ℕ) (xs ys : List Point) → by t (xs ++ ys) ≡ by t xs ++ by t ys
+by_append t xs ys = filter-append (λ (x : Point). x.thread == t) xs ys
+
+pub sound : (xs : List Point) (o : Object) → Run fresh xs o → o.unusable ≡ true → o.owner ≡ None
+sound xs o run = run_sound fresh xs o (λ u. refl) run
+
+-- what a step leaves
+and_false : (a : Bool) → (a && false) ≡ false
+and_false true = refl
+and_false false = refl
+
+permits_steps : (o : Object) (t : ℕ) (op : Operation) (r : Reply) (n : Object) → Permits o t op r n → n ≡ stepped o t op r
+permits_steps o t op r n p = determined 0 o t op r n (subst (λ (b : Bool). MatchBool b ((r ≡ XHELD) × (n ≡ o)) (Permits o t op r n)) (sym (and_false (acquires op))) p)
+
+-- calls on mutexes that there are
+abbrev pub Within : Layout' → List Op → Type 0
+Within k [] = Unit {0}
+Within k (c ∷ cs) = (mutex_of k c < k.mutexes) × Within k cs
+
+-- ---- a thread alone
+
+module _ (k : Layout') (t : ℕ) (seen' : List (List Point)) (whole : (m : ℕ) → m < k.mutexes → (o : Object) × Run fresh (at seen' (cell_place k m)) o) where
+  -- what all see at the end goes on from what the card's thread has seen of each mutex
+  abbrev pub Tails : Card → Type 0
+  Tails c = (m : ℕ) → m < k.mutexes → (xs : List Point) × (at seen' (cell_place k m) ≡ at c.seen (cell_place k m) ++ xs)
+
+  -- thread t has this card, and has seen that the mutexes are so; up to the end there are only its own points
+  pub record Stands (c : Card) (os : ℕ → Object) : Type 0 where
+    pub thread : c.thread ≡ t
+    pub is : (m : ℕ) → m < k.mutexes → Run fresh (at c.seen (cell_place k m)) (os m)
+    pub quiet : (p : ℕ) → ((m : ℕ) → m < k.mutexes → p ≢ cell_place k m) → by t (at c.seen p) ≡ []
+    pub tails : Tails c
+    pub alone : (m : ℕ) (low : m < k.mutexes) → OnlyBy t (tails m low).0
+
+  stands_same : (c : Card) (os os' : ℕ → Object) → Stands c os → ((m : ℕ) → os' m ≡ os m) → Stands c os'
+  stands_same c os os' s same = record { thread = s.thread; is = λ m low. subst (Run fresh (at c.seen (cell_place k m))) (sym (same m)) (s.is m low); quiet = s.quiet; tails = s.tails; alone = s.alone }
+
+  -- it holds the mutexes that it owns
+  held_is : (c : Card) (os : ℕ → Object) → Stands c os → held c ≡ held_by t os k.mutexes
+  held_is c os s = ap (λ (u : ℕ). count_held u c.seen) s.thread ∙ counts_owned k t os k.mutexes c.seen (λ p none. ap (held_after false) (s.quiet p none)) (λ m low. owner_held t fresh (at c.seen (cell_place k m)) (os m) (s.is m low))
+
+  -- what it saw since is what it made itself
+  only_own : (c e : Card) (os : ℕ → Object) (m : ℕ) (ps : List Point) → m < k.mutexes → Stands c os → Tails e → Grew c (cell_place k m) e → by t (at e.seen (cell_place k m)) ≡ by t (at c.seen (cell_place k m)) ++ ps → at e.seen (cell_place k m) ≡ at c.seen (cell_place k m) ++ ps
+  only_own c e os m ps low s tails grew own =
+      let p : ℕ = cell_place k m in
+      let since : List Point = grew.0 in
+      let rest : List Point = (tails m low).0 in
+      let all : (s.tails m low).0 ≡ since ++ rest = same_rest (at c.seen p) (s.tails m low).0 (since ++ rest) (sym (s.tails m low).1 ∙ (tails m low).1 ∙ ap (λ (l : List Point). l ++ rest) grew.1 ∙ append_assoc (at c.seen p) since rest) in
+      let only : OnlyBy t since = only_front t since rest (subst (OnlyBy t) all (s.alone m low)) in
+      let mine : by t since ≡ ps = same_rest (by t (at c.seen p)) (by t since) ps (sym (by_append t (at c.seen p) since) ∙ ap (by t) (sym grew.1) ∙ own) in
+      grew.1 ∙ ap (λ (l : List Point). at c.seen p ++ l) (sym (by_only t since only) ∙ mine)
+
+  still_alone : (c e : Card) (os : ℕ → Object) (m : ℕ) (low : m < k.mutexes) → Stands c os → (tails : Tails e) → Grew c (cell_place k m) e → OnlyBy t (tails m low).0
+  still_alone c e os m low s tails grew =
+      let p : ℕ = cell_place k m in
+      let since : List Point = grew.0 in
+      let rest : List Point = (tails m low).0 in
+      let all : (s.tails m low).0 ≡ since ++ rest = same_rest (at c.seen p) (s.tails m low).0 (since ++ rest) (sym (s.tails m low).1 ∙ (tails m low).1 ∙ ap (λ (l : List Point). l ++ rest) grew.1 ∙ append_assoc (at c.seen p) since rest) in
+      only_rest t since rest (subst (OnlyBy t) all (s.alone m low))
+
+  -- the mutex behind a beginning of what all see at the end
+  run_there : (e : Card) (m : ℕ) → m < k.mutexes → Tails e → (o : Object) × Run fresh (at e.seen (cell_place k m)) o
+  run_there e m low tails =
+      let all = subst (λ (l : List Point). Run fresh l (whole m low).0) (tails m low).1 (whole m low).1 in
+      let part = run_split fresh (whole m low).0 (at e.seen (cell_place k m)) (tails m low).0 all in
+      (part.0, part.1)
+
+  -- its own points lead there
+  runs_on : (c e : Card) (os : ℕ → Object) (m : ℕ) (ps : List Point) → m < k.mutexes → Stands c os → Tails e → at e.seen (cell_place k m) ≡ at c.seen (cell_place k m) ++ ps → (o : Object) × Run (os m) ps o × Run fresh (at e.seen (cell_place k m)) o
+  runs_on c e os m ps low s tails grows =
+      let p : ℕ = cell_place k m in
+      let there = run_there e m low tails in
+      let part = run_split fresh there.0 (at c.seen p) ps (subst (λ (l : List Point). Run fresh l there.0) grows there.1) in
+      (there.0, subst (λ (o : Object). Run o ps there.0) (run_same fresh part.0 (os m) (at c.seen p) part.1 (s.is m low)) part.2, there.1)
+
+  -- a call on mutex m, behind which the mutexes are os'
+  stands_on : (c e : Card) (os os' : ℕ → Object) (m : ℕ) (acts : List Act) → Stands c os → Saw c (cell_place k m) acts e → Tails e → Run fresh (at e.seen (cell_place k m)) (os' m) → ((l : ℕ) → l ≢ m → os' l ≡ os l) → m < k.mutexes → Stands e os'
+  stands_on c e os os' m acts s saw tails run others low = record {
+    thread = saw.thread ∙ s.thread;
+    is = λ l lower. dite (ℕ_discrete l m)
+        (λ here. subst (λ (z : ℕ). Run fresh (at e.seen (cell_place k z)) (os' z)) (sym here) run)
+        (λ other. subst (λ (z : Object × List Point). Run fresh z.1 z.0) (λ i. (sym (others l other) i, sym (saw.elsewhere (cell_place k l) (λ e. other (omega (arith, e)))) i)) (s.is l lower));
+    quiet = λ p none. ap (by t) (saw.elsewhere p (none m low)) ∙ s.quiet p none;
+    tails = tails;
+    alone = λ l lower. still_alone c e os l lower s tails (saw_grew c e (cell_place k m) (cell_place k l) acts saw);
+  }
+
+  own_points : (c e : Card) (os : ℕ → Object) (m : ℕ) (acts : List Act) → m < k.mutexes → Stands c os → Saw c (cell_place k m) acts e → Tails e → at e.seen (cell_place k m) ≡ at c.seen (cell_place k m) ++ points_of t (cell_place k m) acts
+  own_points c e os m acts low s saw tails =
+      let p : ℕ = cell_place k m in
+      only_own c e os m (points_of t p acts) low s tails (saw_grew c e p p acts saw) (subst (λ (u : ℕ). by u (at e.seen p) ≡ by u (at c.seen p) ++ points_of u p acts) s.thread saw.own)
+
+  here_is : (os : ℕ → Object) (m l : ℕ) (o : Object) → l ≡ m → (if l == m then o else os l) ≡ o
+  here_is os m l o e = ap (λ (b : Bool). if b then o else os l) (eq-eqb l m e)
+
+  there_is : (os : ℕ → Object) (m l : ℕ) (o : Object) → l ≢ m → (if l == m then o else os l) ≡ os l
+  there_is os m l o e = ap (λ (b : Bool). if b then o else os l) (ne_eqb l m e)
+
+  -- ---- a call of one point
+
+  abbrev With : Card → (ℕ → Object) → ℕ → Operation → Reply → Type 0
+  With e os m op r = IsAnswer (held_by t os k.mutexes) t op (os m) r × Stands e (λ l. if l == m then stepped (os l) t op r else os l)
+
+  one_point : (c e : Card) (os : ℕ → Object) (m : ℕ) (op : Operation) (r : Reply) → m < k.mutexes → (acquires op ≡ true → nat_le held_limit (held_by t os k.mutexes) ≡ false) → op ≢ operation.Death → Stands c os → Called c (cell_place k m) ((op, r) ∷ []) e → Tails e → With e os m op r
+  one_point c e os m op r low few alive s called tails =
+      let p : ℕ = cell_place k m in
+      let grows = own_points c e os m ((op, r) ∷ []) low s called.saw tails in
+      let on = runs_on c e os m (points_of t p ((op, r) ∷ [])) low s tails grows in
+      let step : Permits (os m) t op r on.1.0 = on.1.1 in
+      let becomes : on.0 ≡ stepped (os m) t op r = on.1.2 ∙ permits_steps (os m) t op r on.1.0 step in
+      let os' : ℕ → Object = λ l. if l == m then stepped (os l) t op r else os l in (
+        permits_answer (held_by t os k.mutexes) t (os m) on.1.0 op r few (sound (at c.seen p) (os m) (s.is m low)) alive step,
+        stands_on c e os os' m ((op, r) ∷ []) s called.saw tails (subst (Run fresh (at e.seen p)) (becomes ∙ sym (here_is os m m (stepped (os m) t op r) refl)) on.2) (λ l other. there_is os m l (stepped (os l) t op r) other) low,
+      )
+
+  -- a lock or a trylock
+  takes_one : (c e : Card) (os : ℕ → Object) (m : ℕ) (op : Operation) (r : Reply) → m < k.mutexes → op ≢ operation.Death → (IsAnswer (held_by t os k.mutexes) t op (os m) XHELD ≡ (answer (held_by t os k.mutexes) t op (os m) ≡ Some XHELD)) → Stands c os
+      → MatchBool (nat_le held_limit (held c)) ((r ≡ XHELD) × (e ≡ c)) (Called c (cell_place k m) ((op, r) ∷ []) e) → Tails e
+      → (nat_le held_limit (held_by t os k.mutexes) ≡ true → (answer (held_by t os k.mutexes) t op (os m) ≡ Some XHELD) × ((o : Object) → stepped o t op XHELD ≡ o)) → With e os m op r
+  takes_one c e os m op r low alive plain s took tails full = go (nat_le held_limit (held c)) (ap (nat_le held_limit) (sym (held_is c os s))) took where
+    kept : (b : Bool) (o : Object) → stepped o t op XHELD ≡ o → (if b then stepped o t op XHELD else o) ≡ o
+    kept true o e = e
+    kept false o e = refl
+
+    go : (b : Bool) → nat_le held_limit (held_by t os k.mutexes) ≡ b → MatchBool b ((r ≡ XHELD) × (e ≡ c)) (Called c (cell_place k m) ((op, r) ∷ []) e) → With e os m op r
+    go true is refused =
+        let told = full is in
+        subst (λ (z : Reply). With e os m op z) (sym refused.0)
+        (subst (λ (A : Type 0). A) (sym plain) told.0, subst (λ (z : Card). Stands z (λ l. if l == m then stepped (os l) t op XHELD else os l)) (sym refused.1) (stands_same c os (λ l. if l == m then stepped (os l) t op XHELD else os l) s (λ l. kept (l == m) (os l) (told.1 (os l)))))
+    go false is called = one_point c e os m op r low (λ acquires. is) alive s called tails
+
+  -- ---- a wait
+
+  -- one that released its mutex and took it again
+  took_again : (c e : Card) (os : ℕ → Object) (q m : ℕ) (r : Reply) → cell_at k q ≡ cell_place k m → m < k.mutexes → Stands c os → TookAgain k c q r e → Tails e → With e os m operation.Wait r
+  took_again c e os q m r at_m low s took tails =
+      let p : ℕ = cell_place k m in
+      let acts : List Act = (operation.Unlock, OK) ∷ (operation.Lock, r) ∷ [] in
+      let called : Called c p acts e = subst (λ (z : ℕ). Called c z acts e) at_m took.called in
+      let released : Called c p ((operation.Unlock, OK) ∷ []) took.awake = subst (λ (z : ℕ). Called c z ((operation.Unlock, OK) ∷ []) took.awake) at_m took.released in
+      let later : Called took.awake p ((operation.Lock, r) ∷ []) e = subst (λ (z : ℕ). Called took.awake z ((operation.Lock, r) ∷ []) e) at_m took.took in
+      let tails' : Tails took.awake = λ l lower. ahead took.awake e l lower tails (saw_grew took.awake e p (cell_place k l) ((operation.Lock, r) ∷ []) later.saw) in
+      let grows = own_points c e os m acts low s called.saw tails in
+      let on = runs_on c e os m (points_of t p acts) low s tails grows in
+      let mid : Object = on.1.0 in
+      let first = own_points c took.awake os m ((operation.Unlock, OK) ∷ []) low s released.saw tails' in
+      let there = runs_on c took.awake os m (points_of t p ((operation.Unlock, OK) ∷ [])) low s tails' first in
+      let same : there.0 ≡ mid = there.1.2 ∙ permits_steps (os m) t operation.Unlock OK there.1.0 there.1.1 ∙ sym (permits_steps (os m) t operation.Unlock OK mid on.1.1) in
+      let fine : mid.unusable ≡ false = sym (ap (λ (o : Object). o.unusable) same) ∙ took.usable there.0 (subst (λ (z : ℕ). Run fresh (at took.awake.seen z) there.0) (sym at_m) there.2) in
+      let answered = waited_answer (held_by t os k.mutexes) t (os m) mid on.1.2.0 r on.1.1 fine on.1.2.1 in
+      let becomes : on.0 ≡ os m = on.1.2.2 ∙ answered.1 in
+      let keeps : stepped (os m) t operation.Wait r ≡ os m = stays (os m) r in
+      let os' : ℕ → Object = λ l. if l == m then stepped (os l) t operation.Wait r else os l in (
+        waits r answered.0,
+        stands_on c e os os' m acts s called.saw tails (subst (Run fresh (at e.seen p)) (becomes ∙ sym keeps ∙ sym (here_is os m m (stepped (os m) t operation.Wait r) refl)) on.2) (λ l other. there_is os m l (stepped (os l) t operation.Wait r) other) low,
+      )
+    where
+      ahead : (d e : Card) (l : ℕ) → l < k.mutexes → Tails e → Grew d (cell_place k l) e → (xs : List Point) × (at seen' (cell_place k l) ≡ at d.seen (cell_place k l) ++ xs)
+      ahead d e l lower tails grew = (grew.0 ++ (tails l lower).0, (tails l lower).1 ∙ ap (λ (x : List Point). x ++ (tails l lower).0) grew.1 ∙ append_assoc (at d.seen (cell_place k l)) grew.0 (tails l lower).0)
+
+      stays : (o : Object) (x : Reply) → stepped o t operation.Wait x ≡ o
+      stays o x = refl
+
+      waits : (x : Reply) → answer (held_by t os k.mutexes) t operation.Wait (os m) ≡ Some x → IsAnswer (held_by t os k.mutexes) t operation.Wait (os m) x
+      waits x is = is
+
+  -- ---- any call
+
+  abbrev full : (os : ℕ → Object) (m : ℕ) → Type 0
+  full os m = nat_le held_limit (held_by t os k.mutexes) ≡ true
+
+  not_death : (op : Operation) → Type 0
+  not_death op = op ≢ operation.Death
+
+  replied_alone : (c e : Card) (os : ℕ → Object) (call : Op) (r : Reply) → mutex_of k call < k.mutexes → Stands c os → Replied k c call r e → Tails e → IsAnswer (held_by t os k.mutexes) t (operation_of call) (os (mutex_of k call)) r × Stands e (behind k t os call r)
+  replied_alone c e os (OnMutex (Lock m)) r low s told tails = takes_one c e os m operation.Lock r low (λ same. cc same) refl s told tails (λ is. (full_taking t _ (os m).unusable (os m).owner (os m).inconsistent _ _ is, λ o. refl))
+  replied_alone c e os (OnMutex (TryLock m)) r low s told tails = takes_one c e os m operation.TryLock r low (λ same. cc same) refl s told.0 tails (λ is. (full_taking t _ (os m).unusable (os m).owner (os m).inconsistent _ _ is, λ o. refl))
+  replied_alone c e os (OnMutex (Unlock m)) r low s told tails = one_point c e os m operation.Unlock r low (λ same. absurd (cc same)) (λ same. cc same) s told tails
+  replied_alone c e os (OnMutex (Consistent m)) r low s told tails = one_point c e os m operation.Consistent r low (λ same. absurd (cc same)) (λ same. cc same) s told tails
+  replied_alone c e os (OnCondition (Signal q)) r low s told tails = one_point c e os (mutex_of k (OnCondition (Signal q))) operation.Signal r low (λ same. absurd (cc same)) (λ same. cc same) s told.called tails
+  replied_alone c e os (OnCondition (Broadcast q)) r low s told tails = one_point c e os (mutex_of k (OnCondition (Broadcast q))) operation.Broadcast r low (λ same. absurd (cc same)) (λ same. cc same) s told.called tails
+  replied_alone c e os (OnCondition (Wait q)) r low s told tails = ⊎_elim
+      (λ (refused : CondEnded k q operation.Wait r c e). one_point c e os (mutex_of k (OnCondition (Wait q))) operation.Wait r low (λ same. absurd (cc same)) (λ same. cc same) s refused.called tails)
+      (λ (took : TookAgain k c q r e). took_again c e os q (mutex_of k (OnCondition (Wait q))) r refl low s took tails)
+      told
+
+  -- ---- all of its calls
+
+  before : (c d : Card) → Tails d → ((p : ℕ) → Grew c p d) → Tails c
+  before c d tails grew m low =
+      let p : ℕ = cell_place k m in
+      let g = grew p in
+      (g.0 ++ (tails m low).0, (tails m low).1 ∙ ap (λ (l : List Point). l ++ (tails m low).0) g.1 ∙ append_assoc (at c.seen p) g.0 (tails m low).0)
+
+  pub answered_alone : (c d : Card) (os : ℕ → Object) (cs : List Op) (rs : List Reply) → Within k cs → Stands c os → Answered k c cs rs d → Tails d → (os' : ℕ → Object) × AreAnswered k t os cs rs os' × Stands d os'
+  answered_alone c d os [] [] within s same tails = (os, refl, subst (λ (z : Card). Stands z os) same s)
+  answered_alone c d os [] (r ∷ rs) within s answered tails = absurd answered
+  answered_alone c d os (x ∷ cs) [] within s answered tails = absurd answered
+  answered_alone c d os (x ∷ cs) (r ∷ rs) within s answered tails =
+      let e : Card = answered.0 in
+      let first = replied_alone c e os x r within.0 s answered.1 (before e d tails (λ p. answered_grew k p e cs rs d answered.2)) in
+      let rest = answered_alone e d (behind k t os x r) cs rs within.1 first.1 answered.2 tails in
+      (rest.0, (first.0, rest.1), rest.2)
+
+  -- ---- its death
+
+  -- the mutexes as its death leaves them, and who has seen that
+  pub record LeftBehind (os os' : ℕ → Object) (call : Op) (d : Card) : Type 0 where
+    pub acts : List Act
+    pub begun : Beginning (operation_of call) acts
+    pub left : Object
+    pub decided : Run (os (mutex_of k call)) (points_of t (cell_place k (mutex_of k call)) acts) left
+    pub after : os' ≡ (λ m. bereft t (if m == mutex_of k call then left else os m))
+    pub thread : d.thread ≡ t
+    pub is : (m : ℕ) → m < k.mutexes → Run fresh (at d.seen (cell_place k m)) (os' m)
+
+  pub died_alone : (c d : Card) (os : ℕ → Object) (call : Op) → mutex_of k call < k.mutexes → Stands c os → WasLost k c call d → Tails d → (os' : ℕ → Object) × LeftBehind os os' call d
+  died_alone c d os call low s was tails = (after, record { acts = died.acts; begun = died.beginning; left = on.0; decided = on.1; after = refl; thread = was.reaped.thread ∙ still.thread; is = λ l lower. told l lower (owns_in k was.dead l) refl }) where
+    m : ℕ
+    m = mutex_of k call
+
+    died : Died c (cell_place k (mutex_of k call)) (operation_of call) was.dead
+    died = died_of k c call was.dead was.died
+
+    tails' : Tails was.dead
+    tails' l lower =
+        let p : ℕ = cell_place k l in
+        let g = reaped_grew k l was.dead d lower was.reaped in
+        (g.0 ++ (tails l lower).0, (tails l lower).1 ∙ ap (λ (x : List Point). x ++ (tails l lower).0) g.1 ∙ append_assoc (at was.dead.seen p) g.0 (tails l lower).0)
+
+    on : (o : Object) × Run (os m) (points_of t (cell_place k m) died.acts) o × Run fresh (at was.dead.seen (cell_place k m)) o
+    on = runs_on c was.dead os m (points_of t (cell_place k m) died.acts) low s tails' (own_points c was.dead os m died.acts low s died.saw tails')
+
+    mid : ℕ → Object
+    mid l = if l == m then on.0 else os l
+
+    after : ℕ → Object
+    after l = bereft t (mid l)
+
+    still : Stands was.dead mid
+    still = stands_on c was.dead os mid m died.acts s died.saw tails' (subst (Run fresh (at was.dead.seen (cell_place k m))) (sym (here_is os m m on.0 refl)) on.2) (λ l other. there_is os m l on.0 other) low
+
+    owner_is : (l : ℕ) → l < k.mutexes → is_thread t (mid l).owner ≡ owns_in k was.dead l
+    owner_is l lower = sym (owner_held t fresh (at was.dead.seen (cell_place k l)) (mid l) (still.is l lower)) ∙ ap (λ (u : ℕ). holds u (at was.dead.seen (cell_place k l))) (sym still.thread)
+
+    told : (l : ℕ) (lower : l < k.mutexes) (b : Bool) → owns_in k was.dead l ≡ b → Run fresh (at d.seen (cell_place k l)) (after l)
+    told l lower true owns =
+        let p : ℕ = cell_place k l in
+        let saw = (was.reaped.told l lower owns).saw in
+        let own : by t (at d.seen p) ≡ by t (at was.dead.seen p) ++ deaths t p true = subst (λ (u : ℕ). by u (at d.seen p) ≡ by u (at was.dead.seen p) ++ deaths u p true) still.thread saw.own in
+        let grows = only_own was.dead d mid l (deaths t p true) lower still tails (saw.since, saw.grows) own in
+        let run = runs_on was.dead d mid l (deaths t p true) lower still tails grows in
+        let becomes : run.0 ≡ bereaved (mid l) = run.1.2 ∙ permits_steps (mid l) t operation.Death OK run.1.0 run.1.1 in
+        let is : bereft t (mid l) ≡ bereaved (mid l) = ap (λ (b : Bool). if b then bereaved (mid l) else mid l) (owner_is l lower ∙ owns) in
+        subst (Run fresh (at d.seen p)) (becomes ∙ sym is) run.2
+    told l lower false owns =
+        let p : ℕ = cell_place k l in
+        let is : bereft t (mid l) ≡ mid l = ap (λ (b : Bool). if b then bereaved (mid l) else mid l) (owner_is l lower ∙ owns) in
+        subst (λ (z : List Point × Object). Run fresh z.0 z.1) (λ i. (sym (was.reaped.stays l lower owns) i, sym is i)) (still.is l lower)

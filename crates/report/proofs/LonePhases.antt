@@ -1,0 +1,283 @@
+-- A phase in which one thread alone has calls.
+use Rattle.std.proofs.Common.{◌≡◌, ◌≢◌, ℕ, zero, suc, ◌+◌, ◌-◌, ◌<◌, Bool, true, false, not, Option, Some, List, [], ◌∷◌, ◌++◌, length, drop, take, slice_get, Vec, refl, sym, ap, ◌∙◌, subst, arith, append_assoc, append-nil}
+use Rattle.std.specs.Prelude.{◌&&◌}
+use Rattle.std.specs.declared.alloc.Global.{Global}
+use mathlib.Core.Logic.{dite}
+use native.Mathlib.Decide.{ℕ_discrete}
+use Rattle.lockword.specs.declared.reply.Reply.{Reply}
+use Rattle.keys.specs.declared.object.Object.{Object}
+use Rattle.keys.specs.declared.point.Point.{Point}
+use Rattle.keys.specs.Layouts.{Layout', cell_place}
+use Rattle.keys.specs.Objects.{fresh, Run}
+use Rattle.condvar.specs.declared.op.Op.{Op}
+use Rattle.condvar.specs.Ops.{mutex_of}
+use Rattle.ruledwords.specs.declared.pass.Card.{Card}
+use Rattle.ruledwords.specs.declared.pass.Words.{Words}
+use Rattle.ruledwords.specs.Cards.{at}
+use Rattle.ruledwords.specs.Meetings.{ComesToKnow}
+use Rattle.ruledwords.specs.Passes.{card, layout_of}
+use Rattle.ruledwords.specs.Seen.{by, AllOf}
+use Rattle.script.specs.declared.workload.Phase.{Phase}
+use Rattle.threadbench.specs.declared.job.WorkerPass.{WorkerPass}
+use Rattle.threadbench.specs.declared.job.WorkerPass.TheVariants.{Lives, Reaped}
+use Rattle.threadbench.specs.Answered.{card_in, IsWorkerOf}
+use Rattle.threadbench.specs.Jobs.{Worked}
+use Rattle.report.specs.declared.threads.Worker.{Worker}
+use Rattle.report.specs.Lone.{IsLone, PlaysAlone, Rest}
+use Rattle.report.specs.Meetings.{is_reaped}
+use Rattle.report.specs.Parts.{Part}
+use Rattle.report.specs.Threads.{calls_in, open_gate, HasPassed, Works, WorksFrom}
+use Rattle.report.proofs.LoneCalls.{answered_alone, died_alone, only_from, OnlyBy, Stands, Within, by_only, only_rest}
+use Rattle.report.proofs.Parts.{by_append}
+use Rattle.report.proofs.Passed.{calls_of, drop_past, gone_at, gone_is, gone_same, items_are, items_at, known_at, part_of, same_rest, did, AreAbreast}
+use Rattle.report.proofs.Phases.{all_at, some_at}
+use Rattle.report.proofs.Told.{died_of, reaped_grew, saw_grew, then_grew, thread_stays, Grew}
+use Rattle.report.proofs.Working.{all_answered}
+
+-- ---- who has no calls
+
+-- it is answered nothing, and neither dies nor sees anything
+idle_worked : (w : Words) (a : Card) (more : List Reply) (pass : WorkerPass) → Worked w open_gate a [] more pass → (card_in pass ≡ a) × (more ≡ []) × (is_reaped pass ≡ false)
+idle_worked w a (r ∷ rs) pass worked = absurd (let few = worked.few in omega (arith, few))
+idle_worked w a [] (Lives b) worked = (worked.stops.1 ∙ sym worked.answered, refl, refl)
+idle_worked w a [] (Reaped d) worked = absurd (let next = worked.stops.1 in cc next.1)
+
+idle : (w : Words) (u : Worker) (more : List Reply) (v : Worker) → Works w [] u more v → (card_in v.pass ≡ card_in u.pass) × (more ≡ []) × (is_reaped v.pass ≡ is_reaped u.pass)
+idle w u more v works = from u.pass u.die works where
+  from : (pass : WorkerPass) (die : Option ℕ) → WorksFrom w [] die pass more v → (card_in v.pass ≡ card_in pass) × (more ≡ []) × (is_reaped v.pass ≡ is_reaped pass)
+  from (Lives a) die works = idle_worked w (card a) more v.pass works.0
+  from (Reaped d) die works = (ap card_in works.0, works.1, ap is_reaped works.0)
+
+threads_of : (w : Words) (pass : WorkerPass) → IsWorkerOf w pass → (card_in pass).threads ≡ (layout_of w).threads
+threads_of w (Lives a) is = is.0.1.threads
+threads_of w (Reaped d) is = is.1.threads
+
+-- ---- calls up to one
+
+within_take : (k : Layout') (n : ℕ) (cs : List Op) → Within k cs → Within k (take n cs)
+within_take k zero [] within = tt
+within_take k (suc n) [] within = tt
+within_take k zero (c ∷ cs) within = tt
+within_take k (suc n) (c ∷ cs) within = (within.0, within_take k n cs within.1)
+
+within_at : (k : Layout') (n : ℕ) (cs : List Op) (c : Op) → Within k cs → slice_get cs n ≡ Some c → mutex_of k c < k.mutexes
+within_at k n [] c within is = absurd (cc is)
+within_at k zero (x ∷ cs) c within is = let same : x ≡ c = cc is in subst (λ (z : Op). mutex_of k z < k.mutexes) same within.0
+within_at k (suc n) (x ∷ cs) c within is = within_at k n cs c within.1 is
+
+-- ---- the thread that has calls
+
+-- nothing that isn't a mutex's cell
+abbrev pub IsNoCell : Layout' → ℕ → Type 0
+IsNoCell k p = (m : ℕ) → m < k.mutexes → p ≢ cell_place k m
+
+-- what it did, and how it left the mutexes
+pub record HasPlayed (k : Layout') (t : ℕ) (gone : Bool) (os : ℕ → Object) (calls : List Op) (more : List Reply) (v : Worker) (died : Bool) : Type 0 where
+  pub mid : ℕ → Object
+  pub plays : PlaysAlone k t gone os calls more died mid
+  pub is : (m : ℕ) → m < k.mutexes → Run fresh (at (card_in v.pass).seen (cell_place k m)) (mid m)
+  pub quiet : is_reaped v.pass ≡ false → (p : ℕ) → IsNoCell k p → by t (at (card_in v.pass).seen p) ≡ []
+
+module _ (w : Words) (t : ℕ) (seen' : List (List Point)) (whole : (m : ℕ) → m < (layout_of w).mutexes → (o : Object) × Run fresh (at seen' (cell_place (layout_of w) m)) o) (os : ℕ → Object) (calls : List Op) (within : Within (layout_of w) calls) (more : List Reply) (v : Worker)
+    (tails : (m : ℕ) → m < (layout_of w).mutexes → (xs : List Point) × (at seen' (cell_place (layout_of w) m) ≡ at (card_in v.pass).seen (cell_place (layout_of w) m) ++ xs)) where
+  -- one that lives on, and one that dies
+  worked_alone : (a : Card) (pass : WorkerPass) → Stands (layout_of w) t seen' whole a os → Worked w open_gate a calls more pass → ((m : ℕ) → m < (layout_of w).mutexes → (xs : List Point) × (at seen' (cell_place (layout_of w) m) ≡ at (card_in pass).seen (cell_place (layout_of w) m) ++ xs))
+      → (mid : ℕ → Object) × PlaysAlone (layout_of w) t false os calls more (is_reaped pass) mid × ((m : ℕ) → m < (layout_of w).mutexes → Run fresh (at (card_in pass).seen (cell_place (layout_of w) m)) (mid m)) × (is_reaped pass ≡ false → (p : ℕ) → IsNoCell (layout_of w) p → by t (at (card_in pass).seen p) ≡ [])
+  worked_alone a (Lives b) s worked tails =
+      let all = all_answered w a calls more b worked in
+      let did = answered_alone (layout_of w) t seen' whole a (card b) os calls more within s all tails in
+      (did.0, did.1, did.2.is, λ lives. did.2.quiet)
+  worked_alone a (Reaped d) s worked tails =
+      let k : Layout' = layout_of w in
+      let next = worked.stops.1 in
+      let was = next.3 in
+      let died = died_of k worked.last next.0 was.dead was.died in
+      let tails' : (m : ℕ) → m < k.mutexes → (xs : List Point) × (at seen' (cell_place k m) ≡ at worked.last.seen (cell_place k m) ++ xs) = λ m low.
+      let p : ℕ = cell_place k m in
+      let g = then_grew worked.last was.dead (card d) p (saw_grew worked.last was.dead (cell_place k (mutex_of k next.0)) p died.acts died.saw) (reaped_grew k m was.dead (card d) low was.reaped) in
+      (g.0 ++ (tails m low).0, (tails m low).1 ∙ ap (λ (l : List Point). l ++ (tails m low).0) g.1 ∙ append_assoc (at worked.last.seen p) g.0 (tails m low).0)
+      in
+      let did = answered_alone k t seen' whole a worked.last os (take (length more) calls) more (within_take k (length more) calls within) s worked.answered tails' in
+      let end = died_alone k t seen' whole worked.last (card d) did.0 next.0 (within_at k (length more) calls next.0 within next.1) did.2 was tails in
+      let left = end.1 in (
+        end.0,
+        record { call = next.0; next = next.1; before = did.0; told = did.1; acts = left.acts; begun = left.begun; left = left.left; decided = left.decided; after = left.after },
+        left.is,
+        λ lives. absurd (cc lives),
+      )
+
+-- ---- the phase
+
+and_true : (a : Bool) → (a && true) ≡ a
+and_true true = refl
+and_true false = refl
+
+and_false : (a : Bool) → (a && false) ≡ false
+and_false true = refl
+and_false false = refl
+
+and_not : (a : Bool) → (a && not a) ≡ false
+and_not true = refl
+and_not false = refl
+
+-- the mutexes behind the phase, as all have seen them then
+pub record PhasePlayed (k : Layout') (n i : ℕ) (gone gone' : ℕ → Bool) (os : ℕ → Object) (calls : ℕ → List Op) (q : Part) (seen' : List (List Point)) : Type 0 where
+  pub mid : ℕ → Object
+  pub plays : PlaysAlone k (i + 1) (gone i) os (calls (i + 1)) (q.replies i) (q.died i) mid
+  pub rest : Rest n i q
+  pub is : (m : ℕ) → m < k.mutexes → Run fresh (at seen' (cell_place k m)) (mid m)
+  pub quiet : (j : ℕ) → j < n → gone' j ≡ false → (p : ℕ) → IsNoCell k p → by (j + 1) (at seen' p) ≡ []
+
+module _ (w : Words) (n : ℕ) (p : Phase) (us met : List Worker) (rs rs' : List (Vec Reply Global)) (seen : List (List Point)) (h : HasPassed w p us met rs rs') (abreast : AreAbreast n seen us) (long : length rs ≡ n) (all : (layout_of w).threads ≡ n)
+    (i : ℕ) (lone : IsLone n (calls_of p) i) (os : ℕ → Object) (stand : (m : ℕ) → m < (layout_of w).mutexes → Run fresh (at seen (cell_place (layout_of w) m)) (os m))
+    (quiet : (j : ℕ) → j < n → gone_at us j ≡ false → (x : ℕ) → IsNoCell (layout_of w) x → by (j + 1) (at seen x) ≡ []) (within : Within (layout_of w) (calls_in (i + 1) p)) where
+  abbrev k : Layout'
+  k = layout_of w
+
+  abbrev vs : List Worker
+  vs = h.worked
+
+  abbrev seen' : List (List Point)
+  seen' = h.meeting.know.seen
+
+  abbrev q : Part
+  q = part_of k seen seen' us vs rs rs'
+
+  abbrev t : ℕ
+  t = i + 1
+
+  -- what thread j + 1 did
+  record Did (j : ℕ) : Type 0 where
+    u : Worker
+    v : Worker
+    more : List Reply
+    works : Works w (calls_in (j + 1) p) u more v
+    replies : q.replies j ≡ more
+    gone : gone_at us j ≡ is_reaped u.pass
+    gone' : gone_at vs j ≡ is_reaped v.pass
+    come : ComesToKnow seen' h.meeting.know.changes (card_in v.pass)
+    seen_is : (card_in u.pass).seen ≡ seen
+    thread_u : (card_in u.pass).thread ≡ j + 1
+    thread_v : (card_in v.pass).thread ≡ j + 1
+    threads : (card_in v.pass).threads ≡ n
+
+  did_so : (j : ℕ) → j < n → Did j
+  did_so j low =
+      let many = abreast.as_many in
+      let many' = h.work.as_many in
+      let long' = h.work.as_long in
+      let u = some_at us j (omega (arith, low, many)) in
+      let v = some_at vs j (omega (arith, low, many, many')) in
+      let r = some_at rs j (omega (arith, low, long)) in
+      let r' = some_at rs' j (omega (arith, low, long, long')) in
+      let its = abreast.each j u.0 u.1 in
+      let more = h.work.each j u.0 v.0 r.0 r'.0 u.1 v.1 r.1 r'.1 in
+      let replied : items_at rs' j ≡ items_at rs j ++ more.0 = items_are rs' j r'.0 r'.1 ∙ more.1 ∙ ap (λ (l : List Reply). l ++ more.0) (sym (items_are rs j r.0 r.1)) in record {
+        u = u.0;
+        v = v.0;
+        more = more.0;
+        works = more.2;
+        replies = ap (drop (length (items_at rs j))) replied ∙ drop_past (items_at rs j) more.0;
+        gone = gone_is us j u.0 u.1;
+        gone' = gone_is vs j v.0 v.1;
+        come = known_at w vs met h.meeting j v.0 v.1;
+        seen_is = its.0;
+        thread_u = its.1;
+        thread_v = thread_stays w (calls_in (j + 1) p) u.0 more.0 v.0 more.2 ∙ its.1;
+        threads = threads_of w v.0.pass (all_at (λ (z : Worker). IsWorkerOf w z.pass) vs j v.0 h.work.right v.1) ∙ all;
+      }
+
+  own_of : (j : ℕ) (d : Did j) (x : ℕ) → by (j + 1) (at seen' x) ≡ by (j + 1) (at (card_in d.v.pass).seen x)
+  own_of j d x = subst (λ (z : ℕ). by z (at seen' x) ≡ by z (at (card_in d.v.pass).seen x)) d.thread_v (d.come.own x)
+
+  idle_is : (j : ℕ) → j < n → j ≢ i → (d : Did j) → (card_in d.v.pass ≡ card_in d.u.pass) × (d.more ≡ []) × (is_reaped d.v.pass ≡ is_reaped d.u.pass)
+  idle_is j low other d = idle w d.u d.more d.v (subst (λ (cs : List Op). Works w cs d.u d.more d.v) (lone.others j low other) d.works)
+
+  others_own : (j : ℕ) → j < n → j ≢ i → (x : ℕ) → by (j + 1) (at seen' x) ≡ by (j + 1) (at seen x)
+  others_own j low other x = let d = did_so j low in own_of j d x ∙ ap (λ (c : Card). by (j + 1) (at c.seen x)) (idle_is j low other d).0 ∙ ap (λ (s : List (List Point)). by (j + 1) (at s x)) d.seen_is
+
+  mine : Did i
+  mine = did_so i lone.inside
+
+  whole : (m : ℕ) → m < k.mutexes → (o : Object) × Run fresh (at seen' (cell_place k m)) o
+  whole m low = let l = mine.come.legal (cell_place k m) in (l.0, l.1.0)
+
+  since_of : (m : ℕ) → m < k.mutexes → Grew (card_in mine.u.pass) (cell_place k m) (card_in mine.v.pass)
+  since_of m low = did w m (calls_in t p) mine.u mine.more mine.v low mine.works
+
+  -- what came is its thread's alone
+  ahead : (m : ℕ) → m < k.mutexes → (xs : List Point) × (at seen' (cell_place k m) ≡ at seen (cell_place k m) ++ xs)
+  ahead m low =
+      let x : ℕ = cell_place k m in
+      let grew = since_of m low in
+      let begins = mine.come.begins x in (
+        grew.0 ++ begins.0,
+        sym begins.1 ∙ ap (λ (l : List Point). l ++ begins.0) (grew.1 ∙ ap (λ (s : List (List Point)). at s x ++ grew.0) mine.seen_is) ∙ append_assoc (at seen x) grew.0 begins.0,
+      )
+
+  only_mine : (m : ℕ) (low : m < k.mutexes) → OnlyBy t (ahead m low).0
+  only_mine m low =
+      let x : ℕ = cell_place k m in
+      let xs : List Point = (ahead m low).0 in
+      let of : AllOf n x (at seen x ++ xs) = subst (λ (z : ℕ × List Point). AllOf z.0 x z.1) (λ y. (mine.threads y, (ahead m low).1 y)) (mine.come.legal x).1.1 in
+      only_from n x t (at seen x) xs of (λ u pos most other.
+      let j : ℕ = u - 1 in
+      let is : j + 1 ≡ u = omega (arith, pos) in
+      let apart : j ≢ i = λ e. other (sym is ∙ ap (λ (z : ℕ). z + 1) e) in
+      let same : by u (at seen' x) ≡ by u (at seen x) = subst (λ (z : ℕ). by z (at seen' x) ≡ by z (at seen x)) is (others_own j (omega (arith, pos, most)) apart x) in
+      same_rest (by u (at seen x)) (by u xs) [] (sym (by_append u (at seen x) xs) ∙ ap (by u) (sym (ahead m low).1) ∙ same ∙ sym (append-nil (by u (at seen x)))))
+
+  -- behind its last call nothing came
+  at_end : (m : ℕ) → m < k.mutexes → at seen' (cell_place k m) ≡ at (card_in mine.v.pass).seen (cell_place k m)
+  unfolding ahead
+  at_end m low =
+      let x : ℕ = cell_place k m in
+      let begins = mine.come.begins x in
+      let last : List Point = at (card_in mine.v.pass).seen x in
+      let only : OnlyBy t begins.0 = only_rest t (since_of m low).0 begins.0 (only_mine m low) in
+      let none : by t begins.0 ≡ [] = same_rest (by t last) (by t begins.0) [] (sym (by_append t last begins.0) ∙ ap (by t) begins.1 ∙ own_of i mine x ∙ sym (append-nil (by t last))) in
+      sym begins.1 ∙ ap (λ (l : List Point). last ++ l) (sym (by_only t begins.0 only) ∙ none) ∙ append-nil last
+
+  tails : (m : ℕ) → m < k.mutexes → (xs : List Point) × (at seen' (cell_place k m) ≡ at (card_in mine.v.pass).seen (cell_place k m) ++ xs)
+  tails m low = ([], at_end m low ∙ sym (append-nil (at (card_in mine.v.pass).seen (cell_place k m))))
+
+  stands : (a : Card) → a ≡ card_in mine.u.pass → is_reaped mine.u.pass ≡ false → Stands k t seen' whole a os
+  stands a same lives = subst (λ (c : Card). Stands k t seen' whole c os) (sym same) record {
+    thread = mine.thread_u;
+    is = λ m low. subst (λ (s : List (List Point)). Run fresh (at s (cell_place k m)) (os m)) (sym mine.seen_is) (stand m low);
+    quiet = λ x none. ap (λ (s : List (List Point)). by t (at s x)) mine.seen_is ∙ quiet i lone.inside (mine.gone ∙ lives) x none;
+    tails = λ m low. ((ahead m low).0, (ahead m low).1 ∙ ap (λ (s : List (List Point)). at s (cell_place k m) ++ (ahead m low).0) (sym mine.seen_is));
+    alone = only_mine;
+  }
+
+  played_so : (pass : WorkerPass) (die : Option ℕ) → pass ≡ mine.u.pass → WorksFrom w (calls_in t p) die pass mine.more mine.v → HasPlayed k t (is_reaped pass) os (calls_in t p) mine.more mine.v (is_reaped mine.v.pass && not (is_reaped pass))
+  played_so (Lives a) die same works =
+      let did = worked_alone w t seen' whole os (calls_in t p) within mine.more mine.v tails (card a) mine.v.pass (stands (card a) (ap card_in same) (ap is_reaped (sym same))) works.0 tails in record {
+        mid = did.0;
+        plays = subst (λ (b : Bool). PlaysAlone k t false os (calls_in t p) mine.more b did.0) (sym (and_true (is_reaped mine.v.pass))) did.1;
+        is = did.2;
+        quiet = did.3;
+      }
+  played_so (Reaped d) die same works =
+      let card_is : card_in mine.v.pass ≡ card_in mine.u.pass = ap card_in works.0 ∙ ap card_in same in record {
+        mid = os;
+        plays = (works.1, and_false (is_reaped mine.v.pass), refl);
+        is = λ m low. subst (λ (s : List (List Point)). Run fresh (at s (cell_place k m)) (os m)) (sym (ap (λ (c : Card). c.seen) card_is ∙ mine.seen_is)) (stand m low);
+        quiet = λ lives. absurd (let e : true ≡ false = sym (ap is_reaped works.0) ∙ lives in cc e);
+      }
+
+  pub phase_played : PhasePlayed k n i (gone_at us) (gone_at met) os (calls_of p) q seen'
+  phase_played = record {
+    mid = so.mid;
+    plays = subst (λ (z : Bool × List Reply × Bool). PlaysAlone k t z.0 os (calls_in t p) z.1 z.2 so.mid) (λ y. (sym mine.gone y, sym mine.replies y, sym mine.gone' y && not (sym mine.gone y))) so.plays;
+    rest = λ j low other. let d = did_so j low in let still = idle_is j low other d in (
+      d.replies ∙ still.1,
+      (λ y. d.gone' y && not (d.gone y)) ∙ ap (λ (b : Bool). b && not (is_reaped d.u.pass)) still.2 ∙ and_not (is_reaped d.u.pass),
+    );
+    is = λ m low. subst (λ (l : List Point). Run fresh l (so.mid m)) (sym (at_end m low)) (so.is m low);
+    quiet = λ j low lives x none. dite (ℕ_discrete j i)
+        (λ here. subst (λ (z : ℕ). gone_at met z ≡ false → by (z + 1) (at seen' x) ≡ []) (sym here) (λ mine_lives. own_of i mine x ∙ so.quiet (sym mine.gone' ∙ sym (gone_same met vs i h.meeting.lives) ∙ mine_lives) x none) lives)
+        (λ other. let d = did_so j low in others_own j low other x ∙ quiet j low (d.gone ∙ sym (idle_is j low other d).2 ∙ sym d.gone' ∙ sym (gone_same met vs j h.meeting.lives) ∙ lives) x none);
+  } where
+    so : HasPlayed k t (is_reaped mine.u.pass) os (calls_in t p) mine.more mine.v (is_reaped mine.v.pass && not (is_reaped mine.u.pass))
+    so = played_so mine.u.pass mine.u.die refl mine.works

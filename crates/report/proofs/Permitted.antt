@@ -1,0 +1,106 @@
+-- What a mutex permits its only caller, and what it answers.
+use Rattle.std.proofs.Common.{◌≡◌, ◌≢◌, ℕ, ◌==◌, Bool, true, false, nat_le, Option, Some, None, refl, sym, ap, ◌∙◌, eq-eqb, ne_eqb}
+use Rattle.std.specs.Prelude.{if◌then◌else◌, ◌||◌}
+use Rattle.lockword.specs.declared.reply.Reply.{Reply}
+use Rattle.lockword.specs.declared.reply.Reply.TheVariants.{OK, EPERM, EBUSY, EINVAL, EDEADLK, EOWNERDEAD, ENOTRECOVERABLE, XRACED, XHELD, XFULL, XSTATE}
+use Rattle.keys.specs.declared.object.Object.{Object}
+use Rattle.keys.specs.declared.point.Operation.{Operation}
+use Rattle.keys.specs.declared.point.Operation.TheVariants.{Lock, TryLock, Unlock, Consistent, Wait, Signal, Broadcast, Death}
+use Rattle.keys.specs.Objects.{held_limit, acquires, freed, owned_by, Permits}
+use Rattle.report.specs.Lone.{answer, by_owner, taken, taking, IsAnswer}
+
+-- ---- whose it is
+
+mine_is : {A : Type 0} (t : ℕ) (a b c : A) → by_owner t (Some t) a b c ≡ b
+mine_is t a b c = ap (λ (z : Bool). if z then b else c) (eq-eqb t t refl)
+
+its_mine : {A : Type 0} (t : ℕ) (w : Option ℕ) (a b c : A) → w ≡ Some t → by_owner t w a b c ≡ b
+its_mine t w a b c own = ap (λ (z : Option ℕ). by_owner t z a b c) own ∙ mine_is t a b c
+
+not_mine : {A : Type 0} (t : ℕ) (w : Option ℕ) (a b : A) → w ≢ Some t → by_owner t w a b a ≡ a
+not_mine t None a b other = refl
+not_mine t (Some u) a b other = ap (λ (z : Bool). if z then b else a) (ne_eqb u t (λ e. other (ap Some e)))
+
+some_ones : {A : Type 0} (t : ℕ) (w : Option ℕ) (a b : A) → w ≢ None → by_owner t w a b b ≡ b
+some_ones t None a b owned = absurd (owned refl)
+some_ones t (Some u) a b owned = go (u == t) where
+  go : (z : Bool) → (if z then b else b) ≡ b
+  go true = refl
+  go false = refl
+
+-- an unusable mutex has no owner
+usable : (u : Bool) (w : Option ℕ) → (u ≡ true → w ≡ None) → w ≢ None → u ≡ false
+usable true w sound owned = absurd (owned (sound refl))
+usable false w sound owned = refl
+
+owned_is : (t : ℕ) (w : Option ℕ) → w ≡ Some t → w ≢ None
+owned_is t w own none = cc (own, none)
+
+-- ---- locks
+
+free_taking : (t : ℕ) (f u : Bool) (w : Option ℕ) (i j : Bool) (mine anothers : Option Reply) → f ≡ false → u ≡ false → w ≡ None → i ≡ j → taking t f u w i mine anothers ≡ Some (taken j)
+free_taking t f u w i j mine anothers low fine none is = (λ z. taking t (low z) (fine z) (none z) (is z) mine anothers)
+
+spoiled_taking : (t : ℕ) (f u : Bool) (w : Option ℕ) (i : Bool) (mine anothers : Option Reply) → f ≡ false → u ≡ true → taking t f u w i mine anothers ≡ Some ENOTRECOVERABLE
+spoiled_taking t f u w i mine anothers low spoiled = (λ z. taking t (low z) (spoiled z) w i mine anothers)
+
+owned_taking : (t : ℕ) (f u : Bool) (w : Option ℕ) (i : Bool) (mine anothers x : Option Reply) → f ≡ false → u ≡ false → by_owner t w (Some (taken i)) mine anothers ≡ x → taking t f u w i mine anothers ≡ x
+owned_taking t f u w i mine anothers x low fine is = (λ z. taking t (low z) (fine z) w i mine anothers) ∙ is
+
+pub full_taking : (t : ℕ) (f u : Bool) (w : Option ℕ) (i : Bool) (mine anothers : Option Reply) → f ≡ true → taking t f u w i mine anothers ≡ Some XHELD
+full_taking t f u w i mine anothers full = (λ z. taking t (full z) u w i mine anothers)
+
+-- ---- any operation
+
+-- what the mutex permits is the answer
+pub permits_answer : (h t : ℕ) (o n : Object) (op : Operation) (r : Reply) → (acquires op ≡ true → nat_le held_limit h ≡ false) → (o.unusable ≡ true → o.owner ≡ None) → op ≢ Death → Permits o t op r n → IsAnswer h t op o r
+permits_answer h t o n Lock OK low sound alive p = free_taking t _ o.unusable o.owner o.inconsistent false (Some EDEADLK) None (low refl) p.0 p.1 p.2
+permits_answer h t o n Lock EOWNERDEAD low sound alive p = free_taking t _ o.unusable o.owner o.inconsistent true (Some EDEADLK) None (low refl) p.0 p.1 p.2
+permits_answer h t o n Lock ENOTRECOVERABLE low sound alive p = spoiled_taking t _ o.unusable o.owner o.inconsistent (Some EDEADLK) None (low refl) p.0
+permits_answer h t o n Lock EDEADLK low sound alive p = owned_taking t _ o.unusable o.owner o.inconsistent (Some EDEADLK) None (Some EDEADLK) (low refl) (usable o.unusable o.owner sound (owned_is t o.owner p.0)) (its_mine t o.owner (Some (taken o.inconsistent)) (Some EDEADLK) None p.0)
+permits_answer h t o n TryLock OK low sound alive p = free_taking t _ o.unusable o.owner o.inconsistent false (Some EBUSY) (Some EBUSY) (low refl) p.0 p.1 p.2
+permits_answer h t o n TryLock EOWNERDEAD low sound alive p = free_taking t _ o.unusable o.owner o.inconsistent true (Some EBUSY) (Some EBUSY) (low refl) p.0 p.1 p.2
+permits_answer h t o n TryLock ENOTRECOVERABLE low sound alive p = spoiled_taking t _ o.unusable o.owner o.inconsistent (Some EBUSY) (Some EBUSY) (low refl) p.0
+permits_answer h t o n TryLock EBUSY low sound alive p = owned_taking t _ o.unusable o.owner o.inconsistent (Some EBUSY) (Some EBUSY) (Some EBUSY) (low refl) (usable o.unusable o.owner sound p.0) (some_ones t o.owner (Some (taken o.inconsistent)) (Some EBUSY) p.0)
+permits_answer h t o n TryLock XRACED low sound alive p = free_taking t _ o.unusable o.owner o.inconsistent o.inconsistent (Some EBUSY) (Some EBUSY) (low refl) p.0 p.1 refl
+permits_answer h t o n Unlock OK low sound alive p = its_mine t o.owner (Some EPERM) (Some OK) (Some EPERM) p.0
+permits_answer h t o n Unlock EPERM low sound alive p = not_mine t o.owner (Some EPERM) (Some OK) p.0
+permits_answer h t o n Consistent OK low sound alive p = its_mine t o.owner (Some EPERM) _ (Some EPERM) p.0 ∙ ap (λ (b : Bool). Some (if b then OK else EINVAL)) p.1
+permits_answer h t o n Consistent EINVAL low sound alive p = its_mine t o.owner (Some EPERM) _ (Some EPERM) p.0 ∙ ap (λ (b : Bool). Some (if b then OK else EINVAL)) p.1
+permits_answer h t o n Consistent EPERM low sound alive p = not_mine t o.owner (Some EPERM) _ p.0
+permits_answer h t o n Wait XSTATE low sound alive p = its_mine t o.owner (Some EPERM) _ (Some EPERM) p.0 ∙ ap (λ (b : Bool). Some (if b then XSTATE else OK)) p.1
+permits_answer h t o n Wait EPERM low sound alive p = not_mine t o.owner (Some EPERM) _ p.0
+permits_answer h t o n Signal OK low sound alive p = its_mine t o.owner (Some EPERM) (Some OK) (Some EPERM) p.0
+permits_answer h t o n Signal XFULL low sound alive p = its_mine t o.owner (Some EPERM) (Some OK) (Some EPERM) p.0
+permits_answer h t o n Signal EPERM low sound alive p = not_mine t o.owner (Some EPERM) (Some OK) p.0
+permits_answer h t o n Broadcast OK low sound alive p = its_mine t o.owner (Some EPERM) (Some OK) (Some EPERM) p.0
+permits_answer h t o n Broadcast XFULL low sound alive p = its_mine t o.owner (Some EPERM) (Some OK) (Some EPERM) p.0
+permits_answer h t o n Broadcast EPERM low sound alive p = not_mine t o.owner (Some EPERM) (Some OK) p.0
+permits_answer h t o n Death OK low sound alive p = absurd (alive refl)
+permits_answer h t o n op r low sound alive p = absurd p
+
+-- ---- a wait that took its mutex again
+
+usable_then : (a b : Bool) → (a || b) ≡ false → (a ≡ false) × (b ≡ false)
+usable_then false false e = (refl, refl)
+usable_then false true e = absurd (cc e)
+usable_then true b e = absurd (cc e)
+
+-- it is answered OK, and the mutex is as it was
+pub waited_answer : (h t : ℕ) (o m n : Object) (r : Reply) → Permits o t Unlock OK m → m.unusable ≡ false → Permits m t Lock r n → (answer h t Wait o ≡ Some r) × (n ≡ o)
+waited_answer h t o m n r unlocked fine locked = (its_mine t o.owner (Some EPERM) _ (Some EPERM) unlocked.0 ∙ ap (λ (b : Bool). Some (if b then XSTATE else OK)) both.0 ∙ ap Some (sym took.0), took.1) where
+  both : (o.inconsistent ≡ false) × (o.unusable ≡ false)
+  both = usable_then o.inconsistent o.unusable (sym (ap (λ (z : Object). z.unusable) unlocked.1) ∙ fine)
+
+  again : owned_by (freed o) t ≡ o
+  again = (λ i. record { owner = sym unlocked.0 i; inconsistent = sym both.0 i; unusable = (ap (λ (b : Bool). b || o.unusable) both.0) i })
+
+  go : (x : Reply) → Permits m t Lock x n → (x ≡ OK) × (n ≡ o)
+  go OK p = (refl, p.3 ∙ ap (λ (z : Object). owned_by z t) unlocked.1 ∙ again)
+  go EOWNERDEAD p = absurd (let e : false ≡ true = sym (ap (λ (z : Object). z.inconsistent) unlocked.1) ∙ p.2 in cc e)
+  go ENOTRECOVERABLE p = absurd (let e : false ≡ true = sym fine ∙ p.0 in cc e)
+  go EDEADLK p = absurd (let e : None ≡ Some t = sym (ap (λ (z : Object). z.owner) unlocked.1) ∙ p.0 in cc e)
+  go x p = absurd p
+
+  took : (r ≡ OK) × (n ≡ o)
+  took = go r locked
