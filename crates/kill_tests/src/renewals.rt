@@ -27,7 +27,7 @@ fn is_told<R: Wait>(
     if told == reply { Some(pass) } else { None }
 }
 
-/// Is killed, dies in its next call, is reaped and lives anew. None where it doesn't die.
+/// Is killed, dies in its next call, is reaped, killed again and lives anew. None where it doesn't die.
 fn begins_anew<R: Wait>(rt: &R, bench: &Bench, pass: Pass<Live>, thread: u8) -> Option<Pass<Live>>
     requires { IsLive bench.now pass }
     ensures { IfSome result (λ p. IsLive bench.now p) }
@@ -37,7 +37,14 @@ fn begins_anew<R: Wait>(rt: &R, bench: &Bench, pass: Pass<Live>, thread: u8) -> 
     }
     match bench.lock(rt, pass, 1, &mut Never) {
         Outcome::Lives(_, _) => None,
-        Outcome::Dead(dead) => Some(bench.renew(rt, bench.exit(rt, dead))),
+        Outcome::Dead(dead) => {
+            let reaped = bench.exit(rt, dead);
+            // killed once more, before its id is used again
+            if bench.kill(rt, thread) != Ok(()) {
+                return None;
+            }
+            Some(bench.renew(rt, reaped))
+        }
     }
 }
 

@@ -20,7 +20,7 @@ use Rattle.ruledwords.specs.declared.pass.Words.{Words}
 use Rattle.ruledwords.specs.declared.away.Away.{Away}
 use Rattle.ruledwords.specs.Aways.{away_of, kind_of, AreTheirs, IsAt}
 use Rattle.ruledwords.specs.Cards.{at}
-use Rattle.ruledwords.specs.Changes.{changes_at, AllTied, Tied}
+use Rattle.ruledwords.specs.Changes.{changes_at, AllTied, AreBehindFirst, Tied}
 use Rattle.mutex.specs.WholeLists.{HasList, CanBeWalked, IsOwnPlace}
 use Rattle.ruledwords.specs.Lists.{known, StaysSo}
 use Rattle.ruledwords.specs.Meetings.{behind_meeting, card_in, is_first, met_all, ComesToKnow, HaveMet, IsEitherOf, KnowAll}
@@ -50,16 +50,17 @@ cards_known : (t : ℕ) (js : List (List Point)) (zs : List (List Change)) (cs :
 cards_known t js zs [] = refl
 cards_known t js zs (c ∷ cs) = ap (λ (n : ℕ). (if c.thread == t then 1 else 0) + n) (cards_known t js zs cs)
 
-all_come : (k : Layout') (ws : List ℕ) (js : List (List Point)) (zs : List (List Change)) (cs : List Card) → ((p : ℕ) → (o : Object) × Leaves k.threads p (at js p) o) → AllFit k ws js cs → AllTied zs cs
+all_come : (k : Layout') (ws : List ℕ) (js : List (List Point)) (zs : List (List Change)) (cs : List Card) → ((p : ℕ) → (o : Object) × Leaves k.threads p (at js p) o) → ((p : ℕ) → AreBehindFirst k.threads (changes_at zs p)) → AllFit k ws js cs → AllTied zs cs
     → (i : ℕ) (d : Card) → i < length cs → ComesToKnow js zs (get_or cs i d)
-all_come k ws js zs [] legal f z i d low = absurd (omega arith)
-all_come k ws js zs (c ∷ cs) legal f z zero d low = record {
+all_come k ws js zs [] legal authors f z i d low = absurd (omega arith)
+all_come k ws js zs (c ∷ cs) legal authors f z zero d low = record {
   legal = λ p. let l = legal p in (l.0, subst (λ (n : ℕ). Leaves n p (at js p) l.0) (sym f.0.threads) l.1);
   begins = f.0.begins;
   own = λ p. sym (f.0.own p);
   tied = z.0;
+  authors = λ p. subst (λ (n : ℕ). AreBehindFirst n (changes_at zs p)) (sym f.0.threads) (authors p);
 }
-all_come k ws js zs (c ∷ cs) legal f z (suc i) d low = all_come k ws js zs cs legal f.1 z.1 i d (omega arith)
+all_come k ws js zs (c ∷ cs) legal authors f z (suc i) d low = all_come k ws js zs cs legal authors f.1 z.1 i d (omega arith)
 
 -- cards of one seat that looks see all that has happened
 pub meets_all : {o : List ℕ} (k : Layout') (slots id i : ℕ) (cs : List Card) → Allows (Kept k o) slots id (cs, []) i (λ n. n) (met_all (step slots i 0 0 none) (cs, []))
@@ -92,7 +93,7 @@ meets_all {o} k slots id i cs s h deep is small =
         ds,
         refl,
         subst (λ (z : List Card). KnowAll z ds) (ap (λ (m : List Card × List (ℕ × Unit {0})). m.0) e)
-            record { seen = js; changes = zs; each = all_come k s.words js zs cs h.legal f (h.recorded.tied id cs is); after = refl },
+            record { seen = js; changes = zs; each = all_come k s.words js zs cs h.legal h.recorded.authors f (h.recorded.tied id cs is); after = refl },
       ),
     )
 

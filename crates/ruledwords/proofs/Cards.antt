@@ -16,6 +16,8 @@ use Rattle.ruledwords.specs.declared.pass.Change.{Change}
 use Rattle.ruledwords.specs.Calls.{acts, IsOnMutex}
 use Rattle.ruledwords.specs.Looks.{noted, KnowsTheSame}
 use Rattle.ruledwords.specs.Cards.{at}
+use Rattle.ruledwords.specs.Changes.{KnowsOn}
+use Rattle.ruledwords.proofs.Changes.{knows_on_self, knows_on_then}
 use Rattle.ruledwords.specs.Passes.{IsCardOf}
 use Rattle.ruledwords.specs.Rules.{first_card}
 use Rattle.ruledwords.specs.Seen.{by, points_of, EndsWith, Saw, Called, Died, Leaves, Sees, Joined}
@@ -72,13 +74,13 @@ acts_told t p op (Some x) = refl
 
 pub saw_nothing : (c : Card) (p : ℕ) → Called c p [] c
 saw_nothing c p = record {
-  saw = record { thread = refl; threads = refl; base = refl; elsewhere = λ q other. refl; since = []; grows = sym (append-nil _); own = sym (append-nil _) };
+  saw = record { thread = refl; threads = refl; base = refl; elsewhere = λ q other. refl; since = []; grows = sym (append-nil _); own = sym (append-nil _); knows = knows_on_self c };
   last = tt;
 }
 
 -- an undecided call after a step, which may be its point
-pub saw_more : (c : Card) (p : ℕ) (d : Card) (op : Operation) (r : Option Reply) (o : Object) (e : Card) → Called c p [] d → Sees d p (told d.thread p op r) o e → Called c p (acts op r) e
-saw_more c p d op r o e called sees = record {
+pub saw_more : (c : Card) (p : ℕ) (d : Card) (op : Operation) (r : Option Reply) (o : Object) (e : Card) → Called c p [] d → Sees d p (told d.thread p op r) o e → KnowsOn d e → Called c p (acts op r) e
+saw_more c p d op r o e called sees more = record {
   saw = record {
     thread = sees.thread ∙ was.thread;
     threads = sees.threads ∙ was.threads;
@@ -87,6 +89,7 @@ saw_more c p d op r o e called sees = record {
     since = was.since ++ (sees.between ++ told d.thread p op r);
     grows = sees.grows ∙ append_assoc (at d.seen p) sees.between (told d.thread p op r) ∙ ap (λ l. l ++ (sees.between ++ told d.thread p op r)) was.grows ∙ append_assoc (at c.seen p) was.since (sees.between ++ told d.thread p op r);
     own = subst (λ (t : ℕ). by t (at e.seen p) ≡ by t (at d.seen p) ++ told t p op r) was.thread sees.own ∙ ap (λ l. l ++ told c.thread p op r) (was.own ∙ append-nil _) ∙ ap (λ l. by c.thread (at c.seen p) ++ l) (sym (acts_told c.thread p op r));
+    knows = knows_on_then c d e was.knows more;
   };
   last = go r sees.grows;
 } where

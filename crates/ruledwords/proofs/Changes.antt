@@ -11,7 +11,7 @@ use Rattle.atomic_table.proofs.Lists.{at_set, at_snoc}
 use Rattle.keys.specs.Layouts.{Layout', cell_place, counter_place}
 use Rattle.ruledwords.specs.declared.pass.Card.{Card}
 use Rattle.ruledwords.specs.declared.pass.Change.{Change}
-use Rattle.ruledwords.specs.Changes.{changes_at, put_changes, made_by, made_by_others, left_by, left_of, change_of, first_changes, AllTied, ChangedNothing, ChangedOnce, KnowsMoreAt, Loaded, OthersChanged, Recorded, Tied, Writes}
+use Rattle.ruledwords.specs.Changes.{changes_at, put_changes, made_by, made_by_others, left_by, left_of, change_of, first_changes, AllTied, AreBehindFirst, AreBy, ChangedNothing, ChangedOnce, KnowsMoreAt, KnowsOn, Loaded, OthersChanged, Recorded, Tied, Writes}
 use Rattle.ruledwords.specs.Rules.{cards_of, all_cards_of}
 use Rattle.ruledwords.proofs.Lists.{all_two, counted}
 
@@ -64,6 +64,54 @@ left_changed t n v = go (v == n) refl
 grown : (xs ys zs : List Change) → IsPrefix xs ys → IsPrefix xs (ys ++ zs)
 grown xs ys zs p = (p.0 ++ zs, sym (append_assoc xs p.0 zs) ∙ ap (λ (l : List Change). l ++ zs) p.1)
 
+-- ---- who made them
+
+authored_more : (n t a v : ℕ) (xs : List Change) → 1 ≤ t → t ≤ n → AreBehindFirst n xs → AreBehindFirst n (xs ++ change_of t a v)
+authored_more n t a v [] pos most are = go (v == a) where
+  go : (b : Bool) → AreBehindFirst n (if b then [] else record { thread = t; word = v } ∷ [])
+  go true = tt
+  go false = tt
+authored_more n t a v (x ∷ xs) pos most are = rest xs are where
+  one : (b : Bool) → AreBy n (if b then [] else record { thread = t; word = v } ∷ [])
+  one true = tt
+  one false = ((pos, most), tt)
+
+  rest : (ys : List Change) → AreBy n ys → AreBy n (ys ++ change_of t a v)
+  rest [] are = one (v == a)
+  rest (y ∷ ys) are = (are.0, rest ys are.1)
+
+authored_first : (n : ℕ) (ws : List ℕ) (p : ℕ) → AreBehindFirst n (changes_at (first_changes ws) p)
+authored_first n [] p = tt
+authored_first n (w ∷ ws) zero = tt
+authored_first n (w ∷ ws) (suc p) = authored_first n ws p
+
+-- of a word as it was given only that is known
+pub authors_first : (k : Layout') (ws : List ℕ) (p : ℕ) → AreBehindFirst k.threads (changes_at (first_changes ws) p)
+authors_first k ws p = authored_first k.threads ws p
+
+-- ---- what is known goes on
+
+pub knows_on_self : (c : Card) → KnowsOn c c
+knows_on_self c p = ([], append-nil (changes_at c.changes p))
+
+pub knows_on_same : (c d : Card) → d.changes ≡ c.changes → KnowsOn c d
+knows_on_same c d same p = ([], append-nil (changes_at c.changes p) ∙ ap (λ (l : List (List Change)). changes_at l p) (sym same))
+
+pub knows_on_then : (c d e : Card) → KnowsOn c d → KnowsOn d e → KnowsOn c e
+knows_on_then c d e first more p = ((first p).0 ++ (more p).0, sym (append_assoc (changes_at c.changes p) (first p).0 (more p).0) ∙ ap (λ (l : List Change). l ++ (more p).0) (first p).1 ∙ (more p).1)
+
+-- by an access
+pub knows_on_by : (c d : Card) (p n v : ℕ) → Writes c p n v d → KnowsOn c d
+knows_on_by c d p n v w q = dite (ℕ_discrete q p)
+    (λ here. subst (λ (z : ℕ). IsPrefix (changes_at c.changes z) (changes_at d.changes z)) (sym here) (w.since ++ change_of c.thread n v, sym (append_assoc (changes_at c.changes p) w.since (change_of c.thread n v)) ∙ sym w.grows))
+    (λ other. ([], append-nil (changes_at c.changes q) ∙ sym (w.elsewhere q other)))
+
+-- and as far as is known of one word
+pub knows_on_at : (c d : Card) (p : ℕ) → KnowsMoreAt c p d → KnowsOn c d
+knows_on_at c d p more q = dite (ℕ_discrete q p)
+    (λ here. subst (λ (z : ℕ). IsPrefix (changes_at c.changes z) (changes_at d.changes z)) (sym here) more.here)
+    (λ other. ([], append-nil (changes_at c.changes q) ∙ sym (more.elsewhere q other)))
+
 -- ---- a change
 
 tied_own : (xs ys : List (List Change)) (t p : ℕ) (zs : List Change) → Tied xs t ys → Tied (put_changes xs p zs) t (put_changes ys p zs)
@@ -100,10 +148,10 @@ left_now ws xs t p v within had q was =
     (λ other. ap left_by (changes_put_else xs p q zs other) ∙ was ∙ sym (get_or-set_other ws p q v 0 other))
 
 -- the thread of the card c found n in the word at p, of which the changes are recorded, and left v
-pub recorded_change : (k : Layout') (ws : List ℕ) (vs : List (List Card)) (r : Recorded k ws vs) (id : ℕ) (c d : Card) (p v : ℕ) → get_elem? vs id ≡ some (c ∷ []) → p < length ws → ((t : ℕ) → all_cards_of t vs ≤ 1)
+pub recorded_change : (k : Layout') (ws : List ℕ) (vs : List (List Card)) (r : Recorded k ws vs) (id : ℕ) (c d : Card) (p v : ℕ) → (1 ≤ c.thread) × (c.thread ≤ k.threads) → get_elem? vs id ≡ some (c ∷ []) → p < length ws → ((t : ℕ) → all_cards_of t vs ≤ 1)
     → d.thread ≡ c.thread → d.changes ≡ put_changes c.changes p (changes_at r.changes p ++ change_of c.thread (get_or ws p 0) v) → left_by (changes_at r.changes p) ≡ get_or ws p 0
     → Recorded k (set ws p v) (set vs id (d ∷ []))
-recorded_change k ws vs r id c d p v is within once same grows had =
+recorded_change k ws vs r id c d p v whose is within once same grows had =
     let n : ℕ = get_or ws p 0 in
     let zs : List Change = changes_at r.changes p ++ change_of c.thread n v in
     let mine : Tied (put_changes r.changes p zs) d.thread d.changes = subst (λ (z : ℕ × List (List Change)). Tied (put_changes r.changes p zs) z.0 z.1) (λ i. (sym same i, sym grows i)) (tied_own r.changes c.changes c.thread p zs (r.tied id (c ∷ []) is).0) in
@@ -111,6 +159,9 @@ recorded_change k ws vs r id c d p v is within once same grows had =
       changes = put_changes r.changes p zs;
       leave = λ l lower. left_now ws r.changes c.thread p v within had (cell_place k l) (r.leave l lower);
       count = λ q lower. left_now ws r.changes c.thread p v within had (counter_place k q) (r.count q lower);
+      authors = λ q. dite (ℕ_discrete q p)
+          (λ here. subst (λ (z : ℕ). AreBehindFirst k.threads (changes_at (put_changes r.changes p zs) z)) (sym here) (subst (AreBehindFirst k.threads) (sym (changes_put r.changes p zs)) (authored_more k.threads c.thread n v (changes_at r.changes p) whose.0 whose.1 (r.authors p))))
+          (λ other. subst (AreBehindFirst k.threads) (sym (changes_put_else r.changes p q zs other)) (r.authors q));
       tied = λ j w e. ⊎_elim
           (λ (t : (j ≡ id) × (d ∷ [] ≡ w)). subst (AllTied (put_changes r.changes p zs)) t.1 (mine, tt))
           (λ (t : (j ≢ id) × (get_elem? vs j ≡ some w)).
@@ -125,7 +176,7 @@ recorded_change k ws vs r id c d p v is within once same grows had =
 
 pub recorded_words : (k : Layout') (ws ws' : List ℕ) (vs : List (List Card)) → ((m : ℕ) → m < k.mutexes → get_or ws' (cell_place k m) 0 ≡ get_or ws (cell_place k m) 0)
     → ((q : ℕ) → q < length k.conditions → get_or ws' (counter_place k q) 0 ≡ get_or ws (counter_place k q) 0) → Recorded k ws vs → Recorded k ws' vs
-recorded_words k ws ws' vs same as_well r = record { changes = r.changes; leave = λ m low. r.leave m low ∙ sym (same m low); count = λ q low. r.count q low ∙ sym (as_well q low); tied = r.tied }
+recorded_words k ws ws' vs same as_well r = record { changes = r.changes; leave = λ m low. r.leave m low ∙ sym (same m low); count = λ q low. r.count q low ∙ sym (as_well q low); authors = r.authors; tied = r.tied }
 
 -- one seat's cards know of the changes what they knew
 pub recorded_set : (k : Layout') (ws : List ℕ) (vs : List (List Card)) (id : ℕ) (v w : List Card) → get_elem? vs id ≡ some v → (r : Recorded k ws vs) → (AllTied r.changes v → AllTied r.changes w) → Recorded k ws (set vs id w)
@@ -133,6 +184,7 @@ recorded_set k ws vs id v w is r so = record {
   changes = r.changes;
   leave = r.leave;
   count = r.count;
+  authors = r.authors;
   tied = λ j u e. ⊎_elim
       (λ (t : (j ≡ id) × (w ≡ u)). subst (AllTied r.changes) t.1 (so (r.tied id v is)))
       (λ (t : (j ≢ id) × (get_elem? vs j ≡ some u)). r.tied j u t.1)
@@ -145,6 +197,7 @@ recorded_dealt k ws vs id v w u is so r = record {
   changes = r.changes;
   leave = r.leave;
   count = r.count;
+  authors = r.authors;
   tied = λ j x e. ⊎_elim
       (λ (was : get_elem? (set vs id w) j ≡ some x). ⊎_elim
       (λ (t : (j ≡ id) × (w ≡ x)). subst (AllTied r.changes) t.1 (so r.changes (r.tied id v is)).0)

@@ -43,7 +43,7 @@ use Rattle.robustlist.specs.Words.{answer_on}
 use Rattle.facts.specs.Lives.{Beginning}
 use Rattle.ruledwords.specs.Calls.{row_in, Made, Ready}
 use Rattle.ruledwords.specs.Cards.{at, value_at, mark_at}
-use Rattle.ruledwords.specs.Changes.{Loaded}
+use Rattle.ruledwords.specs.Changes.{KnowsOn, Loaded}
 use Rattle.ruledwords.specs.ConditionCalls.{CondFound, IsCondAnswerOf, IsCondStep, IsInCondCall}
 use Rattle.ruledwords.specs.Conditions.{cond_row_in, cond_standing, having_set, release_of, CondReady, Counts, IsAtCondition, Meets}
 use Rattle.ruledwords.specs.ConditionStands.{cond_reply, cond_acts, CondEnded, CondStands, LeftUsable, LoadedBehind, LoadsBehind, SetsWaiters}
@@ -52,7 +52,7 @@ use Rattle.ruledwords.specs.Lists.{known}
 use Rattle.ruledwords.specs.OwnWords.{own_after, owns_in}
 use Rattle.ruledwords.specs.Seen.{held_after, holds, Called, Sees}
 use Rattle.ruledwords.proofs.Cards.{saw_more}
-use Rattle.ruledwords.proofs.Changes.{loaded_now, loaded_still, nothing_still}
+use Rattle.ruledwords.proofs.Changes.{knows_on_by, loaded_now, loaded_still, nothing_still}
 use Rattle.ruledwords.proofs.ConditionActs.{q, m, unlink_no_section, whole}
 use Rattle.ruledwords.proofs.Keepers.{counter_no_cell}
 use Rattle.ruledwords.proofs.Lists.{mark_put}
@@ -108,9 +108,9 @@ module _ (k : Layout') (he en ce co t : ℕ) where
         seen b e bs es = subst (λ (u : Bool × Bool). Sees c z (points (point_of c.thread z (if not u.0 then ends operation.Wait EPERM else if u.1 then ends operation.Wait XSTATE else goes (cond.Wait wait.LoadCounter)).decided)) (object_of (fields_of n)) d) (λ i. (bs i, es i)) found.sees
 
         go : (b : Bool) → ((fields_of n).owner == t) ≡ b → (e : Bool) → (fields_of n).died ≡ e → Outcome operation.Wait c0 d (from_words (stage (condition.AtWords (cond.Wait wait.LoadCell))) (if not b then ends operation.Wait EPERM else if e then ends operation.Wait XSTATE else goes (cond.Wait wait.LoadCounter)))
-        go false bs e es = ended operation.Wait c0 d EPERM _ record { called = saw_more c0 z c operation.Wait (Some EPERM) _ d s.called (seen false e bs es); reply = sym (ap (λ (b : Bool). if b then XSTATE else EPERM) (own ∙ bs)); counts = tt; waiters = tt }
-        go true bs true es = ended operation.Wait c0 d XSTATE _ record { called = saw_more c0 z c operation.Wait (Some XSTATE) _ d s.called (seen true true bs es); reply = sym (ap (λ (b : Bool). if b then XSTATE else EPERM) (own ∙ bs)); counts = tt; waiters = tt }
-        go true bs false es = went operation.Wait c0 d (condition.AtWords (cond.Wait wait.LoadCounter)) None tt record { of = refl; called = saw_more c0 z c operation.Wait None _ d s.called (seen true false bs es); owns = own ∙ bs; counts = tt; waiters = tt; usable = tt; loads = nothing_still c0 c d a (found.writes.elsewhere a apart) s.loads }
+        go false bs e es = ended operation.Wait c0 d EPERM _ record { called = saw_more c0 z c operation.Wait (Some EPERM) _ d s.called (seen false e bs es) (knows_on_by c d _ _ _ found.writes); reply = sym (ap (λ (b : Bool). if b then XSTATE else EPERM) (own ∙ bs)); counts = tt; waiters = tt }
+        go true bs true es = ended operation.Wait c0 d XSTATE _ record { called = saw_more c0 z c operation.Wait (Some XSTATE) _ d s.called (seen true true bs es) (knows_on_by c d _ _ _ found.writes); reply = sym (ap (λ (b : Bool). if b then XSTATE else EPERM) (own ∙ bs)); counts = tt; waiters = tt }
+        go true bs false es = went operation.Wait c0 d (condition.AtWords (cond.Wait wait.LoadCounter)) None tt record { of = refl; called = saw_more c0 z c operation.Wait None _ d s.called (seen true false bs es) (knows_on_by c d _ _ _ found.writes); owns = own ∙ bs; counts = tt; waiters = tt; usable = tt; loads = nothing_still c0 c d a (found.writes.elsewhere a apart) s.loads }
 
     signal_stands : (n : ℕ) (d : Card) → Stands operation.Signal c0 (cond.Signal signal.LoadCell) c → Meets k (q k he en ce co t) (cond_standing (stage (condition.AtWords (cond.Signal signal.LoadCell)))) c n d → Outcome operation.Signal c0 d (cond_led (stage (condition.AtWords (cond.Signal signal.LoadCell))) (Value n))
     signal_stands n d s found = go ((fields_of n).owner == t) refl
@@ -122,8 +122,8 @@ module _ (k : Layout') (he en ce co t : ℕ) where
         seen b bs = subst (λ (u : Bool). Sees c z (points (point_of c.thread z (if not u then ends operation.Signal EPERM else goes (cond.Signal signal.LoadCounter)).decided)) (object_of (fields_of n)) d) bs found.sees
 
         go : (b : Bool) → ((fields_of n).owner == t) ≡ b → Outcome operation.Signal c0 d (from_words (stage (condition.AtWords (cond.Signal signal.LoadCell))) (if not b then ends operation.Signal EPERM else goes (cond.Signal signal.LoadCounter)))
-        go false bs = ended operation.Signal c0 d EPERM _ record { called = saw_more c0 z c operation.Signal (Some EPERM) _ d s.called (seen false bs); reply = sym (ap (λ (b : Bool). if b then (if d.counted == largest_counter then XFULL else OK) else EPERM) (own ∙ bs)); counts = tt; waiters = tt }
-        go true bs = went operation.Signal c0 d (condition.AtWords (cond.Signal signal.LoadCounter)) None tt record { of = refl; called = saw_more c0 z c operation.Signal None _ d s.called (seen true bs); owns = own ∙ bs; counts = tt; waiters = tt; usable = tt; loads = tt }
+        go false bs = ended operation.Signal c0 d EPERM _ record { called = saw_more c0 z c operation.Signal (Some EPERM) _ d s.called (seen false bs) (knows_on_by c d _ _ _ found.writes); reply = sym (ap (λ (b : Bool). if b then (if d.counted == largest_counter then XFULL else OK) else EPERM) (own ∙ bs)); counts = tt; waiters = tt }
+        go true bs = went operation.Signal c0 d (condition.AtWords (cond.Signal signal.LoadCounter)) None tt record { of = refl; called = saw_more c0 z c operation.Signal None _ d s.called (seen true bs) (knows_on_by c d _ _ _ found.writes); owns = own ∙ bs; counts = tt; waiters = tt; usable = tt; loads = tt }
 
     broadcast_stands : (n : ℕ) (d : Card) → Stands operation.Broadcast c0 (cond.Broadcast broadcast.LoadCell) c → Meets k (q k he en ce co t) (cond_standing (stage (condition.AtWords (cond.Broadcast broadcast.LoadCell)))) c n d
         → Outcome operation.Broadcast c0 d (cond_led (stage (condition.AtWords (cond.Broadcast broadcast.LoadCell))) (Value n))
@@ -136,15 +136,15 @@ module _ (k : Layout') (he en ce co t : ℕ) where
         seen b bs = subst (λ (u : Bool). Sees c z (points (point_of c.thread z (if not u then ends operation.Broadcast EPERM else goes (cond.Broadcast broadcast.LoadCounter)).decided)) (object_of (fields_of n)) d) bs found.sees
 
         go : (b : Bool) → ((fields_of n).owner == t) ≡ b → Outcome operation.Broadcast c0 d (from_words (stage (condition.AtWords (cond.Broadcast broadcast.LoadCell))) (if not b then ends operation.Broadcast EPERM else goes (cond.Broadcast broadcast.LoadCounter)))
-        go false bs = ended operation.Broadcast c0 d EPERM _ record { called = saw_more c0 z c operation.Broadcast (Some EPERM) _ d s.called (seen false bs); reply = sym (ap (λ (b : Bool). if b then (if d.counted == largest_counter then XFULL else OK) else EPERM) (own ∙ bs)); counts = tt; waiters = tt }
-        go true bs = went operation.Broadcast c0 d (condition.AtWords (cond.Broadcast broadcast.LoadCounter)) None tt record { of = refl; called = saw_more c0 z c operation.Broadcast None _ d s.called (seen true bs); owns = own ∙ bs; counts = tt; waiters = tt; usable = tt; loads = tt }
+        go false bs = ended operation.Broadcast c0 d EPERM _ record { called = saw_more c0 z c operation.Broadcast (Some EPERM) _ d s.called (seen false bs) (knows_on_by c d _ _ _ found.writes); reply = sym (ap (λ (b : Bool). if b then (if d.counted == largest_counter then XFULL else OK) else EPERM) (own ∙ bs)); counts = tt; waiters = tt }
+        go true bs = went operation.Broadcast c0 d (condition.AtWords (cond.Broadcast broadcast.LoadCounter)) None tt record { of = refl; called = saw_more c0 z c operation.Broadcast None _ d s.called (seen true bs) (knows_on_by c d _ _ _ found.writes); owns = own ∙ bs; counts = tt; waiters = tt; usable = tt; loads = tt }
 
     -- ---- at the counter
 
     wait_loads : (n : ℕ) (d : Card) → Stands operation.Wait c0 (cond.Wait wait.LoadCounter) c → Counts k (q k he en ce co t) (cond_standing (stage (condition.AtWords (cond.Wait wait.LoadCounter)))) c n d → Outcome operation.Wait c0 d (cond_led (stage (condition.AtWords (cond.Wait wait.LoadCounter))) (Value n))
     wait_loads n d s found = went operation.Wait c0 d (condition.Announcing (n % 2 ^ 32)) None tt record {
       of = refl;
-      called = saw_more c0 z c operation.Wait None _ d s.called found.sees;
+      called = saw_more c0 z c operation.Wait None _ d s.called found.sees (knows_on_by c d _ _ _ found.writes);
       owns = s.owns;
       counts = tt;
       waiters = tt;
@@ -163,9 +163,9 @@ module _ (k : Layout') (he en ce co t : ℕ) where
         seen b bs = subst (λ (u : Bool). Sees c z (points (point_of c.thread z (if u then ends operation.Signal XFULL else goes (cond.Signal signal.Count)).decided)) found.object d) bs found.sees
 
         go : (b : Bool) → (n == full) ≡ b → Outcome operation.Signal c0 d (from_words (stage (condition.AtWords (cond.Signal signal.LoadCounter))) (if b then ends operation.Signal XFULL else goes (cond.Signal signal.Count)))
-        go true bs = ended operation.Signal c0 d XFULL _ record { called = saw_more c0 z c operation.Signal (Some XFULL) _ d s.called (seen true bs); reply = full_reply n d found.counted s.owns true bs; counts = found.value ∙ ap Some (sym found.counted); waiters = tt }
+        go true bs = ended operation.Signal c0 d XFULL _ record { called = saw_more c0 z c operation.Signal (Some XFULL) _ d s.called (seen true bs) (knows_on_by c d _ _ _ found.writes); reply = full_reply n d found.counted s.owns true bs; counts = found.value ∙ ap Some (sym found.counted); waiters = tt }
         go false bs = went operation.Signal c0 d (condition.AtWords (cond.Signal signal.Count)) None tt
-            record { of = refl; called = saw_more c0 z c operation.Signal None _ d s.called (seen false bs); owns = s.owns; counts = ((λ e. eqb-false n full bs (sym found.counted ∙ e)), found.value ∙ ap Some (sym found.counted)); waiters = tt; usable = tt; loads = tt }
+            record { of = refl; called = saw_more c0 z c operation.Signal None _ d s.called (seen false bs) (knows_on_by c d _ _ _ found.writes); owns = s.owns; counts = ((λ e. eqb-false n full bs (sym found.counted ∙ e)), found.value ∙ ap Some (sym found.counted)); waiters = tt; usable = tt; loads = tt }
 
     broadcast_loads : (n : ℕ) (d : Card) → Stands operation.Broadcast c0 (cond.Broadcast broadcast.LoadCounter) c → Counts k (q k he en ce co t) (cond_standing (stage (condition.AtWords (cond.Broadcast broadcast.LoadCounter)))) c n d
         → Outcome operation.Broadcast c0 d (cond_led (stage (condition.AtWords (cond.Broadcast broadcast.LoadCounter))) (Value n))
@@ -175,9 +175,9 @@ module _ (k : Layout') (he en ce co t : ℕ) where
         seen b bs = subst (λ (u : Bool). Sees c z (points (point_of c.thread z (if u then ends operation.Broadcast XFULL else goes (cond.Broadcast (broadcast.Count (n % 2 ^ 32)))).decided)) found.object d) bs found.sees
 
         go : (b : Bool) → (n == full) ≡ b → Outcome operation.Broadcast c0 d (from_words (stage (condition.AtWords (cond.Broadcast broadcast.LoadCounter))) (if b then ends operation.Broadcast XFULL else goes (cond.Broadcast (broadcast.Count (n % 2 ^ 32)))))
-        go true bs = ended operation.Broadcast c0 d XFULL _ record { called = saw_more c0 z c operation.Broadcast (Some XFULL) _ d s.called (seen true bs); reply = full_reply n d found.counted s.owns true bs; counts = found.value ∙ ap Some (sym found.counted); waiters = tt }
+        go true bs = ended operation.Broadcast c0 d XFULL _ record { called = saw_more c0 z c operation.Broadcast (Some XFULL) _ d s.called (seen true bs) (knows_on_by c d _ _ _ found.writes); reply = full_reply n d found.counted s.owns true bs; counts = found.value ∙ ap Some (sym found.counted); waiters = tt }
         go false bs = went operation.Broadcast c0 d (condition.AtWords (cond.Broadcast (broadcast.Count (n % 2 ^ 32)))) None tt
-            record { of = refl; called = saw_more c0 z c operation.Broadcast None _ d s.called (seen false bs); owns = s.owns; counts = ((λ e. eqb-false n full bs (sym found.counted ∙ e)), found.value ∙ ap Some (sym found.counted)); waiters = tt; usable = tt; loads = tt }
+            record { of = refl; called = saw_more c0 z c operation.Broadcast None _ d s.called (seen false bs) (knows_on_by c d _ _ _ found.writes); owns = s.owns; counts = ((λ e. eqb-false n full bs (sym found.counted ∙ e)), found.value ∙ ap Some (sym found.counted)); waiters = tt; usable = tt; loads = tt }
 
     -- the count, of the counter that was loaded
     counted_on : (n : ℕ) (d : Card) (r : CondRow) (v : ℕ) → n ≡ c.counted → d.counted ≡ n → c.counted ≢ largest_counter → n ≤ largest_counter → v ≡ (n + 1) % 18446744073709551616 → value_at d.values a ≡ Some v → (d.counted ≢ largest_counter) × (value_at d.values a ≡ Some (d.counted + 1))
@@ -186,7 +186,7 @@ module _ (k : Layout') (he en ce co t : ℕ) where
     signal_counts : (n : ℕ) (d : Card) → Stands operation.Signal c0 (cond.Signal signal.Count) c → Counts k (q k he en ce co t) (cond_standing (stage (condition.AtWords (cond.Signal signal.Count)))) c n d → Outcome operation.Signal c0 d (cond_led (stage (condition.AtWords (cond.Signal signal.Count))) (Value n))
     signal_counts n d s found = went operation.Signal c0 d (condition.AtWords (cond.Signal signal.Wake)) _ tt record {
       of = refl;
-      called = saw_more c0 z c operation.Signal (Some OK) _ d s.called found.sees;
+      called = saw_more c0 z c operation.Signal (Some OK) _ d s.called found.sees (knows_on_by c d _ _ _ found.writes);
       owns = s.owns;
       counts = counted_on n d (cond.Signal signal.Count) _ (found.known c.counted s.counts.1) found.counted s.counts.0 found.within refl found.value;
       waiters = tt;
@@ -198,7 +198,7 @@ module _ (k : Layout') (he en ce co t : ℕ) where
         → Outcome operation.Broadcast c0 d (cond_led (stage (condition.AtWords (cond.Broadcast (broadcast.Count seen)))) (Value n))
     broadcast_counts seen n d s found = went operation.Broadcast c0 d (condition.AtWords (cond.Broadcast (broadcast.SetWaiters seen))) _ tt record {
       of = refl;
-      called = saw_more c0 z c operation.Broadcast (Some OK) _ d s.called found.sees;
+      called = saw_more c0 z c operation.Broadcast (Some OK) _ d s.called found.sees (knows_on_by c d _ _ _ found.writes);
       owns = s.owns;
       counts = counted_on n d (cond.Broadcast (broadcast.Count seen)) _ (found.known c.counted s.counts.1) found.counted s.counts.0 found.within refl found.value;
       waiters = tt;
@@ -208,10 +208,10 @@ module _ (k : Layout') (he en ce co t : ℕ) where
 
     -- ---- where nothing is seen anew
 
-    broadcast_sets : (seen n : ℕ) (d : Card) → Stands operation.Broadcast c0 (cond.Broadcast (broadcast.SetWaiters seen)) c → d ≡ having_set c z n d.changes → Outcome operation.Broadcast c0 d (cond_led (stage (condition.AtWords (cond.Broadcast (broadcast.SetWaiters seen)))) (Value n))
-    broadcast_sets seen n d s same = went operation.Broadcast c0 d (condition.AtWords (cond.Broadcast (broadcast.Move seen))) None tt record {
+    broadcast_sets : (seen n : ℕ) (d : Card) → Stands operation.Broadcast c0 (cond.Broadcast (broadcast.SetWaiters seen)) c → d ≡ having_set c z n d.changes → KnowsOn c d → Outcome operation.Broadcast c0 d (cond_led (stage (condition.AtWords (cond.Broadcast (broadcast.SetWaiters seen)))) (Value n))
+    broadcast_sets seen n d s same on = went operation.Broadcast c0 d (condition.AtWords (cond.Broadcast (broadcast.Move seen))) None tt record {
       of = refl;
-      called = subst (Called c0 z ((operation.Broadcast, OK) ∷ [])) (sym same) (marked_called c0 z _ c n (having_set c z n d.changes).marks d.changes s.called);
+      called = subst (Called c0 z ((operation.Broadcast, OK) ∷ [])) (sym same) (marked_called c0 z _ c n (having_set c z n d.changes).marks d.changes (subst (KnowsOn c) same on) s.called);
       owns = s.owns;
       counts = subst (λ (e : Card). (e.counted ≢ largest_counter) × (value_at e.values a ≡ Some (e.counted + 1))) (sym same) s.counts;
       waiters = subst (λ (e : Card). mark_at e.marks z ≡ true) (sym same) (mark_put c.marks z true);
@@ -241,7 +241,7 @@ module _ (k : Layout') (he en ce co t : ℕ) where
     wait_releases seen n d ready s made = go (fields_of n).waiters
       where
         called : Called c0 z ((operation.Unlock, OK) ∷ []) d
-        called = saw_more c0 z c operation.Unlock (Some OK) _ d s.called made.sees
+        called = saw_more c0 z c operation.Unlock (Some OK) _ d s.called made.sees (knows_on_by c d _ _ _ made.writes)
 
         usable : LeftUsable k (q k he en ce co t) d
         usable o run =
@@ -284,7 +284,7 @@ module _ (k : Layout') (he en ce co t : ℕ) where
     step_stands release unlinks op (condition.AtWords (cond.Broadcast (broadcast.Count seen))) there call one n d found s =
         subst (λ (o : Operation). Stands o c0 (cond.Broadcast (broadcast.Count seen)) c → Outcome o c0 d (cond_led (stage (condition.AtWords (cond.Broadcast (broadcast.Count seen)))) (Value n))) s.of (λ s. broadcast_counts seen n d s found) s
     step_stands release unlinks op (condition.AtWords (cond.Broadcast (broadcast.SetWaiters seen))) there call one n d found s =
-        subst (λ (o : Operation). Stands o c0 (cond.Broadcast (broadcast.SetWaiters seen)) c → Outcome o c0 d (cond_led (stage (condition.AtWords (cond.Broadcast (broadcast.SetWaiters seen)))) (Value n))) s.of (λ s. broadcast_sets seen n d s found.0) s
+        subst (λ (o : Operation). Stands o c0 (cond.Broadcast (broadcast.SetWaiters seen)) c → Outcome o c0 d (cond_led (stage (condition.AtWords (cond.Broadcast (broadcast.SetWaiters seen)))) (Value n))) s.of (λ s. broadcast_sets seen n d s found.0 (knows_on_by c d _ _ _ found.2)) s
     step_stands release unlinks op (condition.AtWords (cond.Broadcast (broadcast.Move seen))) there call one n d found s = absurd one
     step_stands release unlinks op (condition.AtWords cond.Awake) there call one n d found s = absurd call.knows
     step_stands release unlinks op (condition.AtWords (cond.Ended x)) there call one n d found s = absurd call.knows

@@ -217,7 +217,7 @@ module _ (o : List ℕ) (k : Layout') (s : St) (h : Kept k o s) (id : ℕ) (c : 
         all_fit_other k s.words ws' js p c.thread op r w (λ d other f. (knows_else d other f, marked d f)) (omega arith) (h.fits j w t.1))
         (at_set s.views id j (behind ∷ []) w e);
     once = λ t. let same = all_set t s.views id (c ∷ []) (behind ∷ []) is in let once = h.once t in omega arith;
-    recorded = recorded_change k s.words s.views h.recorded id c behind a v is within h.once refl refl (h.recorded.count q low);
+    recorded = recorded_change k s.words s.views h.recorded id c behind a v (h.fits id (c ∷ []) is).0.thread is within h.once refl refl (h.recorded.count q low);
   }
 
   pub writes_counted : Writes c a (get_or s.words a 0) v behind

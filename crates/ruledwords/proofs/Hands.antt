@@ -22,7 +22,7 @@ use Rattle.ruledwords.specs.Changes.{first_changes, AllTied}
 use Rattle.ruledwords.specs.Counts.{counter_in, total_of, Counted}
 use Rattle.ruledwords.specs.Seen.{Leaves, Joined, AreExclusive, holds, held, held_after}
 use Rattle.ruledwords.specs.Rules.{opening_word, first_values, first_card, hand, Fits, AllFit, cards_of, Kept, first_of, rest_of, met, IsAmong, Ends}
-use Rattle.ruledwords.proofs.Changes.{left_at_first, recorded_dealt, recorded_set, tied_append, tied_at_first}
+use Rattle.ruledwords.proofs.Changes.{authors_first, left_at_first, recorded_dealt, recorded_set, tied_append, tied_at_first}
 use Rattle.ruledwords.proofs.Counts.{total_same}
 use Rattle.ruledwords.proofs.Lists.{prefix_self, value_put, value_put_else, all_one, all_set, all_append, cards_append, one_or_none}
 use Rattle.ruledwords.proofs.Held.{count_same, owner_held, owns, owns_one}
@@ -295,7 +295,7 @@ opens_kept k counters ws layout small opens = record {
   counters = λ q low. let is : slice_index ws (counter_place k q) ≡ slice_index counters q = opens.1 (counter_place k q) (omega arith) ∙ counter_first k counters q low in subst (λ (z : ℕ). z < 4294967296) (sym is) (small q);
   fits = λ j v e. only j v e;
   once = λ t. let a = hand_once k t 1 k.threads in omega arith;
-  recorded = record { changes = first_changes ws; leave = λ m low. left_at_first ws (cell_place k m) _ refl; count = λ q low. left_at_first ws (counter_place k q) _ refl; tied = λ j v e. tied_first j v e };
+  recorded = record { changes = first_changes ws; leave = λ m low. left_at_first ws (cell_place k m) _ refl; count = λ q low. left_at_first ws (counter_place k q) _ refl; authors = authors_first k ws; tied = λ j v e. tied_first j v e };
 }
   where
     began : (q : ℕ) → q < length k.conditions → counter_in k ws q ≡ get_or counters q 0

@@ -1,14 +1,15 @@
-mod Lists
+pub mod Lists
 pub mod Changes
 mod Cards
 mod Counts
-mod Held
+pub mod Held
 pub mod Keepers
 mod Moves
 mod Hands
 mod Gathering
 mod AllMeet
 mod Behind
+mod Apart
 mod Steps
 mod Turned
 pub mod Exchanges

@@ -224,7 +224,7 @@ kept_step o k s h id c m op r n misses last vs is low keep steady countless run 
           (omega arith) (h.fits j v t.1))
           (at_set s.views id j w v e);
       once = λ t. let same = all_set t s.views id (c ∷ []) w is in let once = h.once t in omega arith;
-      recorded = recorded_change k s.words s.views h.recorded id c (after c p xs misses last vs (fields_of n).waiters (changing k s h c m n)) p n is within h.once refl refl (h.recorded.leave m low);
+      recorded = recorded_change k s.words s.views h.recorded id c (after c p xs misses last vs (fields_of n).waiters (changing k s h c m n)) p n fit.thread is within h.once refl refl (h.recorded.leave m low);
     }
 
 pub sees_step : {o : List ℕ} (k : Layout') (s : St) (h : Kept k o s) (id : ℕ) (c : Card) (m : ℕ) (op : Operation) (r : Option Reply) (n misses last : ℕ) (vs : List (Option ℕ)) → get_elem? s.views id ≡ some (c ∷ []) → m < k.mutexes

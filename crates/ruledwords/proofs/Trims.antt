@@ -96,7 +96,7 @@ module _ {o : List ℕ} (k : Layout') (s : St) (h : Kept k o s) (m : ℕ) (low :
         let alike : cards_of u (d ∷ []) ≡ cards_of u (c ∷ []) = ap (λ (t : ℕ). if◌then◌else◌ {A = ℕ} (t == u) 1 0 + 0) same in
         let once = h.once u in
         omega arith;
-    recorded = recorded_change k s.words s.views h.recorded id c d p n is within h.once same grows (h.recorded.leave m low);
+    recorded = recorded_change k s.words s.views h.recorded id c d p n (h.fits id (c ∷ []) is).0.thread is within h.once same grows (h.recorded.leave m low);
   }
 
 -- where WAITERS is all that the word says, it may be 0

@@ -48,6 +48,22 @@ change_of t n v = if v == n then [] else record { thread = t; word = v } ∷ []
 abbrev pub first_changes : List ℕ → List (List Change)
 first_changes ws = map (λ (w : ℕ). record { thread = 0; word = w } ∷ []) ws
 
+-- ---- who made them
+
+-- threads 1 to n
+abbrev pub AreBy : ℕ → List Change → Type 0
+AreBy n [] = Unit {0}
+AreBy n (x ∷ xs) = ((1 ≤ x.thread) × (x.thread ≤ n)) × AreBy n xs
+
+-- all but the first, which may be the word as it was given
+abbrev pub AreBehindFirst : ℕ → List Change → Type 0
+AreBehindFirst n [] = Unit {0}
+AreBehindFirst n (x ∷ xs) = AreBy n xs
+
+-- what a thread knew of each word's changes begins what it knows of them
+abbrev pub KnowsOn : Card → Card → Type 0
+KnowsOn c d = (p : ℕ) → IsPrefix (changes_at c.changes p) (changes_at d.changes p)
+
 -- ---- what holds
 
 -- what thread t knows of the changes begins them, and has all that the thread made
@@ -58,11 +74,12 @@ abbrev pub AllTied : List (List Change) → List Card → Type 0
 AllTied xs [] = Unit {0}
 AllTied xs (c ∷ cs) = Tied xs c.thread c.changes × AllTied xs cs
 
--- of each cell and of each counter the changes that were made, of which each card has a beginning: they leave its word. So nobody can put in a change but at their end, as its own
+-- of each cell and of each counter the changes that were made, of which each card has a beginning: they leave its word, and behind the first one threads of the layout made them. So nobody can put in a change but at their end, as its own
 pub record Recorded (k : Layout') (ws : List ℕ) (vs : List (List Card)) : Type 0 where
   pub changes : List (List Change)
   pub leave : (m : ℕ) → m < k.mutexes → left_by (changes_at changes (cell_place k m)) ≡ slice_index ws (cell_place k m)
   pub count : (q : ℕ) → q < length k.conditions → left_by (changes_at changes (counter_place k q)) ≡ slice_index ws (counter_place k q)
+  pub authors : (p : ℕ) → AreBehindFirst k.threads (changes_at changes p)
   pub tied : (id : ℕ) (v : List Card) → get_elem? vs id ≡ some v → AllTied changes v
 
 -- ---- what an access tells

@@ -28,7 +28,7 @@ use Rattle.ruledwords.specs.declared.turn.Walked.TheVariants as walked
 use Rattle.ruledwords.specs.Cards.{at, mark_at, put_mark}
 use Rattle.ruledwords.specs.Seen.{by, holds, EndsWith, Sees}
 use Rattle.ruledwords.specs.Calls.{OwnKept}
-use Rattle.ruledwords.specs.Changes.{Writes}
+use Rattle.ruledwords.specs.Changes.{KnowsOn, Writes}
 use Rattle.ruledwords.specs.Lists.{known}
 use Rattle.ruledwords.specs.Looks.{Finds}
 use Rattle.ruledwords.specs.OwnWords.{owns_in, KnowsOwn}
@@ -114,6 +114,7 @@ pub record HasWalked (k : Layout') (c d : Card) : Type 0 where
   pub base : d.base ≡ c.base
   pub told : (m : ℕ) → m < k.mutexes → owns_in k c m ≡ true → ((owns_in k d m ≡ true) × SawThere c (cell_place k m) [] d) ⊎ TellsDeath c (cell_place k m) d
   pub stays : (m : ℕ) → m < k.mutexes → owns_in k c m ≡ false → at d.seen (cell_place k m) ≡ at c.seen (cell_place k m)
+  pub changes : KnowsOn c d
 
 -- at its end: of each mutex that the thread held when it died, its death is told, and it holds nothing any more; what it has seen of any other mutex stays. It knows its own words still
 pub record IsReaped (k : Layout') (c d : Card) : Type 0 where
@@ -122,6 +123,7 @@ pub record IsReaped (k : Layout') (c d : Card) : Type 0 where
   pub base : d.base ≡ c.base
   pub told : (m : ℕ) → m < k.mutexes → owns_in k c m ≡ true → TellsDeath c (cell_place k m) d
   pub stays : (m : ℕ) → m < k.mutexes → owns_in k c m ≡ false → at d.seen (cell_place k m) ≡ at c.seen (cell_place k m)
+  pub changes : KnowsOn c d
   pub none : OwnsNothing k (owns_in k d)
   pub knows : KnowsOwn k d
 

@@ -24,3 +24,4 @@ pub mod Stretches
 pub mod Owing
 pub mod Releases
 pub mod Outcomes
+pub mod Apart

@@ -14,6 +14,7 @@ use Rattle.keys.specs.Objects.{fresh, Run}
 use Rattle.facts.specs.Lives.{Act, Beginning}
 use Rattle.ruledwords.specs.declared.pass.Card.{Card}
 use Rattle.ruledwords.specs.Cards.{at}
+use Rattle.ruledwords.specs.Changes.{KnowsOn}
 
 -- the points that thread t made
 abbrev pub by : ℕ → List Point → List Point
@@ -73,7 +74,8 @@ pub record Sees (c : Card) (p : ℕ) (new : List Point) (o : Object) (d : Card) 
 abbrev pub points_of : ℕ → ℕ → List Act → List Point
 points_of t p acts = map (λ (a : Act). record { thread = t; at = p; operation = a.0; reply = a.1 }) acts
 
--- a thread saw more of the mutex whose cell is at p: behind what it had seen stand other threads' points and its own new ones, which decided so, in this order. What it saw elsewhere stays
+-- a thread saw more of the mutex whose cell is at p: behind what it had seen stand other threads' points and its own new ones, which decided so, in this order. What it saw elsewhere stays. What it knew of words' changes
+-- begins what it knows of them
 pub record Saw (c : Card) (p : ℕ) (acts : List Act) (d : Card) : Type 0 where
   pub thread : d.thread ≡ c.thread
   pub threads : d.threads ≡ c.threads
@@ -82,6 +84,7 @@ pub record Saw (c : Card) (p : ℕ) (acts : List Act) (d : Card) : Type 0 where
   pub since : List Point
   pub grows : at d.seen p ≡ at c.seen p ++ since
   pub own : by c.thread (at d.seen p) ≡ by c.thread (at c.seen p) ++ points_of c.thread p acts
+  pub knows : KnowsOn c d
 
 -- the one list ends with the last point of the other, if that has any
 abbrev pub EndsWith : List Point → List Point → Type 0

@@ -37,7 +37,7 @@ use Rattle.ruledwords.specs.Rules.{card_of, IsOne}
 use Rattle.ruledwords.specs.Passes.{card, layout_of, IsCardOf, IsPassOf, IsLive, IsDying}
 use Rattle.ruledwords.specs.Calls.{IsOnMutex, Made, OwnKept, Ready, Stands, most, row_in, standing_of}
 use Rattle.ruledwords.specs.Lists.{known, IsInCall}
-use Rattle.ruledwords.specs.Changes.{KnowsMoreAt, OthersChanged}
+use Rattle.ruledwords.specs.Changes.{KnowsMoreAt, KnowsOn, OthersChanged}
 use Rattle.ruledwords.specs.Looks.{KnowsTheSame}
 use Rattle.ruledwords.specs.OwnWords.{own_after}
 
@@ -173,9 +173,9 @@ Keeps w r turn = (a : Pass Live) (call : Call) → IsUnderWay w a call r → Goe
 
 -- ---- calls that are decided
 
--- the thread has seen no more of any mutex: what else it knows is of its own words, of the word that it found last, or of changes of cells
+-- the thread has seen no more of any mutex: what else it knows is of its own words, of the word that it found last, or of changes of cells, of which it knows what it knew, and maybe more
 abbrev pub HasSeenTheSame : Card → Card → Type 0
-HasSeenTheSame c d = d ≡ record c { last = d.last; trims = d.trims; values = d.values; changes = d.changes }
+HasSeenTheSame c d = (d ≡ record c { last = d.last; trims = d.trims; values = d.values; changes = d.changes }) × KnowsOn c d
 
 -- a call is decided, with this reply, by what its thread has seen at the card c: it has only to wake, to trim and to end its list's change
 abbrev pub IsDecided : Words → Card → Reply → Running → Type 0

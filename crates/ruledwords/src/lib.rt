@@ -31,7 +31,7 @@ mod walk;
 
 pub use counter::CounterWord;
 pub use fate::{Fate, Never, either_stops};
-pub use laws::meetings_order_calls;
+pub use laws::{heads_and_mutexes_lie_apart, meetings_order_calls};
 pub use pass::{Card, Dead, EitherPass, Last, Live, Pass, Reaped, Spent, Words};
 pub use turn::{
     CondRunning, CondTurn, Outcome, Owed, Reaping, Released, Running, Stretch, Turn, Wakes, Walked,

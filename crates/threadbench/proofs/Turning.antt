@@ -5,7 +5,7 @@ use Rattle.lockword.specs.declared.reply.Reply.{Reply}
 use Rattle.lockword.specs.declared.reply.Reply.TheVariants.{OK}
 use Rattle.mutex.specs.declared.call.Call.{Call}
 use Rattle.mutex.specs.declared.call.Call.TheVariants as call
-use Rattle.keys.specs.Layouts.{cell_place}
+use Rattle.keys.specs.Layouts.{Layout', address_in, cell_place}
 use Rattle.mutex.specs.Calls.{mutex_of, operation_of}
 use Rattle.mutex.specs.Laws.{decided}
 use Rattle.mutex.specs.Programs.{first_row}
@@ -29,6 +29,7 @@ use Rattle.ruledwords.specs.Passes.{card, layout_of, IsDying}
 use Rattle.ruledwords.specs.Calls.{IsOnMutex, Stands, row_in, standing_of}
 use Rattle.ruledwords.specs.Stretches.{Stretches, stops_stretching}
 use Rattle.ruledwords.specs.Turns.{running_call, running_pass, running_program, HasDied, HasSeenTheSame, IsDecided, IsRunningOf, IsTurnOf, IsUnderWay, Keeps, KeepsDecided, Unmoved}
+use Rattle.ruledwords.proofs.Changes.{knows_on_at}
 use Rattle.ruledwords.proofs.Exchanges.{expects_at_section}
 use Rattle.ruledwords.proofs.Noted.{seen_noted, seen_on, still_stands}
 use Rattle.threadbench.specs.Calls.{Locked, Paid, RanOut, RanOutDecided, Runs, stretch_of}
@@ -41,13 +42,19 @@ still_under_way w r r' a call m u =
       m.0,
       subst (λ (q : Standing). IsOnMutex (layout_of w) q (mutex_of call)) (sym same) u.1,
       subst (λ (z : Standing). Stands (operation_of call) (first_row call) (cell_place (layout_of w) (mutex_of call)) (card a) z (card r'.pass)) (sym same)
-          (still_stands (operation_of call) (first_row call) (cell_place (layout_of w) (mutex_of call)) (card a) (running_program r) (card r.pass) (card r'.pass) (seen_noted (card r.pass) (card r'.pass) m.2) (m.4 (mutex_of call) u.1)
+          (still_stands (operation_of call) (first_row call) (cell_place (layout_of w) (mutex_of call)) (card a) (running_program r) (card r.pass) (card r'.pass) (seen_noted (card r.pass) (card r'.pass) m.2 (knows_on_at (card r.pass) (card r'.pass) (cell_place (layout_of w) (mutex_of call)) (m.4 (mutex_of call) u.1))) (m.4 (mutex_of call) u.1)
           (expects_at_section (running_call r) (running_call r).phase (cell_place (layout_of w) (mutex_of call)) (card r'.pass) m.3) u.2),
     )
 
 -- and decided as it was
 pub still_decided : (w : Words) (r r' : Running) (c : Card) (x : Reply) → Unmoved w r r' → IsDecided w c x r → IsDecided w c x r'
-still_decided w r r' c x m was = (m.0, ap (λ (p : Whole). decided (row_in p.phase)) m.1 ∙ was.1, seen_on c (card r.pass) (card r'.pass) was.2 (seen_noted (card r.pass) (card r'.pass) m.2))
+still_decided w r r' c x m was =
+    let k : Layout' = layout_of w in
+    let on : ℕ = was.0.1.0 in
+    let call = was.0.1.1 in
+    let there : IsOnMutex k (running_program r) on = (call.inside, call.of.cell ∙ ap (λ (u : ℕ). address_in k u (cell_place k on)) (sym call.of.thread)) in
+    let knows = knows_on_at (card r.pass) (card r'.pass) (cell_place k on) (m.4 on there) in
+    (m.0, ap (λ (p : Whole). decided (row_in p.phase)) m.1 ∙ was.1, seen_on c (card r.pass) (card r'.pass) was.2 (seen_noted (card r.pass) (card r'.pass) m.2 knows))
 
 -- what it comes to from there it comes to from where it was
 pub stretches_still : (w : Words) (r r' : Running) (s : Stretch) → Unmoved w r r' → Stretches w r' s → Stretches w r s

@@ -35,7 +35,7 @@ use Rattle.ruledwords.specs.Conditions.{cond_row_in, condition_at}
 use Rattle.ruledwords.specs.Counts.{cell_at, mutex_at}
 use Rattle.ruledwords.specs.Passes.{card, layout_of}
 use Rattle.ruledwords.specs.Turns.{running_pass}
-use Rattle.ruledwords.proofs.Changes.{loaded_still, nothing_still}
+use Rattle.ruledwords.proofs.Changes.{knows_on_same, loaded_still, nothing_still}
 use Rattle.ruledwords.proofs.Keepers.{counter_no_cell}
 use Rattle.ruledwords.proofs.Noted.{saw_on, still_called, waited}
 use Rattle.threadbench.specs.Calls.{RanOut, Runs}
@@ -68,6 +68,7 @@ loads_noted (cond.Ended x) a c p n t l = tt
 pub cond_still_under_way : (w : Words) (r r' : CondRunning) (a : Pass Live) (cl : CondCall) → CondUnmoved w r r' → IsCondUnderWay w a cl r → IsCondUnderWay w a cl r'
 cond_still_under_way w r r' a cl m u =
     let k = layout_of w in
+    let looked : Card = record (card (cond_pass r)) { last = (card (cond_pass r')).last; trims = (card (cond_pass r')).trims; changes = (card (cond_pass r)).changes } in
     let q = condition_of cl in (
       m.0,
       ap (condition_at k) m.1 ∙ u.1,
@@ -75,7 +76,7 @@ cond_still_under_way w r r' a cl m u =
           (subst (λ (p : CondWhole). CondStands k q (operation_of cl) (card a) (cond_row_in p.phase) (record (card (cond_pass r)) { last = (card (cond_pass r')).last; trims = (card (cond_pass r')).trims; changes = (card (cond_pass r)).changes })) (sym m.1)
           record {
             of = u.2.of;
-            called = still_called (card a) (cell_at k q) (cond_acts (cond_row_in (cond_call r).phase)) (card (cond_pass r)) _ refl u.2.called;
+            called = still_called (card a) (cell_at k q) (cond_acts (cond_row_in (cond_call r).phase)) (card (cond_pass r)) looked (refl, knows_on_same (card (cond_pass r)) looked refl) u.2.called;
             owns = u.2.owns;
             counts = u.2.counts;
             waiters = u.2.waiters;

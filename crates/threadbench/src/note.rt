@@ -16,6 +16,7 @@ use lockword::Tid;
 use ruledwords::{Fate, Live, Pass, Reaped, Words};
 use std::alloc::Global;
 use std::marker::PhantomData;
+use std::sync::MutexGuard;
 use std::sync::atomic::{AtomicBool, Ordering};
 
 /// Whether a thread was killed. Whoever kills it writes it here, and its calls that take the bench look here before each access.
@@ -74,11 +75,12 @@ impl Note {
         }
     }
 
-    /// Takes back that the thread was killed, whose note it is. Whoever calls it holds the lock of moves, as no kill is
-    /// under way then.
-    pub(crate) fn clear(&self) -> Cleared
+    /// Takes back that the thread was killed, whose note it is. Whoever calls it holds the lock of moves, so that no kill
+    /// is under way.
+    pub(crate) fn clear(&self, moves: &MutexGuard<'_, ()>) -> Cleared
         ensures { result.thread ≡ self.now.thread }
     {
+        let _moves = moves;
         self.killed.store(false, Ordering::SeqCst);
         Cleared {
             thread: self.thread,

@@ -17,7 +17,7 @@ impl Bench {
         ensures card { card result ≡ renewed (layout_of self.now) (card pass) }
     {
         let moves = self.moves.lock(rt);
-        let cleared = self.note(pass.thread()).clear();
+        let cleared = self.note(pass.thread()).clear(&moves);
         drop(moves);
         cleared.begin(&self.words, pass)
     }

@@ -2,6 +2,7 @@ use Rattle.std.proofs.Common.{refl, ap, ◌∙◌}
 use Rattle.lockword.specs.declared.reply.Reply.TheVariants.{OK}
 use Rattle.ruledwords.specs.Owing.{owing_at}
 use Rattle.ruledwords.specs.Passes.{card}
+use Rattle.ruledwords.proofs.Changes.{knows_on_self}
 use Rattle.ruledwords.proofs.Settling.{settles_at_once, decided_there}
 use Rattle.ruledwords.proofs.Stretching.{in_place}
 use Rattle.ruledwords.proofs.turn.Owed.settle.Goals as goal
@@ -17,5 +18,5 @@ returns c =
     let r = c.args.self.running in
     let w = c.args.words.now in
     let t = c.in-Some.ensures (in_place w r c.requires) in
-    let end = t.3 (card r.pass) OK (c.requires, decided_there r.program.phase (c.args.self.at ∙ ap owing_at c.in-Nobody.is), refl) in
+    let end = t.3 (card r.pass) OK (c.requires, decided_there r.program.phase (c.args.self.at ∙ ap owing_at c.in-Nobody.is), (refl, knows_on_self (card r.pass))) in
     (c.in-Nobody.is, end.0, end.2)
