@@ -1,42 +1,41 @@
 -- What phases of one thread each leave open.
-use Rattle.std.proofs.Common.{◌≡◌, ℕ, ◌+◌, ◌<◌, Bool, true, false, Option, Some, List, [], ◌∷◌, All, refl, sym, ap, ◌∙◌}
+use Rattle.std.proofs.Common.{◌≡◌, ◌≢◌, ℕ, ◌+◌, ◌<◌, Bool, true, false, Option, Some, List, [], ◌∷◌, All, refl, sym, ap, ◌∙◌}
 use Rattle.std.specs.Prelude.{◌||◌}
 use Rattle.std.proofs.lemmas.List.Elements.{All-head, All-tail}
 use mathlib.Core.Logic.{dite}
 use native.Mathlib.Decide.{ℕ_discrete}
 use Rattle.lockword.specs.declared.reply.Reply.{Reply}
-use Rattle.lockword.specs.declared.reply.Reply.TheVariants.{XRACED, XFULL}
+use Rattle.lockword.specs.declared.reply.Reply.TheVariants.{XFULL}
 use Rattle.keys.specs.declared.object.Object.{Object}
 use Rattle.keys.specs.declared.point.Operation.{Operation}
-use Rattle.keys.specs.declared.point.Operation.TheVariants.{TryLock, Signal, Broadcast}
+use Rattle.keys.specs.declared.point.Operation.TheVariants.{Signal, Broadcast}
 use Rattle.keys.specs.Histories.{held_by}
 use Rattle.keys.specs.Layouts.{Layout'}
 use Rattle.condvar.specs.declared.op.Op.{Op}
 use Rattle.condvar.specs.Ops.{mutex_of, operation_of}
 use Rattle.report.specs.Parts.{Part}
-use Rattle.report.specs.Lone.{answer, behind, go_on, left_by, lone_replies, mutexes_alone, played, replies_alone, AreAnswered, AreLone, ArePlain, ArePlayed, IsAnswer, IsPlain, PlaysAlone}
+use Rattle.report.specs.Lone.{answer, behind, go_on, left_by, lone_replies, mutexes_alone, played, replies_alone, AreAnswered, AreLone, ArePlain, ArePlayed, IsAnswer, PlaysAlone}
 
 -- a plain reply is the answer
-plain_answer : (h t : ℕ) (op : Operation) (o : Object) (r : Reply) → IsPlain r → IsAnswer h t op o r → answer h t op o ≡ Some r
-plain_answer h t TryLock o XRACED plain is = absurd (plain.0 refl)
-plain_answer h t Signal o XFULL plain is = absurd (plain.1 refl)
-plain_answer h t Broadcast o XFULL plain is = absurd (plain.1 refl)
+plain_answer : (h t : ℕ) (op : Operation) (o : Object) (r : Reply) → r ≢ XFULL → IsAnswer h t op o r → answer h t op o ≡ Some r
+plain_answer h t Signal o XFULL plain is = absurd (plain refl)
+plain_answer h t Broadcast o XFULL plain is = absurd (plain refl)
 plain_answer h t op o r plain is = is
 
-calls_determined : (k : Layout') (t : ℕ) (os : ℕ → Object) (cs : List Op) (rs : List Reply) (os' : ℕ → Object) → All IsPlain rs → AreAnswered k t os cs rs os' → (rs ≡ replies_alone k t os cs) × (os' ≡ mutexes_alone k t os cs)
+calls_determined : (k : Layout') (t : ℕ) (os : ℕ → Object) (cs : List Op) (rs : List Reply) (os' : ℕ → Object) → All (λ r. r ≢ XFULL) rs → AreAnswered k t os cs rs os' → (rs ≡ replies_alone k t os cs) × (os' ≡ mutexes_alone k t os cs)
 calls_determined k t os [] [] os' plain told = (refl, told)
 calls_determined k t os [] (r ∷ rs) os' plain told = absurd told
 calls_determined k t os (c ∷ cs) [] os' plain told = absurd told
 calls_determined k t os (c ∷ cs) (r ∷ rs) os' plain told =
     let o : Object = os (mutex_of k c) in
-    let is : answer (held_by t os k.mutexes) t (operation_of c) o ≡ Some r = plain_answer (held_by t os k.mutexes) t (operation_of c) o r (All-head IsPlain r rs plain) told.0 in
-    let rest = calls_determined k t (behind k t os c r) cs rs os' (All-tail IsPlain r rs plain) told.1 in (
+    let is : answer (held_by t os k.mutexes) t (operation_of c) o ≡ Some r = plain_answer (held_by t os k.mutexes) t (operation_of c) o r (All-head (λ x. x ≢ XFULL) r rs plain) told.0 in
+    let rest = calls_determined k t (behind k t os c r) cs rs os' (All-tail (λ x. x ≢ XFULL) r rs plain) told.1 in (
       ap (λ (l : List Reply). r ∷ l) rest.0 ∙ ap (λ (z : Option Reply). go_on z (λ x. x ∷ replies_alone k t (behind k t os c x) cs)) (sym is),
       rest.1 ∙ ap (λ (z : Option Reply). left_by z os (λ x. mutexes_alone k t (behind k t os c x) cs)) (sym is),
     )
 
 -- in a phase whose thread lives
-phase_determined : (k : Layout') (t : ℕ) (gone : Bool) (os : ℕ → Object) (cs : List Op) (rs : List Reply) (died : Bool) (os' : ℕ → Object) → gone ≡ false → died ≡ false → All IsPlain rs → PlaysAlone k t gone os cs rs died os' → (rs ≡ replies_alone k t os cs) × (os' ≡ mutexes_alone k t os cs)
+phase_determined : (k : Layout') (t : ℕ) (gone : Bool) (os : ℕ → Object) (cs : List Op) (rs : List Reply) (died : Bool) (os' : ℕ → Object) → gone ≡ false → died ≡ false → All (λ r. r ≢ XFULL) rs → PlaysAlone k t gone os cs rs died os' → (rs ≡ replies_alone k t os cs) × (os' ≡ mutexes_alone k t os cs)
 phase_determined k t true os cs rs died os' lives survives plain plays = absurd (cc lives)
 phase_determined k t false os cs rs true os' lives survives plain plays = absurd (cc survives)
 phase_determined k t false os cs rs false os' lives survives plain plays = calls_determined k t os cs rs os' plain plays

@@ -1,11 +1,11 @@
 -- Calls that a thread makes while no other one is in a call: each is answered as its mutex is.
-use Rattle.std.proofs.Common.{◌≡◌, ◌≢◌, ⊎_elim, ℕ, ◌<◌, ◌≤◌, ◌==◌, Bool, true, false, nat_le, Some, None, List, [], ◌∷◌, ◌++◌, refl, sym, ap, ◌∙◌, subst, arith, append_assoc, eq-eqb, ne_eqb}
+use Rattle.std.proofs.Common.{◌≡◌, ◌≢◌, ⊎_elim, ℕ, ◌<◌, ◌≤◌, ◌==◌, Bool, true, false, nat_le, Some, None, List, [], ◌∷◌, ◌++◌, refl, sym, ap, ◌∙◌, subst, arith, append_assoc, eq-eqb, ne_eqb, not, length, length-append, ◌+◌}
 use Rattle.std.specs.Prelude.{◌&&◌, if◌then◌else◌, MatchBool}
 use Rattle.std.proofs.lemmas.List.Elements.{filter-append}
 use mathlib.Core.Logic.{dite}
 use native.Mathlib.Decide.{ℕ_discrete}
 use Rattle.lockword.specs.declared.reply.Reply.{Reply}
-use Rattle.lockword.specs.declared.reply.Reply.TheVariants.{OK, XHELD}
+use Rattle.lockword.specs.declared.reply.Reply.TheVariants.{OK, XHELD, XRACED}
 use Rattle.keys.specs.declared.object.Object.{Object}
 use Rattle.keys.specs.declared.point.Operation.{Operation}
 use Rattle.keys.specs.declared.point.Operation.TheVariants as operation
@@ -22,7 +22,10 @@ use Rattle.condvar.specs.declared.call.CondCall.TheVariants.{Wait, Signal, Broad
 use Rattle.condvar.specs.Ops.{mutex_of, operation_of}
 use Rattle.facts.specs.Lives.{Act, Beginning}
 use Rattle.ruledwords.specs.declared.pass.Card.{Card}
+use Rattle.ruledwords.specs.declared.pass.Change.{Change}
 use Rattle.ruledwords.specs.Cards.{at}
+use Rattle.ruledwords.specs.Changes.{changes_at, made_by, made_by_others, AreBehindFirst, AreBy, KnowsOn, OthersChanged}
+use Rattle.ruledwords.proofs.Changes.{knows_on_self, knows_on_then}
 use Rattle.ruledwords.specs.ConditionStands.{CondEnded}
 use Rattle.ruledwords.specs.Counts.{cell_at}
 use Rattle.ruledwords.specs.Deaths.{deaths}
@@ -32,7 +35,8 @@ use Rattle.threadbench.specs.Answered.{Answered, Replied}
 use Rattle.threadbench.specs.Conditions.{TookAgain}
 use Rattle.threadbench.specs.Jobs.{WasLost}
 use Rattle.report.specs.Lone.{answer, behind, bereft, AreAnswered, IsAnswer}
-use Rattle.report.proofs.Holding.{counts_owned, owner_held}
+use Rattle.ruledwords.proofs.Held.{owner_held}
+use Rattle.report.proofs.Holding.{counts_owned}
 use Rattle.report.proofs.Permitted.{full_taking, permits_answer, waited_answer}
 use Rattle.report.proofs.Told.{answered_grew, died_of, reaped_grew, saw_grew, Grew}
 
@@ -69,7 +73,7 @@ only_from n p t [] (x ∷ xs) of none = (mine, only_from n p t [] xs of.1 (λ u 
   passes : (u : ℕ) → u ≢ t → by u (x ∷ xs) ≡ by u xs
   passes u other = ap (λ (b : Bool). if b then x ∷ by u xs else by u xs) (ne_eqb x.thread u (λ e. other (sym e ∙ mine)))
 
-same_rest : (xs ys zs : List Point) → xs ++ ys ≡ xs ++ zs → ys ≡ zs
+same_rest : {A : Type 0} (xs ys zs : List A) → xs ++ ys ≡ xs ++ zs → ys ≡ zs
 same_rest [] ys zs e = e
 same_rest (x ∷ xs) ys zs e = same_rest xs ys zs (cc e)
 
@@ -87,6 +91,64 @@ and_false false = refl
 permits_steps : (o : Object) (t : ℕ) (op : Operation) (r : Reply) (n : Object) → Permits o t op r n → n ≡ stepped o t op r
 permits_steps o t op r n p = determined 0 o t op r n (subst (λ (b : Bool). MatchBool b ((r ≡ XHELD) × (n ≡ o)) (Permits o t op r n)) (sym (and_false (acquires op))) p)
 
+-- ---- changes
+
+-- n threads made these, and none of them but t
+none_others : (n t : ℕ) (zs : List Change) → AreBy n zs → ((u : ℕ) → 1 ≤ u → u ≤ n → u ≢ t → made_by u zs ≡ []) → made_by_others t zs ≡ []
+none_others n t [] are none = refl
+none_others n t (x ∷ zs) are none = ap (λ (b : Bool). if not b then x ∷ made_by_others t zs else made_by_others t zs) (eq-eqb x.thread t mine) ∙ none_others n t zs are.1 (later t x zs none) where
+  first : made_by x.thread (x ∷ zs) ≡ x ∷ made_by x.thread zs
+  first = ap (λ (b : Bool). if b then x ∷ made_by x.thread zs else made_by x.thread zs) (eq-eqb x.thread x.thread refl)
+
+  mine : x.thread ≡ t
+  mine = dite (ℕ_discrete x.thread t) (λ e. e) (λ other. absurd (let e : x ∷ made_by x.thread zs ≡ [] = sym first ∙ none x.thread are.0.0 are.0.1 other in cc e))
+
+  later : (t : ℕ) (x : Change) (zs : List Change) → ((u : ℕ) → 1 ≤ u → u ≤ n → u ≢ t → made_by u (x ∷ zs) ≡ []) → (u : ℕ) → 1 ≤ u → u ≤ n → u ≢ t → made_by u zs ≡ []
+  later t x zs none u pos most other = go (x.thread == u) (none u pos most other) where
+    go : (b : Bool) → (if b then x ∷ made_by u zs else made_by u zs) ≡ [] → made_by u zs ≡ []
+    go true e = absurd (cc e)
+    go false e = e
+
+by_each : (n : ℕ) (ys zs : List Change) → AreBy n (ys ++ zs) → AreBy n zs
+by_each n [] zs are = are
+by_each n (y ∷ ys) zs are = by_each n ys zs are.1
+
+-- of the last changes of a word another thread made at most one: the first of all, which is the word as it was given
+pub others_few : (n t : ℕ) (ys zs : List Change) → AreBehindFirst n (ys ++ zs) → ((u : ℕ) → 1 ≤ u → u ≤ n → u ≢ t → made_by u zs ≡ []) → length (made_by_others t zs) ≤ 1
+others_few n t (y ∷ ys) zs are none = let no : length (made_by_others t zs) ≡ 0 = ap length (none_others n t zs (by_each n ys zs are) none) in omega (arith, no)
+others_few n t [] [] are none = omega arith
+others_few n t [] (x ∷ zs) are none = go (x.thread == t) (none_others n t zs are (λ u pos most other. passes u (x.thread == u) (none u pos most other))) where
+  passes : (u : ℕ) (b : Bool) → (if b then x ∷ made_by u zs else made_by u zs) ≡ [] → made_by u zs ≡ []
+  passes u true e = absurd (cc e)
+  passes u false e = e
+
+  go : (b : Bool) → made_by_others t zs ≡ [] → length (if not b then x ∷ made_by_others t zs else made_by_others t zs) ≤ 1
+  go true e = let no : length (made_by_others t zs) ≡ 0 = ap length e in omega (arith, no)
+  go false e = let no : length (x ∷ made_by_others t zs) ≡ 1 = ap (λ (l : List Change). length (x ∷ l)) e in omega (arith, no)
+
+others_sum : (t : ℕ) (xs ys : List Change) → length (made_by_others t (xs ++ ys)) ≡ length (made_by_others t xs) + length (made_by_others t ys)
+others_sum t xs ys = ap length (filter-append (λ (x : Change). not (x.thread == t)) xs ys) ∙ length-append (made_by_others t xs) (made_by_others t ys)
+
+took_knows : (b : Bool) (a d : Card) (place : ℕ) (op : Operation) (r : Reply) → MatchBool b ((r ≡ XHELD) × (d ≡ a)) (Called a place ((op, r) ∷ []) d) → KnowsOn a d
+took_knows true a d place op r told = subst (KnowsOn a) (sym told.1) (knows_on_self a)
+took_knows false a d place op r told = told.saw.knows
+
+-- what a call leaves known
+replied_knows : (k : Layout') (a : Card) (call : Op) (r : Reply) (b : Card) → Replied k a call r b → KnowsOn a b
+replied_knows k a (OnMutex (Lock m)) r b told = took_knows (nat_le 2048 (held a)) a b (cell_place k m) operation.Lock r told
+replied_knows k a (OnMutex (TryLock m)) r b told = took_knows (nat_le 2048 (held a)) a b (cell_place k m) operation.TryLock r told.0
+replied_knows k a (OnMutex (Unlock m)) r b told = told.saw.knows
+replied_knows k a (OnMutex (Consistent m)) r b told = told.saw.knows
+replied_knows k a (OnCondition (Signal q)) r b told = told.called.saw.knows
+replied_knows k a (OnCondition (Broadcast q)) r b told = told.called.saw.knows
+replied_knows k a (OnCondition (Wait q)) r b told = ⊎_elim (λ (refused : CondEnded k q operation.Wait r a b). refused.called.saw.knows) (λ (took : TookAgain k a q r b). took.called.saw.knows) told
+
+pub answered_knows : (k : Layout') (a : Card) (cs : List Op) (rs : List Reply) (b : Card) → Answered k a cs rs b → KnowsOn a b
+answered_knows k a [] [] b same = subst (KnowsOn a) same (knows_on_self a)
+answered_knows k a [] (r ∷ rs) b answered = absurd answered
+answered_knows k a (c ∷ cs) [] b answered = absurd answered
+answered_knows k a (c ∷ cs) (r ∷ rs) b answered = knows_on_then a answered.0 b (replied_knows k a c r answered.0 answered.1) (answered_knows k answered.0 cs rs b answered.2)
+
 -- calls on mutexes that there are
 abbrev pub Within : Layout' → List Op → Type 0
 Within k [] = Unit {0}
@@ -94,21 +156,22 @@ Within k (c ∷ cs) = (mutex_of k c < k.mutexes) × Within k cs
 
 -- ---- a thread alone
 
-module _ (k : Layout') (t : ℕ) (seen' : List (List Point)) (whole : (m : ℕ) → m < k.mutexes → (o : Object) × Run fresh (at seen' (cell_place k m)) o) where
-  -- what all see at the end goes on from what the card's thread has seen of each mutex
+module _ (k : Layout') (t : ℕ) (seen' : List (List Point)) (changes' : List (List Change)) (whole : (m : ℕ) → m < k.mutexes → (o : Object) × Run fresh (at seen' (cell_place k m)) o) where
+  -- what all know at the end goes on from what the card's thread has seen of each mutex, and knows of each word's changes
   abbrev pub Tails : Card → Type 0
-  Tails c = (m : ℕ) → m < k.mutexes → (xs : List Point) × (at seen' (cell_place k m) ≡ at c.seen (cell_place k m) ++ xs)
+  Tails c = ((m : ℕ) → m < k.mutexes → (xs : List Point) × (at seen' (cell_place k m) ≡ at c.seen (cell_place k m) ++ xs)) × ((p : ℕ) → (zs : List Change) × (changes_at changes' p ≡ changes_at c.changes p ++ zs))
 
-  -- thread t has this card, and has seen that the mutexes are so; up to the end there are only its own points
+  -- thread t has this card, and has seen that the mutexes are so; up to the end there are only its own points, and but for a word as it was given only its own changes
   pub record Stands (c : Card) (os : ℕ → Object) : Type 0 where
     pub thread : c.thread ≡ t
     pub is : (m : ℕ) → m < k.mutexes → Run fresh (at c.seen (cell_place k m)) (os m)
     pub quiet : (p : ℕ) → ((m : ℕ) → m < k.mutexes → p ≢ cell_place k m) → by t (at c.seen p) ≡ []
     pub tails : Tails c
-    pub alone : (m : ℕ) (low : m < k.mutexes) → OnlyBy t (tails m low).0
+    pub alone : (m : ℕ) (low : m < k.mutexes) → OnlyBy t (tails.0 m low).0
+    pub lonely : (p : ℕ) → length (made_by_others t (tails.1 p).0) ≤ 1
 
   stands_same : (c : Card) (os os' : ℕ → Object) → Stands c os → ((m : ℕ) → os' m ≡ os m) → Stands c os'
-  stands_same c os os' s same = record { thread = s.thread; is = λ m low. subst (Run fresh (at c.seen (cell_place k m))) (sym (same m)) (s.is m low); quiet = s.quiet; tails = s.tails; alone = s.alone }
+  stands_same c os os' s same = record { thread = s.thread; is = λ m low. subst (Run fresh (at c.seen (cell_place k m))) (sym (same m)) (s.is m low); quiet = s.quiet; tails = s.tails; alone = s.alone; lonely = s.lonely }
 
   -- it holds the mutexes that it owns
   held_is : (c : Card) (os : ℕ → Object) → Stands c os → held c ≡ held_by t os k.mutexes
@@ -119,25 +182,50 @@ module _ (k : Layout') (t : ℕ) (seen' : List (List Point)) (whole : (m : ℕ) 
   only_own c e os m ps low s tails grew own =
       let p : ℕ = cell_place k m in
       let since : List Point = grew.0 in
-      let rest : List Point = (tails m low).0 in
-      let all : (s.tails m low).0 ≡ since ++ rest = same_rest (at c.seen p) (s.tails m low).0 (since ++ rest) (sym (s.tails m low).1 ∙ (tails m low).1 ∙ ap (λ (l : List Point). l ++ rest) grew.1 ∙ append_assoc (at c.seen p) since rest) in
+      let rest : List Point = (tails.0 m low).0 in
+      let all : (s.tails.0 m low).0 ≡ since ++ rest = same_rest (at c.seen p) (s.tails.0 m low).0 (since ++ rest) (sym (s.tails.0 m low).1 ∙ (tails.0 m low).1 ∙ ap (λ (l : List Point). l ++ rest) grew.1 ∙ append_assoc (at c.seen p) since rest) in
       let only : OnlyBy t since = only_front t since rest (subst (OnlyBy t) all (s.alone m low)) in
       let mine : by t since ≡ ps = same_rest (by t (at c.seen p)) (by t since) ps (sym (by_append t (at c.seen p) since) ∙ ap (by t) (sym grew.1) ∙ own) in
       grew.1 ∙ ap (λ (l : List Point). at c.seen p ++ l) (sym (by_only t since only) ∙ mine)
 
-  still_alone : (c e : Card) (os : ℕ → Object) (m : ℕ) (low : m < k.mutexes) → Stands c os → (tails : Tails e) → Grew c (cell_place k m) e → OnlyBy t (tails m low).0
+  still_alone : (c e : Card) (os : ℕ → Object) (m : ℕ) (low : m < k.mutexes) → Stands c os → (tails : Tails e) → Grew c (cell_place k m) e → OnlyBy t (tails.0 m low).0
   still_alone c e os m low s tails grew =
       let p : ℕ = cell_place k m in
       let since : List Point = grew.0 in
-      let rest : List Point = (tails m low).0 in
-      let all : (s.tails m low).0 ≡ since ++ rest = same_rest (at c.seen p) (s.tails m low).0 (since ++ rest) (sym (s.tails m low).1 ∙ (tails m low).1 ∙ ap (λ (l : List Point). l ++ rest) grew.1 ∙ append_assoc (at c.seen p) since rest) in
+      let rest : List Point = (tails.0 m low).0 in
+      let all : (s.tails.0 m low).0 ≡ since ++ rest = same_rest (at c.seen p) (s.tails.0 m low).0 (since ++ rest) (sym (s.tails.0 m low).1 ∙ (tails.0 m low).1 ∙ ap (λ (l : List Point). l ++ rest) grew.1 ∙ append_assoc (at c.seen p) since rest) in
       only_rest t since rest (subst (OnlyBy t) all (s.alone m low))
+
+  known_before : (c d : Card) → KnowsOn c d → Tails d → (p : ℕ) → (zs : List Change) × (changes_at changes' p ≡ changes_at c.changes p ++ zs)
+  known_before c d on tails p = ((on p).0 ++ (tails.1 p).0, (tails.1 p).1 ∙ ap (λ (l : List Change). l ++ (tails.1 p).0) (sym (on p).1) ∙ append_assoc (changes_at c.changes p) (on p).0 (tails.1 p).0)
+
+  changes_left : (c e : Card) (os : ℕ → Object) (p : ℕ) (since : List Change) → (s : Stands c os) → (tails : Tails e) → changes_at e.changes p ≡ changes_at c.changes p ++ since → (s.tails.1 p).0 ≡ since ++ (tails.1 p).0
+  changes_left c e os p since s tails grows =
+      let mine : List Change = changes_at c.changes p in
+      let rest : List Change = (tails.1 p).0 in
+      same_rest mine (s.tails.1 p).0 (since ++ rest) (sym (s.tails.1 p).1 ∙ (tails.1 p).1 ∙ ap (λ (l : List Change). l ++ rest) grows ∙ append_assoc mine since rest)
+
+  still_lonely : (c e : Card) (os : ℕ → Object) (p : ℕ) → Stands c os → (tails : Tails e) → KnowsOn c e → length (made_by_others t (tails.1 p).0) ≤ 1
+  still_lonely c e os p s tails on =
+      let all = ap (λ (l : List Change). length (made_by_others t l)) (changes_left c e os p (on p).0 s tails (sym (on p).1)) in
+      let sum = others_sum t (on p).0 (tails.1 p).0 in
+      let few = s.lonely p in
+      omega (arith, all, sum, few)
+
+  -- so no trylock is raced
+  never_raced : (c e : Card) (os : ℕ → Object) (p : ℕ) → Stands c os → Tails e → OthersChanged 4 c p e → ⊥
+  never_raced c e os p s tails raced =
+      let all = ap (λ (l : List Change). length (made_by_others t l)) (changes_left c e os p raced.since s tails raced.grows) in
+      let sum = others_sum t raced.since (tails.1 p).0 in
+      let few = s.lonely p in
+      let many : 4 ≤ length (made_by_others t raced.since) = subst (λ (u : ℕ). 4 ≤ length (made_by_others u raced.since)) s.thread raced.others in
+      absurd (omega (arith, all, sum, few, many))
 
   -- the mutex behind a beginning of what all see at the end
   run_there : (e : Card) (m : ℕ) → m < k.mutexes → Tails e → (o : Object) × Run fresh (at e.seen (cell_place k m)) o
   run_there e m low tails =
-      let all = subst (λ (l : List Point). Run fresh l (whole m low).0) (tails m low).1 (whole m low).1 in
-      let part = run_split fresh (whole m low).0 (at e.seen (cell_place k m)) (tails m low).0 all in
+      let all = subst (λ (l : List Point). Run fresh l (whole m low).0) (tails.0 m low).1 (whole m low).1 in
+      let part = run_split fresh (whole m low).0 (at e.seen (cell_place k m)) (tails.0 m low).0 all in
       (part.0, part.1)
 
   -- its own points lead there
@@ -158,6 +246,7 @@ module _ (k : Layout') (t : ℕ) (seen' : List (List Point)) (whole : (m : ℕ) 
     quiet = λ p none. ap (by t) (saw.elsewhere p (none m low)) ∙ s.quiet p none;
     tails = tails;
     alone = λ l lower. still_alone c e os l lower s tails (saw_grew c e (cell_place k m) (cell_place k l) acts saw);
+    lonely = λ p. still_lonely c e os p s tails saw.knows;
   }
 
   own_points : (c e : Card) (os : ℕ → Object) (m : ℕ) (acts : List Act) → m < k.mutexes → Stands c os → Saw c (cell_place k m) acts e → Tails e → at e.seen (cell_place k m) ≡ at c.seen (cell_place k m) ++ points_of t (cell_place k m) acts
@@ -176,23 +265,23 @@ module _ (k : Layout') (t : ℕ) (seen' : List (List Point)) (whole : (m : ℕ) 
   abbrev With : Card → (ℕ → Object) → ℕ → Operation → Reply → Type 0
   With e os m op r = IsAnswer (held_by t os k.mutexes) t op (os m) r × Stands e (λ l. if l == m then stepped (os l) t op r else os l)
 
-  one_point : (c e : Card) (os : ℕ → Object) (m : ℕ) (op : Operation) (r : Reply) → m < k.mutexes → (acquires op ≡ true → nat_le held_limit (held_by t os k.mutexes) ≡ false) → op ≢ operation.Death → Stands c os → Called c (cell_place k m) ((op, r) ∷ []) e → Tails e → With e os m op r
-  one_point c e os m op r low few alive s called tails =
+  one_point : (c e : Card) (os : ℕ → Object) (m : ℕ) (op : Operation) (r : Reply) → m < k.mutexes → (acquires op ≡ true → nat_le held_limit (held_by t os k.mutexes) ≡ false) → op ≢ operation.Death → (op ≡ operation.TryLock → r ≢ XRACED) → Stands c os → Called c (cell_place k m) ((op, r) ∷ []) e → Tails e → With e os m op r
+  one_point c e os m op r low few alive won s called tails =
       let p : ℕ = cell_place k m in
       let grows = own_points c e os m ((op, r) ∷ []) low s called.saw tails in
       let on = runs_on c e os m (points_of t p ((op, r) ∷ [])) low s tails grows in
       let step : Permits (os m) t op r on.1.0 = on.1.1 in
       let becomes : on.0 ≡ stepped (os m) t op r = on.1.2 ∙ permits_steps (os m) t op r on.1.0 step in
       let os' : ℕ → Object = λ l. if l == m then stepped (os l) t op r else os l in (
-        permits_answer (held_by t os k.mutexes) t (os m) on.1.0 op r few (sound (at c.seen p) (os m) (s.is m low)) alive step,
+        permits_answer (held_by t os k.mutexes) t (os m) on.1.0 op r few (sound (at c.seen p) (os m) (s.is m low)) alive won step,
         stands_on c e os os' m ((op, r) ∷ []) s called.saw tails (subst (Run fresh (at e.seen p)) (becomes ∙ sym (here_is os m m (stepped (os m) t op r) refl)) on.2) (λ l other. there_is os m l (stepped (os l) t op r) other) low,
       )
 
   -- a lock or a trylock
-  takes_one : (c e : Card) (os : ℕ → Object) (m : ℕ) (op : Operation) (r : Reply) → m < k.mutexes → op ≢ operation.Death → (IsAnswer (held_by t os k.mutexes) t op (os m) XHELD ≡ (answer (held_by t os k.mutexes) t op (os m) ≡ Some XHELD)) → Stands c os
+  takes_one : (c e : Card) (os : ℕ → Object) (m : ℕ) (op : Operation) (r : Reply) → m < k.mutexes → op ≢ operation.Death → (op ≡ operation.TryLock → r ≢ XRACED) → (IsAnswer (held_by t os k.mutexes) t op (os m) XHELD ≡ (answer (held_by t os k.mutexes) t op (os m) ≡ Some XHELD)) → Stands c os
       → MatchBool (nat_le held_limit (held c)) ((r ≡ XHELD) × (e ≡ c)) (Called c (cell_place k m) ((op, r) ∷ []) e) → Tails e
       → (nat_le held_limit (held_by t os k.mutexes) ≡ true → (answer (held_by t os k.mutexes) t op (os m) ≡ Some XHELD) × ((o : Object) → stepped o t op XHELD ≡ o)) → With e os m op r
-  takes_one c e os m op r low alive plain s took tails full = go (nat_le held_limit (held c)) (ap (nat_le held_limit) (sym (held_is c os s))) took where
+  takes_one c e os m op r low alive won plain s took tails full = go (nat_le held_limit (held c)) (ap (nat_le held_limit) (sym (held_is c os s))) took where
     kept : (b : Bool) (o : Object) → stepped o t op XHELD ≡ o → (if b then stepped o t op XHELD else o) ≡ o
     kept true o e = e
     kept false o e = refl
@@ -202,7 +291,7 @@ module _ (k : Layout') (t : ℕ) (seen' : List (List Point)) (whole : (m : ℕ) 
         let told = full is in
         subst (λ (z : Reply). With e os m op z) (sym refused.0)
         (subst (λ (A : Type 0). A) (sym plain) told.0, subst (λ (z : Card). Stands z (λ l. if l == m then stepped (os l) t op XHELD else os l)) (sym refused.1) (stands_same c os (λ l. if l == m then stepped (os l) t op XHELD else os l) s (λ l. kept (l == m) (os l) (told.1 (os l)))))
-    go false is called = one_point c e os m op r low (λ acquires. is) alive s called tails
+    go false is called = one_point c e os m op r low (λ acquires. is) alive won s called tails
 
   -- ---- a wait
 
@@ -214,7 +303,7 @@ module _ (k : Layout') (t : ℕ) (seen' : List (List Point)) (whole : (m : ℕ) 
       let called : Called c p acts e = subst (λ (z : ℕ). Called c z acts e) at_m took.called in
       let released : Called c p ((operation.Unlock, OK) ∷ []) took.awake = subst (λ (z : ℕ). Called c z ((operation.Unlock, OK) ∷ []) took.awake) at_m took.released in
       let later : Called took.awake p ((operation.Lock, r) ∷ []) e = subst (λ (z : ℕ). Called took.awake z ((operation.Lock, r) ∷ []) e) at_m took.took in
-      let tails' : Tails took.awake = λ l lower. ahead took.awake e l lower tails (saw_grew took.awake e p (cell_place k l) ((operation.Lock, r) ∷ []) later.saw) in
+      let tails' : Tails took.awake = (λ l lower. ahead took.awake e l lower tails (saw_grew took.awake e p (cell_place k l) ((operation.Lock, r) ∷ []) later.saw), known_before took.awake e later.saw.knows tails) in
       let grows = own_points c e os m acts low s called.saw tails in
       let on = runs_on c e os m (points_of t p acts) low s tails grows in
       let mid : Object = on.1.0 in
@@ -231,7 +320,7 @@ module _ (k : Layout') (t : ℕ) (seen' : List (List Point)) (whole : (m : ℕ) 
       )
     where
       ahead : (d e : Card) (l : ℕ) → l < k.mutexes → Tails e → Grew d (cell_place k l) e → (xs : List Point) × (at seen' (cell_place k l) ≡ at d.seen (cell_place k l) ++ xs)
-      ahead d e l lower tails grew = (grew.0 ++ (tails l lower).0, (tails l lower).1 ∙ ap (λ (x : List Point). x ++ (tails l lower).0) grew.1 ∙ append_assoc (at d.seen (cell_place k l)) grew.0 (tails l lower).0)
+      ahead d e l lower tails grew = (grew.0 ++ (tails.0 l lower).0, (tails.0 l lower).1 ∙ ap (λ (x : List Point). x ++ (tails.0 l lower).0) grew.1 ∙ append_assoc (at d.seen (cell_place k l)) grew.0 (tails.0 l lower).0)
 
       stays : (o : Object) (x : Reply) → stepped o t operation.Wait x ≡ o
       stays o x = refl
@@ -241,31 +330,28 @@ module _ (k : Layout') (t : ℕ) (seen' : List (List Point)) (whole : (m : ℕ) 
 
   -- ---- any call
 
-  abbrev full : (os : ℕ → Object) (m : ℕ) → Type 0
-  full os m = nat_le held_limit (held_by t os k.mutexes) ≡ true
-
-  not_death : (op : Operation) → Type 0
-  not_death op = op ≢ operation.Death
-
   replied_alone : (c e : Card) (os : ℕ → Object) (call : Op) (r : Reply) → mutex_of k call < k.mutexes → Stands c os → Replied k c call r e → Tails e → IsAnswer (held_by t os k.mutexes) t (operation_of call) (os (mutex_of k call)) r × Stands e (behind k t os call r)
-  replied_alone c e os (OnMutex (Lock m)) r low s told tails = takes_one c e os m operation.Lock r low (λ same. cc same) refl s told tails (λ is. (full_taking t _ (os m).unusable (os m).owner (os m).inconsistent _ _ is, λ o. refl))
-  replied_alone c e os (OnMutex (TryLock m)) r low s told tails = takes_one c e os m operation.TryLock r low (λ same. cc same) refl s told.0 tails (λ is. (full_taking t _ (os m).unusable (os m).owner (os m).inconsistent _ _ is, λ o. refl))
-  replied_alone c e os (OnMutex (Unlock m)) r low s told tails = one_point c e os m operation.Unlock r low (λ same. absurd (cc same)) (λ same. cc same) s told tails
-  replied_alone c e os (OnMutex (Consistent m)) r low s told tails = one_point c e os m operation.Consistent r low (λ same. absurd (cc same)) (λ same. cc same) s told tails
-  replied_alone c e os (OnCondition (Signal q)) r low s told tails = one_point c e os (mutex_of k (OnCondition (Signal q))) operation.Signal r low (λ same. absurd (cc same)) (λ same. cc same) s told.called tails
-  replied_alone c e os (OnCondition (Broadcast q)) r low s told tails = one_point c e os (mutex_of k (OnCondition (Broadcast q))) operation.Broadcast r low (λ same. absurd (cc same)) (λ same. cc same) s told.called tails
+  replied_alone c e os (OnMutex (Lock m)) r low s told tails = takes_one c e os m operation.Lock r low (λ same. cc same) (λ same. absurd (cc same)) refl s told tails (λ is. (full_taking t _ (os m).unusable (os m).owner (os m).inconsistent _ _ is, λ o. refl))
+  replied_alone c e os (OnMutex (TryLock m)) r low s told tails = takes_one c e os m operation.TryLock r low (λ same. cc same) (λ same raced. never_raced c e os (cell_place k m) s tails (told.1 raced).1) refl s told.0 tails (λ is. (full_taking t _ (os m).unusable (os m).owner (os m).inconsistent _ _ is, λ o. refl))
+  replied_alone c e os (OnMutex (Unlock m)) r low s told tails = one_point c e os m operation.Unlock r low (λ same. absurd (cc same)) (λ same. cc same) (λ same. absurd (cc same)) s told tails
+  replied_alone c e os (OnMutex (Consistent m)) r low s told tails = one_point c e os m operation.Consistent r low (λ same. absurd (cc same)) (λ same. cc same) (λ same. absurd (cc same)) s told tails
+  replied_alone c e os (OnCondition (Signal q)) r low s told tails = one_point c e os (mutex_of k (OnCondition (Signal q))) operation.Signal r low (λ same. absurd (cc same)) (λ same. cc same) (λ same. absurd (cc same)) s told.called tails
+  replied_alone c e os (OnCondition (Broadcast q)) r low s told tails = one_point c e os (mutex_of k (OnCondition (Broadcast q))) operation.Broadcast r low (λ same. absurd (cc same)) (λ same. cc same) (λ same. absurd (cc same)) s told.called tails
   replied_alone c e os (OnCondition (Wait q)) r low s told tails = ⊎_elim
-      (λ (refused : CondEnded k q operation.Wait r c e). one_point c e os (mutex_of k (OnCondition (Wait q))) operation.Wait r low (λ same. absurd (cc same)) (λ same. cc same) s refused.called tails)
+      (λ (refused : CondEnded k q operation.Wait r c e). one_point c e os (mutex_of k (OnCondition (Wait q))) operation.Wait r low (λ same. absurd (cc same)) (λ same. cc same) (λ same. absurd (cc same)) s refused.called tails)
       (λ (took : TookAgain k c q r e). took_again c e os q (mutex_of k (OnCondition (Wait q))) r refl low s took tails)
       told
 
   -- ---- all of its calls
 
-  before : (c d : Card) → Tails d → ((p : ℕ) → Grew c p d) → Tails c
-  before c d tails grew m low =
-      let p : ℕ = cell_place k m in
-      let g = grew p in
-      (g.0 ++ (tails m low).0, (tails m low).1 ∙ ap (λ (l : List Point). l ++ (tails m low).0) g.1 ∙ append_assoc (at c.seen p) g.0 (tails m low).0)
+  before : (c d : Card) → Tails d → ((p : ℕ) → Grew c p d) → KnowsOn c d → Tails c
+  before c d tails grew on = (
+    λ m low.
+        let p : ℕ = cell_place k m in
+        let g = grew p in
+        (g.0 ++ (tails.0 m low).0, (tails.0 m low).1 ∙ ap (λ (l : List Point). l ++ (tails.0 m low).0) g.1 ∙ append_assoc (at c.seen p) g.0 (tails.0 m low).0),
+    known_before c d on tails,
+  )
 
   pub answered_alone : (c d : Card) (os : ℕ → Object) (cs : List Op) (rs : List Reply) → Within k cs → Stands c os → Answered k c cs rs d → Tails d → (os' : ℕ → Object) × AreAnswered k t os cs rs os' × Stands d os'
   answered_alone c d os [] [] within s same tails = (os, refl, subst (λ (z : Card). Stands z os) same s)
@@ -273,7 +359,7 @@ module _ (k : Layout') (t : ℕ) (seen' : List (List Point)) (whole : (m : ℕ) 
   answered_alone c d os (x ∷ cs) [] within s answered tails = absurd answered
   answered_alone c d os (x ∷ cs) (r ∷ rs) within s answered tails =
       let e : Card = answered.0 in
-      let first = replied_alone c e os x r within.0 s answered.1 (before e d tails (λ p. answered_grew k p e cs rs d answered.2)) in
+      let first = replied_alone c e os x r within.0 s answered.1 (before e d tails (λ p. answered_grew k p e cs rs d answered.2) (answered_knows k e cs rs d answered.2)) in
       let rest = answered_alone e d (behind k t os x r) cs rs within.1 first.1 answered.2 tails in
       (rest.0, (first.0, rest.1), rest.2)
 
@@ -298,10 +384,13 @@ module _ (k : Layout') (t : ℕ) (seen' : List (List Point)) (whole : (m : ℕ) 
     died = died_of k c call was.dead was.died
 
     tails' : Tails was.dead
-    tails' l lower =
-        let p : ℕ = cell_place k l in
-        let g = reaped_grew k l was.dead d lower was.reaped in
-        (g.0 ++ (tails l lower).0, (tails l lower).1 ∙ ap (λ (x : List Point). x ++ (tails l lower).0) g.1 ∙ append_assoc (at was.dead.seen p) g.0 (tails l lower).0)
+    tails' = (
+      λ l lower.
+          let p : ℕ = cell_place k l in
+          let g = reaped_grew k l was.dead d lower was.reaped in
+          (g.0 ++ (tails.0 l lower).0, (tails.0 l lower).1 ∙ ap (λ (x : List Point). x ++ (tails.0 l lower).0) g.1 ∙ append_assoc (at was.dead.seen p) g.0 (tails.0 l lower).0),
+      known_before was.dead d was.reaped.changes tails,
+    )
 
     on : (o : Object) × Run (os m) (points_of t (cell_place k m) died.acts) o × Run fresh (at was.dead.seen (cell_place k m)) o
     on = runs_on c was.dead os m (points_of t (cell_place k m) died.acts) low s tails' (own_points c was.dead os m died.acts low s died.saw tails')

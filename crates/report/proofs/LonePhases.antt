@@ -1,6 +1,7 @@
 -- A phase in which one thread alone has calls.
-use Rattle.std.proofs.Common.{◌≡◌, ◌≢◌, ℕ, zero, suc, ◌+◌, ◌-◌, ◌<◌, Bool, true, false, not, Option, Some, List, [], ◌∷◌, ◌++◌, length, drop, take, slice_get, Vec, refl, sym, ap, ◌∙◌, subst, arith, append_assoc, append-nil}
-use Rattle.std.specs.Prelude.{◌&&◌}
+use Rattle.std.proofs.Common.{◌≡◌, ◌≢◌, ℕ, zero, suc, ◌+◌, ◌-◌, ◌<◌, ◌≤◌, Bool, true, false, not, Option, Some, List, [], ◌∷◌, ◌++◌, length, drop, take, slice_get, Vec, refl, sym, ap, ◌∙◌, subst, arith, append_assoc, append-nil}
+use Rattle.std.specs.Prelude.{◌&&◌, ◌==◌}
+use Rattle.std.proofs.lemmas.List.Elements.{filter-append}
 use Rattle.std.specs.declared.alloc.Global.{Global}
 use mathlib.Core.Logic.{dite}
 use native.Mathlib.Decide.{ℕ_discrete}
@@ -12,8 +13,10 @@ use Rattle.keys.specs.Objects.{fresh, Run}
 use Rattle.condvar.specs.declared.op.Op.{Op}
 use Rattle.condvar.specs.Ops.{mutex_of}
 use Rattle.ruledwords.specs.declared.pass.Card.{Card}
+use Rattle.ruledwords.specs.declared.pass.Change.{Change}
 use Rattle.ruledwords.specs.declared.pass.Words.{Words}
 use Rattle.ruledwords.specs.Cards.{at}
+use Rattle.ruledwords.specs.Changes.{changes_at, made_by, made_by_others, AreBehindFirst, KnowsOn}
 use Rattle.ruledwords.specs.Meetings.{ComesToKnow}
 use Rattle.ruledwords.specs.Passes.{card, layout_of}
 use Rattle.ruledwords.specs.Seen.{by, AllOf}
@@ -27,7 +30,8 @@ use Rattle.report.specs.Lone.{IsLone, PlaysAlone, Rest}
 use Rattle.report.specs.Meetings.{is_reaped}
 use Rattle.report.specs.Parts.{Part}
 use Rattle.report.specs.Threads.{calls_in, open_gate, HasPassed, Works, WorksFrom}
-use Rattle.report.proofs.LoneCalls.{answered_alone, died_alone, only_from, OnlyBy, Stands, Within, by_only, only_rest}
+use Rattle.ruledwords.proofs.Changes.{knows_on_self, knows_on_then}
+use Rattle.report.proofs.LoneCalls.{answered_alone, died_alone, only_from, OnlyBy, Stands, Within, by_only, only_rest, answered_knows, others_few}
 use Rattle.report.proofs.Parts.{by_append}
 use Rattle.report.proofs.Passed.{calls_of, drop_past, gone_at, gone_is, gone_same, items_are, items_at, known_at, part_of, same_rest, did, AreAbreast}
 use Rattle.report.proofs.Phases.{all_at, some_at}
@@ -51,6 +55,20 @@ idle w u more v works = from u.pass u.die works where
 threads_of : (w : Words) (pass : WorkerPass) → IsWorkerOf w pass → (card_in pass).threads ≡ (layout_of w).threads
 threads_of w (Lives a) is = is.0.1.threads
 threads_of w (Reaped d) is = is.1.threads
+
+-- what a thread knew of changes begins what it knows
+worked_knows : (w : Words) (a : Card) (calls : List Op) (more : List Reply) (pass : WorkerPass) → Worked w open_gate a calls more pass → KnowsOn a (card_in pass)
+worked_knows w a calls more (Lives b) worked = answered_knows (layout_of w) a calls more (card b) (all_answered w a calls more b worked)
+worked_knows w a calls more (Reaped d) worked =
+    let was = worked.stops.1.3 in
+    let died = died_of (layout_of w) worked.last worked.stops.1.0 was.dead was.died in
+    knows_on_then a worked.last (card d) (answered_knows (layout_of w) a (take (length more) calls) more worked.last worked.answered) (knows_on_then worked.last was.dead (card d) died.saw.knows was.reaped.changes)
+
+works_knows : (w : Words) (calls : List Op) (u : Worker) (more : List Reply) (v : Worker) → Works w calls u more v → KnowsOn (card_in u.pass) (card_in v.pass)
+works_knows w calls u more v works = from u.pass u.die works where
+  from : (pass : WorkerPass) (die : Option ℕ) → WorksFrom w calls die pass more v → KnowsOn (card_in pass) (card_in v.pass)
+  from (Lives a) die works = worked_knows w (card a) calls more v.pass works.0
+  from (Reaped d) die works = subst (KnowsOn (card d)) (sym (ap card_in works.0)) (knows_on_self (card d))
 
 -- ---- calls up to one
 
@@ -78,33 +96,35 @@ pub record HasPlayed (k : Layout') (t : ℕ) (gone : Bool) (os : ℕ → Object)
   pub is : (m : ℕ) → m < k.mutexes → Run fresh (at (card_in v.pass).seen (cell_place k m)) (mid m)
   pub quiet : is_reaped v.pass ≡ false → (p : ℕ) → IsNoCell k p → by t (at (card_in v.pass).seen p) ≡ []
 
-module _ (w : Words) (t : ℕ) (seen' : List (List Point)) (whole : (m : ℕ) → m < (layout_of w).mutexes → (o : Object) × Run fresh (at seen' (cell_place (layout_of w) m)) o) (os : ℕ → Object) (calls : List Op) (within : Within (layout_of w) calls) (more : List Reply) (v : Worker)
-    (tails : (m : ℕ) → m < (layout_of w).mutexes → (xs : List Point) × (at seen' (cell_place (layout_of w) m) ≡ at (card_in v.pass).seen (cell_place (layout_of w) m) ++ xs)) where
-  -- one that lives on, and one that dies
-  worked_alone : (a : Card) (pass : WorkerPass) → Stands (layout_of w) t seen' whole a os → Worked w open_gate a calls more pass → ((m : ℕ) → m < (layout_of w).mutexes → (xs : List Point) × (at seen' (cell_place (layout_of w) m) ≡ at (card_in pass).seen (cell_place (layout_of w) m) ++ xs))
-      → (mid : ℕ → Object) × PlaysAlone (layout_of w) t false os calls more (is_reaped pass) mid × ((m : ℕ) → m < (layout_of w).mutexes → Run fresh (at (card_in pass).seen (cell_place (layout_of w) m)) (mid m)) × (is_reaped pass ≡ false → (p : ℕ) → IsNoCell (layout_of w) p → by t (at (card_in pass).seen p) ≡ [])
-  worked_alone a (Lives b) s worked tails =
-      let all = all_answered w a calls more b worked in
-      let did = answered_alone (layout_of w) t seen' whole a (card b) os calls more within s all tails in
-      (did.0, did.1, did.2.is, λ lives. did.2.quiet)
-  worked_alone a (Reaped d) s worked tails =
-      let k : Layout' = layout_of w in
-      let next = worked.stops.1 in
-      let was = next.3 in
-      let died = died_of k worked.last next.0 was.dead was.died in
-      let tails' : (m : ℕ) → m < k.mutexes → (xs : List Point) × (at seen' (cell_place k m) ≡ at worked.last.seen (cell_place k m) ++ xs) = λ m low.
-      let p : ℕ = cell_place k m in
-      let g = then_grew worked.last was.dead (card d) p (saw_grew worked.last was.dead (cell_place k (mutex_of k next.0)) p died.acts died.saw) (reaped_grew k m was.dead (card d) low was.reaped) in
-      (g.0 ++ (tails m low).0, (tails m low).1 ∙ ap (λ (l : List Point). l ++ (tails m low).0) g.1 ∙ append_assoc (at worked.last.seen p) g.0 (tails m low).0)
-      in
-      let did = answered_alone k t seen' whole a worked.last os (take (length more) calls) more (within_take k (length more) calls within) s worked.answered tails' in
-      let end = died_alone k t seen' whole worked.last (card d) did.0 next.0 (within_at k (length more) calls next.0 within next.1) did.2 was tails in
-      let left = end.1 in (
-        end.0,
-        record { call = next.0; next = next.1; before = did.0; told = did.1; acts = left.acts; begun = left.begun; left = left.left; decided = left.decided; after = left.after },
-        left.is,
-        λ lives. absurd (cc lives),
-      )
+module _ (w : Words) (t : ℕ) (seen' : List (List Point)) (changes' : List (List Change)) (whole : (m : ℕ) → m < (layout_of w).mutexes → (o : Object) × Run fresh (at seen' (cell_place (layout_of w) m)) o) (os : ℕ → Object) (calls : List Op) (within : Within (layout_of w) calls) (more : List Reply) (v : Worker)
+  where
+    -- one that lives on, and one that dies
+    worked_alone : (a : Card) (pass : WorkerPass) → Stands (layout_of w) t seen' changes' whole a os → Worked w open_gate a calls more pass → (((m : ℕ) → m < (layout_of w).mutexes → (xs : List Point) × (at seen' (cell_place (layout_of w) m) ≡ at (card_in pass).seen (cell_place (layout_of w) m) ++ xs)) × ((p : ℕ) → (zs : List Change) × (changes_at changes' p ≡ changes_at (card_in pass).changes p ++ zs)))
+        → (mid : ℕ → Object) × PlaysAlone (layout_of w) t false os calls more (is_reaped pass) mid × ((m : ℕ) → m < (layout_of w).mutexes → Run fresh (at (card_in pass).seen (cell_place (layout_of w) m)) (mid m)) × (is_reaped pass ≡ false → (p : ℕ) → IsNoCell (layout_of w) p → by t (at (card_in pass).seen p) ≡ [])
+    worked_alone a (Lives b) s worked tails =
+        let all = all_answered w a calls more b worked in
+        let did = answered_alone (layout_of w) t seen' changes' whole a (card b) os calls more within s all tails in
+        (did.0, did.1, did.2.is, λ lives. did.2.quiet)
+    worked_alone a (Reaped d) s worked tails =
+        let k : Layout' = layout_of w in
+        let next = worked.stops.1 in
+        let was = next.3 in
+        let died = died_of k worked.last next.0 was.dead was.died in
+        let seen_on : (m : ℕ) → m < k.mutexes → (xs : List Point) × (at seen' (cell_place k m) ≡ at worked.last.seen (cell_place k m) ++ xs) = λ m low.
+        let p : ℕ = cell_place k m in
+        let g = then_grew worked.last was.dead (card d) p (saw_grew worked.last was.dead (cell_place k (mutex_of k next.0)) p died.acts died.saw) (reaped_grew k m was.dead (card d) low was.reaped) in
+        (g.0 ++ (tails.0 m low).0, (tails.0 m low).1 ∙ ap (λ (l : List Point). l ++ (tails.0 m low).0) g.1 ∙ append_assoc (at worked.last.seen p) g.0 (tails.0 m low).0)
+        in
+        let on : KnowsOn worked.last (card d) = knows_on_then worked.last was.dead (card d) died.saw.knows was.reaped.changes in
+        let known : (p : ℕ) → (zs : List Change) × (changes_at changes' p ≡ changes_at worked.last.changes p ++ zs) = λ p. ((on p).0 ++ (tails.1 p).0, (tails.1 p).1 ∙ ap (λ (l : List Change). l ++ (tails.1 p).0) (sym (on p).1) ∙ append_assoc (changes_at worked.last.changes p) (on p).0 (tails.1 p).0) in
+        let did = answered_alone k t seen' changes' whole a worked.last os (take (length more) calls) more (within_take k (length more) calls within) s worked.answered (seen_on, known) in
+        let end = died_alone k t seen' changes' whole worked.last (card d) did.0 next.0 (within_at k (length more) calls next.0 within next.1) did.2 was tails in
+        let left = end.1 in (
+          end.0,
+          record { call = next.0; next = next.1; before = did.0; told = did.1; acts = left.acts; begun = left.begun; left = left.left; decided = left.decided; after = left.after },
+          left.is,
+          λ lives. absurd (cc lives),
+        )
 
 -- ---- the phase
 
@@ -140,6 +160,9 @@ module _ (w : Words) (n : ℕ) (p : Phase) (us met : List Worker) (rs rs' : List
   abbrev seen' : List (List Point)
   seen' = h.meeting.know.seen
 
+  abbrev changes' : List (List Change)
+  changes' = h.meeting.know.changes
+
   abbrev q : Part
   q = part_of k seen seen' us vs rs rs'
 
@@ -160,6 +183,7 @@ module _ (w : Words) (n : ℕ) (p : Phase) (us met : List Worker) (rs rs' : List
     thread_u : (card_in u.pass).thread ≡ j + 1
     thread_v : (card_in v.pass).thread ≡ j + 1
     threads : (card_in v.pass).threads ≡ n
+    changes_u : (card_in u.pass).changes ≡ abreast.changes
 
   did_so : (j : ℕ) → j < n → Did j
   did_so j low =
@@ -185,6 +209,7 @@ module _ (w : Words) (n : ℕ) (p : Phase) (us met : List Worker) (rs rs' : List
         thread_u = its.1;
         thread_v = thread_stays w (calls_in (j + 1) p) u.0 more.0 v.0 more.2 ∙ its.1;
         threads = threads_of w v.0.pass (all_at (λ (z : Worker). IsWorkerOf w z.pass) vs j v.0 h.work.right v.1) ∙ all;
+        changes_u = abreast.know j u.0 u.1;
       }
 
   own_of : (j : ℕ) (d : Did j) (x : ℕ) → by (j + 1) (at seen' x) ≡ by (j + 1) (at (card_in d.v.pass).seen x)
@@ -238,21 +263,44 @@ module _ (w : Words) (n : ℕ) (p : Phase) (us met : List Worker) (rs rs' : List
       let none : by t begins.0 ≡ [] = same_rest (by t last) (by t begins.0) [] (sym (by_append t last begins.0) ∙ ap (by t) begins.1 ∙ own_of i mine x ∙ sym (append-nil (by t last))) in
       sym begins.1 ∙ ap (λ (l : List Point). last ++ l) (sym (by_only t begins.0 only) ∙ none) ∙ append-nil last
 
-  tails : (m : ℕ) → m < k.mutexes → (xs : List Point) × (at seen' (cell_place k m) ≡ at (card_in mine.v.pass).seen (cell_place k m) ++ xs)
-  tails m low = ([], at_end m low ∙ sym (append-nil (at (card_in mine.v.pass).seen (cell_place k m))))
+  tails : ((m : ℕ) → m < k.mutexes → (xs : List Point) × (at seen' (cell_place k m) ≡ at (card_in mine.v.pass).seen (cell_place k m) ++ xs)) × ((x : ℕ) → (zs : List Change) × (changes_at changes' x ≡ changes_at (card_in mine.v.pass).changes x ++ zs))
+  tails = (λ m low. ([], at_end m low ∙ sym (append-nil (at (card_in mine.v.pass).seen (cell_place k m)))), λ x. ((mine.come.tied x).0.0, sym (mine.come.tied x).0.1))
 
-  stands : (a : Card) → a ≡ card_in mine.u.pass → is_reaped mine.u.pass ≡ false → Stands k t seen' whole a os
-  stands a same lives = subst (λ (c : Card). Stands k t seen' whole c os) (sym same) record {
+  -- of changes too
+  known_since : (x : ℕ) → (zs : List Change) × (changes_at changes' x ≡ changes_at (card_in mine.u.pass).changes x ++ zs)
+  known_since x =
+      let on = works_knows w (calls_in t p) mine.u mine.more mine.v mine.works x in
+      let rest = (mine.come.tied x).0 in
+      (on.0 ++ rest.0, sym rest.1 ∙ ap (λ (l : List Change). l ++ rest.0) (sym on.1) ∙ append_assoc (changes_at (card_in mine.u.pass).changes x) on.0 rest.0)
+
+  few_others : (x : ℕ) → length (made_by_others t (known_since x).0) ≤ 1
+  few_others x =
+      let before : List Change = changes_at (card_in mine.u.pass).changes x in
+      let zs : List Change = (known_since x).0 in
+      let are : AreBehindFirst n (before ++ zs) = subst (λ (z : ℕ × List Change). AreBehindFirst z.0 z.1) (λ y. (mine.threads y, (known_since x).1 y)) (mine.come.authors x) in
+      others_few n t before zs are (λ u pos most other.
+      let j : ℕ = u - 1 in
+      let is : j + 1 ≡ u = omega (arith, pos) in
+      let apart : j ≢ i = λ e. other (sym is ∙ ap (λ (z : ℕ). z + 1) e) in
+      let d = did_so j (omega (arith, pos, most)) in
+      let still : (card_in d.v.pass).changes ≡ (card_in mine.u.pass).changes = ap (λ (c : Card). c.changes) (idle_is j (omega (arith, pos, most)) apart d).0 ∙ d.changes_u ∙ sym mine.changes_u in
+      let own : made_by u (changes_at (card_in d.v.pass).changes x) ≡ made_by u (changes_at changes' x) = subst (λ (z : ℕ). made_by z (changes_at (card_in d.v.pass).changes x) ≡ made_by z (changes_at changes' x)) (d.thread_v ∙ is) (d.come.tied x).1 in
+      let same : made_by u before ≡ made_by u (before ++ zs) = ap (λ (l : List (List Change)). made_by u (changes_at l x)) (sym still) ∙ own ∙ ap (made_by u) (known_since x).1 in
+      same_rest (made_by u before) (made_by u zs) [] (sym (filter-append (λ (y : Change). y.thread == u) before zs) ∙ sym same ∙ sym (append-nil (made_by u before))))
+
+  stands : (a : Card) → a ≡ card_in mine.u.pass → is_reaped mine.u.pass ≡ false → Stands k t seen' changes' whole a os
+  stands a same lives = subst (λ (c : Card). Stands k t seen' changes' whole c os) (sym same) record {
     thread = mine.thread_u;
     is = λ m low. subst (λ (s : List (List Point)). Run fresh (at s (cell_place k m)) (os m)) (sym mine.seen_is) (stand m low);
     quiet = λ x none. ap (λ (s : List (List Point)). by t (at s x)) mine.seen_is ∙ quiet i lone.inside (mine.gone ∙ lives) x none;
-    tails = λ m low. ((ahead m low).0, (ahead m low).1 ∙ ap (λ (s : List (List Point)). at s (cell_place k m) ++ (ahead m low).0) (sym mine.seen_is));
+    tails = (λ m low. ((ahead m low).0, (ahead m low).1 ∙ ap (λ (s : List (List Point)). at s (cell_place k m) ++ (ahead m low).0) (sym mine.seen_is)), known_since);
     alone = only_mine;
+    lonely = few_others;
   }
 
   played_so : (pass : WorkerPass) (die : Option ℕ) → pass ≡ mine.u.pass → WorksFrom w (calls_in t p) die pass mine.more mine.v → HasPlayed k t (is_reaped pass) os (calls_in t p) mine.more mine.v (is_reaped mine.v.pass && not (is_reaped pass))
   played_so (Lives a) die same works =
-      let did = worked_alone w t seen' whole os (calls_in t p) within mine.more mine.v tails (card a) mine.v.pass (stands (card a) (ap card_in same) (ap is_reaped (sym same))) works.0 tails in record {
+      let did = worked_alone w t seen' changes' whole os (calls_in t p) within mine.more mine.v (card a) mine.v.pass (stands (card a) (ap card_in same) (ap is_reaped (sym same))) works.0 tails in record {
         mid = did.0;
         plays = subst (λ (b : Bool). PlaysAlone k t false os (calls_in t p) mine.more b did.0) (sym (and_true (is_reaped mine.v.pass))) did.1;
         is = did.2;

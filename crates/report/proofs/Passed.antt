@@ -37,7 +37,7 @@ pub drop_past : {A : Type 0} (xs ys : List A) → drop (length xs) (xs ++ ys) �
 drop_past [] ys = refl
 drop_past (x ∷ xs) ys = drop_past xs ys
 
-pub same_rest : (xs ys zs : List Point) → xs ++ ys ≡ xs ++ zs → ys ≡ zs
+pub same_rest : {A : Type 0} (xs ys zs : List A) → xs ++ ys ≡ xs ++ zs → ys ≡ zs
 same_rest [] ys zs e = e
 same_rest (x ∷ xs) ys zs e = same_rest xs ys zs (cc e)
 
@@ -160,6 +160,8 @@ stays_dead w calls u more v works = from u.pass u.die works where
 pub record AreAbreast (n : ℕ) (seen : List (List Point)) (us : List Worker) : Type 0 where
   pub as_many : length us ≡ n
   pub each : (i : ℕ) (u : Worker) → slice_get us i ≡ Some u → ((card_in u.pass).seen ≡ seen) × ((card_in u.pass).thread ≡ i + 1)
+  pub changes : List (List Change)
+  pub know : (i : ℕ) (u : Worker) → slice_get us i ≡ Some u → (card_in u.pass).changes ≡ changes
 
 -- all that a thread met with, by what it knew
 pub known_at : (w : Words) (vs met : List Worker) (m : HaveMet w vs met) (i : ℕ) (v : Worker) → slice_get vs i ≡ Some v → ComesToKnow m.know.seen m.know.changes (card_in v.pass)
@@ -226,4 +228,10 @@ abreast_again w n seen p us met rs rs' h abreast long = record {
       let more = h.work.each i u.0 v.0 r.0 r'.0 u.1 v.1 r.1 r'.1 in
       let knows = met_at w h.worked met h.meeting i v.0 x v.1 is in
       (ap (λ (c : Card). c.seen) knows, ap (λ (c : Card). c.thread) knows ∙ thread_stays w (calls_in (i + 1) p) u.0 more.0 v.0 more.2 ∙ (abreast.each i u.0 u.1).1);
+  changes = h.meeting.know.changes;
+  know = λ i x is.
+      let inside = slice_get_within met i x is in
+      let most = many_met w h.worked met h.meeting in
+      let v = some_at h.worked i (omega (arith, inside, most)) in
+      ap (λ (c : Card). c.changes) (met_at w h.worked met h.meeting i v.0 x v.1 is);
 }

@@ -53,31 +53,31 @@ full_taking t f u w i mine anothers full = (λ z. taking t (full z) u w i mine a
 -- ---- any operation
 
 -- what the mutex permits is the answer
-pub permits_answer : (h t : ℕ) (o n : Object) (op : Operation) (r : Reply) → (acquires op ≡ true → nat_le held_limit h ≡ false) → (o.unusable ≡ true → o.owner ≡ None) → op ≢ Death → Permits o t op r n → IsAnswer h t op o r
-permits_answer h t o n Lock OK low sound alive p = free_taking t _ o.unusable o.owner o.inconsistent false (Some EDEADLK) None (low refl) p.0 p.1 p.2
-permits_answer h t o n Lock EOWNERDEAD low sound alive p = free_taking t _ o.unusable o.owner o.inconsistent true (Some EDEADLK) None (low refl) p.0 p.1 p.2
-permits_answer h t o n Lock ENOTRECOVERABLE low sound alive p = spoiled_taking t _ o.unusable o.owner o.inconsistent (Some EDEADLK) None (low refl) p.0
-permits_answer h t o n Lock EDEADLK low sound alive p = owned_taking t _ o.unusable o.owner o.inconsistent (Some EDEADLK) None (Some EDEADLK) (low refl) (usable o.unusable o.owner sound (owned_is t o.owner p.0)) (its_mine t o.owner (Some (taken o.inconsistent)) (Some EDEADLK) None p.0)
-permits_answer h t o n TryLock OK low sound alive p = free_taking t _ o.unusable o.owner o.inconsistent false (Some EBUSY) (Some EBUSY) (low refl) p.0 p.1 p.2
-permits_answer h t o n TryLock EOWNERDEAD low sound alive p = free_taking t _ o.unusable o.owner o.inconsistent true (Some EBUSY) (Some EBUSY) (low refl) p.0 p.1 p.2
-permits_answer h t o n TryLock ENOTRECOVERABLE low sound alive p = spoiled_taking t _ o.unusable o.owner o.inconsistent (Some EBUSY) (Some EBUSY) (low refl) p.0
-permits_answer h t o n TryLock EBUSY low sound alive p = owned_taking t _ o.unusable o.owner o.inconsistent (Some EBUSY) (Some EBUSY) (Some EBUSY) (low refl) (usable o.unusable o.owner sound p.0) (some_ones t o.owner (Some (taken o.inconsistent)) (Some EBUSY) p.0)
-permits_answer h t o n TryLock XRACED low sound alive p = free_taking t _ o.unusable o.owner o.inconsistent o.inconsistent (Some EBUSY) (Some EBUSY) (low refl) p.0 p.1 refl
-permits_answer h t o n Unlock OK low sound alive p = its_mine t o.owner (Some EPERM) (Some OK) (Some EPERM) p.0
-permits_answer h t o n Unlock EPERM low sound alive p = not_mine t o.owner (Some EPERM) (Some OK) p.0
-permits_answer h t o n Consistent OK low sound alive p = its_mine t o.owner (Some EPERM) _ (Some EPERM) p.0 ∙ ap (λ (b : Bool). Some (if b then OK else EINVAL)) p.1
-permits_answer h t o n Consistent EINVAL low sound alive p = its_mine t o.owner (Some EPERM) _ (Some EPERM) p.0 ∙ ap (λ (b : Bool). Some (if b then OK else EINVAL)) p.1
-permits_answer h t o n Consistent EPERM low sound alive p = not_mine t o.owner (Some EPERM) _ p.0
-permits_answer h t o n Wait XSTATE low sound alive p = its_mine t o.owner (Some EPERM) _ (Some EPERM) p.0 ∙ ap (λ (b : Bool). Some (if b then XSTATE else OK)) p.1
-permits_answer h t o n Wait EPERM low sound alive p = not_mine t o.owner (Some EPERM) _ p.0
-permits_answer h t o n Signal OK low sound alive p = its_mine t o.owner (Some EPERM) (Some OK) (Some EPERM) p.0
-permits_answer h t o n Signal XFULL low sound alive p = its_mine t o.owner (Some EPERM) (Some OK) (Some EPERM) p.0
-permits_answer h t o n Signal EPERM low sound alive p = not_mine t o.owner (Some EPERM) (Some OK) p.0
-permits_answer h t o n Broadcast OK low sound alive p = its_mine t o.owner (Some EPERM) (Some OK) (Some EPERM) p.0
-permits_answer h t o n Broadcast XFULL low sound alive p = its_mine t o.owner (Some EPERM) (Some OK) (Some EPERM) p.0
-permits_answer h t o n Broadcast EPERM low sound alive p = not_mine t o.owner (Some EPERM) (Some OK) p.0
-permits_answer h t o n Death OK low sound alive p = absurd (alive refl)
-permits_answer h t o n op r low sound alive p = absurd p
+pub permits_answer : (h t : ℕ) (o n : Object) (op : Operation) (r : Reply) → (acquires op ≡ true → nat_le held_limit h ≡ false) → (o.unusable ≡ true → o.owner ≡ None) → op ≢ Death → (op ≡ TryLock → r ≢ XRACED) → Permits o t op r n → IsAnswer h t op o r
+permits_answer h t o n Lock OK low sound alive won p = free_taking t _ o.unusable o.owner o.inconsistent false (Some EDEADLK) None (low refl) p.0 p.1 p.2
+permits_answer h t o n Lock EOWNERDEAD low sound alive won p = free_taking t _ o.unusable o.owner o.inconsistent true (Some EDEADLK) None (low refl) p.0 p.1 p.2
+permits_answer h t o n Lock ENOTRECOVERABLE low sound alive won p = spoiled_taking t _ o.unusable o.owner o.inconsistent (Some EDEADLK) None (low refl) p.0
+permits_answer h t o n Lock EDEADLK low sound alive won p = owned_taking t _ o.unusable o.owner o.inconsistent (Some EDEADLK) None (Some EDEADLK) (low refl) (usable o.unusable o.owner sound (owned_is t o.owner p.0)) (its_mine t o.owner (Some (taken o.inconsistent)) (Some EDEADLK) None p.0)
+permits_answer h t o n TryLock OK low sound alive won p = free_taking t _ o.unusable o.owner o.inconsistent false (Some EBUSY) (Some EBUSY) (low refl) p.0 p.1 p.2
+permits_answer h t o n TryLock EOWNERDEAD low sound alive won p = free_taking t _ o.unusable o.owner o.inconsistent true (Some EBUSY) (Some EBUSY) (low refl) p.0 p.1 p.2
+permits_answer h t o n TryLock ENOTRECOVERABLE low sound alive won p = spoiled_taking t _ o.unusable o.owner o.inconsistent (Some EBUSY) (Some EBUSY) (low refl) p.0
+permits_answer h t o n TryLock EBUSY low sound alive won p = owned_taking t _ o.unusable o.owner o.inconsistent (Some EBUSY) (Some EBUSY) (Some EBUSY) (low refl) (usable o.unusable o.owner sound p.0) (some_ones t o.owner (Some (taken o.inconsistent)) (Some EBUSY) p.0)
+permits_answer h t o n TryLock XRACED low sound alive won p = absurd (won refl refl)
+permits_answer h t o n Unlock OK low sound alive won p = its_mine t o.owner (Some EPERM) (Some OK) (Some EPERM) p.0
+permits_answer h t o n Unlock EPERM low sound alive won p = not_mine t o.owner (Some EPERM) (Some OK) p.0
+permits_answer h t o n Consistent OK low sound alive won p = its_mine t o.owner (Some EPERM) _ (Some EPERM) p.0 ∙ ap (λ (b : Bool). Some (if b then OK else EINVAL)) p.1
+permits_answer h t o n Consistent EINVAL low sound alive won p = its_mine t o.owner (Some EPERM) _ (Some EPERM) p.0 ∙ ap (λ (b : Bool). Some (if b then OK else EINVAL)) p.1
+permits_answer h t o n Consistent EPERM low sound alive won p = not_mine t o.owner (Some EPERM) _ p.0
+permits_answer h t o n Wait XSTATE low sound alive won p = its_mine t o.owner (Some EPERM) _ (Some EPERM) p.0 ∙ ap (λ (b : Bool). Some (if b then XSTATE else OK)) p.1
+permits_answer h t o n Wait EPERM low sound alive won p = not_mine t o.owner (Some EPERM) _ p.0
+permits_answer h t o n Signal OK low sound alive won p = its_mine t o.owner (Some EPERM) (Some OK) (Some EPERM) p.0
+permits_answer h t o n Signal XFULL low sound alive won p = its_mine t o.owner (Some EPERM) (Some OK) (Some EPERM) p.0
+permits_answer h t o n Signal EPERM low sound alive won p = not_mine t o.owner (Some EPERM) (Some OK) p.0
+permits_answer h t o n Broadcast OK low sound alive won p = its_mine t o.owner (Some EPERM) (Some OK) (Some EPERM) p.0
+permits_answer h t o n Broadcast XFULL low sound alive won p = its_mine t o.owner (Some EPERM) (Some OK) (Some EPERM) p.0
+permits_answer h t o n Broadcast EPERM low sound alive won p = not_mine t o.owner (Some EPERM) (Some OK) p.0
+permits_answer h t o n Death OK low sound alive won p = absurd (alive refl)
+permits_answer h t o n op r low sound alive won p = absurd p
 
 -- ---- a wait that took its mutex again
 

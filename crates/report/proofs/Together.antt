@@ -76,6 +76,12 @@ module _ (w : Words) (ps : List Phase) (passes : List (Pass Live)) (dies : List 
         let a = some_at passes i (omega (arith, inside, few)) in
         let its : card_in u.pass ≡ first_card k (i + 1) = ap card_in (numbers.each i a.0 u a.1 is).0 ∙ cards i a.0 a.1 in
         (ap (λ (c : Card). c.seen) its, ap (λ (c : Card). c.thread) its);
+    changes = [];
+    know = λ i u is.
+        let inside = slice_get_within firsts i u is in
+        let few = numbers.as_many in
+        let a = some_at passes i (omega (arith, inside, few)) in
+        ap (λ (c : Card). c.changes) (ap card_in (numbers.each i a.0 u a.1 is).0 ∙ cards i a.0 a.1);
   }
 
   th : Through w (layout_of w).threads ps firsts workers made.none replies []

@@ -1,7 +1,7 @@
 -- What a thread is answered while no other thread is in a call, and what that leaves of the mutexes (pthread_mutex_lock, pthread_mutex_trylock, pthread_mutex_unlock, pthread_mutex_consistent, pthread_cond_wait(3p)).
 use Rattle.std.specs.Prelude.{ℕ, ◌≡◌, ◌≢◌, ◌+◌, ◌<◌, ◌==◌, ◌||◌, Bool, true, false, nat_le, Option, None, Some, List, [], ◌∷◌, All, length, slice_get, take, if◌then◌else◌}
 use Rattle.lockword.specs.declared.reply.Reply.{Reply}
-use Rattle.lockword.specs.declared.reply.Reply.TheVariants.{OK, EPERM, EBUSY, EINVAL, EDEADLK, EOWNERDEAD, ENOTRECOVERABLE, XRACED, XHELD, XFULL, XSTATE}
+use Rattle.lockword.specs.declared.reply.Reply.TheVariants.{OK, EPERM, EBUSY, EINVAL, EDEADLK, EOWNERDEAD, ENOTRECOVERABLE, XHELD, XFULL, XSTATE}
 use Rattle.keys.specs.declared.object.Object.{Object}
 use Rattle.keys.specs.declared.point.Operation.{Operation}
 use Rattle.keys.specs.declared.point.Operation.TheVariants.{Lock, TryLock, Unlock, Consistent, Wait, Signal, Broadcast, Death}
@@ -41,9 +41,8 @@ answer held t Signal o = by_owner t o.owner (Some EPERM) (Some OK) (Some EPERM)
 answer held t Broadcast o = by_owner t o.owner (Some EPERM) (Some OK) (Some EPERM)
 answer held t Death o = None
 
--- the call was answered r: with that answer. But a trylock of a free mutex may give up with X_RACED, and an owner's signal or broadcast may be refused with X_FULL, by a counter that is full
+-- the call was answered r: with that answer. But an owner's signal or broadcast may be refused with X_FULL, by a counter that is full. (A trylock never gives up, as nobody else changes the cell)
 abbrev pub IsAnswer : ℕ → ℕ → Operation → Object → Reply → Type 0
-IsAnswer held t TryLock o XRACED = answer held t TryLock o ≡ Some (taken o.inconsistent)
 IsAnswer held t Signal o XFULL = answer held t Signal o ≡ Some OK
 IsAnswer held t Broadcast o XFULL = answer held t Broadcast o ≡ Some OK
 IsAnswer held t op o r = answer held t op o ≡ Some r
@@ -139,16 +138,12 @@ abbrev pub lone_replies : List ℕ → List Part → List (List Reply)
 lone_replies (i ∷ is) (q ∷ parts) = q.replies i ∷ lone_replies is parts
 lone_replies is parts = []
 
--- neither X_RACED nor X_FULL
-abbrev pub IsPlain : Reply → Type 0
-IsPlain r = (r ≢ XRACED) × (r ≢ XFULL)
-
--- nobody dies in these phases, and their replies are plain
+-- nobody dies in these phases, and no reply is X_FULL
 abbrev pub ArePlain : List ℕ → List Part → Type 0
-ArePlain (i ∷ is) (q ∷ parts) = (q.died i ≡ false) × All IsPlain (q.replies i) × ArePlain is parts
+ArePlain (i ∷ is) (q ∷ parts) = (q.died i ≡ false) × All (λ r. r ≢ XFULL) (q.replies i) × ArePlain is parts
 ArePlain is parts = Unit {0}
 
--- of phases each of which has one thread's calls all replies are known from the calls alone, where nobody dies and none is X_RACED or X_FULL
+-- of phases each of which has one thread's calls all replies are known from the calls alone, where nobody dies and none is X_FULL
 abbrev pub PhasesAreDetermined : Type 0
 PhasesAreDetermined = (k : Layout') (gone : ℕ → Bool) (os : ℕ → Object) (phases : List (ℕ → List Op)) (is : List ℕ) (parts : List Part) (os' : ℕ → Object)
     → ((i : ℕ) → i < k.threads → gone i ≡ false) → AreLone k.threads phases is → ArePlayed k gone os phases is parts os' → ArePlain is parts → lone_replies is parts ≡ played k os phases is

@@ -2,7 +2,7 @@
 ghost use Rattle.report.specs.Lone.{PhasesAreDetermined};
 
 /// Of a script whose phases have calls of one thread each all replies follow from the script alone: from mutexes that nobody has locked, each call is answered as its mutex allows then, to a thread
-/// that holds so many ([`serve`](crate::serve) tells of such a script what is played so). Said of phases in which nobody dies and no reply is X_RACED or X_FULL.
+/// that holds so many ([`serve`](crate::serve) tells of such a script what is played so). X_RACED never comes there. Said of phases in which nobody dies and no reply is X_FULL.
 pub fn phases_of_one_thread_are_determined()
     ensures { PhasesAreDetermined }
 {}
