@@ -7,7 +7,7 @@ use Rattle.explain.specs.Origins.{newest_line}
 
 -- ---- the first before a line
 
-taken : (before n k : ℕ) (ts : List (List ℕ)) → before - n ≡ k + 1 → take (before - n) ts ≡ take (suc k) ts
+pub taken : (before n k : ℕ) (ts : List (List ℕ)) → before - n ≡ k + 1 → take (before - n) ts ≡ take (suc k) ts
 taken before n k ts e = ap (λ i. take i ts) (e ∙ add-one k)
 
 -- a line that isn't the one

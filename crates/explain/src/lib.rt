@@ -31,6 +31,7 @@ mod notes;
 mod origins;
 mod program;
 mod quoting;
+mod ranges;
 mod scripts;
 mod serving;
 mod sought;
