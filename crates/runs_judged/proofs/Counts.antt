@@ -9,12 +9,12 @@ use Rattle.keys.specs.Layouts.{Layout', IsLayout}
 use Rattle.facts.specs.declared.fact.Queue.{Queue}
 use Rattle.facts.specs.declared.fact.Queue.TheVariants.{Mutex, Condition}
 use Rattle.facts.specs.declared.fact.Fact.{Fact}
-use Rattle.facts.specs.declared.fact.Fact.TheVariants.{Begin, Point, Death, Sleep, Wake, Move, Return, Kill, Reap}
+use Rattle.facts.specs.declared.fact.Fact.TheVariants.{Begin, Point, Death, Sleep, Wake, Move, Return, Kill, Reap, Renew}
 use Rattle.facts.specs.Facts.{thread_of, is_passive}
 use Rattle.condvar.specs.declared.op.Op.{Op}
 use Rattle.protocol.specs.declared.event.Event.{Event}
 use Rattle.protocol.specs.declared.note.Note.{Note}
-use Rattle.protocol.specs.declared.note.Note.TheVariants.{Nothing, Began, Stepped, Killed, Left, Walked}
+use Rattle.protocol.specs.declared.note.Note.TheVariants.{Nothing, Began, Stepped, Killed, Left, Walked, Renewed}
 use Rattle.protocol.specs.Notes.{facts_of, point_facts, sleep_facts, moves_to, return_facts, death_facts, reap_facts}
 use Rattle.protocol.specs.Machine.{State, start, stands_in, begun, happens, run, notes}
 use Rattle.protocol.specs.Headline.{facts_among}
@@ -178,6 +178,7 @@ note_moved t w (Began u c None) once k = (tt, tt)
 note_moved t w (Began u c (Some x)) once k = (tt, (tt, (tt, tt)))
 note_moved t w (Killed u) once k = (tt, tt)
 note_moved t w (Left u) once k = (tt, tt)
+note_moved t w (Renewed u) once k = (tt, tt)
 note_moved t w (Walked u d us b) once k = moved_append t w (death_facts u d) (map Wake us ++ reap_facts u b) (moved_death t u w d) (moved_append t _ (map Wake us) (reap_facts u b) (moved_wakes t _ us) (moved_reap t u _ b))
 note_moved t w (Stepped u m p z us vs y) once k = step_moved t w u m p z us vs y once k
 
@@ -196,6 +197,7 @@ event_once s e inv queued =
     (λ u first most alive. tt)
     (λ u first most asleep. tt)
     (λ u o p first most is awake trims. tt)
+    (λ u first most gone. tt)
     e
 
 -- ---- runs
@@ -314,6 +316,7 @@ one_fact w (Point d) follows moves = omega arith
 one_fact w (Death u m) follows moves = omega arith
 one_fact w (Return u x) follows moves = omega arith
 one_fact w (Reap u) follows moves = omega arith
+one_fact w (Renew u) follows moves = omega arith
 
 -- each wake and each move takes from what the sleeps gave
 count_bound : (n : ℕ) (fs : List Fact) (w : ℕ → Option Queue) → EachOf (λ f. (1 ≤ thread_of f) × (thread_of f ≤ n)) fs → ((t : ℕ) → Alternates t (w t) fs) → ((t : ℕ) → AreMoved t (w t) fs) → passives fs ≤ sum_to (λ t. weight (w t)) n + 2 * asleeps fs
@@ -398,6 +401,7 @@ note_few (Began u c None) = record { own_few = omega arith; slept_few = omega ar
 note_few (Began u c (Some x)) = record { own_few = omega arith; slept_few = omega arith }
 note_few (Killed u) = record { own_few = omega arith; slept_few = omega arith }
 note_few (Left u) = record { own_few = omega arith; slept_few = omega arith }
+note_few (Renewed u) = record { own_few = omega arith; slept_few = omega arith }
 note_few (Walked u d us b) =
     few_more (facts_of (Walked u d us b)) _ _ 3 1 (omega arith) (omega arith)
     (few_both (death_facts u d) (map Wake us ++ reap_facts u b) 1 0 (0 + 1) (0 + 0) (few_deaths u d) (few_both (map Wake us) (reap_facts u b) 0 0 1 0 (few_wakes us) (few_reaps u b)))

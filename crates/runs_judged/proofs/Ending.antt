@@ -14,7 +14,7 @@ use Rattle.facts.specs.declared.fact.Fact.{Fact}
 use Rattle.facts.specs.declared.fact.Fact.TheVariants.{Point, Death, Wake, Reap}
 use Rattle.facts.specs.declared.fact.Line.{Line}
 use Rattle.facts.specs.Facts.{thread_of, decision_of}
-use Rattle.facts.specs.Lives.{is_of_call, own, Life}
+use Rattle.facts.specs.Lives.{is_of_call, own, Lives}
 use Rattle.exitwalk.specs.declared.row.Row as walk_row
 use Rattle.exitwalk.specs.declared.row.Row.TheVariants as walk
 use Rattle.exitwalk.specs.Standings as walks
@@ -24,11 +24,11 @@ use Rattle.mutex.specs.Whole.{whole_led}
 use Rattle.condvar.specs.Ops.{mutex_of}
 use Rattle.protocol.specs.declared.event.Event.{Event}
 use Rattle.protocol.specs.declared.note.Note.{Note}
-use Rattle.protocol.specs.declared.note.Note.TheVariants.{Nothing, Began, Stepped, Killed, Left, Walked}
+use Rattle.protocol.specs.declared.note.Note.TheVariants.{Nothing, Began, Stepped, Killed, Left, Walked, Renewed}
 use Rattle.protocol.specs.declared.thread.Thread.{Thread}
 use Rattle.protocol.specs.declared.thread.Stage.TheVariants.{Reaped}
 use Rattle.protocol.specs.Notes.{facts_of, death_facts, reap_facts, line_of, lines_from}
-use Rattle.protocol.specs.Machine.{State, After, start, begun, killed, departed, walked, has_ended, stage_walked, happens, run, notes, led, decision}
+use Rattle.protocol.specs.Machine.{State, After, start, begun, killed, departed, renewed, walked, has_ended, stage_walked, happens, run, notes, led, decision}
 use Rattle.protocol.specs.Headline.{points_of, points_among, facts_among, seen}
 use Rattle.protocol.specs.Sleepers.{IsAmong}
 use Rattle.protocol.proofs.Puts.{put-same}
@@ -38,7 +38,7 @@ use Rattle.verdict.specs.declared.stage.Stage.TheVariants.{Resting}
 use Rattle.verdict.specs.Earlier.{objects_after}
 use Rattle.verdict.specs.Explained.{with_decision, decisions}
 use Rattle.verdict.specs.Verdicts.{AllFit}
-use Rattle.runs_judged.proofs.Lives.{Runs, life_runs}
+use Rattle.runs_judged.proofs.Lives.{Runs, lives_run}
 use Rattle.runs_judged.proofs.Turns as turns
 use Rattle.runs_judged.proofs.Turns.{own_of, FitAlong}
 use Rattle.runs_judged.proofs.Moments.{moment}
@@ -159,6 +159,10 @@ module _ (s : State) (t : ℕ) where
   left_rightly u (inl f) = absurd cc
   left_rightly u (inr h) = absurd h
 
+  renewed_rightly : (u : ℕ) → ReapsRightly (renewed s u)
+  renewed_rightly u (inl f) = absurd cc
+  renewed_rightly u (inr h) = absurd h
+
   reaped_stage : (e : Event) → ReapsRightly (happens s e)
   reaped_stage e =
       by_event s (λ x a. ReapsRightly a) (λ x h. absurd h) (λ u o first most inside idle b full. begun_rightly u o b)
@@ -166,6 +170,7 @@ module _ (s : State) (t : ℕ) where
       (λ u first most alive. killed_rightly u)
       (λ u first most asleep. left_rightly u)
       (λ u o p first most is awake trims h. let g = led o p (whole_led p (Trimmed false)) in absurd (step_reaps_none t u (mutex_of s.layout o) (decision u (mutex_of s.layout o) g.operation g.point) None [] [] g.returned h))
+      (λ u first most gone. renewed_rightly u)
       e
 
 -- the lines of a note, behind which whoever is reaped owns nothing
@@ -175,6 +180,7 @@ note_reaped k i earlier (Began u c None) owns = (tt, tt)
 note_reaped k i earlier (Began u c (Some x)) owns = (tt, (tt, (tt, tt)))
 note_reaped k i earlier (Killed u) owns = (tt, tt)
 note_reaped k i earlier (Left u) owns = (tt, tt)
+note_reaped k i earlier (Renewed u) owns = (tt, tt)
 note_reaped k i earlier (Stepped u m p z us vs y) owns = none_reaped k i earlier (facts_of (Stepped u m p z us vs y)) (λ t. step_reaps_none t u m p z us vs y)
 note_reaped k i earlier (Walked u d us false) owns = none_reaped k i earlier (facts_of (Walked u d us false)) (λ t h. let so = (walk_reaps t u d us false h).1 in cc)
 note_reaped k i earlier (Walked u d us true) owns =
@@ -236,7 +242,7 @@ module _ (l : Layout') (counters : ℕ → ℕ) (is : IsLayout l) where
   pub run_lives : (events : List Event) (t : ℕ) → Runs Resting (own_of t (facts_among (notes (start l counters) events)))
   run_lives events t =
       let ns = notes (start l counters) events in
-      life_runs t (own_of t (facts_among ns)) (subst (Life t) (own_facts t (lines_from 1 ns) ∙ ap (own_of t) (lines_tell 1 ns)) ((explained l counters events is).lives t))
+      lives_run t (own_of t (facts_among ns)) (subst (Lives t) (own_facts t (lines_from 1 ns) ∙ ap (own_of t) (lines_tell 1 ns)) ((explained l counters events is).lives t))
 
   -- each line of a run fits those before it
   pub run_fits : (events : List Event) → AllFit l.mutexes (reverse (lines_from 1 (notes (start l counters) events)))

@@ -31,7 +31,7 @@ use Rattle.protocol.specs.declared.note.Note.{Note}
 use Rattle.protocol.specs.declared.note.Note.TheVariants.{Stepped, Walked}
 use Rattle.protocol.specs.Notes.{facts_of, line_of, lines_from}
 use Rattle.protocol.specs.Ops.{begun_of, queue_place}
-use Rattle.protocol.specs.Machine.{State, After, start, begun, killed, departed, decision, happens, run, notes, led}
+use Rattle.protocol.specs.Machine.{State, After, start, begun, killed, departed, renewed, decision, happens, run, notes, led}
 use Rattle.protocol.specs.Headline.{facts_among, seen}
 use Rattle.protocol.specs.Sleepers.{IsAmong}
 use Rattle.protocol.specs.Applies.{IsThread, Names}
@@ -40,7 +40,7 @@ use Rattle.protocol.proofs.Events.{names_mutex, begins_at, by_event, by_stage}
 use Rattle.verdict.specs.declared.head.Head.{Head}
 use Rattle.verdict.specs.declared.stage.Made.{Made}
 use Rattle.verdict.specs.declared.stage.Stage.{Stage}
-use Rattle.verdict.specs.declared.stage.Stage.TheVariants.{Resting, Calling, Dying}
+use Rattle.verdict.specs.declared.stage.Stage.TheVariants.{Resting, Calling, Dying, Reaped}
 use Rattle.verdict.specs.Stages.{MayPoint, May, next}
 use Rattle.verdict.specs.Explained.{with_decision, decisions}
 use Rattle.runs_judged.specs.Judged.{head_of}
@@ -79,6 +79,10 @@ module _ (s : State) where
   left_own u f (inl e) active = let never : true ≡ false = ap is_passive e ∙ active in absurd cc
   left_own u f (inr h) active = absurd h
 
+  renewed_own : (u : ℕ) → 1 ≤ u → u ≤ s.layout.threads → OwnThreads (renewed s u)
+  renewed_own u first most f (inl e) active = its_own u f first most (ap thread_of e)
+  renewed_own u first most f (inr h) active = absurd h
+
   stepped_own : (u k : ℕ) (op : Operation) (x : Option Reply) (z : Option Queue) (us vs : List ℕ) (y : Option Reply) → 1 ≤ u → u ≤ s.layout.threads
       → (f : Fact) → IsAmong f (facts_of (Stepped u k (decision u k op x) z us vs y)) → is_passive f ≡ false → IsThread s.layout (thread_of f)
   stepped_own u k op x z us vs y first most f h active = go x (of_step u k (decision u k op x) z us vs y f h)
@@ -112,6 +116,7 @@ module _ (s : State) where
       (λ u first most alive. killed_own u first most)
       (λ u first most asleep. left_own u)
       (λ u o p first most is awake trims. let g = led o p (whole_led p (Trimmed false)) in stepped_own u (mutex_of s.layout o) g.operation g.point None [] [] g.returned first most)
+      (λ u first most gone. renewed_own u first most)
       e
 
   -- a call that begins is on what the layout has
@@ -167,6 +172,10 @@ module _ (s : State) where
   left_inside u t c (inl e) = absurd cc
   left_inside u t c (inr h) = absurd h
 
+  renewed_inside : (u : ℕ) → CallsInside (renewed s u)
+  renewed_inside u t c (inl e) = absurd cc
+  renewed_inside u t c (inr h) = absurd h
+
   calls_inside : (e : Event) → IsLayout s.layout → CallsInside (happens s e)
   calls_inside e is =
       by_event s (λ x a. CallsInside a) (λ x t c h. absurd h) (λ u o first most inside idle b full. begun_inside u o is inside b)
@@ -176,6 +185,7 @@ module _ (s : State) where
       (λ u first most alive. killed_inside u)
       (λ u first most asleep. left_inside u)
       (λ u o p first most at awake trims t c h. let g = led o p (whole_led p (Trimmed false)) in absurd (step_begins_none t u (mutex_of s.layout o) c (decision u (mutex_of s.layout o) g.operation g.point) None [] [] g.returned h))
+      (λ u first most gone. renewed_inside u)
       e
 
 -- ---- facts, one by one
@@ -235,6 +245,7 @@ module _ (l : Layout') (counters : ℕ → ℕ) (is : IsLayout l) where
       at (fact.Return t x) h = own_threads s e (fact.Return t x) h refl
       at (fact.Kill t) h = own_threads s e (fact.Kill t) h refl
       at (fact.Reap t) h = own_threads s e (fact.Reap t) h refl
+      at (fact.Renew t) h = own_threads s e (fact.Renew t) h refl
 
   inside_from : (es later : List Event) → EachOf (IsInside (head_of l)) (facts_among (notes (run (start l counters) es) later))
   inside_from es [] = tt
@@ -285,6 +296,7 @@ own_called (Calling c m z) (fact.Move t k) of begins may = (tt, of)
 own_called (Calling c m z) (fact.Return t x) of begins may = (tt, tt)
 own_called Dying (fact.Death t k) of begins may = (tt, tt)
 own_called Dying (fact.Reap t) of begins may = (tt, tt)
+own_called Reaped (fact.Renew t) of begins may = (tt, tt)
 own_called v f of begins may = absurd may
 
 -- of thread t
@@ -334,6 +346,7 @@ whole h (fact.Move t m) inside decided called = inside
 whole h (fact.Return t x) inside decided called = inside
 whole h (fact.Kill t) inside decided called = inside
 whole h (fact.Reap t) inside decided called = inside
+whole h (fact.Renew t) inside decided called = inside
 
 begins_called : (h : Head) (f : Fact) → IsInside h f → Begins f
 begins_called h (fact.Begin t c) inside = of_call c.operation c.condition inside.2

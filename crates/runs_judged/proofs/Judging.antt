@@ -56,6 +56,7 @@ fact_thread h (fact.Move t m) of = of.0
 fact_thread h (fact.Return t x) of = of
 fact_thread h (fact.Kill t) of = of
 fact_thread h (fact.Reap t) of = of
+fact_thread h (fact.Renew t) of = of
 
 threads_in : (h : Head) (ls : List Line) → Each (IsLineOf h) ls → EachOf (λ f. (1 ≤ thread_of f) × (thread_of f ≤ h.threads)) (facts_in ls)
 threads_in h [] of = tt

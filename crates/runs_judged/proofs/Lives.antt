@@ -1,4 +1,4 @@
--- What is told of a thread's calls and of its death goes through the stages that a checker keeps of it.
+-- What is told of a thread's calls, its deaths and its renewals goes through the stages that a checker keeps of it.
 use Rattle.std.proofs.Common.{◌≡◌, ℕ, false, List, [], ◌∷◌, ◌++◌, refl, sym, ap, ◌∙◌, subst, append_assoc, append-nil}
 use Rattle.lockword.specs.declared.reply.Reply.{Reply}
 use Rattle.lockword.specs.declared.reply.Reply.TheVariants.{OK}
@@ -6,12 +6,12 @@ use Rattle.keys.specs.declared.point.Operation.{Operation}
 use Rattle.keys.specs.declared.point.Operation.TheVariants.{Unlock, Wait}
 use Rattle.facts.specs.declared.fact.Begun.{Begun}
 use Rattle.facts.specs.declared.fact.Fact.{Fact}
-use Rattle.facts.specs.declared.fact.Fact.TheVariants.{Return, Kill}
-use Rattle.facts.specs.Lives.{Act, Complete, Beginning, made, Mourned, Unburied, Tells_of, Buried, Life, Rests, Returns, Stays, Cut, Dies}
+use Rattle.facts.specs.declared.fact.Fact.TheVariants.{Return, Kill, Reap, Renew}
+use Rattle.facts.specs.Lives.{Act, Complete, Beginning, made, Mourned, Unburied, Tells_of, Buried, Life, Rests, Returns, Stays, Cut, Dies, Lives, Last, Earlier}
 use Rattle.verdict.specs.declared.stage.Made.{Made}
 use Rattle.verdict.specs.declared.stage.Made.TheVariants.{Nothing, Released, Decided}
 use Rattle.verdict.specs.declared.stage.Stage.{Stage}
-use Rattle.verdict.specs.declared.stage.Stage.TheVariants.{Resting, Calling, Dying}
+use Rattle.verdict.specs.declared.stage.Stage.TheVariants.{Resting, Calling, Dying, Reaped}
 use Rattle.verdict.specs.Stages.{May, next}
 use Rattle.verdict.proofs.Stages.{Of, onward, may_point}
 
@@ -61,10 +61,33 @@ complete_begins : (op : Operation) (ps : List Act) (x : Reply) → Complete op p
 complete_begins op ps x all = ([], x, subst (λ (zs : List Act). Complete op zs x) (sym (append-nil ps)) all)
 
 -- so does a life
-pub life_runs : (t : ℕ) (fs : List Fact) → Life t fs → Runs Resting fs
+life_runs : (t : ℕ) (fs : List Fact) → Life t fs → Runs Resting fs
 life_runs t _ Rests = tt
 life_runs t _ (Returns c ps x later all life) =
     (tt, call_runs t c ps [] Nothing (Return t x ∷ later) refl (complete_begins c.operation ps x all) (λ n of. ((refl, all_made c.operation ps n x of all), life_runs t later life)))
 life_runs t _ (Stays c ps begins) = (tt, subst (Runs (Calling c Nothing false)) (append-nil (made t c ps)) (call_runs t c ps [] Nothing [] refl begins (λ n of. tt)))
 life_runs t _ (Cut c ps later begins mourned) = (tt, call_runs t c ps [] Nothing (Kill t ∷ later) refl begins (λ n of. (tt, mourned_runs t later mourned)))
 life_runs t _ (Dies later mourned) = (tt, mourned_runs t later mourned)
+
+-- ---- lives
+
+-- the stage behind these facts
+abbrev stage_behind : Stage → List Fact → Stage
+stage_behind v [] = v
+stage_behind v (f ∷ fs) = stage_behind (next v f) fs
+
+runs_append : (v : Stage) (fs gs : List Fact) → Runs v fs → Runs (stage_behind v fs) gs → Runs v (fs ++ gs)
+runs_append v [] gs h k = k
+runs_append v (f ∷ fs) gs h k = (h.0, runs_append (next v f) fs gs h.1 k)
+
+-- behind a reaping
+reaped_behind : (t : ℕ) (v : Stage) (before : List Fact) → stage_behind v (before ++ Reap t ∷ []) ≡ Reaped
+reaped_behind t v [] = refl
+reaped_behind t v (f ∷ before) = reaped_behind t (next v f) before
+
+-- so do lives, one behind the other
+pub lives_run : (t : ℕ) (fs : List Fact) → Lives t fs → Runs Resting fs
+lives_run t _ (Last life l) = life_runs t life l
+lives_run t _ (Earlier life later l e more) =
+    runs_append Resting life (Renew t ∷ later) (life_runs t life l)
+    (subst (λ (v : Stage). Runs v (Renew t ∷ later)) (sym (ap (stage_behind Resting) e.1 ∙ reaped_behind t Resting e.0)) (tt, lives_run t later more))

@@ -8,7 +8,7 @@ use Rattle.keys.specs.declared.point.Decision.{Decision}
 use Rattle.keys.specs.Layouts.{Layout', IsLayout}
 use Rattle.facts.specs.declared.fact.Queue.{Queue}
 use Rattle.facts.specs.declared.fact.Fact.{Fact}
-use Rattle.facts.specs.declared.fact.Fact.TheVariants.{Point, Sleep, Wake, Move, Return, Kill}
+use Rattle.facts.specs.declared.fact.Fact.TheVariants.{Point, Sleep, Wake, Move, Return, Kill, Renew}
 use Rattle.facts.specs.Facts.{thread_of}
 use Rattle.condvar.specs.declared.op.Op.{Op}
 use Rattle.keys.specs.declared.access.Answer.TheVariants.{Trimmed}
@@ -16,7 +16,7 @@ use Rattle.mutex.specs.Whole.{whole_led}
 use Rattle.condvar.specs.Ops.{mutex_of}
 use Rattle.protocol.specs.declared.event.Event.{Event}
 use Rattle.protocol.specs.declared.note.Note.{Note}
-use Rattle.protocol.specs.declared.note.Note.TheVariants.{Nothing, Began, Stepped, Killed, Left, Walked}
+use Rattle.protocol.specs.declared.note.Note.TheVariants.{Nothing, Began, Stepped, Killed, Left, Walked, Renewed}
 use Rattle.protocol.specs.declared.thread.Stage.TheVariants.{Idle}
 use Rattle.protocol.specs.Notes.{facts_of, point_facts, sleep_facts, moves_to, return_facts, death_facts, reap_facts}
 use Rattle.protocol.specs.Machine.{State, After, start, stands_in, begun, decision, is_asleep, happens, run, notes, led}
@@ -169,6 +169,7 @@ module _ (t : ℕ) (o : Told) (w : Option Queue) where
   placed_note (Began u c (Some x)) k = (tt, ((λ is. k.points _ (inr (inl refl)) is), ((λ is. k.returns x (inr (inr (inl (ap (λ (v : ℕ). Return v x) is))))), tt)))
   placed_note (Killed u) k = (tt, tt)
   placed_note (Left u) k = wakes_placed t o w (u ∷ []) k.wakes
+  placed_note (Renewed u) k = (tt, tt)
   placed_note (Walked u d us b) k = walk_placed u d us b k.wakes
   placed_note (Stepped u m p z us vs y) k = step_placed u m p z us vs y k
 
@@ -187,6 +188,8 @@ slept_in_call t o (Killed u) q (inl f) e = absurd cc
 slept_in_call t o (Killed u) q (inr h) e = absurd h
 slept_in_call t o (Left u) q (inl f) e = absurd cc
 slept_in_call t o (Left u) q (inr h) e = absurd h
+slept_in_call t o (Renewed u) q (inl f) e = absurd cc
+slept_in_call t o (Renewed u) q (inr h) e = absurd h
 slept_in_call t o (Walked u d us b) q h e = never (of_walk u d us b (Sleep t q) h)
   where
     never : OfWalk u (Sleep t q) → o ≡ InCall
@@ -216,6 +219,8 @@ returned_rests t o (Killed u) x (inl f) = absurd cc
 returned_rests t o (Killed u) x (inr h) = absurd h
 returned_rests t o (Left u) x (inl f) = absurd cc
 returned_rests t o (Left u) x (inr h) = absurd h
+returned_rests t o (Renewed u) x (inl f) = absurd cc
+returned_rests t o (Renewed u) x (inr h) = absurd h
 returned_rests t o (Walked u d us b) x h = never (of_walk u d us b (Return t x) h)
   where
     never : OfWalk u (Return t x) → told_after t o (facts_of (Walked u d us b)) ≡ AtRest
@@ -282,6 +287,7 @@ module _ (l : Layout') (s : State) (ns : List Note) (m : Moment l s ns) (t : ℕ
       (λ u first most alive d h is. died u d h)
       (λ u first most asleep d h is. left u d h)
       (λ u o p first most is awake trims. let g = led o p (whole_led p (Trimmed false)) in stepped_awake u (mutex_of s.layout o) g.operation g.point None [] [] g.returned awake)
+      (λ u first most gone d h is. anew u d h)
       e
     where
       never : {d : Decision} (u : ℕ) → OfWalk u (Point d) → told_asleep t ns ≡ None
@@ -296,6 +302,10 @@ module _ (l : Layout') (s : State) (ns : List Note) (m : Moment l s ns) (t : ℕ
       left : (u : ℕ) (d : Decision) → (Wake u ≡ Point d) ⊎ ⊥ → told_asleep t ns ≡ None
       left u d (inl f) = absurd cc
       left u d (inr h) = absurd h
+
+      anew : (u : ℕ) (d : Decision) → (Renew u ≡ Point d) ⊎ ⊥ → told_asleep t ns ≡ None
+      anew u d (inl f) = absurd cc
+      anew u d (inr h) = absurd h
 
 -- ---- runs
 

@@ -323,6 +323,15 @@ module _ (h : Head) (is : IsHead h) (few : h.conditions ≤ max_conditions) (i :
     forms = λ j. event_is j >>= λ e. thread_is t of j >>= λ u. Some (Told e (said.Reap u));
     fact = λ j. thread_read t of j >>= λ u. Some (fact.Reap u);
   }
+  says_fact (fact.Renew t) of = record {
+    rest = codes "renew" ∷ (116 ∷ decimal t) ∷ [];
+    said = said.Renew (Some t);
+    text = refl;
+    words = (refl, (thread_plain t of, tt));
+    short = omega (arith, event_short, thread_short t of);
+    forms = λ j. event_is j >>= λ e. thread_is t of j >>= λ u. Some (Told e (said.Renew u));
+    fact = λ j. thread_read t of j >>= λ u. Some (fact.Renew u);
+  }
   says_fact (fact.Move t m) of = record {
     rest = codes "move" ∷ (116 ∷ decimal t) ∷ (109 ∷ decimal m) ∷ [];
     said = said.Move (Some t) (Some m);

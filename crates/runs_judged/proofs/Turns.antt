@@ -6,7 +6,7 @@ use Rattle.facts.specs.declared.fact.Begun.{Begun}
 use Rattle.facts.specs.declared.fact.Queue.{Queue}
 use Rattle.facts.specs.declared.fact.Queue.TheVariants.{Mutex}
 use Rattle.facts.specs.declared.fact.Fact.{Fact}
-use Rattle.facts.specs.declared.fact.Fact.TheVariants.{Begin, Point, Death, Sleep, Wake, Move, Return, Kill, Reap}
+use Rattle.facts.specs.declared.fact.Fact.TheVariants.{Begin, Point, Death, Sleep, Wake, Move, Return, Kill, Reap, Renew}
 use Rattle.facts.specs.Facts.{thread_of}
 use Rattle.facts.specs.Lives.{is_of_call}
 use Rattle.verdict.specs.declared.stage.Made.{Made}
@@ -52,12 +52,12 @@ abbrev asleep_in : Stage → Option Queue → Stage
 asleep_in (Calling c m z) w = Calling c m (is_some w)
 asleep_in v w = v
 
--- it is what was told of its calls; and at rest it is awake
+-- it is what was told of its calls; and at rest it is awake, and so once it is dead
 abbrev Agrees : Told → Stage → Option Queue → Type 0
 Agrees AtRest Resting w = w ≡ None
 Agrees InCall (Calling c m z) w = z ≡ false
-Agrees Dead Dying w = Unit {0}
-Agrees Gone Reaped w = Unit {0}
+Agrees Dead Dying w = w ≡ None
+Agrees Gone Reaped w = w ≡ None
 Agrees o v w = ⊥
 
 unsaid : (w : Option Queue) → w ≡ None → is_some w ≡ false
@@ -89,7 +89,7 @@ rests_on t (Begin u c) w is call may awake = record {
 rests_on t (Kill u) w is call may awake = record {
   may = tt;
   leads = refl;
-  agrees = subst (λ (o : Told). Agrees o Dying (if u == t then None else w)) (sym (mine t u Dead AtRest is)) tt;
+  agrees = subst (λ (o : Told). Agrees o Dying (if u == t then None else w)) (sym (mine t u Dead AtRest is)) (mine t u None w is);
 }
 rests_on t f w is call may awake = absurd may
 
@@ -97,7 +97,7 @@ calls_on : (t : ℕ) (f : Fact) (c : Begun) (m : Made) (w : Option Queue) → th
 calls_on t (Kill u) c m w is call may placed = record {
   may = tt;
   leads = refl;
-  agrees = subst (λ (o : Told). Agrees o Dying (if u == t then None else w)) (sym (mine t u Dead InCall is)) tt;
+  agrees = subst (λ (o : Told). Agrees o Dying (if u == t then None else w)) (sym (mine t u Dead InCall is)) (mine t u None w is);
 }
 calls_on t (Point d) c m w is call may placed = record {
   may = (unsaid w (placed is), may.1, may.2);
@@ -114,10 +114,14 @@ calls_on t (Wake u) c m w is call may placed = absurd cc
 calls_on t (Move u k) c m w is call may placed = absurd cc
 calls_on t f c m w is call may placed = absurd may
 
-dies_on : (t : ℕ) (f : Fact) (w : Option Queue) → thread_of f ≡ t → May Dying f → Goes t f Dying Dead w (next Dying f)
-dies_on t (Death u k) w is may = record { may = tt; leads = refl; agrees = tt }
-dies_on t (Reap u) w is may = record { may = tt; leads = refl; agrees = subst (λ (o : Told). Agrees o Reaped w) (sym (mine t u Gone Dead is)) tt }
-dies_on t f w is may = absurd may
+dies_on : (t : ℕ) (f : Fact) (w : Option Queue) → thread_of f ≡ t → May Dying f → w ≡ None → Goes t f Dying Dead w (next Dying f)
+dies_on t (Death u k) w is may awake = record { may = tt; leads = refl; agrees = awake }
+dies_on t (Reap u) w is may awake = record { may = tt; leads = refl; agrees = subst (λ (o : Told). Agrees o Reaped w) (sym (mine t u Gone Dead is)) awake }
+dies_on t f w is may awake = absurd may
+
+anew : (t : ℕ) (f : Fact) (w : Option Queue) → thread_of f ≡ t → May Reaped f → w ≡ None → Goes t f Reaped Gone w (next Reaped f)
+anew t (Renew u) w is may awake = record { may = tt; leads = refl; agrees = subst (λ (o : Told). Agrees o Resting w) (sym (mine t u AtRest Gone is)) awake }
+anew t f w is may awake = absurd may
 
 -- of who sleeps: in a call
 sleeps_on : (t : ℕ) (f : Fact) (c : Begun) (m : Made) (w : Option Queue) → thread_of f ≡ t → is_of_call f ≡ false → MayFollow t w f → Goes t f (Calling c m false) InCall w (Calling c m false)
@@ -148,8 +152,8 @@ in_call t f o w is call placed = absurd cc
 goes_on : (t : ℕ) (f : Fact) (v : Stage) (o : Told) (w : Option Queue) → thread_of f ≡ t → is_of_call f ≡ true → May v f → Agrees o v w → Placed t o w f → Goes t f v o w (next v f)
 goes_on t f Resting AtRest w is call may a placed = rests_on t f w is call may a
 goes_on t f (Calling c m z) InCall w is call may a placed = subst (λ (b : Bool). Goes t f (Calling c m b) InCall w (next (Calling c m b) f)) (sym a) (calls_on t f c m w is call (subst (λ (b : Bool). May (Calling c m b) f) a may) placed)
-goes_on t f Dying Dead w is call may a placed = dies_on t f w is may
-goes_on t f Reaped Gone w is call may a placed = absurd may
+goes_on t f Dying Dead w is call may a placed = dies_on t f w is may a
+goes_on t f Reaped Gone w is call may a placed = anew t f w is may a
 goes_on t f v o w is call may a placed = absurd a
 
 -- where it stays
@@ -175,6 +179,7 @@ told_other t o (Begin u c) e = ap (λ (b : Bool). if b then InCall else o) e
 told_other t o (Return u x) e = ap (λ (b : Bool). if b then AtRest else o) e
 told_other t o (Kill u) e = ap (λ (b : Bool). if b then Dead else o) e
 told_other t o (Reap u) e = ap (λ (b : Bool). if b then Gone else o) e
+told_other t o (Renew u) e = ap (λ (b : Bool). if b then AtRest else o) e
 told_other t o f e = refl
 
 -- what is told of its calls and not of its sleeps

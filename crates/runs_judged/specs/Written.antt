@@ -50,6 +50,7 @@ IsFactOf h (fact.Move t m) = IsThreadOf h t × (m < h.mutexes)
 IsFactOf h (fact.Return t x) = IsThreadOf h t
 IsFactOf h (fact.Kill t) = IsThreadOf h t
 IsFactOf h (fact.Reap t) = IsThreadOf h t
+IsFactOf h (fact.Renew t) = IsThreadOf h t
 
 pub record IsLineOf (h : Head) (l : Line) : Type 0 where
   pub first : 1 ≤ l.event

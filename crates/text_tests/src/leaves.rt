@@ -1,9 +1,10 @@
-//! Lines of sleepers that leave and of trims that are declined: which are refused, written out by hand from the format.
+//! Lines of sleepers that leave, of trims that are declined and of renewals: which are refused, written out by hand
+//! from the format.
 
 use crate::faults::Refusal;
 use crate::processes::{FOR_A_RUN, FOR_THREADS};
 
-static LINES: [(&str, Refusal); 9] = [
+static LINES: [(&str, Refusal); 13] = [
     ("leave a", None),
     ("decline a", None),
     ("leave b", Some((4, 3))),
@@ -13,12 +14,17 @@ static LINES: [(&str, Refusal); 9] = [
     ("leaves a", Some((2, 3))),
     ("Decline a", Some((2, 3))),
     ("decline a\nthread b", Some((2, 4))),
+    ("renew a", None),
+    ("renew b", Some((4, 3))),
+    ("renew a a", Some((2, 3))),
+    ("renewal a", Some((2, 3))),
 ];
 
 /// They are a run's alone.
-static LINES_FOR_THREADS: [(&str, Refusal); 2] = [
+static LINES_FOR_THREADS: [(&str, Refusal); 3] = [
     ("leave a", Some((2, 3))),
     ("decline a", Some((2, 3))),
+    ("renew a", Some((2, 3))),
 ];
 
 #[test]

@@ -10,7 +10,7 @@ use Rattle.protocol.specs.declared.note.Note.{Note}
 use Rattle.facts.specs.declared.fact.Queue.{Queue}
 use Rattle.facts.specs.declared.fact.Queue.TheVariants.{Mutex, Condition}
 use Rattle.facts.specs.declared.fact.Fact.{Fact}
-use Rattle.facts.specs.declared.fact.Fact.TheVariants.{Begin, Point, Death, Sleep, Wake, Move, Return, Kill, Reap}
+use Rattle.facts.specs.declared.fact.Fact.TheVariants.{Begin, Point, Death, Sleep, Wake, Move, Return, Kill, Reap, Renew}
 use Rattle.facts.specs.declared.fact.Line.{Line}
 use Rattle.protocol.specs.Notes.{line_of, lines_from}
 use Rattle.interleave.specs.declared.trace.Trace.{Trace}
@@ -73,6 +73,10 @@ death_line i t m = concat (decimal i ∷ codes " death t" ∷ decimal t ∷ code
 abbrev pub reaped_line : ℕ → ℕ → List ℕ
 reaped_line i t = concat (decimal i ∷ codes " reaped t" ∷ decimal t ∷ codes "\n" ∷ [])
 
+-- i renew tT: the thread lives anew
+abbrev pub renew_line : ℕ → ℕ → List ℕ
+renew_line i t = concat (decimal i ∷ codes " renew t" ∷ decimal t ∷ codes "\n" ∷ [])
+
 -- end N: how many events there were
 abbrev pub end_line : ℕ → List ℕ
 end_line n = concat (codes "end " ∷ decimal n ∷ codes "\n" ∷ [])
@@ -90,6 +94,7 @@ fact_text i (Return t r) = return_line i t r
 fact_text i (Kill t) = kill_line i t
 fact_text i (Death t m) = death_line i t m
 fact_text i (Reap t) = reaped_line i t
+fact_text i (Renew t) = renew_line i t
 
 abbrev pub line_text : Line → List ℕ
 line_text l = fact_text l.event l.fact

@@ -81,7 +81,8 @@ fn reply_in(note: &Note, thread: Tid) -> Option<Reply>
             returned,
             ..
         } => reply_to(thread, caller, returned),
-        Note::Nothing | Note::Killed { .. } | Note::Left { .. } | Note::Walked { .. } => None,
+        Note::Nothing | Note::Killed { .. } | Note::Left { .. } => None,
+        Note::Walked { .. } | Note::Renewed { .. } => None,
     }
 }
 

@@ -232,6 +232,7 @@ fn write_note<W: Write>(out: &mut W, event: usize, note: Note) -> io::Result<()>
             write_death_if(out, event, thread, death)?;
             write_end_of_walk(out, event, thread, &woken, reaped)
         }
+        Note::Renewed { thread } => write_fact(out, event, Fact::Renew(thread)),
     }
 }
 

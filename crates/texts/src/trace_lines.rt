@@ -1,7 +1,7 @@
 //! The lines of a trace, one function each kind.
 
 ghost use Rattle.streams.specs.Leaves.{Leaves};
-ghost use Rattle.texts.specs.Text.{head_line, begin_line, begin_line_of, begin_on_line, point_line, sleep_line, sleep_line_of, sleep_on_line, wake_line, move_line, return_line, kill_line, death_line, reaped_line, end_line, fact_text};
+ghost use Rattle.texts.specs.Text.{head_line, begin_line, begin_line_of, begin_on_line, point_line, sleep_line, sleep_line_of, sleep_on_line, wake_line, move_line, return_line, kill_line, death_line, reaped_line, renew_line, end_line, fact_text};
 
 use facts::{Begun, Fact, Queue};
 use itoa::Buffer;
@@ -230,6 +230,17 @@ fn write_reaped<W: Write>(out: &mut W, event: usize, thread: Tid) -> io::Result<
     put(out, &[event, " reaped t", thread, "\n"])
 }
 
+/// `i renew tT`: the thread, which was reaped, lives anew.
+fn write_renewed<W: Write>(out: &mut W, event: usize, thread: Tid) -> io::Result<()>
+    ensures { Leaves (W.contents out.old) (W.contents out.new) result (renew_line event thread) }
+{
+    let mut event_digits = Buffer::new();
+    let mut thread_digits = Buffer::new();
+    let event = event_digits.format(event);
+    let thread = thread_digits.format(thread.get());
+    put(out, &[event, " renew t", thread, "\n"])
+}
+
 /// `end N`: how many events there were.
 pub fn write_end<W: Write>(out: &mut W, events: usize) -> io::Result<()>
     ensures { Leaves (W.contents out.old) (W.contents out.new) result (end_line events) }
@@ -252,5 +263,6 @@ pub fn write_fact<W: Write>(out: &mut W, event: usize, fact: Fact) -> io::Result
         Fact::Kill(thread) => write_kill(out, event, thread),
         Fact::Death(thread, mutex) => write_death(out, event, thread, mutex),
         Fact::Reap(thread) => write_reaped(out, event, thread),
+        Fact::Renew(thread) => write_renewed(out, event, thread),
     }
 }

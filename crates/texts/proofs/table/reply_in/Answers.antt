@@ -15,6 +15,11 @@ pub returns-in-Nothing : goal.returns-in-Nothing
 returns-in-Nothing c = elim c.in-Nothing.is [
   | inl e ↦ ap (λ (m : Note). flat_map (told_to c.args.thread) (facts_of m)) (sym e)
   | inr (inl e) ↦ ap (λ (m : Note). flat_map (told_to c.args.thread) (facts_of m)) (sym e.1)
-  | inr (inr (inl e)) ↦ ap (λ (m : Note). flat_map (told_to c.args.thread) (facts_of m)) (sym e.1)
-  | inr (inr (inr e)) ↦ sym (told_at_walk c.args.thread e.0 e.1 e.2 e.3) ∙ ap (λ (m : Note). flat_map (told_to c.args.thread) (facts_of m)) (sym e.4)
+  | inr (inr e) ↦ ap (λ (m : Note). flat_map (told_to c.args.thread) (facts_of m)) (sym e.1)
+]
+
+pub returns-in-Walked : goal.returns-in-Walked
+returns-in-Walked c = elim c.in-Walked.is [
+  | inl e ↦ sym (told_at_walk c.args.thread e.0 e.1 e.2 e.3) ∙ ap (λ (m : Note). flat_map (told_to c.args.thread) (facts_of m)) (sym e.4)
+  | inr e ↦ ap (λ (m : Note). flat_map (told_to c.args.thread) (facts_of m)) (sym e.1)
 ]
