@@ -13,6 +13,7 @@ not_behind letter (b ∷ bs) other = by_cases (b == letter) refl where
 is_behind : (letter : ℕ) (rest : List ℕ) → behind letter (letter ∷ rest) ≡ Some rest
 is_behind letter rest = let same : (letter == letter) ≡ true = grind (arith, nat_tests) in ap (λ (b : Bool). if b then Some rest else None) same
 
-pub behind_is : (letter : ℕ) (w : List ℕ) (r : Option (Bor (List ℕ))) → MatchOption r ((rest : List ℕ) → w ≢ letter ∷ rest) (λ x. w ≡ letter ∷ x.now) → option_map (λ x. x.now) r ≡ behind letter w
+pub behind_is : (letter : ℕ) (w : List ℕ) (r : Option (Bor (List ℕ))) → MatchOption r ((rest : List ℕ)
+    → w ≢ letter ∷ rest) (λ x. w ≡ letter ∷ x.now) → option_map (λ x. x.now) r ≡ behind letter w
 behind_is letter w None h = sym (not_behind letter w h)
 behind_is letter w (Some x) h = sym (ap (behind letter) h ∙ is_behind letter x.now)

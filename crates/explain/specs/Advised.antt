@@ -1,4 +1,5 @@
--- What is told of the line that a title names: which of its words is marked, what is said of it, and which earlier line it goes back to.
+-- What is told of the line that a title names: which of its words is marked, what is said of it, and which earlier
+-- line it goes back to.
 use Rattle.std.specs.Prelude.{ℕ, ◌≡◌, ◌⊎◌, ◌+◌, ◌-◌, ◌==◌, ◌++◌, nat_le, nat_lt, Bool, true, not, ◌&&◌, List, [], ◌∷◌, length, take, reverse, Option, Some, None, option_map, Ok, codes, if◌then◌else◌, MatchBool, MatchOption}
 use Rattle.std.specs.Option.{is_none}
 use Rattle.std.specs.Str.{bytes_eq}
@@ -8,11 +9,9 @@ use Rattle.lines.specs.Numbers.{is_number, within}
 use Rattle.script.specs.declared.command.Mode.{Mode}
 use Rattle.script.specs.declared.fault.Fault.TheVariants as of_script
 use Rattle.script.specs.declared.fault.Fault.{Fault as ScriptReason}
-use Rattle.script.specs.declared.fault.ScriptFault.{ScriptFault}
 use Rattle.script.specs.Limits as script
 use Rattle.verdict.specs.declared.fault.Fault.TheVariants as of_trace
 use Rattle.verdict.specs.declared.fault.Fault.{Fault as TraceReason}
-use Rattle.verdict.specs.declared.fault.TraceFault.{TraceFault}
 use Rattle.verdict.specs.declared.misfit.TraceMisfit.{TraceMisfit}
 use Rattle.verdict.specs.Limits as trace
 use Rattle.verdict.specs.Reading.{Trace, trace_read}
@@ -59,7 +58,8 @@ first_earlier text n p = first_line p 1 (take (n - 1) (lines_of text))
 
 -- ---- unknown words
 
--- the first word of the line at which no line of the kind can go on is marked, with what it has to be, the known word that it is nearest to, and what is said beside such a word
+-- the first word of the line at which no line of the kind can go on is marked, with what it has to be, the known word
+-- that it is nearest to, and what is said beside such a word
 pub record MarksFirstWrong (k : Kind) (line : List ℕ) (a : Advice) : Type 0 where
   pub mark : Mark
   pub marked : a.mark ≡ Some mark
@@ -68,7 +68,8 @@ pub record MarksFirstWrong (k : Kind) (line : List ℕ) (a : Advice) : Type 0 wh
   pub note : a.note ≡ stray_note k line mark.word
   pub origin : a.origin ≡ None
 
--- line n isn't one of the kind, or not here: no line feed ends it; or its first wrong word is marked; or it is one, and then this is told
+-- line n isn't one of the kind, or not here: no line feed ends it; or its first wrong word is marked; or it is one,
+-- and then this is told
 abbrev pub IsStray : Kind → List ℕ → ℕ → Advice → Advice → Type 0
 IsStray k text n here a = MatchBool (is_last (lines_of text) n)
     (a ≡ saying NoLineFeed)
@@ -116,12 +117,14 @@ lacking (Some n) = Mutexes
 
 -- line n of a script has a number that is out of its range; or it is the end of one that declares too little
 abbrev pub script_range : List ℕ → ℕ → Advice
-script_range text n = if length (line_of text n) == 0 then saying (NothingDeclared (lacking (first_earlier text n (λ t. is_of Threads (things_of (word_of (words_of t) 0))))))
+script_range text n = if length (line_of text n) == 0
+    then saying (NothingDeclared (lacking (first_earlier text n (λ t. is_of Threads (things_of (word_of (words_of t) 0))))))
     else ranged_by (range_of (word_at text n 0)) (words_of (line_of text n)) (counted (things_of (word_at text n 0)))
 
 -- a number of a trace's first line
 abbrev pub head_range : List (List ℕ) → Advice
-head_range ws = ranged ws 1 1 trace.max_threads (ranged ws 2 1 trace.max_mutexes (ranged ws 3 0 trace.max_conditions nothing))
+head_range ws = ranged ws 1 1 trace.max_threads
+    (ranged ws 2 1 trace.max_mutexes (ranged ws 3 0 trace.max_conditions nothing))
 
 -- what stands behind a letter
 abbrev pub behind : ℕ → List ℕ → Option (List ℕ)
@@ -134,11 +137,13 @@ counted_in head i = count_of (word_of (words_of head) i)
 
 -- of so many things from `first` on, the digits write the number of none
 abbrev pub is_uncounted : ℕ → ℕ → List ℕ → Bool
-is_uncounted first count digits = is_number digits && not (nat_le first (digits_value 10 digits) && nat_lt (digits_value 10 digits) (first + count))
+is_uncounted first count digits = is_number digits
+    && not (nat_le first (digits_value 10 digits) && nat_lt (digits_value 10 digits) (first + count))
 
 abbrev pub missing_of : Things → ℕ → ℕ → Option (List ℕ) → Option Note
 missing_of things first count None = None
-missing_of things first count (Some digits) = if is_uncounted first count digits then Some (Uncounted things count) else None
+missing_of things first count (Some digits) =
+    if is_uncounted first count digits then Some (Uncounted things count) else None
 
 abbrev pub note_or : Option Note → Option Note → Option Note
 note_or (Some n) o = Some n
@@ -147,7 +152,8 @@ note_or None o = o
 -- what the first line counts of that which this word is, where it doesn't count the word's
 abbrev pub uncounted : List ℕ → List ℕ → Option Note
 uncounted head w = note_or (missing_of Threads 1 (counted_in head 1) (behind 116 w))
-    (note_or (missing_of Mutexes 0 (counted_in head 2) (behind 109 w)) (missing_of Conditions 0 (counted_in head 3) (behind 99 w)))
+    (note_or (missing_of Mutexes 0 (counted_in head 2) (behind 109 w))
+    (missing_of Conditions 0 (counted_in head 3) (behind 99 w)))
 
 abbrev pub noted : ℕ → Option Note → Advice → Advice
 noted i None a = a
@@ -159,16 +165,20 @@ uncounted_at head ws i a = noted i (uncounted head (word_of ws i)) a
 -- a number of another line: of its last one, of its event, or of a thread, a mutex or a condition variable
 abbrev pub line_range : List ℕ → List (List ℕ) → Advice
 line_range head ws = if bytes_eq (word_of ws 0) (codes "end") then marking 1 (Range 0 trace.max_events)
-    else ranged ws 0 1 trace.max_events (uncounted_at head ws 2 (uncounted_at head ws 3 (uncounted_at head ws 4 (uncounted_at head ws 5 nothing))))
+    else ranged ws 0 1 trace.max_events
+    (uncounted_at head ws 2 (uncounted_at head ws 3 (uncounted_at head ws 4 (uncounted_at head ws 5 nothing))))
 
 abbrev pub trace_range : List ℕ → ℕ → Advice
-trace_range text n = if n == 1 then head_range (words_of (line_of text n)) else line_range (line_of text 1) (words_of (line_of text n))
+trace_range text n = if n == 1 then head_range (words_of (line_of text n))
+    else line_range (line_of text 1) (words_of (line_of text n))
 
 -- ---- names
 
 -- the name of such a thing that a line declares, where it declares that name alone
 abbrev pub single_name : Things → List ℕ → Option (List ℕ)
-single_name things line = if is_of things (things_of (word_of (words_of line) 0)) && not (bytes_eq (word_of (words_of line) 0) (codes "mutexes")) then Some (word_of (words_of line) 1) else None
+single_name things line =
+    if is_of things (things_of (word_of (words_of line) 0)) && not (bytes_eq (word_of (words_of line) 0) (codes "mutexes"))
+    then Some (word_of (words_of line) 1) else None
 
 abbrev pub listed : Option (List ℕ) → List (List ℕ)
 listed None = []
@@ -183,14 +193,17 @@ names_in things (t ∷ ts) = listed (single_name things t) ++ names_in things ts
 abbrev pub uses_of_call : List ℕ → List (Things × ℕ)
 uses_of_call w = if bytes_eq w (codes "wait") then (Threads, 1) ∷ (Conditions, 3) ∷ []
     else (if bytes_eq w (codes "signal") then (Threads, 1) ∷ (Conditions, 3) ∷ []
-    else (if bytes_eq w (codes "broadcast") then (Threads, 1) ∷ (Conditions, 3) ∷ [] else (Threads, 1) ∷ (Mutexes, 3) ∷ []))
+    else (if bytes_eq w (codes "broadcast") then (Threads, 1) ∷ (Conditions, 3) ∷ []
+    else (Threads, 1) ∷ (Mutexes, 3) ∷ []))
 
--- the words of a line with this first word, and this third one, that name what is declared before, in the order in which they are looked up
+-- the words of a line with this first word, and this third one, that name what is declared before, in the order in
+-- which they are looked up
 abbrev pub uses_of : List ℕ → List ℕ → List (Things × ℕ)
 uses_of w call = if bytes_eq w (codes "thread") then (Processes, 2) ∷ []
     else (if bytes_eq w (codes "cond") then (Mutexes, 2) ∷ []
     else (if bytes_eq w (codes "step") then (Threads, 1) ∷ []
     else (if bytes_eq w (codes "kill") then (Threads, 1) ∷ []
+    else (if bytes_eq w (codes "renew") then (Threads, 1) ∷ []
     else (if bytes_eq w (codes "leave") then (Threads, 1) ∷ []
     else (if bytes_eq w (codes "decline") then (Threads, 1) ∷ []
     else (if bytes_eq w (codes "go") then (Threads, 1) ∷ []
@@ -198,11 +211,12 @@ uses_of w call = if bytes_eq w (codes "thread") then (Processes, 2) ∷ []
     else (if bytes_eq w (codes "killall") then (Processes, 1) ∷ []
     else (if bytes_eq w (codes "locks") then (Mutexes, 2) ∷ (Threads, 1) ∷ []
     else (if bytes_eq w (codes "begin") then uses_of_call call
-    else (if bytes_eq w (codes "call") then uses_of_call call else [])))))))))))
+    else (if bytes_eq w (codes "call") then uses_of_call call else []))))))))))))
 
 -- word i of line n names such a thing, and no line before declares the name
 abbrev pub is_undeclared : List ℕ → ℕ → Things → ℕ → Bool
-is_undeclared text n things i = not (length (word_at text n i) == 0) && is_none (first_earlier text n (λ t. declares (words_of t) things (word_at text n i)))
+is_undeclared text n things i = not (length (word_at text n i) == 0)
+    && is_none (first_earlier text n (λ t. declares (words_of t) things (word_at text n i)))
 
 -- the first of these words whose name no line before declares
 abbrev pub first_undeclared : List ℕ → ℕ → List (Things × ℕ) → Option (Things × ℕ)
@@ -221,11 +235,13 @@ pub record IsUndeclared (text : List ℕ) (n : ℕ) (things : Things) (i : ℕ) 
 
 -- of the lines before line n, which has these words, the first that has its thread die
 abbrev pub first_death : List ℕ → ℕ → List (List ℕ) → Option ℕ
-first_death text n ws = first_earlier text n (λ t. bytes_eq (word_of (words_of t) 0) (codes "die") && bytes_eq (word_of (words_of t) 1) (word_of ws 1))
+first_death text n ws = first_earlier text n
+    (λ t. bytes_eq (word_of (words_of t) 0) (codes "die") && bytes_eq (word_of (words_of t) 1) (word_of ws 1))
 
 -- and the first that declares a name which it declares too
 abbrev pub first_declared : List ℕ → ℕ → List (List ℕ) → Things → Option ℕ
-first_declared text n ws things = if bytes_eq (word_of ws 0) (codes "mutexes") then first_earlier text n (λ t. is_clashing (words_of t) (word_of ws 1) (count_of (word_of ws 2)))
+first_declared text n ws things = if bytes_eq (word_of ws 0) (codes "mutexes")
+    then first_earlier text n (λ t. is_clashing (words_of t) (word_of ws 1) (count_of (word_of ws 2)))
     else first_earlier text n (λ t. declares (words_of t) things (word_of ws 1))
 
 abbrev pub twice_of : List ℕ → ℕ → List (List ℕ) → Option Things → Advice
@@ -237,7 +253,9 @@ twice text n = twice_of text n (words_of (line_of text n)) (things_of (word_at t
 
 -- line n names what isn't declared, or declares what is
 abbrev pub IsNameAdvice : List ℕ → ℕ → Advice → Type 0
-IsNameAdvice text n a = MatchOption (first_undeclared text n (uses_of (word_at text n 0) (word_at text n 2))) (a ≡ twice text n) (λ u. IsUndeclared text n u.0 u.1 a)
+IsNameAdvice text n a = MatchOption (first_undeclared text n (uses_of (word_at text n 0) (word_at text n 2)))
+    (a ≡ twice text n)
+    (λ u. IsUndeclared text n u.0 u.1 a)
 
 -- ---- scripts
 
@@ -266,7 +284,8 @@ kind_of n = if n == 1 then kind.Head else kind.Trace
 
 -- no `end` line, or something behind it
 abbrev pub cut_short : List ℕ → ℕ → Advice
-cut_short text n = if (length (line_of text n) == 0) && is_last (lines_of text) n then saying NoEnd else saying BehindEnd
+cut_short text n = if (length (line_of text n) == 0) && is_last (lines_of text) n then saying NoEnd
+    else saying BehindEnd
 
 -- what is told of line n of a trace, for this fault
 abbrev pub IsTraceAdvice : List ℕ → ℕ → TraceReason → Advice → Type 0
@@ -279,7 +298,8 @@ IsTraceAdvice text n of_trace.OutOfMemory a = a ≡ nothing
 
 -- of a line that doesn't fit the line is told that its reason goes back to
 abbrev pub IsMisfitAdvice : List ℕ → TraceMisfit → Advice → Type 0
-IsMisfitAdvice bytes why a = (t : Trace) × (trace_read bytes ≡ Ok t) × (a ≡ back_to (origin_of (reverse t.told) why) nothing)
+IsMisfitAdvice bytes why a = (t : Trace) × (trace_read bytes ≡ Ok t)
+    × (a ≡ back_to (origin_of (reverse t.told) why) nothing)
 
 -- ---- all of them
 

@@ -1,5 +1,5 @@
 -- What is told of a file's bytes.
-use Rattle.std.specs.Prelude.{ℕ, ◌≡◌, ◌⊎◌, ◌||◌, Bool, true, false, List, [], ◌∷◌, Option, Some, None, Result, Ok, Err, codes, nat_eq}
+use Rattle.std.specs.Prelude.{ℕ, ◌≡◌, ◌⊎◌, ◌||◌, Bool, true, false, List, [], ◌∷◌, Option, Some, None, Ok, Err, codes, nat_eq}
 use Rattle.std.specs.List.{starts_with}
 use Rattle.std.specs.Option.{is_none}
 use Rattle.lines.specs.Lines.{lines_of, words_of}
@@ -12,7 +12,6 @@ use Rattle.script.specs.Reading.{script_read}
 use Rattle.script.specs.Playing.{overlong}
 use Rattle.verdict.specs.declared.checking.Finding.{Finding}
 use Rattle.verdict.specs.declared.checking.Finding.TheVariants as finding
-use Rattle.verdict.specs.declared.fault.TraceFault.{TraceFault}
 use Rattle.verdict.specs.Reading.{trace_read}
 use Rattle.verdict.specs.Verdicts as verdicts
 use Rattle.wording.specs.Nexts.{mode_of_word}
@@ -34,7 +33,8 @@ IsFaultOf Run bytes None = (s : Scope) × (script_read Run bytes ≡ Ok s) × (o
 IsFaultOf Threads bytes (Some e) = script_read Threads bytes ≡ Err e
 IsFaultOf Run bytes (Some e) = (script_read Run bytes ≡ Err e) ⊎ ((s : Scope) × (script_read Run bytes ≡ Ok s) × (overlong s ≡ Some e.line) × (e.fault ≡ fault.TooLong))
 
--- the mode that the first line points to which only scripts of one mode have, and the machine's where none does; what stands behind the last line feed is no line
+-- the mode that the first line points to which only scripts of one mode have, and the machine's where none does; what
+-- stands behind the last line feed is no line
 abbrev pub mode_or : Option Mode → Mode → Mode
 mode_or (Some k) other = k
 mode_or None other = other

@@ -32,6 +32,7 @@ fn uses_of(keyword: &str, call: &str) -> &'static [(Things, usize)]
         "cond" => &[(Things::Mutexes, 2)],
         "step" => &[(Things::Threads, 1)],
         "kill" => &[(Things::Threads, 1)],
+        "renew" => &[(Things::Threads, 1)],
         "leave" => &[(Things::Threads, 1)],
         "decline" => &[(Things::Threads, 1)],
         "go" => &[(Things::Threads, 1)],

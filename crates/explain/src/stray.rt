@@ -109,11 +109,7 @@ fn stray_note(kind: Kind, text: &str, index: usize) -> Option<Note>
 
 /// The first word at which no line of the kind can go on, what it has to be, and the known word that it is next to; None where the line is one
 /// of the kind.
-fn stray_mark(
-    alloc: Global,
-    kind: Kind,
-    text: &str,
-) -> Result<Option<Mark<'static>>, AllocError>
+fn stray_mark(alloc: Global, kind: Kind, text: &str) -> Result<Option<Mark<'static>>, AllocError>
     ensures { IfOk result (IsMarked kind (words_of text.now)) }
 {
     let Some(wrong) = first_wrong(kind, text) else {

@@ -1,4 +1,4 @@
-use Rattle.std.proofs.Common.{◌≡◌, ◌+◌, ◌-◌, ◌++◌, List, map, option_map, take, sym, ap, ◌∙◌, rules}
+use Rattle.std.proofs.Common.{◌-◌, ◌++◌, map, take, ap, ◌∙◌, rules}
 use Rattle.lines.specs.Lines.{lines_of}
 use Rattle.explain.specs.Advised.{listed, names_in}
 use Rattle.explain.proofs.Declared.{last_of_all, no_more, one_more}
