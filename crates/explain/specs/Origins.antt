@@ -52,7 +52,7 @@ is_origin EventKilled e a = (a.event == e.event) && is_kill a.fact
 is_origin (InCall c) e a = is_own e a && is_begin a.fact
 is_origin NoCall e a = is_own e a && (is_return a.fact || is_renewal a.fact)
 is_origin Asleep e a = is_own e a && is_sleep a.fact
-is_origin Awake e a = is_own e a && is_wake a.fact
+is_origin Awake e a = is_own e a && (is_wake a.fact || is_renewal a.fact)
 is_origin Killed e a = is_own e a && is_kill a.fact
 is_origin NotReaped e a = is_own e a && is_kill a.fact
 is_origin Reaped e a = is_own e a && is_reap a.fact

@@ -68,7 +68,7 @@ pub fn add_misfit(text: &mut Vec<u8>, misfit: &Misfit) -> Result<(), AllocError>
         Misfit::Killed => add(text, &["the thread was killed"]),
         Misfit::NotReaped => add(text, &["the thread was killed, and isn't reaped yet"]),
         Misfit::Reaped => add(text, &["the thread was reaped"]),
-        Misfit::Alive => add(text, &["the thread wasn't killed"]),
+        Misfit::Alive => add(text, &["the thread lives"]),
         Misfit::OtherMutex { mutex } => add_number(
             text,
             "the thread's call is on m",

@@ -40,7 +40,7 @@ fn is_origin(why: &Misfit, entry: &Line, earlier: &Line) -> bool
         | Misfit::Undecided => own && matches!(earlier.fact, Fact::Begin(..)),
         Misfit::NoCall => own && matches!(earlier.fact, Fact::Return(..) | Fact::Renew(_)),
         Misfit::Asleep => own && matches!(earlier.fact, Fact::Sleep(..)),
-        Misfit::Awake => own && matches!(earlier.fact, Fact::Wake(_)),
+        Misfit::Awake => own && matches!(earlier.fact, Fact::Wake(_) | Fact::Renew(_)),
         Misfit::Killed | Misfit::NotReaped => own && earlier.fact.is_kill(),
         Misfit::Reaped => own && matches!(earlier.fact, Fact::Reap(_)),
         Misfit::Alive => own && matches!(earlier.fact, Fact::Renew(_)),

@@ -201,7 +201,7 @@ static MISTAKES: [(&[u8], u8, &str); 41] = [
     (
         b"trace 1 1 0\n1 renew t1\nend 1\n",
         1,
-        "f: line 2: illegal: the thread wasn't killed\n  | 1 renew t1\n",
+        "f: line 2: illegal: the thread lives\n  | 1 renew t1\n",
     ),
     (
         b"trace 1 1 0\n1 kill t1\n2 renew t1\nend 2\n",
@@ -211,7 +211,7 @@ static MISTAKES: [(&[u8], u8, &str); 41] = [
     (
         b"trace 1 1 0\n1 kill t1\n2 reaped t1\n3 renew t1\n4 renew t1\nend 4\n",
         1,
-        "f: line 5: illegal: the thread wasn't killed\n  | 4 renew t1\n  = see line 4:\n  | 3 renew t1\n",
+        "f: line 5: illegal: the thread lives\n  | 4 renew t1\n  = see line 4:\n  | 3 renew t1\n",
     ),
     (
         b"trace 1 1 0\n1 kill t1\n2 reaped t1\n3 begin t1 lock m0\nend 3\n",
