@@ -1,5 +1,5 @@
 -- Lines before another one, one after the other, and backwards.
-use Rattle.std.proofs.Common.{◌≡◌, ℕ, zero, suc, ◌+◌, ◌-◌, ◌<◌, ◌≤◌, Bool, true, false, List, [], ◌∷◌, ◌++◌, length, get_or, take, reverse, Option, Some, None, if◌then◌else◌, refl, sym, ap, ◌∙◌, arith, add-one, length-append}
+use Rattle.std.proofs.Common.{◌≡◌, ℕ, suc, ◌+◌, ◌-◌, ◌<◌, ◌≤◌, Bool, true, false, List, [], ◌∷◌, length, get_or, take, reverse, Option, Some, None, if◌then◌else◌, sym, ap, ◌∙◌, arith, add-one}
 use Rattle.std.proofs.lemmas.List.{reverse-append, take_all, take_more, length-reverse, length-take-le}
 use Rattle.facts.specs.declared.fact.Line.{Line}
 use Rattle.explain.specs.Sought.{first_line}
@@ -7,7 +7,7 @@ use Rattle.explain.specs.Origins.{newest_line}
 
 -- ---- the first before a line
 
-taken : (before n k : ℕ) (ts : List (List ℕ)) → before - n ≡ k + 1 → take (before - n) ts ≡ take (suc k) ts
+pub taken : (before n k : ℕ) (ts : List (List ℕ)) → before - n ≡ k + 1 → take (before - n) ts ≡ take (suc k) ts
 taken before n k ts e = ap (λ i. take i ts) (e ∙ add-one k)
 
 -- a line that isn't the one

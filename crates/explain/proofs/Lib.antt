@@ -3,3 +3,6 @@ pub mod Pieces
 pub mod Lent
 pub mod Ends
 pub mod Titles
+pub mod Declared
+pub mod Letters
+pub mod Modes

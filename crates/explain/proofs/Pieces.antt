@@ -1,9 +1,8 @@
 -- Pieces of a text, one behind the other.
-use Rattle.std.proofs.Common.{◌≡◌, ℕ, suc, ◌+◌, ◌<◌, List, [], ◌∷◌, ◌++◌, length, get_or, map, take, sym, ap, ◌∙◌, append_assoc, append-nil}
-use Rattle.std.specs.List.{concat, flat_map}
-use Rattle.std.proofs.lemmas.List.{map-append, take_more, flat_map_more}
+use Rattle.std.proofs.Common.{◌≡◌, ℕ, ◌+◌, ◌<◌, List, [], ◌∷◌, ◌++◌, length, get_or, map, take, sym, ap, ◌∙◌, append_assoc, append-nil}
+use Rattle.std.specs.List.{concat}
+use Rattle.std.proofs.lemmas.List.{map-append, take_more}
 use Rattle.std.proofs.lemmas.List.Folds.{concat-append}
-use Rattle.explain.specs.Shown.{shown, shown_byte}
 
 pub one_piece : {A : Type 0} (f : A → List ℕ) (ps : List A) (i : ℕ) (d : A) (old before after : List ℕ) (piece : List ℕ) → i < length ps → before ≡ old ++ concat (map f (take i ps)) → piece ≡ f (get_or ps i d) → after ≡ before ++ piece → after ≡ old ++ concat (map f (take (i + 1) ps))
 one_piece f ps i d old before after piece lt h is e =

@@ -1,6 +1,6 @@
 -- What is found of a script or a trace is what the title says.
-use Rattle.std.proofs.Common.{◌≡◌, ◌≢◌, ℕ, List, Option, Some, None, Result, Ok, Err, refl, inl, inr, sym, subst, ap}
-use Rattle.std.specs.Prelude.{◌⊎◌, IfOk, IfErr}
+use Rattle.std.proofs.Common.{◌≡◌, ◌≢◌, ℕ, List, Option, Some, Result, Ok, Err, refl, inl, inr, sym, subst, ap}
+use Rattle.std.specs.Prelude.{IfOk, IfErr}
 use Rattle.std.specs.declared.alloc.AllocError.{AllocError}
 use Rattle.script.specs.declared.command.Mode.{Mode}
 use Rattle.script.specs.declared.command.Mode.TheVariants.{Run, Threads}
@@ -14,8 +14,7 @@ use Rattle.script.specs.Played.{RefusesCommand}
 use Rattle.script.specs.Reading.{script_read}
 use Rattle.verdict.specs.declared.fault.Fault.TheVariants as of_trace
 use Rattle.verdict.specs.declared.fault.TraceFault.{TraceFault}
-use Rattle.verdict.specs.declared.checking.Finding.{Finding}
-use Rattle.verdict.specs.Reading.{Trace, fault_at}
+use Rattle.verdict.specs.Reading.{Trace}
 use Rattle.verdict.specs.Verdicts.{Tells}
 use Rattle.explain.specs.Explains.{IsFaultOf}
 

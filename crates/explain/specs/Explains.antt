@@ -1,7 +1,8 @@
 -- What is told of a file's bytes.
-use Rattle.std.specs.Prelude.{ℕ, ◌≡◌, ◌⊎◌, Bool, true, false, List, Option, Some, None, Result, Ok, Err, codes, nat_eq}
+use Rattle.std.specs.Prelude.{ℕ, ◌≡◌, ◌⊎◌, ◌||◌, Bool, true, false, List, [], ◌∷◌, Option, Some, None, Ok, Err, codes, nat_eq}
 use Rattle.std.specs.List.{starts_with}
 use Rattle.std.specs.Option.{is_none}
+use Rattle.lines.specs.Lines.{lines_of, words_of}
 use Rattle.script.specs.declared.command.Mode.{Mode}
 use Rattle.script.specs.declared.command.Mode.TheVariants.{Run, Threads}
 use Rattle.script.specs.declared.fault.ScriptFault.{ScriptFault}
@@ -11,13 +12,14 @@ use Rattle.script.specs.Reading.{script_read}
 use Rattle.script.specs.Playing.{overlong}
 use Rattle.verdict.specs.declared.checking.Finding.{Finding}
 use Rattle.verdict.specs.declared.checking.Finding.TheVariants as finding
-use Rattle.verdict.specs.declared.fault.TraceFault.{TraceFault}
 use Rattle.verdict.specs.Reading.{trace_read}
 use Rattle.verdict.specs.Verdicts as verdicts
+use Rattle.wording.specs.Nexts.{mode_of_word}
 use Rattle.explain.specs.declared.explanation.Title.{Title}
 use Rattle.explain.specs.declared.explanation.Title.TheVariants.{Good, Script, Legal, Illegal, Trace}
 use Rattle.explain.specs.declared.explanation.Explanation.{Explanation}
-use Rattle.explain.specs.Stray.{lines_in}
+use Rattle.explain.specs.Advised.{IsAdvised}
+use Rattle.explain.specs.Stray.{lines_in, word_of}
 use Rattle.explain.specs.Texts.{explanation_text}
 
 -- a trace's first line begins so
@@ -31,10 +33,45 @@ IsFaultOf Run bytes None = (s : Scope) × (script_read Run bytes ≡ Ok s) × (o
 IsFaultOf Threads bytes (Some e) = script_read Threads bytes ≡ Err e
 IsFaultOf Run bytes (Some e) = (script_read Run bytes ≡ Err e) ⊎ ((s : Scope) × (script_read Run bytes ≡ Ok s) × (overlong s ≡ Some e.line) × (e.fault ≡ fault.TooLong))
 
+-- the mode that the first line points to which only scripts of one mode have, and the machine's where none does; what
+-- stands behind the last line feed is no line
+abbrev pub mode_or : Option Mode → Mode → Mode
+mode_or (Some k) other = k
+mode_or None other = other
+
+abbrev pub mode_in : List (List ℕ) → Mode
+mode_in [] = Run
+mode_in (t ∷ []) = Run
+mode_in (t ∷ u ∷ ts) = mode_or (mode_of_word (word_of (words_of t) 0)) (mode_in (u ∷ ts))
+
+-- of the faults that the machine and real threads find, that of this mode
+abbrev pub fault_of : Mode → ScriptFault → ScriptFault → ScriptFault
+fault_of Run a b = a
+fault_of Threads a b = b
+
+-- the file is refused as a script of either mode, and told is what the mode finds to which it points
+pub record IsRefused (bytes : List ℕ) (k : Mode) (e : ScriptFault) : Type 0 where
+  pub of_run : ScriptFault
+  pub of_threads : ScriptFault
+  pub run : IsFaultOf Run bytes (Some of_run)
+  pub threads : IsFaultOf Threads bytes (Some of_threads)
+  pub mode : k ≡ mode_in (lines_of (lines_in bytes))
+  pub fault : e ≡ fault_of k of_run of_threads
+
+-- one mode at least takes it
+pub record IsGood (bytes : List ℕ) (run threads : Bool) : Type 0 where
+  pub of_run : Option ScriptFault
+  pub of_threads : Option ScriptFault
+  pub run_finds : IsFaultOf Run bytes of_run
+  pub threads_find : IsFaultOf Threads bytes of_threads
+  pub runs : run ≡ is_none of_run
+  pub plays : threads ≡ is_none of_threads
+  pub some : (run || threads) ≡ true
+
 -- what the title says is so: of a script what each mode finds; of a trace what its judge finds
 abbrev pub IsTitle : List ℕ → Title → Type 0
-IsTitle bytes (Good run threads) = (a : Option ScriptFault) × (IsFaultOf Run bytes a × ((b : Option ScriptFault) × (IsFaultOf Threads bytes b × ((run ≡ is_none a) × (threads ≡ is_none b)))))
-IsTitle bytes (Script k e) = IsFaultOf k bytes (Some e)
+IsTitle bytes (Good run threads) = IsGood bytes run threads
+IsTitle bytes (Script k e) = IsRefused bytes k e
 IsTitle bytes (Legal points) = verdicts.Tells (trace_read bytes) (Ok (finding.Legal points))
 IsTitle bytes (Illegal why) = verdicts.Tells (trace_read bytes) (Ok (finding.Illegal why))
 IsTitle bytes (Trace e) = trace_read bytes ≡ Err e
@@ -56,6 +93,7 @@ IsOfKind false t = Unit {0}
 pub record Explains (bytes : List ℕ) (x : Explanation) : Type 0 where
   pub kind : IsOfKind (is_trace bytes) x.title
   pub title : IsTitle bytes x.title
+  pub advised : IsAdvised bytes x.title x.advice
 
 -- the exit status: 0 for what is good or legal
 abbrev pub status_of : Title → ℕ

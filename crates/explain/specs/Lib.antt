@@ -8,6 +8,7 @@ pub mod Notes
 pub mod Texts
 pub mod Asked
 pub mod Messages
+pub mod Advised
 pub mod Explains
 pub mod Served
 pub mod Programs

@@ -5,7 +5,7 @@ use Rattle.lockword.specs.Replies.{reply_word}
 use Rattle.keys.specs.declared.object.Object.{Object}
 use Rattle.keys.specs.Words.{operation_word}
 use Rattle.verdict.specs.declared.misfit.Misfit.{Misfit}
-use Rattle.verdict.specs.declared.misfit.Misfit.TheVariants.{EventFalls, AnothersEvent, EventDecided, KillShares, EventKilled, InCall, NoCall, Asleep, Awake, Killed, Reaped, Alive, OtherMutex, OtherOperation, ReleaseRefused, Released, Decided, Undecided, OtherReply, NotAllowed, AtLimit, NotOwner, StillOwns, EndFalls}
+use Rattle.verdict.specs.declared.misfit.Misfit.TheVariants.{EventFalls, AnothersEvent, EventDecided, KillShares, EventKilled, InCall, NoCall, Asleep, Awake, Killed, NotReaped, Reaped, Alive, OtherMutex, OtherOperation, ReleaseRefused, Released, Decided, Undecided, OtherReply, NotAllowed, AtLimit, NotOwner, StillOwns, EndFalls}
 
 abbrev pub with_number : List ℕ → ℕ → List ℕ → List ℕ
 with_number before n behind = concat (before ∷ decimal n ∷ behind ∷ [])
@@ -29,6 +29,7 @@ misfit_text NoCall = concat (codes "the thread is in no call" ∷ [])
 misfit_text Asleep = concat (codes "the thread is asleep" ∷ [])
 misfit_text Awake = concat (codes "the thread isn't asleep" ∷ [])
 misfit_text Killed = concat (codes "the thread was killed" ∷ [])
+misfit_text NotReaped = concat (codes "the thread was killed, and isn't reaped yet" ∷ [])
 misfit_text Reaped = concat (codes "the thread was reaped" ∷ [])
 misfit_text Alive = concat (codes "the thread wasn't killed" ∷ [])
 misfit_text (OtherMutex m) = with_number (codes "the thread's call is on m") m []

@@ -1,12 +1,12 @@
 -- The earlier line of a trace that one which doesn't fit goes back to.
-use Rattle.std.specs.Prelude.{ℕ, ◌+◌, ◌-◌, Bool, true, false, ◌&&◌, ◌==◌, nat_lt, not, List, [], ◌∷◌, length, take, reverse, slice_get, Option, Some, None, if◌then◌else◌}
+use Rattle.std.specs.Prelude.{ℕ, ◌+◌, ◌-◌, Bool, true, false, ◌&&◌, ◌||◌, ◌==◌, not, List, [], ◌∷◌, length, take, reverse, slice_get, Option, Some, None, if◌then◌else◌}
 use Rattle.keys.specs.declared.point.Decision.{Decision}
 use Rattle.facts.specs.declared.fact.Fact.{Fact}
 use Rattle.facts.specs.declared.fact.Fact.TheVariants as fact
 use Rattle.facts.specs.declared.fact.Line.{Line}
-use Rattle.facts.specs.Facts.{decides, decision_of, is_kill, is_passive, is_point, thread_of}
+use Rattle.facts.specs.Facts.{decides, decision_of, is_kill, is_passive, is_point, is_renewal, thread_of}
 use Rattle.verdict.specs.declared.misfit.Misfit.{Misfit}
-use Rattle.verdict.specs.declared.misfit.Misfit.TheVariants.{EventFalls, AnothersEvent, EventDecided, KillShares, EventKilled, InCall, NoCall, Asleep, Awake, Killed, Reaped, Alive, OtherMutex, OtherOperation, ReleaseRefused, Released, Decided, Undecided, OtherReply, NotAllowed, AtLimit, NotOwner, StillOwns, EndFalls}
+use Rattle.verdict.specs.declared.misfit.Misfit.TheVariants.{EventFalls, AnothersEvent, EventDecided, KillShares, EventKilled, InCall, NoCall, Asleep, Awake, Killed, NotReaped, Reaped, Alive, OtherMutex, OtherOperation, ReleaseRefused, Released, Decided, Undecided, OtherReply, NotAllowed, AtLimit, NotOwner, StillOwns, EndFalls}
 use Rattle.verdict.specs.declared.misfit.TraceMisfit.{TraceMisfit}
 
 abbrev pub is_begin : Fact → Bool
@@ -42,7 +42,7 @@ abbrev pub is_own : Line → Line → Bool
 is_own e a = thread_of a.fact == thread_of e.fact
 
 -- a is a line that the reason speaks of, for which e doesn't fit: of the event, what its own thread, a decision or a kill did; of the thread, the call it is in or ended, its sleep, its wake, its death,
--- its last point; of the mutex, what made it what it is
+-- its renewal, its last point; of the mutex, what made it what it is
 abbrev pub is_origin : Misfit → Line → Line → Bool
 is_origin (EventFalls i) e a = true
 is_origin (AnothersEvent t) e a = (a.event == e.event) && not (is_passive a.fact)
@@ -50,12 +50,13 @@ is_origin EventDecided e a = (a.event == e.event) && decides a.fact
 is_origin KillShares e a = a.event == e.event
 is_origin EventKilled e a = (a.event == e.event) && is_kill a.fact
 is_origin (InCall c) e a = is_own e a && is_begin a.fact
-is_origin NoCall e a = is_own e a && is_return a.fact
+is_origin NoCall e a = is_own e a && (is_return a.fact || is_renewal a.fact)
 is_origin Asleep e a = is_own e a && is_sleep a.fact
 is_origin Awake e a = is_own e a && is_wake a.fact
 is_origin Killed e a = is_own e a && is_kill a.fact
+is_origin NotReaped e a = is_own e a && is_kill a.fact
 is_origin Reaped e a = is_own e a && is_reap a.fact
-is_origin Alive e a = false
+is_origin Alive e a = is_own e a && is_renewal a.fact
 is_origin (OtherMutex m) e a = is_own e a && is_begin a.fact
 is_origin (OtherOperation o) e a = is_own e a && is_begin a.fact
 is_origin ReleaseRefused e a = is_own e a && is_begin a.fact

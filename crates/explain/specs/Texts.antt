@@ -14,7 +14,6 @@ use Rattle.wording.specs.Wrongs.{ends_at, offset_of}
 use Rattle.explain.specs.declared.explanation.Title.{Title}
 use Rattle.explain.specs.declared.explanation.Title.TheVariants.{Good, Script, Legal, Illegal, Trace}
 use Rattle.explain.specs.declared.explanation.Mark.{Mark}
-use Rattle.explain.specs.declared.explanation.Note.{Note}
 use Rattle.explain.specs.declared.explanation.Explanation.{Explanation}
 use Rattle.explain.specs.Words.{expected_words, mode_words, script_words, trace_words}
 use Rattle.explain.specs.Misfits.{misfit_text}

@@ -1,6 +1,7 @@
 //! What is told of a file's bytes.
 
 ghost use Rattle.std.specs.Prelude.{◌≡◌, ◌<◌, ◌^◌, length, IfOk};
+ghost use Rattle.explain.specs.Advised.{IsAdvised};
 ghost use Rattle.explain.specs.Explains.{IsOfKind, IsTitle, IsTold, is_trace, status_of};
 ghost use Rattle.explain.specs.Stray.{lines_in};
 ghost use Rattle.explain.specs.Texts.{explanation_text};
@@ -24,6 +25,7 @@ pub fn explain<'a>(alloc: Global, bytes: &'a [u8]) -> Result<Explanation<'a>, Al
     requires { length bytes.now < 2 ^ 32 }
     ensures kind { IfOk result (λ x. IsOfKind (is_trace bytes.entry.now) x.title) }
     ensures title { IfOk result (λ x. IsTitle bytes.entry.now x.title) }
+    ensures advised { IfOk result (λ x. IsAdvised bytes.entry.now x.title x.advice) }
 {
     if is_trace(bytes) {
         explain_trace(alloc, bytes)

@@ -1,5 +1,8 @@
 //! What is told of a file.
 
+ghost use Rattle.std.specs.Prelude.{◌≡◌};
+ghost use Rattle.explain.specs.Advised.{back_to, marking, nothing, saying};
+
 use script::{Mode, ScriptFault};
 use verdict::{TraceFault, TraceMisfit};
 use wording::Next;
@@ -111,7 +114,9 @@ pub struct Advice<'a> {
 
 impl Advice<'_> {
     /// Nothing is told.
-    pub fn none() -> Advice<'static> {
+    pub fn none() -> Advice<'static>
+        ensures { result ≡ nothing }
+    {
         Advice {
             mark: None,
             note: None,
@@ -120,7 +125,9 @@ impl Advice<'_> {
     }
 
     /// Something is said, and nothing marked.
-    pub fn only(note: Note) -> Advice<'static> {
+    pub fn only(note: Note) -> Advice<'static>
+        ensures { result ≡ saying note }
+    {
         Advice {
             mark: None,
             note: Some(note),
@@ -129,7 +136,9 @@ impl Advice<'_> {
     }
 
     /// A word is marked that is of the right kind, and something said of it.
-    pub fn at(word: usize, note: Note) -> Advice<'static> {
+    pub fn at(word: usize, note: Note) -> Advice<'static>
+        ensures { result ≡ marking word note }
+    {
         Advice {
             mark: Some(Mark {
                 word,
@@ -139,6 +148,13 @@ impl Advice<'_> {
             note: Some(note),
             origin: None,
         }
+    }
+
+    /// The same, which goes back to this earlier line.
+    pub fn back_to(self, origin: Option<usize>) -> Self
+        ensures { result ≡ back_to origin self.entry }
+    {
+        Advice { origin, ..self }
     }
 }
 

@@ -3,7 +3,8 @@
 //!
 //! [`run`] is given the words of the command line, what opens files, and the two writers. Where nothing is told on `err` it has
 //! written all of an explanation of the file's bytes and let go of it, whose title is what the readers of scripts and the judge of
-//! traces find (`RunEnds`, `IsTold`, `IsTitle`); else it has written a beginning of it, and one message on `err` says why. It reads at
+//! traces find (`RunEnds`, `IsTold`, `IsTitle`), and whose mark is that of the first wrong word, number or name of the line that the
+//! title names (`IsAdvised`); else it has written a beginning of it, and one message on `err` says why. It reads at
 //! most one byte more than a trace may have.
 //!
 //! Stands on `wording`, for the first wrong word of a line and the nearest known one, on `script` and `verdict`, for faults and
@@ -31,6 +32,7 @@ mod notes;
 mod origins;
 mod program;
 mod quoting;
+mod ranges;
 mod scripts;
 mod serving;
 mod sought;

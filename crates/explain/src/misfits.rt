@@ -66,6 +66,7 @@ pub fn add_misfit(text: &mut Vec<u8>, misfit: &Misfit) -> Result<(), AllocError>
         Misfit::Asleep => add(text, &["the thread is asleep"]),
         Misfit::Awake => add(text, &["the thread isn't asleep"]),
         Misfit::Killed => add(text, &["the thread was killed"]),
+        Misfit::NotReaped => add(text, &["the thread was killed, and isn't reaped yet"]),
         Misfit::Reaped => add(text, &["the thread was reaped"]),
         Misfit::Alive => add(text, &["the thread wasn't killed"]),
         Misfit::OtherMutex { mutex } => add_number(

@@ -1,7 +1,7 @@
 //! The earlier line of a trace that one which doesn't fit goes back to.
 
 ghost use Rattle.std.specs.Prelude.{◌≡◌, ◌&&◌, ◌==◌, not, reverse};
-ghost use Rattle.facts.specs.Facts.{decision_of, is_passive, thread_of};
+ghost use Rattle.facts.specs.Facts.{decision_of, is_passive, is_renewal, thread_of};
 ghost use Rattle.explain.specs.Origins.{is_begin, is_origin, is_reap, is_return, is_sleep, is_step_like, is_step_of, is_wake, newest_line, origin_of};
 
 use facts::{Fact, Line};
@@ -38,12 +38,13 @@ fn is_origin(why: &Misfit, entry: &Line, earlier: &Line) -> bool
         | Misfit::OtherOperation { .. }
         | Misfit::ReleaseRefused
         | Misfit::Undecided => own && matches!(earlier.fact, Fact::Begin(..)),
-        Misfit::NoCall => own && matches!(earlier.fact, Fact::Return(..)),
+        Misfit::NoCall => own && matches!(earlier.fact, Fact::Return(..) | Fact::Renew(_)),
         Misfit::Asleep => own && matches!(earlier.fact, Fact::Sleep(..)),
         Misfit::Awake => own && matches!(earlier.fact, Fact::Wake(_)),
-        Misfit::Killed => own && earlier.fact.is_kill(),
+        Misfit::Killed | Misfit::NotReaped => own && earlier.fact.is_kill(),
         Misfit::Reaped => own && matches!(earlier.fact, Fact::Reap(_)),
-        Misfit::Alive | Misfit::AtLimit { .. } => false,
+        Misfit::Alive => own && matches!(earlier.fact, Fact::Renew(_)),
+        Misfit::AtLimit { .. } => false,
         Misfit::Released | Misfit::Decided { .. } | Misfit::OtherReply { .. } => {
             own && earlier.fact.is_point()
         }

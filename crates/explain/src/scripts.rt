@@ -1,14 +1,19 @@
 //! What is told of a script.
 
 ghost use Rattle.std.specs.Prelude.{◌≡◌, ◌≢◌, ◌<◌, ◌^◌, false, length, Some, IfOk};
-ghost use Rattle.explain.specs.Explains.{IsFaultOf, IsOfKind, IsTitle};
+ghost use Rattle.lines.specs.Lines.{lines_of, words_of};
+ghost use Rattle.explain.specs.Advised.{IsAdvised, IsScriptAdvice, behind_command, counted, first_earlier, lacking, limit_of, range_of, script_length, script_range};
+ghost use Rattle.explain.specs.Explains.{IsFaultOf, IsOfKind, IsTitle, mode_in};
+ghost use Rattle.explain.specs.Sought.{is_of, things_of};
+ghost use Rattle.explain.specs.Stray.{word_of};
 
 use crate::explanation::{Advice, Explanation, Note, Things, Title};
 use crate::names::unknown_name;
-use crate::quoting::{is_last, line_of, lines_in};
+use crate::quoting::{line_of, lines_in};
+use crate::ranges::ranged;
 use crate::sought::{Sought, first_before, things_of, word_of};
-use crate::stray::{stray_mark, stray_note};
-use lines::{cut, is_number_word, number_in};
+use crate::stray::stray_advice;
+use lines::cut;
 use script::{
     Fault, MAX_ACCESS, MAX_BASE, MAX_BYTES, MAX_CONDITIONS, MAX_COUNTER, MAX_EVENTS, MAX_LINES,
     MAX_MUTEXES, MAX_PROCESSES, MAX_STEPS, MAX_THREADS, Mode, ScriptFault, first_machine, parse,
@@ -17,32 +22,18 @@ use script::{
 use std::alloc::{AllocError, Global};
 use wording::{Kind, mode_of_word};
 
-/// A line that no script of the mode has, or not here.
-fn unknown_word(
-    alloc: Global,
-    mode: Mode,
-    text: &str,
-    number: usize,
-) -> Result<Advice<'static>, AllocError> {
-    let line = line_of(text, number);
-    if is_last(text, number) {
-        return Ok(Advice::only(Note::NoLineFeed));
-    }
-    match stray_mark(alloc, Kind::Script(mode), line)? {
-        Some(mark) => Ok(Advice {
-            mark: Some(mark),
-            note: stray_note(Kind::Script(mode), line, mark.word),
-            origin: None,
-        }),
-        None => Ok(Advice {
-            origin: first_before(text, number, &Sought::Command),
-            ..Advice::at(0, Note::BehindCommand)
-        }),
-    }
+/// A declaration behind a command.
+fn behind_command(text: &str, number: usize) -> Advice<'static>
+    ensures { result ≡ behind_command text.now number }
+{
+    let first = first_before(text, number, &Sought::Command);
+    Advice::at(0, Note::BehindCommand).back_to(first)
 }
 
 /// From where to where the number of a line with this first word goes, and which word it is.
-fn range_of(keyword: &str) -> Option<(usize, u32, u32)> {
+fn range_of(keyword: &str) -> Option<(usize, u32, u32)>
+    ensures { result ≡ range_of keyword.now }
+{
     match keyword {
         "process" => Some((2, 0, MAX_BASE)),
         "mutexes" => Some((2, 1, MAX_MUTEXES as u32)),
@@ -55,7 +46,9 @@ fn range_of(keyword: &str) -> Option<(usize, u32, u32)> {
 }
 
 /// How many things of a kind a script may have.
-fn limit_of(things: Things) -> u32 {
+fn limit_of(things: Things) -> u32
+    ensures { result ≡ limit_of things }
+{
     match things {
         Things::Processes => MAX_PROCESSES as u32,
         Things::Threads => MAX_THREADS as u32,
@@ -64,36 +57,45 @@ fn limit_of(things: Things) -> u32 {
     }
 }
 
-/// Whether the word writes a number of the range.
-fn is_within(word: &str, low: u32, high: u32) -> bool {
-    is_number_word(word) && number_in(word, low, high).is_some()
-}
-
-/// A number that is out of its range, at the end of the script or in a line.
-fn out_of_range(text: &str, number: usize) -> Advice<'static> {
-    let line = line_of(text, number);
-    if line.is_empty() {
-        return Advice::only(Note::NothingDeclared(
-            match first_before(text, number, &Sought::Any(Things::Threads)) {
-                None => Things::Threads,
-                Some(_) => Things::Mutexes,
-            },
-        ));
-    }
-    let keyword = word_of(line, 0);
-    if let Some((word, low, high)) = range_of(keyword) {
-        if !is_within(word_of(line, word), low, high) {
-            return Advice::at(word, Note::Range { low, high });
-        }
-    }
+/// Of a line whose numbers are in their ranges: it declares one thing too many, or locks mutexes that aren't there.
+fn counted(keyword: &str) -> Advice<'static>
+    ensures { result ≡ counted (things_of keyword.now) }
+{
     match things_of(keyword) {
         Some(things) => Advice::at(0, Note::TooMany(things, limit_of(things))),
         None => Advice::at(3, Note::PastLast),
     }
 }
 
+/// What a script declares too few of: threads, where it has none; else mutexes.
+fn lacking(text: &str, number: usize) -> Things
+    ensures { result ≡ lacking (first_earlier text.now number (λ t. is_of Things.Threads (things_of (word_of (words_of t) 0)))) }
+{
+    match first_before(text, number, &Sought::Any(Things::Threads)) {
+        None => Things::Threads,
+        Some(_) => Things::Mutexes,
+    }
+}
+
+/// A number that is out of its range, at the end of the script or in a line.
+fn out_of_range(text: &str, number: usize) -> Advice<'static>
+    ensures { result ≡ script_range text.now number }
+{
+    let line = line_of(text, number);
+    if line.is_empty() {
+        return Advice::only(Note::NothingDeclared(lacking(text, number)));
+    }
+    let keyword = word_of(line, 0);
+    match range_of(keyword) {
+        Some((word, low, high)) => ranged(line, word, low, high, counted(keyword)),
+        None => counted(keyword),
+    }
+}
+
 /// What there is too much of.
-fn too_long(text: &str, number: usize) -> Advice<'static> {
+fn too_long(text: &str, number: usize) -> Advice<'static>
+    ensures { result ≡ script_length text.now number }
+{
     if text.len() > MAX_BYTES {
         return Advice::only(Note::Bytes(MAX_BYTES as u32));
     }
@@ -109,10 +111,15 @@ fn advice<'a>(
     text: &'a str,
     mode: Mode,
     fault: ScriptFault,
-) -> Result<Advice<'a>, AllocError> {
+) -> Result<Advice<'a>, AllocError>
+    ensures { IfOk result (IsScriptAdvice mode text.entry.now fault.line fault.fault) }
+{
     match fault.fault {
         Fault::NotUtf8 | Fault::OutOfMemory => Ok(Advice::none()),
-        Fault::UnknownWord => unknown_word(alloc, mode, text, fault.line),
+        Fault::UnknownWord => {
+            let here = behind_command(text, fault.line);
+            stray_advice(alloc, Kind::Script(mode), text, fault.line, here)
+        }
         Fault::OutOfRange => Ok(out_of_range(text, fault.line)),
         Fault::NoSuchName => unknown_name(alloc, text, fault.line),
         Fault::TooLong => Ok(too_long(text, fault.line)),
@@ -158,7 +165,9 @@ fn known(fault: ScriptFault) -> Result<Option<ScriptFault>, AllocError>
 }
 
 /// The mode that the first line points to which only scripts of one mode have; the machine's, where none does.
-fn mode_of(text: &str) -> Mode {
+fn mode_of(text: &str) -> Mode
+    ensures { result ≡ mode_in (lines_of text.now) }
+{
     let mut rest = text;
     'lines: while let Some((line, behind)) = cut(rest, '\n') {
         if let Some(mode) = mode_of_word(word_of(line, 0)) {
@@ -174,6 +183,7 @@ pub fn explain_script<'a>(alloc: Global, bytes: &'a [u8]) -> Result<Explanation<
     requires { length bytes.now < 2 ^ 32 }
     ensures kind { IfOk result (λ x. IsOfKind false x.title) }
     ensures title { IfOk result (λ x. IsTitle bytes.entry.now x.title) }
+    ensures advised { IfOk result (λ x. IsAdvised bytes.entry.now x.title x.advice) }
 {
     let run = run_fault(alloc, bytes)?;
     let threads = threads_fault(alloc, bytes)?;

@@ -2,9 +2,11 @@
 
 ghost use Rattle.std.specs.Prelude.{◌≡◌, IfOk};
 ghost use Rattle.lines.specs.Lines.{words_of};
+ghost use Rattle.explain.specs.Advised.{IsStray};
 ghost use Rattle.explain.specs.Stray.{IsMarked, blank_note, ends_in_return, has_tab, is_remark, kind_note, stray_note, word_note};
 
-use crate::explanation::{Mark, Note};
+use crate::explanation::{Advice, Mark, Note};
+use crate::quoting::{is_last, line_of};
 use script::Mode;
 use std::alloc::{AllocError, Global};
 use wording::{Kind, first_wrong, is_line, known_words, mode_of_word, nearest, place_of, word_at};
@@ -95,7 +97,7 @@ fn word_note(kind: Kind, text: &str, index: usize, word: &str) -> Option<Note>
 }
 
 /// What is said beside a word at which no line of the kind can go on.
-pub fn stray_note(kind: Kind, text: &str, index: usize) -> Option<Note>
+fn stray_note(kind: Kind, text: &str, index: usize) -> Option<Note>
     ensures { result ≡ stray_note kind text.now index }
 {
     let word = word_at(text, index)?;
@@ -107,11 +109,7 @@ pub fn stray_note(kind: Kind, text: &str, index: usize) -> Option<Note>
 
 /// The first word at which no line of the kind can go on, what it has to be, and the known word that it is next to; None where the line is one
 /// of the kind.
-pub fn stray_mark(
-    alloc: Global,
-    kind: Kind,
-    text: &str,
-) -> Result<Option<Mark<'static>>, AllocError>
+fn stray_mark(alloc: Global, kind: Kind, text: &str) -> Result<Option<Mark<'static>>, AllocError>
     ensures { IfOk result (IsMarked kind (words_of text.now)) }
 {
     let Some(wrong) = first_wrong(kind, text) else {
@@ -124,4 +122,29 @@ pub fn stray_mark(
         expected: Some(wrong.next),
         near,
     }))
+}
+
+/// What is told of line `number`, which isn't one of the kind, or not here: no line feed ends it; or its first word at which no such line can go
+/// on is marked; or it is one, and then this is told.
+pub fn stray_advice(
+    alloc: Global,
+    kind: Kind,
+    text: &str,
+    number: usize,
+    here: Advice<'static>,
+) -> Result<Advice<'static>, AllocError>
+    ensures { IfOk result (IsStray kind text.now number here.entry) }
+{
+    if is_last(text, number) {
+        return Ok(Advice::only(Note::NoLineFeed));
+    }
+    let line = line_of(text, number);
+    let Some(mark) = stray_mark(alloc, kind, line)? else {
+        return Ok(here);
+    };
+    Ok(Advice {
+        mark: Some(mark),
+        note: stray_note(kind, line, mark.word),
+        origin: None,
+    })
 }

@@ -3,7 +3,7 @@
 use crate::files::{answer_of, words};
 
 /// Bytes of a file, and what is told of them.
-static MISTAKES: [(&[u8], u8, &str); 35] = [
+static MISTAKES: [(&[u8], u8, &str); 41] = [
     // scripts and traces without fault
     (
         b"thread a\nmutex m\ncall a lock m\n",
@@ -172,6 +172,11 @@ static MISTAKES: [(&[u8], u8, &str); 35] = [
         "f: line 2: fault 3: number out of range (a trace)\n  | 1 begin t2 lock m0\n  |         ^^\n  = the first line counts 1 of this kind: thread\n",
     ),
     (
+        b"trace 1 1 1\n1 begin t1 wait c1 m0\nend 1\n",
+        1,
+        "f: line 2: fault 3: number out of range (a trace)\n  | 1 begin t1 wait c1 m0\n  |                 ^^\n  = the first line counts 1 of this kind: condition variable\n",
+    ),
+    (
         b"trace 1 1 0\n1 kill t1\n",
         1,
         "f: line 3: fault 5: cut (a trace)\n  = the last line of a trace is `end N`\n",
@@ -191,6 +196,32 @@ static MISTAKES: [(&[u8], u8, &str); 35] = [
         b"trace 1 1 0\n5 begin t1 lock m0\nend 2\n",
         1,
         "f: line 3: illegal: the end is before event 5, of which a line was told\n  | end 2\n  = see line 2:\n  | 5 begin t1 lock m0\n",
+    ),
+    // renewals
+    (
+        b"trace 1 1 0\n1 renew t1\nend 1\n",
+        1,
+        "f: line 2: illegal: the thread wasn't killed\n  | 1 renew t1\n",
+    ),
+    (
+        b"trace 1 1 0\n1 kill t1\n2 renew t1\nend 2\n",
+        1,
+        "f: line 3: illegal: the thread was killed, and isn't reaped yet\n  | 2 renew t1\n  = see line 2:\n  | 1 kill t1\n",
+    ),
+    (
+        b"trace 1 1 0\n1 kill t1\n2 reaped t1\n3 renew t1\n4 renew t1\nend 4\n",
+        1,
+        "f: line 5: illegal: the thread wasn't killed\n  | 4 renew t1\n  = see line 4:\n  | 3 renew t1\n",
+    ),
+    (
+        b"trace 1 1 0\n1 kill t1\n2 reaped t1\n3 begin t1 lock m0\nend 3\n",
+        1,
+        "f: line 4: illegal: the thread was reaped\n  | 3 begin t1 lock m0\n  = see line 3:\n  | 2 reaped t1\n",
+    ),
+    (
+        b"thread a\nmutex m\nrenew b\n",
+        1,
+        "f: line 3: fault 4: no such name (a script for `rfx run`)\n  | renew b\n  |       ^\n  = did you mean `a`?\n  = no line before declares a thread of this name\n",
     ),
 ];
 

@@ -1,7 +1,7 @@
-use Rattle.std.proofs.Common.{◌≡◌, false, true, sym, ◌∙◌, rules}
+use Rattle.std.proofs.Common.{◌≡◌, false, sym, ◌∙◌, rules}
 use Rattle.lines.specs.Lines.{lines_of}
 use Rattle.explain.specs.Sought.{is_sought}
-use Rattle.explain.proofs.Earlier.{last_one, none_left, not_this, this_one}
+use Rattle.explain.proofs.Earlier.{none_left, not_this}
 use Rattle.explain.proofs.sought.first_before.Goals as goal
 
 pub lines-preserved : goal.lines-preserved
