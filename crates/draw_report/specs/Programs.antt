@@ -1,21 +1,23 @@
 -- What the program does with the words of its command line.
-use Rattle.std.specs.Prelude.{ℕ, ◌≡◌, ◌⊎◌, List, [], Option, Some, None, Result, Ok, Err, Vec, String, map, string_bytes}
+use Rattle.std.specs.Prelude.{ℕ, ◌≡◌, ◌⊎◌, List, [], Option, Result, Ok, Err, Vec, String, map, string_bytes}
 use Rattle.std.specs.declared.io.Error.{Error}
 use Rattle.std.specs.declared.alloc.Global.{Global}
 use Rattle.std.specs.declared.io.ErrorKind.{ErrorKind}
 use Rattle.std.specs.declared.io.ErrorKind.TheVariants as kind
+use Rattle.std.specs.Io.KnownBytes.{Appends}
 use Rattle.streams.specs.Leaves.{AppendsFront}
 use Rattle.draw_report.specs.declared.asking.Kind.{Kind}
 use Rattle.draw_report.specs.declared.messages.Failure.{Failure}
-use Rattle.draw_report.specs.declared.messages.Failure.TheVariants.{Usage, CannotRead, OutOfMemory}
-use Rattle.draw_report.specs.Asked.{Asked, asked_of}
+use Rattle.draw_report.specs.declared.messages.Failure.TheVariants.{Usage, CannotRead, CannotWrite, OutOfMemory}
+use Rattle.draw_report.specs.Asked.{Asked, Drawing, Meaning, Nothing, asked_of}
+use Rattle.draw_report.specs.Legend.{legend}
 use Rattle.draw_report.specs.Messages.{failure_text, failure_status}
 use Rattle.draw_report.specs.Served.{Fails, Serves}
 
 -- what the words ask for: the usage, where they can't be had as text
 abbrev pub asked_in : Result (Vec (String Global) Global) Error → Asked
 asked_in (Ok words) = asked_of (map string_bytes words.items)
-asked_in (Err e) = None
+asked_in (Err e) = Nothing
 
 -- the failure that an error of opening a file is told as: memory where memory was refused
 abbrev pub unopened_by : ErrorKind → Failure
@@ -33,10 +35,15 @@ PictureEnds Opens k file old new LetGo Quiet told told' status =
     ((had : Option (List ℕ)) × Opens file (Ok had) × (left : Option (List ℕ)) × ((Serves k had left old new × LetGo × Quiet × (status ≡ 0)) ⊎ ((f : Failure) × Fails k had left old new f × IsTold file f told told' status)))
     ⊎ ((e : ErrorKind) × Opens file (Err e) × (new ≡ old) × IsTold file (unopened_by e) told told' status)
 
+-- how it ended to tell what the signs mean: all of that was written, the writer has let go of it, and nothing was told; or a beginning of it, and that it couldn't be written is told
+abbrev pub LegendEnds : Option (List ℕ) → Option (List ℕ) → Type 0 → Type 0 → Option (List ℕ) → Option (List ℕ) → ℕ → Type 0
+LegendEnds old new LetGo Quiet told told' status = (Appends old new legend × LetGo × Quiet × (status ≡ 0)) ⊎ (AppendsFront old new legend × IsTold [] CannotWrite told told' status)
+
 -- how a command line ended that asks for this
 abbrev pub AskedEnds : (List ℕ → Result (Option (List ℕ)) ErrorKind → Type 0) → Asked → Option (List ℕ) → Option (List ℕ) → Type 0 → Type 0 → Option (List ℕ) → Option (List ℕ) → ℕ → Type 0
-AskedEnds Opens None old new LetGo Quiet told told' status = (new ≡ old) × IsTold [] Usage told told' status
-AskedEnds Opens (Some p) old new LetGo Quiet told told' status = PictureEnds Opens p.0 p.1 old new LetGo Quiet told told' status
+AskedEnds Opens Nothing old new LetGo Quiet told told' status = (new ≡ old) × IsTold [] Usage told told' status
+AskedEnds Opens Meaning old new LetGo Quiet told told' status = LegendEnds old new LetGo Quiet told told' status
+AskedEnds Opens (Drawing kind file) old new LetGo Quiet told told' status = PictureEnds Opens kind file old new LetGo Quiet told told' status
 
 -- how the program ended: as its command line asks; or memory for its words was wanted, and that is told
 abbrev pub RunEnds : (List ℕ → Result (Option (List ℕ)) ErrorKind → Type 0) → Asked → Option (List ℕ) → Option (List ℕ) → Type 0 → Type 0 → Option (List ℕ) → Option (List ℕ) → ℕ → Type 0

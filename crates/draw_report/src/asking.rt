@@ -17,6 +17,8 @@ pub enum Kind {
 pub enum Form<'a> {
     /// `rfx-draw [--svg] [FILE]`: the trace in this file is drawn, or the one on standard input. The name doesn't begin with a hyphen.
     Picture(Kind, &'a str),
+    /// `rfx-draw --legend`: what the signs of pictures in text mean.
+    Legend,
     /// Every other command line, those that ask for help or the version among them.
     Usage,
 }
@@ -49,6 +51,8 @@ fn form_of_word<'a>(word: &'a str) -> Form<'a>
 {
     if word == "--svg" {
         Form::Picture(Kind::Svg, STANDARD_INPUT)
+    } else if word == "--legend" {
+        Form::Legend
     } else {
         form_of_file(Kind::Text, word)
     }

@@ -68,7 +68,7 @@ fn write_failure<E: Write>(err: &mut E, file: &str, failure: Failure) -> io::Res
     ensures { Leaves (E.contents err.old) (E.contents err.new) result (failure_text file.now failure) }
 {
     match failure {
-        Failure::Usage => put(err, &["usage: rfx-draw [--svg] [FILE]\n"]),
+        Failure::Usage => put(err, &["usage: rfx-draw [--svg] [FILE] | --legend\n"]),
         Failure::CannotRead => put(err, &["rfx-draw: cannot read ", file, "\n"]),
         Failure::CannotWrite => put(err, &["rfx-draw: cannot write\n"]),
         Failure::OutOfMemory => put(err, &[OUT_OF_MEMORY]),

@@ -4,11 +4,11 @@ ghost use Rattle.std.specs.Prelude.{◌≡◌, map, string_bytes, IfOk};
 ghost use Rattle.std.specs.IoError.{error_kind};
 ghost use Rattle.streams.specs.Leaves.{AppendsFront};
 ghost use Rattle.draw_report.specs.Messages.{failure_status, failure_text};
-ghost use Rattle.draw_report.specs.Programs.{asked_in, unopened_by, RunEnds, PictureEnds};
+ghost use Rattle.draw_report.specs.Programs.{asked_in, unopened_by, LegendEnds, RunEnds, PictureEnds};
 
 use crate::asking::{Form, Kind, form_of_words};
 use crate::messages::{Failure, fail};
-use crate::serving::serve;
+use crate::serving::{serve, write_legend};
 use std::alloc::{AllocError, Global};
 use std::io::{self, ErrorKind, Write};
 use streams::{Opener, Output};
@@ -55,8 +55,18 @@ fn run_picture<F: Opener, W: Output, E: Write>(
     }
 }
 
-/// What `rfx-draw` does with the words of its command line, the first being its name, and the exit status that it answers: 0 where the picture of the trace
-/// was written and let go of, and nothing told on `err`; 1 for a fault, which is told there; 2 where the command line has no form. Words that can't be had
+/// What the signs of pictures mean.
+fn run_legend<W: Output, E: Write>(out: &mut W, err: &mut E) -> u8
+    ensures { LegendEnds (W.contents out.old) (W.contents out.new) (W.is_let_go out.new) (err.new ≡ err.old) (E.contents err.old) (E.contents err.new) result }
+{
+    match write_legend(out) {
+        Ok(()) => 0,
+        Err(_unwritten) => fail(err, "", Failure::CannotWrite),
+    }
+}
+
+/// What `rfx-draw` does with the words of its command line, the first being its name, and the exit status that it answers: 0 where the picture of the trace,
+/// or what the signs of pictures mean, was written and let go of, and nothing told on `err`; 1 for a fault, which is told there; 2 where the command line has no form. Words that can't be had
 /// as text are another command line, unless memory was refused for them.
 pub fn run<F: Opener, W: Output, E: Write>(
     alloc: Global,
@@ -79,6 +89,7 @@ pub fn run<F: Opener, W: Output, E: Write>(
     };
     match form_of_words(&lent) {
         Form::Picture(kind, file) => run_picture(alloc, kind, file, files, out, err),
+        Form::Legend => run_legend(out, err),
         Form::Usage => fail(err, "", Failure::Usage),
     }
 }

@@ -5,14 +5,16 @@ ghost use Rattle.std.specs.Io.KnownBytes.{Consumes, IsAtEnd};
 ghost use Rattle.streams.specs.Leaves.{Leaves};
 ghost use Rattle.streams.specs.Taken.{TakesAtMost};
 ghost use Rattle.verdict.specs.Limits.{max_bytes};
+ghost use Rattle.draw_report.specs.Legend.{legend};
 ghost use Rattle.draw_report.specs.Served.{Draws, Fails, FailsDrawing, IsUnread, Serves, failed_by, picture, undrawn_by};
 
 use crate::asking::Kind;
+use crate::legend::{lanes_legend, marks_legend};
 use crate::messages::Failure;
 use picture::{Unwritten, draw, draw_svg};
 use std::alloc::Global;
-use std::io::Read;
-use streams::{Output, ReadFault, read_below};
+use std::io::{self, Read};
+use streams::{Output, ReadFault, put, read_below};
 use verdict::{MAX_BYTES, Told, read_trace};
 
 /// What a fault of reading is told as.
@@ -124,5 +126,24 @@ pub fn serve<R: Read, W: Output>(
     match read_file(alloc, input) {
         Ok(bytes) => draw_bytes(alloc, kind, &bytes, out),
         Err(failure) => Err(failure),
+    }
+}
+
+fn put_legend<W: Output>(out: &mut W) -> io::Result<()>
+    ensures { Leaves (W.contents out.old) (W.contents out.new) result legend }
+{
+    put(out, marks_legend())?;
+    put(out, lanes_legend())
+}
+
+/// Writes what the signs of pictures in text mean, and lets go of what the writer kept back.
+pub fn write_legend<W: Output>(out: &mut W) -> io::Result<()>
+    ensures text { Leaves (W.contents out.old) (W.contents out.new) result legend }
+    ensures let_go { OnOk result (W.is_let_go out.new) }
+{
+    put_legend(out)?;
+    match out.let_go() {
+        Ok(()) => Ok(()),
+        Err(kept) => Err(kept),
     }
 }

@@ -100,10 +100,12 @@ const TRACE: &[u8] = b"trace 1 1 0\n1 begin t1 lock m0\nend 1\n";
 
 const TEXT: &str = " event  m0   t1\n     1  -    ┌ lock m0\n     1  end\n";
 
-const USAGE: &str = "usage: rfx-draw [--svg] [FILE]\n";
+const USAGE: &str = "usage: rfx-draw [--svg] [FILE] | --legend\n";
+
+const LEGEND: &str = "A row is a line of the trace: the number of its event, who owns each mutex behind it, and a lane for each thread.\n┌ lock m0        the thread begins a call\n● m0 OK          the call takes effect, with its reply\n└ OK             the call returns\nz on m0          the thread falls asleep\n> woken, < woken it is woken by the thread from whose lane the arrow comes\n> to m0, < to m0 it is moved, asleep, to the mutex\n○ woken          it left its queue by itself, or no line tells who woke it\n╳ killed         the thread is killed\n! m0 owner died  the kernel marks a mutex that it owned\n† reaped         the kernel has gone through its list\n* renewed        it lives anew: its id is used again\nA lane shows what its thread does:\n·   it is in no call\n│   it is in a call\nz   it is asleep in a call\n╎   it was killed, and the kernel goes through its list\n†   it was reaped\nBelow a mutex stands its owner:\nt1    t1 owns it\nt1!   t1 owns it, and has to declare it consistent: an owner died\n-!    an owner died, and nobody was told yet\n-     nobody owns it\nlost  nobody can have it any more\n";
 
 /// A file, a command line, what comes of it, and how often a file is opened.
-static LINES: [(&[u8], &[&str], u8, &str, &str, usize); 20] = [
+static LINES: [(&[u8], &[&str], u8, &str, &str, usize); 22] = [
     (TRACE, &["rfx-draw"], 0, TEXT, "", 1),
     (TRACE, &["rfx-draw", "f"], 0, TEXT, "", 1),
     (TRACE, &["rfx-draw", "/dev/stdin"], 0, TEXT, "", 1),
@@ -115,6 +117,8 @@ static LINES: [(&[u8], &[&str], u8, &str, &str, usize); 20] = [
     (TRACE, &["rfx-draw", "--svg", "-f"], 2, "", USAGE, 0),
     (TRACE, &["rfx-draw", "--svg", "--svg"], 2, "", USAGE, 0),
     (TRACE, &["rfx-draw", "--svg", "f", "f"], 2, "", USAGE, 0),
+    (TRACE, &["rfx-draw", "--legend", "f"], 2, "", USAGE, 0),
+    (TRACE, &["rfx-draw", "--legend"], 0, LEGEND, "", 0),
     (TRACE, &[], 2, "", USAGE, 0),
     (
         b"trace 1 1 0\n\xff\nend 1\n",
