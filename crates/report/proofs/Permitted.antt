@@ -1,13 +1,14 @@
 -- What a mutex permits its only caller, and what it answers.
-use Rattle.std.proofs.Common.{◌≡◌, ◌≢◌, ℕ, ◌==◌, Bool, true, false, nat_le, Option, Some, None, refl, sym, ap, ◌∙◌, eq-eqb, ne_eqb}
-use Rattle.std.specs.Prelude.{if◌then◌else◌, ◌||◌}
+use Rattle.std.proofs.Common.{◌≡◌, ◌≢◌, ℕ, ◌==◌, Bool, true, false, nat_le, Option, Some, None, refl, sym, ap, ◌∙◌, subst, eq-eqb, ne_eqb}
+use Rattle.std.specs.Prelude.{if◌then◌else◌, ◌||◌, MatchBool}
 use Rattle.lockword.specs.declared.reply.Reply.{Reply}
 use Rattle.lockword.specs.declared.reply.Reply.TheVariants.{OK, EPERM, EBUSY, EINVAL, EDEADLK, EOWNERDEAD, ENOTRECOVERABLE, XRACED, XHELD, XFULL, XSTATE}
 use Rattle.keys.specs.declared.object.Object.{Object}
 use Rattle.keys.specs.declared.point.Operation.{Operation}
 use Rattle.keys.specs.declared.point.Operation.TheVariants.{Lock, TryLock, Unlock, Consistent, Wait, Signal, Broadcast, Death}
-use Rattle.keys.specs.Objects.{held_limit, acquires, freed, owned_by, Permits}
-use Rattle.report.specs.Lone.{answer, by_owner, taken, taking, IsAnswer}
+use Rattle.keys.proofs.Steps.{determined}
+use Rattle.keys.specs.Objects.{held_limit, acquires, Does, freed, owned_by, Permits}
+use Rattle.report.specs.Lone.{answer, MutexesPermitOnlyAnswers, by_owner, taken, taking, IsAnswer}
 
 -- ---- whose it is
 
@@ -78,6 +79,28 @@ permits_answer h t o n Broadcast XFULL low sound alive won p = its_mine t o.owne
 permits_answer h t o n Broadcast EPERM low sound alive won p = not_mine t o.owner (Some EPERM) (Some OK) p.0
 permits_answer h t o n Death OK low sound alive won p = absurd (alive refl)
 permits_answer h t o n op r low sound alive won p = absurd p
+
+-- also where its thread holds too many
+taking_answer : (h t : ℕ) (o n : Object) (op : Operation) (r : Reply) → (nat_le held_limit h ≡ true → IsAnswer h t op o XHELD) → (nat_le held_limit h ≡ false → Permits o t op r n → IsAnswer h t op o r) → MatchBool (nat_le held_limit h) ((r ≡ XHELD) × (n ≡ o)) (Permits o t op r n) → IsAnswer h t op o r
+taking_answer h t o n op r full free does = go (nat_le held_limit h) refl does where
+  go : (b : Bool) → nat_le held_limit h ≡ b → MatchBool b ((r ≡ XHELD) × (n ≡ o)) (Permits o t op r n) → IsAnswer h t op o r
+  go true is refused = subst (λ (x : Reply). IsAnswer h t op o x) (sym refused.0) (full is)
+  go false is permits = free is permits
+
+step_answer : (h t : ℕ) (o n : Object) (op : Operation) (r : Reply) → (o.unusable ≡ true → o.owner ≡ None) → op ≢ Death → r ≢ XRACED → Does h o t op r n → IsAnswer h t op o r
+step_answer h t o n Lock r sound alive won does =
+    taking_answer h t o n Lock r (λ is. full_taking t _ o.unusable o.owner o.inconsistent _ _ is) (λ is p. permits_answer h t o n Lock r (λ takes. is) sound alive (λ same. won) p) does
+step_answer h t o n TryLock r sound alive won does =
+    taking_answer h t o n TryLock r (λ is. full_taking t _ o.unusable o.owner o.inconsistent _ _ is) (λ is p. permits_answer h t o n TryLock r (λ takes. is) sound alive (λ same. won) p) does
+step_answer h t o n Unlock r sound alive won does = permits_answer h t o n Unlock r (λ takes. absurd (cc takes)) sound alive (λ same. won) does
+step_answer h t o n Consistent r sound alive won does = permits_answer h t o n Consistent r (λ takes. absurd (cc takes)) sound alive (λ same. won) does
+step_answer h t o n Wait r sound alive won does = permits_answer h t o n Wait r (λ takes. absurd (cc takes)) sound alive (λ same. won) does
+step_answer h t o n Signal r sound alive won does = permits_answer h t o n Signal r (λ takes. absurd (cc takes)) sound alive (λ same. won) does
+step_answer h t o n Broadcast r sound alive won does = permits_answer h t o n Broadcast r (λ takes. absurd (cc takes)) sound alive (λ same. won) does
+step_answer h t o n Death r sound alive won does = absurd (alive refl)
+
+pub only_answers : MutexesPermitOnlyAnswers
+only_answers h t o n op r sound alive won does = (step_answer h t o n op r sound alive won does, determined h o t op r n does)
 
 -- ---- a wait that took its mutex again
 

@@ -36,7 +36,7 @@ mod threads;
 
 /// The forms of the command line.
 pub use cmdline::{Form, form_of_words};
-pub use laws::phases_of_one_thread_are_determined;
+pub use laws::{mutexes_permit_only_answers, phases_of_one_thread_are_determined};
 pub use messages::{CANNOT_READ, CANNOT_WRITE, OUT_OF_MEMORY, USAGE};
 pub use program::run;
 pub use serving::serve;
