@@ -85,7 +85,7 @@ fn seven_threads(rt: HostRuntime) {
 }
 
 /// Traces and their pictures: lanes of each width, and what else has a place of its own in a row.
-static LANES: [(&str, &str); 15] = [
+static LANES: [(&str, &str); 16] = [
     // Two lanes of 24 columns, and bands for eight of nine mutexes.
     (
         "trace 2 9 0\n1 begin t1 lock m0\nend 1\n",
@@ -150,6 +150,11 @@ static LANES: [(&str, &str); 15] = [
     (
         "trace 1 9 0\n1 begin t1 lock m7\n2 point t1 m7 lock OK\n3 return t1 OK\n4 begin t1 lock m8\n5 point t1 m8 lock OK\nend 5\n",
         " event  m0   m1   m2   m3   m4   m5   m6   m7   t1\n     1  -    -    -    -    -    -    -    -    ┌ lock m7\n     2  -    -    -    -    -    -    -    t1   ● m7 OK\n     3  -    -    -    -    -    -    -    t1   └ OK\n     4  -    -    -    -    -    -    -    t1   ┌ lock m8\n     5  -    -    -    -    -    -    -    t1   ● m8 OK\n     5  end\n",
+    ),
+    // A reaped thread lives anew.
+    (
+        "trace 2 1 0\n1 begin t1 lock m0\n2 kill t1\n3 reaped t1\n4 begin t2 lock m0\n5 renew t1\n6 point t2 m0 lock OK\nend 6\n",
+        " event  m0   t1                      t2\n     1  -    ┌ lock m0               ·\n     2  -    ╳ killed                ·\n     3  -    † reaped                ·\n     4  -    †                       ┌ lock m0\n     5  -    * renewed               │\n     6  t2   ·                       ● m0 OK\n     6  end\n",
     ),
     // A sleeper is killed.
     (
