@@ -8,6 +8,7 @@
 #include <stdio.h>
 #include <stdlib.h>
 #include <sys/mman.h>
+#include <sys/wait.h>
 
 enum { ROOM = 64 << 20 };
 
@@ -86,12 +87,15 @@ long pz_trace_events(void)
     return events;
 }
 
-/* Kills the process whose one thread has this id. */
+/* Kills the process whose one thread has this id, a child of the caller. It is gone when the lock is given up: else it
+ * might take the lock while it dies, or be woken in place of one that lives. */
 void pz_trace_kill(pid_t process, unsigned t)
 {
+    siginfo_t gone;
     pz_trace_lock();
     tell("kill t%u\n", t);
     kill(process, SIGKILL);
+    waitid(P_PID, (id_t)process, &gone, WEXITED | WNOWAIT);
     pz_trace_unlock();
 }
 
