@@ -268,7 +268,7 @@ impl Machine {
         self.memory.load(place)
     }
 
-    /// Whether a thread is in a call. False where it was killed, and where there is no such thread.
+    /// Whether a thread is in a call. False where it was killed and isn't renewed, and where there is no such thread.
     pub fn busy(&self, thread: Tid) -> bool
         ensures { result ≡ is_busy (state_of self.now) thread }
     {

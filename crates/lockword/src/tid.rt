@@ -4,7 +4,7 @@ ghost use Rattle.std.specs.Option.{SomeIff};
 
 use std::marker::Model;
 
-/// A thread's id, from 1 to 64. An id is never used again.
+/// A thread's id, from 1 to 64. It may be used again, once its thread was reaped.
 #[derive(Clone, Copy, Debug, PartialEq, Eq)]
 pub struct Tid(u8);
 
