@@ -98,6 +98,7 @@ static struct pz_call call_of(unsigned t, uint64_t cell)
 /* ---- By plan. The thread's own words are stored by it alone; what it loads of them may have been spoiled, so nothing
  * is stored where it doesn't lie in the file. */
 
+/* (How many there are is read before the first of them: for the compiler any may change it.) */
 static inline void store(word *words, const struct pz_plan *plan, unsigned i)
 {
     STORE(&words[plan->at[i]], plan->value[i]);
@@ -121,7 +122,7 @@ static inline uint32_t planned_lock(pz *p, unsigned t, uint64_t cell, unsigned o
             (struct pz_phase){.kind = operation == PZ_OP_LOCK ? AT_LOCK_TAKE : AT_TRYLOCK_TAKE, .x = seen};
         return run_on(p, t, &call, PZ_CHANGED, found);
     }
-    for (unsigned i = 1; i < plan.stores; i++)
+    for (unsigned i = 1, n = plan.stores; i < n; i++)
         store(words, &plan, i);
     return plan.reply;
 }
@@ -134,7 +135,7 @@ static inline uint32_t planned_unlock(pz *p, unsigned t, uint64_t cell)
     if (!is_entry(p, next) || !is_entry(p, previous) ||
         !pz_plan_unlock(&plan, (uint8_t)t, head_place(t), cell + 1, seen, next, previous))
         return NO_PLAN;
-    for (unsigned i = 0; i < plan.before; i++)
+    for (unsigned i = 0, n = plan.before; i < n; i++)
         store(words, &plan, i);
     uint64_t found = XOR(w, plan.operand);
     /* WAITERS alone is no sleeper: where none has a bit, the wake of nobody and the trim that is declined are left out.
@@ -145,7 +146,7 @@ static inline uint32_t planned_unlock(pz *p, unsigned t, uint64_t cell)
         call.phase.lock = (struct pz_phase){.kind = AT_RELEASE};
         return run_on(p, t, &call, PZ_VALUE, found);
     }
-    for (unsigned i = plan.before; i < plan.stores; i++)
+    for (unsigned i = plan.before, n = plan.stores; i < n; i++)
         store(words, &plan, i);
     return plan.reply;
 }
