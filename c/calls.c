@@ -240,17 +240,34 @@ static int has_sleepers(pz *p, uint64_t cell)
     return 0;
 }
 
-/* Unusable, it is made free by one exchange of its word: nobody owns it, nobody's list has it, and who looks at it
- * then finds it one or the other. What a dead owner left is taken and declared. */
+/* An unusable mutex, seen so, is made free by one exchange of its word: nobody owns it, no living thread's list has it,
+ * and who looks at it then finds it one or the other. A trace tells it of the calling thread, which takes part for that. */
+static int is_freed(pz *p, unsigned m, uint64_t seen)
+{
+    int why = 0;
+    unsigned t = PZ_TRACE ? self_in(p, &why) : 0;
+    (void)t;
+    if (why)
+        return 0;
+    pz_trace_lock();
+    int freed = atomic_compare_exchange_strong(&p->words[cell_place(m)], &seen, 0);
+    if (freed)
+        PZ_TELL(pz_trace_reinit(t, m));
+    pz_trace_unlock();
+    return freed;
+}
+
+/* The word is looked at before the sleepers are: nobody comes to sleep on a mutex that is unusable, as long as nobody
+ * makes it free (the law nobody_joins_an_unusable_mutex in crates/protocol). What a dead owner left is taken and
+ * declared. */
 int pz_mutex_renew(pz *p, unsigned m)
 {
     if (m >= p->mutexes)
         return EINVAL;
-    word *w = &p->words[cell_place(m)];
+    uint64_t seen = atomic_load(&p->words[cell_place(m)]);
     if (has_sleepers(p, cell_place(m)))
         return EBUSY;
-    uint64_t seen = atomic_load(w);
-    if (seen == 0 || ((seen & UNUSABLE) && atomic_compare_exchange_strong(w, &seen, 0)))
+    if (seen == 0 || ((seen & UNUSABLE) && is_freed(p, m, seen)))
         return 0;
     int r = pz_mutex_trylock(p, m);
     if (r == ENOTRECOVERABLE)

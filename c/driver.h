@@ -141,6 +141,7 @@ void pz_trace_point(unsigned t, unsigned operation, unsigned m, unsigned reply);
 void pz_trace_sleep(const pz *p, unsigned t, uint64_t at);
 void pz_trace_wake(unsigned t);
 void pz_trace_return(unsigned t, unsigned reply);
+void pz_trace_reinit(unsigned t, unsigned m);
 void pz_trace_death(unsigned t, unsigned m);
 void pz_trace_reaped(unsigned t);
 void pz_trace_leave(unsigned t);

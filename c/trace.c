@@ -125,6 +125,15 @@ void pz_trace_sleep(const pz *p, unsigned t, uint64_t at)
 
 void pz_trace_wake(unsigned t) { tell("wake t%u\n", t); }
 void pz_trace_return(unsigned t, unsigned reply) { tell("return t%u %s\n", t, word_of(reply)); }
+
+/* No call of the steps: a thread in no call made an unusable mutex free. */
+void pz_trace_reinit(unsigned t, unsigned m)
+{
+    tell("begin t%u reinit m%u\n", t, m);
+    tell("point t%u m%u reinit OK\n", t, m);
+    tell("return t%u OK\n", t);
+}
+
 void pz_trace_death(unsigned t, unsigned m) { tell("death t%u m%u\n", t, m); }
 void pz_trace_reaped(unsigned t) { tell("reaped t%u\n", t); }
 

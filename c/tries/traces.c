@@ -1,5 +1,6 @@
 /* A trace of processes that lock, wait and are killed, for `rfx check`: 200 of them, six at a time, so each id has many
- * lives. usage: traces SEED >TRACE */
+ * lives. Mutexes but the first, of which there are waiters, become unusable now and then, and are made free again.
+ * usage: traces SEED >TRACE */
 #include "trace.h"
 #include "try.h"
 
@@ -30,7 +31,13 @@ static void work(int slot)
         int r = rand_r(&random) % 2 ? pz_mutex_lock(p, m) : pz_mutex_trylock(p, m);
         if (r == EBUSY)
             continue;
-        settle(m, r);
+        if (r == ENOTRECOVERABLE) {
+            r = pz_mutex_renew(p, m);
+            CHECK(r == 0 || r == EBUSY);
+            continue;
+        }
+        if (m == 0 || r != EOWNERDEAD || rand_r(&random) % 2)
+            settle(m, r);
         if (m == 0 && rand_r(&random) % 2)
             SAME(rand_r(&random) % 2 ? pz_cond_signal(p, 0) : pz_cond_broadcast(p, 0), 0);
         else if (m == 0 && slot && rand_r(&random) % 2)
@@ -70,7 +77,8 @@ int main(int argc, char **argv)
         end(child[i], i);
     pz_reap(p);
     SAME(pz_thread_begin(p), 0);
-    settle(1, pz_mutex_lock(p, 1));
+    SAME(pz_mutex_renew(p, 1), 0);
+    SAME(pz_mutex_lock(p, 1), 0);
     SAME(pz_thread_end(p), 0); /* as its owner: by a death */
     pz_trace_write(stdout, MUTEXES, CONDS);
     unlink(path);

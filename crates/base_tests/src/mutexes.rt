@@ -6,7 +6,7 @@ use lockword::{Reply, Tid};
 use std::test::Fail;
 
 /// Every operation, and its word.
-static OPERATIONS: [(Operation, &str); 8] = [
+static OPERATIONS: [(Operation, &str); 9] = [
     (Operation::Lock, "lock"),
     (Operation::TryLock, "trylock"),
     (Operation::Unlock, "unlock"),
@@ -15,6 +15,7 @@ static OPERATIONS: [(Operation, &str); 8] = [
     (Operation::Signal, "signal"),
     (Operation::Broadcast, "broadcast"),
     (Operation::Death, "death"),
+    (Operation::Reinit, "reinit"),
 ];
 
 static REPLIES: [Reply; 15] = [
@@ -59,7 +60,7 @@ static STATES: [State; 6] = [
 #[derive(Clone, Copy)]
 struct Row(State, Operation, Reply, State);
 
-static TABLE: [Row; 48] = [
+static TABLE: [Row; 49] = [
     Row(State::Free, Operation::Lock, Reply::OK, State::Mine),
     Row(
         State::Bereaved,
@@ -268,6 +269,7 @@ static TABLE: [Row; 48] = [
         Reply::OK,
         State::Bereaved,
     ),
+    Row(State::Unusable, Operation::Reinit, Reply::OK, State::Free),
 ];
 
 // What the table says of an operation; None where no row has it.

@@ -1,5 +1,5 @@
 -- What is known where a picture was drawn, or wasn't.
-use Rattle.std.proofs.Common.{◌≡◌, ◌≤◌, ℕ, Bool, true, false, List, length, Option, Result, Ok, Err, refl, sym, subst, ◌∙◌, arith}
+use Rattle.std.proofs.Common.{◌≡◌, ◌≤◌, ℕ, Bool, true, false, IfErr, List, length, Option, Result, Ok, Err, refl, sym, ap, subst, ◌∙◌, arith, inr}
 use Rattle.std.specs.Prelude.{nat_lt}
 use Rattle.std.specs.Io.KnownBytes.{Consumes, IsAtEnd, Keeps}
 use Rattle.std.proofs.lemmas.Bool.Decides.{nat_tests}
@@ -9,22 +9,37 @@ use Rattle.verdict.specs.declared.fault.Fault.TheVariants.{TooLong}
 use Rattle.verdict.specs.declared.told.Told.{Told}
 use Rattle.verdict.specs.Limits.{max_bytes}
 use Rattle.verdict.specs.Reading.{Trace, fault_at, trace_read}
-use Rattle.verdict.specs.Told.{IsWithin, trace_of}
+use Rattle.verdict.specs.Told.{trace_of}
 use Rattle.picture.specs.declared.drawing.Unwritten.{Unwritten}
 use Rattle.picture.specs.declared.drawing.Unwritten.TheVariants as unwritten
 use Rattle.draw_report.specs.declared.asking.Kind.{Kind}
 use Rattle.draw_report.specs.declared.messages.Failure.{Failure}
-use Rattle.draw_report.specs.Served.{Comes, Draws, FailsDrawing, Serves, picture, undrawn_by}
+use Rattle.draw_report.specs.declared.messages.Failure.TheVariants.{Script}
+use Rattle.draw_report.specs.Names.{called_by}
+use Rattle.draw_report.specs.Scripts.{FailsScript, GivesScript}
+use Rattle.draw_report.specs.Served.{Comes, Draws, FailsDrawing, IsOf, Serves, picture, undrawn_by}
+use Rattle.script.specs.declared.command.Mode.TheVariants.{Run}
+use Rattle.script.specs.declared.fault.Fault.TheVariants as script
+use Rattle.script.specs.declared.fault.ScriptFault.{ScriptFault}
+use Rattle.script.specs.Limits as scripts
+use Rattle.script.specs.Outcome.{TellsAt}
+use Rattle.script.specs.Reading.{script_read, fault_at as script_fault_at}
+use Rattle.script.specs.Scope.{Scope}
 
 -- whatever came of a text and of what was done then, a beginning of it stands, if that kept it
 pub leaves_is_front : {X E : Type 0} (a b c : Option (List ℕ)) (r : Result X E) (text : List ℕ) → Leaves a b r text → Keeps b c → AppendsFront a c text
 leaves_is_front a b c (Ok x) text h k = whole_is_front a c text (Appends-kept a b c text h k)
 leaves_is_front a b c (Err e) text h k = (h.0, Appends-kept a b c _ h.1 k)
 
+-- what an error says, said otherwise
+pub err_weaker : {X E : Type 0} {P Q : E → Type 0} (r : Result X E) → ((e : E) → P e → Q e) → IfErr r P → IfErr r Q
+err_weaker (Ok x) weaker h = h
+err_weaker (Err e) weaker h = weaker e h
+
 -- a picture that wasn't written, or not all of it
-pub draws_front : (kind : Kind) (old new : Option (List ℕ)) (bytes : List ℕ) (t : Told) (u : Unwritten) → trace_read bytes ≡ Ok (trace_of t) → IsWithin t → AppendsFront old new (picture kind t) → FailsDrawing kind bytes old new (undrawn_by u)
-draws_front kind old new bytes t unwritten.OutOfMemory reads within front = (t, reads, within, front)
-draws_front kind old new bytes t unwritten.Failed reads within front = (t, reads, within, front)
+pub draws_front : (kind : Kind) (script : Option Scope) (old new : Option (List ℕ)) (bytes : List ℕ) (t : Told) (u : Unwritten) → IsOf script bytes t → AppendsFront old new (picture kind (called_by script) t) → FailsDrawing kind script bytes old new (undrawn_by u)
+draws_front kind script old new bytes t unwritten.OutOfMemory of front = (t, of, front)
+draws_front kind script old new bytes t unwritten.Failed of front = (t, of, front)
 
 -- a trace isn't too long
 read_is_short : (bytes : List ℕ) (t : Trace) → trace_read bytes ≡ Ok t → length bytes ≤ max_bytes
@@ -37,11 +52,29 @@ read_is_short bytes t is = go (nat_lt max_bytes (length bytes)) refl
     go false short = grind (arith, nat_tests)
 
 -- all that a reader had is a trace, if what was read is one
-pub serves : (kind : Kind) (had left old new : Option (List ℕ)) (bytes seen : List ℕ) → seen ≡ bytes → Consumes had left bytes → (length bytes ≤ max_bytes → IsAtEnd left) → Draws kind old new seen → Serves kind had left old new
-serves kind had left old new bytes seen same taken end draws =
-    let d = subst (λ (bs : List ℕ). Draws kind old new bs) same draws in
-    (bytes, taken, end (read_is_short bytes (trace_of d.0) d.1), d)
+pub serves : (kind : Kind) (script : Option Scope) (had left old new : Option (List ℕ)) (bytes seen : List ℕ) → seen ≡ bytes → Consumes had left bytes → (length bytes ≤ max_bytes → IsAtEnd left) → Draws kind script old new seen → Serves kind script had left old new
+serves kind script had left old new bytes seen same taken end draws =
+    let d = subst (λ (bs : List ℕ). Draws kind script old new bs) same draws in
+    (bytes, taken, end (read_is_short bytes (trace_of d.0) d.1.reads), d)
 
 -- what came of its bytes
-pub comes : (kind : Kind) (had left old new : Option (List ℕ)) (bytes seen : List ℕ) (f : Failure) → seen ≡ bytes → Consumes had left bytes → (length bytes ≤ max_bytes → IsAtEnd left) → FailsDrawing kind seen old new f → Comes kind had left old new f
-comes kind had left old new bytes seen f same taken end fails = (bytes, taken, end, subst (λ (bs : List ℕ). FailsDrawing kind bs old new f) same fails)
+pub comes : (kind : Kind) (script : Option Scope) (had left old new : Option (List ℕ)) (bytes seen : List ℕ) (f : Failure) → seen ≡ bytes → Consumes had left bytes → (length bytes ≤ max_bytes → IsAtEnd left) → FailsDrawing kind script seen old new f → Comes kind script had left old new f
+comes kind script had left old new bytes seen f same taken end fails = (bytes, taken, end, subst (λ (bs : List ℕ). FailsDrawing kind script bs old new f) same fails)
+
+-- a script isn't too long
+script_is_short : (bytes : List ℕ) (s : Scope) → script_read Run bytes ≡ Ok s → length bytes ≤ scripts.max_bytes
+script_is_short bytes s is = go (nat_lt scripts.max_bytes (length bytes)) refl
+  where
+    go : (b : Bool) → nat_lt scripts.max_bytes (length bytes) ≡ b → length bytes ≤ scripts.max_bytes
+    go true long =
+        let fault : script_read Run bytes ≡ Err (script_fault_at 1 script.TooLong) = rw long refl in
+        let both : Ok s ≡ Err (script_fault_at 1 script.TooLong) = sym is ∙ fault in absurd cc
+    go false short = grind (arith, nat_tests)
+
+pub gives_script : (had left : Option (List ℕ)) (bytes seen : List ℕ) (s : Scope) → seen ≡ bytes → Consumes had left bytes → (length bytes ≤ scripts.max_bytes → IsAtEnd left) → script_read Run seen ≡ Ok s → GivesScript had left s
+gives_script had left bytes seen s same taken end reads =
+    let is : script_read Run bytes ≡ Ok s = ap (script_read Run) (sym same) ∙ reads in
+    (bytes, taken, end (script_is_short bytes s is), is)
+
+pub fails_script : (had left : Option (List ℕ)) (bytes seen : List ℕ) (e : ScriptFault) → seen ≡ bytes → Consumes had left bytes → (length bytes ≤ scripts.max_bytes → IsAtEnd left) → TellsAt e e.fault (script_read Run seen) → FailsScript had left (Script e)
+fails_script had left bytes seen e same taken end tells = inr (bytes, taken, end, subst (λ (bs : List ℕ). TellsAt e e.fault (script_read Run bs)) same tells)

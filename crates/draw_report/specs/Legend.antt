@@ -32,7 +32,7 @@ lanes_legend = codes "A lane shows what its thread does:\n"
     ∷ codes "t1!   t1 owns it, and has to declare it consistent: an owner died\n"
     ∷ codes "-!    an owner died, and nobody was told yet\n"
     ∷ codes "-     nobody owns it\n"
-    ∷ codes "lost  nobody can have it any more\n"
+    ∷ codes "lost  nobody can have it, unless it is made anew\n"
     ∷ []
 
 abbrev pub legend : List ℕ

@@ -1,5 +1,7 @@
 pub mod Asked
 pub mod Legend
 pub mod Messages
+pub mod Names
+pub mod Scripts
 pub mod Served
 pub mod Programs

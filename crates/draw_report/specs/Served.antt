@@ -1,5 +1,5 @@
 -- What the program did with the bytes of its reader.
-use Rattle.std.specs.Prelude.{ℕ, ◌≡◌, ◌≤◌, ◌⊎◌, ⊤, List, length, Option, Ok, Err}
+use Rattle.std.specs.Prelude.{ℕ, ◌≡◌, ◌≤◌, ◌⊎◌, ⊤, true, false, List, length, Option, Ok, Err}
 use Rattle.std.specs.Io.KnownBytes.{Appends, Consumes, IsAtEnd}
 use Rattle.streams.specs.Leaves.{AppendsFront}
 use Rattle.streams.specs.declared.reading.ReadFault.{ReadFault}
@@ -13,9 +13,12 @@ use Rattle.draw_report.specs.declared.asking.Kind.TheVariants.{Text, Svg}
 use Rattle.picture.specs.declared.drawing.Unwritten.{Unwritten}
 use Rattle.picture.specs.declared.drawing.Unwritten.TheVariants as unwritten
 use Rattle.draw_report.specs.declared.messages.Failure.{Failure}
-use Rattle.draw_report.specs.declared.messages.Failure.TheVariants.{Usage, CannotRead, CannotWrite, OutOfMemory, Trace}
+use Rattle.draw_report.specs.declared.messages.Failure.TheVariants.{Usage, CannotRead, CannotWrite, OutOfMemory, Script, Unlike, Trace}
+use Rattle.script.specs.Scope.{Scope}
 use Rattle.picture.specs.Drawn.{drawn}
+use Rattle.picture.specs.Names.{Called}
 use Rattle.picture.specs.Svg.{svg_drawn}
+use Rattle.draw_report.specs.Names.{called_by, is_like}
 
 -- the failure that a fault of reading is told as, and one of drawing: memory where memory was refused
 abbrev pub failed_by : ReadFault → Failure
@@ -32,35 +35,49 @@ IsUnread Usage = ⊥
 IsUnread CannotRead = ⊤
 IsUnread CannotWrite = ⊥
 IsUnread OutOfMemory = ⊤
+IsUnread (Script e) = ⊥
+IsUnread Unlike = ⊥
 IsUnread (Trace e) = ⊥
 
-abbrev pub picture : Kind → Told → List ℕ
-picture Text t = drawn t.head.threads t.head.mutexes t.lines.items t.last
-picture Svg t = svg_drawn t.head.threads t.head.mutexes t.lines.items t.last
+abbrev pub picture : Kind → Called → Told → List ℕ
+picture Text n t = drawn n t.head.threads t.head.mutexes t.lines.items t.last
+picture Svg n t = svg_drawn n t.head.threads t.head.mutexes t.lines.items t.last
 
--- these bytes are a trace, and all of its picture was written, or a beginning of it
-abbrev pub Draws : Kind → Option (List ℕ) → Option (List ℕ) → List ℕ → Type 0
-Draws kind old new bytes = (t : Told) × (trace_read bytes ≡ Ok (trace_of t)) × IsWithin t × Appends old new (picture kind t)
+-- these bytes are a trace, which begins as a run of the script does, if there is one
+pub record IsOf (script : Option Scope) (bytes : List ℕ) (t : Told) : Type 0 where
+  pub reads : trace_read bytes ≡ Ok (trace_of t)
+  pub within : IsWithin t
+  pub like : is_like script t.head ≡ true
 
-abbrev pub DrawsFront : Kind → Option (List ℕ) → Option (List ℕ) → List ℕ → Type 0
-DrawsFront kind old new bytes = (t : Told) × (trace_read bytes ≡ Ok (trace_of t)) × IsWithin t × AppendsFront old new (picture kind t)
+-- and all of its picture, with the script's names, was written, or a beginning of it
+abbrev pub Draws : Kind → Option Scope → Option (List ℕ) → Option (List ℕ) → List ℕ → Type 0
+Draws kind script old new bytes = (t : Told) × IsOf script bytes t × Appends old new (picture kind (called_by script) t)
 
--- why bytes weren't drawn, or not all: the fault that the judge of traces tells of them, or want of memory, before the first byte; or a write that failed, or memory for a row, behind a beginning
-abbrev pub FailsDrawing : Kind → List ℕ → Option (List ℕ) → Option (List ℕ) → Failure → Type 0
-FailsDrawing kind bytes old new Usage = ⊥
-FailsDrawing kind bytes old new CannotRead = ⊥
-FailsDrawing kind bytes old new CannotWrite = DrawsFront kind old new bytes
-FailsDrawing kind bytes old new OutOfMemory = DrawsFront kind old new bytes
-FailsDrawing kind bytes old new (Trace e) = (new ≡ old) × Gives (trace_read bytes) (Err e)
+abbrev pub DrawsFront : Kind → Option Scope → Option (List ℕ) → Option (List ℕ) → List ℕ → Type 0
+DrawsFront kind script old new bytes = (t : Told) × IsOf script bytes t × AppendsFront old new (picture kind (called_by script) t)
+
+-- these bytes are a trace that begins otherwise than a run of the script
+abbrev pub IsUnlike : Option Scope → List ℕ → Type 0
+IsUnlike script bytes = (t : Told) × (trace_read bytes ≡ Ok (trace_of t)) × (is_like script t.head ≡ false)
+
+-- why bytes weren't drawn, or not all: the fault that the judge of traces tells of them, or that they aren't the script's, before the first byte; or a write that failed, or memory for names or a row, behind a beginning
+abbrev pub FailsDrawing : Kind → Option Scope → List ℕ → Option (List ℕ) → Option (List ℕ) → Failure → Type 0
+FailsDrawing kind script bytes old new Usage = ⊥
+FailsDrawing kind script bytes old new CannotRead = ⊥
+FailsDrawing kind script bytes old new CannotWrite = DrawsFront kind script old new bytes
+FailsDrawing kind script bytes old new OutOfMemory = DrawsFront kind script old new bytes
+FailsDrawing kind script bytes old new (Script e) = ⊥
+FailsDrawing kind script bytes old new Unlike = (new ≡ old) × IsUnlike script bytes
+FailsDrawing kind script bytes old new (Trace e) = (new ≡ old) × Gives (trace_read bytes) (Err e)
 
 -- all that the reader had, up to its end, is a trace, and its picture was written
-abbrev pub Serves : Kind → Option (List ℕ) → Option (List ℕ) → Option (List ℕ) → Option (List ℕ) → Type 0
-Serves kind had left old new = (bytes : List ℕ) × Consumes had left bytes × IsAtEnd left × Draws kind old new bytes
+abbrev pub Serves : Kind → Option Scope → Option (List ℕ) → Option (List ℕ) → Option (List ℕ) → Option (List ℕ) → Type 0
+Serves kind script had left old new = (bytes : List ℕ) × Consumes had left bytes × IsAtEnd left × Draws kind script old new bytes
 
 -- what came of a reader's bytes, which are all that it had, or more than there may be
-abbrev pub Comes : Kind → Option (List ℕ) → Option (List ℕ) → Option (List ℕ) → Option (List ℕ) → Failure → Type 0
-Comes kind had left old new f = (bytes : List ℕ) × Consumes had left bytes × (length bytes ≤ max_bytes → IsAtEnd left) × FailsDrawing kind bytes old new f
+abbrev pub Comes : Kind → Option Scope → Option (List ℕ) → Option (List ℕ) → Option (List ℕ) → Option (List ℕ) → Failure → Type 0
+Comes kind script had left old new f = (bytes : List ℕ) × Consumes had left bytes × (length bytes ≤ max_bytes → IsAtEnd left) × FailsDrawing kind script bytes old new f
 
 -- why a file wasn't drawn, or not all: before the first byte it couldn't be read, or memory was wanted; or this came of its bytes
-abbrev pub Fails : Kind → Option (List ℕ) → Option (List ℕ) → Option (List ℕ) → Option (List ℕ) → Failure → Type 0
-Fails kind had left old new f = (IsUnread f × (new ≡ old)) ⊎ Comes kind had left old new f
+abbrev pub Fails : Kind → Option Scope → Option (List ℕ) → Option (List ℕ) → Option (List ℕ) → Option (List ℕ) → Failure → Type 0
+Fails kind script had left old new f = (IsUnread f × (new ≡ old)) ⊎ Comes kind script had left old new f

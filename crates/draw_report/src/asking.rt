@@ -1,7 +1,7 @@
 //! What the words of a command line ask for.
 
 ghost use Rattle.std.specs.Prelude.{◌≡◌, map};
-ghost use Rattle.draw_report.specs.Asked.{asked_by, asked_of, asked_of_file, asked_of_option, asked_of_word, is_file_word};
+ghost use Rattle.draw_report.specs.Asked.{asked_behind, asked_by, asked_by_script, asked_of, asked_of_file, asked_of_option, asked_of_svg, is_file_word};
 
 /// What a picture is made of.
 #[derive(Clone, Copy, Debug, PartialEq, Eq)]
@@ -15,8 +15,9 @@ pub enum Kind {
 /// What a command line asks for.
 #[derive(Clone, Copy, Debug, PartialEq, Eq)]
 pub enum Form<'a> {
-    /// `rfx-draw [--svg] [FILE]`: the trace in this file is drawn, or the one on standard input. The name doesn't begin with a hyphen.
-    Picture(Kind, &'a str),
+    /// `rfx-draw [--svg] [--script SCRIPT] [FILE]`: the trace in this file is drawn, or the one on standard input, with the names of
+    /// the script. No name of a file begins with a hyphen.
+    Picture(Kind, Option<&'a str>, &'a str),
     /// `rfx-draw --legend`: what the signs of pictures in text mean.
     Legend,
     /// Every other command line, those that ask for help or the version among them.
@@ -40,31 +41,51 @@ fn form_of_file<'a>(kind: Kind, file: &'a str) -> Form<'a>
     ensures { asked_by result ≡ asked_of_file kind file.now }
 {
     if is_file(file) {
-        Form::Picture(kind, file)
+        Form::Picture(kind, None, file)
     } else {
         Form::Usage
     }
 }
 
-fn form_of_word<'a>(word: &'a str) -> Form<'a>
-    ensures { asked_by result ≡ asked_of_word word.now }
+fn form_by_script<'a>(kind: Kind, script: &'a str, file: &'a str) -> Form<'a>
+    ensures { asked_by result ≡ asked_by_script kind script.now file.now }
 {
-    if word == "--svg" {
-        Form::Picture(Kind::Svg, STANDARD_INPUT)
-    } else if word == "--legend" {
-        Form::Legend
+    if is_file(script) && is_file(file) {
+        Form::Picture(kind, Some(script), file)
     } else {
-        form_of_file(Kind::Text, word)
+        Form::Usage
     }
 }
 
-fn form_of_option<'a>(option: &str, file: &'a str) -> Form<'a>
-    ensures { asked_by result ≡ asked_of_option option.now file.now }
+fn form_of_option<'a>(kind: Kind, option: &str, script: &'a str, file: &'a str) -> Form<'a>
+    ensures { asked_by result ≡ asked_of_option kind option.now script.now file.now }
 {
-    if option == "--svg" {
-        form_of_file(Kind::Svg, file)
+    if option == "--script" {
+        form_by_script(kind, script, file)
     } else {
         Form::Usage
+    }
+}
+
+/// The form of the words behind the kind of picture, of which there is one or more.
+fn form_behind<'a>(kind: Kind, word: &'a str, words: &'a [&'a str]) -> Form<'a>
+    ensures { asked_by result ≡ asked_behind kind word.now (map (λ w. w.now) words.now) }
+{
+    match words {
+        [] => form_of_file(kind, word),
+        [script] => form_of_option(kind, word, script, STANDARD_INPUT),
+        [script, file] => form_of_option(kind, word, script, file),
+        [_, _, _, ..] => Form::Usage,
+    }
+}
+
+/// The form of the words behind `--svg`.
+fn form_of_svg<'a>(words: &'a [&'a str]) -> Form<'a>
+    ensures { asked_by result ≡ asked_of_svg (map (λ w. w.now) words.now) }
+{
+    match words {
+        [] => Form::Picture(Kind::Svg, None, STANDARD_INPUT),
+        [word, rest @ ..] => form_behind(Kind::Svg, word, rest),
     }
 }
 
@@ -74,9 +95,15 @@ pub fn form_of_words<'a>(words: &'a [&'a str]) -> Form<'a>
 {
     match words {
         [] => Form::Usage,
-        [_] => Form::Picture(Kind::Text, STANDARD_INPUT),
-        [_, word] => form_of_word(word),
-        [_, option, file] => form_of_option(option, file),
-        [_, _, _, _, ..] => Form::Usage,
+        [_] => Form::Picture(Kind::Text, None, STANDARD_INPUT),
+        [_, word, rest @ ..] => {
+            if *word == "--svg" {
+                form_of_svg(rest)
+            } else if *word == "--legend" && rest.is_empty() {
+                Form::Legend
+            } else {
+                form_behind(Kind::Text, word, rest)
+            }
+        }
     }
 }

@@ -49,6 +49,6 @@ pub fn lanes_legend() -> &'static [&'static str]
         "t1!   t1 owns it, and has to declare it consistent: an owner died\n",
         "-!    an owner died, and nobody was told yet\n",
         "-     nobody owns it\n",
-        "lost  nobody can have it any more\n",
+        "lost  nobody can have it, unless it is made anew\n",
     ]
 }

@@ -2,12 +2,18 @@
 
 ghost use Rattle.std.specs.Prelude.{◌≡◌};
 ghost use Rattle.streams.specs.Leaves.{AppendsFront, Leaves};
-ghost use Rattle.draw_report.specs.Messages.{failure_status, failure_text, fault_text, fault_words};
+ghost use Rattle.draw_report.specs.Messages.{failure_status, failure_text, fault_text, fault_words, script_text, script_words};
 
 use itoa::Buffer;
+use script::ScriptFault;
 use std::io::{self, Write};
 use streams::put;
 use verdict::{Fault, TraceFault};
+
+const USAGE: &str = "usage: rfx-draw [--svg] [--script SCRIPT] [FILE] | --legend\n";
+
+const UNLIKE: &str =
+    "rfx-draw: script: not of this trace, which has other numbers of threads, mutexes or condition variables\n";
 
 /// Memory was refused.
 pub const OUT_OF_MEMORY: &str = "rfx-draw: out of memory\n";
@@ -21,8 +27,12 @@ pub enum Failure {
     CannotRead,
     /// A write failed, or the writer didn't let go of what it kept back.
     CannotWrite,
-    /// Memory was refused where no line of the trace was being read.
+    /// Memory was refused where no line of the script or of the trace was being read.
     OutOfMemory,
+    /// The script has a fault.
+    Script(ScriptFault),
+    /// A run of the script has another first line than the trace.
+    Unlike,
     /// The file is no trace.
     Trace(TraceFault),
 }
@@ -63,15 +73,53 @@ fn write_fault<E: Write>(err: &mut E, at: TraceFault) -> io::Result<()>
     )
 }
 
+/// The words for what is wrong with a script.
+fn script_words(fault: script::Fault) -> &'static str
+    ensures { result.now ≡ script_words fault }
+{
+    match fault {
+        script::Fault::NotUtf8 => "not UTF-8",
+        script::Fault::UnknownWord => "unknown word",
+        script::Fault::OutOfRange => "number out of range",
+        script::Fault::NoSuchName => "no such name",
+        script::Fault::TooLong => "too long",
+        script::Fault::OutOfMemory => "out of memory",
+    }
+}
+
+/// `rfx-draw: script: line L: fault N: TEXT`.
+fn write_script_fault<E: Write>(err: &mut E, at: ScriptFault) -> io::Result<()>
+    ensures { Leaves (E.contents err.old) (E.contents err.new) result (script_text at) }
+{
+    let mut lines = Buffer::new();
+    let mut numbers = Buffer::new();
+    let line = lines.format(at.line);
+    let number = numbers.format(at.fault.number());
+    put(
+        err,
+        &[
+            "rfx-draw: script: line ",
+            line,
+            ": fault ",
+            number,
+            ": ",
+            script_words(at.fault),
+            "\n",
+        ],
+    )
+}
+
 /// The message of a failure to draw this file.
 fn write_failure<E: Write>(err: &mut E, file: &str, failure: Failure) -> io::Result<()>
     ensures { Leaves (E.contents err.old) (E.contents err.new) result (failure_text file.now failure) }
 {
     match failure {
-        Failure::Usage => put(err, &["usage: rfx-draw [--svg] [FILE] | --legend\n"]),
+        Failure::Usage => put(err, &[USAGE]),
         Failure::CannotRead => put(err, &["rfx-draw: cannot read ", file, "\n"]),
         Failure::CannotWrite => put(err, &["rfx-draw: cannot write\n"]),
         Failure::OutOfMemory => put(err, &[OUT_OF_MEMORY]),
+        Failure::Script(at) => write_script_fault(err, at),
+        Failure::Unlike => put(err, &[UNLIKE]),
         Failure::Trace(at) => write_fault(err, at),
     }
 }
@@ -82,7 +130,12 @@ fn status_after(failure: Failure) -> u8
 {
     match failure {
         Failure::Usage => 2,
-        Failure::CannotRead | Failure::CannotWrite | Failure::OutOfMemory | Failure::Trace(_) => 1,
+        Failure::CannotRead
+        | Failure::CannotWrite
+        | Failure::OutOfMemory
+        | Failure::Script(_)
+        | Failure::Unlike
+        | Failure::Trace(_) => 1,
     }
 }
 

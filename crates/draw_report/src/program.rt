@@ -1,14 +1,15 @@
 //! The program: what it does with the words of its command line.
 
-ghost use Rattle.std.specs.Prelude.{◌≡◌, map, string_bytes, IfOk};
+ghost use Rattle.std.specs.Prelude.{◌≡◌, map, string_bytes, IfErr, IfOk, OnOk};
 ghost use Rattle.std.specs.IoError.{error_kind};
 ghost use Rattle.streams.specs.Leaves.{AppendsFront};
 ghost use Rattle.draw_report.specs.Messages.{failure_status, failure_text};
-ghost use Rattle.draw_report.specs.Programs.{asked_in, unopened_by, LegendEnds, RunEnds, PictureEnds};
+ghost use Rattle.draw_report.specs.Programs.{asked_in, unopened_by, LegendEnds, NamedEnds, RunEnds, PictureEnds, ScriptIsTold, ScriptOpens};
 
 use crate::asking::{Form, Kind, form_of_words};
 use crate::messages::{Failure, fail};
-use crate::serving::{serve, write_legend};
+use crate::serving::{read_script, serve, write_legend};
+use script::Script;
 use std::alloc::{AllocError, Global};
 use std::io::{self, ErrorKind, Write};
 use streams::{Opener, Output};
@@ -34,24 +35,64 @@ fn unopened_by(error: &io::Error) -> Failure
     }
 }
 
-/// The picture of the trace in this file.
+/// The picture of the trace in this file, with the names of the script, if there is one.
 fn run_picture<F: Opener, W: Output, E: Write>(
     alloc: Global,
     kind: Kind,
+    script: &Option<Script>,
     file: &str,
     files: &F,
     out: &mut W,
     err: &mut E,
 ) -> u8
-    ensures { PictureEnds (F.opens files.now) kind file.now (W.contents out.old) (W.contents out.new) (W.is_let_go out.new) (err.new ≡ err.old) (E.contents err.old) (E.contents err.new) result }
+    ensures { PictureEnds (F.opens files.now) kind script.now file.now (W.contents out.old) (W.contents out.new) (W.is_let_go out.new) (err.new ≡ err.old) (E.contents err.old) (E.contents err.new) result }
 {
     let mut input = match files.open(file) {
         Ok(input) => input,
         Err(error) => return fail(err, file, unopened_by(&error)),
     };
-    match serve(alloc, kind, &mut input, out) {
+    match serve(alloc, kind, script, &mut input, out) {
         Ok(()) => 0,
         Err(failure) => fail(err, file, failure),
+    }
+}
+
+/// The script in this file; or the exit status after a failure, which is told.
+fn open_script<F: Opener, E: Write>(
+    alloc: Global,
+    name: &str,
+    files: &F,
+    err: &mut E,
+) -> Result<Script, u8>
+    ensures opens { IfOk result (ScriptOpens (F.opens files.now) name.now) }
+    ensures quiet { OnOk result (err.new ≡ err.old) }
+    ensures told { IfErr result (ScriptIsTold (F.opens files.now) name.now (E.contents err.old) (E.contents err.new)) }
+{
+    let mut input = match files.open(name) {
+        Ok(input) => input,
+        Err(error) => return Err(fail(err, name, unopened_by(&error))),
+    };
+    match read_script(alloc, &mut input) {
+        Ok(script) => Ok(script),
+        Err(failure) => Err(fail(err, name, failure)),
+    }
+}
+
+/// The picture of the trace in this file, with the names of a script in another one, which is read first.
+fn run_named<F: Opener, W: Output, E: Write>(
+    alloc: Global,
+    kind: Kind,
+    name: &str,
+    file: &str,
+    files: &F,
+    out: &mut W,
+    err: &mut E,
+) -> u8
+    ensures { NamedEnds (F.opens files.now) kind name.now file.now (W.contents out.old) (W.contents out.new) (W.is_let_go out.new) (err.new ≡ err.old) (E.contents err.old) (E.contents err.new) result }
+{
+    match open_script(alloc, name, files, err) {
+        Ok(script) => run_picture(alloc, kind, &Some(script), file, files, out, err),
+        Err(status) => status,
     }
 }
 
@@ -88,7 +129,10 @@ pub fn run<F: Opener, W: Output, E: Write>(
         return fail(err, "", Failure::OutOfMemory);
     };
     match form_of_words(&lent) {
-        Form::Picture(kind, file) => run_picture(alloc, kind, file, files, out, err),
+        Form::Picture(kind, Some(script), file) => {
+            run_named(alloc, kind, script, file, files, out, err)
+        }
+        Form::Picture(kind, None, file) => run_picture(alloc, kind, &None, file, files, out, err),
         Form::Legend => run_legend(out, err),
         Form::Usage => fail(err, "", Failure::Usage),
     }

@@ -6,12 +6,17 @@ ghost use Rattle.streams.specs.Leaves.{Leaves};
 ghost use Rattle.streams.specs.Taken.{TakesAtMost};
 ghost use Rattle.verdict.specs.Limits.{max_bytes};
 ghost use Rattle.draw_report.specs.Legend.{legend};
+ghost use Rattle.script.specs.Limits as scripts;
+ghost use Rattle.draw_report.specs.Names.{called_by};
+ghost use Rattle.draw_report.specs.Scripts.{FailsScript, GivesScript};
 ghost use Rattle.draw_report.specs.Served.{Draws, Fails, FailsDrawing, IsUnread, Serves, failed_by, picture, undrawn_by};
 
 use crate::asking::Kind;
 use crate::legend::{lanes_legend, marks_legend};
 use crate::messages::Failure;
-use picture::{Unwritten, draw, draw_svg};
+use crate::names::{is_like, names_of};
+use picture::{Names, Unwritten, draw, draw_svg};
+use script::{Mode, Script, parse};
 use std::alloc::Global;
 use std::io::{self, Read};
 use streams::{Output, ReadFault, put, read_below};
@@ -37,25 +42,49 @@ fn undrawn_by(unwritten: Unwritten) -> Failure
     }
 }
 
-/// Reads the file's bytes, at most one more than a trace may have.
-fn read_file<R: Read>(alloc: Global, input: &mut R) -> Result<Vec<u8>, Failure>
+/// Reads the file's bytes, at most one more than it may have.
+fn read_file<R: Read>(alloc: Global, most: usize, input: &mut R) -> Result<Vec<u8>, Failure>
+    requires { most < 2 ^ 32 }
     ensures taken { IfOk result (λ v. Consumes (R.remaining input.old) (R.remaining input.new) v.items) }
-    ensures end { IfOk result (λ v. vec_len v ≤ max_bytes → IsAtEnd (R.remaining input.new)) }
+    ensures end { IfOk result (λ v. vec_len v ≤ most → IsAtEnd (R.remaining input.new)) }
     ensures fails { IfErr result IsUnread }
-    ensures limit { TakesAtMost (max_bytes + 1) (R.remaining input.old) (R.remaining input.new) }
+    ensures limit { TakesAtMost (most + 1) (R.remaining input.old) (R.remaining input.new) }
 {
-    match read_below(alloc, input, MAX_BYTES + 1) {
+    match read_below(alloc, input, most + 1) {
         Ok(bytes) => Ok(bytes),
         Err(fault) => Err(failed_by(fault)),
     }
 }
 
-fn draw_as<W: Output>(alloc: Global, kind: Kind, trace: &Told, out: &mut W) -> Result<(), Unwritten>
-    ensures { Leaves (W.contents out.old) (W.contents out.new) result (picture kind trace.now) }
+/// Reads a file, and the script that it is. It reads at most one byte more than a script may have.
+pub fn read_script<R: Read>(alloc: Global, input: &mut R) -> Result<Script, Failure>
+    ensures gives { IfOk result (GivesScript (R.remaining input.old) (R.remaining input.new)) }
+    ensures fails { IfErr result (FailsScript (R.remaining input.old) (R.remaining input.new)) }
+    ensures limit { TakesAtMost (scripts.max_bytes + 1) (R.remaining input.old) (R.remaining input.new) }
+{
+    let bytes = match read_file(alloc, script::MAX_BYTES, input) {
+        Ok(bytes) => bytes,
+        Err(failure) => return Err(failure),
+    };
+    match parse(alloc, &bytes, Mode::Run) {
+        Ok(script) => Ok(script),
+        Err(fault) => Err(Failure::Script(fault)),
+    }
+}
+
+fn draw_as<W: Output>(
+    alloc: Global,
+    kind: Kind,
+    names: &Names,
+    trace: &Told,
+    out: &mut W,
+) -> Result<(), Unwritten>
+    ensures { Leaves (W.contents out.old) (W.contents out.new) result (picture kind names.now trace.now) }
 {
     match kind {
         Kind::Text => draw(
             alloc,
+            names,
             trace.head.threads,
             trace.head.mutexes,
             &trace.lines,
@@ -64,6 +93,7 @@ fn draw_as<W: Output>(alloc: Global, kind: Kind, trace: &Told, out: &mut W) -> R
         ),
         Kind::Svg => draw_svg(
             alloc,
+            names,
             trace.head.threads,
             trace.head.mutexes,
             &trace.lines,
@@ -77,54 +107,77 @@ fn draw_as<W: Output>(alloc: Global, kind: Kind, trace: &Told, out: &mut W) -> R
 fn draw_out<W: Output>(
     alloc: Global,
     kind: Kind,
+    names: &Names,
     trace: &Told,
     out: &mut W,
 ) -> Result<(), Unwritten>
-    ensures text { Leaves (W.contents out.old) (W.contents out.new) result (picture kind trace.now) }
+    ensures text { Leaves (W.contents out.old) (W.contents out.new) result (picture kind names.now trace.now) }
     ensures let_go { OnOk result (W.is_let_go out.new) }
 {
-    draw_as(alloc, kind, trace, out)?;
+    draw_as(alloc, kind, names, trace, out)?;
     match out.let_go() {
         Ok(()) => Ok(()),
         Err(_kept) => Err(Unwritten::Failed),
     }
 }
 
-/// Reads a trace's bytes, and draws it.
+/// Draws a trace with the names of the script, if there is one.
+fn draw_named<W: Output>(
+    alloc: Global,
+    kind: Kind,
+    script: &Option<Script>,
+    trace: &Told,
+    out: &mut W,
+) -> Result<(), Unwritten>
+    ensures text { Leaves (W.contents out.old) (W.contents out.new) result (picture kind (called_by script.now) trace.now) }
+    ensures let_go { OnOk result (W.is_let_go out.new) }
+{
+    match names_of(alloc, script) {
+        Ok(names) => draw_out(alloc, kind, &names, trace, out),
+        Err(_refused) => Err(Unwritten::OutOfMemory),
+    }
+}
+
+/// Reads a trace's bytes, and draws it with the names of the script, if there is one.
 fn draw_bytes<W: Output>(
     alloc: Global,
     kind: Kind,
+    script: &Option<Script>,
     bytes: &[u8],
     out: &mut W,
 ) -> Result<(), Failure>
-    ensures draws { OnOk result (Draws kind (W.contents out.old) (W.contents out.new) bytes.now) }
+    ensures draws { OnOk result (Draws kind script.now (W.contents out.old) (W.contents out.new) bytes.now) }
     ensures let_go { OnOk result (W.is_let_go out.new) }
-    ensures fails { IfErr result (FailsDrawing kind bytes.now (W.contents out.old) (W.contents out.new)) }
+    ensures fails { IfErr result (FailsDrawing kind script.now bytes.now (W.contents out.old) (W.contents out.new)) }
 {
     let trace = match read_trace(alloc, bytes) {
         Ok(trace) => trace,
         Err(fault) => return Err(Failure::Trace(fault)),
     };
-    match draw_out(alloc, kind, &trace, out) {
+    if !is_like(script, &trace.head) {
+        return Err(Failure::Unlike);
+    }
+    match draw_named(alloc, kind, script, &trace, out) {
         Ok(()) => Ok(()),
         Err(unwritten) => Err(undrawn_by(unwritten)),
     }
 }
 
-/// Reads a file, and draws the trace that it is. It reads at most one byte more than a trace may have.
+/// Reads a file, and draws the trace that it is, with the names of the script, if there is one. It reads at most one byte more than a trace may have.
 pub fn serve<R: Read, W: Output>(
     alloc: Global,
     kind: Kind,
+    script: &Option<Script>,
     input: &mut R,
     out: &mut W,
 ) -> Result<(), Failure>
-    ensures serves { OnOk result (Serves kind (R.remaining input.old) (R.remaining input.new) (W.contents out.old) (W.contents out.new)) }
+    ensures serves { OnOk result (Serves kind script.now (R.remaining input.old) (R.remaining input.new) (W.contents out.old) (W.contents out.new)) }
     ensures let_go { OnOk result (W.is_let_go out.new) }
-    ensures fails { IfErr result (Fails kind (R.remaining input.old) (R.remaining input.new) (W.contents out.old) (W.contents out.new)) }
+    ensures fails { IfErr result (Fails kind script.now (R.remaining input.old) (R.remaining input.new) (W.contents out.old) (W.contents out.new)) }
     ensures limit { TakesAtMost (max_bytes + 1) (R.remaining input.old) (R.remaining input.new) }
 {
-    match read_file(alloc, input) {
-        Ok(bytes) => draw_bytes(alloc, kind, &bytes, out),
+    match read_file(alloc, MAX_BYTES, input) {
+        Ok(bytes) => draw_bytes(alloc, kind, script, &bytes, out),
         Err(failure) => Err(failure),
     }
 }

@@ -55,6 +55,7 @@ expected_words next.NewThread = a_name
 expected_words next.ProcessOrEnd = codes "the name of a process, or the end of the line"
 expected_words next.NameNumber = a_name
 expected_words next.NameNameNumber = a_name
+expected_words next.NameName = a_name
 expected_words next.StemNumber = codes "a name: 1 to 12 of a to z, 0 to 9 and _, the first a letter"
 expected_words next.Number = a_number
 expected_words next.NameCall = a_name

@@ -33,6 +33,7 @@ fn uses_of(keyword: &str, call: &str) -> &'static [(Things, usize)]
         "step" => &[(Things::Threads, 1)],
         "kill" => &[(Things::Threads, 1)],
         "renew" => &[(Things::Threads, 1)],
+        "reinit" => &[(Things::Threads, 1), (Things::Mutexes, 2)],
         "leave" => &[(Things::Threads, 1)],
         "decline" => &[(Things::Threads, 1)],
         "go" => &[(Things::Threads, 1)],

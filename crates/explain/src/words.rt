@@ -67,7 +67,8 @@ pub fn expected_words(next: Next) -> &'static str
         Next::Name | Next::NewThread | Next::NameNumber | Next::NameNameNumber => {
             "a name: 1 to 16 of a to z, 0 to 9 and _, the first a letter"
         }
-        Next::NameCall => "a name: 1 to 16 of a to z, 0 to 9 and _, the first a letter",
+        Next::NameCall | Next::NameName =>
+            "a name: 1 to 16 of a to z, 0 to 9 and _, the first a letter",
         Next::StemNumber => "a name: 1 to 12 of a to z, 0 to 9 and _, the first a letter",
         Next::ProcessOrEnd => "the name of a process, or the end of the line",
         Next::Number | Next::ThreeNumbers | Next::TwoNumbers => {

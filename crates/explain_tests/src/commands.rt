@@ -9,7 +9,7 @@ use std::io::{self, ErrorKind};
 const SCRIPT: &[u8] = b"tread a\n";
 
 const TEXT: &str =
-    "f: line 1: fault 2: unknown word (a script for `rfx run`)\n  | tread a\n  | ^^^^^\n  = expected one of `process` `thread` `mutex` `mutexes` `cond` `call` `begin` `step` `kill` `killall` `renew` `leave` `decline` `go` `locks`\n  = did you mean `thread`?\n";
+    "f: line 1: fault 2: unknown word (a script for `rfx run`)\n  | tread a\n  | ^^^^^\n  = expected one of `process` `thread` `mutex` `mutexes` `cond` `call` `begin` `step` `kill` `killall` `renew` `reinit` `leave` `decline` `go` `locks`\n  = did you mean `thread`?\n";
 
 const USAGE: &str = "usage: rfx-explain FILE\n";
 

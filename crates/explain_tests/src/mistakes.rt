@@ -3,7 +3,7 @@
 use crate::files::{answer_of, words};
 
 /// Bytes of a file, and what is told of them.
-static MISTAKES: [(&[u8], u8, &str); 41] = [
+static MISTAKES: [(&[u8], u8, &str); 46] = [
     // scripts and traces without fault
     (
         b"thread a\nmutex m\ncall a lock m\n",
@@ -29,7 +29,7 @@ static MISTAKES: [(&[u8], u8, &str); 41] = [
     (
         b"thread a\nmutx m\n",
         1,
-        "f: line 2: fault 2: unknown word (a script for `rfx run`)\n  | mutx m\n  | ^^^^\n  = expected one of `process` `thread` `mutex` `mutexes` `cond` `call` `begin` `step` `kill` `killall` `renew` `leave` `decline` `go` `locks`\n  = did you mean `mutex`?\n",
+        "f: line 2: fault 2: unknown word (a script for `rfx run`)\n  | mutx m\n  | ^^^^\n  = expected one of `process` `thread` `mutex` `mutexes` `cond` `call` `begin` `step` `kill` `killall` `renew` `reinit` `leave` `decline` `go` `locks`\n  = did you mean `mutex`?\n",
     ),
     (
         b"thread a\nmutex m\nphase\ncall a trylok m\n",
@@ -68,7 +68,7 @@ static MISTAKES: [(&[u8], u8, &str); 41] = [
     (
         b"  thread a\n",
         1,
-        "f: line 1: fault 2: unknown word (a script for `rfx run`)\n  |   thread a\n  | ^\n  = expected one of `process` `thread` `mutex` `mutexes` `cond` `call` `begin` `step` `kill` `killall` `renew` `leave` `decline` `go` `locks`\n  = a blank stands before the first word\n",
+        "f: line 1: fault 2: unknown word (a script for `rfx run`)\n  |   thread a\n  | ^\n  = expected one of `process` `thread` `mutex` `mutexes` `cond` `call` `begin` `step` `kill` `killall` `renew` `reinit` `leave` `decline` `go` `locks`\n  = a blank stands before the first word\n",
     ),
     (
         b"thread  a\n",
@@ -83,7 +83,7 @@ static MISTAKES: [(&[u8], u8, &str); 41] = [
     (
         b"thread\ta\n",
         1,
-        "f: line 1: fault 2: unknown word (a script for `rfx run`)\n  | thread\u{2409}a\n  | ^^^^^^^^\n  = expected one of `process` `thread` `mutex` `mutexes` `cond` `call` `begin` `step` `kill` `killall` `renew` `leave` `decline` `go` `locks`\n  = did you mean `thread`?\n  = a tab stands here: words have one blank between them\n",
+        "f: line 1: fault 2: unknown word (a script for `rfx run`)\n  | thread\u{2409}a\n  | ^^^^^^^^\n  = expected one of `process` `thread` `mutex` `mutexes` `cond` `call` `begin` `step` `kill` `killall` `renew` `reinit` `leave` `decline` `go` `locks`\n  = did you mean `thread`?\n  = a tab stands here: words have one blank between them\n",
     ),
     (
         b"mutex m\r\n",
@@ -99,12 +99,12 @@ static MISTAKES: [(&[u8], u8, &str); 41] = [
     (
         b"thread a\nmutex m\nstep a 1\nphase\n",
         1,
-        "f: line 4: fault 2: unknown word (a script for `rfx run`)\n  | phase\n  | ^^^^^\n  = expected one of `process` `thread` `mutex` `mutexes` `cond` `call` `begin` `step` `kill` `killall` `renew` `leave` `decline` `go` `locks`\n  = a script for `rfx threads` has such lines\n",
+        "f: line 4: fault 2: unknown word (a script for `rfx run`)\n  | phase\n  | ^^^^^\n  = expected one of `process` `thread` `mutex` `mutexes` `cond` `call` `begin` `step` `kill` `killall` `renew` `reinit` `leave` `decline` `go` `locks`\n  = a script for `rfx threads` has such lines\n",
     ),
     (
         b"1 kill t1\n",
         1,
-        "f: line 1: fault 2: unknown word (a script for `rfx run`)\n  | 1 kill t1\n  | ^\n  = expected one of `process` `thread` `mutex` `mutexes` `cond` `call` `begin` `step` `kill` `killall` `renew` `leave` `decline` `go` `locks`\n  = this is a line of a trace, which begins with `trace T M C`\n",
+        "f: line 1: fault 2: unknown word (a script for `rfx run`)\n  | 1 kill t1\n  | ^\n  = expected one of `process` `thread` `mutex` `mutexes` `cond` `call` `begin` `step` `kill` `killall` `renew` `reinit` `leave` `decline` `go` `locks`\n  = this is a line of a trace, which begins with `trace T M C`\n",
     ),
     (
         b"trace 1 1 0\nthread a\nend 1\n",
@@ -222,6 +222,32 @@ static MISTAKES: [(&[u8], u8, &str); 41] = [
         b"thread a\nmutex m\nrenew b\n",
         1,
         "f: line 3: fault 4: no such name (a script for `rfx run`)\n  | renew b\n  |       ^\n  = did you mean `a`?\n  = no line before declares a thread of this name\n",
+    ),
+    // mutexes made anew
+    (
+        b"thread a\nmutex m\nreinit a n\n",
+        1,
+        "f: line 3: fault 4: no such name (a script for `rfx run`)\n  | reinit a n\n  |          ^\n  = did you mean `m`?\n  = no line before declares a mutex of this name\n",
+    ),
+    (
+        b"thread a\nmutex m\nreinit a\n",
+        1,
+        "f: line 3: fault 2: unknown word (a script for `rfx run`)\n  | reinit a\n  |          ^\n  = expected a name: 1 to 16 of a to z, 0 to 9 and _, the first a letter\n",
+    ),
+    (
+        b"thread a\nmutex m\ncall a reinit m\n",
+        1,
+        "f: line 3: fault 2: unknown word (a script for `rfx run`)\n  | call a reinit m\n  |        ^^^^^^\n  = expected one of `lock` `trylock` `unlock` `consistent` `wait` `signal` `broadcast`\n",
+    ),
+    (
+        b"trace 1 1 0\n1 begin t1 rinit m0\nend 1\n",
+        1,
+        "f: line 2: fault 2: unknown word (a trace)\n  | 1 begin t1 rinit m0\n  |            ^^^^^\n  = expected one of `lock` `trylock` `unlock` `consistent` `wait` `signal` `broadcast` `reinit`\n  = did you mean `reinit`?\n",
+    ),
+    (
+        b"trace 1 1 0\n1 begin t1 reinit m0\n1 point t1 m0 reinit OK\n1 return t1 OK\nend 1\n",
+        1,
+        "f: line 3: illegal: the mutex doesn't allow the reply OK: nobody owns it\n  | 1 point t1 m0 reinit OK\n",
     ),
 ];
 

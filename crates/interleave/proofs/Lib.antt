@@ -8,3 +8,4 @@ mod Requeues
 mod Trims
 mod Leaving
 mod Renewing
+mod Reiniting

@@ -1,4 +1,4 @@
--- What holds of every run of the machine, wherever threads are killed and renewed.
+-- What holds of every run of the machine, wherever threads are killed and renewed, and mutexes made anew.
 use Rattle.std.specs.Prelude.{ℕ, ◌≡◌, List, take}
 use Rattle.protocol.specs.declared.event.Event.{Event}
 use Rattle.protocol.specs.declared.note.Note.{Note}

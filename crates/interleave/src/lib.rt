@@ -3,7 +3,8 @@
 //! [`Machine::step`] does what the protocol's definition says that an event does, for every event. Its words are a plain
 //! memory, and its threads sleep in a kernel's queues. What holds of every run is the contract of [`Machine::run`]: its points
 //! are one legal history of POSIX robust mutexes. Threads may be killed at any event, and the kernel then walks their robust
-//! lists (get_robust_list(2)): a thread whose walk has ended owns no mutex, and may be renewed, with the same id.
+//! lists (get_robust_list(2)): a thread whose walk has ended owns no mutex, and may be renewed, with the same id. A mutex that
+//! has become unusable may be made anew.
 //! [`Machine::alone`] is what one thread would do if no other stepped: after each event no sleeper is stranded, and whoever is
 //! awake comes to rest (`runs_alone`).
 //!
@@ -32,6 +33,7 @@ mod deaths;
 mod leaves;
 mod machine;
 mod ops;
+mod reinits;
 mod renewals;
 mod threads;
 mod trace;

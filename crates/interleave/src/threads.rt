@@ -18,6 +18,7 @@ use crate::accesses::{Performed, perform};
 use crate::deaths::{kill, walk_on};
 use crate::leaves::{decline, leave};
 use crate::ops::begun;
+use crate::reinits::reinit;
 use crate::renewals::renew;
 use condvar::{CondCall, CondProgram, Op};
 use facts::Queue;
@@ -113,7 +114,7 @@ fn slept_in(queue: Queue, slept: bool) -> Option<Queue>
 }
 
 /// Whether a thread that is there lives and is in no call.
-fn is_idle(stage: &Stage) -> bool
+pub(crate) fn is_idle(stage: &Stage) -> bool
     ensures { result ≡ is_idle stage.now }
 {
     match *stage {
@@ -372,5 +373,6 @@ pub(crate) fn apply(
         Event::Leave(thread) => leave(layout, kernel, thread),
         Event::Decline(thread) => decline(layout, kernel, threads, thread),
         Event::Renew(thread) => renew(layout, memory, threads, thread),
+        Event::Reinit(thread, mutex) => reinit(layout, memory, kernel, threads, thread, mutex),
     }
 }

@@ -3,7 +3,7 @@ use Rattle.std.proofs.Common.{◌≡◌, ◌≢◌, ℕ, true, Some, None, List,
 use Rattle.lockword.specs.declared.reply.Reply.{Reply}
 use Rattle.lockword.specs.declared.reply.Reply.TheVariants.{OK, EPERM, EBUSY, EINVAL, EDEADLK, EOWNERDEAD, ENOTRECOVERABLE, XRACED, XFULL, XSTATE}
 use Rattle.keys.specs.declared.point.Operation.{Operation}
-use Rattle.keys.specs.declared.point.Operation.TheVariants.{Lock, TryLock, Unlock, Consistent, Wait, Signal, Broadcast, Death}
+use Rattle.keys.specs.declared.point.Operation.TheVariants.{Lock, TryLock, Unlock, Consistent, Wait, Signal, Broadcast, Death, Reinit}
 use Rattle.keys.specs.declared.point.Point.{Point}
 use Rattle.keys.specs.declared.object.Object.{Object}
 use Rattle.keys.specs.Objects.{Permits, Run}
@@ -33,6 +33,7 @@ permits_same o t Broadcast OK m n a b = a.1 ∙ sym b.1
 permits_same o t Broadcast XFULL m n a b = a.1 ∙ sym b.1
 permits_same o t Broadcast EPERM m n a b = a.1 ∙ sym b.1
 permits_same o t Death OK m n a b = a.1 ∙ sym b.1
+permits_same o t Reinit OK m n a b = a.2 ∙ sym b.2
 permits_same o t op x m n a b = absurd a
 
 -- points leave one object
@@ -73,6 +74,7 @@ others_keep o n t u Broadcast OK own apart p = p.1
 others_keep o n t u Broadcast XFULL own apart p = p.1
 others_keep o n t u Broadcast EPERM own apart p = p.1
 others_keep o n t u Death OK own apart p = let same : t ≡ u = cc (own, p.0) in absurd (apart same)
+others_keep o n t u Reinit OK own apart p = absurd (cc (own, p.1))
 others_keep o n t u op x own apart p = absurd p
 
 -- an unusable mutex stays without an owner
@@ -100,6 +102,7 @@ permits_sound o t Broadcast OK n is a u = subst (λ (z : Object). z.unusable ≡
 permits_sound o t Broadcast XFULL n is a u = subst (λ (z : Object). z.unusable ≡ true → z.owner ≡ None) (sym a.1) is u
 permits_sound o t Broadcast EPERM n is a u = subst (λ (z : Object). z.unusable ≡ true → z.owner ≡ None) (sym a.1) is u
 permits_sound o t Death OK n is a u = ap (λ (z : Object). z.owner) a.1
+permits_sound o t Reinit OK n is a u = ap (λ (z : Object). z.owner) a.2
 permits_sound o t op x n is a u = absurd a
 
 pub run_sound : (o : Object) (xs : List Point) (n : Object) → (o.unusable ≡ true → o.owner ≡ None) → Run o xs n → n.unusable ≡ true → n.owner ≡ None

@@ -4,7 +4,7 @@ use Rattle.lockword.specs.declared.reply.Reply.{Reply}
 use Rattle.lockword.specs.declared.reply.Reply.TheVariants.{OK, EPERM, EBUSY, EINVAL, EDEADLK, EOWNERDEAD, ENOTRECOVERABLE, XRACED, XHELD, XFULL, XSTATE}
 use Rattle.keys.specs.declared.object.Object.{Object}
 use Rattle.keys.specs.declared.point.Operation.{Operation}
-use Rattle.keys.specs.declared.point.Operation.TheVariants.{Lock, TryLock, Unlock, Consistent, Wait, Signal, Broadcast, Death}
+use Rattle.keys.specs.declared.point.Operation.TheVariants.{Lock, TryLock, Unlock, Consistent, Wait, Signal, Broadcast, Death, Reinit}
 use Rattle.keys.specs.Objects.{Permits, acquires, stepped, StepsAreDetermined}
 
 permits_steps : (o : Object) (t : ℕ) (op : Operation) (x : Reply) (n : Object) → Permits o t op x n → n ≡ stepped o t op x
@@ -31,6 +31,7 @@ permits_steps o t Broadcast OK n h = h.1
 permits_steps o t Broadcast XFULL n h = h.1
 permits_steps o t Broadcast EPERM n h = h.1
 permits_steps o t Death OK n h = h.1
+permits_steps o t Reinit OK n h = h.2
 permits_steps o t op x n h = absurd h
 
 -- a thread that holds as many as it may changes nothing by a lock or trylock

@@ -2,7 +2,7 @@
 use Rattle.std.proofs.Common.{◌≡◌, ℕ, Some, List, refl}
 use Rattle.lockword.proofs.Names.{named}
 use Rattle.keys.specs.declared.point.Operation.{Operation}
-use Rattle.keys.specs.declared.point.Operation.TheVariants.{Lock, TryLock, Unlock, Consistent, Wait, Signal, Broadcast, Death}
+use Rattle.keys.specs.declared.point.Operation.TheVariants.{Lock, TryLock, Unlock, Consistent, Wait, Signal, Broadcast, Death, Reinit}
 use Rattle.keys.specs.Words.{OperationsAreReadBack, all_operations, operation_of, operation_word}
 
 back : (op : Operation) → operation_of (operation_word op) ≡ Some op
@@ -15,6 +15,7 @@ back Wait = refl
 back Signal = refl
 back Broadcast = refl
 back Death = refl
+back Reinit = refl
 
 only : (text : List ℕ) (op : Operation) → operation_of text ≡ Some op → text ≡ operation_word op
 unfolding operation_of

@@ -1,10 +1,10 @@
--- A robust mutex as POSIX sees it (pthread_mutex_lock, pthread_mutex_trylock, pthread_mutex_unlock, pthread_mutex_consistent), with no bits.
+-- A robust mutex as POSIX sees it (pthread_mutex_lock, pthread_mutex_trylock, pthread_mutex_unlock, pthread_mutex_consistent, pthread_mutex_destroy), with no bits.
 use Rattle.std.specs.Prelude.{ℕ, zero, suc, ◌≡◌, ◌≢◌, Bool, true, false, ◌&&◌, ◌||◌, nat_le, MatchBool, Option, Some, None, List, [], ◌∷◌}
 use Rattle.lockword.specs.Cells.{Fields}
 use Rattle.lockword.specs.declared.reply.Reply.{Reply}
 use Rattle.lockword.specs.declared.reply.Reply.TheVariants.{OK, EPERM, EBUSY, EINVAL, EDEADLK, EOWNERDEAD, ENOTRECOVERABLE, XRACED, XHELD, XFULL, XSTATE}
 use Rattle.keys.specs.declared.point.Operation.{Operation}
-use Rattle.keys.specs.declared.point.Operation.TheVariants.{Lock, TryLock, Unlock, Consistent, Wait, Signal, Broadcast, Death}
+use Rattle.keys.specs.declared.point.Operation.TheVariants.{Lock, TryLock, Unlock, Consistent, Wait, Signal, Broadcast, Death, Reinit}
 use Rattle.keys.specs.declared.point.Point.{Point}
 use Rattle.keys.specs.declared.object.Object.{Object}
 
@@ -14,7 +14,7 @@ fresh = record { owner = None; inconsistent = false; unusable = false }
 abbrev pub owned_by : Object → ℕ → Object
 owned_by o t = record { owner = Some t; inconsistent = o.inconsistent; unusable = o.unusable }
 
--- an owner that releases an inconsistent mutex makes it unusable for good
+-- an owner that releases an inconsistent mutex makes it unusable, until it is reinitialized
 abbrev pub freed : Object → Object
 freed o = record { owner = None; inconsistent = false; unusable = o.inconsistent || o.unusable }
 
@@ -49,6 +49,7 @@ Permits o t Broadcast OK n = (o.owner ≡ Some t) × (n ≡ o)
 Permits o t Broadcast XFULL n = (o.owner ≡ Some t) × (n ≡ o)
 Permits o t Broadcast EPERM n = (o.owner ≢ Some t) × (n ≡ o)
 Permits o t Death OK n = (o.owner ≡ Some t) × (n ≡ bereaved o)
+Permits o t Reinit OK n = (o.unusable ≡ true) × (o.owner ≡ None) × (n ≡ fresh)
 Permits o t op r n = ⊥
 
 -- the operations that take a mutex
@@ -74,6 +75,7 @@ stepped o t TryLock EOWNERDEAD = owned_by o t
 stepped o t Unlock OK = freed o
 stepped o t Consistent OK = declared_consistent o
 stepped o t Death OK = bereaved o
+stepped o t Reinit OK = fresh
 stepped o t op r = o
 
 -- a step leaves no choice: who knows the operation and its reply knows the object behind it

@@ -2,7 +2,7 @@
 use Rattle.std.specs.Prelude.{ℕ, ◌≡◌, List, [], ◌∷◌, Option, Some, find, codes}
 use Rattle.std.specs.Str.{bytes_eq}
 use Rattle.keys.specs.declared.point.Operation.{Operation}
-use Rattle.keys.specs.declared.point.Operation.TheVariants.{Lock, TryLock, Unlock, Consistent, Wait, Signal, Broadcast, Death}
+use Rattle.keys.specs.declared.point.Operation.TheVariants.{Lock, TryLock, Unlock, Consistent, Wait, Signal, Broadcast, Death, Reinit}
 
 abbrev pub operation_word : Operation → List ℕ
 operation_word Lock = codes "lock"
@@ -13,10 +13,11 @@ operation_word Wait = codes "wait"
 operation_word Signal = codes "signal"
 operation_word Broadcast = codes "broadcast"
 operation_word Death = codes "death"
+operation_word Reinit = codes "reinit"
 
 -- every operation
 abbrev pub all_operations : List Operation
-all_operations = Lock ∷ TryLock ∷ Unlock ∷ Consistent ∷ Wait ∷ Signal ∷ Broadcast ∷ Death ∷ []
+all_operations = Lock ∷ TryLock ∷ Unlock ∷ Consistent ∷ Wait ∷ Signal ∷ Broadcast ∷ Death ∷ Reinit ∷ []
 
 -- the operation that has this word
 unfoldable pub operation_of : List ℕ → Option Operation

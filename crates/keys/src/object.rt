@@ -8,13 +8,13 @@ use lockword::{Reply, Tid};
 /// How many mutexes a thread may hold: a robust list is walked for so many entries (robust-futexes).
 pub const HELD_LIMIT: u16 = 2048;
 
-/// What a robust mutex is to POSIX (pthread_mutex_lock, pthread_mutex_consistent).
+/// What a robust mutex is to POSIX (pthread_mutex_lock, pthread_mutex_consistent, pthread_mutex_destroy).
 #[derive(Clone, Copy, Debug, PartialEq, Eq)]
 pub struct Object {
     pub owner: Option<Tid>,
     /// An owner died holding it, and nobody has declared it consistent.
     pub inconsistent: bool,
-    /// Released while inconsistent: it can't be locked any more.
+    /// Released while inconsistent: it can't be locked until it is reinitialized.
     pub unusable: bool,
 }
 
@@ -56,6 +56,7 @@ impl Object {
             Operation::Signal => self.signalled(thread, reply),
             Operation::Broadcast => self.signalled(thread, reply),
             Operation::Death => self.died(thread, reply),
+            Operation::Reinit => self.reinited(thread, reply),
         }
     }
 
@@ -150,6 +151,13 @@ impl Object {
             unusable: self.unusable,
         };
         bereaved.kept(owns && reply == Reply::OK)
+    }
+
+    fn reinited(self, thread: Tid, reply: Reply) -> Option<Object>
+        ensures { MatchOption result ((new : Object) → ¬ Permits self thread Operation.Reinit reply new) (λ new. Permits self thread Operation.Reinit reply new) }
+    {
+        let free = self.unusable && self.owner.is_none();
+        Object::new().kept(free && reply == Reply::OK)
     }
 
     fn kept(self, holds: bool) -> Option<Object>

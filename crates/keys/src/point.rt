@@ -21,6 +21,9 @@ pub enum Operation {
     Broadcast,
     /// The owner's death: no call has this operation.
     Death,
+    /// An unusable mutex is made anew (pthread_mutex_destroy, pthread_mutex_init): no call of a script or a program has
+    /// this operation, a trace tells it as one.
+    Reinit,
 }
 
 impl Operation {
@@ -37,6 +40,7 @@ impl Operation {
             Operation::Signal => "signal",
             Operation::Broadcast => "broadcast",
             Operation::Death => "death",
+            Operation::Reinit => "reinit",
         }
     }
 }
@@ -47,7 +51,7 @@ impl Operation {
 pub struct ParseOperationError;
 
 /// Every operation.
-fn operations() -> array::IntoIter<Operation, 8>
+fn operations() -> array::IntoIter<Operation, 9>
     ensures { array_into_iter_items result ≡ all_operations }
 {
     [
@@ -59,11 +63,12 @@ fn operations() -> array::IntoIter<Operation, 8>
         Operation::Signal,
         Operation::Broadcast,
         Operation::Death,
+        Operation::Reinit,
     ]
     .into_iter()
 }
 
-/// Reads an operation's word, a death's too.
+/// Reads an operation's word, a death's and a reinit's too.
 impl FromStr for Operation {
     type Err = ParseOperationError;
 
@@ -91,7 +96,7 @@ pub struct Point {
     /// The address of the mutex's cell.
     pub at: u64,
     pub operation: Operation,
-    /// OK for a death.
+    /// OK for a death and a reinit.
     pub reply: Reply,
 }
 
@@ -101,7 +106,7 @@ pub struct Decision {
     pub thread: Tid,
     pub mutex: u16,
     pub operation: Operation,
-    /// OK for a death.
+    /// OK for a death and a reinit.
     pub reply: Reply,
 }
 

@@ -45,6 +45,7 @@ operation_number operation.Wait = 4
 operation_number operation.Signal = 5
 operation_number operation.Broadcast = 6
 operation_number operation.Death = 7
+operation_number operation.Reinit = 8
 
 abbrev pub plain : ℕ → ℕ → ℕ → ℕ → ℕ → ℕ → PzAccess
 plain kind at a b most wakes = record { at = at; a = a; b = b; kind = kind; most = most; wakes = wakes; point = 0xffff; operation = 0 }

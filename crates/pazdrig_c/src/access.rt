@@ -90,6 +90,7 @@ fn numbered(operation: Operation) -> u8
         Operation::Signal => 5,
         Operation::Broadcast => 6,
         Operation::Death => 7,
+        Operation::Reinit => 8,
     }
 }
 

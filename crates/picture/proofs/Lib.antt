@@ -4,3 +4,5 @@ pub mod Own
 pub mod Letters
 pub mod Shown
 pub mod Room
+pub mod Roomy
+mod Used

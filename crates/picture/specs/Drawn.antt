@@ -1,9 +1,12 @@
 -- A picture in text: time runs downwards.
 use Rattle.std.specs.Prelude.{ℕ, min, List, [], ◌∷◌, ◌++◌}
 use Rattle.facts.specs.declared.fact.Line.{Line}
+use Rattle.picture.specs.declared.bands.Extent.{Extent}
 use Rattle.picture.specs.declared.scene.Scene.{Scene}
+use Rattle.picture.specs.Bands.{least_letters, shown}
 use Rattle.picture.specs.Heads.{heads}
-use Rattle.picture.specs.Layouts.{bands}
+use Rattle.picture.specs.Layouts.{band_room}
+use Rattle.picture.specs.Names.{Called, letters_of}
 use Rattle.picture.specs.Rows.{end_text, row_text}
 use Rattle.picture.specs.Scenes.{behind, first_scene}
 
@@ -11,15 +14,22 @@ use Rattle.picture.specs.Scenes.{behind, first_scene}
 abbrev pub lanes_of : ℕ → ℕ
 lanes_of threads = min threads 64
 
+-- what a picture has, in which there is room for so many bands
+abbrev pub extent_in : ℕ → Called → ℕ → ℕ → List Line → Extent
+extent_in room n threads mutexes ls = record { threads = lanes_of threads; letters = letters_of (least_letters (shown room mutexes ls)) n; bands = shown room mutexes ls }
+
+abbrev pub text_extent : Called → ℕ → ℕ → List Line → Extent
+text_extent n threads mutexes ls = extent_in (band_room (lanes_of threads)) n threads mutexes ls
+
 -- each line is one row, in the order of the trace
-abbrev pub rows_text : ℕ → ℕ → Scene → List Line → List ℕ
-rows_text threads count s [] = []
-rows_text threads count s (l ∷ ls) = row_text threads count (behind s l (l ∷ ls)) l ++ rows_text threads count (behind s l (l ∷ ls)) ls
+abbrev pub rows_text : Called → Extent → Scene → List Line → List ℕ
+rows_text n x s [] = []
+rows_text n x s (l ∷ ls) = row_text n x (behind x.bands s l (l ∷ ls)) l ++ rows_text n x (behind x.bands s l (l ∷ ls)) ls
 
 -- the heads, the rows and the number of events
-abbrev pub drawn_with : ℕ → ℕ → List Line → ℕ → List ℕ
-drawn_with threads count ls last = heads threads count ++ (rows_text threads count first_scene ls ++ end_text last)
+abbrev pub drawn_with : Called → Extent → List Line → ℕ → List ℕ
+drawn_with n x ls last = heads n x ++ (rows_text n x first_scene ls ++ end_text last)
 
--- the picture of a trace of so many threads and mutexes, with these lines and this number of events
-abbrev pub drawn : ℕ → ℕ → List Line → ℕ → List ℕ
-drawn threads mutexes ls last = drawn_with (lanes_of threads) (bands (lanes_of threads) mutexes) ls last
+-- the picture of a trace of so many threads and mutexes, with these lines and this number of events, in which things have these names
+abbrev pub drawn : Called → ℕ → ℕ → List Line → ℕ → List ℕ
+drawn n threads mutexes ls last = drawn_with n (text_extent n threads mutexes ls) ls last

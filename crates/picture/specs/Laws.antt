@@ -1,13 +1,18 @@
 -- What holds of every picture.
-use Rattle.std.specs.Prelude.{ℕ, ◌≡◌, ◌≢◌, ◌≤◌, ◌<◌, ◌+◌, ◌-◌, ◌*◌, ◌/◌, ◌^◌, ◌==◌, nat_lt, Bool, true, false, List, [], ◌∷◌, ◌++◌, length, codes, decimal, slice_index_or, IfSome, if◌then◌else◌}
+use Rattle.std.specs.Prelude.{All, Any, IsSomeAnd, Some, None, ℕ, ◌≡◌, ◌≢◌, ◌≤◌, ◌<◌, ◌+◌, ◌-◌, ◌*◌, ◌/◌, ◌^◌, ◌==◌, nat_lt, Bool, true, false, List, [], ◌∷◌, ◌++◌, length, codes, decimal, slice_index_or, IfSome, if◌then◌else◌}
 use Rattle.std.specs.List.{concat}
 use Rattle.keys.specs.Objects.{fresh}
 use Rattle.facts.specs.declared.fact.Line.{Line}
-use Rattle.facts.specs.Facts.{thread_of}
+use Rattle.facts.specs.Facts.{decision_of, thread_of}
 use Rattle.picture.specs.declared.rows.Part.TheVariants as part
 use Rattle.picture.specs.declared.scene.Scene.{Scene}
-use Rattle.picture.specs.declared.svg.Extent.{Extent}
-use Rattle.picture.specs.Layouts.{width}
+use Rattle.picture.specs.declared.bands.Bands.{Bands}
+use Rattle.picture.specs.declared.bands.Extent.{Extent}
+use Rattle.picture.specs.Bands.{band_of, mutex_at, shown}
+use Rattle.picture.specs.Drawn.{extent_in}
+use Rattle.picture.specs.Heads.{band_head}
+use Rattle.picture.specs.Layouts.{band_width, width}
+use Rattle.picture.specs.Names.{Called, most_letters, mutex_head, mutex_tail, thread_head, thread_tail}
 use Rattle.picture.specs.Places.{band_x, lane_x, number_x, row_y, words_x}
 use Rattle.picture.specs.Rows.{band_at, cell_at, cells, from_at, mark, part_of, row_text, sign, words_at}
 use Rattle.picture.specs.Shapes.{words_y}
@@ -26,34 +31,55 @@ columns [] = 0
 columns (b ∷ bs) = column b + columns bs
 
 -- what stands in the lanes at the row of a line
-abbrev pub lanes_text : ℕ → Scene → Line → List ℕ
-lanes_text threads s l = cells threads (thread_of l.fact) (from_at s l) (sign l.fact (from_at s l)) (words_at s l) s.lanes
+abbrev pub lanes_text : Called → Extent → Scene → Line → List ℕ
+lanes_text n x s l = cells x (thread_of l.fact) (from_at s l) (sign l.fact (from_at s l)) (words_at n s l) s.lanes
 
 -- the line's sign, with its words where lanes have room for them
-abbrev pub mark_of_line : ℕ → Scene → Line → List ℕ
-mark_of_line threads s l = mark threads (thread_of l.fact) (from_at s l) (sign l.fact (from_at s l)) (words_at s l)
+abbrev pub mark_of_line : Called → Extent → Scene → Line → List ℕ
+mark_of_line n x s l = mark x (thread_of l.fact) (from_at s l) (sign l.fact (from_at s l)) (words_at n s l)
 
 -- a line's mark stands in its own thread's lane, behind as many columns as the lanes before that one have, and in no other
-pub record StandsInItsLane (threads : ℕ) (s : Scene) (l : Line) : Type 0 where
+pub record StandsInItsLane (n : Called) (x : Extent) (s : Scene) (l : Line) : Type 0 where
   pub before : List ℕ
   pub behind : List ℕ
-  pub whole : lanes_text threads s l ≡ before ++ (mark_of_line threads s l ++ behind)
-  pub place : columns before ≡ (thread_of l.fact - 1) * width threads
-  pub alone : (u : ℕ) → u ≢ thread_of l.fact → part_of threads (thread_of l.fact) (from_at s l) (words_at s l) u ≢ part.Mark
+  pub whole : lanes_text n x s l ≡ before ++ (mark_of_line n x s l ++ behind)
+  pub place : columns before ≡ (thread_of l.fact - 1) * width x
+  pub alone : (u : ℕ) → u ≢ thread_of l.fact → part_of x (thread_of l.fact) (from_at s l) (words_at n s l) u ≢ part.Mark
 
--- so it is of every line of one of a picture's threads, whatever all lanes and bands show
+-- so it is of every line of one of a picture's threads, whatever all lanes and bands show, and whatever things are called
 abbrev pub MarksStandInTheirLanes : Type 0
-MarksStandInTheirLanes = (threads : ℕ) (s : Scene) (l : Line) → 1 ≤ thread_of l.fact → thread_of l.fact ≤ threads → StandsInItsLane threads s l
+MarksStandInTheirLanes = (n : Called) (x : Extent) (s : Scene) (l : Line) → 1 ≤ thread_of l.fact → thread_of l.fact ≤ x.threads → StandsInItsLane n x s l
 
 -- ---- in text: all lanes
 
 -- what stands in the lane behind i others
-abbrev pub lane_text : ℕ → Scene → Line → ℕ → List ℕ
-lane_text threads s l i = cell_at threads (thread_of l.fact) (from_at s l) (sign l.fact (from_at s l)) (words_at s l) s.lanes i
+abbrev pub lane_text : Called → Extent → Scene → Line → ℕ → List ℕ
+lane_text n x s l i = cell_at x (thread_of l.fact) (from_at s l) (sign l.fact (from_at s l)) (words_at n s l) s.lanes i
 
 -- no words of another lane stand in lane u
-abbrev pub Shows : ℕ → Scene → Line → ℕ → Type 0
-Shows threads s l u = part_of threads (thread_of l.fact) (from_at s l) (words_at s l) u ≢ part.Covered
+abbrev pub Shows : Called → Extent → Scene → Line → ℕ → Type 0
+Shows n x s l u = part_of x (thread_of l.fact) (from_at s l) (words_at n s l) u ≢ part.Covered
+
+-- a name as scripts have them: at most 16 letters, each of one byte
+abbrev pub IsName : List ℕ → Type 0
+IsName name = All (λ b. b < 128) name × (length name ≤ most_letters)
+
+pub record AreNames (n : Called) : Type 0 where
+  pub threads : All IsName n.threads
+  pub mutexes : All IsName n.mutexes
+  pub conditions : All IsName n.conditions
+
+-- a picture has room for each name, and for numbers of four digits where a band's mutex has more than two
+pub record HasRoomForNames (n : Called) (x : Extent) : Type 0 where
+  pub threads : All (λ m. length m ≤ x.letters) n.threads
+  pub mutexes : All (λ m. length m ≤ x.letters) n.mutexes
+  pub conditions : All (λ m. length m ≤ x.letters) n.conditions
+  pub numbers : (i : ℕ) → i < x.bands.count → 100 ≤ mutex_at x.bands i → 4 ≤ x.letters
+  pub few : x.letters ≤ most_letters
+
+-- so has each that is drawn
+abbrev pub PicturesHaveRoomForNames : Type 0
+PicturesHaveRoomForNames = (room : ℕ) (n : Called) (threads mutexes : ℕ) (ls : List Line) → AreNames n → HasRoomForNames n (extent_in room n threads mutexes ls)
 
 -- numbers as a trace's are: an event's has at most 6 digits, those of mutexes and condition variables have 4, and an owner's 2
 pub record HasNumbersOfATrace (s : Scene) (l : Line) : Type 0 where
@@ -62,22 +88,23 @@ pub record HasNumbersOfATrace (s : Scene) (l : Line) : Type 0 where
   pub second : second_number l.fact < 10 ^ 4
   pub owners : (m : ℕ) → IfSome (slice_index_or s.objects m fresh).owner (λ t. t < 10 ^ 2)
 
--- lane u stands behind the 8 columns of the event, 5 for each band and those of the lanes before it
-pub record StandsInItsColumns (threads count : ℕ) (s : Scene) (l : Line) (u : ℕ) : Type 0 where
+-- lane u stands behind the 8 columns of the event, those of all bands and those of the lanes before it
+pub record StandsInItsColumns (n : Called) (x : Extent) (s : Scene) (l : Line) (u : ℕ) : Type 0 where
   pub before : List ℕ
   pub behind : List ℕ
-  pub whole : row_text threads count s l ≡ before ++ (lane_text threads s l (u - 1) ++ behind)
-  pub place : columns before ≡ 8 + count * 5 + (u - 1) * width threads
+  pub whole : row_text n x s l ≡ before ++ (lane_text n x s l (u - 1) ++ behind)
+  pub place : columns before ≡ 8 + x.bands.count * band_width x + (u - 1) * width x
 
 -- a blank parts a band from what stands behind it
 pub record EndsWithABlank (text : List ℕ) : Type 0 where
   pub name : List ℕ
   pub whole : text ≡ name ++ codes " "
 
--- so does each lane that shows something, whatever the line's words and its arrow
+-- so does each lane that shows something, whatever the line's words and its arrow, where there is room for the names
 pub record ShownLanesStandInTheirColumns : Type 0 where
-  pub lanes : (threads count : ℕ) (s : Scene) (l : Line) → HasNumbersOfATrace s l → 1 ≤ thread_of l.fact → thread_of l.fact ≤ threads → (u : ℕ) → 1 ≤ u → u ≤ threads → Shows threads s l u → StandsInItsColumns threads count s l u
-  pub bands : (s : Scene) (l : Line) → HasNumbersOfATrace s l → (m : ℕ) → EndsWithABlank (band_at s.objects m)
+  pub lanes : (n : Called) (x : Extent) (s : Scene) (l : Line) → AreNames n → HasRoomForNames n x → HasNumbersOfATrace s l → 1 ≤ thread_of l.fact → thread_of l.fact ≤ x.threads → (u : ℕ) → 1 ≤ u → u ≤ x.threads → Shows n x s l u → StandsInItsColumns n x s l u
+  pub bands : (n : Called) (x : Extent) (s : Scene) (l : Line) → AreNames n → HasRoomForNames n x → HasNumbersOfATrace s l → (i : ℕ) → EndsWithABlank (band_at n x s.objects i)
+  pub heads : (n : Called) (x : Extent) → AreNames n → HasRoomForNames n x → (i : ℕ) → i < x.bands.count → mutex_at x.bands i < 10 ^ 4 → EndsWithABlank (band_head n x i)
 
 -- ---- in SVG
 
@@ -86,24 +113,24 @@ abbrev pub pixels : ℕ → ℕ
 pixels letters = 15 * letters / 2
 
 -- how far to the right the words of a line reach
-abbrev pub words_end : Extent → Scene → Line → ℕ
-words_end x s l = words_x (lane_x x.threads x.bands (thread_of l.fact)) + pixels (length (concat (words_at s l)))
+abbrev pub words_end : Called → Extent → Scene → Line → ℕ
+words_end n x s l = words_x (lane_x x (thread_of l.fact)) + pixels (length (concat (words_at n s l)))
 
 -- the words of a line end within the picture; up to five lanes have room for them, up to the next lane's marks, which begin 7 before its middle; and the number of its event begins within the picture
-pub record HasRoom (x : Extent) (s : Scene) (l : Line) : Type 0 where
-  pub inside : words_end x s l ≤ svg_width x
-  pub apart : x.threads ≤ 5 → words_end x s l ≤ lane_x x.threads x.bands (thread_of l.fact + 1) - 7
+pub record HasRoom (n : Called) (x : Extent) (s : Scene) (l : Line) : Type 0 where
+  pub inside : words_end n x s l ≤ svg_width x
+  pub apart : x.threads ≤ 5 → words_end n x s l ≤ lane_x x (thread_of l.fact + 1) - 7
   pub event : pixels (length (decimal l.event)) ≤ number_x
 
 -- a line is drawn as the number of its event, which ends there, its mark, and its words, which begin there
-pub record IsDrawnSo (x : Extent) (s : Scene) (l : Line) (k : ℕ) : Type 0 where
+pub record IsDrawnSo (n : Called) (x : Extent) (s : Scene) (l : Line) (k : ℕ) : Type 0 where
   pub mark : List ℕ
   pub above : Bool
-  pub whole : line_marks x s l k
+  pub whole : line_marks n x s l k
       ≡ (codes "<text class=\"n\" x=\"" ++ (decimal number_x ++ (codes "\" y=\"" ++ (decimal (row_y k + 4) ++ (codes "\">" ++ (decimal l.event ++ codes "</text>"))))))
       ++ (mark
-      ++ ((codes "<text class=\"t\" x=\"" ++ (decimal (words_x (lane_x x.threads x.bands (thread_of l.fact))) ++ (codes "\" y=\"" ++ (decimal (words_y k above) ++ codes "\">"))))
-      ++ (concat (words_at s l) ++ codes "</text>\n")))
+      ++ ((codes "<text class=\"t\" x=\"" ++ (decimal (words_x (lane_x x (thread_of l.fact))) ++ (codes "\" y=\"" ++ (decimal (words_y k above) ++ codes "\">"))))
+      ++ (concat (words_at n s l) ++ codes "</text>\n")))
 
 -- whether a text begins so, and whether such a word stands in it
 abbrev pub begins_with : List ℕ → List ℕ → Bool
@@ -121,9 +148,27 @@ pub record HasOneFont : Type 0 where
   pub fonts : mentions (codes "font") shapes_style ≡ false
   pub anchors : mentions (codes "text-anchor") shapes_style ≡ false
 
--- so it is of every line of one of a picture's threads, and the names of two bands don't touch
+-- so it is of every line of one of a picture's threads where there is room for the names, and neither the names of two bands touch nor those of two lanes
 pub record TextsHaveRoom : Type 0 where
   pub font : HasOneFont
-  pub drawn : (x : Extent) (s : Scene) (l : Line) (k : ℕ) → IsDrawnSo x s l k
-  pub lines : (x : Extent) (s : Scene) (l : Line) → HasNumbersOfATrace s l → 1 ≤ thread_of l.fact → thread_of l.fact ≤ x.threads → HasRoom x s l
-  pub bands : (m : ℕ) → m < 16 → band_x m + pixels (length (codes "m" ++ decimal m)) < band_x (m + 1)
+  pub drawn : (n : Called) (x : Extent) (s : Scene) (l : Line) (k : ℕ) → IsDrawnSo n x s l k
+  pub lines : (n : Called) (x : Extent) (s : Scene) (l : Line) → AreNames n → HasRoomForNames n x → HasNumbersOfATrace s l → 1 ≤ thread_of l.fact → thread_of l.fact ≤ x.threads → HasRoom n x s l
+  pub bands : (n : Called) (x : Extent) → AreNames n → HasRoomForNames n x → (i : ℕ) → i < x.bands.count → mutex_at x.bands i < 10 ^ 4 → band_x x i + pixels (length (mutex_head n (mutex_at x.bands i) ++ mutex_tail n (mutex_at x.bands i))) < band_x x (i + 1)
+  pub lanes : (n : Called) (x : Extent) → AreNames n → HasRoomForNames n x → (u : ℕ) → 1 ≤ u → u < 10 ^ 2 → lane_x x u + pixels (length (thread_head n u ++ thread_tail n u)) < lane_x x (u + 1)
+
+-- ---- bands
+
+-- a line tells a point or a death of a mutex
+abbrev pub Uses : ℕ → Line → Type 0
+Uses m l = IsSomeAnd (decision_of l.fact) (λ d. d.mutex ≡ m)
+
+-- mutexes with bands, where there is room for so many: each has one band; where all fit, mutex i has band i; else only mutexes have one of which a line tells, and one of which a line tells has none only where all room is taken
+pub record AreShown (room mutexes : ℕ) (ls : List Line) (b : Bands) : Type 0 where
+  pub few : b.count ≤ room
+  pub once : (i : ℕ) → i < b.count → band_of b (mutex_at b i) ≡ Some i
+  pub all : mutexes ≤ room → (m : ℕ) → m < mutexes → band_of b m ≡ Some m
+  pub named : room < mutexes → (i : ℕ) → i < b.count → Any (Uses (mutex_at b i)) ls
+  pub full : room < mutexes → (m : ℕ) → Any (Uses m) ls → band_of b m ≡ None → b.count ≡ room
+
+abbrev pub UsedMutexesHaveBands : Type 0
+UsedMutexesHaveBands = (room mutexes : ℕ) (ls : List Line) → room ≤ 16 → AreShown room mutexes ls (shown room mutexes ls)

@@ -1,6 +1,9 @@
 pub mod Pieces
 pub mod Signs
 pub mod Lanes
+pub mod Names
+pub mod Inside
+pub mod Bands
 pub mod Words
 pub mod Scenes
 pub mod Layouts

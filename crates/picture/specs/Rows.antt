@@ -13,7 +13,9 @@ use Rattle.picture.specs.declared.scene.Scene.{Scene}
 use Rattle.picture.specs.declared.rows.Part.{Part}
 use Rattle.picture.specs.declared.rows.Part.TheVariants as part
 use Rattle.picture.specs.Lanes.{stays}
-use Rattle.picture.specs.Layouts.{gap, is_wide, width}
+use Rattle.picture.specs.declared.bands.Extent.{Extent}
+use Rattle.picture.specs.Layouts.{band_width, gap, is_wide, width}
+use Rattle.picture.specs.Names.{Called, thread_head, thread_tail}
 use Rattle.picture.specs.Pieces.{each, less, padded}
 use Rattle.picture.specs.Scenes.{lane_at}
 use Rattle.picture.specs.Words.{words}
@@ -48,41 +50,41 @@ abbrev pub taken : List (List ℕ) → ℕ
 taken ws = 64 - less 62 ws
 
 -- how many lanes behind its own the words of a line cover, with a blank behind them
-abbrev pub reach : ℕ → List (List ℕ) → ℕ
-reach threads ws = taken ws / width threads
+abbrev pub reach : Extent → List (List ℕ) → ℕ
+reach x ws = taken ws / width x
 
 abbrev pub is_from_right : ℕ → Option ℕ → Bool
 is_from_right t None = false
 is_from_right t (Some a) = nat_lt t a
 
 -- blanks stand behind the words, up to the next lane that shows; none behind the last lane
-abbrev pub blanks : ℕ → ℕ → List (List ℕ) → ℕ
-blanks threads t ws = if nat_le (threads - t) (reach threads ws) then 0 else width threads - (taken ws % width threads)
+abbrev pub blanks : Extent → ℕ → List (List ℕ) → ℕ
+blanks x t ws = if nat_le (x.threads - t) (reach x ws) then 0 else width x - (taken ws % width x)
 
 -- the end of an arrow from the right, in so many columns behind its words: a blank where there is one, and the arrow in the others
 abbrev pub arrow_end : ℕ → List ℕ
 arrow_end n = repeat (min n 1) (codes " ") ++ repeat (n - 1) dash
 
 -- sign and words; an arrow from the right begins behind them
-abbrev pub wide_mark : ℕ → ℕ → Option ℕ → List ℕ → List (List ℕ) → List ℕ
-wide_mark threads t from s ws = (s ++ codes " ") ++ (concat ws ++ (if is_from_right t from
-    then arrow_end (less (width threads - 2) ws)
-    else repeat (blanks threads t ws) (codes " ")))
+abbrev pub wide_mark : Extent → ℕ → Option ℕ → List ℕ → List (List ℕ) → List ℕ
+wide_mark x t from s ws = (s ++ codes " ") ++ (concat ws ++ (if is_from_right t from
+    then arrow_end (less (width x - 2) ws)
+    else repeat (blanks x t ws) (codes " ")))
 
-abbrev pub narrow_mark : ℕ → ℕ → Option ℕ → List ℕ → List ℕ
-narrow_mark threads t from s = s ++ (if is_from_right t from then repeat (width threads - 1) dash else repeat (gap threads t) (codes " "))
+abbrev pub narrow_mark : Extent → ℕ → Option ℕ → List ℕ → List ℕ
+narrow_mark x t from s = s ++ (if is_from_right t from then repeat (width x - 1) dash else repeat (gap x t) (codes " "))
 
-abbrev pub mark : ℕ → ℕ → Option ℕ → List ℕ → List (List ℕ) → List ℕ
-mark threads t from s ws = if is_wide threads then wide_mark threads t from s ws else narrow_mark threads t from s
+abbrev pub mark : Extent → ℕ → Option ℕ → List ℕ → List (List ℕ) → List ℕ
+mark x t from s ws = if is_wide x then wide_mark x t from s ws else narrow_mark x t from s
 
 -- ---- a lane
 
 -- words of the line stand in lane u, which is neither the line's own nor one of its arrow's
-abbrev pub is_covered : ℕ → ℕ → Option ℕ → List (List ℕ) → ℕ → Bool
-is_covered threads t from ws u = is_wide threads && not (is_from_right t from) && nat_lt t u && nat_le (u - t) (reach threads ws)
+abbrev pub is_covered : Extent → ℕ → Option ℕ → List (List ℕ) → ℕ → Bool
+is_covered x t from ws u = is_wide x && not (is_from_right t from) && nat_lt t u && nat_le (u - t) (reach x ws)
 
-abbrev pub beside : ℕ → ℕ → Option ℕ → List (List ℕ) → ℕ → Part
-beside threads t from ws u = if is_covered threads t from ws u then part.Covered else part.Stays
+abbrev pub beside : Extent → ℕ → Option ℕ → List (List ℕ) → ℕ → Part
+beside x t from ws u = if is_covered x t from ws u then part.Covered else part.Stays
 
 -- an arrow takes all lanes between both ends
 abbrev pub in_arrow : Option ℕ → ℕ → ℕ → Part → Part
@@ -90,52 +92,52 @@ in_arrow None t u other = other
 in_arrow (Some a) t u other = if u == a then part.Origin else (if nat_lt (min t a) u && nat_lt u (max t a) then part.Arrow else other)
 
 -- what stands in lane u at the row of a line of thread t
-abbrev pub part_of : ℕ → ℕ → Option ℕ → List (List ℕ) → ℕ → Part
-part_of threads t from ws u = if u == t then part.Mark else in_arrow from t u (beside threads t from ws u)
+abbrev pub part_of : Extent → ℕ → Option ℕ → List (List ℕ) → ℕ → Part
+part_of x t from ws u = if u == t then part.Mark else in_arrow from t u (beside x t from ws u)
 
-abbrev pub origin : ℕ → ℕ → Option ℕ → ℕ → List ℕ
-origin threads t from u = if is_from_right t from then to_left ++ repeat (gap threads u) (codes " ") else to_right ++ repeat (width threads - 1) dash
+abbrev pub origin : Extent → ℕ → Option ℕ → ℕ → List ℕ
+origin x t from u = if is_from_right t from then to_left ++ repeat (gap x u) (codes " ") else to_right ++ repeat (width x - 1) dash
 
 -- a lane that goes on to show what it showed
-abbrev pub stays_so : ℕ → Lane → ℕ → List ℕ
-stays_so threads shown u = stays shown ++ repeat (gap threads u) (codes " ")
+abbrev pub stays_so : Extent → Lane → ℕ → List ℕ
+stays_so x shown u = stays shown ++ repeat (gap x u) (codes " ")
 
-abbrev pub part_text : ℕ → ℕ → Option ℕ → List ℕ → List (List ℕ) → Lane → ℕ → Part → List ℕ
-part_text threads t from s ws shown u part.Stays = stays_so threads shown u
-part_text threads t from s ws shown u part.Covered = []
-part_text threads t from s ws shown u part.Mark = mark threads t from s ws
-part_text threads t from s ws shown u part.Origin = origin threads t from u
-part_text threads t from s ws shown u part.Arrow = repeat (width threads) dash
+abbrev pub part_text : Extent → ℕ → Option ℕ → List ℕ → List (List ℕ) → Lane → ℕ → Part → List ℕ
+part_text x t from s ws shown u part.Stays = stays_so x shown u
+part_text x t from s ws shown u part.Covered = []
+part_text x t from s ws shown u part.Mark = mark x t from s ws
+part_text x t from s ws shown u part.Origin = origin x t from u
+part_text x t from s ws shown u part.Arrow = repeat (width x) dash
 
-abbrev pub cell : ℕ → ℕ → Option ℕ → List ℕ → List (List ℕ) → Lane → ℕ → List ℕ
-cell threads t from s ws shown u = part_text threads t from s ws shown u (part_of threads t from ws u)
+abbrev pub cell : Extent → ℕ → Option ℕ → List ℕ → List (List ℕ) → Lane → ℕ → List ℕ
+cell x t from s ws shown u = part_text x t from s ws shown u (part_of x t from ws u)
 
-abbrev pub cell_at : ℕ → ℕ → Option ℕ → List ℕ → List (List ℕ) → List Lane → ℕ → List ℕ
-cell_at threads t from s ws lanes i = cell threads t from s ws (lane_at lanes (i + 1)) (i + 1)
+abbrev pub cell_at : Extent → ℕ → Option ℕ → List ℕ → List (List ℕ) → List Lane → ℕ → List ℕ
+cell_at x t from s ws lanes i = cell x t from s ws (lane_at lanes (i + 1)) (i + 1)
 
 -- all lanes, side by side
-abbrev pub cells : ℕ → ℕ → Option ℕ → List ℕ → List (List ℕ) → List Lane → List ℕ
-cells threads t from s ws lanes = each (cell_at threads t from s ws lanes) threads
+abbrev pub cells : Extent → ℕ → Option ℕ → List ℕ → List (List ℕ) → List Lane → List ℕ
+cells x t from s ws lanes = each (cell_at x t from s ws lanes) x.threads
 
 -- where lanes have no room for words, these stand behind all lanes
-abbrev pub tail : ℕ → ℕ → List (List ℕ) → List ℕ
-tail threads t ws = if is_wide threads then [] else concat (codes "  t" ∷ decimal t ∷ codes " " ∷ []) ++ concat ws
+abbrev pub tail : Called → Extent → ℕ → List (List ℕ) → List ℕ
+tail n x t ws = if is_wide x then [] else concat (codes "  " ∷ thread_head n t ∷ thread_tail n t ∷ codes " " ∷ []) ++ concat ws
 
 -- ---- a band
 
 -- the owner or `-`, and `!` where an owner died and nobody has declared the mutex consistent; or `lost`, and nothing beside it
-abbrev pub owner_name : Option ℕ → Bool → List ℕ → List (List ℕ)
-owner_name (Some t) unusable m = codes "t" ∷ decimal t ∷ m ∷ []
-owner_name None unusable m = if unusable then codes "lost" ∷ [] ∷ [] ∷ [] else codes "-" ∷ [] ∷ m ∷ []
+abbrev pub owner_name : Called → Option ℕ → Bool → List ℕ → List (List ℕ)
+owner_name n (Some t) unusable m = thread_head n t ∷ thread_tail n t ∷ m ∷ []
+owner_name n None unusable m = if unusable then codes "lost" ∷ [] ∷ [] ∷ [] else codes "-" ∷ [] ∷ m ∷ []
 
-abbrev pub owner_pieces : Object → List (List ℕ)
-owner_pieces o = owner_name o.owner o.unusable (if o.inconsistent then codes "!" else [])
+abbrev pub owner_pieces : Called → Object → List (List ℕ)
+owner_pieces n o = owner_name n o.owner o.unusable (if o.inconsistent then codes "!" else [])
 
-abbrev pub band_at : List Object → ℕ → List ℕ
-band_at os m = padded 5 (owner_pieces (slice_index_or os m fresh))
+abbrev pub band_at : Called → Extent → List Object → ℕ → List ℕ
+band_at n x os i = padded (band_width x) (owner_pieces n (slice_index_or os i fresh))
 
-abbrev pub bands_text : ℕ → List Object → List ℕ
-bands_text count os = each (band_at os) count
+abbrev pub bands_text : Called → Extent → List Object → List ℕ
+bands_text n x os = each (band_at n x os) x.bands.count
 
 -- ---- a row
 
@@ -143,19 +145,19 @@ abbrev pub event_text : ℕ → List ℕ
 event_text i = repeat (6 - length (decimal i)) (codes " ") ++ concat (decimal i ∷ codes "  " ∷ [])
 
 -- the words of a line, and where its arrow comes from
-abbrev pub words_at : Scene → Line → List (List ℕ)
-words_at s l = words (lane_at s.lanes (thread_of l.fact)) l.fact
+abbrev pub words_at : Called → Scene → Line → List (List ℕ)
+words_at n s l = words n (lane_at s.lanes (thread_of l.fact)) l.fact
 
 abbrev pub from_at : Scene → Line → Option ℕ
 from_at s l = arrow_from s.actor l.fact
 
 -- the row of a line of this event, with its thread, where its arrow comes from, its sign and its words
-abbrev pub row_of : ℕ → ℕ → Scene → ℕ → ℕ → Option ℕ → List ℕ → List (List ℕ) → List ℕ
-row_of threads count s event t from mark ws = event_text event ++ (bands_text count s.objects ++ (cells threads t from mark ws s.lanes ++ (tail threads t ws ++ codes "\n")))
+abbrev pub row_of : Called → Extent → Scene → ℕ → ℕ → Option ℕ → List ℕ → List (List ℕ) → List ℕ
+row_of n x s event t from mark ws = event_text event ++ (bands_text n x s.objects ++ (cells x t from mark ws s.lanes ++ (tail n x t ws ++ codes "\n")))
 
 -- the row of a line, behind which all lanes and bands show this
-abbrev pub row_text : ℕ → ℕ → Scene → Line → List ℕ
-row_text threads count s l = row_of threads count s l.event (thread_of l.fact) (from_at s l) (sign l.fact (from_at s l)) (words_at s l)
+abbrev pub row_text : Called → Extent → Scene → Line → List ℕ
+row_text n x s l = row_of n x s l.event (thread_of l.fact) (from_at s l) (sign l.fact (from_at s l)) (words_at n s l)
 
 -- the last row: how many events there were
 abbrev pub end_text : ℕ → List ℕ

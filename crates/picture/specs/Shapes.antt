@@ -6,7 +6,9 @@ use Rattle.facts.specs.declared.fact.Fact.{Fact}
 use Rattle.facts.specs.declared.fact.Fact.TheVariants as fact
 use Rattle.picture.specs.declared.lane.Lane.{Lane}
 use Rattle.picture.specs.declared.lane.Lane.TheVariants as lane
-use Rattle.picture.specs.Places.{band_x, number_x, row_y, words_x}
+use Rattle.picture.specs.declared.bands.Extent.{Extent}
+use Rattle.picture.specs.Names.{Called, thread_head, thread_tail}
+use Rattle.picture.specs.Places.{band_middle, band_wide, band_x, number_x, row_y, words_x}
 
 -- ---- what lanes and bands show, from one line to another one
 
@@ -35,22 +37,29 @@ owned_class None inconsistent unusable = if unusable then Some (codes "u") else 
 abbrev pub band_class : Object → Option (List ℕ)
 band_class o = owned_class o.owner o.inconsistent o.unusable
 
-abbrev pub owner_label : ℕ → ℕ → ℕ → List ℕ
-owner_label t left top = concat (codes "<text class=\"h\" x=\"" ∷ decimal (left + 11) ∷ codes "\" y=\"" ∷ decimal (top + 4) ∷ codes "\">t" ∷ decimal t ∷ codes "</text>\n" ∷ [])
+-- the name of a thing, in two pieces, its middle here
+abbrev pub name_at : List ℕ → List ℕ → List ℕ
+name_at middle y = concat (codes "<text class=\"h\" x=\"" ∷ middle ∷ codes "\" y=\"" ∷ y ∷ codes "\">" ∷ [])
 
-abbrev pub owner_of : Option ℕ → ℕ → ℕ → List ℕ
-owner_of None left top = []
-owner_of (Some t) left top = owner_label t left top
+abbrev pub name_label : List ℕ → List ℕ → ℕ → ℕ → List ℕ
+name_label head tail middle y = name_at (decimal middle) (decimal y) ++ concat (head ∷ tail ∷ codes "</text>" ∷ [])
 
-abbrev pub stretch : List ℕ → Option ℕ → ℕ → ℕ → ℕ → List ℕ
-stretch class owner m from to = rectangle class (band_x m) (row_y from - 9) 22 (row_y to - row_y from) ++ owner_of owner (band_x m) (row_y from)
+abbrev pub owner_label : Called → ℕ → ℕ → ℕ → List ℕ
+owner_label n t middle top = name_label (thread_head n t) (thread_tail n t) middle (top + 4) ++ codes "\n"
 
-abbrev pub band_box : Option (List ℕ) → Option ℕ → ℕ → ℕ → ℕ → List ℕ
-band_box None owner m from to = []
-band_box (Some class) owner m from to = stretch class owner m from to
+abbrev pub owner_of : Called → Option ℕ → ℕ → ℕ → List ℕ
+owner_of n None middle top = []
+owner_of n (Some t) middle top = owner_label n t middle top
 
-abbrev pub band_shape : Object → ℕ → ℕ → ℕ → List ℕ
-band_shape o m from to = band_box (band_class o) o.owner m from to
+abbrev pub stretch : Called → Extent → List ℕ → Option ℕ → ℕ → ℕ → ℕ → List ℕ
+stretch n x class owner i from to = rectangle class (band_x x i) (row_y from - 9) (band_wide x) (row_y to - row_y from) ++ owner_of n owner (band_x x i + band_middle x) (row_y from)
+
+abbrev pub band_box : Called → Extent → Option (List ℕ) → Option ℕ → ℕ → ℕ → ℕ → List ℕ
+band_box n x None owner i from to = []
+band_box n x (Some class) owner i from to = stretch n x class owner i from to
+
+abbrev pub band_shape : Called → Extent → Object → ℕ → ℕ → ℕ → List ℕ
+band_shape n x o i from to = band_box n x (band_class o) o.owner i from to
 
 -- ---- a line's mark
 

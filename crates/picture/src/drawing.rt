@@ -7,8 +7,10 @@ ghost use Rattle.picture.specs.Heads.{heads};
 ghost use Rattle.picture.specs.Rows.{end_text, row_text};
 ghost use Rattle.picture.specs.Scenes.{first_scene};
 
+use crate::bands::{Extent, LANES};
 use crate::heads::add_heads;
-use crate::layout::bands;
+use crate::layout::band_room;
+use crate::names::Names;
 use crate::rows::{add_end, add_row};
 use crate::scene::Scene;
 use facts::Line;
@@ -49,52 +51,52 @@ pub fn write_text<W: Write>(text: &str, out: &mut W) -> Result<(), Unwritten>
 
 fn write_heads<W: Write>(
     row: &mut String,
-    threads: u8,
-    bands: usize,
+    names: &Names,
+    extent: &Extent,
     out: &mut W,
 ) -> Result<(), Unwritten>
-    requires few { threads ≤ 64 }
-    requires narrow { bands ≤ 16 }
-    ensures { Leaves (W.contents out.old) (W.contents out.new) result (heads threads bands) }
+    requires few { extent.now.threads ≤ 64 }
+    requires narrow { extent.now.bands.count ≤ 16 }
+    ensures { Leaves (W.contents out.old) (W.contents out.new) result (heads names.now extent.now) }
 {
     row.clear();
-    add_heads(row, threads, bands)?;
+    add_heads(row, names, extent)?;
     write_text(row, out)
 }
 
 fn write_row<W: Write>(
     row: &mut String,
-    threads: u8,
-    bands: usize,
+    names: &Names,
+    extent: &Extent,
     scene: &Scene,
     line: &Line,
     out: &mut W,
 ) -> Result<(), Unwritten>
-    requires few { threads ≤ 64 }
-    requires narrow { bands ≤ 16 }
-    ensures { Leaves (W.contents out.old) (W.contents out.new) result (row_text threads bands scene.now line.now) }
+    requires few { extent.now.threads ≤ 64 }
+    requires narrow { extent.now.bands.count ≤ 16 }
+    ensures { Leaves (W.contents out.old) (W.contents out.new) result (row_text names.now extent.now scene.now line.now) }
 {
     row.clear();
-    add_row(row, threads, bands, scene, line)?;
+    add_row(row, names, extent, scene, line)?;
     write_text(row, out)
 }
 
 fn write_rows<W: Write>(
     row: &mut String,
-    threads: u8,
-    bands: usize,
+    names: &Names,
+    extent: &Extent,
     lines: &[Line],
     out: &mut W,
 ) -> Result<(), Unwritten>
-    requires few { threads ≤ 64 }
-    requires narrow { bands ≤ 16 }
-    ensures { Leaves (W.contents out.old) (W.contents out.new) result (rows_text threads bands first_scene lines.now) }
+    requires few { extent.now.threads ≤ 64 }
+    requires narrow { extent.now.bands.count ≤ 16 }
+    ensures { Leaves (W.contents out.old) (W.contents out.new) result (rows_text names.now extent.now first_scene lines.now) }
 {
     let mut scene = Scene::new();
     for index in 0..lines.len() {
         let line = &lines[index];
-        scene = scene.behind(line, &lines[index..]);
-        write_row(row, threads, bands, &scene, line, out)?;
+        scene = scene.behind(&extent.bands, line, &lines[index..]);
+        write_row(row, names, extent, &scene, line, out)?;
     }
     Ok(())
 }
@@ -108,21 +110,23 @@ fn write_end<W: Write>(row: &mut String, last: u32, out: &mut W) -> Result<(), U
 }
 
 /// Draws a trace of so many threads and mutexes as text, time running downwards: each of its lines as one row, in the order of the trace, with the
-/// number of its event, and its mark in the lane of its thread. `last` is the number of events. At an error a beginning of the picture is written.
+/// number of its event, and its mark in the lane of its thread. Things are called by these names. `last` is the number of events. At an error a beginning
+/// of the picture is written.
 pub fn draw<W: Write>(
     alloc: Global,
+    names: &Names,
     threads: u8,
     mutexes: u16,
     lines: &[Line],
     last: u32,
     out: &mut W,
 ) -> Result<(), Unwritten>
-    ensures { Leaves (W.contents out.old) (W.contents out.new) result (drawn threads mutexes lines.now last) }
+    ensures { Leaves (W.contents out.old) (W.contents out.new) result (drawn names.now threads mutexes lines.now last) }
 {
     let mut row = String::with_capacity(alloc, ROW)?;
-    let lanes = threads.min(64);
-    let bands = bands(lanes, mutexes);
-    write_heads(&mut row, lanes, bands, out)?;
-    write_rows(&mut row, lanes, bands, lines, out)?;
+    let room = band_room(threads.min(LANES));
+    let extent = Extent::of(room, names, threads, mutexes, lines);
+    write_heads(&mut row, names, &extent, out)?;
+    write_rows(&mut row, names, &extent, lines, out)?;
     write_end(&mut row, last, out)
 }

@@ -1,44 +1,53 @@
 //! The rows above all lanes.
 
-ghost use Rattle.std.specs.Prelude.{◌≡◌, ◌++◌, ◌≤◌, string_bytes, IfOk};
-ghost use Rattle.picture.specs.Heads.{band_heads, heads, lane_heads, name_width, narrow_heads, ten_sign, tens, units};
+ghost use Rattle.std.specs.Prelude.{◌≡◌, ◌++◌, ◌≤◌, ◌<◌, string_bytes, IfOk};
+ghost use Rattle.picture.specs.Heads.{band_heads, heads, lane_heads, letter, letter_at, letters, letters_below, letters_down, name_width, narrow_heads, next_row, numbers_down, ten_sign, tens, units};
 
-use crate::layout::{BAND, EVENT, gap, is_wide, width};
+use crate::bands::Extent;
+use crate::layout::{EVENT, band_width, gap, is_wide, width};
+use crate::names::Names;
 use crate::pieces::{add, add_padded, fill};
 use itoa::Buffer;
 use std::alloc::AllocError;
 
-fn add_band_heads(text: &mut String, bands: usize) -> Result<(), AllocError>
-    ensures { IfOk result (λ _. string_bytes text.new ≡ string_bytes text.old ++ band_heads bands) }
+fn add_band_heads(text: &mut String, names: &Names, extent: &Extent) -> Result<(), AllocError>
+    requires { extent.now.bands.count ≤ 16 }
+    ensures { IfOk result (λ _. string_bytes text.new ≡ string_bytes text.old ++ band_heads names.now extent.now) }
 {
-    for mutex in 0..bands {
+    for band in 0..extent.bands.count {
         let mut digits = Buffer::new();
-        add_padded(text, &["m", digits.format(mutex)], BAND)?;
+        let label = names.mutex(extent.bands.mutexes[band], &mut digits);
+        add_padded(text, &[label.head, label.tail], band_width(extent))?;
     }
     Ok(())
 }
 
 /// How many columns a lane's name takes: as many as the lane, where another one stands behind it.
-fn name_width(threads: u8, lane: u8) -> usize
-    ensures { result ≡ name_width threads lane }
+fn name_width(extent: &Extent, lane: u8) -> usize
+    ensures { result ≡ name_width extent.now lane }
 {
-    if lane == threads { 0 } else { width(threads) }
+    if lane == extent.threads {
+        0
+    } else {
+        width(extent)
+    }
 }
 
 /// The names of all lanes, side by side.
-fn add_lane_heads(text: &mut String, threads: u8) -> Result<(), AllocError>
-    requires { threads ≤ 64 }
-    ensures { IfOk result (λ _. string_bytes text.new ≡ string_bytes text.old ++ lane_heads threads) }
+fn add_lane_heads(text: &mut String, names: &Names, extent: &Extent) -> Result<(), AllocError>
+    requires { extent.now.threads ≤ 64 }
+    ensures { IfOk result (λ _. string_bytes text.new ≡ string_bytes text.old ++ lane_heads names.now extent.now) }
 {
-    for index in 0..threads {
+    for index in 0..extent.threads {
         let mut digits = Buffer::new();
         let lane = index + 1;
-        add_padded(text, &["t", digits.format(lane)], name_width(threads, lane))?;
+        let label = names.thread(lane, &mut digits);
+        add_padded(text, &[label.head, label.tail], name_width(extent, lane))?;
     }
     Ok(())
 }
 
-/// The first sign of a lane's name: its tens, where it has any.
+/// The first sign of a lane's number: its tens, where it has any.
 fn ten_sign(digits: &mut Buffer, lane: u8) -> &str
     ensures { result.now ≡ ten_sign lane }
 {
@@ -49,57 +58,156 @@ fn ten_sign(digits: &mut Buffer, lane: u8) -> &str
     }
 }
 
-/// The first signs of the lanes' names, where these are written downwards.
-fn add_tens(text: &mut String, threads: u8) -> Result<(), AllocError>
-    requires { threads ≤ 64 }
-    ensures { IfOk result (λ _. string_bytes text.new ≡ string_bytes text.old ++ tens threads) }
+/// The first signs of the lanes' numbers, where these are written downwards.
+fn add_tens(text: &mut String, extent: &Extent) -> Result<(), AllocError>
+    requires { extent.now.threads ≤ 64 }
+    ensures { IfOk result (λ _. string_bytes text.new ≡ string_bytes text.old ++ tens extent.now) }
 {
-    for index in 0..threads {
+    for index in 0..extent.threads {
         let mut digits = Buffer::new();
         let lane = index + 1;
         add(text, &[ten_sign(&mut digits, lane)])?;
-        fill(text, " ", gap(threads, lane))?;
+        fill(text, " ", gap(extent, lane))?;
     }
     Ok(())
 }
 
 /// And the second ones.
-fn add_units(text: &mut String, threads: u8) -> Result<(), AllocError>
-    requires { threads ≤ 64 }
-    ensures { IfOk result (λ _. string_bytes text.new ≡ string_bytes text.old ++ units threads) }
+fn add_units(text: &mut String, extent: &Extent) -> Result<(), AllocError>
+    requires { extent.now.threads ≤ 64 }
+    ensures { IfOk result (λ _. string_bytes text.new ≡ string_bytes text.old ++ units extent.now) }
 {
-    for index in 0..threads {
+    for index in 0..extent.threads {
         let mut digits = Buffer::new();
         let lane = index + 1;
         add(text, &[digits.format(lane % 10)])?;
-        fill(text, " ", gap(threads, lane))?;
+        fill(text, " ", gap(extent, lane))?;
     }
     Ok(())
 }
 
-fn add_narrow_heads(text: &mut String, threads: u8, bands: usize) -> Result<(), AllocError>
-    requires few { threads ≤ 64 }
-    requires narrow { bands ≤ 16 }
-    ensures { IfOk result (λ _. string_bytes text.new ≡ string_bytes text.old ++ narrow_heads threads bands) }
+/// The next row, up to the first lane.
+fn add_next_row(text: &mut String, extent: &Extent) -> Result<(), AllocError>
+    requires { extent.now.bands.count ≤ 16 }
+    ensures { IfOk result (λ _. string_bytes text.new ≡ string_bytes text.old ++ next_row extent.now) }
 {
-    add_tens(text, threads)?;
     add(text, &["\n"])?;
-    fill(text, " ", EVENT + BAND * bands)?;
-    add_units(text, threads)
+    fill(text, " ", EVENT + band_width(extent) * extent.bands.count)
+}
+
+/// The numbers of all lanes, downwards.
+fn add_numbers_down(text: &mut String, extent: &Extent) -> Result<(), AllocError>
+    requires few { extent.now.threads ≤ 64 }
+    requires narrow { extent.now.bands.count ≤ 16 }
+    ensures { IfOk result (λ _. string_bytes text.new ≡ string_bytes text.old ++ numbers_down extent.now) }
+{
+    add_tens(text, extent)?;
+    add_next_row(text, extent)?;
+    add_units(text, extent)
+}
+
+/// A letter of a name, or a blank behind its last one.
+fn add_letter_at(text: &mut String, name: &str, place: usize) -> Result<(), AllocError>
+    ensures { IfOk result (λ _. string_bytes text.new ≡ string_bytes text.old ++ letter_at name.now place) }
+{
+    let bytes = name.as_bytes();
+    if place < bytes.len() {
+        text.push(char::from(bytes[place]))
+    } else {
+        text.push_str(" ")
+    }
+}
+
+/// A letter of the name of the lane behind so many others.
+fn add_letter(
+    text: &mut String,
+    names: &Names,
+    extent: &Extent,
+    place: usize,
+    index: u8,
+) -> Result<(), AllocError>
+    requires { index < 64 }
+    ensures { IfOk result (λ _. string_bytes text.new ≡ string_bytes text.old ++ letter names.now extent.now place index) }
+{
+    add_letter_at(text, names.lane(index), place)?;
+    fill(text, " ", gap(extent, index + 1))
+}
+
+/// A letter of each lane's name.
+fn add_letters(
+    text: &mut String,
+    names: &Names,
+    extent: &Extent,
+    place: usize,
+) -> Result<(), AllocError>
+    requires { extent.now.threads ≤ 64 }
+    ensures { IfOk result (λ _. string_bytes text.new ≡ string_bytes text.old ++ letters names.now extent.now place) }
+{
+    for index in 0..extent.threads {
+        add_letter(text, names, extent, place, index)?;
+    }
+    Ok(())
+}
+
+/// The same in the next row.
+fn add_letters_below(
+    text: &mut String,
+    names: &Names,
+    extent: &Extent,
+    place: usize,
+) -> Result<(), AllocError>
+    requires few { extent.now.threads ≤ 64 }
+    requires narrow { extent.now.bands.count ≤ 16 }
+    requires few_letters { place < 64 }
+    ensures { IfOk result (λ _. string_bytes text.new ≡ string_bytes text.old ++ letters_below names.now extent.now place) }
+{
+    add_next_row(text, extent)?;
+    add_letters(text, names, extent, place + 1)
+}
+
+/// The names of all lanes, downwards: so many rows below the first.
+fn add_letters_down(
+    text: &mut String,
+    names: &Names,
+    extent: &Extent,
+    rows: usize,
+) -> Result<(), AllocError>
+    requires few { extent.now.threads ≤ 64 }
+    requires narrow { extent.now.bands.count ≤ 16 }
+    requires low { rows ≤ 64 }
+    ensures { IfOk result (λ _. string_bytes text.new ≡ string_bytes text.old ++ letters_down names.now extent.now rows) }
+{
+    add_letters(text, names, extent, 0)?;
+    for row in 0..rows {
+        add_letters_below(text, names, extent, row)?;
+    }
+    Ok(())
+}
+
+fn add_narrow_heads(text: &mut String, names: &Names, extent: &Extent) -> Result<(), AllocError>
+    requires few { extent.now.threads ≤ 64 }
+    requires narrow { extent.now.bands.count ≤ 16 }
+    ensures { IfOk result (λ _. string_bytes text.new ≡ string_bytes text.old ++ narrow_heads names.now extent.now) }
+{
+    if names.threads() == 0 {
+        add_numbers_down(text, extent)
+    } else {
+        add_letters_down(text, names, extent, names.thread_letters() - 1)
+    }
 }
 
 /// The rows above all lanes: what stands in which column.
-pub fn add_heads(text: &mut String, threads: u8, bands: usize) -> Result<(), AllocError>
-    requires few { threads ≤ 64 }
-    requires narrow { bands ≤ 16 }
-    ensures { IfOk result (λ _. string_bytes text.new ≡ string_bytes text.old ++ heads threads bands) }
+pub fn add_heads(text: &mut String, names: &Names, extent: &Extent) -> Result<(), AllocError>
+    requires few { extent.now.threads ≤ 64 }
+    requires narrow { extent.now.bands.count ≤ 16 }
+    ensures { IfOk result (λ _. string_bytes text.new ≡ string_bytes text.old ++ heads names.now extent.now) }
 {
     add(text, &[" event  "])?;
-    add_band_heads(text, bands)?;
-    if is_wide(threads) {
-        add_lane_heads(text, threads)?;
+    add_band_heads(text, names, extent)?;
+    if is_wide(extent) {
+        add_lane_heads(text, names, extent)?;
     } else {
-        add_narrow_heads(text, threads, bands)?;
+        add_narrow_heads(text, names, extent)?;
     }
     add(text, &["\n"])
 }

@@ -15,18 +15,20 @@
 //! let told = verdict::read_trace(rt.alloc(), b"trace 1 1 0\n1 begin t1 lock m0\nend 1\n")?;
 //! let mut text = Vec::new(rt.alloc());
 //! let (threads, mutexes) = (told.head.threads, told.head.mutexes);
-//! draw(rt.alloc(), threads, mutexes, &told.lines, told.last, &mut text)?;
+//! draw(rt.alloc(), &Names::none(rt.alloc()), threads, mutexes, &told.lines, told.last, &mut text)?;
 //! // " event  m0   t1"
 //! // "     1  -    ┌ lock m0"
 //! // "     1  end"
 //! ```
 #![tactic(auto)]
 
+mod bands;
 mod drawing;
 mod heads;
 mod lane;
 mod laws;
 mod layout;
+mod names;
 mod pieces;
 mod places;
 mod rows;
@@ -38,5 +40,9 @@ mod svg_drawing;
 mod words;
 
 pub use drawing::{Unwritten, draw};
-pub use laws::{marks_stand_in_their_lanes, shown_lanes_stand_in_their_columns, texts_have_room};
+pub use laws::{
+    marks_stand_in_their_lanes, pictures_have_room_for_names, shown_lanes_stand_in_their_columns,
+    texts_have_room, used_mutexes_have_bands,
+};
+pub use names::Names;
 pub use svg_drawing::draw_svg;

@@ -3,11 +3,13 @@
 ghost use Rattle.std.specs.Prelude.{◌≡◌, ◌++◌, ◌≤◌, map, string_bytes, IfOk};
 ghost use Rattle.picture.specs.Rows.{arrow_end, arrow_from, arrow_sign, bands_text, blanks, cell, cells, end_text, event_text, is_covered, is_from_right, mark, narrow_mark, origin, owner_pieces, part_of, reach, row_of, row_text, sign, stays_so, tail, taken, wide_mark};
 
+use crate::bands::Extent;
 use crate::lane::Lane;
-use crate::layout::{BAND, EVENT, gap, is_wide, width};
+use crate::layout::{EVENT, band_width, gap, is_wide, width};
+use crate::names::Names;
 use crate::pieces::{add, add_padded, fill, room};
 use crate::scene::Scene;
-use crate::words::{first_number, second_number, words};
+use crate::words::words;
 use facts::{Fact, Line};
 use itoa::Buffer;
 use keys::Object;
@@ -17,7 +19,7 @@ use std::alloc::AllocError;
 /// What a line's row tells of it, but for its event.
 #[derive(Clone, Copy)]
 struct Row<'a> {
-    threads: u8,
+    extent: Extent,
     /// Whose lane it is drawn in.
     thread: u8,
     /// Whose event did this to the thread, where that is another one.
@@ -90,10 +92,10 @@ fn taken(words: &[&str]) -> usize
 }
 
 /// How many lanes behind its own the words of a line cover, with a blank behind them.
-fn reach(threads: u8, words: &[&str]) -> usize
-    ensures { result ≡ reach threads (map (λ w. w.now) words.now) }
+fn reach(extent: &Extent, words: &[&str]) -> usize
+    ensures { result ≡ reach extent.now (map (λ w. w.now) words.now) }
 {
-    taken(words) / width(threads)
+    taken(words) / width(extent)
 }
 
 /// Whether an arrow comes to a thread's lane from its right.
@@ -108,16 +110,16 @@ pub fn is_right_of(thread: u8, from: Option<u8>) -> bool
 
 /// Whether words of a line before it stand in a lane, which is neither the line's own nor one of its arrow's.
 fn is_covered(row: &Row<'_>, lane: u8) -> bool
-    ensures { result ≡ is_covered row.now.threads row.now.thread row.now.from (map (λ w. w.now) row.now.words.now) lane }
+    ensures { result ≡ is_covered row.now.extent row.now.thread row.now.from (map (λ w. w.now) row.now.words.now) lane }
 {
-    is_wide(row.threads)
+    is_wide(&row.extent)
         && !is_right_of(row.thread, row.from)
         && row.thread < lane
-        && usize::from(lane - row.thread) <= reach(row.threads, row.words)
+        && usize::from(lane - row.thread) <= reach(&row.extent, row.words)
 }
 
 fn part_at(row: &Row<'_>, lane: u8) -> Part
-    ensures { result ≡ part_of row.now.threads row.now.thread row.now.from (map (λ w. w.now) row.now.words.now) lane }
+    ensures { result ≡ part_of row.now.extent row.now.thread row.now.from (map (λ w. w.now) row.now.words.now) lane }
 {
     let thread = row.thread;
     if lane == thread {
@@ -140,13 +142,13 @@ fn part_at(row: &Row<'_>, lane: u8) -> Part
 
 /// How many blanks stand behind the words of a line, up to the next lane that shows; none behind the last lane.
 fn blanks(row: &Row<'_>) -> usize
-    ensures { result ≡ blanks row.now.threads row.now.thread (map (λ w. w.now) row.now.words.now) }
+    ensures { result ≡ blanks row.now.extent row.now.thread (map (λ w. w.now) row.now.words.now) }
 {
-    let left = row.threads.saturating_sub(row.thread);
-    if usize::from(left) <= reach(row.threads, row.words) {
+    let left = row.extent.threads.saturating_sub(row.thread);
+    if usize::from(left) <= reach(&row.extent, row.words) {
         return 0;
     }
-    let width = width(row.threads);
+    let width = width(&row.extent);
     width.saturating_sub(taken(row.words) % width)
 }
 
@@ -160,12 +162,12 @@ fn add_arrow_end(text: &mut String, columns: usize) -> Result<(), AllocError>
 
 /// The mark of a line, with its words.
 fn add_wide_mark(text: &mut String, row: &Row<'_>) -> Result<(), AllocError>
-    ensures { IfOk result (λ _. string_bytes text.new ≡ string_bytes text.old ++ wide_mark row.now.threads row.now.thread row.now.from row.now.sign.now (map (λ w. w.now) row.now.words.now)) }
+    ensures { IfOk result (λ _. string_bytes text.new ≡ string_bytes text.old ++ wide_mark row.now.extent row.now.thread row.now.from row.now.sign.now (map (λ w. w.now) row.now.words.now)) }
 {
     add(text, &[row.sign, " "])?;
     add(text, row.words)?;
     if is_right_of(row.thread, row.from) {
-        add_arrow_end(text, room(width(row.threads).saturating_sub(2), row.words))
+        add_arrow_end(text, room(width(&row.extent).saturating_sub(2), row.words))
     } else {
         fill(text, " ", blanks(row))
     }
@@ -173,20 +175,20 @@ fn add_wide_mark(text: &mut String, row: &Row<'_>) -> Result<(), AllocError>
 
 /// The mark of a line in a lane that has no room for words.
 fn add_narrow_mark(text: &mut String, row: &Row<'_>) -> Result<(), AllocError>
-    ensures { IfOk result (λ _. string_bytes text.new ≡ string_bytes text.old ++ narrow_mark row.now.threads row.now.thread row.now.from row.now.sign.now) }
+    ensures { IfOk result (λ _. string_bytes text.new ≡ string_bytes text.old ++ narrow_mark row.now.extent row.now.thread row.now.from row.now.sign.now) }
 {
     add(text, &[row.sign])?;
     if is_right_of(row.thread, row.from) {
-        fill(text, "─", width(row.threads) - 1)
+        fill(text, "─", width(&row.extent) - 1)
     } else {
-        fill(text, " ", gap(row.threads, row.thread))
+        fill(text, " ", gap(&row.extent, row.thread))
     }
 }
 
 fn add_mark(text: &mut String, row: &Row<'_>) -> Result<(), AllocError>
-    ensures { IfOk result (λ _. string_bytes text.new ≡ string_bytes text.old ++ mark row.now.threads row.now.thread row.now.from row.now.sign.now (map (λ w. w.now) row.now.words.now)) }
+    ensures { IfOk result (λ _. string_bytes text.new ≡ string_bytes text.old ++ mark row.now.extent row.now.thread row.now.from row.now.sign.now (map (λ w. w.now) row.now.words.now)) }
 {
-    if is_wide(row.threads) {
+    if is_wide(&row.extent) {
         add_wide_mark(text, row)
     } else {
         add_narrow_mark(text, row)
@@ -195,66 +197,70 @@ fn add_mark(text: &mut String, row: &Row<'_>) -> Result<(), AllocError>
 
 /// Where an arrow begins in this lane.
 fn add_origin(text: &mut String, row: &Row<'_>, lane: u8) -> Result<(), AllocError>
-    ensures { IfOk result (λ _. string_bytes text.new ≡ string_bytes text.old ++ origin row.now.threads row.now.thread row.now.from lane) }
+    ensures { IfOk result (λ _. string_bytes text.new ≡ string_bytes text.old ++ origin row.now.extent row.now.thread row.now.from lane) }
 {
     if is_right_of(row.thread, row.from) {
         add(text, &["┤"])?;
-        fill(text, " ", gap(row.threads, lane))
+        fill(text, " ", gap(&row.extent, lane))
     } else {
         add(text, &["├"])?;
-        fill(text, "─", width(row.threads) - 1)
+        fill(text, "─", width(&row.extent) - 1)
     }
 }
 
 fn add_sign(text: &mut String, row: &Row<'_>, shown: Lane, lane: u8) -> Result<(), AllocError>
-    ensures { IfOk result (λ _. string_bytes text.new ≡ string_bytes text.old ++ stays_so row.now.threads shown lane) }
+    ensures { IfOk result (λ _. string_bytes text.new ≡ string_bytes text.old ++ stays_so row.now.extent shown lane) }
 {
     add(text, &[shown.sign()])?;
-    fill(text, " ", gap(row.threads, lane))
+    fill(text, " ", gap(&row.extent, lane))
 }
 
 /// What stands in a lane at a row, where the lane shows this.
 fn add_cell(text: &mut String, row: &Row<'_>, shown: Lane, lane: u8) -> Result<(), AllocError>
-    ensures { IfOk result (λ _. string_bytes text.new ≡ string_bytes text.old ++ cell row.now.threads row.now.thread row.now.from row.now.sign.now (map (λ w. w.now) row.now.words.now) shown lane) }
+    ensures { IfOk result (λ _. string_bytes text.new ≡ string_bytes text.old ++ cell row.now.extent row.now.thread row.now.from row.now.sign.now (map (λ w. w.now) row.now.words.now) shown lane) }
 {
     match part_at(row, lane) {
         Part::Stays => add_sign(text, row, shown, lane),
         Part::Covered => Ok(()),
         Part::Mark => add_mark(text, row),
         Part::Origin => add_origin(text, row, lane),
-        Part::Arrow => fill(text, "─", width(row.threads)),
+        Part::Arrow => fill(text, "─", width(&row.extent)),
     }
 }
 
 fn add_cells(text: &mut String, row: &Row<'_>, lanes: &[Lane; 65]) -> Result<(), AllocError>
-    requires { row.now.threads ≤ 64 }
-    ensures { IfOk result (λ _. string_bytes text.new ≡ string_bytes text.old ++ cells row.now.threads row.now.thread row.now.from row.now.sign.now (map (λ w. w.now) row.now.words.now) lanes.now) }
+    requires { row.now.extent.threads ≤ 64 }
+    ensures { IfOk result (λ _. string_bytes text.new ≡ string_bytes text.old ++ cells row.now.extent row.now.thread row.now.from row.now.sign.now (map (λ w. w.now) row.now.words.now) lanes.now) }
 {
-    for index in 0..row.threads {
+    for index in 0..row.extent.threads {
         add_cell(text, row, lanes[usize::from(index) + 1], index + 1)?;
     }
     Ok(())
 }
 
 /// The words of a line behind all lanes, where these have no room for them.
-fn add_tail(text: &mut String, row: &Row<'_>) -> Result<(), AllocError>
-    ensures { IfOk result (λ _. string_bytes text.new ≡ string_bytes text.old ++ tail row.now.threads row.now.thread (map (λ w. w.now) row.now.words.now)) }
+fn add_tail(text: &mut String, names: &Names, row: &Row<'_>) -> Result<(), AllocError>
+    ensures { IfOk result (λ _. string_bytes text.new ≡ string_bytes text.old ++ tail names.now row.now.extent row.now.thread (map (λ w. w.now) row.now.words.now)) }
 {
-    if is_wide(row.threads) {
+    if is_wide(&row.extent) {
         return Ok(());
     }
     let mut digits = Buffer::new();
-    add(text, &["  t", digits.format(row.thread), " "])?;
+    let label = names.thread(row.thread, &mut digits);
+    add(text, &["  ", label.head, label.tail, " "])?;
     add(text, row.words)
 }
 
 /// The name of a mutex's owner; nothing is told of a lost one beside that it is lost.
-fn owner_pieces(digits: &mut Buffer, object: Object) -> [&str; 3]
-    ensures { map (λ p. p.now) result ≡ owner_pieces object }
+fn owner_pieces<'a>(names: &'a Names, digits: &'a mut Buffer, object: Object) -> [&'a str; 3]
+    ensures { map (λ p. p.now) result ≡ owner_pieces names.now object }
 {
     let mark = if object.inconsistent { "!" } else { "" };
     match object.owner {
-        Some(owner) => ["t", digits.format(owner.get()), mark],
+        Some(owner) => {
+            let label = names.thread(owner.get(), digits);
+            [label.head, label.tail, mark]
+        }
         None => {
             if object.unusable {
                 ["lost", "", ""]
@@ -265,13 +271,22 @@ fn owner_pieces(digits: &mut Buffer, object: Object) -> [&str; 3]
     }
 }
 
-fn add_bands(text: &mut String, count: usize, objects: &[Object; 16]) -> Result<(), AllocError>
-    requires { count ≤ 16 }
-    ensures { IfOk result (λ _. string_bytes text.new ≡ string_bytes text.old ++ bands_text count objects.now) }
+fn add_bands(
+    text: &mut String,
+    names: &Names,
+    extent: &Extent,
+    objects: &[Object; 16],
+) -> Result<(), AllocError>
+    requires { extent.now.bands.count ≤ 16 }
+    ensures { IfOk result (λ _. string_bytes text.new ≡ string_bytes text.old ++ bands_text names.now extent.now objects.now) }
 {
-    for mutex in 0..count {
+    for band in 0..extent.bands.count {
         let mut digits = Buffer::new();
-        add_padded(text, &owner_pieces(&mut digits, objects[mutex]), BAND)?;
+        add_padded(
+            text,
+            &owner_pieces(names, &mut digits, objects[band]),
+            band_width(extent),
+        )?;
     }
     Ok(())
 }
@@ -289,50 +304,48 @@ fn add_event(text: &mut String, event: u32) -> Result<(), AllocError>
 /// The row of a line of this event, behind which all lanes and bands show this.
 fn add_row_of(
     text: &mut String,
+    names: &Names,
     event: u32,
-    bands: usize,
     scene: &Scene,
     row: &Row<'_>,
 ) -> Result<(), AllocError>
-    requires few { row.now.threads ≤ 64 }
-    requires narrow { bands ≤ 16 }
-    ensures { IfOk result (λ _. string_bytes text.new ≡ string_bytes text.old ++ row_of row.now.threads bands scene.now event row.now.thread row.now.from row.now.sign.now (map (λ w. w.now) row.now.words.now)) }
+    requires few { row.now.extent.threads ≤ 64 }
+    requires narrow { row.now.extent.bands.count ≤ 16 }
+    ensures { IfOk result (λ _. string_bytes text.new ≡ string_bytes text.old ++ row_of names.now row.now.extent scene.now event row.now.thread row.now.from row.now.sign.now (map (λ w. w.now) row.now.words.now)) }
 {
     add_event(text, event)?;
-    add_bands(text, bands, &scene.objects)?;
+    add_bands(text, names, &row.extent, &scene.objects)?;
     add_cells(text, row, &scene.lanes)?;
-    add_tail(text, row)?;
+    add_tail(text, names, row)?;
     add(text, &["\n"])
 }
 
 /// The row of a line, behind which all lanes and bands show this.
 pub fn add_row(
     text: &mut String,
-    threads: u8,
-    bands: usize,
+    names: &Names,
+    extent: &Extent,
     scene: &Scene,
     line: &Line,
 ) -> Result<(), AllocError>
-    requires few { threads ≤ 64 }
-    requires narrow { bands ≤ 16 }
-    ensures { IfOk result (λ _. string_bytes text.new ≡ string_bytes text.old ++ row_text threads bands scene.now line.now) }
+    requires few { extent.now.threads ≤ 64 }
+    requires narrow { extent.now.bands.count ≤ 16 }
+    ensures { IfOk result (λ _. string_bytes text.new ≡ string_bytes text.old ++ row_text names.now extent.now scene.now line.now) }
 {
     let thread = line.fact.thread();
     let from = arrow_from(scene.actor, &line.fact);
     let shown = scene.lanes[usize::from(thread.get())];
     let mut firsts = Buffer::new();
     let mut seconds = Buffer::new();
-    let first = firsts.format(first_number(&line.fact));
-    let second = seconds.format(second_number(&line.fact));
-    let words = words(shown, &line.fact, first, second);
+    let words = words(names, shown, &line.fact, &mut firsts, &mut seconds);
     let row = Row {
-        threads,
+        extent: *extent,
         thread: thread.get(),
         from,
         sign: sign(&line.fact, from),
         words: &words,
     };
-    add_row_of(text, line.event, bands, scene, &row)
+    add_row_of(text, names, line.event, scene, &row)
 }
 
 /// The last row: how many events there were.

@@ -1,24 +1,22 @@
 //! What all lanes and bands show, line after line.
 
-ghost use Rattle.std.specs.Prelude.{◌≡◌, List};
+ghost use Rattle.std.specs.Prelude.{◌≡◌, ◌≤◌};
 ghost use Rattle.facts.specs.Facts.{decision_of};
 ghost use Rattle.keys.specs.Objects.{stepped};
 ghost use Rattle.picture.specs.Scenes.{actor_of, behind, first_scene, lanes_behind, objects_behind};
 
+use crate::bands::Bands;
 use crate::lane::Lane;
 use facts::{Fact, Line};
 use keys::{Decision, Object, Operation};
 use lockword::{Reply, Tid};
-
-/// How many mutexes have a band at most: the first ones.
-pub const BANDS: usize = 16;
 
 /// What all lanes and bands show behind a line.
 #[derive(Clone, Copy)]
 pub struct Scene {
     /// By the threads' ids, from 0, which is no thread's.
     pub lanes: [Lane; 65],
-    /// The first mutexes, by their numbers.
+    /// The mutexes that have bands, from left to right.
     pub objects: [Object; 16],
     /// The number of the line's event, 0 before the first line.
     pub event: u32,
@@ -61,6 +59,10 @@ fn stepped(object: Object, decision: &Decision) -> Object
             },
             _ => object,
         },
+        Operation::Reinit => match decision.reply {
+            Reply::OK => Object::new(),
+            _ => object,
+        },
         Operation::Wait | Operation::Signal | Operation::Broadcast => object,
     }
 }
@@ -89,14 +91,14 @@ fn lanes_behind(lanes: [Lane; 65], fact: &Fact) -> [Lane; 65]
     lanes
 }
 
-fn objects_behind(objects: [Object; 16], decision: Option<Decision>) -> [Object; 16]
-    ensures { result ≡ objects_behind objects decision }
+fn objects_behind(bands: &Bands, objects: [Object; 16], decision: Option<Decision>) -> [Object; 16]
+    requires { bands.now.count ≤ 16 }
+    ensures { result ≡ objects_behind bands.now objects decision }
 {
     let mut objects = objects;
     if let Some(decision) = decision {
-        let mutex = usize::from(decision.mutex);
-        if mutex < BANDS {
-            objects[mutex] = stepped(objects[mutex], &decision);
+        if let Some(band) = bands.place(decision.mutex) {
+            objects[band] = stepped(objects[band], &decision);
         }
     }
     objects
@@ -116,8 +118,9 @@ impl Scene {
     }
 
     /// Behind a line, the first of `lines`.
-    pub fn behind(self, line: &Line, lines: &[Line]) -> Scene
-        ensures { result ≡ behind self line.now lines.now }
+    pub fn behind(self, bands: &Bands, line: &Line, lines: &[Line]) -> Scene
+        requires { bands.now.count ≤ 16 }
+        ensures { result ≡ behind bands.now self line.now lines.now }
     {
         let actor = if line.event == self.event {
             self.actor
@@ -126,7 +129,7 @@ impl Scene {
         };
         Scene {
             lanes: lanes_behind(self.lanes, &line.fact),
-            objects: objects_behind(self.objects, line.fact.decision()),
+            objects: objects_behind(bands, self.objects, line.fact.decision()),
             event: line.event,
             actor,
         }

@@ -1,11 +1,13 @@
 //! The shapes of an SVG picture.
 
 ghost use Rattle.std.specs.Prelude.{◌≡◌, ◌++◌, ◌≤◌, ◌<◌, ◌^◌, map, option_map, string_bytes, IfOk};
-ghost use Rattle.picture.specs.Shapes.{arrow_shape, band_class, band_shape, lane_class, lane_shape, mark_class, mark_path, mark_shape, number_label, owner_label, owner_of, rectangle, stretch, words_label, words_y};
+ghost use Rattle.picture.specs.Shapes.{arrow_shape, band_class, band_shape, lane_class, lane_shape, mark_class, mark_path, mark_shape, name_label, number_label, owner_label, owner_of, rectangle, stretch, words_label, words_y};
 
+use crate::bands::Extent;
 use crate::lane::Lane;
+use crate::names::{Label, Names};
 use crate::pieces::add;
-use crate::places::{NUMBER_X, band_x, row_y, words_x};
+use crate::places::{NUMBER_X, band_middle, band_wide, band_x, row_y, words_x};
 use facts::Fact;
 use itoa::Buffer;
 use keys::Object;
@@ -109,45 +111,50 @@ fn band_class(object: Object) -> Option<&'static str>
     }
 }
 
-/// The name of an owner, at the head of what its band shows.
-fn add_owner(text: &mut String, owner: u8, left: u32, top: u128) -> Result<(), AllocError>
-    requires low { left < 2 ^ 20 }
-    requires high { top < 2 ^ 70 }
-    ensures { IfOk result (λ _. string_bytes text.new ≡ string_bytes text.old ++ owner_label owner left top) }
+/// The name of a thing, its middle here.
+pub fn add_name(text: &mut String, label: Label<'_>, middle: u32, y: u128) -> Result<(), AllocError>
+    ensures { IfOk result (λ _. string_bytes text.new ≡ string_bytes text.old ++ name_label label.entry.head.now label.entry.tail.now middle y) }
 {
-    let mut lefts = Buffer::new();
-    let mut tops = Buffer::new();
-    let mut owners = Buffer::new();
-    let left = lefts.format(left + 11);
-    let top = tops.format(top + 4);
-    let owner = owners.format(owner);
+    let mut middles = Buffer::new();
+    let mut rows = Buffer::new();
+    let middle = middles.format(middle);
+    let row = rows.format(y);
     add(
         text,
-        &[
-            "<text class=\"h\" x=\"",
-            left,
-            "\" y=\"",
-            top,
-            "\">t",
-            owner,
-            "</text>\n",
-        ],
-    )
+        &["<text class=\"h\" x=\"", middle, "\" y=\"", row, "\">"],
+    )?;
+    add(text, &[label.head, label.tail, "</text>"])
+}
+
+/// The name of an owner, at the head of what its band shows.
+fn add_owner(
+    text: &mut String,
+    names: &Names,
+    owner: u8,
+    middle: u32,
+    top: u128,
+) -> Result<(), AllocError>
+    requires { top < 2 ^ 70 }
+    ensures { IfOk result (λ _. string_bytes text.new ≡ string_bytes text.old ++ owner_label names.now owner middle top) }
+{
+    let mut digits = Buffer::new();
+    add_name(text, names.thread(owner, &mut digits), middle, top + 4)?;
+    add(text, &["\n"])
 }
 
 /// The name of an owner, where there is one.
 fn add_owner_of(
     text: &mut String,
+    names: &Names,
     owner: Option<Tid>,
-    left: u32,
+    middle: u32,
     top: u128,
 ) -> Result<(), AllocError>
-    requires low { left < 2 ^ 20 }
-    requires high { top < 2 ^ 70 }
-    ensures { IfOk result (λ _. string_bytes text.new ≡ string_bytes text.old ++ owner_of owner left top) }
+    requires { top < 2 ^ 70 }
+    ensures { IfOk result (λ _. string_bytes text.new ≡ string_bytes text.old ++ owner_of names.now owner middle top) }
 {
     match owner {
-        Some(owner) => add_owner(text, owner.get(), left, top),
+        Some(owner) => add_owner(text, names, owner.get(), middle, top),
         None => Ok(()),
     }
 }
@@ -155,36 +162,46 @@ fn add_owner_of(
 /// A part of a band, from one line to another one.
 fn add_stretch(
     text: &mut String,
+    names: &Names,
+    extent: &Extent,
     class: &str,
     owner: Option<Tid>,
-    mutex: usize,
+    band: usize,
     from: usize,
     to: usize,
 ) -> Result<(), AllocError>
-    requires { mutex ≤ 16 }
-    ensures { IfOk result (λ _. string_bytes text.new ≡ string_bytes text.old ++ stretch class.now owner mutex from to) }
+    requires { band ≤ 16 }
+    ensures { IfOk result (λ _. string_bytes text.new ≡ string_bytes text.old ++ stretch names.now extent.now class.now owner band from to) }
 {
-    let left = band_x(mutex);
     let top = row_y(from);
     let height = row_y(to).saturating_sub(top);
-    add_rectangle(text, class, left, top - 9, 22, height)?;
-    add_owner_of(text, owner, left, top)
+    add_rectangle(
+        text,
+        class,
+        band_x(extent, band),
+        top - 9,
+        band_wide(extent),
+        height,
+    )?;
+    add_owner_of(text, names, owner, band_middle(extent, band), top)
 }
 
 /// What a band showed from one line to another one.
 pub fn add_band(
     text: &mut String,
+    names: &Names,
+    extent: &Extent,
     object: Object,
-    mutex: usize,
+    band: usize,
     from: usize,
     to: usize,
 ) -> Result<(), AllocError>
-    requires { mutex ≤ 16 }
-    ensures { IfOk result (λ _. string_bytes text.new ≡ string_bytes text.old ++ band_shape object mutex from to) }
+    requires { band ≤ 16 }
+    ensures { IfOk result (λ _. string_bytes text.new ≡ string_bytes text.old ++ band_shape names.now extent.now object band from to) }
 {
     let owner = object.owner;
     match band_class(object) {
-        Some(class) => add_stretch(text, class, owner, mutex, from, to),
+        Some(class) => add_stretch(text, names, extent, class, owner, band, from, to),
         None => Ok(()),
     }
 }

@@ -1,27 +1,32 @@
 //! The parts of an SVG picture: what lanes and bands show from line to line, and over that the lines' marks.
 
-ghost use Rattle.std.specs.Prelude.{◌≡◌, ◌++◌, ◌≤◌, ◌<◌, codes, map, string_bytes, IfOk};
+ghost use Rattle.std.specs.Prelude.{◌≡◌, ◌++◌, ◌≤◌, ◌<◌, decimal, map, string_bytes, IfOk};
 ghost use Rattle.facts.specs.Facts.{decision_of};
-ghost use Rattle.picture.specs.Svg.{band_part, band_rests, begins_at, ends_lane, extent_of, first_since, foot_text, lane_part, lane_rests, line_marks, line_parts, mark_of, marks_of, rests, since_band, since_lane, svg_band, svg_bands, svg_heads, svg_lane, svg_lanes, svg_open};
+ghost use Rattle.picture.specs.Svg.{band_part, band_rests, begins_at, ends_lane, first_since, foot_text, lane_line, lane_part, lane_rests, line_marks, line_parts, mark_of, marks_of, rests, since_band, since_lane, svg_band, svg_bands, svg_heads, svg_lane, svg_lanes, svg_open};
 
+use crate::bands::{Bands, Extent};
+use crate::names::Names;
 use crate::pieces::add;
-use crate::places::{MARGIN, band_x, lane_x, row_y};
+use crate::places::{band_middle, lane_x, row_y, words_room};
 use crate::rows::{arrow_from, is_right_of};
-use crate::scene::{BANDS, Scene};
-use crate::shapes::{add_arrow, add_band, add_lane, add_mark, add_number, add_words};
+use crate::scene::Scene;
+use crate::shapes::{add_arrow, add_band, add_lane, add_mark, add_name, add_number, add_words};
 use crate::style::style;
-use crate::words::{first_number, second_number, words};
+use crate::words::words;
 use facts::{Fact, Line};
 use itoa::Buffer;
 use keys::Decision;
 use std::alloc::AllocError;
+
+/// Where the names of bands and lanes stand.
+const NAME_Y: u128 = 20;
 
 /// Since which line, from 1, each lane and each band shows what it shows; 0 before the first line.
 #[derive(Clone, Copy)]
 pub struct Since {
     /// By the threads' ids.
     pub lanes: [usize; 65],
-    /// By the mutexes' numbers.
+    /// From left to right.
     pub bands: [usize; 16],
 }
 
@@ -51,14 +56,19 @@ fn since_lane(lanes: [usize; 65], fact: &Fact, line: usize) -> [usize; 65]
     lanes
 }
 
-fn since_band(bands: [usize; 16], decision: Option<Decision>, line: usize) -> [usize; 16]
-    ensures { result ≡ since_band bands decision line }
+fn since_band(
+    shown: &Bands,
+    bands: [usize; 16],
+    decision: Option<Decision>,
+    line: usize,
+) -> [usize; 16]
+    requires { shown.now.count ≤ 16 }
+    ensures { result ≡ since_band shown.now bands decision line }
 {
     let mut bands = bands;
     if let Some(decision) = decision {
-        let mutex = usize::from(decision.mutex);
-        if mutex < BANDS {
-            bands[mutex] = line;
+        if let Some(band) = shown.place(decision.mutex) {
+            bands[band] = line;
         }
     }
     bands
@@ -76,45 +86,27 @@ impl Since {
     }
 
     /// Behind this line.
-    pub fn behind(self, fact: &Fact, line: usize) -> Since
-        ensures { result ≡ begins_at self fact.now line }
+    pub fn behind(self, shown: &Bands, fact: &Fact, line: usize) -> Since
+        requires { shown.now.count ≤ 16 }
+        ensures { result ≡ begins_at shown.now self fact.now line }
     {
         Since {
             lanes: since_lane(self.lanes, fact, line),
-            bands: since_band(self.bands, fact.decision(), line),
+            bands: since_band(shown, self.bands, fact.decision(), line),
         }
-    }
-}
-
-/// How many lanes and bands a picture has.
-#[derive(Clone, Copy)]
-pub struct Extent {
-    pub threads: u8,
-    pub bands: usize,
-}
-
-/// The extent of the picture of a trace of so many threads and mutexes.
-pub fn extent_of(threads: u8, mutexes: u16) -> Extent
-    ensures value { result ≡ extent_of threads mutexes }
-    ensures few { result.threads ≤ 64 }
-    ensures narrow { result.bands ≤ 16 }
-{
-    Extent {
-        threads: threads.min(64),
-        bands: usize::from(mutexes).min(BANDS),
     }
 }
 
 fn add_lane_part(
     text: &mut String,
-    extent: Extent,
+    extent: &Extent,
     scene: &Scene,
     since: &Since,
     fact: &Fact,
     line: usize,
 ) -> Result<(), AllocError>
-    requires { extent.bands ≤ 16 }
-    ensures { IfOk result (λ _. string_bytes text.new ≡ string_bytes text.old ++ lane_part extent scene.now since.now fact.now line) }
+    requires { extent.now.bands.count ≤ 16 }
+    ensures { IfOk result (λ _. string_bytes text.new ≡ string_bytes text.old ++ lane_part extent.now scene.now since.now fact.now line) }
 {
     if !ends_lane(fact) {
         return Ok(());
@@ -124,7 +116,7 @@ fn add_lane_part(
     add_lane(
         text,
         scene.lanes[at],
-        lane_x(extent.threads, extent.bands, thread),
+        lane_x(extent, thread),
         since.lanes[at],
         line,
     )
@@ -132,59 +124,67 @@ fn add_lane_part(
 
 fn add_band_part(
     text: &mut String,
-    extent: Extent,
+    names: &Names,
+    extent: &Extent,
     scene: &Scene,
     since: &Since,
     decision: Option<Decision>,
     line: usize,
 ) -> Result<(), AllocError>
-    requires { extent.bands ≤ 16 }
-    ensures { IfOk result (λ _. string_bytes text.new ≡ string_bytes text.old ++ band_part extent scene.now since.now decision line) }
+    requires { extent.now.bands.count ≤ 16 }
+    ensures { IfOk result (λ _. string_bytes text.new ≡ string_bytes text.old ++ band_part names.now extent.now scene.now since.now decision line) }
 {
     let Some(decision) = decision else {
         return Ok(());
     };
-    let mutex = usize::from(decision.mutex);
-    if mutex < extent.bands {
-        add_band(text, scene.objects[mutex], mutex, since.bands[mutex], line)
-    } else {
-        Ok(())
+    match extent.bands.place(decision.mutex) {
+        Some(band) => add_band(
+            text,
+            names,
+            extent,
+            scene.objects[band],
+            band,
+            since.bands[band],
+            line,
+        ),
+        None => Ok(()),
     }
 }
 
 /// What this line ends: what its lane showed, and what its mutex's band showed.
 pub fn add_parts(
     text: &mut String,
-    extent: Extent,
+    names: &Names,
+    extent: &Extent,
     scene: &Scene,
     since: &Since,
     fact: &Fact,
     line: usize,
 ) -> Result<(), AllocError>
-    requires { extent.bands ≤ 16 }
-    ensures { IfOk result (λ _. string_bytes text.new ≡ string_bytes text.old ++ line_parts extent scene.now since.now fact.now line) }
+    requires { extent.now.bands.count ≤ 16 }
+    ensures { IfOk result (λ _. string_bytes text.new ≡ string_bytes text.old ++ line_parts names.now extent.now scene.now since.now fact.now line) }
 {
     add_lane_part(text, extent, scene, since, fact, line)?;
-    add_band_part(text, extent, scene, since, fact.decision(), line)
+    add_band_part(text, names, extent, scene, since, fact.decision(), line)
 }
 
 fn add_lane_rests(
     text: &mut String,
-    extent: Extent,
+    extent: &Extent,
     scene: &Scene,
     since: &Since,
     line: usize,
 ) -> Result<(), AllocError>
-    requires few { extent.threads ≤ 64 }
-    requires narrow { extent.bands ≤ 16 }
-    ensures { IfOk result (λ _. string_bytes text.new ≡ string_bytes text.old ++ lane_rests extent scene.now.lanes since.now.lanes line) }
+    requires few { extent.now.threads ≤ 64 }
+    requires narrow { extent.now.bands.count ≤ 16 }
+    ensures { IfOk result (λ _. string_bytes text.new ≡ string_bytes text.old ++ lane_rests extent.now scene.now.lanes since.now.lanes line) }
 {
     for index in 0..extent.threads {
         let at = usize::from(index) + 1;
         add_lane(
             text,
             scene.lanes[at],
-            lane_x(extent.threads, extent.bands, index + 1),
+            lane_x(extent, index + 1),
             since.lanes[at],
             line,
         )?;
@@ -194,16 +194,25 @@ fn add_lane_rests(
 
 fn add_band_rests(
     text: &mut String,
-    extent: Extent,
+    names: &Names,
+    extent: &Extent,
     scene: &Scene,
     since: &Since,
     line: usize,
 ) -> Result<(), AllocError>
-    requires { extent.bands ≤ 16 }
-    ensures { IfOk result (λ _. string_bytes text.new ≡ string_bytes text.old ++ band_rests extent scene.now.objects since.now.bands line) }
+    requires { extent.now.bands.count ≤ 16 }
+    ensures { IfOk result (λ _. string_bytes text.new ≡ string_bytes text.old ++ band_rests names.now extent.now scene.now.objects since.now.bands line) }
 {
-    for mutex in 0..extent.bands {
-        add_band(text, scene.objects[mutex], mutex, since.bands[mutex], line)?;
+    for band in 0..extent.bands.count {
+        add_band(
+            text,
+            names,
+            extent,
+            scene.objects[band],
+            band,
+            since.bands[band],
+            line,
+        )?;
     }
     Ok(())
 }
@@ -211,38 +220,34 @@ fn add_band_rests(
 /// What lanes and bands show up to the end, at this line.
 pub fn add_rests(
     text: &mut String,
-    extent: Extent,
+    names: &Names,
+    extent: &Extent,
     scene: &Scene,
     since: &Since,
     line: usize,
 ) -> Result<(), AllocError>
-    requires few { extent.threads ≤ 64 }
-    requires narrow { extent.bands ≤ 16 }
-    ensures { IfOk result (λ _. string_bytes text.new ≡ string_bytes text.old ++ rests extent scene.now since.now line) }
+    requires few { extent.now.threads ≤ 64 }
+    requires narrow { extent.now.bands.count ≤ 16 }
+    ensures { IfOk result (λ _. string_bytes text.new ≡ string_bytes text.old ++ rests names.now extent.now scene.now since.now line) }
 {
     add_lane_rests(text, extent, scene, since, line)?;
-    add_band_rests(text, extent, scene, since, line)
+    add_band_rests(text, names, extent, scene, since, line)
 }
 
 /// A line's mark, or the arrow to its lane.
 fn add_mark_of(
     text: &mut String,
-    extent: Extent,
+    extent: &Extent,
     fact: &Fact,
     from: Option<u8>,
     line: usize,
 ) -> Result<(), AllocError>
-    requires { extent.bands ≤ 16 }
-    ensures { IfOk result (λ _. string_bytes text.new ≡ string_bytes text.old ++ mark_of extent fact.now from line) }
+    requires { extent.now.bands.count ≤ 16 }
+    ensures { IfOk result (λ _. string_bytes text.new ≡ string_bytes text.old ++ mark_of extent.now fact.now from line) }
 {
-    let middle = lane_x(extent.threads, extent.bands, fact.thread().get());
+    let middle = lane_x(extent, fact.thread().get());
     match from {
-        Some(actor) => add_arrow(
-            text,
-            lane_x(extent.threads, extent.bands, actor),
-            middle,
-            line,
-        ),
+        Some(actor) => add_arrow(text, lane_x(extent, actor), middle, line),
         None => add_mark(text, fact, middle, line),
     }
 }
@@ -250,18 +255,18 @@ fn add_mark_of(
 /// The number of a line's event, its mark in the lane of its thread, and these words.
 fn add_marks(
     text: &mut String,
-    extent: Extent,
+    extent: &Extent,
     fact: &Fact,
     event: u32,
     from: Option<u8>,
     words: &[&str],
     number: usize,
 ) -> Result<(), AllocError>
-    requires { extent.bands ≤ 16 }
-    ensures { IfOk result (λ _. string_bytes text.new ≡ string_bytes text.old ++ marks_of extent fact.now event from (map (λ w. w.now) words.now) number) }
+    requires { extent.now.bands.count ≤ 16 }
+    ensures { IfOk result (λ _. string_bytes text.new ≡ string_bytes text.old ++ marks_of extent.now fact.now event from (map (λ w. w.now) words.now) number) }
 {
     let thread = fact.thread().get();
-    let middle = lane_x(extent.threads, extent.bands, thread);
+    let middle = lane_x(extent, thread);
     add_number(text, event, number)?;
     add_mark_of(text, extent, fact, from, number)?;
     add_words(text, words, middle, number, is_right_of(thread, from))
@@ -270,107 +275,105 @@ fn add_marks(
 /// A line: the number of its event, its mark in the lane of its thread, and its words.
 pub fn add_line(
     text: &mut String,
-    extent: Extent,
+    names: &Names,
+    extent: &Extent,
     scene: &Scene,
     line: &Line,
     number: usize,
 ) -> Result<(), AllocError>
-    requires { extent.bands ≤ 16 }
-    ensures { IfOk result (λ _. string_bytes text.new ≡ string_bytes text.old ++ line_marks extent scene.now line.now number) }
+    requires { extent.now.bands.count ≤ 16 }
+    ensures { IfOk result (λ _. string_bytes text.new ≡ string_bytes text.old ++ line_marks names.now extent.now scene.now line.now number) }
 {
     let thread = line.fact.thread().get();
     let from = arrow_from(scene.actor, &line.fact);
     let shown = scene.lanes[usize::from(thread)];
     let mut firsts = Buffer::new();
     let mut seconds = Buffer::new();
-    let first = firsts.format(first_number(&line.fact));
-    let second = seconds.format(second_number(&line.fact));
-    let words = words(shown, &line.fact, first, second);
+    let words = words(names, shown, &line.fact, &mut firsts, &mut seconds);
     add_marks(text, extent, &line.fact, line.event, from, &words, number)
 }
 
 /// The name of a band.
-fn add_band_name(text: &mut String, mutex: usize) -> Result<(), AllocError>
-    requires { mutex ≤ 16 }
-    ensures { IfOk result (λ _. string_bytes text.new ≡ string_bytes text.old ++ svg_band mutex) }
+fn add_band_name(
+    text: &mut String,
+    names: &Names,
+    extent: &Extent,
+    band: usize,
+) -> Result<(), AllocError>
+    requires { band < 16 }
+    ensures { IfOk result (λ _. string_bytes text.new ≡ string_bytes text.old ++ svg_band names.now extent.now band) }
 {
-    let mut lefts = Buffer::new();
-    let mut names = Buffer::new();
-    let left = lefts.format(band_x(mutex) + 11);
-    let name = names.format(mutex);
-    add(
-        text,
-        &[
-            "<text class=\"h\" x=\"",
-            left,
-            "\" y=\"20\">m",
-            name,
-            "</text>\n",
-        ],
-    )
+    let mut digits = Buffer::new();
+    let label = names.mutex(extent.bands.mutexes[band], &mut digits);
+    add_name(text, label, band_middle(extent, band), NAME_Y)?;
+    add(text, &["\n"])
 }
 
-fn add_band_names(text: &mut String, bands: usize) -> Result<(), AllocError>
-    requires { bands ≤ 16 }
-    ensures { IfOk result (λ _. string_bytes text.new ≡ string_bytes text.old ++ svg_bands bands) }
+fn add_band_names(text: &mut String, names: &Names, extent: &Extent) -> Result<(), AllocError>
+    requires { extent.now.bands.count ≤ 16 }
+    ensures { IfOk result (λ _. string_bytes text.new ≡ string_bytes text.old ++ svg_bands names.now extent.now) }
 {
-    for mutex in 0..bands {
-        add_band_name(text, mutex)?;
+    for band in 0..extent.bands.count {
+        add_band_name(text, names, extent, band)?;
     }
     Ok(())
+}
+
+/// The line that stands for a lane's time.
+fn add_lane_line(text: &mut String, middle: u32, bottom: u128) -> Result<(), AllocError>
+    ensures { IfOk result (λ _. string_bytes text.new ≡ string_bytes text.old ++ lane_line (decimal middle) (decimal bottom)) }
+{
+    let mut middles = Buffer::new();
+    let mut bottoms = Buffer::new();
+    let middle = middles.format(middle);
+    let low = bottoms.format(bottom);
+    add(
+        text,
+        &["<path class=\"l\" d=\"M", middle, " 28V", low, "\"/>\n"],
+    )
 }
 
 /// The name of a lane, and the line that stands for its time.
 fn add_lane_name(
     text: &mut String,
-    extent: Extent,
+    names: &Names,
+    extent: &Extent,
     bottom: u128,
     lane: u8,
 ) -> Result<(), AllocError>
-    requires { extent.bands ≤ 16 }
-    ensures { IfOk result (λ _. string_bytes text.new ≡ string_bytes text.old ++ svg_lane extent bottom lane) }
+    requires { extent.now.bands.count ≤ 16 }
+    ensures { IfOk result (λ _. string_bytes text.new ≡ string_bytes text.old ++ svg_lane names.now extent.now bottom lane) }
 {
-    let mut bottoms = Buffer::new();
-    let mut middles = Buffer::new();
-    let mut names = Buffer::new();
-    let middle = middles.format(lane_x(extent.threads, extent.bands, lane));
-    let name = names.format(lane);
-    let low = bottoms.format(bottom);
-    add(
-        text,
-        &[
-            "<text class=\"h\" x=\"",
-            middle,
-            "\" y=\"20\">t",
-            name,
-            "</text><path class=\"l\" d=\"M",
-            middle,
-            " 28V",
-            low,
-            "\"/>\n",
-        ],
-    )
+    let mut digits = Buffer::new();
+    let middle = lane_x(extent, lane);
+    add_name(text, names.thread(lane, &mut digits), middle, NAME_Y)?;
+    add_lane_line(text, middle, bottom)
 }
 
-fn add_lane_names(text: &mut String, extent: Extent, bottom: u128) -> Result<(), AllocError>
-    requires few { extent.threads ≤ 64 }
-    requires narrow { extent.bands ≤ 16 }
-    ensures { IfOk result (λ _. string_bytes text.new ≡ string_bytes text.old ++ svg_lanes extent bottom) }
+fn add_lane_names(
+    text: &mut String,
+    names: &Names,
+    extent: &Extent,
+    bottom: u128,
+) -> Result<(), AllocError>
+    requires few { extent.now.threads ≤ 64 }
+    requires narrow { extent.now.bands.count ≤ 16 }
+    ensures { IfOk result (λ _. string_bytes text.new ≡ string_bytes text.old ++ svg_lanes names.now extent.now bottom) }
 {
     for index in 0..extent.threads {
-        add_lane_name(text, extent, bottom, index + 1)?;
+        add_lane_name(text, names, extent, bottom, index + 1)?;
     }
     Ok(())
 }
 
 /// The size of the picture and the style of its shapes.
-fn add_open(text: &mut String, extent: Extent, lines: usize) -> Result<(), AllocError>
-    requires { extent.bands ≤ 16 }
-    ensures { IfOk result (λ _. string_bytes text.new ≡ string_bytes text.old ++ svg_open extent lines) }
+fn add_open(text: &mut String, extent: &Extent, lines: usize) -> Result<(), AllocError>
+    requires { extent.now.bands.count ≤ 16 }
+    ensures { IfOk result (λ _. string_bytes text.new ≡ string_bytes text.old ++ svg_open extent.now lines) }
 {
     let mut widths = Buffer::new();
     let mut heights = Buffer::new();
-    let width = widths.format(lane_x(extent.threads, extent.bands, extent.threads) + MARGIN);
+    let width = widths.format(lane_x(extent, extent.threads) + words_room(extent));
     let height = heights.format(row_y(lines) + 36);
     add(
         text,
@@ -390,14 +393,19 @@ fn add_open(text: &mut String, extent: Extent, lines: usize) -> Result<(), Alloc
 }
 
 /// What stands before all lines, of which there are so many.
-pub fn add_svg_heads(text: &mut String, extent: Extent, lines: usize) -> Result<(), AllocError>
-    requires few { extent.threads ≤ 64 }
-    requires narrow { extent.bands ≤ 16 }
-    ensures { IfOk result (λ _. string_bytes text.new ≡ string_bytes text.old ++ svg_heads extent lines) }
+pub fn add_svg_heads(
+    text: &mut String,
+    names: &Names,
+    extent: &Extent,
+    lines: usize,
+) -> Result<(), AllocError>
+    requires few { extent.now.threads ≤ 64 }
+    requires narrow { extent.now.bands.count ≤ 16 }
+    ensures { IfOk result (λ _. string_bytes text.new ≡ string_bytes text.old ++ svg_heads names.now extent.now lines) }
 {
     add_open(text, extent, lines)?;
-    add_band_names(text, extent.bands)?;
-    add_lane_names(text, extent, row_y(lines) + 18)
+    add_band_names(text, names, extent)?;
+    add_lane_names(text, names, extent, row_y(lines) + 18)
 }
 
 /// What stands behind all lines: the number of events.

@@ -5,11 +5,11 @@ ghost use Rattle.streams.specs.Leaves.{Leaves};
 ghost use Rattle.picture.specs.Scenes.{first_scene};
 ghost use Rattle.picture.specs.Svg.{first_since, foot_text, line_marks, line_parts, marks, parts, rests, svg_drawn, svg_heads};
 
+use crate::bands::{BANDS, Extent};
 use crate::drawing::{Unwritten, write_text};
+use crate::names::Names;
 use crate::scene::Scene;
-use crate::svg::{
-    Extent, Since, add_foot, add_line, add_parts, add_rests, add_svg_heads, extent_of,
-};
+use crate::svg::{Since, add_foot, add_line, add_parts, add_rests, add_svg_heads};
 use facts::{Fact, Line};
 use std::alloc::Global;
 use std::io::Write;
@@ -19,106 +19,121 @@ const PART: usize = 16_384;
 
 fn write_svg_heads<W: Write>(
     part: &mut String,
-    extent: Extent,
+    names: &Names,
+    extent: &Extent,
     lines: usize,
     out: &mut W,
 ) -> Result<(), Unwritten>
-    requires few { extent.threads ≤ 64 }
-    requires narrow { extent.bands ≤ 16 }
-    ensures { Leaves (W.contents out.old) (W.contents out.new) result (svg_heads extent lines) }
+    requires few { extent.now.threads ≤ 64 }
+    requires narrow { extent.now.bands.count ≤ 16 }
+    ensures { Leaves (W.contents out.old) (W.contents out.new) result (svg_heads names.now extent.now lines) }
 {
     part.clear();
-    add_svg_heads(part, extent, lines)?;
+    add_svg_heads(part, names, extent, lines)?;
     write_text(part, out)
 }
 
 fn write_line_parts<W: Write>(
     part: &mut String,
-    extent: Extent,
+    names: &Names,
+    extent: &Extent,
     scene: &Scene,
     since: &Since,
     fact: &Fact,
     line: usize,
     out: &mut W,
 ) -> Result<(), Unwritten>
-    requires { extent.bands ≤ 16 }
-    ensures { Leaves (W.contents out.old) (W.contents out.new) result (line_parts extent scene.now since.now fact.now line) }
+    requires { extent.now.bands.count ≤ 16 }
+    ensures { Leaves (W.contents out.old) (W.contents out.new) result (line_parts names.now extent.now scene.now since.now fact.now line) }
 {
     part.clear();
-    add_parts(part, extent, scene, since, fact, line)?;
+    add_parts(part, names, extent, scene, since, fact, line)?;
     write_text(part, out)
 }
 
 fn write_rests<W: Write>(
     part: &mut String,
-    extent: Extent,
+    names: &Names,
+    extent: &Extent,
     scene: &Scene,
     since: &Since,
     line: usize,
     out: &mut W,
 ) -> Result<(), Unwritten>
-    requires few { extent.threads ≤ 64 }
-    requires narrow { extent.bands ≤ 16 }
-    ensures { Leaves (W.contents out.old) (W.contents out.new) result (rests extent scene.now since.now line) }
+    requires few { extent.now.threads ≤ 64 }
+    requires narrow { extent.now.bands.count ≤ 16 }
+    ensures { Leaves (W.contents out.old) (W.contents out.new) result (rests names.now extent.now scene.now since.now line) }
 {
     part.clear();
-    add_rests(part, extent, scene, since, line)?;
+    add_rests(part, names, extent, scene, since, line)?;
     write_text(part, out)
 }
 
 /// What lanes and bands show from line to line.
 fn write_parts<W: Write>(
     part: &mut String,
-    extent: Extent,
+    names: &Names,
+    extent: &Extent,
     lines: &[Line],
     out: &mut W,
 ) -> Result<(), Unwritten>
-    requires few { extent.threads ≤ 64 }
-    requires narrow { extent.bands ≤ 16 }
-    ensures { Leaves (W.contents out.old) (W.contents out.new) result (parts extent first_scene first_since 1 lines.now) }
+    requires few { extent.now.threads ≤ 64 }
+    requires narrow { extent.now.bands.count ≤ 16 }
+    ensures { Leaves (W.contents out.old) (W.contents out.new) result (parts names.now extent.now first_scene first_since 1 lines.now) }
 {
     let mut scene = Scene::new();
     let mut since = Since::new();
     for index in 0..lines.len() {
         let line = &lines[index];
-        write_line_parts(part, extent, &scene, &since, &line.fact, index + 1, out)?;
-        scene = scene.behind(line, &lines[index..]);
-        since = since.behind(&line.fact, index + 1);
+        write_line_parts(
+            part,
+            names,
+            extent,
+            &scene,
+            &since,
+            &line.fact,
+            index + 1,
+            out,
+        )?;
+        scene = scene.behind(&extent.bands, line, &lines[index..]);
+        since = since.behind(&extent.bands, &line.fact, index + 1);
     }
-    write_rests(part, extent, &scene, &since, lines.len() + 1, out)
+    write_rests(part, names, extent, &scene, &since, lines.len() + 1, out)
 }
 
 fn write_line<W: Write>(
     part: &mut String,
-    extent: Extent,
+    names: &Names,
+    extent: &Extent,
     scene: &Scene,
     line: &Line,
     number: usize,
     out: &mut W,
 ) -> Result<(), Unwritten>
-    requires { extent.bands ≤ 16 }
-    ensures { Leaves (W.contents out.old) (W.contents out.new) result (line_marks extent scene.now line.now number) }
+    requires { extent.now.bands.count ≤ 16 }
+    ensures { Leaves (W.contents out.old) (W.contents out.new) result (line_marks names.now extent.now scene.now line.now number) }
 {
     part.clear();
-    add_line(part, extent, scene, line, number)?;
+    add_line(part, names, extent, scene, line, number)?;
     write_text(part, out)
 }
 
 /// The marks of all lines.
 fn write_marks<W: Write>(
     part: &mut String,
-    extent: Extent,
+    names: &Names,
+    extent: &Extent,
     lines: &[Line],
     out: &mut W,
 ) -> Result<(), Unwritten>
-    requires { extent.bands ≤ 16 }
-    ensures { Leaves (W.contents out.old) (W.contents out.new) result (marks extent first_scene 1 lines.now) }
+    requires { extent.now.bands.count ≤ 16 }
+    ensures { Leaves (W.contents out.old) (W.contents out.new) result (marks names.now extent.now first_scene 1 lines.now) }
 {
     let mut scene = Scene::new();
     for index in 0..lines.len() {
         let line = &lines[index];
-        scene = scene.behind(line, &lines[index..]);
-        write_line(part, extent, &scene, line, index + 1, out)?;
+        scene = scene.behind(&extent.bands, line, &lines[index..]);
+        write_line(part, names, extent, &scene, line, index + 1, out)?;
     }
     Ok(())
 }
@@ -137,22 +152,24 @@ fn write_foot<W: Write>(
 }
 
 /// Draws a trace of so many threads and mutexes as SVG, time running downwards: each of its lines once, in the order of the trace, with the number of its
-/// event, and its mark in the lane of its thread. `last` is the number of events. At an error a beginning of the picture is written.
+/// event, and its mark in the lane of its thread. Things are called by these names. `last` is the number of events. At an error a beginning of the picture
+/// is written.
 pub fn draw_svg<W: Write>(
     alloc: Global,
+    names: &Names,
     threads: u8,
     mutexes: u16,
     lines: &[Line],
     last: u32,
     out: &mut W,
 ) -> Result<(), Unwritten>
-    ensures { Leaves (W.contents out.old) (W.contents out.new) result (svg_drawn threads mutexes lines.now last) }
+    ensures { Leaves (W.contents out.old) (W.contents out.new) result (svg_drawn names.now threads mutexes lines.now last) }
 {
     let mut part = String::with_capacity(alloc, PART)?;
-    let extent = extent_of(threads, mutexes);
+    let extent = Extent::of(BANDS, names, threads, mutexes, lines);
     let count = lines.len();
-    write_svg_heads(&mut part, extent, count, out)?;
-    write_parts(&mut part, extent, lines, out)?;
-    write_marks(&mut part, extent, lines, out)?;
+    write_svg_heads(&mut part, names, &extent, count, out)?;
+    write_parts(&mut part, names, &extent, lines, out)?;
+    write_marks(&mut part, names, &extent, lines, out)?;
     write_foot(&mut part, last, count, out)
 }

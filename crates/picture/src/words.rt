@@ -1,64 +1,41 @@
 //! The words of a line, beside its mark.
 
-ghost use Rattle.std.specs.Prelude.{◌≡◌, [], ◌∷◌, decimal, map};
-ghost use Rattle.picture.specs.Words.{begin_words, call_first, call_second, differs, first_number, point_words, queue_number, second_number, sleep_words, words};
+ghost use Rattle.std.specs.Prelude.{◌≡◌, map};
+ghost use Rattle.picture.specs.Words.{begin_words, differs, point_words, sleep_words, words};
 
 use crate::lane::Lane;
+use crate::names::Names;
 use facts::{Begun, Fact, Queue};
+use itoa::Buffer;
 use keys::{Decision, Operation};
 
 /// The pieces of a line's words.
-pub type Words<'a> = [&'a str; 6];
+pub type Words<'a> = [&'a str; 7];
 
-/// The number of a mutex or a condition variable.
-fn queue_number(queue: Queue) -> u16
-    ensures { result ≡ queue_number queue }
-{
-    match queue {
-        Queue::Mutex(mutex) => mutex,
-        Queue::Condition(condition) => condition,
-    }
-}
-
-/// The first number in the words of a line; 0 where they have none.
-pub fn first_number(fact: &Fact) -> u16
-    ensures { result ≡ first_number fact.now }
-{
-    match *fact {
-        Fact::Begin(_, call) => match call.condition {
-            Some(condition) => condition,
-            None => call.mutex,
-        },
-        Fact::Point(decision) => decision.mutex,
-        Fact::Death(_, mutex) => mutex,
-        Fact::Sleep(_, queue) => queue_number(queue),
-        Fact::Move(_, mutex) => mutex,
-        Fact::Wake(_) | Fact::Return(..) | Fact::Kill(_) | Fact::Reap(_) | Fact::Renew(_) => 0,
-    }
-}
-
-/// The second one.
-pub fn second_number(fact: &Fact) -> u16
-    ensures { result ≡ second_number fact.now }
-{
-    match *fact {
-        Fact::Begin(_, call) => match call.condition {
-            Some(_) => call.mutex,
-            None => 0,
-        },
-        _ => 0,
-    }
-}
-
-fn begin_words<'a>(call: Begun, first: &'a str, second: &'a str) -> Words<'a>
-    requires first { first.now ≡ decimal (call_first call.condition call.mutex) }
-    requires second { second.now ≡ decimal (call_second call.condition call.mutex) }
-    ensures { map (λ p. p.now) result ≡ begin_words call.condition call.operation call.mutex }
+fn begin_words<'a>(
+    names: &'a Names,
+    call: Begun,
+    firsts: &'a mut Buffer,
+    seconds: &'a mut Buffer,
+) -> Words<'a>
+    ensures { map (λ p. p.now) result ≡ begin_words names.now call.condition call.operation call.mutex }
 {
     let word: &'a str = call.operation.word();
+    let mutex = names.mutex(call.mutex, firsts);
     match call.condition {
-        Some(_) => [word, " c", first, " m", second, ""],
-        None => [word, " m", first, "", "", ""],
+        Some(number) => {
+            let condition = names.condition(number, seconds);
+            [
+                word,
+                " ",
+                condition.head,
+                condition.tail,
+                " ",
+                mutex.head,
+                mutex.tail,
+            ]
+        }
+        None => [word, " ", mutex.head, mutex.tail, "", "", ""],
     }
 }
 
@@ -72,54 +49,69 @@ fn differs(called: Option<Operation>, operation: Operation) -> bool
     }
 }
 
-fn point_words<'a>(called: Option<Operation>, decision: Decision, mutex: &'a str) -> Words<'a>
-    requires { mutex.now ≡ decimal decision.mutex }
-    ensures { map (λ p. p.now) result ≡ point_words called decision }
+fn point_words<'a>(
+    names: &'a Names,
+    called: Option<Operation>,
+    decision: Decision,
+    digits: &'a mut Buffer,
+) -> Words<'a>
+    ensures { map (λ p. p.now) result ≡ point_words names.now called decision }
 {
     let word: &'a str = decision.operation.word();
     let reply: &'a str = decision.reply.name();
+    let mutex = names.mutex(decision.mutex, digits);
     if differs(called, decision.operation) {
-        ["m", mutex, " ", word, " ", reply]
+        [mutex.head, mutex.tail, " ", word, " ", reply, ""]
     } else {
-        ["m", mutex, " ", "", "", reply]
+        [mutex.head, mutex.tail, " ", "", "", reply, ""]
     }
 }
 
-fn sleep_words<'a>(queue: Queue, number: &'a str) -> Words<'a>
-    requires { number.now ≡ decimal (queue_number queue) }
-    ensures { map (λ p. p.now) result ≡ sleep_words queue }
+fn sleep_words<'a>(names: &'a Names, queue: Queue, digits: &'a mut Buffer) -> Words<'a>
+    ensures { map (λ p. p.now) result ≡ sleep_words names.now queue }
 {
-    match queue {
-        Queue::Mutex(_) => ["on m", number, "", "", "", ""],
-        Queue::Condition(_) => ["on c", number, "", "", "", ""],
-    }
+    let label = match queue {
+        Queue::Mutex(mutex) => names.mutex(mutex, digits),
+        Queue::Condition(condition) => names.condition(condition, digits),
+    };
+    ["on ", label.head, label.tail, "", "", "", ""]
 }
 
-/// The words of a line, whose lane shows this, and in which these are the numbers.
-pub fn words<'a>(lane: Lane, fact: &Fact, first: &'a str, second: &'a str) -> Words<'a>
-    requires first { first.now ≡ decimal (first_number fact.now) }
-    requires second { second.now ≡ decimal (second_number fact.now) }
-    ensures { map (λ p. p.now) result ≡ words lane fact.now }
+/// The words of a line, whose lane shows this. The buffers are room for numbers.
+pub fn words<'a>(
+    names: &'a Names,
+    lane: Lane,
+    fact: &Fact,
+    firsts: &'a mut Buffer,
+    seconds: &'a mut Buffer,
+) -> Words<'a>
+    ensures { map (λ p. p.now) result ≡ words names.now lane fact.now }
 {
     match *fact {
         Fact::Begin(_, call) => {
-            let pieces: Words<'a> = begin_words(call, first, second);
+            let pieces: Words<'a> = begin_words(names, call, firsts, seconds);
             pieces
         }
         Fact::Point(decision) => {
-            let pieces: Words<'a> = point_words(lane.called(), decision, first);
+            let pieces: Words<'a> = point_words(names, lane.called(), decision, firsts);
             pieces
         }
-        Fact::Death(..) => ["m", first, " owner died", "", "", ""],
-        Fact::Sleep(_, queue) => sleep_words(queue, first),
-        Fact::Wake(_) => ["woken", "", "", "", "", ""],
-        Fact::Move(..) => ["to m", first, "", "", "", ""],
+        Fact::Death(_, mutex) => {
+            let label = names.mutex(mutex, firsts);
+            [label.head, label.tail, " owner died", "", "", "", ""]
+        }
+        Fact::Sleep(_, queue) => sleep_words(names, queue, firsts),
+        Fact::Wake(_) => ["woken", "", "", "", "", "", ""],
+        Fact::Move(_, mutex) => {
+            let label = names.mutex(mutex, firsts);
+            ["to ", label.head, label.tail, "", "", "", ""]
+        }
         Fact::Return(_, reply) => {
             let name: &'a str = reply.name();
-            [name, "", "", "", "", ""]
+            [name, "", "", "", "", "", ""]
         }
-        Fact::Kill(_) => ["killed", "", "", "", "", ""],
-        Fact::Reap(_) => ["reaped", "", "", "", "", ""],
-        Fact::Renew(_) => ["renewed", "", "", "", "", ""],
+        Fact::Kill(_) => ["killed", "", "", "", "", "", ""],
+        Fact::Reap(_) => ["reaped", "", "", "", "", "", ""],
+        Fact::Renew(_) => ["renewed", "", "", "", "", "", ""],
     }
 }

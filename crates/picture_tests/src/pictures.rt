@@ -1,19 +1,21 @@
 //! Pictures in text, drawn by hand.
 
 use picture::{
-    draw, marks_stand_in_their_lanes, shown_lanes_stand_in_their_columns, texts_have_room,
+    Names, draw, marks_stand_in_their_lanes, pictures_have_room_for_names,
+    shown_lanes_stand_in_their_columns, texts_have_room, used_mutexes_have_bands,
 };
-use std::alloc::Global;
+use std::alloc::{AllocError, Global};
 use verdict::{check, read_trace};
 
-/// Whether the trace is drawn so.
-fn is_drawn(alloc: Global, trace: &str, picture: &str) -> bool {
+/// Whether the trace is drawn so with these names.
+fn is_drawn_with(alloc: Global, names: &Names, trace: &str, picture: &str) -> bool {
     let Ok(told) = read_trace(alloc, trace.as_bytes()) else {
         return false;
     };
     let mut drawn = Vec::new(alloc);
     draw(
         alloc,
+        names,
         told.head.threads,
         told.head.mutexes,
         &told.lines,
@@ -22,6 +24,11 @@ fn is_drawn(alloc: Global, trace: &str, picture: &str) -> bool {
     )
     .is_ok()
         && drawn.as_slice() == picture.as_bytes()
+}
+
+/// Whether the trace is drawn so, with numbers.
+fn is_drawn(alloc: Global, trace: &str, picture: &str) -> bool {
+    is_drawn_with(alloc, &Names::none(alloc), trace, picture)
 }
 
 /// An owner dies, and the next one is told.
@@ -55,19 +62,19 @@ fn ten_threads(rt: HostRuntime) {
         is_drawn(
             rt.alloc(),
             "trace 10 5 0\n1 begin t3 lock m4\n2 point t3 m4 lock OK\n3 return t3 OK\n4 begin t9 lock m4\n5 sleep t9 m4\n6 begin t3 unlock m4\n7 point t3 m4 unlock OK\n8 wake t9\n8 return t3 OK\n9 point t9 m4 lock OK\n10 kill t10\n11 begin t1 unlock m0\n11 point t1 m0 unlock EPERM\n11 return t1 EPERM\nend 11\n",
-            " event  m0   m1   m2   m3   t   t   t   t   t   t   t   t   t   1\n                            1   2   3   4   5   6   7   8   9   0\n     1  -    -    -    -    ·   ·   ┌   ·   ·   ·   ·   ·   ·   ·  t3 lock m4\n     2  -    -    -    -    ·   ·   ●   ·   ·   ·   ·   ·   ·   ·  t3 m4 OK\n     3  -    -    -    -    ·   ·   └   ·   ·   ·   ·   ·   ·   ·  t3 OK\n     4  -    -    -    -    ·   ·   ·   ·   ·   ·   ·   ·   ┌   ·  t9 lock m4\n     5  -    -    -    -    ·   ·   ·   ·   ·   ·   ·   ·   z   ·  t9 on m4\n     6  -    -    -    -    ·   ·   ┌   ·   ·   ·   ·   ·   z   ·  t3 unlock m4\n     7  -    -    -    -    ·   ·   ●   ·   ·   ·   ·   ·   z   ·  t3 m4 OK\n     8  -    -    -    -    ·   ·   ├───────────────────────>   ·  t9 woken\n     8  -    -    -    -    ·   ·   └   ·   ·   ·   ·   ·   │   ·  t3 OK\n     9  -    -    -    -    ·   ·   ·   ·   ·   ·   ·   ·   ●   ·  t9 m4 OK\n    10  -    -    -    -    ·   ·   ·   ·   ·   ·   ·   ·   │   ╳  t10 killed\n    11  -    -    -    -    ┌   ·   ·   ·   ·   ·   ·   ·   │   ╎  t1 unlock m0\n    11  -    -    -    -    ●   ·   ·   ·   ·   ·   ·   ·   │   ╎  t1 m0 EPERM\n    11  -    -    -    -    └   ·   ·   ·   ·   ·   ·   ·   │   ╎  t1 EPERM\n    11  end\n",
+            " event  m4   m0   t   t   t   t   t   t   t   t   t   1\n                  1   2   3   4   5   6   7   8   9   0\n     1  -    -    ·   ·   ┌   ·   ·   ·   ·   ·   ·   ·  t3 lock m4\n     2  t3   -    ·   ·   ●   ·   ·   ·   ·   ·   ·   ·  t3 m4 OK\n     3  t3   -    ·   ·   └   ·   ·   ·   ·   ·   ·   ·  t3 OK\n     4  t3   -    ·   ·   ·   ·   ·   ·   ·   ·   ┌   ·  t9 lock m4\n     5  t3   -    ·   ·   ·   ·   ·   ·   ·   ·   z   ·  t9 on m4\n     6  t3   -    ·   ·   ┌   ·   ·   ·   ·   ·   z   ·  t3 unlock m4\n     7  -    -    ·   ·   ●   ·   ·   ·   ·   ·   z   ·  t3 m4 OK\n     8  -    -    ·   ·   ├───────────────────────>   ·  t9 woken\n     8  -    -    ·   ·   └   ·   ·   ·   ·   ·   │   ·  t3 OK\n     9  t9   -    ·   ·   ·   ·   ·   ·   ·   ·   ●   ·  t9 m4 OK\n    10  t9   -    ·   ·   ·   ·   ·   ·   ·   ·   │   ╳  t10 killed\n    11  t9   -    ┌   ·   ·   ·   ·   ·   ·   ·   │   ╎  t1 unlock m0\n    11  t9   -    ●   ·   ·   ·   ·   ·   ·   ·   │   ╎  t1 m0 EPERM\n    11  t9   -    └   ·   ·   ·   ·   ·   ·   ·   │   ╎  t1 EPERM\n    11  end\n",
         )
     );
 }
 
-/// Words that are longer than their lane cover the next one.
+/// Words that are longer than their lane cover the next one; and of three mutexes the one that is used has a band.
 #[test]
 fn eight_threads(rt: HostRuntime) {
     assert!(rt;
         is_drawn(
             rt.alloc(),
             "trace 8 3 0\n1 begin t7 consistent m0\n2 begin t8 lock m1\n3 point t7 m0 consistent EPERM\nend 3\n",
-            " event  m0   m1   t1        t2        t3        t4        t5        t6        t7        t8\n     1  -    -    ·         ·         ·         ·         ·         ·         ┌ consistent m0\n     2  -    -    ·         ·         ·         ·         ·         ·         │         ┌ lock m1\n     3  -    -    ·         ·         ·         ·         ·         ·         ● m0 EPERM\n     3  end\n",
+            " event  m0   t1        t2        t3        t4        t5        t6        t7        t8\n     1  -    ·         ·         ·         ·         ·         ·         ┌ consistent m0\n     2  -    ·         ·         ·         ·         ·         ·         │         ┌ lock m1\n     3  -    ·         ·         ·         ·         ·         ·         ● m0 EPERM\n     3  end\n",
         )
     );
 }
@@ -79,27 +86,32 @@ fn seven_threads(rt: HostRuntime) {
         is_drawn(
             rt.alloc(),
             "trace 7 1001 0\n1 begin t1 lock m0\n1 move t2 m1000\n1 move t1 m2\nend 1\n",
-            " event  m0   m1   m2   m3   t1        t2        t3        t4        t5        t6        t7\n     1  -    -    -    -    ┌ lock m0 ·         ·         ·         ·         ·         ·\n     1  -    -    -    -    ├─────────> to m1000          ·         ·         ·         ·\n     1  -    -    -    -    ○ to m2   ·         ·         ·         ·         ·         ·\n     1  end\n",
+            " event  t1        t2        t3        t4        t5        t6        t7\n     1  ┌ lock m0 ·         ·         ·         ·         ·         ·\n     1  ├─────────> to m1000          ·         ·         ·         ·\n     1  ○ to m2   ·         ·         ·         ·         ·         ·\n     1  end\n",
         )
     );
 }
 
 /// Traces and their pictures: lanes of each width, and what else has a place of its own in a row.
-static LANES: [(&str, &str); 16] = [
-    // Two lanes of 24 columns, and bands for eight of nine mutexes.
+static LANES: [(&str, &str); 18] = [
+    // Two lanes of 24 columns, and bands for eight mutexes.
     (
-        "trace 2 9 0\n1 begin t1 lock m0\nend 1\n",
+        "trace 2 8 0\n1 begin t1 lock m0\nend 1\n",
         " event  m0   m1   m2   m3   m4   m5   m6   m7   t1                      t2\n     1  -    -    -    -    -    -    -    -    ┌ lock m0               ·\n     1  end\n",
     ),
-    // Three, and bands for four.
+    // Nine are too many, and none of them is used.
     (
-        "trace 3 9 0\n1 begin t1 lock m0\nend 1\n",
+        "trace 2 9 0\n1 begin t1 lock m0\nend 1\n",
+        " event  t1                      t2\n     1  ┌ lock m0               ·\n     1  end\n",
+    ),
+    // Three lanes, and bands for four mutexes.
+    (
+        "trace 3 4 0\n1 begin t1 lock m0\nend 1\n",
         " event  m0   m1   m2   m3   t1                      t2                      t3\n     1  -    -    -    -    ┌ lock m0               ·                       ·\n     1  end\n",
     ),
-    // Four lanes of 18 columns, and bands for four of five mutexes.
+    // Four lanes of 18 columns, and bands for the first four of five mutexes that are used, of which one has a name of five letters.
     (
-        "trace 4 5 0\n1 begin t2 lock m0\nend 1\n",
-        " event  m0   m1   m2   m3   t1                t2                t3                t4\n     1  -    -    -    -    ·                 ┌ lock m0         ·                 ·\n     1  end\n",
+        "trace 4 1001 0\n1 begin t2 lock m7\n2 point t2 m7 lock OK\n3 return t2 OK\n4 begin t2 lock m1000\n5 point t2 m1000 lock OK\n6 return t2 OK\n7 begin t1 trylock m7\n7 point t1 m7 trylock EBUSY\n7 return t1 EBUSY\n8 begin t1 unlock m2\n8 point t1 m2 unlock EPERM\n8 return t1 EPERM\n9 kill t2\n10 death t2 m7\n11 death t2 m9\n12 death t2 m10\nend 12\n",
+        " event  m7    m1000 m2    m9    t1                t2                t3                t4\n     1  -     -     -     -     ·                 ┌ lock m7         ·                 ·\n     2  t2    -     -     -     ·                 ● m7 OK           ·                 ·\n     3  t2    -     -     -     ·                 └ OK              ·                 ·\n     4  t2    -     -     -     ·                 ┌ lock m1000      ·                 ·\n     5  t2    t2    -     -     ·                 ● m1000 OK        ·                 ·\n     6  t2    t2    -     -     ·                 └ OK              ·                 ·\n     7  t2    t2    -     -     ┌ trylock m7      ·                 ·                 ·\n     7  t2    t2    -     -     ● m7 EBUSY        ·                 ·                 ·\n     7  t2    t2    -     -     └ EBUSY           ·                 ·                 ·\n     8  t2    t2    -     -     ┌ unlock m2       ·                 ·                 ·\n     8  t2    t2    -     -     ● m2 EPERM        ·                 ·                 ·\n     8  t2    t2    -     -     └ EPERM           ·                 ·                 ·\n     9  t2    t2    -     -     ·                 ╳ killed          ·                 ·\n    10  -!    t2    -     -     ·                 ! m7 owner died   ·                 ·\n    11  -!    t2    -     -!    ·                 ! m9 owner died   ·                 ·\n    12  -!    t2    -     -!    ·                 ! m10 owner died  ·                 ·\n    12  end\n",
     ),
     // Five of 14.
     (
@@ -114,7 +126,7 @@ static LANES: [(&str, &str); 16] = [
     // Words behind an arrow from the right that fill their lane: the next one begins where it should.
     (
         "trace 7 1001 1\n1 begin t3 lock m0\n1 move t2 m1000\n2 begin t1 lock m1\nend 2\n",
-        " event  m0   m1   m2   m3   t1        t2        t3        t4        t5        t6        t7\n     1  -    -    -    -    ·         ·         ┌ lock m0 ·         ·         ·         ·\n     1  -    -    -    -    ·         < to m1000┤         ·         ·         ·         ·\n     2  -    -    -    -    ┌ lock m1 ·         │         ·         ·         ·         ·\n     2  end\n",
+        " event  t1        t2        t3        t4        t5        t6        t7\n     1  ·         ·         ┌ lock m0 ·         ·         ·         ·\n     1  ·         < to m1000┤         ·         ·         ·         ·\n     2  ┌ lock m1 ·         │         ·         ·         ·         ·\n     2  end\n",
     ),
     // Sixteen lanes of 4 columns.
     (
@@ -146,15 +158,20 @@ static LANES: [(&str, &str); 16] = [
         "trace 64 1 0\n1 begin t64 lock m0\n2 point t64 m0 lock OK\n3 kill t64\n4 death t64 m0\nend 4\n",
         " event  m0   ttttttttt1111111111222222222233333333334444444444555555555566666\n             1234567890123456789012345678901234567890123456789012345678901234\n     1  -    ·······························································┌  t64 lock m0\n     2  t64  ·······························································●  t64 m0 OK\n     3  t64  ·······························································╳  t64 killed\n     4  -!   ·······························································!  t64 m0 owner died\n     4  end\n",
     ),
-    // Eight of nine mutexes.
+    // The two of nine mutexes that are used.
     (
         "trace 1 9 0\n1 begin t1 lock m7\n2 point t1 m7 lock OK\n3 return t1 OK\n4 begin t1 lock m8\n5 point t1 m8 lock OK\nend 5\n",
-        " event  m0   m1   m2   m3   m4   m5   m6   m7   t1\n     1  -    -    -    -    -    -    -    -    ┌ lock m7\n     2  -    -    -    -    -    -    -    t1   ● m7 OK\n     3  -    -    -    -    -    -    -    t1   └ OK\n     4  -    -    -    -    -    -    -    t1   ┌ lock m8\n     5  -    -    -    -    -    -    -    t1   ● m8 OK\n     5  end\n",
+        " event  m7   m8   t1\n     1  -    -    ┌ lock m7\n     2  t1   -    ● m7 OK\n     3  t1   -    └ OK\n     4  t1   -    ┌ lock m8\n     5  t1   t1   ● m8 OK\n     5  end\n",
     ),
     // A reaped thread lives anew.
     (
         "trace 2 1 0\n1 begin t1 lock m0\n2 kill t1\n3 reaped t1\n4 begin t2 lock m0\n5 renew t1\n6 point t2 m0 lock OK\nend 6\n",
         " event  m0   t1                      t2\n     1  -    ┌ lock m0               ·\n     2  -    ╳ killed                ·\n     3  -    † reaped                ·\n     4  -    †                       ┌ lock m0\n     5  -    * renewed               │\n     6  t2   ·                       ● m0 OK\n     6  end\n",
+    ),
+    // A mutex that is lost is made anew.
+    (
+        "trace 2 1 0\n1 begin t1 lock m0\n2 point t1 m0 lock OK\n3 return t1 OK\n4 kill t1\n5 death t1 m0\n5 reaped t1\n6 begin t2 lock m0\n7 point t2 m0 lock EOWNERDEAD\n8 return t2 EOWNERDEAD\n9 begin t2 unlock m0\n10 point t2 m0 unlock OK\n11 return t2 OK\n12 begin t2 reinit m0\n12 point t2 m0 reinit OK\n12 return t2 OK\nend 12\n",
+        " event  m0   t1                      t2\n     1  -    ┌ lock m0               ·\n     2  t1   ● m0 OK                 ·\n     3  t1   └ OK                    ·\n     4  t1   ╳ killed                ·\n     5  -!   ! m0 owner died         ·\n     5  -!   † reaped                ·\n     6  -!   †                       ┌ lock m0\n     7  t2!  †                       ● m0 EOWNERDEAD\n     8  t2!  †                       └ EOWNERDEAD\n     9  t2!  †                       ┌ unlock m0\n    10  lost †                       ● m0 OK\n    11  lost †                       └ OK\n    12  lost †                       ┌ reinit m0\n    12  -    †                       ● m0 OK\n    12  -    †                       └ OK\n    12  end\n",
     ),
     // A sleeper is killed.
     (
@@ -173,6 +190,70 @@ fn lanes_of_each_width(rt: HostRuntime) {
     for (trace, picture) in &LANES {
         assert!(rt; is_drawn(rt.alloc(), *trace, *picture));
     }
+}
+
+/// Texts of one's own.
+fn texts(alloc: Global, texts: &[&str]) -> Result<Vec<String>, AllocError> {
+    let mut own = Vec::new(alloc);
+    for text in texts {
+        own.push(String::from_str(alloc, text)?)?;
+    }
+    Ok(own)
+}
+
+/// Names of threads, of mutexes and of condition variables.
+type Called = (
+    &'static [&'static str],
+    &'static [&'static str],
+    &'static [&'static str],
+);
+
+fn names(alloc: Global, called: Called) -> Result<Names, AllocError> {
+    let threads = texts(alloc, called.0)?;
+    let mutexes = texts(alloc, called.1)?;
+    let conditions = texts(alloc, called.2)?;
+    Ok(Names::new(threads, mutexes, conditions))
+}
+
+/// Names, traces and their pictures.
+static NAMED: [(Called, &str, &str); 3] = [
+    // An owner dies: columns are as wide as the longest name wants.
+    (
+        (&["alice", "bob"], &["accounts"], &[]),
+        "trace 2 1 0\n1 begin t1 lock m0\n4 point t1 m0 lock OK\n9 return t1 OK\n10 kill t1\n16 death t1 m0\n16 reaped t1\n17 begin t2 lock m0\n20 point t2 m0 lock EOWNERDEAD\n25 return t2 EOWNERDEAD\n26 begin t2 consistent m0\n28 point t2 m0 consistent OK\n28 return t2 OK\nend 28\n",
+        " event  accounts  alice                   bob\n     1  -         ┌ lock accounts         ·\n     4  alice     ● accounts OK           ·\n     9  alice     └ OK                    ·\n    10  alice     ╳ killed                ·\n    16  -!        ! accounts owner died   ·\n    16  -!        † reaped                ·\n    17  -!        †                       ┌ lock accounts\n    20  bob!      †                       ● accounts EOWNERDEAD\n    25  bob!      †                       └ EOWNERDEAD\n    26  bob!      †                       ┌ consistent accounts\n    28  bob       †                       ● accounts OK\n    28  bob       †                       └ OK\n    28  end\n",
+    ),
+    // Eight threads, and a name of sixteen letters: an arrow from the right begins behind it.
+    (
+        (
+            &["a", "b", "c", "d", "e", "f", "g", "h"],
+            &["abcdefghijklmnop"],
+            &["nonempty"],
+        ),
+        "trace 8 1 1\n1 begin t3 wait c0 m0\n1 move t2 m0\nend 1\n",
+        " event  abcdefghijklmnop  a                    b                    c                    d                    e                    f                    g                    h\n     1  -                 ·                    ·                    ┌ wait nonempty abcdefghijklmnop          ·                    ·                    ·                    ·\n     1  -                 ·                    < to abcdefghijklmnop┤                    ·                    ·                    ·                    ·                    ·\n     1  end\n",
+    ),
+    // Nine: names are written downwards.
+    (
+        (
+            &[
+                "one", "two", "three", "four", "five", "six", "seven", "eight", "nine",
+            ],
+            &["m"],
+            &[],
+        ),
+        "trace 9 1 0\n1 begin t3 lock m0\nend 1\n",
+        " event  m      o   t   t   f   f   s   s   e   n\n               n   w   h   o   i   i   e   i   i\n               e   o   r   u   v   x   v   g   n\n                       e   r   e       e   h   e\n                       e               n   t    \n     1  -      ·   ·   ┌   ·   ·   ·   ·   ·   ·  three lock m\n     1  end\n",
+    ),
+];
+
+#[test]
+fn names_stand_in_place_of_numbers(rt: HostRuntime) -> Result<(), AllocError> {
+    for (called, trace, picture) in &NAMED {
+        let names = names(rt.alloc(), *called)?;
+        assert!(rt; is_drawn_with(rt.alloc(), &names, *trace, *picture));
+    }
+    Ok(())
 }
 
 /// A trace that is not legal is drawn as it stands, and one that is no trace is refused as the judge of traces refuses it.
@@ -219,4 +300,6 @@ fn laws_can_be_called(_rt: HostRuntime) {
     marks_stand_in_their_lanes();
     shown_lanes_stand_in_their_columns();
     texts_have_room();
+    pictures_have_room_for_names();
+    used_mutexes_have_bands();
 }

@@ -1,12 +1,12 @@
 //! Pictures in SVG, worked out by hand from the places and shapes that docs/FORMATS.md tells.
 
-use picture::draw_svg;
-use std::alloc::Global;
+use picture::{Names, draw_svg};
+use std::alloc::{AllocError, Global};
 use verdict::read_trace;
 
 /// A trace, what its picture begins with, and what it ends with. Behind the style stand the names of bands and lanes; what the lanes and the bands showed, by the line that ended
 /// it; and the lines.
-static SVG_PICTURES: [(&str, &str, &str); 10] = [
+static SVG_PICTURES: [(&str, &str, &str); 12] = [
     // Two lanes, a wake from the left; and the style, as in examples/dead_owner.svg.
     (
         "trace 2 1 0\n1 begin t1 lock m0\n2 begin t2 lock m0\n3 sleep t2 m0\n4 point t1 m0 lock OK\n5 wake t2\n5 return t1 OK\nend 9\n",
@@ -19,11 +19,23 @@ static SVG_PICTURES: [(&str, &str, &str); 10] = [
         "<svg xmlns=\"http://www.w3.org/2000/svg\" width=\"850\" height=\"408\" viewBox=\"0 0 850 408\">\n<style>",
         "<text class=\"h\" x=\"75\" y=\"20\">m0</text>\n<text class=\"h\" x=\"110\" y=\"20\">t1</text><path class=\"l\" d=\"M110 28V390\"/>\n<text class=\"h\" x=\"170\" y=\"20\">t2</text><path class=\"l\" d=\"M170 28V390\"/>\n<text class=\"h\" x=\"230\" y=\"20\">t3</text><path class=\"l\" d=\"M230 28V390\"/>\n<text class=\"h\" x=\"290\" y=\"20\">t4</text><path class=\"l\" d=\"M290 28V390\"/>\n<text class=\"h\" x=\"350\" y=\"20\">t5</text><path class=\"l\" d=\"M350 28V390\"/>\n<text class=\"h\" x=\"410\" y=\"20\">t6</text><path class=\"l\" d=\"M410 28V390\"/>\n<text class=\"h\" x=\"470\" y=\"20\">t7</text><path class=\"l\" d=\"M470 28V390\"/>\n<text class=\"h\" x=\"530\" y=\"20\">t8</text><path class=\"l\" d=\"M530 28V390\"/>\n<text class=\"h\" x=\"590\" y=\"20\">t9</text><path class=\"l\" d=\"M590 28V390\"/>\n<rect class=\"c\" x=\"165\" y=\"48\" width=\"10\" height=\"36\"/>\n<rect class=\"c\" x=\"225\" y=\"102\" width=\"10\" height=\"18\"/>\n<rect class=\"s\" x=\"225\" y=\"120\" width=\"10\" height=\"18\"/>\n<rect class=\"d\" x=\"225\" y=\"138\" width=\"10\" height=\"18\"/>\n<rect class=\"o\" x=\"64\" y=\"57\" width=\"22\" height=\"126\"/>\n<text class=\"h\" x=\"75\" y=\"70\">t2</text>\n<rect class=\"d\" x=\"165\" y=\"174\" width=\"10\" height=\"36\"/>\n<rect class=\"w\" x=\"64\" y=\"183\" width=\"22\" height=\"54\"/>\n<rect class=\"c\" x=\"105\" y=\"228\" width=\"10\" height=\"36\"/>\n<rect class=\"i\" x=\"64\" y=\"237\" width=\"22\" height=\"54\"/>\n<text class=\"h\" x=\"75\" y=\"250\">t1</text>\n<rect class=\"c\" x=\"105\" y=\"282\" width=\"10\" height=\"36\"/>\n<rect class=\"c\" x=\"585\" y=\"336\" width=\"10\" height=\"36\"/>\n<rect class=\"u\" x=\"64\" y=\"291\" width=\"22\" height=\"90\"/>\n<text class=\"n\" x=\"48\" y=\"52\">1</text><path class=\"b\" d=\"M170 48m-7 0h14\"/><text class=\"t\" x=\"180\" y=\"52\">lock m0</text>\n<text class=\"n\" x=\"48\" y=\"70\">2</text><path class=\"p\" d=\"M170 66m-4 0a4 4 0 1 0 8 0a4 4 0 1 0-8 0\"/><text class=\"t\" x=\"180\" y=\"70\">m0 OK</text>\n<text class=\"n\" x=\"48\" y=\"88\">2</text><path class=\"b\" d=\"M170 84m-7 0h14\"/><text class=\"t\" x=\"180\" y=\"88\">OK</text>\n<text class=\"n\" x=\"48\" y=\"106\">3</text><path class=\"b\" d=\"M230 102m-7 0h14\"/><text class=\"t\" x=\"240\" y=\"106\">lock m0</text>\n<text class=\"n\" x=\"48\" y=\"124\">4</text><path class=\"b\" d=\"M230 120m-4-4h8l-8 8h8\"/><text class=\"t\" x=\"240\" y=\"124\">on m0</text>\n<text class=\"n\" x=\"48\" y=\"142\">5</text><path class=\"k\" d=\"M230 138m-5-5l10 10m0-10l-10 10\"/><text class=\"t\" x=\"240\" y=\"142\">killed</text>\n<text class=\"n\" x=\"48\" y=\"160\">6</text><path class=\"k\" d=\"M230 156m0-6v12m-4-8h8\"/><text class=\"t\" x=\"240\" y=\"160\">reaped</text>\n<text class=\"n\" x=\"48\" y=\"178\">7</text><path class=\"k\" d=\"M170 174m-5-5l10 10m0-10l-10 10\"/><text class=\"t\" x=\"180\" y=\"178\">killed</text>\n<text class=\"n\" x=\"48\" y=\"196\">8</text><path class=\"k\" d=\"M170 192m0-6v7m0 3v2\"/><text class=\"t\" x=\"180\" y=\"196\">m0 owner died</text>\n<text class=\"n\" x=\"48\" y=\"214\">8</text><path class=\"k\" d=\"M170 210m0-6v12m-4-8h8\"/><text class=\"t\" x=\"180\" y=\"214\">reaped</text>\n<text class=\"n\" x=\"48\" y=\"232\">9</text><path class=\"b\" d=\"M110 228m-7 0h14\"/><text class=\"t\" x=\"120\" y=\"232\">lock m0</text>\n<text class=\"n\" x=\"48\" y=\"250\">10</text><path class=\"p\" d=\"M110 246m-4 0a4 4 0 1 0 8 0a4 4 0 1 0-8 0\"/><text class=\"t\" x=\"120\" y=\"250\">m0 EOWNERDEAD</text>\n<text class=\"n\" x=\"48\" y=\"268\">10</text><path class=\"b\" d=\"M110 264m-7 0h14\"/><text class=\"t\" x=\"120\" y=\"268\">EOWNERDEAD</text>\n<text class=\"n\" x=\"48\" y=\"286\">11</text><path class=\"b\" d=\"M110 282m-7 0h14\"/><text class=\"t\" x=\"120\" y=\"286\">unlock m0</text>\n<text class=\"n\" x=\"48\" y=\"304\">12</text><path class=\"p\" d=\"M110 300m-4 0a4 4 0 1 0 8 0a4 4 0 1 0-8 0\"/><text class=\"t\" x=\"120\" y=\"304\">m0 OK</text>\n<text class=\"n\" x=\"48\" y=\"322\">12</text><path class=\"b\" d=\"M110 318m-7 0h14\"/><text class=\"t\" x=\"120\" y=\"322\">OK</text>\n<text class=\"n\" x=\"48\" y=\"340\">13</text><path class=\"b\" d=\"M590 336m-7 0h14\"/><text class=\"t\" x=\"600\" y=\"340\">lock m0</text>\n<text class=\"n\" x=\"48\" y=\"358\">14</text><path class=\"a\" d=\"M590 354H296\"/><text class=\"t\" x=\"300\" y=\"351\">woken</text>\n<text class=\"n\" x=\"48\" y=\"376\">14</text><path class=\"b\" d=\"M590 372m-7 0h14\"/><text class=\"t\" x=\"600\" y=\"376\">ENOTRECOVERABLE</text>\n<text class=\"n\" x=\"48\" y=\"394\">15</text><text x=\"54\" y=\"394\">end</text>\n</svg>\n",
     ),
-    // Sixteen bands of seventeen mutexes.
+    // Sixteen bands.
     (
-        "trace 1 17 0\n1 begin t1 lock m16\nend 1\n",
+        "trace 1 16 0\n1 begin t1 lock m15\nend 1\n",
         "<svg xmlns=\"http://www.w3.org/2000/svg\" width=\"760\" height=\"84\" viewBox=\"0 0 760 84\">\n<style>",
-        "<text class=\"h\" x=\"75\" y=\"20\">m0</text>\n<text class=\"h\" x=\"101\" y=\"20\">m1</text>\n<text class=\"h\" x=\"127\" y=\"20\">m2</text>\n<text class=\"h\" x=\"153\" y=\"20\">m3</text>\n<text class=\"h\" x=\"179\" y=\"20\">m4</text>\n<text class=\"h\" x=\"205\" y=\"20\">m5</text>\n<text class=\"h\" x=\"231\" y=\"20\">m6</text>\n<text class=\"h\" x=\"257\" y=\"20\">m7</text>\n<text class=\"h\" x=\"283\" y=\"20\">m8</text>\n<text class=\"h\" x=\"309\" y=\"20\">m9</text>\n<text class=\"h\" x=\"335\" y=\"20\">m10</text>\n<text class=\"h\" x=\"361\" y=\"20\">m11</text>\n<text class=\"h\" x=\"387\" y=\"20\">m12</text>\n<text class=\"h\" x=\"413\" y=\"20\">m13</text>\n<text class=\"h\" x=\"439\" y=\"20\">m14</text>\n<text class=\"h\" x=\"465\" y=\"20\">m15</text>\n<text class=\"h\" x=\"500\" y=\"20\">t1</text><path class=\"l\" d=\"M500 28V66\"/>\n<rect class=\"c\" x=\"495\" y=\"48\" width=\"10\" height=\"18\"/>\n<text class=\"n\" x=\"48\" y=\"52\">1</text><path class=\"b\" d=\"M500 48m-7 0h14\"/><text class=\"t\" x=\"510\" y=\"52\">lock m16</text>\n<text class=\"n\" x=\"48\" y=\"70\">1</text><text x=\"54\" y=\"70\">end</text>\n</svg>\n",
+        "<text class=\"h\" x=\"75\" y=\"20\">m0</text>\n<text class=\"h\" x=\"101\" y=\"20\">m1</text>\n<text class=\"h\" x=\"127\" y=\"20\">m2</text>\n<text class=\"h\" x=\"153\" y=\"20\">m3</text>\n<text class=\"h\" x=\"179\" y=\"20\">m4</text>\n<text class=\"h\" x=\"205\" y=\"20\">m5</text>\n<text class=\"h\" x=\"231\" y=\"20\">m6</text>\n<text class=\"h\" x=\"257\" y=\"20\">m7</text>\n<text class=\"h\" x=\"283\" y=\"20\">m8</text>\n<text class=\"h\" x=\"309\" y=\"20\">m9</text>\n<text class=\"h\" x=\"335\" y=\"20\">m10</text>\n<text class=\"h\" x=\"361\" y=\"20\">m11</text>\n<text class=\"h\" x=\"387\" y=\"20\">m12</text>\n<text class=\"h\" x=\"413\" y=\"20\">m13</text>\n<text class=\"h\" x=\"439\" y=\"20\">m14</text>\n<text class=\"h\" x=\"465\" y=\"20\">m15</text>\n<text class=\"h\" x=\"500\" y=\"20\">t1</text><path class=\"l\" d=\"M500 28V66\"/>\n<rect class=\"c\" x=\"495\" y=\"48\" width=\"10\" height=\"18\"/>\n<text class=\"n\" x=\"48\" y=\"52\">1</text><path class=\"b\" d=\"M500 48m-7 0h14\"/><text class=\"t\" x=\"510\" y=\"52\">lock m15</text>\n<text class=\"n\" x=\"48\" y=\"70\">1</text><text x=\"54\" y=\"70\">end</text>\n</svg>\n",
+    ),
+    // The one of seventeen mutexes that is used.
+    (
+        "trace 1 17 0\n1 begin t1 lock m16\n2 point t1 m16 lock OK\nend 2\n",
+        "<svg xmlns=\"http://www.w3.org/2000/svg\" width=\"370\" height=\"102\" viewBox=\"0 0 370 102\">\n<style>",
+        "<text class=\"h\" x=\"75\" y=\"20\">m16</text>\n<text class=\"h\" x=\"110\" y=\"20\">t1</text><path class=\"l\" d=\"M110 28V84\"/>\n<rect class=\"c\" x=\"105\" y=\"48\" width=\"10\" height=\"36\"/>\n<rect class=\"o\" x=\"64\" y=\"57\" width=\"22\" height=\"18\"/>\n<text class=\"h\" x=\"75\" y=\"70\">t1</text>\n<text class=\"n\" x=\"48\" y=\"52\">1</text><path class=\"b\" d=\"M110 48m-7 0h14\"/><text class=\"t\" x=\"120\" y=\"52\">lock m16</text>\n<text class=\"n\" x=\"48\" y=\"70\">2</text><path class=\"p\" d=\"M110 66m-4 0a4 4 0 1 0 8 0a4 4 0 1 0-8 0\"/><text class=\"t\" x=\"120\" y=\"70\">m16 OK</text>\n<text class=\"n\" x=\"48\" y=\"88\">2</text><text x=\"54\" y=\"88\">end</text>\n</svg>\n",
+    ),
+    // Bands stand further apart where one has a mutex with a long number.
+    (
+        "trace 1 4096 0\n1 begin t1 lock m4095\n2 point t1 m4095 lock OK\nend 2\n",
+        "<svg xmlns=\"http://www.w3.org/2000/svg\" width=\"384\" height=\"102\" viewBox=\"0 0 384 102\">\n<style>",
+        "<text class=\"h\" x=\"82\" y=\"20\">m4095</text>\n<text class=\"h\" x=\"124\" y=\"20\">t1</text><path class=\"l\" d=\"M124 28V84\"/>\n<rect class=\"c\" x=\"119\" y=\"48\" width=\"10\" height=\"36\"/>\n<rect class=\"o\" x=\"64\" y=\"57\" width=\"36\" height=\"18\"/>\n<text class=\"h\" x=\"82\" y=\"70\">t1</text>\n<text class=\"n\" x=\"48\" y=\"52\">1</text><path class=\"b\" d=\"M124 48m-7 0h14\"/><text class=\"t\" x=\"134\" y=\"52\">lock m4095</text>\n<text class=\"n\" x=\"48\" y=\"70\">2</text><path class=\"p\" d=\"M124 66m-4 0a4 4 0 1 0 8 0a4 4 0 1 0-8 0\"/><text class=\"t\" x=\"134\" y=\"70\">m4095 OK</text>\n<text class=\"n\" x=\"48\" y=\"88\">2</text><text x=\"54\" y=\"88\">end</text>\n</svg>\n",
     ),
     // The last lane of 3, 5, 6, 8, 16, 17 and 64, the only one with a mark.
     (
@@ -63,16 +75,55 @@ static SVG_PICTURES: [(&str, &str, &str); 10] = [
     ),
 ];
 
-/// Whether the trace's picture begins and ends so.
-fn is_drawn(alloc: Global, trace: &str, front: &str, end: &str) -> bool {
+/// Whether the trace's picture with these names begins and ends so.
+fn is_drawn_with(alloc: Global, names: &Names, trace: &str, front: &str, end: &str) -> bool {
     let Ok(told) = read_trace(alloc, trace.as_bytes()) else {
         return false;
     };
     let mut drawn = Vec::new(alloc);
     let (threads, mutexes) = (told.head.threads, told.head.mutexes);
-    draw_svg(alloc, threads, mutexes, &told.lines, told.last, &mut drawn).is_ok()
+    draw_svg(
+        alloc,
+        names,
+        threads,
+        mutexes,
+        &told.lines,
+        told.last,
+        &mut drawn,
+    )
+    .is_ok()
         && drawn.as_slice().starts_with(front.as_bytes())
         && drawn.as_slice().ends_with(end.as_bytes())
+}
+
+/// Whether it begins and ends so, with numbers.
+fn is_drawn(alloc: Global, trace: &str, front: &str, end: &str) -> bool {
+    is_drawn_with(alloc, &Names::none(alloc), trace, front, end)
+}
+
+/// Two threads, alice and bob, and a mutex, accounts.
+fn names(alloc: Global) -> Result<Names, AllocError> {
+    let mut threads = Vec::new(alloc);
+    threads.push(String::from_str(alloc, "alice")?)?;
+    threads.push(String::from_str(alloc, "bob")?)?;
+    let mut mutexes = Vec::new(alloc);
+    mutexes.push(String::from_str(alloc, "accounts")?)?;
+    Ok(Names::new(threads, mutexes, Vec::new(alloc)))
+}
+
+#[test]
+fn names_stand_in_place_of_numbers(rt: HostRuntime) -> Result<(), AllocError> {
+    let names = names(rt.alloc())?;
+    assert!(rt;
+        is_drawn_with(
+            rt.alloc(),
+            &names,
+            "trace 2 1 0\n1 begin t2 lock m0\n2 point t2 m0 lock OK\nend 2\n",
+            "<svg xmlns=\"http://www.w3.org/2000/svg\" width=\"724\" height=\"102\" viewBox=\"0 0 724 102\">\n<style>",
+            "<text class=\"h\" x=\"98\" y=\"20\">accounts</text>\n<text class=\"h\" x=\"156\" y=\"20\">alice</text><path class=\"l\" d=\"M156 28V84\"/>\n<text class=\"h\" x=\"440\" y=\"20\">bob</text><path class=\"l\" d=\"M440 28V84\"/>\n<rect class=\"c\" x=\"435\" y=\"48\" width=\"10\" height=\"36\"/>\n<rect class=\"o\" x=\"64\" y=\"57\" width=\"68\" height=\"18\"/>\n<text class=\"h\" x=\"98\" y=\"70\">bob</text>\n<text class=\"n\" x=\"48\" y=\"52\">1</text><path class=\"b\" d=\"M440 48m-7 0h14\"/><text class=\"t\" x=\"450\" y=\"52\">lock accounts</text>\n<text class=\"n\" x=\"48\" y=\"70\">2</text><path class=\"p\" d=\"M440 66m-4 0a4 4 0 1 0 8 0a4 4 0 1 0-8 0\"/><text class=\"t\" x=\"450\" y=\"70\">accounts OK</text>\n<text class=\"n\" x=\"48\" y=\"88\">2</text><text x=\"54\" y=\"88\">end</text>\n</svg>\n",
+        )
+    );
+    Ok(())
 }
 
 #[test]

@@ -18,6 +18,8 @@ mod processes;
 #[cfg(test)]
 mod program;
 #[cfg(test)]
+mod reinits;
+#[cfg(test)]
 mod renewals;
 #[cfg(test)]
 mod rows;

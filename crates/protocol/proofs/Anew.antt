@@ -1,6 +1,6 @@
 -- What a renewal does, and runs without renewals.
 use Rattle.std.proofs.Common.{◌≡◌, ◌≢◌, ◌⊎◌, ℕ, ◌+◌, ◌<◌, ◌≤◌, ◌==◌, ◌&&◌, Bool, true, false, Option, None, Some, Ok, Err, List, [], ◌∷◌, ◌++◌, map, append-nil, refl, sym, ap, ◌∙◌, subst, arith}
-use Rattle.protocol.proofs.Vocabulary.{Object, Fact, Event, Reply, Queue, XHELD, Decision, Layout', head_place, Op, Note, Nothing, Began, Stepped, Killed, Left, Walked, Renewed, Stage, Reaped, facts_of, State, After, start, begun}
+use Rattle.protocol.proofs.Vocabulary.{Object, Fact, Event, Reply, Queue, XHELD, Decision, Layout', head_place, Op, Note, Nothing, Began, Stepped, Killed, Left, Walked, Renewed, Reinited, Stage, Reaped, facts_of, State, After, start, begun}
 use Rattle.protocol.proofs.Vocabulary.{first_word, happens, nothing, renewed, run, notes, killed, facts_among, if◌then◌else◌, nat_tests, line_of, lines_from}
 use Rattle.keys.specs.Layouts.{head_word}
 use Rattle.facts.specs.declared.fact.Fact.TheVariants.{Renew}
@@ -85,12 +85,13 @@ note_none t (Killed u) one = tt
 note_none t (Left u) one = tt
 note_none t (Walked u d ws y) one = walked_none t u d ws y
 note_none t (Renewed u) one = absurd one
+note_none t (Reinited u m) one = tt
 
 noted_so : (s : State) (e : Event) → IsNoRenewing e → IsOfOne (happens s e).note
 noted_so s e =
     by_event s (λ (x : Event) (a : After). IsNoRenewing x → IsOfOne a.note) (λ x none. tt) (λ u o pos known inside idle b full none. begins_so u o b)
     (λ u pos known none. by_stage s u (λ (a : After). IsOfOne a.note) (λ rests. tt) (λ o p is awake. tt) (λ c p is awake. tt) (λ w is awake. tt))
-    (λ u pos known alive none. tt) (λ u pos known asleep none. tt) (λ u o p pos known is awake trims none. tt) (λ u pos known gone none. absurd none) e
+    (λ u pos known alive none. tt) (λ u pos known asleep none. tt) (λ u o p pos known is awake trims none. tt) (λ u pos known gone none. absurd none) (λ u m may none. tt) e
   where
     begins_so : (u : ℕ) (o : Op) (b : Bool) → IsOfOne (begun s u o (if b then Err XHELD else Ok (begins_at s.layout u o))).note
     begins_so u o true = tt
@@ -112,6 +113,7 @@ noted_none t s (Event.Step u ∷ es) none = not_renewed_both t (facts_of (happen
 noted_none t s (Event.Kill u ∷ es) none = not_renewed_both t (facts_of (happens s (Event.Kill u)).note) _ (none_renewed t s (Event.Kill u) tt) (noted_none t (happens s (Event.Kill u)).state es none)
 noted_none t s (Event.Leave u ∷ es) none = not_renewed_both t (facts_of (happens s (Event.Leave u)).note) _ (none_renewed t s (Event.Leave u) tt) (noted_none t (happens s (Event.Leave u)).state es none)
 noted_none t s (Event.Decline u ∷ es) none = not_renewed_both t (facts_of (happens s (Event.Decline u)).note) _ (none_renewed t s (Event.Decline u) tt) (noted_none t (happens s (Event.Decline u)).state es none)
+noted_none t s (Event.Reinit u m ∷ es) none = not_renewed_both t (facts_of (happens s (Event.Reinit u m)).note) _ (none_renewed t s (Event.Reinit u m) tt) (noted_none t (happens s (Event.Reinit u m)).state es none)
 
 -- behind any of the events too
 behind_none : (before after : List Event) (e : Event) → IsNoRenewing e → NobodyIsRenewed (before ++ e ∷ after) → NobodyIsRenewed after
@@ -121,12 +123,14 @@ behind_none [] after (Event.Step t) other none = none
 behind_none [] after (Event.Kill t) other none = none
 behind_none [] after (Event.Leave t) other none = none
 behind_none [] after (Event.Decline t) other none = none
+behind_none [] after (Event.Reinit t m) other none = none
 behind_none (Event.Renew t ∷ before) after e other none = absurd none
 behind_none (Event.Begin t o ∷ before) after e other none = behind_none before after e other none
 behind_none (Event.Step t ∷ before) after e other none = behind_none before after e other none
 behind_none (Event.Kill t ∷ before) after e other none = behind_none before after e other none
 behind_none (Event.Leave t ∷ before) after e other none = behind_none before after e other none
 behind_none (Event.Decline t ∷ before) after e other none = behind_none before after e other none
+behind_none (Event.Reinit t m ∷ before) after e other none = behind_none before after e other none
 
 -- a thread's lines are some of all
 renewed_or : (t : ℕ) (f : Fact) (fs gs : List Fact) → (IsNotRenewed t fs → IsNotRenewed t gs) → IsNotRenewed t (f ∷ fs) → IsNotRenewed t (f ∷ gs) × IsNotRenewed t gs

@@ -1,7 +1,7 @@
 -- Which events apply.
 use Rattle.std.proofs.Common.{◌≡◌, ◌≢◌, ℕ, ◌≤◌, ◌==◌, Bool, true, false, ◌&&◌, Option, None, Ok, Err, List, [], ◌∷◌, ◌++◌, refl, sym, ap, ◌∙◌, subst, arith, eq-eqb}
-use Rattle.protocol.proofs.Vocabulary.{Left, Renewed, Trimmed, spared, departed, renewed, Whole}
-use Rattle.protocol.specs.Machine.{is_gone}
+use Rattle.protocol.proofs.Vocabulary.{Left, Renewed, Reinited, Trimmed, spared, departed, renewed, reinited, Whole}
+use Rattle.protocol.specs.Machine.{is_gone, may_reinit}
 use Rattle.protocol.proofs.Departures.{asleep_where}
 use Rattle.protocol.proofs.Declines.{decline_goes, decline_rests}
 use Rattle.protocol.proofs.Queued.{asleep_there}
@@ -9,7 +9,7 @@ use Rattle.protocol.proofs.Events.{trims_at}
 use Rattle.protocol.specs.Machine.{is_trim}
 use Rattle.protocol.specs.Applies.{Agrees, IsQuietAccessOf}
 use Rattle.protocol.proofs.Vocabulary.{cond_access, cond_led, Mutex, Condition, Queue, Fact, Decision, Layout', Access, Reply, XHELD, whole_access, whole_led, Op, OnMutex}
-use Rattle.protocol.proofs.Vocabulary.{OnCondition, mutex_of, begun_of, Event, Note, Began, Stepped, Walked, Thread, Stage, Idle, Calling, AtCondition, Dying, Reaped, facts_of}
+use Rattle.protocol.proofs.Vocabulary.{OnCondition, mutex_of, begun_of, Event, Note, Began, Stepped, Walked, Thread, Stage, Idle, Calling, Dying, Reaped, facts_of}
 use Rattle.protocol.proofs.Vocabulary.{return_facts, reap_facts, State, After, put, start, answer_of, is_calling, is_alive, begun, nothing, decision, slept_in, falls_asleep, woken}
 use Rattle.protocol.proofs.Vocabulary.{held_after, led, led_at, went, has_ended, stage_walked, walked, killed, stepped, happens, run, notes, facts_among, if◌then◌else◌, nat_tests}
 use Rattle.protocol.proofs.Vocabulary.{Operation, Told, AtRest, InCall, Dead, Gone, told_next, told_after, last_told, IsLiving, HasAccess, IsThread, IsInNoQueue, Applies, refusal}
@@ -25,7 +25,7 @@ use Rattle.protocol.specs.Machine.{told_of as told_of_death}
 use Rattle.protocol.proofs.Puts.{by_put}
 use Rattle.protocol.proofs.Kept.{Kept}
 use Rattle.protocol.proofs.Runs.{start_kept, run_kept, run_layout}
-use Rattle.protocol.proofs.Events.{begins_at, by_event, IsWorking, by_stage}
+use Rattle.protocol.proofs.Events.{begins_at, by_event, may_so, may_again, IsWorking, by_stage}
 use Rattle.protocol.proofs.Endings.{EndsOrGoes, call_ends, cond_ends}
 use Rattle.protocol.proofs.Queued.{Queued, out_awake, in_none}
 use Rattle.protocol.proofs.QueueRuns.{run_queued}
@@ -82,7 +82,7 @@ module _ (s : State) (u t : ℕ) (w x : Told) (z : Thread) (a : Agrees w (s.thre
   unmoved : (t ≡ u → Agrees w z.stage) → Agrees w (put s.threads u z t).stage
   unmoved b = by_put (λ (y : Thread). Agrees w y.stage) s.threads u z t b (λ apart. a)
 
--- a refused call begins and returns
+-- a call that is refused, or a reinit, begins and returns
 refused_agrees : (s : State) (u t : ℕ) (w : Told) → (s.threads u).stage ≡ Idle → Agrees w (s.threads t).stage → Agrees (if u == t then AtRest else if u == t then InCall else w) (s.threads t).stage
 refused_agrees s u t w idle a = grind (arith)
 
@@ -144,6 +144,7 @@ next_agrees s e t w a =
     (λ u pos known asleep. a)
     (λ u o p pos known is awake trims. spared_agrees s u t (s.threads u).held (mutex_of s.layout o) (led o p (whole_led p (Trimmed false))) w (ap is_calling is) (call_ends o p (whole_led p (Trimmed false))) a)
     (λ u pos known gone. moved s u t w AtRest _ a tt)
+    (λ u m may. refused_agrees s u t w may.resting a)
     e
 
 pub run_agrees : (s : State) (es : List Event) (t : ℕ) (w : Told) → Agrees w (s.threads t).stage → Agrees (told_after t w (facts_among (notes s es))) ((run s es).threads t).stage
@@ -251,6 +252,27 @@ module _ (s : State) (ns : List Note) (inv : Kept s) (queued : Queued s) (agrees
           let gone : is_gone (s.threads t).stage ≡ true = grind (arith, nat_tests) in
           absurd (never ((first, last), told_reaped (last_told t ns) (s.threads t).stage (agrees t) gone))
 
+  -- ---- reinits
+  resting_agrees : (w : Told) (g : Stage) → Agrees w g → w ≡ AtRest → g ≡ Idle
+  resting_agrees w g a at_rest = grind (arith)
+
+  told_resting : (w : Told) (g : Stage) → Agrees w g → g ≡ Idle → w ≡ AtRest
+  told_resting w g a idle = grind (arith)
+
+  reinits_so : (t m : ℕ) → Applies s.layout s ns (Event.Reinit t m) → (happens s (Event.Reinit t m)).note ≡ Reinited t m
+  reinits_so t m on =
+      ap (λ (b : Bool). (if b then reinited s t m else nothing s).note)
+      (may_again s t m record { first = on.0.0; last = on.0.1; resting = resting_agrees (last_told t ns) (s.threads t).stage (agrees t) on.1; inside = on.2; unusable = on.3; unslept = on.4 })
+
+  reinits_else : (t m : ℕ) → ¬ Applies s.layout s ns (Event.Reinit t m) → happens s (Event.Reinit t m) ≡ nothing s
+  reinits_else t m never = go (may_reinit s t m) refl
+    where
+      go : (b : Bool) → may_reinit s t m ≡ b → (if b then reinited s t m else nothing s) ≡ nothing s
+      go false e = refl
+      go true e =
+          let may = may_so s t m e in
+          absurd (never ((may.first, may.last), told_resting (last_told t ns) (s.threads t).stage (agrees t) may.resting, may.inside, may.unusable, may.unslept))
+
   so : (e : Event) → Applies s.layout s ns e → IsNotedAs s.layout s e (happens s e).note
   so (Event.Begin t o) on = begins_so t o on
   so (Event.Step t) on = steps_so t on
@@ -258,6 +280,7 @@ module _ (s : State) (ns : List Note) (inv : Kept s) (queued : Queued s) (agrees
   so (Event.Leave t) on = leaves_so t on
   so (Event.Decline t) on = declines_so t on
   so (Event.Renew t) on = renews_so t on
+  so (Event.Reinit t m) on = reinits_so t m on
 
   idles : (e : Event) → ¬ Applies s.layout s ns e → happens s e ≡ nothing s
   idles (Event.Begin t o) never = begins_else t o never
@@ -266,6 +289,7 @@ module _ (s : State) (ns : List Note) (inv : Kept s) (queued : Queued s) (agrees
   idles (Event.Leave t) never = leaves_else t never
   idles (Event.Decline t) never = declines_else t never
   idles (Event.Renew t) never = renews_else t never
+  idles (Event.Reinit t m) never = reinits_else t m never
 
   next_applies : NextApplies s.layout s ns
   next_applies = record {

@@ -24,8 +24,9 @@ use Rattle.protocol.proofs.Accesses as accesses
 use Rattle.protocol.proofs.WalkSteps.{walk_of, by_walked, walk_no_move, walk_access, row_then, death_then, walk_transition, walk_after, walked-is, DeathTells, WalkStep, walk_step}
 use Rattle.protocol.proofs.Declines.{declined_state, spared_is}
 use Rattle.protocol.proofs.Events.{begins_at, by_event, by_stage, IsTrimming}
-use Rattle.protocol.proofs.Vocabulary.{renewed}
+use Rattle.protocol.proofs.Vocabulary.{renewed, reinited}
 use Rattle.protocol.proofs.Renewals.{renewed_counter, renewed_thread, renewed_other}
+use Rattle.protocol.proofs.Reinits.{reinited_counter}
 use Rattle.protocol.proofs.Working.{walk_is}
 use Rattle.protocol.proofs.Runs.{sound}
 use Rattle.protocol.proofs.CondSteps.{cond_of, at_either, counter_here, leads}
@@ -268,6 +269,12 @@ passes s e inv counted =
       rises = λ k. inl (renewed_counter s t pos known k);
       knows = λ first last. subst (λ (z : Thread). KnowsIn s.layout (renewed s t).state.words z.stage) (sym (renewed_thread s t pos known)) tt;
       theirs = λ u other. ap (λ (z : Thread). z.stage) (renewed_other s t pos known u other);
+    })
+    (λ t m may. record {
+      layout = refl;
+      rises = λ k. inl (reinited_counter s t m may k);
+      knows = λ first last. subst (KnowsIn s.layout (reinited s t m).state.words) (sym may.resting) tt;
+      theirs = λ u other. refl;
     })
     e
   where

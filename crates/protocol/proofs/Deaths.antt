@@ -2,10 +2,11 @@
 use Rattle.std.proofs.Common.{eqb-true, ◌≡◌, ◌≢◌, ◌⊎◌, inl, inr, ℕ, ◌+◌, ◌≤◌, ◌==◌, Bool, true, false, ◌&&◌, Option, Some, None, List, [], ◌∷◌, ◌++◌, map, refl, sym, ap, ◌∙◌, subst, arith}
 use Rattle.protocol.proofs.Declines.{spared_is}
 use Rattle.protocol.proofs.Renewals.{renewed_seen, renewed_other}
+use Rattle.protocol.proofs.Reinits.{unowned, reinited_seen, reinited_far}
 use Rattle.protocol.proofs.Vocabulary.{Operation, OK, eqb-false, Reply, CondCall, condition_of, CondWhole, cond_access, cond_led, Queue, Mutex, Condition, Fact, Access, sleeps_at, Object, XHELD}
 use Rattle.protocol.proofs.Vocabulary.{Whole, whole_access, whole_led, Op, OnCondition, mutex_of, Thread, Event, Stage, Idle, Calling, AtCondition, Reaped, facts_of, death_facts}
 use Rattle.protocol.proofs.Vocabulary.{reap_facts, State, After, place_met, start, run, notes, is_alive, begun, led, led_at, went, answer_of, decision, slept_in, woken_by}
-use Rattle.protocol.proofs.Vocabulary.{moved_by, renewed, walked, has_ended, stepped, happens, killed, seen, facts_among, if◌then◌else◌, nat_tests, Ok, Err}
+use Rattle.protocol.proofs.Vocabulary.{moved_by, renewed, reinited, MayReinit, walked, has_ended, stepped, happens, killed, seen, facts_among, if◌then◌else◌, nat_tests, Ok, Err}
 use Rattle.protocol.proofs.CondAccesses.{cond_stepping}
 use Rattle.exitwalk.specs.declared.row.Row.{Row}
 use Rattle.exitwalk.specs.Standings as walks
@@ -129,11 +130,19 @@ module _ (t m : ℕ) where
     event_lost : (e : Event) → Lost s (happens s e)
     event_lost e = by_event s (λ (x : Event) (a : After). Lost s a) (λ x. omega arith) (λ u o pos known inside idle b full. begun_lost u o b) step_lost (λ u pos known alive. omega arith) (λ u pos known asleep. omega arith)
         (λ u o p pos known is awake trims. subst (Lost s) (sym (spared_is s u o p is trims inv pos known)) (omega arith))
-        (λ u pos known gone. let kept : one t (seen (renewed s u).state m) ≡ one t (seen s m) = ap (one t) (renewed_seen s u pos known m) in omega arith) e
+        (λ u pos known gone. let kept : one t (seen (renewed s u).state m) ≡ one t (seen s m) = ap (one t) (renewed_seen s u pos known m) in omega arith)
+        (λ u k may. let kept = reinit_counts u k may in omega arith) e
       where
         begun_lost : (u : ℕ) (o : Op) (b : Bool) → Lost s (begun s u o (if b then Err XHELD else Ok (begins_at s.layout u o)))
         begun_lost u o true = omega arith
         begun_lost u o false = omega arith
+
+        -- a mutex that is made anew was nobody's, and is
+        reinit_counts : (u k : ℕ) (may : MayReinit s u k) → one t (seen (reinited s u k).state m) ≡ one t (seen s m)
+        reinit_counts u k may =
+            at_or_else (λ (j : ℕ). one t (seen (reinited s u k).state j) ≡ one t (seen s j)) k m
+            (ap (one t) (reinited_seen s u k may) ∙ sym (one-none t (seen s k) (unowned s u k may inv)))
+            (λ apart. ap (one t) (reinited_far s u k may m apart))
 
     -- it stays dead, unless it is renewed
     event_dead : (e : Event) → IsNotRenewed t (facts_of (happens s e).note) → is_alive ((happens s e).state.threads t).stage ≡ false
@@ -141,7 +150,8 @@ module _ (t m : ℕ) where
         by_event s (λ (x : Event) (a : After). IsNotRenewed t (facts_of a.note) → is_alive (a.state.threads t).stage ≡ false) (λ x none. dead) (λ u o pos known inside idle b full none. begun_dead u o idle b) (λ u pos known none. stepped_dead u)
         (λ u pos known alive none. by_put (λ (z : Thread). is_alive z.stage ≡ false) s.threads u _ t (λ e. refl) (λ apart. dead)) (λ u pos known asleep none. dead)
         (λ u o p pos known is awake trims none. ap (λ (z : Thread). is_alive z.stage) (put-other s.threads u _ t (λ e. apart_from u (Calling o p) is refl (sym e))) ∙ dead)
-        (λ u pos known gone none. ap (λ (z : Thread). is_alive z.stage) (renewed_other s u pos known t (λ e. none.0 (sym e))) ∙ dead) e
+        (λ u pos known gone none. ap (λ (z : Thread). is_alive z.stage) (renewed_other s u pos known t (λ e. none.0 (sym e))) ∙ dead)
+        (λ u k may none. dead) e
       where
         begun_dead : (u : ℕ) (o : Op) → (s.threads u).stage ≡ Idle → (b : Bool) → is_alive ((begun s u o (if b then Err XHELD else Ok (begins_at s.layout u o))).state.threads t).stage ≡ false
         begun_dead u o idle true = dead

@@ -1,5 +1,5 @@
 -- What an event does, case by case.
-use Rattle.std.proofs.Common.{◌≡◌, ℕ, ◌<◌, ◌≤◌, Bool, true, false, ◌&&◌, Result, Ok, Err, refl, sym, ap, ◌∙◌, subst, arith}
+use Rattle.std.proofs.Common.{◌≡◌, ℕ, ◌<◌, ◌≤◌, Bool, true, false, ◌&&◌, Result, Ok, Err, List, [], ◌∷◌, refl, sym, ap, ◌∙◌, subst, arith}
 use Rattle.protocol.proofs.Vocabulary.{CondCall, condition_of, CondWhole, Mutex, Condition, Layout', IsLayout, acquires, Reply, XHELD, Whole, whole_access, whole_led, Op, OnMutex}
 use Rattle.protocol.proofs.Vocabulary.{OnCondition, Event, Step, Stage, Idle, Calling, AtCondition, Dying, mutex_of, Names, State, After, is_alive, killed, may_begin, begun}
 use Rattle.protocol.proofs.Vocabulary.{first_stage, nothing, answer_of, is_asleep, led, led_at, went, walked, stepped, happens, if◌then◌else◌, nat_le, nat_tests}
@@ -7,11 +7,13 @@ use Rattle.std.proofs.lemmas.List.Elements.{All-get_or}
 use Rattle.mutex.specs.Whole.{begins}
 use Rattle.condvar.specs.Whole as condition
 use Rattle.exitwalk.specs.Standings as walks
-use Rattle.protocol.specs.declared.event.Event.TheVariants.{Begin, Kill, Leave, Decline, Renew}
+use Rattle.protocol.specs.declared.event.Event.TheVariants.{Begin, Kill, Leave, Decline, Renew, Reinit}
 use Rattle.mutex.specs.declared.row.Row.TheVariants.{Unlock}
-use Rattle.protocol.proofs.Vocabulary.{departed, renewed, spared, sleeps, Reaped, Trimmed, Phase, AtCell, UnlockRow, not}
+use Rattle.protocol.proofs.Vocabulary.{departed, renewed, reinited, spared, sleeps, sleepers, Reaped, Trimmed, Phase, AtCell, UnlockRow, not, nat_lt, Object, MayReinit}
+use Rattle.keys.specs.Accesses.{is_nobody}
+use Rattle.protocol.proofs.Steps.{seen-inside}
 use Rattle.condvar.specs.Ops.{operation_of, is_in}
-use Rattle.protocol.specs.Machine.{has_thread, is_gone, is_idle, is_trim, declined}
+use Rattle.protocol.specs.Machine.{has_thread, is_gone, is_idle, is_trim, is_unusable, may_reinit, declined}
 
 -- whoever may begin is idle
 pub at_rest : (g : Stage) → is_idle g ≡ true → g ≡ Idle
@@ -55,10 +57,41 @@ IsTrimming p = p.phase ≡ AtCell (Unlock UnlockRow.Trim)
 pub trims_at : (p : Whole) (f : Phase) → is_trim (whole_access (record p { phase = f })) ≡ true → f ≡ AtCell (Unlock UnlockRow.Trim)
 trims_at p f e = grind (arith)
 
+-- ---- reinits
+
+nobody_there : (q : List ℕ) → is_nobody q ≡ true → q ≡ []
+nobody_there [] e = refl
+nobody_there (t ∷ ts) e = absurd cc
+
+-- what the test says
+pub may_so : (s : State) (t m : ℕ) → may_reinit s t m ≡ true → MayReinit s t m
+may_so s t m e =
+    let inside : m < s.layout.mutexes = grind (arith, nat_tests) in
+    let unusable : is_unusable s m ≡ true = grind (arith, nat_tests) in
+    record {
+      first = grind (arith, nat_tests);
+      last = grind (arith, nat_tests);
+      resting = at_rest (s.threads t).stage (grind (arith, nat_tests));
+      inside = inside;
+      unusable = ap (λ (o : Object). o.unusable) (seen-inside s m inside) ∙ unusable;
+      unslept = nobody_there (sleepers s m) (grind (arith, nat_tests));
+    }
+
+-- where it may, the test says so
+pub may_again : (s : State) (t m : ℕ) → MayReinit s t m → may_reinit s t m ≡ true
+may_again s t m may =
+    let known : has_thread s t ≡ true = is_known s t may.first may.last in
+    let resting : is_idle (s.threads t).stage ≡ true = ap is_idle may.resting in
+    let below : m < s.layout.mutexes = may.inside in
+    let inside : nat_lt m s.layout.mutexes ≡ true = grind (arith, nat_tests) in
+    let unusable : is_unusable s m ≡ true = sym (ap (λ (o : Object). o.unusable) (seen-inside s m may.inside)) ∙ may.unusable in
+    let unslept : is_nobody (sleepers s m) ≡ true = ap is_nobody may.unslept in
+    grind (arith)
+
 -- ---- events
 
 -- what holds where nothing happens, of a begin that isn't refused and of one that is, of a step, of a death, of a
--- sleeper's leave, of a trim that is declined and of a renewal, holds of each event
+-- sleeper's leave, of a trim that is declined, of a renewal and of a reinit, holds of each event
 pub by_event : (s : State) (P : Event → After → Type 0) → ((e : Event) → P e (nothing s))
     → ((t : ℕ) (o : Op) → 1 ≤ t → t ≤ s.layout.threads → Names s.layout o → (s.threads t).stage ≡ Idle → (b : Bool) → (acquires (operation_of o) && nat_le 2048 (s.threads t).held) ≡ b → P (Begin t o) (begun s t o (if b then Err XHELD else Ok (begins_at s.layout t o))))
     → ((t : ℕ) → 1 ≤ t → t ≤ s.layout.threads → P (Step t) (stepped s t (s.threads t).held (s.threads t).stage))
@@ -67,8 +100,9 @@ pub by_event : (s : State) (P : Event → After → Type 0) → ((e : Event) →
     → ((t : ℕ) (o : Op) (p : Whole) → 1 ≤ t → t ≤ s.layout.threads → (s.threads t).stage ≡ Calling o p → is_asleep s t ≡ false → IsTrimming p
     → P (Decline t) (spared s t (s.threads t).held (mutex_of s.layout o) (led o p (whole_led p (Trimmed false)))))
     → ((t : ℕ) → 1 ≤ t → t ≤ s.layout.threads → (s.threads t).stage ≡ Reaped → P (Renew t) (renewed s t))
+    → ((t m : ℕ) → MayReinit s t m → P (Reinit t m) (reinited s t m))
     → (e : Event) → P e (happens s e)
-by_event s P none begins_so steps_so kills_so leaves_so declines_so renews_so (Begin t o) = go (may_begin s t o) refl
+by_event s P none begins_so steps_so kills_so leaves_so declines_so renews_so reinits_so (Begin t o) = go (may_begin s t o) refl
   where
     go : (b : Bool) → may_begin s t o ≡ b → P (Begin t o) (if b then begun s t o (first_stage s.layout t (s.threads t).held o) else nothing s)
     go true e =
@@ -78,10 +112,10 @@ by_event s P none begins_so steps_so kills_so leaves_so declines_so renews_so (B
         subst (λ (r : Result Stage Reply). P (Begin t o) (begun s t o r)) (sym (first_is s.layout t (s.threads t).held o))
         (begins_so t o pos known (names_so s.layout o inside) (at_rest (s.threads t).stage (grind (arith, nat_tests))) (acquires (operation_of o) && nat_le 2048 (s.threads t).held) refl)
     go false e = none (Begin t o)
-by_event s P none begins_so steps_so kills_so leaves_so declines_so renews_so (Step t) = grind (arith)
-by_event s P none begins_so steps_so kills_so leaves_so declines_so renews_so (Kill t) = grind (arith)
-by_event s P none begins_so steps_so kills_so leaves_so declines_so renews_so (Leave t) = grind (arith)
-by_event s P none begins_so steps_so kills_so leaves_so declines_so renews_so (Decline t) = go (has_thread s t) refl
+by_event s P none begins_so steps_so kills_so leaves_so declines_so renews_so reinits_so (Step t) = grind (arith)
+by_event s P none begins_so steps_so kills_so leaves_so declines_so renews_so reinits_so (Kill t) = grind (arith)
+by_event s P none begins_so steps_so kills_so leaves_so declines_so renews_so reinits_so (Leave t) = grind (arith)
+by_event s P none begins_so steps_so kills_so leaves_so declines_so renews_so reinits_so (Decline t) = go (has_thread s t) refl
   where
     trims : (o : Op) (p : Whole) → has_thread s t ≡ true → (s.threads t).stage ≡ Calling o p → (a : Bool) → is_trim (whole_access p) ≡ a → (b : Bool) → sleeps s t (Calling o p) ≡ b
         → P (Decline t) (if a && not b then spared s t (s.threads t).held (mutex_of s.layout o) (led o p (whole_led p (Trimmed false))) else nothing s)
@@ -99,7 +133,7 @@ by_event s P none begins_so steps_so kills_so leaves_so declines_so renews_so (D
     go : (b : Bool) → has_thread s t ≡ b → P (Decline t) (if b then declined s t (s.threads t).held (s.threads t).stage else nothing s)
     go true there = at there (s.threads t).stage refl
     go false e = none (Decline t)
-by_event s P none begins_so steps_so kills_so leaves_so declines_so renews_so (Renew t) = go (has_thread s t && is_gone (s.threads t).stage) refl
+by_event s P none begins_so steps_so kills_so leaves_so declines_so renews_so reinits_so (Renew t) = go (has_thread s t && is_gone (s.threads t).stage) refl
   where
     go : (b : Bool) → (has_thread s t && is_gone (s.threads t).stage) ≡ b → P (Renew t) (if b then renewed s t else nothing s)
     go true e =
@@ -107,6 +141,11 @@ by_event s P none begins_so steps_so kills_so leaves_so declines_so renews_so (R
         let known : t ≤ s.layout.threads = grind (arith, nat_tests) in
         renews_so t pos known (reaped_is (s.threads t).stage (grind (arith, nat_tests)))
     go false e = none (Renew t)
+by_event s P none begins_so steps_so kills_so leaves_so declines_so renews_so reinits_so (Reinit t m) = go (may_reinit s t m) refl
+  where
+    go : (b : Bool) → may_reinit s t m ≡ b → P (Reinit t m) (if b then reinited s t m else nothing s)
+    go true e = reinits_so t m (may_so s t m e)
+    go false e = none (Reinit t m)
 
 -- ---- steps
 

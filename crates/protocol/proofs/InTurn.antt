@@ -13,7 +13,7 @@ use Rattle.protocol.specs.Notes.{refusal_facts}
 use Rattle.protocol.specs.Wakings.{IsQueue, is_queue, queues_next, queues_after, nobody, IsFront, NameFronts, NotesFronts, AllNoteFronts}
 use Rattle.protocol.specs.Leaves.{NobodyLeaves, FrontsAreWoken}
 use Rattle.protocol.specs.Applies.{IsInAQueue}
-use Rattle.protocol.proofs.Vocabulary.{Nothing, Began, Killed, Left, Renewed}
+use Rattle.protocol.proofs.Vocabulary.{Nothing, Began, Killed, Left, Renewed, Reinited}
 use Rattle.protocol.proofs.Departures.{asleep_where}
 use Rattle.protocol.proofs.Declines.{spared_is}
 use Rattle.protocol.proofs.Puts.{put-same, put-other}
@@ -468,6 +468,7 @@ note_fronts l w (Began t c x) h = h
 note_fronts l w (Stepped t m d z us vs y) h = h
 note_fronts l w (Killed t) h = h
 note_fronts l w (Renewed t) h = h
+note_fronts l w (Reinited t m) h = h
 note_fronts l w (Walked t d us y) h = h
 
 abbrev Tells : State → (Queue → List ℕ) → After → Type 0
@@ -487,6 +488,7 @@ event_tells s e w inv queued said =
     (λ u pos known asleep. ((λ q inside. ap (without u) (said q inside)), leaves_so u (asleep_where s u asleep)))
     (λ u o p pos known is awake trims. subst (Tells s w) (sym (spared_is s u o p is trims inv pos known)) (said, tt))
     (λ u pos known gone. (said, (tt, tt)))
+    (λ u m may. (said, (tt, (tt, (tt, tt)))))
     e
   where
     begins_so : (u : ℕ) (o : Op) (b : Bool) → Tells s w (begun s u o (if b then Err XHELD else Ok (begins_at s.layout u o)))
@@ -537,7 +539,7 @@ no_leave : (s : State) (e : Event) → IsNoLeaving e → IsNoLeave (happens s e)
 no_leave s e =
     by_event s (λ (x : Event) (a : After). IsNoLeaving x → IsNoLeave a.note) (λ x none. tt) (λ u o pos known inside idle b full none. begins_so u o b)
     (λ u pos known none. by_stage s u (λ (a : After). IsNoLeave a.note) (λ rests. tt) (λ o p is awake. tt) (λ c p is awake. tt) (λ v is awake. tt)) (λ u pos known alive none. tt) (λ u pos known asleep none. absurd none)
-    (λ u o p pos known is awake trims none. tt) (λ u pos known gone none. tt) e
+    (λ u o p pos known is awake trims none. tt) (λ u pos known gone none. tt) (λ u m may none. tt) e
   where
     begins_so : (u : ℕ) (o : Op) (b : Bool) → IsNoLeave (begun s u o (if b then Err XHELD else Ok (begins_at s.layout u o))).note
     begins_so u o true = tt
@@ -551,6 +553,7 @@ noted_none s (Event.Step t ∷ es) none = (no_leave s (Event.Step t) tt, noted_n
 noted_none s (Event.Kill t ∷ es) none = (no_leave s (Event.Kill t) tt, noted_none (happens s (Event.Kill t)).state es none)
 noted_none s (Event.Decline t ∷ es) none = (no_leave s (Event.Decline t) tt, noted_none (happens s (Event.Decline t)).state es none)
 noted_none s (Event.Renew t ∷ es) none = (no_leave s (Event.Renew t) tt, noted_none (happens s (Event.Renew t)).state es none)
+noted_none s (Event.Reinit t m ∷ es) none = (no_leave s (Event.Reinit t m) tt, noted_none (happens s (Event.Reinit t m)).state es none)
 
 fronts_of : (l : Layout') (w : Queue → List ℕ) (n : Note) → IsNoLeave n → NotesFronts l w n → NameFronts l w (facts_of n)
 fronts_of l w (Left t) none h = absurd none
@@ -559,6 +562,7 @@ fronts_of l w (Began t c x) none h = h
 fronts_of l w (Stepped t m d z us vs y) none h = h
 fronts_of l w (Killed t) none h = h
 fronts_of l w (Renewed t) none h = h
+fronts_of l w (Reinited t m) none h = h
 fronts_of l w (Walked t d us y) none h = h
 
 all_fronts : (l : Layout') (w : Queue → List ℕ) (ns : List Note) → NoneLeaves ns → AllNoteFronts l w ns → NameFronts l w (facts_among ns)

@@ -1,6 +1,6 @@
 -- How a call that is about to wake somebody has left its mutex.
 use Rattle.std.proofs.Common.{⊎_elim, ◌≡◌, ◌≢◌, ◌⊎◌, ℕ, ◌≤◌, ◌==◌, Bool, true, false, Option, Some, None, Ok, Err, List, [], ◌∷◌, refl, sym, ap, ◌∙◌, subst, arith, eq-eqb, eqb-true}
-use Rattle.protocol.proofs.Vocabulary.{departed, renewed}
+use Rattle.protocol.proofs.Vocabulary.{departed, renewed, reinited, reinit_of}
 use Rattle.protocol.proofs.Renewals.{renewed_thread, renewed_other}
 use Rattle.protocol.proofs.Vocabulary.{Access, Answer, answer_among, answer_at, word_among, Fact, Decision, Begun, Queue, Mutex, Condition, Layout', cell_place, place_in, place_met, fields_of, object_of, Object, Operation}
 use Rattle.protocol.proofs.Vocabulary.{Reply, OK, XHELD, Phase, AtCell, Whole, whole_access, whole_led, CondCall, CondRow, CondLed, CondPhase, CondOnward, CondWhole, cond_access, cond_led, condition_of, after_words, from_words, met_word, WaitRow}
@@ -364,6 +364,22 @@ renew_teaches s u pos known = record {
   others = λ t b o apart. (refl, refl);
 }
 
+of_another : {A : Type 0} (u t : ℕ) (x y : A) → u ≢ t → (if u == t then x else y) ≡ y
+of_another {A} u t x y apart = go (u == t) refl
+  where
+    go : (b : Bool) → (u == t) ≡ b → (if b then x else y) ≡ y
+    go true e = absurd (apart (eqb-true u t e))
+    go false e = refl
+
+-- nor is one that made a mutex anew
+reinit_teaches : (s : State) (u m : ℕ) → (s.threads u).stage ≡ Idle → Teaches s u (reinited s u m)
+reinit_teaches s u m idle = record {
+  layout = refl;
+  own = λ b o h. subst (λ (g : Stage). Learnt s.layout g (last_begun u b (facts_of (reinited s u m).note)) (left_next u (reinited s u m).state o (facts_of (reinited s u m).note))) (sym idle) tt;
+  theirs = λ t apart. refl;
+  others = λ t b o apart. (of_another u t (Some (reinit_of m)) b apart, of_another u t (Some (seen (reinited s u m).state m)) (if u == t then None else o) apart ∙ of_another u t None o apart);
+}
+
 -- a call that begins
 first_learns : (l : Layout') (t : ℕ) (c : Op) (o : Option Object) → Learnt l (begins_at l t c) (Some (begun_of l c)) o
 first_learns l t (OnMutex (Call.Lock m)) o = (refl, tt, λ k n e. absurd (whole.whole_wakes.first l t (Call.Lock m) k n e))
@@ -371,13 +387,6 @@ first_learns l t (OnMutex (Call.TryLock m)) o = (refl, tt, λ k n e. absurd (who
 first_learns l t (OnMutex (Call.Unlock m)) o = (refl, tt, λ k n e. absurd (whole.whole_wakes.first l t (Call.Unlock m) k n e))
 first_learns l t (OnMutex (Call.Consistent m)) o = (refl, tt, λ k n e. absurd (whole.whole_wakes.first l t (Call.Consistent m) k n e))
 first_learns l t (OnCondition c) o = (refl, λ k n e. absurd (cond_whole.whole_wakes.first l t c k n e))
-
-of_another : {A : Type 0} (u t : ℕ) (x y : A) → u ≢ t → (if u == t then x else y) ≡ y
-of_another {A} u t x y apart = go (u == t) refl
-  where
-    go : (b : Bool) → (u == t) ≡ b → (if b then x else y) ≡ y
-    go true e = absurd (apart (eqb-true u t e))
-    go false e = refl
 
 begin_teaches : (s : State) (u : ℕ) (c : Op) → (s.threads u).stage ≡ Idle → (full : Bool) → Teaches s u (begun s u c (if full then Err XHELD else Ok (begins_at s.layout u c)))
 begin_teaches s u c idle true = record {
@@ -413,6 +422,7 @@ teaches s e inv =
     (λ t pos known asleep. leave_teaches s t)
     (λ t o p pos known is awake trims. subst (Teaches s t) (sym (spared_is s t o p is trims inv pos known)) (decline_teaches s t o p is trims))
     (λ t pos known gone. renew_teaches s t pos known)
+    (λ t m may. reinit_teaches s t m may.resting)
     e
 
 learnt_on : (s : State) (e : Event) → Kept s → (t : ℕ) (b : Option Begun) (o : Option Object) → Learnt s.layout (s.threads t).stage b o

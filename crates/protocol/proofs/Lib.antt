@@ -34,6 +34,7 @@ pub mod Queued
 mod Departures
 pub mod Declines
 pub mod Renewals
+pub mod Reinits
 pub mod Lists
 pub mod Runs
 pub mod QueueRuns
@@ -62,4 +63,5 @@ pub mod Signalling
 mod WaitersBit
 mod Lone
 mod Anew
+mod Unusable
 mod WalksOn

@@ -1,6 +1,6 @@
 -- In which order the facts of an event, and those of one event after the other, are told.
 use Rattle.std.proofs.Common.{◌≡◌, ℕ, ◌+◌, ◌≤◌, Bool, true, false, Option, Some, None, List, [], ◌∷◌, ◌++◌, map, refl, sym, ◌∙◌, arith}
-use Rattle.protocol.proofs.Vocabulary.{Left, Renewed}
+use Rattle.protocol.proofs.Vocabulary.{Left, Renewed, Reinited}
 use Rattle.protocol.proofs.Vocabulary.{Fact, Queue, Operation, Reply, Stepped, Event, facts_of, sleep_facts, moves_to, return_facts, death_facts, reap_facts, decision, caller}
 use Rattle.protocol.proofs.Vocabulary.{line_of, caller_of, lines_from, Note, Nothing, Began, Killed, Walked}
 use Rattle.facts.specs.declared.fact.Line.{Line}
@@ -204,6 +204,7 @@ told_inside (Stepped u m (Some d) z ws ms y) = let later = slept_ordered u m z w
 told_inside (Killed t) = (tt, tt)
 told_inside (Left t) = (tt, tt)
 told_inside (Renewed t) = (tt, tt)
+told_inside (Reinited t m) = ((refl, refl, (λ e. absurd cc), (refl, refl), (refl, refl, (λ e. absurd cc), (refl, refl), tt)), ((refl, refl, (λ e. absurd cc), (refl, refl), tt), (tt, tt)))
 told_inside (Walked u None ws y) = (woken_ordered u ws y).1
 told_inside (Walked u (Some m) ws y) = let later = woken_ordered u ws y in (behind (Fact.Death u m) refl refl _ later.0, later.1)
 

@@ -1,6 +1,6 @@
 -- What each event adds to its thread's life, and that its lines are in order.
 use Rattle.std.proofs.Common.{◌≡◌, ◌≢◌, inl, inr, append-nil, append_assoc, ℕ, ◌+◌, ◌≤◌, ◌==◌, Bool, true, false, Option, Some, None, Ok, Err, List, [], ◌∷◌, ◌++◌, map, refl, sym, ap, ◌∙◌, subst, arith}
-use Rattle.protocol.proofs.Vocabulary.{departed, renewed, Left, Phase, Renewed}
+use Rattle.protocol.proofs.Vocabulary.{departed, renewed, reinited, reinit_of, OK, Left, Phase, Renewed, Reinited}
 use Rattle.protocol.proofs.Vocabulary.{CondCall, condition_of, CondWhole, cond_access, cond_led, Begun, Queue, Mutex, Condition, Fact, Return, Operation, Access, Answer, Layout'}
 use Rattle.protocol.proofs.Vocabulary.{Reply, XHELD, Whole, whole_access, whole_led, Op, OnCondition, mutex_of, begun_of, Event, Thread, Stage, Idle, Calling, AtCondition, Dying}
 use Rattle.protocol.proofs.Vocabulary.{Reaped, Note, Began, Stepped, Walked, facts_of, sleep_facts, moves_to, return_facts, death_facts, reap_facts, State, After, start, nothing}
@@ -130,17 +130,18 @@ own-calls t i (Began u c x) ls = refl
 own-calls t i (Killed u) ls = refl
 own-calls t i (Left u) ls = refl
 own-calls t i (Renewed u) ls = refl
+own-calls t i (Reinited u m) ls = refl
 own-calls t i (Walked u None ws y) ls = reaped_own t i u ws y ls
 own-calls t i (Walked u (Some m) ws y) ls = ap (λ (v : List Fact). if u == t then Death u m ∷ v else v) (reaped_own t i u ws y ls)
 own-calls t i (Stepped u m None z ws ms y) ls = slept_own t i u m z ws ms y ls
 own-calls t i (Stepped u m (Some d) z ws ms y) ls = ap (λ (v : List Fact). if d.thread == t then Point d ∷ v else v) (slept_own t i u m z ws ms y ls)
 
--- what one event tells: nothing; that its thread began a call, or was refused at once; that it decided something, or
+-- what one event tells: nothing; that its thread began a call, or was answered at once; that it decided something, or
 -- returned, or both; that it died; of its death; or that it lives anew
 data Says (t : ℕ) : List Fact → Type 0 where
   nothing_new : Says t []
   begins_one : (b : Begun) → Says t (Begin t b ∷ [])
-  refused : (b : Begun) (x : Reply) → Says t (Begin t b ∷ (point_by t b.mutex b.operation x ∷ (Return t x ∷ [])))
+  at_once : (b : Begun) (x : Reply) → Says t (Begin t b ∷ (point_by t b.mutex b.operation x ∷ (Return t x ∷ [])))
   decided : (m : ℕ) (op : Operation) (x : Reply) → Says t (point_by t m op x ∷ [])
   returns : (x : Reply) → Says t (Return t x ∷ [])
   ends_with : (m : ℕ) (op : Operation) (x y : Reply) → Says t (point_by t m op x ∷ (Return t y ∷ []))
@@ -152,7 +153,7 @@ data Says (t : ℕ) : List Fact → Type 0 where
 own-apart : (t u i : ℕ) (fs : List Fact) (ls : List Line) → Says u fs → u ≢ t → own t (map (line_of i) fs ++ ls) ≡ own t ls
 own-apart t u i fs ls nothing_new apart = refl
 own-apart t u i fs ls (begins_one b) apart = own-other t i (Begin u b) ls apart
-own-apart t u i fs ls (refused b x) apart = own-other t i (Begin u b) (line_of i (point_by u b.mutex b.operation x) ∷ (line_of i (Return u x) ∷ ls)) apart ∙ own-other t i (point_by u b.mutex b.operation x) (line_of i (Return u x) ∷ ls) apart ∙ own-other t i (Return u x) ls apart
+own-apart t u i fs ls (at_once b x) apart = own-other t i (Begin u b) (line_of i (point_by u b.mutex b.operation x) ∷ (line_of i (Return u x) ∷ ls)) apart ∙ own-other t i (point_by u b.mutex b.operation x) (line_of i (Return u x) ∷ ls) apart ∙ own-other t i (Return u x) ls apart
 own-apart t u i fs ls (decided m op x) apart = own-other t i (point_by u m op x) ls apart
 own-apart t u i fs ls (returns x) apart = own-other t i (Return u x) ls apart
 own-apart t u i fs ls dies apart = own-other t i (Kill u) ls apart
@@ -218,7 +219,7 @@ module _ (s : State) (u : ℕ) (o : Op) (idle : (s.threads u).stage ≡ Idle) wh
   begins_call true = record {
     fine = ((λ e. refl), (λ e. absurd cc), ((λ e. refl), (λ e. (refl, tt)), ((λ e. refl), (λ e. tt), tt)));
     alone = (refl, (refl, (refl, tt)));
-    says = refused b XHELD;
+    says = at_once b XHELD;
     mine = λ i ls later.
         let first = own-mine u i (Begin u b) (line_of i (point_by u b.mutex b.operation XHELD) ∷ (line_of i (Return u XHELD) ∷ ls)) refl refl in
         let second = own-mine u i (point_by u b.mutex b.operation XHELD) (line_of i (Return u XHELD) ∷ ls) refl refl in
@@ -343,6 +344,22 @@ renews_so s u pos known gone = record {
   others = λ t apart. ap (λ (z : Thread). z.stage) (renewed_other s u pos known t (λ same. apart (sym same)));
 }
 
+-- it makes a mutex anew, in a call of this one event
+reinits_so : (s : State) (u m : ℕ) → (s.threads u).stage ≡ Idle → Adds s u (reinited s u m)
+reinits_so s u m idle = record {
+  fine = ((λ e. refl), (λ e. absurd cc), ((λ e. refl), (λ e. (refl, tt)), ((λ e. refl), (λ e. tt), tt)));
+  alone = (refl, (refl, (refl, tt)));
+  says = at_once (reinit_of m) OK;
+  mine = λ i ls later.
+      let first = own-mine u i (Begin u (reinit_of m)) (line_of i (point_by u m Operation.Reinit OK) ∷ (line_of i (Return u OK) ∷ ls)) refl refl in
+      let second = own-mine u i (point_by u m Operation.Reinit OK) (line_of i (Return u OK) ∷ ls) refl refl in
+      let third = own-mine u i (Return u OK) ls refl refl in
+      subst (λ g. Goes s.layout u g (own u (line_of i (Begin u (reinit_of m)) ∷ (line_of i (point_by u m Operation.Reinit OK) ∷ (line_of i (Return u OK) ∷ ls))))) (sym idle)
+      (subst (Lives u) (sym (first ∙ ap (λ fs. Begin u (reinit_of m) ∷ fs) (second ∙ ap (λ fs. point_by u m Operation.Reinit OK ∷ fs) third)))
+      (returns_on u (reinit_of m) ((Operation.Reinit, OK) ∷ []) OK (own u ls) refl (subst (λ g. Goes s.layout u g (own u ls)) idle later)));
+  others = λ t apart. refl;
+}
+
 -- each event
 adds : (s : State) (e : Event) → Kept s → Adds s (caller e) (happens s e)
 adds s e inv =
@@ -354,6 +371,7 @@ adds s e inv =
     (λ u pos known asleep. leaves_so s u)
     (λ u o p pos known is awake trims. subst (Adds s u) (sym (spared_is s u o p is trims inv pos known)) (declines_so s u o p is trims))
     (λ u pos known gone. renews_so s u pos known gone)
+    (λ u m may. reinits_so s u m may.resting)
     e
 
 -- ---- whole runs

@@ -1,6 +1,6 @@
 -- No wait is passed by.
 use Rattle.std.proofs.Common.{◌≡◌, ◌≢◌, ⊎_elim, ℕ, ◌+◌, ◌<◌, ◌≤◌, Bool, true, false, Option, Some, None, Ok, Err, List, [], ◌∷◌, ◌++◌, refl, sym, ap, ◌∙◌, subst, arith}
-use Rattle.protocol.proofs.Vocabulary.{departed, renewed, Clearing}
+use Rattle.protocol.proofs.Vocabulary.{departed, renewed, reinited, Clearing}
 use Rattle.protocol.proofs.Renewals.{renewed_thread}
 use Rattle.protocol.proofs.Vocabulary.{CondCall, CondRow, CondLed, CondPhase, condition_of, full, met_word, counter_after, CondWhole, cond_access, cond_led, after_words}
 use Rattle.protocol.proofs.Vocabulary.{from_words, CondOnward, Begun, Mutex, Condition, Fact, Operation, Decision, answer_at, sleeps_at, Layout', counter_place, Reply}
@@ -332,6 +332,9 @@ renew_makes s u pos known = record {
     no_point : (d : Decision) → IsAmong (Fact.Point d) (facts_of (renewed s u).note) → ⊥
     no_point d h = ⊎_elim (λ e. cc e) (λ none. none) h
 
+reinit_makes : (s : State) (u m : ℕ) → 1 ≤ u → u ≤ s.layout.threads → (s.threads u).stage ≡ Idle → Makes s u (reinited s u m)
+reinit_makes s u m pos known idle = grind (arith)
+
 -- a walk
 module _ (s : State) (u : ℕ) (v : walks.Standing) where
   abbrev after_walk : After
@@ -371,6 +374,7 @@ makes s e inv counted =
     (λ t pos known asleep. leave_makes s t)
     (λ t o p pos known is awake trims. subst (Makes s t) (sym (spared_is s t o p is trims inv pos known)) (decline_makes s t o p is trims))
     (λ t pos known gone. renew_makes s t pos known)
+    (λ t m may. reinit_makes s t m may.first may.last may.resting)
     e
 
 -- ---- what one event is to any thread

@@ -13,6 +13,7 @@ use Rattle.protocol.proofs.Queues.{without_stands, without_gone, once_without, n
 use Rattle.protocol.proofs.Queued.{Answering, Queued, went_queued}
 use Rattle.protocol.proofs.Departures.{leave_queued}
 use Rattle.protocol.proofs.Renewals.{renew_queued}
+use Rattle.protocol.proofs.Reinits.{reinit_queued}
 use Rattle.protocol.proofs.Declines.{spared_is, decline_queued}
 use Rattle.protocol.proofs.Runs.{sound, start_kept}
 use Rattle.protocol.proofs.Cases.{at_or_else}
@@ -89,6 +90,7 @@ queued_on s e inv queued =
     (λ t pos known asleep. leave_queued s t queued)
     (λ t o p pos known is awake trims. subst (λ (a : After). Queued a.state) (sym (spared_is s t o p is trims inv pos known)) (decline_queued s t o p is trims queued))
     (λ t pos known gone. renew_queued s t pos known queued gone)
+    (λ t m may. reinit_queued s t m may queued)
     e
 
 pub start_queued : (l : Layout') (counters : ℕ → ℕ) → Queued (start l counters)

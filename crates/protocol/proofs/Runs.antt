@@ -4,8 +4,9 @@ use Rattle.std.proofs.Common.{eq-eqb, ◌%◌, ◌==◌}
 use Rattle.protocol.proofs.Vocabulary.{LoadFirst, Object, Operation, Decision, Layout', IsLayout, head_place, Does, Permits, acquires, fresh, held_by, Reply, XHELD, Op, mutex_of}
 use Rattle.protocol.proofs.Vocabulary.{Names, Event, Thread, Stage, Idle, Dying, Note, facts_of, State, After, put, start, nothing, is_alive, killed, begun, happens, run, notes}
 use Rattle.protocol.proofs.Vocabulary.{seen, if◌then◌else◌, nat_le, MatchBool, nat_tests, first_word, points_of, points_among, HistoryIsLegal, address_in}
-use Rattle.protocol.proofs.Vocabulary.{Calling, AtCondition, Reaped, departed, renewed, Whole}
+use Rattle.protocol.proofs.Vocabulary.{Calling, AtCondition, Reaped, departed, renewed, reinited, MayReinit, Whole}
 use Rattle.protocol.proofs.Renewals.{renewed_seen, renew_kept}
+use Rattle.protocol.proofs.Reinits.{unowned, reinited_seen, reinited_far, reinit_kept}
 use Rattle.keys.specs.Histories.{Legal, opening}
 use Rattle.robustlist.proofs.Lists.{begins_empty}
 use Rattle.condvar.specs.Ops.{operation_of}
@@ -186,6 +187,10 @@ decline_sound s t o p is trims inv pos known = record { kept = decline_kept s t 
 renew_sound : (s : State) (t : ℕ) → Kept s → 1 ≤ t → t ≤ s.layout.threads → (s.threads t).stage ≡ Reaped → Sound' s (renewed s t)
 renew_sound s t inv pos known gone = record { kept = renew_kept s t pos known inv gone; same = refl; told = renewed_seen s t pos known }
 
+-- and a reinit, which is a step of its mutex
+reinit_sound : (s : State) (t m : ℕ) → Kept s → MayReinit s t m → Sound' s (reinited s t m)
+reinit_sound s t m inv may = record { kept = reinit_kept s t m may inv; same = refl; told = (may.inside, (may.unusable, unowned s t m may inv, reinited_seen s t m may), reinited_far s t m may, refl) }
+
 -- each event is sound
 pub sound : (s : State) (e : Event) → Kept s → Sound' s (happens s e)
 sound s e inv =
@@ -197,6 +202,7 @@ sound s e inv =
     (λ t pos known asleep. leave_sound s t inv)
     (λ t o p pos known is awake trims. subst (Sound' s) (sym (spared_is s t o p is trims inv pos known)) (decline_sound s t o p is trims inv pos known))
     (λ t pos known gone. renew_sound s t inv pos known gone)
+    (λ t m may. reinit_sound s t m inv may)
     e
 
 -- ---- the beginning

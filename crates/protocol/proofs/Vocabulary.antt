@@ -74,8 +74,9 @@ pub use Rattle.protocol.specs.Headline.{HistoryIsLegal, NoReapedOwner, NoReapedO
 pub use Rattle.protocol.specs.Machine.{After, State, answer_of, begun, decision, falls_asleep, first_stage, happens, has_ended, held_after, is_alive, is_asleep}
 pub use Rattle.protocol.specs.Machine.{is_calling, is_met, is_valid, joined, killed, led, led_at, may_begin, moved_by, notes, nothing, place_met, put, queue_after, reply_at}
 pub use Rattle.protocol.specs.Machine.{returned, returned_at, run, sleepers, sleeps, slept_in, stage_after, stage_at, stage_walked, stands_in, start, stepped, told_of, walked}
-pub use Rattle.protocol.specs.Machine.{death_at, decided_at, departed, mutex_at, renewed, spared, stands_at, went, woken, woken_by}
-pub use Rattle.protocol.specs.Notes.{death_facts, facts_of, line_of, lines_from, moves_to, point_facts, reap_facts, return_facts, sleep_facts}
+pub use Rattle.protocol.specs.Machine.{death_at, decided_at, departed, mutex_at, reinited, renewed, spared, stands_at, went, woken, woken_by}
+pub use Rattle.protocol.specs.Reinits.{MayReinit}
+pub use Rattle.protocol.specs.Notes.{death_facts, facts_of, line_of, lines_from, moves_to, point_facts, reap_facts, reinit_of, return_facts, sleep_facts}
 pub use Rattle.condvar.specs.Ops.{mutex_of}
 pub use Rattle.protocol.specs.Ops.{begun_of, queue_place}
 pub use Rattle.protocol.specs.PassedBy.{ArePresets, BeginsNone, NobodyIsPassedBy, last_begun}
@@ -85,7 +86,7 @@ pub use Rattle.protocol.specs.declared.event.Event.TheVariants.{Step}
 pub use Rattle.condvar.specs.declared.op.Op.{Op}
 pub use Rattle.condvar.specs.declared.op.Op.TheVariants.{OnCondition, OnMutex}
 pub use Rattle.protocol.specs.declared.note.Note.{Note}
-pub use Rattle.protocol.specs.declared.note.Note.TheVariants.{Began, Killed, Left, Nothing, Renewed, Stepped, Walked}
+pub use Rattle.protocol.specs.declared.note.Note.TheVariants.{Began, Killed, Left, Nothing, Reinited, Renewed, Stepped, Walked}
 pub use Rattle.protocol.specs.declared.thread.Stage.{Stage}
 pub use Rattle.protocol.specs.declared.thread.Stage.TheVariants.{AtCondition, Calling, Dying, Idle, Reaped}
 pub use Rattle.protocol.specs.declared.thread.Thread.{Thread}

@@ -1,7 +1,8 @@
 -- The WAITERS bit, event by event.
-use Rattle.std.proofs.Common.{◌≡◌, inl, ℕ, ◌≤◌, ◌==◌, ◌&&◌, Bool, true, false, List, [], drop, Ok, Err, refl, ap, ◌∙◌, subst}
+use Rattle.std.proofs.Common.{◌≡◌, ◌⊎◌, inl, inr, ℕ, ◌≤◌, ◌==◌, ◌&&◌, Bool, true, false, List, [], drop, Ok, Err, refl, ap, ◌∙◌, subst}
 use Rattle.protocol.proofs.Vocabulary.{XHELD, Op, Event, Step, State, After, begun, happens, run, start, if◌then◌else◌, cell_place, Phase, AtCell, Whole, OnMutex, Calling, is_asleep}
-use Rattle.protocol.proofs.Vocabulary.{Access, answer_among, fields_of, word_among, Onward, stands_in, UnlockRow, put, stage_after}
+use Rattle.protocol.proofs.Vocabulary.{Access, answer_among, fields_of, word_among, Onward, stands_in, UnlockRow, put, stage_after, reinited, MayReinit, IsUnowned}
+use Rattle.protocol.proofs.Cases.{at_or_else}
 use Rattle.protocol.specs.Machine.{sleepers}
 use Rattle.mutex.specs.Programs.{row_access, resume_of}
 use Rattle.mutex.specs.Whole.{from_cell}
@@ -11,12 +12,13 @@ use Rattle.mutex.specs.declared.row.Row.TheVariants.{Unlock}
 use Rattle.protocol.specs.WaitersBit.{WaitersStay, IsTrimmed, WaitersAreKept}
 use Rattle.protocol.proofs.Kept.{Fits, Serves, Kept}
 use Rattle.protocol.proofs.Steps.{after, call_step, onto}
-use Rattle.protocol.proofs.Stepping.{SleepsAs, Stepping}
+use Rattle.protocol.proofs.Stepping.{SleepsAs, Stepping, HasWaiters}
 use Rattle.protocol.proofs.CallSteps.{CallStep, call_stepping}
 use Rattle.protocol.proofs.CellSteps as cell
 use Rattle.protocol.proofs.Accesses.{fits_in, goes}
 use Rattle.protocol.proofs.Events.{begins_at, by_event}
 use Rattle.protocol.proofs.Renewals.{renewed_cell}
+use Rattle.protocol.proofs.Reinits.{unowned, reinited_cell}
 use Rattle.protocol.proofs.Working.{by_step, call_goes}
 use Rattle.protocol.proofs.Queued.{Queued, mine, out_awake}
 use Rattle.protocol.proofs.Queues.{not_true}
@@ -38,7 +40,14 @@ stay_on s e inv =
     (λ t pos known asleep m below on. inl on)
     (λ t o p pos known is awake trims m below on. inl on)
     (λ t pos known gone m below on. inl (ap (λ (w : ℕ). (fields_of w).waiters) (renewed_cell s t pos known m) ∙ on))
+    (λ t k may m below on. reinit_stays t k may m on)
     e
+  where
+    reinit_stays : (t k : ℕ) (may : MayReinit s t k) (m : ℕ) → HasWaiters s m → HasWaiters (reinited s t k).state m ⊎ ((sleepers (reinited s t k).state m ≡ []) × IsUnowned s m)
+    reinit_stays t k may m =
+        at_or_else (λ (j : ℕ). HasWaiters s j → HasWaiters (reinited s t k).state j ⊎ ((sleepers (reinited s t k).state j ≡ []) × IsUnowned s j)) k m
+        (λ on. inr (may.unslept, unowned s t k may inv))
+        (λ apart on. inl (ap (λ (w : ℕ). (fields_of w).waiters) (reinited_cell s t k may m apart) ∙ on))
 
 -- ---- an unlock that finds nobody to wake
 

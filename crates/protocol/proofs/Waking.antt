@@ -241,6 +241,7 @@ turn s e inv queued t =
     (λ u pos known asleep. leave_turn s u t asleep)
     (λ u o p pos known is awake trims. subst (TurnOf s t (Event.Decline u)) (sym (spared_is s u o p is trims inv pos known)) (Stays refl (λ key. refl)))
     (λ u pos known gone. Stays refl (λ key. refl))
+    (λ u m may. Stays refl (λ key. refl))
     e
   where
     begins_so : (u : ℕ) (o : Op) (b : Bool) → TurnOf s t (Event.Begin u o) (begun s u o (if b then Err XHELD else Ok (begins_at s.layout u o)))

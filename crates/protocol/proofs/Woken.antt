@@ -319,6 +319,7 @@ module _ (s : State) (inv : Kept s) (queued : Queued s) (told : ℕ → Told) (b
   nothing_whom (Event.Leave t) = (inl refl, refl)
   nothing_whom (Event.Decline t) = (refl, refl)
   nothing_whom (Event.Renew t) = (refl, refl)
+  nothing_whom (Event.Reinit t m) = (refl, refl)
 
   begin_whom : (t : ℕ) (c : Op) (full : Bool) → WhomAt (Event.Begin t c) (begun s t c (if full then Err XHELD else Ok (begins_at s.layout t c)))
   begin_whom t c true = (refl, refl)
@@ -358,6 +359,7 @@ module _ (s : State) (inv : Kept s) (queued : Queued s) (told : ℕ → Told) (b
       (λ t pos known asleep. (inr refl, refl))
       (λ t c p pos known is awake trims. subst (WhomAt (Event.Decline t)) (sym (spared_is s t c p is trims inv pos known)) (refl, refl))
       (λ t pos known gone. (refl, refl))
+      (λ t m may. (refl, refl))
       e
 
 -- ---- every run
@@ -379,3 +381,4 @@ woken_right l counters events is e = go e (next_whom (run s0 events) (run_kept s
     go (Event.Leave t) h = h
     go (Event.Decline t) h = h
     go (Event.Renew t) h = h
+    go (Event.Reinit t m) h = h

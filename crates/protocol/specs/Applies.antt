@@ -14,7 +14,7 @@ use Rattle.condvar.specs.declared.op.Op.TheVariants.{OnMutex, OnCondition}
 use Rattle.protocol.specs.declared.event.Event.{Event}
 use Rattle.protocol.specs.declared.event.Event.TheVariants as event
 use Rattle.protocol.specs.declared.note.Note.{Note}
-use Rattle.protocol.specs.declared.note.Note.TheVariants.{Nothing, Began, Stepped, Killed, Walked, Left, Renewed}
+use Rattle.protocol.specs.declared.note.Note.TheVariants.{Nothing, Began, Stepped, Killed, Walked, Left, Renewed, Reinited}
 use Rattle.facts.specs.declared.fact.Fact.{Fact}
 use Rattle.facts.specs.declared.fact.Fact.TheVariants.{Begin, Return, Kill, Reap, Renew}
 use Rattle.keys.specs.declared.access.Access.TheVariants.{Trim}
@@ -22,7 +22,7 @@ use Rattle.mutex.specs.Standings.{Whole}
 use Rattle.mutex.specs.Whole.{whole_access}
 use Rattle.protocol.specs.declared.thread.Stage.{Stage}
 use Rattle.protocol.specs.declared.thread.Stage.TheVariants.{Idle, Calling, AtCondition, Dying, Reaped}
-use Rattle.protocol.specs.Machine.{State, start, happens, run, notes, stands_in}
+use Rattle.protocol.specs.Machine.{State, start, happens, run, notes, stands_in, sleepers}
 use Rattle.protocol.specs.Headline.{seen, facts_among}
 
 -- ---- what a trace told of a thread
@@ -93,7 +93,8 @@ abbrev pub IsAboutToTrim : State → ℕ → Type 0
 IsAboutToTrim s t = (o : Op) × (p : Whole) × (at : ℕ) × ((s.threads t).stage ≡ Calling o p) × (whole_access p ≡ Trim at)
 
 -- a begin applies where its thread lives, is in no call, and what it calls is in the layout; a step where its thread is in a call, or was killed and not reaped, and sleeps on nothing; a kill where its
--- thread lives; a leave where it sleeps; a decline where it is about to trim; a renewal where its thread was reaped
+-- thread lives; a leave where it sleeps; a decline where it is about to trim; a renewal where its thread was reaped; a reinit where its thread lives and is in no call, and its mutex, one of the layout, is
+-- unusable and nobody sleeps on it
 abbrev pub Applies : Layout' → State → List Note → Event → Type 0
 Applies l s ns (event.Begin t o) = IsThread l t × Names l o × (last_told t ns ≡ AtRest)
 Applies l s ns (event.Step t) = IsThread l t × HasAccess (last_told t ns) × IsInNoQueue s t
@@ -101,6 +102,7 @@ Applies l s ns (event.Kill t) = IsThread l t × IsLiving (last_told t ns)
 Applies l s ns (event.Leave t) = IsThread l t × IsInAQueue s t
 Applies l s ns (event.Decline t) = IsThread l t × IsAboutToTrim s t
 Applies l s ns (event.Renew t) = IsThread l t × (last_told t ns ≡ Gone)
+Applies l s ns (event.Reinit t m) = IsThread l t × (last_told t ns ≡ AtRest) × (m < l.mutexes) × ((seen s m).unusable ≡ true) × (sleepers s m ≡ [])
 
 -- a call that takes a mutex is refused at once where its thread owns 2,048
 abbrev pub refusal : Layout' → State → ℕ → Op → Option Reply
@@ -125,6 +127,7 @@ IsNotedAs l s (event.Kill t) n = n ≡ Killed t
 IsNotedAs l s (event.Leave t) n = n ≡ Left t
 IsNotedAs l s (event.Decline t) n = IsQuietAccessOf l s t n
 IsNotedAs l s (event.Renew t) n = n ≡ Renewed t
+IsNotedAs l s (event.Reinit t m) n = n ≡ Reinited t m
 
 -- of a state that events lead to that were noted so: its layout is as it was, and each thread stands where it was told to stand; whatever event comes next, it happens where it applies, and else it does nothing
 pub record NextApplies (l : Layout') (s : State) (ns : List Note) : Type 0 where

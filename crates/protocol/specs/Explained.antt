@@ -21,6 +21,7 @@ caller (event.Kill t) = t
 caller (event.Leave t) = t
 caller (event.Decline t) = t
 caller (event.Renew t) = t
+caller (event.Reinit t m) = t
 
 -- the thread of event n, the first of the events having number i; 0 where there is no such event
 abbrev pub caller_of : ℕ → List Event → ℕ → ℕ

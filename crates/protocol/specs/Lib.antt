@@ -15,3 +15,4 @@ pub mod WaitersBit
 pub mod WalksOn
 pub mod Leaves
 pub mod Renewals
+pub mod Reinits

@@ -1,5 +1,6 @@
 -- The machine: threads whose calls step over shared words, and sleep on them.
 use Rattle.std.specs.Prelude.{ℕ, not, ◌==◌, ◌+◌, ◌-◌, ◌/◌, ◌%◌, ◌^◌, Bool, true, false, ◌&&◌, nat_le, nat_lt, Option, Some, None, Result, Ok, Err, List, [], ◌∷◌, ◌++◌, take, drop, if◌then◌else◌}
+use Rattle.lockword.specs.Cells.{fields_of}
 use Rattle.lockword.specs.declared.reply.Reply.{Reply}
 use Rattle.lockword.specs.declared.reply.Reply.TheVariants.{OK, EOWNERDEAD}
 use Rattle.keys.specs.declared.access.Access.{Access}
@@ -11,7 +12,7 @@ use Rattle.keys.specs.declared.point.Operation.TheVariants as operation
 use Rattle.keys.specs.declared.point.Decision.{Decision}
 use Rattle.keys.specs.Layouts.{Layout', head_place, cell_place, counter_place, words_of, address_in, place_in, head_word, first_word}
 use Rattle.buckets.specs.Queues.{without}
-use Rattle.keys.specs.Accesses.{address_of, word_among, answer_among, sleeps_at}
+use Rattle.keys.specs.Accesses.{address_of, word_among, answer_among, sleeps_at, is_nobody}
 use Rattle.mutex.specs.declared.call.Call.{Call}
 use Rattle.mutex.specs.declared.phase.Phase.{Phase}
 use Rattle.mutex.specs.declared.phase.Phase.TheVariants.{Ended}
@@ -37,12 +38,12 @@ use Rattle.protocol.specs.Ops.{begun_of}
 use Rattle.condvar.specs.declared.op.Op.{Op}
 use Rattle.condvar.specs.declared.op.Op.TheVariants.{OnMutex, OnCondition}
 use Rattle.protocol.specs.declared.event.Event.{Event}
-use Rattle.protocol.specs.declared.event.Event.TheVariants.{Begin, Step, Kill, Leave, Decline, Renew}
+use Rattle.protocol.specs.declared.event.Event.TheVariants.{Begin, Step, Kill, Leave, Decline, Renew, Reinit}
 use Rattle.protocol.specs.declared.thread.Thread.{Thread}
 use Rattle.protocol.specs.declared.thread.Stage.{Stage}
 use Rattle.protocol.specs.declared.thread.Stage.TheVariants.{Idle, Calling, AtCondition, Dying, Reaped}
 use Rattle.protocol.specs.declared.note.Note.{Note}
-use Rattle.protocol.specs.declared.note.Note.TheVariants.{Nothing, Began, Stepped, Killed, Walked, Left, Renewed}
+use Rattle.protocol.specs.declared.note.Note.TheVariants.{Nothing, Began, Stepped, Killed, Walked, Left, Renewed, Reinited}
 
 -- the words by place, who sleeps on each, also by place, in the order in which they are to be woken, and the threads by id
 pub record State : Type 0 where
@@ -376,6 +377,20 @@ renewed s t =
       note = Renewed t;
     }
 
+-- ---- reinits
+
+-- the word of mutex m says that it is unusable
+abbrev pub is_unusable : State → ℕ → Bool
+is_unusable s m = (fields_of (s.words (cell_place s.layout m))).unusable
+
+-- thread t is in no call, and mutex m, one of the layout, is unusable, and nobody sleeps on it. (So nobody owns it either)
+abbrev pub may_reinit : State → ℕ → ℕ → Bool
+may_reinit s t m = has_thread s t && is_idle (s.threads t).stage && nat_lt m s.layout.mutexes && is_unusable s m && is_nobody (sleepers s m)
+
+-- it makes the mutex anew (pthread_mutex_destroy(3p), pthread_mutex_init(3p)): its word is as at first
+abbrev pub reinited : State → ℕ → ℕ → After
+reinited s t m = record { state = record s { words = put s.words (cell_place s.layout m) 0 }; note = Reinited t m }
+
 -- ---- events
 
 abbrev pub stepped : State → ℕ → ℕ → Stage → After
@@ -394,7 +409,7 @@ declined s t held (Calling o p) =
 declined s t held g = nothing s
 
 -- a begin of a busy, killed or unknown thread or of a call outside the layout, a step of an idle, sleeping, reaped or unknown thread, a kill of a killed or unknown thread, a leave of a thread that doesn't
--- sleep, a decline of one that isn't about to trim and a renewal of one that wasn't reaped do nothing
+-- sleep, a decline of one that isn't about to trim, a renewal of one that wasn't reaped and a reinit by one that isn't idle, or of a mutex that is usable or slept on, do nothing
 abbrev pub happens : State → Event → After
 happens s (Begin t o) = if may_begin s t o then begun s t o (first_stage s.layout t (s.threads t).held o) else nothing s
 happens s (Step t) = if has_thread s t then stepped s t (s.threads t).held (s.threads t).stage else nothing s
@@ -402,6 +417,7 @@ happens s (Kill t) = if has_thread s t && is_alive (s.threads t).stage then kill
 happens s (Leave t) = if has_thread s t && is_asleep s t then departed s t else nothing s
 happens s (Decline t) = if has_thread s t then declined s t (s.threads t).held (s.threads t).stage else nothing s
 happens s (Renew t) = if has_thread s t && is_gone (s.threads t).stage then renewed s t else nothing s
+happens s (Reinit t m) = if may_reinit s t m then reinited s t m else nothing s
 
 -- ---- runs
 

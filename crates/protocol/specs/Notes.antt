@@ -1,9 +1,11 @@
 -- The lines that notes stand for, in their order.
 use Rattle.std.specs.Prelude.{ℕ, ◌+◌, Bool, true, false, Option, Some, None, List, [], ◌∷◌, ◌++◌, map}
 use Rattle.lockword.specs.declared.reply.Reply.{Reply}
+use Rattle.lockword.specs.declared.reply.Reply.TheVariants.{OK}
+use Rattle.keys.specs.declared.point.Operation.TheVariants as operation
 use Rattle.keys.specs.declared.point.Decision.{Decision}
 use Rattle.protocol.specs.declared.note.Note.{Note}
-use Rattle.protocol.specs.declared.note.Note.TheVariants.{Nothing, Began, Stepped, Killed, Walked, Left, Renewed}
+use Rattle.protocol.specs.declared.note.Note.TheVariants.{Nothing, Began, Stepped, Killed, Walked, Left, Renewed, Reinited}
 use Rattle.facts.specs.declared.fact.Begun.{Begun}
 use Rattle.facts.specs.declared.fact.Queue.{Queue}
 use Rattle.facts.specs.declared.fact.Fact.{Fact}
@@ -39,7 +41,11 @@ abbrev pub reap_facts : ℕ → Bool → List Fact
 reap_facts t false = []
 reap_facts t true = Reap t ∷ []
 
--- what an event did, one thing after the other
+-- a reinit of mutex m, as its begin is told
+abbrev pub reinit_of : ℕ → Begun
+reinit_of m = record { operation = operation.Reinit; mutex = m; condition = None }
+
+-- what an event did, one thing after the other; a reinit is told as a call of one event
 abbrev pub facts_of : Note → List Fact
 facts_of Nothing = []
 facts_of (Began t c refused) = Begin t c ∷ refusal_facts t c refused
@@ -47,6 +53,7 @@ facts_of (Stepped t m point slept woken moved returned) = point_facts point ++ (
 facts_of (Killed t) = Kill t ∷ []
 facts_of (Left t) = Wake t ∷ []
 facts_of (Renewed t) = Renew t ∷ []
+facts_of (Reinited t m) = Begin t (reinit_of m) ∷ Point (record { thread = t; mutex = m; operation = operation.Reinit; reply = OK }) ∷ Return t OK ∷ []
 facts_of (Walked t death woken reaped) = death_facts t death ++ (map Wake woken ++ reap_facts t reaped)
 
 abbrev pub line_of : ℕ → Fact → Line

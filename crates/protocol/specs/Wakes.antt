@@ -87,7 +87,7 @@ WakesWhom s w b o fs = (wakes_in fs ≡ []) × (moves_in fs ≡ [])
 abbrev pub WakesItself : ℕ → List Fact → Type 0
 WakesItself t fs = AreNoneOr (Wake t ∷ []) (wakes_in fs) × (moves_in fs ≡ [])
 
--- behind these events from state s on; a begin, a kill and a decline wake and move nobody
+-- behind these events from state s on; a begin, a kill, a decline, a renewal and a reinit wake and move nobody
 abbrev pub WakesSo : State → List Event → Event → Type 0
 WakesSo s events (event.Step t) = WakesWhom (run s events) (last_told t (notes s events)) (call_told t (notes s events)) (left_by t s None events) (facts_of (happens (run s events) (event.Step t)).note)
 WakesSo s events (event.Leave t) = WakesItself t (facts_of (happens (run s events) (event.Leave t)).note)

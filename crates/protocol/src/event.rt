@@ -19,4 +19,7 @@ pub enum Event {
     /// The thread, which was reaped, lives anew, with the same id: in no call, with an empty list and nothing pending,
     /// the owner of nothing.
     Renew(Tid),
+    /// The thread, which is in no call, makes the mutex with this number anew: it was unusable, and nobody sleeps on it
+    /// (pthread_mutex_destroy(3p), pthread_mutex_init(3p)).
+    Reinit(Tid, u16),
 }

@@ -13,6 +13,7 @@ ghost use Rattle.protocol.specs.WaitersBit.{WaitersAreKept};
 ghost use Rattle.protocol.specs.WalksOn.{WalksGoOn};
 ghost use Rattle.protocol.specs.Leaves.{LeavesAreLone, FrontsAreWoken};
 ghost use Rattle.protocol.specs.Renewals.{RenewalsBeginAnew, LivesAreOne};
+ghost use Rattle.protocol.specs.Reinits.{ReinitsFreeTheMutex, UnusableStays, NobodyJoinsAnUnusableMutex};
 
 /// Whatever happens, the points are one legal history of POSIX robust mutexes, which says at each moment what every cell says.
 pub fn history_is_legal()
@@ -69,8 +70,10 @@ pub fn lists_are_kept()
 /// or reaped; a begin by a thread in no call, on a mutex or condition variable of the layout, is noted as a begin, which is refused only where it is
 /// to take a mutex and the thread owns 2,048; a kill of a thread that lives is noted; a step is an access of its thread where that is in a call, or was killed and not reaped, and sleeps on
 /// nothing; a leave is its thread's where that sleeps; a decline is an access of its thread's call, and of that call's
-/// mutex, that tells nothing, where the thread's next access is a trim; and a renewal is its thread's where that was
-/// reaped, and hasn't been renewed since. Every other event is noted as nothing, and changes nothing.
+/// mutex, that tells nothing, where the thread's next access is a trim; a renewal is its thread's where that was
+/// reaped, and hasn't been renewed since; and a reinit is that of its mutex where its thread lives and is in no call,
+/// and the mutex, one of the layout, is unusable and nobody sleeps on it. Every other event is noted as nothing, and
+/// changes nothing.
 pub fn events_apply()
     ensures { EventsApply }
 {}
@@ -86,7 +89,7 @@ pub fn sleeps_are_told()
 /// Whatever happens: a step wakes or moves nobody, or just those whom its thread's call, as it was told, is to: once it has had a point, the first of the queue of its mutex, or all of them, in their
 /// order, where its last point left that mutex unusable; where the call is a signal, the first of its condition variable's queue; a broadcast moves all of its condition variable's, in their order, to its mutex's. The walk
 /// of a dead thread's list wakes the first of a mutex's queue. A leave wakes its own thread or nobody, and moves
-/// nobody. No begin, no kill, no decline and no renewal wakes or moves anybody.
+/// nobody. No begin, no kill, no decline, no renewal and no reinit wakes or moves anybody.
 pub fn wakes_are_right()
     ensures { WakesAreRight }
 {}
@@ -139,4 +142,23 @@ pub fn renewals_begin_anew()
 /// it owned, however much happens behind it.
 pub fn without_renewals_as_before()
     ensures { LivesAreOne }
+{}
+
+/// Whatever happened before: a thread makes a mutex anew exactly where it lives and is in no call, and the mutex is
+/// unusable and nobody sleeps on it; else its reinit does nothing. The mutex is free then, as at first: its word is 0.
+/// No other word changes, no other mutex, no queue and no thread, and what is told is a call of this one event: its
+/// begin, its point and its return with OK.
+pub fn reinits_free_the_mutex()
+    ensures { ReinitsFreeTheMutex }
+{}
+
+/// Whatever else happens, where nobody makes it anew: a mutex that became unusable stays so.
+pub fn without_reinits_as_before()
+    ensures { UnusableStays }
+{}
+
+/// Whatever happened before: nobody comes to sleep on a mutex that is unusable. So whoever sees that nobody sleeps there
+/// finds nobody asleep there later either, until the mutex is made anew.
+pub fn nobody_joins_an_unusable_mutex()
+    ensures { NobodyJoinsAnUnusableMutex }
 {}

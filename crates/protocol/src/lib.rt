@@ -1,9 +1,9 @@
 //! The protocol of robust mutexes as a pure machine, and what holds of every run of it.
 //!
 //! A state is the words, who sleeps on each, and for each thread the call that it is in. An [`Event`] begins a call, makes its
-//! next access, kills a thread, takes a sleeper out of its queue, declines a trim or renews a reaped thread; `specs/`
-//! says what each event does and notes ([`Note`]), and a trace is what the notes tell. The theorems about every run,
-//! wherever threads are killed and renewed:
+//! next access, kills a thread, takes a sleeper out of its queue, declines a trim, renews a reaped thread or makes an
+//! unusable mutex anew; `specs/` says what each event does and notes ([`Note`]), and a trace is what the notes tell. The
+//! theorems about every run, wherever threads are killed and renewed, and mutexes made anew:
 //!
 //! - `history_is_legal`: the points and the deaths are one legal history of POSIX robust mutexes;
 //! - `trace_is_explained`, `events_apply`: each call has its points and returns their reply, and no event is passed over;
@@ -13,6 +13,8 @@
 //! - `wakes_are_right`: whom an event wakes or moves;
 //! - `leaves_and_declines_are_lone`, `without_leaves_as_before`: what sleepers that leave and trims that are declined do;
 //! - `renewals_begin_anew`, `without_renewals_as_before`: what a reaped thread that lives anew finds, and leaves as it is;
+//! - `reinits_free_the_mutex`, `without_reinits_as_before`, `nobody_joins_an_unusable_mutex`: what it is to make an unusable
+//!   mutex anew, and that nothing else does;
 //! - `nobody_is_passed_by`, `signals_are_right`: of condition variables.
 //!
 //! Stands on `mutex` and `condvar`, for the calls' programs, on `robustlist` and `exitwalk`, for lists and the walk over them,
@@ -43,9 +45,9 @@ pub use event::Event;
 pub use laws::{
     deaths_are_told, events_apply, history_is_legal, leaves_and_declines_are_lone, lists_are_kept,
     lone_threads_come_to_rest, no_reaped_owner, no_sleeper_is_stranded, nobody_is_passed_by,
-    renewals_begin_anew, signals_are_right, sleeps_are_told, trace_is_explained,
-    undivided_calls_reply, waiters_are_kept, wakes_are_right, walks_go_on,
-    without_leaves_as_before, without_renewals_as_before,
+    nobody_joins_an_unusable_mutex, reinits_free_the_mutex, renewals_begin_anew, signals_are_right,
+    sleeps_are_told, trace_is_explained, undivided_calls_reply, waiters_are_kept, wakes_are_right,
+    walks_go_on, without_leaves_as_before, without_reinits_as_before, without_renewals_as_before,
 };
 pub use note::Note;
 pub use thread::{Stage, Thread};

@@ -47,4 +47,9 @@ pub enum Note {
     Renewed {
         thread: Tid,
     },
+    /// A thread made an unusable mutex anew.
+    Reinited {
+        thread: Tid,
+        mutex: u16,
+    },
 }

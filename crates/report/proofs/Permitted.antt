@@ -5,7 +5,7 @@ use Rattle.lockword.specs.declared.reply.Reply.{Reply}
 use Rattle.lockword.specs.declared.reply.Reply.TheVariants.{OK, EPERM, EBUSY, EINVAL, EDEADLK, EOWNERDEAD, ENOTRECOVERABLE, XRACED, XHELD, XFULL, XSTATE}
 use Rattle.keys.specs.declared.object.Object.{Object}
 use Rattle.keys.specs.declared.point.Operation.{Operation}
-use Rattle.keys.specs.declared.point.Operation.TheVariants.{Lock, TryLock, Unlock, Consistent, Wait, Signal, Broadcast, Death}
+use Rattle.keys.specs.declared.point.Operation.TheVariants.{Lock, TryLock, Unlock, Consistent, Wait, Signal, Broadcast, Death, Reinit}
 use Rattle.keys.proofs.Steps.{determined}
 use Rattle.keys.specs.Objects.{held_limit, acquires, Does, freed, owned_by, Permits}
 use Rattle.report.specs.Lone.{answer, MutexesPermitOnlyAnswers, by_owner, taken, taking, IsAnswer}
@@ -78,6 +78,7 @@ permits_answer h t o n Broadcast OK low sound alive won p = its_mine t o.owner (
 permits_answer h t o n Broadcast XFULL low sound alive won p = its_mine t o.owner (Some EPERM) (Some OK) (Some EPERM) p.0
 permits_answer h t o n Broadcast EPERM low sound alive won p = not_mine t o.owner (Some EPERM) (Some OK) p.0
 permits_answer h t o n Death OK low sound alive won p = absurd (alive refl)
+permits_answer h t o n Reinit OK low sound alive won p = ap (λ (b : Bool). if b then Some OK else None) p.0
 permits_answer h t o n op r low sound alive won p = absurd p
 
 -- also where its thread holds too many
@@ -97,6 +98,7 @@ step_answer h t o n Consistent r sound alive won does = permits_answer h t o n C
 step_answer h t o n Wait r sound alive won does = permits_answer h t o n Wait r (λ takes. absurd (cc takes)) sound alive (λ same. won) does
 step_answer h t o n Signal r sound alive won does = permits_answer h t o n Signal r (λ takes. absurd (cc takes)) sound alive (λ same. won) does
 step_answer h t o n Broadcast r sound alive won does = permits_answer h t o n Broadcast r (λ takes. absurd (cc takes)) sound alive (λ same. won) does
+step_answer h t o n Reinit r sound alive won does = permits_answer h t o n Reinit r (λ takes. absurd (cc takes)) sound alive (λ same. won) does
 step_answer h t o n Death r sound alive won does = absurd (alive refl)
 
 pub only_answers : MutexesPermitOnlyAnswers

@@ -60,6 +60,7 @@ by_action k p n m d t (action.Go u) mutexes conditions fine = tt
 by_action k p n m d t (action.Leave u) mutexes conditions fine = tt
 by_action k p n m d t (action.Decline u) mutexes conditions fine = tt
 by_action k p n m d t (action.Renew u) mutexes conditions fine = tt
+by_action k p n m d t (action.Reinit u m2) mutexes conditions fine = tt
 by_action k p n m d t (action.Die u o) mutexes conditions fine = tt
 by_action k p n m d t (action.Locks u j o) mutexes conditions fine = tt
 by_action k p n m d t action.Phase mutexes conditions fine = tt

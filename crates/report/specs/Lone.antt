@@ -5,7 +5,7 @@ use Rattle.lockword.specs.declared.reply.Reply.{Reply}
 use Rattle.lockword.specs.declared.reply.Reply.TheVariants.{OK, EPERM, EBUSY, EINVAL, EDEADLK, EOWNERDEAD, ENOTRECOVERABLE, XRACED, XHELD, XFULL, XSTATE}
 use Rattle.keys.specs.declared.object.Object.{Object}
 use Rattle.keys.specs.declared.point.Operation.{Operation}
-use Rattle.keys.specs.declared.point.Operation.TheVariants.{Lock, TryLock, Unlock, Consistent, Wait, Signal, Broadcast, Death}
+use Rattle.keys.specs.declared.point.Operation.TheVariants.{Lock, TryLock, Unlock, Consistent, Wait, Signal, Broadcast, Death, Reinit}
 use Rattle.keys.specs.Histories.{is_thread, held_by}
 use Rattle.keys.specs.Layouts.{Layout', cell_place}
 use Rattle.keys.specs.Objects.{held_limit, bereaved, stepped, Does, Run}
@@ -35,7 +35,8 @@ taking t full unusable owner inconsistent mine anothers =
 
 -- the answer to thread t, which holds so many mutexes, of a call of this operation on a mutex that is o. None: it isn't
 -- answered, as a lock of a mutex that another thread owns sleeps for good. A wait that isn't refused sleeps for
--- good too, as nobody signals; if it is answered, it has taken the mutex again that it released
+-- good too, as nobody signals; if it is answered, it has taken the mutex again that it released. A reinit is no call of
+-- theirs
 abbrev pub answer : ℕ → ℕ → Operation → Object → Option Reply
 answer held t Lock o = taking t (nat_le held_limit held) o.unusable o.owner o.inconsistent (Some EDEADLK) None
 answer held t TryLock o = taking t (nat_le held_limit held) o.unusable o.owner o.inconsistent (Some EBUSY) (Some EBUSY)
@@ -45,6 +46,7 @@ answer held t Wait o = by_owner t o.owner (Some EPERM) (Some (if o.inconsistent 
 answer held t Signal o = by_owner t o.owner (Some EPERM) (Some OK) (Some EPERM)
 answer held t Broadcast o = by_owner t o.owner (Some EPERM) (Some OK) (Some EPERM)
 answer held t Death o = None
+answer held t Reinit o = if o.unusable then Some OK else None
 
 -- the call was answered r: with that answer. But an owner's signal or broadcast may be refused with X_FULL, by a
 -- counter that is full. (A trylock never gives up, as nobody else changes the cell)

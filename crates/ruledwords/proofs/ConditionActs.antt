@@ -87,6 +87,7 @@ one_neutral b operation.TryLock x neutral = absurd neutral
 one_neutral b operation.Unlock x neutral = absurd neutral
 one_neutral b operation.Consistent x neutral = absurd neutral
 one_neutral b operation.Death x neutral = absurd neutral
+one_neutral b operation.Reinit x neutral = absurd neutral
 
 neutral_held : (b : Bool) (t z : ℕ) (d : Option Decided) → IsNeutral d → held_after b (points (point_of t z d)) ≡ b
 neutral_held b t z None neutral = refl
@@ -101,6 +102,7 @@ one_counted n operation.TryLock x neutral = absurd neutral
 one_counted n operation.Unlock x neutral = absurd neutral
 one_counted n operation.Consistent x neutral = absurd neutral
 one_counted n operation.Death x neutral = absurd neutral
+one_counted n operation.Reinit x neutral = absurd neutral
 
 neutral_count : (n t z : ℕ) (d : Option Decided) → IsNeutral d → count_after n (point_of t z d) ≡ n
 neutral_count n t z None neutral = refl

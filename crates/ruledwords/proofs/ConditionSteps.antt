@@ -47,7 +47,7 @@ use Rattle.ruledwords.proofs.Held.{owner_held}
 use Rattle.ruledwords.proofs.Keepers.{inside, other_cell}
 use Rattle.ruledwords.proofs.Lists.{told, value_put, value_put_else}
 use Rattle.ruledwords.proofs.Looks.{found}
-use Rattle.ruledwords.proofs.Moves.{Knowing, Marked, Steady, allows, changing, marked_own, says, turns}
+use Rattle.ruledwords.proofs.Moves.{Knowing, Marked, Steady, allows, changing, marked_own, none_where_same, says, turns}
 use Rattle.ruledwords.proofs.OwnWords.{own_place}
 use Rattle.ruledwords.proofs.Steps.{holder, is_owner_by, makes, may_have, others_run_keep, own_kept, since_seen, sound, values_after}
 use Rattle.ruledwords.proofs.Trims.{fits_left, kept_left}
@@ -90,8 +90,8 @@ meets {o} k slots id c q low p runs countless =
     (λ ws n known. may_have k ws m c n n _ _ refl)
     (λ n known. ((λ owned on. on), λ clear. clear))
     (λ n. told_count (cond_led_at p n).decided ∙ countless n)
-    (λ n known. subst (λ (xs : List Point). Run (object_of (fields_of n)) xs (object_of (fields_of n))) (sym (told_decided c.thread z (cond_led_at p n).decided))
-    (run_here (object_of (fields_of n)) (object_of (fields_of n)) c.thread p.cell z (cond_led_at p n).decided (runs n known.thread.0 (short n known) (sound k c z n known))))
+    (λ n known. none_where_same c.thread z (op_in (cond_led_at p n).decided) (reply_in (cond_led_at p n).decided) (object_of (fields_of n)) (told_runs n known))
+    told_runs
     (λ ws n d known sees writes misses last counted mark values. turns c d (λ c d. Meets k q p c n d) record {
       sees = subst (λ (xs : List Point). Sees c z xs (object_of (fields_of n)) d) (told_decided c.thread z (cond_led_at p n).decided) sees;
       misses = misses;
@@ -110,6 +110,10 @@ meets {o} k slots id c q low p runs countless =
 
     short : (n : ℕ) → Knowing k c z n → c.thread ≤ 64
     short n known = let a = known.thread.1 in let b = known.thread.2 in omega arith
+
+    told_runs : (n : ℕ) → Knowing k c z n → Run (object_of (fields_of n)) (told c.thread z (op_in (cond_led_at p n).decided) (reply_in (cond_led_at p n).decided)) (object_of (fields_of n))
+    told_runs n known = subst (λ (xs : List Point). Run (object_of (fields_of n)) xs (object_of (fields_of n))) (sym (told_decided c.thread z (cond_led_at p n).decided))
+        (run_here (object_of (fields_of n)) (object_of (fields_of n)) c.thread p.cell z (cond_led_at p n).decided (runs n known.thread.0 (short n known) (sound k c z n known)))
 
     holds_then : (n : ℕ) (d : Card) → Knowing k c z n → {new : List Point} → Sees c z new (object_of (fields_of n)) d → owns_in k d m ≡ ((fields_of n).owner == c.thread)
     holds_then n d known sees = ap (λ (t : ℕ). holds t (at d.seen z)) sees.thread ∙ owner_held c.thread fresh (at d.seen z) (object_of (fields_of n)) sees.leaves.0 ∙ is_owner_by c.thread (fields_of n).owner known.thread.0

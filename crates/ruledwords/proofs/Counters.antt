@@ -30,9 +30,9 @@ use Rattle.ruledwords.specs.Seen.{Leaves, Sees}
 use Rattle.ruledwords.proofs.Changes.{recorded_change, writes_there}
 use Rattle.ruledwords.proofs.Counts.{counted_same, counted_more, counts_more, of_mutex, told_counts}
 use Rattle.ruledwords.proofs.Keepers.{counter_no_cell, keeper_same, other_cell}
-use Rattle.ruledwords.proofs.Lists.{at_put, at_put_else, told, value_put, value_put_else, all_set, all_two, counted}
+use Rattle.ruledwords.proofs.Lists.{NoReinit, at_put, at_put_else, told, value_put, value_put_else, all_set, all_two, counted}
 use Rattle.ruledwords.proofs.Looks.{kept_noted}
-use Rattle.ruledwords.proofs.Moves.{St, says, leaves_more, sees_step, all_fit_other, begins_told, by_told, turns}
+use Rattle.ruledwords.proofs.Moves.{St, says, leaves_more, none_where_same, sees_step, all_fit_other, begins_told, by_told, turns}
 
 -- ---- whose a counter is
 
@@ -123,6 +123,9 @@ module _ (o : List ℕ) (k : Layout') (s : St) (h : Kept k o s) (id : ℕ) (c : 
   in_layout : m < k.mutexes
   in_layout = of_mutex k q h.layout low
 
+  not_made_anew : NoReinit op r
+  not_made_anew = none_where_same c.thread p op r (says s.words p) run
+
   within : a < length s.words
   within = subst (λ (z : ℕ). a < z) (sym h.wide) (let e : a < words_of k = omega arith in e)
 
@@ -188,7 +191,7 @@ module _ (o : List ℕ) (k : Layout') (s : St) (h : Kept k o s) (id : ℕ) (c : 
       counted_more k o s.words ws' js (put js p xs) q h.layout h.counted low (now_here ∙ more ∙ ap (λ (z : ℕ). counter_in k s.words q + z) one) counter_else (here_counts ∙ ap (λ (z : ℕ). counts_in (at js p) + z) one) seen_counts)
 
   now : Leaves k.threads p xs (says s.words p)
-  now = leaves_more k p c.thread (at js p) _ (says s.words p) op r fit.thread.0 fit.thread.1 (h.leaves m in_layout) run
+  now = leaves_more k p c.thread (at js p) _ (says s.words p) op r fit.thread.0 fit.thread.1 not_made_anew (h.leaves m in_layout) run
 
   pub kept_counted : Kept k o record { words = ws'; homes = s.homes; views = set s.views id (behind ∷ []) }
   kept_counted = record {
@@ -224,7 +227,7 @@ module _ (o : List ℕ) (k : Layout') (s : St) (h : Kept k o s) (id : ℕ) (c : 
   writes_counted = writes_there k s.words s.views h.recorded id c behind a v (h.recorded.count q low) is refl
 
   pub sees_counted : Sees c p (told c.thread p op r) (says s.words p) behind
-  sees_counted = let s' = sees_step k s h id c m op r (get_or s.words p 0) 0 0 [] is in_layout run in
+  sees_counted = let s' = sees_step k s h id c m op r (get_or s.words p 0) 0 0 [] is in_layout not_made_anew run in
       record { thread = refl; threads = refl; base = refl; elsewhere = s'.elsewhere; between = s'.between; grows = s'.grows; own = s'.own; leaves = s'.leaves }
 
 -- ---- a look

@@ -5,7 +5,7 @@ use Rattle.std.proofs.lemmas.Bool.{eqb-false}
 use Rattle.lockword.specs.declared.reply.Reply.{Reply}
 use Rattle.lockword.specs.declared.reply.Reply.TheVariants.{OK, EPERM, EBUSY, EINVAL, EDEADLK, EOWNERDEAD, ENOTRECOVERABLE, XRACED, XFULL, XSTATE}
 use Rattle.keys.specs.declared.point.Operation.{Operation}
-use Rattle.keys.specs.declared.point.Operation.TheVariants.{Lock, TryLock, Unlock, Consistent, Wait, Signal, Broadcast, Death}
+use Rattle.keys.specs.declared.point.Operation.TheVariants.{Lock, TryLock, Unlock, Consistent, Wait, Signal, Broadcast, Death, Reinit}
 use Rattle.keys.specs.declared.point.Point.{Point}
 use Rattle.keys.specs.declared.object.Object.{Object}
 use Rattle.keys.specs.Histories.{is_thread}
@@ -61,6 +61,7 @@ own_point o n t Broadcast OK p = ap (owns t) (sym p.1)
 own_point o n t Broadcast XFULL p = ap (owns t) (sym p.1)
 own_point o n t Broadcast EPERM p = ap (owns t) (sym p.1)
 own_point o n t Death OK p = sym (owns_none t n (ap (λ (z : Object). z.owner) p.1))
+own_point o n t Reinit OK p = owns_none t o p.1 ∙ sym (owns_none t n (ap (λ (z : Object). z.owner) p.2))
 own_point o n t op x p = absurd p
 
 -- another's point: nothing changes for the thread
@@ -88,6 +89,7 @@ other_point o n t u Broadcast OK apart p = ap (owns t) (sym p.1)
 other_point o n t u Broadcast XFULL apart p = ap (owns t) (sym p.1)
 other_point o n t u Broadcast EPERM apart p = ap (owns t) (sym p.1)
 other_point o n t u Death OK apart p = owns_other t u o p.0 apart ∙ sym (owns_none t n (ap (λ (z : Object). z.owner) p.1))
+other_point o n t u Reinit OK apart p = owns_none t o p.1 ∙ sym (owns_none t n (ap (λ (z : Object). z.owner) p.2))
 other_point o n t u op x apart p = absurd p
 
 -- after any points, the thread owns the mutex exactly where it holds it by its own
@@ -156,6 +158,7 @@ counted_point o n t h h' Broadcast OK p e = let c : one (owns t n) ≡ one (owns
 counted_point o n t h h' Broadcast XFULL p e = let c : one (owns t n) ≡ one (owns t o) = ap (λ (z : Object). one (owns t z)) p.1 in omega arith
 counted_point o n t h h' Broadcast EPERM p e = let c : one (owns t n) ≡ one (owns t o) = ap (λ (z : Object). one (owns t z)) p.1 in omega arith
 counted_point o n t h h' Death OK p e = let c = ap one (owns_own t o p.0) in let d = ap one (owns_none t n (ap (λ (z : Object). z.owner) p.1)) in omega arith
+counted_point o n t h h' Reinit OK p e = let c = ap one (owns_none t o p.1) in let d = ap one (owns_none t n (ap (λ (z : Object). z.owner) p.2)) in omega arith
 counted_point o n t h h' op x p e = absurd p
 
 -- what a thread holds after it saw more, by its point if there was one

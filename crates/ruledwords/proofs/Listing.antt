@@ -128,6 +128,7 @@ fault_never o n t operation.Wait permits = permits
 fault_never o n t operation.Signal permits = permits
 fault_never o n t operation.Broadcast permits = permits
 fault_never o n t operation.Death permits = permits
+fault_never o n t operation.Reinit permits = permits
 
 pub owner_told : (t : ℕ) (o : Object) → o.owner ≡ Some t → is_thread t o.owner ≡ true
 owner_told t o e = ap (is_thread t) e ∙ eq-eqb t t refl

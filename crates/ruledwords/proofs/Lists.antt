@@ -12,6 +12,7 @@ use lib.ListN.{get_elem?}
 use Rattle.lockword.specs.declared.reply.Reply.{Reply}
 use Rattle.keys.specs.Layouts.{Layout'}
 use Rattle.keys.specs.declared.point.Operation.{Operation}
+use Rattle.keys.specs.declared.point.Operation.TheVariants.{Reinit}
 use Rattle.keys.specs.declared.point.Point.{Point}
 use Rattle.mutex.specs.Laws.{points}
 use Rattle.mutex.specs.Programs.{point_of}
@@ -105,9 +106,14 @@ pub all_of_append : (n p : ℕ) (xs ys : List Point) → AllOf n p xs → AllOf 
 all_of_append n p [] ys h i = i
 all_of_append n p (x ∷ xs) ys h i = (h.0, all_of_append n p xs ys h.1 i)
 
-pub all_of_told : (n t p : ℕ) (op : Operation) (r : Option Reply) → 1 ≤ t → t ≤ n → AllOf n p (told t p op r)
-all_of_told n t p op None pos le = tt
-all_of_told n t p op (Some r) pos le = ((refl, pos, le), tt)
+-- where a call decided something, it didn't make its mutex anew
+abbrev pub NoReinit : Operation → Option Reply → Type 0
+NoReinit op None = Unit {0}
+NoReinit op (Some x) = op ≢ Reinit
+
+pub all_of_told : (n t p : ℕ) (op : Operation) (r : Option Reply) → 1 ≤ t → t ≤ n → NoReinit op r → AllOf n p (told t p op r)
+all_of_told n t p op None pos le made = tt
+all_of_told n t p op (Some r) pos le made = ((refl, pos, le, made), tt)
 
 pub prefix_self : (xs : List Point) → IsPrefix xs xs
 prefix_self xs = ([], append-nil xs)

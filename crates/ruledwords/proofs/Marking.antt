@@ -34,7 +34,7 @@ use Rattle.ruledwords.proofs.Changes.{recorded_set}
 use Rattle.ruledwords.proofs.Counts.{told_counts}
 use Rattle.ruledwords.proofs.Held.{owner_held}
 use Rattle.ruledwords.proofs.Keepers.{inside, other_cell}
-use Rattle.ruledwords.proofs.Lists.{all_set, told}
+use Rattle.ruledwords.proofs.Lists.{NoReinit, all_set, told}
 use Rattle.ruledwords.proofs.Looks.{found}
 use Rattle.ruledwords.proofs.Moves.{St, Knowing, Marked, Steady, allows, marked_own, turns}
 use Rattle.ruledwords.proofs.Steps.{holder, is_owner_by, may_have, own_kept, others_run_keep, since_seen, values_after}
@@ -103,6 +103,11 @@ deathless : (b : Bool) → told_counts Death (death_by b) ≡ 0
 deathless true = refl
 deathless false = refl
 
+-- and it makes no mutex anew
+reinitless : (b : Bool) → NoReinit Death (death_by b)
+reinitless true = λ e. cc e
+reinitless false = tt
+
 -- the walk's own law, of an exchange of the word old, whose owner is t
 module _ (t old : ℕ) (pos : 1 ≤ t) (mine : (fields_of old).owner ≡ t) where
   law : (n : ℕ) → Right t (AtMark 0 old false Pending) (answer_at (row_access 0 (AtMark 0 old false Pending)) n) n (changed (row_access 0 (AtMark 0 old false Pending)) n)
@@ -128,6 +133,7 @@ marks_cell {o} k slots id c m old new low thread mine is = subst (λ (f : ℕ �
     (λ ws n known. may_have k ws m c n (left_by_mark old n) _ _ refl)
     (λ n known. steady c.thread old thread.0 mine n)
     (λ n. deathless (n == old))
+    (λ n known. reinitless (n == old))
     (λ n known. subst (λ (xs : List Point). Run (object_of (fields_of n)) xs (object_of (fields_of (left_by_mark old n)))) (sym (told_death c.thread q (n == old))) (runs c.thread old thread.0 mine n q))
     (λ ws n d known sees writes misses last counted mark values. turns c d (λ c d. Marks k q old c n d) record {
       sees = subst (λ (xs : List Point). Sees c q xs (object_of (fields_of (left_by_mark old n))) d) (told_death c.thread q (n == old)) sees;

@@ -1,5 +1,5 @@
 -- A step at a cell keeps the rule, and adds to what its card saw.
-use Rattle.std.proofs.Common.{Bool, true, ◌≡◌, ◌≢◌, ◌⊎◌, ℕ, zero, suc, ◌+◌, ◌<◌, ◌≤◌, Option, Some, List, [], ◌∷◌, ◌++◌, length, get_or, set, refl, sym, ap, ◌∙◌, subst, ⊎_elim, arith, append-nil, length-set, get_or-set_other, get_or-set_same, eqb-true, eq-eqb}
+use Rattle.std.proofs.Common.{Bool, true, ◌≡◌, ◌≢◌, ◌⊎◌, ℕ, zero, suc, ◌+◌, ◌<◌, ◌≤◌, Option, Some, None, List, [], ◌∷◌, ◌++◌, length, get_or, set, refl, sym, ap, ◌∙◌, subst, ⊎_elim, arith, append-nil, length-set, get_or-set_other, get_or-set_same, eqb-true, eq-eqb}
 use mathlib.Core.Logic.{dite}
 use mathlib.Core.Option.{some}
 use mathlib.Core.List.{IsPrefix}
@@ -9,7 +9,9 @@ use Rattle.atomic_table.specs.Table.{State, Me, keeps, Allows}
 use Rattle.atomic_table.proofs.Lists.{at_set}
 use Rattle.lockword.specs.Cells.{fields_of}
 use Rattle.lockword.specs.declared.reply.Reply.{Reply}
+use Rattle.lockword.specs.declared.reply.Reply.TheVariants.{OK}
 use Rattle.keys.specs.declared.point.Operation.{Operation}
+use Rattle.keys.specs.declared.point.Operation.TheVariants.{Reinit}
 use Rattle.keys.specs.declared.point.Point.{Point}
 use Rattle.keys.specs.declared.object.Object.{Object}
 use Rattle.keys.specs.Histories.{is_thread}
@@ -23,7 +25,7 @@ use Rattle.ruledwords.specs.Changes.{changes_at, put_changes, change_of, Writes}
 use Rattle.ruledwords.specs.Counts.{counts_in}
 use Rattle.ruledwords.specs.Seen.{by, Leaves, Sees}
 use Rattle.ruledwords.specs.Rules.{guard, owner_at, keeper, Fits, AllFit, cards_of, Kept, Turns}
-use Rattle.ruledwords.proofs.Lists.{at_put, at_put_else, mark_put, mark_put_else, by_append, told, by_own, by_other, all_of_append, all_of_told, prefix_self, prefix_more, all_set, all_two, counted}
+use Rattle.ruledwords.proofs.Lists.{at_put, at_put_else, mark_put, mark_put_else, by_append, told, by_own, by_other, NoReinit, all_of_append, all_of_told, prefix_self, prefix_more, all_set, all_two, counted}
 use Rattle.ruledwords.proofs.Changes.{recorded_change, writes_there}
 use Rattle.ruledwords.proofs.Counts.{counted_same, counts_more, told_counts}
 use Rattle.ruledwords.proofs.Held.{others_run}
@@ -167,17 +169,26 @@ fits_own k ws ws' js p op r c misses last vs b zs f knows marked = let xs : List
 
 -- ---- the rule
 
-pub leaves_more : (k : Layout') (p t : ℕ) (xs : List Point) (o n : Object) (op : Operation) (r : Option Reply) → 1 ≤ t → t ≤ k.threads → Leaves k.threads p xs o → Run o (told t p op r) n → Leaves k.threads p (xs ++ told t p op r) n
-leaves_more k p t xs o n op r pos low l run = (run_append fresh o n xs (told t p op r) l.0 run, all_of_append k.threads p xs (told t p op r) l.1 (all_of_told k.threads t p op r pos low))
+-- a step that leaves the mutex as it was didn't make it anew
+pub none_where_same : (t p : ℕ) (op : Operation) (r : Option Reply) (o : Object) → Run o (told t p op r) o → NoReinit op r
+none_where_same t p op None o run = tt
+none_where_same t p op (Some x) o run = λ e. go x (subst (λ (z : Operation). Run o (told t p z (Some x)) o) e run)
+  where
+    go : (x : Reply) → Run o (told t p Reinit (Some x)) o → ⊥
+    go OK run = absurd (cc (run.1.0, ap (λ (z : Object). z.unusable) (run.2 ∙ run.1.2)))
+    go x run = run.1
+
+pub leaves_more : (k : Layout') (p t : ℕ) (xs : List Point) (o n : Object) (op : Operation) (r : Option Reply) → 1 ≤ t → t ≤ k.threads → NoReinit op r → Leaves k.threads p xs o → Run o (told t p op r) n → Leaves k.threads p (xs ++ told t p op r) n
+leaves_more k p t xs o n op r pos low made l run = (run_append fresh o n xs (told t p op r) l.0 run, all_of_append k.threads p xs (told t p op r) l.1 (all_of_told k.threads t p op r pos low made))
 
 -- the changes of m's cell behind an access of the card's thread that leaves n there
 abbrev pub changing : {o : List ℕ} (k : Layout') (s : St) (h : Kept k o s) (c : Card) (m n : ℕ) → List Change
 changing k s h c m n = changes_at h.recorded.changes (cell_place k m) ++ change_of c.thread (get_or s.words (cell_place k m) 0) n
 
 kept_step : (o : List ℕ) (k : Layout') (s : St) (h : Kept k o s) (id : ℕ) (c : Card) (m : ℕ) (op : Operation) (r : Option Reply) (n misses last : ℕ) (vs : List (Option ℕ)) → get_elem? s.views id ≡ some (c ∷ []) → m < k.mutexes → MayHave k s.words m c (get_or s.words (cell_place k m) 0) n vs
-    → Steady (get_or s.words (cell_place k m) 0) n → told_counts op r ≡ 0 → Run (says s.words (cell_place k m)) (told c.thread (cell_place k m) op r) (object_of (fields_of n))
+    → Steady (get_or s.words (cell_place k m) 0) n → told_counts op r ≡ 0 → NoReinit op r → Run (says s.words (cell_place k m)) (told c.thread (cell_place k m) op r) (object_of (fields_of n))
     → Kept k o record { words = set s.words (cell_place k m) n; homes = s.homes; views = set s.views id (after c (cell_place k m) (at h.histories (cell_place k m) ++ told c.thread (cell_place k m) op r) misses last vs (fields_of n).waiters (changing k s h c m n) ∷ []) }
-kept_step o k s h id c m op r n misses last vs is low keep steady countless run =
+kept_step o k s h id c m op r n misses last vs is low keep steady countless made run =
     let p : ℕ = cell_place k m in
     let js = h.histories in
     let xs : List Point = at js p ++ told c.thread p op r in
@@ -185,7 +196,7 @@ kept_step o k s h id c m op r n misses last vs is low keep steady countless run 
     let w : List Card = after c p xs misses last vs (fields_of n).waiters (changing k s h c m n) ∷ [] in
     let within : p < length s.words = subst (λ (z : ℕ). p < z) (sym h.wide) (inside k m low) in
     let ws' = set s.words p n in
-    let now = leaves_more k p c.thread (at js p) _ (object_of (fields_of n)) op r fit.thread.0 fit.thread.1 (h.leaves m low) run in
+    let now = leaves_more k p c.thread (at js p) _ (object_of (fields_of n)) op r fit.thread.0 fit.thread.1 made (h.leaves m low) run in
     record {
       layout = h.layout;
       wide = length-set s.words p n ∙ h.wide;
@@ -228,15 +239,15 @@ kept_step o k s h id c m op r n misses last vs is low keep steady countless run 
     }
 
 pub sees_step : {o : List ℕ} (k : Layout') (s : St) (h : Kept k o s) (id : ℕ) (c : Card) (m : ℕ) (op : Operation) (r : Option Reply) (n misses last : ℕ) (vs : List (Option ℕ)) → get_elem? s.views id ≡ some (c ∷ []) → m < k.mutexes
-    → Run (says s.words (cell_place k m)) (told c.thread (cell_place k m) op r) (object_of (fields_of n))
+    → NoReinit op r → Run (says s.words (cell_place k m)) (told c.thread (cell_place k m) op r) (object_of (fields_of n))
     → Sees c (cell_place k m) (told c.thread (cell_place k m) op r) (object_of (fields_of n)) (after c (cell_place k m) (at h.histories (cell_place k m) ++ told c.thread (cell_place k m) op r) misses last vs (fields_of n).waiters (changing k s h c m n))
-sees_step k s h id c m op r n misses last vs is low run =
+sees_step k s h id c m op r n misses last vs is low made run =
     let p : ℕ = cell_place k m in
     let new : List Point = told c.thread p op r in
     let xs : List Point = at h.histories p ++ new in
     let fit = (h.fits id (c ∷ []) is).0 in
     let there = at_put c.seen p xs in
-    let now = leaves_more k p c.thread (at h.histories p) _ (object_of (fields_of n)) op r fit.thread.0 fit.thread.1 (h.leaves m low) run in
+    let now = leaves_more k p c.thread (at h.histories p) _ (object_of (fields_of n)) op r fit.thread.0 fit.thread.1 made (h.leaves m low) run in
     record {
       thread = refl;
       threads = refl;
@@ -270,10 +281,11 @@ pub allows : {o : List ℕ} (k : Layout') (slots id : ℕ) (c : Card) (m : ℕ) 
     → ((ws : List ℕ) (n : ℕ) → Knowing k c (cell_place k m) n → MayHave k ws m c n (f n) (vs ws n))
     → ((n : ℕ) → Knowing k c (cell_place k m) n → Steady n (f n))
     → ((n : ℕ) → told_counts (op n) (r n) ≡ 0)
+    → ((n : ℕ) → Knowing k c (cell_place k m) n → NoReinit (op n) (r n))
     → ((n : ℕ) → Knowing k c (cell_place k m) n → Run (object_of (fields_of n)) (told c.thread (cell_place k m) (op n) (r n)) (object_of (fields_of (f n))))
     → ((ws : List ℕ) (n : ℕ) (d : Card) → Knowing k c (cell_place k m) n → Sees c (cell_place k m) (told c.thread (cell_place k m) (op n) (r n)) (object_of (fields_of (f n))) d → Writes c (cell_place k m) n (f n) d → d.misses ≡ misses n → d.last ≡ last n → d.counted ≡ c.counted → mark_at d.marks (cell_place k m) ≡ (fields_of (f n)).waiters → d.values ≡ vs ws n → tells n (d ∷ [], []))
     → Allows (Kept k o) slots id (c ∷ [], []) (cell_place k m) f tells
-allows {o} k slots id c m op f r misses last vs tells low keeps_values steadies countless runs says_of s h deep is small =
+allows {o} k slots id c m op f r misses last vs tells low keeps_values steadies countless none_reinits runs says_of s h deep is small =
     let p : ℕ = cell_place k m in
     let n : ℕ = get_or s.words p 0 in
     let fit = (h.fits id (c ∷ []) is).0 in
@@ -284,6 +296,6 @@ allows {o} k slots id c m op f r misses last vs tells low keeps_values steadies 
       after c p (at h.histories p ++ told c.thread p (op n) (r n)) (misses n) (last n) (vs s.words n) (fields_of (f n)).waiters (changing k s h c m (f n)) ∷ [],
       keeps,
       tt,
-      kept_step o k s h id c m (op n) (r n) (f n) (misses n) (last n) (vs s.words n) is low keep steady (countless n) run,
-      says_of s.words n _ knows (sees_step k s h id c m (op n) (r n) (f n) (misses n) (last n) (vs s.words n) is low run) (writes_there k s.words s.views h.recorded id c _ p (f n) (h.recorded.leave m low) is refl) refl refl refl (mark_put c.marks p (fields_of (f n)).waiters) refl,
+      kept_step o k s h id c m (op n) (r n) (f n) (misses n) (last n) (vs s.words n) is low keep steady (countless n) (none_reinits n knows) run,
+      says_of s.words n _ knows (sees_step k s h id c m (op n) (r n) (f n) (misses n) (last n) (vs s.words n) is low (none_reinits n knows) run) (writes_there k s.words s.views h.recorded id c _ p (f n) (h.recorded.leave m low) is refl) refl refl refl (mark_put c.marks p (fields_of (f n)).waiters) refl,
     )

@@ -33,7 +33,7 @@ use Rattle.ruledwords.specs.OwnWords.{owns_in, IsOwn, KnowsOwn}
 use Rattle.ruledwords.specs.Rules.{Kept}
 use Rattle.ruledwords.proofs.Cards.{run_at}
 use Rattle.ruledwords.proofs.Counts.{told_counts}
-use Rattle.ruledwords.proofs.Lists.{by_append, told, only, value_only, value_put, value_put_else, no_more}
+use Rattle.ruledwords.proofs.Lists.{NoReinit, by_append, told, only, value_only, value_put, value_put_else, no_more}
 use Rattle.ruledwords.proofs.Held.{owner_held}
 use Rattle.ruledwords.proofs.Keepers.{IsLink, other_cell, stays, stays_not}
 use Rattle.ruledwords.proofs.Moves.{Knowing, MayHave, allows, turns}
@@ -206,6 +206,15 @@ countless (row.Unlock r) (Some x) = refl
 countless (row.Consistent r) (Some x) = refl
 countless (row.Ended y) (Some x) = refl
 
+-- and none makes a mutex anew
+unreinited : (r : Row) (x : Option Reply) → NoReinit (row_operation r) x
+unreinited r None = tt
+unreinited (row.Lock r) (Some x) = λ e. cc e
+unreinited (row.TryLock r) (Some x) = λ e. cc e
+unreinited (row.Unlock r) (Some x) = λ e. cc e
+unreinited (row.Consistent r) (Some x) = λ e. cc e
+unreinited (row.Ended y) (Some x) = λ e. cc e
+
 -- the access of a call may be made
 pub makes : {o : List ℕ} (k : Layout') (slots id : ℕ) (c : Card) (m : ℕ) → m < k.mutexes → cell_place k m < 2 ^ 64 → (p : Standing) (a : Access) → access_of p ≡ a → p.cell ≡ address_at c (cell_place k m) → IsGoing p.row → IsStep (access_of p) → Ready p c → (x y : ℕ)
     → Allows (Kept k o) slots id (c ∷ [], []) (cell_place k m) (changed a) (made k p (step slots (cell_place k m) x y none) (c ∷ [], []))
@@ -214,6 +223,7 @@ makes k slots id c m low few p a is there going stepping ready x y =
     (λ ws n known. may_have k ws m c n (changed a n) _ _ refl)
     (λ n known. (λ owned on. subst (λ (z : Access). (fields_of (changed z n)).waiters ≡ true) is ((mind n known).waiters on), λ clear. subst (λ (z : Access). (fields_of (changed z n)).rest ≡ 0) is ((mind n known).rest clear)))
     (λ n. countless p.row (led_at p n).point)
+    (λ n known. unreinited p.row (led_at p n).point)
     (λ n known. subst (λ (z : Access). Run (object_of (fields_of n)) (told c.thread q (row_operation p.row) (led_at p n).point) (object_of (fields_of (changed z n)))) is
     (run_at (object_of (fields_of n)) (object_of (fields_of (changed (access_of p) n))) c.thread p.cell q (row_operation p.row) (led_at p n).point (rights n known).runs))
     (λ ws n d known sees writes misses last counted mark values. turns c d (λ c d. Made p q c n d × OwnKept k c d) (

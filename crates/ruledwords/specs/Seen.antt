@@ -7,7 +7,7 @@ use mathlib.Core.List.{IsPrefix}
 use Rattle.lockword.specs.declared.reply.Reply.{Reply}
 use Rattle.lockword.specs.declared.reply.Reply.TheVariants.{OK, EOWNERDEAD}
 use Rattle.keys.specs.declared.point.Operation.{Operation}
-use Rattle.keys.specs.declared.point.Operation.TheVariants.{Lock, TryLock, Unlock, Death}
+use Rattle.keys.specs.declared.point.Operation.TheVariants.{Lock, TryLock, Unlock, Death, Reinit}
 use Rattle.keys.specs.declared.point.Point.{Point}
 use Rattle.keys.specs.declared.object.Object.{Object}
 use Rattle.keys.specs.Objects.{fresh, Run}
@@ -20,10 +20,10 @@ use Rattle.ruledwords.specs.Changes.{KnowsOn}
 abbrev pub by : ℕ → List Point → List Point
 by t xs = filter (λ (x : Point). x.thread == t) xs
 
--- they are points of the mutex whose cell is at p, by threads 1 to n
+-- they are points of the mutex whose cell is at p, by threads 1 to n, and none makes the mutex anew: no running thread does that
 abbrev pub AllOf : ℕ → ℕ → List Point → Type 0
 AllOf n p [] = Unit {0}
-AllOf n p (x ∷ xs) = ((x.at ≡ p) × (1 ≤ x.thread) × (x.thread ≤ n)) × AllOf n p xs
+AllOf n p (x ∷ xs) = ((x.at ≡ p) × (1 ≤ x.thread) × (x.thread ≤ n) × (x.operation ≢ Reinit)) × AllOf n p xs
 
 -- a legal list of such points leaves the mutex as o
 abbrev pub Leaves : ℕ → ℕ → List Point → Object → Type 0

@@ -24,11 +24,11 @@ use Rattle.mutex.specs.Whole.{whole_led}
 use Rattle.condvar.specs.Ops.{mutex_of}
 use Rattle.protocol.specs.declared.event.Event.{Event}
 use Rattle.protocol.specs.declared.note.Note.{Note}
-use Rattle.protocol.specs.declared.note.Note.TheVariants.{Nothing, Began, Stepped, Killed, Left, Walked, Renewed}
+use Rattle.protocol.specs.declared.note.Note.TheVariants.{Nothing, Began, Stepped, Killed, Left, Walked, Renewed, Reinited}
 use Rattle.protocol.specs.declared.thread.Thread.{Thread}
 use Rattle.protocol.specs.declared.thread.Stage.TheVariants.{Reaped}
 use Rattle.protocol.specs.Notes.{facts_of, death_facts, reap_facts, line_of, lines_from}
-use Rattle.protocol.specs.Machine.{State, After, start, begun, killed, departed, renewed, walked, has_ended, stage_walked, happens, run, notes, led, decision}
+use Rattle.protocol.specs.Machine.{State, After, start, begun, killed, departed, renewed, reinited, walked, has_ended, stage_walked, happens, run, notes, led, decision}
 use Rattle.protocol.specs.Headline.{points_of, points_among, facts_among, seen}
 use Rattle.protocol.specs.Sleepers.{IsAmong}
 use Rattle.protocol.proofs.Puts.{put-same}
@@ -163,6 +163,12 @@ module _ (s : State) (t : ℕ) where
   renewed_rightly u (inl f) = absurd cc
   renewed_rightly u (inr h) = absurd h
 
+  reinited_rightly : (u j : ℕ) → ReapsRightly (reinited s u j)
+  reinited_rightly u j (inl f) = absurd cc
+  reinited_rightly u j (inr (inl f)) = absurd cc
+  reinited_rightly u j (inr (inr (inl f))) = absurd cc
+  reinited_rightly u j (inr (inr (inr h))) = absurd h
+
   reaped_stage : (e : Event) → ReapsRightly (happens s e)
   reaped_stage e =
       by_event s (λ x a. ReapsRightly a) (λ x h. absurd h) (λ u o first most inside idle b full. begun_rightly u o b)
@@ -171,6 +177,7 @@ module _ (s : State) (t : ℕ) where
       (λ u first most asleep. left_rightly u)
       (λ u o p first most is awake trims h. let g = led o p (whole_led p (Trimmed false)) in absurd (step_reaps_none t u (mutex_of s.layout o) (decision u (mutex_of s.layout o) g.operation g.point) None [] [] g.returned h))
       (λ u first most gone. renewed_rightly u)
+      (λ u j may. reinited_rightly u j)
       e
 
 -- the lines of a note, behind which whoever is reaped owns nothing
@@ -181,6 +188,7 @@ note_reaped k i earlier (Began u c (Some x)) owns = (tt, (tt, (tt, tt)))
 note_reaped k i earlier (Killed u) owns = (tt, tt)
 note_reaped k i earlier (Left u) owns = (tt, tt)
 note_reaped k i earlier (Renewed u) owns = (tt, tt)
+note_reaped k i earlier (Reinited u j) owns = (tt, (tt, (tt, tt)))
 note_reaped k i earlier (Stepped u m p z us vs y) owns = none_reaped k i earlier (facts_of (Stepped u m p z us vs y)) (λ t. step_reaps_none t u m p z us vs y)
 note_reaped k i earlier (Walked u d us false) owns = none_reaped k i earlier (facts_of (Walked u d us false)) (λ t h. let so = (walk_reaps t u d us false h).1 in cc)
 note_reaped k i earlier (Walked u d us true) owns =

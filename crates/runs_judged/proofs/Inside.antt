@@ -29,9 +29,9 @@ use Rattle.condvar.specs.Ops.{mutex_of}
 use Rattle.protocol.specs.declared.event.Event.{Event}
 use Rattle.protocol.specs.declared.note.Note.{Note}
 use Rattle.protocol.specs.declared.note.Note.TheVariants.{Stepped, Walked}
-use Rattle.protocol.specs.Notes.{facts_of, line_of, lines_from}
+use Rattle.protocol.specs.Notes.{facts_of, reinit_of, line_of, lines_from}
 use Rattle.protocol.specs.Ops.{begun_of, queue_place}
-use Rattle.protocol.specs.Machine.{State, After, start, begun, killed, departed, renewed, decision, happens, run, notes, led}
+use Rattle.protocol.specs.Machine.{State, After, start, begun, killed, departed, renewed, reinited, decision, happens, run, notes, led}
 use Rattle.protocol.specs.Headline.{facts_among, seen}
 use Rattle.protocol.specs.Sleepers.{IsAmong}
 use Rattle.protocol.specs.Applies.{IsThread, Names}
@@ -83,6 +83,12 @@ module _ (s : State) where
   renewed_own u first most f (inl e) active = its_own u f first most (ap thread_of e)
   renewed_own u first most f (inr h) active = absurd h
 
+  reinited_own : (u j : ℕ) → 1 ≤ u → u ≤ s.layout.threads → OwnThreads (reinited s u j)
+  reinited_own u j first most f (inl e) active = its_own u f first most (ap thread_of e)
+  reinited_own u j first most f (inr (inl e)) active = its_own u f first most (ap thread_of e)
+  reinited_own u j first most f (inr (inr (inl e))) active = its_own u f first most (ap thread_of e)
+  reinited_own u j first most f (inr (inr (inr h))) active = absurd h
+
   stepped_own : (u k : ℕ) (op : Operation) (x : Option Reply) (z : Option Queue) (us vs : List ℕ) (y : Option Reply) → 1 ≤ u → u ≤ s.layout.threads
       → (f : Fact) → IsAmong f (facts_of (Stepped u k (decision u k op x) z us vs y)) → is_passive f ≡ false → IsThread s.layout (thread_of f)
   stepped_own u k op x z us vs y first most f h active = go x (of_step u k (decision u k op x) z us vs y f h)
@@ -117,6 +123,7 @@ module _ (s : State) where
       (λ u first most asleep. left_own u)
       (λ u o p first most is awake trims. let g = led o p (whole_led p (Trimmed false)) in stepped_own u (mutex_of s.layout o) g.operation g.point None [] [] g.returned first most)
       (λ u first most gone. renewed_own u first most)
+      (λ u j may. reinited_own u j may.first may.last)
       e
 
   -- a call that begins is on what the layout has
@@ -176,6 +183,12 @@ module _ (s : State) where
   renewed_inside u t c (inl e) = absurd cc
   renewed_inside u t c (inr h) = absurd h
 
+  reinited_inside : (u j : ℕ) → j < s.layout.mutexes → CallsInside (reinited s u j)
+  reinited_inside u j inside t c (inl e) = subst BeginsInside (same_begun u t (reinit_of j) c e) (inside, tt)
+  reinited_inside u j inside t c (inr (inl e)) = absurd cc
+  reinited_inside u j inside t c (inr (inr (inl e))) = absurd cc
+  reinited_inside u j inside t c (inr (inr (inr h))) = absurd h
+
   calls_inside : (e : Event) → IsLayout s.layout → CallsInside (happens s e)
   calls_inside e is =
       by_event s (λ x a. CallsInside a) (λ x t c h. absurd h) (λ u o first most inside idle b full. begun_inside u o is inside b)
@@ -186,6 +199,7 @@ module _ (s : State) where
       (λ u first most asleep. left_inside u)
       (λ u o p first most at awake trims t c h. let g = led o p (whole_led p (Trimmed false)) in absurd (step_begins_none t u (mutex_of s.layout o) c (decision u (mutex_of s.layout o) g.operation g.point) None [] [] g.returned h))
       (λ u first most gone. renewed_inside u)
+      (λ u j may. reinited_inside u j may.inside)
       e
 
 -- ---- facts, one by one

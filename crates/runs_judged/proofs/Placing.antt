@@ -2,7 +2,7 @@
 use Rattle.std.proofs.Common.{◌≡◌, ◌⊎◌, inl, inr, ℕ, ◌==◌, Bool, true, false, Option, Some, None, Ok, Err, List, [], ◌∷◌, ◌++◌, map, refl, sym, ap, ◌∙◌, subst, eq-eqb}
 use Rattle.std.specs.Prelude.{if◌then◌else◌}
 use Rattle.lockword.specs.declared.reply.Reply.{Reply}
-use Rattle.lockword.specs.declared.reply.Reply.TheVariants.{XHELD}
+use Rattle.lockword.specs.declared.reply.Reply.TheVariants.{OK, XHELD}
 use Rattle.keys.specs.declared.point.Operation.{Operation}
 use Rattle.keys.specs.declared.point.Decision.{Decision}
 use Rattle.keys.specs.Layouts.{Layout', IsLayout}
@@ -16,10 +16,10 @@ use Rattle.mutex.specs.Whole.{whole_led}
 use Rattle.condvar.specs.Ops.{mutex_of}
 use Rattle.protocol.specs.declared.event.Event.{Event}
 use Rattle.protocol.specs.declared.note.Note.{Note}
-use Rattle.protocol.specs.declared.note.Note.TheVariants.{Nothing, Began, Stepped, Killed, Left, Walked, Renewed}
+use Rattle.protocol.specs.declared.note.Note.TheVariants.{Nothing, Began, Stepped, Killed, Left, Walked, Renewed, Reinited}
 use Rattle.protocol.specs.declared.thread.Stage.TheVariants.{Idle}
 use Rattle.protocol.specs.Notes.{facts_of, point_facts, sleep_facts, moves_to, return_facts, death_facts, reap_facts}
-use Rattle.protocol.specs.Machine.{State, After, start, stands_in, begun, decision, is_asleep, happens, run, notes, led}
+use Rattle.protocol.specs.Machine.{State, After, start, stands_in, begun, reinited, decision, is_asleep, happens, run, notes, led}
 use Rattle.protocol.specs.Headline.{facts_among}
 use Rattle.protocol.specs.Sleepers.{IsAmong}
 use Rattle.protocol.specs.Applies.{Told, AtRest, InCall, told_next, told_after, last_told, IsInNoQueue}
@@ -170,6 +170,7 @@ module _ (t : ℕ) (o : Told) (w : Option Queue) where
   placed_note (Killed u) k = (tt, tt)
   placed_note (Left u) k = wakes_placed t o w (u ∷ []) k.wakes
   placed_note (Renewed u) k = (tt, tt)
+  placed_note (Reinited u j) k = (tt, ((λ is. k.points _ (inr (inl refl)) is), ((λ is. k.returns OK (inr (inr (inl (ap (λ (v : ℕ). Return v OK) is))))), tt)))
   placed_note (Walked u d us b) k = walk_placed u d us b k.wakes
   placed_note (Stepped u m p z us vs y) k = step_placed u m p z us vs y k
 
@@ -190,6 +191,10 @@ slept_in_call t o (Left u) q (inl f) e = absurd cc
 slept_in_call t o (Left u) q (inr h) e = absurd h
 slept_in_call t o (Renewed u) q (inl f) e = absurd cc
 slept_in_call t o (Renewed u) q (inr h) e = absurd h
+slept_in_call t o (Reinited u j) q (inl f) e = absurd cc
+slept_in_call t o (Reinited u j) q (inr (inl f)) e = absurd cc
+slept_in_call t o (Reinited u j) q (inr (inr (inl f))) e = absurd cc
+slept_in_call t o (Reinited u j) q (inr (inr (inr h))) e = absurd h
 slept_in_call t o (Walked u d us b) q h e = never (of_walk u d us b (Sleep t q) h)
   where
     never : OfWalk u (Sleep t q) → o ≡ InCall
@@ -221,6 +226,10 @@ returned_rests t o (Left u) x (inl f) = absurd cc
 returned_rests t o (Left u) x (inr h) = absurd h
 returned_rests t o (Renewed u) x (inl f) = absurd cc
 returned_rests t o (Renewed u) x (inr h) = absurd h
+returned_rests t o (Reinited u j) x (inl f) = absurd cc
+returned_rests t o (Reinited u j) x (inr (inl f)) = absurd cc
+returned_rests t o (Reinited u j) x (inr (inr (inl f))) = ap (λ (b : Bool). if b then AtRest else if u == t then InCall else o) (eq-eqb u t (ap thread_of f))
+returned_rests t o (Reinited u j) x (inr (inr (inr h))) = absurd h
 returned_rests t o (Walked u d us b) x h = never (of_walk u d us b (Return t x) h)
   where
     never : OfWalk u (Return t x) → told_after t o (facts_of (Walked u d us b)) ≡ AtRest
@@ -259,6 +268,12 @@ module _ (l : Layout') (s : State) (ns : List Note) (m : Moment l s ns) (t : ℕ
   begun_awake u o idle false d (inl f) is = absurd cc
   begun_awake u o idle false d (inr h) is = absurd h
 
+  reinited_awake : (u j : ℕ) → (s.threads u).stage ≡ Idle → PointsAwake (reinited s u j)
+  reinited_awake u j idle d (inl f) is = absurd cc
+  reinited_awake u j idle d (inr (inl f)) is = awake_now u (idle_out u idle) (ap thread_of f ∙ is)
+  reinited_awake u j idle d (inr (inr (inl f))) is = absurd cc
+  reinited_awake u j idle d (inr (inr (inr h))) is = absurd h
+
   stepped_awake : (u k : ℕ) (op : Operation) (x : Option Reply) (z : Option Queue) (us vs : List ℕ) (y : Option Reply) → is_asleep s u ≡ false → (d : Decision) → IsAmong (Point d) (facts_of (Stepped u k (decision u k op x) z us vs y)) → d.thread ≡ t → told_asleep t ns ≡ None
   stepped_awake u k op x z us vs y awake d h is = go x (of_step u k (decision u k op x) z us vs y (Point d) h)
     where
@@ -288,6 +303,7 @@ module _ (l : Layout') (s : State) (ns : List Note) (m : Moment l s ns) (t : ℕ
       (λ u first most asleep d h is. left u d h)
       (λ u o p first most is awake trims. let g = led o p (whole_led p (Trimmed false)) in stepped_awake u (mutex_of s.layout o) g.operation g.point None [] [] g.returned awake)
       (λ u first most gone d h is. anew u d h)
+      (λ u j may. reinited_awake u j may.resting)
       e
     where
       never : {d : Decision} (u : ℕ) → OfWalk u (Point d) → told_asleep t ns ≡ None

@@ -12,7 +12,7 @@ use Rattle.lockword.specs.declared.reply.Reply.TheVariants as reply
 use Rattle.lockword.specs.Replies.{reply_of, reply_word}
 use Rattle.lockword.proofs.Names.{replies_read_back}
 use Rattle.keys.specs.declared.point.Operation.{Operation}
-use Rattle.keys.specs.declared.point.Operation.TheVariants.{Lock, TryLock, Unlock, Consistent, Wait, Signal, Broadcast, Death}
+use Rattle.keys.specs.declared.point.Operation.TheVariants.{Lock, TryLock, Unlock, Consistent, Wait, Signal, Broadcast, Death, Reinit}
 use Rattle.keys.specs.Words.{operation_of, operation_word}
 use Rattle.keys.proofs.Words.{operations_read_back}
 use Rattle.lines.specs.Numbers.{is_number, within}
@@ -88,6 +88,7 @@ mutex-call op h is = ap (λ o. o >>= of_mutex) (operation-read op) ∙ kept op i
     kept TryLock is = refl
     kept Unlock is = refl
     kept Consistent is = refl
+    kept Reinit is = refl
     kept op is = absurd is
 
 condition-call : (op : Operation) (h : Head) (k : ℕ) → IsCallOf h op (Some k) → (condition_operation (operation_word op) ≡ Some op) × (k < h.conditions)
@@ -110,6 +111,7 @@ call-word op is = let both = kept op is in (ap (λ o. o >>= of_call) (operation-
     kept Wait is = (refl, refl)
     kept Signal is = (refl, refl)
     kept Broadcast is = (refl, refl)
+    kept Reinit is = (refl, refl)
     kept Death is = absurd is
 
 reply-is-word : (x : Reply) → IsWord (reply_word x)
@@ -138,6 +140,7 @@ mutex-word Lock h is = refl
 mutex-word TryLock h is = refl
 mutex-word Unlock h is = refl
 mutex-word Consistent h is = refl
+mutex-word Reinit h is = refl
 mutex-word op h is = absurd is
 
 condition-word : (op : Operation) (h : Head) (k : ℕ) → IsCallOf h op (Some k) → IsWord (operation_word op)
@@ -155,6 +158,7 @@ operation-short Wait = omega arith
 operation-short Signal = omega arith
 operation-short Broadcast = omega arith
 operation-short Death = omega arith
+operation-short Reinit = omega arith
 
 reply-short : (x : Reply) → length (reply_word x) ≤ 15
 reply-short reply.OK = omega arith

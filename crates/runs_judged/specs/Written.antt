@@ -1,7 +1,7 @@
 -- Which lines a trace may have, and that each is read as what was written.
 use Rattle.std.specs.Prelude.{ℕ, ◌≡◌, ◌<◌, ◌≤◌, Option, Some, None, List, ◌∷◌, ◌++◌, Ok}
 use Rattle.keys.specs.declared.point.Operation.{Operation}
-use Rattle.keys.specs.declared.point.Operation.TheVariants.{Lock, TryLock, Unlock, Consistent, Wait, Signal, Broadcast, Death}
+use Rattle.keys.specs.declared.point.Operation.TheVariants.{Lock, TryLock, Unlock, Consistent, Wait, Signal, Broadcast, Death, Reinit}
 use Rattle.facts.specs.declared.fact.Queue.{Queue}
 use Rattle.facts.specs.declared.fact.Queue.TheVariants.{Mutex, Condition}
 use Rattle.facts.specs.declared.fact.Fact.{Fact}
@@ -20,12 +20,13 @@ use Rattle.verdict.specs.Reading.{IsHead, head_read, line_read}
 abbrev pub IsThreadOf : Head → ℕ → Type 0
 IsThreadOf h t = (1 ≤ t) × (t ≤ h.threads)
 
--- a call on a mutex, or on the condition variable with this number
+-- a call on a mutex, as a reinit is told too, or on the condition variable with this number
 abbrev pub IsCallOf : Head → Operation → Option ℕ → Type 0
 IsCallOf h Lock None = Unit {0}
 IsCallOf h TryLock None = Unit {0}
 IsCallOf h Unlock None = Unit {0}
 IsCallOf h Consistent None = Unit {0}
+IsCallOf h Reinit None = Unit {0}
 IsCallOf h Wait (Some k) = k < h.conditions
 IsCallOf h Signal (Some k) = k < h.conditions
 IsCallOf h Broadcast (Some k) = k < h.conditions

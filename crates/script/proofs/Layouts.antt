@@ -7,10 +7,10 @@ use Rattle.mutex.specs.Whole.{whole_access, whole_led}
 use Rattle.condvar.specs.Ops.{mutex_of}
 use Rattle.condvar.specs.declared.op.Op.{Op}
 use Rattle.protocol.specs.declared.event.Event.{Event}
-use Rattle.protocol.specs.declared.event.Event.TheVariants.{Begin, Step, Kill, Leave, Decline, Renew}
+use Rattle.protocol.specs.declared.event.Event.TheVariants.{Begin, Step, Kill, Leave, Decline, Renew, Reinit}
 use Rattle.protocol.specs.declared.thread.Stage.{Stage}
 use Rattle.protocol.specs.declared.thread.Stage.TheVariants.{Idle, Calling, AtCondition, Dying, Reaped}
-use Rattle.protocol.specs.Machine.{State, After, nothing, has_thread, is_alive, is_gone, may_begin, first_stage, begun, killed, renewed, departed, declined, spared, is_asleep, is_trim, sleeps, led, went, answer_of, stepped, happens, run}
+use Rattle.protocol.specs.Machine.{State, After, nothing, has_thread, is_alive, is_gone, may_begin, may_reinit, first_stage, begun, killed, renewed, reinited, departed, declined, spared, is_asleep, is_trim, sleeps, led, went, answer_of, stepped, happens, run}
 
 -- whichever of two states comes, both have the layout
 either : (s : State) (b : Bool) (a : After) → a.state.layout ≡ s.layout → (if b then a else nothing s).state.layout ≡ s.layout
@@ -45,6 +45,7 @@ happens_layout s (Kill t) = either s (has_thread s t && is_alive (s.threads t).s
 happens_layout s (Leave t) = either s (has_thread s t && is_asleep s t) (departed s t) refl
 happens_layout s (Decline t) = either s (has_thread s t) (declined s t (s.threads t).held (s.threads t).stage) (declined_layout s t (s.threads t).held (s.threads t).stage)
 happens_layout s (Renew t) = either s (has_thread s t && is_gone (s.threads t).stage) (renewed s t) refl
+happens_layout s (Reinit t m) = either s (may_reinit s t m) (reinited s t m) refl
 
 pub run_layout : (s : State) (es : List Event) → (run s es).layout ≡ s.layout
 run_layout s [] = refl

@@ -16,6 +16,7 @@ death_by t (action.Go u) = None
 death_by t (action.Leave u) = None
 death_by t (action.Decline u) = None
 death_by t (action.Renew u) = None
+death_by t (action.Reinit u m) = None
 death_by t (action.Call u k) = None
 death_by t (action.Locks u m n) = None
 death_by t action.Phase = None

@@ -7,7 +7,7 @@ use Rattle.std.specs.Str.{bytes_eq}
 use Rattle.std.specs.Char.{is_ascii_digit}
 use Rattle.std.specs.Str.Parse.{digits_value}
 use Rattle.keys.specs.declared.point.Operation.{Operation}
-use Rattle.keys.specs.declared.point.Operation.TheVariants.{Lock, TryLock, Unlock, Consistent, Wait, Signal, Broadcast, Death}
+use Rattle.keys.specs.declared.point.Operation.TheVariants.{Lock, TryLock, Unlock, Consistent, Wait, Signal, Broadcast, Death, Reinit}
 use Rattle.keys.specs.Words.{operation_of}
 use Rattle.script.specs.declared.command.Mode.{Mode}
 use Rattle.script.specs.declared.command.Mode.TheVariants as mode
@@ -53,6 +53,7 @@ pub data Form : Type 0 where
   leaves : List ℕ → Form
   declines : List ℕ → Form
   renews : List ℕ → Form
+  reinits : List ℕ → List ℕ → Form
   calls : List ℕ → CallForm → Form
   locks : List ℕ → List ℕ → Option ℕ → Form
   phase : Form
@@ -107,6 +108,10 @@ process_form w p n = if bytes_eq w (codes "process") && is_name p && is_number n
 abbrev pub member_form : List ℕ → List ℕ → List ℕ → Option Form
 member_form w t p = if bytes_eq w (codes "thread") && is_name t && is_name p then Some (member t p) else None
 
+-- `reinit T M`
+abbrev pub reinit_form : List ℕ → List ℕ → List ℕ → Option Form
+reinit_form w t m = if bytes_eq w (codes "reinit") && is_name t && is_name m then Some (reinits t m) else None
+
 -- the first that there is
 abbrev pub or_else : Option Form → Option Form → Option Form
 or_else (Some f) o = Some f
@@ -118,7 +123,7 @@ cond_form w c m n = if bytes_eq w (codes "cond") && is_name c && is_name m && is
     then Some (cond c m (within 0 max_counter (digits_value 10 n)))
     else None
 
--- the call of an operation, with this name; no call dies
+-- the call of an operation, with this name; no call dies or makes a mutex anew
 abbrev pub call_on : List ℕ → Operation → Option CallForm
 call_on m Lock = Some (lock m)
 call_on m TryLock = Some (trylock m)
@@ -128,6 +133,7 @@ call_on m Wait = Some (wait m)
 call_on m Signal = Some (signal m)
 call_on m Broadcast = Some (broadcast m)
 call_on m Death = None
+call_on m Reinit = None
 
 -- CALL: `lock M`, `trylock M`, `unlock M` and `consistent M`; `wait C`, `signal C` and `broadcast C`
 abbrev pub call_form : List ℕ → List ℕ → Option CallForm
@@ -153,7 +159,7 @@ phase_form w = if bytes_eq w (codes "phase") then Some phase else None
 abbrev pub words_form : List (List ℕ) → Option Form
 words_form (w ∷ []) = phase_form w
 words_form (w ∷ a ∷ []) = name_form w a
-words_form (w ∷ a ∷ n ∷ []) = or_else (step_form w a n) (or_else (die_form w a n) (or_else (mutexes_form w a n) (or_else (process_form w a n) (member_form w a n))))
+words_form (w ∷ a ∷ n ∷ []) = or_else (step_form w a n) (or_else (die_form w a n) (or_else (mutexes_form w a n) (or_else (process_form w a n) (or_else (member_form w a n) (reinit_form w a n)))))
 words_form (w ∷ t ∷ c ∷ m ∷ []) = or_else (locks_form w t c m) (or_else (cond_form w t c m) (option_and_then (calling_form w t) (call_form c m)))
 words_form _ = None
 
@@ -174,6 +180,7 @@ threads_have (goes t) = false
 threads_have (leaves t) = false
 threads_have (declines t) = false
 threads_have (renews t) = false
+threads_have (reinits t m) = false
 threads_have (calls t c) = true
 threads_have (locks t m n) = false
 threads_have phase = true

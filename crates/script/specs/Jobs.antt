@@ -27,6 +27,7 @@ is_end (action.Go t) = false
 is_end (action.Leave t) = false
 is_end (action.Decline t) = false
 is_end (action.Renew t) = false
+is_end (action.Reinit t m) = false
 is_end (action.Call t c) = false
 is_end (action.Locks t m n) = false
 is_end (action.Die t n) = false
@@ -46,6 +47,7 @@ call_by t (action.Go u) = []
 call_by t (action.Leave u) = []
 call_by t (action.Decline u) = []
 call_by t (action.Renew u) = []
+call_by t (action.Reinit u m) = []
 call_by t (action.Locks u m n) = []
 call_by t (action.Die u n) = []
 

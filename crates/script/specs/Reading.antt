@@ -8,7 +8,7 @@ use Rattle.mutex.specs.declared.call.Call.TheVariants as call
 use Rattle.condvar.specs.declared.call.CondCall.TheVariants as on
 use Rattle.condvar.specs.declared.op.Op.{Op}
 use Rattle.condvar.specs.declared.op.Op.TheVariants.{OnMutex, OnCondition}
-use Rattle.script.specs.Forms.{CallForm, lock, trylock, unlock, consistent, wait, signal, broadcast, Form, silent, process, thread, member, mutex, mutexes, cond, begins, steps, kills, kills_all, goes, leaves, declines, renews, calls, locks, phase, dies, form_of}
+use Rattle.script.specs.Forms.{CallForm, lock, trylock, unlock, consistent, wait, signal, broadcast, Form, silent, process, thread, member, mutex, mutexes, cond, begins, steps, kills, kills_all, goes, leaves, declines, renews, reinits, calls, locks, phase, dies, form_of}
 use Rattle.lines.specs.Numbers.{is_number}
 use Rattle.lines.specs.Lines.{lines_of, bad_line}
 use Rattle.lines.specs.Faults.{◌>>=◌}
@@ -152,6 +152,9 @@ declined s t = thread_of s t >>= λ i. Ok (action.Decline i)
 abbrev pub renewed : Scope → List ℕ → Result Action Fault
 renewed s t = thread_of s t >>= λ i. Ok (action.Renew i)
 
+abbrev pub reinited : Scope → List ℕ → List ℕ → Result Action Fault
+reinited s t m = thread_of s t >>= λ i. place_of m s.mutexes >>= λ j. Ok (action.Reinit i j)
+
 abbrev pub gone : Scope → List ℕ → Result Action Fault
 gone s t = thread_of s t >>= λ i. Ok (action.Go i)
 
@@ -190,6 +193,7 @@ enter n s (goes t) = asked n s (gone s t)
 enter n s (leaves t) = asked n s (left s t)
 enter n s (declines t) = asked n s (declined s t)
 enter n s (renews t) = asked n s (renewed s t)
+enter n s (reinits t m) = asked n s (reinited s t m)
 enter n s (calls t c) = asked n s (made s t c)
 enter n s (locks t m count) = asked n s (locked s t m count)
 enter n s phase = Ok (with_action n s action.Phase)

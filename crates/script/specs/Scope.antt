@@ -6,7 +6,7 @@ use Rattle.condvar.specs.declared.op.Op.{Op}
 use Rattle.condvar.specs.declared.op.Op.TheVariants.{OnMutex, OnCondition}
 use Rattle.script.specs.declared.command.Mode.{Mode}
 use Rattle.script.specs.declared.command.Action.{Action}
-use Rattle.script.specs.declared.command.Action.TheVariants.{Begin, Step, Kill, KillAll, Leave, Decline, Renew, Go, Call, Locks, Phase, Die}
+use Rattle.script.specs.declared.command.Action.TheVariants.{Begin, Step, Kill, KillAll, Leave, Decline, Renew, Reinit, Go, Call, Locks, Phase, Die}
 use Rattle.script.specs.declared.command.Command.{Command}
 use Rattle.script.specs.declared.command.Condition.{Condition}
 use Rattle.script.specs.Deaths.{deaths_by}
@@ -37,6 +37,7 @@ IsPossible processes threads mutexes conditions (KillAll p) = (1 ≤ p) × (p �
 IsPossible processes threads mutexes conditions (Leave t) = (1 ≤ t) × (t ≤ threads)
 IsPossible processes threads mutexes conditions (Decline t) = (1 ≤ t) × (t ≤ threads)
 IsPossible processes threads mutexes conditions (Renew t) = (1 ≤ t) × (t ≤ threads)
+IsPossible processes threads mutexes conditions (Reinit t m) = (1 ≤ t) × (t ≤ threads) × (m < mutexes)
 IsPossible processes threads mutexes conditions (Go t) = (1 ≤ t) × (t ≤ threads)
 IsPossible processes threads mutexes conditions (Call t o) = (1 ≤ t) × (t ≤ threads) × Names mutexes conditions o
 IsPossible processes threads mutexes conditions (Locks t m n) = (1 ≤ t) × (t ≤ threads) × (1 ≤ n) × (m + n ≤ mutexes)

@@ -1,7 +1,7 @@
 -- Values of the code as the definitions see them.
 use Rattle.std.specs.Prelude.{ℕ, List, map, String, string_bytes}
 use Rattle.std.specs.declared.alloc.Global.{Global}
-use Rattle.script.specs.Forms.{CallForm, lock, trylock, unlock, consistent, wait, signal, broadcast, Form, process, thread, member, mutex, mutexes, cond, begins, steps, kills, kills_all, goes, leaves, declines, renews, calls, locks, phase, dies}
+use Rattle.script.specs.Forms.{CallForm, lock, trylock, unlock, consistent, wait, signal, broadcast, Form, process, thread, member, mutex, mutexes, cond, begins, steps, kills, kills_all, goes, leaves, declines, renews, reinits, calls, locks, phase, dies}
 use Rattle.script.specs.Scope.{Scope}
 use Rattle.script.specs.declared.draft.Draft.{Draft}
 use Rattle.script.specs.declared.line.NamedCall.{NamedCall}
@@ -35,6 +35,7 @@ form_seen (line.Go a) = goes a.now
 form_seen (line.Leave a) = leaves a.now
 form_seen (line.Decline a) = declines a.now
 form_seen (line.Renew a) = renews a.now
+form_seen (line.Reinit a m) = reinits a.now m.now
 form_seen (line.Call a c) = calls a.now (call_seen c)
 form_seen (line.Locks a m n) = locks a.now m.now n
 form_seen line.Phase = phase

@@ -39,6 +39,8 @@ pub enum Action {
     Decline(Tid),
     /// One renew event.
     Renew(Tid),
+    /// One reinit event, of the mutex with this number.
+    Reinit(Tid, u16),
     /// Step events until the thread rests: until it is in no call and not dying, or sleeps.
     Go(Tid),
     /// A begin event, and then step events until the thread rests; for real threads one call.

@@ -1,23 +1,20 @@
 //! What the lines of a script say, one after another.
 
 ghost use Rattle.std.specs.Prelude.{◌≡◌, ◌^◌, ◌<◌, ◌≤◌, false, length, map, OnOk, IfOk, IfErr, string_bytes};
-ghost use Rattle.std.specs.List.{list_any};
 ghost use Rattle.script.specs.Forms.{is_silent};
 ghost use Rattle.script.specs.Limits.{max_conditions, max_lines, max_mutexes, max_processes, max_threads};
 ghost use Rattle.script.specs.Outcome.{Gives};
-ghost use Rattle.script.specs.Reading.{added, all_killed, asked, begun, call_of, condition_declared, condition_names, declares, declined, died, enter, first_of, gone, is_numbered, killed, left, line_read, locked, made, mutex_declared, mutexes_declared, names_of, nothing, place_of, process_declared, process_of, renewed, several, stepped, thread_declared, thread_of, with_action, with_entry, with_name, with_thread};
+ghost use Rattle.script.specs.Reading.{all_killed, asked, begun, call_of, condition_declared, condition_names, declares, declined, died, enter, first_of, gone, killed, left, line_read, locked, made, mutex_declared, mutexes_declared, nothing, place_of, process_declared, process_of, reinited, renewed, stepped, thread_declared, thread_of, with_action, with_thread};
 ghost use Rattle.script.specs.Scope.{IsWithinLimits};
-ghost use Rattle.script.specs.Seen.{entries_seen};
 
 use crate::command::{Action, Command, Condition, Mode};
 use crate::deaths::death_of;
 use crate::fault::Fault;
 use crate::limits::{MAX_CONDITIONS, MAX_LINES, MAX_MUTEXES, MAX_PROCESSES, MAX_THREADS};
 use crate::line::{Line, NamedCall, is_silent_line, line_of};
-use crate::words::is_below;
+use crate::naming::{add_entry, add_name, declare, declare_numbered, entry_place, place};
 use condvar::{CondCall, Op};
 use indexmap::{IndexMap, IndexSet};
-use lines::is_number_word;
 use lockword::Tid;
 use mutex::Call;
 use std::alloc::Global;
@@ -34,110 +31,6 @@ pub struct Draft {
     pub mutexes: IndexSet<String>,
     pub conditions: IndexMap<String, Condition>,
     pub commands: Vec<Command>,
-}
-
-/// The place of a name among the declared ones, from 0.
-fn place(names: &IndexSet<String>, word: &str) -> Result<usize, Fault>
-    ensures value { result ≡ place_of word.now (map string_bytes names.now.keys) }
-    ensures within { IfOk result (λ i. i < length (map string_bytes names.now.keys)) }
-{
-    names.get_index_of(word).ok_or(Fault::NoSuchName)
-}
-
-/// The place of a name among those that were declared with more than their names, from 0.
-fn entry_place<V>(entries: &IndexMap<String, V>, word: &str) -> Result<usize, Fault>
-    ensures value { result ≡ place_of word.now (names_of (entries_seen entries.now.entries)) }
-    ensures within { IfOk result (λ i. i < length entries.now.entries) }
-{
-    entries.get_index_of(word).ok_or(Fault::NoSuchName)
-}
-
-/// Adds a name, unless it is there.
-fn add_name(alloc: Global, names: &mut IndexSet<String>, word: &str) -> Result<(), Fault>
-    ensures { Gives (λ _. map string_bytes names.new.keys) result
-        (with_name (map string_bytes names.old.keys) word.now) }
-{
-    if names.contains(word) {
-        return Err(Fault::NoSuchName);
-    }
-    names.insert(String::from_str(alloc, word)?)?;
-    Ok(())
-}
-
-/// Adds a name and what was declared with it, unless the name is there.
-fn add_entry<V: Copy>(
-    alloc: Global,
-    entries: &mut IndexMap<String, V>,
-    word: &str,
-    value: V,
-) -> Result<(), Fault>
-    ensures { Gives (λ _. entries_seen entries.new.entries) result
-        (with_entry (entries_seen entries.old.entries) word.now value) }
-{
-    if entries.contains_key(word) {
-        return Err(Fault::NoSuchName);
-    }
-    entries.insert(String::from_str(alloc, word)?, value)?;
-    Ok(())
-}
-
-/// Adds a name, unless there are as many as may be, or it is there.
-fn declare(
-    alloc: Global,
-    names: &mut IndexSet<String>,
-    limit: usize,
-    word: &str,
-) -> Result<(), Fault>
-    ensures { Gives (λ _. map string_bytes names.new.keys) result
-        (added limit (map string_bytes names.old.keys) word.now) }
-{
-    if names.len() >= limit {
-        return Err(Fault::OutOfRange);
-    }
-    add_name(alloc, names, word)
-}
-
-/// Whether a name is a word with a number below `count` behind it.
-fn is_numbered(name: &str, word: &str, count: u32) -> bool
-    ensures { result ≡ is_numbered word.now count name.now }
-{
-    match name.strip_prefix(word) {
-        Some(digits) => is_number_word(digits) && is_below(digits, count),
-        None => false,
-    }
-}
-
-/// Whether one of the names is a word with a number below `count` behind it.
-fn clashes(names: &IndexSet<String>, word: &str, count: u32) -> bool
-    ensures { result ≡ list_any (λ name. is_numbered word.now count name) (map string_bytes names.now.keys) }
-{
-    names
-        .iter()
-        .any(|name| is_numbered(name.as_str(), word, count))
-}
-
-/// Adds `count` names, a word with each number from 0 on behind it, unless there would be more than may be, or one is there.
-fn declare_numbered(
-    alloc: Global,
-    names: &mut IndexSet<String>,
-    limit: usize,
-    word: &str,
-    count: u32,
-) -> Result<(), Fault>
-    requires { length names.old.keys ≤ limit }
-    ensures { Gives (λ _. map string_bytes names.new.keys) result
-        (several limit (map string_bytes names.old.keys) word.now count) }
-{
-    if count as usize > limit - names.len() {
-        return Err(Fault::OutOfRange);
-    }
-    if clashes(names, word, count) {
-        return Err(Fault::NoSuchName);
-    }
-    for number in 0..count {
-        names.insert(format!(in alloc; "{word}{number}")?)?;
-    }
-    Ok(())
 }
 
 impl Draft {
@@ -397,6 +290,15 @@ impl Draft {
         self.ask(number, Action::Renew(thread))
     }
 
+    fn reinit(&mut self, number: usize, thread: &str, mutex: &str) -> Result<(), Fault>
+        requires { IsWithinLimits (scope_of self.old) }
+        ensures gives { Gives (λ _. scope_of self.new) result (asked number (scope_of self.old) (reinited (scope_of self.old) thread.now mutex.now)) }
+        ensures mode { self.new.mode ≡ self.old.mode }
+    {
+        let action = Action::Reinit(self.thread(thread)?, self.mutex(mutex)?);
+        self.ask(number, action)
+    }
+
     fn go(&mut self, number: usize, thread: &str) -> Result<(), Fault>
         requires { IsWithinLimits (scope_of self.old) }
         ensures gives { Gives (λ _. scope_of self.new) result (asked number (scope_of self.old) (gone (scope_of self.old) thread.now)) }
@@ -476,6 +378,7 @@ impl Draft {
             Line::Leave(thread) => self.leave(number, thread),
             Line::Decline(thread) => self.decline(number, thread),
             Line::Renew(thread) => self.renew(number, thread),
+            Line::Reinit(thread, mutex) => self.reinit(number, thread, mutex),
             Line::Go(thread) => self.go(number, thread),
             Line::Call(thread, call) => self.make(number, thread, call),
             Line::Locks(thread, mutex, count) => self.lock_several(number, thread, mutex, count),

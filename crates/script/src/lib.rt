@@ -33,6 +33,7 @@ mod laws;
 mod layout;
 mod limits;
 mod line;
+mod naming;
 mod parsed;
 mod player;
 mod reading;

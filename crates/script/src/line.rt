@@ -1,7 +1,7 @@
 //! The kinds of line of a script.
 
 ghost use Rattle.std.specs.Prelude.{◌≡◌, true, false, option_map, option_and_then};
-ghost use Rattle.script.specs.Forms.{call_form, calling_form, cond_form, die_form, form_of, has, is_silent, is_stem, locks_form, member_form, mutexes_form, name_form, or_else, phase_form, process_form, run_has, step_form, threads_have};
+ghost use Rattle.script.specs.Forms.{call_form, calling_form, cond_form, die_form, form_of, has, is_silent, is_stem, locks_form, member_form, mutexes_form, name_form, or_else, phase_form, process_form, reinit_form, run_has, step_form, threads_have};
 ghost use Rattle.lines.specs.Numbers.{is_number, within};
 ghost use Rattle.script.specs.Seen.{call_seen, form_seen};
 
@@ -42,6 +42,8 @@ pub enum Line<'a> {
     Leave(&'a str),
     Decline(&'a str),
     Renew(&'a str),
+    /// A thread and a mutex.
+    Reinit(&'a str, &'a str),
     Go(&'a str),
     Call(&'a str, NamedCall<'a>),
     Locks(&'a str, &'a str, Option<u32>),
@@ -131,6 +133,15 @@ fn member<'a>(keyword: &'a str, thread: &'a str, process: &'a str) -> Option<Lin
     None
 }
 
+fn reinit<'a>(keyword: &'a str, thread: &'a str, mutex: &'a str) -> Option<Line<'a>>
+    ensures { option_map form_seen result ≡ reinit_form keyword.now thread.now mutex.now }
+{
+    if keyword == "reinit" && is_word_name(thread) && is_word_name(mutex) {
+        return Some(Line::Reinit(thread, mutex));
+    }
+    None
+}
+
 fn locks<'a>(keyword: &'a str, thread: &'a str, mutex: &'a str, number: &'a str) -> Option<Line<'a>>
     ensures { option_map form_seen result
         ≡ locks_form keyword.now thread.now mutex.now number.now }
@@ -165,7 +176,7 @@ fn named_call<'a>(word: &'a str, name: &'a str) -> Option<NamedCall<'a>>
         Ok(Operation::Wait) => Some(NamedCall::Wait(name)),
         Ok(Operation::Signal) => Some(NamedCall::Signal(name)),
         Ok(Operation::Broadcast) => Some(NamedCall::Broadcast(name)),
-        Ok(Operation::Death) | Err(_) => None,
+        Ok(Operation::Death) | Ok(Operation::Reinit) | Err(_) => None,
     }
 }
 
@@ -197,7 +208,8 @@ fn of_three<'a>(keyword: &'a str, second: &'a str, third: &'a str) -> Option<Lin
     ensures { option_map form_seen result ≡ or_else (step_form keyword.now second.now third.now)
         (or_else (die_form keyword.now second.now third.now)
         (or_else (mutexes_form keyword.now second.now third.now)
-        (or_else (process_form keyword.now second.now third.now) (member_form keyword.now second.now third.now)))) }
+        (or_else (process_form keyword.now second.now third.now)
+        (or_else (member_form keyword.now second.now third.now) (reinit_form keyword.now second.now third.now))))) }
 {
     if let Some(line) = step(keyword, second, third) {
         return Some(line);
@@ -208,9 +220,12 @@ fn of_three<'a>(keyword: &'a str, second: &'a str, third: &'a str) -> Option<Lin
     if let Some(line) = mutexes(keyword, second, third) {
         return Some(line);
     }
-    match process(keyword, second, third) {
+    if let Some(line) = process(keyword, second, third) {
+        return Some(line);
+    }
+    match member(keyword, second, third) {
         Some(line) => Some(line),
-        None => member(keyword, second, third),
+        None => reinit(keyword, second, third),
     }
 }
 
@@ -246,6 +261,7 @@ fn is_of_threads(line: &Line<'_>) -> bool
         Line::KillAll(_) | Line::Go(_) | Line::Locks(..) => false,
         Line::Leave(_) | Line::Decline(_) => false,
         Line::Renew(_) => false,
+        Line::Reinit(..) => false,
     }
 }
 

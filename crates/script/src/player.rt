@@ -136,6 +136,9 @@ fn play_action(machine: &mut Machine, notes: &mut Vec<Note>, action: Action) -> 
         Action::Leave(thread) => play_event(machine, notes, Event::Leave(thread)),
         Action::Decline(thread) => play_event(machine, notes, Event::Decline(thread)),
         Action::Renew(thread) => play_event(machine, notes, Event::Renew(thread)),
+        Action::Reinit(thread, mutex) => {
+            play_event(machine, notes, Event::Reinit(thread, mutex))
+        }
         Action::Go(thread) => play_to_rest(machine, notes, thread),
         Action::Call(thread, op) => play_call(machine, notes, thread, op),
         Action::Locks {

@@ -97,7 +97,7 @@ fn too_many_events(rt: HostRuntime) {
 
 /// Counted by hand. A lock that takes its thread's first mutex has nine events, and ten where the thread has one. A walk has three, three more for
 /// each mutex of the list, and one for a pending entry whose mutex another owns. A lock of a mutex that another owns sleeps after five, and after two more where its sleeper left its queue.
-static EVENTS: [(&str, Played); 12] = [
+static EVENTS: [(&str, Played); 14] = [
     ("go a\n", Ok(0)),
     ("locks a m0 3\n", Ok(29)),
     ("locks a m1 2\nkill a\ngo a\n", Ok(29)),
@@ -107,6 +107,11 @@ static EVENTS: [(&str, Played); 12] = [
     ("call a lock m0\ncall b lock m0\nkill b\ngo b\n", Ok(19)),
     ("leave a\ndecline a\n", Ok(2)),
     ("kill a\ngo a\nrenew a\nrenew a\ncall a lock m0\n", Ok(15)),
+    ("reinit a m0\ncall a lock m0\nreinit a m0\n", Ok(11)),
+    (
+        "call a lock m0\nkill a\ngo a\ncall b lock m0\ncall b unlock m0\nreinit b m0\ncall b lock m0\n",
+        Ok(43),
+    ),
     (
         "call a lock m0\ncall b lock m0\nleave b\nleave b\ngo b\n",
         Ok(18),

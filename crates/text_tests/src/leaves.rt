@@ -1,10 +1,10 @@
-//! Lines of sleepers that leave, of trims that are declined and of renewals: which are refused, written out by hand
-//! from the format.
+//! Lines of sleepers that leave, of trims that are declined, of renewals and of mutexes made anew: which are refused,
+//! written out by hand from the format.
 
 use crate::faults::Refusal;
 use crate::processes::{FOR_A_RUN, FOR_THREADS};
 
-static LINES: [(&str, Refusal); 13] = [
+static LINES: [(&str, Refusal); 21] = [
     ("leave a", None),
     ("decline a", None),
     ("leave b", Some((4, 3))),
@@ -18,13 +18,22 @@ static LINES: [(&str, Refusal); 13] = [
     ("renew b", Some((4, 3))),
     ("renew a a", Some((2, 3))),
     ("renewal a", Some((2, 3))),
+    ("reinit a m", None),
+    ("reinit b m", Some((4, 3))),
+    ("reinit a n", Some((4, 3))),
+    ("reinit m a", Some((4, 3))),
+    ("reinit a", Some((2, 3))),
+    ("reinit a m m", Some((2, 3))),
+    ("reinits a m", Some((2, 3))),
+    ("call a reinit m", Some((2, 3))),
 ];
 
 /// They are a run's alone.
-static LINES_FOR_THREADS: [(&str, Refusal); 3] = [
+static LINES_FOR_THREADS: [(&str, Refusal); 4] = [
     ("leave a", Some((2, 3))),
     ("decline a", Some((2, 3))),
     ("renew a", Some((2, 3))),
+    ("reinit a m", Some((2, 3))),
 ];
 
 #[test]

@@ -255,7 +255,7 @@ const OF_CALLS: [Case; 10] = [
 ];
 
 /// By the mutexes, which nobody owns.
-const OF_MUTEXES: [Case; 6] = [
+const OF_MUTEXES: [Case; 7] = [
     Case {
         behind: "1 begin t1 lock m0\n2 point t1 m0 lock EBUSY\nend 2",
         line: 3,
@@ -290,6 +290,16 @@ const OF_MUTEXES: [Case; 6] = [
             reply: Reply::OK,
         },
         text: "line 13: the mutex doesn't allow the reply OK: nobody owns it, it is unusable",
+    },
+    // Only an unusable one is made anew.
+    Case {
+        behind: "1 begin t1 reinit m0\n1 point t1 m0 reinit OK\nend 1",
+        line: 3,
+        misfit: Misfit::NotAllowed {
+            object: UNTOUCHED,
+            reply: Reply::OK,
+        },
+        text: "line 3: the mutex doesn't allow the reply OK: nobody owns it",
     },
     Case {
         behind: "1 kill t1\n2 death t1 m0\nend 2",

@@ -160,6 +160,43 @@ fn deaths(rt: HostRuntime) {
     assert!(rt; first_wrong_behind(rt.alloc(), &DEATHS).is_none());
 }
 
+/// Mutexes that are made anew.
+static REINITS: [(&str, Answer); 6] = [
+    // An unusable one, which is locked then.
+    (
+        "1 begin t1 lock m0\n2 point t1 m0 lock OK\n3 kill t1\n4 death t1 m0\n4 reaped t1\n5 begin t2 lock m0\n6 point t2 m0 lock EOWNERDEAD\n7 return t2 EOWNERDEAD\n8 begin t2 unlock m0\n9 point t2 m0 unlock OK\n10 return t2 OK\n11 begin t2 reinit m0\n11 point t2 m0 reinit OK\n11 return t2 OK\n12 begin t2 lock m0\n13 point t2 m0 lock OK\nend 13",
+        Legal(5),
+    ),
+    // A return without its point.
+    (
+        "1 begin t1 lock m0\n2 point t1 m0 lock OK\n3 kill t1\n4 death t1 m0\n4 reaped t1\n5 begin t2 lock m0\n6 point t2 m0 lock EOWNERDEAD\n7 return t2 EOWNERDEAD\n8 begin t2 unlock m0\n9 point t2 m0 unlock OK\n10 return t2 OK\n11 begin t2 reinit m0\n12 return t2 OK\nend 12",
+        Illegal(14),
+    ),
+    // One that is free, one that its own thread owns, and another reply.
+    (
+        "1 begin t1 reinit m0\n1 point t1 m0 reinit OK\n1 return t1 OK\nend 1",
+        Illegal(3),
+    ),
+    (
+        "1 begin t1 lock m0\n2 point t1 m0 lock OK\n3 return t1 OK\n4 begin t1 reinit m0\n4 point t1 m0 reinit OK\nend 4",
+        Illegal(6),
+    ),
+    (
+        "1 begin t1 lock m0\n2 point t1 m0 lock OK\n3 kill t1\n4 death t1 m0\n4 reaped t1\n5 begin t2 lock m0\n6 point t2 m0 lock EOWNERDEAD\n7 return t2 EOWNERDEAD\n8 begin t2 unlock m0\n9 point t2 m0 unlock OK\n10 return t2 OK\n11 begin t2 reinit m0\n11 point t2 m0 reinit EBUSY\nend 11",
+        Illegal(14),
+    ),
+    // Of another mutex than that which is unusable.
+    (
+        "1 begin t1 lock m0\n2 point t1 m0 lock OK\n3 kill t1\n4 death t1 m0\n4 reaped t1\n5 begin t2 lock m0\n6 point t2 m0 lock EOWNERDEAD\n7 return t2 EOWNERDEAD\n8 begin t2 unlock m0\n9 point t2 m0 unlock OK\n10 return t2 OK\n11 begin t2 reinit m1\n11 point t2 m1 reinit OK\nend 11",
+        Illegal(14),
+    ),
+];
+
+#[test]
+fn reinits(rt: HostRuntime) {
+    assert!(rt; first_wrong_behind(rt.alloc(), &REINITS).is_none());
+}
+
 /// Calls on a condition variable.
 static WAITS: [(&str, Answer); 6] = [
     // Released, moved, woken, and the mutex taken again.

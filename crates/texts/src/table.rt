@@ -81,6 +81,7 @@ fn reply_in(note: &Note, thread: Tid) -> Option<Reply>
             returned,
             ..
         } => reply_to(thread, caller, returned),
+        Note::Reinited { thread: caller, .. } => reply_to(thread, caller, Some(Reply::OK)),
         Note::Nothing | Note::Killed { .. } | Note::Left { .. } => None,
         Note::Walked { .. } | Note::Renewed { .. } => None,
     }

@@ -3,6 +3,7 @@
 ghost use Rattle.std.specs.Prelude.{◌≡◌, [], ◌∷◌, ◌++◌, map};
 ghost use Rattle.protocol.specs.Notes.{facts_of, moves_to, point_facts, sleep_facts, refusal_facts, return_facts, death_facts, reap_facts};
 ghost use Rattle.facts.specs.declared.fact.Fact.TheVariants.{Wake};
+ghost use Rattle.protocol.specs.declared.note.Note.TheVariants.{Reinited};
 ghost use Rattle.streams.specs.Leaves.{Leaves};
 ghost use Rattle.texts.specs.Text.{facts_text, notes_text, trace_text};
 
@@ -10,7 +11,7 @@ use crate::trace_lines::{write_end, write_fact, write_head};
 use buckets::Batch;
 use facts::{Begun, Fact, Queue};
 use interleave::Trace;
-use keys::Decision;
+use keys::{Decision, Operation};
 use lockword::{Reply, Tid};
 use protocol::Note;
 use std::io::{self, Write};
@@ -81,7 +82,7 @@ fn write_returned<W: Write>(
     }
 }
 
-/// The lines of a call that was refused as it began, if it was: it is decided and returns at once.
+/// The lines of a call that was answered as it began, if it was: it is decided and returns at once.
 fn write_refused<W: Write>(
     out: &mut W,
     event: usize,
@@ -102,6 +103,19 @@ fn write_refused<W: Write>(
     };
     write_fact(out, event, Fact::Point(decision))?;
     write_fact(out, event, Fact::Return(thread, reply))
+}
+
+/// The lines of a reinit: a call that is decided and returns at once.
+fn write_reinited<W: Write>(out: &mut W, event: usize, thread: Tid, mutex: u16) -> io::Result<()>
+    ensures { Leaves (W.contents out.old) (W.contents out.new) result (facts_text event (facts_of (Reinited thread mutex))) }
+{
+    let call = Begun {
+        operation: Operation::Reinit,
+        mutex,
+        condition: None,
+    };
+    write_fact(out, event, Fact::Begin(thread, call))?;
+    write_refused(out, event, thread, call, Some(Reply::OK))
 }
 
 /// What an access of a call did, behind its point: where its thread fell asleep, whom it woke, whom it moved to the mutex's queue, and what the call returned.
@@ -233,6 +247,7 @@ fn write_note<W: Write>(out: &mut W, event: usize, note: Note) -> io::Result<()>
             write_end_of_walk(out, event, thread, &woken, reaped)
         }
         Note::Renewed { thread } => write_fact(out, event, Fact::Renew(thread)),
+        Note::Reinited { thread, mutex } => write_reinited(out, event, thread, mutex),
     }
 }
 

@@ -9,7 +9,7 @@ use Rattle.lockword.specs.declared.reply.Reply.{Reply}
 use Rattle.lockword.specs.declared.reply.Reply.TheVariants.{OK, EPERM, EBUSY, EINVAL, EDEADLK, EOWNERDEAD, ENOTRECOVERABLE, XRACED, XHELD, XFULL, XSTATE}
 use Rattle.keys.specs.declared.object.Object.{Object}
 use Rattle.keys.specs.declared.point.Operation.{Operation}
-use Rattle.keys.specs.declared.point.Operation.TheVariants.{Lock, TryLock, Unlock, Consistent, Wait, Signal, Broadcast, Death}
+use Rattle.keys.specs.declared.point.Operation.TheVariants.{Lock, TryLock, Unlock, Consistent, Wait, Signal, Broadcast, Death, Reinit}
 use Rattle.keys.specs.declared.point.Decision.{Decision}
 use Rattle.keys.specs.Objects.{Permits, Does, acquires, fresh, stepped}
 use Rattle.keys.proofs.Steps.{determined}
@@ -50,6 +50,7 @@ permits_owners o t Broadcast OK n h = kept o t n h.1
 permits_owners o t Broadcast XFULL n h = kept o t n h.1
 permits_owners o t Broadcast EPERM n h = kept o t n h.1
 permits_owners o t Death OK n h = inr (inr (h.0, ap (λ (z : Object). z.owner) h.1))
+permits_owners o t Reinit OK n h = inl (ap (λ (z : Object). z.owner) h.2 ∙ sym h.1)
 permits_owners o t op x n h = absurd h
 
 pub does_owners : (held : ℕ) (o : Object) (t : ℕ) (op : Operation) (x : Reply) (n : Object) → Does held o t op x n → Owners o t n

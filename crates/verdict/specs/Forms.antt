@@ -6,7 +6,7 @@ use Rattle.lockword.specs.Replies.{reply_of}
 use Rattle.lines.specs.Numbers.{is_number, within}
 use Rattle.lines.specs.Lines.{words_of}
 use Rattle.keys.specs.declared.point.Operation.{Operation}
-use Rattle.keys.specs.declared.point.Operation.TheVariants.{Lock, TryLock, Unlock, Consistent, Wait, Signal, Broadcast, Death}
+use Rattle.keys.specs.declared.point.Operation.TheVariants.{Lock, TryLock, Unlock, Consistent, Wait, Signal, Broadcast, Death, Reinit}
 use Rattle.keys.specs.Words.{operation_of}
 use Rattle.verdict.specs.declared.form.Said.{Said}
 use Rattle.verdict.specs.declared.form.Said.TheVariants as said
@@ -39,12 +39,13 @@ mutex_word w = numbered 109 w
 abbrev pub condition_word : List ℕ → Option (Option ℕ)
 condition_word w = numbered 99 w
 
--- the calls on a mutex
+-- the calls on a mutex, of which a reinit is told as one
 abbrev pub of_mutex : Operation → Option Operation
 of_mutex Lock = Some Lock
 of_mutex TryLock = Some TryLock
 of_mutex Unlock = Some Unlock
 of_mutex Consistent = Some Consistent
+of_mutex Reinit = Some Reinit
 of_mutex op = None
 
 abbrev pub mutex_operation : List ℕ → Option Operation

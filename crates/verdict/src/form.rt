@@ -59,7 +59,7 @@ fn operation(word: &str) -> Option<Operation>
     word.parse::<Operation>().ok()
 }
 
-/// A call on a mutex, by its word.
+/// A call on a mutex, by its word; a reinit is told as one.
 fn mutex_operation(word: &str) -> Option<Operation>
     ensures { result ≡ mutex_operation word.now }
 {
@@ -67,6 +67,7 @@ fn mutex_operation(word: &str) -> Option<Operation>
     match operation {
         Operation::Lock | Operation::TryLock => Some(operation),
         Operation::Unlock | Operation::Consistent => Some(operation),
+        Operation::Reinit => Some(operation),
         _ => None,
     }
 }

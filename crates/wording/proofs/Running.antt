@@ -4,7 +4,7 @@ use Rattle.std.specs.Prelude.{codes}
 use Rattle.lockword.specs.Replies.{reply_of}
 use Rattle.keys.specs.Words.{operation_of}
 use Rattle.wording.specs.declared.next.Next.{Next}
-use Rattle.wording.specs.declared.next.Next.TheVariants.{End, Keyword, Name, NewThread, ProcessOrEnd, NameNumber, NameNameNumber, StemNumber, Number, NameCall, Call, Head, ThreeNumbers, TwoNumbers, Event, Deed, Thread, ThreadMutex, ThreadPlace, ThreadReply, ThreadCall, ThreadPoint, Mutex, Place, Reply, Operation, ConditionMutex, MutexCallReply, CallReply}
+use Rattle.wording.specs.declared.next.Next.TheVariants.{End, Keyword, Name, NewThread, ProcessOrEnd, NameNumber, NameNameNumber, NameName, StemNumber, Number, NameCall, Call, Head, ThreeNumbers, TwoNumbers, Event, Deed, Thread, ThreadMutex, ThreadPlace, ThreadReply, ThreadCall, ThreadPoint, Mutex, Place, Reply, Operation, ConditionMutex, MutexCallReply, CallReply}
 use Rattle.wording.specs.Nexts.{after, is_over}
 
 -- what has to come behind these words
@@ -35,6 +35,7 @@ finish NewThread = codes "a" ∷ []
 finish ProcessOrEnd = []
 finish NameNumber = codes "a" ∷ codes "1" ∷ []
 finish NameNameNumber = codes "a" ∷ codes "a" ∷ codes "1" ∷ []
+finish NameName = codes "a" ∷ codes "a" ∷ []
 finish StemNumber = codes "a" ∷ codes "1" ∷ []
 finish Number = codes "1" ∷ []
 finish NameCall = codes "a" ∷ codes "lock" ∷ codes "a" ∷ []
@@ -67,6 +68,7 @@ finishes NewThread = refl
 finishes ProcessOrEnd = refl
 finishes NameNumber = refl
 finishes NameNameNumber = refl
+finishes NameName = refl
 finishes StemNumber = refl
 finishes Number = refl
 finishes NameCall = refl

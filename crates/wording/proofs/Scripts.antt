@@ -11,11 +11,10 @@ use Rattle.keys.specs.Words.{operation_of}
 use Rattle.script.specs.declared.command.Mode.{Mode}
 use Rattle.script.specs.declared.command.Mode.TheVariants.{Run, Threads}
 use Rattle.script.specs.Limits.{max_steps, max_access, max_mutexes, max_base, max_counter}
-use Rattle.script.specs.Forms.{CallForm, lock, trylock, unlock, consistent, wait, signal, broadcast, Form, process, thread, member, mutex, mutexes, cond, begins, steps, kills, kills_all, goes, renews, leaves, declines, calls, locks, phase, dies, is_name, is_stem, has, of_mode, or_else, call_on, call_form, calling_form, words_form}
-use Rattle.verdict.specs.Forms.{of_call, ◌>>=◌}
+use Rattle.script.specs.Forms.{CallForm, lock, trylock, unlock, consistent, wait, signal, broadcast, Form, process, thread, member, mutex, mutexes, cond, begins, steps, kills, kills_all, goes, renews, reinits, leaves, declines, calls, locks, phase, dies, is_name, is_stem, has, of_mode, or_else, call_on, call_form, calling_form, words_form}
 use Rattle.wording.specs.declared.next.Next.{Next}
-use Rattle.wording.specs.declared.next.Next.TheVariants.{End, Keyword, Name, NewThread, ProcessOrEnd, NameNumber, NameNameNumber, StemNumber, Number, NameCall, Call}
-use Rattle.wording.specs.Nexts.{fitting, is_call, keyword}
+use Rattle.wording.specs.declared.next.Next.TheVariants.{End, Keyword, Name, NewThread, ProcessOrEnd, NameNumber, NameNameNumber, NameName, StemNumber, Number, NameCall, Call}
+use Rattle.wording.specs.Nexts.{fitting, is_scripted, scripted, keyword}
 use Rattle.wording.proofs.Running.{ends, run}
 use Rattle.wording.proofs.Fitting.{both, fits_end, fits_last, fits_then}
 use Rattle.wording.proofs.Words.{pick}
@@ -88,6 +87,16 @@ names_number k F on h (a ∷ b ∷ n ∷ []) =
     ∙ ap (λ (t : Bool). on && t) (sym (fits_then (is_name a) NameNumber (b ∷ n ∷ []) ∙ ap (λ (t : Bool). is_name a && t) (fits_then (is_name b) Number (n ∷ []) ∙ ap (λ (t : Bool). is_name b && t) (fits_end (is_number n))) ∙ grouped (is_name a) (is_name b) (is_number n)))
 names_number k F on h (a ∷ b ∷ n ∷ c ∷ ws) = never on ∙ ap (λ (t : Bool). on && t) (sym (fits_then (is_name a) NameNumber (b ∷ n ∷ c ∷ ws) ∙ both (is_name a) _ (fits_then (is_name b) Number (n ∷ c ∷ ws) ∙ both (is_name b) _ (number_long n c ws))))
 
+abbrev both_names : (List ℕ → List ℕ → Form) → List (List ℕ) → Option Form
+both_names F (a ∷ b ∷ []) = if is_name a && is_name b then Some (F a b) else None
+both_names F ws = None
+
+named_twice : (k : Mode) (F : List ℕ → List ℕ → Form) (on : Bool) → ((a b : List ℕ) → has k (F a b) ≡ on) → (ws : List (List ℕ)) → said k (both_names F ws) ≡ (on && ends (run NameName ws))
+named_twice k F on h [] = never on
+named_twice k F on h (a ∷ []) = never on ∙ ap (λ (t : Bool). on && t) (sym (fits_then (is_name a) Name [] ∙ both (is_name a) false refl))
+named_twice k F on h (a ∷ b ∷ []) = decided k (F a b) on (is_name a && is_name b) (h a b) ∙ ap (λ (t : Bool). on && t) (sym (fits_then (is_name a) Name (b ∷ []) ∙ ap (λ (t : Bool). is_name a && t) (fits_end (is_name b))))
+named_twice k F on h (a ∷ b ∷ c ∷ ws) = never on ∙ ap (λ (t : Bool). on && t) (sym (fits_then (is_name a) Name (b ∷ c ∷ ws) ∙ both (is_name a) _ (fits_last (is_name b) c ws)))
+
 -- a thread, alone or with its process
 abbrev thread_line : List (List ℕ) → Option Form
 thread_line (a ∷ []) = if is_name a then Some (thread a) else None
@@ -109,8 +118,8 @@ abbrev call_line : (List ℕ → CallForm → Form) → List (List ℕ) → Opti
 call_line F (t ∷ c ∷ m ∷ []) = option_and_then (λ x. if is_name t then Some (F t x) else None) (call_form c m)
 call_line F ws = None
 
-called : (k : Mode) (F : List ℕ → CallForm → Form) (on : Bool) (t m : List ℕ) → ((x : CallForm) → has k (F t x) ≡ on) → (bt bm : Bool) (o : Option Operation) → said k (option_and_then (λ x. if bt then Some (F t x) else None) (if not bm then None else option_and_then (call_on m) o)) ≡ (on && (bt && (is_some (o >>= of_call) && bm)))
-called k F on t m h bt false o = never on ∙ ap (λ (b : Bool). on && b) (sym (both bt _ (both (is_some (o >>= of_call)) false refl)))
+called : (k : Mode) (F : List ℕ → CallForm → Form) (on : Bool) (t m : List ℕ) → ((x : CallForm) → has k (F t x) ≡ on) → (bt bm : Bool) (o : Option Operation) → said k (option_and_then (λ x. if bt then Some (F t x) else None) (if not bm then None else option_and_then (call_on m) o)) ≡ (on && (bt && (is_some (option_and_then scripted o) && bm)))
+called k F on t m h bt false o = never on ∙ ap (λ (b : Bool). on && b) (sym (both bt _ (both (is_some (option_and_then scripted o)) false refl)))
 called k F on t m h bt true None = never on ∙ ap (λ (b : Bool). on && b) (sym (both bt false refl))
 called k F on t m h bt true (Some op.Lock) = decided k (F t (lock m)) on bt (h (lock m)) ∙ ap (λ (b : Bool). on && b) (sym (alone_true bt))
 called k F on t m h bt true (Some op.TryLock) = decided k (F t (trylock m)) on bt (h (trylock m)) ∙ ap (λ (b : Bool). on && b) (sym (alone_true bt))
@@ -120,15 +129,16 @@ called k F on t m h bt true (Some op.Wait) = decided k (F t (wait m)) on bt (h (
 called k F on t m h bt true (Some op.Signal) = decided k (F t (signal m)) on bt (h (signal m)) ∙ ap (λ (b : Bool). on && b) (sym (alone_true bt))
 called k F on t m h bt true (Some op.Broadcast) = decided k (F t (broadcast m)) on bt (h (broadcast m)) ∙ ap (λ (b : Bool). on && b) (sym (alone_true bt))
 called k F on t m h bt true (Some op.Death) = never on ∙ ap (λ (b : Bool). on && b) (sym (both bt false refl))
+called k F on t m h bt true (Some op.Reinit) = never on ∙ ap (λ (b : Bool). on && b) (sym (both bt false refl))
 
 calling : (k : Mode) (F : List ℕ → CallForm → Form) (on : Bool) → ((t : List ℕ) (x : CallForm) → has k (F t x) ≡ on) → (ws : List (List ℕ)) → said k (call_line F ws) ≡ (on && ends (run NameCall ws))
 calling k F on h [] = never on
 calling k F on h (t ∷ []) = never on ∙ ap (λ (b : Bool). on && b) (sym (fits_then (is_name t) Call [] ∙ both (is_name t) false refl))
-calling k F on h (t ∷ c ∷ []) = never on ∙ ap (λ (b : Bool). on && b) (sym (fits_then (is_name t) Call (c ∷ []) ∙ both (is_name t) _ (fits_then (is_call c) Name [] ∙ both (is_call c) false refl)))
+calling k F on h (t ∷ c ∷ []) = never on ∙ ap (λ (b : Bool). on && b) (sym (fits_then (is_name t) Call (c ∷ []) ∙ both (is_name t) _ (fits_then (is_scripted c) Name [] ∙ both (is_scripted c) false refl)))
 calling k F on h (t ∷ c ∷ m ∷ []) =
     called k F on t m (h t) (is_name t) (is_name m) (operation_of c)
-    ∙ ap (λ (b : Bool). on && b) (sym (fits_then (is_name t) Call (c ∷ m ∷ []) ∙ ap (λ (b : Bool). is_name t && b) (fits_then (is_call c) Name (m ∷ []) ∙ ap (λ (b : Bool). is_call c && b) (fits_end (is_name m)))))
-calling k F on h (t ∷ c ∷ m ∷ b ∷ ws) = never on ∙ ap (λ (q : Bool). on && q) (sym (fits_then (is_name t) Call (c ∷ m ∷ b ∷ ws) ∙ both (is_name t) _ (fits_then (is_call c) Name (m ∷ b ∷ ws) ∙ both (is_call c) _ (fits_last (is_name m) b ws))))
+    ∙ ap (λ (b : Bool). on && b) (sym (fits_then (is_name t) Call (c ∷ m ∷ []) ∙ ap (λ (b : Bool). is_name t && b) (fits_then (is_scripted c) Name (m ∷ []) ∙ ap (λ (b : Bool). is_scripted c && b) (fits_end (is_name m)))))
+calling k F on h (t ∷ c ∷ m ∷ b ∷ ws) = never on ∙ ap (λ (q : Bool). on && q) (sym (fits_then (is_name t) Call (c ∷ m ∷ b ∷ ws) ∙ both (is_name t) _ (fits_then (is_scripted c) Name (m ∷ b ∷ ws) ∙ both (is_scripted c) _ (fits_last (is_name m) b ws))))
 
 -- no word at all
 abbrev no_words : List (List ℕ) → Option Form
@@ -204,6 +214,17 @@ shape_renew (t ∷ c ∷ m ∷ b ∷ ws) = refl
 law_renew : (k : Mode) (ws : List (List ℕ)) → said k (words_form (codes "renew" ∷ ws)) ≡ ends (run (Keyword k) (codes "renew" ∷ ws))
 law_renew Run ws = ap (said Run) (shape_renew ws) ∙ named Run renews true (λ a. refl) ws
 law_renew Threads ws = ap (said Threads) (shape_renew ws) ∙ named Threads renews false (λ a. refl) ws
+
+shape_reinit : (ws : List (List ℕ)) → words_form (codes "reinit" ∷ ws) ≡ both_names reinits ws
+shape_reinit [] = refl
+shape_reinit (a ∷ []) = flipped_none (is_name a)
+shape_reinit (a ∷ n ∷ []) = refl
+shape_reinit (t ∷ c ∷ m ∷ []) = no_call (is_name t) (call_form c m)
+shape_reinit (t ∷ c ∷ m ∷ b ∷ ws) = refl
+
+law_reinit : (k : Mode) (ws : List (List ℕ)) → said k (words_form (codes "reinit" ∷ ws)) ≡ ends (run (Keyword k) (codes "reinit" ∷ ws))
+law_reinit Run ws = ap (said Run) (shape_reinit ws) ∙ named_twice Run reinits true (λ a b. refl) ws
+law_reinit Threads ws = ap (said Threads) (shape_reinit ws) ∙ named_twice Threads reinits false (λ a b. refl) ws
 
 shape_leave : (ws : List (List ℕ)) → words_form (codes "leave" ∷ ws) ≡ one_name leaves ws
 shape_leave [] = refl
@@ -329,7 +350,7 @@ law_call Threads ws = ap (said Threads) (shape_call ws) ∙ calling Threads call
 shape_thread : (ws : List (List ℕ)) → words_form (codes "thread" ∷ ws) ≡ thread_line ws
 shape_thread [] = refl
 shape_thread (a ∷ []) = flipped (is_name a) (thread a)
-shape_thread (a ∷ p ∷ []) = refl
+shape_thread (a ∷ p ∷ []) = or_last (is_name a && is_name p) (member a p) None refl
 shape_thread (t ∷ c ∷ m ∷ []) = no_call (is_name t) (call_form c m)
 shape_thread (t ∷ c ∷ m ∷ b ∷ ws) = refl
 
@@ -366,6 +387,7 @@ record Unknown (w : List ℕ) : Type 0 where
   kill_isnt : bytes_eq w (codes "kill") ≡ false
   killall_isnt : bytes_eq w (codes "killall") ≡ false
   renew_isnt : bytes_eq w (codes "renew") ≡ false
+  reinit_isnt : bytes_eq w (codes "reinit") ≡ false
   leave_isnt : bytes_eq w (codes "leave") ≡ false
   decline_isnt : bytes_eq w (codes "decline") ≡ false
   go_isnt : bytes_eq w (codes "go") ≡ false
@@ -380,12 +402,12 @@ no_calling w t b c (Some x) = simp (b, c) (flipped_none (is_name t))
 unknown_line : (w : List ℕ) (ws : List (List ℕ)) → Unknown w → words_form (w ∷ ws) ≡ None
 unknown_line w [] u = simp (u.phase_isnt)
 unknown_line w (a ∷ []) u = simp (u.thread_isnt, u.mutex_isnt, u.kill_isnt, u.killall_isnt, u.go_isnt, u.renew_isnt, u.leave_isnt, u.decline_isnt) (flipped_none (is_name a))
-unknown_line w (a ∷ n ∷ []) u = simp (u.step_isnt, u.die_isnt, u.mutexes_isnt, u.process_isnt, u.thread_isnt)
+unknown_line w (a ∷ n ∷ []) u = simp (u.step_isnt, u.die_isnt, u.mutexes_isnt, u.process_isnt, u.thread_isnt, u.reinit_isnt)
 unknown_line w (t ∷ c ∷ m ∷ []) u = simp (u.locks_isnt, u.cond_isnt) (no_calling w t u.begin_isnt u.call_isnt (call_form c m))
 unknown_line w (t ∷ c ∷ m ∷ b ∷ ws) u = refl
 
 unknown_word : (k : Mode) (w : List ℕ) → Unknown w → keyword k w ≡ None
-unknown_word Run w u = simp (u.process_isnt, u.thread_isnt, u.mutex_isnt, u.mutexes_isnt, u.cond_isnt, u.call_isnt, u.begin_isnt, u.step_isnt, u.kill_isnt, u.killall_isnt, u.renew_isnt, u.leave_isnt, u.decline_isnt, u.go_isnt, u.locks_isnt)
+unknown_word Run w u = simp (u.process_isnt, u.thread_isnt, u.mutex_isnt, u.mutexes_isnt, u.cond_isnt, u.call_isnt, u.begin_isnt, u.step_isnt, u.kill_isnt, u.killall_isnt, u.renew_isnt, u.reinit_isnt, u.leave_isnt, u.decline_isnt, u.go_isnt, u.locks_isnt)
 unknown_word Threads w u = simp (u.process_isnt, u.thread_isnt, u.mutex_isnt, u.mutexes_isnt, u.cond_isnt, u.call_isnt, u.phase_isnt, u.die_isnt)
 
 unknown : (k : Mode) (w : List ℕ) (ws : List (List ℕ)) → Unknown w → said k (words_form (w ∷ ws)) ≡ ends (run (Keyword k) (w ∷ ws))
@@ -410,10 +432,11 @@ scripts_are_run k (w ∷ ws) =
     pick (Agree k ws) w (codes "kill") (law_kill k ws) (λ e8.
     pick (Agree k ws) w (codes "killall") (law_killall k ws) (λ e9.
     pick (Agree k ws) w (codes "renew") (law_renew k ws) (λ e16.
+    pick (Agree k ws) w (codes "reinit") (law_reinit k ws) (λ e17.
     pick (Agree k ws) w (codes "leave") (law_leave k ws) (λ e10.
     pick (Agree k ws) w (codes "decline") (law_decline k ws) (λ e11.
     pick (Agree k ws) w (codes "go") (law_go k ws) (λ e12.
     pick (Agree k ws) w (codes "locks") (law_locks k ws) (λ e13.
     pick (Agree k ws) w (codes "phase") (law_phase k ws) (λ e14.
     pick (Agree k ws) w (codes "die") (law_die k ws) (λ e15.
-    unknown k w ws (record { process_isnt = e0; thread_isnt = e1; mutex_isnt = e2; mutexes_isnt = e3; cond_isnt = e4; call_isnt = e5; begin_isnt = e6; step_isnt = e7; kill_isnt = e8; killall_isnt = e9; leave_isnt = e10; decline_isnt = e11; go_isnt = e12; locks_isnt = e13; phase_isnt = e14; die_isnt = e15; renew_isnt = e16 }))))))))))))))))))
+    unknown k w ws (record { process_isnt = e0; thread_isnt = e1; mutex_isnt = e2; mutexes_isnt = e3; cond_isnt = e4; call_isnt = e5; begin_isnt = e6; step_isnt = e7; kill_isnt = e8; killall_isnt = e9; leave_isnt = e10; decline_isnt = e11; go_isnt = e12; locks_isnt = e13; phase_isnt = e14; die_isnt = e15; renew_isnt = e16; reinit_isnt = e17 })))))))))))))))))))

@@ -1,6 +1,6 @@
 -- The words that may stand at a place.
 use Rattle.std.specs.Prelude.{ℕ, List, [], ◌∷◌, map, codes}
-use Rattle.keys.specs.declared.point.Operation.TheVariants.{Lock, TryLock, Unlock, Consistent, Wait, Signal, Broadcast}
+use Rattle.keys.specs.declared.point.Operation.TheVariants.{Lock, TryLock, Unlock, Consistent, Wait, Signal, Broadcast, Reinit}
 use Rattle.keys.specs.Words.{operation_word}
 use Rattle.lockword.specs.Replies.{all_replies, reply_word}
 use Rattle.script.specs.declared.command.Mode.{Mode}
@@ -8,16 +8,20 @@ use Rattle.script.specs.declared.command.Mode.TheVariants.{Run, Threads}
 use Rattle.wording.specs.declared.next.Next.{Next}
 use Rattle.wording.specs.declared.next.Next.TheVariants.{Keyword, Call, Head, Event, Deed, Reply, Operation, CallReply}
 
--- the words of calls
+-- the words of the calls that scripts make
 abbrev pub call_words : List (List ℕ)
 call_words = map operation_word (Lock ∷ TryLock ∷ Unlock ∷ Consistent ∷ Wait ∷ Signal ∷ Broadcast ∷ [])
+
+-- and of those that traces tell
+abbrev pub told_words : List (List ℕ)
+told_words = map operation_word (Lock ∷ TryLock ∷ Unlock ∷ Consistent ∷ Wait ∷ Signal ∷ Broadcast ∷ Reinit ∷ [])
 
 abbrev pub reply_words : List (List ℕ)
 reply_words = map reply_word all_replies
 
 -- of a script's lines, those first that scripts of both modes have
 abbrev pub keywords : Mode → List (List ℕ)
-keywords Run = codes "process" ∷ codes "thread" ∷ codes "mutex" ∷ codes "mutexes" ∷ codes "cond" ∷ codes "call" ∷ codes "begin" ∷ codes "step" ∷ codes "kill" ∷ codes "killall" ∷ codes "renew" ∷ codes "leave" ∷ codes "decline" ∷ codes "go" ∷ codes "locks" ∷ []
+keywords Run = codes "process" ∷ codes "thread" ∷ codes "mutex" ∷ codes "mutexes" ∷ codes "cond" ∷ codes "call" ∷ codes "begin" ∷ codes "step" ∷ codes "kill" ∷ codes "killall" ∷ codes "renew" ∷ codes "reinit" ∷ codes "leave" ∷ codes "decline" ∷ codes "go" ∷ codes "locks" ∷ []
 keywords Threads = codes "process" ∷ codes "thread" ∷ codes "mutex" ∷ codes "mutexes" ∷ codes "cond" ∷ codes "call" ∷ codes "phase" ∷ codes "die" ∷ []
 
 -- of what events do
@@ -31,7 +35,7 @@ known_words Head = codes "trace" ∷ []
 known_words Event = codes "end" ∷ []
 known_words Deed = deeds
 known_words Call = call_words
-known_words Operation = call_words
-known_words CallReply = call_words
+known_words Operation = told_words
+known_words CallReply = told_words
 known_words Reply = reply_words
 known_words n = []

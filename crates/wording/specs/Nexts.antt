@@ -12,7 +12,7 @@ use Rattle.script.specs.declared.command.Mode.TheVariants as mode
 use Rattle.script.specs.Forms.{is_name, is_stem}
 use Rattle.verdict.specs.Forms.{call_operation, numbered}
 use Rattle.wording.specs.declared.next.Next.{Next}
-use Rattle.wording.specs.declared.next.Next.TheVariants.{End, Keyword, Name, NewThread, ProcessOrEnd, NameNumber, NameNameNumber, StemNumber, Number, NameCall, Call, Head, ThreeNumbers, TwoNumbers, Event, Deed, Thread, ThreadMutex, ThreadPlace, ThreadReply, ThreadCall, ThreadPoint, Mutex, Place, Reply, Operation, ConditionMutex, MutexCallReply, CallReply}
+use Rattle.wording.specs.declared.next.Next.TheVariants.{End, Keyword, Name, NewThread, ProcessOrEnd, NameNumber, NameNameNumber, NameName, StemNumber, Number, NameCall, Call, Head, ThreeNumbers, TwoNumbers, Event, Deed, Thread, ThreadMutex, ThreadPlace, ThreadReply, ThreadCall, ThreadPoint, Mutex, Place, Reply, Operation, ConditionMutex, MutexCallReply, CallReply}
 
 -- ---- the words
 
@@ -20,8 +20,18 @@ use Rattle.wording.specs.declared.next.Next.TheVariants.{End, Keyword, Name, New
 abbrev pub is_lettered : ℕ → List ℕ → Bool
 is_lettered letter w = is_some (numbered letter w)
 
+-- the word of a call, as traces tell them
 abbrev pub is_call : List ℕ → Bool
 is_call w = is_some (call_operation w)
+
+-- the calls that scripts make: a reinit is a command of its own
+abbrev pub scripted : Op → Option Op
+scripted op.Death = None
+scripted op.Reinit = None
+scripted o = Some o
+
+abbrev pub is_scripted : List ℕ → Bool
+is_scripted w = is_some (option_and_then scripted (operation_of w))
 
 abbrev pub is_reply : List ℕ → Bool
 is_reply w = is_some (reply_of w)
@@ -48,10 +58,11 @@ of_run w = if bytes_eq w (codes "begin") then Some NameCall
     else (if bytes_eq w (codes "kill") then Some Name
     else (if bytes_eq w (codes "killall") then Some Name
     else (if bytes_eq w (codes "renew") then Some Name
+    else (if bytes_eq w (codes "reinit") then Some NameName
     else (if bytes_eq w (codes "leave") then Some Name
     else (if bytes_eq w (codes "decline") then Some Name
     else (if bytes_eq w (codes "go") then Some Name
-    else (if bytes_eq w (codes "locks") then Some NameNameNumber else None))))))))
+    else (if bytes_eq w (codes "locks") then Some NameNameNumber else None)))))))))
 
 -- that only scripts for real threads have
 abbrev pub of_threads : List ℕ → Option Next
@@ -92,6 +103,7 @@ made_on op.Lock = Some Mutex
 made_on op.TryLock = Some Mutex
 made_on op.Unlock = Some Mutex
 made_on op.Consistent = Some Mutex
+made_on op.Reinit = Some Mutex
 made_on op.Wait = Some ConditionMutex
 made_on op.Signal = Some ConditionMutex
 made_on op.Broadcast = Some ConditionMutex
@@ -115,10 +127,11 @@ after NewThread w = fitting (is_name w) ProcessOrEnd
 after ProcessOrEnd w = fitting (is_name w) End
 after NameNumber w = fitting (is_name w) Number
 after NameNameNumber w = fitting (is_name w) NameNumber
+after NameName w = fitting (is_name w) Name
 after StemNumber w = fitting (is_stem w) Number
 after Number w = fitting (is_number w) End
 after NameCall w = fitting (is_name w) Call
-after Call w = fitting (is_call w) Name
+after Call w = fitting (is_scripted w) Name
 after Head w = fitting (bytes_eq w (codes "trace")) ThreeNumbers
 after ThreeNumbers w = fitting (is_number w) TwoNumbers
 after TwoNumbers w = fitting (is_number w) Number

@@ -1,12 +1,12 @@
 //! The words that may stand at a place.
 
 ghost use Rattle.std.specs.Prelude.{◌≡◌, map};
-ghost use Rattle.wording.specs.Known.{call_words, deeds, keywords, known_words, reply_words};
+ghost use Rattle.wording.specs.Known.{call_words, deeds, keywords, known_words, reply_words, told_words};
 
 use crate::next::Next;
 use script::Mode;
 
-/// The words of calls.
+/// The words of the calls that scripts make.
 fn call_words() -> &'static [&'static str]
     ensures { map (λ w. w.now) result.now ≡ call_words }
 {
@@ -18,6 +18,22 @@ fn call_words() -> &'static [&'static str]
         "wait",
         "signal",
         "broadcast",
+    ]
+}
+
+/// The words of the calls that traces tell.
+fn told_words() -> &'static [&'static str]
+    ensures { map (λ w. w.now) result.now ≡ told_words }
+{
+    &[
+        "lock",
+        "trylock",
+        "unlock",
+        "consistent",
+        "wait",
+        "signal",
+        "broadcast",
+        "reinit",
     ]
 }
 
@@ -51,7 +67,7 @@ fn keywords(mode: Mode) -> &'static [&'static str]
     match mode {
         Mode::Run => &[
             "process", "thread", "mutex", "mutexes", "cond", "call", "begin", "step", "kill",
-            "killall", "renew", "leave", "decline", "go", "locks",
+            "killall", "renew", "reinit", "leave", "decline", "go", "locks",
         ],
         Mode::Threads => &[
             "process", "thread", "mutex", "mutexes", "cond", "call", "phase", "die",
@@ -77,7 +93,8 @@ pub fn known_words(next: Next) -> &'static [&'static str]
         Next::Head => &["trace"],
         Next::Event => &["end"],
         Next::Deed => deeds(),
-        Next::Call | Next::Operation | Next::CallReply => call_words(),
+        Next::Call => call_words(),
+        Next::Operation | Next::CallReply => told_words(),
         Next::Reply => reply_words(),
         _ => &[],
     }

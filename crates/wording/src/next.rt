@@ -3,7 +3,7 @@
 ghost use Rattle.std.specs.Prelude.{◌≡◌, ◌<◌};
 ghost use Rattle.std.specs.List.{list_all};
 ghost use Rattle.script.specs.Forms.{is_name, is_name_byte, is_stem};
-ghost use Rattle.wording.specs.Nexts.{deed, event, fitting, is_call, is_lettered, is_reply, keyword, mode_of_word, of_run, of_threads, operation, shared};
+ghost use Rattle.wording.specs.Nexts.{deed, event, fitting, is_call, is_lettered, is_reply, is_scripted, keyword, mode_of_word, of_run, of_threads, operation, shared};
 
 use keys::Operation;
 use lines::is_number_word;
@@ -28,6 +28,8 @@ pub enum Next {
     NameNumber,
     /// A name, and then a name and a number.
     NameNameNumber,
+    /// A name, and then another one.
+    NameName,
     /// A name of at most 12 characters, and then a number.
     StemNumber,
     /// A number, the last word.
@@ -112,12 +114,22 @@ fn is_lettered(letter: char, word: &str) -> bool
     }
 }
 
-/// Whether the word is that of a call.
+/// Whether the word is that of a call, as traces tell them.
 fn is_call(word: &str) -> bool
     ensures { result ≡ is_call word.now }
 {
     match word.parse::<Operation>() {
         Ok(Operation::Death) | Err(_) => false,
+        Ok(_) => true,
+    }
+}
+
+/// Whether the word is that of a call that scripts make.
+fn is_scripted(word: &str) -> bool
+    ensures { result ≡ is_scripted word.now }
+{
+    match word.parse::<Operation>() {
+        Ok(Operation::Death) | Ok(Operation::Reinit) | Err(_) => false,
         Ok(_) => true,
     }
 }
@@ -154,6 +166,7 @@ fn of_run(word: &str) -> Option<Next>
         "kill" => Some(Next::Name),
         "killall" => Some(Next::Name),
         "renew" => Some(Next::Name),
+        "reinit" => Some(Next::NameName),
         "leave" => Some(Next::Name),
         "decline" => Some(Next::Name),
         "go" => Some(Next::Name),
@@ -214,6 +227,7 @@ fn operation(word: &str) -> Option<Next>
         Ok(Operation::TryLock) => Some(Next::Mutex),
         Ok(Operation::Unlock) => Some(Next::Mutex),
         Ok(Operation::Consistent) => Some(Next::Mutex),
+        Ok(Operation::Reinit) => Some(Next::Mutex),
         Ok(Operation::Wait) => Some(Next::ConditionMutex),
         Ok(Operation::Signal) => Some(Next::ConditionMutex),
         Ok(Operation::Broadcast) => Some(Next::ConditionMutex),
@@ -254,10 +268,11 @@ impl Next {
             Next::ProcessOrEnd => fitting(is_name(word), Next::End),
             Next::NameNumber => fitting(is_name(word), Next::Number),
             Next::NameNameNumber => fitting(is_name(word), Next::NameNumber),
+            Next::NameName => fitting(is_name(word), Next::Name),
             Next::StemNumber => fitting(is_stem(word), Next::Number),
             Next::Number => fitting(is_number_word(word), Next::End),
             Next::NameCall => fitting(is_name(word), Next::Call),
-            Next::Call => fitting(is_call(word), Next::Name),
+            Next::Call => fitting(is_scripted(word), Next::Name),
             Next::Head => fitting(word == "trace", Next::ThreeNumbers),
             Next::ThreeNumbers => fitting(is_number_word(word), Next::TwoNumbers),
             Next::TwoNumbers => fitting(is_number_word(word), Next::Number),

@@ -11,3 +11,6 @@ returns-in-CannotWrite g c = rw c.in-CannotWrite.is c.put-in-CannotWrite.ensures
 
 pub returns-in-OutOfMemory : goal.returns-in-OutOfMemory
 returns-in-OutOfMemory g c = rw c.in-OutOfMemory.is c.put-in-OutOfMemory.ensures
+
+pub returns-in-Unlike : goal.returns-in-Unlike
+returns-in-Unlike g c = rw c.in-Unlike.is c.put-in-Unlike.ensures

@@ -1,5 +1,5 @@
 use Rattle.std.specs.Prelude.{string_bytes}
-use Rattle.draw_report.proofs.Names.{says_on}
+use Rattle.draw_report.proofs.Listed.{says_on}
 use Rattle.draw_report.proofs.program.lent.Goals as goal
 
 pub loop-word-preserved : goal.loop-word-preserved

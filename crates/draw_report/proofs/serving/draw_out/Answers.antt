@@ -4,7 +4,7 @@ use Rattle.draw_report.proofs.serving.draw_out.Goals as goal
 
 pub returns-in-Err-clause-text : goal.returns-in-Err-clause-text
 returns-in-Err-clause-text g c =
-    let text = picture c.args.kind c.args.trace.now in
+    let text = picture c.args.kind c.args.names.now c.args.trace.now in
     let old = g.W.Write.contents c.args.out.now in
     let drawn = g.W.Write.contents c.draw_as.new.out in
     let new = g.W.Write.contents c.let_go.new.self in

@@ -4,5 +4,5 @@ use Rattle.picture.specs.Pieces.{each}
 use Rattle.picture.specs.Heads.{band_head}
 use Rattle.picture.proofs.heads.add_band_heads.Given as goal
 
-abbrev pub invariant-loop-mutex : goal.invariant-loop-mutex
-invariant-loop-mutex l = string_bytes l.text ≡ string_bytes l.initial.text ++ each (band_head) l.mutex
+abbrev pub invariant-loop-band : goal.invariant-loop-band
+invariant-loop-band l = string_bytes l.text ≡ string_bytes l.initial.text ++ each (band_head l.names l.extent) l.band

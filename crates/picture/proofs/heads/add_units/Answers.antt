@@ -9,6 +9,6 @@ use Rattle.picture.proofs.heads.add_units.Goals as goal
 pub loop-index-preserved : goal.loop-index-preserved
 loop-index-preserved c =
     let lane = c.loop-index.index + 1 in
-    one_further (unit c.args.threads) (string_bytes c.args.text.now) (string_bytes c.loop-index.text) (string_bytes c.fill.new.text) c.loop-index.index c.loop-index.invariant
-    (sign_and (string_bytes c.loop-index.text) (string_bytes c.add.new.text) (string_bytes c.fill.new.text) c.format.result.now (decimal (lane % 10)) (repeat c.gap.result (codes " ")) (repeat (gap c.args.threads lane) (codes " "))
+    one_further (unit c.args.extent.now) (string_bytes c.args.text.now) (string_bytes c.loop-index.text) (string_bytes c.fill.new.text) c.loop-index.index c.loop-index.invariant
+    (sign_and (string_bytes c.loop-index.text) (string_bytes c.add.new.text) (string_bytes c.fill.new.text) c.format.result.now (decimal (lane % 10)) (repeat c.gap.result (codes " ")) (repeat (gap c.args.extent.now lane) (codes " "))
     c.in_ok-add.ensures c.format.ensures.text c.in_ok-fill.ensures (ap (λ n. repeat n (codes " ")) c.gap.ensures))

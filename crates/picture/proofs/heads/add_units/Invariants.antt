@@ -5,4 +5,4 @@ use Rattle.picture.specs.Heads.{unit}
 use Rattle.picture.proofs.heads.add_units.Given as goal
 
 abbrev pub invariant-loop-index : goal.invariant-loop-index
-invariant-loop-index l = string_bytes l.text ≡ string_bytes l.initial.text ++ each (unit l.threads) l.index
+invariant-loop-index l = string_bytes l.text ≡ string_bytes l.initial.text ++ each (unit l.extent) l.index

@@ -10,5 +10,5 @@ loop-index-preserved c =
     let r = c.args.row.now in
     let lanes = c.args.lanes.now in
     let i = c.loop-index.index in
-    once_further (cell_at r.threads r.thread r.from r.sign.now (map (λ w. w.now) r.words.now) lanes) (string_bytes c.args.text.now) (string_bytes c.loop-index.text) (string_bytes c.add_cell.new.text) _ i c.loop-index.invariant c.in_ok-add_cell.ensures
-    (ap (λ k. cell r.threads r.thread r.from r.sign.now (map (λ w. w.now) r.words.now) (lane_at lanes (k + 1)) (i + 1)) c.from.ensures)
+    once_further (cell_at r.extent r.thread r.from r.sign.now (map (λ w. w.now) r.words.now) lanes) (string_bytes c.args.text.now) (string_bytes c.loop-index.text) (string_bytes c.add_cell.new.text) _ i c.loop-index.invariant c.in_ok-add_cell.ensures
+    (ap (λ k. cell r.extent r.thread r.from r.sign.now (map (λ w. w.now) r.words.now) (lane_at lanes (k + 1)) (i + 1)) c.from.ensures)

@@ -14,9 +14,9 @@ returns c =
     let three = string_bytes c.add_cells.new.text in
     let four = string_bytes c.add_tail.new.text in
     let all = string_bytes c.add.new.text in
-    let owners = bands_text c.args.bands c.args.scene.now.objects in
-    let lanes = cells r.threads r.thread r.from r.sign.now ws c.args.scene.now.lanes in
-    let last = tail r.threads r.thread ws in
+    let owners = bands_text c.args.names.now r.extent c.args.scene.now.objects in
+    let lanes = cells r.extent r.thread r.from r.sign.now ws c.args.scene.now.lanes in
+    let last = tail c.args.names.now r.extent r.thread ws in
     then_text c.add.result old one all (event_text c.args.event) (owners ++ (lanes ++ (last ++ codes "\n"))) c.in_ok-add_event.ensures
     (then_text c.add.result one two all owners (lanes ++ (last ++ codes "\n")) c.in_ok-add_bands.ensures
     (then_text c.add.result two three all lanes (last ++ codes "\n") c.in_ok-add_cells.ensures

@@ -4,5 +4,5 @@ use Rattle.picture.specs.Pieces.{each}
 use Rattle.picture.specs.Svg.{svg_band}
 use Rattle.picture.proofs.svg.add_band_names.Given as goal
 
-abbrev pub invariant-loop-mutex : goal.invariant-loop-mutex
-invariant-loop-mutex l = string_bytes l.text ≡ string_bytes l.initial.text ++ each (svg_band) l.mutex
+abbrev pub invariant-loop-band : goal.invariant-loop-band
+invariant-loop-band l = string_bytes l.text ≡ string_bytes l.initial.text ++ each (svg_band l.names l.extent) l.band

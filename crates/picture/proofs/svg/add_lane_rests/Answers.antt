@@ -11,5 +11,5 @@ loop-index-preserved c =
     let lanes = c.args.scene.now.lanes in
     let since = c.args.since.now.lanes in
     let i = c.loop-index.index in
-    once_further (lane_rest c.args.extent lanes since c.args.line) (string_bytes c.args.text.now) (string_bytes c.loop-index.text) (string_bytes c.add_lane.new.text) _ i c.loop-index.invariant c.in_ok-add_lane.ensures
+    once_further (lane_rest c.args.extent.now lanes since c.args.line) (string_bytes c.args.text.now) (string_bytes c.loop-index.text) (string_bytes c.add_lane.new.text) _ i c.loop-index.invariant c.in_ok-add_lane.ensures
     (ap (λ k. lane_shape (lane_at lanes (k + 1)) c.lane_x.result (slice_index_or since (k + 1) 0) c.args.line) c.from-at.ensures ∙ ap (λ x. lane_shape (lane_at lanes (i + 1)) x (slice_index_or since (i + 1) 0) c.args.line) c.lane_x.ensures.value)

@@ -10,7 +10,7 @@ use Rattle.picture.proofs.svg.add_marks.Goals as goal
 
 pub returns : goal.returns
 returns c =
-    let x = c.args.extent in
+    let x = c.args.extent.now in
     let f = c.args.fact.now in
     let k = c.args.number in
     let ws = map (λ w. w.now) c.args.words.now in
@@ -18,10 +18,10 @@ returns c =
     let one = string_bytes c.add_number.new.text in
     let two = string_bytes c.add_mark_of.new.text in
     let all = string_bytes c.add_words.new.text in
-    let middle = lane_x x.threads x.bands (thread_of f) in
+    let middle = lane_x x (thread_of f) in
     let thread : c.get-thread.result ≡ thread_of f = c.get-thread.ensures.value ∙ c.thread.ensures in
     let label = words_label ws middle k (is_from_right (thread_of f) c.args.from) in
-    let there = c.lane_x-middle.ensures.value ∙ ap (lane_x x.threads x.bands) thread in
+    let there = c.lane_x-middle.ensures.value ∙ ap (lane_x x) thread in
     let right = c.is_right_of.ensures ∙ ap (λ t. is_from_right t c.args.from) thread in
     then_text c.add_words.result old one all (number_label c.args.event k) (mark_of x f c.args.from k ++ label) c.in_ok-add_number.ensures
     (then_text c.add_words.result one two all (mark_of x f c.args.from k) label c.in_ok-add_mark_of.ensures

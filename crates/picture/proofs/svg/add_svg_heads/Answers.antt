@@ -7,11 +7,12 @@ use Rattle.picture.proofs.svg.add_svg_heads.Goals as goal
 
 pub returns : goal.returns
 returns c =
-    let x = c.args.extent in
+    let n = c.args.names.now in
+    let x = c.args.extent.now in
     let one = string_bytes c.add_open.new.text in
     let two = string_bytes c.add_band_names.new.text in
     let all = string_bytes c.add_lane_names.new.text in
-    let lanes = svg_lanes x (row_y c.args.lines + 18) in
-    then_text c.add_lane_names.result (string_bytes c.args.text.now) one all (svg_open x c.args.lines) (svg_bands x.bands ++ lanes) c.in_ok-add_open.ensures
-    (then_text c.add_lane_names.result one two all (svg_bands x.bands) lanes c.in_ok-add_band_names.ensures
-    (told_as c.add_lane_names.result two all _ _ (ap (λ y. svg_lanes x (y + 18)) c.row_y.ensures.value) c.add_lane_names.ensures))
+    let lanes = svg_lanes n x (row_y c.args.lines + 18) in
+    then_text c.add_lane_names.result (string_bytes c.args.text.now) one all (svg_open x c.args.lines) (svg_bands n x ++ lanes) c.in_ok-add_open.ensures
+    (then_text c.add_lane_names.result one two all (svg_bands n x) lanes c.in_ok-add_band_names.ensures
+    (told_as c.add_lane_names.result two all _ _ (ap (λ y. svg_lanes n x (y + 18)) c.row_y.ensures.value) c.add_lane_names.ensures))

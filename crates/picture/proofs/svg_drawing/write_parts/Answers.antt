@@ -9,17 +9,19 @@ use Rattle.picture.proofs.svg_drawing.write_parts.Goals as goal
 
 pub returns-in_err-write_line_parts : goal.returns-in_err-write_line_parts
 returns-in_err-write_line_parts g c =
-    let x = c.args.extent in
+    let n = c.args.names.now in
+    let x = c.args.extent.now in
     let ls = c.args.lines.now in
     let i = c.loop-index.index in
     let s = c.loop-index.scene in
     let z = c.loop-index.since in
     let l = c.index-lines-index.result in
-    stops (g.W.Write.contents c.args.out.now) (g.W.Write.contents c.loop-index.out) (g.W.Write.contents c.write_line_parts.new.out) c.from_residual.result (parts x first_scene first_since 1 ls) (parts x s z (i + 1) (drop i ls)) (line_parts x s z l.fact (i + 1)) (parts x (behind s l (drop i ls)) (begins_at z l.fact (i + 1)) (i + 1 + 1) (drop (i + 1) ls)) c.from_residual.ensures.0 c.loop-index.invariant (parts_next x s z (i + 1) ls i l c.loop-index-test.true c.index-lines-index.is) c.in_err-write_line_parts.ensures
+    stops (g.W.Write.contents c.args.out.now) (g.W.Write.contents c.loop-index.out) (g.W.Write.contents c.write_line_parts.new.out) c.from_residual.result (parts n x first_scene first_since 1 ls) (parts n x s z (i + 1) (drop i ls)) (line_parts n x s z l.fact (i + 1)) (parts n x (behind x.bands s l (drop i ls)) (begins_at x.bands z l.fact (i + 1)) (i + 1 + 1) (drop (i + 1) ls)) c.from_residual.ensures.0 c.loop-index.invariant (parts_next n x s z (i + 1) ls i l c.loop-index-test.true c.index-lines-index.is) c.in_err-write_line_parts.ensures
 
 pub loop-index-preserved : goal.loop-index-preserved
 loop-index-preserved g c =
-    let x = c.args.extent in
+    let n = c.args.names.now in
+    let x = c.args.extent.now in
     let ls = c.args.lines.now in
     let i = c.loop-index.index in
     let s = c.loop-index.scene in
@@ -27,16 +29,17 @@ loop-index-preserved g c =
     let l = c.index-lines-index.result in
     let start = g.W.Write.contents c.args.out.now in
     let after = g.W.Write.contents c.write_line_parts.new.out in
-    let next = behind s l (drop i ls) in
-    let since = begins_at z l.fact (i + 1) in
-    let same : c.behind-scene.result ≡ next = c.behind-scene.ensures ∙ ap (behind s l) (take_rest ls i) in
-    let so_far = goes_on start (g.W.Write.contents c.loop-index.out) after (parts x first_scene first_since 1 ls) (parts x s z (i + 1) (drop i ls)) (line_parts x s z l.fact (i + 1)) (parts x next since (i + 1 + 1) (drop (i + 1) ls)) c.loop-index.invariant (parts_next x s z (i + 1) ls i l c.loop-index-test.true c.index-lines-index.is) c.in_ok-write_line_parts.ensures in
-    subst (λ (w : Since). Sofar start after (parts x first_scene first_since 1 ls) (parts x c.behind-scene.result w (i + 1 + 1) (drop (i + 1) ls))) (sym c.behind-since.ensures)
-    (subst (λ (w : Scene). Sofar start after (parts x first_scene first_since 1 ls) (parts x w since (i + 1 + 1) (drop (i + 1) ls))) (sym same) so_far)
+    let next = behind x.bands s l (drop i ls) in
+    let since = begins_at x.bands z l.fact (i + 1) in
+    let same : c.behind-scene.result ≡ next = c.behind-scene.ensures ∙ ap (behind x.bands s l) (take_rest ls i) in
+    let so_far = goes_on start (g.W.Write.contents c.loop-index.out) after (parts n x first_scene first_since 1 ls) (parts n x s z (i + 1) (drop i ls)) (line_parts n x s z l.fact (i + 1)) (parts n x next since (i + 1 + 1) (drop (i + 1) ls)) c.loop-index.invariant (parts_next n x s z (i + 1) ls i l c.loop-index-test.true c.index-lines-index.is) c.in_ok-write_line_parts.ensures in
+    subst (λ (w : Since). Sofar start after (parts n x first_scene first_since 1 ls) (parts n x c.behind-scene.result w (i + 1 + 1) (drop (i + 1) ls))) (sym c.behind-since.ensures)
+    (subst (λ (w : Scene). Sofar start after (parts n x first_scene first_since 1 ls) (parts n x w since (i + 1 + 1) (drop (i + 1) ls))) (sym same) so_far)
 
 pub returns : goal.returns
 returns g c =
-    let x = c.args.extent in
+    let n = c.args.names.now in
+    let x = c.args.extent.now in
     let ls = c.args.lines.now in
     let i = c.loop-index.index in
     let s = c.loop-index.scene in
@@ -44,5 +47,5 @@ returns g c =
     let all : i ≡ length ls = omega arith in
     let start = g.W.Write.contents c.args.out.now in
     let before = g.W.Write.contents c.loop-index.out in
-    let last : parts x s z (i + 1) (drop i ls) ≡ rests x s z (length ls + 1) = parts_end x s z (i + 1) ls i all ∙ ap (λ k. rests x s z (k + 1)) all in
-    ends_with start before (g.W.Write.contents c.write_rests.new.out) c.write_rests.result (parts x first_scene first_since 1 ls) (rests x s z (length ls + 1)) (subst (Sofar start before (parts x first_scene first_since 1 ls)) last c.loop-index.invariant) c.write_rests.ensures
+    let last : parts n x s z (i + 1) (drop i ls) ≡ rests n x s z (length ls + 1) = parts_end n x s z (i + 1) ls i all ∙ ap (λ k. rests n x s z (k + 1)) all in
+    ends_with start before (g.W.Write.contents c.write_rests.new.out) c.write_rests.result (parts n x first_scene first_since 1 ls) (rests n x s z (length ls + 1)) (subst (Sofar start before (parts n x first_scene first_since 1 ls)) last c.loop-index.invariant) c.write_rests.ensures

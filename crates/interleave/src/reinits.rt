@@ -1,0 +1,69 @@
+//! Unusable mutexes that are made anew.
+ghost use Rattle.std.specs.Prelude.{◌≡◌, ◌<◌, ◌&&◌, ℕ, List, length, nat_lt};
+ghost use Rattle.keys.specs.Layouts.{words_of};
+ghost use Rattle.protocol.specs.declared.event.Event.TheVariants.{Reinit};
+ghost use Rattle.protocol.specs.declared.thread.Thread.{Thread};
+ghost use Rattle.protocol.specs.Machine.{happens, has_thread, is_idle, is_unusable};
+ghost use Rattle.syscalls.specs.Kernels.{Kernel'};
+ghost use Rattle.interleave.specs.Shown.{state_at, thread_at};
+
+use crate::threads::is_idle;
+use keys::Layout;
+use lockword::{Cell, Tid};
+use protocol::{Note, Thread};
+use syscalls::{Kernel, Memory, PlainMemory};
+
+/// Whether the thread is one of the layout, lives and is in no call.
+fn is_resting(layout: &Layout, threads: &Vec<Thread>, thread: Tid) -> bool
+    requires { length threads.now.items ≡ layout.now.threads }
+    ensures { (ws : List ℕ) (kernel : Kernel') → result ≡ (has_thread (state_at layout.now ws kernel threads.now.items) thread && is_idle (thread_at threads.now.items thread).stage) }
+{
+    if layout.threads() < thread.get() {
+        return false;
+    }
+    is_idle(&threads[thread.as_index()].stage)
+}
+
+/// Whether the mutex is one of the layout, and its word says that it is unusable.
+fn is_unusable(layout: &Layout, memory: &PlainMemory, mutex: u16) -> bool
+    requires { length memory.now ≡ words_of layout.now }
+    ensures { (kernel : Kernel') (ts : List Thread) → result ≡ (nat_lt mutex layout.now.mutexes && is_unusable (state_at layout.now memory.now kernel ts) mutex) }
+{
+    if layout.mutexes() <= mutex {
+        return false;
+    }
+    match memory.load(layout.cell(mutex)) {
+        Some(word) => Cell::new(word).unusable(),
+        None => false,
+    }
+}
+
+/// The thread makes the mutex anew, if it is in no call, and the mutex is unusable and nobody sleeps on it: its word is 0, as
+/// at first.
+pub(crate) fn reinit(
+    layout: &Layout,
+    memory: &mut PlainMemory,
+    kernel: &Kernel,
+    threads: &Vec<Thread>,
+    thread: Tid,
+    mutex: u16,
+) -> Note
+    requires words { length memory.old ≡ words_of layout.now }
+    requires threads { length threads.now.items ≡ layout.now.threads }
+    ensures state { state_at layout.now memory.new kernel.now threads.now.items ≡ (happens (state_at layout.now memory.old kernel.now threads.now.items) (Reinit thread mutex)).state }
+    ensures note { result ≡ (happens (state_at layout.now memory.old kernel.now threads.now.items) (Reinit thread mutex)).note }
+    ensures words { length memory.new ≡ length memory.old }
+{
+    if !is_resting(layout, threads, thread) {
+        return Note::Nothing;
+    }
+    if !is_unusable(layout, memory, mutex) {
+        return Note::Nothing;
+    }
+    let cell = layout.cell(mutex);
+    if !kernel.sleepers(cell).is_empty() {
+        return Note::Nothing;
+    }
+    let _ = memory.store(cell, 0);
+    Note::Reinited { thread, mutex }
+}

@@ -1,0 +1,154 @@
+-- Unusable mutexes that are made anew.
+use Rattle.std.proofs.Common.{◌≡◌, ◌≢◌, inl, ℕ, ◌+◌, ◌<◌, ◌≤◌, true, None, Some, refl, sym, ap, ◌∙◌, subst, arith}
+use Rattle.protocol.proofs.Vocabulary.{Object, Operation, Access, OK, head_place, cell_place, counter_place, fields_of, object_of, fresh, Sound, stands_in, Thread, Idle, State, put, seen}
+use Rattle.protocol.proofs.Vocabulary.{sleepers, if◌then◌else◌, nat_lt, place_in, reinited, MayReinit}
+use mathlib.Core.Path.{fun_ext}
+use Rattle.protocol.proofs.Puts.{by_put, put-same, put-other}
+use Rattle.protocol.proofs.Seeing.{cell_in, head_in, cell_again}
+use Rattle.protocol.proofs.Kept.{Listed, PendsAs, Kept, view_of}
+use Rattle.protocol.proofs.Places.{mine_is_no_cell, head_is_no_cell, counter_is_no_cell, list_links, links_mine, both_same}
+use Rattle.protocol.proofs.Steps.{seen-inside, done}
+use Rattle.protocol.proofs.Frames.{kept_where}
+use Rattle.protocol.proofs.Stepping.{HasWaiters}
+use Rattle.protocol.proofs.WalkStepping.{same_answers}
+use Rattle.protocol.proofs.Departures.{queues_kept}
+use Rattle.protocol.proofs.Queued.{Queued, Answering}
+use Rattle.protocol.proofs.Cases.{at_or_else, same_object}
+
+module _ (s : State) (t m : ℕ) (may : MayReinit s t m) where
+  abbrev s1 : State
+  s1 = (reinited s t m).state
+
+  abbrev place : ℕ
+  place = cell_place s.layout m
+
+  -- ---- words
+
+  pub reinited_word : s1.words place ≡ 0
+  reinited_word = put-same s.words place 0
+
+  pub reinited_elsewhere : (p : ℕ) → p ≢ place → s1.words p ≡ s.words p
+  reinited_elsewhere p apart = put-other s.words place 0 p apart
+
+  pub reinited_cell : (k : ℕ) → k ≢ m → s1.words (cell_place s.layout k) ≡ s.words (cell_place s.layout k)
+  reinited_cell k apart = reinited_elsewhere (cell_place s.layout k) (λ e. apart (omega (arith, e)))
+
+  pub reinited_counter : (k : ℕ) → s1.words (counter_place s.layout k) ≡ s.words (counter_place s.layout k)
+  reinited_counter k = reinited_elsewhere (counter_place s.layout k) (counter_is_no_cell s.layout m k may.inside)
+
+  reinited_pending : (u : ℕ) → 1 ≤ u → u ≤ s.layout.threads → s1.words (head_place u + 2) ≡ s.words (head_place u + 2)
+  reinited_pending u first last = reinited_elsewhere (head_place u + 2) (head_is_no_cell s.layout u m 2 first last (omega arith))
+
+  -- ---- mutexes
+
+  pub reinited_seen : seen s1 m ≡ fresh
+  reinited_seen = seen-inside s1 m may.inside ∙ ap (λ (w : ℕ). object_of (fields_of w)) reinited_word
+
+  pub reinited_far : (k : ℕ) → k ≢ m → seen s1 k ≡ seen s k
+  reinited_far k apart = ap (λ (w : ℕ). if nat_lt k s.layout.mutexes then object_of (fields_of w) else fresh) (reinited_cell k apart)
+
+  module _ (inv : Kept s) where
+    -- an unusable mutex is nobody's
+    pub unowned : (seen s m).owner ≡ None
+    unowned = inv.sound m may.unusable
+
+    theirs : (u k : ℕ) → (seen s k).owner ≡ Some u → k ≢ m
+    theirs u k own e = cc (sym own ∙ ap (λ (j : ℕ). (seen s j).owner) e ∙ unowned)
+
+    -- it is as if the thread stored the word, in no call before and behind
+    abbrev store : Access
+    store = Access.Store (cell_in s.layout t m) 0
+
+    abbrev resting : Thread
+    resting = record { stage = Idle; held = (s.threads t).held }
+
+    abbrev s2 : State
+    s2 = done s t store resting
+
+    words_are : s2.words ≡ s1.words
+    words_are = ap (λ (p : ℕ). put s.words p 0) (cell_again s.layout t inv.layout may.first may.last m may.inside)
+
+    word_is : (p : ℕ) → s2.words p ≡ s1.words p
+    word_is p = ap (λ (f : ℕ → ℕ). f p) words_are
+
+    word_there : (p : ℕ) → p ≢ place → s2.words p ≡ s.words p
+    word_there p apart = word_is p ∙ reinited_elsewhere p apart
+
+    seen_is : (k : ℕ) → seen s2 k ≡ seen s1 k
+    seen_is k = same_object s.layout s1.words s2.words k (λ below. word_is (cell_place s.layout k))
+
+    here : seen s2 m ≡ fresh
+    here = seen_is m ∙ reinited_seen
+
+    far : (k : ℕ) → k ≢ m → seen s2 k ≡ seen s k
+    far k apart = seen_is k ∙ reinited_far k apart
+
+    owned_before : (u k : ℕ) → (seen s2 k).owner ≡ Some u → (seen s k).owner ≡ Some u
+    owned_before u k = at_or_else (λ (j : ℕ). (seen s2 j).owner ≡ Some u → (seen s j).owner ≡ Some u) m k (λ own. absurd (cc (sym (ap (λ (o : Object). o.owner) here) ∙ own))) (λ apart own. sym (ap (λ (o : Object). o.owner) (far k apart)) ∙ own)
+
+    listed : Listed s t Idle → Listed s2 t Idle
+    listed (es, owned, ch) = (
+      es,
+      record {
+        entries = λ x among. let e = owned.entries x among in (e.0, e.1, e.2, ap (λ (o : Object). o.owner) (far e.0 (theirs t e.0 e.3)) ∙ e.3, e.4);
+        all = λ k below own outside. owned.all k below (owned_before t k own) outside;
+      },
+      both_same (view_of s t) (view_of s2 t) (head_in s.layout t) es
+          (λ x on. word_there (place_in s.layout t x) (mine_is_no_cell s t (place_in s.layout t x) m may.first may.last may.inside (links_mine s t x (list_links s t inv.layout may.first may.last None es x owned on)))) ch,
+    )
+
+    kept : Kept s2
+    kept =
+        kept_where s t m store resting Operation.Reinit (Some OK) inv may.first may.last may.inside far (may.unusable, unowned, here) refl
+        (λ x e takes. absurd cc)
+        (λ u first last. word_there (head_place u + 1) (head_is_no_cell s.layout u m 1 first last (omega arith)))
+        (λ u x first last apart mine. word_there x (mine_is_no_cell s u x m first last may.inside mine))
+        (λ u k first last apart below own. inl (word_there (cell_place s.layout k) (λ e. theirs u k own (omega (arith, e)))))
+        tt
+        (listed (subst (Listed s t) may.resting (inv.listed t may.first may.last)))
+        (word_there (head_place t + 2) (head_is_no_cell s.layout t m 2 may.first may.last (omega arith)) ∙ subst (PendsAs (s.words (head_place t + 2))) may.resting (inv.heads t may.first may.last).pending)
+        (subst Sound (sym here) (λ e. refl))
+
+    threads_are : s2.threads ≡ s.threads
+    threads_are = fun_ext (λ u. by_put (λ (z : Thread). z ≡ s.threads u) s.threads t resting u (λ is. as_before ∙ sym (ap s.threads is)) (λ apart. refl))
+      where
+        as_before : resting ≡ s.threads t
+        as_before = λ i. record { stage = sym may.resting i; held = (s.threads t).held }
+
+    pub reinit_kept : Kept s1
+    reinit_kept =
+        subst (λ (z : (ℕ → ℕ) × (ℕ → Thread)). Kept (record { layout = s.layout; words = z.0; queues = s.queues; threads = z.1 })) (λ i. (words_are i, threads_are i))
+        (queues_kept s2 s.queues kept)
+
+  -- ---- who sleeps
+
+  -- nobody there
+  nobody : (u : ℕ) → stands_in u (sleepers s m) ≡ true → ⊥
+  nobody u there = cc (sym (ap (stands_in u) may.unslept) ∙ there)
+
+  answers_still : (k x : ℕ) → Answering s k x → Answering s1 k x
+  answers_still k x a = record {
+    first = a.first;
+    last = a.last;
+    answers = same_answers s.layout s.words s1.words k x (s.threads x).stage (reinited_pending x a.first a.last) a.answers;
+    awake = a.awake;
+  }
+
+  bits_still : Queued s → (k u : ℕ) → k < s.layout.mutexes → stands_in u (sleepers s k) ≡ true → HasWaiters s1 k
+  bits_still queued k u below =
+      at_or_else (λ (j : ℕ). stands_in u (sleepers s j) ≡ true → HasWaiters s1 j) m k (λ there. absurd (nobody u there))
+      (λ apart there. ap (λ (w : ℕ). (fields_of w).waiters) (reinited_cell k apart) ∙ queued.bits k u below there)
+
+  answered_still : Queued s → (k u : ℕ) → k < s.layout.mutexes → (seen s1 k).owner ≡ None → stands_in u (sleepers s k) ≡ true → (x : ℕ) × Answering s1 k x
+  answered_still queued k u below =
+      at_or_else (λ (j : ℕ). (seen s1 j).owner ≡ None → stands_in u (sleepers s j) ≡ true → (x : ℕ) × Answering s1 j x) m k (λ none there. absurd (nobody u there))
+      (λ apart none there. let old = queued.answered k u below (sym (ap (λ (o : Object). o.owner) (reinited_far k apart)) ∙ none) there in (old.0, answers_still k old.0 old.1))
+
+  pub reinit_queued : Queued s → Queued s1
+  reinit_queued queued = record {
+    sleeps = queued.sleeps;
+    one = queued.one;
+    once = queued.once;
+    bits = bits_still queued;
+    answered = answered_still queued;
+  }

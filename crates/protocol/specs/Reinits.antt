@@ -1,0 +1,73 @@
+-- Unusable mutexes that are made anew (pthread_mutex_destroy(3p), pthread_mutex_init(3p)).
+use Rattle.std.specs.Prelude.{ℕ, ◌≡◌, ◌≢◌, ◌<◌, ◌≤◌, true, None, List, [], ◌∷◌}
+use Rattle.lockword.specs.declared.reply.Reply.TheVariants.{OK}
+use Rattle.keys.specs.declared.point.Operation.TheVariants as operation
+use Rattle.keys.specs.Layouts.{Layout', IsLayout, cell_place}
+use Rattle.keys.specs.Objects.{fresh}
+use Rattle.facts.specs.declared.fact.Fact.{Fact}
+use Rattle.facts.specs.declared.fact.Fact.TheVariants.{Begin, Point, Return}
+use Rattle.protocol.specs.declared.event.Event.{Event}
+use Rattle.protocol.specs.declared.event.Event.TheVariants.{Reinit}
+use Rattle.protocol.specs.declared.thread.Stage.TheVariants.{Idle}
+use Rattle.protocol.specs.Notes.{facts_of}
+use Rattle.protocol.specs.Machine.{State, nothing, start, happens, run, sleepers}
+use Rattle.protocol.specs.Headline.{seen}
+use Rattle.protocol.specs.Sleepers.{Sleeps}
+
+-- ---- a reinit
+
+-- thread t, one of the layout, lives and is in no call, and mutex m is unusable and nobody sleeps on it
+pub record MayReinit (s : State) (t m : ℕ) : Type 0 where
+  pub first : 1 ≤ t
+  pub last : t ≤ s.layout.threads
+  pub resting : (s.threads t).stage ≡ Idle
+  pub inside : m < s.layout.mutexes
+  pub unusable : (seen s m).unusable ≡ true
+  pub unslept : sleepers s m ≡ []
+
+-- mutex m is made anew, from state s to s': its word is 0, and it is free, as nobody had locked it yet; every other word and mutex is as it was, and every queue and thread
+pub record OnlyReinits (s s' : State) (m : ℕ) : Type 0 where
+  pub layout : s'.layout ≡ s.layout
+  pub word : s'.words (cell_place s.layout m) ≡ 0
+  pub free : seen s' m ≡ fresh
+  pub words : (p : ℕ) → p ≢ cell_place s.layout m → s'.words p ≡ s.words p
+  pub mutexes : (k : ℕ) → k ≢ m → seen s' k ≡ seen s k
+  pub queues : (key : ℕ) → s'.queues key ≡ s.queues key
+  pub threads : (u : ℕ) → s'.threads u ≡ s.threads u
+
+-- it is told as a call of one event: its begin, its point and its return with OK
+abbrev pub reinit_told : ℕ → ℕ → List Fact
+reinit_told t m = Begin t (record { operation = operation.Reinit; mutex = m; condition = None }) ∷ (Point (record { thread = t; mutex = m; operation = operation.Reinit; reply = OK }) ∷ (Return t OK ∷ []))
+
+-- thread t makes mutex m anew where it may, and that is told; else nothing happens
+pub record ReinitsSo (s : State) (t m : ℕ) : Type 0 where
+  pub anew : MayReinit s t m → OnlyReinits s (happens s (Reinit t m)).state m × (facts_of (happens s (Reinit t m)).note ≡ reinit_told t m)
+  pub else_nothing : ¬ MayReinit s t m → happens s (Reinit t m) ≡ nothing s
+
+-- whatever happened, with any values of the counters at the beginning
+abbrev pub ReinitsFreeTheMutex : Type 0
+ReinitsFreeTheMutex = (l : Layout') (counters : ℕ → ℕ) (events : List Event) → IsLayout l → (t m : ℕ) → ReinitsSo (run (start l counters) events) t m
+
+-- ---- runs without reinits
+
+-- nobody makes mutex m anew
+abbrev pub NobodyReinits : ℕ → List Event → Type 0
+NobodyReinits m [] = Unit {0}
+NobodyReinits m (Reinit t k ∷ es) = (k ≢ m) × NobodyReinits m es
+NobodyReinits m (e ∷ es) = NobodyReinits m es
+
+-- whatever happened, with any values of the counters at the beginning: where mutex m is unusable then, it stays so, whatever else happens behind that
+abbrev pub UnusableStays : Type 0
+UnusableStays = (l : Layout') (counters : ℕ → ℕ) (before after : List Event) (m : ℕ) → IsLayout l
+    → (seen (run (start l counters) before) m).unusable ≡ true → NobodyReinits m after → (seen (run (run (start l counters) before) after) m).unusable ≡ true
+
+-- ---- who comes to sleep on an unusable mutex
+
+-- from state s on: whoever sleeps on mutex m behind the next event slept there before it; so behind any events in which nobody makes it anew
+pub record NobodyJoins (s : State) (m : ℕ) : Type 0 where
+  pub next : (e : Event) (u : ℕ) → Sleeps (happens s e).state u m → Sleeps s u m
+  pub later : (after : List Event) (u : ℕ) → NobodyReinits m after → Sleeps (run s after) u m → Sleeps s u m
+
+-- whatever happened, with any values of the counters at the beginning: so it is of a mutex that is unusable then. Whoever sees nobody sleep there finds nobody there later, as long as the mutex isn't made anew
+abbrev pub NobodyJoinsAnUnusableMutex : Type 0
+NobodyJoinsAnUnusableMutex = (l : Layout') (counters : ℕ → ℕ) (events : List Event) (m : ℕ) → IsLayout l → m < l.mutexes → (seen (run (start l counters) events) m).unusable ≡ true → NobodyJoins (run (start l counters) events) m
