@@ -1,10 +1,11 @@
 //! The places of a small layout, the first fault of one that can't be, and each printed text of that; keys and buckets.
 
 use crate::cases::all_hold;
-use keys::{Key, Layout, LayoutFault, NoMem, bucket_of, key_of, places_differ, trims_are_right};
 use lockword::Tid;
+use memorymap::{Key, Layout, LayoutFault, NoMem, bucket_of, key_of, places_differ};
 use std::alloc::Global;
 use std::test::Fail;
+use stepprograms::trims_are_right;
 
 /// What has a place.
 #[derive(Clone, Copy)]

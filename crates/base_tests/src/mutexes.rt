@@ -1,8 +1,8 @@
 //! The table of the object, and the words of its operations.
 
 use crate::cases::all_hold;
-use keys::{HELD_LIMIT, Object, Operation, ParseOperationError, operations_are_read_back};
 use lockword::{Reply, Tid};
+use posixmutex::{HELD_LIMIT, Object, Operation, ParseOperationError, operations_are_read_back};
 use std::test::Fail;
 
 /// Every operation, and its word.

@@ -1,11 +1,11 @@
 //! Layouts of processes: addresses and places worked out by hand, each fault, and which of two faults is told.
 
 use crate::cases::all_hold;
-use keys::{
+use lockword::Tid;
+use memorymap::{
     BASE_LIMIT, Layout, LayoutFault, PROCESS_LIMIT, address_from, addresses_are_seen, seen_at,
     writes_are_seen,
 };
-use lockword::Tid;
 use std::test::Fail;
 
 /// Whether the thread is of this process, which has this base.

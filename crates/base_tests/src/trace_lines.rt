@@ -1,8 +1,8 @@
 //! Each kind of line of a trace, once.
 
 use facts::{Begun, Fact, Queue};
-use keys::{Decision, Operation};
 use lockword::{Reply, Tid};
+use posixmutex::{Decision, Operation};
 use std::test::Fail;
 
 /// The step of a mutex's object that was answered `OK`.

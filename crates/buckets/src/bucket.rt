@@ -8,8 +8,8 @@ use crate::batch::Batch;
 use crate::ring::{Ring, leave, ring_on};
 use crate::row::{Row, Rows, all, append, batch_from, copy, join, no_rows, read, write};
 use crate::sleeper::Sleeper;
-use keys::{Key, NoMem};
 use lockword::Tid;
+use memorymap::{Key, NoMem};
 use std::alloc::{AllocError, Global};
 use std::marker::Model;
 

@@ -8,7 +8,7 @@
 //! A [`Batch`] is threads in order, as one wake or one requeue takes them. All the room is made by `Bucket::new` and by a
 //! clone; no other call takes memory.
 //!
-//! Stands on `keys`, for a word's key and want of memory, and on `lockword`, for thread ids.
+//! Stands on `memorymap`, for a word's key and want of memory, and on `lockword`, for thread ids.
 //!
 //! ```text
 //! let mut bucket = Bucket::new(rt.alloc(), 64)?;

@@ -5,8 +5,8 @@ ghost use Rattle.buckets.specs.declared.ring.Ring.{Ring};
 ghost use Rattle.buckets.specs.Rings.{left_of};
 
 use crate::sleeper::Sleeper;
-use keys::Key;
 use lockword::Tid;
+use memorymap::Key;
 
 /// Where the queue of a key begins: its first sleeper, and how many there are, 1 to 64.
 #[derive(Clone, Copy, Debug, PartialEq, Eq)]

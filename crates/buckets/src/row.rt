@@ -3,8 +3,8 @@ ghost use Rattle.std.specs.Prelude.{ℕ, ◌≡◌, ◌<◌, ◌≤◌, ◌+◌,
 ghost use Rattle.buckets.specs.Rings.{row_of, put, joined, behind, follow};
 
 use crate::batch::Batch;
-use keys::Key;
 use lockword::Tid;
+use memorymap::Key;
 
 /// A thread that sleeps on a key, and the threads before and after it in the key's queue. The queue is a ring: the last thread is before the
 /// first, and one that is alone is before and after itself.

@@ -1,7 +1,7 @@
 //! Who sleeps, and for what.
 
-use keys::Key;
 use lockword::Tid;
+use memorymap::Key;
 
 /// A thread that sleeps on a key.
 #[derive(Clone, Copy, Debug, PartialEq, Eq)]

@@ -5,16 +5,18 @@ ghost use Rattle.mutex.specs.Calls.{mutex_of};
 use crate::steps::Made::{Exchanges, Finds, Flips, Is, Loads, Sleeps, Wakes};
 use crate::steps::Then::{Decides, Ends, Goes, Returns};
 use crate::steps::{AtCell, Step, Then, makes, past_the_list};
-use keys::Operation::{Consistent, Lock, TryLock, Unlock};
-use keys::{Access, Answer, Layout, Operation, Progress};
 use lockword::Reply::{
     self, EBUSY, EDEADLK, EINVAL, ENOTRECOVERABLE, EOWNERDEAD, EPERM, OK, XHELD, XRACED,
 };
 use lockword::Tid;
+use memorymap::Layout;
 use mutex::{
     Call, Program, points_are_permitted, programs_are_right, raced_after_four, wakes_are_right,
     whole_calls_are_decided, whole_calls_are_right,
 };
+use posixmutex::Operation;
+use posixmutex::Operation::{Consistent, Lock, TryLock, Unlock};
+use stepprograms::{Access, Answer, Progress};
 
 /// It clears bit 30 alone.
 pub(crate) const DECLARATION: Access = Access::FetchAnd {

@@ -4,9 +4,10 @@ use crate::cell_calls::{DECLARATION, NOBODY_WOKEN, RELEASED, TRIM, takes};
 use crate::steps::Made::{Is, Loads};
 use crate::steps::Then::{Decides, Goes, Returns};
 use crate::steps::{ANSWERS, Step};
-use keys::Operation::{Consistent, Lock, TryLock, Unlock};
-use keys::{Access, Answer, Operation};
 use lockword::Reply::{EFAULT, ENOTRECOVERABLE};
+use posixmutex::Operation;
+use posixmutex::Operation::{Consistent, Lock, TryLock, Unlock};
+use stepprograms::{Access, Answer};
 
 /// Such an access may be answered so. Any may be answered `Fault` too.
 fn is_answer(access: Access, answer: Answer) -> bool {

@@ -9,10 +9,12 @@ use condvar::{
     CondCall, CondProgram, accesses_are_there, calls_are_right, faults_are_told, moves_are_right,
     needs_are_owned, points_are_permitted, wakes_are_right, whole_calls_are_right,
 };
-use keys::Operation::{Broadcast, Lock, Signal, Unlock, Wait};
-use keys::{Access, Answer, Layout, Operation};
 use lockword::Reply::{EFAULT, ENOTRECOVERABLE, EOWNERDEAD, EPERM, OK, XFULL, XSTATE};
 use lockword::Tid;
+use memorymap::Layout;
+use posixmutex::Operation;
+use posixmutex::Operation::{Broadcast, Lock, Signal, Unlock, Wait};
+use stepprograms::{Access, Answer};
 
 /// It counts a wake.
 const COUNT: Access = Access::FetchAdd { at: 14, operand: 1 };

@@ -2,10 +2,12 @@
 
 use crate::condition_calls::call;
 use condvar::CondProgram;
-use keys::Operation::{Broadcast, Signal, Wait};
-use keys::{Access, Answer, Layout, Operation, Progress, StepProgram};
 use lockword::Reply::{self, EPERM, OK, XFULL, XSTATE};
 use lockword::Tid;
+use memorymap::Layout;
+use posixmutex::Operation;
+use posixmutex::Operation::{Broadcast, Signal, Wait};
+use stepprograms::{Access, Answer, Progress, StepProgram};
 
 /// The words where the mutex's cell and the counter are so: each head leads to itself, but thread 2's to its mutex's entry.
 fn held(cell: u64, counter: u64) -> [u64; 15] {

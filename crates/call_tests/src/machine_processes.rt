@@ -5,7 +5,7 @@ use crate::machine_rows::{LOCK, UNLOCK, has_words, play, standing_of, thread};
 use buckets::Batch;
 use condvar::Op;
 use interleave::Machine;
-use keys::Layout;
+use memorymap::Layout;
 use protocol::{Event, Note};
 use std::alloc::Global;
 use std::test::Fail;

@@ -9,10 +9,10 @@ use crate::machine_rows::{
 };
 use condvar::Op;
 use interleave::{Machine, Trace};
-use keys::Operation::{TryLock, Unlock};
 use lockword::Reply::{EBUSY, EPERM, OK, XRACED};
 use lockword::Tid;
 use mutex::Call;
+use posixmutex::Operation::{TryLock, Unlock};
 use protocol::Event;
 use std::test::Fail;
 

@@ -1,11 +1,12 @@
 //! Calls of thread 2 on mutex 1 of a small layout, and on condition variable 1, which keeps that mutex: what each access is answered, and where that leads. The mutex's cell is at 10,
 //! its entry at 11 and 12, the counter at 14, the thread's head at 4, its pending entry at 6.
-ghost use Rattle.keys.specs.Programs.{UnlessReturned};
+ghost use Rattle.stepprograms.specs.Programs.{UnlessReturned};
 ghost use Rattle.mutex.specs.Whole as mutex;
 
-use keys::{Access, Answer, Operation, Point, Progress, StepProgram};
 use lockword::{Reply, Tid};
 use mutex::Program;
+use posixmutex::{Operation, Point};
+use stepprograms::{Access, Answer, Progress, StepProgram};
 
 /// An access and its answer.
 #[derive(Clone, Copy)]

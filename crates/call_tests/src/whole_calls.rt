@@ -4,11 +4,13 @@ use crate::cell_calls::call;
 use crate::steps::Made::{Exchanges, Flips, Is, Loads, Stores, Wakes};
 use crate::steps::Then::{Decides, Ends, Goes, Returns};
 use crate::steps::{Step, Whole, makes};
-use keys::Operation::{Consistent, Lock, TryLock, Unlock};
-use keys::{Access, Answer, Layout, Operation};
 use lockword::Reply::{EBUSY, EDEADLK, EFAULT, EINVAL, ENOTRECOVERABLE, EOWNERDEAD, EPERM, OK};
 use lockword::Tid;
+use memorymap::Layout;
 use mutex::Program;
+use posixmutex::Operation;
+use posixmutex::Operation::{Consistent, Lock, TryLock, Unlock};
+use stepprograms::{Access, Answer};
 
 /// Its entry is made the pending one.
 const ANNOUNCED: Step = Step(Stores(6, 11), Goes);

@@ -8,7 +8,7 @@ ghost use Rattle.cmdline.specs.Said.{Said, IsSaid, seen, asked_for, in_order};
 
 use clap::error::ErrorKind;
 use clap::{Arg, ArgAction, ArgMatches, Command};
-use keys::NoMem;
+use memorymap::NoMem;
 use std::alloc::{AllocError, Global};
 
 /// What a command line asks for.

@@ -1,8 +1,8 @@
 //! Threads that die right before an access of a call on a condition variable.
 use condvar::CondCall;
 use condvar::Op::{OnCondition, OnMutex};
-use keys::Layout;
 use lockword::Reply;
+use memorymap::Layout;
 use mutex::Call::Lock;
 use ruledwords::Never;
 use std::alloc::Global;

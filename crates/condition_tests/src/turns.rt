@@ -1,8 +1,8 @@
 //! Calls on condition variables that threads make by turns.
 use condvar::CondCall::{Broadcast, Signal, Wait};
 use condvar::Op::{OnCondition, OnMutex};
-use keys::Layout;
 use lockword::Reply::{EOWNERDEAD, EPERM, OK, XFULL, XSTATE};
+use memorymap::Layout;
 use mutex::Call::{Consistent, Lock, TryLock, Unlock};
 use std::test::Fail;
 use thread_fixtures::Step::{Calls, Kills};

@@ -8,8 +8,8 @@ use crate::roles::Role::{
 };
 use crate::roles::{Board, two_act};
 use condvar::Op::OnMutex;
-use keys::{Layout, bucket_of, key_of};
 use lockword::Reply;
+use memorymap::{Layout, bucket_of, key_of};
 use mutex::Call::TryLock;
 use ruledwords::Never;
 use std::alloc::Global;

@@ -4,11 +4,11 @@ use Rattle.std.specs.Prelude.{if◌then◌else◌}
 use Rattle.lockword.specs.Cells.{Fields, fields_of}
 use Rattle.lockword.specs.declared.reply.Reply.{Reply}
 use Rattle.lockword.specs.declared.reply.Reply.TheVariants.{OK, EPERM, EFAULT, XFULL, XSTATE}
-use Rattle.keys.specs.declared.access.Answer.{Answer}
-use Rattle.keys.specs.declared.access.Answer.TheVariants.{Value, Stored, Again, Woken, Count, Counts}
-use Rattle.keys.specs.declared.point.Operation.TheVariants as operation
-use Rattle.keys.specs.declared.point.Point.{Point}
-use Rattle.keys.specs.Layouts.{Layout'}
+use Rattle.stepprograms.specs.declared.access.Answer.{Answer}
+use Rattle.stepprograms.specs.declared.access.Answer.TheVariants.{Value, Stored, Again, Woken, Count, Counts}
+use Rattle.posixmutex.specs.declared.point.Operation.TheVariants as operation
+use Rattle.posixmutex.specs.declared.point.Point.{Point}
+use Rattle.memorymap.specs.Layouts.{Layout'}
 use Rattle.robustlist.specs.declared.unlink.UnlinkRow.{UnlinkRow}
 use Rattle.robustlist.specs.declared.unlink.UnlinkRow.TheVariants as unlink
 use Rattle.robustlist.specs.Standings.{UnlinkStanding}
@@ -17,7 +17,7 @@ use Rattle.mutex.specs.declared.phase.Phase.{Phase}
 use Rattle.mutex.specs.declared.phase.Phase.TheVariants as phase
 use Rattle.mutex.specs.Standings.{Whole}
 use Rattle.mutex.specs.Whole as mutex
-use Rattle.keys.specs.Accesses.{IsAnswerOf}
+use Rattle.stepprograms.specs.Accesses.{IsAnswerOf}
 use Rattle.mutex.specs.Decisions.{replies}
 use Rattle.mutex.proofs.Once.{DecidedSo, phase_so, phase_faults, phase_fine, NoFault, unlink_faults, UnlinkFine, unlink_fine}
 use Rattle.condvar.specs.declared.call.CondCall.{CondCall}

@@ -5,10 +5,10 @@ use Rattle.std.proofs.lemmas.Bool.{eqb-false}
 use Rattle.lockword.specs.Cells.{Fields, fields_of}
 use Rattle.lockword.proofs.Bits.{xor_released, or_waiting}
 use Rattle.lockword.specs.declared.reply.Reply.TheVariants.{EPERM, XFULL, XSTATE}
-use Rattle.keys.specs.declared.access.Access.TheVariants as access
-use Rattle.keys.specs.declared.point.Operation.TheVariants as operation
-use Rattle.keys.specs.Objects.{object_of, owner_of}
-use Rattle.keys.proofs.Owners.{owner_of-some, owner_of-is}
+use Rattle.stepprograms.specs.declared.access.Access.TheVariants as access
+use Rattle.posixmutex.specs.declared.point.Operation.TheVariants as operation
+use Rattle.posixmutex.specs.Objects.{object_of, owner_of}
+use Rattle.posixmutex.proofs.Owners.{owner_of-some, owner_of-is}
 use Rattle.mutex.specs.declared.unlock.UnlockRow.TheVariants as unlock
 use Rattle.mutex.specs.declared.row.Row.TheVariants as row
 use Rattle.mutex.specs.Laws.{Sound}

@@ -3,10 +3,10 @@ use Rattle.std.proofs.Common.{◌≡◌, ℕ, ◌==◌, Bool, true, false, not}
 use Rattle.std.specs.Prelude.{◌↔◌, if◌then◌else◌}
 use Rattle.lockword.specs.Cells.{Fields, fields_of}
 use Rattle.lockword.specs.declared.reply.Reply.TheVariants.{OK, EPERM, XFULL, XSTATE}
-use Rattle.keys.specs.declared.access.Access.TheVariants as access
-use Rattle.keys.specs.declared.access.Answer.{Answer}
-use Rattle.keys.specs.declared.access.Answer.TheVariants.{Value, Again, Woken, Count, Counts}
-use Rattle.keys.specs.declared.point.Operation.TheVariants as operation
+use Rattle.stepprograms.specs.declared.access.Access.TheVariants as access
+use Rattle.stepprograms.specs.declared.access.Answer.{Answer}
+use Rattle.stepprograms.specs.declared.access.Answer.TheVariants.{Value, Again, Woken, Count, Counts}
+use Rattle.posixmutex.specs.declared.point.Operation.TheVariants as operation
 use Rattle.condvar.specs.declared.wait.WaitRow.TheVariants as wait
 use Rattle.condvar.specs.declared.signal.SignalRow.TheVariants as signal
 use Rattle.condvar.specs.declared.broadcast.BroadcastRow.TheVariants as broadcast

@@ -4,12 +4,12 @@ use Rattle.std.specs.Prelude.{◌++◌, if◌then◌else◌}
 use Rattle.lockword.specs.Cells.{fields_of}
 use Rattle.lockword.specs.declared.reply.Reply.{Reply}
 use Rattle.lockword.specs.declared.reply.Reply.TheVariants.{OK, EPERM, EFAULT, EOWNERDEAD, XFULL, XSTATE}
-use Rattle.keys.specs.declared.access.Answer.{Answer}
-use Rattle.keys.specs.declared.access.Answer.TheVariants.{Value, Stored, Exchanged, Changed, Again, Woken, Count, Counts}
-use Rattle.keys.specs.declared.point.Operation.{Operation}
-use Rattle.keys.specs.declared.point.Operation.TheVariants as operation
-use Rattle.keys.specs.declared.point.Point.{Point}
-use Rattle.keys.specs.Layouts.{Layout', cell_place, address_in}
+use Rattle.stepprograms.specs.declared.access.Answer.{Answer}
+use Rattle.stepprograms.specs.declared.access.Answer.TheVariants.{Value, Stored, Exchanged, Changed, Again, Woken, Count, Counts}
+use Rattle.posixmutex.specs.declared.point.Operation.{Operation}
+use Rattle.posixmutex.specs.declared.point.Operation.TheVariants as operation
+use Rattle.posixmutex.specs.declared.point.Point.{Point}
+use Rattle.memorymap.specs.Layouts.{Layout', cell_place, address_in}
 use Rattle.robustlist.specs.declared.link.LinkRow.{LinkRow}
 use Rattle.robustlist.specs.declared.link.LinkRow.TheVariants as link
 use Rattle.robustlist.specs.declared.unlink.UnlinkRow.{UnlinkRow}

@@ -1,7 +1,7 @@
 -- Calls on condition variables.
 use Rattle.std.specs.Prelude.{ℕ}
-use Rattle.keys.specs.declared.point.Operation.{Operation}
-use Rattle.keys.specs.declared.point.Operation.TheVariants as operation
+use Rattle.posixmutex.specs.declared.point.Operation.{Operation}
+use Rattle.posixmutex.specs.declared.point.Operation.TheVariants as operation
 use Rattle.condvar.specs.declared.call.CondCall.{CondCall}
 use Rattle.condvar.specs.declared.call.CondCall.TheVariants.{Wait, Signal, Broadcast}
 

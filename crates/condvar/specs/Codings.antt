@@ -13,7 +13,7 @@
 use Rattle.std.specs.Prelude.{ℕ, ◌≡◌}
 use Rattle.lockword.specs.declared.reply.Reply.{Reply}
 use Rattle.lockword.specs.declared.reply.Reply.TheVariants.{EFAULT}
-use Rattle.keys.specs.declared.point.Operation.TheVariants as operation
+use Rattle.posixmutex.specs.declared.point.Operation.TheVariants as operation
 use Rattle.robustlist.specs.declared.unlink.UnlinkRow.{UnlinkRow}
 use Rattle.robustlist.specs.declared.unlink.UnlinkRow.TheVariants as unlink
 use Rattle.mutex.specs.Standings.{Whole}

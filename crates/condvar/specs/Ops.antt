@@ -1,7 +1,7 @@
 -- Calls, on mutexes and on condition variables.
 use Rattle.std.specs.Prelude.{ℕ, Bool, Option, Some, None, nat_lt, length}
-use Rattle.keys.specs.declared.point.Operation.{Operation}
-use Rattle.keys.specs.Layouts.{Layout'}
+use Rattle.posixmutex.specs.declared.point.Operation.{Operation}
+use Rattle.memorymap.specs.Layouts.{Layout'}
 use Rattle.mutex.specs.Calls as mutex
 use Rattle.condvar.specs.Calls as condition
 use Rattle.condvar.specs.Programs as condition_programs

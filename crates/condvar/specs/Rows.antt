@@ -2,7 +2,7 @@
 use Rattle.std.specs.Prelude.{ℕ, Some, None}
 use Rattle.lockword.specs.declared.reply.Reply.{Reply}
 use Rattle.lockword.specs.declared.reply.Reply.TheVariants.{EFAULT}
-use Rattle.keys.specs.declared.point.Operation.{Operation}
+use Rattle.posixmutex.specs.declared.point.Operation.{Operation}
 use Rattle.condvar.specs.declared.row.CondRow.{CondRow}
 use Rattle.condvar.specs.declared.row.CondRow.TheVariants.{Awake, Ended}
 use Rattle.condvar.specs.declared.row.CondLed.{CondLed}

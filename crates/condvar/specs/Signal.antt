@@ -8,11 +8,11 @@
 use Rattle.std.specs.Prelude.{ℕ, ◌==◌, not, if◌then◌else◌}
 use Rattle.lockword.specs.Cells.{Fields, fields_of}
 use Rattle.lockword.specs.declared.reply.Reply.TheVariants.{OK, EPERM, XFULL}
-use Rattle.keys.specs.declared.access.Access.{Access}
-use Rattle.keys.specs.declared.access.Access.TheVariants as access
-use Rattle.keys.specs.declared.access.Answer.{Answer}
-use Rattle.keys.specs.declared.access.Answer.TheVariants as answer
-use Rattle.keys.specs.declared.point.Operation.TheVariants as operation
+use Rattle.stepprograms.specs.declared.access.Access.{Access}
+use Rattle.stepprograms.specs.declared.access.Access.TheVariants as access
+use Rattle.stepprograms.specs.declared.access.Answer.{Answer}
+use Rattle.stepprograms.specs.declared.access.Answer.TheVariants as answer
+use Rattle.posixmutex.specs.declared.point.Operation.TheVariants as operation
 use Rattle.condvar.specs.declared.signal.SignalRow.{SignalRow}
 use Rattle.condvar.specs.declared.signal.SignalRow.TheVariants.{LoadCell, LoadCounter, Count, Wake}
 use Rattle.condvar.specs.declared.row.CondRow.TheVariants.{Signal, Ended}

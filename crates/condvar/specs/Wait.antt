@@ -10,11 +10,11 @@
 use Rattle.std.specs.Prelude.{ℕ, ◌==◌, ◌%◌, ◌^◌, not, if◌then◌else◌}
 use Rattle.lockword.specs.Cells.{Fields, fields_of}
 use Rattle.lockword.specs.declared.reply.Reply.TheVariants.{OK, EPERM, XSTATE}
-use Rattle.keys.specs.declared.access.Access.{Access}
-use Rattle.keys.specs.declared.access.Access.TheVariants as access
-use Rattle.keys.specs.declared.access.Answer.{Answer}
-use Rattle.keys.specs.declared.access.Answer.TheVariants.{Value, Count, Again, Woken}
-use Rattle.keys.specs.declared.point.Operation.TheVariants as operation
+use Rattle.stepprograms.specs.declared.access.Access.{Access}
+use Rattle.stepprograms.specs.declared.access.Access.TheVariants as access
+use Rattle.stepprograms.specs.declared.access.Answer.{Answer}
+use Rattle.stepprograms.specs.declared.access.Answer.TheVariants.{Value, Count, Again, Woken}
+use Rattle.posixmutex.specs.declared.point.Operation.TheVariants as operation
 use Rattle.condvar.specs.declared.wait.WaitRow.{WaitRow}
 use Rattle.condvar.specs.declared.wait.WaitRow.TheVariants.{LoadCell, LoadCounter, Release, Wake, Sleep}
 use Rattle.condvar.specs.declared.row.CondRow.{CondRow}

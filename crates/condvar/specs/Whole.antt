@@ -9,14 +9,14 @@
 -- A wait's entry is pending from before its release until the lock that ends it has put it on the list, or has failed: so also while it sleeps. A signal and a broadcast leave the list alone.
 use Rattle.std.specs.Prelude.{ℕ, Option, Some, None}
 use Rattle.lockword.specs.declared.reply.Reply.TheVariants.{OK, EFAULT}
-use Rattle.keys.specs.declared.access.Access.{Access}
-use Rattle.keys.specs.declared.access.Access.TheVariants as access
-use Rattle.keys.specs.declared.access.Answer.{Answer}
-use Rattle.keys.specs.declared.access.Answer.TheVariants.{Stored}
-use Rattle.keys.specs.declared.point.Point.{Point}
-use Rattle.keys.specs.declared.point.Progress.{Progress}
-use Rattle.keys.specs.declared.point.Progress.TheVariants.{Goes, Returns}
-use Rattle.keys.specs.Layouts.{Layout', head_place, entry_place, cell_place, counter_place, address_in}
+use Rattle.stepprograms.specs.declared.access.Access.{Access}
+use Rattle.stepprograms.specs.declared.access.Access.TheVariants as access
+use Rattle.stepprograms.specs.declared.access.Answer.{Answer}
+use Rattle.stepprograms.specs.declared.access.Answer.TheVariants.{Stored}
+use Rattle.posixmutex.specs.declared.point.Point.{Point}
+use Rattle.stepprograms.specs.declared.program.Progress.{Progress}
+use Rattle.stepprograms.specs.declared.program.Progress.TheVariants.{Goes, Returns}
+use Rattle.memorymap.specs.Layouts.{Layout', head_place, entry_place, cell_place, counter_place, address_in}
 use Rattle.robustlist.specs.declared.unlink.UnlinkRow.{UnlinkRow}
 use Rattle.robustlist.specs.declared.unlink.UnlinkRow.TheVariants as unlink
 use Rattle.robustlist.specs.Standings.{UnlinkStanding}

@@ -3,8 +3,9 @@ ghost use Rattle.std.specs.Prelude.{◌≡◌};
 ghost use Rattle.condvar.specs.Broadcast.{broadcast_access, broadcast_resume, broadcast_sees, broadcast_counts};
 
 use crate::row::{CondLed, CondRow, FULL, low_half};
-use keys::{ALL, Access, Answer, Operation};
 use lockword::{Cell, Reply, Tid, WAITERS};
+use posixmutex::Operation;
+use stepprograms::{ALL, Access, Answer};
 
 /// Where a broadcast stands.
 #[derive(Clone, Copy, Debug, PartialEq, Eq)]

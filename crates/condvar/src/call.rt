@@ -2,7 +2,7 @@
 ghost use Rattle.std.specs.Prelude.{◌≡◌};
 ghost use Rattle.condvar.specs.Calls.{condition_of, operation_of};
 
-use keys::Operation;
+use posixmutex::Operation;
 
 /// A call on a condition variable, which its number names. Its mutex is the layout's (`Layout::mutex_of_condition`).
 #[derive(Clone, Copy, Debug, PartialEq, Eq)]

@@ -11,9 +11,9 @@ use crate::phase::CondPhase;
 use crate::row::CondRow;
 use crate::signal::SignalRow;
 use crate::wait::WaitRow;
-use keys::Operation;
 use lockword::{Reply, Tid};
 use mutex::{CodedPhase, Program};
+use posixmutex::Operation;
 use robustlist::{Unlink, UnlinkRow};
 
 /// Where a call on a condition variable stands, as plain numbers, for whoever keeps it outside Rattle.

@@ -12,8 +12,8 @@
 //! `faults_are_told`).
 //! An [`Op`] is what a thread may call, on a mutex or on a condition variable.
 //!
-//! Stands on `mutex`, for the lock that a wait ends with, on `robustlist`, for the entry's way out of the list, on `keys`, for
-//! layouts, accesses and points, and on `lockword`, for cells and replies.
+//! Stands on `mutex`, for the lock that a wait ends with, on `robustlist`, for the entry's way out of the list, on `memorymap`,
+//! for layouts, on `stepprograms` and `posixmutex`, for accesses and points, and on `lockword`, for cells and replies.
 //!
 //! ```text
 //! // Thread 1 of two owns the only mutex and signals its condition variable: cell at 7, counter at 10.

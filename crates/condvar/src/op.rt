@@ -3,8 +3,9 @@ ghost use Rattle.std.specs.Prelude.{◌≡◌, true};
 ghost use Rattle.condvar.specs.Ops.{condition_of, is_in, mutex_of, operation_of};
 
 use crate::call::CondCall;
-use keys::{Layout, Operation};
+use memorymap::Layout;
 use mutex::Call;
+use posixmutex::Operation;
 
 /// What a thread may call.
 #[derive(Clone, Copy, Debug, PartialEq, Eq)]

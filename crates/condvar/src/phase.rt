@@ -3,9 +3,9 @@ ghost use Rattle.std.specs.Prelude.{◌≡◌};
 ghost use Rattle.condvar.specs.Whole.{onward, faulted};
 
 use crate::row::CondRow;
-use keys::Point;
 use lockword::Reply;
 use mutex::Program;
+use posixmutex::Point;
 use robustlist::Unlink;
 
 /// Where a call stands: at its mutex's cell or its counter, at its thread's robust list, or in the lock that ends a wait.

@@ -10,11 +10,13 @@ use crate::call::CondCall;
 use crate::phase::{CondOnward, CondPhase};
 use crate::row::{CondLed, CondRow, Decided};
 use crate::wait::WaitRow;
-use keys::{Access, Answer, Layout, Point, Progress, StepProgram};
 use lockword::{Reply, Tid};
+use memorymap::Layout;
 use mutex::Program;
+use posixmutex::Point;
 use robustlist::Unlink;
 use std::marker::Model;
+use stepprograms::{Access, Answer, Progress, StepProgram};
 
 /// A call of a thread on a condition variable.
 #[derive(Clone, Copy, Debug, PartialEq, Eq)]

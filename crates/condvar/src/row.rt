@@ -6,8 +6,9 @@ use crate::broadcast::{self, BroadcastRow};
 use crate::call::CondCall;
 use crate::signal::{self, SignalRow};
 use crate::wait::{self, WaitRow};
-use keys::{Access, Answer, Operation};
 use lockword::{Reply, Tid};
+use posixmutex::Operation;
+use stepprograms::{Access, Answer};
 
 /// The largest value of a counter: a signal or broadcast of it is refused with `XFULL`.
 pub(crate) const FULL: u64 = 0xffff_ffff;

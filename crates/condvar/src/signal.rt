@@ -3,8 +3,9 @@ ghost use Rattle.std.specs.Prelude.{◌≡◌};
 ghost use Rattle.condvar.specs.Signal.{signal_access, signal_resume, signal_sees, signal_counts};
 
 use crate::row::{CondLed, CondRow, FULL};
-use keys::{Access, Answer, Operation};
 use lockword::{Cell, Reply, Tid};
+use posixmutex::Operation;
+use stepprograms::{Access, Answer};
 
 /// Where a signal stands.
 #[derive(Clone, Copy, Debug, PartialEq, Eq)]

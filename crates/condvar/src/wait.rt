@@ -3,8 +3,9 @@ ghost use Rattle.std.specs.Prelude.{◌≡◌};
 ghost use Rattle.condvar.specs.Wait.{wait_access, wait_resume, wait_sees, after_release};
 
 use crate::row::{CondLed, CondRow, low_half};
-use keys::{Access, Answer, Operation};
 use lockword::{Cell, Reply, Tid};
+use posixmutex::Operation;
+use stepprograms::{Access, Answer};
 
 /// Where a wait stands, until it is awake again.
 #[derive(Clone, Copy, Debug, PartialEq, Eq)]

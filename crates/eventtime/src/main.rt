@@ -6,8 +6,8 @@
 
 use condvar::{CondCall, Op};
 use interleave::Machine;
-use keys::{CONDITION_LIMIT, Layout};
 use lockword::Tid;
+use memorymap::{CONDITION_LIMIT, Layout};
 use mutex::Call;
 use protocol::{Event, Note};
 use std::alloc::{AllocError, Global};

@@ -4,11 +4,11 @@ use Rattle.std.specs.Prelude.{if◌then◌else◌, ◌||◌, ◌&&◌}
 use Rattle.std.proofs.lemmas.Bool.{eqb-false, ne_eqb}
 use Rattle.lockword.specs.Cells.{Fields, fields_of, word_of, marked, waiting}
 use Rattle.lockword.specs.Coding.{word_of-fields_of, fields_of-word_of}
-use Rattle.keys.specs.declared.access.Answer.{Answer}
-use Rattle.keys.specs.declared.access.Answer.TheVariants.{Value, Exchanged, Changed, Count}
-use Rattle.keys.specs.Accesses.{address_of, changed, answer_at}
-use Rattle.keys.specs.Objects.{Run, object_of, owner_of, bereaved}
-use Rattle.keys.proofs.Owners.{owner_of-some}
+use Rattle.stepprograms.specs.declared.access.Answer.{Answer}
+use Rattle.stepprograms.specs.declared.access.Answer.TheVariants.{Value, Exchanged, Changed, Count}
+use Rattle.stepprograms.specs.Accesses.{address_of, changed, answer_at}
+use Rattle.posixmutex.specs.Objects.{Run, object_of, owner_of, bereaved}
+use Rattle.posixmutex.proofs.Owners.{owner_of-some}
 use Rattle.exitwalk.specs.declared.row.Rest.{Rest}
 use Rattle.exitwalk.specs.declared.row.Part.{Part}
 use Rattle.exitwalk.specs.declared.row.Part.TheVariants as part

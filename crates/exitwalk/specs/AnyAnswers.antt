@@ -1,11 +1,11 @@
 -- What a walk does whatever it is answered.
 use Rattle.std.specs.Prelude.{ℕ, ◌≡◌, ◌+◌, ◌≤◌, true, Option, Some, None, List, [], ◌∷◌, length}
-use Rattle.keys.specs.Objects.{held_limit}
-use Rattle.keys.specs.declared.access.Access.{Access}
-use Rattle.keys.specs.declared.access.Access.TheVariants.{Load, Exchange, Wake}
-use Rattle.keys.specs.declared.access.Answer.{Answer}
-use Rattle.keys.specs.declared.access.Answer.TheVariants.{Value, Exchanged, Changed}
-use Rattle.keys.specs.Accesses.{address_of, IsAnswerOf}
+use Rattle.posixmutex.specs.Objects.{held_limit}
+use Rattle.stepprograms.specs.declared.access.Access.{Access}
+use Rattle.stepprograms.specs.declared.access.Access.TheVariants.{Load, Exchange, Wake}
+use Rattle.stepprograms.specs.declared.access.Answer.{Answer}
+use Rattle.stepprograms.specs.declared.access.Answer.TheVariants.{Value, Exchanged, Changed}
+use Rattle.stepprograms.specs.Accesses.{address_of, IsAnswerOf}
 use Rattle.exitwalk.specs.declared.row.Row.{Row}
 use Rattle.exitwalk.specs.declared.row.Row.TheVariants.{LoadFirst, LoadNext, Ended}
 use Rattle.exitwalk.specs.Words.{owner_in, has_waiters, died_word}

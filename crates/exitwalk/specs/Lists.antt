@@ -1,6 +1,6 @@
 -- What the walk leaves of a list that is whole (robust-futexes.rst, robust-futex-ABI.rst).
 use Rattle.std.specs.Prelude.{ℕ, ◌≡◌, ◌≢◌, ◌⊎◌, ◌≤◌, ◌==◌, Bool, true, false, ◌&&◌, ◌||◌, not, List, [], ◌∷◌, length, if◌then◌else◌}
-use Rattle.keys.specs.Objects.{held_limit}
+use Rattle.posixmutex.specs.Objects.{held_limit}
 use Rattle.exitwalk.specs.Words.{sum_of, owner_in, died_word}
 use Rattle.exitwalk.specs.Meanings.{Head, meaning}
 

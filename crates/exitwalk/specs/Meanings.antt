@@ -1,6 +1,6 @@
 -- What the exit walk leaves where nobody else writes (robust-futexes.rst, robust-futex-ABI.rst, get_robust_list(2)): a fold over the entries.
 use Rattle.std.specs.Prelude.{ℕ, zero, suc, ◌==◌, Bool, true, false, List, [], ◌∷◌, ◌++◌, if◌then◌else◌}
-use Rattle.keys.specs.Objects.{held_limit}
+use Rattle.posixmutex.specs.Objects.{held_limit}
 use Rattle.exitwalk.specs.Words.{sum_of, owner_in, has_waiters, died_word, put}
 
 -- the words, and the places at which one sleeper was woken, in their order

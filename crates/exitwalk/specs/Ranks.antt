@@ -1,6 +1,6 @@
 -- How many accesses a walk still makes, at most.
 use Rattle.std.specs.Prelude.{ℕ, ◌+◌, ◌-◌, ◌*◌, ◌==◌, if◌then◌else◌}
-use Rattle.keys.specs.Objects.{held_limit}
+use Rattle.posixmutex.specs.Objects.{held_limit}
 use Rattle.exitwalk.specs.declared.row.Part.{Part}
 use Rattle.exitwalk.specs.declared.row.Part.TheVariants.{List, Pending}
 use Rattle.exitwalk.specs.declared.row.Row.{Row}

@@ -2,13 +2,13 @@
 use Rattle.std.specs.Prelude.{ℕ, ◌≡◌, ◌≢◌, ◌⊎◌, ◌≤◌, ◌<◌, Bool, true, false, Option, Some, None, List, [], ◌∷◌}
 use Rattle.std.proofs.Props.{props}
 use Rattle.lockword.specs.Cells.{fields_of, word_of, marked, waiting}
-use Rattle.keys.specs.declared.access.Access.{Access}
-use Rattle.keys.specs.declared.access.Access.TheVariants.{Exchange}
-use Rattle.keys.specs.declared.access.Answer.{Answer}
-use Rattle.keys.specs.declared.access.Answer.TheVariants.{Value, Exchanged, Changed}
-use Rattle.keys.specs.declared.point.Point.{Point}
-use Rattle.keys.specs.Accesses.{address_of, changed, answer_at}
-use Rattle.keys.specs.Objects.{Run, object_of}
+use Rattle.stepprograms.specs.declared.access.Access.{Access}
+use Rattle.stepprograms.specs.declared.access.Access.TheVariants.{Exchange}
+use Rattle.stepprograms.specs.declared.access.Answer.{Answer}
+use Rattle.stepprograms.specs.declared.access.Answer.TheVariants.{Value, Exchanged, Changed}
+use Rattle.posixmutex.specs.declared.point.Point.{Point}
+use Rattle.stepprograms.specs.Accesses.{address_of, changed, answer_at}
+use Rattle.posixmutex.specs.Objects.{Run, object_of}
 use Rattle.exitwalk.specs.declared.row.Part.{Part}
 use Rattle.exitwalk.specs.declared.row.Row.{Row}
 use Rattle.exitwalk.specs.declared.row.Part.TheVariants as part

@@ -17,17 +17,17 @@
 -- This project's own, of which nothing is claimed of a kernel: the end at a fault, the pending entry included; the word left alone after a second exchange; the wake for an unowned pending word;
 -- and that the bits above the low half stay.
 use Rattle.std.specs.Prelude.{ℕ, ◌≡◌, ◌+◌, ◌==◌, ◌≤◌, ◌<◌, ◌&&◌, ◌||◌, Bool, true, false, Option, Some, None, if◌then◌else◌}
-use Rattle.keys.specs.Objects.{held_limit}
+use Rattle.posixmutex.specs.Objects.{held_limit}
 use Rattle.lockword.specs.Cells.{fields_of, word_of, marked}
 use Rattle.lockword.specs.declared.reply.Reply.TheVariants.{OK}
-use Rattle.keys.specs.declared.access.Access.{Access}
-use Rattle.keys.specs.declared.access.Access.TheVariants.{Load, Exchange, Wake}
-use Rattle.keys.specs.declared.access.Answer.{Answer}
-use Rattle.keys.specs.declared.access.Answer.TheVariants.{Value, Exchanged, Changed, Count}
-use Rattle.keys.specs.declared.point.Operation.TheVariants.{Death}
-use Rattle.keys.specs.declared.point.Point.{Point}
-use Rattle.keys.specs.declared.point.Progress.{Progress}
-use Rattle.keys.specs.declared.point.Progress.TheVariants.{Goes, Returns}
+use Rattle.stepprograms.specs.declared.access.Access.{Access}
+use Rattle.stepprograms.specs.declared.access.Access.TheVariants.{Load, Exchange, Wake}
+use Rattle.stepprograms.specs.declared.access.Answer.{Answer}
+use Rattle.stepprograms.specs.declared.access.Answer.TheVariants.{Value, Exchanged, Changed, Count}
+use Rattle.posixmutex.specs.declared.point.Operation.TheVariants.{Death}
+use Rattle.posixmutex.specs.declared.point.Point.{Point}
+use Rattle.stepprograms.specs.declared.program.Progress.{Progress}
+use Rattle.stepprograms.specs.declared.program.Progress.TheVariants.{Goes, Returns}
 use Rattle.exitwalk.specs.declared.row.Rest.{Rest}
 use Rattle.exitwalk.specs.declared.row.Part.{Part}
 use Rattle.exitwalk.specs.declared.row.Part.TheVariants.{List, Pending}

@@ -4,8 +4,8 @@ ghost use Rattle.exitwalk.specs.Codings.{rest_code, first_code, part_code};
 ghost use Rattle.exitwalk.specs.Walks.{IsCounted};
 
 use crate::row::{Part, Rest, Row};
-use keys::HELD_LIMIT;
 use lockword::{Cell, Tid};
+use posixmutex::HELD_LIMIT;
 
 /// Where a walk stands, as plain numbers, for whoever keeps it where the walker's own death can't reach: in a file that processes share.
 ///

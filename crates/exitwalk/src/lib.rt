@@ -9,7 +9,8 @@
 //! leave room (`walks_are_right`); so no mutex of a whole list keeps its owner (`whole_lists_are_treated`). Where others write,
 //! each of its accesses is the death of an owner or changes nothing (`steps_are_right`).
 //!
-//! Stands on `keys`, for accesses, answers, points and how many entries are walked at most, and on `lockword`, for cells.
+//! Stands on `stepprograms`, for accesses and answers, on `posixmutex`, for points and how many entries are walked at most, and
+//! on `lockword`, for cells.
 //!
 //! ```text
 //! // Thread 1 died as the owner of one mutex: its head at 1 to 3, the mutex's cell at 4, its entry at 5 and 6.

@@ -1,12 +1,13 @@
 //! Walks in progress.
 ghost use Rattle.std.specs.Prelude.{ℕ, ◌≡◌, ◌≤◌, ◌<◌};
-ghost use Rattle.keys.specs.Objects.{held_limit};
+ghost use Rattle.posixmutex.specs.Objects.{held_limit};
 ghost use Rattle.exitwalk.specs.Walks.{marked_word, to_pending, progress_at, Knows};
 
 use crate::row::{Part, Rest, Row};
-use keys::{Access, Answer, HELD_LIMIT, Operation, Point, Progress, StepProgram};
 use lockword::{Cell, Reply, Tid};
+use posixmutex::{HELD_LIMIT, Operation, Point};
 use std::marker::Model;
+use stepprograms::{Access, Answer, Progress, StepProgram};
 
 /// How many entries of a list are loaded at most: as many as a thread may hold (`ROBUST_LIST_LIMIT` in the kernel).
 const ENTRY_LIMIT: u16 = HELD_LIMIT;

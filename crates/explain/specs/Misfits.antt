@@ -2,8 +2,8 @@
 use Rattle.std.specs.Prelude.{ℕ, Bool, true, false, List, [], ◌∷◌, ◌++◌, Option, Some, None, codes, decimal}
 use Rattle.std.specs.List.{concat}
 use Rattle.lockword.specs.Replies.{reply_word}
-use Rattle.keys.specs.declared.object.Object.{Object}
-use Rattle.keys.specs.Words.{operation_word}
+use Rattle.posixmutex.specs.declared.object.Object.{Object}
+use Rattle.posixmutex.specs.Words.{operation_word}
 use Rattle.verdict.specs.declared.misfit.Misfit.{Misfit}
 use Rattle.verdict.specs.declared.misfit.Misfit.TheVariants.{EventFalls, AnothersEvent, EventDecided, KillShares, EventKilled, InCall, NoCall, Asleep, Awake, Killed, NotReaped, Reaped, Alive, OtherMutex, OtherOperation, ReleaseRefused, Released, Decided, Undecided, OtherReply, NotAllowed, AtLimit, NotOwner, StillOwns, EndFalls}
 

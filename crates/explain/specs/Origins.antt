@@ -1,6 +1,6 @@
 -- The earlier line of a trace that one which doesn't fit goes back to.
 use Rattle.std.specs.Prelude.{ℕ, ◌+◌, ◌-◌, Bool, true, false, ◌&&◌, ◌||◌, ◌==◌, not, List, [], ◌∷◌, length, take, reverse, slice_get, Option, Some, None, if◌then◌else◌}
-use Rattle.keys.specs.declared.point.Decision.{Decision}
+use Rattle.posixmutex.specs.declared.point.Decision.{Decision}
 use Rattle.facts.specs.declared.fact.Fact.{Fact}
 use Rattle.facts.specs.declared.fact.Fact.TheVariants as fact
 use Rattle.facts.specs.declared.fact.Line.{Line}

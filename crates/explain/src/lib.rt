@@ -8,7 +8,7 @@
 //! most one byte more than a trace may have.
 //!
 //! Stands on `wording`, for the first wrong word of a line and the nearest known one, on `script` and `verdict`, for faults and
-//! reasons, on `lines`, for lines and words, on `facts`, `keys` and `lockword`, for what lines of a trace tell, on `streams`, for
+//! reasons, on `lines`, for lines and words, on `facts`, `posixmutex` and `lockword`, for what lines of a trace tell, on `streams`, for
 //! reading, writing and opening, and on `itoa`, for numbers.
 //!
 //! ```text

@@ -5,7 +5,7 @@ ghost use Rattle.explain.specs.Misfits.{misfit_text, object_text, with_number};
 
 use crate::adding::add;
 use itoa::Buffer;
-use keys::Object;
+use posixmutex::Object;
 use std::alloc::AllocError;
 use verdict::Misfit;
 

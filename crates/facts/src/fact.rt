@@ -2,8 +2,8 @@
 ghost use Rattle.std.specs.Prelude.{◌≡◌};
 ghost use Rattle.facts.specs.Facts.{decides, decision_of, is_kill, is_passive, is_point, thread_of};
 
-use keys::{Decision, Operation};
 use lockword::{Reply, Tid};
+use posixmutex::{Decision, Operation};
 
 /// The call that a thread begins.
 #[derive(Clone, Copy, Debug, PartialEq, Eq)]

@@ -4,7 +4,7 @@
 //! deaths are, what all lines of one thread must be together, and how lines may stand behind each other: what a run prints and
 //! what a trace is judged by.
 //!
-//! Stands on `keys`, for operations and decisions, and on `lockword`, for thread ids and replies.
+//! Stands on `posixmutex`, for operations and decisions, and on `lockword`, for thread ids and replies.
 //!
 //! ```text
 //! // `16 death t1 m0`: thread 1 died as the owner of mutex 0.

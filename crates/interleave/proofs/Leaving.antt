@@ -3,9 +3,9 @@ use Rattle.std.proofs.Common.{◌≡◌, ℕ, ◌+◌, ◌≤◌, Bool, true, fa
 use Rattle.std.specs.Prelude.{if◌then◌else◌, not}
 use Rattle.std.proofs.lemmas.Bool.Decides.{nat_tests}
 use mathlib.Core.Path.{fun_ext}
-use Rattle.keys.specs.Layouts.{Layout'}
-use Rattle.keys.specs.declared.access.Answer.TheVariants.{Trimmed}
-use Rattle.keys.specs.declared.access.Access.{Access}
+use Rattle.memorymap.specs.Layouts.{Layout'}
+use Rattle.stepprograms.specs.declared.access.Answer.TheVariants.{Trimmed}
+use Rattle.stepprograms.specs.declared.access.Access.{Access}
 use Rattle.mutex.specs.Standings.{Whole}
 use Rattle.mutex.specs.Whole.{whole_access, whole_led}
 use Rattle.condvar.specs.Ops.{mutex_of}

@@ -1,7 +1,7 @@
 -- Machines stay reached.
 use Rattle.std.proofs.Common.{◌≡◌, ◌≢◌, ℕ, zero, suc, ◌<◌, ◌≤◌, Bool, true, false, ◌&&◌, List, [], ◌∷◌, ◌++◌, length, take, Result, Ok, Err, Option, Some, None, ◌-◌, refl, sym, ap, ◌∙◌, subst, arith, slice_index_or, slice_set}
 use Rattle.std.specs.Prelude.{if◌then◌else◌, slice_index, map, nat_lt, nat_le, not, replicate}
-use Rattle.keys.specs.declared.access.Answer.TheVariants.{Trimmed}
+use Rattle.stepprograms.specs.declared.access.Answer.TheVariants.{Trimmed}
 use Rattle.std.specs.List.{range_with_len}
 use mathlib.Core.Path.{fun_ext}
 use Rattle.std.proofs.lemmas.Grind.{common_steps}
@@ -9,11 +9,11 @@ use Rattle.std.proofs.lemmas.Bool.Decides.{nat_tests}
 use Rattle.std.proofs.lemmas.List.FromFn.{get_or-map-range_with_len, length-map-range_with_len}
 use Rattle.std.proofs.lemmas.List.{length-replicate, length-set}
 use Rattle.lockword.specs.declared.reply.Reply.{Reply}
-use Rattle.keys.specs.declared.object.Object.{Object}
-use Rattle.keys.specs.Layouts.{Layout', IsLayout, words_of, cell_place, counter_place, first_word, head_word}
-use Rattle.keys.specs.Histories.{held_by}
+use Rattle.posixmutex.specs.declared.object.Object.{Object}
+use Rattle.memorymap.specs.Layouts.{Layout', IsLayout, words_of, cell_place, counter_place, first_word, head_word}
+use Rattle.posixmutex.specs.Histories.{held_by}
 use Rattle.lockword.specs.Cells.{Fields}
-use Rattle.keys.specs.declared.point.Operation.{Operation}
+use Rattle.posixmutex.specs.declared.point.Operation.{Operation}
 use Rattle.mutex.specs.declared.phase.Phase.{Phase}
 use Rattle.mutex.specs.declared.phase.Phase.TheVariants.{Announcing, AtCell, Linking, Unlinking, Clearing, Ended}
 use Rattle.mutex.specs.Standings.{Whole}
@@ -38,7 +38,7 @@ use Rattle.protocol.proofs.Queued.{Queued, asleep_there}
 use Rattle.protocol.proofs.QueueRuns.{run_queued}
 use Rattle.protocol.proofs.Undivided.{runs_alone}
 use Rattle.protocol.proofs.Waking.{told_sleeps}
-use Rattle.keys.specs.declared.access.Access.TheVariants.{Store}
+use Rattle.stepprograms.specs.declared.access.Access.TheVariants.{Store}
 use Rattle.syscalls.specs.Kernels.{Kernel'}
 use Rattle.syscalls.specs.Memories as memories
 use Rattle.syscalls.specs.Memories.{word_at, words_after}
@@ -59,7 +59,7 @@ use Rattle.interleave.specs.Reached.{IsReached, IsFirst, AtEachMoment, TellsAtEa
 use Rattle.interleave.proofs.Views.{words-set}
 use Rattle.protocol.proofs.Steps.{seen-inside, is_valid-cell}
 use Rattle.std.specs.Option.{SomeIff}
-use Rattle.keys.specs.Objects.{owner_of}
+use Rattle.posixmutex.specs.Objects.{owner_of}
 use Rattle.lockword.specs.Cells.{fields_of}
 
 -- one event more

@@ -2,9 +2,9 @@
 use Rattle.std.proofs.Common.{◌≡◌, ℕ, ◌<◌, Bool, true, false, ◌&&◌, List, [], ◌∷◌, length, ◌==◌, refl, sym, ap, ◌∙◌, arith}
 use Rattle.std.specs.Prelude.{if◌then◌else◌, slice_index, nat_lt}
 use Rattle.std.proofs.lemmas.Bool.Decides.{nat_tests}
-use Rattle.keys.specs.Accesses.{is_nobody}
-use Rattle.keys.specs.declared.access.Access.TheVariants.{Store}
-use Rattle.keys.specs.Layouts.{Layout', cell_place, words_of}
+use Rattle.stepprograms.specs.Accesses.{is_nobody}
+use Rattle.stepprograms.specs.declared.access.Access.TheVariants.{Store}
+use Rattle.memorymap.specs.Layouts.{Layout', cell_place, words_of}
 use Rattle.syscalls.specs.Kernels.{Kernel', queue_of}
 use Rattle.syscalls.specs.Memories.{words_after}
 use Rattle.protocol.specs.declared.event.Event.TheVariants.{Reinit}

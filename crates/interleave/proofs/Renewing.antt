@@ -4,8 +4,8 @@ use Rattle.std.specs.Prelude.{if◌then◌else◌, slice_index}
 use Rattle.std.proofs.lemmas.Bool.Decides.{nat_tests}
 use Rattle.std.proofs.lemmas.List.{length-set}
 use mathlib.Core.Path.{fun_ext}
-use Rattle.keys.specs.declared.access.Access.TheVariants.{Store}
-use Rattle.keys.specs.Layouts.{Layout', head_place, head_word, first_word, words_of}
+use Rattle.stepprograms.specs.declared.access.Access.TheVariants.{Store}
+use Rattle.memorymap.specs.Layouts.{Layout', head_place, head_word, first_word, words_of}
 use Rattle.syscalls.specs.Kernels.{Kernel', queue_of}
 use Rattle.syscalls.specs.Memories.{words_after}
 use Rattle.protocol.specs.declared.event.Event.TheVariants.{Renew}

@@ -5,9 +5,9 @@ use mathlib.Core.Path.{fun_ext}
 use Rattle.std.proofs.lemmas.List.{append-nil}
 use Rattle.lockword.specs.declared.reply.Reply.{Reply}
 use Rattle.lockword.specs.declared.reply.Reply.TheVariants.{EAGAIN, EFAULT, EINVAL}
-use Rattle.keys.specs.declared.access.Access.TheVariants.{Requeue, CmpRequeue}
-use Rattle.keys.specs.declared.access.Answer.TheVariants.{Again, Counts, Fault}
-use Rattle.keys.specs.Addresses.{seen_at}
+use Rattle.stepprograms.specs.declared.access.Access.TheVariants.{Requeue, CmpRequeue}
+use Rattle.stepprograms.specs.declared.access.Answer.TheVariants.{Again, Counts, Fault}
+use Rattle.memorymap.specs.Addresses.{seen_at}
 use Rattle.syscalls.specs.Kernels.{Kernel', queue_of, Requeues}
 use Rattle.syscalls.specs.Memories.{is_valid}
 use Rattle.syscalls.specs.Answers.{BothValid, RequeueAnswers, CmpRequeueAnswers}

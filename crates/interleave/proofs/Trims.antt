@@ -3,12 +3,12 @@ use Rattle.std.proofs.Common.{◌≡◌, ℕ, ◌&&◌, Bool, true, false, List,
 use Rattle.std.specs.Prelude.{if◌then◌else◌, slice_index, slice_set, MatchResult}
 use Rattle.lockword.specs.declared.reply.Reply.{Reply}
 use Rattle.lockword.specs.declared.reply.Reply.TheVariants.{EFAULT}
-use Rattle.keys.specs.declared.access.Access.TheVariants.{Trim}
-use Rattle.keys.specs.declared.access.Answer.TheVariants.{Trimmed, Fault}
+use Rattle.stepprograms.specs.declared.access.Access.TheVariants.{Trim}
+use Rattle.stepprograms.specs.declared.access.Answer.TheVariants.{Trimmed, Fault}
 use Rattle.lockword.specs.Cells.{waiters_alone}
-use Rattle.keys.specs.Accesses.{is_nobody, is_trimmed, Trims}
-use Rattle.keys.specs.Addresses.{seen_at}
-use Rattle.keys.proofs.Trims.{trims_free, trims_unslept}
+use Rattle.stepprograms.specs.Accesses.{is_nobody, is_trimmed, Trims}
+use Rattle.memorymap.specs.Addresses.{seen_at}
+use Rattle.stepprograms.proofs.Trims.{trims_free, trims_unslept}
 use Rattle.syscalls.specs.Kernels.{Kernel', queue_of}
 use Rattle.syscalls.specs.Memories.{is_valid}
 use Rattle.syscalls.specs.Answers.{TrimAnswers, TrimsAt}

@@ -5,16 +5,16 @@ use mathlib.Core.Path.{fun_ext}
 use Rattle.std.proofs.lemmas.Grind.{common_steps}
 use Rattle.std.proofs.lemmas.Bool.Decides.{nat_tests}
 use Rattle.lockword.specs.declared.reply.Reply.{Reply}
-use Rattle.keys.specs.declared.access.Access.{Access}
-use Rattle.keys.specs.declared.access.Access.TheVariants as access
-use Rattle.keys.specs.declared.access.Answer.{Answer}
-use Rattle.keys.specs.declared.access.Answer.TheVariants.{Fault}
-use Rattle.keys.specs.declared.point.Decision.{Decision}
-use Rattle.keys.specs.declared.point.Operation.{Operation}
-use Rattle.keys.specs.declared.point.Point.{Point}
-use Rattle.keys.specs.declared.point.Progress.{Progress}
-use Rattle.keys.specs.Layouts.{Layout', words_of, base_of, place_in}
-use Rattle.keys.specs.Accesses.{word_among, answer_among, sleeps_at}
+use Rattle.stepprograms.specs.declared.access.Access.{Access}
+use Rattle.stepprograms.specs.declared.access.Access.TheVariants as access
+use Rattle.stepprograms.specs.declared.access.Answer.{Answer}
+use Rattle.stepprograms.specs.declared.access.Answer.TheVariants.{Fault}
+use Rattle.posixmutex.specs.declared.point.Decision.{Decision}
+use Rattle.posixmutex.specs.declared.point.Operation.{Operation}
+use Rattle.posixmutex.specs.declared.point.Point.{Point}
+use Rattle.stepprograms.specs.declared.program.Progress.{Progress}
+use Rattle.memorymap.specs.Layouts.{Layout', words_of, base_of, place_in}
+use Rattle.stepprograms.specs.Accesses.{word_among, answer_among, sleeps_at}
 use Rattle.mutex.specs.declared.phase.Phase.{Phase}
 use Rattle.mutex.specs.declared.phase.Phase.TheVariants.{Announcing, AtCell, Linking, Unlinking, Clearing, Ended}
 use Rattle.mutex.specs.declared.phase.Onward.{Onward}

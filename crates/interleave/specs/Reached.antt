@@ -1,6 +1,6 @@
 -- What a machine is made by.
 use Rattle.std.specs.Prelude.{ℕ, ◌≡◌, ◌≤◌, true, List, [], length, take}
-use Rattle.keys.specs.Layouts.{Layout', IsLayout, words_of, head_place, address_in}
+use Rattle.memorymap.specs.Layouts.{Layout', IsLayout, words_of, head_place, address_in}
 use Rattle.syscalls.specs.Kernels.{Kernel', queue_of, head_of}
 use Rattle.protocol.specs.declared.event.Event.{Event}
 use Rattle.protocol.specs.declared.note.Note.{Note}

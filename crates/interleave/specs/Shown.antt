@@ -1,6 +1,6 @@
 -- The machine's lists as a state.
 use Rattle.std.specs.Prelude.{ℕ, zero, suc, Bool, List, slice_index, slice_index_or}
-use Rattle.keys.specs.Layouts.{Layout'}
+use Rattle.memorymap.specs.Layouts.{Layout'}
 use Rattle.syscalls.specs.Kernels.{Kernel', queue_of}
 use Rattle.protocol.specs.declared.thread.Thread.{Thread}
 use Rattle.protocol.specs.Machine.{State, idle}

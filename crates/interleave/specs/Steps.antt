@@ -6,7 +6,7 @@ use Rattle.condvar.specs.Whole as condition
 use Rattle.protocol.specs.declared.thread.Thread.{Thread}
 use Rattle.protocol.specs.declared.thread.Stage.{Stage}
 use Rattle.protocol.specs.declared.thread.Stage.TheVariants.{Idle, Calling, AtCondition, Dying, Reaped}
-use Rattle.keys.specs.Layouts.{Layout'}
+use Rattle.memorymap.specs.Layouts.{Layout'}
 use Rattle.condvar.specs.declared.op.Op.TheVariants.{OnCondition}
 use Rattle.condvar.specs.Ops.{is_in}
 use Rattle.protocol.specs.Machine.{State, stands_in, is_asleep}

@@ -1,6 +1,6 @@
 -- The numbers that a trace begins with.
 use Rattle.std.specs.Prelude.{◌≡◌, length}
-use Rattle.keys.specs.Layouts.{Layout'}
+use Rattle.memorymap.specs.Layouts.{Layout'}
 use Rattle.interleave.specs.declared.trace.Trace.{Trace}
 
 -- a trace of a machine with this layout

@@ -1,13 +1,14 @@
 //! Accesses of the machine's threads: to its words, and to the kernel's queues. A thread names words by the addresses that they have in its process.
 ghost use Rattle.std.specs.Prelude.{◌≡◌, ◌≤◌, ℕ, [], true, false};
-ghost use Rattle.keys.specs.declared.access.Access.TheVariants.{Wait, Wake};
-ghost use Rattle.keys.specs.declared.access.Answer.TheVariants.{Value, Stored, Exchanged, Changed};
+ghost use Rattle.stepprograms.specs.declared.access.Access.TheVariants.{Wait, Wake};
+ghost use Rattle.stepprograms.specs.declared.access.Answer.TheVariants.{Value, Stored, Exchanged, Changed};
 ghost use Rattle.syscalls.specs.Kernels.{IsAwake};
 ghost use Rattle.interleave.specs.Perform.{or_fault, exchange_answer, requeue_performed, trim_performed, list_words, Performs};
 
 use buckets::Batch;
-use keys::{Access, Answer, seen_at};
 use lockword::{Reply, Tid};
+use memorymap::seen_at;
+use stepprograms::{Access, Answer};
 use syscalls::{Kernel, Memory};
 
 /// What an access answered, whether its thread fell asleep by it, whom it woke, and whom it moved to another queue, in their order.

@@ -1,7 +1,7 @@
 //! Copies of what a machine is made of.
 ghost use Rattle.std.specs.Prelude.{◌≡◌, IfOk};
 
-use keys::NoMem;
+use memorymap::NoMem;
 use protocol::Thread;
 use std::alloc::Global;
 

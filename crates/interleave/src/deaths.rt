@@ -1,7 +1,7 @@
 //! Threads that die, and the kernel's walks over their robust lists (get_robust_list(2)).
 ghost use Rattle.std.specs.Prelude.{◌≡◌, ◌≤◌, ℕ, List, length};
-ghost use Rattle.keys.specs.Layouts.{words_of, head_place, address_in};
-ghost use Rattle.keys.specs.declared.point.Operation.TheVariants.{Death};
+ghost use Rattle.memorymap.specs.Layouts.{words_of, head_place, address_in};
+ghost use Rattle.posixmutex.specs.declared.point.Operation.TheVariants.{Death};
 ghost use Rattle.exitwalk.specs.Walks.{IsGoing};
 ghost use Rattle.protocol.specs.declared.event.Event.TheVariants.{Kill, Step};
 ghost use Rattle.protocol.specs.declared.thread.Stage.TheVariants.{Dying};
@@ -12,9 +12,10 @@ ghost use Rattle.interleave.specs.Shown.{state_at, thread_at};
 
 use crate::accesses::perform;
 use exitwalk::Walk;
-use keys::{Layout, Progress, StepProgram};
 use lockword::Tid;
+use memorymap::Layout;
 use protocol::{Note, Stage, Thread};
+use stepprograms::{Progress, StepProgram};
 use syscalls::{Kernel, PlainMemory};
 
 /// Whether a thread that is there hasn't been killed.

@@ -10,9 +10,10 @@ ghost use Rattle.std.specs.Prelude.{ℕ};
 use crate::accesses::quiet;
 use crate::threads::{held_after, point, stage_after, stepped};
 use facts::Queue;
-use keys::{Access, Answer, Layout, StepProgram};
 use lockword::Tid;
+use memorymap::Layout;
 use protocol::{Note, Stage, Thread};
+use stepprograms::{Access, Answer, StepProgram};
 use syscalls::Kernel;
 
 /// The thread leaves its queue, if it stands in one. It stands in its call where it goes on when it is woken, so nothing else is to do.

@@ -9,8 +9,8 @@
 //! awake comes to rest (`runs_alone`).
 //!
 //! Stands on `protocol`, for events, notes and the laws, on `syscalls`, for the memory and the kernel, on `mutex`, `condvar`,
-//! `robustlist` and `exitwalk`, for the programs that it runs, on `buckets`, for who is woken, on `facts` and `keys`, for notes
-//! and layouts, and on `lockword`.
+//! `robustlist` and `exitwalk`, for the programs that it runs, on `buckets`, for who is woken, on `facts`, for notes,
+//! on `memorymap`, for layouts, and on `stepprograms`, `posixmutex` and `lockword`.
 //!
 //! ```text
 //! // One thread, one mutex: the head at 1 to 3, the cell at 4. The thread locks the mutex and is killed.

@@ -1,7 +1,7 @@
 //! The machine.
 ghost use Rattle.std.specs.Prelude.{◌≡◌, ◌<◌, ◌≤◌, ◌^◌, ◌&&◌, ℕ, true, false, [], ◌∷◌, ◌++◌, length, map, take, replicate, vec_len, vec_capacity, Some, None, IfOk, OnOk, OnErr, MatchBool, if◌then◌else◌};
 ghost use Rattle.std.specs.List.{All, range_with_len};
-ghost use Rattle.keys.specs.Layouts.{IsLayout, counter_place, words_of, first_word};
+ghost use Rattle.memorymap.specs.Layouts.{IsLayout, counter_place, words_of, first_word};
 ghost use Rattle.protocol.specs.Machine.{start, idle, happens, put, run, notes, is_valid, is_busy, is_dying, is_asleep, stands_in};
 ghost use Rattle.protocol.specs.Sleepers.{alone, RunsAlone};
 ghost use Rattle.protocol.specs.Deaths.{ReportsDeaths};
@@ -15,8 +15,8 @@ use crate::copies::same_threads;
 use crate::threads::{apply, is_calling, is_dying, is_reaped};
 use crate::trace::{Trace, push_in_room};
 use buckets::Batch;
-use keys::{HEAD_SIZE, Layout, NoMem};
 use lockword::{Cell, Tid};
+use memorymap::{HEAD_SIZE, Layout, NoMem};
 use protocol::{Event, Note, Stage, Thread};
 use std::alloc::{AllocError, Global};
 use std::marker::Model;

@@ -5,7 +5,7 @@ ghost use Rattle.protocol.specs.Ops.{begun_of};
 
 use condvar::Op;
 use facts::Begun;
-use keys::Layout;
+use memorymap::Layout;
 
 /// A call of the layout, as its begin is told.
 pub(crate) fn begun(layout: &Layout, op: Op) -> Begun

@@ -1,6 +1,6 @@
 //! Unusable mutexes that are made anew.
 ghost use Rattle.std.specs.Prelude.{◌≡◌, ◌<◌, ◌&&◌, ℕ, List, length, nat_lt};
-ghost use Rattle.keys.specs.Layouts.{words_of};
+ghost use Rattle.memorymap.specs.Layouts.{words_of};
 ghost use Rattle.protocol.specs.declared.event.Event.TheVariants.{Reinit};
 ghost use Rattle.protocol.specs.declared.thread.Thread.{Thread};
 ghost use Rattle.protocol.specs.Machine.{happens, has_thread, is_idle, is_unusable};
@@ -8,8 +8,8 @@ ghost use Rattle.syscalls.specs.Kernels.{Kernel'};
 ghost use Rattle.interleave.specs.Shown.{state_at, thread_at};
 
 use crate::threads::is_idle;
-use keys::Layout;
 use lockword::{Cell, Tid};
+use memorymap::Layout;
 use protocol::{Note, Thread};
 use syscalls::{Kernel, Memory, PlainMemory};
 

@@ -1,14 +1,14 @@
 //! Threads that were reaped and live anew: their ids are used again.
 ghost use Rattle.std.specs.Prelude.{◌≡◌, List, length};
-ghost use Rattle.keys.specs.Layouts.{words_of};
+ghost use Rattle.memorymap.specs.Layouts.{words_of};
 ghost use Rattle.protocol.specs.declared.event.Event.TheVariants.{Renew};
 ghost use Rattle.protocol.specs.Machine.{happens};
 ghost use Rattle.syscalls.specs.Kernels.{Kernel'};
 ghost use Rattle.interleave.specs.Shown.{state_at};
 
 use crate::threads::is_reaped;
-use keys::Layout;
 use lockword::Tid;
+use memorymap::Layout;
 use protocol::{Note, Stage, Thread};
 use syscalls::{Memory, PlainMemory};
 

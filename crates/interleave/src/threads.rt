@@ -1,6 +1,6 @@
 //! The machine's threads.
 ghost use Rattle.std.specs.Prelude.{◌≡◌, ◌<◌, ◌≤◌, ℕ, List, true, length};
-ghost use Rattle.keys.specs.Layouts.{words_of, head_place, address_in};
+ghost use Rattle.memorymap.specs.Layouts.{words_of, head_place, address_in};
 ghost use Rattle.mutex.specs.Whole.{IsUnderWay};
 ghost use Rattle.condvar.specs.Whole as condition;
 ghost use Rattle.condvar.specs.declared.op.Op.TheVariants.{OnCondition};
@@ -22,10 +22,12 @@ use crate::reinits::reinit;
 use crate::renewals::renew;
 use condvar::{CondCall, CondProgram, Op};
 use facts::Queue;
-use keys::{Decision, Layout, Operation, Point, Progress, StepProgram};
 use lockword::{Reply, Tid};
+use memorymap::Layout;
 use mutex::Program;
+use posixmutex::{Decision, Operation, Point};
 use protocol::{Event, Note, Stage, Thread};
+use stepprograms::{Progress, StepProgram};
 use syscalls::{Kernel, PlainMemory};
 
 /// The point that the access was, if it was one.

@@ -2,8 +2,8 @@
 
 use crate::batches::has_ids;
 use crate::kernels::{RequeueCall, is_asleep, remove, requeue, wait, wake};
-use keys::key_of;
 use lockword::Reply;
+use memorymap::key_of;
 use std::alloc::Global;
 use std::process::Abort;
 use std::test::Fail;

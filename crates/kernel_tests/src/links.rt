@@ -1,13 +1,13 @@
 //! Links and unlinks over the words of one thread and two mutexes: its head at 1, the mutexes' entries at 5 and 8.
 
 use crate::words::{load, store};
-use keys::{Access, Answer, Progress, StepProgram};
 use lockword::Reply;
 use robustlist::{
     Link, Unlink, chains_are_unique, heads_begin_empty, links_alone, links_are_right,
     unlinks_alone, unlinks_are_right,
 };
 use std::process::Abort;
+use stepprograms::{Access, Answer, Progress, StepProgram};
 
 const GOES: Progress = Progress::Goes { point: None };
 

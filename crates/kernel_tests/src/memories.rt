@@ -1,8 +1,8 @@
 //! Each access to the words of a memory.
 
-use keys::Access;
 use std::process::Abort;
 use std::test::Fail;
+use stepprograms::Access;
 use syscalls::{Memory, PlainMemory};
 
 /// Makes an access, and tells the word that it met; of a store, which tells none, that which it stored.

@@ -2,7 +2,7 @@
 
 use crate::batches::{has_ids, thread};
 use buckets::{Batch, Bucket};
-use keys::Key;
+use memorymap::Key;
 use std::process::Abort;
 use std::test::Fail;
 

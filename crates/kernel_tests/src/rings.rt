@@ -4,7 +4,7 @@ ghost use Rattle.std.specs.Prelude.{◌≡◌, ◌<◌, ◌≤◌};
 use crate::batches::{has_ids, thread};
 use crate::slow::Slow;
 use buckets::{Bucket, Row};
-use keys::Key;
+use memorymap::Key;
 use std::alloc::Global;
 use std::process::Abort;
 use std::test::Fail;

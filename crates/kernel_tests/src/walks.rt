@@ -4,11 +4,12 @@ ghost use Rattle.exitwalk.specs.Walks.{IsGoing};
 use crate::batches::thread;
 use crate::words::{exchange, load};
 use exitwalk::{Walk, any_answers_end, steps_are_right, walks_are_right, whole_lists_are_treated};
-use keys::{Access, Answer, Operation, Point, Progress, StepProgram};
 use lockword::{Reply, Tid};
+use posixmutex::{Operation, Point};
 use std::alloc::Global;
 use std::process::Abort;
 use std::test::Fail;
+use stepprograms::{Access, Answer, Progress, StepProgram};
 
 mod steps;
 

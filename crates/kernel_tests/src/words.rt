@@ -1,6 +1,6 @@
 //! Accesses to words in a slice, of which word 0 is told apart by the caller.
 
-use keys::Answer;
+use stepprograms::Answer;
 
 /// The word at an address.
 pub(crate) fn load(words: &[u64], at: u64) -> Answer {

@@ -2,8 +2,8 @@
 ghost use Rattle.ruledwords.specs.Passes.{IsLive};
 
 use condvar::Op::{self, OnMutex};
-use keys::Layout;
 use lockword::Reply::{self, EBUSY, EOWNERDEAD, OK};
+use memorymap::Layout;
 use mutex::Call::{Lock, TryLock, Unlock};
 use ruledwords::{Fate, Live, Never, Pass};
 use std::alloc::Global;

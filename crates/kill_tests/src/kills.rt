@@ -2,8 +2,8 @@
 ghost use Rattle.ruledwords.specs.Passes.{IsLive};
 
 use condvar::Op::OnMutex;
-use keys::Layout;
 use lockword::Reply::{self, EOWNERDEAD, OK};
+use memorymap::Layout;
 use mutex::Call::{Lock, Unlock};
 use ruledwords::{Live, Never, Pass};
 use std::sync::Wait;

@@ -3,8 +3,8 @@ ghost use Rattle.std.specs.Prelude.{IfSome};
 ghost use Rattle.ruledwords.specs.Passes.{IsLive};
 
 use condvar::Op::OnMutex;
-use keys::Layout;
 use lockword::Reply::{self, ENOTRECOVERABLE, EOWNERDEAD, OK};
+use memorymap::Layout;
 use mutex::Call::{self, Consistent, Lock, Unlock};
 use ruledwords::{Live, Never, Pass};
 use std::alloc::Global;

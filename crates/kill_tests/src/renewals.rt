@@ -3,8 +3,8 @@ ghost use Rattle.ruledwords.specs.Passes.{IsLive};
 ghost use Rattle.std.specs.Prelude.{IfSome};
 
 use condvar::Op::OnMutex;
-use keys::Layout;
 use lockword::Reply::{self, EOWNERDEAD, OK};
+use memorymap::Layout;
 use mutex::Call::{self, Consistent, Lock, Unlock};
 use ruledwords::{Live, Never, Outcome, Pass};
 use std::sync::Wait;

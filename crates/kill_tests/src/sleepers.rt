@@ -2,8 +2,8 @@
 ghost use Rattle.ruledwords.specs.Passes.{IsLive};
 
 use condvar::Op::OnMutex;
-use keys::{Layout, bucket_of, key_of};
 use lockword::Reply::{self, EOWNERDEAD, OK};
+use memorymap::{Layout, bucket_of, key_of};
 use mutex::Call::{Consistent, Lock, TryLock, Unlock};
 use ruledwords::{Live, Never, Pass};
 use std::alloc::Global;

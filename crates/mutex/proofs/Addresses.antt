@@ -2,8 +2,8 @@
 use Rattle.std.proofs.Common.{◌≡◌, ℕ, ◌+◌, ◌-◌, ◌<◌, ◌≤◌, length, sym, ap, ◌∙◌, arith}
 use Rattle.std.proofs.lemmas.List.Elements.{All-get_or}
 use Rattle.std.specs.Prelude.{slice_index}
-use Rattle.keys.specs.Chains.{address_sum}
-use Rattle.keys.specs.Layouts.{Layout', IsLayout, head_place, entry_place, words_of, base_of, address_in, place_in}
+use Rattle.memorymap.specs.Chains.{address_sum}
+use Rattle.memorymap.specs.Layouts.{Layout', IsLayout, head_place, entry_place, words_of, base_of, address_in, place_in}
 use Rattle.mutex.specs.WholeLists.{head_in, entry_in}
 
 module _ (l : Layout') (t : ℕ) (is : IsLayout l) (pos : 1 ≤ t) (known : t ≤ l.threads) where

@@ -6,12 +6,12 @@ use Rattle.lockword.specs.Cells.{Fields, fields_of, word_of, low_of, taken, wait
 use Rattle.lockword.specs.Coding.{fields_of-word_of, word_of-fields_of}
 use Rattle.lockword.proofs.Bits.{xor_released, xor_spoiled, and_declared, low_alike}
 use Rattle.lockword.specs.declared.reply.Reply.TheVariants.{OK, EPERM, EBUSY, EINVAL, EDEADLK, EOWNERDEAD, ENOTRECOVERABLE, XRACED}
-use Rattle.keys.specs.declared.access.Answer.TheVariants.{Exchanged, Changed, Again, Woken}
-use Rattle.keys.specs.declared.access.Access.TheVariants as access
-use Rattle.keys.specs.Accesses.{word_among, answer_among, is_trimmed}
-use Rattle.keys.proofs.Trims.{trims_free, trims_unslept}
-use Rattle.keys.specs.Objects.{object_of}
-use Rattle.keys.proofs.Owners.{owner_of-is}
+use Rattle.stepprograms.specs.declared.access.Answer.TheVariants.{Exchanged, Changed, Again, Woken}
+use Rattle.stepprograms.specs.declared.access.Access.TheVariants as access
+use Rattle.stepprograms.specs.Accesses.{word_among, answer_among, is_trimmed}
+use Rattle.stepprograms.proofs.Trims.{trims_free, trims_unslept}
+use Rattle.posixmutex.specs.Objects.{object_of}
+use Rattle.posixmutex.proofs.Owners.{owner_of-is}
 use Rattle.mutex.specs.declared.lock.LockRow.TheVariants as lock
 use Rattle.mutex.specs.declared.try_lock.TryLockRow.TheVariants as try
 use Rattle.mutex.specs.declared.unlock.UnlockRow.TheVariants as unlock

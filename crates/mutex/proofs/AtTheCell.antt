@@ -6,12 +6,12 @@ use native.Mathlib.Decide.{ℕ_discrete}
 use Rattle.lockword.specs.declared.reply.Reply.{Reply}
 use Rattle.lockword.specs.Cells.{Fields, fields_of}
 use Rattle.lockword.specs.declared.reply.Reply.TheVariants.{OK, EPERM, EINVAL, EFAULT, EDEADLK, EBUSY, EOWNERDEAD, ENOTRECOVERABLE, XRACED}
-use Rattle.keys.specs.Chains.{IsChainBothWays}
-use Rattle.keys.specs.Layouts.{Layout', head_place, cell_place, address_in}
-use Rattle.keys.specs.declared.access.Answer.{Answer}
-use Rattle.keys.specs.declared.access.Answer.TheVariants.{Value, Exchanged, Changed, Again, Woken, Count, Trimmed}
-use Rattle.keys.specs.declared.point.Operation.{Operation}
-use Rattle.keys.specs.declared.point.Operation.TheVariants as operation
+use Rattle.memorymap.specs.Chains.{IsChainBothWays}
+use Rattle.memorymap.specs.Layouts.{Layout', head_place, cell_place, address_in}
+use Rattle.stepprograms.specs.declared.access.Answer.{Answer}
+use Rattle.stepprograms.specs.declared.access.Answer.TheVariants.{Value, Exchanged, Changed, Again, Woken, Count, Trimmed}
+use Rattle.posixmutex.specs.declared.point.Operation.{Operation}
+use Rattle.posixmutex.specs.declared.point.Operation.TheVariants as operation
 use Rattle.robustlist.specs.Link.{link_started}
 use Rattle.robustlist.proofs.Links as links
 use Rattle.mutex.specs.declared.lock.LockRow.{LockRow}

@@ -3,11 +3,11 @@ use Rattle.std.proofs.Common.{◌≡◌, ℕ, ◌≤◌, Bool, Option, Some, Non
 use Rattle.lockword.specs.Cells.{Fields}
 use Rattle.lockword.specs.declared.reply.Reply.{Reply}
 use Rattle.lockword.specs.declared.reply.Reply.TheVariants.{OK, EFAULT, EOWNERDEAD}
-use Rattle.keys.specs.declared.access.Answer.{Answer}
-use Rattle.keys.specs.declared.access.Answer.TheVariants.{Value, Stored, Exchanged, Changed, Again, Woken, Count, Trimmed}
-use Rattle.keys.specs.declared.point.Operation.{Operation}
-use Rattle.keys.specs.declared.point.Operation.TheVariants as operation
-use Rattle.keys.specs.Layouts.{Layout'}
+use Rattle.stepprograms.specs.declared.access.Answer.{Answer}
+use Rattle.stepprograms.specs.declared.access.Answer.TheVariants.{Value, Stored, Exchanged, Changed, Again, Woken, Count, Trimmed}
+use Rattle.posixmutex.specs.declared.point.Operation.{Operation}
+use Rattle.posixmutex.specs.declared.point.Operation.TheVariants as operation
+use Rattle.memorymap.specs.Layouts.{Layout'}
 use Rattle.robustlist.specs.declared.link.LinkRow.{LinkRow}
 use Rattle.robustlist.specs.declared.link.LinkRow.TheVariants as link
 use Rattle.robustlist.specs.declared.unlink.UnlinkRow.{UnlinkRow}

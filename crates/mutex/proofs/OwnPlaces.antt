@@ -2,8 +2,8 @@
 use Rattle.std.proofs.Common.{◌≡◌, ◌≢◌, ◌⊎◌, inl, inr, ℕ, ◌+◌, ◌<◌, ◌≤◌, ◌==◌, Bool, true, false, Option, List, [], ◌∷◌, refl, sym, ap, ◌∙◌, arith, eqb-true}
 use Rattle.std.specs.Prelude.{if◌then◌else◌}
 use Rattle.std.proofs.lemmas.Bool.{eqb-false}
-use Rattle.keys.specs.Chains.{previous_place, address_sum, IsAmong, IsApart, AreDifferent, IsChainBothWays, places_of, without}
-use Rattle.keys.specs.Layouts.{Layout', IsLayout, head_place, entry_place, words_of, address_in, place_in}
+use Rattle.memorymap.specs.Chains.{previous_place, address_sum, IsAmong, IsApart, AreDifferent, IsChainBothWays, places_of, without}
+use Rattle.memorymap.specs.Layouts.{Layout', IsLayout, head_place, entry_place, words_of, address_in, place_in}
 use Rattle.robustlist.specs.Words.{IsOn, Agree}
 use Rattle.robustlist.specs.LinkLaws.{LiesApart}
 use Rattle.robustlist.proofs.Chains.{both-ways, chain-same, chained}

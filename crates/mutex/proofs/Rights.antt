@@ -7,14 +7,14 @@ use Rattle.lockword.specs.Coding.{fields_of-word_of}
 use Rattle.lockword.proofs.Bits.{xor_released, xor_spoiled, and_declared}
 use Rattle.lockword.specs.declared.reply.Reply.{Reply}
 use Rattle.lockword.specs.declared.reply.Reply.TheVariants.{OK, EPERM, EBUSY, EINVAL, EDEADLK, EOWNERDEAD, ENOTRECOVERABLE, XRACED}
-use Rattle.keys.specs.declared.access.Answer.TheVariants.{Exchanged, Changed, Again, Woken}
-use Rattle.keys.specs.declared.point.Operation.{Operation}
-use Rattle.keys.specs.declared.point.Operation.TheVariants as operation
-use Rattle.keys.specs.declared.object.Object.{Object}
-use Rattle.keys.specs.Accesses.{is_trimmed}
-use Rattle.keys.proofs.Trims.{trims_free}
-use Rattle.keys.specs.Objects.{Permits, Run, object_of, owner_of, owned_by, freed, declared_consistent}
-use Rattle.keys.proofs.Owners.{owner_of-some, owner_of-is, owner_of-none}
+use Rattle.stepprograms.specs.declared.access.Answer.TheVariants.{Exchanged, Changed, Again, Woken}
+use Rattle.posixmutex.specs.declared.point.Operation.{Operation}
+use Rattle.posixmutex.specs.declared.point.Operation.TheVariants as operation
+use Rattle.posixmutex.specs.declared.object.Object.{Object}
+use Rattle.stepprograms.specs.Accesses.{is_trimmed}
+use Rattle.stepprograms.proofs.Trims.{trims_free}
+use Rattle.posixmutex.specs.Objects.{Permits, Run, object_of, owner_of, owned_by, freed, declared_consistent}
+use Rattle.posixmutex.proofs.Owners.{owner_of-some, owner_of-is, owner_of-none}
 use Rattle.mutex.specs.declared.lock.LockRow.TheVariants as lock
 use Rattle.mutex.specs.declared.try_lock.TryLockRow.TheVariants as try
 use Rattle.mutex.specs.declared.unlock.UnlockRow.TheVariants as unlock

@@ -7,18 +7,18 @@ use Rattle.lockword.proofs.Bits.{xor_released, xor_spoiled, and_declared}
 use Rattle.lockword.specs.Coding.{fields_of-word_of}
 use Rattle.lockword.specs.declared.reply.Reply.{Reply}
 use Rattle.lockword.specs.declared.reply.Reply.TheVariants.{OK, EPERM, EBUSY, EINVAL, EDEADLK, EOWNERDEAD, ENOTRECOVERABLE, XRACED}
-use Rattle.keys.specs.declared.access.Access.{Access}
-use Rattle.keys.specs.declared.access.Access.TheVariants as access
-use Rattle.keys.specs.declared.access.Answer.{Answer}
-use Rattle.keys.specs.declared.access.Answer.TheVariants.{Exchanged, Changed}
-use Rattle.keys.specs.declared.object.Object.{Object}
-use Rattle.keys.specs.declared.point.Operation.{Operation}
-use Rattle.keys.specs.declared.point.Operation.TheVariants as operation
-use Rattle.keys.specs.declared.point.Point.{Point}
-use Rattle.keys.specs.declared.point.Progress.TheVariants.{Goes, Returns}
-use Rattle.keys.specs.Accesses.{address_of, changed, answer_at, word_among, answer_among}
-use Rattle.keys.specs.Objects.{object_of}
-use Rattle.keys.proofs.Owners.{owner_of-is}
+use Rattle.stepprograms.specs.declared.access.Access.{Access}
+use Rattle.stepprograms.specs.declared.access.Access.TheVariants as access
+use Rattle.stepprograms.specs.declared.access.Answer.{Answer}
+use Rattle.stepprograms.specs.declared.access.Answer.TheVariants.{Exchanged, Changed}
+use Rattle.posixmutex.specs.declared.object.Object.{Object}
+use Rattle.posixmutex.specs.declared.point.Operation.{Operation}
+use Rattle.posixmutex.specs.declared.point.Operation.TheVariants as operation
+use Rattle.posixmutex.specs.declared.point.Point.{Point}
+use Rattle.stepprograms.specs.declared.program.Progress.TheVariants.{Goes, Returns}
+use Rattle.stepprograms.specs.Accesses.{address_of, changed, answer_at, word_among, answer_among}
+use Rattle.posixmutex.specs.Objects.{object_of}
+use Rattle.posixmutex.proofs.Owners.{owner_of-is}
 use Rattle.mutex.specs.declared.lock.LockRow.TheVariants as lock
 use Rattle.mutex.specs.declared.try_lock.TryLockRow.TheVariants as try
 use Rattle.mutex.specs.declared.unlock.UnlockRow.TheVariants as unlock

@@ -3,12 +3,12 @@ use Rattle.std.proofs.Common.{◌≡◌, ℕ, ◌+◌, ◌==◌, ◌&&◌, Bool,
 use Rattle.std.specs.Prelude.{◌%◌, ◌^◌, ◌||◌, ◌↔◌, length, take, if◌then◌else◌}
 use Rattle.lockword.specs.Cells.{Fields, fields_of, word_of, low_of, taken, waiting}
 use Rattle.lockword.specs.declared.reply.Reply.TheVariants.{OK, EPERM, EBUSY, EINVAL, EDEADLK, EOWNERDEAD, ENOTRECOVERABLE, XRACED}
-use Rattle.keys.specs.declared.access.Access.TheVariants as access
-use Rattle.keys.specs.declared.access.Answer.TheVariants.{Exchanged, Changed, Again, Woken}
-use Rattle.keys.specs.declared.object.Object.{Object}
-use Rattle.keys.specs.declared.point.Operation.{Operation}
-use Rattle.keys.specs.declared.point.Operation.TheVariants as operation
-use Rattle.keys.specs.Objects.{object_of, freed}
+use Rattle.stepprograms.specs.declared.access.Access.TheVariants as access
+use Rattle.stepprograms.specs.declared.access.Answer.TheVariants.{Exchanged, Changed, Again, Woken}
+use Rattle.posixmutex.specs.declared.object.Object.{Object}
+use Rattle.posixmutex.specs.declared.point.Operation.{Operation}
+use Rattle.posixmutex.specs.declared.point.Operation.TheVariants as operation
+use Rattle.posixmutex.specs.Objects.{object_of, freed}
 use Rattle.mutex.specs.declared.lock.LockRow.TheVariants as lock
 use Rattle.mutex.specs.declared.try_lock.TryLockRow.TheVariants as try
 use Rattle.mutex.specs.declared.unlock.UnlockRow.TheVariants as unlock

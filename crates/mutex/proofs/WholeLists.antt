@@ -4,12 +4,12 @@ use Rattle.std.specs.Prelude.{if◌then◌else◌}
 use mathlib.Core.Logic.{dite}
 use native.Mathlib.Decide.{ℕ_discrete}
 use Rattle.lockword.specs.declared.reply.Reply.{Reply}
-use Rattle.keys.specs.declared.access.Access.{Access}
-use Rattle.keys.specs.declared.access.Access.TheVariants.{Store}
-use Rattle.keys.specs.Accesses.{address_of, changed}
-use Rattle.keys.specs.Chains.{IsAmong, AreDifferent, IsChain, IsChainBothWays, without}
-use Rattle.keys.specs.Layouts.{Layout', cell_place, address_in}
-use Rattle.keys.specs.declared.point.Operation.{Operation}
+use Rattle.stepprograms.specs.declared.access.Access.{Access}
+use Rattle.stepprograms.specs.declared.access.Access.TheVariants.{Store}
+use Rattle.stepprograms.specs.Accesses.{address_of, changed}
+use Rattle.memorymap.specs.Chains.{IsAmong, AreDifferent, IsChain, IsChainBothWays, without}
+use Rattle.memorymap.specs.Layouts.{Layout', cell_place, address_in}
+use Rattle.posixmutex.specs.declared.point.Operation.{Operation}
 use Rattle.robustlist.specs.declared.link.LinkRow.{LinkRow}
 use Rattle.robustlist.specs.declared.unlink.UnlinkRow.{UnlinkRow}
 use Rattle.robustlist.specs.Standings.{LinkStanding, UnlinkStanding}
@@ -31,7 +31,7 @@ use Rattle.mutex.specs.declared.call.Call.{Call}
 use Rattle.mutex.specs.declared.call.Call.TheVariants as call
 use Rattle.mutex.specs.Calls.{mutex_of, operation_of}
 use Rattle.mutex.specs.Programs.{resume_of}
-use Rattle.keys.specs.declared.access.Answer.{Answer}
+use Rattle.stepprograms.specs.declared.access.Answer.{Answer}
 use Rattle.mutex.proofs.AtTheCell.{by_row}
 use Rattle.mutex.specs.Whole.{first_phase, phase_access, phase_led, whole_access, whole_led, pending_place, announced, linked_at, unlinked_at}
 use Rattle.mutex.specs.WholeLists.{head_in, entry_in, IsOwnAddress, Entries, HasList, KeepsList, Arrives, IsThere, IsCallOn, IsOwnAccess, Owns, AgreeOnOwn, CanBeWalked, WholeListsAreKept}

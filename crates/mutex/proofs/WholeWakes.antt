@@ -2,12 +2,12 @@
 use Rattle.std.proofs.Common.{◌≡◌, ◌≢◌, ◌≤◌, ℕ, List, [], ◌∷◌, sym, subst, arith}
 use Rattle.std.specs.Prelude.{◌↔◌}
 use Rattle.lockword.specs.Cells.{fields_of}
-use Rattle.keys.specs.declared.access.Access.{Access}
-use Rattle.keys.specs.declared.access.Access.TheVariants as access
-use Rattle.keys.specs.declared.access.Answer.{Answer}
-use Rattle.keys.specs.declared.point.Operation.{Operation}
-use Rattle.keys.specs.Accesses.{word_among, answer_among}
-use Rattle.keys.specs.Objects.{object_of}
+use Rattle.stepprograms.specs.declared.access.Access.{Access}
+use Rattle.stepprograms.specs.declared.access.Access.TheVariants as access
+use Rattle.stepprograms.specs.declared.access.Answer.{Answer}
+use Rattle.posixmutex.specs.declared.point.Operation.{Operation}
+use Rattle.stepprograms.specs.Accesses.{word_among, answer_among}
+use Rattle.posixmutex.specs.Objects.{object_of}
 use Rattle.mutex.specs.declared.call.Call.{Call}
 use Rattle.mutex.specs.declared.call.Call.TheVariants as call
 use Rattle.mutex.specs.declared.lock.LockRow.TheVariants as lock

@@ -2,9 +2,9 @@
 use Rattle.std.specs.Prelude.{ℕ, ◌≡◌, ◌≢◌, ◌==◌, ◌-◌, ◌%◌, ◌^◌, ◌<◌, ◌⊎◌, Bool, true, false, List, [], if◌then◌else◌}
 use Rattle.lockword.specs.Cells.{word_of, low_of, fields_of}
 use Rattle.lockword.specs.declared.reply.Reply.TheVariants.{XRACED}
-use Rattle.keys.specs.declared.access.Access.{Access}
-use Rattle.keys.specs.declared.access.Access.TheVariants.{Wake}
-use Rattle.keys.specs.Accesses.{sleeps_at}
+use Rattle.stepprograms.specs.declared.access.Access.{Access}
+use Rattle.stepprograms.specs.declared.access.Access.TheVariants.{Wake}
+use Rattle.stepprograms.specs.Accesses.{sleeps_at}
 use Rattle.mutex.specs.declared.lock.LockRow.TheVariants as lock
 use Rattle.mutex.specs.declared.try_lock.TryLockRow.TheVariants as try
 use Rattle.mutex.specs.declared.unlock.UnlockRow.TheVariants as unlock

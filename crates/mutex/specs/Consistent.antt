@@ -6,10 +6,10 @@
 use Rattle.std.specs.Prelude.{ℕ, ◌==◌, not, if◌then◌else◌}
 use Rattle.lockword.specs.Cells.{Fields, fields_of}
 use Rattle.lockword.specs.declared.reply.Reply.TheVariants.{OK, EPERM, EINVAL}
-use Rattle.keys.specs.declared.access.Access.{Access}
-use Rattle.keys.specs.declared.access.Access.TheVariants as access
-use Rattle.keys.specs.declared.access.Answer.{Answer}
-use Rattle.keys.specs.declared.access.Answer.TheVariants.{Value}
+use Rattle.stepprograms.specs.declared.access.Access.{Access}
+use Rattle.stepprograms.specs.declared.access.Access.TheVariants as access
+use Rattle.stepprograms.specs.declared.access.Answer.{Answer}
+use Rattle.stepprograms.specs.declared.access.Answer.TheVariants.{Value}
 use Rattle.mutex.specs.declared.consistent.ConsistentRow.{ConsistentRow}
 use Rattle.mutex.specs.declared.consistent.ConsistentRow.TheVariants.{Load, Declare}
 use Rattle.mutex.specs.declared.row.Row.TheVariants.{Consistent}

@@ -3,9 +3,9 @@ use Rattle.std.specs.Prelude.{ℕ, ◌≡◌, ◌≢◌, ◌≤◌, Option, Some
 use Rattle.lockword.specs.Cells.{Fields}
 use Rattle.lockword.specs.declared.reply.Reply.{Reply}
 use Rattle.lockword.specs.declared.reply.Reply.TheVariants.{EFAULT}
-use Rattle.keys.specs.declared.access.Answer.{Answer}
-use Rattle.keys.specs.Accesses.{IsAnswerOf}
-use Rattle.keys.specs.Layouts.{Layout'}
+use Rattle.stepprograms.specs.declared.access.Answer.{Answer}
+use Rattle.stepprograms.specs.Accesses.{IsAnswerOf}
+use Rattle.memorymap.specs.Layouts.{Layout'}
 use Rattle.mutex.specs.declared.call.Call.{Call}
 use Rattle.mutex.specs.declared.phase.Phase.{Phase}
 use Rattle.mutex.specs.declared.phase.Phase.TheVariants.{AtCell, Ended}

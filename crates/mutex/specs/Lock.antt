@@ -11,10 +11,10 @@
 use Rattle.std.specs.Prelude.{ℕ, ◌==◌, if◌then◌else◌}
 use Rattle.lockword.specs.Cells.{Fields, word_of, low_of, fields_of, taken, waiting}
 use Rattle.lockword.specs.declared.reply.Reply.TheVariants.{EDEADLK, ENOTRECOVERABLE}
-use Rattle.keys.specs.declared.access.Access.{Access}
-use Rattle.keys.specs.declared.access.Access.TheVariants as access
-use Rattle.keys.specs.declared.access.Answer.{Answer}
-use Rattle.keys.specs.declared.access.Answer.TheVariants.{Value, Exchanged, Changed, Again, Woken, Count}
+use Rattle.stepprograms.specs.declared.access.Access.{Access}
+use Rattle.stepprograms.specs.declared.access.Access.TheVariants as access
+use Rattle.stepprograms.specs.declared.access.Answer.{Answer}
+use Rattle.stepprograms.specs.declared.access.Answer.TheVariants.{Value, Exchanged, Changed, Again, Woken, Count}
 use Rattle.mutex.specs.declared.lock.LockRow.{LockRow}
 use Rattle.mutex.specs.declared.lock.LockRow.TheVariants.{Load, Take, SetWaiters, Sleep, WakeAll}
 use Rattle.mutex.specs.declared.row.Row.{Row}

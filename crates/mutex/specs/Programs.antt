@@ -1,13 +1,13 @@
 -- At the cell: the access of each row, where each answer leads, and the point.
 use Rattle.std.specs.Prelude.{ℕ, Option, Some, None}
 use Rattle.lockword.specs.declared.reply.Reply.{Reply}
-use Rattle.keys.specs.declared.access.Access.{Access}
-use Rattle.keys.specs.declared.access.Access.TheVariants as access
-use Rattle.keys.specs.declared.access.Answer.{Answer}
-use Rattle.keys.specs.declared.point.Operation.{Operation}
-use Rattle.keys.specs.declared.point.Operation.TheVariants as operation
-use Rattle.keys.specs.declared.point.Point.{Point}
-use Rattle.keys.specs.declared.point.Progress.{Progress}
+use Rattle.stepprograms.specs.declared.access.Access.{Access}
+use Rattle.stepprograms.specs.declared.access.Access.TheVariants as access
+use Rattle.stepprograms.specs.declared.access.Answer.{Answer}
+use Rattle.posixmutex.specs.declared.point.Operation.{Operation}
+use Rattle.posixmutex.specs.declared.point.Operation.TheVariants as operation
+use Rattle.posixmutex.specs.declared.point.Point.{Point}
+use Rattle.stepprograms.specs.declared.program.Progress.{Progress}
 use Rattle.mutex.specs.declared.call.Call.{Call}
 use Rattle.mutex.specs.declared.call.Call.TheVariants as call
 use Rattle.mutex.specs.declared.lock.LockRow.TheVariants as lock

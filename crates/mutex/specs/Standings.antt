@@ -1,6 +1,6 @@
 -- Calls in progress, as contracts see them.
 use Rattle.std.specs.Prelude.{ℕ}
-use Rattle.keys.specs.declared.point.Operation.{Operation}
+use Rattle.posixmutex.specs.declared.point.Operation.{Operation}
 use Rattle.mutex.specs.declared.row.Row.{Row}
 use Rattle.mutex.specs.declared.phase.Phase.{Phase}
 

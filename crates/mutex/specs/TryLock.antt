@@ -8,10 +8,10 @@
 use Rattle.std.specs.Prelude.{ℕ, ◌+◌, ◌==◌, not, if◌then◌else◌}
 use Rattle.lockword.specs.Cells.{Fields, word_of, fields_of, taken}
 use Rattle.lockword.specs.declared.reply.Reply.TheVariants.{EBUSY, ENOTRECOVERABLE, XRACED}
-use Rattle.keys.specs.declared.access.Access.{Access}
-use Rattle.keys.specs.declared.access.Access.TheVariants as access
-use Rattle.keys.specs.declared.access.Answer.{Answer}
-use Rattle.keys.specs.declared.access.Answer.TheVariants.{Value, Exchanged, Changed}
+use Rattle.stepprograms.specs.declared.access.Access.{Access}
+use Rattle.stepprograms.specs.declared.access.Access.TheVariants as access
+use Rattle.stepprograms.specs.declared.access.Answer.{Answer}
+use Rattle.stepprograms.specs.declared.access.Answer.TheVariants.{Value, Exchanged, Changed}
 use Rattle.mutex.specs.declared.try_lock.TryLockRow.{TryLockRow}
 use Rattle.mutex.specs.declared.try_lock.TryLockRow.TheVariants.{Load, Take}
 use Rattle.mutex.specs.declared.row.Row.TheVariants.{TryLock}

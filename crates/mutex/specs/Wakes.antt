@@ -3,12 +3,12 @@ use Rattle.std.specs.Prelude.{ℕ, ◌≡◌, ◌↔◌, ◌≤◌, Bool, true, 
 use Rattle.lockword.specs.Cells.{fields_of}
 use Rattle.lockword.specs.declared.reply.Reply.{Reply}
 use Rattle.lockword.specs.declared.reply.Reply.TheVariants.{OK, ENOTRECOVERABLE}
-use Rattle.keys.specs.declared.access.Access.TheVariants as access
-use Rattle.keys.specs.declared.object.Object.{Object}
-use Rattle.keys.specs.declared.point.Operation.{Operation}
-use Rattle.keys.specs.declared.point.Operation.TheVariants.{Lock, Unlock}
-use Rattle.keys.specs.Accesses.{word_among, answer_among}
-use Rattle.keys.specs.Objects.{object_of}
+use Rattle.stepprograms.specs.declared.access.Access.TheVariants as access
+use Rattle.posixmutex.specs.declared.object.Object.{Object}
+use Rattle.posixmutex.specs.declared.point.Operation.{Operation}
+use Rattle.posixmutex.specs.declared.point.Operation.TheVariants.{Lock, Unlock}
+use Rattle.stepprograms.specs.Accesses.{word_among, answer_among}
+use Rattle.posixmutex.specs.Objects.{object_of}
 use Rattle.mutex.specs.declared.row.Row.{Row}
 use Rattle.mutex.specs.Rows.{Knows, IsGoing}
 use Rattle.mutex.specs.Programs.{row_access, resume_of, row_operation}

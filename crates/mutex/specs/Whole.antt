@@ -12,18 +12,18 @@
 use Rattle.std.specs.Prelude.{ℕ, ◌&&◌, Bool, nat_le, Option, Some, None, Result, Ok, Err, if◌then◌else◌}
 use Rattle.lockword.specs.declared.reply.Reply.{Reply}
 use Rattle.lockword.specs.declared.reply.Reply.TheVariants.{OK, EFAULT, EOWNERDEAD, XHELD}
-use Rattle.keys.specs.declared.access.Access.{Access}
-use Rattle.keys.specs.declared.access.Access.TheVariants as access
-use Rattle.keys.specs.declared.access.Answer.{Answer}
-use Rattle.keys.specs.declared.access.Answer.TheVariants.{Stored}
-use Rattle.keys.specs.declared.point.Operation.{Operation}
-use Rattle.keys.specs.declared.point.Operation.TheVariants as operation
-use Rattle.keys.specs.declared.point.Point.{Point}
-use Rattle.keys.specs.declared.point.Progress.{Progress}
-use Rattle.keys.specs.declared.point.Progress.TheVariants.{Goes, Returns}
-use Rattle.keys.specs.Chains.{address_sum}
-use Rattle.keys.specs.Layouts.{Layout', head_place, entry_place, cell_place, address_in}
-use Rattle.keys.specs.Objects.{held_limit, acquires}
+use Rattle.stepprograms.specs.declared.access.Access.{Access}
+use Rattle.stepprograms.specs.declared.access.Access.TheVariants as access
+use Rattle.stepprograms.specs.declared.access.Answer.{Answer}
+use Rattle.stepprograms.specs.declared.access.Answer.TheVariants.{Stored}
+use Rattle.posixmutex.specs.declared.point.Operation.{Operation}
+use Rattle.posixmutex.specs.declared.point.Operation.TheVariants as operation
+use Rattle.posixmutex.specs.declared.point.Point.{Point}
+use Rattle.stepprograms.specs.declared.program.Progress.{Progress}
+use Rattle.stepprograms.specs.declared.program.Progress.TheVariants.{Goes, Returns}
+use Rattle.memorymap.specs.Chains.{address_sum}
+use Rattle.memorymap.specs.Layouts.{Layout', head_place, entry_place, cell_place, address_in}
+use Rattle.posixmutex.specs.Objects.{held_limit, acquires}
 use Rattle.robustlist.specs.declared.link.LinkRow.{LinkRow}
 use Rattle.robustlist.specs.declared.link.LinkRow.TheVariants as link
 use Rattle.robustlist.specs.declared.unlink.UnlinkRow.{UnlinkRow}

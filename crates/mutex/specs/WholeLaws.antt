@@ -3,13 +3,13 @@ use Rattle.std.specs.Prelude.{ℕ, ◌≡◌, ◌≢◌, ◌≤◌, ◌↔◌, �
 use Rattle.lockword.specs.Cells.{Fields, fields_of}
 use Rattle.lockword.specs.declared.reply.Reply.{Reply}
 use Rattle.lockword.specs.declared.reply.Reply.TheVariants.{OK, XRACED}
-use Rattle.keys.specs.declared.access.Access.TheVariants as access
-use Rattle.keys.specs.declared.access.Answer.{Answer}
-use Rattle.keys.specs.declared.access.Answer.TheVariants.{Count}
-use Rattle.keys.specs.declared.point.Operation.TheVariants as operation
-use Rattle.keys.specs.Accesses.{word_among, answer_among}
-use Rattle.keys.specs.Layouts.{Layout'}
-use Rattle.keys.specs.Objects.{object_of}
+use Rattle.stepprograms.specs.declared.access.Access.TheVariants as access
+use Rattle.stepprograms.specs.declared.access.Answer.{Answer}
+use Rattle.stepprograms.specs.declared.access.Answer.TheVariants.{Count}
+use Rattle.posixmutex.specs.declared.point.Operation.TheVariants as operation
+use Rattle.stepprograms.specs.Accesses.{word_among, answer_among}
+use Rattle.memorymap.specs.Layouts.{Layout'}
+use Rattle.posixmutex.specs.Objects.{object_of}
 use Rattle.mutex.specs.declared.call.Call.{Call}
 use Rattle.mutex.specs.declared.row.Row.{Row}
 use Rattle.mutex.specs.declared.row.Row.TheVariants as row

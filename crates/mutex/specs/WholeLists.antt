@@ -4,12 +4,12 @@
 use Rattle.std.specs.Prelude.{ℕ, ◌≡◌, ◌≢◌, ◌<◌, ◌≤◌, ◌+◌, ◌⊎◌, Bool, true, false, Option, Some, None, List}
 use Rattle.lockword.specs.declared.reply.Reply.{Reply}
 use Rattle.lockword.specs.declared.reply.Reply.TheVariants.{OK, EOWNERDEAD, EFAULT}
-use Rattle.keys.specs.declared.access.Answer.{Answer}
-use Rattle.keys.specs.Accesses.{address_of}
-use Rattle.keys.specs.Chains.{IsAmong, IsChain, IsChainBothWays}
-use Rattle.keys.specs.Layouts.{Layout', IsLayout, head_place, entry_place, cell_place, address_in, place_in}
-use Rattle.keys.specs.declared.point.Operation.{Operation}
-use Rattle.keys.specs.declared.point.Operation.TheVariants as operation
+use Rattle.stepprograms.specs.declared.access.Answer.{Answer}
+use Rattle.stepprograms.specs.Accesses.{address_of}
+use Rattle.memorymap.specs.Chains.{IsAmong, IsChain, IsChainBothWays}
+use Rattle.memorymap.specs.Layouts.{Layout', IsLayout, head_place, entry_place, cell_place, address_in, place_in}
+use Rattle.posixmutex.specs.declared.point.Operation.{Operation}
+use Rattle.posixmutex.specs.declared.point.Operation.TheVariants as operation
 use Rattle.robustlist.specs.LinkLaws.{Linking as IsLinking}
 use Rattle.robustlist.specs.UnlinkLaws.{Unlinking as IsUnlinking}
 use Rattle.robustlist.specs.Words.{answer_on, after}

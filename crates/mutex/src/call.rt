@@ -2,7 +2,7 @@
 ghost use Rattle.std.specs.Prelude.{◌≡◌};
 ghost use Rattle.mutex.specs.Calls.{mutex_of, operation_of};
 
-use keys::Operation;
+use posixmutex::Operation;
 
 /// A call on a mutex, which its number names.
 #[derive(Clone, Copy, Debug, PartialEq, Eq)]

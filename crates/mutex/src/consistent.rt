@@ -4,8 +4,8 @@ ghost use Rattle.mutex.specs.Rows.{Knows};
 ghost use Rattle.mutex.specs.Consistent.{consistent_access, consistent_resume, consistent_sees};
 
 use crate::row::{Led, Row};
-use keys::{Access, Answer};
 use lockword::{Cell, OWNER_DIED, Reply, Tid};
+use stepprograms::{Access, Answer};
 
 /// Where a declaration stands that a mutex is consistent.
 #[derive(Clone, Copy, Debug, PartialEq, Eq)]

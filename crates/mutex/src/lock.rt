@@ -5,8 +5,8 @@ ghost use Rattle.mutex.specs.Lock.{lock_access, lock_resume, lock_sees, after_lo
 ghost use Rattle.mutex.specs.declared.row.Row.TheVariants.{Lock};
 
 use crate::row::{Led, Row, acquired};
-use keys::{ALL, Access, Answer};
 use lockword::{Cell, Reply, Tid};
+use stepprograms::{ALL, Access, Answer};
 
 /// Where a lock stands.
 #[derive(Clone, Copy, Debug, PartialEq, Eq)]

@@ -1,6 +1,6 @@
 //! Calls in progress.
 ghost use Rattle.std.specs.Prelude.{◌≡◌, ◌<◌, ◌≤◌, ◌&&◌, nat_le};
-ghost use Rattle.keys.specs.Objects.{held_limit, acquires};
+ghost use Rattle.posixmutex.specs.Objects.{held_limit, acquires};
 ghost use Rattle.mutex.specs.Calls.{mutex_of, operation_of};
 ghost use Rattle.mutex.specs.Whole.{first_phase, progress_in, onward, once_stored, linked, unlinked, PhaseKnows};
 ghost use Rattle.robustlist.specs.Link.{link_moved, LinkGoes};
@@ -11,10 +11,12 @@ use crate::lock::LockRow;
 use crate::phase::{Onward, Phase};
 use crate::row::{Led, Row};
 use crate::unlock::UnlockRow;
-use keys::{Access, Answer, HELD_LIMIT, Layout, Operation, Point, Progress, StepProgram};
 use lockword::{Reply, Tid};
+use memorymap::Layout;
+use posixmutex::{HELD_LIMIT, Operation, Point};
 use robustlist::{Link, Unlink};
 use std::marker::Model;
+use stepprograms::{Access, Answer, Progress, StepProgram};
 
 /// A call of a thread on a mutex.
 #[derive(Clone, Copy, Debug, PartialEq, Eq)]

@@ -7,8 +7,8 @@ use crate::consistent::{self, ConsistentRow};
 use crate::lock::{self, LockRow};
 use crate::try_lock::{self, TryLockRow};
 use crate::unlock::{self, UnlockRow};
-use keys::{Access, Answer};
 use lockword::{Cell, Reply, Tid};
+use stepprograms::{Access, Answer};
 
 /// The access that a call makes next of those at its mutex's cell, and what the call knows.
 #[derive(Clone, Copy, Debug, PartialEq, Eq)]

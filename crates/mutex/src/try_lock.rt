@@ -5,8 +5,8 @@ ghost use Rattle.mutex.specs.TryLock.{try_access, try_resume, try_sees};
 ghost use Rattle.mutex.specs.declared.row.Row.TheVariants.{TryLock};
 
 use crate::row::{Led, Row, acquired};
-use keys::{Access, Answer};
 use lockword::{Cell, Reply, Tid};
+use stepprograms::{Access, Answer};
 
 /// How many exchanges of one call may meet a changed cell.
 const TRIES: u64 = 4;

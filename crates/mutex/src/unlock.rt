@@ -4,8 +4,8 @@ ghost use Rattle.mutex.specs.Rows.{Knows};
 ghost use Rattle.mutex.specs.Unlock.{unlock_access, unlock_resume, unlock_sees, after_release, after_wake, released_bits};
 
 use crate::row::{Led, Row};
-use keys::{ALL, Access, Answer};
 use lockword::{Cell, OWNER_DIED, Reply, Tid, UNUSABLE};
+use stepprograms::{ALL, Access, Answer};
 
 /// Where an unlock stands.
 #[derive(Clone, Copy, Debug, PartialEq, Eq)]

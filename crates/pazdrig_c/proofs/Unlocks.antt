@@ -3,12 +3,12 @@ use Rattle.std.proofs.Common.{◌≡◌, ℕ, ◌==◌, Bool, true, false, not, 
 use Rattle.std.specs.Prelude.{◌&&◌, if◌then◌else◌}
 use Rattle.lockword.specs.Cells.{Fields, fields_of}
 use Rattle.lockword.specs.declared.reply.Reply.TheVariants.{OK, EPERM}
-use Rattle.keys.specs.declared.access.Access.{Access}
-use Rattle.keys.specs.declared.access.Access.TheVariants as access
-use Rattle.keys.specs.declared.access.Answer.{Answer}
-use Rattle.keys.specs.declared.access.Answer.TheVariants.{Value, Stored}
-use Rattle.keys.specs.declared.point.Operation.TheVariants as operation
-use Rattle.keys.specs.Chains.{previous_place}
+use Rattle.stepprograms.specs.declared.access.Access.{Access}
+use Rattle.stepprograms.specs.declared.access.Access.TheVariants as access
+use Rattle.stepprograms.specs.declared.access.Answer.{Answer}
+use Rattle.stepprograms.specs.declared.access.Answer.TheVariants.{Value, Stored}
+use Rattle.posixmutex.specs.declared.point.Operation.TheVariants as operation
+use Rattle.memorymap.specs.Chains.{previous_place}
 use Rattle.robustlist.specs.declared.unlink.UnlinkRow.{UnlinkRow}
 use Rattle.robustlist.specs.declared.unlink.UnlinkRow.TheVariants as out
 use Rattle.mutex.specs.declared.row.Row.TheVariants as row

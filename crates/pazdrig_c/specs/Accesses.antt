@@ -27,13 +27,13 @@
 -- | else   | Fault                   |
 use Rattle.std.specs.Prelude.{ℕ, ◌/◌, ◌%◌, ◌^◌, ◌==◌, nat_lt, not, Option, Some, None, if◌then◌else◌}
 use Rattle.lockword.specs.Replies.{number_of}
-use Rattle.keys.specs.declared.access.Access.{Access}
-use Rattle.keys.specs.declared.access.Access.TheVariants.{Load, Store, Exchange, FetchXor, FetchOr, FetchAnd, FetchAdd, Wait, Wake, CmpRequeue, Trim, Requeue}
-use Rattle.keys.specs.declared.access.Answer.{Answer}
-use Rattle.keys.specs.declared.access.Answer.TheVariants.{Value, Stored, Exchanged, Changed, Again, Woken, Count, Counts, Trimmed, Fault}
-use Rattle.keys.specs.declared.point.Operation.{Operation}
-use Rattle.keys.specs.declared.point.Operation.TheVariants as operation
-use Rattle.keys.specs.declared.point.Point.{Point}
+use Rattle.stepprograms.specs.declared.access.Access.{Access}
+use Rattle.stepprograms.specs.declared.access.Access.TheVariants.{Load, Store, Exchange, FetchXor, FetchOr, FetchAnd, FetchAdd, Wait, Wake, CmpRequeue, Trim, Requeue}
+use Rattle.stepprograms.specs.declared.access.Answer.{Answer}
+use Rattle.stepprograms.specs.declared.access.Answer.TheVariants.{Value, Stored, Exchanged, Changed, Again, Woken, Count, Counts, Trimmed, Fault}
+use Rattle.posixmutex.specs.declared.point.Operation.{Operation}
+use Rattle.posixmutex.specs.declared.point.Operation.TheVariants as operation
+use Rattle.posixmutex.specs.declared.point.Point.{Point}
 use Rattle.pazdrig_c.specs.declared.structs.PzAccess.{PzAccess}
 
 abbrev pub operation_number : Operation → ℕ

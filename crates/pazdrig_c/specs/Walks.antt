@@ -1,9 +1,9 @@
 -- The walk over a dead thread's list as C keeps it.
 use Rattle.std.specs.Prelude.{ℕ, ◌≡◌, ◌==◌, Bool, false, not, if◌then◌else◌}
 use Rattle.lockword.specs.Cells.{fields_of}
-use Rattle.keys.specs.declared.access.Answer.{Answer}
-use Rattle.keys.specs.declared.point.Progress.{Progress}
-use Rattle.keys.specs.declared.point.Progress.TheVariants.{Goes, Returns}
+use Rattle.stepprograms.specs.declared.access.Answer.{Answer}
+use Rattle.stepprograms.specs.declared.program.Progress.{Progress}
+use Rattle.stepprograms.specs.declared.program.Progress.TheVariants.{Goes, Returns}
 use Rattle.exitwalk.specs.declared.row.Row.{Row}
 use Rattle.exitwalk.specs.declared.row.Row.TheVariants.{Mark}
 use Rattle.exitwalk.specs.Standings.{Standing}

@@ -3,7 +3,8 @@ ghost use Rattle.std.specs.Prelude.{◌≡◌};
 ghost use Rattle.pazdrig_c.specs.Accesses.{plain, no_access, access_code, with_point, answer_of, operation_number};
 
 use crate::structs::PzAccess;
-use keys::{Access, Answer, Operation, Point};
+use posixmutex::{Operation, Point};
+use stepprograms::{Access, Answer};
 
 /// The point of an access that has none.
 const NO_POINT: u16 = 0xffff;

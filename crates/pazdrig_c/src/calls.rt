@@ -12,9 +12,9 @@ use crate::access::{answer, coded};
 use crate::running::{GOES, INVALID, ON_CONDITION, go_on, read};
 use crate::structs::{PzAccess, PzCall};
 use condvar::{CodedCondPhase, CondCall, CondProgram};
-use keys::StepProgram;
 use lockword::Tid;
 use mutex::{Call, CodedPhase, Program};
+use stepprograms::StepProgram;
 
 /// Begins the call with an operation (0 lock, 1 trylock, 2 unlock, 3 consistent, 4 wait, 5 signal, 6 broadcast) of the thread that `call` names, at the addresses that it has, and tells the call's
 /// first access. 0; or 2, and nothing is written, where there is no such operation or thread.

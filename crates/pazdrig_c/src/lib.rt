@@ -7,7 +7,8 @@
 //!
 //! A plan ([`pz_plan_lock`], [`pz_plan_unlock`]) is a whole call in one go, where nobody is in the way: the laws [`locks_by_plan`] and [`unlocks_by_plan`] say that it makes the accesses of the step program.
 //!
-//! Stands on `mutex`, `condvar` and `exitwalk`, whose programs these are, on `keys` for accesses and on `lockword` for replies.
+//! Stands on `mutex`, `condvar` and `exitwalk`, whose programs these are, on `stepprograms` for accesses, on
+//! `memorymap` and `posixmutex` for addresses and points, and on `lockword` for replies.
 //!
 //! ```text
 //! struct pz_call call = {.head = head, .entry = entry, .cell = cell, .thread = 3};

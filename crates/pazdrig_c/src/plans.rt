@@ -1,7 +1,7 @@
 //! The lock of a free mutex and the unlock of a consistent one, whole: which stores come before the access at the cell, and which behind it.
 ghost use Rattle.std.specs.Prelude.{ℕ, ◌≡◌, ◌==◌, ◌&&◌};
 ghost use Rattle.std.specs.Bool.{OnTrue, OnFalse};
-ghost use Rattle.keys.specs.declared.access.Access.TheVariants as access;
+ghost use Rattle.stepprograms.specs.declared.access.Access.TheVariants as access;
 ghost use Rattle.lockword.specs.Cells.{fields_of};
 ghost use Rattle.lockword.specs.Replies.{number_of};
 ghost use Rattle.mutex.specs.Rows.{acquired};

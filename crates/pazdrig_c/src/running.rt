@@ -1,6 +1,6 @@
 //! Calls in progress: reading one from its numbers, and going on with it.
 ghost use Rattle.std.specs.Prelude.{◌≡◌, IfSome, Some};
-ghost use Rattle.keys.specs.declared.point.Operation.{Operation};
+ghost use Rattle.posixmutex.specs.declared.point.Operation.{Operation};
 ghost use Rattle.pazdrig_c.specs.Accesses.{operation_number};
 ghost use Rattle.pazdrig_c.specs.Running.{IsRunning, IsOnMutex, GoesOn, call_code};
 ghost use Rattle.pazdrig_c.specs.declared.running.Running.{Running};
@@ -9,9 +9,10 @@ ghost use Rattle.pazdrig_c.specs.declared.running.Running.TheVariants.{OnMutex, 
 use crate::access::{coded, no_access, with_point};
 use crate::structs::{PzAccess, PzCall};
 use condvar::{CodedCondPhase, CondProgram};
-use keys::{Answer, Operation, Progress, StepProgram};
 use lockword::Tid;
 use mutex::{CodedPhase, Program};
+use posixmutex::Operation;
+use stepprograms::{Answer, Progress, StepProgram};
 
 /// What is answered of a call that goes on, of one that has returned, and of numbers that no call has.
 pub(crate) const GOES: u32 = 0;

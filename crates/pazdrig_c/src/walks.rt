@@ -10,8 +10,8 @@ use crate::access::{answer, coded, no_access, with_point};
 use crate::running::{GOES, INVALID, RETURNED};
 use crate::structs::{PzAccess, PzWalk};
 use exitwalk::{CodedRow, Row, Walk};
-use keys::{Answer, Progress, StepProgram};
 use lockword::{Cell, Tid};
+use stepprograms::{Answer, Progress, StepProgram};
 
 /// Begins the walk over the list of the thread that `walk` names, whose head is at its address, and tells the walk's first access. 0; or 2, and nothing is written, where there is no such thread.
 #[unsafe(no_mangle)]

@@ -5,8 +5,8 @@ use Rattle.std.specs.List.{concat, repeat}
 use Rattle.std.proofs.lemmas.Bool.{cases_lt}
 use Rattle.std.proofs.lemmas.Bool.Decides.{nat_tests}
 use Rattle.std.proofs.Math.Nat.{add-mul, add_assoc, mod-add-div, suc-mul}
-use Rattle.keys.specs.declared.object.Object.{Object}
-use Rattle.keys.specs.Objects.{fresh}
+use Rattle.posixmutex.specs.declared.object.Object.{Object}
+use Rattle.posixmutex.specs.Objects.{fresh}
 use Rattle.facts.specs.declared.fact.Fact.{Fact}
 use Rattle.facts.specs.declared.fact.Fact.TheVariants.{Begin, Point, Death, Sleep, Wake, Move, Return, Kill, Reap, Renew}
 use Rattle.facts.specs.declared.fact.Line.{Line}

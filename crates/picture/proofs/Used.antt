@@ -4,7 +4,7 @@ use Rattle.std.specs.Prelude.{nat_le, slice_index_or, if◌then◌else◌}
 use Rattle.std.proofs.lemmas.Bool.{cases_lt}
 use Rattle.std.proofs.lemmas.Bool.Decides.{nat_tests}
 use Rattle.std.proofs.lemmas.List.{get_or-set_other, get_or-set_same, length-set}
-use Rattle.keys.specs.declared.point.Decision.{Decision}
+use Rattle.posixmutex.specs.declared.point.Decision.{Decision}
 use Rattle.facts.specs.declared.fact.Line.{Line}
 use Rattle.facts.specs.Facts.{decision_of}
 use Rattle.picture.specs.declared.bands.Bands.{Bands}

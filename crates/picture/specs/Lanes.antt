@@ -1,6 +1,6 @@
 -- What a lane shows between the lines of its thread.
 use Rattle.std.specs.Prelude.{ℕ, List, codes, Option, Some, None}
-use Rattle.keys.specs.declared.point.Operation.{Operation}
+use Rattle.posixmutex.specs.declared.point.Operation.{Operation}
 use Rattle.facts.specs.declared.fact.Fact.{Fact}
 use Rattle.facts.specs.declared.fact.Fact.TheVariants.{Begin, Kill, Sleep, Wake, Return, Reap, Renew}
 use Rattle.picture.specs.declared.lane.Lane.{Lane}

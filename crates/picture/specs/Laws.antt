@@ -1,7 +1,7 @@
 -- What holds of every picture.
 use Rattle.std.specs.Prelude.{All, Any, IsSomeAnd, Some, None, ℕ, ◌≡◌, ◌≢◌, ◌≤◌, ◌<◌, ◌+◌, ◌-◌, ◌*◌, ◌/◌, ◌^◌, ◌==◌, nat_lt, Bool, true, false, List, [], ◌∷◌, ◌++◌, length, codes, decimal, slice_index_or, IfSome, if◌then◌else◌}
 use Rattle.std.specs.List.{concat}
-use Rattle.keys.specs.Objects.{fresh}
+use Rattle.posixmutex.specs.Objects.{fresh}
 use Rattle.facts.specs.declared.fact.Line.{Line}
 use Rattle.facts.specs.Facts.{decision_of, thread_of}
 use Rattle.picture.specs.declared.rows.Part.TheVariants as part

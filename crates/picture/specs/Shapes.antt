@@ -1,7 +1,7 @@
 -- The shapes of an SVG picture.
 use Rattle.std.specs.Prelude.{ℕ, ◌+◌, ◌-◌, nat_lt, Bool, Option, Some, None, List, [], ◌∷◌, ◌++◌, codes, decimal, if◌then◌else◌}
 use Rattle.std.specs.List.{concat}
-use Rattle.keys.specs.declared.object.Object.{Object}
+use Rattle.posixmutex.specs.declared.object.Object.{Object}
 use Rattle.facts.specs.declared.fact.Fact.{Fact}
 use Rattle.facts.specs.declared.fact.Fact.TheVariants as fact
 use Rattle.picture.specs.declared.lane.Lane.{Lane}

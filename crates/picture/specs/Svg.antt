@@ -1,9 +1,9 @@
 -- An SVG picture: time runs downwards. Below stands what lanes and bands show from line to line, over it the marks of all lines.
 use Rattle.std.specs.Prelude.{ℕ, ◌+◌, Bool, true, false, Option, Some, None, List, [], ◌∷◌, ◌++◌, length, codes, decimal, replicate, slice_index_or, slice_set, if◌then◌else◌}
 use Rattle.std.specs.List.{concat}
-use Rattle.keys.specs.declared.object.Object.{Object}
-use Rattle.keys.specs.declared.point.Decision.{Decision}
-use Rattle.keys.specs.Objects.{fresh}
+use Rattle.posixmutex.specs.declared.object.Object.{Object}
+use Rattle.posixmutex.specs.declared.point.Decision.{Decision}
+use Rattle.posixmutex.specs.Objects.{fresh}
 use Rattle.facts.specs.declared.fact.Fact.{Fact}
 use Rattle.facts.specs.declared.fact.Fact.TheVariants.{Point, Death, Move}
 use Rattle.facts.specs.declared.fact.Line.{Line}

@@ -6,7 +6,7 @@ ghost use Rattle.picture.specs.Drawn.{extent_in};
 
 use crate::names::Names;
 use facts::Line;
-use keys::Decision;
+use posixmutex::Decision;
 
 /// How many mutexes have a band at most.
 pub const BANDS: usize = 16;

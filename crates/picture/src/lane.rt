@@ -4,7 +4,7 @@ ghost use Rattle.std.specs.Prelude.{◌≡◌};
 ghost use Rattle.picture.specs.Lanes.{after, called, slept, stays, woken};
 
 use facts::Fact;
-use keys::Operation;
+use posixmutex::Operation;
 
 /// What a thread does.
 #[derive(Clone, Copy, Debug, PartialEq, Eq)]

@@ -7,7 +7,7 @@
 //! words of a line have room (`texts_have_room`). At an error, a failed write or want of memory, a beginning of the picture is
 //! written ([`Unwritten`]).
 //!
-//! Stands on `facts`, for the lines, on `keys`, for mutexes as objects and operations, on `lockword`, for thread ids and
+//! Stands on `facts`, for the lines, on `posixmutex`, for mutexes as objects and operations, on `lockword`, for thread ids and
 //! replies, on `streams`, for writing, on `itoa`, for numbers, and on `thiserror`, for messages.
 //!
 //! ```text

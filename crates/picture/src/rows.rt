@@ -12,8 +12,8 @@ use crate::scene::Scene;
 use crate::words::words;
 use facts::{Fact, Line};
 use itoa::Buffer;
-use keys::Object;
 use lockword::Tid;
+use posixmutex::Object;
 use std::alloc::AllocError;
 
 /// What a line's row tells of it, but for its event.

@@ -2,14 +2,14 @@
 
 ghost use Rattle.std.specs.Prelude.{◌≡◌, ◌≤◌};
 ghost use Rattle.facts.specs.Facts.{decision_of};
-ghost use Rattle.keys.specs.Objects.{stepped};
+ghost use Rattle.posixmutex.specs.Objects.{stepped};
 ghost use Rattle.picture.specs.Scenes.{actor_of, behind, first_scene, lanes_behind, objects_behind};
 
 use crate::bands::Bands;
 use crate::lane::Lane;
 use facts::{Fact, Line};
-use keys::{Decision, Object, Operation};
 use lockword::{Reply, Tid};
+use posixmutex::{Decision, Object, Operation};
 
 /// What all lanes and bands show behind a line.
 #[derive(Clone, Copy)]

@@ -10,8 +10,8 @@ use crate::pieces::add;
 use crate::places::{NUMBER_X, band_middle, band_wide, band_x, row_y, words_x};
 use facts::Fact;
 use itoa::Buffer;
-use keys::Object;
 use lockword::Tid;
+use posixmutex::Object;
 use std::alloc::AllocError;
 
 /// A rectangle of a class, from one row to another one.

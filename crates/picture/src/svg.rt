@@ -15,7 +15,7 @@ use crate::style::style;
 use crate::words::words;
 use facts::{Fact, Line};
 use itoa::Buffer;
-use keys::Decision;
+use posixmutex::Decision;
 use std::alloc::AllocError;
 
 /// Where the names of bands and lanes stand.

@@ -7,7 +7,7 @@ use crate::lane::Lane;
 use crate::names::Names;
 use facts::{Begun, Fact, Queue};
 use itoa::Buffer;
-use keys::{Decision, Operation};
+use posixmutex::{Decision, Operation};
 
 /// The pieces of a line's words.
 pub type Words<'a> = [&'a str; 7];

@@ -4,7 +4,7 @@ use crate::faulty::{
     Fixed, Late, LateWriter, Narrow, Stuck, is_printed_or_wants_memory, slow_reader,
 };
 use crate::served::{Answered, served};
-use keys::NoMem;
+use memorymap::NoMem;
 use report::{CANNOT_READ, CANNOT_WRITE, Form, OUT_OF_MEMORY, USAGE, form_of_words, serve};
 use std::alloc::{AllocError, Global};
 use std::sync::Wait;

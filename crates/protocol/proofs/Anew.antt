@@ -2,7 +2,7 @@
 use Rattle.std.proofs.Common.{◌≡◌, ◌≢◌, ◌⊎◌, ℕ, ◌+◌, ◌<◌, ◌≤◌, ◌==◌, ◌&&◌, Bool, true, false, Option, None, Some, Ok, Err, List, [], ◌∷◌, ◌++◌, map, append-nil, refl, sym, ap, ◌∙◌, subst, arith}
 use Rattle.protocol.proofs.Vocabulary.{Object, Fact, Event, Reply, Queue, XHELD, Decision, Layout', head_place, Op, Note, Nothing, Began, Stepped, Killed, Left, Walked, Renewed, Reinited, Stage, Reaped, facts_of, State, After, start, begun}
 use Rattle.protocol.proofs.Vocabulary.{first_word, happens, nothing, renewed, run, notes, killed, facts_among, if◌then◌else◌, nat_tests, line_of, lines_from}
-use Rattle.keys.specs.Layouts.{head_word}
+use Rattle.memorymap.specs.Layouts.{head_word}
 use Rattle.facts.specs.declared.fact.Fact.TheVariants.{Renew}
 use Rattle.facts.specs.declared.fact.Line.{Line}
 use Rattle.facts.specs.Facts.{thread_of}

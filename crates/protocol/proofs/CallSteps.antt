@@ -3,7 +3,7 @@ use Rattle.std.proofs.Common.{◌≡◌, ◌≢◌, ⊎_elim, ◌⊎◌, inl, in
 use Rattle.protocol.proofs.Vocabulary.{Access, Object, acquires, object_of, owner_of, word_among, sleeps_at, put, queue_after, Layout', head_place, cell_place, counter_place, Fields, fields_of, Reply, if◌then◌else◌}
 use Rattle.protocol.proofs.Vocabulary.{Phase, AtCell, is_wake, Whole, whole_access, Op, mutex_of, OnMutex, OnCondition, Calling, State, is_valid, place_met, stage_after, seen}
 use Rattle.protocol.proofs.Vocabulary.{IsUnowned, LockRow, owner_of-none}
-use Rattle.keys.specs.Chains.{IsAmong}
+use Rattle.memorymap.specs.Chains.{IsAmong}
 use Rattle.mutex.specs.declared.row.Row.TheVariants.{Lock}
 use Rattle.protocol.specs.Machine.{places_of}
 use Rattle.protocol.proofs.Puts.{by_put, put-same}

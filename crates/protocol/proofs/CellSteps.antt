@@ -7,11 +7,11 @@ use Rattle.protocol.proofs.Vocabulary.{place_met, answer_among, stage_after, hel
 use Rattle.protocol.proofs.Vocabulary.{ConsistentRow, Alone, taken, waiting}
 use Rattle.lockword.specs.Cells.{low_of, waiters_alone}
 use Rattle.lockword.specs.declared.reply.Reply.TheVariants.{EFAULT}
-use Rattle.keys.specs.Accesses.{is_trimmed}
-use Rattle.keys.specs.declared.access.Answer.TheVariants.{Again, Woken}
-use Rattle.keys.proofs.Trims.{trims_free}
-use Rattle.keys.specs.declared.access.Access.TheVariants.{Wake}
-use Rattle.keys.specs.Chains.{IsAmong}
+use Rattle.stepprograms.specs.Accesses.{is_trimmed}
+use Rattle.stepprograms.specs.declared.access.Answer.TheVariants.{Again, Woken}
+use Rattle.stepprograms.proofs.Trims.{trims_free}
+use Rattle.stepprograms.specs.declared.access.Access.TheVariants.{Wake}
+use Rattle.memorymap.specs.Chains.{IsAmong}
 use Rattle.robustlist.specs.LinkLaws as link_laws
 use Rattle.robustlist.proofs.Links as links
 use Rattle.mutex.specs.declared.row.Row.{Row}

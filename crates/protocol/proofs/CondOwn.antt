@@ -3,7 +3,7 @@ use Rattle.std.proofs.Common.{◌≡◌, inl, inr, ℕ, ◌+◌, ◌<◌, ◌≤
 use Rattle.protocol.proofs.Vocabulary.{CondCall, CondPhase, CondOnward, CondWhole, Object, IsChainBothWays, address_sum, head_place, Thread, answer_on, place_in, place_met}
 use Rattle.protocol.proofs.Vocabulary.{cell_place, owner_of, owner_of-some, fields_of, Stage, AtCondition, State, stage_at, seen}
 use Rattle.protocol.proofs.Vocabulary.{UnlinkRow, UnlinkStanding, unlink_access, unlink_resume, UnlinkGoes, WaitRow, CondRow}
-use Rattle.keys.specs.Chains.{IsAmong, without}
+use Rattle.memorymap.specs.Chains.{IsAmong, without}
 use Rattle.robustlist.specs.UnlinkLaws as unlink_laws
 use Rattle.robustlist.proofs.Unlinks as unlinks
 use Rattle.condvar.specs.Whole.{phase_led, unlinked_at}

@@ -5,7 +5,7 @@ use Rattle.protocol.proofs.Vocabulary.{Fact, CondCall, CondRow, Broadcast, CondP
 use Rattle.protocol.proofs.Vocabulary.{Return, Begun, Condition, Decision, answer_at, Layout', counter_place, Reply, OK, Whole, Op, OnCondition, Stepped, Walked, Stage}
 use Rattle.protocol.proofs.Vocabulary.{Calling, AtCondition, Event, Step, facts_of, return_facts, begun_of, State, After, put, start, stands_in, returned_at, led_at, place_in}
 use Rattle.protocol.proofs.Vocabulary.{Signal, SignalRow, Again, Note, moves_to, decision, notes}
-use Rattle.keys.specs.declared.access.Answer.TheVariants.{Counts}
+use Rattle.stepprograms.specs.declared.access.Answer.TheVariants.{Counts}
 use Rattle.protocol.specs.PassedBy.{call_told}
 use Rattle.protocol.proofs.Vocabulary.{stepped, happens, run, if◌then◌else◌, not, Operation, BroadcastRow, NobodyIsPassedBy}
 use Rattle.buckets.specs.Queues.{without}

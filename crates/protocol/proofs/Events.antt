@@ -10,7 +10,7 @@ use Rattle.exitwalk.specs.Standings as walks
 use Rattle.protocol.specs.declared.event.Event.TheVariants.{Begin, Kill, Leave, Decline, Renew, Reinit}
 use Rattle.mutex.specs.declared.row.Row.TheVariants.{Unlock}
 use Rattle.protocol.proofs.Vocabulary.{departed, renewed, reinited, spared, sleeps, sleepers, Reaped, Trimmed, Phase, AtCell, UnlockRow, not, nat_lt, Object, MayReinit}
-use Rattle.keys.specs.Accesses.{is_nobody}
+use Rattle.stepprograms.specs.Accesses.{is_nobody}
 use Rattle.protocol.proofs.Steps.{seen-inside}
 use Rattle.condvar.specs.Ops.{operation_of, is_in}
 use Rattle.protocol.specs.Machine.{has_thread, is_gone, is_idle, is_trim, is_unusable, may_reinit, declined}

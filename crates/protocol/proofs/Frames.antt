@@ -11,7 +11,7 @@ use Rattle.robustlist.proofs.Links as links
 use Rattle.robustlist.proofs.Unlinks.{right}
 use Rattle.mutex.specs.declared.phase.Phase.TheVariants.{Announcing, Unlinking, Ended}
 use Rattle.condvar.specs.Calls.{operation_of}
-use Rattle.keys.proofs.Objects.{others_keep}
+use Rattle.posixmutex.proofs.Objects.{others_keep}
 use Rattle.protocol.proofs.Puts.{by_put}
 use Rattle.protocol.proofs.Objects.{one, mine, others, owners}
 use Rattle.protocol.proofs.Counts.{held_by-changed, held_by-owns}

@@ -5,7 +5,7 @@ use Rattle.protocol.proofs.Vocabulary.{mutex_of, condition_of, Walked, Stage, Id
 use Rattle.protocol.proofs.Vocabulary.{queue_after, stands_in, begun, decision, slept_in, happens, run, notes, facts_among, if◌then◌else◌, not, slice_index, queue_place, place_in, place_met, joined, put}
 use Rattle.std.proofs.lemmas.List.{take-append-drop, append_assoc}
 use Rattle.buckets.specs.Queues.{without}
-use Rattle.keys.specs.Chains.{IsAmong}
+use Rattle.memorymap.specs.Chains.{IsAmong}
 use Rattle.facts.specs.declared.fact.Begun.{Begun}
 use Rattle.facts.specs.declared.fact.Fact.TheVariants.{Sleep, Wake, Move}
 use Rattle.protocol.specs.Machine.{places_of}

@@ -5,14 +5,14 @@ use Rattle.protocol.proofs.Vocabulary.{cell_place, acquires, held_by, Fields, fi
 use Rattle.protocol.proofs.Vocabulary.{Expects, Sound, Op, OnMutex, OnCondition, Stage, Idle, Calling, AtCondition, Dying, Reaped, mutex_of, State, seen, LinkGoes, UnlinkGoes}
 use Rattle.protocol.proofs.Vocabulary.{Part, WaitRow, SignalRow, BroadcastRow, place_in}
 use Rattle.protocol.proofs.Seeing.{head_in, entry_in, cell_in, counter_in, words_in}
-use Rattle.keys.specs.declared.point.Operation.TheVariants.{Lock, Unlock, Wait}
+use Rattle.posixmutex.specs.declared.point.Operation.TheVariants.{Lock, Unlock, Wait}
 use Rattle.exitwalk.specs.declared.row.Row as walk_row
 use Rattle.exitwalk.specs.declared.row.Rest as walk_rest
 use Rattle.exitwalk.specs.declared.row.Part as walk_part
 use Rattle.exitwalk.specs.declared.row.Row.TheVariants as walk
 use Rattle.exitwalk.specs.Standings as walks
 use Rattle.exitwalk.specs.Walks as exit
-use Rattle.keys.specs.Chains.{IsAmong}
+use Rattle.memorymap.specs.Chains.{IsAmong}
 use Rattle.robustlist.specs.LinkLaws as link_laws
 use Rattle.robustlist.specs.UnlinkLaws as unlink_laws
 use Rattle.mutex.specs.declared.row.Row.{Row}

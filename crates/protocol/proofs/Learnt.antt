@@ -7,8 +7,8 @@ use Rattle.protocol.proofs.Vocabulary.{Reply, OK, XHELD, Phase, AtCell, Whole, w
 use Rattle.protocol.proofs.Vocabulary.{Op, OnMutex, OnCondition, mutex_of, begun_of, Event, caller, Stepped, Walked, Thread, Stage, Idle, Calling, AtCondition, State, After, put, run, notes, happens, nothing, begun, killed, walked}
 use Rattle.protocol.proofs.Vocabulary.{facts_of, facts_among, return_facts, reap_facts, decision, led, led_at, stage_after, stage_at, reply_at, decided_at, seen, if◌then◌else◌, last_begun}
 use Rattle.protocol.proofs.Vocabulary.{answer_of, death_at, woken, has_ended, Sound, Expects, Permits, Call}
-use Rattle.keys.specs.Accesses.{address_of}
-use Rattle.keys.specs.Objects.{freed}
+use Rattle.stepprograms.specs.Accesses.{address_of}
+use Rattle.posixmutex.specs.Objects.{freed}
 use Rattle.mutex.specs.declared.row.Row.{Row}
 use Rattle.mutex.specs.declared.phase.Phase.TheVariants.{Announcing, Linking, Unlinking, Clearing, Ended}
 use Rattle.mutex.specs.Programs.{row_access}

@@ -2,7 +2,7 @@
 use Rattle.std.proofs.Common.{◌≡◌, ℕ, ◌+◌, ◌<◌, ◌≤◌, Some, None, List, refl, sym, ap, ◌∙◌, subst}
 use Rattle.protocol.proofs.Vocabulary.{IsChainBothWays, AreDifferent, head_place, address_of, place_met, Reply, OK, Access, Thread, State}
 use Rattle.protocol.proofs.Vocabulary.{UnlinkRow, UnlinkGoes, unlink_access, unlink_resume, answer_on, entries-different, without-among}
-use Rattle.keys.specs.Chains.{without}
+use Rattle.memorymap.specs.Chains.{without}
 use Rattle.robustlist.specs.UnlinkLaws.{Unlinking, unlink_left}
 use Rattle.robustlist.proofs.Unlinks as unlinks
 use Rattle.protocol.proofs.Phases.{IsPlain, unlink_plain}

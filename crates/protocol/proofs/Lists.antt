@@ -3,7 +3,7 @@ use Rattle.std.proofs.Common.{◌≡◌, ◌≢◌, ◌⊎◌, inl, inr, ⊎_eli
 use Rattle.protocol.proofs.Vocabulary.{CondPhase, Object, AreDifferent, Layout', head_place, held_by, Load, Release, Phase, AtCell, Linking, Clearing, Whole, Op, Leads}
 use Rattle.protocol.proofs.Vocabulary.{mutex_of, Stage, Idle, Calling, AtCondition, Dying, Reaped, State, is_alive, seen, OnCondition, UnlinkRow, LinkGoes, LinkRow, IsLayout}
 use Rattle.protocol.proofs.Vocabulary.{entries-different, without-among, if◌then◌else◌, WaitRow, CondRow}
-use Rattle.keys.specs.Chains.{IsAmong, IsApart, IsChain, without}
+use Rattle.memorymap.specs.Chains.{IsAmong, IsApart, IsChain, without}
 use Rattle.robustlist.specs.LinkLaws as link_laws
 use Rattle.robustlist.specs.UnlinkLaws as unlink_laws
 use Rattle.mutex.specs.declared.unlock.UnlockRow.TheVariants.{Wake, Trim}

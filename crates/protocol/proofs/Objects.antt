@@ -1,7 +1,7 @@
 -- What the object's steps keep.
 use Rattle.std.proofs.Common.{None, ◌≡◌, ◌≢◌, ◌⊎◌, ℕ, ◌+◌, ◌≤◌, Bool, Option, Some, refl, ap, ◌∙◌, arith, eq-eqb}
 use Rattle.protocol.proofs.Vocabulary.{Operation, Object, Permits, Reply, held_after, if◌then◌else◌}
-use Rattle.keys.specs.Histories.{is_thread}
+use Rattle.posixmutex.specs.Histories.{is_thread}
 
 -- 1 where the thread owns it
 abbrev pub one : ℕ → Object → ℕ

@@ -4,7 +4,7 @@ use Rattle.protocol.proofs.Vocabulary.{address_of, answer_at, IsChainBothWays, a
 use Rattle.protocol.proofs.Vocabulary.{Linking, Clearing, Onward, left, decided, Joins, Whole, whole_access, Op, mutex_of, Calling, State, put, seen, LinkRow, UnlinkRow}
 use Rattle.protocol.proofs.Vocabulary.{UnlinkStanding, LinkGoes, unlink_access, unlink_resume, UnlinkGoes, answer_on, link_access}
 use Rattle.protocol.proofs.Vocabulary.{link_resume}
-use Rattle.keys.specs.Chains.{without}
+use Rattle.memorymap.specs.Chains.{without}
 use Rattle.robustlist.specs.Standings.{LinkStanding}
 use Rattle.robustlist.specs.LinkLaws as link_laws
 use Rattle.robustlist.specs.UnlinkLaws as unlink_laws

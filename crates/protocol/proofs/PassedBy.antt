@@ -7,7 +7,7 @@ use Rattle.protocol.proofs.Vocabulary.{from_words, CondOnward, Begun, Mutex, Con
 use Rattle.protocol.proofs.Vocabulary.{OK, XHELD, Phase, Whole, whole_access, whole_led, Op, OnCondition, Thread, Stage, Idle, Calling, AtCondition, Dying, Reaped, Event, caller}
 use Rattle.protocol.proofs.Vocabulary.{mutex_of, begun_of, facts_of, State, After, nothing, place_met, answer_of, falls_asleep, decision, slept_in, stage_after, stage_at, reply_at}
 use Rattle.protocol.proofs.Vocabulary.{led, led_at, went, begun, killed, walked, happens, run, notes, facts_among, Note, if◌then◌else◌, WaitRow}
-use Rattle.keys.specs.declared.point.Point.{Point}
+use Rattle.posixmutex.specs.declared.point.Point.{Point}
 use Rattle.condvar.specs.declared.row.CondRow.TheVariants.{Wait}
 use Rattle.condvar.specs.declared.row.Decided.{Decided}
 use Rattle.condvar.specs.Calls.{operation_of}

@@ -2,7 +2,7 @@
 use Rattle.std.proofs.Common.{◌≡◌, ◌≢◌, ◌⊎◌, inl, inr, ℕ, ◌+◌, ◌<◌, ◌≤◌, ◌==◌, Bool, true, false, Option, Some, List, [], ◌∷◌, length, refl, sym, ap, ◌∙◌, subst, arith, eqb-true}
 use Rattle.protocol.proofs.Vocabulary.{Layout', IsLayout, head_place, entry_place, cell_place, counter_place, address_sum, AreDifferent, IsChainBothWays, State, is_valid, seen, words_of, address_in}
 use Rattle.protocol.proofs.Vocabulary.{place_in, Agree, if◌then◌else◌, eqb-false, nat_tests, chained, chain-same, both-ways, avoids-all, apart-among}
-use Rattle.keys.specs.Chains.{previous_place, IsAmong, IsApart, places_of, without}
+use Rattle.memorymap.specs.Chains.{previous_place, IsAmong, IsApart, places_of, without}
 use Rattle.robustlist.specs.Words.{IsOn}
 use Rattle.robustlist.specs.LinkLaws as link_laws
 use Rattle.protocol.proofs.Seeing.{head_in, entry_in, again, same_place, further_on, cell_again}

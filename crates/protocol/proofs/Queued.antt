@@ -2,7 +2,7 @@
 use Rattle.std.proofs.Common.{◌≡◌, ◌≢◌, ◌⊎◌, ⊎_elim, inl, inr, ℕ, ◌<◌, ◌≤◌, ◌==◌, Bool, true, false, List, [], ◌∷◌, drop, length, refl, sym, ap, ◌∙◌, subst, arith, eqb-true}
 use Rattle.protocol.proofs.Vocabulary.{Access, Layout', cell_place, counter_place, sleeps_at, Whole, Op, mutex_of, Thread, Stage, Idle, Calling, AtCondition, Dying}
 use Rattle.protocol.proofs.Vocabulary.{Reaped, State, stands_in, sleepers, sleeps, is_asleep, IsUnowned, slice_index, eqb-false, Sleeps, IsInNoQueue, place_in, place_met, put}
-use Rattle.keys.specs.Chains.{IsAmong}
+use Rattle.memorymap.specs.Chains.{IsAmong}
 use Rattle.protocol.specs.Machine.{places_of}
 use Rattle.protocol.proofs.Puts.{put-same, put-other}
 use Rattle.protocol.proofs.Kept.{Kept}

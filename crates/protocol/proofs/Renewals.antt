@@ -3,7 +3,7 @@ use Rattle.std.proofs.Common.{◌≡◌, ◌≢◌, ◌⊎◌, inl, inr, ℕ, ze
 use Rattle.protocol.proofs.Vocabulary.{Object, Operation, Access, Layout', head_place, cell_place, counter_place, fields_of, held_by, stands_in, Thread, Stage, Idle, Reaped, State, put, seen, if◌then◌else◌, nat_tests}
 use Rattle.protocol.proofs.Vocabulary.{address_in, place_in}
 use mathlib.Core.Path.{fun_ext}
-use Rattle.keys.specs.Layouts.{head_word, cell_offset}
+use Rattle.memorymap.specs.Layouts.{head_word, cell_offset}
 use Rattle.robustlist.proofs.Lists.{begins_empty}
 use Rattle.protocol.specs.Machine.{idle, is_in_head, renewed}
 use Rattle.protocol.specs.Applies.{IsInNoQueue}

@@ -7,7 +7,7 @@ use Rattle.protocol.proofs.Vocabulary.{seen, if◌then◌else◌, nat_le, MatchB
 use Rattle.protocol.proofs.Vocabulary.{Calling, AtCondition, Reaped, departed, renewed, reinited, MayReinit, Whole}
 use Rattle.protocol.proofs.Renewals.{renewed_seen, renew_kept}
 use Rattle.protocol.proofs.Reinits.{unowned, reinited_seen, reinited_far, reinit_kept}
-use Rattle.keys.specs.Histories.{Legal, opening}
+use Rattle.posixmutex.specs.Histories.{Legal, opening}
 use Rattle.robustlist.proofs.Lists.{begins_empty}
 use Rattle.condvar.specs.Ops.{operation_of}
 use Rattle.protocol.proofs.Puts.{by_put}
@@ -23,7 +23,7 @@ use Rattle.protocol.proofs.WalkSteps.{walk_of}
 use Rattle.protocol.proofs.Cases.{at_or_else}
 use Rattle.protocol.proofs.WalksLeft.{left_to_walk_carries}
 use Rattle.protocol.proofs.Seeing.{head_in, words_in, head_again}
-use Rattle.keys.specs.Layouts.{thread_of, head_word, cell_offset}
+use Rattle.memorymap.specs.Layouts.{thread_of, head_word, cell_offset}
 use Rattle.protocol.proofs.Frames.{knows_at}
 use Rattle.protocol.proofs.Departures.{queues_kept}
 use Rattle.protocol.proofs.Declines.{declined_state, quiet, spared_is, decline_kept}

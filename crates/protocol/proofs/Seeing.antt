@@ -2,9 +2,9 @@
 use Rattle.std.proofs.Common.{◌≡◌, ◌≢◌, ℕ, ◌+◌, ◌-◌, ◌<◌, ◌≤◌, length, sym, ap, ◌∙◌, arith}
 use Rattle.std.proofs.lemmas.List.Elements.{All-get_or}
 use Rattle.std.specs.Prelude.{slice_index}
-use Rattle.keys.specs.Addresses.{words_from}
-use Rattle.keys.specs.Chains.{address_sum}
-use Rattle.keys.specs.Layouts.{Layout', IsLayout, head_place, entry_place, cell_place, counter_place, words_of, base_of, address_in, place_in}
+use Rattle.memorymap.specs.Addresses.{words_from}
+use Rattle.memorymap.specs.Chains.{address_sum}
+use Rattle.memorymap.specs.Layouts.{Layout', IsLayout, head_place, entry_place, cell_place, counter_place, words_of, base_of, address_in, place_in}
 
 -- the addresses of its head, of mutex k's entry and cell, and of counter k, in thread t's process
 abbrev pub head_in : Layout' → ℕ → ℕ

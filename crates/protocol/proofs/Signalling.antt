@@ -6,7 +6,7 @@ use Rattle.protocol.proofs.Vocabulary.{Event, Step, Began, Note, Thread, Stage, 
 use Rattle.protocol.proofs.Vocabulary.{queue_after, moved_by, joined, stage_at, reply_at, held_after, start, may_begin, first_stage, begun, nothing, happens, run, notes}
 use Rattle.protocol.proofs.Vocabulary.{seen, facts_among, if◌then◌else◌, not, replicate, slice_index, nat_tests, SignalRow, BroadcastRow, bit_or, decided_at, owner_of-is}
 use Rattle.protocol.proofs.Vocabulary.{Access, Stepped, decision, returned_at, sleeps_at, slept_in, woken_by}
-use Rattle.keys.specs.declared.access.Answer.TheVariants.{Counts}
+use Rattle.stepprograms.specs.declared.access.Answer.TheVariants.{Counts}
 use Rattle.protocol.proofs.Places.{counter_is_no_cell}
 use Rattle.protocol.proofs.Emptied.{no_more}
 use Rattle.std.proofs.lemmas.List.{take_all, drop_all}

@@ -3,8 +3,8 @@ use Rattle.std.proofs.Common.{◌≡◌, ◌≢◌, ◌⊎◌, ℕ, ◌+◌, ◌
 pub use Rattle.protocol.specs.WaitersBit.{HasWaiters}
 use Rattle.protocol.proofs.Vocabulary.{CondRow, CondPhase, acquires, sleeps_at, Layout', head_place, cell_place, Reply, AtCell, OnCondition}
 use Rattle.protocol.proofs.Vocabulary.{mutex_of, Stage, Calling, AtCondition, Dying, State, is_met, seen, IsUnowned, slice_index, LockRow, WaitRow, SignalRow, BroadcastRow, Part}
-use Rattle.keys.specs.declared.access.Access.TheVariants.{Wake, CmpRequeue}
-use Rattle.keys.specs.Chains.{IsAmong}
+use Rattle.stepprograms.specs.declared.access.Access.TheVariants.{Wake, CmpRequeue}
+use Rattle.memorymap.specs.Chains.{IsAmong}
 use Rattle.mutex.specs.declared.row.Row.TheVariants.{Lock}
 use Rattle.robustlist.specs.UnlinkLaws.{unlink_left}
 use Rattle.exitwalk.specs.declared.row.Row as walk_row

@@ -8,7 +8,7 @@ use Rattle.mutex.specs.declared.row.Row.TheVariants.{Lock}
 use Rattle.mutex.specs.Calls as calls
 use Rattle.mutex.specs.Whole.{begins, first_phase}
 use Rattle.condvar.specs.Whole as condition
-use Rattle.keys.specs.Layouts.{Layout', IsLayout}
+use Rattle.memorymap.specs.Layouts.{Layout', IsLayout}
 use Rattle.protocol.specs.declared.event.Event.{Event}
 use Rattle.protocol.specs.declared.event.Event.TheVariants.{Begin}
 use Rattle.condvar.specs.Ops.{operation_of, condition_of}

@@ -7,19 +7,19 @@ pub use Rattle.lockword.specs.Cells.{Fields, fields_of, taken, waiting, word_of}
 pub use Rattle.lockword.specs.Coding.{fields_of-word_of}
 pub use Rattle.lockword.specs.declared.reply.Reply.{Reply}
 pub use Rattle.lockword.specs.declared.reply.Reply.TheVariants.{EOWNERDEAD, EPERM, OK, XFULL, XHELD, XRACED}
-pub use Rattle.keys.proofs.Owners.{owner_of-is, owner_of-none, owner_of-some}
-pub use Rattle.keys.specs.Accesses.{address_of, answer_among, answer_at, changed, sleeps_at, word_among}
-pub use Rattle.keys.specs.Addresses.{words_from}
-pub use Rattle.keys.specs.Chains.{AreDifferent, IsChainBothWays, Leads, address_sum}
-pub use Rattle.keys.specs.Histories.{held_by}
-pub use Rattle.keys.specs.Layouts.{IsLayout, Layout', address_in, base_of, cell_place, counter_place, entry_place, first_word, head_place, place_in, words_of}
-pub use Rattle.keys.specs.Objects.{Does, Permits, Run, acquires, fresh, object_of, owner_of}
-pub use Rattle.keys.specs.declared.access.Access.{Access}
-pub use Rattle.keys.specs.declared.access.Answer.{Answer}
-pub use Rattle.keys.specs.declared.access.Answer.TheVariants.{Again, Changed, Exchanged, Fault, Trimmed}
-pub use Rattle.keys.specs.declared.object.Object.{Object}
-pub use Rattle.keys.specs.declared.point.Decision.{Decision}
-pub use Rattle.keys.specs.declared.point.Operation.{Operation}
+pub use Rattle.posixmutex.proofs.Owners.{owner_of-is, owner_of-none, owner_of-some}
+pub use Rattle.stepprograms.specs.Accesses.{address_of, answer_among, answer_at, changed, sleeps_at, word_among}
+pub use Rattle.memorymap.specs.Addresses.{words_from}
+pub use Rattle.memorymap.specs.Chains.{AreDifferent, IsChainBothWays, Leads, address_sum}
+pub use Rattle.posixmutex.specs.Histories.{held_by}
+pub use Rattle.memorymap.specs.Layouts.{IsLayout, Layout', address_in, base_of, cell_place, counter_place, entry_place, first_word, head_place, place_in, words_of}
+pub use Rattle.posixmutex.specs.Objects.{Does, Permits, Run, acquires, fresh, object_of, owner_of}
+pub use Rattle.stepprograms.specs.declared.access.Access.{Access}
+pub use Rattle.stepprograms.specs.declared.access.Answer.{Answer}
+pub use Rattle.stepprograms.specs.declared.access.Answer.TheVariants.{Again, Changed, Exchanged, Fault, Trimmed}
+pub use Rattle.posixmutex.specs.declared.object.Object.{Object}
+pub use Rattle.posixmutex.specs.declared.point.Decision.{Decision}
+pub use Rattle.posixmutex.specs.declared.point.Operation.{Operation}
 pub use Rattle.robustlist.proofs.Chains.{both-ways, chain-same, chained, leads-same}
 pub use Rattle.robustlist.proofs.Places.{apart-among, avoids-all, entries-different, without-among}
 pub use Rattle.robustlist.specs.Link.{LinkGoes, link_access, link_access_of, link_moved, link_resume}

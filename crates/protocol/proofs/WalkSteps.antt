@@ -6,9 +6,9 @@ use Rattle.protocol.proofs.Vocabulary.{answer_at, Leads, Layout', IsLayout, head
 use Rattle.protocol.proofs.Vocabulary.{Stage, Dying, Reaped, Note, Walked, State, is_valid, is_met, place_met, answer_among, woken_by, walked, has_ended, stage_walked, told_of}
 use Rattle.protocol.proofs.Vocabulary.{held_after, seen, if◌then◌else◌, nat_lt, eqb-false, nat_tests, Operation, death_at, mutex_at, Exchanged, Changed, leads-same}
 use Rattle.protocol.proofs.Vocabulary.{place_in, words_of}
-use Rattle.keys.specs.declared.point.Point.{Point}
-use Rattle.keys.specs.Chains.{IsAmong}
-use Rattle.keys.specs.Objects.{bereaved}
+use Rattle.posixmutex.specs.declared.point.Point.{Point}
+use Rattle.memorymap.specs.Chains.{IsAmong}
+use Rattle.posixmutex.specs.Objects.{bereaved}
 use Rattle.exitwalk.specs.declared.row.Row.{Row}
 use Rattle.exitwalk.specs.declared.row.Row.TheVariants.{Ended}
 use Rattle.exitwalk.specs.Standings.{Standing}

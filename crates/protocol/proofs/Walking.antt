@@ -2,7 +2,7 @@
 use Rattle.std.proofs.Common.{◌≡◌, ◌≢◌, ◌⊎◌, inl, inr, ⊎_elim, ℕ, suc, ◌+◌, ◌<◌, ◌≤◌, ◌==◌, Bool, true, false, ◌&&◌, Option, Some, None, List, [], ◌∷◌, length, refl, sym, ap, ◌∙◌, subst, arith, eqb-true}
 use Rattle.protocol.proofs.Vocabulary.{Rest, Part, LoadFirst, LoadOffset, LoadPending, LoadNext, LoadWord, Mark, WakeOne, sum_of, Object, AreDifferent, Leads, IsLayout}
 use Rattle.protocol.proofs.Vocabulary.{entry_place, address_sum, owner_of, fields_of, State, seen, if◌then◌else◌, eqb-false, ◌||◌, apart-among}
-use Rattle.keys.specs.Chains.{IsAmong}
+use Rattle.memorymap.specs.Chains.{IsAmong}
 use Rattle.exitwalk.specs.declared.row.Row.{Row}
 use Rattle.exitwalk.specs.declared.row.Row.TheVariants.{Ended}
 use Rattle.exitwalk.specs.Words.{has_waiters}

@@ -2,9 +2,9 @@
 use Rattle.std.specs.Prelude.{ℕ, length, ◌≡◌, ◌<◌, ◌≤◌, ◌==◌, ◌&&◌, nat_le, true, false, Option, Some, None, List, [], ◌∷◌, if◌then◌else◌}
 use Rattle.lockword.specs.declared.reply.Reply.{Reply}
 use Rattle.lockword.specs.declared.reply.Reply.TheVariants.{XHELD}
-use Rattle.keys.specs.Layouts.{Layout', IsLayout}
-use Rattle.keys.specs.Histories.{held_by}
-use Rattle.keys.specs.Objects.{held_limit, acquires}
+use Rattle.memorymap.specs.Layouts.{Layout', IsLayout}
+use Rattle.posixmutex.specs.Histories.{held_by}
+use Rattle.posixmutex.specs.Objects.{held_limit, acquires}
 use Rattle.mutex.specs.Calls as mutex
 use Rattle.condvar.specs.Calls as condition
 use Rattle.condvar.specs.Ops.{operation_of, mutex_of}
@@ -17,7 +17,7 @@ use Rattle.protocol.specs.declared.note.Note.{Note}
 use Rattle.protocol.specs.declared.note.Note.TheVariants.{Nothing, Began, Stepped, Killed, Walked, Left, Renewed, Reinited}
 use Rattle.facts.specs.declared.fact.Fact.{Fact}
 use Rattle.facts.specs.declared.fact.Fact.TheVariants.{Begin, Return, Kill, Reap, Renew}
-use Rattle.keys.specs.declared.access.Access.TheVariants.{Trim}
+use Rattle.stepprograms.specs.declared.access.Access.TheVariants.{Trim}
 use Rattle.mutex.specs.Standings.{Whole}
 use Rattle.mutex.specs.Whole.{whole_access}
 use Rattle.protocol.specs.declared.thread.Stage.{Stage}

@@ -1,6 +1,6 @@
 -- What is told of a thread's death (robust-futexes; pthread_mutexattr_getrobust(3p)).
 use Rattle.std.specs.Prelude.{ℕ, ◌≡◌, ◌≢◌, ◌+◌, ◌<◌, ◌==◌, true, ◌&&◌, ◌⊎◌, Some, List, [], ◌∷◌, ◌++◌, if◌then◌else◌}
-use Rattle.keys.specs.Layouts.{Layout', IsLayout}
+use Rattle.memorymap.specs.Layouts.{Layout', IsLayout}
 use Rattle.protocol.specs.declared.event.Event.{Event}
 use Rattle.protocol.specs.declared.event.Event.TheVariants.{Kill}
 use Rattle.facts.specs.declared.fact.Fact.{Fact}

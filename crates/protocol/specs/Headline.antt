@@ -1,13 +1,13 @@
 -- What holds of every run.
 use Rattle.std.specs.Prelude.{ℕ, ◌≡◌, ◌≢◌, Some, nat_lt, List, [], ◌∷◌, ◌++◌, if◌then◌else◌}
 use Rattle.lockword.specs.declared.reply.Reply.TheVariants.{OK}
-use Rattle.keys.specs.declared.point.Operation.TheVariants as operation
+use Rattle.posixmutex.specs.declared.point.Operation.TheVariants as operation
 use Rattle.lockword.specs.Cells.{fields_of}
-use Rattle.keys.specs.declared.object.Object.{Object}
-use Rattle.keys.specs.declared.point.Decision.{Decision}
-use Rattle.keys.specs.Layouts.{Layout', IsLayout, cell_place}
-use Rattle.keys.specs.Objects.{object_of, fresh}
-use Rattle.keys.specs.Histories.{Legal, opening}
+use Rattle.posixmutex.specs.declared.object.Object.{Object}
+use Rattle.posixmutex.specs.declared.point.Decision.{Decision}
+use Rattle.memorymap.specs.Layouts.{Layout', IsLayout, cell_place}
+use Rattle.posixmutex.specs.Objects.{object_of, fresh}
+use Rattle.posixmutex.specs.Histories.{Legal, opening}
 use Rattle.protocol.specs.declared.event.Event.{Event}
 use Rattle.protocol.specs.declared.note.Note.{Note}
 use Rattle.facts.specs.declared.fact.Fact.{Fact}

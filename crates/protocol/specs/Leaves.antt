@@ -1,7 +1,7 @@
 -- Sleepers that leave their queue by themselves (futex(2), EINTR), and trims that are declined.
 use Rattle.std.specs.Prelude.{ℕ, ◌≡◌, ◌≢◌, ◌≤◌, List, [], ◌∷◌}
 use Rattle.buckets.specs.Queues.{without}
-use Rattle.keys.specs.Layouts.{Layout', IsLayout}
+use Rattle.memorymap.specs.Layouts.{Layout', IsLayout}
 use Rattle.protocol.specs.declared.event.Event.{Event}
 use Rattle.protocol.specs.declared.event.Event.TheVariants.{Step, Leave, Decline}
 use Rattle.facts.specs.declared.fact.Fact.TheVariants.{Wake}

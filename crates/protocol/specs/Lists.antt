@@ -1,9 +1,9 @@
 -- What the kernel would find of each thread, were it to die now (get_robust_list(2); robust-futexes, its ABI document).
 use Rattle.std.specs.Prelude.{ℕ, ◌≡◌, ◌+◌, ◌<◌, ◌≤◌, ◌⊎◌, true, Some, List, length}
-use Rattle.keys.specs.Chains.{IsAmong, IsChain}
-use Rattle.keys.specs.Objects.{held_limit}
-use Rattle.keys.specs.Addresses.{words_from}
-use Rattle.keys.specs.Layouts.{Layout', IsLayout, head_place, entry_place, base_of, address_in, cell_offset}
+use Rattle.memorymap.specs.Chains.{IsAmong, IsChain}
+use Rattle.posixmutex.specs.Objects.{held_limit}
+use Rattle.memorymap.specs.Addresses.{words_from}
+use Rattle.memorymap.specs.Layouts.{Layout', IsLayout, head_place, entry_place, base_of, address_in, cell_offset}
 use Rattle.protocol.specs.declared.event.Event.{Event}
 use Rattle.protocol.specs.Machine.{State, start, run, is_alive}
 use Rattle.protocol.specs.Headline.{seen}

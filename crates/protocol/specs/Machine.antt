@@ -3,16 +3,16 @@ use Rattle.std.specs.Prelude.{ℕ, not, ◌==◌, ◌+◌, ◌-◌, ◌/◌, ◌
 use Rattle.lockword.specs.Cells.{fields_of}
 use Rattle.lockword.specs.declared.reply.Reply.{Reply}
 use Rattle.lockword.specs.declared.reply.Reply.TheVariants.{OK, EOWNERDEAD}
-use Rattle.keys.specs.declared.access.Access.{Access}
-use Rattle.keys.specs.declared.access.Answer.{Answer}
-use Rattle.keys.specs.declared.access.Access.TheVariants as access
-use Rattle.keys.specs.declared.access.Answer.TheVariants.{Fault, Trimmed}
-use Rattle.keys.specs.declared.point.Operation.{Operation}
-use Rattle.keys.specs.declared.point.Operation.TheVariants as operation
-use Rattle.keys.specs.declared.point.Decision.{Decision}
-use Rattle.keys.specs.Layouts.{Layout', head_place, cell_place, counter_place, words_of, address_in, place_in, head_word, first_word}
+use Rattle.stepprograms.specs.declared.access.Access.{Access}
+use Rattle.stepprograms.specs.declared.access.Answer.{Answer}
+use Rattle.stepprograms.specs.declared.access.Access.TheVariants as access
+use Rattle.stepprograms.specs.declared.access.Answer.TheVariants.{Fault, Trimmed}
+use Rattle.posixmutex.specs.declared.point.Operation.{Operation}
+use Rattle.posixmutex.specs.declared.point.Operation.TheVariants as operation
+use Rattle.posixmutex.specs.declared.point.Decision.{Decision}
+use Rattle.memorymap.specs.Layouts.{Layout', head_place, cell_place, counter_place, words_of, address_in, place_in, head_word, first_word}
 use Rattle.buckets.specs.Queues.{without}
-use Rattle.keys.specs.Accesses.{address_of, word_among, answer_among, sleeps_at, is_nobody}
+use Rattle.stepprograms.specs.Accesses.{address_of, word_among, answer_among, sleeps_at, is_nobody}
 use Rattle.mutex.specs.declared.call.Call.{Call}
 use Rattle.mutex.specs.declared.phase.Phase.{Phase}
 use Rattle.mutex.specs.declared.phase.Phase.TheVariants.{Ended}
@@ -32,7 +32,7 @@ use Rattle.exitwalk.specs.declared.row.Row as walk_row
 use Rattle.exitwalk.specs.declared.row.Row.TheVariants as walk
 use Rattle.exitwalk.specs.Standings as walks
 use Rattle.exitwalk.specs.Walks as exit
-use Rattle.keys.specs.declared.point.Point.{Point}
+use Rattle.posixmutex.specs.declared.point.Point.{Point}
 use Rattle.condvar.specs.Ops.{mutex_of, is_in}
 use Rattle.protocol.specs.Ops.{begun_of}
 use Rattle.condvar.specs.declared.op.Op.{Op}

@@ -2,8 +2,8 @@
 use Rattle.std.specs.Prelude.{ℕ, ◌+◌, Bool, true, false, Option, Some, None, List, [], ◌∷◌, ◌++◌, map}
 use Rattle.lockword.specs.declared.reply.Reply.{Reply}
 use Rattle.lockword.specs.declared.reply.Reply.TheVariants.{OK}
-use Rattle.keys.specs.declared.point.Operation.TheVariants as operation
-use Rattle.keys.specs.declared.point.Decision.{Decision}
+use Rattle.posixmutex.specs.declared.point.Operation.TheVariants as operation
+use Rattle.posixmutex.specs.declared.point.Decision.{Decision}
 use Rattle.protocol.specs.declared.note.Note.{Note}
 use Rattle.protocol.specs.declared.note.Note.TheVariants.{Nothing, Began, Stepped, Killed, Walked, Left, Renewed, Reinited}
 use Rattle.facts.specs.declared.fact.Begun.{Begun}

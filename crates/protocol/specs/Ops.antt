@@ -1,6 +1,6 @@
 -- What is told of calls, and the words that sleepers sleep on.
 use Rattle.std.specs.Prelude.{ℕ}
-use Rattle.keys.specs.Layouts.{Layout', cell_place, counter_place}
+use Rattle.memorymap.specs.Layouts.{Layout', cell_place, counter_place}
 use Rattle.condvar.specs.Ops.{operation_of, mutex_of, condition_of}
 use Rattle.condvar.specs.declared.op.Op.{Op}
 use Rattle.facts.specs.declared.fact.Begun.{Begun}

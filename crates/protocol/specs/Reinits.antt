@@ -1,9 +1,9 @@
 -- Unusable mutexes that are made anew (pthread_mutex_destroy(3p), pthread_mutex_init(3p)).
 use Rattle.std.specs.Prelude.{ℕ, ◌≡◌, ◌≢◌, ◌<◌, ◌≤◌, true, None, List, [], ◌∷◌}
 use Rattle.lockword.specs.declared.reply.Reply.TheVariants.{OK}
-use Rattle.keys.specs.declared.point.Operation.TheVariants as operation
-use Rattle.keys.specs.Layouts.{Layout', IsLayout, cell_place}
-use Rattle.keys.specs.Objects.{fresh}
+use Rattle.posixmutex.specs.declared.point.Operation.TheVariants as operation
+use Rattle.memorymap.specs.Layouts.{Layout', IsLayout, cell_place}
+use Rattle.posixmutex.specs.Objects.{fresh}
 use Rattle.facts.specs.declared.fact.Fact.{Fact}
 use Rattle.facts.specs.declared.fact.Fact.TheVariants.{Begin, Point, Return}
 use Rattle.protocol.specs.declared.event.Event.{Event}

@@ -1,6 +1,6 @@
 -- Threads that were reaped and live anew: an id is used again.
 use Rattle.std.specs.Prelude.{ℕ, ◌≡◌, ◌≢◌, ◌+◌, ◌<◌, ◌≤◌, true, Some, List, [], ◌∷◌, ◌++◌}
-use Rattle.keys.specs.Layouts.{Layout', IsLayout, head_place, first_word}
+use Rattle.memorymap.specs.Layouts.{Layout', IsLayout, head_place, first_word}
 use Rattle.facts.specs.declared.fact.Fact.TheVariants as fact
 use Rattle.facts.specs.Lives.{own, Life}
 use Rattle.protocol.specs.declared.event.Event.{Event}

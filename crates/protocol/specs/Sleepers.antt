@@ -2,12 +2,12 @@
 use Rattle.std.specs.Prelude.{ℕ, ◌≡◌, ◌≢◌, ◌<◌, ◌≤◌, ◌⊎◌, true, false, Some, None, Option, List, [], ◌∷◌, replicate}
 use Rattle.lockword.specs.declared.reply.Reply.{Reply}
 use Rattle.lockword.specs.declared.reply.Reply.TheVariants.{XRACED}
-use Rattle.keys.specs.declared.point.Operation.TheVariants.{Lock, Wait}
-use Rattle.keys.specs.Layouts.{Layout', IsLayout}
-use Rattle.keys.specs.Histories.{held_by}
-use Rattle.keys.specs.Objects.{Does}
-use Rattle.keys.specs.declared.object.Object.{Object}
-use Rattle.keys.specs.declared.point.Operation.{Operation}
+use Rattle.posixmutex.specs.declared.point.Operation.TheVariants.{Lock, Wait}
+use Rattle.memorymap.specs.Layouts.{Layout', IsLayout}
+use Rattle.posixmutex.specs.Histories.{held_by}
+use Rattle.posixmutex.specs.Objects.{Does}
+use Rattle.posixmutex.specs.declared.object.Object.{Object}
+use Rattle.posixmutex.specs.declared.point.Operation.{Operation}
 use Rattle.facts.specs.declared.fact.Queue.{Queue}
 use Rattle.facts.specs.declared.fact.Queue.TheVariants.{Condition}
 use Rattle.condvar.specs.declared.op.Op.{Op}

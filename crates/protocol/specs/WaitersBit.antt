@@ -1,7 +1,7 @@
 -- The WAITERS bit of mutexes' words, over runs of the machine.
 use Rattle.std.specs.Prelude.{ℕ, ◌≡◌, ◌<◌, ◌≤◌, ◌==◌, ◌⊎◌, true, false, List, [], ◌∷◌, if◌then◌else◌}
 use Rattle.lockword.specs.Cells.{fields_of}
-use Rattle.keys.specs.Layouts.{Layout', IsLayout, cell_place}
+use Rattle.memorymap.specs.Layouts.{Layout', IsLayout, cell_place}
 use Rattle.mutex.specs.declared.call.Call.TheVariants as call
 use Rattle.mutex.specs.declared.row.Row.TheVariants as row
 use Rattle.mutex.specs.declared.unlock.UnlockRow.TheVariants.{Wake}

@@ -1,9 +1,9 @@
 -- Whom an event wakes or moves (pthread_mutex_unlock(3p), pthread_cond_signal(3p), pthread_cond_broadcast(3p); pthread_mutexattr_getrobust(3p), for ENOTRECOVERABLE; robust-futexes).
 use Rattle.std.specs.Prelude.{ℕ, ◌≡◌, ◌<◌, ◌==◌, ◌⊎◌, Option, Some, None, List, [], ◌∷◌, map, take, if◌then◌else◌}
-use Rattle.keys.specs.declared.object.Object.{Object}
-use Rattle.keys.specs.declared.point.Operation.{Operation}
-use Rattle.keys.specs.declared.point.Operation.TheVariants.{Lock, Unlock, Wait, Signal, Broadcast}
-use Rattle.keys.specs.Layouts.{Layout', IsLayout}
+use Rattle.posixmutex.specs.declared.object.Object.{Object}
+use Rattle.posixmutex.specs.declared.point.Operation.{Operation}
+use Rattle.posixmutex.specs.declared.point.Operation.TheVariants.{Lock, Unlock, Wait, Signal, Broadcast}
+use Rattle.memorymap.specs.Layouts.{Layout', IsLayout}
 use Rattle.facts.specs.declared.fact.Begun.{Begun}
 use Rattle.facts.specs.declared.fact.Queue.TheVariants.{Condition}
 use Rattle.facts.specs.declared.fact.Fact.{Fact}

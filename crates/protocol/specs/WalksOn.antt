@@ -1,7 +1,7 @@
 -- A walk that is kept behind each access, and gone on with by another walker (robust-futexes; get_robust_list(2)).
 use Rattle.std.specs.Prelude.{ℕ, ◌≡◌, ◌≤◌, List}
 use Rattle.lockword.specs.Cells.{fields_of}
-use Rattle.keys.specs.Layouts.{Layout', IsLayout, place_in}
+use Rattle.memorymap.specs.Layouts.{Layout', IsLayout, place_in}
 use Rattle.exitwalk.specs.Standings.{Standing}
 use Rattle.exitwalk.specs.declared.row.Row.{Row}
 use Rattle.exitwalk.specs.declared.row.Row.TheVariants.{Mark}

@@ -18,7 +18,7 @@
 //! - `nobody_is_passed_by`, `signals_are_right`: of condition variables.
 //!
 //! Stands on `mutex` and `condvar`, for the calls' programs, on `robustlist` and `exitwalk`, for lists and the walk over them,
-//! on `keys`, for layouts, accesses and histories, on `buckets`, for who is woken or moved, on `facts`, for what notes tell, and
+//! on `memorymap`, `stepprograms` and `posixmutex`, for layouts, accesses and histories, on `buckets`, for who is woken or moved, on `facts`, for what notes tell, and
 //! on `lockword`, for cells and replies.
 //!
 //! ```text

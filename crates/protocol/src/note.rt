@@ -3,8 +3,8 @@ ghost use Rattle.std.specs.Prelude.{◌≡◌};
 
 use buckets::Batch;
 use facts::{Begun, Queue};
-use keys::Decision;
 use lockword::{Reply, Tid};
+use posixmutex::Decision;
 
 /// What one event did.
 #[derive(Clone, Copy, Debug, PartialEq, Eq)]

@@ -13,8 +13,8 @@ ghost use Rattle.ruledwords.specs.Passes.{layout_of, IsLive, IsPassOf};
 
 use crate::accounts::Accounts;
 use crate::guard::{Guarded, NotOwned, Owner};
-use keys::Layout;
 use lockword::Reply;
+use memorymap::Layout;
 use ruledwords::{Live, Pass, Reaped};
 use std::io;
 use std::sync::Wait;

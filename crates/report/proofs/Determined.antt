@@ -6,11 +6,11 @@ use mathlib.Core.Logic.{dite}
 use native.Mathlib.Decide.{ℕ_discrete}
 use Rattle.lockword.specs.declared.reply.Reply.{Reply}
 use Rattle.lockword.specs.declared.reply.Reply.TheVariants.{XFULL}
-use Rattle.keys.specs.declared.object.Object.{Object}
-use Rattle.keys.specs.declared.point.Operation.{Operation}
-use Rattle.keys.specs.declared.point.Operation.TheVariants.{Signal, Broadcast}
-use Rattle.keys.specs.Histories.{held_by}
-use Rattle.keys.specs.Layouts.{Layout'}
+use Rattle.posixmutex.specs.declared.object.Object.{Object}
+use Rattle.posixmutex.specs.declared.point.Operation.{Operation}
+use Rattle.posixmutex.specs.declared.point.Operation.TheVariants.{Signal, Broadcast}
+use Rattle.posixmutex.specs.Histories.{held_by}
+use Rattle.memorymap.specs.Layouts.{Layout'}
 use Rattle.condvar.specs.declared.op.Op.{Op}
 use Rattle.condvar.specs.Ops.{mutex_of, operation_of}
 use Rattle.report.specs.Parts.{Part}

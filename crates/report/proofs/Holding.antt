@@ -3,10 +3,10 @@ use Rattle.std.proofs.Common.{Bool, false, ◌≡◌, ◌≢◌, ℕ, zero, suc,
 use Rattle.std.specs.Prelude.{if◌then◌else◌}
 use mathlib.Core.Logic.{dite}
 use native.Mathlib.Decide.{ℕ_discrete}
-use Rattle.keys.specs.declared.point.Point.{Point}
-use Rattle.keys.specs.declared.object.Object.{Object}
-use Rattle.keys.specs.Histories.{is_thread, held_by}
-use Rattle.keys.specs.Layouts.{Layout', cell_place}
+use Rattle.posixmutex.specs.declared.point.Point.{Point}
+use Rattle.posixmutex.specs.declared.object.Object.{Object}
+use Rattle.posixmutex.specs.Histories.{is_thread, held_by}
+use Rattle.memorymap.specs.Layouts.{Layout', cell_place}
 use Rattle.ruledwords.specs.Cards.{at, put}
 use Rattle.ruledwords.specs.Seen.{holds, count_held}
 use Rattle.ruledwords.proofs.Held.{count_changed, count_same}

@@ -3,10 +3,10 @@ use Rattle.std.proofs.Common.{◌≡◌, ℕ, ◌+◌, ◌<◌, ◌≤◌, Bool,
 use Rattle.std.specs.Prelude.{◌||◌}
 use Rattle.std.specs.declared.alloc.Global.{Global}
 use Rattle.lockword.specs.declared.reply.Reply.{Reply}
-use Rattle.keys.specs.declared.point.Point.{Point}
-use Rattle.keys.specs.declared.object.Object.{Object}
-use Rattle.keys.specs.Layouts.{Layout', cell_place}
-use Rattle.keys.specs.Objects.{fresh, Run}
+use Rattle.posixmutex.specs.declared.point.Point.{Point}
+use Rattle.posixmutex.specs.declared.object.Object.{Object}
+use Rattle.memorymap.specs.Layouts.{Layout', cell_place}
+use Rattle.posixmutex.specs.Objects.{fresh, Run}
 use Rattle.condvar.specs.declared.op.Op.{Op}
 use Rattle.ruledwords.specs.declared.pass.Words.{Words}
 use Rattle.ruledwords.specs.Cards.{at}

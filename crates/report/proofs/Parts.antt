@@ -8,9 +8,9 @@ use Rattle.std.proofs.lemmas.List.Elements.{filter-append}
 use Rattle.std.proofs.lemmas.Option.{slice_get_within}
 use Rattle.lockword.specs.declared.reply.Reply.{Reply}
 use Rattle.lockword.specs.declared.reply.Reply.TheVariants.{XHELD}
-use Rattle.keys.specs.declared.point.Point.{Point}
-use Rattle.keys.specs.Layouts.{Layout', cell_place}
-use Rattle.keys.specs.Objects.{acquires}
+use Rattle.posixmutex.specs.declared.point.Point.{Point}
+use Rattle.memorymap.specs.Layouts.{Layout', cell_place}
+use Rattle.posixmutex.specs.Objects.{acquires}
 use Rattle.facts.specs.Lives.{Act, Complete}
 use Rattle.condvar.specs.declared.op.Op.{Op}
 use Rattle.condvar.specs.Ops.{mutex_of, operation_of}

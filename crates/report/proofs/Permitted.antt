@@ -3,11 +3,11 @@ use Rattle.std.proofs.Common.{◌≡◌, ◌≢◌, ℕ, ◌==◌, Bool, true, f
 use Rattle.std.specs.Prelude.{if◌then◌else◌, ◌||◌, MatchBool}
 use Rattle.lockword.specs.declared.reply.Reply.{Reply}
 use Rattle.lockword.specs.declared.reply.Reply.TheVariants.{OK, EPERM, EBUSY, EINVAL, EDEADLK, EOWNERDEAD, ENOTRECOVERABLE, XRACED, XHELD, XFULL, XSTATE}
-use Rattle.keys.specs.declared.object.Object.{Object}
-use Rattle.keys.specs.declared.point.Operation.{Operation}
-use Rattle.keys.specs.declared.point.Operation.TheVariants.{Lock, TryLock, Unlock, Consistent, Wait, Signal, Broadcast, Death, Reinit}
-use Rattle.keys.proofs.Steps.{determined}
-use Rattle.keys.specs.Objects.{held_limit, acquires, Does, freed, owned_by, Permits}
+use Rattle.posixmutex.specs.declared.object.Object.{Object}
+use Rattle.posixmutex.specs.declared.point.Operation.{Operation}
+use Rattle.posixmutex.specs.declared.point.Operation.TheVariants.{Lock, TryLock, Unlock, Consistent, Wait, Signal, Broadcast, Death, Reinit}
+use Rattle.posixmutex.proofs.Steps.{determined}
+use Rattle.posixmutex.specs.Objects.{held_limit, acquires, Does, freed, owned_by, Permits}
 use Rattle.report.specs.Lone.{answer, MutexesPermitOnlyAnswers, by_owner, taken, taking, IsAnswer}
 
 -- ---- whose it is

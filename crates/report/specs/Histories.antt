@@ -5,11 +5,11 @@ use Rattle.std.specs.List.{flat_map}
 use Rattle.lockword.specs.Cells.{fields_of}
 use Rattle.lockword.specs.declared.reply.Reply.{Reply}
 use Rattle.lockword.specs.declared.reply.Reply.TheVariants.{XHELD}
-use Rattle.keys.specs.declared.point.Point.{Point}
-use Rattle.keys.specs.Layouts.{Layout', cell_place}
-use Rattle.keys.specs.declared.object.Object.{Object}
-use Rattle.keys.specs.Histories.{opening}
-use Rattle.keys.specs.Objects.{acquires, fresh, object_of, Run}
+use Rattle.posixmutex.specs.declared.point.Point.{Point}
+use Rattle.memorymap.specs.Layouts.{Layout', cell_place}
+use Rattle.posixmutex.specs.declared.object.Object.{Object}
+use Rattle.posixmutex.specs.Histories.{opening}
+use Rattle.posixmutex.specs.Objects.{acquires, fresh, object_of, Run}
 use Rattle.condvar.specs.declared.op.Op.{Op}
 use Rattle.condvar.specs.Ops.{mutex_of, operation_of}
 use Rattle.facts.specs.Lives.{Act, Beginning, Complete}

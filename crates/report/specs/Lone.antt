@@ -3,12 +3,12 @@
 use Rattle.std.specs.Prelude.{ℕ, ◌≡◌, ◌≢◌, ◌+◌, ◌<◌, ◌==◌, ◌||◌, Bool, true, false, nat_le, Option, None, Some, List, [], ◌∷◌, All, length, slice_get, take, if◌then◌else◌}
 use Rattle.lockword.specs.declared.reply.Reply.{Reply}
 use Rattle.lockword.specs.declared.reply.Reply.TheVariants.{OK, EPERM, EBUSY, EINVAL, EDEADLK, EOWNERDEAD, ENOTRECOVERABLE, XRACED, XHELD, XFULL, XSTATE}
-use Rattle.keys.specs.declared.object.Object.{Object}
-use Rattle.keys.specs.declared.point.Operation.{Operation}
-use Rattle.keys.specs.declared.point.Operation.TheVariants.{Lock, TryLock, Unlock, Consistent, Wait, Signal, Broadcast, Death, Reinit}
-use Rattle.keys.specs.Histories.{is_thread, held_by}
-use Rattle.keys.specs.Layouts.{Layout', cell_place}
-use Rattle.keys.specs.Objects.{held_limit, bereaved, stepped, Does, Run}
+use Rattle.posixmutex.specs.declared.object.Object.{Object}
+use Rattle.posixmutex.specs.declared.point.Operation.{Operation}
+use Rattle.posixmutex.specs.declared.point.Operation.TheVariants.{Lock, TryLock, Unlock, Consistent, Wait, Signal, Broadcast, Death, Reinit}
+use Rattle.posixmutex.specs.Histories.{is_thread, held_by}
+use Rattle.memorymap.specs.Layouts.{Layout', cell_place}
+use Rattle.posixmutex.specs.Objects.{held_limit, bereaved, stepped, Does, Run}
 use Rattle.condvar.specs.declared.op.Op.{Op}
 use Rattle.condvar.specs.Ops.{mutex_of, operation_of}
 use Rattle.facts.specs.Lives.{Act, Beginning}

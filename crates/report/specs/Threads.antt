@@ -2,7 +2,7 @@
 use Rattle.std.specs.Prelude.{ℕ, ◌≡◌, ◌+◌, ◌<◌, Bool, true, Option, None, Some, List, [], ◌∷◌, ◌++◌, length, map, slice_index, All, Vec, slice_get, ◌==◌, if◌then◌else◌}
 use Rattle.std.specs.declared.alloc.Global.{Global}
 use Rattle.std.specs.List.{flat_map}
-use Rattle.keys.specs.Layouts.{Layout', cell_place, counter_place}
+use Rattle.memorymap.specs.Layouts.{Layout', cell_place, counter_place}
 use Rattle.lockword.specs.declared.reply.Reply.{Reply}
 use Rattle.condvar.specs.declared.op.Op.{Op}
 use Rattle.condvar.specs.Ops.{is_in}

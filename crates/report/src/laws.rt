@@ -9,7 +9,7 @@ pub fn phases_of_one_thread_are_determined()
     ensures { PhasesAreDetermined }
 {}
 
-/// What a thread is answered while no other thread is in a call is all that `keys::Object::step` lets its mutex reply,
+/// What a thread is answered while no other thread is in a call is all that `posixmutex::Object::step` lets its mutex reply,
 /// but for X_RACED, which wants somebody else's changes.
 pub fn mutexes_permit_only_answers()
     ensures { MutexesPermitOnlyAnswers }

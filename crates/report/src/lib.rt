@@ -8,7 +8,7 @@
 //!
 //! Stands on `cmdline`, for the forms, on `streams`, for files, on `script`, `interleave` and `protocol`, for scripts and runs,
 //! on `threadbench`, `ruledwords`, `mutex` and `condvar`, for real threads, on `texts`, for what is written, on `verdict` and
-//! `runs_judged`, for judging it, on `facts`, `keys` and `lockword`, for lines, want of memory and replies, and on `itoa`, for
+//! `runs_judged`, for judging it, on `facts`, `posixmutex`, `memorymap` and `lockword`, for lines, histories, want of memory and replies, and on `itoa`, for
 //! numbers.
 //!
 //! ```text

@@ -9,8 +9,8 @@ ghost use Rattle.report.specs.Threads.{IsRightPhase, AreRightPhases, calls_in, A
 
 use crate::meeting::meet;
 use condvar::Op;
-use keys::NoMem;
 use lockword::Reply;
+use memorymap::NoMem;
 use ruledwords::{Last, Live, Pass, Spent};
 use script::{Jobs, Phase, Script};
 use std::alloc::{AllocError, Global};

@@ -2,8 +2,8 @@
 use Rattle.std.proofs.Common.{◌≡◌, ◌≢◌, ℕ, ◌==◌, Bool, true, false, List, arith, refl, subst, sym}
 use Rattle.std.specs.Prelude.{if◌then◌else◌}
 use Rattle.std.proofs.lemmas.Bool.Decides.{nat_tests}
-use Rattle.keys.specs.declared.access.Access.{Access}
-use Rattle.keys.specs.Accesses.{address_of, changed}
+use Rattle.stepprograms.specs.declared.access.Access.{Access}
+use Rattle.stepprograms.specs.Accesses.{address_of, changed}
 use Rattle.robustlist.specs.Words.{after, Agree, Makes}
 
 -- a load's place keeps its value

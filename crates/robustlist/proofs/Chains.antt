@@ -2,7 +2,7 @@
 use Rattle.std.proofs.Common.{◌≡◌, ◌≢◌, ◌⊎◌, inl, inr, ℕ, ◌==◌, Bool, true, false, List, [], ◌∷◌, arith, refl, sym, ap, ◌∙◌, subst}
 use Rattle.std.specs.Prelude.{if◌then◌else◌}
 use Rattle.std.proofs.lemmas.Bool.Decides.{nat_tests}
-use Rattle.keys.specs.Chains.{previous_place, IsAmong, IsApart, AreDifferent, links_of, places_of, Leads, LeadsBack, IsChainBothWays, without}
+use Rattle.memorymap.specs.Chains.{previous_place, IsAmong, IsApart, AreDifferent, links_of, places_of, Leads, LeadsBack, IsChainBothWays, without}
 use Rattle.robustlist.specs.Words.{put}
 use Rattle.robustlist.specs.LinkLaws.{put_in_front}
 use Rattle.robustlist.proofs.Places.{avoids, head-apart, links-apart, entries-different, without_first, without_later, without-among, put_same, put_other}

@@ -4,11 +4,11 @@ use Rattle.std.specs.Prelude.{if◌then◌else◌}
 use Rattle.std.proofs.lemmas.Bool.Decides.{nat_tests}
 use Rattle.lockword.specs.declared.reply.Reply.{Reply}
 use Rattle.lockword.specs.declared.reply.Reply.TheVariants.{OK, EFAULT}
-use Rattle.keys.specs.declared.access.Access.TheVariants as access
-use Rattle.keys.specs.declared.access.Answer.{Answer}
-use Rattle.keys.specs.declared.access.Answer.TheVariants as answer
-use Rattle.keys.specs.Accesses.{address_of}
-use Rattle.keys.specs.Chains.{previous_place, IsAmong, AreDifferent, links_of, IsChain, IsChainBothWays}
+use Rattle.stepprograms.specs.declared.access.Access.TheVariants as access
+use Rattle.stepprograms.specs.declared.access.Answer.{Answer}
+use Rattle.stepprograms.specs.declared.access.Answer.TheVariants as answer
+use Rattle.stepprograms.specs.Accesses.{address_of}
+use Rattle.memorymap.specs.Chains.{previous_place, IsAmong, AreDifferent, links_of, IsChain, IsChainBothWays}
 use Rattle.robustlist.specs.declared.link.LinkRow.{LinkRow}
 use Rattle.robustlist.specs.declared.link.LinkRow.TheVariants.{LoadFirst, StoreNext, StorePrevious, StoreBehind, StoreFirst, Ended}
 use Rattle.robustlist.specs.Words.{put, answer_on, after, IsAnswerOf, IsOn, Agree, Makes}

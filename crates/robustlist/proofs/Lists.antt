@@ -1,6 +1,6 @@
 -- Words have one list, and a head that leads to itself an empty one.
 use Rattle.std.proofs.Common.{◌≡◌, ◌≢◌, ◌≤◌, ℕ, List, [], ◌∷◌, arith, refl, sym, ap, ◌∙◌, subst}
-use Rattle.keys.specs.Chains.{address_sum, IsApart, AreDifferent, places_of, Leads}
+use Rattle.memorymap.specs.Chains.{address_sum, IsApart, AreDifferent, places_of, Leads}
 use Rattle.robustlist.specs.Lists.{ChainsAreUnique, HeadsBeginEmpty}
 
 leads-once : (w : ℕ → ℕ) (h a : ℕ) (es ds : List ℕ) → IsApart h es → IsApart h ds → Leads w h a es → Leads w h a ds → ds ≡ es

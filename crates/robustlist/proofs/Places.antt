@@ -2,7 +2,7 @@
 use Rattle.std.proofs.Common.{◌≡◌, ◌≢◌, ◌⊎◌, inl, inr, ℕ, ◌==◌, Bool, true, false, List, [], ◌∷◌, arith, refl, sym, ap, ◌∙◌}
 use Rattle.std.specs.Prelude.{if◌then◌else◌}
 use Rattle.std.proofs.lemmas.Bool.Decides.{nat_tests}
-use Rattle.keys.specs.Chains.{previous_place, IsAmong, IsApart, AreDifferent, links_of, places_of, without}
+use Rattle.memorymap.specs.Chains.{previous_place, IsAmong, IsApart, AreDifferent, links_of, places_of, without}
 use Rattle.robustlist.specs.Words.{put, IsOn}
 use Rattle.robustlist.specs.LinkLaws.{LiesApart}
 

@@ -3,8 +3,8 @@ use Rattle.std.proofs.Common.{◌≡◌, ◌≢◌, inl, inr, ℕ, zero, suc, �
 use Rattle.std.specs.Prelude.{if◌then◌else◌}
 use Rattle.std.proofs.lemmas.Bool.Decides.{nat_tests}
 use Rattle.lockword.specs.declared.reply.Reply.TheVariants.{OK}
-use Rattle.keys.specs.declared.access.Access.TheVariants as access
-use Rattle.keys.specs.Chains.{previous_place, IsAmong, IsApart, AreDifferent, links_of, IsChain, IsChainBothWays, without}
+use Rattle.stepprograms.specs.declared.access.Access.TheVariants as access
+use Rattle.memorymap.specs.Chains.{previous_place, IsAmong, IsApart, AreDifferent, links_of, IsChain, IsChainBothWays, without}
 use Rattle.robustlist.specs.declared.unlink.UnlinkRow.{UnlinkRow}
 use Rattle.robustlist.specs.declared.unlink.UnlinkRow.TheVariants.{LoadNext, LoadPrevious, StoreNext, StorePrevious, Ended}
 use Rattle.robustlist.specs.Words.{answer_on, after, IsOn}

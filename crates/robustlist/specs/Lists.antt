@@ -1,6 +1,6 @@
 -- What words say of a list, whoever reads them.
 use Rattle.std.specs.Prelude.{ℕ, ◌≡◌, List, []}
-use Rattle.keys.specs.Chains.{IsChain, IsChainBothWays}
+use Rattle.memorymap.specs.Chains.{IsChain, IsChainBothWays}
 
 -- a head leads over one list at most
 abbrev pub ChainsAreUnique : Type 0

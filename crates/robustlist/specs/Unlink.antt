@@ -9,13 +9,13 @@
 -- Anything that isn't an answer of the access counts as a fault: the unlink returns EFAULT.
 use Rattle.std.specs.Prelude.{ℕ, ◌==◌, None, if◌then◌else◌}
 use Rattle.lockword.specs.declared.reply.Reply.TheVariants.{OK, EFAULT}
-use Rattle.keys.specs.declared.access.Access.{Access}
-use Rattle.keys.specs.declared.access.Access.TheVariants.{Load, Store}
-use Rattle.keys.specs.declared.access.Answer.{Answer}
-use Rattle.keys.specs.declared.access.Answer.TheVariants.{Value, Stored}
-use Rattle.keys.specs.declared.point.Progress.{Progress}
-use Rattle.keys.specs.declared.point.Progress.TheVariants.{Goes, Returns}
-use Rattle.keys.specs.Chains.{previous_place}
+use Rattle.stepprograms.specs.declared.access.Access.{Access}
+use Rattle.stepprograms.specs.declared.access.Access.TheVariants.{Load, Store}
+use Rattle.stepprograms.specs.declared.access.Answer.{Answer}
+use Rattle.stepprograms.specs.declared.access.Answer.TheVariants.{Value, Stored}
+use Rattle.stepprograms.specs.declared.program.Progress.{Progress}
+use Rattle.stepprograms.specs.declared.program.Progress.TheVariants.{Goes, Returns}
+use Rattle.memorymap.specs.Chains.{previous_place}
 use Rattle.robustlist.specs.declared.unlink.UnlinkRow.{UnlinkRow}
 use Rattle.robustlist.specs.declared.unlink.UnlinkRow.TheVariants.{LoadNext, LoadPrevious, StoreNext, StorePrevious, Ended}
 use Rattle.robustlist.specs.Standings.{UnlinkStanding}

@@ -2,9 +2,9 @@
 use Rattle.std.specs.Prelude.{ℕ, zero, suc, ◌≡◌, ◌<◌, ◌≤◌, ◌==◌, Bool, false, List, [], ◌∷◌, if◌then◌else◌}
 use Rattle.lockword.specs.declared.reply.Reply.{Reply}
 use Rattle.lockword.specs.declared.reply.Reply.TheVariants.{OK, EFAULT}
-use Rattle.keys.specs.declared.access.Answer.{Answer}
-use Rattle.keys.specs.Accesses.{address_of}
-use Rattle.keys.specs.Chains.{previous_place, IsAmong, AreDifferent, places_of, IsChain, IsChainBothWays, without}
+use Rattle.stepprograms.specs.declared.access.Answer.{Answer}
+use Rattle.stepprograms.specs.Accesses.{address_of}
+use Rattle.memorymap.specs.Chains.{previous_place, IsAmong, AreDifferent, places_of, IsChain, IsChainBothWays, without}
 use Rattle.robustlist.specs.declared.unlink.UnlinkRow.{UnlinkRow}
 use Rattle.robustlist.specs.declared.unlink.UnlinkRow.TheVariants.{LoadNext, LoadPrevious, StoreNext, StorePrevious, Ended}
 use Rattle.robustlist.specs.Words.{put, answer_on, after, IsAnswerOf, IsOn, Agree, Makes}

@@ -1,11 +1,11 @@
 -- What accesses do to words, and which words are a list's.
 use Rattle.std.specs.Prelude.{ℕ, ◌≡◌, ◌≢◌, ◌==◌, List, if◌then◌else◌, ◌⊎◌}
-use Rattle.keys.specs.declared.access.Access.{Access}
-use Rattle.keys.specs.declared.access.Access.TheVariants.{Load, Store}
-use Rattle.keys.specs.declared.access.Answer.{Answer}
-use Rattle.keys.specs.declared.access.Answer.TheVariants.{Value, Stored}
-use Rattle.keys.specs.Accesses.{address_of, changed, answer_at}
-use Rattle.keys.specs.Chains.{previous_place, IsAmong}
+use Rattle.stepprograms.specs.declared.access.Access.{Access}
+use Rattle.stepprograms.specs.declared.access.Access.TheVariants.{Load, Store}
+use Rattle.stepprograms.specs.declared.access.Answer.{Answer}
+use Rattle.stepprograms.specs.declared.access.Answer.TheVariants.{Value, Stored}
+use Rattle.stepprograms.specs.Accesses.{address_of, changed, answer_at}
+use Rattle.memorymap.specs.Chains.{previous_place, IsAmong}
 
 -- the words with a value at a place
 abbrev pub put : (ℕ → ℕ) → ℕ → ℕ → ℕ → ℕ

@@ -8,7 +8,7 @@
 //! The words of a thread's own head are an empty list before anything has happened (`heads_begin_empty`), and words that are a
 //! chain are the chain of one list (`chains_are_unique`).
 //!
-//! Stands on `keys`, for accesses and answers, and on `lockword`, for replies.
+//! Stands on `memorymap`, for lists through words, on `stepprograms`, for accesses and answers, and on `lockword`, for replies.
 //!
 //! ```text
 //! // The head of thread 1 is at 1 to 3 and leads to itself; a mutex's cell is at 4, its entry at 5 and 6.

@@ -2,9 +2,9 @@
 ghost use Rattle.std.specs.Prelude.{◌≡◌};
 ghost use Rattle.robustlist.specs.Link.{link_progress, link_stored};
 
-use keys::{Access, Answer, Progress, StepProgram};
 use lockword::Reply;
 use std::marker::Model;
+use stepprograms::{Access, Answer, Progress, StepProgram};
 
 /// Where a link stands: the access that it makes next, and the first entry so far (the head's own address where the list was empty).
 #[derive(Clone, Copy, Debug, PartialEq, Eq)]

@@ -2,9 +2,9 @@
 ghost use Rattle.std.specs.Prelude.{◌≡◌};
 ghost use Rattle.robustlist.specs.Unlink.{unlink_progress, unlink_stored};
 
-use keys::{Access, Answer, Progress, StepProgram};
 use lockword::Reply;
 use std::marker::Model;
+use stepprograms::{Access, Answer, Progress, StepProgram};
 
 /// Where an unlink stands: the access that it makes next, and what the entry's two words were: the addresses of the entry after it and of the one before
 /// it, or the head's.

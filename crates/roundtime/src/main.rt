@@ -7,8 +7,8 @@
 ghost use Rattle.std.specs.Prelude.{◌<◌, IfSome};
 ghost use Rattle.ruledwords.specs.Passes.{layout_of, IsLive};
 
-use keys::Layout;
 use lockword::Reply;
+use memorymap::Layout;
 use ruledwords::{Live, Never, Outcome, Pass, Released, Words};
 use std::sync::atomic::{AtomicU64, Ordering};
 use std::time::{Duration, Instant};

@@ -1,6 +1,6 @@
 -- The access of a running call, as its function has it.
 use Rattle.std.proofs.Common.{◌≡◌, ℕ, ◌≤◌, Option, sym, ap, ◌∙◌, subst}
-use Rattle.keys.specs.declared.point.Point.{Point}
+use Rattle.posixmutex.specs.declared.point.Point.{Point}
 use Rattle.mutex.specs.Programs.{access_of, row_operation, point_of}
 use Rattle.mutex.specs.Rows.{IsGoing}
 use Rattle.mutex.specs.Standings.{Standing}

@@ -3,10 +3,10 @@ use Rattle.std.proofs.Common.{Bool, true, false, ◌≡◌, ℕ, ◌^◌, ◌<�
 use Rattle.std.specs.Prelude.{if◌then◌else◌}
 use mathlib.Core.Option.{none}
 use Rattle.atomic_table.specs.Table.{step, Allows}
-use Rattle.keys.specs.declared.access.Access.{Access}
-use Rattle.keys.specs.Accesses.{address_of, changed}
-use Rattle.keys.specs.Addresses.{address_from}
-use Rattle.keys.specs.Layouts.{Layout', base_of, counter_place, words_of, place_in}
+use Rattle.stepprograms.specs.declared.access.Access.{Access}
+use Rattle.stepprograms.specs.Accesses.{address_of, changed}
+use Rattle.memorymap.specs.Addresses.{address_from}
+use Rattle.memorymap.specs.Layouts.{Layout', base_of, counter_place, words_of, place_in}
 use Rattle.mutex.proofs.Addresses.{again, few_words, low}
 use Rattle.condvar.specs.Laws.{is_at_counter}
 use Rattle.mutex.specs.Whole.{phase_access as phase_access_of}

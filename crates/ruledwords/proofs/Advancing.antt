@@ -2,12 +2,12 @@
 use Rattle.std.proofs.Common.{◌≡◌, ℕ, ◌≤◌, List, Option, None, refl, sym, ap, ◌∙◌, subst, ⊎_elim}
 use Rattle.atomic_table.specs.declared.shared.Seat.{Seat}
 use Rattle.lockword.specs.declared.reply.Reply.{Reply}
-use Rattle.keys.specs.declared.access.Access.{Access}
-use Rattle.keys.specs.declared.access.Answer.{Answer}
-use Rattle.keys.specs.declared.access.Answer.TheVariants.{Stored}
-use Rattle.keys.specs.declared.point.Point.{Point}
-use Rattle.keys.specs.Accesses.{answer_at}
-use Rattle.keys.specs.Layouts.{Layout', cell_place}
+use Rattle.stepprograms.specs.declared.access.Access.{Access}
+use Rattle.stepprograms.specs.declared.access.Answer.{Answer}
+use Rattle.stepprograms.specs.declared.access.Answer.TheVariants.{Stored}
+use Rattle.posixmutex.specs.declared.point.Point.{Point}
+use Rattle.stepprograms.specs.Accesses.{answer_at}
+use Rattle.memorymap.specs.Layouts.{Layout', cell_place}
 use Rattle.robustlist.specs.Words.{answer_on}
 use Rattle.mutex.specs.declared.phase.Phase.{Phase}
 use Rattle.mutex.specs.declared.phase.Phase.TheVariants as phase

@@ -3,7 +3,7 @@ use Rattle.std.proofs.Common.{◌≡◌, ◌≢◌, inl, inr, ℕ, ◌+◌, ◌-
 use Rattle.std.specs.Prelude.{nat_lt}
 use Rattle.std.proofs.lemmas.Bool.Decides.{nat_tests}
 use Rattle.cachelines.specs.Spread.{slot_of}
-use Rattle.keys.specs.Layouts.{head_place, cell_place}
+use Rattle.memorymap.specs.Layouts.{head_place, cell_place}
 use Rattle.ruledwords.specs.Apart.{HeadsAndMutexesLieApart, LieApart}
 
 -- word i of group a

@@ -1,7 +1,7 @@
 -- Calls behind a meeting.
 use Rattle.std.proofs.Common.{◌≡◌, ℕ, List, [], ◌∷◌, ◌++◌, sym, ap, ◌∙◌, subst}
 use mathlib.Core.List.{IsPrefix}
-use Rattle.keys.specs.declared.point.Point.{Point}
+use Rattle.posixmutex.specs.declared.point.Point.{Point}
 use Rattle.facts.specs.Lives.{Act}
 use Rattle.ruledwords.specs.declared.pass.Card.{Card}
 use Rattle.ruledwords.specs.Cards.{at}

@@ -3,12 +3,12 @@ use Rattle.std.proofs.Common.{Bool, ◌≡◌, ℕ, ◌≤◌, Option, Some, Non
 use mathlib.Core.Logic.{dite}
 use native.Mathlib.Decide.{ℕ_discrete}
 use Rattle.lockword.specs.declared.reply.Reply.{Reply}
-use Rattle.keys.specs.declared.object.Object.{Object}
-use Rattle.keys.specs.declared.point.Operation.{Operation}
-use Rattle.keys.specs.declared.point.Point.{Point}
-use Rattle.keys.specs.Layouts.{Layout', IsLayout, base_of, cell_place}
+use Rattle.posixmutex.specs.declared.object.Object.{Object}
+use Rattle.posixmutex.specs.declared.point.Operation.{Operation}
+use Rattle.posixmutex.specs.declared.point.Point.{Point}
+use Rattle.memorymap.specs.Layouts.{Layout', IsLayout, base_of, cell_place}
 use Rattle.mutex.proofs.Addresses.{same_place}
-use Rattle.keys.specs.Objects.{fresh, Run}
+use Rattle.posixmutex.specs.Objects.{fresh, Run}
 use Rattle.facts.specs.Lives.{Complete}
 use Rattle.mutex.specs.Standings.{Standing}
 use Rattle.ruledwords.specs.declared.pass.Card.{Card}

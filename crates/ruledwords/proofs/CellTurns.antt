@@ -1,12 +1,12 @@
 -- A call at its mutex's cell: a step there, or a section.
 use Rattle.std.proofs.Common.{◌≡◌, ℕ, ◌<◌, ◌≤◌, ◌^◌, Option, Some, None, refl, sym, ap, ◌∙◌, subst, arith}
 use Rattle.lockword.specs.declared.reply.Reply.{Reply}
-use Rattle.keys.specs.declared.access.Access.{Access}
-use Rattle.keys.specs.declared.access.Answer.{Answer}
-use Rattle.keys.specs.declared.point.Operation.{Operation}
-use Rattle.keys.specs.declared.point.Point.{Point}
-use Rattle.keys.specs.Accesses.{answer_at}
-use Rattle.keys.specs.Layouts.{Layout', cell_place}
+use Rattle.stepprograms.specs.declared.access.Access.{Access}
+use Rattle.stepprograms.specs.declared.access.Answer.{Answer}
+use Rattle.posixmutex.specs.declared.point.Operation.{Operation}
+use Rattle.posixmutex.specs.declared.point.Point.{Point}
+use Rattle.stepprograms.specs.Accesses.{answer_at}
+use Rattle.memorymap.specs.Layouts.{Layout', cell_place}
 use Rattle.mutex.specs.declared.call.Call.{Call}
 use Rattle.mutex.specs.declared.phase.Phase.{Phase}
 use Rattle.mutex.specs.declared.phase.Phase.TheVariants as phase
@@ -67,7 +67,7 @@ module _ (w : Words) (r : Running) (of : IsRunningOf w r) (at : IsAtCell (runnin
   on = of.1.0
 
   pub here : IsOnMutex k z on
-  here = (of.1.1.inside, of.1.1.of.cell ∙ ap (λ (t : ℕ). Rattle.keys.specs.Layouts.address_in k t (cell_place k on)) (sym r.ready.0))
+  here = (of.1.1.inside, of.1.1.of.cell ∙ ap (λ (t : ℕ). Rattle.memorymap.specs.Layouts.address_in k t (cell_place k on)) (sym r.ready.0))
 
   pub going : IsGoing z.row
   going = (cell_knows p.phase at of.1.1.list.knows).0

@@ -8,7 +8,7 @@ use mathlib.Core.Option.{some}
 use native.Mathlib.Decide.{ℕ_discrete}
 use lib.ListN.{get_elem?}
 use Rattle.atomic_table.proofs.Lists.{at_set, at_snoc}
-use Rattle.keys.specs.Layouts.{Layout', cell_place, counter_place}
+use Rattle.memorymap.specs.Layouts.{Layout', cell_place, counter_place}
 use Rattle.ruledwords.specs.declared.pass.Card.{Card}
 use Rattle.ruledwords.specs.declared.pass.Change.{Change}
 use Rattle.ruledwords.specs.Changes.{changes_at, put_changes, made_by, made_by_others, left_by, left_of, change_of, first_changes, AllTied, AreBehindFirst, AreBy, ChangedNothing, ChangedOnce, KnowsMoreAt, KnowsOn, Loaded, OthersChanged, Recorded, Tied, Writes}

@@ -7,18 +7,18 @@ use native.Mathlib.Decide.{ℕ_discrete}
 use Rattle.lockword.specs.Cells.{fields_of}
 use Rattle.lockword.specs.declared.reply.Reply.{Reply}
 use Rattle.lockword.specs.declared.reply.Reply.TheVariants.{OK, EPERM, XFULL, XSTATE}
-use Rattle.keys.specs.declared.access.Access.{Access}
-use Rattle.keys.specs.declared.access.Access.TheVariants as access
-use Rattle.keys.specs.declared.access.Answer.{Answer}
-use Rattle.keys.specs.declared.access.Answer.TheVariants.{Value}
-use Rattle.keys.specs.declared.object.Object.{Object}
-use Rattle.keys.specs.declared.point.Operation.{Operation}
-use Rattle.keys.specs.declared.point.Operation.TheVariants as operation
-use Rattle.keys.specs.declared.point.Point.{Point}
-use Rattle.keys.specs.Layouts.{Layout', address_in, cell_place, counter_place, place_in}
-use Rattle.keys.specs.Objects.{fresh, held_limit, object_of, Run}
-use Rattle.keys.proofs.Objects.{run_same}
-use Rattle.keys.proofs.Owners.{owner_of-some}
+use Rattle.stepprograms.specs.declared.access.Access.{Access}
+use Rattle.stepprograms.specs.declared.access.Access.TheVariants as access
+use Rattle.stepprograms.specs.declared.access.Answer.{Answer}
+use Rattle.stepprograms.specs.declared.access.Answer.TheVariants.{Value}
+use Rattle.posixmutex.specs.declared.object.Object.{Object}
+use Rattle.posixmutex.specs.declared.point.Operation.{Operation}
+use Rattle.posixmutex.specs.declared.point.Operation.TheVariants as operation
+use Rattle.posixmutex.specs.declared.point.Point.{Point}
+use Rattle.memorymap.specs.Layouts.{Layout', address_in, cell_place, counter_place, place_in}
+use Rattle.posixmutex.specs.Objects.{fresh, held_limit, object_of, Run}
+use Rattle.posixmutex.proofs.Objects.{run_same}
+use Rattle.posixmutex.proofs.Owners.{owner_of-some}
 use Rattle.mutex.proofs.Addresses.{again}
 use Rattle.robustlist.specs.Standings.{UnlinkStanding}
 use Rattle.robustlist.specs.Unlink.{unlink_access_of}
@@ -279,7 +279,7 @@ module _ (k : Layout') (he en ce co t : ℕ) where
       -- the word said that its thread is the owner
       owner_by_word : (w : ℕ) → o ≡ object_of (fields_of w) → (fields_of w).owner ≡ t → o.owner ≡ Some d.thread
       owner_by_word w at_word own =
-          ap (λ (x : Object). x.owner) at_word ∙ ap Rattle.keys.specs.Objects.owner_of own ∙ owner_of-some t (subst (λ (u : ℕ). 1 ≤ u) (sym at_call.thread) is.first) ∙ ap Some (at_call.thread ∙ sym sees.thread)
+          ap (λ (x : Object). x.owner) at_word ∙ ap Rattle.posixmutex.specs.Objects.owner_of own ∙ owner_of-some t (subst (λ (u : ℕ). 1 ≤ u) (sym at_call.thread) is.first) ∙ ap Some (at_call.thread ∙ sym sees.thread)
 
     -- ---- the first load
 

@@ -4,16 +4,16 @@ use Rattle.std.specs.Prelude.{if◌then◌else◌}
 use Rattle.lockword.specs.Cells.{fields_of}
 use Rattle.lockword.specs.declared.reply.Reply.{Reply}
 use Rattle.lockword.specs.declared.reply.Reply.TheVariants.{OK}
-use Rattle.keys.specs.declared.access.Access.{Access}
-use Rattle.keys.specs.declared.access.Answer.{Answer}
-use Rattle.keys.specs.declared.access.Answer.TheVariants.{Again, Count, Counts as Moved, Stored, Value, Woken}
-use Rattle.keys.specs.declared.object.Object.{Object}
-use Rattle.keys.specs.declared.point.Operation.TheVariants as operation
-use Rattle.keys.specs.declared.point.Point.{Point}
-use Rattle.keys.specs.Accesses.{answer_at}
-use Rattle.keys.specs.Addresses.{address_from}
-use Rattle.keys.specs.Layouts.{Layout', base_of, counter_place}
-use Rattle.keys.specs.Objects.{fresh, held_limit, Run}
+use Rattle.stepprograms.specs.declared.access.Access.{Access}
+use Rattle.stepprograms.specs.declared.access.Answer.{Answer}
+use Rattle.stepprograms.specs.declared.access.Answer.TheVariants.{Again, Count, Counts as Moved, Stored, Value, Woken}
+use Rattle.posixmutex.specs.declared.object.Object.{Object}
+use Rattle.posixmutex.specs.declared.point.Operation.TheVariants as operation
+use Rattle.posixmutex.specs.declared.point.Point.{Point}
+use Rattle.stepprograms.specs.Accesses.{answer_at}
+use Rattle.memorymap.specs.Addresses.{address_from}
+use Rattle.memorymap.specs.Layouts.{Layout', base_of, counter_place}
+use Rattle.posixmutex.specs.Objects.{fresh, held_limit, Run}
 use Rattle.mutex.proofs.Addresses.{few_words, low}
 use Rattle.robustlist.specs.declared.unlink.UnlinkRow.{UnlinkRow}
 use Rattle.robustlist.specs.declared.unlink.UnlinkRow.TheVariants as unlink_row

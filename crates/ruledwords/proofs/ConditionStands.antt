@@ -5,17 +5,17 @@ use Rattle.std.proofs.lemmas.Bool.{eqb-false}
 use Rattle.lockword.specs.Cells.{fields_of}
 use Rattle.lockword.specs.declared.reply.Reply.{Reply}
 use Rattle.lockword.specs.declared.reply.Reply.TheVariants.{OK, EPERM, XFULL, XSTATE}
-use Rattle.keys.specs.declared.access.Access.{Access}
-use Rattle.keys.specs.declared.access.Answer.{Answer}
-use Rattle.keys.specs.declared.access.Answer.TheVariants.{Again, Count, Counts as Moved, Value, Woken}
-use Rattle.keys.specs.declared.object.Object.{Object}
-use Rattle.keys.specs.declared.point.Operation.{Operation}
-use Rattle.keys.specs.declared.point.Operation.TheVariants as operation
-use Rattle.keys.specs.declared.point.Point.{Point}
-use Rattle.keys.specs.Accesses.{answer_at}
-use Rattle.keys.specs.Layouts.{Layout', counter_place}
-use Rattle.keys.specs.Objects.{fresh, object_of}
-use Rattle.keys.proofs.Objects.{run_same}
+use Rattle.stepprograms.specs.declared.access.Access.{Access}
+use Rattle.stepprograms.specs.declared.access.Answer.{Answer}
+use Rattle.stepprograms.specs.declared.access.Answer.TheVariants.{Again, Count, Counts as Moved, Value, Woken}
+use Rattle.posixmutex.specs.declared.object.Object.{Object}
+use Rattle.posixmutex.specs.declared.point.Operation.{Operation}
+use Rattle.posixmutex.specs.declared.point.Operation.TheVariants as operation
+use Rattle.posixmutex.specs.declared.point.Point.{Point}
+use Rattle.stepprograms.specs.Accesses.{answer_at}
+use Rattle.memorymap.specs.Layouts.{Layout', counter_place}
+use Rattle.posixmutex.specs.Objects.{fresh, object_of}
+use Rattle.posixmutex.proofs.Objects.{run_same}
 use Rattle.robustlist.specs.declared.unlink.UnlinkRow.{UnlinkRow}
 use Rattle.robustlist.specs.declared.unlink.UnlinkRow.TheVariants as unlink_row
 use Rattle.robustlist.specs.Standings.{UnlinkStanding}
@@ -93,7 +93,7 @@ module _ (k : Layout') (he en ce co t : ℕ) where
     owned_first : Called c0 z [] c → owns_in k c0 (m k he en ce co t) ≡ owns_in k c (m k he en ce co t)
     owned_first h = sym (ap (λ (u : ℕ). holds u (at c.seen z)) h.saw.thread ∙ ap (held_after false) (h.saw.own ∙ append-nil _))
 
-    owner_by_word : (n : ℕ) → Called c0 z [] c → holds c.thread (at c.seen z) ≡ Rattle.keys.specs.Histories.is_thread c.thread (object_of (fields_of n)).owner → owns_in k c0 (m k he en ce co t) ≡ ((fields_of n).owner == t)
+    owner_by_word : (n : ℕ) → Called c0 z [] c → holds c.thread (at c.seen z) ≡ Rattle.posixmutex.specs.Histories.is_thread c.thread (object_of (fields_of n)).owner → owns_in k c0 (m k he en ce co t) ≡ ((fields_of n).owner == t)
     owner_by_word n h holder = owned_first h ∙ holder ∙ is_owner_by c.thread (fields_of n).owner pos ∙ ap (λ (u : ℕ). (fields_of n).owner == u) (sym mine)
 
     -- ---- the first load

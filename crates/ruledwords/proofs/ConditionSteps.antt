@@ -7,15 +7,15 @@ use Rattle.lockword.specs.Cells.{Fields, fields_of}
 use Rattle.lockword.specs.declared.reply.Reply.{Reply}
 use Rattle.lockword.specs.declared.reply.Reply.TheVariants.{EPERM, XSTATE}
 use Rattle.lockword.proofs.Bits.{or_waiting}
-use Rattle.keys.specs.declared.object.Object.{Object}
-use Rattle.keys.specs.declared.point.Operation.{Operation}
-use Rattle.keys.specs.declared.point.Operation.TheVariants as operation
-use Rattle.keys.specs.declared.point.Point.{Point}
-use Rattle.keys.specs.Accesses.{changed}
-use Rattle.keys.specs.Layouts.{Layout', IsLayout, cell_place, counter_place}
-use Rattle.keys.specs.Objects.{fresh, Run, object_of}
-use Rattle.keys.proofs.Objects.{run_same}
-use Rattle.keys.proofs.Owners.{owner_of-is}
+use Rattle.posixmutex.specs.declared.object.Object.{Object}
+use Rattle.posixmutex.specs.declared.point.Operation.{Operation}
+use Rattle.posixmutex.specs.declared.point.Operation.TheVariants as operation
+use Rattle.posixmutex.specs.declared.point.Point.{Point}
+use Rattle.stepprograms.specs.Accesses.{changed}
+use Rattle.memorymap.specs.Layouts.{Layout', IsLayout, cell_place, counter_place}
+use Rattle.posixmutex.specs.Objects.{fresh, Run, object_of}
+use Rattle.posixmutex.proofs.Objects.{run_same}
+use Rattle.posixmutex.proofs.Owners.{owner_of-is}
 use Rattle.mutex.specs.Laws.{points, Sound}
 use Rattle.condvar.specs.declared.broadcast.BroadcastRow.TheVariants as broadcast
 use Rattle.condvar.specs.declared.row.CondRow.{CondRow}

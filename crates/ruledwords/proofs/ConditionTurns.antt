@@ -2,18 +2,18 @@
 use Rattle.std.proofs.Common.{◌≡◌, false, ℕ, ◌-◌, ◌<◌, ◌≤◌, Option, Some, None, List, length, refl, sym, ap, ◌∙◌, subst, arith}
 use Rattle.atomic_table.specs.declared.shared.Seat.{Seat}
 use Rattle.lockword.specs.declared.reply.Reply.{Reply}
-use Rattle.keys.specs.declared.access.Access.{Access}
-use Rattle.keys.specs.declared.access.Access.TheVariants as access
-use Rattle.keys.specs.declared.access.Answer.{Answer}
-use Rattle.keys.specs.declared.access.Answer.TheVariants.{Again, Count, Counts as Moved, Woken}
-use Rattle.keys.specs.declared.point.Point.{Point}
-use Rattle.keys.specs.declared.point.Progress.{Progress}
-use Rattle.keys.specs.declared.point.Progress.TheVariants.{Goes, Returns}
-use Rattle.keys.specs.declared.point.Operation.TheVariants as operation
-use Rattle.keys.specs.Accesses.{address_of, answer_at}
+use Rattle.stepprograms.specs.declared.access.Access.{Access}
+use Rattle.stepprograms.specs.declared.access.Access.TheVariants as access
+use Rattle.stepprograms.specs.declared.access.Answer.{Answer}
+use Rattle.stepprograms.specs.declared.access.Answer.TheVariants.{Again, Count, Counts as Moved, Woken}
+use Rattle.posixmutex.specs.declared.point.Point.{Point}
+use Rattle.stepprograms.specs.declared.program.Progress.{Progress}
+use Rattle.stepprograms.specs.declared.program.Progress.TheVariants.{Goes, Returns}
+use Rattle.posixmutex.specs.declared.point.Operation.TheVariants as operation
+use Rattle.stepprograms.specs.Accesses.{address_of, answer_at}
 use Rattle.robustlist.specs.Unlink.{unlink_access_of}
-use Rattle.keys.specs.Layouts.{Layout', address_in, counter_place, place_in, words_of}
-use Rattle.keys.specs.Objects.{held_limit}
+use Rattle.memorymap.specs.Layouts.{Layout', address_in, counter_place, place_in, words_of}
+use Rattle.posixmutex.specs.Objects.{held_limit}
 use Rattle.mutex.proofs.Addresses.{again}
 use Rattle.mutex.specs.declared.phase.Phase.TheVariants as phase
 use Rattle.mutex.specs.Standings.{Whole}

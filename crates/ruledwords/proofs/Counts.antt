@@ -4,9 +4,9 @@ use Rattle.std.specs.Prelude.{if◌then◌else◌}
 use mathlib.Core.Logic.{dite}
 use native.Mathlib.Decide.{ℕ_discrete}
 use Rattle.lockword.specs.declared.reply.Reply.{Reply}
-use Rattle.keys.specs.declared.point.Operation.{Operation}
-use Rattle.keys.specs.declared.point.Point.{Point}
-use Rattle.keys.specs.Layouts.{Layout', IsLayout, cell_place}
+use Rattle.posixmutex.specs.declared.point.Operation.{Operation}
+use Rattle.posixmutex.specs.declared.point.Point.{Point}
+use Rattle.memorymap.specs.Layouts.{Layout', IsLayout, cell_place}
 use Rattle.condvar.specs.Laws.{reply_counts}
 use Rattle.ruledwords.specs.Cards.{at}
 use Rattle.ruledwords.specs.Counts.{cell_at, counter_in, counts_in, mutex_at, total_of, Counted}

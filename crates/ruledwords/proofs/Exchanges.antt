@@ -5,8 +5,8 @@ use Rattle.std.proofs.lemmas.Bool.{eqb-false}
 use Rattle.lockword.specs.Cells.{Fields, fields_of, word_of}
 use Rattle.lockword.specs.Coding.{word_of-fields_of}
 use Rattle.lockword.specs.declared.reply.Reply.TheVariants.{OK, EPERM, EINVAL, EBUSY, EDEADLK, ENOTRECOVERABLE, XRACED}
-use Rattle.keys.specs.declared.access.Answer.TheVariants.{Changed, Exchanged}
-use Rattle.keys.specs.Accesses.{answer_at, changed}
+use Rattle.stepprograms.specs.declared.access.Answer.TheVariants.{Changed, Exchanged}
+use Rattle.stepprograms.specs.Accesses.{answer_at, changed}
 use Rattle.mutex.specs.declared.consistent.ConsistentRow.TheVariants as consistent
 use Rattle.mutex.specs.declared.lock.LockRow.TheVariants as lock
 use Rattle.mutex.specs.declared.phase.Phase.{Phase}

@@ -2,7 +2,7 @@
 use Rattle.std.proofs.Common.{◌≡◌, ℕ, false, subst}
 use Rattle.std.specs.Prelude.{nat_le}
 use Rattle.lockword.specs.declared.reply.Reply.{Reply}
-use Rattle.keys.specs.declared.point.Operation.TheVariants as operation
+use Rattle.posixmutex.specs.declared.point.Operation.TheVariants as operation
 use Rattle.mutex.specs.declared.call.Call.{Call}
 use Rattle.mutex.specs.declared.call.Call.TheVariants as call
 use Rattle.ruledwords.specs.declared.pass.Words.{Words}
@@ -12,7 +12,7 @@ use Rattle.ruledwords.specs.declared.turn.Outcome.{Outcome}
 use Rattle.ruledwords.specs.declared.turn.Outcome.TheVariants as outcome
 use Rattle.ruledwords.specs.declared.turn.Running.{Running}
 use Rattle.ruledwords.specs.Outcomes.{Declared, Finishes, Tried}
-use Rattle.keys.specs.Layouts.{cell_place}
+use Rattle.memorymap.specs.Layouts.{cell_place}
 use Rattle.ruledwords.specs.Passes.{card, layout_of}
 use Rattle.ruledwords.specs.Seen.{held}
 use Rattle.ruledwords.specs.Turns.{running_call, running_pass, IsIn, IsRaced, IsUnderWay}

@@ -3,13 +3,13 @@ use Rattle.std.proofs.Common.{Bool, true, false, ◌≡◌, ◌≢◌, ℕ, zero
 use Rattle.std.specs.Prelude.{if◌then◌else◌}
 use Rattle.lockword.specs.Cells.{Fields, fields_of}
 use Rattle.lockword.specs.declared.reply.Reply.TheVariants.{OK, EPERM}
-use Rattle.keys.specs.declared.access.Access.TheVariants as access
-use Rattle.keys.specs.declared.point.Operation.TheVariants as operation
+use Rattle.stepprograms.specs.declared.access.Access.TheVariants as access
+use Rattle.posixmutex.specs.declared.point.Operation.TheVariants as operation
 use Rattle.lockword.proofs.Bits.{xor_released, xor_spoiled}
-use Rattle.keys.specs.Accesses.{answer_at, changed}
-use Rattle.keys.specs.declared.object.Object.{Object}
-use Rattle.keys.specs.Objects.{fresh, object_of, owner_of, Run}
-use Rattle.keys.proofs.Objects.{run_same}
+use Rattle.stepprograms.specs.Accesses.{answer_at, changed}
+use Rattle.posixmutex.specs.declared.object.Object.{Object}
+use Rattle.posixmutex.specs.Objects.{fresh, object_of, owner_of, Run}
+use Rattle.posixmutex.proofs.Objects.{run_same}
 use Rattle.mutex.specs.declared.row.Row.{Row}
 use Rattle.mutex.specs.declared.row.Row.TheVariants.{Lock, TryLock, Unlock, Consistent, Ended}
 use Rattle.mutex.specs.declared.row.Led.{Led}

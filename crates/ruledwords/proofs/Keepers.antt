@@ -6,7 +6,7 @@ use Rattle.std.proofs.lemmas.Bool.{eqb-false}
 use mathlib.Core.Logic.{dite}
 use native.Mathlib.Decide.{ℕ_discrete}
 use Rattle.lockword.specs.Cells.{fields_of}
-use Rattle.keys.specs.Layouts.{Layout', head_place, cell_place, entry_place, counter_place, words_of}
+use Rattle.memorymap.specs.Layouts.{Layout', head_place, cell_place, entry_place, counter_place, words_of}
 use Rattle.ruledwords.specs.Rules.{guard, owner_at, keeper}
 
 -- the two tests of a place

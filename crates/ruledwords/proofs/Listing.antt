@@ -8,18 +8,18 @@ use native.Mathlib.Decide.{ℕ_discrete}
 use Rattle.lockword.specs.Cells.{fields_of}
 use Rattle.lockword.specs.declared.reply.Reply.{Reply}
 use Rattle.lockword.specs.declared.reply.Reply.TheVariants.{OK, EOWNERDEAD, EFAULT}
-use Rattle.keys.specs.declared.access.Access.{Access}
-use Rattle.keys.specs.declared.access.Access.TheVariants as access
-use Rattle.keys.specs.declared.access.Answer.{Answer}
-use Rattle.keys.specs.declared.access.Answer.TheVariants.{Value}
-use Rattle.keys.specs.declared.point.Operation.{Operation}
-use Rattle.keys.specs.declared.point.Operation.TheVariants as operation
-use Rattle.keys.specs.declared.object.Object.{Object}
-use Rattle.keys.specs.Accesses.{address_of, answer_at, changed}
-use Rattle.keys.specs.Histories.{is_thread}
-use Rattle.keys.specs.declared.point.Point.{Point}
-use Rattle.keys.specs.Layouts.{Layout', IsLayout, cell_offset, head_place, cell_place, words_of, base_of, address_in, place_in}
-use Rattle.keys.specs.Objects.{fresh, object_of, Permits, Run}
+use Rattle.stepprograms.specs.declared.access.Access.{Access}
+use Rattle.stepprograms.specs.declared.access.Access.TheVariants as access
+use Rattle.stepprograms.specs.declared.access.Answer.{Answer}
+use Rattle.stepprograms.specs.declared.access.Answer.TheVariants.{Value}
+use Rattle.posixmutex.specs.declared.point.Operation.{Operation}
+use Rattle.posixmutex.specs.declared.point.Operation.TheVariants as operation
+use Rattle.posixmutex.specs.declared.object.Object.{Object}
+use Rattle.stepprograms.specs.Accesses.{address_of, answer_at, changed}
+use Rattle.posixmutex.specs.Histories.{is_thread}
+use Rattle.posixmutex.specs.declared.point.Point.{Point}
+use Rattle.memorymap.specs.Layouts.{Layout', IsLayout, cell_offset, head_place, cell_place, words_of, base_of, address_in, place_in}
+use Rattle.posixmutex.specs.Objects.{fresh, object_of, Permits, Run}
 use Rattle.robustlist.specs.Words.{answer_on, after}
 use Rattle.mutex.specs.declared.phase.Phase.{Phase}
 use Rattle.mutex.specs.declared.phase.Phase.TheVariants.{Announcing, AtCell, Linking, Unlinking, Clearing, Ended}
@@ -36,7 +36,7 @@ use Rattle.mutex.specs.declared.call.Call.{Call}
 use Rattle.mutex.specs.Calls.{mutex_of}
 use Rattle.mutex.specs.Whole.{begins, whole_access, whole_led, whole_moved, IsUnderWay}
 use Rattle.mutex.specs.WholeLists.{HasList, KeepsList, Arrives, AgreeOnOwn, IsCallOn, IsOwnAccess, IsOwnAddress, IsOwnPlace, IsThere, CanBeWalked, OwnsAt, owns_after}
-use Rattle.keys.specs.Chains.{address_sum}
+use Rattle.memorymap.specs.Chains.{address_sum}
 use Rattle.mutex.proofs.Addresses.{again, further_on, low, same_place}
 use Rattle.mutex.proofs.WholeLists.{right}
 use Rattle.ruledwords.specs.declared.pass.Card.{Card}

@@ -10,10 +10,10 @@ use native.Mathlib.Decide.{ℕ_discrete}
 use mathlib.Core.List.{IsPrefix}
 use lib.ListN.{get_elem?}
 use Rattle.lockword.specs.declared.reply.Reply.{Reply}
-use Rattle.keys.specs.Layouts.{Layout'}
-use Rattle.keys.specs.declared.point.Operation.{Operation}
-use Rattle.keys.specs.declared.point.Operation.TheVariants.{Reinit}
-use Rattle.keys.specs.declared.point.Point.{Point}
+use Rattle.memorymap.specs.Layouts.{Layout'}
+use Rattle.posixmutex.specs.declared.point.Operation.{Operation}
+use Rattle.posixmutex.specs.declared.point.Operation.TheVariants.{Reinit}
+use Rattle.posixmutex.specs.declared.point.Point.{Point}
 use Rattle.mutex.specs.Laws.{points}
 use Rattle.mutex.specs.Programs.{point_of}
 use Rattle.ruledwords.specs.declared.pass.Card.{Card}

@@ -6,9 +6,9 @@ use lib.Seq.{set-get_or}
 use Rattle.atomic_table.specs.Table.{step, keeps, Allows}
 use Rattle.atomic_table.proofs.Lists.{at_set}
 use Rattle.lockword.specs.Cells.{fields_of}
-use Rattle.keys.specs.declared.point.Point.{Point}
-use Rattle.keys.specs.Layouts.{Layout', cell_place}
-use Rattle.keys.specs.Objects.{object_of}
+use Rattle.posixmutex.specs.declared.point.Point.{Point}
+use Rattle.memorymap.specs.Layouts.{Layout', cell_place}
+use Rattle.posixmutex.specs.Objects.{object_of}
 use Rattle.ruledwords.specs.declared.pass.Card.{Card}
 use Rattle.ruledwords.specs.Cards.{at}
 use Rattle.ruledwords.specs.Seen.{by, Leaves}

@@ -5,10 +5,10 @@ use mathlib.Core.Option.{none}
 use mathlib.Core.Path.{fun_ext}
 use prog.Atomic.{either}
 use Rattle.atomic_table.specs.Table.{Step, step, Allows}
-use Rattle.keys.specs.declared.access.Access.{Access}
-use Rattle.keys.specs.Accesses.{address_of, changed}
-use Rattle.keys.specs.Addresses.{address_from}
-use Rattle.keys.specs.Layouts.{Layout', base_of, cell_place, words_of, place_in}
+use Rattle.stepprograms.specs.declared.access.Access.{Access}
+use Rattle.stepprograms.specs.Accesses.{address_of, changed}
+use Rattle.memorymap.specs.Addresses.{address_from}
+use Rattle.memorymap.specs.Layouts.{Layout', base_of, cell_place, words_of, place_in}
 use Rattle.mutex.proofs.Addresses.{again, few_words}
 use Rattle.mutex.specs.Programs.{access_of}
 use Rattle.mutex.specs.Rows.{IsGoing}

@@ -11,13 +11,13 @@ use Rattle.atomic_table.proofs.Lists.{at_set}
 use Rattle.lockword.specs.Cells.{fields_of}
 use Rattle.lockword.specs.declared.reply.Reply.{Reply}
 use Rattle.lockword.specs.declared.reply.Reply.TheVariants.{OK}
-use Rattle.keys.specs.declared.object.Object.{Object}
-use Rattle.keys.specs.declared.point.Operation.TheVariants.{Death}
-use Rattle.keys.specs.declared.point.Point.{Point}
-use Rattle.keys.specs.Accesses.{answer_at, changed}
-use Rattle.keys.specs.Layouts.{Layout', cell_place}
-use Rattle.keys.specs.Objects.{fresh, Run, object_of}
-use Rattle.keys.proofs.Objects.{run_same}
+use Rattle.posixmutex.specs.declared.object.Object.{Object}
+use Rattle.posixmutex.specs.declared.point.Operation.TheVariants.{Death}
+use Rattle.posixmutex.specs.declared.point.Point.{Point}
+use Rattle.stepprograms.specs.Accesses.{answer_at, changed}
+use Rattle.memorymap.specs.Layouts.{Layout', cell_place}
+use Rattle.posixmutex.specs.Objects.{fresh, Run, object_of}
+use Rattle.posixmutex.proofs.Objects.{run_same}
 use Rattle.exitwalk.specs.declared.row.Part.TheVariants.{Pending}
 use Rattle.exitwalk.specs.declared.row.Row.TheVariants.{Mark as AtMark}
 use Rattle.exitwalk.specs.Steps.{points, Right}
@@ -116,7 +116,7 @@ module _ (t old : ℕ) (pos : 1 ≤ t) (mine : (fields_of old).owner ≡ t) wher
   pub runs : (n q : ℕ) → Run (object_of (fields_of n)) (deaths t q (n == old)) (object_of (fields_of (left_by_mark old n)))
   runs n q = go (n == old) (law n).runs
     where
-      go : (b : Bool) → Run (object_of (fields_of n)) (points (point_of t (AtMark 0 old false Pending) (if b then Rattle.keys.specs.declared.access.Answer.TheVariants.Exchanged else Rattle.keys.specs.declared.access.Answer.TheVariants.Changed n))) (object_of (fields_of (if b then marked_word old else n))) → Run (object_of (fields_of n)) (deaths t q b) (object_of (fields_of (if b then marked_word old else n)))
+      go : (b : Bool) → Run (object_of (fields_of n)) (points (point_of t (AtMark 0 old false Pending) (if b then Rattle.stepprograms.specs.declared.access.Answer.TheVariants.Exchanged else Rattle.stepprograms.specs.declared.access.Answer.TheVariants.Changed n))) (object_of (fields_of (if b then marked_word old else n))) → Run (object_of (fields_of n)) (deaths t q b) (object_of (fields_of (if b then marked_word old else n)))
       go true run = run
       go false run = run
 

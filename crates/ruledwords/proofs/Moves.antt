@@ -10,14 +10,14 @@ use Rattle.atomic_table.proofs.Lists.{at_set}
 use Rattle.lockword.specs.Cells.{fields_of}
 use Rattle.lockword.specs.declared.reply.Reply.{Reply}
 use Rattle.lockword.specs.declared.reply.Reply.TheVariants.{OK}
-use Rattle.keys.specs.declared.point.Operation.{Operation}
-use Rattle.keys.specs.declared.point.Operation.TheVariants.{Reinit}
-use Rattle.keys.specs.declared.point.Point.{Point}
-use Rattle.keys.specs.declared.object.Object.{Object}
-use Rattle.keys.specs.Histories.{is_thread}
-use Rattle.keys.specs.Layouts.{Layout', cell_place, counter_place}
-use Rattle.keys.specs.Objects.{fresh, Run, object_of, owner_of}
-use Rattle.keys.proofs.Objects.{run_append}
+use Rattle.posixmutex.specs.declared.point.Operation.{Operation}
+use Rattle.posixmutex.specs.declared.point.Operation.TheVariants.{Reinit}
+use Rattle.posixmutex.specs.declared.point.Point.{Point}
+use Rattle.posixmutex.specs.declared.object.Object.{Object}
+use Rattle.posixmutex.specs.Histories.{is_thread}
+use Rattle.memorymap.specs.Layouts.{Layout', cell_place, counter_place}
+use Rattle.posixmutex.specs.Objects.{fresh, Run, object_of, owner_of}
+use Rattle.posixmutex.proofs.Objects.{run_append}
 use Rattle.ruledwords.specs.declared.pass.Card.{Card}
 use Rattle.ruledwords.specs.declared.pass.Change.{Change}
 use Rattle.ruledwords.specs.Cards.{at, put, value_at, mark_at, put_mark}

@@ -1,7 +1,7 @@
 -- Calls whose thread has seen no more of any mutex since.
 use Rattle.std.proofs.Common.{Bool, ◌≡◌, ℕ, List, [], ◌∷◌, ◌++◌, Option, refl, sym, ap, ◌∙◌, subst, append_assoc}
 use Rattle.facts.specs.Lives.{Act}
-use Rattle.keys.specs.declared.point.Operation.{Operation}
+use Rattle.posixmutex.specs.declared.point.Operation.{Operation}
 use Rattle.mutex.specs.declared.row.Row.{Row}
 use Rattle.mutex.specs.Laws.{changes, decided}
 use Rattle.mutex.specs.Standings.{Standing}
@@ -12,8 +12,8 @@ use Rattle.ruledwords.specs.Changes.{KnowsMoreAt, KnowsOn}
 use Rattle.ruledwords.specs.Looks.{KnowsTheSame}
 use Rattle.lockword.specs.declared.reply.Reply.{Reply}
 use Rattle.lockword.specs.declared.reply.Reply.TheVariants.{OK}
-use Rattle.keys.specs.declared.point.Operation.TheVariants.{Lock, Unlock}
-use Rattle.keys.specs.declared.point.Point.{Point}
+use Rattle.posixmutex.specs.declared.point.Operation.TheVariants.{Lock, Unlock}
+use Rattle.posixmutex.specs.declared.point.Point.{Point}
 use Rattle.ruledwords.specs.Cards.{at}
 use Rattle.ruledwords.specs.Seen.{by, points_of, EndsWith, Called, Saw}
 use Rattle.ruledwords.specs.Turns.{HasSeenTheSame}

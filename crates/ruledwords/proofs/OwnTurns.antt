@@ -1,11 +1,11 @@
 -- A call at one of its thread's own words.
 use Rattle.std.proofs.Common.{◌≡◌, ℕ, ◌≤◌, List, Some, refl, sym, ap, ◌∙◌, subst}
 use Rattle.lockword.specs.declared.reply.Reply.{Reply}
-use Rattle.keys.specs.declared.access.Access.{Access}
-use Rattle.keys.specs.declared.access.Access.TheVariants as access
-use Rattle.keys.specs.declared.access.Answer.{Answer}
-use Rattle.keys.specs.Accesses.{answer_at}
-use Rattle.keys.specs.Layouts.{Layout', cell_place}
+use Rattle.stepprograms.specs.declared.access.Access.{Access}
+use Rattle.stepprograms.specs.declared.access.Access.TheVariants as access
+use Rattle.stepprograms.specs.declared.access.Answer.{Answer}
+use Rattle.stepprograms.specs.Accesses.{answer_at}
+use Rattle.memorymap.specs.Layouts.{Layout', cell_place}
 use Rattle.robustlist.specs.Words.{answer_on}
 use Rattle.mutex.specs.declared.call.Call.{Call}
 use Rattle.mutex.specs.declared.phase.Phase.{Phase}

@@ -8,8 +8,8 @@ use lib.Seq.{set-get_or}
 use Rattle.atomic_table.specs.Table.{step, keeps, Allows}
 use Rattle.atomic_table.proofs.Lists.{at_set, set_again}
 use Rattle.lockword.specs.Cells.{fields_of}
-use Rattle.keys.specs.Layouts.{Layout', cell_place, counter_place, words_of}
-use Rattle.keys.specs.Objects.{object_of}
+use Rattle.memorymap.specs.Layouts.{Layout', cell_place, counter_place, words_of}
+use Rattle.posixmutex.specs.Objects.{object_of}
 use Rattle.ruledwords.specs.declared.pass.Card.{Card}
 use Rattle.ruledwords.specs.Cards.{at, value_at, put_value, mark_at}
 use Rattle.ruledwords.specs.Seen.{holds, Leaves}

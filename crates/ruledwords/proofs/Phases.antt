@@ -3,15 +3,15 @@ use Rattle.std.proofs.Common.{Bool, true, false, ◌≡◌, ℕ, ◌==◌, Optio
 use Rattle.std.specs.Prelude.{if◌then◌else◌}
 use Rattle.lockword.specs.declared.reply.Reply.{Reply}
 use Rattle.lockword.specs.declared.reply.Reply.TheVariants.{OK, EOWNERDEAD, EFAULT}
-use Rattle.keys.specs.declared.access.Access.{Access}
-use Rattle.keys.specs.declared.access.Access.TheVariants as access
-use Rattle.keys.specs.declared.access.Answer.{Answer}
-use Rattle.keys.specs.declared.access.Answer.TheVariants.{Value, Stored}
-use Rattle.keys.specs.declared.point.Operation.{Operation}
-use Rattle.keys.specs.declared.point.Operation.TheVariants as operation
-use Rattle.keys.specs.declared.point.Point.{Point}
-use Rattle.keys.specs.declared.point.Progress.{Progress}
-use Rattle.keys.specs.declared.point.Progress.TheVariants.{Goes, Returns}
+use Rattle.stepprograms.specs.declared.access.Access.{Access}
+use Rattle.stepprograms.specs.declared.access.Access.TheVariants as access
+use Rattle.stepprograms.specs.declared.access.Answer.{Answer}
+use Rattle.stepprograms.specs.declared.access.Answer.TheVariants.{Value, Stored}
+use Rattle.posixmutex.specs.declared.point.Operation.{Operation}
+use Rattle.posixmutex.specs.declared.point.Operation.TheVariants as operation
+use Rattle.posixmutex.specs.declared.point.Point.{Point}
+use Rattle.stepprograms.specs.declared.program.Progress.{Progress}
+use Rattle.stepprograms.specs.declared.program.Progress.TheVariants.{Goes, Returns}
 use Rattle.robustlist.specs.declared.link.LinkRow.{LinkRow}
 use Rattle.robustlist.specs.declared.link.LinkRow.TheVariants as link
 use Rattle.robustlist.specs.declared.unlink.UnlinkRow.{UnlinkRow}

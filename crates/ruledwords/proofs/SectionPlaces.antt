@@ -1,7 +1,7 @@
 -- Where a section looks.
 use Rattle.std.proofs.Common.{◌≡◌, ℕ, ap, ◌∙◌, arith}
-use Rattle.keys.specs.Accesses.{address_of}
-use Rattle.keys.specs.Layouts.{Layout', cell_place, place_in}
+use Rattle.stepprograms.specs.Accesses.{address_of}
+use Rattle.memorymap.specs.Layouts.{Layout', cell_place, place_in}
 use Rattle.mutex.specs.Standings.{Whole}
 use Rattle.mutex.specs.Whole.{whole_access}
 use Rattle.mutex.proofs.Addresses.{again}
@@ -21,5 +21,5 @@ section_place w r of section m here =
     let at = section_at_cell p r.going section in
     let low = here.0 in
     ap (λ a. place_in k (card r.pass).thread (address_of a)) (cell_access p at)
-    ∙ ap (place_in k (card r.pass).thread) (at_cell p.thread p.cell (row_in p.phase) ∙ here.1 ∙ ap (λ (t : ℕ). Rattle.keys.specs.Layouts.address_in k t (cell_place k m)) r.ready.0)
+    ∙ ap (place_in k (card r.pass).thread) (at_cell p.thread p.cell (row_in p.phase) ∙ here.1 ∙ ap (λ (t : ℕ). Rattle.memorymap.specs.Layouts.address_in k t (cell_place k m)) r.ready.0)
     ∙ again k (card r.pass).thread of.0.1.layout of.0.1.first of.0.1.thread (cell_place k m) (omega arith)

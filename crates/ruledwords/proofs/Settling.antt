@@ -1,8 +1,8 @@
 -- An unlock that has nobody to wake.
 use Rattle.std.proofs.Common.{◌≡◌, Some, ap, subst}
 use Rattle.lockword.specs.declared.reply.Reply.TheVariants.{OK}
-use Rattle.keys.specs.declared.access.Answer.{Answer}
-use Rattle.keys.specs.declared.access.Answer.TheVariants.{Stored}
+use Rattle.stepprograms.specs.declared.access.Answer.{Answer}
+use Rattle.stepprograms.specs.declared.access.Answer.TheVariants.{Stored}
 use Rattle.mutex.specs.declared.phase.Phase.{Phase}
 use Rattle.mutex.specs.declared.phase.Phase.TheVariants.{Clearing, Ended}
 use Rattle.mutex.specs.Laws.{decided}

@@ -1,6 +1,6 @@
 -- Accesses of a call, one after the other.
 use Rattle.std.proofs.Common.{◌≡◌, ℕ, ◌+◌, ◌<◌, Result, Ok, Err, sym, ap, ◌∙◌, subst, arith}
-use Rattle.keys.specs.declared.point.Operation.TheVariants as operation
+use Rattle.posixmutex.specs.declared.point.Operation.TheVariants as operation
 use Rattle.std.specs.Result.{IsErrAnd}
 use Rattle.mutex.specs.Standings.{Whole}
 use Rattle.mutex.specs.declared.call.Call.{Call}

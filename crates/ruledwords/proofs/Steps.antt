@@ -8,14 +8,14 @@ use native.Mathlib.Decide.{ℕ_discrete}
 use Rattle.atomic_table.specs.Table.{step, Allows}
 use Rattle.lockword.specs.Cells.{fields_of}
 use Rattle.lockword.specs.declared.reply.Reply.{Reply}
-use Rattle.keys.specs.declared.access.Access.{Access}
-use Rattle.keys.specs.declared.point.Point.{Point}
-use Rattle.keys.specs.declared.object.Object.{Object}
-use Rattle.keys.specs.Accesses.{changed}
-use Rattle.keys.specs.Histories.{is_thread}
-use Rattle.keys.specs.Layouts.{Layout', head_place, cell_place, entry_place, counter_place}
-use Rattle.keys.specs.Objects.{fresh, Run, object_of, owner_of}
-use Rattle.keys.proofs.Objects.{run_split, run_sound, others_keep}
+use Rattle.stepprograms.specs.declared.access.Access.{Access}
+use Rattle.posixmutex.specs.declared.point.Point.{Point}
+use Rattle.posixmutex.specs.declared.object.Object.{Object}
+use Rattle.stepprograms.specs.Accesses.{changed}
+use Rattle.posixmutex.specs.Histories.{is_thread}
+use Rattle.memorymap.specs.Layouts.{Layout', head_place, cell_place, entry_place, counter_place}
+use Rattle.posixmutex.specs.Objects.{fresh, Run, object_of, owner_of}
+use Rattle.posixmutex.proofs.Objects.{run_split, run_sound, others_keep}
 use Rattle.mutex.specs.declared.row.Row.{Row}
 use Rattle.mutex.specs.declared.row.Row.TheVariants as row
 use Rattle.mutex.specs.Laws.{Expects, Sound, Right}

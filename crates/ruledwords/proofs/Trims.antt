@@ -9,8 +9,8 @@ use Rattle.std.specs.Prelude.{if◌then◌else◌}
 use Rattle.atomic_table.specs.Table.{step, keeps, Allows}
 use Rattle.atomic_table.proofs.Lists.{at_set}
 use Rattle.lockword.specs.Cells.{fields_of}
-use Rattle.keys.specs.Layouts.{Layout', cell_place, counter_place}
-use Rattle.keys.specs.Objects.{object_of}
+use Rattle.memorymap.specs.Layouts.{Layout', cell_place, counter_place}
+use Rattle.posixmutex.specs.Objects.{object_of}
 use Rattle.ruledwords.specs.declared.pass.Card.{Card}
 use Rattle.ruledwords.specs.Cards.{at, mark_at}
 use Rattle.ruledwords.specs.Changes.{put_changes, Writes}

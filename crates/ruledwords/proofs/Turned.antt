@@ -1,7 +1,7 @@
 -- From what a step tells of a seat to what it tells of its card.
 use Rattle.std.proofs.Common.{◌≡◌, ℕ, List, [], ◌∷◌, ◌++◌, sym, ap, ◌∙◌, subst}
 use Rattle.atomic_table.specs.Table.{Allows}
-use Rattle.keys.specs.Layouts.{Layout'}
+use Rattle.memorymap.specs.Layouts.{Layout'}
 use Rattle.ruledwords.specs.declared.pass.Card.{Card}
 use Rattle.ruledwords.specs.Seen.{Joined}
 use Rattle.ruledwords.specs.Rules.{Kept, Turns, card_of, IsOne}

@@ -4,13 +4,13 @@ use Rattle.std.specs.Prelude.{if◌then◌else◌, nat_lt}
 use Rattle.std.proofs.lemmas.Bool.Decides.{nat_tests}
 use Rattle.lockword.specs.Cells.{fields_of, word_of}
 use Rattle.lockword.specs.Coding.{word_of-fields_of}
-use Rattle.keys.specs.declared.object.Object.{Object}
-use Rattle.keys.specs.declared.point.Point.{Point}
-use Rattle.keys.specs.Chains.{AreDifferent, IsAmong, IsApart, address_sum, without}
-use Rattle.keys.specs.Histories.{is_thread}
-use Rattle.keys.specs.Layouts.{Layout', cell_place, place_in}
-use Rattle.keys.specs.Objects.{fresh, object_of, owner_of, Run}
-use Rattle.keys.proofs.Objects.{run_same, run_split}
+use Rattle.posixmutex.specs.declared.object.Object.{Object}
+use Rattle.posixmutex.specs.declared.point.Point.{Point}
+use Rattle.memorymap.specs.Chains.{AreDifferent, IsAmong, IsApart, address_sum, without}
+use Rattle.posixmutex.specs.Histories.{is_thread}
+use Rattle.memorymap.specs.Layouts.{Layout', cell_place, place_in}
+use Rattle.posixmutex.specs.Objects.{fresh, object_of, owner_of, Run}
+use Rattle.posixmutex.proofs.Objects.{run_same, run_split}
 use Rattle.exitwalk.specs.declared.row.Row.TheVariants.{LoadFirst}
 use Rattle.exitwalk.specs.Standings.{Standing}
 use Rattle.mutex.specs.WholeLists.{head_in, entry_in}

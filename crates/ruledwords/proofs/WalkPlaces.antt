@@ -3,10 +3,10 @@ use Rattle.std.proofs.Common.{Bool, true, ◌≡◌, inl, inr, ℕ, ◌+◌, ◌
 use Rattle.std.specs.Prelude.{if◌then◌else◌, nat_lt}
 use Rattle.std.proofs.lemmas.Bool.{eqb-false}
 use Rattle.std.proofs.lemmas.Bool.Decides.{nat_tests}
-use Rattle.keys.specs.declared.access.Access.TheVariants.{Exchange, Load}
-use Rattle.keys.specs.Accesses.{address_of}
-use Rattle.keys.specs.Chains.{IsAmong, Leads, address_sum}
-use Rattle.keys.specs.Layouts.{Layout', cell_place, entry_place, head_place, place_in, words_of}
+use Rattle.stepprograms.specs.declared.access.Access.TheVariants.{Exchange, Load}
+use Rattle.stepprograms.specs.Accesses.{address_of}
+use Rattle.memorymap.specs.Chains.{IsAmong, Leads, address_sum}
+use Rattle.memorymap.specs.Layouts.{Layout', cell_place, entry_place, head_place, place_in, words_of}
 use Rattle.exitwalk.specs.declared.row.Part.{Part}
 use Rattle.exitwalk.specs.declared.row.Row.{Row}
 use Rattle.exitwalk.specs.declared.row.Row.TheVariants.{LoadFirst, LoadOffset, LoadPending, LoadNext, LoadWord, Mark, WakeOne, Ended}

@@ -7,17 +7,17 @@ use native.Mathlib.Decide.{ℕ_discrete}
 use Rattle.lockword.specs.Cells.{fields_of}
 use Rattle.lockword.specs.declared.reply.Reply.{Reply}
 use Rattle.lockword.specs.declared.reply.Reply.TheVariants.{OK}
-use Rattle.keys.specs.declared.access.Answer.{Answer}
-use Rattle.keys.specs.declared.access.Answer.TheVariants.{Value, Exchanged, Changed, Count}
-use Rattle.keys.specs.declared.object.Object.{Object}
-use Rattle.keys.specs.declared.point.Operation.TheVariants.{Death}
-use Rattle.keys.specs.declared.point.Point.{Point}
-use Rattle.keys.specs.declared.point.Progress.{Progress}
-use Rattle.keys.specs.declared.point.Progress.TheVariants.{Goes, Returns}
-use Rattle.keys.specs.Accesses.{answer_at}
-use Rattle.keys.specs.Chains.{address_sum}
-use Rattle.keys.specs.Layouts.{Layout', cell_place, entry_place, place_in}
-use Rattle.keys.specs.Objects.{object_of, owner_of, Run}
+use Rattle.stepprograms.specs.declared.access.Answer.{Answer}
+use Rattle.stepprograms.specs.declared.access.Answer.TheVariants.{Value, Exchanged, Changed, Count}
+use Rattle.posixmutex.specs.declared.object.Object.{Object}
+use Rattle.posixmutex.specs.declared.point.Operation.TheVariants.{Death}
+use Rattle.posixmutex.specs.declared.point.Point.{Point}
+use Rattle.stepprograms.specs.declared.program.Progress.{Progress}
+use Rattle.stepprograms.specs.declared.program.Progress.TheVariants.{Goes, Returns}
+use Rattle.stepprograms.specs.Accesses.{answer_at}
+use Rattle.memorymap.specs.Chains.{address_sum}
+use Rattle.memorymap.specs.Layouts.{Layout', cell_place, entry_place, place_in}
+use Rattle.posixmutex.specs.Objects.{object_of, owner_of, Run}
 use Rattle.exitwalk.specs.declared.row.Part.{Part}
 use Rattle.exitwalk.specs.declared.row.Row.{Row}
 use Rattle.exitwalk.specs.declared.row.Row.TheVariants.{LoadFirst, LoadOffset, LoadPending, LoadNext, LoadWord, Mark, WakeOne, Ended}

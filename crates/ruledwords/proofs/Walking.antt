@@ -3,8 +3,8 @@ use Rattle.std.proofs.Common.{◌≡◌, ◌≢◌, ◌⊎◌, inl, inr, ⊎_eli
 use Rattle.std.specs.Prelude.{if◌then◌else◌}
 use Rattle.std.proofs.lemmas.Bool.{eqb-false}
 use Rattle.lockword.specs.Cells.{fields_of}
-use Rattle.keys.specs.Chains.{IsAmong, AreDifferent, Leads, address_sum}
-use Rattle.keys.specs.Layouts.{Layout', IsLayout, entry_place, cell_place, cell_offset, words_of, address_in}
+use Rattle.memorymap.specs.Chains.{IsAmong, AreDifferent, Leads, address_sum}
+use Rattle.memorymap.specs.Layouts.{Layout', IsLayout, entry_place, cell_place, cell_offset, words_of, address_in}
 use Rattle.robustlist.proofs.Chains.{leads-same}
 use Rattle.robustlist.proofs.Places.{apart-among}
 use Rattle.exitwalk.specs.declared.row.Part.{Part}

@@ -1,7 +1,7 @@
 -- How far apart the words of threads and of mutexes lie in memory.
 use Rattle.std.specs.Prelude.{ℕ, ◌+◌, ◌<◌, ◌≤◌, ◌≢◌, ◌⊎◌}
 use Rattle.cachelines.specs.Spread.{slot_of}
-use Rattle.keys.specs.Layouts.{Layout', head_place, cell_place}
+use Rattle.memorymap.specs.Layouts.{Layout', head_place, cell_place}
 
 -- the words of two places lie eight words apart at least, which are 64 bytes: so no cache line has both
 abbrev pub LieApart : ℕ → ℕ → Type 0

@@ -3,17 +3,17 @@ use Rattle.std.specs.Prelude.{◌≡◌, ℕ, ◌+◌, ◌-◌, ◌^◌, ◌<◌
 use Rattle.lockword.specs.Cells.{fields_of, word_of}
 use Rattle.lockword.specs.declared.reply.Reply.{Reply}
 use Rattle.lockword.specs.declared.reply.Reply.TheVariants.{OK, EOWNERDEAD}
-use Rattle.keys.specs.declared.access.Access.{Access}
-use Rattle.keys.specs.declared.access.Answer.{Answer}
-use Rattle.keys.specs.declared.point.Operation.{Operation}
-use Rattle.keys.specs.declared.point.Operation.TheVariants.{Lock, TryLock, Unlock, Death}
-use Rattle.keys.specs.declared.point.Point.{Point}
-use Rattle.keys.specs.declared.object.Object.{Object}
-use Rattle.keys.specs.Accesses.{changed, answer_at}
-use Rattle.keys.specs.Histories.{is_thread}
-use Rattle.keys.specs.Addresses.{address_from}
-use Rattle.keys.specs.Layouts.{Layout', cell_place, address_in}
-use Rattle.keys.specs.Objects.{held_limit, fresh, Run, object_of, acquires}
+use Rattle.stepprograms.specs.declared.access.Access.{Access}
+use Rattle.stepprograms.specs.declared.access.Answer.{Answer}
+use Rattle.posixmutex.specs.declared.point.Operation.{Operation}
+use Rattle.posixmutex.specs.declared.point.Operation.TheVariants.{Lock, TryLock, Unlock, Death}
+use Rattle.posixmutex.specs.declared.point.Point.{Point}
+use Rattle.posixmutex.specs.declared.object.Object.{Object}
+use Rattle.stepprograms.specs.Accesses.{changed, answer_at}
+use Rattle.posixmutex.specs.Histories.{is_thread}
+use Rattle.memorymap.specs.Addresses.{address_from}
+use Rattle.memorymap.specs.Layouts.{Layout', cell_place, address_in}
+use Rattle.posixmutex.specs.Objects.{held_limit, fresh, Run, object_of, acquires}
 use Rattle.facts.specs.Lives.{Act}
 use Rattle.mutex.specs.declared.row.Row.{Row}
 use Rattle.mutex.specs.declared.row.Row.TheVariants as row

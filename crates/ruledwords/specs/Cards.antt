@@ -1,6 +1,6 @@
 -- Lists by place. Beyond the end of such a list nothing was put.
 use Rattle.std.specs.Prelude.{ℕ, zero, suc, Bool, false, Option, None, List, [], ◌∷◌}
-use Rattle.keys.specs.declared.point.Point.{Point}
+use Rattle.posixmutex.specs.declared.point.Point.{Point}
 
 -- the points at p
 abbrev pub at : List (List Point) → ℕ → List Point

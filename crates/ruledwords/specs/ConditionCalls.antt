@@ -1,11 +1,11 @@
 -- Calls on condition variables that are under way, and what their turns tell.
 use Rattle.std.specs.Prelude.{◌≡◌, ℕ, List}
-use Rattle.keys.specs.declared.access.Access.{Access}
-use Rattle.keys.specs.declared.access.Access.TheVariants.{FetchAdd, CmpRequeue}
-use Rattle.keys.specs.declared.access.Answer.{Answer}
-use Rattle.keys.specs.declared.access.Answer.TheVariants.{Counts as Moved, Again}
-use Rattle.keys.specs.Accesses.{address_of, answer_at}
-use Rattle.keys.specs.Layouts.{Layout', place_in}
+use Rattle.stepprograms.specs.declared.access.Access.{Access}
+use Rattle.stepprograms.specs.declared.access.Access.TheVariants.{FetchAdd, CmpRequeue}
+use Rattle.stepprograms.specs.declared.access.Answer.{Answer}
+use Rattle.stepprograms.specs.declared.access.Answer.TheVariants.{Counts as Moved, Again}
+use Rattle.stepprograms.specs.Accesses.{address_of, answer_at}
+use Rattle.memorymap.specs.Layouts.{Layout', place_in}
 use Rattle.robustlist.specs.Words.{answer_on}
 use Rattle.condvar.specs.declared.phase.CondPhase.{CondPhase}
 use Rattle.condvar.specs.declared.phase.CondPhase.TheVariants as condition

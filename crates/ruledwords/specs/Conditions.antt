@@ -2,14 +2,14 @@
 use Rattle.std.specs.Prelude.{◌≡◌, ◌≢◌, ℕ, ◌+◌, ◌-◌, ◌<◌, ◌≤◌, Bool, true, false, Option, Some, List, bit_or, length}
 use Rattle.lockword.specs.Cells.{fields_of}
 use Rattle.lockword.specs.declared.reply.Reply.TheVariants.{OK}
-use Rattle.keys.specs.declared.access.Access.{Access}
-use Rattle.keys.specs.declared.access.Access.TheVariants.{Wait as AtWait, CmpRequeue}
-use Rattle.keys.specs.declared.object.Object.{Object}
-use Rattle.keys.specs.declared.point.Operation.TheVariants as operation
-use Rattle.keys.specs.Accesses.{answer_at, changed}
-use Rattle.keys.specs.Histories.{is_thread}
-use Rattle.keys.specs.Layouts.{Layout', address_in, counter_place, place_in}
-use Rattle.keys.specs.Objects.{fresh, held_limit, object_of, Run}
+use Rattle.stepprograms.specs.declared.access.Access.{Access}
+use Rattle.stepprograms.specs.declared.access.Access.TheVariants.{Wait as AtWait, CmpRequeue}
+use Rattle.posixmutex.specs.declared.object.Object.{Object}
+use Rattle.posixmutex.specs.declared.point.Operation.TheVariants as operation
+use Rattle.stepprograms.specs.Accesses.{answer_at, changed}
+use Rattle.posixmutex.specs.Histories.{is_thread}
+use Rattle.memorymap.specs.Layouts.{Layout', address_in, counter_place, place_in}
+use Rattle.posixmutex.specs.Objects.{fresh, held_limit, object_of, Run}
 use Rattle.mutex.specs.declared.phase.Phase.{Phase}
 use Rattle.mutex.specs.declared.phase.Phase.TheVariants as phase
 use Rattle.mutex.specs.declared.row.Row.TheVariants as row
@@ -130,7 +130,7 @@ abbrev pub cond_led_at : CondStanding → ℕ → CondLed
 cond_led_at p n = resume_of p.thread p.row (answer_at (access_at p) n)
 
 -- the point of the access, at the place of the mutex's cell
-abbrev pub decides_at : Layout' → ℕ → CondStanding → Card → ℕ → List Rattle.keys.specs.declared.point.Point.Point
+abbrev pub decides_at : Layout' → ℕ → CondStanding → Card → ℕ → List Rattle.posixmutex.specs.declared.point.Point.Point
 decides_at k q p c n = points (point_of c.thread (cell_at k q) (cond_led_at p n).decided)
 
 -- its first load, of the cell: the word was n

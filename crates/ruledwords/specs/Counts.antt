@@ -1,7 +1,7 @@
 -- What the counters of condition variables say of the calls that were made (pthread_cond_signal, pthread_cond_broadcast).
 use Rattle.std.specs.Prelude.{◌≡◌, ℕ, ◌+◌, ◌<◌, ◌==◌, List, [], ◌∷◌, length, slice_index, if◌then◌else◌}
-use Rattle.keys.specs.declared.point.Point.{Point}
-use Rattle.keys.specs.Layouts.{Layout', cell_place, counter_place}
+use Rattle.posixmutex.specs.declared.point.Point.{Point}
+use Rattle.memorymap.specs.Layouts.{Layout', cell_place, counter_place}
 use Rattle.condvar.specs.Laws.{reply_counts}
 use Rattle.ruledwords.specs.Cards.{at}
 

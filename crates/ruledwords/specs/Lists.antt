@@ -1,6 +1,6 @@
 -- What a thread's own words say of its robust list, as far as its card knows them (robust-futex-ABI; get_robust_list(2)).
 use Rattle.std.specs.Prelude.{◌<◌, ℕ, ◌^◌, nat_lt, Option, None, Some, if◌then◌else◌}
-use Rattle.keys.specs.Layouts.{Layout', place_in}
+use Rattle.memorymap.specs.Layouts.{Layout', place_in}
 use Rattle.mutex.specs.Standings.{Whole}
 use Rattle.mutex.specs.WholeLists.{HasList, KeepsList, IsCallOn, CanBeWalked}
 use Rattle.ruledwords.specs.declared.pass.Card.{Card}

@@ -1,8 +1,8 @@
 -- What a look at a cell tells, by which nothing is seen anew.
 use Rattle.std.specs.Prelude.{◌≡◌, ℕ, ◌+◌, ◌==◌, List, [], ◌++◌, if◌then◌else◌}
 use Rattle.lockword.specs.Cells.{fields_of}
-use Rattle.keys.specs.declared.point.Point.{Point}
-use Rattle.keys.specs.Objects.{object_of}
+use Rattle.posixmutex.specs.declared.point.Point.{Point}
+use Rattle.posixmutex.specs.Objects.{object_of}
 use Rattle.ruledwords.specs.declared.pass.Card.{Card}
 use Rattle.ruledwords.specs.declared.pass.Change.{Change}
 use Rattle.ruledwords.specs.Cards.{at}

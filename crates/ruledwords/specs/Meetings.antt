@@ -1,8 +1,8 @@
 -- What passes come to know where all of them meet.
 use Rattle.std.specs.Prelude.{◌≡◌, ℕ, Bool, true, false, Some, List, [], ◌++◌, map, slice_get, All}
 use mathlib.Core.List.{IsPrefix}
-use Rattle.keys.specs.declared.object.Object.{Object}
-use Rattle.keys.specs.declared.point.Point.{Point}
+use Rattle.posixmutex.specs.declared.object.Object.{Object}
+use Rattle.posixmutex.specs.declared.point.Point.{Point}
 use Rattle.facts.specs.Lives.{Act}
 use Rattle.ruledwords.specs.declared.pass.Card.{Card}
 use Rattle.ruledwords.specs.declared.pass.Change.{Change}

@@ -1,13 +1,13 @@
 -- What the calls of a pass answer.
 use Rattle.std.specs.Prelude.{◌≡◌, ℕ, ◌+◌, ◌≤◌, nat_le, Bool, true, false, MatchBool, Result, Ok, Err, [], ◌∷◌, if◌then◌else◌}
-use Rattle.keys.specs.declared.object.Object.{Object}
-use Rattle.keys.specs.Objects.{fresh, held_limit, Run}
+use Rattle.posixmutex.specs.declared.object.Object.{Object}
+use Rattle.posixmutex.specs.Objects.{fresh, held_limit, Run}
 use Rattle.lockword.specs.declared.reply.Reply.{Reply}
-use Rattle.keys.specs.declared.point.Operation.{Operation}
+use Rattle.posixmutex.specs.declared.point.Operation.{Operation}
 use Rattle.lockword.specs.Cells.{fields_of}
 use Rattle.lockword.specs.declared.reply.Reply.TheVariants.{OK, EPERM, XRACED, XHELD}
-use Rattle.keys.specs.declared.point.Operation.TheVariants.{TryLock, Unlock, Consistent}
-use Rattle.keys.specs.Layouts.{Layout', cell_place}
+use Rattle.posixmutex.specs.declared.point.Operation.TheVariants.{TryLock, Unlock, Consistent}
+use Rattle.memorymap.specs.Layouts.{Layout', cell_place}
 use Rattle.ruledwords.specs.declared.pass.Card.{Card}
 use Rattle.ruledwords.specs.declared.pass.Words.{Words}
 use Rattle.ruledwords.specs.declared.pass.Pass.{Pass}

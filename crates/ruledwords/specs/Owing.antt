@@ -10,8 +10,8 @@ use Rattle.mutex.specs.declared.unlock.UnlockRow.TheVariants.{Wake}
 use Rattle.ruledwords.specs.declared.pass.Card.{Card}
 use Rattle.ruledwords.specs.declared.turn.Wakes.{Wakes}
 use Rattle.ruledwords.specs.declared.turn.Wakes.TheVariants.{Nobody, One, All}
-use Rattle.keys.specs.declared.object.Object.{Object}
-use Rattle.keys.specs.Objects.{fresh, Run}
+use Rattle.posixmutex.specs.declared.object.Object.{Object}
+use Rattle.posixmutex.specs.Objects.{fresh, Run}
 use Rattle.ruledwords.specs.Cards.{at}
 use Rattle.ruledwords.specs.Changes.{ChangedNothing, ChangedOnce}
 

@@ -1,8 +1,8 @@
 -- Own words: those that one thread alone writes, while they are its own. They have the values that it knows.
 use Rattle.std.specs.Prelude.{◌≡◌, ◌+◌, ℕ, Bool, Some, [], ◌∷◌}
-use Rattle.keys.specs.declared.access.Access.{Access}
-use Rattle.keys.specs.declared.access.Access.TheVariants as access
-use Rattle.keys.specs.Layouts.{Layout', head_place, cell_place, cell_offset, place_in}
+use Rattle.stepprograms.specs.declared.access.Access.{Access}
+use Rattle.stepprograms.specs.declared.access.Access.TheVariants as access
+use Rattle.memorymap.specs.Layouts.{Layout', head_place, cell_place, cell_offset, place_in}
 use Rattle.mutex.specs.WholeLists.{IsOwnPlace}
 use Rattle.ruledwords.specs.declared.pass.Card.{Card}
 use Rattle.ruledwords.specs.Cards.{at, value_at, put_value}

@@ -1,7 +1,7 @@
 -- What clauses say of words and passes.
 use Rattle.std.specs.Prelude.{◌≡◌, ◌≤◌, ℕ, List}
 use Rattle.cachelines.specs.Closings.{words_at}
-use Rattle.keys.specs.Layouts.{Layout', IsLayout, base_of}
+use Rattle.memorymap.specs.Layouts.{Layout', IsLayout, base_of}
 use Rattle.ruledwords.specs.declared.pass.Card.{Card}
 use Rattle.ruledwords.specs.declared.pass.Words.{Words}
 use Rattle.ruledwords.specs.declared.pass.Pass.{Pass}

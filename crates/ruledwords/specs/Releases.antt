@@ -3,8 +3,8 @@ use Rattle.std.specs.Prelude.{◌≡◌, ◌≢◌, ℕ, Result, Ok, Err, [], �
 use Rattle.lockword.specs.Cells.{fields_of}
 use Rattle.lockword.specs.declared.reply.Reply.{Reply}
 use Rattle.lockword.specs.declared.reply.Reply.TheVariants.{EPERM}
-use Rattle.keys.specs.Layouts.{cell_place}
-use Rattle.keys.specs.declared.point.Operation.TheVariants.{Unlock}
+use Rattle.memorymap.specs.Layouts.{cell_place}
+use Rattle.posixmutex.specs.declared.point.Operation.TheVariants.{Unlock}
 use Rattle.mutex.specs.declared.call.Call.TheVariants as call
 use Rattle.mutex.specs.Standings.{Whole}
 use Rattle.mutex.specs.Steps.{Tells}

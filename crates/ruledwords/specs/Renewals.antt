@@ -1,6 +1,6 @@
 -- Threads whose ids are used again (get_robust_list(2)).
 use Rattle.std.specs.Prelude.{ℕ, ◌+◌}
-use Rattle.keys.specs.Layouts.{Layout', address_in, head_place}
+use Rattle.memorymap.specs.Layouts.{Layout', address_in, head_place}
 use Rattle.ruledwords.specs.declared.pass.Card.{Card}
 use Rattle.ruledwords.specs.declared.pass.Pass.{Pass}
 use Rattle.ruledwords.specs.declared.pass.Reaped.{Reaped}

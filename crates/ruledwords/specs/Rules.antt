@@ -10,10 +10,10 @@ use mathlib.Core.List.{IsPrefix}
 use lib.ListN.{get_elem?}
 use Rattle.atomic_table.specs.Table.{State, Me, Step}
 use Rattle.lockword.specs.Cells.{fields_of}
-use Rattle.keys.specs.declared.point.Point.{Point}
-use Rattle.keys.specs.declared.object.Object.{Object}
-use Rattle.keys.specs.Layouts.{Layout', IsLayout, head_place, cell_place, counter_place, words_of, base_of, address_in, cell_offset, first_word}
-use Rattle.keys.specs.Objects.{object_of}
+use Rattle.posixmutex.specs.declared.point.Point.{Point}
+use Rattle.posixmutex.specs.declared.object.Object.{Object}
+use Rattle.memorymap.specs.Layouts.{Layout', IsLayout, head_place, cell_place, counter_place, words_of, base_of, address_in, cell_offset, first_word}
+use Rattle.posixmutex.specs.Objects.{object_of}
 use Rattle.ruledwords.specs.declared.pass.Card.{Card}
 use Rattle.ruledwords.specs.declared.pass.Opening.{Opening}
 use Rattle.ruledwords.specs.Cards.{at, value_at, put_value, mark_at}

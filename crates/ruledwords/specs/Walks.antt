@@ -3,9 +3,9 @@
 -- `w a` is a word that the thread alone wrote, at the address a in its process: its head's, and the links of the mutexes that it owns. `owns k` tells whether it owns mutex k.
 use Rattle.std.specs.Prelude.{ℕ, ◌≡◌, ◌≢◌, ◌<◌, ◌≤◌, ◌+◌, ◌⊎◌, Bool, true, false, Option, Some, None, List, ◌∷◌, length}
 use Rattle.std.proofs.Props.{props}
-use Rattle.keys.specs.Chains.{IsAmong, AreDifferent, Leads, address_sum}
-use Rattle.keys.specs.Layouts.{Layout', cell_place, cell_offset, address_in}
-use Rattle.keys.specs.Objects.{held_limit}
+use Rattle.memorymap.specs.Chains.{IsAmong, AreDifferent, Leads, address_sum}
+use Rattle.memorymap.specs.Layouts.{Layout', cell_place, cell_offset, address_in}
+use Rattle.posixmutex.specs.Objects.{held_limit}
 use Rattle.exitwalk.specs.declared.row.Part.{Part}
 use Rattle.exitwalk.specs.declared.row.Part.TheVariants as part
 use Rattle.exitwalk.specs.declared.row.Rest.{Rest}

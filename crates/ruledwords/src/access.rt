@@ -1,7 +1,7 @@
 //! Accesses to words of each kind: a thread's own words, the cell of a call, the words of a call on a condition variable; and looks and trims, by which nothing is seen anew.
 ghost use Rattle.std.specs.Prelude.{◌≡◌, ◌<◌, ◌≤◌, ℕ, Some, ◌+◌, ◌==◌, if◌then◌else◌, length};
-ghost use Rattle.keys.specs.Accesses.{address_of, answer_at};
-ghost use Rattle.keys.specs.Layouts.{words_of, place_in, cell_place, counter_place};
+ghost use Rattle.stepprograms.specs.Accesses.{address_of, answer_at};
+ghost use Rattle.memorymap.specs.Layouts.{words_of, place_in, cell_place, counter_place};
 ghost use Rattle.robustlist.specs.Words.{answer_on};
 ghost use Rattle.mutex.specs.Programs.{access_of};
 ghost use Rattle.mutex.specs.Rows.{IsGoing};
@@ -25,10 +25,10 @@ use crate::pass::{Live, Pass, View, Words};
 use crate::rule::{Look, LookAtCounter, Recall, Store, Trim};
 use atomic_table::{Play, Seat};
 use condvar::{CondPhase, CondProgram};
-use keys::{Access, StepProgram};
 use lockword::{Tid, WAITERS};
 use mutex::Program;
 use std::marker::{Brand, PhantomData};
+use stepprograms::{Access, StepProgram};
 
 impl Words {
     /// Makes a load or a store of one of the thread's own words, by its address in the thread's process, and gives the word of a load.
@@ -95,7 +95,7 @@ pub(crate) trait Making {
 
     ghost program: { Standing };
 
-    ghost use Rattle.keys.specs.Layouts.{Layout'};
+    ghost use Rattle.memorymap.specs.Layouts.{Layout'};
 
     ghost layout: { Layout' };
 }
@@ -183,7 +183,7 @@ impl Words {
 /// The call whose access is made, for the proofs.
 pub(crate) trait Acting {
     ghost use Rattle.std.specs.Prelude.{ℕ};
-    ghost use Rattle.keys.specs.Layouts.{Layout'};
+    ghost use Rattle.memorymap.specs.Layouts.{Layout'};
     ghost use Rattle.ruledwords.specs.Conditions.{CondStanding};
 
     ghost layout: { Layout' };

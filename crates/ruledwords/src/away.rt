@@ -1,6 +1,6 @@
 //! What is left of passes that meet.
 ghost use Rattle.std.specs.Prelude.{◌≤◌};
-ghost use Rattle.keys.specs.Objects.{held_limit};
+ghost use Rattle.posixmutex.specs.Objects.{held_limit};
 
 use lockword::Tid;
 

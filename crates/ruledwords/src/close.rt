@@ -1,6 +1,6 @@
 //! Passes that meet, and the end of the words.
 ghost use Rattle.std.specs.Prelude.{◌≡◌, ◌<◌, List, [], ◌∷◌, ◌++◌, Some, All, IfSome, length, map, slice_index};
-ghost use Rattle.keys.specs.Layouts.{cell_place, counter_place};
+ghost use Rattle.memorymap.specs.Layouts.{cell_place, counter_place};
 ghost use Rattle.ruledwords.specs.Seen.{Joined, AreExclusive};
 ghost use Rattle.ruledwords.specs.Lists.{StaysSo};
 ghost use Rattle.ruledwords.specs.Passes.{card, layout_of, IsPassOf, presets_of, last_layout, last_words};

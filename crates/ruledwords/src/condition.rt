@@ -1,6 +1,6 @@
 //! Calls on condition variables, access by access.
 ghost use Rattle.std.specs.Prelude.{◌≡◌, ◌<◌, ◌≤◌, ℕ, Some, length};
-ghost use Rattle.keys.specs.Layouts.{counter_place};
+ghost use Rattle.memorymap.specs.Layouts.{counter_place};
 ghost use Rattle.condvar.specs.Calls.{condition_of};
 ghost use Rattle.condvar.specs.Laws.{largest_counter};
 ghost use Rattle.condvar.specs.Whole.{begins};
@@ -21,8 +21,8 @@ use crate::pass::{Dead, Live, Pass, Words};
 use crate::running::{address, answer, count};
 use crate::turn::{CondRunning, CondTurn, Running};
 use condvar::{CondCall, CondProgram};
-use keys::{Access, Answer, Progress, StepProgram};
 use lockword::Tid;
+use stepprograms::{Access, Answer, Progress, StepProgram};
 
 impl CondRunning {
     /// Begins a call. What it may be refused for is seen by its first accesses.

@@ -1,14 +1,14 @@
 //! The beginning of the words, and whose passes are.
 ghost use Rattle.std.specs.Prelude.{◌≡◌, ℕ, ◌+◌, ◌<◌, Some, IfOk, All, length, slice_get, slice_index};
-ghost use Rattle.keys.specs.Layouts.{words_of, IsLayout};
+ghost use Rattle.memorymap.specs.Layouts.{words_of, IsLayout};
 ghost use Rattle.ruledwords.specs.Rules.{first_card, opening_word};
 ghost use Rattle.ruledwords.specs.Passes.{layout_of, presets_of, card, IsLive};
 
 use crate::pass::{Live, Opening, Pass, Words};
 use crate::rule::Deal;
 use cachelines::Places;
-use keys::{Layout, NoMem};
 use lockword::Tid;
+use memorymap::{Layout, NoMem};
 use std::alloc::{AllocError, Global};
 use std::marker::PhantomData;
 

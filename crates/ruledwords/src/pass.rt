@@ -1,15 +1,16 @@
 //! Words, what threads step on them with, and what they know.
 ghost use Rattle.std.specs.Prelude.{◌≡◌, ◌≤◌};
-ghost use Rattle.keys.specs.Layouts.{words_of};
-ghost use Rattle.keys.specs.Objects.{held_limit};
+ghost use Rattle.memorymap.specs.Layouts.{words_of};
+ghost use Rattle.posixmutex.specs.Objects.{held_limit};
 ghost use Rattle.ruledwords.specs.Rules.{card_of, IsOne};
 ghost use Rattle.ruledwords.specs.Seen.{held as holding};
 
 use crate::rule::History;
 use atomic_table::Seat;
 use cachelines::{Closed, Places};
-use keys::{Layout, Point};
 use lockword::Tid;
+use memorymap::Layout;
+use posixmutex::Point;
 use std::collections::LinkedList;
 use std::marker::PhantomData;
 

@@ -8,7 +8,7 @@ use std::marker::{Brand, PhantomData};
 pub struct History;
 
 impl PlaceRule<View, Opening> for History {
-    ghost use Rattle.keys.specs.Layouts.{words_of};
+    ghost use Rattle.memorymap.specs.Layouts.{words_of};
     ghost use Rattle.ruledwords.specs.Rules.{Kept, presets_in, hand};
 
     ghost holds = { λ o. Kept o.layout (presets_in o) };
@@ -74,7 +74,7 @@ impl Play<(), View> for Examine {
 
 /// The layout of the words, for the proofs.
 pub(crate) trait Placing {
-    ghost use Rattle.keys.specs.Layouts.{Layout'};
+    ghost use Rattle.memorymap.specs.Layouts.{Layout'};
 
     ghost layout: { Layout' };
 }

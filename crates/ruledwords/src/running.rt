@@ -1,9 +1,9 @@
 //! A pass in the middle of a call: access by access, at a futex section, which its caller makes, and where its thread dies.
 ghost use Rattle.std.specs.Prelude.{◌≡◌, ◌<◌, ◌≤◌, ℕ, Some, ◌+◌, ◌==◌, if◌then◌else◌};
-ghost use Rattle.keys.specs.Objects.{held_limit};
-ghost use Rattle.keys.specs.Accesses.{answer_at, address_of};
-ghost use Rattle.keys.specs.declared.access.Access.TheVariants.{Trim as AtTrim};
-ghost use Rattle.keys.specs.Layouts.{cell_place};
+ghost use Rattle.posixmutex.specs.Objects.{held_limit};
+ghost use Rattle.stepprograms.specs.Accesses.{answer_at, address_of};
+ghost use Rattle.stepprograms.specs.declared.access.Access.TheVariants.{Trim as AtTrim};
+ghost use Rattle.memorymap.specs.Layouts.{cell_place};
 ghost use Rattle.mutex.specs.Calls.{mutex_of};
 ghost use Rattle.mutex.specs.Whole.{whole_access};
 ghost use Rattle.mutex.specs.declared.call.Call.{Call};
@@ -19,10 +19,11 @@ ghost use Rattle.ruledwords.specs.declared.pass.Pass.{Pass};
 use crate::pass::{Dead, Live, Pass, View, Words};
 use crate::turn::{Running, Turn};
 use atomic_table::Seat;
-use keys::{Access, Answer, Operation, Point, Progress, StepProgram};
 use lockword::{Reply, Tid, WAITERS};
 use mutex::{Call, Phase, Program};
+use posixmutex::{Operation, Point};
 use std::marker::{Brand, PhantomData};
+use stepprograms::{Access, Answer, Progress, StepProgram};
 
 impl Running {
     /// Begins a call. Without an access it is refused where it would take a mutex and the thread holds 2,048.

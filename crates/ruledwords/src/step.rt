@@ -11,9 +11,9 @@ ghost use Rattle.ruledwords.specs.Turns.{EndsIn, IsCallOf, IsInNonblocking, IsOn
 use crate::fate::{Fate, Never, either_stops};
 use crate::pass::{Live, Pass, Words};
 use crate::turn::{Outcome, Running, Stretch};
-use keys::{Access, StepProgram};
 use lockword::Reply;
 use mutex::{LockRow, Phase, Program, Row, TryLockRow};
+use stepprograms::{Access, StepProgram};
 
 /// How many accesses a stretch has at most behind its first ones: what is left of a call that isn't crossed again and again.
 const STRETCH: u8 = 32;

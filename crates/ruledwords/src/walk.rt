@@ -1,7 +1,7 @@
 //! The kernel's walk over a dead thread's list.
 ghost use Rattle.std.specs.Prelude.{◌≡◌, ◌<◌, ◌≤◌, ℕ};
 ghost use Rattle.lockword.specs.Cells.{fields_of};
-ghost use Rattle.keys.specs.Layouts.{cell_place};
+ghost use Rattle.memorymap.specs.Layouts.{cell_place};
 ghost use Rattle.exitwalk.specs.Walks.{access_of, marked_word};
 ghost use Rattle.ruledwords.specs.Deaths.{card_after, reaping_access, reaping_pass, reaping_place, reaping_walk, remembering, FoundByWalk, HasWalked, IsCount, IsReapingOf, IsSeatedWalk, IsWake, KeepsWalking, Marks, MindsWaiters, WentOn, WentOnFound};
 ghost use Rattle.ruledwords.specs.Looks.{Finds};
@@ -14,9 +14,9 @@ use crate::running::{address, answer, count};
 use crate::turn::{Reaping, Walked};
 use atomic_table::Seat;
 use exitwalk::{Row, Walk};
-use keys::{Access, Answer, Progress, StepProgram};
 use lockword::Tid;
 use std::marker::{Brand, PhantomData};
+use stepprograms::{Access, Answer, Progress, StepProgram};
 
 impl Reaping {
     /// Begins the walk over a dead thread's list, from its head.

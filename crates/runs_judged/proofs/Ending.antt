@@ -4,11 +4,11 @@ use Rattle.std.specs.Prelude.{if◌then◌else◌, reverse}
 use Rattle.std.proofs.lemmas.List.{map-append}
 use Rattle.lockword.specs.declared.reply.Reply.{Reply}
 use Rattle.lockword.specs.declared.reply.Reply.TheVariants.{OK, XHELD}
-use Rattle.keys.specs.declared.object.Object.{Object}
-use Rattle.keys.specs.declared.point.Operation.TheVariants as operation
-use Rattle.keys.specs.declared.point.Decision.{Decision}
-use Rattle.keys.specs.Layouts.{Layout', IsLayout}
-use Rattle.keys.specs.Histories.{Legal, opening}
+use Rattle.posixmutex.specs.declared.object.Object.{Object}
+use Rattle.posixmutex.specs.declared.point.Operation.TheVariants as operation
+use Rattle.posixmutex.specs.declared.point.Decision.{Decision}
+use Rattle.memorymap.specs.Layouts.{Layout', IsLayout}
+use Rattle.posixmutex.specs.Histories.{Legal, opening}
 use Rattle.facts.specs.declared.fact.Queue.{Queue}
 use Rattle.facts.specs.declared.fact.Fact.{Fact}
 use Rattle.facts.specs.declared.fact.Fact.TheVariants.{Point, Death, Wake, Reap}
@@ -19,7 +19,7 @@ use Rattle.exitwalk.specs.declared.row.Row as walk_row
 use Rattle.exitwalk.specs.declared.row.Row.TheVariants as walk
 use Rattle.exitwalk.specs.Standings as walks
 use Rattle.condvar.specs.declared.op.Op.{Op}
-use Rattle.keys.specs.declared.access.Answer.TheVariants.{Trimmed}
+use Rattle.stepprograms.specs.declared.access.Answer.TheVariants.{Trimmed}
 use Rattle.mutex.specs.Whole.{whole_led}
 use Rattle.condvar.specs.Ops.{mutex_of}
 use Rattle.protocol.specs.declared.event.Event.{Event}

@@ -4,10 +4,10 @@ use Rattle.std.specs.Prelude.{if◌then◌else◌, MatchBool, reverse}
 use Rattle.std.proofs.lemmas.List.{reverse-append}
 use Rattle.std.proofs.lemmas.Bool.{eqb-false}
 use mathlib.Core.Path.{fun_ext}
-use Rattle.keys.specs.declared.object.Object.{Object}
-use Rattle.keys.specs.declared.point.Decision.{Decision}
-use Rattle.keys.specs.Objects.{Does, stepped}
-use Rattle.keys.specs.Histories.{Legal, opening, held_by}
+use Rattle.posixmutex.specs.declared.object.Object.{Object}
+use Rattle.posixmutex.specs.declared.point.Decision.{Decision}
+use Rattle.posixmutex.specs.Objects.{Does, stepped}
+use Rattle.posixmutex.specs.Histories.{Legal, opening, held_by}
 use Rattle.facts.specs.declared.fact.Fact.{Fact}
 use Rattle.facts.specs.declared.fact.Fact.TheVariants.{Reap}
 use Rattle.facts.specs.declared.fact.Line.{Line}
@@ -19,7 +19,7 @@ use Rattle.verdict.specs.Earlier.{told_of, moved, objects_after}
 use Rattle.verdict.specs.Fits.{FitsThread, Allows, OwnsNothing}
 use Rattle.verdict.specs.Explained.{with_decision, decisions}
 use Rattle.verdict.specs.Verdicts.{AllFit}
-use Rattle.keys.proofs.Steps.{determined}
+use Rattle.posixmutex.proofs.Steps.{determined}
 use Rattle.runs_judged.proofs.Turns.{FitAlong}
 
 -- ---- line by line, the earlier ones newest first

@@ -4,12 +4,12 @@ use Rattle.std.specs.Prelude.{if◌then◌else◌}
 use Rattle.std.proofs.lemmas.Bool.{eqb-false}
 use Rattle.lockword.specs.declared.reply.Reply.{Reply}
 use Rattle.lockword.specs.declared.reply.Reply.TheVariants.{XHELD}
-use Rattle.keys.specs.declared.point.Operation.{Operation}
-use Rattle.keys.specs.declared.point.Operation.TheVariants.{Death}
-use Rattle.keys.specs.declared.point.Decision.{Decision}
-use Rattle.keys.specs.declared.object.Object.{Object}
-use Rattle.keys.specs.Layouts.{Layout', IsLayout}
-use Rattle.keys.specs.Histories.{Legal, opening}
+use Rattle.posixmutex.specs.declared.point.Operation.{Operation}
+use Rattle.posixmutex.specs.declared.point.Operation.TheVariants.{Death}
+use Rattle.posixmutex.specs.declared.point.Decision.{Decision}
+use Rattle.posixmutex.specs.declared.object.Object.{Object}
+use Rattle.memorymap.specs.Layouts.{Layout', IsLayout}
+use Rattle.posixmutex.specs.Histories.{Legal, opening}
 use Rattle.mutex.specs.declared.call.Call.TheVariants as call
 use Rattle.condvar.specs.declared.call.CondCall.TheVariants as cond_call
 use Rattle.facts.specs.declared.fact.Begun.{Begun}
@@ -23,7 +23,7 @@ use Rattle.facts.specs.Lives.{is_of_call, own}
 use Rattle.facts.specs.Orders.{Each}
 use Rattle.condvar.specs.declared.op.Op.{Op}
 use Rattle.condvar.specs.declared.op.Op.TheVariants.{OnMutex, OnCondition}
-use Rattle.keys.specs.declared.access.Answer.TheVariants.{Trimmed}
+use Rattle.stepprograms.specs.declared.access.Answer.TheVariants.{Trimmed}
 use Rattle.mutex.specs.Whole.{whole_led}
 use Rattle.condvar.specs.Ops.{mutex_of}
 use Rattle.protocol.specs.declared.event.Event.{Event}

@@ -4,7 +4,7 @@ use Rattle.std.specs.Prelude.{if◌then◌else◌, reverse, count_by}
 use Rattle.std.specs.List.{concat}
 use Rattle.std.proofs.lemmas.List.{length-map}
 use Rattle.std.proofs.lemmas.List.Recursion.{is_count_by}
-use Rattle.keys.specs.Layouts.{Layout', IsLayout}
+use Rattle.memorymap.specs.Layouts.{Layout', IsLayout}
 use Rattle.facts.specs.declared.fact.Fact.{Fact}
 use Rattle.facts.specs.declared.fact.Fact.TheVariants as fact
 use Rattle.facts.specs.declared.fact.Line.{Line}

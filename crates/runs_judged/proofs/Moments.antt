@@ -1,7 +1,7 @@
 -- A moment of a run: what its state and its trace so far say of each other.
 use Rattle.std.proofs.Common.{◌≡◌, ◌≢◌, ℕ, ◌<◌, ◌≤◌, Bool, true, false, ◌&&◌, Option, Some, None, List, refl, sym, ap, ◌∙◌, subst}
 use Rattle.std.specs.Prelude.{if◌then◌else◌}
-use Rattle.keys.specs.Layouts.{Layout', IsLayout}
+use Rattle.memorymap.specs.Layouts.{Layout', IsLayout}
 use Rattle.mutex.specs.declared.call.Call.TheVariants.{Lock}
 use Rattle.facts.specs.declared.fact.Queue.{Queue}
 use Rattle.condvar.specs.declared.op.Op.TheVariants.{OnMutex}

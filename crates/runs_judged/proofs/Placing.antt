@@ -3,15 +3,15 @@ use Rattle.std.proofs.Common.{◌≡◌, ◌⊎◌, inl, inr, ℕ, ◌==◌, Boo
 use Rattle.std.specs.Prelude.{if◌then◌else◌}
 use Rattle.lockword.specs.declared.reply.Reply.{Reply}
 use Rattle.lockword.specs.declared.reply.Reply.TheVariants.{OK, XHELD}
-use Rattle.keys.specs.declared.point.Operation.{Operation}
-use Rattle.keys.specs.declared.point.Decision.{Decision}
-use Rattle.keys.specs.Layouts.{Layout', IsLayout}
+use Rattle.posixmutex.specs.declared.point.Operation.{Operation}
+use Rattle.posixmutex.specs.declared.point.Decision.{Decision}
+use Rattle.memorymap.specs.Layouts.{Layout', IsLayout}
 use Rattle.facts.specs.declared.fact.Queue.{Queue}
 use Rattle.facts.specs.declared.fact.Fact.{Fact}
 use Rattle.facts.specs.declared.fact.Fact.TheVariants.{Point, Sleep, Wake, Move, Return, Kill, Renew}
 use Rattle.facts.specs.Facts.{thread_of}
 use Rattle.condvar.specs.declared.op.Op.{Op}
-use Rattle.keys.specs.declared.access.Answer.TheVariants.{Trimmed}
+use Rattle.stepprograms.specs.declared.access.Answer.TheVariants.{Trimmed}
 use Rattle.mutex.specs.Whole.{whole_led}
 use Rattle.condvar.specs.Ops.{mutex_of}
 use Rattle.protocol.specs.declared.event.Event.{Event}

@@ -11,10 +11,10 @@ use Rattle.lockword.specs.declared.reply.Reply.{Reply}
 use Rattle.lockword.specs.declared.reply.Reply.TheVariants as reply
 use Rattle.lockword.specs.Replies.{reply_of, reply_word}
 use Rattle.lockword.proofs.Names.{replies_read_back}
-use Rattle.keys.specs.declared.point.Operation.{Operation}
-use Rattle.keys.specs.declared.point.Operation.TheVariants.{Lock, TryLock, Unlock, Consistent, Wait, Signal, Broadcast, Death, Reinit}
-use Rattle.keys.specs.Words.{operation_of, operation_word}
-use Rattle.keys.proofs.Words.{operations_read_back}
+use Rattle.posixmutex.specs.declared.point.Operation.{Operation}
+use Rattle.posixmutex.specs.declared.point.Operation.TheVariants.{Lock, TryLock, Unlock, Consistent, Wait, Signal, Broadcast, Death, Reinit}
+use Rattle.posixmutex.specs.Words.{operation_of, operation_word}
+use Rattle.posixmutex.proofs.Words.{operations_read_back}
 use Rattle.lines.specs.Numbers.{is_number, within}
 use Rattle.lines.specs.Lines.{lines_of, words_of}
 use Rattle.lines.specs.Faults.{◌>>=◌ as ◌>>!◌}

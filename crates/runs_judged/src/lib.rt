@@ -6,7 +6,8 @@
 //! `scripts_are_judged_legal`, `printed_runs_are_legal`).
 //!
 //! Stands on `texts` and `verdict`, which it joins, on `script` and `protocol`, for the runs, on `mutex`, `condvar` and
-//! `exitwalk`, for what their calls tell, and on `facts`, `lines`, `keys` and `lockword`, for lines, words and numbers. It has no
+//! `exitwalk`, for what their calls tell, and on `facts`, `lines`, `memorymap`, `posixmutex`, `stepprograms` and `lockword`, for lines, words
+//! and numbers. It has no
 //! code but the laws: whoever checks what was written relies on them, as `report` does.
 //!
 //! ```text

@@ -6,11 +6,11 @@ use Rattle.std.proofs.Math.Seq.{take-suc}
 use Rattle.std.proofs.lemmas.Bool.Decides.{nat_tests}
 use Rattle.std.proofs.lemmas.List.{take_more_set, get_or_past}
 use Rattle.std.proofs.lemmas.List.Elements.{All-map}
-use Rattle.keys.specs.Layouts.{Layout', IsLayout, HasThreads, HasConditions, HasProcesses, HasBases, AreOf, counter_place}
-use Rattle.keys.specs.Refusals.{LaysOver}
-use Rattle.keys.specs.declared.layout.Layout.{Layout}
-use Rattle.keys.specs.declared.layout.LayoutFault.{LayoutFault}
-use Rattle.keys.specs.declared.layout.LayoutFault.TheVariants.{Threads, Mutexes, Conditions, Processes, Bases, Members}
+use Rattle.memorymap.specs.Layouts.{Layout', IsLayout, HasThreads, HasConditions, HasProcesses, HasBases, AreOf, counter_place}
+use Rattle.memorymap.specs.Refusals.{LaysOver}
+use Rattle.memorymap.specs.declared.layout.Layout.{Layout}
+use Rattle.memorymap.specs.declared.layout.LayoutFault.{LayoutFault}
+use Rattle.memorymap.specs.declared.layout.LayoutFault.TheVariants.{Threads, Mutexes, Conditions, Processes, Bases, Members}
 use Rattle.protocol.specs.Machine.{State, put, start}
 use Rattle.protocol.specs.PassedBy.{ArePresets}
 use Rattle.protocol.proofs.Puts.{by_put}

@@ -7,7 +7,7 @@ use Rattle.std.specs.List.{filter, range_with_len, Contains}
 use Rattle.std.proofs.lemmas.List.{map-append}
 use Rattle.std.proofs.lemmas.List.Elements.{filter-append}
 use Rattle.std.proofs.lemmas.Option.{get_or_from_slice_get, slice_get-get_or}
-use Rattle.keys.specs.Layouts.{Layout'}
+use Rattle.memorymap.specs.Layouts.{Layout'}
 use Rattle.protocol.specs.declared.event.Event.{Event}
 use Rattle.protocol.specs.declared.event.Event.TheVariants.{Kill}
 use Rattle.protocol.specs.declared.note.Note.{Note}

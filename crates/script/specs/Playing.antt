@@ -1,7 +1,7 @@
 -- The events that a script stands for, and what it means to play them.
 use Rattle.std.specs.Prelude.{ℕ, zero, suc, Bool, not, ◌&&◌, ◌||◌, ◌≡◌, ◌==◌, ◌+◌, ◌-◌, ◌<◌, ◌≤◌, nat_lt, List, [], ◌∷◌, ◌++◌, length, map, filter, replicate, slice_index, slice_index_or, Option, Some, None, Result, Ok, Err, if◌then◌else◌}
 use Rattle.std.specs.List.{range_with_len}
-use Rattle.keys.specs.Layouts.{Layout'}
+use Rattle.memorymap.specs.Layouts.{Layout'}
 use Rattle.condvar.specs.declared.op.Op.{Op}
 use Rattle.condvar.specs.declared.op.Op.TheVariants.{OnMutex}
 use Rattle.mutex.specs.declared.call.Call.TheVariants.{Lock}

@@ -3,7 +3,7 @@ use Rattle.std.specs.Prelude.{ℕ, ◌≡◌, ◌+◌, List, [], ◌∷◌, leng
 use Rattle.std.specs.List.{flat_map, position_or_len}
 use Rattle.std.specs.Str.{bytes_eq}
 use Rattle.std.specs.Str.Parse.{digits_value}
-use Rattle.keys.specs.Layouts.{one_process}
+use Rattle.memorymap.specs.Layouts.{one_process}
 use Rattle.lines.specs.Lines.{lines_of, words_of}
 use Rattle.script.specs.Forms.{is_silent}
 use Rattle.script.specs.Scope.{Scope, IsWellFormed}

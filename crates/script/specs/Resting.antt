@@ -1,6 +1,6 @@
 -- A thread that goes on comes to rest.
 use Rattle.std.specs.Prelude.{ℕ, ◌≡◌, ◌<◌, true, false, List}
-use Rattle.keys.specs.Layouts.{Layout', IsLayout}
+use Rattle.memorymap.specs.Layouts.{Layout', IsLayout}
 use Rattle.protocol.specs.declared.event.Event.{Event}
 use Rattle.protocol.specs.Machine.{State, start, run}
 use Rattle.protocol.specs.Sleepers.{alone}

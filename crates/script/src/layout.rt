@@ -3,7 +3,7 @@ ghost use Rattle.std.specs.Prelude.{◌≡◌, ◌+◌, length, take};
 ghost use Rattle.script.specs.Playing.{layout_of};
 
 use crate::parsed::Script;
-use keys::{CONDITION_LIMIT, Layout, PROCESS_LIMIT};
+use memorymap::{CONDITION_LIMIT, Layout, PROCESS_LIMIT};
 
 impl Script {
     /// Where its words lie: the layout of its threads, each of its process, its mutexes and its condition variables. Process 0 maps the words at 0, and the

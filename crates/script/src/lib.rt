@@ -6,8 +6,8 @@
 //! `one_process_without_a_line`, `killall_kills_one_process`, `deaths_are_as_told`), and `go` cuts no call off
 //! (`threads_come_to_rest`).
 //!
-//! Stands on `lines`, for words and numbers, on `interleave` and `protocol`, for playing, on `mutex`, `condvar`, `keys` and
-//! `lockword`, for calls, layouts and thread ids, on `indexmap`, for names, and on `thiserror`, for messages.
+//! Stands on `lines`, for words and numbers, on `interleave` and `protocol`, for playing, on `mutex`, `condvar`,
+//! `memorymap`, `posixmutex`, `stepprograms` and `lockword`, for calls, layouts and thread ids, on `indexmap`, for names, and on `thiserror`, for messages.
 //!
 //! ```text
 //! let text = b"thread a\nthread b\nmutex m\ncall a lock m\nkill a\ngo a\ncall b lock m\n";

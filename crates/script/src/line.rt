@@ -8,8 +8,8 @@ ghost use Rattle.script.specs.Seen.{call_seen, form_seen};
 use crate::command::Mode;
 use crate::limits::{MAX_ACCESS, MAX_BASE, MAX_COUNTER, MAX_MUTEXES, MAX_STEM, MAX_STEPS};
 use crate::words::is_word_name;
-use keys::Operation;
 use lines::{Words, is_number_word, number_in, words_in};
+use posixmutex::Operation;
 
 /// A call, with the name of its mutex or of its condition variable.
 #[derive(Clone, Copy)]

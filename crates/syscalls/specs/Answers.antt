@@ -2,7 +2,7 @@
 use Rattle.std.specs.Prelude.{ℕ, ◌≡◌, ◌≢◌, ◌≤◌, ◌%◌, ◌^◌, Bool, List, slice_index, slice_set, Result, Ok, Err, IsTrue, IsFalse}
 use Rattle.lockword.specs.declared.reply.Reply.{Reply}
 use Rattle.lockword.specs.declared.reply.Reply.TheVariants.{ESRCH, EAGAIN, EFAULT, EINVAL}
-use Rattle.keys.specs.Accesses.{Trims}
+use Rattle.stepprograms.specs.Accesses.{Trims}
 use Rattle.syscalls.specs.Kernels.{Kernel', head_of, head_size}
 use Rattle.syscalls.specs.Memories.{is_valid}
 

@@ -1,7 +1,7 @@
 -- The words of a memory, and what an access does to them.
 use Rattle.std.specs.Prelude.{ℕ, ◌&&◌, Bool, nat_le, nat_lt, List, [], length, slice_index, slice_set, Option, Some, None, if◌then◌else◌}
-use Rattle.keys.specs.declared.access.Access.{Access}
-use Rattle.keys.specs.Accesses.{address_of, word_among}
+use Rattle.stepprograms.specs.declared.access.Access.{Access}
+use Rattle.stepprograms.specs.Accesses.{address_of, word_among}
 
 -- a place is valid if it is at least 1, word 0 being null, and less than the number of words
 abbrev pub is_valid : List ℕ → ℕ → Bool

@@ -1,14 +1,14 @@
 //! The futex calls, as processes make them: by addresses.
 ghost use Rattle.std.specs.Prelude.{◌≡◌, ◌≤◌, MatchResult};
-ghost use Rattle.keys.specs.Addresses.{seen_at};
+ghost use Rattle.memorymap.specs.Addresses.{seen_at};
 ghost use Rattle.syscalls.specs.Kernels.{queue_of, IsAwake, IsKernel, FallsAsleep, Wakes, Requeues};
 ghost use Rattle.syscalls.specs.Answers.{WaitAnswers, WakeAnswers, TrimAnswers, TrimsAt, RequeueAnswers, CmpRequeueAnswers};
 
 use crate::kernel::Kernel;
 use crate::memory::Memory;
 use buckets::Batch;
-use keys::seen_at;
 use lockword::{Reply, Tid};
+use memorymap::seen_at;
 
 /// Each call takes the base at which the caller's process maps the words, and addresses as that process has them. An address is valid where it is that of a place of the memory.
 impl Kernel {

@@ -1,6 +1,6 @@
 //! The sleepers of every word, by its place, and the robust list's head of every thread.
 ghost use Rattle.std.specs.Prelude.{◌≡◌, ◌≢◌, ◌<◌, ◌≤◌, ◌-◌, ◌%◌, ℕ, not, length, slice_index, slice_get, Contains, Some, MatchOption, MatchResult, MatchBool, IfOk};
-ghost use Rattle.keys.specs.Accesses.{is_nobody};
+ghost use Rattle.stepprograms.specs.Accesses.{is_nobody};
 ghost use Rattle.std.specs.List.{All};
 ghost use Rattle.buckets.specs.Queues.{Stands, StandsNowhere, IsOrderly, IsEmptied, Fits, MovesTo};
 ghost use Rattle.buckets.specs.BucketCount.{bucket_count};
@@ -9,8 +9,8 @@ ghost use Rattle.syscalls.specs.Answers.{WaitAnswers, WakeAnswers, TrimAnswers, 
 
 use crate::memory::Memory;
 use buckets::{BUCKETS, Batch, Bucket};
-use keys::{HEAD_SIZE, Key, NoMem, bucket_of, key_of};
 use lockword::{Cell, Reply, Tid, WAITERS};
+use memorymap::{HEAD_SIZE, Key, NoMem, bucket_of, key_of};
 use std::alloc::{AllocError, Global};
 use std::marker::Model;
 

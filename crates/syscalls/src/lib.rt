@@ -8,7 +8,8 @@
 //! It also keeps where each thread's robust list begins (get_robust_list(2)): a head is 0 until its thread sets it, and a futex
 //! call changes none. All the room is made by `Kernel::new` and by a clone; no other call of a kernel takes memory.
 //!
-//! Stands on `buckets`, for the queues, on `keys`, for places, keys and a word's bucket, and on `lockword`, for cells, thread
+//! Stands on `buckets`, for the queues, on `memorymap`, for places, keys and a word's bucket, on `stepprograms`, for what
+//! accesses answer, and on `lockword`, for cells, thread
 //! ids and replies.
 //!
 //! ```text

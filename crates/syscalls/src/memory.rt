@@ -1,6 +1,6 @@
 //! What a memory of words is.
 ghost use Rattle.std.specs.Prelude.{ℕ, List, ◌≡◌, is_some};
-ghost use Rattle.keys.specs.declared.access.Access.{Access};
+ghost use Rattle.stepprograms.specs.declared.access.Access.{Access};
 ghost use Rattle.syscalls.specs.Memories.{is_valid, word_at, words_after};
 
 /// Words of 64 bits, by their places, numbered from 0. A place is valid if it is at least 1 and less than the number of words; word 0 is null.

@@ -2,7 +2,7 @@
 ghost use Rattle.std.specs.Prelude.{◌≡◌, replicate, IfOk};
 
 use crate::memory::Memory;
-use keys::NoMem;
+use memorymap::NoMem;
 use std::alloc::{AllocError, Global};
 use std::marker::Model;
 

@@ -3,8 +3,8 @@
 use crate::built::joined;
 use crate::traces::taken_and_one_more;
 use facts::Begun;
-use keys::{Object, Operation};
 use lockword::{Reply, Tid};
+use posixmutex::{Object, Operation};
 use std::alloc::Global;
 use std::test::Fail;
 use verdict::{Fault, Finding, Misfit, TraceFault, TraceMisfit, Verdict, check, explain};

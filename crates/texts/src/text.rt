@@ -11,8 +11,8 @@ use crate::trace_lines::{write_end, write_fact, write_head};
 use buckets::Batch;
 use facts::{Begun, Fact, Queue};
 use interleave::Trace;
-use keys::{Decision, Operation};
 use lockword::{Reply, Tid};
+use posixmutex::{Decision, Operation};
 use protocol::Note;
 use std::io::{self, Write};
 

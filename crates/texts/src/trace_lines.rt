@@ -5,8 +5,8 @@ ghost use Rattle.texts.specs.Text.{head_line, begin_line, begin_line_of, begin_o
 
 use facts::{Begun, Fact, Queue};
 use itoa::Buffer;
-use keys::{Decision, Operation};
 use lockword::{Reply, Tid};
+use posixmutex::{Decision, Operation};
 use std::io::{self, Write};
 use streams::put;
 

@@ -3,7 +3,7 @@ ghost use Rattle.std.specs.Prelude.{◌≡◌, ◌<◌, ◌+◌, All, IfOk, leng
 ghost use Rattle.ruledwords.specs.Passes.{IsLive};
 ghost use Rattle.thread_fixtures.specs.Teams.{IsTeam};
 
-use keys::{Layout, NoMem};
+use memorymap::{Layout, NoMem};
 use ruledwords::{Live, Pass, Words};
 use std::alloc::Global;
 use threadbench::Bench;

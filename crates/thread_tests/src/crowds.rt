@@ -6,8 +6,8 @@ ghost use Rattle.threadbench.specs.Jobs.{IsJobOf};
 
 use crate::jobs::{job, work};
 use condvar::Op::{self, OnMutex};
-use keys::{Layout, NoMem};
 use lockword::Reply::OK;
+use memorymap::{Layout, NoMem};
 use mutex::Call::{Lock, Unlock};
 use ruledwords::{Live, Pass};
 use std::alloc::Global;

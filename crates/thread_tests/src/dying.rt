@@ -3,9 +3,9 @@ ghost use Rattle.std.specs.Prelude.{None};
 
 use crate::jobs::{fresh, phase};
 use condvar::Op::{self, OnMutex};
-use keys::Layout;
 use lockword::Reply::{self, EOWNERDEAD, OK};
 use lockword::Tid;
+use memorymap::Layout;
 use mutex::Call::{Lock, TryLock, Unlock};
 use ruledwords::Never;
 use std::alloc::Global;

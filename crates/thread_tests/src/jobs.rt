@@ -6,8 +6,8 @@ ghost use Rattle.threadbench.specs.Answered.{IsWorkerOf};
 ghost use Rattle.threadbench.specs.Jobs.{IsJobOf, IsDone, AreDone};
 
 use condvar::Op;
-use keys::NoMem;
 use lockword::Reply;
+use memorymap::NoMem;
 use ruledwords::{Live, Pass};
 use std::alloc::Global;
 use std::sync::Wait;

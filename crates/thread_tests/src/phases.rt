@@ -6,8 +6,8 @@ ghost use Rattle.threadbench.specs.Jobs.{IsJobOf};
 
 use crate::jobs::{fresh, jobs_of, phase};
 use condvar::Op::{self, OnMutex};
-use keys::{Layout, NoMem};
 use lockword::Reply::{self, EBUSY, EDEADLK, EINVAL, EPERM, OK};
+use memorymap::{Layout, NoMem};
 use mutex::Call::{Consistent, Lock, TryLock, Unlock};
 use ruledwords::{Live, Never, Outcome, Pass, Words};
 use std::alloc::Global;

@@ -4,8 +4,8 @@ ghost use Rattle.ruledwords.specs.Outcomes.{IsOwedOf};
 ghost use Rattle.ruledwords.specs.Passes.{IsLive};
 
 use condvar::Op::OnMutex;
-use keys::Layout;
 use lockword::Reply::{self, OK};
+use memorymap::Layout;
 use mutex::Call::{Lock, Unlock};
 use ruledwords::{Live, Never, Outcome, Owed, Pass, Released};
 use std::alloc::Global;

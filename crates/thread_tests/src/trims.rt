@@ -5,8 +5,8 @@ ghost use Rattle.ruledwords.specs.Passes.{IsLive};
 
 use crate::sleepers::pays;
 use condvar::Op::OnMutex;
-use keys::Layout;
 use lockword::Reply::{self, OK};
+use memorymap::Layout;
 use mutex::Call::{Lock, TryLock, Unlock};
 use ruledwords::{Fate, Live, Never, Owed, Pass, Released, Wakes};
 use std::alloc::Global;

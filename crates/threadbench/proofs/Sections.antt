@@ -2,7 +2,7 @@
 use Rattle.std.proofs.Common.{◌≡◌, ◌≢◌, ℕ, ◌+◌, ◌==◌, Bool, true, false, List, [], refl, sym, subst, arith}
 use Rattle.std.specs.Prelude.{if◌then◌else◌}
 use Rattle.std.proofs.lemmas.Bool.Decides.{nat_tests}
-use Rattle.keys.specs.Accesses.{Trims}
+use Rattle.stepprograms.specs.Accesses.{Trims}
 use Rattle.ruledwords.specs.declared.pass.Card.{Card}
 use Rattle.threadbench.specs.Sections.{TrimsNobodys, TrimsThere}
 

@@ -5,7 +5,7 @@ use Rattle.lockword.specs.declared.reply.Reply.{Reply}
 use Rattle.lockword.specs.declared.reply.Reply.TheVariants.{OK}
 use Rattle.mutex.specs.declared.call.Call.{Call}
 use Rattle.mutex.specs.declared.call.Call.TheVariants as call
-use Rattle.keys.specs.Layouts.{Layout', address_in, cell_place}
+use Rattle.memorymap.specs.Layouts.{Layout', address_in, cell_place}
 use Rattle.mutex.specs.Calls.{mutex_of, operation_of}
 use Rattle.mutex.specs.Laws.{decided}
 use Rattle.mutex.specs.Programs.{first_row}

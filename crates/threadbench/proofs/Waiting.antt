@@ -4,8 +4,8 @@ use Rattle.std.specs.Prelude.{Ok, Err}
 use Rattle.facts.specs.Lives.{Act, Beginning, Complete}
 use Rattle.lockword.specs.declared.reply.Reply.{Reply}
 use Rattle.lockword.specs.declared.reply.Reply.TheVariants.{OK}
-use Rattle.keys.specs.declared.access.Answer.{Answer}
-use Rattle.keys.specs.declared.point.Operation.TheVariants as operation
+use Rattle.stepprograms.specs.declared.access.Answer.{Answer}
+use Rattle.posixmutex.specs.declared.point.Operation.TheVariants as operation
 use Rattle.mutex.specs.declared.call.Call.TheVariants as call
 use Rattle.condvar.specs.declared.call.CondCall.{CondCall}
 use Rattle.condvar.specs.declared.call.CondCall.TheVariants.{Wait, Signal, Broadcast}
@@ -13,7 +13,7 @@ use Rattle.condvar.specs.declared.row.CondRow.{CondRow}
 use Rattle.condvar.specs.declared.row.CondRow.TheVariants as cond
 use Rattle.condvar.specs.declared.wait.WaitRow.TheVariants as wait
 use Rattle.condvar.specs.Calls.{condition_of, operation_of}
-use Rattle.keys.specs.Layouts.{Layout', counter_place}
+use Rattle.memorymap.specs.Layouts.{Layout', counter_place}
 use Rattle.ruledwords.specs.Looks.{noted}
 use Rattle.condvar.specs.Standings.{CondWhole}
 use Rattle.ruledwords.specs.declared.pass.Card.{Card}

@@ -2,7 +2,7 @@
 use Rattle.std.specs.Prelude.{ℕ, ◌≡◌, ◌≤◌, ◌<◌, ◌⊎◌, ◌-◌, Result, Ok, Err, length, slice_index}
 use Rattle.lockword.specs.declared.reply.Reply.{Reply}
 use Rattle.lockword.specs.declared.reply.Reply.TheVariants.{ESRCH}
-use Rattle.keys.specs.Layouts.{Layout'}
+use Rattle.memorymap.specs.Layouts.{Layout'}
 
 -- a call about the thread with id t is answered so: ESRCH where the layout has no such thread
 abbrev pub IsOfThread : {A : Type 0} → Layout' → ℕ → Result A Reply → Type 0

@@ -1,7 +1,7 @@
 -- What sections do under a bucket's lock (futex(2)).
 use Rattle.std.specs.Prelude.{ℕ, ◌≡◌, ◌≢◌, ◌+◌, ◌%◌, ◌^◌, ◌⊎◌, ◌==◌, if◌then◌else◌, Bool, true, MatchBool, Option, None, Some, List, [], ◌∷◌}
 use Rattle.buckets.specs.Queues.{Sleepers, standing, Stands, StandsNowhere, Enqueues}
-use Rattle.keys.specs.Accesses.{Trims}
+use Rattle.stepprograms.specs.Accesses.{Trims}
 use Rattle.ruledwords.specs.declared.pass.Card.{Card}
 use Rattle.ruledwords.specs.declared.turn.Running.{Running}
 use Rattle.ruledwords.specs.Looks.{Finds}

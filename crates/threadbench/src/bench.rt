@@ -14,7 +14,7 @@ use crate::phase::Phase;
 use crate::room::push_in_room;
 use crate::work::{in_scope, work_on};
 use buckets::{BUCKETS, Bucket};
-use keys::{Layout, NoMem};
+use memorymap::{Layout, NoMem};
 use ruledwords::{Last, Live, Pass, Words};
 use std::alloc::Global;
 use std::marker::Model;

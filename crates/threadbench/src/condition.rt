@@ -2,7 +2,7 @@
 ghost use Rattle.std.specs.Prelude.{◌≡◌, ◌+◌, ◌<◌, ℕ, Ok, length};
 ghost use Rattle.condvar.specs.Calls.{condition_of};
 ghost use Rattle.condvar.specs.declared.call.CondCall.TheVariants.{Wait as WaitOf, Signal as SignalOf, Broadcast as BroadcastOf};
-ghost use Rattle.keys.specs.declared.access.Access.TheVariants.{Wait as AtWait, Wake as AtWake};
+ghost use Rattle.stepprograms.specs.declared.access.Access.TheVariants.{Wait as AtWait, Wake as AtWake};
 ghost use Rattle.ruledwords.specs.ConditionCalls.{cond_access_in, cond_place_at, CondUnmoved, IsCondRunningOf};
 ghost use Rattle.ruledwords.specs.Counts.{cell_at};
 ghost use Rattle.ruledwords.specs.Fates.{Heeds};
@@ -17,10 +17,11 @@ use crate::note::ByOthers;
 use crate::section::{Waited, wait_on_counter_in};
 use buckets::{BUCKETS, Batch};
 use condvar::CondCall;
-use keys::{Access, Answer, Key, bucket_of, key_of};
 use lockword::Tid;
+use memorymap::{Key, bucket_of, key_of};
 use ruledwords::{CondRunning, CondTurn, Dead, Fate, Live, Outcome, Pass, either_stops};
 use std::sync::Wait;
+use stepprograms::{Access, Answer};
 
 impl Bench {
     /// Releases the condition variable's mutex, sleeps until a signal or a broadcast lets the thread go on, and takes the mutex again (pthread_cond_wait(3p)). It may return without any signal.

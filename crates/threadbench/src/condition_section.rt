@@ -1,13 +1,13 @@
 //! What signals and broadcasts do under the locks of buckets. A section that compares a counter loads it there.
 ghost use Rattle.std.specs.Prelude.{◌≡◌, ℕ};
 ghost use Rattle.buckets.specs.Queues.{IsOrderly, Takes};
-ghost use Rattle.keys.specs.declared.access.Access.TheVariants.{Wake as AtWake};
+ghost use Rattle.stepprograms.specs.declared.access.Access.TheVariants.{Wake as AtWake};
 ghost use Rattle.ruledwords.specs.ConditionCalls.{cond_access_in, cond_call, cond_pass, cond_place_at, CondUnmoved, IsCondRunningOf};
 ghost use Rattle.ruledwords.specs.Passes.{card, layout_of};
 ghost use Rattle.threadbench.specs.Conditions.{FindsKnown, IsCellOf, IsMoveOf, MovesAcross, MovesAll, MovesInside};
 
 use buckets::{Batch, Bucket};
-use keys::Key;
+use memorymap::Key;
 use ruledwords::{CondRunning, Words};
 
 /// A wake: takes at most so many threads out of the key's queue, those that stand first, in their order.

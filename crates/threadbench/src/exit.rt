@@ -1,14 +1,15 @@
 //! What the kernel does for a thread that died.
-ghost use Rattle.keys.specs.declared.access.Access.TheVariants.{Wake as AtWake};
+ghost use Rattle.stepprograms.specs.declared.access.Access.TheVariants.{Wake as AtWake};
 ghost use Rattle.std.specs.Prelude.{◌≡◌, ℕ};
 ghost use Rattle.ruledwords.specs.Deaths.{reaping_access, IsReaped, IsReapingOf, KeepsWalking};
 ghost use Rattle.ruledwords.specs.Passes.{card, layout_of, IsDying, IsPassOf};
 
 use crate::bench::Bench;
 use crate::section::wake_for_dead;
-use keys::{Access, Answer, key_of};
+use memorymap::key_of;
 use ruledwords::{Dead, Pass, Reaped, Reaping, Walked};
 use std::sync::Wait;
+use stepprograms::{Access, Answer};
 
 impl Bench {
     /// Walks a dead thread's list to its end, as the kernel does when a thread exits (robust-futexes; get_robust_list(2)). Each mutex that the thread held is marked with

@@ -12,8 +12,8 @@ use crate::numbered::Held;
 use crate::parker::Given;
 use crate::section::remove_in;
 use buckets::BUCKETS;
-use keys::Layout;
 use lockword::{Reply, Tid};
+use memorymap::Layout;
 use std::sync::Wait;
 
 /// A kill that is noted: its thread was looked for in so many buckets, from the first on. The note comes before the search, so that a thread which comes to sleep in a bucket behind the search finds it

@@ -5,8 +5,8 @@ use crate::bench::Bench;
 use crate::kill::{Kill, Search, Sweep, thread_after};
 use crate::parker::Due;
 use buckets::BUCKETS;
-use keys::Layout;
 use lockword::Tid;
+use memorymap::Layout;
 use std::sync::Wait;
 
 /// What kills a thread. Whoever has nothing but one kills nobody whose kill it doesn't get.

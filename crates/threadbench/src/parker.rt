@@ -7,8 +7,8 @@ use crate::bench::THREADS;
 use crate::kill::{Searched, thread_after};
 use crate::room::push_in_room;
 use buckets::Batch;
-use keys::NoMem;
 use lockword::Tid;
+use memorymap::NoMem;
 use std::alloc::Global;
 use std::sync::{Condvar, Mutex, MutexGuard, Wait};
 

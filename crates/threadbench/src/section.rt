@@ -1,9 +1,9 @@
 //! What calls do under the lock of a bucket. A section that needs its call's word loads it there. Whoever has a bucket holds its lock: the bench's buckets lie in their locks.
 ghost use Rattle.std.specs.Prelude.{◌≡◌, ◌+◌, ℕ};
 ghost use Rattle.buckets.specs.Queues.{queue, IsOrderly, Removes, Takes};
-ghost use Rattle.keys.specs.Layouts.{cell_place};
-ghost use Rattle.keys.specs.declared.access.Access.TheVariants.{Wait as AtWait, Wake as AtWake, Trim as AtTrim};
-ghost use Rattle.keys.specs.declared.access.Answer.TheVariants.{Woken, Trimmed as AnsweredTrim};
+ghost use Rattle.memorymap.specs.Layouts.{cell_place};
+ghost use Rattle.stepprograms.specs.declared.access.Access.TheVariants.{Wait as AtWait, Wake as AtWake, Trim as AtTrim};
+ghost use Rattle.stepprograms.specs.declared.access.Answer.TheVariants.{Woken, Trimmed as AnsweredTrim};
 ghost use Rattle.ruledwords.specs.declared.pass.Words.{Words};
 ghost use Rattle.ruledwords.specs.Calls.{IsOnMutex};
 ghost use Rattle.ruledwords.specs.ConditionCalls.{cond_access_in, cond_call, cond_pass, cond_place_at, CondOnward, CondUnmoved, IsCondAnswerOf, IsCondRunningOf, IsCondTurnOf};
@@ -16,9 +16,10 @@ ghost use Rattle.threadbench.specs.Sections.{FindsUnlessStopped, StaysIfStopped,
 
 use crate::note::{ByOthers, Killed, Spared, ask};
 use buckets::{Batch, Bucket};
-use keys::{Answer, Key};
 use lockword::Tid;
+use memorymap::Key;
 use ruledwords::{CondRunning, CondTurn, Reaping, Running, Turn, Words};
+use stepprograms::Answer;
 
 /// Puts the thread at the end of the key's queue where the low half of the word that was seen is the expected one, and tells so. Nothing changes where it differs; nor where the
 /// thread stands in the bucket already or the bucket is full, which can't come up, but what lies under a lock doesn't say so.

@@ -1,6 +1,6 @@
 //! Calls that sleep, and those that wake.
 ghost use Rattle.std.specs.Prelude.{◌≡◌, ◌+◌, ◌<◌, ℕ, length};
-ghost use Rattle.keys.specs.declared.access.Access.TheVariants.{Wait as AtWait, Wake as AtWake, Trim as AtTrim};
+ghost use Rattle.stepprograms.specs.declared.access.Access.TheVariants.{Wait as AtWait, Wake as AtWake, Trim as AtTrim};
 ghost use Rattle.ruledwords.specs.Fates.{Heeds};
 ghost use Rattle.ruledwords.specs.Outcomes.{IsOwedOf, stops_in};
 ghost use Rattle.ruledwords.specs.Passes.{layout_of, IsLive};
@@ -14,12 +14,13 @@ use crate::numbered::Numbered;
 use crate::parker::{Due, Parker, Roused};
 use crate::section::{Waited, trim_in, wait_in, wake_in};
 use buckets::{BUCKETS, Batch};
-use keys::{Access, Answer, Key, bucket_of, key_of};
 use lockword::{Reply, Tid};
+use memorymap::{Key, bucket_of, key_of};
 use mutex::Call;
 use ruledwords::{Fate, Live, Outcome, Owed, Pass, Running, Stretch, Turn, Wakes, either_stops};
 use std::hint::spin_loop;
 use std::sync::Wait;
+use stepprograms::{Access, Answer};
 
 impl Bench {
     /// Takes a mutex, and sleeps while another thread owns it (pthread_mutex_lock). The reply is OK; EOWNERDEAD where its last owner died and nobody declared it consistent;

@@ -7,7 +7,7 @@ use crate::gate::Gate;
 use crate::job::{Job, Record};
 use crate::phase::Phase;
 use crate::starting::set_all_out;
-use keys::NoMem;
+use memorymap::NoMem;
 use std::alloc::Global;
 use std::mem;
 use std::sync::Wait;

@@ -4,12 +4,12 @@ use Rattle.std.specs.Prelude.{if◌then◌else◌, reverse}
 use Rattle.std.proofs.lemmas.List.{reverse-append}
 use Rattle.std.proofs.lemmas.Bool.Decides.{nat_tests}
 use mathlib.Core.Path.{fun_ext}
-use Rattle.keys.specs.declared.object.Object.{Object}
+use Rattle.posixmutex.specs.declared.object.Object.{Object}
 use Rattle.lockword.specs.declared.reply.Reply.TheVariants.{OK}
-use Rattle.keys.specs.declared.point.Decision.{Decision}
-use Rattle.keys.specs.declared.point.Operation.TheVariants as operation
-use Rattle.keys.specs.Objects.{Does, stepped}
-use Rattle.keys.specs.Histories.{Legal, held_by, is_thread, opening}
+use Rattle.posixmutex.specs.declared.point.Decision.{Decision}
+use Rattle.posixmutex.specs.declared.point.Operation.TheVariants as operation
+use Rattle.posixmutex.specs.Objects.{Does, stepped}
+use Rattle.posixmutex.specs.Histories.{Legal, held_by, is_thread, opening}
 use Rattle.facts.specs.declared.fact.Begun.{Begun}
 use Rattle.facts.specs.declared.fact.Fact.{Fact}
 use Rattle.facts.specs.declared.fact.Fact.TheVariants.{Begin, Kill, Point, Death, Sleep, Wake, Move, Return, Reap, Renew}
@@ -23,7 +23,7 @@ use Rattle.verdict.specs.Fits.{Fits, FitsThread, Allows, OwnsNothing}
 use Rattle.verdict.specs.Judges.{IsMutex, one}
 use Rattle.verdict.specs.Verdicts.{AllFit}
 use Rattle.verdict.specs.Explained.{with_decision, decisions, is_death, deaths, is_reaping, reaped, is_renewing, renewed, in_this_life, Buries, Explains}
-use Rattle.keys.proofs.Steps.{determined}
+use Rattle.posixmutex.proofs.Steps.{determined}
 use Rattle.verdict.proofs.Owners.{does_owners, not_owner, others_own, owns_itself}
 use Rattle.verdict.proofs.Stages.{Kept}
 use Rattle.verdict.proofs.Lives.{lived, lives, sleeps}

@@ -1,9 +1,9 @@
 -- What the lines before a line tell. They stand newest first.
 use Rattle.std.specs.Prelude.{ℕ, Bool, true, false, ◌==◌, Option, Some, None, List, [], ◌∷◌, ◌++◌, if◌then◌else◌}
-use Rattle.keys.specs.declared.object.Object.{Object}
-use Rattle.keys.specs.declared.point.Decision.{Decision}
-use Rattle.keys.specs.Objects.{stepped}
-use Rattle.keys.specs.Histories.{opening}
+use Rattle.posixmutex.specs.declared.object.Object.{Object}
+use Rattle.posixmutex.specs.declared.point.Decision.{Decision}
+use Rattle.posixmutex.specs.Objects.{stepped}
+use Rattle.posixmutex.specs.Histories.{opening}
 use Rattle.facts.specs.declared.fact.Begun.{Begun}
 use Rattle.facts.specs.declared.fact.Fact.{Fact}
 use Rattle.facts.specs.declared.fact.Fact.TheVariants.{Begin, Kill, Point, Sleep, Wake, Return, Reap, Renew}

@@ -1,8 +1,8 @@
 -- What a legal trace means: its points and deaths are one legal history, which explains what its threads were told (POSIX robust mutexes).
 use Rattle.std.specs.Prelude.{ℕ, ◌≡◌, ◌≢◌, ◌+◌, ◌<◌, ◌≤◌, ◌==◌, ◌&&◌, Bool, true, false, Option, Some, None, List, [], ◌∷◌, ◌++◌, reverse, if◌then◌else◌}
-use Rattle.keys.specs.declared.object.Object.{Object}
-use Rattle.keys.specs.declared.point.Decision.{Decision}
-use Rattle.keys.specs.Histories.{Legal, opening}
+use Rattle.posixmutex.specs.declared.object.Object.{Object}
+use Rattle.posixmutex.specs.declared.point.Decision.{Decision}
+use Rattle.posixmutex.specs.Histories.{Legal, opening}
 use Rattle.facts.specs.declared.fact.Fact.{Fact}
 use Rattle.facts.specs.declared.fact.Fact.TheVariants.{Begin, Kill, Death, Sleep, Wake, Move, Return, Reap, Renew}
 use Rattle.facts.specs.declared.fact.Line.{Line}

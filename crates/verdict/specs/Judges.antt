@@ -1,8 +1,8 @@
 -- What the checker keeps of the lines so far.
 use Rattle.std.specs.Prelude.{ℕ, ◌≡◌, ◌+◌, ◌<◌, ◌≤◌, ◌⊎◌, Bool, true, false, List, length, slice_index_or, slice_index, slice_set}
-use Rattle.keys.specs.declared.object.Object.{Object}
-use Rattle.keys.specs.Objects.{fresh}
-use Rattle.keys.specs.Histories.{held_by}
+use Rattle.posixmutex.specs.declared.object.Object.{Object}
+use Rattle.posixmutex.specs.Objects.{fresh}
+use Rattle.posixmutex.specs.Histories.{held_by}
 use Rattle.verdict.specs.declared.head.Head.{Head}
 use Rattle.facts.specs.declared.fact.Fact.{Fact}
 use Rattle.facts.specs.declared.fact.Fact.TheVariants.{Point, Death}

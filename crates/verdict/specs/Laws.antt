@@ -1,7 +1,7 @@
 -- What legal traces promise where no thread lives anew: as much as where an id belongs to one thread.
 use Rattle.std.specs.Prelude.{ℕ, ◌≡◌, false, List, ◌∷◌, ◌++◌, reverse}
-use Rattle.keys.specs.declared.object.Object.{Object}
-use Rattle.keys.specs.Histories.{Legal, opening}
+use Rattle.posixmutex.specs.declared.object.Object.{Object}
+use Rattle.posixmutex.specs.Histories.{Legal, opening}
 use Rattle.facts.specs.declared.fact.Fact.TheVariants.{Kill}
 use Rattle.facts.specs.declared.fact.Line.{Line}
 use Rattle.facts.specs.Facts.{is_renewal}

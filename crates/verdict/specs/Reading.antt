@@ -10,7 +10,7 @@ use Rattle.verdict.specs.Forms.{head_form, form_of}
 use Rattle.verdict.specs.Forms.{◌>>=◌ as ◌>>?◌}
 use Rattle.lockword.specs.declared.reply.Reply.{Reply}
 use Rattle.verdict.specs.declared.head.Head.{Head}
-use Rattle.keys.specs.declared.point.Operation.{Operation}
+use Rattle.posixmutex.specs.declared.point.Operation.{Operation}
 use Rattle.facts.specs.declared.fact.Queue.TheVariants.{Mutex, Condition}
 use Rattle.facts.specs.declared.fact.Fact.{Fact}
 use Rattle.facts.specs.declared.fact.Fact.TheVariants as fact

@@ -2,14 +2,14 @@
 
 ghost use Rattle.std.specs.Prelude.{◌≡◌, [], ◌∷◌};
 ghost use Rattle.verdict.specs.Forms.{call_operation, condition_operation, end_form, form_of, head_form, mark_form, mutex_operation, object_said, object_form, point_said, begin_on_said, begin_form, many_form, sleep_said};
-ghost use Rattle.keys.specs.Words.{operation_of};
+ghost use Rattle.posixmutex.specs.Words.{operation_of};
 ghost use Rattle.lockword.specs.Replies.{reply_of};
 ghost use Rattle.lines.specs.Lines.{words_of};
 
 use crate::words::{number, numbered};
-use keys::Operation;
 use lines::{Words, words_in};
 use lockword::Reply;
+use posixmutex::Operation;
 
 /// A number that a line spells; None where it is past every range.
 pub type Spelled = Option<u32>;

@@ -1,7 +1,7 @@
 //! What is kept of the lines so far, and whether a line fits them.
 ghost use Rattle.std.specs.Prelude.{◌≡◌, ◌+◌, ◌≤◌, ◌<◌, ◌⊎◌, Some, true, length, IfOk, IfErr, MatchOption};
-ghost use Rattle.keys.specs.Objects.{Does, acquires};
-ghost use Rattle.keys.specs.Histories.{is_thread};
+ghost use Rattle.posixmutex.specs.Objects.{Does, acquires};
+ghost use Rattle.posixmutex.specs.Histories.{is_thread};
 ghost use Rattle.verdict.specs.Earlier.{moved};
 ghost use Rattle.facts.specs.Facts.{decision_of};
 ghost use Rattle.verdict.specs.Fits.{Allows, OwnsNothing};
@@ -14,8 +14,8 @@ use crate::misfit::Misfit;
 use crate::place::Place;
 use crate::stage::Stage;
 use facts::{Fact, Line};
-use keys::{Decision, HELD_LIMIT, Object, Operation};
 use lockword::Tid;
+use posixmutex::{Decision, HELD_LIMIT, Object, Operation};
 use std::alloc::{AllocError, Global};
 
 /// What the lines so far told, each of which fits those before it.

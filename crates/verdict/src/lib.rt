@@ -11,7 +11,7 @@
 //! [`explain`] answers why that line doesn't fit, beside the line: its event's number, its thread's life or its mutex forbids it, the
 //! first of these that does. [`read_trace`] gives the lines themselves, of a trace that needn't be legal.
 //!
-//! Stands on `facts`, for what lines say and how they follow each other, on `lines`, for words and numbers, on `keys`, for mutexes
+//! Stands on `facts`, for what lines say and how they follow each other, on `lines`, for words and numbers, on `posixmutex`, for mutexes
 //! as objects and operations, on `lockword`, for thread ids and replies, and on `thiserror`, for messages.
 //!
 //! ```text

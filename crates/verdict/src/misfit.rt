@@ -1,8 +1,8 @@
 //! Why a line doesn't fit the lines before it.
 
 use facts::Begun;
-use keys::{Object, Operation};
 use lockword::{Reply, Tid};
+use posixmutex::{Object, Operation};
 use std::fmt;
 use thiserror::Error;
 

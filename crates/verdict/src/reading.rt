@@ -10,8 +10,8 @@ use crate::form::{Form, HeadForm, Said, Spelled, read_form, read_head};
 use crate::head::Head;
 use crate::limits::{MAX_CONDITIONS, MAX_EVENTS, MAX_MUTEXES, MAX_THREADS};
 use facts::{Begun, Fact, Line, Queue};
-use keys::{Decision, Operation};
 use lockword::{Reply, Tid};
+use posixmutex::{Decision, Operation};
 
 /// A line behind the first: an entry of the trace, or its end.
 #[derive(Clone, Copy)]

@@ -4,8 +4,8 @@ ghost use Rattle.verdict.specs.Stages.{Forbids, ForbidsPoint, May, MayPoint, nex
 
 use crate::misfit::Misfit;
 use facts::{Begun, Fact};
-use keys::Operation;
 use lockword::Reply;
+use posixmutex::Operation;
 
 /// Which points of a call are made.
 #[derive(Clone, Copy)]

@@ -5,12 +5,13 @@ ghost use Rattle.ruledwords.specs.Deaths.{reaping_pass, HasWalked, IsReapingOf, 
 ghost use Rattle.ruledwords.specs.Passes.{card, layout_of, IsDying, IsLive, IsPassOf};
 
 use crate::two::{CELLS, Two, cells, makes, of_two};
-use keys::{Access, Answer, Layout};
 use lockword::Reply::{self, EOWNERDEAD, OK};
+use memorymap::Layout;
 use mutex::Call::{self, Consistent, TryLock};
 use ruledwords::{Dead, Live, Pass, Reaped, Reaping, Running, Walked, Words};
 use std::alloc::Global;
 use std::test::Fail;
+use stepprograms::{Access, Answer};
 
 /// The thread dies, before the first access of a declaration.
 fn die(words: &Words, pass: Pass<Live>) -> Pass<Dead>

@@ -3,8 +3,8 @@ ghost use Rattle.std.specs.Prelude.{◌<◌};
 ghost use Rattle.ruledwords.specs.Passes.{layout_of, IsLive};
 
 use crate::two::{Two, cells, makes, of_two};
-use keys::Layout;
 use lockword::Reply;
+use memorymap::Layout;
 use mutex::Call::{self, Consistent, TryLock, Unlock};
 use ruledwords::{Fate, Live, Outcome, Pass, Released, Words};
 use std::alloc::Global;

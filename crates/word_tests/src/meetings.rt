@@ -2,9 +2,9 @@
 ghost use Rattle.ruledwords.specs.Passes.{IsLive};
 
 use crate::two::{CELLS, Two, left, makes, of_two};
-use keys::Layout;
 use lockword::Reply;
 use lockword::Reply::{EBUSY, OK};
+use memorymap::Layout;
 use mutex::Call;
 use mutex::Call::TryLock;
 use ruledwords::{Live, Pass, Words};

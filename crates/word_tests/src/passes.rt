@@ -3,8 +3,8 @@ ghost use Rattle.ruledwords.specs.Passes.{IsLive};
 
 use crate::two::Who::{First, Second};
 use crate::two::{CELLS, Step, Two, left, makes, of_two, plays};
-use keys::Layout;
 use lockword::Reply::{EBUSY, EINVAL, EPERM, OK, XHELD};
+use memorymap::Layout;
 use mutex::Call::{Consistent, TryLock, Unlock};
 use ruledwords::{Live, Never, Pass, Released, Wakes, Words};
 use std::alloc::Global;

@@ -7,11 +7,12 @@ ghost use Rattle.ruledwords.specs.Outcomes.{owed_wakes, IsOwedOf};
 ghost use Rattle.ruledwords.specs.Passes.{layout_of, last_layout, IsLive, IsPassOf};
 ghost use Rattle.ruledwords.specs.Turns.{running_call, IsRunningOf};
 
-use keys::{Access, Answer, Layout, NoMem};
 use lockword::Reply;
+use memorymap::{Layout, NoMem};
 use mutex::Call;
 use ruledwords::{Last, Live, Never, Outcome, Owed, Pass, Released, Running, Turn, Words};
 use std::alloc::Global;
+use stepprograms::{Access, Answer};
 
 /// Words and the passes of their two threads, which are in no call.
 #[derive(Drop)]

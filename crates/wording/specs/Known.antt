@@ -1,7 +1,7 @@
 -- The words that may stand at a place.
 use Rattle.std.specs.Prelude.{ℕ, List, [], ◌∷◌, map, codes}
-use Rattle.keys.specs.declared.point.Operation.TheVariants.{Lock, TryLock, Unlock, Consistent, Wait, Signal, Broadcast, Reinit}
-use Rattle.keys.specs.Words.{operation_word}
+use Rattle.posixmutex.specs.declared.point.Operation.TheVariants.{Lock, TryLock, Unlock, Consistent, Wait, Signal, Broadcast, Reinit}
+use Rattle.posixmutex.specs.Words.{operation_word}
 use Rattle.lockword.specs.Replies.{all_replies, reply_word}
 use Rattle.script.specs.declared.command.Mode.{Mode}
 use Rattle.script.specs.declared.command.Mode.TheVariants.{Run, Threads}

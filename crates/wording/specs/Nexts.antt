@@ -4,9 +4,9 @@ use Rattle.std.specs.Option.{is_some}
 use Rattle.std.specs.Str.{bytes_eq}
 use Rattle.lines.specs.Numbers.{is_number}
 use Rattle.lockword.specs.Replies.{reply_of}
-use Rattle.keys.specs.declared.point.Operation.TheVariants as op
-use Rattle.keys.specs.declared.point.Operation.{Operation as Op}
-use Rattle.keys.specs.Words.{operation_of}
+use Rattle.posixmutex.specs.declared.point.Operation.TheVariants as op
+use Rattle.posixmutex.specs.declared.point.Operation.{Operation as Op}
+use Rattle.posixmutex.specs.Words.{operation_of}
 use Rattle.script.specs.declared.command.Mode.{Mode}
 use Rattle.script.specs.declared.command.Mode.TheVariants as mode
 use Rattle.script.specs.Forms.{is_name, is_stem}

@@ -5,7 +5,7 @@
 //! behind words that one begins with ([`Kind`]): proved of the kinds of line as the readers of scripts and traces have them. [`known_words`] has
 //! the words that may stand at a place, and [`nearest`] the one of several words that a misspelt one is next to.
 //!
-//! Stands on `script` and `verdict`, for their kinds of line, on `lines`, for words and numbers, on `keys` and `lockword`, for the
+//! Stands on `script` and `verdict`, for their kinds of line, on `lines`, for words and numbers, on `posixmutex` and `lockword`, for the
 //! words of operations and replies, and on `strsim`, for how far words are apart.
 //!
 //! ```text

@@ -5,9 +5,9 @@ ghost use Rattle.std.specs.List.{list_all};
 ghost use Rattle.script.specs.Forms.{is_name, is_name_byte, is_stem};
 ghost use Rattle.wording.specs.Nexts.{deed, event, fitting, is_call, is_lettered, is_reply, is_scripted, keyword, mode_of_word, of_run, of_threads, operation, shared};
 
-use keys::Operation;
 use lines::is_number_word;
 use lockword::Reply as ReplyName;
+use posixmutex::Operation;
 use script::{MAX_NAME, MAX_STEM, Mode};
 
 /// What the next word of a line has to be, and with it how the line goes on.

@@ -4,9 +4,9 @@ ghost use Rattle.exitwalk.specs.Walks.{IsGoing};
 use super::{BACK, OWNER_DIED, WAITERS, death};
 use crate::batches::thread;
 use exitwalk::Walk;
-use keys::{Access, Answer, Progress, StepProgram};
 use lockword::{Reply, Tid};
 use std::process::Abort;
+use stepprograms::{Access, Answer, Progress, StepProgram};
 
 /// How far an answer brings a walk.
 #[derive(Clone, Copy)]

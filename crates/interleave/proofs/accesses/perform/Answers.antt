@@ -1,5 +1,5 @@
 use Rattle.std.proofs.Common.{◌≡◌, sym, subst}
-use Rattle.keys.specs.declared.access.Access.{Access}
+use Rattle.stepprograms.specs.declared.access.Access.{Access}
 use Rattle.interleave.specs.declared.accesses.Performed.{Performed}
 use Rattle.interleave.specs.Perform.{list_words, Performs}
 use Rattle.interleave.proofs.Requeues.{performs_requeue, performs_cmp_requeue}

@@ -1,8 +1,8 @@
 use Rattle.std.proofs.Common.{◌≡◌, ◌+◌, ℕ, Option, arith, sym, ap, ◌∙◌, subst, slice_index_or, slice_set}
 use Rattle.std.proofs.lemmas.Grind.{common_steps}
-use Rattle.keys.specs.declared.access.Access.{Access}
-use Rattle.keys.specs.Layouts.{base_of}
-use Rattle.keys.specs.declared.point.Operation.TheVariants.{Death}
+use Rattle.stepprograms.specs.declared.access.Access.{Access}
+use Rattle.memorymap.specs.Layouts.{base_of}
+use Rattle.posixmutex.specs.declared.point.Operation.TheVariants.{Death}
 use Rattle.exitwalk.specs.Walks.{access_of}
 use Rattle.protocol.specs.declared.thread.Thread.{Thread}
 use Rattle.protocol.specs.declared.thread.Stage.TheVariants.{Dying}

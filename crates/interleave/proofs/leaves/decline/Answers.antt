@@ -1,6 +1,6 @@
 use Rattle.std.proofs.Common.{◌≡◌, ◌+◌, true, false, arith, refl, sym, ap, ◌∙◌, subst, slice_index_or, slice_set}
 use Rattle.std.proofs.lemmas.Grind.{common_steps}
-use Rattle.keys.specs.declared.access.Answer.{Answer}
+use Rattle.stepprograms.specs.declared.access.Answer.{Answer}
 use Rattle.mutex.specs.Whole.{whole_access, whole_led}
 use Rattle.facts.specs.declared.fact.Queue.TheVariants.{Mutex}
 use Rattle.protocol.specs.declared.thread.Thread.{Thread}

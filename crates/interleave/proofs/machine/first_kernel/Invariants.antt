@@ -1,5 +1,5 @@
 use Rattle.std.proofs.Common.{◌≡◌, ℕ, ◌≤◌, []}
-use Rattle.keys.specs.Layouts.{head_place, address_in}
+use Rattle.memorymap.specs.Layouts.{head_place, address_in}
 use Rattle.syscalls.specs.Kernels.{queue_of, head_of}
 use Rattle.interleave.proofs.machine.first_kernel.Given as goal
 

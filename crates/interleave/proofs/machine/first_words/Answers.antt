@@ -1,7 +1,7 @@
 use Rattle.std.proofs.Common.{arith, ◌∙◌, sym, ap, [], ◌∷◌, ◌++◌, ℕ, List, map}
 use Rattle.std.specs.List.{range_with_len}
 use Rattle.std.proofs.lemmas.List.FromFn.{map-range_with_len_more}
-use Rattle.keys.specs.Layouts.{first_word}
+use Rattle.memorymap.specs.Layouts.{first_word}
 use Rattle.interleave.proofs.machine.first_words.Goals as goal
 
 pub loop-place-preserved : goal.loop-place-preserved

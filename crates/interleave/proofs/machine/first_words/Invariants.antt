@@ -1,6 +1,6 @@
 use Rattle.std.proofs.Common.{◌≡◌, ◌≤◌, map}
 use Rattle.std.specs.List.{range_with_len}
-use Rattle.keys.specs.Layouts.{words_of, first_word}
+use Rattle.memorymap.specs.Layouts.{words_of, first_word}
 use Rattle.interleave.proofs.machine.first_words.Given as goal
 
 abbrev pub invariant-loop-place : goal.invariant-loop-place

@@ -1,8 +1,8 @@
 use Rattle.std.proofs.Common.{◌≡◌, ◌+◌, false, ℕ, arith, sym, ap, ◌∙◌, subst, slice_index_or, slice_set}
 use Rattle.std.proofs.lemmas.Grind.{common_steps}
-use Rattle.keys.specs.declared.access.Access.{Access}
-use Rattle.keys.specs.Layouts.{base_of}
-use Rattle.keys.specs.declared.access.Answer.{Answer}
+use Rattle.stepprograms.specs.declared.access.Access.{Access}
+use Rattle.memorymap.specs.Layouts.{base_of}
+use Rattle.stepprograms.specs.declared.access.Answer.{Answer}
 use Rattle.mutex.specs.Whole.{whole_access, whole_led}
 use Rattle.facts.specs.declared.fact.Queue.TheVariants.{Mutex}
 use Rattle.syscalls.specs.Kernels.{queue_of}

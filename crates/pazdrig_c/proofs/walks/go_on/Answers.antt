@@ -1,5 +1,5 @@
 use Rattle.std.proofs.Common.{◌≡◌, ℕ, sym, ap, ◌∙◌}
-use Rattle.keys.specs.declared.point.Progress.TheVariants.{Goes}
+use Rattle.stepprograms.specs.declared.program.Progress.TheVariants.{Goes}
 use Rattle.exitwalk.specs.Standings.{Standing}
 use Rattle.exitwalk.specs.Walks.{moved, progress_of, access_of}
 use Rattle.exitwalk.specs.Codings.{row_code}
@@ -7,7 +7,7 @@ use Rattle.pazdrig_c.specs.Accesses.{access_code, with_point}
 use Rattle.pazdrig_c.specs.Running.{status_of}
 use Rattle.pazdrig_c.specs.Walks.{told}
 use Rattle.pazdrig_c.specs.declared.structs.PzWalk.{PzWalk}
-use Rattle.keys.specs.declared.point.Progress.{Progress}
+use Rattle.stepprograms.specs.declared.program.Progress.{Progress}
 use Rattle.exitwalk.specs.declared.coding.CodedRow.{CodedRow}
 use Rattle.pazdrig_c.proofs.walks.go_on.Goals as goal
 

@@ -1,6 +1,6 @@
 use Rattle.std.proofs.Common.{◌≡◌, true, [], ◌∷◌, subst}
-use Rattle.keys.specs.Layouts.{cell_place}
-use Rattle.keys.specs.declared.point.Operation.TheVariants.{Consistent}
+use Rattle.memorymap.specs.Layouts.{cell_place}
+use Rattle.posixmutex.specs.declared.point.Operation.TheVariants.{Consistent}
 use Rattle.ruledwords.specs.declared.turn.Outcome.TheVariants.{Lives}
 use Rattle.ruledwords.specs.declared.pass.Words.{Words}
 use Rattle.ruledwords.specs.Outcomes.{Declared}

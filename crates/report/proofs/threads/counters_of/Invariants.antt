@@ -1,5 +1,5 @@
 use Rattle.std.proofs.Common.{◌≡◌, ◌<◌, ℕ, length, get_or}
-use Rattle.keys.specs.Layouts.{counter_place}
+use Rattle.memorymap.specs.Layouts.{counter_place}
 use Rattle.ruledwords.specs.Passes.{last_layout, last_words}
 use Rattle.report.proofs.threads.counters_of.Given as goal
 

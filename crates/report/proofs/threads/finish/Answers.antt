@@ -1,5 +1,5 @@
 use Rattle.std.proofs.Common.{List, length, ap, sym, ◌∙◌, subst}
-use Rattle.keys.specs.Layouts.{Layout'}
+use Rattle.memorymap.specs.Layouts.{Layout'}
 use Rattle.ruledwords.specs.declared.pass.Card.{Card}
 use Rattle.ruledwords.specs.Passes.{layout_of, presets_of, last_words}
 use Rattle.ruledwords.specs.Rules.{Ends}

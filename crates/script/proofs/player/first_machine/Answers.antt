@@ -1,5 +1,5 @@
 use Rattle.std.proofs.Common.{◌∙◌, ap}
-use Rattle.keys.specs.Layouts.{Layout'}
+use Rattle.memorymap.specs.Layouts.{Layout'}
 use Rattle.protocol.specs.Machine.{start}
 use Rattle.script.proofs.player.first_machine.Goals as goal
 

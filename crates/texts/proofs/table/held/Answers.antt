@@ -1,6 +1,6 @@
 use Rattle.std.proofs.Common.{◌≡◌, ◌<◌, ℕ, Option, Some, None, refl, arith, ap, sym, ◌∙◌}
 use Rattle.std.specs.Option.{option_eq}
-use Rattle.keys.specs.Layouts.{Layout'}
+use Rattle.memorymap.specs.Layouts.{Layout'}
 use Rattle.lockword.specs.contracts.tid.TidPartialEq.TheImpl as impl
 use Rattle.protocol.specs.Headline.{seen}
 use Rattle.interleave.specs.Shown.{state_of}

@@ -2,7 +2,7 @@ use Rattle.std.proofs.Common.{rules, ◌≡◌, ℕ, ◌∷◌, ◌++◌, [], Li
 use Rattle.std.specs.List.{concat}
 use Rattle.std.specs.Io.KnownBytes.{Appends}
 use Rattle.streams.specs.Leaves.{AppendsFront}
-use Rattle.keys.specs.Layouts.{Layout', counter_place}
+use Rattle.memorymap.specs.Layouts.{Layout', counter_place}
 use Rattle.interleave.specs.Shown.{state_of}
 use Rattle.texts.specs.Tables.{condition_name, queue_names}
 use Rattle.texts.proofs.Tables.{its_name}

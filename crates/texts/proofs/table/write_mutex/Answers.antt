@@ -3,7 +3,7 @@ use Rattle.std.specs.List.{concat}
 use Rattle.std.specs.Io.KnownBytes.{Appends}
 use Rattle.streams.specs.Leaves.{AppendsFront}
 use Rattle.std.specs.Prelude.{slice_get}
-use Rattle.keys.specs.Layouts.{Layout', cell_place}
+use Rattle.memorymap.specs.Layouts.{Layout', cell_place}
 use Rattle.protocol.specs.Machine.{sleepers}
 use Rattle.protocol.specs.Headline.{seen}
 use Rattle.interleave.specs.Shown.{state_of}

@@ -1,5 +1,5 @@
 use Rattle.std.proofs.Common.{ℕ, sym, subst}
-use Rattle.keys.specs.Layouts.{cell_place}
+use Rattle.memorymap.specs.Layouts.{cell_place}
 use Rattle.ruledwords.specs.Looks.{Finds}
 use Rattle.ruledwords.specs.Passes.{card, layout_of}
 use Rattle.ruledwords.specs.Turns.{running_pass}

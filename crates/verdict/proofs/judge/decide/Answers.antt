@@ -1,6 +1,6 @@
 use Rattle.std.proofs.Common.{◌+◌, length, sym, ap, subst, ◌∙◌, arith}
-use Rattle.keys.specs.declared.object.Object.{Object}
-use Rattle.keys.specs.Histories.{is_thread, held_by}
+use Rattle.posixmutex.specs.declared.object.Object.{Object}
+use Rattle.posixmutex.specs.Histories.{is_thread, held_by}
 use Rattle.verdict.specs.Misfits.{RefusesStep}
 use Rattle.verdict.specs.Judges.{object_at, one}
 use Rattle.verdict.proofs.Owners.{held_most, held_some, read_object, read_number, step_moves, step_counts}

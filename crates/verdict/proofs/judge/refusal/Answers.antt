@@ -1,7 +1,7 @@
 use Rattle.std.proofs.Common.{rules, ◌≡◌, ◌<◌, Some, true, refl, sym, ◌∙◌}
-use Rattle.keys.specs.Histories.{is_thread}
-use Rattle.keys.specs.Objects.{acquires, held_limit}
-use Rattle.keys.specs.declared.point.Operation.TheVariants as operation
+use Rattle.posixmutex.specs.Histories.{is_thread}
+use Rattle.posixmutex.specs.Objects.{acquires, held_limit}
+use Rattle.posixmutex.specs.declared.point.Operation.TheVariants as operation
 use Rattle.verdict.proofs.Misfits.{is_owner, limited, owner_dies}
 use Rattle.verdict.proofs.judge.refusal.Goals.{else-dies-via-then-dies+else-not-is_owner, else-dies-via-else-dies}
 use Rattle.verdict.proofs.judge.refusal.Goals as goal

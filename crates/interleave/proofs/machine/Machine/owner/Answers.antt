@@ -1,9 +1,9 @@
 use Rattle.std.proofs.Common.{◌≡◌, ℕ, ◌<◌, Some, rules, sym, ap, ◌∙◌, subst}
 use Rattle.std.specs.Prelude.{slice_index}
 use Rattle.lockword.specs.Cells.{Fields, fields_of}
-use Rattle.keys.specs.declared.object.Object.{Object}
-use Rattle.keys.specs.Layouts.{cell_place}
-use Rattle.keys.specs.Objects.{owner_of}
+use Rattle.posixmutex.specs.declared.object.Object.{Object}
+use Rattle.memorymap.specs.Layouts.{cell_place}
+use Rattle.posixmutex.specs.Objects.{owner_of}
 use Rattle.protocol.specs.Headline.{seen}
 use Rattle.protocol.proofs.Steps.{seen-inside}
 use Rattle.interleave.specs.Shown.{Shown, state_of}

@@ -1,5 +1,5 @@
 use Rattle.std.proofs.Common.{ℕ, ap, ◌∙◌}
-use Rattle.keys.specs.Layouts.{place_in}
+use Rattle.memorymap.specs.Layouts.{place_in}
 use Rattle.ruledwords.specs.Rules.{card_of}
 use Rattle.ruledwords.proofs.Listing.{loaded}
 use Rattle.ruledwords.proofs.pass.Words.access_own.Goals as goal

@@ -1,6 +1,6 @@
 use Rattle.std.proofs.Common.{◌∙◌, refl, sym, ap}
-use Rattle.keys.specs.declared.access.Access.TheVariants.{Load, FetchXor, FetchOr, FetchAdd}
-use Rattle.keys.specs.Layouts.{place_in}
+use Rattle.stepprograms.specs.declared.access.Access.TheVariants.{Load, FetchXor, FetchOr, FetchAdd}
+use Rattle.memorymap.specs.Layouts.{place_in}
 use Rattle.ruledwords.specs.Conditions.{CondStanding}
 use Rattle.ruledwords.specs.Rules.{card_of}
 use Rattle.ruledwords.proofs.Acting.{after_act, may_act, may_within}

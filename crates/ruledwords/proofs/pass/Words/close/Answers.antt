@@ -2,7 +2,7 @@ use Rattle.std.proofs.Common.{List, [], ◌∷◌, subst}
 use Rattle.atomic_table.specs.Table.{Final, Seen}
 use Rattle.std.specs.Mem.Slots.{slots_items}
 use Rattle.cachelines.specs.Closings.{words_at}
-use Rattle.keys.specs.Layouts.{Layout'}
+use Rattle.memorymap.specs.Layouts.{Layout'}
 use Rattle.ruledwords.specs.declared.pass.Card.{Card}
 use Rattle.ruledwords.specs.Rules.{card_of, Kept}
 use Rattle.ruledwords.specs.Passes.{presets_of}

@@ -2,7 +2,7 @@ use Rattle.std.proofs.Common.{subst}
 use Rattle.std.specs.Mem.Slots.{slots_items}
 use Rattle.cachelines.specs.Closings.{words_at}
 use Rattle.atomic_table.specs.Table.{Final}
-use Rattle.keys.specs.Layouts.{Layout'}
+use Rattle.memorymap.specs.Layouts.{Layout'}
 use Rattle.ruledwords.specs.Passes.{presets_of}
 use Rattle.ruledwords.specs.Rules.{Kept}
 use Rattle.ruledwords.proofs.Hands.{ends_alone}

@@ -1,7 +1,7 @@
 use Rattle.std.proofs.Common.{◌≡◌, ℕ, ◌<◌, sym, subst}
 use mathlib.Core.Option.{none}
 use Rattle.atomic_table.specs.Table.{step}
-use Rattle.keys.specs.Layouts.{cell_place}
+use Rattle.memorymap.specs.Layouts.{cell_place}
 use Rattle.ruledwords.specs.Deaths.{examined, remembering, MindsWaiters}
 use Rattle.ruledwords.specs.Looks.{Finds}
 use Rattle.ruledwords.proofs.Keepers.{inside}

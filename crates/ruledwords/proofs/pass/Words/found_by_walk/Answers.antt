@@ -1,7 +1,7 @@
 use Rattle.std.proofs.Common.{◌≡◌, ◌<◌, ℕ, [], ◌∷◌, sym, ap, ◌∙◌, subst}
-use Rattle.keys.specs.Layouts.{place_in, words_of}
-use Rattle.keys.specs.Accesses.{address_of}
-use Rattle.keys.specs.declared.access.Access.{Access}
+use Rattle.memorymap.specs.Layouts.{place_in, words_of}
+use Rattle.stepprograms.specs.Accesses.{address_of}
+use Rattle.stepprograms.specs.declared.access.Access.{Access}
 use Rattle.exitwalk.specs.declared.row.Part.{Part}
 use Rattle.exitwalk.specs.declared.row.Row.TheVariants.{LoadWord}
 use Rattle.exitwalk.specs.Standings.{Standing}

@@ -1,7 +1,7 @@
 use Rattle.std.proofs.Common.{◌<◌, ◌∙◌, refl, sym, subst}
-use Rattle.keys.specs.declared.access.Access.{Access}
-use Rattle.keys.specs.Accesses.{address_of}
-use Rattle.keys.specs.Layouts.{place_in}
+use Rattle.stepprograms.specs.declared.access.Access.{Access}
+use Rattle.stepprograms.specs.Accesses.{address_of}
+use Rattle.memorymap.specs.Layouts.{place_in}
 use Rattle.mutex.specs.Standings.{Whole}
 use Rattle.condvar.specs.Standings.{CondWhole}
 use Rattle.ruledwords.specs.ConditionCalls.{IsCondStep}

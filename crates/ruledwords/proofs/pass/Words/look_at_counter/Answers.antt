@@ -1,7 +1,7 @@
 use Rattle.std.proofs.Common.{◌≡◌, ℕ, ◌<◌, ◌≤◌, ◌∙◌, Some, sym, ap, subst, length, arith}
 use mathlib.Core.Option.{none}
 use Rattle.atomic_table.specs.Table.{step}
-use Rattle.keys.specs.Layouts.{counter_place, words_of}
+use Rattle.memorymap.specs.Layouts.{counter_place, words_of}
 use Rattle.condvar.specs.Laws.{largest_counter}
 use Rattle.ruledwords.specs.declared.pass.Card.{Card}
 use Rattle.ruledwords.specs.Cards.{value_at}

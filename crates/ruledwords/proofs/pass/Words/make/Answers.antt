@@ -1,8 +1,8 @@
 use Rattle.std.proofs.Common.{◌∙◌, refl, sym, ap, subst}
 use mathlib.Core.Option.{none}
 use Rattle.atomic_table.specs.Table.{step}
-use Rattle.keys.specs.Layouts.{Layout', place_in}
-use Rattle.keys.specs.declared.access.Access.TheVariants.{Load, Exchange, FetchXor, FetchOr, FetchAnd}
+use Rattle.memorymap.specs.Layouts.{Layout', place_in}
+use Rattle.stepprograms.specs.declared.access.Access.TheVariants.{Load, Exchange, FetchXor, FetchOr, FetchAnd}
 use Rattle.mutex.specs.Programs.{access_of}
 use Rattle.mutex.specs.Standings.{Standing}
 use Rattle.ruledwords.specs.Calls.{made}

@@ -2,7 +2,7 @@ use Rattle.std.proofs.Common.{◌==◌, ℕ, ◌<◌, sym, subst}
 use mathlib.Core.Option.{none}
 use prog.Atomic.{either}
 use Rattle.atomic_table.specs.Table.{step}
-use Rattle.keys.specs.Layouts.{Layout', cell_place}
+use Rattle.memorymap.specs.Layouts.{Layout', cell_place}
 use Rattle.ruledwords.specs.Deaths.{marked, Marks}
 use Rattle.ruledwords.specs.Rules.{card_of}
 use Rattle.ruledwords.proofs.Keepers.{inside}

@@ -1,7 +1,7 @@
 use Rattle.std.proofs.Common.{Bool, ◌≡◌, ℕ, sym, ap, ◌∙◌, subst}
 use Rattle.std.specs.Prelude.{if◌then◌else◌}
 use Rattle.lockword.specs.Cells.{fields_of}
-use Rattle.keys.specs.declared.object.Object.{Object}
+use Rattle.posixmutex.specs.declared.object.Object.{Object}
 use Rattle.mutex.specs.declared.call.Call.TheVariants as call
 use Rattle.ruledwords.specs.declared.turn.Wakes.{Wakes}
 use Rattle.ruledwords.specs.declared.turn.Wakes.TheVariants.{Nobody, One, All}

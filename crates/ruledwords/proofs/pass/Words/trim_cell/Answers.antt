@@ -3,7 +3,7 @@ use Rattle.std.specs.Prelude.{if◌then◌else◌}
 use mathlib.Core.Option.{none}
 use prog.Atomic.{either}
 use Rattle.atomic_table.specs.Table.{step}
-use Rattle.keys.specs.Layouts.{cell_place}
+use Rattle.memorymap.specs.Layouts.{cell_place}
 use Rattle.ruledwords.specs.declared.pass.Card.{Card}
 use Rattle.ruledwords.specs.Seen.{held}
 use Rattle.ruledwords.specs.Changes.{Writes}

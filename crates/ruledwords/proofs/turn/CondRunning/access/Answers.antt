@@ -1,6 +1,6 @@
 use Rattle.std.proofs.Common.{◌≡◌, refl, sym, ap, ◌∙◌}
-use Rattle.keys.specs.declared.access.Access.{Access}
-use Rattle.keys.specs.Accesses.{answer_at}
+use Rattle.stepprograms.specs.declared.access.Access.{Access}
+use Rattle.stepprograms.specs.Accesses.{answer_at}
 use Rattle.condvar.specs.Standings.{CondWhole}
 use Rattle.condvar.specs.Whole.{cond_access, cond_led}
 use Rattle.ruledwords.specs.declared.pass.Pass.{Pass}

@@ -1,7 +1,7 @@
 use Rattle.std.proofs.Common.{◌≡◌, sym, ap, ◌∙◌, subst}
-use Rattle.keys.specs.declared.access.Access.{Access}
-use Rattle.keys.specs.declared.access.Answer.{Answer}
-use Rattle.keys.specs.Accesses.{answer_at}
+use Rattle.stepprograms.specs.declared.access.Access.{Access}
+use Rattle.stepprograms.specs.declared.access.Answer.{Answer}
+use Rattle.stepprograms.specs.Accesses.{answer_at}
 use Rattle.exitwalk.specs.declared.row.Row.TheVariants.{Ended}
 use Rattle.exitwalk.specs.Standings.{Standing}
 use Rattle.exitwalk.specs.Walks.{point_of, row_after}

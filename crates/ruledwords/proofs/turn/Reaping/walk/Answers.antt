@@ -1,5 +1,5 @@
 use Rattle.std.proofs.Common.{◌≤◌, ℕ, sym, ap, ◌∙◌, subst}
-use Rattle.keys.specs.Layouts.{address_in, head_place}
+use Rattle.memorymap.specs.Layouts.{address_in, head_place}
 use Rattle.ruledwords.specs.declared.pass.Card.{Card}
 use Rattle.ruledwords.specs.Deaths.{IsWalking}
 use Rattle.ruledwords.specs.Passes.{card, layout_of}

@@ -1,5 +1,5 @@
 use Rattle.std.proofs.Common.{◌≡◌, ◌≤◌, refl, sym, ap, ◌∙◌, subst, arith}
-use Rattle.keys.specs.declared.access.Access.{Access}
+use Rattle.stepprograms.specs.declared.access.Access.{Access}
 use Rattle.mutex.specs.declared.phase.Phase.TheVariants.{Ended}
 use Rattle.mutex.specs.Programs.{led, moved}
 use Rattle.mutex.specs.Standings.{Standing, Whole}

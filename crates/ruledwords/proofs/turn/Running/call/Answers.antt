@@ -1,5 +1,5 @@
 use Rattle.std.proofs.Common.{◌≡◌, ℕ, Ok, refl, sym, ap, ◌∙◌, subst}
-use Rattle.keys.specs.Layouts.{address_in, cell_place}
+use Rattle.memorymap.specs.Layouts.{address_in, cell_place}
 use Rattle.mutex.specs.Calls.{mutex_of}
 use Rattle.mutex.specs.Standings.{Standing, Whole}
 use Rattle.mutex.specs.Whole.{whole_started, begins}

@@ -1,5 +1,5 @@
 use Rattle.std.proofs.Common.{refl, sym, ◌∙◌, subst}
-use Rattle.keys.specs.Layouts.{cell_place}
+use Rattle.memorymap.specs.Layouts.{cell_place}
 use Rattle.ruledwords.specs.Changes.{KnowsMoreAt}
 use Rattle.ruledwords.specs.Lists.{IsInCall}
 use Rattle.ruledwords.specs.Looks.{noted}

@@ -1,6 +1,6 @@
 use Rattle.std.proofs.Common.{◌≡◌, ◌+◌, ◌==◌, ℕ, ap, refl, sym, ◌∙◌, subst}
 use Rattle.std.specs.Prelude.{if◌then◌else◌}
-use Rattle.keys.specs.Layouts.{cell_place}
+use Rattle.memorymap.specs.Layouts.{cell_place}
 use Rattle.ruledwords.specs.declared.pass.Card.{Card}
 use Rattle.ruledwords.specs.Changes.{Writes}
 use Rattle.ruledwords.specs.Lists.{IsInCall}

@@ -1,7 +1,7 @@
 use Rattle.std.proofs.Common.{◌≡◌, ℕ, ◌+◌, length, refl, sym, ap, ◌∙◌, arith}
 use Rattle.std.specs.Prelude.{slice_index}
 use Rattle.std.proofs.Math.ListN.{replicate, length-replicate}
-use Rattle.keys.specs.Objects.{fresh}
+use Rattle.posixmutex.specs.Objects.{fresh}
 use Rattle.verdict.specs.declared.stage.Stage.TheVariants.{Resting}
 use Rattle.verdict.specs.Judges.{object_at, stage_at}
 use Rattle.verdict.proofs.Owners.{all_alike, none_counted}

@@ -1,4 +1,0 @@
-use Rattle.keys.proofs.address.seen_at.Goals as goal
-
-pub returns : goal.returns
-returns c = cc

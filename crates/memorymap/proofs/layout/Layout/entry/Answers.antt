@@ -1,0 +1,4 @@
+use Rattle.memorymap.proofs.layout.Layout.entry.Goals as goal
+
+pub returns : goal.returns
+returns c = cc

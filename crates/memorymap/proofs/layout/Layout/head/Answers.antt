@@ -1,0 +1,4 @@
+use Rattle.memorymap.proofs.layout.Layout.head.Goals as goal
+
+pub returns : goal.returns
+returns c = cc

@@ -1,0 +1,5 @@
+pub mod Owners
+pub mod Objects
+pub mod Words
+pub mod Steps
+pub mod Reasons

@@ -1,0 +1,130 @@
+-- A robust mutex as POSIX sees it (pthread_mutex_lock, pthread_mutex_trylock, pthread_mutex_unlock, pthread_mutex_consistent, pthread_mutex_destroy), with no bits.
+use Rattle.std.specs.Prelude.{ℕ, zero, suc, ◌≡◌, ◌≢◌, Bool, true, false, ◌&&◌, ◌||◌, ◌⊎◌, nat_le, if◌then◌else◌, MatchBool, Option, Some, None, List, [], ◌∷◌}
+use Rattle.lockword.specs.Cells.{Fields}
+use Rattle.lockword.specs.declared.reply.Reply.{Reply}
+use Rattle.lockword.specs.declared.reply.Reply.TheVariants.{OK, EPERM, EBUSY, EINVAL, EDEADLK, EOWNERDEAD, ENOTRECOVERABLE, XRACED, XHELD, XFULL, XSTATE}
+use Rattle.posixmutex.specs.declared.point.Operation.{Operation}
+use Rattle.posixmutex.specs.declared.point.Operation.TheVariants.{Lock, TryLock, Unlock, Consistent, Wait, Signal, Broadcast, Death, Reinit}
+use Rattle.posixmutex.specs.declared.point.Point.{Point}
+use Rattle.posixmutex.specs.declared.object.Object.{Object}
+
+abbrev pub fresh : Object
+fresh = record { owner = None; inconsistent = false; unusable = false }
+
+abbrev pub owned_by : Object → ℕ → Object
+owned_by o t = record { owner = Some t; inconsistent = o.inconsistent; unusable = o.unusable }
+
+-- an owner that releases an inconsistent mutex makes it unusable, until it is reinitialized
+abbrev pub freed : Object → Object
+freed o = record { owner = None; inconsistent = false; unusable = o.inconsistent || o.unusable }
+
+abbrev pub declared_consistent : Object → Object
+declared_consistent o = record { owner = o.owner; inconsistent = false; unusable = o.unusable }
+
+abbrev pub bereaved : Object → Object
+bereaved o = record { owner = None; inconsistent = true; unusable = o.unusable }
+
+-- from the old object, thread t's operation may reply so and leave the new one: one clause for each operation and reply
+abbrev pub Permits : Object → ℕ → Operation → Reply → Object → Type 0
+Permits o t Lock OK n = (o.unusable ≡ false) × (o.owner ≡ None) × (o.inconsistent ≡ false) × (n ≡ owned_by o t)
+Permits o t Lock EOWNERDEAD n = (o.unusable ≡ false) × (o.owner ≡ None) × (o.inconsistent ≡ true) × (n ≡ owned_by o t)
+Permits o t Lock ENOTRECOVERABLE n = (o.unusable ≡ true) × (n ≡ o)
+Permits o t Lock EDEADLK n = (o.owner ≡ Some t) × (n ≡ o)
+Permits o t TryLock OK n = (o.unusable ≡ false) × (o.owner ≡ None) × (o.inconsistent ≡ false) × (n ≡ owned_by o t)
+Permits o t TryLock EOWNERDEAD n = (o.unusable ≡ false) × (o.owner ≡ None) × (o.inconsistent ≡ true) × (n ≡ owned_by o t)
+Permits o t TryLock ENOTRECOVERABLE n = (o.unusable ≡ true) × (n ≡ o)
+Permits o t TryLock EBUSY n = (o.owner ≢ None) × (n ≡ o)
+Permits o t TryLock XRACED n = (o.unusable ≡ false) × (o.owner ≡ None) × (n ≡ o)
+Permits o t Unlock OK n = (o.owner ≡ Some t) × (n ≡ freed o)
+Permits o t Unlock EPERM n = (o.owner ≢ Some t) × (n ≡ o)
+Permits o t Consistent OK n = (o.owner ≡ Some t) × (o.inconsistent ≡ true) × (n ≡ declared_consistent o)
+Permits o t Consistent EINVAL n = (o.owner ≡ Some t) × (o.inconsistent ≡ false) × (n ≡ o)
+Permits o t Consistent EPERM n = (o.owner ≢ Some t) × (n ≡ o)
+Permits o t Wait XSTATE n = (o.owner ≡ Some t) × (o.inconsistent ≡ true) × (n ≡ o)
+Permits o t Wait EPERM n = (o.owner ≢ Some t) × (n ≡ o)
+Permits o t Signal OK n = (o.owner ≡ Some t) × (n ≡ o)
+Permits o t Signal XFULL n = (o.owner ≡ Some t) × (n ≡ o)
+Permits o t Signal EPERM n = (o.owner ≢ Some t) × (n ≡ o)
+Permits o t Broadcast OK n = (o.owner ≡ Some t) × (n ≡ o)
+Permits o t Broadcast XFULL n = (o.owner ≡ Some t) × (n ≡ o)
+Permits o t Broadcast EPERM n = (o.owner ≢ Some t) × (n ≡ o)
+Permits o t Death OK n = (o.owner ≡ Some t) × (n ≡ bereaved o)
+Permits o t Reinit OK n = (o.unusable ≡ true) × (o.owner ≡ None) × (n ≡ fresh)
+Permits o t op r n = ⊥
+
+-- the operations that take a mutex
+abbrev pub acquires : Operation → Bool
+acquires Lock = true
+acquires TryLock = true
+acquires op = false
+
+-- how many mutexes a thread may hold, and how many entries of a dead thread's list the kernel walks: so a walk meets all that its thread held (ROBUST_LIST_LIMIT; robust-futexes)
+abbrev pub held_limit : ℕ
+held_limit = 2048
+
+-- the step of an object: where the thread holds that many mutexes, a lock or trylock of any has the one reply XHELD and changes nothing
+abbrev pub Does : ℕ → Object → ℕ → Operation → Reply → Object → Type 0
+Does held o t op r n = MatchBool (acquires op && nat_le held_limit held) ((r ≡ XHELD) × (n ≡ o)) (Permits o t op r n)
+
+-- what an object becomes by a step of thread t's operation that replies so
+abbrev pub stepped : Object → ℕ → Operation → Reply → Object
+stepped o t Lock OK = owned_by o t
+stepped o t Lock EOWNERDEAD = owned_by o t
+stepped o t TryLock OK = owned_by o t
+stepped o t TryLock EOWNERDEAD = owned_by o t
+stepped o t Unlock OK = freed o
+stepped o t Consistent OK = declared_consistent o
+stepped o t Death OK = bereaved o
+stepped o t Reinit OK = fresh
+stepped o t op r = o
+
+-- a step leaves no choice: who knows the operation and its reply knows the object behind it
+abbrev pub StepsAreDetermined : Type 0
+StepsAreDetermined = (held : ℕ) (o : Object) (t : ℕ) (op : Operation) (r : Reply) (n : Object) → Does held o t op r n → n ≡ stepped o t op r
+
+-- ---- what changes a mutex
+
+-- thread t takes it, and is told of its last owner's death exactly where the mutex is inconsistent
+abbrev pub IsTaking : Object → ℕ → Operation → Reply → Object → Type 0
+IsTaking o t op r n = (acquires op ≡ true) × (r ≡ (if o.inconsistent then EOWNERDEAD else OK)) × (n ≡ owned_by o t)
+
+-- its owner releases it, declares it consistent, or dies
+abbrev pub IsByOwner : Object → Operation → Object → Type 0
+IsByOwner o Unlock n = n ≡ freed o
+IsByOwner o Consistent n = (o.inconsistent ≡ true) × (n ≡ declared_consistent o)
+IsByOwner o Death n = n ≡ bereaved o
+IsByOwner o op n = ⊥
+
+-- the operations behind which nobody owns it
+abbrev pub releases : Operation → Bool
+releases Unlock = true
+releases Death = true
+releases op = false
+
+-- a step of thread t changes a mutex for one of these reasons only, by whose the mutex is. And who is told that it took or
+-- released the mutex did so
+pub record ChangesWithReason (o : Object) (t : ℕ) (op : Operation) (r : Reply) (n : Object) : Type 0 where
+  pub usable : o.owner ≡ None → o.unusable ≡ false → (n ≡ o) ⊎ IsTaking o t op r n
+  pub unusable : o.owner ≡ None → o.unusable ≡ true → (n ≡ o) ⊎ ((op ≡ Reinit) × (r ≡ OK) × (n ≡ fresh))
+  pub own : o.owner ≡ Some t → (n ≡ o) ⊎ IsByOwner o op n
+  pub others : (u : ℕ) → o.owner ≡ Some u → t ≢ u → n ≡ o
+  pub takes : acquires op ≡ true → (r ≡ OK) ⊎ (r ≡ EOWNERDEAD) → n.owner ≡ Some t
+  pub frees : releases op ≡ true → r ≡ OK → (o.owner ≡ Some t) × (n.owner ≡ None)
+
+abbrev pub ChangesHaveReasons : Type 0
+ChangesHaveReasons = (held : ℕ) (o : Object) (t : ℕ) (op : Operation) (r : Reply) (n : Object) → Does held o t op r n
+    → ChangesWithReason o t op r n
+
+-- points on one mutex, one after the other, from object to object
+abbrev pub Run : Object → List Point → Object → Type 0
+Run o [] n = n ≡ o
+Run o (p ∷ ps) n = (m : Object) × Permits o p.thread p.operation p.reply m × Run m ps n
+
+-- the owner that an id names, 0 being none
+abbrev pub owner_of : ℕ → Option ℕ
+owner_of zero = None
+owner_of (suc t) = Some (suc t)
+
+-- what a cell says of its mutex
+abbrev pub object_of : Fields → Object
+object_of c = record { owner = owner_of c.owner; inconsistent = c.died; unusable = c.unusable }
