@@ -1,4 +1,4 @@
-//! Those that one wake or one requeue takes.
+//! A batch: the threads that one wake or one requeue takes out of a queue, in their order.
 ghost use Rattle.std.specs.Prelude.{◌≡◌, ◌==◌, ◌<◌, ◌≤◌, [], ◌∷◌, ◌++◌, length, slice_get};
 
 use lockword::Tid;

@@ -1,4 +1,4 @@
-//! The words after the last step.
+//! Words that no thread shares any more: they can be read, and their memory is given back.
 ghost use Rattle.std.specs.Prelude.{◌≡◌, ◌<◌, ◌^◌};
 ghost use Rattle.std.specs.Mem.Slots.{slots_len, IsFull};
 ghost use Rattle.cachelines.specs.Spread.{slots_for};

@@ -1,4 +1,4 @@
-//! The words, from their beginning to their end.
+//! Shared words by place: how they are made, and what takes them back.
 ghost use Rattle.std.specs.Prelude.{◌≡◌, ◌<◌, ◌≤◌, ◌^◌, ℕ, [], length, IfOk, slice_index};
 ghost use Rattle.std.specs.Mem.Slots.{slots_items};
 ghost use Rattle.atomic_table.specs.Table.{opening, Final, Seen};

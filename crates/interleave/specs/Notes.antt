@@ -1,4 +1,4 @@
--- Events that couldn't apply.
+-- Notes of events that couldn't apply.
 use Rattle.std.specs.Prelude.{Bool, true, false, ◌&&◌, List, [], ◌∷◌}
 use Rattle.protocol.specs.declared.note.Note.{Note}
 use Rattle.protocol.specs.declared.note.Note.TheVariants.{Nothing}

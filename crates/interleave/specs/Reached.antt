@@ -1,4 +1,4 @@
--- What a machine is made by.
+-- The kernel that a machine is made with: nobody sleeps, and each thread's head is set.
 use Rattle.std.specs.Prelude.{ℕ, ◌≡◌, ◌≤◌, true, List, [], length, take}
 use Rattle.memorymap.specs.Layouts.{Layout', IsLayout, words_of, head_place, address_in}
 use Rattle.syscalls.specs.Kernels.{Kernel', queue_of, head_of}

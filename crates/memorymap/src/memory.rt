@@ -1,4 +1,4 @@
-//! Want of memory.
+//! What a call answers that was refused memory.
 
 use std::alloc::AllocError;
 use thiserror::Error;

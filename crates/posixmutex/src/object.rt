@@ -1,4 +1,4 @@
-//! The mutex as an object, with no bits.
+//! The robust mutex as an object, with no bits: what each operation may answer, and what it leaves.
 ghost use Rattle.std.specs.Prelude.{◌≡◌, true, false, MatchOption};
 ghost use Rattle.posixmutex.specs.Objects.{ChangesHaveReasons, StepsAreDetermined};
 

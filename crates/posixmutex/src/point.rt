@@ -1,4 +1,4 @@
-//! Where operations take effect.
+//! Operations, and the points at which they take effect (linearization points).
 ghost use Rattle.std.specs.Prelude.{◌≡◌};
 ghost use Rattle.std.specs.Array.Iter.{array_into_iter_items};
 ghost use Rattle.std.specs.Result.{result_ok};

@@ -46,7 +46,7 @@ left_by t s o (e ∷ es) = left_by t (happens s e).state (left_next t (happens s
 
 -- ---- whom a call wakes or moves
 
--- of those who sleep on a mutex that was left so one is to learn of that, the first; and all, where it is unusable, since nobody takes it again
+-- of those who sleep on a mutex that was left so one is to learn of that, the first; and all, where it is unusable: nobody takes it until it is made anew, which has to wait until nobody sleeps on it
 abbrev pub to_tell : Option Object → List ℕ → List ℕ
 to_tell None q = []
 to_tell (Some o) q = if o.unusable then q else take 1 q

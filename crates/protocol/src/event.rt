@@ -1,4 +1,4 @@
-//! What may happen to the machine.
+//! Events: what a schedule lets happen, one thread's begin, access, death, leave, renewal or reinit at a time.
 
 use condvar::Op;
 use lockword::Tid;

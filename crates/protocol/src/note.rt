@@ -1,4 +1,4 @@
-//! What events did.
+//! Notes: what an event did, from which its lines of the trace are made.
 ghost use Rattle.std.specs.Prelude.{◌≡◌};
 
 use buckets::Batch;

@@ -1,4 +1,4 @@
--- What a phase of a script adds.
+-- What a phase of a script adds to the replies, the deaths and the points of the phases before it.
 use Rattle.std.specs.Prelude.{ℕ, Bool, List}
 use Rattle.lockword.specs.declared.reply.Reply.{Reply}
 use Rattle.posixmutex.specs.declared.point.Point.{Point}

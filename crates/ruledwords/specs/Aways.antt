@@ -1,4 +1,4 @@
--- What is left of passes whose seats are one.
+-- What is kept of each pass while all of them meet, and their seats are one.
 use Rattle.std.specs.Prelude.{◌≡◌, ℕ, Bool, true, false, Some, List, slice_get}
 use Rattle.ruledwords.specs.declared.away.Away.{Away}
 use Rattle.ruledwords.specs.declared.pass.Card.{Card}

@@ -1,4 +1,4 @@
--- Seats that come together.
+-- The one seat that the seats of passes become where they meet.
 use Rattle.std.specs.Prelude.{◌≡◌, List, [], Option, None, Some}
 use Rattle.atomic_table.specs.declared.shared.Seat.{Seat}
 use Rattle.ruledwords.specs.declared.pass.Card.{Card}

@@ -1,4 +1,4 @@
-//! What is left of passes that meet.
+//! What is kept of each pass while all of them meet, and their seats are one.
 ghost use Rattle.std.specs.Prelude.{◌≤◌};
 ghost use Rattle.posixmutex.specs.Objects.{held_limit};
 

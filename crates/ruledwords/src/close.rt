@@ -1,4 +1,4 @@
-//! Passes that meet, and the end of the words.
+//! Two passes that meet, and what is known of the words once all passes are given back.
 ghost use Rattle.std.specs.Prelude.{◌≡◌, ◌<◌, List, [], ◌∷◌, ◌++◌, Some, All, IfSome, length, map, slice_index};
 ghost use Rattle.memorymap.specs.Layouts.{cell_place, counter_place};
 ghost use Rattle.ruledwords.specs.Seen.{Joined, AreExclusive};

@@ -1,4 +1,4 @@
-//! When a thread dies.
+//! Fates: before each access of a call, its thread's fate says whether the thread dies there.
 ghost use Rattle.std.specs.Prelude.{◌≡◌, ℕ, ◌+◌, if◌then◌else◌};
 ghost use Rattle.ruledwords.specs.Fates.{Heeds};
 

@@ -1,4 +1,4 @@
-//! The beginning of the words, and whose passes are.
+//! How the words are made, with a pass for each thread.
 ghost use Rattle.std.specs.Prelude.{◌≡◌, ℕ, ◌+◌, ◌<◌, Some, IfOk, All, length, slice_get, slice_index};
 ghost use Rattle.memorymap.specs.Layouts.{words_of, IsLayout};
 ghost use Rattle.ruledwords.specs.Rules.{first_card, opening_word};

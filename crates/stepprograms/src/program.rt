@@ -1,4 +1,4 @@
-//! What is run access by access.
+//! Step programs: calls and walks that say which access comes next, and are told its answer.
 ghost use Rattle.std.specs.Prelude.{◌≡◌};
 ghost use Rattle.stepprograms.specs.declared.access.Access.{Access};
 ghost use Rattle.stepprograms.specs.declared.access.Answer.{Answer};

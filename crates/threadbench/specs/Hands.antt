@@ -1,4 +1,4 @@
--- Jobs on their way.
+-- Jobs that were handed to a worker's thread, and those that no thread was started for.
 use Rattle.std.specs.Prelude.{ℕ, Bool, false, Option, None, Some, ◌≡◌}
 use Rattle.std.specs.declared.sync.OnceToken.{OnceToken}
 use Rattle.threadbench.specs.declared.job.Job.{Job}

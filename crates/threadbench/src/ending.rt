@@ -1,4 +1,4 @@
-//! What becomes of jobs: their workers are told to begin, or were told not to.
+//! What becomes of each job once its worker was told to begin, or not to.
 ghost use Rattle.std.specs.Prelude.{◌≡◌, ◌≤◌, [], true, false, All, length, map, vec_capacity};
 ghost use Rattle.threadbench.specs.Hands.{IsHandIn, MayBegin, job_of};
 ghost use Rattle.threadbench.specs.Jobs.{IsJobOf, IsDone, AreDone};

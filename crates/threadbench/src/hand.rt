@@ -1,4 +1,4 @@
-//! Jobs on their way.
+//! Jobs that were handed to a worker's thread, and the promise how each ends.
 use crate::gate::Gate;
 use crate::job::Job;
 use crate::phase::Phase;

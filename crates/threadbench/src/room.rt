@@ -1,4 +1,4 @@
-//! Lists that have room.
+//! Adding to a list whose room was taken before, so that no memory is asked for.
 ghost use Rattle.std.specs.Prelude.{◌≡◌, ◌+◌, ◌<◌, ◌≤◌, [], ◌∷◌, ◌++◌, vec_len, vec_capacity};
 
 /// Adds an item for which there is room.

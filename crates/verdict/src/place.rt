@@ -1,4 +1,4 @@
-//! The newest event.
+//! How far the lines of a trace have come in the newest event.
 ghost use Rattle.std.specs.Prelude.{◌≡◌, MatchResult};
 ghost use Rattle.verdict.specs.Places.{Admits, Clashes, ClashesHere, IsAnothers, Shares, Stands, caller, nowhere, placed};
 
