@@ -2,7 +2,8 @@
 use Rattle.std.proofs.Common.{ℕ, ◌≡◌, Bool, true, false, not, List, [], ◌∷◌, codes, refl}
 use Rattle.std.specs.Prelude.{◌&&◌, if◌then◌else◌}
 use Rattle.std.specs.Str.{bytes_eq}
-use Rattle.cmdline.specs.Forms.{table, usage, asked_of, asked_of_file, asked_of_table, is_file_word}
+use Rattle.cmdline.specs.Forms.{table, usage, asked_of, asked_of_file, asked_of_table}
+use Rattle.streams.specs.Words.{is_file_word}
 use Rattle.cmdline.specs.Said.{Said, asked_for, in_order}
 use Rattle.cmdline.proofs.Taken.{same_text}
 

@@ -4,7 +4,8 @@ use Rattle.std.specs.Str.{bytes_eq}
 use Rattle.clap.specs.Words.{takes, subcommand_of}
 use Rattle.clap.proofs.OnLiterals.{clap_on_literals}
 use Rattle.std.proofs.lemmas.Slice.Eq.{bytes_eq-Decides}
-use Rattle.cmdline.specs.Forms.{usage, asked_of, asked_of_file, asked_of_table, is_file_word, rfx}
+use Rattle.cmdline.specs.Forms.{usage, asked_of, asked_of_file, asked_of_table, rfx}
+use Rattle.streams.specs.Words.{is_file_word}
 use Rattle.cmdline.specs.Said.{Said, IsSaid, in_order}
 
 no_hyphen : (t : Bool) → not t ≡ true → t ≡ false

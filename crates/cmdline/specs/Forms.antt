@@ -5,6 +5,7 @@ use Rattle.clap.specs.Words.{App, Rule, new_app, new_rule, with_rule, with_subco
 use Rattle.clap.specs.declared.builder.ArgAction.TheVariants.{Set, SetTrue}
 use Rattle.cmdline.specs.declared.form.Form.{Form}
 use Rattle.cmdline.specs.declared.form.Form.TheVariants as form
+use Rattle.streams.specs.Words.{is_file_word}
 
 -- what a command line asks for, with the texts of its words
 pub data Asked : Type 0 where
@@ -13,11 +14,6 @@ pub data Asked : Type 0 where
   threads : List ℕ → Asked
   check : List ℕ → Asked
   usage : Asked
-
--- a word that names a file: it doesn't begin with a hyphen
-abbrev pub is_file_word : List ℕ → Bool
-is_file_word [] = true
-is_file_word (b ∷ bs) = not (b == 45)
 
 -- what a subcommand and a word after it ask for
 abbrev pub asked_of_file : List ℕ → List ℕ → Asked

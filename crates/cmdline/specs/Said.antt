@@ -3,7 +3,8 @@ use Rattle.std.specs.Prelude.{ℕ, ◌≡◌, ◌⊎◌, Bool, true, false, not,
 use Rattle.std.specs.Str.{bytes_eq}
 use Rattle.clap.specs.Words.{Row, Text, first_of, one_of}
 use Rattle.cmdline.specs.declared.form.Found.{Found}
-use Rattle.cmdline.specs.Forms.{Asked, run, table, threads, check, usage, is_file_word}
+use Rattle.cmdline.specs.Forms.{Asked, run, table, threads, check, usage}
+use Rattle.streams.specs.Words.{is_file_word}
 
 -- a subcommand, whether its table is asked for, and a file
 pub record Said : Type 0 where

@@ -3,13 +3,14 @@
 ghost use Rattle.std.specs.Prelude.{◌≡◌, true, false, IfOk, Some, map, option_map};
 ghost use Rattle.clap.specs.Words.{app_of, rule_of, subcommand_of, subcommand_rows_of, takes};
 ghost use Rattle.clap.specs.declared.builder.command.Command.TheViews.{out-Command};
-ghost use Rattle.cmdline.specs.Forms.{is_file_word, asked_of, asked_by, rfx, run_app, file_app, table_rule, file_rule};
+ghost use Rattle.cmdline.specs.Forms.{asked_of, asked_by, rfx, run_app, file_app, table_rule, file_rule};
 ghost use Rattle.cmdline.specs.Said.{Said, IsSaid, seen, asked_for, in_order};
 
 use clap::error::ErrorKind;
 use clap::{Arg, ArgAction, ArgMatches, Command};
 use memorymap::NoMem;
 use std::alloc::{AllocError, Global};
+use streams::is_file;
 
 /// What a command line asks for.
 #[derive(Clone, Copy, Debug, PartialEq, Eq)]
@@ -107,16 +108,6 @@ fn found_by_clap<'a>(alloc: Global, words: &'a [&'a str]) -> Result<Option<Found
     match kind {
         ErrorKind::OutOfMemory => Err(NoMem),
         _ => Ok(None),
-    }
-}
-
-/// Whether the word names a file: it doesn't begin with a hyphen.
-fn is_file(word: &str) -> bool
-    ensures { result ≡ is_file_word word.now }
-{
-    match word.as_bytes() {
-        [b'-', ..] => false,
-        _ => true,
     }
 }
 

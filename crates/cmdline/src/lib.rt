@@ -4,7 +4,8 @@
 //! asked first, and then the words are matched. It stands in a crate of its own, so that no other proof reads what `clap`
 //! promises.
 //!
-//! Stands on `clap`, for commands, options and arguments, and on `memorymap`, for want of memory.
+//! Stands on `clap`, for commands, options and arguments, and on `memorymap`, for want of memory, and on `streams`, for
+//! which words name files.
 //!
 //! ```text
 //! let table = form_of_words(rt.alloc(), &["rfx", "run", "--table", "a.rfx"])?;

@@ -5,17 +5,13 @@ use Rattle.draw_report.specs.declared.asking.Form.{Form}
 use Rattle.draw_report.specs.declared.asking.Form.TheVariants.{Picture, Legend, Usage}
 use Rattle.draw_report.specs.declared.asking.Kind.{Kind}
 use Rattle.draw_report.specs.declared.asking.Kind.TheVariants.{Text, Svg}
+use Rattle.streams.specs.Words.{is_file_word}
 
 -- a picture of the trace in a file, with the names of a script in another one, or with numbers; what the signs of pictures mean; or the usage
 pub data Asked : Type 0 where
   Drawing : Kind → Option (List ℕ) → List ℕ → Asked
   Meaning : Asked
   Nothing : Asked
-
--- a word that names a file: it doesn't begin with a hyphen
-abbrev pub is_file_word : List ℕ → Bool
-is_file_word [] = true
-is_file_word (b ∷ bs) = not (b == 45)
 
 -- the file that is drawn where none is named
 abbrev pub standard_input : List ℕ

@@ -1,7 +1,9 @@
 //! What the words of a command line ask for.
 
 ghost use Rattle.std.specs.Prelude.{◌≡◌, map};
-ghost use Rattle.draw_report.specs.Asked.{asked_behind, asked_by, asked_by_script, asked_of, asked_of_file, asked_of_option, asked_of_svg, is_file_word};
+ghost use Rattle.draw_report.specs.Asked.{asked_behind, asked_by, asked_by_script, asked_of, asked_of_file, asked_of_option, asked_of_svg};
+
+use streams::is_file;
 
 /// What a picture is made of.
 #[derive(Clone, Copy, Debug, PartialEq, Eq)]
@@ -26,16 +28,6 @@ pub enum Form<'a> {
 
 /// The file that is drawn where none is named.
 pub const STANDARD_INPUT: &str = "/dev/stdin";
-
-/// Whether the word names a file: it doesn't begin with a hyphen.
-fn is_file(word: &str) -> bool
-    ensures { result ≡ is_file_word word.now }
-{
-    match word.as_bytes() {
-        [b'-', ..] => false,
-        _ => true,
-    }
-}
 
 fn form_of_file<'a>(kind: Kind, file: &'a str) -> Form<'a>
     ensures { asked_by result ≡ asked_of_file kind file.now }

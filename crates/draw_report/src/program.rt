@@ -1,6 +1,6 @@
 //! The program: what it does with the words of its command line.
 
-ghost use Rattle.std.specs.Prelude.{◌≡◌, map, string_bytes, IfErr, IfOk, OnOk};
+ghost use Rattle.std.specs.Prelude.{◌≡◌, IfErr, IfOk, OnOk};
 ghost use Rattle.std.specs.IoError.{error_kind};
 ghost use Rattle.streams.specs.Leaves.{AppendsFront};
 ghost use Rattle.draw_report.specs.Messages.{failure_status, failure_text};
@@ -10,20 +10,9 @@ use crate::asking::{Form, Kind, form_of_words};
 use crate::messages::{Failure, fail};
 use crate::serving::{read_script, serve, write_legend};
 use script::Script;
-use std::alloc::{AllocError, Global};
+use std::alloc::Global;
 use std::io::{self, ErrorKind, Write};
-use streams::{Opener, Output};
-
-/// The words, lent.
-fn lent<'a>(alloc: Global, words: &'a [String]) -> Result<Vec<&'a str>, AllocError>
-    ensures { IfOk result (λ v. map (λ w. w.now) v.items ≡ map string_bytes words.entry.now) }
-{
-    let mut lent = Vec::new(alloc);
-    for word in words {
-        lent.push(word.as_str())?;
-    }
-    Ok(lent)
-}
+use streams::{Opener, Output, lent};
 
 /// What a failure to open a file is told as.
 fn unopened_by(error: &io::Error) -> Failure

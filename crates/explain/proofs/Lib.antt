@@ -1,6 +1,5 @@
 pub mod Earlier
 pub mod Pieces
-pub mod Lent
 pub mod Ends
 pub mod Titles
 pub mod Declared

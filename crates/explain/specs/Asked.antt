@@ -2,15 +2,11 @@
 use Rattle.std.specs.Prelude.{ℕ, Bool, true, not, ◌==◌, List, [], ◌∷◌, Option, Some, None, if◌then◌else◌}
 use Rattle.explain.specs.declared.asking.Form.{Form}
 use Rattle.explain.specs.declared.asking.Form.TheVariants.{File, Usage}
+use Rattle.streams.specs.Words.{is_file_word}
 
 -- an explanation of the file of this name; or the usage
 abbrev pub Asked : Type 0
 Asked = Option (List ℕ)
-
--- a word that names a file: it doesn't begin with a hyphen
-abbrev pub is_file_word : List ℕ → Bool
-is_file_word [] = true
-is_file_word (b ∷ bs) = not (b == 45)
 
 -- what the words of a command line ask for, of which the first is the program's name
 abbrev pub asked_of : List (List ℕ) → Asked

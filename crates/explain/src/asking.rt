@@ -1,7 +1,9 @@
 //! What the words of a command line ask for.
 
 ghost use Rattle.std.specs.Prelude.{◌≡◌, map};
-ghost use Rattle.explain.specs.Asked.{asked_by, asked_of, is_file_word};
+ghost use Rattle.explain.specs.Asked.{asked_by, asked_of};
+
+use streams::is_file;
 
 /// What a command line asks for.
 #[derive(Clone, Copy, Debug, PartialEq, Eq)]
@@ -10,16 +12,6 @@ pub enum Form<'a> {
     File(&'a str),
     /// Every other command line, those that ask for help or the version among them.
     Usage,
-}
-
-/// Whether the word names a file: it doesn't begin with a hyphen.
-fn is_file(word: &str) -> bool
-    ensures { result ≡ is_file_word word.now }
-{
-    match word.as_bytes() {
-        [b'-', ..] => false,
-        _ => true,
-    }
 }
 
 /// The form of a command line, of which the first word is the program's name.

@@ -18,7 +18,7 @@ use Rattle.threadbench.specs.declared.job.WorkerPass.TheVariants.{Lives, Reaped}
 use Rattle.threadbench.specs.Answered.{card_in, IsWorkerOf}
 use Rattle.report.specs.declared.threads.Worker.{Worker}
 use Rattle.report.specs.Meetings.{as_either, as_worker, is_reaped, HaveMet}
-use Rattle.report.proofs.Names.{mapped_at}
+use Rattle.streams.proofs.Listed.{mapped_at}
 use Rattle.report.proofs.Phases.{all_at, length_mapped, some_at}
 
 -- ---- passes one by one

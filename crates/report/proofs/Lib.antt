@@ -1,4 +1,3 @@
-mod Names
 mod Working
 mod Phases
 mod AllMeet

@@ -25,7 +25,7 @@ use Rattle.report.specs.Histories.{ArePointsBehind, IsCountOf, TakesPart}
 use Rattle.report.specs.Parts.{Part}
 use Rattle.report.specs.Meetings.{is_reaped, HaveMet}
 use Rattle.report.specs.Threads.{calls_in, open_gate, HasPassed, Works, WorksFrom}
-use Rattle.report.proofs.Names.{mapped_at}
+use Rattle.streams.proofs.Listed.{mapped_at}
 use Rattle.report.proofs.Parts.{by_append}
 use Rattle.report.proofs.Phases.{all_at, length_mapped, some_at}
 use Rattle.report.proofs.Told.{Grew, points_behind, thread_stays, worked_grew}

@@ -28,7 +28,7 @@ use Rattle.threadbench.proofs.Living.{works_on as still_works}
 use Rattle.report.specs.declared.threads.Worker.{Worker}
 use Rattle.report.specs.Meetings.{is_reaped, HaveMet}
 use Rattle.report.specs.Threads.{open_gate, ArePossible, IsRightPhase, calls_at, calls_in, AreFirst, AreAssigned, AreGathered, HasPassed, HavePassed, HaveWorked, HaveMade, Works}
-use Rattle.report.proofs.Names.{mapped_at}
+use Rattle.streams.proofs.Listed.{mapped_at}
 use Rattle.report.proofs.Working.{done_works}
 
 -- ---- what stands at a place of a list

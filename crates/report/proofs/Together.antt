@@ -28,7 +28,7 @@ use Rattle.report.specs.Histories.{ArePointsBehind, AreParts, IsCountOf, StandIn
 use Rattle.report.specs.Lone.{AreLone, ArePlayed}
 use Rattle.report.specs.Meetings.{is_reaped}
 use Rattle.report.specs.Threads.{AreRightPhases, calls_in, calls_over, AreFirst, HaveMade, HasEnded, HaveReplies}
-use Rattle.report.proofs.Names.{mapped_at}
+use Rattle.streams.proofs.Listed.{mapped_at}
 use Rattle.report.proofs.Parts.{by_append, calls_through, counted, lived, points_through, replies_through}
 use Rattle.report.proofs.InOrder.{AreWithin, Through, parts_same, played_same, through}
 use Rattle.report.proofs.Passed.{AreAbreast, gone_at, gone_is, items_are, items_at}

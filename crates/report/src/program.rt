@@ -1,5 +1,5 @@
 //! The program: what it does with the words of its command line.
-ghost use Rattle.std.specs.Prelude.{◌≡◌, ◌≢◌, ℕ, List, Option, Result, Ok, Err, ⊤, map, IfOk, IfErr, string_bytes};
+ghost use Rattle.std.specs.Prelude.{◌≡◌, ◌≢◌, ℕ, List, Option, Result, Ok, Err, ⊤, IfErr};
 ghost use Rattle.std.specs.IoError.{error_kind};
 ghost use Rattle.std.specs.declared.io.ErrorKind.{ErrorKind as Kind};
 ghost use Rattle.std.specs.declared.io.ErrorKind.TheVariants.{OutOfMemory};
@@ -12,22 +12,11 @@ ghost use Rattle.streams.specs.Leaves.{AppendsFront};
 use crate::messages::{Failure, status_after, tell};
 use crate::serving::serve;
 use cmdline::{Form, form_of_words};
-use std::alloc::{AllocError, Global};
+use std::alloc::Global;
 use std::io::{self, ErrorKind, Read, Write};
 use std::sync::Wait;
 use std::thread::Threads;
-use streams::{Opener, Output};
-
-/// The words, lent.
-fn lent<'a>(alloc: Global, words: &'a [String]) -> Result<Vec<&'a str>, AllocError>
-    ensures { IfOk result (λ v. map (λ w. w.now) v.items ≡ map string_bytes words.entry.now) }
-{
-    let mut lent = Vec::new(alloc);
-    for word in words {
-        lent.push(word.as_str())?;
-    }
-    Ok(lent)
-}
+use streams::{Opener, Output, lent};
 
 /// Tells a failure, and answers the exit status after it.
 fn fail<E: Write>(err: &mut E, file: &str, failure: Failure) -> u8

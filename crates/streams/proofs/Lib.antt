@@ -1,2 +1,3 @@
 pub mod Writers
 pub mod Readers
+pub mod Listed

@@ -1,6 +1,6 @@
 use Rattle.std.proofs.Common.{ap, sym, ◌∙◌}
 use Rattle.std.specs.Prelude.{Some, string_bytes}
-use Rattle.draw_report.proofs.Listed.{named_at, said_next}
+use Rattle.streams.proofs.Listed.{named_at, said_next}
 use Rattle.draw_report.proofs.names.condition_names.Goals as goal
 
 pub loop-condition-preserved : goal.loop-condition-preserved

@@ -1,6 +1,6 @@
 use Rattle.std.proofs.Common.{ap, sym, ◌∙◌}
 use Rattle.std.specs.Prelude.{Some, string_bytes}
-use Rattle.draw_report.proofs.Listed.{said_next}
+use Rattle.streams.proofs.Listed.{said_next}
 use Rattle.draw_report.proofs.names.mutex_names.Goals as goal
 
 pub loop-mutex-preserved : goal.loop-mutex-preserved

@@ -1,6 +1,6 @@
 use Rattle.std.proofs.Common.{rules, ◌≡◌, ◌-◌, ap, sym, subst, ◌∙◌}
 use Rattle.std.specs.Prelude.{slice_get, Some, string_bytes}
-use Rattle.draw_report.proofs.Listed.{said_next}
+use Rattle.streams.proofs.Listed.{said_next}
 use Rattle.draw_report.proofs.names.thread_names.Goals as goal
 
 pub loop-index-preserved : goal.loop-index-preserved

@@ -1,6 +1,6 @@
 use Rattle.std.proofs.Common.{◌≡◌, slice_index_or, subst, arith}
 use Rattle.std.specs.Prelude.{slice_get, Some}
-use Rattle.report.proofs.Names.{said_next, at_place, named_at}
+use Rattle.streams.proofs.Listed.{said_next, at_place, named_at}
 use Rattle.report.proofs.answers.condition_words.Goals as goal
 
 pub loop-condition-preserved : goal.loop-condition-preserved

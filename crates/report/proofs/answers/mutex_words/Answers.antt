@@ -1,6 +1,6 @@
 use Rattle.std.proofs.Common.{◌≡◌, slice_index_or, subst, arith}
 use Rattle.std.specs.Prelude.{slice_get, Some}
-use Rattle.report.proofs.Names.{said_next, at_place}
+use Rattle.streams.proofs.Listed.{said_next, at_place}
 use Rattle.report.proofs.answers.mutex_words.Goals as goal
 
 pub loop-mutex-preserved : goal.loop-mutex-preserved

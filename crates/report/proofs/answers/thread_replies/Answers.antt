@@ -1,6 +1,6 @@
 use Rattle.std.proofs.Common.{rules, ◌≡◌, slice_index_or, ◌-◌, ap, sym, ◌∙◌, subst, arith}
 use Rattle.std.specs.Prelude.{slice_get, Some}
-use Rattle.report.proofs.Names.{said_next, mapped_at, at_place}
+use Rattle.streams.proofs.Listed.{said_next, mapped_at, at_place}
 use Rattle.report.proofs.answers.thread_replies.Goals as goal
 
 pub loop-index-preserved : goal.loop-index-preserved

@@ -1,4 +1,4 @@
--- Names, one after the other.
+-- Items of lists, one after the other.
 use Rattle.std.proofs.Common.{◌≡◌, ℕ, zero, suc, ◌+◌, ◌<◌, length, slice_index_or, get_or, List, [], ◌∷◌, ◌++◌, map, take, Some, ap, arith, ◌∙◌, sym}
 use Rattle.std.specs.Prelude.{slice_get, option_map}
 use Rattle.std.proofs.lemmas.List.{map-append, take_more}

@@ -1,6 +1,6 @@
 use Rattle.std.specs.Prelude.{string_bytes}
-use Rattle.draw_report.proofs.Listed.{says_on}
-use Rattle.draw_report.proofs.program.lent.Goals as goal
+use Rattle.streams.proofs.Listed.{says_on}
+use Rattle.streams.proofs.words.lent.Goals as goal
 
 pub loop-word-preserved : goal.loop-word-preserved
 loop-word-preserved c =
