@@ -1,115 +1,22 @@
 //! `rfx-draw` from the words of its command line on: its forms, each fault, files that are there or not, readers and writers that fail.
 
+use crate::files::{Folder, answer_of, folder_of, words};
 use crate::writers::{Few, Fixed};
 use draw_report::{OUT_OF_MEMORY, run};
 use std::alloc::{AllocError, Global};
-use std::cell::Cell;
-use std::io::{self, ErrorKind, Read};
-use streams::Opener;
+use std::io::{self, ErrorKind};
 
-/// An open file: its bytes; one without end; or one whose reads fail.
-#[derive(Drop)]
-enum File<'a> {
-    Bytes(&'a [u8]),
-    Endless,
-    Broken,
-}
+pub(crate) const TRACE: &[u8] = b"trace 1 1 0\n1 begin t1 lock m0\nend 1\n";
 
-impl Read for File<'_> {
-    fn read(&mut self, buf: &mut [u8]) -> io::Result<usize> {
-        match self {
-            File::Bytes(bytes) => bytes.read(buf),
-            File::Endless => {
-                buf.fill(b'#');
-                Ok(buf.len())
-            }
-            File::Broken => Err(io::Error::from(ErrorKind::BrokenPipe)),
-        }
-    }
-}
+pub(crate) const SCRIPT: &[u8] = b"thread alice\nmutex accounts\n";
 
-/// Has the file `f` and the standard input, of the same bytes, the script `s`, one that is `endless` and one that is `broken`. It counts what is opened.
-#[derive(Drop)]
-struct Folder<'a> {
-    script: &'a [u8],
-    text: &'a [u8],
-    opened: Cell<usize>,
-}
-
-impl<'a> Opener for Folder<'a> {
-    type Input = File<'a>;
-
-    fn open(&self, file: &str) -> io::Result<File<'a>> {
-        self.opened.set(self.opened.get().saturating_add(1));
-        match file {
-            "f" | "/dev/stdin" => Ok(File::Bytes(self.text)),
-            "s" => Ok(File::Bytes(self.script)),
-            "endless" => Ok(File::Endless),
-            "broken" => Ok(File::Broken),
-            "refused" => Err(io::Error::from(ErrorKind::OutOfMemory)),
-            _ => Err(io::Error::from(ErrorKind::NotFound)),
-        }
-    }
-}
-
-fn folder_of<'a>(script: &'a [u8], text: &'a [u8]) -> Folder<'a> {
-    Folder {
-        script,
-        text,
-        opened: Cell::new(0),
-    }
-}
+const TEXT: &str = " event  m0   t1\n     1  -    ┌ lock m0\n     1  end\n";
 
 fn files_of(text: &[u8]) -> Folder<'_> {
     folder_of(SCRIPT, text)
 }
 
-/// The words of a command line.
-fn words(alloc: Global, line: &[&str]) -> io::Result<Vec<String>> {
-    let mut words = Vec::new(alloc);
-    for word in line {
-        words.push(String::from_str(alloc, word)?)?;
-    }
-    Ok(words)
-}
-
-/// What the program answered, printed and told, and how often it opened a file.
-#[derive(Drop)]
-struct Answered {
-    status: u8,
-    printed: Vec<u8>,
-    told: Vec<u8>,
-    opened: usize,
-}
-
-impl Answered {
-    fn is(&self, status: u8, printed: &str, told: &str) -> bool {
-        self.status == status
-            && self.printed.as_slice() == printed.as_bytes()
-            && self.told.as_slice() == told.as_bytes()
-    }
-}
-
-/// What the program answers these words, or the error of having them, among these files.
-fn answer_of(alloc: Global, words: io::Result<Vec<String>>, files: &Folder<'_>) -> Answered {
-    let mut printed = Vec::new(alloc);
-    let mut told = Vec::new(alloc);
-    let status = run(alloc, words, files, &mut printed, &mut told);
-    Answered {
-        status,
-        printed,
-        told,
-        opened: files.opened.get(),
-    }
-}
-
-const TRACE: &[u8] = b"trace 1 1 0\n1 begin t1 lock m0\nend 1\n";
-
-const SCRIPT: &[u8] = b"thread alice\nmutex accounts\n";
-
-const TEXT: &str = " event  m0   t1\n     1  -    ┌ lock m0\n     1  end\n";
-
-const USAGE: &str = "usage: rfx-draw [--svg] [--script SCRIPT] [FILE] | --legend\n";
+pub(crate) const USAGE: &str = "usage: rfx-draw [--svg] [--script SCRIPT] [FILE] | --legend\n";
 
 const LEGEND: &str =
     "A row is a line of the trace: the number of its event, who owns each mutex behind it, and a lane for each thread.\n┌ lock m0        the thread begins a call\n● m0 OK          the call takes effect, with its reply\n└ OK             the call returns\nz on m0          the thread falls asleep\n> woken, < woken it is woken by the thread from whose lane the arrow comes\n> to m0, < to m0 it is moved, asleep, to the mutex\n○ woken          it left its queue by itself, or no line tells who woke it\n╳ killed         the thread is killed\n! m0 owner died  the kernel marks a mutex that it owned\n† reaped         the kernel has gone through its list\n* renewed        it lives anew: its id is used again\nA lane shows what its thread does:\n·   it is in no call\n│   it is in a call\nz   it is asleep in a call\n╎   it was killed, and the kernel goes through its list\n†   it was reaped\nBelow a mutex stands its owner:\nt1    t1 owns it\nt1!   t1 owns it, and has to declare it consistent: an owner died\n-!    an owner died, and nobody was told yet\n-     nobody owns it\nlost  nobody can have it, unless it is made anew\n";
@@ -201,255 +108,6 @@ static LINES: [(&[u8], &[&str], u8, &str, &str, usize); 22] = [
 fn command_lines_are_served(rt: HostRuntime) {
     for (file, line, status, printed, told, opened) in &LINES {
         let answered = answer_of(rt.alloc(), words(rt.alloc(), *line), &files_of(*file));
-        assert!(rt; answered.is(*status, *printed, *told));
-        assert!(rt; answered.opened == *opened);
-    }
-}
-
-/// With the names of the script.
-const NAMED: &str = " event  accounts  alice\n     1  -         ┌ lock accounts\n     1  end\n";
-
-const UNLIKE: &str =
-    "rfx-draw: script: not of this trace, which has other numbers of threads, mutexes or condition variables\n";
-
-/// A script, a trace, a command line, what comes of it, and how often a file is opened.
-static SCRIPTS: [(&[u8], &[u8], &[&str], u8, &str, &str, usize); 26] = [
-    (
-        SCRIPT,
-        TRACE,
-        &["rfx-draw", "--script", "s"],
-        0,
-        NAMED,
-        "",
-        2,
-    ),
-    (
-        SCRIPT,
-        TRACE,
-        &["rfx-draw", "--script", "s", "f"],
-        0,
-        NAMED,
-        "",
-        2,
-    ),
-    (
-        b"# commands say nothing of names\nthread t2\nmutex m\ncall t2 lock m\nkill t2\n",
-        TRACE,
-        &["rfx-draw", "--script", "s", "f"],
-        0,
-        " event  m    t2\n     1  -    ┌ lock m\n     1  end\n",
-        "",
-        2,
-    ),
-    (SCRIPT, TRACE, &["rfx-draw", "--script"], 2, "", USAGE, 0),
-    (
-        SCRIPT,
-        TRACE,
-        &["rfx-draw", "--scripts", "s"],
-        2,
-        "",
-        USAGE,
-        0,
-    ),
-    (
-        SCRIPT,
-        TRACE,
-        &["rfx-draw", "--script", "-s"],
-        2,
-        "",
-        USAGE,
-        0,
-    ),
-    (
-        SCRIPT,
-        TRACE,
-        &["rfx-draw", "--script", "s", "-f"],
-        2,
-        "",
-        USAGE,
-        0,
-    ),
-    (
-        SCRIPT,
-        TRACE,
-        &["rfx-draw", "--script", "s", "f", "f"],
-        2,
-        "",
-        USAGE,
-        0,
-    ),
-    (
-        SCRIPT,
-        TRACE,
-        &["rfx-draw", "--script", "s", "--svg"],
-        2,
-        "",
-        USAGE,
-        0,
-    ),
-    (
-        SCRIPT,
-        TRACE,
-        &["rfx-draw", "--script", "--svg", "s"],
-        2,
-        "",
-        USAGE,
-        0,
-    ),
-    (
-        SCRIPT,
-        TRACE,
-        &["rfx-draw", "--svg", "--script"],
-        2,
-        "",
-        USAGE,
-        0,
-    ),
-    (
-        SCRIPT,
-        TRACE,
-        &["rfx-draw", "--legend", "--script", "s"],
-        2,
-        "",
-        USAGE,
-        0,
-    ),
-    (
-        b"thread a\n\xff\n",
-        TRACE,
-        &["rfx-draw", "--script", "s"],
-        1,
-        "",
-        "rfx-draw: script: line 2: fault 1: not UTF-8\n",
-        1,
-    ),
-    (
-        b"thread Alice\n",
-        TRACE,
-        &["rfx-draw", "--script", "s"],
-        1,
-        "",
-        "rfx-draw: script: line 1: fault 2: unknown word\n",
-        1,
-    ),
-    // One for real threads.
-    (
-        b"thread a\nmutex m\nphase\n",
-        TRACE,
-        &["rfx-draw", "--script", "s"],
-        1,
-        "",
-        "rfx-draw: script: line 3: fault 2: unknown word\n",
-        1,
-    ),
-    (
-        b"thread a\n",
-        TRACE,
-        &["rfx-draw", "--script", "s"],
-        1,
-        "",
-        "rfx-draw: script: line 2: fault 3: number out of range\n",
-        1,
-    ),
-    (
-        b"thread a\nmutex m\ncall a lock n\n",
-        TRACE,
-        &["rfx-draw", "--script", "s"],
-        1,
-        "",
-        "rfx-draw: script: line 3: fault 4: no such name\n",
-        1,
-    ),
-    (
-        SCRIPT,
-        TRACE,
-        &["rfx-draw", "--script", "endless"],
-        1,
-        "",
-        "rfx-draw: script: line 1: fault 5: too long\n",
-        1,
-    ),
-    (
-        SCRIPT,
-        TRACE,
-        &["rfx-draw", "--script", "broken", "f"],
-        1,
-        "",
-        "rfx-draw: cannot read broken\n",
-        1,
-    ),
-    (
-        SCRIPT,
-        TRACE,
-        &["rfx-draw", "--script", "no file", "f"],
-        1,
-        "",
-        "rfx-draw: cannot read no file\n",
-        1,
-    ),
-    (
-        SCRIPT,
-        TRACE,
-        &["rfx-draw", "--script", "refused", "f"],
-        1,
-        "",
-        "rfx-draw: out of memory\n",
-        1,
-    ),
-    (
-        SCRIPT,
-        TRACE,
-        &["rfx-draw", "--script", "s", "no file"],
-        1,
-        "",
-        "rfx-draw: cannot read no file\n",
-        2,
-    ),
-    // A good script, and no trace.
-    (
-        SCRIPT,
-        b"trace 1 1 0\n",
-        &["rfx-draw", "--svg", "--script", "s"],
-        1,
-        "",
-        "rfx-draw: line 2: fault 5: cut\n",
-        2,
-    ),
-    // One thread, one mutex, one condition variable more than the trace has.
-    (
-        b"thread a\nthread b\nmutex m\n",
-        TRACE,
-        &["rfx-draw", "--script", "s"],
-        1,
-        "",
-        UNLIKE,
-        2,
-    ),
-    (
-        b"thread a\nmutexes m 2\n",
-        TRACE,
-        &["rfx-draw", "--script", "s"],
-        1,
-        "",
-        UNLIKE,
-        2,
-    ),
-    (
-        b"thread a\nmutex m\ncond c m 0\n",
-        TRACE,
-        &["rfx-draw", "--svg", "--script", "s"],
-        1,
-        "",
-        UNLIKE,
-        2,
-    ),
-];
-
-#[test]
-fn scripts_give_names(rt: HostRuntime) {
-    for (script, trace, line, status, printed, told, opened) in &SCRIPTS {
-        let files = folder_of(*script, *trace);
-        let answered = answer_of(rt.alloc(), words(rt.alloc(), *line), &files);
         assert!(rt; answered.is(*status, *printed, *told));
         assert!(rt; answered.opened == *opened);
     }
@@ -562,7 +220,7 @@ fn is_drawn_or_wants_memory(status: u8, out: &Fixed, err: &Fixed, end: &str) -> 
         && err.bytes().ends_with(b"out of memory\n")
 }
 
-fn draws_or_wants_memory(alloc: Global, line: &[&str], end: &str) -> bool {
+pub(crate) fn draws_or_wants_memory(alloc: Global, line: &[&str], end: &str) -> bool {
     let mut out = Fixed::new();
     let mut err = Fixed::new();
     let files = files_of(TRACE);
@@ -583,7 +241,3 @@ fn memory_for_an_svg_picture(rt: HostRuntime) {
 }
 
 /// Passes too where any one allocation fails: nothing is printed then, and want of memory is told.
-#[test]
-fn memory_for_a_picture_with_names(rt: HostRuntime) {
-    assert!(rt; draws_or_wants_memory(rt.alloc(), &["rfx-draw", "--script", "s", "f"], NAMED));
-}

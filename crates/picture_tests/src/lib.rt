@@ -4,6 +4,10 @@
 #[cfg(test)]
 mod commands;
 #[cfg(test)]
+mod files;
+#[cfg(test)]
+mod names;
+#[cfg(test)]
 mod pictures;
 #[cfg(test)]
 mod svg_pictures;

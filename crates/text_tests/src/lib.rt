@@ -23,4 +23,6 @@ mod processes;
 #[cfg(test)]
 mod scripts;
 #[cfg(test)]
+mod trace_faults;
+#[cfg(test)]
 mod traces;
