@@ -239,5 +239,3 @@ fn memory_for_a_picture(rt: HostRuntime) {
 fn memory_for_an_svg_picture(rt: HostRuntime) {
     assert!(rt; draws_or_wants_memory(rt.alloc(), &["rfx-draw", "--svg", "f"], SVG_END));
 }
-
-/// Passes too where any one allocation fails: nothing is printed then, and want of memory is told.

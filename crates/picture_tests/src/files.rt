@@ -32,7 +32,7 @@ impl Read for File<'_> {
 pub(crate) struct Folder<'a> {
     script: &'a [u8],
     text: &'a [u8],
-    opened: Cell<usize>,
+    pub(crate) opened: Cell<usize>,
 }
 
 impl<'a> Opener for Folder<'a> {

@@ -252,6 +252,7 @@ fn scripts_give_names(rt: HostRuntime) {
     }
 }
 
+/// Passes too where any one allocation fails: nothing is printed then, and want of memory is told.
 #[test]
 fn memory_for_a_picture_with_names(rt: HostRuntime) {
     assert!(rt; draws_or_wants_memory(rt.alloc(), &["rfx-draw", "--script", "s", "f"], NAMED));
