@@ -79,5 +79,6 @@ fn each_fact_is_of_its_kind(rt: HostRuntime) -> Result<(), Fail> {
     assert!(rt; tells(thread, Fact::Return(thread, Reply::OK), None, OTHER));
     assert!(rt; tells(thread, Fact::Kill(thread), None, KILL));
     assert!(rt; tells(thread, Fact::Reap(thread), None, OTHER));
+    assert!(rt; tells(thread, Fact::Renew(thread), None, OTHER));
     Ok(())
 }
