@@ -1,5 +1,5 @@
 -- The parts that phases add, one after the other.
-use Rattle.std.proofs.Common.{◌≡◌, ℕ, ◌+◌, ◌<◌, ◌≤◌, Bool, true, false, List, [], ◌∷◌, ◌++◌, length, map, Vec, refl, sym, ap, ◌∙◌, subst, arith, append_assoc, append-nil}
+use Rattle.std.proofs.Common.{◌≡◌, ℕ, ◌+◌, ◌<◌, ◌≤◌, Bool, true, false, List, [], ◌∷◌, ◌++◌, length, map, slice_get, Vec, refl, sym, ap, ◌∙◌, subst, arith, append_assoc, append-nil}
 use Rattle.std.specs.Prelude.{◌||◌}
 use Rattle.std.specs.declared.alloc.Global.{Global}
 use Rattle.lockword.specs.declared.reply.Reply.{Reply}
@@ -8,8 +8,10 @@ use Rattle.posixmutex.specs.declared.object.Object.{Object}
 use Rattle.memorymap.specs.Layouts.{Layout', cell_place}
 use Rattle.posixmutex.specs.Objects.{fresh, Run}
 use Rattle.condvar.specs.declared.op.Op.{Op}
+use Rattle.ruledwords.specs.declared.pass.Change.{Change}
 use Rattle.ruledwords.specs.declared.pass.Words.{Words}
 use Rattle.ruledwords.specs.Cards.{at}
+use Rattle.ruledwords.specs.Deaths.{IsNoCell}
 use Rattle.ruledwords.specs.Passes.{layout_of}
 use Rattle.ruledwords.specs.Seen.{by}
 use Rattle.script.specs.declared.workload.Phase.{Phase}
@@ -19,7 +21,7 @@ use Rattle.report.specs.Lone.{AreLone, ArePlayed, PlaysAlone, Rest}
 use Rattle.report.specs.Parts.{Part}
 use Rattle.report.specs.Threads.{calls_in, HasPassed, HavePassed}
 use Rattle.report.proofs.LoneCalls.{Within}
-use Rattle.report.proofs.LonePhases.{phase_played, IsNoCell}
+use Rattle.report.proofs.LonePhases.{phase_played, AreKnown}
 use Rattle.report.proofs.Parts.{points_through, replies_through}
 use Rattle.report.proofs.Passed.{calls_of, gone_at, items_at, or_assoc, part_of, AreAbreast, abreast_again, passes_as}
 
@@ -47,51 +49,55 @@ abbrev pub AreWithin : Layout' → List Phase → Type 0
 AreWithin k [] = Unit {0}
 AreWithin k (p ∷ ps) = ((t : ℕ) → Within k (calls_in t p)) × AreWithin k ps
 
--- from mutexes that all threads have seen so, and where nobody holds anything else
-abbrev pub LoneFrom : Words → ℕ → List Phase → List Worker → List (List Point) → List Part → List (List Point) → Type 0
-LoneFrom w n ps us seen parts last = (is : List ℕ) → AreLone n (map calls_of ps) is → AreWithin (layout_of w) ps → (os : ℕ → Object) → ((m : ℕ) → m < (layout_of w).mutexes → Run fresh (at seen (cell_place (layout_of w) m)) (os m))
+-- from mutexes that all threads have seen so, and counters whose changes they know, and where nobody holds anything else
+abbrev pub LoneFrom : Words → ℕ → List Phase → List Worker → List (List Point) → List (List Change) → List Part → List (List Point) → List (List Change) → Type 0
+LoneFrom w n ps us seen changes parts last changed = (is : List ℕ) → AreLone n (map calls_of ps) is → AreWithin (layout_of w) ps → (os : ℕ → Object) → (vs : ℕ → ℕ) → AreKnown (layout_of w) changes vs → ((m : ℕ) → m < (layout_of w).mutexes → Run fresh (at seen (cell_place (layout_of w) m)) (os m))
     → ((j : ℕ) → j < n → gone_at us j ≡ false → (x : ℕ) → IsNoCell (layout_of w) x → by (j + 1) (at seen x) ≡ [])
-    → (os' : ℕ → Object) × ArePlayed (layout_of w) (gone_at us) os (map calls_of ps) is parts os' × ((m : ℕ) → m < (layout_of w).mutexes → Run fresh (at last (cell_place (layout_of w) m)) (os' m))
+    → (os' : ℕ → Object) × (vs' : ℕ → ℕ) × ArePlayed (layout_of w) (gone_at us) os vs (map calls_of ps) is parts os' vs' × ((m : ℕ) → m < (layout_of w).mutexes → Run fresh (at last (cell_place (layout_of w) m)) (os' m)) × AreKnown (layout_of w) changed vs'
 
-pub played_same : (k : Layout') (n : ℕ) (g g' : ℕ → Bool) (os : ℕ → Object) (phases : List (ℕ → List Op)) (is : List ℕ) (parts : List Part) (os' : ℕ → Object) → ((j : ℕ) → j < n → g j ≡ g' j) → AreLone n phases is → ArePlayed k g os phases is parts os' → ArePlayed k g' os phases is parts os'
-played_same k n g g' os [] [] [] os' same lone played = played
-played_same k n g g' os [] [] (q ∷ parts) os' same lone played = absurd played
-played_same k n g g' os [] (i ∷ is) parts os' same lone played = absurd lone
-played_same k n g g' os (calls ∷ phases) [] parts os' same lone played = absurd lone
-played_same k n g g' os (calls ∷ phases) (i ∷ is) [] os' same lone played = absurd played
-played_same k n g g' os (calls ∷ phases) (i ∷ is) (q ∷ parts) os' same lone played = (
+pub played_same : (k : Layout') (n : ℕ) (g g' : ℕ → Bool) (os : ℕ → Object) (vs : ℕ → ℕ) (phases : List (ℕ → List Op)) (is : List ℕ) (parts : List Part) (os' : ℕ → Object) (vs' : ℕ → ℕ) → ((j : ℕ) → j < n → g j ≡ g' j) → AreLone n phases is → ArePlayed k g os vs phases is parts os' vs' → ArePlayed k g' os vs phases is parts os' vs'
+played_same k n g g' os vs [] [] [] os' vs' same lone played = played
+played_same k n g g' os vs [] [] (q ∷ parts) os' vs' same lone played = absurd played
+played_same k n g g' os vs [] (i ∷ is) parts os' vs' same lone played = absurd lone
+played_same k n g g' os vs (calls ∷ phases) [] parts os' vs' same lone played = absurd lone
+played_same k n g g' os vs (calls ∷ phases) (i ∷ is) [] os' vs' same lone played = absurd played
+played_same k n g g' os vs (calls ∷ phases) (i ∷ is) (q ∷ parts) os' vs' same lone played = (
   played.0,
   played.1,
-  subst (λ (b : Bool). PlaysAlone k (i + 1) b os (calls (i + 1)) (q.replies i) (q.died i) played.1) (same i lone.0.inside) played.2,
-  played_same k n (λ j. g j || q.died j) (λ j. g' j || q.died j) played.1 phases is parts os' (λ j low. ap (λ (b : Bool). b || q.died j) (same j low)) lone.1 played.3,
+  played.2,
+  subst (λ (b : Bool). PlaysAlone k (i + 1) b os vs (calls (i + 1)) (q.replies i) (q.died i) played.1 played.2) (same i lone.0.inside) played.3,
+  played_same k n (λ j. g j || q.died j) (λ j. g' j || q.died j) played.1 played.2 phases is parts os' vs' (λ j low. ap (λ (b : Bool). b || q.died j) (same j low)) lone.1 played.4,
 )
 
-lone_none : (w : Words) (n : ℕ) (us : List Worker) (seen : List (List Point)) → LoneFrom w n [] us seen [] seen
-lone_none w n us seen [] lone within os stand quiet = (os, refl, stand)
-lone_none w n us seen (i ∷ is) lone within os stand quiet = absurd lone
+lone_none : (w : Words) (n : ℕ) (us : List Worker) (seen : List (List Point)) (changes : List (List Change)) → LoneFrom w n [] us seen changes [] seen changes
+lone_none w n us seen changes [] lone within os vs known stand quiet = (os, vs, (refl, refl), stand, known)
+lone_none w n us seen changes (i ∷ is) lone within os vs known stand quiet = absurd lone
 
 -- one phase before
-lone_before : (w : Words) (n : ℕ) (p : Phase) (ps : List Phase) (us met : List Worker) (rs rs' : List (Vec Reply Global)) (seen last : List (List Point)) (parts : List Part) (h : HasPassed w p us met rs rs') → AreAbreast n seen us → length rs ≡ n → (layout_of w).threads ≡ n → LoneFrom w n ps met h.meeting.know.seen parts last
-    → LoneFrom w n (p ∷ ps) us seen (part_of (layout_of w) seen h.meeting.know.seen us h.worked rs rs' ∷ parts) last
-lone_before w n p ps us met rs rs' seen last parts h abreast long all rest [] lone within os stand quiet = absurd lone
-lone_before w n p ps us met rs rs' seen last parts h abreast long all rest (i ∷ is) lone within os stand quiet =
+lone_before : (w : Words) (n : ℕ) (p : Phase) (ps : List Phase) (us met : List Worker) (rs rs' : List (Vec Reply Global)) (seen last : List (List Point)) (changed : List (List Change)) (parts : List Part) (h : HasPassed w p us met rs rs') (abreast : AreAbreast n seen us) → length rs ≡ n → (layout_of w).threads ≡ n → LoneFrom w n ps met h.meeting.know.seen h.meeting.know.changes parts last changed
+    → LoneFrom w n (p ∷ ps) us seen abreast.changes (part_of (layout_of w) seen h.meeting.know.seen us h.worked rs rs' ∷ parts) last changed
+lone_before w n p ps us met rs rs' seen last changed parts h abreast long all rest [] lone within os vs known stand quiet = absurd lone
+lone_before w n p ps us met rs rs' seen last changed parts h abreast long all rest (i ∷ is) lone within os vs known stand quiet =
     let k : Layout' = layout_of w in
     let q : Part = part_of k seen h.meeting.know.seen us h.worked rs rs' in
-    let first = phase_played w n p us met rs rs' seen h abreast long all i lone.0 os stand quiet (within.0 (i + 1)) in
-    let more = rest is lone.1 within.1 first.mid first.is first.quiet in
+    let first = phase_played w n p us met rs rs' seen h abreast long all i lone.0 os vs known stand quiet (within.0 (i + 1)) in
+    let more = rest is lone.1 within.1 first.mid first.counters first.known first.is first.quiet in
     let dead : (j : ℕ) → j < n → gone_at met j ≡ (gone_at us j || q.died j) = λ j low. (passes_as w n j seen p us met rs rs' h abreast long low).dead in (
       more.0,
+      more.1,
       (
         subst (λ (z : ℕ). Rest z i q) (sym all) first.rest,
         first.mid,
+        first.counters,
         first.plays,
-        played_same k n (gone_at met) (λ j. gone_at us j || q.died j) first.mid (map calls_of ps) is parts more.0 dead lone.1 more.1,
+        played_same k n (gone_at met) (λ j. gone_at us j || q.died j) first.mid first.counters (map calls_of ps) is parts more.0 more.1 dead lone.1 more.2,
       ),
-      more.2,
+      more.3,
+      more.4,
     )
 
 -- the parts of phases, from what threads had seen and were replied before them
-pub record Through (w : Words) (n : ℕ) (ps : List Phase) (us vs : List Worker) (rs rs' : List (Vec Reply Global)) (seen : List (List Point)) : Type 0 where
+pub record Through (w : Words) (n : ℕ) (ps : List Phase) (us vs : List Worker) (rs rs' : List (Vec Reply Global)) (seen : List (List Point)) (changes : List (List Change)) : Type 0 where
   pub parts : List Part
   pub last : List (List Point)
   pub are : AreParts (layout_of w) (gone_at us) (λ m. at seen (cell_place (layout_of w) m)) (map calls_of ps) parts
@@ -99,9 +105,9 @@ pub record Through (w : Words) (n : ℕ) (ps : List Phase) (us vs : List Worker)
   pub answered : (i : ℕ) → i < n → items_at rs' i ≡ items_at rs i ++ replies_through i parts
   pub dead : (i : ℕ) → i < n → gone_at vs i ≡ (gone_at us i || some_died i parts)
   pub abreast : AreAbreast n last vs
-  pub lone : LoneFrom w n ps us seen parts last
+  pub lone : LoneFrom w n ps us seen changes parts last abreast.changes
 
-pub through : (w : Words) (n : ℕ) (ps : List Phase) (us vs : List Worker) (rs rs' : List (Vec Reply Global)) (seen : List (List Point)) → (layout_of w).threads ≡ n → 1 ≤ n → AreAbreast n seen us → length rs ≡ n → HavePassed w ps us rs vs rs' → Through w n ps us vs rs rs' seen
+pub through : (w : Words) (n : ℕ) (ps : List Phase) (us vs : List Worker) (rs rs' : List (Vec Reply Global)) (seen : List (List Point)) → (layout_of w).threads ≡ n → 1 ≤ n → (abreast : AreAbreast n seen us) → length rs ≡ n → HavePassed w ps us rs vs rs' → Through w n ps us vs rs rs' seen abreast.changes
 through w n [] us vs rs rs' seen all some abreast long passed = record {
   parts = [];
   last = seen;
@@ -109,8 +115,8 @@ through w n [] us vs rs rs' seen all some abreast long passed = record {
   history = λ m low. sym (append-nil (at seen (cell_place (layout_of w) m)));
   answered = λ i low. ap (λ (l : List (Vec Reply Global)). items_at l i) (sym passed.1) ∙ sym (append-nil (items_at rs i));
   dead = λ i low. ap (λ (l : List Worker). gone_at l i) (sym passed.0) ∙ or_none (gone_at us i);
-  abreast = subst (AreAbreast n seen) passed.0 abreast;
-  lone = lone_none w n us seen;
+  abreast = record { as_many = ap length (sym passed.0) ∙ abreast.as_many; each = λ i u is. abreast.each i u (ap (λ (l : List Worker). slice_get l i) passed.0 ∙ is); changes = abreast.changes; know = λ i u is. abreast.know i u (ap (λ (l : List Worker). slice_get l i) passed.0 ∙ is) };
+  lone = lone_none w n us seen abreast.changes;
 }
 through w n (p ∷ ps) us vs rs rs' seen all some abreast long passed =
     let k : Layout' = layout_of w in
@@ -133,5 +139,5 @@ through w n (p ∷ ps) us vs rs rs' seen all some abreast long passed =
       answered = λ i low. rest.answered i low ∙ ap (λ (l : List Reply). l ++ replies_through i rest.parts) (passes_as w n i seen p us met rs more h abreast long low).answered ∙ append_assoc (items_at rs i) (q.replies i) (replies_through i rest.parts);
       dead = λ i low. rest.dead i low ∙ ap (λ (b : Bool). b || some_died i rest.parts) (passes_as w n i seen p us met rs more h abreast long low).dead ∙ or_assoc (gone_at us i) (q.died i) (some_died i rest.parts);
       abreast = rest.abreast;
-      lone = lone_before w n p ps us met rs more seen rest.last rest.parts h abreast long all rest.lone;
+      lone = lone_before w n p ps us met rs more seen rest.last rest.abreast.changes rest.parts h abreast long all rest.lone;
     }

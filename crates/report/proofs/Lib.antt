@@ -6,6 +6,7 @@ mod Parts
 mod Permitted
 mod Holding
 mod LoneCalls
+mod LoneCounters
 mod Passed
 mod LonePhases
 mod InOrder

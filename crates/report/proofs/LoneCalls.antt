@@ -19,7 +19,7 @@ use Rattle.mutex.specs.declared.call.Call.TheVariants.{Lock, TryLock, Unlock, Co
 use Rattle.condvar.specs.declared.op.Op.{Op}
 use Rattle.condvar.specs.declared.op.Op.TheVariants.{OnMutex, OnCondition}
 use Rattle.condvar.specs.declared.call.CondCall.TheVariants.{Wait, Signal, Broadcast}
-use Rattle.condvar.specs.Ops.{mutex_of, operation_of}
+use Rattle.condvar.specs.Ops.{condition_of, mutex_of, operation_of}
 use Rattle.facts.specs.Lives.{Act, Beginning}
 use Rattle.ruledwords.specs.declared.pass.Card.{Card}
 use Rattle.ruledwords.specs.declared.pass.Change.{Change}
@@ -30,13 +30,14 @@ use Rattle.ruledwords.specs.ConditionStands.{CondEnded}
 use Rattle.ruledwords.specs.Counts.{cell_at}
 use Rattle.ruledwords.specs.Deaths.{deaths}
 use Rattle.ruledwords.specs.OwnWords.{owns_in}
-use Rattle.ruledwords.specs.Seen.{by, count_held, held, held_after, holds, points_of, AllOf, Called, Died, Saw}
+use Rattle.ruledwords.specs.Seen.{by, count_acts, count_held, held, held_after, holds, points_of, AllOf, Called, Died, Saw}
 use Rattle.threadbench.specs.Answered.{Answered, Replied}
 use Rattle.threadbench.specs.Conditions.{TookAgain}
 use Rattle.threadbench.specs.Jobs.{WasLost}
-use Rattle.report.specs.Lone.{answer, behind, bereft, AreAnswered, IsAnswer}
+use Rattle.report.specs.Lone.{answer, answer_to, behind, bereft, counter_of, counters_behind, AreAnswered, IsAnswer, IsByCounter}
 use Rattle.ruledwords.proofs.Held.{owner_held}
 use Rattle.report.proofs.Holding.{counts_owned}
+use Rattle.report.proofs.LoneCounters.{counted_in, replied_tallies, Tallies}
 use Rattle.report.proofs.Permitted.{full_taking, permits_answer, waited_answer}
 use Rattle.report.proofs.Told.{answered_grew, died_of, reaped_grew, saw_grew, Grew}
 
@@ -94,7 +95,7 @@ permits_steps o t op r n p = determined 0 o t op r n (subst (λ (b : Bool). Matc
 -- ---- changes
 
 -- n threads made these, and none of them but t
-none_others : (n t : ℕ) (zs : List Change) → AreBy n zs → ((u : ℕ) → 1 ≤ u → u ≤ n → u ≢ t → made_by u zs ≡ []) → made_by_others t zs ≡ []
+pub none_others : (n t : ℕ) (zs : List Change) → AreBy n zs → ((u : ℕ) → 1 ≤ u → u ≤ n → u ≢ t → made_by u zs ≡ []) → made_by_others t zs ≡ []
 none_others n t [] are none = refl
 none_others n t (x ∷ zs) are none = ap (λ (b : Bool). if not b then x ∷ made_by_others t zs else made_by_others t zs) (eq-eqb x.thread t mine) ∙ none_others n t zs are.1 (later t x zs none) where
   first : made_by x.thread (x ∷ zs) ≡ x ∷ made_by x.thread zs
@@ -109,7 +110,7 @@ none_others n t (x ∷ zs) are none = ap (λ (b : Bool). if not b then x ∷ mad
     go true e = absurd (cc e)
     go false e = e
 
-by_each : (n : ℕ) (ys zs : List Change) → AreBy n (ys ++ zs) → AreBy n zs
+pub by_each : (n : ℕ) (ys zs : List Change) → AreBy n (ys ++ zs) → AreBy n zs
 by_each n [] zs are = are
 by_each n (y ∷ ys) zs are = by_each n ys zs are.1
 
@@ -149,10 +150,13 @@ answered_knows k a [] (r ∷ rs) b answered = absurd answered
 answered_knows k a (c ∷ cs) [] b answered = absurd answered
 answered_knows k a (c ∷ cs) (r ∷ rs) b answered = knows_on_then a answered.0 b (replied_knows k a c r answered.0 answered.1) (answered_knows k answered.0 cs rs b answered.2)
 
--- calls on mutexes that there are
+-- calls on mutexes and condition variables that there are
+abbrev pub IsThere : Layout' → Op → Type 0
+IsThere k c = (mutex_of k c < k.mutexes) × ((q : ℕ) → condition_of c ≡ Some q → q < length k.conditions)
+
 abbrev pub Within : Layout' → List Op → Type 0
 Within k [] = Unit {0}
-Within k (c ∷ cs) = (mutex_of k c < k.mutexes) × Within k cs
+Within k (c ∷ cs) = IsThere k c × Within k cs
 
 -- ---- a thread alone
 
@@ -262,42 +266,42 @@ module _ (k : Layout') (t : ℕ) (seen' : List (List Point)) (changes' : List (L
 
   -- ---- a call of one point
 
-  abbrev With : Card → (ℕ → Object) → ℕ → Operation → Reply → Type 0
-  With e os m op r = IsAnswer (held_by t os k.mutexes) t op (os m) r × Stands e (λ l. if l == m then stepped (os l) t op r else os l)
+  abbrev With : Card → (ℕ → Object) → ℕ → ℕ → Operation → Reply → Type 0
+  With e os v m op r = IsAnswer (held_by t os k.mutexes) t v op (os m) r × Stands e (λ l. if l == m then stepped (os l) t op r else os l)
 
-  one_point : (c e : Card) (os : ℕ → Object) (m : ℕ) (op : Operation) (r : Reply) → m < k.mutexes → (acquires op ≡ true → nat_le held_limit (held_by t os k.mutexes) ≡ false) → op ≢ operation.Death → (op ≡ operation.TryLock → r ≢ XRACED) → Stands c os → Called c (cell_place k m) ((op, r) ∷ []) e → Tails e → With e os m op r
-  one_point c e os m op r low few alive won s called tails =
+  one_point : (c e : Card) (os : ℕ → Object) (v m : ℕ) (op : Operation) (r : Reply) → m < k.mutexes → (acquires op ≡ true → nat_le held_limit (held_by t os k.mutexes) ≡ false) → op ≢ operation.Death → (op ≡ operation.TryLock → r ≢ XRACED) → IsByCounter v op r → Stands c os → Called c (cell_place k m) ((op, r) ∷ []) e → Tails e → With e os v m op r
+  one_point c e os v m op r low few alive won by s called tails =
       let p : ℕ = cell_place k m in
       let grows = own_points c e os m ((op, r) ∷ []) low s called.saw tails in
       let on = runs_on c e os m (points_of t p ((op, r) ∷ [])) low s tails grows in
       let step : Permits (os m) t op r on.1.0 = on.1.1 in
       let becomes : on.0 ≡ stepped (os m) t op r = on.1.2 ∙ permits_steps (os m) t op r on.1.0 step in
       let os' : ℕ → Object = λ l. if l == m then stepped (os l) t op r else os l in (
-        permits_answer (held_by t os k.mutexes) t (os m) on.1.0 op r few (sound (at c.seen p) (os m) (s.is m low)) alive won step,
+        permits_answer (held_by t os k.mutexes) t v (os m) on.1.0 op r few (sound (at c.seen p) (os m) (s.is m low)) alive won by step,
         stands_on c e os os' m ((op, r) ∷ []) s called.saw tails (subst (Run fresh (at e.seen p)) (becomes ∙ sym (here_is os m m (stepped (os m) t op r) refl)) on.2) (λ l other. there_is os m l (stepped (os l) t op r) other) low,
       )
 
   -- a lock or a trylock
-  takes_one : (c e : Card) (os : ℕ → Object) (m : ℕ) (op : Operation) (r : Reply) → m < k.mutexes → op ≢ operation.Death → (op ≡ operation.TryLock → r ≢ XRACED) → (IsAnswer (held_by t os k.mutexes) t op (os m) XHELD ≡ (answer (held_by t os k.mutexes) t op (os m) ≡ Some XHELD)) → Stands c os
+  takes_one : (c e : Card) (os : ℕ → Object) (v m : ℕ) (op : Operation) (r : Reply) → m < k.mutexes → op ≢ operation.Death → (op ≡ operation.TryLock → r ≢ XRACED) → IsByCounter v op r → Stands c os
       → MatchBool (nat_le held_limit (held c)) ((r ≡ XHELD) × (e ≡ c)) (Called c (cell_place k m) ((op, r) ∷ []) e) → Tails e
-      → (nat_le held_limit (held_by t os k.mutexes) ≡ true → (answer (held_by t os k.mutexes) t op (os m) ≡ Some XHELD) × ((o : Object) → stepped o t op XHELD ≡ o)) → With e os m op r
-  takes_one c e os m op r low alive won plain s took tails full = go (nat_le held_limit (held c)) (ap (nat_le held_limit) (sym (held_is c os s))) took where
+      → (nat_le held_limit (held_by t os k.mutexes) ≡ true → (answer (held_by t os k.mutexes) t v op (os m) ≡ Some XHELD) × ((o : Object) → stepped o t op XHELD ≡ o)) → With e os v m op r
+  takes_one c e os v m op r low alive won by s took tails full = go (nat_le held_limit (held c)) (ap (nat_le held_limit) (sym (held_is c os s))) took where
     kept : (b : Bool) (o : Object) → stepped o t op XHELD ≡ o → (if b then stepped o t op XHELD else o) ≡ o
     kept true o e = e
     kept false o e = refl
 
-    go : (b : Bool) → nat_le held_limit (held_by t os k.mutexes) ≡ b → MatchBool b ((r ≡ XHELD) × (e ≡ c)) (Called c (cell_place k m) ((op, r) ∷ []) e) → With e os m op r
+    go : (b : Bool) → nat_le held_limit (held_by t os k.mutexes) ≡ b → MatchBool b ((r ≡ XHELD) × (e ≡ c)) (Called c (cell_place k m) ((op, r) ∷ []) e) → With e os v m op r
     go true is refused =
         let told = full is in
-        subst (λ (z : Reply). With e os m op z) (sym refused.0)
-        (subst (λ (A : Type 0). A) (sym plain) told.0, subst (λ (z : Card). Stands z (λ l. if l == m then stepped (os l) t op XHELD else os l)) (sym refused.1) (stands_same c os (λ l. if l == m then stepped (os l) t op XHELD else os l) s (λ l. kept (l == m) (os l) (told.1 (os l)))))
-    go false is called = one_point c e os m op r low (λ acquires. is) alive won s called tails
+        subst (λ (z : Reply). With e os v m op z) (sym refused.0)
+        (told.0, subst (λ (z : Card). Stands z (λ l. if l == m then stepped (os l) t op XHELD else os l)) (sym refused.1) (stands_same c os (λ l. if l == m then stepped (os l) t op XHELD else os l) s (λ l. kept (l == m) (os l) (told.1 (os l)))))
+    go false is called = one_point c e os v m op r low (λ acquires. is) alive won by s called tails
 
   -- ---- a wait
 
   -- one that released its mutex and took it again
-  took_again : (c e : Card) (os : ℕ → Object) (q m : ℕ) (r : Reply) → cell_at k q ≡ cell_place k m → m < k.mutexes → Stands c os → TookAgain k c q r e → Tails e → With e os m operation.Wait r
-  took_again c e os q m r at_m low s took tails =
+  took_again : (c e : Card) (os : ℕ → Object) (v q m : ℕ) (r : Reply) → cell_at k q ≡ cell_place k m → m < k.mutexes → Stands c os → TookAgain k c q r e → Tails e → With e os v m operation.Wait r
+  took_again c e os v q m r at_m low s took tails =
       let p : ℕ = cell_place k m in
       let acts : List Act = (operation.Unlock, OK) ∷ (operation.Lock, r) ∷ [] in
       let called : Called c p acts e = subst (λ (z : ℕ). Called c z acts e) at_m took.called in
@@ -311,11 +315,11 @@ module _ (k : Layout') (t : ℕ) (seen' : List (List Point)) (changes' : List (L
       let there = runs_on c took.awake os m (points_of t p ((operation.Unlock, OK) ∷ [])) low s tails' first in
       let same : there.0 ≡ mid = there.1.2 ∙ permits_steps (os m) t operation.Unlock OK there.1.0 there.1.1 ∙ sym (permits_steps (os m) t operation.Unlock OK mid on.1.1) in
       let fine : mid.unusable ≡ false = sym (ap (λ (o : Object). o.unusable) same) ∙ took.usable there.0 (subst (λ (z : ℕ). Run fresh (at took.awake.seen z) there.0) (sym at_m) there.2) in
-      let answered = waited_answer (held_by t os k.mutexes) t (os m) mid on.1.2.0 r on.1.1 fine on.1.2.1 in
+      let answered = waited_answer (held_by t os k.mutexes) t v (os m) mid on.1.2.0 r on.1.1 fine on.1.2.1 in
       let becomes : on.0 ≡ os m = on.1.2.2 ∙ answered.1 in
       let keeps : stepped (os m) t operation.Wait r ≡ os m = stays (os m) r in
       let os' : ℕ → Object = λ l. if l == m then stepped (os l) t operation.Wait r else os l in (
-        waits r answered.0,
+        answered.0,
         stands_on c e os os' m acts s called.saw tails (subst (Run fresh (at e.seen p)) (becomes ∙ sym keeps ∙ sym (here_is os m m (stepped (os m) t operation.Wait r) refl)) on.2) (λ l other. there_is os m l (stepped (os l) t operation.Wait r) other) low,
       )
     where
@@ -325,21 +329,18 @@ module _ (k : Layout') (t : ℕ) (seen' : List (List Point)) (changes' : List (L
       stays : (o : Object) (x : Reply) → stepped o t operation.Wait x ≡ o
       stays o x = refl
 
-      waits : (x : Reply) → answer (held_by t os k.mutexes) t operation.Wait (os m) ≡ Some x → IsAnswer (held_by t os k.mutexes) t operation.Wait (os m) x
-      waits x is = is
-
   -- ---- any call
 
-  replied_alone : (c e : Card) (os : ℕ → Object) (call : Op) (r : Reply) → mutex_of k call < k.mutexes → Stands c os → Replied k c call r e → Tails e → IsAnswer (held_by t os k.mutexes) t (operation_of call) (os (mutex_of k call)) r × Stands e (behind k t os call r)
-  replied_alone c e os (OnMutex (Lock m)) r low s told tails = takes_one c e os m operation.Lock r low (λ same. cc same) (λ same. absurd (cc same)) refl s told tails (λ is. (full_taking t _ (os m).unusable (os m).owner (os m).inconsistent _ _ is, λ o. refl))
-  replied_alone c e os (OnMutex (TryLock m)) r low s told tails = takes_one c e os m operation.TryLock r low (λ same. cc same) (λ same raced. never_raced c e os (cell_place k m) s tails (told.1 raced).1) refl s told.0 tails (λ is. (full_taking t _ (os m).unusable (os m).owner (os m).inconsistent _ _ is, λ o. refl))
-  replied_alone c e os (OnMutex (Unlock m)) r low s told tails = one_point c e os m operation.Unlock r low (λ same. absurd (cc same)) (λ same. cc same) (λ same. absurd (cc same)) s told tails
-  replied_alone c e os (OnMutex (Consistent m)) r low s told tails = one_point c e os m operation.Consistent r low (λ same. absurd (cc same)) (λ same. cc same) (λ same. absurd (cc same)) s told tails
-  replied_alone c e os (OnCondition (Signal q)) r low s told tails = one_point c e os (mutex_of k (OnCondition (Signal q))) operation.Signal r low (λ same. absurd (cc same)) (λ same. cc same) (λ same. absurd (cc same)) s told.called tails
-  replied_alone c e os (OnCondition (Broadcast q)) r low s told tails = one_point c e os (mutex_of k (OnCondition (Broadcast q))) operation.Broadcast r low (λ same. absurd (cc same)) (λ same. cc same) (λ same. absurd (cc same)) s told.called tails
-  replied_alone c e os (OnCondition (Wait q)) r low s told tails = ⊎_elim
-      (λ (refused : CondEnded k q operation.Wait r c e). one_point c e os (mutex_of k (OnCondition (Wait q))) operation.Wait r low (λ same. absurd (cc same)) (λ same. cc same) (λ same. absurd (cc same)) s refused.called tails)
-      (λ (took : TookAgain k c q r e). took_again c e os q (mutex_of k (OnCondition (Wait q))) r refl low s took tails)
+  replied_alone : (c e : Card) (os : ℕ → Object) (vs : ℕ → ℕ) (call : Op) (r : Reply) → mutex_of k call < k.mutexes → IsByCounter (counter_of vs (condition_of call)) (operation_of call) r → Stands c os → Replied k c call r e → Tails e → (answer_to k t os vs call ≡ Some r) × Stands e (behind k t os call r)
+  replied_alone c e os vs (OnMutex (Lock m)) r low by s told tails = takes_one c e os 0 m operation.Lock r low (λ same. cc same) (λ same. absurd (cc same)) by s told tails (λ is. (full_taking t _ (os m).unusable (os m).owner (os m).inconsistent _ _ is, λ o. refl))
+  replied_alone c e os vs (OnMutex (TryLock m)) r low by s told tails = takes_one c e os 0 m operation.TryLock r low (λ same. cc same) (λ same raced. never_raced c e os (cell_place k m) s tails (told.1 raced).1) by s told.0 tails (λ is. (full_taking t _ (os m).unusable (os m).owner (os m).inconsistent _ _ is, λ o. refl))
+  replied_alone c e os vs (OnMutex (Unlock m)) r low by s told tails = one_point c e os 0 m operation.Unlock r low (λ same. absurd (cc same)) (λ same. cc same) (λ same. absurd (cc same)) by s told tails
+  replied_alone c e os vs (OnMutex (Consistent m)) r low by s told tails = one_point c e os 0 m operation.Consistent r low (λ same. absurd (cc same)) (λ same. cc same) (λ same. absurd (cc same)) by s told tails
+  replied_alone c e os vs (OnCondition (Signal q)) r low by s told tails = one_point c e os (vs q) (mutex_of k (OnCondition (Signal q))) operation.Signal r low (λ same. absurd (cc same)) (λ same. cc same) (λ same. absurd (cc same)) by s told.called tails
+  replied_alone c e os vs (OnCondition (Broadcast q)) r low by s told tails = one_point c e os (vs q) (mutex_of k (OnCondition (Broadcast q))) operation.Broadcast r low (λ same. absurd (cc same)) (λ same. cc same) (λ same. absurd (cc same)) by s told.called tails
+  replied_alone c e os vs (OnCondition (Wait q)) r low by s told tails = ⊎_elim
+      (λ (refused : CondEnded k q operation.Wait r c e). one_point c e os (vs q) (mutex_of k (OnCondition (Wait q))) operation.Wait r low (λ same. absurd (cc same)) (λ same. cc same) (λ same. absurd (cc same)) by s refused.called tails)
+      (λ (took : TookAgain k c q r e). took_again c e os (vs q) q (mutex_of k (OnCondition (Wait q))) r refl low s took tails)
       told
 
   -- ---- all of its calls
@@ -353,21 +354,24 @@ module _ (k : Layout') (t : ℕ) (seen' : List (List Point)) (changes' : List (L
     known_before c d on tails,
   )
 
-  pub answered_alone : (c d : Card) (os : ℕ → Object) (cs : List Op) (rs : List Reply) → Within k cs → Stands c os → Answered k c cs rs d → Tails d → (os' : ℕ → Object) × AreAnswered k t os cs rs os' × Stands d os'
-  answered_alone c d os [] [] within s same tails = (os, refl, subst (λ (z : Card). Stands z os) same s)
-  answered_alone c d os [] (r ∷ rs) within s answered tails = absurd answered
-  answered_alone c d os (x ∷ cs) [] within s answered tails = absurd answered
-  answered_alone c d os (x ∷ cs) (r ∷ rs) within s answered tails =
+  pub answered_alone : (c d : Card) (os : ℕ → Object) (vs : ℕ → ℕ) (cs : List Op) (rs : List Reply) → Within k cs → Stands c os → Tallies k t changes' c vs → Answered k c cs rs d → Tails d → (os' : ℕ → Object) × (vs' : ℕ → ℕ) × AreAnswered k t os vs cs rs os' vs' × Stands d os' × Tallies k t changes' d vs'
+  answered_alone c d os vs [] [] within s counts same tails = (os, vs, (refl, refl), subst (λ (z : Card). Stands z os) same s, subst (λ (z : Card). Tallies k t changes' z vs) same counts)
+  answered_alone c d os vs [] (r ∷ rs) within s counts answered tails = absurd answered
+  answered_alone c d os vs (x ∷ cs) [] within s counts answered tails = absurd answered
+  answered_alone c d os vs (x ∷ cs) (r ∷ rs) within s counts answered tails =
       let e : Card = answered.0 in
-      let first = replied_alone c e os x r within.0 s answered.1 (before e d tails (λ p. answered_grew k p e cs rs d answered.2) (answered_knows k e cs rs d answered.2)) in
-      let rest = answered_alone e d (behind k t os x r) cs rs within.1 first.1 answered.2 tails in
-      (rest.0, (first.0, rest.1), rest.2)
+      let tails' : Tails e = before e d tails (λ p. answered_grew k p e cs rs d answered.2) (answered_knows k e cs rs d answered.2) in
+      let counted = replied_tallies k t changes' c e vs x r s.thread within.0.0 within.0.1 counts answered.1 tails'.1 in
+      let first = replied_alone c e os vs x r within.0.0 counted.0 s answered.1 tails' in
+      let rest = answered_alone e d (behind k t os x r) (counters_behind vs x r) cs rs within.1 first.1 counted.1 answered.2 tails in
+      (rest.0, rest.1, (first.0, rest.2), rest.3, rest.4)
 
   -- ---- its death
 
   -- the mutexes as its death leaves them, and who has seen that
-  pub record LeftBehind (os os' : ℕ → Object) (call : Op) (d : Card) : Type 0 where
+  pub record LeftBehind (os os' : ℕ → Object) (call : Op) (d : Card) (n : ℕ) : Type 0 where
     pub acts : List Act
+    pub counts : count_acts acts ≡ n
     pub begun : Beginning (operation_of call) acts
     pub left : Object
     pub decided : Run (os (mutex_of k call)) (points_of t (cell_place k (mutex_of k call)) acts) left
@@ -375,8 +379,8 @@ module _ (k : Layout') (t : ℕ) (seen' : List (List Point)) (changes' : List (L
     pub thread : d.thread ≡ t
     pub is : (m : ℕ) → m < k.mutexes → Run fresh (at d.seen (cell_place k m)) (os' m)
 
-  pub died_alone : (c d : Card) (os : ℕ → Object) (call : Op) → mutex_of k call < k.mutexes → Stands c os → WasLost k c call d → Tails d → (os' : ℕ → Object) × LeftBehind os os' call d
-  died_alone c d os call low s was tails = (after, record { acts = died.acts; begun = died.beginning; left = on.0; decided = on.1; after = refl; thread = was.reaped.thread ∙ still.thread; is = λ l lower. told l lower (owns_in k was.dead l) refl }) where
+  pub died_alone : (c d : Card) (os : ℕ → Object) (call : Op) → mutex_of k call < k.mutexes → Stands c os → (was : WasLost k c call d) → Tails d → (os' : ℕ → Object) × LeftBehind os os' call d (counted_in k t changes' c call was.dead was.died)
+  died_alone c d os call low s was tails = (after, record { acts = died.acts; counts = refl; begun = died.beginning; left = on.0; decided = on.1; after = refl; thread = was.reaped.thread ∙ still.thread; is = λ l lower. told l lower (owns_in k was.dead l) refl }) where
     m : ℕ
     m = mutex_of k call
 

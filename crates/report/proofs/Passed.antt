@@ -167,7 +167,7 @@ pub record AreAbreast (n : ℕ) (seen : List (List Point)) (us : List Worker) : 
 pub known_at : (w : Words) (vs met : List Worker) (m : HaveMet w vs met) (i : ℕ) (v : Worker) → slice_get vs i ≡ Some v → ComesToKnow m.know.seen m.know.changes (card_in v.pass)
 known_at w vs met m i v is = all_at (ComesToKnow m.know.seen m.know.changes) (map (λ (z : Worker). card_in z.pass) vs) i (card_in v.pass) m.know.each (mapped_at (λ (z : Worker). card_in z.pass) vs i v is)
 
-met_at : (w : Words) (vs met : List Worker) (m : HaveMet w vs met) (i : ℕ) (v x : Worker) → slice_get vs i ≡ Some v → slice_get met i ≡ Some x → card_in x.pass ≡ behind_meeting m.know.seen m.know.changes (card_in v.pass)
+pub met_at : (w : Words) (vs met : List Worker) (m : HaveMet w vs met) (i : ℕ) (v x : Worker) → slice_get vs i ≡ Some v → slice_get met i ≡ Some x → card_in x.pass ≡ behind_meeting m.know.seen m.know.changes (card_in v.pass)
 met_at w vs met m i v x is is' =
     let cards : List Card = map (λ (z : Worker). card_in z.pass) vs in
     same_Some _ _ (sym (mapped_at (λ (z : Worker). card_in z.pass) met i x is') ∙ ap (λ (cs : List Card). slice_get cs i) m.know.after ∙ mapped_at (behind_meeting m.know.seen m.know.changes) cards i (card_in v.pass) (mapped_at (λ (z : Worker). card_in z.pass) vs i v is))
@@ -212,7 +212,7 @@ passes_as w n i seen p us met rs rs' h abreast long low =
     }
 
 -- they are abreast again
-pub abreast_again : (w : Words) (n : ℕ) (seen : List (List Point)) (p : Phase) (us met : List Worker) (rs rs' : List (Vec Reply Global)) (h : HasPassed w p us met rs rs') → AreAbreast n seen us → length rs ≡ n → AreAbreast n h.meeting.know.seen met
+abbrev pub abreast_again : (w : Words) (n : ℕ) (seen : List (List Point)) (p : Phase) (us met : List Worker) (rs rs' : List (Vec Reply Global)) (h : HasPassed w p us met rs rs') → AreAbreast n seen us → length rs ≡ n → AreAbreast n h.meeting.know.seen met
 abreast_again w n seen p us met rs rs' h abreast long = record {
   as_many = many_met w h.worked met h.meeting ∙ h.work.as_many ∙ abreast.as_many;
   each = λ i x is.

@@ -8,7 +8,8 @@ use Rattle.posixmutex.specs.declared.point.Operation.{Operation}
 use Rattle.posixmutex.specs.declared.point.Operation.TheVariants.{Lock, TryLock, Unlock, Consistent, Wait, Signal, Broadcast, Death, Reinit}
 use Rattle.posixmutex.proofs.Steps.{determined}
 use Rattle.posixmutex.specs.Objects.{held_limit, acquires, Does, freed, owned_by, Permits}
-use Rattle.report.specs.Lone.{answer, MutexesPermitOnlyAnswers, by_owner, taken, taking, IsAnswer}
+use Rattle.condvar.specs.Laws.{largest_counter}
+use Rattle.report.specs.Lone.{answer, counting, MutexesPermitOnlyAnswers, by_owner, taken, taking, IsAnswer, IsByCounter}
 
 -- ---- whose it is
 
@@ -51,58 +52,66 @@ owned_taking t f u w i mine anothers x low fine is = (λ z. taking t (low z) (fi
 pub full_taking : (t : ℕ) (f u : Bool) (w : Option ℕ) (i : Bool) (mine anothers : Option Reply) → f ≡ true → taking t f u w i mine anothers ≡ Some XHELD
 full_taking t f u w i mine anothers full = (λ z. taking t (full z) u w i mine anothers)
 
+-- ---- counters
+
+counts_on : (v : ℕ) → v ≢ largest_counter → counting v ≡ OK
+counts_on v free = ap (λ (b : Bool). if b then XFULL else OK) (ne_eqb v largest_counter free)
+
+counts_no_more : (v : ℕ) → v ≡ largest_counter → counting v ≡ XFULL
+counts_no_more v full = ap (λ (b : Bool). if b then XFULL else OK) (eq-eqb v largest_counter full)
+
 -- ---- any operation
 
 -- what the mutex permits is the answer
-pub permits_answer : (h t : ℕ) (o n : Object) (op : Operation) (r : Reply) → (acquires op ≡ true → nat_le held_limit h ≡ false) → (o.unusable ≡ true → o.owner ≡ None) → op ≢ Death → (op ≡ TryLock → r ≢ XRACED) → Permits o t op r n → IsAnswer h t op o r
-permits_answer h t o n Lock OK low sound alive won p = free_taking t _ o.unusable o.owner o.inconsistent false (Some EDEADLK) None (low refl) p.0 p.1 p.2
-permits_answer h t o n Lock EOWNERDEAD low sound alive won p = free_taking t _ o.unusable o.owner o.inconsistent true (Some EDEADLK) None (low refl) p.0 p.1 p.2
-permits_answer h t o n Lock ENOTRECOVERABLE low sound alive won p = spoiled_taking t _ o.unusable o.owner o.inconsistent (Some EDEADLK) None (low refl) p.0
-permits_answer h t o n Lock EDEADLK low sound alive won p = owned_taking t _ o.unusable o.owner o.inconsistent (Some EDEADLK) None (Some EDEADLK) (low refl) (usable o.unusable o.owner sound (owned_is t o.owner p.0)) (its_mine t o.owner (Some (taken o.inconsistent)) (Some EDEADLK) None p.0)
-permits_answer h t o n TryLock OK low sound alive won p = free_taking t _ o.unusable o.owner o.inconsistent false (Some EBUSY) (Some EBUSY) (low refl) p.0 p.1 p.2
-permits_answer h t o n TryLock EOWNERDEAD low sound alive won p = free_taking t _ o.unusable o.owner o.inconsistent true (Some EBUSY) (Some EBUSY) (low refl) p.0 p.1 p.2
-permits_answer h t o n TryLock ENOTRECOVERABLE low sound alive won p = spoiled_taking t _ o.unusable o.owner o.inconsistent (Some EBUSY) (Some EBUSY) (low refl) p.0
-permits_answer h t o n TryLock EBUSY low sound alive won p = owned_taking t _ o.unusable o.owner o.inconsistent (Some EBUSY) (Some EBUSY) (Some EBUSY) (low refl) (usable o.unusable o.owner sound p.0) (some_ones t o.owner (Some (taken o.inconsistent)) (Some EBUSY) p.0)
-permits_answer h t o n TryLock XRACED low sound alive won p = absurd (won refl refl)
-permits_answer h t o n Unlock OK low sound alive won p = its_mine t o.owner (Some EPERM) (Some OK) (Some EPERM) p.0
-permits_answer h t o n Unlock EPERM low sound alive won p = not_mine t o.owner (Some EPERM) (Some OK) p.0
-permits_answer h t o n Consistent OK low sound alive won p = its_mine t o.owner (Some EPERM) _ (Some EPERM) p.0 ∙ ap (λ (b : Bool). Some (if b then OK else EINVAL)) p.1
-permits_answer h t o n Consistent EINVAL low sound alive won p = its_mine t o.owner (Some EPERM) _ (Some EPERM) p.0 ∙ ap (λ (b : Bool). Some (if b then OK else EINVAL)) p.1
-permits_answer h t o n Consistent EPERM low sound alive won p = not_mine t o.owner (Some EPERM) _ p.0
-permits_answer h t o n Wait XSTATE low sound alive won p = its_mine t o.owner (Some EPERM) _ (Some EPERM) p.0 ∙ ap (λ (b : Bool). Some (if b then XSTATE else OK)) p.1
-permits_answer h t o n Wait EPERM low sound alive won p = not_mine t o.owner (Some EPERM) _ p.0
-permits_answer h t o n Signal OK low sound alive won p = its_mine t o.owner (Some EPERM) (Some OK) (Some EPERM) p.0
-permits_answer h t o n Signal XFULL low sound alive won p = its_mine t o.owner (Some EPERM) (Some OK) (Some EPERM) p.0
-permits_answer h t o n Signal EPERM low sound alive won p = not_mine t o.owner (Some EPERM) (Some OK) p.0
-permits_answer h t o n Broadcast OK low sound alive won p = its_mine t o.owner (Some EPERM) (Some OK) (Some EPERM) p.0
-permits_answer h t o n Broadcast XFULL low sound alive won p = its_mine t o.owner (Some EPERM) (Some OK) (Some EPERM) p.0
-permits_answer h t o n Broadcast EPERM low sound alive won p = not_mine t o.owner (Some EPERM) (Some OK) p.0
-permits_answer h t o n Death OK low sound alive won p = absurd (alive refl)
-permits_answer h t o n Reinit OK low sound alive won p = ap (λ (b : Bool). if b then Some OK else None) p.0
-permits_answer h t o n op r low sound alive won p = absurd p
+pub permits_answer : (h t v : ℕ) (o n : Object) (op : Operation) (r : Reply) → (acquires op ≡ true → nat_le held_limit h ≡ false) → (o.unusable ≡ true → o.owner ≡ None) → op ≢ Death → (op ≡ TryLock → r ≢ XRACED) → IsByCounter v op r → Permits o t op r n → IsAnswer h t v op o r
+permits_answer h t v o n Lock OK low sound alive won by p = free_taking t _ o.unusable o.owner o.inconsistent false (Some EDEADLK) None (low refl) p.0 p.1 p.2
+permits_answer h t v o n Lock EOWNERDEAD low sound alive won by p = free_taking t _ o.unusable o.owner o.inconsistent true (Some EDEADLK) None (low refl) p.0 p.1 p.2
+permits_answer h t v o n Lock ENOTRECOVERABLE low sound alive won by p = spoiled_taking t _ o.unusable o.owner o.inconsistent (Some EDEADLK) None (low refl) p.0
+permits_answer h t v o n Lock EDEADLK low sound alive won by p = owned_taking t _ o.unusable o.owner o.inconsistent (Some EDEADLK) None (Some EDEADLK) (low refl) (usable o.unusable o.owner sound (owned_is t o.owner p.0)) (its_mine t o.owner (Some (taken o.inconsistent)) (Some EDEADLK) None p.0)
+permits_answer h t v o n TryLock OK low sound alive won by p = free_taking t _ o.unusable o.owner o.inconsistent false (Some EBUSY) (Some EBUSY) (low refl) p.0 p.1 p.2
+permits_answer h t v o n TryLock EOWNERDEAD low sound alive won by p = free_taking t _ o.unusable o.owner o.inconsistent true (Some EBUSY) (Some EBUSY) (low refl) p.0 p.1 p.2
+permits_answer h t v o n TryLock ENOTRECOVERABLE low sound alive won by p = spoiled_taking t _ o.unusable o.owner o.inconsistent (Some EBUSY) (Some EBUSY) (low refl) p.0
+permits_answer h t v o n TryLock EBUSY low sound alive won by p = owned_taking t _ o.unusable o.owner o.inconsistent (Some EBUSY) (Some EBUSY) (Some EBUSY) (low refl) (usable o.unusable o.owner sound p.0) (some_ones t o.owner (Some (taken o.inconsistent)) (Some EBUSY) p.0)
+permits_answer h t v o n TryLock XRACED low sound alive won by p = absurd (won refl refl)
+permits_answer h t v o n Unlock OK low sound alive won by p = its_mine t o.owner (Some EPERM) (Some OK) (Some EPERM) p.0
+permits_answer h t v o n Unlock EPERM low sound alive won by p = not_mine t o.owner (Some EPERM) (Some OK) p.0
+permits_answer h t v o n Consistent OK low sound alive won by p = its_mine t o.owner (Some EPERM) _ (Some EPERM) p.0 ∙ ap (λ (b : Bool). Some (if b then OK else EINVAL)) p.1
+permits_answer h t v o n Consistent EINVAL low sound alive won by p = its_mine t o.owner (Some EPERM) _ (Some EPERM) p.0 ∙ ap (λ (b : Bool). Some (if b then OK else EINVAL)) p.1
+permits_answer h t v o n Consistent EPERM low sound alive won by p = not_mine t o.owner (Some EPERM) _ p.0
+permits_answer h t v o n Wait XSTATE low sound alive won by p = its_mine t o.owner (Some EPERM) _ (Some EPERM) p.0 ∙ ap (λ (b : Bool). Some (if b then XSTATE else OK)) p.1
+permits_answer h t v o n Wait EPERM low sound alive won by p = not_mine t o.owner (Some EPERM) _ p.0
+permits_answer h t v o n Signal OK low sound alive won by p = its_mine t o.owner (Some EPERM) (Some (counting v)) (Some EPERM) p.0 ∙ ap Some (counts_on v by)
+permits_answer h t v o n Signal XFULL low sound alive won by p = its_mine t o.owner (Some EPERM) (Some (counting v)) (Some EPERM) p.0 ∙ ap Some (counts_no_more v by)
+permits_answer h t v o n Signal EPERM low sound alive won by p = not_mine t o.owner (Some EPERM) (Some (counting v)) p.0
+permits_answer h t v o n Broadcast OK low sound alive won by p = its_mine t o.owner (Some EPERM) (Some (counting v)) (Some EPERM) p.0 ∙ ap Some (counts_on v by)
+permits_answer h t v o n Broadcast XFULL low sound alive won by p = its_mine t o.owner (Some EPERM) (Some (counting v)) (Some EPERM) p.0 ∙ ap Some (counts_no_more v by)
+permits_answer h t v o n Broadcast EPERM low sound alive won by p = not_mine t o.owner (Some EPERM) (Some (counting v)) p.0
+permits_answer h t v o n Death OK low sound alive won by p = absurd (alive refl)
+permits_answer h t v o n Reinit OK low sound alive won by p = ap (λ (b : Bool). if b then Some OK else None) p.0
+permits_answer h t v o n op r low sound alive won by p = absurd p
 
 -- also where its thread holds too many
-taking_answer : (h t : ℕ) (o n : Object) (op : Operation) (r : Reply) → (nat_le held_limit h ≡ true → IsAnswer h t op o XHELD) → (nat_le held_limit h ≡ false → Permits o t op r n → IsAnswer h t op o r) → MatchBool (nat_le held_limit h) ((r ≡ XHELD) × (n ≡ o)) (Permits o t op r n) → IsAnswer h t op o r
-taking_answer h t o n op r full free does = go (nat_le held_limit h) refl does where
-  go : (b : Bool) → nat_le held_limit h ≡ b → MatchBool b ((r ≡ XHELD) × (n ≡ o)) (Permits o t op r n) → IsAnswer h t op o r
-  go true is refused = subst (λ (x : Reply). IsAnswer h t op o x) (sym refused.0) (full is)
+taking_answer : (h t v : ℕ) (o n : Object) (op : Operation) (r : Reply) → (nat_le held_limit h ≡ true → IsAnswer h t v op o XHELD) → (nat_le held_limit h ≡ false → Permits o t op r n → IsAnswer h t v op o r) → MatchBool (nat_le held_limit h) ((r ≡ XHELD) × (n ≡ o)) (Permits o t op r n) → IsAnswer h t v op o r
+taking_answer h t v o n op r full free does = go (nat_le held_limit h) refl does where
+  go : (b : Bool) → nat_le held_limit h ≡ b → MatchBool b ((r ≡ XHELD) × (n ≡ o)) (Permits o t op r n) → IsAnswer h t v op o r
+  go true is refused = subst (λ (x : Reply). IsAnswer h t v op o x) (sym refused.0) (full is)
   go false is permits = free is permits
 
-step_answer : (h t : ℕ) (o n : Object) (op : Operation) (r : Reply) → (o.unusable ≡ true → o.owner ≡ None) → op ≢ Death → r ≢ XRACED → Does h o t op r n → IsAnswer h t op o r
-step_answer h t o n Lock r sound alive won does =
-    taking_answer h t o n Lock r (λ is. full_taking t _ o.unusable o.owner o.inconsistent _ _ is) (λ is p. permits_answer h t o n Lock r (λ takes. is) sound alive (λ same. won) p) does
-step_answer h t o n TryLock r sound alive won does =
-    taking_answer h t o n TryLock r (λ is. full_taking t _ o.unusable o.owner o.inconsistent _ _ is) (λ is p. permits_answer h t o n TryLock r (λ takes. is) sound alive (λ same. won) p) does
-step_answer h t o n Unlock r sound alive won does = permits_answer h t o n Unlock r (λ takes. absurd (cc takes)) sound alive (λ same. won) does
-step_answer h t o n Consistent r sound alive won does = permits_answer h t o n Consistent r (λ takes. absurd (cc takes)) sound alive (λ same. won) does
-step_answer h t o n Wait r sound alive won does = permits_answer h t o n Wait r (λ takes. absurd (cc takes)) sound alive (λ same. won) does
-step_answer h t o n Signal r sound alive won does = permits_answer h t o n Signal r (λ takes. absurd (cc takes)) sound alive (λ same. won) does
-step_answer h t o n Broadcast r sound alive won does = permits_answer h t o n Broadcast r (λ takes. absurd (cc takes)) sound alive (λ same. won) does
-step_answer h t o n Reinit r sound alive won does = permits_answer h t o n Reinit r (λ takes. absurd (cc takes)) sound alive (λ same. won) does
-step_answer h t o n Death r sound alive won does = absurd (alive refl)
+step_answer : (h t v : ℕ) (o n : Object) (op : Operation) (r : Reply) → (o.unusable ≡ true → o.owner ≡ None) → op ≢ Death → r ≢ XRACED → IsByCounter v op r → Does h o t op r n → IsAnswer h t v op o r
+step_answer h t v o n Lock r sound alive won by does =
+    taking_answer h t v o n Lock r (λ is. full_taking t _ o.unusable o.owner o.inconsistent _ _ is) (λ is p. permits_answer h t v o n Lock r (λ takes. is) sound alive (λ same. won) by p) does
+step_answer h t v o n TryLock r sound alive won by does =
+    taking_answer h t v o n TryLock r (λ is. full_taking t _ o.unusable o.owner o.inconsistent _ _ is) (λ is p. permits_answer h t v o n TryLock r (λ takes. is) sound alive (λ same. won) by p) does
+step_answer h t v o n Unlock r sound alive won by does = permits_answer h t v o n Unlock r (λ takes. absurd (cc takes)) sound alive (λ same. won) by does
+step_answer h t v o n Consistent r sound alive won by does = permits_answer h t v o n Consistent r (λ takes. absurd (cc takes)) sound alive (λ same. won) by does
+step_answer h t v o n Wait r sound alive won by does = permits_answer h t v o n Wait r (λ takes. absurd (cc takes)) sound alive (λ same. won) by does
+step_answer h t v o n Signal r sound alive won by does = permits_answer h t v o n Signal r (λ takes. absurd (cc takes)) sound alive (λ same. won) by does
+step_answer h t v o n Broadcast r sound alive won by does = permits_answer h t v o n Broadcast r (λ takes. absurd (cc takes)) sound alive (λ same. won) by does
+step_answer h t v o n Reinit r sound alive won by does = permits_answer h t v o n Reinit r (λ takes. absurd (cc takes)) sound alive (λ same. won) by does
+step_answer h t v o n Death r sound alive won by does = absurd (alive refl)
 
 pub only_answers : MutexesPermitOnlyAnswers
-only_answers h t o n op r sound alive won does = (step_answer h t o n op r sound alive won does, determined h o t op r n does)
+only_answers h t v o n op r sound alive won by does = (step_answer h t v o n op r sound alive won by does, determined h o t op r n does)
 
 -- ---- a wait that took its mutex again
 
@@ -112,8 +121,8 @@ usable_then false true e = absurd (cc e)
 usable_then true b e = absurd (cc e)
 
 -- it is answered OK, and the mutex is as it was
-pub waited_answer : (h t : ℕ) (o m n : Object) (r : Reply) → Permits o t Unlock OK m → m.unusable ≡ false → Permits m t Lock r n → (answer h t Wait o ≡ Some r) × (n ≡ o)
-waited_answer h t o m n r unlocked fine locked = (its_mine t o.owner (Some EPERM) _ (Some EPERM) unlocked.0 ∙ ap (λ (b : Bool). Some (if b then XSTATE else OK)) both.0 ∙ ap Some (sym took.0), took.1) where
+pub waited_answer : (h t v : ℕ) (o m n : Object) (r : Reply) → Permits o t Unlock OK m → m.unusable ≡ false → Permits m t Lock r n → (answer h t v Wait o ≡ Some r) × (n ≡ o)
+waited_answer h t v o m n r unlocked fine locked = (its_mine t o.owner (Some EPERM) _ (Some EPERM) unlocked.0 ∙ ap (λ (b : Bool). Some (if b then XSTATE else OK)) both.0 ∙ ap Some (sym took.0), took.1) where
   both : (o.inconsistent ≡ false) × (o.unusable ≡ false)
   both = usable_then o.inconsistent o.unusable (sym (ap (λ (z : Object). z.unusable) unlocked.1) ∙ fine)
 

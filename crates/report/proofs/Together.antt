@@ -12,12 +12,14 @@ use Rattle.posixmutex.specs.Histories.{opening}
 use Rattle.posixmutex.specs.Objects.{fresh, object_of, Run}
 use Rattle.condvar.specs.declared.op.Op.{Op}
 use Rattle.ruledwords.specs.declared.pass.Card.{Card}
+use Rattle.ruledwords.specs.declared.pass.Change.{Change}
 use Rattle.ruledwords.specs.declared.pass.Words.{Words}
 use Rattle.ruledwords.specs.declared.pass.Live.{Live}
 use Rattle.ruledwords.specs.declared.pass.Pass.{Pass}
 use Rattle.ruledwords.specs.Cards.{at}
+use Rattle.ruledwords.specs.Changes.{behind_unknown, changes_at, first_changes, left_by, made_by, AllTied, AreBehindFirst, AreBy, Tied}
 use Rattle.ruledwords.specs.Passes.{card, layout_of, last_words, presets_of}
-use Rattle.ruledwords.specs.Rules.{first_card, IsAmong}
+use Rattle.ruledwords.specs.Rules.{first_card, first_known, IsAmong}
 use Rattle.ruledwords.specs.Seen.{by, AllOf, Leaves}
 use Rattle.script.specs.declared.workload.Phase.{Phase}
 use Rattle.threadbench.specs.declared.job.WorkerPass.{WorkerPass}
@@ -31,6 +33,8 @@ use Rattle.report.specs.Threads.{AreRightPhases, calls_in, calls_over, AreFirst,
 use Rattle.streams.proofs.Listed.{mapped_at}
 use Rattle.report.proofs.Parts.{by_append, calls_through, counted, lived, points_through, replies_through}
 use Rattle.report.proofs.InOrder.{AreWithin, Through, parts_same, played_same, through}
+use Rattle.report.proofs.LoneCounters.{made_none}
+use Rattle.report.proofs.LonePhases.{AreKnown}
 use Rattle.report.proofs.Passed.{AreAbreast, gone_at, gone_is, items_are, items_at}
 use Rattle.report.proofs.Phases.{all_at, its_end, length_mapped, some_at}
 use Rattle.report.proofs.Told.{counted_up}
@@ -58,8 +62,40 @@ empty_items rs i empty = go rs i (λ j r is. all_at (λ (r : Vec Reply Global). 
   go (r ∷ qs) zero each = each 0 r refl
   go (r ∷ qs) (suc i) each = go qs i (λ j x is. each (suc j) x is)
 
-module _ (w : Words) (ps : List Phase) (passes : List (Pass Live)) (dies : List (Option ℕ)) (firsts workers : List Worker) (replies : List (Vec Reply Global)) (died : List Bool) (cells counters : List ℕ) (k : Layout')
-    (cards : (i : ℕ) (a : Pass Live) → slice_get passes i ≡ Some a → card a ≡ first_card k (i + 1)) (numbers : AreFirst passes dies firsts) (made : HaveMade w ps firsts workers replies) (same : died ≡ map (λ v. is_reaped v.pass) workers)
+-- what everybody knows of counters at first
+unknown_before : (n q : ℕ) (xs : List (List Change)) (p : ℕ) → p ≡ n + q → changes_at (behind_unknown n xs) p ≡ changes_at xs q
+unknown_before zero q xs p is = let e : p ≡ q = omega (arith, is) in ap (changes_at xs) e
+unknown_before (suc n) q xs zero is = absurd (omega (arith, is))
+unknown_before (suc n) q xs (suc p) is = unknown_before n q xs p (omega (arith, is))
+
+preset_at : (ns : List ℕ) (q : ℕ) → q < length ns → changes_at (first_changes ns) q ≡ record { thread = 0; word = get_or ns q 0 } ∷ []
+preset_at [] q low = absurd (omega arith)
+preset_at (n ∷ ns) zero low = refl
+preset_at (n ∷ ns) (suc q) low = preset_at ns q (omega (arith, low))
+
+known_first : (k : Layout') (presets : List ℕ) → length presets ≡ length k.conditions → AreKnown k (first_known k presets) (λ q. get_or presets q 0)
+known_first k presets many q low = (
+  record { thread = 0; word = get_or presets q 0 },
+  [],
+  unknown_before (counter_place k 0) q (first_changes presets) (counter_place k q) (omega arith) ∙ preset_at presets q (omega (arith, low, many)),
+  refl,
+)
+
+tied_at : (xs : List (List Change)) (cs : List Card) (i : ℕ) (c : Card) → AllTied xs cs → slice_get cs i ≡ Some c → Tied xs c.thread c.changes
+tied_at xs [] i c tied is = absurd (cc is)
+tied_at xs (d ∷ cs) zero c tied is = let same : d ≡ c = cc is in subst (λ (z : Card). Tied xs z.thread z.changes) same tied.0
+tied_at xs (d ∷ cs) (suc i) c tied is = tied_at xs cs i c tied.1 is
+
+-- changes by these threads of which none of them made one are none
+nobodys_at_all : (n : ℕ) (xs ys : List Change) → AreBy n (xs ++ ys) → ((t : ℕ) → 1 ≤ t → t ≤ n → made_by t ys ≡ []) → ys ≡ []
+nobodys_at_all n (x ∷ xs) ys of none = nobodys_at_all n xs ys of.1 none
+nobodys_at_all n [] [] of none = refl
+nobodys_at_all n [] (y ∷ ys) of none = absurd (cc (sym first ∙ none y.thread of.0.0 of.0.1)) where
+  first : made_by y.thread (y ∷ ys) ≡ y ∷ made_by y.thread ys
+  first = ap (λ (b : Bool). if b then y ∷ made_by y.thread ys else made_by y.thread ys) (eq-eqb y.thread y.thread refl)
+
+module _ (w : Words) (ps : List Phase) (passes : List (Pass Live)) (dies : List (Option ℕ)) (firsts workers : List Worker) (replies : List (Vec Reply Global)) (died : List Bool) (cells counters : List ℕ) (many_presets : length (presets_of w) ≡ length (layout_of w).conditions)
+    (cards : (i : ℕ) (a : Pass Live) → slice_get passes i ≡ Some a → card a ≡ first_card (layout_of w) (presets_of w) (i + 1)) (numbers : AreFirst passes dies firsts) (made : HaveMade w ps firsts workers replies) (same : died ≡ map (λ v. is_reaped v.pass) workers)
     (ended : HasEnded w workers cells counters) (all : length passes ≡ (layout_of w).threads) (some : 1 ≤ (layout_of w).threads) (possible : AreRightPhases (layout_of w) ps) where
   n : ℕ
   n = (layout_of w).threads
@@ -67,16 +103,16 @@ module _ (w : Words) (ps : List Phase) (passes : List (Pass Live)) (dies : List 
   abbrev first_pass : (i : ℕ) → i < (layout_of w).threads → (a : Pass Live) × (slice_get passes i ≡ Some a)
   first_pass i low = some_at passes i (omega (arith, low, all))
 
-  abreast : AreAbreast (layout_of w).threads [] firsts
+  abbrev abreast : AreAbreast (layout_of w).threads [] firsts
   abreast = record {
     as_many = numbers.as_many ∙ all;
     each = λ i u is.
         let inside = slice_get_within firsts i u is in
         let few = numbers.as_many in
         let a = some_at passes i (omega (arith, inside, few)) in
-        let its : card_in u.pass ≡ first_card k (i + 1) = ap card_in (numbers.each i a.0 u a.1 is).0 ∙ cards i a.0 a.1 in
+        let its : card_in u.pass ≡ first_card (layout_of w) (presets_of w) (i + 1) = ap card_in (numbers.each i a.0 u a.1 is).0 ∙ cards i a.0 a.1 in
         (ap (λ (c : Card). c.seen) its, ap (λ (c : Card). c.thread) its);
-    changes = [];
+    changes = first_known (layout_of w) (presets_of w);
     know = λ i u is.
         let inside = slice_get_within firsts i u is in
         let few = numbers.as_many in
@@ -84,7 +120,7 @@ module _ (w : Words) (ps : List Phase) (passes : List (Pass Live)) (dies : List 
         ap (λ (c : Card). c.changes) (ap card_in (numbers.each i a.0 u a.1 is).0 ∙ cards i a.0 a.1);
   }
 
-  th : Through w (layout_of w).threads ps firsts workers made.none replies []
+  th : Through w (layout_of w).threads ps firsts workers made.none replies [] (first_known (layout_of w) (presets_of w))
   th = through w (layout_of w).threads ps firsts workers made.none replies [] refl some abreast (made.each ∙ numbers.as_many ∙ all) made.passed
 
   nobody_gone : (i : ℕ) → i < (layout_of w).threads → gone_at firsts i ≡ false
@@ -137,13 +173,47 @@ module _ (w : Words) (ps : List Phase) (passes : List (Pass Live)) (dies : List 
       let v = some_at workers 0 (omega (arith, some, many)) in
       all_within (layout_of w) ps (layout_is v.0.pass (all_at (λ (z : Worker). IsWorkerOf w z.pass) workers 0 v.0 made.right v.1)) possible
 
+  -- a thread's card at the end
+  its_card : (i : ℕ) (v : Worker) → slice_get workers i ≡ Some v → Tied ended.ends.changes (card_in v.pass).thread (card_in v.pass).changes
+  its_card i v is = tied_at ended.ends.changes (map (λ (z : Worker). card_in z.pass) workers) i (card_in v.pass) ended.ends.tied (mapped_at (λ (z : Worker). card_in z.pass) workers i v is)
+
+  -- the last changes of a counter are just what all know behind the last phase
+  changed_last : (vs : ℕ → ℕ) → AreKnown (layout_of w) th.abreast.changes vs → (q : ℕ) → q < length (layout_of w).conditions → left_by (changes_at ended.ends.changes (counter_place (layout_of w) q)) ≡ vs q
+  changed_last vs known q low =
+      let p : ℕ = counter_place (layout_of w) q in
+      let its = known q low in
+      let all : List Change = changes_at ended.ends.changes p in
+      let last : List Change = changes_at th.abreast.changes p in
+      let many = th.abreast.as_many in
+      let v = some_at workers 0 (omega (arith, some, many)) in
+      let begins = (its_card 0 v.0 v.1 p).0 in
+      let on : last ++ begins.0 ≡ all = ap (λ (l : List (List Change)). changes_at l p ++ begins.0) (sym (th.abreast.know 0 v.0 v.1)) ∙ begins.1 in
+      let nobody : (t : ℕ) → 1 ≤ t → t ≤ (layout_of w).threads → made_by t begins.0 ≡ [] = λ t pos most.
+      let i : ℕ = t - 1 in
+      let is : i + 1 ≡ t = omega (arith, pos) in
+      let u = some_at workers i (omega (arith, pos, most, many)) in
+      let own : made_by t (changes_at (card_in u.0.pass).changes p) ≡ made_by t all = subst (λ (z : ℕ). made_by z (changes_at (card_in u.0.pass).changes p) ≡ made_by z all) ((th.abreast.each i u.0 u.1).1 ∙ is) (its_card i u.0 u.1 p).1 in
+      made_none t last begins.0 (ap (made_by t) on ∙ sym own ∙ ap (λ (l : List (List Change)). made_by t (changes_at l p)) (th.abreast.know i u.0 u.1))
+      in
+      let first : last ++ begins.0 ≡ its.0 ∷ (its.1 ++ begins.0) = ap (λ (l : List Change). l ++ begins.0) its.2 in
+      let are : AreBy (layout_of w).threads (its.1 ++ begins.0) = subst (AreBehindFirst (layout_of w).threads) (sym on ∙ first) (ended.ends.authors p) in
+      let none : begins.0 ≡ [] = nobodys_at_all (layout_of w).threads its.1 begins.0 are nobody in
+      ap left_by (sym on) ∙ ap (λ (l : List Change). left_by (last ++ l)) none ∙ ap left_by (append-nil last) ∙ ap left_by its.2 ∙ its.3
+
+  counter_is : (q : ℕ) → q < length (layout_of w).conditions → get_or counters q 0 ≡ get_or (last_words ended.last) (counter_place (layout_of w) q) 0
+  counter_is q low = subst (λ (k : Layout'). q < length k.conditions → get_or counters q 0 ≡ get_or (last_words ended.last) (counter_place k q) 0) ended.same (ended.counts.each q) low
+
   -- where each phase has one thread's calls
-  lone : (is : List ℕ) → AreLone (layout_of w).threads (phases_of ps) is → (os : ℕ → Object) × ArePlayed (layout_of w) (λ i. false) opening (phases_of ps) is th.parts os × ((m : ℕ) → m < (layout_of w).mutexes → Run fresh (at ended.ends.histories (cell_place (layout_of w) m)) (os m))
+  lone : (is : List ℕ) → AreLone (layout_of w).threads (phases_of ps) is → (os : ℕ → Object) × (vs : ℕ → ℕ) × ArePlayed (layout_of w) (λ i. false) opening (λ q. get_or (presets_of w) q 0) (phases_of ps) is th.parts os vs × ((m : ℕ) → m < (layout_of w).mutexes → Run fresh (at ended.ends.histories (cell_place (layout_of w) m)) (os m))
+      × ((q : ℕ) → q < length (layout_of w).conditions → get_or counters q 0 ≡ vs q)
   lone is each =
-      let played = th.lone is each within opening (λ m low. refl) (λ j low lives x none. refl) in (
+      let known : AreKnown (layout_of w) (first_known (layout_of w) (presets_of w)) (λ q. get_or (presets_of w) q 0) = known_first (layout_of w) (presets_of w) many_presets in
+      let played = th.lone is each within opening (λ q. get_or (presets_of w) q 0) known (λ m low. refl) (λ j low lives x none. refl) in (
         played.0,
-        played_same (layout_of w) (layout_of w).threads (gone_at firsts) (λ i. false) opening (phases_of ps) is th.parts played.0 nobody_gone each played.1,
-        λ m low. subst (λ (l : List Point). Run fresh l (played.0 m)) (sym (last_is m low)) (played.2 m low),
+        played.1,
+        played_same (layout_of w) (layout_of w).threads (gone_at firsts) (λ i. false) opening (λ q. get_or (presets_of w) q 0) (phases_of ps) is th.parts played.0 played.1 nobody_gone each played.2,
+        λ m low. subst (λ (l : List Point). Run fresh l (played.0 m)) (sym (last_is m low)) (played.3 m low),
+        λ q low. counter_is q low ∙ sym (ended.ends.count q low) ∙ changed_last played.1 played.4 q low,
       )
 
   long : length replies ≡ (layout_of w).threads
@@ -163,14 +233,11 @@ module _ (w : Words) (ps : List Phase) (passes : List (Pass Live)) (dies : List 
       let v = some_at workers i (omega (arith, inside, as_many)) in
       sym (its_end workers died i v.0 d same v.1 is) ∙ sym (gone_is workers i v.0 v.1) ∙ th.dead i low ∙ ap (λ (b : Bool). b || some_died i th.parts) (nobody_gone i low)
 
-  in_order : StandInOrder (layout_of w) (phases_of ps) replies died ended.ends.histories
+  in_order : StandInOrder (layout_of w) (phases_of ps) (presets_of w) replies died counters ended.ends.histories
   in_order = record { parts = th.parts; are = are; history = whole; answered = answered; dead = dead; lone = lone }
 
   cell_is : (m : ℕ) → m < (layout_of w).mutexes → get_or cells m 0 ≡ get_or (last_words ended.last) (cell_place (layout_of w) m) 0
   cell_is m low = subst (λ (k : Layout'). m < k.mutexes → get_or cells m 0 ≡ get_or (last_words ended.last) (cell_place k m) 0) ended.same (ended.words.each m) low
-
-  counter_is : (q : ℕ) → q < length (layout_of w).conditions → get_or counters q 0 ≡ get_or (last_words ended.last) (counter_place (layout_of w) q) 0
-  counter_is q low = subst (λ (k : Layout'). q < length k.conditions → get_or counters q 0 ≡ get_or (last_words ended.last) (counter_place k q) 0) ended.same (ended.counts.each q) low
 
   told_at : (i : ℕ) (r : Vec Reply Global) (d : Bool) (m : ℕ) → slice_get replies i ≡ Some r → slice_get died i ≡ Some d → m < (layout_of w).mutexes
       → ArePointsBehind (layout_of w) (i + 1) m [] (calls_over (i + 1) ps) r.items d (by (i + 1) (at ended.ends.histories (cell_place (layout_of w) m)))

@@ -103,7 +103,7 @@ added k t m a (c ∷ cs) (r ∷ rs) b mine answered =
 -- ---- a thread that died
 
 -- a call in which a thread dies adds some of its first points, or all, where it is on the mutex
-pub died_of : (k : Layout') (c : Card) (call : Op) (d : Card) → DiesIn k c call d → Died c (cell_place k (mutex_of k call)) (operation_of call) d
+abbrev pub died_of : (k : Layout') (c : Card) (call : Op) (d : Card) → DiesIn k c call d → Died c (cell_place k (mutex_of k call)) (operation_of call) d
 died_of k c (OnMutex (Lock m)) d dies = dies.1
 died_of k c (OnMutex (TryLock m)) d dies = dies.1
 died_of k c (OnMutex (Unlock m)) d dies = dies

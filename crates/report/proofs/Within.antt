@@ -1,22 +1,24 @@
 -- The mutexes that the calls of phases are about.
-use Rattle.std.proofs.Common.{◌≡◌, ◌<◌, true, List, [], ◌∷◌, All, arith}
+use Rattle.std.proofs.Common.{◌≡◌, ℕ, ◌<◌, true, List, [], ◌∷◌, All, length, subst, arith}
 use Rattle.std.proofs.lemmas.Bool.Decides.{nat_tests}
 use Rattle.std.proofs.lemmas.List.Elements.{All-head, All-tail}
 use Rattle.memorymap.specs.Layouts.{Layout', IsLayout}
 use Rattle.condvar.specs.declared.op.Op.{Op}
 use Rattle.condvar.specs.declared.op.Op.TheVariants.{OnMutex, OnCondition}
 use Rattle.condvar.specs.Calls.{condition_of}
-use Rattle.condvar.specs.Ops.{is_in, mutex_of}
+use Rattle.condvar.specs.Ops.{is_in}
 use Rattle.script.specs.declared.workload.Phase.{Phase}
 use Rattle.report.specs.Threads.{AreRightPhases, IsRightPhase, calls_in}
 use Rattle.report.proofs.InOrder.{AreWithin}
-use Rattle.report.proofs.LoneCalls.{Within}
+use Rattle.report.proofs.LoneCalls.{IsThere, Within}
 use Rattle.report.proofs.Phases.{rights}
 
 -- a call on what there is
-call_within : (k : Layout') (c : Op) → IsLayout k → is_in k c ≡ true → mutex_of k c < k.mutexes
-call_within k (OnMutex c) layout is = grind (arith, nat_tests)
-call_within k (OnCondition c) layout is = layout.conditions.1 (condition_of c) 0 (grind (arith, nat_tests))
+call_within : (k : Layout') (c : Op) → IsLayout k → is_in k c ≡ true → IsThere k c
+call_within k (OnMutex c) layout is = (grind (arith, nat_tests), λ q same. absurd (cc same))
+call_within k (OnCondition c) layout is =
+    let low : condition_of c < length k.conditions = grind (arith, nat_tests) in
+    (layout.conditions.1 (condition_of c) 0 low, λ q same. let here : condition_of c ≡ q = cc same in subst (λ (z : ℕ). z < length k.conditions) here low)
 
 calls_within : (k : Layout') (cs : List Op) → IsLayout k → All (λ c. is_in k c ≡ true) cs → Within k cs
 calls_within k [] layout all = tt

@@ -85,14 +85,15 @@ some_died i [] = false
 some_died i (q ∷ parts) = q.died i || some_died i parts
 
 -- the phases stand in their order: the history of each mutex has all points of a phase before those of the next, and each thread's replies are those of the phases, one after the other. Where each phase has one thread's calls alone,
--- each of its replies is the answer of the mutexes as they are then
-pub record StandInOrder (k : Layout') (phases : List (ℕ → List Op)) (replies : List (Vec Reply Global)) (died : List Bool) (histories : List (List Point)) : Type 0 where
+-- each of its replies is the answer of the mutexes and the counters as they are then; and so they are left
+pub record StandInOrder (k : Layout') (phases : List (ℕ → List Op)) (presets : List ℕ) (replies : List (Vec Reply Global)) (died : List Bool) (counters : List ℕ) (histories : List (List Point)) : Type 0 where
   pub parts : List Part
   pub are : AreParts k (λ i. false) (λ m. []) phases parts
   pub history : (m : ℕ) → m < k.mutexes → at histories (cell_place k m) ≡ flat_map (λ q. q.points m) parts
   pub answered : (i : ℕ) (r : Vec Reply Global) → slice_get replies i ≡ Some r → r.items ≡ flat_map (λ q. q.replies i) parts
   pub dead : (i : ℕ) (d : Bool) → slice_get died i ≡ Some d → d ≡ some_died i parts
-  pub lone : (is : List ℕ) → AreLone k.threads phases is → (os : ℕ → Object) × ArePlayed k (λ i. false) opening phases is parts os × ((m : ℕ) → m < k.mutexes → Run fresh (at histories (cell_place k m)) (os m))
+  pub lone : (is : List ℕ) → AreLone k.threads phases is → (os : ℕ → Object) × (vs : ℕ → ℕ) × ArePlayed k (λ i. false) opening (slice_index presets) phases is parts os vs × ((m : ℕ) → m < k.mutexes → Run fresh (at histories (cell_place k m)) (os m))
+      × ((q : ℕ) → q < length k.conditions → slice_index counters q ≡ vs q)
 
 -- ---- all of it
 
@@ -104,4 +105,4 @@ pub record StandTogether (k : Layout') (calls : ℕ → List Op) (phases : List 
   pub told : (i : ℕ) (r : Vec Reply Global) (d : Bool) (m : ℕ) → slice_get replies i ≡ Some r → slice_get died i ≡ Some d → m < k.mutexes
       → ArePointsOf k (i + 1) m (calls (i + 1)) r.items d (by (i + 1) (at histories (cell_place k m)))
   pub counted : CountUp k presets counters histories
-  pub in_order : StandInOrder k phases replies died histories
+  pub in_order : StandInOrder k phases presets replies died counters histories

@@ -1,6 +1,7 @@
--- What a thread is answered while no other thread is in a call, and what that leaves of the mutexes
+-- What a thread is answered while no other thread is in a call, and what that leaves of the mutexes and of the counters of
+-- condition variables
 -- (pthread_mutex_lock, pthread_mutex_trylock, pthread_mutex_unlock, pthread_mutex_consistent, pthread_cond_wait(3p)).
-use Rattle.std.specs.Prelude.{ℕ, ◌≡◌, ◌≢◌, ◌+◌, ◌<◌, ◌==◌, ◌||◌, Bool, true, false, nat_le, Option, None, Some, List, [], ◌∷◌, All, length, slice_get, take, if◌then◌else◌}
+use Rattle.std.specs.Prelude.{ℕ, ◌≡◌, ◌≢◌, ◌+◌, ◌<◌, ◌==◌, ◌||◌, Bool, true, false, nat_le, Option, None, Some, List, [], ◌∷◌, length, slice_get, take, if◌then◌else◌}
 use Rattle.lockword.specs.declared.reply.Reply.{Reply}
 use Rattle.lockword.specs.declared.reply.Reply.TheVariants.{OK, EPERM, EBUSY, EINVAL, EDEADLK, EOWNERDEAD, ENOTRECOVERABLE, XRACED, XHELD, XFULL, XSTATE}
 use Rattle.posixmutex.specs.declared.object.Object.{Object}
@@ -10,9 +11,10 @@ use Rattle.posixmutex.specs.Histories.{is_thread, held_by}
 use Rattle.memorymap.specs.Layouts.{Layout', cell_place}
 use Rattle.posixmutex.specs.Objects.{held_limit, bereaved, stepped, Does, Run}
 use Rattle.condvar.specs.declared.op.Op.{Op}
-use Rattle.condvar.specs.Ops.{mutex_of, operation_of}
+use Rattle.condvar.specs.Laws.{largest_counter, reply_counts}
+use Rattle.condvar.specs.Ops.{condition_of, mutex_of, operation_of}
 use Rattle.facts.specs.Lives.{Act, Beginning}
-use Rattle.ruledwords.specs.Seen.{points_of}
+use Rattle.ruledwords.specs.Seen.{count_acts, points_of}
 use Rattle.report.specs.Parts.{Part}
 
 -- ---- a call
@@ -33,71 +35,105 @@ taking t full unusable owner inconsistent mine anothers =
     if full then Some XHELD
     else if unusable then Some ENOTRECOVERABLE else by_owner t owner (Some (taken inconsistent)) mine anothers
 
--- the answer to thread t, which holds so many mutexes, of a call of this operation on a mutex that is o. None: it isn't
--- answered, as a lock of a mutex that another thread owns sleeps for good. A wait that isn't refused sleeps for
--- good too, as nobody signals; if it is answered, it has taken the mutex again that it released. A reinit is no call of
--- theirs
-abbrev pub answer : ℕ → ℕ → Operation → Object → Option Reply
-answer held t Lock o = taking t (nat_le held_limit held) o.unusable o.owner o.inconsistent (Some EDEADLK) None
-answer held t TryLock o = taking t (nat_le held_limit held) o.unusable o.owner o.inconsistent (Some EBUSY) (Some EBUSY)
-answer held t Unlock o = by_owner t o.owner (Some EPERM) (Some OK) (Some EPERM)
-answer held t Consistent o = by_owner t o.owner (Some EPERM) (Some (if o.inconsistent then OK else EINVAL)) (Some EPERM)
-answer held t Wait o = by_owner t o.owner (Some EPERM) (Some (if o.inconsistent then XSTATE else OK)) (Some EPERM)
-answer held t Signal o = by_owner t o.owner (Some EPERM) (Some OK) (Some EPERM)
-answer held t Broadcast o = by_owner t o.owner (Some EPERM) (Some OK) (Some EPERM)
-answer held t Death o = None
-answer held t Reinit o = if o.unusable then Some OK else None
+-- an owner's signal or broadcast, where the condition variable's counter is v: X_FULL by a counter that is full
+abbrev pub counting : ℕ → Reply
+counting v = if v == largest_counter then XFULL else OK
 
--- the call was answered r: with that answer. But an owner's signal or broadcast may be refused with X_FULL, by a
--- counter that is full. (A trylock never gives up, as nobody else changes the cell)
-abbrev pub IsAnswer : ℕ → ℕ → Operation → Object → Reply → Type 0
-IsAnswer held t Signal o XFULL = answer held t Signal o ≡ Some OK
-IsAnswer held t Broadcast o XFULL = answer held t Broadcast o ≡ Some OK
-IsAnswer held t op o r = answer held t op o ≡ Some r
+-- the answer to thread t, which holds so many mutexes, of a call of this operation on a mutex that is o, and on a
+-- condition variable whose counter is v, if on one. None: it isn't answered, as a lock of a mutex that another thread owns
+-- sleeps for good. A wait that isn't refused sleeps for good too, as nobody signals; if it is answered, it has taken the
+-- mutex again that it released. A reinit is no call of theirs. (A trylock never gives up, as nobody else changes the cell)
+abbrev pub answer : ℕ → ℕ → ℕ → Operation → Object → Option Reply
+answer held t v Lock o = taking t (nat_le held_limit held) o.unusable o.owner o.inconsistent (Some EDEADLK) None
+answer held t v TryLock o = taking t (nat_le held_limit held) o.unusable o.owner o.inconsistent (Some EBUSY) (Some EBUSY)
+answer held t v Unlock o = by_owner t o.owner (Some EPERM) (Some OK) (Some EPERM)
+answer held t v Consistent o = by_owner t o.owner (Some EPERM) (Some (if o.inconsistent then OK else EINVAL)) (Some EPERM)
+answer held t v Wait o = by_owner t o.owner (Some EPERM) (Some (if o.inconsistent then XSTATE else OK)) (Some EPERM)
+answer held t v Signal o = by_owner t o.owner (Some EPERM) (Some (counting v)) (Some EPERM)
+answer held t v Broadcast o = by_owner t o.owner (Some EPERM) (Some (counting v)) (Some EPERM)
+answer held t v Death o = None
+answer held t v Reinit o = if o.unusable then Some OK else None
 
--- all that a step of the mutex may reply is that, but for X_RACED; and the step leaves the mutex so. (An unusable mutex
--- has no owner)
+-- the call was answered r
+abbrev pub IsAnswer : ℕ → ℕ → ℕ → Operation → Object → Reply → Type 0
+IsAnswer held t v op o r = answer held t v op o ≡ Some r
+
+-- what a counter that is v leaves open of the reply of a signal or a broadcast, which counts exactly where it is answered
+-- OK: a full counter doesn't count, and no other refuses to
+abbrev pub IsByCounter : ℕ → Operation → Reply → Type 0
+IsByCounter v Signal OK = v ≢ largest_counter
+IsByCounter v Signal XFULL = v ≡ largest_counter
+IsByCounter v Broadcast OK = v ≢ largest_counter
+IsByCounter v Broadcast XFULL = v ≡ largest_counter
+IsByCounter v op r = Unit {0}
+
+-- all that a step of the mutex may reply, and the counter too, is that, but for X_RACED; and the step leaves the mutex so.
+-- (An unusable mutex has no owner)
 abbrev pub MutexesPermitOnlyAnswers : Type 0
-MutexesPermitOnlyAnswers = (held t : ℕ) (o n : Object) (op : Operation) (r : Reply) → (o.unusable ≡ true → o.owner ≡ None)
-    → op ≢ Death → r ≢ XRACED → Does held o t op r n → IsAnswer held t op o r × (n ≡ stepped o t op r)
+MutexesPermitOnlyAnswers = (held t v : ℕ) (o n : Object) (op : Operation) (r : Reply) → (o.unusable ≡ true → o.owner ≡ None)
+    → op ≢ Death → r ≢ XRACED → IsByCounter v op r → Does held o t op r n → IsAnswer held t v op o r × (n ≡ stepped o t op r)
+
+-- ---- counters
+
+-- what the counter of a call's condition variable has, of counters with these values. A call on a mutex has none
+abbrev pub counter_of : (ℕ → ℕ) → Option ℕ → ℕ
+counter_of vs None = 0
+counter_of vs (Some q) = vs q
+
+-- it is n more
+abbrev pub raised : (ℕ → ℕ) → Option ℕ → ℕ → ℕ → ℕ
+raised vs None n q = vs q
+raised vs (Some p) n q = if q == p then vs q + n else vs q
+
+-- the counters behind a call that was answered r
+abbrev pub counters_behind : (ℕ → ℕ) → Op → Reply → ℕ → ℕ
+counters_behind vs c r = raised vs (condition_of c) (reply_counts (operation_of c) r)
+
+-- ---- calls of one thread
 
 -- the mutexes behind a call of thread t that was answered r. A wait that took its mutex again leaves it as it was
 abbrev pub behind : Layout' → ℕ → (ℕ → Object) → Op → Reply → ℕ → Object
 behind k t os c r m = if m == mutex_of k c then stepped (os m) t (operation_of c) r else os m
 
--- ---- calls of one thread
+-- what thread t is answered, where mutexes and counters are so
+abbrev pub answer_to : Layout' → ℕ → (ℕ → Object) → (ℕ → ℕ) → Op → Option Reply
+answer_to k t os vs c = answer (held_by t os k.mutexes) t (counter_of vs (condition_of c)) (operation_of c) (os (mutex_of k c))
 
--- thread t made these calls, one after the other, and was answered so; where the mutexes were os, they are os' behind
--- them
-abbrev pub AreAnswered : Layout' → ℕ → (ℕ → Object) → List Op → List Reply → (ℕ → Object) → Type 0
-AreAnswered k t os [] [] os' = os' ≡ os
-AreAnswered k t os (c ∷ cs) (r ∷ rs) os' = IsAnswer (held_by t os k.mutexes) t (operation_of c) (os (mutex_of k c)) r
-    × AreAnswered k t (behind k t os c r) cs rs os'
-AreAnswered k t os [] (r ∷ rs) os' = ⊥
-AreAnswered k t os (c ∷ cs) [] os' = ⊥
+-- thread t made these calls, one after the other, and was answered so; where the mutexes were os and the counters vs, they
+-- are os' and vs' behind them
+abbrev pub AreAnswered : Layout' → ℕ → (ℕ → Object) → (ℕ → ℕ) → List Op → List Reply → (ℕ → Object) → (ℕ → ℕ) → Type 0
+AreAnswered k t os vs [] [] os' vs' = (os' ≡ os) × (vs' ≡ vs)
+AreAnswered k t os vs (c ∷ cs) (r ∷ rs) os' vs' =
+    (answer_to k t os vs c ≡ Some r) × AreAnswered k t (behind k t os c r) (counters_behind vs c r) cs rs os' vs'
+AreAnswered k t os vs [] (r ∷ rs) os' vs' = ⊥
+AreAnswered k t os vs (c ∷ cs) [] os' vs' = ⊥
 
 -- a mutex behind thread t's death
 abbrev pub bereft : ℕ → Object → Object
 bereft t o = if is_thread t o.owner then bereaved o else o
 
 -- thread t made these calls up to one, in which it died: before that took effect, or behind it, or in a wait between
--- its release and its lock. Then each mutex that it owned is told that its owner died
-pub record DiesAmong (k : Layout') (t : ℕ) (os : ℕ → Object) (calls : List Op) (replies : List Reply) (os' : ℕ → Object) : Type 0 where
+-- its release and its lock. Then each mutex that it owned is told that its owner died. A signal or a broadcast that had
+-- taken effect has counted, at a counter that wasn't full
+pub record DiesAmong (k : Layout') (t : ℕ) (os : ℕ → Object) (vs : ℕ → ℕ) (calls : List Op) (replies : List Reply) (os' : ℕ → Object) (vs' : ℕ → ℕ) : Type 0 where
   pub call : Op
   pub next : slice_get calls (length replies) ≡ Some call
   pub before : ℕ → Object
-  pub told : AreAnswered k t os (take (length replies) calls) replies before
+  pub counters : ℕ → ℕ
+  pub told : AreAnswered k t os vs (take (length replies) calls) replies before counters
   pub acts : List Act
   pub begun : Beginning (operation_of call) acts
   pub left : Object
   pub decided : Run (before (mutex_of k call)) (points_of t (cell_place k (mutex_of k call)) acts) left
   pub after : os' ≡ (λ m. bereft t (if m == mutex_of k call then left else before m))
+  pub room : count_acts acts ≢ 0 → counter_of counters (condition_of call) ≢ largest_counter
+  pub counted : vs' ≡ raised counters (condition_of call) (count_acts acts)
 
 -- what a thread does in a phase in which no other has calls. One that had died does nothing
-abbrev pub PlaysAlone : Layout' → ℕ → Bool → (ℕ → Object) → List Op → List Reply → Bool → (ℕ → Object) → Type 0
-PlaysAlone k t true os calls replies died os' = (replies ≡ []) × (died ≡ false) × (os' ≡ os)
-PlaysAlone k t false os calls replies true os' = DiesAmong k t os calls replies os'
-PlaysAlone k t false os calls replies false os' = AreAnswered k t os calls replies os'
+abbrev pub PlaysAlone : Layout' → ℕ → Bool → (ℕ → Object) → (ℕ → ℕ) → List Op → List Reply → Bool → (ℕ → Object) → (ℕ → ℕ) → Type 0
+PlaysAlone k t true os vs calls replies died os' vs' = (replies ≡ []) × (died ≡ false) × (os' ≡ os) × (vs' ≡ vs)
+PlaysAlone k t false os vs calls replies true os' vs' = DiesAmong k t os vs calls replies os' vs'
+PlaysAlone k t false os vs calls replies false os' vs' = AreAnswered k t os vs calls replies os' vs'
 
 -- ---- phases
 
@@ -117,16 +153,17 @@ AreLone n (calls ∷ phases) [] = ⊥
 abbrev pub Rest : ℕ → ℕ → Part → Type 0
 Rest n i q = (j : ℕ) → j < n → j ≢ i → (q.replies j ≡ []) × (q.died j ≡ false)
 
--- in each phase its one thread does what it does alone, from the mutexes on as the phase before left them. Some threads
--- had died before
-abbrev pub ArePlayed : Layout' → (ℕ → Bool) → (ℕ → Object) → List (ℕ → List Op) → List ℕ → List Part → (ℕ → Object) → Type 0
-ArePlayed k gone os [] [] [] os' = os' ≡ os
-ArePlayed k gone os (calls ∷ phases) (i ∷ is) (q ∷ parts) os' =
+-- in each phase its one thread does what it does alone, from the mutexes and the counters on as the phase before left
+-- them. Some threads had died before
+abbrev pub ArePlayed : Layout' → (ℕ → Bool) → (ℕ → Object) → (ℕ → ℕ) → List (ℕ → List Op) → List ℕ → List Part → (ℕ → Object) → (ℕ → ℕ) → Type 0
+ArePlayed k gone os vs [] [] [] os' vs' = (os' ≡ os) × (vs' ≡ vs)
+ArePlayed k gone os vs (calls ∷ phases) (i ∷ is) (q ∷ parts) os' vs' =
     Rest k.threads i q
     × (mid : ℕ → Object)
-    × PlaysAlone k (i + 1) (gone i) os (calls (i + 1)) (q.replies i) (q.died i) mid
-    × ArePlayed k (λ j. gone j || q.died j) mid phases is parts os'
-ArePlayed k gone os phases is parts os' = ⊥
+    × (counters : ℕ → ℕ)
+    × PlaysAlone k (i + 1) (gone i) os vs (calls (i + 1)) (q.replies i) (q.died i) mid counters
+    × ArePlayed k (λ j. gone j || q.died j) mid counters phases is parts os' vs'
+ArePlayed k gone os vs phases is parts os' vs' = ⊥
 
 -- ---- what is determined
 
@@ -135,45 +172,49 @@ abbrev pub go_on : Option Reply → (Reply → List Reply) → List Reply
 go_on None f = []
 go_on (Some r) f = f r
 
-abbrev pub left_by : Option Reply → (ℕ → Object) → (Reply → ℕ → Object) → ℕ → Object
-left_by None os f = os
-left_by (Some r) os f = f r
+abbrev pub left_by : {A : Type 0} → Option Reply → A → (Reply → A) → A
+left_by None as_it_was f = as_it_was
+left_by (Some r) as_it_was f = f r
 
 -- the replies to calls that thread t makes one after the other, up to the first that isn't answered
-abbrev pub replies_alone : Layout' → ℕ → (ℕ → Object) → List Op → List Reply
-replies_alone k t os [] = []
-replies_alone k t os (c ∷ cs) =
-    go_on (answer (held_by t os k.mutexes) t (operation_of c) (os (mutex_of k c)))
-    (λ r. r ∷ replies_alone k t (behind k t os c r) cs)
+abbrev pub replies_alone : Layout' → ℕ → (ℕ → Object) → (ℕ → ℕ) → List Op → List Reply
+replies_alone k t os vs [] = []
+replies_alone k t os vs (c ∷ cs) =
+    go_on (answer_to k t os vs c) (λ r. r ∷ replies_alone k t (behind k t os c r) (counters_behind vs c r) cs)
 
 -- and the mutexes then
-abbrev pub mutexes_alone : Layout' → ℕ → (ℕ → Object) → List Op → ℕ → Object
-mutexes_alone k t os [] = os
-mutexes_alone k t os (c ∷ cs) =
-    left_by (answer (held_by t os k.mutexes) t (operation_of c) (os (mutex_of k c))) os
-    (λ r. mutexes_alone k t (behind k t os c r) cs)
+abbrev pub mutexes_alone : Layout' → ℕ → (ℕ → Object) → (ℕ → ℕ) → List Op → ℕ → Object
+mutexes_alone k t os vs [] = os
+mutexes_alone k t os vs (c ∷ cs) =
+    left_by (answer_to k t os vs c) os (λ r. mutexes_alone k t (behind k t os c r) (counters_behind vs c r) cs)
+
+-- and the counters
+abbrev pub counters_alone : Layout' → ℕ → (ℕ → Object) → (ℕ → ℕ) → List Op → ℕ → ℕ
+counters_alone k t os vs [] = vs
+counters_alone k t os vs (c ∷ cs) =
+    left_by (answer_to k t os vs c) vs (λ r. counters_alone k t (behind k t os c r) (counters_behind vs c r) cs)
 
 -- the replies of each phase, whose calls thread i + 1 makes
-abbrev pub played : Layout' → (ℕ → Object) → List (ℕ → List Op) → List ℕ → List (List Reply)
-played k os (calls ∷ phases) (i ∷ is) =
-    replies_alone k (i + 1) os (calls (i + 1)) ∷ played k (mutexes_alone k (i + 1) os (calls (i + 1))) phases is
-played k os phases is = []
+abbrev pub played : Layout' → (ℕ → Object) → (ℕ → ℕ) → List (ℕ → List Op) → List ℕ → List (List Reply)
+played k os vs (calls ∷ phases) (i ∷ is) =
+    replies_alone k (i + 1) os vs (calls (i + 1))
+    ∷ played k (mutexes_alone k (i + 1) os vs (calls (i + 1))) (counters_alone k (i + 1) os vs (calls (i + 1))) phases is
+played k os vs phases is = []
 
 -- what the one thread of each phase was replied
 abbrev pub lone_replies : List ℕ → List Part → List (List Reply)
 lone_replies (i ∷ is) (q ∷ parts) = q.replies i ∷ lone_replies is parts
 lone_replies is parts = []
 
--- nobody dies in these phases, and no reply is X_FULL
+-- nobody dies in these phases
 abbrev pub ArePlain : List ℕ → List Part → Type 0
-ArePlain (i ∷ is) (q ∷ parts) = (q.died i ≡ false) × All (λ r. r ≢ XFULL) (q.replies i) × ArePlain is parts
+ArePlain (i ∷ is) (q ∷ parts) = (q.died i ≡ false) × ArePlain is parts
 ArePlain is parts = Unit {0}
 
--- of phases each of which has one thread's calls all replies are known from the calls alone, where nobody dies and none
--- is X_FULL
+-- of phases each of which has one thread's calls all replies are known from the calls alone, where nobody dies
 abbrev pub PhasesAreDetermined : Type 0
-PhasesAreDetermined = (k : Layout') (gone : ℕ → Bool) (os : ℕ → Object) (phases : List (ℕ → List Op)) (is : List ℕ)
-    (parts : List Part) (os' : ℕ → Object)
+PhasesAreDetermined = (k : Layout') (gone : ℕ → Bool) (os : ℕ → Object) (vs : ℕ → ℕ) (phases : List (ℕ → List Op))
+    (is : List ℕ) (parts : List Part) (os' : ℕ → Object) (vs' : ℕ → ℕ)
     → ((i : ℕ) → i < k.threads → gone i ≡ false) → AreLone k.threads phases is
-    → ArePlayed k gone os phases is parts os' → ArePlain is parts
-    → lone_replies is parts ≡ played k os phases is
+    → ArePlayed k gone os vs phases is parts os' vs' → ArePlain is parts
+    → lone_replies is parts ≡ played k os vs phases is

@@ -128,7 +128,7 @@ pub record HaveAnswered (k : Layout') (presets : List ℕ) (ps : List Phase) (di
   pub begins : presets_of words ≡ presets
   pub passes : List (Pass Live)
   pub as_many : length passes ≡ k.threads
-  pub cards : (i : ℕ) (a : Pass Live) → slice_get passes i ≡ Some a → card a ≡ first_card (layout_of words) (i + 1)
+  pub cards : (i : ℕ) (a : Pass Live) → slice_get passes i ≡ Some a → card a ≡ first_card (layout_of words) presets (i + 1)
   pub firsts : List Worker
   pub numbers : AreFirst passes dies firsts
   pub workers : List Worker

@@ -1,5 +1,5 @@
 -- What cards tell, from step to step.
-use Rattle.std.proofs.Common.{Bool, ◌≡◌, ℕ, ◌≤◌, Option, Some, None, List, [], ◌∷◌, ◌++◌, refl, sym, ap, ◌∙◌, subst, arith, append-nil, append_assoc}
+use Rattle.std.proofs.Common.{Bool, ◌≡◌, ◌≢◌, ℕ, ◌≤◌, Option, Some, None, List, [], ◌∷◌, ◌++◌, refl, sym, ap, ◌∙◌, subst, arith, append-nil, append_assoc}
 use mathlib.Core.Logic.{dite}
 use native.Mathlib.Decide.{ℕ_discrete}
 use Rattle.lockword.specs.declared.reply.Reply.{Reply}
@@ -16,11 +16,11 @@ use Rattle.ruledwords.specs.declared.pass.Change.{Change}
 use Rattle.ruledwords.specs.Calls.{acts, IsOnMutex}
 use Rattle.ruledwords.specs.Looks.{noted, KnowsTheSame}
 use Rattle.ruledwords.specs.Cards.{at}
-use Rattle.ruledwords.specs.Changes.{KnowsOn}
-use Rattle.ruledwords.proofs.Changes.{knows_on_self, knows_on_then}
+use Rattle.ruledwords.specs.Changes.{ChangedNone, KnowsOn}
+use Rattle.ruledwords.proofs.Changes.{knows_on_self, knows_on_then, none_self, none_then}
 use Rattle.ruledwords.specs.Passes.{IsCardOf}
 use Rattle.ruledwords.specs.Rules.{first_card}
-use Rattle.ruledwords.specs.Seen.{by, points_of, EndsWith, Saw, Called, Died, Leaves, Sees, Joined}
+use Rattle.ruledwords.specs.Seen.{by, count_acts, points_of, EndsWith, Saw, Called, Died, Leaves, Sees, Joined}
 use Rattle.ruledwords.proofs.Lists.{told}
 
 -- a call is on one mutex
@@ -32,8 +32,8 @@ same_mutex k p m l layout first known here there =
 
 -- ---- cards of a layout
 
-pub first_is : (k : Layout') (t : ℕ) → IsLayout k → 1 ≤ t → t ≤ k.threads → IsCardOf k (first_card k t)
-first_is k t layout first low = record { layout = layout; threads = refl; first = first; thread = low; base = refl; legal = λ p. (fresh, (refl, tt)) }
+pub first_is : (k : Layout') (counters : List ℕ) (t : ℕ) → IsLayout k → 1 ≤ t → t ≤ k.threads → IsCardOf k (first_card k counters t)
+first_is k counters t layout first low = record { layout = layout; threads = refl; first = first; thread = low; base = refl; legal = λ p. (fresh, (refl, tt)) }
 
 pub still_card : (k : Layout') (c : Card) (p : ℕ) (new : List Point) (o : Object) (d : Card) → IsCardOf k c → Sees c p new o d → IsCardOf k d
 still_card k c p new o d is s = record {
@@ -74,13 +74,13 @@ acts_told t p op (Some x) = refl
 
 pub saw_nothing : (c : Card) (p : ℕ) → Called c p [] c
 saw_nothing c p = record {
-  saw = record { thread = refl; threads = refl; base = refl; elsewhere = λ q other. refl; since = []; grows = sym (append-nil _); own = sym (append-nil _); knows = knows_on_self c };
+  saw = record { thread = refl; threads = refl; base = refl; elsewhere = λ q other. refl; since = []; grows = sym (append-nil _); own = sym (append-nil _); knows = knows_on_self c; still = λ none. none_self (λ x. x ≢ p) c };
   last = tt;
 }
 
 -- an undecided call after a step, which may be its point
-pub saw_more : (c : Card) (p : ℕ) (d : Card) (op : Operation) (r : Option Reply) (o : Object) (e : Card) → Called c p [] d → Sees d p (told d.thread p op r) o e → KnowsOn d e → Called c p (acts op r) e
-saw_more c p d op r o e called sees more = record {
+pub saw_more : (c : Card) (p : ℕ) (d : Card) (op : Operation) (r : Option Reply) (o : Object) (e : Card) → Called c p [] d → Sees d p (told d.thread p op r) o e → KnowsOn d e → (count_acts (acts op r) ≡ 0 → ChangedNone (λ x. x ≢ p) d e) → Called c p (acts op r) e
+saw_more c p d op r o e called sees more none = record {
   saw = record {
     thread = sees.thread ∙ was.thread;
     threads = sees.threads ∙ was.threads;
@@ -90,6 +90,7 @@ saw_more c p d op r o e called sees more = record {
     grows = sees.grows ∙ append_assoc (at d.seen p) sees.between (told d.thread p op r) ∙ ap (λ l. l ++ (sees.between ++ told d.thread p op r)) was.grows ∙ append_assoc (at c.seen p) was.since (sees.between ++ told d.thread p op r);
     own = subst (λ (t : ℕ). by t (at e.seen p) ≡ by t (at d.seen p) ++ told t p op r) was.thread sees.own ∙ ap (λ l. l ++ told c.thread p op r) (was.own ∙ append-nil _) ∙ ap (λ l. by c.thread (at c.seen p) ++ l) (sym (acts_told c.thread p op r));
     knows = knows_on_then c d e was.knows more;
+    still = λ few. none_then (λ x. x ≢ p) (λ x. x ≢ p) c d e was.thread (λ x there. there) (was.still refl) (none few);
   };
   last = go r sees.grows;
 } where

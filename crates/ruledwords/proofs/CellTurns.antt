@@ -130,8 +130,8 @@ module _ (w : Words) (r : Running) (of : IsRunningOf w r) (at : IsAtCell (runnin
       stands_on a call u = goes_on_made w a call r u on n (standing_of p') d going stepping here made (moves x p' to)
 
       -- what was decided has no more steps
-      pub never_decided : (e : Card) (y : Reply) → IsDecided w e y r → ⊥
-      never_decided e y was = let none = undecided z.thread z.cell z.row going stepping in let some = was.1 in absurd (cc (none, some))
+      pub never_decided : (m : ℕ) (e : Card) (y : Reply) → IsDecided w m e y r → ⊥
+      never_decided m e y was = let none = undecided z.thread z.cell z.row going stepping in let some = was.1 in absurd (cc (none, some))
 
       module _ (y : Reply) (ended : p'.phase ≡ phase.Ended y) where
         pub lives_on : IsAlive k d
@@ -171,7 +171,7 @@ module _ (w : Words) (r : Running) (of : IsRunningOf w r) (at : IsAtCell (runnin
           in_call under,
           (x, answered x told_here, to),
           (λ a call u. let s = subst (StandsIn w a call (standing_of p')) (sym is) (stands_on a call u) in (in_call under, s.0, s.1)),
-          λ e y was. absurd (never_decided e y was),
+          λ m e y was. absurd (never_decided m e y was),
         )
 
         pub lives : (y : Reply) → p'.phase ≡ phase.Ended y → ComesTo w r (Lives b y)
@@ -179,7 +179,7 @@ module _ (w : Words) (r : Running) (of : IsRunningOf w r) (at : IsAtCell (runnin
           alive y ended,
           (x, answered x told_here, sym (ap (λ (q : Whole). q.phase) to) ∙ ended),
           (λ a call u. let s = subst (HasEnded w a call y) (sym is) (ended_on y ended a call u) in (alive y ended, s.0, s.1, s.2)),
-          λ e z was. absurd (never_decided e z was),
+          λ m e z was. absurd (never_decided m e z was),
         )
 
   -- ---- a section
@@ -200,8 +200,8 @@ module _ (w : Words) (r : Running) (of : IsRunningOf w r) (at : IsAtCell (runnin
     pub stands_answered_on : (a : Pass Live) (call : Call) → IsUnderWayFrom w a call r → StandsIn w a call (standing_of p') c
     stands_answered_on a call u = goes_on_answered w a call r u x (standing_of p') fits (moves x p' to)
 
-    pub decided_answered : (e : Card) (y : Reply) → IsDecided w e y r → (decided (row_in p'.phase) ≡ Some y) × HasSeenTheSame e c
-    decided_answered e y was = (ap (λ (s : Standing). decided s.row) (moves x p' to) ∙ (passes z.thread z.cell z.row x fits).same ∙ was.1, was.2)
+    pub decided_answered : (m : ℕ) (e : Card) (y : Reply) → IsDecided w m e y r → (decided (row_in p'.phase) ≡ Some y) × IsOnMutex k (standing_of p') m × HasSeenTheSame (cell_place k m) e c
+    decided_answered m e y was = (ap (λ (s : Standing). decided s.row) (moves x p' to) ∙ (passes z.thread z.cell z.row x fits).same ∙ was.1, subst (λ (s : Standing). IsOnMutex k s m) (sym (moves x p' to)) was.2, was.3)
 
     module _ (y : Reply) (ended : p'.phase ≡ phase.Ended y) where
       pub lives_answered : IsLive w r.pass
@@ -210,5 +210,5 @@ module _ (w : Words) (r : Running) (of : IsRunningOf w r) (at : IsAtCell (runnin
       pub ended_answered : (a : Pass Live) (call : Call) → IsUnderWayFrom w a call r → HasEnded w a call y c
       ended_answered a call u = ends_answered w a call r u x y fits (sym (ap (λ (s : Standing). s.row) (moves x p' to)) ∙ ap row_in ended)
 
-      pub reply_answered : (e : Card) (v : Reply) → IsDecided w e v r → y ≡ v
-      reply_answered e v was = let told : Some y ≡ Some v = sym (ap (λ (f : Phase). decided (row_in f)) ended) ∙ (decided_answered e v was).0 in cc
+      pub reply_answered : (m : ℕ) (e : Card) (v : Reply) → IsDecided w m e v r → y ≡ v
+      reply_answered m e v was = let told : Some y ≡ Some v = sym (ap (λ (f : Phase). decided (row_in f)) ended) ∙ (decided_answered m e v was).0 in cc

@@ -1,5 +1,5 @@
 -- The record of the changes of cells and of counters, from step to step.
-use Rattle.std.proofs.Common.{Bool, true, false, ◌≡◌, ◌≢◌, ⊎_elim, ℕ, zero, suc, ◌+◌, ◌<◌, ◌≤◌, ◌==◌, not, List, [], ◌∷◌, ◌++◌, length, get_or, set, refl, sym, ap, ◌∙◌, subst, arith, append_assoc, append-nil, length-append, eq-eqb, ne_eqb, eqb-true, get_or-set_other, get_or-set_same}
+use Rattle.std.proofs.Common.{Bool, true, false, ◌≡◌, ◌≢◌, ⊎_elim, ℕ, zero, suc, ◌+◌, ◌<◌, ◌≤◌, ◌==◌, not, List, [], ◌∷◌, ◌++◌, length, drop, get_or, set, refl, sym, ap, ◌∙◌, subst, arith, append_assoc, append-nil, length-append, eq-eqb, ne_eqb, eqb-true, get_or-set_other, get_or-set_same}
 use Rattle.std.specs.Prelude.{if◌then◌else◌}
 use Rattle.std.proofs.lemmas.List.Elements.{filter-append}
 use mathlib.Core.Logic.{dite}
@@ -11,7 +11,7 @@ use Rattle.atomic_table.proofs.Lists.{at_set, at_snoc}
 use Rattle.memorymap.specs.Layouts.{Layout', cell_place, counter_place}
 use Rattle.ruledwords.specs.declared.pass.Card.{Card}
 use Rattle.ruledwords.specs.declared.pass.Change.{Change}
-use Rattle.ruledwords.specs.Changes.{changes_at, put_changes, made_by, made_by_others, left_by, left_of, change_of, first_changes, AllTied, AreBehindFirst, AreBy, ChangedNothing, ChangedOnce, KnowsMoreAt, KnowsOn, Loaded, OthersChanged, Recorded, Tied, Writes}
+use Rattle.ruledwords.specs.Changes.{changes_at, put_changes, made_by, made_by_others, left_by, left_of, change_of, behind_unknown, first_changes, AllTied, AreBehindFirst, AreBy, ChangedNone, ChangedNothing, ChangedOnce, CountedOnce, KnowsMoreAt, KnowsOn, Loaded, OthersChanged, Recorded, Tied, Writes}
 use Rattle.ruledwords.specs.Rules.{cards_of, all_cards_of}
 use Rattle.ruledwords.proofs.Lists.{all_two, counted}
 
@@ -223,9 +223,20 @@ nobody_first [] t p pos = refl
 nobody_first (w ∷ ws) t zero pos = rw (ne_eqb 0 t (λ e. absurd (omega (arith, e, pos)))) refl
 nobody_first (w ∷ ws) t (suc p) pos = nobody_first ws t p pos
 
--- of which nobody knows yet
-pub tied_at_first : (ws : List ℕ) (t : ℕ) → 1 ≤ t → Tied (first_changes ws) t []
-tied_at_first ws t pos p = ((changes_at (first_changes ws) p, refl), nobody_first ws t p pos)
+drop_nothing : (n : ℕ) → drop {A = ℕ} n [] ≡ []
+drop_nothing zero = refl
+drop_nothing (suc n) = refl
+
+-- of which everybody knows those of the last words
+known_first : (n : ℕ) (xs ws : List ℕ) (t p : ℕ) → 1 ≤ t → drop n ws ≡ xs → IsPrefix (changes_at (behind_unknown n (first_changes xs)) p) (changes_at (first_changes ws) p) × (made_by t (changes_at (behind_unknown n (first_changes xs)) p) ≡ made_by t (changes_at (first_changes ws) p))
+known_first zero xs ws t p pos is = subst (λ (l : List ℕ). IsPrefix (changes_at (first_changes xs) p) (changes_at (first_changes l) p) × (made_by t (changes_at (first_changes xs) p) ≡ made_by t (changes_at (first_changes l) p))) (sym is) (([], append-nil _), refl)
+known_first (suc n) xs [] t zero pos is = (([], refl), refl)
+known_first (suc n) xs [] t (suc p) pos is = known_first n xs [] t p pos (drop_nothing n ∙ is)
+known_first (suc n) xs (w ∷ ws) t zero pos is = ((changes_at (first_changes (w ∷ ws)) zero, refl), nobody_first (w ∷ ws) t zero pos)
+known_first (suc n) xs (w ∷ ws) t (suc p) pos is = known_first n xs ws t p pos is
+
+pub tied_at_first : (n : ℕ) (xs ws : List ℕ) (t : ℕ) → 1 ≤ t → drop n ws ≡ xs → Tied (first_changes ws) t (behind_unknown n (first_changes xs))
+tied_at_first n xs ws t pos is p = known_first n xs ws t p pos is
 
 pub left_at_first : (ws : List ℕ) (p w : ℕ) → get_or ws p 0 ≡ w → left_by (changes_at (first_changes ws) p) ≡ w
 left_at_first ws p w is = changes_first ws p ∙ is
@@ -272,6 +283,68 @@ once_now c d e p n v same differs last so w = record {
   where
     before : changes_at d.changes p ++ w.since ≡ changes_at c.changes p ++ (so.since ++ w.since)
     before = ap (λ (l : List Change). l ++ w.since) so.grows ∙ append_assoc (changes_at c.changes p) so.since w.since
+
+-- ---- what a thread hasn't changed
+
+pub none_self : (P : ℕ → Type 0) (c : Card) → ChangedNone P c c
+none_self P c p there = refl
+
+pub none_then : (P Q : ℕ → Type 0) (c d e : Card) → d.thread ≡ c.thread → ((x : ℕ) → Q x → P x) → ChangedNone Q c d → ChangedNone P d e → ChangedNone Q c e
+none_then P Q c d e same less first more p there = subst (λ (t : ℕ). made_by t (changes_at e.changes p) ≡ made_by t (changes_at d.changes p)) same (more p (less p there)) ∙ first p there
+
+-- an access at one word
+pub none_by : (c d : Card) (p n v : ℕ) → Writes c p n v d → ChangedNone (λ x. x ≢ p) c d
+none_by c d p n v w x other = ap (made_by c.thread) (w.elsewhere x other)
+
+pub none_at : (c d : Card) (p : ℕ) → KnowsMoreAt c p d → ChangedNone (λ x. x ≢ p) c d
+none_at c d p more x other = ap (made_by c.thread) (more.elsewhere x other)
+
+-- a load
+pub none_loaded : (c d : Card) (p n : ℕ) → Writes c p n n d → ChangedNone (λ x. Unit {0}) c d
+none_loaded c d p n w x there = dite (ℕ_discrete x p)
+    (λ here. subst (λ (z : ℕ). made_by c.thread (changes_at d.changes z) ≡ made_by c.thread (changes_at c.changes z)) (sym here)
+    (ap (made_by c.thread) grows ∙ made_append c.thread (changes_at c.changes p) w.since ∙ ap (λ (l : List Change). made_by c.thread (changes_at c.changes p) ++ l) w.others ∙ append-nil _))
+    (λ other. ap (made_by c.thread) (w.elsewhere x other))
+  where
+    grows : changes_at d.changes p ≡ changes_at c.changes p ++ w.since
+    grows = w.grows ∙ ap (λ (b : Bool). (changes_at c.changes p ++ w.since) ++ (if b then [] else record { thread = c.thread; word = n } ∷ [])) (eq-eqb n n refl) ∙ append-nil _
+
+-- what it knows more of a word of which it has changed nothing is others'
+pub nothing_by : (c d : Card) (p : ℕ) → KnowsOn c d → made_by c.thread (changes_at d.changes p) ≡ made_by c.thread (changes_at c.changes p) → ChangedNothing c p d
+nothing_by c d p on same = record {
+  since = (on p).0;
+  others = none_made (made_by c.thread (changes_at c.changes p)) (made_by c.thread (on p).0) (sym (made_append c.thread (changes_at c.changes p) (on p).0) ∙ ap (made_by c.thread) (on p).1 ∙ same);
+  grows = sym (on p).1;
+}
+
+-- ---- a count
+
+-- by an access that found n and left one more
+pub counted_now : (c d e : Card) (z p n v : ℕ) → d.thread ≡ c.thread → v ≡ n + 1 → e.counted ≡ n → ChangedNothing c p d → ChangedNone (λ x. x ≢ z) c d → Writes d p n v e → CountedOnce c z p e
+counted_now c d e z p n v same next is so none w = record {
+  since = so.since ++ w.since;
+  others = made_append c.thread so.since w.since ∙ ap (λ (l : List Change). l ++ made_by c.thread w.since) so.others ∙ ap (λ (t : ℕ). made_by t w.since) (sym same) ∙ w.others;
+  grows = w.grows ∙ ap (λ (b : Bool). (changes_at d.changes p ++ w.since) ++ (if b then [] else record { thread = d.thread; word = v } ∷ [])) (ne_eqb v n differs)
+      ∙ (λ i. (before i) ++ record { thread = same i; word = (next ∙ ap (λ (u : ℕ). u + 1) (sym is)) i } ∷ []);
+  found = ap left_by (sym before) ∙ w.met ∙ sym is;
+  elsewhere = λ x there. subst (λ (t : ℕ). made_by t (changes_at e.changes x) ≡ made_by t (changes_at d.changes x)) same (ap (made_by d.thread) (w.elsewhere x there.1)) ∙ none x there.0;
+}
+  where
+    differs : v ≢ n
+    differs e = absurd (omega (arith, next, e))
+
+    before : changes_at d.changes p ++ w.since ≡ changes_at c.changes p ++ (so.since ++ w.since)
+    before = ap (λ (l : List Change). l ++ w.since) so.grows ∙ append_assoc (changes_at c.changes p) so.since w.since
+
+-- and it stays so, where the thread changes nothing but the cell
+pub counted_still : (c d e : Card) (z p : ℕ) → d.thread ≡ c.thread → changes_at e.changes p ≡ changes_at d.changes p → e.counted ≡ d.counted → ChangedNone (λ x. x ≢ z) d e → CountedOnce c z p d → CountedOnce c z p e
+counted_still c d e z p same alike counted none so = record {
+  since = so.since;
+  others = so.others;
+  grows = alike ∙ so.grows ∙ ap (λ (n : ℕ). (changes_at c.changes p ++ so.since) ++ record { thread = c.thread; word = n + 1 } ∷ []) (sym counted);
+  found = so.found ∙ sym counted;
+  elsewhere = λ x there. subst (λ (t : ℕ). made_by t (changes_at e.changes x) ≡ made_by t (changes_at d.changes x)) same (none x there.0) ∙ so.elsewhere x there;
+}
 
 abbrev pub more_yet : (c : Card) (p : ℕ) → KnowsMoreAt c p c
 more_yet c p = record { here = ([], append-nil _); elsewhere = λ q other. refl; counted = refl }

@@ -112,7 +112,7 @@ module _ (w : Words) (r : CondRunning) (of : IsCondRunningOf w r) where
     pub dies_here : (d : Card) → d ≡ c → DiesOn k (condition_of cl) (operation_of cl) (card a) d
     dies_here d same = subst (DiesOn k (condition_of cl) (operation_of cl) (card a)) (sym same) record {
       died = record { acts = cond_acts (cond_row_in p.phase); beginning = begins_acts k (condition_of cl) (operation_of cl) (card a) c (cond_row_in p.phase) u.2; saw = u.2.called.saw };
-      loaded = loaded_behind (card a) c (counter_place k (condition_of cl)) (cond_row_in p.phase) u.2.loads;
+      loaded = loaded_behind (card a) c (cell_at k (condition_of cl)) (counter_place k (condition_of cl)) (cond_row_in p.phase) _ u.2.loads u.2.counts;
     }
 
 -- ---- a call begins

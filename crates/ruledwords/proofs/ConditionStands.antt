@@ -43,16 +43,16 @@ use Rattle.robustlist.specs.Words.{answer_on}
 use Rattle.facts.specs.Lives.{Beginning}
 use Rattle.ruledwords.specs.Calls.{row_in, Made, Ready}
 use Rattle.ruledwords.specs.Cards.{at, value_at, mark_at}
-use Rattle.ruledwords.specs.Changes.{KnowsOn, Loaded}
+use Rattle.ruledwords.specs.Changes.{ChangedNone, ChangedNothing, CountedOnce, KnowsOn, Loaded, Writes}
 use Rattle.ruledwords.specs.ConditionCalls.{CondFound, IsCondAnswerOf, IsCondStep, IsInCondCall}
 use Rattle.ruledwords.specs.Conditions.{cond_row_in, cond_standing, having_set, release_of, CondReady, Counts, IsAtCondition, Meets}
-use Rattle.ruledwords.specs.ConditionStands.{cond_reply, cond_acts, CondEnded, CondStands, LeftUsable, LoadedBehind, LoadsBehind, SetsWaiters}
+use Rattle.ruledwords.specs.ConditionStands.{cond_reply, cond_acts, CondEnded, CondStands, CountsBehind, CountsThere, LeftUsable, LoadedBehind, LoadsBehind, SetsWaiters}
 use Rattle.ruledwords.specs.Counts.{cell_at}
 use Rattle.ruledwords.specs.Lists.{known}
 use Rattle.ruledwords.specs.OwnWords.{own_after, owns_in}
 use Rattle.ruledwords.specs.Seen.{held_after, holds, Called, Sees}
 use Rattle.ruledwords.proofs.Cards.{saw_more}
-use Rattle.ruledwords.proofs.Changes.{knows_on_by, loaded_now, loaded_still, nothing_still}
+use Rattle.ruledwords.proofs.Changes.{counted_now, counted_still, knows_on_by, loaded_now, loaded_still, none_by, none_loaded, nothing_by, nothing_still}
 use Rattle.ruledwords.proofs.ConditionActs.{q, m, unlink_no_section, whole}
 use Rattle.ruledwords.proofs.Keepers.{counter_no_cell}
 use Rattle.ruledwords.proofs.Lists.{mark_put}
@@ -108,9 +108,9 @@ module _ (k : Layout') (he en ce co t : ℕ) where
         seen b e bs es = subst (λ (u : Bool × Bool). Sees c z (points (point_of c.thread z (if not u.0 then ends operation.Wait EPERM else if u.1 then ends operation.Wait XSTATE else goes (cond.Wait wait.LoadCounter)).decided)) (object_of (fields_of n)) d) (λ i. (bs i, es i)) found.sees
 
         go : (b : Bool) → ((fields_of n).owner == t) ≡ b → (e : Bool) → (fields_of n).died ≡ e → Outcome operation.Wait c0 d (from_words (stage (condition.AtWords (cond.Wait wait.LoadCell))) (if not b then ends operation.Wait EPERM else if e then ends operation.Wait XSTATE else goes (cond.Wait wait.LoadCounter)))
-        go false bs e es = ended operation.Wait c0 d EPERM _ record { called = saw_more c0 z c operation.Wait (Some EPERM) _ d s.called (seen false e bs es) (knows_on_by c d _ _ _ found.writes); reply = sym (ap (λ (b : Bool). if b then XSTATE else EPERM) (own ∙ bs)); counts = tt; waiters = tt }
-        go true bs true es = ended operation.Wait c0 d XSTATE _ record { called = saw_more c0 z c operation.Wait (Some XSTATE) _ d s.called (seen true true bs es) (knows_on_by c d _ _ _ found.writes); reply = sym (ap (λ (b : Bool). if b then XSTATE else EPERM) (own ∙ bs)); counts = tt; waiters = tt }
-        go true bs false es = went operation.Wait c0 d (condition.AtWords (cond.Wait wait.LoadCounter)) None tt record { of = refl; called = saw_more c0 z c operation.Wait None _ d s.called (seen true false bs es) (knows_on_by c d _ _ _ found.writes); owns = own ∙ bs; counts = tt; waiters = tt; usable = tt; loads = nothing_still c0 c d a (found.writes.elsewhere a apart) s.loads }
+        go false bs e es = ended operation.Wait c0 d EPERM _ record { called = saw_more c0 z c operation.Wait (Some EPERM) _ d s.called (seen false e bs es) (knows_on_by c d _ _ _ found.writes) (λ few. none_by c d _ _ _ found.writes); reply = sym (ap (λ (b : Bool). if b then XSTATE else EPERM) (own ∙ bs)); counts = tt; waiters = tt; there = tt }
+        go true bs true es = ended operation.Wait c0 d XSTATE _ record { called = saw_more c0 z c operation.Wait (Some XSTATE) _ d s.called (seen true true bs es) (knows_on_by c d _ _ _ found.writes) (λ few. none_by c d _ _ _ found.writes); reply = sym (ap (λ (b : Bool). if b then XSTATE else EPERM) (own ∙ bs)); counts = tt; waiters = tt; there = tt }
+        go true bs false es = went operation.Wait c0 d (condition.AtWords (cond.Wait wait.LoadCounter)) None tt record { of = refl; called = saw_more c0 z c operation.Wait None _ d s.called (seen true false bs es) (knows_on_by c d _ _ _ found.writes) (λ few. none_by c d _ _ _ found.writes); owns = own ∙ bs; counts = tt; waiters = tt; usable = tt; loads = nothing_still c0 c d a (found.writes.elsewhere a apart) s.loads }
 
     signal_stands : (n : ℕ) (d : Card) → Stands operation.Signal c0 (cond.Signal signal.LoadCell) c → Meets k (q k he en ce co t) (cond_standing (stage (condition.AtWords (cond.Signal signal.LoadCell)))) c n d → Outcome operation.Signal c0 d (cond_led (stage (condition.AtWords (cond.Signal signal.LoadCell))) (Value n))
     signal_stands n d s found = go ((fields_of n).owner == t) refl
@@ -122,8 +122,8 @@ module _ (k : Layout') (he en ce co t : ℕ) where
         seen b bs = subst (λ (u : Bool). Sees c z (points (point_of c.thread z (if not u then ends operation.Signal EPERM else goes (cond.Signal signal.LoadCounter)).decided)) (object_of (fields_of n)) d) bs found.sees
 
         go : (b : Bool) → ((fields_of n).owner == t) ≡ b → Outcome operation.Signal c0 d (from_words (stage (condition.AtWords (cond.Signal signal.LoadCell))) (if not b then ends operation.Signal EPERM else goes (cond.Signal signal.LoadCounter)))
-        go false bs = ended operation.Signal c0 d EPERM _ record { called = saw_more c0 z c operation.Signal (Some EPERM) _ d s.called (seen false bs) (knows_on_by c d _ _ _ found.writes); reply = sym (ap (λ (b : Bool). if b then (if d.counted == largest_counter then XFULL else OK) else EPERM) (own ∙ bs)); counts = tt; waiters = tt }
-        go true bs = went operation.Signal c0 d (condition.AtWords (cond.Signal signal.LoadCounter)) None tt record { of = refl; called = saw_more c0 z c operation.Signal None _ d s.called (seen true bs) (knows_on_by c d _ _ _ found.writes); owns = own ∙ bs; counts = tt; waiters = tt; usable = tt; loads = tt }
+        go false bs = ended operation.Signal c0 d EPERM _ record { called = saw_more c0 z c operation.Signal (Some EPERM) _ d s.called (seen false bs) (knows_on_by c d _ _ _ found.writes) (λ few x there. none_loaded c d _ _ found.writes x tt); reply = sym (ap (λ (b : Bool). if b then (if d.counted == largest_counter then XFULL else OK) else EPERM) (own ∙ bs)); counts = tt; waiters = tt; there = tt }
+        go true bs = went operation.Signal c0 d (condition.AtWords (cond.Signal signal.LoadCounter)) None tt record { of = refl; called = saw_more c0 z c operation.Signal None _ d s.called (seen true bs) (knows_on_by c d _ _ _ found.writes) (λ few. none_by c d _ _ _ found.writes); owns = own ∙ bs; counts = tt; waiters = tt; usable = tt; loads = tt }
 
     broadcast_stands : (n : ℕ) (d : Card) → Stands operation.Broadcast c0 (cond.Broadcast broadcast.LoadCell) c → Meets k (q k he en ce co t) (cond_standing (stage (condition.AtWords (cond.Broadcast broadcast.LoadCell)))) c n d
         → Outcome operation.Broadcast c0 d (cond_led (stage (condition.AtWords (cond.Broadcast broadcast.LoadCell))) (Value n))
@@ -136,15 +136,15 @@ module _ (k : Layout') (he en ce co t : ℕ) where
         seen b bs = subst (λ (u : Bool). Sees c z (points (point_of c.thread z (if not u then ends operation.Broadcast EPERM else goes (cond.Broadcast broadcast.LoadCounter)).decided)) (object_of (fields_of n)) d) bs found.sees
 
         go : (b : Bool) → ((fields_of n).owner == t) ≡ b → Outcome operation.Broadcast c0 d (from_words (stage (condition.AtWords (cond.Broadcast broadcast.LoadCell))) (if not b then ends operation.Broadcast EPERM else goes (cond.Broadcast broadcast.LoadCounter)))
-        go false bs = ended operation.Broadcast c0 d EPERM _ record { called = saw_more c0 z c operation.Broadcast (Some EPERM) _ d s.called (seen false bs) (knows_on_by c d _ _ _ found.writes); reply = sym (ap (λ (b : Bool). if b then (if d.counted == largest_counter then XFULL else OK) else EPERM) (own ∙ bs)); counts = tt; waiters = tt }
-        go true bs = went operation.Broadcast c0 d (condition.AtWords (cond.Broadcast broadcast.LoadCounter)) None tt record { of = refl; called = saw_more c0 z c operation.Broadcast None _ d s.called (seen true bs) (knows_on_by c d _ _ _ found.writes); owns = own ∙ bs; counts = tt; waiters = tt; usable = tt; loads = tt }
+        go false bs = ended operation.Broadcast c0 d EPERM _ record { called = saw_more c0 z c operation.Broadcast (Some EPERM) _ d s.called (seen false bs) (knows_on_by c d _ _ _ found.writes) (λ few x there. none_loaded c d _ _ found.writes x tt); reply = sym (ap (λ (b : Bool). if b then (if d.counted == largest_counter then XFULL else OK) else EPERM) (own ∙ bs)); counts = tt; waiters = tt; there = tt }
+        go true bs = went operation.Broadcast c0 d (condition.AtWords (cond.Broadcast broadcast.LoadCounter)) None tt record { of = refl; called = saw_more c0 z c operation.Broadcast None _ d s.called (seen true bs) (knows_on_by c d _ _ _ found.writes) (λ few. none_by c d _ _ _ found.writes); owns = own ∙ bs; counts = tt; waiters = tt; usable = tt; loads = tt }
 
     -- ---- at the counter
 
     wait_loads : (n : ℕ) (d : Card) → Stands operation.Wait c0 (cond.Wait wait.LoadCounter) c → Counts k (q k he en ce co t) (cond_standing (stage (condition.AtWords (cond.Wait wait.LoadCounter)))) c n d → Outcome operation.Wait c0 d (cond_led (stage (condition.AtWords (cond.Wait wait.LoadCounter))) (Value n))
     wait_loads n d s found = went operation.Wait c0 d (condition.Announcing (n % 2 ^ 32)) None tt record {
       of = refl;
-      called = saw_more c0 z c operation.Wait None _ d s.called found.sees (knows_on_by c d _ _ _ found.writes);
+      called = saw_more c0 z c operation.Wait None _ d s.called found.sees (knows_on_by c d _ _ _ found.writes) (λ few x there. none_loaded c d _ _ found.writes x tt);
       owns = s.owns;
       counts = tt;
       waiters = tt;
@@ -156,6 +156,13 @@ module _ (k : Layout') (he en ce co t : ℕ) where
     full_reply : (n : ℕ) (d : Card) → d.counted ≡ n → owns_in k c0 (m k he en ce co t) ≡ true → (b : Bool) → (n == full) ≡ b → (if b then XFULL else OK) ≡ (if owns_in k c0 (m k he en ce co t) then (if d.counted == largest_counter then XFULL else OK) else EPERM)
     full_reply n d is own b bs = sym (ap (λ (x : Bool). if x then (if d.counted == largest_counter then XFULL else OK) else EPERM) own ∙ ap (λ (x : ℕ). if x == largest_counter then XFULL else OK) is ∙ ap (λ (x : Bool). if x then XFULL else OK) bs)
 
+    -- before a call's point its thread has changed nothing at the counter
+    nothing_there : Called c0 z [] c → ChangedNothing c0 a c
+    nothing_there h = nothing_by c0 c a h.saw.knows (h.saw.still refl a apart)
+
+    full_there : (n : ℕ) (d : Card) → d.counted ≡ n → Called c0 z [] c → Writes c a n n d → Loaded c0 a d
+    full_there n d is h w = loaded_now c0 c d a n h.saw.thread is (nothing_there h) w
+
     signal_loads : (n : ℕ) (d : Card) → Stands operation.Signal c0 (cond.Signal signal.LoadCounter) c → Counts k (q k he en ce co t) (cond_standing (stage (condition.AtWords (cond.Signal signal.LoadCounter)))) c n d → Outcome operation.Signal c0 d (cond_led (stage (condition.AtWords (cond.Signal signal.LoadCounter))) (Value n))
     signal_loads n d s found = go (n == full) refl
       where
@@ -163,9 +170,9 @@ module _ (k : Layout') (he en ce co t : ℕ) where
         seen b bs = subst (λ (u : Bool). Sees c z (points (point_of c.thread z (if u then ends operation.Signal XFULL else goes (cond.Signal signal.Count)).decided)) found.object d) bs found.sees
 
         go : (b : Bool) → (n == full) ≡ b → Outcome operation.Signal c0 d (from_words (stage (condition.AtWords (cond.Signal signal.LoadCounter))) (if b then ends operation.Signal XFULL else goes (cond.Signal signal.Count)))
-        go true bs = ended operation.Signal c0 d XFULL _ record { called = saw_more c0 z c operation.Signal (Some XFULL) _ d s.called (seen true bs) (knows_on_by c d _ _ _ found.writes); reply = full_reply n d found.counted s.owns true bs; counts = found.value ∙ ap Some (sym found.counted); waiters = tt }
+        go true bs = ended operation.Signal c0 d XFULL _ record { called = saw_more c0 z c operation.Signal (Some XFULL) _ d s.called (seen true bs) (knows_on_by c d _ _ _ found.writes) (λ few x there. none_loaded c d _ _ found.writes x tt); reply = full_reply n d found.counted s.owns true bs; counts = found.value ∙ ap Some (sym found.counted); waiters = tt; there = full_there n d found.counted s.called found.writes }
         go false bs = went operation.Signal c0 d (condition.AtWords (cond.Signal signal.Count)) None tt
-            record { of = refl; called = saw_more c0 z c operation.Signal None _ d s.called (seen false bs) (knows_on_by c d _ _ _ found.writes); owns = s.owns; counts = ((λ e. eqb-false n full bs (sym found.counted ∙ e)), found.value ∙ ap Some (sym found.counted)); waiters = tt; usable = tt; loads = tt }
+            record { of = refl; called = saw_more c0 z c operation.Signal None _ d s.called (seen false bs) (knows_on_by c d _ _ _ found.writes) (λ few x there. none_loaded c d _ _ found.writes x tt); owns = s.owns; counts = ((λ e. eqb-false n full bs (sym found.counted ∙ e)), found.value ∙ ap Some (sym found.counted)); waiters = tt; usable = tt; loads = tt }
 
     broadcast_loads : (n : ℕ) (d : Card) → Stands operation.Broadcast c0 (cond.Broadcast broadcast.LoadCounter) c → Counts k (q k he en ce co t) (cond_standing (stage (condition.AtWords (cond.Broadcast broadcast.LoadCounter)))) c n d
         → Outcome operation.Broadcast c0 d (cond_led (stage (condition.AtWords (cond.Broadcast broadcast.LoadCounter))) (Value n))
@@ -175,53 +182,59 @@ module _ (k : Layout') (he en ce co t : ℕ) where
         seen b bs = subst (λ (u : Bool). Sees c z (points (point_of c.thread z (if u then ends operation.Broadcast XFULL else goes (cond.Broadcast (broadcast.Count (n % 2 ^ 32)))).decided)) found.object d) bs found.sees
 
         go : (b : Bool) → (n == full) ≡ b → Outcome operation.Broadcast c0 d (from_words (stage (condition.AtWords (cond.Broadcast broadcast.LoadCounter))) (if b then ends operation.Broadcast XFULL else goes (cond.Broadcast (broadcast.Count (n % 2 ^ 32)))))
-        go true bs = ended operation.Broadcast c0 d XFULL _ record { called = saw_more c0 z c operation.Broadcast (Some XFULL) _ d s.called (seen true bs) (knows_on_by c d _ _ _ found.writes); reply = full_reply n d found.counted s.owns true bs; counts = found.value ∙ ap Some (sym found.counted); waiters = tt }
+        go true bs = ended operation.Broadcast c0 d XFULL _ record { called = saw_more c0 z c operation.Broadcast (Some XFULL) _ d s.called (seen true bs) (knows_on_by c d _ _ _ found.writes) (λ few x there. none_loaded c d _ _ found.writes x tt); reply = full_reply n d found.counted s.owns true bs; counts = found.value ∙ ap Some (sym found.counted); waiters = tt; there = full_there n d found.counted s.called found.writes }
         go false bs = went operation.Broadcast c0 d (condition.AtWords (cond.Broadcast (broadcast.Count (n % 2 ^ 32)))) None tt
-            record { of = refl; called = saw_more c0 z c operation.Broadcast None _ d s.called (seen false bs) (knows_on_by c d _ _ _ found.writes); owns = s.owns; counts = ((λ e. eqb-false n full bs (sym found.counted ∙ e)), found.value ∙ ap Some (sym found.counted)); waiters = tt; usable = tt; loads = tt }
+            record { of = refl; called = saw_more c0 z c operation.Broadcast None _ d s.called (seen false bs) (knows_on_by c d _ _ _ found.writes) (λ few x there. none_loaded c d _ _ found.writes x tt); owns = s.owns; counts = ((λ e. eqb-false n full bs (sym found.counted ∙ e)), found.value ∙ ap Some (sym found.counted)); waiters = tt; usable = tt; loads = tt }
 
     -- the count, of the counter that was loaded
     counted_on : (n : ℕ) (d : Card) (r : CondRow) (v : ℕ) → n ≡ c.counted → d.counted ≡ n → c.counted ≢ largest_counter → n ≤ largest_counter → v ≡ (n + 1) % 18446744073709551616 → value_at d.values a ≡ Some v → (d.counted ≢ largest_counter) × (value_at d.values a ≡ Some (d.counted + 1))
     counted_on n d r v was now free little next value = ((λ e. free (sym was ∙ sym now ∙ e)), value ∙ ap Some (let one : v ≡ d.counted + 1 = omega arith in one))
 
+    one_more : (n v : ℕ) → n ≤ largest_counter → v ≡ (n + 1) % 18446744073709551616 → v ≡ n + 1
+    one_more n v little next = omega arith
+
+    once_there : (n v : ℕ) (d : Card) → n ≤ largest_counter → v ≡ (n + 1) % 18446744073709551616 → d.counted ≡ n → Called c0 z [] c → Writes c a n v d → CountedOnce c0 z a d
+    once_there n v d little next is h w = counted_now c0 c d z a n v h.saw.thread (one_more n v little next) is (nothing_there h) (h.saw.still refl) w
+
     signal_counts : (n : ℕ) (d : Card) → Stands operation.Signal c0 (cond.Signal signal.Count) c → Counts k (q k he en ce co t) (cond_standing (stage (condition.AtWords (cond.Signal signal.Count)))) c n d → Outcome operation.Signal c0 d (cond_led (stage (condition.AtWords (cond.Signal signal.Count))) (Value n))
     signal_counts n d s found = went operation.Signal c0 d (condition.AtWords (cond.Signal signal.Wake)) _ tt record {
       of = refl;
-      called = saw_more c0 z c operation.Signal (Some OK) _ d s.called found.sees (knows_on_by c d _ _ _ found.writes);
+      called = saw_more c0 z c operation.Signal (Some OK) _ d s.called found.sees (knows_on_by c d _ _ _ found.writes) (λ few. absurd (omega (arith, few)));
       owns = s.owns;
       counts = counted_on n d (cond.Signal signal.Count) _ (found.known c.counted s.counts.1) found.counted s.counts.0 found.within refl found.value;
       waiters = tt;
       usable = tt;
-      loads = tt;
+      loads = once_there n _ d found.within refl found.counted s.called found.writes;
     }
 
     broadcast_counts : (seen n : ℕ) (d : Card) → Stands operation.Broadcast c0 (cond.Broadcast (broadcast.Count seen)) c → Counts k (q k he en ce co t) (cond_standing (stage (condition.AtWords (cond.Broadcast (broadcast.Count seen))))) c n d
         → Outcome operation.Broadcast c0 d (cond_led (stage (condition.AtWords (cond.Broadcast (broadcast.Count seen)))) (Value n))
     broadcast_counts seen n d s found = went operation.Broadcast c0 d (condition.AtWords (cond.Broadcast (broadcast.SetWaiters seen))) _ tt record {
       of = refl;
-      called = saw_more c0 z c operation.Broadcast (Some OK) _ d s.called found.sees (knows_on_by c d _ _ _ found.writes);
+      called = saw_more c0 z c operation.Broadcast (Some OK) _ d s.called found.sees (knows_on_by c d _ _ _ found.writes) (λ few. absurd (omega (arith, few)));
       owns = s.owns;
       counts = counted_on n d (cond.Broadcast (broadcast.Count seen)) _ (found.known c.counted s.counts.1) found.counted s.counts.0 found.within refl found.value;
       waiters = tt;
       usable = tt;
-      loads = tt;
+      loads = once_there n _ d found.within refl found.counted s.called found.writes;
     }
 
     -- ---- where nothing is seen anew
 
-    broadcast_sets : (seen n : ℕ) (d : Card) → Stands operation.Broadcast c0 (cond.Broadcast (broadcast.SetWaiters seen)) c → d ≡ having_set c z n d.changes → KnowsOn c d → Outcome operation.Broadcast c0 d (cond_led (stage (condition.AtWords (cond.Broadcast (broadcast.SetWaiters seen)))) (Value n))
-    broadcast_sets seen n d s same on = went operation.Broadcast c0 d (condition.AtWords (cond.Broadcast (broadcast.Move seen))) None tt record {
+    broadcast_sets : (seen n : ℕ) (d : Card) → Stands operation.Broadcast c0 (cond.Broadcast (broadcast.SetWaiters seen)) c → d ≡ having_set c z n d.changes → (v : ℕ) → Writes c z n v d → Outcome operation.Broadcast c0 d (cond_led (stage (condition.AtWords (cond.Broadcast (broadcast.SetWaiters seen)))) (Value n))
+    broadcast_sets seen n d s same v w = went operation.Broadcast c0 d (condition.AtWords (cond.Broadcast (broadcast.Move seen))) None tt record {
       of = refl;
-      called = subst (Called c0 z ((operation.Broadcast, OK) ∷ [])) (sym same) (marked_called c0 z _ c n (having_set c z n d.changes).marks d.changes (subst (KnowsOn c) same on) s.called);
+      called = subst (Called c0 z ((operation.Broadcast, OK) ∷ [])) (sym same) (marked_called c0 z _ c n (having_set c z n d.changes).marks d.changes (subst (KnowsOn c) same (knows_on_by c d z n v w)) (subst (ChangedNone (λ x. x ≢ z) c) same (none_by c d z n v w)) s.called);
       owns = s.owns;
       counts = subst (λ (e : Card). (e.counted ≢ largest_counter) × (value_at e.values a ≡ Some (e.counted + 1))) (sym same) s.counts;
       waiters = subst (λ (e : Card). mark_at e.marks z ≡ true) (sym same) (mark_put c.marks z true);
       usable = tt;
-      loads = tt;
+      loads = counted_still c0 c d z a s.called.saw.thread (w.elsewhere a apart) (ap (λ (e : Card). e.counted) same) (none_by c d z n v w) s.loads;
     }
 
     own_stands : (seen : ℕ) (b : Access) (d : Card) (f : CondPhase) → IsAtCondition f → cond_row_in f ≡ cond.Wait (wait.Release seen) → Stands operation.Wait c0 (cond.Wait (wait.Release seen)) c → d ≡ own_after k c b → Outcome operation.Wait c0 d (onward f)
     own_stands seen b d f there row s same = went operation.Wait c0 d f None there (subst (λ (r : CondRow). Stands operation.Wait c0 r d) (sym row)
-        record { of = refl; called = still_called c0 z [] c d (seen_stored c d (own_after k c b).values (same ∙ own_same k c b)) s.called; owns = s.owns; counts = tt; waiters = tt; usable = tt; loads = still_loaded d (same ∙ own_same k c b) })
+        record { of = refl; called = still_called c0 z [] c d (seen_stored z c d (own_after k c b).values (same ∙ own_same k c b)) s.called; owns = s.owns; counts = tt; waiters = tt; usable = tt; loads = still_loaded d (same ∙ own_same k c b) })
       where
         still_loaded : (e : Card) → e ≡ record c { values = (own_after k c b).values } → Loaded c0 a e × (seen ≡ e.counted % 2 ^ 32)
         still_loaded e is = subst (λ (x : Card). Loaded c0 a x × (seen ≡ x.counted % 2 ^ 32)) (sym is) (loaded_still c0 c record c { values = (own_after k c b).values } a refl refl s.loads.0, s.loads.1)
@@ -241,7 +254,7 @@ module _ (k : Layout') (he en ce co t : ℕ) where
     wait_releases seen n d ready s made = go (fields_of n).waiters
       where
         called : Called c0 z ((operation.Unlock, OK) ∷ []) d
-        called = saw_more c0 z c operation.Unlock (Some OK) _ d s.called made.sees (knows_on_by c d _ _ _ made.writes)
+        called = saw_more c0 z c operation.Unlock (Some OK) _ d s.called made.sees (knows_on_by c d _ _ _ made.writes) (λ few. none_by c d _ _ _ made.writes)
 
         usable : LeftUsable k (q k he en ce co t) d
         usable o run =
@@ -284,7 +297,7 @@ module _ (k : Layout') (he en ce co t : ℕ) where
     step_stands release unlinks op (condition.AtWords (cond.Broadcast (broadcast.Count seen))) there call one n d found s =
         subst (λ (o : Operation). Stands o c0 (cond.Broadcast (broadcast.Count seen)) c → Outcome o c0 d (cond_led (stage (condition.AtWords (cond.Broadcast (broadcast.Count seen)))) (Value n))) s.of (λ s. broadcast_counts seen n d s found) s
     step_stands release unlinks op (condition.AtWords (cond.Broadcast (broadcast.SetWaiters seen))) there call one n d found s =
-        subst (λ (o : Operation). Stands o c0 (cond.Broadcast (broadcast.SetWaiters seen)) c → Outcome o c0 d (cond_led (stage (condition.AtWords (cond.Broadcast (broadcast.SetWaiters seen)))) (Value n))) s.of (λ s. broadcast_sets seen n d s found.0 (knows_on_by c d _ _ _ found.2)) s
+        subst (λ (o : Operation). Stands o c0 (cond.Broadcast (broadcast.SetWaiters seen)) c → Outcome o c0 d (cond_led (stage (condition.AtWords (cond.Broadcast (broadcast.SetWaiters seen)))) (Value n))) s.of (λ s. broadcast_sets seen n d s found.0 _ found.2) s
     step_stands release unlinks op (condition.AtWords (cond.Broadcast (broadcast.Move seen))) there call one n d found s = absurd one
     step_stands release unlinks op (condition.AtWords cond.Awake) there call one n d found s = absurd call.knows
     step_stands release unlinks op (condition.AtWords (cond.Ended x)) there call one n d found s = absurd call.knows
@@ -307,8 +320,8 @@ module _ (k : Layout') (he en ce co t : ℕ) where
       pub locks : (l : Whole) → o.phase ≡ condition.Locking l → Released op
 
     -- who has counted ends OK
-    counted_ends : (op : Operation) (x : Reply) → Called c0 z ((op, OK) ∷ []) c → OK ≡ cond_reply op (owns_in k c0 (m k he en ce co t)) c.counted → value_at c.values a ≡ Some (c.counted + 1) → SetsWaiters op OK (mark_at c.marks z) → SectionOutcome op (onward (condition.Ended OK))
-    counted_ends op x called reply counts sets = record { outcome = ended op c0 c OK None record { called = called; reply = reply; counts = counts; waiters = sets }; locks = λ l e. absurd (cc e) }
+    counted_ends : (op : Operation) (x : Reply) → Called c0 z ((op, OK) ∷ []) c → OK ≡ cond_reply op (owns_in k c0 (m k he en ce co t)) c.counted → value_at c.values a ≡ Some (c.counted + 1) → SetsWaiters op OK (mark_at c.marks z) → CountsThere op OK c0 z a c → SectionOutcome op (onward (condition.Ended OK))
+    counted_ends op x called reply counts sets there = record { outcome = ended op c0 c OK None record { called = called; reply = reply; counts = counts; waiters = sets; there = there }; locks = λ l e. absurd (cc e) }
 
     ok_reply : owns_in k c0 (m k he en ce co t) ≡ true → c.counted ≢ largest_counter → OK ≡ (if owns_in k c0 (m k he en ce co t) then (if c.counted == largest_counter then XFULL else OK) else EPERM)
     ok_reply own free = sym (ap (λ (b : Bool). if b then (if c.counted == largest_counter then XFULL else OK) else EPERM) own ∙ ap (λ (b : Bool). if b then XFULL else OK) (ne_eqb c.counted largest_counter free))
@@ -329,16 +342,16 @@ module _ (k : Layout') (he en ce co t : ℕ) where
     section_stands op (condition.AtWords (cond.Signal signal.LoadCounter)) there call x fits s = absurd fits
     section_stands op (condition.AtWords (cond.Signal signal.Count)) there call x fits s = absurd fits
     section_stands op (condition.AtWords (cond.Signal signal.Wake)) there call (Count j) fits s =
-        subst (λ (o : Operation). Stands o c0 (cond.Signal signal.Wake) c → SectionOutcome o (onward (condition.Ended OK))) s.of (λ s. counted_ends operation.Signal OK s.called (ok_reply s.owns s.counts.0) s.counts.1 tt) s
+        subst (λ (o : Operation). Stands o c0 (cond.Signal signal.Wake) c → SectionOutcome o (onward (condition.Ended OK))) s.of (λ s. counted_ends operation.Signal OK s.called (ok_reply s.owns s.counts.0) s.counts.1 tt s.loads) s
     section_stands op (condition.AtWords (cond.Signal signal.Wake)) there call x fits s = absurd fits
     section_stands op (condition.AtWords (cond.Broadcast broadcast.LoadCell)) there call x fits s = absurd fits
     section_stands op (condition.AtWords (cond.Broadcast broadcast.LoadCounter)) there call x fits s = absurd fits
     section_stands op (condition.AtWords (cond.Broadcast (broadcast.Count seen))) there call x fits s = absurd fits
     section_stands op (condition.AtWords (cond.Broadcast (broadcast.SetWaiters seen))) there call x fits s = absurd fits
     section_stands op (condition.AtWords (cond.Broadcast (broadcast.Move seen))) there call Again fits s =
-        subst (λ (o : Operation). Stands o c0 (cond.Broadcast (broadcast.Move seen)) c → SectionOutcome o (onward (condition.Ended OK))) s.of (λ s. counted_ends operation.Broadcast OK s.called (ok_reply s.owns s.counts.0) s.counts.1 s.waiters) s
+        subst (λ (o : Operation). Stands o c0 (cond.Broadcast (broadcast.Move seen)) c → SectionOutcome o (onward (condition.Ended OK))) s.of (λ s. counted_ends operation.Broadcast OK s.called (ok_reply s.owns s.counts.0) s.counts.1 s.waiters s.loads) s
     section_stands op (condition.AtWords (cond.Broadcast (broadcast.Move seen))) there call (Moved i j) fits s =
-        subst (λ (o : Operation). Stands o c0 (cond.Broadcast (broadcast.Move seen)) c → SectionOutcome o (onward (condition.Ended OK))) s.of (λ s. counted_ends operation.Broadcast OK s.called (ok_reply s.owns s.counts.0) s.counts.1 s.waiters) s
+        subst (λ (o : Operation). Stands o c0 (cond.Broadcast (broadcast.Move seen)) c → SectionOutcome o (onward (condition.Ended OK))) s.of (λ s. counted_ends operation.Broadcast OK s.called (ok_reply s.owns s.counts.0) s.counts.1 s.waiters s.loads) s
     section_stands op (condition.AtWords (cond.Broadcast (broadcast.Move seen))) there call x fits s = absurd fits
     section_stands op (condition.AtWords cond.Awake) there call x fits s = absurd call.knows
     section_stands op (condition.AtWords (cond.Ended y)) there call x fits s = absurd call.knows
@@ -370,21 +383,21 @@ begins_acts k n op c0 c (cond.Broadcast (broadcast.Move seen)) s = subst (λ (o 
 begins_acts k n op c0 c cond.Awake s = one_point op
 begins_acts k n op c0 c (cond.Ended x) s = one_point op
 
--- behind its release a wait has loaded its counter
-pub loaded_behind : (c d : Card) (p : ℕ) (r : CondRow) → LoadsBehind r c p d → LoadedBehind (cond_acts r) c p d
-loaded_behind c d p (cond.Wait wait.LoadCell) loads = tt
-loaded_behind c d p (cond.Wait wait.LoadCounter) loads = tt
-loaded_behind c d p (cond.Wait (wait.Release seen)) loads = tt
-loaded_behind c d p (cond.Wait (wait.Wake seen)) loads = loads.0
-loaded_behind c d p (cond.Wait (wait.Sleep seen)) loads = loads.0
-loaded_behind c d p (cond.Signal signal.LoadCell) loads = tt
-loaded_behind c d p (cond.Signal signal.LoadCounter) loads = tt
-loaded_behind c d p (cond.Signal signal.Count) loads = tt
-loaded_behind c d p (cond.Signal signal.Wake) loads = tt
-loaded_behind c d p (cond.Broadcast broadcast.LoadCell) loads = tt
-loaded_behind c d p (cond.Broadcast broadcast.LoadCounter) loads = tt
-loaded_behind c d p (cond.Broadcast (broadcast.Count seen)) loads = tt
-loaded_behind c d p (cond.Broadcast (broadcast.SetWaiters seen)) loads = tt
-loaded_behind c d p (cond.Broadcast (broadcast.Move seen)) loads = tt
-loaded_behind c d p cond.Awake loads = tt
-loaded_behind c d p (cond.Ended x) loads = tt
+-- behind its release a wait has loaded its counter, and behind their point a signal and a broadcast have counted there
+pub loaded_behind : (c d : Card) (z p : ℕ) (r : CondRow) (v : Option ℕ) → LoadsBehind r c z p d → CountsBehind r d.counted v → LoadedBehind (cond_acts r) c z p d
+loaded_behind c d z p (cond.Wait wait.LoadCell) v loads counts = tt
+loaded_behind c d z p (cond.Wait wait.LoadCounter) v loads counts = tt
+loaded_behind c d z p (cond.Wait (wait.Release seen)) v loads counts = tt
+loaded_behind c d z p (cond.Wait (wait.Wake seen)) v loads counts = loads.0
+loaded_behind c d z p (cond.Wait (wait.Sleep seen)) v loads counts = loads.0
+loaded_behind c d z p (cond.Signal signal.LoadCell) v loads counts = tt
+loaded_behind c d z p (cond.Signal signal.LoadCounter) v loads counts = tt
+loaded_behind c d z p (cond.Signal signal.Count) v loads counts = tt
+loaded_behind c d z p (cond.Signal signal.Wake) v loads counts = (loads, counts.0)
+loaded_behind c d z p (cond.Broadcast broadcast.LoadCell) v loads counts = tt
+loaded_behind c d z p (cond.Broadcast broadcast.LoadCounter) v loads counts = tt
+loaded_behind c d z p (cond.Broadcast (broadcast.Count seen)) v loads counts = tt
+loaded_behind c d z p (cond.Broadcast (broadcast.SetWaiters seen)) v loads counts = (loads, counts.0)
+loaded_behind c d z p (cond.Broadcast (broadcast.Move seen)) v loads counts = (loads, counts.0)
+loaded_behind c d z p cond.Awake v loads counts = tt
+loaded_behind c d z p (cond.Ended x) v loads counts = tt

@@ -169,34 +169,38 @@ all_among k ws js [] f i d low = absurd (omega arith)
 all_among k ws js (c ∷ cs) f zero d low = record { begins = f.0.begins; own = λ p. sym (f.0.own p) }
 all_among k ws js (c ∷ cs) f (suc i) d low = all_among k ws js cs f.1 i d (omega arith)
 
-kept_ends : (k : Layout') (o words : List ℕ) (s : St) (h : Kept k o s) (cards : List Card) → s.words ≡ words → AllFit k s.words h.histories cards → Ends k o cards words
-kept_ends k o words s h cards same fit = record {
+kept_ends : (k : Layout') (o words : List ℕ) (s : St) (h : Kept k o s) (cards : List Card) → s.words ≡ words → AllFit k s.words h.histories cards → AllTied h.recorded.changes cards → Ends k o cards words
+kept_ends k o words s h cards same fit tied = record {
   histories = h.histories;
   leaves = λ m low. subst (λ (ws : List ℕ). Leaves k.threads (cell_place k m) (at h.histories (cell_place k m)) (object_of (fields_of (get_or ws (cell_place k m) 0)))) same (h.leaves m low);
   narrow = λ m low. subst (λ (ws : List ℕ). (fields_of (get_or ws (cell_place k m) 0)).rest ≡ 0) same (h.narrow m low);
   counted = subst (λ (ws : List ℕ). Counted k o ws h.histories) same h.counted;
+  changes = h.recorded.changes;
+  count = λ q low. h.recorded.count q low ∙ ap (λ (ws : List ℕ). get_or ws (counter_place k q) 0) same;
+  authors = h.recorded.authors;
+  tied = tied;
   among = all_among k s.words h.histories cards fit;
 }
 
 -- the last words, of which these cards' seat was there
 pub ends : (k : Layout') (o : List ℕ) (id : ℕ) (cards : List Card) (words : List ℕ) (xs : List (Unit {0})) → Final (Seen (Kept k o) id cards) words xs → Ends k o cards words
-ends k o id cards words xs (s, seen, same, deep, homes) = kept_ends k o words s seen.0 cards same (seen.0.fits id cards seen.1)
+ends k o id cards words xs (s, seen, same, deep, homes) = kept_ends k o words s seen.0 cards same (seen.0.fits id cards seen.1) (seen.0.recorded.tied id cards seen.1)
 
 -- and where nobody's was
 pub ends_alone : (k : Layout') (o words : List ℕ) (xs : List (Unit {0})) → Final (Kept k o) words xs → Ends k o [] words
-ends_alone k o words xs (s, h, same, deep, homes) = kept_ends k o words s h [] same tt
+ends_alone k o words xs (s, h, same, deep, homes) = kept_ends k o words s h [] same tt tt
 
 -- ---- the beginning
 
-none_below : (a : Layout') (u t n : ℕ) → u < t → cards_of u (hand a t n) ≡ 0
-none_below a u t zero low = refl
-none_below a u t (suc n) low = let r = none_below a u (t + 1) n (omega arith) in one_or_none u t (hand a (t + 1) n) a (omega arith) r
+none_below : (a : Layout') (o : List ℕ) (u t n : ℕ) → u < t → cards_of u (hand a o t n) ≡ 0
+none_below a o u t zero low = refl
+none_below a o u t (suc n) low = let r = none_below a o u (t + 1) n (omega arith) in one_or_none u t (hand a o (t + 1) n) a o (omega arith) r
 
-hand_once : (a : Layout') (u t n : ℕ) → cards_of u (hand a t n) ≤ 1
-hand_once a u t zero = omega arith
-hand_once a u t (suc n) = elim (ℕ_discrete t u) [
-  | yes e ↦ (let r = none_below a u (t + 1) n (omega arith) in let b : if◌then◌else◌ {A = ℕ} (t == u) 1 0 ≤ 1 = bit_le (t == u) in omega arith)
-  | no ne ↦ (let r = hand_once a u (t + 1) n in let b : if◌then◌else◌ {A = ℕ} (t == u) 1 0 ≡ 0 = ap (λ (b : Bool). if◌then◌else◌ {A = ℕ} b 1 0) (ne_eqb t u ne) in omega arith)
+hand_once : (a : Layout') (o : List ℕ) (u t n : ℕ) → cards_of u (hand a o t n) ≤ 1
+hand_once a o u t zero = omega arith
+hand_once a o u t (suc n) = elim (ℕ_discrete t u) [
+  | yes e ↦ (let r = none_below a o u (t + 1) n (omega arith) in let b : if◌then◌else◌ {A = ℕ} (t == u) 1 0 ≤ 1 = bit_le (t == u) in omega arith)
+  | no ne ↦ (let r = hand_once a o u (t + 1) n in let b : if◌then◌else◌ {A = ℕ} (t == u) 1 0 ≡ 0 = ap (λ (b : Bool). if◌then◌else◌ {A = ℕ} b 1 0) (ne_eqb t u ne) in omega arith)
 ]
   where
     bit_le : (b : Bool) → if◌then◌else◌ {A = ℕ} b 1 0 ≤ 1
@@ -261,7 +265,7 @@ first_known k t p x pos e =
     (omega arith, omega arith, ap (head_word k) here ∙ first_entry k t pos ∙ xh))
     (λ not0. absurd (value_none p x (sym (value_put_else [] h p (Some own) not0) ∙ e1)))))
 
-first_fits : (k : Layout') (counters ws : List ℕ) (t : ℕ) → Opens k counters ws → 1 ≤ t → t ≤ k.threads → Fits k ws [] (first_card k t)
+first_fits : (k : Layout') (counters ws : List ℕ) (t : ℕ) → Opens k counters ws → 1 ≤ t → t ≤ k.threads → Fits k ws [] (first_card k counters t)
 first_fits k counters ws t opens pos low = record {
   thread = (pos, low);
   threads = refl;
@@ -276,12 +280,12 @@ first_fits k counters ws t opens pos low = record {
   marks = λ m lower e own. absurd (cc e);
 }
 
-hand_fits : (k : Layout') (counters ws : List ℕ) (n t : ℕ) → Opens k counters ws → 1 ≤ t → t + n ≤ k.threads + 1 → AllFit k ws [] (hand k t n)
+hand_fits : (k : Layout') (counters ws : List ℕ) (n t : ℕ) → Opens k counters ws → 1 ≤ t → t + n ≤ k.threads + 1 → AllFit k ws [] (hand k counters t n)
 hand_fits k counters ws zero t opens pos most = tt
 hand_fits k counters ws (suc n) t opens pos most = (first_fits k counters ws t opens pos (omega arith), hand_fits k counters ws n (t + 1) opens (omega arith) (omega arith))
 
-pub opens_kept : (k : Layout') (counters ws : List ℕ) → IsLayout k → ((q : ℕ) → slice_index counters q < 4294967296) → Opens k counters ws → Kept k counters (opening ws [] (hand k 1 k.threads))
-opens_kept k counters ws layout small opens = record {
+pub opens_kept : (k : Layout') (counters ws : List ℕ) → IsLayout k → ((q : ℕ) → slice_index counters q < 4294967296) → Opens k counters ws → drop (counter_place k 0) ws ≡ counters → Kept k counters (opening ws [] (hand k counters 1 k.threads))
+opens_kept k counters ws layout small opens behind = record {
   layout = layout;
   wide = opens.0;
   histories = [];
@@ -294,22 +298,22 @@ opens_kept k counters ws layout small opens = record {
   };
   counters = λ q low. let is : slice_index ws (counter_place k q) ≡ slice_index counters q = opens.1 (counter_place k q) (omega arith) ∙ counter_first k counters q low in subst (λ (z : ℕ). z < 4294967296) (sym is) (small q);
   fits = λ j v e. only j v e;
-  once = λ t. let a = hand_once k t 1 k.threads in omega arith;
+  once = λ t. let a = hand_once k counters t 1 k.threads in omega arith;
   recorded = record { changes = first_changes ws; leave = λ m low. left_at_first ws (cell_place k m) _ refl; count = λ q low. left_at_first ws (counter_place k q) _ refl; authors = authors_first k ws; tied = λ j v e. tied_first j v e };
 }
   where
     began : (q : ℕ) → q < length k.conditions → counter_in k ws q ≡ get_or counters q 0
     began q low = opens.1 (counter_place k q) (omega arith) ∙ counter_first k counters q low
 
-    tied_hand : (t n : ℕ) → 1 ≤ t → AllTied (first_changes ws) (hand k t n)
+    tied_hand : (t n : ℕ) → 1 ≤ t → AllTied (first_changes ws) (hand k counters t n)
     tied_hand t zero pos = tt
-    tied_hand t (suc n) pos = (tied_at_first ws t pos, tied_hand (t + 1) n (omega arith))
+    tied_hand t (suc n) pos = (tied_at_first (counter_place k 0) counters ws t pos behind, tied_hand (t + 1) n (omega arith))
 
-    tied_first : (j : ℕ) (v : List Card) → get_elem? (hand k 1 k.threads ∷ []) j ≡ some v → AllTied (first_changes ws) v
+    tied_first : (j : ℕ) (v : List Card) → get_elem? (hand k counters 1 k.threads ∷ []) j ≡ some v → AllTied (first_changes ws) v
     tied_first zero v e = subst (AllTied (first_changes ws)) (some-injective _ _ e) (tied_hand 1 k.threads (omega arith))
     tied_first (suc j) v e = absurd (some-ne-none v (sym e))
 
-    only : (j : ℕ) (v : List Card) → get_elem? (hand k 1 k.threads ∷ []) j ≡ some v → AllFit k ws [] v
+    only : (j : ℕ) (v : List Card) → get_elem? (hand k counters 1 k.threads ∷ []) j ≡ some v → AllFit k ws [] v
     only zero v e = subst (AllFit k ws []) (some-injective _ _ e) (hand_fits k counters ws k.threads 1 opens (omega arith) (omega arith))
     only (suc j) v e = absurd (some-ne-none v (sym e))
 
@@ -323,13 +327,13 @@ presets_are k counters ws many opens =
     (λ q low. let lower : q < length k.conditions = omega arith in let place : counter_place k 0 + q ≡ counter_place k q = omega arith in
     get_or-drop (counter_place k 0) ws q 0 ∙ ap (λ (p : ℕ). get_or ws p 0) place ∙ opens.1 (counter_place k q) (omega arith) ∙ counter_first k counters q lower)
 
-pub dealt_first : (a : Layout') (t n : ℕ) → 0 < n → first_of (hand a t n) ≡ first_card a t ∷ []
-dealt_first a t zero pos = absurd (omega arith)
-dealt_first a t (suc n) pos = refl
+pub dealt_first : (a : Layout') (o : List ℕ) (t n : ℕ) → 0 < n → first_of (hand a o t n) ≡ first_card a o t ∷ []
+dealt_first a o t zero pos = absurd (omega arith)
+dealt_first a o t (suc n) pos = refl
 
-pub dealt_rest : (a : Layout') (t n : ℕ) → 0 < n → rest_of (hand a t n) ≡ hand a (t + 1) (n - 1)
-dealt_rest a t zero pos = absurd (omega arith)
-dealt_rest a t (suc n) pos = ap (λ (z : ℕ). hand a (t + 1) z) (let e : n ≡ suc n - 1 = omega arith in e)
+pub dealt_rest : (a : Layout') (o : List ℕ) (t n : ℕ) → 0 < n → rest_of (hand a o t n) ≡ hand a o (t + 1) (n - 1)
+dealt_rest a o t zero pos = absurd (omega arith)
+dealt_rest a o t (suc n) pos = ap (λ (z : ℕ). hand a o (t + 1) z) (let e : n ≡ suc n - 1 = omega arith in e)
 
 -- passes that meet hold what they held
 pub held_first : (c d c' d' : Card) → Joined c d c' d' → held c' ≡ held c

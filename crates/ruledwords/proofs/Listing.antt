@@ -443,8 +443,8 @@ alive_empty k c layout first inside none at_head at_offset at_pending = record {
   each p (inr (inr (m, low, link, own))) = absurd (let nobody = none m low in cc (nobody, own))
 
 -- at first nobody owns a mutex, and each head is an empty list
-pub alive_first : (k : Layout') (t : ℕ) → IsLayout k → 1 ≤ t → t ≤ k.threads → IsAlive k (first_card k t)
-alive_first k t layout first inside = alive_empty k (first_card k t) layout first inside (λ m low. refl) at_head at_offset at_pending where
+pub alive_first : (k : Layout') (counters : List ℕ) (t : ℕ) → IsLayout k → 1 ≤ t → t ≤ k.threads → IsAlive k (first_card k counters t)
+alive_first k counters t layout first inside = alive_empty k (first_card k counters t) layout first inside (λ m low. refl) at_head at_offset at_pending where
   at_head : value_at (first_values k t) (head_place t) ≡ Some (address_in k t (head_place t))
   at_head =
       value_put_else (put_value (put_value [] (head_place t) (Some (address_in k t (head_place t)))) (head_place t + 1) (Some cell_offset)) (head_place t + 2) (head_place t) (Some 0) (λ e. absurd (omega arith))

@@ -156,8 +156,8 @@ all_two t (x ∷ xs) (suc i) (suc j) v w e f n = let r = all_two t xs i j v w e 
 pub counted : (t : ℕ) (c : Card) (cs : List Card) → t ≡ c.thread → 1 ≤ cards_of t (c ∷ cs)
 counted t c cs e = let one : if◌then◌else◌ {A = ℕ} (c.thread == t) 1 0 ≡ 1 = ap (λ (b : Bool). if◌then◌else◌ {A = ℕ} b 1 0) (eq-eqb c.thread t (sym e)) in omega arith
 
-pub one_or_none : (u t : ℕ) (cs : List Card) (k : Layout') → t ≢ u → cards_of u cs ≡ 0 → cards_of u (first_card k t ∷ cs) ≡ 0
-one_or_none u t cs k apart e = let b : if◌then◌else◌ {A = ℕ} (t == u) 1 0 ≡ 0 = ap (λ (b : Bool). if◌then◌else◌ {A = ℕ} b 1 0) (ne_eqb t u apart) in omega arith
+pub one_or_none : (u t : ℕ) (cs : List Card) (k : Layout') (counters : List ℕ) → t ≢ u → cards_of u cs ≡ 0 → cards_of u (first_card k counters t ∷ cs) ≡ 0
+one_or_none u t cs k counters apart e = let b : if◌then◌else◌ {A = ℕ} (t == u) 1 0 ≡ 0 = ap (λ (b : Bool). if◌then◌else◌ {A = ℕ} b 1 0) (ne_eqb t u apart) in omega arith
 
 -- ---- others
 

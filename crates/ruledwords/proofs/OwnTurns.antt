@@ -23,13 +23,12 @@ use Rattle.ruledwords.specs.declared.pass.Pass.{Pass}
 use Rattle.ruledwords.specs.declared.pass.Live.{Live}
 use Rattle.ruledwords.specs.declared.turn.Running.{Running}
 use Rattle.ruledwords.specs.declared.turn.Turn.TheVariants.{Goes, Lives}
-use Rattle.ruledwords.specs.Calls.{Ready, most, row_in, standing_of}
-use Rattle.ruledwords.specs.Changes.{changes_at, KnowsMoreAt}
+use Rattle.ruledwords.specs.Calls.{Ready, most, row_in, standing_of, IsOnMutex}
+use Rattle.ruledwords.specs.Changes.{changes_at}
 use Rattle.ruledwords.specs.Lists.{known, IsAlive, IsInCall}
 use Rattle.ruledwords.specs.OwnWords.{own_after}
 use Rattle.ruledwords.specs.Passes.{card, layout_of, IsCardOf, IsPassOf, IsLive}
 use Rattle.ruledwords.specs.Turns.{running_call, running_of, Answers, ComesTo, HasSeenTheSame, IsCallOf, IsDecided, IsRunningOf, IsUnderWay as IsUnderWayFrom}
-use Rattle.ruledwords.proofs.Changes.{more_same}
 use Rattle.ruledwords.proofs.Exchanges.{expects_still}
 use Rattle.ruledwords.proofs.Listing.{goes_own, ends_own}
 use Rattle.ruledwords.proofs.Noted.{seen_stored, seen_on, still_stands}
@@ -85,8 +84,8 @@ module _ (w : Words) (r : Running) (of : IsRunningOf w r) (own : IsOwnAccess (ru
   same_row : row_in q.phase ≡ row_in p.phase
   same_row = ap (λ (z : Standing). z.row) same
 
-  seen_same : HasSeenTheSame c d
-  seen_same = seen_stored c d d.values (own_same k c (whole_access p))
+  seen_same : {z : ℕ} → HasSeenTheSame z c d
+  seen_same {z} = seen_stored z c d d.values (own_same k c (whole_access p))
 
   own_card : IsCardOf k d
   own_card = card_own k c (whole_access p) of.0.1
@@ -96,12 +95,8 @@ module _ (w : Words) (r : Running) (of : IsRunningOf w r) (own : IsOwnAccess (ru
     as_before : standing_of p' ≡ standing_of p
     as_before = ap standing_of to ∙ same
 
-    still : HasSeenTheSame c (card b)
-    still = subst (HasSeenTheSame c) (sym is) seen_same
-
-    -- and of changes what it knew
-    knows_still : {z : ℕ} → KnowsMoreAt c z (card b)
-    knows_still {z} = subst (KnowsMoreAt c z) (sym is) (subst (KnowsMoreAt c z) (sym (own_same k c (whole_access p))) (more_same c _ z refl refl))
+    still : {z : ℕ} → HasSeenTheSame z c (card b)
+    still {z} = subst (HasSeenTheSame z c) (sym is) seen_same
 
     is_pass : IsPassOf w b
     is_pass = (table ∙ of.0.0, subst (IsCardOf k) (sym is) own_card)
@@ -124,10 +119,10 @@ module _ (w : Words) (r : Running) (of : IsRunningOf w r) (own : IsOwnAccess (ru
 
     pub stands_on : (a : Pass Live) (call : Call) → IsUnderWayFrom w a call r → StandsIn w a call (standing_of p') (card b)
     stands_on a call u = subst (λ (z : Standing). StandsIn w a call z (card b)) (sym as_before)
-        (u.1, still_stands (operation_of call) (first_row call) (cell_place k (mutex_of call)) (card a) (standing_of p) c (card b) still knows_still (expects_still (standing_of p).row (cell_place k (mutex_of call)) c (card b) (ap (λ (l : List (List Change)). changes_at l (cell_place k (mutex_of call))) (ap (λ (z : Card). z.changes) (is ∙ own_same k c (whole_access p)))) u.2.expects) u.2)
+        (u.1, still_stands (operation_of call) (first_row call) (cell_place k (mutex_of call)) (card a) (standing_of p) c (card b) still (expects_still (standing_of p).row (cell_place k (mutex_of call)) c (card b) (ap (λ (l : List (List Change)). changes_at l (cell_place k (mutex_of call))) (ap (λ (z : Card). z.changes) (is ∙ own_same k c (whole_access p)))) u.2.expects) u.2)
 
-    pub decided_on : (e : Card) (y : Reply) → IsDecided w e y r → (decided (row_in p'.phase) ≡ Some y) × HasSeenTheSame e (card b)
-    decided_on e y was = (ap (λ (z : Standing). decided z.row) as_before ∙ was.1, seen_on e c (card b) was.2 still)
+    pub decided_on : (m : ℕ) (e : Card) (y : Reply) → IsDecided w m e y r → (decided (row_in p'.phase) ≡ Some y) × IsOnMutex k (standing_of p') m × HasSeenTheSame (cell_place k m) e (card b)
+    decided_on m e y was = (ap (λ (z : Standing). decided z.row) as_before ∙ was.1, subst (λ (z : Standing). IsOnMutex k z m) (sym as_before) was.2, seen_on (cell_place k m) e c (card b) was.3 still)
 
     module _ (y : Reply) (ended : p'.phase ≡ phase.Ended y) where
       pub lives_on : IsLive w b
@@ -141,8 +136,8 @@ module _ (w : Words) (r : Running) (of : IsRunningOf w r) (own : IsOwnAccess (ru
             s.knows,
           )
 
-      pub reply_on : (e : Card) (z : Reply) → IsDecided w e z r → y ≡ z
-      reply_on e z was = let told : Some y ≡ Some z = sym (ap (λ (f : Phase). decided (row_in f)) ended) ∙ (decided_on e z was).0 in cc
+      pub reply_on : (m : ℕ) (e : Card) (z : Reply) → IsDecided w m e z r → y ≡ z
+      reply_on m e z was = let told : Some y ≡ Some z = sym (ap (λ (f : Phase). decided (row_in f)) ended) ∙ (decided_on m e z was).0 in cc
 
     -- ---- the turn as a whole
 
@@ -155,7 +150,7 @@ module _ (w : Words) (r : Running) (of : IsRunningOf w r) (own : IsOwnAccess (ru
         runs_on going,
         (x, own_answers k p p.phase c (card b) x own is refl, to),
         (λ a call u. let s = stands_on a call u in (runs_on going, s.0, s.1)),
-        λ e y was. let s = decided_on e y was in (runs_on going, s.0, s.1),
+        λ m e y was. let s = decided_on m e y was in (runs_on going, s.0, s.1, s.2),
       )
 
       pub lives : (y : Reply) → p'.phase ≡ phase.Ended y → ComesTo w r (Lives b y)
@@ -163,5 +158,5 @@ module _ (w : Words) (r : Running) (of : IsRunningOf w r) (own : IsOwnAccess (ru
         lives_on y ended,
         (x, own_answers k p p.phase c (card b) x own is refl, sym (ap (λ (z : Whole). z.phase) to) ∙ ended),
         (λ a call u. let s = ended_on y ended a call u in (lives_on y ended, s.0, s.1, s.2)),
-        λ e z was. (lives_on y ended, reply_on y ended e z was, (decided_on e z was).1),
+        λ m e z was. (lives_on y ended, reply_on y ended m e z was, (decided_on m e z was).2),
       )

@@ -25,7 +25,7 @@ use Rattle.ruledwords.specs.Cards.{at}
 use Rattle.ruledwords.specs.Seen.{held, Sees, Called}
 use Rattle.ruledwords.specs.Changes.{change_of, made_by_others, OthersChanged}
 use Rattle.ruledwords.specs.Calls.{address_at, acts, ExpectsKnown, Ready, Made, Stands, led_at, count_by, count_after, most, most_of}
-use Rattle.ruledwords.proofs.Changes.{knows_on_by, left_behind, more_by, more_on, more_yet, others_changed, others_on}
+use Rattle.ruledwords.proofs.Changes.{knows_on_by, left_behind, more_by, more_on, more_yet, none_by, others_changed, others_on}
 use Rattle.ruledwords.proofs.Exchanges.{expects_next, failed}
 use Rattle.ruledwords.proofs.Cards.{run_at, saw_nothing, saw_more}
 use Rattle.ruledwords.proofs.Lists.{told}
@@ -97,7 +97,7 @@ stands_after op first q c p d e n going step ready s m =
     let all = others_on (changes s.answers) (tells_change a) c.thread s.knows.here.0 (m.writes.since ++ change_of d.thread n (changed (access_of p) n)) s.others found in
     record {
       of = subst (λ (z : Operation). IsOf z (led_at p n).row) is r.stays;
-      called = saw_more c q d op next u e (subst (λ (z : Option Reply). Called c q (acts op z) d) none s.called) added (knows_on_by d e q n (changed (access_of p) n) m.writes);
+      called = saw_more c q d op next u e (subst (λ (z : Option Reply). Called c q (acts op z) d) none s.called) added (knows_on_by d e q n (changed (access_of p) n) m.writes) (λ few. none_by d e q n (changed (access_of p) n) m.writes);
       answers = s.answers ++ a ∷ [];
       reaches = reached_more c.thread first s.answers a ∙ ap (λ (z : Row). (resume_of c.thread z a).row) s.reaches ∙ ap (λ (t : ℕ). (resume_of t p.row a).row) (sym (ready.0 ∙ thread));
       misses = omega arith;

@@ -1,6 +1,7 @@
 -- A running call whose accesses are made one after the other.
-use Rattle.std.proofs.Common.{◌≡◌, Result, Ok, Err, sym, subst}
+use Rattle.std.proofs.Common.{◌≡◌, ℕ, Result, Ok, Err, sym, subst}
 use Rattle.lockword.specs.declared.reply.Reply.{Reply}
+use Rattle.memorymap.specs.Layouts.{cell_place}
 use Rattle.mutex.specs.Standings.{Whole}
 use Rattle.mutex.specs.declared.call.Call.{Call}
 use Rattle.ruledwords.specs.declared.pass.Card.{Card}
@@ -33,15 +34,15 @@ module _ (w : Words) (r : Running) (there : IsRunningOf w r) where
   under_way : (a : Pass Live) (call : Call) → IsUnderWay w a call r → IsIn w a call (running_pass r) (running_call r)
   under_way a call u = (record { ready = r.ready; room = r.room; going = r.going; words = u.0 }, u)
 
-  decided : (c : Card) (x : Reply) → IsDecided w c x r → IsDecidedIn w c x (running_pass r) (running_call r)
-  decided c x was = (record { ready = r.ready; room = r.room; going = r.going; words = was.0 }, was)
+  decided : (m : ℕ) (c : Card) (x : Reply) → IsDecided w m c x r → IsDecidedIn w m c x (running_pass r) (running_call r)
+  decided m c x was = (record { ready = r.ready; room = r.room; going = r.going; words = was.0 }, was)
 
   module _ (b : Pass Live) where
     pub goes_on : (q : Whole) (on : ComesOn w (running_pass r) (running_call r) b q) → Stretches w r (stretch.Goes (running_of w b q on.0))
-    goes_on q on = (on.0.words, (λ a call u. (on.1 a call (under_way a call u)).1), (λ c x was. (on.2 c x (decided c x was)).1))
+    goes_on q on = (on.0.words, (λ a call u. (on.1 a call (under_way a call u)).1), (λ m c x was. (on.2 m c x (decided m c x was)).1))
 
     pub replies : (x : Reply) → ComesToEnd w (running_pass r) (running_call r) b (end.Replied x) → Stretches w r (stretch.Lives b x)
-    replies x ends = (tt, (λ a call u. ends.0 a call (under_way a call u)), (λ c y was. ends.1 c y (decided c y was)))
+    replies x ends = (tt, (λ a call u. ends.0 a call (under_way a call u)), (λ m c y was. ends.1 m c y (decided m c y was)))
 
     pub dies : ComesToEnd w (running_pass r) (running_call r) b end.Stopped → (d : Pass Dead) → card d ≡ card b → (IsPassOf w b → IsPassOf w d) → Stretches w r (stretch.Dead d)
     dies ends d same of = (
@@ -50,9 +51,9 @@ module _ (w : Words) (r : Running) (there : IsRunningOf w r) where
           let t = ends.1.1 a call (under_way a call u) in
           let f = died_in w a call (running_of w b ends.0 t.0) (card d) t.1 same in
           (dying t.0, f.0, f.1)),
-      (λ c x was.
-          let t = ends.1.2 c x (decided c x was) in
-          (dying t.0, subst (λ (z : Card). HasSeenTheSame c z) (sym same) t.1.2)),
+      (λ m c x was.
+          let t = ends.1.2 m c x (decided m c x was) in
+          (dying t.0, subst (λ (z : Card). HasSeenTheSame (cell_place (layout_of w) m) c z) (sym same) t.1.3)),
     ) where
       dying : IsCallOf w b ends.0 → IsDying w d
       dying on = (of on.words.0, subst (IsMortal (layout_of w)) (sym same) (mortal (layout_of w) (card b) on.words.0.1 on.words.1.0 ends.0 on.words.1.1))

@@ -30,7 +30,7 @@ use Rattle.ruledwords.specs.declared.pass.Card.{Card}
 use Rattle.ruledwords.specs.Cards.{at, mark_at, value_at}
 use Rattle.ruledwords.specs.Seen.{by, held, held_after, holds, Leaves, Sees}
 use Rattle.ruledwords.specs.Calls.{count_after}
-use Rattle.ruledwords.specs.Deaths.{deaths, left_by_mark, remembering, FoundAt, HasWalked, IsCount, IsLeftAt, IsReaped, IsWalking, IsWake, Marks, MindsWaiters, SawThere, TellsDeath, WasSeen}
+use Rattle.ruledwords.specs.Deaths.{deaths, left_by_mark, remembering, FoundAt, HasWalked, IsCount, IsLeftAt, IsNoCell, IsReaped, IsWalking, IsWake, Marks, MindsWaiters, SawThere, TellsDeath, WasSeen}
 use Rattle.ruledwords.specs.Lists.{known, or_zero}
 use Rattle.ruledwords.specs.Looks.{Finds}
 use Rattle.ruledwords.specs.OwnWords.{owns_in, KnowsOwn}
@@ -42,7 +42,7 @@ use Rattle.ruledwords.proofs.Keepers.{inside, other_cell}
 use Rattle.ruledwords.proofs.Lists.{mark_put}
 use Rattle.ruledwords.proofs.Marking.{runs}
 use Rattle.ruledwords.proofs.Walking.{forward_arrives, goes_on_arrives, looks_arrives, next_arrives, part_same, part_then}
-use Rattle.ruledwords.proofs.Changes.{knows_on_by, knows_on_self, knows_on_then}
+use Rattle.ruledwords.proofs.Changes.{knows_on_by, knows_on_self, knows_on_then, none_by, none_self, none_then}
 use Rattle.ruledwords.proofs.WalkBeginnings.{found_own, found_owner, here, own_of, same_word, Own}
 
 -- ---- one access
@@ -56,6 +56,7 @@ walked_nothing k c = record {
   told = λ m below own. inl (own, record { since = []; grows = sym (append-nil _); own = sym (append-nil _) });
   stays = λ m below none. refl;
   changes = knows_on_self c;
+  still = none_self (IsNoCell k) c;
 }
 
 -- what an access of a walk brought
@@ -104,7 +105,7 @@ module _ (k : Layout') (c : Card) (is : IsCardOf k c) (knows : KnowsOwn k c) whe
     knows = record { each = knows.each; offset = knows.offset };
     left = looks_arrives k u is.layout is.first is.thread (owns_in k c) (known k c) (WasSeen (remembering c (cell_place k m) n)) a m n false rest treated left (found_owner k c is (cell_place k m) n finds)
         (λ mine. record { found = finds; remembered = λ on. mark_put c.marks (cell_place k m) (fields_of n).waiters ∙ on; again = λ e. absurd (cc e) });
-    walked = λ first was. record { thread = was.thread; threads = was.threads; base = was.base; told = λ l below own. ⊎_elim (λ still. inl (still.0, record { since = still.1.since; grows = still.1.grows; own = still.1.own })) (λ told. inr (record { saw = record { since = told.saw.since; grows = told.saw.grows; own = told.saw.own }; last = told.last })) (was.told l below own); stays = was.stays; changes = was.changes };
+    walked = λ first was. record { thread = was.thread; threads = was.threads; base = was.base; told = λ l below own. ⊎_elim (λ still. inl (still.0, record { since = still.1.since; grows = still.1.grows; own = still.1.own })) (λ told. inr (record { saw = record { since = told.saw.since; grows = told.saw.grows; own = told.saw.own }; last = told.last })) (was.told l below own); stays = was.stays; changes = was.changes; still = was.still };
     count = refl;
   }
 
@@ -263,6 +264,7 @@ module _ (k : Layout') (c : Card) (is : IsCardOf k c) (knows : KnowsOwn k c) whe
           cc (nobody, owns_here)))
           (λ other. sees.elsewhere (cell_place k l) (other_cell k m l other) ∙ was.stays l below none);
       changes = knows_on_then first c d was.changes (knows_on_by c d q n (left_by_mark v n) marks.writes);
+      still = none_then (λ x. x ≢ q) (IsNoCell k) first c d was.thread (λ x none. none m treated.0) was.still (none_by c d q n (left_by_mark v n) marks.writes);
     }
 
     counted : (b : Bool) → Sees c q (deaths u q b) (object_of (fields_of (left_word b))) d → Run (object_of (fields_of n)) (deaths u q b) (object_of (fields_of (left_word b))) → held d ≡ count_after (held c) (point_of u (Mark a v tried rest) (answered b))
@@ -334,6 +336,7 @@ walked_to_end k first d was none knows = record {
   told = λ m below own. ⊎_elim (λ still. absurd (let nobody = none m below in let somebody = still.0 in cc (nobody, somebody))) (λ told. told) (was.told m below own);
   stays = was.stays;
   changes = was.changes;
+  still = was.still;
   none = none;
   knows = knows;
 }

@@ -1,5 +1,5 @@
 -- Which words the cells of mutexes and the counters of condition variables had, one after the other, and who wrote each.
-use Rattle.std.specs.Prelude.{◌≡◌, ◌≢◌, ℕ, zero, suc, ◌<◌, ◌≤◌, ◌==◌, not, List, [], ◌∷◌, ◌++◌, filter, length, map, slice_index, if◌then◌else◌}
+use Rattle.std.specs.Prelude.{◌≡◌, ◌≢◌, ℕ, zero, suc, ◌+◌, ◌<◌, ◌≤◌, ◌==◌, not, List, [], ◌∷◌, ◌++◌, filter, length, map, slice_index, if◌then◌else◌}
 use mathlib.Core.Option.{some}
 use mathlib.Core.List.{IsPrefix}
 use lib.ListN.{get_elem?}
@@ -47,6 +47,11 @@ change_of t n v = if v == n then [] else record { thread = t; word = v } ∷ []
 -- at first each word is as it was given, which no thread did
 abbrev pub first_changes : List ℕ → List (List Change)
 first_changes ws = map (λ (w : ℕ). record { thread = 0; word = w } ∷ []) ws
+
+-- nothing is known of n words; these changes are of those behind
+abbrev pub behind_unknown : ℕ → List (List Change) → List (List Change)
+behind_unknown zero xs = xs
+behind_unknown (suc n) xs = [] ∷ behind_unknown n xs
 
 -- ---- who made them
 
@@ -97,6 +102,18 @@ pub record ChangedNothing (c : Card) (p : ℕ) (d : Card) : Type 0 where
   pub since : List Change
   pub others : made_by c.thread since ≡ []
   pub grows : changes_at d.changes p ≡ changes_at c.changes p ++ since
+
+-- a thread has changed none of these words: of each, all that it knows more of are others' changes
+abbrev pub ChangedNone : (ℕ → Type 0) → Card → Card → Type 0
+ChangedNone P c d = (p : ℕ) → P p → made_by c.thread (changes_at d.changes p) ≡ made_by c.thread (changes_at c.changes p)
+
+-- a thread has counted once at p, the counter of a condition variable whose mutex's cell is at z: it left one more than what it found there, which is what it loaded last. Of other words, but for the cell, it has changed none
+pub record CountedOnce (c : Card) (z p : ℕ) (d : Card) : Type 0 where
+  pub since : List Change
+  pub others : made_by c.thread since ≡ []
+  pub grows : changes_at d.changes p ≡ (changes_at c.changes p ++ since) ++ record { thread = c.thread; word = d.counted + 1 } ∷ []
+  pub found : left_by (changes_at c.changes p ++ since) ≡ d.counted
+  pub elsewhere : ChangedNone (λ x. (x ≢ z) × (x ≢ p)) c d
 
 -- a thread has changed the cell at p once, and that last of all: the word that was there is the last that it found
 pub record ChangedOnce (c : Card) (p : ℕ) (d : Card) : Type 0 where

@@ -27,7 +27,7 @@ use Rattle.ruledwords.specs.declared.pass.Live.{Live}
 use Rattle.ruledwords.specs.declared.pass.Dead.{Dead}
 use Rattle.ruledwords.specs.Cards.{at, value_at, mark_at}
 use Rattle.ruledwords.specs.ConditionCalls.{cond_call, cond_pass, IsCondRunningOf}
-use Rattle.ruledwords.specs.Changes.{ChangedNothing, Loaded}
+use Rattle.ruledwords.specs.Changes.{ChangedNothing, CountedOnce, Loaded}
 use Rattle.ruledwords.specs.Conditions.{cond_row_in, condition_at}
 use Rattle.ruledwords.specs.Counts.{cell_at, mutex_at}
 use Rattle.ruledwords.specs.OwnWords.{owns_in}
@@ -60,14 +60,18 @@ CountsBehind (cond.Broadcast (broadcast.SetWaiters seen)) n v = (n ≢ largest_c
 CountsBehind (cond.Broadcast (broadcast.Move seen)) n v = (n ≢ largest_counter) × (v ≡ Some (n + 1))
 CountsBehind r n v = Unit {0}
 
--- a wait has changed nothing at its counter; and behind its load the changes of that counter that its thread knows of leave what it loaded, by whose low half it sleeps
-abbrev pub LoadsBehind : CondRow → Card → ℕ → Card → Type 0
-LoadsBehind (cond.Wait wait.LoadCell) c p d = ChangedNothing c p d
-LoadsBehind (cond.Wait wait.LoadCounter) c p d = ChangedNothing c p d
-LoadsBehind (cond.Wait (wait.Release seen)) c p d = Loaded c p d × (seen ≡ d.counted % 2 ^ 32)
-LoadsBehind (cond.Wait (wait.Wake seen)) c p d = Loaded c p d × (seen ≡ d.counted % 2 ^ 32)
-LoadsBehind (cond.Wait (wait.Sleep seen)) c p d = Loaded c p d × (seen ≡ d.counted % 2 ^ 32)
-LoadsBehind r c p d = Unit {0}
+-- a wait has changed nothing at its counter; and behind its load the changes of that counter that its thread knows of leave what it loaded, by whose low half it sleeps. A signal and a broadcast have counted there once, behind
+-- their point
+abbrev pub LoadsBehind : CondRow → Card → ℕ → ℕ → Card → Type 0
+LoadsBehind (cond.Wait wait.LoadCell) c z p d = ChangedNothing c p d
+LoadsBehind (cond.Wait wait.LoadCounter) c z p d = ChangedNothing c p d
+LoadsBehind (cond.Wait (wait.Release seen)) c z p d = Loaded c p d × (seen ≡ d.counted % 2 ^ 32)
+LoadsBehind (cond.Wait (wait.Wake seen)) c z p d = Loaded c p d × (seen ≡ d.counted % 2 ^ 32)
+LoadsBehind (cond.Wait (wait.Sleep seen)) c z p d = Loaded c p d × (seen ≡ d.counted % 2 ^ 32)
+LoadsBehind (cond.Signal signal.Wake) c z p d = CountedOnce c z p d
+LoadsBehind (cond.Broadcast (broadcast.SetWaiters seen)) c z p d = CountedOnce c z p d
+LoadsBehind (cond.Broadcast (broadcast.Move seen)) c z p d = CountedOnce c z p d
+LoadsBehind r c z p d = Unit {0}
 
 -- before it moves sleepers to the cell, it has set WAITERS there
 abbrev pub WaitersBehind : CondRow → Bool → Type 0
@@ -92,7 +96,7 @@ pub record CondStands (k : Layout') (q : ℕ) (op : Operation) (c : Card) (r : C
   pub counts : CountsBehind r d.counted (value_at d.values (counter_place k q))
   pub waiters : WaitersBehind r (mark_at d.marks (cell_at k q))
   pub usable : UsableBehind k q r d
-  pub loads : LoadsBehind r c (counter_place k q) d
+  pub loads : LoadsBehind r c (cell_at k q) (counter_place k q) d
 
 -- the reply of a call that ends: to whom doesn't own the mutex EPERM. A wait is refused with X_STATE where the last owner's death isn't declared; a signal and a broadcast with X_FULL exactly where the
 -- counter that was loaded is full
@@ -106,6 +110,14 @@ CountsOnce OK n v = v ≡ Some (n + 1)
 CountsOnce XFULL n v = v ≡ Some n
 CountsOnce x n v = Unit {0}
 
+-- a signal or a broadcast that is answered OK has counted once, at the counter at p, and one that is answered X_FULL has found that full and left it so. (No other call counts anywhere)
+abbrev pub CountsThere : Operation → Reply → Card → ℕ → ℕ → Card → Type 0
+CountsThere operation.Signal OK c z p d = CountedOnce c z p d
+CountsThere operation.Signal XFULL c z p d = Loaded c p d
+CountsThere operation.Broadcast OK c z p d = CountedOnce c z p d
+CountsThere operation.Broadcast XFULL c z p d = Loaded c p d
+CountsThere op x c z p d = Unit {0}
+
 -- a broadcast that is answered OK has set WAITERS
 abbrev pub SetsWaiters : Operation → Reply → Bool → Type 0
 SetsWaiters operation.Broadcast OK b = b ≡ true
@@ -117,6 +129,7 @@ pub record CondEnded (k : Layout') (q : ℕ) (op : Operation) (x : Reply) (c d :
   pub reply : x ≡ cond_reply op (owns_in k c (mutex_at k q)) d.counted
   pub counts : CountsOnce x d.counted (value_at d.values (counter_place k q))
   pub waiters : SetsWaiters op x (mark_at d.marks (cell_at k q))
+  pub there : CountsThere op x c (cell_at k q) (counter_place k q) d
 
 -- a call that began at the pass a is under way
 abbrev pub IsCondUnderWay : Words → Pass Live → CondCall → CondRunning → Type 0
@@ -143,15 +156,17 @@ CondGoesOn w a c (Lives b x) = IsLive w b × CondEnded (layout_of w) (condition_
 abbrev pub CondKeeps : Words → CondRunning → CondTurn → Type 0
 CondKeeps w r turn = (a : Pass Live) (c : CondCall) → IsCondUnderWay w a c r → CondGoesOn w a c turn
 
--- a thread that has released its mutex in a wait has loaded the counter at p
-abbrev pub LoadedBehind : List Act → Card → ℕ → Card → Type 0
-LoadedBehind ((operation.Unlock, x) ∷ acts) c p d = Loaded c p d
-LoadedBehind acts c p d = Unit {0}
+-- a thread that has released its mutex in a wait has loaded the counter at p; and one whose signal or broadcast has taken effect has counted there, where the counter wasn't full
+abbrev pub LoadedBehind : List Act → Card → ℕ → ℕ → Card → Type 0
+LoadedBehind ((operation.Unlock, x) ∷ acts) c z p d = Loaded c p d
+LoadedBehind ((operation.Signal, OK) ∷ acts) c z p d = CountedOnce c z p d × (d.counted ≢ largest_counter)
+LoadedBehind ((operation.Broadcast, OK) ∷ acts) c z p d = CountedOnce c z p d × (d.counted ≢ largest_counter)
+LoadedBehind acts c z p d = Unit {0}
 
 -- a thread died in a call on condition variable q: it had made all of the call's points, or some of the first
 pub record DiesOn (k : Layout') (q : ℕ) (op : Operation) (c d : Card) : Type 0 where
   pub died : Died c (cell_at k q) op d
-  pub loaded : LoadedBehind died.acts c (counter_place k q) d
+  pub loaded : LoadedBehind died.acts c (cell_at k q) (counter_place k q) d
 
 -- its thread died in it
 abbrev pub HasDiedInCondition : Words → Pass Live → CondCall → Pass Dead → Type 0

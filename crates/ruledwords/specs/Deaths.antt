@@ -1,5 +1,5 @@
 -- The kernel's walk for a thread that died, on what the thread's pass knows (robust-futexes; get_robust_list(2)).
-use Rattle.std.specs.Prelude.{◌≡◌, ℕ, ◌<◌, ◌==◌, ◌⊎◌, Bool, true, false, Some, List, [], ◌∷◌, ◌++◌, if◌then◌else◌}
+use Rattle.std.specs.Prelude.{◌≡◌, ◌≢◌, ℕ, ◌<◌, ◌==◌, ◌⊎◌, Bool, true, false, Some, List, [], ◌∷◌, ◌++◌, if◌then◌else◌}
 use Rattle.lockword.specs.Cells.{fields_of}
 use Rattle.lockword.specs.declared.reply.Reply.TheVariants.{OK}
 use Rattle.stepprograms.specs.declared.access.Access.{Access}
@@ -28,7 +28,7 @@ use Rattle.ruledwords.specs.declared.turn.Walked.TheVariants as walked
 use Rattle.ruledwords.specs.Cards.{at, mark_at, put_mark}
 use Rattle.ruledwords.specs.Seen.{by, holds, EndsWith, Sees}
 use Rattle.ruledwords.specs.Calls.{OwnKept}
-use Rattle.ruledwords.specs.Changes.{KnowsOn, Writes}
+use Rattle.ruledwords.specs.Changes.{ChangedNone, KnowsOn, Writes}
 use Rattle.ruledwords.specs.Lists.{known}
 use Rattle.ruledwords.specs.Looks.{Finds}
 use Rattle.ruledwords.specs.OwnWords.{owns_in, KnowsOwn}
@@ -107,6 +107,10 @@ pub record TellsDeath (c : Card) (q : ℕ) (d : Card) : Type 0 where
   pub saw : SawThere c q (deaths c.thread q true) d
   pub last : EndsWith (at d.seen q) (deaths c.thread q true)
 
+-- no mutex's cell is there
+abbrev pub IsNoCell : Layout' → ℕ → Type 0
+IsNoCell k p = (m : ℕ) → m < k.mutexes → p ≢ cell_place k m
+
 -- so far: of each mutex that the thread held at the card c its death is told, or it holds the mutex still; of no other is anything seen anew
 pub record HasWalked (k : Layout') (c d : Card) : Type 0 where
   pub thread : d.thread ≡ c.thread
@@ -115,6 +119,7 @@ pub record HasWalked (k : Layout') (c d : Card) : Type 0 where
   pub told : (m : ℕ) → m < k.mutexes → owns_in k c m ≡ true → ((owns_in k d m ≡ true) × SawThere c (cell_place k m) [] d) ⊎ TellsDeath c (cell_place k m) d
   pub stays : (m : ℕ) → m < k.mutexes → owns_in k c m ≡ false → at d.seen (cell_place k m) ≡ at c.seen (cell_place k m)
   pub changes : KnowsOn c d
+  pub still : ChangedNone (IsNoCell k) c d
 
 -- at its end: of each mutex that the thread held when it died, its death is told, and it holds nothing any more; what it has seen of any other mutex stays. It knows its own words still
 pub record IsReaped (k : Layout') (c d : Card) : Type 0 where
@@ -124,6 +129,7 @@ pub record IsReaped (k : Layout') (c d : Card) : Type 0 where
   pub told : (m : ℕ) → m < k.mutexes → owns_in k c m ≡ true → TellsDeath c (cell_place k m) d
   pub stays : (m : ℕ) → m < k.mutexes → owns_in k c m ≡ false → at d.seen (cell_place k m) ≡ at c.seen (cell_place k m)
   pub changes : KnowsOn c d
+  pub still : ChangedNone (IsNoCell k) c d
   pub none : OwnsNothing k (owns_in k d)
   pub knows : KnowsOwn k d
 

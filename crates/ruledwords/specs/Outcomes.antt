@@ -104,9 +104,13 @@ Frees w m a (released.Dead d) = IsDying w d × Died (card a) (cell_place (layout
 abbrev pub FreesFrom : Words → Pass Live → Whole → Released → Type 0
 FreesFrom w a p o = (x : Pass Live) (m : ℕ) → IsReleasing w x m a p → Frees w m x o
 
+-- its thread, whose card is d now, has seen no more of any mutex
+abbrev pub SeesNoMore : Words → Owed → Card → Type 0
+SeesNoMore w o d = (m : ℕ) → IsOnMutex (layout_of w) (running_program (owed_running o)) m → HasSeenTheSame (cell_place (layout_of w) m) (card (owed_pass o)) d
+
 -- an unlock ends exactly where nobody is to be woken: then its entry is pending no more. Nothing is seen anew
 abbrev pub Settles : Words → Owed → Result (Pass Live) Owed → Type 0
-Settles w o (Ok b) = (owed_wakes o ≡ Nobody) × IsLive w b × HasSeenTheSame (card (owed_pass o)) (card b)
+Settles w o (Ok b) = (owed_wakes o ≡ Nobody) × IsLive w b × SeesNoMore w o (card b)
 Settles w o (Err v) = ¬ (owed_wakes o ≡ Nobody) × (v ≡ o)
 
 -- a thread that dies before the end of its unlock makes no point. What it has seen stays

@@ -15,9 +15,10 @@ use Rattle.posixmutex.specs.declared.object.Object.{Object}
 use Rattle.memorymap.specs.Layouts.{Layout', IsLayout, head_place, cell_place, counter_place, words_of, base_of, address_in, cell_offset, first_word}
 use Rattle.posixmutex.specs.Objects.{object_of}
 use Rattle.ruledwords.specs.declared.pass.Card.{Card}
+use Rattle.ruledwords.specs.declared.pass.Change.{Change}
 use Rattle.ruledwords.specs.declared.pass.Opening.{Opening}
 use Rattle.ruledwords.specs.Cards.{at, value_at, put_value, mark_at}
-use Rattle.ruledwords.specs.Changes.{Recorded}
+use Rattle.ruledwords.specs.Changes.{behind_unknown, changes_at, first_changes, left_by, AllTied, AreBehindFirst, Recorded}
 use Rattle.ruledwords.specs.Counts.{Counted}
 use Rattle.ruledwords.specs.Seen.{by, Leaves, Joined}
 
@@ -31,14 +32,18 @@ opening_word k counters = first_word k (slice_index counters)
 abbrev pub first_values : Layout' → ℕ → List (Option ℕ)
 first_values k t = put_value (put_value (put_value [] (head_place t) (Some (address_in k t (head_place t)))) (head_place t + 1) (Some cell_offset)) (head_place t + 2) (Some 0)
 
--- what thread t of a layout knows at first: its own head, and nothing of any mutex
-abbrev pub first_card : Layout' → ℕ → Card
-first_card k t = record { threads = k.threads; thread = t; base = base_of k t; seen = []; misses = 0; last = 0; trims = 0; counted = 0; values = first_values k t; marks = []; changes = [] }
+-- a thread knows what the counters begin with, and nothing of the cells' words
+abbrev pub first_known : Layout' → List ℕ → List (List Change)
+first_known k counters = behind_unknown (counter_place k 0) (first_changes counters)
+
+-- what thread t of a layout knows at first, whose counters begin with these values: its own head, these values, and nothing of any mutex
+abbrev pub first_card : Layout' → List ℕ → ℕ → Card
+first_card k counters t = record { threads = k.threads; thread = t; base = base_of k t; seen = []; misses = 0; last = 0; trims = 0; counted = 0; values = first_values k t; marks = []; changes = first_known k counters }
 
 -- the cards of so many threads from t on
-abbrev pub hand : Layout' → ℕ → ℕ → List Card
-hand k t zero = []
-hand k t (suc more) = first_card k t ∷ hand k (t + 1) more
+abbrev pub hand : Layout' → List ℕ → ℕ → ℕ → List Card
+hand k counters t zero = []
+hand k counters t (suc more) = first_card k counters t ∷ hand k counters (t + 1) more
 
 -- ---- what the rule's key says
 
@@ -137,10 +142,15 @@ pub record IsAmong (histories : List (List Point)) (c : Card) : Type 0 where
   pub begins : (p : ℕ) → IsPrefix (at c.seen p) (at histories p)
   pub own : (p : ℕ) → by c.thread (at histories p) ≡ by c.thread (at c.seen p)
 
--- the last words: each cell is as one legal list of its mutex says, in which is what these passes saw, all of them. A cell has no bits above its flags. The counters count what counts in these lists
+-- the last words: each cell is as one legal list of its mutex says, in which is what these passes saw, all of them. A cell has no bits above its flags. The counters count what counts in these lists; and each is as the
+-- changes of it leave it, all that were made, of which these passes know the first and their threads' own
 pub record Ends (k : Layout') (presets : List ℕ) (cards : List Card) (words : List ℕ) : Type 0 where
   pub histories : List (List Point)
   pub leaves : (m : ℕ) → m < k.mutexes → Leaves k.threads (cell_place k m) (at histories (cell_place k m)) (object_of (fields_of (slice_index words (cell_place k m))))
   pub narrow : (m : ℕ) → m < k.mutexes → (fields_of (slice_index words (cell_place k m))).rest ≡ 0
   pub counted : Counted k presets words histories
+  pub changes : List (List Change)
+  pub count : (q : ℕ) → q < length k.conditions → left_by (changes_at changes (counter_place k q)) ≡ slice_index words (counter_place k q)
+  pub authors : (p : ℕ) → AreBehindFirst k.threads (changes_at changes p)
+  pub tied : AllTied changes cards
   pub among : All (IsAmong histories) cards

@@ -11,10 +11,11 @@ use Rattle.posixmutex.specs.declared.point.Operation.TheVariants.{Lock, TryLock,
 use Rattle.posixmutex.specs.declared.point.Point.{Point}
 use Rattle.posixmutex.specs.declared.object.Object.{Object}
 use Rattle.posixmutex.specs.Objects.{fresh, Run}
+use Rattle.condvar.specs.Laws.{reply_counts}
 use Rattle.facts.specs.Lives.{Act, Beginning}
 use Rattle.ruledwords.specs.declared.pass.Card.{Card}
 use Rattle.ruledwords.specs.Cards.{at}
-use Rattle.ruledwords.specs.Changes.{KnowsOn}
+use Rattle.ruledwords.specs.Changes.{ChangedNone, KnowsOn}
 
 -- the points that thread t made
 abbrev pub by : ℕ → List Point → List Point
@@ -74,8 +75,13 @@ pub record Sees (c : Card) (p : ℕ) (new : List Point) (o : Object) (d : Card) 
 abbrev pub points_of : ℕ → ℕ → List Act → List Point
 points_of t p acts = map (λ (a : Act). record { thread = t; at = p; operation = a.0; reply = a.1 }) acts
 
+-- how many of these acts count at a condition variable's counter: the signals and the broadcasts that were answered OK
+abbrev pub count_acts : List Act → ℕ
+count_acts [] = 0
+count_acts (a ∷ acts) = reply_counts a.0 a.1 + count_acts acts
+
 -- a thread saw more of the mutex whose cell is at p: behind what it had seen stand other threads' points and its own new ones, which decided so, in this order. What it saw elsewhere stays. What it knew of words' changes
--- begins what it knows of them
+-- begins what it knows of them; and it has changed no other word, if none of its acts counts
 pub record Saw (c : Card) (p : ℕ) (acts : List Act) (d : Card) : Type 0 where
   pub thread : d.thread ≡ c.thread
   pub threads : d.threads ≡ c.threads
@@ -85,6 +91,7 @@ pub record Saw (c : Card) (p : ℕ) (acts : List Act) (d : Card) : Type 0 where
   pub grows : at d.seen p ≡ at c.seen p ++ since
   pub own : by c.thread (at d.seen p) ≡ by c.thread (at c.seen p) ++ points_of c.thread p acts
   pub knows : KnowsOn c d
+  pub still : count_acts acts ≡ 0 → ChangedNone (λ x. x ≢ p) c d
 
 -- the one list ends with the last point of the other, if that has any
 abbrev pub EndsWith : List Point → List Point → Type 0

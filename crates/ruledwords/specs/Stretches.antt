@@ -4,6 +4,7 @@ use Rattle.lockword.specs.declared.reply.Reply.{Reply}
 use Rattle.mutex.specs.declared.call.Call.{Call}
 use Rattle.mutex.specs.Standings.{Whole}
 use Rattle.mutex.specs.Whole.{whole_access}
+use Rattle.memorymap.specs.Layouts.{cell_place}
 use Rattle.ruledwords.specs.declared.pass.Card.{Card}
 use Rattle.ruledwords.specs.declared.pass.Words.{Words}
 use Rattle.ruledwords.specs.declared.pass.Pass.{Pass}
@@ -17,12 +18,12 @@ use Rattle.ruledwords.specs.declared.turn.Turn.TheVariants.{Goes, Lives}
 use Rattle.ruledwords.specs.Passes.{card, layout_of, IsDying}
 use Rattle.ruledwords.specs.Turns.{running_of, EndsIn, GoesOn, GoesOnDecided, HasDied, HasSeenTheSame, IsCallOf, IsDecided, IsOneStep, IsRunningOf, IsUnderWay, StaysIn, Turned}
 
--- a call that was decided, with the reply x at the card c, stands at p, with the pass a
-abbrev pub IsDecidedIn : Words → Card → Reply → Pass Live → Whole → Type 0
-IsDecidedIn w c x a p = (of : IsCallOf w a p) × IsDecided w c x (running_of w a p of)
+-- a call on mutex m that was decided, with the reply x at the card c, stands at p, with the pass a
+abbrev pub IsDecidedIn : Words → ℕ → Card → Reply → Pass Live → Whole → Type 0
+IsDecidedIn w m c x a p = (of : IsCallOf w a p) × IsDecided w m c x (running_of w a p of)
 
 abbrev pub StaysDecided : Words → Pass Live → Whole → Pass Live → Whole → Type 0
-StaysDecided w a p b q = (c : Card) (x : Reply) → IsDecidedIn w c x a p → IsDecidedIn w c x b q
+StaysDecided w a p b q = (m : ℕ) (c : Card) (x : Reply) → IsDecidedIn w m c x a p → IsDecidedIn w m c x b q
 
 -- a call that stood at p with the pass a stands at q now, with the pass b: wherever it began, and whatever it was decided
 abbrev pub ComesOn : Words → Pass Live → Whole → Pass Live → Whole → Type 0
@@ -31,7 +32,7 @@ ComesOn w a p b q = IsCallOf w b q × StaysIn w a p b q × StaysDecided w a p b 
 -- its thread died in it, or it replied
 abbrev pub ComesToEnd : Words → Pass Live → Whole → Pass Live → End → Type 0
 ComesToEnd w a p b end.Stopped = (q : Whole) × ComesOn w a p b q
-ComesToEnd w a p b (end.Replied y) = EndsIn w a p b (end.Replied y) × ((c : Card) (x : Reply) → IsDecidedIn w c x a p → GoesOnDecided w c x (Lives b y))
+ComesToEnd w a p b (end.Replied y) = EndsIn w a p b (end.Replied y) × ((m : ℕ) (c : Card) (x : Reply) → IsDecidedIn w m c x a p → GoesOnDecided w m c x (Lives b y))
 
 -- an access was made, or the call stays at its section, or it ended
 abbrev pub StepsOn : Words → Pass Live → Whole → Pass Live → Whole → Result Unit End → Type 0
@@ -56,11 +57,11 @@ StretchesFrom w a call (stretch.Goes r) = IsUnderWay w a call r
 StretchesFrom w a call (stretch.Lives b x) = GoesOn w a call (Lives b x)
 StretchesFrom w a call (stretch.Dead d) = HasDied w a call d
 
--- a call that was decided, with the reply x at the card c, has come to this
-abbrev pub StretchesDecided : Words → Card → Reply → Stretch → Type 0
-StretchesDecided w c x (stretch.Goes r) = IsDecided w c x r
-StretchesDecided w c x (stretch.Lives b y) = GoesOnDecided w c x (Lives b y)
-StretchesDecided w c x (stretch.Dead d) = IsDying w d × HasSeenTheSame c (card d)
+-- a call on mutex m that was decided, with the reply x at the card c, has come to this
+abbrev pub StretchesDecided : Words → ℕ → Card → Reply → Stretch → Type 0
+StretchesDecided w m c x (stretch.Goes r) = IsDecided w m c x r
+StretchesDecided w m c x (stretch.Lives b y) = GoesOnDecided w m c x (Lives b y)
+StretchesDecided w m c x (stretch.Dead d) = IsDying w d × HasSeenTheSame (cell_place (layout_of w) m) c (card d)
 
 -- one that goes on is a call on these words
 abbrev pub GoesOnThere : Words → Stretch → Type 0
@@ -70,7 +71,7 @@ GoesOnThere w s = Unit {0}
 -- by accesses that were made one after the other a running call has come to this: wherever it began, and whatever it was decided
 abbrev pub Stretches : Words → Running → Stretch → Type 0
 Stretches w r s =
-    GoesOnThere w s × ((a : Pass Live) (call : Call) → IsUnderWay w a call r → StretchesFrom w a call s) × ((c : Card) (x : Reply) → IsDecided w c x r → StretchesDecided w c x s)
+    GoesOnThere w s × ((a : Pass Live) (call : Call) → IsUnderWay w a call r → StretchesFrom w a call s) × ((m : ℕ) (c : Card) (x : Reply) → IsDecided w m c x r → StretchesDecided w m c x s)
 
 -- how often its thread was told to stop
 abbrev pub stops_stretching : Stretch → ℕ

@@ -173,21 +173,21 @@ Keeps w r turn = (a : Pass Live) (call : Call) → IsUnderWay w a call r → Goe
 
 -- ---- calls that are decided
 
--- the thread has seen no more of any mutex: what else it knows is of its own words, of the word that it found last, or of changes of cells, of which it knows what it knew, and maybe more
-abbrev pub HasSeenTheSame : Card → Card → Type 0
-HasSeenTheSame c d = (d ≡ record c { last = d.last; trims = d.trims; values = d.values; changes = d.changes }) × KnowsOn c d
+-- the thread has seen no more of any mutex: what else it knows is of its own words, of the word that it found last, or of changes of the cell at p, of which it knows what it knew, and maybe more
+abbrev pub HasSeenTheSame : ℕ → Card → Card → Type 0
+HasSeenTheSame p c d = (d ≡ record c { last = d.last; trims = d.trims; values = d.values; changes = d.changes }) × KnowsMoreAt c p d
 
--- a call is decided, with this reply, by what its thread has seen at the card c: it has only to wake, to trim and to end its list's change
-abbrev pub IsDecided : Words → Card → Reply → Running → Type 0
-IsDecided w c x r = IsRunningOf w r × (decided (running_program r).row ≡ Some x) × HasSeenTheSame c (card (running_pass r))
+-- a call on mutex m is decided, with this reply, by what its thread has seen at the card c: it has only to wake, to trim and to end its list's change
+abbrev pub IsDecided : Words → ℕ → Card → Reply → Running → Type 0
+IsDecided w m c x r = IsRunningOf w r × (decided (running_program r).row ≡ Some x) × IsOnMutex (layout_of w) (running_program r) m × HasSeenTheSame (cell_place (layout_of w) m) c (card (running_pass r))
 
-abbrev pub GoesOnDecided : Words → Card → Reply → Turn → Type 0
-GoesOnDecided w c x (Goes r) = IsDecided w c x r
-GoesOnDecided w c x (Lives b y) = IsLive w b × (y ≡ x) × HasSeenTheSame c (card b)
+abbrev pub GoesOnDecided : Words → ℕ → Card → Reply → Turn → Type 0
+GoesOnDecided w m c x (Goes r) = IsDecided w m c x r
+GoesOnDecided w m c x (Lives b y) = IsLive w b × (y ≡ x) × HasSeenTheSame (cell_place (layout_of w) m) c (card b)
 
 -- whatever it was decided, it ends so
 abbrev pub KeepsDecided : Words → Running → Turn → Type 0
-KeepsDecided w r turn = (c : Card) (x : Reply) → IsDecided w c x r → GoesOnDecided w c x turn
+KeepsDecided w r turn = (m : ℕ) (c : Card) (x : Reply) → IsDecided w m c x r → GoesOnDecided w m c x turn
 
 -- ---- in place
 

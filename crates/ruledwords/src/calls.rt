@@ -1,5 +1,6 @@
 //! The calls on mutexes, which wait for nobody; unlocks up to the waking of sleepers, and their end.
-ghost use Rattle.std.specs.Prelude.{◌≡◌, ◌<◌, ◌+◌};
+ghost use Rattle.std.specs.Prelude.{◌≡◌, ◌<◌, ◌+◌, ℕ};
+ghost use Rattle.ruledwords.specs.Calls.{IsOnMutex};
 ghost use Rattle.lockword.specs.declared.reply.Reply.TheVariants.{OK};
 ghost use Rattle.ruledwords.specs.Outcomes.{Tried, Frees, Declared, stops_in, stops_releasing, FreesFrom, owed_pass, owed_running, owed_wakes, IsOwedOf, Settles, Abandons};
 ghost use Rattle.ruledwords.specs.Passes.{layout_of, IsLive, card};
@@ -241,7 +242,7 @@ impl Running {
     /// Goes on with an unlock that has freed its mutex: the access that comes next is its wake, or, where nobody is to be woken, clears the thread's pending entry.
     pub fn owed(owed: Owed) -> Running
         ensures value { result ≡ owed_running owed }
-        ensures decided { (w : Words) → IsOwedOf w owed → IsDecided w (card (owed_pass owed)) OK result }
+        ensures decided { (w : Words) (m : ℕ) → IsOwedOf w owed → IsOnMutex (layout_of w) (running_program (owed_running owed)) m → IsDecided w m (card (owed_pass owed)) OK result }
     {
         let Owed { running, wakes: _ } = owed;
         running

@@ -13,7 +13,7 @@ impl PlaceRule<View, Opening> for History {
 
     ghost holds = { λ o. Kept o.layout (presets_in o) };
 
-    ghost first = { λ o. hand o.layout 1 o.layout.threads };
+    ghost first = { λ o. hand o.layout (presets_in o) 1 o.layout.threads };
 
     ghost how_many = { λ o. words_of o.layout };
 }

@@ -30,12 +30,12 @@ use Rattle.threadbench.specs.Jobs.{StopsAs, WasLost, Worked}
 -- an unlock whose mutex is freed, and whose sleepers are woken or not
 pub unlock_ends : (w : Words) (m : ℕ) (a : Pass Live) (o : Owed) (end : Outcome) → Frees w m a (Owes o) → Paid w o end → CallEnds w a (OnMutex (Unlock m)) end
 unlock_ends w m a o (outcome.Lives b r) freed paid =
-    let called = still_called (card a) (cell_place (layout_of w) m) ((operation.Unlock, OK) ∷ []) (card (owed_pass o)) (card b) paid.2 freed.1 in (
+    let called = still_called (card a) (cell_place (layout_of w) m) ((operation.Unlock, OK) ∷ []) (card (owed_pass o)) (card b) (paid.2 m freed.4) freed.1 in (
       paid.0,
       subst (λ (x : Reply). Called (card a) (cell_place (layout_of w) m) ((operation.Unlock, x) ∷ []) (card b)) (sym paid.1) called,
     )
 unlock_ends w m a o (outcome.Dead d) freed paid =
-    let called = still_called (card a) (cell_place (layout_of w) m) ((operation.Unlock, OK) ∷ []) (card (owed_pass o)) (card d) paid.1 freed.1 in (
+    let called = still_called (card a) (cell_place (layout_of w) m) ((operation.Unlock, OK) ∷ []) (card (owed_pass o)) (card d) (paid.1 m freed.4) freed.1 in (
       paid.0,
       record { acts = (operation.Unlock, OK) ∷ []; beginning = ([], OK, refl); saw = called.saw },
     )

@@ -1,5 +1,5 @@
 -- A call on a condition variable whose section was made, and a wait that takes its mutex again.
-use Rattle.std.proofs.Common.{inl, inr, ℕ, ◌<◌, List, [], ◌∷◌, ◌++◌, refl, sym, ap, ◌∙◌, subst}
+use Rattle.std.proofs.Common.{◌≡◌, inl, inr, ℕ, ◌<◌, List, [], ◌∷◌, ◌++◌, refl, sym, ap, ◌∙◌, subst}
 use Rattle.std.specs.Prelude.{Ok, Err}
 use Rattle.facts.specs.Lives.{Act, Beginning, Complete}
 use Rattle.lockword.specs.declared.reply.Reply.{Reply}
@@ -11,6 +11,8 @@ use Rattle.condvar.specs.declared.call.CondCall.{CondCall}
 use Rattle.condvar.specs.declared.call.CondCall.TheVariants.{Wait, Signal, Broadcast}
 use Rattle.condvar.specs.declared.row.CondRow.{CondRow}
 use Rattle.condvar.specs.declared.row.CondRow.TheVariants as cond
+use Rattle.condvar.specs.declared.broadcast.BroadcastRow.TheVariants as broadcast
+use Rattle.condvar.specs.declared.signal.SignalRow.TheVariants as signal
 use Rattle.condvar.specs.declared.wait.WaitRow.TheVariants as wait
 use Rattle.condvar.specs.Calls.{condition_of, operation_of}
 use Rattle.memorymap.specs.Layouts.{Layout', counter_place}
@@ -35,7 +37,7 @@ use Rattle.ruledwords.specs.Conditions.{cond_row_in, condition_at}
 use Rattle.ruledwords.specs.Counts.{cell_at, mutex_at}
 use Rattle.ruledwords.specs.Passes.{card, layout_of}
 use Rattle.ruledwords.specs.Turns.{running_pass}
-use Rattle.ruledwords.proofs.Changes.{knows_on_same, loaded_still, nothing_still}
+use Rattle.ruledwords.proofs.Changes.{counted_still, loaded_still, more_same, nothing_still}
 use Rattle.ruledwords.proofs.Keepers.{counter_no_cell}
 use Rattle.ruledwords.proofs.Noted.{saw_on, still_called, waited}
 use Rattle.threadbench.specs.Calls.{RanOut, Runs}
@@ -53,16 +55,23 @@ usable_noted k q (cond.Broadcast b) c n t zs u = tt
 usable_noted k q cond.Awake c n t zs u = tt
 usable_noted k q (cond.Ended x) c n t zs u = tt
 
-loads_noted : (r : CondRow) (a c : Card) (p n t : ℕ) → LoadsBehind r a p c → LoadsBehind r a p (noted c n t c.changes)
-loads_noted (cond.Wait wait.LoadCell) a c p n t l = nothing_still a c (noted c n t c.changes) p refl l
-loads_noted (cond.Wait wait.LoadCounter) a c p n t l = nothing_still a c (noted c n t c.changes) p refl l
-loads_noted (cond.Wait (wait.Release seen)) a c p n t l = (loaded_still a c (noted c n t c.changes) p refl refl l.0, l.1)
-loads_noted (cond.Wait (wait.Wake seen)) a c p n t l = (loaded_still a c (noted c n t c.changes) p refl refl l.0, l.1)
-loads_noted (cond.Wait (wait.Sleep seen)) a c p n t l = (loaded_still a c (noted c n t c.changes) p refl refl l.0, l.1)
-loads_noted (cond.Signal s) a c p n t l = tt
-loads_noted (cond.Broadcast b) a c p n t l = tt
-loads_noted cond.Awake a c p n t l = tt
-loads_noted (cond.Ended x) a c p n t l = tt
+loads_noted : (r : CondRow) (a c : Card) (z p n t : ℕ) → c.thread ≡ a.thread → LoadsBehind r a z p c → LoadsBehind r a z p (noted c n t c.changes)
+loads_noted (cond.Wait wait.LoadCell) a c z p n t same l = nothing_still a c (noted c n t c.changes) p refl l
+loads_noted (cond.Wait wait.LoadCounter) a c z p n t same l = nothing_still a c (noted c n t c.changes) p refl l
+loads_noted (cond.Wait (wait.Release seen)) a c z p n t same l = (loaded_still a c (noted c n t c.changes) p refl refl l.0, l.1)
+loads_noted (cond.Wait (wait.Wake seen)) a c z p n t same l = (loaded_still a c (noted c n t c.changes) p refl refl l.0, l.1)
+loads_noted (cond.Wait (wait.Sleep seen)) a c z p n t same l = (loaded_still a c (noted c n t c.changes) p refl refl l.0, l.1)
+loads_noted (cond.Signal signal.LoadCell) a c z p n t same l = tt
+loads_noted (cond.Signal signal.LoadCounter) a c z p n t same l = tt
+loads_noted (cond.Signal signal.Count) a c z p n t same l = tt
+loads_noted (cond.Signal signal.Wake) a c z p n t same l = counted_still a c (noted c n t c.changes) z p same refl refl (λ x there. refl) l
+loads_noted (cond.Broadcast broadcast.LoadCell) a c z p n t same l = tt
+loads_noted (cond.Broadcast broadcast.LoadCounter) a c z p n t same l = tt
+loads_noted (cond.Broadcast (broadcast.Count seen)) a c z p n t same l = tt
+loads_noted (cond.Broadcast (broadcast.SetWaiters seen)) a c z p n t same l = counted_still a c (noted c n t c.changes) z p same refl refl (λ x there. refl) l
+loads_noted (cond.Broadcast (broadcast.Move seen)) a c z p n t same l = counted_still a c (noted c n t c.changes) z p same refl refl (λ x there. refl) l
+loads_noted cond.Awake a c z p n t same l = tt
+loads_noted (cond.Ended x) a c z p n t same l = tt
 
 -- a call whose counter was looked at is under way as it was
 pub cond_still_under_way : (w : Words) (r r' : CondRunning) (a : Pass Live) (cl : CondCall) → CondUnmoved w r r' → IsCondUnderWay w a cl r → IsCondUnderWay w a cl r'
@@ -76,12 +85,12 @@ cond_still_under_way w r r' a cl m u =
           (subst (λ (p : CondWhole). CondStands k q (operation_of cl) (card a) (cond_row_in p.phase) (record (card (cond_pass r)) { last = (card (cond_pass r')).last; trims = (card (cond_pass r')).trims; changes = (card (cond_pass r)).changes })) (sym m.1)
           record {
             of = u.2.of;
-            called = still_called (card a) (cell_at k q) (cond_acts (cond_row_in (cond_call r).phase)) (card (cond_pass r)) looked (refl, knows_on_same (card (cond_pass r)) looked refl) u.2.called;
+            called = still_called (card a) (cell_at k q) (cond_acts (cond_row_in (cond_call r).phase)) (card (cond_pass r)) looked (refl, more_same (card (cond_pass r)) looked (cell_at k q) refl refl) u.2.called;
             owns = u.2.owns;
             counts = u.2.counts;
             waiters = u.2.waiters;
             usable = usable_noted k q (cond_row_in (cond_call r).phase) (card (cond_pass r)) (card (cond_pass r')).last (card (cond_pass r')).trims (card (cond_pass r)).changes u.2.usable;
-            loads = loads_noted (cond_row_in (cond_call r).phase) (card a) (card (cond_pass r)) (counter_place k q) (card (cond_pass r')).last (card (cond_pass r')).trims u.2.loads;
+            loads = loads_noted (cond_row_in (cond_call r).phase) (card a) (card (cond_pass r)) (cell_at k q) (counter_place k q) (card (cond_pass r')).last (card (cond_pass r')).trims u.2.called.saw.thread u.2.loads;
           }),
     )
 

@@ -65,7 +65,7 @@ impl Bench {
         ensures presets { IfOk result (λ r. presets_of r.0 ≡ presets.now) }
         ensures passes { IfOk result (λ r. length r.1.items ≡ layout.threads) }
         ensures each { IfOk result (λ r. All (λ p. IsLive r.0 p) r.1.items) }
-        ensures cards { IfOk result (λ r. (i : ℕ) (p : _) → slice_get r.1.items i ≡ Some p → card p ≡ first_card layout (i + 1)) }
+        ensures cards { IfOk result (λ r. (i : ℕ) (p : _) → slice_get r.1.items i ≡ Some p → card p ≡ first_card layout presets.now (i + 1)) }
     {
         let parkers = parkers(alloc)?;
         let buckets = buckets(alloc, layout.threads())?;

@@ -22,8 +22,21 @@ of_words-requires-clause-holds c =
     let words : c.as_slice.result.now ≡ c.in_ok-words.words.items = c.as_slice.ensures.value in
     let small : (q : ℕ) → slice_index c.args.presets.now q < 4294967296 = λ q. search rules in
     let presets = presets_are k c.args.presets.now c.in_ok-words.words.items c.requires (c.in_ok-words.ensures.count, c.in_ok-words.ensures.each) in
-    subst (λ (z : List ℕ × List ℕ). Kept k z.0 (opening z.1 [] (hand k 1 k.threads))) (λ i. (sym presets i, sym words i))
-    (opens_kept k c.args.presets.now c.in_ok-words.words.items c.in_ok-words.ensures.layout small (c.in_ok-words.ensures.count, c.in_ok-words.ensures.each))
+    subst (λ (z : List ℕ × List ℕ). Kept k z.0 (opening z.1 [] (hand k z.0 1 k.threads))) (λ i. (sym presets i, sym words i))
+    (opens_kept k c.args.presets.now c.in_ok-words.words.items c.in_ok-words.ensures.layout small (c.in_ok-words.ensures.count, c.in_ok-words.ensures.each) presets)
+
+pub loop-before-init : goal.loop-before-init
+loop-before-init c =
+    let k = c.args.layout in
+    let presets = presets_are k c.args.presets.now c.in_ok-words.words.items c.requires (c.in_ok-words.ensures.count, c.in_ok-words.ensures.each) in
+    let opened = c.in_ok-places.ensures in
+    let all : k.threads ≡ k.threads - 0 = omega arith in
+    record {
+      table = search rules;
+      left = opened.3 ∙ ap (λ (ns : List ℕ). (hand k ns 1 k.threads, [])) presets ∙ ap (λ (n : ℕ). (hand k c.args.presets.now 1 n, [])) all;
+      count = search rules;
+      dealt = search rules;
+    }
 
 pub split_seat-mine-requires-clause-step : goal.split_seat-mine-requires-clause-step
 split_seat-mine-requires-clause-step c = (c.loop-before.invariant.table, deals _ _ _)
@@ -34,8 +47,8 @@ invariant_of-pass c =
     let test = c.loop-before-test.true in
     let all = c.threads-threads.ensures.value in
     let more : 0 < left = omega arith in
-    let one = is_one _ (first_card c.args.layout (c.loop-before.before + 1))
-    (c.split_seat-mine.ensures.4 ∙ ap (λ (m : Sat). (first_of m.0, [])) c.loop-before.invariant.left ∙ ap (λ l. (l, [])) (dealt_first c.args.layout (c.loop-before.before + 1) left more)) in
+    let one = is_one _ (first_card c.args.layout c.args.presets.now (c.loop-before.before + 1))
+    (c.split_seat-mine.ensures.4 ∙ ap (λ (m : Sat). (first_of m.0, [])) c.loop-before.invariant.left ∙ ap (λ l. (l, [])) (dealt_first c.args.layout c.args.presets.now (c.loop-before.before + 1) left more)) in
     record { one = one.0; own = ap (λ (z : Card). z.thread) one.1 ∙ sym c.thread_after.ensures; count = ap held (sym one.1); few = search rules }
 
 pub loop-before-preserved : goal.loop-before-preserved
@@ -45,17 +58,17 @@ loop-before-preserved c =
     let all = c.threads-threads.ensures.value in
     let more : 0 < left = omega arith in
     let fewer : left - 1 ≡ c.args.layout.threads - (c.loop-before.before + 1) = omega arith in
-    let one = is_one _ (first_card c.args.layout (c.loop-before.before + 1))
-    (c.split_seat-mine.ensures.4 ∙ ap (λ (m : Sat). (first_of m.0, [])) c.loop-before.invariant.left ∙ ap (λ l. (l, [])) (dealt_first c.args.layout (c.loop-before.before + 1) left more)) in
+    let one = is_one _ (first_card c.args.layout c.args.presets.now (c.loop-before.before + 1))
+    (c.split_seat-mine.ensures.4 ∙ ap (λ (m : Sat). (first_of m.0, [])) c.loop-before.invariant.left ∙ ap (λ l. (l, [])) (dealt_first c.args.layout c.args.presets.now (c.loop-before.before + 1) left more)) in
     record {
       table = search rules;
       left = c.split_seat-mine.ensures.2 ∙ ap (λ (m : Sat). (rest_of m.0, m.1)) c.loop-before.invariant.left
-          ∙ ap (λ l. (l, [])) (dealt_rest c.args.layout (c.loop-before.before + 1) left more ∙ ap (λ (n : ℕ). hand c.args.layout (c.loop-before.before + 1 + 1) n) fewer);
+          ∙ ap (λ l. (l, [])) (dealt_rest c.args.layout c.args.presets.now (c.loop-before.before + 1) left more ∙ ap (λ (n : ℕ). hand c.args.layout c.args.presets.now (c.loop-before.before + 1 + 1) n) fewer);
       count = search rules;
       dealt = λ j p e. ⊎_elim
           (λ was. c.loop-before.invariant.dealt j p was)
           (λ (t : (j ≡ length c.loop-before.passes.items) × (_ ≡ p)).
-          subst (λ (z : ℕ × Pass Live). (z.1.seat.table_id ≡ c.in_ok-places.places.table.shared.table_id) × (card_of z.1.seat.me.0 ≡ first_card c.args.layout (z.0 + 1)))
+          subst (λ (z : ℕ × Pass Live). (z.1.seat.table_id ≡ c.in_ok-places.places.table.shared.table_id) × (card_of z.1.seat.me.0 ≡ first_card c.args.layout c.args.presets.now (z.0 + 1)))
           (λ i. (sym (t.0 ∙ c.loop-before.invariant.count) i, t.1 i))
           (c.split_seat-mine.ensures.3 ∙ c.loop-before.invariant.table, one.1))
           (get_snoc c.loop-before.passes.items _ p j (subst (λ l. slice_get l j ≡ Some p) c.in_ok-push.ensures.items e));
@@ -74,7 +87,7 @@ returns-clause-each c i other low =
     let end = c.loop-before.auto in
     let last : i + 1 ≤ c.args.layout.threads = omega arith in
     let layout = c.in_ok-words.ensures.layout in
-    ((d.0, subst (IsCardOf c.args.layout) (sym d.1) (first_is c.args.layout (i + 1) layout (omega arith) last)), subst (IsAlive c.args.layout) (sym d.1) (alive_first c.args.layout (i + 1) layout (omega arith) last))
+    ((d.0, subst (IsCardOf c.args.layout) (sym d.1) (first_is c.args.layout c.args.presets.now (i + 1) layout (omega arith) last)), subst (IsAlive c.args.layout) (sym d.1) (alive_first c.args.layout c.args.presets.now (i + 1) layout (omega arith) last))
 
 pub returns-clause-cards : goal.returns-clause-cards
 returns-clause-cards c i p e = (c.loop-before.invariant.dealt i p e).1

@@ -58,7 +58,7 @@ returns-in-Goes-clause-keeps c = λ w a call u.
     (runs_answered w r u.0 at x fits c.resume.new.self to under, s.0, s.1)
 
 pub returns-in-Goes-clause-decided : goal.returns-in-Goes-clause-decided
-returns-in-Goes-clause-decided c = λ w e y was.
+returns-in-Goes-clause-decided c = λ w m e y was.
     let r = c.args.self in
     let p : Whole = r.program in
     let x = c.args.answer in
@@ -67,8 +67,8 @@ returns-in-Goes-clause-decided c = λ w e y was.
     let to : c.resume.new.self ≡ whole_moved p (whole_led p x) = c.resume.ensures.moved in
     let going = goes_under_way (whole_point p (whole_led p x).point) (whole_led p x).phase c.resume.result c.in-Goes.point c.in-Goes.is c.resume.ensures.progress in
     let under = subst (λ (q : Whole). IsUnderWay q.phase) (sym to) going.0 in
-    let s = decided_answered w r was.0 at x fits c.resume.new.self to e y was in
-    (runs_answered w r was.0 at x fits c.resume.new.self to under, s.0, s.1)
+    let s = decided_answered w r was.0 at x fits c.resume.new.self to m e y was in
+    (runs_answered w r was.0 at x fits c.resume.new.self to under, s.0, s.1, s.2)
 
 pub returns-in-Returns-clause-turned : goal.returns-in-Returns-clause-turned
 returns-in-Returns-clause-turned c =
@@ -108,7 +108,7 @@ returns-in-Returns-clause-keeps c = λ w a call u.
     (lives_answered w r u.0 at x fits c.resume.new.self to c.in-Returns.reply ended, s.0, s.1, s.2)
 
 pub returns-in-Returns-clause-decided : goal.returns-in-Returns-clause-decided
-returns-in-Returns-clause-decided c = λ w e y was.
+returns-in-Returns-clause-decided c = λ w m e y was.
     let r = c.args.self in
     let p : Whole = r.program in
     let x = c.args.answer in
@@ -117,4 +117,4 @@ returns-in-Returns-clause-decided c = λ w e y was.
     let to : c.resume.new.self ≡ whole_moved p (whole_led p x) = c.resume.ensures.moved in
     let back = returns_ended (whole_point p (whole_led p x).point) (whole_led p x).phase c.resume.result c.in-Returns.reply c.in-Returns.point c.in-Returns.is c.resume.ensures.progress in
     let ended : c.resume.new.self.phase ≡ Ended c.in-Returns.reply = ap (λ (q : Whole). q.phase) to ∙ back.0 in
-    (lives_answered w r was.0 at x fits c.resume.new.self to c.in-Returns.reply ended, reply_answered w r was.0 at x fits c.resume.new.self to c.in-Returns.reply ended e y was, was.2)
+    (lives_answered w r was.0 at x fits c.resume.new.self to c.in-Returns.reply ended, reply_answered w r was.0 at x fits c.resume.new.self to c.in-Returns.reply ended m e y was, was.3)

@@ -15,6 +15,6 @@ returns-clause-keeps g c = λ a call u.
     c.answer.ensures.keeps c.args.self.now a call (still_under_way c.args.self.now c.args.running c.trim_in-trimmed.new.running a call same u)
 
 pub returns-clause-decided : goal.returns-clause-decided
-returns-clause-decided g c = λ e x was.
+returns-clause-decided g c = λ m e x was.
     let same = subst (λ (w : Words). Unmoved w c.args.running c.trim_in-trimmed.new.running) c.self.view_is c.trim_in-trimmed.ensures.unmoved in
-    c.answer.ensures.decided c.args.self.now e x (still_decided c.args.self.now c.args.running c.trim_in-trimmed.new.running e x same was)
+    c.answer.ensures.decided c.args.self.now m e x (still_decided c.args.self.now c.args.running c.trim_in-trimmed.new.running m e x same was)
