@@ -22,10 +22,8 @@ use Rattle.ruledwords.specs.declared.pass.Change.{Change}
 use Rattle.ruledwords.specs.Changes.{changes_at, left_by, left_of, made_by, made_by_others, CountedOnce, KnowsOn, Loaded}
 use Rattle.ruledwords.specs.ConditionStands.{CondEnded, CountsThere, DiesOn, LoadedBehind}
 use Rattle.ruledwords.specs.Counts.{cell_at, mutex_at}
-use Rattle.ruledwords.specs.Deaths.{IsReaped}
 use Rattle.ruledwords.specs.OwnWords.{owns_in}
 use Rattle.ruledwords.specs.Seen.{count_acts, held, Called, Died, Saw}
-use Rattle.ruledwords.proofs.Changes.{knows_on_self}
 use Rattle.ruledwords.proofs.Keepers.{counter_no_cell}
 use Rattle.threadbench.specs.Answered.{DiesIn, Replied}
 use Rattle.threadbench.specs.Conditions.{TookAgain}

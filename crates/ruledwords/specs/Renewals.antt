@@ -1,5 +1,5 @@
 -- Threads whose ids are used again (get_robust_list(2)).
-use Rattle.std.specs.Prelude.{ℕ, ◌+◌}
+use Rattle.std.specs.Prelude.{◌+◌}
 use Rattle.memorymap.specs.Layouts.{Layout', address_in, head_place}
 use Rattle.ruledwords.specs.declared.pass.Card.{Card}
 use Rattle.ruledwords.specs.declared.pass.Pass.{Pass}

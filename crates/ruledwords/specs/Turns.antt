@@ -37,7 +37,7 @@ use Rattle.ruledwords.specs.Rules.{card_of, IsOne}
 use Rattle.ruledwords.specs.Passes.{card, layout_of, IsCardOf, IsPassOf, IsLive, IsDying}
 use Rattle.ruledwords.specs.Calls.{IsOnMutex, Made, OwnKept, Ready, Stands, most, row_in, standing_of}
 use Rattle.ruledwords.specs.Lists.{known, IsInCall}
-use Rattle.ruledwords.specs.Changes.{KnowsMoreAt, KnowsOn, OthersChanged}
+use Rattle.ruledwords.specs.Changes.{KnowsMoreAt, OthersChanged}
 use Rattle.ruledwords.specs.Looks.{KnowsTheSame}
 use Rattle.ruledwords.specs.OwnWords.{own_after}
 
