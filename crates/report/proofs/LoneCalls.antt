@@ -30,14 +30,14 @@ use Rattle.ruledwords.specs.ConditionStands.{CondEnded}
 use Rattle.ruledwords.specs.Counts.{cell_at}
 use Rattle.ruledwords.specs.Deaths.{deaths}
 use Rattle.ruledwords.specs.OwnWords.{owns_in}
-use Rattle.ruledwords.specs.Seen.{by, count_acts, count_held, held, held_after, holds, points_of, AllOf, Called, Died, Saw}
+use Rattle.ruledwords.specs.Seen.{by, count_held, held, held_after, holds, points_of, AllOf, Called, Died, Saw}
 use Rattle.threadbench.specs.Answered.{Answered, Replied}
 use Rattle.threadbench.specs.Conditions.{TookAgain}
 use Rattle.threadbench.specs.Jobs.{WasLost}
 use Rattle.report.specs.Lone.{answer, answer_to, behind, bereft, counter_of, counters_behind, AreAnswered, IsAnswer, IsByCounter}
 use Rattle.ruledwords.proofs.Held.{owner_held}
 use Rattle.report.proofs.Holding.{counts_owned}
-use Rattle.report.proofs.LoneCounters.{counted_in, replied_tallies, Tallies}
+use Rattle.report.proofs.LoneCounters.{acts_in, replied_tallies, Tallies}
 use Rattle.report.proofs.Permitted.{full_taking, permits_answer, waited_answer}
 use Rattle.report.proofs.Told.{answered_grew, died_of, reaped_grew, saw_grew, Grew}
 
@@ -369,9 +369,9 @@ module _ (k : Layout') (t : ℕ) (seen' : List (List Point)) (changes' : List (L
   -- ---- its death
 
   -- the mutexes as its death leaves them, and who has seen that
-  pub record LeftBehind (os os' : ℕ → Object) (call : Op) (d : Card) (n : ℕ) : Type 0 where
+  pub record LeftBehind (os os' : ℕ → Object) (call : Op) (d : Card) (n : List Act) : Type 0 where
     pub acts : List Act
-    pub counts : count_acts acts ≡ n
+    pub counts : acts ≡ n
     pub begun : Beginning (operation_of call) acts
     pub left : Object
     pub decided : Run (os (mutex_of k call)) (points_of t (cell_place k (mutex_of k call)) acts) left
@@ -379,7 +379,7 @@ module _ (k : Layout') (t : ℕ) (seen' : List (List Point)) (changes' : List (L
     pub thread : d.thread ≡ t
     pub is : (m : ℕ) → m < k.mutexes → Run fresh (at d.seen (cell_place k m)) (os' m)
 
-  pub died_alone : (c d : Card) (os : ℕ → Object) (call : Op) → mutex_of k call < k.mutexes → Stands c os → (was : WasLost k c call d) → Tails d → (os' : ℕ → Object) × LeftBehind os os' call d (counted_in k t changes' c call was.dead was.died)
+  pub died_alone : (c d : Card) (os : ℕ → Object) (call : Op) → mutex_of k call < k.mutexes → Stands c os → (was : WasLost k c call d) → Tails d → (os' : ℕ → Object) × LeftBehind os os' call d (acts_in k t changes' c call was.dead was.died)
   died_alone c d os call low s was tails = (after, record { acts = died.acts; counts = refl; begun = died.beginning; left = on.0; decided = on.1; after = refl; thread = was.reaped.thread ∙ still.thread; is = λ l lower. told l lower (owns_in k was.dead l) refl }) where
     m : ℕ
     m = mutex_of k call

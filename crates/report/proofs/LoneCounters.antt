@@ -28,7 +28,7 @@ use Rattle.ruledwords.proofs.Keepers.{counter_no_cell}
 use Rattle.threadbench.specs.Answered.{DiesIn, Replied}
 use Rattle.threadbench.specs.Conditions.{TookAgain}
 use Rattle.threadbench.specs.Jobs.{WasLost}
-use Rattle.report.specs.Lone.{counter_of, counters_behind, raised, IsByCounter}
+use Rattle.report.specs.Lone.{counter_of, counters_behind, raised, AreByCounter, IsByCounter}
 use Rattle.report.proofs.Told.{died_of}
 
 -- ---- changes of one thread
@@ -103,6 +103,22 @@ wait_counts (p ∷ []) (q ∷ r ∷ rest) x is = absurd is
 wait_counts (p ∷ q ∷ []) [] x is = (λ i. count_acts (is.0 i ∷ is.1 i ∷ []))
 wait_counts (p ∷ q ∷ []) (r ∷ rest) x is = absurd is
 wait_counts (p ∷ q ∷ r ∷ acts) rest x is = absurd is
+
+-- what a counter has to do with none of them
+plain : (op : Operation) (v : ℕ) → ((p q : Act) (x : Reply) → Complete op (p ∷ q ∷ []) x → ⊥) → ((x : Reply) → IsByCounter v op x) → (acts : List Act) → Beginning op acts → AreByCounter v acts
+plain op v one any acts begun = ⊎_elim
+    (λ (nothing : acts ≡ []). subst (AreByCounter v) (sym nothing) tt)
+    (λ (some : (y : Reply) × (acts ≡ (op, y) ∷ [])). subst (AreByCounter v) (sym some.1) (any some.0, tt))
+    (one_act op one acts begun.0 begun.1 begun.2)
+
+wait_plain : (v : ℕ) (acts rest : List Act) (x : Reply) → Complete operation.Wait (acts ++ rest) x → AreByCounter v acts
+wait_plain v [] rest x is = tt
+wait_plain v (p ∷ []) [] x is = subst (λ (a : Act). AreByCounter v (a ∷ [])) (sym is) (tt, tt)
+wait_plain v (p ∷ []) (q ∷ []) x is = subst (λ (a : Act). AreByCounter v (a ∷ [])) (sym is.0) (tt, tt)
+wait_plain v (p ∷ []) (q ∷ r ∷ rest) x is = absurd is
+wait_plain v (p ∷ q ∷ []) [] x is = subst (λ (l : Act × Act). AreByCounter v (l.0 ∷ l.1 ∷ [])) (λ i. (sym is.0 i, sym is.1 i)) (tt, (tt, tt))
+wait_plain v (p ∷ q ∷ []) (r ∷ rest) x is = absurd is
+wait_plain v (p ∷ q ∷ r ∷ acts) rest x is = absurd is
 
 -- ---- a thread alone
 
@@ -252,58 +268,71 @@ module _ (k : Layout') (t : ℕ) (changes' : List (List Change)) where
 
   -- ---- its death
 
-  abbrev pub counted_in : (c : Card) (call : Op) (dead : Card) → DiesIn k c call dead → ℕ
-  counted_in c call dead dies = count_acts (died_of k c call dead dies).acts
+  abbrev pub acts_in : (c : Card) (call : Op) (dead : Card) → DiesIn k c call dead → List Act
+  acts_in c call dead dies = (died_of k c call dead dies).acts
 
   -- what it has counted in the call in which it died, and where
   abbrev DiesCounting : (c : Card) (vs : ℕ → ℕ) (call : Op) (dead : Card) → DiesIn k c call dead → Type 0
-  DiesCounting c vs call dead dies = (counted_in c call dead dies ≢ 0 → counter_of vs (condition_of call) ≢ largest_counter) × Tallies dead (raised vs (condition_of call) (counted_in c call dead dies))
+  DiesCounting c vs call dead dies = AreByCounter (counter_of vs (condition_of call)) (acts_in c call dead dies) × Tallies dead (raised vs (condition_of call) (count_acts (acts_in c call dead dies)))
 
-  dies_quietly : (c dead : Card) (vs : ℕ → ℕ) (o : Option ℕ) (m : ℕ) (op : Operation) → c.thread ≡ t → Tallies c vs → Onward dead → m < k.mutexes → (died : Died c (cell_place k m) op dead) → count_acts died.acts ≡ 0
-      → (count_acts died.acts ≢ 0 → counter_of vs o ≢ largest_counter) × Tallies dead (raised vs o (count_acts died.acts))
-  dies_quietly c dead vs o m op mine s ahead low died none = (λ some. absurd (some none), other_call c dead vs o m (count_acts died.acts) died.acts mine s ahead low none none died.saw)
+  dies_quietly : (c dead : Card) (vs : ℕ → ℕ) (o : Option ℕ) (m : ℕ) (op : Operation) → c.thread ≡ t → Tallies c vs → Onward dead → m < k.mutexes → (died : Died c (cell_place k m) op dead) → AreByCounter (counter_of vs o) died.acts → count_acts died.acts ≡ 0
+      → AreByCounter (counter_of vs o) died.acts × Tallies dead (raised vs o (count_acts died.acts))
+  dies_quietly c dead vs o m op mine s ahead low died by none = (by, other_call c dead vs o m (count_acts died.acts) died.acts mine s ahead low none none died.saw)
 
   -- in a signal or a broadcast
   dies_counting : (op : Operation) (q : ℕ) (c dead : Card) (vs : ℕ → ℕ) → c.thread ≡ t → Tallies c vs → Onward dead → mutex_at k q < k.mutexes → q < length k.conditions
-      → ((p r : Act) (x : Reply) → Complete op (p ∷ r ∷ []) x → ⊥) → ((x : Reply) → (reply_counts op x ≡ 0) ⊎ (x ≡ OK)) → reply_counts op OK ≡ 1 → (LoadedBehind ((op, OK) ∷ []) c (cell_at k q) (counter_place k q) dead → CountedOnce c (cell_at k q) (counter_place k q) dead × (dead.counted ≢ largest_counter))
-      → (dies : DiesOn k q op c dead) → (count_acts dies.died.acts ≢ 0 → vs q ≢ largest_counter) × Tallies dead (raised vs (Some q) (count_acts dies.died.acts))
-  dies_counting op q c dead vs mine s ahead low inside one either ok loads dies = ⊎_elim
-      (λ (nothing : dies.died.acts ≡ []). dies_quietly c dead vs (Some q) (mutex_at k q) op mine s ahead low dies.died (ap count_acts nothing))
-      (λ (some : (y : Reply) × (dies.died.acts ≡ (op, y) ∷ [])). ⊎_elim
-      (λ (none : reply_counts op some.0 ≡ 0). dies_quietly c dead vs (Some q) (mutex_at k q) op mine s ahead low dies.died (ap count_acts some.1 ∙ (let e : reply_counts op some.0 + 0 ≡ 0 = omega (arith, none) in e)))
-      (λ (is : some.0 ≡ OK).
-      let acts : dies.died.acts ≡ (op, OK) ∷ [] = some.1 ∙ ap (λ (x : Reply). (op, x) ∷ []) is in
-      let counts : count_acts dies.died.acts ≡ 1 = ap count_acts acts ∙ (let e : reply_counts op OK + 0 ≡ 1 = omega (arith, ok) in e) in
-      let z : ℕ = cell_at k q in
-      let no_cell : (x : ℕ) → counter_place k x ≢ z = λ x. counter_no_cell k x (mutex_at k q) low in
-      let so = loads (subst (λ (l : List Act). LoadedBehind l c (cell_at k q) (counter_place k q) dead) acts dies.loaded) in
-      let same = found c dead vs mine s dies.died.saw.knows ahead q z inside no_cell so.0 in (
-        λ some_count full. so.1 (same ∙ full),
-        subst (λ (n : ℕ). Tallies dead (raised vs (Some q) n)) (sym counts) (tallies_counted c dead vs mine s dies.died.saw.knows ahead q z inside no_cell so.0),
-      ))
-      (either some.0))
+      → ((p r : Act) (x : Reply) → Complete op (p ∷ r ∷ []) x → ⊥) → ((x : Reply) → ((reply_counts op x ≡ 0) × ((v : ℕ) → IsByCounter v op x)) ⊎ ((x ≡ OK) ⊎ (x ≡ XFULL))) → reply_counts op OK ≡ 1 → ((v : ℕ) → v ≢ largest_counter → IsByCounter v op OK)
+      → (LoadedBehind ((op, OK) ∷ []) c (cell_at k q) (counter_place k q) dead → CountedOnce c (cell_at k q) (counter_place k q) dead × (dead.counted ≢ largest_counter)) → (LoadedBehind ((op, XFULL) ∷ []) c (cell_at k q) (counter_place k q) dead → ⊥)
+      → (dies : DiesOn k q op c dead) → AreByCounter (vs q) dies.died.acts × Tallies dead (raised vs (Some q) (count_acts dies.died.acts))
+  dies_counting op q c dead vs mine s ahead low inside one either ok free loads never dies = ⊎_elim
+      (λ (nothing : dies.died.acts ≡ []). quietly (subst (AreByCounter (vs q)) (sym nothing) tt) (ap count_acts nothing))
+      (λ (some : (y : Reply) × (dies.died.acts ≡ (op, y) ∷ [])). by_reply some.0 some.1 (either some.0))
       (one_act op one dies.died.acts dies.died.beginning.0 dies.died.beginning.1 dies.died.beginning.2)
+    where
+      Out' : Type 0
+      Out' = AreByCounter (vs q) dies.died.acts × Tallies dead (raised vs (Some q) (count_acts dies.died.acts))
 
-  signal_counts : (x : Reply) → (reply_counts operation.Signal x ≡ 0) ⊎ (x ≡ OK)
-  signal_counts OK = inr refl
-  signal_counts x = inl refl
+      quietly : AreByCounter (vs q) dies.died.acts → count_acts dies.died.acts ≡ 0 → Out'
+      quietly by none = dies_quietly c dead vs (Some q) (mutex_at k q) op mine s ahead low dies.died by none
 
-  broadcast_counts : (x : Reply) → (reply_counts operation.Broadcast x ≡ 0) ⊎ (x ≡ OK)
-  broadcast_counts OK = inr refl
-  broadcast_counts x = inl refl
+      counts : dies.died.acts ≡ (op, OK) ∷ [] → Out'
+      counts acts =
+          let many : count_acts dies.died.acts ≡ 1 = ap count_acts acts ∙ (let e : reply_counts op OK + 0 ≡ 1 = omega (arith, ok) in e) in
+          let z : ℕ = cell_at k q in
+          let no_cell : (x : ℕ) → counter_place k x ≢ z = λ x. counter_no_cell k x (mutex_at k q) low in
+          let so = loads (subst (λ (l : List Act). LoadedBehind l c (cell_at k q) (counter_place k q) dead) acts dies.loaded) in
+          let same = found c dead vs mine s dies.died.saw.knows ahead q z inside no_cell so.0 in (
+            subst (AreByCounter (vs q)) (sym acts) (free (vs q) (λ full. so.1 (same ∙ full)), tt),
+            subst (λ (n : ℕ). Tallies dead (raised vs (Some q) n)) (sym many) (tallies_counted c dead vs mine s dies.died.saw.knows ahead q z inside no_cell so.0),
+          )
+
+      by_reply : (y : Reply) → dies.died.acts ≡ (op, y) ∷ [] → ((reply_counts op y ≡ 0) × ((v : ℕ) → IsByCounter v op y)) ⊎ ((y ≡ OK) ⊎ (y ≡ XFULL)) → Out'
+      by_reply y acts (inl plain) = quietly (subst (AreByCounter (vs q)) (sym acts) (plain.1 (vs q), tt)) (ap count_acts acts ∙ (let none = plain.0 in let e : reply_counts op y + 0 ≡ 0 = omega (arith, none) in e))
+      by_reply y acts (inr (inl is)) = counts (acts ∙ ap (λ (x : Reply). (op, x) ∷ []) is)
+      by_reply y acts (inr (inr is)) = absurd (never (subst (λ (l : List Act). LoadedBehind l c (cell_at k q) (counter_place k q) dead) (acts ∙ ap (λ (x : Reply). (op, x) ∷ []) is) dies.loaded))
+
+  signal_counts : (x : Reply) → ((reply_counts operation.Signal x ≡ 0) × ((v : ℕ) → IsByCounter v operation.Signal x)) ⊎ ((x ≡ OK) ⊎ (x ≡ XFULL))
+  signal_counts OK = inr (inl refl)
+  signal_counts XFULL = inr (inr refl)
+  signal_counts x = inl (refl, λ v. tt)
+
+  broadcast_counts : (x : Reply) → ((reply_counts operation.Broadcast x ≡ 0) × ((v : ℕ) → IsByCounter v operation.Broadcast x)) ⊎ ((x ≡ OK) ⊎ (x ≡ XFULL))
+  broadcast_counts OK = inr (inl refl)
+  broadcast_counts XFULL = inr (inr refl)
+  broadcast_counts x = inl (refl, λ v. tt)
 
   dead_tallies : (c dead : Card) (vs : ℕ → ℕ) (call : Op) → c.thread ≡ t → mutex_of k call < k.mutexes → ((q : ℕ) → condition_of call ≡ Some q → q < length k.conditions) → Tallies c vs → (dies : DiesIn k c call dead) → Onward dead → DiesCounting c vs call dead dies
-  dead_tallies c dead vs (OnMutex (Lock m)) mine low inside s dies ahead = dies_quietly c dead vs None m operation.Lock mine s ahead low dies.1 (none_counts operation.Lock (λ p q x e. e) (λ x. refl) dies.1.acts dies.1.beginning)
-  dead_tallies c dead vs (OnMutex (TryLock m)) mine low inside s dies ahead = dies_quietly c dead vs None m operation.TryLock mine s ahead low dies.1 (none_counts operation.TryLock (λ p q x e. e) (λ x. refl) dies.1.acts dies.1.beginning)
-  dead_tallies c dead vs (OnMutex (Unlock m)) mine low inside s dies ahead = dies_quietly c dead vs None m operation.Unlock mine s ahead low dies (none_counts operation.Unlock (λ p q x e. e) (λ x. refl) dies.acts dies.beginning)
-  dead_tallies c dead vs (OnMutex (Consistent m)) mine low inside s dies ahead = dies_quietly c dead vs None m operation.Consistent mine s ahead low dies (none_counts operation.Consistent (λ p q x e. e) (λ x. refl) dies.acts dies.beginning)
-  dead_tallies c dead vs (OnCondition (Wait q)) mine low inside s dies ahead = dies_quietly c dead vs (Some q) (mutex_at k q) operation.Wait mine s ahead low dies.died (wait_counts dies.died.acts dies.died.beginning.0 dies.died.beginning.1 dies.died.beginning.2)
-  dead_tallies c dead vs (OnCondition (Signal q)) mine low inside s dies ahead = dies_counting operation.Signal q c dead vs mine s ahead low (inside q refl) (λ p r x e. e) signal_counts refl (λ x. x) dies
-  dead_tallies c dead vs (OnCondition (Broadcast q)) mine low inside s dies ahead = dies_counting operation.Broadcast q c dead vs mine s ahead low (inside q refl) (λ p r x e. e) broadcast_counts refl (λ x. x) dies
+  dead_tallies c dead vs (OnMutex (Lock m)) mine low inside s dies ahead = dies_quietly c dead vs None m operation.Lock mine s ahead low dies.1 (plain operation.Lock 0 (λ p q x e. e) (λ x. tt) dies.1.acts dies.1.beginning) (none_counts operation.Lock (λ p q x e. e) (λ x. refl) dies.1.acts dies.1.beginning)
+  dead_tallies c dead vs (OnMutex (TryLock m)) mine low inside s dies ahead = dies_quietly c dead vs None m operation.TryLock mine s ahead low dies.1 (plain operation.TryLock 0 (λ p q x e. e) (λ x. tt) dies.1.acts dies.1.beginning) (none_counts operation.TryLock (λ p q x e. e) (λ x. refl) dies.1.acts dies.1.beginning)
+  dead_tallies c dead vs (OnMutex (Unlock m)) mine low inside s dies ahead = dies_quietly c dead vs None m operation.Unlock mine s ahead low dies (plain operation.Unlock 0 (λ p q x e. e) (λ x. tt) dies.acts dies.beginning) (none_counts operation.Unlock (λ p q x e. e) (λ x. refl) dies.acts dies.beginning)
+  dead_tallies c dead vs (OnMutex (Consistent m)) mine low inside s dies ahead = dies_quietly c dead vs None m operation.Consistent mine s ahead low dies (plain operation.Consistent 0 (λ p q x e. e) (λ x. tt) dies.acts dies.beginning) (none_counts operation.Consistent (λ p q x e. e) (λ x. refl) dies.acts dies.beginning)
+  dead_tallies c dead vs (OnCondition (Wait q)) mine low inside s dies ahead = dies_quietly c dead vs (Some q) (mutex_at k q) operation.Wait mine s ahead low dies.died (wait_plain (vs q) dies.died.acts dies.died.beginning.0 dies.died.beginning.1 dies.died.beginning.2) (wait_counts dies.died.acts dies.died.beginning.0 dies.died.beginning.1 dies.died.beginning.2)
+  dead_tallies c dead vs (OnCondition (Signal q)) mine low inside s dies ahead = dies_counting operation.Signal q c dead vs mine s ahead low (inside q refl) (λ p r x e. e) signal_counts refl (λ v x. x) (λ x. x) (λ x. x) dies
+  dead_tallies c dead vs (OnCondition (Broadcast q)) mine low inside s dies ahead = dies_counting operation.Broadcast q c dead vs mine s ahead low (inside q refl) (λ p r x e. e) broadcast_counts refl (λ v x. x) (λ x. x) (λ x. x) dies
 
   -- and the walk over its list counts nothing
   pub lost_tallies : (c d : Card) (vs : ℕ → ℕ) (call : Op) → c.thread ≡ t → mutex_of k call < k.mutexes → ((q : ℕ) → condition_of call ≡ Some q → q < length k.conditions) → Tallies c vs → (was : WasLost k c call d) → Onward d
-      → (counted_in c call was.dead was.died ≢ 0 → counter_of vs (condition_of call) ≢ largest_counter) × Tallies d (raised vs (condition_of call) (counted_in c call was.dead was.died))
+      → AreByCounter (counter_of vs (condition_of call)) (acts_in c call was.dead was.died) × Tallies d (raised vs (condition_of call) (count_acts (acts_in c call was.dead was.died)))
   lost_tallies c d vs call mine low inside s was ahead = (dead.0, tallies_still was.dead d _ whose dead.1 was.reaped.changes ahead (λ q there. was.reaped.still (counter_place k q) (λ m below. counter_no_cell k q m below))) where
     before : Onward was.dead
     before p = ((was.reaped.changes p).0 ++ (ahead p).0, (ahead p).1 ∙ ap (λ (l : List Change). l ++ (ahead p).0) (sym (was.reaped.changes p).1) ∙ append_assoc (changes_at was.dead.changes p) (was.reaped.changes p).0 (ahead p).0)

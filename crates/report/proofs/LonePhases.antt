@@ -20,20 +20,21 @@ use Rattle.ruledwords.specs.Changes.{changes_at, left_by, made_by, made_by_other
 use Rattle.ruledwords.specs.Deaths.{IsNoCell}
 use Rattle.ruledwords.specs.Meetings.{ComesToKnow}
 use Rattle.ruledwords.specs.Passes.{card, layout_of}
-use Rattle.ruledwords.specs.Seen.{by, AllOf}
+use Rattle.facts.specs.Lives.{Act}
+use Rattle.ruledwords.specs.Seen.{by, count_acts, AllOf}
 use Rattle.script.specs.declared.workload.Phase.{Phase}
 use Rattle.threadbench.specs.declared.job.WorkerPass.{WorkerPass}
 use Rattle.threadbench.specs.declared.job.WorkerPass.TheVariants.{Lives, Reaped}
 use Rattle.threadbench.specs.Answered.{card_in, IsWorkerOf}
 use Rattle.threadbench.specs.Jobs.{Worked}
 use Rattle.report.specs.declared.threads.Worker.{Worker}
-use Rattle.report.specs.Lone.{raised, IsLone, PlaysAlone, Rest}
+use Rattle.report.specs.Lone.{counter_of, raised, AreByCounter, IsLone, PlaysAlone, Rest}
 use Rattle.report.specs.Meetings.{is_reaped}
 use Rattle.report.specs.Parts.{Part}
 use Rattle.report.specs.Threads.{calls_in, open_gate, HasPassed, Works, WorksFrom}
 use Rattle.ruledwords.proofs.Changes.{knows_on_self, knows_on_then}
 use Rattle.report.proofs.LoneCalls.{answered_alone, died_alone, only_from, IsThere, OnlyBy, Stands, Within, by_each, by_only, none_others, only_rest, answered_knows, others_few}
-use Rattle.report.proofs.LoneCounters.{counted_in, lost_tallies, made_none, nobodys_change, Tallies}
+use Rattle.report.proofs.LoneCounters.{acts_in, lost_tallies, made_none, nobodys_change, Tallies}
 use Rattle.report.proofs.Parts.{by_append}
 use Rattle.report.proofs.Passed.{calls_of, drop_past, gone_at, gone_is, gone_same, items_are, items_at, known_at, part_of, same_rest, did, AreAbreast}
 use Rattle.report.proofs.Phases.{all_at, some_at}
@@ -132,7 +133,7 @@ module _ (w : Words) (t : ℕ) (seen' : List (List Point)) (changes' : List (Lis
         let left = end.1 in
         let lost = lost_tallies k t changes' worked.last (card d) did.1 next.0 did.3.thread there.0 there.1 did.4 was tails.1 in record {
           mid = end.0;
-          counters = raised did.1 (condition_of next.0) (counted_in k t changes' worked.last next.0 was.dead was.died);
+          counters = raised did.1 (condition_of next.0) (count_acts (acts_in k t changes' worked.last next.0 was.dead was.died));
           plays = record {
             call = next.0;
             next = next.1;
@@ -144,8 +145,8 @@ module _ (w : Words) (t : ℕ) (seen' : List (List Point)) (changes' : List (Lis
             left = left.left;
             decided = left.decided;
             after = left.after;
-            room = λ some. lost.0 (λ none. some (left.counts ∙ none));
-            counted = ap (raised did.1 (condition_of next.0)) (sym left.counts);
+            by = subst (AreByCounter (counter_of did.1 (condition_of next.0))) (sym left.counts) lost.0;
+            counted = ap (λ (l : List Act). raised did.1 (condition_of next.0) (count_acts l)) (sym left.counts);
           };
           is = left.is;
           quiet = λ lives. absurd (cc lives);

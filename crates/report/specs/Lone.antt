@@ -67,6 +67,10 @@ IsByCounter v Broadcast OK = v ≢ largest_counter
 IsByCounter v Broadcast XFULL = v ≡ largest_counter
 IsByCounter v op r = Unit {0}
 
+abbrev pub AreByCounter : ℕ → List Act → Type 0
+AreByCounter v [] = Unit {0}
+AreByCounter v (a ∷ acts) = IsByCounter v a.0 a.1 × AreByCounter v acts
+
 -- all that a step of the mutex may reply, and the counter too, is that, but for X_RACED; and the step leaves the mutex so.
 -- (An unusable mutex has no owner)
 abbrev pub MutexesPermitOnlyAnswers : Type 0
@@ -126,7 +130,7 @@ pub record DiesAmong (k : Layout') (t : ℕ) (os : ℕ → Object) (vs : ℕ →
   pub left : Object
   pub decided : Run (before (mutex_of k call)) (points_of t (cell_place k (mutex_of k call)) acts) left
   pub after : os' ≡ (λ m. bereft t (if m == mutex_of k call then left else before m))
-  pub room : count_acts acts ≢ 0 → counter_of counters (condition_of call) ≢ largest_counter
+  pub by : AreByCounter (counter_of counters (condition_of call)) acts
   pub counted : vs' ≡ raised counters (condition_of call) (count_acts acts)
 
 -- what a thread does in a phase in which no other has calls. One that had died does nothing

@@ -156,11 +156,13 @@ CondGoesOn w a c (Lives b x) = IsLive w b × CondEnded (layout_of w) (condition_
 abbrev pub CondKeeps : Words → CondRunning → CondTurn → Type 0
 CondKeeps w r turn = (a : Pass Live) (c : CondCall) → IsCondUnderWay w a c r → CondGoesOn w a c turn
 
--- a thread that has released its mutex in a wait has loaded the counter at p; and one whose signal or broadcast has taken effect has counted there, where the counter wasn't full
+-- a thread that has released its mutex in a wait has loaded the counter at p; and one whose signal or broadcast has taken effect has counted there, where the counter wasn't full (none dies behind an X_FULL)
 abbrev pub LoadedBehind : List Act → Card → ℕ → ℕ → Card → Type 0
 LoadedBehind ((operation.Unlock, x) ∷ acts) c z p d = Loaded c p d
 LoadedBehind ((operation.Signal, OK) ∷ acts) c z p d = CountedOnce c z p d × (d.counted ≢ largest_counter)
+LoadedBehind ((operation.Signal, XFULL) ∷ acts) c z p d = ⊥
 LoadedBehind ((operation.Broadcast, OK) ∷ acts) c z p d = CountedOnce c z p d × (d.counted ≢ largest_counter)
+LoadedBehind ((operation.Broadcast, XFULL) ∷ acts) c z p d = ⊥
 LoadedBehind acts c z p d = Unit {0}
 
 -- a thread died in a call on condition variable q: it had made all of the call's points, or some of the first
