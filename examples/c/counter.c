@@ -23,7 +23,7 @@ int main(int argc, char **argv)
         return perror("counter"), 1;
     struct counter *c = pz_data(p);
     c->count++;
-    if (argc > 2) pause();              /* ./counter FILE pause & kill -9 $! */
+    if (argc > 2) pause();              /* ./counter FILE pause & sleep 1; kill -9 $! */
     c->copy++;
     printf("%ld and %ld\n", c->count, c->copy);
     return pz_mutex_unlock(p, 0);
