@@ -3,3 +3,4 @@ pub mod Objects
 pub mod Words
 pub mod Steps
 pub mod Reasons
+pub mod Replies

@@ -18,12 +18,12 @@ told_ill false e = absurd cc
 
 -- a mutex that nobody owns, and that is usable
 of_usable : (o : Object) (t : ℕ) (op : Operation) (r : Reply) (n : Object) → Permits o t op r n → o.owner ≡ None → o.unusable ≡ false → (n ≡ o) ⊎ IsTaking o t op r n
-of_usable o t Lock OK n p none us = inr (refl, told_well o.inconsistent p.2, p.3)
-of_usable o t Lock EOWNERDEAD n p none us = inr (refl, told_ill o.inconsistent p.2, p.3)
+of_usable o t Lock OK n p none us = inr (refl, told_well o.inconsistent p.2, ap (λ (z : Object). z.owner) p.3, ap (λ (z : Object). z.inconsistent) p.3, ap (λ (z : Object). z.unusable) p.3 ∙ us)
+of_usable o t Lock EOWNERDEAD n p none us = inr (refl, told_ill o.inconsistent p.2, ap (λ (z : Object). z.owner) p.3, ap (λ (z : Object). z.inconsistent) p.3, ap (λ (z : Object). z.unusable) p.3 ∙ us)
 of_usable o t Lock ENOTRECOVERABLE n p none us = inl p.1
 of_usable o t Lock EDEADLK n p none us = inl p.1
-of_usable o t TryLock OK n p none us = inr (refl, told_well o.inconsistent p.2, p.3)
-of_usable o t TryLock EOWNERDEAD n p none us = inr (refl, told_ill o.inconsistent p.2, p.3)
+of_usable o t TryLock OK n p none us = inr (refl, told_well o.inconsistent p.2, ap (λ (z : Object). z.owner) p.3, ap (λ (z : Object). z.inconsistent) p.3, ap (λ (z : Object). z.unusable) p.3 ∙ us)
+of_usable o t TryLock EOWNERDEAD n p none us = inr (refl, told_ill o.inconsistent p.2, ap (λ (z : Object). z.owner) p.3, ap (λ (z : Object). z.inconsistent) p.3, ap (λ (z : Object). z.unusable) p.3 ∙ us)
 of_usable o t TryLock ENOTRECOVERABLE n p none us = inl p.1
 of_usable o t TryLock EBUSY n p none us = inl p.1
 of_usable o t TryLock XRACED n p none us = inl p.2
@@ -45,7 +45,7 @@ of_usable o t Reinit OK n p none us = absurd (cc (us, p.0))
 of_usable o t op r n p none us = absurd p
 
 -- a mutex that nobody owns, and that is unusable
-of_unusable : (o : Object) (t : ℕ) (op : Operation) (r : Reply) (n : Object) → Permits o t op r n → o.owner ≡ None → o.unusable ≡ true → (n ≡ o) ⊎ ((op ≡ Reinit) × (r ≡ OK) × (n ≡ fresh))
+of_unusable : (o : Object) (t : ℕ) (op : Operation) (r : Reply) (n : Object) → Permits o t op r n → o.owner ≡ None → o.unusable ≡ true → (n ≡ o) ⊎ ((op ≡ Reinit) × (r ≡ OK) × (n.owner ≡ None) × (n.inconsistent ≡ false) × (n.unusable ≡ false))
 of_unusable o t Lock OK n p none us = absurd (cc (us, p.0))
 of_unusable o t Lock EOWNERDEAD n p none us = absurd (cc (us, p.0))
 of_unusable o t Lock ENOTRECOVERABLE n p none us = inl p.1
@@ -69,11 +69,11 @@ of_unusable o t Broadcast OK n p none us = inl p.1
 of_unusable o t Broadcast XFULL n p none us = inl p.1
 of_unusable o t Broadcast EPERM n p none us = inl p.1
 of_unusable o t Death OK n p none us = absurd (cc (none, p.0))
-of_unusable o t Reinit OK n p none us = inr (refl, refl, p.2)
+of_unusable o t Reinit OK n p none us = inr (refl, refl, ap (λ (z : Object). z.owner) p.2, ap (λ (z : Object). z.inconsistent) p.2, ap (λ (z : Object). z.unusable) p.2)
 of_unusable o t op r n p none us = absurd p
 
 -- its owner's steps
-of_own : (o : Object) (t : ℕ) (op : Operation) (r : Reply) (n : Object) → Permits o t op r n → o.owner ≡ Some t → (n ≡ o) ⊎ IsByOwner o op n
+of_own : (o : Object) (t : ℕ) (op : Operation) (r : Reply) (n : Object) → Permits o t op r n → o.owner ≡ Some t → (n ≡ o) ⊎ ((r ≡ OK) × IsByOwner o op n)
 of_own o t Lock OK n p mine = absurd (cc (mine, p.1))
 of_own o t Lock EOWNERDEAD n p mine = absurd (cc (mine, p.1))
 of_own o t Lock ENOTRECOVERABLE n p mine = inl p.1
@@ -83,9 +83,9 @@ of_own o t TryLock EOWNERDEAD n p mine = absurd (cc (mine, p.1))
 of_own o t TryLock ENOTRECOVERABLE n p mine = inl p.1
 of_own o t TryLock EBUSY n p mine = inl p.1
 of_own o t TryLock XRACED n p mine = inl p.2
-of_own o t Unlock OK n p mine = inr p.1
+of_own o t Unlock OK n p mine = inr (refl, (ap (λ (z : Object). z.owner) p.1, ap (λ (z : Object). z.inconsistent) p.1, ap (λ (z : Object). z.unusable) p.1))
 of_own o t Unlock EPERM n p mine = inl p.1
-of_own o t Consistent OK n p mine = inr (p.1, p.2)
+of_own o t Consistent OK n p mine = inr (refl, (p.1, ap (λ (z : Object). z.owner) p.2, ap (λ (z : Object). z.inconsistent) p.2, ap (λ (z : Object). z.unusable) p.2))
 of_own o t Consistent EINVAL n p mine = inl p.2
 of_own o t Consistent EPERM n p mine = inl p.1
 of_own o t Wait XSTATE n p mine = inl p.2
@@ -96,7 +96,7 @@ of_own o t Signal EPERM n p mine = inl p.1
 of_own o t Broadcast OK n p mine = inl p.1
 of_own o t Broadcast XFULL n p mine = inl p.1
 of_own o t Broadcast EPERM n p mine = inl p.1
-of_own o t Death OK n p mine = inr p.1
+of_own o t Death OK n p mine = inr (refl, (ap (λ (z : Object). z.owner) p.1, ap (λ (z : Object). z.inconsistent) p.1, ap (λ (z : Object). z.unusable) p.1))
 of_own o t Reinit OK n p mine = absurd (cc (mine, p.1))
 of_own o t op r n p mine = absurd p
 

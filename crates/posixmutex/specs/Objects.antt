@@ -86,13 +86,13 @@ StepsAreDetermined = (held : ℕ) (o : Object) (t : ℕ) (op : Operation) (r : R
 
 -- thread t takes it, and is told of its last owner's death exactly where the mutex is inconsistent
 abbrev pub IsTaking : Object → ℕ → Operation → Reply → Object → Type 0
-IsTaking o t op r n = (acquires op ≡ true) × (r ≡ (if o.inconsistent then EOWNERDEAD else OK)) × (n ≡ owned_by o t)
+IsTaking o t op r n = (acquires op ≡ true) × (r ≡ (if o.inconsistent then EOWNERDEAD else OK)) × (n.owner ≡ Some t) × (n.inconsistent ≡ o.inconsistent) × (n.unusable ≡ false)
 
--- its owner releases it, declares it consistent, or dies
+-- its owner releases it, which makes it unusable where it is inconsistent; declares it consistent; or dies, which leaves it inconsistent
 abbrev pub IsByOwner : Object → Operation → Object → Type 0
-IsByOwner o Unlock n = n ≡ freed o
-IsByOwner o Consistent n = (o.inconsistent ≡ true) × (n ≡ declared_consistent o)
-IsByOwner o Death n = n ≡ bereaved o
+IsByOwner o Unlock n = (n.owner ≡ None) × (n.inconsistent ≡ false) × (n.unusable ≡ (o.inconsistent || o.unusable))
+IsByOwner o Consistent n = (o.inconsistent ≡ true) × (n.owner ≡ o.owner) × (n.inconsistent ≡ false) × (n.unusable ≡ o.unusable)
+IsByOwner o Death n = (n.owner ≡ None) × (n.inconsistent ≡ true) × (n.unusable ≡ o.unusable)
 IsByOwner o op n = ⊥
 
 -- the operations behind which nobody owns it
@@ -105,8 +105,8 @@ releases op = false
 -- released the mutex did so
 pub record ChangesWithReason (o : Object) (t : ℕ) (op : Operation) (r : Reply) (n : Object) : Type 0 where
   pub usable : o.owner ≡ None → o.unusable ≡ false → (n ≡ o) ⊎ IsTaking o t op r n
-  pub unusable : o.owner ≡ None → o.unusable ≡ true → (n ≡ o) ⊎ ((op ≡ Reinit) × (r ≡ OK) × (n ≡ fresh))
-  pub own : o.owner ≡ Some t → (n ≡ o) ⊎ IsByOwner o op n
+  pub unusable : o.owner ≡ None → o.unusable ≡ true → (n ≡ o) ⊎ ((op ≡ Reinit) × (r ≡ OK) × (n.owner ≡ None) × (n.inconsistent ≡ false) × (n.unusable ≡ false))
+  pub own : o.owner ≡ Some t → (n ≡ o) ⊎ ((r ≡ OK) × IsByOwner o op n)
   pub others : (u : ℕ) → o.owner ≡ Some u → t ≢ u → n ≡ o
   pub takes : acquires op ≡ true → (r ≡ OK) ⊎ (r ≡ EOWNERDEAD) → n.owner ≡ Some t
   pub frees : releases op ≡ true → r ≡ OK → (o.owner ≡ Some t) × (n.owner ≡ None)
@@ -114,6 +114,41 @@ pub record ChangesWithReason (o : Object) (t : ℕ) (op : Operation) (r : Reply)
 abbrev pub ChangesHaveReasons : Type 0
 ChangesHaveReasons = (held : ℕ) (o : Object) (t : ℕ) (op : Operation) (r : Reply) (n : Object) → Does held o t op r n
     → ChangesWithReason o t op r n
+
+-- what a reply tells, whatever becomes of the mutex
+abbrev pub HasReason : ℕ → Object → ℕ → Operation → Reply → Type 0
+HasReason held o t Lock OK = (o.owner ≡ None) × (o.inconsistent ≡ false) × (o.unusable ≡ false)
+HasReason held o t TryLock OK = (o.owner ≡ None) × (o.inconsistent ≡ false) × (o.unusable ≡ false)
+HasReason held o t Consistent OK = (o.owner ≡ Some t) × (o.inconsistent ≡ true)
+HasReason held o t Reinit OK = (o.owner ≡ None) × (o.unusable ≡ true)
+HasReason held o t op OK = o.owner ≡ Some t
+HasReason held o t op EOWNERDEAD = (acquires op ≡ true) × (o.owner ≡ None) × (o.inconsistent ≡ true) × (o.unusable ≡ false)
+HasReason held o t op ENOTRECOVERABLE = (acquires op ≡ true) × (o.unusable ≡ true)
+HasReason held o t op EDEADLK = (op ≡ Lock) × (o.owner ≡ Some t)
+HasReason held o t op EBUSY = (op ≡ TryLock) × (o.owner ≢ None)
+HasReason held o t op EPERM = o.owner ≢ Some t
+HasReason held o t op EINVAL = (op ≡ Consistent) × (o.owner ≡ Some t) × (o.inconsistent ≡ false)
+HasReason held o t op XSTATE = (op ≡ Wait) × (o.owner ≡ Some t) × (o.inconsistent ≡ true)
+HasReason held o t op XFULL = ((op ≡ Signal) ⊎ (op ≡ Broadcast)) × (o.owner ≡ Some t)
+HasReason held o t op XRACED = (op ≡ TryLock) × (o.owner ≡ None) × (o.unusable ≡ false)
+HasReason held o t op XHELD = ((op ≡ Lock) ⊎ (op ≡ TryLock)) × (nat_le 2048 held ≡ true)
+HasReason held o t op r = ⊥
+
+abbrev pub RepliesHaveReasons : Type 0
+RepliesHaveReasons = (held : ℕ) (o : Object) (t : ℕ) (op : Operation) (r : Reply) (n : Object) → Does held o t op r n → HasReason held o t op r
+
+-- what isn't answered: a lock of a mutex that another thread owns, a wait that releases its mutex (as an unlock), a death of who isn't the owner, and a reinit of a mutex that isn't unusable
+abbrev pub IsUnanswered : Object → ℕ → Operation → Type 0
+IsUnanswered o t Lock = (u : ℕ) × (o.owner ≡ Some u) × (t ≢ u)
+IsUnanswered o t Wait = (o.owner ≡ Some t) × (o.inconsistent ≡ false)
+IsUnanswered o t Death = o.owner ≢ Some t
+IsUnanswered o t Reinit = o.unusable ≡ false
+IsUnanswered o t op = ⊥
+
+-- every other call has a reply
+abbrev pub CallsAreAnswered : Type 0
+CallsAreAnswered = (held : ℕ) (o : Object) (t : ℕ) (op : Operation) → (o.unusable ≡ true → o.owner ≡ None)
+    → ((r : Reply) × (n : Object) × Does held o t op r n) ⊎ IsUnanswered o t op
 
 -- points on one mutex, one after the other, from object to object
 abbrev pub Run : Object → List Point → Object → Type 0

@@ -22,5 +22,5 @@
 mod object;
 mod point;
 
-pub use object::{HELD_LIMIT, Object, changes_have_reasons, steps_are_determined};
+pub use object::{HELD_LIMIT, Object, calls_are_answered, changes_have_reasons, replies_have_reasons, steps_are_determined};
 pub use point::{Decision, Operation, ParseOperationError, Point, operations_are_read_back};

@@ -1,6 +1,6 @@
 //! The robust mutex as an object, with no bits: what each operation may answer, and what it leaves.
 ghost use Rattle.std.specs.Prelude.{◌≡◌, true, false, MatchOption};
-ghost use Rattle.posixmutex.specs.Objects.{ChangesHaveReasons, StepsAreDetermined};
+ghost use Rattle.posixmutex.specs.Objects.{CallsAreAnswered, ChangesHaveReasons, RepliesHaveReasons, StepsAreDetermined};
 
 use crate::point::Operation;
 use lockword::{Reply, Tid};
@@ -191,4 +191,14 @@ pub fn steps_are_determined()
 /// who is told that it took the mutex, or released it, did so.
 pub fn changes_have_reasons()
     ensures { ChangesHaveReasons }
+{}
+
+/// A reply comes only for its reason.
+pub fn replies_have_reasons()
+    ensures { RepliesHaveReasons }
+{}
+
+/// Every call is answered but a lock of a mutex that another thread owns, and a wait that releases its mutex.
+pub fn calls_are_answered()
+    ensures { CallsAreAnswered }
 {}
