@@ -1,11 +1,11 @@
 -- Why steps change objects.
-use Rattle.std.proofs.Common.{◌≡◌, ◌⊎◌, ⊎_elim, inl, inr, ℕ, ◌&&◌, Bool, true, false, nat_le, if◌then◌else◌, MatchBool, Some, None, refl, ap}
+use Rattle.std.proofs.Common.{◌≡◌, ◌⊎◌, ⊎_elim, inl, inr, ℕ, ◌&&◌, Bool, true, false, nat_le, if◌then◌else◌, MatchBool, Some, None, refl, ap, ◌∙◌}
 use Rattle.lockword.specs.declared.reply.Reply.{Reply}
 use Rattle.lockword.specs.declared.reply.Reply.TheVariants.{OK, EPERM, EBUSY, EINVAL, EDEADLK, EOWNERDEAD, ENOTRECOVERABLE, XRACED, XHELD, XFULL, XSTATE}
 use Rattle.posixmutex.specs.declared.object.Object.{Object}
 use Rattle.posixmutex.specs.declared.point.Operation.{Operation}
 use Rattle.posixmutex.specs.declared.point.Operation.TheVariants.{Lock, TryLock, Unlock, Consistent, Wait, Signal, Broadcast, Death, Reinit}
-use Rattle.posixmutex.specs.Objects.{Permits, acquires, fresh, releases, IsByOwner, IsTaking, ChangesWithReason, ChangesHaveReasons}
+use Rattle.posixmutex.specs.Objects.{Permits, acquires, releases, IsByOwner, IsTaking, ChangesWithReason, ChangesHaveReasons}
 use Rattle.posixmutex.proofs.Objects.{others_keep}
 
 told_well : (b : Bool) → b ≡ false → OK ≡ (if b then EOWNERDEAD else OK)

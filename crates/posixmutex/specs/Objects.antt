@@ -115,7 +115,9 @@ abbrev pub ChangesHaveReasons : Type 0
 ChangesHaveReasons = (held : ℕ) (o : Object) (t : ℕ) (op : Operation) (r : Reply) (n : Object) → Does held o t op r n
     → ChangesWithReason o t op r n
 
--- what a reply tells, whatever becomes of the mutex
+-- ---- why replies come
+
+-- a reply to thread t, which holds so many mutexes, of an operation on o: the state in which alone it comes
 abbrev pub HasReason : ℕ → Object → ℕ → Operation → Reply → Type 0
 HasReason held o t Lock OK = (o.owner ≡ None) × (o.inconsistent ≡ false) × (o.unusable ≡ false)
 HasReason held o t TryLock OK = (o.owner ≡ None) × (o.inconsistent ≡ false) × (o.unusable ≡ false)
@@ -131,7 +133,7 @@ HasReason held o t op EINVAL = (op ≡ Consistent) × (o.owner ≡ Some t) × (o
 HasReason held o t op XSTATE = (op ≡ Wait) × (o.owner ≡ Some t) × (o.inconsistent ≡ true)
 HasReason held o t op XFULL = ((op ≡ Signal) ⊎ (op ≡ Broadcast)) × (o.owner ≡ Some t)
 HasReason held o t op XRACED = (op ≡ TryLock) × (o.owner ≡ None) × (o.unusable ≡ false)
-HasReason held o t op XHELD = ((op ≡ Lock) ⊎ (op ≡ TryLock)) × (nat_le 2048 held ≡ true)
+HasReason held o t op XHELD = ((op ≡ Lock) ⊎ (op ≡ TryLock)) × (nat_le held_limit held ≡ true)
 HasReason held o t op r = ⊥
 
 abbrev pub RepliesHaveReasons : Type 0

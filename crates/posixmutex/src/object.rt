@@ -193,12 +193,14 @@ pub fn changes_have_reasons()
     ensures { ChangesHaveReasons }
 {}
 
-/// A reply comes only for its reason.
+/// A reply comes only for its reason, whatever becomes of the mutex: a lock's OK where it is free, usable and consistent, EBUSY where
+/// somebody owns it, EPERM where its thread doesn't, X_HELD where that holds as many mutexes as it may, and so on.
 pub fn replies_have_reasons()
     ensures { RepliesHaveReasons }
 {}
 
-/// Every call is answered but a lock of a mutex that another thread owns, and a wait that releases its mutex.
+/// Every call has a reply, but a lock of a mutex that another thread owns, which sleeps, and a wait that isn't refused, which is an
+/// unlock first. (Nor has the death of a thread that doesn't own the mutex one, or the reinit of a mutex that is usable.)
 pub fn calls_are_answered()
     ensures { CallsAreAnswered }
 {}
