@@ -13,7 +13,7 @@
 #endif
 /* How many pauses a thread makes before it sleeps on a mutex's word, at most; some more, so that a look comes last. */
 #ifndef PZ_SPIN
-#define PZ_SPIN 2000
+#define PZ_SPIN 8000
 #endif
 /* How many of those that sleep on a mutex already a sleeper watches, beside its owner. */
 #ifndef PZ_WATCH
