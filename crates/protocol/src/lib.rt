@@ -49,5 +49,5 @@ pub use laws::{
     sleeps_are_told, trace_is_explained, undivided_calls_reply, waiters_are_kept, wakes_are_right,
     walks_go_on, without_leaves_as_before, without_reinits_as_before, without_renewals_as_before,
 };
-pub use note::Note;
+pub use note::{Facts, Note};
 pub use thread::{Stage, Thread};
