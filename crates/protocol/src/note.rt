@@ -59,7 +59,7 @@ pub enum Note {
     },
 }
 
-/// The threads of a batch that are still to come.
+/// The threads of a batch that are still to be told of, in their order.
 #[derive(Drop)]
 struct Members {
     batch: Batch,
@@ -102,13 +102,13 @@ impl Iterator for Members {
     }
 }
 
-/// What is still to be told of a note, one fact after the other.
+/// What is still to be told of a note, one fact after the other. It takes no memory.
 #[derive(Drop)]
 pub struct Facts {
     first: Option<Fact>,
     second: Option<Fact>,
     woken: Members,
-    /// To its queue the moved ones were moved.
+    // To whose queue the others were moved.
     mutex: u16,
     moved: Members,
     last: Option<Fact>,
