@@ -1,5 +1,6 @@
 pub mod Ops
 pub mod Notes
+pub mod Telling
 pub mod Machine
 pub mod Headline
 pub mod Explained

@@ -2,8 +2,8 @@
 //!
 //! A state is the words, who sleeps on each, and for each thread the call that it is in. An [`Event`] begins a call, makes its
 //! next access, kills a thread, takes a sleeper out of its queue, declines a trim, renews a reaped thread or makes an
-//! unusable mutex anew; `specs/` says what each event does and notes ([`Note`]), and a trace is what the notes tell. The
-//! theorems about every run, wherever threads are killed and renewed, and mutexes made anew:
+//! unusable mutex anew; `specs/` says what each event does and notes ([`Note`]), and a trace is what the notes tell
+//! ([`Note::facts`]). The theorems about every run, wherever threads are killed and renewed, and mutexes made anew:
 //!
 //! - `history_is_legal`: the points and the deaths are one legal history of POSIX robust mutexes;
 //! - `trace_is_explained`, `events_apply`: each call has its points and returns their reply, and no event is passed over;
@@ -49,5 +49,5 @@ pub use laws::{
     sleeps_are_told, trace_is_explained, undivided_calls_reply, waiters_are_kept, wakes_are_right,
     walks_go_on, without_leaves_as_before, without_reinits_as_before, without_renewals_as_before,
 };
-pub use note::Note;
+pub use note::{Facts, Note};
 pub use thread::{Stage, Thread};

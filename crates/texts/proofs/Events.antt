@@ -1,13 +1,12 @@
 -- The lines of an event, and of one event after the other.
-use Rattle.std.proofs.Common.{◌≡◌, ℕ, zero, suc, slice_get, Some, ◌+◌, ◌<◌, List, [], ◌∷◌, ◌++◌, length, take, drop, map, get_or, Option, Result, refl, sym, ap, subst, ◌∙◌, append_assoc, append-nil, arith, add-zero, length-take-le}
+use Rattle.std.proofs.Common.{◌≡◌, ℕ, ◌+◌, ◌<◌, List, [], ◌∷◌, ◌++◌, length, take, drop, map, get_or, refl, sym, ap, ◌∙◌, append_assoc, append-nil, arith, add-zero, length-take-le}
 use Rattle.std.proofs.lemmas.List.Folds.{concat-append}
 use Rattle.std.proofs.lemmas.List.{map-append, take_more, take-append-drop}
-use Rattle.std.proofs.lemmas.Option.{slice_get_within, get_or_from_slice_get}
+use Rattle.std.specs.Iterator.{Yields, YieldsFirst}
 use Rattle.protocol.specs.declared.note.Note.{Note}
 use Rattle.facts.specs.declared.fact.Fact.{Fact}
 use Rattle.facts.specs.declared.fact.Line.{Line}
 use Rattle.protocol.specs.Notes.{facts_of, line_of, lines_from}
-use Rattle.streams.specs.Leaves.{Leaves}
 use Rattle.texts.specs.Text.{fact_text, facts_text, line_text, lines_text, notes_text}
 
 lines_text-append : (xs ys : List Line) → lines_text (xs ++ ys) ≡ lines_text xs ++ lines_text ys
@@ -16,10 +15,6 @@ lines_text-append xs ys = rw (map-append line_text xs ys) (concat-append (map li
 -- some facts of an event, and then others
 pub facts_text-append : (i : ℕ) (xs ys : List Fact) → facts_text i (xs ++ ys) ≡ facts_text i xs ++ facts_text i ys
 facts_text-append i xs ys = rw (map-append (line_of i) xs ys) (lines_text-append (map (line_of i) xs) (map (line_of i) ys))
-
--- one fact makes its line
-pub leaves_fact : {X E : Type 0} (a b : Option (List ℕ)) (r : Result X E) (i : ℕ) (f : Fact) → Leaves a b r (fact_text i f) → Leaves a b r (facts_text i (f ∷ []))
-leaves_fact a b r i f h = subst (Leaves a b r) (sym (append-nil (fact_text i f))) h
 
 -- the later events are numbered on
 lines_from-append : (k : ℕ) (xs ys : List Note) → lines_from k (xs ++ ys) ≡ lines_from k xs ++ lines_from (k + length xs) ys
@@ -50,19 +45,11 @@ notes_as_far i ns n is lt =
     let whole : notes_text 1 ns ≡ notes_text 1 (take (i + 1) ns) ++ rest = ap (notes_text 1) (sym (take-append-drop (i + 1) ns)) ∙ notes_text-append 1 (take (i + 1) ns) (drop (i + 1) ns) in
     (rest, whole ∙ rw (notes_more i ns n is lt) (append_assoc (notes_text 1 (take i ns)) (facts_text (i + 1) (facts_of n)) rest))
 
--- a fact of each of some threads: the lines of those before one, that one's, and those of the ones behind it
-pub each_as_far : (make : ℕ → Fact) (i k : ℕ) (us : List ℕ) (u : ℕ) → slice_get us k ≡ Some u → (rest : List ℕ) × (facts_text i (map make us) ≡ facts_text i (map make (take k us)) ++ (fact_text i (make u) ++ rest))
-each_as_far make i k [] u e = absurd (cc e)
-each_as_far make i zero (v ∷ us) u e = (facts_text i (map make us), ap (λ (t : ℕ). fact_text i (make t) ++ facts_text i (map make us)) (same e))
-  where
-    same : Some v ≡ Some u → v ≡ u
-    same is = cc
-each_as_far make i (suc k) (v ∷ us) u e =
-    let far = each_as_far make i k us u e in
-    (far.0, ap (λ (t : List ℕ). fact_text i (make v) ++ t) far.1 ∙ sym (append_assoc (fact_text i (make v)) (facts_text i (map make (take k us))) (fact_text i (make u) ++ far.0)))
+-- one fact more
+pub fact_more : (i : ℕ) (xs : List Fact) (x : Fact) → facts_text i (xs ++ x ∷ []) ≡ facts_text i xs ++ fact_text i x
+fact_more i xs x = facts_text-append i xs (x ∷ []) ∙ ap (λ (t : List ℕ). facts_text i xs ++ t) (append-nil (fact_text i x))
 
--- one thread more
-pub each_more : (make : ℕ → Fact) (i k : ℕ) (us : List ℕ) (u : ℕ) → slice_get us k ≡ Some u → facts_text i (map make (take (k + 1) us)) ≡ facts_text i (map make (take k us)) ++ fact_text i (make u)
-each_more make i k us u e =
-    ap (λ (t : List ℕ). facts_text i (map make t)) (take_more us k u (slice_get_within us k u e) ∙ ap (λ (v : ℕ). take k us ++ v ∷ []) (get_or_from_slice_get us k u u e))
-    ∙ ap (facts_text i) (map-append make (take k us) (u ∷ [])) ∙ facts_text-append i (map make (take k us)) (make u ∷ []) ∙ ap (λ (t : List ℕ). facts_text i (map make (take k us)) ++ t) (append-nil (fact_text i (make u)))
+-- facts that calls gave are the first of those that there were, and the others are left
+pub given_first : (all xs others : List Fact) → Yields (YieldsFirst (λ (rest : List Fact). rest)) all xs others → all ≡ xs ++ others
+given_first all [] others given = given
+given_first all (x ∷ xs) others given = given.1 ∙ ap (λ (fs : List Fact). x ∷ fs) (given_first given.0 xs others given.2)
