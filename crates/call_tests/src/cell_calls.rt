@@ -4,7 +4,7 @@ ghost use Rattle.mutex.specs.Calls.{mutex_of};
 
 use crate::steps::Made::{Exchanges, Finds, Flips, Is, Loads, Sleeps, Wakes};
 use crate::steps::Then::{Decides, Ends, Goes, Returns};
-use crate::steps::{AtCell, Step, Then, makes, past_the_list};
+use crate::steps::{AtCell, Step, Then, Way, first_wrong, makes, past_the_list};
 use lockword::Reply::{
     self, EBUSY, EDEADLK, EINVAL, ENOTRECOVERABLE, EOWNERDEAD, EPERM, OK, XHELD, XRACED,
 };
@@ -51,19 +51,6 @@ pub(crate) fn takes(operation: Operation, parts: &[&[Step]]) -> bool {
         Progress::Goes { .. } => makes(AtCell { program }, thread, parts),
         Progress::Returns { .. } => false,
     }
-}
-
-/// An operation, and the accesses of its call at the cell, in parts.
-type Way = (Operation, &'static [&'static [Step]]);
-
-/// The place of the first call that makes others.
-fn first_wrong(calls: &[Way]) -> Option<usize> {
-    for (place, (operation, parts)) in calls.iter().enumerate() {
-        if !takes(*operation, *parts) {
-            return Some(place);
-        }
-    }
-    None
 }
 
 /// However a lock comes to know of a cell, by its load or by an exchange that fails, that leads it so far, and then it makes these accesses.
@@ -201,7 +188,7 @@ static OWNED: [Known; 6] = [
 
 #[test]
 fn a_lock_sets_waiters_before_it_sleeps(rt: HostRuntime) {
-    assert!(rt; first_wrong(&SLEEPING).is_none());
+    assert!(rt; first_wrong(&SLEEPING, takes).is_none());
     assert!(rt; first_wrong_lock(&OWNED).is_none());
 }
 
@@ -237,7 +224,7 @@ static TRYLOCKS: [Way; 6] = [
 
 #[test]
 fn a_trylock_replies_by_the_cell(rt: HostRuntime) {
-    assert!(rt; first_wrong(&TRYLOCKS).is_none());
+    assert!(rt; first_wrong(&TRYLOCKS, takes).is_none());
 }
 
 /// Its exchanges find changed cells, and, in the second, an owned one.
@@ -263,7 +250,7 @@ static RACES: [Way; 2] = [
 
 #[test]
 fn a_trylock_gives_up_at_the_fourth_changed_cell(rt: HostRuntime) {
-    assert!(rt; first_wrong(&RACES).is_none());
+    assert!(rt; first_wrong(&RACES, takes).is_none());
 }
 
 static UNLOCKS: [Way; 5] = [
@@ -291,7 +278,7 @@ static UNLOCKS: [Way; 5] = [
 
 #[test]
 fn an_unlock_replies_by_the_cell(rt: HostRuntime) {
-    assert!(rt; first_wrong(&UNLOCKS).is_none());
+    assert!(rt; first_wrong(&UNLOCKS, takes).is_none());
 }
 
 /// A release of an own cell that has WAITERS.
@@ -313,7 +300,7 @@ static AWAITED: [Way; 2] = [
 
 #[test]
 fn an_unlock_wakes_who_waits(rt: HostRuntime) {
-    assert!(rt; first_wrong(&AWAITED).is_none());
+    assert!(rt; first_wrong(&AWAITED, takes).is_none());
 }
 
 pub(crate) const TRIM: Access = Access::Trim { at: 10 };
@@ -344,7 +331,7 @@ static TRIMS: [Way; 2] = [
 
 #[test]
 fn an_unlock_trims_where_nobody_slept(rt: HostRuntime) {
-    assert!(rt; first_wrong(&TRIMS).is_none());
+    assert!(rt; first_wrong(&TRIMS, takes).is_none());
 }
 
 static NEVER_TRIMMED: [Way; 1] = [(Unlock, &[&SPOILED, &[Step(Wakes(10, 64, 0), Returns(OK))]])];
@@ -357,7 +344,7 @@ static NOBODY_TOLD: [Known; 1] = [(
 
 #[test]
 fn who_wakes_all_never_trims(rt: HostRuntime) {
-    assert!(rt; first_wrong(&NEVER_TRIMMED).is_none());
+    assert!(rt; first_wrong(&NEVER_TRIMMED, takes).is_none());
     assert!(rt; first_wrong_lock(&NOBODY_TOLD).is_none());
 }
 
@@ -397,7 +384,7 @@ static DECLARATIONS: [Way; 6] = [
 
 #[test]
 fn consistent_replies_by_the_cell(rt: HostRuntime) {
-    assert!(rt; first_wrong(&DECLARATIONS).is_none());
+    assert!(rt; first_wrong(&DECLARATIONS, takes).is_none());
 }
 
 /// An operation of a thread that holds so many mutexes, and how it is refused.

@@ -4,7 +4,7 @@ ghost use Rattle.condvar.specs.Calls.{condition_of};
 
 use crate::steps::Made::{Exchanges, Flips, Is, Loads, Sleeps, Stores, Wakes};
 use crate::steps::Then::{Decides, Ends, Goes, Returns};
-use crate::steps::{Step, Whole, makes};
+use crate::steps::{Step, Way, Whole, first_wrong, makes};
 use condvar::{
     CondCall, CondProgram, accesses_are_there, calls_are_right, faults_are_told, moves_are_right,
     needs_are_owned, points_are_permitted, wakes_are_right, whole_calls_are_right,
@@ -56,19 +56,6 @@ fn takes(operation: Operation, parts: &[&[Step]]) -> bool {
         }
         Err(_) => false,
     }
-}
-
-/// An operation, and the accesses of its call, in parts.
-type Way = (Operation, &'static [&'static [Step]]);
-
-/// The place of the first call that makes others.
-fn first_wrong(calls: &[Way]) -> Option<usize> {
-    for (place, (operation, parts)) in calls.iter().enumerate() {
-        if !takes(*operation, *parts) {
-            return Some(place);
-        }
-    }
-    None
 }
 
 /// A wait goes so far as to release the mutex, the counter being 5.
@@ -145,7 +132,7 @@ static AWAKE: [Way; 3] = [
 
 #[test]
 fn a_wait_sleeps_and_takes_its_mutex_again(rt: HostRuntime) {
-    assert!(rt; first_wrong(&AWAKE).is_none());
+    assert!(rt; first_wrong(&AWAKE, takes).is_none());
 }
 
 static WAKES_A_SLEEPER: [Way; 1] = [(
@@ -167,7 +154,7 @@ static WAKES_A_SLEEPER: [Way; 1] = [(
 
 #[test]
 fn a_wait_wakes_who_sleeps_on_the_mutex(rt: HostRuntime) {
-    assert!(rt; first_wrong(&WAKES_A_SLEEPER).is_none());
+    assert!(rt; first_wrong(&WAKES_A_SLEEPER, takes).is_none());
 }
 
 /// A wait that found the counter full falls asleep as any other.
@@ -192,7 +179,7 @@ static FULL: [Way; 1] = [(
 
 #[test]
 fn a_wait_is_not_refused_a_full_counter(rt: HostRuntime) {
-    assert!(rt; first_wrong(&FULL).is_none());
+    assert!(rt; first_wrong(&FULL, takes).is_none());
 }
 
 static REFUSED: [Way; 5] = [
@@ -205,7 +192,7 @@ static REFUSED: [Way; 5] = [
 
 #[test]
 fn only_the_owner_of_a_consistent_mutex_waits(rt: HostRuntime) {
-    assert!(rt; first_wrong(&REFUSED).is_none());
+    assert!(rt; first_wrong(&REFUSED, takes).is_none());
 }
 
 static SIGNALS: [Way; 2] = [
@@ -231,7 +218,7 @@ static SIGNALS: [Way; 2] = [
 
 #[test]
 fn a_signal_counts_and_wakes_one(rt: HostRuntime) {
-    assert!(rt; first_wrong(&SIGNALS).is_none());
+    assert!(rt; first_wrong(&SIGNALS, takes).is_none());
 }
 
 const HELD: [Step; 1] = [Step(Loads(10, 2), Goes)];
@@ -272,7 +259,7 @@ static BROADCASTS: [Way; 2] = [
 
 #[test]
 fn a_broadcast_moves_all_to_the_mutex(rt: HostRuntime) {
-    assert!(rt; first_wrong(&BROADCASTS).is_none());
+    assert!(rt; first_wrong(&BROADCASTS, takes).is_none());
 }
 
 static SIGNALS_REFUSED: [Way; 8] = [
@@ -303,7 +290,7 @@ static SIGNALS_REFUSED: [Way; 8] = [
 
 #[test]
 fn only_the_owner_signals_and_a_full_counter_stays(rt: HostRuntime) {
-    assert!(rt; first_wrong(&SIGNALS_REFUSED).is_none());
+    assert!(rt; first_wrong(&SIGNALS_REFUSED, takes).is_none());
 }
 
 const LOAD_CELL: Access = Access::Load { at: 10 };

@@ -212,3 +212,21 @@ pub(crate) fn makes<P: Stepping + Drop>(mut program: P, thread: Tid, parts: &[&[
     }
     false
 }
+
+/// An operation, and the accesses of its call, in parts.
+pub(crate) type Way = (Operation, &'static [&'static [Step]]);
+
+/// The place of the first call that makes other accesses, by the test of one.
+pub(crate) fn first_wrong<F: Fn(Operation, &[&[Step]]) -> bool>(
+    calls: &[Way],
+    takes: F,
+) -> Option<usize>
+    requires { F.IsAlwaysCallable takes }
+{
+    for (place, (operation, parts)) in calls.iter().enumerate() {
+        if !takes(*operation, *parts) {
+            return Some(place);
+        }
+    }
+    None
+}

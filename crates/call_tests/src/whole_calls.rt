@@ -3,7 +3,7 @@
 use crate::cell_calls::call;
 use crate::steps::Made::{Exchanges, Flips, Is, Loads, Stores, Wakes};
 use crate::steps::Then::{Decides, Ends, Goes, Returns};
-use crate::steps::{Step, Whole, makes};
+use crate::steps::{Step, Way, Whole, first_wrong, makes};
 use lockword::Reply::{EBUSY, EDEADLK, EFAULT, EINVAL, ENOTRECOVERABLE, EOWNERDEAD, EPERM, OK};
 use lockword::Tid;
 use memorymap::Layout;
@@ -59,9 +59,6 @@ const CLEARED: Step = Step(Stores(6, 0), Returns(OK));
 
 const CLEARED_OWNER_DEAD: Step = Step(Stores(6, 0), Returns(EOWNERDEAD));
 
-/// An operation, and the accesses of its call, in parts.
-type Call = (Operation, &'static [&'static [Step]]);
-
 /// The call makes these accesses, in these parts, and has returned after them.
 fn takes(operation: Operation, parts: &[&[Step]]) -> bool {
     let Some(thread) = Tid::new(2) else {
@@ -74,16 +71,6 @@ fn takes(operation: Operation, parts: &[&[Step]]) -> bool {
         Ok(program) => makes(Whole { program }, thread, parts),
         Err(_) => false,
     }
-}
-
-/// The place of the first call that makes others.
-fn first_wrong(calls: &[Call]) -> Option<usize> {
-    for (place, (operation, parts)) in calls.iter().enumerate() {
-        if !takes(*operation, *parts) {
-            return Some(place);
-        }
-    }
-    None
 }
 
 const LOCKS: [Step; 3] = [
@@ -116,7 +103,7 @@ const TRIES_OWNER_DEAD: [Step; 3] = [
     ),
 ];
 
-static TAKEN: [Call; 8] = [
+static TAKEN: [Way; 8] = [
     (Lock, &[&LOCKS, &LINKED_ALONE, &[CLEARED]]),
     (Lock, &[&LOCKS, &LINKED_IN_FRONT, &[CLEARED]]),
     (
@@ -141,10 +128,10 @@ static TAKEN: [Call; 8] = [
 
 #[test]
 fn who_takes_a_mutex_puts_it_on_the_list(rt: HostRuntime) {
-    assert!(rt; first_wrong(&TAKEN).is_none());
+    assert!(rt; first_wrong(&TAKEN, takes).is_none());
 }
 
-static REFUSED: [Call; 4] = [
+static REFUSED: [Way; 4] = [
     (
         Lock,
         &[&[
@@ -182,7 +169,7 @@ static REFUSED: [Call; 4] = [
 
 #[test]
 fn who_is_refused_a_mutex_only_clears_the_pending_entry(rt: HostRuntime) {
-    assert!(rt; first_wrong(&REFUSED).is_none());
+    assert!(rt; first_wrong(&REFUSED, takes).is_none());
 }
 
 /// The mutex is the thread's own, as the unlock sees.
@@ -220,7 +207,7 @@ const NOT_TRIMMED: [Step; 4] = [
     CLEARED,
 ];
 
-static UNLOCKED: [Call; 9] = [
+static UNLOCKED: [Way; 9] = [
     (Unlock, &[&HOLDS, &UNLINKED_ALONE, &RELEASED]),
     (Unlock, &[&HOLDS, &UNLINKED_BEHIND, &RELEASED]),
     (Unlock, &[&HOLDS, &UNLINKED_IN_FRONT, &RELEASED]),
@@ -251,7 +238,7 @@ static UNLOCKED: [Call; 9] = [
 
 #[test]
 fn an_unlock_takes_the_entry_out_of_the_list_first(rt: HostRuntime) {
-    assert!(rt; first_wrong(&UNLOCKED).is_none());
+    assert!(rt; first_wrong(&UNLOCKED, takes).is_none());
 }
 
 /// The declaration clears bit 30 alone.
@@ -270,7 +257,7 @@ const DECLARED: [Step; 2] = [
 ];
 
 /// They leave the mutex with its owner.
-static LEFT: [Call; 4] = [
+static LEFT: [Way; 4] = [
     (Unlock, &[&[Step(Loads(10, 1), Ends(Unlock, EPERM))]]),
     (
         Consistent,
@@ -285,7 +272,7 @@ static LEFT: [Call; 4] = [
 
 #[test]
 fn who_neither_takes_nor_releases_leaves_the_list(rt: HostRuntime) {
-    assert!(rt; first_wrong(&LEFT).is_none());
+    assert!(rt; first_wrong(&LEFT, takes).is_none());
 }
 
 const WAS_REFUSED: [Step; 2] = [ANNOUNCED, Step(Loads(10, 2), Decides(Lock, EDEADLK))];

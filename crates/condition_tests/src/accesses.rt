@@ -9,7 +9,7 @@ use std::alloc::Global;
 use std::sync::Wait;
 use std::sync::atomic::{AtomicU64, Ordering};
 use std::test::Fail;
-use thread_fixtures::{Asked, Left, Team, makes};
+use thread_fixtures::{Asked, Left, makes, team};
 
 /// What came of a call in which the thread may have died.
 #[derive(Clone, Copy, PartialEq, Eq)]
@@ -28,14 +28,7 @@ fn dies_before<R: Wait>(
     call: CondCall,
     access: u64,
 ) -> Result<Option<Story>, Fail> {
-    let Team {
-        bench,
-        first,
-        second,
-        third: _,
-        fourth: _,
-        fifth: _,
-    } = Team::new(alloc, Layout::new(5, 1, &[0])?, &[5])?;
+    let (bench, first, second, _, _, _) = team(alloc, Layout::new(5, 1, &[0])?, &[5])?;
     let Some((first, _taken)) = makes(rt, &bench, first, OnMutex(Lock(0)), &mut Never) else {
         return Ok(None);
     };

@@ -4,10 +4,23 @@ use condvar::Op::{OnCondition, OnMutex};
 use lockword::Reply::{EOWNERDEAD, EPERM, OK, XFULL, XSTATE};
 use memorymap::Layout;
 use mutex::Call::{Consistent, Lock, TryLock, Unlock};
+use std::alloc::Global;
+use std::sync;
 use std::test::Fail;
 use thread_fixtures::Step::{Calls, Kills};
 use thread_fixtures::Who::{First, Fourth, Second, Third};
 use thread_fixtures::{Step, plays};
+
+/// The cell and the counter that are left where five threads take these steps, and the counter begins so; None where a step goes otherwise.
+fn left_by<R: sync::Wait>(
+    rt: &R,
+    alloc: Global,
+    preset: u32,
+    steps: &[Step],
+) -> Result<Option<[u64; 2]>, Fail> {
+    let left = plays(rt, alloc, Layout::new(5, 1, &[0])?, &[preset], steps)?;
+    Ok(left.map(|left| [left.cells[0], left.counters[0]]))
+}
 
 /// Nobody owns the mutex, and then another thread does.
 static BY_OTHERS: [Step; 7] = [
@@ -22,8 +35,7 @@ static BY_OTHERS: [Step; 7] = [
 
 #[test]
 fn whoever_does_not_own_the_mutex_is_refused(rt: HostRuntime) -> Result<(), Fail> {
-    let left = plays(&rt, rt.alloc(), Layout::new(5, 1, &[0])?, &[7], &BY_OTHERS)?;
-    assert!(rt; left.is_some_and(|left| left.cells[0] == 2 && left.counters[0] == 7));
+    assert!(rt; left_by(&rt, rt.alloc(), 7, &BY_OTHERS)? == Some([2, 7]));
     Ok(())
 }
 
@@ -42,14 +54,7 @@ static BEHIND_A_DEATH: [Step; 9] = [
 
 #[test]
 fn a_wait_behind_a_death_is_refused(rt: HostRuntime) -> Result<(), Fail> {
-    let left = plays(
-        &rt,
-        rt.alloc(),
-        Layout::new(5, 1, &[0])?,
-        &[0],
-        &BEHIND_A_DEATH,
-    )?;
-    assert!(rt; left.is_some_and(|left| left.cells[0] == 0x8000_0002 && left.counters[0] == 3));
+    assert!(rt; left_by(&rt, rt.alloc(), 0, &BEHIND_A_DEATH)? == Some([0x8000_0002, 3]));
     Ok(())
 }
 
@@ -70,8 +75,7 @@ static KILLED: [Step; 11] = [
 
 #[test]
 fn killed_owners_die_in_their_next_calls(rt: HostRuntime) -> Result<(), Fail> {
-    let left = plays(&rt, rt.alloc(), Layout::new(5, 1, &[0])?, &[0], &KILLED)?;
-    assert!(rt; left.is_some_and(|left| left.cells[0] == 0xc000_0004 && left.counters[0] == 1));
+    assert!(rt; left_by(&rt, rt.alloc(), 0, &KILLED)? == Some([0xc000_0004, 1]));
     Ok(())
 }
 
@@ -88,13 +92,6 @@ static FULL: [Step; 7] = [
 
 #[test]
 fn a_full_counter_is_told(rt: HostRuntime) -> Result<(), Fail> {
-    let left = plays(
-        &rt,
-        rt.alloc(),
-        Layout::new(5, 1, &[0])?,
-        &[0xffff_fffe],
-        &FULL,
-    )?;
-    assert!(rt; left.is_some_and(|left| left.cells[0] == 2 && left.counters[0] == 0xffff_ffff));
+    assert!(rt; left_by(&rt, rt.alloc(), 0xffff_fffe, &FULL)? == Some([2, 0xffff_ffff]));
     Ok(())
 }

@@ -18,7 +18,7 @@ use std::sync::atomic::Ordering;
 use std::test::Fail;
 use std::thread::{self, Threads};
 use std::time::Clock;
-use thread_fixtures::{Left, Team, makes};
+use thread_fixtures::{Left, makes, team};
 
 /// A layout's mutexes, and one of its two condition variables, both of which belong to mutex 0.
 #[derive(Clone, Copy)]
@@ -100,14 +100,7 @@ fn played_on<R: Threads + Wait + Clock + Sync>(
     condition: u16,
     roles: [Role; 4],
 ) -> Result<Story, Fail> {
-    let Team {
-        bench,
-        first,
-        second,
-        third,
-        fourth,
-        fifth,
-    } = Team::new(alloc, layout, &[0, 0])?;
+    let (bench, first, second, third, fourth, fifth) = team(alloc, layout, &[0, 0])?;
     let board = Board::new(condition);
     let shared = &bench;
     let told = &board;

@@ -1,10 +1,10 @@
 //! `rfx-explain` from the words of its command line on: its forms, files that are there or not, writers that fail, refused memory.
 
-use crate::files::{Folder, answer_of, words};
-use crate::writers::{Few, Fixed};
+use crate::answers::answer_of;
 use explain::{OUT_OF_MEMORY, run};
 use std::alloc::{AllocError, Global};
 use std::io::{self, ErrorKind};
+use text_fixtures::{Faulty, Fixed, Folder, words};
 
 const SCRIPT: &[u8] = b"tread a\n";
 
@@ -56,10 +56,10 @@ fn refused_words_and_files_are_told(rt: HostRuntime) {
 
 /// Whether an explanation that a writer with this room can't hold is told, and its beginning written.
 fn is_told_of_room(alloc: Global, room: usize) -> bool {
-    let mut out = Few::new(alloc, room, false);
+    let mut out = Faulty::new(alloc, room, false);
     let mut err = Vec::new(alloc);
     let line = words(alloc, &["rfx-explain", "f"]);
-    let status = run(alloc, line, &Folder(SCRIPT), &mut out, &mut err);
+    let status = run(alloc, line, &Folder::new(SCRIPT), &mut out, &mut err);
     let front = TEXT.as_bytes().get(..room).unwrap_or(b"");
     status == 1
         && out.held.as_slice() == front
@@ -76,10 +76,10 @@ fn an_explanation_that_cannot_be_written_is_told(rt: HostRuntime) {
 /// What was written and isn't let go of is told; and a message that can't be written changes no status.
 #[test]
 fn writers_that_fail_are_told(rt: HostRuntime) {
-    let mut out = Few::new(rt.alloc(), 4_096, true);
-    let mut err = Few::new(rt.alloc(), 12, false);
+    let mut out = Faulty::stuck(rt.alloc());
+    let mut err = Faulty::new(rt.alloc(), 12, false);
     let line = words(rt.alloc(), &["rfx-explain", "f"]);
-    let status = run(rt.alloc(), line, &Folder(SCRIPT), &mut out, &mut err);
+    let status = run(rt.alloc(), line, &Folder::new(SCRIPT), &mut out, &mut err);
     assert!(rt; status == 1 && out.held.as_slice() == TEXT.as_bytes());
     assert!(rt; err.held.as_slice() == "rfx-explain:".as_bytes());
 }
@@ -89,7 +89,7 @@ fn explains_or_wants_memory(alloc: Global) -> bool {
     let mut out = Fixed::new();
     let mut err = Fixed::new();
     let line = words(alloc, &["rfx-explain", "f"]);
-    let status = run(alloc, line, &Folder(SCRIPT), &mut out, &mut err);
+    let status = run(alloc, line, &Folder::new(SCRIPT), &mut out, &mut err);
     if out.bytes() == TEXT.as_bytes() {
         return status == 1 && err.bytes().is_empty();
     }

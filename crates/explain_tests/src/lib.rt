@@ -2,10 +2,8 @@
 #![tactic(auto)]
 
 #[cfg(test)]
+mod answers;
+#[cfg(test)]
 mod commands;
 #[cfg(test)]
-mod files;
-#[cfg(test)]
 mod mistakes;
-#[cfg(test)]
-mod writers;

@@ -1,6 +1,7 @@
 //! What is told of each mistake.
 
-use crate::files::{answer_of, words};
+use crate::answers::answer_of;
+use text_fixtures::words;
 
 /// Bytes of a file, and what is told of them.
 static MISTAKES: [(&[u8], u8, &str); 46] = [

@@ -1,6 +1,6 @@
 //! Links and unlinks over the words of one thread and two mutexes: its head at 1, the mutexes' entries at 5 and 8.
 
-use crate::words::{load, store};
+use crate::words::{ANSWERS, load, store};
 use lockword::Reply;
 use robustlist::{
     Link, Unlink, chains_are_unique, heads_begin_empty, links_alone, links_are_right,
@@ -21,17 +21,10 @@ const FAULTED: Progress = Progress::Returns {
     point: None,
 };
 
-/// What neither a load nor a store is answered, but for a fault.
-const STRANGE: [Answer; 8] = [
-    Answer::Fault,
-    Answer::Exchanged,
-    Answer::Changed(8),
-    Answer::Again,
-    Answer::Woken,
-    Answer::Count(0),
-    Answer::Counts(0, 0),
-    Answer::Trimmed(true),
-];
+/// Whether a load or a store may be answered so.
+fn is_of_loads_or_stores(answer: Answer) -> bool {
+    matches!(answer, Answer::Value(_) | Answer::Stored)
+}
 
 /// The right answers of a link that finds the entry at 8 first, and beside each one that belongs to the other kind of access.
 const LINK: [(Answer, Answer); 5] = [
@@ -127,17 +120,25 @@ fn addresses_are_summed_in_64_bits(rt: HostRuntime) {
     assert!(rt; link.next() == Access::Store { at: 0, value: 8 });
 }
 
-#[test]
-fn a_link_takes_any_other_answer_for_a_fault(rt: HostRuntime) {
-    let mut link = Link::new(1, 5);
-    for (right, crossed) in LINK {
-        for answer in STRANGE {
-            let mut other = link;
-            assert!(rt; other.resume(answer) == FAULTED);
+/// A link or an unlink takes any other answer than these right ones for a fault.
+fn takes_no_other<P: StepProgram + Copy + Drop>(
+    rt: &impl Abort,
+    begun: P,
+    answers: &[(Answer, Answer)],
+)
+    requires { P.is_under_way begun }
+{
+    let mut program = begun;
+    for (right, crossed) in answers {
+        for answer in ANSWERS {
+            if !is_of_loads_or_stores(answer) {
+                let mut other = program;
+                assert!(rt; other.resume(answer) == FAULTED);
+            }
         }
-        let mut other = link;
-        assert!(rt; other.resume(crossed) == FAULTED);
-        let made = link.resume(right);
+        let mut other = program;
+        assert!(rt; other.resume(*crossed) == FAULTED);
+        let made = program.resume(*right);
         if let Progress::Returns { .. } = made {
             assert!(rt; made == LINKED);
             return;
@@ -148,23 +149,13 @@ fn a_link_takes_any_other_answer_for_a_fault(rt: HostRuntime) {
 }
 
 #[test]
+fn a_link_takes_any_other_answer_for_a_fault(rt: HostRuntime) {
+    takes_no_other(&rt, Link::new(1, 5), &LINK);
+}
+
+#[test]
 fn an_unlink_takes_any_other_answer_for_a_fault(rt: HostRuntime) {
-    let mut unlink = Unlink::new(1, 5);
-    for (right, crossed) in UNLINK {
-        for answer in STRANGE {
-            let mut other = unlink;
-            assert!(rt; other.resume(answer) == FAULTED);
-        }
-        let mut other = unlink;
-        assert!(rt; other.resume(crossed) == FAULTED);
-        let made = unlink.resume(right);
-        if let Progress::Returns { .. } = made {
-            assert!(rt; made == LINKED);
-            return;
-        }
-        assert!(rt; made == GOES);
-    }
-    assert!(rt; false);
+    takes_no_other(&rt, Unlink::new(1, 5), &UNLINK);
 }
 
 #[test]

@@ -2,6 +2,20 @@
 
 use stepprograms::Answer;
 
+/// Every kind of answer.
+pub(crate) const ANSWERS: [Answer; 10] = [
+    Answer::Value(1),
+    Answer::Stored,
+    Answer::Exchanged,
+    Answer::Changed(1),
+    Answer::Again,
+    Answer::Woken,
+    Answer::Count(1),
+    Answer::Counts(0, 0),
+    Answer::Trimmed(true),
+    Answer::Fault,
+];
+
 /// The word at an address.
 pub(crate) fn load(words: &[u64], at: u64) -> Answer {
     match words.get(at as usize) {

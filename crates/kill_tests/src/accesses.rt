@@ -10,7 +10,7 @@ use std::alloc::Global;
 use std::sync::Wait;
 use std::sync::atomic::{AtomicU64, Ordering};
 use std::test::Fail;
-use thread_fixtures::{Asked, Left, Team, makes};
+use thread_fixtures::{Asked, Left, makes, team};
 use threadbench::Bench;
 
 /// Makes calls with this fate, as far as the thread lives: how many were told OK.
@@ -52,14 +52,7 @@ struct Story {
 
 /// A thread makes calls on mutex 0, and dies before its access with that number.
 fn dies_before<R: Wait>(rt: &R, alloc: Global, calls: &[Op], access: u64) -> Result<Story, Fail> {
-    let Team {
-        bench,
-        first,
-        second,
-        third,
-        fourth: _,
-        fifth: _,
-    } = Team::new(alloc, Layout::new(5, 1, &[])?, &[])?;
+    let (bench, first, second, third, _, _) = team(alloc, Layout::new(5, 1, &[])?, &[])?;
     let count = AtomicU64::new(0);
     let made = made(rt, &bench, first, calls, &mut Asked::new(&count, access));
     let told = makes(rt, &bench, second, OnMutex(TryLock(0)), &mut Never).map(|made| made.1);
@@ -144,14 +137,7 @@ impl<R: Wait> Fate for KillsAt<'_, R> {
 
 /// What the next one is told of the mutex where thread 1 is killed right before an access of its lock; None where it lived.
 fn killed_at<R: Wait>(rt: &R, alloc: Global, access: u32) -> Result<Option<Reply>, Fail> {
-    let Team {
-        bench,
-        first,
-        second,
-        third: _,
-        fourth: _,
-        fifth: _,
-    } = Team::new(alloc, Layout::new(5, 1, &[])?, &[])?;
+    let (bench, first, second, _, _, _) = team(alloc, Layout::new(5, 1, &[])?, &[])?;
     let mut fate = KillsAt {
         rt,
         bench: &bench,

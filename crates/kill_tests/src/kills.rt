@@ -6,14 +6,26 @@ use lockword::Reply::{self, EOWNERDEAD, OK};
 use memorymap::Layout;
 use mutex::Call::{Lock, Unlock};
 use ruledwords::{Live, Never, Pass};
+use std::alloc::Global;
 use std::sync::Wait;
 use std::sync::atomic::{AtomicU64, Ordering};
 use std::test::Fail;
 use std::thread;
 use thread_fixtures::Step::{Calls, Kills, KillsProcess};
 use thread_fixtures::Who::{First, Fourth, Second, Third};
-use thread_fixtures::{Left, Step, Team, makes, plays, waits_for};
+use thread_fixtures::{Left, Step, makes, plays, team, waits_for};
 use threadbench::Bench;
+
+/// The cells that are left where these steps go as they should; None where one goes otherwise.
+fn cells_of<R: Wait>(
+    rt: &R,
+    alloc: Global,
+    layout: Layout,
+    steps: &[Step],
+) -> Result<Option<[u64; 2]>, Fail> {
+    let left = plays(rt, alloc, layout, &[], steps)?;
+    Ok(left.map(|left| left.cells))
+}
 
 static IN_THE_NEXT_CALL: [Step; 7] = [
     Calls(First, OnMutex(Lock(0)), Some(OK)),
@@ -28,14 +40,8 @@ static IN_THE_NEXT_CALL: [Step; 7] = [
 /// A thread that was killed dies in its next call; what it held is marked, and what it was about to take isn't touched. A second kill changes nothing.
 #[test]
 fn a_thread_dies_in_its_next_call(rt: HostRuntime) -> Result<(), Fail> {
-    let left = plays(
-        &rt,
-        rt.alloc(),
-        Layout::new(5, 2, &[])?,
-        &[],
-        &IN_THE_NEXT_CALL,
-    )?;
-    assert!(rt; left.is_some_and(|left| left.cells == [0x4000_0002, 2]));
+    let layout = Layout::new(5, 2, &[])?;
+    assert!(rt; cells_of(&rt, rt.alloc(), layout, &IN_THE_NEXT_CALL)? == Some([0x4000_0002, 2]));
     Ok(())
 }
 
@@ -49,14 +55,8 @@ static BEFORE_IT_PAYS: [Step; 4] = [
 /// The end of an unlock heeds a kill, and its release doesn't: the mutex is free.
 #[test]
 fn a_thread_dies_before_it_pays(rt: HostRuntime) -> Result<(), Fail> {
-    let left = plays(
-        &rt,
-        rt.alloc(),
-        Layout::new(5, 1, &[])?,
-        &[],
-        &BEFORE_IT_PAYS,
-    )?;
-    assert!(rt; left.is_some_and(|left| left.cells == [2, 0]));
+    let layout = Layout::new(5, 1, &[])?;
+    assert!(rt; cells_of(&rt, rt.alloc(), layout, &BEFORE_IT_PAYS)? == Some([2, 0]));
     Ok(())
 }
 
@@ -73,8 +73,7 @@ static PROCESS_1: [Step; 6] = [
 #[test]
 fn a_process_is_killed(rt: HostRuntime) -> Result<(), Fail> {
     let layout = Layout::with_processes(&[0, 1, 0, 1, 0], &[0, 1000], 2, &[])?;
-    let left = plays(&rt, rt.alloc(), layout, &[], &PROCESS_1)?;
-    assert!(rt; left.is_some_and(|left| left.cells == [0x4000_0001, 3]));
+    assert!(rt; cells_of(&rt, rt.alloc(), layout, &PROCESS_1)? == Some([0x4000_0001, 3]));
     Ok(())
 }
 
@@ -83,14 +82,8 @@ static ANOTHER_THREAD: [Step; 2] = [Kills(28), Calls(First, OnMutex(Lock(0)), So
 /// The note of a kill is that of its thread alone: the first of the last five of 64 threads, with the id 60, lives where 28 is killed.
 #[test]
 fn another_thread_is_killed(rt: HostRuntime) -> Result<(), Fail> {
-    let left = plays(
-        &rt,
-        rt.alloc(),
-        Layout::new(64, 1, &[])?,
-        &[],
-        &ANOTHER_THREAD,
-    )?;
-    assert!(rt; left.is_some_and(|left| left.cells == [60, 0]));
+    let layout = Layout::new(64, 1, &[])?;
+    assert!(rt; cells_of(&rt, rt.alloc(), layout, &ANOTHER_THREAD)? == Some([60, 0]));
     Ok(())
 }
 
@@ -127,14 +120,7 @@ fn run_until_killed<R: Wait>(rt: &R, bench: &Bench, first: Pass<Live>, rounds: &
 #[test]
 fn a_running_thread_is_killed(rt: HostRuntime) -> Result<(), Fail> {
     for _ in 0..20_u32 {
-        let Team {
-            bench,
-            first,
-            second,
-            third: _,
-            fourth: _,
-            fifth: _,
-        } = Team::new(rt.alloc(), Layout::new(5, 2, &[])?, &[])?;
+        let (bench, first, second, _, _, _) = team(rt.alloc(), Layout::new(5, 2, &[])?, &[])?;
         let owner = makes(&rt, &bench, first, OnMutex(Lock(0)), &mut Never).expect(&rt, "it lives");
         let rounds = AtomicU64::new(0);
         let shared = &bench;

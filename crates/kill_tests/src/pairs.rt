@@ -5,7 +5,7 @@ ghost use Rattle.ruledwords.specs.Passes.{IsLive};
 use condvar::Op::OnMutex;
 use lockword::Reply::{self, ENOTRECOVERABLE, EOWNERDEAD, OK};
 use memorymap::Layout;
-use mutex::Call::{self, Consistent, Lock, Unlock};
+use mutex::Call::{Consistent, Lock, Unlock};
 use ruledwords::{Live, Never, Pass};
 use std::alloc::Global;
 use std::sync::Wait;
@@ -13,7 +13,7 @@ use std::sync::atomic::{AtomicU64, Ordering};
 use std::test::Fail;
 use std::thread::{self, Threads};
 use std::time::Clock;
-use thread_fixtures::{Asked, Team, are_asleep, ends_unless, fall_asleep, makes, waits_for};
+use thread_fixtures::{are_asleep, dies, ends_unless, fall_asleep, makes, team, waits_for};
 use threadbench::Bench;
 
 /// The threads that sleep.
@@ -88,27 +88,12 @@ fn follows<R: Wait + Clock>(
     Some(told)
 }
 
-/// Makes a call in which the thread dies before its access with that number: whether it did.
-fn dies<R: Wait>(rt: &R, bench: &Bench, pass: Pass<Live>, call: Call, access: u64) -> bool
-    requires { IsLive bench.now pass }
-{
-    let count = AtomicU64::new(0);
-    makes(
-        rt,
-        bench,
-        pass,
-        OnMutex(call),
-        &mut Asked::new(&count, access),
-    )
-    .is_none()
-}
-
 /// Takes the mutex, and dies before its next access: whether it did.
 fn has_and_dies<R: Wait>(rt: &R, bench: &Bench, pass: Pass<Live>) -> bool
     requires { IsLive bench.now pass }
 {
     match makes(rt, bench, pass, OnMutex(Lock(0)), &mut Never) {
-        Some((pass, _)) => dies(rt, bench, pass, Consistent(0), 1),
+        Some((pass, _)) => dies(rt, bench, pass, OnMutex(Consistent(0)), 1),
         None => false,
     }
 }
@@ -128,10 +113,10 @@ fn ends<R: Wait + Clock>(rt: &R, bench: &Bench, pass: Pass<Live>, end: End, boar
 {
     let came = fall_asleep(rt, bench, &SLEEPERS);
     let went = match end {
-        End::Dies | End::DiesWithBoth => dies(rt, bench, pass, Consistent(0), 1),
+        End::Dies | End::DiesWithBoth => dies(rt, bench, pass, OnMutex(Consistent(0)), 1),
         End::Spoils => makes(rt, bench, pass, OnMutex(Unlock(0)), &mut Never).is_some(),
         // an unlock makes six accesses up to the one that frees the mutex
-        End::SpoilsAndDies => dies(rt, bench, pass, Unlock(0), 7),
+        End::SpoilsAndDies => dies(rt, bench, pass, OnMutex(Unlock(0)), 7),
         End::KillsTheirProcess | End::KillsProcess0 => kills(rt, bench, pass, end, board),
     };
     let ended = waits_for(rt, &board.ended, 2);
@@ -186,14 +171,7 @@ fn played<R: Threads + Wait + Clock + Sync>(
     alloc: Global,
     end: End,
 ) -> Result<Option<Story>, Fail> {
-    let Team {
-        bench,
-        first,
-        second: _,
-        third,
-        fourth,
-        fifth,
-    } = Team::new(alloc, end.layout()?, &[])?;
+    let (bench, first, _, third, fourth, fifth) = team(alloc, end.layout()?, &[])?;
     if end.spoils() && !has_and_dies(rt, &bench, first) {
         return Ok(None);
     }

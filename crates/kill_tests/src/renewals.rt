@@ -9,7 +9,7 @@ use mutex::Call::{self, Consistent, Lock, Unlock};
 use ruledwords::{Live, Never, Outcome, Pass};
 use std::sync::Wait;
 use std::test::Fail;
-use thread_fixtures::{Left, Team, makes};
+use thread_fixtures::{Left, makes, team};
 use threadbench::Bench;
 
 /// Makes a call. None where its thread dies in it, or it is answered otherwise.
@@ -76,14 +76,7 @@ fn three_lives<R: Wait>(rt: &R, bench: &Bench, pass: Pass<Live>) -> Option<Pass<
 /// next one, it owns nothing at first, and it is told of what the last one left.
 #[test]
 fn a_thread_lives_four_times(rt: HostRuntime) -> Result<(), Fail> {
-    let Team {
-        bench,
-        first,
-        second: _,
-        third: _,
-        fourth: _,
-        fifth: _,
-    } = Team::new(rt.alloc(), Layout::new(5, 2, &[])?, &[])?;
+    let (bench, first, _, _, _, _) = team(rt.alloc(), Layout::new(5, 2, &[])?, &[])?;
     let last = three_lives(&rt, &bench, first).expect(&rt, "each life is told what it should be");
     assert!(rt; Left::of(bench, last).cells == [0, 0]);
     Ok(())

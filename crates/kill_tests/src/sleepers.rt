@@ -12,7 +12,7 @@ use std::sync::atomic::{AtomicU64, Ordering};
 use std::test::Fail;
 use std::thread::{self, Threads};
 use std::time::Clock;
-use thread_fixtures::{Asked, Left, Team, ends_unless, fall_asleep, makes, waits_for};
+use thread_fixtures::{Asked, Left, dies, ends_unless, fall_asleep, makes, team, waits_for};
 use threadbench::Bench;
 
 /// How often the fate of a thread is asked that locks an owned mutex, until it sleeps.
@@ -97,8 +97,7 @@ fn acts<R: Wait + Clock>(rt: &R, bench: &Bench, pass: Pass<Live>, plan: Plan, bo
         return kill_and_free(rt, bench, pass, plan, board) && came;
     }
     let came = fall_asleep(rt, bench, &[plan.sleeper]);
-    let count = AtomicU64::new(0);
-    let (op, stops_at) = match plan.act {
+    let (call, stops_at) = match plan.act {
         Act::Kills | Act::KillsAfter(_) | Act::KillsItsProcess => {
             return kill_and_free(rt, bench, pass, plan, board) && came;
         }
@@ -108,14 +107,8 @@ fn acts<R: Wait + Clock>(rt: &R, bench: &Bench, pass: Pass<Live>, plan: Plan, bo
         Act::IsKilled => (Lock(plan.mutex), 0),
     };
     let killed = plan.act != Act::IsKilled || bench.kill(rt, plan.owner) == Ok(());
-    let made = makes(
-        rt,
-        bench,
-        pass,
-        OnMutex(op),
-        &mut Asked::new(&count, stops_at),
-    );
-    ends_unless(rt, bench, came && killed && made.is_none())
+    let died = dies(rt, bench, pass, OnMutex(call), stops_at);
+    ends_unless(rt, bench, came && killed && died)
 }
 
 /// What came of a plan.
@@ -139,14 +132,7 @@ fn played<R: Threads + Wait + Clock + Sync>(
     mutex: u16,
     act_of: Act,
 ) -> Result<Story, Fail> {
-    let Team {
-        bench,
-        first: _,
-        second,
-        third,
-        fourth,
-        fifth,
-    } = Team::new(alloc, layout, &[])?;
+    let (bench, _, second, third, fourth, fifth) = team(alloc, layout, &[])?;
     let plan = Plan {
         mutex,
         owner: fourth.thread().get(),
@@ -185,18 +171,22 @@ fn played<R: Threads + Wait + Clock + Sync>(
     })
 }
 
-/// A sleeper is killed while the mutex is owned: its call ends, and the mutex can be had by a third thread. The owner's unlock found nobody to wake, and trimmed the cell: WAITERS isn't there any more.
-#[test]
-fn a_sleeper_is_killed(rt: HostRuntime) -> Result<(), Fail> {
-    let want = Story {
+/// The sleeper died, and a third thread takes the mutex, which leaves this in the cell of the first one.
+fn sleeper_died(cell: u64) -> Story {
+    Story {
         well: true,
         sleeper: None,
         next: Some(OK),
-        cell: 3,
-    };
+        cell,
+    }
+}
+
+/// A sleeper is killed while the mutex is owned: its call ends, and the mutex can be had by a third thread. The owner's unlock found nobody to wake, and trimmed the cell: WAITERS isn't there any more.
+#[test]
+fn a_sleeper_is_killed(rt: HostRuntime) -> Result<(), Fail> {
     for _ in 0..20_u32 {
         let found = played(&rt, rt.alloc(), Layout::new(5, 1, &[])?, 0, Act::Kills)?;
-        assert!(rt; found == want);
+        assert!(rt; found == sleeper_died(3));
     }
     Ok(())
 }
@@ -204,16 +194,10 @@ fn a_sleeper_is_killed(rt: HostRuntime) -> Result<(), Fail> {
 /// A process is killed while its only thread sleeps on a mutex that a thread of another process owns.
 #[test]
 fn a_process_is_killed_asleep(rt: HostRuntime) -> Result<(), Fail> {
-    let want = Story {
-        well: true,
-        sleeper: None,
-        next: Some(OK),
-        cell: 3,
-    };
     for _ in 0..20_u32 {
         let layout = Layout::with_processes(&[0, 0, 0, 0, 1], &[0, 1000], 1, &[])?;
         let found = played(&rt, rt.alloc(), layout, 0, Act::KillsItsProcess)?;
-        assert!(rt; found == want);
+        assert!(rt; found == sleeper_died(3));
     }
     Ok(())
 }
@@ -221,17 +205,11 @@ fn a_process_is_killed_asleep(rt: HostRuntime) -> Result<(), Fail> {
 /// Killed before it sleeps, about to, or asleep, it dies in any case.
 #[test]
 fn whoever_is_about_to_sleep_is_killed(rt: HostRuntime) -> Result<(), Fail> {
-    let want = Story {
-        well: true,
-        sleeper: None,
-        next: Some(OK),
-        cell: 3,
-    };
     for asked in 0..=ASLEEP {
         for _ in 0..40_u32 {
             let act = Act::KillsAfter(asked);
             let found = played(&rt, rt.alloc(), Layout::new(5, 1, &[])?, 0, act)?;
-            assert!(rt; found == want);
+            assert!(rt; found == sleeper_died(3));
         }
     }
     Ok(())
@@ -245,14 +223,8 @@ const BUCKETS: u16 = 256;
 fn a_sleeper_is_killed_in_each_bucket(rt: HostRuntime) -> Result<(), Fail> {
     for mutex in 0..BUCKETS {
         let layout = Layout::new(5, BUCKETS, &[])?;
-        let want = Story {
-            well: true,
-            sleeper: None,
-            next: Some(OK),
-            cell: if mutex == 0 { 3 } else { 0 },
-        };
         let found = played(&rt, rt.alloc(), layout, mutex, Act::Kills)?;
-        assert!(rt; found == want);
+        assert!(rt; found == sleeper_died(if mutex == 0 { 3 } else { 0 }));
     }
     Ok(())
 }
@@ -273,13 +245,8 @@ fn in_a_high_bucket(layout: &Layout) -> u16 {
 fn the_last_of_64_threads_is_killed_in_a_high_bucket(rt: HostRuntime) -> Result<(), Fail> {
     let layout = Layout::new(64, 300, &[])?;
     let mutex = in_a_high_bucket(&layout);
-    let want = Story {
-        well: true,
-        sleeper: None,
-        next: Some(OK),
-        cell: 0,
-    };
-    assert!(rt; mutex > 0 && played(&rt, rt.alloc(), layout, mutex, Act::Kills)? == want);
+    let found = played(&rt, rt.alloc(), layout, mutex, Act::Kills)?;
+    assert!(rt; mutex > 0 && found == sleeper_died(0));
     Ok(())
 }
 

@@ -1,10 +1,10 @@
 //! `rfx-draw` from the words of its command line on: its forms, each fault, files that are there or not, readers and writers that fail.
 
-use crate::files::{Folder, answer_of, folder_of, words};
-use crate::writers::{Few, Fixed};
+use crate::answers::answer_of;
 use draw_report::{OUT_OF_MEMORY, run};
 use std::alloc::{AllocError, Global};
 use std::io::{self, ErrorKind};
+use text_fixtures::{Faulty, Fixed, Folder, wants_memory, words};
 
 pub(crate) const TRACE: &[u8] = b"trace 1 1 0\n1 begin t1 lock m0\nend 1\n";
 
@@ -13,7 +13,7 @@ pub(crate) const SCRIPT: &[u8] = b"thread alice\nmutex accounts\n";
 const TEXT: &str = " event  m0   t1\n     1  -    ┌ lock m0\n     1  end\n";
 
 fn files_of(text: &[u8]) -> Folder<'_> {
-    folder_of(SCRIPT, text)
+    Folder::with_script(SCRIPT, text)
 }
 
 pub(crate) const USAGE: &str = "usage: rfx-draw [--svg] [--script SCRIPT] [FILE] | --legend\n";
@@ -107,9 +107,10 @@ static LINES: [(&[u8], &[&str], u8, &str, &str, usize); 22] = [
 #[test]
 fn command_lines_are_served(rt: HostRuntime) {
     for (file, line, status, printed, told, opened) in &LINES {
-        let answered = answer_of(rt.alloc(), words(rt.alloc(), *line), &files_of(*file));
+        let files = files_of(*file);
+        let answered = answer_of(rt.alloc(), words(rt.alloc(), *line), &files);
         assert!(rt; answered.is(*status, *printed, *told));
-        assert!(rt; answered.opened == *opened);
+        assert!(rt; files.opened.get() == *opened);
     }
 }
 
@@ -123,8 +124,9 @@ static SVG_LINES: [&[&str]; 2] = [&["rfx-draw", "--svg"], &["rfx-draw", "--svg",
 #[test]
 fn svg_is_drawn(rt: HostRuntime) {
     for line in &SVG_LINES {
-        let answered = answer_of(rt.alloc(), words(rt.alloc(), *line), &files_of(TRACE));
-        assert!(rt; answered.status == 0 && answered.told.is_empty() && answered.opened == 1);
+        let files = files_of(TRACE);
+        let answered = answer_of(rt.alloc(), words(rt.alloc(), *line), &files);
+        assert!(rt; answered.status == 0 && answered.told.is_empty() && files.opened.get() == 1);
         assert!(rt;
             answered.printed.starts_with(b"<svg xmlns")
                 && answered.printed.ends_with(SVG_END.as_bytes())
@@ -180,7 +182,7 @@ fn refused_words_and_files_are_told(rt: HostRuntime) {
 
 /// Whether a picture that a writer with this room can't hold is told, and its beginning written.
 fn is_told_of_room(alloc: Global, room: usize) -> bool {
-    let mut out = Few::new(alloc, room, false);
+    let mut out = Faulty::new(alloc, room, false);
     let mut err = Vec::new(alloc);
     let line = words(alloc, &["rfx-draw", "f"]);
     let status = run(alloc, line, &files_of(TRACE), &mut out, &mut err);
@@ -201,8 +203,8 @@ fn a_picture_that_cannot_be_written_is_told(rt: HostRuntime) {
 #[test]
 fn writers_that_fail_are_told(rt: HostRuntime) {
     let files = files_of(TRACE);
-    let mut out = Few::new(rt.alloc(), 4_096, true);
-    let mut err = Few::new(rt.alloc(), 9, false);
+    let mut out = Faulty::stuck(rt.alloc());
+    let mut err = Faulty::new(rt.alloc(), 9, false);
     let line = words(rt.alloc(), &["rfx-draw", "f"]);
     let status = run(rt.alloc(), line, &files, &mut out, &mut err);
     assert!(rt; status == 1 && out.held.as_slice() == TEXT.as_bytes());
@@ -214,10 +216,7 @@ fn is_drawn_or_wants_memory(status: u8, out: &Fixed, err: &Fixed, end: &str) -> 
     if status == 0 {
         return out.bytes().ends_with(end.as_bytes()) && err.bytes().is_empty();
     }
-    status == 1
-        && out.bytes().is_empty()
-        && err.bytes().starts_with(b"rfx-draw: ")
-        && err.bytes().ends_with(b"out of memory\n")
+    wants_memory(status, out, err, b"rfx-draw: ")
 }
 
 pub(crate) fn draws_or_wants_memory(alloc: Global, line: &[&str], end: &str) -> bool {

@@ -2,14 +2,12 @@
 #![tactic(auto)]
 
 #[cfg(test)]
-mod commands;
+mod answers;
 #[cfg(test)]
-mod files;
+mod commands;
 #[cfg(test)]
 mod names;
 #[cfg(test)]
 mod pictures;
 #[cfg(test)]
 mod svg_pictures;
-#[cfg(test)]
-mod writers;

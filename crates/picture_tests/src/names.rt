@@ -1,7 +1,8 @@
 //! `rfx-draw --script`: pictures with the names of a script, and scripts that are refused.
 
+use crate::answers::answer_of;
 use crate::commands::{SCRIPT, TRACE, USAGE, draws_or_wants_memory};
-use crate::files::{answer_of, folder_of, words};
+use text_fixtures::{Folder, words};
 
 /// With the names of the script.
 const NAMED: &str = " event  accounts  alice\n     1  -         ┌ lock accounts\n     1  end\n";
@@ -9,57 +10,23 @@ const NAMED: &str = " event  accounts  alice\n     1  -         ┌ lock account
 const UNLIKE: &str =
     "rfx-draw: script: not of this trace, which has other numbers of threads, mutexes or condition variables\n";
 
-/// A script, a trace, a command line, what comes of it, and how often a file is opened.
-static SCRIPTS: [(&[u8], &[u8], &[&str], u8, &str, &str, usize); 26] = [
-    (
-        SCRIPT,
-        TRACE,
-        &["rfx-draw", "--script", "s"],
-        0,
-        NAMED,
-        "",
-        2,
-    ),
-    (
-        SCRIPT,
-        TRACE,
-        &["rfx-draw", "--script", "s", "f"],
-        0,
-        NAMED,
-        "",
-        2,
-    ),
+/// A script, a command line, what comes of it, and how often a file is opened.
+static SCRIPTS: [(&[u8], &[&str], u8, &str, &str, usize); 25] = [
+    (SCRIPT, &["rfx-draw", "--script", "s"], 0, NAMED, "", 2),
+    (SCRIPT, &["rfx-draw", "--script", "s", "f"], 0, NAMED, "", 2),
     (
         b"# commands say nothing of names\nthread t2\nmutex m\ncall t2 lock m\nkill t2\n",
-        TRACE,
         &["rfx-draw", "--script", "s", "f"],
         0,
         " event  m    t2\n     1  -    ┌ lock m\n     1  end\n",
         "",
         2,
     ),
-    (SCRIPT, TRACE, &["rfx-draw", "--script"], 2, "", USAGE, 0),
+    (SCRIPT, &["rfx-draw", "--script"], 2, "", USAGE, 0),
+    (SCRIPT, &["rfx-draw", "--scripts", "s"], 2, "", USAGE, 0),
+    (SCRIPT, &["rfx-draw", "--script", "-s"], 2, "", USAGE, 0),
     (
         SCRIPT,
-        TRACE,
-        &["rfx-draw", "--scripts", "s"],
-        2,
-        "",
-        USAGE,
-        0,
-    ),
-    (
-        SCRIPT,
-        TRACE,
-        &["rfx-draw", "--script", "-s"],
-        2,
-        "",
-        USAGE,
-        0,
-    ),
-    (
-        SCRIPT,
-        TRACE,
         &["rfx-draw", "--script", "s", "-f"],
         2,
         "",
@@ -68,7 +35,6 @@ static SCRIPTS: [(&[u8], &[u8], &[&str], u8, &str, &str, usize); 26] = [
     ),
     (
         SCRIPT,
-        TRACE,
         &["rfx-draw", "--script", "s", "f", "f"],
         2,
         "",
@@ -77,7 +43,6 @@ static SCRIPTS: [(&[u8], &[u8], &[&str], u8, &str, &str, usize); 26] = [
     ),
     (
         SCRIPT,
-        TRACE,
         &["rfx-draw", "--script", "s", "--svg"],
         2,
         "",
@@ -86,25 +51,15 @@ static SCRIPTS: [(&[u8], &[u8], &[&str], u8, &str, &str, usize); 26] = [
     ),
     (
         SCRIPT,
-        TRACE,
         &["rfx-draw", "--script", "--svg", "s"],
         2,
         "",
         USAGE,
         0,
     ),
+    (SCRIPT, &["rfx-draw", "--svg", "--script"], 2, "", USAGE, 0),
     (
         SCRIPT,
-        TRACE,
-        &["rfx-draw", "--svg", "--script"],
-        2,
-        "",
-        USAGE,
-        0,
-    ),
-    (
-        SCRIPT,
-        TRACE,
         &["rfx-draw", "--legend", "--script", "s"],
         2,
         "",
@@ -113,7 +68,6 @@ static SCRIPTS: [(&[u8], &[u8], &[&str], u8, &str, &str, usize); 26] = [
     ),
     (
         b"thread a\n\xff\n",
-        TRACE,
         &["rfx-draw", "--script", "s"],
         1,
         "",
@@ -122,7 +76,6 @@ static SCRIPTS: [(&[u8], &[u8], &[&str], u8, &str, &str, usize); 26] = [
     ),
     (
         b"thread Alice\n",
-        TRACE,
         &["rfx-draw", "--script", "s"],
         1,
         "",
@@ -132,7 +85,6 @@ static SCRIPTS: [(&[u8], &[u8], &[&str], u8, &str, &str, usize); 26] = [
     // One for real threads.
     (
         b"thread a\nmutex m\nphase\n",
-        TRACE,
         &["rfx-draw", "--script", "s"],
         1,
         "",
@@ -141,7 +93,6 @@ static SCRIPTS: [(&[u8], &[u8], &[&str], u8, &str, &str, usize); 26] = [
     ),
     (
         b"thread a\n",
-        TRACE,
         &["rfx-draw", "--script", "s"],
         1,
         "",
@@ -150,7 +101,6 @@ static SCRIPTS: [(&[u8], &[u8], &[&str], u8, &str, &str, usize); 26] = [
     ),
     (
         b"thread a\nmutex m\ncall a lock n\n",
-        TRACE,
         &["rfx-draw", "--script", "s"],
         1,
         "",
@@ -159,7 +109,6 @@ static SCRIPTS: [(&[u8], &[u8], &[&str], u8, &str, &str, usize); 26] = [
     ),
     (
         SCRIPT,
-        TRACE,
         &["rfx-draw", "--script", "endless"],
         1,
         "",
@@ -168,7 +117,6 @@ static SCRIPTS: [(&[u8], &[u8], &[&str], u8, &str, &str, usize); 26] = [
     ),
     (
         SCRIPT,
-        TRACE,
         &["rfx-draw", "--script", "broken", "f"],
         1,
         "",
@@ -177,7 +125,6 @@ static SCRIPTS: [(&[u8], &[u8], &[&str], u8, &str, &str, usize); 26] = [
     ),
     (
         SCRIPT,
-        TRACE,
         &["rfx-draw", "--script", "no file", "f"],
         1,
         "",
@@ -186,7 +133,6 @@ static SCRIPTS: [(&[u8], &[u8], &[&str], u8, &str, &str, usize); 26] = [
     ),
     (
         SCRIPT,
-        TRACE,
         &["rfx-draw", "--script", "refused", "f"],
         1,
         "",
@@ -195,27 +141,15 @@ static SCRIPTS: [(&[u8], &[u8], &[&str], u8, &str, &str, usize); 26] = [
     ),
     (
         SCRIPT,
-        TRACE,
         &["rfx-draw", "--script", "s", "no file"],
         1,
         "",
         "rfx-draw: cannot read no file\n",
         2,
     ),
-    // A good script, and no trace.
-    (
-        SCRIPT,
-        b"trace 1 1 0\n",
-        &["rfx-draw", "--svg", "--script", "s"],
-        1,
-        "",
-        "rfx-draw: line 2: fault 5: cut\n",
-        2,
-    ),
     // One thread, one mutex, one condition variable more than the trace has.
     (
         b"thread a\nthread b\nmutex m\n",
-        TRACE,
         &["rfx-draw", "--script", "s"],
         1,
         "",
@@ -224,7 +158,6 @@ static SCRIPTS: [(&[u8], &[u8], &[&str], u8, &str, &str, usize); 26] = [
     ),
     (
         b"thread a\nmutexes m 2\n",
-        TRACE,
         &["rfx-draw", "--script", "s"],
         1,
         "",
@@ -233,7 +166,6 @@ static SCRIPTS: [(&[u8], &[u8], &[&str], u8, &str, &str, usize); 26] = [
     ),
     (
         b"thread a\nmutex m\ncond c m 0\n",
-        TRACE,
         &["rfx-draw", "--svg", "--script", "s"],
         1,
         "",
@@ -244,12 +176,22 @@ static SCRIPTS: [(&[u8], &[u8], &[&str], u8, &str, &str, usize); 26] = [
 
 #[test]
 fn scripts_give_names(rt: HostRuntime) {
-    for (script, trace, line, status, printed, told, opened) in &SCRIPTS {
-        let files = folder_of(*script, *trace);
+    for (script, line, status, printed, told, opened) in &SCRIPTS {
+        let files = Folder::with_script(*script, TRACE);
         let answered = answer_of(rt.alloc(), words(rt.alloc(), *line), &files);
         assert!(rt; answered.is(*status, *printed, *told));
-        assert!(rt; answered.opened == *opened);
+        assert!(rt; files.opened.get() == *opened);
     }
+}
+
+/// A good script, and no trace.
+#[test]
+fn a_cut_trace_is_told(rt: HostRuntime) {
+    let files = Folder::with_script(SCRIPT, b"trace 1 1 0\n");
+    let line = words(rt.alloc(), &["rfx-draw", "--svg", "--script", "s"]);
+    let told = "rfx-draw: line 2: fault 5: cut\n";
+    assert!(rt; answer_of(rt.alloc(), line, &files).is(1, "", told));
+    assert!(rt; files.opened.get() == 2);
 }
 
 /// Passes too where any one allocation fails: nothing is printed then, and want of memory is told.

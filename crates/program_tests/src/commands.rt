@@ -1,43 +1,13 @@
 //! The program from the words of its command line on: files that are there or not, words that aren't text, and what is told.
 
-use crate::faulty::{Fixed, is_printed_or_wants_memory};
-use crate::served::Answered;
+use crate::served::is_printed_or_wants_memory;
 use report::{CANNOT_READ, OUT_OF_MEMORY, Opener, USAGE, run};
-use std::alloc::{AllocError, Global};
-use std::cell::Cell;
+use std::alloc::AllocError;
 use std::fs;
 use std::io::{self, ErrorKind};
 use std::sync::Wait;
 use std::thread::Threads;
-
-/// Has the one file `f`; to open any other fails so. It counts what is opened.
-#[derive(Drop)]
-struct Folder<'a> {
-    text: &'a [u8],
-    fails: ErrorKind,
-    opened: Cell<usize>,
-}
-
-impl<'a> Opener for Folder<'a> {
-    type Input = &'a [u8];
-
-    fn open(&self, file: &str) -> io::Result<&'a [u8]> {
-        self.opened.set(self.opened.get().saturating_add(1));
-        if file == "f" {
-            Ok(self.text)
-        } else {
-            Err(io::Error::from(self.fails))
-        }
-    }
-}
-
-fn a_folder(text: &[u8], fails: ErrorKind) -> Folder<'_> {
-    Folder {
-        text,
-        fails,
-        opened: Cell::new(0),
-    }
-}
+use text_fixtures::{Answered, Fixed, Folder, words};
 
 /// The files of the system.
 #[derive(Drop)]
@@ -51,15 +21,6 @@ impl Opener for System<'_> {
     }
 }
 
-/// The words of a command line.
-fn words(alloc: Global, line: &[&str]) -> io::Result<Vec<String>> {
-    let mut words = Vec::new(alloc);
-    for word in line {
-        words.push(String::from_str(alloc, word)?)?;
-    }
-    Ok(words)
-}
-
 /// What the program answers these words, or the error of having them, among these files.
 fn answered<F: Opener>(
     rt: &(impl AllocGlobal + Threads + Wait + Sync),
@@ -69,11 +30,7 @@ fn answered<F: Opener>(
     let mut printed = Vec::new(rt.alloc());
     let mut told = Vec::new(rt.alloc());
     let status = run(rt, rt.alloc(), words, files, &mut printed, &mut told);
-    Answered {
-        status,
-        printed,
-        told,
-    }
+    Answered::new(status, printed, told)
 }
 
 const SCRIPT: &str = "thread a\nmutex m\ncall a unlock m\n";
@@ -137,7 +94,7 @@ static LINES: [(&str, &[&str], u8, &str, &str, usize); 11] = [
 #[test]
 fn command_lines_are_served(rt: HostRuntime) {
     for (file, line, status, printed, told, opened) in &LINES {
-        let files = a_folder(file.as_bytes(), ErrorKind::NotFound);
+        let files = Folder::new(file.as_bytes());
         let answered = answered(&rt, words(rt.alloc(), *line), &files);
         assert!(rt; answered.is(*status, *printed, *told));
         assert!(rt; files.opened.get() == *opened);
@@ -146,7 +103,7 @@ fn command_lines_are_served(rt: HostRuntime) {
 
 #[test]
 fn words_that_are_no_text_are_another_command_line(rt: HostRuntime) {
-    let files = a_folder(SCRIPT.as_bytes(), ErrorKind::NotFound);
+    let files = Folder::new(SCRIPT.as_bytes());
     let words = Err(io::Error::from(ErrorKind::InvalidData));
     assert!(rt; answered(&rt, words, &files).is(2, "", USAGE));
 }
@@ -154,8 +111,8 @@ fn words_that_are_no_text_are_another_command_line(rt: HostRuntime) {
 /// Memory is told where it was refused, for the words or for a file.
 #[test]
 fn refused_words_and_files_are_told(rt: HostRuntime) {
-    let files = a_folder(SCRIPT.as_bytes(), ErrorKind::OutOfMemory);
-    let line = words(rt.alloc(), &["rfx", "run", "g"]);
+    let files = Folder::new(SCRIPT.as_bytes());
+    let line = words(rt.alloc(), &["rfx", "run", "refused"]);
     assert!(rt; answered(&rt, line, &files).is(1, "", OUT_OF_MEMORY));
     let none = Err(io::Error::from(AllocError));
     assert!(rt; answered(&rt, none, &files).is(1, "", OUT_OF_MEMORY));
@@ -181,7 +138,7 @@ fn files_are_opened(rt: HostRuntime) {
 /// Passes too where any one allocation fails: nothing is printed then, and want of memory is told.
 #[test]
 fn memory_for_a_command_line(rt: HostRuntime) {
-    let files = a_folder(SCRIPT.as_bytes(), ErrorKind::NotFound);
+    let files = Folder::new(SCRIPT.as_bytes());
     let mut out = Fixed::new();
     let mut err = Fixed::new();
     let line = words(rt.alloc(), &["rfx", "run", "f"]);

@@ -21,23 +21,15 @@ const BROADCAST: &str = "thread o\nthread a\nthread b\nthread c\nthread d\nmutex
 
 #[test]
 fn a_broadcast_moves_all_to_the_mutex(rt: HostRuntime) {
-    assert!(rt;
-        trace_has(
-            &rt,
-            BROADCAST,
-            "trace 5 1 1\n10 begin t2 wait c0 m0\n18 sleep t2 c0\n36 sleep t3 c0\n54 sleep t4 c0\n72 sleep t5 c0\n\
-         82 begin t1 broadcast c0 m0\n85 point t1 m0 broadcast OK\n87 move t2 m0\n87 move t3 m0\n87 move t4 m0\n87 move t5 m0\n87 return t1 OK\n\
-         95 wake t2\n102 wake t3\n102 reaped t2\n109 return t3 OK\n117 wake t4\n125 return t4 OK\n133 wake t5\n141 return t5 OK\nend 141\n"
-        )
-    );
-    assert!(rt;
-        table_is(
-            &rt,
-            BROADCAST,
-            "thread o idle 0 OK\nthread a reaped 0 OK\nthread b idle 0 OK\nthread c idle 0 OK\nthread d idle 1 OK\n\
-         mutex m 0000000080000005 d -\ncond q 1 -\n"
-        )
-    );
+    let lines =
+        "trace 5 1 1\n10 begin t2 wait c0 m0\n18 sleep t2 c0\n36 sleep t3 c0\n54 sleep t4 c0\n72 sleep t5 c0\n\
+        82 begin t1 broadcast c0 m0\n85 point t1 m0 broadcast OK\n87 move t2 m0\n87 move t3 m0\n87 move t4 m0\n87 move t5 m0\n87 return t1 OK\n\
+        95 wake t2\n102 wake t3\n102 reaped t2\n109 return t3 OK\n117 wake t4\n125 return t4 OK\n133 wake t5\n141 return t5 OK\nend 141\n";
+    assert!(rt; trace_has(&rt, BROADCAST, lines));
+    let rows =
+        "thread o idle 0 OK\nthread a reaped 0 OK\nthread b idle 0 OK\nthread c idle 0 OK\nthread d idle 1 OK\n\
+        mutex m 0000000080000005 d -\ncond q 1 -\n";
+    assert!(rt; table_is(&rt, BROADCAST, rows));
 }
 
 /// A counter at its largest value, and an owner that the mutex's inconsistency keeps from waiting.
@@ -46,46 +38,33 @@ const FULL: &str = "thread x\nthread a\nmutex m\ncond q m 4294967295\n\
 
 #[test]
 fn a_full_counter_and_an_inconsistent_mutex_refuse(rt: HostRuntime) {
-    assert!(rt;
-        trace_has(
-            &rt,
-            FULL,
-            "9 return t2 OK\n11 return t2 EINVAL\n14 return t2 X_FULL\n22 return t2 OK\n47 return t2 EOWNERDEAD\n49 return t2 X_STATE\nend 49\n"
-        )
-    );
-    assert!(rt;
-        table_is(
-            &rt,
-            FULL,
-            "thread x reaped 0 OK\nthread a idle 1 X_STATE\nmutex m 0000000040000002 a -\ncond q 4294967295 -\n"
-        )
-    );
+    let lines =
+        "9 return t2 OK\n11 return t2 EINVAL\n14 return t2 X_FULL\n22 return t2 OK\n47 return t2 EOWNERDEAD\n49 return t2 X_STATE\nend 49\n";
+    assert!(rt; trace_has(&rt, FULL, lines));
+    let rows =
+        "thread x reaped 0 OK\nthread a idle 1 X_STATE\nmutex m 0000000040000002 a -\ncond q 4294967295 -\n";
+    assert!(rt; table_is(&rt, FULL, rows));
 }
 
 #[test]
 fn who_does_not_own_the_mutex_is_refused(rt: HostRuntime) {
-    assert!(rt;
-        trace_is(
-            &rt,
-            "thread a\nmutexes m 2\ncond p m0 7\ncond q m1 7\ncall a wait q\ncall a signal q\ncall a broadcast p\n",
-            "trace 1 2 2\n1 begin t1 wait c1 m1\n2 point t1 m1 wait EPERM\n2 return t1 EPERM\n\
-         3 begin t1 signal c1 m1\n4 point t1 m1 signal EPERM\n4 return t1 EPERM\n\
-         5 begin t1 broadcast c0 m0\n6 point t1 m0 broadcast EPERM\n6 return t1 EPERM\nend 6\n"
-        )
-    );
+    let script =
+        "thread a\nmutexes m 2\ncond p m0 7\ncond q m1 7\ncall a wait q\ncall a signal q\ncall a broadcast p\n";
+    let trace = "trace 1 2 2\n1 begin t1 wait c1 m1\n2 point t1 m1 wait EPERM\n2 return t1 EPERM\n\
+        3 begin t1 signal c1 m1\n4 point t1 m1 signal EPERM\n4 return t1 EPERM\n\
+        5 begin t1 broadcast c0 m0\n6 point t1 m0 broadcast EPERM\n6 return t1 EPERM\nend 6\n";
+    assert!(rt; trace_is(&rt, script, trace));
 }
 
 /// The counter counts, whoever hears it; one below its largest value it does so once more.
 #[test]
 fn signals_that_nobody_waits_for_are_counted(rt: HostRuntime) {
-    assert!(rt;
-        table_is(
-            &rt,
-            "thread a\nmutex m\ncond p m 0\ncond q m 4294967294\ncall a lock m\ncall a signal p\ncall a broadcast p\ncall a signal p\n\
-         call a signal q\ncall a broadcast q\n",
-            "thread a idle 1 X_FULL\nmutex m 0000000080000001 a -\ncond p 3 -\ncond q 4294967295 -\n"
-        )
-    );
+    let script =
+        "thread a\nmutex m\ncond p m 0\ncond q m 4294967294\ncall a lock m\ncall a signal p\ncall a broadcast p\ncall a signal p\n\
+         call a signal q\ncall a broadcast q\n";
+    let rows =
+        "thread a idle 1 X_FULL\nmutex m 0000000080000001 a -\ncond p 3 -\ncond q 4294967295 -\n";
+    assert!(rt; table_is(&rt, script, rows));
 }
 
 /// Whether the table is this after a waiter made these accesses of its wait, and then died.
@@ -131,52 +110,43 @@ fn a_waiter_is_killed_at_each_access(rt: HostRuntime) {
 /// A waiter that was moved to the mutex dies there: it is no sleeper of the mutex any more.
 #[test]
 fn a_moved_waiter_is_killed(rt: HostRuntime) {
-    assert!(rt;
-        table_is(
-            &rt,
-            "thread o\nthread a\nthread b\nmutex m\ncond q m 0\ncall a lock m\ncall a wait q\ncall b lock m\ncall b wait q\n\
-         call o lock m\ncall o broadcast q\nkill a\ngo a\n",
-            "thread o idle 1 OK\nthread a reaped 0 OK\nthread b asleep 0 OK\nmutex m 0000000080000001 o b\ncond q 1 -\n"
-        )
-    );
+    let script =
+        "thread o\nthread a\nthread b\nmutex m\ncond q m 0\ncall a lock m\ncall a wait q\ncall b lock m\ncall b wait q\n\
+         call o lock m\ncall o broadcast q\nkill a\ngo a\n";
+    let rows =
+        "thread o idle 1 OK\nthread a reaped 0 OK\nthread b asleep 0 OK\nmutex m 0000000080000001 o b\ncond q 1 -\n";
+    assert!(rt; table_is(&rt, script, rows));
 }
 
 /// A waiter that a signal woke dies before it has taken the mutex.
 #[test]
 fn a_signalled_waiter_is_killed(rt: HostRuntime) {
-    assert!(rt;
-        table_is(
-            &rt,
-            "thread o\nthread a\nthread b\nmutex m\ncond q m 0\ncall a lock m\ncall a wait q\n\
-         call o lock m\ncall o signal q\nkill a\ngo a\ncall o unlock m\ncall b lock m\n",
-            "thread o idle 0 OK\nthread a reaped 0 OK\nthread b idle 1 OK\nmutex m 0000000000000003 b -\ncond q 1 -\n"
-        )
-    );
+    let script = "thread o\nthread a\nthread b\nmutex m\ncond q m 0\ncall a lock m\ncall a wait q\n\
+         call o lock m\ncall o signal q\nkill a\ngo a\ncall o unlock m\ncall b lock m\n";
+    let rows =
+        "thread o idle 0 OK\nthread a reaped 0 OK\nthread b idle 1 OK\nmutex m 0000000000000003 b -\ncond q 1 -\n";
+    assert!(rt; table_is(&rt, script, rows));
 }
 
 /// The mutex is spoiled while a thread waits: its wait ends with what a lock is told.
 #[test]
 fn a_wait_ends_on_an_unusable_mutex(rt: HostRuntime) {
-    assert!(rt;
-        table_is(
-            &rt,
-            "thread a\nthread x\nthread y\nmutex m\ncond q m 0\ncall a lock m\ncall a wait q\ncall x lock m\nkill x\ngo x\n\
-         call y lock m\ncall y signal q\ncall y unlock m\ngo a\n",
-            "thread a idle 0 ENOTRECOVERABLE\nthread x reaped 0 OK\nthread y idle 0 OK\nmutex m 0000000100000000 - -\ncond q 1 -\n"
-        )
-    );
+    let script =
+        "thread a\nthread x\nthread y\nmutex m\ncond q m 0\ncall a lock m\ncall a wait q\ncall x lock m\nkill x\ngo x\n\
+         call y lock m\ncall y signal q\ncall y unlock m\ngo a\n";
+    let rows =
+        "thread a idle 0 ENOTRECOVERABLE\nthread x reaped 0 OK\nthread y idle 0 OK\nmutex m 0000000100000000 - -\ncond q 1 -\n";
+    assert!(rt; table_is(&rt, script, rows));
 }
 
 /// A thread that takes a dead owner's mutex again, at the end of its wait, is told so.
 #[test]
 fn a_wait_ends_with_a_dead_owners_mutex(rt: HostRuntime) {
-    assert!(rt;
-        table_is(
-            &rt,
-            "thread a\nthread x\nmutex m\ncond q m 0\ncall a lock m\ncall a wait q\ncall x lock m\ncall x signal q\nkill x\ngo x\ngo a\n",
-            "thread a idle 1 EOWNERDEAD\nthread x reaped 0 OK\nmutex m 0000000040000001 a -\ncond q 1 -\n"
-        )
-    );
+    let script =
+        "thread a\nthread x\nmutex m\ncond q m 0\ncall a lock m\ncall a wait q\ncall x lock m\ncall x signal q\nkill x\ngo x\ngo a\n";
+    let rows =
+        "thread a idle 1 EOWNERDEAD\nthread x reaped 0 OK\nmutex m 0000000040000001 a -\ncond q 1 -\n";
+    assert!(rt; table_is(&rt, script, rows));
 }
 
 /// How many threads wait for the broadcast: all of a layout but the one that broadcasts.

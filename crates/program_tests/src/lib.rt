@@ -8,8 +8,6 @@ mod commands;
 #[cfg(test)]
 mod conditions;
 #[cfg(test)]
-mod faulty;
-#[cfg(test)]
 mod large;
 #[cfg(test)]
 mod leaves;

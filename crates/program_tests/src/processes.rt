@@ -10,21 +10,12 @@ const KILLED: &str = "process p 1000\nprocess q 2000\nthread a p\nthread b q\nmu
 
 #[test]
 fn a_mutex_goes_from_a_killed_process_to_another(rt: HostRuntime) {
-    assert!(rt;
-        trace_is(
-            &rt,
-            KILLED,
-            "trace 2 1 0\n1 begin t1 lock m0\n4 point t1 m0 lock OK\n9 return t1 OK\n10 kill t1\n16 death t1 m0\n16 reaped t1\n\
-         17 begin t2 lock m0\n20 point t2 m0 lock EOWNERDEAD\n25 return t2 EOWNERDEAD\nend 25\n"
-        )
-    );
-    assert!(rt;
-        table_is(
-            &rt,
-            KILLED,
-            "thread a reaped 0 OK\nthread b idle 1 EOWNERDEAD\nmutex m 0000000040000002 b -\n"
-        )
-    );
+    let trace =
+        "trace 2 1 0\n1 begin t1 lock m0\n4 point t1 m0 lock OK\n9 return t1 OK\n10 kill t1\n16 death t1 m0\n16 reaped t1\n\
+        17 begin t2 lock m0\n20 point t2 m0 lock EOWNERDEAD\n25 return t2 EOWNERDEAD\nend 25\n";
+    assert!(rt; trace_is(&rt, KILLED, trace));
+    let rows = "thread a reaped 0 OK\nthread b idle 1 EOWNERDEAD\nmutex m 0000000040000002 b -\n";
+    assert!(rt; table_is(&rt, KILLED, rows));
 }
 
 /// Two processes meet at one mutex, each by an address of its own.
@@ -33,21 +24,12 @@ const WOKEN: &str = "process p 1000\nprocess q 2000\nthread a p\nthread b q\nmut
 
 #[test]
 fn a_sleeper_is_woken_from_another_process(rt: HostRuntime) {
-    assert!(rt;
-        trace_is(
-            &rt,
-            WOKEN,
-            "trace 2 1 0\n1 begin t1 lock m0\n4 point t1 m0 lock OK\n9 return t1 OK\n10 begin t2 lock m0\n14 sleep t2 m0\n\
-         15 begin t1 unlock m0\n21 point t1 m0 unlock OK\n22 wake t2\n23 return t1 OK\nend 23\n"
-        )
-    );
-    assert!(rt;
-        table_is(
-            &rt,
-            WOKEN,
-            "thread a idle 0 OK\nthread b busy 0 -\nmutex m 0000000080000000 - -\n"
-        )
-    );
+    let trace =
+        "trace 2 1 0\n1 begin t1 lock m0\n4 point t1 m0 lock OK\n9 return t1 OK\n10 begin t2 lock m0\n14 sleep t2 m0\n\
+        15 begin t1 unlock m0\n21 point t1 m0 unlock OK\n22 wake t2\n23 return t1 OK\nend 23\n";
+    assert!(rt; trace_is(&rt, WOKEN, trace));
+    let rows = "thread a idle 0 OK\nthread b busy 0 -\nmutex m 0000000080000000 - -\n";
+    assert!(rt; table_is(&rt, WOKEN, rows));
 }
 
 /// Each thread of the process is killed, in the order of their ids, and no other one: neither one of another process at the same base, nor one of process 0.
@@ -57,20 +39,11 @@ const KILLED_ALONE: &str =
 
 #[test]
 fn a_process_is_killed_thread_by_thread(rt: HostRuntime) {
-    assert!(rt;
-        trace_is(
-            &rt,
-            KILLED_ALONE,
-            "trace 4 1 0\n1 kill t1\n2 kill t4\nend 4\n"
-        )
-    );
-    assert!(rt;
-        table_is(
-            &rt,
-            KILLED_ALONE,
-            "thread a dying 0 -\nthread b idle 0 -\nthread c idle 0 -\nthread d dying 0 -\nmutex m 0000000000000000 - -\n"
-        )
-    );
+    let trace = "trace 4 1 0\n1 kill t1\n2 kill t4\nend 4\n";
+    assert!(rt; trace_is(&rt, KILLED_ALONE, trace));
+    let rows =
+        "thread a dying 0 -\nthread b idle 0 -\nthread c idle 0 -\nthread d dying 0 -\nmutex m 0000000000000000 - -\n";
+    assert!(rt; table_is(&rt, KILLED_ALONE, rows));
 }
 
 #[test]
@@ -87,30 +60,15 @@ fn processes_are_refused(rt: HostRuntime) {
 /// A real thread dies, and one of another process takes over what it held: in a lock, where its pending entry names the mutex, and behind it, where its list does.
 #[test]
 fn mutexes_go_from_a_dead_thread_to_another_process(rt: HostRuntime) {
-    assert!(rt;
-        threads(
-            &rt,
-            "process p 1000\nprocess q 2000\nthread a p\nthread b q\nmutex m\n\
-             die a 4\ncall a lock m\nphase\ncall b lock m\n"
-        )
-        .is(
-            0,
-            "replies a dead\nreplies b EOWNERDEAD\nmutex m 0000000040000002 b -\n",
-            ""
-        )
-    );
-    assert!(rt;
-        threads(
-            &rt,
-            "process p 1000\nprocess q 2000\nthread a p\nthread b q\nmutex m\nmutex n\n\
-             die a 9\ncall a lock m\ncall a lock n\nphase\ncall b lock m\ncall b lock n\n"
-        )
-        .is(
-            0,
-            "replies a OK dead\nreplies b EOWNERDEAD OK\nmutex m 0000000040000002 b -\nmutex n 0000000000000002 b -\n",
-            ""
-        )
-    );
+    let script = "process p 1000\nprocess q 2000\nthread a p\nthread b q\nmutex m\n\
+        die a 4\ncall a lock m\nphase\ncall b lock m\n";
+    let text = "replies a dead\nreplies b EOWNERDEAD\nmutex m 0000000040000002 b -\n";
+    assert!(rt; threads(&rt, script).is(0, text, ""));
+    let script = "process p 1000\nprocess q 2000\nthread a p\nthread b q\nmutex m\nmutex n\n\
+        die a 9\ncall a lock m\ncall a lock n\nphase\ncall b lock m\ncall b lock n\n";
+    let text =
+        "replies a OK dead\nreplies b EOWNERDEAD OK\nmutex m 0000000040000002 b -\nmutex n 0000000000000002 b -\n";
+    assert!(rt; threads(&rt, script).is(0, text, ""));
 }
 
 /// Real threads of two processes lock at once, and sleep where they have to: they meet at the mutex, each by an address of its own.
@@ -125,17 +83,10 @@ fn real_threads_of_two_processes_meet(rt: HostRuntime) {
 /// Real threads are of processes too; a line that kills one is not for them.
 #[test]
 fn real_threads_are_of_processes(rt: HostRuntime) {
-    assert!(rt;
-        threads(
-            &rt,
-            "process p 1000\nthread a p\nthread b\nmutex m\ncall a trylock m\nphase\ncall b trylock m\n"
-        )
-        .is(
-            0,
-            "replies a OK\nreplies b EBUSY\nmutex m 0000000000000001 a -\n",
-            ""
-        )
-    );
+    let script =
+        "process p 1000\nthread a p\nthread b\nmutex m\ncall a trylock m\nphase\ncall b trylock m\n";
+    let text = "replies a OK\nreplies b EBUSY\nmutex m 0000000000000001 a -\n";
+    assert!(rt; threads(&rt, script).is(0, text, ""));
     assert!(rt;
         threads(&rt, "process p 1000\nthread a p\nmutex m\nkillall p\n").is(
             1,

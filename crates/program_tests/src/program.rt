@@ -1,14 +1,12 @@
 //! The program: command lines, readers, writers, and what is written of a script.
 
-use crate::faulty::{
-    Fixed, Late, LateWriter, Narrow, Stuck, is_printed_or_wants_memory, slow_reader,
-};
-use crate::served::{Answered, served};
+use crate::served::{is_served_or_wants_memory, is_told_of_room, served};
 use memorymap::NoMem;
 use report::{CANNOT_READ, CANNOT_WRITE, Form, OUT_OF_MEMORY, USAGE, form_of_words, serve};
 use std::alloc::{AllocError, Global};
 use std::sync::Wait;
 use std::thread::Threads;
+use text_fixtures::{Answered, Faulty, late_reader, slow_reader};
 
 /// Command lines with a form.
 static FORMS: [(&[&str], Form<'static>); 7] = [
@@ -181,35 +179,19 @@ fn the_longest_script_is_run(rt: HostRuntime) -> Result<(), AllocError> {
     Ok(())
 }
 
-/// Whether a trace that a writer with this room can't hold is told, and its beginning written.
-fn is_told_of_room(rt: &(impl AllocGlobal + Threads + Wait + Sync), room: usize) -> bool {
-    let mut input = slow_reader(ROW.as_bytes(), false);
-    let mut out = Narrow::new(rt.alloc(), room, false);
-    let mut err = Vec::new(rt.alloc());
-    let form = Form::Run("f");
-    let status = serve(rt, rt.alloc(), &form, &mut input, &mut out, &mut err);
-    let front = ROW_TEXT.as_bytes().get(..room).unwrap_or(b"");
-    status == 1 && out.held.as_slice() == front && err.as_slice() == CANNOT_WRITE.as_bytes()
-}
-
 #[test]
 fn a_trace_that_cannot_be_written_is_told(rt: HostRuntime) {
     for room in 0..ROW_TEXT.len() {
-        assert!(rt; is_told_of_room(&rt, room));
+        let mut input = slow_reader(ROW.as_bytes(), false);
+        assert!(rt; is_told_of_room(&rt, &Form::Run("f"), &mut input, ROW_TEXT, room));
     }
 }
 
 /// Each of more than a million interruptions is tried again, of a read and of a write.
 #[test]
 fn interruptions_are_tried_again(rt: HostRuntime) {
-    let mut input = Late {
-        left: ROW.as_bytes(),
-        interruptions: 1_000_001,
-    };
-    let mut out = LateWriter {
-        held: Vec::new(rt.alloc()),
-        interruptions: 1_000_001,
-    };
+    let mut input = late_reader(ROW.as_bytes(), 1_000_001);
+    let mut out = Faulty::late(rt.alloc(), 1_000_001);
     let mut err = Vec::new(rt.alloc());
     let form = Form::Run("f");
     let status = serve(&rt, rt.alloc(), &form, &mut input, &mut out, &mut err);
@@ -227,11 +209,7 @@ fn usage_is_told(rt: HostRuntime) {
 #[test]
 fn memory(rt: HostRuntime) {
     let mut input = slow_reader(ROW.as_bytes(), false);
-    let mut out = Fixed::new();
-    let mut err = Fixed::new();
-    let form = Form::Run("f");
-    let status = serve(&rt, rt.alloc(), &form, &mut input, &mut out, &mut err);
-    assert!(rt; is_printed_or_wants_memory(status, &out, &err, ROW_TEXT));
+    assert!(rt; is_served_or_wants_memory(&rt, &Form::Run("f"), &mut input, ROW_TEXT));
 }
 
 /// A file for each form, which is served in full where the writer lets go of it.
@@ -250,9 +228,7 @@ fn is_told_as_kept_back(
     file: &str,
 ) -> bool {
     let mut input = file.as_bytes();
-    let mut out = Stuck {
-        held: Vec::new(rt.alloc()),
-    };
+    let mut out = Faulty::stuck(rt.alloc());
     let mut err = Vec::new(rt.alloc());
     let status = serve(rt, rt.alloc(), form, &mut input, &mut out, &mut err);
     status == 1 && !out.held.is_empty() && err.as_slice() == CANNOT_WRITE.as_bytes()

@@ -11,25 +11,15 @@ const SCRIPT: &str =
 
 #[test]
 fn an_unusable_mutex_is_made_anew(rt: HostRuntime) {
-    assert!(rt;
-        trace_is(
-            &rt,
-            SCRIPT,
-            "trace 2 1 0\n1 begin t1 lock m0\n4 point t1 m0 lock OK\n9 return t1 OK\n\
-         10 kill t1\n16 death t1 m0\n16 reaped t1\n\
-         17 begin t2 lock m0\n20 point t2 m0 lock EOWNERDEAD\n25 return t2 EOWNERDEAD\n\
-         27 begin t2 unlock m0\n33 point t2 m0 unlock OK\n34 return t2 OK\n\
-         36 begin t2 reinit m0\n36 point t2 m0 reinit OK\n36 return t2 OK\n\
-         38 begin t2 lock m0\n41 point t2 m0 lock OK\n46 return t2 OK\nend 46\n"
-        )
-    );
-    assert!(rt;
-        table_is(
-            &rt,
-            SCRIPT,
-            "thread a reaped 0 OK\nthread b idle 1 OK\nmutex m 0000000000000002 b -\n"
-        )
-    );
+    let trace = "trace 2 1 0\n1 begin t1 lock m0\n4 point t1 m0 lock OK\n9 return t1 OK\n\
+        10 kill t1\n16 death t1 m0\n16 reaped t1\n\
+        17 begin t2 lock m0\n20 point t2 m0 lock EOWNERDEAD\n25 return t2 EOWNERDEAD\n\
+        27 begin t2 unlock m0\n33 point t2 m0 unlock OK\n34 return t2 OK\n\
+        36 begin t2 reinit m0\n36 point t2 m0 reinit OK\n36 return t2 OK\n\
+        38 begin t2 lock m0\n41 point t2 m0 lock OK\n46 return t2 OK\nend 46\n";
+    assert!(rt; trace_is(&rt, SCRIPT, trace));
+    let rows = "thread a reaped 0 OK\nthread b idle 1 OK\nmutex m 0000000000000002 b -\n";
+    assert!(rt; table_is(&rt, SCRIPT, rows));
 }
 
 #[test]

@@ -8,21 +8,11 @@ use crate::served::{table_is, trace_is};
 fn a_reaped_thread_lives_anew(rt: HostRuntime) {
     let script = "thread a\nmutex m\nrenew a\ncall a lock m\nkill a\nrenew a\ngo a\nrenew a\n\
          kill a\ngo a\nrenew a\nrenew a\ncall a lock m\n";
-    assert!(rt;
-        trace_is(
-            &rt,
-            script,
-            "trace 1 1 0\n2 begin t1 lock m0\n5 point t1 m0 lock OK\n10 return t1 OK\n\
-         11 kill t1\n18 death t1 m0\n18 reaped t1\n19 renew t1\n20 kill t1\n23 reaped t1\n\
-         24 renew t1\n26 begin t1 lock m0\n29 point t1 m0 lock EOWNERDEAD\n\
-         34 return t1 EOWNERDEAD\nend 34\n"
-        )
-    );
-    assert!(rt;
-        table_is(
-            &rt,
-            script,
-            "thread a idle 1 EOWNERDEAD\nmutex m 0000000040000001 a -\n"
-        )
-    );
+    let trace = "trace 1 1 0\n2 begin t1 lock m0\n5 point t1 m0 lock OK\n10 return t1 OK\n\
+        11 kill t1\n18 death t1 m0\n18 reaped t1\n19 renew t1\n20 kill t1\n23 reaped t1\n\
+        24 renew t1\n26 begin t1 lock m0\n29 point t1 m0 lock EOWNERDEAD\n\
+        34 return t1 EOWNERDEAD\nend 34\n";
+    assert!(rt; trace_is(&rt, script, trace));
+    let rows = "thread a idle 1 EOWNERDEAD\nmutex m 0000000040000001 a -\n";
+    assert!(rt; table_is(&rt, script, rows));
 }

@@ -1,10 +1,7 @@
 //! The texts of tables.
 
-use crate::faulty::{Fixed, Narrow, is_printed_or_wants_memory};
-use crate::served::table;
-use report::{Form, serve};
-use std::sync::Wait;
-use std::thread::Threads;
+use crate::served::{is_served_or_wants_memory, is_told_of_room, table};
+use report::Form;
 
 #[test]
 fn a_script_that_runs_nothing_has_its_table(rt: HostRuntime) {
@@ -50,33 +47,17 @@ const REFUSED: &str = "thread a\nmutex m\ncall a unlock m\n";
 
 const REFUSED_TEXT: &str = "thread a idle 0 EPERM\nmutex m 0000000000000000 - -\n";
 
-/// Whether a table that a writer with this room can't hold is told, and its beginning written.
-fn is_told_of_room(rt: &(impl AllocGlobal + Threads + Wait + Sync), room: usize) -> bool {
-    let mut out = Narrow::new(rt.alloc(), room, false);
-    let mut err = Vec::new(rt.alloc());
-    let form = Form::Table("f");
-    let mut input = REFUSED.as_bytes();
-    let status = serve(rt, rt.alloc(), &form, &mut input, &mut out, &mut err);
-    let front = REFUSED_TEXT.as_bytes().get(..room).unwrap_or(b"");
-    status == 1
-        && out.held.as_slice() == front
-        && err.as_slice() == b"rfx: cannot write\n".as_slice()
-}
-
 #[test]
 fn a_table_that_cannot_be_written_is_told(rt: HostRuntime) {
     for room in 0..REFUSED_TEXT.len() {
-        assert!(rt; is_told_of_room(&rt, room));
+        let mut input = REFUSED.as_bytes();
+        assert!(rt; is_told_of_room(&rt, &Form::Table("f"), &mut input, REFUSED_TEXT, room));
     }
 }
 
 /// Passes too where any one allocation fails: nothing is printed then, and want of memory is told.
 #[test]
 fn memory_for_a_table(rt: HostRuntime) {
-    let mut out = Fixed::new();
-    let mut err = Fixed::new();
-    let form = Form::Table("f");
     let mut input = REFUSED.as_bytes();
-    let status = serve(&rt, rt.alloc(), &form, &mut input, &mut out, &mut err);
-    assert!(rt; is_printed_or_wants_memory(status, &out, &err, REFUSED_TEXT));
+    assert!(rt; is_served_or_wants_memory(&rt, &Form::Table("f"), &mut input, REFUSED_TEXT));
 }

@@ -1,10 +1,7 @@
 //! Scripts on real threads. What the threads are told is fixed here by phases and by what one thread does alone.
 
-use crate::faulty::{Fixed, Narrow, is_printed_or_wants_memory};
-use crate::served::threads;
-use report::{Form, serve};
-use std::sync::Wait;
-use std::thread::Threads;
+use crate::served::{is_served_or_wants_memory, is_told_of_room, threads};
+use report::Form;
 
 /// One thread is refused, takes, fails to take again and releases one mutex.
 const ALONE: &str =
@@ -214,54 +211,31 @@ fn faults_are_told(rt: HostRuntime) {
     }
 }
 
-/// Whether replies that a writer with this room can't hold are told, and their beginning written.
-fn is_told_of_room(rt: &(impl AllocGlobal + Threads + Wait + Sync), room: usize) -> bool {
-    let mut out = Narrow::new(rt.alloc(), room, false);
-    let mut err = Vec::new(rt.alloc());
-    let form = Form::Threads("f");
-    let mut input = PHASES.as_bytes();
-    let status = serve(rt, rt.alloc(), &form, &mut input, &mut out, &mut err);
-    let front = PHASES_TEXT.as_bytes().get(..room).unwrap_or(b"");
-    status == 1
-        && out.held.as_slice() == front
-        && err.as_slice() == b"rfx: cannot write\n".as_slice()
-}
-
 #[test]
 fn a_writer_without_room_is_told(rt: HostRuntime) {
     for room in 0..PHASES_TEXT.len() {
-        assert!(rt; is_told_of_room(&rt, room));
+        let mut input = PHASES.as_bytes();
+        assert!(rt; is_told_of_room(&rt, &Form::Threads("f"), &mut input, PHASES_TEXT, room));
     }
-}
-
-/// Whether a script's replies are told, or want of memory for them.
-fn is_told_or_wants_memory(
-    rt: &(impl AllocGlobal + Threads + Wait + Sync),
-    script: &str,
-    text: &str,
-) -> bool {
-    let mut out = Fixed::new();
-    let mut err = Fixed::new();
-    let form = Form::Threads("f");
-    let mut input = script.as_bytes();
-    let status = serve(rt, rt.alloc(), &form, &mut input, &mut out, &mut err);
-    is_printed_or_wants_memory(status, &out, &err, text)
 }
 
 /// Passes too where any one allocation fails: nothing is printed then, and want of memory is told.
 #[test]
 fn memory(rt: HostRuntime) {
-    assert!(rt; is_told_or_wants_memory(&rt, PHASES, PHASES_TEXT));
+    let mut input = PHASES.as_bytes();
+    assert!(rt; is_served_or_wants_memory(&rt, &Form::Threads("f"), &mut input, PHASES_TEXT));
 }
 
 /// Passes too where any one allocation fails: the same for a thread that dies.
 #[test]
 fn memory_for_deaths(rt: HostRuntime) {
-    assert!(rt; is_told_or_wants_memory(&rt, SKIPPED, SKIPPED_TEXT));
+    let mut input = SKIPPED.as_bytes();
+    assert!(rt; is_served_or_wants_memory(&rt, &Form::Threads("f"), &mut input, SKIPPED_TEXT));
 }
 
 /// Passes too where any one allocation fails: the same for five threads.
 #[test]
 fn memory_for_many_threads(rt: HostRuntime) {
-    assert!(rt; is_told_or_wants_memory(&rt, MANY, MANY_TEXT));
+    let mut input = MANY.as_bytes();
+    assert!(rt; is_served_or_wants_memory(&rt, &Form::Threads("f"), &mut input, MANY_TEXT));
 }

@@ -1,9 +1,9 @@
 //! What the program tells of traces.
 
-use crate::faulty::{Fixed, is_printed_or_wants_memory, slow_reader};
-use crate::served::{check, run, served};
+use crate::served::{check, is_printed_or_wants_memory, run, served};
 use report::{Form, OUT_OF_MEMORY, serve};
 use std::io::{Chain, Read, Repeat, Take, repeat};
+use text_fixtures::{Fixed, slow_reader};
 
 /// The trace of a lock and its unlock.
 const UNLOCKED: &str = "trace 1 1 0\n1 begin t1 lock m0\n4 point t1 m0 lock OK\n9 return t1 OK\n\

@@ -2,7 +2,6 @@
 
 ghost use Rattle.std.specs.Prelude.{◌≤◌};
 
-use crate::faulty::Narrow;
 use buckets::Batch;
 use facts::Begun;
 use interleave::Trace;
@@ -11,6 +10,7 @@ use mutex::Call;
 use posixmutex::{Decision, Operation};
 use protocol::Note;
 use std::alloc::{AllocError, Global};
+use text_fixtures::Faulty;
 use texts::{ConditionWord, MutexWord, ThreadReplies, write_replies, write_trace};
 
 fn tid(id: u8) -> Tid
@@ -105,7 +105,7 @@ fn each_kind_of_note_has_its_lines(rt: HostRuntime) -> Result<(), AllocError> {
 }
 
 /// Whether a writer that had this room holds as much of the text as it can, and took all of it exactly if it had the room.
-fn is_filled(out: &Narrow, room: usize, whole: bool, text: &[u8]) -> bool {
+fn is_filled(out: &Faulty, room: usize, whole: bool, text: &[u8]) -> bool {
     let front = text.get(..room).unwrap_or(text);
     out.held.as_slice() == front && whole == (room >= text.len())
 }
@@ -113,7 +113,7 @@ fn is_filled(out: &Narrow, room: usize, whole: bool, text: &[u8]) -> bool {
 /// The first room in which a trace isn't written as far as there is room.
 fn first_wrong_room(alloc: Global, trace: &Trace, takes_none: bool) -> Option<usize> {
     for room in 0..TEXT.len() + 2 {
-        let mut out = Narrow::new(alloc, room, takes_none);
+        let mut out = Faulty::new(alloc, room, takes_none);
         let whole = write_trace(trace, &mut out).is_ok();
         if !is_filled(&out, room, whole, TEXT.as_bytes()) {
             return Some(room);
@@ -189,7 +189,7 @@ static CONDITIONS: [ConditionWord<'static>; 2] = [
 /// The first room in which the replies aren't written as far as there is room.
 fn first_wrong_room_for_replies(alloc: Global) -> Option<usize> {
     for room in 0..REPLIES.len() + 2 {
-        let mut out = Narrow::new(alloc, room, false);
+        let mut out = Faulty::new(alloc, room, false);
         let whole = write_replies(&THREADS, &MUTEXES, &CONDITIONS, &mut out).is_ok();
         if !is_filled(&out, room, whole, REPLIES.as_bytes()) {
             return Some(room);

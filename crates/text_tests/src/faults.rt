@@ -49,3 +49,23 @@ impl Scripts {
         }
     }
 }
+
+/// Whole scripts of a run.
+pub const WHOLE: Scripts = Scripts {
+    mode: Mode::Run,
+    front: "",
+    end: "",
+};
+
+/// Lines stand behind a thread `a` and a mutex `m`, the first of them third.
+pub const FOR_A_RUN: Scripts = Scripts {
+    mode: Mode::Run,
+    front: "thread a\nmutex m\n",
+    end: "\n",
+};
+
+/// The same for real threads.
+pub const FOR_THREADS: Scripts = Scripts {
+    mode: Mode::Threads,
+    ..FOR_A_RUN
+};

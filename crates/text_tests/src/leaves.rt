@@ -1,8 +1,7 @@
 //! Lines of sleepers that leave, of trims that are declined, of renewals and of mutexes made anew: which are refused,
 //! written out by hand from the format.
 
-use crate::faults::Refusal;
-use crate::processes::{FOR_A_RUN, FOR_THREADS};
+use crate::faults::{FOR_A_RUN, FOR_THREADS, Refusal};
 
 static LINES: [(&str, Refusal); 21] = [
     ("leave a", None),

@@ -1,7 +1,6 @@
 //! Lines that speak of many mutexes, with the fault that each is refused for, written out by hand from the format.
 
-use crate::faults::{Refusal, Scripts, read};
-use crate::scripts::THIRD;
+use crate::faults::{FOR_A_RUN, Refusal, Scripts, WHOLE, read};
 use script::{Mode, Script};
 
 /// Third lines that begin with `mutexes`.
@@ -22,14 +21,13 @@ static MUTEXES: [(&str, Refusal); 12] = [
 
 #[test]
 fn mutexes(rt: HostRuntime) {
-    assert!(rt; THIRD.first_wrong(rt.alloc(), &MUTEXES).is_none());
+    assert!(rt; FOR_A_RUN.first_wrong(rt.alloc(), &MUTEXES).is_none());
 }
 
 /// Behind a thread `a`.
 const OF_ONE_THREAD: Scripts = Scripts {
-    mode: Mode::Run,
     front: "thread a\n",
-    end: "",
+    ..WHOLE
 };
 
 /// Numbered names and others: those of one `mutexes` line end where its number says, and bar no other spelling.
@@ -78,9 +76,8 @@ fn many_mutexes(rt: HostRuntime) {
 
 /// A line stands behind a thread `a` and the mutexes `m0` to `m4`.
 const BEHIND_FIVE: Scripts = Scripts {
-    mode: Mode::Run,
     front: "thread a\nmutexes m 5\n",
-    end: "\n",
+    ..FOR_A_RUN
 };
 
 /// Lines that begin with `locks`.

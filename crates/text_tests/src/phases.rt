@@ -2,18 +2,11 @@
 
 use crate::built::joined;
 use crate::events::playing;
-use crate::faults::{Refusal, Refused, Scripts, read, refusal};
+use crate::faults::{FOR_THREADS, Refusal, Refused, Scripts, WHOLE, read, refusal};
 use condvar::{CondCall, Op};
 use mutex::Call;
 use script::{Jobs, Mode, Phase, jobs};
 use std::alloc::Global;
-
-/// A line stands third in a script of its own, behind a thread `a` and a mutex `m`.
-const THIRD: Scripts = Scripts {
-    mode: Mode::Threads,
-    front: "thread a\nmutex m\n",
-    end: "\n",
-};
 
 /// Third lines.
 static LINES: [(&str, Refusal); 59] = [
@@ -80,13 +73,12 @@ static LINES: [(&str, Refusal); 59] = [
 
 #[test]
 fn lines(rt: HostRuntime) {
-    assert!(rt; THIRD.first_wrong(rt.alloc(), &LINES).is_none());
+    assert!(rt; FOR_THREADS.first_wrong(rt.alloc(), &LINES).is_none());
 }
 
-const WHOLE: Scripts = Scripts {
+const WHOLE_FOR_THREADS: Scripts = Scripts {
     mode: Mode::Threads,
-    front: "",
-    end: "",
+    ..WHOLE
 };
 
 /// Whole scripts.
@@ -131,7 +123,11 @@ static SCRIPTS: [(&str, Refusal); 21] = [
 
 #[test]
 fn scripts(rt: HostRuntime) {
-    assert!(rt; WHOLE.first_wrong(rt.alloc(), &SCRIPTS).is_none());
+    assert!(rt;
+        WHOLE_FOR_THREADS
+            .first_wrong(rt.alloc(), &SCRIPTS)
+            .is_none()
+    );
     let bytes = b"phase\n#\n\xff\n";
     assert!(rt; refusal(rt.alloc(), bytes, Mode::Threads) == Some((1, 3)));
 }

@@ -2,24 +2,11 @@
 
 use crate::built::joined;
 use crate::events::{Played, first_wrong, outcome};
-use crate::faults::{Refusal, Scripts, read};
+use crate::faults::{FOR_A_RUN, FOR_THREADS, Refusal, read};
 use interleave::Machine;
 use lockword::Tid;
 use script::{Action, Command, Mode, Script};
 use std::alloc::Global;
-
-/// Lines stand behind a thread `a` and a mutex `m`, the first of them third.
-pub const FOR_A_RUN: Scripts = Scripts {
-    mode: Mode::Run,
-    front: "thread a\nmutex m\n",
-    end: "\n",
-};
-
-pub const FOR_THREADS: Scripts = Scripts {
-    mode: Mode::Threads,
-    front: "thread a\nmutex m\n",
-    end: "\n",
-};
 
 /// Declarations of processes and of threads in them, which are alike in both modes.
 static DECLARATIONS: [(&str, Refusal); 34] = [

@@ -1,7 +1,7 @@
 //! Scripts of a run, with the fault that each is refused for, written out by hand from the format.
 
 use crate::built::joined;
-use crate::faults::{Refused, Scripts, read};
+use crate::faults::{Refused, read};
 use condvar::Op;
 use lockword::Tid;
 use mutex::Call;
@@ -11,19 +11,6 @@ use std::test::Fail;
 
 mod limits;
 mod single_lines;
-
-const WHOLE: Scripts = Scripts {
-    mode: Mode::Run,
-    front: "",
-    end: "",
-};
-
-/// A line stands third in a script of its own, behind a thread `a` and a mutex `m`.
-pub const THIRD: Scripts = Scripts {
-    mode: Mode::Run,
-    front: "thread a\nmutex m\n",
-    end: "\n",
-};
 
 /// Whether the script has two threads, `ada` and `bob`, and one mutex, `bob`.
 fn is_of_ada_and_bob(script: &Script, ada: Tid, bob: Tid) -> bool {

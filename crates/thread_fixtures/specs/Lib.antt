@@ -1,3 +1,3 @@
 -- What the fixtures promise.
+pub mod Fours
 pub mod Outcomes
-pub mod Teams

@@ -17,12 +17,12 @@ mod asked;
 mod left;
 mod made;
 mod played;
-mod team;
+mod threads;
 mod waits;
 
 pub use asked::Asked;
 pub use left::Left;
-pub use made::makes;
+pub use made::{dies, makes};
 pub use played::{Step, Who, plays};
-pub use team::{Team, last_of};
+pub use threads::{last_of, team};
 pub use waits::{are_asleep, ends_unless, fall_asleep, waits_for};

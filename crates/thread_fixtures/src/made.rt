@@ -5,11 +5,13 @@ ghost use Rattle.mutex.specs.Calls.{mutex_of};
 ghost use Rattle.ruledwords.specs.Passes.{layout_of, IsLive};
 ghost use Rattle.thread_fixtures.specs.Outcomes.{IsOutcomeOf};
 
+use crate::asked::Asked;
 use condvar::{CondCall, Op};
 use lockword::Reply;
 use mutex::Call;
 use ruledwords::{Fate, Live, Outcome, Pass, Released};
 use std::sync::Wait;
+use std::sync::atomic::AtomicU64;
 use threadbench::Bench;
 
 fn unlock<R: Wait, F: Fate>(
@@ -95,4 +97,12 @@ pub fn makes<R: Wait, F: Fate>(
             None
         }
     }
+}
+
+/// Makes a call whose thread dies where its fate is asked for the time with this number, from 1, a 0 never comes: whether it died in it.
+pub fn dies<R: Wait>(rt: &R, bench: &Bench, pass: Pass<Live>, op: Op, stops_at: u64) -> bool
+    requires { IsLive bench.now pass }
+{
+    let count = AtomicU64::new(0);
+    makes(rt, bench, pass, op, &mut Asked::new(&count, stops_at)).is_none()
 }

@@ -1,10 +1,11 @@
 //! Calls that threads make by turns.
 ghost use Rattle.std.specs.Prelude.{IfSome};
 ghost use Rattle.ruledwords.specs.Passes.{IsLive};
+ghost use Rattle.thread_fixtures.specs.Fours.{AreLive};
 
 use crate::left::Left;
 use crate::made::makes;
-use crate::team::Team;
+use crate::threads::team;
 use condvar::Op;
 use lockword::Reply;
 use memorymap::{Layout, NoMem};
@@ -63,14 +64,8 @@ fn told<R: Wait>(
 
 /// Makes a call of one of the four.
 fn turn<R: Wait>(rt: &R, bench: &Bench, four: Four, who: Who, op: Op) -> (Four, Option<Reply>)
-    requires first { IfSome four.first (λ p. IsLive bench.now p) }
-    requires second { IfSome four.second (λ p. IsLive bench.now p) }
-    requires third { IfSome four.third (λ p. IsLive bench.now p) }
-    requires fourth { IfSome four.fourth (λ p. IsLive bench.now p) }
-    ensures first { IfSome result.0.first (λ p. IsLive bench.now p) }
-    ensures second { IfSome result.0.second (λ p. IsLive bench.now p) }
-    ensures third { IfSome result.0.third (λ p. IsLive bench.now p) }
-    ensures fourth { IfSome result.0.fourth (λ p. IsLive bench.now p) }
+    requires { AreLive bench.now four }
+    ensures { AreLive bench.now result.0 }
 {
     let Four {
         mut first,
@@ -113,14 +108,8 @@ fn turn<R: Wait>(rt: &R, bench: &Bench, four: Four, who: Who, op: Op) -> (Four, 
 
 /// A step, and whether it goes as it should.
 fn goes<R: Wait>(rt: &R, bench: &Bench, four: Four, step: Step) -> (Four, bool)
-    requires first { IfSome four.first (λ p. IsLive bench.now p) }
-    requires second { IfSome four.second (λ p. IsLive bench.now p) }
-    requires third { IfSome four.third (λ p. IsLive bench.now p) }
-    requires fourth { IfSome four.fourth (λ p. IsLive bench.now p) }
-    ensures first { IfSome result.0.first (λ p. IsLive bench.now p) }
-    ensures second { IfSome result.0.second (λ p. IsLive bench.now p) }
-    ensures third { IfSome result.0.third (λ p. IsLive bench.now p) }
-    ensures fourth { IfSome result.0.fourth (λ p. IsLive bench.now p) }
+    requires { AreLive bench.now four }
+    ensures { AreLive bench.now result.0 }
 {
     match step {
         Step::Calls(who, op, want) => {
@@ -140,14 +129,7 @@ pub fn plays<R: Wait>(
     presets: &[u32],
     steps: &[Step],
 ) -> Result<Option<Left>, NoMem> {
-    let Team {
-        bench,
-        first,
-        second,
-        third,
-        fourth,
-        fifth,
-    } = Team::new(alloc, layout, presets)?;
+    let (bench, first, second, third, fourth, fifth) = team(alloc, layout, presets)?;
     let mut four = Four {
         first: Some(first),
         second: Some(second),

@@ -13,7 +13,7 @@ use std::sync::Wait;
 use std::sync::atomic::{AtomicU64, Ordering};
 use std::test::Fail;
 use std::thread::Threads;
-use thread_fixtures::{Left, Team, makes};
+use thread_fixtures::{Left, makes, team};
 use threadbench::{Gate, Open, WorkerCall, WorkerPass};
 
 /// What came of a thread that locks a mutex in one phase and unlocks it in the next, and dies before its access with a number.
@@ -34,35 +34,14 @@ fn told_ok(replies: &[Reply]) -> usize {
 }
 
 fn two_phases<R: Threads + Wait + Sync>(rt: &R, alloc: Global, die: u32) -> Result<Story, Fail> {
-    let Team {
-        bench,
-        first,
-        second,
-        third,
-        fourth,
-        fifth: _,
-    } = Team::new(alloc, Layout::new(5, 1, &[])?, &[])?;
+    let (bench, first, second, third, fourth, _) = team(alloc, Layout::new(5, 1, &[])?, &[])?;
     let first = fresh(alloc, &bench, first, Some(die));
     let second = fresh(alloc, &bench, second, None);
-    let (first, second) = phase(
-        rt,
-        alloc,
-        &bench,
-        first,
-        second,
-        [&[OnMutex(Lock(0))], &[]],
-        &Open,
-    )?;
+    let lock: [&[Op]; 2] = [&[OnMutex(Lock(0))], &[]];
+    let (first, second) = phase(rt, alloc, &bench, first, second, lock, &Open)?;
     let locked = told_ok(first.replies.as_slice());
-    let (first, _second) = phase(
-        rt,
-        alloc,
-        &bench,
-        first,
-        second,
-        [&[OnMutex(Unlock(0))], &[]],
-        &Open,
-    )?;
+    let unlock: [&[Op]; 2] = [&[OnMutex(Unlock(0))], &[]];
+    let (first, _second) = phase(rt, alloc, &bench, first, second, unlock, &Open)?;
     let unlocked = told_ok(first.replies.as_slice());
     let dead = matches!(first.pass, WorkerPass::Reaped(_));
     let next = makes(rt, &bench, third, OnMutex(TryLock(0)), &mut Never).map(|made| made.1);
@@ -132,14 +111,7 @@ pub(crate) fn dies_at<R: Threads + Wait + Sync, G: Gate + Sync>(
     die: u32,
     gate: &G,
 ) -> Result<(usize, Option<u32>), Fail> {
-    let Team {
-        bench,
-        first,
-        second,
-        third: _,
-        fourth: _,
-        fifth: _,
-    } = Team::new(alloc, Layout::new(5, 2, &[0])?, &[0])?;
+    let (bench, first, second, _, _, _) = team(alloc, Layout::new(5, 2, &[0])?, &[0])?;
     let first = fresh(alloc, &bench, first, Some(die));
     let second = fresh(alloc, &bench, second, None);
     let other = [OnMutex(Lock(1))];

@@ -17,7 +17,7 @@ use std::sync::atomic::{AtomicBool, AtomicU64, Ordering};
 use std::test::Fail;
 use std::thread::{self, Threads};
 use std::time::Clock;
-use thread_fixtures::{Asked, Left, Team, fall_asleep, last_of, makes};
+use thread_fixtures::{Left, dies, fall_asleep, last_of, makes, team};
 use threadbench::{Bench, Gate, Job, Record, WorkerCall, WorkerPass};
 
 /// Two threads make these calls under this gate: what is left, if they were told so. The counter begins at 5.
@@ -28,14 +28,7 @@ pub(crate) fn goes<R: Threads + Wait + Sync, G: Gate + Sync>(
     gate: &G,
     want: [&[Reply]; 2],
 ) -> Result<Option<Left>, Fail> {
-    let Team {
-        bench,
-        first,
-        second,
-        third,
-        fourth: _,
-        fifth: _,
-    } = Team::new(alloc, Layout::new(5, 2, &[0])?, &[5])?;
+    let (bench, first, second, third, _, _) = team(alloc, Layout::new(5, 2, &[0])?, &[5])?;
     let first = fresh(alloc, &bench, first, None);
     let second = fresh(alloc, &bench, second, None);
     let (first, second) = phase(rt, alloc, &bench, first, second, calls, gate)?;
@@ -287,15 +280,7 @@ fn dies_as_owner<R: Wait>(rt: &R, bench: &Bench, pass: Pass<Live>) -> bool
     let Some((pass, taken)) = makes(rt, bench, pass, OnMutex(Lock(0)), &mut Never) else {
         return false;
     };
-    let count = AtomicU64::new(0);
-    let made = makes(
-        rt,
-        bench,
-        pass,
-        OnMutex(Unlock(0)),
-        &mut Asked::new(&count, 1),
-    );
-    taken == OK && made.is_none()
+    dies(rt, bench, pass, OnMutex(Unlock(0)), 1) && taken == OK
 }
 
 /// A thread owns the mutex while so many others come for it; it unlocks, and each of them has it in turn, or is told that it can't be used any more. Whether all were told so, and what is left in the

@@ -14,7 +14,7 @@ use std::alloc::Global;
 use std::sync::Wait;
 use std::test::Fail;
 use std::thread::Threads;
-use thread_fixtures::{Left, Team, last_of};
+use thread_fixtures::{Left, last_of, team};
 use threadbench::{Bench, Job, Open, Record, WorkerPass};
 
 /// What two threads call at once, and what they are told.
@@ -54,14 +54,7 @@ fn worked<R: Threads + Wait + Sync>(
     alloc: Global,
     phases: &[Phase],
 ) -> Result<Option<[u64; 2]>, Fail> {
-    let Team {
-        bench,
-        first,
-        second,
-        third,
-        fourth: _,
-        fifth: _,
-    } = Team::new(alloc, Layout::new(5, 2, &[])?, &[])?;
+    let (bench, first, second, third, _, _) = team(alloc, Layout::new(5, 2, &[])?, &[])?;
     let one = fresh(alloc, &bench, first, None);
     let other = fresh(alloc, &bench, second, None);
     let well = go(rt, alloc, &bench, one, other, phases)?;
@@ -141,14 +134,7 @@ fn locks_follow_each_other(rt: HostRuntime) -> Result<(), Fail> {
 
 /// Whether one of the two threads has taken the mutex that both try at once, and the counter is as it was.
 fn one_takes<R: Threads + Wait + Sync>(rt: &R, alloc: Global) -> Result<bool, Fail> {
-    let Team {
-        bench,
-        first,
-        second,
-        third,
-        fourth: _,
-        fifth: _,
-    } = Team::new(alloc, Layout::new(5, 1, &[0])?, &[7])?;
+    let (bench, first, second, third, _, _) = team(alloc, Layout::new(5, 1, &[0])?, &[7])?;
     let first = fresh(alloc, &bench, first, None);
     let second = fresh(alloc, &bench, second, None);
     let tries: [&[Op]; 2] = [&[OnMutex(TryLock(0))], &[OnMutex(TryLock(0))]];

@@ -16,7 +16,7 @@ use std::sync::atomic::{AtomicU64, Ordering};
 use std::test::Fail;
 use std::thread::{self, Threads};
 use std::time::{Clock, Duration};
-use thread_fixtures::{Asked, Left, Team, are_asleep, ends_unless, fall_asleep, makes};
+use thread_fixtures::{Asked, Left, are_asleep, ends_unless, fall_asleep, makes, team};
 use threadbench::Bench;
 
 const ROUNDS: u32 = 5_000;
@@ -42,14 +42,7 @@ fn rounds<R: Wait>(rt: &R, bench: &Bench, first: Pass<Live>) -> u32
 
 #[test]
 fn two_threads_sleep_for_each_other(rt: HostRuntime) -> Result<(), Fail> {
-    let Team {
-        bench,
-        first,
-        second,
-        third,
-        fourth: _,
-        fifth: _,
-    } = Team::new(rt.alloc(), Layout::new(5, 1, &[])?, &[])?;
+    let (bench, first, second, third, _, _) = team(rt.alloc(), Layout::new(5, 1, &[])?, &[])?;
     let shared = &bench;
     let host = &rt;
     let told = thread::join(
@@ -139,14 +132,7 @@ fn one_sleeps<R: Threads + Wait + Clock + Sync>(
     rt: &R,
     alloc: Global,
 ) -> Result<Option<Counted>, Fail> {
-    let Team {
-        bench,
-        first,
-        second,
-        third,
-        fourth: _,
-        fifth: _,
-    } = Team::new(alloc, Layout::new(5, 1, &[])?, &[])?;
+    let (bench, first, second, third, _, _) = team(alloc, Layout::new(5, 1, &[])?, &[])?;
     let Some((first, taken)) = makes(rt, &bench, first, OnMutex(Lock(0)), &mut Never) else {
         return Ok(None);
     };
@@ -285,14 +271,7 @@ fn sleeps_for_both<R: Wait + Files + AllocGlobal>(
 /// A thread that sleeps asks for no processor: neither where it has never slept before, nor where it was woken before.
 #[test]
 fn a_sleeper_takes_no_time(rt: HostRuntime) -> Result<(), Fail> {
-    let Team {
-        bench,
-        first,
-        second,
-        third: _,
-        fourth: _,
-        fifth: _,
-    } = Team::new(rt.alloc(), Layout::new(5, 2, &[])?, &[])?;
+    let (bench, first, second, _, _, _) = team(rt.alloc(), Layout::new(5, 2, &[])?, &[])?;
     let Some(first) = takes_both(&rt, &bench, first) else {
         assert!(rt; false);
         return Ok(());

@@ -15,7 +15,7 @@ use std::sync::atomic::{AtomicU64, Ordering};
 use std::test::Fail;
 use std::thread::{self, Threads};
 use std::time::Clock;
-use thread_fixtures::{Asked, Left, Team, ends_unless, fall_asleep, makes, waits_for};
+use thread_fixtures::{Left, dies, ends_unless, fall_asleep, makes, team, waits_for};
 use threadbench::Bench;
 
 /// How often the fate of a thread is asked that locks an owned mutex until it sleeps: four times, where it doesn't find WAITERS set.
@@ -173,24 +173,16 @@ fn owns_with_waiters<R: Wait>(
     ensures { IfSome result (λ p. IsLive bench.now p) }
 {
     let owner = takes(rt, bench, owner)?;
-    let count = AtomicU64::new(0);
-    let mut dies = Asked::new(&count, ASLEEP);
-    match makes(rt, bench, other, OnMutex(Lock(0)), &mut dies) {
-        Some(_) => None,
-        None => Some(owner),
+    if dies(rt, bench, other, OnMutex(Lock(0)), ASLEEP) {
+        Some(owner)
+    } else {
+        None
     }
 }
 
 /// The first of a team, which owns the mutex with WAITERS set, unlocks and is kept back before its trim; then the third, the fourth, which falls asleep, and the fifth come.
 fn played<R: Threads + Wait + Clock + Sync>(rt: &R, alloc: Global) -> Result<Option<Story>, Fail> {
-    let Team {
-        bench,
-        first,
-        second,
-        third,
-        fourth,
-        fifth,
-    } = Team::new(alloc, Layout::new(5, 1, &[])?, &[])?;
+    let (bench, first, second, third, fourth, fifth) = team(alloc, Layout::new(5, 1, &[])?, &[])?;
     let Some(first) = owns_with_waiters(rt, &bench, first, second) else {
         return Ok(None);
     };
@@ -243,23 +235,14 @@ fn a_trim_leaves_waiters_to_a_sleeper(rt: HostRuntime) -> Result<(), Fail> {
 
 /// The word of the cell once a thread has unlocked, whose fate stops it where it is asked for the time with this number, and the next one has taken the mutex; None where not all went so.
 fn left_by<R: Wait>(rt: &R, alloc: Global, stops_at: u64) -> Result<Option<u64>, Fail> {
-    let Team {
-        bench,
-        first,
-        second,
-        third,
-        fourth,
-        fifth: _,
-    } = Team::new(alloc, Layout::new(5, 1, &[])?, &[])?;
+    let (bench, first, second, third, fourth, _) = team(alloc, Layout::new(5, 1, &[])?, &[])?;
     let Some(first) = owns_with_waiters(rt, &bench, first, second) else {
         return Ok(None);
     };
-    let count = AtomicU64::new(0);
-    let mut fate = Asked::new(&count, stops_at);
-    let lives = makes(rt, &bench, first, OnMutex(Unlock(0)), &mut fate).is_some();
+    let died = dies(rt, &bench, first, OnMutex(Unlock(0)), stops_at);
     let taken = takes(rt, &bench, third).is_some();
     let cell = Left::of(bench, fourth).cells[0];
-    Ok(if taken && lives == (stops_at == 0) {
+    Ok(if taken && died == (stops_at > 0) {
         Some(cell)
     } else {
         None

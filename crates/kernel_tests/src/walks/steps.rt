@@ -3,6 +3,7 @@ ghost use Rattle.exitwalk.specs.Walks.{IsGoing};
 
 use super::{BACK, OWNER_DIED, WAITERS, death};
 use crate::batches::thread;
+use crate::words::ANSWERS;
 use exitwalk::Walk;
 use lockword::{Reply, Tid};
 use std::process::Abort;
@@ -251,51 +252,12 @@ const EACH_ACCESS: [Step; 8] = [
     Step::Load(11, 2, Then::Ends),
 ];
 
-/// What is no answer of a load.
-const OTHERS_OF_LOADS: [Answer; 9] = [
-    Answer::Stored,
-    Answer::Exchanged,
-    Answer::Changed(1),
-    Answer::Again,
-    Answer::Woken,
-    Answer::Count(1),
-    Answer::Counts(0, 0),
-    Answer::Trimmed(true),
-    Answer::Fault,
-];
-
-/// What is no answer of an exchange.
-const OTHERS_OF_MARKS: [Answer; 8] = [
-    Answer::Value(1),
-    Answer::Stored,
-    Answer::Again,
-    Answer::Woken,
-    Answer::Count(1),
-    Answer::Counts(0, 0),
-    Answer::Trimmed(true),
-    Answer::Fault,
-];
-
-/// What is no answer of a wake.
-const OTHERS_OF_WAKES: [Answer; 9] = [
-    Answer::Value(1),
-    Answer::Stored,
-    Answer::Exchanged,
-    Answer::Changed(1),
-    Answer::Again,
-    Answer::Woken,
-    Answer::Counts(0, 0),
-    Answer::Trimmed(true),
-    Answer::Fault,
-];
-
-/// Each of these answers ends the walk.
-fn end(rt: &impl Abort, walk: Walk, answers: &[Answer])
-    requires { IsGoing walk.row }
-{
-    for answer in answers {
-        let mut cut = walk;
-        assert!(rt; cut.resume(*answer) == END);
+/// Whether the access of this step may be answered so.
+fn is_answered(step: Step, answer: Answer) -> bool {
+    match step {
+        Step::Load(_, _, _) => matches!(answer, Answer::Value(_)),
+        Step::Mark(_, _, _, _) => matches!(answer, Answer::Exchanged | Answer::Changed(_)),
+        Step::Wake(_) => matches!(answer, Answer::Count(_)),
     }
 }
 
@@ -303,10 +265,11 @@ fn end(rt: &impl Abort, walk: Walk, answers: &[Answer])
 fn others_end(rt: &impl Abort, walk: Walk, step: Step)
     requires { IsGoing walk.row }
 {
-    match step {
-        Step::Load(_, _, _) => end(rt, walk, &OTHERS_OF_LOADS),
-        Step::Mark(_, _, _, _) => end(rt, walk, &OTHERS_OF_MARKS),
-        Step::Wake(_) => end(rt, walk, &OTHERS_OF_WAKES),
+    for answer in ANSWERS {
+        if !is_answered(step, answer) {
+            let mut cut = walk;
+            assert!(rt; cut.resume(answer) == END);
+        }
     }
 }
 

@@ -1,7 +1,7 @@
 //! Scripts that are as long as they may be, too long, or cut.
 
 use crate::built::{joined, repeated};
-use crate::faults::{Refusal, Scripts, read, refusal};
+use crate::faults::{FOR_A_RUN, Refusal, Scripts, read, refusal};
 use script::{MAX_BYTES, MAX_LINES, Mode};
 use std::alloc::{AllocError, Global};
 use std::test::Fail;
@@ -92,9 +92,8 @@ const MANY_THREADS: &str = "mutex m\n\
 
 /// A line stands behind them.
 const BEHIND_MANY_THREADS: Scripts = Scripts {
-    mode: Mode::Run,
     front: MANY_THREADS,
-    end: "\n",
+    ..FOR_A_RUN
 };
 
 /// The 65th thread, also of a process that is not declared; one of the 64 again; and no thread.

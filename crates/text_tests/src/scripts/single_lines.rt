@@ -1,8 +1,6 @@
 //! Lines of scripts, each with its fault.
 
-use super::{THIRD, WHOLE};
-use crate::faults::{Refusal, Scripts};
-use script::Mode;
+use crate::faults::{FOR_A_RUN, Refusal, Scripts, WHOLE};
 
 /// Whole scripts, most of which only declare.
 static DECLARATIONS: [(&str, Refusal); 43] = [
@@ -85,7 +83,7 @@ static STEPS: [(&str, Refusal); 23] = [
 
 #[test]
 fn steps(rt: HostRuntime) {
-    assert!(rt; THIRD.first_wrong(rt.alloc(), &STEPS).is_none());
+    assert!(rt; FOR_A_RUN.first_wrong(rt.alloc(), &STEPS).is_none());
 }
 
 /// Third lines with calls.
@@ -125,7 +123,7 @@ static CALLS: [(&str, Refusal); 31] = [
 
 #[test]
 fn calls(rt: HostRuntime) {
-    assert!(rt; THIRD.first_wrong(rt.alloc(), &CALLS).is_none());
+    assert!(rt; FOR_A_RUN.first_wrong(rt.alloc(), &CALLS).is_none());
 }
 
 /// Third lines that kill a thread or let it go on.
@@ -142,7 +140,7 @@ static KILL_AND_GO: [(&str, Refusal); 8] = [
 
 #[test]
 fn kill_and_go(rt: HostRuntime) {
-    assert!(rt; THIRD.first_wrong(rt.alloc(), &KILL_AND_GO).is_none());
+    assert!(rt; FOR_A_RUN.first_wrong(rt.alloc(), &KILL_AND_GO).is_none());
 }
 
 /// Third lines that declare a condition variable, or nearly.
@@ -177,14 +175,13 @@ static CONDITIONS: [(&str, Refusal); 26] = [
 
 #[test]
 fn conditions(rt: HostRuntime) {
-    assert!(rt; THIRD.first_wrong(rt.alloc(), &CONDITIONS).is_none());
+    assert!(rt; FOR_A_RUN.first_wrong(rt.alloc(), &CONDITIONS).is_none());
 }
 
 /// A line stands fourth, behind a thread `a`, a mutex `m` and a condition variable `c`.
 const BEHIND_A_CONDITION: Scripts = Scripts {
-    mode: Mode::Run,
     front: "thread a\nmutex m\ncond c m 5\n",
-    end: "\n",
+    ..FOR_A_RUN
 };
 
 static CALLS_ON_CONDITIONS: [(&str, Refusal); 10] = [

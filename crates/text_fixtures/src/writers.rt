@@ -1,4 +1,4 @@
-//! Writers that hold little, or fail.
+//! Writers that hold little, are slow, or fail.
 
 ghost use Rattle.std.specs.Prelude.{⊤};
 
@@ -6,28 +6,56 @@ use std::alloc::Global;
 use std::io::{self, ErrorKind, Write};
 use streams::Output;
 
-/// Holds no more than its room, and where it is stuck doesn't let go of it.
+/// Holds no more than its room. It takes a few bytes at a call, and is interrupted before it takes the next ones.
 #[derive(Drop)]
-pub struct Few {
+pub struct Faulty {
     pub held: Vec<u8>,
     room: usize,
+    /// What it answers without room: that it took 0 bytes, or an error.
+    takes_none: bool,
+    /// Whether it fails when it should let go of what it holds.
     is_stuck: bool,
+    /// How often it is interrupted before it takes the next bytes.
+    interruptions: u32,
 }
 
-impl Few {
-    pub fn new(alloc: Global, room: usize, is_stuck: bool) -> Few {
-        Few {
+impl Faulty {
+    pub fn new(alloc: Global, room: usize, takes_none: bool) -> Faulty {
+        Faulty {
             held: Vec::new(alloc),
             room,
-            is_stuck,
+            takes_none,
+            is_stuck: false,
+            interruptions: 1,
+        }
+    }
+
+    /// Has room for all, and fails when it should let go of it.
+    pub fn stuck(alloc: Global) -> Faulty {
+        Faulty {
+            is_stuck: true,
+            ..Faulty::new(alloc, usize::MAX, false)
+        }
+    }
+
+    /// Has room for all, and is interrupted so many times before it takes its first bytes.
+    pub fn late(alloc: Global, interruptions: u32) -> Faulty {
+        Faulty {
+            interruptions,
+            ..Faulty::new(alloc, usize::MAX, false)
         }
     }
 }
 
-impl Write for Few {
+impl Write for Faulty {
     fn write(&mut self, buf: &[u8]) -> io::Result<usize> {
+        if self.interruptions > 0 {
+            self.interruptions -= 1;
+            return Err(io::Error::from(ErrorKind::Interrupted));
+        }
+        self.interruptions = 1;
         let count = buf.len().min(self.room).min(3);
-        if count == 0 {
+        if count == 0 && !self.takes_none {
             return Err(io::Error::from(ErrorKind::StorageFull));
         }
         self.held.extend_from_slice(&buf[..count])?;
@@ -44,7 +72,7 @@ impl Write for Few {
     }
 }
 
-impl Output for Few {
+impl Output for Faulty {
     ghost is_let_go = { λ _. ⊤ };
 
     fn let_go(&mut self) -> io::Result<()> {

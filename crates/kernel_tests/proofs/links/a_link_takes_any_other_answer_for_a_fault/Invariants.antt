@@ -1,9 +1,0 @@
--- It hasn't ended yet.
-use Rattle.robustlist.specs.Link.{LinkGoes}
-use Rattle.kernel_tests.proofs.links.a_link_takes_any_other_answer_for_a_fault.Given as goal
-
-abbrev pub invariant-loop-answer : goal.invariant-loop-answer
-invariant-loop-answer g l = LinkGoes l.link.row
-
-abbrev pub invariant-loop-right : goal.invariant-loop-right
-invariant-loop-right g l = LinkGoes l.link.row
