@@ -1,4 +1,5 @@
-//! `rfx-explain` from the words of its command line on: its forms, files that are there or not, writers that fail, refused memory.
+//! `rfx-explain` from the words of its command line on: its forms, files that are there or not, writers that fail,
+//! refused memory.
 
 use crate::answers::answer_of;
 use explain::{OUT_OF_MEMORY, run};

@@ -26,7 +26,8 @@ fn is_of_loads_or_stores(answer: Answer) -> bool {
     matches!(answer, Answer::Value(_) | Answer::Stored)
 }
 
-/// The right answers of a link that finds the entry at 8 first, and beside each one that belongs to the other kind of access.
+/// The right answers of a link that finds the entry at 8 first, and beside each one that belongs to the other kind of
+/// access.
 const LINK: [(Answer, Answer); 5] = [
     (Answer::Value(8), Answer::Stored),
     (Answer::Stored, Answer::Value(8)),

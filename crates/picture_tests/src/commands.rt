@@ -1,4 +1,5 @@
-//! `rfx-draw` from the words of its command line on: its forms, each fault, files that are there or not, readers and writers that fail.
+//! `rfx-draw` from the words of its command line on: its forms, each fault, files that are there or not, readers and
+//! writers that fail.
 
 use crate::answers::answer_of;
 use draw_report::{OUT_OF_MEMORY, run};
@@ -149,7 +150,8 @@ fn line_feeds(text: &[u8]) -> usize {
     text.iter().filter(|byte| **byte == b'\n').count()
 }
 
-/// A large trace as text, two rows of heads, one for each line, and the end; and as SVG, five lines up to the band, one for each lane, one for each call, one for each mark, and two.
+/// A large trace as text, two rows of heads, one for each line, and the end; and as SVG, five lines up to the band, one
+/// for each lane, one for each call, one for each mark, and two.
 #[test]
 fn many_lines_are_drawn(rt: HostRuntime) -> Result<(), AllocError> {
     let trace = many_lines(rt.alloc())?;

@@ -1,4 +1,5 @@
-//! The program from the words of its command line on: files that are there or not, words that aren't text, and what is told.
+//! The program from the words of its command line on: files that are there or not, words that aren't text, and what is
+//! told.
 
 use crate::served::is_printed_or_wants_memory;
 use report::{CANNOT_READ, OUT_OF_MEMORY, Opener, USAGE, run};

@@ -105,7 +105,8 @@ pub fn is_served_or_wants_memory(
     is_printed_or_wants_memory(status, &out, &err, printed)
 }
 
-/// Whether a form of the program, whose text a writer with this room can't hold, tells so and writes the text's beginning.
+/// Whether a form of the program, whose text a writer with this room can't hold, tells so and writes the text's
+/// beginning.
 pub fn is_told_of_room(
     rt: &(impl AllocGlobal + Threads + Wait + Sync),
     form: &Form<'_>,

@@ -26,7 +26,8 @@ impl Read for File<'_> {
     }
 }
 
-/// Has the file `f` and the standard input, of the same bytes, the script `s`, one that is `endless` and one that is `broken`; memory to open the one that is `refused` is refused. It counts what is opened.
+/// Has the file `f` and the standard input, of the same bytes, the script `s`, one that is `endless` and one that is
+/// `broken`; memory to open the one that is `refused` is refused. It counts what is opened.
 #[derive(Drop)]
 pub struct Folder<'a> {
     script: &'a [u8],

@@ -1,6 +1,8 @@
-//! What tests of the programs share: writers that hold little, are slow or fail, readers that are slow or fail, the files of a folder that is only played, and what a program answered.
+//! What tests of the programs share: writers that hold little, are slow or fail, readers that are slow or fail, the
+//! files of a folder that is only played, and what a program answered.
 //!
-//! It stands on `streams`. Its functions promise nothing but that they may be called: what comes of them the tests compare. So a writer that holds five bytes, and then fails:
+//! It stands on `streams`. Its functions promise nothing but that they may be called: what comes of them the tests
+//! compare. So a writer that holds five bytes, and then fails:
 //!
 //! ```text
 //! let mut out = Faulty::new(rt.alloc(), 5, false);

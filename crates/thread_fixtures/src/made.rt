@@ -69,7 +69,8 @@ fn on_condition<R: Wait, F: Fate>(
     }
 }
 
-/// Makes a call, and tells its reply. None where its thread died in it, whose list is walked then. It is told EINVAL, unmade, on what the bench hasn't.
+/// Makes a call, and tells its reply. None where its thread died in it, whose list is walked then. It is told EINVAL,
+/// unmade, on what the bench hasn't.
 pub fn makes<R: Wait, F: Fate>(
     rt: &R,
     bench: &Bench,
@@ -99,7 +100,8 @@ pub fn makes<R: Wait, F: Fate>(
     }
 }
 
-/// Makes a call whose thread dies where its fate is asked for the time with this number, from 1, a 0 never comes: whether it died in it.
+/// Makes a call whose thread dies where its fate is asked for the time with this number, from 1, a 0 never comes:
+/// whether it died in it.
 pub fn dies<R: Wait>(rt: &R, bench: &Bench, pass: Pass<Live>, op: Op, stops_at: u64) -> bool
     requires { IsLive bench.now pass }
 {
