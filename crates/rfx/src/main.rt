@@ -1,4 +1,5 @@
-//! `rfx`: runs a script event by event and prints its trace or its table, or lets real threads make its calls and prints their replies, or judges a trace.
+//! `rfx`: runs a script event by event and prints its trace or its table, or lets real threads make its calls and
+//! prints their replies, or judges a trace.
 //!
 //! The system's files and words are handed to `report`, whose contracts say what is written.
 #![tactic(auto)]

@@ -4,8 +4,8 @@ use crate::opening::Opener;
 use std::io::{self, Read};
 use std::{env, fs};
 
-/// The standard input's name among files. It is read as it stands, since opening it anew is refused where it is a socket, or
-/// another user's pipe.
+/// The standard input's name among files. It is read as it stands, since opening it anew is refused where it is a
+/// socket, or another user's pipe.
 const STANDARD_INPUT: &str = "/dev/stdin";
 
 /// The files of the system.
@@ -39,7 +39,8 @@ impl Opener for SystemFiles<'_> {
     }
 }
 
-/// The words of the command line, the program's name first. An error where one of them isn't UTF-8, or memory was refused.
+/// The words of the command line, the program's name first. An error where one of them isn't UTF-8, or memory was
+/// refused.
 pub fn system_words(rt: &HostRuntime) -> io::Result<Vec<String>> {
     Ok(env::args(rt)?.collect(rt.alloc())?)
 }
