@@ -81,10 +81,10 @@ known_first k presets many q low = (
   refl,
 )
 
-tied_at : (xs : List (List Change)) (cs : List Card) (i : ℕ) (c : Card) → AllTied xs cs → slice_get cs i ≡ Some c → Tied xs c.thread c.changes
-tied_at xs [] i c tied is = absurd (cc is)
-tied_at xs (d ∷ cs) zero c tied is = let same : d ≡ c = cc is in subst (λ (z : Card). Tied xs z.thread z.changes) same tied.0
-tied_at xs (d ∷ cs) (suc i) c tied is = tied_at xs cs i c tied.1 is
+tied_at : (n : ℕ) (xs : List (List Change)) (cs : List Card) (i : ℕ) (c : Card) → AllTied n xs cs → slice_get cs i ≡ Some c → Tied n xs c.thread c.changes
+tied_at n xs [] i c tied is = absurd (cc is)
+tied_at n xs (d ∷ cs) zero c tied is = let same : d ≡ c = cc is in subst (λ (z : Card). Tied n xs z.thread z.changes) same tied.0
+tied_at n xs (d ∷ cs) (suc i) c tied is = tied_at n xs cs i c tied.1 is
 
 -- changes by these threads of which none of them made one are none
 nobodys_at_all : (n : ℕ) (xs ys : List Change) → AreBy n (xs ++ ys) → ((t : ℕ) → 1 ≤ t → t ≤ n → made_by t ys ≡ []) → ys ≡ []
@@ -174,8 +174,8 @@ module _ (w : Words) (ps : List Phase) (passes : List (Pass Live)) (dies : List 
       all_within (layout_of w) ps (layout_is v.0.pass (all_at (λ (z : Worker). IsWorkerOf w z.pass) workers 0 v.0 made.right v.1)) possible
 
   -- a thread's card at the end
-  its_card : (i : ℕ) (v : Worker) → slice_get workers i ≡ Some v → Tied ended.ends.changes (card_in v.pass).thread (card_in v.pass).changes
-  its_card i v is = tied_at ended.ends.changes (map (λ (z : Worker). card_in z.pass) workers) i (card_in v.pass) ended.ends.tied (mapped_at (λ (z : Worker). card_in z.pass) workers i v is)
+  its_card : (i : ℕ) (v : Worker) → slice_get workers i ≡ Some v → Tied (layout_of w).threads ended.ends.changes (card_in v.pass).thread (card_in v.pass).changes
+  its_card i v is = tied_at (layout_of w).threads ended.ends.changes (map (λ (z : Worker). card_in z.pass) workers) i (card_in v.pass) ended.ends.tied (mapped_at (λ (z : Worker). card_in z.pass) workers i v is)
 
   -- the last changes of a counter are just what all know behind the last phase
   changed_last : (vs : ℕ → ℕ) → AreKnown (layout_of w) th.abreast.changes vs → (q : ℕ) → q < length (layout_of w).conditions → left_by (changes_at ended.ends.changes (counter_place (layout_of w) q)) ≡ vs q
