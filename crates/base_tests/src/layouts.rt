@@ -74,7 +74,8 @@ fn first_wrong_cell(layout: &Layout) -> Option<usize> {
     None
 }
 
-/// Whether there are so many threads, mutexes, condition variables and words, and the first condition variable keeps this mutex.
+/// Whether there are so many threads, mutexes, condition variables and words, and the first condition variable keeps
+/// this mutex.
 fn has_counts(layout: &Layout, counts: [usize; 4], mutex: u16) -> bool {
     let [threads, mutexes, conditions, words] = counts;
     usize::from(layout.threads()) == threads

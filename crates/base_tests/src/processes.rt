@@ -119,7 +119,8 @@ fn cell(layout: &Layout, mutex: u16) -> Option<u64> {
     }
 }
 
-/// A thread, and the address of mutex 0's cell in its process, where the processes of four threads map 16 words at 0, 1, 999999995 and 1000000000.
+/// A thread, and the address of mutex 0's cell in its process, where the processes of four threads map 16 words at 0,
+/// 1, 999999995 and 1000000000.
 static CELLS: [(u8, u64); 4] = [(1, 13), (2, 14), (3, 1_000_000_008), (4, 1_000_000_013)];
 
 fn first_wrong_cell(layout: &Layout) -> Option<usize> {
@@ -212,7 +213,8 @@ fn addresses_wrap_at_64_bits(rt: HostRuntime) {
     writes_are_seen();
 }
 
-/// The processes of threads, the bases of processes, mutexes and the mutexes of condition variables, and the fault by which there is no layout of them.
+/// The processes of threads, the bases of processes, mutexes and the mutexes of condition variables, and the fault by
+/// which there is no layout of them.
 #[derive(Clone, Copy)]
 struct Case {
     threads: &'static [u8],

@@ -2,7 +2,8 @@
 use Rattle.std.specs.Prelude.{ℕ, ◌≡◌, ◌≢◌, ◌≤◌, ◌+◌, ◌==◌, Bool, not, List, [], ◌∷◌, ◌++◌, length, map, filter, take, drop, if◌then◌else◌, All, AllPairs, Contains, MatchBool}
 use Rattle.buckets.specs.declared.sleeper.Sleeper.{Sleeper}
 
--- who sleeps in a bucket with room for so many. Of those on one key, who came earlier stands first; the order between keys says nothing
+-- who sleeps in a bucket with room for so many. Of those on one key, who came earlier stands first; the order between
+-- keys says nothing
 pub record Sleepers : Type 0 where
   pub capacity : ℕ
   pub sleeping : List Sleeper
@@ -41,8 +42,8 @@ pub record HasRoom (capacity : ℕ) (sleeping : List Sleeper) : Type 0 where
 abbrev pub StandOnce : List Sleeper → Type 0
 StandOnce sleeping = AllPairs (λ s r. s.thread ≢ r.thread) sleeping
 
--- what a bucket always is: it has room for 1 to 64, no more stand, no thread stands twice, in one queue or in two, and no thread is counted twice:
--- whoever lists all that stand lists as many as stand, or more
+-- what a bucket always is: it has room for 1 to 64, no more stand, no thread stands twice, in one queue or in two, and
+-- no thread is counted twice: whoever lists all that stand lists as many as stand, or more
 pub record IsOrderly (b : Sleepers) : Type 0 where
   pub first : 1 ≤ b.capacity
   pub last : b.capacity ≤ 64
@@ -77,8 +78,8 @@ pub record Joins (old new : Sleepers) (threads : List ℕ) (key : ℕ) : Type 0 
   pub more : standing new ≡ standing old + length threads
   pub capacity : new.capacity ≡ old.capacity
 
--- the first n of the key's queue, or all where there are fewer, were taken out of it and put at the end of another queue of the bucket, in order,
--- and every other queue stays
+-- the first n of the key's queue, or all where there are fewer, were taken out of it and put at the end of another
+-- queue of the bucket, in order, and every other queue stays
 pub record MovesWithin (old new : Sleepers) (key n to : ℕ) (moved : List ℕ) : Type 0 where
   pub firsts : moved ≡ take n (queue old key)
   pub left : queue new key ≡ drop n (queue old key)
@@ -92,7 +93,8 @@ pub record MovesTo (old new other_old other_new : Sleepers) (key n to : ℕ) (mo
   pub leave : Takes old new key n moved
   pub join : Joins other_old other_new moved to
 
--- the first n of the key's queue, or all where there are fewer, can be put into another bucket: it has room for them, and none of them stands in it
+-- the first n of the key's queue, or all where there are fewer, can be put into another bucket: it has room for them,
+-- and none of them stands in it
 pub record Fits (b other : Sleepers) (key n : ℕ) : Type 0 where
   pub room : standing other + length (take n (queue b key)) ≤ other.capacity
   pub awake : All (StandsNowhere other) (take n (queue b key))

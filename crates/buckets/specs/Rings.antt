@@ -23,8 +23,9 @@ last_or d (t ∷ ts) = last_or t ts
 abbrev pub row : ℕ → ℕ → ℕ → Row
 row k b a = record { key = record { 0 = k }; before = b; after = a }
 
--- what the rows of a bucket are: that of thread t stands at index t - 1. A thread that stands in no queue has none; one that stands in a queue has its
--- key and, in the ring of those after it, those before it and then itself again, the last of them and the first
+-- what the rows of a bucket are: that of thread t stands at index t - 1. A thread that stands in no queue has none; one
+-- that stands in a queue has its key and, in the ring of those after it, those before it and then itself again, the
+-- last of them and the first
 pub record AreRows (rows : List (Option Row)) (b : Sleepers) : Type 0 where
   pub long : length rows ≡ 64
   pub awake : (t : ℕ) → 1 ≤ t → t ≤ 64 → StandsNowhere b t → slice_get rows (t - 1) ≡ Some None
@@ -46,7 +47,8 @@ with_before p (Some r) = Some (row r.key.0 p r.after)
 abbrev pub joined : (ℕ → Option Row) → ℕ → ℕ → ℕ → Option Row
 joined w p n = put (put w p (with_after n (w p))) n (with_before p (put w p (with_after n (w p)) n))
 
--- the rows after thread t, a ring of its own, was put behind the last thread of the ring that begins with f, whose row is given
+-- the rows after thread t, a ring of its own, was put behind the last thread of the ring that begins with f, whose row
+-- is given
 abbrev pub behind : Option Row → (ℕ → Option Row) → ℕ → ℕ → ℕ → Option Row
 behind None w t f = w
 behind (Some r) w t f = joined (joined w r.before t) t f
@@ -116,8 +118,8 @@ abbrev pub Once : List ℕ → Type 0
 Once [] = Unit {0}
 Once (t ∷ ts) = NotIn t ts × Once ts
 
--- what the fields of a bucket always are: there is room for 1 to 64, no more stand, and they are counted; the rings are rings through the rows,
--- no thread stands in two places, and who stands in none has no row
+-- what the fields of a bucket always are: there is room for 1 to 64, no more stand, and they are counted; the rings are
+-- rings through the rows, no thread stands in two places, and who stands in none has no row
 pub record AreRings (capacity standing : ℕ) (w : ℕ → Option Row) (rings : List Ring) : Type 0 where
   pub first : 1 ≤ capacity
   pub last : capacity ≤ 64

@@ -151,7 +151,8 @@ impl Bucket {
         }
     }
 
-    /// Moves the first `n` of the key's queue, or all where there are fewer, to the end of another key's queue; answers them, in order (futex(2), FUTEX_REQUEUE).
+    /// Moves the first `n` of the key's queue, or all where there are fewer, to the end of another key's queue; answers
+    /// them, in order (futex(2), FUTEX_REQUEUE).
     pub fn move_within(&mut self, key: Key, n: u32, to: Key) -> Batch
         requires apart { key.0 ≢ to.0 }
         ensures changes { MovesWithin self.old self.new key.0 n to.0 result }
@@ -164,8 +165,9 @@ impl Bucket {
         moved
     }
 
-    /// Moves the first `n` of the key's queue, or all where there are fewer, to the end of a queue of another bucket; answers them, in order (futex(2), FUTEX_REQUEUE).
-    /// The other bucket has to have room for those moved, and none of them may stand in it: [`Bucket::fits`] tells.
+    /// Moves the first `n` of the key's queue, or all where there are fewer, to the end of a queue of another bucket;
+    /// answers them, in order (futex(2), FUTEX_REQUEUE). The other bucket has to have room for those moved, and none of
+    /// them may stand in it: [`Bucket::fits`] tells.
     pub fn move_to(&mut self, other: &mut Bucket, key: Key, n: u32, to: Key) -> Batch
         requires fits { Fits self.old other.old key.0 n }
         ensures changes { MovesTo self.old self.new other.old other.new key.0 n to.0 result }
@@ -179,7 +181,8 @@ impl Bucket {
         moved
     }
 
-    /// The first `n` of the key's queue, or all where there are fewer, can be moved into another bucket by [`Bucket::move_to`]: it has room for them, and none of them stands in it.
+    /// The first `n` of the key's queue, or all where there are fewer, can be moved into another bucket by
+    /// [`Bucket::move_to`]: it has room for them, and none of them stands in it.
     pub fn fits(&self, other: &Bucket, key: Key, n: u32) -> bool
         ensures { MatchBool result (Fits self.now other.now key.0 n) (¬ Fits self.now other.now key.0 n) }
     {
@@ -254,16 +257,17 @@ impl Bucket {
         }
     }
 
-    /// The rows of all threads, 64: that of the thread with id t at index t - 1. It has the thread's key, and the ids of those before and after it
-    /// in the key's queue, the last being before the first; None where the thread stands in no queue.
+    /// The rows of all threads, 64: that of the thread with id t at index t - 1. It has the thread's key, and the ids
+    /// of those before and after it in the key's queue, the last being before the first; None where the thread stands
+    /// in no queue.
     pub fn rows(&self) -> &[Option<Row>]
         ensures { AreRows result.now self.now }
     {
         all(&self.rows)
     }
 
-    /// What a futex wait does under the bucket's lock: where the low half of the word it saw is the expected one, it puts the thread
-    /// at the end of the key's queue and answers true; else it answers false, and nothing changes.
+    /// What a futex wait does under the bucket's lock: where the low half of the word it saw is the expected one, it
+    /// puts the thread at the end of the key's queue and answers true; else it answers false, and nothing changes.
     pub fn wait_section(&mut self, thread: Tid, key: Key, seen: u64, expected: u32) -> bool
         requires room { standing self.old < self.old.capacity }
         requires awake { StandsNowhere self.old thread }

@@ -22,7 +22,8 @@ pub(crate) fn ring_on(rings: &[Ring], key: Key) -> Option<usize>
     rings.iter().position(|ring| ring.first.key == key)
 }
 
-/// A thread leaves its ring: the thread after it becomes the first where it was the first, and a ring of nobody is taken away.
+/// A thread leaves its ring: the thread after it becomes the first where it was the first, and a ring of nobody is
+/// taken away.
 pub(crate) fn leave(rings: &mut Vec<Ring>, place: usize, thread: Tid, after: Tid)
     requires { place < length rings.old.items }
     ensures left { (front back : List Ring) (r : Ring) → length front ≡ place → rings.old.items ≡ front ++ r ∷ back → rings.new.items ≡ front ++ (left_of r thread after ++ back) }

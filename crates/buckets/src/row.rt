@@ -6,8 +6,8 @@ use crate::batch::Batch;
 use lockword::Tid;
 use memorymap::Key;
 
-/// A thread that sleeps on a key, and the threads before and after it in the key's queue. The queue is a ring: the last thread is before the
-/// first, and one that is alone is before and after itself.
+/// A thread that sleeps on a key, and the threads before and after it in the key's queue. The queue is a ring: the last
+/// thread is before the first, and one that is alone is before and after itself.
 #[derive(Clone, Copy, Debug, PartialEq, Eq)]
 pub struct Row {
     pub key: Key,
@@ -74,7 +74,8 @@ pub(crate) fn join(rows: &mut Rows, before: Tid, after: Tid)
     write(rows, after, row);
 }
 
-/// Puts a thread that is a ring of its own at the end of the ring that begins with `first`: between its last thread and its first.
+/// Puts a thread that is a ring of its own at the end of the ring that begins with `first`: between its last thread and
+/// its first.
 pub(crate) fn append(rows: &mut Rows, thread: Tid, first: Tid)
     ensures { (u : ℕ) → row_of rows.new u ≡ behind (row_of rows.old first) (row_of rows.old) thread first u }
 {

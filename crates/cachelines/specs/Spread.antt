@@ -1,4 +1,5 @@
--- Where the word of each place lies: three words to a group, and ten words of memory to a group, so that 64 bytes lie between the last word of one and the first of the next.
+-- Where the word of each place lies: three words to a group, and ten words of memory to a group, so that 64 bytes lie
+-- between the last word of one and the first of the next.
 use Rattle.std.specs.Prelude.{◌≡◌, ℕ, zero, suc, ◌+◌, ◌-◌, ◌*◌, ◌/◌, ◌%◌, List, [], ◌∷◌, length, slice_index}
 use Rattle.atomic_table.specs.Table.{State, Step}
 

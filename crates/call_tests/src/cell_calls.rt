@@ -66,7 +66,8 @@ fn first_wrong(calls: &[Way]) -> Option<usize> {
     None
 }
 
-/// However a lock comes to know of a cell, by its load or by an exchange that fails, that leads it so far, and then it makes these accesses.
+/// However a lock comes to know of a cell, by its load or by an exchange that fails, that leads it so far, and then it
+/// makes these accesses.
 fn lock_decides(cell: u64, then: Then, rest: &[Step]) -> bool {
     let loads = [Step(Loads(10, cell), then)];
     let loses = [Step(Loads(10, 0), Goes), Step(Finds(0, 2, cell), then)];
@@ -181,7 +182,8 @@ static SLEEPING: [Way; 4] = [
     (Lock, &[&SETS_INCONSISTENT, &IS_WOKEN_INCONSISTENT]),
 ];
 
-/// Cells that another owns: first such as have WAITERS already, and then such in which a lock can't set it, since it finds another cell, which it sees.
+/// Cells that another owns: first such as have WAITERS already, and then such in which a lock can't set it, since it
+/// finds another cell, which it sees.
 static OWNED: [Known; 6] = [
     (0x8000_0001, Goes, &IS_TOLD_AGAIN),
     (0x8000_0001, Goes, &IS_WOKEN),

@@ -9,12 +9,14 @@ use posixmutex::Operation;
 use posixmutex::Operation::{Broadcast, Signal, Wait};
 use stepprograms::{Access, Answer, Progress, StepProgram};
 
-/// The words where the mutex's cell and the counter are so: each head leads to itself, but thread 2's to its mutex's entry.
+/// The words where the mutex's cell and the counter are so: each head leads to itself, but thread 2's to its mutex's
+/// entry.
 fn held(cell: u64, counter: u64) -> [u64; 15] {
     [0, 1, 0, 0, 11, 0, 0, 0, 0, 0, cell, 4, 4, 0, counter]
 }
 
-/// An access to a word that is so: what it is answered, and the word afterwards. Nobody sleeps; whoever falls asleep is woken at once.
+/// An access to a word that is so: what it is answered, and the word afterwards. Nobody sleeps; whoever falls asleep is
+/// woken at once.
 fn access_to(word: u64, access: Access) -> (Answer, u64) {
     match access {
         Access::Load { .. } => (Answer::Value(word), word),
@@ -77,7 +79,8 @@ fn make(words: &mut [u64], access: Access) -> Answer {
 /// The accesses that a call makes to its return, and its reply.
 type Ran = (u64, Option<Reply>);
 
-/// Runs a call of thread 2 to its return, or to where it is about to sleep where that is wanted, and tells the accesses before that and the reply; None where it does neither.
+/// Runs a call of thread 2 to its return, or to where it is about to sleep where that is wanted, and tells the accesses
+/// before that and the reply; None where it does neither.
 fn runs(words: &mut [u64], operation: Operation, asleep: bool) -> Option<Ran> {
     let thread = Tid::new(2)?;
     let layout = Layout::new(2, 2, &[0, 1]).ok()?;

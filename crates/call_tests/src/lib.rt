@@ -1,7 +1,8 @@
 //! The tests of calls and of the machine.
 //!
-//! They use only what the crates below offer. They stand here, and not beside what they test, since a crate that has tests is proved a second time for them, and these cost more than
-//! the proofs of those crates: here they are proved once, with nothing else.
+//! They use only what the crates below offer. They stand here, and not beside what they test, since a crate that has
+//! tests is proved a second time for them, and these cost more than the proofs of those crates: here they are proved
+//! once, with nothing else.
 #![tactic(auto)]
 
 #[cfg(test)]

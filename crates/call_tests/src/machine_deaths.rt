@@ -22,7 +22,8 @@ const KILLED_ASLEEP: [Row; 11] = [
     Row(Steps(1), Returns(OK), Resting, Reaped),
 ];
 
-/// A sleeper that is killed leaves its queue, so that nobody is woken in its place, and the unlock trims the cell; the kernel leaves alone what it doesn't own.
+/// A sleeper that is killed leaves its queue, so that nobody is woken in its place, and the unlock trims the cell; the
+/// kernel leaves alone what it doesn't own.
 #[test]
 fn a_killed_sleeper_leaves_its_queue(rt: HostRuntime) -> Result<(), Fail> {
     let machine = gone_through(rt.alloc(), 2, &KILLED_ASLEEP)?;
@@ -39,7 +40,8 @@ const KILLED_AT_REST: [Row; 4] = [
     Row(Begins(1, LOCK), Nothing, Dying, Resting),
 ];
 
-/// The walk of an empty list with no pending entry loads the head's three words. From then on no event of the thread applies.
+/// The walk of an empty list with no pending entry loads the head's three words. From then on no event of the thread
+/// applies.
 const WALKED: [Row; 7] = [
     Row(Dies(1), Killed, Dying, Resting),
     Row(Steps(1), Walks, Dying, Resting),

@@ -1,4 +1,5 @@
-//! Machines whose two threads are of two processes, with bases 1000 and 2000, worked out by hand. The cell of the one mutex is at place 7, and its entry at 8 and 9.
+//! Machines whose two threads are of two processes, with bases 1000 and 2000, worked out by hand. The cell of the one
+//! mutex is at place 7, and its entry at 8 and 9.
 
 use crate::machine_rows::Standing::{Asleep, Awake, Reaped, Resting};
 use crate::machine_rows::{LOCK, UNLOCK, has_words, play, standing_of, thread};
@@ -23,7 +24,8 @@ fn heads_lead_to_their_own_addresses(rt: HostRuntime) -> Result<(), Fail> {
     Ok(())
 }
 
-/// Thread 1 locks and dies; its walk finds the mutex by its own addresses. Thread 2 locks it then, and links it by its own.
+/// Thread 1 locks and dies; its walk finds the mutex by its own addresses. Thread 2 locks it then, and links it by its
+/// own.
 #[test]
 fn a_mutex_goes_from_one_process_to_another(rt: HostRuntime) -> Result<(), Fail> {
     let (one, two) = (thread(1)?, thread(2)?);
@@ -61,7 +63,8 @@ fn a_mutex_goes_from_one_process_to_another(rt: HostRuntime) -> Result<(), Fail>
     Ok(())
 }
 
-/// Thread 2 sleeps on the cell by the address 2007, and thread 1 wakes it by 1007. What a machine does alone it does in its processes too.
+/// Thread 2 sleeps on the cell by the address 2007, and thread 1 wakes it by 1007. What a machine does alone it does in
+/// its processes too.
 #[test]
 fn sleepers_of_two_processes_meet(rt: HostRuntime) -> Result<(), Fail> {
     let (one, two) = (thread(1)?, thread(2)?);

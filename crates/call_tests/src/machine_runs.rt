@@ -116,7 +116,8 @@ fn leaves(machine: &mut Machine, thread: Tid, call: Call, rows: &[[u64; 6]]) -> 
     !machine.busy(thread)
 }
 
-/// The entry is pending from the call's first access on, is put in front of the list once the mutex is taken, and is no longer pending when the call returns.
+/// The entry is pending from the call's first access on, is put in front of the list once the mutex is taken, and is no
+/// longer pending when the call returns.
 #[test]
 fn a_trylock_links_the_mutex_that_it_took(rt: HostRuntime) -> Result<(), Fail> {
     let one = thread(1)?;
@@ -126,7 +127,8 @@ fn a_trylock_links_the_mutex_that_it_took(rt: HostRuntime) -> Result<(), Fail> {
     Ok(())
 }
 
-/// An unlock that sees that the mutex is its thread's makes the entry pending, takes it out of the list, and then releases the mutex.
+/// An unlock that sees that the mutex is its thread's makes the entry pending, takes it out of the list, and then
+/// releases the mutex.
 #[test]
 fn an_unlock_unlinks_the_mutex_before_its_release(rt: HostRuntime) -> Result<(), Fail> {
     let one = thread(1)?;
@@ -246,7 +248,8 @@ fn cell_becomes(machine: &mut Machine, events: &[Does], word: u64) -> Result<boo
     Ok(machine.word(13) == Some(word))
 }
 
-/// Thread 1 has loaded the free cell. Before each of its exchanges another one is woken, dies, recovers the mutex, or dies with it.
+/// Thread 1 has loaded the free cell. Before each of its exchanges another one is woken, dies, recovers the mutex, or
+/// dies with it.
 #[test]
 fn each_exchange_of_an_overtaken_trylock_finds_another_word(rt: HostRuntime) -> Result<(), Fail> {
     let mut machine = machine(rt.alloc(), 4, 1, &[])?;

@@ -1,5 +1,6 @@
-//! Calls of thread 2 on mutex 1 of a small layout, and on condition variable 1, which keeps that mutex: what each access is answered, and where that leads. The mutex's cell is at 10,
-//! its entry at 11 and 12, the counter at 14, the thread's head at 4, its pending entry at 6.
+//! Calls of thread 2 on mutex 1 of a small layout, and on condition variable 1, which keeps that mutex: what each
+//! access is answered, and where that leads. The mutex's cell is at 10, its entry at 11 and 12, the counter at 14, the
+//! thread's head at 4, its pending entry at 6.
 ghost use Rattle.stepprograms.specs.Programs.{UnlessReturned};
 ghost use Rattle.mutex.specs.Whole as mutex;
 
@@ -111,7 +112,8 @@ impl Stepping for AtCell {
     }
 }
 
-/// The call makes its accesses to its thread's list, up to one that is none, or to its return. They are to follow this point, where there is one, and to have none.
+/// The call makes its accesses to its thread's list, up to one that is none, or to its return. They are to follow this
+/// point, where there is one, and to have none.
 pub(crate) fn past_the_list(program: &mut Program, point: Option<Point>) -> Progress
     requires { mutex.IsUnderWay program.old.phase }
     ensures { UnlessReturned result (mutex.IsUnderWay program.new.phase) }
@@ -192,7 +194,8 @@ fn point(thread: Tid, operation: Operation, reply: Reply) -> Point {
     }
 }
 
-/// Whether the thread's call makes these accesses, in these parts, each of which leads where it says, and has returned after them.
+/// Whether the thread's call makes these accesses, in these parts, each of which leads where it says, and has returned
+/// after them.
 pub(crate) fn makes<P: Stepping + Drop>(mut program: P, thread: Tid, parts: &[&[Step]]) -> bool
     requires { P.is_under_way program }
 {

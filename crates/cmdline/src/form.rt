@@ -17,9 +17,11 @@ use streams::is_file;
 pub enum Form<'a> {
     /// `rfx run FILE`: the script in this file is run. The name doesn't begin with a hyphen.
     Run(&'a str),
-    /// `rfx run --table FILE`: the script in this file is run, and how it left the threads, mutexes and condition variables is told. The name doesn't begin with a hyphen.
+    /// `rfx run --table FILE`: the script in this file is run, and how it left the threads, mutexes and condition
+    /// variables is told. The name doesn't begin with a hyphen.
     Table(&'a str),
-    /// `rfx threads FILE`: the calls of the script in this file are made by real threads. The name doesn't begin with a hyphen.
+    /// `rfx threads FILE`: the calls of the script in this file are made by real threads. The name doesn't begin with a
+    /// hyphen.
     Threads(&'a str),
     /// `rfx check FILE`: the trace in this file is judged. The name doesn't begin with a hyphen.
     Check(&'a str),
@@ -111,7 +113,8 @@ fn found_by_clap<'a>(alloc: Global, words: &'a [&'a str]) -> Result<Option<Found
     }
 }
 
-/// Whether the words are just those that were found, in the order of the forms, and FILE names a file. clap takes other orders too, `--` and hyphens.
+/// Whether the words are just those that were found, in the order of the forms, and FILE names a file. clap takes other
+/// orders too, `--` and hyphens.
 fn are_in_order(words: &[&str], found: &Found<'_>) -> bool
     ensures { result ≡ in_order (map (λ w. w.now) words.now) (seen found.now) }
 {

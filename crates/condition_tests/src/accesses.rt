@@ -69,7 +69,8 @@ fn lived(asked: u64, cell: u64) -> Option<Story> {
     })
 }
 
-/// A wait that finds nobody to wake makes seven accesses before it sleeps. It was asked before each, and before its sleep; once it has made all seven the mutex is free.
+/// A wait that finds nobody to wake makes seven accesses before it sleeps. It was asked before each, and before its
+/// sleep; once it has made all seven the mutex is free.
 #[test]
 fn a_wait_dies_before_each_access(rt: HostRuntime) -> Result<(), Fail> {
     for access in 1..9_u64 {

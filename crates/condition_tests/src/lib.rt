@@ -1,4 +1,5 @@
-//! The tests of threads that wait on condition variables at a bench, and of those that wake them, by public names alone.
+//! The tests of threads that wait on condition variables at a bench, and of those that wake them, by public names
+//! alone.
 #![tactic(auto)]
 
 #[cfg(test)]

@@ -14,7 +14,8 @@ use std::time::Clock;
 use thread_fixtures::{Asked, are_asleep, ends_unless, fall_asleep, makes, waits_for};
 use threadbench::Bench;
 
-/// How often the fate of a waiter is asked until it sleeps: it loads the cell and the counter, announces the one mutex that it holds, takes it out of its list by 3, frees it, and falls asleep.
+/// How often the fate of a waiter is asked until it sleeps: it loads the cell and the counter, announces the one mutex
+/// that it holds, takes it out of its list by 3, frees it, and falls asleep.
 const ASLEEP: u64 = 8;
 
 /// What threads tell each other.
@@ -92,9 +93,11 @@ pub(crate) enum Role {
     MovesAndKills(u8),
     /// The same, once that was asked so often, asleep or not.
     KillsAfter(u8, u64),
-    /// Once the first waiter sleeps: takes the mutex, broadcasts, and gives it back once the waiter is dead, whom another thread kills meanwhile.
+    /// Once the first waiter sleeps: takes the mutex, broadcasts, and gives it back once the waiter is dead, whom
+    /// another thread kills meanwhile.
     MovesBesideAKill,
-    /// Kills the thread with this id, which waits as the first, once the fate of the broadcast that moves it was asked so often.
+    /// Kills the thread with this id, which waits as the first, once the fate of the broadcast that moves it was asked
+    /// so often.
     KillsBesideAMove(u8, u64),
     /// Likewise the process with this number.
     KillsProcessBesideAMove(u8, u64),
@@ -198,7 +201,8 @@ fn comes_and_broadcasts<R: Wait + Clock>(
     is_told_ok(rt, bench, pass, OnMutex(Unlock(0))).is_some()
 }
 
-/// Takes the mutex, waits, and gives it back; whether it lives and all was told OK. It dies where the fate of its wait is asked for the time with that number, from 1.
+/// Takes the mutex, waits, and gives it back; whether it lives and all was told OK. It dies where the fate of its wait
+/// is asked for the time with that number, from 1.
 fn waits<R: Wait>(
     rt: &R,
     bench: &Bench,
@@ -316,7 +320,8 @@ fn kills<R: Wait + Clock>(
     sleeps && killed && died && freed
 }
 
-/// Moves the first waiter to the mutex as its owner, while another thread kills the waiter, and gives the mutex back once that is dead.
+/// Moves the first waiter to the mutex as its owner, while another thread kills the waiter, and gives the mutex back
+/// once that is dead.
 fn moves<R: Wait + Clock>(rt: &R, bench: &Bench, pass: Pass<Live>, board: &Board) -> bool
     requires { IsLive bench.now pass }
 {
@@ -342,7 +347,8 @@ fn meets_a_move(board: &Board, asked: u64) -> bool {
     false
 }
 
-/// Does its part: whether all went as it should. Where that of a thread which doesn't wait itself didn't, all are killed, so that nobody sleeps on.
+/// Does its part: whether all went as it should. Where that of a thread which doesn't wait itself didn't, all are
+/// killed, so that nobody sleeps on.
 fn acts<R: Wait + Clock>(rt: &R, bench: &Bench, pass: Pass<Live>, board: &Board, role: Role) -> bool
     requires { IsLive bench.now pass }
 {

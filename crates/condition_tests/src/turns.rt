@@ -27,7 +27,8 @@ fn whoever_does_not_own_the_mutex_is_refused(rt: HostRuntime) -> Result<(), Fail
     Ok(())
 }
 
-/// The last owner died, and nobody has declared the mutex consistent: a wait is refused, which would free it. Once it is declared, nothing is.
+/// The last owner died, and nobody has declared the mutex consistent: a wait is refused, which would free it. Once it
+/// is declared, nothing is.
 static BEHIND_A_DEATH: [Step; 9] = [
     Calls(First, OnMutex(Lock(0)), Some(OK)),
     Kills(1),
@@ -53,7 +54,8 @@ fn a_wait_behind_a_death_is_refused(rt: HostRuntime) -> Result<(), Fail> {
     Ok(())
 }
 
-/// Owners of the mutex are killed, one after the other: one whose unlock has somebody to wake, as a broadcast has set WAITERS, and which frees it all the same; one that signals; and one that broadcasts.
+/// Owners of the mutex are killed, one after the other: one whose unlock has somebody to wake, as a broadcast has set
+/// WAITERS, and which frees it all the same; one that signals; and one that broadcasts.
 static KILLED: [Step; 11] = [
     Calls(First, OnMutex(Lock(0)), Some(OK)),
     Calls(First, OnCondition(Broadcast(0)), Some(OK)),

@@ -138,10 +138,12 @@ fn played_on<R: Threads + Wait + Clock + Sync>(
     })
 }
 
-/// How often the fate of a waiter is asked in all whom a broadcast moves and an unlock wakes: eight times until it sleeps, and seven times more.
+/// How often the fate of a waiter is asked in all whom a broadcast moves and an unlock wakes: eight times until it
+/// sleeps, and seven times more.
 const MOVED: u64 = 15;
 
-/// A broadcast moves the sleepers to the mutex: nobody wakes before it is free, and then each when the one before gives it back.
+/// A broadcast moves the sleepers to the mutex: nobody wakes before it is free, and then each when the one before gives
+/// it back.
 #[test]
 fn a_broadcast_wakes_three_in_order(rt: HostRuntime) -> Result<(), Fail> {
     let want = Story {
@@ -177,7 +179,8 @@ fn signals_wake_one_each_in_order(rt: HostRuntime) -> Result<(), Fail> {
     Ok(())
 }
 
-/// A wait wakes whoever sleeps on its mutex, and its fate is asked before that, too: once more than that of a wait which finds nobody there.
+/// A wait wakes whoever sleeps on its mutex, and its fate is asked before that, too: once more than that of a wait
+/// which finds nobody there.
 #[test]
 fn a_wait_wakes_a_sleeper_of_its_mutex(rt: HostRuntime) -> Result<(), Fail> {
     for place in &PLACES {
@@ -189,7 +192,8 @@ fn a_wait_wakes_a_sleeper_of_its_mutex(rt: HostRuntime) -> Result<(), Fail> {
     Ok(())
 }
 
-/// A waiter that was moved and woken dies before each access of the lock that ends its wait: before the load and the exchange it hasn't the mutex yet, and before the five further ones it owns it.
+/// A waiter that was moved and woken dies before each access of the lock that ends its wait: before the load and the
+/// exchange it hasn't the mutex yet, and before the five further ones it owns it.
 #[test]
 fn a_woken_waiter_dies_before_each_access(rt: HostRuntime) -> Result<(), Fail> {
     for place in &PLACES {
@@ -273,10 +277,12 @@ static FAR: Place = Place {
     condition: 0,
 };
 
-/// How often the fate of a broadcast is asked: before it loads the cell and the counter, adds 1 to the counter, sets WAITERS, and moves its sleepers.
+/// How often the fate of a broadcast is asked: before it loads the cell and the counter, adds 1 to the counter, sets
+/// WAITERS, and moves its sleepers.
 const BROADCAST: u64 = 5;
 
-/// The first thread waits, and is killed in this role of the third one's beside the second one's broadcast: whether it died without its mutex, which can be had then.
+/// The first thread waits, and is killed in this role of the third one's beside the second one's broadcast: whether it
+/// died without its mutex, which can be had then.
 fn dies_beside_a_move<R: Threads + Wait + Clock + Sync>(
     rt: &R,
     alloc: Global,
@@ -288,7 +294,8 @@ fn dies_beside_a_move<R: Threads + Wait + Clock + Sync>(
     Ok(found.well == [false, true, true, true] && found.order == 0 && found.told == Some(Reply::OK))
 }
 
-/// A broadcast comes to its move while the waiter is looked for in one bucket after the other, in the order of their numbers: it is found all the same, since nobody is moved during a kill.
+/// A broadcast comes to its move while the waiter is looked for in one bucket after the other, in the order of their
+/// numbers: it is found all the same, since nobody is moved during a kill.
 #[test]
 fn a_waiter_is_killed_while_it_is_moved(rt: HostRuntime) -> Result<(), Fail> {
     let buckets = FAR.buckets()?;

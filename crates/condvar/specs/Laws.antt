@@ -47,8 +47,9 @@ counter_after t cell counter r k = if is_at_counter r then changed (row_access t
 abbrev pub largest_counter : ℕ
 largest_counter = 4294967295
 
--- what a call that stands at a row needs of the cell and of the counter. A release, a count and a setting of WAITERS need that its thread owns the mutex; a release that it is consistent, a count that the
--- counter isn't full, a move that WAITERS is set and that the counter is one more than it was
+-- what a call that stands at a row needs of the cell and of the counter. A release, a count and a setting of WAITERS
+-- need that its thread owns the mutex; a release that it is consistent, a count that the counter isn't full, a move
+-- that WAITERS is set and that the counter is one more than it was
 abbrev pub Expects : ℕ → CondRow → Fields → ℕ → Type 0
 Expects t (Wait wait.LoadCounter) c k = (c.owner ≡ t) × (c.died ≡ false)
 Expects t (Wait (wait.Release seen)) c k = (c.owner ≡ t) × (c.died ≡ false)
@@ -90,14 +91,16 @@ abbrev pub IsOf : Operation → CondRow → Type 0
 IsOf op (Ended x) = Unit {0}
 IsOf op r = row_operation r ≡ op
 
--- one access of a call at row r, which meets the cell's word w and the counter's word k, leaves w' and k' and leads to l
+-- one access of a call at row r, which meets the cell's word w and the counter's word k, leaves w' and k' and leads to
+-- l
 pub record Right (t cell : ℕ) (r : CondRow) (l : CondLed) (w k w' k' : ℕ) : Type 0 where
   -- it is a step of the mutex as an object, or leaves it
   pub runs : Run (object_of (fields_of w)) (points (point_of t cell l.decided)) (object_of (fields_of w'))
   pub sound : Sound (object_of (fields_of w'))
   -- WAITERS stays
   pub waiters : (fields_of w).waiters ≡ true → (fields_of w').waiters ≡ true
-  -- the counter goes up by one exactly where a signal or a broadcast is OK, stays within its limit, and is full where X_FULL is the reply
+  -- the counter goes up by one exactly where a signal or a broadcast is OK, stays within its limit, and is full where
+  -- X_FULL is the reply
   pub counts : k' ≡ k + counts_by l.decided
   pub within : k' ≤ largest_counter
   pub is_full : IsFullAt l.decided k
@@ -114,12 +117,14 @@ CallsAreRight = (t cell counter w k : ℕ) (r : CondRow) → 1 ≤ t → t ≤ 6
 abbrev pub AccessesAreThere : Type 0
 AccessesAreThere = (t cell counter : ℕ) (r : CondRow) → address_of (row_access t cell counter r) ≡ (if is_at_counter r then counter else cell)
 
--- a broadcast moves to a cell that its thread owns and that has WAITERS, and only by the counter as it is: so it is never answered that this differs
+-- a broadcast moves to a cell that its thread owns and that has WAITERS, and only by the counter as it is: so it is
+-- never answered that this differs
 abbrev pub MovesAreRight : Type 0
 MovesAreRight = (t cell counter seen k : ℕ) (c : Fields) → k ≤ largest_counter → Expects t (Broadcast (broadcast.Move seen)) c k
     → (row_access t cell counter (Broadcast (broadcast.Move seen)) ≡ access.CmpRequeue counter (k % 2 ^ 32) 0 cell 64) × (c.owner ≡ t) × (c.waiters ≡ true)
 
--- what a call needs of the words is its thread's own while that owns the mutex: where others leave then the owner, OWNER_DIED and the counter, and clear no WAITERS then, it stays so
+-- what a call needs of the words is its thread's own while that owns the mutex: where others leave then the owner,
+-- OWNER_DIED and the counter, and clear no WAITERS then, it stays so
 abbrev pub NeedsAreOwned : Type 0
 NeedsAreOwned = (t : ℕ) (r : CondRow) (c d : Fields) (k j : ℕ) → (c.owner ≡ t → (d.owner ≡ c.owner) × (d.died ≡ c.died) × (j ≡ k) × (c.waiters ≡ true → d.waiters ≡ true)) → Expects t r c k → Expects t r d j
 
@@ -140,7 +145,8 @@ GoesOnFrom t (Signal signal.LoadCounter) None = ⊥
 GoesOnFrom t (Broadcast broadcast.LoadCounter) None = ⊥
 GoesOnFrom t r c = Unit {0}
 
--- for any answers: what a first load decides is what the object permits for the cell met there, and a call goes on from it only where its thread owns the mutex
+-- for any answers: what a first load decides is what the object permits for the cell met there, and a call goes on from
+-- it only where its thread owns the mutex
 pub record PointsArePermitted : Type 0 where
   pub at : (t : ℕ) (r : CondRow) (a : Answer) (d : Decided) → 1 ≤ t → (resume_of t r a).decided ≡ Some d → PermitsAt (met r a) t d.operation d.reply
   pub goes_on : (t : ℕ) (r : CondRow) (a : Answer) → 1 ≤ t → GoesOnFrom t (resume_of t r a).row (met r a)

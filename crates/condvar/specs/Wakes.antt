@@ -18,8 +18,8 @@ abbrev pub tells_waiters : Answer → Bool
 tells_waiters (Value w) = (fields_of w).waiters
 tells_waiters a = false
 
--- behind its point a call wakes n sleepers of the word at this address: one of the mutex behind a wait's release, where WAITERS was set, and one of the condition variable where a signal counted. A broadcast
--- wakes nobody: it moves
+-- behind its point a call wakes n sleepers of the word at this address: one of the mutex behind a wait's release, where
+-- WAITERS was set, and one of the condition variable where a signal counted. A broadcast wakes nobody: it moves
 abbrev pub WakesBehind : ℕ → ℕ → Operation → Reply → Bool → ℕ → ℕ → Type 0
 WakesBehind cell counter Unlock OK true at n = (at ≡ cell) × (n ≡ 1)
 WakesBehind cell counter Signal OK b at n = (at ≡ counter) × (n ≡ 1)

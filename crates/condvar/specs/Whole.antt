@@ -1,4 +1,5 @@
--- A whole call, access by access: what it does at the cell and the counter, and around that, in a wait, at its thread's robust list (robust-futexes, its ABI document).
+-- A whole call, access by access: what it does at the cell and the counter, and around that, in a wait, at its thread's
+-- robust list (robust-futexes, its ABI document).
 --
 -- | stands at  | access                             | then
 -- | AtWords    | that of the call's row             | as the row says; but before a release Announcing, and awake Locking
@@ -6,7 +7,8 @@
 -- | Unlinking  | that of the unlink's row           | out of the list: AtWords, to release
 -- | Locking    | that of the mutex's lock           | as the lock says; the wait returns when it does
 --
--- A wait's entry is pending from before its release until the lock that ends it has put it on the list, or has failed: so also while it sleeps. A signal and a broadcast leave the list alone.
+-- A wait's entry is pending from before its release until the lock that ends it has put it on the list, or has failed:
+-- so also while it sleeps. A signal and a broadcast leave the list alone.
 use Rattle.std.specs.Prelude.{ℕ, Option, Some, None}
 use Rattle.lockword.specs.declared.reply.Reply.TheVariants.{OK, EFAULT}
 use Rattle.stepprograms.specs.declared.access.Access.{Access}

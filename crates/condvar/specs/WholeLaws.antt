@@ -45,7 +45,8 @@ RefusesWait EPERM = Unit {0}
 RefusesWait XSTATE = Unit {0}
 RefusesWait x = ⊥
 
--- the points of a call that returned a reply: a wait was refused, or unlocked the mutex and later locked it again, with that reply; a signal and a broadcast have one point, with that reply
+-- the points of a call that returned a reply: a wait was refused, or unlocked the mutex and later locked it again, with
+-- that reply; a signal and a broadcast have one point, with that reply
 abbrev pub IsDecidedBy : ℕ → ℕ → Operation → Reply → List Point → Type 0
 IsDecidedBy t cell operation.Wait x ps = (RefusesWait x × (ps ≡ point t cell operation.Wait x ∷ [])) ⊎ (ps ≡ point t cell operation.Unlock OK ∷ point t cell operation.Lock x ∷ [])
 IsDecidedBy t cell op x ps = ps ≡ point t cell op x ∷ []
@@ -64,7 +65,8 @@ abbrev pub first_met : List Answer → Option Fields
 first_met (Value w ∷ answers) = Some (fields_of w)
 first_met answers = None
 
--- the object permits a point of thread t for that cell; what it permits the lock that ends a wait is told by the cells that the lock meets, as the mutex's laws say
+-- the object permits a point of thread t for that cell; what it permits the lock that ends a wait is told by the cells
+-- that the lock meets, as the mutex's laws say
 abbrev pub IsPermittedFirst : ℕ → Option Fields → Point → Type 0
 IsPermittedFirst t (Some c) q = (q.operation ≡ operation.Lock) ⊎ IsPermitted c t q.operation q.reply
 IsPermittedFirst t None q = ⊥
@@ -86,9 +88,11 @@ IsAtWords f = ⊥
 
 -- how many sleepers a whole call wakes, and where: as `Wakes` says of its rows
 pub record WholeCallsWake : Type 0 where
-  -- after an access at the cell or the counter, whatever that is answered, the next one is a wake exactly where its point asks for one, of so many, and of those on that word
+  -- after an access at the cell or the counter, whatever that is answered, the next one is a wake exactly where its
+  -- point asks for one, of so many, and of those on that word
   pub at_the_words : (p : CondWhole) (r : CondRow) (a : Answer) (at n : ℕ) → p.phase ≡ AtWords r → IsGoing r → WakesNext p a at n ↔ IsToWake p (cond_led p a).point (tells_waiters a) at n
-  -- in the lock that ends a wait exactly where the lock's next access is one, of which all holds that the mutex's laws say
+  -- in the lock that ends a wait exactly where the lock's next access is one, of which all holds that the mutex's laws
+  -- say
   pub in_its_lock : (p : CondWhole) (w : Whole) (a : Answer) (at n : ℕ) → p.phase ≡ Locking w → WakesNext p a at n ↔ mutex.WakesNext w a at n
   -- a call doesn't begin by a wake, and whatever it is answered, none follows an access of its thread's list
   pub first : (l : Layout') (t : ℕ) (c : CondCall) (at n : ℕ) → cond_access (begins l t c) ≢ access.Wake at n

@@ -27,7 +27,8 @@ impl CondCall {
         }
     }
 
-    /// What it is called among the operations on its mutex. A wait that isn't refused is an unlock there, and later a lock.
+    /// What it is called among the operations on its mutex. A wait that isn't refused is an unlock there, and later a
+    /// lock.
     pub fn operation(self) -> Operation
         ensures { result ≡ operation_of self }
     {

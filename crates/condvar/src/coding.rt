@@ -52,8 +52,8 @@ impl CodedCondPhase {
         }
     }
 
-    /// The phase whose numbers these are, of a call of this thread that hasn't returned, whose head, whose mutex's entry and whose cell are at these addresses; `None` where no such phase has
-    /// them.
+    /// The phase whose numbers these are, of a call of this thread that hasn't returned, whose head, whose mutex's
+    /// entry and whose cell are at these addresses; `None` where no such phase has them.
     pub fn phase(&self, thread: Tid, head: u64, entry: u64, cell: u64) -> Option<CondPhase>
         ensures has_these { IfSome result (λ f. IsUnderWay f × PhaseKnows f × LiesAt thread head entry cell f × (phase_code f ≡ self.now)) }
         ensures each { (f : CondPhase) → IsUnderWay f → PhaseKnows f → LiesAt thread head entry cell f → phase_code f ≡ self.now → result ≡ Some f }

@@ -1,19 +1,20 @@
 //! The calls on a condition variable as step programs.
 //!
-//! A [`CondProgram`] is a call in progress: a value that says which access comes next ([`CondProgram::next`]) and goes on
-//! with its answer ([`CondProgram::resume`]). Whoever runs it makes the accesses. It stands ([`CondPhase`]) at its mutex's
-//! cell or at the condition variable's counter, where a [`CondRow`] says what it does; around that a wait keeps its thread's
-//! robust list. A wait that is awake again takes its mutex by the program of a lock ([`mutex::Program::retaking`]). Whatever
-//! words an access at the cell or at the counter meets, it is a step of the mutex as POSIX sees it, or leaves it
-//! (`calls_are_right`, `accesses_are_there`, `points_are_permitted`). A broadcast moves sleepers only to a cell that its
-//! thread owns (`moves_are_right`), and what a call needs of the words stays while its thread owns the mutex
-//! (`needs_are_owned`). A wait's release and a signal wake one sleeper, a broadcast none (`wakes_are_right`,
-//! `whole_calls_wake`). A whole call that returned, and not for a fault, had exactly its points (`whole_calls_are_right`,
-//! `faults_are_told`).
-//! An [`Op`] is what a thread may call, on a mutex or on a condition variable.
+//! A [`CondProgram`] is a call in progress: a value that says which access comes next ([`CondProgram::next`]) and goes
+//! on with its answer ([`CondProgram::resume`]). Whoever runs it makes the accesses. It stands ([`CondPhase`]) at its
+//! mutex's cell or at the condition variable's counter, where a [`CondRow`] says what it does; around that a wait keeps
+//! its thread's robust list. A wait that is awake again takes its mutex by the program of a lock
+//! ([`mutex::Program::retaking`]). Whatever words an access at the cell or at the counter meets, it is a step of the
+//! mutex as POSIX sees it, or leaves it (`calls_are_right`, `accesses_are_there`, `points_are_permitted`). A broadcast
+//! moves sleepers only to a cell that its thread owns (`moves_are_right`), and what a call needs of the words stays
+//! while its thread owns the mutex (`needs_are_owned`). A wait's release and a signal wake one sleeper, a broadcast
+//! none (`wakes_are_right`, `whole_calls_wake`). A whole call that returned, and not for a fault, had exactly its
+//! points (`whole_calls_are_right`, `faults_are_told`). An [`Op`] is what a thread may call, on a mutex or on a
+//! condition variable.
 //!
-//! Stands on `mutex`, for the lock that a wait ends with, on `robustlist`, for the entry's way out of the list, on `memorymap`,
-//! for layouts, on `stepprograms` and `posixmutex`, for accesses and points, and on `lockword`, for cells and replies.
+//! Stands on `mutex`, for the lock that a wait ends with, on `robustlist`, for the entry's way out of the list, on
+//! `memorymap`, for layouts, on `stepprograms` and `posixmutex`, for accesses and points, and on `lockword`, for cells
+//! and replies.
 //!
 //! ```text
 //! // Thread 1 of two owns the only mutex and signals its condition variable: cell at 7, counter at 10.

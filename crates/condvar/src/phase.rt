@@ -8,12 +8,14 @@ use mutex::Program;
 use posixmutex::Point;
 use robustlist::Unlink;
 
-/// Where a call stands: at its mutex's cell or its counter, at its thread's robust list, or in the lock that ends a wait.
+/// Where a call stands: at its mutex's cell or its counter, at its thread's robust list, or in the lock that ends a
+/// wait.
 #[derive(Clone, Copy, Debug, PartialEq, Eq)]
 pub enum CondPhase {
     /// It is at the cell or at the counter.
     AtWords(CondRow),
-    /// A wait stores the mutex's entry as its thread's pending one, to release the mutex then. Of the counter it saw this low half.
+    /// A wait stores the mutex's entry as its thread's pending one, to release the mutex then. Of the counter it saw
+    /// this low half.
     Announcing { seen: u32 },
     /// A wait takes the entry out of its thread's list, to release the mutex then.
     Unlinking { unlink: Unlink, seen: u32 },

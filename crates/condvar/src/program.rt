@@ -46,7 +46,8 @@ impl Model for CondProgram {
 impl CondProgram {
     ghost use Rattle.condvar.specs.Whole.{begins, begun_at, cond_at, cond_access, cond_led, cond_moved, cond_progress, from_words, lock_of, phase_led, IsUnderWay};
 
-    /// A call of a thread, which speaks of words by their addresses in the thread's process. What it may be refused for is seen in the mutex's cell and in the counter.
+    /// A call of a thread, which speaks of words by their addresses in the thread's process. What it may be refused for
+    /// is seen in the mutex's cell and in the counter.
     pub fn new(layout: &Layout, thread: Tid, call: CondCall) -> CondProgram
         requires thread { thread ≤ layout.now.threads }
         requires condition { condition_of call < length layout.now.conditions }
@@ -63,7 +64,8 @@ impl CondProgram {
         )
     }
 
-    /// A call of a thread whose head, whose mutex's entry and cell, and whose counter are at these addresses; the condition variable's number isn't looked at.
+    /// A call of a thread whose head, whose mutex's entry and cell, and whose counter are at these addresses; the
+    /// condition variable's number isn't looked at.
     pub fn begin(
         thread: Tid,
         head: u64,
@@ -84,7 +86,8 @@ impl CondProgram {
         }
     }
 
-    /// A call that stands at a phase: one that was kept elsewhere, as [`CodedCondPhase`](crate::CodedCondPhase) say, goes on from there.
+    /// A call that stands at a phase: one that was kept elsewhere, as [`CodedCondPhase`](crate::CodedCondPhase) say,
+    /// goes on from there.
     pub fn at(
         thread: Tid,
         head: u64,
@@ -152,7 +155,8 @@ impl CondProgram {
         }
     }
 
-    /// Where a call goes from its cell or its counter: a wait that is to release the mutex announces it first, and one that is awake takes the mutex again.
+    /// Where a call goes from its cell or its counter: a wait that is to release the mutex announces it first, and one
+    /// that is awake takes the mutex again.
     fn from_words(&self, led: CondLed) -> CondOnward
         ensures value { result ≡ from_words self.now led }
         ensures knows { PhaseKnows result.phase }
@@ -199,8 +203,8 @@ impl StepProgram for CondProgram {
         }
     }
 
-    /// Goes on with an answer. One that no such access has counts as `Fault`, after which the call returns `EFAULT`, and has left what its earlier
-    /// accesses did.
+    /// Goes on with an answer. One that no such access has counts as `Fault`, after which the call returns `EFAULT`,
+    /// and has left what its earlier accesses did.
     fn resume(&mut self, answer: Answer) -> Progress {
         let onward = self.led(answer);
         *self = CondProgram {

@@ -71,7 +71,8 @@ impl CondRow {
     }
 }
 
-/// What an access decided: the operation on the mutex, and its reply. A wait that isn't refused decides an unlock, and later a lock.
+/// What an access decided: the operation on the mutex, and its reply. A wait that isn't refused decides an unlock, and
+/// later a lock.
 #[derive(Clone, Copy, Debug, PartialEq, Eq)]
 pub struct Decided {
     /// What was done to the mutex, or refused.

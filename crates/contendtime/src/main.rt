@@ -1,6 +1,7 @@
 //! How long calls on a robust mutex and its condition variables take where several threads make them at once.
 //!
-//! `contendtime THREADS TIMES CASE` lets 1 to 64 threads make calls, and prints nanoseconds by the clock on the wall, of which case:
+//! `contendtime THREADS TIMES CASE` lets 1 to 64 threads make calls, and prints nanoseconds by the clock on the wall,
+//! of which case:
 //!
 //! ```text
 //! one        TIMES pairs of lock and unlock of one mutex, as many by each thread: a pair

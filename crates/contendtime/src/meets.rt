@@ -9,7 +9,8 @@ use std::sync::atomic::{AtomicU64, Ordering};
 use std::thread;
 use threadbench::{Gate, WorkerCall};
 
-/// The second thread of a ping-pong begins once the first has the mutex; and a thread broadcasts once all others have come to their next wait.
+/// The second thread of a ping-pong begins once the first has the mutex; and a thread broadcasts once all others have
+/// come to their next wait.
 #[derive(Drop)]
 pub(crate) struct Meets {
     others: u64,

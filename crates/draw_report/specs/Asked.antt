@@ -7,7 +7,8 @@ use Rattle.draw_report.specs.declared.asking.Kind.{Kind}
 use Rattle.draw_report.specs.declared.asking.Kind.TheVariants.{Text, Svg}
 use Rattle.streams.specs.Words.{is_file_word}
 
--- a picture of the trace in a file, with the names of a script in another one, or with numbers; what the signs of pictures mean; or the usage
+-- a picture of the trace in a file, with the names of a script in another one, or with numbers; what the signs of
+-- pictures mean; or the usage
 pub data Asked : Type 0 where
   Drawing : Kind → Option (List ℕ) → List ℕ → Asked
   Meaning : Asked

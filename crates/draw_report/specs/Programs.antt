@@ -30,8 +30,9 @@ unopened_by _ = CannotRead
 abbrev pub IsTold : List ℕ → Failure → Option (List ℕ) → Option (List ℕ) → ℕ → Type 0
 IsTold file f told told' status = AppendsFront told told' (failure_text file f) × (status ≡ failure_status f)
 
--- how a picture of the trace in a file ended, with the names of this script, if there is one: it was written from what opening the file gave, the writer has let go of it, and nothing was told; or it
--- wasn't, or not all of it, and that is told; or the file couldn't be opened
+-- how a picture of the trace in a file ended, with the names of this script, if there is one: it was written from what
+-- opening the file gave, the writer has let go of it, and nothing was told; or it wasn't, or not all of it, and that is
+-- told; or the file couldn't be opened
 abbrev pub PictureEnds : (List ℕ → Result (Option (List ℕ)) ErrorKind → Type 0) → Kind → Option Scope → List ℕ → Option (List ℕ) → Option (List ℕ) → Type 0 → Type 0 → Option (List ℕ) → Option (List ℕ) → ℕ → Type 0
 PictureEnds Opens k script file old new LetGo Quiet told told' status =
     ((had : Option (List ℕ)) × Opens file (Ok had) × (left : Option (List ℕ)) × ((Serves k script had left old new × LetGo × Quiet × (status ≡ 0)) ⊎ ((f : Failure) × Fails k script had left old new f × IsTold file f told told' status)))
@@ -46,13 +47,15 @@ ScriptIsTold Opens name told told' status =
     ((had : Option (List ℕ)) × Opens name (Ok had) × (left : Option (List ℕ)) × (f : Failure) × FailsScript had left f × IsTold name f told told' status)
     ⊎ ((e : ErrorKind) × Opens name (Err e) × IsTold name (unopened_by e) told told' status)
 
--- how a picture with the names of a script ended: with those of the script that this file is; or nothing was written, and why there is no script is told
+-- how a picture with the names of a script ended: with those of the script that this file is; or nothing was written,
+-- and why there is no script is told
 abbrev pub NamedEnds : (List ℕ → Result (Option (List ℕ)) ErrorKind → Type 0) → Kind → List ℕ → List ℕ → Option (List ℕ) → Option (List ℕ) → Type 0 → Type 0 → Option (List ℕ) → Option (List ℕ) → ℕ → Type 0
 NamedEnds Opens k name file old new LetGo Quiet told told' status =
     ((s : Scope) × ScriptOpens Opens name s × PictureEnds Opens k (Some s) file old new LetGo Quiet told told' status)
     ⊎ ((new ≡ old) × ScriptIsTold Opens name told told' status)
 
--- how it ended to tell what the signs mean: all of that was written, the writer has let go of it, and nothing was told; or a beginning of it, and that it couldn't be written is told
+-- how it ended to tell what the signs mean: all of that was written, the writer has let go of it, and nothing was told;
+-- or a beginning of it, and that it couldn't be written is told
 abbrev pub LegendEnds : Option (List ℕ) → Option (List ℕ) → Type 0 → Type 0 → Option (List ℕ) → Option (List ℕ) → ℕ → Type 0
 LegendEnds old new LetGo Quiet told told' status = (Appends old new legend × LetGo × Quiet × (status ≡ 0)) ⊎ (AppendsFront old new legend × IsTold [] CannotWrite told told' status)
 

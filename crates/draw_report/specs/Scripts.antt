@@ -24,6 +24,7 @@ IsFaultOf bytes (Script e) = TellsAt e e.fault (script_read Run bytes)
 IsFaultOf bytes Unlike = ⊥
 IsFaultOf bytes (Trace e) = ⊥
 
--- why there is no script: it couldn't be read, or memory was wanted; or its bytes, which are all that the reader had, or more than there may be, have this fault
+-- why there is no script: it couldn't be read, or memory was wanted; or its bytes, which are all that the reader had,
+-- or more than there may be, have this fault
 abbrev pub FailsScript : Option (List ℕ) → Option (List ℕ) → Failure → Type 0
 FailsScript had left f = IsUnread f ⊎ ((bytes : List ℕ) × Consumes had left bytes × (length bytes ≤ max_bytes → IsAtEnd left) × IsFaultOf bytes f)

@@ -60,7 +60,8 @@ DrawsFront kind script old new bytes = (t : Told) × IsOf script bytes t × Appe
 abbrev pub IsUnlike : Option Scope → List ℕ → Type 0
 IsUnlike script bytes = (t : Told) × (trace_read bytes ≡ Ok (trace_of t)) × (is_like script t.head ≡ false)
 
--- why bytes weren't drawn, or not all: the fault that the judge of traces tells of them, or that they aren't the script's, before the first byte; or a write that failed, or memory for names or a row, behind a beginning
+-- why bytes weren't drawn, or not all: the fault that the judge of traces tells of them, or that they aren't the
+-- script's, before the first byte; or a write that failed, or memory for names or a row, behind a beginning
 abbrev pub FailsDrawing : Kind → Option Scope → List ℕ → Option (List ℕ) → Option (List ℕ) → Failure → Type 0
 FailsDrawing kind script bytes old new Usage = ⊥
 FailsDrawing kind script bytes old new CannotRead = ⊥
@@ -78,6 +79,7 @@ Serves kind script had left old new = (bytes : List ℕ) × Consumes had left by
 abbrev pub Comes : Kind → Option Scope → Option (List ℕ) → Option (List ℕ) → Option (List ℕ) → Option (List ℕ) → Failure → Type 0
 Comes kind script had left old new f = (bytes : List ℕ) × Consumes had left bytes × (length bytes ≤ max_bytes → IsAtEnd left) × FailsDrawing kind script bytes old new f
 
--- why a file wasn't drawn, or not all: before the first byte it couldn't be read, or memory was wanted; or this came of its bytes
+-- why a file wasn't drawn, or not all: before the first byte it couldn't be read, or memory was wanted; or this came of
+-- its bytes
 abbrev pub Fails : Kind → Option Scope → Option (List ℕ) → Option (List ℕ) → Option (List ℕ) → Option (List ℕ) → Failure → Type 0
 Fails kind script had left old new f = (IsUnread f × (new ≡ old)) ⊎ Comes kind script had left old new f

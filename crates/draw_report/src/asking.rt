@@ -17,8 +17,8 @@ pub enum Kind {
 /// What a command line asks for.
 #[derive(Clone, Copy, Debug, PartialEq, Eq)]
 pub enum Form<'a> {
-    /// `rfx-draw [--svg] [--script SCRIPT] [FILE]`: the trace in this file is drawn, or the one on standard input, with the names of
-    /// the script. No name of a file begins with a hyphen.
+    /// `rfx-draw [--svg] [--script SCRIPT] [FILE]`: the trace in this file is drawn, or the one on standard input, with
+    /// the names of the script. No name of a file begins with a hyphen.
     Picture(Kind, Option<&'a str>, &'a str),
     /// `rfx-draw --legend`: what the signs of pictures in text mean.
     Legend,

@@ -139,7 +139,8 @@ fn status_after(failure: Failure) -> u8
     }
 }
 
-/// Tells a failure to draw this file, and answers the exit status after it. Of a message that can't be written a beginning is left.
+/// Tells a failure to draw this file, and answers the exit status after it. Of a message that can't be written a
+/// beginning is left.
 pub fn fail<E: Write>(err: &mut E, file: &str, failure: Failure) -> u8
     ensures told { AppendsFront (E.contents err.old) (E.contents err.new) (failure_text file.now failure) }
     ensures status { result ≡ failure_status failure }

@@ -163,7 +163,8 @@ fn draw_bytes<W: Output>(
     }
 }
 
-/// Reads a file, and draws the trace that it is, with the names of the script, if there is one. It reads at most one byte more than a trace may have.
+/// Reads a file, and draws the trace that it is, with the names of the script, if there is one. It reads at most one
+/// byte more than a trace may have.
 pub fn serve<R: Read, W: Output>(
     alloc: Global,
     kind: Kind,

@@ -1,7 +1,8 @@
 //! How long an event of the machine takes, with few threads and mutexes, with many, and with condition variables.
 //!
-//! `eventtime N` lets threads take N turns in each of the three, of which those of sleepers are passed over; then it makes the same events once more, and prints nanoseconds an event. Without N it measures nothing.
-//! The figures are the machine's; no test looks at them.
+//! `eventtime N` lets threads take N turns in each of the three, of which those of sleepers are passed over; then it
+//! makes the same events once more, and prints nanoseconds an event. Without N it measures nothing. The figures are the
+//! machine's; no test looks at them.
 #![tactic(auto)]
 
 use condvar::{CondCall, Op};
@@ -30,7 +31,8 @@ fn meets(thread: Tid, turn: u64) -> CondCall {
     }
 }
 
-/// The call that a thread begins next: on its own mutex, and now and then on the shared one, which it takes, and releases at once, or after a call on a condition variable.
+/// The call that a thread begins next: on its own mutex, and now and then on the shared one, which it takes, and
+/// releases at once, or after a call on a condition variable.
 fn next_call(machine: &Machine, thread: Tid, turn: u64) -> Op {
     let layout = machine.layout();
     if machine.owner(0) == Some(thread) {

@@ -35,15 +35,16 @@ told (Load at) (Value v) = Some v
 told (Exchange at old new) (Changed v) = Some v
 told x a = None
 
--- an exchange is asked for directly after an access at its place that told of the word expected there, whose owner is the dead thread; the word is to say
--- that its owner died, and nothing else is to change in it
+-- an exchange is asked for directly after an access at its place that told of the word expected there, whose owner is
+-- the dead thread; the word is to say that its owner died, and nothing else is to change in it
 pub record Asks (t : ℕ) (before : Access) (a : Answer) (at old new : ℕ) : Type 0 where
   pub place : address_of before ≡ at
   pub given : told before a ≡ Some old
   pub owner : owner_in old ≡ t
   pub change : new ≡ died_word old
 
--- a wake is asked for directly after the exchange that marked a word with waiters, or after an access that told of a word without owner
+-- a wake is asked for directly after the exchange that marked a word with waiters, or after an access that told of a
+-- word without owner
 abbrev pub WakesFor : Access → Answer → Type 0
 WakesFor (Exchange at old new) Exchanged = has_waiters old ≡ true
 WakesFor (Exchange at old new) (Changed v) = owner_in v ≡ 0
@@ -52,9 +53,9 @@ WakesFor x a = ⊥
 
 -- Whatever a walk is answered:
 -- it ends after 10,247 accesses at most, of which 2,048 at most load an entry of the list;
--- each exchange has its reason in the answer before it, so a word that is treated is loaded first, and then exchanged at most twice, three exchanges never following one another;
--- each wake has its reason there too, and is of one sleeper;
--- an answer that isn't one of its access, a fault among them, is the end.
+-- each exchange has its reason in the answer before it, so a word that is treated is loaded first, and then exchanged
+-- at most twice, three exchanges never following one another; each wake has its reason there too, and is of one
+-- sleeper; an answer that isn't one of its access, a fault among them, is the end.
 pub record AnyAnswersEnd : Type 0 where
   pub ends : (t h : ℕ) (answers : List Answer) → 10247 ≤ length answers → reached t h LoadFirst answers ≡ Ended
   pub loads : (t h : ℕ) (answers : List Answer) → entry_loads t h LoadFirst answers ≤ held_limit

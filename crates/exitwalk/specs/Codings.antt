@@ -10,7 +10,8 @@
 -- | 6    | Mark        | at, seen, again; whose word it is
 -- | 7    | WakeOne     | at; whose word it is
 --
--- Whose word it is: of the pending entry's `of_pending` is 1; of an entry of the list it is 0, and entry, offset, pending and loaded are what is left of the list. What a kind doesn't carry is 0.
+-- Whose word it is: of the pending entry's `of_pending` is 1; of an entry of the list it is 0, and entry, offset,
+-- pending and loaded are what is left of the list. What a kind doesn't carry is 0.
 use Rattle.std.specs.Prelude.{ℕ, Bool, false, if◌then◌else◌}
 use Rattle.exitwalk.specs.declared.row.Rest.{Rest}
 use Rattle.exitwalk.specs.declared.row.Part.{Part}

@@ -21,7 +21,8 @@ is_listed offset (e ∷ es) at = (at == sum_of e offset) || is_listed offset es 
 abbrev pub is_pended : Head → ℕ → Bool
 is_pended h at = not (h.pending == 0) && (at == sum_of h.pending h.offset)
 
--- the list of a head: at most 2,048 entries that lead back to it; all addresses are valid, 0 is no entry, and no entry is the word of one
+-- the list of a head: at most 2,048 entries that lead back to it; all addresses are valid, 0 is no entry, and no entry
+-- is the word of one
 pub record IsWhole (valid : ℕ → Bool) (words : ℕ → ℕ) (h : Head) (es : List ℕ) : Type 0 where
   pub first : valid h.at ≡ true
   pub second : (valid (sum_of h.at 1) ≡ true) × (words (sum_of h.at 1) ≡ h.offset)

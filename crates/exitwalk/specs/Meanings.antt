@@ -1,4 +1,5 @@
--- What the exit walk leaves where nobody else writes (robust-futexes.rst, robust-futex-ABI.rst, get_robust_list(2)): a fold over the entries.
+-- What the exit walk leaves where nobody else writes (robust-futexes.rst, robust-futex-ABI.rst, get_robust_list(2)): a
+-- fold over the entries.
 use Rattle.std.specs.Prelude.{ℕ, zero, suc, ◌==◌, Bool, true, false, List, [], ◌∷◌, ◌++◌, if◌then◌else◌}
 use Rattle.posixmutex.specs.Objects.{held_limit}
 use Rattle.exitwalk.specs.Words.{sum_of, owner_in, has_waiters, died_word, put}
@@ -24,11 +25,13 @@ woken_if false a s = s
 abbrev pub died_at : ℕ → Effect → Effect
 died_at a s = record { words = put s.words a (died_word (s.words a)); wakes = s.wakes }
 
--- the word at a place is treated: where its owner is t, it says that its owner has died, and one sleeper is woken if there was any; else it is left alone
+-- the word at a place is treated: where its owner is t, it says that its owner has died, and one sleeper is woken if
+-- there was any; else it is left alone
 abbrev pub treated : ℕ → ℕ → Effect → Effect
 treated t a s = if owner_in (s.words a) == t then woken_if (has_waiters (s.words a)) a (died_at a s) else s
 
--- a thread that died between the release of its pending mutex and the wake of a sleeper left a word with no owner: the sleeper is woken for it
+-- a thread that died between the release of its pending mutex and the wake of a sleeper left a word with no owner: the
+-- sleeper is woken for it
 abbrev pub pending_treated : ℕ → ℕ → Effect → Effect
 pending_treated t a s = if owner_in (s.words a) == 0 then woken a s else treated t a s
 
@@ -46,7 +49,8 @@ pub record Head : Type 0 where
 abbrev pub at_last : (ℕ → Bool) → ℕ → Head → Effect → Effect
 at_last valid t h s = if h.pending == 0 then s else reading valid (sum_of h.pending h.offset) s (λ v. pending_treated t (sum_of h.pending h.offset) s)
 
--- the entries from e on, so many at most, back to the head: each one's next is read, and then its word is treated, but that of the pending entry isn't yet
+-- the entries from e on, so many at most, back to the head: each one's next is read, and then its word is treated, but
+-- that of the pending entry isn't yet
 unfoldable pub entries : (ℕ → Bool) → ℕ → Head → ℕ → ℕ → Effect → Effect
 entries valid t h zero e s = at_last valid t h s
 entries valid t h (suc n) e s =

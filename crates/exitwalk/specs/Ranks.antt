@@ -21,7 +21,8 @@ accesses_left (Mark at seen again part) = part_left part + (if again then 2 else
 accesses_left (WakeOne at part) = part_left part + 1
 accesses_left Ended = 0
 
--- where nobody else writes: an exchange fails only where its word was changed before, so four for an entry, three for the pending one
+-- where nobody else writes: an exchange fails only where its word was changed before, so four for an entry, three for
+-- the pending one
 abbrev pub part_left_alone : Part → ℕ
 part_left_alone (List r) = 4 * (held_limit - r.loaded) + 3
 part_left_alone Pending = 0

@@ -27,7 +27,8 @@ pub record SaysDied (t w w' : ℕ) : Type 0 where
   pub word : w' ≡ died_word w
   pub cell : fields_of w' ≡ marked (fields_of w)
 
--- one access at row r, which meets the word w and leaves w', is the owner's death as the mutex sees it, or leaves the word alone
+-- one access at row r, which meets the word w and leaves w', is the owner's death as the mutex sees it, or leaves the
+-- word alone
 pub record Right (t : ℕ) (r : Row) (a : Answer) (w w' : ℕ) : Type 0 where
   pub runs : Run (object_of (fields_of w)) (points (point_of t r a)) (object_of (fields_of w'))
   pub changes : (w' ≡ w) ⊎ SaysDied t w w'
@@ -42,7 +43,8 @@ IsTrueOf x w a = Unit {0}
 abbrev pub waiting_word : ℕ → ℕ
 waiting_word v = word_of (waiting (fields_of v))
 
--- a word that was seen as such has stayed so, but that WAITERS may have been set since; where an exchange has failed already, it was set before
+-- a word that was seen as such has stayed so, but that WAITERS may have been set since; where an exchange has failed
+-- already, it was set before
 pub record OnlyWaits (seen : ℕ) (again : Bool) (w : ℕ) : Type 0 where
   pub stays : (w ≡ seen) ⊎ (w ≡ waiting_word seen)
   pub set : again ≡ true → has_waiters seen ≡ true
@@ -50,7 +52,8 @@ pub record OnlyWaits (seen : ℕ) (again : Bool) (w : ℕ) : Type 0 where
 -- Whatever word an access meets, it is right.
 -- Whatever the answer is, what the next row knows is so, and fewer accesses are left, of 10,247 at most.
 -- Where nobody else writes, and the answer is true, fewer are left of 8,198 at most.
--- Where others only set WAITERS in the dead thread's words, an exchange fails once at most, and the next one is for the word found.
+-- Where others only set WAITERS in the dead thread's words, an exchange fails once at most, and the next one is for the
+-- word found.
 pub record StepsAreRight : Type 0 where
   pub right : (t h w : ℕ) (r : Row) → 1 ≤ t → IsGoing r → Knows t h r → Right t r (answer_at (row_access h r) w) w (changed (row_access h r) w)
   pub knows : (t h : ℕ) (r : Row) (a : Answer) → Knows t h r → Knows t h (row_after t h r a)

@@ -1,4 +1,5 @@
--- The walk over a dead thread's robust list, access by access (robust-futexes.rst, robust-futex-ABI.rst, get_robust_list(2)).
+-- The walk over a dead thread's robust list, access by access (robust-futexes.rst, robust-futex-ABI.rst,
+-- get_robust_list(2)).
 --
 -- | stands at   | access                            | then
 -- | LoadFirst   | load the head's first word        | LoadOffset
@@ -10,12 +11,13 @@
 -- |             | same, marked                      | Changed: Look at the word found; after a second exchange leave it alone, and on
 -- | WakeOne     | wake one sleeper on the word      | on
 --
--- Forward: LoadNext; but at the list's end, the head's own address, and after 2,048 entries, LoadWord of the pending entry's mutex, and then the end;
--- where there is no pending entry, the end at once.
--- Look: the word is marked where its owner is the dead thread, and else left alone; but for the pending entry's, which nobody owns, WakeOne.
--- A fault, or an answer that isn't one of the access, is the end. An entry's mutex is at the entry's address and the offset, modulo 2^64.
--- This project's own, of which nothing is claimed of a kernel: the end at a fault, the pending entry included; the word left alone after a second exchange; the wake for an unowned pending word;
--- and that the bits above the low half stay.
+-- Forward: LoadNext; but at the list's end, the head's own address, and after 2,048 entries, LoadWord of the pending
+-- entry's mutex, and then the end; where there is no pending entry, the end at once. Look: the word is marked where its
+-- owner is the dead thread, and else left alone; but for the pending entry's, which nobody owns, WakeOne. A fault, or
+-- an answer that isn't one of the access, is the end. An entry's mutex is at the entry's address and the offset, modulo
+-- 2^64. This project's own, of which nothing is claimed of a kernel: the end at a fault, the pending entry included;
+-- the word left alone after a second exchange; the wake for an unowned pending word; and that the bits above the low
+-- half stay.
 use Rattle.std.specs.Prelude.{ℕ, ◌≡◌, ◌+◌, ◌==◌, ◌≤◌, ◌<◌, ◌&&◌, ◌||◌, Bool, true, false, Option, Some, None, if◌then◌else◌}
 use Rattle.posixmutex.specs.Objects.{held_limit}
 use Rattle.lockword.specs.Cells.{fields_of, word_of, marked}
@@ -112,7 +114,8 @@ abbrev pub IsCounted : Part → Type 0
 IsCounted (List r) = (1 ≤ r.loaded) × (r.loaded ≤ held_limit)
 IsCounted Pending = Unit {0}
 
--- what a walk of thread t's list knows, whose head is at h: an entry that it loads isn't the head, a word that it marks was seen with that owner
+-- what a walk of thread t's list knows, whose head is at h: an entry that it loads isn't the head, a word that it marks
+-- was seen with that owner
 abbrev pub Knows : ℕ → ℕ → Row → Type 0
 Knows t h (LoadNext r) = ((r.entry == h) ≡ false) × (r.loaded < held_limit)
 Knows t h (LoadWord at part) = IsCounted part

@@ -7,7 +7,8 @@ use crate::row::{Part, Rest, Row};
 use lockword::{Cell, Tid};
 use posixmutex::HELD_LIMIT;
 
-/// Where a walk stands, as plain numbers, for whoever keeps it where the walker's own death can't reach: in a file that processes share.
+/// Where a walk stands, as plain numbers, for whoever keeps it where the walker's own death can't reach: in a file that
+/// processes share.
 ///
 /// `kind` names the row; `specs/Codings.antt` has the table. What that row doesn't carry is 0.
 #[repr(C)]
@@ -60,7 +61,8 @@ impl CodedRow {
         }
     }
 
-    /// The row whose numbers these are, of a walk of this thread's list that hasn't ended; `None` where no such row has them.
+    /// The row whose numbers these are, of a walk of this thread's list that hasn't ended; `None` where no such row has
+    /// them.
     pub fn row(&self, thread: Tid, head: u64) -> Option<Row>
         ensures has_these { IfSome result (λ r. IsGoing r × Knows thread head r × (row_code r ≡ self.now)) }
         ensures each { (r : Row) → IsGoing r → Knows thread head r → row_code r ≡ self.now → result ≡ Some r }

@@ -44,7 +44,8 @@ pub enum Row {
         at: u64,
         part: Part,
     },
-    /// It exchanges a word that it has seen, whose owner is the dead thread, for the same word marked. This is `again` where one exchange has failed already.
+    /// It exchanges a word that it has seen, whose owner is the dead thread, for the same word marked. This is `again`
+    /// where one exchange has failed already.
     Mark {
         at: u64,
         seen: u64,

@@ -38,7 +38,8 @@ impl Walk {
     ghost use Rattle.exitwalk.specs.Walks.{begun, walk_at, access_of, row_after, point_of, moved, progress_of, IsGoing, IsCounted, Knows};
     ghost use Rattle.exitwalk.specs.Walks.{forward, goes_on, looks, after_next, after_mark, after_miss};
 
-    /// The walk of a dead thread's list whose head is at an address. That may be any number, and so may the words there.
+    /// The walk of a dead thread's list whose head is at an address. That may be any number, and so may the words
+    /// there.
     pub fn new(thread: Tid, head: u64) -> Walk
         ensures { result ≡ begun thread head }
     {
@@ -49,7 +50,8 @@ impl Walk {
         }
     }
 
-    /// The walk that stands at a row: one that was kept elsewhere, as [`CodedRow`](crate::CodedRow) say, goes on from there.
+    /// The walk that stands at a row: one that was kept elsewhere, as [`CodedRow`](crate::CodedRow) say, goes on from
+    /// there.
     pub fn at(thread: Tid, head: u64, row: Row) -> Walk
         requires { Knows thread head row }
         ensures { result ≡ walk_at thread head row }
@@ -83,13 +85,15 @@ impl Walk {
         }
     }
 
-    /// Where each row leads. A fault, and an answer that the row's access doesn't have, is the end: what the list goes on with isn't known then.
+    /// Where each row leads. A fault, and an answer that the row's access doesn't have, is the end: what the list goes
+    /// on with isn't known then.
     fn row_after(&self, answer: Answer) -> Row
         ensures value { result ≡ row_after self.now.thread self.now.head self.now.row answer }
         ensures knows { Knows self.now.thread self.now.head result }
     {
         match (self.row, answer) {
-            // The head comes first: no entry can be treated before its mutex's offset is known, nor before it is known which one is pending.
+            // The head comes first: no entry can be treated before its mutex's offset is known, nor before it is known
+            // which one is pending.
             (Row::LoadFirst, Answer::Value(first)) => Row::LoadOffset { first },
             (Row::LoadOffset { first }, Answer::Value(offset)) => Row::LoadPending {
                 first,
@@ -101,7 +105,8 @@ impl Walk {
                 pending,
                 loaded: 0,
             }),
-            // The next entry is loaded before this one is treated: once its word is marked, another thread may take the mutex, and link its entry into another list.
+            // The next entry is loaded before this one is treated: once its word is marked, another thread may take the
+            // mutex, and link its entry into another list.
             (Row::LoadNext(rest), Answer::Value(next)) => self.after_next(rest, next),
             (Row::LoadWord { at, part }, Answer::Value(word)) => self.looks(at, word, false, part),
             (Row::Mark { at, seen, part, .. }, Answer::Exchanged) => self.after_mark(
@@ -122,8 +127,8 @@ impl Walk {
         }
     }
 
-    /// Treats the word of an entry whose next one is known now. The pending entry is skipped here and treated once, at the end: its thread may have died before it
-    /// was linked or after.
+    /// Treats the word of an entry whose next one is known now. The pending entry is skipped here and treated once, at
+    /// the end: its thread may have died before it was linked or after.
     fn after_next(&self, rest: Rest, next: u64) -> Row
         requires { rest.loaded < held_limit }
         ensures value { result ≡ after_next self.now.head rest next }
@@ -157,8 +162,10 @@ impl Walk {
         }
     }
 
-    /// After an exchange that failed: the word that it found is looked at, once. While the dead thread owns a word, the library's own programs do nothing to it but set
-    /// WAITERS, which is set once; so a second exchange can't fail in a run of theirs. Where it does, the word is another program's, and is left alone, so that the walk comes to its end on any memory.
+    /// After an exchange that failed: the word that it found is looked at, once. While the dead thread owns a word, the
+    /// library's own programs do nothing to it but set WAITERS, which is set once; so a second exchange can't fail in a
+    /// run of theirs. Where it does, the word is another program's, and is left alone, so that the walk comes to its
+    /// end on any memory.
     fn after_miss(&self, at: u64, found: u64, again: bool, part: Part) -> Row
         requires { IsCounted part }
         ensures value { result ≡ after_miss self.now.thread self.now.head at again part found }
@@ -171,8 +178,9 @@ impl Walk {
         }
     }
 
-    /// What is done with a word that was seen, after an exchange that failed or before the first. It is marked where it is the dead thread's, and else left alone. But where
-    /// nobody owns the pending entry's, one sleeper is woken: the dead thread may have released it and died before the wake that it owed, which nobody else makes.
+    /// What is done with a word that was seen, after an exchange that failed or before the first. It is marked where it
+    /// is the dead thread's, and else left alone. But where nobody owns the pending entry's, one sleeper is woken: the
+    /// dead thread may have released it and died before the wake that it owed, which nobody else makes.
     fn looks(&self, at: u64, word: u64, again: bool, part: Part) -> Row
         requires { IsCounted part }
         ensures value { result ≡ looks self.now.thread self.now.head at word again part }
@@ -250,8 +258,8 @@ impl StepProgram for Walk {
         }
     }
 
-    /// Goes on with an answer. `Fault`, or an answer that no such access has, ends the walk. At its end it returns `OK`. The exchange that marks a word is
-    /// the owner's death there.
+    /// Goes on with an answer. `Fault`, or an answer that no such access has, ends the walk. At its end it returns
+    /// `OK`. The exchange that marks a word is the owner's death there.
     fn resume(&mut self, answer: Answer) -> Progress {
         let point = self.point(answer);
         let row = self.row_after(answer);

@@ -26,7 +26,8 @@ use Rattle.explain.specs.Texts.{explanation_text}
 abbrev pub is_trace : List ℕ → Bool
 is_trace bytes = starts_with nat_eq bytes (codes "trace ")
 
--- as a script of this mode the bytes have this first fault, or none: the reader's; or the one that the machine meets in running it, too many events
+-- as a script of this mode the bytes have this first fault, or none: the reader's; or the one that the machine meets in
+-- running it, too many events
 abbrev pub IsFaultOf : Mode → List ℕ → Option ScriptFault → Type 0
 IsFaultOf Threads bytes None = (s : Scope) × (script_read Threads bytes ≡ Ok s)
 IsFaultOf Run bytes None = (s : Scope) × (script_read Run bytes ≡ Ok s) × (overlong s ≡ None)

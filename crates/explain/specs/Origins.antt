@@ -41,8 +41,9 @@ is_step_like (Some d) o = is_step_of d.mutex o
 abbrev pub is_own : Line → Line → Bool
 is_own e a = thread_of a.fact == thread_of e.fact
 
--- a is a line that the reason speaks of, for which e doesn't fit: of the event, what its own thread, a decision or a kill did; of the thread, the call it is in or ended, its sleep, its wake, its death,
--- its renewal, its last point; of the mutex, what made it what it is
+-- a is a line that the reason speaks of, for which e doesn't fit: of the event, what its own thread, a decision or a
+-- kill did; of the thread, the call it is in or ended, its sleep, its wake, its death, its renewal, its last point; of
+-- the mutex, what made it what it is
 abbrev pub is_origin : Misfit → Line → Line → Bool
 is_origin (EventFalls i) e a = true
 is_origin (AnothersEvent t) e a = (a.event == e.event) && not (is_passive a.fact)
@@ -70,7 +71,8 @@ is_origin (NotOwner o) e a = is_step_like (decision_of e.fact) (decision_of a.fa
 is_origin (StillOwns m) e a = is_step_of m (decision_of a.fact)
 is_origin (EndFalls i) e a = true
 
--- of these lines, which stand newest first and the oldest of which is line 2, the line of the newest for which the test passes
+-- of these lines, which stand newest first and the oldest of which is line 2, the line of the newest for which the test
+-- passes
 abbrev pub newest_line : (Line → Bool) → List Line → Option ℕ
 newest_line p [] = None
 newest_line p (a ∷ as') = if p a then Some (length as' + 2) else newest_line p as'

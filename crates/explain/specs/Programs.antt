@@ -25,8 +25,8 @@ unopened_by _ = CannotRead
 abbrev pub IsTold : List ℕ → Failure → Option (List ℕ) → Option (List ℕ) → ℕ → Type 0
 IsTold file f told told' status = AppendsFront told told' (failure_text file f) × (status ≡ failure_status f)
 
--- how an explanation of a file ended: it was written of what opening the file gave, the writer has let go of it, and nothing was told; or it wasn't, or not all of it, and that is told; or the file
--- couldn't be opened
+-- how an explanation of a file ended: it was written of what opening the file gave, the writer has let go of it, and
+-- nothing was told; or it wasn't, or not all of it, and that is told; or the file couldn't be opened
 abbrev pub FileEnds : (List ℕ → Result (Option (List ℕ)) ErrorKind → Type 0) → List ℕ → Option (List ℕ) → Option (List ℕ) → Type 0 → Type 0 → Option (List ℕ) → Option (List ℕ) → ℕ → Type 0
 FileEnds Opens file old new LetGo Quiet told told' status =
     ((had : Option (List ℕ)) × Opens file (Ok had) × (left : Option (List ℕ)) × ((Serves file had left old new status × LetGo × Quiet) ⊎ ((f : Failure) × Fails file had left old new f × IsTold file f told told' status)))

@@ -28,7 +28,8 @@ Tells file bytes old new status = (text : List ℕ) × (IsTold file bytes text s
 abbrev pub TellsFront : List ℕ → List ℕ → Option (List ℕ) → Option (List ℕ) → Type 0
 TellsFront file bytes old new = (text : List ℕ) × ((status : ℕ) × (IsTold file bytes text status × AppendsFront old new text))
 
--- why nothing was told of bytes, or not all: want of memory, before the first byte; or a write that failed, behind a beginning
+-- why nothing was told of bytes, or not all: want of memory, before the first byte; or a write that failed, behind a
+-- beginning
 abbrev pub FailsTelling : List ℕ → List ℕ → Option (List ℕ) → Option (List ℕ) → Failure → Type 0
 FailsTelling file bytes old new Usage = ⊥
 FailsTelling file bytes old new CannotRead = ⊥
@@ -42,6 +43,7 @@ Serves file had left old new status = (bytes : List ℕ) × (Consumes had left b
 abbrev pub Comes : List ℕ → Option (List ℕ) → Option (List ℕ) → Option (List ℕ) → Option (List ℕ) → Failure → Type 0
 Comes file had left old new f = (bytes : List ℕ) × (Consumes had left bytes × ((length bytes ≤ max_bytes → IsAtEnd left) × FailsTelling file bytes old new f))
 
--- why nothing was told of a file, or not all: before the first byte it couldn't be read, or memory was wanted; or this came of its bytes
+-- why nothing was told of a file, or not all: before the first byte it couldn't be read, or memory was wanted; or this
+-- came of its bytes
 abbrev pub Fails : List ℕ → Option (List ℕ) → Option (List ℕ) → Option (List ℕ) → Option (List ℕ) → Failure → Type 0
 Fails file had left old new f = (IsUnread f × (new ≡ old)) ⊎ Comes file had left old new f

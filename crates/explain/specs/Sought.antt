@@ -37,7 +37,8 @@ is_of things (Some other) = are_same other things
 abbrev pub count_of : List ℕ → ℕ
 count_of w = if is_number w then unwrap_or (within 0 max_mutexes (digits_value 10 w)) 0 else 0
 
--- a line of these words declares the name: it is the second word, or of `mutexes` that word with a number below the count behind it
+-- a line of these words declares the name: it is the second word, or of `mutexes` that word with a number below the
+-- count behind it
 abbrev pub declares : List (List ℕ) → Things → List ℕ → Bool
 declares ws things name = is_of things (things_of (word_of ws 0))
     && (if bytes_eq (word_of ws 0) (codes "mutexes") then is_numbered (word_of ws 1) (count_of (word_of ws 2)) name else bytes_eq (word_of ws 1) name)

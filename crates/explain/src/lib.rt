@@ -1,15 +1,15 @@
-//! `rfx-explain` but for opening its file: what a script or a trace is, and where it is faulty or illegal, which word of which line is
-//! wrong, what could stand there, and which earlier line it goes back to.
+//! `rfx-explain` but for opening its file: what a script or a trace is, and where it is faulty or illegal, which word
+//! of which line is wrong, what could stand there, and which earlier line it goes back to.
 //!
-//! [`run`] is given the words of the command line, what opens files, and the two writers. Where nothing is told on `err` it has
-//! written all of an explanation of the file's bytes and let go of it, whose title is what the readers of scripts and the judge of
-//! traces find (`RunEnds`, `IsTold`, `IsTitle`), and whose mark is that of the first wrong word, number or name of the line that the
-//! title names (`IsAdvised`); else it has written a beginning of it, and one message on `err` says why. It reads at
-//! most one byte more than a trace may have.
+//! [`run`] is given the words of the command line, what opens files, and the two writers. Where nothing is told on
+//! `err` it has written all of an explanation of the file's bytes and let go of it, whose title is what the readers of
+//! scripts and the judge of traces find (`RunEnds`, `IsTold`, `IsTitle`), and whose mark is that of the first wrong
+//! word, number or name of the line that the title names (`IsAdvised`); else it has written a beginning of it, and one
+//! message on `err` says why. It reads at most one byte more than a trace may have.
 //!
-//! Stands on `wording`, for the first wrong word of a line and the nearest known one, on `script` and `verdict`, for faults and
-//! reasons, on `lines`, for lines and words, on `facts`, `posixmutex` and `lockword`, for what lines of a trace tell, on `streams`, for
-//! reading, writing and opening, and on `itoa`, for numbers.
+//! Stands on `wording`, for the first wrong word of a line and the nearest known one, on `script` and `verdict`, for
+//! faults and reasons, on `lines`, for lines and words, on `facts`, `posixmutex` and `lockword`, for what lines of a
+//! trace tell, on `streams`, for reading, writing and opening, and on `itoa`, for numbers.
 //!
 //! ```text
 //! // The words of `rfx-explain dead_owner.rfx`, the program's name first; `files` opens what they name.

@@ -79,7 +79,8 @@ fn newest(entries: &[Line], why: &Misfit, entry: &Line) -> Option<usize>
     found
 }
 
-/// The newest line before the one that doesn't fit of which its reason speaks, from 1; of the last line, the one before it.
+/// The newest line before the one that doesn't fit of which its reason speaks, from 1; of the last line, the one before
+/// it.
 pub fn origin_of(entries: &[Line], why: TraceMisfit) -> Option<usize>
     ensures { result ≡ origin_of entries.now why }
 {

@@ -71,7 +71,8 @@ fn tell_bytes<W: Output>(
     }
 }
 
-/// Reads a file, tells what is to be told of it, and answers the exit status. It reads at most one byte more than a trace may have.
+/// Reads a file, tells what is to be told of it, and answers the exit status. It reads at most one byte more than a
+/// trace may have.
 pub fn serve<R: Read, W: Output>(
     alloc: Global,
     file: &str,

@@ -96,8 +96,8 @@ fn declares(line: &str, things: Things, name: &str) -> bool
     }
 }
 
-/// Whether a name that the line declares is the stem with a number below `count` behind it, so far as that is seen at once: it is a single name, or has the
-/// same stem.
+/// Whether a name that the line declares is the stem with a number below `count` behind it, so far as that is seen at
+/// once: it is a single name, or has the same stem.
 fn is_clashing(line: &str, stem: &str, count: u32) -> bool
     ensures { result ≡ is_clashing (words_of line.now) stem.now count }
 {

@@ -107,8 +107,8 @@ fn stray_note(kind: Kind, text: &str, index: usize) -> Option<Note>
     word_note(kind, text, index, word)
 }
 
-/// The first word at which no line of the kind can go on, what it has to be, and the known word that it is next to; None where the line is one
-/// of the kind.
+/// The first word at which no line of the kind can go on, what it has to be, and the known word that it is next to;
+/// None where the line is one of the kind.
 fn stray_mark(alloc: Global, kind: Kind, text: &str) -> Result<Option<Mark<'static>>, AllocError>
     ensures { IfOk result (IsMarked kind (words_of text.now)) }
 {
@@ -124,8 +124,8 @@ fn stray_mark(alloc: Global, kind: Kind, text: &str) -> Result<Option<Mark<'stat
     }))
 }
 
-/// What is told of line `number`, which isn't one of the kind, or not here: no line feed ends it; or its first word at which no such line can go
-/// on is marked; or it is one, and then this is told.
+/// What is told of line `number`, which isn't one of the kind, or not here: no line feed ends it; or its first word at
+/// which no such line can go on is marked; or it is one, and then this is told.
 pub fn stray_advice(
     alloc: Global,
     kind: Kind,

@@ -1,4 +1,5 @@
-//! `rfx-explain` from the words of its command line on: its forms, files that are there or not, writers that fail, refused memory.
+//! `rfx-explain` from the words of its command line on: its forms, files that are there or not, writers that fail,
+//! refused memory.
 
 use crate::files::{Folder, answer_of, words};
 use crate::writers::{Few, Fixed};

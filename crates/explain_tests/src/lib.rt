@@ -1,4 +1,5 @@
-//! Tests of `rfx-explain`, by public calls alone: what it tells of each mistake. They stand above the crates that they test, since a crate with tests of its own is proved a second time for them.
+//! Tests of `rfx-explain`, by public calls alone: what it tells of each mistake. They stand above the crates that they
+//! test, since a crate with tests of its own is proved a second time for them.
 #![tactic(auto)]
 
 #[cfg(test)]

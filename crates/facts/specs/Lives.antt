@@ -16,7 +16,8 @@ use Rattle.facts.specs.Facts.{thread_of}
 abbrev pub Act : Type 0
 Act = Operation × Reply
 
--- these are all the points of a call of this operation that returns that reply: one of its own operation, and of a wait that isn't refused a release and then a lock
+-- these are all the points of a call of this operation that returns that reply: one of its own operation, and of a wait
+-- that isn't refused a release and then a lock
 abbrev pub Complete : Operation → List Act → Reply → Type 0
 Complete op [] x = ⊥
 Complete op (p ∷ []) x = p ≡ (op, x)
@@ -49,14 +50,16 @@ abbrev pub own : ℕ → List Line → List Fact
 own t [] = []
 own t (l ∷ ls) = if is_of_call l.fact && (thread_of l.fact == t) then l.fact ∷ own t ls else own t ls
 
--- what is told of thread t after it was killed: its death, of mutexes; and perhaps that it was reaped, after which nothing is told
+-- what is told of thread t after it was killed: its death, of mutexes; and perhaps that it was reaped, after which
+-- nothing is told
 pub data Mourned (t : ℕ) : List Fact → Type 0 where
   Unburied : Mourned t []
   Tells_of : (m : ℕ) (later : List Fact) → Mourned t later → Mourned t (Death t m ∷ later)
   Buried : Mourned t (Reap t ∷ [])
 
--- all that thread t does in one life: calls that returned, each with exactly its points, the last of which has the reply that it returned; perhaps one that hasn't returned, with a beginning of such points; and
--- perhaps a kill, which ends that call. No point belongs to any other call, and no death comes before the kill
+-- all that thread t does in one life: calls that returned, each with exactly its points, the last of which has the
+-- reply that it returned; perhaps one that hasn't returned, with a beginning of such points; and perhaps a kill, which
+-- ends that call. No point belongs to any other call, and no death comes before the kill
 pub data Life (t : ℕ) : List Fact → Type 0 where
   Rests : Life t []
   Returns : (c : Begun) (ps : List Act) (x : Reply) (later : List Fact) → Complete c.operation ps x → Life t later → Life t (Begin t c ∷ (made t c ps ++ Return t x ∷ later))
@@ -70,7 +73,8 @@ pub data Life (t : ℕ) : List Fact → Type 0 where
 abbrev pub EndsReaped : ℕ → List Fact → Type 0
 EndsReaped t fs = (before : List Fact) × (fs ≡ before ++ Reap t ∷ [])
 
--- all that is told of thread t, whose id is used again: one life, or several, each but the last ended by its reaping, behind which t lives anew. So a call, a point or a death belongs to one of them
+-- all that is told of thread t, whose id is used again: one life, or several, each but the last ended by its reaping,
+-- behind which t lives anew. So a call, a point or a death belongs to one of them
 pub data Lives (t : ℕ) : List Fact → Type 0 where
   Last : (life : List Fact) → Life t life → Lives t life
   Earlier : (life later : List Fact) → Life t life → EndsReaped t life → Lives t later → Lives t (life ++ Renew t ∷ later)

@@ -3,8 +3,8 @@ use Rattle.std.specs.Prelude.{◌≡◌, ◌<◌, ◌≤◌, true, false, List, 
 use Rattle.facts.specs.declared.fact.Line.{Line}
 use Rattle.facts.specs.Facts.{thread_of, decides, is_passive, is_kill}
 
--- how line b may stand behind line a, near or far: the numbers of events never fall, and those of points and deaths rise; an event is one thread's, whomever it wakes or moves; and a kill is an event of
--- its own
+-- how line b may stand behind line a, near or far: the numbers of events never fall, and those of points and deaths
+-- rise; an event is one thread's, whomever it wakes or moves; and a kill is an event of its own
 pub record Later (a b : Line) : Type 0 where
   pub never_falls : a.event ≤ b.event
   pub decisions_rise : decides a.fact ≡ true → decides b.fact ≡ true → a.event < b.event

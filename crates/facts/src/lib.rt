@@ -1,8 +1,8 @@
 //! What the lines of a trace tell, and how they follow each other.
 //!
-//! A [`Line`] is a [`Fact`] and the number of its event. `specs/` says whose fact it is, which steps of mutexes points and
-//! deaths are, what all lines of one thread must be together, and how lines may stand behind each other: what a run prints and
-//! what a trace is judged by.
+//! A [`Line`] is a [`Fact`] and the number of its event. `specs/` says whose fact it is, which steps of mutexes points
+//! and deaths are, what all lines of one thread must be together, and how lines may stand behind each other: what a run
+//! prints and what a trace is judged by.
 //!
 //! Stands on `posixmutex`, for operations and decisions, and on `lockword`, for thread ids and replies.
 //!

@@ -62,7 +62,8 @@ list_joined b (Requeue from n to k) us queues = put queues (seen_at b to) (queue
 list_joined b (CmpRequeue from e n to k) us queues = put queues (seen_at b to) (queues (seen_at b to) ++ us)
 list_joined b a us queues = queues
 
--- the words after an access, of the words before and of those who sleep on the one that it meets: that one is changed, where its address is valid, and all others stay
+-- the words after an access, of the words before and of those who sleep on the one that it meets: that one is changed,
+-- where its address is valid, and all others stay
 abbrev pub list_words : List ℕ → Kernel' → ℕ → Access → List ℕ
 list_words ws k b a = if is_valid ws (place_from b a) then slice_set ws (place_from b a) (word_among a (slice_index ws (place_from b a)) (queue_of k (place_from b a))) else ws
 

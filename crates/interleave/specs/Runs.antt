@@ -10,24 +10,29 @@ use Rattle.protocol.specs.Explained.{IsExplained}
 use Rattle.protocol.specs.PassedBy.{PassesNobody}
 use Rattle.interleave.specs.Reached.{AtEachMoment, TellsAtEachMoment}
 
--- from state s these events led on, and this was told of them: a legal history of robust mutexes, in which each call is explained, nobody who sleeps is stranded, and nobody who died owns a mutex once reaped
+-- from state s these events led on, and this was told of them: a legal history of robust mutexes, in which each call is
+-- explained, nobody who sleeps is stranded, and nobody who died owns a mutex once reaped
 pub record IsLegalRun (s : State) (events : List Event) (told : List Note) : Type 0 where
   -- each event was noted, once and in its order, as what it did
   pub noted : told ≡ notes s events
-  -- after each event the points and deaths told so far are one legal history: they lead from free mutexes to what each cell says of its owner, OWNER_DIED and UNUSABLE
+  -- after each event the points and deaths told so far are one legal history: they lead from free mutexes to what each
+  -- cell says of its owner, OWNER_DIED and UNUSABLE
   pub history : AtEachMoment s events told
-  -- a call that returned had one point, between its begin and its return, and returned that point's reply; a wait that isn't refused had an unlock and then a lock; no point belongs to any other call; nothing
-  -- of an event stands behind its return or its reaping, nor before a begin, and whom it wakes or moves stands behind
-  -- its point. What is told of a thread is one life after the other, each but the last ended by its reaping and its
-  -- renewal
+  -- a call that returned had one point, between its begin and its return, and returned that point's reply; a wait that
+  -- isn't refused had an unlock and then a lock; no point belongs to any other call; nothing of an event stands behind
+  -- its return or its reaping, nor before a begin, and whom it wakes or moves stands behind its point. What is told of
+  -- a thread is one life after the other, each but the last ended by its reaping and its renewal
   pub explained : IsExplained events told
-  -- after each event a thread stands in a queue exactly where the last of its sleeps, moves, wakes and kills told so far is a sleep or a move, in the one that this names; each queue is in the order in which
-  -- they came, as it was told, and whoever another's event wakes, or moves, is its front
+  -- after each event a thread stands in a queue exactly where the last of its sleeps, moves, wakes and kills told so
+  -- far is a sleep or a move, in the one that this names; each queue is in the order in which they came, as it was
+  -- told, and whoever another's event wakes, or moves, is its front
   pub sleeps : TellsAtEachMoment s.layout s events told
-  -- no wait that released its mutex before a signal or a broadcast counted falls asleep there behind it; where a signal returns OK it wakes the first of its condition variable's queue, if any, and where a
-  -- broadcast does it moves all of it and leaves nobody there
+  -- no wait that released its mutex before a signal or a broadcast counted falls asleep there behind it; where a signal
+  -- returns OK it wakes the first of its condition variable's queue, if any, and where a broadcast does it moves all of
+  -- it and leaves nobody there
   pub passed : PassesNobody s events
-  -- after each event some awake thread owes whoever sleeps on a mutex that nobody owns, whoever is awake and runs alone comes to rest, and a call that no other event divides returns what its object replies, or sleeps
+  -- after each event some awake thread owes whoever sleeps on a mutex that nobody owns, whoever is awake and runs alone
+  -- comes to rest, and a call that no other event divides returns what its object replies, or sleeps
   pub runs_alone : (n : ℕ) → RunsAlone (run s (take n events))
   -- after each event a thread that was reaped, and isn't renewed yet, owns no mutex
   pub reaped : (n : ℕ) → NoReapedOwns (run s (take n events))

@@ -18,7 +18,8 @@ IsOnItsWay l (AtCondition c p) = (is_in l (OnCondition c) ≡ true) × condition
 IsOnItsWay l (Dying w) = exit.IsGoing w.row
 IsOnItsWay l Reaped = Unit {0}
 
--- its call, if it is in one, is one of the layout's, hasn't returned and knows what its phase needs; its walk, if it died, hasn't ended; and one mutex more can be counted
+-- its call, if it is in one, is one of the layout's, hasn't returned and knows what its phase needs; its walk, if it
+-- died, hasn't ended; and one mutex more can be counted
 abbrev pub MayStep : Layout' → Thread → Type 0
 MayStep l th = IsOnItsWay l th.stage × (th.held < 65535)
 

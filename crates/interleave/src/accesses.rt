@@ -1,4 +1,5 @@
-//! Accesses of the machine's threads: to its words, and to the kernel's queues. A thread names words by the addresses that they have in its process.
+//! Accesses of the machine's threads: to its words, and to the kernel's queues. A thread names words by the addresses
+//! that they have in its process.
 ghost use Rattle.std.specs.Prelude.{◌≡◌, ◌≤◌, ℕ, [], true, false};
 ghost use Rattle.stepprograms.specs.declared.access.Access.TheVariants.{Wait, Wake};
 ghost use Rattle.stepprograms.specs.declared.access.Answer.TheVariants.{Value, Stored, Exchanged, Changed};
@@ -11,7 +12,8 @@ use memorymap::seen_at;
 use stepprograms::{Access, Answer};
 use syscalls::{Kernel, Memory};
 
-/// What an access answered, whether its thread fell asleep by it, whom it woke, and whom it moved to another queue, in their order.
+/// What an access answered, whether its thread fell asleep by it, whom it woke, and whom it moved to another queue, in
+/// their order.
 #[derive(Clone, Copy)]
 pub(crate) struct Performed {
     pub answer: Answer,

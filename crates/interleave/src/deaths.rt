@@ -28,7 +28,8 @@ fn is_alive(stage: &Stage) -> bool
     }
 }
 
-/// The thread dies, if it lives: it leaves its queue, its call ends there, and the kernel is to walk its list from the head that it has set.
+/// The thread dies, if it lives: it leaves its queue, its call ends there, and the kernel is to walk its list from the
+/// head that it has set.
 pub(crate) fn kill(
     layout: &Layout,
     kernel: &mut Kernel,
@@ -70,7 +71,8 @@ fn mutex_at(layout: &Layout, place: u64) -> Option<u16>
     layout.mutex_of(place)
 }
 
-/// The mutex of which an access of a thread's walk told the owner's death, by its cell's address in the thread's process.
+/// The mutex of which an access of a thread's walk told the owner's death, by its cell's address in the thread's
+/// process.
 fn death_told(layout: &Layout, thread: Tid, progress: &Progress) -> Option<u16>
     requires { thread ≤ layout.now.threads }
     ensures { result ≡ death_at layout.now thread (point_in progress.now) }
@@ -110,7 +112,8 @@ fn held_walked(held: u16, death: Option<u16>) -> u16
     }
 }
 
-/// The kernel makes the next access of its walk over the list of a thread that died. At the walk's end the thread is reaped.
+/// The kernel makes the next access of its walk over the list of a thread that died. At the walk's end the thread is
+/// reaped.
 pub(crate) fn walk_on(
     layout: &Layout,
     memory: &mut PlainMemory,

@@ -16,7 +16,8 @@ use protocol::{Note, Stage, Thread};
 use stepprograms::{Access, Answer, StepProgram};
 use syscalls::Kernel;
 
-/// The thread leaves its queue, if it stands in one. It stands in its call where it goes on when it is woken, so nothing else is to do.
+/// The thread leaves its queue, if it stands in one. It stands in its call where it goes on when it is woken, so
+/// nothing else is to do.
 pub(crate) fn leave(layout: &Layout, kernel: &mut Kernel, thread: Tid) -> Note
     requires { kernel.old.threads ≡ layout.now.threads }
     ensures state { (ws : List ℕ) (ts : List Thread) → SleepsInItsCall (state_at layout.now ws kernel.old ts) thread → state_at layout.now ws kernel.new ts ≡ (happens (state_at layout.now ws kernel.old ts) (Leave thread)).state }
@@ -34,7 +35,8 @@ pub(crate) fn leave(layout: &Layout, kernel: &mut Kernel, thread: Tid) -> Note
     }
 }
 
-/// The next access of the thread's call, where that is a trim, is declined: the call goes on as behind one that cleared nothing.
+/// The next access of the thread's call, where that is a trim, is declined: the call goes on as behind one that cleared
+/// nothing.
 pub(crate) fn decline(
     layout: &Layout,
     kernel: &Kernel,

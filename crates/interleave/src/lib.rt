@@ -1,16 +1,16 @@
 //! The machine of robust mutexes: a schedule of events run over shared words.
 //!
-//! [`Machine::step`] does what the protocol's definition says that an event does, for every event. Its words are a plain
-//! memory, and its threads sleep in a kernel's queues. What holds of every run is the contract of [`Machine::run`]: its points
-//! are one legal history of POSIX robust mutexes. Threads may be killed at any event, and the kernel then walks their robust
-//! lists (get_robust_list(2)): a thread whose walk has ended owns no mutex, and may be renewed, with the same id. A mutex that
-//! has become unusable may be made anew.
-//! [`Machine::alone`] is what one thread would do if no other stepped: after each event no sleeper is stranded, and whoever is
-//! awake comes to rest (`runs_alone`).
+//! [`Machine::step`] does what the protocol's definition says that an event does, for every event. Its words are a
+//! plain memory, and its threads sleep in a kernel's queues. What holds of every run is the contract of
+//! [`Machine::run`]: its points are one legal history of POSIX robust mutexes. Threads may be killed at any event, and
+//! the kernel then walks their robust lists (get_robust_list(2)): a thread whose walk has ended owns no mutex, and may
+//! be renewed, with the same id. A mutex that has become unusable may be made anew. [`Machine::alone`] is what one
+//! thread would do if no other stepped: after each event no sleeper is stranded, and whoever is awake comes to rest
+//! (`runs_alone`).
 //!
-//! Stands on `protocol`, for events, notes and the laws, on `syscalls`, for the memory and the kernel, on `mutex`, `condvar`,
-//! `robustlist` and `exitwalk`, for the programs that it runs, on `buckets`, for who is woken, on `facts`, for notes,
-//! on `memorymap`, for layouts, and on `stepprograms`, `posixmutex` and `lockword`.
+//! Stands on `protocol`, for events, notes and the laws, on `syscalls`, for the memory and the kernel, on `mutex`,
+//! `condvar`, `robustlist` and `exitwalk`, for the programs that it runs, on `buckets`, for who is woken, on `facts`,
+//! for notes, on `memorymap`, for layouts, and on `stepprograms`, `posixmutex` and `lockword`.
 //!
 //! ```text
 //! // One thread, one mutex: the head at 1 to 3, the cell at 4. The thread locks the mutex and is killed.

@@ -22,10 +22,11 @@ use std::alloc::{AllocError, Global};
 use std::marker::Model;
 use syscalls::{Kernel, Memory, PlainMemory};
 
-/// Threads whose calls step over the words of a layout, and sleep on them, one event at a time. A thread may be killed at any event: it leaves its queue,
-/// its call ends where it stands, and its later steps are the accesses of the kernel's walk over its robust list, the
-/// last of which reaps it. A thread that was reaped may be renewed: then it lives anew, with the same id. A mutex that has
-/// become unusable may be made anew by a thread in no call, once nobody sleeps on it.
+/// Threads whose calls step over the words of a layout, and sleep on them, one event at a time. A thread may be killed
+/// at any event: it leaves its queue, its call ends where it stands, and its later steps are the accesses of the
+/// kernel's walk over its robust list, the last of which reaps it. A thread that was reaped may be renewed: then it
+/// lives anew, with the same id. A mutex that has become unusable may be made anew by a thread in no call, once nobody
+/// sleeps on it.
 #[derive(Drop)]
 pub struct Machine {
     layout: Layout,
@@ -141,10 +142,11 @@ impl Machine {
     /// was killed, the renewal of one that wasn't reaped, or the reinit of a mutex that is usable or slept on, is noted
     /// as nothing, and changes nothing.
     ///
-    /// A kill takes the thread out of its queue and ends its call, in one event. Each later step of it is the next access of the kernel's walk; with the last one it is reaped, and
-    /// from then on it owns no mutex, until it is renewed and takes one. A renewal leaves the thread in no call and its
-    /// list empty; it changes no word but the three of its head. A reinit makes an unusable mutex on which nobody sleeps
-    /// free again, by a thread that is in no call; it changes no word but the mutex's, which is 0 then.
+    /// A kill takes the thread out of its queue and ends its call, in one event. Each later step of it is the next
+    /// access of the kernel's walk; with the last one it is reaped, and from then on it owns no mutex, until it is
+    /// renewed and takes one. A renewal leaves the thread in no call and its list empty; it changes no word but the
+    /// three of its head. A reinit makes an unusable mutex on which nobody sleeps free again, by a thread that is in no
+    /// call; it changes no word but the mutex's, which is 0 then.
     pub fn step(&mut self, event: Event) -> Note
         ensures state { state_of self.new ≡ (happens (state_of self.old) event).state }
         ensures note { result ≡ (happens (state_of self.old) event).note }
@@ -166,19 +168,24 @@ impl Machine {
     /// What the events do, one after the other, and a note of each. Where memory is refused, nothing has happened. The
     /// events are any, in any order: begins of calls, steps, kills, leaves, declined trims, renewals and reinits.
     ///
-    /// Of a machine to which nothing has happened, the notes tell a legal history: after each event, the points so far take every mutex, as POSIX sees
-    /// it, from free to what its cell says of its owner, OWNER_DIED and UNUSABLE. And they explain what each thread was told: a call that returned had one point, whose reply it
-    /// returned, between its begin and its return, at events of its own thread, but that a wait which isn't refused had an unlock and then a lock; one that hasn't returned had a beginning of
-    /// its points; and no point belongs to any other call. A reinit is told as a call of one event. What is told of a
-    /// thread is one life after the other, each but the last ended by its reaping, and then its renewal.
-    /// After each event a thread stands in a queue exactly where the last of its sleeps, moves, wakes and kills told so far is a sleep or a move, in that of the mutex or condition
-    /// variable that this names; in each queue they stand in the order in which they came, as it was told, and whoever is woken or moved is the front. No signal and no broadcast passes a
-    /// wait by: a thread that released its mutex in a wait before such a call counted doesn't fall asleep on that condition variable behind it. The event at which a signal returns OK wakes
-    /// the first of its queue, and nobody only where that is empty; the one at which a broadcast does moves all of its queue, and leaves nobody there.
+    /// Of a machine to which nothing has happened, the notes tell a legal history: after each event, the points so far
+    /// take every mutex, as POSIX sees it, from free to what its cell says of its owner, OWNER_DIED and UNUSABLE. And
+    /// they explain what each thread was told: a call that returned had one point, whose reply it returned, between its
+    /// begin and its return, at events of its own thread, but that a wait which isn't refused had an unlock and then a
+    /// lock; one that hasn't returned had a beginning of its points; and no point belongs to any other call. A reinit
+    /// is told as a call of one event. What is told of a thread is one life after the other, each but the last ended by
+    /// its reaping, and then its renewal. After each event a thread stands in a queue exactly where the last of its
+    /// sleeps, moves, wakes and kills told so far is a sleep or a move, in that of the mutex or condition variable that
+    /// this names; in each queue they stand in the order in which they came, as it was told, and whoever is woken or
+    /// moved is the front. No signal and no broadcast passes a wait by: a thread that released its mutex in a wait
+    /// before such a call counted doesn't fall asleep on that condition variable behind it. The event at which a signal
+    /// returns OK wakes the first of its queue, and nobody only where that is empty; the one at which a broadcast does
+    /// moves all of its queue, and leaves nobody there.
     ///
-    /// After each event no sleeper is stranded: whenever a mutex that nobody owns has sleepers, some awake thread, run alone, takes it or wakes one of them within 9,000 steps;
-    /// whoever is awake and runs alone ends its call, falls asleep or is reaped within as many; and a call that no other event divides returns within as many, or sleeps, and replies as
-    /// the object does.
+    /// After each event no sleeper is stranded: whenever a mutex that nobody owns has sleepers, some awake thread, run
+    /// alone, takes it or wakes one of them within 9,000 steps; whoever is awake and runs alone ends its call, falls
+    /// asleep or is reaped within as many; and a call that no other event divides returns within as many, or sleeps,
+    /// and replies as the object does.
     ///
     /// Threads may be killed at any event. A killed thread's call has no later point. Until it is renewed its death is
     /// told, once, of each mutex that it owned when it was killed and has lost since, and of no other. After each event
@@ -220,7 +227,8 @@ impl Machine {
         })
     }
 
-    /// What one thread would do if no other stepped: a copy of this machine after `n` steps of the thread, which are those of its walk where it was killed. This machine stays as it is.
+    /// What one thread would do if no other stepped: a copy of this machine after `n` steps of the thread, which are
+    /// those of its walk where it was killed. This machine stays as it is.
     pub fn alone(&self, alloc: Global, thread: Tid, n: u32) -> Result<Machine, NoMem>
         ensures layout { IfOk result (λ m. m.layout ≡ self.now.layout) }
         ensures state { IfOk result (λ m. state_of m ≡ alone (state_of self.now) thread n) }

@@ -38,8 +38,8 @@ fn is_unusable(layout: &Layout, memory: &PlainMemory, mutex: u16) -> bool
     }
 }
 
-/// The thread makes the mutex anew, if it is in no call, and the mutex is unusable and nobody sleeps on it: its word is 0, as
-/// at first.
+/// The thread makes the mutex anew, if it is in no call, and the mutex is unusable and nobody sleeps on it: its word is
+/// 0, as at first.
 pub(crate) fn reinit(
     layout: &Layout,
     memory: &mut PlainMemory,

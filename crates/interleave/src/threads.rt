@@ -58,7 +58,8 @@ pub(crate) fn stage_after(op: Op, program: &Program, progress: &Progress) -> Sta
     }
 }
 
-/// Where a thread stands after an access of a call on a condition variable. A wait that is awake again is in the lock that ends it.
+/// Where a thread stands after an access of a call on a condition variable. A wait that is awake again is in the lock
+/// that ends it.
 fn stage_at(call: CondCall, program: &CondProgram, progress: &Progress) -> Stage
     ensures { result ≡ stage_at_in call program.now progress.now }
 {
@@ -227,7 +228,8 @@ pub(crate) fn stepped(
     }
 }
 
-/// A thread that doesn't sleep makes the next access of a mutex's program: of its call on the mutex, or of the lock that ends its wait.
+/// A thread that doesn't sleep makes the next access of a mutex's program: of its call on the mutex, or of the lock
+/// that ends its wait.
 fn go_on(
     layout: &Layout,
     memory: &mut PlainMemory,
@@ -308,7 +310,8 @@ fn go_on_at(
     stepped(thread, mutex, queue, &done, &progress)
 }
 
-/// The thread makes the next access of its call, if it is in one and doesn't sleep; or the kernel makes the next one of its walk, if the thread died.
+/// The thread makes the next access of its call, if it is in one and doesn't sleep; or the kernel makes the next one of
+/// its walk, if the thread died.
 fn step(
     layout: &Layout,
     memory: &mut PlainMemory,

@@ -93,7 +93,8 @@ fn can_be_removed(rt: &impl Abort, kernel: &Kernel, id: u8) -> Result<(), Fail> 
     Ok(())
 }
 
-/// Sleepers are moved from bucket 10 to bucket 255, back, and to a key of the same bucket: they stay asleep, in order, and where they stand is known of each.
+/// Sleepers are moved from bucket 10 to bucket 255, back, and to a key of the same bucket: they stay asleep, in order,
+/// and where they stand is known of each.
 #[test]
 fn a_requeue_moves_between_two_buckets(rt: HostRuntime) -> Result<(), Fail> {
     let memory = words(rt.alloc())?;

@@ -1,4 +1,5 @@
-//! A kernel's calls, by threads' ids. Tests make each call here alone: a function that makes one itself sees all that the call promises, and is dear to prove.
+//! A kernel's calls, by threads' ids. Tests make each call here alone: a function that makes one itself sees all that
+//! the call promises, and is dear to prove.
 
 use crate::batches::{has_ids, thread};
 use buckets::Batch;

@@ -1,7 +1,7 @@
 //! The tests of the kernel's half: of `buckets`, `syscalls`, `robustlist` and `exitwalk`.
 //!
-//! They call what those crates offer to everybody. They stand here and not in those crates, since a crate with tests is proved twice, and each change there would
-//! be proved together with them.
+//! They call what those crates offer to everybody. They stand here and not in those crates, since a crate with tests is
+//! proved twice, and each change there would be proved together with them.
 #![tactic(auto)]
 
 #[cfg(test)]

@@ -33,7 +33,8 @@ const STRANGE: [Answer; 8] = [
     Answer::Trimmed(true),
 ];
 
-/// The right answers of a link that finds the entry at 8 first, and beside each one that belongs to the other kind of access.
+/// The right answers of a link that finds the entry at 8 first, and beside each one that belongs to the other kind of
+/// access.
 const LINK: [(Answer, Answer); 5] = [
     (Answer::Value(8), Answer::Stored),
     (Answer::Stored, Answer::Value(8)),

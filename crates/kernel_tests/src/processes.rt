@@ -1,4 +1,5 @@
-//! Futex calls of processes that map the words at bases of their own: words meet by their places, whatever their addresses.
+//! Futex calls of processes that map the words at bases of their own: words meet by their places, whatever their
+//! addresses.
 
 use crate::kernels::{RequeueCall, cmp_requeue, has_sleepers, requeue, trim, wait, wake};
 use lockword::Reply;
@@ -57,7 +58,8 @@ fn of_one(from: u64, to: u64, moved: &'static [u8]) -> RequeueCall {
     }
 }
 
-/// Threads of four processes sleep on word 4, by the addresses 4, 5, 1004 and 1000000004; they are woken and moved in the order in which they fell asleep, from any process.
+/// Threads of four processes sleep on word 4, by the addresses 4, 5, 1004 and 1000000004; they are woken and moved in
+/// the order in which they fell asleep, from any process.
 #[test]
 fn one_place_has_several_addresses(rt: HostRuntime) -> Result<(), Fail> {
     let memory = words(rt.alloc())?;

@@ -221,7 +221,8 @@ fn both_forms(alloc: Global, capacity: usize) -> Result<Forms, Fail>
     })
 }
 
-/// So many calls of either of two buckets, of so many threads. After each one both forms have the same queues. Answers the second bucket.
+/// So many calls of either of two buckets, of so many threads. After each one both forms have the same queues. Answers
+/// the second bucket.
 fn agree(
     rt: &impl Abort,
     mut first: Forms,

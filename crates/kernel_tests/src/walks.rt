@@ -114,7 +114,8 @@ fn a_head_may_be_anywhere(rt: HostRuntime) {
     }
 }
 
-/// A list of 2,049 entries, entry i at 2i + 3 and its mutex's word before it, owned by thread 1; and what a walk does with it.
+/// A list of 2,049 entries, entry i at 2i + 3 and its mutex's word before it, owned by thread 1; and what a walk does
+/// with it.
 #[derive(Clone, Copy)]
 struct Long {
     pending: u64,

@@ -95,7 +95,8 @@ fn lock_dies_before_each_access(rt: HostRuntime) -> Result<(), Fail> {
     Ok(())
 }
 
-/// A thread dies before each access of a lock and an unlock in turn, 15 in all, and its list is walked. Whoever takes the mutex next is told EOWNERDEAD exactly where the dead thread owned it.
+/// A thread dies before each access of a lock and an unlock in turn, 15 in all, and its list is walked. Whoever takes
+/// the mutex next is told EOWNERDEAD exactly where the dead thread owned it.
 #[test]
 fn dies_before_each_access_and_exits(rt: HostRuntime) -> Result<(), Fail> {
     for access in 1..17_u64 {
@@ -113,7 +114,8 @@ fn dies_before_each_access_and_exits(rt: HostRuntime) -> Result<(), Fail> {
     Ok(())
 }
 
-/// An unlock that has nobody to wake clears what it announced once its mutex is free: its last access. It dies before that, or lives; the mutex stays free.
+/// An unlock that has nobody to wake clears what it announced once its mutex is free: its last access. It dies before
+/// that, or lives; the mutex stays free.
 #[test]
 fn unlock_dies_before_its_end(rt: HostRuntime) -> Result<(), Fail> {
     let calls = [OnMutex(TryLock(0)), OnMutex(Unlock(0))];
@@ -142,7 +144,8 @@ impl<R: Wait> Fate for KillsAt<'_, R> {
     }
 }
 
-/// What the next one is told of the mutex where thread 1 is killed right before an access of its lock; None where it lived.
+/// What the next one is told of the mutex where thread 1 is killed right before an access of its lock; None where it
+/// lived.
 fn killed_at<R: Wait>(rt: &R, alloc: Global, access: u32) -> Result<Option<Reply>, Fail> {
     let Team {
         bench,
@@ -171,7 +174,8 @@ fn killed_at<R: Wait>(rt: &R, alloc: Global, access: u32) -> Result<Option<Reply
     Ok(makes(rt, &bench, second, OnMutex(Lock(0)), &mut Never).map(|made| made.1))
 }
 
-/// A lock makes eight accesses. Whoever is killed before one of them doesn't make it: before the fourth it owns the mutex, and the next one is told of its death.
+/// A lock makes eight accesses. Whoever is killed before one of them doesn't make it: before the fourth it owns the
+/// mutex, and the next one is told of its death.
 #[test]
 fn a_thread_dies_before_its_next_access(rt: HostRuntime) -> Result<(), Fail> {
     for access in 1..=9_u32 {

@@ -25,7 +25,8 @@ static IN_THE_NEXT_CALL: [Step; 7] = [
     Calls(Second, OnMutex(Lock(1)), Some(OK)),
 ];
 
-/// A thread that was killed dies in its next call; what it held is marked, and what it was about to take isn't touched. A second kill changes nothing.
+/// A thread that was killed dies in its next call; what it held is marked, and what it was about to take isn't touched.
+/// A second kill changes nothing.
 #[test]
 fn a_thread_dies_in_its_next_call(rt: HostRuntime) -> Result<(), Fail> {
     let left = plays(
@@ -69,7 +70,8 @@ static PROCESS_1: [Step; 6] = [
     Calls(Third, OnMutex(Lock(1)), Some(OK)),
 ];
 
-/// A process is killed: the calls of its threads end, what one of them held is told to a thread of the other process, and that goes on.
+/// A process is killed: the calls of its threads end, what one of them held is told to a thread of the other process,
+/// and that goes on.
 #[test]
 fn a_process_is_killed(rt: HostRuntime) -> Result<(), Fail> {
     let layout = Layout::with_processes(&[0, 1, 0, 1, 0], &[0, 1000], 2, &[])?;
@@ -80,7 +82,8 @@ fn a_process_is_killed(rt: HostRuntime) -> Result<(), Fail> {
 
 static ANOTHER_THREAD: [Step; 2] = [Kills(28), Calls(First, OnMutex(Lock(0)), Some(OK))];
 
-/// The note of a kill is that of its thread alone: the first of the last five of 64 threads, with the id 60, lives where 28 is killed.
+/// The note of a kill is that of its thread alone: the first of the last five of 64 threads, with the id 60, lives
+/// where 28 is killed.
 #[test]
 fn another_thread_is_killed(rt: HostRuntime) -> Result<(), Fail> {
     let left = plays(

@@ -28,7 +28,8 @@ struct Board {
     alone: AtomicU64,
 }
 
-/// How the owner leaves two sleepers. It had the mutex from a dead owner where it spoils it: it frees it without declaring it consistent.
+/// How the owner leaves two sleepers. It had the mutex from a dead owner where it spoils it: it frees it without
+/// declaring it consistent.
 #[derive(Clone, Copy, PartialEq, Eq)]
 enum End {
     /// It dies before its next access.
@@ -66,7 +67,8 @@ impl End {
     }
 }
 
-/// A sleeper's part: it locks, looks whether the other one sleeps on if the owner has died, declares what it repaired consistent, and unlocks. What its lock was told.
+/// A sleeper's part: it locks, looks whether the other one sleeps on if the owner has died, declares what it repaired
+/// consistent, and unlocks. What its lock was told.
 fn follows<R: Wait + Clock>(
     rt: &R,
     bench: &Bench,
@@ -180,7 +182,8 @@ fn has<R: Wait>(rt: &R, bench: &Bench, pass: Pass<Live>, mutex: u16) -> Option<P
     makes(rt, bench, pass, OnMutex(Lock(mutex)), &mut Never).map(|made| made.0)
 }
 
-/// The third of a team owns both mutexes, the first of which its first had and died with if it is to be spoiled, and the last two sleep.
+/// The third of a team owns both mutexes, the first of which its first had and died with if it is to be spoiled, and
+/// the last two sleep.
 fn played<R: Threads + Wait + Clock + Sync>(
     rt: &R,
     alloc: Global,
@@ -226,7 +229,8 @@ fn played<R: Threads + Wait + Clock + Sync>(
     }))
 }
 
-/// The owner dies while two sleep: the walk wakes one of them, which is told so, declares the mutex consistent and frees it, and only then the other one is woken.
+/// The owner dies while two sleep: the walk wakes one of them, which is told so, declares the mutex consistent and
+/// frees it, and only then the other one is woken.
 #[test]
 fn both_sleepers_of_a_dead_owner_wake(rt: HostRuntime) -> Result<(), Fail> {
     for _ in 0..5_u32 {
@@ -258,7 +262,8 @@ fn sleepers_of_both_mutexes_wake(rt: HostRuntime) -> Result<(), Fail> {
     Ok(())
 }
 
-/// The mutex becomes unusable while two sleep on it: both are woken, and told so. Where its owner dies before it wakes them, the walk wakes one, whose lock finds the mutex unusable and wakes the other.
+/// The mutex becomes unusable while two sleep on it: both are woken, and told so. Where its owner dies before it wakes
+/// them, the walk wakes one, whose lock finds the mutex unusable and wakes the other.
 #[test]
 fn both_sleepers_of_a_spoiled_mutex_are_told(rt: HostRuntime) -> Result<(), Fail> {
     for end in [End::Spoils, End::SpoilsAndDies] {

@@ -185,7 +185,8 @@ fn played<R: Threads + Wait + Clock + Sync>(
     })
 }
 
-/// A sleeper is killed while the mutex is owned: its call ends, and the mutex can be had by a third thread. The owner's unlock found nobody to wake, and trimmed the cell: WAITERS isn't there any more.
+/// A sleeper is killed while the mutex is owned: its call ends, and the mutex can be had by a third thread. The owner's
+/// unlock found nobody to wake, and trimmed the cell: WAITERS isn't there any more.
 #[test]
 fn a_sleeper_is_killed(rt: HostRuntime) -> Result<(), Fail> {
     let want = Story {
@@ -237,7 +238,8 @@ fn whoever_is_about_to_sleep_is_killed(rt: HostRuntime) -> Result<(), Fail> {
     Ok(())
 }
 
-/// How many buckets a bench has. As many mutexes have their sleepers in as many buckets, since 3 words lie between two cells.
+/// How many buckets a bench has. As many mutexes have their sleepers in as many buckets, since 3 words lie between two
+/// cells.
 const BUCKETS: u16 = 256;
 
 /// A sleeper is found, whichever bucket it stands in.
@@ -283,7 +285,8 @@ fn the_last_of_64_threads_is_killed_in_a_high_bucket(rt: HostRuntime) -> Result<
     Ok(())
 }
 
-/// Twenty times: what the sleeper is told of its owner's fate, which has the mutex then. Whoever takes a mutex leaves WAITERS where it stands.
+/// Twenty times: what the sleeper is told of its owner's fate, which has the mutex then. Whoever takes a mutex leaves
+/// WAITERS where it stands.
 fn always<R: Threads + Wait + Clock + Sync>(
     rt: &R,
     alloc: Global,

@@ -1,9 +1,9 @@
-//! Lines of text, their words, and the numbers that words write: what the reader of scripts and the judge of traces have in
-//! common.
+//! Lines of text, their words, and the numbers that words write: what the reader of scripts and the judge of traces
+//! have in common.
 //!
-//! A text is UTF-8. Each of its lines ends with a line feed, and the words of a line stand between single spaces. [`text_of`]
-//! tells the line of the first byte that is no part of a text, [`cut`] takes the first line or word off, [`words_in`] gives all
-//! words of a line, and [`number_in`] the number that a word writes.
+//! A text is UTF-8. Each of its lines ends with a line feed, and the words of a line stand between single spaces.
+//! [`text_of`] tells the line of the first byte that is no part of a text, [`cut`] takes the first line or word off,
+//! [`words_in`] gives all words of a line, and [`number_in`] the number that a word writes.
 //!
 //! Stands on no other crate.
 //!

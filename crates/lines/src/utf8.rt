@@ -13,7 +13,8 @@ fn line_at(bytes: &[u8], len: usize) -> usize
     bytes[..len].iter().filter(|b| **b == b'\n').count() + 1
 }
 
-/// The text that the bytes are; where they aren't UTF-8, the line of the first byte that is no part of a character, from 1.
+/// The text that the bytes are; where they aren't UTF-8, the line of the first byte that is no part of a character,
+/// from 1.
 pub fn text_of(bytes: &[u8]) -> Result<&str, usize>
     requires small { length bytes.now < 2 ^ 32 }
     ensures { MatchResult result

@@ -79,7 +79,8 @@ impl Cell {
         self.word() & UNUSABLE != 0
     }
 
-    /// WAITERS is all that it says: nobody owns it, and it can be locked. Where nobody sleeps on it, nothing is lost if it becomes 0.
+    /// WAITERS is all that it says: nobody owns it, and it can be locked. Where nobody sleeps on it, nothing is lost if
+    /// it becomes 0.
     pub fn trimmable(self) -> bool
         ensures { result ≡ trimmable self }
     {

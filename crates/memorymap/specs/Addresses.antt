@@ -1,4 +1,5 @@
--- Addresses and places: a process maps the words at a base, and there the word at place x has the address base + x, modulo 2^64.
+-- Addresses and places: a process maps the words at a base, and there the word at place x has the address base + x,
+-- modulo 2^64.
 use Rattle.std.specs.Prelude.{ℕ, ◌≡◌, ◌+◌, ◌-◌, ◌%◌, ◌^◌, ◌<◌, ◌==◌, if◌then◌else◌}
 
 -- the address of a place as it is seen from a base
@@ -17,7 +18,8 @@ words_from base words at = words (seen_at base at)
 abbrev pub AddressesAreSeen : Type 0
 AddressesAreSeen = (base n : ℕ) → base < 2 ^ 64 → n < 2 ^ 64 → (seen_at base (address_from base n) ≡ n) × (address_from base (seen_at base n) ≡ n)
 
--- a write at an address, which is one at its place, changes the words as they are seen from the base at that address alone
+-- a write at an address, which is one at its place, changes the words as they are seen from the base at that address
+-- alone
 abbrev pub WritesAreSeen : Type 0
 WritesAreSeen =
     (base : ℕ) (words : ℕ → ℕ) (a v x : ℕ) → base < 2 ^ 64 → a < 2 ^ 64 → x < 2 ^ 64

@@ -2,7 +2,8 @@
 use Rattle.std.specs.Prelude.{ℕ, ◌≡◌, ◌+◌, ◌-◌, ◌*◌, ◌/◌, ◌%◌, ◌<◌, ◌≤◌, ◌==◌, ◌&&◌, Bool, nat_le, nat_lt, List, [], ◌∷◌, length, replicate, slice_index, All, if◌then◌else◌}
 use Rattle.memorymap.specs.Addresses.{address_from, seen_at}
 
--- so many threads and mutexes, and for each condition variable the number of its mutex; for each thread the number of its process, and the base at which each process maps the words
+-- so many threads and mutexes, and for each condition variable the number of its mutex; for each thread the number of
+-- its process, and the base at which each process maps the words
 pub record Layout' : Type 0 where
   pub threads : ℕ
   pub mutexes : ℕ
@@ -10,7 +11,8 @@ pub record Layout' : Type 0 where
   pub processes : List ℕ
   pub bases : List ℕ
 
--- what a layout may be: 1 to 64 threads, 1 to 4,096 mutexes, at most 256 condition variables, each of one of the mutexes
+-- what a layout may be: 1 to 64 threads, 1 to 4,096 mutexes, at most 256 condition variables, each of one of the
+-- mutexes
 abbrev pub HasThreads : ℕ → Type 0
 HasThreads threads = (1 ≤ threads) × (threads ≤ 64)
 
@@ -93,7 +95,8 @@ cell_offset = 18446744073709551615
 abbrev pub thread_of : ℕ → ℕ
 thread_of p = (p - 1) / 3 + 1
 
--- a head at first: its own address, as its thread's process has it, for the first entry, the offset, and no pending entry
+-- a head at first: its own address, as its thread's process has it, for the first entry, the offset, and no pending
+-- entry
 abbrev pub head_word : Layout' → ℕ → ℕ
 head_word l p = if p % 3 == 1 then address_in l (thread_of p) p else if p % 3 == 2 then cell_offset else 0
 

@@ -1,4 +1,5 @@
-//! Keys: a word's sleepers are filed under its key, which is the same in every process (futex(2)); and the bucket of a key.
+//! Keys: a word's sleepers are filed under its key, which is the same in every process (futex(2)); and the bucket of a
+//! key.
 ghost use Rattle.std.specs.Prelude.{◌≡◌, ◌<◌, ◌%◌};
 
 /// The key of a word. Sleepers on one shared word meet by its place (futex(2), shared futexes).

@@ -45,11 +45,13 @@ pub enum LayoutFault {
 
 /// How many threads, mutexes and condition variables share the words, and where each word lies.
 ///
-/// Word 0 is null. Each thread has a robust-list head of three words (get_robust_list(2)): first entry, offset, pending entry. Each
-/// mutex has three: its cell, and its entry's links to the next and the previous one. Each condition variable has a counter.
+/// Word 0 is null. Each thread has a robust-list head of three words (get_robust_list(2)): first entry, offset, pending
+/// entry. Each mutex has three: its cell, and its entry's links to the next and the previous one. Each condition
+/// variable has a counter.
 ///
-/// The threads belong to processes. Each process maps the words at a base of its own: there, the word at a place has the address base + place,
-/// modulo 2^64. Heads, links and pending entries hold such addresses, those of the process of the thread that wrote them.
+/// The threads belong to processes. Each process maps the words at a base of its own: there, the word at a place has
+/// the address base + place, modulo 2^64. Heads, links and pending entries hold such addresses, those of the process of
+/// the thread that wrote them.
 #[derive(Debug, Drop)]
 pub struct Layout {
     threads: u8,
@@ -80,8 +82,9 @@ impl Model for Layout {
 }
 
 impl Layout {
-    /// A layout of 1 to 64 threads, 1 to 4,096 mutexes and at most 256 condition variables, each given by the number of its mutex. All threads are
-    /// of one process, which maps the words at 0: every address is a place. Refused otherwise, with the first fault in the order of `LayoutFault`.
+    /// A layout of 1 to 64 threads, 1 to 4,096 mutexes and at most 256 condition variables, each given by the number of
+    /// its mutex. All threads are of one process, which maps the words at 0: every address is a place. Refused
+    /// otherwise, with the first fault in the order of `LayoutFault`.
     pub fn new(threads: u8, mutexes: u16, conditions: &[u16]) -> Result<Layout, LayoutFault>
         ensures { Lays threads mutexes conditions.now result }
     {
@@ -92,9 +95,10 @@ impl Layout {
         Layout::with_processes(&processes[..threads as usize], &[0], mutexes, conditions)
     }
 
-    /// A layout of 1 to 64 threads, each given by the number of its process, from 0; of 1 to 8 processes, each given by the base at which it maps the
-    /// words, at most 1,000,000,000; of 1 to 4,096 mutexes, and of at most 256 condition variables, each given by the number of its mutex.
-    /// Refused otherwise, with the first fault in the order of `LayoutFault`.
+    /// A layout of 1 to 64 threads, each given by the number of its process, from 0; of 1 to 8 processes, each given by
+    /// the base at which it maps the words, at most 1,000,000,000; of 1 to 4,096 mutexes, and of at most 256 condition
+    /// variables, each given by the number of its mutex. Refused otherwise, with the first fault in the order of
+    /// `LayoutFault`.
     pub fn with_processes(
         threads: &[u8],
         bases: &[u64],
@@ -303,8 +307,9 @@ impl Layout {
         }
     }
 
-    /// The word at a place before anything has happened, every counter being 0: each head's first entry is the head itself, by its address in its
-    /// thread's process, and its offset is -1 (get_robust_list(2)). It is 0 where there is no such place.
+    /// The word at a place before anything has happened, every counter being 0: each head's first entry is the head
+    /// itself, by its address in its thread's process, and its offset is -1 (get_robust_list(2)). It is 0 where there
+    /// is no such place.
     pub fn first_word(&self, place: u64) -> u64
         ensures { result ≡ first_word self.now (λ c. 0) place }
     {

@@ -1,13 +1,13 @@
 //! Where the shared words lie, and by what address each process finds them.
 //!
 //! [`Layout`] gives each word its place: robust-list heads, the cells and links of mutexes, the counters of condition
-//! variables. Valid places are pairwise different (`places_differ`). Threads belong to processes, each of which maps the words
-//! at a base of its own: programs speak of words by their addresses there (`addresses_are_sums`, `addresses_are_seen`,
-//! `writes_are_seen`). Sleepers meet by a word's [`Key`], which every process has alike. `specs/Chains.antt` says what a robust
-//! list is, as the kernel finds it through words.
+//! variables. Valid places are pairwise different (`places_differ`). Threads belong to processes, each of which maps
+//! the words at a base of its own: programs speak of words by their addresses there (`addresses_are_sums`,
+//! `addresses_are_seen`, `writes_are_seen`). Sleepers meet by a word's [`Key`], which every process has alike.
+//! `specs/Chains.antt` says what a robust list is, as the kernel finds it through words.
 //!
-//! Stands on `lockword`, for thread ids, and on `thiserror`, for the messages of what is refused. [`NoMem`], want of memory, is
-//! here for all crates above.
+//! Stands on `lockword`, for thread ids, and on `thiserror`, for the messages of what is refused. [`NoMem`], want of
+//! memory, is here for all crates above.
 //!
 //! ```text
 //! // Thread 1 is of process 0 and thread 2 of process 1, which map the words at 1,000 and at 2,000.

@@ -13,7 +13,8 @@ use Rattle.mutex.specs.declared.row.Row.{Row}
 use Rattle.mutex.specs.declared.row.Row.TheVariants.{Lock, TryLock, Unlock, Consistent, Ended}
 use Rattle.mutex.specs.declared.row.Led.{Led}
 
--- whoever stands there takes the mutex, or wakes one that sleeps on it, unless it finds it owned: a lock, and an unlock behind its release
+-- whoever stands there takes the mutex, or wakes one that sleeps on it, unless it finds it owned: a lock, and an unlock
+-- behind its release
 abbrev pub answers_for : Row → Bool
 answers_for (Lock r) = true
 answers_for (Unlock (unlock.Wake all)) = true
@@ -36,7 +37,8 @@ left (Consistent consistent.Load) w = 2
 left (Consistent consistent.Declare) w = 1
 left (Ended x) w = 0
 
--- a call of thread t that no other event divided meets the word that it saw last, which was no cell of its own where it goes to sleep; so it is never raced
+-- a call of thread t that no other event divided meets the word that it saw last, which was no cell of its own where it
+-- goes to sleep; so it is never raced
 abbrev pub Steady : ℕ → Row → ℕ → Type 0
 Steady t (Lock (lock.Take v)) w = w ≡ word_of v
 Steady t (Lock (lock.SetWaiters v)) w = (w ≡ word_of v) × (v.owner ≢ t)
@@ -53,7 +55,8 @@ is_wake a = false
 abbrev pub KeepsWaiters : ℕ → List ℕ → ℕ → Type 0
 KeepsWaiters w q w' = (fields_of w).waiters ≡ true → ((fields_of w').waiters ≡ true) ⊎ ((q ≡ []) × ((fields_of w).owner ≡ 0))
 
--- one access of a call of thread t at row r, which meets the word w, on which those of q sleep, leaves the word w' and leads to l
+-- one access of a call of thread t at row r, which meets the word w, on which those of q sleep, leaves the word w' and
+-- leads to l
 pub record Alone (t : ℕ) (r : Row) (a : Access) (l : Led) (w : ℕ) (q : List ℕ) (w' : ℕ) : Type 0 where
   pub waiters : KeepsWaiters w q w'
   -- it falls asleep only on a cell that is owned and has WAITERS

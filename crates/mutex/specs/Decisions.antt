@@ -48,7 +48,8 @@ ArePermitted p c (a ∷ answers) = IsPermittedFor p (or_before (met_in p.phase a
 pub record WholeCallsAreDecided : Type 0 where
   -- one that returned, and not for a fault, has exactly one point, whose reply it returned
   pub once : (l : Layout') (t : ℕ) (c : Call) (answers : List Answer) (x : Reply) → (whole_reached (begins l t c) answers).phase ≡ Ended x → x ≢ EFAULT → decided_by (begins l t c) answers ≡ x ∷ []
-  -- its point's reply, a release's and a declaration's too, is one that the object permits for the cell that it met there, or met last before
+  -- its point's reply, a release's and a declaration's too, is one that the object permits for the cell that it met
+  -- there, or met last before
   pub permitted : (l : Layout') (t : ℕ) (c : Call) (answers : List Answer) → 1 ≤ t → ArePermitted (begins l t c) None answers
   -- it returns EFAULT exactly after an answer that its access doesn't have
   pub faulted : (l : Layout') (t : ℕ) (c : Call) (answers : List Answer) (a : Answer) → IsUnderWay (whole_reached (begins l t c) answers).phase → ¬ IsAnswerOf (whole_access (whole_reached (begins l t c) answers)) a

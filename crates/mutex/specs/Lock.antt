@@ -7,7 +7,8 @@
 -- | Sleep      | sleep where the futex word is as seen        | Load, at once where it differs, and else when woken
 -- | WakeAll    | wake all sleepers of an unusable mutex       | returns ENOTRECOVERABLE
 --
--- Decide: unusable is ENOTRECOVERABLE, then WakeAll where WAITERS is set; the thread's own is EDEADLK; unowned is Take; another's is Sleep where WAITERS is set, and else SetWaiters.
+-- Decide: unusable is ENOTRECOVERABLE, then WakeAll where WAITERS is set; the thread's own is EDEADLK; unowned is Take;
+-- another's is Sleep where WAITERS is set, and else SetWaiters.
 use Rattle.std.specs.Prelude.{ℕ, ◌==◌, if◌then◌else◌}
 use Rattle.lockword.specs.Cells.{Fields, word_of, low_of, fields_of, taken, waiting}
 use Rattle.lockword.specs.declared.reply.Reply.TheVariants.{EDEADLK, ENOTRECOVERABLE}

@@ -10,7 +10,8 @@ pub record Standing : Type 0 where
   pub cell : ℕ
   pub row : Row
 
--- a whole call: whose it is and what it does to the mutex, the addresses of the thread's head and of the mutex's entry and cell, and where it stands
+-- a whole call: whose it is and what it does to the mutex, the addresses of the thread's head and of the mutex's entry
+-- and cell, and where it stands
 pub record Whole : Type 0 where
   pub thread : ℕ
   pub operation : Operation

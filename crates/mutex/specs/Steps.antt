@@ -38,8 +38,9 @@ rank (Consistent consistent.Load) = 2
 rank (Consistent consistent.Declare) = 1
 rank r = 0
 
--- what the row after an access says of the cell that it met: a release that has somebody to wake found WAITERS there and OWNER_DIED as its row tells; one that has nobody found no WAITERS; an
--- unlock that isn't refused has no other end; and no step leads to a trim, only a wake does
+-- what the row after an access says of the cell that it met: a release that has somebody to wake found WAITERS there
+-- and OWNER_DIED as its row tells; one that has nobody found no WAITERS; an unlock that isn't refused has no other end;
+-- and no step leads to a trim, only a wake does
 abbrev pub Tells : Operation → Row → Fields → Type 0
 Tells op (Unlock (unlock.Wake all)) c = (c.waiters ≡ true) × (c.died ≡ all)
 Tells op (Unlock unlock.Trim) c = ⊥
@@ -48,7 +49,8 @@ Tells operation.Unlock (Ended EPERM) c = Unit {0}
 Tells operation.Unlock (Ended x) c = ⊥
 Tells op r c = Unit {0}
 
--- one step of a call at row r, which meets the word w, leaves the word w' and leads to l: what its next row says of the cell met is so, WAITERS stays, the bits above the flags stay clear, and but for a lock fewer steps are left
+-- one step of a call at row r, which meets the word w, leaves the word w' and leads to l: what its next row says of the
+-- cell met is so, WAITERS stays, the bits above the flags stay clear, and but for a lock fewer steps are left
 pub record Minds (r : Row) (l : Led) (w w' : ℕ) : Type 0 where
   pub tells : Tells (row_operation r) l.row (fields_of w)
   pub waiters : (fields_of w).waiters ≡ true → (fields_of w').waiters ≡ true

@@ -1,4 +1,5 @@
--- Whom a call on a mutex wakes (pthread_mutex_unlock(3p); pthread_mutexattr_getrobust(3p), for ENOTRECOVERABLE; FUTEX_WAKE in futex(2)).
+-- Whom a call on a mutex wakes (pthread_mutex_unlock(3p); pthread_mutexattr_getrobust(3p), for ENOTRECOVERABLE;
+-- FUTEX_WAKE in futex(2)).
 use Rattle.std.specs.Prelude.{ℕ, ◌≡◌, ◌↔◌, ◌≤◌, Bool, true, Option, Some, List, if◌then◌else◌}
 use Rattle.lockword.specs.Cells.{fields_of}
 use Rattle.lockword.specs.declared.reply.Reply.{Reply}
@@ -18,18 +19,21 @@ use Rattle.mutex.specs.Laws.{Sound, Expects}
 abbrev pub everybody : ℕ
 everybody = 64
 
--- how many sleepers are to learn of a mutex that was left so: one, who may take it; of an unusable one each, since nobody takes that again
+-- how many sleepers are to learn of a mutex that was left so: one, who may take it; of an unusable one each, since
+-- nobody takes that again
 abbrev pub to_wake : Object → ℕ
 to_wake o = if o.unusable then everybody else 1
 
--- behind an access that was the point of a call with this reply, that met a word with WAITERS or without, and that left the mutex so, the call wakes n sleepers: behind a release, and where a lock found the
--- mutex unusable. No other call wakes anybody
+-- behind an access that was the point of a call with this reply, that met a word with WAITERS or without, and that left
+-- the mutex so, the call wakes n sleepers: behind a release, and where a lock found the mutex unusable. No other call
+-- wakes anybody
 abbrev pub Wakes : Operation → Option Reply → Bool → Object → ℕ → Type 0
 Wakes Unlock (Some OK) true o n = n ≡ to_wake o
 Wakes Lock (Some ENOTRECOVERABLE) true o n = n ≡ to_wake o
 Wakes op x w o n = ⊥
 
--- whatever word an access meets, and whoever sleeps on it, the next one is a wake of n sleepers exactly there, and of those on the mutex's cell
+-- whatever word an access meets, and whoever sleeps on it, the next one is a wake of n sleepers exactly there, and of
+-- those on the mutex's cell
 abbrev pub WakesAreRight : Type 0
 WakesAreRight = (t cell w at n : ℕ) (queue : List ℕ) (r : Row) → 1 ≤ t → t ≤ 64 → IsGoing r → Knows r → Sound (object_of (fields_of w)) → Expects t r (object_of (fields_of w))
     → (row_access t cell (resume_of t r (answer_among (row_access t cell r) w queue)).row ≡ access.Wake at n)

@@ -1,5 +1,5 @@
--- A whole call, access by access: what it does at its mutex's cell, and around that at its thread's robust list, so that the kernel finds at any moment what the thread owns (robust-futexes, its ABI
--- document; get_robust_list(2)).
+-- A whole call, access by access: what it does at its mutex's cell, and around that at its thread's robust list, so
+-- that the kernel finds at any moment what the thread owns (robust-futexes, its ABI document; get_robust_list(2)).
 --
 -- | stands at  | access                             | then
 -- | Announcing | store the entry as the pending one | AtCell; a release goes by Unlinking
@@ -8,7 +8,8 @@
 -- | Unlinking  | that of the unlink's row           | out of the list: AtCell, to release
 -- | Clearing   | store 0 as the pending entry       | returns
 --
--- A lock or trylock begins by Announcing. An unlock announces when it has seen that the mutex is its thread's; a declaration that it is consistent never does.
+-- A lock or trylock begins by Announcing. An unlock announces when it has seen that the mutex is its thread's; a
+-- declaration that it is consistent never does.
 use Rattle.std.specs.Prelude.{ℕ, ◌&&◌, Bool, nat_le, Option, Some, None, Result, Ok, Err, if◌then◌else◌}
 use Rattle.lockword.specs.declared.reply.Reply.{Reply}
 use Rattle.lockword.specs.declared.reply.Reply.TheVariants.{OK, EFAULT, EOWNERDEAD, XHELD}
@@ -114,12 +115,14 @@ whole_access p = phase_access p p.phase
 
 -- ---- where each answer leads
 
--- a call whose entry is pending goes on at the cell; one that is to release the mutex first takes the entry out of the list
+-- a call whose entry is pending goes on at the cell; one that is to release the mutex first takes the entry out of the
+-- list
 abbrev pub announced : Whole → Row → Phase
 announced p (row.Unlock (Release d)) = Unlinking (unlink_started p.head p.entry) d
 announced p r = AtCell r
 
--- a call that is through with the cell: a mutex that was taken is put on the list, and an entry that is pending is cleared
+-- a call that is through with the cell: a mutex that was taken is put on the list, and an entry that is pending is
+-- cleared
 abbrev pub leaving : Whole → Operation → Reply → Phase
 leaving p op EFAULT = Ended EFAULT
 leaving p operation.Lock OK = Linking (link_started p.head p.entry) OK

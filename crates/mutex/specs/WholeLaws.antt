@@ -60,7 +60,8 @@ IsAtCell f = ⊥
 
 -- how many sleepers a whole call wakes, and where: as `Wakes` says of its rows
 pub record WholeCallsWake : Type 0 where
-  -- after an access at its mutex's cell, whatever word that meets and whoever sleeps there, the next one is a wake exactly where its point asks for one, of so many, and of those on the mutex's cell
+  -- after an access at its mutex's cell, whatever word that meets and whoever sleeps there, the next one is a wake
+  -- exactly where its point asks for one, of so many, and of those on the mutex's cell
   pub at_the_cell : (p : Whole) (r : Row) (w at n : ℕ) (queue : List ℕ) → IsWhole p → p.thread ≤ 64 → p.phase ≡ AtCell r → IsGoing r → Sound (object_of (fields_of w)) → Expects p.thread r (object_of (fields_of w))
       → WakesNext p (answer_among (whole_access p) w queue) at n
       ↔ ((at ≡ p.cell) × Wakes p.operation (whole_led p (answer_among (whole_access p) w queue)).point (fields_of w).waiters (object_of (fields_of (word_among (whole_access p) w queue))) n)

@@ -1,4 +1,5 @@
--- A thread's robust list through a whole call: what the words say that the thread alone writes, its head's and the links of the mutexes that it owns (robust-futexes; robust-futex-ABI).
+-- A thread's robust list through a whole call: what the words say that the thread alone writes, its head's and the
+-- links of the mutexes that it owns (robust-futexes; robust-futex-ABI).
 --
 -- `w a` is such a word at the address a in the thread's process. `owns k` tells whether the thread owns mutex k.
 use Rattle.std.specs.Prelude.{ℕ, ◌≡◌, ◌≢◌, ◌<◌, ◌≤◌, ◌+◌, ◌⊎◌, Bool, true, false, Option, Some, None, List}
@@ -33,7 +34,8 @@ head_in l t = address_in l t (head_place t)
 abbrev pub entry_in : Layout' → ℕ → ℕ → ℕ
 entry_in l t k = address_in l t (entry_place l k)
 
--- the place of a word that the thread alone writes: its head's first entry or pending one, or a link of a mutex that it owns
+-- the place of a word that the thread alone writes: its head's first entry or pending one, or a link of a mutex that it
+-- owns
 abbrev pub IsOwnPlace : Layout' → ℕ → (ℕ → Bool) → ℕ → Type 0
 IsOwnPlace l t owns p = (p ≡ head_place t) ⊎ ((p ≡ head_place t + 2) ⊎ (k : ℕ) × (k < l.mutexes) × ((p ≡ entry_place l k) ⊎ (p ≡ entry_place l k + 1)) × (owns k ≡ true))
 
@@ -51,7 +53,8 @@ pub record Entries (l : Layout') (t : ℕ) (owns : ℕ → Bool) (out : Option �
   pub each : (x : ℕ) → IsAmong x es → (k : ℕ) × (k < l.mutexes) × (x ≡ entry_in l t k) × (owns k ≡ true) × (out ≢ Some k)
   pub all : (k : ℕ) → k < l.mutexes → owns k ≡ true → out ≢ Some k → IsAmong (entry_in l t k) es
 
--- between calls: from the head the words lead over just the mutexes that the thread owns, both ways, and no entry is pending
+-- between calls: from the head the words lead over just the mutexes that the thread owns, both ways, and no entry is
+-- pending
 pub record HasList (l : Layout') (t : ℕ) (owns : ℕ → Bool) (w : ℕ → ℕ) : Type 0 where
   pub entries : List ℕ
   pub owned : Entries l t owns None entries
@@ -70,7 +73,8 @@ IsChainedIn w h e es (Linking l x) = IsLinking h e es l.row w
 IsChainedIn w h e es (Unlinking u d) = IsUnlinking h e es u.row w
 IsChainedIn w h e es f = IsChainBothWays w h es
 
--- the entry that is pending: that of the call's mutex, from before the cell is looked at with the intent to take it, or before it is released
+-- the entry that is pending: that of the call's mutex, from before the cell is looked at with the intent to take it, or
+-- before it is released
 abbrev pub pending_at_row : ℕ → Row → ℕ
 pending_at_row e (row.Lock r) = e
 pending_at_row e (row.TryLock r) = e
@@ -149,7 +153,8 @@ owns_after own op x = own
 abbrev pub AgreeOnOwn : Layout' → ℕ → (ℕ → Bool) → (ℕ → Bool) → (ℕ → ℕ) → (ℕ → ℕ) → Type 0
 AgreeOnOwn l t owns owns' w w' = (p : ℕ) → IsOwnPlace l t owns p → IsOwnPlace l t owns' p → w' (address_in l t p) ≡ w (address_in l t p)
 
--- what the kernel finds of a thread that dies: next words lead from its head over mutexes that it owned, and back, and each that it owned is one of these or the pending one (get_robust_list(2))
+-- what the kernel finds of a thread that dies: next words lead from its head over mutexes that it owned, and back, and
+-- each that it owned is one of these or the pending one (get_robust_list(2))
 pub record CanBeWalked (l : Layout') (t : ℕ) (owns : ℕ → Bool) (w : ℕ → ℕ) : Type 0 where
   pub entries : List ℕ
   pub chain : IsChain w (head_in l t) entries
@@ -166,7 +171,8 @@ pub record IsThere (l : Layout') (t m : ℕ) : Type 0 where
   pub last : t ≤ l.threads
   pub mutex : m < l.mutexes
 
--- what the thread owns after an access at the mutex's cell, which led there: no other mutex came or went; it had not owned what it took, and it owns what it is to release
+-- what the thread owns after an access at the mutex's cell, which led there: no other mutex came or went; it had not
+-- owned what it took, and it owns what it is to release
 pub record Owns (m : ℕ) (op : Operation) (led : Led) (owns owns' : ℕ → Bool) : Type 0 where
   pub here : owns' m ≡ owns_after (owns m) op led.point
   pub elsewhere : (k : ℕ) → k ≢ m → owns' k ≡ owns k

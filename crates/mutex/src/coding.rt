@@ -22,7 +22,8 @@ use robustlist::{Link, LinkRow, Unlink, UnlinkRow};
 /// How far below its own kind the kind of a row stands once its entry is pending.
 const ANNOUNCED: u8 = 32;
 
-/// Where a call on a mutex stands, as plain numbers, for whoever keeps it outside Rattle: in C, or in a file that processes share.
+/// Where a call on a mutex stands, as plain numbers, for whoever keeps it outside Rattle: in C, or in a file that
+/// processes share.
 ///
 /// `kind` names the phase and its row; `specs/Codings.antt` has the table. What that phase doesn't carry is 0.
 #[repr(C)]
@@ -66,7 +67,8 @@ impl CodedPhase {
         }
     }
 
-    /// The phase whose numbers these are, of a call that hasn't returned, whose head and entry are at these addresses; `None` where no such phase has them.
+    /// The phase whose numbers these are, of a call that hasn't returned, whose head and entry are at these addresses;
+    /// `None` where no such phase has them.
     #[inline(always)]
     pub fn phase(&self, head: u64, entry: u64) -> Option<Phase>
         ensures has_these { IfSome result (λ f. IsUnderWay f × PhaseKnows f × LiesAt head entry f × (phase_code f ≡ self.now)) }

@@ -5,7 +5,8 @@ ghost use Rattle.mutex.specs.WholeLaws.{WholeCallsAreRight, WholeCallsWake, Whol
 ghost use Rattle.mutex.specs.WholeLists.{WholeListsAreKept};
 ghost use Rattle.mutex.specs.Decisions.{WholeCallsAreDecided};
 
-/// Whatever word an access of a call meets, it is a step of the mutex as POSIX sees it, and leaves what the call's next access needs.
+/// Whatever word an access of a call meets, it is a step of the mutex as POSIX sees it, and leaves what the call's next
+/// access needs.
 pub fn programs_are_right()
     ensures { ProgramsAreRight }
 {}
@@ -21,14 +22,16 @@ pub fn unlocks_trim_after_waking_nobody()
     ensures whole { WholeUnlocksTrim }
 {}
 
-/// A call wakes sleepers exactly behind a release, and where a lock finds the mutex unusable, if the cell that it met had `WAITERS`: one where that leaves the mutex usable, and
-/// all of one that is unusable. A trylock and a declaration wake nobody.
+/// A call wakes sleepers exactly behind a release, and where a lock finds the mutex unusable, if the cell that it met
+/// had `WAITERS`: one where that leaves the mutex usable, and all of one that is unusable. A trylock and a declaration
+/// wake nobody.
 pub fn wakes_are_right()
     ensures { WakesAreRight }
 {}
 
-/// So does a whole call, which wakes nobody elsewhere: after an access at its mutex's cell its next one is a wake exactly where its point asks for that, of so many sleepers on that cell; and
-/// whatever it is answered, it doesn't begin by a wake, and none follows an access of its thread's robust list.
+/// So does a whole call, which wakes nobody elsewhere: after an access at its mutex's cell its next one is a wake
+/// exactly where its point asks for that, of so many sleepers on that cell; and whatever it is answered, it doesn't
+/// begin by a wake, and none follows an access of its thread's robust list.
 pub fn whole_calls_wake()
     ensures { WholeCallsWake }
 {}
@@ -43,21 +46,24 @@ pub fn points_are_permitted()
     ensures { PointsArePermitted }
 {}
 
-/// Whatever a whole call is answered, it stands at rows of its operation; its points are made at the cell with replies that POSIX permits there; it goes to
-/// release a mutex only from a cell that it owns; and a trylock gives up only after four exchanges that each found a changed cell.
+/// Whatever a whole call is answered, it stands at rows of its operation; its points are made at the cell with replies
+/// that POSIX permits there; it goes to release a mutex only from a cell that it owns; and a trylock gives up only
+/// after four exchanges that each found a changed cell.
 pub fn whole_calls_are_right()
     ensures { WholeCallsAreRight }
 {}
 
-/// Whatever a whole call is answered: once it has returned, and not for a fault, it has had exactly one point, whose reply it returned; each point, that of a release and of a
-/// declaration too, has a reply that POSIX permits for the cell that the call met there, or met last before; and it returns `EFAULT` exactly after an answer that its access
+/// Whatever a whole call is answered: once it has returned, and not for a fault, it has had exactly one point, whose
+/// reply it returned; each point, that of a release and of a declaration too, has a reply that POSIX permits for the
+/// cell that the call met there, or met last before; and it returns `EFAULT` exactly after an answer that its access
 /// doesn't have.
 pub fn whole_calls_are_decided()
     ensures { WholeCallsAreDecided }
 {}
 
-/// At each access of a whole call, whatever other threads do at the cell: where it is one of its thread's own words, that alone writes them; these words stay a list of just the
-/// mutexes that the thread owns, whole or in change; and wherever the thread dies, the kernel finds in them all that it owns.
+/// At each access of a whole call, whatever other threads do at the cell: where it is one of its thread's own words,
+/// that alone writes them; these words stay a list of just the mutexes that the thread owns, whole or in change; and
+/// wherever the thread dies, the kernel finds in them all that it owns.
 pub fn whole_calls_keep_lists()
     ensures { WholeListsAreKept }
 {}

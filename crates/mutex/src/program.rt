@@ -48,7 +48,8 @@ impl Program {
     ghost use Rattle.mutex.specs.declared.phase.Phase.TheVariants.{AtCell};
     ghost use Rattle.mutex.specs.Whole.{whole_started, whole_at, begun_at, retaking, whole_access, whole_led, whole_moved, whole_point, whole_progress, announced, from_cell, after_cell, leaving, IsUnderWay, PhaseKnows};
 
-    /// A call of a thread that holds so many mutexes. It speaks of words by their addresses in the thread's process. A lock or trylock by a thread that holds 2,048 is refused with `XHELD` before any access.
+    /// A call of a thread that holds so many mutexes. It speaks of words by their addresses in the thread's process. A
+    /// lock or trylock by a thread that holds 2,048 is refused with `XHELD` before any access.
     #[inline(always)]
     pub fn new(layout: &Layout, thread: Tid, held: u16, call: Call) -> Result<Program, Reply>
         requires thread { thread ≤ layout.now.threads }
@@ -67,8 +68,8 @@ impl Program {
         ))
     }
 
-    /// A call of a thread whose head, and whose mutex's entry and cell, are at these addresses; the mutex's number isn't looked at. Whoever begins a call so has to refuse it where its thread
-    /// holds 2,048 mutexes.
+    /// A call of a thread whose head, and whose mutex's entry and cell, are at these addresses; the mutex's number
+    /// isn't looked at. Whoever begins a call so has to refuse it where its thread holds 2,048 mutexes.
     #[inline(always)]
     pub fn begin(thread: Tid, head: u64, entry: u64, cell: u64, call: Call) -> Program
         ensures { result ≡ begun_at thread head entry cell call }
@@ -83,7 +84,8 @@ impl Program {
         }
     }
 
-    /// A call that stands at a phase: one that was kept elsewhere, as [`CodedPhase`](crate::CodedPhase) say, goes on from there.
+    /// A call that stands at a phase: one that was kept elsewhere, as [`CodedPhase`](crate::CodedPhase) say, goes on
+    /// from there.
     #[inline(always)]
     pub fn at(
         thread: Tid,
@@ -106,8 +108,9 @@ impl Program {
         }
     }
 
-    /// A lock that takes its mutex again, as a wait on a condition variable does once it is awake: from the load of the cell on, the mutex's entry being pending. It is given the
-    /// addresses of the thread's head and of the mutex's entry and cell, and is never refused with `XHELD`: its thread held the mutex before.
+    /// A lock that takes its mutex again, as a wait on a condition variable does once it is awake: from the load of the
+    /// cell on, the mutex's entry being pending. It is given the addresses of the thread's head and of the mutex's
+    /// entry and cell, and is never refused with `XHELD`: its thread held the mutex before.
     pub fn retaking(thread: Tid, head: u64, entry: u64, cell: u64) -> Program
         ensures { result ≡ retaking thread head entry cell }
     {
@@ -161,7 +164,8 @@ impl Program {
         }
     }
 
-    /// Where a call goes once its entry is pending: one that is to release the mutex first takes the entry out of the list.
+    /// Where a call goes once its entry is pending: one that is to release the mutex first takes the entry out of the
+    /// list.
     #[inline(always)]
     fn announced(&self, next: Row) -> Phase
         requires { PhaseKnows (AtCell next) }
@@ -197,7 +201,8 @@ impl Program {
         }
     }
 
-    /// Where a call goes that is through with the cell: a mutex that was taken is put on the list, and an entry that is pending is cleared.
+    /// Where a call goes that is through with the cell: a mutex that was taken is put on the list, and an entry that is
+    /// pending is cleared.
     #[inline(always)]
     fn leaving(&self, reply: Reply) -> Phase
         ensures value { result ≡ leaving self.now self.now.operation reply }
@@ -247,8 +252,8 @@ impl StepProgram for Program {
         }
     }
 
-    /// Goes on with an answer. One that no such access has counts as `Fault`, after which the call returns `EFAULT`, and has left what its earlier
-    /// accesses did.
+    /// Goes on with an answer. One that no such access has counts as `Fault`, after which the call returns `EFAULT`,
+    /// and has left what its earlier accesses did.
     #[inline(always)]
     fn resume(&mut self, answer: Answer) -> Progress {
         let onward = self.led(answer);
@@ -288,7 +293,8 @@ fn from_link(mut link: Link, reply: Reply, answer: Answer) -> Onward
     }
 }
 
-/// Where an answer leads an unlink: the mutex is to be released, in which OWNER_DIED is as noted, once the unlink has returned.
+/// Where an answer leads an unlink: the mutex is to be released, in which OWNER_DIED is as noted, once the unlink has
+/// returned.
 #[inline(always)]
 fn from_unlink(mut unlink: Unlink, died: bool, answer: Answer) -> Onward
     requires { UnlinkGoes unlink.row }

@@ -16,8 +16,9 @@ const TRIES: u64 = 4;
 pub enum TryLockRow {
     /// It loads the cell.
     Load,
-    /// It takes the cell, which was unowned and usable when it saw it. So many of its exchanges have failed: a count as wide as the cell, since a row is moved by value at
-    /// each access, and padding beside a narrower one goes through memory.
+    /// It takes the cell, which was unowned and usable when it saw it. So many of its exchanges have failed: a count as
+    /// wide as the cell, since a row is moved by value at each access, and padding beside a narrower one goes through
+    /// memory.
     Take { seen: Cell, failed: u64 },
 }
 

@@ -64,7 +64,8 @@ IsTaker (call.Lock m) = Unit {0}
 IsTaker (call.TryLock m) = Unit {0}
 IsTaker k = ⊥
 
--- it makes just these accesses, and returns the reply of whoever takes such a cell; the exchange is made by the row that takes, so a call whose exchange fails goes on from there
+-- it makes just these accesses, and returns the reply of whoever takes such a cell; the exchange is made by the row
+-- that takes, so a call whose exchange fails goes on from there
 pub record LockByPlan (k : Call) (t h e c w f : ℕ) : Type 0 where
   pub asks : asked (begun_at t h e c k) (lock_answers w f (f == h)) ≡ lock_plan t h e c w f (f == h)
   pub returns : (run (begun_at t h e c k) (lock_answers w f (f == h))).phase ≡ Ended (acquired (fields_of w))
@@ -105,7 +106,8 @@ unlock_plan t h e c n p b = unlink_plan h e c n p b ++ access.FetchXor c t ∷ a
 abbrev pub release_row : Row
 release_row = Unlock (release.Release false)
 
--- the answers from the release on, which found the cell v: where WAITERS is set in it a wake woke nobody, and the trim behind that was declined
+-- the answers from the release on, which found the cell v: where WAITERS is set in it a wake woke nobody, and the trim
+-- behind that was declined
 abbrev pub wake_answers : Bool → List Answer
 wake_answers true = Count 0 ∷ Trimmed false ∷ Stored ∷ []
 wake_answers false = Stored ∷ []

@@ -71,7 +71,8 @@ progress_of (OnCondition p) a = condition.cond_progress (condition.cond_led p a)
 
 -- ---- the beginning
 
--- the call with this operation, of a thread whose head, whose mutex's entry and cell, and whose counter are at these addresses; none for other numbers
+-- the call with this operation, of a thread whose head, whose mutex's entry and cell, and whose counter are at these
+-- addresses; none for other numbers
 abbrev pub begun_with : ℕ → PzCall → Option Running
 begun_with op c =
     if op == 0 then Some (OnMutex (mutex.begun_at c.thread c.head c.entry c.cell (call.Lock 0)))
@@ -93,7 +94,8 @@ Begins (Some r) result old new access access' = (result ≡ 0) × (new ≡ call_
 
 -- ---- an answer
 
--- what is told of a call after an answer: its next access, or none once it has returned, with the point that the answer decided
+-- what is told of a call after an answer: its next access, or none once it has returned, with the point that the answer
+-- decided
 abbrev pub told : Progress → Running → PzAccess
 told (Goes point) r = with_point point (access_code (access_of r))
 told (Returns x point) r = with_point point no_access

@@ -16,8 +16,9 @@ use lockword::Tid;
 use mutex::{Call, CodedPhase, Program};
 use stepprograms::StepProgram;
 
-/// Begins the call with an operation (0 lock, 1 trylock, 2 unlock, 3 consistent, 4 wait, 5 signal, 6 broadcast) of the thread that `call` names, at the addresses that it has, and tells the call's
-/// first access. 0; or 2, and nothing is written, where there is no such operation or thread.
+/// Begins the call with an operation (0 lock, 1 trylock, 2 unlock, 3 consistent, 4 wait, 5 signal, 6 broadcast) of the
+/// thread that `call` names, at the addresses that it has, and tells the call's first access. 0; or 2, and nothing is
+/// written, where there is no such operation or thread.
 #[unsafe(no_mangle)]
 pub extern "C" fn pz_begin(call: &mut PzCall, access: &mut PzAccess, operation: u32) -> u32
     ensures { Begins (begun operation call.old) result call.old call.new access.old access.new }
@@ -37,8 +38,9 @@ pub extern "C" fn pz_begin(call: &mut PzCall, access: &mut PzAccess, operation: 
     }
 }
 
-/// Goes on with the answer to the access told last (its kind, and its value where it has one): tells the next access, or that the call has returned, with the point that the answer
-/// decided. 0: it goes on; 1: it has returned, and `call.phase.lock.reply` is its reply; 2, and nothing is written: no call in progress has these numbers.
+/// Goes on with the answer to the access told last (its kind, and its value where it has one): tells the next access,
+/// or that the call has returned, with the point that the answer decided. 0: it goes on; 1: it has returned, and
+/// `call.phase.lock.reply` is its reply; 2, and nothing is written: no call in progress has these numbers.
 #[unsafe(no_mangle)]
 pub extern "C" fn pz_step(call: &mut PzCall, access: &mut PzAccess, kind: u32, value: u64) -> u32
     ensures goes_on { (r : Running) → IsRunning r → call_code r ≡ call.old → GoesOn r (answer_of kind value) result call.new access.new }

@@ -1,11 +1,15 @@
-//! The step programs of calls on robust mutexes and condition variables, and of the walk over a dead thread's list, for programs in C.
+//! The step programs of calls on robust mutexes and condition variables, and of the walk over a dead thread's list, for
+//! programs in C.
 //!
-//! `include/pz_steps.h` declares these functions and says what each is for. A call in progress is a plain struct of numbers. [`pz_begin`] tells its first access; whoever runs it makes that access
-//! on its own shared memory, and hands the answer to [`pz_step`], which tells the next access, or that the call has returned. So which access comes next, where each answer leads, and which
-//! reply a call returns, is proved; who makes the accesses is trusted. No function touches memory but the structs it is given, and no caller in C can be held to a `requires`: numbers
-//! that no call has are answered 2, and nothing is written then.
+//! `include/pz_steps.h` declares these functions and says what each is for. A call in progress is a plain struct of
+//! numbers. [`pz_begin`] tells its first access; whoever runs it makes that access on its own shared memory, and hands
+//! the answer to [`pz_step`], which tells the next access, or that the call has returned. So which access comes next,
+//! where each answer leads, and which reply a call returns, is proved; who makes the accesses is trusted. No function
+//! touches memory but the structs it is given, and no caller in C can be held to a `requires`: numbers that no call has
+//! are answered 2, and nothing is written then.
 //!
-//! A plan ([`pz_plan_lock`], [`pz_plan_unlock`]) is a whole call in one go, where nobody is in the way: the laws [`locks_by_plan`] and [`unlocks_by_plan`] say that it makes the accesses of the step program.
+//! A plan ([`pz_plan_lock`], [`pz_plan_unlock`]) is a whole call in one go, where nobody is in the way: the laws
+//! [`locks_by_plan`] and [`unlocks_by_plan`] say that it makes the accesses of the step program.
 //!
 //! Stands on `mutex`, `condvar` and `exitwalk`, whose programs these are, on `stepprograms` for accesses, on
 //! `memorymap` and `posixmutex` for addresses and points, and on `lockword` for replies.

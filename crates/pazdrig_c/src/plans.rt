@@ -1,4 +1,5 @@
-//! The lock of a free mutex and the unlock of a consistent one, whole: which stores come before the access at the cell, and which behind it.
+//! The lock of a free mutex and the unlock of a consistent one, whole: which stores come before the access at the cell,
+//! and which behind it.
 ghost use Rattle.std.specs.Prelude.{ℕ, ◌≡◌, ◌==◌, ◌&&◌};
 ghost use Rattle.std.specs.Bool.{OnTrue, OnFalse};
 ghost use Rattle.stepprograms.specs.declared.access.Access.TheVariants as access;
@@ -10,8 +11,10 @@ ghost use Rattle.pazdrig_c.specs.Plans.{changes_in, planned, lock_plan, unlock_p
 use crate::structs::PzPlan;
 use lockword::{Cell, Tid};
 
-/// The lock, or the trylock, of a thread that found this cell, and this entry first in its list: its stores, an exchange of that cell for `operand` between them, and its reply. False, and nothing is
-/// written, where the thread may not take the cell so: then the call goes by its steps. A call whose exchange fails goes on by its steps too, from where it takes.
+/// The lock, or the trylock, of a thread that found this cell, and this entry first in its list: its stores, an
+/// exchange of that cell for `operand` between them, and its reply. False, and nothing is written, where the thread may
+/// not take the cell so: then the call goes by its steps. A call whose exchange fails goes on by its steps too, from
+/// where it takes.
 #[unsafe(no_mangle)]
 pub extern "C" fn pz_plan_lock(
     plan: &mut PzPlan,
@@ -66,9 +69,10 @@ pub extern "C" fn pz_plan_lock(
     true
 }
 
-/// The unlock of a thread that found this cell, and these links in the mutex's entry: its stores, between them a flip of `operand` in the cell, and its reply. Where the flip finds WAITERS and
-/// somebody sleeps, the call goes on by its steps, from where it releases. False, and nothing is written, where the thread doesn't own the mutex, or has to spoil it: then the call goes by its
-/// steps.
+/// The unlock of a thread that found this cell, and these links in the mutex's entry: its stores, between them a flip
+/// of `operand` in the cell, and its reply. Where the flip finds WAITERS and somebody sleeps, the call goes on by its
+/// steps, from where it releases. False, and nothing is written, where the thread doesn't own the mutex, or has to
+/// spoil it: then the call goes by its steps.
 #[unsafe(no_mangle)]
 pub extern "C" fn pz_plan_unlock(
     plan: &mut PzPlan,

@@ -72,7 +72,8 @@ fn numbered(program: u8) -> Option<Operation>
     }
 }
 
-/// Goes on with an answer: the numbers of the call become those of what it leaves, and the next access is told, or none where it has returned.
+/// Goes on with an answer: the numbers of the call become those of what it leaves, and the next access is told, or none
+/// where it has returned.
 #[inline(always)]
 pub(crate) fn go_on(
     running: Running,

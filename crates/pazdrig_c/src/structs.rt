@@ -60,7 +60,8 @@ pub struct PzAccess {
     pub operation: u8,
 }
 
-/// A whole call where nobody is in the way: its stores, in their order, some of them before its one other access and the rest behind it.
+/// A whole call where nobody is in the way: its stores, in their order, some of them before its one other access and
+/// the rest behind it.
 #[repr(C)]
 #[derive(Clone, Copy, Debug, PartialEq, Eq)]
 pub struct PzPlan {

@@ -13,7 +13,8 @@ use exitwalk::{CodedRow, Row, Walk};
 use lockword::{Cell, Tid};
 use stepprograms::{Answer, Progress, StepProgram};
 
-/// Begins the walk over the list of the thread that `walk` names, whose head is at its address, and tells the walk's first access. 0; or 2, and nothing is written, where there is no such thread.
+/// Begins the walk over the list of the thread that `walk` names, whose head is at its address, and tells the walk's
+/// first access. 0; or 2, and nothing is written, where there is no such thread.
 #[unsafe(no_mangle)]
 pub extern "C" fn pz_walk_begin(walk: &mut PzWalk, access: &mut PzAccess) -> u32
     ensures begins { IsThread walk.old.thread → (result ≡ 0) × (walk.new ≡ walk_code (begun walk.old.thread walk.old.head)) × (access.new ≡ access_code (access_of (begun walk.old.thread walk.old.head))) }
@@ -28,7 +29,8 @@ pub extern "C" fn pz_walk_begin(walk: &mut PzWalk, access: &mut PzAccess) -> u32
     GOES
 }
 
-/// Tells the next access of a walk that was kept: for whoever goes on with it. 0; or 2, and nothing is written, where no walk in progress has these numbers.
+/// Tells the next access of a walk that was kept: for whoever goes on with it. 0; or 2, and nothing is written, where
+/// no walk in progress has these numbers.
 #[unsafe(no_mangle)]
 pub extern "C" fn pz_walk_next(walk: &PzWalk, access: &mut PzAccess) -> u32
     ensures tells { (s : Standing) → IsWalking s → walk_code s ≡ walk.now → (result ≡ 0) × (access.new ≡ access_code (access_of s)) }
@@ -43,8 +45,8 @@ pub extern "C" fn pz_walk_next(walk: &PzWalk, access: &mut PzAccess) -> u32
     }
 }
 
-/// Goes on with the answer to the access told last: tells the next one, or that the walk has ended, with the death that the answer tells. 0: it goes on; 1: it has ended; 2, and nothing is
-/// written: no walk in progress has these numbers.
+/// Goes on with the answer to the access told last: tells the next one, or that the walk has ended, with the death that
+/// the answer tells. 0: it goes on; 1: it has ended; 2, and nothing is written: no walk in progress has these numbers.
 #[unsafe(no_mangle)]
 pub extern "C" fn pz_walk_step(
     walk: &mut PzWalk,
@@ -61,8 +63,9 @@ pub extern "C" fn pz_walk_step(
     }
 }
 
-/// Whether the word of a walk that was kept shows that the walk's next access, the exchange that marks it, was made already, by a walker that died before it could keep so: it has another owner then. 1: it was,
-/// and is answered `Exchanged`; 0: the access is to be made; 2: no walk in progress has these numbers.
+/// Whether the word of a walk that was kept shows that the walk's next access, the exchange that marks it, was made
+/// already, by a walker that died before it could keep so: it has another owner then. 1: it was, and is answered
+/// `Exchanged`; 0: the access is to be made; 2: no walk in progress has these numbers.
 #[unsafe(no_mangle)]
 pub extern "C" fn pz_walk_again(walk: &PzWalk, word: u64) -> u32
     ensures tells { (s : Standing) → IsWalking s → walk_code s ≡ walk.now → result ≡ marked_answer s word }

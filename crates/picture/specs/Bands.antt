@@ -46,7 +46,8 @@ used room b (l ∷ ls) = used room (with_decision room b (decision_of l.fact)) l
 abbrev pub shown : ℕ → ℕ → List Line → Bands
 shown room mutexes ls = if nat_le mutexes room then first_bands mutexes else used room (first_bands 0) ls
 
--- whether a mutex of the first n bands has a number of three digits or more: its name takes four letters or more, if it has none of its own
+-- whether a mutex of the first n bands has a number of three digits or more: its name takes four letters or more, if it
+-- has none of its own
 abbrev pub has_long : List ℕ → ℕ → Bool
 has_long ms zero = false
 has_long ms (suc n) = has_long ms n || nat_le 100 (slice_index_or ms n 0)

@@ -30,6 +30,7 @@ rows_text n x s (l ∷ ls) = row_text n x (behind x.bands s l (l ∷ ls)) l ++ r
 abbrev pub drawn_with : Called → Extent → List Line → ℕ → List ℕ
 drawn_with n x ls last = heads n x ++ (rows_text n x first_scene ls ++ end_text last)
 
--- the picture of a trace of so many threads and mutexes, with these lines and this number of events, in which things have these names
+-- the picture of a trace of so many threads and mutexes, with these lines and this number of events, in which things
+-- have these names
 abbrev pub drawn : Called → ℕ → ℕ → List Line → ℕ → List ℕ
 drawn n threads mutexes ls last = drawn_with n (text_extent n threads mutexes ls) ls last

@@ -38,7 +38,8 @@ lanes_text n x s l = cells x (thread_of l.fact) (from_at s l) (sign l.fact (from
 abbrev pub mark_of_line : Called → Extent → Scene → Line → List ℕ
 mark_of_line n x s l = mark x (thread_of l.fact) (from_at s l) (sign l.fact (from_at s l)) (words_at n s l)
 
--- a line's mark stands in its own thread's lane, behind as many columns as the lanes before that one have, and in no other
+-- a line's mark stands in its own thread's lane, behind as many columns as the lanes before that one have, and in no
+-- other
 pub record StandsInItsLane (n : Called) (x : Extent) (s : Scene) (l : Line) : Type 0 where
   pub before : List ℕ
   pub behind : List ℕ
@@ -46,7 +47,8 @@ pub record StandsInItsLane (n : Called) (x : Extent) (s : Scene) (l : Line) : Ty
   pub place : columns before ≡ (thread_of l.fact - 1) * width x
   pub alone : (u : ℕ) → u ≢ thread_of l.fact → part_of x (thread_of l.fact) (from_at s l) (words_at n s l) u ≢ part.Mark
 
--- so it is of every line of one of a picture's threads, whatever all lanes and bands show, and whatever things are called
+-- so it is of every line of one of a picture's threads, whatever all lanes and bands show, and whatever things are
+-- called
 abbrev pub MarksStandInTheirLanes : Type 0
 MarksStandInTheirLanes = (n : Called) (x : Extent) (s : Scene) (l : Line) → 1 ≤ thread_of l.fact → thread_of l.fact ≤ x.threads → StandsInItsLane n x s l
 
@@ -81,7 +83,8 @@ pub record HasRoomForNames (n : Called) (x : Extent) : Type 0 where
 abbrev pub PicturesHaveRoomForNames : Type 0
 PicturesHaveRoomForNames = (room : ℕ) (n : Called) (threads mutexes : ℕ) (ls : List Line) → AreNames n → HasRoomForNames n (extent_in room n threads mutexes ls)
 
--- numbers as a trace's are: an event's has at most 6 digits, those of mutexes and condition variables have 4, and an owner's 2
+-- numbers as a trace's are: an event's has at most 6 digits, those of mutexes and condition variables have 4, and an
+-- owner's 2
 pub record HasNumbersOfATrace (s : Scene) (l : Line) : Type 0 where
   pub event : l.event < 10 ^ 6
   pub first : first_number l.fact < 10 ^ 4
@@ -108,7 +111,8 @@ pub record ShownLanesStandInTheirColumns : Type 0 where
 
 -- ---- in SVG
 
--- how many pixels so many letters take at most: no letter is wider than 7.5 at this size. A font is the reader's own; of one whose letters are equally wide, at 11 pixels, each takes 6.6
+-- how many pixels so many letters take at most: no letter is wider than 7.5 at this size. A font is the reader's own;
+-- of one whose letters are equally wide, at 11 pixels, each takes 6.6
 abbrev pub pixels : ℕ → ℕ
 pixels letters = 15 * letters / 2
 
@@ -116,7 +120,8 @@ pixels letters = 15 * letters / 2
 abbrev pub words_end : Called → Extent → Scene → Line → ℕ
 words_end n x s l = words_x (lane_x x (thread_of l.fact)) + pixels (length (concat (words_at n s l)))
 
--- the words of a line end within the picture; up to five lanes have room for them, up to the next lane's marks, which begin 7 before its middle; and the number of its event begins within the picture
+-- the words of a line end within the picture; up to five lanes have room for them, up to the next lane's marks, which
+-- begin 7 before its middle; and the number of its event begins within the picture
 pub record HasRoom (n : Called) (x : Extent) (s : Scene) (l : Line) : Type 0 where
   pub inside : words_end n x s l ≤ svg_width x
   pub apart : x.threads ≤ 5 → words_end n x s l ≤ lane_x x (thread_of l.fact + 1) - 7
@@ -142,13 +147,15 @@ abbrev pub mentions : List ℕ → List ℕ → Bool
 mentions word [] = false
 mentions word (c ∷ cs) = if begins_with word (c ∷ cs) then true else mentions word cs
 
--- all texts are of one font, whose letters are equally wide, at 11 pixels. The numbers of events end where they stand, the names of bands and lanes have their middle there, and all other texts begin there
+-- all texts are of one font, whose letters are equally wide, at 11 pixels. The numbers of events end where they stand,
+-- the names of bands and lanes have their middle there, and all other texts begin there
 pub record HasOneFont : Type 0 where
   pub first : style ≡ codes "<style>text{font:11px monospace}.n{text-anchor:end;fill:#777}.h{text-anchor:middle;font-weight:bold}" ++ shapes_style
   pub fonts : mentions (codes "font") shapes_style ≡ false
   pub anchors : mentions (codes "text-anchor") shapes_style ≡ false
 
--- so it is of every line of one of a picture's threads where there is room for the names, and neither the names of two bands touch nor those of two lanes
+-- so it is of every line of one of a picture's threads where there is room for the names, and neither the names of two
+-- bands touch nor those of two lanes
 pub record TextsHaveRoom : Type 0 where
   pub font : HasOneFont
   pub drawn : (n : Called) (x : Extent) (s : Scene) (l : Line) (k : ℕ) → IsDrawnSo n x s l k
@@ -162,7 +169,8 @@ pub record TextsHaveRoom : Type 0 where
 abbrev pub Uses : ℕ → Line → Type 0
 Uses m l = IsSomeAnd (decision_of l.fact) (λ d. d.mutex ≡ m)
 
--- mutexes with bands, where there is room for so many: each has one band; where all fit, mutex i has band i; else only mutexes have one of which a line tells, and one of which a line tells has none only where all room is taken
+-- mutexes with bands, where there is room for so many: each has one band; where all fit, mutex i has band i; else only
+-- mutexes have one of which a line tells, and one of which a line tells has none only where all room is taken
 pub record AreShown (room mutexes : ℕ) (ls : List Line) (b : Bands) : Type 0 where
   pub few : b.count ≤ room
   pub once : (i : ℕ) → i < b.count → band_of b (mutex_at b i) ≡ Some i

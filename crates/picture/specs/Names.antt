@@ -1,7 +1,8 @@
 -- What things are called in a picture.
 use Rattle.std.specs.Prelude.{ℕ, ◌-◌, max, min, nat_lt, List, [], ◌∷◌, length, codes, decimal, slice_index_or, if◌then◌else◌}
 
--- the names of threads, mutexes and condition variables, in the order of their numbers; what comes behind the last one has none
+-- the names of threads, mutexes and condition variables, in the order of their numbers; what comes behind the last one
+-- has none
 pub record Called : Type 0 where
   pub threads : List (List ℕ)
   pub mutexes : List (List ℕ)

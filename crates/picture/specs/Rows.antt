@@ -61,7 +61,8 @@ is_from_right t (Some a) = nat_lt t a
 abbrev pub blanks : Extent → ℕ → List (List ℕ) → ℕ
 blanks x t ws = if nat_le (x.threads - t) (reach x ws) then 0 else width x - (taken ws % width x)
 
--- the end of an arrow from the right, in so many columns behind its words: a blank where there is one, and the arrow in the others
+-- the end of an arrow from the right, in so many columns behind its words: a blank where there is one, and the arrow in
+-- the others
 abbrev pub arrow_end : ℕ → List ℕ
 arrow_end n = repeat (min n 1) (codes " ") ++ repeat (n - 1) dash
 
@@ -125,7 +126,8 @@ tail n x t ws = if is_wide x then [] else concat (codes "  " ∷ thread_head n t
 
 -- ---- a band
 
--- the owner or `-`, and `!` where an owner died and nobody has declared the mutex consistent; or `lost`, and nothing beside it
+-- the owner or `-`, and `!` where an owner died and nobody has declared the mutex consistent; or `lost`, and nothing
+-- beside it
 abbrev pub owner_name : Called → Option ℕ → Bool → List ℕ → List (List ℕ)
 owner_name n (Some t) unusable m = thread_head n t ∷ thread_tail n t ∷ m ∷ []
 owner_name n None unusable m = if unusable then codes "lost" ∷ [] ∷ [] ∷ [] else codes "-" ∷ [] ∷ m ∷ []

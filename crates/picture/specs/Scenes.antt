@@ -34,7 +34,8 @@ abbrev pub objects_behind : Bands → List Object → Option Decision → List O
 objects_behind b os None = os
 objects_behind b os (Some d) = object_behind os d (band_of b d.mutex)
 
--- whose event i is, of which the first lines tell: the thread of the first one that isn't told of what the event did to another; a trace needn't tell
+-- whose event i is, of which the first lines tell: the thread of the first one that isn't told of what the event did to
+-- another; a trace needn't tell
 abbrev pub actor_of : ℕ → List Line → Option ℕ
 actor_of i [] = None
 actor_of i (l ∷ ls) = if l.event == i then (if is_passive l.fact then actor_of i ls else Some (thread_of l.fact)) else None

@@ -1,4 +1,5 @@
--- An SVG picture: time runs downwards. Below stands what lanes and bands show from line to line, over it the marks of all lines.
+-- An SVG picture: time runs downwards. Below stands what lanes and bands show from line to line, over it the marks of
+-- all lines.
 use Rattle.std.specs.Prelude.{ℕ, ◌+◌, Bool, true, false, Option, Some, None, List, [], ◌∷◌, ◌++◌, length, codes, decimal, replicate, slice_index_or, slice_set, if◌then◌else◌}
 use Rattle.std.specs.List.{concat}
 use Rattle.posixmutex.specs.declared.object.Object.{Object}

@@ -1,14 +1,14 @@
-//! Pictures of traces: a lane for each thread, a band for each mutex, and each line of the trace drawn once, in the lane of its
-//! thread and at its event.
+//! Pictures of traces: a lane for each thread, a band for each mutex, and each line of the trace drawn once, in the
+//! lane of its thread and at its event.
 //!
-//! [`draw`] draws a trace as rows of text, [`draw_svg`] as scalable vector graphics, each byte for byte as `specs/` says: what a
-//! lane shows between the lines of its thread, and which mark a line has in it. A mark stands in its own thread's lane
-//! (`marks_stand_in_their_lanes`), each lane in its own columns at every row (`shown_lanes_stand_in_their_columns`), and in SVG the
-//! words of a line have room (`texts_have_room`). At an error, a failed write or want of memory, a beginning of the picture is
-//! written ([`Unwritten`]).
+//! [`draw`] draws a trace as rows of text, [`draw_svg`] as scalable vector graphics, each byte for byte as `specs/`
+//! says: what a lane shows between the lines of its thread, and which mark a line has in it. A mark stands in its own
+//! thread's lane (`marks_stand_in_their_lanes`), each lane in its own columns at every row
+//! (`shown_lanes_stand_in_their_columns`), and in SVG the words of a line have room (`texts_have_room`). At an error, a
+//! failed write or want of memory, a beginning of the picture is written ([`Unwritten`]).
 //!
-//! Stands on `facts`, for the lines, on `posixmutex`, for mutexes as objects and operations, on `lockword`, for thread ids and
-//! replies, on `streams`, for writing, on `itoa`, for numbers, and on `thiserror`, for messages.
+//! Stands on `facts`, for the lines, on `posixmutex`, for mutexes as objects and operations, on `lockword`, for thread
+//! ids and replies, on `streams`, for writing, on `itoa`, for numbers, and on `thiserror`, for messages.
 //!
 //! ```text
 //! // `verdict` reads the lines; they needn't be legal.

@@ -10,7 +10,8 @@ use std::marker::Model;
 /// For how many letters of a name a picture has room at most.
 const MOST_LETTERS: usize = 16;
 
-/// The names of threads, mutexes and condition variables. What has none is called by a letter and its number, as in the trace.
+/// The names of threads, mutexes and condition variables. What has none is called by a letter and its number, as in the
+/// trace.
 #[derive(Drop)]
 pub struct Names {
     threads: Vec<String>,

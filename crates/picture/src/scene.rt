@@ -67,7 +67,8 @@ fn stepped(object: Object, decision: &Decision) -> Object
     }
 }
 
-/// Whose this event is, of which the first lines tell: the thread of the first of them that isn't told of what the event did to another one.
+/// Whose this event is, of which the first lines tell: the thread of the first of them that isn't told of what the
+/// event did to another one.
 fn actor_of(event: u32, lines: &[Line]) -> Option<Tid>
     ensures { result ≡ actor_of event lines.now }
 {

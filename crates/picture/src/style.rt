@@ -1,4 +1,5 @@
-//! How the shapes of an SVG picture are drawn. All letters of its font are equally wide, 6.6 px in most, so that it is known how much room a text takes.
+//! How the shapes of an SVG picture are drawn. All letters of its font are equally wide, 6.6 px in most, so that it is
+//! known how much room a text takes.
 
 ghost use Rattle.std.specs.Prelude.{◌≡◌};
 ghost use Rattle.picture.specs.Style.{style};

@@ -151,9 +151,9 @@ fn write_foot<W: Write>(
     write_text(part, out)
 }
 
-/// Draws a trace of so many threads and mutexes as SVG, time running downwards: each of its lines once, in the order of the trace, with the number of its
-/// event, and its mark in the lane of its thread. Things are called by these names. `last` is the number of events. At an error a beginning of the picture
-/// is written.
+/// Draws a trace of so many threads and mutexes as SVG, time running downwards: each of its lines once, in the order of
+/// the trace, with the number of its event, and its mark in the lane of its thread. Things are called by these names.
+/// `last` is the number of events. At an error a beginning of the picture is written.
 pub fn draw_svg<W: Write>(
     alloc: Global,
     names: &Names,

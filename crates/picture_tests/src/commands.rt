@@ -1,4 +1,5 @@
-//! `rfx-draw` from the words of its command line on: its forms, each fault, files that are there or not, readers and writers that fail.
+//! `rfx-draw` from the words of its command line on: its forms, each fault, files that are there or not, readers and
+//! writers that fail.
 
 use crate::files::{Folder, answer_of, folder_of, words};
 use crate::writers::{Few, Fixed};
@@ -147,7 +148,8 @@ fn line_feeds(text: &[u8]) -> usize {
     text.iter().filter(|byte| **byte == b'\n').count()
 }
 
-/// A large trace as text, two rows of heads, one for each line, and the end; and as SVG, five lines up to the band, one for each lane, one for each call, one for each mark, and two.
+/// A large trace as text, two rows of heads, one for each line, and the end; and as SVG, five lines up to the band, one
+/// for each lane, one for each call, one for each mark, and two.
 #[test]
 fn many_lines_are_drawn(rt: HostRuntime) -> Result<(), AllocError> {
     let trace = many_lines(rt.alloc())?;

@@ -27,7 +27,8 @@ impl Read for File<'_> {
     }
 }
 
-/// Has the file `f` and the standard input, of the same bytes, the script `s`, one that is `endless` and one that is `broken`. It counts what is opened.
+/// Has the file `f` and the standard input, of the same bytes, the script `s`, one that is `endless` and one that is
+/// `broken`. It counts what is opened.
 #[derive(Drop)]
 pub(crate) struct Folder<'a> {
     script: &'a [u8],

@@ -1,4 +1,5 @@
-//! Tests of pictures and of `rfx-draw`, by public calls alone. They stand above the crates that they test, since a crate with tests of its own is proved a second time for them.
+//! Tests of pictures and of `rfx-draw`, by public calls alone. They stand above the crates that they test, since a
+//! crate with tests of its own is proved a second time for them.
 #![tactic(auto)]
 
 #[cfg(test)]

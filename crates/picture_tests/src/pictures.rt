@@ -108,7 +108,8 @@ static LANES: [(&str, &str); 18] = [
         "trace 3 4 0\n1 begin t1 lock m0\nend 1\n",
         " event  m0   m1   m2   m3   t1                      t2                      t3\n     1  -    -    -    -    ┌ lock m0               ·                       ·\n     1  end\n",
     ),
-    // Four lanes of 18 columns, and bands for the first four of five mutexes that are used, of which one has a name of five letters.
+    // Four lanes of 18 columns, and bands for the first four of five mutexes that are used, of which one has a name of
+    // five letters.
     (
         "trace 4 1001 0\n1 begin t2 lock m7\n2 point t2 m7 lock OK\n3 return t2 OK\n4 begin t2 lock m1000\n5 point t2 m1000 lock OK\n6 return t2 OK\n7 begin t1 trylock m7\n7 point t1 m7 trylock EBUSY\n7 return t1 EBUSY\n8 begin t1 unlock m2\n8 point t1 m2 unlock EPERM\n8 return t1 EPERM\n9 kill t2\n10 death t2 m7\n11 death t2 m9\n12 death t2 m10\nend 12\n",
         " event  m7    m1000 m2    m9    t1                t2                t3                t4\n     1  -     -     -     -     ·                 ┌ lock m7         ·                 ·\n     2  t2    -     -     -     ·                 ● m7 OK           ·                 ·\n     3  t2    -     -     -     ·                 └ OK              ·                 ·\n     4  t2    -     -     -     ·                 ┌ lock m1000      ·                 ·\n     5  t2    t2    -     -     ·                 ● m1000 OK        ·                 ·\n     6  t2    t2    -     -     ·                 └ OK              ·                 ·\n     7  t2    t2    -     -     ┌ trylock m7      ·                 ·                 ·\n     7  t2    t2    -     -     ● m7 EBUSY        ·                 ·                 ·\n     7  t2    t2    -     -     └ EBUSY           ·                 ·                 ·\n     8  t2    t2    -     -     ┌ unlock m2       ·                 ·                 ·\n     8  t2    t2    -     -     ● m2 EPERM        ·                 ·                 ·\n     8  t2    t2    -     -     └ EPERM           ·                 ·                 ·\n     9  t2    t2    -     -     ·                 ╳ killed          ·                 ·\n    10  -!    t2    -     -     ·                 ! m7 owner died   ·                 ·\n    11  -!    t2    -     -!    ·                 ! m9 owner died   ·                 ·\n    12  -!    t2    -     -!    ·                 ! m10 owner died  ·                 ·\n    12  end\n",
@@ -256,7 +257,8 @@ fn names_stand_in_place_of_numbers(rt: HostRuntime) -> Result<(), AllocError> {
     Ok(())
 }
 
-/// A trace that is not legal is drawn as it stands, and one that is no trace is refused as the judge of traces refuses it.
+/// A trace that is not legal is drawn as it stands, and one that is no trace is refused as the judge of traces refuses
+/// it.
 #[test]
 fn illegal_and_faulty_traces(rt: HostRuntime) {
     assert!(rt;

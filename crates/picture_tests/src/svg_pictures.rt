@@ -4,8 +4,8 @@ use picture::{Names, draw_svg};
 use std::alloc::{AllocError, Global};
 use verdict::read_trace;
 
-/// A trace, what its picture begins with, and what it ends with. Behind the style stand the names of bands and lanes; what the lanes and the bands showed, by the line that ended
-/// it; and the lines.
+/// A trace, what its picture begins with, and what it ends with. Behind the style stand the names of bands and lanes;
+/// what the lanes and the bands showed, by the line that ended it; and the lines.
 static SVG_PICTURES: [(&str, &str, &str); 12] = [
     // Two lanes, a wake from the left; and the style, as in examples/dead_owner.svg.
     (

@@ -13,7 +13,8 @@ abbrev pub held_by : ℕ → (ℕ → Object) → ℕ → ℕ
 held_by t objects zero = 0
 held_by t objects (suc n) = (if is_thread t (objects n).owner then 1 else 0) + held_by t objects n
 
--- each operation and each death, in their order, is a step of its mutex's object and leaves the others; n is the number of mutexes
+-- each operation and each death, in their order, is a step of its mutex's object and leaves the others; n is the number
+-- of mutexes
 abbrev pub Legal : ℕ → (ℕ → Object) → List Decision → (ℕ → Object) → Type 0
 Legal n old [] new = (m : ℕ) → new m ≡ old m
 Legal n old (d ∷ ds) new =

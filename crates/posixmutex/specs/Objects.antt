@@ -1,4 +1,5 @@
--- A robust mutex as POSIX sees it (pthread_mutex_lock, pthread_mutex_trylock, pthread_mutex_unlock, pthread_mutex_consistent, pthread_mutex_destroy), with no bits.
+-- A robust mutex as POSIX sees it (pthread_mutex_lock, pthread_mutex_trylock, pthread_mutex_unlock,
+-- pthread_mutex_consistent, pthread_mutex_destroy), with no bits.
 use Rattle.std.specs.Prelude.{ℕ, zero, suc, ◌≡◌, ◌≢◌, Bool, true, false, ◌&&◌, ◌||◌, ◌⊎◌, nat_le, if◌then◌else◌, MatchBool, Option, Some, None, List, [], ◌∷◌}
 use Rattle.lockword.specs.Cells.{Fields}
 use Rattle.lockword.specs.declared.reply.Reply.{Reply}
@@ -58,11 +59,13 @@ acquires Lock = true
 acquires TryLock = true
 acquires op = false
 
--- how many mutexes a thread may hold, and how many entries of a dead thread's list the kernel walks: so a walk meets all that its thread held (ROBUST_LIST_LIMIT; robust-futexes)
+-- how many mutexes a thread may hold, and how many entries of a dead thread's list the kernel walks: so a walk meets
+-- all that its thread held (ROBUST_LIST_LIMIT; robust-futexes)
 abbrev pub held_limit : ℕ
 held_limit = 2048
 
--- the step of an object: where the thread holds that many mutexes, a lock or trylock of any has the one reply XHELD and changes nothing
+-- the step of an object: where the thread holds that many mutexes, a lock or trylock of any has the one reply XHELD and
+-- changes nothing
 abbrev pub Does : ℕ → Object → ℕ → Operation → Reply → Object → Type 0
 Does held o t op r n = MatchBool (acquires op && nat_le held_limit held) ((r ≡ XHELD) × (n ≡ o)) (Permits o t op r n)
 
@@ -88,7 +91,8 @@ StepsAreDetermined = (held : ℕ) (o : Object) (t : ℕ) (op : Operation) (r : R
 abbrev pub IsTaking : Object → ℕ → Operation → Reply → Object → Type 0
 IsTaking o t op r n = (acquires op ≡ true) × (r ≡ (if o.inconsistent then EOWNERDEAD else OK)) × (n.owner ≡ Some t) × (n.inconsistent ≡ o.inconsistent) × (n.unusable ≡ false)
 
--- its owner releases it, which makes it unusable where it is inconsistent; declares it consistent; or dies, which leaves it inconsistent
+-- its owner releases it, which makes it unusable where it is inconsistent; declares it consistent; or dies, which
+-- leaves it inconsistent
 abbrev pub IsByOwner : Object → Operation → Object → Type 0
 IsByOwner o Unlock n = (n.owner ≡ None) × (n.inconsistent ≡ false) × (n.unusable ≡ (o.inconsistent || o.unusable))
 IsByOwner o Consistent n = (o.inconsistent ≡ true) × (n.owner ≡ o.owner) × (n.inconsistent ≡ false) × (n.unusable ≡ o.unusable)
@@ -101,8 +105,8 @@ releases Unlock = true
 releases Death = true
 releases op = false
 
--- a step of thread t changes a mutex for one of these reasons only, by whose the mutex is. And who is told that it took or
--- released the mutex did so
+-- a step of thread t changes a mutex for one of these reasons only, by whose the mutex is. And who is told that it took
+-- or released the mutex did so
 pub record ChangesWithReason (o : Object) (t : ℕ) (op : Operation) (r : Reply) (n : Object) : Type 0 where
   pub usable : o.owner ≡ None → o.unusable ≡ false → (n ≡ o) ⊎ IsTaking o t op r n
   pub unusable : o.owner ≡ None → o.unusable ≡ true → (n ≡ o) ⊎ ((op ≡ Reinit) × (r ≡ OK) × (n.owner ≡ None) × (n.inconsistent ≡ false) × (n.unusable ≡ false))
@@ -139,7 +143,8 @@ HasReason held o t op r = ⊥
 abbrev pub RepliesHaveReasons : Type 0
 RepliesHaveReasons = (held : ℕ) (o : Object) (t : ℕ) (op : Operation) (r : Reply) (n : Object) → Does held o t op r n → HasReason held o t op r
 
--- what isn't answered: a lock of a mutex that another thread owns, a wait that releases its mutex (as an unlock), a death of who isn't the owner, and a reinit of a mutex that isn't unusable
+-- what isn't answered: a lock of a mutex that another thread owns, a wait that releases its mutex (as an unlock), a
+-- death of who isn't the owner, and a reinit of a mutex that isn't unusable
 abbrev pub IsUnanswered : Object → ℕ → Operation → Type 0
 IsUnanswered o t Lock = (u : ℕ) × (o.owner ≡ Some u) × (t ≢ u)
 IsUnanswered o t Wait = (o.owner ≡ Some t) × (o.inconsistent ≡ false)

@@ -32,8 +32,8 @@ impl Object {
         }
     }
 
-    /// What the mutex becomes where the thread's operation replies so; None where it may not reply so. `held` is how many mutexes the
-    /// thread owns.
+    /// What the mutex becomes where the thread's operation replies so; None where it may not reply so. `held` is how
+    /// many mutexes the thread owns.
     pub fn step(self, held: u16, thread: Tid, operation: Operation, reply: Reply) -> Option<Object>
         ensures { MatchOption result ((new : Object) → ¬ Does held self thread operation reply new) (λ new. Does held self thread operation reply new) }
     {
@@ -186,21 +186,23 @@ pub fn steps_are_determined()
     ensures { StepsAreDetermined }
 {}
 
-/// Whoever doesn't own a mutex changes it in two ways only: it takes one that is free and usable, told of the last owner's death
-/// where the mutex is inconsistent; or it makes an unusable one anew. Its owner releases it, declares it consistent, or dies. And
-/// who is told that it took the mutex, or released it, did so.
+/// Whoever doesn't own a mutex changes it in two ways only: it takes one that is free and usable, told of the last
+/// owner's death where the mutex is inconsistent; or it makes an unusable one anew. Its owner releases it, declares it
+/// consistent, or dies. And who is told that it took the mutex, or released it, did so.
 pub fn changes_have_reasons()
     ensures { ChangesHaveReasons }
 {}
 
-/// A reply comes only for its reason, whatever becomes of the mutex: a lock's OK where it is free, usable and consistent, EBUSY where
-/// somebody owns it, EPERM where its thread doesn't, X_HELD where that holds as many mutexes as it may, and so on.
+/// A reply comes only for its reason, whatever becomes of the mutex: a lock's OK where it is free, usable and
+/// consistent, EBUSY where somebody owns it, EPERM where its thread doesn't, X_HELD where that holds as many mutexes as
+/// it may, and so on.
 pub fn replies_have_reasons()
     ensures { RepliesHaveReasons }
 {}
 
-/// Every call has a reply, but a lock of a mutex that another thread owns, which sleeps, and a wait that isn't refused, which is an
-/// unlock first. (Nor has the death of a thread that doesn't own the mutex one, or the reinit of a mutex that is usable.)
+/// Every call has a reply, but a lock of a mutex that another thread owns, which sleeps, and a wait that isn't refused,
+/// which is an unlock first. (Nor has the death of a thread that doesn't own the mutex one, or the reinit of a mutex
+/// that is usable.)
 pub fn calls_are_answered()
     ensures { CallsAreAnswered }
 {}

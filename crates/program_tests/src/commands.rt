@@ -1,4 +1,5 @@
-//! The program from the words of its command line on: files that are there or not, words that aren't text, and what is told.
+//! The program from the words of its command line on: files that are there or not, words that aren't text, and what is
+//! told.
 
 use crate::faulty::{Fixed, is_printed_or_wants_memory};
 use crate::served::Answered;

@@ -14,7 +14,8 @@ fn joined(alloc: Global, front: &str, middle: &str, end: &str) -> Result<String,
     Ok(text)
 }
 
-/// Four threads wait, each after it took the mutex that the one before released by its wait. A fifth broadcasts, and the first of the four dies before it is woken for the mutex.
+/// Four threads wait, each after it took the mutex that the one before released by its wait. A fifth broadcasts, and
+/// the first of the four dies before it is woken for the mutex.
 const BROADCAST: &str = "thread o\nthread a\nthread b\nthread c\nthread d\nmutex m\ncond q m 0\n\
     call a lock m\ncall a wait q\ncall b lock m\ncall b wait q\ncall c lock m\ncall c wait q\ncall d lock m\ncall d wait q\n\
     call o lock m\ncall o broadcast q\ncall o unlock m\nkill a\ngo a\ngo b\ncall b unlock m\ngo c\ncall c unlock m\ngo d\n";

@@ -1,6 +1,7 @@
 //! Tests of what is written of scripts and traces, and of the program, by public calls alone.
 //!
-//! They stand above the crates that they test, since a crate with tests of its own is proved a second time for them, and that takes longer than its proof.
+//! They stand above the crates that they test, since a crate with tests of its own is proved a second time for them,
+//! and that takes longer than its proof.
 #![tactic(auto)]
 
 #[cfg(test)]

@@ -50,7 +50,8 @@ fn a_sleeper_is_woken_from_another_process(rt: HostRuntime) {
     );
 }
 
-/// Each thread of the process is killed, in the order of their ids, and no other one: neither one of another process at the same base, nor one of process 0.
+/// Each thread of the process is killed, in the order of their ids, and no other one: neither one of another process at
+/// the same base, nor one of process 0.
 const KILLED_ALONE: &str =
     "process p 0\nprocess q 0\nthread a p\nthread b q\nthread c\nthread d p\nmutex m\n\
     killall p\nkillall p\n";
@@ -84,7 +85,8 @@ fn processes_are_refused(rt: HostRuntime) {
     );
 }
 
-/// A real thread dies, and one of another process takes over what it held: in a lock, where its pending entry names the mutex, and behind it, where its list does.
+/// A real thread dies, and one of another process takes over what it held: in a lock, where its pending entry names the
+/// mutex, and behind it, where its list does.
 #[test]
 fn mutexes_go_from_a_dead_thread_to_another_process(rt: HostRuntime) {
     assert!(rt;
@@ -113,7 +115,8 @@ fn mutexes_go_from_a_dead_thread_to_another_process(rt: HostRuntime) {
     );
 }
 
-/// Real threads of two processes lock at once, and sleep where they have to: they meet at the mutex, each by an address of its own.
+/// Real threads of two processes lock at once, and sleep where they have to: they meet at the mutex, each by an address
+/// of its own.
 #[test]
 fn real_threads_of_two_processes_meet(rt: HostRuntime) {
     let script = "process p 1000\nprocess q 2000\nthread a p\nthread b q\nmutex m\n\

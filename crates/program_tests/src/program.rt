@@ -160,8 +160,8 @@ fn script_of(alloc: Global, length: usize) -> Result<Vec<u8>, AllocError> {
     Ok(script)
 }
 
-/// The length of a script, the status that it is answered, what is told of it, and how many of its bytes aren't read: of 65,536 all are,
-/// and one more is read of what is too long.
+/// The length of a script, the status that it is answered, what is told of it, and how many of its bytes aren't read:
+/// of 65,536 all are, and one more is read of what is too long.
 static LENGTHS: [(usize, u8, &str, usize); 4] = [
     (65_535, 0, "", 0),
     (65_536, 0, "", 0),

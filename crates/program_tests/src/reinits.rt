@@ -3,8 +3,8 @@
 use crate::served::{run, served, table_is, trace_is};
 use report::Form;
 
-/// The heir of a dead owner unlocks without a declaration. While it owns the mutex nothing happens, nor does a dead thread
-/// make it anew; the heir does, and locks it with OK. Of a mutex that is usable nothing happens.
+/// The heir of a dead owner unlocks without a declaration. While it owns the mutex nothing happens, nor does a dead
+/// thread make it anew; the heir does, and locks it with OK. Of a mutex that is usable nothing happens.
 const SCRIPT: &str =
     "thread a\nthread b\nmutex m\ncall a lock m\nkill a\ngo a\ncall b lock m\nreinit b m\n\
      call b unlock m\nreinit a m\nreinit b m\nreinit b m\ncall b lock m\n";

@@ -27,7 +27,8 @@ fn scripts_are_told(rt: HostRuntime) {
     assert!(rt; threads(&rt, idle).is(0, text, ""));
 }
 
-/// A lock of a mutex that the thread owns, one of a mutex that another had, and calls on an owned mutex that nobody left inconsistent.
+/// A lock of a mutex that the thread owns, one of a mutex that another had, and calls on an owned mutex that nobody
+/// left inconsistent.
 #[test]
 fn locks_are_told(rt: HostRuntime) {
     let script = "thread a\nthread b\nmutex m\ncall a lock m\nphase\ncall b trylock m\nphase\n\
@@ -38,7 +39,8 @@ fn locks_are_told(rt: HostRuntime) {
     assert!(rt; threads(&rt, script).is(0, text, ""));
 }
 
-/// The threads of one phase lock, and sleep where they have to. Whoever unlocks last finds nobody to wake, and leaves nothing of the sleepers in the word.
+/// The threads of one phase lock, and sleep where they have to. Whoever unlocks last finds nobody to wake, and leaves
+/// nothing of the sleepers in the word.
 #[test]
 fn threads_lock_at_once(rt: HostRuntime) {
     let script = "thread a\nthread b\nmutex m\n\
@@ -71,7 +73,8 @@ fn many_threads_are_told(rt: HostRuntime) {
     assert!(rt; threads(&rt, MANY).is(0, MANY_TEXT, ""));
 }
 
-/// Each of sixteen threads locks a mutex of its own and unlocks it, and dies before its access with its number: a lock makes eight and an unlock seven. Then another thread locks all mutexes.
+/// Each of sixteen threads locks a mutex of its own and unlocks it, and dies before its access with its number: a lock
+/// makes eight and an unlock seven. Then another thread locks all mutexes.
 const DEATHS: &str = "thread t1\nthread t2\nthread t3\nthread t4\nthread t5\nthread t6\nthread t7\n\
     thread t8\nthread t9\nthread t10\nthread t11\nthread t12\nthread t13\nthread t14\n\
     thread t15\nthread t16\nthread z\nmutexes m 16\ndie t1 1\ndie t2 2\ndie t3 3\n\
@@ -90,7 +93,8 @@ const DEATHS: &str = "thread t1\nthread t2\nthread t3\nthread t4\nthread t5\nthr
     call z lock m11\ncall z lock m12\ncall z lock m13\ncall z lock m14\n\
     call z lock m15\n";
 
-/// The first three die before they take their mutex; those after them as its owner, until it is released by the last access but one.
+/// The first three die before they take their mutex; those after them as its owner, until it is released by the last
+/// access but one.
 const DEATHS_TEXT: &str = "replies t1 dead\nreplies t2 dead\nreplies t3 dead\nreplies t4 dead\n\
     replies t5 dead\nreplies t6 dead\nreplies t7 dead\nreplies t8 dead\n\
     replies t9 OK dead\nreplies t10 OK dead\nreplies t11 OK dead\nreplies t12 OK dead\n\
@@ -121,7 +125,8 @@ fn deaths_are_told(rt: HostRuntime) {
     assert!(rt; threads(&rt, DEATHS).is(0, DEATHS_TEXT, ""));
 }
 
-/// A thread signals and broadcasts until the counter is at its end; one that isn't the owner, or hasn't declared the mutex consistent, is refused.
+/// A thread signals and broadcasts until the counter is at its end; one that isn't the owner, or hasn't declared the
+/// mutex consistent, is refused.
 static CONDITIONS: [(&str, &str); 5] = [
     (
         "thread a\nmutex m\ncond q m 4294967294\ncall a signal q\ncall a lock m\ncall a signal q\n\
@@ -139,7 +144,8 @@ static CONDITIONS: [(&str, &str); 5] = [
          call b lock m\ncall b wait q\ncall b signal q\n",
         "replies a OK dead\nreplies b EOWNERDEAD X_STATE OK\nmutex m 0000000040000002 b -\ncond q 1 -\n",
     ),
-    // Behind the eight accesses of its lock a thread makes six in its wait, and the next one releases the mutex: before that it dies as the owner, behind it as none.
+    // Behind the eight accesses of its lock a thread makes six in its wait, and the next one releases the mutex: before
+    // that it dies as the owner, behind it as none.
     (
         "thread a\nthread b\nmutex m\ncond q m 3\ndie a 15\ncall a lock m\ncall a wait q\nphase\ncall b lock m\n",
         "replies a OK dead\nreplies b EOWNERDEAD\nmutex m 0000000040000002 b -\ncond q 3 -\n",
@@ -150,7 +156,8 @@ static CONDITIONS: [(&str, &str); 5] = [
     ),
 ];
 
-/// The first thread waits, which lets the second one have the mutex: that lets it go on, and the first takes the mutex last.
+/// The first thread waits, which lets the second one have the mutex: that lets it go on, and the first takes the mutex
+/// last.
 const SIGNALLED: &str = "thread a\nthread b\nmutex m\ncond q m 0\ncall a lock m\nphase\n\
     call a wait q\ncall a unlock m\ncall b lock m\ncall b signal q\ncall b unlock m\n";
 

@@ -87,7 +87,8 @@ fn a_trace_that_cannot_be_read_is_told(rt: HostRuntime) {
     assert!(rt; served(&rt, &Form::Check("f"), &mut long).is(1, "", cannot_read));
 }
 
-/// Passes too where any one allocation fails: nothing is printed then, and want of memory is told, of the reading without a line.
+/// Passes too where any one allocation fails: nothing is printed then, and want of memory is told, of the reading
+/// without a line.
 #[test]
 fn memory_for_a_trace(rt: HostRuntime) {
     let mut input = slow_reader(b"trace 1 1 0\nend 0\n", false);

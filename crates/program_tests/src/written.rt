@@ -104,7 +104,8 @@ fn each_kind_of_note_has_its_lines(rt: HostRuntime) -> Result<(), AllocError> {
     Ok(())
 }
 
-/// Whether a writer that had this room holds as much of the text as it can, and took all of it exactly if it had the room.
+/// Whether a writer that had this room holds as much of the text as it can, and took all of it exactly if it had the
+/// room.
 fn is_filled(out: &Narrow, room: usize, whole: bool, text: &[u8]) -> bool {
     let front = text.get(..room).unwrap_or(text);
     out.held.as_slice() == front && whole == (room >= text.len())

@@ -92,9 +92,10 @@ IsInAQueue s t = (key : ℕ) × (stands_in t (s.queues key) ≡ true)
 abbrev pub IsAboutToTrim : State → ℕ → Type 0
 IsAboutToTrim s t = (o : Op) × (p : Whole) × (at : ℕ) × ((s.threads t).stage ≡ Calling o p) × (whole_access p ≡ Trim at)
 
--- a begin applies where its thread lives, is in no call, and what it calls is in the layout; a step where its thread is in a call, or was killed and not reaped, and sleeps on nothing; a kill where its
--- thread lives; a leave where it sleeps; a decline where it is about to trim; a renewal where its thread was reaped; a reinit where its thread lives and is in no call, and its mutex, one of the layout, is
--- unusable and nobody sleeps on it
+-- a begin applies where its thread lives, is in no call, and what it calls is in the layout; a step where its thread is
+-- in a call, or was killed and not reaped, and sleeps on nothing; a kill where its thread lives; a leave where it
+-- sleeps; a decline where it is about to trim; a renewal where its thread was reaped; a reinit where its thread lives
+-- and is in no call, and its mutex, one of the layout, is unusable and nobody sleeps on it
 abbrev pub Applies : Layout' → State → List Note → Event → Type 0
 Applies l s ns (event.Begin t o) = IsThread l t × Names l o × (last_told t ns ≡ AtRest)
 Applies l s ns (event.Step t) = IsThread l t × HasAccess (last_told t ns) × IsInNoQueue s t
@@ -129,7 +130,8 @@ IsNotedAs l s (event.Decline t) n = IsQuietAccessOf l s t n
 IsNotedAs l s (event.Renew t) n = n ≡ Renewed t
 IsNotedAs l s (event.Reinit t m) n = n ≡ Reinited t m
 
--- of a state that events lead to that were noted so: its layout is as it was, and each thread stands where it was told to stand; whatever event comes next, it happens where it applies, and else it does nothing
+-- of a state that events lead to that were noted so: its layout is as it was, and each thread stands where it was told
+-- to stand; whatever event comes next, it happens where it applies, and else it does nothing
 pub record NextApplies (l : Layout') (s : State) (ns : List Note) : Type 0 where
   pub layout : s.layout ≡ l
   pub stands : (t : ℕ) → IsThread l t → Agrees (last_told t ns) (s.threads t).stage

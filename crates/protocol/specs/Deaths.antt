@@ -21,7 +21,8 @@ IsNotRenewed t [] = Unit {0}
 IsNotRenewed t (Renew u ∷ fs) = (u ≢ t) × IsNotRenewed t fs
 IsNotRenewed t (f ∷ fs) = IsNotRenewed t fs
 
--- thread t is killed in state s, and then these events happen: its death is told, once, of each mutex that it owned and has lost since, and of no other; so once it is reaped, of each mutex that it owned
+-- thread t is killed in state s, and then these events happen: its death is told, once, of each mutex that it owned and
+-- has lost since, and of no other; so once it is reaped, of each mutex that it owned
 pub record ReportsDeath (s : State) (t : ℕ) (events : List Event) : Type 0 where
   pub owned : (m : ℕ) → m < s.layout.mutexes → (seen s m).owner ≡ Some t →
       ((deaths t m (facts_among (notes (killed s t).state events)) ≡ 1) × ((seen (run (killed s t).state events) m).owner ≢ Some t))

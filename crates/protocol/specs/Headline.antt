@@ -36,7 +36,8 @@ facts_among (n ∷ ns) = facts_of n ++ facts_among ns
 abbrev pub seen : State → ℕ → Object
 seen s m = if nat_lt m s.layout.mutexes then object_of (fields_of (s.words (cell_place s.layout m))) else fresh
 
--- the points among the notes are a legal history, after which every mutex is as its cell says: owner, inconsistent and unusable
+-- the points among the notes are a legal history, after which every mutex is as its cell says: owner, inconsistent and
+-- unusable
 abbrev pub IsHistory : State → List Note → Type 0
 IsHistory s ns = Legal s.layout.mutexes opening (points_among ns) (seen s)
 

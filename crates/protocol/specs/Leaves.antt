@@ -13,7 +13,8 @@ use Rattle.protocol.specs.Applies.{IsInAQueue, IsInNoQueue, IsAboutToTrim}
 
 -- ---- leaves
 
--- thread t leaves, from state s to s': no word changes, and no thread, so each stands in its call where it stood; and from the queues nobody else goes
+-- thread t leaves, from state s to s': no word changes, and no thread, so each stands in its call where it stood; and
+-- from the queues nobody else goes
 pub record OnlyLeaves (s s' : State) (t : ℕ) : Type 0 where
   pub words : (p : ℕ) → s'.words p ≡ s.words p
   pub threads : (u : ℕ) → s'.threads u ≡ s.threads u
@@ -26,7 +27,8 @@ LeavesSo s t = OnlyLeaves s (happens s (Leave t)).state t × (IsInAQueue s t →
 
 -- ---- declines
 
--- thread t's trim is declined, from state s to s': no word and no queue changes, and no other thread; it goes on as behind a trim that was made
+-- thread t's trim is declined, from state s to s': no word and no queue changes, and no other thread; it goes on as
+-- behind a trim that was made
 pub record OnlyDeclines (s s' : State) (t : ℕ) : Type 0 where
   pub words : (p : ℕ) → s'.words p ≡ s.words p
   pub queues : (key : ℕ) → s'.queues key ≡ s.queues key

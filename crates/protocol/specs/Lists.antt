@@ -8,8 +8,9 @@ use Rattle.protocol.specs.declared.event.Event.{Event}
 use Rattle.protocol.specs.Machine.{State, start, run, is_alive}
 use Rattle.protocol.specs.Headline.{seen}
 
--- from thread t's head next words lead over some entries, all different, and back: each is that of a mutex that t owns; and each mutex that t owns is one of them, or the pending one. They are 2,048
--- at most, and cells are where the offset says. All this is by addresses of t's process
+-- from thread t's head next words lead over some entries, all different, and back: each is that of a mutex that t owns;
+-- and each mutex that t owns is one of them, or the pending one. They are 2,048 at most, and cells are where the offset
+-- says. All this is by addresses of t's process
 pub record HasList (s : State) (t : ℕ) : Type 0 where
   pub entries : List ℕ
   pub chain : IsChain (words_from (base_of s.layout t) s.words) (address_in s.layout t (head_place t)) entries

@@ -45,7 +45,8 @@ use Rattle.protocol.specs.declared.thread.Stage.TheVariants.{Idle, Calling, AtCo
 use Rattle.protocol.specs.declared.note.Note.{Note}
 use Rattle.protocol.specs.declared.note.Note.TheVariants.{Nothing, Began, Stepped, Killed, Walked, Left, Renewed, Reinited}
 
--- the words by place, who sleeps on each, also by place, in the order in which they are to be woken, and the threads by id
+-- the words by place, who sleeps on each, also by place, in the order in which they are to be woken, and the threads by
+-- id
 pub record State : Type 0 where
   pub layout : Layout'
   pub words : ℕ → ℕ
@@ -69,7 +70,8 @@ start l counters = record { layout = l; words = first_word l counters; queues = 
 abbrev pub is_valid : Layout' → ℕ → Bool
 is_valid l at = nat_le 1 at && nat_lt at (words_of l)
 
--- who sleeps on the word after thread t's access: a wait puts t at the end, a wake takes the first n, and a requeue takes the first n and then k more
+-- who sleeps on the word after thread t's access: a wait puts t at the end, a wake takes the first n, and a requeue
+-- takes the first n and then k more
 abbrev pub queue_after : ℕ → Access → ℕ → List ℕ → List ℕ
 queue_after t (access.Wait at e) w q = if w % 2 ^ 32 == e then q ++ t ∷ [] else q
 queue_after t (access.Wake at n) w q = drop n q
@@ -185,7 +187,8 @@ stands_in t (u ∷ us) = if u == t then true else stands_in t us
 abbrev pub sleepers : State → ℕ → List ℕ
 sleepers s m = s.queues (cell_place s.layout m)
 
--- the places of the words on which a thread there may sleep: in a call on a mutex its cell; in the lock that ends a wait that of the mutex, or still the counter of the condition variable
+-- the places of the words on which a thread there may sleep: in a call on a mutex its cell; in the lock that ends a
+-- wait that of the mutex, or still the counter of the condition variable
 abbrev pub places_of : Layout' → Stage → List ℕ
 places_of l (Calling (OnMutex c) p) = cell_place l (mutex_of l (OnMutex c)) ∷ []
 places_of l (Calling (OnCondition c) p) = cell_place l (mutex_of l (OnCondition c)) ∷ counter_place l (conditions.condition_of c) ∷ []
@@ -220,7 +223,8 @@ abbrev pub begun : State → ℕ → Op → Result Stage Reply → After
 begun s t o (Ok g) = record { state = record s { threads = put s.threads t (record (s.threads t) { stage = g }) }; note = Began t (begun_of s.layout o) None }
 begun s t o (Err x) = record { state = s; note = Began t (begun_of s.layout o) (Some x) }
 
--- where an answer leads a call: its thread's stage then; the reply of its point, if that access was one, and the operation that it decided; and what the call returns, if it does
+-- where an answer leads a call: its thread's stage then; the reply of its point, if that access was one, and the
+-- operation that it decided; and what the call returns, if it does
 pub record Led : Type 0 where
   pub stage : Stage
   pub operation : Operation
@@ -261,7 +265,8 @@ reply_at (Some p) = Some p.reply
 abbrev pub led_at : CondCall → CondWhole → CondOnward → Led
 led_at c p g = record { stage = stage_at c p g.phase; operation = decided_at (conditions.operation_of c) g.point; point = reply_at g.point; returned = returned_at g.phase }
 
--- a thread owns one mutex more after it took one, and one less after it released one, or after its death was told of one
+-- a thread owns one mutex more after it took one, and one less after it released one, or after its death was told of
+-- one
 abbrev pub held_after : ℕ → Operation → Option Reply → ℕ
 held_after held operation.Lock (Some OK) = held + 1
 held_after held operation.Lock (Some EOWNERDEAD) = held + 1
@@ -281,7 +286,8 @@ abbrev pub slept_in : Queue → Bool → Option Queue
 slept_in q true = Some q
 slept_in q false = None
 
--- the next access of a call that is about mutex m, where it would sleep in queue q, and where its answer leads. A thread that falls asleep stands where it goes on when it is woken
+-- the next access of a call that is about mutex m, where it would sleep in queue q, and where its answer leads. A
+-- thread that falls asleep stands where it goes on when it is woken
 abbrev pub went : State → ℕ → ℕ → ℕ → Queue → Access → Led → After
 went s t held m q a g =
     record {
@@ -295,7 +301,8 @@ went s t held m q a g =
 
 -- ---- sleeps that end by themselves
 
--- thread t leaves its queue, woken by nobody, as where a signal handler ran (futex(2), EINTR): it stands where it goes on when it is woken, and so nothing else changes
+-- thread t leaves its queue, woken by nobody, as where a signal handler ran (futex(2), EINTR): it stands where it goes
+-- on when it is woken, and so nothing else changes
 abbrev pub departed : State → ℕ → After
 departed s t = record { state = record s { queues = λ key. without t (s.queues key) }; note = Left t }
 
@@ -305,7 +312,8 @@ abbrev pub is_trim : Access → Bool
 is_trim (access.Trim at) = true
 is_trim a = false
 
--- a trim may be declined: it is answered that the word wasn't cleared, whatever that says, and no word and no queue changes
+-- a trim may be declined: it is answered that the word wasn't cleared, whatever that says, and no word and no queue
+-- changes
 abbrev pub spared : State → ℕ → ℕ → ℕ → Led → After
 spared s t held m g =
     record {
@@ -315,7 +323,8 @@ spared s t held m g =
 
 -- ---- deaths
 
--- the thread dies: it leaves its queue, its call ends there, and the kernel begins to walk its list (get_robust_list(2))
+-- the thread dies: it leaves its queue, its call ends there, and the kernel begins to walk its list
+-- (get_robust_list(2))
 abbrev pub killed : State → ℕ → After
 killed s t =
     record {
@@ -383,7 +392,8 @@ renewed s t =
 abbrev pub is_unusable : State → ℕ → Bool
 is_unusable s m = (fields_of (s.words (cell_place s.layout m))).unusable
 
--- thread t is in no call, and mutex m, one of the layout, is unusable, and nobody sleeps on it. (So nobody owns it either)
+-- thread t is in no call, and mutex m, one of the layout, is unusable, and nobody sleeps on it. (So nobody owns it
+-- either)
 abbrev pub may_reinit : State → ℕ → ℕ → Bool
 may_reinit s t m = has_thread s t && is_idle (s.threads t).stage && nat_lt m s.layout.mutexes && is_unusable s m && is_nobody (sleepers s m)
 
@@ -408,8 +418,10 @@ declined s t held (Calling o p) =
     if is_trim (whole_access p) && not (sleeps s t (Calling o p)) then spared s t held (mutex_of s.layout o) (led o p (whole_led p (Trimmed false))) else nothing s
 declined s t held g = nothing s
 
--- a begin of a busy, killed or unknown thread or of a call outside the layout, a step of an idle, sleeping, reaped or unknown thread, a kill of a killed or unknown thread, a leave of a thread that doesn't
--- sleep, a decline of one that isn't about to trim, a renewal of one that wasn't reaped and a reinit by one that isn't idle, or of a mutex that is usable or slept on, do nothing
+-- a begin of a busy, killed or unknown thread or of a call outside the layout, a step of an idle, sleeping, reaped or
+-- unknown thread, a kill of a killed or unknown thread, a leave of a thread that doesn't sleep, a decline of one that
+-- isn't about to trim, a renewal of one that wasn't reaped and a reinit by one that isn't idle, or of a mutex that is
+-- usable or slept on, do nothing
 abbrev pub happens : State → Event → After
 happens s (Begin t o) = if may_begin s t o then begun s t o (first_stage s.layout t (s.threads t).held o) else nothing s
 happens s (Step t) = if has_thread s t then stepped s t (s.threads t).held (s.threads t).stage else nothing s

@@ -51,7 +51,8 @@ abbrev pub IsOn : ℕ → Option Begun → Type 0
 IsOn k None = ⊥
 IsOn k (Some b) = b.condition ≡ Some k
 
--- thread t released a mutex; at a later event a signal or a broadcast counted on condition variable k; and at a later one t fell asleep there, and had begun no other call. So its wait was passed by
+-- thread t released a mutex; at a later event a signal or a broadcast counted on condition variable k; and at a later
+-- one t fell asleep there, and had begun no other call. So its wait was passed by
 pub record IsPassedBy (t k : ℕ) (told : List Note) : Type 0 where
   pub before : List Note
   pub release : Note
@@ -82,12 +83,14 @@ pub record ReturnsOk (s : State) (events before after : List Event) (t k : ℕ) 
 abbrev pub waiters_of : State → List Event → ℕ → List ℕ
 waiters_of s before k = (run s before).queues (queue_place s.layout (Condition k))
 
--- the event at which a signal returns OK woke the first of its condition variable's queue, as that was before it, and nobody only where it was empty; nothing else is told of the event
+-- the event at which a signal returns OK woke the first of its condition variable's queue, as that was before it, and
+-- nobody only where it was empty; nothing else is told of the event
 abbrev pub WakesFirst : State → List Event → Type 0
 WakesFirst s events = (before after : List Event) (t k : ℕ) (b : Begun) → ReturnsOk s events before after t k b Signal
     → facts_of (happens (run s before) (Step t)).note ≡ map Wake (take 1 (waiters_of s before k)) ++ Return t OK ∷ []
 
--- the event at which a broadcast returns OK moved, in their order, all who stood in its condition variable's queue before it; nothing else is told of the event, and nobody stands there directly after it
+-- the event at which a broadcast returns OK moved, in their order, all who stood in its condition variable's queue
+-- before it; nothing else is told of the event, and nobody stands there directly after it
 abbrev pub MovesAll : State → List Event → Type 0
 MovesAll s events = (before after : List Event) (t k : ℕ) (b : Begun) → ReturnsOk s events before after t k b Broadcast
     → (facts_of (happens (run s before) (Step t)).note ≡ map (moves_to b.mutex) (waiters_of s before k) ++ Return t OK ∷ []) × ((happens (run s before) (Step t)).state.queues (queue_place s.layout (Condition k)) ≡ [])

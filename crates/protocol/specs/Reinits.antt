@@ -25,7 +25,8 @@ pub record MayReinit (s : State) (t m : ℕ) : Type 0 where
   pub unusable : (seen s m).unusable ≡ true
   pub unslept : sleepers s m ≡ []
 
--- mutex m is made anew, from state s to s': its word is 0, and it is free, as nobody had locked it yet; every other word and mutex is as it was, and every queue and thread
+-- mutex m is made anew, from state s to s': its word is 0, and it is free, as nobody had locked it yet; every other
+-- word and mutex is as it was, and every queue and thread
 pub record OnlyReinits (s s' : State) (m : ℕ) : Type 0 where
   pub layout : s'.layout ≡ s.layout
   pub word : s'.words (cell_place s.layout m) ≡ 0
@@ -56,18 +57,21 @@ NobodyReinits m [] = Unit {0}
 NobodyReinits m (Reinit t k ∷ es) = (k ≢ m) × NobodyReinits m es
 NobodyReinits m (e ∷ es) = NobodyReinits m es
 
--- whatever happened, with any values of the counters at the beginning: where mutex m is unusable then, it stays so, whatever else happens behind that
+-- whatever happened, with any values of the counters at the beginning: where mutex m is unusable then, it stays so,
+-- whatever else happens behind that
 abbrev pub UnusableStays : Type 0
 UnusableStays = (l : Layout') (counters : ℕ → ℕ) (before after : List Event) (m : ℕ) → IsLayout l
     → (seen (run (start l counters) before) m).unusable ≡ true → NobodyReinits m after → (seen (run (run (start l counters) before) after) m).unusable ≡ true
 
 -- ---- who comes to sleep on an unusable mutex
 
--- from state s on: whoever sleeps on mutex m behind the next event slept there before it; so behind any events in which nobody makes it anew
+-- from state s on: whoever sleeps on mutex m behind the next event slept there before it; so behind any events in which
+-- nobody makes it anew
 pub record NobodyJoins (s : State) (m : ℕ) : Type 0 where
   pub next : (e : Event) (u : ℕ) → Sleeps (happens s e).state u m → Sleeps s u m
   pub later : (after : List Event) (u : ℕ) → NobodyReinits m after → Sleeps (run s after) u m → Sleeps s u m
 
--- whatever happened, with any values of the counters at the beginning: so it is of a mutex that is unusable then. Whoever sees nobody sleep there finds nobody there later, as long as the mutex isn't made anew
+-- whatever happened, with any values of the counters at the beginning: so it is of a mutex that is unusable then.
+-- Whoever sees nobody sleep there finds nobody there later, as long as the mutex isn't made anew
 abbrev pub NobodyJoinsAnUnusableMutex : Type 0
 NobodyJoinsAnUnusableMutex = (l : Layout') (counters : ℕ → ℕ) (events : List Event) (m : ℕ) → IsLayout l → m < l.mutexes → (seen (run (start l counters) events) m).unusable ≡ true → NobodyJoins (run (start l counters) events) m

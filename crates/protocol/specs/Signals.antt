@@ -1,4 +1,5 @@
--- A signal and a broadcast by the owner of the mutex that no other event divides (pthread_cond_signal(3p), pthread_cond_broadcast(3p)).
+-- A signal and a broadcast by the owner of the mutex that no other event divides (pthread_cond_signal(3p),
+-- pthread_cond_broadcast(3p)).
 use Rattle.std.specs.Prelude.{ℕ, ◌≡◌, ◌≢◌, ◌+◌, ◌≤◌, true, Some, List, [], ◌∷◌, ◌++◌, map, replicate, take, drop, slice_index}
 use Rattle.lockword.specs.Cells.{fields_of}
 use Rattle.lockword.specs.declared.reply.Reply.{Reply}
@@ -42,7 +43,8 @@ pub record IsSignalled (s s' : State) (k : ℕ) : Type 0 where
   pub queues : (key : ℕ) → key ≢ counter_place s.layout k → s'.queues key ≡ s.queues key
   pub threads : (u : ℕ) → s'.threads u ≡ s.threads u
 
--- a broadcast on condition variable k of mutex m counted, set WAITERS in the mutex's cell and moved the whole queue, in its order, to the end of the mutex's, and nothing else changed
+-- a broadcast on condition variable k of mutex m counted, set WAITERS in the mutex's cell and moved the whole queue, in
+-- its order, to the end of the mutex's, and nothing else changed
 pub record IsBroadcast (s s' : State) (k m : ℕ) : Type 0 where
   pub counter : s'.words (counter_place s.layout k) ≡ s.words (counter_place s.layout k) + 1
   pub cell : fields_of (s'.words (cell_place s.layout m)) ≡ record (fields_of (s.words (cell_place s.layout m))) { waiters = true }

@@ -72,8 +72,10 @@ pub record IsWaiting (o : Object) (t : ℕ) (op : Operation) (condition : Option
   pub owns : (o.owner ≡ Some t) × (o.inconsistent ≡ false)
   pub there : (k : ℕ) × (condition ≡ Some k) × StandsIn s' t (Condition k)
 
--- a call and n steps of its thread, which no other event divides: after 9,000 its return has been told, or it sleeps. Whatever it returns is a reply of its mutex's object as it was, never X_RACED, and
--- leaves that object as it is then; and it sleeps only where it is a lock of a mutex that another owns, or a wait by the owner of a consistent one, and that in the queue of its condition variable
+-- a call and n steps of its thread, which no other event divides: after 9,000 its return has been told, or it sleeps.
+-- Whatever it returns is a reply of its mutex's object as it was, never X_RACED, and leaves that object as it is then;
+-- and it sleeps only where it is a lock of a mutex that another owns, or a wait by the owner of a consistent one, and
+-- that in the queue of its condition variable
 pub record IsUndivided (s : State) (t : ℕ) (c : Op) (n : ℕ) : Type 0 where
   pub ends : 9000 ≤ n → ((x : Reply) × IsAmong (Return t x) (facts_among (notes s (Begin t c ∷ replicate n (Step t))))) ⊎ (is_asleep (run s (Begin t c ∷ replicate n (Step t))) t ≡ true)
   pub returns : (x : Reply) → IsAmong (Return t x) (facts_among (notes s (Begin t c ∷ replicate n (Step t)))) → (x ≢ XRACED) × Does (held_by t (seen s) s.layout.mutexes) (seen s (mutex_of s.layout c)) t (operation_of c) x (seen (run s (Begin t c ∷ replicate n (Step t))) (mutex_of s.layout c))
@@ -85,7 +87,8 @@ pub record RunsAlone (s : State) : Type 0 where
   pub ends : (t : ℕ) → EndsAlone s t
   pub undivided : (t : ℕ) (c : Op) (n : ℕ) → may_begin s t c ≡ true → IsUndivided s t c n
 
--- whatever happens, with any values of the counters at the beginning: whenever a mutex that nobody owns has sleepers, some awake thread owes them
+-- whatever happens, with any values of the counters at the beginning: whenever a mutex that nobody owns has sleepers,
+-- some awake thread owes them
 abbrev pub NoSleeperIsStranded : Type 0
 NoSleeperIsStranded = (l : Layout') (counters : ℕ → ℕ) (events : List Event) → IsLayout l → SomebodyOwes (run (start l counters) events)
 
@@ -93,7 +96,8 @@ NoSleeperIsStranded = (l : Layout') (counters : ℕ → ℕ) (events : List Even
 abbrev pub LoneThreadsComeToRest : Type 0
 LoneThreadsComeToRest = (l : Layout') (counters : ℕ → ℕ) (events : List Event) → IsLayout l → (t : ℕ) → EndsAlone (run (start l counters) events) t
 
--- whatever happened before, so: a call that may begin, and that no other event divides, returns or sleeps as its mutex's object says
+-- whatever happened before, so: a call that may begin, and that no other event divides, returns or sleeps as its
+-- mutex's object says
 abbrev pub UndividedCallsReply : Type 0
 UndividedCallsReply = (l : Layout') (counters : ℕ → ℕ) (events : List Event) → IsLayout l
     → (t : ℕ) (c : Op) (n : ℕ) → may_begin (run (start l counters) events) t c ≡ true → IsUndivided (run (start l counters) events) t c n

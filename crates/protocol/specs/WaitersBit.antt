@@ -26,11 +26,13 @@ WaitersStay s s' = (m : ℕ) → m < s.layout.mutexes → HasWaiters s m → Has
 abbrev pub IsToWakeOne : State → ℕ → ℕ → Type 0
 IsToWakeOne s t m = (p : Whole) × ((s.threads t).stage ≡ Calling (OnMutex (call.Unlock m)) p) × (p.phase ≡ AtCell (row.Unlock (Wake false)))
 
--- where nobody sleeps on the mutex, the thread's next two steps leave its word 0, if that was WAITERS alone, and else leave it as it was
+-- where nobody sleeps on the mutex, the thread's next two steps leave its word 0, if that was WAITERS alone, and else
+-- leave it as it was
 abbrev pub IsTrimmed : State → ℕ → ℕ → Type 0
 IsTrimmed s t m = (run s (Step t ∷ Step t ∷ [])).words (cell_place s.layout m) ≡ (if s.words (cell_place s.layout m) == 0x8000_0000 then 0 else s.words (cell_place s.layout m))
 
--- whoever sleeps on a mutex is told of in its word; at each event WAITERS stays so; and an unlock that finds nobody to wake takes it away
+-- whoever sleeps on a mutex is told of in its word; at each event WAITERS stays so; and an unlock that finds nobody to
+-- wake takes it away
 pub record WaitersAreTold (s : State) : Type 0 where
   pub told : (m t : ℕ) → m < s.layout.mutexes → Sleeps s t m → HasWaiters s m
   pub stay : (e : Event) → WaitersStay s (run s (e ∷ []))

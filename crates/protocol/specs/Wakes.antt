@@ -1,4 +1,5 @@
--- Whom an event wakes or moves (pthread_mutex_unlock(3p), pthread_cond_signal(3p), pthread_cond_broadcast(3p); pthread_mutexattr_getrobust(3p), for ENOTRECOVERABLE; robust-futexes).
+-- Whom an event wakes or moves (pthread_mutex_unlock(3p), pthread_cond_signal(3p), pthread_cond_broadcast(3p);
+-- pthread_mutexattr_getrobust(3p), for ENOTRECOVERABLE; robust-futexes).
 use Rattle.std.specs.Prelude.{ℕ, ◌≡◌, ◌<◌, ◌==◌, ◌⊎◌, Option, Some, None, List, [], ◌∷◌, map, take, if◌then◌else◌}
 use Rattle.posixmutex.specs.declared.object.Object.{Object}
 use Rattle.posixmutex.specs.declared.point.Operation.{Operation}
@@ -32,7 +33,8 @@ moves_in (f ∷ fs) = moves_in fs
 
 -- ---- how a call left its mutex
 
--- the mutex of the last point of thread t's call, as it was directly behind the event of that, and none where the call has had none; by these facts of an event that led to state s, and before them it was o
+-- the mutex of the last point of thread t's call, as it was directly behind the event of that, and none where the call
+-- has had none; by these facts of an event that led to state s, and before them it was o
 abbrev pub left_next : ℕ → State → Option Object → List Fact → Option Object
 left_next t s o [] = o
 left_next t s o (Begin u b ∷ fs) = left_next t s (if u == t then None else o) fs
@@ -46,7 +48,8 @@ left_by t s o (e ∷ es) = left_by t (happens s e).state (left_next t (happens s
 
 -- ---- whom a call wakes or moves
 
--- of those who sleep on a mutex that was left so one is to learn of that, the first; and all, where it is unusable: nobody takes it until it is made anew, which has to wait until nobody sleeps on it
+-- of those who sleep on a mutex that was left so one is to learn of that, the first; and all, where it is unusable:
+-- nobody takes it until it is made anew, which has to wait until nobody sleeps on it
 abbrev pub to_tell : Option Object → List ℕ → List ℕ
 to_tell None q = []
 to_tell (Some o) q = if o.unusable then q else take 1 q
@@ -56,8 +59,9 @@ abbrev pub the_first : Option Object → List ℕ → List ℕ
 the_first None q = []
 the_first (Some o) q = take 1 q
 
--- in state s a call of this operation, on mutex m and condition variable k, whose last point left its mutex so, and nobody where it has had none: a signal wakes the first of the condition variable's queue; a
--- lock, an unlock and a wait wake those of the mutex's who are to learn of it
+-- in state s a call of this operation, on mutex m and condition variable k, whose last point left its mutex so, and
+-- nobody where it has had none: a signal wakes the first of the condition variable's queue; a lock, an unlock and a
+-- wait wake those of the mutex's who are to learn of it
 abbrev pub whom_it_wakes : State → Option Object → Operation → ℕ → Option ℕ → List ℕ
 whom_it_wakes s o Signal m (Some k) = the_first o (s.queues (queue_place s.layout (Condition k)))
 whom_it_wakes s o Lock m k = to_tell o (sleepers s m)
@@ -76,8 +80,9 @@ whom_it_moves s op k = []
 abbrev pub AreNoneOr : List Fact → List Fact → Type 0
 AreNoneOr these told = (told ≡ []) ⊎ (told ≡ these)
 
--- in state s the facts of a step by a thread of which the trace told this, and so its call, the mutex of whose last point was left so: in a call it wakes and moves those whom that call is to, out of its
--- own queues; once the thread is dead, the walk of its list wakes the first of a mutex's queue
+-- in state s the facts of a step by a thread of which the trace told this, and so its call, the mutex of whose last
+-- point was left so: in a call it wakes and moves those whom that call is to, out of its own queues; once the thread is
+-- dead, the walk of its list wakes the first of a mutex's queue
 abbrev pub WakesWhom : State → Told → Option Begun → Option Object → List Fact → Type 0
 WakesWhom s InCall (Some b) o fs = AreNoneOr (map Wake (whom_it_wakes s o b.operation b.mutex b.condition)) (wakes_in fs) × AreNoneOr (map (moves_to b.mutex) (whom_it_moves s b.operation b.condition)) (moves_in fs)
 WakesWhom s Dead b o fs = ((wakes_in fs ≡ []) ⊎ (m : ℕ) × (m < s.layout.mutexes) × (wakes_in fs ≡ map Wake (take 1 (sleepers s m)))) × (moves_in fs ≡ [])

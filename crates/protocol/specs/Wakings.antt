@@ -19,7 +19,8 @@ use Rattle.protocol.specs.Applies.{IsInNoQueue}
 
 -- ---- what lines tell of a thread
 
--- where thread t sleeps, with one fact more: a sleep names it, a move takes it to a mutex, and a wake and its kill end it
+-- where thread t sleeps, with one fact more: a sleep names it, a move takes it to a mutex, and a wake and its kill end
+-- it
 abbrev pub asleep_next : ℕ → Option Queue → Fact → Option Queue
 asleep_next t w (Sleep u q) = if u == t then Some q else w
 asleep_next t w (Move u m) = if u == t then Some (Mutex m) else w
@@ -31,7 +32,8 @@ abbrev pub asleep_after : ℕ → Option Queue → List Fact → Option Queue
 asleep_after t w [] = w
 asleep_after t w (f ∷ fs) = asleep_after t (asleep_next t w f) fs
 
--- that of the last of its lines among sleep, move, wake and kill, where this is a sleep or a move; of a thread without such a line it is none
+-- that of the last of its lines among sleep, move, wake and kill, where this is a sleep or a move; of a thread without
+-- such a line it is none
 abbrev pub told_asleep : ℕ → List Note → Option Queue
 told_asleep t ns = asleep_after t None (facts_among ns)
 
@@ -59,8 +61,9 @@ is_queue (Mutex m) (Mutex n) = m == n
 is_queue (Condition k) (Condition j) = k == j
 is_queue q r = false
 
--- who sleeps in each queue, in the order in which they came, with one fact more: whoever falls asleep comes to the end of the queue that this names, and whoever is moved to that of the mutex, out of any
--- other; a wake and a kill take it out
+-- who sleeps in each queue, in the order in which they came, with one fact more: whoever falls asleep comes to the end
+-- of the queue that this names, and whoever is moved to that of the mutex, out of any other; a wake and a kill take it
+-- out
 abbrev pub queues_next : Fact → (Queue → List ℕ) → Queue → List ℕ
 queues_next (Sleep t q) w = λ r. if is_queue q r then w r ++ t ∷ [] else w r
 queues_next (Move t m) w = λ r. if is_queue (Mutex m) r then without t (w r) ++ t ∷ [] else without t (w r)
@@ -84,7 +87,8 @@ abbrev pub IsFront : ℕ → List ℕ → Type 0
 IsFront t [] = ⊥
 IsFront t (u ∷ us) = u ≡ t
 
--- a wake names the front of a queue, and a move that of a condition variable of the mutex; which queue that is, and how many of it are told, is said in `Wakes.antt`
+-- a wake names the front of a queue, and a move that of a condition variable of the mutex; which queue that is, and how
+-- many of it are told, is said in `Wakes.antt`
 abbrev pub NamesFront : Layout' → (Queue → List ℕ) → Fact → Type 0
 NamesFront l w (Wake t) = (q : Queue) × IsQueue l q × IsFront t (w q)
 NamesFront l w (Move t m) = (k : ℕ) × (k < length l.conditions) × (slice_index l.conditions k ≡ m) × IsFront t (w (Condition k))
@@ -95,7 +99,8 @@ abbrev pub NameFronts : Layout' → (Queue → List ℕ) → List Fact → Type 
 NameFronts l w [] = Unit {0}
 NameFronts l w (f ∷ fs) = NamesFront l w f × NameFronts l (queues_next f w) fs
 
--- of what an event tells: who leaves by itself stands in a queue, wherever in it; all others who are woken or moved are fronts
+-- of what an event tells: who leaves by itself stands in a queue, wherever in it; all others who are woken or moved are
+-- fronts
 abbrev pub NotesFronts : Layout' → (Queue → List ℕ) → Note → Type 0
 NotesFronts l w (Left t) = (q : Queue) × IsQueue l q × (stands_in t (w q) ≡ true)
 NotesFronts l w n = NameFronts l w (facts_of n)
@@ -119,8 +124,9 @@ LeavesQueue s s' t = ((key : ℕ) × (stands_in t (s.queues key) ≡ true)) × I
 abbrev pub IsMoved : State → State → ℕ → ℕ → Type 0
 IsMoved s s' t m = ((k : ℕ) × (k < length s.layout.conditions) × (slice_index s.layout.conditions k ≡ m) × StandsIn s t (Condition k)) × StandsIn s' t (Mutex m)
 
--- an event tells thread t's sleep exactly where it comes to stand in a queue, which the sleep names; its wake exactly where it leaves one and stands in none, but by its kill; and its move exactly where
--- it leaves that of a condition variable for its mutex's
+-- an event tells thread t's sleep exactly where it comes to stand in a queue, which the sleep names; its wake exactly
+-- where it leaves one and stands in none, but by its kill; and its move exactly where it leaves that of a condition
+-- variable for its mutex's
 pub record TellsTurns (s : State) (e : Event) (t : ℕ) : Type 0 where
   pub sleep : (q : Queue) → IsAmong (Sleep t q) (facts_of (happens s e).note) ↔ FallsAsleep s (happens s e).state t q
   pub wake : IsAmong (Wake t) (facts_of (happens s e).note) ↔ (LeavesQueue s (happens s e).state t × (e ≢ event.Kill t))
@@ -128,8 +134,9 @@ pub record TellsTurns (s : State) (e : Event) (t : ℕ) : Type 0 where
 
 -- ---- runs
 
--- of a state that events lead to that were noted so: a thread stands in a queue exactly where the last of its lines among sleep, move, wake and kill is a sleep or a move, in the one that this names, and
--- in no other; in each queue they stand as they came, by what was told; and who is woken or moved is the front
+-- of a state that events lead to that were noted so: a thread stands in a queue exactly where the last of its lines
+-- among sleep, move, wake and kill is a sleep or a move, in the one that this names, and in no other; in each queue
+-- they stand as they came, by what was told; and who is woken or moved is the front
 pub record TellsSleepers (l : Layout') (s : State) (ns : List Note) : Type 0 where
   pub stands : (t key : ℕ) → stands_in t (s.queues key) ≡ true → (q : Queue) × (told_asleep t ns ≡ Some q) × (key ≡ queue_place l q)
   pub sleeps : (t : ℕ) (q : Queue) → told_asleep t ns ≡ Some q → IsQueue l q × StandsIn s t q

@@ -9,7 +9,8 @@ use Rattle.protocol.specs.declared.event.Event.{Event}
 use Rattle.protocol.specs.declared.thread.Stage.TheVariants.{Dying}
 use Rattle.protocol.specs.Machine.{State, start, run}
 
--- as long as the walk of thread t is to mark a word, t owns it: so where another owns it, or nobody, the walk is no more to mark it
+-- as long as the walk of thread t is to mark a word, t owns it: so where another owns it, or nobody, the walk is no
+-- more to mark it
 abbrev pub StaysOwned : State → ℕ → Row → Type 0
 StaysOwned s t (Mark at seen again part) = (fields_of (s.words (place_in s.layout t at))).owner ≡ t
 StaysOwned s t r = Unit {0}

@@ -8,13 +8,16 @@ use lockword::Tid;
 pub enum Event {
     /// The thread begins a call.
     Begin(Tid, Op),
-    /// The thread makes the next access of its call; or the kernel makes the next one of its walk, where the thread was killed.
+    /// The thread makes the next access of its call; or the kernel makes the next one of its walk, where the thread was
+    /// killed.
     Step(Tid),
     /// The thread dies.
     Kill(Tid),
-    /// The thread leaves the queue in which it sleeps, woken by nobody, and goes on as if it had been: a signal handler ran (futex(2), EINTR), say.
+    /// The thread leaves the queue in which it sleeps, woken by nobody, and goes on as if it had been: a signal handler
+    /// ran (futex(2), EINTR), say.
     Leave(Tid),
-    /// The next access of the thread's call, a trim, is declined: whatever the word is, it stays, and the thread is answered so.
+    /// The next access of the thread's call, a trim, is declined: whatever the word is, it stays, and the thread is
+    /// answered so.
     Decline(Tid),
     /// The thread, which was reaped, lives anew, with the same id: in no call, with an empty list and nothing pending,
     /// the owner of nothing.

@@ -15,7 +15,8 @@ ghost use Rattle.protocol.specs.Leaves.{LeavesAreLone, FrontsAreWoken};
 ghost use Rattle.protocol.specs.Renewals.{RenewalsBeginAnew, LivesAreOne};
 ghost use Rattle.protocol.specs.Reinits.{ReinitsFreeTheMutex, UnusableStays, NobodyJoinsAnUnusableMutex};
 
-/// Whatever happens, the points are one legal history of POSIX robust mutexes, which says at each moment what every cell says.
+/// Whatever happens, the points are one legal history of POSIX robust mutexes, which says at each moment what every
+/// cell says.
 pub fn history_is_legal()
     ensures { HistoryIsLegal }
 {}
@@ -43,8 +44,9 @@ pub fn trace_is_explained()
     ensures { TraceIsExplained }
 {}
 
-/// No sleeper on a mutex is stranded. Whatever happens: whenever a mutex that nobody owns has sleepers, some awake thread, in a call or dying, owes them: run alone, it takes the mutex or wakes one
-/// of them within 9,000 steps. (Of those who wait on a condition variable speaks [`nobody_is_passed_by`].)
+/// No sleeper on a mutex is stranded. Whatever happens: whenever a mutex that nobody owns has sleepers, some awake
+/// thread, in a call or dying, owes them: run alone, it takes the mutex or wakes one of them within 9,000 steps. (Of
+/// those who wait on a condition variable speaks [`nobody_is_passed_by`].)
 pub fn no_sleeper_is_stranded()
     ensures { NoSleeperIsStranded }
 {}
@@ -54,79 +56,90 @@ pub fn lone_threads_come_to_rest()
     ensures { LoneThreadsComeToRest }
 {}
 
-/// Whatever happened before: a call that no other event divides returns within 9,000 steps, or sleeps; it replies as the object does, never with `XRACED`, and sleeps only where it locks a mutex
-/// that another owns, or waits as the owner of a consistent one, and then on its condition variable.
+/// Whatever happened before: a call that no other event divides returns within 9,000 steps, or sleeps; it replies as
+/// the object does, never with `XRACED`, and sleeps only where it locks a mutex that another owns, or waits as the
+/// owner of a consistent one, and then on its condition variable.
 pub fn undivided_calls_reply()
     ensures { UndividedCallsReply }
 {}
 
-/// Whatever happens, the words from each thread's head are a list of mutexes that it owns, 2,048 at most: of all of them, but for the one whose entry is pending. So the
-/// kernel would find at any moment what the thread owns.
+/// Whatever happens, the words from each thread's head are a list of mutexes that it owns, 2,048 at most: of all of
+/// them, but for the one whose entry is pending. So the kernel would find at any moment what the thread owns.
 pub fn lists_are_kept()
     ensures { ListsAreKept }
 {}
 
 /// Whatever happens, by what the trace has told so far: each thread stands where that says, in no call, in one, killed
-/// or reaped; a begin by a thread in no call, on a mutex or condition variable of the layout, is noted as a begin, which is refused only where it is
-/// to take a mutex and the thread owns 2,048; a kill of a thread that lives is noted; a step is an access of its thread where that is in a call, or was killed and not reaped, and sleeps on
-/// nothing; a leave is its thread's where that sleeps; a decline is an access of its thread's call, and of that call's
-/// mutex, that tells nothing, where the thread's next access is a trim; a renewal is its thread's where that was
-/// reaped, and hasn't been renewed since; and a reinit is that of its mutex where its thread lives and is in no call,
-/// and the mutex, one of the layout, is unusable and nobody sleeps on it. Every other event is noted as nothing, and
-/// changes nothing.
+/// or reaped; a begin by a thread in no call, on a mutex or condition variable of the layout, is noted as a begin,
+/// which is refused only where it is to take a mutex and the thread owns 2,048; a kill of a thread that lives is noted;
+/// a step is an access of its thread where that is in a call, or was killed and not reaped, and sleeps on nothing; a
+/// leave is its thread's where that sleeps; a decline is an access of its thread's call, and of that call's mutex, that
+/// tells nothing, where the thread's next access is a trim; a renewal is its thread's where that was reaped, and hasn't
+/// been renewed since; and a reinit is that of its mutex where its thread lives and is in no call, and the mutex, one
+/// of the layout, is unusable and nobody sleeps on it. Every other event is noted as nothing, and changes nothing.
 pub fn events_apply()
     ensures { EventsApply }
 {}
 
-/// Whatever happens: a thread stands in a queue exactly where the last of its lines among sleep, move, wake and kill is a sleep or a move, in that of the mutex or condition variable that this
-/// names. So its sleeps and wakes alternate; a sleep is told exactly where it comes to stand in a queue, a wake exactly where it leaves one and stands in none, but by its kill, and a move
-/// exactly where it leaves that of a condition variable for its mutex's. In each queue they stand in the order in which they came, as it was told, and whoever another's event wakes, or moves, is the front of a queue (of
-/// which one, says [`wakes_are_right`]); who leaves by itself stands anywhere in one.
+/// Whatever happens: a thread stands in a queue exactly where the last of its lines among sleep, move, wake and kill is
+/// a sleep or a move, in that of the mutex or condition variable that this names. So its sleeps and wakes alternate; a
+/// sleep is told exactly where it comes to stand in a queue, a wake exactly where it leaves one and stands in none, but
+/// by its kill, and a move exactly where it leaves that of a condition variable for its mutex's. In each queue they
+/// stand in the order in which they came, as it was told, and whoever another's event wakes, or moves, is the front of
+/// a queue (of which one, says [`wakes_are_right`]); who leaves by itself stands anywhere in one.
 pub fn sleeps_are_told()
     ensures { SleepsAreTold }
 {}
 
-/// Whatever happens: a step wakes or moves nobody, or just those whom its thread's call, as it was told, is to: once it has had a point, the first of the queue of its mutex, or all of them, in their
-/// order, where its last point left that mutex unusable; where the call is a signal, the first of its condition variable's queue; a broadcast moves all of its condition variable's, in their order, to its mutex's. The walk
-/// of a dead thread's list wakes the first of a mutex's queue. A leave wakes its own thread or nobody, and moves
-/// nobody. No begin, no kill, no decline, no renewal and no reinit wakes or moves anybody.
+/// Whatever happens: a step wakes or moves nobody, or just those whom its thread's call, as it was told, is to: once it
+/// has had a point, the first of the queue of its mutex, or all of them, in their order, where its last point left that
+/// mutex unusable; where the call is a signal, the first of its condition variable's queue; a broadcast moves all of
+/// its condition variable's, in their order, to its mutex's. The walk of a dead thread's list wakes the first of a
+/// mutex's queue. A leave wakes its own thread or nobody, and moves nobody. No begin, no kill, no decline, no renewal
+/// and no reinit wakes or moves anybody.
 pub fn wakes_are_right()
     ensures { WakesAreRight }
 {}
 
-/// Whatever happens, with counters that are at most 2^32 - 1 at the beginning: a thread that released its mutex in a wait before a signal or a broadcast counted doesn't fall asleep on that condition
-/// variable behind it. And the event at which a signal returns OK wakes the first of its condition variable's queue, and nobody only where that is empty; the one at which a broadcast does moves
-/// all of that queue, in its order, and directly after it nobody stands there.
+/// Whatever happens, with counters that are at most 2^32 - 1 at the beginning: a thread that released its mutex in a
+/// wait before a signal or a broadcast counted doesn't fall asleep on that condition variable behind it. And the event
+/// at which a signal returns OK wakes the first of its condition variable's queue, and nobody only where that is empty;
+/// the one at which a broadcast does moves all of that queue, in its order, and directly after it nobody stands there.
 pub fn nobody_is_passed_by()
     ensures { NobodyIsPassedBy }
 {}
 
-/// Whatever happened before, with such counters: a signal or a broadcast by the owner of the mutex that no other event divides is refused with `XFULL` exactly where the counter is 2^32 - 1, and changes
-/// nothing then. Else it counts; a signal takes the front of the condition variable's queue, and a broadcast moves the whole queue, in its order, to the end of the mutex's, whose cell has WAITERS then.
+/// Whatever happened before, with such counters: a signal or a broadcast by the owner of the mutex that no other event
+/// divides is refused with `XFULL` exactly where the counter is 2^32 - 1, and changes nothing then. Else it counts; a
+/// signal takes the front of the condition variable's queue, and a broadcast moves the whole queue, in its order, to
+/// the end of the mutex's, whose cell has WAITERS then.
 pub fn signals_are_right()
     ensures { SignalsAreRight }
 {}
 
-/// Whatever happens: where a thread sleeps on a mutex, the mutex's word has WAITERS; no event takes WAITERS from a word but one that nobody owned and on which nobody sleeps; and where
-/// nobody sleeps on a mutex that an unlock has released and is to wake one sleeper of, the next two steps of its thread, the wake and the trim, leave the word 0 if WAITERS is all that it says. (Where the trim is declined,
-/// the word stays as it was.)
+/// Whatever happens: where a thread sleeps on a mutex, the mutex's word has WAITERS; no event takes WAITERS from a word
+/// but one that nobody owned and on which nobody sleeps; and where nobody sleeps on a mutex that an unlock has released
+/// and is to wake one sleeper of, the next two steps of its thread, the wake and the trim, leave the word 0 if WAITERS
+/// is all that it says. (Where the trim is declined, the word stays as it was.)
 pub fn waiters_are_kept()
     ensures { WaitersAreKept }
 {}
 
-/// Whatever happens: as long as the kernel's walk over a dead thread's list is to mark a word, that word's owner is the dead thread. So a walk that was kept, and is to mark a word that another owns by now,
-/// or nobody, has gone on since.
+/// Whatever happens: as long as the kernel's walk over a dead thread's list is to mark a word, that word's owner is the
+/// dead thread. So a walk that was kept, and is to mark a word that another owns by now, or nobody, has gone on since.
 pub fn walks_go_on()
     ensures { WalksGoOn }
 {}
 
-/// Whatever happened before: a thread that leaves its queue changes no word, no thread and no place of another in a queue, and its wake is told, once, and nothing else; so it goes on as one that was woken. A trim that is
-/// declined changes no word and no queue and tells nothing, and its thread goes on as where the trim is made.
+/// Whatever happened before: a thread that leaves its queue changes no word, no thread and no place of another in a
+/// queue, and its wake is told, once, and nothing else; so it goes on as one that was woken. A trim that is declined
+/// changes no word and no queue and tells nothing, and its thread goes on as where the trim is made.
 pub fn leaves_and_declines_are_lone()
     ensures { LeavesAreLone }
 {}
 
-/// Whatever happens, where nobody leaves by itself, trims declined or not: each wake names the front of a queue, by all that was told before it.
+/// Whatever happens, where nobody leaves by itself, trims declined or not: each wake names the front of a queue, by all
+/// that was told before it.
 pub fn without_leaves_as_before()
     ensures { FrontsAreWoken }
 {}
@@ -157,8 +170,8 @@ pub fn without_reinits_as_before()
     ensures { UnusableStays }
 {}
 
-/// Whatever happened before: nobody comes to sleep on a mutex that is unusable. So whoever sees that nobody sleeps there
-/// finds nobody asleep there later either, until the mutex is made anew.
+/// Whatever happened before: nobody comes to sleep on a mutex that is unusable. So whoever sees that nobody sleeps
+/// there finds nobody asleep there later either, until the mutex is made anew.
 pub fn nobody_joins_an_unusable_mutex()
     ensures { NobodyJoinsAnUnusableMutex }
 {}

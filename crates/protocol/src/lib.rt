@@ -1,25 +1,30 @@
 //! The protocol of robust mutexes as a pure machine, and what holds of every run of it.
 //!
-//! A state is the words, who sleeps on each, and for each thread the call that it is in. An [`Event`] begins a call, makes its
-//! next access, kills a thread, takes a sleeper out of its queue, declines a trim, renews a reaped thread or makes an
-//! unusable mutex anew; `specs/` says what each event does and notes ([`Note`]), and a trace is what the notes tell
-//! ([`Note::facts`]). The theorems about every run, wherever threads are killed and renewed, and mutexes made anew:
+//! A state is the words, who sleeps on each, and for each thread the call that it is in. An [`Event`] begins a call,
+//! makes its next access, kills a thread, takes a sleeper out of its queue, declines a trim, renews a reaped thread or
+//! makes an unusable mutex anew; `specs/` says what each event does and notes ([`Note`]), and a trace is what the notes
+//! tell ([`Note::facts`]). The theorems about every run, wherever threads are killed and renewed, and mutexes made
+//! anew:
 //!
 //! - `history_is_legal`: the points and the deaths are one legal history of POSIX robust mutexes;
-//! - `trace_is_explained`, `events_apply`: each call has its points and returns their reply, and no event is passed over;
+//! - `trace_is_explained`, `events_apply`: each call has its points and returns their reply, and no event is passed
+//!   over;
 //! - `no_reaped_owner`, `deaths_are_told`, `lists_are_kept`: what a dead thread owned is found, marked and told, once;
-//! - `no_sleeper_is_stranded`, `lone_threads_come_to_rest`, `undivided_calls_reply`: what threads do alone comes to an end;
+//! - `no_sleeper_is_stranded`, `lone_threads_come_to_rest`, `undivided_calls_reply`: what threads do alone comes to an
+//!   end;
 //! - `sleeps_are_told`, `waiters_are_kept`: who sleeps where, and WAITERS in the word while somebody does;
 //! - `wakes_are_right`: whom an event wakes or moves;
-//! - `leaves_and_declines_are_lone`, `without_leaves_as_before`: what sleepers that leave and trims that are declined do;
-//! - `renewals_begin_anew`, `without_renewals_as_before`: what a reaped thread that lives anew finds, and leaves as it is;
-//! - `reinits_free_the_mutex`, `without_reinits_as_before`, `nobody_joins_an_unusable_mutex`: what it is to make an unusable
-//!   mutex anew, and that nothing else does;
+//! - `leaves_and_declines_are_lone`, `without_leaves_as_before`: what sleepers that leave and trims that are declined
+//!   do;
+//! - `renewals_begin_anew`, `without_renewals_as_before`: what a reaped thread that lives anew finds, and leaves as it
+//!   is;
+//! - `reinits_free_the_mutex`, `without_reinits_as_before`, `nobody_joins_an_unusable_mutex`: what it is to make an
+//!   unusable mutex anew, and that nothing else does;
 //! - `nobody_is_passed_by`, `signals_are_right`: of condition variables.
 //!
-//! Stands on `mutex` and `condvar`, for the calls' programs, on `robustlist` and `exitwalk`, for lists and the walk over them,
-//! on `memorymap`, `stepprograms` and `posixmutex`, for layouts, accesses and histories, on `buckets`, for who is woken or moved, on `facts`, for what notes tell, and
-//! on `lockword`, for cells and replies.
+//! Stands on `mutex` and `condvar`, for the calls' programs, on `robustlist` and `exitwalk`, for lists and the walk
+//! over them, on `memorymap`, `stepprograms` and `posixmutex`, for layouts, accesses and histories, on `buckets`, for
+//! who is woken or moved, on `facts`, for what notes tell, and on `lockword`, for cells and replies.
 //!
 //! ```text
 //! // Thread 1 begins a lock, announces the mutex, loads its cell, takes it, and dies before it has linked the entry.

@@ -22,8 +22,8 @@ pub enum Note {
         call: Begun,
         refused: Option<Reply>,
     },
-    /// A thread made an access of its call: whether that decided something of the call's mutex, where the thread fell asleep, whom it woke, whom it moved, asleep, to
-    /// the mutex's queue, and whether the call returned.
+    /// A thread made an access of its call: whether that decided something of the call's mutex, where the thread fell
+    /// asleep, whom it woke, whom it moved, asleep, to the mutex's queue, and whether the call returned.
     Stepped {
         thread: Tid,
         mutex: u16,
@@ -41,7 +41,8 @@ pub enum Note {
     Left {
         thread: Tid,
     },
-    /// The kernel made an access for a thread that died: of which mutex it told the owner's death, whom it woke, and whether it has reaped the thread.
+    /// The kernel made an access for a thread that died: of which mutex it told the owner's death, whom it woke, and
+    /// whether it has reaped the thread.
     Walked {
         thread: Tid,
         death: Option<u16>,

@@ -19,7 +19,8 @@ pub(crate) struct Guarded {
     accounts: Accounts,
 }
 
-/// A thread that holds the mutex, and what its lock was answered: EOWNERDEAD where the mutex's last owner died. The accounts are reached by it alone.
+/// A thread that holds the mutex, and what its lock was answered: EOWNERDEAD where the mutex's last owner died. The
+/// accounts are reached by it alone.
 #[derive(Drop)]
 pub(crate) struct Owner<'a> {
     pub(crate) told: Reply,
@@ -51,7 +52,8 @@ impl Guarded {
         accounts
     }
 
-    /// Takes the mutex, asleep while another thread owns it. After a dead owner the accounts are put right first, and the mutex is declared consistent. The pass comes back where the mutex can't be had.
+    /// Takes the mutex, asleep while another thread owns it. After a dead owner the accounts are put right first, and
+    /// the mutex is declared consistent. The pass comes back where the mutex can't be had.
     pub(crate) fn lock<'a, R: Wait>(
         &'a self,
         rt: &R,
@@ -104,7 +106,8 @@ fn declared(bench: &Bench, pass: Pass<Live>, mutex: u16) -> Pass<Live>
 }
 
 impl Owner<'_> {
-    /// Frees the mutex, and wakes one who waits for it. Where somebody kills its thread before that wake, the kernel makes it as it goes through the thread's list.
+    /// Frees the mutex, and wakes one who waits for it. Where somebody kills its thread before that wake, the kernel
+    /// makes it as it goes through the thread's list.
     pub(crate) fn unlock<R: Wait>(self, rt: &R, bench: &Bench) -> WorkerPass
         requires pass { IsLive bench.now self.pass }
         requires mutex { self.mutex < (layout_of bench.now).mutexes }
@@ -126,7 +129,8 @@ impl Owner<'_> {
         }
     }
 
-    /// Its thread dies as the owner, and the kernel goes through its list: the mutex is marked, and one who waits for it is woken.
+    /// Its thread dies as the owner, and the kernel goes through its list: the mutex is marked, and one who waits for
+    /// it is woken.
     pub(crate) fn die<R: Wait>(self, rt: &R, bench: &Bench) -> Pass<Reaped>
         requires pass { IsLive bench.now self.pass }
         requires mutex { self.mutex < (layout_of bench.now).mutexes }

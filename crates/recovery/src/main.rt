@@ -1,7 +1,8 @@
 //! A worked example: two accounts that a robust mutex guards, and whose owner dies in the middle of a transfer.
 //!
-//! One thread owns the mutex, takes 30 from the first account, and dies before it adds them to the second. Another thread waits for the mutex meanwhile. The walk over the dead
-//! thread's list marks the mutex and wakes whoever sleeps on it: the other thread is told EOWNERDEAD, puts the accounts right by their journal, declares the mutex consistent,
+//! One thread owns the mutex, takes 30 from the first account, and dies before it adds them to the second. Another
+//! thread waits for the mutex meanwhile. The walk over the dead thread's list marks the mutex and wakes whoever sleeps
+//! on it: the other thread is told EOWNERDEAD, puts the accounts right by their journal, declares the mutex consistent,
 //! and makes a transfer of its own. The gate proves it, runs it, and compares what it prints with `stdout`.
 #![tactic(auto)]
 

@@ -47,7 +47,8 @@ Stops trace s e = RefusesCommand s e.line e.fault ⊎ WantsAtFirst e
 Stops table s e = RefusesCommand s e.line e.fault ⊎ WantsAtFirst e
 Stops replies s e = WantsAtFirst e
 
--- what is wrong with these bytes as a script: their first fault, or want of memory at a line before it that says something; or what stops the script that they are
+-- what is wrong with these bytes as a script: their first fault, or want of memory at a line before it that says
+-- something; or what stops the script that they are
 abbrev pub IsFaultOf : Report → List ℕ → ScriptFault → Type 0
 IsFaultOf k bytes e = (TellsAt e e.fault (script_read (mode_of k) bytes) × (e.fault ≡ fault.OutOfMemory → SpeaksAt bytes e.line)) ⊎ ((s : Scope) × (script_read (mode_of k) bytes ≡ Ok s) × Stops k s e)
 
@@ -57,7 +58,8 @@ WantsMemory trace bytes = ⊥
 WantsMemory table bytes = ⊥
 WantsMemory replies bytes = (s : Scope) × (script_read (mode_of replies) bytes ≡ Ok s)
 
--- why what is told of a script with these bytes wasn't written, or not all: a fault of the script, or want of memory, before the first byte; or a writer that failed behind a beginning
+-- why what is told of a script with these bytes wasn't written, or not all: a fault of the script, or want of memory,
+-- before the first byte; or a writer that failed behind a beginning
 abbrev pub Fails : Report → List ℕ → Option (List ℕ) → Option (List ℕ) → Failure → Type 0
 Fails k bytes old new Usage = ⊥
 Fails k bytes old new CannotRead = ⊥
@@ -84,7 +86,8 @@ FailsTrace bytes old new OutOfMemory = ⊥
 FailsTrace bytes old new (Script e) = ⊥
 FailsTrace bytes old new (Trace e) = (new ≡ old) × Answers (trace_read bytes) (Err e)
 
--- the same for a reader's file: before the first byte it couldn't be read, or memory was wanted; or this came of its bytes, which are all that it had, or more than there may be
+-- the same for a reader's file: before the first byte it couldn't be read, or memory was wanted; or this came of its
+-- bytes, which are all that it had, or more than there may be
 abbrev pub FailsAt : ℕ → (List ℕ → Failure → Type 0) → Option (List ℕ) → Option (List ℕ) → Option (List ℕ) → Option (List ℕ) → Failure → Type 0
 FailsAt most Comes had left old new Usage = ⊥
 FailsAt most Comes had left old new CannotRead = new ≡ old
@@ -117,7 +120,8 @@ file_of (form.Threads file) = file.now
 file_of (form.Check file) = file.now
 file_of form.Usage = []
 
--- how a form ended: it wrote what it had to, the writer has let go of it, and nothing was told; or it failed, and that is told, or a beginning of it, where it can't be written
+-- how a form ended: it wrote what it had to, the writer has let go of it, and nothing was told; or it failed, and that
+-- is told, or a beginning of it, where it can't be written
 abbrev pub Ends : Form → Option (List ℕ) → Option (List ℕ) → Option (List ℕ) → Option (List ℕ) → Type 0 → Type 0 → Option (List ℕ) → Option (List ℕ) → ℕ → Type 0
 Ends f had left old new LetGo Quiet told told' status = (EndsAs f had left old new status × LetGo × Quiet)
     ⊎ ((g : Failure) × FailsAs f had left old new g × AppendsFront told told' (failure_text (file_of f) g) × (status ≡ failure_status g))

@@ -20,8 +20,10 @@ use Rattle.ruledwords.specs.Seen.{by, held_after, points_of, Leaves}
 use Rattle.report.specs.Lone.{AreLone, ArePlayed}
 use Rattle.report.specs.Parts.{Part}
 
--- the points that calls of thread t made of mutex m: of each call on it, or on a condition variable of it, all its points, in the order of the calls, the last with the reply that the call was given. That is one point, and of a
--- wait that wasn't refused an unlock and then a lock. A lock or trylock that is refused as the thread holds 2,048 mutexes has none
+-- the points that calls of thread t made of mutex m: of each call on it, or on a condition variable of it, all its
+-- points, in the order of the calls, the last with the reply that the call was given. That is one point, and of a wait
+-- that wasn't refused an unlock and then a lock. A lock or trylock that is refused as the thread holds 2,048 mutexes
+-- has none
 abbrev pub AreTold : Layout' → ℕ → ℕ → List Op → List Reply → List Point → Type 0
 AreTold k t m [] [] xs = xs ≡ []
 AreTold k t m (c ∷ cs) (r ∷ rs) xs =
@@ -30,8 +32,9 @@ AreTold k t m (c ∷ cs) (r ∷ rs) xs =
 AreTold k t m [] (r ∷ rs) xs = ⊥
 AreTold k t m (c ∷ cs) [] xs = ⊥
 
--- the points that thread t made of mutex m, behind its earlier ones, and that died before it answered all these calls: those of the calls that were answered, and then, if the next call is on this mutex or on a condition variable of
--- it, all that it has or some of the first. If the thread held the mutex then, its death as the mutex's owner comes last
+-- the points that thread t made of mutex m, behind its earlier ones, and that died before it answered all these calls:
+-- those of the calls that were answered, and then, if the next call is on this mutex or on a condition variable of it,
+-- all that it has or some of the first. If the thread held the mutex then, its death as the mutex's owner comes last
 pub record AreLastWordsBehind (k : Layout') (t m : ℕ) (earlier : List Point) (calls : List Op) (replies : List Reply) (xs : List Point) : Type 0 where
   pub call : Op
   pub next : slice_get calls (length replies) ≡ Some call
@@ -51,8 +54,9 @@ ArePointsBehind k t m earlier calls replies false xs = AreTold k t m calls repli
 abbrev pub ArePointsOf : Layout' → ℕ → ℕ → List Op → List Reply → Bool → List Point → Type 0
 ArePointsOf k t m calls replies died xs = ArePointsBehind k t m [] calls replies died xs
 
--- the counters of condition variables that began with these values: those of a mutex, added up, are what they were at first, and one more for each signal or broadcast of its history that was answered OK. Where there is none, each
--- is what it was
+-- the counters of condition variables that began with these values: those of a mutex, added up, are what they were at
+-- first, and one more for each signal or broadcast of its history that was answered OK. Where there is none, each is
+-- what it was
 pub record CountUp (k : Layout') (presets counters : List ℕ) (histories : List (List Point)) : Type 0 where
   pub sums : (m : ℕ) → m < k.mutexes → total_of m k.conditions (slice_index counters) 0 ≡ total_of m k.conditions (slice_index presets) 0 + counts_in (at histories (cell_place k m))
   pub still : (q : ℕ) → q < length k.conditions → counts_in (at histories (cell_at k q)) ≡ 0 → slice_index counters q ≡ slice_index presets q
@@ -64,14 +68,16 @@ abbrev pub IsCountOf : Bool → ℕ → ℕ → Type 0
 IsCountOf true replies calls = replies < calls
 IsCountOf false replies calls = replies ≡ calls
 
--- what a phase adds of thread i + 1, with these calls in it, where these points of each mutex stand before the phase: the points of its calls, in their order and with the replies that it was given. One that had died adds nothing
+-- what a phase adds of thread i + 1, with these calls in it, where these points of each mutex stand before the phase:
+-- the points of its calls, in their order and with the replies that it was given. One that had died adds nothing
 abbrev pub TakesPart : Layout' → ℕ → Bool → (ℕ → List Point) → List Op → List Reply → Bool → (ℕ → List Point) → Type 0
 TakesPart k i true earlier calls replies died points = (replies ≡ []) × (died ≡ false) × ((m : ℕ) → m < k.mutexes → by (i + 1) (points m) ≡ [])
 TakesPart k i false earlier calls replies died points =
     IsCountOf died (length replies) (length calls)
     × ((m : ℕ) → m < k.mutexes → ArePointsBehind k (i + 1) m (by (i + 1) (earlier m)) calls replies died (by (i + 1) (points m)))
 
--- what phases add, one after the other, in which threads have these calls. Some had died before, and these points stand before the first phase
+-- what phases add, one after the other, in which threads have these calls. Some had died before, and these points stand
+-- before the first phase
 abbrev pub AreParts : Layout' → (ℕ → Bool) → (ℕ → List Point) → List (ℕ → List Op) → List Part → Type 0
 AreParts k gone earlier [] [] = Unit {0}
 AreParts k gone earlier (calls ∷ phases) (q ∷ parts) =
@@ -84,9 +90,11 @@ abbrev pub some_died : ℕ → List Part → Bool
 some_died i [] = false
 some_died i (q ∷ parts) = q.died i || some_died i parts
 
--- the phases stand in their order: the history of each mutex has all points of a phase before those of the next, and each thread's replies are those of the phases, one after the other. Where each of the first n phases has one
--- thread's calls alone, whatever the later ones have, each of its replies is the answer of the mutexes and the counters as they are then. The mutexes are left as their histories up to there leave them, and the counters of
--- all phases as they are at last
+-- the phases stand in their order: the history of each mutex has all points of a phase before those of the next, and
+-- each thread's replies are those of the phases, one after the other. Where each of the first n phases has one thread's
+-- calls alone, whatever the later ones have, each of its replies is the answer of the mutexes and the counters as they
+-- are then. The mutexes are left as their histories up to there leave them, and the counters of all phases as they are
+-- at last
 pub record StandInOrder (k : Layout') (phases : List (ℕ → List Op)) (presets : List ℕ) (replies : List (Vec Reply Global)) (died : List Bool) (counters : List ℕ) (histories : List (List Point)) : Type 0 where
   pub parts : List Part
   pub are : AreParts k (λ i. false) (λ m. []) phases parts
@@ -98,8 +106,10 @@ pub record StandInOrder (k : Layout') (phases : List (ℕ → List Op)) (presets
 
 -- ---- all of it
 
--- what threads with these calls were told, which of them died, and what is left: each mutex has one legal history of points of these threads, after which it is as its word says, and of each thread it has just
--- the points of that thread's calls, and its death where it died as the owner. The counters count the signals and the broadcasts of these histories
+-- what threads with these calls were told, which of them died, and what is left: each mutex has one legal history of
+-- points of these threads, after which it is as its word says, and of each thread it has just the points of that
+-- thread's calls, and its death where it died as the owner. The counters count the signals and the broadcasts of these
+-- histories
 pub record StandTogether (k : Layout') (calls : ℕ → List Op) (phases : List (ℕ → List Op)) (presets : List ℕ) (replies : List (Vec Reply Global)) (died : List Bool) (cells counters : List ℕ) : Type 0 where
   pub histories : List (List Point)
   pub legal : (m : ℕ) → m < k.mutexes → Leaves k.threads (cell_place k m) (at histories (cell_place k m)) (object_of (fields_of (slice_index cells m)))

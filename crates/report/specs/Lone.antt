@@ -1,6 +1,6 @@
--- What a thread is answered while no other thread is in a call, and what that leaves of the mutexes and of the counters of
--- condition variables
--- (pthread_mutex_lock, pthread_mutex_trylock, pthread_mutex_unlock, pthread_mutex_consistent, pthread_cond_wait(3p)).
+-- What a thread is answered while no other thread is in a call, and what that leaves of the mutexes and of the counters
+-- of condition variables (pthread_mutex_lock, pthread_mutex_trylock, pthread_mutex_unlock, pthread_mutex_consistent,
+-- pthread_cond_wait(3p)).
 use Rattle.std.specs.Prelude.{ℕ, ◌≡◌, ◌≢◌, ◌+◌, ◌<◌, ◌==◌, ◌||◌, Bool, true, false, nat_le, Option, None, Some, List, [], ◌∷◌, length, slice_get, take, if◌then◌else◌}
 use Rattle.lockword.specs.declared.reply.Reply.{Reply}
 use Rattle.lockword.specs.declared.reply.Reply.TheVariants.{OK, EPERM, EBUSY, EINVAL, EDEADLK, EOWNERDEAD, ENOTRECOVERABLE, XRACED, XHELD, XFULL, XSTATE}
@@ -40,9 +40,10 @@ abbrev pub counting : ℕ → Reply
 counting v = if v == largest_counter then XFULL else OK
 
 -- the answer to thread t, which holds so many mutexes, of a call of this operation on a mutex that is o, and on a
--- condition variable whose counter is v, if on one. None: it isn't answered, as a lock of a mutex that another thread owns
--- sleeps for good. A wait that isn't refused sleeps for good too, as nobody signals; if it is answered, it has taken the
--- mutex again that it released. A reinit is no call of theirs. (A trylock never gives up, as nobody else changes the cell)
+-- condition variable whose counter is v, if on one. None: it isn't answered, as a lock of a mutex that another thread
+-- owns sleeps for good. A wait that isn't refused sleeps for good too, as nobody signals; if it is answered, it has
+-- taken the mutex again that it released. A reinit is no call of theirs. (A trylock never gives up, as nobody else
+-- changes the cell)
 abbrev pub answer : ℕ → ℕ → ℕ → Operation → Object → Option Reply
 answer held t v Lock o = taking t (nat_le held_limit held) o.unusable o.owner o.inconsistent (Some EDEADLK) None
 answer held t v TryLock o = taking t (nat_le held_limit held) o.unusable o.owner o.inconsistent (Some EBUSY) (Some EBUSY)
@@ -58,8 +59,8 @@ answer held t v Reinit o = if o.unusable then Some OK else None
 abbrev pub IsAnswer : ℕ → ℕ → ℕ → Operation → Object → Reply → Type 0
 IsAnswer held t v op o r = answer held t v op o ≡ Some r
 
--- what a counter that is v leaves open of the reply of a signal or a broadcast, which counts exactly where it is answered
--- OK: a full counter doesn't count, and no other refuses to
+-- what a counter that is v leaves open of the reply of a signal or a broadcast, which counts exactly where it is
+-- answered OK: a full counter doesn't count, and no other refuses to
 abbrev pub IsByCounter : ℕ → Operation → Reply → Type 0
 IsByCounter v Signal OK = v ≢ largest_counter
 IsByCounter v Signal XFULL = v ≡ largest_counter
@@ -71,8 +72,8 @@ abbrev pub AreByCounter : ℕ → List Act → Type 0
 AreByCounter v [] = Unit {0}
 AreByCounter v (a ∷ acts) = IsByCounter v a.0 a.1 × AreByCounter v acts
 
--- all that a step of the mutex may reply, and the counter too, is that, but for X_RACED; and the step leaves the mutex so.
--- (An unusable mutex has no owner)
+-- all that a step of the mutex may reply, and the counter too, is that, but for X_RACED; and the step leaves the mutex
+-- so. (An unusable mutex has no owner)
 abbrev pub MutexesPermitOnlyAnswers : Type 0
 MutexesPermitOnlyAnswers = (held t v : ℕ) (o n : Object) (op : Operation) (r : Reply) → (o.unusable ≡ true → o.owner ≡ None)
     → op ≢ Death → r ≢ XRACED → IsByCounter v op r → Does held o t op r n → IsAnswer held t v op o r × (n ≡ stepped o t op r)
@@ -103,8 +104,8 @@ behind k t os c r m = if m == mutex_of k c then stepped (os m) t (operation_of c
 abbrev pub answer_to : Layout' → ℕ → (ℕ → Object) → (ℕ → ℕ) → Op → Option Reply
 answer_to k t os vs c = answer (held_by t os k.mutexes) t (counter_of vs (condition_of c)) (operation_of c) (os (mutex_of k c))
 
--- thread t made these calls, one after the other, and was answered so; where the mutexes were os and the counters vs, they
--- are os' and vs' behind them
+-- thread t made these calls, one after the other, and was answered so; where the mutexes were os and the counters vs,
+-- they are os' and vs' behind them
 abbrev pub AreAnswered : Layout' → ℕ → (ℕ → Object) → (ℕ → ℕ) → List Op → List Reply → (ℕ → Object) → (ℕ → ℕ) → Type 0
 AreAnswered k t os vs [] [] os' vs' = (os' ≡ os) × (vs' ≡ vs)
 AreAnswered k t os vs (c ∷ cs) (r ∷ rs) os' vs' =

@@ -25,7 +25,8 @@ abbrev pub as_worker : EitherPass Live ReapedThread → WorkerPass
 as_worker (First p) = Lives p
 as_worker (Second p) = Reaped p
 
--- threads met: all of them know one history of each mutex now, which has all that any of them had seen, and of each of them just its own points. Who lived lives, and keeps its number
+-- threads met: all of them know one history of each mutex now, which has all that any of them had seen, and of each of
+-- them just its own points. Who lived lives, and keeps its number
 pub record HaveMet (w : Words) (workers met : List Worker) : Type 0 where
   pub know : KnowAll (map (λ v. card_in v.pass) workers) (map (λ v. card_in v.pass) met)
   pub right : All (λ v. IsWorkerOf w v.pass) met

@@ -34,7 +34,8 @@ told_of s = notes (first_state s) (events_in s)
 abbrev pub meaning : Scope → List ℕ
 meaning s = run_text (length s.threads) (length s.mutexes) (length s.conditions) (told_of s)
 
--- the lines tell of the script's threads, mutexes and condition variables, by their names, what they were answered, who died, and what is left
+-- the lines tell of the script's threads, mutexes and condition variables, by their names, what they were answered, who
+-- died, and what is left
 pub record AreLines (s : Scope) (a : Answers) (threads : List ThreadReplies) (mutexes : List MutexWord) (conditions : List ConditionWord) : Type 0 where
   pub thread_names : map (λ t. t.name.now) threads ≡ s.threads
   pub replies : map (λ t. t.replies.now) threads ≡ map (λ r. r.items) a.replies.items
@@ -44,7 +45,8 @@ pub record AreLines (s : Scope) (a : Answers) (threads : List ThreadReplies) (mu
   pub condition_names : map (λ c. c.name.now) conditions ≡ map (λ c. c.0) s.conditions
   pub counters : map (λ c. c.counter) conditions ≡ a.counters.items
 
--- real threads made the script's calls, each in the process that the script has it in, phase after phase, as far as they lived, and were answered so
+-- real threads made the script's calls, each in the process that the script has it in, phase after phase, as far as
+-- they lived, and were answered so
 pub record Answer (s : Scope) (a : Answers) : Type 0 where
   pub phases : List Phase
   pub asked : map jobs_seen phases ≡ jobs_of s
@@ -74,8 +76,9 @@ RunsLegally s = IsLegalRun (first_state s) (events_in s) (told_of s)
 abbrev pub IsFoundLegal : Scope → Type 0
 IsFoundLegal s = IsJudgedLegal (script_head s) (told_of s)
 
--- what may be written of a script: of a run, if it isn't too long to play, its trace or its table, and the run that they are of is legal; of real threads, what some that made its calls were
--- answered. A script doesn't determine what real threads are told
+-- what may be written of a script: of a run, if it isn't too long to play, its trace or its table, and the run that
+-- they are of is legal; of real threads, what some that made its calls were answered. A script doesn't determine what
+-- real threads are told
 abbrev pub Means : Report → Scope → List ℕ → Type 0
 Means trace s text = (overlong s ≡ None) × RunsLegally s × IsFoundLegal s × (text ≡ meaning s)
 Means table s text = (overlong s ≡ None) × RunsLegally s × (text ≡ meant_table s)
@@ -119,7 +122,8 @@ ServedFrontAs (form.Threads file) had left old new = ServedFront replies had lef
 ServedFrontAs (form.Check file) had left old new = CheckedFront had left old new
 ServedFrontAs form.Usage had left old new = new ≡ old
 
--- how many bytes a form takes at most: of a script or a trace one more than it may have, which tells that it is too long
+-- how many bytes a form takes at most: of a script or a trace one more than it may have, which tells that it is too
+-- long
 abbrev pub bytes_at_most : Form → ℕ
 bytes_at_most (form.Run file) = max_bytes + 1
 bytes_at_most (form.Table file) = max_bytes + 1

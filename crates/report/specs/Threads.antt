@@ -49,7 +49,8 @@ calls_over t ps = flat_map (calls_in t) ps
 abbrev pub open_gate : ℕ → ℕ → Op → Option Bool
 open_gate = λ t i c. Some true
 
--- a thread with this pass and this number made these calls, as far as it lived, and was answered so. One that had died makes none
+-- a thread with this pass and this number made these calls, as far as it lived, and was answered so. One that had died
+-- makes none
 abbrev pub WorksFrom : Words → List Op → Option ℕ → WorkerPass → List Reply → Worker → Type 0
 WorksFrom w calls die (Lives a) rs v = Worked w open_gate (card a) calls rs v.pass × IsLeftOf die v.pass v.die
 WorksFrom w calls die (Reaped d) rs v = (v.pass ≡ Reaped d) × (rs ≡ []) × (v.die ≡ None)
@@ -119,9 +120,11 @@ pub record HasEnded (w : Words) (workers : List Worker) (cells counters : List �
   pub words : AreCells last cells
   pub counts : AreCounters last counters
 
--- what came of the calls of the threads of a layout, each with its number or without, where the condition variables' counters begin with these values: there were words of just that layout, each thread's
--- process and each process's base as it says, on which each thread made its calls in these phases from its first pass on, as far as it lived, and was answered so; these threads died; and what is left of the
--- words' cells and counters are these. All replies and deaths of all threads stand in one history of each mutex, whose signals and broadcasts the counters count
+-- what came of the calls of the threads of a layout, each with its number or without, where the condition variables'
+-- counters begin with these values: there were words of just that layout, each thread's process and each process's base
+-- as it says, on which each thread made its calls in these phases from its first pass on, as far as it lived, and was
+-- answered so; these threads died; and what is left of the words' cells and counters are these. All replies and deaths
+-- of all threads stand in one history of each mutex, whose signals and broadcasts the counters count
 pub record HaveAnswered (k : Layout') (presets : List ℕ) (ps : List Phase) (dies : List (Option ℕ)) (replies : List (Vec Reply Global)) (died : List Bool) (cells counters : List ℕ) : Type 0 where
   pub words : Words
   pub layout : layout_of words ≡ k

@@ -42,7 +42,8 @@ fn status_of(verdict: Verdict) -> u8
     }
 }
 
-/// Judges a trace's bytes, and writes the verdict. It answers the exit status: 0 for a legal trace, and 1 for an illegal one.
+/// Judges a trace's bytes, and writes the verdict. It answers the exit status: 0 for a legal trace, and 1 for an
+/// illegal one.
 pub(crate) fn judge_bytes<W: Output>(
     alloc: Global,
     bytes: &[u8],

@@ -60,8 +60,9 @@ fn serve_named<T: Threads + Wait + Sync, F: Opener, W: Output, E: Write>(
     }
 }
 
-/// What `rfx` does with the words of its command line, the first being its name, and the exit status that it answers. Where they can't be had as text, they
-/// are another command line, unless memory was refused for them. The file that they name is opened by `files`; one that can't be is told.
+/// What `rfx` does with the words of its command line, the first being its name, and the exit status that it answers.
+/// Where they can't be had as text, they are another command line, unless memory was refused for them. The file that
+/// they name is opened by `files`; one that can't be is told.
 pub fn run<T: Threads + Wait + Sync, F: Opener, W: Output, E: Write>(
     rt: &T,
     alloc: Global,

@@ -306,10 +306,12 @@ fn file_named<'a>(form: &Form<'a>) -> &'a str
     }
 }
 
-/// What `rfx` does for a form of its command line, the file being open as `input`. It answers the exit status: 0 where all of the reader was a script and what it means is written, the
-/// trace or the table of a run, whose points and deaths are one legal history, or the replies of real threads, or where it was a legal trace and that is written; 1 for an illegal trace, and for a fault, told on `err`; 2 where the command
-/// line has no form. Where a fault is met before the output begins, nothing is written. Where all was written, the writer has let go of it, and nothing is told on `err`; so it is for an illegal
-/// trace too. It reads at most one byte more than a script or a trace may have.
+/// What `rfx` does for a form of its command line, the file being open as `input`. It answers the exit status: 0 where
+/// all of the reader was a script and what it means is written, the trace or the table of a run, whose points and
+/// deaths are one legal history, or the replies of real threads, or where it was a legal trace and that is written; 1
+/// for an illegal trace, and for a fault, told on `err`; 2 where the command line has no form. Where a fault is met
+/// before the output begins, nothing is written. Where all was written, the writer has let go of it, and nothing is
+/// told on `err`; so it is for an illegal trace too. It reads at most one byte more than a script or a trace may have.
 pub fn serve<T: Threads + Wait + Sync, R: Read, W: Output, E: Write>(
     rt: &T,
     alloc: Global,

@@ -18,7 +18,8 @@ use std::sync::Wait;
 use std::thread::Threads;
 use threadbench::{Bench, Job, Open, Record, WorkerPass};
 
-/// What each thread's calls were answered and whether it died, in the order of their ids, and the words of each mutex's cell and of each condition variable's counter when all have ended.
+/// What each thread's calls were answered and whether it died, in the order of their ids, and the words of each mutex's
+/// cell and of each condition variable's counter when all have ended.
 #[derive(Drop)]
 pub(crate) struct Answers {
     pub(crate) replies: Vec<Vec<Reply>>,
@@ -286,9 +287,10 @@ fn presets_of(alloc: Global, script: &Script) -> Result<Vec<u32>, AllocError>
     Ok(counters)
 }
 
-/// Lets real threads make the calls of a script, phase after phase, and tells what they were answered, which of them died, and what is left in the cells and in the counters. Each thread has the words
-/// where its process maps them. A phase begins when all calls of the one before have been answered, or their threads have died and the walks over their lists have ended. Refused
-/// where no memory is left.
+/// Lets real threads make the calls of a script, phase after phase, and tells what they were answered, which of them
+/// died, and what is left in the cells and in the counters. Each thread has the words where its process maps them. A
+/// phase begins when all calls of the one before have been answered, or their threads have died and the walks over
+/// their lists have ended. Refused where no memory is left.
 pub(crate) fn answers_of<R: Threads + Wait + Sync>(
     rt: &R,
     alloc: Global,

@@ -1,4 +1,5 @@
-//! `rfx`: runs a script event by event and prints its trace or its table, or lets real threads make its calls and prints their replies, or judges a trace.
+//! `rfx`: runs a script event by event and prints its trace or its table, or lets real threads make its calls and
+//! prints their replies, or judges a trace.
 //!
 //! All but opening files stands in `report`, whose contracts say what is written.
 #![tactic(auto)]
@@ -8,7 +9,8 @@ use std::io::{self, BufWriter, Read};
 use std::process::ExitCode;
 use std::{env, fs};
 
-/// The standard input's name among files. It is read as it stands, since opening it anew is refused where it is a socket, or another user's pipe.
+/// The standard input's name among files. It is read as it stands, since opening it anew is refused where it is a
+/// socket, or another user's pipe.
 const STANDARD_INPUT: &str = "/dev/stdin";
 
 /// The files of the system.

@@ -9,7 +9,8 @@ use std::process::ExitCode;
 use std::{env, fs};
 use streams::Opener;
 
-/// The standard input's name among files. It is read as it stands, since opening it anew is refused where it is a socket, or another user's pipe.
+/// The standard input's name among files. It is read as it stands, since opening it anew is refused where it is a
+/// socket, or another user's pipe.
 const STANDARD_INPUT: &str = "/dev/stdin";
 
 /// The files of the system.

@@ -45,8 +45,8 @@ link_finished h e (StoreBehind f) w = put (put w (previous_place f) e) h e
 link_finished h e StoreFirst w = put w h e
 link_finished h e (Ended x) w = w
 
--- what is so at a row of a link of the entry e into the list es: as they are, the words are a chain of the old list or of the new one; after the stores that are still to be made, they are a chain
--- both ways of the new one
+-- what is so at a row of a link of the entry e into the list es: as they are, the words are a chain of the old list or
+-- of the new one; after the stores that are still to be made, they are a chain both ways of the new one
 pub record Linking (h e : ℕ) (es : List ℕ) (r : LinkRow) (w : ℕ → ℕ) : Type 0 where
   pub places : AreDifferent (places_of h (e ∷ es))
   pub carries : LinkCarries h es r
@@ -71,7 +71,8 @@ pub record LinksAreRight : Type 0 where
       Linking h e es (link_resume h r (answer_on (link_access h e r) v)) w
   -- at its return it has put the entry in front
   pub ends : (h e : ℕ) (es : List ℕ) (x : Reply) (w : ℕ → ℕ) → Linking h e es (Ended x) w → (x ≡ OK) × IsChainBothWays w h (e ∷ es)
-  -- between any two accesses, and wherever it is stopped, the words are a chain of the old list or of the new one: its row says which
+  -- between any two accesses, and wherever it is stopped, the words are a chain of the old list or of the new one: its
+  -- row says which
   pub leads : (h e : ℕ) (es : List ℕ) (r : LinkRow) (w : ℕ → ℕ) → Linking h e es r w → IsChain w h (link_list e es r)
   -- its accesses are at the list's places and the entry's
   pub near : (h e : ℕ) (es : List ℕ) (r : LinkRow) (w : ℕ → ℕ) → Linking h e es r w → IsOn h (e ∷ es) (address_of (link_access h e r))

@@ -1,4 +1,5 @@
--- An entry is taken out of a list, access by access (robust-futex-ABI; the kernel follows next words alone, so the first store takes it out).
+-- An entry is taken out of a list, access by access (robust-futex-ABI; the kernel follows next words alone, so the
+-- first store takes it out).
 --
 -- | stands at     | access                                                             | then
 -- | LoadNext      | load the entry's next word                                         | LoadPrevious, with the next entry, or the head

@@ -16,8 +16,8 @@ unlink_list e es (StorePrevious n p) = without e es
 unlink_list e es (Ended x) = without e es
 unlink_list e es r = es
 
--- before the first store the words are a chain both ways of the old list, and a row carries the entry's words; from then on, after the store that is still to be made, they are a chain both ways of
--- the new one
+-- before the first store the words are a chain both ways of the old list, and a row carries the entry's words; from
+-- then on, after the store that is still to be made, they are a chain both ways of the new one
 abbrev pub UnlinkKnows : ℕ → ℕ → List ℕ → UnlinkRow → (ℕ → ℕ) → Type 0
 UnlinkKnows h e es LoadNext w = IsChainBothWays w h es
 UnlinkKnows h e es (LoadPrevious n) w = IsChainBothWays w h es × (n ≡ w e)
@@ -25,7 +25,8 @@ UnlinkKnows h e es (StoreNext n p) w = IsChainBothWays w h es × (n ≡ w e) × 
 UnlinkKnows h e es (StorePrevious n p) w = IsChainBothWays (put w (previous_place n) p) h (without e es) × IsAmong n (without e es)
 UnlinkKnows h e es (Ended x) w = IsChainBothWays w h (without e es) × (x ≡ OK)
 
--- what is so at a row of an unlink of the entry e from the list es: as they are, the words are a chain of the old list or of the new one
+-- what is so at a row of an unlink of the entry e from the list es: as they are, the words are a chain of the old list
+-- or of the new one
 pub record Unlinking (h e : ℕ) (es : List ℕ) (r : UnlinkRow) (w : ℕ → ℕ) : Type 0 where
   pub places : AreDifferent (places_of h es)
   pub among : IsAmong e es
@@ -49,7 +50,8 @@ pub record UnlinksAreRight : Type 0 where
       Unlinking h e es (unlink_resume h r (answer_on (unlink_access h e r) v)) w
   -- at its return it has taken the entry out
   pub ends : (h e : ℕ) (es : List ℕ) (x : Reply) (w : ℕ → ℕ) → Unlinking h e es (Ended x) w → (x ≡ OK) × IsChainBothWays w h (without e es)
-  -- between any two accesses, and wherever it is stopped, the words are a chain of the old list or of the new one: its row says which
+  -- between any two accesses, and wherever it is stopped, the words are a chain of the old list or of the new one: its
+  -- row says which
   pub leads : (h e : ℕ) (es : List ℕ) (r : UnlinkRow) (w : ℕ → ℕ) → Unlinking h e es r w → IsChain w h (unlink_list e es r)
   -- its accesses are at the list's places
   pub near : (h e : ℕ) (es : List ℕ) (r : UnlinkRow) (w : ℕ → ℕ) → Unlinking h e es r w → IsOn h es (address_of (unlink_access h e r))

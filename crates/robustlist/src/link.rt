@@ -6,7 +6,8 @@ use lockword::Reply;
 use std::marker::Model;
 use stepprograms::{Access, Answer, Progress, StepProgram};
 
-/// Where a link stands: the access that it makes next, and the first entry so far (the head's own address where the list was empty).
+/// Where a link stands: the access that it makes next, and the first entry so far (the head's own address where the
+/// list was empty).
 #[derive(Clone, Copy, Debug, PartialEq, Eq)]
 pub enum LinkRow {
     /// It loads the head's first word.
@@ -23,9 +24,11 @@ pub enum LinkRow {
     Ended(Reply),
 }
 
-/// An entry on its way to the front of a list (robust-futex-ABI). It makes 4 accesses where the list is empty, and else 5.
+/// An entry on its way to the front of a list (robust-futex-ABI). It makes 4 accesses where the list is empty, and else
+/// 5.
 ///
-/// The entry's two words lie apart from those of the head and of the list's entries. No other thread writes the words of the list.
+/// The entry's two words lie apart from those of the head and of the list's entries. No other thread writes the words
+/// of the list.
 #[derive(Clone, Copy, Debug, PartialEq, Eq)]
 pub struct Link {
     head: u64,
@@ -140,8 +143,8 @@ impl StepProgram for Link {
         }
     }
 
-    /// Goes on with an answer. One that no such access has counts as `Fault`, after which the link returns `EFAULT` and has left what its earlier
-    /// accesses did. Else it returns `OK` in the end.
+    /// Goes on with an answer. One that no such access has counts as `Fault`, after which the link returns `EFAULT` and
+    /// has left what its earlier accesses did. Else it returns `OK` in the end.
     #[inline(always)]
     fn resume(&mut self, answer: Answer) -> Progress {
         let row = self.led(answer);

@@ -6,8 +6,8 @@ use lockword::Reply;
 use std::marker::Model;
 use stepprograms::{Access, Answer, Progress, StepProgram};
 
-/// Where an unlink stands: the access that it makes next, and what the entry's two words were: the addresses of the entry after it and of the one before
-/// it, or the head's.
+/// Where an unlink stands: the access that it makes next, and what the entry's two words were: the addresses of the
+/// entry after it and of the one before it, or the head's.
 #[derive(Clone, Copy, Debug, PartialEq, Eq)]
 pub enum UnlinkRow {
     /// It loads the entry's next word.
@@ -22,7 +22,8 @@ pub enum UnlinkRow {
     Ended(Reply),
 }
 
-/// An entry on its way out of a list (robust-futex-ABI). It makes 3 accesses where the entry is the last, and else 4; the entry's own words stay.
+/// An entry on its way out of a list (robust-futex-ABI). It makes 3 accesses where the entry is the last, and else 4;
+/// the entry's own words stay.
 ///
 /// The entry is one of the list, which is a chain both ways. No other thread writes the words of the list.
 #[derive(Clone, Copy, Debug, PartialEq, Eq)]
@@ -95,7 +96,8 @@ impl Unlink {
         }
     }
 
-    /// The row after the store that took the entry out: behind the last entry comes the head, which has no previous word.
+    /// The row after the store that took the entry out: behind the last entry comes the head, which has no previous
+    /// word.
     #[inline(always)]
     fn after_next(&self, next: u64, previous: u64) -> UnlinkRow
         ensures { result ≡ unlink_after_next self.now.head next previous }
@@ -138,8 +140,8 @@ impl StepProgram for Unlink {
         }
     }
 
-    /// Goes on with an answer. One that no such access has counts as `Fault`, after which the unlink returns `EFAULT` and has left what its earlier
-    /// accesses did. Else it returns `OK` in the end.
+    /// Goes on with an answer. One that no such access has counts as `Fault`, after which the unlink returns `EFAULT`
+    /// and has left what its earlier accesses did. Else it returns `OK` in the end.
     #[inline(always)]
     fn resume(&mut self, answer: Answer) -> Progress {
         let row = self.led(answer);

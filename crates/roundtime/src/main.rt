@@ -1,7 +1,7 @@
 //! How long an uncontended round of a robust mutex takes, beside what its accesses and its two exchanges alone take.
 //!
-//! `roundtime N` makes N rounds of each, in one thread, and prints nanoseconds a round. Without N it measures nothing. The figures are the machine's; no test
-//! looks at them.
+//! `roundtime N` makes N rounds of each, in one thread, and prints nanoseconds a round. Without N it measures nothing.
+//! The figures are the machine's; no test looks at them.
 #![tactic(auto)]
 
 ghost use Rattle.std.specs.Prelude.{◌<◌, IfSome};
@@ -41,7 +41,8 @@ struct Met {
     previous: AtomicU64,
 }
 
-/// The accesses of a trylock and an unlock by a thread that holds nothing else, one after the other and in the same memory order, and whether each found what it should.
+/// The accesses of a trylock and an unlock by a thread that holds nothing else, one after the other and in the same
+/// memory order, and whether each found what it should.
 fn same_round(met: &Met) -> bool {
     met.pending.store(8, Ordering::SeqCst);
     let free = met.cell.load(Ordering::SeqCst);
@@ -79,7 +80,8 @@ fn same_rounds(count: u64) -> u64 {
     well
 }
 
-/// A trylock and an unlock. There is no pass where one of them wasn't answered OK, or somebody was to be woken: then the thread has stopped.
+/// A trylock and an unlock. There is no pass where one of them wasn't answered OK, or somebody was to be woken: then
+/// the thread has stopped.
 fn round(words: &Words, pass: Pass<Live>) -> Option<Pass<Live>>
     requires pass { IsLive words.now pass }
     requires mutex { 0 < (layout_of words.now).mutexes }

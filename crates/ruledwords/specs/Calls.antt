@@ -127,7 +127,9 @@ ExpectsKnown (row.Lock (lock.SetWaiters seen)) q d = left_by (changes_at d.chang
 ExpectsKnown (row.TryLock (try.Take seen failed)) q d = left_by (changes_at d.changes q) ≡ word_of seen
 ExpectsKnown r q d = Unit {0}
 
--- a call on the mutex whose cell is at q, begun at the card c, stands at the program p, and its pass has the card d: it is decided as its row tells; of its exchanges those failed that its answers tell, and others have changed the cell as often at least; it has come to know of no other word's changes
+-- a call on the mutex whose cell is at q, begun at the card c, stands at the program p, and its pass has the card d: it
+-- is decided as its row tells; of its exchanges those failed that its answers tell, and others have changed the cell as
+-- often at least; it has come to know of no other word's changes
 pub record Stands (op : Operation) (first : Row) (q : ℕ) (c : Card) (p : Standing) (d : Card) : Type 0 where
   pub of : IsOf op p.row
   pub called : Called c q (acts op (decided p.row)) d

@@ -1,4 +1,5 @@
--- Which words the cells of mutexes and the counters of condition variables had, one after the other, and who wrote each.
+-- Which words the cells of mutexes and the counters of condition variables had, one after the other, and who wrote
+-- each.
 use Rattle.std.specs.Prelude.{◌≡◌, ◌≢◌, ℕ, zero, suc, ◌+◌, ◌<◌, ◌≤◌, ◌==◌, not, List, [], ◌∷◌, ◌++◌, filter, length, map, slice_index, if◌then◌else◌}
 use mathlib.Core.Option.{some}
 use mathlib.Core.List.{IsPrefix}
@@ -79,7 +80,8 @@ abbrev pub AllTied : List (List Change) → List Card → Type 0
 AllTied xs [] = Unit {0}
 AllTied xs (c ∷ cs) = Tied xs c.thread c.changes × AllTied xs cs
 
--- of each cell and of each counter the changes that were made, of which each card has a beginning: they leave its word, and behind the first one threads of the layout made them. So nobody can put in a change but at their end, as its own
+-- of each cell and of each counter the changes that were made, of which each card has a beginning: they leave its word,
+-- and behind the first one threads of the layout made them. So nobody can put in a change but at their end, as its own
 pub record Recorded (k : Layout') (ws : List ℕ) (vs : List (List Card)) : Type 0 where
   pub changes : List (List Change)
   pub leave : (m : ℕ) → m < k.mutexes → left_by (changes_at changes (cell_place k m)) ≡ slice_index ws (cell_place k m)
@@ -89,7 +91,8 @@ pub record Recorded (k : Layout') (ws : List ℕ) (vs : List (List Card)) : Type
 
 -- ---- what an access tells
 
--- an access at the word at p met n and left v: behind what its thread knew of the word's changes stand others', which left n, and then its own, if it made one. Of other words' it knows what it knew
+-- an access at the word at p met n and left v: behind what its thread knew of the word's changes stand others', which
+-- left n, and then its own, if it made one. Of other words' it knows what it knew
 pub record Writes (c : Card) (p n v : ℕ) (d : Card) : Type 0 where
   pub since : List Change
   pub others : made_by c.thread since ≡ []
@@ -107,7 +110,8 @@ pub record ChangedNothing (c : Card) (p : ℕ) (d : Card) : Type 0 where
 abbrev pub ChangedNone : (ℕ → Type 0) → Card → Card → Type 0
 ChangedNone P c d = (p : ℕ) → P p → made_by c.thread (changes_at d.changes p) ≡ made_by c.thread (changes_at c.changes p)
 
--- a thread has counted once at p, the counter of a condition variable whose mutex's cell is at z: it left one more than what it found there, which is what it loaded last. Of other words, but for the cell, it has changed none
+-- a thread has counted once at p, the counter of a condition variable whose mutex's cell is at z: it left one more than
+-- what it found there, which is what it loaded last. Of other words, but for the cell, it has changed none
 pub record CountedOnce (c : Card) (z p : ℕ) (d : Card) : Type 0 where
   pub since : List Change
   pub others : made_by c.thread since ≡ []
@@ -125,13 +129,15 @@ pub record ChangedOnce (c : Card) (p : ℕ) (d : Card) : Type 0 where
 
 -- ---- of calls
 
--- of the changes of the word at p a thread knows what it knew, and maybe more; of other words' it knows what it knew; and the counter that it loaded last is the same
+-- of the changes of the word at p a thread knows what it knew, and maybe more; of other words' it knows what it knew;
+-- and the counter that it loaded last is the same
 pub record KnowsMoreAt (c : Card) (p : ℕ) (d : Card) : Type 0 where
   pub here : IsPrefix (changes_at c.changes p) (changes_at d.changes p)
   pub elsewhere : (q : ℕ) → q ≢ p → changes_at d.changes q ≡ changes_at c.changes q
   pub counted : d.counted ≡ c.counted
 
--- a thread has loaded the counter at p: it has changed nothing there, and the changes of this counter that it knows of leave the value that it loaded
+-- a thread has loaded the counter at p: it has changed nothing there, and the changes of this counter that it knows of
+-- leave the value that it loaded
 pub record Loaded (c : Card) (p : ℕ) (d : Card) : Type 0 where
   pub nothing : ChangedNothing c p d
   pub left : left_by (changes_at d.changes p) ≡ d.counted

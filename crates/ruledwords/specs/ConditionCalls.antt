@@ -55,7 +55,8 @@ IsCondAnswerOf (CmpRequeue from e n to m) (Moved woken moved) = Unit {0}
 IsCondAnswerOf (CmpRequeue from e n to m) Again = Unit {0}
 IsCondAnswerOf a x = IsAnswerOf a x
 
--- it is a call of the card's thread on a condition variable of the layout, its thread's own words are a list of what the thread holds, whole or in change, and what its row needs is so as far as its thread has seen
+-- it is a call of the card's thread on a condition variable of the layout, its thread's own words are a list of what
+-- the thread holds, whole or in change, and what its row needs is so as far as its thread has seen
 pub record IsInCondCall (k : Layout') (c : Card) (p : CondWhole) : Type 0 where
   pub on : IsOnCondition k (condition_at k p) (cond_standing p)
   pub knows : PhaseKnows p.phase
@@ -94,7 +95,8 @@ pub record IsSeatedCondCall (w : Words) (s : Seat (Unit {0}) (List Card)) (t : �
   pub call : IsInCondCall (layout_of w) (card_of s.me.0) p
   pub there : IsAtCondition p.phase
 
--- what an access found that comes in a phase: a word at the cell or at the counter, or what the thread knew of its own word
+-- what an access found that comes in a phase: a word at the cell or at the counter, or what the thread knew of its own
+-- word
 abbrev pub CondFound : Layout' → CondWhole → CondPhase → Card → ℕ → Card → Type 0
 CondFound k p (condition.AtWords r) c n d = Acted k (condition_at k p) (cond_standing p) r c n d
 CondFound k p f c n d = (d ≡ own_after k c (cond_access p)) × (answer_at (cond_access p) n ≡ answer_on (cond_access p) (known k c))

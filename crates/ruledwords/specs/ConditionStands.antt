@@ -1,4 +1,5 @@
--- What a call on a condition variable has decided, wherever it stands, and how it ends (pthread_cond_wait(3p), pthread_cond_signal(3p), pthread_cond_broadcast(3p)).
+-- What a call on a condition variable has decided, wherever it stands, and how it ends (pthread_cond_wait(3p),
+-- pthread_cond_signal(3p), pthread_cond_broadcast(3p)).
 use Rattle.std.specs.Prelude.{◌≡◌, ◌≢◌, ℕ, ◌+◌, ◌^◌, ◌%◌, ◌==◌, Bool, true, false, Option, Some, List, [], ◌∷◌, if◌then◌else◌}
 use Rattle.lockword.specs.declared.reply.Reply.{Reply}
 use Rattle.lockword.specs.declared.reply.Reply.TheVariants.{OK, EPERM, XFULL, XSTATE}
@@ -60,8 +61,9 @@ CountsBehind (cond.Broadcast (broadcast.SetWaiters seen)) n v = (n ≢ largest_c
 CountsBehind (cond.Broadcast (broadcast.Move seen)) n v = (n ≢ largest_counter) × (v ≡ Some (n + 1))
 CountsBehind r n v = Unit {0}
 
--- a wait has changed nothing at its counter; and behind its load the changes of that counter that its thread knows of leave what it loaded, by whose low half it sleeps. A signal and a broadcast have counted there once, behind
--- their point
+-- a wait has changed nothing at its counter; and behind its load the changes of that counter that its thread knows of
+-- leave what it loaded, by whose low half it sleeps. A signal and a broadcast have counted there once, behind their
+-- point
 abbrev pub LoadsBehind : CondRow → Card → ℕ → ℕ → Card → Type 0
 LoadsBehind (cond.Wait wait.LoadCell) c z p d = ChangedNothing c p d
 LoadsBehind (cond.Wait wait.LoadCounter) c z p d = ChangedNothing c p d
@@ -98,8 +100,8 @@ pub record CondStands (k : Layout') (q : ℕ) (op : Operation) (c : Card) (r : C
   pub usable : UsableBehind k q r d
   pub loads : LoadsBehind r c (cell_at k q) (counter_place k q) d
 
--- the reply of a call that ends: to whom doesn't own the mutex EPERM. A wait is refused with X_STATE where the last owner's death isn't declared; a signal and a broadcast with X_FULL exactly where the
--- counter that was loaded is full
+-- the reply of a call that ends: to whom doesn't own the mutex EPERM. A wait is refused with X_STATE where the last
+-- owner's death isn't declared; a signal and a broadcast with X_FULL exactly where the counter that was loaded is full
 abbrev pub cond_reply : Operation → Bool → ℕ → Reply
 cond_reply operation.Wait own n = if own then XSTATE else EPERM
 cond_reply op own n = if own then (if n == largest_counter then XFULL else OK) else EPERM
@@ -110,7 +112,8 @@ CountsOnce OK n v = v ≡ Some (n + 1)
 CountsOnce XFULL n v = v ≡ Some n
 CountsOnce x n v = Unit {0}
 
--- a signal or a broadcast that is answered OK has counted once, at the counter at p, and one that is answered X_FULL has found that full and left it so. (No other call counts anywhere)
+-- a signal or a broadcast that is answered OK has counted once, at the counter at p, and one that is answered X_FULL
+-- has found that full and left it so. (No other call counts anywhere)
 abbrev pub CountsThere : Operation → Reply → Card → ℕ → ℕ → Card → Type 0
 CountsThere operation.Signal OK c z p d = CountedOnce c z p d
 CountsThere operation.Signal XFULL c z p d = Loaded c p d
@@ -123,7 +126,8 @@ abbrev pub SetsWaiters : Operation → Reply → Bool → Type 0
 SetsWaiters operation.Broadcast OK b = b ≡ true
 SetsWaiters op x b = Unit {0}
 
--- a call that has ended with this reply: of one point, which has the reply and is the last that its thread has seen of the mutex
+-- a call that has ended with this reply: of one point, which has the reply and is the last that its thread has seen of
+-- the mutex
 pub record CondEnded (k : Layout') (q : ℕ) (op : Operation) (x : Reply) (c d : Card) : Type 0 where
   pub called : Called c (cell_at k q) ((op, x) ∷ []) d
   pub reply : x ≡ cond_reply op (owns_in k c (mutex_at k q)) d.counted
@@ -137,8 +141,8 @@ IsCondUnderWay w a c r =
     IsCondRunningOf w r × (condition_at (layout_of w) (cond_call r) ≡ condition_of c)
     × CondStands (layout_of w) (condition_of c) (operation_of c) (card a) (cond_row_in (cond_call r).phase) (card (cond_pass r))
 
--- a wait has released its mutex, which is usable then, and takes it by a lock that begins now: of the two points the first is the last that its thread has seen. It has loaded the counter of its own
--- condition variable
+-- a wait has released its mutex, which is usable then, and takes it by a lock that begins now: of the two points the
+-- first is the last that its thread has seen. It has loaded the counter of its own condition variable
 pub record HasReleased (w : Words) (a : Pass Live) (c : CondCall) (b : Pass Live) : Type 0 where
   pub of : operation_of c ≡ operation.Wait
   pub called : Called (card a) (cell_at (layout_of w) (condition_of c)) ((operation.Unlock, OK) ∷ []) (card b)
@@ -156,7 +160,8 @@ CondGoesOn w a c (Lives b x) = IsLive w b × CondEnded (layout_of w) (condition_
 abbrev pub CondKeeps : Words → CondRunning → CondTurn → Type 0
 CondKeeps w r turn = (a : Pass Live) (c : CondCall) → IsCondUnderWay w a c r → CondGoesOn w a c turn
 
--- a thread that has released its mutex in a wait has loaded the counter at p; and one whose signal or broadcast has taken effect has counted there, where the counter wasn't full (none dies behind an X_FULL)
+-- a thread that has released its mutex in a wait has loaded the counter at p; and one whose signal or broadcast has
+-- taken effect has counted there, where the counter wasn't full (none dies behind an X_FULL)
 abbrev pub LoadedBehind : List Act → Card → ℕ → ℕ → Card → Type 0
 LoadedBehind ((operation.Unlock, x) ∷ acts) c z p d = Loaded c p d
 LoadedBehind ((operation.Signal, OK) ∷ acts) c z p d = CountedOnce c z p d × (d.counted ≢ largest_counter)

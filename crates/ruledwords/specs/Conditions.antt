@@ -1,4 +1,5 @@
--- Calls on condition variables, on what the passes of running threads know: where they stand, what they need, and what an access at the mutex's cell or at the counter tells.
+-- Calls on condition variables, on what the passes of running threads know: where they stand, what they need, and what
+-- an access at the mutex's cell or at the counter tells.
 use Rattle.std.specs.Prelude.{◌≡◌, ◌≢◌, ℕ, ◌+◌, ◌-◌, ◌<◌, ◌≤◌, Bool, true, false, Option, Some, List, bit_or, length}
 use Rattle.lockword.specs.Cells.{fields_of}
 use Rattle.lockword.specs.declared.reply.Reply.TheVariants.{OK}
@@ -88,7 +89,8 @@ most_behind (cond.Wait (wait.Wake seen)) = held_limit - 1
 most_behind (cond.Wait (wait.Sleep seen)) = held_limit - 1
 most_behind r = held_limit
 
--- the phase of an unlock in which a thread's list is as in this one. A wait's entry is pending from before its release on, as an unlock's is until it clears it
+-- the phase of an unlock in which a thread's list is as in this one. A wait's entry is pending from before its release
+-- on, as an unlock's is until it clears it
 abbrev pub list_phase : CondPhase → Phase
 list_phase (condition.AtWords (cond.Wait (wait.Release seen))) = phase.AtCell (row.Unlock (unlock.Release false))
 list_phase (condition.AtWords (cond.Wait (wait.Wake seen))) = phase.Clearing OK
@@ -104,7 +106,8 @@ unlock_of p = record { thread = p.thread; operation = operation.Unlock; head = p
 
 -- ---- what it needs
 
--- what a row needs of the mutex, of the counter's value as far as its thread knows that, and of what it remembers of WAITERS in the cell: a broadcast moves sleepers to a cell where they are set
+-- what a row needs of the mutex, of the counter's value as far as its thread knows that, and of what it remembers of
+-- WAITERS in the cell: a broadcast moves sleepers to a cell where they are set
 abbrev pub Needs : ℕ → CondRow → Object → Option ℕ → Bool → Type 0
 Needs t (cond.Wait wait.LoadCounter) o v b = (o.owner ≡ Some t) × (o.inconsistent ≡ false)
 Needs t (cond.Wait (wait.Release seen)) o v b = (o.owner ≡ Some t) × (o.inconsistent ≡ false)
@@ -142,7 +145,8 @@ pub record Meets (k : Layout') (q : ℕ) (p : CondStanding) (c : Card) (n : ℕ)
   pub holder : holds c.thread (at c.seen (cell_at k q)) ≡ is_thread c.thread (object_of (fields_of n)).owner
   pub kept : OwnKept k c d
 
--- a load of the counter, or a count: the word was n. The thread owns the mutex, which this leaves as it is; so it knows the counter's value then, which is the one that it knew, if it knew one
+-- a load of the counter, or a count: the word was n. The thread owns the mutex, which this leaves as it is; so it knows
+-- the counter's value then, which is the one that it knew, if it knew one
 pub record Counts (k : Layout') (q : ℕ) (p : CondStanding) (c : Card) (n : ℕ) (d : Card) : Type 0 where
   pub object : Object
   pub sees : Sees c (cell_at k q) (decides_at k q p c n) object d
@@ -164,7 +168,8 @@ release_of p = record { thread = p.thread; cell = p.cell; row = row.Unlock (unlo
 abbrev pub having_set : Card → ℕ → ℕ → List (List Change) → Card
 having_set c q n zs = record c { last = n; marks = put_mark c.marks q true; changes = zs }
 
--- an access at the cell or at the counter, by its row. Where a broadcast sets WAITERS, nothing is seen anew; they stay set while its thread owns the mutex
+-- an access at the cell or at the counter, by its row. Where a broadcast sets WAITERS, nothing is seen anew; they stay
+-- set while its thread owns the mutex
 abbrev pub Acted : Layout' → ℕ → CondStanding → CondRow → Card → ℕ → Card → Type 0
 Acted k q p (cond.Wait wait.LoadCounter) c n d = Counts k q p c n d
 Acted k q p (cond.Wait (wait.Release seen)) c n d = Made (release_of p) (cell_at k q) c n d × OwnKept k c d

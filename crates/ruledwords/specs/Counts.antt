@@ -1,4 +1,5 @@
--- What the counters of condition variables say of the calls that were made (pthread_cond_signal, pthread_cond_broadcast).
+-- What the counters of condition variables say of the calls that were made (pthread_cond_signal,
+-- pthread_cond_broadcast).
 use Rattle.std.specs.Prelude.{◌≡◌, ℕ, ◌+◌, ◌<◌, ◌==◌, List, [], ◌∷◌, length, slice_index, if◌then◌else◌}
 use Rattle.posixmutex.specs.declared.point.Point.{Point}
 use Rattle.memorymap.specs.Layouts.{Layout', cell_place, counter_place}
@@ -26,7 +27,8 @@ mutex_at k q = slice_index k.conditions q
 abbrev pub cell_at : Layout' → ℕ → ℕ
 cell_at k q = cell_place k (mutex_at k q)
 
--- the counters of each mutex's condition variables, added up, are what they were at first, and one more for each point of its history that counts. Where none counts, each is what it was
+-- the counters of each mutex's condition variables, added up, are what they were at first, and one more for each point
+-- of its history that counts. Where none counts, each is what it was
 pub record Counted (k : Layout') (presets ws : List ℕ) (js : List (List Point)) : Type 0 where
   pub sums : (m : ℕ) → m < k.mutexes → total_of m k.conditions (counter_in k ws) 0 ≡ total_of m k.conditions (slice_index presets) 0 + counts_in (at js (cell_place k m))
   pub still : (q : ℕ) → q < length k.conditions → counts_in (at js (cell_at k q)) ≡ 0 → counter_in k ws q ≡ slice_index presets q

@@ -59,7 +59,8 @@ examined st me r me' = Turns me me' (λ c d. (d ≡ remembering c st.word r) × 
 abbrev pub left_by_mark : ℕ → ℕ → ℕ
 left_by_mark old n = if n == old then marked_word old else n
 
--- it has exchanged the word old of the cell at q for the same one marked, if that was the word: the owner's death. The word was n, and while the thread owned the mutex nobody else changed it
+-- it has exchanged the word old of the cell at q for the same one marked, if that was the word: the owner's death. The
+-- word was n, and while the thread owned the mutex nobody else changed it
 pub record Marks (k : Layout') (q old : ℕ) (c : Card) (n : ℕ) (d : Card) : Type 0 where
   pub sees : Sees c q (deaths c.thread q (n == old)) (object_of (fields_of (left_by_mark old n))) d
   pub misses : d.misses ≡ c.misses
@@ -77,7 +78,8 @@ marked k st me r me' = Turns me me' (λ c d. Marks k st.word st.first c r d)
 
 -- ---- what is left of a walk, as the card knows
 
--- the word v was found in the cell at q: since then others can only have set WAITERS in it, and not even that where it was set
+-- the word v was found in the cell at q: since then others can only have set WAITERS in it, and not even that where it
+-- was set
 pub record WasSeen (c : Card) (q v : ℕ) (tried : Bool) : Type 0 where
   pub found : Finds c q v
   pub remembered : (fields_of v).waiters ≡ true → mark_at c.marks q ≡ true
@@ -111,7 +113,8 @@ pub record TellsDeath (c : Card) (q : ℕ) (d : Card) : Type 0 where
 abbrev pub IsNoCell : Layout' → ℕ → Type 0
 IsNoCell k p = (m : ℕ) → m < k.mutexes → p ≢ cell_place k m
 
--- so far: of each mutex that the thread held at the card c its death is told, or it holds the mutex still; of no other is anything seen anew
+-- so far: of each mutex that the thread held at the card c its death is told, or it holds the mutex still; of no other
+-- is anything seen anew
 pub record HasWalked (k : Layout') (c d : Card) : Type 0 where
   pub thread : d.thread ≡ c.thread
   pub threads : d.threads ≡ c.threads
@@ -121,7 +124,8 @@ pub record HasWalked (k : Layout') (c d : Card) : Type 0 where
   pub changes : KnowsOn c d
   pub still : ChangedNone (IsNoCell k) c d
 
--- at its end: of each mutex that the thread held when it died, its death is told, and it holds nothing any more; what it has seen of any other mutex stays. It knows its own words still
+-- at its end: of each mutex that the thread held when it died, its death is told, and it holds nothing any more; what
+-- it has seen of any other mutex stays. It knows its own words still
 pub record IsReaped (k : Layout') (c d : Card) : Type 0 where
   pub thread : d.thread ≡ c.thread
   pub threads : d.threads ≡ c.threads

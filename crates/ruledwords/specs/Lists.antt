@@ -1,4 +1,5 @@
--- What a thread's own words say of its robust list, as far as its card knows them (robust-futex-ABI; get_robust_list(2)).
+-- What a thread's own words say of its robust list, as far as its card knows them (robust-futex-ABI;
+-- get_robust_list(2)).
 use Rattle.std.specs.Prelude.{◌<◌, ℕ, ◌^◌, nat_lt, Option, None, Some, if◌then◌else◌}
 use Rattle.memorymap.specs.Layouts.{Layout', place_in}
 use Rattle.mutex.specs.Standings.{Whole}

@@ -10,15 +10,18 @@ use Rattle.ruledwords.specs.Changes.{Writes}
 use Rattle.ruledwords.specs.Seen.{by, Leaves}
 use Rattle.ruledwords.specs.Rules.{Sat, At, Turns}
 
--- the word n of the cell at p is that after a legal list of the mutex's points, which begins with what the card has seen and then has other threads' points alone; no bits above its flags are set
+-- the word n of the cell at p is that after a legal list of the mutex's points, which begins with what the card has
+-- seen and then has other threads' points alone; no bits above its flags are set
 abbrev pub Finds : Card → ℕ → ℕ → Type 0
 Finds c p n = (since : List Point) × Leaves c.threads p (at c.seen p ++ since) (object_of (fields_of n)) × (by c.thread since ≡ []) × ((fields_of n).rest ≡ 0)
 
--- a thread that found the word n last, has made so many trims, and knows of these changes of cells, knows else what it knew
+-- a thread that found the word n last, has made so many trims, and knows of these changes of cells, knows else what it
+-- knew
 abbrev pub noted : Card → ℕ → ℕ → List (List Change) → Card
 noted c n t zs = record c { last = n; trims = t; changes = zs }
 
--- the card knows what the other one does, but for the word that was found last, the trims that were made, and changes of cells
+-- the card knows what the other one does, but for the word that was found last, the trims that were made, and changes
+-- of cells
 abbrev pub KnowsTheSame : Card → Card → Type 0
 KnowsTheSame c d = d ≡ noted c d.last d.trims d.changes
 

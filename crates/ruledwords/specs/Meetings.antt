@@ -16,8 +16,9 @@ use Rattle.ruledwords.specs.Passes.{card, layout_of, IsPassOf}
 use Rattle.ruledwords.specs.Rules.{At, Sat}
 use Rattle.ruledwords.specs.Seen.{by, points_of, Joined, Leaves, Saw}
 
--- these histories of mutexes and these changes of words begin with what the card has of them, and have of its thread just its own points and changes. The histories are legal; and the changes of a word, but for the first, are by threads
--- that there are
+-- these histories of mutexes and these changes of words begin with what the card has of them, and have of its thread
+-- just its own points and changes. The histories are legal; and the changes of a word, but for the first, are by
+-- threads that there are
 pub record ComesToKnow (seen : List (List Point)) (changes : List (List Change)) (c : Card) : Type 0 where
   pub legal : (p : ℕ) → (o : Object) × Leaves c.threads p (at seen p) o
   pub begins : (p : ℕ) → IsPrefix (at c.seen p) (at seen p)
@@ -63,7 +64,8 @@ module _ {A B : Type 0} where
 
 -- ---- calls behind a meeting
 
--- thread t saw these points of its own at p, as the call's that it made behind a meeting, and they stand behind all that a thread had seen of the mutex that came to the meeting with the card c
+-- thread t saw these points of its own at p, as the call's that it made behind a meeting, and they stand behind all
+-- that a thread had seen of the mutex that came to the meeting with the card c
 pub record StandsBehind (c : Card) (t p : ℕ) (acts : List Act) (e : Card) : Type 0 where
   pub before : List Point
   pub behind : List Point

@@ -32,7 +32,8 @@ use Rattle.ruledwords.specs.Changes.{ChangedOnce, OthersChanged}
 use Rattle.ruledwords.specs.Releases.{IsReleasing}
 use Rattle.ruledwords.specs.Turns.{running_program, GoesOn, HasDied, HasSeenTheSame, IsIn, IsRunningOf}
 
--- a call that may take mutex m replied so: by a thread that holds 2,048 mutexes it is refused, with nothing seen anew. Otherwise it is decided by one point, whose reply it is
+-- a call that may take mutex m replied so: by a thread that holds 2,048 mutexes it is refused, with nothing seen anew.
+-- Otherwise it is decided by one point, whose reply it is
 abbrev pub Takes : Layout' → ℕ → Operation → Card → Reply → Card → Type 0
 Takes k m op c r d = MatchBool (nat_le held_limit (held c)) ((r ≡ XHELD) × (d ≡ c)) (Called c (cell_place k m) ((op, r) ∷ []) d)
 
@@ -40,12 +41,14 @@ Takes k m op c r d = MatchBool (nat_le held_limit (held c)) ((r ≡ XHELD) × (d
 abbrev pub DiesTaking : Layout' → ℕ → Operation → Card → Card → Type 0
 DiesTaking k m op c d = (nat_le held_limit (held c) ≡ false) × Died c (cell_place k m) op d
 
--- a trylock of mutex m gives up only after four exchanges that each found a changed cell, as the pass counts them, and as often others have changed it
+-- a trylock of mutex m gives up only after four exchanges that each found a changed cell, as the pass counts them, and
+-- as often others have changed it
 abbrev pub Tried : Words → ℕ → Pass Live → Outcome → Type 0
 Tried w m a (outcome.Lives b r) = IsLive w b × Takes (layout_of w) m TryLock (card a) r (card b) × (r ≡ XRACED → ((card a).misses + 4 ≤ (card b).misses) × OthersChanged 4 (card a) (cell_place (layout_of w) m) (card b))
 Tried w m a (outcome.Dead d) = IsDying w d × DiesTaking (layout_of w) m TryLock (card a) (card d)
 
--- a declaration that mutex m is consistent: the reply is that of its point. So it is OK, EINVAL or EPERM, as the thread owned the mutex and found it inconsistent, owned it, or didn't own it
+-- a declaration that mutex m is consistent: the reply is that of its point. So it is OK, EINVAL or EPERM, as the thread
+-- owned the mutex and found it inconsistent, owned it, or didn't own it
 abbrev pub Declared : Words → ℕ → Pass Live → Outcome → Type 0
 Declared w m a (outcome.Lives b r) = IsLive w b × Called (card a) (cell_place (layout_of w) m) ((Consistent, r) ∷ []) (card b)
 Declared w m a (outcome.Dead d) = IsDying w d × Died (card a) (cell_place (layout_of w) m) Consistent (card d)
@@ -65,12 +68,14 @@ stops_releasing (released.Owes o) = 0
 stops_releasing (released.Refused b r) = 0
 stops_releasing (released.Dead d) = 1
 
--- whom a release has to wake that found this word: nobody where nobody waits, else all of a mutex that became unusable, else one
+-- whom a release has to wake that found this word: nobody where nobody waits, else all of a mutex that became unusable,
+-- else one
 abbrev pub wakes_of : ℕ → Wakes
 wakes_of w = if (fields_of w).waiters then (if (fields_of w).died then All else One) else Nobody
 
--- whom a release owes, by the mutex as it left it and by WAITERS in the word that it found: nobody where nobody waits; one of those who wait where the mutex can be taken, who then wakes the next one as it
--- unlocks; and all of them where it can't be taken any more (ENOTRECOVERABLE), as then nobody's unlock would wake the others
+-- whom a release owes, by the mutex as it left it and by WAITERS in the word that it found: nobody where nobody waits;
+-- one of those who wait where the mutex can be taken, who then wakes the next one as it unlocks; and all of them where
+-- it can't be taken any more (ENOTRECOVERABLE), as then nobody's unlock would wake the others
 pub record OwesAsLeft (wakes : Wakes) (waiters : Bool) (o : Object) : Type 0 where
   pub nobody : waiters ≡ false → wakes ≡ Nobody
   pub one : waiters ≡ true → o.unusable ≡ false → wakes ≡ One
@@ -89,8 +94,10 @@ owed_wakes o = o.wakes
 abbrev pub IsOwedOf : Words → Owed → Type 0
 IsOwedOf w o = IsRunningOf w (owed_running o)
 
--- a release of mutex m: its point is an unlock with OK where the mutex is freed, and with EPERM where it is refused. Whom it has to wake is told by the word that it found,
--- the last that the pass met, of which its thread was the owner: the cell's right before the one change that the thread has made of it. So it is those who wait for the mutex as the history leaves it
+-- a release of mutex m: its point is an unlock with OK where the mutex is freed, and with EPERM where it is refused.
+-- Whom it has to wake is told by the word that it found, the last that the pass met, of which its thread was the owner:
+-- the cell's right before the one change that the thread has made of it. So it is those who wait for the mutex as the
+-- history leaves it
 abbrev pub Frees : Words → ℕ → Pass Live → Released → Type 0
 Frees w m a (released.Owes o) =
     IsOwedOf w o × Called (card a) (cell_place (layout_of w) m) ((Unlock, OK) ∷ []) (card (owed_pass o))

@@ -15,7 +15,8 @@ use Rattle.posixmutex.specs.Objects.{fresh, Run}
 use Rattle.ruledwords.specs.Cards.{at}
 use Rattle.ruledwords.specs.Changes.{ChangedNothing, ChangedOnce}
 
--- where an unlock stands that has released its mutex, and has them to wake: before its wake, or before its entry is cleared
+-- where an unlock stands that has released its mutex, and has them to wake: before its wake, or before its entry is
+-- cleared
 abbrev pub owing_at : Wakes → Phase
 owing_at Nobody = Clearing OK
 owing_at One = AtCell (Unlock (Wake false))
@@ -32,11 +33,13 @@ FoundOwn (Unlock (Wake a)) t v = (fields_of v).owner ≡ t
 FoundOwn (Ended OK) t v = (fields_of v).owner ≡ t
 FoundOwn r t v = Unit {0}
 
--- the thread saw the mutex whose cell is at q become unusable where the word that it found last said that an owner died, and stay usable where it didn't
+-- the thread saw the mutex whose cell is at q become unusable where the word that it found last said that an owner
+-- died, and stay usable where it didn't
 abbrev pub IsSpoiltAsFound : ℕ → Card → Type 0
 IsSpoiltAsFound q d = (o : Object) → Run fresh (at d.seen q) o → o.unusable ≡ (fields_of d.last).died
 
--- an unlock that began at the card c has changed its mutex's cell never yet, or behind its release once, and that last of all; what that left of the mutex is as the word was that it found
+-- an unlock that began at the card c has changed its mutex's cell never yet, or behind its release once, and that last
+-- of all; what that left of the mutex is as the word was that it found
 abbrev pub ChangesThere : Row → Card → ℕ → Card → Type 0
 ChangesThere (Unlock (Wake a)) c q d = ChangedOnce c q d × IsSpoiltAsFound q d
 ChangesThere (Ended OK) c q d = ChangedOnce c q d × IsSpoiltAsFound q d

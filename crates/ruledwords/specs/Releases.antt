@@ -21,8 +21,9 @@ use Rattle.ruledwords.specs.Passes.{card, layout_of, IsLive}
 use Rattle.ruledwords.specs.Seen.{Called}
 use Rattle.ruledwords.specs.Turns.{running_of, IsCallOf, IsUnderWay, Turned}
 
--- an unlock of mutex m that began at the pass x stands at p, with the pass a, whose last word it tells of: where it has released the mutex, that word said its thread was the owner, and was the cell's
--- right before the one change that the thread has made of it
+-- an unlock of mutex m that began at the pass x stands at p, with the pass a, whose last word it tells of: where it has
+-- released the mutex, that word said its thread was the owner, and was the cell's right before the one change that the
+-- thread has made of it
 abbrev pub IsReleasing : Words → Pass Live → ℕ → Pass Live → Whole → Type 0
 IsReleasing w x m a p =
     (of : IsCallOf w a p) × IsUnderWay w x (call.Unlock m) (running_of w a p of)

@@ -13,6 +13,7 @@ use Rattle.ruledwords.specs.Walks.{OwnsNothing}
 abbrev pub IsGone : Words → Pass Reaped → Type 0
 IsGone w p = IsPassOf w p × KnowsOwn (layout_of w) (card p) × OwnsNothing (layout_of w) (owns_in (layout_of w) (card p))
 
--- what it knows once it lives anew: its head leads to itself, so its list is empty, and nothing is pending. All that it has seen is as it was
+-- what it knows once it lives anew: its head leads to itself, so its list is empty, and nothing is pending. All that it
+-- has seen is as it was
 abbrev pub renewed : Layout' → Card → Card
 renewed k c = knowing (knowing c (head_place c.thread) (address_in k c.thread (head_place c.thread))) (head_place c.thread + 2) 0

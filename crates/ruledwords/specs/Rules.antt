@@ -1,9 +1,11 @@
 -- The rule of the shared words: what holds between any two steps, of the words and of what all passes know.
 --
--- Histories: some legal list of points of each mutex leaves the mutex as its cell says. What a pass has seen begins it, and has all points of the pass's thread.
--- Own words: a thread alone writes its head, the links of the mutexes that it owns and the counters of their condition variables. Its pass may know
--- their values. While it owns a mutex in which it saw WAITERS, that stays set. Counters count the signals and the broadcasts that were answered OK.
--- Changes: each cell's words and each counter's, one after the other, and who wrote each. What a pass knows of them begins them, and has all that its thread wrote.
+-- Histories: some legal list of points of each mutex leaves the mutex as its cell says. What a pass has seen begins it,
+-- and has all points of the pass's thread. Own words: a thread alone writes its head, the links of the mutexes that it
+-- owns and the counters of their condition variables. Its pass may know their values. While it owns a mutex in which it
+-- saw WAITERS, that stays set. Counters count the signals and the broadcasts that were answered OK. Changes: each
+-- cell's words and each counter's, one after the other, and who wrote each. What a pass knows of them begins them, and
+-- has all that its thread wrote.
 use Rattle.std.specs.Prelude.{◌≡◌, ℕ, zero, suc, ◌+◌, ◌-◌, ◌/◌, ◌%◌, ◌<◌, ◌≤◌, ◌==◌, ◌&&◌, nat_lt, true, Option, Some, List, [], ◌∷◌, All, length, drop, slice_index, if◌then◌else◌}
 use mathlib.Core.Option.{some}
 use mathlib.Core.List.{IsPrefix}
@@ -36,7 +38,8 @@ first_values k t = put_value (put_value (put_value [] (head_place t) (Some (addr
 abbrev pub first_known : Layout' → List ℕ → List (List Change)
 first_known k counters = behind_unknown (counter_place k 0) (first_changes counters)
 
--- what thread t of a layout knows at first, whose counters begin with these values: its own head, these values, and nothing of any mutex
+-- what thread t of a layout knows at first, whose counters begin with these values: its own head, these values, and
+-- nothing of any mutex
 abbrev pub first_card : Layout' → List ℕ → ℕ → Card
 first_card k counters t = record { threads = k.threads; thread = t; base = base_of k t; seen = []; misses = 0; last = 0; trims = 0; counted = 0; values = first_values k t; marks = []; changes = first_known k counters }
 
@@ -68,7 +71,8 @@ keeper k ws p =
 
 -- ---- what holds
 
--- what a card says is so: its history begins that of each mutex and has all points of its thread, and the values and marks that it knows are those of the words
+-- what a card says is so: its history begins that of each mutex and has all points of its thread, and the values and
+-- marks that it knows are those of the words
 pub record Fits (k : Layout') (ws : List ℕ) (js : List (List Point)) (c : Card) : Type 0 where
   pub thread : (1 ≤ c.thread) × (c.thread ≤ k.threads)
   pub threads : c.threads ≡ k.threads
@@ -142,8 +146,9 @@ pub record IsAmong (histories : List (List Point)) (c : Card) : Type 0 where
   pub begins : (p : ℕ) → IsPrefix (at c.seen p) (at histories p)
   pub own : (p : ℕ) → by c.thread (at histories p) ≡ by c.thread (at c.seen p)
 
--- the last words: each cell is as one legal list of its mutex says, in which is what these passes saw, all of them. A cell has no bits above its flags. The counters count what counts in these lists; and each is as the
--- changes of it leave it, all that were made, of which these passes know the first and their threads' own
+-- the last words: each cell is as one legal list of its mutex says, in which is what these passes saw, all of them. A
+-- cell has no bits above its flags. The counters count what counts in these lists; and each is as the changes of it
+-- leave it, all that were made, of which these passes know the first and their threads' own
 pub record Ends (k : Layout') (presets : List ℕ) (cards : List Card) (words : List ℕ) : Type 0 where
   pub histories : List (List Point)
   pub leaves : (m : ℕ) → m < k.mutexes → Leaves k.threads (cell_place k m) (at histories (cell_place k m)) (object_of (fields_of (slice_index words (cell_place k m))))

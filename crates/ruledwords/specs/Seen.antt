@@ -1,7 +1,7 @@
 -- What a pass has seen of each mutex, and what its thread holds by that.
 --
--- What is seen of a mutex is a legal list of its points: from a mutex that nobody has locked yet, each is a step of the mutex as POSIX has it. Between
--- passes that never met, no order is claimed.
+-- What is seen of a mutex is a legal list of its points: from a mutex that nobody has locked yet, each is a step of the
+-- mutex as POSIX has it. Between passes that never met, no order is claimed.
 use Rattle.std.specs.Prelude.{◌≡◌, ◌≢◌, ℕ, ◌+◌, ◌≤◌, ◌==◌, Bool, true, false, List, [], ◌∷◌, ◌++◌, filter, map, if◌then◌else◌}
 use mathlib.Core.List.{IsPrefix}
 use Rattle.lockword.specs.declared.reply.Reply.{Reply}
@@ -21,7 +21,8 @@ use Rattle.ruledwords.specs.Changes.{ChangedNone, KnowsOn}
 abbrev pub by : ℕ → List Point → List Point
 by t xs = filter (λ (x : Point). x.thread == t) xs
 
--- they are points of the mutex whose cell is at p, by threads 1 to n, and none makes the mutex anew: no running thread does that
+-- they are points of the mutex whose cell is at p, by threads 1 to n, and none makes the mutex anew: no running thread
+-- does that
 abbrev pub AllOf : ℕ → ℕ → List Point → Type 0
 AllOf n p [] = Unit {0}
 AllOf n p (x ∷ xs) = ((x.at ≡ p) × (1 ≤ x.thread) × (x.thread ≤ n) × (x.operation ≢ Reinit)) × AllOf n p xs
@@ -60,7 +61,8 @@ count_held t (xs ∷ xss) = (if holds t xs then 1 else 0) + count_held t xss
 abbrev pub held : Card → ℕ
 held c = count_held c.thread c.seen
 
--- a step at p: after what its thread had seen stand other threads' points, then the step's own if it is one, and all of that is legal and leaves o. What it saw elsewhere stays
+-- a step at p: after what its thread had seen stand other threads' points, then the step's own if it is one, and all of
+-- that is legal and leaves o. What it saw elsewhere stays
 pub record Sees (c : Card) (p : ℕ) (new : List Point) (o : Object) (d : Card) : Type 0 where
   pub thread : d.thread ≡ c.thread
   pub threads : d.threads ≡ c.threads
@@ -80,8 +82,9 @@ abbrev pub count_acts : List Act → ℕ
 count_acts [] = 0
 count_acts (a ∷ acts) = reply_counts a.0 a.1 + count_acts acts
 
--- a thread saw more of the mutex whose cell is at p: behind what it had seen stand other threads' points and its own new ones, which decided so, in this order. What it saw elsewhere stays. What it knew of words' changes
--- begins what it knows of them; and it has changed no other word, if none of its acts counts
+-- a thread saw more of the mutex whose cell is at p: behind what it had seen stand other threads' points and its own
+-- new ones, which decided so, in this order. What it saw elsewhere stays. What it knew of words' changes begins what it
+-- knows of them; and it has changed no other word, if none of its acts counts
 pub record Saw (c : Card) (p : ℕ) (acts : List Act) (d : Card) : Type 0 where
   pub thread : d.thread ≡ c.thread
   pub threads : d.threads ≡ c.threads
@@ -99,7 +102,8 @@ EndsWith xs [] = Unit {0}
 EndsWith xs (y ∷ []) = (before : List Point) × (xs ≡ before ++ y ∷ [])
 EndsWith xs (y ∷ z ∷ ys) = EndsWith xs (z ∷ ys)
 
--- a call on the mutex whose cell is at p was decided so: its thread has seen the mutex's history up to the call's last point
+-- a call on the mutex whose cell is at p was decided so: its thread has seen the mutex's history up to the call's last
+-- point
 pub record Called (c : Card) (p : ℕ) (acts : List Act) (d : Card) : Type 0 where
   pub saw : Saw c p acts d
   pub last : EndsWith (at d.seen p) (points_of c.thread p acts)
@@ -110,8 +114,9 @@ pub record Died (c : Card) (p : ℕ) (op : Operation) (d : Card) : Type 0 where
   pub beginning : Beginning op acts
   pub saw : Saw c p acts d
 
--- passes of two threads that met see one legal list of each mutex. It begins with what either had seen, so it has all those points, each once and in the same order; and of each of the two threads it
--- has just the points that this thread made. Nothing else of them changes
+-- passes of two threads that met see one legal list of each mutex. It begins with what either had seen, so it has all
+-- those points, each once and in the same order; and of each of the two threads it has just the points that this thread
+-- made. Nothing else of them changes
 pub record Joined (c d c' d' : Card) : Type 0 where
   pub seen : List (List Point)
   pub apart : c.thread ≢ d.thread

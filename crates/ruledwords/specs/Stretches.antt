@@ -25,7 +25,8 @@ IsDecidedIn w m c x a p = (of : IsCallOf w a p) × IsDecided w m c x (running_of
 abbrev pub StaysDecided : Words → Pass Live → Whole → Pass Live → Whole → Type 0
 StaysDecided w a p b q = (m : ℕ) (c : Card) (x : Reply) → IsDecidedIn w m c x a p → IsDecidedIn w m c x b q
 
--- a call that stood at p with the pass a stands at q now, with the pass b: wherever it began, and whatever it was decided
+-- a call that stood at p with the pass a stands at q now, with the pass b: wherever it began, and whatever it was
+-- decided
 abbrev pub ComesOn : Words → Pass Live → Whole → Pass Live → Whole → Type 0
 ComesOn w a p b q = IsCallOf w b q × StaysIn w a p b q × StaysDecided w a p b q
 
@@ -68,7 +69,8 @@ abbrev pub GoesOnThere : Words → Stretch → Type 0
 GoesOnThere w (stretch.Goes r) = IsRunningOf w r
 GoesOnThere w s = Unit {0}
 
--- by accesses that were made one after the other a running call has come to this: wherever it began, and whatever it was decided
+-- by accesses that were made one after the other a running call has come to this: wherever it began, and whatever it
+-- was decided
 abbrev pub Stretches : Words → Running → Stretch → Type 0
 Stretches w r s =
     GoesOnThere w s × ((a : Pass Live) (call : Call) → IsUnderWay w a call r → StretchesFrom w a call s) × ((m : ℕ) (c : Card) (x : Reply) → IsDecided w m c x r → StretchesDecided w m c x s)

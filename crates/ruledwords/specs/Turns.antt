@@ -76,7 +76,8 @@ abbrev pub IsAtCell : Phase → Type 0
 IsAtCell (phase.AtCell r) = Unit {0}
 IsAtCell f = ⊥
 
--- it is a call on these words: its pass is theirs, its mutex one of their layout, and its thread's own words are a list of what the thread holds, whole or in change
+-- it is a call on these words: its pass is theirs, its mutex one of their layout, and its thread's own words are a list
+-- of what the thread holds, whole or in change
 abbrev pub IsRunningOf : Words → Running → Type 0
 IsRunningOf w r = IsPassOf w (running_pass r) × ((m : ℕ) × IsInCall (layout_of w) (card (running_pass r)) m (running_call r))
 
@@ -109,7 +110,8 @@ FindsWord w s s' p n = (s'.table_id ≡ s.table_id) × IsOne s'.me × Found (lay
 abbrev pub running_of : (w : Words) (a : Pass Live) (p : Whole) → IsCallOf w a p → Running
 running_of w a p of = record { pass = a; program = p; ready = of.ready; room = of.room; going = of.going }
 
--- a call that began at the pass a is under way: it is on its own mutex, of which its pass has seen since what other threads did, and the call's own point once that is made
+-- a call that began at the pass a is under way: it is on its own mutex, of which its pass has seen since what other
+-- threads did, and the call's own point once that is made
 abbrev pub IsUnderWay : Words → Pass Live → Call → Running → Type 0
 IsUnderWay w a call r =
     IsRunningOf w r × IsOnMutex (layout_of w) (running_program r) (mutex_of call)
@@ -124,7 +126,8 @@ abbrev pub IsTurnOf : Words → Turn → Type 0
 IsTurnOf w (Goes r) = IsRunningOf w r
 IsTurnOf w (Lives b x) = IsLive w b
 
--- the access that comes in a phase was made, and answered so: at its mutex's cell, or at one of its thread's own words, where the answer is what the thread knew
+-- the access that comes in a phase was made, and answered so: at its mutex's cell, or at one of its thread's own words,
+-- where the answer is what the thread knew
 abbrev pub Answers : Layout' → Whole → Phase → Card → Card → Answer → Type 0
 Answers k p (phase.AtCell r) c d x = (m : ℕ) × (n : ℕ) × IsOnMutex k (standing_of p) m × Made (standing_of p) (cell_place k m) c n d × (x ≡ answer_at (whole_access p) n)
 Answers k p f c d x = (d ≡ own_after k c (whole_access p)) × (x ≡ answer_on (whole_access p) (known k c))
@@ -134,7 +137,8 @@ abbrev pub Turned : Layout' → Whole → Pass Live → Turn → Type 0
 Turned k p a (Goes r) = (x : Answer) × Answers k p p.phase (card a) (card (running_pass r)) x × (running_call r ≡ whole_moved p (whole_led p x))
 Turned k p a (Lives b y) = (x : Answer) × Answers k p p.phase (card a) (card b) x × ((whole_led p x).phase ≡ phase.Ended y)
 
--- what a section answers: a wait that the word differed, or that it slept and was woken; a wake, how many it woke; a trim, whether it cleared the word
+-- what a section answers: a wait that the word differed, or that it slept and was woken; a wake, how many it woke; a
+-- trim, whether it cleared the word
 abbrev pub IsAnswerOf : Access → Answer → Type 0
 IsAnswerOf (Wait at e) Again = Unit {0}
 IsAnswerOf (Wait at e) Woken = Unit {0}
@@ -147,18 +151,21 @@ abbrev pub Onward : Whole → Answer → Pass Live → Turn → Type 0
 Onward p x a (Goes r) = (running_pass r ≡ a) × (running_call r ≡ whole_moved p (whole_led p x))
 Onward p x a (Lives b y) = (b ≡ a) × ((whole_led p x).phase ≡ phase.Ended y)
 
--- the call is where it was, at a section, and its pass knows what it knew, but for the word that it found last, the trims that it made, and changes of its mutex's cell
+-- the call is where it was, at a section, and its pass knows what it knew, but for the word that it found last, the
+-- trims that it made, and changes of its mutex's cell
 abbrev pub Unmoved : Words → Running → Running → Type 0
 Unmoved w r r' =
     IsRunningOf w r' × (running_call r' ≡ running_call r) × KnowsTheSame (card (running_pass r)) (card (running_pass r')) × ¬ IsOneStep (access_in r)
     × ((m : ℕ) → IsOnMutex (layout_of w) (running_program r) m → KnowsMoreAt (card (running_pass r)) (cell_place (layout_of w) m) (card (running_pass r')))
 
--- a trylock of the mutex whose cell is at p gives up only after four exchanges that each found a changed cell, as the pass counts them; and others have changed it as often, as the record of its changes tells
+-- a trylock of the mutex whose cell is at p gives up only after four exchanges that each found a changed cell, as the
+-- pass counts them; and others have changed it as often, as the record of its changes tells
 abbrev pub IsRaced : Operation → Reply → Card → ℕ → Card → Type 0
 IsRaced TryLock XRACED c p d = (c.misses + 4 ≤ d.misses) × OthersChanged 4 c p d
 IsRaced op x c p d = Unit {0}
 
--- a call that began at the pass a is under way still, or has ended: then its pass has seen its mutex's history up to its one point, which has the reply, and others' points before
+-- a call that began at the pass a is under way still, or has ended: then its pass has seen its mutex's history up to
+-- its one point, which has the reply, and others' points before
 abbrev pub GoesOn : Words → Pass Live → Call → Turn → Type 0
 GoesOn w a call (Goes r) = IsUnderWay w a call r
 GoesOn w a call (Lives b x) = IsLive w b × Called (card a) (cell_place (layout_of w) (mutex_of call)) ((operation_of call, x) ∷ []) (card b) × IsRaced (operation_of call) x (card a) (cell_place (layout_of w) (mutex_of call)) (card b) × KnowsMoreAt (card a) (cell_place (layout_of w) (mutex_of call)) (card b)
@@ -173,11 +180,13 @@ Keeps w r turn = (a : Pass Live) (call : Call) → IsUnderWay w a call r → Goe
 
 -- ---- calls that are decided
 
--- the thread has seen no more of any mutex: what else it knows is of its own words, of the word that it found last, or of changes of the cell at p, of which it knows what it knew, and maybe more
+-- the thread has seen no more of any mutex: what else it knows is of its own words, of the word that it found last, or
+-- of changes of the cell at p, of which it knows what it knew, and maybe more
 abbrev pub HasSeenTheSame : ℕ → Card → Card → Type 0
 HasSeenTheSame p c d = (d ≡ record c { last = d.last; trims = d.trims; values = d.values; changes = d.changes }) × KnowsMoreAt c p d
 
--- a call on mutex m is decided, with this reply, by what its thread has seen at the card c: it has only to wake, to trim and to end its list's change
+-- a call on mutex m is decided, with this reply, by what its thread has seen at the card c: it has only to wake, to
+-- trim and to end its list's change
 abbrev pub IsDecided : Words → ℕ → Card → Reply → Running → Type 0
 IsDecided w m c x r = IsRunningOf w r × (decided (running_program r).row ≡ Some x) × IsOnMutex (layout_of w) (running_program r) m × HasSeenTheSame (cell_place (layout_of w) m) c (card (running_pass r))
 
@@ -195,7 +204,8 @@ KeepsDecided w r turn = (m : ℕ) (c : Card) (x : Reply) → IsDecided w m c x r
 abbrev pub ComesTo : Words → Running → Turn → Type 0
 ComesTo w r turn = IsTurnOf w turn × Turned (layout_of w) (running_call r) (running_pass r) turn × Keeps w r turn × KeepsDecided w r turn
 
--- the access was made that was next in the call p with the pass a: they are q and b now, and the call goes on or has replied
+-- the access was made that was next in the call p with the pass a: they are q and b now, and the call goes on or has
+-- replied
 abbrev pub Advances : Words → Pass Live → Whole → Pass Live → Whole → Option Reply → Type 0
 Advances w a p b q None = (of : IsCallOf w a p) → (on : IsCallOf w b q) × ComesTo w (running_of w a p of) (Goes (running_of w b q on))
 Advances w a p b q (Some x) = (of : IsCallOf w a p) → ComesTo w (running_of w a p of) (Lives b x)

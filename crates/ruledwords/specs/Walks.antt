@@ -1,6 +1,8 @@
--- What is left of the kernel's walk over a dead thread's list, wherever the walk stands (robust-futexes; robust-futex-ABI; get_robust_list(2)).
+-- What is left of the kernel's walk over a dead thread's list, wherever the walk stands (robust-futexes;
+-- robust-futex-ABI; get_robust_list(2)).
 --
--- `w a` is a word that the thread alone wrote, at the address a in its process: its head's, and the links of the mutexes that it owns. `owns k` tells whether it owns mutex k.
+-- `w a` is a word that the thread alone wrote, at the address a in its process: its head's, and the links of the
+-- mutexes that it owns. `owns k` tells whether it owns mutex k.
 use Rattle.std.specs.Prelude.{ℕ, ◌≡◌, ◌≢◌, ◌<◌, ◌≤◌, ◌+◌, ◌⊎◌, Bool, true, false, Option, Some, None, List, ◌∷◌, length}
 use Rattle.std.proofs.Props.{props}
 use Rattle.memorymap.specs.Chains.{IsAmong, AreDifferent, Leads, address_sum}
@@ -14,7 +16,8 @@ use Rattle.exitwalk.specs.declared.row.Row.TheVariants as row
 use Rattle.exitwalk.specs.Walks.{IsGoing}
 use Rattle.mutex.specs.WholeLists.{head_in, entry_in}
 
--- from e next words lead over these entries, of mutexes that the thread owns still, and back to its head; each mutex that it owns is one of them, or the pending one p, or is being treated
+-- from e next words lead over these entries, of mutexes that the thread owns still, and back to its head; each mutex
+-- that it owns is one of them, or the pending one p, or is being treated
 pub record Left (l : Layout') (t : ℕ) (owns : ℕ → Bool) (w : ℕ → ℕ) (e p : ℕ) (es : List ℕ) (treated : Option ℕ) : Type 0 where
   pub leads : Leads w (head_in l t) e es
   pub different : AreDifferent (head_in l t ∷ es)

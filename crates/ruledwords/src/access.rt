@@ -1,4 +1,5 @@
-//! Accesses to words of each kind: a thread's own words, the cell of a call, the words of a call on a condition variable; and looks and trims, by which nothing is seen anew.
+//! Accesses to words of each kind: a thread's own words, the cell of a call, the words of a call on a condition
+//! variable; and looks and trims, by which nothing is seen anew.
 ghost use Rattle.std.specs.Prelude.{◌≡◌, ◌<◌, ◌≤◌, ℕ, Some, ◌+◌, ◌==◌, if◌then◌else◌, length};
 ghost use Rattle.stepprograms.specs.Accesses.{address_of, answer_at};
 ghost use Rattle.memorymap.specs.Layouts.{words_of, place_in, cell_place, counter_place};
@@ -31,7 +32,8 @@ use std::marker::{Brand, PhantomData};
 use stepprograms::{Access, StepProgram};
 
 impl Words {
-    /// Makes a load or a store of one of the thread's own words, by its address in the thread's process, and gives the word of a load.
+    /// Makes a load or a store of one of the thread's own words, by its address in the thread's process, and gives the
+    /// word of a load.
     #[inline(always)]
     pub(crate) fn access_own(&self, seat: &mut Seat<(), View>, thread: Tid, access: Access) -> u64
         requires table { seat.old.table_id ≡ self.now.places.table.shared.table_id }
@@ -215,7 +217,8 @@ impl<A: Acting> Play<(), View> for Act<A> {
 }
 
 impl Words {
-    /// Makes the access of a call, which is one step on its mutex's cell or on its counter, and gives the word that it found.
+    /// Makes the access of a call, which is one step on its mutex's cell or on its counter, and gives the word that it
+    /// found.
     pub(crate) fn act<A: Acting>(
         &self,
         seat: &mut Seat<(), View>,
@@ -242,7 +245,8 @@ impl Words {
         }
     }
 
-    /// The word that the access of a call on a condition variable finds: at the mutex's cell or at the counter, or at a word that the thread alone writes.
+    /// The word that the access of a call on a condition variable finds: at the mutex's cell or at the counter, or at a
+    /// word that the thread alone writes.
     pub(crate) fn found_in_condition(
         &self,
         seat: &mut Seat<(), View>,

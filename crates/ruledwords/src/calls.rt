@@ -19,8 +19,9 @@ use lockword::{Reply, Tid};
 use mutex::{Call, Phase, Program, Row, UnlockRow};
 
 impl Words {
-    /// Takes a mutex if it is free (pthread_mutex_trylock). The reply is OK; EOWNERDEAD where its last owner died and nobody declared it consistent; EBUSY where it is owned;
-    /// ENOTRECOVERABLE where it can't be used any more; XRACED after four exchanges that each found a changed cell; XHELD, with no access, where the thread holds 2,048
+    /// Takes a mutex if it is free (pthread_mutex_trylock). The reply is OK; EOWNERDEAD where its last owner died and
+    /// nobody declared it consistent; EBUSY where it is owned; ENOTRECOVERABLE where it can't be used any more; XRACED
+    /// after four exchanges that each found a changed cell; XHELD, with no access, where the thread holds 2,048
     /// mutexes. The fate is asked before each access, and the thread dies where it says so.
     pub fn try_lock<F: Fate>(&self, pass: Pass<Live>, mutex: u16, fate: &mut F) -> Outcome
         requires pass { IsLive self.now pass }
@@ -34,9 +35,10 @@ impl Words {
         }
     }
 
-    /// Declares that what a mutex guards is consistent again (pthread_mutex_consistent). The reply is OK to the owner of an inconsistent mutex, one that it took with
-    /// EOWNERDEAD and hasn't declared consistent since; EINVAL to the owner of any other; EPERM where the thread doesn't own the mutex. Where it isn't OK, the mutex stays as
-    /// it is. The fate is asked before each access, and the thread dies where it says so.
+    /// Declares that what a mutex guards is consistent again (pthread_mutex_consistent). The reply is OK to the owner
+    /// of an inconsistent mutex, one that it took with EOWNERDEAD and hasn't declared consistent since; EINVAL to the
+    /// owner of any other; EPERM where the thread doesn't own the mutex. Where it isn't OK, the mutex stays as it is.
+    /// The fate is asked before each access, and the thread dies where it says so.
     pub fn consistent<F: Fate>(&self, pass: Pass<Live>, mutex: u16, fate: &mut F) -> Outcome
         requires pass { IsLive self.now pass }
         requires mutex { mutex < (layout_of self.now).mutexes }
@@ -49,8 +51,9 @@ impl Words {
         }
     }
 
-    /// Frees a mutex that the thread owns (pthread_mutex_unlock), up to the waking of sleepers. One that is inconsistent becomes unusable. Another's mutex is refused with EPERM.
-    /// The fate is asked before each access, and the thread dies where it says so.
+    /// Frees a mutex that the thread owns (pthread_mutex_unlock), up to the waking of sleepers. One that is
+    /// inconsistent becomes unusable. Another's mutex is refused with EPERM. The fate is asked before each access, and
+    /// the thread dies where it says so.
     #[inline(always)]
     pub fn release<F: Fate>(&self, pass: Pass<Live>, mutex: u16, fate: &mut F) -> Released
         requires pass { IsLive self.now pass }
@@ -66,7 +69,8 @@ impl Words {
 }
 
 impl Words {
-    /// Makes the unlock's next access, unless the thread's fate tells it to stop. One that has released its mutex stays where it is.
+    /// Makes the unlock's next access, unless the thread's fate tells it to stop. One that has released its mutex stays
+    /// where it is.
     #[inline(always)]
     fn release_step<F: Fate>(
         &self,
@@ -91,8 +95,9 @@ impl Words {
         }
     }
 
-    /// The accesses of an unlock whose mutex stands last in its thread's list, which is the one taken first, one after the other: so the compiler knows at each where the call stands.
-    /// Of any other, some of them. It is here for speed alone: its contract lets it make fewer.
+    /// The accesses of an unlock whose mutex stands last in its thread's list, which is the one taken first, one after
+    /// the other: so the compiler knows at each where the call stands. Of any other, some of them. It is here for speed
+    /// alone: its contract lets it make fewer.
     #[inline(always)]
     fn first_release_steps<F: Fate>(
         &self,
@@ -239,7 +244,8 @@ impl Owed {
 }
 
 impl Running {
-    /// Goes on with an unlock that has freed its mutex: the access that comes next is its wake, or, where nobody is to be woken, clears the thread's pending entry.
+    /// Goes on with an unlock that has freed its mutex: the access that comes next is its wake, or, where nobody is to
+    /// be woken, clears the thread's pending entry.
     pub fn owed(owed: Owed) -> Running
         ensures value { result ≡ owed_running owed }
         ensures decided { (w : Words) (m : ℕ) → IsOwedOf w owed → IsOnMutex (layout_of w) (running_program (owed_running owed)) m → IsDecided w m (card (owed_pass owed)) OK result }

@@ -58,7 +58,8 @@ impl Words {
 }
 
 impl<A> Pass<A> {
-    /// Puts the pass aside for the end of the words, where those of the living and of the reaped meet ([`Words::close_all`]). What it has seen stays.
+    /// Puts the pass aside for the end of the words, where those of the living and of the reaped meet
+    /// ([`Words::close_all`]). What it has seen stays.
     pub fn spent(self) -> Pass<Spent>
         ensures card { card result ≡ card self }
         ensures words { (w : Words) → IsPassOf w self → IsPassOf w result }
@@ -79,7 +80,8 @@ impl<A> Pass<A> {
 }
 
 impl Words {
-    /// Ends the words. The history of each mutex begins with what the pass has seen, and counters count what counts in it.
+    /// Ends the words. The history of each mutex begins with what the pass has seen, and counters count what counts in
+    /// it.
     pub fn close<A>(self, pass: Pass<A>) -> Last
         requires { IsPassOf self pass }
         ensures layout { last_layout result ≡ layout_of self }
@@ -96,8 +98,8 @@ impl Words {
         Last { closed, layout }
     }
 
-    /// Ends the words, and all these passes meet. One history of each mutex has what any of them has seen, with of each of their threads just the thread's own
-    /// points; and counters count what counts in it.
+    /// Ends the words, and all these passes meet. One history of each mutex has what any of them has seen, with of each
+    /// of their threads just the thread's own points; and counters count what counts in it.
     pub fn close_all<A: Drop>(self, passes: Vec<Pass<A>>) -> Last
         requires { All (λ p. IsPassOf self p) passes.items }
         ensures layout { last_layout result ≡ layout_of self }

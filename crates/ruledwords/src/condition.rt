@@ -52,7 +52,8 @@ impl CondRunning {
         self.program.next()
     }
 
-    /// The place of the word that the access that comes next reads or changes; of a requeue, the place from which it moves.
+    /// The place of the word that the access that comes next reads or changes; of a requeue, the place from which it
+    /// moves.
     pub fn place(&self, words: &Words) -> u64
         requires { IsCondRunningOf words.now self.now }
         ensures { result ≡ cond_place_at (layout_of words.now) self.now }
@@ -99,7 +100,8 @@ impl CondRunning {
         }
     }
 
-    /// The word of its condition variable's counter, for a section that compares it: a wait's sleep, or a broadcast's move. Nothing is seen anew.
+    /// The word of its condition variable's counter, for a section that compares it: a wait's sleep, or a broadcast's
+    /// move. Nothing is seen anew.
     pub fn load(&mut self, words: &Words) -> CounterWord
         requires words { IsCondRunningOf words.now self.old }
         requires section { Compares (cond_access_in self.old) }
@@ -133,7 +135,8 @@ impl CondRunning {
         }
     }
 
-    /// The thread dies before the access that comes next. What it has seen stays: of its call's points those that were made. What it holds will be found.
+    /// The thread dies before the access that comes next. What it has seen stays: of its call's points those that were
+    /// made. What it holds will be found.
     pub fn die(self) -> Pass<Dead>
         ensures card { card result ≡ card (cond_pass self) }
         ensures words { (w : Words) → IsCondRunningOf w self → IsDying w result }

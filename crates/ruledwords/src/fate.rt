@@ -23,7 +23,8 @@ impl Fate for Never {
     }
 }
 
-/// Asks two fates of one thread: its caller's, and where that lets it go on, one more. So one of them at most says that the thread stops.
+/// Asks two fates of one thread: its caller's, and where that lets it go on, one more. So one of them at most says that
+/// the thread stops.
 #[inline(always)]
 pub fn either_stops<F: Fate, N: Fate>(fate: &mut F, note: &mut N) -> bool
     ensures { Heeds (F.stopped fate.old) (F.stopped fate.new) (N.stopped note.old) (N.stopped note.new) (if result then 1 else 0) }

@@ -80,8 +80,9 @@ fn aways_of<A, B>(alloc: Global, passes: &[EitherPass<A, B>]) -> Result<Vec<Away
 }
 
 impl Words {
-    /// All these passes meet. Each comes to know all that any of them knows: of each mutex one legal history, in which each of their threads has just its own points; and it is
-    /// of the kind that it was of. Passes are lost where no memory is left.
+    /// All these passes meet. Each comes to know all that any of them knows: of each mutex one legal history, in which
+    /// each of their threads has just its own points; and it is of the kind that it was of. Passes are lost where no
+    /// memory is left.
     pub fn meet_all<A: Drop, B: Drop>(
         &self,
         alloc: Global,

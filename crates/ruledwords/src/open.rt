@@ -13,8 +13,8 @@ use std::alloc::{AllocError, Global};
 use std::marker::PhantomData;
 
 impl Words {
-    /// Makes the words, with a value for each condition variable's counter in the order of their numbers, and a pass for each thread in the order of their ids. Each
-    /// list is empty, and nobody owns a mutex.
+    /// Makes the words, with a value for each condition variable's counter in the order of their numbers, and a pass
+    /// for each thread in the order of their ids. Each list is empty, and nobody owns a mutex.
     pub fn new(
         alloc: Global,
         layout: Layout,

@@ -69,7 +69,8 @@ pub struct Last {
     pub ghost wide: { closed.count ≡ words_of layout },
 }
 
-/// A change of a mutex's cell or of a condition variable's counter: whose it was, 0 for what was there at first, and the word that it left. It stands in contracts and proofs alone.
+/// A change of a mutex's cell or of a condition variable's counter: whose it was, 0 for what was there at first, and
+/// the word that it left. It stands in contracts and proofs alone.
 pub struct Change {
     pub thread: u64,
     pub word: u64,
@@ -97,7 +98,8 @@ pub struct Card {
     pub values: LinkedList<Option<u64>>,
     /// The cells in which it saw WAITERS, by place.
     pub marks: LinkedList<bool>,
-    /// What it knows of the changes of each cell and each counter, by place: the first of them, one after the other, and all that it made itself.
+    /// What it knows of the changes of each cell and each counter, by place: the first of them, one after the other,
+    /// and all that it made itself.
     pub changes: LinkedList<LinkedList<Change>>,
 }
 

@@ -7,8 +7,9 @@ use crate::pass::{Live, Pass, Reaped, Words};
 use std::marker::PhantomData;
 
 impl Pass<Reaped> {
-    /// The thread lives anew, in no call: its head is an empty list again, and nothing is pending (get_robust_list(2)). What it has seen stays, so its history goes on; what it does in this life
-    /// stands behind what it did in those before.
+    /// The thread lives anew, in no call: its head is an empty list again, and nothing is pending (get_robust_list(2)).
+    /// What it has seen stays, so its history goes on; what it does in this life stands behind what it did in those
+    /// before.
     pub fn renew(self, words: &Words) -> Pass<Live>
         requires pass { IsGone words.now self }
         ensures live { IsLive words.now result }

@@ -1,4 +1,5 @@
-//! A pass in the middle of a call: access by access, at a futex section, which its caller makes, and where its thread dies.
+//! A pass in the middle of a call: access by access, at a futex section, which its caller makes, and where its thread
+//! dies.
 ghost use Rattle.std.specs.Prelude.{◌≡◌, ◌<◌, ◌≤◌, ℕ, Some, ◌+◌, ◌==◌, if◌then◌else◌};
 ghost use Rattle.posixmutex.specs.Objects.{held_limit};
 ghost use Rattle.stepprograms.specs.Accesses.{answer_at, address_of};
@@ -67,8 +68,9 @@ impl Running {
 }
 
 impl Words {
-    /// Makes the access that comes next in a call, which is one step on one word, and gives the call's reply where that was its last. It changes the pass and the call where they
-    /// stand: moved by value at each access, they would go through memory.
+    /// Makes the access that comes next in a call, which is one step on one word, and gives the call's reply where that
+    /// was its last. It changes the pass and the call where they stand: moved by value at each access, they would go
+    /// through memory.
     #[inline(always)]
     pub(crate) fn advance(&self, pass: &mut Pass<Live>, program: &mut Program) -> Option<Reply>
         requires call { IsCallOf self.now pass.old program.old }
@@ -183,8 +185,9 @@ impl Running {
         words.look(&mut self.pass, at)
     }
 
-    /// Where the access that comes next is a trim: makes the word of its cell 0 where WAITERS is all that it says, and tells whether it was. Whoever calls it holds the lock under which nobody falls
-    /// asleep on that word, and has seen that nobody sleeps there. Nothing is seen anew.
+    /// Where the access that comes next is a trim: makes the word of its cell 0 where WAITERS is all that it says, and
+    /// tells whether it was. Whoever calls it holds the lock under which nobody falls asleep on that word, and has seen
+    /// that nobody sleeps there. Nothing is seen anew.
     pub fn trim(&mut self, words: &Words) -> bool
         requires words { IsRunningOf words.now self.old }
         requires trim { (at : ℕ) × (access_in self.old ≡ AtTrim at) }
@@ -263,7 +266,8 @@ impl Pass<Live> {
 }
 
 impl Running {
-    /// The thread dies before the access that comes next. What it has seen stays: of its call's points those that were made. What it holds will be found.
+    /// The thread dies before the access that comes next. What it has seen stays: of its call's points those that were
+    /// made. What it holds will be found.
     pub fn die(self) -> Pass<Dead>
         ensures card { card result ≡ card (running_pass self) }
         ensures words { (w : Words) → IsRunningOf w self → IsDying w result }

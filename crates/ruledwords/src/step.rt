@@ -15,7 +15,8 @@ use lockword::Reply;
 use mutex::{LockRow, Phase, Program, Row, TryLockRow};
 use stepprograms::{Access, StepProgram};
 
-/// How many accesses a stretch has at most behind its first ones: what is left of a call that isn't crossed again and again.
+/// How many accesses a stretch has at most behind its first ones: what is left of a call that isn't crossed again and
+/// again.
 const STRETCH: u8 = 32;
 
 /// How a call ends whose thread may die in it.
@@ -27,7 +28,8 @@ pub(crate) enum End {
     Replied(Reply),
 }
 
-/// The calls of which the first accesses are made one after the other. A type of its own for each, so that the compiler knows where such a call begins.
+/// The calls of which the first accesses are made one after the other. A type of its own for each, so that the compiler
+/// knows where such a call begins.
 pub(crate) trait Begins {
     /// Whether such a call begins there.
     fn begins(phase: Phase) -> bool;
@@ -77,7 +79,8 @@ impl Begins for TryLocks {
 }
 
 impl Words {
-    /// Makes the call's next access, unless one of the thread's fates tells it to stop: its caller's, or the note of a kill. A call that comes to a futex section stays where it is.
+    /// Makes the call's next access, unless one of the thread's fates tells it to stop: its caller's, or the note of a
+    /// kill. A call that comes to a futex section stays where it is.
     #[inline(always)]
     fn step<F: Fate, N: Fate>(
         &self,
@@ -103,8 +106,9 @@ impl Words {
         }
     }
 
-    /// The accesses of a lock or trylock that nobody crosses, one after the other: so the compiler knows at each where the call stands. Of one that meets an owned or a changed cell some of
-    /// them, of other calls none. It is here for speed alone: its contract lets it make fewer.
+    /// The accesses of a lock or trylock that nobody crosses, one after the other: so the compiler knows at each where
+    /// the call stands. Of one that meets an owned or a changed cell some of them, of other calls none. It is here for
+    /// speed alone: its contract lets it make fewer.
     #[inline(always)]
     pub(crate) fn first_steps<B: Begins, F: Fate, N: Fate>(
         &self,
@@ -185,7 +189,8 @@ impl Words {
         }
     }
 
-    /// Further accesses of the call, up to a futex section, and not too many of them, as a lock that is crossed again and again has no last one.
+    /// Further accesses of the call, up to a futex section, and not too many of them, as a lock that is crossed again
+    /// and again has no last one.
     fn more_steps<F: Fate, N: Fate>(
         &self,
         pass: &mut Pass<Live>,
@@ -226,8 +231,11 @@ impl Words {
 }
 
 impl Running {
-    /// Makes accesses that come next, one after the other where the call stands, up to a futex section, or its end, or its thread's death: the fate is asked before each, and then the
-    /// note, by which others can tell the thread to stop ([`Never`](crate::Never) where nobody can). It may stop before that, and goes on where it is called again or where the next access is made by [`Running::access`]. It is here for speed: an access by itself moves the call.
+    /// Makes accesses that come next, one after the other where the call stands, up to a futex section, or its end, or
+    /// its thread's death: the fate is asked before each, and then the note, by which others can tell the thread to
+    /// stop ([`Never`](crate::Never) where nobody can). It may stop before that, and goes on where it is called again
+    /// or where the next access is made by [`Running::access`]. It is here for speed: an access by itself moves the
+    /// call.
     #[inline(always)]
     pub fn stretch<F: Fate, N: Fate>(self, words: &Words, fate: &mut F, note: &mut N) -> Stretch
         requires words { IsRunningOf words.now self }
@@ -244,7 +252,8 @@ impl Running {
         }
     }
 
-    /// As [`Running::stretch`], of a call that goes on behind a section: the compiler can't know where it stands, and needn't.
+    /// As [`Running::stretch`], of a call that goes on behind a section: the compiler can't know where it stands, and
+    /// needn't.
     pub fn more<F: Fate, N: Fate>(self, words: &Words, fate: &mut F, note: &mut N) -> Stretch
         requires words { IsRunningOf words.now self }
         ensures stretches { Stretches words.now self result }

@@ -1,4 +1,5 @@
-//! Calls in progress, each with its pass, and what they come to. (Their methods stand apart: a struct with a ghost field reads all definitions that its file names, and those of methods name the struct.)
+//! Calls in progress, each with its pass, and what they come to. (Their methods stand apart: a struct with a ghost
+//! field reads all definitions that its file names, and those of methods name the struct.)
 ghost use Rattle.std.specs.Prelude.{◌≤◌, ◌≡◌};
 ghost use Rattle.exitwalk.specs.Walks.{IsGoing};
 ghost use Rattle.mutex.specs.Whole.{IsUnderWay};
@@ -14,8 +15,9 @@ use exitwalk::Walk;
 use lockword::Reply;
 use mutex::Program;
 
-/// A pass, and the call that its thread makes, which hasn't returned. Whoever runs it makes its accesses in turn: a step by [`Running::access`]; a futex section
-/// under a lock of the caller's own, which reads its word by [`Running::load`] or trims it by [`Running::trim`], and whose answer goes to [`Running::answer`].
+/// A pass, and the call that its thread makes, which hasn't returned. Whoever runs it makes its accesses in turn: a
+/// step by [`Running::access`]; a futex section under a lock of the caller's own, which reads its word by
+/// [`Running::load`] or trims it by [`Running::trim`], and whose answer goes to [`Running::answer`].
 #[derive(Drop)]
 pub struct Running {
     pub(crate) pass: Pass<Live>,
@@ -45,8 +47,9 @@ pub enum Stretch {
     Dead(Pass<Dead>),
 }
 
-/// A pass, and the call on a condition variable that its thread makes, which hasn't returned. Whoever runs it makes its accesses in turn, as those of a [`Running`]: a step by
-/// [`CondRunning::access`]; a futex section under the caller's own locks, which reads a counter's word by [`CondRunning::load`], and whose answer goes to [`CondRunning::answer`].
+/// A pass, and the call on a condition variable that its thread makes, which hasn't returned. Whoever runs it makes its
+/// accesses in turn, as those of a [`Running`]: a step by [`CondRunning::access`]; a futex section under the caller's
+/// own locks, which reads a counter's word by [`CondRunning::load`], and whose answer goes to [`CondRunning::answer`].
 #[derive(Drop)]
 pub struct CondRunning {
     pub(crate) pass: Pass<Live>,
@@ -61,7 +64,8 @@ pub struct CondRunning {
 pub enum CondTurn {
     /// The call has further accesses.
     Goes(CondRunning),
-    /// The call is a wait that has released its mutex and is awake again: this lock takes the mutex, and ends the wait with its reply.
+    /// The call is a wait that has released its mutex and is awake again: this lock takes the mutex, and ends the wait
+    /// with its reply.
     Locks(Running),
     /// The call has replied.
     Lives(Pass<Live>, Reply),
@@ -85,8 +89,8 @@ pub enum Wakes {
     All,
 }
 
-/// An unlock whose thread has freed its mutex, and has to wake so many sleepers before it ends. It must be spent: [`Owed::settle`] where nobody is to be
-/// woken, [`Running::owed`], or [`Owed::abandon`].
+/// An unlock whose thread has freed its mutex, and has to wake so many sleepers before it ends. It must be spent:
+/// [`Owed::settle`] where nobody is to be woken, [`Running::owed`], or [`Owed::abandon`].
 pub struct Owed {
     pub(crate) running: Running,
     pub(crate) wakes: Wakes,
@@ -103,8 +107,9 @@ pub enum Released {
     Dead(Pass<Dead>),
 }
 
-/// The pass of a thread that died, and the kernel's walk over its list, which hasn't ended (robust-futexes; get_robust_list(2)). Whoever runs it makes its accesses in
-/// turn: a step by [`Reaping::access`]; a wake under a lock of the caller's own, at [`Reaping::place`], whose count goes to [`Reaping::answer`].
+/// The pass of a thread that died, and the kernel's walk over its list, which hasn't ended (robust-futexes;
+/// get_robust_list(2)). Whoever runs it makes its accesses in turn: a step by [`Reaping::access`]; a wake under a lock
+/// of the caller's own, at [`Reaping::place`], whose count goes to [`Reaping::answer`].
 #[derive(Drop)]
 pub struct Reaping {
     pub(crate) pass: Pass<Dead>,

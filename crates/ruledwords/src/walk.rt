@@ -48,7 +48,8 @@ impl Reaping {
         words.place(self.pass.thread, address(self.walk.next()))
     }
 
-    /// Makes the access that comes next, which is one step on one word. A mutex that it marks has its owner's death as its last point that the thread has seen.
+    /// Makes the access that comes next, which is one step on one word. A mutex that it marks has its owner's death as
+    /// its last point that the thread has seen.
     pub fn access(self, words: &Words) -> Walked
         requires words { IsReapingOf words.now self }
         requires step { ¬ IsWake (reaping_access self) }
@@ -144,7 +145,8 @@ impl Words {
         self.places.load::<Examine>(seat, at as usize)
     }
 
-    /// Marks the word of a mutex's cell, if it is the one expected, whose owner is the thread: the owner's death. Gives the word that it found.
+    /// Marks the word of a mutex's cell, if it is the one expected, whose owner is the thread: the owner's death. Gives
+    /// the word that it found.
     fn mark<L: Placing>(&self, seat: &mut Seat<(), View>, at: u64, expected: u64, new: u64) -> u64
         requires table { seat.old.table_id ≡ self.now.places.table.shared.table_id }
         requires one { IsOne seat.old.me }

@@ -24,7 +24,8 @@ use Rattle.verdict.specs.Verdicts.{IsLegal, Answers}
 
 -- ---- the trace of a run
 
--- what is printed of a run with these notes: so many threads, mutexes and condition variables, then each event's lines, then the number of events
+-- what is printed of a run with these notes: so many threads, mutexes and condition variables, then each event's lines,
+-- then the number of events
 abbrev pub run_text : ℕ → ℕ → ℕ → List Note → List ℕ
 run_text threads mutexes conditions ns = head_line threads mutexes conditions ++ (concat (map line_text (lines_from 1 ns)) ++ end_line (length ns))
 
@@ -42,7 +43,8 @@ points_told ns = count_by is_point (facts_among ns)
 abbrev pub IsVerdict : Verdict → Result Verdict TraceFault → Type 0
 IsVerdict v r = (r ≡ Ok v) ⊎ (r ≡ Err (fault_at 1 OutOfMemory))
 
--- the text of a run with these notes is a trace without fault, and that is legal; so whatever answers for the text as a checker does answers that it is legal, with exactly the number of its points
+-- the text of a run with these notes is a trace without fault, and that is legal; so whatever answers for the text as a
+-- checker does answers that it is legal, with exactly the number of its points
 pub record IsJudgedLegal (h : Head) (ns : List Note) : Type 0 where
   pub reads : trace_read (run_text h.threads h.mutexes h.conditions ns) ≡ Ok (run_trace h ns)
   pub legal : IsLegal (run_trace h ns)

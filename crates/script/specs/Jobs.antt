@@ -73,7 +73,8 @@ phases_in s = slice_split ends_phase s.commands
 abbrev pub jobs_of : Scope → List (List Job')
 jobs_of s = map (jobs_up_to (length s.threads)) (phases_in s)
 
--- of each thread, in the order of ids, the number in its `die` line: the access before which it dies, and None where it has no such line
+-- of each thread, in the order of ids, the number in its `die` line: the access before which it dies, and None where it
+-- has no such line
 abbrev pub dies_of : Scope → List (Option ℕ)
 dies_of s = map (λ t. death_of t s.commands) (range_with_len 1 (length s.threads))
 

@@ -1,4 +1,5 @@
--- How much a script may have of each thing: the numbers that the definitions mean. The code's constants are proved to be these wherever they are used.
+-- How much a script may have of each thing: the numbers that the definitions mean. The code's constants are proved to
+-- be these wherever they are used.
 use Rattle.std.specs.Prelude.{ℕ}
 
 -- the bytes of a script: chosen, 64 KiB
@@ -37,7 +38,8 @@ max_counter = 4294967295
 abbrev pub max_name : ℕ
 max_name = 16
 
--- the characters of the name in a `mutexes` line: with four digits behind it, for the numbers below 4,096, it is a name still
+-- the characters of the name in a `mutexes` line: with four digits behind it, for the numbers below 4,096, it is a name
+-- still
 abbrev pub max_stem : ℕ
 max_stem = 12
 
@@ -53,7 +55,7 @@ max_access = 100000
 abbrev pub max_events : ℕ
 max_events = 100000
 
--- the steps after which a thread that was given its steps is looked at no more: chosen above the most that a thread takes until it
--- rests, so that none is left amid a call (the law that `threads_come_to_rest` states)
+-- the steps after which a thread that was given its steps is looked at no more: chosen above the most that a thread
+-- takes until it rests, so that none is left amid a call (the law that `threads_come_to_rest` states)
 abbrev pub rest_steps : ℕ
 rest_steps = 9000

@@ -14,7 +14,8 @@ use Rattle.script.specs.Limits.{max_events}
 use Rattle.script.specs.Scope.{Scope}
 use Rattle.script.specs.Playing.{layout_of, first_state, events_of, events_from, events_in, overlong}
 
--- there aren't too many events; the trace notes them all, and is that of a legal run; and the machine is as they leave it
+-- there aren't too many events; the trace notes them all, and is that of a legal run; and the machine is as they leave
+-- it
 pub record IsPlayed (s : Scope) (t : Trace) (m : Shown) : Type 0 where
   pub fits : overlong s ≡ None
   pub numbers : IsOf (layout_of s) t

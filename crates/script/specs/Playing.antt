@@ -18,7 +18,8 @@ use Rattle.script.specs.declared.fault.ScriptFault.{ScriptFault}
 use Rattle.script.specs.Limits.{max_events, max_mutexes, rest_steps}
 use Rattle.script.specs.Scope.{Scope}
 
--- the words of a script: its threads, each of its process, its mutexes and condition variables. Process 0 maps the words at 0, and those with names map them at the bases that they were declared with
+-- the words of a script: its threads, each of its process, its mutexes and condition variables. Process 0 maps the
+-- words at 0, and those with names map them at the bases that they were declared with
 abbrev pub layout_of : Scope → Layout'
 layout_of s = record {
   threads = length s.threads;
@@ -69,7 +70,8 @@ abbrev pub locking : State → ℕ → ℕ → ℕ → List Event
 locking s t m zero = []
 locking s t m (suc n) = calling s t (OnMutex (Lock m)) ++ locking (run s (calling s t (OnMutex (Lock m)))) t (suc m) n
 
--- the events of an action at a state of the machine; the end of a phase of real threads is no event, and no more is the death of one
+-- the events of an action at a state of the machine; the end of a phase of real threads is no event, and no more is the
+-- death of one
 abbrev pub events_of : State → Action → List Event
 events_of s (Begin t c) = event.Begin t c ∷ []
 events_of s (Step t n) = replicate n (event.Step t)
@@ -106,7 +108,8 @@ overlong_from n s (c ∷ cs) = if nat_lt max_events (n + length (events_of s c.a
 abbrev pub overlong : Scope → Option ℕ
 overlong s = overlong_from 0 (first_state s) s.commands
 
--- these events ran and were noted; or there are too many of them; or one of them, of those that may run, found no memory
+-- these events ran and were noted; or there are too many of them; or one of them, of those that may run, found no
+-- memory
 abbrev pub Adds : State → State → List Note → List Note → List Event → Result (Unit {0}) Fault → Type 0
 Adds s s' ns ns' es (Ok u) = (s' ≡ run s es) × (ns' ≡ ns ++ notes s es) × (length ns + length es ≤ max_events)
 Adds s s' ns ns' es (Err TooLong) = max_events < length ns + length es

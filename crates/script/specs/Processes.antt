@@ -61,8 +61,10 @@ killed_by (action.Die t n) = []
 abbrev pub killalls_of : List Command → List ℕ
 killalls_of cs = flat_map (λ c. killed_by c.action) cs
 
--- the machine of this script is as its lines say: process 0 has base 0, and each declared process, in the order of their lines, the base that its own line gives; each thread is of the process that its own line
--- names, and of process 0 where that names none; and the processes to be killed, one command after the other, are those that the `killall` lines name
+-- the machine of this script is as its lines say: process 0 has base 0, and each declared process, in the order of
+-- their lines, the base that its own line gives; each thread is of the process that its own line names, and of process
+-- 0 where that names none; and the processes to be killed, one command after the other, are those that the `killall`
+-- lines name
 pub record IsAsTold (lines : List (List ℕ)) (s : Scope) : Type 0 where
   pub bases : (first_state s).layout.bases ≡ 0 ∷ map (λ p. p.1) (processes_in lines)
   pub threads : (first_state s).layout.processes ≡ flat_map (λ text. member_in (processes_in lines) (said text)) lines

@@ -121,7 +121,8 @@ abbrev pub mutexes_declared : Scope → List ℕ → Option ℕ → Result Scope
 mutexes_declared s w count = declares s >>= λ _. ok_or count OutOfRange >>= λ k. several max_mutexes s.mutexes w k >>= λ names.
     Ok (record s { mutexes = names })
 
--- a condition variable of the mutex with this number, whose counter begins at this value, unless there is one of this name
+-- a condition variable of the mutex with this number, whose counter begins at this value, unless there is one of this
+-- name
 abbrev pub with_condition : Scope → List ℕ → ℕ → ℕ → Result Scope Fault
 with_condition s w m counter = with_entry s.conditions w (record { mutex = m; counter = counter }) >>= λ cs. Ok (record s { conditions = cs })
 

@@ -12,8 +12,10 @@ use Rattle.script.specs.declared.command.Condition.{Condition}
 use Rattle.script.specs.Deaths.{deaths_by}
 use Rattle.script.specs.Limits.{max_processes, max_base, max_threads, max_mutexes, max_conditions, max_counter, max_steps, max_access}
 
--- what it is written for, the names in the order of declaration, each as its bytes, of processes each with its base, of condition variables each with what it was declared with; of each thread the
--- number of its process; and the commands in the order of their lines. Process 0 is always there, with base 0 and no name; those with names have the numbers from 1 on
+-- what it is written for, the names in the order of declaration, each as its bytes, of processes each with its base, of
+-- condition variables each with what it was declared with; of each thread the number of its process; and the commands
+-- in the order of their lines. Process 0 is always there, with base 0 and no name; those with names have the numbers
+-- from 1 on
 pub record Scope : Type 0 where
   pub mode : Mode
   pub processes : List (List ℕ × ℕ)
@@ -28,7 +30,9 @@ abbrev pub Names : ℕ → ℕ → Op → Type 0
 Names mutexes conditions (OnMutex c) = mutex_of c < mutexes
 Names mutexes conditions (OnCondition c) = condition_of c < conditions
 
--- an action of a script with this many named processes, threads, mutexes and condition variables: its numbers are of the script's, and it takes from one step to as many as may be, or one mutex or more, or is a death before an access that there may be
+-- an action of a script with this many named processes, threads, mutexes and condition variables: its numbers are of
+-- the script's, and it takes from one step to as many as may be, or one mutex or more, or is a death before an access
+-- that there may be
 abbrev pub IsPossible : ℕ → ℕ → ℕ → ℕ → Action → Type 0
 IsPossible processes threads mutexes conditions (Begin t o) = (1 ≤ t) × (t ≤ threads) × Names mutexes conditions o
 IsPossible processes threads mutexes conditions (Step t n) = (1 ≤ t) × (t ≤ threads) × (1 ≤ n) × (n ≤ max_steps)
@@ -48,7 +52,8 @@ IsPossible processes threads mutexes conditions (Die t n) = (1 ≤ t) × (t ≤ 
 abbrev pub IsCondition : ℕ → Condition → Type 0
 IsCondition mutexes c = (c.mutex < mutexes) × (c.counter ≤ max_counter)
 
--- what the lines so far can have made: no more names than may be, each thread in a process that is there, possible commands, and of each thread one death at most
+-- what the lines so far can have made: no more names than may be, each thread in a process that is there, possible
+-- commands, and of each thread one death at most
 pub record IsWithinLimits (s : Scope) : Type 0 where
   pub processes_at_most : length s.processes ≤ max_processes
   pub bases_possible : All (λ p. p.1 ≤ max_base) s.processes

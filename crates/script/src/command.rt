@@ -21,8 +21,8 @@ pub struct Condition {
     pub counter: u32,
 }
 
-/// What a command asks for. Threads and the processes with names are numbered from 1, and mutexes and condition variables
-/// from 0, in the order of their declarations.
+/// What a command asks for. Threads and the processes with names are numbered from 1, and mutexes and condition
+/// variables from 0, in the order of their declarations.
 #[derive(Clone, Copy, Debug, PartialEq, Eq)]
 pub enum Action {
     /// One begin event.
@@ -45,13 +45,13 @@ pub enum Action {
     Go(Tid),
     /// A begin event, and then step events until the thread rests; for real threads one call.
     Call(Tid, Op),
-    /// The call that locks a mutex, for each of `count` mutexes from `mutex` on, one after the other. There are from 1 to
-    /// [`MAX_MUTEXES`](crate::MAX_MUTEXES).
+    /// The call that locks a mutex, for each of `count` mutexes from `mutex` on, one after the other. There are from 1
+    /// to [`MAX_MUTEXES`](crate::MAX_MUTEXES).
     Locks { thread: Tid, mutex: u16, count: u16 },
     /// The end of a phase of real threads; for the machine nothing.
     Phase,
-    /// The death of a real thread, before its access with this number, from 1 to [`MAX_ACCESS`](crate::MAX_ACCESS), over all
-    /// phases; for the machine nothing. A script has one at most for each thread.
+    /// The death of a real thread, before its access with this number, from 1 to [`MAX_ACCESS`](crate::MAX_ACCESS),
+    /// over all phases; for the machine nothing. A script has one at most for each thread.
     Die { thread: Tid, access: u32 },
 }
 

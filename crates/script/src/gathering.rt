@@ -128,11 +128,13 @@ fn gather(alloc: Global, script: &Script) -> Result<Jobs, AllocError>
     Ok(Jobs { phases, dies })
 }
 
-/// What a script asks of real threads: for each phase and each thread the calls, in the order of their lines. `begin` and `step`
-/// lines, which only the machine runs, ask for nothing here. And for each thread the access before which its `die` line lets it die.
+/// What a script asks of real threads: for each phase and each thread the calls, in the order of their lines. `begin`
+/// and `step` lines, which only the machine runs, ask for nothing here. And for each thread the access before which its
+/// `die` line lets it die.
 ///
-/// Each command is looked at once for the calls and once for each thread's death, and at each end of a phase each thread's list;
-/// memory is taken for the calls, the phases, the deaths and a list for each thread. Refused at line 1 where no memory is left, as [`Fault::OutOfMemory`], and for nothing else.
+/// Each command is looked at once for the calls and once for each thread's death, and at each end of a phase each
+/// thread's list; memory is taken for the calls, the phases, the deaths and a list for each thread. Refused at line 1
+/// where no memory is left, as [`Fault::OutOfMemory`], and for nothing else.
 pub fn jobs(alloc: Global, script: &Script) -> Result<Jobs, ScriptFault>
     ensures ok { IfOk result (λ jobs. map jobs_seen jobs.phases.items ≡ jobs_of script.now) }
     ensures dies { IfOk result (λ jobs. jobs.dies.items ≡ dies_of script.now) }

@@ -13,15 +13,16 @@ pub fn silent_lines_say_nothing()
     ensures { SilentLinesSayNothing }
 {}
 
-/// Threads come to rest: whatever happened before, a thread that is in a call or dying and isn't asleep ends its call, is
-/// reaped or falls asleep after so many steps of its own as `go` makes, and not before. So [`REST_STEPS`](crate::REST_STEPS)
-/// cuts no call off.
+/// Threads come to rest: whatever happened before, a thread that is in a call or dying and isn't asleep ends its call,
+/// is reaped or falls asleep after so many steps of its own as `go` makes, and not before. So
+/// [`REST_STEPS`](crate::REST_STEPS) cuts no call off.
 pub fn threads_come_to_rest()
     ensures { ThreadsComeToRest }
 {}
 
-/// Of every script that is read: each process has the base that its own line gives, process 0 has base 0; each thread is of the
-/// process that its own line names, or of process 0 where that names none; and `killall` is asked of the process that it names.
+/// Of every script that is read: each process has the base that its own line gives, process 0 has base 0; each thread
+/// is of the process that its own line names, or of process 0 where that names none; and `killall` is asked of the
+/// process that it names.
 pub fn processes_are_as_told()
     ensures { ProcessesAreAsTold }
 {}
@@ -31,15 +32,15 @@ pub fn one_process_without_a_line()
     ensures { OneProcessWithoutALine }
 {}
 
-/// Whatever happened before, `killall` is one kill of each thread that the script has in that process, in the order of ids, and
-/// of no other thread.
+/// Whatever happened before, `killall` is one kill of each thread that the script has in that process, in the order of
+/// ids, and of no other thread.
 pub fn killall_kills_one_process()
     ensures { KillallKillsOneProcess }
 {}
 
-/// Of every script that is read: the deaths that its commands ask for, in their order, are those that its `die` lines say, each of
-/// the thread that the line names, before the access that it gives. A thread's number is its place, from 1, among those that
-/// `thread` lines declare, in their order: these names too are taken from the lines' words.
+/// Of every script that is read: the deaths that its commands ask for, in their order, are those that its `die` lines
+/// say, each of the thread that the line names, before the access that it gives. A thread's number is its place, from
+/// 1, among those that `thread` lines declare, in their order: these names too are taken from the lines' words.
 pub fn deaths_are_as_told()
     ensures { DeathsAreAsTold }
 {}

@@ -6,8 +6,8 @@ use crate::parsed::Script;
 use memorymap::{CONDITION_LIMIT, Layout, PROCESS_LIMIT};
 
 impl Script {
-    /// Where its words lie: the layout of its threads, each of its process, its mutexes and its condition variables. Process 0 maps the words at 0, and the
-    /// others at the bases that they were declared with.
+    /// Where its words lie: the layout of its threads, each of its process, its mutexes and its condition variables.
+    /// Process 0 maps the words at 0, and the others at the bases that they were declared with.
     pub fn layout(&self) -> Layout
         ensures { result ≡ layout_of self.now }
     {

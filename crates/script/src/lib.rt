@@ -1,13 +1,14 @@
 //! Scripts: what a list of bytes asks for, and the first fault of one that asks for nothing.
 //!
-//! [`parse`] reads a [`Script`], or tells its first fault with its line ([`ScriptFault`]); [`play`] runs one on its [`first_machine`], and
-//! [`jobs`] gives what one asks of real threads. Each is proved equal to the definition of what lines mean: silent lines say
-//! nothing (`silent_lines_say_nothing`), processes, kills and deaths are as their lines say (`processes_are_as_told`,
-//! `one_process_without_a_line`, `killall_kills_one_process`, `deaths_are_as_told`), and `go` cuts no call off
-//! (`threads_come_to_rest`).
+//! [`parse`] reads a [`Script`], or tells its first fault with its line ([`ScriptFault`]); [`play`] runs one on its
+//! [`first_machine`], and [`jobs`] gives what one asks of real threads. Each is proved equal to the definition of what
+//! lines mean: silent lines say nothing (`silent_lines_say_nothing`), processes, kills and deaths are as their lines
+//! say (`processes_are_as_told`, `one_process_without_a_line`, `killall_kills_one_process`, `deaths_are_as_told`), and
+//! `go` cuts no call off (`threads_come_to_rest`).
 //!
 //! Stands on `lines`, for words and numbers, on `interleave` and `protocol`, for playing, on `mutex`, `condvar`,
-//! `memorymap`, `posixmutex`, `stepprograms` and `lockword`, for calls, layouts and thread ids, on `indexmap`, for names, and on `thiserror`, for messages.
+//! `memorymap`, `posixmutex`, `stepprograms` and `lockword`, for calls, layouts and thread ids, on `indexmap`, for
+//! names, and on `thiserror`, for messages.
 //!
 //! ```text
 //! let text = b"thread a\nthread b\nmutex m\ncall a lock m\nkill a\ngo a\ncall b lock m\n";

@@ -92,7 +92,8 @@ fn clashes(names: &IndexSet<String>, word: &str, count: u32) -> bool
         .any(|name| is_numbered(name.as_str(), word, count))
 }
 
-/// Adds `count` names, a word with each number from 0 on behind it, unless there would be more than may be, or one is there.
+/// Adds `count` names, a word with each number from 0 on behind it, unless there would be more than may be, or one is
+/// there.
 pub(crate) fn declare_numbered(
     alloc: Global,
     names: &mut IndexSet<String>,

@@ -104,7 +104,8 @@ impl Script {
         self.mutexes.len() as u16
     }
 
-    /// How many condition variables it declares, at most [`MAX_CONDITIONS`](crate::MAX_CONDITIONS). They have the numbers below this.
+    /// How many condition variables it declares, at most [`MAX_CONDITIONS`](crate::MAX_CONDITIONS). They have the
+    /// numbers below this.
     pub fn conditions(&self) -> u16
         ensures count { result ≡ length self.now.conditions }
         ensures well_formed { IsWellFormed self.now }

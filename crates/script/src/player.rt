@@ -170,8 +170,8 @@ fn play_command(
     }
 }
 
-/// The events of all the commands, on a machine and a list of notes that are new. Want of memory is told at the line of a
-/// command that runs an event, and at no other.
+/// The events of all the commands, on a machine and a list of notes that are new. Want of memory is told at the line of
+/// a command that runs an event, and at no other.
 fn play_commands(
     machine: &mut Machine,
     notes: &mut Vec<Note>,
@@ -207,10 +207,11 @@ pub fn first_machine(alloc: Global, script: &Script) -> Result<Machine, NoMem>
     Ok(machine)
 }
 
-/// What a script's commands do on its first machine: the trace, and the machine afterwards. The trace tells a legal run: of its notes and of the machine after each event all holds that
-/// [`Machine::run`] promises of a list of events.
+/// What a script's commands do on its first machine: the trace, and the machine afterwards. The trace tells a legal
+/// run: of its notes and of the machine after each event all holds that [`Machine::run`] promises of a list of events.
 ///
-/// Refused at the line of the first command that would run event 100,001, as [`Fault::TooLong`]; or, where no memory is left for an event, at the line being played.
+/// Refused at the line of the first command that would run event 100,001, as [`Fault::TooLong`]; or, where no memory is
+/// left for an event, at the line being played.
 pub fn play(
     alloc: Global,
     script: &Script,

@@ -70,8 +70,8 @@ fn read_text(alloc: Global, text: &str, mode: Mode) -> Result<Script, ScriptFaul
     }
 }
 
-/// The script that the bytes are, or their first fault. Only want of memory may come in its place, at a line before it that
-/// says something.
+/// The script that the bytes are, or their first fault. Only want of memory may come in its place, at a line before it
+/// that says something.
 pub fn parse(alloc: Global, bytes: &[u8], mode: Mode) -> Result<Script, ScriptFault>
     ensures reads { Reads result (script_read mode bytes.now) }
     ensures mode { IfOk result (λ s. s.mode ≡ mode) }

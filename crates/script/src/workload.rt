@@ -19,13 +19,13 @@ pub struct Phase {
     pub jobs: Vec<Job>,
 }
 
-/// What a script asks of real threads, phase after phase. `phase` lines part the phases, so there is one phase more than
-/// there are such lines; a phase may be empty.
+/// What a script asks of real threads, phase after phase. `phase` lines part the phases, so there is one phase more
+/// than there are such lines; a phase may be empty.
 #[derive(Drop)]
 pub struct Jobs {
     /// The phases.
     pub phases: Vec<Phase>,
-    /// For each thread, in the order of the threads' ids, the number in its `die` line: it dies before this access of its,
-    /// from 1 to [`MAX_ACCESS`](crate::MAX_ACCESS), over all phases. None where it has no such line.
+    /// For each thread, in the order of the threads' ids, the number in its `die` line: it dies before this access of
+    /// its, from 1 to [`MAX_ACCESS`](crate::MAX_ACCESS), over all phases. None where it has no such line.
     pub dies: Vec<Option<u32>>,
 }

@@ -1,4 +1,5 @@
--- What an access does to the word that it meets, and what it answers. Of the futex sections a trim alone changes a word.
+-- What an access does to the word that it meets, and what it answers. Of the futex sections a trim alone changes a
+-- word.
 use Rattle.std.specs.Prelude.{ℕ, ◌≡◌, ◌==◌, ◌+◌, ◌%◌, ◌^◌, ◌&&◌, ◌↔◌, Bool, true, false, List, [], ◌∷◌, length, take, drop, bit_or, bit_and, bit_xor, if◌then◌else◌}
 use Rattle.lockword.specs.Cells.{waiters_alone}
 use Rattle.stepprograms.specs.declared.access.Access.{Access}
@@ -79,7 +80,8 @@ abbrev pub sleeps_at : Access → ℕ → Bool
 sleeps_at (Wait at e) w = w % 2 ^ 32 == e
 sleeps_at a w = false
 
--- the meaning of a trim of the word w, on which these threads sleep: it becomes 0 exactly where WAITERS is all that it says and nobody sleeps on it, and the answer is true exactly there
+-- the meaning of a trim of the word w, on which these threads sleep: it becomes 0 exactly where WAITERS is all that it
+-- says and nobody sleeps on it, and the answer is true exactly there
 pub record Trims (w : ℕ) (queue : List ℕ) (after : ℕ) (trimmed : Bool) : Type 0 where
   pub answer : (trimmed ≡ true) ↔ ((w ≡ 0x8000_0000) × (queue ≡ []))
   pub cleared : trimmed ≡ true → after ≡ 0

@@ -2,7 +2,8 @@
 ghost use Rattle.std.specs.Prelude.{◌≡◌};
 ghost use Rattle.stepprograms.specs.Accesses.{TrimsAreRight};
 
-/// As many as there are threads at most: a wake of so many wakes all who sleep on the word, and a requeue moves all (futex(2)).
+/// As many as there are threads at most: a wake of so many wakes all who sleep on the word, and a requeue moves all
+/// (futex(2)).
 pub const ALL: u32 = 64;
 
 /// One access to one word, or one section under a bucket's lock (futex(2)). Addresses count 64-bit words.
@@ -62,7 +63,8 @@ pub enum Access {
         to: u64,
         moves: u32,
     },
-    /// Clears the word where it is `0x80000000`, the cell of a free mutex that says only that somebody may sleep on it, and nobody does.
+    /// Clears the word where it is `0x80000000`, the cell of a free mutex that says only that somebody may sleep on it,
+    /// and nobody does.
     Trim {
         at: u64,
     },

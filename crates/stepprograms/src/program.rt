@@ -16,8 +16,9 @@ pub enum Progress {
     Returns { reply: Reply, point: Option<Point> },
 }
 
-/// A call of a thread, a part of one, or the kernel's walk over a dead thread's list, as a value: it says which access it makes next, and is told what that was answered. Whoever runs it has the words, the
-/// queues and the locks. So one program runs on a plain memory, event by event, and on words that running threads share.
+/// A call of a thread, a part of one, or the kernel's walk over a dead thread's list, as a value: it says which access
+/// it makes next, and is told what that was answered. Whoever runs it has the words, the queues and the locks. So one
+/// program runs on a plain memory, event by event, and on words that running threads share.
 pub trait StepProgram {
     /// Whether it has accesses to make.
     ghost is_under_way: { Self → Type 0 };

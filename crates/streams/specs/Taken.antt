@@ -2,8 +2,8 @@
 use Rattle.std.specs.Prelude.{ℕ, ◌≤◌, List, length, Option}
 use Rattle.std.specs.Io.KnownBytes.{Consumes}
 
--- how many bytes memory is asked for at a time while a file is read: as many as a reader with a buffer keeps. So what is asked for
--- grows with the file, and a short one needs no room for the longest
+-- how many bytes memory is asked for at a time while a file is read: as many as a reader with a buffer keeps. So what
+-- is asked for grows with the file, and a short one needs no room for the longest
 abbrev pub part_bytes : ℕ
 part_bytes = 8192
 

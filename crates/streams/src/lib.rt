@@ -1,9 +1,10 @@
 //! Reading all that a reader has, and writing all of a text: what the programs have in common at their files and
 //! their command lines.
 //!
-//! [`read_below`] reads up to a limit, [`put`] and [`put_text`] write texts without asking for memory, and an [`Output`] is a
-//! writer of which it is known that it has let go of what it kept back. Where a writer fails, it holds a beginning of the text.
-//! An [`Opener`] opens files by their names. [`lent`] and [`is_file`] are of the words of a command line.
+//! [`read_below`] reads up to a limit, [`put`] and [`put_text`] write texts without asking for memory, and an
+//! [`Output`] is a writer of which it is known that it has let go of what it kept back. Where a writer fails, it holds
+//! a beginning of the text. An [`Opener`] opens files by their names. [`lent`] and [`is_file`] are of the words of a
+//! command line.
 //!
 //! Stands on no other crate.
 //!

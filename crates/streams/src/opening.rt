@@ -11,7 +11,8 @@ pub trait Opener {
     /// An open file.
     type Input: Read + Drop;
 
-    /// What opening the file of this name may give: a reader that has these bytes left, where they are known, or an error of this kind.
+    /// What opening the file of this name may give: a reader that has these bytes left, where they are known, or an
+    /// error of this kind.
     ghost opens: { Self → List ℕ → Result (Option (List ℕ)) Kind → Type 0 } = { λ _ _ _. ⊤ };
 
     /// Opens the file of this name for reading.

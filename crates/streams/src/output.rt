@@ -17,7 +17,8 @@ pub trait Output: Write {
         ensures gone { OnOk result (is_let_go self.new) };
 }
 
-/// It keeps nothing back where its buffer is empty. What the writer below it does with the bytes then is in no contract of the library.
+/// It keeps nothing back where its buffer is empty. What the writer below it does with the bytes then is in no contract
+/// of the library.
 impl<W: Write + Drop> Output for BufWriter<W> {
     ghost is_let_go = { λ w. writer_buffer w ≡ [] };
 

@@ -10,7 +10,8 @@ use Rattle.syscalls.specs.Memories.{is_valid}
 abbrev pub futex_word : List ℕ → ℕ → ℕ
 futex_word words at = slice_index words at % 2 ^ 32
 
--- a wait sleeps exactly where the futex word is the expected one. EFAULT tells that the place is invalid, and else EAGAIN that the word differs
+-- a wait sleeps exactly where the futex word is the expected one. EFAULT tells that the place is invalid, and else
+-- EAGAIN that the word differs
 abbrev pub WaitAnswers : List ℕ → ℕ → ℕ → Result (Unit {0}) Reply → Type 0
 WaitAnswers words at expected (Ok x) = IsTrue (is_valid words at) × (futex_word words at ≡ expected)
 WaitAnswers words at expected (Err EAGAIN) = IsTrue (is_valid words at) × (futex_word words at ≢ expected)
@@ -38,7 +39,8 @@ pub record TrimsAt (old new : List ℕ) (at : ℕ) (queue : List ℕ) (trimmed :
 abbrev pub BothValid : List ℕ → ℕ → ℕ → Type 0
 BothValid words from to = IsTrue (is_valid words from) × IsTrue (is_valid words to)
 
--- a requeue is refused exactly where the places are equal, which EINVAL tells, and else where one of them is invalid, which EFAULT tells
+-- a requeue is refused exactly where the places are equal, which EINVAL tells, and else where one of them is invalid,
+-- which EFAULT tells
 abbrev pub RequeueAnswers : {X : Type 0} → List ℕ → ℕ → ℕ → Result X Reply → Type 0
 RequeueAnswers words from to (Ok x) = (from ≢ to) × BothValid words from to
 RequeueAnswers words from to (Err EINVAL) = from ≡ to

@@ -1,9 +1,11 @@
--- The sleepers of every key and the robust list's head of every thread, as a kernel keeps them (futex(2), get_robust_list(2)).
+-- The sleepers of every key and the robust list's head of every thread, as a kernel keeps them (futex(2),
+-- get_robust_list(2)).
 use Rattle.std.specs.Prelude.{ℕ, ◌≡◌, ◌≢◌, ◌<◌, ◌≤◌, ◌%◌, ◌-◌, ◌==◌, Bool, List, [], ◌∷◌, ◌++◌, length, take, drop, slice_index, slice_index_or, slice_get, Some, if◌then◌else◌, AllPairs, Contains, MatchBool}
 use Rattle.buckets.specs.BucketCount.{bucket_count}
 use Rattle.buckets.specs.Queues.{Sleepers, queue, without, IsOrderly}
 
--- hash buckets and heads for so many threads. What calls speak of is each key's queue, `queue_of`, and each thread's head, `head_of`
+-- hash buckets and heads for so many threads. What calls speak of is each key's queue, `queue_of`, and each thread's
+-- head, `head_of`
 pub record Kernel' : Type 0 where
   pub threads : ℕ
   pub buckets : List Sleepers
@@ -38,7 +40,8 @@ IsAsleep k t = (key : ℕ) × Contains (queue_of k key) t
 abbrev pub IsAwake : Kernel' → ℕ → Type 0
 IsAwake k t = (key : ℕ) → ¬ Contains (queue_of k key) t
 
--- what the queues of a kernel always are: of threads 1 to 64 at most, each of which stands once at most, in one queue or in two
+-- what the queues of a kernel always are: of threads 1 to 64 at most, each of which stands once at most, in one queue
+-- or in two
 pub record IsKernel (k : Kernel') : Type 0 where
   pub first : 1 ≤ k.threads
   pub last : k.threads ≤ 64
@@ -80,14 +83,16 @@ pub record FallsAsleep (old new : Kernel') (thread key : ℕ) : Type 0 where
   pub threads : new.threads ≡ old.threads
   pub heads : new.heads ≡ old.heads
 
--- the first n of the key's queue, or all where there are fewer, were woken: they were taken out of it, and every other queue and each head stays
+-- the first n of the key's queue, or all where there are fewer, were woken: they were taken out of it, and every other
+-- queue and each head stays
 pub record Wakes (old new : Kernel') (key n : ℕ) (woken : List ℕ) : Type 0 where
   pub firsts : woken ≡ take n (queue_of old key)
   pub queues : (k : ℕ) → queue_of new k ≡ (if k == key then drop n (queue_of old key) else queue_of old k)
   pub threads : new.threads ≡ old.threads
   pub heads : new.heads ≡ old.heads
 
--- the first n of the one key's queue, or all where there are fewer, were moved to the end of the other key's queue, in order; every other queue and each head stays
+-- the first n of the one key's queue, or all where there are fewer, were moved to the end of the other key's queue, in
+-- order; every other queue and each head stays
 pub record Moves (old new : Kernel') (from n to : ℕ) (moved : List ℕ) : Type 0 where
   pub firsts : moved ≡ take n (queue_of old from)
   pub left : queue_of new from ≡ drop n (queue_of old from)
@@ -96,8 +101,9 @@ pub record Moves (old new : Kernel') (from n to : ℕ) (moved : List ℕ) : Type
   pub threads : new.threads ≡ old.threads
   pub heads : new.heads ≡ old.heads
 
--- the first of the one key's queue, `wake` at most, were woken: they were taken out of it; and then the first of the rest, `moves` at most,
--- were moved to the end of the other key's queue, in order; every other queue and each head stays
+-- the first of the one key's queue, `wake` at most, were woken: they were taken out of it; and then the first of the
+-- rest, `moves` at most, were moved to the end of the other key's queue, in order; every other queue and each head
+-- stays
 pub record Requeues (old new : Kernel') (from wake to moves : ℕ) (woken moved : List ℕ) : Type 0 where
   pub firsts : woken ≡ take wake (queue_of old from)
   pub next : moved ≡ take moves (drop wake (queue_of old from))

@@ -11,6 +11,7 @@ is_valid words at = nat_le 1 at && nat_lt at (length words)
 abbrev pub word_at : List ℕ → ℕ → Option ℕ
 word_at words at = if is_valid words at then Some (slice_index words at) else None
 
--- the words after an access of a memory, which knows of no sleepers: the one at its address, which is a place here, is changed, where that is valid, and all others stay
+-- the words after an access of a memory, which knows of no sleepers: the one at its address, which is a place here, is
+-- changed, where that is valid, and all others stay
 abbrev pub words_after : Access → List ℕ → List ℕ
 words_after a words = if is_valid words (address_of a) then slice_set words (address_of a) (word_among a (slice_index words (address_of a)) []) else words

@@ -10,10 +10,12 @@ use buckets::Batch;
 use lockword::{Reply, Tid};
 use memorymap::seen_at;
 
-/// Each call takes the base at which the caller's process maps the words, and addresses as that process has them. An address is valid where it is that of a place of the memory.
+/// Each call takes the base at which the caller's process maps the words, and addresses as that process has them. An
+/// address is valid where it is that of a place of the memory.
 impl Kernel {
-    /// FUTEX_WAIT of a thread that doesn't sleep: where the low half of the word at the address is the expected value, the thread falls asleep on it;
-    /// comparing and falling asleep are one step. Refused with EFAULT where the address is invalid, and else with EAGAIN where the word differs.
+    /// FUTEX_WAIT of a thread that doesn't sleep: where the low half of the word at the address is the expected value,
+    /// the thread falls asleep on it; comparing and falling asleep are one step. Refused with EFAULT where the address
+    /// is invalid, and else with EAGAIN where the word differs.
     pub fn wait<M: Memory>(
         &mut self,
         base: u64,
@@ -31,8 +33,8 @@ impl Kernel {
         self.wait_at(memory, thread, seen_at(base, at), expected)
     }
 
-    /// FUTEX_WAKE: wakes the first `n` that sleep on the word at the address, in the order in which they fell asleep, or all where there are fewer.
-    /// Refused with EFAULT where the address is invalid.
+    /// FUTEX_WAKE: wakes the first `n` that sleep on the word at the address, in the order in which they fell asleep,
+    /// or all where there are fewer. Refused with EFAULT where the address is invalid.
     pub fn wake<M: Memory>(
         &mut self,
         base: u64,
@@ -47,9 +49,10 @@ impl Kernel {
         self.wake_at(memory, seen_at(base, at), n)
     }
 
-    /// FUTEX_REQUEUE: wakes the first `wake` that sleep on the word at `from`, or all where there are fewer, and moves the first of the rest, `moves` at most,
-    /// to the end of the queue of the word at `to`, as if they had fallen asleep on it. Answers who was woken and who was moved, in order.
-    /// Refused with EINVAL where the addresses are equal, and else with EFAULT where either is invalid; then nothing changes.
+    /// FUTEX_REQUEUE: wakes the first `wake` that sleep on the word at `from`, or all where there are fewer, and moves
+    /// the first of the rest, `moves` at most, to the end of the queue of the word at `to`, as if they had fallen
+    /// asleep on it. Answers who was woken and who was moved, in order. Refused with EINVAL where the addresses are
+    /// equal, and else with EFAULT where either is invalid; then nothing changes.
     pub fn requeue<M: Memory>(
         &mut self,
         base: u64,
@@ -66,8 +69,9 @@ impl Kernel {
         self.requeue_at(memory, seen_at(base, from), wake, seen_at(base, to), moves)
     }
 
-    /// FUTEX_CMP_REQUEUE: a requeue where the low half of the word at `from` is the expected value; comparing and moving are one step.
-    /// Refused with EINVAL where the addresses are equal, else with EFAULT where either is invalid, and else with EAGAIN where the word differs; then nothing changes.
+    /// FUTEX_CMP_REQUEUE: a requeue where the low half of the word at `from` is the expected value; comparing and
+    /// moving are one step. Refused with EINVAL where the addresses are equal, else with EFAULT where either is
+    /// invalid, and else with EAGAIN where the word differs; then nothing changes.
     pub fn cmp_requeue<M: Memory>(
         &mut self,
         base: u64,
@@ -92,8 +96,9 @@ impl Kernel {
         )
     }
 
-    /// Clears the word at the address where it is `0x80000000`, the cell of a free mutex that says only that somebody may sleep on it, and nobody does: looking for sleepers,
-    /// comparing and clearing are one step. Answers whether it cleared it; no queue changes. Refused with EFAULT where the address is invalid, and then no word changes.
+    /// Clears the word at the address where it is `0x80000000`, the cell of a free mutex that says only that somebody
+    /// may sleep on it, and nobody does: looking for sleepers, comparing and clearing are one step. Answers whether it
+    /// cleared it; no queue changes. Refused with EFAULT where the address is invalid, and then no word changes.
     pub fn trim<M: Memory>(&self, base: u64, memory: &mut M, at: u64) -> Result<bool, Reply>
         ensures answer { TrimAnswers (M.words memory.old) (seen_at base at) result }
         ensures changes { MatchResult result (TrimsAt (M.words memory.old) (M.words memory.new) (seen_at base at) (queue_of self.now (seen_at base at))) (λ _. M.words memory.new ≡ M.words memory.old) }

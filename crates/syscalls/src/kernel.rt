@@ -14,14 +14,16 @@ use memorymap::{HEAD_SIZE, Key, NoMem, bucket_of, key_of};
 use std::alloc::{AllocError, Global};
 use std::marker::Model;
 
-/// Who sleeps on which word, of threads whose ids go from 1 to a number (futex(2), shared futexes), and where each one's robust list begins (get_robust_list(2)).
+/// Who sleeps on which word, of threads whose ids go from 1 to a number (futex(2), shared futexes), and where each
+/// one's robust list begins (get_robust_list(2)).
 ///
 /// A word is known by its place: whatever addresses it has for the processes of those who sleep on it, they meet.
 #[derive(Drop)]
 pub struct Kernel {
     threads: u8,
     buckets: Vec<Bucket>,
-    /// The number of the bucket in which each thread last came to stand, 0 before it first slept: a thread that sleeps stands there.
+    /// The number of the bucket in which each thread last came to stand, 0 before it first slept: a thread that sleeps
+    /// stands there.
     stood_in: Vec<u8>,
     heads: Vec<u64>,
 }
@@ -66,7 +68,8 @@ fn empty_buckets(alloc: Global, capacity: usize) -> Result<Vec<Bucket>, NoMem>
     Ok(buckets)
 }
 
-/// The number of the bucket that the thread stands in; None where it stands in none. Only the one in which it last came to stand is asked.
+/// The number of the bucket that the thread stands in; None where it stands in none. Only the one in which it last came
+/// to stand is asked.
 fn bucket_with(buckets: &[Bucket], stood_in: &[u8], thread: Tid) -> Option<usize>
     requires many { length buckets.now ≡ bucket_count }
     requires remembers { StandWhereTold stood_in.now buckets.now }
@@ -99,7 +102,8 @@ fn remember(stood_in: &mut [u8], threads: &Batch, number: u8)
     }
 }
 
-/// The word at the first of two places. Refused with EINVAL where they are equal, and else with EFAULT where either is invalid.
+/// The word at the first of two places. Refused with EINVAL where they are equal, and else with EFAULT where either is
+/// invalid.
 fn first_of_two<M: Memory>(memory: &M, first: u64, second: u64) -> Result<u64, Reply>
     ensures answer { RequeueAnswers (M.words memory.now) first second result }
     ensures word { IfOk result (λ w. w ≡ slice_index (M.words memory.now) first) }
@@ -113,7 +117,8 @@ fn first_of_two<M: Memory>(memory: &M, first: u64, second: u64) -> Result<u64, R
     }
 }
 
-/// Moves the first `n` of the key's queue in the one bucket, or all where there are fewer, to the end of another key's queue in another bucket.
+/// Moves the first `n` of the key's queue in the one bucket, or all where there are fewer, to the end of another key's
+/// queue in another bucket.
 fn move_between(
     buckets: &mut [Bucket],
     from: usize,
@@ -142,7 +147,8 @@ fn move_between(
 }
 
 impl Kernel {
-    /// A kernel of threads 1 to `threads`, at most 64, none of which sleeps or has set a head. It makes all the room that later calls fill.
+    /// A kernel of threads 1 to `threads`, at most 64, none of which sleeps or has set a head. It makes all the room
+    /// that later calls fill.
     pub fn new(alloc: Global, threads: u8) -> Result<Kernel, NoMem>
         requires first { 1 ≤ threads }
         requires last { threads ≤ 64 }
@@ -167,8 +173,9 @@ impl Kernel {
         self.threads
     }
 
-    /// FUTEX_WAIT of a thread that doesn't sleep: where the low half of the word at the place is the expected value, the thread falls asleep on it;
-    /// comparing and falling asleep are one step. Refused with EFAULT where there is no such place, and else with EAGAIN where the word differs.
+    /// FUTEX_WAIT of a thread that doesn't sleep: where the low half of the word at the place is the expected value,
+    /// the thread falls asleep on it; comparing and falling asleep are one step. Refused with EFAULT where there is no
+    /// such place, and else with EAGAIN where the word differs.
     pub(crate) fn wait_at<M: Memory>(
         &mut self,
         memory: &M,
@@ -196,8 +203,8 @@ impl Kernel {
         Ok(())
     }
 
-    /// FUTEX_WAKE: wakes the first `n` that sleep on the word at the place, in the order in which they fell asleep, or all where there are fewer.
-    /// Refused with EFAULT where there is no such place.
+    /// FUTEX_WAKE: wakes the first `n` that sleep on the word at the place, in the order in which they fell asleep, or
+    /// all where there are fewer. Refused with EFAULT where there is no such place.
     pub(crate) fn wake_at<M: Memory>(&mut self, memory: &M, at: u64, n: u32) -> Result<Batch, Reply>
         ensures answer { WakeAnswers (M.words memory.now) at result }
         ensures changes { MatchResult result (Wakes self.old self.new at n) (λ _. self.new ≡ self.old) }
@@ -211,9 +218,10 @@ impl Kernel {
         Ok(self.buckets[number].take(key, n))
     }
 
-    /// FUTEX_REQUEUE: wakes the first `wake` that sleep on the word at `from`, or all where there are fewer, and moves the first of the rest, `moves` at most,
-    /// to the end of the queue of the word at `to`, as if they had fallen asleep on it. Answers who was woken and who was moved, in order.
-    /// Refused with EINVAL where the places are equal, and else with EFAULT where there is no such place; then nothing changes.
+    /// FUTEX_REQUEUE: wakes the first `wake` that sleep on the word at `from`, or all where there are fewer, and moves
+    /// the first of the rest, `moves` at most, to the end of the queue of the word at `to`, as if they had fallen
+    /// asleep on it. Answers who was woken and who was moved, in order. Refused with EINVAL where the places are equal,
+    /// and else with EFAULT where there is no such place; then nothing changes.
     pub(crate) fn requeue_at<M: Memory>(
         &mut self,
         memory: &M,
@@ -234,8 +242,9 @@ impl Kernel {
         Ok((woken, moved))
     }
 
-    /// FUTEX_CMP_REQUEUE: a requeue where the low half of the word at `from` is the expected value; comparing and moving are one step.
-    /// Refused with EINVAL where the places are equal, else with EFAULT where there is no such place, and else with EAGAIN where the word differs; then nothing changes.
+    /// FUTEX_CMP_REQUEUE: a requeue where the low half of the word at `from` is the expected value; comparing and
+    /// moving are one step. Refused with EINVAL where the places are equal, else with EFAULT where there is no such
+    /// place, and else with EAGAIN where the word differs; then nothing changes.
     pub(crate) fn cmp_requeue_at<M: Memory>(
         &mut self,
         memory: &M,
@@ -259,7 +268,8 @@ impl Kernel {
         self.requeue_at(memory, from, wake, to, moves)
     }
 
-    /// Moves the first `n` that sleep on the one word, or all where there are fewer, to the end of the other word's queue, in order. Their buckets may be one or two.
+    /// Moves the first `n` that sleep on the one word, or all where there are fewer, to the end of the other word's
+    /// queue, in order. Their buckets may be one or two.
     fn move_sleepers(&mut self, from: u64, n: u32, to: u64) -> Batch
         requires apart { from ≢ to }
         ensures changes { Moves self.old self.new from n to result }
@@ -278,8 +288,9 @@ impl Kernel {
         }
     }
 
-    /// Clears the word at the place where it is `0x80000000`, the cell of a free mutex that says only that somebody may sleep on it, and nobody does: looking for sleepers,
-    /// comparing and clearing are one step. Answers whether it cleared it; no queue changes. Refused with EFAULT where there is no such place, and then no word changes.
+    /// Clears the word at the place where it is `0x80000000`, the cell of a free mutex that says only that somebody may
+    /// sleep on it, and nobody does: looking for sleepers, comparing and clearing are one step. Answers whether it
+    /// cleared it; no queue changes. Refused with EFAULT where there is no such place, and then no word changes.
     pub(crate) fn trim_at<M: Memory>(&self, memory: &mut M, at: u64) -> Result<bool, Reply>
         ensures answer { TrimAnswers (M.words memory.old) at result }
         ensures changes { MatchResult result (TrimsAt (M.words memory.old) (M.words memory.new) at (queue_of self.now at)) (λ _. M.words memory.new ≡ M.words memory.old) }
@@ -343,8 +354,9 @@ impl Kernel {
         &self.buckets[usize::from(i)]
     }
 
-    /// Sets the address of the thread's robust list head, as the thread itself asks and as its process has it (set_robust_list(2)). It stays until it is set again.
-    /// Refused with EINVAL where the length isn't 24, the size of a head in bytes; then nothing changes.
+    /// Sets the address of the thread's robust list head, as the thread itself asks and as its process has it
+    /// (set_robust_list(2)). It stays until it is set again. Refused with EINVAL where the length isn't 24, the size of
+    /// a head in bytes; then nothing changes.
     pub fn set_robust_list(&mut self, thread: Tid, head: u64, len: u64) -> Result<(), Reply>
         requires known { thread ≤ self.old.threads }
         ensures answer { SetHeadAnswers len result }
@@ -360,8 +372,9 @@ impl Kernel {
         Ok(())
     }
 
-    /// The address of a thread's robust list head, 0 before it set one, and 24, the size of a head in bytes (get_robust_list(2)).
-    /// Refused with ESRCH where no thread has the id. Id 0 doesn't stand for the caller here: it is no thread and answers ESRCH.
+    /// The address of a thread's robust list head, 0 before it set one, and 24, the size of a head in bytes
+    /// (get_robust_list(2)). Refused with ESRCH where no thread has the id. Id 0 doesn't stand for the caller here: it
+    /// is no thread and answers ESRCH.
     pub fn get_robust_list(&self, id: u8) -> Result<(u64, u64), Reply>
         ensures answer { GetHeadAnswers self.now id result }
         ensures sound { IsKernel self.now }

@@ -3,9 +3,11 @@ ghost use Rattle.std.specs.Prelude.{ℕ, List, ◌≡◌, is_some};
 ghost use Rattle.stepprograms.specs.declared.access.Access.{Access};
 ghost use Rattle.syscalls.specs.Memories.{is_valid, word_at, words_after};
 
-/// Words of 64 bits, by their places, numbered from 0. A place is valid if it is at least 1 and less than the number of words; word 0 is null.
+/// Words of 64 bits, by their places, numbered from 0. A place is valid if it is at least 1 and less than the number of
+/// words; word 0 is null.
 ///
-/// Each method is one atomic step, which reads or changes the word at its place alone. At an invalid place it answers None, and nothing changes.
+/// Each method is one atomic step, which reads or changes the word at its place alone. At an invalid place it answers
+/// None, and nothing changes.
 pub trait Memory {
     /// The words, in their order.
     ghost words: { Self → List ℕ };

@@ -6,7 +6,8 @@ use interleave::{Machine, Trace};
 use script::{Mode, first_machine, play};
 use std::alloc::Global;
 
-/// The trace of a script, and the machine that it leaves. Tests play by this alone, since each function that calls `play` itself is dear to prove.
+/// The trace of a script, and the machine that it leaves. Tests play by this alone, since each function that calls
+/// `play` itself is dear to prove.
 pub fn outcome(alloc: Global, bytes: &[u8], mode: Mode) -> Result<(Trace, Machine), Refused> {
     let script = read(alloc, bytes, mode)?;
     let Ok(machine) = first_machine(alloc, &script) else {
@@ -69,8 +70,8 @@ pub fn first_wrong(alloc: Global, declarations: &str, cases: &[(&str, Played)]) 
     None
 }
 
-/// A trylock that takes its thread's first mutex has nine events: its begin, three accesses to the pending entry and the cell, four that link the entry, and one
-/// that clears it. An unlock has eight.
+/// A trylock that takes its thread's first mutex has nine events: its begin, three accesses to the pending entry and
+/// the cell, four that link the entry, and one that clears it. An unlock has eight.
 static TOO_MANY_EVENTS: [(&str, Played); 12] = [
     ("", Ok(0)),
     ("call a trylock m\n", Ok(9)),
@@ -95,8 +96,9 @@ fn too_many_events(rt: HostRuntime) {
     assert!(rt; first_wrong(rt.alloc(), declarations, &TOO_MANY_EVENTS).is_none());
 }
 
-/// Counted by hand. A lock that takes its thread's first mutex has nine events, and ten where the thread has one. A walk has three, three more for
-/// each mutex of the list, and one for a pending entry whose mutex another owns. A lock of a mutex that another owns sleeps after five, and after two more where its sleeper left its queue.
+/// Counted by hand. A lock that takes its thread's first mutex has nine events, and ten where the thread has one. A
+/// walk has three, three more for each mutex of the list, and one for a pending entry whose mutex another owns. A lock
+/// of a mutex that another owns sleeps after five, and after two more where its sleeper left its queue.
 static EVENTS: [(&str, Played); 14] = [
     ("go a\n", Ok(0)),
     ("locks a m0 3\n", Ok(29)),

@@ -1,6 +1,7 @@
 //! Which fault a script is refused for.
 //!
-//! Tests read a script by `read` alone: each function that calls `parse` itself is dear to prove, since it sees all that `parse` promises.
+//! Tests read a script by `read` alone: each function that calls `parse` itself is dear to prove, since it sees all
+//! that `parse` promises.
 
 use crate::built::joined;
 use script::{Mode, Script, parse};

@@ -9,8 +9,8 @@ use std::alloc::Global;
 use std::test::Fail;
 use verdict::{Fault, Finding, Misfit, TraceFault, TraceMisfit, Verdict, check, explain};
 
-/// Lines of a trace of two threads, two mutexes and a condition variable behind its first line; the first line that doesn't fit, and why;
-/// and the text of that.
+/// Lines of a trace of two threads, two mutexes and a condition variable behind its first line; the first line that
+/// doesn't fit, and why; and the text of that.
 #[derive(Clone, Copy)]
 struct Case {
     behind: &'static str,

@@ -1,4 +1,5 @@
-//! Scripts for real threads, with the fault that each is refused for, and what each thread does in each phase and when it dies, written out by hand.
+//! Scripts for real threads, with the fault that each is refused for, and what each thread does in each phase and when
+//! it dies, written out by hand.
 
 use crate::built::joined;
 use crate::events::playing;
@@ -319,7 +320,8 @@ fn deaths(rt: HostRuntime) {
     assert!(rt; first_wrong_death(rt.alloc()).is_none());
 }
 
-/// What only the machine runs asks for nothing of real threads, and the end of a phase and a thread's death before an access for nothing of the machine.
+/// What only the machine runs asks for nothing of real threads, and the end of a phase and a thread's death before an
+/// access for nothing of the machine.
 #[test]
 fn other_modes(rt: HostRuntime) {
     let run = "thread a\nmutex m\nbegin a trylock m\nstep a 2\ncall a unlock m\n";
@@ -336,7 +338,8 @@ fn phases_of(alloc: Global, text: &[u8]) -> Result<usize, Refused> {
     }
 }
 
-/// Passes too where any one allocation fails: the answer is then fault 6, at a line that says something or, once the script is read, at line 1.
+/// Passes too where any one allocation fails: the answer is then fault 6, at a line that says something or, once the
+/// script is read, at line 1.
 #[test]
 fn memory(rt: HostRuntime) {
     let text = b"thread a\n#\nmutex m\ncall a trylock m\nphase\ncall a unlock m\ndie a 4\n";

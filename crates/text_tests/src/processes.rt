@@ -1,4 +1,5 @@
-//! Scripts with processes: which are refused, and what those that are played leave, written out by hand from the format.
+//! Scripts with processes: which are refused, and what those that are played leave, written out by hand from the
+//! format.
 
 use crate::built::joined;
 use crate::events::{Played, first_wrong, outcome};
@@ -193,7 +194,8 @@ fn leaves(alloc: Global, commands: &str, words: [u64; 5]) -> bool {
     }
 }
 
-/// Each process has its own addresses in the words: a mutex whose owner dies leaves its list, and enters that of the next owner in the other process.
+/// Each process has its own addresses in the words: a mutex whose owner dies leaves its list, and enters that of the
+/// next owner in the other process.
 #[test]
 fn words_hold_addresses_of_their_process(rt: HostRuntime) {
     let locked = "call a lock m\n";

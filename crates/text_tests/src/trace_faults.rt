@@ -1,4 +1,5 @@
-//! Traces that are refused, each with its fault and its line, written out by hand from the format; and the texts of faults.
+//! Traces that are refused, each with its fault and its line, written out by hand from the format; and the texts of
+//! faults.
 
 use crate::traces::{Answer, answered, first_answered_otherwise, first_wrong, first_wrong_behind};
 use Answer::{Illegal, Legal, Refused};

@@ -36,7 +36,8 @@ pub(crate) fn first_wrong(alloc: Global, cases: &[(&str, Answer)]) -> Option<usi
     None
 }
 
-/// Whether that is the answer to a trace of two threads, two mutexes and a condition variable, with these lines behind the first.
+/// Whether that is the answer to a trace of two threads, two mutexes and a condition variable, with these lines behind
+/// the first.
 fn is_answered_behind(alloc: Global, behind: &str, want: Answer) -> bool {
     match joined(alloc, "trace 2 2 1\n", behind, "\n") {
         Ok(text) => answered(alloc, text.as_bytes()) == want,
@@ -101,8 +102,8 @@ fn memory_is_wanted_at_line_1(rt: HostRuntime) {
     assert!(rt; answer == Legal(2) || answer == Refused(6, 1));
 }
 
-/// The first length below the whole at which the trace, cut there, is answered otherwise: its last line is no line, unless a line feed or nothing stands before
-/// the cut, where the trace has no end.
+/// The first length below the whole at which the trace, cut there, is answered otherwise: its last line is no line,
+/// unless a line feed or nothing stands before the cut, where the trace has no end.
 fn first_wrong_cut(alloc: Global) -> Option<usize> {
     let bytes = LOCK_AND_UNLOCK.as_bytes();
     let mut line: usize = 1;

@@ -111,6 +111,7 @@ condition_lines sc s = concat (map (condition_line sc s) (range_with_len 0 (leng
 abbrev pub object_lines : Scope → State → List ℕ
 object_lines sc s = mutex_lines sc s ++ condition_lines sc s
 
--- the script's threads, then its mutexes, then its condition variables, each in the order of their numbers, as they are in this state after these notes
+-- the script's threads, then its mutexes, then its condition variables, each in the order of their numbers, as they are
+-- in this state after these notes
 abbrev pub table_text : Scope → State → List Note → List ℕ
 table_text sc s ns = thread_lines sc s ns ++ object_lines sc s

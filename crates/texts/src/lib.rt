@@ -1,11 +1,12 @@
-//! The writers of texts, which take no memory: a trace, the table of a run, and the replies of real threads. Where a writer
-//! fails, it holds a beginning of the text.
+//! The writers of texts, which take no memory: a trace, the table of a run, and the replies of real threads. Where a
+//! writer fails, it holds a beginning of the text.
 //!
-//! [`write_trace`], [`write_table`] and [`write_replies`] write, byte for byte, what `specs/` says of a run or of replies.
+//! [`write_trace`], [`write_table`] and [`write_replies`] write, byte for byte, what `specs/` says of a run or of
+//! replies.
 //!
-//! Stands on `script` and `interleave`, for what was run and how it left the machine, on `facts` and `protocol`, for what notes
-//! tell, on `streams`, for writing, on `posixmutex`, `memorymap`, `lockword`, `mutex` and `buckets`, for operations, cells, replies and sleepers,
-//! and on `itoa` and `hex`, for numbers.
+//! Stands on `script` and `interleave`, for what was run and how it left the machine, on `facts` and `protocol`, for
+//! what notes tell, on `streams`, for writing, on `posixmutex`, `memorymap`, `lockword`, `mutex` and `buckets`, for
+//! operations, cells, replies and sleepers, and on `itoa` and `hex`, for numbers.
 //!
 //! ```text
 //! let script = parse(rt.alloc(), b"thread a\nmutex m\ncall a unlock m\n", Mode::Run)?;

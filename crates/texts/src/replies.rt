@@ -1,4 +1,5 @@
-//! The text that tells of real threads: what each was answered, and how they left the mutexes and the condition variables.
+//! The text that tells of real threads: what each was answered, and how they left the mutexes and the condition
+//! variables.
 
 ghost use Rattle.std.specs.Prelude.{◌≡◌};
 ghost use Rattle.streams.specs.Leaves.{Leaves};
@@ -73,7 +74,8 @@ fn owner<'a>(threads: &[ThreadReplies<'a>], id: u32) -> &'a str
     }
 }
 
-/// `mutex NAME CELL OWNER SLEEPERS`: CELL in 16 hexadecimal digits, OWNER a thread's name or a hyphen. Nobody sleeps any more.
+/// `mutex NAME CELL OWNER SLEEPERS`: CELL in 16 hexadecimal digits, OWNER a thread's name or a hyphen. Nobody sleeps
+/// any more.
 fn write_mutex<W: Write>(
     out: &mut W,
     threads: &[ThreadReplies<'_>],
@@ -139,8 +141,9 @@ fn write_objects<W: Write>(
     write_conditions(out, conditions)
 }
 
-/// Writes what real threads were answered and how they left the mutexes and the condition variables: a line for each thread, in the order of their ids, then one for each mutex, then one for
-/// each condition variable. It takes no memory. At an error a beginning of the text is written.
+/// Writes what real threads were answered and how they left the mutexes and the condition variables: a line for each
+/// thread, in the order of their ids, then one for each mutex, then one for each condition variable. It takes no
+/// memory. At an error a beginning of the text is written.
 pub fn write_replies<W: Write>(
     threads: &[ThreadReplies<'_>],
     mutexes: &[MutexWord<'_>],

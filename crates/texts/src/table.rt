@@ -163,7 +163,8 @@ fn write_queue<W: Write>(out: &mut W, script: &Script, queue: &Batch) -> io::Res
     }
 }
 
-/// `mutex NAME CELL OWNER SLEEPERS`: CELL in 16 hexadecimal digits, SLEEPERS in the order in which they are to be woken.
+/// `mutex NAME CELL OWNER SLEEPERS`: CELL in 16 hexadecimal digits, SLEEPERS in the order in which they are to be
+/// woken.
 fn write_mutex<W: Write>(
     out: &mut W,
     script: &Script,
@@ -251,8 +252,9 @@ fn write_objects<W: Write>(out: &mut W, script: &Script, machine: &Machine) -> i
     write_conditions(out, script, machine)
 }
 
-/// Writes how a run of the script left its threads, mutexes and condition variables: a line for each thread, in the order of their ids, then one for each mutex, then one for
-/// each condition variable. The trace and the machine are of that run. It takes no memory. At an error a beginning of the text is written.
+/// Writes how a run of the script left its threads, mutexes and condition variables: a line for each thread, in the
+/// order of their ids, then one for each mutex, then one for each condition variable. The trace and the machine are of
+/// that run. It takes no memory. At an error a beginning of the text is written.
 pub fn write_table<W: Write>(
     script: &Script,
     trace: &Trace,

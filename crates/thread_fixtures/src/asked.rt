@@ -2,7 +2,8 @@
 use ruledwords::Fate;
 use std::sync::atomic::{AtomicU64, Ordering};
 
-/// A fate that counts where others can see it how often it was asked, and stops its thread once, where it is asked for the time with a number, from 1; a 0 never comes.
+/// A fate that counts where others can see it how often it was asked, and stops its thread once, where it is asked for
+/// the time with a number, from 1; a 0 never comes.
 #[derive(Drop)]
 pub struct Asked<'a> {
     count: &'a AtomicU64,

@@ -5,7 +5,8 @@ ghost use Rattle.ruledwords.specs.Passes.{last_layout, IsPassOf};
 use ruledwords::{Last, Pass};
 use threadbench::Bench;
 
-/// The words of the first two mutexes' cells and of the first two condition variables' counters; 0 where there are none.
+/// The words of the first two mutexes' cells and of the first two condition variables' counters; 0 where there are
+/// none.
 #[derive(Clone, Copy, Debug, PartialEq, Eq)]
 pub struct Left {
     pub cells: [u64; 2],

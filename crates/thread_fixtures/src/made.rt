@@ -67,7 +67,8 @@ fn on_condition<R: Wait, F: Fate>(
     }
 }
 
-/// Makes a call, and tells its reply. None where its thread died in it, whose list is walked then. It is told EINVAL, unmade, on what the bench hasn't.
+/// Makes a call, and tells its reply. None where its thread died in it, whose list is walked then. It is told EINVAL,
+/// unmade, on what the bench hasn't.
 pub fn makes<R: Wait, F: Fate>(
     rt: &R,
     bench: &Bench,

@@ -132,7 +132,8 @@ fn goes<R: Wait>(rt: &R, bench: &Bench, four: Four, step: Step) -> (Four, bool)
     }
 }
 
-/// Plays steps with a team of such a bench, one after the other: what is left then, if each call was told what stands in its step.
+/// Plays steps with a team of such a bench, one after the other: what is left then, if each call was told what stands
+/// in its step.
 pub fn plays<R: Wait>(
     rt: &R,
     alloc: Global,

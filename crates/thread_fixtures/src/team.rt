@@ -31,8 +31,8 @@ pub fn last_of(_words: &Words, passes: &mut Vec<Pass<Live>>) -> Pass<Live>
 }
 
 impl Team {
-    /// A bench of a layout of five threads or more, whose counters begin so: one preset for each of its condition variables. It is refused as for want of memory where there are fewer
-    /// threads, or not as many presets.
+    /// A bench of a layout of five threads or more, whose counters begin so: one preset for each of its condition
+    /// variables. It is refused as for want of memory where there are fewer threads, or not as many presets.
     pub fn new(alloc: Global, layout: Layout, presets: &[u32]) -> Result<Team, NoMem>
         ensures { IfOk result (λ t. IsTeam t) }
     {

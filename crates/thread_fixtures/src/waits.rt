@@ -5,7 +5,8 @@ use std::thread;
 use std::time::{Clock, Duration};
 use threadbench::Bench;
 
-/// How often a thread looks again whether what it waits for has come, some 200 microseconds apart: for ten seconds or more.
+/// How often a thread looks again whether what it waits for has come, some 200 microseconds apart: for ten seconds or
+/// more.
 const LOOKS: u32 = 50_000;
 
 fn pause<R: Clock>(rt: &R) {

@@ -1,4 +1,5 @@
-//! Many threads, whose mutexes' sleepers all stand in one bucket: so a section often waits for the bucket's lock, and what it saw before it had that is old.
+//! Many threads, whose mutexes' sleepers all stand in one bucket: so a section often waits for the bucket's lock, and
+//! what it saw before it had that is old.
 ghost use Rattle.std.specs.Prelude.{true, All, IfOk};
 ghost use Rattle.condvar.specs.Ops.{is_in};
 ghost use Rattle.ruledwords.specs.Passes.{layout_of, IsLive};
@@ -67,7 +68,8 @@ fn is_well(record: &Record) -> bool {
     record.replies.len() == 2 * ROUNDS && record.replies.iter().all(|reply| *reply == OK)
 }
 
-/// Where a thread fell asleep by a word that it had loaded before it had the bucket's lock, its partner would have woken nobody in between, and it would sleep for good.
+/// Where a thread fell asleep by a word that it had loaded before it had the bucket's lock, its partner would have
+/// woken nobody in between, and it would sleep for good.
 #[test]
 fn pairs_in_one_bucket_lose_nobody(rt: HostRuntime) -> Result<(), Fail> {
     let layout = Layout::new(2 * PAIRS, u16::from(PAIRS - 1) * APART + 1, &[])?;

@@ -16,7 +16,8 @@ use std::thread::Threads;
 use thread_fixtures::{Left, Team, makes};
 use threadbench::{Gate, Open, WorkerCall, WorkerPass};
 
-/// What came of a thread that locks a mutex in one phase and unlocks it in the next, and dies before its access with a number.
+/// What came of a thread that locks a mutex in one phase and unlocks it in the next, and dies before its access with a
+/// number.
 #[derive(Clone, Copy, PartialEq, Eq)]
 struct Story {
     /// How many calls were told OK in each phase.
@@ -123,8 +124,8 @@ impl Gate for CountsEnds {
     }
 }
 
-/// A thread makes these calls, and dies before its access with that number, if it makes as many; another one locks mutex 1 beside it. How many of its calls were answered, and what its number
-/// has left.
+/// A thread makes these calls, and dies before its access with that number, if it makes as many; another one locks
+/// mutex 1 beside it. How many of its calls were answered, and what its number has left.
 pub(crate) fn dies_at<R: Threads + Wait + Sync, G: Gate + Sync>(
     rt: &R,
     alloc: Global,

@@ -1,4 +1,5 @@
-//! Workers whose gate lets a call through only when another worker has come as far: so they are at work at once, each in a thread of its own.
+//! Workers whose gate lets a call through only when another worker has come as far: so they are at work at once, each
+//! in a thread of its own.
 ghost use Rattle.std.specs.Prelude.{◌≤◌, All, IfOk, None};
 ghost use Rattle.ruledwords.specs.Passes.{IsLive};
 ghost use Rattle.threadbench.specs.Jobs.{IsJobOf};
@@ -105,7 +106,8 @@ fn the_second_worker_follows(rt: HostRuntime) -> Result<(), Fail> {
     Ok(())
 }
 
-/// What comes behind the lock of thread 1 waits until the call of thread 2 was answered, and that call until the lock was.
+/// What comes behind the lock of thread 1 waits until the call of thread 2 was answered, and that call until the lock
+/// was.
 #[derive(Drop)]
 struct Between {
     locked: AtomicBool,
@@ -269,7 +271,8 @@ fn with_owner(jobs: Vec<Job>, bench: &Bench, owner: Job) -> Result<Vec<Job>, NoM
     }
 }
 
-/// So many accesses a thread may make that sleeps for its turn: far more than it needs, and far fewer than one makes meanwhile that doesn't sleep.
+/// So many accesses a thread may make that sleeps for its turn: far more than it needs, and far fewer than one makes
+/// meanwhile that doesn't sleep.
 const ACCESSES: u32 = 200;
 
 /// What became of a mutex's last owner but one.
@@ -298,8 +301,8 @@ fn dies_as_owner<R: Wait>(rt: &R, bench: &Bench, pass: Pass<Live>) -> bool
     taken == OK && made.is_none()
 }
 
-/// A thread owns the mutex while so many others come for it; it unlocks, and each of them has it in turn, or is told that it can't be used any more. Whether all were told so, and what is left in the
-/// cell.
+/// A thread owns the mutex while so many others come for it; it unlocks, and each of them has it in turn, or is told
+/// that it can't be used any more. Whether all were told so, and what is left in the cell.
 fn all_have_it<R: Threads + Wait + Clock + Sync>(
     rt: &R,
     alloc: Global,

@@ -199,7 +199,8 @@ fn prepared(alloc: Global) -> Result<(Bench, Vec<Job>, Pass<Live>), NoMem>
     Ok((bench, jobs, third))
 }
 
-/// Takes the mutex with the passes of jobs that came back, one after the other, and tells whether the jobs were to try it and the first of them has taken it.
+/// Takes the mutex with the passes of jobs that came back, one after the other, and tells whether the jobs were to try
+/// it and the first of them has taken it.
 fn jobs_are_as_they_were(bench: &Bench, jobs: Vec<Job>) -> bool
     requires { All (λ j. IsJobOf bench.now j) jobs.items }
 {
@@ -222,7 +223,8 @@ fn jobs_are_as_they_were(bench: &Bench, jobs: Vec<Job>) -> bool
     well && count == 2
 }
 
-/// Passes too where any one allocation fails, or the start of any one thread: then the jobs come back, and no call of the phase was made.
+/// Passes too where any one allocation fails, or the start of any one thread: then the jobs come back, and no call of
+/// the phase was made.
 #[test]
 fn memory(rt: HostRuntime) -> Result<(), Fail> {
     let Ok((bench, jobs, third)) = prepared(rt.alloc()) else {

@@ -66,7 +66,8 @@ fn two_threads_sleep_for_each_other(rt: HostRuntime) -> Result<(), Fail> {
     Ok(())
 }
 
-/// What was seen of a lock by another thread, before the mutex's owner paid for its release: how often its fate was asked, and whether it slept.
+/// What was seen of a lock by another thread, before the mutex's owner paid for its release: how often its fate was
+/// asked, and whether it slept.
 #[derive(Clone, Copy)]
 struct Before {
     slept: bool,
@@ -171,8 +172,9 @@ fn one_sleeps<R: Threads + Wait + Clock + Sync>(
     Ok(if well { Some(counted) } else { None })
 }
 
-/// A thread locks a mutex that another owns, and its fate is asked before each access and each section: four times until it sleeps, while the owner frees the mutex and wakes nobody yet;
-/// then it is woken, and asked seven times more. WAITERS stays, since the wake found somebody.
+/// A thread locks a mutex that another owns, and its fate is asked before each access and each section: four times
+/// until it sleeps, while the owner frees the mutex and wakes nobody yet; then it is woken, and asked seven times more.
+/// WAITERS stays, since the wake found somebody.
 #[test]
 fn a_sleeper_makes_no_access(rt: HostRuntime) -> Result<(), Fail> {
     for _ in 0..5_u32 {
@@ -199,7 +201,8 @@ fn own_id<R: Files + AllocGlobal>(rt: &R) -> Option<u64> {
     id.parse::<u64>().ok()
 }
 
-/// Whether the thread of this process with this id sleeps just now, and doesn't even wait for a processor (proc(5), `stat`: its state, behind its name).
+/// Whether the thread of this process with this id sleeps just now, and doesn't even wait for a processor (proc(5),
+/// `stat`: its state, behind its name).
 fn is_at_rest<R: Files + AllocGlobal>(rt: &R, id: u64) -> bool {
     let Ok(name) = format!(in rt.alloc(); "/proc/self/task/{id}/stat") else {
         return false;
@@ -213,7 +216,8 @@ fn is_at_rest<R: Files + AllocGlobal>(rt: &R, id: u64) -> bool {
     }
 }
 
-/// Waits until the thread stands in a queue, and then until it is found at rest so often in a row; false where that doesn't come.
+/// Waits until the thread stands in a queue, and then until it is found at rest so often in a row; false where that
+/// doesn't come.
 fn rests<R: Wait + Clock + Files + AllocGlobal>(rt: &R, bench: &Bench, id: &AtomicU64) -> bool {
     if !fall_asleep(rt, bench, &[SLEEPER]) {
         return false;
@@ -233,7 +237,8 @@ fn rests<R: Wait + Clock + Files + AllocGlobal>(rt: &R, bench: &Bench, id: &Atom
     false
 }
 
-/// The owner's part: it frees its two mutexes, one after the other, each once the other thread rests. Whether all went so.
+/// The owner's part: it frees its two mutexes, one after the other, each once the other thread rests. Whether all went
+/// so.
 fn frees_both<R: Wait + Clock + Files + AllocGlobal>(
     rt: &R,
     bench: &Bench,

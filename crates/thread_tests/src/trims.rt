@@ -18,13 +18,15 @@ use std::time::Clock;
 use thread_fixtures::{Asked, Left, Team, ends_unless, fall_asleep, makes, waits_for};
 use threadbench::Bench;
 
-/// How often the fate of a thread is asked that locks an owned mutex until it sleeps: four times, where it doesn't find WAITERS set.
+/// How often the fate of a thread is asked that locks an owned mutex until it sleeps: four times, where it doesn't find
+/// WAITERS set.
 const ASLEEP: u64 = 4;
 
 /// The id of the thread that falls asleep while an unlock is kept back.
 const SLEEPER: u8 = 4;
 
-/// How often the fate of an unlock is asked until it trims the cell: before its six accesses up to the one that frees the mutex, before its wake, and before the trim.
+/// How often the fate of an unlock is asked until it trims the cell: before its six accesses up to the one that frees
+/// the mutex, before its wake, and before the trim.
 const TRIMS: u64 = 8;
 
 /// What the threads tell each other.
@@ -119,8 +121,9 @@ fn ends<R: Wait>(rt: &R, bench: &Bench, owed: Option<Owed>) -> bool
     }
 }
 
-/// The part of two more threads while the unlock is kept back: one takes the mutex, and frees it once another thread sleeps on it; then the trim is made; and before the first of them wakes anybody the other one
-/// takes the mutex and frees it. How many sleepers that one has to wake; None where not all went so.
+/// The part of two more threads while the unlock is kept back: one takes the mutex, and frees it once another thread
+/// sleeps on it; then the trim is made; and before the first of them wakes anybody the other one takes the mutex and
+/// frees it. How many sleepers that one has to wake; None where not all went so.
 fn take_by_turns<R: Wait + Clock>(
     rt: &R,
     bench: &Bench,
@@ -161,7 +164,8 @@ struct Story {
     slept: Option<Reply>,
 }
 
-/// One thread takes the mutex, and another one dies about to sleep on it: WAITERS is set, and nobody sleeps. The owner's pass then.
+/// One thread takes the mutex, and another one dies about to sleep on it: WAITERS is set, and nobody sleeps. The
+/// owner's pass then.
 fn owns_with_waiters<R: Wait>(
     rt: &R,
     bench: &Bench,
@@ -181,7 +185,8 @@ fn owns_with_waiters<R: Wait>(
     }
 }
 
-/// The first of a team, which owns the mutex with WAITERS set, unlocks and is kept back before its trim; then the third, the fourth, which falls asleep, and the fifth come.
+/// The first of a team, which owns the mutex with WAITERS set, unlocks and is kept back before its trim; then the
+/// third, the fourth, which falls asleep, and the fifth come.
 fn played<R: Threads + Wait + Clock + Sync>(rt: &R, alloc: Global) -> Result<Option<Story>, Fail> {
     let Team {
         bench,
@@ -228,7 +233,8 @@ fn played<R: Threads + Wait + Clock + Sync>(rt: &R, alloc: Global) -> Result<Opt
     }))
 }
 
-/// WAITERS stays where a thread has fallen asleep between an unlock's wake, which found nobody, and its trim: the next unlock owes it a wake.
+/// WAITERS stays where a thread has fallen asleep between an unlock's wake, which found nobody, and its trim: the next
+/// unlock owes it a wake.
 #[test]
 fn a_trim_leaves_waiters_to_a_sleeper(rt: HostRuntime) -> Result<(), Fail> {
     for _ in 0..5_u32 {
@@ -241,7 +247,8 @@ fn a_trim_leaves_waiters_to_a_sleeper(rt: HostRuntime) -> Result<(), Fail> {
     Ok(())
 }
 
-/// The word of the cell once a thread has unlocked, whose fate stops it where it is asked for the time with this number, and the next one has taken the mutex; None where not all went so.
+/// The word of the cell once a thread has unlocked, whose fate stops it where it is asked for the time with this
+/// number, and the next one has taken the mutex; None where not all went so.
 fn left_by<R: Wait>(rt: &R, alloc: Global, stops_at: u64) -> Result<Option<u64>, Fail> {
     let Team {
         bench,

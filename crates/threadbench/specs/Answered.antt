@@ -21,7 +21,8 @@ use Rattle.threadbench.specs.declared.job.WorkerPass.{WorkerPass}
 use Rattle.threadbench.specs.declared.job.WorkerPass.TheVariants.{Lives, Reaped}
 use Rattle.threadbench.specs.Conditions.{CondReplied, CondDies}
 
--- a call of the thread whose card is c replied so, and left the card d: its point, if it has one, is the last that the thread has seen of the mutex. Of a wait that took its mutex again it is the second of two
+-- a call of the thread whose card is c replied so, and left the card d: its point, if it has one, is the last that the
+-- thread has seen of the mutex. Of a wait that took its mutex again it is the second of two
 abbrev pub Replied : Layout' → Card → Op → Reply → Card → Type 0
 Replied k c (OnMutex (Lock m)) r d = Takes k m operation.Lock c r d
 Replied k c (OnMutex (TryLock m)) r d = Takes k m operation.TryLock c r d × (r ≡ XRACED → (c.misses + 4 ≤ d.misses) × OthersChanged 4 c (cell_place k m) d)
@@ -59,7 +60,8 @@ abbrev pub IsWorkerOf : Words → WorkerPass → Type 0
 IsWorkerOf w (Lives p) = IsLive w p
 IsWorkerOf w (Reaped p) = IsPassOf w p
 
--- a worker's thread ended so, whose fate had said f times that it stops and has said it f' times now: it lives where the fate didn't say so, and died where it did, or where it was killed
+-- a worker's thread ended so, whose fate had said f times that it stops and has said it f' times now: it lives where
+-- the fate didn't say so, and died where it did, or where it was killed
 abbrev pub IsHeededIn : ℕ → ℕ → WorkerPass → Type 0
 IsHeededIn f f' (Lives p) = f' ≡ f
 IsHeededIn f f' (Reaped p) = (f' ≡ f + 1) ⊎ (f' ≡ f)

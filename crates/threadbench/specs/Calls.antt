@@ -45,8 +45,8 @@ RanOutDecided w m c x (outcome.Dead d) = IsDying w d × HasSeenTheSame (cell_pla
 abbrev pub Runs : Words → Running → Outcome → Type 0
 Runs w r end = ((a : Pass Live) (call : Call) → IsUnderWay w a call r → RanOut w a call end) × ((m : ℕ) (c : Card) (x : Reply) → IsDecided w m c x r → RanOutDecided w m c x end)
 
--- a call by the bench ended so, whose fate had said f times that the thread stops and has said it f' times now: the thread lives where the fate didn't say so, and dies where it did, or where the thread was
--- killed
+-- a call by the bench ended so, whose fate had said f times that the thread stops and has said it f' times now: the
+-- thread lives where the fate didn't say so, and dies where it did, or where the thread was killed
 abbrev pub IsHeeded : ℕ → ℕ → Outcome → Type 0
 IsHeeded f f' (outcome.Lives b r) = f' ≡ f
 IsHeeded f f' (outcome.Dead d) = (f' ≡ f + 1) ⊎ (f' ≡ f)

@@ -1,4 +1,5 @@
--- What calls on condition variables answer that may sleep or wake (pthread_cond_wait(3p), pthread_cond_signal(3p), pthread_cond_broadcast(3p)).
+-- What calls on condition variables answer that may sleep or wake (pthread_cond_wait(3p), pthread_cond_signal(3p),
+-- pthread_cond_broadcast(3p)).
 use Rattle.std.specs.Prelude.{ℕ, ◌≡◌, ◌≢◌, ◌%◌, ◌^◌, ◌⊎◌, true, Option, None, Some, Result, Ok, Err, List, [], ◌∷◌, ◌++◌}
 use Rattle.lockword.specs.declared.reply.Reply.{Reply}
 use Rattle.lockword.specs.declared.reply.Reply.TheVariants.{OK}
@@ -34,8 +35,9 @@ use Rattle.threadbench.specs.declared.section.Waited.TheVariants.{Stopped}
 
 -- ---- calls
 
--- a wait on condition variable q, by the thread whose card was c, loaded the counter of q, released its mutex, which was usable then, and took it again by a lock that was answered x: its two points stand
--- in this order, and the second is the last that its thread, whose card is d now, has seen of the mutex
+-- a wait on condition variable q, by the thread whose card was c, loaded the counter of q, released its mutex, which
+-- was usable then, and took it again by a lock that was answered x: its two points stand in this order, and the second
+-- is the last that its thread, whose card is d now, has seen of the mutex
 pub record TookAgain (k : Layout') (c : Card) (q : ℕ) (x : Reply) (d : Card) : Type 0 where
   pub awake : Card
   pub released : Called c (cell_at k q) ((operation.Unlock, OK) ∷ []) awake
@@ -45,13 +47,15 @@ pub record TookAgain (k : Layout') (c : Card) (q : ℕ) (x : Reply) (d : Card) :
   pub called : Called c (cell_at k q) ((operation.Unlock, OK) ∷ (operation.Lock, x) ∷ []) d
   pub loaded : Loaded c (counter_place k q) d
 
--- a call of the thread whose card was c was answered x, and left the card d: by its one point; or it is a wait that took its mutex again
+-- a call of the thread whose card was c was answered x, and left the card d: by its one point; or it is a wait that
+-- took its mutex again
 abbrev pub CondReplied : Layout' → Card → CondCall → Reply → Card → Type 0
 CondReplied k c (Wait q) x d = CondEnded k q operation.Wait x c d ⊎ TookAgain k c q x d
 CondReplied k c (Signal q) x d = CondEnded k q operation.Signal x c d
 CondReplied k c (Broadcast q) x d = CondEnded k q operation.Broadcast x c d
 
--- the thread died in it: it had made all of the call's points, or some of the first; behind the release of a wait it had loaded the counter of the call's condition variable
+-- the thread died in it: it had made all of the call's points, or some of the first; behind the release of a wait it
+-- had loaded the counter of the call's condition variable
 abbrev pub CondDies : Layout' → Card → CondCall → Card → Type 0
 CondDies k c call d = DiesOn k (condition_of call) (operation_of call) c d
 
@@ -100,18 +104,20 @@ IsMoveOf a e m = (from to : ℕ) × (a ≡ CmpRequeue from e 0 to m)
 abbrev pub FindsKnown : Layout' → CondRunning → CondRunning → Type 0
 FindsKnown k r r' = (x : ℕ) → value_at (card (cond_pass r)).values (counter_place k (condition_at k (cond_call r))) ≡ Some x → (card (cond_pass r')).last ≡ x
 
--- a requeue within a bucket that saw the word n: where its low half is the expected one, at most m of the first threads of key k move to the end of key j's queue, and nobody is woken. Else nothing changes
+-- a requeue within a bucket that saw the word n: where its low half is the expected one, at most m of the first threads
+-- of key k move to the end of key j's queue, and nobody is woken. Else nothing changes
 abbrev pub MovesInside : Sleepers → Sleepers → ℕ → ℕ → ℕ → ℕ → ℕ → Option (List ℕ) → Type 0
 MovesInside old new k n e j m (Some moved) = (n % 2 ^ 32 ≡ e) × MovesWithin old new k m j moved
 MovesInside old new k n e j m None = (n % 2 ^ 32 ≢ e) × (new ≡ old)
 
--- the same from a bucket to another one. Nothing changes either where that has no room for them, or one of them stands there
+-- the same from a bucket to another one. Nothing changes either where that has no room for them, or one of them stands
+-- there
 abbrev pub MovesAcross : Sleepers → Sleepers → Sleepers → Sleepers → ℕ → ℕ → ℕ → ℕ → ℕ → Option (List ℕ) → Type 0
 MovesAcross old new other other' k n e j m (Some moved) = (n % 2 ^ 32 ≡ e) × MovesTo old new other other' k m j moved
 MovesAcross old new other other' k n e j m None = ((n % 2 ^ 32 ≢ e) ⊎ (¬ Fits old other k m)) × (new ≡ old) × (other' ≡ other)
 
--- a broadcast's move from key k's queue to the end of key j's, which may be in another bucket: where it is made, nobody is left on k, and those that stood there stand, in their order, behind those that
--- stood on j
+-- a broadcast's move from key k's queue to the end of key j's, which may be in another bucket: where it is made, nobody
+-- is left on k, and those that stood there stand, in their order, behind those that stood on j
 abbrev pub MovesAll : Sleepers → Sleepers → Sleepers → Sleepers → ℕ → ℕ → Option (List ℕ) → Type 0
 MovesAll old new other other' k j (Some moved) = (queue new k ≡ []) × (queue other' j ≡ queue other j ++ queue old k)
 MovesAll old new other other' k j None = Unit {0}

@@ -9,14 +9,16 @@ use Rattle.ruledwords.specs.Changes.{Writes}
 use Rattle.threadbench.specs.declared.section.Waited.{Waited}
 use Rattle.threadbench.specs.declared.section.Waited.TheVariants.{Asleep, Awake, Stopped}
 
--- thread t falls asleep on key k: the word n that it saw has the expected low half, it stands in no queue, there is room, and it is put at the end of the key's queue
+-- thread t falls asleep on key k: the word n that it saw has the expected low half, it stands in no queue, there is
+-- room, and it is put at the end of the key's queue
 pub record FallsAsleep (old new : Sleepers) (t k n e : ℕ) : Type 0 where
   pub expected : n % 2 ^ 32 ≡ e
   pub awake : StandsNowhere old t
   pub room : standing old ≢ old.capacity
   pub enqueues : Enqueues old new t k
 
--- it doesn't: the word differs, the thread stands in a queue already, or as many stand as there is room for. Nothing changes
+-- it doesn't: the word differs, the thread stands in a queue already, or as many stand as there is room for. Nothing
+-- changes
 pub record StaysAwake (old new : Sleepers) (t n e : ℕ) : Type 0 where
   pub cause : (n % 2 ^ 32 ≢ e) ⊎ Stands old t ⊎ (standing old ≡ old.capacity)
   pub same : new ≡ old
@@ -50,23 +52,26 @@ abbrev pub stops_unless : {A : Type 0} → Option A → ℕ
 stops_unless None = 1
 stops_unless (Some x) = 0
 
--- a trim of a word on which these threads sleep, by a thread that knew c and knows d then: it is answered by the word that it found as a trim means it; it is made where nobody sleeps there, and
--- else nothing was done
+-- a trim of a word on which these threads sleep, by a thread that knew c and knows d then: it is answered by the word
+-- that it found as a trim means it; it is made where nobody sleeps there, and else nothing was done
 pub record TrimsThere (queue : List ℕ) (c d : Card) (cleared : Bool) : Type 0 where
   pub means : (after : ℕ) × Trims d.last queue after cleared
   pub made : queue ≡ [] → d.trims ≡ c.trims + 1
   pub still : queue ≢ [] → d ≡ c
 
--- the same in fewer words: it is answered true only where nobody sleeps there and the word was found to say WAITERS and nothing else; and where somebody sleeps there, the word isn't touched
+-- the same in fewer words: it is answered true only where nobody sleeps there and the word was found to say WAITERS and
+-- nothing else; and where somebody sleeps there, the word isn't touched
 pub record TrimsNobodys (queue : List ℕ) (c d : Card) (told : Bool) : Type 0 where
   pub cleared : told ≡ true → (queue ≡ []) × (d.last ≡ 0x8000_0000)
   pub spared : queue ≢ [] → d.trims ≡ c.trims
 
--- where nobody sleeps there, the word at p that the trim found, by which it is answered, is 0 behind it if it said WAITERS and nothing else, and else as it was
+-- where nobody sleeps there, the word at p that the trim found, by which it is answered, is 0 behind it if it said
+-- WAITERS and nothing else, and else as it was
 abbrev pub TrimLeaves : List ℕ → Card → ℕ → Card → Type 0
 TrimLeaves queue c p d = queue ≡ [] → Writes c p d.last (if d.last == 0x8000_0000 then 0 else d.last) d
 
--- a wake of n took these threads out of a queue: a wake of 64, as many as there are threads at most, takes all, and nobody is left; and one of 1 takes the first, where there is one, and leaves those behind it
+-- a wake of n took these threads out of a queue: a wake of 64, as many as there are threads at most, takes all, and
+-- nobody is left; and one of 1 takes the first, where there is one, and leaves those behind it
 pub record WakesFirsts (old new : List ℕ) (n : ℕ) (woken : List ℕ) : Type 0 where
   pub all : n ≡ 64 → (woken ≡ old) × (new ≡ [])
   pub one : (t : ℕ) (behind : List ℕ) → n ≡ 1 → old ≡ t ∷ behind → (woken ≡ t ∷ []) × (new ≡ behind)

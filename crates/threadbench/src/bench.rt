@@ -53,8 +53,9 @@ impl Model for Bench {
 }
 
 impl Bench {
-    /// A bench, and a pass for each thread in the order of their ids. Nobody owns a mutex, nobody sleeps, and the counters of the condition variables are those given, in
-    /// the order of their numbers. It takes all the memory that its calls need, but for [`Bench::work`].
+    /// A bench, and a pass for each thread in the order of their ids. Nobody owns a mutex, nobody sleeps, and the
+    /// counters of the condition variables are those given, in the order of their numbers. It takes all the memory that
+    /// its calls need, but for [`Bench::work`].
     pub fn new(
         alloc: Global,
         layout: Layout,
@@ -90,10 +91,11 @@ impl Bench {
         &self.words
     }
 
-    /// Runs a worker for each job that has calls, each in a thread of its own, and joins them: all begin at once, each makes its job's calls in their order, and stops where
-    /// the gate tells it to, or where its thread dies; then its list is walked ([`Bench::exit`]). A record has the replies, and the pass after them; records are in the order of
-    /// their jobs, and one of a job without calls has its pass.
-    /// Where memory or a thread is refused no call is made, and the jobs are given back.
+    /// Runs a worker for each job that has calls, each in a thread of its own, and joins them: all begin at once, each
+    /// makes its job's calls in their order, and stops where the gate tells it to, or where its thread dies; then its
+    /// list is walked ([`Bench::exit`]). A record has the replies, and the pass after them; records are in the order of
+    /// their jobs, and one of a job without calls has its pass. Where memory or a thread is refused no call is made,
+    /// and the jobs are given back.
     pub fn work<R: Threads + Wait + Sync, G: Gate + Sync>(
         &self,
         rt: &R,
@@ -124,8 +126,8 @@ impl Bench {
         )
     }
 
-    /// Ends the bench. The history of each mutex begins with what the pass has seen, and the counters of its condition variables, added up, are as they began and one more for each
-    /// signal or broadcast in it that was answered OK.
+    /// Ends the bench. The history of each mutex begins with what the pass has seen, and the counters of its condition
+    /// variables, added up, are as they began and one more for each signal or broadcast in it that was answered OK.
     pub fn close<A>(self, pass: Pass<A>) -> Last
         requires { IsPassOf self pass }
         ensures layout { last_layout result ≡ layout_of self }
@@ -141,8 +143,8 @@ impl Bench {
         words.close(pass)
     }
 
-    /// Ends the bench, and all these passes meet. One history of each mutex has what any of them has seen, with of each of their threads just the thread's own
-    /// points; and counters count as at the end of one pass.
+    /// Ends the bench, and all these passes meet. One history of each mutex has what any of them has seen, with of each
+    /// of their threads just the thread's own points; and counters count as at the end of one pass.
     pub fn close_all<A: Drop>(self, passes: Vec<Pass<A>>) -> Last
         requires { All (λ p. IsPassOf self p) passes.items }
         ensures layout { last_layout result ≡ layout_of self }

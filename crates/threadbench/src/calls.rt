@@ -78,7 +78,8 @@ fn answer<R: Wait, F: Fate>(
     }
 }
 
-/// Makes calls one after the other, as far as the gate lets the thread and it lives. Where it dies its list is walked. There is room for the replies.
+/// Makes calls one after the other, as far as the gate lets the thread and it lives. Where it dies its list is walked.
+/// There is room for the replies.
 fn make_calls<R: Wait, G: Gate, F: Fate>(
     rt: &R,
     bench: &Bench,
@@ -122,7 +123,8 @@ fn make_calls<R: Wait, G: Gate, F: Fate>(
     (WorkerPass::Lives(pass), replies)
 }
 
-/// Makes calls, as far as the gate lets the thread, and until it dies: before its access with the number, if there is one, or where it was killed. There is room for the replies.
+/// Makes calls, as far as the gate lets the thread, and until it dies: before its access with the number, if there is
+/// one, or where it was killed. There is room for the replies.
 fn make_all<R: Wait, G: Gate>(
     rt: &R,
     bench: &Bench,

@@ -24,10 +24,12 @@ use std::sync::Wait;
 use stepprograms::{Access, Answer};
 
 impl Bench {
-    /// Releases the condition variable's mutex, sleeps until a signal or a broadcast lets the thread go on, and takes the mutex again (pthread_cond_wait(3p)). It may return without any signal.
-    /// The reply is EPERM, with nothing released, where the thread doesn't own the mutex, and XSTATE where it does but hasn't declared it consistent since its last owner died; else it is that of the
-    /// lock that ends the wait: OK, EOWNERDEAD or ENOTRECOVERABLE. The fate is asked before each access and each section, and the thread dies where it says so, or where it was killed
-    /// ([`Bench::kill`]).
+    /// Releases the condition variable's mutex, sleeps until a signal or a broadcast lets the thread go on, and takes
+    /// the mutex again (pthread_cond_wait(3p)). It may return without any signal. The reply is EPERM, with nothing
+    /// released, where the thread doesn't own the mutex, and XSTATE where it does but hasn't declared it consistent
+    /// since its last owner died; else it is that of the lock that ends the wait: OK, EOWNERDEAD or ENOTRECOVERABLE.
+    /// The fate is asked before each access and each section, and the thread dies where it says so, or where it was
+    /// killed ([`Bench::kill`]).
     pub fn wait<R: Wait, F: Fate>(
         &self,
         rt: &R,
@@ -43,8 +45,9 @@ impl Bench {
         self.run_condition(rt, pass, CondCall::Wait(condition), fate)
     }
 
-    /// Lets at least one thread go on that waits on the condition variable, if any does (pthread_cond_signal(3p)). The reply is EPERM where the thread doesn't own the condition variable's mutex;
-    /// XFULL where the counter is 2^32 - 1, after as many signals and broadcasts; else OK. Its fate, and kills, are as those of [`Bench::wait`].
+    /// Lets at least one thread go on that waits on the condition variable, if any does (pthread_cond_signal(3p)). The
+    /// reply is EPERM where the thread doesn't own the condition variable's mutex; XFULL where the counter is 2^32 - 1,
+    /// after as many signals and broadcasts; else OK. Its fate, and kills, are as those of [`Bench::wait`].
     pub fn signal<R: Wait, F: Fate>(
         &self,
         rt: &R,
@@ -60,8 +63,9 @@ impl Bench {
         self.run_condition(rt, pass, CondCall::Signal(condition), fate)
     }
 
-    /// Lets every thread go on that waits on the condition variable, one after the other as each takes the mutex (pthread_cond_broadcast(3p)): it moves them to the mutex's cell, and unlocks
-    /// wake them there. The reply is EPERM, XFULL or OK, as that of [`Bench::signal`]; and so are its fate, and kills.
+    /// Lets every thread go on that waits on the condition variable, one after the other as each takes the mutex
+    /// (pthread_cond_broadcast(3p)): it moves them to the mutex's cell, and unlocks wake them there. The reply is
+    /// EPERM, XFULL or OK, as that of [`Bench::signal`]; and so are its fate, and kills.
     pub fn broadcast<R: Wait, F: Fate>(
         &self,
         rt: &R,
@@ -125,7 +129,8 @@ impl Bench {
         unreachable!()
     }
 
-    /// Makes the access that comes next, a section under locks of buckets or a step. The thread dies where its note tells it to, in place of falling asleep.
+    /// Makes the access that comes next, a section under locks of buckets or a step. The thread dies where its note
+    /// tells it to, in place of falling asleep.
     fn condition_turn<R: Wait, N: ByOthers>(
         &self,
         rt: &R,
@@ -152,7 +157,8 @@ impl Bench {
         }
     }
 
-    /// Makes a wait, and sleeps where the counter is the expected one. A thread whose note tells it to stop dies in place of that.
+    /// Makes a wait, and sleeps where the counter is the expected one. A thread whose note tells it to stop dies in
+    /// place of that.
     fn wait_on_counter<R: Wait, N: ByOthers>(
         &self,
         rt: &R,
@@ -203,7 +209,8 @@ impl Bench {
         running.answer(Answer::Count(roused.count()))
     }
 
-    /// Makes a broadcast's requeue: moves at most so many sleepers of the counter to the end of those of the mutex's cell, where the counter is the expected one.
+    /// Makes a broadcast's requeue: moves at most so many sleepers of the counter to the end of those of the mutex's
+    /// cell, where the counter is the expected one.
     fn move_sleepers<R: Wait>(
         &self,
         rt: &R,
@@ -227,7 +234,8 @@ impl Bench {
         }
     }
 
-    /// Moves sleepers from the one key to the other, under the locks of both buckets, of which the lower number's is taken first, so that two that move don't wait for each other.
+    /// Moves sleepers from the one key to the other, under the locks of both buckets, of which the lower number's is
+    /// taken first, so that two that move don't wait for each other.
     fn move_under_locks<R: Wait>(
         &self,
         rt: &R,
@@ -283,7 +291,8 @@ impl Bench {
         let parker = self.parker(thread);
         for _ in rt.forever() {
             let _taken = parker.park(rt);
-            // A move goes from the counter to the cell, under both locks, and never back: whoever stands in neither, looked at in this order, was woken or killed.
+            // A move goes from the counter to the cell, under both locks, and never back: whoever stands in neither,
+            // looked at in this order, was woken or killed.
             let waits = self.bucket(counter).lock(rt).stands(thread);
             if !waits && !self.bucket(cell).lock(rt).stands(thread) {
                 return;

@@ -28,8 +28,9 @@ pub(crate) fn wake_for_condition(
     bucket.take(key, most)
 }
 
-/// A requeue within one bucket: loads the counter, and where its low half is the expected one moves at most so many threads of the key's queue, those that stand first, to the end of the
-/// other key's queue. It wakes nobody. None where the counter differs; then nothing changes.
+/// A requeue within one bucket: loads the counter, and where its low half is the expected one moves at most so many
+/// threads of the key's queue, those that stand first, to the end of the other key's queue. It wakes nobody. None where
+/// the counter differs; then nothing changes.
 pub(crate) fn move_within_in(
     bucket: &mut Bucket,
     running: &mut CondRunning,
@@ -57,8 +58,8 @@ pub(crate) fn move_within_in(
     Some(bucket.move_within(key, moves, to))
 }
 
-/// A requeue from a bucket to another one, as [`move_within_in`]. Nothing changes either where the other bucket has no room for them, or one of them stands there, which can't come up, but
-/// what lies under locks doesn't say so.
+/// A requeue from a bucket to another one, as [`move_within_in`]. Nothing changes either where the other bucket has no
+/// room for them, or one of them stands there, which can't come up, but what lies under locks doesn't say so.
 pub(crate) fn move_to_in(
     bucket: &mut Bucket,
     other: &mut Bucket,

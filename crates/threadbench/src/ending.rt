@@ -62,7 +62,8 @@ impl<'a, G: Gate> Hand<'a, G> {
     }
 }
 
-/// Tells workers to begin, and gives the records of all jobs. Nothing else tells them so; and whoever has these hands has a thread for each job with calls to make.
+/// Tells workers to begin, and gives the records of all jobs. Nothing else tells them so; and whoever has these hands
+/// has a thread for each job with calls to make.
 pub(crate) fn records_of<'a, R: Threads + Wait, G: Gate>(
     rt: &R,
     alloc: Global,

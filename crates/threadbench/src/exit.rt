@@ -12,9 +12,10 @@ use std::sync::Wait;
 use stepprograms::{Access, Answer};
 
 impl Bench {
-    /// Walks a dead thread's list to its end, as the kernel does when a thread exits (robust-futexes; get_robust_list(2)). Each mutex that the thread held is marked with
-    /// OWNER_DIED and is nobody's then, and whoever takes it next is told EOWNERDEAD. One of its sleepers is woken; one is woken too where the thread had released its
-    /// pending mutex and died before the wake that it owed. The pass holds nothing afterwards.
+    /// Walks a dead thread's list to its end, as the kernel does when a thread exits (robust-futexes;
+    /// get_robust_list(2)). Each mutex that the thread held is marked with OWNER_DIED and is nobody's then, and whoever
+    /// takes it next is told EOWNERDEAD. One of its sleepers is woken; one is woken too where the thread had released
+    /// its pending mutex and died before the wake that it owed. The pass holds nothing afterwards.
     pub fn exit<R: Wait>(&self, rt: &R, pass: Pass<Dead>) -> Pass<Reaped>
         requires pass { IsDying self.now pass }
         ensures pass { IsPassOf self.now result }

@@ -20,19 +20,22 @@ pub struct Job {
     pub pass: WorkerPass,
     /// On mutexes and condition variables of the bench's layout. A thread that has died makes none of them.
     pub calls: Vec<Op>,
-    /// The thread dies before its access with this number, from 1, counted over all its calls: each wait, wake, requeue and trim section counts too. 0 is read as 1. One without
-    /// a number lives, unless it is killed ([`Bench::kill`](crate::Bench::kill)).
+    /// The thread dies before its access with this number, from 1, counted over all its calls: each wait, wake, requeue
+    /// and trim section counts too. 0 is read as 1. One without a number lives, unless it is killed
+    /// ([`Bench::kill`](crate::Bench::kill)).
     pub die: Option<u32>,
 }
 
-/// The pass after the calls of a job, and a reply for each that was answered: all of them, or those before the one that the gate refused or in which the thread died.
+/// The pass after the calls of a job, and a reply for each that was answered: all of them, or those before the one that
+/// the gate refused or in which the thread died.
 #[derive(Drop)]
 pub struct Record {
     /// As the calls left it.
     pub pass: WorkerPass,
     /// In the order of the calls.
     pub replies: Vec<Reply>,
-    /// What is left of the job's number: before which of its further accesses the thread dies. None where it had none, and where the thread has died.
+    /// What is left of the job's number: before which of its further accesses the thread dies. None where it had none,
+    /// and where the thread has died.
     pub die: Option<u32>,
 }
 

@@ -16,10 +16,11 @@ use lockword::{Reply, Tid};
 use memorymap::Layout;
 use std::sync::Wait;
 
-/// A kill that is noted: its thread was looked for in so many buckets, from the first on. The note comes before the search, so that a thread which comes to sleep in a bucket behind the search finds it
-/// there.
+/// A kill that is noted: its thread was looked for in so many buckets, from the first on. The note comes before the
+/// search, so that a thread which comes to sleep in a bucket behind the search finds it there.
 ///
-/// Neither this nor what is made of it, [`Searched`] and [`Kill`], can be let go: whoever has written a note goes on to the end of the kill.
+/// Neither this nor what is made of it, [`Searched`] and [`Kill`], can be let go: whoever has written a note goes on to
+/// the end of the kill.
 pub(crate) struct Search {
     killed: Killed,
     looked: usize,
@@ -30,8 +31,9 @@ pub(crate) struct Searched {
     killed: Killed,
 }
 
-/// A kill that came to its end: it was noted, its thread was looked for in each bucket, and then it was given a token, so that it wakes where it sleeps. Nothing makes one but [`Searched::rouse`], and
-/// nothing lets one go but a [`Sweep`] or [`Bench::kill`].
+/// A kill that came to its end: it was noted, its thread was looked for in each bucket, and then it was given a token,
+/// so that it wakes where it sleeps. Nothing makes one but [`Searched::rouse`], and nothing lets one go but a [`Sweep`]
+/// or [`Bench::kill`].
 pub(crate) struct Kill {
     thread: Tid,
 }
@@ -97,8 +99,8 @@ impl Kill {
     }
 }
 
-/// The kill of a process on its way: it came to so many threads, in the order of their ids, and each of these that is of the process was killed, and no other. Nothing begins or ends one but
-/// [`Bench::kill_process`].
+/// The kill of a process on its way: it came to so many threads, in the order of their ids, and each of these that is
+/// of the process was killed, and no other. Nothing begins or ends one but [`Bench::kill_process`].
 pub(crate) struct Sweep {
     process: u8,
     come: u8,
@@ -156,9 +158,10 @@ impl Sweep {
 }
 
 impl Bench {
-    /// Kills a thread (kill(2), by SIGKILL). Its call of this bench ends in its death before its next access, asleep or not; where it is in none, its next one that makes an access does. Whoever walks
-    /// its list then ([`Bench::exit`]) marks what it holds. A trylock, a declaration and a release ask their fate alone. A second kill of a thread in one life changes nothing. ESRCH where the
-    /// bench has no thread with this id.
+    /// Kills a thread (kill(2), by SIGKILL). Its call of this bench ends in its death before its next access, asleep or
+    /// not; where it is in none, its next one that makes an access does. Whoever walks its list then ([`Bench::exit`])
+    /// marks what it holds. A trylock, a declaration and a release ask their fate alone. A second kill of a thread in
+    /// one life changes nothing. ESRCH where the bench has no thread with this id.
     pub fn kill<R: Wait>(&self, rt: &R, thread: u8) -> Result<(), Reply>
         ensures { Kills (layout_of self.now) thread result }
     {
@@ -176,7 +179,8 @@ impl Bench {
         Ok(())
     }
 
-    /// Kills each thread of a process, in the order of their ids, as [`Bench::kill`] does. ESRCH where the bench has no such process.
+    /// Kills each thread of a process, in the order of their ids, as [`Bench::kill`] does. ESRCH where the bench has no
+    /// such process.
     pub fn kill_process<R: Wait>(&self, rt: &R, process: u8) -> Result<(), Reply>
         ensures { KillsAll (layout_of self.now) process result }
     {
@@ -193,8 +197,8 @@ impl Bench {
         Ok(())
     }
 
-    /// Whether a thread sleeps: it stands in the queue of a mutex or of a condition variable, and makes no access until it is woken or killed. It may have been so a moment ago alone. ESRCH where the
-    /// bench has no thread with this id.
+    /// Whether a thread sleeps: it stands in the queue of a mutex or of a condition variable, and makes no access until
+    /// it is woken or killed. It may have been so a moment ago alone. ESRCH where the bench has no thread with this id.
     pub fn sleeps<R: Wait>(&self, rt: &R, thread: u8) -> Result<bool, Reply>
         ensures { IsOfThread (layout_of self.now) thread result }
     {

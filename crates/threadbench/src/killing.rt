@@ -34,7 +34,8 @@ impl<R: Wait> Killer for BenchKiller<'_, R> {
     }
 }
 
-/// Kills the threads of the sweep's process and no other: it comes to each thread of the bench. It has no bench, so each kill that it makes is in its hands, and the sweep takes none but those.
+/// Kills the threads of the sweep's process and no other: it comes to each thread of the bench. It has no bench, so
+/// each kill that it makes is in its hands, and the sweep takes none but those.
 pub(crate) fn kill_members<K: Killer>(killer: &K, layout: &Layout, sweep: &mut Sweep)
     requires { sweep.old.come ≡ 0 }
     ensures process { sweep.new.process ≡ sweep.old.process }
@@ -51,7 +52,8 @@ pub(crate) fn kill_members<K: Killer>(killer: &K, layout: &Layout, sweep: &mut S
 }
 
 impl Bench {
-    /// Kills the thread. Whoever calls it holds the lock of moves: nobody is moved from one bucket to another while it is looked for.
+    /// Kills the thread. Whoever calls it holds the lock of moves: nobody is moved from one bucket to another while it
+    /// is looked for.
     pub(crate) fn kill_thread<R: Wait>(&self, rt: &R, thread: Tid) -> Kill
         ensures { result.thread ≡ thread }
     {

@@ -19,15 +19,16 @@ use std::marker::PhantomData;
 use std::sync::MutexGuard;
 use std::sync::atomic::{AtomicBool, Ordering};
 
-/// Whether a thread was killed. Whoever kills it writes it here, and its calls that take the bench look here before each access.
+/// Whether a thread was killed. Whoever kills it writes it here, and its calls that take the bench look here before
+/// each access.
 #[derive(Drop)]
 pub(crate) struct Note {
     thread: Tid,
     killed: CachePadded<AtomicBool>,
 }
 
-/// A thread that was killed, as a note of its own says. Nothing makes one but [`Note::kill`], so whoever has one has written such a note before. It can't be let go: nothing takes it but
-/// [`Killed::roused`].
+/// A thread that was killed, as a note of its own says. Nothing makes one but [`Note::kill`], so whoever has one has
+/// written such a note before. It can't be let go: nothing takes it but [`Killed::roused`].
 pub(crate) struct Killed {
     thread: Tid,
 }
@@ -39,12 +40,14 @@ pub(crate) struct Cleared {
     thread: Tid,
 }
 
-/// That a thread's note told it to go on, under the lock of a bucket. Nothing makes one but [`ask`], which asks the note.
+/// That a thread's note told it to go on, under the lock of a bucket. Nothing makes one but [`ask`], which asks the
+/// note.
 pub(crate) struct Spared<N> {
     note: PhantomData<N>,
 }
 
-/// A fate that others have in their hands. What a note tells is the only one: no other fate, as one that never stops its thread, can be asked in the note's place.
+/// A fate that others have in their hands. What a note tells is the only one: no other fate, as one that never stops
+/// its thread, can be asked in the note's place.
 pub(crate) trait ByOthers: Fate {}
 
 /// What its note tells a thread: the fate that others have in their hands.
@@ -75,8 +78,8 @@ impl Note {
         }
     }
 
-    /// Takes back that the thread was killed, whose note it is. Whoever calls it holds the lock of moves, so that no kill
-    /// is under way.
+    /// Takes back that the thread was killed, whose note it is. Whoever calls it holds the lock of moves, so that no
+    /// kill is under way.
     pub(crate) fn clear(&self, moves: &MutexGuard<'_, ()>) -> Cleared
         ensures { result.thread ≡ self.now.thread }
     {
@@ -150,7 +153,8 @@ pub(crate) fn notes(alloc: Global) -> Result<Vec<Note>, NoMem>
     Ok(notes)
 }
 
-/// Asks a thread's note, under the lock of this bucket: whoever has a bucket holds its lock. None where it tells the thread to stop.
+/// Asks a thread's note, under the lock of this bucket: whoever has a bucket holds its lock. None where it tells the
+/// thread to stop.
 pub(crate) fn ask<N: ByOthers>(note: &mut N, bucket: &Bucket) -> Option<Spared<N>>
     ensures { N.stopped note.new ≡ N.stopped note.old + stops_unless result }
 {

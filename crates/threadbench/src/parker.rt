@@ -1,4 +1,5 @@
-//! Where threads sleep: tokens, and the bells by which sleepers are told of them. What a sleep and a wake have to show is made here alone.
+//! Where threads sleep: tokens, and the bells by which sleepers are told of them. What a sleep and a wake have to show
+//! is made here alone.
 ghost use Rattle.std.specs.Prelude.{◌≡◌, ◌<◌, ◌+◌, true, false, Some, length, slice_get, IfOk};
 ghost use Rattle.std.specs.Sync.Mutex.{mutex_guard_value};
 ghost use Rattle.threadbench.specs.Parkers.{AreParkers};
@@ -12,7 +13,8 @@ use memorymap::NoMem;
 use std::alloc::Global;
 use std::sync::{Condvar, Mutex, MutexGuard, Wait};
 
-/// Where one thread waits for a token and others give it one. A thread that was given one before it parks goes on at once.
+/// Where one thread waits for a token and others give it one. A thread that was given one before it parks goes on at
+/// once.
 #[derive(Drop)]
 pub(crate) struct Parker {
     pub(crate) thread: Tid,
@@ -38,8 +40,9 @@ pub(crate) struct Taken {
     left: bool,
 }
 
-/// That a thread is out of the queue in which it slept, if it did, and is to be given a token. It is of a thread that a wake took ([`Due::woken`]), or that a kill has looked for in each bucket
-/// ([`Due::searched`]). It can't be let go: whoever has one gives the token.
+/// That a thread is out of the queue in which it slept, if it did, and is to be given a token. It is of a thread that a
+/// wake took ([`Due::woken`]), or that a kill has looked for in each bucket ([`Due::searched`]). It can't be let go:
+/// whoever has one gives the token.
 pub(crate) struct Due {
     thread: Tid,
 }

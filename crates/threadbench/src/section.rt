@@ -1,4 +1,5 @@
-//! What calls do under the lock of a bucket. A section that needs its call's word loads it there. Whoever has a bucket holds its lock: the bench's buckets lie in their locks.
+//! What calls do under the lock of a bucket. A section that needs its call's word loads it there. Whoever has a bucket
+//! holds its lock: the bench's buckets lie in their locks.
 ghost use Rattle.std.specs.Prelude.{◌≡◌, ◌+◌, ℕ};
 ghost use Rattle.buckets.specs.Queues.{queue, IsOrderly, Removes, Takes};
 ghost use Rattle.memorymap.specs.Layouts.{cell_place};
@@ -21,8 +22,9 @@ use memorymap::Key;
 use ruledwords::{CondRunning, CondTurn, Reaping, Running, Turn, Words};
 use stepprograms::Answer;
 
-/// Puts the thread at the end of the key's queue where the low half of the word that was seen is the expected one, and tells so. Nothing changes where it differs; nor where the
-/// thread stands in the bucket already or the bucket is full, which can't come up, but what lies under a lock doesn't say so.
+/// Puts the thread at the end of the key's queue where the low half of the word that was seen is the expected one, and
+/// tells so. Nothing changes where it differs; nor where the thread stands in the bucket already or the bucket is full,
+/// which can't come up, but what lies under a lock doesn't say so.
 fn compare_and_enqueue(bucket: &mut Bucket, thread: Tid, key: Key, seen: u64, expected: u32) -> bool
     ensures { Waits bucket.old bucket.new thread key.0 seen expected result }
 {
@@ -32,8 +34,8 @@ fn compare_and_enqueue(bucket: &mut Bucket, thread: Tid, key: Key, seen: u64, ex
     bucket.wait_section(thread, key, seen, expected)
 }
 
-/// That a thread stands in its word's queue, and that its note, asked under the lock of that queue's bucket, told it to go on. Nothing makes one but a wait's section; a bench's
-/// calls go on by it as those that have slept.
+/// That a thread stands in its word's queue, and that its note, asked under the lock of that queue's bucket, told it to
+/// go on. Nothing makes one but a wait's section; a bench's calls go on by it as those that have slept.
 pub(crate) struct Asleep<N> {
     spared: Spared<N>,
 }
@@ -75,8 +77,9 @@ pub(crate) enum Waited<N> {
     Stopped,
 }
 
-/// A wait: loads the word, and puts the call's thread to sleep on the key where the word's low half is the expected one, unless the thread's note tells it to stop. The note is looked at
-/// under the bucket's lock: a kill that comes later finds the thread in the bucket.
+/// A wait: loads the word, and puts the call's thread to sleep on the key where the word's low half is the expected
+/// one, unless the thread's note tells it to stop. The note is looked at under the bucket's lock: a kill that comes
+/// later finds the thread in the bucket.
 pub(crate) fn wait_in<N: ByOthers>(
     bucket: &mut Bucket,
     running: &mut Running,
@@ -108,7 +111,8 @@ pub(crate) fn wait_in<N: ByOthers>(
     }
 }
 
-/// A wait: loads its condition variable's counter ([`CondRunning::load`]), and puts the call's thread to sleep on the key where the counter's low half is the expected one, unless the thread's note tells it to stop. The note is looked
+/// A wait: loads its condition variable's counter ([`CondRunning::load`]), and puts the call's thread to sleep on the
+/// key where the counter's low half is the expected one, unless the thread's note tells it to stop. The note is looked
 /// at under the bucket's lock, as that of a thread that sleeps on its mutex's cell is.
 pub(crate) fn wait_on_counter_in<N: ByOthers>(
     bucket: &mut Bucket,
@@ -177,7 +181,8 @@ fn take_firsts(bucket: &mut Bucket, thread: Tid, key: Key, most: u32) -> Batch
     bucket.take(key, most)
 }
 
-/// A wake by the walk over a dead thread's list: takes at most so many threads out of the key's queue, those that stand first, in their order.
+/// A wake by the walk over a dead thread's list: takes at most so many threads out of the key's queue, those that stand
+/// first, in their order.
 pub(crate) fn wake_for_dead(
     bucket: &mut Bucket,
     reaping: &Reaping,
@@ -195,7 +200,8 @@ pub(crate) fn wake_for_dead(
     bucket.take(key, most)
 }
 
-/// What a trim came to: whether it cleared the word. Nothing makes one but [`trim_in`], which has the bucket; a bench's calls go on by it.
+/// What a trim came to: whether it cleared the word. Nothing makes one but [`trim_in`], which has the bucket; a bench's
+/// calls go on by it.
 #[derive(Drop)]
 pub(crate) struct Trimmed {
     cleared: bool,
@@ -214,7 +220,8 @@ impl Trimmed {
     }
 }
 
-/// A trim: where nobody stands in the key's queue, the call's word becomes 0 if WAITERS is all that it says, and it tells whether it did.
+/// A trim: where nobody stands in the key's queue, the call's word becomes 0 if WAITERS is all that it says, and it
+/// tells whether it did.
 pub(crate) fn trim_in(bucket: &Bucket, running: &mut Running, words: &Words, key: Key) -> Trimmed
     requires words { IsRunningOf words.now running.old }
     requires trim { (at : ℕ) × (access_in running.old ≡ AtTrim at) }

@@ -23,9 +23,11 @@ use std::sync::Wait;
 use stepprograms::{Access, Answer};
 
 impl Bench {
-    /// Takes a mutex, and sleeps while another thread owns it (pthread_mutex_lock). The reply is OK; EOWNERDEAD where its last owner died and nobody declared it consistent;
-    /// ENOTRECOVERABLE where it can't be used any more; EDEADLK where the thread owns it already; XHELD, with no access, where the thread holds 2,048 mutexes. The fate is asked
-    /// before each access and each section, and the thread dies where it says so, or where it was killed ([`Bench::kill`]).
+    /// Takes a mutex, and sleeps while another thread owns it (pthread_mutex_lock). The reply is OK; EOWNERDEAD where
+    /// its last owner died and nobody declared it consistent; ENOTRECOVERABLE where it can't be used any more; EDEADLK
+    /// where the thread owns it already; XHELD, with no access, where the thread holds 2,048 mutexes. The fate is asked
+    /// before each access and each section, and the thread dies where it says so, or where it was killed
+    /// ([`Bench::kill`]).
     pub fn lock<R: Wait, F: Fate>(
         &self,
         rt: &R,
@@ -44,8 +46,9 @@ impl Bench {
         }
     }
 
-    /// Ends an unlock: wakes whom it has to wake; where it finds nobody to wake, a word that says nothing but WAITERS becomes 0; and the thread's pending entry is cleared. The reply is OK. The fate is
-    /// asked before each access and each section, and the thread dies where it says so, or where it was killed ([`Bench::kill`]).
+    /// Ends an unlock: wakes whom it has to wake; where it finds nobody to wake, a word that says nothing but WAITERS
+    /// becomes 0; and the thread's pending entry is cleared. The reply is OK. The fate is asked before each access and
+    /// each section, and the thread dies where it says so, or where it was killed ([`Bench::kill`]).
     #[inline(always)]
     pub fn pay<R: Wait, F: Fate>(&self, rt: &R, owed: Owed, fate: &mut F) -> Outcome
         requires { IsOwedOf self.now owed }
@@ -96,8 +99,8 @@ impl Bench {
         self.run_begun(rt, running, fate, &mut note)
     }
 
-    /// Runs a call to its end, or until one of its thread's fates ends it: first as far as it makes steps on words, where it stands. The compiler knows at which access that is, where it knows where the call
-    /// begins.
+    /// Runs a call to its end, or until one of its thread's fates ends it: first as far as it makes steps on words,
+    /// where it stands. The compiler knows at which access that is, where it knows where the call begins.
     #[inline(always)]
     fn run_begun<R: Wait, F: Fate, N: ByOthers>(
         &self,
@@ -117,8 +120,9 @@ impl Bench {
         }
     }
 
-    /// Runs a call to its end, or until one of its thread's fates ends it, access by access: what is left of a call that wasn't made in one stretch. (Stretches are made in [`Bench::run_begun`] alone: a
-    /// function that is called in one place is compiled there.)
+    /// Runs a call to its end, or until one of its thread's fates ends it, access by access: what is left of a call
+    /// that wasn't made in one stretch. (Stretches are made in [`Bench::run_begun`] alone: a function that is called in
+    /// one place is compiled there.)
     pub(crate) fn run_on<R: Wait, F: Fate, N: ByOthers>(
         &self,
         rt: &R,
@@ -192,7 +196,8 @@ impl Bench {
         }
     }
 
-    /// Makes a wait, and sleeps where the word is the expected one. A thread whose note tells it to stop dies in place of that.
+    /// Makes a wait, and sleeps where the word is the expected one. A thread whose note tells it to stop dies in place
+    /// of that.
     fn wait_on_cell<R: Wait, N: ByOthers>(
         &self,
         rt: &R,
@@ -297,11 +302,13 @@ impl Bench {
     }
 }
 
-/// How many turns a thread lets pass before it comes to sleep on a cell: some 11 microseconds, about what a sleep and a wake take. Half as many lost a quarter of the speed of four threads at one mutex, and twice
-/// as many gained a tenth, while the longest wait was three times as long (docs/COSTS.md).
+/// How many turns a thread lets pass before it comes to sleep on a cell: some 11 microseconds, about what a sleep and a
+/// wake take. Half as many lost a quarter of the speed of four threads at one mutex, and twice as many gained a tenth,
+/// while the longest wait was three times as long (docs/COSTS.md).
 const PATIENCE: u32 = 2_000;
 
-/// Lets some time pass, and looks at nothing. Whoever owns the mutex has mostly freed it by then, and perhaps taken it anew: so the thread goes on and tries again, and needn't be woken.
+/// Lets some time pass, and looks at nothing. Whoever owns the mutex has mostly freed it by then, and perhaps taken it
+/// anew: so the thread goes on and tries again, and needn't be woken.
 fn hesitate() {
     for _ in 0..PATIENCE {
         spin_loop();

@@ -40,7 +40,8 @@ fn spawn<
     scope.spawn_with(promise, f)
 }
 
-/// A thread in which a job's worker waits. Where it or its memory is refused, all workers are told not to begin, and the job is given back.
+/// A thread in which a job's worker waits. Where it or its memory is refused, all workers are told not to begin, and
+/// the job is given back.
 fn start<'a, E, R: Threads + Wait + Sync, G: Gate + Sync>(
     rt: &'a R,
     alloc: Global,

@@ -13,7 +13,8 @@ use std::mem;
 use std::sync::Wait;
 use std::thread::{self, Scope, Threads};
 
-/// Runs a worker for each job that has calls, all at once, and gives their records. Where memory or a thread is refused, the jobs are given back as they were.
+/// Runs a worker for each job that has calls, all at once, and gives their records. Where memory or a thread is
+/// refused, the jobs are given back as they were.
 fn work_at_once<'a, E, R: Threads + Wait + Sync, G: Gate + Sync>(
     rt: &'a R,
     alloc: Global,
@@ -42,7 +43,8 @@ fn work_at_once<'a, E, R: Threads + Wait + Sync, G: Gate + Sync>(
     }
 }
 
-/// The same for jobs that are taken out of a list. (A closure that gives away what it holds can't tell what came of it yet.)
+/// The same for jobs that are taken out of a list. (A closure that gives away what it holds can't tell what came of it
+/// yet.)
 pub(crate) fn work_on<'a, E, R: Threads + Wait + Sync, G: Gate + Sync>(
     rt: &'a R,
     alloc: Global,

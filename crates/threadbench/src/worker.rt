@@ -20,7 +20,8 @@ pub(crate) struct Worker {
     pub ghost enough: { length job.calls.items ≤ vec_capacity room },
 }
 
-/// A worker, until it has run. (A closure that gives away what it holds can't promise anything yet, so its thread takes the worker out of this.)
+/// A worker, until it has run. (A closure that gives away what it holds can't promise anything yet, so its thread takes
+/// the worker out of this.)
 #[derive(Drop)]
 pub(crate) enum Post {
     Manned(Worker),

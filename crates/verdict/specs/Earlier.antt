@@ -18,7 +18,8 @@ abbrev pub told_of : ℕ → List Line → List Fact
 told_of t [] = []
 told_of t (e ∷ es) = if thread_of e.fact == t then e.fact ∷ told_of t es else told_of t es
 
--- the call in which a thread is, of which these facts are told: it began, and has neither returned nor been cut by a kill
+-- the call in which a thread is, of which these facts are told: it began, and has neither returned nor been cut by a
+-- kill
 abbrev pub call_in : List Fact → Option Begun
 call_in [] = None
 call_in (Begin t c ∷ fs) = Some c

@@ -1,4 +1,5 @@
--- What a legal trace means: its points and deaths are one legal history, which explains what its threads were told (POSIX robust mutexes).
+-- What a legal trace means: its points and deaths are one legal history, which explains what its threads were told
+-- (POSIX robust mutexes).
 use Rattle.std.specs.Prelude.{ℕ, ◌≡◌, ◌≢◌, ◌+◌, ◌<◌, ◌≤◌, ◌==◌, ◌&&◌, Bool, true, false, Option, Some, None, List, [], ◌∷◌, ◌++◌, reverse, if◌then◌else◌}
 use Rattle.posixmutex.specs.declared.object.Object.{Object}
 use Rattle.posixmutex.specs.declared.point.Decision.{Decision}
@@ -49,13 +50,14 @@ abbrev pub renewed : ℕ → List Line → Bool
 renewed t [] = false
 renewed t (e ∷ es) = if is_renewing t e.fact then true else renewed t es
 
--- of these lines, the newest first, those before the first that tells that thread t lives anew; all of them where none does
+-- of these lines, the newest first, those before the first that tells that thread t lives anew; all of them where none
+-- does
 abbrev pub in_this_life : ℕ → List Line → List Line
 in_this_life t [] = []
 in_this_life t (e ∷ es) = if renewed t (e ∷ es) then in_this_life t es else e ∷ es
 
--- of each mutex that thread t owned when it was killed its death is told at most once, and exactly once if it was reaped; of no other is it told; n is the number of mutexes, and the lines are those of this
--- life of t
+-- of each mutex that thread t owned when it was killed its death is told at most once, and exactly once if it was
+-- reaped; of no other is it told; n is the number of mutexes, and the lines are those of this life of t
 pub record Buries (t n : ℕ) (held : ℕ → Object) (later : List Line) : Type 0 where
   pub at_most_once : (m : ℕ) → m < n → (held m).owner ≡ Some t → deaths t m later ≤ 1
   pub once_reaped : (m : ℕ) → m < n → (held m).owner ≡ Some t → reaped t later ≡ true → deaths t m later ≡ 1
@@ -69,7 +71,8 @@ pub data Doing : Type 0 where
   Awake : Doing
   Asleep : Doing
 
--- what is told of a thread that does this, in its order: it falls asleep only awake in a call; asleep it is only moved, and then woken or killed; and it is woken and moved only asleep
+-- what is told of a thread that does this, in its order: it falls asleep only awake in a call; asleep it is only moved,
+-- and then woken or killed; and it is woken and moved only asleep
 abbrev pub Alternates : Doing → List Fact → Type 0
 Alternates d [] = Unit {0}
 Alternates Awake (Sleep t q ∷ fs) = Alternates Asleep fs

@@ -9,7 +9,8 @@ use Rattle.facts.specs.Lives.{own, Life}
 use Rattle.facts.specs.Orders.{Each}
 use Rattle.verdict.specs.Explained.{decisions, Buries, Explains}
 
--- each thread has one life; and at each kill all that is told behind it is of this life; the lines stand newest first, and n is the number of mutexes
+-- each thread has one life; and at each kill all that is told behind it is of this life; the lines stand newest first,
+-- and n is the number of mutexes
 pub record LivesOnce (n : ℕ) (told : List Line) : Type 0 where
   pub one_life : (t : ℕ) → Life t (own t (reverse told))
   pub deaths_told : (newer earlier : List Line) (i t : ℕ) → told ≡ newer ++ (record { event = i; fact = Kill t }) ∷ earlier →

@@ -1,4 +1,5 @@
--- How much a trace may have of each thing: the numbers that the definitions mean. The code's constants are proved to be these wherever they are used.
+-- How much a trace may have of each thing: the numbers that the definitions mean. The code's constants are proved to be
+-- these wherever they are used.
 use Rattle.std.specs.Prelude.{ℕ}
 
 -- the bytes of a trace: chosen, 32 MiB

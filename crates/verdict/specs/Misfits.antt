@@ -30,7 +30,8 @@ Told P i (l ∷ ls) = ((l.event ≡ i) × P l.fact) ⊎ Told P i ls
 abbrev pub IsDoneBy : ℕ → Fact → Type 0
 IsDoneBy t f = (is_passive f ≡ false) × (thread_of f ≡ t)
 
--- the line isn't in the order of events. The lines before it fit, so those of one event are a kill alone, or have no kill: EventKilled is of the one, KillShares of the other
+-- the line isn't in the order of events. The lines before it fit, so those of one event are a kill alone, or have no
+-- kill: EventKilled is of the one, KillShares of the other
 abbrev pub IsOutOfOrder : Misfit → List Line → Line → Type 0
 IsOutOfOrder (EventFalls i) earlier e = (i ≡ latest earlier) × (e.event < i)
 IsOutOfOrder (AnothersEvent t) earlier e = Told (IsDoneBy t) e.event earlier × (is_passive e.fact ≡ false) × (thread_of e.fact ≢ t)
@@ -92,8 +93,8 @@ IsOutOfLife m fs f = ⊥
 
 -- ---- the mutexes
 
--- the mutex's object doesn't allow the step of a thread that owns so many mutexes: it is a lock or trylock of a thread that owns as many as it may, a death of one that isn't the owner, or neither. A
--- death replies OK
+-- the mutex's object doesn't allow the step of a thread that owns so many mutexes: it is a lock or trylock of a thread
+-- that owns as many as it may, a death of one that isn't the owner, or neither. A death replies OK
 abbrev pub RefusesStep : Misfit → ℕ → Object → Decision → Type 0
 RefusesStep (NotAllowed p x) held o d = (p ≡ o) × (x ≡ d.reply) × (acquires d.operation ≡ true → held < held_limit) × (d.operation ≡ operation.Death → x ≢ OK) × ((new : Object) → Permits o d.thread d.operation x new → ⊥)
 RefusesStep (AtLimit k) held o d = (k ≡ held) × (held_limit ≤ held) × (acquires d.operation ≡ true) × (d.reply ≢ XHELD)
@@ -111,8 +112,8 @@ OwnsSome m n os f = ⊥
 
 -- ---- the line
 
--- the reason is true of the line behind the earlier ones, and the clause of Fits that it is about is the first that isn't: the line's event comes first, then its thread, then its mutex; n is the number
--- of mutexes
+-- the reason is true of the line behind the earlier ones, and the clause of Fits that it is about is the first that
+-- isn't: the line's event comes first, then its thread, then its mutex; n is the number of mutexes
 abbrev pub IsMisfit : Misfit → ℕ → List Line → Line → Type 0
 IsMisfit m n earlier e =
     (IsOutOfOrder m earlier e × (Each (λ a. Later a e) earlier → ⊥))

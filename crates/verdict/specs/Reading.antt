@@ -133,7 +133,8 @@ abbrev pub goes_on : ℕ → Head → List Line → List (List ℕ) → (Line �
 goes_on n h told ls more (read.Told e) = more e
 goes_on n h told ls more (read.End i) = ended n h told i ls
 
--- these lines, the first of which is line n, behind a first line and what the lines behind that one told; what stands behind the last line feed is the last of them
+-- these lines, the first of which is line n, behind a first line and what the lines behind that one told; what stands
+-- behind the last line feed is the last of them
 unfoldable pub lines_read : ℕ → Head → List Line → List (List ℕ) → Result Trace TraceFault
 lines_read n h told [] = Err (fault_at n Cut)
 lines_read n h told (text ∷ []) = Err (fault_at n (unended text))

@@ -12,7 +12,8 @@ use Rattle.verdict.specs.Reading.{IsHead, Trace}
 abbrev pub trace_of : Told → Trace
 trace_of t = record { head = t.head; told = reverse t.lines.items; last = t.last }
 
--- a line's event has a number from 1 on, its thread is one of the trace's, and so is the mutex of its point or its death
+-- a line's event has a number from 1 on, its thread is one of the trace's, and so is the mutex of its point or its
+-- death
 abbrev pub IsOf : Head → Line → Type 0
 IsOf h e = (1 ≤ e.event) × IsInside (h.threads + 1) h.mutexes e.fact
 
@@ -21,12 +22,14 @@ pub record IsWithin (t : Told) : Type 0 where
   pub head : IsHead t.head
   pub lines : All (IsOf t.head) t.lines.items
 
--- line n tells of an event: it stands behind the first line, before the last one of a trace, and before the first fault of what is none
+-- line n tells of an event: it stands behind the first line, before the last one of a trace, and before the first fault
+-- of what is none
 abbrev pub IsTelling : ℕ → Result Trace TraceFault → Type 0
 IsTelling n (Ok t) = (2 ≤ n) × (n < length t.told + 2)
 IsTelling n (Err first) = (2 ≤ n) × (n < first.line)
 
--- what is given where the bytes say this: the trace that they are; their first fault; or want of memory for what a line tells, at that line
+-- what is given where the bytes say this: the trace that they are; their first fault; or want of memory for what a line
+-- tells, at that line
 abbrev pub Gives : Result Trace TraceFault → Result Told TraceFault → Type 0
 Gives said (Ok t) = said ≡ Ok (trace_of t)
 Gives said (Err e) = (said ≡ Err e) ⊎ ((e.fault ≡ OutOfMemory) × IsTelling e.line said)

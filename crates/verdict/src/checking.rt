@@ -193,8 +193,8 @@ fn explain_text(alloc: Global, text: &str) -> Result<Finding, TraceFault>
     }
 }
 
-/// Whether the bytes are a legal trace, or the first line that doesn't fit those before it and why; else, as [`check`] does, the first
-/// fault. The reasons are tried in this order: the line's event, its thread, its mutex.
+/// Whether the bytes are a legal trace, or the first line that doesn't fit those before it and why; else, as [`check`]
+/// does, the first fault. The reasons are tried in this order: the line's event, its thread, its mutex.
 pub fn explain(alloc: Global, bytes: &[u8]) -> Result<Finding, TraceFault>
     ensures { Tells (trace_read bytes.now) result }
 {
@@ -213,8 +213,9 @@ pub fn explain(alloc: Global, bytes: &[u8]) -> Result<Finding, TraceFault>
     }
 }
 
-/// Whether the bytes are a legal trace, or the first line that doesn't fit those before it; where they are no trace, their first fault,
-/// wherever a line doesn't fit. Only want of memory, at line 1, may come in the place of a verdict or of a later line's fault.
+/// Whether the bytes are a legal trace, or the first line that doesn't fit those before it; where they are no trace,
+/// their first fault, wherever a line doesn't fit. Only want of memory, at line 1, may come in the place of a verdict
+/// or of a later line's fault.
 pub fn check(alloc: Global, bytes: &[u8]) -> Result<Verdict, TraceFault>
     ensures { Answers (trace_read bytes.now) result }
 {

@@ -1,4 +1,5 @@
-//! How much a trace may have of each thing. The definitions name these numbers too, and each use is proved against theirs.
+//! How much a trace may have of each thing. The definitions name these numbers too, and each use is proved against
+//! theirs.
 
 /// The bytes of a trace.
 pub const MAX_BYTES: usize = 33_554_432;

@@ -56,7 +56,8 @@ pub enum Misfit {
     /// The thread's call is of this operation, and has no such first point.
     #[error("a call of {} has no such point", .operation.word())]
     OtherOperation { operation: Operation },
-    /// The point is a refused unlock of a wait: a wait that is refused has a point of its own, and its unlock replies OK.
+    /// The point is a refused unlock of a wait: a wait that is refused has a point of its own, and its unlock replies
+    /// OK.
     #[error("the unlock of a wait replies OK")]
     ReleaseRefused,
     /// The wait has released its mutex: it neither returns nor has another point before it has locked it again.

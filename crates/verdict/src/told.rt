@@ -97,8 +97,8 @@ fn read_text(alloc: Global, text: &str) -> Result<Told, TraceFault>
     }
 }
 
-/// Reads a trace, legal or not: what its lines tell; or, as [`check`](crate::check) does, its first fault. Only want of memory for what a line tells,
-/// at that line, may come in the place of the trace or of a later line's fault.
+/// Reads a trace, legal or not: what its lines tell; or, as [`check`](crate::check) does, its first fault. Only want of
+/// memory for what a line tells, at that line, may come in the place of the trace or of a later line's fault.
 pub fn read_trace(alloc: Global, bytes: &[u8]) -> Result<Told, TraceFault>
     ensures gives { Gives (trace_read bytes.now) result }
     ensures within { IfOk result IsWithin }

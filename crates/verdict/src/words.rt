@@ -6,7 +6,8 @@ ghost use Rattle.verdict.specs.Forms.{number_of, numbered};
 use crate::limits::MAX_EVENTS;
 use lines::{is_number_word, number_in};
 
-/// The number that the word spells, which is None where it is past every range; and None where the word spells no number.
+/// The number that the word spells, which is None where it is past every range; and None where the word spells no
+/// number.
 pub fn number(word: &str) -> Option<Option<u32>>
     ensures { result ≡ number_of word.now }
 {

@@ -76,7 +76,8 @@ struct Story {
     cells: [u64; CELLS],
 }
 
-/// The first of the two makes calls and dies, and its list is walked; then the two meet, and the second one makes calls. None where the walk doesn't end.
+/// The first of the two makes calls and dies, and its list is walked; then the two meet, and the second one makes
+/// calls. None where the walk doesn't end.
 fn dies(
     alloc: Global,
     layout: Layout,
@@ -111,8 +112,8 @@ static AFTERWARDS: [(Call, Reply); 4] = [
     (Consistent(3), OK),
 ];
 
-/// A walk loads the three words of the head, and of each entry the next one and its mutex's word, which it marks. Whoever takes these mutexes then is told that their owner died, until it
-/// declares them consistent.
+/// A walk loads the three words of the head, and of each entry the next one and its mutex's word, which it marks.
+/// Whoever takes these mutexes then is told that their owner died, until it declares them consistent.
 #[test]
 fn each_mutex_of_a_dead_owner_is_marked(rt: HostRuntime) -> Result<(), Fail> {
     let layout = Layout::with_processes(&[0, 1], &[1000, 2000], 4, &[])?;

@@ -41,7 +41,8 @@ impl Fate for StopsAt {
     }
 }
 
-/// The reply of an unlock with this fate, up to the waking; EAGAIN where it has somebody to wake; None where its thread died before it freed the mutex.
+/// The reply of an unlock with this fate, up to the waking; EAGAIN where it has somebody to wake; None where its thread
+/// died before it freed the mutex.
 fn unlock(words: &Words, pass: Pass<Live>, mutex: u16, fate: &mut StopsAt) -> Option<Reply>
     requires pass { IsLive words.now pass }
     requires mutex { mutex < (layout_of words.now).mutexes }
@@ -95,7 +96,8 @@ struct Case {
     other: u64,
 }
 
-/// Whether the thread dies before this access of the case's call, or lives where it makes fewer. A dead thread's mutex stays its own, and nobody else can take it then.
+/// Whether the thread dies before this access of the case's call, or lives where it makes fewer. A dead thread's mutex
+/// stays its own, and nobody else can take it then.
 fn dies_before(alloc: Global, case: &Case, access: u32) -> Result<bool, Fail> {
     let Two {
         words,
@@ -120,7 +122,8 @@ fn dies_before(alloc: Global, case: &Case, access: u32) -> Result<bool, Fail> {
     )
 }
 
-/// The first access before which the case's thread doesn't die as it should; None where there is none, and the thread lives that makes them all.
+/// The first access before which the case's thread doesn't die as it should; None where there is none, and the thread
+/// lives that makes them all.
 fn first_wrong(alloc: Global, case: &Case) -> Result<Option<u32>, Fail> {
     for access in 1..12 {
         if !dies_before(alloc, case, access)? {
@@ -130,7 +133,8 @@ fn first_wrong(alloc: Global, case: &Case) -> Result<Option<u32>, Fail> {
     Ok(None)
 }
 
-/// By a thread that holds nothing: it announces the mutex, loads and exchanges its cell, puts it in front of the empty list by 4, and clears what it announced.
+/// By a thread that holds nothing: it announces the mutex, loads and exchanges its cell, puts it in front of the empty
+/// list by 4, and clears what it announced.
 static TRYLOCK: Case = Case {
     before: &[],
     call: TryLock(0),

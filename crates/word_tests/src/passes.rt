@@ -72,7 +72,8 @@ static ONE_AFTER_THE_OTHER: [Step; 6] = [
     (First, TryLock(1), OK),
 ];
 
-/// A thread whose process maps the words at 2000 releases two mutexes in the order in which it took them, so the first one from the end of its list; a thread of another process takes both then.
+/// A thread whose process maps the words at 2000 releases two mutexes in the order in which it took them, so the first
+/// one from the end of its list; a thread of another process takes both then.
 #[test]
 fn two_mutexes_go_to_another_process(rt: HostRuntime) -> Result<(), Fail> {
     let layout = Layout::with_processes(&[0, 1], &[1000, 2000], 2, &[])?;

@@ -43,7 +43,8 @@ fn last_of(_words: &Words, passes: &mut Vec<Pass<Live>>) -> Pass<Live>
     passes.pop().unwrap()
 }
 
-/// The words of a layout of two threads, with these presets for its condition variables. It is refused as for want of memory where there are other threads, or not as many presets.
+/// The words of a layout of two threads, with these presets for its condition variables. It is refused as for want of
+/// memory where there are other threads, or not as many presets.
 pub(crate) fn of_two(alloc: Global, layout: Layout, presets: &[u32]) -> Result<Two, NoMem>
     ensures first { IfOk result (λ t. IsLive t.words t.first) }
     ensures second { IfOk result (λ t. IsLive t.words t.second) }
@@ -107,7 +108,8 @@ fn unlock(words: &Words, pass: Pass<Live>, mutex: u16) -> (Pass<Live>, Reply)
     }
 }
 
-/// The pass and the reply of a call that waits for nobody: a lock is made as a trylock. EINVAL where the words have no such mutex.
+/// The pass and the reply of a call that waits for nobody: a lock is made as a trylock. EINVAL where the words have no
+/// such mutex.
 pub(crate) fn makes(words: &Words, pass: Pass<Live>, call: Call) -> (Pass<Live>, Reply)
     requires { IsLive words.now pass }
     ensures { IsLive words.now result.0 }

@@ -3,7 +3,8 @@ use Rattle.std.specs.Prelude.{ℕ, ◌/◌, ◌<◌, ◌≤◌, max, List, lengt
 use Rattle.std.specs.Str.{chars}
 use Rattle.strsim.specs.Edits.{osa_table}
 
--- how many edits lead from one word to the other: a letter more, a letter less, another letter, or two neighbours swapped
+-- how many edits lead from one word to the other: a letter more, a letter less, another letter, or two neighbours
+-- swapped
 abbrev pub edits : List ℕ → List ℕ → ℕ
 edits w v = (osa_table (chars w) (chars v)).last_row (length (chars v))
 

@@ -23,7 +23,8 @@ is_line Trace ws = is_some (traces.words_form ws)
 abbrev pub CanGoOn : Kind → List (List ℕ) → Type 0
 CanGoOn k ws = (more : List (List ℕ)) × (is_line k (ws ++ more) ≡ true)
 
--- word i is the first that is wrong: a line can go on behind those before it, and none begins with these and it. Where there is no word i, all words stand, and one is missing
+-- word i is the first that is wrong: a line can go on behind those before it, and none begins with these and it. Where
+-- there is no word i, all words stand, and one is missing
 pub record IsFirstWrong (k : Kind) (ws : List (List ℕ)) (i : ℕ) : Type 0 where
   pub within : i ≤ length ws
   pub front : CanGoOn k (take i ws)

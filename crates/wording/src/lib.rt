@@ -1,12 +1,13 @@
-//! The kinds of line of scripts and traces, word by word: where a line stops being one of its kind, which words could stand there,
-//! and which of these was meant.
+//! The kinds of line of scripts and traces, word by word: where a line stops being one of its kind, which words could
+//! stand there, and which of these was meant.
 //!
-//! [`Next`] says what the next word of a line has to be. [`first_wrong`] gives the first word at which no line of a kind can go on,
-//! behind words that one begins with ([`Kind`]): proved of the kinds of line as the readers of scripts and traces have them. [`known_words`] has
-//! the words that may stand at a place, and [`nearest`] the one of several words that a misspelt one is next to.
+//! [`Next`] says what the next word of a line has to be. [`first_wrong`] gives the first word at which no line of a
+//! kind can go on, behind words that one begins with ([`Kind`]): proved of the kinds of line as the readers of scripts
+//! and traces have them. [`known_words`] has the words that may stand at a place, and [`nearest`] the one of several
+//! words that a misspelt one is next to.
 //!
-//! Stands on `script` and `verdict`, for their kinds of line, on `lines`, for words and numbers, on `posixmutex` and `lockword`, for the
-//! words of operations and replies, and on `strsim`, for how far words are apart.
+//! Stands on `script` and `verdict`, for their kinds of line, on `lines`, for words and numbers, on `posixmutex` and
+//! `lockword`, for the words of operations and replies, and on `strsim`, for how far words are apart.
 //!
 //! ```text
 //! // At `step b` a number is missing: the third word.

@@ -90,8 +90,8 @@ fn scan(kind: Kind, text: &str) -> Option<Wrong>
     wrong_last(word, start, rest, next)
 }
 
-/// The first word at which no line of the kind can go on: some begins with the words before it, and none with these and it. None where
-/// the line is one of the kind.
+/// The first word at which no line of the kind can go on: some begins with the words before it, and none with these and
+/// it. None where the line is one of the kind.
 pub fn first_wrong(kind: Kind, text: &str) -> Option<Wrong>
     ensures none { IfNone result (is_line kind (words_of text.now) ≡ true) }
     ensures first { IfSome result (λ w. IsFirstWrong kind (words_of text.now) w.word) }

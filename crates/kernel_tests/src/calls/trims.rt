@@ -7,7 +7,8 @@ use std::process::Abort;
 use std::test::Fail;
 use syscalls::{Kernel, Memory, PlainMemory};
 
-/// A word, and what a trim leaves of it where nobody sleeps on it: only a free cell that says nothing but WAITERS is cleared.
+/// A word, and what a trim leaves of it where nobody sleeps on it: only a free cell that says nothing but WAITERS is
+/// cleared.
 static TRIMS: [(u64, u64); 8] = [
     (0x8000_0000, 0),
     (0, 0),
