@@ -1,5 +1,5 @@
 -- What threads were told, and which of them died, stands in one history, phase by phase.
-use Rattle.std.proofs.Common.{◌≡◌, ℕ, zero, suc, ◌+◌, ◌-◌, ◌<◌, ◌≤◌, Bool, false, Option, Some, List, [], ◌∷◌, ◌++◌, length, map, get_or, slice_get, Vec, All, refl, sym, ap, ◌∙◌, subst, arith, append-nil, eq-eqb}
+use Rattle.std.proofs.Common.{◌≡◌, ℕ, zero, suc, ◌+◌, ◌-◌, ◌<◌, ◌≤◌, Bool, false, Option, Some, List, [], ◌∷◌, ◌++◌, length, map, take, get_or, slice_get, Vec, All, refl, sym, ap, ◌∙◌, subst, arith, append-nil, eq-eqb}
 use Rattle.std.specs.Prelude.{◌||◌, if◌then◌else◌}
 use Rattle.std.proofs.lemmas.Option.{slice_get_within}
 use Rattle.std.specs.declared.alloc.Global.{Global}
@@ -35,7 +35,7 @@ use Rattle.report.proofs.Parts.{by_append, calls_through, counted, lived, points
 use Rattle.report.proofs.InOrder.{AreWithin, Through, parts_same, played_same, through}
 use Rattle.report.proofs.LoneCounters.{made_none}
 use Rattle.report.proofs.LonePhases.{AreKnown}
-use Rattle.report.proofs.Passed.{AreAbreast, gone_at, gone_is, items_are, items_at}
+use Rattle.report.proofs.Passed.{calls_of, AreAbreast, gone_at, gone_is, items_are, items_at}
 use Rattle.report.proofs.Phases.{all_at, its_end, length_mapped, some_at}
 use Rattle.report.proofs.Told.{counted_up}
 use Rattle.report.proofs.Within.{all_within}
@@ -203,17 +203,17 @@ module _ (w : Words) (ps : List Phase) (passes : List (Pass Live)) (dies : List 
   counter_is : (q : ℕ) → q < length (layout_of w).conditions → get_or counters q 0 ≡ get_or (last_words ended.last) (counter_place (layout_of w) q) 0
   counter_is q low = subst (λ (k : Layout'). q < length k.conditions → get_or counters q 0 ≡ get_or (last_words ended.last) (counter_place k q) 0) ended.same (ended.counts.each q) low
 
-  -- where each phase has one thread's calls
-  lone : (is : List ℕ) → AreLone (layout_of w).threads (phases_of ps) is → (os : ℕ → Object) × (vs : ℕ → ℕ) × ArePlayed (layout_of w) (λ i. false) opening (λ q. get_or (presets_of w) q 0) (phases_of ps) is th.parts os vs × ((m : ℕ) → m < (layout_of w).mutexes → Run fresh (at ended.ends.histories (cell_place (layout_of w) m)) (os m))
-      × ((q : ℕ) → q < length (layout_of w).conditions → get_or counters q 0 ≡ vs q)
-  lone is each =
+  -- where each of the first phases has one thread's calls
+  lone : (c : ℕ) (is : List ℕ) → AreLone (layout_of w).threads (take c (phases_of ps)) is → (os : ℕ → Object) × (vs : ℕ → ℕ) × ArePlayed (layout_of w) (λ i. false) opening (λ q. get_or (presets_of w) q 0) (take c (phases_of ps)) is (take c th.parts) os vs
+      × ((m : ℕ) → m < (layout_of w).mutexes → Run fresh (points_through m (take c th.parts)) (os m)) × (length (phases_of ps) ≤ c → (q : ℕ) → q < length (layout_of w).conditions → get_or counters q 0 ≡ vs q)
+  lone c is each =
       let known : AreKnown (layout_of w) (first_known (layout_of w) (presets_of w)) (λ q. get_or (presets_of w) q 0) = known_first (layout_of w) (presets_of w) many_presets in
-      let played = th.lone is each within opening (λ q. get_or (presets_of w) q 0) known (λ m low. refl) (λ j low lives x none. refl) in (
+      let played = th.lone c is each within opening (λ q. get_or (presets_of w) q 0) known (λ m low. refl) (λ j low lives x none. refl) in (
         played.0,
         played.1,
-        played_same (layout_of w) (layout_of w).threads (gone_at firsts) (λ i. false) opening (λ q. get_or (presets_of w) q 0) (phases_of ps) is th.parts played.0 played.1 nobody_gone each played.2,
-        λ m low. subst (λ (l : List Point). Run fresh l (played.0 m)) (sym (last_is m low)) (played.3 m low),
-        λ q low. counter_is q low ∙ sym (ended.ends.count q low) ∙ changed_last played.1 played.4 q low,
+        played_same (layout_of w) (layout_of w).threads (gone_at firsts) (λ i. false) opening (λ q. get_or (presets_of w) q 0) (take c (phases_of ps)) is (take c th.parts) played.0 played.1 nobody_gone each played.2,
+        λ m low. played.3 m low,
+        λ most q low. counter_is q low ∙ sym (ended.ends.count q low) ∙ changed_last played.1 (played.4 (let many = length_mapped calls_of ps in omega (arith, most, many))) q low,
       )
 
   long : length replies ≡ (layout_of w).threads
