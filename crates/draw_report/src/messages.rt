@@ -38,12 +38,12 @@ pub enum Failure {
 }
 
 /// `rfx-draw: line L: fault N: TEXT`: `start` is what stands before the line's number.
-fn write_fault<E: Write>(
+fn write_fault<'a, E: Write>(
     err: &mut E,
-    start: &str,
+    start: &'a str,
     line: usize,
     number: u8,
-    words: &str,
+    words: &'a str,
 ) -> io::Result<()>
     ensures { Leaves (E.contents err.old) (E.contents err.new) result (fault_text start.now line number words.now) }
 {

@@ -52,12 +52,12 @@ fn write_alone<W: Write>(out: &mut W, event: usize, what: &str, thread: Tid) -> 
 
 /// `i WHAT tT mM`, or `cC` in place of `mM`: what befell the thread at a mutex or a condition variable. `what` ends
 /// with the `t`, `of` with the `m` or the `c`.
-fn write_at<W: Write>(
+fn write_at<'a, W: Write>(
     out: &mut W,
     event: usize,
-    what: &str,
+    what: &'a str,
     thread: Tid,
-    of: &str,
+    of: &'a str,
     number: u16,
 ) -> io::Result<()>
     ensures { Leaves (W.contents out.old) (W.contents out.new) result (concat (decimal event ∷ what.now ∷ decimal thread ∷ of.now ∷ decimal number ∷ codes "\n" ∷ [])) }
