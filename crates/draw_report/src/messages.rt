@@ -2,7 +2,7 @@
 
 ghost use Rattle.std.specs.Prelude.{◌≡◌};
 ghost use Rattle.streams.specs.Leaves.{AppendsFront, Leaves};
-ghost use Rattle.draw_report.specs.Messages.{failure_status, failure_text, fault_text};
+ghost use Rattle.draw_report.specs.Messages.{failure_status, failure_text, fault_text, script_text, trace_text};
 
 use script::ScriptFault;
 use std::io::{self, Write};
@@ -37,7 +37,7 @@ pub enum Failure {
     Trace(TraceFault),
 }
 
-/// `rfx-draw: line L: fault N: TEXT`: `start` is what stands before the line's number.
+/// A fault with its line and its number. `start` is what stands before them.
 fn write_fault<'a, E: Write>(
     err: &mut E,
     start: &'a str,
@@ -61,6 +61,22 @@ fn write_fault<'a, E: Write>(
     )
 }
 
+/// `rfx-draw: script: line L: fault N: TEXT`.
+fn write_script_fault<E: Write>(err: &mut E, at: ScriptFault) -> io::Result<()>
+    ensures { Leaves (E.contents err.old) (E.contents err.new) result (script_text at) }
+{
+    let start = "rfx-draw: script: line ";
+    write_fault(err, start, at.line, at.fault.number(), at.fault.words())
+}
+
+/// `rfx-draw: line L: fault N: TEXT`.
+fn write_trace_fault<E: Write>(err: &mut E, at: TraceFault) -> io::Result<()>
+    ensures { Leaves (E.contents err.old) (E.contents err.new) result (trace_text at) }
+{
+    let start = "rfx-draw: line ";
+    write_fault(err, start, at.line, at.fault.number(), at.fault.words())
+}
+
 /// The message of a failure to draw this file.
 fn write_failure<E: Write>(err: &mut E, file: &str, failure: Failure) -> io::Result<()>
     ensures { Leaves (E.contents err.old) (E.contents err.new) result (failure_text file.now failure) }
@@ -70,17 +86,9 @@ fn write_failure<E: Write>(err: &mut E, file: &str, failure: Failure) -> io::Res
         Failure::CannotRead => put(err, &["rfx-draw: cannot read ", file, "\n"]),
         Failure::CannotWrite => put(err, &["rfx-draw: cannot write\n"]),
         Failure::OutOfMemory => put(err, &[OUT_OF_MEMORY]),
-        Failure::Script(ScriptFault { line, fault }) => write_fault(
-            err,
-            "rfx-draw: script: line ",
-            line,
-            fault.number(),
-            fault.words(),
-        ),
+        Failure::Script(at) => write_script_fault(err, at),
         Failure::Unlike => put(err, &[UNLIKE]),
-        Failure::Trace(TraceFault { line, fault }) => {
-            write_fault(err, "rfx-draw: line ", line, fault.number(), fault.words())
-        }
+        Failure::Trace(at) => write_trace_fault(err, at),
     }
 }
 
