@@ -7,7 +7,7 @@
 //! For `--legend` it reads nothing, and writes what the signs of pictures mean.
 //!
 //! Stands on `verdict`, for reading traces and their faults, on `script` and `lockword`, for names, on `picture`, for
-//! drawing, on `streams`, for reading, writing and opening, and on `itoa`, for numbers in messages.
+//! drawing, and on `streams`, for reading, writing and opening.
 //!
 //! ```text
 //! // The words of `rfx-draw --svg dead_owner.trace`, the program's name first; `files` opens what they name.

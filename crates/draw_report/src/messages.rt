@@ -2,13 +2,13 @@
 
 ghost use Rattle.std.specs.Prelude.{◌≡◌};
 ghost use Rattle.streams.specs.Leaves.{AppendsFront, Leaves};
-ghost use Rattle.draw_report.specs.Messages.{failure_status, failure_text, fault_text, fault_words, script_text, script_words};
+ghost use Rattle.draw_report.specs.Messages.{failure_status, failure_text, fault_text, script_text, trace_text};
 
-use itoa::Buffer;
 use script::ScriptFault;
 use std::io::{self, Write};
-use streams::put;
-use verdict::{Fault, TraceFault};
+use streams::Piece::{Number, Word};
+use streams::{put, put_pieces};
+use verdict::TraceFault;
 
 const USAGE: &str = "usage: rfx-draw [--svg] [--script SCRIPT] [FILE] | --legend\n";
 
@@ -37,76 +37,44 @@ pub enum Failure {
     Trace(TraceFault),
 }
 
-/// The words for what is wrong with a trace.
-fn fault_words(fault: Fault) -> &'static str
-    ensures { result.now ≡ fault_words fault }
+/// A fault with its line and its number. `start` is what stands before them.
+fn write_fault<'a, E: Write>(
+    err: &mut E,
+    start: &'a str,
+    line: usize,
+    number: u8,
+    words: &'a str,
+) -> io::Result<()>
+    ensures { Leaves (E.contents err.old) (E.contents err.new) result (fault_text start.now line number words.now) }
 {
-    match fault {
-        Fault::NotUtf8 => "not UTF-8",
-        Fault::UnknownWord => "unknown word",
-        Fault::OutOfRange => "number out of range",
-        Fault::TooLong => "too long",
-        Fault::Cut => "cut",
-        Fault::OutOfMemory => "out of memory",
-    }
-}
-
-/// `rfx-draw: line L: fault N: TEXT`.
-fn write_fault<E: Write>(err: &mut E, at: TraceFault) -> io::Result<()>
-    ensures { Leaves (E.contents err.old) (E.contents err.new) result (fault_text at) }
-{
-    let mut lines = Buffer::new();
-    let mut numbers = Buffer::new();
-    let line = lines.format(at.line);
-    let number = numbers.format(at.fault.number());
-    put(
+    put_pieces(
         err,
         &[
-            "rfx-draw: line ",
-            line,
-            ": fault ",
-            number,
-            ": ",
-            fault_words(at.fault),
-            "\n",
+            Word(start),
+            Number(line as u64),
+            Word(": fault "),
+            Number(number.into()),
+            Word(": "),
+            Word(words),
+            Word("\n"),
         ],
     )
-}
-
-/// The words for what is wrong with a script.
-fn script_words(fault: script::Fault) -> &'static str
-    ensures { result.now ≡ script_words fault }
-{
-    match fault {
-        script::Fault::NotUtf8 => "not UTF-8",
-        script::Fault::UnknownWord => "unknown word",
-        script::Fault::OutOfRange => "number out of range",
-        script::Fault::NoSuchName => "no such name",
-        script::Fault::TooLong => "too long",
-        script::Fault::OutOfMemory => "out of memory",
-    }
 }
 
 /// `rfx-draw: script: line L: fault N: TEXT`.
 fn write_script_fault<E: Write>(err: &mut E, at: ScriptFault) -> io::Result<()>
     ensures { Leaves (E.contents err.old) (E.contents err.new) result (script_text at) }
 {
-    let mut lines = Buffer::new();
-    let mut numbers = Buffer::new();
-    let line = lines.format(at.line);
-    let number = numbers.format(at.fault.number());
-    put(
-        err,
-        &[
-            "rfx-draw: script: line ",
-            line,
-            ": fault ",
-            number,
-            ": ",
-            script_words(at.fault),
-            "\n",
-        ],
-    )
+    let start = "rfx-draw: script: line ";
+    write_fault(err, start, at.line, at.fault.number(), at.fault.words())
+}
+
+/// `rfx-draw: line L: fault N: TEXT`.
+fn write_trace_fault<E: Write>(err: &mut E, at: TraceFault) -> io::Result<()>
+    ensures { Leaves (E.contents err.old) (E.contents err.new) result (trace_text at) }
+{
+    let start = "rfx-draw: line ";
+    write_fault(err, start, at.line, at.fault.number(), at.fault.words())
 }
 
 /// The message of a failure to draw this file.
@@ -120,7 +88,7 @@ fn write_failure<E: Write>(err: &mut E, file: &str, failure: Failure) -> io::Res
         Failure::OutOfMemory => put(err, &[OUT_OF_MEMORY]),
         Failure::Script(at) => write_script_fault(err, at),
         Failure::Unlike => put(err, &[UNLIKE]),
-        Failure::Trace(at) => write_fault(err, at),
+        Failure::Trace(at) => write_trace_fault(err, at),
     }
 }
 

@@ -15,7 +15,7 @@ use Rattle.explain.specs.declared.explanation.Title.{Title}
 use Rattle.explain.specs.declared.explanation.Title.TheVariants.{Good, Script, Legal, Illegal, Trace}
 use Rattle.explain.specs.declared.explanation.Mark.{Mark}
 use Rattle.explain.specs.declared.explanation.Explanation.{Explanation}
-use Rattle.explain.specs.Words.{expected_words, mode_words, script_words, trace_words}
+use Rattle.explain.specs.Words.{expected_words, mode_words}
 use Rattle.explain.specs.Misfits.{misfit_text}
 use Rattle.explain.specs.Notes.{note_text}
 use Rattle.explain.specs.Shown.{columns, shown}
@@ -39,10 +39,10 @@ abbrev pub fault_text : ℕ → List ℕ → List ℕ
 fault_text number words = concat (codes "fault " ∷ decimal number ∷ codes ": " ∷ words ∷ [])
 
 abbrev pub script_text : List ℕ → Mode → ScriptFault → List ℕ
-script_text file k e = place_text file e.line ++ (fault_text (script.number_of e.fault) (script_words e.fault) ++ concat (codes " (a script for " ∷ mode_words k ∷ codes ")\n" ∷ []))
+script_text file k e = place_text file e.line ++ (fault_text (script.number_of e.fault) (script.words_of e.fault) ++ concat (codes " (a script for " ∷ mode_words k ∷ codes ")\n" ∷ []))
 
 abbrev pub trace_text : List ℕ → TraceFault → List ℕ
-trace_text file e = place_text file e.line ++ (fault_text (traces.number_of e.fault) (trace_words e.fault) ++ concat (codes " (a trace)\n" ∷ []))
+trace_text file e = place_text file e.line ++ (fault_text (traces.number_of e.fault) (traces.words_of e.fault) ++ concat (codes " (a trace)\n" ∷ []))
 
 abbrev pub legal_text : List ℕ → ℕ → List ℕ
 legal_text file points = concat (file ∷ codes ": a legal trace, of " ∷ decimal points ∷ codes " points\n" ∷ [])

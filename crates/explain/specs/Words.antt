@@ -2,10 +2,6 @@
 use Rattle.std.specs.Prelude.{ℕ, List, codes}
 use Rattle.script.specs.declared.command.Mode.{Mode}
 use Rattle.script.specs.declared.command.Mode.TheVariants.{Run, Threads}
-use Rattle.script.specs.declared.fault.Fault.{Fault}
-use Rattle.script.specs.declared.fault.Fault.TheVariants as fault
-use Rattle.verdict.specs.declared.fault.Fault.{Fault as TraceFault'}
-use Rattle.verdict.specs.declared.fault.Fault.TheVariants as of_trace
 use Rattle.wording.specs.declared.next.Next.{Next}
 use Rattle.wording.specs.declared.next.Next.TheVariants as next
 use Rattle.explain.specs.declared.explanation.Things.{Things}
@@ -20,22 +16,6 @@ things_words things.Processes = codes "process"
 things_words things.Threads = codes "thread"
 things_words things.Mutexes = codes "mutex"
 things_words things.Conditions = codes "condition variable"
-
-abbrev pub script_words : Fault → List ℕ
-script_words fault.NotUtf8 = codes "not UTF-8"
-script_words fault.UnknownWord = codes "unknown word"
-script_words fault.OutOfRange = codes "number out of range"
-script_words fault.NoSuchName = codes "no such name"
-script_words fault.TooLong = codes "too long"
-script_words fault.OutOfMemory = codes "out of memory"
-
-abbrev pub trace_words : TraceFault' → List ℕ
-trace_words of_trace.NotUtf8 = codes "not UTF-8"
-trace_words of_trace.UnknownWord = codes "unknown word"
-trace_words of_trace.OutOfRange = codes "number out of range"
-trace_words of_trace.TooLong = codes "too long"
-trace_words of_trace.Cut = codes "cut"
-trace_words of_trace.OutOfMemory = codes "out of memory"
 
 abbrev pub a_name : List ℕ
 a_name = codes "a name: 1 to 16 of a to z, 0 to 9 and _, the first a letter"

@@ -9,7 +9,7 @@ use crate::explanation::{Explanation, Mark, Title};
 use crate::misfits::add_misfit;
 use crate::notes::add_note;
 use crate::quoting::line_of;
-use crate::words::{expected_words, mode_words, script_words, trace_words};
+use crate::words::{expected_words, mode_words};
 use itoa::Buffer;
 use script::{Mode, ScriptFault};
 use std::alloc::{AllocError, Global};
@@ -62,7 +62,7 @@ fn add_script(
     ensures { OnOk result (text.new.items ≡ text.old.items ++ script_text file.now mode fault) }
 {
     add_place(text, file, fault.line)?;
-    add_fault(text, fault.fault.number(), script_words(fault.fault))?;
+    add_fault(text, fault.fault.number(), fault.fault.words())?;
     add(text, &[" (a script for ", mode_words(mode), ")\n"])
 }
 
@@ -71,7 +71,7 @@ fn add_trace(text: &mut Vec<u8>, file: &str, fault: TraceFault) -> Result<(), Al
     ensures { OnOk result (text.new.items ≡ text.old.items ++ trace_text file.now fault) }
 {
     add_place(text, file, fault.line)?;
-    add_fault(text, fault.fault.number(), trace_words(fault.fault))?;
+    add_fault(text, fault.fault.number(), fault.fault.words())?;
     add(text, &[" (a trace)\n"])
 }
 

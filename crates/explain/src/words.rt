@@ -1,7 +1,7 @@
 //! The words of what is told.
 
 ghost use Rattle.std.specs.Prelude.{◌≡◌};
-ghost use Rattle.explain.specs.Words.{expected_words, mode_words, script_words, things_words, trace_words};
+ghost use Rattle.explain.specs.Words.{expected_words, mode_words, things_words};
 
 use crate::explanation::Things;
 use script::Mode;
@@ -25,34 +25,6 @@ pub fn things_words(things: Things) -> &'static str
         Things::Threads => "thread",
         Things::Mutexes => "mutex",
         Things::Conditions => "condition variable",
-    }
-}
-
-/// A script's fault.
-pub fn script_words(fault: script::Fault) -> &'static str
-    ensures { result.now ≡ script_words fault }
-{
-    match fault {
-        script::Fault::NotUtf8 => "not UTF-8",
-        script::Fault::UnknownWord => "unknown word",
-        script::Fault::OutOfRange => "number out of range",
-        script::Fault::NoSuchName => "no such name",
-        script::Fault::TooLong => "too long",
-        script::Fault::OutOfMemory => "out of memory",
-    }
-}
-
-/// A trace's fault.
-pub fn trace_words(fault: verdict::Fault) -> &'static str
-    ensures { result.now ≡ trace_words fault }
-{
-    match fault {
-        verdict::Fault::NotUtf8 => "not UTF-8",
-        verdict::Fault::UnknownWord => "unknown word",
-        verdict::Fault::OutOfRange => "number out of range",
-        verdict::Fault::TooLong => "too long",
-        verdict::Fault::Cut => "cut",
-        verdict::Fault::OutOfMemory => "out of memory",
     }
 }
 

@@ -1,5 +1,5 @@
 -- Why replies come, and that they do.
-use Rattle.std.proofs.Common.{◌≡◌, ◌≢◌, ◌⊎◌, inl, inr, ℕ, ◌&&◌, Bool, true, false, nat_le, MatchBool, Option, Some, None, refl, ap, ◌∙◌, sym}
+use Rattle.std.proofs.Common.{◌≡◌, ◌≢◌, ◌≤◌, ◌↔◌, ◌⊎◌, inl, inr, ℕ, ◌&&◌, Bool, true, false, nat_le, MatchBool, Option, Some, None, refl, ap, ◌∙◌, sym, subst, arith}
 use mathlib.Core.Logic.{dite}
 use native.Mathlib.Decide.{ℕ_discrete}
 use Rattle.lockword.specs.declared.reply.Reply.{Reply}
@@ -7,7 +7,7 @@ use Rattle.lockword.specs.declared.reply.Reply.TheVariants.{OK, EPERM, EBUSY, EI
 use Rattle.posixmutex.specs.declared.object.Object.{Object}
 use Rattle.posixmutex.specs.declared.point.Operation.{Operation}
 use Rattle.posixmutex.specs.declared.point.Operation.TheVariants.{Lock, TryLock, Unlock, Consistent, Wait, Signal, Broadcast, Death, Reinit}
-use Rattle.posixmutex.specs.Objects.{Permits, Does, acquires, bereaved, declared_consistent, freed, fresh, owned_by, CallsAreAnswered, HasReason, IsUnanswered, RepliesHaveReasons}
+use Rattle.posixmutex.specs.Objects.{Permits, Does, acquires, bereaved, declared_consistent, freed, fresh, owned_by, CallsAreAnswered, HasReason, IsUnanswered, LimitIsExact, RepliesHaveReasons}
 
 permitted : (held : ℕ) (o : Object) (t : ℕ) (op : Operation) (r : Reply) (n : Object) → Permits o t op r n → HasReason held o t op r
 permitted held o t Lock OK n p = (p.1, p.2, p.0)
@@ -56,6 +56,29 @@ replies held o t op r n h = by_cases (acquires op && nat_le 2048 held) refl h wh
   by_cases : (b : Bool) → (acquires op && nat_le 2048 held) ≡ b → MatchBool b ((r ≡ XHELD) × (n ≡ o)) (Permits o t op r n) → HasReason held o t op r
   by_cases true e h = at_limit held o t op r (first (acquires op) (nat_le 2048 held) e) (second (acquires op) (nat_le 2048 held) e) h.0
   by_cases false e h = permitted held o t op r n h
+
+-- ---- that X_HELD comes exactly at the limit
+
+never_held : (o : Object) (t : ℕ) (op : Operation) (n : Object) → Permits o t op XHELD n → ⊥
+never_held o t Lock n p = absurd p
+never_held o t TryLock n p = absurd p
+never_held o t Unlock n p = absurd p
+never_held o t Consistent n p = absurd p
+never_held o t Wait n p = absurd p
+never_held o t Signal n p = absurd p
+never_held o t Broadcast n p = absurd p
+never_held o t Death n p = absurd p
+never_held o t Reinit n p = absurd p
+
+both : (a : Bool) (held : ℕ) → a ≡ true → 2048 ≤ held → (a && nat_le 2048 held) ≡ true
+both true held e le = grind arith
+both false held e le = absurd (cc e)
+
+pub limit : LimitIsExact
+limit held o t op r n h = by_cases (acquires op && nat_le 2048 held) refl h where
+  by_cases : (b : Bool) → (acquires op && nat_le 2048 held) ≡ b → MatchBool b ((r ≡ XHELD) × (n ≡ o)) (Permits o t op r n) → (r ≡ XHELD) ↔ ((acquires op ≡ true) × (2048 ≤ held))
+  by_cases true e h = let full : nat_le 2048 held ≡ true = second (acquires op) (nat_le 2048 held) e in ((λ told. (first (acquires op) (nat_le 2048 held) e, grind arith)), (λ at. h.0))
+  by_cases false e h = ((λ told. absurd (never_held o t op n (subst (λ (x : Reply). Permits o t op x n) told h))), (λ at. let full : (acquires op && nat_le 2048 held) ≡ true = both (acquires op) held at.0 at.1 in absurd (cc (full, e))))
 
 -- ---- that they come
 

@@ -1,6 +1,6 @@
 -- A robust mutex as POSIX sees it (pthread_mutex_lock, pthread_mutex_trylock, pthread_mutex_unlock,
 -- pthread_mutex_consistent, pthread_mutex_destroy), with no bits.
-use Rattle.std.specs.Prelude.{ℕ, zero, suc, ◌≡◌, ◌≢◌, Bool, true, false, ◌&&◌, ◌||◌, ◌⊎◌, nat_le, if◌then◌else◌, MatchBool, Option, Some, None, List, [], ◌∷◌}
+use Rattle.std.specs.Prelude.{ℕ, zero, suc, ◌≡◌, ◌≢◌, Bool, true, false, ◌&&◌, ◌||◌, ◌⊎◌, ◌↔◌, ◌≤◌, nat_le, if◌then◌else◌, MatchBool, Option, Some, None, List, [], ◌∷◌}
 use Rattle.lockword.specs.Cells.{Fields}
 use Rattle.lockword.specs.declared.reply.Reply.{Reply}
 use Rattle.lockword.specs.declared.reply.Reply.TheVariants.{OK, EPERM, EBUSY, EINVAL, EDEADLK, EOWNERDEAD, ENOTRECOVERABLE, XRACED, XHELD, XFULL, XSTATE}
@@ -142,6 +142,12 @@ HasReason held o t op r = ⊥
 
 abbrev pub RepliesHaveReasons : Type 0
 RepliesHaveReasons = (held : ℕ) (o : Object) (t : ℕ) (op : Operation) (r : Reply) (n : Object) → Does held o t op r n → HasReason held o t op r
+
+-- X_HELD is the reply of a lock or trylock whose thread holds 2,048 mutexes or more, and of no other call: as many as
+-- there are entries that the kernel walks (ROBUST_LIST_LIMIT; robust-futexes)
+abbrev pub LimitIsExact : Type 0
+LimitIsExact = (held : ℕ) (o : Object) (t : ℕ) (op : Operation) (r : Reply) (n : Object) → Does held o t op r n
+    → (r ≡ XHELD) ↔ ((acquires op ≡ true) × (2048 ≤ held))
 
 -- what isn't answered: a lock of a mutex that another thread owns, a wait that releases its mutex (as an unlock), a
 -- death of who isn't the owner, and a reinit of a mutex that isn't unusable

@@ -1,6 +1,6 @@
 //! The robust mutex as an object, with no bits: what each operation may answer, and what it leaves.
 ghost use Rattle.std.specs.Prelude.{◌≡◌, true, false, MatchOption};
-ghost use Rattle.posixmutex.specs.Objects.{CallsAreAnswered, ChangesHaveReasons, RepliesHaveReasons, StepsAreDetermined};
+ghost use Rattle.posixmutex.specs.Objects.{CallsAreAnswered, ChangesHaveReasons, LimitIsExact, RepliesHaveReasons, StepsAreDetermined};
 
 use crate::point::Operation;
 use lockword::{Reply, Tid};
@@ -198,6 +198,12 @@ pub fn changes_have_reasons()
 /// it may, and so on.
 pub fn replies_have_reasons()
     ensures { RepliesHaveReasons }
+{}
+
+/// X_HELD is the reply of a lock or trylock whose thread holds 2,048 mutexes or more, and of no other call: the kernel
+/// walks so many entries of a dead thread's list (robust-futexes).
+pub fn limit_is_exact()
+    ensures { LimitIsExact }
 {}
 
 /// Every call has a reply, but a lock of a mutex that another thread owns, which sleeps, and a wait that isn't refused,

@@ -1,5 +1,5 @@
 -- The parts that phases add, one after the other.
-use Rattle.std.proofs.Common.{◌≡◌, ℕ, ◌+◌, ◌<◌, ◌≤◌, Bool, true, false, List, [], ◌∷◌, ◌++◌, length, map, slice_get, Vec, refl, sym, ap, ◌∙◌, subst, arith, append_assoc, append-nil}
+use Rattle.std.proofs.Common.{◌≡◌, ℕ, zero, suc, ◌+◌, ◌<◌, ◌≤◌, Bool, true, false, List, [], ◌∷◌, ◌++◌, length, map, take, slice_get, Vec, refl, sym, ap, ◌∙◌, subst, arith, append_assoc, append-nil}
 use Rattle.std.specs.Prelude.{◌||◌}
 use Rattle.std.specs.declared.alloc.Global.{Global}
 use Rattle.lockword.specs.declared.reply.Reply.{Reply}
@@ -42,18 +42,19 @@ parts_same k g g' e e' (calls ∷ phases) (q ∷ parts) gs es are = (
   parts_same k (λ i. g i || q.died i) (λ i. g' i || q.died i) (λ m. e m ++ q.points m) (λ m. e' m ++ q.points m) phases parts (λ i low. ap (λ (b : Bool). b || q.died i) (gs i low)) (λ m low. ap (λ (l : List Point). l ++ q.points m) (es m low)) are.1,
 )
 
--- ---- phases in each of which one thread has calls
+-- ---- first phases in each of which one thread has calls
 
 -- calls on mutexes that there are
 abbrev pub AreWithin : Layout' → List Phase → Type 0
 AreWithin k [] = Unit {0}
 AreWithin k (p ∷ ps) = ((t : ℕ) → Within k (calls_in t p)) × AreWithin k ps
 
--- from mutexes that all threads have seen so, and counters whose changes they know, and where nobody holds anything else
-abbrev pub LoneFrom : Words → ℕ → List Phase → List Worker → List (List Point) → List (List Change) → List Part → List (List Point) → List (List Change) → Type 0
-LoneFrom w n ps us seen changes parts last changed = (is : List ℕ) → AreLone n (map calls_of ps) is → AreWithin (layout_of w) ps → (os : ℕ → Object) → (vs : ℕ → ℕ) → AreKnown (layout_of w) changes vs → ((m : ℕ) → m < (layout_of w).mutexes → Run fresh (at seen (cell_place (layout_of w) m)) (os m))
+-- the first c of phases, from mutexes that all threads have seen so, and counters whose changes they know, and where nobody holds anything else
+abbrev pub LoneFrom : Words → ℕ → List Phase → List Worker → List (List Point) → List (List Change) → List Part → List (List Change) → Type 0
+LoneFrom w n ps us seen changes parts changed = (c : ℕ) (is : List ℕ) → AreLone n (take c (map calls_of ps)) is → AreWithin (layout_of w) ps → (os : ℕ → Object) → (vs : ℕ → ℕ) → AreKnown (layout_of w) changes vs → ((m : ℕ) → m < (layout_of w).mutexes → Run fresh (at seen (cell_place (layout_of w) m)) (os m))
     → ((j : ℕ) → j < n → gone_at us j ≡ false → (x : ℕ) → IsNoCell (layout_of w) x → by (j + 1) (at seen x) ≡ [])
-    → (os' : ℕ → Object) × (vs' : ℕ → ℕ) × ArePlayed (layout_of w) (gone_at us) os vs (map calls_of ps) is parts os' vs' × ((m : ℕ) → m < (layout_of w).mutexes → Run fresh (at last (cell_place (layout_of w) m)) (os' m)) × AreKnown (layout_of w) changed vs'
+    → (os' : ℕ → Object) × (vs' : ℕ → ℕ) × ArePlayed (layout_of w) (gone_at us) os vs (take c (map calls_of ps)) is (take c parts) os' vs'
+    × ((m : ℕ) → m < (layout_of w).mutexes → Run fresh (at seen (cell_place (layout_of w) m) ++ points_through m (take c parts)) (os' m)) × (length ps ≤ c → AreKnown (layout_of w) changed vs')
 
 pub played_same : (k : Layout') (n : ℕ) (g g' : ℕ → Bool) (os : ℕ → Object) (vs : ℕ → ℕ) (phases : List (ℕ → List Op)) (is : List ℕ) (parts : List Part) (os' : ℕ → Object) (vs' : ℕ → ℕ) → ((j : ℕ) → j < n → g j ≡ g' j) → AreLone n phases is → ArePlayed k g os vs phases is parts os' vs' → ArePlayed k g' os vs phases is parts os' vs'
 played_same k n g g' os vs [] [] [] os' vs' same lone played = played
@@ -69,19 +70,28 @@ played_same k n g g' os vs (calls ∷ phases) (i ∷ is) (q ∷ parts) os' vs' s
   played_same k n (λ j. g j || q.died j) (λ j. g' j || q.died j) played.1 played.2 phases is parts os' vs' (λ j low. ap (λ (b : Bool). b || q.died j) (same j low)) lone.1 played.4,
 )
 
-lone_none : (w : Words) (n : ℕ) (us : List Worker) (seen : List (List Point)) (changes : List (List Change)) → LoneFrom w n [] us seen changes [] seen changes
-lone_none w n us seen changes [] lone within os vs known stand quiet = (os, vs, (refl, refl), stand, known)
-lone_none w n us seen changes (i ∷ is) lone within os vs known stand quiet = absurd lone
+-- no phase leaves all as it was
+none_played : (k : Layout') (n : ℕ) (g : ℕ → Bool) (seen : List (List Point)) (is : List ℕ) (os : ℕ → Object) (vs : ℕ → ℕ) → AreLone n [] is → ((m : ℕ) → m < k.mutexes → Run fresh (at seen (cell_place k m)) (os m))
+    → ArePlayed k g os vs [] is [] os vs × ((m : ℕ) → m < k.mutexes → Run fresh (at seen (cell_place k m) ++ []) (os m))
+none_played k n g seen [] os vs lone stand = ((refl, refl), λ m low. subst (λ (l : List Point). Run fresh l (os m)) (sym (append-nil (at seen (cell_place k m)))) (stand m low))
+none_played k n g seen (i ∷ is) os vs lone stand = absurd lone
+
+lone_none : (w : Words) (n : ℕ) (us : List Worker) (seen : List (List Point)) (changes : List (List Change)) → LoneFrom w n [] us seen changes [] changes
+lone_none w n us seen changes zero is lone within os vs known stand quiet = let none = none_played (layout_of w) n (gone_at us) seen is os vs lone stand in (os, vs, none.0, none.1, λ all. known)
+lone_none w n us seen changes (suc c) is lone within os vs known stand quiet = let none = none_played (layout_of w) n (gone_at us) seen is os vs lone stand in (os, vs, none.0, none.1, λ all. known)
 
 -- one phase before
-lone_before : (w : Words) (n : ℕ) (p : Phase) (ps : List Phase) (us met : List Worker) (rs rs' : List (Vec Reply Global)) (seen last : List (List Point)) (changed : List (List Change)) (parts : List Part) (h : HasPassed w p us met rs rs') (abreast : AreAbreast n seen us) → length rs ≡ n → (layout_of w).threads ≡ n → LoneFrom w n ps met h.meeting.know.seen h.meeting.know.changes parts last changed
-    → LoneFrom w n (p ∷ ps) us seen abreast.changes (part_of (layout_of w) seen h.meeting.know.seen us h.worked rs rs' ∷ parts) last changed
-lone_before w n p ps us met rs rs' seen last changed parts h abreast long all rest [] lone within os vs known stand quiet = absurd lone
-lone_before w n p ps us met rs rs' seen last changed parts h abreast long all rest (i ∷ is) lone within os vs known stand quiet =
+lone_before : (w : Words) (n : ℕ) (p : Phase) (ps : List Phase) (us met : List Worker) (rs rs' : List (Vec Reply Global)) (seen : List (List Point)) (changed : List (List Change)) (parts : List Part) (h : HasPassed w p us met rs rs') (abreast : AreAbreast n seen us) → length rs ≡ n → (layout_of w).threads ≡ n → LoneFrom w n ps met h.meeting.know.seen h.meeting.know.changes parts changed
+    → LoneFrom w n (p ∷ ps) us seen abreast.changes (part_of (layout_of w) seen h.meeting.know.seen us h.worked rs rs' ∷ parts) changed
+lone_before w n p ps us met rs rs' seen changed parts h abreast long all rest zero is lone within os vs known stand quiet =
+    let none = none_played (layout_of w) n (gone_at us) seen is os vs lone stand in (os, vs, none.0, none.1, λ most. absurd (omega (arith, most)))
+lone_before w n p ps us met rs rs' seen changed parts h abreast long all rest (suc c) [] lone within os vs known stand quiet = absurd lone
+lone_before w n p ps us met rs rs' seen changed parts h abreast long all rest (suc c) (i ∷ is) lone within os vs known stand quiet =
     let k : Layout' = layout_of w in
     let q : Part = part_of k seen h.meeting.know.seen us h.worked rs rs' in
     let first = phase_played w n p us met rs rs' seen h abreast long all i lone.0 os vs known stand quiet (within.0 (i + 1)) in
-    let more = rest is lone.1 within.1 first.mid first.counters first.known first.is first.quiet in
+    let more = rest c is lone.1 within.1 first.mid first.counters first.known first.is first.quiet in
+    let its = passes_as w n i seen p us met rs rs' h abreast long lone.0.inside in
     let dead : (j : ℕ) → j < n → gone_at met j ≡ (gone_at us j || q.died j) = λ j low. (passes_as w n j seen p us met rs rs' h abreast long low).dead in (
       more.0,
       more.1,
@@ -90,10 +100,10 @@ lone_before w n p ps us met rs rs' seen last changed parts h abreast long all re
         first.mid,
         first.counters,
         first.plays,
-        played_same k n (gone_at met) (λ j. gone_at us j || q.died j) first.mid first.counters (map calls_of ps) is parts more.0 more.1 dead lone.1 more.2,
+        played_same k n (gone_at met) (λ j. gone_at us j || q.died j) first.mid first.counters (take c (map calls_of ps)) is (take c parts) more.0 more.1 dead lone.1 more.2,
       ),
-      more.3,
-      more.4,
+      λ m low. subst (λ (l : List Point). Run fresh l (more.0 m)) (ap (λ (l : List Point). l ++ points_through m (take c parts)) (its.on m low) ∙ append_assoc (at seen (cell_place k m)) (q.points m) (points_through m (take c parts))) (more.3 m low),
+      λ most. more.4 (omega (arith, most)),
     )
 
 -- the parts of phases, from what threads had seen and were replied before them
@@ -105,7 +115,7 @@ pub record Through (w : Words) (n : ℕ) (ps : List Phase) (us vs : List Worker)
   pub answered : (i : ℕ) → i < n → items_at rs' i ≡ items_at rs i ++ replies_through i parts
   pub dead : (i : ℕ) → i < n → gone_at vs i ≡ (gone_at us i || some_died i parts)
   pub abreast : AreAbreast n last vs
-  pub lone : LoneFrom w n ps us seen changes parts last abreast.changes
+  pub lone : LoneFrom w n ps us seen changes parts abreast.changes
 
 pub through : (w : Words) (n : ℕ) (ps : List Phase) (us vs : List Worker) (rs rs' : List (Vec Reply Global)) (seen : List (List Point)) → (layout_of w).threads ≡ n → 1 ≤ n → (abreast : AreAbreast n seen us) → length rs ≡ n → HavePassed w ps us rs vs rs' → Through w n ps us vs rs rs' seen abreast.changes
 through w n [] us vs rs rs' seen all some abreast long passed = record {
@@ -139,5 +149,5 @@ through w n (p ∷ ps) us vs rs rs' seen all some abreast long passed =
       answered = λ i low. rest.answered i low ∙ ap (λ (l : List Reply). l ++ replies_through i rest.parts) (passes_as w n i seen p us met rs more h abreast long low).answered ∙ append_assoc (items_at rs i) (q.replies i) (replies_through i rest.parts);
       dead = λ i low. rest.dead i low ∙ ap (λ (b : Bool). b || some_died i rest.parts) (passes_as w n i seen p us met rs more h abreast long low).dead ∙ or_assoc (gone_at us i) (q.died i) (some_died i rest.parts);
       abreast = rest.abreast;
-      lone = lone_before w n p ps us met rs more seen rest.last rest.abreast.changes rest.parts h abreast long all rest.lone;
+      lone = lone_before w n p ps us met rs more seen rest.abreast.changes rest.parts h abreast long all rest.lone;
     }

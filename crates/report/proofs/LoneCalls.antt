@@ -31,7 +31,7 @@ use Rattle.ruledwords.specs.Counts.{cell_at}
 use Rattle.ruledwords.specs.Deaths.{deaths}
 use Rattle.ruledwords.specs.OwnWords.{owns_in}
 use Rattle.ruledwords.specs.Seen.{by, count_held, held, held_after, holds, points_of, AllOf, Called, Died, Saw}
-use Rattle.threadbench.specs.Answered.{Answered, Replied}
+use Rattle.threadbench.specs.Answered.{Answered, DiesIn, Replied}
 use Rattle.threadbench.specs.Conditions.{TookAgain}
 use Rattle.threadbench.specs.Jobs.{WasLost}
 use Rattle.report.specs.Lone.{answer, answer_to, behind, bereft, counter_of, counters_behind, AreAnswered, IsAnswer, IsByCounter}
@@ -368,8 +368,19 @@ module _ (k : Layout') (t : ℕ) (seen' : List (List Point)) (changes' : List (L
 
   -- ---- its death
 
+  -- in a lock or a trylock it wasn't refused
+  never_refused : (c dead : Card) (os : ℕ → Object) (call : Op) → Stands c os → DiesIn k c call dead → acquires (operation_of call) ≡ true → nat_le held_limit (held_by t os k.mutexes) ≡ false
+  never_refused c dead os (OnMutex (Lock m)) s dies takes = ap (nat_le held_limit) (sym (held_is c os s)) ∙ dies.0
+  never_refused c dead os (OnMutex (TryLock m)) s dies takes = ap (nat_le held_limit) (sym (held_is c os s)) ∙ dies.0
+  never_refused c dead os (OnMutex (Unlock m)) s dies takes = absurd (cc takes)
+  never_refused c dead os (OnMutex (Consistent m)) s dies takes = absurd (cc takes)
+  never_refused c dead os (OnCondition (Wait q)) s dies takes = absurd (cc takes)
+  never_refused c dead os (OnCondition (Signal q)) s dies takes = absurd (cc takes)
+  never_refused c dead os (OnCondition (Broadcast q)) s dies takes = absurd (cc takes)
+
   -- the mutexes as its death leaves them, and who has seen that
   pub record LeftBehind (os os' : ℕ → Object) (call : Op) (d : Card) (n : List Act) : Type 0 where
+    pub few : acquires (operation_of call) ≡ true → nat_le held_limit (held_by t os k.mutexes) ≡ false
     pub acts : List Act
     pub counts : acts ≡ n
     pub begun : Beginning (operation_of call) acts
@@ -380,7 +391,7 @@ module _ (k : Layout') (t : ℕ) (seen' : List (List Point)) (changes' : List (L
     pub is : (m : ℕ) → m < k.mutexes → Run fresh (at d.seen (cell_place k m)) (os' m)
 
   pub died_alone : (c d : Card) (os : ℕ → Object) (call : Op) → mutex_of k call < k.mutexes → Stands c os → (was : WasLost k c call d) → Tails d → (os' : ℕ → Object) × LeftBehind os os' call d (acts_in k t changes' c call was.dead was.died)
-  died_alone c d os call low s was tails = (after, record { acts = died.acts; counts = refl; begun = died.beginning; left = on.0; decided = on.1; after = refl; thread = was.reaped.thread ∙ still.thread; is = λ l lower. told l lower (owns_in k was.dead l) refl }) where
+  died_alone c d os call low s was tails = (after, record { few = never_refused c was.dead os call s was.died; acts = died.acts; counts = refl; begun = died.beginning; left = on.0; decided = on.1; after = refl; thread = was.reaped.thread ∙ still.thread; is = λ l lower. told l lower (owns_in k was.dead l) refl }) where
     m : ℕ
     m = mutex_of k call
 

@@ -140,6 +140,7 @@ module _ (w : Words) (t : ℕ) (seen' : List (List Point)) (changes' : List (Lis
             before = did.0;
             counters = did.1;
             told = did.2;
+            few = left.few;
             acts = left.acts;
             begun = left.begun;
             left = left.left;

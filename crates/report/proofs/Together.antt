@@ -1,5 +1,5 @@
 -- What threads were told, and which of them died, stands in one history, phase by phase.
-use Rattle.std.proofs.Common.{◌≡◌, ℕ, zero, suc, ◌+◌, ◌-◌, ◌<◌, ◌≤◌, Bool, false, Option, Some, List, [], ◌∷◌, ◌++◌, length, map, get_or, slice_get, Vec, All, refl, sym, ap, ◌∙◌, subst, arith, append-nil, eq-eqb}
+use Rattle.std.proofs.Common.{◌≡◌, ℕ, zero, suc, ◌+◌, ◌-◌, ◌<◌, ◌≤◌, Bool, false, Option, Some, List, [], ◌∷◌, ◌++◌, length, map, take, get_or, slice_get, Vec, All, refl, sym, ap, ◌∙◌, subst, arith, append-nil, eq-eqb}
 use Rattle.std.specs.Prelude.{◌||◌, if◌then◌else◌}
 use Rattle.std.proofs.lemmas.Option.{slice_get_within}
 use Rattle.std.specs.declared.alloc.Global.{Global}
@@ -35,7 +35,7 @@ use Rattle.report.proofs.Parts.{by_append, calls_through, counted, lived, points
 use Rattle.report.proofs.InOrder.{AreWithin, Through, parts_same, played_same, through}
 use Rattle.report.proofs.LoneCounters.{made_none}
 use Rattle.report.proofs.LonePhases.{AreKnown}
-use Rattle.report.proofs.Passed.{AreAbreast, gone_at, gone_is, items_are, items_at}
+use Rattle.report.proofs.Passed.{calls_of, AreAbreast, gone_at, gone_is, items_are, items_at}
 use Rattle.report.proofs.Phases.{all_at, its_end, length_mapped, some_at}
 use Rattle.report.proofs.Told.{counted_up}
 use Rattle.report.proofs.Within.{all_within}
@@ -81,10 +81,10 @@ known_first k presets many q low = (
   refl,
 )
 
-tied_at : (xs : List (List Change)) (cs : List Card) (i : ℕ) (c : Card) → AllTied xs cs → slice_get cs i ≡ Some c → Tied xs c.thread c.changes
-tied_at xs [] i c tied is = absurd (cc is)
-tied_at xs (d ∷ cs) zero c tied is = let same : d ≡ c = cc is in subst (λ (z : Card). Tied xs z.thread z.changes) same tied.0
-tied_at xs (d ∷ cs) (suc i) c tied is = tied_at xs cs i c tied.1 is
+tied_at : (n : ℕ) (xs : List (List Change)) (cs : List Card) (i : ℕ) (c : Card) → AllTied n xs cs → slice_get cs i ≡ Some c → Tied n xs c.thread c.changes
+tied_at n xs [] i c tied is = absurd (cc is)
+tied_at n xs (d ∷ cs) zero c tied is = let same : d ≡ c = cc is in subst (λ (z : Card). Tied n xs z.thread z.changes) same tied.0
+tied_at n xs (d ∷ cs) (suc i) c tied is = tied_at n xs cs i c tied.1 is
 
 -- changes by these threads of which none of them made one are none
 nobodys_at_all : (n : ℕ) (xs ys : List Change) → AreBy n (xs ++ ys) → ((t : ℕ) → 1 ≤ t → t ≤ n → made_by t ys ≡ []) → ys ≡ []
@@ -174,8 +174,8 @@ module _ (w : Words) (ps : List Phase) (passes : List (Pass Live)) (dies : List 
       all_within (layout_of w) ps (layout_is v.0.pass (all_at (λ (z : Worker). IsWorkerOf w z.pass) workers 0 v.0 made.right v.1)) possible
 
   -- a thread's card at the end
-  its_card : (i : ℕ) (v : Worker) → slice_get workers i ≡ Some v → Tied ended.ends.changes (card_in v.pass).thread (card_in v.pass).changes
-  its_card i v is = tied_at ended.ends.changes (map (λ (z : Worker). card_in z.pass) workers) i (card_in v.pass) ended.ends.tied (mapped_at (λ (z : Worker). card_in z.pass) workers i v is)
+  its_card : (i : ℕ) (v : Worker) → slice_get workers i ≡ Some v → Tied (layout_of w).threads ended.ends.changes (card_in v.pass).thread (card_in v.pass).changes
+  its_card i v is = tied_at (layout_of w).threads ended.ends.changes (map (λ (z : Worker). card_in z.pass) workers) i (card_in v.pass) ended.ends.tied (mapped_at (λ (z : Worker). card_in z.pass) workers i v is)
 
   -- the last changes of a counter are just what all know behind the last phase
   changed_last : (vs : ℕ → ℕ) → AreKnown (layout_of w) th.abreast.changes vs → (q : ℕ) → q < length (layout_of w).conditions → left_by (changes_at ended.ends.changes (counter_place (layout_of w) q)) ≡ vs q
@@ -203,17 +203,17 @@ module _ (w : Words) (ps : List Phase) (passes : List (Pass Live)) (dies : List 
   counter_is : (q : ℕ) → q < length (layout_of w).conditions → get_or counters q 0 ≡ get_or (last_words ended.last) (counter_place (layout_of w) q) 0
   counter_is q low = subst (λ (k : Layout'). q < length k.conditions → get_or counters q 0 ≡ get_or (last_words ended.last) (counter_place k q) 0) ended.same (ended.counts.each q) low
 
-  -- where each phase has one thread's calls
-  lone : (is : List ℕ) → AreLone (layout_of w).threads (phases_of ps) is → (os : ℕ → Object) × (vs : ℕ → ℕ) × ArePlayed (layout_of w) (λ i. false) opening (λ q. get_or (presets_of w) q 0) (phases_of ps) is th.parts os vs × ((m : ℕ) → m < (layout_of w).mutexes → Run fresh (at ended.ends.histories (cell_place (layout_of w) m)) (os m))
-      × ((q : ℕ) → q < length (layout_of w).conditions → get_or counters q 0 ≡ vs q)
-  lone is each =
+  -- where each of the first phases has one thread's calls
+  lone : (c : ℕ) (is : List ℕ) → AreLone (layout_of w).threads (take c (phases_of ps)) is → (os : ℕ → Object) × (vs : ℕ → ℕ) × ArePlayed (layout_of w) (λ i. false) opening (λ q. get_or (presets_of w) q 0) (take c (phases_of ps)) is (take c th.parts) os vs
+      × ((m : ℕ) → m < (layout_of w).mutexes → Run fresh (points_through m (take c th.parts)) (os m)) × (length (phases_of ps) ≤ c → (q : ℕ) → q < length (layout_of w).conditions → get_or counters q 0 ≡ vs q)
+  lone c is each =
       let known : AreKnown (layout_of w) (first_known (layout_of w) (presets_of w)) (λ q. get_or (presets_of w) q 0) = known_first (layout_of w) (presets_of w) many_presets in
-      let played = th.lone is each within opening (λ q. get_or (presets_of w) q 0) known (λ m low. refl) (λ j low lives x none. refl) in (
+      let played = th.lone c is each within opening (λ q. get_or (presets_of w) q 0) known (λ m low. refl) (λ j low lives x none. refl) in (
         played.0,
         played.1,
-        played_same (layout_of w) (layout_of w).threads (gone_at firsts) (λ i. false) opening (λ q. get_or (presets_of w) q 0) (phases_of ps) is th.parts played.0 played.1 nobody_gone each played.2,
-        λ m low. subst (λ (l : List Point). Run fresh l (played.0 m)) (sym (last_is m low)) (played.3 m low),
-        λ q low. counter_is q low ∙ sym (ended.ends.count q low) ∙ changed_last played.1 played.4 q low,
+        played_same (layout_of w) (layout_of w).threads (gone_at firsts) (λ i. false) opening (λ q. get_or (presets_of w) q 0) (take c (phases_of ps)) is (take c th.parts) played.0 played.1 nobody_gone each played.2,
+        λ m low. played.3 m low,
+        λ most q low. counter_is q low ∙ sym (ended.ends.count q low) ∙ changed_last played.1 (played.4 (let many = length_mapped calls_of ps in omega (arith, most, many))) q low,
       )
 
   long : length replies ≡ (layout_of w).threads

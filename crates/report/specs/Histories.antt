@@ -1,5 +1,5 @@
 -- One history of each mutex, in which all threads' replies stand.
-use Rattle.std.specs.Prelude.{ℕ, Bool, true, false, ◌≡◌, ◌≢◌, ◌+◌, ◌<◌, ◌⊎◌, ◌||◌, List, [], ◌∷◌, ◌++◌, Vec, Some, length, slice_get, slice_index, take}
+use Rattle.std.specs.Prelude.{ℕ, Bool, true, false, ◌≡◌, ◌≢◌, ◌+◌, ◌<◌, ◌≤◌, ◌⊎◌, ◌||◌, List, [], ◌∷◌, ◌++◌, Vec, Some, length, slice_get, slice_index, take}
 use Rattle.std.specs.declared.alloc.Global.{Global}
 use Rattle.std.specs.List.{flat_map}
 use Rattle.lockword.specs.Cells.{fields_of}
@@ -91,16 +91,18 @@ some_died i [] = false
 some_died i (q ∷ parts) = q.died i || some_died i parts
 
 -- the phases stand in their order: the history of each mutex has all points of a phase before those of the next, and
--- each thread's replies are those of the phases, one after the other. Where each phase has one thread's calls alone,
--- each of its replies is the answer of the mutexes and the counters as they are then; and so they are left
+-- each thread's replies are those of the phases, one after the other. Where each of the first n phases has one thread's
+-- calls alone, whatever the later ones have, each of its replies is the answer of the mutexes and the counters as they
+-- are then. The mutexes are left as their histories up to there leave them, and the counters of all phases as they are
+-- at last
 pub record StandInOrder (k : Layout') (phases : List (ℕ → List Op)) (presets : List ℕ) (replies : List (Vec Reply Global)) (died : List Bool) (counters : List ℕ) (histories : List (List Point)) : Type 0 where
   pub parts : List Part
   pub are : AreParts k (λ i. false) (λ m. []) phases parts
   pub history : (m : ℕ) → m < k.mutexes → at histories (cell_place k m) ≡ flat_map (λ q. q.points m) parts
   pub answered : (i : ℕ) (r : Vec Reply Global) → slice_get replies i ≡ Some r → r.items ≡ flat_map (λ q. q.replies i) parts
   pub dead : (i : ℕ) (d : Bool) → slice_get died i ≡ Some d → d ≡ some_died i parts
-  pub lone : (is : List ℕ) → AreLone k.threads phases is → (os : ℕ → Object) × (vs : ℕ → ℕ) × ArePlayed k (λ i. false) opening (slice_index presets) phases is parts os vs × ((m : ℕ) → m < k.mutexes → Run fresh (at histories (cell_place k m)) (os m))
-      × ((q : ℕ) → q < length k.conditions → slice_index counters q ≡ vs q)
+  pub lone : (n : ℕ) (is : List ℕ) → AreLone k.threads (take n phases) is → (os : ℕ → Object) × (vs : ℕ → ℕ) × ArePlayed k (λ i. false) opening (slice_index presets) (take n phases) is (take n parts) os vs
+      × ((m : ℕ) → m < k.mutexes → Run fresh (flat_map (λ q. q.points m) (take n parts)) (os m)) × (length phases ≤ n → (q : ℕ) → q < length k.conditions → slice_index counters q ≡ vs q)
 
 -- ---- all of it
 

@@ -9,7 +9,7 @@ use Rattle.posixmutex.specs.declared.point.Operation.{Operation}
 use Rattle.posixmutex.specs.declared.point.Operation.TheVariants.{Lock, TryLock, Unlock, Consistent, Wait, Signal, Broadcast, Death, Reinit}
 use Rattle.posixmutex.specs.Histories.{is_thread, held_by}
 use Rattle.memorymap.specs.Layouts.{Layout', cell_place}
-use Rattle.posixmutex.specs.Objects.{held_limit, bereaved, stepped, Does, Run}
+use Rattle.posixmutex.specs.Objects.{acquires, held_limit, bereaved, stepped, Does, Run}
 use Rattle.condvar.specs.declared.op.Op.{Op}
 use Rattle.condvar.specs.Laws.{largest_counter, reply_counts}
 use Rattle.condvar.specs.Ops.{condition_of, mutex_of, operation_of}
@@ -119,13 +119,15 @@ bereft t o = if is_thread t o.owner then bereaved o else o
 
 -- thread t made these calls up to one, in which it died: before that took effect, or behind it, or in a wait between
 -- its release and its lock. Then each mutex that it owned is told that its owner died. A signal or a broadcast that had
--- taken effect has counted, at a counter that wasn't full
+-- taken effect has counted, at a counter that wasn't full. In a lock or a trylock it dies only if it held fewer mutexes
+-- than it may: else the call is refused X_HELD before its first access
 pub record DiesAmong (k : Layout') (t : ℕ) (os : ℕ → Object) (vs : ℕ → ℕ) (calls : List Op) (replies : List Reply) (os' : ℕ → Object) (vs' : ℕ → ℕ) : Type 0 where
   pub call : Op
   pub next : slice_get calls (length replies) ≡ Some call
   pub before : ℕ → Object
   pub counters : ℕ → ℕ
   pub told : AreAnswered k t os vs (take (length replies) calls) replies before counters
+  pub few : acquires (operation_of call) ≡ true → nat_le held_limit (held_by t before k.mutexes) ≡ false
   pub acts : List Act
   pub begun : Beginning (operation_of call) acts
   pub left : Object

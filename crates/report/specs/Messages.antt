@@ -1,32 +1,10 @@
 -- What the program says on standard error.
 use Rattle.std.specs.Prelude.{ℕ, List, [], ◌∷◌, codes, decimal}
 use Rattle.std.specs.List.{concat}
-use Rattle.script.specs.declared.fault.Fault.{Fault as ScriptKind}
-use Rattle.script.specs.declared.fault.Fault.TheVariants as script
 use Rattle.script.specs.Faults as script_faults
-use Rattle.verdict.specs.declared.fault.Fault.{Fault as TraceKind}
-use Rattle.verdict.specs.declared.fault.Fault.TheVariants as trace
 use Rattle.verdict.specs.Faults as trace_faults
 use Rattle.report.specs.declared.messages.Failure.{Failure}
 use Rattle.report.specs.declared.messages.Failure.TheVariants.{Usage, CannotRead, CannotWrite, OutOfMemory, Script, Trace}
-
--- the words for what is wrong with a script
-abbrev pub script_words : ScriptKind → List ℕ
-script_words script.NotUtf8 = codes "not UTF-8"
-script_words script.UnknownWord = codes "unknown word"
-script_words script.OutOfRange = codes "number out of range"
-script_words script.NoSuchName = codes "no such name"
-script_words script.TooLong = codes "too long"
-script_words script.OutOfMemory = codes "out of memory"
-
--- and with a trace
-abbrev pub trace_words : TraceKind → List ℕ
-trace_words trace.NotUtf8 = codes "not UTF-8"
-trace_words trace.UnknownWord = codes "unknown word"
-trace_words trace.OutOfRange = codes "number out of range"
-trace_words trace.TooLong = codes "too long"
-trace_words trace.Cut = codes "cut"
-trace_words trace.OutOfMemory = codes "out of memory"
 
 -- a fault with its line and its number
 abbrev pub fault_text : ℕ → ℕ → List ℕ → List ℕ
@@ -38,8 +16,8 @@ failure_text file Usage = concat (codes "usage: rfx run [--table] FILE | rfx thr
 failure_text file CannotRead = concat (codes "rfx: cannot read " ∷ file ∷ codes "\n" ∷ [])
 failure_text file CannotWrite = concat (codes "rfx: cannot write\n" ∷ [])
 failure_text file OutOfMemory = concat (codes "rfx: out of memory\n" ∷ [])
-failure_text file (Script e) = fault_text e.line (script_faults.number_of e.fault) (script_words e.fault)
-failure_text file (Trace e) = fault_text e.line (trace_faults.number_of e.fault) (trace_words e.fault)
+failure_text file (Script e) = fault_text e.line (script_faults.number_of e.fault) (script_faults.words_of e.fault)
+failure_text file (Trace e) = fault_text e.line (trace_faults.number_of e.fault) (trace_faults.words_of e.fault)
 
 -- the exit status after it
 abbrev pub failure_status : Failure → ℕ

@@ -6,20 +6,25 @@ ghost use Rattle.report.specs.Failed.{FailsTrace};
 ghost use Rattle.report.specs.Verdicts.{verdict_status, verdict_text, Finds};
 
 use crate::messages::Failure;
-use itoa::Buffer;
 use std::alloc::Global;
 use std::io::{self, Write};
-use streams::{Output, put};
+use streams::Piece::{Number, Word};
+use streams::{Output, put_pieces};
 use verdict::{Verdict, check};
 
 /// `legal N points`, or `illegal at line L`.
 fn write_verdict<W: Write>(verdict: Verdict, out: &mut W) -> io::Result<()>
     ensures { Leaves (W.contents out.old) (W.contents out.new) result (verdict_text verdict) }
 {
-    let mut digits = Buffer::new();
     match verdict {
-        Verdict::Legal { points } => put(out, &["legal ", digits.format(points), " points\n"]),
-        Verdict::Illegal { line } => put(out, &["illegal at line ", digits.format(line), "\n"]),
+        Verdict::Legal { points } => put_pieces(
+            out,
+            &[Word("legal "), Number(points as u64), Word(" points\n")],
+        ),
+        Verdict::Illegal { line } => put_pieces(
+            out,
+            &[Word("illegal at line "), Number(line as u64), Word("\n")],
+        ),
     }
 }
 

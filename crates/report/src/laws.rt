@@ -1,10 +1,11 @@
 //! What follows from what is told of real threads.
 ghost use Rattle.report.specs.Lone.{MutexesPermitOnlyAnswers, PhasesAreDetermined};
 
-/// Of a script whose phases have calls of one thread each all replies follow from the script alone: from mutexes that
-/// nobody has locked and the counters of its lines, each call is answered as its mutex allows then, and its condition
-/// variable's counter, to a thread that holds so many ([`serve`](crate::serve) tells of such a script what is played
-/// so). X_RACED never comes there. Said of phases in which nobody dies.
+/// Of phases that have calls of one thread each all replies follow from the calls alone: from mutexes that nobody has
+/// locked and the counters of a script's lines, each call is answered as its mutex allows then, and its condition
+/// variable's counter, to a thread that holds so many ([`serve`](crate::serve) tells of a script's phases up to the
+/// first in which two threads have calls what is played so). X_RACED never comes there. Said of phases in which nobody
+/// dies.
 pub fn phases_of_one_thread_are_determined()
     ensures { PhasesAreDetermined }
 {}

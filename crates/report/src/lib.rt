@@ -6,10 +6,10 @@
 //! finds legal, unless it is refused memory. [`run`] does the same for the words of a command line and whatever opens
 //! files ([`Opener`]). What is told of a failure is in both contracts.
 //!
-//! Stands on `cmdline`, for the forms, on `streams`, for files, on `script`, `interleave` and `protocol`, for scripts
-//! and runs, on `threadbench`, `ruledwords`, `mutex` and `condvar`, for real threads, on `texts`, for what is written,
-//! on `verdict` and `runs_judged`, for judging it, on `facts`, `posixmutex`, `memorymap` and `lockword`, for lines,
-//! histories, want of memory and replies, and on `itoa`, for numbers.
+//! Stands on `cmdline`, for the forms, on `streams`, for files and texts, on `script`, `interleave` and `protocol`, for
+//! scripts and runs, on `threadbench`, `ruledwords`, `mutex` and `condvar`, for real threads, on `texts`, for what is
+//! written, on `verdict` and `runs_judged`, for judging it, and on `facts`, `posixmutex`, `memorymap` and `lockword`,
+//! for lines, histories, want of memory and replies.
 //!
 //! ```text
 //! // `rfx run --table f`, where the file f has this script.

@@ -2,12 +2,12 @@
 
 ghost use Rattle.std.specs.Prelude.{◌≡◌};
 ghost use Rattle.streams.specs.Leaves.{AppendsFront, Leaves};
-ghost use Rattle.report.specs.Messages.{script_words, trace_words, fault_text, failure_text, failure_status};
+ghost use Rattle.report.specs.Messages.{fault_text, failure_text, failure_status};
 
-use itoa::Buffer;
 use script::ScriptFault;
 use std::io::{self, Write};
-use streams::put;
+use streams::Piece::{Number, Word};
+use streams::{put, put_pieces};
 use verdict::TraceFault;
 
 /// A file couldn't be read. The message goes on with the file's name and a line feed.
@@ -39,45 +39,21 @@ pub(crate) enum Failure {
     Trace(TraceFault),
 }
 
-/// The words for what is wrong with a script.
-fn words_of_script(fault: script::Fault) -> &'static str
-    ensures { result.now ≡ script_words fault }
-{
-    match fault {
-        script::Fault::NotUtf8 => "not UTF-8",
-        script::Fault::UnknownWord => "unknown word",
-        script::Fault::OutOfRange => "number out of range",
-        script::Fault::NoSuchName => "no such name",
-        script::Fault::TooLong => "too long",
-        script::Fault::OutOfMemory => "out of memory",
-    }
-}
-
-/// The words for what is wrong with a trace.
-fn words_of_trace(fault: verdict::Fault) -> &'static str
-    ensures { result.now ≡ trace_words fault }
-{
-    match fault {
-        verdict::Fault::NotUtf8 => "not UTF-8",
-        verdict::Fault::UnknownWord => "unknown word",
-        verdict::Fault::OutOfRange => "number out of range",
-        verdict::Fault::TooLong => "too long",
-        verdict::Fault::Cut => "cut",
-        verdict::Fault::OutOfMemory => "out of memory",
-    }
-}
-
 /// `rfx: line L: fault N: TEXT`.
 fn write_fault<E: Write>(err: &mut E, line: usize, number: u8, words: &str) -> io::Result<()>
     ensures { Leaves (E.contents err.old) (E.contents err.new) result (fault_text line number words.now) }
 {
-    let mut lines = Buffer::new();
-    let mut numbers = Buffer::new();
-    let line = lines.format(line);
-    let number = numbers.format(number);
-    put(
+    put_pieces(
         err,
-        &["rfx: line ", line, ": fault ", number, ": ", words, "\n"],
+        &[
+            Word("rfx: line "),
+            Number(line as u64),
+            Word(": fault "),
+            Number(number.into()),
+            Word(": "),
+            Word(words),
+            Word("\n"),
+        ],
     )
 }
 
@@ -91,10 +67,10 @@ fn write_failure<E: Write>(err: &mut E, file: &str, failure: Failure) -> io::Res
         Failure::CannotWrite => put(err, &[CANNOT_WRITE]),
         Failure::OutOfMemory => put(err, &[OUT_OF_MEMORY]),
         Failure::Script(ScriptFault { line, fault }) => {
-            write_fault(err, line, fault.number(), words_of_script(fault))
+            write_fault(err, line, fault.number(), fault.words())
         }
         Failure::Trace(TraceFault { line, fault }) => {
-            write_fault(err, line, fault.number(), words_of_trace(fault))
+            write_fault(err, line, fault.number(), fault.words())
         }
     }
 }

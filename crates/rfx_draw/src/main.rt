@@ -1,56 +1,15 @@
 //! `rfx-draw`: draws a trace, as `rfx run` prints one, for a terminal or as SVG.
 //!
-//! All but opening files stands in `draw_report`, whose contracts say what is written.
+//! The system's files and words are handed to `draw_report`, whose contracts say what is written.
 #![tactic(auto)]
 
 use draw_report::{OUT_OF_MEMORY, run};
-use std::io::{self, BufWriter, Read};
+use std::io::BufWriter;
 use std::process::ExitCode;
-use std::{env, fs};
-use streams::Opener;
-
-/// The standard input's name among files. It is read as it stands, since opening it anew is refused where it is a
-/// socket, or another user's pipe.
-const STANDARD_INPUT: &str = "/dev/stdin";
-
-/// The files of the system.
-#[derive(Drop)]
-struct SystemFiles<'a>(&'a HostRuntime);
-
-/// The standard input, or another file.
-#[derive(Drop)]
-enum Input {
-    Standard(io::Stdin),
-    Opened(fs::File),
-}
-
-impl Read for Input {
-    fn read(&mut self, buf: &mut [u8]) -> io::Result<usize> {
-        match self {
-            Input::Standard(input) => input.read(buf),
-            Input::Opened(file) => file.read(buf),
-        }
-    }
-}
-
-impl Opener for SystemFiles<'_> {
-    type Input = Input;
-
-    fn open(&self, file: &str) -> io::Result<Input> {
-        if file == STANDARD_INPUT {
-            return Ok(Input::Standard(self.0.stdin()));
-        }
-        Ok(Input::Opened(fs::open(self.0, file)?))
-    }
-}
-
-/// The words of the command line, the program's name first.
-fn words(rt: &HostRuntime) -> io::Result<Vec<String>> {
-    Ok(env::args(rt)?.collect(rt.alloc())?)
-}
+use streams::{SystemFiles, system_words};
 
 fn main(rt: HostRuntime) -> ExitCode {
-    let words = words(&rt);
+    let words = system_words(&rt);
     let Ok(mut out) = BufWriter::new(rt.alloc(), rt.stdout()) else {
         let _ = rt.eprint(OUT_OF_MEMORY);
         return ExitCode::from(1);

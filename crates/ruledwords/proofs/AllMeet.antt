@@ -1,6 +1,6 @@
 -- All cards that meet.
 use mathlib.Core.Path.{fun_ext}
-use Rattle.std.proofs.Common.{Bool, true, false, ◌≡◌, ⊎_elim, ℕ, zero, suc, ◌+◌, ◌<◌, ◌==◌, ◌≢◌, Option, Some, List, [], ◌∷◌, ◌++◌, length, get_or, set, drop, take, map, slice_get, All, refl, sym, ap, ◌∙◌, subst, arith, append-nil}
+use Rattle.std.proofs.Common.{Bool, true, false, ◌≡◌, ⊎_elim, ℕ, zero, suc, ◌+◌, ◌<◌, ◌==◌, ◌≢◌, Option, Some, List, [], ◌∷◌, ◌++◌, length, get_or, set, drop, take, map, slice_get, All, refl, sym, ap, ◌∙◌, subst, arith}
 use Rattle.std.specs.Prelude.{Result, Ok, Err, IfOk, Vec, if◌then◌else◌}
 use Rattle.std.specs.declared.alloc.AllocError.{AllocError}
 use Rattle.std.specs.declared.alloc.Global.{Global}
@@ -28,7 +28,7 @@ use Rattle.ruledwords.specs.OwnWords.{owns_in, KnowsOwn}
 use Rattle.ruledwords.specs.Passes.{layout_of, IsCardOf}
 use Rattle.ruledwords.specs.Rules.{AllFit, Kept, Sat, cards_of, first_of, rest_of}
 use Rattle.ruledwords.specs.Seen.{held, held_after, Leaves}
-use Rattle.ruledwords.proofs.Changes.{recorded_set}
+use Rattle.ruledwords.proofs.Changes.{recorded_set, tied_self}
 use Rattle.ruledwords.proofs.Held.{count_same}
 use Rattle.ruledwords.proofs.Lists.{prefix_self, all_set}
 
@@ -39,25 +39,22 @@ fit_known k ws js zs (c ∷ cs) f = (
   fit_known k ws js zs cs f.1,
 )
 
-tied_self : (zs : List (List Change)) (t : ℕ) → Tied zs t zs
-tied_self zs t p = (([], append-nil (changes_at zs p)), refl)
-
-tied_known : (js : List (List Point)) (zs : List (List Change)) (cs : List Card) → AllTied zs cs → AllTied zs (map (behind_meeting js zs) cs)
-tied_known js zs [] f = tt
-tied_known js zs (c ∷ cs) f = (tied_self zs c.thread, tied_known js zs cs f.1)
+tied_known : (n : ℕ) (js : List (List Point)) (zs : List (List Change)) (cs : List Card) → AllTied n zs cs → AllTied n zs (map (behind_meeting js zs) cs)
+tied_known n js zs [] f = tt
+tied_known n js zs (c ∷ cs) f = (tied_self n zs c.thread, tied_known n js zs cs f.1)
 
 cards_known : (t : ℕ) (js : List (List Point)) (zs : List (List Change)) (cs : List Card) → cards_of t (map (behind_meeting js zs) cs) ≡ cards_of t cs
 cards_known t js zs [] = refl
 cards_known t js zs (c ∷ cs) = ap (λ (n : ℕ). (if c.thread == t then 1 else 0) + n) (cards_known t js zs cs)
 
-all_come : (k : Layout') (ws : List ℕ) (js : List (List Point)) (zs : List (List Change)) (cs : List Card) → ((p : ℕ) → (o : Object) × Leaves k.threads p (at js p) o) → ((p : ℕ) → AreBehindFirst k.threads (changes_at zs p)) → AllFit k ws js cs → AllTied zs cs
+all_come : (k : Layout') (ws : List ℕ) (js : List (List Point)) (zs : List (List Change)) (cs : List Card) → ((p : ℕ) → (o : Object) × Leaves k.threads p (at js p) o) → ((p : ℕ) → AreBehindFirst k.threads (changes_at zs p)) → AllFit k ws js cs → AllTied k.threads zs cs
     → (i : ℕ) (d : Card) → i < length cs → ComesToKnow js zs (get_or cs i d)
 all_come k ws js zs [] legal authors f z i d low = absurd (omega arith)
 all_come k ws js zs (c ∷ cs) legal authors f z zero d low = record {
   legal = λ p. let l = legal p in (l.0, subst (λ (n : ℕ). Leaves n p (at js p) l.0) (sym f.0.threads) l.1);
   begins = f.0.begins;
   own = λ p. sym (f.0.own p);
-  tied = z.0;
+  tied = subst (λ (n : ℕ). Tied n zs c.thread c.changes) (sym f.0.threads) z.0;
   authors = λ p. subst (λ (n : ℕ). AreBehindFirst n (changes_at zs p)) (sym f.0.threads) (authors p);
 }
 all_come k ws js zs (c ∷ cs) legal authors f z (suc i) d low = all_come k ws js zs cs legal authors f.1 z.1 i d (omega arith)
@@ -87,7 +84,7 @@ meets_all {o} k slots id i cs s h deep is small =
             (λ (t : (j ≢ id) × (get_elem? s.views j ≡ some w)). h.fits j w t.1)
             (at_set s.views id j ds w e);
         once = λ t. let a = all_set t s.views id cs ds is in let b = h.once t in let c = cards_known t js zs cs in omega arith;
-        recorded = recorded_set k s.words s.views id cs ds is h.recorded (tied_known js zs cs);
+        recorded = recorded_set k s.words s.views id cs ds is h.recorded (tied_known k.threads js zs cs);
       },
       λ x e. (
         ds,

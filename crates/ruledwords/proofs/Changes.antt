@@ -1,5 +1,5 @@
 -- The record of the changes of cells and of counters, from step to step.
-use Rattle.std.proofs.Common.{Bool, true, false, ◌≡◌, ◌≢◌, ⊎_elim, ℕ, zero, suc, ◌+◌, ◌<◌, ◌≤◌, ◌==◌, not, List, [], ◌∷◌, ◌++◌, length, drop, get_or, set, refl, sym, ap, ◌∙◌, subst, arith, append_assoc, append-nil, length-append, eq-eqb, ne_eqb, eqb-true, get_or-set_other, get_or-set_same}
+use Rattle.std.proofs.Common.{Bool, true, false, ◌≡◌, ◌≢◌, ⊎_elim, ℕ, zero, suc, ◌+◌, ◌<◌, ◌≤◌, ◌==◌, not, List, [], ◌∷◌, ◌++◌, length, get_or, set, refl, sym, ap, ◌∙◌, subst, arith, append_assoc, append-nil, length-append, eq-eqb, ne_eqb, eqb-true, get_or-set_other, get_or-set_same}
 use Rattle.std.specs.Prelude.{if◌then◌else◌}
 use Rattle.std.proofs.lemmas.List.Elements.{filter-append}
 use mathlib.Core.Logic.{dite}
@@ -11,7 +11,7 @@ use Rattle.atomic_table.proofs.Lists.{at_set, at_snoc}
 use Rattle.memorymap.specs.Layouts.{Layout', cell_place, counter_place}
 use Rattle.ruledwords.specs.declared.pass.Card.{Card}
 use Rattle.ruledwords.specs.declared.pass.Change.{Change}
-use Rattle.ruledwords.specs.Changes.{changes_at, put_changes, made_by, made_by_others, left_by, left_of, change_of, behind_unknown, first_changes, AllTied, AreBehindFirst, AreBy, ChangedNone, ChangedNothing, ChangedOnce, CountedOnce, KnowsMoreAt, KnowsOn, Loaded, OthersChanged, Recorded, Tied, Writes}
+use Rattle.ruledwords.specs.Changes.{changes_at, put_changes, made_by, made_by_others, left_by, left_of, change_of, behind_unknown, first_changes, AllTied, AreBehindFirst, AreBy, ChangedNone, ChangedNothing, ChangedOnce, CountedOnce, KnowsMoreAt, KnowsOn, Loaded, OthersChanged, Recorded, Tied, TiedAt, Writes}
 use Rattle.ruledwords.specs.Rules.{cards_of, all_cards_of}
 use Rattle.ruledwords.proofs.Lists.{all_two, counted}
 
@@ -61,33 +61,25 @@ left_changed t n v = go (v == n) refl
     go false is = refl
 
 -- what other cards know begins a longer list too
-grown : (xs ys zs : List Change) → IsPrefix xs ys → IsPrefix xs (ys ++ zs)
+abbrev grown : (xs ys zs : List Change) → IsPrefix xs ys → IsPrefix xs (ys ++ zs)
 grown xs ys zs p = (p.0 ++ zs, sym (append_assoc xs p.0 zs) ∙ ap (λ (l : List Change). l ++ zs) p.1)
 
 -- ---- who made them
 
-authored_more : (n t a v : ℕ) (xs : List Change) → 1 ≤ t → t ≤ n → AreBehindFirst n xs → AreBehindFirst n (xs ++ change_of t a v)
-authored_more n t a v [] pos most are = go (v == a) where
-  go : (b : Bool) → AreBehindFirst n (if b then [] else record { thread = t; word = v } ∷ [])
+pub by_append : (n : ℕ) (xs ys : List Change) → AreBy n xs → AreBy n ys → AreBy n (xs ++ ys)
+by_append n [] ys are more = more
+by_append n (x ∷ xs) ys are more = (are.0, by_append n xs ys are.1 more)
+
+by_change : (n t a v : ℕ) → (1 ≤ t) × (t ≤ n) → AreBy n (change_of t a v)
+by_change n t a v whose = go (v == a) where
+  go : (b : Bool) → AreBy n (if b then [] else record { thread = t; word = v } ∷ [])
   go true = tt
-  go false = tt
-authored_more n t a v (x ∷ xs) pos most are = rest xs are where
-  one : (b : Bool) → AreBy n (if b then [] else record { thread = t; word = v } ∷ [])
-  one true = tt
-  one false = ((pos, most), tt)
+  go false = (whose, tt)
 
-  rest : (ys : List Change) → AreBy n ys → AreBy n (ys ++ change_of t a v)
-  rest [] are = one (v == a)
-  rest (y ∷ ys) are = (are.0, rest ys are.1)
-
-authored_first : (n : ℕ) (ws : List ℕ) (p : ℕ) → AreBehindFirst n (changes_at (first_changes ws) p)
-authored_first n [] p = tt
-authored_first n (w ∷ ws) zero = tt
-authored_first n (w ∷ ws) (suc p) = authored_first n ws p
-
--- of a word as it was given only that is known
-pub authors_first : (k : Layout') (ws : List ℕ) (p : ℕ) → AreBehindFirst k.threads (changes_at (first_changes ws) p)
-authors_first k ws p = authored_first k.threads ws p
+authored_more : (n : ℕ) (xs ys : List Change) → AreBehindFirst n xs → AreBy n ys → AreBehindFirst n (xs ++ ys)
+authored_more n [] [] are more = tt
+authored_more n [] (y ∷ ys) are more = more.1
+authored_more n (x ∷ xs) ys are more = by_append n xs ys are more
 
 -- ---- what is known goes on
 
@@ -109,32 +101,33 @@ knows_on_by c d p n v w q = dite (ℕ_discrete q p)
 -- and as far as is known of one word
 pub knows_on_at : (c d : Card) (p : ℕ) → KnowsMoreAt c p d → KnowsOn c d
 knows_on_at c d p more q = dite (ℕ_discrete q p)
-    (λ here. subst (λ (z : ℕ). IsPrefix (changes_at c.changes z) (changes_at d.changes z)) (sym here) more.here)
+    (λ here. subst (λ (z : ℕ). IsPrefix (changes_at c.changes z) (changes_at d.changes z)) (sym here) (more.here.0, more.here.1))
     (λ other. ([], append-nil (changes_at c.changes q) ∙ sym (more.elsewhere q other)))
 
 -- ---- a change
 
-tied_own : (xs ys : List (List Change)) (t p : ℕ) (zs : List Change) → Tied xs t ys → Tied (put_changes xs p zs) t (put_changes ys p zs)
-tied_own xs ys t p zs tied q = dite (ℕ_discrete q p)
+tied_own : (n : ℕ) (xs ys : List (List Change)) (t p : ℕ) (zs : List Change) → Tied n xs t ys → Tied n (put_changes xs p zs) t (put_changes ys p zs)
+tied_own n xs ys t p zs tied q = dite (ℕ_discrete q p)
     (λ e.
     let same : changes_at (put_changes ys p zs) q ≡ changes_at (put_changes xs p zs) q = ap (changes_at (put_changes ys p zs)) e ∙ changes_put ys p zs ∙ sym (changes_put xs p zs) ∙ ap (changes_at (put_changes xs p zs)) (sym e) in
-    (([], append-nil _ ∙ same), ap (made_by t) same))
-    (λ n. subst (λ (z : List Change × List Change). IsPrefix z.0 z.1 × (made_by t z.0 ≡ made_by t z.1)) (λ i. (sym (changes_put_else ys p q zs n) i, sym (changes_put_else xs p q zs n) i)) (tied q))
+    (([], append-nil _ ∙ same), ap (made_by t) same, tt))
+    (λ other. subst (λ (z : List Change × List Change). TiedAt n z.0 t z.1) (λ i. (sym (changes_put_else xs p q zs other) i, sym (changes_put_else ys p q zs other) i)) (tied q))
 
-tied_other : (xs ys : List (List Change)) (u t p n v : ℕ) → t ≢ u → Tied xs u ys → Tied (put_changes xs p (changes_at xs p ++ change_of t n v)) u ys
-tied_other xs ys u t p n v apart tied q =
+tied_other : (k : ℕ) (xs ys : List (List Change)) (u t p n v : ℕ) → (1 ≤ t) × (t ≤ k) → t ≢ u → Tied k xs u ys → Tied k (put_changes xs p (changes_at xs p ++ change_of t n v)) u ys
+tied_other k xs ys u t p n v whose apart tied q =
     let zs : List Change = changes_at xs p ++ change_of t n v in
     let here : made_by u zs ≡ made_by u (changes_at xs p) = made_append u (changes_at xs p) (change_of t n v) ∙ ap (λ (l : List Change). made_by u (changes_at xs p) ++ l) (other_made u t n v apart) ∙ append-nil _ in
     dite (ℕ_discrete q p)
-    (λ e. subst (λ (z : ℕ). IsPrefix (changes_at ys z) (changes_at (put_changes xs p zs) z) × (made_by u (changes_at ys z) ≡ made_by u (changes_at (put_changes xs p zs) z))) (sym e)
-    (subst (λ (l : List Change). IsPrefix (changes_at ys p) l × (made_by u (changes_at ys p) ≡ made_by u l)) (sym (changes_put xs p zs)) (grown (changes_at ys p) (changes_at xs p) (change_of t n v) (tied p).0, (tied p).1 ∙ sym here)))
-    (λ e. subst (λ (l : List Change). IsPrefix (changes_at ys q) l × (made_by u (changes_at ys q) ≡ made_by u l)) (sym (changes_put_else xs p q zs e)) (tied q))
+    (λ e. subst (λ (z : ℕ). TiedAt k (changes_at (put_changes xs p zs) z) u (changes_at ys z)) (sym e)
+    (subst (λ (l : List Change). TiedAt k l u (changes_at ys p)) (sym (changes_put xs p zs))
+    (grown (changes_at ys p) (changes_at xs p) (change_of t n v) (tied p).0, (tied p).1 ∙ sym here, by_append k (tied p).0.0 (change_of t n v) (tied p).2 (by_change k t n v whose))))
+    (λ e. subst (λ (l : List Change). TiedAt k l u (changes_at ys q)) (sym (changes_put_else xs p q zs e)) (tied q))
 
-all_tied_other : (xs : List (List Change)) (t p n v : ℕ) (cs : List Card) → cards_of t cs ≡ 0 → AllTied xs cs → AllTied (put_changes xs p (changes_at xs p ++ change_of t n v)) cs
-all_tied_other xs t p n v [] nobody tied = tt
-all_tied_other xs t p n v (c ∷ cs) nobody tied =
+all_tied_other : (k : ℕ) (xs : List (List Change)) (t p n v : ℕ) (cs : List Card) → (1 ≤ t) × (t ≤ k) → cards_of t cs ≡ 0 → AllTied k xs cs → AllTied k (put_changes xs p (changes_at xs p ++ change_of t n v)) cs
+all_tied_other k xs t p n v [] whose nobody tied = tt
+all_tied_other k xs t p n v (c ∷ cs) whose nobody tied =
     let apart : t ≢ c.thread = λ e. let some_card = counted t c cs e in absurd (omega arith) in
-    (tied_other xs c.changes c.thread t p n v apart tied.0, all_tied_other xs t p n v cs (omega arith) tied.1)
+    (tied_other k xs c.changes c.thread t p n v whose apart tied.0, all_tied_other k xs t p n v cs whose (omega arith) tied.1)
 
 -- what the changes leave of any word then
 left_now : (ws : List ℕ) (xs : List (List Change)) (t p v : ℕ) → p < length ws → left_by (changes_at xs p) ≡ get_or ws p 0 → (q : ℕ) → left_by (changes_at xs q) ≡ get_or ws q 0
@@ -154,21 +147,21 @@ pub recorded_change : (k : Layout') (ws : List ℕ) (vs : List (List Card)) (r :
 recorded_change k ws vs r id c d p v whose is within once same grows had =
     let n : ℕ = get_or ws p 0 in
     let zs : List Change = changes_at r.changes p ++ change_of c.thread n v in
-    let mine : Tied (put_changes r.changes p zs) d.thread d.changes = subst (λ (z : ℕ × List (List Change)). Tied (put_changes r.changes p zs) z.0 z.1) (λ i. (sym same i, sym grows i)) (tied_own r.changes c.changes c.thread p zs (r.tied id (c ∷ []) is).0) in
+    let mine : Tied k.threads (put_changes r.changes p zs) d.thread d.changes = subst (λ (z : ℕ × List (List Change)). Tied k.threads (put_changes r.changes p zs) z.0 z.1) (λ i. (sym same i, sym grows i)) (tied_own k.threads r.changes c.changes c.thread p zs (r.tied id (c ∷ []) is).0) in
     record {
       changes = put_changes r.changes p zs;
       leave = λ l lower. left_now ws r.changes c.thread p v within had (cell_place k l) (r.leave l lower);
       count = λ q lower. left_now ws r.changes c.thread p v within had (counter_place k q) (r.count q lower);
       authors = λ q. dite (ℕ_discrete q p)
-          (λ here. subst (λ (z : ℕ). AreBehindFirst k.threads (changes_at (put_changes r.changes p zs) z)) (sym here) (subst (AreBehindFirst k.threads) (sym (changes_put r.changes p zs)) (authored_more k.threads c.thread n v (changes_at r.changes p) whose.0 whose.1 (r.authors p))))
+          (λ here. subst (λ (z : ℕ). AreBehindFirst k.threads (changes_at (put_changes r.changes p zs) z)) (sym here) (subst (AreBehindFirst k.threads) (sym (changes_put r.changes p zs)) (authored_more k.threads (changes_at r.changes p) (change_of c.thread n v) (r.authors p) (by_change k.threads c.thread n v whose))))
           (λ other. subst (AreBehindFirst k.threads) (sym (changes_put_else r.changes p q zs other)) (r.authors q));
       tied = λ j w e. ⊎_elim
-          (λ (t : (j ≡ id) × (d ∷ [] ≡ w)). subst (AllTied (put_changes r.changes p zs)) t.1 (mine, tt))
+          (λ (t : (j ≡ id) × (d ∷ [] ≡ w)). subst (AllTied k.threads (put_changes r.changes p zs)) t.1 (mine, tt))
           (λ (t : (j ≢ id) × (get_elem? vs j ≡ some w)).
           let two = all_two c.thread vs id j (c ∷ []) w is t.1 t.0 in
           let one = once c.thread in
           let some_card = counted c.thread c [] refl in
-          all_tied_other r.changes c.thread p n v w (omega arith) (r.tied j w t.1))
+          all_tied_other k.threads r.changes c.thread p n v w whose (omega arith) (r.tied j w t.1))
           (at_set vs id j (d ∷ []) w e);
     }
 
@@ -179,20 +172,20 @@ pub recorded_words : (k : Layout') (ws ws' : List ℕ) (vs : List (List Card)) �
 recorded_words k ws ws' vs same as_well r = record { changes = r.changes; leave = λ m low. r.leave m low ∙ sym (same m low); count = λ q low. r.count q low ∙ sym (as_well q low); authors = r.authors; tied = r.tied }
 
 -- one seat's cards know of the changes what they knew
-pub recorded_set : (k : Layout') (ws : List ℕ) (vs : List (List Card)) (id : ℕ) (v w : List Card) → get_elem? vs id ≡ some v → (r : Recorded k ws vs) → (AllTied r.changes v → AllTied r.changes w) → Recorded k ws (set vs id w)
+pub recorded_set : (k : Layout') (ws : List ℕ) (vs : List (List Card)) (id : ℕ) (v w : List Card) → get_elem? vs id ≡ some v → (r : Recorded k ws vs) → (AllTied k.threads r.changes v → AllTied k.threads r.changes w) → Recorded k ws (set vs id w)
 recorded_set k ws vs id v w is r so = record {
   changes = r.changes;
   leave = r.leave;
   count = r.count;
   authors = r.authors;
   tied = λ j u e. ⊎_elim
-      (λ (t : (j ≡ id) × (w ≡ u)). subst (AllTied r.changes) t.1 (so (r.tied id v is)))
+      (λ (t : (j ≡ id) × (w ≡ u)). subst (AllTied k.threads r.changes) t.1 (so (r.tied id v is)))
       (λ (t : (j ≢ id) × (get_elem? vs j ≡ some u)). r.tied j u t.1)
       (at_set vs id j w u e);
 }
 
 -- cards are dealt to a new seat
-pub recorded_dealt : (k : Layout') (ws : List ℕ) (vs : List (List Card)) (id : ℕ) (v w u : List Card) → get_elem? vs id ≡ some v → ((xs : List (List Change)) → AllTied xs v → AllTied xs w × AllTied xs u) → Recorded k ws vs → Recorded k ws (set vs id w ++ u ∷ [])
+pub recorded_dealt : (k : Layout') (ws : List ℕ) (vs : List (List Card)) (id : ℕ) (v w u : List Card) → get_elem? vs id ≡ some v → ((xs : List (List Change)) → AllTied k.threads xs v → AllTied k.threads xs w × AllTied k.threads xs u) → Recorded k ws vs → Recorded k ws (set vs id w ++ u ∷ [])
 recorded_dealt k ws vs id v w u is so r = record {
   changes = r.changes;
   leave = r.leave;
@@ -200,58 +193,60 @@ recorded_dealt k ws vs id v w u is so r = record {
   authors = r.authors;
   tied = λ j x e. ⊎_elim
       (λ (was : get_elem? (set vs id w) j ≡ some x). ⊎_elim
-      (λ (t : (j ≡ id) × (w ≡ x)). subst (AllTied r.changes) t.1 (so r.changes (r.tied id v is)).0)
+      (λ (t : (j ≡ id) × (w ≡ x)). subst (AllTied k.threads r.changes) t.1 (so r.changes (r.tied id v is)).0)
       (λ (t : (j ≢ id) × (get_elem? vs j ≡ some x)). r.tied j x t.1)
       (at_set vs id j w x was))
-      (λ (same : u ≡ x). subst (AllTied r.changes) same (so r.changes (r.tied id v is)).1)
+      (λ (same : u ≡ x). subst (AllTied k.threads r.changes) same (so r.changes (r.tied id v is)).1)
       (at_snoc (set vs id w) u x j e);
 }
 
-pub tied_append : (xs : List (List Change)) (cs ds : List Card) → AllTied xs cs → AllTied xs ds → AllTied xs (cs ++ ds)
-tied_append xs [] ds f g = g
-tied_append xs (c ∷ cs) ds f g = (f.0, tied_append xs cs ds f.1 g)
+pub tied_append : (n : ℕ) (xs : List (List Change)) (cs ds : List Card) → AllTied n xs cs → AllTied n xs ds → AllTied n xs (cs ++ ds)
+tied_append n xs [] ds f g = g
+tied_append n xs (c ∷ cs) ds f g = (f.0, tied_append n xs cs ds f.1 g)
+
+-- who knows all
+pub tied_self : (n : ℕ) (xs : List (List Change)) (t : ℕ) → Tied n xs t xs
+tied_self n xs t p = (([], append-nil (changes_at xs p)), refl, tt)
 
 -- ---- at first
 
-changes_first : (ws : List ℕ) (p : ℕ) → left_by (changes_at (first_changes ws) p) ≡ get_or ws p 0
-changes_first [] p = refl
-changes_first (w ∷ ws) zero = refl
-changes_first (w ∷ ws) (suc p) = changes_first ws p
+authored_first : (n : ℕ) (ws : List ℕ) (p : ℕ) → AreBehindFirst n (changes_at (first_changes ws) p)
+authored_first n [] p = tt
+authored_first n (w ∷ ws) zero = tt
+authored_first n (w ∷ ws) (suc p) = authored_first n ws p
 
-nobody_first : (ws : List ℕ) (t p : ℕ) → 1 ≤ t → [] ≡ made_by t (changes_at (first_changes ws) p)
-nobody_first [] t p pos = refl
-nobody_first (w ∷ ws) t zero pos = rw (ne_eqb 0 t (λ e. absurd (omega (arith, e, pos)))) refl
-nobody_first (w ∷ ws) t (suc p) pos = nobody_first ws t p pos
+-- of a word as it was given only that is known, and of those before nothing
+pub authored_behind : (n b : ℕ) (ws : List ℕ) (p : ℕ) → AreBehindFirst n (changes_at (behind_unknown b (first_changes ws)) p)
+authored_behind n zero ws p = authored_first n ws p
+authored_behind n (suc b) ws zero = tt
+authored_behind n (suc b) ws (suc p) = authored_behind n b ws p
 
-drop_nothing : (n : ℕ) → drop {A = ℕ} n [] ≡ []
-drop_nothing zero = refl
-drop_nothing (suc n) = refl
+pub left_before : (b : ℕ) (xs : List (List Change)) (p : ℕ) → p < b → left_by (changes_at (behind_unknown b xs) p) ≡ 0
+left_before zero xs p low = absurd (omega (arith, low))
+left_before (suc b) xs zero low = refl
+left_before (suc b) xs (suc p) low = left_before b xs p (omega (arith, low))
 
--- of which everybody knows those of the last words
-known_first : (n : ℕ) (xs ws : List ℕ) (t p : ℕ) → 1 ≤ t → drop n ws ≡ xs → IsPrefix (changes_at (behind_unknown n (first_changes xs)) p) (changes_at (first_changes ws) p) × (made_by t (changes_at (behind_unknown n (first_changes xs)) p) ≡ made_by t (changes_at (first_changes ws) p))
-known_first zero xs ws t p pos is = subst (λ (l : List ℕ). IsPrefix (changes_at (first_changes xs) p) (changes_at (first_changes l) p) × (made_by t (changes_at (first_changes xs) p) ≡ made_by t (changes_at (first_changes l) p))) (sym is) (([], append-nil _), refl)
-known_first (suc n) xs [] t zero pos is = (([], refl), refl)
-known_first (suc n) xs [] t (suc p) pos is = known_first n xs [] t p pos (drop_nothing n ∙ is)
-known_first (suc n) xs (w ∷ ws) t zero pos is = ((changes_at (first_changes (w ∷ ws)) zero, refl), nobody_first (w ∷ ws) t zero pos)
-known_first (suc n) xs (w ∷ ws) t (suc p) pos is = known_first n xs ws t p pos is
-
-pub tied_at_first : (n : ℕ) (xs ws : List ℕ) (t : ℕ) → 1 ≤ t → drop n ws ≡ xs → Tied (first_changes ws) t (behind_unknown n (first_changes xs))
-tied_at_first n xs ws t pos is p = known_first n xs ws t p pos is
-
-pub left_at_first : (ws : List ℕ) (p w : ℕ) → get_or ws p 0 ≡ w → left_by (changes_at (first_changes ws) p) ≡ w
-left_at_first ws p w is = changes_first ws p ∙ is
+pub left_at_first : (b : ℕ) (ws : List ℕ) (q p : ℕ) → p ≡ b + q → left_by (changes_at (behind_unknown b (first_changes ws)) p) ≡ get_or ws q 0
+left_at_first zero ws q p is = ap (λ (x : ℕ). left_by (changes_at (first_changes ws) x)) (let e : p ≡ q = omega (arith, is) in e) ∙ changes_first ws q where
+  changes_first : (ws : List ℕ) (p : ℕ) → left_by (changes_at (first_changes ws) p) ≡ get_or ws p 0
+  changes_first [] p = refl
+  changes_first (w ∷ ws) zero = refl
+  changes_first (w ∷ ws) (suc p) = changes_first ws p
+left_at_first (suc b) ws q zero is = absurd (omega (arith, is))
+left_at_first (suc b) ws q (suc p) is = left_at_first b ws q p (omega (arith, is))
 
 -- ---- what an access tells
 
-pub writes_there : (k : Layout') (ws : List ℕ) (vs : List (List Card)) (r : Recorded k ws vs) (id : ℕ) (c d : Card) (p v : ℕ) → left_by (changes_at r.changes p) ≡ get_or ws p 0 → get_elem? vs id ≡ some (c ∷ [])
+pub writes_there : (k : Layout') (ws : List ℕ) (vs : List (List Card)) (r : Recorded k ws vs) (id : ℕ) (c d : Card) (p v : ℕ) → (1 ≤ c.thread) × (c.thread ≤ k.threads) → c.threads ≡ k.threads → left_by (changes_at r.changes p) ≡ get_or ws p 0 → get_elem? vs id ≡ some (c ∷ [])
     → d.changes ≡ put_changes c.changes p (changes_at r.changes p ++ change_of c.thread (get_or ws p 0) v) → Writes c p (get_or ws p 0) v d
-writes_there k ws vs r id c d p v had is grows =
+writes_there k ws vs r id c d p v whose all had is grows =
     let tied = (r.tied id (c ∷ []) is).0 p in
     let mine : List Change = changes_at c.changes p in
     let alone : made_by c.thread mine ++ made_by c.thread tied.0.0 ≡ made_by c.thread mine = sym (made_append c.thread mine tied.0.0) ∙ ap (made_by c.thread) tied.0.1 ∙ sym tied.1 in
     record {
       since = tied.0.0;
       others = none_made (made_by c.thread mine) (made_by c.thread tied.0.0) alone;
+      authors = subst (λ (n : ℕ). AreBy n (tied.0.0 ++ change_of c.thread (get_or ws p 0) v)) (sym all) (by_append k.threads tied.0.0 (change_of c.thread (get_or ws p 0) v) tied.2 (by_change k.threads c.thread (get_or ws p 0) v whose));
       grows = ap (λ (l : List (List Change)). changes_at l p) grows ∙ changes_put c.changes p _ ∙ ap (λ (l : List Change). l ++ change_of c.thread (get_or ws p 0) v) (sym tied.0.1);
       met = ap left_by tied.0.1 ∙ had;
       elsewhere = λ q other. ap (λ (l : List (List Change)). changes_at l q) grows ∙ changes_put_else c.changes p q _ other;
@@ -347,22 +342,26 @@ counted_still c d e z p same alike counted none so = record {
 }
 
 abbrev pub more_yet : (c : Card) (p : ℕ) → KnowsMoreAt c p c
-more_yet c p = record { here = ([], append-nil _); elsewhere = λ q other. refl; counted = refl }
+more_yet c p = record { here = ([], append-nil _, tt); elsewhere = λ q other. refl; counted = refl }
 
 -- an access at the word at p
 abbrev pub more_by : (c d : Card) (p n v : ℕ) → d.counted ≡ c.counted → Writes c p n v d → KnowsMoreAt c p d
-more_by c d p n v same w = record { here = (w.since ++ change_of c.thread n v, sym (append_assoc (changes_at c.changes p) w.since (change_of c.thread n v)) ∙ sym w.grows); elsewhere = w.elsewhere; counted = same }
+more_by c d p n v same w = record { here = (w.since ++ change_of c.thread n v, sym (append_assoc (changes_at c.changes p) w.since (change_of c.thread n v)) ∙ sym w.grows, w.authors); elsewhere = w.elsewhere; counted = same }
 
-abbrev pub more_on : (c d e : Card) (p : ℕ) → KnowsMoreAt c p d → KnowsMoreAt d p e → KnowsMoreAt c p e
-more_on c d e p first more = record {
-  here = (first.here.0 ++ more.here.0, sym (append_assoc (changes_at c.changes p) first.here.0 more.here.0) ∙ ap (λ (l : List Change). l ++ more.here.0) first.here.1 ∙ more.here.1);
+abbrev pub more_on : (c d e : Card) (p : ℕ) → d.threads ≡ c.threads → KnowsMoreAt c p d → KnowsMoreAt d p e → KnowsMoreAt c p e
+more_on c d e p same first more = record {
+  here = (
+    first.here.0 ++ more.here.0,
+    sym (append_assoc (changes_at c.changes p) first.here.0 more.here.0) ∙ ap (λ (l : List Change). l ++ more.here.0) first.here.1 ∙ more.here.1,
+    by_append c.threads first.here.0 more.here.0 first.here.2 (subst (λ (n : ℕ). AreBy n more.here.0) same more.here.2),
+  );
   elsewhere = λ q other. more.elsewhere q other ∙ first.elsewhere q other;
   counted = more.counted ∙ first.counted;
 }
 
 -- who knows what it knew of changes
 pub more_same : (c d : Card) (p : ℕ) → d.counted ≡ c.counted → d.changes ≡ c.changes → KnowsMoreAt c p d
-more_same c d p same alike = record { here = ([], append-nil _ ∙ ap (λ (l : List (List Change)). changes_at l p) (sym alike)); elsewhere = λ q other. ap (λ (l : List (List Change)). changes_at l q) alike; counted = same }
+more_same c d p same alike = record { here = ([], append-nil _ ∙ ap (λ (l : List (List Change)). changes_at l p) (sym alike), tt); elsewhere = λ q other. ap (λ (l : List (List Change)). changes_at l q) alike; counted = same }
 
 -- where its changes are known as they were
 pub nothing_still : (c d e : Card) (p : ℕ) → changes_at e.changes p ≡ changes_at d.changes p → ChangedNothing c p d → ChangedNothing c p e
@@ -412,7 +411,7 @@ pub others_on : (m n t : ℕ) (xs ys : List Change) → m ≤ length (made_by_ot
 others_on m n t xs ys first more = let sum = others_more t xs ys in omega arith
 
 pub others_changed : (n k : ℕ) (c : Card) (p : ℕ) (d : Card) (knows : KnowsMoreAt c p d) → n ≤ k → k ≤ length (made_by_others c.thread knows.here.0) → OthersChanged n c p d
-others_changed n k c p d knows few le = record { since = knows.here.0; grows = sym knows.here.1; others = (omega arith) }
+others_changed n k c p d knows few le = record { since = knows.here.0; grows = sym knows.here.1; authors = knows.here.2; others = (omega arith) }
 
 -- what is known to be there behind an access
 pub left_behind : (c d : Card) (p n v : ℕ) → Writes c p n v d → left_by (changes_at d.changes p) ≡ v

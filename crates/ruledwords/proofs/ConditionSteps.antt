@@ -239,7 +239,7 @@ flags {o} k slots id c m low s h deep is small =
       keeps,
       tt,
       kept_left k s h m low v object owner steady id c d is refl refl record { thread = left.thread; threads = left.threads; begins = left.begins; own = left.own; values = left.values; marks = marked },
-      turns c d (λ c d. (d ≡ having_set c p n d.changes) × Finds c p n × Writes c p n v d) (refl, found k s h c m low f, writes_there k s.words s.views h.recorded id c d p v (h.recorded.leave m low) is refl),
+      turns c d (λ c d. (d ≡ having_set c p n d.changes) × Finds c p n × Writes c p n v d) (refl, found k s h c m low f, writes_there k s.words s.views h.recorded id c d p v f.thread f.threads (h.recorded.leave m low) is refl),
     )
 
 -- ---- any access

@@ -224,7 +224,7 @@ module _ (o : List ℕ) (k : Layout') (s : St) (h : Kept k o s) (id : ℕ) (c : 
   }
 
   pub writes_counted : Writes c a (get_or s.words a 0) v behind
-  writes_counted = writes_there k s.words s.views h.recorded id c behind a v (h.recorded.count q low) is refl
+  writes_counted = let f = (h.fits id (c ∷ []) is).0 in writes_there k s.words s.views h.recorded id c behind a v f.thread f.threads (h.recorded.count q low) is refl
 
   pub sees_counted : Sees c p (told c.thread p op r) (says s.words p) behind
   sees_counted = let s' = sees_step k s h id c m op r (get_or s.words p 0) 0 0 [] is in_layout not_made_anew run in

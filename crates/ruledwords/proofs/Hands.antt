@@ -18,11 +18,11 @@ use Rattle.posixmutex.specs.Objects.{fresh, object_of}
 use Rattle.ruledwords.specs.declared.pass.Card.{Card}
 use Rattle.ruledwords.specs.declared.pass.Change.{Change}
 use Rattle.ruledwords.specs.Cards.{at, value_at, put_value}
-use Rattle.ruledwords.specs.Changes.{first_changes, AllTied}
+use Rattle.ruledwords.specs.Changes.{AllTied}
 use Rattle.ruledwords.specs.Counts.{counter_in, total_of, Counted}
 use Rattle.ruledwords.specs.Seen.{Leaves, Joined, AreExclusive, holds, held, held_after}
-use Rattle.ruledwords.specs.Rules.{opening_word, first_values, first_card, hand, Fits, AllFit, cards_of, Kept, first_of, rest_of, met, IsAmong, Ends}
-use Rattle.ruledwords.proofs.Changes.{authors_first, left_at_first, recorded_dealt, recorded_set, tied_append, tied_at_first}
+use Rattle.ruledwords.specs.Rules.{opening_word, first_values, first_known, first_card, hand, Fits, AllFit, cards_of, Kept, first_of, rest_of, met, IsAmong, Ends}
+use Rattle.ruledwords.proofs.Changes.{authored_behind, left_at_first, left_before, recorded_dealt, recorded_set, tied_append, tied_self}
 use Rattle.ruledwords.proofs.Counts.{total_same}
 use Rattle.ruledwords.proofs.Lists.{prefix_self, value_put, value_put_else, all_one, all_set, all_append, cards_append, one_or_none}
 use Rattle.ruledwords.proofs.Held.{count_same, owner_held, owns, owns_one}
@@ -45,9 +45,9 @@ cut_cards : (t : ℕ) (cs : List Card) → cards_of t (rest_of cs) + cards_of t 
 cut_cards t [] = omega arith
 cut_cards t (c ∷ cs) = omega arith
 
-tied_cut : (cs : List Card) (xs : List (List Change)) → AllTied xs cs → AllTied xs (rest_of cs) × AllTied xs (first_of cs)
-tied_cut [] xs f = (tt, tt)
-tied_cut (c ∷ cs) xs f = (f.1, (f.0, tt))
+tied_cut : (n : ℕ) (cs : List Card) (xs : List (List Change)) → AllTied n xs cs → AllTied n xs (rest_of cs) × AllTied n xs (first_of cs)
+tied_cut n [] xs f = (tt, tt)
+tied_cut n (c ∷ cs) xs f = (f.1, (f.0, tt))
 
 -- the first card is dealt
 pub deals : {o : List ℕ} (k : Layout') (id : ℕ) (v : List Card) → Splits (Kept k o) id v (rest_of v) (first_of v)
@@ -68,7 +68,7 @@ deals k id v s h is = record {
       (λ (same : first_of v ≡ w). subst (AllFit k s.words h.histories) same (fit_first k s.words h.histories v (h.fits id v is)))
       (at_snoc (set s.views id (rest_of v)) (first_of v) w j e);
   once = λ t. let a = all_append t (set s.views id (rest_of v)) (first_of v ∷ []) in let b = all_set t s.views id v (rest_of v) is in let c = cut_cards t v in let d = h.once t in omega arith;
-  recorded = recorded_dealt k s.words s.views id v (rest_of v) (first_of v) is (tied_cut v) h.recorded;
+  recorded = recorded_dealt k s.words s.views id v (rest_of v) (first_of v) is (tied_cut k.threads v) h.recorded;
 }
 
 -- two seats' cards come to one
@@ -93,7 +93,7 @@ gathers k id v other w s h is apart there =
           (at_set (set s.views id (v ++ w)) other j [] u e);
       once = λ t. let a = all_set t s.views id v (v ++ w) is in let b = all_set t (set s.views id (v ++ w)) other w [] there in let c = cards_append t v w in let d = h.once t in omega arith;
       recorded = recorded_set k s.words (set s.views id (v ++ w)) other w [] there
-          (recorded_set k s.words s.views id v (v ++ w) is h.recorded (λ f. tied_append h.recorded.changes v w f (h.recorded.tied other w theirs)))
+          (recorded_set k s.words s.views id v (v ++ w) is h.recorded (λ f. tied_append k.threads h.recorded.changes v w f (h.recorded.tied other w theirs)))
           (λ f. tt);
     }
 
@@ -169,7 +169,7 @@ all_among k ws js [] f i d low = absurd (omega arith)
 all_among k ws js (c ∷ cs) f zero d low = record { begins = f.0.begins; own = λ p. sym (f.0.own p) }
 all_among k ws js (c ∷ cs) f (suc i) d low = all_among k ws js cs f.1 i d (omega arith)
 
-kept_ends : (k : Layout') (o words : List ℕ) (s : St) (h : Kept k o s) (cards : List Card) → s.words ≡ words → AllFit k s.words h.histories cards → AllTied h.recorded.changes cards → Ends k o cards words
+kept_ends : (k : Layout') (o words : List ℕ) (s : St) (h : Kept k o s) (cards : List Card) → s.words ≡ words → AllFit k s.words h.histories cards → AllTied k.threads h.recorded.changes cards → Ends k o cards words
 kept_ends k o words s h cards same fit tied = record {
   histories = h.histories;
   leaves = λ m low. subst (λ (ws : List ℕ). Leaves k.threads (cell_place k m) (at h.histories (cell_place k m)) (object_of (fields_of (get_or ws (cell_place k m) 0)))) same (h.leaves m low);
@@ -246,8 +246,8 @@ value_none : (p x : ℕ) → value_at [] p ≡ Some x → ⊥
 value_none p x e = cc
 
 -- what a thread knows of its head is so
-first_known : (k : Layout') (t p x : ℕ) → 1 ≤ t → value_at (first_values k t) p ≡ Some x → (head_place t ≤ p) × (p < head_place t + 3) × (head_word k p ≡ x)
-first_known k t p x pos e =
+head_known : (k : Layout') (t p x : ℕ) → 1 ≤ t → value_at (first_values k t) p ≡ Some x → (head_place t ≤ p) × (p < head_place t + 3) × (head_word k p ≡ x)
+head_known k t p x pos e =
     let h : ℕ = head_place t in
     let own : ℕ = address_in k t h in
     let one : List (Option ℕ) = put_value [] h (Some own) in
@@ -272,7 +272,7 @@ first_fits k counters ws t opens pos low = record {
   begins = λ p. prefix_self [];
   own = λ p. refl;
   values = λ p x e.
-      let known = first_known k t p x pos e in
+      let known = head_known k t p x pos e in
       let from = known.0 in
       let to = known.1 in
       let before : p < cell_place k 0 = omega arith in
@@ -284,14 +284,14 @@ hand_fits : (k : Layout') (counters ws : List ℕ) (n t : ℕ) → Opens k count
 hand_fits k counters ws zero t opens pos most = tt
 hand_fits k counters ws (suc n) t opens pos most = (first_fits k counters ws t opens pos (omega arith), hand_fits k counters ws n (t + 1) opens (omega arith) (omega arith))
 
-pub opens_kept : (k : Layout') (counters ws : List ℕ) → IsLayout k → ((q : ℕ) → slice_index counters q < 4294967296) → Opens k counters ws → drop (counter_place k 0) ws ≡ counters → Kept k counters (opening ws [] (hand k counters 1 k.threads))
-opens_kept k counters ws layout small opens behind = record {
+pub opens_kept : (k : Layout') (counters ws : List ℕ) → IsLayout k → ((q : ℕ) → slice_index counters q < 4294967296) → Opens k counters ws → Kept k counters (opening ws [] (hand k counters 1 k.threads))
+opens_kept k counters ws layout small opens = record {
   layout = layout;
   wide = opens.0;
   histories = [];
-  leaves = λ m low. let zero_word : slice_index ws (cell_place k m) ≡ 0 = opens.1 (cell_place k m) (omega arith) ∙ cell_first k counters m low in (ap (λ (v : ℕ). object_of (fields_of v)) zero_word, tt);
+  leaves = λ m low. (ap (λ (v : ℕ). object_of (fields_of v)) (zero_word m low), tt);
   legal = λ p. (fresh, (refl, tt));
-  narrow = λ m low. let zero_word : slice_index ws (cell_place k m) ≡ 0 = opens.1 (cell_place k m) (omega arith) ∙ cell_first k counters m low in ap (λ (v : ℕ). (fields_of v).rest) zero_word;
+  narrow = λ m low. ap (λ (v : ℕ). (fields_of v).rest) (zero_word m low);
   counted = record {
     sums = λ m low. total_same m k.conditions (λ q. get_or counters q 0) (counter_in k ws) 0 (λ q above below. began q (omega arith)) ∙ (let none : total_of m k.conditions (λ q. get_or counters q 0) 0 ≡ total_of m k.conditions (λ q. get_or counters q 0) 0 + 0 = omega arith in none);
     still = λ q low none. began q low;
@@ -299,18 +299,27 @@ opens_kept k counters ws layout small opens behind = record {
   counters = λ q low. let is : slice_index ws (counter_place k q) ≡ slice_index counters q = opens.1 (counter_place k q) (omega arith) ∙ counter_first k counters q low in subst (λ (z : ℕ). z < 4294967296) (sym is) (small q);
   fits = λ j v e. only j v e;
   once = λ t. let a = hand_once k counters t 1 k.threads in omega arith;
-  recorded = record { changes = first_changes ws; leave = λ m low. left_at_first ws (cell_place k m) _ refl; count = λ q low. left_at_first ws (counter_place k q) _ refl; authors = authors_first k ws; tied = λ j v e. tied_first j v e };
+  recorded = record {
+    changes = first_known k counters;
+    leave = λ m low. left_before (counter_place k 0) _ (cell_place k m) (omega arith) ∙ sym (zero_word m low);
+    count = λ q low. left_at_first (counter_place k 0) counters q (counter_place k q) (omega arith) ∙ sym (began q low);
+    authors = authored_behind k.threads (counter_place k 0) counters;
+    tied = λ j v e. tied_first j v e;
+  };
 }
   where
+    zero_word : (m : ℕ) → m < k.mutexes → slice_index ws (cell_place k m) ≡ 0
+    zero_word m low = opens.1 (cell_place k m) (omega arith) ∙ cell_first k counters m low
+
     began : (q : ℕ) → q < length k.conditions → counter_in k ws q ≡ get_or counters q 0
     began q low = opens.1 (counter_place k q) (omega arith) ∙ counter_first k counters q low
 
-    tied_hand : (t n : ℕ) → 1 ≤ t → AllTied (first_changes ws) (hand k counters t n)
-    tied_hand t zero pos = tt
-    tied_hand t (suc n) pos = (tied_at_first (counter_place k 0) counters ws t pos behind, tied_hand (t + 1) n (omega arith))
+    tied_hand : (t n : ℕ) → AllTied k.threads (first_known k counters) (hand k counters t n)
+    tied_hand t zero = tt
+    tied_hand t (suc n) = (tied_self k.threads (first_known k counters) t, tied_hand (t + 1) n)
 
-    tied_first : (j : ℕ) (v : List Card) → get_elem? (hand k counters 1 k.threads ∷ []) j ≡ some v → AllTied (first_changes ws) v
-    tied_first zero v e = subst (AllTied (first_changes ws)) (some-injective _ _ e) (tied_hand 1 k.threads (omega arith))
+    tied_first : (j : ℕ) (v : List Card) → get_elem? (hand k counters 1 k.threads ∷ []) j ≡ some v → AllTied k.threads (first_known k counters) v
+    tied_first zero v e = subst (AllTied k.threads (first_known k counters)) (some-injective _ _ e) (tied_hand 1 k.threads)
     tied_first (suc j) v e = absurd (some-ne-none v (sym e))
 
     only : (j : ℕ) (v : List Card) → get_elem? (hand k counters 1 k.threads ∷ []) j ≡ some v → AllFit k ws [] v

@@ -297,5 +297,5 @@ allows {o} k slots id c m op f r misses last vs tells low keeps_values steadies 
       keeps,
       tt,
       kept_step o k s h id c m (op n) (r n) (f n) (misses n) (last n) (vs s.words n) is low keep steady (countless n) (none_reinits n knows) run,
-      says_of s.words n _ knows (sees_step k s h id c m (op n) (r n) (f n) (misses n) (last n) (vs s.words n) is low (none_reinits n knows) run) (writes_there k s.words s.views h.recorded id c _ p (f n) (h.recorded.leave m low) is refl) refl refl refl (mark_put c.marks p (fields_of (f n)).waiters) refl,
+      says_of s.words n _ knows (sees_step k s h id c m (op n) (r n) (f n) (misses n) (last n) (vs s.words n) is low (none_reinits n knows) run) (writes_there k s.words s.views h.recorded id c _ p (f n) fit.thread fit.threads (h.recorded.leave m low) is refl) refl refl refl (mark_put c.marks p (fields_of (f n)).waiters) refl,
     )

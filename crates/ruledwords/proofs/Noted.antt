@@ -28,7 +28,7 @@ seen_stored p c d vs same =
     subst (λ (z : Card). HasSeenTheSame p c z) (sym same) (refl, more_same c record c { values = vs } p refl refl)
 
 pub seen_on : (p : ℕ) (c d e : Card) → HasSeenTheSame p c d → HasSeenTheSame p d e → HasSeenTheSame p c e
-seen_on p c d e first more = (more.0 ∙ ap (λ (z : Card). record z { last = e.last; trims = e.trims; values = e.values; changes = e.changes }) first.0, more_on c d e p first.1 more.1)
+seen_on p c d e first more = (more.0 ∙ ap (λ (z : Card). record z { last = e.last; trims = e.trims; values = e.values; changes = e.changes }) first.0, more_on c d e p (ap (λ (z : Card). z.threads) first.0) first.1 more.1)
 
 -- what a call was decided
 pub still_called : (c : Card) (p : ℕ) (ds : List Act) (d e : Card) → HasSeenTheSame p d e → Called c p ds d → Called c p ds e
@@ -77,7 +77,7 @@ still_stands op first q c p d e same expects s = record {
   answers = s.answers;
   reaches = s.reaches;
   misses = ap (λ (z : Card). z.misses) same.0 ∙ s.misses;
-  knows = more_on c d e q s.knows same.1;
+  knows = more_on c d e q s.called.saw.threads s.knows same.1;
   expects = expects;
   others = others_stay (changes s.answers) c.thread s.knows.here.0 same.1.here.0 s.others;
 }

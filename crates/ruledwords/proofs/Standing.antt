@@ -101,7 +101,7 @@ stands_after op first q c p d e n going step ready s m =
       answers = s.answers ++ a ∷ [];
       reaches = reached_more c.thread first s.answers a ∙ ap (λ (z : Row). (resume_of c.thread z a).row) s.reaches ∙ ap (λ (t : ℕ). (resume_of t p.row a).row) (sym (ready.0 ∙ thread));
       misses = omega arith;
-      knows = more_on c d e q s.knows (more_by d e q n (changed (access_of p) n) m.counted m.writes);
+      knows = more_on c d e q s.called.saw.threads s.knows (more_by d e q n (changed (access_of p) n) m.counted m.writes);
       expects = expects_next q e p.thread p.cell n p.row (left_behind d e q n (changed (access_of p) n) m.writes);
       others = subst (λ (z : ℕ). z ≤ length (made_by_others c.thread (s.knows.here.0 ++ (m.writes.since ++ change_of d.thread n (changed (access_of p) n))))) (sym sum) all;
     }

@@ -119,7 +119,7 @@ trims {o} k slots id c m low s h deep is small =
     let f = (h.fits id (c ∷ []) is).0 in
     let d : Card = noted c n (c.trims + 1) (put_changes c.changes p (changing k s h c m v)) in
     let left = fits_left k s h m low v right.0 right.1 right.2 c f in
-    let writes : Writes c p n (if n == 0x8000_0000 then 0 else n) d = subst (λ (w : ℕ). Writes c p n w d) (cleared (n == 0x8000_0000) n) (writes_there k s.words s.views h.recorded id c d p v (h.recorded.leave m low) is refl) in (
+    let writes : Writes c p n (if n == 0x8000_0000 then 0 else n) d = subst (λ (w : ℕ). Writes c p n w d) (cleared (n == 0x8000_0000) n) (writes_there k s.words s.views h.recorded id c d p v f.thread f.threads (h.recorded.leave m low) is refl) in (
       d ∷ [],
       keeps,
       tt,

@@ -45,7 +45,7 @@ left_by xs = left_of 0 xs
 abbrev pub change_of : ℕ → ℕ → ℕ → List Change
 change_of t n v = if v == n then [] else record { thread = t; word = v } ∷ []
 
--- at first each word is as it was given, which no thread did
+-- at first each of these words, of counters, is as it was given, which no thread did
 abbrev pub first_changes : List ℕ → List (List Change)
 first_changes ws = map (λ (w : ℕ). record { thread = 0; word = w } ∷ []) ws
 
@@ -72,30 +72,37 @@ KnowsOn c d = (p : ℕ) → IsPrefix (changes_at c.changes p) (changes_at d.chan
 
 -- ---- what holds
 
--- what thread t knows of the changes begins them, and has all that the thread made
-abbrev pub Tied : List (List Change) → ℕ → List (List Change) → Type 0
-Tied xs t ys = (p : ℕ) → IsPrefix (changes_at ys p) (changes_at xs p) × (made_by t (changes_at ys p) ≡ made_by t (changes_at xs p))
+-- what thread t knows of a word's changes begins them, and has all that the thread made. Those that it doesn't know of
+-- are by threads 1 to n
+abbrev pub TiedAt : ℕ → List Change → ℕ → List Change → Type 0
+TiedAt n xs t ys = (on : IsPrefix ys xs) × (made_by t ys ≡ made_by t xs) × AreBy n on.0
 
-abbrev pub AllTied : List (List Change) → List Card → Type 0
-AllTied xs [] = Unit {0}
-AllTied xs (c ∷ cs) = Tied xs c.thread c.changes × AllTied xs cs
+-- so it is of each word
+abbrev pub Tied : ℕ → List (List Change) → ℕ → List (List Change) → Type 0
+Tied n xs t ys = (p : ℕ) → TiedAt n (changes_at xs p) t (changes_at ys p)
 
--- of each cell and of each counter the changes that were made, of which each card has a beginning: they leave its word,
--- and behind the first one threads of the layout made them. So nobody can put in a change but at their end, as its own
+abbrev pub AllTied : ℕ → List (List Change) → List Card → Type 0
+AllTied n xs [] = Unit {0}
+AllTied n xs (c ∷ cs) = Tied n xs c.thread c.changes × AllTied n xs cs
+
+-- of each cell and of each counter the changes that were made, of which each card has a beginning: they leave its word;
+-- and threads of the layout made all behind the first one, and all of which a card doesn't know. So nobody can put in a
+-- change but at their end, as its own
 pub record Recorded (k : Layout') (ws : List ℕ) (vs : List (List Card)) : Type 0 where
   pub changes : List (List Change)
   pub leave : (m : ℕ) → m < k.mutexes → left_by (changes_at changes (cell_place k m)) ≡ slice_index ws (cell_place k m)
   pub count : (q : ℕ) → q < length k.conditions → left_by (changes_at changes (counter_place k q)) ≡ slice_index ws (counter_place k q)
   pub authors : (p : ℕ) → AreBehindFirst k.threads (changes_at changes p)
-  pub tied : (id : ℕ) (v : List Card) → get_elem? vs id ≡ some v → AllTied changes v
+  pub tied : (id : ℕ) (v : List Card) → get_elem? vs id ≡ some v → AllTied k.threads changes v
 
 -- ---- what an access tells
 
 -- an access at the word at p met n and left v: behind what its thread knew of the word's changes stand others', which
--- left n, and then its own, if it made one. Of other words' it knows what it knew
+-- left n, and then its own, if it made one, all by threads that there are. Of other words' it knows what it knew
 pub record Writes (c : Card) (p n v : ℕ) (d : Card) : Type 0 where
   pub since : List Change
   pub others : made_by c.thread since ≡ []
+  pub authors : AreBy c.threads (since ++ change_of c.thread n v)
   pub grows : changes_at d.changes p ≡ (changes_at c.changes p ++ since) ++ change_of c.thread n v
   pub met : left_by (changes_at c.changes p ++ since) ≡ n
   pub elsewhere : (q : ℕ) → q ≢ p → changes_at d.changes q ≡ changes_at c.changes q
@@ -129,10 +136,10 @@ pub record ChangedOnce (c : Card) (p : ℕ) (d : Card) : Type 0 where
 
 -- ---- of calls
 
--- of the changes of the word at p a thread knows what it knew, and maybe more; of other words' it knows what it knew;
--- and the counter that it loaded last is the same
+-- of the changes of the word at p a thread knows what it knew, and maybe more, by threads that there are; of other
+-- words' it knows what it knew; and the counter that it loaded last is the same
 pub record KnowsMoreAt (c : Card) (p : ℕ) (d : Card) : Type 0 where
-  pub here : IsPrefix (changes_at c.changes p) (changes_at d.changes p)
+  pub here : (since : List Change) × (changes_at c.changes p ++ since ≡ changes_at d.changes p) × AreBy c.threads since
   pub elsewhere : (q : ℕ) → q ≢ p → changes_at d.changes q ≡ changes_at c.changes q
   pub counted : d.counted ≡ c.counted
 
@@ -142,8 +149,10 @@ pub record Loaded (c : Card) (p : ℕ) (d : Card) : Type 0 where
   pub nothing : ChangedNothing c p d
   pub left : left_by (changes_at d.changes p) ≡ d.counted
 
--- behind what a thread knew of the changes of the word at p it has come to know of n changes by others at least
+-- behind what a thread knew of the changes of the word at p it has come to know of n changes at least by others, who
+-- are threads that there are. So the word as it was given, which nobody made, isn't among them
 pub record OthersChanged (n : ℕ) (c : Card) (p : ℕ) (d : Card) : Type 0 where
   pub since : List Change
   pub grows : changes_at d.changes p ≡ changes_at c.changes p ++ since
+  pub authors : AreBy c.threads since
   pub others : n ≤ length (made_by_others c.thread since)

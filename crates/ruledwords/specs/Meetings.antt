@@ -18,12 +18,12 @@ use Rattle.ruledwords.specs.Seen.{by, points_of, Joined, Leaves, Saw}
 
 -- these histories of mutexes and these changes of words begin with what the card has of them, and have of its thread
 -- just its own points and changes. The histories are legal; and the changes of a word, but for the first, are by
--- threads that there are
+-- threads that there are, as are all that the card hasn't
 pub record ComesToKnow (seen : List (List Point)) (changes : List (List Change)) (c : Card) : Type 0 where
   pub legal : (p : ℕ) → (o : Object) × Leaves c.threads p (at seen p) o
   pub begins : (p : ℕ) → IsPrefix (at c.seen p) (at seen p)
   pub own : (p : ℕ) → by c.thread (at seen p) ≡ by c.thread (at c.seen p)
-  pub tied : Tied changes c.thread c.changes
+  pub tied : Tied c.threads changes c.thread c.changes
   pub authors : (p : ℕ) → AreBehindFirst c.threads (changes_at changes p)
 
 -- what the card knows behind the meeting

@@ -5,7 +5,7 @@
 -- owns and the counters of their condition variables. Its pass may know their values. While it owns a mutex in which it
 -- saw WAITERS, that stays set. Counters count the signals and the broadcasts that were answered OK. Changes: each
 -- cell's words and each counter's, one after the other, and who wrote each. What a pass knows of them begins them, and
--- has all that its thread wrote.
+-- has all that its thread wrote; all others are by threads.
 use Rattle.std.specs.Prelude.{◌≡◌, ℕ, zero, suc, ◌+◌, ◌-◌, ◌/◌, ◌%◌, ◌<◌, ◌≤◌, ◌==◌, ◌&&◌, nat_lt, true, Option, Some, List, [], ◌∷◌, All, length, drop, slice_index, if◌then◌else◌}
 use mathlib.Core.Option.{some}
 use mathlib.Core.List.{IsPrefix}
@@ -148,7 +148,8 @@ pub record IsAmong (histories : List (List Point)) (c : Card) : Type 0 where
 
 -- the last words: each cell is as one legal list of its mutex says, in which is what these passes saw, all of them. A
 -- cell has no bits above its flags. The counters count what counts in these lists; and each is as the changes of it
--- leave it, all that were made, of which these passes know the first and their threads' own
+-- leave it, all that were made, of which these passes know the first and their threads' own; all that a pass doesn't
+-- know of are by threads that there are
 pub record Ends (k : Layout') (presets : List ℕ) (cards : List Card) (words : List ℕ) : Type 0 where
   pub histories : List (List Point)
   pub leaves : (m : ℕ) → m < k.mutexes → Leaves k.threads (cell_place k m) (at histories (cell_place k m)) (object_of (fields_of (slice_index words (cell_place k m))))
@@ -157,5 +158,5 @@ pub record Ends (k : Layout') (presets : List ℕ) (cards : List Card) (words : 
   pub changes : List (List Change)
   pub count : (q : ℕ) → q < length k.conditions → left_by (changes_at changes (counter_place k q)) ≡ slice_index words (counter_place k q)
   pub authors : (p : ℕ) → AreBehindFirst k.threads (changes_at changes p)
-  pub tied : AllTied changes cards
+  pub tied : AllTied k.threads changes cards
   pub among : All (IsAmong histories) cards

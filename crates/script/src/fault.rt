@@ -1,6 +1,6 @@
 //! Why a script was refused.
 ghost use Rattle.std.specs.Prelude.{◌≡◌};
-ghost use Rattle.script.specs.Faults.{number_of};
+ghost use Rattle.script.specs.Faults.{number_of, words_of};
 
 use std::alloc::{AllocError, AllocFailed};
 use thiserror::Error;
@@ -40,6 +40,20 @@ impl Fault {
             Fault::NoSuchName => 4,
             Fault::TooLong => 5,
             Fault::OutOfMemory => 6,
+        }
+    }
+
+    /// Its words, as its message has them.
+    pub fn words(self) -> &'static str
+        ensures { result.now ≡ words_of self }
+    {
+        match self {
+            Fault::NotUtf8 => "not UTF-8",
+            Fault::UnknownWord => "unknown word",
+            Fault::OutOfRange => "number out of range",
+            Fault::NoSuchName => "no such name",
+            Fault::TooLong => "too long",
+            Fault::OutOfMemory => "out of memory",
         }
     }
 }

@@ -1,3 +1,4 @@
 pub mod Leaves
+pub mod Pieces
 pub mod Taken
 pub mod Words

@@ -1,12 +1,12 @@
 //! Reading all that a reader has, and writing all of a text: what the programs have in common at their files and
 //! their command lines.
 //!
-//! [`read_below`] reads up to a limit, [`put`] and [`put_text`] write texts without asking for memory, and an
-//! [`Output`] is a writer of which it is known that it has let go of what it kept back. Where a writer fails, it holds
-//! a beginning of the text. An [`Opener`] opens files by their names. [`lent`] and [`is_file`] are of the words of a
-//! command line.
+//! [`read_below`] reads up to a limit, [`put`], [`put_pieces`] and [`put_text`] write texts without asking for memory,
+//! and an [`Output`] is a writer of which it is known that it has let go of what it kept back. Where a writer fails, it
+//! holds a beginning of the text. An [`Opener`] opens files by their names, [`SystemFiles`] those of the system.
+//! [`lent`] and [`is_file`] are of the words of a command line, which [`system_words`] gives.
 //!
-//! Stands on no other crate.
+//! Stands on no other crate of this repository, and on `itoa`, for numbers.
 //!
 //! ```text
 //! /// Writes what the reader has, where that is at most so many bytes. False says that a beginning of it is written.
@@ -24,10 +24,12 @@ mod opening;
 mod output;
 mod pieces;
 mod reading;
+mod system;
 mod words;
 
 pub use opening::Opener;
 pub use output::Output;
-pub use pieces::{put, put_text};
+pub use pieces::{Piece, put, put_pieces, put_text};
 pub use reading::{ReadFault, read_below};
+pub use system::{SystemFiles, SystemInput, system_words};
 pub use words::{is_file, lent};

@@ -1,5 +1,5 @@
--- The numbers of faults.
-use Rattle.std.specs.Prelude.{ℕ}
+-- The numbers of faults, and their words.
+use Rattle.std.specs.Prelude.{ℕ, List, codes}
 use Rattle.verdict.specs.declared.fault.Fault.{Fault}
 use Rattle.verdict.specs.declared.fault.Fault.TheVariants.{NotUtf8, UnknownWord, OutOfRange, TooLong, Cut, OutOfMemory}
 
@@ -11,3 +11,12 @@ number_of OutOfRange = 3
 number_of TooLong = 4
 number_of Cut = 5
 number_of OutOfMemory = 6
+
+-- and its words
+abbrev pub words_of : Fault → List ℕ
+words_of NotUtf8 = codes "not UTF-8"
+words_of UnknownWord = codes "unknown word"
+words_of OutOfRange = codes "number out of range"
+words_of TooLong = codes "too long"
+words_of Cut = codes "cut"
+words_of OutOfMemory = codes "out of memory"

@@ -1,6 +1,6 @@
 //! Why a trace was refused.
 ghost use Rattle.std.specs.Prelude.{◌≡◌};
-ghost use Rattle.verdict.specs.Faults.{number_of};
+ghost use Rattle.verdict.specs.Faults.{number_of, words_of};
 
 use std::alloc::AllocError;
 use thiserror::Error;
@@ -40,6 +40,20 @@ impl Fault {
             Fault::TooLong => 4,
             Fault::Cut => 5,
             Fault::OutOfMemory => 6,
+        }
+    }
+
+    /// Its words, as its message has them.
+    pub fn words(self) -> &'static str
+        ensures { result.now ≡ words_of self }
+    {
+        match self {
+            Fault::NotUtf8 => "not UTF-8",
+            Fault::UnknownWord => "unknown word",
+            Fault::OutOfRange => "number out of range",
+            Fault::TooLong => "too long",
+            Fault::Cut => "cut",
+            Fault::OutOfMemory => "out of memory",
         }
     }
 }

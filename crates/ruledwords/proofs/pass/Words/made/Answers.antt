@@ -23,7 +23,7 @@ of_words-requires-clause-holds c =
     let small : (q : ℕ) → slice_index c.args.presets.now q < 4294967296 = λ q. search rules in
     let presets = presets_are k c.args.presets.now c.in_ok-words.words.items c.requires (c.in_ok-words.ensures.count, c.in_ok-words.ensures.each) in
     subst (λ (z : List ℕ × List ℕ). Kept k z.0 (opening z.1 [] (hand k z.0 1 k.threads))) (λ i. (sym presets i, sym words i))
-    (opens_kept k c.args.presets.now c.in_ok-words.words.items c.in_ok-words.ensures.layout small (c.in_ok-words.ensures.count, c.in_ok-words.ensures.each) presets)
+    (opens_kept k c.args.presets.now c.in_ok-words.words.items c.in_ok-words.ensures.layout small (c.in_ok-words.ensures.count, c.in_ok-words.ensures.each))
 
 pub loop-before-init : goal.loop-before-init
 loop-before-init c =
