@@ -1,5 +1,5 @@
 -- What every call keeps, whatever the words that it meets and the answers that it gets.
-use Rattle.std.specs.Prelude.{ℕ, ◌≡◌, ◌≢◌, ◌↔◌, ◌+◌, ◌≤◌, Bool, true, Option, Some, None, List, [], ◌∷◌}
+use Rattle.std.specs.Prelude.{ℕ, ◌≡◌, ◌≢◌, ◌↔◌, ◌+◌, ◌≤◌, ◌<◌, Bool, true, Option, Some, None, List, [], ◌∷◌}
 use Rattle.lockword.specs.Cells.{Fields, fields_of}
 use Rattle.lockword.specs.declared.reply.Reply.{Reply}
 use Rattle.lockword.specs.declared.reply.Reply.TheVariants.{OK, ENOTRECOVERABLE, XRACED}
@@ -97,6 +97,10 @@ changes (a ∷ answers) = tells_change a + changes answers
 -- a trylock gives up only after four exchanges that each found a changed cell
 abbrev pub RacedAfterFour : Type 0
 RacedAfterFour = (t : ℕ) (answers : List Answer) → reached t (TryLock try.Load) answers ≡ Ended XRACED → 4 ≤ changes answers
+
+-- one that tries still has met three at most: after the fourth it gives up
+abbrev pub GivesUpAfterFour : Type 0
+GivesUpAfterFour = (t : ℕ) (answers : List Answer) (v : Fields) (k : ℕ) → reached t (TryLock try.Load) answers ≡ TryLock (try.Take v k) → changes answers < 4
 
 -- the cell that an access met, as its answer tells: that of a release and of a declaration is told by the call's first
 -- load

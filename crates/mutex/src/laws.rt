@@ -1,5 +1,5 @@
 //! What holds of every call.
-ghost use Rattle.mutex.specs.Laws.{ProgramsAreRight, WaitersAreKept, UnlocksTrim, RacedAfterFour, PointsArePermitted};
+ghost use Rattle.mutex.specs.Laws.{ProgramsAreRight, WaitersAreKept, UnlocksTrim, RacedAfterFour, GivesUpAfterFour, PointsArePermitted};
 ghost use Rattle.mutex.specs.Wakes.{WakesAreRight};
 ghost use Rattle.mutex.specs.WholeLaws.{WholeCallsAreRight, WholeCallsWake, WholeUnlocksTrim};
 ghost use Rattle.mutex.specs.WholeLists.{WholeListsAreKept};
@@ -39,6 +39,11 @@ pub fn whole_calls_wake()
 /// Whatever it is answered, a trylock gives up only after four exchanges that each found a changed cell.
 pub fn raced_after_four()
     ensures { RacedAfterFour }
+{}
+
+/// A trylock that tries still has met three at most: after the fourth it gives up.
+pub fn gives_up_after_four()
+    ensures { GivesUpAfterFour }
 {}
 
 /// Whatever a call is answered, its reply is one that POSIX permits for the cell that it met.

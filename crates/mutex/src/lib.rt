@@ -6,8 +6,8 @@
 //! cell meets, it is a step of the mutex as POSIX sees it, or leaves it (`programs_are_right`, `points_are_permitted`),
 //! and it leaves `WAITERS` where it is set (`waiters_are_kept`), but for the trim of an unlock that woke nobody
 //! (`unlocks_trim_after_waking_nobody`). One sleeper is woken behind a release that leaves the mutex usable, and all of
-//! an unusable one (`wakes_are_right`, `whole_calls_wake`). A trylock gives up only after four exchanges that each
-//! found a changed cell (`raced_after_four`). A whole call that returned, and not for a fault, had exactly one point,
+//! an unusable one (`wakes_are_right`, `whole_calls_wake`). A trylock gives up behind the fourth exchange that
+//! found a changed cell (`raced_after_four`, `gives_up_after_four`). A whole call that returned, and not for a fault, had exactly one point,
 //! whose reply it returned (`whole_calls_are_right`, `whole_calls_are_decided`); and wherever its thread dies, the
 //! kernel finds in the thread's own words all that it owns (`whole_calls_keep_lists`).
 //!
@@ -46,9 +46,9 @@ pub use call::Call;
 pub use coding::CodedPhase;
 pub use consistent::ConsistentRow;
 pub use laws::{
-    points_are_permitted, programs_are_right, raced_after_four, unlocks_trim_after_waking_nobody,
-    waiters_are_kept, wakes_are_right, whole_calls_are_decided, whole_calls_are_right,
-    whole_calls_keep_lists, whole_calls_wake,
+    gives_up_after_four, points_are_permitted, programs_are_right, raced_after_four,
+    unlocks_trim_after_waking_nobody, waiters_are_kept, wakes_are_right, whole_calls_are_decided,
+    whole_calls_are_right, whole_calls_keep_lists, whole_calls_wake,
 };
 pub use lock::LockRow;
 pub use phase::{Onward, Phase};

@@ -1,5 +1,5 @@
 -- Why replies come, and that they do.
-use Rattle.std.proofs.Common.{◌≡◌, ◌≢◌, ◌≤◌, ◌↔◌, ◌⊎◌, inl, inr, ℕ, ◌&&◌, Bool, true, false, nat_le, MatchBool, Option, Some, None, refl, ap, ◌∙◌, sym, subst, arith}
+use Rattle.std.proofs.Common.{◌≡◌, ◌≢◌, ◌≤◌, ◌↔◌, ◌⊎◌, ⊎_elim, inl, inr, ℕ, ◌&&◌, Bool, true, false, nat_le, MatchBool, Option, Some, None, refl, ap, ◌∙◌, sym, subst, arith}
 use mathlib.Core.Logic.{dite}
 use native.Mathlib.Decide.{ℕ_discrete}
 use Rattle.lockword.specs.declared.reply.Reply.{Reply}
@@ -7,7 +7,7 @@ use Rattle.lockword.specs.declared.reply.Reply.TheVariants.{OK, EPERM, EBUSY, EI
 use Rattle.posixmutex.specs.declared.object.Object.{Object}
 use Rattle.posixmutex.specs.declared.point.Operation.{Operation}
 use Rattle.posixmutex.specs.declared.point.Operation.TheVariants.{Lock, TryLock, Unlock, Consistent, Wait, Signal, Broadcast, Death, Reinit}
-use Rattle.posixmutex.specs.Objects.{Permits, Does, acquires, bereaved, declared_consistent, freed, fresh, owned_by, CallsAreAnswered, HasReason, IsUnanswered, LimitIsExact, RepliesHaveReasons}
+use Rattle.posixmutex.specs.Objects.{Permits, Does, acquires, bereaved, declared_consistent, freed, fresh, owned_by, CallsAreAnswered, HasReason, IsUnanswered, LimitIsExact, ReasonsSuffice, RepliesHaveReasons}
 
 permitted : (held : ℕ) (o : Object) (t : ℕ) (op : Operation) (r : Reply) (n : Object) → Permits o t op r n → HasReason held o t op r
 permitted held o t Lock OK n p = (p.1, p.2, p.0)
@@ -139,3 +139,116 @@ calls held o t op sound = go (acquires op && nat_le 2048 held) refl (answered o 
   go : (b : Bool) → (acquires op && nat_le 2048 held) ≡ b → Permitted_to o t op → ((r : Reply) × (n : Object) × MatchBool b ((r ≡ XHELD) × (n ≡ o)) (Permits o t op r n)) ⊎ IsUnanswered o t op
   go true e h = inl (XHELD, o, (refl, refl))
   go false e h = h
+
+-- ---- that they come where they have it
+
+may : (held : ℕ) (o : Object) (t : ℕ) (op : Operation) (r : Reply) → r ≢ XHELD → HasReason held o t op r → (n : Object) × Permits o t op r n
+may held o t Lock OK other h = (owned_by o t, (h.2, h.0, h.1, refl))
+may held o t TryLock OK other h = (owned_by o t, (h.2, h.0, h.1, refl))
+may held o t Unlock OK other h = (freed o, (h, refl))
+may held o t Consistent OK other h = (declared_consistent o, (h.0, h.1, refl))
+may held o t Wait OK other h = absurd h
+may held o t Signal OK other h = (o, (h, refl))
+may held o t Broadcast OK other h = (o, (h, refl))
+may held o t Death OK other h = (bereaved o, (h, refl))
+may held o t Reinit OK other h = (fresh, (h.1, h.0, refl))
+may held o t Lock EOWNERDEAD other h = (owned_by o t, (h.3, h.1, h.2, refl))
+may held o t TryLock EOWNERDEAD other h = (owned_by o t, (h.3, h.1, h.2, refl))
+may held o t Unlock EOWNERDEAD other h = absurd (cc h.0)
+may held o t Consistent EOWNERDEAD other h = absurd (cc h.0)
+may held o t Wait EOWNERDEAD other h = absurd (cc h.0)
+may held o t Signal EOWNERDEAD other h = absurd (cc h.0)
+may held o t Broadcast EOWNERDEAD other h = absurd (cc h.0)
+may held o t Death EOWNERDEAD other h = absurd (cc h.0)
+may held o t Reinit EOWNERDEAD other h = absurd (cc h.0)
+may held o t Lock ENOTRECOVERABLE other h = (o, (h.1, refl))
+may held o t TryLock ENOTRECOVERABLE other h = (o, (h.1, refl))
+may held o t Unlock ENOTRECOVERABLE other h = absurd (cc h.0)
+may held o t Consistent ENOTRECOVERABLE other h = absurd (cc h.0)
+may held o t Wait ENOTRECOVERABLE other h = absurd (cc h.0)
+may held o t Signal ENOTRECOVERABLE other h = absurd (cc h.0)
+may held o t Broadcast ENOTRECOVERABLE other h = absurd (cc h.0)
+may held o t Death ENOTRECOVERABLE other h = absurd (cc h.0)
+may held o t Reinit ENOTRECOVERABLE other h = absurd (cc h.0)
+may held o t Lock EDEADLK other h = (o, (h.1, refl))
+may held o t TryLock EDEADLK other h = absurd (cc h.0)
+may held o t Unlock EDEADLK other h = absurd (cc h.0)
+may held o t Consistent EDEADLK other h = absurd (cc h.0)
+may held o t Wait EDEADLK other h = absurd (cc h.0)
+may held o t Signal EDEADLK other h = absurd (cc h.0)
+may held o t Broadcast EDEADLK other h = absurd (cc h.0)
+may held o t Death EDEADLK other h = absurd (cc h.0)
+may held o t Reinit EDEADLK other h = absurd (cc h.0)
+may held o t Lock EBUSY other h = absurd (cc h.0)
+may held o t TryLock EBUSY other h = (o, (h.1, refl))
+may held o t Unlock EBUSY other h = absurd (cc h.0)
+may held o t Consistent EBUSY other h = absurd (cc h.0)
+may held o t Wait EBUSY other h = absurd (cc h.0)
+may held o t Signal EBUSY other h = absurd (cc h.0)
+may held o t Broadcast EBUSY other h = absurd (cc h.0)
+may held o t Death EBUSY other h = absurd (cc h.0)
+may held o t Reinit EBUSY other h = absurd (cc h.0)
+may held o t Lock EPERM other h = absurd h
+may held o t TryLock EPERM other h = absurd h
+may held o t Unlock EPERM other h = (o, (h, refl))
+may held o t Consistent EPERM other h = (o, (h, refl))
+may held o t Wait EPERM other h = (o, (h, refl))
+may held o t Signal EPERM other h = (o, (h, refl))
+may held o t Broadcast EPERM other h = (o, (h, refl))
+may held o t Death EPERM other h = absurd h
+may held o t Reinit EPERM other h = absurd h
+may held o t Lock EINVAL other h = absurd (cc h.0)
+may held o t TryLock EINVAL other h = absurd (cc h.0)
+may held o t Unlock EINVAL other h = absurd (cc h.0)
+may held o t Consistent EINVAL other h = (o, (h.1, h.2, refl))
+may held o t Wait EINVAL other h = absurd (cc h.0)
+may held o t Signal EINVAL other h = absurd (cc h.0)
+may held o t Broadcast EINVAL other h = absurd (cc h.0)
+may held o t Death EINVAL other h = absurd (cc h.0)
+may held o t Reinit EINVAL other h = absurd (cc h.0)
+may held o t Lock XSTATE other h = absurd (cc h.0)
+may held o t TryLock XSTATE other h = absurd (cc h.0)
+may held o t Unlock XSTATE other h = absurd (cc h.0)
+may held o t Consistent XSTATE other h = absurd (cc h.0)
+may held o t Wait XSTATE other h = (o, (h.1, h.2, refl))
+may held o t Signal XSTATE other h = absurd (cc h.0)
+may held o t Broadcast XSTATE other h = absurd (cc h.0)
+may held o t Death XSTATE other h = absurd (cc h.0)
+may held o t Reinit XSTATE other h = absurd (cc h.0)
+may held o t Lock XFULL other h = absurd (⊎_elim (λ (e : Lock ≡ Signal). absurd (cc e)) (λ (e : Lock ≡ Broadcast). absurd (cc e)) h.0)
+may held o t TryLock XFULL other h = absurd (⊎_elim (λ (e : TryLock ≡ Signal). absurd (cc e)) (λ (e : TryLock ≡ Broadcast). absurd (cc e)) h.0)
+may held o t Unlock XFULL other h = absurd (⊎_elim (λ (e : Unlock ≡ Signal). absurd (cc e)) (λ (e : Unlock ≡ Broadcast). absurd (cc e)) h.0)
+may held o t Consistent XFULL other h = absurd (⊎_elim (λ (e : Consistent ≡ Signal). absurd (cc e)) (λ (e : Consistent ≡ Broadcast). absurd (cc e)) h.0)
+may held o t Wait XFULL other h = absurd (⊎_elim (λ (e : Wait ≡ Signal). absurd (cc e)) (λ (e : Wait ≡ Broadcast). absurd (cc e)) h.0)
+may held o t Signal XFULL other h = (o, (h.1, refl))
+may held o t Broadcast XFULL other h = (o, (h.1, refl))
+may held o t Death XFULL other h = absurd (⊎_elim (λ (e : Death ≡ Signal). absurd (cc e)) (λ (e : Death ≡ Broadcast). absurd (cc e)) h.0)
+may held o t Reinit XFULL other h = absurd (⊎_elim (λ (e : Reinit ≡ Signal). absurd (cc e)) (λ (e : Reinit ≡ Broadcast). absurd (cc e)) h.0)
+may held o t Lock XRACED other h = absurd (cc h.0)
+may held o t TryLock XRACED other h = (o, (h.2, h.1, refl))
+may held o t Unlock XRACED other h = absurd (cc h.0)
+may held o t Consistent XRACED other h = absurd (cc h.0)
+may held o t Wait XRACED other h = absurd (cc h.0)
+may held o t Signal XRACED other h = absurd (cc h.0)
+may held o t Broadcast XRACED other h = absurd (cc h.0)
+may held o t Death XRACED other h = absurd (cc h.0)
+may held o t Reinit XRACED other h = absurd (cc h.0)
+may held o t op XHELD other h = absurd (other refl)
+may held o t op r other h = absurd h
+
+held_few : (held : ℕ) (o : Object) (t : ℕ) (op : Operation) → (acquires op && nat_le 2048 held) ≡ false → HasReason held o t op XHELD → ⊥
+held_few held o t Lock e why = cc (e, why.1)
+held_few held o t TryLock e why = cc (e, why.1)
+held_few held o t Unlock e why = ⊎_elim (λ (x : Unlock ≡ Lock). cc x) (λ (x : Unlock ≡ TryLock). cc x) why.0
+held_few held o t Consistent e why = ⊎_elim (λ (x : Consistent ≡ Lock). cc x) (λ (x : Consistent ≡ TryLock). cc x) why.0
+held_few held o t Wait e why = ⊎_elim (λ (x : Wait ≡ Lock). cc x) (λ (x : Wait ≡ TryLock). cc x) why.0
+held_few held o t Signal e why = ⊎_elim (λ (x : Signal ≡ Lock). cc x) (λ (x : Signal ≡ TryLock). cc x) why.0
+held_few held o t Broadcast e why = ⊎_elim (λ (x : Broadcast ≡ Lock). cc x) (λ (x : Broadcast ≡ TryLock). cc x) why.0
+held_few held o t Death e why = ⊎_elim (λ (x : Death ≡ Lock). cc x) (λ (x : Death ≡ TryLock). cc x) why.0
+held_few held o t Reinit e why = ⊎_elim (λ (x : Reinit ≡ Lock). cc x) (λ (x : Reinit ≡ TryLock). cc x) why.0
+
+pub suffice : ReasonsSuffice
+suffice held o t op r h limit = by_cases (acquires op && nat_le 2048 held) refl where
+  by_cases : (b : Bool) → (acquires op && nat_le 2048 held) ≡ b → (n : Object) × MatchBool b ((r ≡ XHELD) × (n ≡ o)) (Permits o t op r n)
+  by_cases true e = (o, (limit e, refl))
+  by_cases false e = may held o t op r (λ (told : r ≡ XHELD). absurd (held_few held o t op e (subst (λ (x : Reply). HasReason held o t op x) told h))) h

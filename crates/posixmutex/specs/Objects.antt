@@ -121,17 +121,23 @@ ChangesHaveReasons = (held : ℕ) (o : Object) (t : ℕ) (op : Operation) (r : R
 
 -- ---- why replies come
 
--- a reply to thread t, which holds so many mutexes, of an operation on o: the state in which alone it comes
+-- a reply to thread t, which holds so many mutexes, of an operation on o: the state in which alone it comes. A wait
+-- releases its mutex as an unlock and takes it as a lock, so by itself it only refuses; EPERM is for calls of an owner
 abbrev pub HasReason : ℕ → Object → ℕ → Operation → Reply → Type 0
 HasReason held o t Lock OK = (o.owner ≡ None) × (o.inconsistent ≡ false) × (o.unusable ≡ false)
 HasReason held o t TryLock OK = (o.owner ≡ None) × (o.inconsistent ≡ false) × (o.unusable ≡ false)
 HasReason held o t Consistent OK = (o.owner ≡ Some t) × (o.inconsistent ≡ true)
 HasReason held o t Reinit OK = (o.owner ≡ None) × (o.unusable ≡ true)
+HasReason held o t Wait OK = ⊥
 HasReason held o t op OK = o.owner ≡ Some t
 HasReason held o t op EOWNERDEAD = (acquires op ≡ true) × (o.owner ≡ None) × (o.inconsistent ≡ true) × (o.unusable ≡ false)
 HasReason held o t op ENOTRECOVERABLE = (acquires op ≡ true) × (o.unusable ≡ true)
 HasReason held o t op EDEADLK = (op ≡ Lock) × (o.owner ≡ Some t)
 HasReason held o t op EBUSY = (op ≡ TryLock) × (o.owner ≢ None)
+HasReason held o t Lock EPERM = ⊥
+HasReason held o t TryLock EPERM = ⊥
+HasReason held o t Death EPERM = ⊥
+HasReason held o t Reinit EPERM = ⊥
 HasReason held o t op EPERM = o.owner ≢ Some t
 HasReason held o t op EINVAL = (op ≡ Consistent) × (o.owner ≡ Some t) × (o.inconsistent ≡ false)
 HasReason held o t op XSTATE = (op ≡ Wait) × (o.owner ≡ Some t) × (o.inconsistent ≡ true)
@@ -148,6 +154,11 @@ RepliesHaveReasons = (held : ℕ) (o : Object) (t : ℕ) (op : Operation) (r : R
 abbrev pub LimitIsExact : Type 0
 LimitIsExact = (held : ℕ) (o : Object) (t : ℕ) (op : Operation) (r : Reply) (n : Object) → Does held o t op r n
     → (r ≡ XHELD) ↔ ((acquires op ≡ true) × (2048 ≤ held))
+
+-- and each reply that has its reason may come, but that a lock or trylock at the limit has X_HELD alone
+abbrev pub ReasonsSuffice : Type 0
+ReasonsSuffice = (held : ℕ) (o : Object) (t : ℕ) (op : Operation) (r : Reply) → HasReason held o t op r
+    → ((acquires op && nat_le held_limit held) ≡ true → r ≡ XHELD) → (n : Object) × Does held o t op r n
 
 -- what isn't answered: a lock of a mutex that another thread owns, a wait that releases its mutex (as an unlock), a
 -- death of who isn't the owner, and a reinit of a mutex that isn't unusable

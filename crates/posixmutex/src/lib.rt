@@ -4,8 +4,8 @@
 //! says for each [`Operation`] and reply whether it may come, and what it leaves. Laws in plain words stand above that
 //! table: a step leaves no choice (`steps_are_determined`); whoever doesn't own a mutex changes it only by taking a
 //! free one, or by making an unusable one anew (`changes_have_reasons`); each reply has its reason
-//! (`replies_have_reasons`), X_HELD exactly its own (`limit_is_exact`); and no call goes without one that could have it
-//! (`calls_are_answered`). A [`Point`] is the step at which a call takes effect; a [`Decision`] is a point as traces
+//! (`replies_have_reasons`) and may come where it has it (`reasons_suffice`), X_HELD exactly its own
+//! (`limit_is_exact`); and no call goes without one that could have it (`calls_are_answered`). A [`Point`] is the step at which a call takes effect; a [`Decision`] is a point as traces
 //! tell it. `specs/Histories.antt` says which lists of them are legal. An operation's word is read back as that
 //! operation (`operations_are_read_back`).
 //!
@@ -26,7 +26,7 @@ mod object;
 mod point;
 
 pub use object::{
-    HELD_LIMIT, Object, calls_are_answered, changes_have_reasons, limit_is_exact,
+    HELD_LIMIT, Object, calls_are_answered, changes_have_reasons, limit_is_exact, reasons_suffice,
     replies_have_reasons, steps_are_determined,
 };
 pub use point::{Decision, Operation, ParseOperationError, Point, operations_are_read_back};

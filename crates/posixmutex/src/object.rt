@@ -1,6 +1,6 @@
 //! The robust mutex as an object, with no bits: what each operation may answer, and what it leaves.
 ghost use Rattle.std.specs.Prelude.{◌≡◌, true, false, MatchOption};
-ghost use Rattle.posixmutex.specs.Objects.{CallsAreAnswered, ChangesHaveReasons, LimitIsExact, RepliesHaveReasons, StepsAreDetermined};
+ghost use Rattle.posixmutex.specs.Objects.{CallsAreAnswered, ChangesHaveReasons, LimitIsExact, ReasonsSuffice, RepliesHaveReasons, StepsAreDetermined};
 
 use crate::point::Operation;
 use lockword::{Reply, Tid};
@@ -198,6 +198,12 @@ pub fn changes_have_reasons()
 /// it may, and so on.
 pub fn replies_have_reasons()
     ensures { RepliesHaveReasons }
+{}
+
+/// Each reply that has its reason may come, but that a lock or trylock at the limit has X_HELD alone: so X_RACED and
+/// X_FULL come beside others.
+pub fn reasons_suffice()
+    ensures { ReasonsSuffice }
 {}
 
 /// X_HELD is the reply of a lock or trylock whose thread holds 2,048 mutexes or more, and of no other call: the kernel
