@@ -130,25 +130,35 @@ others_few n t [] (x ∷ zs) are none = go (x.thread == t) (none_others n t zs a
 others_sum : (t : ℕ) (xs ys : List Change) → length (made_by_others t (xs ++ ys)) ≡ length (made_by_others t xs) + length (made_by_others t ys)
 others_sum t xs ys = ap length (filter-append (λ (x : Change). not (x.thread == t)) xs ys) ∙ length-append (made_by_others t xs) (made_by_others t ys)
 
-took_knows : (b : Bool) (a d : Card) (place : ℕ) (op : Operation) (r : Reply) → MatchBool b ((r ≡ XHELD) × (d ≡ a)) (Called a place ((op, r) ∷ []) d) → KnowsOn a d
-took_knows true a d place op r told = subst (KnowsOn a) (sym told.1) (knows_on_self a)
-took_knows false a d place op r told = told.saw.knows
+-- a card of the same threads, which knows on
+abbrev pub Onwards : Card → Card → Type 0
+Onwards a b = (b.threads ≡ a.threads) × KnowsOn a b
+
+pub onwards_self : (a : Card) → Onwards a a
+onwards_self a = (refl, knows_on_self a)
+
+pub onwards_then : (a b c : Card) → Onwards a b → Onwards b c → Onwards a c
+onwards_then a b c one two = (two.0 ∙ one.0, knows_on_then a b c one.0 one.1 two.1)
+
+took_knows : (b : Bool) (a d : Card) (place : ℕ) (op : Operation) (r : Reply) → MatchBool b ((r ≡ XHELD) × (d ≡ a)) (Called a place ((op, r) ∷ []) d) → Onwards a d
+took_knows true a d place op r told = subst (Onwards a) (sym told.1) (onwards_self a)
+took_knows false a d place op r told = (told.saw.threads, told.saw.knows)
 
 -- what a call leaves known
-replied_knows : (k : Layout') (a : Card) (call : Op) (r : Reply) (b : Card) → Replied k a call r b → KnowsOn a b
+replied_knows : (k : Layout') (a : Card) (call : Op) (r : Reply) (b : Card) → Replied k a call r b → Onwards a b
 replied_knows k a (OnMutex (Lock m)) r b told = took_knows (nat_le 2048 (held a)) a b (cell_place k m) operation.Lock r told
 replied_knows k a (OnMutex (TryLock m)) r b told = took_knows (nat_le 2048 (held a)) a b (cell_place k m) operation.TryLock r told.0
-replied_knows k a (OnMutex (Unlock m)) r b told = told.saw.knows
-replied_knows k a (OnMutex (Consistent m)) r b told = told.saw.knows
-replied_knows k a (OnCondition (Signal q)) r b told = told.called.saw.knows
-replied_knows k a (OnCondition (Broadcast q)) r b told = told.called.saw.knows
-replied_knows k a (OnCondition (Wait q)) r b told = ⊎_elim (λ (refused : CondEnded k q operation.Wait r a b). refused.called.saw.knows) (λ (took : TookAgain k a q r b). took.called.saw.knows) told
+replied_knows k a (OnMutex (Unlock m)) r b told = (told.saw.threads, told.saw.knows)
+replied_knows k a (OnMutex (Consistent m)) r b told = (told.saw.threads, told.saw.knows)
+replied_knows k a (OnCondition (Signal q)) r b told = (told.called.saw.threads, told.called.saw.knows)
+replied_knows k a (OnCondition (Broadcast q)) r b told = (told.called.saw.threads, told.called.saw.knows)
+replied_knows k a (OnCondition (Wait q)) r b told = ⊎_elim (λ (refused : CondEnded k q operation.Wait r a b). (refused.called.saw.threads, refused.called.saw.knows)) (λ (took : TookAgain k a q r b). (took.called.saw.threads, took.called.saw.knows)) told
 
-pub answered_knows : (k : Layout') (a : Card) (cs : List Op) (rs : List Reply) (b : Card) → Answered k a cs rs b → KnowsOn a b
-answered_knows k a [] [] b same = subst (KnowsOn a) same (knows_on_self a)
+pub answered_knows : (k : Layout') (a : Card) (cs : List Op) (rs : List Reply) (b : Card) → Answered k a cs rs b → Onwards a b
+answered_knows k a [] [] b same = subst (Onwards a) same (onwards_self a)
 answered_knows k a [] (r ∷ rs) b answered = absurd answered
 answered_knows k a (c ∷ cs) [] b answered = absurd answered
-answered_knows k a (c ∷ cs) (r ∷ rs) b answered = knows_on_then a answered.0 b (replied_knows k a c r answered.0 answered.1) (answered_knows k answered.0 cs rs b answered.2)
+answered_knows k a (c ∷ cs) (r ∷ rs) b answered = onwards_then a answered.0 b (replied_knows k a c r answered.0 answered.1) (answered_knows k answered.0 cs rs b answered.2)
 
 -- calls on mutexes and condition variables that there are
 abbrev pub IsThere : Layout' → Op → Type 0
@@ -360,7 +370,7 @@ module _ (k : Layout') (t : ℕ) (seen' : List (List Point)) (changes' : List (L
   answered_alone c d os vs (x ∷ cs) [] within s counts answered tails = absurd answered
   answered_alone c d os vs (x ∷ cs) (r ∷ rs) within s counts answered tails =
       let e : Card = answered.0 in
-      let tails' : Tails e = before e d tails (λ p. answered_grew k p e cs rs d answered.2) (answered_knows k e cs rs d answered.2) in
+      let tails' : Tails e = before e d tails (λ p. answered_grew k p e cs rs d answered.2) (answered_knows k e cs rs d answered.2).1 in
       let counted = replied_tallies k t changes' c e vs x r s.thread within.0.0 within.0.1 counts answered.1 tails'.1 in
       let first = replied_alone c e os vs x r within.0.0 counted.0 s answered.1 tails' in
       let rest = answered_alone e d (behind k t os x r) (counters_behind vs x r) cs rs within.1 first.1 counted.1 answered.2 tails in

@@ -32,8 +32,8 @@ use Rattle.report.specs.Lone.{counter_of, raised, AreByCounter, IsLone, PlaysAlo
 use Rattle.report.specs.Meetings.{is_reaped}
 use Rattle.report.specs.Parts.{Part}
 use Rattle.report.specs.Threads.{calls_in, open_gate, HasPassed, Works, WorksFrom}
-use Rattle.ruledwords.proofs.Changes.{knows_on_self, knows_on_then}
-use Rattle.report.proofs.LoneCalls.{answered_alone, died_alone, only_from, IsThere, OnlyBy, Stands, Within, by_each, by_only, none_others, only_rest, answered_knows, others_few}
+use Rattle.ruledwords.proofs.Changes.{knows_on_then}
+use Rattle.report.proofs.LoneCalls.{answered_alone, died_alone, only_from, IsThere, OnlyBy, Stands, Within, by_each, by_only, none_others, only_rest, answered_knows, others_few, Onwards, onwards_self, onwards_then}
 use Rattle.report.proofs.LoneCounters.{acts_in, lost_tallies, made_none, nobodys_change, Tallies}
 use Rattle.report.proofs.Parts.{by_append}
 use Rattle.report.proofs.Passed.{calls_of, drop_past, gone_at, gone_is, gone_same, items_are, items_at, known_at, part_of, same_rest, did, AreAbreast}
@@ -60,18 +60,18 @@ threads_of w (Lives a) is = is.0.1.threads
 threads_of w (Reaped d) is = is.1.threads
 
 -- what a thread knew of changes begins what it knows
-worked_knows : (w : Words) (a : Card) (calls : List Op) (more : List Reply) (pass : WorkerPass) → Worked w open_gate a calls more pass → KnowsOn a (card_in pass)
+worked_knows : (w : Words) (a : Card) (calls : List Op) (more : List Reply) (pass : WorkerPass) → Worked w open_gate a calls more pass → Onwards a (card_in pass)
 worked_knows w a calls more (Lives b) worked = answered_knows (layout_of w) a calls more (card b) (all_answered w a calls more b worked)
 worked_knows w a calls more (Reaped d) worked =
     let was = worked.stops.1.3 in
     let died = died_of (layout_of w) worked.last worked.stops.1.0 was.dead was.died in
-    knows_on_then a worked.last (card d) (answered_knows (layout_of w) a (take (length more) calls) more worked.last worked.answered) (knows_on_then worked.last was.dead (card d) died.saw.knows was.reaped.changes)
+    onwards_then a worked.last (card d) (answered_knows (layout_of w) a (take (length more) calls) more worked.last worked.answered) (onwards_then worked.last was.dead (card d) (died.saw.threads, died.saw.knows) (was.reaped.threads, was.reaped.changes))
 
-works_knows : (w : Words) (calls : List Op) (u : Worker) (more : List Reply) (v : Worker) → Works w calls u more v → KnowsOn (card_in u.pass) (card_in v.pass)
+works_knows : (w : Words) (calls : List Op) (u : Worker) (more : List Reply) (v : Worker) → Works w calls u more v → Onwards (card_in u.pass) (card_in v.pass)
 works_knows w calls u more v works = from u.pass u.die works where
-  from : (pass : WorkerPass) (die : Option ℕ) → WorksFrom w calls die pass more v → KnowsOn (card_in pass) (card_in v.pass)
+  from : (pass : WorkerPass) (die : Option ℕ) → WorksFrom w calls die pass more v → Onwards (card_in pass) (card_in v.pass)
   from (Lives a) die works = worked_knows w (card a) calls more v.pass works.0
-  from (Reaped d) die works = subst (KnowsOn (card d)) (sym (ap card_in works.0)) (knows_on_self (card d))
+  from (Reaped d) die works = subst (Onwards (card d)) (sym (ap card_in works.0)) (onwards_self (card d))
 
 -- ---- calls up to one
 
@@ -125,7 +125,7 @@ module _ (w : Words) (t : ℕ) (seen' : List (List Point)) (changes' : List (Lis
         let g = then_grew worked.last was.dead (card d) p (saw_grew worked.last was.dead (cell_place k (mutex_of k next.0)) p died.acts died.saw) (reaped_grew k m was.dead (card d) low was.reaped) in
         (g.0 ++ (tails.0 m low).0, (tails.0 m low).1 ∙ ap (λ (l : List Point). l ++ (tails.0 m low).0) g.1 ∙ append_assoc (at worked.last.seen p) g.0 (tails.0 m low).0)
         in
-        let on : KnowsOn worked.last (card d) = knows_on_then worked.last was.dead (card d) died.saw.knows was.reaped.changes in
+        let on : KnowsOn worked.last (card d) = knows_on_then worked.last was.dead (card d) died.saw.threads died.saw.knows was.reaped.changes in
         let known : (p : ℕ) → (zs : List Change) × (changes_at changes' p ≡ changes_at worked.last.changes p ++ zs) = λ p. ((on p).0 ++ (tails.1 p).0, (tails.1 p).1 ∙ ap (λ (l : List Change). l ++ (tails.1 p).0) (sym (on p).1) ∙ append_assoc (changes_at worked.last.changes p) (on p).0 (tails.1 p).0) in
         let did = answered_alone k t seen' changes' whole a worked.last os vs (take (length more) calls) more (within_take k (length more) calls within) s counts worked.answered (seen_on, known) in
         let there = within_at k (length more) calls next.0 within next.1 in
@@ -303,7 +303,7 @@ module _ (w : Words) (n : ℕ) (p : Phase) (us met : List Worker) (rs rs' : List
   -- of changes too
   known_since : (x : ℕ) → (zs : List Change) × (changes_at changes' x ≡ changes_at (card_in mine.u.pass).changes x ++ zs)
   known_since x =
-      let on = works_knows w (calls_in t p) mine.u mine.more mine.v mine.works x in
+      let on = (works_knows w (calls_in t p) mine.u mine.more mine.v mine.works).1 x in
       let rest = (mine.come.tied x).0 in
       (on.0 ++ rest.0, sym rest.1 ∙ ap (λ (l : List Change). l ++ rest.0) (sym on.1) ∙ append_assoc (changes_at (card_in mine.u.pass).changes x) on.0 rest.0)
 

@@ -89,7 +89,7 @@ saw_more c p d op r o e called sees more none = record {
     since = was.since ++ (sees.between ++ told d.thread p op r);
     grows = sees.grows ∙ append_assoc (at d.seen p) sees.between (told d.thread p op r) ∙ ap (λ l. l ++ (sees.between ++ told d.thread p op r)) was.grows ∙ append_assoc (at c.seen p) was.since (sees.between ++ told d.thread p op r);
     own = subst (λ (t : ℕ). by t (at e.seen p) ≡ by t (at d.seen p) ++ told t p op r) was.thread sees.own ∙ ap (λ l. l ++ told c.thread p op r) (was.own ∙ append-nil _) ∙ ap (λ l. by c.thread (at c.seen p) ++ l) (sym (acts_told c.thread p op r));
-    knows = knows_on_then c d e was.knows more;
+    knows = knows_on_then c d e was.threads was.knows more;
     still = λ few. none_then (λ x. x ≢ p) (λ x. x ≢ p) c d e was.thread (λ x there. there) (was.still refl) (none few);
   };
   last = go r sees.grows;

@@ -84,25 +84,25 @@ authored_more n (x ∷ xs) ys are more = by_append n xs ys are more
 -- ---- what is known goes on
 
 pub knows_on_self : (c : Card) → KnowsOn c c
-knows_on_self c p = ([], append-nil (changes_at c.changes p))
+knows_on_self c p = ([], append-nil (changes_at c.changes p), tt)
 
 pub knows_on_same : (c d : Card) → d.changes ≡ c.changes → KnowsOn c d
-knows_on_same c d same p = ([], append-nil (changes_at c.changes p) ∙ ap (λ (l : List (List Change)). changes_at l p) (sym same))
+knows_on_same c d same p = ([], append-nil (changes_at c.changes p) ∙ ap (λ (l : List (List Change)). changes_at l p) (sym same), tt)
 
-pub knows_on_then : (c d e : Card) → KnowsOn c d → KnowsOn d e → KnowsOn c e
-knows_on_then c d e first more p = ((first p).0 ++ (more p).0, sym (append_assoc (changes_at c.changes p) (first p).0 (more p).0) ∙ ap (λ (l : List Change). l ++ (more p).0) (first p).1 ∙ (more p).1)
+pub knows_on_then : (c d e : Card) → d.threads ≡ c.threads → KnowsOn c d → KnowsOn d e → KnowsOn c e
+knows_on_then c d e same first more p = ((first p).0 ++ (more p).0, sym (append_assoc (changes_at c.changes p) (first p).0 (more p).0) ∙ ap (λ (l : List Change). l ++ (more p).0) (first p).1 ∙ (more p).1, by_append c.threads (first p).0 (more p).0 (first p).2 (subst (λ (n : ℕ). AreBy n (more p).0) same (more p).2))
 
 -- by an access
 pub knows_on_by : (c d : Card) (p n v : ℕ) → Writes c p n v d → KnowsOn c d
 knows_on_by c d p n v w q = dite (ℕ_discrete q p)
-    (λ here. subst (λ (z : ℕ). IsPrefix (changes_at c.changes z) (changes_at d.changes z)) (sym here) (w.since ++ change_of c.thread n v, sym (append_assoc (changes_at c.changes p) w.since (change_of c.thread n v)) ∙ sym w.grows))
-    (λ other. ([], append-nil (changes_at c.changes q) ∙ sym (w.elsewhere q other)))
+    (λ here. subst (λ (z : ℕ). (since : List Change) × (changes_at c.changes z ++ since ≡ changes_at d.changes z) × AreBy c.threads since) (sym here) (w.since ++ change_of c.thread n v, sym (append_assoc (changes_at c.changes p) w.since (change_of c.thread n v)) ∙ sym w.grows, w.authors))
+    (λ other. ([], append-nil (changes_at c.changes q) ∙ sym (w.elsewhere q other), tt))
 
 -- and as far as is known of one word
 pub knows_on_at : (c d : Card) (p : ℕ) → KnowsMoreAt c p d → KnowsOn c d
 knows_on_at c d p more q = dite (ℕ_discrete q p)
-    (λ here. subst (λ (z : ℕ). IsPrefix (changes_at c.changes z) (changes_at d.changes z)) (sym here) (more.here.0, more.here.1))
-    (λ other. ([], append-nil (changes_at c.changes q) ∙ sym (more.elsewhere q other)))
+    (λ here. subst (λ (z : ℕ). (since : List Change) × (changes_at c.changes z ++ since ≡ changes_at d.changes z) × AreBy c.threads since) (sym here) more.here)
+    (λ other. ([], append-nil (changes_at c.changes q) ∙ sym (more.elsewhere q other), tt))
 
 -- ---- a change
 

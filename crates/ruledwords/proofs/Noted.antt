@@ -46,7 +46,7 @@ still_called c p ds d e same h = go e.changes same.0 same.1 where
           since = h.saw.since;
           grows = h.saw.grows;
           own = h.saw.own;
-          knows = knows_on_then c d after h.saw.knows (knows_on_at d after p on);
+          knows = knows_on_then c d after h.saw.threads h.saw.knows (knows_on_at d after p on);
           still = λ few. none_then (λ x. x ≢ p) (λ x. x ≢ p) c d after h.saw.thread (λ x there. there) (h.saw.still few) (none_at d after p on);
         };
         last = h.last;
@@ -64,7 +64,7 @@ marked_called c p ds d n marks zs on none h =
         since = h.saw.since;
         grows = h.saw.grows;
         own = h.saw.own;
-        knows = knows_on_then c d after h.saw.knows on;
+        knows = knows_on_then c d after h.saw.threads h.saw.knows on;
         still = λ few. none_then (λ x. x ≢ p) (λ x. x ≢ p) c d after h.saw.thread (λ x there. there) (h.saw.still few) none;
       };
       last = h.last;
@@ -103,7 +103,7 @@ saw_on c p xs ys d e first more = record {
   grows = more.grows ∙ ap (λ (l : List Point). l ++ more.since) first.grows ∙ append_assoc (at c.seen p) first.since more.since;
   own = subst (λ (t : ℕ). by t (at e.seen p) ≡ by t (at d.seen p) ++ points_of t p ys) first.thread more.own ∙ ap (λ (l : List Point). l ++ points_of c.thread p ys) first.own
       ∙ append_assoc (by c.thread (at c.seen p)) (points_of c.thread p xs) (points_of c.thread p ys) ∙ ap (λ (l : List Point). by c.thread (at c.seen p) ++ l) (sym (points_append c.thread p xs ys));
-  knows = knows_on_then c d e first.knows more.knows;
+  knows = knows_on_then c d e first.threads first.knows more.knows;
   still = λ few.
       let both = count_append xs ys in
       none_then (λ x. x ≢ p) (λ x. x ≢ p) c d e first.thread (λ x there. there) (first.still (omega arith)) (more.still (omega arith));

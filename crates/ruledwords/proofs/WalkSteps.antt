@@ -263,7 +263,7 @@ module _ (k : Layout') (c : Card) (is : IsCardOf k c) (knows : KnowsOwn k c) whe
           let nobody : owns_in k c m ≡ false = ap (λ (t : ℕ). holds t (at c.seen q)) was.thread ∙ ap (holds first.thread) then_seen ∙ ap (owns_in k first) (sym same) ∙ none in
           cc (nobody, owns_here)))
           (λ other. sees.elsewhere (cell_place k l) (other_cell k m l other) ∙ was.stays l below none);
-      changes = knows_on_then first c d was.changes (knows_on_by c d q n (left_by_mark v n) marks.writes);
+      changes = knows_on_then first c d was.threads was.changes (knows_on_by c d q n (left_by_mark v n) marks.writes);
       still = none_then (λ x. x ≢ q) (IsNoCell k) first c d was.thread (λ x none. none m treated.0) was.still (none_by c d q n (left_by_mark v n) marks.writes);
     }
 

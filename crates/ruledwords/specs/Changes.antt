@@ -66,9 +66,10 @@ abbrev pub AreBehindFirst : ℕ → List Change → Type 0
 AreBehindFirst n [] = Unit {0}
 AreBehindFirst n (x ∷ xs) = AreBy n xs
 
--- what a thread knew of each word's changes begins what it knows of them
+-- what a thread knew of each word's changes begins what it knows of them, and those that it came to know of since are
+-- by threads
 abbrev pub KnowsOn : Card → Card → Type 0
-KnowsOn c d = (p : ℕ) → IsPrefix (changes_at c.changes p) (changes_at d.changes p)
+KnowsOn c d = (p : ℕ) → (since : List Change) × (changes_at c.changes p ++ since ≡ changes_at d.changes p) × AreBy c.threads since
 
 -- ---- what holds
 
