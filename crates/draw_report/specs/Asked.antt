@@ -1,5 +1,5 @@
 -- The forms of a command line.
-use Rattle.std.specs.Prelude.{ℕ, Bool, true, not, ◌==◌, ◌&&◌, List, [], ◌∷◌, length, Option, Some, None, option_map, codes, if◌then◌else◌}
+use Rattle.std.specs.Prelude.{ℕ, ◌==◌, ◌&&◌, List, [], ◌∷◌, length, Option, Some, None, option_map, codes, if◌then◌else◌}
 use Rattle.std.specs.Str.{bytes_eq}
 use Rattle.draw_report.specs.declared.asking.Form.{Form}
 use Rattle.draw_report.specs.declared.asking.Form.TheVariants.{Picture, Legend, Usage}

@@ -1,5 +1,5 @@
 -- What things are called in a picture: as in the script, or by numbers.
-use Rattle.std.specs.Prelude.{ℕ, ◌==◌, ◌&&◌, Bool, true, length, Option, Some, None}
+use Rattle.std.specs.Prelude.{◌==◌, ◌&&◌, Bool, true, length, Option, Some, None}
 use Rattle.script.specs.Scope.{Scope}
 use Rattle.script.specs.Reading.{condition_names}
 use Rattle.verdict.specs.declared.head.Head.{Head}

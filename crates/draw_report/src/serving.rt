@@ -81,25 +81,11 @@ fn draw_as<W: Output>(
 ) -> Result<(), Unwritten>
     ensures { Leaves (W.contents out.old) (W.contents out.new) result (picture kind names.now trace.now) }
 {
+    let lines = trace.lines.as_slice();
+    let (threads, mutexes) = (trace.head.threads, trace.head.mutexes);
     match kind {
-        Kind::Text => draw(
-            alloc,
-            names,
-            trace.head.threads,
-            trace.head.mutexes,
-            &trace.lines,
-            trace.last,
-            out,
-        ),
-        Kind::Svg => draw_svg(
-            alloc,
-            names,
-            trace.head.threads,
-            trace.head.mutexes,
-            &trace.lines,
-            trace.last,
-            out,
-        ),
+        Kind::Text => draw(alloc, names, threads, mutexes, lines, trace.last, out),
+        Kind::Svg => draw_svg(alloc, names, threads, mutexes, lines, trace.last, out),
     }
 }
 

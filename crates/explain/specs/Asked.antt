@@ -1,5 +1,5 @@
 -- The forms of a command line.
-use Rattle.std.specs.Prelude.{ℕ, Bool, true, not, ◌==◌, List, [], ◌∷◌, Option, Some, None, if◌then◌else◌}
+use Rattle.std.specs.Prelude.{ℕ, List, [], ◌∷◌, Option, Some, None, if◌then◌else◌}
 use Rattle.explain.specs.declared.asking.Form.{Form}
 use Rattle.explain.specs.declared.asking.Form.TheVariants.{File, Usage}
 use Rattle.streams.specs.Words.{is_file_word}

@@ -16,9 +16,7 @@ fn uses_of_call(call: &str) -> &'static [(Things, usize)]
     ensures { result.now ≡ uses_of_call call.now }
 {
     match call {
-        "wait" => &[(Things::Threads, 1), (Things::Conditions, 3)],
-        "signal" => &[(Things::Threads, 1), (Things::Conditions, 3)],
-        "broadcast" => &[(Things::Threads, 1), (Things::Conditions, 3)],
+        "wait" | "signal" | "broadcast" => &[(Things::Threads, 1), (Things::Conditions, 3)],
         _ => &[(Things::Threads, 1), (Things::Mutexes, 3)],
     }
 }
@@ -30,18 +28,12 @@ fn uses_of(keyword: &str, call: &str) -> &'static [(Things, usize)]
     match keyword {
         "thread" => &[(Things::Processes, 2)],
         "cond" => &[(Things::Mutexes, 2)],
-        "step" => &[(Things::Threads, 1)],
-        "kill" => &[(Things::Threads, 1)],
-        "renew" => &[(Things::Threads, 1)],
+        "step" | "kill" | "renew" => &[(Things::Threads, 1)],
         "reinit" => &[(Things::Threads, 1), (Things::Mutexes, 2)],
-        "leave" => &[(Things::Threads, 1)],
-        "decline" => &[(Things::Threads, 1)],
-        "go" => &[(Things::Threads, 1)],
-        "die" => &[(Things::Threads, 1)],
+        "leave" | "decline" | "go" | "die" => &[(Things::Threads, 1)],
         "killall" => &[(Things::Processes, 1)],
         "locks" => &[(Things::Mutexes, 2), (Things::Threads, 1)],
-        "begin" => uses_of_call(call),
-        "call" => uses_of_call(call),
+        "begin" | "call" => uses_of_call(call),
         _ => &[],
     }
 }

@@ -32,6 +32,13 @@ pub struct Extent {
     pub bands: Bands,
 }
 
+/// What a picture is drawn with: what things are called, and what it has.
+#[derive(Clone, Copy)]
+pub struct Sheet<'a> {
+    pub names: &'a Names,
+    pub extent: Extent,
+}
+
 impl Bands {
     /// The first mutexes, by their numbers.
     fn first(count: usize) -> Bands

@@ -7,7 +7,7 @@ ghost use Rattle.picture.specs.Heads.{heads};
 ghost use Rattle.picture.specs.Rows.{end_text, row_text};
 ghost use Rattle.picture.specs.Scenes.{first_scene};
 
-use crate::bands::{Extent, LANES};
+use crate::bands::{Extent, LANES, Sheet};
 use crate::heads::add_heads;
 use crate::layout::band_room;
 use crate::names::Names;
@@ -49,54 +49,47 @@ pub fn write_text<W: Write>(text: &str, out: &mut W) -> Result<(), Unwritten>
     }
 }
 
-fn write_heads<W: Write>(
-    row: &mut String,
-    names: &Names,
-    extent: &Extent,
-    out: &mut W,
-) -> Result<(), Unwritten>
-    requires few { extent.now.threads ≤ 64 }
-    requires narrow { extent.now.bands.count ≤ 16 }
-    ensures { Leaves (W.contents out.old) (W.contents out.new) result (heads names.now extent.now) }
+fn write_heads<W: Write>(row: &mut String, sheet: &Sheet<'_>, out: &mut W) -> Result<(), Unwritten>
+    requires few { sheet.now.extent.threads ≤ 64 }
+    requires narrow { sheet.now.extent.bands.count ≤ 16 }
+    ensures { Leaves (W.contents out.old) (W.contents out.new) result (heads sheet.now.names.now sheet.now.extent) }
 {
     row.clear();
-    add_heads(row, names, extent)?;
+    add_heads(row, sheet)?;
     write_text(row, out)
 }
 
 fn write_row<W: Write>(
     row: &mut String,
-    names: &Names,
-    extent: &Extent,
+    sheet: &Sheet<'_>,
     scene: &Scene,
     line: &Line,
     out: &mut W,
 ) -> Result<(), Unwritten>
-    requires few { extent.now.threads ≤ 64 }
-    requires narrow { extent.now.bands.count ≤ 16 }
-    ensures { Leaves (W.contents out.old) (W.contents out.new) result (row_text names.now extent.now scene.now line.now) }
+    requires few { sheet.now.extent.threads ≤ 64 }
+    requires narrow { sheet.now.extent.bands.count ≤ 16 }
+    ensures { Leaves (W.contents out.old) (W.contents out.new) result (row_text sheet.now.names.now sheet.now.extent scene.now line.now) }
 {
     row.clear();
-    add_row(row, names, extent, scene, line)?;
+    add_row(row, sheet, scene, line)?;
     write_text(row, out)
 }
 
 fn write_rows<W: Write>(
     row: &mut String,
-    names: &Names,
-    extent: &Extent,
+    sheet: &Sheet<'_>,
     lines: &[Line],
     out: &mut W,
 ) -> Result<(), Unwritten>
-    requires few { extent.now.threads ≤ 64 }
-    requires narrow { extent.now.bands.count ≤ 16 }
-    ensures { Leaves (W.contents out.old) (W.contents out.new) result (rows_text names.now extent.now first_scene lines.now) }
+    requires few { sheet.now.extent.threads ≤ 64 }
+    requires narrow { sheet.now.extent.bands.count ≤ 16 }
+    ensures { Leaves (W.contents out.old) (W.contents out.new) result (rows_text sheet.now.names.now sheet.now.extent first_scene lines.now) }
 {
     let mut scene = Scene::new();
     for index in 0..lines.len() {
         let line = &lines[index];
-        scene = scene.behind(&extent.bands, line, &lines[index..]);
-        write_row(row, names, extent, &scene, line, out)?;
+        scene = scene.behind(&sheet.extent.bands, line, &lines[index..]);
+        write_row(row, sheet, &scene, line, out)?;
     }
     Ok(())
 }
@@ -126,7 +119,8 @@ pub fn draw<W: Write>(
     let mut row = String::with_capacity(alloc, ROW)?;
     let room = band_room(threads.min(LANES));
     let extent = Extent::of(room, names, threads, mutexes, lines);
-    write_heads(&mut row, names, &extent, out)?;
-    write_rows(&mut row, names, &extent, lines, out)?;
+    let sheet = Sheet { names, extent };
+    write_heads(&mut row, &sheet, out)?;
+    write_rows(&mut row, &sheet, lines, out)?;
     write_end(&mut row, last, out)
 }

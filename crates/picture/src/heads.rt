@@ -3,21 +3,22 @@
 ghost use Rattle.std.specs.Prelude.{◌≡◌, ◌++◌, ◌≤◌, ◌<◌, string_bytes, IfOk};
 ghost use Rattle.picture.specs.Heads.{band_heads, heads, lane_heads, letter, letter_at, letters, letters_below, letters_down, name_width, narrow_heads, next_row, numbers_down, ten_sign, tens, units};
 
-use crate::bands::Extent;
+use crate::bands::{Extent, Sheet};
 use crate::layout::{EVENT, band_width, gap, is_wide, width};
-use crate::names::Names;
 use crate::pieces::{add, add_padded, fill};
 use itoa::Buffer;
 use std::alloc::AllocError;
 
-fn add_band_heads(text: &mut String, names: &Names, extent: &Extent) -> Result<(), AllocError>
-    requires { extent.now.bands.count ≤ 16 }
-    ensures { IfOk result (λ _. string_bytes text.new ≡ string_bytes text.old ++ band_heads names.now extent.now) }
+fn add_band_heads(text: &mut String, sheet: &Sheet<'_>) -> Result<(), AllocError>
+    requires { sheet.now.extent.bands.count ≤ 16 }
+    ensures { IfOk result (λ _. string_bytes text.new ≡ string_bytes text.old ++ band_heads sheet.now.names.now sheet.now.extent) }
 {
-    for band in 0..extent.bands.count {
+    for band in 0..sheet.extent.bands.count {
         let mut digits = Buffer::new();
-        let label = names.mutex(extent.bands.mutexes[band], &mut digits);
-        add_padded(text, &[label.head, label.tail], band_width(extent))?;
+        let label = sheet
+            .names
+            .mutex(sheet.extent.bands.mutexes[band], &mut digits);
+        add_padded(text, &[label.head, label.tail], band_width(&sheet.extent))?;
     }
     Ok(())
 }
@@ -34,15 +35,19 @@ fn name_width(extent: &Extent, lane: u8) -> usize
 }
 
 /// The names of all lanes, side by side.
-fn add_lane_heads(text: &mut String, names: &Names, extent: &Extent) -> Result<(), AllocError>
-    requires { extent.now.threads ≤ 64 }
-    ensures { IfOk result (λ _. string_bytes text.new ≡ string_bytes text.old ++ lane_heads names.now extent.now) }
+fn add_lane_heads(text: &mut String, sheet: &Sheet<'_>) -> Result<(), AllocError>
+    requires { sheet.now.extent.threads ≤ 64 }
+    ensures { IfOk result (λ _. string_bytes text.new ≡ string_bytes text.old ++ lane_heads sheet.now.names.now sheet.now.extent) }
 {
-    for index in 0..extent.threads {
+    for index in 0..sheet.extent.threads {
         let mut digits = Buffer::new();
         let lane = index + 1;
-        let label = names.thread(lane, &mut digits);
-        add_padded(text, &[label.head, label.tail], name_width(extent, lane))?;
+        let label = sheet.names.thread(lane, &mut digits);
+        add_padded(
+            text,
+            &[label.head, label.tail],
+            name_width(&sheet.extent, lane),
+        )?;
     }
     Ok(())
 }
@@ -121,93 +126,77 @@ fn add_letter_at(text: &mut String, name: &str, place: usize) -> Result<(), Allo
 /// A letter of the name of the lane behind so many others.
 fn add_letter(
     text: &mut String,
-    names: &Names,
-    extent: &Extent,
+    sheet: &Sheet<'_>,
     place: usize,
     index: u8,
 ) -> Result<(), AllocError>
     requires { index < 64 }
-    ensures { IfOk result (λ _. string_bytes text.new ≡ string_bytes text.old ++ letter names.now extent.now place index) }
+    ensures { IfOk result (λ _. string_bytes text.new ≡ string_bytes text.old ++ letter sheet.now.names.now sheet.now.extent place index) }
 {
-    add_letter_at(text, names.lane(index), place)?;
-    fill(text, " ", gap(extent, index + 1))
+    add_letter_at(text, sheet.names.lane(index), place)?;
+    fill(text, " ", gap(&sheet.extent, index + 1))
 }
 
 /// A letter of each lane's name.
-fn add_letters(
-    text: &mut String,
-    names: &Names,
-    extent: &Extent,
-    place: usize,
-) -> Result<(), AllocError>
-    requires { extent.now.threads ≤ 64 }
-    ensures { IfOk result (λ _. string_bytes text.new ≡ string_bytes text.old ++ letters names.now extent.now place) }
+fn add_letters(text: &mut String, sheet: &Sheet<'_>, place: usize) -> Result<(), AllocError>
+    requires { sheet.now.extent.threads ≤ 64 }
+    ensures { IfOk result (λ _. string_bytes text.new ≡ string_bytes text.old ++ letters sheet.now.names.now sheet.now.extent place) }
 {
-    for index in 0..extent.threads {
-        add_letter(text, names, extent, place, index)?;
+    for index in 0..sheet.extent.threads {
+        add_letter(text, sheet, place, index)?;
     }
     Ok(())
 }
 
 /// The same in the next row.
-fn add_letters_below(
-    text: &mut String,
-    names: &Names,
-    extent: &Extent,
-    place: usize,
-) -> Result<(), AllocError>
-    requires few { extent.now.threads ≤ 64 }
-    requires narrow { extent.now.bands.count ≤ 16 }
+fn add_letters_below(text: &mut String, sheet: &Sheet<'_>, place: usize) -> Result<(), AllocError>
+    requires few { sheet.now.extent.threads ≤ 64 }
+    requires narrow { sheet.now.extent.bands.count ≤ 16 }
     requires few_letters { place < 64 }
-    ensures { IfOk result (λ _. string_bytes text.new ≡ string_bytes text.old ++ letters_below names.now extent.now place) }
+    ensures { IfOk result (λ _. string_bytes text.new ≡ string_bytes text.old ++ letters_below sheet.now.names.now sheet.now.extent place) }
 {
-    add_next_row(text, extent)?;
-    add_letters(text, names, extent, place + 1)
+    add_next_row(text, &sheet.extent)?;
+    add_letters(text, sheet, place + 1)
 }
 
 /// The names of all lanes, downwards: so many rows below the first.
-fn add_letters_down(
-    text: &mut String,
-    names: &Names,
-    extent: &Extent,
-    rows: usize,
-) -> Result<(), AllocError>
-    requires few { extent.now.threads ≤ 64 }
-    requires narrow { extent.now.bands.count ≤ 16 }
+fn add_letters_down(text: &mut String, sheet: &Sheet<'_>, rows: usize) -> Result<(), AllocError>
+    requires few { sheet.now.extent.threads ≤ 64 }
+    requires narrow { sheet.now.extent.bands.count ≤ 16 }
     requires low { rows ≤ 64 }
-    ensures { IfOk result (λ _. string_bytes text.new ≡ string_bytes text.old ++ letters_down names.now extent.now rows) }
+    ensures { IfOk result (λ _. string_bytes text.new ≡ string_bytes text.old ++ letters_down sheet.now.names.now sheet.now.extent rows) }
 {
-    add_letters(text, names, extent, 0)?;
+    add_letters(text, sheet, 0)?;
     for row in 0..rows {
-        add_letters_below(text, names, extent, row)?;
+        add_letters_below(text, sheet, row)?;
     }
     Ok(())
 }
 
-fn add_narrow_heads(text: &mut String, names: &Names, extent: &Extent) -> Result<(), AllocError>
-    requires few { extent.now.threads ≤ 64 }
-    requires narrow { extent.now.bands.count ≤ 16 }
-    ensures { IfOk result (λ _. string_bytes text.new ≡ string_bytes text.old ++ narrow_heads names.now extent.now) }
+fn add_narrow_heads(text: &mut String, sheet: &Sheet<'_>) -> Result<(), AllocError>
+    requires few { sheet.now.extent.threads ≤ 64 }
+    requires narrow { sheet.now.extent.bands.count ≤ 16 }
+    ensures { IfOk result (λ _. string_bytes text.new ≡ string_bytes text.old ++ narrow_heads sheet.now.names.now sheet.now.extent) }
 {
-    if names.threads() == 0 {
-        add_numbers_down(text, extent)
+    if sheet.names.threads() == 0 {
+        add_numbers_down(text, &sheet.extent)
     } else {
-        add_letters_down(text, names, extent, names.thread_letters() - 1)
+        add_letters_down(text, sheet, sheet.names.thread_letters() - 1)
     }
 }
 
 /// The rows above all lanes: what stands in which column.
-pub fn add_heads(text: &mut String, names: &Names, extent: &Extent) -> Result<(), AllocError>
-    requires few { extent.now.threads ≤ 64 }
-    requires narrow { extent.now.bands.count ≤ 16 }
-    ensures { IfOk result (λ _. string_bytes text.new ≡ string_bytes text.old ++ heads names.now extent.now) }
+pub fn add_heads(text: &mut String, sheet: &Sheet<'_>) -> Result<(), AllocError>
+    requires few { sheet.now.extent.threads ≤ 64 }
+    requires narrow { sheet.now.extent.bands.count ≤ 16 }
+    ensures { IfOk result (λ _. string_bytes text.new ≡ string_bytes text.old ++ heads sheet.now.names.now sheet.now.extent) }
 {
     add(text, &[" event  "])?;
-    add_band_heads(text, names, extent)?;
-    if is_wide(extent) {
-        add_lane_heads(text, names, extent)?;
+    add_band_heads(text, sheet)?;
+    if is_wide(&sheet.extent) {
+        add_lane_heads(text, sheet)?;
     } else {
-        add_narrow_heads(text, names, extent)?;
+        add_narrow_heads(text, sheet)?;
     }
     add(text, &["\n"])
 }

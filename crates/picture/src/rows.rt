@@ -3,7 +3,7 @@
 ghost use Rattle.std.specs.Prelude.{◌≡◌, ◌++◌, ◌≤◌, map, string_bytes, IfOk};
 ghost use Rattle.picture.specs.Rows.{arrow_end, arrow_from, arrow_sign, bands_text, blanks, cell, cells, end_text, event_text, is_covered, is_from_right, mark, narrow_mark, origin, owner_pieces, part_of, reach, row_of, row_text, sign, stays_so, tail, taken, wide_mark};
 
-use crate::bands::Extent;
+use crate::bands::{Extent, Sheet};
 use crate::lane::Lane;
 use crate::layout::{EVENT, band_width, gap, is_wide, width};
 use crate::names::Names;
@@ -324,29 +324,28 @@ fn add_row_of(
 /// The row of a line, behind which all lanes and bands show this.
 pub fn add_row(
     text: &mut String,
-    names: &Names,
-    extent: &Extent,
+    sheet: &Sheet<'_>,
     scene: &Scene,
     line: &Line,
 ) -> Result<(), AllocError>
-    requires few { extent.now.threads ≤ 64 }
-    requires narrow { extent.now.bands.count ≤ 16 }
-    ensures { IfOk result (λ _. string_bytes text.new ≡ string_bytes text.old ++ row_text names.now extent.now scene.now line.now) }
+    requires few { sheet.now.extent.threads ≤ 64 }
+    requires narrow { sheet.now.extent.bands.count ≤ 16 }
+    ensures { IfOk result (λ _. string_bytes text.new ≡ string_bytes text.old ++ row_text sheet.now.names.now sheet.now.extent scene.now line.now) }
 {
     let thread = line.fact.thread();
     let from = arrow_from(scene.actor, &line.fact);
     let shown = scene.lanes[usize::from(thread.get())];
     let mut firsts = Buffer::new();
     let mut seconds = Buffer::new();
-    let words = words(names, shown, &line.fact, &mut firsts, &mut seconds);
+    let words = words(sheet.names, shown, &line.fact, &mut firsts, &mut seconds);
     let row = Row {
-        extent: *extent,
+        extent: sheet.extent,
         thread: thread.get(),
         from,
         sign: sign(&line.fact, from),
         words: &words,
     };
-    add_row_of(text, names, line.event, scene, &row)
+    add_row_of(text, sheet.names, line.event, scene, &row)
 }
 
 /// The last row: how many events there were.

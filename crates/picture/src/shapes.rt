@@ -3,7 +3,7 @@
 ghost use Rattle.std.specs.Prelude.{◌≡◌, ◌++◌, ◌≤◌, ◌<◌, ◌^◌, map, option_map, string_bytes, IfOk};
 ghost use Rattle.picture.specs.Shapes.{arrow_shape, band_class, band_shape, lane_class, lane_shape, mark_class, mark_path, mark_shape, name_label, number_label, owner_label, owner_of, rectangle, stretch, words_label, words_y};
 
-use crate::bands::Extent;
+use crate::bands::Sheet;
 use crate::lane::Lane;
 use crate::names::{Label, Names};
 use crate::pieces::add;
@@ -162,8 +162,7 @@ fn add_owner_of(
 /// A part of a band, from one line to another one.
 fn add_stretch(
     text: &mut String,
-    names: &Names,
-    extent: &Extent,
+    sheet: &Sheet<'_>,
     class: &str,
     owner: Option<Tid>,
     band: usize,
@@ -171,37 +170,42 @@ fn add_stretch(
     to: usize,
 ) -> Result<(), AllocError>
     requires { band ≤ 16 }
-    ensures { IfOk result (λ _. string_bytes text.new ≡ string_bytes text.old ++ stretch names.now extent.now class.now owner band from to) }
+    ensures { IfOk result (λ _. string_bytes text.new ≡ string_bytes text.old ++ stretch sheet.now.names.now sheet.now.extent class.now owner band from to) }
 {
     let top = row_y(from);
     let height = row_y(to).saturating_sub(top);
     add_rectangle(
         text,
         class,
-        band_x(extent, band),
+        band_x(&sheet.extent, band),
         top - 9,
-        band_wide(extent),
+        band_wide(&sheet.extent),
         height,
     )?;
-    add_owner_of(text, names, owner, band_middle(extent, band), top)
+    add_owner_of(
+        text,
+        sheet.names,
+        owner,
+        band_middle(&sheet.extent, band),
+        top,
+    )
 }
 
 /// What a band showed from one line to another one.
 pub fn add_band(
     text: &mut String,
-    names: &Names,
-    extent: &Extent,
+    sheet: &Sheet<'_>,
     object: Object,
     band: usize,
     from: usize,
     to: usize,
 ) -> Result<(), AllocError>
     requires { band ≤ 16 }
-    ensures { IfOk result (λ _. string_bytes text.new ≡ string_bytes text.old ++ band_shape names.now extent.now object band from to) }
+    ensures { IfOk result (λ _. string_bytes text.new ≡ string_bytes text.old ++ band_shape sheet.now.names.now sheet.now.extent object band from to) }
 {
     let owner = object.owner;
     match band_class(object) {
-        Some(class) => add_stretch(text, names, extent, class, owner, band, from, to),
+        Some(class) => add_stretch(text, sheet, class, owner, band, from, to),
         None => Ok(()),
     }
 }

@@ -4,8 +4,7 @@ ghost use Rattle.std.specs.Prelude.{◌≡◌, ◌++◌, ◌≤◌, ◌<◌, dec
 ghost use Rattle.facts.specs.Facts.{decision_of};
 ghost use Rattle.picture.specs.Svg.{band_part, band_rests, begins_at, ends_lane, first_since, foot_text, lane_line, lane_part, lane_rests, line_marks, line_parts, mark_of, marks_of, rests, since_band, since_lane, svg_band, svg_bands, svg_heads, svg_lane, svg_lanes, svg_open};
 
-use crate::bands::{Bands, Extent};
-use crate::names::Names;
+use crate::bands::{Bands, Extent, Sheet};
 use crate::pieces::add;
 use crate::places::{band_middle, lane_x, row_y, words_room};
 use crate::rows::{arrow_from, is_right_of};
@@ -124,24 +123,22 @@ fn add_lane_part(
 
 fn add_band_part(
     text: &mut String,
-    names: &Names,
-    extent: &Extent,
+    sheet: &Sheet<'_>,
     scene: &Scene,
     since: &Since,
     decision: Option<Decision>,
     line: usize,
 ) -> Result<(), AllocError>
-    requires { extent.now.bands.count ≤ 16 }
-    ensures { IfOk result (λ _. string_bytes text.new ≡ string_bytes text.old ++ band_part names.now extent.now scene.now since.now decision line) }
+    requires { sheet.now.extent.bands.count ≤ 16 }
+    ensures { IfOk result (λ _. string_bytes text.new ≡ string_bytes text.old ++ band_part sheet.now.names.now sheet.now.extent scene.now since.now decision line) }
 {
     let Some(decision) = decision else {
         return Ok(());
     };
-    match extent.bands.place(decision.mutex) {
+    match sheet.extent.bands.place(decision.mutex) {
         Some(band) => add_band(
             text,
-            names,
-            extent,
+            sheet,
             scene.objects[band],
             band,
             since.bands[band],
@@ -154,18 +151,17 @@ fn add_band_part(
 /// What this line ends: what its lane showed, and what its mutex's band showed.
 pub fn add_parts(
     text: &mut String,
-    names: &Names,
-    extent: &Extent,
+    sheet: &Sheet<'_>,
     scene: &Scene,
     since: &Since,
     fact: &Fact,
     line: usize,
 ) -> Result<(), AllocError>
-    requires { extent.now.bands.count ≤ 16 }
-    ensures { IfOk result (λ _. string_bytes text.new ≡ string_bytes text.old ++ line_parts names.now extent.now scene.now since.now fact.now line) }
+    requires { sheet.now.extent.bands.count ≤ 16 }
+    ensures { IfOk result (λ _. string_bytes text.new ≡ string_bytes text.old ++ line_parts sheet.now.names.now sheet.now.extent scene.now since.now fact.now line) }
 {
-    add_lane_part(text, extent, scene, since, fact, line)?;
-    add_band_part(text, names, extent, scene, since, fact.decision(), line)
+    add_lane_part(text, &sheet.extent, scene, since, fact, line)?;
+    add_band_part(text, sheet, scene, since, fact.decision(), line)
 }
 
 fn add_lane_rests(
@@ -194,20 +190,18 @@ fn add_lane_rests(
 
 fn add_band_rests(
     text: &mut String,
-    names: &Names,
-    extent: &Extent,
+    sheet: &Sheet<'_>,
     scene: &Scene,
     since: &Since,
     line: usize,
 ) -> Result<(), AllocError>
-    requires { extent.now.bands.count ≤ 16 }
-    ensures { IfOk result (λ _. string_bytes text.new ≡ string_bytes text.old ++ band_rests names.now extent.now scene.now.objects since.now.bands line) }
+    requires { sheet.now.extent.bands.count ≤ 16 }
+    ensures { IfOk result (λ _. string_bytes text.new ≡ string_bytes text.old ++ band_rests sheet.now.names.now sheet.now.extent scene.now.objects since.now.bands line) }
 {
-    for band in 0..extent.bands.count {
+    for band in 0..sheet.extent.bands.count {
         add_band(
             text,
-            names,
-            extent,
+            sheet,
             scene.objects[band],
             band,
             since.bands[band],
@@ -220,18 +214,17 @@ fn add_band_rests(
 /// What lanes and bands show up to the end, at this line.
 pub fn add_rests(
     text: &mut String,
-    names: &Names,
-    extent: &Extent,
+    sheet: &Sheet<'_>,
     scene: &Scene,
     since: &Since,
     line: usize,
 ) -> Result<(), AllocError>
-    requires few { extent.now.threads ≤ 64 }
-    requires narrow { extent.now.bands.count ≤ 16 }
-    ensures { IfOk result (λ _. string_bytes text.new ≡ string_bytes text.old ++ rests names.now extent.now scene.now since.now line) }
+    requires few { sheet.now.extent.threads ≤ 64 }
+    requires narrow { sheet.now.extent.bands.count ≤ 16 }
+    ensures { IfOk result (λ _. string_bytes text.new ≡ string_bytes text.old ++ rests sheet.now.names.now sheet.now.extent scene.now since.now line) }
 {
-    add_lane_rests(text, extent, scene, since, line)?;
-    add_band_rests(text, names, extent, scene, since, line)
+    add_lane_rests(text, &sheet.extent, scene, since, line)?;
+    add_band_rests(text, sheet, scene, since, line)
 }
 
 /// A line's mark, or the arrow to its lane.
@@ -275,46 +268,50 @@ fn add_marks(
 /// A line: the number of its event, its mark in the lane of its thread, and its words.
 pub fn add_line(
     text: &mut String,
-    names: &Names,
-    extent: &Extent,
+    sheet: &Sheet<'_>,
     scene: &Scene,
     line: &Line,
     number: usize,
 ) -> Result<(), AllocError>
-    requires { extent.now.bands.count ≤ 16 }
-    ensures { IfOk result (λ _. string_bytes text.new ≡ string_bytes text.old ++ line_marks names.now extent.now scene.now line.now number) }
+    requires { sheet.now.extent.bands.count ≤ 16 }
+    ensures { IfOk result (λ _. string_bytes text.new ≡ string_bytes text.old ++ line_marks sheet.now.names.now sheet.now.extent scene.now line.now number) }
 {
     let thread = line.fact.thread().get();
     let from = arrow_from(scene.actor, &line.fact);
     let shown = scene.lanes[usize::from(thread)];
     let mut firsts = Buffer::new();
     let mut seconds = Buffer::new();
-    let words = words(names, shown, &line.fact, &mut firsts, &mut seconds);
-    add_marks(text, extent, &line.fact, line.event, from, &words, number)
+    let words = words(sheet.names, shown, &line.fact, &mut firsts, &mut seconds);
+    add_marks(
+        text,
+        &sheet.extent,
+        &line.fact,
+        line.event,
+        from,
+        &words,
+        number,
+    )
 }
 
 /// The name of a band.
-fn add_band_name(
-    text: &mut String,
-    names: &Names,
-    extent: &Extent,
-    band: usize,
-) -> Result<(), AllocError>
+fn add_band_name(text: &mut String, sheet: &Sheet<'_>, band: usize) -> Result<(), AllocError>
     requires { band < 16 }
-    ensures { IfOk result (λ _. string_bytes text.new ≡ string_bytes text.old ++ svg_band names.now extent.now band) }
+    ensures { IfOk result (λ _. string_bytes text.new ≡ string_bytes text.old ++ svg_band sheet.now.names.now sheet.now.extent band) }
 {
     let mut digits = Buffer::new();
-    let label = names.mutex(extent.bands.mutexes[band], &mut digits);
-    add_name(text, label, band_middle(extent, band), NAME_Y)?;
+    let label = sheet
+        .names
+        .mutex(sheet.extent.bands.mutexes[band], &mut digits);
+    add_name(text, label, band_middle(&sheet.extent, band), NAME_Y)?;
     add(text, &["\n"])
 }
 
-fn add_band_names(text: &mut String, names: &Names, extent: &Extent) -> Result<(), AllocError>
-    requires { extent.now.bands.count ≤ 16 }
-    ensures { IfOk result (λ _. string_bytes text.new ≡ string_bytes text.old ++ svg_bands names.now extent.now) }
+fn add_band_names(text: &mut String, sheet: &Sheet<'_>) -> Result<(), AllocError>
+    requires { sheet.now.extent.bands.count ≤ 16 }
+    ensures { IfOk result (λ _. string_bytes text.new ≡ string_bytes text.old ++ svg_bands sheet.now.names.now sheet.now.extent) }
 {
-    for band in 0..extent.bands.count {
-        add_band_name(text, names, extent, band)?;
+    for band in 0..sheet.extent.bands.count {
+        add_band_name(text, sheet, band)?;
     }
     Ok(())
 }
@@ -336,32 +333,26 @@ fn add_lane_line(text: &mut String, middle: u32, bottom: u128) -> Result<(), All
 /// The name of a lane, and the line that stands for its time.
 fn add_lane_name(
     text: &mut String,
-    names: &Names,
-    extent: &Extent,
+    sheet: &Sheet<'_>,
     bottom: u128,
     lane: u8,
 ) -> Result<(), AllocError>
-    requires { extent.now.bands.count ≤ 16 }
-    ensures { IfOk result (λ _. string_bytes text.new ≡ string_bytes text.old ++ svg_lane names.now extent.now bottom lane) }
+    requires { sheet.now.extent.bands.count ≤ 16 }
+    ensures { IfOk result (λ _. string_bytes text.new ≡ string_bytes text.old ++ svg_lane sheet.now.names.now sheet.now.extent bottom lane) }
 {
     let mut digits = Buffer::new();
-    let middle = lane_x(extent, lane);
-    add_name(text, names.thread(lane, &mut digits), middle, NAME_Y)?;
+    let middle = lane_x(&sheet.extent, lane);
+    add_name(text, sheet.names.thread(lane, &mut digits), middle, NAME_Y)?;
     add_lane_line(text, middle, bottom)
 }
 
-fn add_lane_names(
-    text: &mut String,
-    names: &Names,
-    extent: &Extent,
-    bottom: u128,
-) -> Result<(), AllocError>
-    requires few { extent.now.threads ≤ 64 }
-    requires narrow { extent.now.bands.count ≤ 16 }
-    ensures { IfOk result (λ _. string_bytes text.new ≡ string_bytes text.old ++ svg_lanes names.now extent.now bottom) }
+fn add_lane_names(text: &mut String, sheet: &Sheet<'_>, bottom: u128) -> Result<(), AllocError>
+    requires few { sheet.now.extent.threads ≤ 64 }
+    requires narrow { sheet.now.extent.bands.count ≤ 16 }
+    ensures { IfOk result (λ _. string_bytes text.new ≡ string_bytes text.old ++ svg_lanes sheet.now.names.now sheet.now.extent bottom) }
 {
-    for index in 0..extent.threads {
-        add_lane_name(text, names, extent, bottom, index + 1)?;
+    for index in 0..sheet.extent.threads {
+        add_lane_name(text, sheet, bottom, index + 1)?;
     }
     Ok(())
 }
@@ -393,19 +384,14 @@ fn add_open(text: &mut String, extent: &Extent, lines: usize) -> Result<(), Allo
 }
 
 /// What stands before all lines, of which there are so many.
-pub fn add_svg_heads(
-    text: &mut String,
-    names: &Names,
-    extent: &Extent,
-    lines: usize,
-) -> Result<(), AllocError>
-    requires few { extent.now.threads ≤ 64 }
-    requires narrow { extent.now.bands.count ≤ 16 }
-    ensures { IfOk result (λ _. string_bytes text.new ≡ string_bytes text.old ++ svg_heads names.now extent.now lines) }
+pub fn add_svg_heads(text: &mut String, sheet: &Sheet<'_>, lines: usize) -> Result<(), AllocError>
+    requires few { sheet.now.extent.threads ≤ 64 }
+    requires narrow { sheet.now.extent.bands.count ≤ 16 }
+    ensures { IfOk result (λ _. string_bytes text.new ≡ string_bytes text.old ++ svg_heads sheet.now.names.now sheet.now.extent lines) }
 {
-    add_open(text, extent, lines)?;
-    add_band_names(text, names, extent)?;
-    add_lane_names(text, names, extent, row_y(lines) + 18)
+    add_open(text, &sheet.extent, lines)?;
+    add_band_names(text, sheet)?;
+    add_lane_names(text, sheet, row_y(lines) + 18)
 }
 
 /// What stands behind all lines: the number of events.

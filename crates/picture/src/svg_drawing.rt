@@ -5,7 +5,7 @@ ghost use Rattle.streams.specs.Leaves.{Leaves};
 ghost use Rattle.picture.specs.Scenes.{first_scene};
 ghost use Rattle.picture.specs.Svg.{first_since, foot_text, line_marks, line_parts, marks, parts, rests, svg_drawn, svg_heads};
 
-use crate::bands::{BANDS, Extent};
+use crate::bands::{BANDS, Extent, Sheet};
 use crate::drawing::{Unwritten, write_text};
 use crate::names::Names;
 use crate::scene::Scene;
@@ -19,121 +19,106 @@ const PART: usize = 16_384;
 
 fn write_svg_heads<W: Write>(
     part: &mut String,
-    names: &Names,
-    extent: &Extent,
+    sheet: &Sheet<'_>,
     lines: usize,
     out: &mut W,
 ) -> Result<(), Unwritten>
-    requires few { extent.now.threads ≤ 64 }
-    requires narrow { extent.now.bands.count ≤ 16 }
-    ensures { Leaves (W.contents out.old) (W.contents out.new) result (svg_heads names.now extent.now lines) }
+    requires few { sheet.now.extent.threads ≤ 64 }
+    requires narrow { sheet.now.extent.bands.count ≤ 16 }
+    ensures { Leaves (W.contents out.old) (W.contents out.new) result (svg_heads sheet.now.names.now sheet.now.extent lines) }
 {
     part.clear();
-    add_svg_heads(part, names, extent, lines)?;
+    add_svg_heads(part, sheet, lines)?;
     write_text(part, out)
 }
 
 fn write_line_parts<W: Write>(
     part: &mut String,
-    names: &Names,
-    extent: &Extent,
+    sheet: &Sheet<'_>,
     scene: &Scene,
     since: &Since,
     fact: &Fact,
     line: usize,
     out: &mut W,
 ) -> Result<(), Unwritten>
-    requires { extent.now.bands.count ≤ 16 }
-    ensures { Leaves (W.contents out.old) (W.contents out.new) result (line_parts names.now extent.now scene.now since.now fact.now line) }
+    requires { sheet.now.extent.bands.count ≤ 16 }
+    ensures { Leaves (W.contents out.old) (W.contents out.new) result (line_parts sheet.now.names.now sheet.now.extent scene.now since.now fact.now line) }
 {
     part.clear();
-    add_parts(part, names, extent, scene, since, fact, line)?;
+    add_parts(part, sheet, scene, since, fact, line)?;
     write_text(part, out)
 }
 
 fn write_rests<W: Write>(
     part: &mut String,
-    names: &Names,
-    extent: &Extent,
+    sheet: &Sheet<'_>,
     scene: &Scene,
     since: &Since,
     line: usize,
     out: &mut W,
 ) -> Result<(), Unwritten>
-    requires few { extent.now.threads ≤ 64 }
-    requires narrow { extent.now.bands.count ≤ 16 }
-    ensures { Leaves (W.contents out.old) (W.contents out.new) result (rests names.now extent.now scene.now since.now line) }
+    requires few { sheet.now.extent.threads ≤ 64 }
+    requires narrow { sheet.now.extent.bands.count ≤ 16 }
+    ensures { Leaves (W.contents out.old) (W.contents out.new) result (rests sheet.now.names.now sheet.now.extent scene.now since.now line) }
 {
     part.clear();
-    add_rests(part, names, extent, scene, since, line)?;
+    add_rests(part, sheet, scene, since, line)?;
     write_text(part, out)
 }
 
 /// What lanes and bands show from line to line.
 fn write_parts<W: Write>(
     part: &mut String,
-    names: &Names,
-    extent: &Extent,
+    sheet: &Sheet<'_>,
     lines: &[Line],
     out: &mut W,
 ) -> Result<(), Unwritten>
-    requires few { extent.now.threads ≤ 64 }
-    requires narrow { extent.now.bands.count ≤ 16 }
-    ensures { Leaves (W.contents out.old) (W.contents out.new) result (parts names.now extent.now first_scene first_since 1 lines.now) }
+    requires few { sheet.now.extent.threads ≤ 64 }
+    requires narrow { sheet.now.extent.bands.count ≤ 16 }
+    ensures { Leaves (W.contents out.old) (W.contents out.new) result (parts sheet.now.names.now sheet.now.extent first_scene first_since 1 lines.now) }
 {
     let mut scene = Scene::new();
     let mut since = Since::new();
     for index in 0..lines.len() {
         let line = &lines[index];
-        write_line_parts(
-            part,
-            names,
-            extent,
-            &scene,
-            &since,
-            &line.fact,
-            index + 1,
-            out,
-        )?;
-        scene = scene.behind(&extent.bands, line, &lines[index..]);
-        since = since.behind(&extent.bands, &line.fact, index + 1);
+        write_line_parts(part, sheet, &scene, &since, &line.fact, index + 1, out)?;
+        scene = scene.behind(&sheet.extent.bands, line, &lines[index..]);
+        since = since.behind(&sheet.extent.bands, &line.fact, index + 1);
     }
-    write_rests(part, names, extent, &scene, &since, lines.len() + 1, out)
+    write_rests(part, sheet, &scene, &since, lines.len() + 1, out)
 }
 
 fn write_line<W: Write>(
     part: &mut String,
-    names: &Names,
-    extent: &Extent,
+    sheet: &Sheet<'_>,
     scene: &Scene,
     line: &Line,
     number: usize,
     out: &mut W,
 ) -> Result<(), Unwritten>
-    requires { extent.now.bands.count ≤ 16 }
-    ensures { Leaves (W.contents out.old) (W.contents out.new) result (line_marks names.now extent.now scene.now line.now number) }
+    requires { sheet.now.extent.bands.count ≤ 16 }
+    ensures { Leaves (W.contents out.old) (W.contents out.new) result (line_marks sheet.now.names.now sheet.now.extent scene.now line.now number) }
 {
     part.clear();
-    add_line(part, names, extent, scene, line, number)?;
+    add_line(part, sheet, scene, line, number)?;
     write_text(part, out)
 }
 
 /// The marks of all lines.
 fn write_marks<W: Write>(
     part: &mut String,
-    names: &Names,
-    extent: &Extent,
+    sheet: &Sheet<'_>,
     lines: &[Line],
     out: &mut W,
 ) -> Result<(), Unwritten>
-    requires { extent.now.bands.count ≤ 16 }
-    ensures { Leaves (W.contents out.old) (W.contents out.new) result (marks names.now extent.now first_scene 1 lines.now) }
+    requires { sheet.now.extent.bands.count ≤ 16 }
+    ensures { Leaves (W.contents out.old) (W.contents out.new) result (marks sheet.now.names.now sheet.now.extent first_scene 1 lines.now) }
 {
     let mut scene = Scene::new();
     for index in 0..lines.len() {
         let line = &lines[index];
-        scene = scene.behind(&extent.bands, line, &lines[index..]);
-        write_line(part, names, extent, &scene, line, index + 1, out)?;
+        scene = scene.behind(&sheet.extent.bands, line, &lines[index..]);
+        write_line(part, sheet, &scene, line, index + 1, out)?;
     }
     Ok(())
 }
@@ -168,8 +153,9 @@ pub fn draw_svg<W: Write>(
     let mut part = String::with_capacity(alloc, PART)?;
     let extent = Extent::of(BANDS, names, threads, mutexes, lines);
     let count = lines.len();
-    write_svg_heads(&mut part, names, &extent, count, out)?;
-    write_parts(&mut part, names, &extent, lines, out)?;
-    write_marks(&mut part, names, &extent, lines, out)?;
+    let sheet = Sheet { names, extent };
+    write_svg_heads(&mut part, &sheet, count, out)?;
+    write_parts(&mut part, &sheet, lines, out)?;
+    write_marks(&mut part, &sheet, lines, out)?;
     write_foot(&mut part, last, count, out)
 }

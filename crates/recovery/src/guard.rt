@@ -113,12 +113,7 @@ impl Owner<'_> {
         requires mutex { self.mutex < (layout_of bench.now).mutexes }
         ensures { IsWorkerOf bench.now result }
     {
-        let Owner {
-            told: _,
-            accounts: _,
-            mutex,
-            pass,
-        } = self;
+        let Owner { mutex, pass, .. } = self;
         match bench.words().release(pass, mutex, &mut Never) {
             Released::Owes(owed) => match bench.pay(rt, owed, &mut Never) {
                 Outcome::Lives(pass, _) => WorkerPass::Lives(pass),
@@ -136,12 +131,7 @@ impl Owner<'_> {
         requires mutex { self.mutex < (layout_of bench.now).mutexes }
         ensures { IsPassOf bench.now result }
     {
-        let Owner {
-            told: _,
-            accounts: _,
-            mutex,
-            pass,
-        } = self;
+        let Owner { mutex, pass, .. } = self;
         match Running::call(bench.words(), pass, Call::Unlock(mutex)) {
             Ok(running) => bench.exit(rt, running.die()),
             Err(_) => unreachable!(),

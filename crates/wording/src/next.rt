@@ -163,13 +163,9 @@ fn of_run(word: &str) -> Option<Next>
     match word {
         "begin" => Some(Next::NameCall),
         "step" => Some(Next::NameNumber),
-        "kill" => Some(Next::Name),
-        "killall" => Some(Next::Name),
-        "renew" => Some(Next::Name),
+        "kill" | "killall" | "renew" => Some(Next::Name),
         "reinit" => Some(Next::NameName),
-        "leave" => Some(Next::Name),
-        "decline" => Some(Next::Name),
-        "go" => Some(Next::Name),
+        "leave" | "decline" | "go" => Some(Next::Name),
         "locks" => Some(Next::NameNameNumber),
         _ => None,
     }

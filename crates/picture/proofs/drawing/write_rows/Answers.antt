@@ -11,8 +11,8 @@ use Rattle.picture.proofs.drawing.write_rows.Goals as goal
 
 pub returns-in_err-write_row : goal.returns-in_err-write_row
 returns-in_err-write_row g c =
-    let n = c.args.names.now in
-    let x = c.args.extent.now in
+    let n = c.args.sheet.now.names.now in
+    let x = c.args.sheet.now.extent in
     let ls = c.args.lines.now in
     let i = c.loop-index.index in
     let s = c.loop-index.scene in
@@ -26,8 +26,8 @@ returns-in_err-write_row g c =
 
 pub loop-index-preserved : goal.loop-index-preserved
 loop-index-preserved g c =
-    let n = c.args.names.now in
-    let x = c.args.extent.now in
+    let n = c.args.sheet.now.names.now in
+    let x = c.args.sheet.now.extent in
     let ls = c.args.lines.now in
     let i = c.loop-index.index in
     let s = c.loop-index.scene in

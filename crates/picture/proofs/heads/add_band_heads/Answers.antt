@@ -10,8 +10,8 @@ use Rattle.picture.proofs.heads.add_band_heads.Goals as goal
 
 pub loop-band-preserved : goal.loop-band-preserved
 loop-band-preserved c =
-    let n = c.args.names.now in
-    let x = c.args.extent.now in
+    let n = c.args.sheet.now.names.now in
+    let x = c.args.sheet.now.extent in
     let i = c.loop-band.band in
     let l = c.mutex-label.result in
     once_further (band_head n x) (string_bytes c.args.text.now) (string_bytes c.loop-band.text) (string_bytes c.add_padded.new.text) _ i c.loop-band.invariant c.in_ok-add_padded.ensures

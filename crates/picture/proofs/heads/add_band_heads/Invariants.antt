@@ -5,4 +5,4 @@ use Rattle.picture.specs.Heads.{band_head}
 use Rattle.picture.proofs.heads.add_band_heads.Given as goal
 
 abbrev pub invariant-loop-band : goal.invariant-loop-band
-invariant-loop-band l = string_bytes l.text ≡ string_bytes l.initial.text ++ each (band_head l.names l.extent) l.band
+invariant-loop-band l = string_bytes l.text ≡ string_bytes l.initial.text ++ each (band_head l.sheet.names.now l.sheet.extent) l.band

@@ -8,8 +8,8 @@ use Rattle.picture.proofs.heads.add_lane_heads.Goals as goal
 
 pub loop-index-preserved : goal.loop-index-preserved
 loop-index-preserved c =
-    let n = c.args.names.now in
-    let x = c.args.extent.now in
+    let n = c.args.sheet.now.names.now in
+    let x = c.args.sheet.now.extent in
     let i = c.loop-index.index in
     let l = c.thread-label.result in
     once_further (lane_head n x) (string_bytes c.args.text.now) (string_bytes c.loop-index.text) (string_bytes c.add_padded.new.text) _ i c.loop-index.invariant c.in_ok-add_padded.ensures

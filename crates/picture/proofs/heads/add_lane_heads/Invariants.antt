@@ -5,4 +5,4 @@ use Rattle.picture.specs.Heads.{lane_head}
 use Rattle.picture.proofs.heads.add_lane_heads.Given as goal
 
 abbrev pub invariant-loop-index : goal.invariant-loop-index
-invariant-loop-index l = string_bytes l.text ≡ string_bytes l.initial.text ++ each (lane_head l.names l.extent) l.index
+invariant-loop-index l = string_bytes l.text ≡ string_bytes l.initial.text ++ each (lane_head l.sheet.names.now l.sheet.extent) l.index

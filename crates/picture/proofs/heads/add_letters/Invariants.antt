@@ -5,4 +5,4 @@ use Rattle.picture.specs.Heads.{letter}
 use Rattle.picture.proofs.heads.add_letters.Given as goal
 
 abbrev pub invariant-loop-index : goal.invariant-loop-index
-invariant-loop-index l = string_bytes l.text ≡ string_bytes l.initial.text ++ each (letter l.names l.extent l.place) l.index
+invariant-loop-index l = string_bytes l.text ≡ string_bytes l.initial.text ++ each (letter l.sheet.names.now l.sheet.extent l.place) l.index

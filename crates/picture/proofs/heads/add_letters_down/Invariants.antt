@@ -5,4 +5,4 @@ use Rattle.picture.specs.Heads.{letters_below}
 use Rattle.picture.proofs.heads.add_letters_down.Given as goal
 
 abbrev pub invariant-loop-row : goal.invariant-loop-row
-invariant-loop-row l = string_bytes l.text ≡ string_bytes l.initial.text ++ each (letters_below l.names l.extent) l.row
+invariant-loop-row l = string_bytes l.text ≡ string_bytes l.initial.text ++ each (letters_below l.sheet.names.now l.sheet.extent) l.row

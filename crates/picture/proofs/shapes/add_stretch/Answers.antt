@@ -7,8 +7,8 @@ use Rattle.picture.proofs.shapes.add_stretch.Goals as goal
 
 pub returns : goal.returns
 returns c =
-    let n = c.args.names.now in
-    let x = c.args.extent.now in
+    let n = c.args.sheet.now.names.now in
+    let x = c.args.sheet.now.extent in
     let class = c.args.class.now in
     let old = string_bytes c.args.text.now in
     let one = string_bytes c.add_rectangle.new.text in

@@ -5,4 +5,4 @@ use Rattle.picture.specs.Svg.{band_rest}
 use Rattle.picture.proofs.svg.add_band_rests.Given as goal
 
 abbrev pub invariant-loop-band : goal.invariant-loop-band
-invariant-loop-band l = string_bytes l.text ≡ string_bytes l.initial.text ++ each (band_rest l.names l.extent l.scene.objects l.since.bands l.line) l.band
+invariant-loop-band l = string_bytes l.text ≡ string_bytes l.initial.text ++ each (band_rest l.sheet.names.now l.sheet.extent l.scene.objects l.since.bands l.line) l.band

@@ -5,4 +5,4 @@ use Rattle.picture.specs.Svg.{svg_lane_behind}
 use Rattle.picture.proofs.svg.add_lane_names.Given as goal
 
 abbrev pub invariant-loop-index : goal.invariant-loop-index
-invariant-loop-index l = string_bytes l.text ≡ string_bytes l.initial.text ++ each (svg_lane_behind l.names l.extent l.fn.bottom) l.index
+invariant-loop-index l = string_bytes l.text ≡ string_bytes l.initial.text ++ each (svg_lane_behind l.sheet.names.now l.sheet.extent l.fn.bottom) l.index

@@ -7,8 +7,8 @@ use Rattle.picture.proofs.svg.add_svg_heads.Goals as goal
 
 pub returns : goal.returns
 returns c =
-    let n = c.args.names.now in
-    let x = c.args.extent.now in
+    let n = c.args.sheet.now.names.now in
+    let x = c.args.sheet.now.extent in
     let one = string_bytes c.add_open.new.text in
     let two = string_bytes c.add_band_names.new.text in
     let all = string_bytes c.add_lane_names.new.text in

@@ -10,8 +10,8 @@ use Rattle.picture.proofs.svg_drawing.write_marks.Goals as goal
 
 pub returns-in_err-write_line : goal.returns-in_err-write_line
 returns-in_err-write_line g c =
-    let n = c.args.names.now in
-    let x = c.args.extent.now in
+    let n = c.args.sheet.now.names.now in
+    let x = c.args.sheet.now.extent in
     let ls = c.args.lines.now in
     let i = c.loop-index.index in
     let s = c.loop-index.scene in
@@ -25,8 +25,8 @@ returns-in_err-write_line g c =
 
 pub loop-index-preserved : goal.loop-index-preserved
 loop-index-preserved g c =
-    let n = c.args.names.now in
-    let x = c.args.extent.now in
+    let n = c.args.sheet.now.names.now in
+    let x = c.args.sheet.now.extent in
     let ls = c.args.lines.now in
     let i = c.loop-index.index in
     let s = c.loop-index.scene in

@@ -5,4 +5,4 @@ use Rattle.picture.proofs.Going.{Sofar}
 use Rattle.picture.proofs.svg_drawing.write_marks.Given as goal
 
 abbrev pub invariant-loop-index : goal.invariant-loop-index
-invariant-loop-index g l = Sofar (g.W.Write.contents l.initial.out) (g.W.Write.contents l.out) (marks l.names l.extent first_scene 1 l.lines) (marks l.names l.extent l.scene (l.index + 1) (drop l.index l.lines))
+invariant-loop-index g l = Sofar (g.W.Write.contents l.initial.out) (g.W.Write.contents l.out) (marks l.sheet.names.now l.sheet.extent first_scene 1 l.lines) (marks l.sheet.names.now l.sheet.extent l.scene (l.index + 1) (drop l.index l.lines))

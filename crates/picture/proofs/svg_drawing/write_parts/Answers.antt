@@ -9,8 +9,8 @@ use Rattle.picture.proofs.svg_drawing.write_parts.Goals as goal
 
 pub returns-in_err-write_line_parts : goal.returns-in_err-write_line_parts
 returns-in_err-write_line_parts g c =
-    let n = c.args.names.now in
-    let x = c.args.extent.now in
+    let n = c.args.sheet.now.names.now in
+    let x = c.args.sheet.now.extent in
     let ls = c.args.lines.now in
     let i = c.loop-index.index in
     let s = c.loop-index.scene in
@@ -20,8 +20,8 @@ returns-in_err-write_line_parts g c =
 
 pub loop-index-preserved : goal.loop-index-preserved
 loop-index-preserved g c =
-    let n = c.args.names.now in
-    let x = c.args.extent.now in
+    let n = c.args.sheet.now.names.now in
+    let x = c.args.sheet.now.extent in
     let ls = c.args.lines.now in
     let i = c.loop-index.index in
     let s = c.loop-index.scene in
@@ -38,8 +38,8 @@ loop-index-preserved g c =
 
 pub returns : goal.returns
 returns g c =
-    let n = c.args.names.now in
-    let x = c.args.extent.now in
+    let n = c.args.sheet.now.names.now in
+    let x = c.args.sheet.now.extent in
     let ls = c.args.lines.now in
     let i = c.loop-index.index in
     let s = c.loop-index.scene in
